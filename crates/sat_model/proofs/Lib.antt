@@ -1,0 +1,4 @@
+pub mod RootLemmas
+pub mod AmountLemmas
+pub mod ClockLemmas
+pub mod LengthLemmas

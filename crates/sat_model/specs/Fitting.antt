@@ -1,0 +1,43 @@
+-- Where a row may fit, where it surely fits, and where all but at most q rows do.
+use Rattle.std.specs.Prelude.{ℕ, zero, suc, ◌+◌, ◌⊎◌, ℤ, pos, ◌-ℤ◌, ◌≤ℤ◌, List, [], ◌∷◌, unsigned_abs}
+use Rattle.sat_model.specs.declared.satellites.Row.{Row}
+use Rattle.sat_model.specs.declared.boxes.Pos.{Pos}
+use Rattle.sat_model.specs.Amounts.{square}
+use Rattle.sat_model.specs.Roots.{root}
+
+-- the range: the whole-number root of the squared distance
+unfoldable pub range_to : ℤ → ℤ → ℤ → Pos → ℕ
+range_to x y z p = root (square (unsigned_abs (x -ℤ p.x)) + square (unsigned_abs (y -ℤ p.y)) + square (unsigned_abs (z -ℤ p.z)))
+
+-- a satellite's place and corrected pseudorange within the spans of a row
+pub record RowValue (row : Row) : Type 0 where
+  pub x : ℤ
+  pub y : ℤ
+  pub z : ℤ
+  pub measured : ℤ
+  pub x_in : (row.x.lo ≤ℤ x) × (x ≤ℤ row.x.hi)
+  pub y_in : (row.y.lo ≤ℤ y) × (y ≤ℤ row.y.hi)
+  pub z_in : (row.z.lo ≤ℤ z) × (z ≤ℤ row.z.hi)
+  pub measured_in : (row.range.lo ≤ℤ measured) × (measured ≤ℤ row.range.hi)
+
+-- what the measurement leaves of the error at point p and clock offset b
+abbrev pub error_of : (row : Row) → RowValue row → Pos → ℤ → ℤ
+error_of row v p b = v.measured -ℤ pos (range_to v.x v.y v.z p) -ℤ b
+
+abbrev pub IsAllowed : Row → ℤ → Type 0
+IsAllowed row error = (row.err.lo ≤ℤ error) × (error ≤ℤ row.err.hi)
+
+-- some values of the row's spans leave an allowed error
+pub record IsPossible (p : Pos) (b : ℤ) (row : Row) : Type 0 where
+  pub value : RowValue row
+  pub allowed : IsAllowed row (error_of row value p b)
+
+-- all values of the row's spans leave an allowed error
+abbrev pub IsSure : Pos → ℤ → Row → Type 0
+IsSure p b row = (value : RowValue row) → IsAllowed row (error_of row value p b)
+
+-- all rows but at most q meet the fact
+abbrev pub AllBut : ℕ → (Row → Type 0) → List Row → Type 0
+AllBut q Meets [] = Unit {0}
+AllBut zero Meets (row ∷ rows) = Meets row × AllBut zero Meets rows
+AllBut (suc q) Meets (row ∷ rows) = (Meets row × AllBut (suc q) Meets rows) ⊎ AllBut q Meets rows

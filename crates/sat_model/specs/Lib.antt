@@ -1,0 +1,12 @@
+pub mod Sizes
+pub mod Roots
+pub mod Amounts
+pub mod Boxes
+pub mod Lengths
+pub mod Relaxed
+pub mod ClockSpans
+pub mod Fitting
+pub mod Fold
+pub mod Logs
+pub mod Verdicts
+pub mod Cover

@@ -1,0 +1,157 @@
+-- The tests that a log passes with its rows taken as given, and the first that fails.
+use Rattle.std.specs.Prelude.{◌≡◌, ◌≢◌, ℕ, zero, suc, ◌+◌, ◌-◌, ◌<◌, ◌≤◌, ◌⊎◌, ℤ, ◌-ℤ◌, ◌≤ℤ◌, ◌<ℤ◌, Bool, true, false, List, [], ◌∷◌, length, map, Option, None, Some, slice_get}
+use Rattle.sat_model.specs.declared.rules.Rules.{Rules}
+use Rattle.sat_model.specs.declared.satellites.Row.{Row}
+use Rattle.sat_model.specs.declared.satellites.SatEntry.{SatEntry}
+use Rattle.sat_model.specs.declared.steps.Step.{Step}
+use Rattle.sat_model.specs.declared.steps.Step.TheVariants.{Cut, Split, Outside, Inside, Edge}
+use Rattle.sat_model.specs.Boxes.{GridBox, side_at}
+use Rattle.sat_model.specs.ClockSpans.{clock_spans, IsShownEmpty, IsShownInner}
+use Rattle.sat_model.specs.Fold.{Stage, first_stage, live_box, IsLive, NoneLive, IsProperCut, slab_of_cut, after}
+use Rattle.sat_model.specs.Logs.{Block, LogValue, sat_of, rows_of}
+use Rattle.sat_model.specs.Relaxed.{LiesInRelaxed}
+
+-- ---- the lines of steps
+
+-- the side is longer than the width
+abbrev pub IsLong : Rules → ℕ → GridBox → Type 0
+IsLong rules axis part = rules.width <ℤ ((side_at axis part).hi -ℤ (side_at axis part).lo)
+
+-- each number of the relaxed intersection of the box's clock spans lies from lo to hi
+abbrev pub HoldsHull : List Row → ℕ → GridBox → ℤ → ℤ → Type 0
+HoldsHull rows q part lo hi = (b : ℤ) → LiesInRelaxed (clock_spans part rows) (length rows - q) b → (lo ≤ℤ b) × (b ≤ℤ hi)
+
+-- the cut takes off a slab that is shown empty
+abbrev pub CutsEmptySlab : List Row → ℕ → ℕ → ℤ → GridBox → Type 0
+CutsEmptySlab rows q face bound part = IsProperCut face bound part × IsShownEmpty rows (slab_of_cut face bound part) q
+
+-- no test of the step fails, at this stage
+abbrev pub StepPasses : List Row → Rules → Stage → Step → Type 0
+StepPasses rows rules stage (Cut id face bound) = (part : GridBox) × IsLive stage id part × CutsEmptySlab rows rules.outliers face bound part
+StepPasses rows rules stage (Split id axis) = (part : GridBox) × IsLive stage id part × IsLong rules axis part × (stage.splits < rules.bisections)
+StepPasses rows rules stage (Outside id) = (part : GridBox) × IsLive stage id part × IsShownEmpty rows part rules.outliers
+StepPasses rows rules stage (Inside id clock lo hi) =
+    (part : GridBox) × IsLive stage id part × IsShownInner rows part rules.outliers clock × HoldsHull rows rules.outliers part lo hi
+StepPasses rows rules stage (Edge id lo hi) = (part : GridBox) × IsLive stage id part × HoldsHull rows rules.outliers part lo hi
+
+-- a live box fails the fact, under a test of this number
+abbrev pub LiveFails : Stage → ℕ → (GridBox → Type 0) → ℕ → ℕ → Type 0
+LiveFails stage id Meets test number = (part : GridBox) × IsLive stage id part × (Meets part → ⊥) × (number ≡ test)
+
+abbrev pub NotLive : Stage → ℕ → ℕ → Type 0
+NotLive stage id number = (live_box stage id ≡ None) × (number ≡ 56)
+
+-- the least number of a test of the step that fails
+abbrev pub StepFails : List Row → Rules → Stage → Step → ℕ → Type 0
+StepFails rows rules stage (Cut id face bound) number =
+    NotLive stage id number ⊎ LiveFails stage id (CutsEmptySlab rows rules.outliers face bound) 57 number
+StepFails rows rules stage (Split id axis) number =
+    NotLive stage id number
+    ⊎ (LiveFails stage id (IsLong rules axis) 61 number
+    ⊎ ((part : GridBox) × IsLive stage id part × IsLong rules axis part × (rules.bisections ≤ stage.splits) × (number ≡ 62)))
+StepFails rows rules stage (Outside id) number =
+    NotLive stage id number ⊎ LiveFails stage id (λ part. IsShownEmpty rows part rules.outliers) 58 number
+StepFails rows rules stage (Inside id clock lo hi) number =
+    NotLive stage id number
+    ⊎ (LiveFails stage id (λ part. IsShownInner rows part rules.outliers clock) 59 number
+    ⊎ ((part : GridBox) × IsLive stage id part × IsShownInner rows part rules.outliers clock
+    × (HoldsHull rows rules.outliers part lo hi → ⊥) × (number ≡ 60)))
+StepFails rows rules stage (Edge id lo hi) number =
+    NotLive stage id number ⊎ LiveFails stage id (λ part. HoldsHull rows rules.outliers part lo hi) 60 number
+
+-- the steps from this stage on and the line of the splits behind them fail no test
+abbrev pub StepsPass : List Row → Rules → ℕ → Stage → List Step → Type 0
+StepsPass rows rules done stage [] = NoneLive stage × (stage.splits ≡ done)
+StepsPass rows rules done stage (step ∷ steps) = StepPasses rows rules stage step × StepsPass rows rules done (after stage step) steps
+
+-- the first of these lines that fails is k lines on, and number is the least of a test that fails there
+abbrev pub StepsFail : List Row → Rules → ℕ → Stage → List Step → ℕ → ℕ → Type 0
+StepsFail rows rules done stage [] k number =
+    (k ≡ 0) × ((((id : ℕ) × (live_box stage id ≢ None)) × (number ≡ 63)) ⊎ (NoneLive stage × (stage.splits ≢ done) × (number ≡ 64)))
+StepsFail rows rules done stage (step ∷ steps) zero number = StepFails rows rules stage step number
+StepsFail rows rules done stage (step ∷ steps) (suc k) number =
+    StepPasses rows rules stage step × StepsFail rows rules done (after stage step) steps k number
+
+-- ---- the first line of a block
+
+-- the index is greater than that of the block before, where there is one
+abbrev pub IsLater : Option ℕ → ℕ → Type 0
+IsLater None index = Unit {0}
+IsLater (Some before) index = before < index
+
+-- a block of few satellites has fewer than four more than may be inconsistent
+abbrev pub SuitsNumber : Bool → ℕ → ℕ → Type 0
+SuitsNumber true q n = n < q + 4
+SuitsNumber false q n = q + 4 ≤ n
+
+-- its number of satellites is that of its rows, unless it is a block of few
+abbrev pub CountsRows : Bool → ℕ → List SatEntry → Type 0
+CountsRows true n sats = Unit {0}
+CountsRows false n sats = length (rows_of sats) ≡ n
+
+pub record HeadPasses (rules : Rules) (before : Option ℕ) (block : Block) : Type 0 where
+  pub later : IsLater before block.index
+  pub suits : SuitsNumber block.few rules.outliers block.n
+  pub counts : CountsRows block.few block.n block.sats
+
+abbrev pub HeadFails : Rules → Option ℕ → Block → ℕ → Type 0
+HeadFails rules before block number =
+    ((IsLater before block.index × SuitsNumber block.few rules.outliers block.n → ⊥) × (number ≡ 51))
+    ⊎ (IsLater before block.index × SuitsNumber block.few rules.outliers block.n × (CountsRows block.few block.n block.sats → ⊥) × (number ≡ 52))
+
+-- ---- the satellite lines
+
+-- satellite line k names the satellite of one before it
+pub record IsRepeat (sats : List SatEntry) (k : ℕ) : Type 0 where
+  pub earlier : ℕ
+  pub is_earlier : earlier < k
+  pub is_line : k < length sats
+  pub same : slice_get (map sat_of sats) earlier ≡ slice_get (map sat_of sats) k
+
+abbrev pub NoneRepeats : List SatEntry → Type 0
+NoneRepeats sats = (k : ℕ) → IsRepeat sats k → ⊥
+
+pub record IsFirstRepeat (sats : List SatEntry) (k : ℕ) : Type 0 where
+  pub repeats : IsRepeat sats k
+  pub first : (j : ℕ) → j < k → IsRepeat sats j → ⊥
+
+-- ---- the blocks
+
+abbrev pub BodyPasses : Rules → Block → Option GridBox → Type 0
+BodyPasses rules block None = Unit {0}
+BodyPasses rules block (Some root) = StepsPass (rows_of block.sats) rules block.done (first_stage root) block.steps
+
+-- no line of the block fails a test, behind a block of the index before
+pub record BlockPasses (rules : Rules) (before : Option ℕ) (block : Block) : Type 0 where
+  pub head : HeadPasses rules before block
+  pub sats : NoneRepeats block.sats
+  pub body : BodyPasses rules block block.root
+
+-- the first line of the block that fails, and the least number of a test that fails there
+abbrev pub BlockFails : Rules → Option ℕ → Block → ℕ → ℕ → Type 0
+BlockFails rules before block line number =
+    (HeadFails rules before block number × (line ≡ block.line))
+    ⊎ ((HeadPasses rules before block × ((k : ℕ) × IsFirstRepeat block.sats k × (line ≡ block.line + 1 + k)) × (number ≡ 52))
+    ⊎ (HeadPasses rules before block × NoneRepeats block.sats
+    × ((root : GridBox) × (k : ℕ) × (block.root ≡ Some root)
+    × StepsFail (rows_of block.sats) rules block.done (first_stage root) block.steps k number
+    × (line ≡ block.line + 2 + length block.sats + k))))
+
+abbrev pub BlocksPass : Rules → Option ℕ → List Block → Type 0
+BlocksPass rules before [] = Unit {0}
+BlocksPass rules before (block ∷ more) = BlockPasses rules before block × BlocksPass rules (Some block.index) more
+
+abbrev pub BlocksFail : Rules → Option ℕ → List Block → ℕ → ℕ → Type 0
+BlocksFail rules before [] line number = ⊥
+BlocksFail rules before (block ∷ more) line number =
+    BlockFails rules before block line number ⊎ (BlockPasses rules before block × BlocksFail rules (Some block.index) more line number)
+
+-- ---- the log
+
+-- no test fails
+abbrev pub Judged : LogValue → Type 0
+Judged log = BlocksPass log.rules None log.blocks
+
+-- the first line with a failing test, and the least number of one on it
+abbrev pub FirstFault : LogValue → ℕ → ℕ → Type 0
+FirstFault log line number = BlocksFail log.rules None log.blocks line number
