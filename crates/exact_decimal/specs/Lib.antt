@@ -1,0 +1,4 @@
+pub mod NumberFields
+pub mod Parts
+pub mod Reading
+pub mod Units
