@@ -1,5 +1,5 @@
 -- Products and quotients of members: between which ends they lie, and how far these are apart.
-use Rattle.std.proofs.Common.{◌≡◌, ℕ, ◌+◌, ◌*◌, ◌≤◌, arith, sym, subst, ◌⊎◌, ⊎_elim}
+use Rattle.std.proofs.Common.{◌≡◌, ℕ, ◌+◌, ◌*◌, ◌≤◌, arith, refl, sym, subst, ◌⊎◌, ⊎_elim}
 use Rattle.std.specs.Prelude.{ℤ, pos, negsuc, ◌+ℤ◌, ◌-ℤ◌, ◌*ℤ◌, neg_ℤ, ◌≤ℤ◌, ◌<ℤ◌}
 use Rattle.std.specs.Int.{int_max, int_min}
 use Rattle.std.proofs.lemmas.Int.{ints, clamps}
@@ -49,10 +49,6 @@ product_le_greatest a b c d x y p q =
 pub least_le_greatest : (a b c d : ℤ) → least_product a b c d ≤ℤ greatest_product a b c d
 least_le_greatest a b c d = spread (a *ℤ c) (a *ℤ d) (b *ℤ c) (b *ℤ d)
 
--- a product with one number lies between those of the ends
-pub multiple_between : (lo hi a n : ℤ) → Between lo hi a → Between (int_min (lo *ℤ n) (hi *ℤ n)) (int_max (lo *ℤ n) (hi *ℤ n)) (a *ℤ n)
-multiple_between lo hi a n p = record { from = left_least lo hi a n p.from p.to; to = left_greatest lo hi a n p.from p.to }
-
 -- ---- what holds of each product of ends holds of the least and of the greatest
 
 min_is_one : (s t : ℤ) → (int_min s t ≡ s) ⊎ (int_min s t ≡ t)
@@ -74,6 +70,24 @@ least_has P a b c d p q r s =
 pub greatest_has : (P : ℤ → Type 0) (a b c d : ℤ) → P (a *ℤ c) → P (a *ℤ d) → P (b *ℤ c) → P (b *ℤ d) → P (greatest_product a b c d)
 greatest_has P a b c d p q r s =
     pick_max P (int_max (a *ℤ c) (a *ℤ d)) (int_max (b *ℤ c) (b *ℤ d)) (pick_max P (a *ℤ c) (a *ℤ d) p q) (pick_max P (b *ℤ c) (b *ℤ d) r s)
+
+-- the least and the greatest product with one number are those of a member
+pub record IsMultiple (lo hi n z : ℤ) : Type 0 where
+  pub of : ℤ
+  pub member : Between lo hi of
+  pub is : of *ℤ n ≡ z
+
+pub least_multiple : (lo hi n : ℤ) → lo ≤ℤ hi → IsMultiple lo hi n (least_product lo hi n n)
+least_multiple lo hi n h =
+    let l : IsMultiple lo hi n (lo *ℤ n) = record { of = lo; member = low_member lo hi h; is = refl } in
+    let g : IsMultiple lo hi n (hi *ℤ n) = record { of = hi; member = high_member lo hi h; is = refl } in
+    least_has (λ (z : ℤ). IsMultiple lo hi n z) lo hi n n l l g g
+
+pub greatest_multiple : (lo hi n : ℤ) → lo ≤ℤ hi → IsMultiple lo hi n (greatest_product lo hi n n)
+greatest_multiple lo hi n h =
+    let l : IsMultiple lo hi n (lo *ℤ n) = record { of = lo; member = low_member lo hi h; is = refl } in
+    let g : IsMultiple lo hi n (hi *ℤ n) = record { of = hi; member = high_member lo hi h; is = refl } in
+    greatest_has (λ (z : ℤ). IsMultiple lo hi n z) lo hi n n l l g g
 
 -- ---- by the amounts and the widths of the ends
 
