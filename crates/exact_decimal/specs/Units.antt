@@ -1,5 +1,9 @@
 -- A decimal in a unit: the exact value as a fraction, and its floor and ceiling.
-use Rattle.std.specs.Prelude.{ℕ, ◌+◌, ◌*◌, ◌^◌, ◌<◌, ℤ, pos, negsuc, ◌+ℤ◌, ◌-ℤ◌, ◌*ℤ◌, ◌≤ℤ◌, ◌<ℤ◌, unsigned_abs}
+use Rattle.std.specs.Prelude.{ℕ, ◌*◌, ◌^◌, ℤ, pos, ◌+ℤ◌, ◌*ℤ◌, ◌≤ℤ◌, ◌<ℤ◌, unsigned_abs, Result, MatchResult}
+use borrow.Author.Differences.{up, down}
+use Rattle.sat_model.specs.declared.spans.Wide.{Wide}
+use Rattle.sat_model.specs.Rounding.{IsFloor, IsCeiling}
+use Rattle.exact_decimal.specs.declared.unit.Range.{Range}
 use Rattle.exact_decimal.specs.declared.unit.Unit.{Unit}
 use Rattle.exact_decimal.specs.declared.unit.Unit.TheVariants.{Length, Ratio, Rate, Drift, Time, Clock, RootA}
 
@@ -23,35 +27,26 @@ bound_of Time = 10 ^ 19
 bound_of Clock = 10 ^ 16
 bound_of RootA = 10 ^ 16
 
--- the power of ten with an exponent above 0, and below
-abbrev pub ten_up : ℤ → ℕ
-ten_up (pos n) = 10 ^ n
-ten_up (negsuc n) = 1
-
-abbrev pub ten_down : ℤ → ℕ
-ten_down (pos n) = 1
-ten_down (negsuc n) = 10 ^ (n + 1)
-
--- digits * 10 ^ ten in the unit is numerator / denominator
+-- digits * 10 ^ ten in the unit, where it is a whole number and where it is a fraction: the power of
+-- ten that multiplies the digits, and the one that divides them
 abbrev pub shift_of : ℤ → Unit → ℤ
 shift_of ten unit = ten +ℤ pos (decimals_of unit)
 
 abbrev pub numerator : ℤ → ℤ → Unit → ℤ
-numerator digits ten unit = digits *ℤ pos (ten_up (shift_of ten unit))
+numerator digits ten unit = digits *ℤ pos (10 ^ up (shift_of ten unit))
 
-abbrev pub denominator : ℤ → Unit → ℕ
-denominator ten unit = ten_down (shift_of ten unit)
+abbrev pub denominator : ℤ → Unit → ℤ
+denominator ten unit = pos (10 ^ down (shift_of ten unit))
 
--- the amount passes the unit's bound
-abbrev pub PassesBound : ℤ → ℤ → Unit → Type 0
-PassesBound digits ten unit = bound_of unit * denominator ten unit < unsigned_abs (numerator digits ten unit)
+-- the amount of num / den passes the bound
+abbrev pub PassesBound : ℤ → ℤ → ℕ → Type 0
+PassesBound num den bound = (pos bound *ℤ den) <ℤ pos (unsigned_abs num)
 
--- q is the greatest whole number that is at most num / den
-pub record IsFloorOf (num : ℤ) (den : ℕ) (q : ℤ) : Type 0 where
-  pub at_most : (q *ℤ pos den) ≤ℤ num
-  pub next_above : num <ℤ ((q +ℤ pos 1) *ℤ pos den)
+-- floor and ceiling of num / den, unless its amount passes the bound
+pub record Rounds (num den : ℤ) (bound : ℕ) (held : Wide) : Type 0 where
+  pub floor : IsFloor num den held.lo
+  pub ceiling : IsCeiling num den held.hi
+  pub within : pos (unsigned_abs num) ≤ℤ (pos bound *ℤ den)
 
--- q is the least whole number that is at least num / den
-pub record IsCeilingOf (num : ℤ) (den : ℕ) (q : ℤ) : Type 0 where
-  pub at_least : num ≤ℤ (q *ℤ pos den)
-  pub next_below : ((q -ℤ pos 1) *ℤ pos den) <ℤ num
+abbrev pub RoundsTo : ℤ → ℤ → ℕ → Result Wide Range → Type 0
+RoundsTo num den bound result = MatchResult result (Rounds num den bound) (λ _. PassesBound num den bound)

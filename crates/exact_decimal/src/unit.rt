@@ -1,10 +1,6 @@
 //! The units of the fields of navigation and observation files.
 
-ghost use Rattle.std.specs.Prelude.{◌≡◌, ◌↔◌, ◌≤◌, ◌<◌, ◌+◌, ◌*◌, ◌^◌, ℤ, pos, IfOk, IsErr, IfSome, IfNone};
-ghost use Rattle.exact_decimal.specs.Units.{decimals_of, bound_of, numerator, denominator, PassesBound, IsFloorOf, IsCeilingOf};
-
-use crate::decimal::Decimal;
-use sat_model::Wide;
+ghost use Rattle.std.specs.Prelude.{◌≡◌, ◌≤◌, ◌^◌};
 
 /// What one unit of a whole number is, and the greatest amount in it.
 #[derive(Clone, Copy, Debug, PartialEq, Eq)]
@@ -29,17 +25,35 @@ pub enum Unit {
 #[derive(Clone, Copy, Debug, PartialEq, Eq)]
 pub struct Range;
 
-/// The floor and the ceiling of the decimal in the unit. `Range` comes exactly where its amount
-/// passes the unit's bound.
-pub fn to_unit(decimal: Decimal, unit: Unit) -> Result<Wide, Range>
-    ensures floor { IfOk result (λ held. IsFloorOf (numerator decimal.digits decimal.ten unit) (denominator decimal.ten unit) held.lo) }
-    ensures ceiling { IfOk result (λ held. IsCeilingOf (numerator decimal.digits decimal.ten unit) (denominator decimal.ten unit) held.hi) }
-    ensures range { IsErr result ↔ PassesBound decimal.digits decimal.ten unit }
-{
-    let shift = i32::from(decimal.ten) + i32::from(unit.decimals());
-    if shift >= 0 {
-        shifted_up(decimal.digits, shift as u32, unit.bound())
-    } else {
-        shifted_down(decimal.digits, -shift as u32, unit.bound())
+impl Unit {
+    ghost use Rattle.exact_decimal.specs.Units.{decimals_of, bound_of};
+
+    /// One unit is a ten to the power of minus this many, in SI units.
+    fn decimals(self) -> u8
+        ensures value { result ≡ decimals_of self }
+        ensures bound { result ≤ 28 }
+    {
+        match self {
+            Unit::Length => 6,
+            Unit::Ratio | Unit::Clock => 16,
+            Unit::Rate => 22,
+            Unit::Drift => 28,
+            Unit::Time | Unit::RootA => 12,
+        }
+    }
+
+    /// The greatest amount, in units.
+    fn bound(self) -> u64
+        ensures value { result ≡ bound_of self }
+        ensures least { 10 ^ 15 ≤ result }
+        ensures greatest { result ≤ 10 ^ 19 }
+    {
+        match self {
+            Unit::Length => 1_000_000_000_000_000,
+            Unit::Ratio => 640_000_000_000_000_000,
+            Unit::Rate | Unit::Time => 10_000_000_000_000_000_000,
+            Unit::Drift => 1_000_000_000_000_000_000,
+            Unit::Clock | Unit::RootA => 10_000_000_000_000_000,
+        }
     }
 }

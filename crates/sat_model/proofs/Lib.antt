@@ -2,3 +2,8 @@ pub mod RootLemmas
 pub mod AmountLemmas
 pub mod ClockLemmas
 pub mod LengthLemmas
+pub mod ProductLemmas
+pub mod IntervalLemmas
+pub mod RoundingLemmas
+pub mod SpreadLemmas
+pub mod SquareLemmas
