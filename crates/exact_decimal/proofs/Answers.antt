@@ -1,10 +1,10 @@
 -- What is cut from a field is its number, and a field's number is what is cut.
-use Rattle.std.proofs.Common.{◌≡◌, ℕ, ◌+◌, ◌<◌, ◌≤◌, Bool, true, false, cond, ◌&&◌, List, [], ◌∷◌, ◌++◌, suc, length, arith, refl, sym, ap, subst, ◌∙◌, inl, inr, append_assoc, Option, Some, None, Result, Ok, Err}
+use Rattle.std.proofs.Common.{◌≡◌, ℕ, ◌<◌, Bool, true, false, ◌&&◌, List, [], ◌∷◌, ◌++◌, suc, length, arith, refl, sym, ap, subst, ◌∙◌, inl, inr, Option, Some, None, Result, Ok, Err}
 use Rattle.std.specs.Prelude.{ℤ, pos, neg_ℤ, ◌-ℤ◌, ◌==◌, ◌↔◌}
 use Rattle.std.proofs.lemmas.Bool.{cases_Bool, eqb-true}
 use Rattle.exact_decimal.specs.declared.decimal.BadNumber.{BadNumber}
 use Rattle.exact_decimal.specs.declared.decimal.Decimal.{Decimal}
-use Rattle.exact_decimal.specs.NumberFields.{is_blank, AreBlanks, IsMantissa, MayBeExponent, IsFixed, IsFloating}
+use Rattle.exact_decimal.specs.NumberFields.{is_blank, AreBlanks, IsMantissa, IsFixed, IsFloating}
 use Rattle.exact_decimal.specs.Parts.{front, behind, whole_at, fraction_at, behind_mantissa, has_digits, digits_at, exponent_of, is_blank_text, number, fixed_text, fixed_of, with_exponent, floating_text, floating_of}
 use Rattle.exact_decimal.proofs.Runs.{Stops, cut_at, all_behind, all_passed, passes_front, front_and_behind}
 use Rattle.exact_decimal.proofs.Mantissas.{mantissa_cut, mantissa_at}

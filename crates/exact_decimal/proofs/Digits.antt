@@ -1,9 +1,9 @@
 -- The numbers that digits write.
-use Rattle.std.proofs.Common.{◌≡◌, ℕ, zero, suc, ◌+◌, ◌-◌, ◌*◌, ◌^◌, ◌<◌, ◌≤◌, true, false, List, [], ◌∷◌, ◌++◌, length, take, drop, get_or, arith, add-one, add-zero, subst, sym, ap, ◌∙◌, refl}
+use Rattle.std.proofs.Common.{◌≡◌, ℕ, suc, ◌+◌, ◌-◌, ◌*◌, ◌^◌, ◌<◌, ◌≤◌, true, false, List, [], ◌∷◌, ◌++◌, length, drop, get_or, arith, add-one, add-zero, subst, sym, ap, ◌∙◌, refl}
 use Rattle.std.proofs.Math.Nat.{pow-suc, pow-le-pow_right, one-le-pow}
 use Rattle.std.proofs.Math.Seq.{drop-cons}
 use Rattle.std.specs.Char.{is_ascii_digit, digit_value}
-use Rattle.std.specs.Prelude.{Bool, ◌&&◌, nat_lt, nat_le, ℤ, ◌≤ℤ◌, pos, neg_ℤ}
+use Rattle.std.specs.Prelude.{Bool}
 use Rattle.std.proofs.lemmas.Int.{ints}
 use Rattle.std.specs.Str.Parse.{digits_value_after}
 use Rattle.sat_model.specs.Sizes.{IsWithin}

@@ -1,11 +1,11 @@
 -- An exponent at the front of a text.
-use Rattle.std.proofs.Common.{◌≡◌, ℕ, ◌+◌, ◌<◌, ◌≤◌, Bool, true, false, cond, ◌&&◌, List, [], ◌∷◌, ◌++◌, length, arith, refl, sym, ap, subst, ◌∙◌, inl, inr, append_assoc, Option, Some, None}
+use Rattle.std.proofs.Common.{◌≡◌, ℕ, ◌<◌, ◌≤◌, Bool, true, false, ◌&&◌, List, [], ◌∷◌, ◌++◌, length, arith, refl, sym, ap, subst, ◌∙◌, inl, inr, append_assoc, Option, Some, None}
 use Rattle.std.specs.Prelude.{ℤ, pos, ◌==◌, nat_lt, nat_le}
 use Rattle.std.proofs.lemmas.Bool.{cases_Bool}
 use Rattle.std.specs.Char.{is_ascii_digit}
 use Rattle.std.specs.Str.Parse.{digits_value}
-use Rattle.exact_decimal.specs.NumberFields.{is_blank, is_exponent_letter, AreBlanks, AreDigits, IsSign, IsExponent, MayBeExponent, signed}
-use Rattle.exact_decimal.specs.Parts.{front, behind, is_negative, behind_sign, exponent_with, exponent_behind, exponent_of}
+use Rattle.exact_decimal.specs.NumberFields.{is_blank, is_exponent_letter, AreBlanks, AreDigits, IsSign, MayBeExponent, signed}
+use Rattle.exact_decimal.specs.Parts.{front, behind, is_negative, behind_sign, exponent_behind, exponent_of}
 use Rattle.exact_decimal.proofs.Runs.{Stops, head_passes, cut_at, passes_front, front_and_behind}
 use Rattle.exact_decimal.proofs.Signs.{NoSign, EndsNumber, sign_cut, sign_at}
 use Rattle.exact_decimal.proofs.Mantissas.{digit_is_no_sign}

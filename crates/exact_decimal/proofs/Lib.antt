@@ -4,3 +4,4 @@ pub mod Signs
 pub mod Mantissas
 pub mod Exponents
 pub mod Answers
+pub mod Units

@@ -1,12 +1,12 @@
 -- A mantissa at the front of a text.
-use Rattle.std.proofs.Common.{◌≡◌, ℕ, ◌+◌, ◌<◌, ◌≤◌, Bool, true, false, cond, ◌&&◌, List, [], ◌∷◌, ◌++◌, length, arith, refl, sym, ap, subst, ◌∙◌, inl, inr, append_assoc, length-append}
+use Rattle.std.proofs.Common.{◌≡◌, ℕ, ◌+◌, ◌<◌, Bool, true, false, List, [], ◌∷◌, ◌++◌, length, arith, refl, sym, ap, subst, ◌∙◌, inl, inr, append_assoc, length-append}
 use Rattle.std.specs.Prelude.{ℤ, ◌==◌}
 use Rattle.std.specs.Char.{is_ascii_digit}
 use Rattle.std.specs.Str.Parse.{digits_value}
 use Rattle.exact_decimal.specs.NumberFields.{is_blank, AreDigits, IsSign, IsFraction, signed, IsMantissa}
 use Rattle.exact_decimal.specs.Parts.{front, behind, is_negative, behind_sign, fraction_of, behind_fraction, whole_at, fraction_at, behind_mantissa, has_digits, digits_at}
 use Rattle.std.proofs.lemmas.Bool.{cases_Bool}
-use Rattle.exact_decimal.proofs.Digits.{IsDigitByte, digit_byte, AreFew, are_few, has_few}
+use Rattle.exact_decimal.proofs.Digits.{digit_byte, AreFew, are_few, has_few}
 use Rattle.exact_decimal.proofs.Runs.{Stops, head_passes, cut_at, passes_front, front_and_behind}
 use Rattle.exact_decimal.proofs.Signs as signs
 use Rattle.exact_decimal.proofs.Signs.{NoSign, EndsNumber, no_digit}
@@ -132,5 +132,5 @@ cut_mantissa sign whole pointed fraction tail negative is_sign whole_digits frac
 pub mantissa_at : (mantissa : List ℕ) (digits : ℤ) (decimals : ℕ) (tail : List ℕ) → IsMantissa mantissa digits decimals → EndsNumber tail → MantissaAt mantissa digits decimals tail
 mantissa_at mantissa digits decimals tail m ends =
     let cut = cut_mantissa m.sign m.whole m.pointed m.fraction tail m.negative m.is_sign m.whole_digits m.fraction_digits m.is_fraction
-        (record { some = m.some; at_most = m.at_most }) ends in
+    (record { some = m.some; at_most = m.at_most }) ends in
     rw (m.spelled, m.value, m.places) cut

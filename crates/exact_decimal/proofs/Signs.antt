@@ -1,11 +1,11 @@
 -- A sign at the front of a text, and a point with digits behind it.
-use Rattle.std.proofs.Common.{◌≡◌, ℕ, ◌+◌, ◌<◌, ◌≤◌, Bool, true, false, cond, ◌||◌, List, [], ◌∷◌, ◌++◌, length, arith, refl, sym, ap, subst, ◌∙◌, inl, inr, ◌⊎◌, append_assoc}
+use Rattle.std.proofs.Common.{◌≡◌, ℕ, Bool, true, false, List, [], ◌∷◌, ◌++◌, arith, refl, sym, ap, subst, inl, inr}
 use Rattle.std.specs.Prelude.{◌==◌}
 use Rattle.std.specs.Char.{is_ascii_digit}
 use Rattle.std.proofs.lemmas.Bool.{cases_Bool}
 use Rattle.exact_decimal.specs.NumberFields.{IsSign, IsFraction, AreDigits}
-use Rattle.exact_decimal.specs.Parts.{front, behind, is_negative, behind_sign, fraction_of, behind_fraction}
-use Rattle.exact_decimal.proofs.Runs.{Stops, cut_at, passes_front, front_and_behind}
+use Rattle.exact_decimal.specs.Parts.{front, is_negative, behind_sign, fraction_of, behind_fraction}
+use Rattle.exact_decimal.proofs.Runs.{Stops, cut_at, front_and_behind}
 
 pub is_byte : (a b : ℕ) → (a == b) ≡ true → a ≡ b
 is_byte a b h = grind arith

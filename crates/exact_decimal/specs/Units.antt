@@ -1,9 +1,6 @@
 -- A decimal in a unit: the exact value as a fraction, and its floor and ceiling.
-use Rattle.std.specs.Prelude.{ℕ, ◌*◌, ◌^◌, ℤ, pos, ◌+ℤ◌, ◌*ℤ◌, ◌≤ℤ◌, ◌<ℤ◌, unsigned_abs, Result, MatchResult}
+use Rattle.std.specs.Prelude.{ℕ, ◌+◌, ◌*◌, ◌^◌, ◌<◌, ◌≤◌, ℤ, pos, ◌+ℤ◌, ◌*ℤ◌, unsigned_abs, Option, None, Some}
 use borrow.Author.Differences.{up, down}
-use Rattle.sat_model.specs.declared.spans.Wide.{Wide}
-use Rattle.sat_model.specs.Rounding.{IsFloor, IsCeiling}
-use Rattle.exact_decimal.specs.declared.unit.Range.{Range}
 use Rattle.exact_decimal.specs.declared.unit.Unit.{Unit}
 use Rattle.exact_decimal.specs.declared.unit.Unit.TheVariants.{Length, Ratio, Rate, Drift, Time, Clock, RootA}
 
@@ -27,26 +24,29 @@ bound_of Time = 10 ^ 19
 bound_of Clock = 10 ^ 16
 bound_of RootA = 10 ^ 16
 
--- digits * 10 ^ ten in the unit, where it is a whole number and where it is a fraction: the power of
--- ten that multiplies the digits, and the one that divides them
+-- digits * 10 ^ ten in the unit is a fraction: the power of ten that multiplies the digits, where the
+-- number is whole, and the one that divides them, where it is not
 abbrev pub shift_of : ℤ → Unit → ℤ
 shift_of ten unit = ten +ℤ pos (decimals_of unit)
 
 abbrev pub numerator : ℤ → ℤ → Unit → ℤ
 numerator digits ten unit = digits *ℤ pos (10 ^ up (shift_of ten unit))
 
-abbrev pub denominator : ℤ → Unit → ℤ
-denominator ten unit = pos (10 ^ down (shift_of ten unit))
+abbrev pub denominator : ℤ → Unit → ℕ
+denominator ten unit = 10 ^ down (shift_of ten unit)
 
--- the amount of num / den passes the bound
-abbrev pub PassesBound : ℤ → ℤ → ℕ → Type 0
-PassesBound num den bound = (pos bound *ℤ den) <ℤ pos (unsigned_abs num)
+-- the amount of the fraction passes the unit's bound
+abbrev pub PassesBound : ℤ → ℤ → Unit → Type 0
+PassesBound digits ten unit = bound_of unit * denominator ten unit < unsigned_abs (numerator digits ten unit)
 
--- floor and ceiling of num / den, unless its amount passes the bound
-pub record Rounds (num den : ℤ) (bound : ℕ) (held : Wide) : Type 0 where
-  pub floor : IsFloor num den held.lo
-  pub ceiling : IsCeiling num den held.hi
-  pub within : pos (unsigned_abs num) ≤ℤ (pos bound *ℤ den)
+-- floor and ceiling of num / den
+pub record IsRounded (num den floor ceiling : ℕ) : Type 0 where
+  pub floor_le : floor * den ≤ num
+  pub floor_gt : num < floor * den + den
+  pub ceiling_ge : num ≤ ceiling * den
+  pub ceiling_lt : ceiling * den < num + den
 
-abbrev pub RoundsTo : ℤ → ℤ → ℕ → Result Wide Range → Type 0
-RoundsTo num den bound result = MatchResult result (Rounds num den bound) (λ _. PassesBound num den bound)
+-- these are the answer, unless the fraction passes the bound
+abbrev pub RoundsWithin : ℕ → ℕ → ℕ → Option (ℕ × ℕ) → Type 0
+RoundsWithin num den bound None = bound * den < num
+RoundsWithin num den bound (Some (floor, ceiling)) = (num ≤ bound * den) × IsRounded num den floor ceiling

@@ -11,3 +11,6 @@ pub use convert::to_unit;
 pub use decimal::{BadNumber, Decimal};
 pub use read::{read_exp, read_fixed};
 pub use unit::{Range, Unit};
+
+#[cfg(test)]
+mod tests;

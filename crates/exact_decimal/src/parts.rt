@@ -128,7 +128,12 @@ impl<'a> Mantissa<'a> {
         let (negative, text) = split_sign(text);
         let (whole, text) = split_digits(text);
         let (fraction, rest) = split_fraction(text);
-        Mantissa { negative, whole, fraction, rest }
+        Mantissa {
+            negative,
+            whole,
+            fraction,
+            rest,
+        }
     }
 
     /// Whether it has 1 to 18 digits.

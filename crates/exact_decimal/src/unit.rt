@@ -29,7 +29,7 @@ impl Unit {
     ghost use Rattle.exact_decimal.specs.Units.{decimals_of, bound_of};
 
     /// One unit is a ten to the power of minus this many, in SI units.
-    fn decimals(self) -> u8
+    pub fn decimals(self) -> u8
         ensures value { result ≡ decimals_of self }
         ensures bound { result ≤ 28 }
     {
@@ -43,7 +43,7 @@ impl Unit {
     }
 
     /// The greatest amount, in units.
-    fn bound(self) -> u64
+    pub fn bound(self) -> u64
         ensures value { result ≡ bound_of self }
         ensures least { 10 ^ 15 ≤ result }
         ensures greatest { result ≤ 10 ^ 19 }

@@ -1,4 +1,4 @@
-use Rattle.std.proofs.Common.{◌≡◌, ◌<◌, ◌^◌, ◌+◌, ◌*◌, ◌-◌, length, arith}
+use Rattle.std.proofs.Common.{arith}
 use Rattle.exact_decimal.proofs.Digits.{digit_at, room_more, within_18, fits_more, value_more}
 use Rattle.exact_decimal.proofs.parts.number_after.Goals as goal
 
@@ -10,7 +10,7 @@ pub overflow_add-number : goal.overflow_add-number
 overflow_add-number c =
     let digit = digit_at c.args.digits.now c.loop-digit.digit-index c.requires.digits c.loop-digit-test.true in
     let more = fits_more c.loop-digit.number c.from.result _ _ c.loop-digit.invariant.room c.loop-digit-test.true c.requires.short
-        (omega (arith, c.from.ensures, digit.high)) in
+    (omega (arith, c.from.ensures, digit.high)) in
     omega (arith, more)
 
 pub loop-digit-preserved : goal.loop-digit-preserved

@@ -1,4 +1,3 @@
-use Rattle.std.proofs.Common.{◌≡◌}
 use Rattle.exact_decimal.proofs.Answers.{floating_answer, floating_blank}
 use Rattle.exact_decimal.proofs.read.read_exp.Goals as goal
 

@@ -1,4 +1,3 @@
-use Rattle.std.proofs.Common.{◌≡◌}
 use Rattle.exact_decimal.proofs.Answers.{fixed_answer, fixed_blank}
 use Rattle.exact_decimal.proofs.read.read_fixed.Goals as goal
 

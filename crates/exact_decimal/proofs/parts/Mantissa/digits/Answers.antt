@@ -1,4 +1,4 @@
-use Rattle.std.proofs.Common.{◌≡◌, ℕ, ◌+◌, ◌++◌, arith, sym, ap, ◌∙◌, to_z-of_z, FitsSigned, w64, rules}
+use Rattle.std.proofs.Common.{◌≡◌, ℕ, ◌++◌, sym, ap, ◌∙◌, to_z-of_z, FitsSigned, w64, rules}
 use Rattle.std.specs.Str.Parse.{digits_value_after, digits_value}
 use Rattle.exact_decimal.specs.NumberFields.{signed}
 use Rattle.exact_decimal.proofs.Digits.{ten_power, after-append, are_few, room_behind}
