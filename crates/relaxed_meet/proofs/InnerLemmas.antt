@@ -1,6 +1,6 @@
 -- Inner spans that hold a number, counted over the rows that have one.
-use Rattle.std.proofs.Common.{◌≡◌, ℕ, ◌+◌, ◌-◌, ◌<◌, ◌≤◌, List, [], ◌∷◌, ◌++◌, length, get_or, take, map, count_by, cond, arith, false, Option, None, Some, IfSome, ap, ◌∙◌}
-use Rattle.std.specs.Prelude.{ℤ, ◌≤ℤ◌, ◌<ℤ◌}
+use Rattle.std.proofs.Common.{◌≡◌, ℕ, ◌+◌, ◌-◌, ◌<◌, ◌≤◌, List, [], ◌∷◌, ◌++◌, length, get_or, take, map, count_by, cond, arith, false, Option, None, Some, IfSome, IsNone, ap, ◌∙◌}
+use Rattle.std.specs.Prelude.{ℤ, ◌<ℤ◌}
 use Rattle.std.proofs.lemmas.Int.{ints}
 use Rattle.std.proofs.lemmas.List.{map_more, map-append}
 use Rattle.std.proofs.lemmas.List.Sums.{sum_by-append, sum_by-cons}
@@ -9,7 +9,8 @@ use Rattle.sat_model.specs.declared.satellites.Row.{Row}
 use Rattle.sat_model.specs.declared.spans.Span.{Span}
 use Rattle.sat_model.specs.Boxes.{GridBox}
 use Rattle.sat_model.specs.ClockSpans.{inner_spans, NoneIsShownInner, IsLeastShownInner}
-use Rattle.sat_model.specs.Relaxed.{holds, ends, LiesInRelaxed, IsRelaxedEmpty}
+use Rattle.sat_model.specs.Relaxed.{holds, ends, LiesInRelaxed}
+use Rattle.relaxed_meet.specs.Kept.{IsLeastIn}
 
 abbrev pub held : ℤ → List (ℤ × ℤ) → ℕ
 held b spans = count_by (λ s. holds s b) spans
@@ -54,16 +55,16 @@ held_all f xs i v done had b =
     let same : take i xs ≡ xs = grind (arith, common_steps) in
     rw same at had b
 
-pub none_inner : (rows : List Row) (part : GridBox) (q need : ℕ) (v : List Span) → need ≡ length rows - q
-    → ((b : ℤ) → held b (map ends v) ≡ held b (inner_spans part rows)) → IsRelaxedEmpty (map ends v) need → NoneIsShownInner rows part q
-none_inner rows part q need v n same none b h = none b (omega (arith, same b, h))
+pub none_inner : (rows : List Row) (part : GridBox) (q need : ℕ) (v : List Span) (r : Option ℤ) → need ≡ length rows - q
+    → ((b : ℤ) → held b (map ends v) ≡ held b (inner_spans part rows)) → IsLeastIn (LiesInRelaxed (map ends v) need) r → IsNone r → NoneIsShownInner rows part q
+none_inner rows part q need v None n same none e b h = none b (omega (arith, same b, h))
+none_inner rows part q need v (Some x) n same least e b h = absurd cc
 
 pub least_inner : (rows : List Row) (part : GridBox) (q need : ℕ) (v : List Span) (r : Option ℤ) → need ≡ length rows - q
-    → ((b : ℤ) → held b (map ends v) ≡ held b (inner_spans part rows))
-    → IfSome r (λ x. LiesInRelaxed (map ends v) need x) → IfSome r (λ x. (b : ℤ) → LiesInRelaxed (map ends v) need b → x ≤ℤ b)
+    → ((b : ℤ) → held b (map ends v) ≡ held b (inner_spans part rows)) → IsLeastIn (LiesInRelaxed (map ends v) need) r
     → IfSome r (λ b. IsLeastShownInner rows part q b)
-least_inner rows part q need v None n same some least = tt
-least_inner rows part q need v (Some x) n same some least = record {
-  shown = omega (arith, same x, some);
-  least = λ b h. least b (omega (arith, same b, h));
+least_inner rows part q need v None n same none = tt
+least_inner rows part q need v (Some x) n same least = record {
+  shown = omega (arith, same x, least.0);
+  least = λ b h. least.1 b (omega (arith, same b, h));
 }
