@@ -1,3 +1,5 @@
 pub mod TestLemmas
 pub mod CutLemmas
+pub mod StageLemmas
+pub mod StepLemmas
 pub mod SatelliteLemmas

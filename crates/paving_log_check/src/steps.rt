@@ -129,3 +129,34 @@ impl Live {
         }
     }
 }
+
+/// The first of the lines of the steps, and of the splits behind them, that fails a test.
+pub(crate) fn steps_fault(
+    alloc: Global,
+    rows: &[Row],
+    rules: &Rules,
+    done: u32,
+    root: &Box3,
+    steps: &[Step],
+) -> Result<Option<LineFault>, NoMemory>
+    requires { (rules.now.outliers < length rows.now) × (length rows.now ≤ 64) }
+    ensures { IfOk result (λ found. MatchOption found
+        (StepsPass rows.now rules.now done (first_stage (grid_box root.now)) steps.now)
+        (λ fault. StepsFail rows.now rules.now done (first_stage (grid_box root.now)) steps.now fault.offset fault.number)) }
+{
+    let mut live = Live::of_root(alloc, root)?;
+    for (k, step) in steps.iter().enumerate() {
+        match live.take(rows, rules, step)? {
+            Some(number) => return Ok(Some(LineFault { offset: k, number })),
+            None => {}
+        }
+    }
+    let offset = steps.len();
+    if !live.is_none_live() {
+        return Ok(Some(LineFault { offset, number: NOT_CLOSED }));
+    }
+    if live.splits != done {
+        return Ok(Some(LineFault { offset, number: COUNT_DIFFERS }));
+    }
+    Ok(None)
+}

@@ -72,7 +72,7 @@ box_halved (suc (suc n)) part a b p h = and_left _ _ _ (side_holds part.x p.x) (
 
 -- ---- the list of live boxes
 
-there : (live : List (Option GridBox)) (id : ℕ) (part : GridBox) → get_or live id None ≡ Some part → id < length live
+pub there : (live : List (Option GridBox)) (id : ℕ) (part : GridBox) → get_or live id None ≡ Some part → id < length live
 there [] id part e = absurd cc
 there (o ∷ live) zero part e = omega arith
 there (o ∷ live) (suc id) part e = omega (arith, there live id part e)
