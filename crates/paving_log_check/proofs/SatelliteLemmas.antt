@@ -1,15 +1,38 @@
--- Repeated satellites, and the rows among the lines.
-use Rattle.std.proofs.Common.{◌≡◌, ℕ, suc, ◌+◌, ◌<◌, ◌≤◌, arith, List, [], ◌∷◌, ◌++◌, length, get_or, drop, take, map, refl, sym, ap, ◌∙◌, subst, add-one, append_assoc, append-nil, Option, Some}
-use Rattle.std.specs.Prelude.{Any, slice_get}
-use Rattle.std.proofs.Math.Seq.{drop-cons}
-use Rattle.std.proofs.lemmas.Grind.{common_steps}
-use Rattle.sat_model.specs.declared.satellites.Row.{Row}
+-- Satellites that are named, and named again.
+use Rattle.std.proofs.Common.{◌≡◌, ◌≢◌, ℕ, ◌<◌, arith, Bool, false, ◌&&◌, nat_eq, List, length, get_or, take, map, refl, ap, ◌∙◌, Some}
+use Rattle.std.specs.List.{Contains, slice_get}
+use Rattle.std.proofs.lemmas.Bool.{eq-eqb, false≢true}
+use Rattle.std.proofs.Math.ListN.{get_or-map}
+use Rattle.std.proofs.lemmas.List.{get_or-take, length-map, length-take}
+use Rattle.std.proofs.lemmas.Option.{slice_get-get_or}
+use Rattle.sat_model.specs.declared.satellites.Sat.{Sat}
 use Rattle.sat_model.specs.declared.satellites.SatEntry.{SatEntry}
-use Rattle.sat_model.specs.Logs.{sat_of, rows_of}
+use Rattle.sat_model.specs.Logs.{sat_of}
 use Rattle.sat_model.specs.Verdicts.{IsRepeat}
 
--- ---- the rows
+pub other_satellite : (a b : Sat) → false ≡ (nat_eq a.system b.system && nat_eq a.number b.number) → a ≢ b
+other_satellite a b h same =
+    false≢true (h ∙ rw (eq-eqb a.system b.system (ap (λ (s : Sat). s.system) same), eq-eqb a.number b.number (ap (λ (s : Sat). s.number) same)) refl)
 
-rows_next : (sats : List SatEntry) (i : ℕ) (entry : SatEntry) → i < length sats → entry ≡ get_or sats i entry
-    → rows_of (drop i sats) ≡ rows_of (entry ∷ drop (i + 1) sats)
-rows_next sats i entry within is = rw (add-one, drop-cons sats i entry within) (ap (λ (e : SatEntry). rows_of (e ∷ drop (suc i) sats)) (sym is))
+pub repeat_from : (sats : List SatEntry) (k : ℕ) (entry : SatEntry) → k < length sats → entry ≡ get_or sats k entry
+    → Contains (map sat_of (take k sats)) (sat_of entry) → IsRepeat sats k
+repeat_from sats k entry within is (i, less, same) =
+    let short : i < k = omega (arith, length-map (take k sats) sat_of, length-take k sats) in
+    let t = get_or-take k sats i entry short in
+    let m = get_or-map sat_of (take k sats) i entry in
+    let mi = get_or-map sat_of sats i entry in
+    let mk = get_or-map sat_of sats k entry in
+    let at_i = slice_get-get_or (map sat_of sats) i (sat_of entry) (omega (arith, length-map sats sat_of)) in
+    let at_k = slice_get-get_or (map sat_of sats) k (sat_of entry) (omega (arith, length-map sats sat_of)) in
+    record { earlier = i; is_earlier = short; is_line = within; same = cc }
+
+pub repeat_named : (sats : List SatEntry) (k : ℕ) (entry : SatEntry) → entry ≡ get_or sats k entry
+    → IsRepeat sats k → Contains (map sat_of (take k sats)) (sat_of entry)
+repeat_named sats k entry is r =
+    let t = get_or-take k sats r.earlier entry r.is_earlier in
+    let m = get_or-map sat_of (take k sats) r.earlier entry in
+    let mi = get_or-map sat_of sats r.earlier entry in
+    let mk = get_or-map sat_of sats k entry in
+    let at_i = slice_get-get_or (map sat_of sats) r.earlier (sat_of entry) (omega (arith, length-map sats sat_of)) in
+    let at_k = slice_get-get_or (map sat_of sats) k (sat_of entry) (omega (arith, length-map sats sat_of)) in
+    (r.earlier, omega (arith, length-map (take k sats) sat_of, length-take k sats), cc)

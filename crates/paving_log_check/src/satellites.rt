@@ -1,6 +1,6 @@
 //! The satellite lines of an epoch.
 
-ghost use Rattle.std.specs.Prelude.{◌≡◌, ◌↔◌, IfOk, IsTrue, MatchOption, Any};
+ghost use Rattle.std.specs.Prelude.{◌≡◌, ◌↔◌, IfOk, IsTrue, MatchOption, Contains, map};
 ghost use Rattle.sat_model.specs.Logs.{sat_of, rows_of};
 ghost use Rattle.sat_model.specs.Verdicts.{NoneRepeats, IsFirstRepeat};
 
@@ -33,9 +33,14 @@ fn satellite(entry: &SatEntry) -> Sat
 
 /// Whether a line names the satellite.
 fn names(sats: &[SatEntry], sat: Sat) -> bool
-    ensures { IsTrue result ↔ Any (λ entry. sat_of entry ≡ sat) sats.now }
+    ensures { IsTrue result ↔ Contains (map sat_of sats.now) sat }
 {
-    sats.iter().any(|entry| satellite(entry) == sat)
+    for entry in sats {
+        if satellite(entry) == sat {
+            return true;
+        }
+    }
+    false
 }
 
 /// The first line that names the satellite of a line before it.
