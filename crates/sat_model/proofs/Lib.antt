@@ -6,3 +6,4 @@ pub mod FittingLemmas
 pub mod FoldLemmas
 pub mod CoverLemmas
 pub mod VerdictLemmas
+pub mod KeptLemmas
