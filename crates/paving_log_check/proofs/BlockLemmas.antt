@@ -9,12 +9,13 @@ use Rattle.sat_model.specs.declared.satellites.Row.{Row}
 use Rattle.sat_model.specs.declared.satellites.SatEntry.{SatEntry}
 use Rattle.sat_model.specs.declared.satellites.SatEntry.TheVariants as entry
 use Rattle.sat_model.specs.declared.steps.Step.{Step}
-use Rattle.sat_model.specs.Boxes.{GridBox}
+use Rattle.sat_model.specs.declared.boxes.Box3.{Box3}
+use Rattle.sat_model.specs.Boxes.{GridBox, grid_box}
 use Rattle.sat_model.specs.Cover.{kept_in, kept_boxes_in, kept_boxes}
 use Rattle.sat_model.specs.Fold.{Stage, first_stage, after}
 use Rattle.sat_model.specs.Logs.{Block, LogValue, rows_of, lines_with, lines_in, IsNumberedFrom, IsNumbered}
-use Rattle.sat_model.specs.Verdicts.{StepsFail, SuitsNumber, CountsRows, BlockPasses, BlockFails, BlocksPass, BlocksFail, Judged, FirstFault}
-use Rattle.paving_log.specs.Values.{block_of}
+use Rattle.sat_model.specs.Verdicts.{StepsPass, StepsFail, SuitsNumber, CountsRows, HeadPasses, NoneRepeats, BlockPasses, BlockFails, BlocksPass, BlocksFail, Judged, FirstFault}
+use Rattle.paving_log.specs.Values.{block_of, box_option}
 use Rattle.paving_log.specs.declared.log.LogEpoch.{LogEpoch}
 
 -- ---- the rows of a paved block
@@ -29,6 +30,26 @@ pub enough_rows : (few : Bool) (q n : ℕ) (sats : List SatEntry) → few ≡ fa
     → (q < length (rows_of sats)) × (length (rows_of sats) ≤ 64)
 enough_rows true q n sats is suits counts most = absurd cc
 enough_rows false q n sats is suits counts most = (omega arith, omega (arith, rows_le_lines sats))
+
+-- ---- a paved block, its steps judged
+
+pub paved_passes : (rules : Rules) (before : Option ℕ) (epoch : LogEpoch) (root : Box3) (sats : List SatEntry) (rows : List Row) (steps : List Step)
+    → epoch.root ≡ Some root → sats ≡ epoch.sats.items → rows ≡ rows_of epoch.sats.items → steps ≡ epoch.steps.items
+    → HeadPasses rules before (block_of epoch) → NoneRepeats sats
+    → StepsPass rows rules epoch.done (first_stage (grid_box root)) steps → BlockPasses rules before (block_of epoch)
+paved_passes rules before epoch root sats rows steps paved same_sats same_rows same_steps head none passes = record {
+  head = head;
+  sats = rw same_sats at none;
+  body = rw paved (rw (same_rows, same_steps) at passes);
+}
+
+pub paved_fails : (rules : Rules) (before : Option ℕ) (epoch : LogEpoch) (root : Box3) (k number line : ℕ) (sats : List SatEntry) (rows : List Row) (steps : List Step)
+    → epoch.root ≡ Some root → sats ≡ epoch.sats.items → rows ≡ rows_of epoch.sats.items → steps ≡ epoch.steps.items
+    → HeadPasses rules before (block_of epoch) → NoneRepeats sats
+    → StepsFail rows rules epoch.done (first_stage (grid_box root)) steps k number
+    → line ≡ epoch.line + 2 + length epoch.sats.items + k → BlockFails rules before (block_of epoch) line number
+paved_fails rules before epoch root k number line sats rows steps paved same_sats same_rows same_steps head none fails is_line =
+    inr (inr (head, rw same_sats at none, (grid_box root, k, ap box_option paved, rw (same_rows, same_steps) at fails, is_line)))
 
 -- ---- a failing line is one of the block's
 

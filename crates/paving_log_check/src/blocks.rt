@@ -1,6 +1,6 @@
 //! The tests of one block of a log.
 
-ghost use Rattle.std.specs.Prelude.{◌≡◌, ◌+◌, ◌<◌, ◌≤◌, ◌↔◌, length, IsTrue, IfOk, MatchOption};
+ghost use Rattle.std.specs.Prelude.{◌≡◌, ◌+◌, ◌<◌, ◌≤◌, ◌↔◌, length, count_by, IsTrue, IfOk, MatchOption};
 ghost use Rattle.sat_model.specs.declared.rules.Rules.{Rules};
 ghost use Rattle.sat_model.specs.Cover.{is_kept_step, kept_in};
 ghost use Rattle.sat_model.specs.Logs.{rows_of, lines_in};
@@ -90,6 +90,13 @@ fn is_kept(step: &Step) -> bool
     }
 }
 
+/// How many steps do.
+fn kept_steps(steps: &[Step]) -> usize
+    ensures { result ≡ count_by is_kept_step steps.now }
+{
+    steps.iter().filter(|step| is_kept(step)).count()
+}
+
 /// How many boxes the steps of a block close inside or at the edge.
 pub(crate) fn kept_boxes(epoch: &LogEpoch) -> u64
     ensures value { (rules : Rules) → BodyPasses rules (block_of epoch.now) (block_of epoch.now).root
@@ -97,7 +104,7 @@ pub(crate) fn kept_boxes(epoch: &LogEpoch) -> u64
     ensures bound { result ≤ lines_in (block_of epoch.now) }
 {
     match epoch.root {
-        Some(_) => epoch.steps.iter().filter(|step| is_kept(step)).count() as u64,
+        Some(_) => kept_steps(&epoch.steps) as u64,
         None => 0,
     }
 }
