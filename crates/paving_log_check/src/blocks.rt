@@ -63,7 +63,10 @@ pub(crate) fn block_fault(
         return Ok(Some(LineFault { offset: 0, number }));
     }
     if let Some(k) = first_repeat(&epoch.sats) {
-        return Ok(Some(LineFault { offset: 1 + k, number: SATELLITE_DIFFERS }));
+        return Ok(Some(LineFault {
+            offset: 1 + k,
+            number: SATELLITE_DIFFERS,
+        }));
     }
     match &epoch.root {
         Some(root) => match steps_fault(alloc, &rows, rules, epoch.done, root, &epoch.steps)? {

@@ -13,3 +13,6 @@ mod verdict;
 
 pub use logs::judge;
 pub use verdict::{Fault, Verdict};
+
+#[cfg(test)]
+mod tests;

@@ -78,7 +78,15 @@ impl Live {
         }
     }
 
-    fn close_inside(&mut self, rows: &[Row], rules: &Rules, id: u32, clock: i64, lo: i64, hi: i64) -> Option<u8>
+    fn close_inside(
+        &mut self,
+        rows: &[Row],
+        rules: &Rules,
+        id: u32,
+        clock: i64,
+        lo: i64,
+        hi: i64,
+    ) -> Option<u8>
         requires { (rules.now.outliers < length rows.now) × (length rows.now ≤ 64) }
         ensures { IsTaken rows.now rules.now (stage_of self.old) (Inside id clock lo hi) result (stage_of self.new) }
     {
@@ -97,7 +105,14 @@ impl Live {
         }
     }
 
-    fn close_at_edge(&mut self, rows: &[Row], rules: &Rules, id: u32, lo: i64, hi: i64) -> Option<u8>
+    fn close_at_edge(
+        &mut self,
+        rows: &[Row],
+        rules: &Rules,
+        id: u32,
+        lo: i64,
+        hi: i64,
+    ) -> Option<u8>
         requires { (rules.now.outliers < length rows.now) × (length rows.now ≤ 64) }
         ensures { IsTaken rows.now rules.now (stage_of self.old) (Edge id lo hi) result (stage_of self.new) }
     {
@@ -153,10 +168,16 @@ pub(crate) fn steps_fault(
     }
     let offset = steps.len();
     if !live.is_none_live() {
-        return Ok(Some(LineFault { offset, number: NOT_CLOSED }));
+        return Ok(Some(LineFault {
+            offset,
+            number: NOT_CLOSED,
+        }));
     }
     if live.splits != done {
-        return Ok(Some(LineFault { offset, number: COUNT_DIFFERS }));
+        return Ok(Some(LineFault {
+            offset,
+            number: COUNT_DIFFERS,
+        }));
     }
     Ok(None)
 }

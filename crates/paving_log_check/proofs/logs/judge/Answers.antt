@@ -12,7 +12,7 @@ overflow_cast-result c =
     omega (
       arith,
       line_fits (log_value c.args.log.now) c.loop-epoch.before c.loop-epoch.epoch-index c.loop-epoch.boxes (c.epoch-item.result.line + c.in-Some.found.offset) c.in-Some.found.number
-      (block_of c.epoch-item.result) c.loop-epoch.invariant at (rw c.in-Some.is at c.in_ok-found.ensures),
+          (block_of c.epoch-item.result) c.loop-epoch.invariant at (rw c.in-Some.is at c.in_ok-found.ensures),
     )
 
 pub overflow_add-result : goal.overflow_add-result
@@ -22,7 +22,7 @@ overflow_add-result c =
     omega (
       arith,
       line_fits (log_value c.args.log.now) c.loop-epoch.before c.loop-epoch.epoch-index c.loop-epoch.boxes (c.epoch-item.result.line + c.in-Some.found.offset) c.in-Some.found.number
-      (block_of c.epoch-item.result) c.loop-epoch.invariant at (rw c.in-Some.is at c.in_ok-found.ensures),
+          (block_of c.epoch-item.result) c.loop-epoch.invariant at (rw c.in-Some.is at c.in_ok-found.ensures),
     )
 
 pub returns-in-Some-clause-first_fault : goal.returns-in-Some-clause-first_fault
@@ -43,7 +43,7 @@ overflow_add-boxes c =
     omega (
       arith,
       boxes_fit (log_value c.args.log.now) c.loop-epoch.before c.loop-epoch.epoch-index c.loop-epoch.boxes c.kept_boxes-boxes.result (block_of c.epoch-item.result)
-      c.loop-epoch.invariant at c.kept_boxes-boxes.ensures.bound,
+          c.loop-epoch.invariant at c.kept_boxes-boxes.ensures.bound,
     )
 
 pub loop-epoch-preserved : goal.loop-epoch-preserved

@@ -11,8 +11,7 @@ returns-then-not-holds_hull c =
 
 pub returns-else-not-holds_hull : goal.returns-else-not-holds_hull
 returns-else-not-holds_hull c =
-    let hull = rw (to_z-of_z w64 c.args.lo c.ranges.lo, to_z-of_z w64 c.args.hi c.ranges.hi) at c.holds_hull.ensures in
-    (
+    let hull = rw (to_z-of_z w64 c.args.lo c.ranges.lo, to_z-of_z w64 c.args.hi c.ranges.hi) at c.holds_hull.ensures in (
       (grid_box c.in-Some.part, sym c.in-Some.ensures, hull.0 c.if-not-holds_hull.false),
       closed_stage c.args.self.now.boxes.items c.args.id c.args.self.now.splits,
     )

@@ -14,9 +14,8 @@ index_mut-requires c = omega (arith, id_within c.args.self.now.boxes.items c.arg
 
 pub returns-else-not-cuts_empty_slab : goal.returns-else-not-cuts_empty_slab
 returns-else-not-cuts_empty_slab c =
-    let same = to_z-of_z w64 c.args.bound c.ranges.bound in
-    (
+    let same = to_z-of_z w64 c.args.bound c.ranges.bound in (
       (grid_box c.in-Some.part, sym c.in-Some.ensures, (rw same at c.cuts_empty_slab.ensures).0 c.if-not-cuts_empty_slab.false),
       cut_stage c.args.self.now.boxes.items c.args.id c.args.self.now.splits c.args.face c.args.bound c.in-Some.part c.left_by.result c.in-Some.ensures
-      (rw same at c.left_by.ensures),
+          (rw same at c.left_by.ensures),
     )
