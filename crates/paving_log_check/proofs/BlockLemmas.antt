@@ -15,7 +15,8 @@ use Rattle.sat_model.specs.Cover.{kept_in, kept_boxes_in, kept_boxes}
 use Rattle.sat_model.specs.Fold.{Stage, first_stage, after}
 use Rattle.sat_model.specs.Logs.{Block, LogValue, rows_of, lines_with, lines_in, IsNumberedFrom, IsNumbered}
 use Rattle.sat_model.specs.Verdicts.{StepsPass, StepsFail, SuitsNumber, CountsRows, HeadPasses, NoneRepeats, BlockPasses, BlockFails, BlocksPass, BlocksFail, Judged, FirstFault}
-use Rattle.paving_log.specs.Values.{block_of, box_option}
+use Rattle.paving_log.specs.Values.{block_of, box_option, log_value}
+use Rattle.paving_log.specs.declared.log.Log.{Log}
 use Rattle.paving_log.specs.declared.log.LogEpoch.{LogEpoch}
 
 -- ---- the rows of a paved block
@@ -94,55 +95,58 @@ underway_first log numbered = record {
   few_boxes = omega arith;
 }
 
-pub next_block : (epochs : List LogEpoch) (i : ℕ) (epoch : LogEpoch) → i < length epochs → epoch ≡ get_or epochs i epoch
-    → drop i (map block_of epochs) ≡ block_of epoch ∷ drop (i + 1) (map block_of epochs)
-next_block epochs i epoch within is =
-    let there = get_or-map block_of epochs i epoch in
-    rw (add-one, drop-cons (map block_of epochs) i (block_of epoch) (omega (arith, length-map epochs block_of)))
-    (ap (λ (b : Block). b ∷ drop (suc i) (map block_of epochs)) (there ∙ ap block_of (sym is)))
+-- block i of the log is this one
+pub record IsBlockAt (log : LogValue) (i : ℕ) (block : Block) : Type 0 where
+  pub at : drop i log.blocks ≡ block ∷ drop (i + 1) log.blocks
 
-pub no_block : (epochs : List LogEpoch) (i : ℕ) → length epochs ≤ i → drop i (map block_of epochs) ≡ []
-no_block epochs i ended = let same = length-map epochs block_of in grind (arith, common_steps)
+pub block_at : (log : Log) {epochs : List LogEpoch} (i : ℕ) (epoch : LogEpoch) → epochs ≡ log.epochs.items
+    → i < length epochs → epoch ≡ get_or epochs i epoch → IsBlockAt (log_value log) i (block_of epoch)
+block_at log {epochs = epochs} i epoch items within is = record {
+  at = rw (← items, add-one, drop-cons (map block_of epochs) i (block_of epoch) (omega (arith, length-map epochs block_of)))
+      (ap (λ (b : Block). b ∷ drop (suc i) (map block_of epochs)) (get_or-map block_of epochs i epoch ∙ ap block_of (sym is)));
+}
+
+pub no_block : (log : Log) {epochs : List LogEpoch} (i : ℕ) → epochs ≡ log.epochs.items → length epochs ≤ i → drop i (log_value log).blocks ≡ []
+no_block log {epochs = epochs} i items ended =
+    let same = length-map log.epochs.items block_of in
+    let short : length (map block_of log.epochs.items) ≤ i = omega (arith, ap length items) in
+    grind (arith, common_steps)
 
 last_number : (next : ℕ) (blocks : List Block) → IsNumberedFrom next blocks → next ≤ 4000000001
 last_number next [] h = h
 last_number next (block ∷ more) h = omega (arith, last_number (next + lines_in block) more h.1)
 
-here : (log : LogValue) (before : Option ℕ) (i boxes : ℕ) (block : Block) (more : List Block) (u : IsUnderway log before i boxes)
-    → drop i log.blocks ≡ block ∷ more → (block.line ≡ u.next) × IsNumberedFrom (u.next + lines_in block) more
-here log before i boxes block more u at = rw at at u.numbered
+numbered_here : {log : LogValue} {before : Option ℕ} {i boxes : ℕ} {block : Block} (u : IsUnderway log before i boxes) → IsBlockAt log i block
+    → (block.line ≡ u.next) × IsNumberedFrom (u.next + lines_in block) (drop (i + 1) log.blocks)
+numbered_here u here = rw here.at at u.numbered
 
-pub underway_more : (log : LogValue) (before : Option ℕ) (i boxes kept : ℕ) (block : Block) → IsUnderway log before i boxes
-    → drop i log.blocks ≡ block ∷ drop (i + 1) log.blocks
+pub underway_more : {log : LogValue} {before : Option ℕ} {i boxes : ℕ} {block : Block} (kept : ℕ) → IsUnderway log before i boxes → IsBlockAt log i block
     → BlockPasses log.rules before block → kept ≡ kept_in block block.root → kept ≤ lines_in block
     → IsUnderway log (Some block.index) (i + 1) (boxes + kept)
-underway_more log before i boxes kept block u at passes is_kept few = record {
-  pass = λ h. u.pass (rw at (passes, h));
-  fail = λ line number h. u.fail line number (rw at (inr (passes, h)));
-  kept = omega (arith, u.kept, ap kept_boxes_in at);
+underway_more {block = block} kept u here passes is_kept few = record {
+  pass = λ h. u.pass (rw here.at (passes, h));
+  fail = λ line number h. u.fail line number (rw here.at (inr (passes, h)));
+  kept = omega (arith, u.kept, ap kept_boxes_in here.at);
   next = u.next + lines_in block;
-  numbered = (here log before i boxes block (drop (i + 1) log.blocks) u at).1;
+  numbered = (numbered_here u here).1;
   few_boxes = omega (arith, u.few_boxes);
 }
 
-pub underway_fails : (log : LogValue) (before : Option ℕ) (i boxes line number : ℕ) (block : Block) → IsUnderway log before i boxes
-    → drop i log.blocks ≡ block ∷ drop (i + 1) log.blocks
+pub underway_fails : {log : LogValue} {before : Option ℕ} {i boxes : ℕ} {block : Block} (line number : ℕ) → IsUnderway log before i boxes → IsBlockAt log i block
     → BlockFails log.rules before block line number → FirstFault log line number
-underway_fails log before i boxes line number block u at fails = u.fail line number (rw at (inl fails))
+underway_fails line number u here fails = u.fail line number (rw here.at (inl fails))
 
-pub line_fits : (log : LogValue) (before : Option ℕ) (i boxes line number : ℕ) (block : Block) → IsUnderway log before i boxes
-    → drop i log.blocks ≡ block ∷ drop (i + 1) log.blocks
+pub line_fits : {log : LogValue} {before : Option ℕ} {i boxes : ℕ} {block : Block} (line number : ℕ) → IsUnderway log before i boxes → IsBlockAt log i block
     → BlockFails log.rules before block line number → line ≤ 4000000000
-line_fits log before i boxes line number block u at fails =
-    let (first, rest) = here log before i boxes block (drop (i + 1) log.blocks) u at in
+line_fits {log = log} {before = before} {i = i} {block = block} line number u here fails =
+    let (first, rest) = numbered_here u here in
     omega (arith, fault_within log.rules before block line number fails, last_number (u.next + lines_in block) (drop (i + 1) log.blocks) rest)
 
-pub boxes_fit : (log : LogValue) (before : Option ℕ) (i boxes kept : ℕ) (block : Block) → IsUnderway log before i boxes
-    → drop i log.blocks ≡ block ∷ drop (i + 1) log.blocks → kept ≤ lines_in block → boxes + kept ≤ 4000000001
-boxes_fit log before i boxes kept block u at few =
-    let (first, rest) = here log before i boxes block (drop (i + 1) log.blocks) u at in
+pub boxes_fit : {log : LogValue} {before : Option ℕ} {i boxes : ℕ} {block : Block} (kept : ℕ) → IsUnderway log before i boxes → IsBlockAt log i block
+    → kept ≤ lines_in block → boxes + kept ≤ 4000000001
+boxes_fit {log = log} {i = i} {block = block} kept u here few =
+    let (first, rest) = numbered_here u here in
     omega (arith, u.few_boxes, last_number (u.next + lines_in block) (drop (i + 1) log.blocks) rest)
 
-pub underway_ends : (log : LogValue) (before : Option ℕ) (i boxes : ℕ) → IsUnderway log before i boxes → drop i log.blocks ≡ []
-    → Judged log × (boxes ≡ kept_boxes log)
-underway_ends log before i boxes u at = (u.pass (rw at tt), omega (arith, u.kept, ap kept_boxes_in at))
+pub underway_ends : {log : LogValue} {before : Option ℕ} {i boxes : ℕ} → IsUnderway log before i boxes → drop i log.blocks ≡ [] → Judged log
+underway_ends u ended = u.pass (rw ended tt)

@@ -2,7 +2,9 @@
 #![tactic(auto)]
 
 ghost use Rattle.std.specs.Prelude.{◌≡◌, ◌≤◌, ◌≤ℤ◌, pos, length};
-ghost use Rattle.sat_model.specs.Sizes.{IsPlaceSize};
+ghost use Rattle.sat_model.specs.Logs.{lines_in};
+ghost use Rattle.sat_model.specs.Sizes.{IsPlaceSize, IsErrorSize};
+ghost use Rattle.paving_log.specs.Values.{block_of};
 
 use crate::logs::judge;
 use crate::verdict::{Fault, Verdict};
@@ -38,11 +40,22 @@ fn only(number: i64) -> Span
     }
 }
 
-/// A satellite whose place is known exactly, with its range and the amount of its error, in um.
-fn satellite(number: u8, place: Pos, range: i64, error: i64) -> SatEntry
+/// The errors of at most this amount.
+fn up_to(amount: i64) -> Span
+    requires { (pos 0 ≤ℤ amount) × (amount ≤ℤ pos 1000000000000) }
+    ensures { IsErrorSize result.lo × IsErrorSize result.hi }
+{
+    Span {
+        lo: -amount,
+        hi: amount,
+    }
+}
+
+/// A satellite whose place is known exactly, with its range in um.
+fn satellite(number: u8, place: Pos, range: i64, err: Span) -> SatEntry
     requires place { IsPlaceSize place.x × IsPlaceSize place.y × IsPlaceSize place.z }
     requires range { IsPlaceSize range }
-    requires error { (pos 0 ≤ℤ error) × (error ≤ℤ pos 1000000000000) }
+    requires err { IsErrorSize err.lo × IsErrorSize err.hi }
 {
     SatEntry::Row(Row {
         sat: Sat {
@@ -53,17 +66,14 @@ fn satellite(number: u8, place: Pos, range: i64, error: i64) -> SatEntry
         y: only(place.y),
         z: only(place.z),
         range: only(range),
-        err: Span {
-            lo: -error,
-            hi: error,
-        },
+        err,
     })
 }
 
 /// Satellites 20,000 km from the origin, three of them on the axes; the first has this range.
-fn four_satellites(first_range: i64, error: i64) -> [SatEntry; 4]
+fn four_satellites(first_range: i64, err: Span) -> [SatEntry; 4]
     requires range { IsPlaceSize first_range }
-    requires error { (pos 0 ≤ℤ error) × (error ≤ℤ pos 1000000000000) }
+    requires err { IsErrorSize err.lo × IsErrorSize err.hi }
     ensures { length result ≡ 4 }
 {
     let on_x = Pos { x: FAR, y: 0, z: 0 };
@@ -75,10 +85,10 @@ fn four_satellites(first_range: i64, error: i64) -> [SatEntry; 4]
         z: 0,
     };
     [
-        satellite(1, on_x, first_range, error),
-        satellite(2, on_y, FAR, error),
-        satellite(3, on_z, FAR, error),
-        satellite(4, between, FAR, error),
+        satellite(1, on_x, first_range, err),
+        satellite(2, on_y, FAR, err),
+        satellite(3, on_z, FAR, err),
+        satellite(4, between, FAR, err),
     ]
 }
 
@@ -156,7 +166,7 @@ fn cut(id: u32, face: u8, bound: i64) -> Step {
 
 #[test]
 fn judges_one_box(rt: HostRuntime) -> Result<(), Fail> {
-    let satellites = four_satellites(FAR, 500_000);
+    let satellites = four_satellites(FAR, up_to(500_000));
     let closing = edge(0, -1_400_000, 1_400_000);
     let table = [
         (&[closing][..], yes(1)),
@@ -187,7 +197,7 @@ fn judges_one_box(rt: HostRuntime) -> Result<(), Fail> {
 
 #[test]
 fn judges_two_halves(rt: HostRuntime) -> Result<(), Fail> {
-    let satellites = four_satellites(FAR, 500_000);
+    let satellites = four_satellites(FAR, up_to(500_000));
     let steps = [
         split(0, 0),
         edge(1, -1_400_000, 500_000),
@@ -209,7 +219,7 @@ fn judges_two_halves(rt: HostRuntime) -> Result<(), Fail> {
 /// The clock spans of the first satellite lie 10 m above those of the second and third.
 #[test]
 fn judges_an_empty_cover(rt: HostRuntime) -> Result<(), Fail> {
-    let satellites = four_satellites(20_000_010_000_000, 500_000);
+    let satellites = four_satellites(20_000_010_000_000, up_to(500_000));
     let steps = [Step::Outside { id: 0 }];
     let found = judged(
         rt.alloc(),
@@ -227,7 +237,7 @@ fn judges_an_empty_cover(rt: HostRuntime) -> Result<(), Fail> {
 /// and at 1 only three of them.
 #[test]
 fn judges_an_inner_box(rt: HostRuntime) -> Result<(), Fail> {
-    let [first, second, third, fourth] = four_satellites(FAR, 1_000_000);
+    let [first, second, third, fourth] = four_satellites(FAR, up_to(1_000_000));
     let below = Pos {
         x: 0,
         y: 0,
@@ -238,7 +248,7 @@ fn judges_an_inner_box(rt: HostRuntime) -> Result<(), Fail> {
         second,
         third,
         fourth,
-        satellite(5, below, FAR, 1_000_000),
+        satellite(5, below, FAR, up_to(1_000_000)),
     ];
     for (clock, want) in [(0, yes(1)), (1, no(59, 10))] {
         let steps = [inside(0, clock, -1_900_000, 1_900_000)];
@@ -267,10 +277,10 @@ fn judges_cuts(rt: HostRuntime) -> Result<(), Fail> {
     let on_y = Pos { x: 0, y: FAR, z: 0 };
     let on_z = Pos { x: 0, y: 0, z: FAR };
     let satellites = [
-        satellite(1, on_x, FAR, 5_000_000),
-        satellite(2, on_y, FAR, 50_000_000),
-        satellite(3, on_z, FAR, 50_000_000),
-        satellite(5, low, FAR, 5_000_000),
+        satellite(1, on_x, FAR, up_to(5_000_000)),
+        satellite(2, on_y, FAR, up_to(50_000_000)),
+        satellite(3, on_z, FAR, up_to(50_000_000)),
+        satellite(5, low, FAR, up_to(5_000_000)),
     ];
     let long = Box3 {
         lo: Pos {
@@ -311,7 +321,7 @@ fn judges_cuts(rt: HostRuntime) -> Result<(), Fail> {
 /// Four satellites are too few where one may be inconsistent, and one is named twice.
 #[test]
 fn judges_satellites(rt: HostRuntime) -> Result<(), Fail> {
-    let satellites = four_satellites(FAR, 500_000);
+    let satellites = four_satellites(FAR, up_to(500_000));
     let steps = [edge(0, -1_400_000, 1_400_000)];
     let found = judged(
         rt.alloc(),
@@ -336,22 +346,29 @@ fn judges_satellites(rt: HostRuntime) -> Result<(), Fail> {
     Ok(())
 }
 
-/// The verdict on a log of blocks of few satellites with these indices, four in each.
+/// A block of few satellites, four of them, without a line for any.
+fn few(alloc: Global, line: u32, index: u32) -> LogEpoch
+    ensures line { result.line ≡ line }
+    ensures lines { lines_in (block_of result) ≡ 1 }
+{
+    LogEpoch {
+        line,
+        index,
+        ps: 1_388_102_400_000_000_000_000,
+        n: 4,
+        few: true,
+        sats: Vec::new(alloc),
+        root: None,
+        steps: Vec::new(alloc),
+        done: 0,
+    }
+}
+
+/// The verdict on a log of two such blocks with these indices.
 fn judged_few(alloc: Global, rules: Rules, first: u32, second: u32) -> Result<Verdict, NoMemory> {
     let mut epochs = Vec::new(alloc);
-    for (line, index) in [(3, first), (4, second)] {
-        epochs.push(LogEpoch {
-            line,
-            index,
-            ps: 1_388_102_400_000_000_000_000,
-            n: 4,
-            few: true,
-            sats: Vec::new(alloc),
-            root: None,
-            steps: Vec::new(alloc),
-            done: 0,
-        })?;
-    }
+    epochs.push(few(alloc, 3, first))?;
+    epochs.push(few(alloc, 4, second))?;
     judge(alloc, &Log { rules, epochs })
 }
 
