@@ -1,5 +1,5 @@
 -- The list of live boxes as a stage.
-use Rattle.std.proofs.Common.{◌≡◌, ℕ, ◌+◌, ◌<◌, ◌≤◌, arith, Option, Some, None, sym, ap, ◌∙◌, List, [], ◌∷◌, ◌++◌, length, map, set, get_or, append_assoc, refl, inl, inr}
+use Rattle.std.proofs.Common.{◌≡◌, ℕ, ◌<◌, ◌≤◌, arith, Option, Some, None, sym, ap, List, [], ◌∷◌, ◌++◌, length, map, set, get_or, append_assoc, inl, inr}
 use Rattle.std.specs.Prelude.{ℤ}
 use Rattle.std.proofs.lemmas.Bool.{cases_lt}
 use Rattle.std.proofs.lemmas.List.{map-append, map-set, get_or_past, length-map}

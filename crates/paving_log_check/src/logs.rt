@@ -5,7 +5,7 @@ ghost use Rattle.sat_model.specs.Cover.{RowCover, kept_boxes};
 ghost use Rattle.sat_model.specs.Logs.{IsNumbered};
 ghost use Rattle.sat_model.specs.Verdicts.{Judged, FirstFault};
 ghost use Rattle.paving_log.specs.Values.{log_value};
-ghost use Rattle.paving_log_check.specs.Answers.{IfYes, IfNo, ShowsNoSpans};
+ghost use Rattle.paving_log_check.specs.Answers.{IfYes, IfNo, IsOnlyFault, ShowsNoSpans};
 
 use crate::blocks::{block_fault, kept_boxes};
 use crate::verdict::{Fault, LineFault, Verdict};
@@ -40,6 +40,7 @@ pub fn judge(alloc: Global, log: &Log) -> Result<Verdict, NoMemory>
     ensures boxes { IfOk result (λ verdict. IfYes verdict (λ boxes. boxes ≡ kept_boxes (log_value log.now))) }
 
     ensures first_fault { IfOk result (λ verdict. IfNo verdict (λ fault. FirstFault (log_value log.now) fault.line fault.number)) }
+    ensures only_fault { IfOk result (λ verdict. IfNo verdict (IsOnlyFault (log_value log.now))) }
     ensures refused { IfOk result (λ verdict. IfNo verdict (λ fault. Judged (log_value log.now) → ⊥)) }
     ensures no_spans { IfOk result (λ verdict. IfNo verdict ShowsNoSpans) }
 {

@@ -7,3 +7,4 @@ pub mod FoldLemmas
 pub mod CoverLemmas
 pub mod VerdictLemmas
 pub mod KeptLemmas
+pub mod FaultLemmas

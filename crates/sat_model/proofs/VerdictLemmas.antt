@@ -12,14 +12,14 @@ use Rattle.sat_model.specs.Verdicts.{IsLong, HoldsHull, CutsEmptySlab, StepPasse
 
 -- ---- a step
 
-not_gone : (stage : Stage) (id number : ℕ) (part : GridBox) → IsLive stage id part → NotLive stage id number → ⊥
+pub not_gone : (stage : Stage) (id number : ℕ) (part : GridBox) → IsLive stage id part → NotLive stage id number → ⊥
 not_gone stage id number part is (gone, n) = absurd cc
 
 same_box : (o : Option GridBox) (a c : GridBox) → o ≡ Some a → o ≡ Some c → a ≡ c
 same_box o a c e f = cc
 
 -- the live box that fails is the one that passes
-not_failing : (stage : Stage) (id test number : ℕ) (Meets : GridBox → Type 0) (part : GridBox) → IsLive stage id part → Meets part
+pub not_failing : (stage : Stage) (id test number : ℕ) (Meets : GridBox → Type 0) (part : GridBox) → IsLive stage id part → Meets part
     → LiveFails stage id Meets test number → ⊥
 not_failing stage id test number Meets part is meets (other, live, fails, n) = fails (subst Meets (same_box (live_box stage id) part other is live) meets)
 
@@ -64,13 +64,13 @@ steps_not_both rows rules done stage (step ∷ steps) (suc k) number h f = steps
 
 -- ---- a block, and the log
 
-head_not_both : (rules : Rules) (before : Option ℕ) (block : Block) (number : ℕ) → HeadPasses rules before block → HeadFails rules before block number → ⊥
+pub head_not_both : (rules : Rules) (before : Option ℕ) (block : Block) (number : ℕ) → HeadPasses rules before block → HeadFails rules before block number → ⊥
 head_not_both rules before block number h f = elim f [
   | inl fails ↦ fails.0 (h.later, h.suits)
   | inr fails ↦ fails.2 h.counts
 ]
 
-block_not_both : (rules : Rules) (before : Option ℕ) (block : Block) (line number : ℕ)
+pub block_not_both : (rules : Rules) (before : Option ℕ) (block : Block) (line number : ℕ)
     → BlockPasses rules before block → BlockFails rules before block line number → ⊥
 block_not_both rules before block line number h f = elim f [
   | inl fails ↦ head_not_both rules before block number h.head fails.0

@@ -1,4 +1,4 @@
-use Rattle.std.proofs.Common.{arith, ap, count_by}
+use Rattle.std.proofs.Common.{arith, ap}
 use Rattle.std.proofs.lemmas.List.Sums.{count_by-le-length}
 use Rattle.sat_model.specs.Boxes.{grid_box}
 use Rattle.sat_model.specs.Cover.{is_kept_step}

@@ -1,4 +1,4 @@
-use Rattle.std.proofs.Common.{◌≡◌, arith, true, to_z, of_z, w64}
+use Rattle.std.proofs.Common.{arith, to_z, of_z, w64}
 use Rattle.std.specs.Prelude.{◌-ℤ◌}
 use Rattle.std.proofs.lemmas.Int.{ints}
 use Rattle.paving_log_check.proofs.TestLemmas.{lt_true}

@@ -1,5 +1,6 @@
-use Rattle.std.proofs.Common.{◌+◌, arith, ◌∙◌}
+use Rattle.std.proofs.Common.{◌+◌, arith}
 use Rattle.sat_model.proofs.CoverLemmas.{row_cover}
+use Rattle.sat_model.proofs.FaultLemmas.{one_first_fault}
 use Rattle.sat_model.proofs.VerdictLemmas.{not_both}
 use Rattle.paving_log.specs.Values.{log_value}
 use Rattle.paving_log_check.proofs.BlockLemmas.{block_at, no_block, underway_more, underway_fails, underway_ends, line_fits, boxes_fit}
@@ -22,6 +23,10 @@ returns-in-Some-clause-first_fault c =
 pub returns-in-Some-clause-refused : goal.returns-in-Some-clause-refused
 returns-in-Some-clause-refused c =
     not_both (log_value c.args.log.now) c.fault_behind.result.line c.fault_behind.result.number (returns-in-Some-clause-first_fault c)
+
+pub returns-in-Some-clause-only_fault : goal.returns-in-Some-clause-only_fault
+returns-in-Some-clause-only_fault c line number first =
+    one_first_fault (log_value c.args.log.now) line number c.fault_behind.result.line c.fault_behind.result.number first (returns-in-Some-clause-first_fault c)
 
 pub overflow_add-boxes : goal.overflow_add-boxes
 overflow_add-boxes c =

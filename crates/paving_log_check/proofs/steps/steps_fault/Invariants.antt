@@ -1,4 +1,4 @@
-use Rattle.std.proofs.Common.{◌≡◌, ℕ, ◌+◌, drop}
+use Rattle.std.proofs.Common.{ℕ, ◌+◌, drop}
 use Rattle.sat_model.specs.Boxes.{grid_box}
 use Rattle.sat_model.specs.Fold.{first_stage}
 use Rattle.sat_model.specs.Verdicts.{StepsPass, StepsFail}
