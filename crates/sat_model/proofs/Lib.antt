@@ -7,3 +7,9 @@ pub mod IntervalLemmas
 pub mod RoundingLemmas
 pub mod SpreadLemmas
 pub mod SquareLemmas
+pub mod FittingLemmas
+pub mod FoldLemmas
+pub mod CoverLemmas
+pub mod VerdictLemmas
+pub mod KeptLemmas
+pub mod FaultLemmas

@@ -1,0 +1,28 @@
+//! What the judge says of a log.
+
+use sat_model::Span;
+
+/// A log is right, with so many boxes closed inside or at the edge, or has a fault.
+#[derive(Clone, Copy, Debug, PartialEq, Eq)]
+pub enum Verdict {
+    Yes { boxes: u64 },
+    No(Fault),
+}
+
+/// The first line that fails a test, from 1, and the least number of such a test. `theirs` and
+/// `ours` are the spans that a test compared, in um, and [0, 0] where it compared none.
+#[derive(Clone, Copy, Debug, PartialEq, Eq)]
+pub struct Fault {
+    pub number: u8,
+    pub line: u32,
+    pub theirs: Span,
+    pub ours: Span,
+}
+
+/// A line that fails: how far it is behind the first of its lines, and the least number of a test
+/// that fails there.
+#[derive(Clone, Copy, Debug, PartialEq, Eq)]
+pub(crate) struct LineFault {
+    pub(crate) offset: usize,
+    pub(crate) number: u8,
+}
