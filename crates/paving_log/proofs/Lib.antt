@@ -1,0 +1,5 @@
+pub mod WordLemmas
+pub mod NumberLemmas
+pub mod TimeLemmas
+pub mod JoinedLemmas
+pub mod LineLemmas
