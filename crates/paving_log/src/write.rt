@@ -1,6 +1,6 @@
 //! The lines of a log, each in its one spelling with its LF. They take no memory.
 
-ghost use Rattle.std.specs.Prelude.{◌≡◌, ◌+◌, ◌<◌, ◌≤◌, [], ◌∷◌, ◌++◌, length};
+ghost use Rattle.std.specs.Prelude.{◌≡◌, ◌+◌, ◌<◌, ◌≤◌, ◌/◌, ◌%◌, [], ◌∷◌, ◌++◌, length};
 ghost use Rattle.std.specs.Fmt.{decimal, signed_decimal};
 ghost use Rattle.sat_model.specs.declared.steps.Step.TheVariants as steps;
 ghost use Rattle.sat_model.specs.Boxes.{grid_box};
@@ -36,6 +36,16 @@ fn push_numbers(line: &mut Line, first: i64, second: i64)
 {
     push_number(line, first);
     push_number(line, second);
+}
+
+/// Three numbers, each behind a blank.
+fn push_three(line: &mut Line, first: i64, second: i64, third: i64)
+    requires { length line.old.bytes ≤ 193 }
+    ensures pushed { line.new.bytes ≡ line.old.bytes ++ 32 ∷ (signed_decimal first ++ 32 ∷ (signed_decimal second ++ 32 ∷ signed_decimal third)) }
+    ensures length { length line.new.bytes ≤ length line.old.bytes + 63 }
+{
+    push_numbers(line, first, second);
+    push_number(line, third);
 }
 
 /// The line of the number of splits.
@@ -85,8 +95,8 @@ fn in_line(id: u32, clock: i64, lo: i64, hi: i64) -> Line
 {
     let mut line = Line::new();
     line.push_str("in");
-    push_numbers(&mut line, i64::from(id), clock);
-    push_numbers(&mut line, lo, hi);
+    push_number(&mut line, i64::from(id));
+    push_three(&mut line, clock, lo, hi);
     line.push_str("\n");
     line
 }
@@ -161,29 +171,37 @@ pub fn root_line(root: &Box3) -> Line
 {
     let mut line = Line::new();
     line.push_str("root");
-    push_numbers(&mut line, root.lo.x, root.lo.y);
-    push_numbers(&mut line, root.lo.z, root.hi.x);
-    push_numbers(&mut line, root.hi.y, root.hi.z);
+    push_three(&mut line, root.lo.x, root.lo.y, root.lo.z);
+    push_three(&mut line, root.hi.x, root.hi.y, root.hi.z);
     line.push_str("\n");
     line
 }
 
+/// An ASCII character.
+fn push_ascii(line: &mut Line, byte: u8)
+    requires { length line.old.bytes ≤ 250 }
+    ensures pushed { byte < 128 → line.new.bytes ≡ line.old.bytes ++ byte ∷ [] }
+    ensures length { length line.new.bytes ≤ length line.old.bytes + 4 }
+{
+    line.push(char::from(byte));
+}
+
 /// A blank and a satellite: the letter of its system, and its number in two digits.
-fn push_sat(line: &mut Line, sat: &Sat)
-    requires room { length line.old.bytes ≤ 100 }
-    ensures pushed { sat.now.system < 128 → line.new.bytes ≡ line.old.bytes ++ 32 ∷ (sat.now.system ∷ (48 + sat.now.number / 10) ∷ (48 + sat.now.number % 10) ∷ []) }
-    ensures length { length line.new.bytes ≤ length line.old.bytes + 5 }
+fn push_sat(line: &mut Line, sat: Sat)
+    requires { length line.old.bytes ≤ 100 }
+    ensures pushed { sat.system < 128 → line.new.bytes ≡ line.old.bytes ++ 32 ∷ (sat.system ∷ (48 + sat.number / 10) ∷ (48 + sat.number % 10) ∷ []) }
+    ensures length { length line.new.bytes ≤ length line.old.bytes + 13 }
 {
     line.push_str(" ");
-    line.push(char::from(sat.system));
-    line.push(char::from(b'0' + sat.number / 10));
-    line.push(char::from(b'0' + sat.number % 10));
+    push_ascii(line, sat.system);
+    push_ascii(line, b'0' + sat.number / 10);
+    push_ascii(line, b'0' + sat.number % 10);
 }
 
 /// The two ends of a span.
-fn push_span(line: &mut Line, span: &Span)
+fn push_span(line: &mut Line, span: Span)
     requires { length line.old.bytes ≤ 214 }
-    ensures pushed { line.new.bytes ≡ line.old.bytes ++ 32 ∷ (signed_decimal span.now.lo ++ 32 ∷ signed_decimal span.now.hi) }
+    ensures pushed { line.new.bytes ≡ line.old.bytes ++ 32 ∷ (signed_decimal span.lo ++ 32 ∷ signed_decimal span.hi) }
     ensures length { length line.new.bytes ≤ length line.old.bytes + 42 }
 {
     push_numbers(line, span.lo, span.hi);
