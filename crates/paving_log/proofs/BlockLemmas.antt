@@ -89,9 +89,11 @@ sat_taken start old new sats pushed e l k to before count is taken push =
     let behind = behind_sat (length sats) e to (leads_to _ old _ to new one) in
     let both = takes_on _ _ _ start old new (map line.Sat sats) (line.Sat e ∷ []) before one in
     let mapped : map line.Sat sats ++ line.Sat e ∷ [] ≡ map line.Sat pushed = sym (ap (map line.Sat) push ∙ map-append line.Sat sats (e ∷ [])) in
-    let counted : length sats + 1 ≡ length pushed = omega (arith, ap length push, length-append sats (e ∷ [])) in
-    (subst (λ (ls : List LogLine). Takes (place.Satellites 0) start ls (place.Satellites (length pushed)) new) mapped
-    (subst (λ (p : Place). Takes (place.Satellites 0) start (map line.Sat sats ++ line.Sat e ∷ []) p new) (behind.place ∙ ap place.Satellites counted) both), omega (arith, behind.below))
+    let counted : length sats + 1 ≡ length pushed = omega (arith, ap length push, length-append sats (e ∷ [])) in (
+      subst (λ (ls : List LogLine). Takes (place.Satellites 0) start ls (place.Satellites (length pushed)) new) mapped
+          (subst (λ (p : Place). Takes (place.Satellites 0) start (map line.Sat sats ++ line.Sat e ∷ []) p new) (behind.place ∙ ap place.Satellites counted) both),
+      omega (arith, behind.below),
+    )
 
 pub root_taken : (start old new : Lines) (sats : List SatEntry) (corners : Corners) (l : LogLine) (k : ℕ) (to : Place)
     → Takes (place.Satellites 0) start (map line.Sat sats) (place.Satellites (length sats)) old → k ≡ length sats → l ≡ line.Root corners → Takes (place.Satellites k) old (l ∷ []) to new
@@ -111,9 +113,11 @@ skip_taken start old new sats pushed e l k to before count is taken push =
     let behind = (behind_few (length sats) e to (leads_to _ old _ to new one)).more in
     let both = takes_on _ _ _ start old new (map line.Sat sats) (line.Sat e ∷ []) before one in
     let mapped : map line.Sat sats ++ line.Sat e ∷ [] ≡ map line.Sat pushed = sym (ap (map line.Sat) push ∙ map-append line.Sat sats (e ∷ [])) in
-    let counted : length sats + 1 ≡ length pushed = omega (arith, ap length push, length-append sats (e ∷ [])) in
-    (subst (λ (ls : List LogLine). Takes (place.Few 0) start ls (place.Few (length pushed)) new) mapped
-    (subst (λ (p : Place). Takes (place.Few 0) start (map line.Sat sats ++ line.Sat e ∷ []) p new) (behind.place ∙ ap place.Few counted) both), omega (arith, behind.below))
+    let counted : length sats + 1 ≡ length pushed = omega (arith, ap length push, length-append sats (e ∷ [])) in (
+      subst (λ (ls : List LogLine). Takes (place.Few 0) start ls (place.Few (length pushed)) new) mapped
+          (subst (λ (p : Place). Takes (place.Few 0) start (map line.Sat sats ++ line.Sat e ∷ []) p new) (behind.place ∙ ap place.Few counted) both),
+      omega (arith, behind.below),
+    )
 
 -- the first line of a block, behind the satellite lines of a block of few
 pub opening_taken : (start old new : Lines) (sats : List SatEntry) (o : Opening) (l : LogLine) (k : ℕ) (to : Place)

@@ -44,9 +44,10 @@ pub fn place_behind(place: Place, name: LineName) -> Option<Place>
             Some(Place::Satellites(count + 1))
         }
         (Place::Satellites(_), LineName::Root) => Some(Place::Steps),
-        (Place::Steps, LineName::Cut | LineName::Split | LineName::Out | LineName::In | LineName::Edge) => Some(
+        (
             Place::Steps,
-        ),
+            LineName::Cut | LineName::Split | LineName::Out | LineName::In | LineName::Edge,
+        ) => Some(Place::Steps),
         (Place::Steps, LineName::Done) => Some(Place::Between),
         _ => None,
     }

@@ -54,3 +54,94 @@ fn opening(lines: Lines<'_>) -> Result<(Option<Opening>, Lines<'_>), LogError>
     };
     Ok((Some(opening), left))
 }
+
+/// The satellite lines of an epoch, and the corners of its root behind them.
+fn satellites(
+    alloc: Global,
+    lines: Lines<'_>,
+) -> Result<(Vec<SatEntry>, Corners, Lines<'_>), LogError>
+    ensures taken { IfOk result (λ t. Takes (place.Satellites 0) lines.entry (map line.Sat t.0.items ++ line.Root t.1 ∷ []) place.Steps t.2) }
+    ensures at_most { IfOk result (λ t. length t.0.items ≤ 64) }
+    ensures refused { IfErr result (Refuses (place.Satellites 0) lines.entry) }
+{
+    let mut sats = Vec::new(alloc);
+    let mut left = lines;
+    'satellites: loop {
+        let (line, _, behind) = take_line(left, Place::Satellites(sats.len()))?;
+        left = behind;
+        match line {
+            LogLine::Sat(entry) => sats.push(entry)?,
+            LogLine::Root(corners) => return Ok((sats, corners, left)),
+            _ => unreachable!(),
+        }
+    }
+}
+
+/// The steps of an epoch, and the number of splits behind them.
+fn steps(alloc: Global, lines: Lines<'_>) -> Result<(Vec<Step>, u32, Lines<'_>), LogError>
+    ensures taken { IfOk result (λ t. Takes place.Steps lines.entry (map line.Step t.0.items ++ line.Done t.1 ∷ []) place.Between t.2) }
+    ensures refused { IfErr result (Refuses place.Steps lines.entry) }
+{
+    let mut steps = Vec::new(alloc);
+    let mut left = lines;
+    'steps: loop {
+        let (line, _, behind) = take_line(left, Place::Steps)?;
+        left = behind;
+        match line {
+            LogLine::Step(step) => steps.push(step)?,
+            LogLine::Done(bisections) => return Ok((steps, bisections, left)),
+            _ => unreachable!(),
+        }
+    }
+}
+
+/// The satellite lines of a block of few satellites, and the first line of the next block, unless
+/// the text ends.
+fn few_satellites(
+    alloc: Global,
+    lines: Lines<'_>,
+) -> Result<(Vec<SatEntry>, Option<Opening>, Lines<'_>), LogError>
+    ensures taken { IfOk result (λ t. TakesTo (place.Few 0) lines.entry (map line.Sat t.0.items) t.1 t.2) }
+    ensures at_most { IfOk result (λ t. length t.0.items ≤ 64) }
+    ensures refused { IfErr result (Refuses (place.Few 0) lines.entry) }
+{
+    let mut sats = Vec::new(alloc);
+    let mut left = lines;
+    'satellites: while !left.rest.is_empty() {
+        let number = left.number;
+        let (line, _, behind) = take_line(left, Place::Few(sats.len()))?;
+        left = behind;
+        match line {
+            LogLine::Sat(entry) => sats.push(entry)?,
+            LogLine::Few(header) => {
+                let opening = Opening {
+                    few: true,
+                    header,
+                    line: number,
+                };
+                return Ok((sats, Some(opening), left));
+            }
+            LogLine::Epoch(header) => {
+                let opening = Opening {
+                    few: false,
+                    header,
+                    line: number,
+                };
+                return Ok((sats, Some(opening), left));
+            }
+            _ => unreachable!(),
+        }
+    }
+    Ok((sats, None, left))
+}
+
+/// The box with these corners.
+fn root_box(corners: Corners) -> Box3
+    requires { CornersFit corners }
+    ensures { corners_of (grid_box result) ≡ corners }
+{
+    Box3 {
+        lo: corners.lo,
+        hi: corners.hi,
+    }
+}

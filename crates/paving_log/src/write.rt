@@ -131,7 +131,11 @@ pub fn head_lines(rules: &Rules) -> Line
 {
     let mut line = Line::new();
     line.push_str("gpscover 1\nrules");
-    push_numbers(&mut line, i64::from(rules.outliers), i64::from(rules.bisections));
+    push_numbers(
+        &mut line,
+        i64::from(rules.outliers),
+        i64::from(rules.bisections),
+    );
     push_number(&mut line, rules.width);
     line.push_str("\n");
     line
