@@ -10,7 +10,8 @@ use Rattle.paving_log.specs.declared.log.LogError.{LogError}
 use Rattle.paving_log.specs.declared.log.LogError.TheVariants as error
 use Rattle.paving_log.specs.Lines.{text_of}
 use Rattle.paving_log.specs.Order.{may_end, Leads}
-use Rattle.paving_log.specs.Text.{first_line}
+use Rattle.paving_log.specs.Text.{first_line, header_of, block_lines, BlockFits}
+use Rattle.std.specs.List.{flat_map, AllByRecursion}
 use Rattle.paving_log.specs.Faults.{FaultFrom}
 
 -- the error is that of the first fault, unless memory ran out
@@ -46,7 +47,22 @@ abbrev pub TakesTo : Place → Lines → List LogLine → Option Opening → Lin
 TakesTo at old lines None new = TakesAll at old lines new
 TakesTo at old lines (Some o) new = TakesWith at old lines o new
 
+-- the block begins with this line
+pub record IsOpened (o : Opening) (b : Block) : Type 0 where
+  pub few : b.few ≡ o.few
+  pub header : header_of b ≡ o.header
+  pub line : b.line ≡ o.line
+
 -- the blocks begin one behind the other, from one line number up to another
 abbrev pub AreNumbered : ℕ → List Block → ℕ → Type 0
 AreNumbered from [] to = from ≡ to
 AreNumbered from (b ∷ more) to = (b.line ≡ from) × AreNumbered (from + lines_in b) more to
+
+-- the blocks fit, were taken up to the end of the text, and are numbered
+pub record TakesBlocks (old : Lines) (blocks : List Block) : Type 0 where
+  pub to : Place
+  pub leads : Leads place.Between (flat_map block_lines blocks) to
+  pub may_end : may_end to ≡ true
+  pub parts : old.rest.now ≡ text_of (flat_map block_lines blocks)
+  pub fit : AllByRecursion BlockFits blocks
+  pub numbered : AreNumbered old.number blocks (old.number + length (flat_map block_lines blocks))

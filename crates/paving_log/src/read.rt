@@ -1,6 +1,6 @@
 //! A log from its text.
 
-ghost use Rattle.std.specs.Prelude.{◌≡◌, ◌⊎◌, ◌+◌, ◌≤◌, ◌<◌, ◌++◌, [], ◌∷◌, List, map, length, Some, IfOk, IfErr, Ok, Err};
+ghost use Rattle.std.specs.Prelude.{◌≡◌, true, false, ◌⊎◌, ◌+◌, ◌≤◌, ◌<◌, ◌++◌, [], ◌∷◌, List, map, length, Some, IfOk, IfErr, Ok, Err};
 ghost use Rattle.std.specs.List.{flat_map};
 ghost use Rattle.sat_model.specs.Logs.{LogValue};
 ghost use Rattle.paving_log.specs.declared.line.LogLine.TheVariants as line;
@@ -8,8 +8,9 @@ ghost use Rattle.paving_log.specs.declared.line.Place.TheVariants as place;
 ghost use Rattle.paving_log.specs.Lines.{text_of};
 ghost use Rattle.paving_log.specs.Order.{Leads};
 ghost use Rattle.paving_log.specs.Rows.{CornersFit, corners_of};
-ghost use Rattle.paving_log.specs.Text.{block_lines, body_lines, IsLogText};
-ghost use Rattle.paving_log.specs.Taking.{Takes, TakesTo, Refuses, block_place, AreNumbered};
+ghost use Rattle.paving_log.specs.Text.{block_lines, body_lines, BlockFits, IsLogText};
+ghost use Rattle.paving_log.specs.Lines.{HeaderFits};
+ghost use Rattle.paving_log.specs.Taking.{Takes, TakesTo, Refuses, block_place, IsOpened, TakesBlocks};
 ghost use Rattle.paving_log.specs.Values.{block_of, log_value};
 ghost use Rattle.sat_model.specs.Boxes.{grid_box};
 
@@ -34,7 +35,7 @@ fn head(lines: Lines<'_>) -> Result<(Rules, Lines<'_>), LogError>
 }
 
 /// The first line of a block, unless the text ends.
-fn opening(lines: Lines<'_>) -> Result<(Option<Opening>, Lines<'_>), LogError>
+fn next_opening(lines: Lines<'_>) -> Result<(Option<Opening>, Lines<'_>), LogError>
     ensures taken { IfOk result (λ t. TakesTo place.Between lines.entry [] t.0 t.1) }
     ensures refused { IfErr result (Refuses place.Between lines.entry) }
 {
@@ -144,4 +145,98 @@ fn root_box(corners: Corners) -> Box3
         lo: corners.lo,
         hi: corners.hi,
     }
+}
+
+/// The block of an epoch, behind its first line.
+fn paved_block(
+    alloc: Global,
+    opening: Opening,
+    lines: Lines<'_>,
+) -> Result<(LogEpoch, Lines<'_>), LogError>
+    requires paved { opening.few ≡ false }
+    requires header { HeaderFits opening.header }
+    ensures taken { IfOk result (λ t. Takes (place.Satellites 0) lines.entry (body_lines (block_of t.0)) place.Between t.1) }
+    ensures opened { IfOk result (λ t. IsOpened opening (block_of t.0)) }
+    ensures fits { IfOk result (λ t. BlockFits (block_of t.0)) }
+    ensures refused { IfErr result (Refuses (place.Satellites 0) lines.entry) }
+{
+    let (sats, corners, left) = satellites(alloc, lines)?;
+    let (steps, done, left) = steps(alloc, left)?;
+    let epoch = LogEpoch {
+        line: opening.line,
+        index: opening.header.index,
+        ps: opening.header.ps,
+        n: opening.header.n,
+        few: false,
+        sats,
+        root: Some(root_box(corners)),
+        steps,
+        done,
+    };
+    Ok((epoch, left))
+}
+
+/// A block of few satellites behind its first line, and the first line of the next block, unless
+/// the text ends.
+fn few_block(
+    alloc: Global,
+    opening: Opening,
+    lines: Lines<'_>,
+) -> Result<(LogEpoch, Option<Opening>, Lines<'_>), LogError>
+    requires few { opening.few ≡ true }
+    requires header { HeaderFits opening.header }
+    ensures taken { IfOk result (λ t. TakesTo (place.Few 0) lines.entry (body_lines (block_of t.0)) t.1 t.2) }
+    ensures opened { IfOk result (λ t. IsOpened opening (block_of t.0)) }
+    ensures fits { IfOk result (λ t. BlockFits (block_of t.0)) }
+    ensures refused { IfErr result (Refuses (place.Few 0) lines.entry) }
+{
+    let (sats, next, left) = few_satellites(alloc, lines)?;
+    let epoch = LogEpoch {
+        line: opening.line,
+        index: opening.header.index,
+        ps: opening.header.ps,
+        n: opening.header.n,
+        few: true,
+        sats,
+        root: None,
+        steps: Vec::new(alloc),
+        done: 0,
+    };
+    Ok((epoch, next, left))
+}
+
+/// A block behind its first line, and the first line of the next block, unless the text ends.
+fn block(
+    alloc: Global,
+    opening: Opening,
+    lines: Lines<'_>,
+) -> Result<(LogEpoch, Option<Opening>, Lines<'_>), LogError>
+    requires { HeaderFits opening.header }
+    ensures taken { IfOk result (λ t. TakesTo (block_place opening.few) lines.entry (body_lines (block_of t.0)) t.1 t.2) }
+    ensures opened { IfOk result (λ t. IsOpened opening (block_of t.0)) }
+    ensures fits { IfOk result (λ t. BlockFits (block_of t.0)) }
+    ensures refused { IfErr result (Refuses (block_place opening.few) lines.entry) }
+{
+    if opening.few {
+        return few_block(alloc, opening, lines);
+    }
+    let (epoch, left) = paved_block(alloc, opening, lines)?;
+    let (next, left) = next_opening(left)?;
+    Ok((epoch, next, left))
+}
+
+/// All blocks, up to the end of the text.
+fn blocks(alloc: Global, lines: Lines<'_>) -> Result<Vec<LogEpoch>, LogError>
+    ensures taken { IfOk result (λ epochs. TakesBlocks lines.entry (map block_of epochs.items)) }
+    ensures refused { IfErr result (Refuses place.Between lines.entry) }
+{
+    let mut epochs = Vec::new(alloc);
+    let (mut next, mut left) = next_opening(lines)?;
+    'blocks: while let Some(opening) = next {
+        let (epoch, after, behind) = block(alloc, opening, left)?;
+        epochs.push(epoch)?;
+        next = after;
+        left = behind;
+    }
+    Ok(epochs)
 }

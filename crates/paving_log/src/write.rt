@@ -6,13 +6,16 @@ ghost use Rattle.sat_model.specs.declared.steps.Step.TheVariants as steps;
 ghost use Rattle.sat_model.specs.Boxes.{grid_box};
 ghost use Rattle.sat_model.specs.Logs.{sat_of};
 ghost use Rattle.paving_log.specs.declared.line.LogLine.TheVariants as line;
+ghost use Rattle.sat_model.specs.declared.satellites.SatEntry.TheVariants as entry;
+ghost use Rattle.paving_log.specs.Words.{joined};
+ghost use Rattle.paving_log.specs.Fields.{span_words};
 ghost use Rattle.paving_log.specs.Rows.{corners_of};
 ghost use Rattle.paving_log.specs.Lines.{line_text, text_of};
 ghost use Rattle.paving_log.specs.Text.{first_line};
 
 use arrayvec::ArrayString;
 use itoa::Buffer;
-use sat_model::{Box3, Row, Rules, Sat, SatEntry, Skip, Span, Step};
+use sat_model::{Box3, Pos, Row, Rules, Sat, SatEntry, Skip, Span, Step};
 
 /// A line of a log. The longest, that of a row, has at most 218 bytes.
 pub type Line = ArrayString<256>;
@@ -169,14 +172,23 @@ fn push_header(line: &mut Line, index: u32, ps: i128, n: u32)
     push_number(line, i64::from(n));
 }
 
+/// The coordinates of a point.
+fn push_pos(line: &mut Line, point: Pos)
+    requires { length line.old.bytes ≤ 193 }
+    ensures pushed { line.new.bytes ≡ line.old.bytes ++ 32 ∷ (signed_decimal point.x ++ 32 ∷ (signed_decimal point.y ++ 32 ∷ signed_decimal point.z)) }
+    ensures length { length line.new.bytes ≤ length line.old.bytes + 63 }
+{
+    push_three(line, point.x, point.y, point.z);
+}
+
 /// The line of a root: its low and its high corner.
 pub fn root_line(root: &Box3) -> Line
     ensures { result.bytes ≡ line_text (line.Root (corners_of (grid_box root.now))) ++ 10 ∷ [] }
 {
     let mut line = Line::new();
     line.push_str("root");
-    push_three(&mut line, root.lo.x, root.lo.y, root.lo.z);
-    push_three(&mut line, root.hi.x, root.hi.y, root.hi.z);
+    push_pos(&mut line, root.lo);
+    push_pos(&mut line, root.hi);
     line.push_str("\n");
     line
 }
@@ -209,4 +221,52 @@ fn push_span(line: &mut Line, span: Span)
     ensures length { length line.new.bytes ≤ length line.old.bytes + 42 }
 {
     push_numbers(line, span.lo, span.hi);
+}
+
+/// The spans of a row's place.
+fn push_place(line: &mut Line, row: &Row)
+    requires { length line.old.bytes ≤ 100 }
+    ensures pushed { line.new.bytes ≡ line.old.bytes ++ 32 ∷ joined (span_words row.now.x ++ (span_words row.now.y ++ span_words row.now.z)) }
+    ensures length { length line.new.bytes ≤ length line.old.bytes + 126 }
+{
+    push_span(line, row.x);
+    push_span(line, row.y);
+    push_span(line, row.z);
+}
+
+fn row_line(row: &Row) -> Line
+    ensures { row.now.sat.system < 128 → result.bytes ≡ line_text (line.Sat (entry.Row row.now)) ++ 10 ∷ [] }
+{
+    let mut line = Line::new();
+    line.push_str("sat");
+    push_sat(&mut line, row.sat);
+    push_place(&mut line, row);
+    push_span(&mut line, row.range);
+    push_span(&mut line, row.err);
+    line.push_str("\n");
+    line
+}
+
+fn skip_line(sat: Sat, skip: Skip) -> Line
+    ensures { sat.system < 128 → result.bytes ≡ line_text (line.Sat (entry.Skipped sat skip)) ++ 10 ∷ [] }
+{
+    let mut line = Line::new();
+    line.push_str("skip");
+    push_sat(&mut line, sat);
+    push_number(&mut line, i64::from(skip.number));
+    if skip.field > 0 {
+        push_number(&mut line, i64::from(skip.field));
+    }
+    line.push_str("\n");
+    line
+}
+
+/// A satellite line, where the letter of the system is an ASCII character.
+pub fn sat_line(entry: &SatEntry) -> Line
+    ensures { (sat_of entry.now).system < 128 → result.bytes ≡ line_text (line.Sat entry.now) ++ 10 ∷ [] }
+{
+    match entry {
+        SatEntry::Row(row) => row_line(row),
+        SatEntry::Skipped { sat, skip } => skip_line(*sat, *skip),
+    }
 }

@@ -1,7 +1,7 @@
 use Rattle.std.proofs.lemmas.Result.{err_from_is_err_and}
 use Rattle.paving_log.specs.declared.line.Place.TheVariants as place
 use Rattle.paving_log.proofs.LineLemmas.{refuses_here}
-use Rattle.paving_log.proofs.read.opening.Goals as goal
+use Rattle.paving_log.proofs.read.next_opening.Goals as goal
 
 pub returns-in_err-line-clause-refused : goal.returns-in_err-line-clause-refused
 returns-in_err-line-clause-refused c =
