@@ -28,7 +28,7 @@ use Rattle.paving_log.proofs.LineLemmas.{takes_on}
 
 -- ---- where a line leads
 
-behind_step : (s : Step) (to : Place) → next place.Steps (step_name s) ≡ Some to → to ≡ place.Steps
+pub behind_step : (s : Step) (to : Place) → next place.Steps (step_name s) ≡ Some to → to ≡ place.Steps
 behind_step (Cut id face bound) to e = cc
 behind_step (Split id axis) to e = cc
 behind_step (Outside id) to e = cc
@@ -55,7 +55,7 @@ one_more_if : (k : ℕ) (test : Bool) (after to : Place) → nat_lt k 64 ≡ tes
 one_more_if k true after to is e = record { below = ltb-true k 64 is; place = cc }
 one_more_if k false after to is e = cc
 
-behind_sat : (k : ℕ) (e : SatEntry) (to : Place) → next (place.Satellites k) (entry_name e) ≡ Some to → IsOneMore k (place.Satellites (k + 1)) to
+pub behind_sat : (k : ℕ) (e : SatEntry) (to : Place) → next (place.Satellites k) (entry_name e) ≡ Some to → IsOneMore k (place.Satellites (k + 1)) to
 behind_sat k (entry.Row r) to e = one_more_if k (nat_lt k 64) _ to refl e
 behind_sat k (entry.Skipped sat skip) to e = one_more_if k (nat_lt k 64) _ to refl e
 
@@ -64,7 +64,7 @@ pub record IsOneFew (k : ℕ) (e : SatEntry) (to : Place) : Type 0 where
   pub more : IsOneMore k (place.Few (k + 1)) to
   pub skipped : IsSkipped e
 
-behind_few : (k : ℕ) (e : SatEntry) (to : Place) → next (place.Few k) (entry_name e) ≡ Some to → IsOneFew k e to
+pub behind_few : (k : ℕ) (e : SatEntry) (to : Place) → next (place.Few k) (entry_name e) ≡ Some to → IsOneFew k e to
 behind_few k (entry.Row r) to e = cc
 behind_few k (entry.Skipped sat skip) to e = record { more = one_more_if k (nat_lt k 64) _ to refl e; skipped = tt }
 
@@ -174,6 +174,29 @@ block_taken at start mid new ls o body (Some o2) before rest = record {
 }
 
 -- the number of the line behind what was taken
-pub end_of : Option Opening → Lines → ℕ
+abbrev pub end_of : Option Opening → Lines → ℕ
 end_of None left = left.number
 end_of (Some o) left = o.line
+
+-- the body of an epoch's block
+pub paved_taken : (start mid new : Lines) (sats : List SatEntry) (corners said : Corners) (steps : List Step) (n : ℕ) → said ≡ corners
+    → Takes (place.Satellites 0) start (map line.Sat sats ++ line.Root corners ∷ []) place.Steps mid → Takes place.Steps mid (map line.Step steps ++ line.Done n ∷ []) place.Between new
+    → Takes (place.Satellites 0) start (map line.Sat sats ++ line.Root said ∷ (map line.Step steps ++ line.Done n ∷ [])) place.Between new
+paved_taken start mid new sats corners said steps n same first second =
+    let last = map line.Step steps ++ line.Done n ∷ [] in
+    subst (λ (c : Corners). Takes (place.Satellites 0) start (map line.Sat sats ++ line.Root c ∷ last) place.Between new) (sym same)
+    (subst (λ (ls : List LogLine). Takes (place.Satellites 0) start ls place.Between new) (append_assoc (map line.Sat sats) (line.Root corners ∷ []) last)
+    (takes_on _ _ _ start mid new (map line.Sat sats ++ line.Root corners ∷ []) last first second))
+
+-- what follows lines that were taken
+pub takes_to_behind : (at mid : Place) (start now new : Lines) (ls : List LogLine) (next : Option Opening) → Takes at start ls mid now → TakesTo mid now [] next new → TakesTo at start ls next new
+takes_to_behind at mid start now new ls None before rest = record {
+  to = rest.to;
+  taken = subst (λ (all : List LogLine). Takes at start all rest.to new) (append-nil ls) (takes_on at mid rest.to start now new ls [] before rest.taken);
+  may_end = rest.may_end;
+  ended = rest.ended;
+}
+takes_to_behind at mid start now new ls (Some o) before rest = record {
+  taken = takes_on at mid (block_place o.few) start now new ls (first_line o.few o.header ∷ []) before rest.taken;
+  number = rest.number;
+}

@@ -4,3 +4,5 @@ pub mod TimeLemmas
 pub mod JoinedLemmas
 pub mod LineLemmas
 pub mod BlockLemmas
+pub mod FitLemmas
+pub mod NumberingLemmas

@@ -232,7 +232,7 @@ fn blocks(alloc: Global, lines: Lines<'_>) -> Result<Vec<LogEpoch>, LogError>
 {
     let mut epochs = Vec::new(alloc);
     let (mut next, mut left) = next_opening(lines)?;
-    'blocks: while let Some(opening) = next {
+    'each: while let Some(opening) = next {
         let (epoch, after, behind) = block(alloc, opening, left)?;
         epochs.push(epoch)?;
         next = after;

@@ -1,0 +1,15 @@
+use Rattle.std.proofs.Common.{◌≡◌, ℕ, List, [], ◌∷◌, ◌++◌, append_assoc}
+use Rattle.paving_log.proofs.write.row_line.Goals as goal
+
+-- the words of a row, and LF
+row_spelled : (start one two three four end sat a b c d e f g h i j : List ℕ) → one ≡ start ++ 32 ∷ sat → two ≡ one ++ 32 ∷ (a ++ 32 ∷ (b ++ 32 ∷ (c ++ 32 ∷ (d ++ 32 ∷ (e ++ 32 ∷ f)))))
+    → three ≡ two ++ 32 ∷ (g ++ 32 ∷ h) → four ≡ three ++ 32 ∷ (i ++ 32 ∷ j) → end ≡ four ++ 10 ∷ []
+    → end ≡ start ++ 32 ∷ (sat ++ 32 ∷ ((a ++ 32 ∷ (b ++ 32 ∷ (c ++ 32 ∷ (d ++ 32 ∷ (e ++ 32 ∷ (f ++ 32 ∷ (g ++ 32 ∷ (h ++ 32 ∷ (i ++ 32 ∷ j))))))))) ++ 10 ∷ []))
+row_spelled start one two three four end sat a b c d e f g h i j p q r s t = rw (t, s, r, q, p) (simp append_assoc)
+
+pub returns : goal.returns
+returns c = λ ascii.
+    let start : c.push_str.new.self.bytes ≡ 115 ∷ 97 ∷ 116 ∷ [] = cc in
+    let one = rw start at (c.push_sat.ensures.pushed ascii) in
+    row_spelled (115 ∷ 97 ∷ 116 ∷ []) c.push_sat.new.line.bytes c.push_place.new.line.bytes c.push_span.new.line.bytes c.push_span-2.new.line.bytes c.push_str-2.new.self.bytes _ _ _ _ _ _ _ _ _ _ _
+    one c.push_place.ensures.pushed c.push_span.ensures.pushed c.push_span-2.ensures.pushed c.push_str-2.ensures.bytes
