@@ -6,3 +6,4 @@ pub mod LineLemmas
 pub mod BlockLemmas
 pub mod FitLemmas
 pub mod NumberingLemmas
+pub mod SpellingLemmas

@@ -1,5 +1,5 @@
 -- The first line of a text, and lines one behind another.
-use Rattle.std.proofs.Common.{◌≡◌, ◌≢◌, ℕ, zero, suc, ◌+◌, ◌<◌, Bool, true, false, List, [], ◌∷◌, ◌++◌, length, get_or, take, drop, refl, sym, ap, subst, ◌∙◌, append_assoc, arith}
+use Rattle.std.proofs.Common.{◌≡◌, ◌≢◌, ℕ, zero, suc, ◌+◌, ◌<◌, Bool, true, false, List, [], ◌∷◌, ◌++◌, length, get_or, take, drop, refl, sym, ap, subst, ◌∙◌, append_assoc, arith, inl, inr, ◌⊎◌}
 use Rattle.std.proofs.lemmas.List.{append-nil, get_or-take, length-take, length-append}
 use Rattle.std.proofs.lemmas.Bool.{eqb-true, eq-eqb}
 use Rattle.std.specs.Prelude.{nat_eq}
@@ -103,6 +103,16 @@ pub refuses_behind : (at mid : Place) (old now : Lines) (lines : List LogLine) (
 refuses_behind at mid old now lines error.NoMemory taken fault = tt
 refuses_behind at mid old now lines (error.BadLog line kind) taken fault = fault_behind at mid old now lines (error.BadLog line kind) taken fault
 refuses_behind at mid old now lines (error.NotBuilt line) taken fault = fault_behind at mid old now lines (error.NotBuilt line) taken fault
+
+-- a refusal is want of memory or a fault
+refusal_cases : (at : Place) (lines : Lines) (e : LogError) → Refuses at lines e → (e ≡ error.NoMemory) ⊎ FaultFrom at lines.rest.now lines.number e
+refusal_cases at lines error.NoMemory fault = inl refl
+refusal_cases at lines (error.BadLog line kind) fault = inr fault
+refusal_cases at lines (error.NotBuilt line) fault = inr fault
+
+-- the same, behind lines that were taken
+pub refusal_behind : (at mid : Place) (old now : Lines) (lines : List LogLine) (e : LogError) → Takes at old lines mid now → Refuses mid now e → (e ≡ error.NoMemory) ⊎ FaultFrom at old.rest.now old.number e
+refusal_behind at mid old now lines e taken refused = refusal_cases at old e (refuses_behind at mid old now lines e taken refused)
 
 -- nothing was taken yet
 pub takes_none : (at : Place) (now : Lines) → Takes at now [] at now

@@ -7,3 +7,4 @@ pub mod Order
 pub mod Text
 pub mod Faults
 pub mod Taking
+pub mod Answers

@@ -5,6 +5,8 @@ ghost use Rattle.std.specs.List.{flat_map};
 ghost use Rattle.sat_model.specs.Logs.{LogValue};
 ghost use Rattle.paving_log.specs.declared.line.LogLine.TheVariants as line;
 ghost use Rattle.paving_log.specs.declared.line.Place.TheVariants as place;
+ghost use Rattle.paving_log.specs.declared.log.LogError.TheVariants as error;
+ghost use Rattle.paving_log.specs.Faults.{FirstFault};
 ghost use Rattle.paving_log.specs.Lines.{text_of};
 ghost use Rattle.paving_log.specs.Order.{Leads};
 ghost use Rattle.paving_log.specs.Rows.{CornersFit, corners_of};
@@ -239,4 +241,19 @@ fn blocks(alloc: Global, lines: Lines<'_>) -> Result<Vec<LogEpoch>, LogError>
         left = behind;
     }
     Ok(epochs)
+}
+
+/// The log that the text spells, or its first fault.
+fn read_text(alloc: Global, bytes: &[u8]) -> Result<Log, LogError>
+    requires { length bytes.now ≤ 4000000000 }
+    ensures value { IfOk result (λ log. IsLogText (log_value log) bytes.now) }
+    ensures fault { IfErr result (λ e. (e ≡ error.NoMemory) ⊎ FirstFault bytes.now e) }
+{
+    let lines = Lines {
+        rest: bytes,
+        number: 1,
+    };
+    let (rules, left) = head(lines)?;
+    let epochs = blocks(alloc, left)?;
+    Ok(Log { rules, epochs })
 }
