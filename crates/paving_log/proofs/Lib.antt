@@ -7,3 +7,5 @@ pub mod BlockLemmas
 pub mod FitLemmas
 pub mod NumberingLemmas
 pub mod SpellingLemmas
+pub mod FaultLemmas
+pub mod LeadLemmas
