@@ -110,7 +110,7 @@ fits_here at text here behind rest l to first fits step is =
     (same, record { spelled = ap words same ∙ words-line_text l fits; fits = fits; next = step })
 
 -- a fitting line begins some text
-line_some : (l : LogLine) (text rest : List ℕ) → text ≡ line_text l ++ 10 ∷ rest → text ≡ [] → ⊥
+pub line_some : (l : LogLine) (text rest : List ℕ) → text ≡ line_text l ++ 10 ∷ rest → text ≡ [] → ⊥
 line_some l text rest is none = omega (arith, ap length (sym is ∙ none), length-append (line_text l) (10 ∷ rest))
 
 -- no text that a fitting line begins fails at its first line

@@ -9,3 +9,4 @@ pub mod NumberingLemmas
 pub mod SpellingLemmas
 pub mod FaultLemmas
 pub mod LeadLemmas
+pub mod ValueLemmas
