@@ -10,3 +10,4 @@ pub mod SpellingLemmas
 pub mod FaultLemmas
 pub mod LeadLemmas
 pub mod ValueLemmas
+pub mod LogLemmas

@@ -1,5 +1,5 @@
 -- Values that are spelled alike are one value.
-use Rattle.std.proofs.Common.{◌≡◌, ℕ, zero, suc, ◌+◌, ◌*◌, ◌/◌, ◌%◌, ◌<◌, ◌≤◌, ◌^◌, ℤ, pos, Bool, true, false, List, [], ◌∷◌, ◌++◌, length, map, Some, None, refl, sym, ap, subst, ◌∙◌, lit<, arith, inl, inr}
+use Rattle.std.proofs.Common.{◌≡◌, ℕ, zero, suc, ◌+◌, ◌*◌, ◌/◌, ◌%◌, ◌<◌, ◌≤◌, ◌^◌, ℤ, pos, Bool, true, false, List, [], ◌∷◌, ◌++◌, drop, refl, sym, ap, subst, ◌∙◌, lit<, arith, inl, inr}
 use Rattle.std.specs.Prelude.{◌≤ℤ◌, Option}
 use Rattle.std.specs.Fmt.{decimal, signed_decimal}
 use Rattle.std.specs.Str.Parse.{digits_value}
@@ -9,7 +9,7 @@ use Rattle.std.proofs.Math.Dec.{T_prop}
 use Rattle.std.proofs.Math.Bridge.{le_prop}
 use Rattle.std.proofs.Math.ListN.{get_or}
 use mathlib.Core.HLevel.{is_prop→PathP}
-use Rattle.sat_model.specs.Sizes.{IsWithin, IsPlaceSize, IsErrorSize}
+use Rattle.sat_model.specs.Sizes.{IsWithin, IsPlaceSize, IsErrorSize, IsClockSize}
 use Rattle.sat_model.specs.declared.rules.Rules.{Rules}
 use Rattle.sat_model.specs.declared.boxes.Pos.{Pos}
 use Rattle.sat_model.specs.declared.spans.Span.{Span}
@@ -22,12 +22,14 @@ use Rattle.sat_model.specs.declared.steps.Step.{Step}
 use Rattle.sat_model.specs.declared.steps.Step.TheVariants.{Cut, Split, Outside, Inside, Edge}
 use Rattle.paving_log.specs.declared.line.Corners.{Corners}
 use Rattle.paving_log.specs.declared.line.Header.{Header}
+use Rattle.paving_log.specs.declared.line.LineName.{LineName}
+use Rattle.paving_log.specs.declared.line.LineName.TheVariants as name
 use Rattle.paving_log.specs.declared.line.LogLine.{LogLine}
 use Rattle.paving_log.specs.declared.line.LogLine.TheVariants as line
 use Rattle.paving_log.specs.declared.line.Place.{Place}
 use Rattle.paving_log.specs.Fields.{IsSpanWithin, IsPosWithin, IsTime, sat_words, IsGps, optional_words, skip_words, SkipFits}
 use Rattle.paving_log.specs.Rows.{row_words, RowFits, entry_words, EntryFits, root_words, CornersFit}
-use Rattle.paving_log.specs.Lines.{rules_words, header_words, HeaderFits, step_words, step_name, StepFits, entry_name, name_of, fields, LineFits, line_words, line_text, text_of}
+use Rattle.paving_log.specs.Lines.{rules_words, header_words, HeaderFits, step_words, step_name, IsId, StepFits, entry_name, name_of, fields, LineFits, line_words, line_text, text_of}
 use Rattle.paving_log.specs.Order.{Leads}
 use Rattle.paving_log.specs.Faults.{head_of}
 use Rattle.std.specs.List.{AllByRecursion}
@@ -146,10 +148,6 @@ skip_bounds : (s : Skip) → SkipFits s → (s.number ≤ 6) × (s.field ≤ 20)
 skip_bounds s (inl plain) = (omega (arith, plain.0.1), omega (arith, plain.1))
 skip_bounds s (inr field) = (omega (arith, field.0), field.1.1)
 
-tail_of : List (List ℕ) → List (List ℕ)
-tail_of [] = []
-tail_of (w ∷ ws) = ws
-
 skip_from : (a b : Skip) → SkipFits a → SkipFits b → skip_words a ≡ skip_words b → a ≡ b
 skip_from a b f g e =
     let x = skip_bounds a f in
@@ -182,3 +180,108 @@ corners_from : (a b : Corners) → CornersFit a → CornersFit b → root_words 
 corners_from a b f g e =
     same_corners a b (pos_from 10000000000000 a.lo b.lo (lit< tt) f.lo_within g.lo_within (at_index 0 _ _ e) (at_index 1 _ _ e) (at_index 2 _ _ e))
     (pos_from 10000000000000 a.hi b.hi (lit< tt) f.hi_within g.hi_within (at_index 3 _ _ e) (at_index 4 _ _ e) (at_index 5 _ _ e))
+
+id_from : (m n : ℕ) → IsId m → IsId n → decimal m ≡ decimal n → m ≡ n
+id_from m n f g e = count_same 400000 m n (lit< tt) f.1 g.1 e
+
+clock_from : (m n : ℤ) → IsClockSize m → IsClockSize n → signed_decimal m ≡ signed_decimal n → m ≡ n
+clock_from m n f g e = one_number 200000000000000 m n (lit< tt) f g e
+
+step_from : (a b : Step) → StepFits a → StepFits b → step_name a ≡ step_name b → step_words a ≡ step_words b → a ≡ b
+step_from (Cut id face bound) b f g name e = absurd f
+step_from (Split i axis) (Split j other) f g name e =
+    let id = id_from i j f.0 g.0 (at_index 0 _ _ e) in
+    let same = count_same 2 axis other (lit< tt) f.1.1 g.1.1 (at_index 1 _ _ e) in
+    cc
+step_from (Outside i) (Outside j) f g name e = ap Outside (id_from i j f g (at_index 0 _ _ e))
+step_from (Inside i clock lo hi) (Inside j offset low high) f g name e =
+    let id = id_from i j f.0 g.0 (at_index 0 _ _ e) in
+    let at = clock_from clock offset f.1 g.1 (at_index 1 _ _ e) in
+    let from = clock_from lo low f.2 g.2 (at_index 2 _ _ e) in
+    let to = clock_from hi high f.3 g.3 (at_index 3 _ _ e) in
+    cc
+step_from (Edge i lo hi) (Edge j low high) f g name e =
+    let id = id_from i j f.0 g.0 (at_index 0 _ _ e) in
+    let from = clock_from lo low f.1 g.1 (at_index 1 _ _ e) in
+    let to = clock_from hi high f.2 g.2 (at_index 2 _ _ e) in
+    cc
+step_from _ _ f g name e = cc
+
+-- ---- lines
+
+-- the kinds of lines, numbered, by their names
+abbrev kind : LineName → ℕ
+kind name.Gpscover = 0
+kind name.Rules = 1
+kind name.Few = 2
+kind name.Epoch = 3
+kind name.Sat = 4
+kind name.Skip = 4
+kind name.Root = 5
+kind name.Cut = 6
+kind name.Split = 6
+kind name.Out = 6
+kind name.In = 6
+kind name.Edge = 6
+kind name.Done = 7
+
+abbrev kind_of : LogLine → ℕ
+kind_of line.Version = 0
+kind_of (line.Rules r) = 1
+kind_of (line.Few h) = 2
+kind_of (line.Epoch h) = 3
+kind_of (line.Sat e) = 4
+kind_of (line.Root c) = 5
+kind_of (line.Step s) = 6
+kind_of (line.Done n) = 7
+
+kind_named : (l : LogLine) → kind (name_of l) ≡ kind_of l
+kind_named line.Version = refl
+kind_named (line.Rules r) = refl
+kind_named (line.Few h) = refl
+kind_named (line.Epoch h) = refl
+kind_named (line.Sat (entry.Row r)) = refl
+kind_named (line.Sat (entry.Skipped sat skip)) = refl
+kind_named (line.Root c) = refl
+kind_named (line.Step (Cut id face bound)) = refl
+kind_named (line.Step (Split id axis)) = refl
+kind_named (line.Step (Outside id)) = refl
+kind_named (line.Step (Inside id clock lo hi)) = refl
+kind_named (line.Step (Edge id lo hi)) = refl
+kind_named (line.Done n) = refl
+
+same_kind : (l m : LogLine) → name_of l ≡ name_of m → kind_of l ≡ kind_of m
+same_kind l m name = sym (kind_named l) ∙ ap kind name ∙ kind_named m
+
+line_from : (l m : LogLine) → LineFits l → LineFits m → name_of l ≡ name_of m → fields l ≡ fields m → l ≡ m
+line_from line.Version line.Version f g name e = refl
+line_from (line.Rules r) (line.Rules s) f g name e = ap line.Rules (rules_from r s e)
+line_from (line.Few h) (line.Few k) f g name e = ap line.Few (header_from h k f g e)
+line_from (line.Epoch h) (line.Epoch k) f g name e = ap line.Epoch (header_from h k f g e)
+line_from (line.Sat x) (line.Sat y) f g name e = ap line.Sat (entry_from x y f g name e)
+line_from (line.Root c) (line.Root d) f g name e = ap line.Root (corners_from c d f g e)
+line_from (line.Step s) (line.Step t) f g name e = ap line.Step (step_from s t f g name e)
+line_from (line.Done m) (line.Done n) f g name e = ap line.Done (count_same 200000 m n (lit< tt) f.1 g.1 (at_index 0 _ _ e))
+line_from l m f g name e = absurd (omega (arith, same_kind l m name))
+
+-- lines that fit and have the same words are one
+same_words : (l m : LogLine) → LineFits l → LineFits m → line_words l ≡ line_words m → l ≡ m
+same_words l m f g e =
+    let rest : fields l ≡ fields m = ap (drop 1) e in
+    line_from l m f g (same_name (name_of l) (name_of m) (ap head_of e)) rest
+
+-- lines that lead somewhere fit
+pub all_fit : (at to : Place) (lines : List LogLine) → Leads at lines to → AllByRecursion LineFits lines
+all_fit at to [] leads = tt
+all_fit at to (l ∷ lines) leads = (leads.0, all_fit leads.1 to lines leads.3)
+
+-- lines that fit and have the same text are the same
+pub same_lines : (lines others : List LogLine) → AllByRecursion LineFits lines → AllByRecursion LineFits others → text_of lines ≡ text_of others → lines ≡ others
+same_lines [] [] f g e = refl
+same_lines [] (m ∷ others) f g e = absurd (line_some m [] (text_of others) e refl)
+same_lines (l ∷ lines) [] f g e = absurd (line_some l [] (text_of lines) (sym e) refl)
+same_lines (l ∷ lines) (m ∷ others) f g e =
+    let first = same_line l m (text_of lines) (text_of others) f.0 g.0 e in
+    let one = same_words l m f.0 g.0 first.0 in
+    let later = same_lines lines others f.1 g.1 first.1 in
+    cc

@@ -16,7 +16,7 @@ mod words;
 mod write;
 
 pub use log::{Log, LogEpoch, LogError};
-//pub use read::read_log;
+pub use read::read_log;
 pub use sat_model::SatEntry;
 pub use write::{Line, done_line, epoch_line, head_lines, root_line, sat_line, step_line};
 

@@ -14,9 +14,11 @@ ghost use Rattle.paving_log.specs.Text.{block_lines, body_lines, BlockFits, IsLo
 ghost use Rattle.paving_log.specs.Lines.{HeaderFits};
 ghost use Rattle.paving_log.specs.Taking.{Takes, TakesTo, Refuses, block_place, IsOpened, TakesBlocks};
 ghost use Rattle.paving_log.specs.Values.{block_of, log_value};
+ghost use Rattle.paving_log.specs.declared.log.LogError.{LogError};
+ghost use Rattle.paving_log.specs.Answers.{GivesLog, GivesFault};
 ghost use Rattle.sat_model.specs.Boxes.{grid_box};
 
-use crate::line::{Corners, Header, LogLine, Place};
+use crate::line::{Corners, LogLine, Place};
 use crate::lines::{Lines, Opening};
 use crate::log::{Log, LogEpoch, LogError};
 use crate::take::take_line;
@@ -256,4 +258,20 @@ fn read_text(alloc: Global, bytes: &[u8]) -> Result<Log, LogError>
     let (rules, left) = head(lines)?;
     let epochs = blocks(alloc, left)?;
     Ok(Log { rules, epochs })
+}
+
+/// Reads a log from its text. The text is read once from left to right, and what is read takes
+/// memory in proportion to its lines.
+pub fn read_log(alloc: Global, bytes: &[u8]) -> Result<Log, LogError>
+    requires { length bytes.now ≤ 4000000000 }
+    // What is read is a log that fits and has this text.
+    ensures value { IfOk result (λ log. IsLogText (log_value log) bytes.now) }
+    // What isn't read has this first fault, unless memory ran out.
+    ensures fault { IfErr result (λ e. (e ≡ error.NoMemory) ⊎ FirstFault bytes.now e) }
+    // The text of a log is read as that log, unless memory runs out.
+    ensures exact { (log : LogValue) → IsLogText log bytes.now → GivesLog log result }
+    // A text with a fault is refused with its first, unless memory runs out.
+    ensures first { (e : LogError) → FirstFault bytes.now e → GivesFault e result }
+{
+    read_text(alloc, bytes)
 }
