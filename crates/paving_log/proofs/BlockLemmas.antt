@@ -1,29 +1,23 @@
 -- What each kind of line leads to, and blocks line by line.
 use Rattle.std.proofs.Common.{◌≡◌, ℕ, ◌+◌, ◌<◌, ◌≤◌, Bool, true, false, List, [], ◌∷◌, ◌++◌, length, map, Some, None, refl, sym, ap, subst, ◌∙◌, append_assoc, arith}
 use Rattle.std.specs.Prelude.{nat_lt, if◌then◌else◌, Option}
-use Rattle.std.specs.List.{flat_map, AllByRecursion}
-use Rattle.std.proofs.lemmas.List.{map-append, length-append, length-map, append-nil}
-use Rattle.std.proofs.lemmas.List.Concat.{flat_map-append}
+use Rattle.std.proofs.lemmas.List.{map-append, length-append, append-nil}
 use Rattle.std.proofs.lemmas.Bool.{ltb-true}
 use Rattle.sat_model.specs.declared.satellites.SatEntry.{SatEntry}
 use Rattle.sat_model.specs.declared.satellites.SatEntry.TheVariants as entry
 use Rattle.sat_model.specs.declared.steps.Step.{Step}
 use Rattle.sat_model.specs.declared.steps.Step.TheVariants.{Cut, Split, Outside, Inside, Edge}
-use Rattle.sat_model.specs.Boxes.{GridBox}
-use Rattle.sat_model.specs.Logs.{Block, lines_in}
 use Rattle.paving_log.specs.declared.line.Corners.{Corners}
-use Rattle.paving_log.specs.declared.line.Header.{Header}
 use Rattle.paving_log.specs.declared.line.LogLine.{LogLine}
 use Rattle.paving_log.specs.declared.line.LogLine.TheVariants as line
 use Rattle.paving_log.specs.declared.line.Place.{Place}
 use Rattle.paving_log.specs.declared.line.Place.TheVariants as place
 use Rattle.paving_log.specs.declared.lines.Lines.{Lines}
 use Rattle.paving_log.specs.declared.lines.Opening.{Opening}
-use Rattle.paving_log.specs.Lines.{name_of, step_name, entry_name, StepFits}
-use Rattle.paving_log.specs.Order.{next, may_end, Leads}
-use Rattle.paving_log.specs.Rows.{EntryFits, CornersFit, corners_of}
-use Rattle.paving_log.specs.Text.{first_line, header_of, body_lines, block_lines, paved_lines, IsSkipped, BlockFits}
-use Rattle.paving_log.specs.Taking.{Takes, TakesAll, TakesWith, TakesTo, block_place, AreNumbered}
+use Rattle.paving_log.specs.Lines.{name_of, step_name, entry_name}
+use Rattle.paving_log.specs.Order.{next}
+use Rattle.paving_log.specs.Text.{first_line, IsSkipped}
+use Rattle.paving_log.specs.Taking.{Takes, TakesWith, TakesTo, block_place}
 use Rattle.paving_log.proofs.LineLemmas.{takes_on}
 
 -- ---- where a line leads

@@ -1,5 +1,5 @@
 -- A text has one first fault at most, and the text of a log has none.
-use Rattle.std.proofs.Common.{◌≡◌, ◌≢◌, ℕ, zero, suc, ◌+◌, ◌*◌, ◌<◌, ◌≤◌, Bool, true, false, List, [], ◌∷◌, ◌++◌, length, Some, None, refl, sym, ap, subst, ◌∙◌, append_assoc, arith, inl, inr}
+use Rattle.std.proofs.Common.{◌≡◌, ◌≢◌, ℕ, zero, suc, ◌+◌, ◌*◌, ◌<◌, true, false, List, [], ◌∷◌, ◌++◌, length, Some, refl, sym, ap, subst, ◌∙◌, append_assoc, arith, inl, inr}
 use Rattle.std.specs.Prelude.{slice_index}
 use Rattle.std.proofs.lemmas.List.{length-append}
 use Rattle.sat_model.specs.declared.satellites.SatEntry.TheVariants as entry
@@ -13,7 +13,7 @@ use Rattle.paving_log.specs.declared.line.LogLine.TheVariants as line
 use Rattle.paving_log.specs.declared.line.Place.{Place}
 use Rattle.paving_log.specs.declared.log.LogError.{LogError}
 use Rattle.paving_log.specs.Words.{words}
-use Rattle.paving_log.specs.Lines.{spelled, name_of, LineFits, line_words, line_text, text_of}
+use Rattle.paving_log.specs.Lines.{spelled, name_of, LineFits, line_text, text_of}
 use Rattle.paving_log.specs.Order.{next, may_end, Leads}
 use Rattle.paving_log.specs.Faults.{is_built, FitsAt, head_of, Begins, Misfit, refusal, IsLineEnd, FirstLine, LineFails, FaultFrom}
 use Rattle.paving_log.proofs.SpellingLemmas.{HasNoEnd, words-line_text, line_end, same_line}

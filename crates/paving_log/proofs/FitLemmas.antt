@@ -1,11 +1,10 @@
 -- What lines that lead from place to place say of their fields.
-use Rattle.std.proofs.Common.{◌≡◌, ℕ, ◌+◌, ◌≤◌, Bool, true, false, List, [], ◌∷◌, ◌++◌, length, map, Some, None, refl, sym, ap, subst, ◌∙◌, arith}
+use Rattle.std.proofs.Common.{◌≡◌, ℕ, ◌+◌, ◌≤◌, Bool, true, false, List, [], ◌∷◌, ◌++◌, length, map, Some, None, sym, subst, arith}
 use Rattle.std.specs.Prelude.{Option}
 use Rattle.std.specs.List.{AllByRecursion}
 use Rattle.std.proofs.lemmas.List.{append-nil}
 use Rattle.sat_model.specs.declared.satellites.SatEntry.{SatEntry}
 use Rattle.sat_model.specs.declared.steps.Step.{Step}
-use Rattle.paving_log.specs.declared.line.Corners.{Corners}
 use Rattle.paving_log.specs.declared.line.Header.{Header}
 use Rattle.paving_log.specs.declared.line.LogLine.{LogLine}
 use Rattle.paving_log.specs.declared.line.LogLine.TheVariants as line
@@ -15,7 +14,7 @@ use Rattle.paving_log.specs.declared.lines.Lines.{Lines}
 use Rattle.paving_log.specs.declared.lines.Opening.{Opening}
 use Rattle.paving_log.specs.Lines.{StepFits, HeaderFits, LineFits}
 use Rattle.paving_log.specs.Order.{Leads}
-use Rattle.paving_log.specs.Rows.{EntryFits, CornersFit}
+use Rattle.paving_log.specs.Rows.{EntryFits}
 use Rattle.paving_log.specs.Text.{first_line, IsSkipped}
 use Rattle.paving_log.specs.Taking.{TakesTo}
 use Rattle.paving_log.proofs.BlockLemmas.{behind_few, behind_sat, behind_step}

@@ -17,7 +17,7 @@ use Rattle.paving_log.specs.declared.line.Place.TheVariants as place
 use Rattle.paving_log.specs.Lines.{name_of, entry_name, step_name, StepFits, HeaderFits, LineFits}
 use Rattle.paving_log.specs.Order.{next, one_more, may_end, Leads}
 use Rattle.paving_log.specs.Rows.{EntryFits, corners_of}
-use Rattle.paving_log.specs.Text.{first_line, header_of, paved_lines, body_lines, block_lines, log_lines, IsSkipped, BodyFits, BlockFits, LogFits}
+use Rattle.paving_log.specs.Text.{first_line, header_of, paved_lines, block_lines, log_lines, IsSkipped, BodyFits, BlockFits, LogFits}
 use Rattle.paving_log.specs.Taking.{block_place}
 
 one_more_below : (k : ℕ) (after : Place) → k < 64 → one_more k after ≡ Some after

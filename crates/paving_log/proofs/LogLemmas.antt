@@ -4,7 +4,7 @@ use Rattle.std.specs.Prelude.{Option, Result, Ok, Err, IfOk, IfErr, ◌⊎◌}
 use Rattle.std.specs.List.{flat_map, AllByRecursion}
 use Rattle.sat_model.specs.declared.satellites.SatEntry.{SatEntry}
 use Rattle.sat_model.specs.declared.steps.Step.{Step}
-use Rattle.sat_model.specs.Boxes.{GridBox, Side}
+use Rattle.sat_model.specs.Boxes.{GridBox}
 use Rattle.sat_model.specs.Logs.{Block, LogValue, lines_in, IsNumberedFrom}
 use Rattle.paving_log.specs.declared.line.Corners.{Corners}
 use Rattle.paving_log.specs.declared.line.Header.{Header}
@@ -13,14 +13,14 @@ use Rattle.paving_log.specs.declared.line.LogLine.TheVariants as line
 use Rattle.paving_log.specs.declared.line.Place.TheVariants as place
 use Rattle.paving_log.specs.declared.log.LogError.{LogError}
 use Rattle.paving_log.specs.Rows.{corners_of}
-use Rattle.paving_log.specs.Text.{first_line, header_of, paved_lines, body_lines, block_lines, log_lines, BodyFits, BlockFits, LogFits, IsLogText}
+use Rattle.paving_log.specs.Text.{first_line, header_of, paved_lines, block_lines, log_lines, BodyFits, BlockFits, IsLogText}
 use Rattle.paving_log.specs.Faults.{FirstFault}
 use Rattle.paving_log.specs.declared.log.Log.{Log}
 use Rattle.paving_log.specs.declared.log.LogError.TheVariants.{NoMemory}
 use Rattle.paving_log.specs.Values.{log_value}
 use Rattle.paving_log.specs.Answers.{GivesLog, GivesFault}
 use Rattle.paving_log.proofs.FaultLemmas.{no_fault, one_fault}
-use Rattle.paving_log.proofs.LeadLemmas.{LeadsToEnd, log_leads}
+use Rattle.paving_log.proofs.LeadLemmas.{log_leads}
 use Rattle.paving_log.proofs.ValueLemmas.{all_fit, same_lines}
 
 -- the first of the lines is no satellite line

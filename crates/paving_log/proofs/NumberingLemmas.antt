@@ -1,11 +1,9 @@
 -- The numbers of the blocks' lines, and the blocks that were taken so far.
-use Rattle.std.proofs.Common.{◌≡◌, ℕ, ◌+◌, ◌<◌, ◌≤◌, Bool, true, false, List, [], ◌∷◌, ◌++◌, length, map, Some, None, refl, sym, ap, subst, ◌∙◌, append_assoc, arith}
+use Rattle.std.proofs.Common.{◌≡◌, ℕ, ◌+◌, ◌<◌, ◌≤◌, Bool, List, [], ◌∷◌, ◌++◌, length, map, Some, None, sym, ap, subst, ◌∙◌, arith}
 use Rattle.std.specs.Prelude.{Option}
 use Rattle.std.specs.List.{flat_map, AllByRecursion}
-use Rattle.std.proofs.lemmas.List.{map-append, length-append, length-map, append-nil}
+use Rattle.std.proofs.lemmas.List.{length-append, length-map, append-nil}
 use Rattle.std.proofs.lemmas.List.Concat.{flat_map-append}
-use Rattle.sat_model.specs.declared.satellites.SatEntry.{SatEntry}
-use Rattle.sat_model.specs.declared.steps.Step.{Step}
 use Rattle.sat_model.specs.Boxes.{GridBox}
 use Rattle.sat_model.specs.Logs.{Block, lines_with, lines_in, IsNumberedFrom}
 use Rattle.paving_log.specs.declared.line.Header.{Header}
@@ -19,7 +17,6 @@ use Rattle.paving_log.specs.Rows.{corners_of}
 use Rattle.paving_log.specs.Lines.{line_text, text_of}
 use Rattle.paving_log.specs.Text.{first_line, header_of, paved_lines, body_lines, block_lines, BlockFits}
 use Rattle.paving_log.specs.Taking.{TakesTo, TakesBlocks, AreNumbered, IsOpened, block_place}
-use Rattle.paving_log.proofs.LineLemmas.{text_of-append}
 use Rattle.paving_log.proofs.BlockLemmas.{block_taken, end_of}
 
 -- the blocks that were taken so far, and the first line of the next

@@ -1,10 +1,9 @@
-use Rattle.std.proofs.Common.{◌≡◌, ap, sym, subst}
+use Rattle.std.proofs.Common.{◌≡◌, ap}
 use Rattle.std.proofs.lemmas.Result.{err_from_is_err_and}
-use Rattle.paving_log.specs.declared.line.Place.{Place}
 use Rattle.paving_log.specs.declared.line.Place.TheVariants as place
 use Rattle.paving_log.specs.Text.{body_lines}
 use Rattle.paving_log.specs.Values.{block_of}
-use Rattle.paving_log.specs.Taking.{block_place, Refuses, TakesTo}
+use Rattle.paving_log.specs.Taking.{block_place}
 use Rattle.paving_log.proofs.LineLemmas.{refuses_behind}
 use Rattle.paving_log.proofs.BlockLemmas.{takes_to_behind}
 use Rattle.paving_log.proofs.read.block.Goals as goal
