@@ -1,4 +1,5 @@
 -- The values of the sine and the cosine at one angle: the law on their squares.
+use Rattle.sat_model.proofs.ProductLemmas.{square_of_amount}
 use Rattle.std.proofs.Common.{◌≡◌, ℕ, zero, suc, ◌+◌, ◌-◌, ◌*◌, ◌≤◌, ◌<◌, arith, refl, ap, ◌∙◌, subst, lit≤, ⊎_elim, ◌⊎◌, inl, inr}
 use Rattle.std.specs.Prelude.{ℤ, pos, negsuc, neg_ℤ, nat_abs, ◌+ℤ◌, ◌*ℤ◌}
 use Rattle.std.proofs.lemmas.Int.{ints}
@@ -7,12 +8,12 @@ use Rattle.std.proofs.lemmas.Nat.{mul-le}
 use Rattle.std.proofs.Math.Nat.{mul-le-mul_left, le_trans}
 use Rattle.sat_model.specs.Angles.{unit, quarter, IsRest}
 use Rattle.sat_model.specs.Intervals.{Close}
-use Rattle.sat_model.specs.Sines.{by_quarter, Sine, Cosine, NearCircle}
+use Rattle.sat_model.specs.Sines.{by_quarter, Sine, Cosine, NearCircle, modulo_4}
 use Rattle.sat_model.specs.Sizes.{IsWithin}
 use Rattle.interval_trig.specs.NestedSums.{greatest_rest}
 use Rattle.interval_trig.proofs.WholeSums.{sine_whole, cosine_whole, sine_small, cosine_small}
 use Rattle.interval_trig.proofs.SquareSums.{WholeSquares, whole_squares}
-use Rattle.interval_trig.proofs.Quarters.{turn, next, turn_next, rest_small, rests_in_quarter}
+use Rattle.interval_trig.proofs.QuarterLemmas.{next, turn_next, rest_small, rests_in_quarter}
 use Rattle.interval_trig.proofs.Smoothness.{whole_by, value_near_whole, inside, signed_sine, signed_cosine}
 
 -- the squares of two numbers that are at most d apart
@@ -86,10 +87,6 @@ squares_add_up i r s c w f g =
     (λ (a : Amounts i r (cosine_whole (nat_abs r)) (sine_whole (nat_abs r))). swap (nat_abs c) (nat_abs s) (add_up (nat_abs c) (nat_abs s) (sine_whole (nat_abs r)) (cosine_whole (nat_abs r)) 4 2 (lit≤ tt) (lit≤ tt) (lit≤ tt) k l t (near_amount c (whole_by (next i) r) (sine_whole (nat_abs r)) 4 g a.1) (near_amount s (whole_by i r) (cosine_whole (nat_abs r)) 2 f a.0)))
     (amounts i r)
 
-square_of_amount : (z : ℤ) → z *ℤ z ≡ pos (nat_abs z * nat_abs z)
-square_of_amount (pos n) = refl
-square_of_amount (negsuc n) = refl
-
 circle_of : (s c : ℤ) → AddUp (nat_abs s) (nat_abs c) → NearCircle s c
 circle_of s c w = let e = square_of_amount s in let f = square_of_amount c in record { below = rw (e, f) (omega (arith, ints)); above = rw (e, f) (omega (arith, ints)) }
 
@@ -104,4 +101,4 @@ near_circle x s c r q i j e a b u v =
 -- the law: s^2 + c^2 is within 16 units of one, for every value s of the sine and c of the cosine of an angle
 pub sine_and_cosine : (x s c : ℤ) → Sine x s → Cosine x c → NearCircle s c
 unfolding Sine Cosine
-sine_and_cosine x s c u v = near_circle x s c u.0 v.0 (turn (quarter x)) (turn (quarter x +ℤ pos 1)) (turn_next (quarter x)) u.1 v.1 u.2 v.2
+sine_and_cosine x s c u v = near_circle x s c u.0 v.0 (modulo_4 (quarter x)) (modulo_4 (quarter x +ℤ pos 1)) (turn_next (quarter x)) u.1 v.1 u.2 v.2

@@ -5,7 +5,7 @@ pub mod Monotone
 pub mod Rests
 pub mod WholeSums
 pub mod SumGaps
-pub mod Quarters
+pub mod QuarterLemmas
 pub mod Smoothness
 pub mod Polynomials
 pub mod SquareSums

@@ -3,11 +3,10 @@ use Rattle.std.proofs.Common.{◌≡◌, ℕ, suc, ◌-◌, ◌*◌, ◌^◌, �
 use Rattle.std.specs.Prelude.{ℤ, pos, negsuc, nat_abs, ◌-ℤ◌, ◌+ℤ◌, ◌*ℤ◌, ◌≤ℤ◌}
 use Rattle.std.proofs.lemmas.Int.{ints}
 use lib.IntN.{*ℤ_comm}
-use Rattle.sat_model.proofs.ProductLemmas.{distrib_less}
+use Rattle.sat_model.proofs.ProductLemmas.{distrib_less, mul_assoc, square_of_amount}
 use Rattle.sat_model.specs.Angles.{unit}
 use Rattle.sat_model.specs.Taylor.{factorial, power, term, taylor_sum, taylor_den, odd_to_15, odd_to_17, even_to_16, even_to_18, AtLeast, AtMost, BetweenSums, SineAt, CosineAt}
 use Rattle.interval_trig.specs.NestedSums.{nested_num, nested_den, sine_15, sine_17, cosine_16, cosine_18, NestedAtLeast, NestedAtMost, NestedBetween, NestedSine, NestedCosine}
-use Rattle.interval_trig.proofs.Polynomials.{mul_assoc_ℤ}
 
 -- the degrees rise by two, and the denominators of the nested sums are those of the terms
 abbrev pub Agrees : ℕ → List ℕ → List ℕ → Type 0
@@ -17,12 +16,8 @@ Agrees last (n ∷ []) (d ∷ ds) = ⊥
 Agrees last (n ∷ m ∷ ns) [] = ⊥
 Agrees last (n ∷ m ∷ ns) (d ∷ ds) = (m ≡ suc (suc n)) × (unit ^ (last - n) * (factorial last / factorial n) ≡ d * unit ^ 2 * nested_den ds) × Agrees last (m ∷ ns) ds
 
-square_of : (r : ℤ) → r *ℤ r ≡ pos (nat_abs r * nat_abs r)
-square_of (pos n) = refl
-square_of (negsuc n) = refl
-
 two_more : (r p : ℤ) → r *ℤ (r *ℤ p) ≡ p *ℤ pos (nat_abs r * nat_abs r)
-two_more r p = sym (mul_assoc_ℤ r r p) ∙ ap (λ (z : ℤ). z *ℤ p) (square_of r) ∙ *ℤ_comm (pos (nat_abs r * nat_abs r)) p
+two_more r p = sym (mul_assoc r r p) ∙ ap (λ (z : ℤ). z *ℤ p) (square_of_amount r) ∙ *ℤ_comm (pos (nat_abs r * nat_abs r)) p
 
 last_term_is : (p : ℤ) (w : ℕ) → w ≡ 1 → (p *ℤ pos w) -ℤ pos 0 ≡ p *ℤ pos 1
 last_term_is p w e = rw e (omega (arith, ints))
@@ -35,7 +30,7 @@ taylor_is_nested last r n (m ∷ ns) (d ∷ ds) a =
     let y = nat_abs r * nat_abs r in
     let h = taylor_is_nested last r m ns ds a.2 in
     let k : power r m ≡ power r n *ℤ pos y = ap (λ (j : ℕ). power r j) a.0 ∙ two_more r (power r n) in
-    ap (λ (z : ℤ). term last r n -ℤ z) (h ∙ ap (λ (z : ℤ). z *ℤ nested_num y ds) k ∙ mul_assoc_ℤ (power r n) (pos y) (nested_num y ds)) ∙
+    ap (λ (z : ℤ). term last r n -ℤ z) (h ∙ ap (λ (z : ℤ). z *ℤ nested_num y ds) k ∙ mul_assoc (power r n) (pos y) (nested_num y ds)) ∙
     ap (λ (w : ℕ). (power r n *ℤ pos w) -ℤ (power r n *ℤ (pos y *ℤ nested_num y ds))) a.1 ∙
     sym (distrib_less (power r n) (pos (d * unit ^ 2 * nested_den ds)) (pos y *ℤ nested_num y ds))
 
@@ -75,7 +70,7 @@ cosine_sum_18 r = taylor_is_nested 18 r 0 (2 ∷ 4 ∷ 6 ∷ 8 ∷ 10 ∷ 12 ∷
 
 -- the sine's denominators have one unit less in the nested form
 unit_left : (z : ℤ) (d : ℕ) → z *ℤ pos (unit * d) ≡ pos unit *ℤ (z *ℤ pos d)
-unit_left z d = ap (λ (w : ℤ). z *ℤ w) (*ℤ_comm (pos unit) (pos d)) ∙ sym (mul_assoc_ℤ z (pos d) (pos unit)) ∙ *ℤ_comm (z *ℤ pos d) (pos unit)
+unit_left z d = ap (λ (w : ℤ). z *ℤ w) (*ℤ_comm (pos unit) (pos d)) ∙ sym (mul_assoc z (pos d) (pos unit)) ∙ *ℤ_comm (z *ℤ pos d) (pos unit)
 
 less_unit : (x y : ℤ) → (pos unit *ℤ x) ≤ℤ (pos unit *ℤ y) → x ≤ℤ y
 less_unit x y h = omega (arith, ints)

@@ -4,13 +4,10 @@ use Rattle.std.specs.Prelude.{ℤ, pos, ◌-ℤ◌, ◌+ℤ◌, ◌*ℤ◌, ◌�
 use Rattle.std.proofs.lemmas.Int.{ints}
 use Rattle.std.proofs.lemmas.Nat.{mul-le}
 use Rattle.std.proofs.Math.Nat.{mul-le-mul_right, mul-le-mul_left, le_of_mul-le-mul_left}
-use Rattle.sat_model.proofs.ProductLemmas.{mul_lt_back, add_mul}
+use Rattle.sat_model.proofs.ProductLemmas.{mul_lt_back, add_mul, mul_le_back}
 use Rattle.sat_model.specs.Angles.{unit}
 use Rattle.interval_trig.specs.NestedSums.{NestedAtMost, NestedBetween}
 use Rattle.interval_trig.proofs.HornerSteps.{above_quotient, below_quotient}
-
-pub mul_le_back : (x y d : ℤ) → pos 0 <ℤ d → (x *ℤ d) ≤ℤ (y *ℤ d) → x ≤ℤ y
-mul_le_back x y d p h = let k : x <ℤ (y +ℤ pos 1) = mul_lt_back x (y +ℤ pos 1) d p (omega (arith, ints, add_mul y (pos 1) d)) in omega (arith, ints)
 
 small_by : (a b : ℕ) → a ≤ b → pos a ≤ℤ pos b
 small_by a b h = omega (arith, ints)

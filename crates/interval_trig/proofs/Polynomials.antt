@@ -3,7 +3,7 @@ use Rattle.std.proofs.Common.{◌≡◌, ℕ, zero, suc, ◌+◌, ◌*◌, arith
 use Rattle.std.specs.Prelude.{ℤ, pos, negsuc, neg_ℤ, ◌-ℤ◌, ◌+ℤ◌, ◌*ℤ◌}
 use Rattle.std.proofs.lemmas.Int.{ints}
 use borrow.Author.Differences.{up, down, product_is}
-use Rattle.sat_model.proofs.ProductLemmas.{distrib, add_mul, mul_neg}
+use Rattle.sat_model.proofs.ProductLemmas.{distrib, add_mul, mul_neg, mul_assoc}
 use Rattle.sat_model.specs.Angles.{unit}
 use Rattle.sat_model.specs.Sizes.{IsWithin}
 use Rattle.interval_trig.specs.NestedSums.{nested_num, nested_den}
@@ -30,12 +30,6 @@ abbrev pub mul : List ℤ → List ℤ → List ℤ
 mul [] q = []
 mul (c ∷ cs) q = add (scale c q) (pos 0 ∷ mul cs q)
 
-pub mul_assoc_ℤ : (a b c : ℤ) → (a *ℤ b) *ℤ c ≡ a *ℤ (b *ℤ c)
-mul_assoc_ℤ a b c =
-    let p = product_is a b in
-    let q = product_is b c in
-    omega (arith, ints, ap (λ (n : ℕ). n * up c) p.0, ap (λ (n : ℕ). n * down c) p.0, ap (λ (n : ℕ). n * up c) p.1, ap (λ (n : ℕ). n * down c) p.1, ap (λ (n : ℕ). up a * n) q.0, ap (λ (n : ℕ). down a * n) q.0, ap (λ (n : ℕ). up a * n) q.1, ap (λ (n : ℕ). down a * n) q.1)
-
 zero_left : (a : ℤ) → pos 0 +ℤ a ≡ a
 zero_left a = omega (arith, ints)
 
@@ -49,11 +43,11 @@ eval-add y (c ∷ cs) (d ∷ ds) = ap (λ (z : ℤ). (c +ℤ d) +ℤ (y *ℤ z))
 
 pub eval-scale : (y k : ℤ) (p : List ℤ) → eval y (scale k p) ≡ k *ℤ eval y p
 eval-scale y k [] = omega (arith, ints)
-eval-scale y k (c ∷ cs) = ap (λ (z : ℤ). (k *ℤ c) +ℤ (y *ℤ z)) (eval-scale y k cs) ∙ ap (λ (z : ℤ). (k *ℤ c) +ℤ z) (sym (mul_assoc_ℤ y k (eval y cs)) ∙ ap (λ (z : ℤ). z *ℤ eval y cs) (*ℤ_comm y k) ∙ mul_assoc_ℤ k y (eval y cs)) ∙ sym (distrib k c (y *ℤ eval y cs))
+eval-scale y k (c ∷ cs) = ap (λ (z : ℤ). (k *ℤ c) +ℤ (y *ℤ z)) (eval-scale y k cs) ∙ ap (λ (z : ℤ). (k *ℤ c) +ℤ z) (sym (mul_assoc y k (eval y cs)) ∙ ap (λ (z : ℤ). z *ℤ eval y cs) (*ℤ_comm y k) ∙ mul_assoc k y (eval y cs)) ∙ sym (distrib k c (y *ℤ eval y cs))
 
 pub eval-mul : (y : ℤ) (p q : List ℤ) → eval y (mul p q) ≡ eval y p *ℤ eval y q
 eval-mul y [] q = omega (arith, ints)
-eval-mul y (c ∷ cs) q = eval-add y (scale c q) (pos 0 ∷ mul cs q) ∙ ap (λ (z : ℤ). z +ℤ (pos 0 +ℤ (y *ℤ eval y (mul cs q)))) (eval-scale y c q) ∙ ap (λ (z : ℤ). (c *ℤ eval y q) +ℤ (pos 0 +ℤ (y *ℤ z))) (eval-mul y cs q) ∙ ap (λ (z : ℤ). (c *ℤ eval y q) +ℤ z) (zero_left (y *ℤ (eval y cs *ℤ eval y q)) ∙ sym (mul_assoc_ℤ y (eval y cs) (eval y q))) ∙ sym (add_mul c (y *ℤ eval y cs) (eval y q))
+eval-mul y (c ∷ cs) q = eval-add y (scale c q) (pos 0 ∷ mul cs q) ∙ ap (λ (z : ℤ). z +ℤ (pos 0 +ℤ (y *ℤ eval y (mul cs q)))) (eval-scale y c q) ∙ ap (λ (z : ℤ). (c *ℤ eval y q) +ℤ (pos 0 +ℤ (y *ℤ z))) (eval-mul y cs q) ∙ ap (λ (z : ℤ). (c *ℤ eval y q) +ℤ z) (zero_left (y *ℤ (eval y cs *ℤ eval y q)) ∙ sym (mul_assoc y (eval y cs) (eval y q))) ∙ sym (add_mul c (y *ℤ eval y cs) (eval y q))
 
 -- the nested numerator as a polynomial in the square
 abbrev pub nested_poly : List ℕ → List ℤ

@@ -1,13 +1,12 @@
 -- The rests of an angle, and the odd symmetry of the sine.
 use Rattle.std.proofs.Common.{◌≡◌, ℕ, zero, suc, ◌*◌, ◌≤◌, arith, sym, refl, ap, ◌∙◌, subst, ⊎_elim, inl, inr}
 use Rattle.std.specs.Prelude.{ℤ, pos, negsuc, neg_ℤ, nat_abs, ◌-ℤ◌, ◌+ℤ◌, ◌*ℤ◌, ◌≤ℤ◌}
-use Rattle.std.specs.Int.{int_rem_euclid}
 use Rattle.std.proofs.lemmas.Int.{ints}
-use Rattle.sat_model.proofs.ProductLemmas.{mul_neg}
+use Rattle.sat_model.proofs.ProductLemmas.{mul_neg, neg_mul}
 use Rattle.sat_model.proofs.RoundingLemmas.{floor_is}
 use Rattle.sat_model.specs.Angles.{quarter, quarter_turn, IsRest}
 use Rattle.sat_model.specs.Rounding.{IsFloor}
-use Rattle.sat_model.specs.Sines.{by_quarter, Sine, Cosine}
+use Rattle.sat_model.specs.Sines.{by_quarter, modulo_4, Sine, Cosine}
 use Rattle.sat_model.specs.Sizes.{IsWithin}
 use Rattle.sat_model.specs.Taylor.{SineAt, CosineAt}
 use Rattle.interval_trig.specs.NestedSums.{NestedSine, NestedCosine, NestedBetween, NestedAtLeast, NestedAtMost, nested_num, nested_den, sine_15, sine_17}
@@ -19,19 +18,16 @@ left_within x k e =
     let f : IsFloor (pos 20000 *ℤ x +ℤ pos quarter_turn) (pos (2 * quarter_turn)) k = subst (λ (q : ℤ). IsFloor (pos 20000 *ℤ x +ℤ pos quarter_turn) (pos (2 * quarter_turn)) q) (sym e) (floor_is (pos 20000 *ℤ x +ℤ pos quarter_turn) (pos (2 * quarter_turn)) (record { lt = tt })) in
     record { low = omega (arith, ints); high = omega (arith, ints) }
 
-neg_mul : (a c : ℤ) → neg_ℤ (a *ℤ c) ≡ neg_ℤ a *ℤ c
-neg_mul a c = ap neg_ℤ (*ℤ_comm a c) ∙ sym (mul_neg c a) ∙ *ℤ_comm c (neg_ℤ a)
-
 abs_neg : (r : ℤ) → nat_abs r ≡ nat_abs (neg_ℤ r)
 abs_neg (pos zero) = refl
 abs_neg (pos (suc n)) = refl
 abs_neg (negsuc n) = refl
 
 flip_low : (n s : ℤ) (d : ℕ) → NestedAtMost n d s → NestedAtLeast (neg_ℤ n) d (neg_ℤ s)
-flip_low n s d h = let e : neg_ℤ (s -ℤ pos 1) ≡ neg_ℤ s +ℤ pos 1 = omega (arith, ints) in subst (λ (z : ℤ). neg_ℤ n ≤ℤ (z *ℤ pos d)) e (subst (λ (z : ℤ). neg_ℤ n ≤ℤ z) (neg_mul (s -ℤ pos 1) (pos d)) (omega (arith, ints)))
+flip_low n s d h = let e : neg_ℤ (s -ℤ pos 1) ≡ neg_ℤ s +ℤ pos 1 = omega (arith, ints) in subst (λ (z : ℤ). neg_ℤ n ≤ℤ (z *ℤ pos d)) e (subst (λ (z : ℤ). neg_ℤ n ≤ℤ z) (sym (neg_mul (s -ℤ pos 1) (pos d))) (omega (arith, ints)))
 
 flip_high : (n s : ℤ) (d : ℕ) → NestedAtLeast n d s → NestedAtMost (neg_ℤ n) d (neg_ℤ s)
-flip_high n s d h = let e : neg_ℤ (s +ℤ pos 1) ≡ neg_ℤ s -ℤ pos 1 = omega (arith, ints) in subst (λ (z : ℤ). (z *ℤ pos d) ≤ℤ neg_ℤ n) e (subst (λ (z : ℤ). z ≤ℤ neg_ℤ n) (neg_mul (s +ℤ pos 1) (pos d)) (omega (arith, ints)))
+flip_high n s d h = let e : neg_ℤ (s +ℤ pos 1) ≡ neg_ℤ s -ℤ pos 1 = omega (arith, ints) in subst (λ (z : ℤ). (z *ℤ pos d) ≤ℤ neg_ℤ n) e (subst (λ (z : ℤ). z ≤ℤ neg_ℤ n) (sym (neg_mul (s +ℤ pos 1) (pos d))) (omega (arith, ints)))
 
 flip_sums : (n m : ℤ) (d e : ℕ) (s : ℤ) → NestedBetween n m d e s → NestedBetween (neg_ℤ n) (neg_ℤ m) d e (neg_ℤ s)
 flip_sums n m d e s v = record { low = ⊎_elim (λ (h : NestedAtMost n d s). inl (flip_low n s d h)) (λ (h : NestedAtMost m e s). inr (flip_low m s e h)) v.high; high = ⊎_elim (λ (h : NestedAtLeast n d s). inl (flip_high n s d h)) (λ (h : NestedAtLeast m e s). inr (flip_high m s e h)) v.low }
@@ -40,8 +36,8 @@ flip_nested : (r s : ℤ) → NestedSine r s → NestedSine (neg_ℤ r) (neg_ℤ
 unfolding NestedSine
 flip_nested r s v =
     subst (λ (a : ℕ). NestedBetween (neg_ℤ r *ℤ nested_num (a * a) sine_15) (neg_ℤ r *ℤ nested_num (a * a) sine_17) (nested_den sine_15) (nested_den sine_17) (neg_ℤ s)) (abs_neg r)
-    (subst (λ (z : ℤ). NestedBetween z (neg_ℤ r *ℤ nested_num (nat_abs r * nat_abs r) sine_17) (nested_den sine_15) (nested_den sine_17) (neg_ℤ s)) (neg_mul r (nested_num (nat_abs r * nat_abs r) sine_15))
-    (subst (λ (z : ℤ). NestedBetween (neg_ℤ (r *ℤ nested_num (nat_abs r * nat_abs r) sine_15)) z (nested_den sine_15) (nested_den sine_17) (neg_ℤ s)) (neg_mul r (nested_num (nat_abs r * nat_abs r) sine_17))
+    (subst (λ (z : ℤ). NestedBetween z (neg_ℤ r *ℤ nested_num (nat_abs r * nat_abs r) sine_17) (nested_den sine_15) (nested_den sine_17) (neg_ℤ s)) (sym (neg_mul r (nested_num (nat_abs r * nat_abs r) sine_15)))
+    (subst (λ (z : ℤ). NestedBetween (neg_ℤ (r *ℤ nested_num (nat_abs r * nat_abs r) sine_15)) z (nested_den sine_15) (nested_den sine_17) (neg_ℤ s)) (sym (neg_mul r (nested_num (nat_abs r * nat_abs r) sine_17)))
     (flip_sums (r *ℤ nested_num (nat_abs r * nat_abs r) sine_15) (r *ℤ nested_num (nat_abs r * nat_abs r) sine_17) (nested_den sine_15) (nested_den sine_17) s v)))
 
 pub flip : (r s : ℤ) → SineAt r s → SineAt (neg_ℤ r) (neg_ℤ s)
@@ -101,12 +97,12 @@ turn_less_cosine n r q s t e g f v = rw (e, g) (subst (λ (z : ℤ). CosineAt q 
 -- a whole number that is left of x, rounded down, is a rest
 floor_is_rest : (x k m r : ℤ) → k ≡ quarter x → m ≡ (pos 10000 *ℤ x) -ℤ (k *ℤ pos quarter_turn) → IsFloor m (pos 10000) r → IsRest x r
 floor_is_rest x k m r e g f =
-    record { amount = subst (λ (z : ℤ). nat_abs (pos 10000 *ℤ (x -ℤ r) -ℤ (z *ℤ pos quarter_turn)) ≤ 10000) e (omega (arith, ints)) }
+    record { within = subst (λ (z : ℤ). IsWithin 10000 ((pos 10000 *ℤ (x -ℤ r)) -ℤ (z *ℤ pos quarter_turn))) e (record { low = omega (arith, ints); high = omega (arith, ints) }) }
 
-pub sine_from : (x k m r s : ℤ) (n : ℕ) → k ≡ quarter x → m ≡ (pos 10000 *ℤ x) -ℤ (k *ℤ pos quarter_turn) → IsFloor m (pos 10000) r → n ≡ nat_abs (int_rem_euclid k (pos 4)) → by_quarter n r s → Sine x s
+pub sine_from : (x k m r s : ℤ) (n : ℕ) → k ≡ quarter x → m ≡ (pos 10000 *ℤ x) -ℤ (k *ℤ pos quarter_turn) → IsFloor m (pos 10000) r → n ≡ modulo_4 k → by_quarter n r s → Sine x s
 unfolding Sine
-sine_from x k m r s n e g f t v = (r, floor_is_rest x k m r e g f, subst (λ (j : ℕ). by_quarter j r s) (t ∙ ap (λ (z : ℤ). nat_abs (int_rem_euclid z (pos 4))) e) v)
+sine_from x k m r s n e g f t v = (r, floor_is_rest x k m r e g f, subst (λ (j : ℕ). by_quarter j r s) (t ∙ ap (λ (z : ℤ). modulo_4 z) e) v)
 
-pub cosine_from_turn : (x k m r s : ℤ) (n : ℕ) → k ≡ quarter x → m ≡ (pos 10000 *ℤ x) -ℤ (k *ℤ pos quarter_turn) → IsFloor m (pos 10000) r → n ≡ nat_abs (int_rem_euclid (k +ℤ pos 1) (pos 4)) → by_quarter n r s → Cosine x s
+pub cosine_from_turn : (x k m r s : ℤ) (n : ℕ) → k ≡ quarter x → m ≡ (pos 10000 *ℤ x) -ℤ (k *ℤ pos quarter_turn) → IsFloor m (pos 10000) r → n ≡ modulo_4 (k +ℤ pos 1) → by_quarter n r s → Cosine x s
 unfolding Cosine
-cosine_from_turn x k m r s n e g f t v = (r, floor_is_rest x k m r e g f, subst (λ (j : ℕ). by_quarter j r s) (t ∙ ap (λ (z : ℤ). nat_abs (int_rem_euclid (z +ℤ pos 1) (pos 4))) e) v)
+cosine_from_turn x k m r s n e g f t v = (r, floor_is_rest x k m r e g f, subst (λ (j : ℕ). by_quarter j r s) (t ∙ ap (λ (z : ℤ). modulo_4 (z +ℤ pos 1)) e) v)
