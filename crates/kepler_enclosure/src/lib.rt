@@ -1,0 +1,7 @@
+//! Kepler's equation over intervals: every eccentric anomaly of every mean anomaly and
+//! eccentricity is held.
+#![tactic(auto)]
+
+mod anomalies;
+
+pub use anomalies::{eccentric, GREATEST_ECCENTRICITY};
