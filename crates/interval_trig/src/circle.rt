@@ -9,5 +9,4 @@ ghost use Rattle.sat_model.specs.Sines.{Sine, Cosine, NearCircle};
 /// cosine of an angle within 64 rad. The call does nothing.
 pub fn circle_law()
     ensures { (x s c : ℤ) → IsWithin (64 * unit) x → Sine x s → Cosine x c → NearCircle s c }
-{
-}
+{}

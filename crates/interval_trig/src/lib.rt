@@ -7,6 +7,10 @@ mod parts;
 mod points;
 mod quarters;
 mod sines;
+#[cfg(test)]
+mod tests;
+#[cfg(test)]
+mod vectors;
 
 pub use circle::circle_law;
 pub use sines::{cosine, sine};

@@ -7,7 +7,7 @@ ghost use Rattle.sat_model.specs.Taylor.{SineAt, CosineAt};
 ghost use Rattle.sat_model.specs.Sines.{by_quarter, Sine, Cosine};
 ghost use Rattle.interval_trig.specs.NestedSums.{greatest_rest};
 
-use crate::parts::{cosine_part, sine_part, square_of, FINE};
+use crate::parts::{FINE, cosine_part, sine_part, square_of};
 use crate::quarters::{left_of, quarter_of, turn_of, whole_of};
 
 const UNIT: u128 = 10_000_000_000_000_000;

@@ -3,5 +3,9 @@
 #![tactic(auto)]
 
 mod anomalies;
+#[cfg(test)]
+mod tests;
+#[cfg(test)]
+mod vectors;
 
-pub use anomalies::{eccentric, GREATEST_ECCENTRICITY};
+pub use anomalies::{GREATEST_ECCENTRICITY, eccentric};
