@@ -1,6 +1,6 @@
 -- The plain Taylor sums equal the nested ones.
 use Rattle.std.proofs.Common.{◌≡◌, ℕ, suc, ◌-◌, ◌*◌, ◌^◌, ◌/◌, arith, sym, refl, ap, ◌∙◌, subst, List, [], ◌∷◌, ⊎_elim, inl, inr}
-use Rattle.std.specs.Prelude.{ℤ, pos, negsuc, nat_abs, ◌-ℤ◌, ◌+ℤ◌, ◌*ℤ◌, ◌≤ℤ◌}
+use Rattle.std.specs.Prelude.{ℤ, pos, nat_abs, ◌-ℤ◌, ◌+ℤ◌, ◌*ℤ◌, ◌≤ℤ◌}
 use Rattle.std.proofs.lemmas.Int.{ints}
 use lib.IntN.{*ℤ_comm}
 use Rattle.sat_model.proofs.ProductLemmas.{distrib_less, mul_assoc, square_of_amount}

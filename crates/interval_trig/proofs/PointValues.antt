@@ -1,10 +1,9 @@
 -- From the nested sums to the values at a rest.
 use Rattle.std.proofs.Common.{zero, suc, inl, le_refl, ◌≡◌, ℕ, ◌+◌, ◌-◌, ◌*◌, ◌^◌, ◌/◌, ◌≤◌, ◌<◌, arith, sym, ap, subst}
-use Rattle.std.specs.Prelude.{ℤ, pos, ◌-ℤ◌, ◌+ℤ◌, ◌*ℤ◌, ◌≤ℤ◌, ◌<ℤ◌}
+use Rattle.std.specs.Prelude.{ℤ, pos, ◌-ℤ◌, ◌*ℤ◌, ◌≤ℤ◌}
 use Rattle.std.proofs.lemmas.Int.{ints}
 use Rattle.std.proofs.lemmas.Nat.{mul-le}
 use Rattle.std.proofs.Math.Nat.{mul-le-mul_right, mul-le-mul_left, le_of_mul-le-mul_left}
-use Rattle.sat_model.proofs.ProductLemmas.{mul_lt_back, add_mul, mul_le_back}
 use Rattle.sat_model.specs.Angles.{unit}
 use Rattle.interval_trig.specs.NestedSums.{NestedAtMost, NestedBetween}
 use Rattle.interval_trig.proofs.HornerSteps.{above_quotient, below_quotient}

@@ -2,7 +2,6 @@
 use Rattle.std.proofs.Common.{◌≡◌, ℕ, zero, suc, ◌+◌, ◌*◌, arith, sym, ap, ◌∙◌, List, [], ◌∷◌}
 use Rattle.std.specs.Prelude.{ℤ, pos, negsuc, neg_ℤ, ◌-ℤ◌, ◌+ℤ◌, ◌*ℤ◌}
 use Rattle.std.proofs.lemmas.Int.{ints}
-use borrow.Author.Differences.{up, down, product_is}
 use Rattle.sat_model.proofs.ProductLemmas.{distrib, add_mul, mul_neg, mul_assoc}
 use Rattle.sat_model.specs.Angles.{unit}
 use Rattle.sat_model.specs.Sizes.{IsWithin}

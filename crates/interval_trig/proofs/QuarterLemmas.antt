@@ -2,7 +2,6 @@
 use Rattle.sat_model.specs.Sines.{modulo_4}
 use Rattle.std.proofs.Common.{◌≡◌, ℕ, zero, suc, ◌+◌, ◌*◌, ◌/◌, ◌%◌, ◌≤◌, ◌<◌, arith, sym, refl, ap, ◌∙◌, subst, lit≤, ◌⊎◌, inl, inr}
 use Rattle.std.specs.Prelude.{ℤ, pos, nat_abs, ◌-ℤ◌, ◌+ℤ◌, ◌*ℤ◌, ◌≤ℤ◌, ◌<ℤ◌}
-use Rattle.std.specs.Int.{int_rem_euclid}
 use Rattle.std.proofs.lemmas.Int.{ints, int_rem_euclid_is, by_lt_z}
 use Rattle.sat_model.proofs.RoundingLemmas.{floor_is}
 use Rattle.sat_model.specs.Angles.{unit, quarter, quarter_turn, IsRest}

@@ -1,8 +1,8 @@
 -- The rests of an angle, and the odd symmetry of the sine.
-use Rattle.std.proofs.Common.{◌≡◌, ℕ, zero, suc, ◌*◌, ◌≤◌, arith, sym, refl, ap, ◌∙◌, subst, ⊎_elim, inl, inr}
+use Rattle.std.proofs.Common.{◌≡◌, ℕ, zero, suc, ◌*◌, arith, sym, refl, ap, ◌∙◌, subst, ⊎_elim, inl, inr}
 use Rattle.std.specs.Prelude.{ℤ, pos, negsuc, neg_ℤ, nat_abs, ◌-ℤ◌, ◌+ℤ◌, ◌*ℤ◌, ◌≤ℤ◌}
 use Rattle.std.proofs.lemmas.Int.{ints}
-use Rattle.sat_model.proofs.ProductLemmas.{mul_neg, neg_mul}
+use Rattle.sat_model.proofs.ProductLemmas.{neg_mul}
 use Rattle.sat_model.proofs.RoundingLemmas.{floor_is}
 use Rattle.sat_model.specs.Angles.{quarter, quarter_turn, IsRest}
 use Rattle.sat_model.specs.Rounding.{IsFloor}
@@ -10,7 +10,6 @@ use Rattle.sat_model.specs.Sines.{by_quarter, modulo_4, Sine, Cosine}
 use Rattle.sat_model.specs.Sizes.{IsWithin}
 use Rattle.sat_model.specs.Taylor.{SineAt, CosineAt}
 use Rattle.interval_trig.specs.NestedSums.{NestedSine, NestedCosine, NestedBetween, NestedAtLeast, NestedAtMost, nested_num, nested_den, sine_15, sine_17}
-use lib.IntN.{*ℤ_comm}
 use Rattle.interval_trig.proofs.NestedSums.{sine_in, sine_out, cosine_in, cosine_out}
 
 pub left_within : (x k : ℤ) → k ≡ quarter x → IsWithin 78539816339744830962 ((pos 10000 *ℤ x) -ℤ (k *ℤ pos quarter_turn))
