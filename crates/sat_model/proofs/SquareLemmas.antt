@@ -1,8 +1,7 @@
 -- The squares of members lie between the least and the greatest square.
 use Rattle.std.proofs.Common.{◌≡◌, ℕ, ◌≤◌, arith, ◌⊎◌, inl, inr, refl}
-use Rattle.std.specs.Prelude.{ℤ, pos, negsuc, neg_ℤ, nat_abs, ◌≤ℤ◌}
-use Rattle.std.specs.Int.{int_max}
-use Rattle.std.proofs.lemmas.Int.{ints, clamps}
+use Rattle.std.specs.Prelude.{ℤ, pos, negsuc, nat_abs, ◌≤ℤ◌}
+use Rattle.std.proofs.lemmas.Int.{ints}
 use borrow.Author.Differences.{up, down}
 use Rattle.sat_model.specs.Sizes.{IsWithin}
 use Rattle.sat_model.specs.Amounts.{square}

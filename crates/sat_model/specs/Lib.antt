@@ -14,3 +14,7 @@ pub mod Intervals
 pub mod Rounding
 pub mod Products
 pub mod Squares
+pub mod Angles
+pub mod Taylor
+pub mod Sines
+pub mod Kepler
