@@ -13,7 +13,7 @@ use Rattle.sat_model.specs.declared.boxes.Box3.{Box3}
 use Rattle.sat_model.specs.Boxes.{GridBox, grid_box}
 use Rattle.sat_model.specs.Cover.{kept_in, kept_boxes_in, kept_boxes}
 use Rattle.sat_model.specs.Fold.{Stage, first_stage, after}
-use Rattle.sat_model.specs.Logs.{Block, LogValue, rows_of, lines_with, lines_in, IsNumberedFrom, IsNumbered}
+use Rattle.sat_model.specs.Logs.{Block, LogValue, rows_of, lines_with, lines_in, IsNumberedFrom}
 use Rattle.sat_model.specs.Verdicts.{StepsPass, StepsFail, SuitsNumber, CountsRows, HeadPasses, NoneRepeats, BlockPasses, BlockFails, BlocksPass, BlocksFail, Judged, FirstFault}
 use Rattle.paving_log.specs.Values.{block_of, box_option, log_value}
 use Rattle.paving_log.specs.declared.log.Log.{Log}
@@ -84,16 +84,6 @@ pub record IsUnderway (log : LogValue) (before : Option ℕ) (i boxes : ℕ) : T
   pub next : ℕ
   pub numbered : IsNumberedFrom next (drop i log.blocks)
   pub few_boxes : boxes ≤ next
-
-pub underway_first : (log : LogValue) → IsNumbered log → IsUnderway log None 0 0
-underway_first log numbered = record {
-  pass = λ h. h;
-  fail = λ line number h. h;
-  kept = omega arith;
-  next = 3;
-  numbered = numbered;
-  few_boxes = omega arith;
-}
 
 -- block i of the log is this one
 pub record IsBlockAt (log : LogValue) (i : ℕ) (block : Block) : Type 0 where

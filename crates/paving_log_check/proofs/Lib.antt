@@ -1,4 +1,4 @@
-pub mod TestLemmas
+pub mod SpanLemmas
 pub mod CutLemmas
 pub mod StageLemmas
 pub mod StepLemmas

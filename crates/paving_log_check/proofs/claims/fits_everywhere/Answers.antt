@@ -1,6 +1,6 @@
 use Rattle.std.proofs.Common.{arith, refl, to_z, of_z, w64}
 use Rattle.std.proofs.lemmas.Int.{ints}
-use Rattle.paving_log_check.proofs.TestLemmas.{held_above, none_held}
+use Rattle.paving_log_check.proofs.SpanLemmas.{held_above, none_held}
 use Rattle.paving_log_check.proofs.claims.fits_everywhere.Goals as goal
 
 pub returns-then-span-clock : goal.returns-then-span-clock

@@ -1,6 +1,6 @@
 use Rattle.std.proofs.Common.{arith, refl, to_z, of_z, w64}
 use Rattle.std.proofs.lemmas.Int.{ints}
-use Rattle.paving_log_check.proofs.TestLemmas.{le_true}
+use Rattle.paving_log_check.proofs.SpanLemmas.{le_true}
 use Rattle.paving_log_check.proofs.claims.holds_hull.Goals as goal
 
 pub returns-then-lo-hull : goal.returns-then-lo-hull
