@@ -7,3 +7,4 @@ pub mod IntervalLemmas
 pub mod RoundingLemmas
 pub mod SpreadLemmas
 pub mod SquareLemmas
+pub mod EndsLemmas
