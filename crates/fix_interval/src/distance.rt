@@ -1,6 +1,6 @@
 //! Squared distances over any kind of interval.
 
-ghost use Rattle.std.specs.Prelude.{◌≡◌, ℕ, ◌+◌, ◌^◌, ◌≤◌, ℤ, pos};
+ghost use Rattle.std.specs.Prelude.{◌≡◌, ◌+◌, ◌^◌, ◌≤◌, ℤ};
 ghost use Rattle.sat_model.specs.Sizes.{IsWithin};
 ghost use Rattle.sat_model.specs.Intervals.{Between};
 ghost use Rattle.sat_model.specs.Squares.{least_square, greatest_square, sum_of_squares};

@@ -1,6 +1,6 @@
 //! The ends of rounded products and quotients.
 
-ghost use Rattle.std.specs.Prelude.{◌≡◌, ℕ, ◌+◌, ◌*◌, ◌^◌, ◌≤◌, ℤ, pos, ◌+ℤ◌, ◌-ℤ◌, ◌*ℤ◌, ◌≤ℤ◌, ◌<ℤ◌};
+ghost use Rattle.std.specs.Prelude.{◌≡◌, ◌^◌, ℤ, pos, ◌+ℤ◌, ◌-ℤ◌, ◌*ℤ◌, ◌≤ℤ◌, ◌<ℤ◌};
 ghost use Rattle.sat_model.specs.Sizes.{IsWithin};
 ghost use Rattle.sat_model.specs.Intervals.{Between};
 ghost use Rattle.sat_model.specs.Rounding.{IsFloor};

@@ -1,6 +1,6 @@
 //! `Exact` as an interval whose grain is 1 um.
 
-ghost use Rattle.std.specs.Prelude.{ℕ, ◌≤◌, pos, ◌≤ℤ◌, refl};
+ghost use Rattle.std.specs.Prelude.{◌≤◌, pos, refl};
 
 use crate::ends::{greatest_amount, least_amount};
 use crate::exact::Exact;

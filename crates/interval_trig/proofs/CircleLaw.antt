@@ -14,7 +14,7 @@ use Rattle.interval_trig.specs.NestedSums.{greatest_rest}
 use Rattle.interval_trig.proofs.WholeSums.{sine_whole, cosine_whole, sine_small, cosine_small}
 use Rattle.interval_trig.proofs.SquareSums.{WholeSquares, whole_squares}
 use Rattle.interval_trig.proofs.QuarterLemmas.{next, turn_next, rest_small, rests_in_quarter}
-use Rattle.interval_trig.proofs.Smoothness.{whole_by, value_near_whole, inside, signed_sine, signed_cosine}
+use Rattle.interval_trig.proofs.SignedSums.{whole_by, value_near_whole, inside, signed_sine, signed_cosine}
 
 -- the squares of two numbers that are at most d apart
 record SquaresNear (p s d : ℕ) : Type 0 where

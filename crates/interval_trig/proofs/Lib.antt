@@ -2,11 +2,15 @@ pub mod NestedSums
 pub mod HornerSteps
 pub mod PointValues
 pub mod Monotone
+pub mod Symmetry
 pub mod Rests
 pub mod WholeSums
 pub mod SumGaps
 pub mod QuarterLemmas
+pub mod SignedSums
+pub mod Seams
 pub mod Smoothness
 pub mod Polynomials
 pub mod SquareSums
 pub mod CircleLaw
+pub mod Existence

@@ -15,7 +15,7 @@ small_by a b h = omega (arith, ints)
 less_one : (q : ℕ) → pos (suc q) -ℤ pos 1 ≡ pos q
 less_one q = omega (arith, ints)
 
-at_most_of : (q den n : ℕ) → q * den ≤ n + den → NestedAtMost (pos n) den (pos q)
+pub at_most_of : (q den n : ℕ) → q * den ≤ n + den → NestedAtMost (pos n) den (pos q)
 at_most_of zero den n h = omega (arith, ints)
 at_most_of (suc q) den n h = subst (λ (z : ℤ). (z *ℤ pos den) ≤ℤ pos n) (sym (less_one q)) (small_by (q * den) n (omega arith))
 

@@ -1,6 +1,6 @@
 //! The Taylor sums in nested form (Horner's scheme), in whole numbers of 10^-18.
 
-ghost use Rattle.std.specs.Prelude.{◌≡◌, ℕ, ◌+◌, ◌-◌, ◌*◌, ◌^◌, ◌/◌, ◌<◌, ◌≤◌, ℤ, pos, ◌≤ℤ◌, ◌+ℤ◌, ◌-ℤ◌, ◌*ℤ◌, neg_ℤ, nat_abs};
+ghost use Rattle.std.specs.Prelude.{ℕ, ◌+◌, ◌-◌, ◌*◌, ◌^◌, ◌≤◌};
 ghost use Rattle.sat_model.specs.Angles.{unit};
 ghost use Rattle.interval_trig.specs.NestedSums.{greatest_rest, Holds, HoldsSquare, plain_num, nested_den, sine_15, cosine_16};
 
@@ -41,13 +41,13 @@ pub(crate) fn sine_part(y: Part) -> Part
     ensures width { y.hi ≤ 62 * 10 ^ 16 → y.hi ≤ y.lo + 5 → result.hi ≤ result.lo + 4 }
 {
     let one = Part { lo: FINE, hi: FINE };
-    let p15 = step(one, y, 210);
-    let p13 = step(p15, y, 156);
-    let p11 = step(p13, y, 110);
-    let p9 = step(p11, y, 72);
-    let p7 = step(p9, y, 42);
-    let p5 = step(p7, y, 20);
-    step(p5, y, 6)
+    let p15 = step(one, y, 14 * 15);
+    let p13 = step(p15, y, 12 * 13);
+    let p11 = step(p13, y, 10 * 11);
+    let p9 = step(p11, y, 8 * 9);
+    let p7 = step(p9, y, 6 * 7);
+    let p5 = step(p7, y, 4 * 5);
+    step(p5, y, 2 * 3)
 }
 
 // The nested sum of the cosine, of degree 16.
@@ -58,14 +58,14 @@ pub(crate) fn cosine_part(y: Part) -> Part
     ensures width { y.hi ≤ 62 * 10 ^ 16 → y.hi ≤ y.lo + 5 → result.hi ≤ result.lo + 5 }
 {
     let one = Part { lo: FINE, hi: FINE };
-    let p16 = step(one, y, 240);
-    let p14 = step(p16, y, 182);
-    let p12 = step(p14, y, 132);
-    let p10 = step(p12, y, 90);
-    let p8 = step(p10, y, 56);
-    let p6 = step(p8, y, 30);
-    let p4 = step(p6, y, 12);
-    step(p4, y, 2)
+    let p16 = step(one, y, 15 * 16);
+    let p14 = step(p16, y, 13 * 14);
+    let p12 = step(p14, y, 11 * 12);
+    let p10 = step(p12, y, 9 * 10);
+    let p8 = step(p10, y, 7 * 8);
+    let p6 = step(p8, y, 5 * 6);
+    let p4 = step(p6, y, 3 * 4);
+    step(p4, y, 1 * 2)
 }
 
 // The square of a rest's amount.

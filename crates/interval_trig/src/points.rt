@@ -1,6 +1,6 @@
 //! A value of the sine and of the cosine at one angle.
 
-ghost use Rattle.std.specs.Prelude.{◌≡◌, ℕ, ◌+◌, ◌-◌, ◌*◌, ◌^◌, ◌/◌, ◌<◌, ◌≤◌, ℤ, pos, ◌≤ℤ◌, ◌+ℤ◌, ◌-ℤ◌, ◌*ℤ◌, neg_ℤ, nat_abs};
+ghost use Rattle.std.specs.Prelude.{◌*◌, ◌<◌, ◌≤◌, pos};
 ghost use Rattle.sat_model.specs.Sizes.{IsWithin};
 ghost use Rattle.sat_model.specs.Angles.{unit};
 ghost use Rattle.sat_model.specs.Taylor.{SineAt, CosineAt};

@@ -12,7 +12,7 @@ use Rattle.sat_model.specs.Angles.{unit}
 use Rattle.sat_model.specs.Kepler.{Kepler}
 use Rattle.sat_model.proofs.ProductLemmas.{mul_neg, mul_mono}
 use Rattle.sat_model.proofs.RoundingLemmas.{floor_is, floor_near}
-use Rattle.sat_model.proofs.SpreadLemmas.{product_ends}
+use Rattle.sat_model.proofs.EndsLemmas.{product_ends}
 use Rattle.interval_trig.proofs.Smoothness.{sine_value_small}
 
 -- the greatest eccentricity, a fifth

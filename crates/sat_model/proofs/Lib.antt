@@ -13,3 +13,4 @@ pub mod CoverLemmas
 pub mod VerdictLemmas
 pub mod KeptLemmas
 pub mod FaultLemmas
+pub mod EndsLemmas

@@ -1,14 +1,12 @@
--- Products and quotients of members: between which ends they lie, and how far these are apart.
+-- Products of members: between which ends they lie, and how far these are apart.
 use Rattle.std.proofs.Common.{◌≡◌, ℕ, ◌+◌, ◌*◌, ◌≤◌, arith, refl, sym, subst, ◌⊎◌, ⊎_elim}
-use Rattle.std.specs.Prelude.{ℤ, pos, negsuc, ◌+ℤ◌, ◌-ℤ◌, ◌*ℤ◌, neg_ℤ, ◌≤ℤ◌, ◌<ℤ◌}
+use Rattle.std.specs.Prelude.{ℤ, pos, negsuc, ◌+ℤ◌, ◌*ℤ◌, ◌≤ℤ◌}
 use Rattle.std.specs.Int.{int_max, int_min}
 use Rattle.std.proofs.lemmas.Int.{ints, clamps}
 use lib.IntN.{*ℤ_comm}
-use Rattle.sat_model.specs.Sizes.{IsWithin}
 use Rattle.sat_model.specs.Intervals.{Between, Ends}
-use Rattle.sat_model.specs.Rounding.{IsTightRound}
 use Rattle.sat_model.specs.Products.{least_product, greatest_product, ProductsWithin}
-use Rattle.sat_model.proofs.ProductLemmas.{mul_mono, mul_anti, add_mul, mul_le_back, neg_mul, product_within, products_apart, larger}
+use Rattle.sat_model.proofs.ProductLemmas.{mul_mono, mul_anti, product_within, products_apart, larger}
 use Rattle.sat_model.proofs.IntervalLemmas.{low_member, high_member, member_within, members_within}
 
 -- ---- a product of members lies between the least and the greatest product of ends
@@ -118,40 +116,3 @@ products_spread m v n w a b c d e f =
     let k = λ (x y : ℤ) (p : Between a b x) (q : Between c d y). least_has (λ (z : ℤ). (x *ℤ y) ≤ℤ (z +ℤ pos (m * w + n * v))) a b c d
     (corner_apart m v n w a b c d x a y c e f p al q cl) (corner_apart m v n w a b c d x a y d e f p al q ch) (corner_apart m v n w a b c d x b y c e f p ah q cl) (corner_apart m v n w a b c d x b y d e f p ah q ch) in
     greatest_has (λ (z : ℤ). z ≤ℤ (least_product a b c d +ℤ pos (m * w + n * v))) a b c d (k a c al cl) (k a d al ch) (k b c ah cl) (k b d ah ch)
-
--- ---- ends in, ends out: of a rounded fraction with one denominator
-
-below_end : (n l d : ℤ) (k : ℕ) → pos 0 <ℤ d → neg_ℤ (pos k *ℤ d) ≤ℤ n → n ≤ℤ ((l +ℤ pos 2) *ℤ d) → neg_ℤ (pos (k + 2)) ≤ℤ l
-below_end n l d k p h t =
-    let x : neg_ℤ (pos k) ≤ℤ (l +ℤ pos 2) = mul_le_back (neg_ℤ (pos k)) (l +ℤ pos 2) d p (rw (neg_mul (pos k) d) (omega (arith, ints))) in
-    omega (arith, ints)
-
-above_end : (m h d : ℤ) (k : ℕ) → pos 0 <ℤ d → m ≤ℤ (pos k *ℤ d) → ((h -ℤ pos 2) *ℤ d) ≤ℤ m → h ≤ℤ pos (k + 2)
-above_end m h d k p i t =
-    let x : (h -ℤ pos 2) ≤ℤ pos k = mul_le_back (h -ℤ pos 2) (pos k) d p (omega (arith, ints)) in
-    omega (arith, ints)
-
-width_end : (n m l h d : ℤ) (j : ℕ) → pos 0 <ℤ d → m ≤ℤ (n +ℤ (pos j *ℤ d)) → n ≤ℤ ((l +ℤ pos 2) *ℤ d) → ((h -ℤ pos 2) *ℤ d) ≤ℤ m → (h -ℤ l) ≤ℤ pos (j + 4)
-width_end n m l h d j p i t u =
-    let x : (h -ℤ pos 2) ≤ℤ ((l +ℤ pos 2) +ℤ pos j) = mul_le_back (h -ℤ pos 2) ((l +ℤ pos 2) +ℤ pos j) d p (rw (add_mul (l +ℤ pos 2) (pos j) d) (omega (arith, ints))) in
-    omega (arith, ints)
-
--- numerators from n to m of amount at most k denominators, and j denominators apart
-pub rounded_ends : (k j : ℕ) (n m d l h : ℤ) → pos 0 <ℤ d → l ≤ℤ h → neg_ℤ (pos k *ℤ d) ≤ℤ n → m ≤ℤ (pos k *ℤ d) → m ≤ℤ (n +ℤ (pos j *ℤ d)) → IsTightRound n d m d l h → Ends (k + 2) (j + 4) l h
-rounded_ends k j n m d l h p o f g i t =
-    let x = below_end n l d k p f t.low in
-    let y = above_end m h d k p g t.high in
-    record { order = o; low = record { low = x; high = omega (arith, ints) }; high = record { low = omega (arith, ints); high = y }; width = width_end n m l h d j p i t.low t.high }
-
-ends_by : (k j : ℕ) (n m d l h : ℤ) (x y : ℕ) → pos 0 <ℤ d → l ≤ℤ h → pos x ≤ℤ (pos k *ℤ d) → pos y ≤ℤ (pos j *ℤ d) → IsWithin x n → IsWithin x m → m ≤ℤ (n +ℤ pos y) → IsTightRound n d m d l h → Ends (k + 2) (j + 4) l h
-ends_by k j n m d l h x y p o f g u v s t = rounded_ends k j n m d l h p o (omega (arith, ints, u.low)) (omega (arith, ints, v.high)) (omega (arith, ints)) t
-
--- A line of a chain: members of amounts m and n and widths v and w, multiplied and divided by d,
--- where the products are at most k denominators and their spread at most j.
-pub product_ends : (m v n w k j : ℕ) (a b c d den l h : ℤ) → Ends m v a b → Ends n w c d → pos 0 <ℤ den → pos (m * n) ≤ℤ (pos k *ℤ den) → pos (m * w + n * v) ≤ℤ (pos j *ℤ den) → l ≤ℤ h → IsTightRound (least_product a b c d) den (greatest_product a b c d) den l h → Ends (k + 2) (j + 4) l h
-product_ends m v n w k j a b c d den l h e f p x y o t =
-    let q = products_within m v n w a b c d e f in
-    let u : IsWithin (m * n) (least_product a b c d) = least_has (λ (z : ℤ). IsWithin (m * n) z) a b c d q.low_low q.low_high q.high_low q.high_high in
-    let g : IsWithin (m * n) (greatest_product a b c d) = greatest_has (λ (z : ℤ). IsWithin (m * n) z) a b c d q.low_low q.low_high q.high_low q.high_high in
-    let s = products_spread m v n w a b c d e f in
-    ends_by k j (least_product a b c d) (greatest_product a b c d) den l h (m * n) (m * w + n * v) p o x y u g s t

@@ -1,6 +1,6 @@
 use Rattle.std.proofs.Common.{arith}
 use Rattle.std.proofs.lemmas.Int.{ints}
-use Rattle.interval_trig.proofs.Rests.{cosine_from}
+use Rattle.interval_trig.proofs.Symmetry.{cosine_from}
 use Rattle.interval_trig.proofs.points.cosine_at.Goals as goal
 
 pub returns-clause-value : goal.returns-clause-value

@@ -1,6 +1,6 @@
 use Rattle.std.proofs.Common.{arith}
 use Rattle.std.proofs.lemmas.Int.{ints}
-use Rattle.interval_trig.proofs.Rests.{value_from_up, value_from_down}
+use Rattle.interval_trig.proofs.Symmetry.{value_from_up, value_from_down}
 use Rattle.interval_trig.proofs.points.sine_at.Goals as goal
 
 pub returns-then-r-ge0-clause-value : goal.returns-then-r-ge0-clause-value
