@@ -138,7 +138,8 @@ impl Shelf for MemoryShelf {
             return Err(Failed);
         }
         self.store.create_log();
-        self.marks.put(slot, Mark::at_start(FileId::Log, Phase::Writing));
+        self.marks
+            .put(slot, Mark::at_start(FileId::Log, Phase::Writing));
         Ok(())
     }
 
