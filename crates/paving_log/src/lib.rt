@@ -2,6 +2,8 @@
 #![tactic(auto)]
 
 mod log;
+mod read;
 
 pub use log::{Log, LogEpoch, LogError};
+pub use read::read_log;
 pub use sat_model::SatEntry;
