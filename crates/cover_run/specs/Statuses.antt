@@ -35,3 +35,8 @@ abbrev pub status_of_verdict : Result Verdict Notice → Status
 status_of_verdict (Ok (verdict.Yes boxes)) = status.Done
 status_of_verdict (Ok (verdict.No fault)) = status.No
 status_of_verdict (Err notice) = status_of notice
+
+-- how a run ends
+abbrev pub end_of : Result Status Notice → Status
+end_of (Ok s) = s
+end_of (Err notice) = status_of notice

@@ -6,8 +6,10 @@
 
 mod answer;
 mod file;
+mod judging;
 mod limits;
 mod notice;
+mod top;
 mod status;
 mod text;
 mod texts;
@@ -16,3 +18,4 @@ mod words;
 pub use limits::Limits;
 pub use paving_log_check::{Fault, Verdict, judge};
 pub use status::Status;
+pub use top::run;
