@@ -1,2 +1,2 @@
-pub mod Ending
 pub mod Saying
+pub mod Ending

@@ -5,6 +5,7 @@ use Rattle.outer_io.specs.Told.{Told}
 use Rattle.paving_log_check.specs.declared.verdict.Fault.{Fault}
 use Rattle.paving_log_check.specs.declared.verdict.Verdict.{Verdict}
 use Rattle.paving_log_check.specs.declared.verdict.Verdict.TheVariants.{Yes, No}
+use Rattle.paving_log_check.specs.Answers.{IfYes, IfNo}
 use Rattle.sat_model.specs.Cover.{RowCover, kept_boxes}
 use Rattle.sat_model.specs.Verdicts.{Judged, FirstFault}
 use Rattle.cover_run.specs.Answers.{HasFile, SpellLog, SaysYes, SaysNo}
@@ -34,17 +35,15 @@ yes-line bytes boxes right = (right.0, right.1, (right.2.0, right.2.1, ap yes_te
 no-line : (bytes : List ℕ) (fault : Fault) → HasFault bytes fault → SaysNo bytes (verdict_text (No fault))
 no-line bytes fault first = (first.0, first.1, (first.2.0, (fault.line, fault.number, first.2.1, refl)))
 
-pub says_yes : (bytes : List ℕ) (v : Verdict) → ((boxes : ℕ) → v ≡ Yes boxes → IsRight bytes boxes)
-    → status_of_verdict (Ok v) ≡ status.Done → SaysYes bytes (verdict_text v)
-says_yes bytes (Yes boxes) right is = yes-line bytes boxes (right boxes refl)
+pub says_yes : (bytes : List ℕ) (v : Verdict) → IfYes v (IsRight bytes) → status_of_verdict (Ok v) ≡ status.Done → SaysYes bytes (verdict_text v)
+says_yes bytes (Yes boxes) right is = yes-line bytes boxes right
 says_yes bytes (No fault) right is = cc
 
-pub says_no : (bytes : List ℕ) (v : Verdict) → ((fault : Fault) → v ≡ No fault → HasFault bytes fault)
-    → status_of_verdict (Ok v) ≡ status.No → SaysNo bytes (verdict_text v)
+pub says_no : (bytes : List ℕ) (v : Verdict) → IfNo v (HasFault bytes) → status_of_verdict (Ok v) ≡ status.No → SaysNo bytes (verdict_text v)
 says_no bytes (Yes boxes) first is = cc
-says_no bytes (No fault) first is = no-line bytes fault (first fault refl)
+says_no bytes (No fault) first is = no-line bytes fault first
 
-pub says_either : (bytes : List ℕ) (v : Verdict) → ((boxes : ℕ) → v ≡ Yes boxes → IsRight bytes boxes)
-    → ((fault : Fault) → v ≡ No fault → HasFault bytes fault) → SaysYes bytes (verdict_text v) ⊎ SaysNo bytes (verdict_text v)
-says_either bytes (Yes boxes) right first = inl (yes-line bytes boxes (right boxes refl))
-says_either bytes (No fault) right first = inr (no-line bytes fault (first fault refl))
+pub says_either : (bytes : List ℕ) (v : Verdict) → IfYes v (IsRight bytes) → IfNo v (HasFault bytes)
+    → SaysYes bytes (verdict_text v) ⊎ SaysNo bytes (verdict_text v)
+says_either bytes (Yes boxes) right first = inl (yes-line bytes boxes right)
+says_either bytes (No fault) right first = inr (no-line bytes fault first)

@@ -3,6 +3,11 @@ use Rattle.std.specs.Prelude.{◌≡◌, ◌≢◌, ◌≤◌, ◌<◌, ◌⊎�
 use Rattle.std.specs.Io.KnownBytes.{append_known}
 use Rattle.std.specs.FinMap as map
 use Rattle.outer_io.specs.Causes.{Rose}
+use Rattle.outer_io.specs.Slots.{put}
+use Rattle.outer_io.specs.declared.shelf.Phase.{Phase}
+use Rattle.outer_io.specs.declared.shelf.Phase.TheVariants.{Writing}
+use Rattle.outer_io.specs.declared.slots.Slot.{Slot}
+use Rattle.outer_io.specs.declared.slots.Slots.{Slots}
 use Rattle.outer_io.specs.Taken.{TakenBy}
 use Rattle.outer_io.specs.Told.{Told}
 use Rattle.paving_log.specs.Faults.{Refuses}
@@ -54,6 +59,14 @@ NamesFault bytes (notice.BadLog line kind) = SpellNoLog bytes × Refuses bytes (
 NamesFault bytes (notice.NotBuilt line) = SpellNoLog bytes × Refuses bytes (error.NotBuilt line)
 NamesFault bytes _ = ⊥
 
+-- the notice isn't one of a refused file
+abbrev pub IsPlain : Notice → Type 0
+IsPlain notice.Usage = Unit {0}
+IsPlain notice.LogFault = Unit {0}
+IsPlain notice.OutFault = Unit {0}
+IsPlain notice.NoMemory = Unit {0}
+IsPlain _ = ⊥
+
 -- the notice says why a file with these bytes is refused
 abbrev pub Refused : ℕ → List ℕ → Notice → Type 0
 Refused limit bytes (notice.TooLong most) = (most ≡ limit) × (limit < length bytes)
@@ -75,6 +88,12 @@ Ends limit bytes s = ((limit < length bytes) × (s ≡ status.Refused)) ⊎ ((le
 -- a fault or want of memory ended the run
 abbrev pub IsBrokenOff : Status → Type 0
 IsBrokenOff s = (s ≡ status.ReadFault) ⊎ ((s ≡ status.WriteFault) ⊎ (s ≡ status.NoMemory))
+
+-- ---- the slots
+
+-- the slot alone may be open for another use, and that isn't writing
+abbrev pub OpensNoFile : Slot → Slots Phase → Slots Phase → Type 0
+OpensNoFile slot old new = (phase : Phase) × (phase ≢ Writing) × (new ≡ put old slot phase)
 
 -- ---- the sinks
 

@@ -3,7 +3,7 @@
 ghost use Rattle.std.specs.Prelude.{◌≡◌, ◌≤◌, ◌<◌, ℕ, List, Option, None, true, false, length, IfOk, IsErrOf};
 ghost use Rattle.outer_io.specs.Causes.{Rose};
 ghost use Rattle.outer_io.specs.Told.{is_missing, files_of, written_of};
-ghost use Rattle.cover_run.specs.Answers.{HasFile};
+ghost use Rattle.cover_run.specs.Answers.{HasFile, OpensNoFile};
 
 use outer_io::{ReadAll, Shelf, Slot, read_all};
 use std::alloc::Global;
@@ -29,6 +29,7 @@ pub fn read_file<H: Shelf>(
     // Nothing is written.
     ensures files { files_of (H.told shelf.new) ≡ files_of (H.told shelf.old) }
     ensures written { written_of (H.told shelf.new) ≡ written_of (H.told shelf.old) }
+    ensures phases { OpensNoFile slot (H.phases shelf.old) (H.phases shelf.new) }
     ensures write_faults { H.write_faults shelf.new ≡ H.write_faults shelf.old }
 {
     shelf.begin(name, slot)?;

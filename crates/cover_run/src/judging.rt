@@ -2,12 +2,13 @@
 
 ghost use Rattle.std.specs.Prelude.{◌≡◌, ◌≢◌, ◌≤◌, ◌⊎◌, ℕ, List, Option, Ok, Err, true, false, length};
 ghost use Rattle.std.specs.Io.KnownBytes.{append_known};
-ghost use Rattle.cover_run.specs.Answers.{HasFile, IsToldFile, SpellLog, SaysYes, SaysNo, Refused, Ends, IsBrokenOff};
+ghost use Rattle.cover_run.specs.Answers.{HasFile, IsToldFile, SpellLog, SaysYes, SaysNo, Refused, Ends, IsBrokenOff, OpensNoFile};
 ghost use Rattle.cover_run.specs.Statuses.{end_of, status_of};
 ghost use Rattle.cover_run.specs.Texts.{yes_text, no_text};
 ghost use Rattle.cover_run.specs.declared.notice.Notice.{Notice};
 ghost use Rattle.cover_run.specs.declared.status.Status.{Status};
 ghost use Rattle.outer_io.specs.Causes.{Rose};
+ghost use Rattle.outer_io.specs.declared.slots.Slot.{Slot};
 ghost use Rattle.outer_io.specs.Taken.{TakenBy};
 ghost use Rattle.outer_io.specs.Told.{is_missing, files_of, written_of};
 
@@ -55,6 +56,7 @@ pub fn judge_log<H: Shelf, O: Sink>(
     ensures silent { (notice : Notice) → result ≡ Err notice → notice ≢ Notice.OutFault → O.taken out.new ≡ O.taken out.old }
     ensures files { files_of (H.told shelf.new) ≡ files_of (H.told shelf.old) }
     ensures written { written_of (H.told shelf.new) ≡ written_of (H.told shelf.old) }
+    ensures phases { OpensNoFile Slot.Log (H.phases shelf.old) (H.phases shelf.new) }
     ensures write_faults { H.write_faults shelf.new ≡ H.write_faults shelf.old }
 {
     let bytes = read_file(alloc, shelf, name, Slot::Log, limit)?;

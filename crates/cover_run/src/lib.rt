@@ -19,3 +19,6 @@ pub use limits::Limits;
 pub use paving_log_check::{Fault, Verdict, judge};
 pub use status::Status;
 pub use top::run;
+
+#[cfg(test)]
+mod tests;

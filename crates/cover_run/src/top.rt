@@ -2,13 +2,14 @@
 
 ghost use Rattle.std.specs.Prelude.{◌≡◌, ◌≢◌, ◌≤◌, ◌⊎◌, ◌↔◌, ℕ, List, Option, None, Some, IfSome, true, false, length};
 ghost use Rattle.std.specs.Io.KnownBytes.{append_known};
-ghost use Rattle.cover_run.specs.Answers.{HasFile, IsToldFile, SaysYes, SaysNo, Refused, Ends, IsBrokenOff, Gets};
+ghost use Rattle.cover_run.specs.Answers.{HasFile, IsToldFile, SaysYes, SaysNo, Refused, Ends, IsBrokenOff, IsPlain, OpensNoFile, Gets};
 ghost use Rattle.cover_run.specs.Statuses.{status_of};
 ghost use Rattle.cover_run.specs.Texts.{notice_text};
 ghost use Rattle.cover_run.specs.Words.{log_of, texts};
 ghost use Rattle.cover_run.specs.declared.notice.Notice.{Notice};
 ghost use Rattle.cover_run.specs.declared.status.Status.{Status};
 ghost use Rattle.outer_io.specs.Causes.{Rose};
+ghost use Rattle.outer_io.specs.declared.slots.Slot.{Slot};
 ghost use Rattle.outer_io.specs.Taken.{TakenBy};
 ghost use Rattle.outer_io.specs.Told.{is_missing, files_of, written_of};
 
@@ -58,11 +59,15 @@ pub fn run<H: Shelf, O: Sink, E: Sink>(
     ensures no_write_fault { O.reliable out.new → result ≢ Status.WriteFault }
 
     // What is written.
+    ensures notices { (notice : Notice) → IsPlain notice → result ≡ status_of notice
+        → Gets (E.taken err.old) (E.taken err.new) (E.faults err.old) (E.faults err.new) (notice_text notice) }
+    ensures quiet { (result ≡ Status.Done) ⊎ (result ≡ Status.No) → E.taken err.new ≡ E.taken err.old }
     ensures silent { result ≢ Status.Done → result ≢ Status.No → result ≢ Status.WriteFault → O.taken out.new ≡ O.taken out.old }
     ensures prefix { result ≡ Status.WriteFault → IfSome (log_of (texts words.now)) (λ name. HasFile (H.told shelf.old) name (λ bytes.
         (line : List ℕ) × (SaysYes bytes line ⊎ SaysNo bytes line) × TakenBy (O.taken out.old) (O.taken out.new) line)) }
     ensures files { files_of (H.told shelf.new) ≡ files_of (H.told shelf.old) }
     ensures written { written_of (H.told shelf.new) ≡ written_of (H.told shelf.old) }
+    ensures phases { OpensNoFile Slot.Log (H.phases shelf.old) (H.phases shelf.new) ⊎ (H.phases shelf.new ≡ H.phases shelf.old) }
     ensures write_faults { H.write_faults shelf.new ≡ H.write_faults shelf.old }
 {
     let Some(name) = log_word(words) else {

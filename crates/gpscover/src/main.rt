@@ -2,7 +2,8 @@
 #![tactic(auto)]
 
 use cover_run::{Limits, Status, run};
-use outer_io::{FileShelf, StreamSink};
+use outer_io::{FileShelf, StreamSink, write_sink};
+use std::io::ErrorKind;
 use std::process::ExitCode;
 use std::{env, io};
 
@@ -16,13 +17,17 @@ fn main(rt: HostRuntime) -> ExitCode {
     let mut out = StreamSink::out(rt.stdout());
     let mut err = StreamSink::err(rt.stderr());
     let alloc = rt.alloc();
-    let status = match words(&rt) {
-        Ok(words) => {
-            let mut shelf = FileShelf::make(rt);
-            run(alloc, &LIMITS, &words, &mut shelf, &mut out, &mut err)
+    let words = match words(&rt) {
+        Ok(words) => words,
+        Err(error) if error.kind() == ErrorKind::OutOfMemory => {
+            let _ = write_sink(&mut err, b"no memory\n");
+            return ExitCode::from(Status::NoMemory as u8);
         }
-        Err(_) => Status::Usage,
+        // No command has a word that isn't UTF-8.
+        Err(_) => Vec::new(alloc),
     };
+    let mut shelf = FileShelf::make(rt);
+    let status = run(alloc, &LIMITS, &words, &mut shelf, &mut out, &mut err);
     ExitCode::from(status as u8)
 }
 

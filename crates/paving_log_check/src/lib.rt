@@ -1,6 +1,8 @@
 //! Stand-in for the judge.
 #![tactic(auto)]
 
+mod logs;
 mod verdict;
 
-pub use verdict::{Fault, Verdict, judge};
+pub use logs::judge;
+pub use verdict::{Fault, Verdict};

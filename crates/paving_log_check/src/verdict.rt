@@ -1,14 +1,6 @@
 //! What the judge says of a log.
 
-ghost use Rattle.std.specs.Prelude.{◌≡◌, ◌≤◌, ℕ, Ok};
-ghost use Rattle.paving_log.specs.Values.{log_value};
-ghost use Rattle.sat_model.specs.Cover.{RowCover, kept_boxes};
-ghost use Rattle.sat_model.specs.Logs.{IsNumbered};
-ghost use Rattle.sat_model.specs.Verdicts.{Judged, FirstFault};
-
-use paving_log::Log;
-use sat_model::{NoMemory, Span};
-use std::alloc::Global;
+use sat_model::Span;
 
 /// A log is right, with so many boxes closed inside or at the edge, or has a fault.
 #[derive(Clone, Copy, Debug, PartialEq, Eq)]
@@ -25,16 +17,4 @@ pub struct Fault {
     pub line: u32,
     pub theirs: Span,
     pub ours: Span,
-}
-
-/// Stand-in.
-pub fn judge(_alloc: Global, log: &Log) -> Result<Verdict, NoMemory>
-    requires { IsNumbered (log_value log.now) }
-    ensures judged { (boxes : ℕ) → result ≡ Ok (Verdict.Yes boxes) → Judged (log_value log.now) }
-    ensures cover { (boxes : ℕ) → result ≡ Ok (Verdict.Yes boxes) → RowCover (log_value log.now) }
-    ensures boxes { (boxes : ℕ) → result ≡ Ok (Verdict.Yes boxes) → boxes ≡ kept_boxes (log_value log.now) }
-    ensures first { (fault : Fault) → result ≡ Ok (Verdict.No fault) → FirstFault (log_value log.now) fault.line fault.number }
-    ensures not_judged { (fault : Fault) → result ≡ Ok (Verdict.No fault) → Judged (log_value log.now) → ⊥ }
-{
-    Err(NoMemory)
 }
