@@ -65,7 +65,7 @@ fn expect(
     let limits = Limits {
         file: 0,
         settings: 0,
-        log: case.limit,
+        log: case.limit.min(4_000_000_000),
     };
     let mut shelf = shelf(alloc, case)?;
     let mut out = MemorySink::make(alloc, case.room, vec![in alloc; case.out_fails]?)?;
