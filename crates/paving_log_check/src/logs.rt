@@ -1,19 +1,38 @@
-//! Stand-in for the verdict on a whole log.
+//! The verdict on a whole log.
 
-ghost use Rattle.std.specs.Prelude.{◌≡◌, IfOk};
+ghost use Rattle.std.specs.Prelude.{◌≡◌, ◌+◌, ◌^◌, ◌<◌, IfOk};
 ghost use Rattle.sat_model.specs.Cover.{RowCover, kept_boxes};
 ghost use Rattle.sat_model.specs.Logs.{IsNumbered};
 ghost use Rattle.sat_model.specs.Verdicts.{Judged, FirstFault};
 ghost use Rattle.paving_log.specs.Values.{log_value};
-ghost use Rattle.paving_log_check.specs.Answers.{IfYes, IfNo, ShowsNoSpans};
+ghost use Rattle.paving_log_check.specs.Answers.{IfYes, IfNo, IsOnlyFault, ShowsNoSpans};
 
-use crate::verdict::Verdict;
+use crate::blocks::{block_fault, kept_boxes};
+use crate::verdict::{Fault, LineFault, Verdict};
 use paving_log::Log;
-use sat_model::NoMemory;
+use sat_model::{NoMemory, Span};
 use std::alloc::Global;
 
-/// Stand-in.
-pub fn judge(_alloc: Global, log: &Log) -> Result<Verdict, NoMemory>
+/// The fault of the line so far behind this one.
+fn fault_behind(line: u32, found: LineFault) -> Fault
+    requires { line + found.offset < 2 ^ 32 }
+    ensures number { result.number ≡ found.number }
+    ensures line { result.line ≡ line + found.offset }
+    ensures no_spans { ShowsNoSpans result }
+{
+    Fault {
+        number: found.number,
+        line: line + found.offset as u32,
+        theirs: Span { lo: 0, hi: 0 },
+        ours: Span { lo: 0, hi: 0 },
+    }
+}
+
+/// Judges a log with its rows taken as given: yes with the number of boxes closed inside or at the
+/// edge, or no with the first line that fails a test. A yes means that in each paved epoch the
+/// pieces partition the root, the inside and edge boxes cover what all but at most `outliers` rows
+/// may fit, and all but at most as many rows surely fit each inside box at its clock offset.
+pub fn judge(alloc: Global, log: &Log) -> Result<Verdict, NoMemory>
     requires numbered { IsNumbered (log_value log.now) }
 
     ensures judged { IfOk result (λ verdict. IfYes verdict (λ boxes. Judged (log_value log.now))) }
@@ -21,8 +40,19 @@ pub fn judge(_alloc: Global, log: &Log) -> Result<Verdict, NoMemory>
     ensures boxes { IfOk result (λ verdict. IfYes verdict (λ boxes. boxes ≡ kept_boxes (log_value log.now))) }
 
     ensures first_fault { IfOk result (λ verdict. IfNo verdict (λ fault. FirstFault (log_value log.now) fault.line fault.number)) }
+    ensures only_fault { IfOk result (λ verdict. IfNo verdict (IsOnlyFault (log_value log.now))) }
     ensures refused { IfOk result (λ verdict. IfNo verdict (λ fault. Judged (log_value log.now) → ⊥)) }
     ensures no_spans { IfOk result (λ verdict. IfNo verdict ShowsNoSpans) }
 {
-    Err(NoMemory)
+    let mut boxes: u64 = 0;
+    let mut before: Option<u32> = None;
+    for epoch in &log.epochs {
+        match block_fault(alloc, &log.rules, before, epoch)? {
+            Some(found) => return Ok(Verdict::No(fault_behind(epoch.line, found))),
+            None => {}
+        }
+        boxes += kept_boxes(epoch);
+        before = Some(epoch.index);
+    }
+    Ok(Verdict::Yes { boxes })
 }

@@ -2,3 +2,14 @@ pub mod RootLemmas
 pub mod AmountLemmas
 pub mod ClockLemmas
 pub mod LengthLemmas
+pub mod ProductLemmas
+pub mod IntervalLemmas
+pub mod RoundingLemmas
+pub mod SpreadLemmas
+pub mod SquareLemmas
+pub mod FittingLemmas
+pub mod FoldLemmas
+pub mod CoverLemmas
+pub mod VerdictLemmas
+pub mod KeptLemmas
+pub mod FaultLemmas

@@ -10,3 +10,11 @@ pub mod Fold
 pub mod Logs
 pub mod Verdicts
 pub mod Cover
+pub mod Intervals
+pub mod Rounding
+pub mod Products
+pub mod Squares
+pub mod Angles
+pub mod Taylor
+pub mod Sines
+pub mod Kepler

@@ -1,0 +1,7 @@
+use Rattle.std.proofs.Common.{◌≡◌, ◌+◌, drop}
+use Rattle.std.specs.List.{prefix_len}
+use Rattle.exact_decimal.specs.NumberFields.{is_blank}
+use Rattle.exact_decimal.proofs.parts.blanks_in_front.Given as goal
+
+abbrev pub invariant-loop-count : goal.invariant-loop-count
+invariant-loop-count l = prefix_len is_blank l.text ≡ l.count + prefix_len is_blank (drop l.count l.text)

@@ -1,0 +1,5 @@
+pub mod NumberFields
+pub mod Parts
+pub mod Reading
+pub mod Signing
+pub mod Units

@@ -1,0 +1,16 @@
+//! The numbers of RINEX fields as exact decimals, and their floors and ceilings in whole units.
+#![tactic(auto)]
+
+mod convert;
+mod decimal;
+mod parts;
+mod read;
+mod unit;
+
+pub use convert::to_unit;
+pub use decimal::{BadNumber, Decimal};
+pub use read::{read_exp, read_fixed};
+pub use unit::{Range, Unit};
+
+#[cfg(test)]
+mod tests;

@@ -1,0 +1,13 @@
+use Rattle.std.proofs.Common.{arith}
+use Rattle.std.specs.Prelude.{pos}
+use Rattle.std.proofs.lemmas.Int.{ints}
+use Rattle.sat_model.specs.Roots.{root}
+use Rattle.sat_model.proofs.RootLemmas.{root_from}
+use Rattle.sat_model.proofs.RoundingLemmas.{grain_floor_one, grain_ceil_one}
+use Rattle.fix_interval.proofs.exact_interval.ExactInterval.root.Goals as goal
+
+pub returns-clause-low : goal.returns-clause-low
+returns-clause-low c = omega (arith, ints, root_from _ _ c.root_u128.ensures, grain_floor_one (pos (root c.args.a.lo)))
+
+pub returns-clause-high : goal.returns-clause-high
+returns-clause-high c = omega (arith, ints, root_from _ _ c.root_u128-2.ensures, grain_ceil_one (pos (root c.args.a.hi)))

@@ -1,0 +1,20 @@
+//! Intervals of whole numbers, rounded outward to the multiples of a grain: the trait `Interval`,
+//! `Exact` whose grain is 1, and products and quotients of `Exact` that hold every number within
+//! one unit of the exact result.
+#![tactic(auto)]
+
+mod distance;
+mod ends;
+mod exact;
+mod exact_interval;
+mod interval;
+mod place;
+
+pub use distance::squared_distance;
+pub use exact::Exact;
+pub use exact_interval::ExactArea;
+pub use interval::Interval;
+pub use place::Place;
+
+#[cfg(test)]
+mod tests;

@@ -1,0 +1,92 @@
+use super::*;
+use sat_model::Wide;
+
+#[test]
+fn meets_and_hulls(rt: HostRuntime) {
+    let five = Exact { lo: 0, hi: 5 }.meet(Exact { lo: 5, hi: 9 });
+    assert!(rt; five == Some(Exact { lo: 5, hi: 5 }), "both hold 5");
+    let none = Exact { lo: 0, hi: 4 }.meet(Exact { lo: 5, hi: 9 });
+    assert!(rt; none == None, "no number in both");
+    let hull = Exact { lo: 7, hi: 9 }.hull(Exact { lo: -2, hi: 8 });
+    assert!(rt; hull == Exact { lo: -2, hi: 9 }, "the hull");
+}
+
+#[test]
+fn squares_and_their_roots(rt: HostRuntime) {
+    for (lo, hi, least, greatest) in [(2, 3, 4, 9), (-3, 2, 0, 9), (-5, -4, 16, 25)] {
+        let x: Exact = Interval::of(lo, hi);
+        let area = x.square();
+        assert_eq!(rt; area.lo, least, "least square from {lo}");
+        assert_eq!(rt; area.hi, greatest, "greatest square from {lo}");
+    }
+    let x: Exact = Interval::of(2, 3);
+    assert!(rt;
+        <Exact as Interval>::root(x.square()) == Exact { lo: 2, hi: 3 },
+        "the roots"
+    );
+    let widest = ExactArea {
+        lo: 0,
+        hi: u128::MAX,
+    };
+    assert_eq!(rt;
+        <Exact as Interval>::root(widest).hi,
+        18_446_744_073_709_551_615,
+        "any area has a root"
+    );
+}
+
+#[test]
+fn differences_of_areas(rt: HostRuntime) {
+    let a = ExactArea { lo: 3, hi: 9 };
+    let b = ExactArea { lo: 5, hi: 6 };
+    assert!(rt;
+        <Exact as Interval>::area_less(a, b) == Some(ExactArea { lo: 0, hi: 4 }),
+        "from 0"
+    );
+    let c = ExactArea { lo: 10, hi: 11 };
+    assert!(rt;
+        <Exact as Interval>::area_less(a, c) == None,
+        "all differences are negative"
+    );
+}
+
+#[test]
+fn products_and_quotients(rt: HostRuntime) {
+    // 7 * 3 / 2 is 10.5.
+    let seven = Exact { lo: 7, hi: 7 };
+    let p = seven.times_over(Exact { lo: 3, hi: 3 }, 2);
+    assert!(rt;
+        p.lo <= 10 && 11 <= p.hi && p.hi <= p.lo.saturating_add(4),
+        "10 and 11"
+    );
+    // 7 * 3 / 2 again, and -7 * 3 / 2.
+    let q = seven.over(Exact { lo: 2, hi: 2 }, 3);
+    assert!(rt;
+        q.lo <= 10 && 11 <= q.hi && q.hi <= q.lo.saturating_add(4),
+        "10 and 11"
+    );
+    let n = Exact { lo: -7, hi: -7 }.over(Exact { lo: 2, hi: 2 }, 3);
+    assert!(rt;
+        n.lo <= -11 && -10 <= n.hi && n.hi <= n.lo.saturating_add(4),
+        "-11 and -10"
+    );
+}
+
+#[test]
+fn wide_ends_stay(rt: HostRuntime) {
+    let x = Exact::of_wide(Wide { lo: -1, hi: 1 });
+    let y = x.plus(x).minus(x);
+    assert!(rt; y.wide() == Wide { lo: -3, hi: 3 }, "sums and differences");
+    let place = Place { x, y, z: x };
+    assert!(rt; place == place, "a place");
+}
+
+#[test]
+fn distances(rt: HostRuntime) {
+    let x: Exact = Interval::of(2, 3);
+    let y: Exact = Interval::of(-6, -3);
+    let z: Exact = Interval::of(-1, 6);
+    let square = squared_distance(x, y, z);
+    assert_eq!(rt; square.lo, 13, "4 + 9 + 0");
+    assert_eq!(rt; square.hi, 81, "9 + 36 + 36");
+}

@@ -1,0 +1,12 @@
+pub mod NestedSums
+pub mod HornerSteps
+pub mod PointValues
+pub mod Monotone
+pub mod Rests
+pub mod WholeSums
+pub mod SumGaps
+pub mod QuarterLemmas
+pub mod Smoothness
+pub mod Polynomials
+pub mod SquareSums
+pub mod CircleLaw

@@ -1,0 +1,83 @@
+//! The Taylor sums in nested form (Horner's scheme), in whole numbers of 10^-18.
+
+ghost use Rattle.std.specs.Prelude.{◌≡◌, ℕ, ◌+◌, ◌-◌, ◌*◌, ◌^◌, ◌/◌, ◌<◌, ◌≤◌, ℤ, pos, ◌≤ℤ◌, ◌+ℤ◌, ◌-ℤ◌, ◌*ℤ◌, neg_ℤ, nat_abs};
+ghost use Rattle.sat_model.specs.Angles.{unit};
+ghost use Rattle.interval_trig.specs.NestedSums.{greatest_rest, Holds, HoldsSquare, plain_num, nested_den, sine_15, cosine_16};
+
+/// One, in units of 10^-18.
+pub(crate) const FINE: u128 = 1_000_000_000_000_000_000;
+
+/// A fraction between two ends, in units of 10^-18.
+#[derive(Clone, Copy, Debug, Drop)]
+pub(crate) struct Part {
+    pub(crate) lo: u128,
+    pub(crate) hi: u128,
+    ghost ordered: { lo ≤ hi },
+}
+
+// 1 - y/d * part.
+fn step(part: Part, y: Part, d: u128) -> Part
+    requires part_size { part.hi ≤ 10 ^ 18 }
+    requires y_size { y.hi ≤ 10 ^ 18 }
+    requires d_low { 2 ≤ d }
+    requires d_high { d ≤ 306 }
+    ensures holds { (square num den : ℕ) → HoldsSquare y.lo y.hi square → Holds part.lo part.hi num den → Holds result.lo result.hi (d * (unit * unit) * den - square * num) (d * (unit * unit) * den) }
+    ensures size { result.hi ≤ 10 ^ 18 }
+    ensures width { y.hi ≤ 62 * 10 ^ 16 → y.hi ≤ y.lo + 5 → 100 * d * (result.hi - result.lo) ≤ 62 * (part.hi - part.lo) + 200 * d + 500 }
+{
+    let most = y.hi * part.hi / (d * FINE) + 1;
+    let least = y.lo * part.lo / (d * FINE);
+    Part {
+        lo: FINE - most,
+        hi: FINE - least,
+    }
+}
+
+// The nested sum of the sine, of degree 15.
+pub(crate) fn sine_part(y: Part) -> Part
+    requires y_size { y.hi ≤ 10 ^ 18 }
+    ensures holds { (square : ℕ) → HoldsSquare y.lo y.hi square → Holds result.lo result.hi (plain_num square sine_15) (nested_den sine_15) }
+    ensures size { result.hi ≤ 10 ^ 18 }
+    ensures width { y.hi ≤ 62 * 10 ^ 16 → y.hi ≤ y.lo + 5 → result.hi ≤ result.lo + 4 }
+{
+    let one = Part { lo: FINE, hi: FINE };
+    let p15 = step(one, y, 210);
+    let p13 = step(p15, y, 156);
+    let p11 = step(p13, y, 110);
+    let p9 = step(p11, y, 72);
+    let p7 = step(p9, y, 42);
+    let p5 = step(p7, y, 20);
+    step(p5, y, 6)
+}
+
+// The nested sum of the cosine, of degree 16.
+pub(crate) fn cosine_part(y: Part) -> Part
+    requires y_size { y.hi ≤ 10 ^ 18 }
+    ensures holds { (square : ℕ) → HoldsSquare y.lo y.hi square → Holds result.lo result.hi (plain_num square cosine_16) (nested_den cosine_16) }
+    ensures size { result.hi ≤ 10 ^ 18 }
+    ensures width { y.hi ≤ 62 * 10 ^ 16 → y.hi ≤ y.lo + 5 → result.hi ≤ result.lo + 5 }
+{
+    let one = Part { lo: FINE, hi: FINE };
+    let p16 = step(one, y, 240);
+    let p14 = step(p16, y, 182);
+    let p12 = step(p14, y, 132);
+    let p10 = step(p12, y, 90);
+    let p8 = step(p10, y, 56);
+    let p6 = step(p8, y, 30);
+    let p4 = step(p6, y, 12);
+    step(p4, y, 2)
+}
+
+// The square of a rest's amount.
+pub(crate) fn square_of(a: u128) -> Part
+    requires size { a ≤ greatest_rest }
+    ensures holds { HoldsSquare result.lo result.hi (a * a) }
+    ensures size { result.hi ≤ 62 * 10 ^ 16 }
+    ensures width { result.hi ≤ result.lo + 5 }
+{
+    let square = a * a / 100_000_000_000_000;
+    Part {
+        lo: square,
+        hi: square + 1,
+    }
+}

@@ -1,0 +1,49 @@
+//! The quarter of a turn that is nearest to an angle, and what is left.
+
+ghost use Rattle.std.specs.Prelude.{◌≡◌, ℕ, ◌+◌, ◌-◌, ◌*◌, ◌^◌, ◌/◌, ◌<◌, ◌≤◌, ℤ, pos, ◌≤ℤ◌, ◌+ℤ◌, ◌-ℤ◌, ◌*ℤ◌, neg_ℤ, nat_abs};
+ghost use Rattle.sat_model.specs.Sizes.{IsWithin};
+ghost use Rattle.sat_model.specs.Angles.{unit, quarter, quarter_turn};
+ghost use Rattle.sat_model.specs.Rounding.{IsFloor};
+ghost use Rattle.sat_model.specs.Sines.{modulo_4};
+ghost use Rattle.interval_trig.specs.NestedSums.{greatest_rest};
+
+// In units of 10^-20 rad.
+const QUARTER_TURN: i128 = 157_079_632_679_489_661_923;
+
+// The number of the quarter round x.
+pub(crate) fn quarter_of(x: i128) -> i128
+    requires { IsWithin (64 * unit) x }
+    ensures value { result ≡ quarter x }
+    ensures size { IsWithin 41 result }
+{
+    (20000 * x + QUARTER_TURN).div_euclid(2 * QUARTER_TURN)
+}
+
+// What is left of x without its quarters, in units of 10^-20.
+pub(crate) fn left_of(x: i128, k: i128) -> i128
+    requires x_size { IsWithin (64 * unit) x }
+    requires k_size { IsWithin 41 k }
+    requires quarter { k ≡ quarter x }
+    ensures value { result ≡ (pos 10000 *ℤ x) -ℤ (k *ℤ pos quarter_turn) }
+    ensures size { IsWithin 78539816339744830962 result }
+{
+    10000 * x - k * QUARTER_TURN
+}
+
+// What is left in whole units, rounded down.
+pub(crate) fn whole_of(left: i128) -> i128
+    requires { IsWithin 78539816339744830962 left }
+    ensures floor { IsFloor left (pos 10000) result }
+    ensures size { IsWithin greatest_rest result }
+{
+    left.div_euclid(10000)
+}
+
+// A quarter's number modulo 4.
+pub(crate) fn turn_of(k: i128) -> u8
+    requires { IsWithin 42 k }
+    ensures value { result ≡ modulo_4 k }
+    ensures size { result < 4 }
+{
+    k.rem_euclid(4) as u8
+}

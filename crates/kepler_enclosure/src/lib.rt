@@ -1,0 +1,11 @@
+//! Kepler's equation over intervals: every eccentric anomaly of every mean anomaly and
+//! eccentricity is held.
+#![tactic(auto)]
+
+mod anomalies;
+#[cfg(test)]
+mod tests;
+#[cfg(test)]
+mod vectors;
+
+pub use anomalies::{GREATEST_ECCENTRICITY, eccentric};

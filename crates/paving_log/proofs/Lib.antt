@@ -1,0 +1,13 @@
+pub mod WordLemmas
+pub mod NumberLemmas
+pub mod TimeLemmas
+pub mod JoinedLemmas
+pub mod LineLemmas
+pub mod BlockLemmas
+pub mod FitLemmas
+pub mod NumberingLemmas
+pub mod SpellingLemmas
+pub mod FaultLemmas
+pub mod LeadLemmas
+pub mod ValueLemmas
+pub mod LogLemmas

@@ -1,0 +1,19 @@
+use Rattle.std.proofs.Common.{refl, [], ◌∷◌}
+use Rattle.std.proofs.lemmas.Result.{err_from_is_err_and}
+use Rattle.paving_log.specs.declared.line.Place.TheVariants as place
+use Rattle.paving_log.specs.declared.line.LogLine.TheVariants as line
+use Rattle.paving_log.proofs.LineLemmas.{refuses_here, refuses_behind}
+use Rattle.paving_log.proofs.BlockLemmas.{behind_first, takes_one, leads_to}
+use Rattle.paving_log.proofs.read.head.Goals as goal
+
+pub returns-in_err-lines-clause-refused : goal.returns-in_err-lines-clause-refused
+returns-in_err-lines-clause-refused c =
+    let p = err_from_is_err_and c.from_residual.result c.from_residual.ensures.1 in
+    rw (p.1, p.2) (refuses_here place.First c.args.lines _ c.in_err-lines.ensures.fails)
+
+pub returns-in_err-line-clause-refused : goal.returns-in_err-line-clause-refused
+returns-in_err-line-clause-refused c =
+    let p = err_from_is_err_and c.from_residual-in_err-line.result c.from_residual-in_err-line.ensures.1 in
+    let first = behind_first c.in_ok-lines.field-0-0 c.in_ok-lines.field-0-1 (leads_to _ c.args.lines _ _ c.in_ok-lines.lines c.in_ok-lines.ensures.taken) in
+    let taken = takes_one _ _ _ _ line.Version _ place.Second _ refl first.0 first.1 c.in_ok-lines.ensures.taken in
+    rw (p.1, p.2) (refuses_behind place.First place.Second c.args.lines c.in_ok-lines.lines (line.Version ∷ []) _ taken (refuses_here place.Second c.in_ok-lines.lines _ c.in_err-line.ensures.fails))

@@ -1,0 +1,43 @@
+-- The words of a satellite's line and of a root behind the first word, and which values fit there.
+use Rattle.std.specs.Prelude.{ℕ, ◌≤ℤ◌, List, ◌++◌}
+use Rattle.sat_model.specs.declared.satellites.Row.{Row}
+use Rattle.sat_model.specs.declared.satellites.SatEntry.{SatEntry}
+use Rattle.sat_model.specs.declared.satellites.SatEntry.TheVariants as entry
+use Rattle.sat_model.specs.Boxes.{GridBox}
+use Rattle.paving_log.specs.declared.line.Corners.{Corners}
+use Rattle.paving_log.specs.Fields.{span_words, pos_words, IsPosWithin, sat_words, IsGps, skip_words, SkipFits}
+
+-- the satellite, and the spans of its place, of the range and of the error
+abbrev pub row_words : Row → List (List ℕ)
+row_words r = sat_words r.sat ++ (span_words r.x ++ (span_words r.y ++ (span_words r.z ++ (span_words r.range ++ span_words r.err))))
+
+-- all else that is asked of a row is kept by its type
+abbrev pub RowFits : Row → Type 0
+RowFits r = IsGps r.sat
+
+-- a row, or the satellite and why it has none
+abbrev pub entry_words : SatEntry → List (List ℕ)
+entry_words (entry.Row r) = row_words r
+entry_words (entry.Skipped sat skip) = sat_words sat ++ skip_words skip
+
+abbrev pub EntryFits : SatEntry → Type 0
+EntryFits (entry.Row r) = RowFits r
+EntryFits (entry.Skipped sat skip) = IsGps sat × SkipFits skip
+
+-- the low corner and the high corner
+abbrev pub root_words : Corners → List (List ℕ)
+root_words c = pos_words c.lo ++ pos_words c.hi
+
+-- the corners of a box, each within 10^13 um of the origin
+pub record CornersFit (c : Corners) : Type 0 where
+  pub x_ordered : c.lo.x ≤ℤ c.hi.x
+  pub y_ordered : c.lo.y ≤ℤ c.hi.y
+  pub z_ordered : c.lo.z ≤ℤ c.hi.z
+  pub lo_within : IsPosWithin 10000000000000 c.lo
+  pub hi_within : IsPosWithin 10000000000000 c.hi
+
+abbrev pub corners_of : GridBox → Corners
+corners_of g = record {
+  lo = record { x = g.x.lo; y = g.y.lo; z = g.z.lo };
+  hi = record { x = g.x.hi; y = g.y.hi; z = g.z.hi };
+}

@@ -1,0 +1,68 @@
+-- Lines that were taken from the front of a text.
+use Rattle.std.specs.Prelude.{ℕ, ◌≡◌, ◌+◌, Bool, true, false, List, [], ◌∷◌, ◌++◌, length, Option, None, Some}
+use Rattle.sat_model.specs.Logs.{Block, lines_in}
+use Rattle.paving_log.specs.declared.line.LogLine.{LogLine}
+use Rattle.paving_log.specs.declared.line.Place.{Place}
+use Rattle.paving_log.specs.declared.line.Place.TheVariants as place
+use Rattle.paving_log.specs.declared.lines.Lines.{Lines}
+use Rattle.paving_log.specs.declared.lines.Opening.{Opening}
+use Rattle.paving_log.specs.declared.log.LogError.{LogError}
+use Rattle.paving_log.specs.declared.log.LogError.TheVariants as error
+use Rattle.paving_log.specs.Lines.{text_of}
+use Rattle.paving_log.specs.Order.{may_end, Leads}
+use Rattle.paving_log.specs.Text.{first_line, header_of, block_lines, BlockFits}
+use Rattle.std.specs.List.{flat_map, AllByRecursion}
+use Rattle.paving_log.specs.Faults.{FaultFrom}
+
+-- the error is that of the first fault, unless memory ran out
+abbrev pub Refuses : Place → Lines → LogError → Type 0
+Refuses at lines error.NoMemory = Unit {0}
+Refuses at lines e = FaultFrom at lines.rest.now lines.number e
+
+-- these lines were taken from the front of what was left
+pub record Takes (at : Place) (old : Lines) (lines : List LogLine) (to : Place) (new : Lines) : Type 0 where
+  pub leads : Leads at lines to
+  pub parts : old.rest.now ≡ text_of lines ++ new.rest.now
+  pub number : new.number ≡ old.number + length lines
+
+-- the place behind the first line of a block
+abbrev pub block_place : Bool → Place
+block_place true = place.Few 0
+block_place false = place.Satellites 0
+
+-- these lines were taken, and then the text ended
+pub record TakesAll (at : Place) (old : Lines) (lines : List LogLine) (new : Lines) : Type 0 where
+  pub to : Place
+  pub taken : Takes at old lines to new
+  pub may_end : may_end to ≡ true
+  pub ended : new.rest.now ≡ []
+
+-- these lines were taken, and behind them the first line of a block
+pub record TakesWith (at : Place) (old : Lines) (lines : List LogLine) (o : Opening) (new : Lines) : Type 0 where
+  pub taken : Takes at old (lines ++ first_line o.few o.header ∷ []) (block_place o.few) new
+  pub number : new.number ≡ o.line + 1
+
+-- these lines were taken, and behind them the first line of a block, or else the text ended
+abbrev pub TakesTo : Place → Lines → List LogLine → Option Opening → Lines → Type 0
+TakesTo at old lines None new = TakesAll at old lines new
+TakesTo at old lines (Some o) new = TakesWith at old lines o new
+
+-- the block begins with this line
+pub record IsOpened (o : Opening) (b : Block) : Type 0 where
+  pub few : b.few ≡ o.few
+  pub header : header_of b ≡ o.header
+  pub line : b.line ≡ o.line
+
+-- the blocks begin one behind the other, from one line number up to another
+abbrev pub AreNumbered : ℕ → List Block → ℕ → Type 0
+AreNumbered from [] to = from ≡ to
+AreNumbered from (b ∷ more) to = (b.line ≡ from) × AreNumbered (from + lines_in b) more to
+
+-- the blocks fit, were taken up to the end of the text, and are numbered
+pub record TakesBlocks (old : Lines) (blocks : List Block) : Type 0 where
+  pub to : Place
+  pub leads : Leads place.Between (flat_map block_lines blocks) to
+  pub may_end : may_end to ≡ true
+  pub parts : old.rest.now ≡ text_of (flat_map block_lines blocks)
+  pub fit : AllByRecursion BlockFits blocks
+  pub numbered : AreNumbered old.number blocks (old.number + length (flat_map block_lines blocks))

@@ -1,0 +1,77 @@
+//! The lines of a log, and where each may come.
+
+use sat_model::{Pos, Rules, SatEntry, Step};
+
+/// The fields of the first line of a block.
+#[derive(Clone, Copy, Debug, PartialEq, Eq)]
+pub struct Header {
+    pub index: u32,
+    pub ps: i128,
+    pub n: u32,
+}
+
+/// The low and the high corner of a root.
+#[derive(Clone, Copy, Debug, PartialEq, Eq)]
+pub struct Corners {
+    pub lo: Pos,
+    pub hi: Pos,
+}
+
+/// A line.
+#[derive(Clone, Copy, Debug, PartialEq, Eq)]
+pub enum LogLine {
+    Version,
+    Rules(Rules),
+    Few(Header),
+    Epoch(Header),
+    Sat(SatEntry),
+    Root(Corners),
+    Step(Step),
+    Done(u32),
+}
+
+/// The first word of a line.
+#[derive(Clone, Copy, Debug, PartialEq, Eq)]
+pub enum LineName {
+    Gpscover,
+    Rules,
+    Few,
+    Epoch,
+    Sat,
+    Skip,
+    Root,
+    Cut,
+    Split,
+    Out,
+    In,
+    Edge,
+    Done,
+}
+
+/// What may come next.
+#[derive(Clone, Copy, Debug, PartialEq, Eq)]
+pub enum Place {
+    /// The line of the version.
+    First,
+    /// The line of the rules.
+    Second,
+    /// A block, or the end.
+    Between,
+    /// Behind so many satellite lines of a block.
+    Satellites(usize),
+    /// Behind so many satellite lines of a block of few satellites.
+    Few(usize),
+    /// Behind the root.
+    Steps,
+}
+
+/// Why a line doesn't fit.
+#[derive(Clone, Copy, Debug, PartialEq, Eq)]
+pub enum Fault {
+    /// The first word can't come here.
+    Word,
+    /// The fields are wrong.
+    Fields,
+    /// The word may come here, and its lines can't be read yet.
+    NotBuilt,
+}

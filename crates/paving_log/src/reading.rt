@@ -1,0 +1,90 @@
+//! One line at its place.
+
+ghost use Rattle.std.specs.Prelude.{◌≡◌, true, IfOk, IfErr};
+ghost use Rattle.paving_log.specs.Words.{words_left, Reads};
+ghost use Rattle.paving_log.specs.Lines.{LineFits, name_of, fields};
+ghost use Rattle.paving_log.specs.Faults.{is_built, FitsAt, Misfit};
+
+use crate::fields::count;
+use crate::header::{header, rules};
+use crate::line::{Fault, LineName, LogLine, Place};
+use crate::order::{name_from, place_behind};
+use crate::rows::{root, row, skipped};
+use crate::steps::{edge, inside, out, split};
+use crate::words::{Rest, is_ended, word};
+use sat_model::SatEntry;
+
+/// Whether the lines that begin with the word can be read.
+fn has_lines(name: LineName) -> bool
+    ensures { result ≡ is_built name }
+{
+    !matches!(name, LineName::Cut)
+}
+
+/// The one field of the first line.
+fn version(rest: Rest<'_>) -> Option<LogLine>
+    ensures { Reads (λ l. LineFits l × (name_of l ≡ LineName.Gpscover)) fields (words_left rest.entry) result }
+{
+    let (version, rest) = word(rest)?;
+    if version == b"1".as_slice() && is_ended(rest) {
+        Some(LogLine::Version)
+    } else {
+        None
+    }
+}
+
+/// The number of splits.
+fn done(rest: Rest<'_>) -> Option<LogLine>
+    ensures { Reads (λ l. LineFits l × (name_of l ≡ LineName.Done)) fields (words_left rest.entry) result }
+{
+    let (bisections, rest) = count(rest, 0, 200_000)?;
+    if !is_ended(rest) {
+        return None;
+    }
+    Some(LogLine::Done(bisections))
+}
+
+/// The line whose first word is the name and whose other words are left.
+fn fields_of(name: LineName, rest: Rest<'_>) -> Option<LogLine>
+    requires { is_built name ≡ true }
+    ensures { Reads (λ l. LineFits l × (name_of l ≡ name)) fields (words_left rest.entry) result }
+{
+    match name {
+        LineName::Gpscover => version(rest),
+        LineName::Rules => Some(LogLine::Rules(rules(rest)?)),
+        LineName::Few => Some(LogLine::Few(header(rest)?)),
+        LineName::Epoch => Some(LogLine::Epoch(header(rest)?)),
+        LineName::Sat => Some(LogLine::Sat(SatEntry::Row(row(rest)?))),
+        LineName::Skip => Some(LogLine::Sat(skipped(rest)?)),
+        LineName::Root => Some(LogLine::Root(root(rest)?)),
+        LineName::Split => Some(LogLine::Step(split(rest)?)),
+        LineName::Out => Some(LogLine::Step(out(rest)?)),
+        LineName::In => Some(LogLine::Step(inside(rest)?)),
+        LineName::Edge => Some(LogLine::Step(edge(rest)?)),
+        LineName::Done => done(rest),
+        LineName::Cut => unreachable!(),
+    }
+}
+
+/// The line, where it fits at this place, and the place behind it.
+pub fn line_at(place: Place, here: &[u8]) -> Result<(LogLine, Place), Fault>
+    ensures fits { IfOk result (λ found. FitsAt place here.now found.0 found.1) }
+    ensures misfit { IfErr result (λ fault. Misfit place here.now fault) }
+{
+    let Some((word, rest)) = word(Some(here)) else {
+        return Err(Fault::Word);
+    };
+    let Some(name) = name_from(word) else {
+        return Err(Fault::Word);
+    };
+    let Some(after) = place_behind(place, name) else {
+        return Err(Fault::Word);
+    };
+    if !has_lines(name) {
+        return Err(Fault::NotBuilt);
+    }
+    match fields_of(name, rest) {
+        Some(line) => Ok((line, after)),
+        None => Err(Fault::Fields),
+    }
+}

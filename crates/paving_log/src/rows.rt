@@ -1,0 +1,68 @@
+//! The satellite lines and the roots of a log.
+
+ghost use Rattle.std.specs.Prelude.{◌≡◌};
+ghost use Rattle.sat_model.specs.declared.satellites.Skip.{Skip};
+ghost use Rattle.paving_log.specs.declared.line.LineName.TheVariants as names;
+ghost use Rattle.paving_log.specs.Words.{words_left, Reads};
+ghost use Rattle.paving_log.specs.Rows.{row_words, RowFits, entry_words, EntryFits, root_words, CornersFit};
+ghost use Rattle.paving_log.specs.Lines.{entry_name};
+
+use crate::fields::{place, satellite, skip, span};
+use crate::line::Corners;
+use crate::words::{Rest, is_ended};
+use sat_model::{Row, SatEntry};
+
+/// The greatest amount of a satellite's coordinate and of a range, in um.
+const GREATEST_PLACE: u64 = 60_000_000_000_000;
+/// The greatest amount of an error, in um.
+const GREATEST_ERROR: u64 = 1_000_000_000_000;
+/// The greatest amount of a coordinate of a box, in um.
+const GREATEST_SIDE: u64 = 10_000_000_000_000;
+
+/// A satellite's row.
+pub fn row(rest: Rest<'_>) -> Option<Row>
+    ensures { Reads RowFits row_words (words_left rest.entry) result }
+{
+    let (sat, rest) = satellite(rest)?;
+    let (x, rest) = span(rest, GREATEST_PLACE)?;
+    let (y, rest) = span(rest, GREATEST_PLACE)?;
+    let (z, rest) = span(rest, GREATEST_PLACE)?;
+    let (range, rest) = span(rest, GREATEST_PLACE)?;
+    let (err, rest) = span(rest, GREATEST_ERROR)?;
+    if !is_ended(rest) {
+        return None;
+    }
+    Some(Row {
+        sat,
+        x,
+        y,
+        z,
+        range,
+        err,
+    })
+}
+
+/// A satellite that isn't used, and why.
+pub fn skipped(rest: Rest<'_>) -> Option<SatEntry>
+    ensures { Reads (λ entry. EntryFits entry × (entry_name entry ≡ names.Skip)) entry_words (words_left rest.entry) result }
+{
+    let (sat, rest) = satellite(rest)?;
+    let skip = skip(rest)?;
+    Some(SatEntry::Skipped { sat, skip })
+}
+
+/// The corners of the root of an epoch.
+pub fn root(rest: Rest<'_>) -> Option<Corners>
+    ensures { Reads CornersFit root_words (words_left rest.entry) result }
+{
+    let (lo, rest) = place(rest, GREATEST_SIDE)?;
+    let (hi, rest) = place(rest, GREATEST_SIDE)?;
+    if !is_ended(rest) {
+        return None;
+    }
+    if lo.x <= hi.x && lo.y <= hi.y && lo.z <= hi.z {
+        Some(Corners { lo, hi })
+    } else {
+        None
+    }
+}

@@ -1,0 +1,75 @@
+//! The steps of a paving.
+
+ghost use Rattle.std.specs.Prelude.{◌≡◌};
+ghost use Rattle.paving_log.specs.declared.line.LineName.TheVariants as names;
+ghost use Rattle.paving_log.specs.Words.{words_left, Reads};
+ghost use Rattle.paving_log.specs.Lines.{step_words, step_name, StepFits};
+
+use crate::fields::{amount, count, span};
+use crate::words::{Rest, is_ended};
+use sat_model::Step;
+
+/// The greatest number of a box.
+const LAST_ID: u32 = 400_000;
+/// The greatest amount of a clock offset, in um.
+const GREATEST_CLOCK: u64 = 200_000_000_000_000;
+
+/// A box that is split in halves.
+pub fn split(rest: Rest<'_>) -> Option<Step>
+    ensures { Reads (λ step. StepFits step × (step_name step ≡ names.Split)) step_words (words_left rest.entry) result }
+{
+    let (id, rest) = count(rest, 0, LAST_ID)?;
+    let (axis, rest) = count(rest, 0, 2)?;
+    if !is_ended(rest) {
+        return None;
+    }
+    Some(Step::Split {
+        id,
+        axis: axis as u8,
+    })
+}
+
+/// A box without a fitting point.
+pub fn out(rest: Rest<'_>) -> Option<Step>
+    ensures { Reads (λ step. StepFits step × (step_name step ≡ names.Out)) step_words (words_left rest.entry) result }
+{
+    let (id, rest) = count(rest, 0, LAST_ID)?;
+    if !is_ended(rest) {
+        return None;
+    }
+    Some(Step::Outside { id })
+}
+
+/// A box whose points all fit, with a clock offset of theirs and a span of clock offsets.
+pub fn inside(rest: Rest<'_>) -> Option<Step>
+    ensures { Reads (λ step. StepFits step × (step_name step ≡ names.In)) step_words (words_left rest.entry) result }
+{
+    let (id, rest) = count(rest, 0, LAST_ID)?;
+    let (clock, rest) = amount(rest, GREATEST_CLOCK)?;
+    let (clocks, rest) = span(rest, GREATEST_CLOCK)?;
+    if !is_ended(rest) {
+        return None;
+    }
+    Some(Step::Inside {
+        id,
+        clock,
+        lo: clocks.lo,
+        hi: clocks.hi,
+    })
+}
+
+/// An undecided box with a span of clock offsets.
+pub fn edge(rest: Rest<'_>) -> Option<Step>
+    ensures { Reads (λ step. StepFits step × (step_name step ≡ names.Edge)) step_words (words_left rest.entry) result }
+{
+    let (id, rest) = count(rest, 0, LAST_ID)?;
+    let (clock, rest) = span(rest, GREATEST_CLOCK)?;
+    if !is_ended(rest) {
+        return None;
+    }
+    Some(Step::Edge {
+        id,
+        lo: clock.lo,
+        hi: clock.hi,
+    })
+}

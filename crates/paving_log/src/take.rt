@@ -1,0 +1,66 @@
+//! One line after another.
+
+ghost use Rattle.std.specs.Prelude.{◌≡◌, ◌<◌, true, length, IfOk, IfErr, [], ◌∷◌};
+ghost use Rattle.paving_log.specs.Order.{may_end};
+ghost use Rattle.paving_log.specs.Faults.{LineFails, refusal, is_head};
+ghost use Rattle.paving_log.specs.Taking.{Takes};
+
+use crate::line::{Fault, LogLine, Place};
+use crate::lines::Lines;
+use crate::log::LogError;
+use crate::reading::line_at;
+use memchr::memchr;
+
+/// Whether the place is one of the first two lines.
+fn is_first_two(place: Place) -> bool
+    ensures { result ≡ is_head place }
+{
+    matches!(place, Place::First | Place::Second)
+}
+
+/// How a line is refused that is no line for its place.
+fn refused(place: Place, line: u32, fault: Fault) -> LogError
+    ensures { result ≡ refusal place line fault }
+{
+    match fault {
+        Fault::NotBuilt => LogError::NotBuilt { line },
+        Fault::Word if is_first_two(place) => LogError::BadLog { line, kind: 1 },
+        Fault::Word => LogError::BadLog { line, kind: 2 },
+        Fault::Fields if is_first_two(place) => LogError::BadLog { line, kind: 1 },
+        Fault::Fields => LogError::BadLog { line, kind: 3 },
+    }
+}
+
+/// The next line, which has to fit at this place, the place behind it, and what is left.
+pub fn take_line(lines: Lines<'_>, place: Place) -> Result<(LogLine, Place, Lines<'_>), LogError>
+    requires { may_end place ≡ true → 0 < length lines.rest.now }
+    ensures taken { IfOk result (λ t. Takes place lines.entry (t.0 ∷ []) t.1 t.2) }
+    ensures fails { IfErr result (LineFails place lines.entry.rest.now lines.entry.number) }
+{
+    if lines.rest.is_empty() {
+        return Err(LogError::BadLog {
+            line: lines.number,
+            kind: 4,
+        });
+    }
+    match memchr(b'\n', lines.rest) {
+        Some(end) => match line_at(place, &lines.rest[..end]) {
+            Ok((line, behind)) => Ok((
+                line,
+                behind,
+                Lines {
+                    rest: &lines.rest[end + 1..],
+                    number: lines.number + 1,
+                },
+            )),
+            Err(fault) => Err(refused(place, lines.number, fault)),
+        },
+        None => match line_at(place, lines.rest) {
+            Ok(_) => Err(LogError::BadLog {
+                line: lines.number,
+                kind: 4,
+            }),
+            Err(fault) => Err(refused(place, lines.number, fault)),
+        },
+    }
+}

@@ -1,0 +1,176 @@
+use super::*;
+use sat_model::{Rules, Sat, SatEntry, Skip, Step};
+use std::alloc::{AllocError, Global};
+use std::test::Fail;
+
+const LOG: &str = "gpscover 1
+rules 0 0 1000000
+epoch 1 1388102400000000000000 4
+sat G01 20000000000000 20000000000000 0 0 0 0 20000000000000 20000000000000 -500000 500000
+sat G02 0 0 20000000000000 20000000000000 0 0 20000000000000 20000000000000 -500000 500000
+sat G03 0 0 0 0 20000000000000 20000000000000 20000000000000 20000000000000 -500000 500000
+sat G04 12000000000000 12000000000000 16000000000000 16000000000000 0 0 20000000000000 20000000000000 -500000 500000
+root -1000000 -900000 -900000 1000000 900000 900000
+edge 0 -1400000 1400000
+done 0
+";
+
+/// The number of the first line that doesn't fit and its kind, 41 where its word isn't built, and
+/// two zeros for the text of a log.
+fn fault(alloc: Global, text: &str) -> (u32, u8) {
+    let bytes = text.as_bytes();
+    if bytes.len() > 4_000_000_000 {
+        return (0, 255);
+    }
+    match read_log(alloc, bytes) {
+        Ok(_) => (0, 0),
+        Err(LogError::BadLog { line, kind }) => (line, kind),
+        Err(LogError::NotBuilt { line }) => (line, 41),
+        Err(LogError::NoMemory) => (0, 254),
+    }
+}
+
+/// The text with `new` in the first place of `old`.
+fn changed(alloc: Global, text: &str, old: &str, new: &str) -> Result<String, AllocError> {
+    let (front, back) = text.split_once(old).unwrap_or(("", ""));
+    let mut whole = String::new(alloc);
+    whole.push_str(front)?;
+    whole.push_str(new)?;
+    whole.push_str(back)?;
+    Ok(whole)
+}
+
+#[test]
+fn each_changed_log_is_refused_at_its_first_fault(rt: HostRuntime) -> Result<(), Fail> {
+    let edge = "edge 0 -1400000 1400000";
+    for (old, new, line, kind) in [
+        ("done 0", "done 0", 0, 0),
+        (edge, "out 0\nin 0 0 -1 1\nsplit 400000 2", 0, 0),
+        ("sat G01", "skip G01 6 20\nsat G01", 0, 0),
+        ("gpscover 1", "gpscover 2", 1, 1),
+        ("gpscover 1", "gpscover 1\r", 1, 1),
+        ("rules 0", "rules 9", 2, 1),
+        ("1000000", "999", 2, 1),
+        ("\nepoch", "\n\nepoch", 3, 2),
+        ("epoch", " epoch", 3, 2),
+        ("epoch 1", "epoch\t1", 3, 2),
+        ("epoch 1", "epoch 01", 3, 3),
+        ("epoch 1", "epoch 200001", 3, 3),
+        ("1388102400000000000000", "4000000000000000000000", 3, 3),
+        ("sat G01", "sat G1", 4, 3),
+        ("sat G01", "sat G00", 4, 3),
+        ("sat G01", "sat E01", 4, 3),
+        ("G01 20000000000000", "G01 20000000000001", 4, 3),
+        ("500000\n", "500000 \n", 4, 3),
+        ("sat G01", "skip G01 7\nsat G01", 4, 3),
+        ("sat G01", "skip G01 6\nsat G01", 4, 3),
+        ("sat G01", "skip G01 6 21\nsat G01", 4, 3),
+        ("sat G01", "skip G01 5 1\nsat G01", 4, 3),
+        ("root", "few", 8, 2),
+        ("root -1000000", "root 1000001", 8, 3),
+        (edge, "edge 0 -0 5", 9, 3),
+        (
+            edge,
+            "edge 1234567890123456789012345678901234567890 0 0",
+            9,
+            3,
+        ),
+        (edge, "edge 400001 0 0", 9, 3),
+        (edge, "in 0 1 2 1", 9, 3),
+        (edge, "split 0 3", 9, 3),
+        (edge, "out\t0", 9, 2),
+        (edge, "out  0", 9, 3),
+        (edge, "out 0 ", 9, 3),
+        (edge, "out", 9, 3),
+        (edge, "cut 0 0 5", 9, 41),
+        (edge, "cut", 9, 41),
+        ("done 0\n", "done 200001\n", 10, 3),
+        ("done 0\n", "done 00", 10, 3),
+        ("done 0\n", "done 0", 10, 4),
+        ("done 0\n", "", 10, 4),
+        ("done 0\n", "done 0\ncut 0 0 5\n", 11, 2),
+    ] {
+        let text = changed(rt.alloc(), LOG, old, new)?;
+        assert_eq!(rt; fault(rt.alloc(), &text), (line, kind), "at {new}");
+    }
+    Ok(())
+}
+
+#[test]
+fn short_texts(rt: HostRuntime) -> Result<(), Fail> {
+    for (text, line, kind) in [
+        ("", 1, 4),
+        ("gpscove", 1, 1),
+        ("gpscover 1", 1, 4),
+        ("gpscover 1\n", 2, 4),
+        ("gpscover 1\nrules 0 0 1000000\n", 0, 0),
+        (
+            "gpscover 1\nrules 1 0 1000000\nfew 1 1388102400000000000000 4\n",
+            0,
+            0,
+        ),
+        (
+            "gpscover 1\nrules 1 0 1000\nfew 1 0 1\nskip G02 1\nfew 2 1 0\nepoch 3 2 64\nroot 0 0 0 0 0 0\ndone 0\n",
+            0,
+            0,
+        ),
+        ("gpscover 1\nrules 1 0 1000\nfew 1 0 1\nsat G02 1\n", 4, 2),
+        ("gpscover 1\nrules 1 0 1000\nfew 1 0 1\ndone 0\n", 4, 2),
+        ("gpscover 1\nrules 1 0 1000\nfew 1 0 1\nskip G02 1", 4, 4),
+    ] {
+        assert_eq!(rt; fault(rt.alloc(), text), (line, kind), "at {text}");
+    }
+    Ok(())
+}
+
+#[test]
+fn a_block_has_at_most_64_satellite_lines(rt: HostRuntime) -> Result<(), Fail> {
+    for first in ["epoch 1 0 0\n", "few 1 0 0\n"] {
+        let mut text = String::new(rt.alloc());
+        text.push_str("gpscover 1\nrules 0 0 1000\n")?;
+        text.push_str(first)?;
+        for _ in 0..64u8 {
+            text.push_str("skip G01 1\n")?;
+        }
+        text.push_str("skip\n")?;
+        assert_eq!(rt; fault(rt.alloc(), &text), (68, 2));
+    }
+    Ok(())
+}
+
+/// The text of a log, line by line.
+fn written(alloc: Global, log: &Log) -> Result<String, AllocError> {
+    let mut text = String::new(alloc);
+    text.push_str(&head_lines(&log.rules))?;
+    for epoch in &log.epochs {
+        text.push_str(&epoch_line(epoch.few, epoch.index, epoch.ps, epoch.n))?;
+        for entry in &epoch.sats {
+            text.push_str(&sat_line(entry))?;
+        }
+        if let Some(root) = &epoch.root {
+            text.push_str(&root_line(root))?;
+            for step in &epoch.steps {
+                text.push_str(&step_line(step))?;
+            }
+            text.push_str(&done_line(epoch.done))?;
+        }
+    }
+    Ok(text)
+}
+
+#[test]
+fn a_log_that_was_read_is_written_as_it_was(rt: HostRuntime) -> Result<(), Fail> {
+    let mut text = String::new(rt.alloc());
+    text.push_str(LOG)?;
+    text.push_str(
+        "few 2 1388102401000000000000 1\nskip G02 1\nskip G03 6 20\nepoch 3 1388102402000000000000 0\nroot 0 0 0 1 1 1\nsplit 0 2\nout 1\nin 2 -3 -4 5\ndone 1\n",
+    )?;
+    if text.len() > 4_000_000_000 {
+        return Ok(());
+    }
+    match read_log(rt.alloc(), text.as_bytes()) {
+        Ok(log) => assert_eq!(rt; written(rt.alloc(), &log)?, text),
+        Err(error) => assert!(rt; false, "refused: {error:?}"),
+    }
+    Ok(())
+}

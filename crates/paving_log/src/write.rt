@@ -1,0 +1,272 @@
+//! The lines of a log, each in its one spelling with its LF. They take no memory.
+
+ghost use Rattle.std.specs.Prelude.{◌≡◌, ◌+◌, ◌<◌, ◌≤◌, ◌/◌, ◌%◌, [], ◌∷◌, ◌++◌, length};
+ghost use Rattle.std.specs.Fmt.{decimal, signed_decimal};
+ghost use Rattle.sat_model.specs.declared.steps.Step.TheVariants as steps;
+ghost use Rattle.sat_model.specs.Boxes.{grid_box};
+ghost use Rattle.sat_model.specs.Logs.{sat_of};
+ghost use Rattle.paving_log.specs.declared.line.LogLine.TheVariants as line;
+ghost use Rattle.sat_model.specs.declared.satellites.SatEntry.TheVariants as entry;
+ghost use Rattle.paving_log.specs.Words.{joined};
+ghost use Rattle.paving_log.specs.Fields.{span_words};
+ghost use Rattle.paving_log.specs.Rows.{corners_of};
+ghost use Rattle.paving_log.specs.Lines.{line_text, text_of};
+ghost use Rattle.paving_log.specs.Text.{first_line};
+
+use arrayvec::ArrayString;
+use itoa::Buffer;
+use sat_model::{Box3, Pos, Row, Rules, Sat, SatEntry, Skip, Span, Step};
+
+/// A line of a log. The longest, that of a row, has at most 218 bytes.
+pub type Line = ArrayString<256>;
+
+/// A blank and a number.
+fn push_number(line: &mut Line, number: i64)
+    requires { length line.old.bytes ≤ 235 }
+    ensures pushed { line.new.bytes ≡ line.old.bytes ++ 32 ∷ signed_decimal number }
+    ensures length { length line.new.bytes ≤ length line.old.bytes + 21 }
+{
+    let mut buffer = Buffer::new();
+    line.push_str(" ");
+    line.push_str(buffer.format(number));
+}
+
+/// Two numbers, each behind a blank.
+fn push_numbers(line: &mut Line, first: i64, second: i64)
+    requires { length line.old.bytes ≤ 214 }
+    ensures pushed { line.new.bytes ≡ line.old.bytes ++ 32 ∷ (signed_decimal first ++ 32 ∷ signed_decimal second) }
+    ensures length { length line.new.bytes ≤ length line.old.bytes + 42 }
+{
+    push_number(line, first);
+    push_number(line, second);
+}
+
+/// Three numbers, each behind a blank.
+fn push_three(line: &mut Line, first: i64, second: i64, third: i64)
+    requires { length line.old.bytes ≤ 193 }
+    ensures pushed { line.new.bytes ≡ line.old.bytes ++ 32 ∷ (signed_decimal first ++ 32 ∷ (signed_decimal second ++ 32 ∷ signed_decimal third)) }
+    ensures length { length line.new.bytes ≤ length line.old.bytes + 63 }
+{
+    push_numbers(line, first, second);
+    push_number(line, third);
+}
+
+/// The line of the number of splits.
+pub fn done_line(bisections: u32) -> Line
+    ensures { result.bytes ≡ line_text (line.Done bisections) ++ 10 ∷ [] }
+{
+    let mut line = Line::new();
+    line.push_str("done");
+    push_number(&mut line, i64::from(bisections));
+    line.push_str("\n");
+    line
+}
+
+fn cut_line(id: u32, face: u8, bound: i64) -> Line
+    ensures { result.bytes ≡ line_text (line.Step (steps.Cut id face bound)) ++ 10 ∷ [] }
+{
+    let mut line = Line::new();
+    line.push_str("cut");
+    push_numbers(&mut line, i64::from(id), i64::from(face));
+    push_number(&mut line, bound);
+    line.push_str("\n");
+    line
+}
+
+fn split_line(id: u32, axis: u8) -> Line
+    ensures { result.bytes ≡ line_text (line.Step (steps.Split id axis)) ++ 10 ∷ [] }
+{
+    let mut line = Line::new();
+    line.push_str("split");
+    push_numbers(&mut line, i64::from(id), i64::from(axis));
+    line.push_str("\n");
+    line
+}
+
+fn out_line(id: u32) -> Line
+    ensures { result.bytes ≡ line_text (line.Step (steps.Outside id)) ++ 10 ∷ [] }
+{
+    let mut line = Line::new();
+    line.push_str("out");
+    push_number(&mut line, i64::from(id));
+    line.push_str("\n");
+    line
+}
+
+fn in_line(id: u32, clock: i64, lo: i64, hi: i64) -> Line
+    ensures { result.bytes ≡ line_text (line.Step (steps.Inside id clock lo hi)) ++ 10 ∷ [] }
+{
+    let mut line = Line::new();
+    line.push_str("in");
+    push_number(&mut line, i64::from(id));
+    push_three(&mut line, clock, lo, hi);
+    line.push_str("\n");
+    line
+}
+
+fn edge_line(id: u32, lo: i64, hi: i64) -> Line
+    ensures { result.bytes ≡ line_text (line.Step (steps.Edge id lo hi)) ++ 10 ∷ [] }
+{
+    let mut line = Line::new();
+    line.push_str("edge");
+    push_number(&mut line, i64::from(id));
+    push_numbers(&mut line, lo, hi);
+    line.push_str("\n");
+    line
+}
+
+/// The line of a step.
+pub fn step_line(step: &Step) -> Line
+    ensures { result.bytes ≡ line_text (line.Step step.now) ++ 10 ∷ [] }
+{
+    match step {
+        Step::Cut { id, face, bound } => cut_line(*id, *face, *bound),
+        Step::Split { id, axis } => split_line(*id, *axis),
+        Step::Outside { id } => out_line(*id),
+        Step::Inside { id, clock, lo, hi } => in_line(*id, *clock, *lo, *hi),
+        Step::Edge { id, lo, hi } => edge_line(*id, *lo, *hi),
+    }
+}
+
+/// The two lines of the head.
+pub fn head_lines(rules: &Rules) -> Line
+    ensures { result.bytes ≡ text_of (line.Version ∷ line.Rules rules.now ∷ []) }
+{
+    let mut line = Line::new();
+    line.push_str("gpscover 1\nrules");
+    push_numbers(
+        &mut line,
+        i64::from(rules.outliers),
+        i64::from(rules.bisections),
+    );
+    push_number(&mut line, rules.width);
+    line.push_str("\n");
+    line
+}
+
+/// The first line of a block: its index, its tag in ps, and the number of satellites that count.
+pub fn epoch_line(few: bool, index: u32, ps: i128, n: u32) -> Line
+    ensures { result.bytes ≡ line_text (first_line few (record { index = index; ps = ps; n = n })) ++ 10 ∷ [] }
+{
+    let mut line = Line::new();
+    if few {
+        line.push_str("few");
+    } else {
+        line.push_str("epoch");
+    }
+    push_header(&mut line, index, ps, n);
+    line.push_str("\n");
+    line
+}
+
+/// The three numbers of a block's first line.
+fn push_header(line: &mut Line, index: u32, ps: i128, n: u32)
+    requires { length line.old.bytes ≤ 100 }
+    ensures pushed { line.new.bytes ≡ line.old.bytes ++ 32 ∷ (decimal index ++ 32 ∷ (signed_decimal ps ++ 32 ∷ decimal n)) }
+    ensures length { length line.new.bytes ≤ length line.old.bytes + 83 }
+{
+    let mut buffer = Buffer::new();
+    push_number(line, i64::from(index));
+    line.push_str(" ");
+    line.push_str(buffer.format(ps));
+    push_number(line, i64::from(n));
+}
+
+/// The coordinates of a point.
+fn push_pos(line: &mut Line, point: Pos)
+    requires { length line.old.bytes ≤ 193 }
+    ensures pushed { line.new.bytes ≡ line.old.bytes ++ 32 ∷ (signed_decimal point.x ++ 32 ∷ (signed_decimal point.y ++ 32 ∷ signed_decimal point.z)) }
+    ensures length { length line.new.bytes ≤ length line.old.bytes + 63 }
+{
+    push_three(line, point.x, point.y, point.z);
+}
+
+/// The line of a root: its low and its high corner.
+pub fn root_line(root: &Box3) -> Line
+    ensures { result.bytes ≡ line_text (line.Root (corners_of (grid_box root.now))) ++ 10 ∷ [] }
+{
+    let mut line = Line::new();
+    line.push_str("root");
+    push_pos(&mut line, root.lo);
+    push_pos(&mut line, root.hi);
+    line.push_str("\n");
+    line
+}
+
+/// An ASCII character.
+fn push_ascii(line: &mut Line, byte: u8)
+    requires { length line.old.bytes ≤ 250 }
+    ensures pushed { byte < 128 → line.new.bytes ≡ line.old.bytes ++ byte ∷ [] }
+    ensures length { length line.new.bytes ≤ length line.old.bytes + 4 }
+{
+    line.push(char::from(byte));
+}
+
+/// A blank and a satellite: the letter of its system, and its number in two digits.
+fn push_sat(line: &mut Line, sat: Sat)
+    requires { length line.old.bytes ≤ 100 }
+    ensures pushed { sat.system < 128 → line.new.bytes ≡ line.old.bytes ++ 32 ∷ (sat.system ∷ (48 + sat.number / 10) ∷ (48 + sat.number % 10) ∷ []) }
+    ensures length { length line.new.bytes ≤ length line.old.bytes + 13 }
+{
+    line.push_str(" ");
+    push_ascii(line, sat.system);
+    push_ascii(line, b'0' + sat.number / 10);
+    push_ascii(line, b'0' + sat.number % 10);
+}
+
+/// The two ends of a span.
+fn push_span(line: &mut Line, span: Span)
+    requires { length line.old.bytes ≤ 214 }
+    ensures pushed { line.new.bytes ≡ line.old.bytes ++ 32 ∷ (signed_decimal span.lo ++ 32 ∷ signed_decimal span.hi) }
+    ensures length { length line.new.bytes ≤ length line.old.bytes + 42 }
+{
+    push_numbers(line, span.lo, span.hi);
+}
+
+/// The spans of a row's place.
+fn push_place(line: &mut Line, row: &Row)
+    requires { length line.old.bytes ≤ 100 }
+    ensures pushed { line.new.bytes ≡ line.old.bytes ++ 32 ∷ joined (span_words row.now.x ++ (span_words row.now.y ++ span_words row.now.z)) }
+    ensures length { length line.new.bytes ≤ length line.old.bytes + 126 }
+{
+    push_span(line, row.x);
+    push_span(line, row.y);
+    push_span(line, row.z);
+}
+
+fn row_line(row: &Row) -> Line
+    ensures { row.now.sat.system < 128 → result.bytes ≡ line_text (line.Sat (entry.Row row.now)) ++ 10 ∷ [] }
+{
+    let mut line = Line::new();
+    line.push_str("sat");
+    push_sat(&mut line, row.sat);
+    push_place(&mut line, row);
+    push_span(&mut line, row.range);
+    push_span(&mut line, row.err);
+    line.push_str("\n");
+    line
+}
+
+fn skip_line(sat: Sat, skip: Skip) -> Line
+    ensures { sat.system < 128 → result.bytes ≡ line_text (line.Sat (entry.Skipped sat skip)) ++ 10 ∷ [] }
+{
+    let mut line = Line::new();
+    line.push_str("skip");
+    push_sat(&mut line, sat);
+    push_number(&mut line, i64::from(skip.number));
+    if skip.field > 0 {
+        push_number(&mut line, i64::from(skip.field));
+    }
+    line.push_str("\n");
+    line
+}
+
+/// A satellite line, where the letter of the system is an ASCII character.
+pub fn sat_line(entry: &SatEntry) -> Line
+    ensures { (sat_of entry.now).system < 128 → result.bytes ≡ line_text (line.Sat entry.now) ++ 10 ∷ [] }
+{
+    match entry {
+        SatEntry::Row(row) => row_line(row),
+        SatEntry::Skipped { sat, skip } => skip_line(*sat, *skip),
+    }
+}

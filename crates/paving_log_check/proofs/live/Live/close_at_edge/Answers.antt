@@ -1,0 +1,17 @@
+use Rattle.std.proofs.Common.{inr, refl, sym, w64}
+use Rattle.std.proofs.lemmas.Int.{to_z-of_z}
+use Rattle.sat_model.specs.Boxes.{grid_box}
+use Rattle.paving_log_check.proofs.StageLemmas.{closed_stage}
+use Rattle.paving_log_check.proofs.live.Live.close_at_edge.Goals as goal
+
+pub returns-then-not-holds_hull : goal.returns-then-not-holds_hull
+returns-then-not-holds_hull c =
+    let hull = rw (to_z-of_z w64 c.args.lo c.ranges.lo, to_z-of_z w64 c.args.hi c.ranges.hi) at c.holds_hull.ensures in
+    inr (grid_box c.in-Some.part, sym c.in-Some.ensures, λ h. cc (hull.1 h), refl)
+
+pub returns-else-not-holds_hull : goal.returns-else-not-holds_hull
+returns-else-not-holds_hull c =
+    let hull = rw (to_z-of_z w64 c.args.lo c.ranges.lo, to_z-of_z w64 c.args.hi c.ranges.hi) at c.holds_hull.ensures in (
+      (grid_box c.in-Some.part, sym c.in-Some.ensures, hull.0 c.if-not-holds_hull.false),
+      closed_stage c.args.self.now.boxes.items c.args.id c.args.self.now.splits,
+    )

@@ -1,0 +1,24 @@
+//! The numbers of the tests.
+
+/// An epoch's index isn't greater than the one before, or its number of satellites doesn't suit it.
+pub const EPOCH_DIFFERS: u8 = 51;
+/// An epoch's number isn't that of its rows, or a satellite is named twice.
+pub const SATELLITE_DIFFERS: u8 = 52;
+/// A step's box isn't live.
+pub const NOT_LIVE: u8 = 56;
+/// A cut takes nothing, leaves nothing, or takes a slab that isn't shown empty.
+pub const CUT_NOT_SHOWN: u8 = 57;
+/// A box that is closed outside isn't shown empty.
+pub const OUT_NOT_SHOWN: u8 = 58;
+/// The clock offset of a box that is closed inside isn't shown.
+pub const IN_NOT_SHOWN: u8 = 59;
+/// The offsets of a closed box don't hold its clock hull.
+pub const CLOCK_NARROW: u8 = 60;
+/// A side that is split isn't longer than the width.
+pub const BAD_SPLIT: u8 = 61;
+/// There are more splits than the rules allow.
+pub const OVER_BUDGET: u8 = 62;
+/// A box is live behind the last step.
+pub const NOT_CLOSED: u8 = 63;
+/// The number of splits isn't the one that is said.
+pub const COUNT_DIFFERS: u8 = 64;

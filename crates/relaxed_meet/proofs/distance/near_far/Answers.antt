@@ -1,0 +1,26 @@
+use Rattle.std.proofs.Common.{◌≡◌, ℕ, arith}
+use Rattle.std.specs.Prelude.{ℤ}
+use Rattle.std.proofs.lemmas.Int.{ints}
+use Rattle.sat_model.specs.Amounts.{least_amount, greatest_amount}
+use Rattle.sat_model.specs.ClockSpans.{near_of, far_of}
+use Rattle.sat_model.proofs.ClockLemmas.{root_same}
+use Rattle.relaxed_meet.proofs.distance.near_far.Goals as goal
+
+at_ends : (f : ℤ → ℤ → ℤ → ℤ → ℕ) (r : ℕ) (a b c d a' b' c' d' : ℤ) → r ≡ f a b c d → a ≡ a' → b ≡ b' → c ≡ c' → d ≡ d' → r ≡ f a' b' c' d'
+at_ends f r a b c d a' b' c' d' e ea eb ec ed = cc
+
+pub returns-clause-near : goal.returns-clause-near
+unfolding near_of
+returns-clause-near c =
+    root_same _ _ _ _ _ _ _ c.root_of_squares-near.ensures.value
+    (at_ends least_amount _ _ _ _ _ _ _ _ _ c.least.ensures.value (omega (arith, ints)) (omega (arith, ints)) (omega (arith, ints)) (omega (arith, ints)))
+    (at_ends least_amount _ _ _ _ _ _ _ _ _ c.least-2.ensures.value (omega (arith, ints)) (omega (arith, ints)) (omega (arith, ints)) (omega (arith, ints)))
+    (at_ends least_amount _ _ _ _ _ _ _ _ _ c.least-3.ensures.value (omega (arith, ints)) (omega (arith, ints)) (omega (arith, ints)) (omega (arith, ints)))
+
+pub returns-clause-far : goal.returns-clause-far
+unfolding far_of
+returns-clause-far c =
+    root_same _ _ _ _ _ _ _ c.root_of_squares-far.ensures.value
+    (at_ends greatest_amount _ _ _ _ _ _ _ _ _ c.greatest.ensures.value (omega (arith, ints)) (omega (arith, ints)) (omega (arith, ints)) (omega (arith, ints)))
+    (at_ends greatest_amount _ _ _ _ _ _ _ _ _ c.greatest-2.ensures.value (omega (arith, ints)) (omega (arith, ints)) (omega (arith, ints)) (omega (arith, ints)))
+    (at_ends greatest_amount _ _ _ _ _ _ _ _ _ c.greatest-3.ensures.value (omega (arith, ints)) (omega (arith, ints)) (omega (arith, ints)) (omega (arith, ints)))

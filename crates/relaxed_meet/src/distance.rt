@@ -1,0 +1,64 @@
+//! How near and how far a row's satellite may be from a box.
+
+ghost use Rattle.std.specs.Prelude.{◌≡◌, ◌+◌, ◌≤◌};
+ghost use Rattle.relaxed_meet.specs.SmallEnds.{SmallEnds};
+ghost use Rattle.sat_model.specs.Roots.{root};
+ghost use Rattle.sat_model.specs.Amounts.{least_amount, greatest_amount, square};
+ghost use Rattle.sat_model.specs.Boxes.{grid_box};
+ghost use Rattle.sat_model.specs.ClockSpans.{near_of, far_of};
+
+use sat_model::{Box3, Row, root_u128};
+
+/// The least amount of a difference between a number from `a` to `b` and one from `c` to `d`.
+fn least(a: i64, b: i64, c: i64, d: i64) -> u64
+    requires { SmallEnds a b c d }
+    ensures value { result ≡ least_amount a b c d }
+    ensures bound { result ≤ 80000000000000 }
+{
+    if a > d {
+        (a - d) as u64
+    } else if c > b {
+        (c - b) as u64
+    } else {
+        0
+    }
+}
+
+/// The greatest amount of such a difference.
+fn greatest(a: i64, b: i64, c: i64, d: i64) -> u64
+    requires { SmallEnds a b c d }
+    ensures value { result ≡ greatest_amount a b c d }
+    ensures bound { result ≤ 80000000000000 }
+{
+    (b - c).max(d - a) as u64
+}
+
+/// The whole-number root of three squares, added.
+fn root_of_squares(x: u64, y: u64, z: u64) -> u64
+    requires { (x ≤ 80000000000000) × (y ≤ 80000000000000) × (z ≤ 80000000000000) }
+    ensures value { result ≡ root (square x + square y + square z) }
+    ensures bound { result ≤ 200000000000000 }
+{
+    let (x, y, z) = (u128::from(x), u128::from(y), u128::from(z));
+    root_u128(x * x + y * y + z * z)
+}
+
+/// The whole-number roots of the least and of the greatest squared distance in um between a place
+/// of the row and a point of the box, each axis taken for itself.
+pub fn near_far(row: &Row, part: &Box3) -> (u64, u64)
+    ensures near { result.0 ≡ near_of row.now (grid_box part.now) }
+    ensures far { result.1 ≡ far_of row.now (grid_box part.now) }
+    ensures bounds { (result.0 ≤ 200000000000000) × (result.1 ≤ 200000000000000) }
+{
+    let near = root_of_squares(
+        least(row.x.lo, row.x.hi, part.lo.x, part.hi.x),
+        least(row.y.lo, row.y.hi, part.lo.y, part.hi.y),
+        least(row.z.lo, row.z.hi, part.lo.z, part.hi.z),
+    );
+    let far = root_of_squares(
+        greatest(row.x.lo, row.x.hi, part.lo.x, part.hi.x),
+        greatest(row.y.lo, row.y.hi, part.lo.y, part.hi.y),
+        greatest(row.z.lo, row.z.hi, part.lo.z, part.hi.z),
+    );
+    (near, far)
+}

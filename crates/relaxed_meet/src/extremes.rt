@@ -1,0 +1,55 @@
+//! The greatest numbers of a list.
+
+ghost use Rattle.std.specs.Prelude.{◌≡◌, ◌+◌, ◌≤◌, ◌++◌, ◌∷◌, [], length, map, min, ℤ};
+ghost use Rattle.relaxed_meet.specs.Kept.{above, IsFalling, IsKeptUpTo, Keeps, mirrored};
+
+use arrayvec::ArrayVec;
+use sat_model::Span;
+
+/// Numbers in falling order.
+pub(crate) type Falling = ArrayVec<i64, 64>;
+
+/// Puts a number into numbers in falling order, and gives the least of them all, which has no place.
+fn carry_past(kept: &mut [i64], number: i64) -> i64
+    requires { IsFalling kept.old }
+    ensures { IsKeptUpTo (length kept.old) kept.new kept.old result number }
+{
+    let mut carried = number;
+    for place in 0..kept.len() {
+        let next = kept[place];
+        if next < carried {
+            kept[place] = carried;
+            carried = next;
+        }
+    }
+    carried
+}
+
+/// Puts a number among the greatest, `most` of them at most.
+fn keep(kept: &mut Falling, number: i64, most: usize)
+    requires falling { IsFalling kept.old.items }
+    requires room { (length kept.old.items ≤ most) × (most ≤ 64) }
+    ensures falling { IsFalling kept.new.items }
+    ensures count { length kept.new.items ≡ min (length kept.old.items + 1) most }
+    ensures same_above { (b : ℤ) → above b kept.new.items ≡ min (above b (kept.old.items ++ number ∷ [])) most }
+{
+    let least = carry_past(kept, number);
+    if kept.len() < most {
+        kept.push(least);
+    }
+}
+
+/// The greatest low ends of the spans and the least high ends, which are mirrored: `most` of each.
+pub(crate) fn extremes(spans: &[Span], most: usize) -> (Falling, Falling)
+    requires { most ≤ 64 }
+    ensures lows { Keeps most result.0.items (map (λ s. s.lo) spans.now) }
+    ensures highs { Keeps most result.1.items (map (λ s. mirrored s.hi) spans.now) }
+{
+    let mut lows = Falling::new();
+    let mut highs = Falling::new();
+    for span in spans {
+        keep(&mut lows, span.lo, most);
+        keep(&mut highs, -1 - span.hi, most);
+    }
+    (lows, highs)
+}

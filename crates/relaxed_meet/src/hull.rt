@@ -1,0 +1,65 @@
+//! The q-relaxed intersection of spans, without sorting them: only the ends that up to q spans may
+//! pass over matter.
+
+ghost use Rattle.std.specs.Prelude.{◌≡◌, ◌≤◌, ◌↔◌, length, map, IfSome, IsNone};
+ghost use Rattle.relaxed_meet.specs.Kept.{LiesBetween, IsFalling, IsLeastIn, IsGreatestIn};
+ghost use Rattle.sat_model.specs.Relaxed.{IsRelaxedHull, LiesInRelaxed, IsRelaxedEmpty, ends};
+
+use crate::extremes::extremes;
+use sat_model::Span;
+
+/// The least number that lies between a low end and the high end that goes with it.
+fn least_between(lows: &[i64], highs: &[i64]) -> Option<i64>
+    requires falling { IsFalling lows.now }
+    requires pairs { length highs.now ≡ length lows.now }
+    ensures { IsLeastIn (LiesBetween lows.now highs.now) result }
+{
+    let last = lows.len();
+    for passed in 0..last {
+        let rank = last - 1 - passed;
+        if lows[rank] <= -1 - highs[passed] {
+            return Some(lows[rank]);
+        }
+    }
+    None
+}
+
+/// The greatest such number: the mirror image of the least one between the mirrored ends.
+fn greatest_between(lows: &[i64], highs: &[i64]) -> Option<i64>
+    requires falling { IsFalling highs.now }
+    requires pairs { length highs.now ≡ length lows.now }
+    ensures { IsGreatestIn (LiesBetween lows.now highs.now) result }
+{
+    match least_between(highs, lows) {
+        Some(mirrored) => Some(-1 - mirrored),
+        None => None,
+    }
+}
+
+/// The least number that lies in at least `need` of the spans.
+pub(crate) fn least_number(spans: &[Span], need: usize) -> Option<i64>
+    requires { (1 ≤ need) × (length spans.now ≤ 64) }
+    ensures { IsLeastIn (LiesInRelaxed (map ends spans.now) need) result }
+{
+    if spans.len() < need {
+        return None;
+    }
+    let (lows, highs) = extremes(spans, spans.len() - need + 1);
+    least_between(&lows, &highs)
+}
+
+/// The hull of the numbers that lie in at least `need` of the spans, none where there are none.
+pub fn relaxed(spans: &[Span], need: u8) -> Option<Span>
+    requires { (1 ≤ need) × (need ≤ length spans.now) × (length spans.now ≤ 64) }
+    ensures none { IsNone result ↔ IsRelaxedEmpty (map ends spans.now) need }
+    ensures some { IfSome result (λ h. IsRelaxedHull (map ends spans.now) need h.lo h.hi) }
+{
+    let (lows, highs) = extremes(spans, spans.len() - usize::from(need) + 1);
+    match (
+        least_between(&lows, &highs),
+        greatest_between(&lows, &highs),
+    ) {
+        (Some(lo), Some(hi)) => Some(Span { lo, hi }),
+        _ => None,
+    }
+}

@@ -1,0 +1,17 @@
+//! What satellite rows say of a box: the clock offsets at which each may fit there, and the
+//! q-relaxed intersection of these spans (Drevelle and Bonnifait, 2011).
+#![tactic(auto)]
+
+mod clocks;
+mod distance;
+mod extremes;
+mod hull;
+mod shown;
+
+pub use clocks::{clock_span, inner_span};
+pub use distance::near_far;
+pub use hull::relaxed;
+pub use shown::{clock_hull, shown_empty, shown_inner};
+
+#[cfg(test)]
+mod tests;

@@ -1,0 +1,50 @@
+//! What the rows show of a box.
+
+ghost use Rattle.std.specs.Prelude.{◌≡◌, ◌-◌, ◌<◌, ◌≤◌, ◌↔◌, length, IsTrue, IfSome, IsNone};
+ghost use Rattle.sat_model.specs.Boxes.{grid_box};
+ghost use Rattle.sat_model.specs.ClockSpans.{IsClockHull, IsShownEmpty, NoneIsShownInner, IsLeastShownInner};
+
+use crate::clocks::{clock_span, inner_span};
+use crate::hull::{least_number, relaxed};
+use arrayvec::ArrayVec;
+use sat_model::{Box3, Row, Span};
+
+/// The hull of the clock offsets in um that lie in the clock spans of all but at most `q` rows over
+/// the box, none where there are none.
+pub fn clock_hull(rows: &[Row], part: &Box3, q: u8) -> Option<Span>
+    requires { (q < length rows.now) × (length rows.now ≤ 64) }
+    ensures none { IsNone result ↔ IsShownEmpty rows.now (grid_box part.now) q }
+    ensures some { IfSome result (λ h. IsClockHull rows.now (grid_box part.now) q h.lo h.hi) }
+{
+    let mut spans: ArrayVec<Span, 64> = ArrayVec::new();
+    for row in rows {
+        spans.push(clock_span(row, part));
+    }
+    relaxed(&spans, rows.len() as u8 - q)
+}
+
+/// Whether no clock offset lies in the clock spans of all but at most `q` rows over the box: then no
+/// point of the box fits.
+pub fn shown_empty(rows: &[Row], part: &Box3, q: u8) -> bool
+    requires { (q < length rows.now) × (length rows.now ≤ 64) }
+    ensures { IsTrue result ↔ IsShownEmpty rows.now (grid_box part.now) q }
+{
+    clock_hull(rows, part, q).is_none()
+}
+
+/// The least clock offset in um that lies in the inner spans of all but at most `q` rows over the
+/// box, none where there is none: at it every point of the box fits.
+pub fn shown_inner(rows: &[Row], part: &Box3, q: u8) -> Option<i64>
+    requires { (q < length rows.now) × (length rows.now ≤ 64) }
+    ensures none { IsNone result → NoneIsShownInner rows.now (grid_box part.now) q }
+    ensures some { IfSome result (λ b. IsLeastShownInner rows.now (grid_box part.now) q b) }
+{
+    let mut spans: ArrayVec<Span, 64> = ArrayVec::new();
+    for row in rows {
+        match inner_span(row, part) {
+            Some(span) => spans.push(span),
+            None => {}
+        }
+    }
+    least_number(&spans, rows.len() - usize::from(q))
+}

@@ -1,0 +1,111 @@
+-- Steps that pass partition the root, cover what all but at most q rows may fit, and close inside
+-- only what all but at most q rows surely fit.
+use Rattle.std.proofs.Common.{◌≡◌, ◌⊎◌, ℕ, ◌<◌, arith, List, [], ◌∷◌, ◌++◌, true, Option, None, Some, inl, inr, refl, ◌∙◌}
+use Rattle.std.specs.Prelude.{ℤ}
+use Rattle.std.proofs.lemmas.Bool.{cases_Bool}
+use Rattle.sat_model.specs.declared.boxes.Pos.{Pos}
+use Rattle.sat_model.specs.declared.rules.Rules.{Rules}
+use Rattle.sat_model.specs.declared.satellites.Row.{Row}
+use Rattle.sat_model.specs.declared.steps.Step.{Step}
+use Rattle.sat_model.specs.declared.steps.Step.TheVariants.{Cut, Split, Outside, Inside, Edge}
+use Rattle.sat_model.specs.Boxes.{GridBox, box_holds}
+use Rattle.sat_model.specs.Cover.{KeepsClock, SomeKeeps, Covers, AreSureInside, EpochCover, BlockCover, BlocksCover, RowCover}
+use Rattle.sat_model.specs.Fitting.{IsPossible, AllBut}
+use Rattle.sat_model.specs.Fold.{Stage, first_stage, slab_of_cut, after, ShownStep, taken_by, pieces_from, pieces}
+use Rattle.sat_model.specs.Logs.{Block, LogValue, rows_of}
+use Rattle.sat_model.specs.Verdicts.{StepPasses, StepsPass, BodyPasses, BlocksPass, Judged}
+use Rattle.sat_model.proofs.FittingLemmas.{in_box, relaxed_of_possible, sure_of_inner}
+use Rattle.sat_model.proofs.FoldLemmas.{weight, held_by, one_held, conserved, nothing_live, root_weight, partitions}
+
+-- ---- what may fit
+
+kept_later : (p : Pos) (b : ℤ) (taken more : List ShownStep) → SomeKeeps p b more → SomeKeeps p b (taken ++ more)
+kept_later p b [] more h = h
+kept_later p b (piece ∷ taken) more h = inr (kept_later p b taken more h)
+
+-- the piece keeps the point and the offset, or doesn't hold the point
+abbrev KeepsOrMisses : Pos → ℤ → List ShownStep → Type 0
+KeepsOrMisses p b taken = ((more : List ShownStep) → SomeKeeps p b (taken ++ more)) ⊎ (held_by p taken ≡ 0)
+
+missed : (p : Pos) (b : ℤ) (step : Step) (part : GridBox) → (box_holds part p ≡ true → ⊥) → KeepsOrMisses p b (record { step = step; part = part } ∷ [])
+missed p b step part h = elim (cases_Bool (box_holds part p)) [
+  | inl e ↦ absurd (h e)
+  | inr e ↦ inr (one_held p step part ∙ rw e refl)
+]
+
+closed : (p : Pos) (b : ℤ) (step : Step) (part : GridBox) → (box_holds part p ≡ true → KeepsClock step b) → KeepsOrMisses p b (record { step = step; part = part } ∷ [])
+closed p b step part h = elim (cases_Bool (box_holds part p)) [
+  | inl e ↦ inl (λ more. inl (e, h e))
+  | inr e ↦ inr (one_held p step part ∙ rw e refl)
+]
+
+keeps_or_misses : (rows : List Row) (rules : Rules) (stage : Stage) (step : Step) (p : Pos) (b : ℤ)
+    → StepPasses rows rules stage step → AllBut rules.outliers (IsPossible p b) rows → KeepsOrMisses p b (taken_by stage step)
+keeps_or_misses rows rules stage (Cut id face bound) p b (part, is, (proper, empty)) all = rw is
+    (missed p b (Cut id face bound) (slab_of_cut face bound part)
+    (λ e. empty b (relaxed_of_possible rules.outliers (slab_of_cut face bound part) p b rows (in_box (slab_of_cut face bound part) p e) all)))
+keeps_or_misses rows rules stage (Split id axis) p b h all = inr refl
+keeps_or_misses rows rules stage (Outside id) p b (part, is, empty) all = rw is
+    (missed p b (Outside id) part (λ e. empty b (relaxed_of_possible rules.outliers part p b rows (in_box part p e) all)))
+keeps_or_misses rows rules stage (Inside id clock lo hi) p b (part, is, inner, hull) all = rw is
+    (closed p b (Inside id clock lo hi) part (λ e. hull b (relaxed_of_possible rules.outliers part p b rows (in_box part p e) all)))
+keeps_or_misses rows rules stage (Edge id lo hi) p b (part, is, hull) all = rw is
+    (closed p b (Edge id lo hi) part (λ e. hull b (relaxed_of_possible rules.outliers part p b rows (in_box part p e) all)))
+
+-- a point of a live box is kept by a later step
+covers_from : (rows : List Row) (rules : Rules) (done : ℕ) (stage : Stage) (steps : List Step) (p : Pos) (b : ℤ)
+    → StepsPass rows rules done stage steps → AllBut rules.outliers (IsPossible p b) rows → 0 < weight p stage.live → SomeKeeps p b (pieces_from stage steps)
+covers_from rows rules done stage [] p b h all some = absurd (omega (arith, nothing_live p stage.live h.0))
+covers_from rows rules done stage (step ∷ steps) p b h all some = elim (keeps_or_misses rows rules stage step p b h.0 all) [
+  | inl kept ↦ kept (pieces_from (after stage step) steps)
+  | inr none ↦ kept_later p b (taken_by stage step) (pieces_from (after stage step) steps)
+      (covers_from rows rules done (after stage step) steps p b h.1 all (omega (arith, conserved rows rules stage step p h.0)))
+]
+
+covers : (rows : List Row) (rules : Rules) (done : ℕ) (root : GridBox) (steps : List Step) → StepsPass rows rules done (first_stage root) steps
+    → Covers rows rules.outliers root (pieces root steps)
+covers rows rules done root steps h p b inside all =
+    covers_from rows rules done (first_stage root) steps p b h all
+    (let one : weight p (Some root ∷ []) ≡ 1 = root_weight root p ∙ rw inside refl in omega arith)
+
+-- ---- what surely fits
+
+sure_both : (rows : List Row) (q : ℕ) (taken more : List ShownStep) → AreSureInside rows q taken → AreSureInside rows q more → AreSureInside rows q (taken ++ more)
+sure_both rows q [] more h k = k
+sure_both rows q (piece ∷ taken) more h k = (h.0, sure_both rows q taken more h.1 k)
+
+sure_taken : (rows : List Row) (rules : Rules) (stage : Stage) (step : Step) → StepPasses rows rules stage step → AreSureInside rows rules.outliers (taken_by stage step)
+sure_taken rows rules stage (Cut id face bound) (part, is, empty) = rw is (tt, tt)
+sure_taken rows rules stage (Split id axis) h = tt
+sure_taken rows rules stage (Outside id) (part, is, empty) = rw is (tt, tt)
+sure_taken rows rules stage (Inside id clock lo hi) (part, is, inner, hull) = rw is
+    (λ p e. sure_of_inner rules.outliers part p clock rows (in_box part p e) inner, tt)
+sure_taken rows rules stage (Edge id lo hi) (part, is, hull) = rw is (tt, tt)
+
+sure_from : (rows : List Row) (rules : Rules) (done : ℕ) (stage : Stage) (steps : List Step) → StepsPass rows rules done stage steps
+    → AreSureInside rows rules.outliers (pieces_from stage steps)
+sure_from rows rules done stage [] h = tt
+sure_from rows rules done stage (step ∷ steps) h =
+    sure_both rows rules.outliers (taken_by stage step) (pieces_from (after stage step) steps)
+    (sure_taken rows rules stage step h.0) (sure_from rows rules done (after stage step) steps h.1)
+
+-- ---- an epoch, and a log
+
+pub epoch_cover : (rows : List Row) (rules : Rules) (done : ℕ) (root : GridBox) (steps : List Step) → StepsPass rows rules done (first_stage root) steps
+    → EpochCover rows rules.outliers root (pieces root steps)
+epoch_cover rows rules done root steps h = record {
+  partition = partitions rows rules done root steps h;
+  covers = covers rows rules done root steps h;
+  sure = sure_from rows rules done (first_stage root) steps h;
+}
+
+block_cover : (rules : Rules) (block : Block) (root : Option GridBox) → BodyPasses rules block root → BlockCover rules.outliers block root
+block_cover rules block None h = tt
+block_cover rules block (Some root) h = epoch_cover (rows_of block.sats) rules block.done root block.steps h
+
+blocks_cover : (rules : Rules) (before : Option ℕ) (blocks : List Block) → BlocksPass rules before blocks → BlocksCover rules.outliers blocks
+blocks_cover rules before [] h = tt
+blocks_cover rules before (block ∷ more) h = (block_cover rules block block.root h.0.body, blocks_cover rules (Some block.index) more h.1)
+
+pub row_cover : (log : LogValue) → Judged log → RowCover log
+row_cover log h = blocks_cover log.rules None log.blocks h

@@ -1,0 +1,130 @@
+-- A log has one first fault: its line and its number are determined.
+use Rattle.std.proofs.Common.{◌≡◌, ◌⊎◌, ℕ, zero, suc, arith, List, [], ◌∷◌, subst, sym, ap, inl, inr, refl, Option, None, Some, ◌∙◌}
+use Rattle.std.specs.Prelude.{ℤ}
+use Rattle.std.proofs.lemmas.Bool.{cases_lt}
+use Rattle.sat_model.specs.declared.rules.Rules.{Rules}
+use Rattle.sat_model.specs.declared.satellites.Row.{Row}
+use Rattle.sat_model.specs.declared.satellites.SatEntry.{SatEntry}
+use Rattle.sat_model.specs.declared.steps.Step.{Step}
+use Rattle.sat_model.specs.declared.steps.Step.TheVariants.{Cut, Split, Outside, Inside, Edge}
+use Rattle.sat_model.specs.Boxes.{GridBox}
+use Rattle.sat_model.specs.ClockSpans.{IsShownEmpty, IsShownInner}
+use Rattle.sat_model.specs.Fold.{Stage, first_stage, IsLive, after}
+use Rattle.sat_model.specs.Logs.{Block, LogValue, rows_of}
+use Rattle.sat_model.specs.Verdicts.{IsLong, HoldsHull, CutsEmptySlab, LiveFails, NotLive, StepFails, StepsFail, HeadFails, IsFirstRepeat, BlockFails, BlocksFail, FirstFault}
+use Rattle.sat_model.proofs.VerdictLemmas.{not_gone, not_failing, step_not_both, head_not_both, block_not_both}
+
+-- ---- a step
+
+abbrev LaterFails : Stage → ℕ → (GridBox → Type 0) → ℕ → ℕ → Type 0
+LaterFails stage id Meets test number = (part : GridBox) × IsLive stage id part × Meets part × (number ≡ test)
+
+one_of_two : (stage : Stage) (id test n m : ℕ) (Meets : GridBox → Type 0)
+    → NotLive stage id n ⊎ LiveFails stage id Meets test n → NotLive stage id m ⊎ LiveFails stage id Meets test m → n ≡ m
+one_of_two stage id test n m Meets (inl (gone, e)) (inl (again, f)) = omega arith
+one_of_two stage id test n m Meets (inl gone) (inr (part, is, fails, f)) = absurd (not_gone stage id n part is gone)
+one_of_two stage id test n m Meets (inr (part, is, fails, e)) (inl gone) = absurd (not_gone stage id m part is gone)
+one_of_two stage id test n m Meets (inr (part, is, fails, e)) (inr (other, live, again, f)) = omega arith
+
+one_of_three : (stage : Stage) (id first second n m : ℕ) (Meets : GridBox → Type 0)
+    → NotLive stage id n ⊎ (LiveFails stage id Meets first n ⊎ LaterFails stage id Meets second n)
+    → NotLive stage id m ⊎ (LiveFails stage id Meets first m ⊎ LaterFails stage id Meets second m) → n ≡ m
+one_of_three stage id first second n m Meets (inl (gone, e)) (inl (again, f)) = omega arith
+one_of_three stage id first second n m Meets (inl gone) (inr (inl (part, is, fails, f))) = absurd (not_gone stage id n part is gone)
+one_of_three stage id first second n m Meets (inl gone) (inr (inr (part, is, meets, f))) = absurd (not_gone stage id n part is gone)
+one_of_three stage id first second n m Meets (inr (inl (part, is, fails, e))) (inl gone) = absurd (not_gone stage id m part is gone)
+one_of_three stage id first second n m Meets (inr (inl (part, is, fails, e))) (inr (inl (other, live, again, f))) = omega arith
+one_of_three stage id first second n m Meets (inr (inl fails)) (inr (inr (other, live, meets, f))) =
+    absurd (not_failing stage id first n Meets other live meets fails)
+one_of_three stage id first second n m Meets (inr (inr (part, is, meets, e))) (inl gone) = absurd (not_gone stage id m part is gone)
+one_of_three stage id first second n m Meets (inr (inr (part, is, meets, e))) (inr (inl fails)) =
+    absurd (not_failing stage id first m Meets part is meets fails)
+one_of_three stage id first second n m Meets (inr (inr (part, is, meets, e))) (inr (inr (other, live, again, f))) = omega arith
+
+later_split : (rules : Rules) (stage : Stage) (id axis n : ℕ) → (rows : List Row) → StepFails rows rules stage (Split id axis) n
+    → NotLive stage id n ⊎ (LiveFails stage id (IsLong rules axis) 61 n ⊎ LaterFails stage id (IsLong rules axis) 62 n)
+later_split rules stage id axis n rows (inl gone) = inl gone
+later_split rules stage id axis n rows (inr (inl short)) = inr (inl short)
+later_split rules stage id axis n rows (inr (inr (part, is, long, full, e))) = inr (inr (part, is, long, e))
+
+one_number : (rows : List Row) (rules : Rules) (stage : Stage) (step : Step) (n m : ℕ)
+    → StepFails rows rules stage step n → StepFails rows rules stage step m → n ≡ m
+one_number rows rules stage (Cut id face bound) n m f g = one_of_two stage id 57 n m (CutsEmptySlab rows rules.outliers face bound) f g
+one_number rows rules stage (Split id axis) n m f g = one_of_three stage id 61 62 n m (IsLong rules axis) (later_split rules stage id axis n rows f) (later_split rules stage id axis m rows g)
+one_number rows rules stage (Outside id) n m f g = one_of_two stage id 58 n m (λ part. IsShownEmpty rows part rules.outliers) f g
+one_number rows rules stage (Inside id clock lo hi) n m f g =
+    one_of_three stage id 59 60 n m (λ part. IsShownInner rows part rules.outliers clock)
+    (later_inside rows rules stage id n clock lo hi f) (later_inside rows rules stage id m clock lo hi g)
+  where
+    later_inside : (rows : List Row) (rules : Rules) (stage : Stage) (id n : ℕ) (clock lo hi : ℤ) → StepFails rows rules stage (Inside id clock lo hi) n
+        → NotLive stage id n
+        ⊎ (LiveFails stage id (λ part. IsShownInner rows part rules.outliers clock) 59 n ⊎ LaterFails stage id (λ part. IsShownInner rows part rules.outliers clock) 60 n)
+    later_inside rows rules stage id n clock lo hi (inl gone) = inl gone
+    later_inside rows rules stage id n clock lo hi (inr (inl out)) = inr (inl out)
+    later_inside rows rules stage id n clock lo hi (inr (inr (part, is, inner, narrow, e))) = inr (inr (part, is, inner, e))
+one_number rows rules stage (Edge id lo hi) n m f g = one_of_two stage id 60 n m (λ part. HoldsHull rows rules.outliers part lo hi) f g
+
+-- the same line, the same number
+abbrev IsOne : ℕ → ℕ → ℕ → ℕ → Type 0
+IsOne line number other_line other_number = (line ≡ other_line) × (number ≡ other_number)
+
+one_in_steps : (rows : List Row) (rules : Rules) (done : ℕ) (stage : Stage) (steps : List Step) (j n k m : ℕ)
+    → StepsFail rows rules done stage steps j n → StepsFail rows rules done stage steps k m → IsOne j n k m
+one_in_steps rows rules done stage [] j n k m (here, inl (live, e)) (there, inl (again, f)) = (omega arith, omega arith)
+one_in_steps rows rules done stage [] j n k m (here, inl (live, e)) (there, inr (none, count, f)) = absurd (live.1 (none live.0))
+one_in_steps rows rules done stage [] j n k m (here, inr (none, count, e)) (there, inl (live, f)) = absurd (live.1 (none live.0))
+one_in_steps rows rules done stage [] j n k m (here, inr (none, count, e)) (there, inr (again, other, f)) = (omega arith, omega arith)
+one_in_steps rows rules done stage (step ∷ steps) zero n zero m f g = (refl, one_number rows rules stage step n m f g)
+one_in_steps rows rules done stage (step ∷ steps) zero n (suc k) m f g = absurd (step_not_both rows rules stage step n g.0 f)
+one_in_steps rows rules done stage (step ∷ steps) (suc j) n zero m f g = absurd (step_not_both rows rules stage step m f.0 g)
+one_in_steps rows rules done stage (step ∷ steps) (suc j) n (suc k) m f g =
+    let same = one_in_steps rows rules done (after stage step) steps j n k m f.1 g.1 in
+    (ap suc same.0, same.1)
+
+-- ---- a block, and the log
+
+one_head : (rules : Rules) (before : Option ℕ) (block : Block) (n m : ℕ) → HeadFails rules before block n → HeadFails rules before block m → n ≡ m
+one_head rules before block n m (inl (fails, e)) (inl (again, f)) = omega arith
+one_head rules before block n m (inl (fails, e)) (inr (later, suits, count, f)) = absurd (fails (later, suits))
+one_head rules before block n m (inr (later, suits, count, e)) (inl (fails, f)) = absurd (fails (later, suits))
+one_head rules before block n m (inr (later, suits, count, e)) (inr (l, s, c, f)) = omega arith
+
+one_repeat : (sats : List SatEntry) (j k : ℕ) → IsFirstRepeat sats j → IsFirstRepeat sats k → j ≡ k
+one_repeat sats j k a b = elim (cases_lt j k) [
+  | inl less ↦ absurd (b.first j less a.repeats)
+  | inr not_less ↦ elim (cases_lt k j) [
+    | inl less ↦ absurd (a.first k less b.repeats)
+    | inr not_more ↦ omega arith
+  ]
+]
+
+one_root : (o : Option GridBox) (a b : GridBox) → o ≡ Some a → o ≡ Some b → a ≡ b
+one_root o a b e f = cc
+
+one_in_block : (rules : Rules) (before : Option ℕ) (block : Block) (l n k m : ℕ)
+    → BlockFails rules before block l n → BlockFails rules before block k m → IsOne l n k m
+one_in_block rules before block l n k m (inl (head, e)) (inl (again, f)) = (e ∙ sym f, one_head rules before block n m head again)
+one_in_block rules before block l n k m (inl (head, e)) (inr (inl (passes, repeat, f))) = absurd (head_not_both rules before block n passes head)
+one_in_block rules before block l n k m (inl (head, e)) (inr (inr (passes, none, steps))) = absurd (head_not_both rules before block n passes head)
+one_in_block rules before block l n k m (inr (inl (passes, repeat, e))) (inl (head, f)) = absurd (head_not_both rules before block m passes head)
+one_in_block rules before block l n k m (inr (inl (passes, (i, first, at), e))) (inr (inl (again, (j, other, line), f))) =
+    (omega (arith, one_repeat block.sats i j first other), omega arith)
+one_in_block rules before block l n k m (inr (inl (passes, (i, first, at), e))) (inr (inr (again, none, steps))) = absurd (none i first.repeats)
+one_in_block rules before block l n k m (inr (inr (passes, none, steps))) (inl (head, f)) = absurd (head_not_both rules before block m passes head)
+one_in_block rules before block l n k m (inr (inr (passes, none, steps))) (inr (inl (again, (j, other, line), f))) = absurd (none j other.repeats)
+one_in_block rules before block l n k m (inr (inr (passes, none, (root, i, paved, fails, at)))) (inr (inr (again, absent, (base, j, is, fail, line)))) =
+    let from = subst (λ (c : GridBox). StepsFail (rows_of block.sats) rules block.done (first_stage c) block.steps i n) (one_root block.root root base paved is) fails in
+    let same = one_in_steps (rows_of block.sats) rules block.done (first_stage base) block.steps i n j m from fail in
+    (omega (arith, same.0), same.1)
+
+one_in_blocks : (rules : Rules) (before : Option ℕ) (blocks : List Block) (l n k m : ℕ)
+    → BlocksFail rules before blocks l n → BlocksFail rules before blocks k m → IsOne l n k m
+one_in_blocks rules before [] l n k m f g = absurd f
+one_in_blocks rules before (block ∷ more) l n k m (inl f) (inl g) = one_in_block rules before block l n k m f g
+one_in_blocks rules before (block ∷ more) l n k m (inl f) (inr (passes, g)) = absurd (block_not_both rules before block l n passes f)
+one_in_blocks rules before (block ∷ more) l n k m (inr (passes, f)) (inl g) = absurd (block_not_both rules before block k m passes g)
+one_in_blocks rules before (block ∷ more) l n k m (inr (passes, f)) (inr (again, g)) = one_in_blocks rules (Some block.index) more l n k m f g
+
+pub one_first_fault : (log : LogValue) (line number other_line other_number : ℕ) → FirstFault log line number → FirstFault log other_line other_number
+    → (line ≡ other_line) × (number ≡ other_number)
+one_first_fault log line number other_line other_number f g = one_in_blocks log.rules None log.blocks line number other_line other_number f g
