@@ -10,7 +10,7 @@ use Rattle.outer_io.specs.declared.slots.Slot.{Slot}
 use Rattle.outer_io.specs.declared.slots.Slots.{Slots}
 use Rattle.outer_io.specs.Taken.{TakenBy}
 use Rattle.outer_io.specs.Told.{Told}
-use Rattle.paving_log.specs.Faults.{Refuses}
+use Rattle.paving_log.specs.Faults as text
 use Rattle.paving_log.specs.Text.{IsLogText}
 use Rattle.paving_log.specs.declared.log.LogError.TheVariants as error
 use Rattle.sat_model.specs.Cover.{RowCover, kept_boxes}
@@ -55,8 +55,8 @@ SaysNo bytes line =
 
 -- the notice is that for the first fault of a text that is no log's
 abbrev pub NamesFault : List ℕ → Notice → Type 0
-NamesFault bytes (notice.BadLog line kind) = SpellNoLog bytes × Refuses bytes (error.BadLog line kind)
-NamesFault bytes (notice.NotBuilt line) = SpellNoLog bytes × Refuses bytes (error.NotBuilt line)
+NamesFault bytes (notice.BadLog line kind) = SpellNoLog bytes × text.FirstFault bytes (error.BadLog line kind)
+NamesFault bytes (notice.NotBuilt line) = SpellNoLog bytes × text.FirstFault bytes (error.NotBuilt line)
 NamesFault bytes _ = ⊥
 
 -- the notice isn't one of a refused file
