@@ -1,0 +1,24 @@
+//! What the program does: words, files and sinks go in, and a status comes out.
+//!
+//! `judge LOG` reads a log, judges it with its satellite rows taken as given, and prints the
+//! verdict.
+#![tactic(auto)]
+
+mod answer;
+mod file;
+mod judging;
+mod limits;
+mod notice;
+mod top;
+mod status;
+mod text;
+mod texts;
+mod words;
+
+pub use limits::Limits;
+pub use paving_log_check::{Fault, Verdict, judge};
+pub use status::Status;
+pub use top::run;
+
+#[cfg(test)]
+mod tests;

@@ -1,0 +1,98 @@
+//! The lines that the program prints.
+
+ghost use Rattle.std.specs.Prelude.{◌≡◌, ◌≤◌, length};
+ghost use Rattle.cover_run.specs.Texts.{yes_text, no_text, test_name, notice_text};
+
+use crate::Fault;
+use crate::notice::Notice;
+use arrayvec::ArrayString;
+use itoa::Buffer;
+
+/// A line with its LF.
+pub type Line = ArrayString<128>;
+
+/// `yes BOXES`: the log is right.
+pub fn yes_line(boxes: u64) -> Line
+    ensures { result.bytes ≡ yes_text boxes }
+{
+    let mut buffer = Buffer::new();
+    let mut line = Line::new();
+    line.push_str("yes ");
+    line.push_str(buffer.format(boxes));
+    line.push_str("\n");
+    line
+}
+
+/// `no NUMBER NAME line LINE`: the log's first fault.
+pub fn no_line(fault: &Fault) -> Line
+    ensures { result.bytes ≡ no_text fault.now.number fault.now.line }
+{
+    let mut buffer = Buffer::new();
+    let mut line = Line::new();
+    line.push_str("no ");
+    line.push_str(buffer.format(fault.number));
+    line.push_str(" ");
+    line.push_str(name_of_test(fault.number));
+    line.push_str(" line ");
+    line.push_str(buffer.format(fault.line));
+    line.push_str("\n");
+    line
+}
+
+// The name of a test of a log's lines.
+fn name_of_test(number: u8) -> &'static str
+    ensures name { result.now ≡ test_name number }
+    ensures short { length result.now ≤ 16 }
+{
+    match number {
+        50 => "RulesDiffer",
+        51 => "EpochDiffers",
+        52 => "SatelliteDiffers",
+        53 => "RowNarrow",
+        54 => "BoundDiffers",
+        55 => "RootDiffers",
+        56 => "NotLive",
+        57 => "CutNotShown",
+        58 => "OutNotShown",
+        59 => "InNotShown",
+        60 => "ClockNarrow",
+        61 => "BadSplit",
+        62 => "OverBudget",
+        63 => "NotClosed",
+        _ => "CountDiffers",
+    }
+}
+
+/// The line on standard error for a run without a verdict.
+pub fn notice_line(notice: Notice) -> Line
+    ensures { result.bytes ≡ notice_text notice }
+{
+    let mut buffer = Buffer::new();
+    let mut line = Line::new();
+    match notice {
+        Notice::Usage => line.push_str(
+            "usage: gpscover judge LOG, pave ROWS LOG, solve or check OBS NAV SETTINGS LOG, make SEED EPOCHS\n",
+        ),
+        Notice::TooLong { limit } => {
+            line.push_str("log 29 TooLong ");
+            line.push_str(buffer.format(limit));
+            line.push_str("\n");
+        }
+        Notice::BadLog { line: number, kind } => {
+            line.push_str("log 40 BadLog line ");
+            line.push_str(buffer.format(number));
+            line.push_str(" kind ");
+            line.push_str(buffer.format(kind));
+            line.push_str("\n");
+        }
+        Notice::NotBuilt { line: number } => {
+            line.push_str("log 41 NotBuilt line ");
+            line.push_str(buffer.format(number));
+            line.push_str("\n");
+        }
+        Notice::LogFault => line.push_str("log fault\n"),
+        Notice::OutFault => line.push_str("out fault\n"),
+        Notice::NoMemory => line.push_str("no memory\n"),
+    }
+    line
+}

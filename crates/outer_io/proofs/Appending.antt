@@ -1,0 +1,87 @@
+-- A piece that goes out in several writes.
+use Rattle.std.proofs.Common.{◌≡◌, ℕ, ◌+◌, ◌-◌, List, [], ◌∷◌, ◌++◌, length, take, drop, Option, None, Some, refl, sym, ap, ◌∙◌, append_assoc, append-nil, arith, cond, Bool, true, false, length-append, length-drop, unwrap_or}
+use Rattle.std.proofs.Math.Seq.{take-add, take-length}
+use Rattle.std.specs.Io.KnownBytes.{append_known}
+use Rattle.std.specs.Option.{option_map}
+use Rattle.std.specs.Ordering.{nat_cmp, eq_by_cmp}
+use Rattle.std.proofs.lemmas.Cmp.{nat_list_cmp_total, eq_by_cmp_equiv}
+use Rattle.std.specs.Cmp.Lexicographic.{slice_cmp}
+use Rattle.std.specs.FinMap as map
+use Rattle.outer_io.specs.declared.slots.Slot.{Slot}
+use Rattle.outer_io.specs.Slots.{at, put}
+use Rattle.outer_io.proofs.SlotLemmas.{at-put, put-put}
+use Rattle.outer_io.specs.Told.{Files, Told, content, appended, AppendedBy}
+
+pub append_known-nil : (a : Option (List ℕ)) → a ≡ append_known a []
+append_known-nil None = refl
+append_known-nil (Some xs) = ap Some (sym (append-nil xs))
+
+pub append_known-append : (a : Option (List ℕ)) (xs ys : List ℕ) → append_known (append_known a xs) ys ≡ append_known a (xs ++ ys)
+append_known-append None xs ys = refl
+append_known-append (Some zs) xs ys = ap Some (append_assoc zs xs ys)
+
+-- the first bytes, and then the first of the rest
+front_of_rest : (bytes : List ℕ) (done k : ℕ) → take done bytes ++ take k (drop done bytes) ≡ take (done + k) bytes
+front_of_rest bytes done k = sym (take-add done k bytes)
+
+rest_whole : (bytes : List ℕ) (done : ℕ) → take (length bytes - done) (drop done bytes) ≡ drop done bytes
+rest_whole bytes done = ap (λ n. take n (drop done bytes)) (sym (length-drop done bytes)) ∙ take-length (drop done bytes)
+
+pub taken-more : (a b c : Option (List ℕ)) (bytes : List ℕ) (done k : ℕ)
+    → b ≡ append_known a (take done bytes) → c ≡ append_known b (take k (take (length bytes - done) (drop done bytes))) → c ≡ append_known a (take (done + k) bytes)
+taken-more a b c bytes done k before then =
+    then ∙ ap (λ p. append_known b (take k p)) (rest_whole bytes done) ∙ ap (λ o. append_known o (take k (drop done bytes))) before
+    ∙ append_known-append a _ _ ∙ ap (append_known a) (front_of_rest bytes done k)
+
+-- ---- a shelf's file
+
+shadowed : {X : Type 0} (b : Bool) (x y : X) (rest : X) → cond b y (cond b x rest) ≡ cond b y rest
+shadowed true x y rest = refl
+shadowed false x y rest = refl
+
+pub same_key : (name : List ℕ) → eq_by_cmp (slice_cmp nat_cmp) name name ≡ true
+same_key name = (eq_by_cmp_equiv nat_list_cmp_total).refl name
+
+pub insert-insert : (files : Files) (name xs ys : List ℕ) → map.insert (map.insert files name xs) name ys ≡ map.insert files name ys
+insert-insert files name xs ys = map.same_map nat_list_cmp_total (map.slice_cmp-IsAntisymmetric map.nat_cmp-IsAntisymmetric) _ _
+    (λ q. map.get-insert nat_list_cmp_total _ name ys q
+    ∙ ap (cond (eq_by_cmp (slice_cmp nat_cmp) q name) (Some ys)) (map.get-insert nat_list_cmp_total files name xs q)
+    ∙ shadowed (eq_by_cmp (slice_cmp nat_cmp) q name) (Some xs) (Some ys) (map.get files q)
+    ∙ sym (map.get-insert nat_list_cmp_total files name ys q))
+
+pub content-insert : (files : Files) (name xs : List ℕ) → content (map.insert files name xs) name ≡ xs
+content-insert files name xs =
+    ap (λ o. unwrap_or o []) (map.get-insert nat_list_cmp_total files name xs name ∙ ap (λ b. cond b (Some xs) (map.get files name)) (same_key name))
+
+-- two pieces, one after the other, are their sum
+appended-append : (slot : Slot) (xs ys : List ℕ) (t : Told) → appended slot ys (appended slot xs t) ≡ appended slot (xs ++ ys) t
+appended-append slot [] ys t = refl
+appended-append slot (x ∷ xs) [] t = ap (λ l. appended slot l t) (sym (append-nil (x ∷ xs)))
+appended-append slot (x ∷ xs) (y ∷ ys) t =
+    let name = (at t.places slot).name in
+    let from = (at t.places slot).from in
+    let bytes : (content t.files name ++ x ∷ xs) ++ y ∷ ys ≡ content t.files name ++ x ∷ (xs ++ y ∷ ys) = append_assoc (content t.files name) (x ∷ xs) (y ∷ ys) in
+    let places : (from + length (x ∷ xs)) + length (y ∷ ys) ≡ from + length (x ∷ (xs ++ y ∷ ys)) = simp length-append (omega arith) in
+    let written : (t.written + length (x ∷ xs)) + length (y ∷ ys) ≡ t.written + length (x ∷ (xs ++ y ∷ ys)) = simp length-append (omega arith) in
+    let all : ◌≡◌ {A = Told}
+    (record { files = map.insert t.files name ((content t.files name ++ x ∷ xs) ++ y ∷ ys); places = put t.places slot (record { name = name; from = (from + length (x ∷ xs)) + length (y ∷ ys) }); written = (t.written + length (x ∷ xs)) + length (y ∷ ys) })
+    (record { files = map.insert t.files name (content t.files name ++ x ∷ (xs ++ y ∷ ys)); places = put t.places slot (record { name = name; from = from + length (x ∷ (xs ++ y ∷ ys)) }); written = t.written + length (x ∷ (xs ++ y ∷ ys)) }) =
+    λ i. record { files = map.insert t.files name (bytes i); places = put t.places slot (record { name = name; from = places i }); written = written i } in
+    simp (at-put, put-put, content-insert, insert-insert) all
+
+appended_by-append : (slot : Slot) (xs ys : List ℕ) (a : Option Told) → option_map (appended slot ys) (option_map (appended slot xs) a) ≡ option_map (appended slot (xs ++ ys)) a
+appended_by-append slot xs ys None = refl
+appended_by-append slot xs ys (Some t) = ap Some (appended-append slot xs ys t)
+
+pub appended-twice : (slot : Slot) (xs ys : List ℕ) (a b c : Option Told) → AppendedBy a b slot xs → AppendedBy b c slot ys → AppendedBy a c slot (xs ++ ys)
+appended-twice slot xs ys a b c first second = second ∙ ap (option_map (appended slot ys)) first ∙ appended_by-append slot xs ys a
+
+pub appended-none : (slot : Slot) (a : Option Told) → AppendedBy a a slot []
+appended-none slot None = refl
+appended-none slot (Some t) = refl
+
+pub appended-more : (slot : Slot) (a b c : Option Told) (bytes : List ℕ) (done k : ℕ)
+    → AppendedBy a b slot (take done bytes) → AppendedBy b c slot (take k (take (length bytes - done) (drop done bytes))) → AppendedBy a c slot (take (done + k) bytes)
+appended-more slot a b c bytes done k before then =
+    then ∙ ap (λ p. option_map (appended slot (take k p)) b) (rest_whole bytes done) ∙ ap (option_map (appended slot (take k (drop done bytes)))) before
+    ∙ appended_by-append slot _ _ a ∙ ap (λ p. option_map (appended slot p) a) (front_of_rest bytes done k)

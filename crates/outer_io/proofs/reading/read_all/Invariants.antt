@@ -1,0 +1,19 @@
+use Rattle.std.proofs.Common.{ℕ, List, Option, ◌-◌, ◌+◌, ◌≡◌, ◌≤◌, vec_len}
+use Rattle.std.specs.Io.KnownBytes.{Consumes}
+use Rattle.outer_io.specs.Told.{MovedBy, left_of}
+use Rattle.outer_io.proofs.reading.read_all.Given as goal
+
+abbrev pub invariant-reading : goal.invariant-reading
+invariant-reading g l = record {
+  within : vec_len l.all ≤ l.limit;
+  bytes : Consumes (left_of l.slot (g.H.Shelf.told l.fn.shelf)) (left_of l.slot (g.H.Shelf.told l.shelf)) l.all.items;
+  moved : MovedBy (g.H.Shelf.told l.fn.shelf) (g.H.Shelf.told l.shelf) l.slot (vec_len l.all);
+  later : g.H.Shelf.read_faults l.fn.shelf ≤ g.H.Shelf.read_faults l.shelf;
+  other : g.H.Shelf.write_faults l.shelf ≡ g.H.Shelf.write_faults l.fn.shelf;
+  reliable : (log : Option (List ℕ)) → g.H.Shelf.reliable l.shelf log
+      → g.H.Shelf.reliable l.fn.shelf log × (g.H.Shelf.read_faults l.shelf ≡ g.H.Shelf.read_faults l.fn.shelf);
+  phase : g.H.Shelf.phases l.shelf ≡ g.H.Shelf.phases l.fn.shelf;
+}
+
+abbrev pub decreases-reading : goal.decreases-reading
+decreases-reading g l = l.limit + 1 - vec_len l.all

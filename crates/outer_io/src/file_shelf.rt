@@ -1,0 +1,110 @@
+//! The system's files.
+
+ghost use Rattle.std.specs.Prelude.{◌≡◌, None};
+ghost use Rattle.outer_io.specs.declared.shelf.Phase.{Phase};
+
+use crate::{Failed, Phase, Shelf, Slot, Slots};
+use std::fs::{self, Files};
+use std::io::{Read, Write};
+
+/// The files of the system, under their paths. It tells nothing of what they hold.
+#[derive(Drop)]
+pub struct FileShelf<R: Files> {
+    rt: R,
+    files: Slots<Option<R::File>>,
+    phases: Slots<Phase>,
+    read_faults: u64,
+    write_faults: u64,
+}
+
+impl<R: Files> FileShelf<R> {
+    ghost use Rattle.outer_io.specs.Slots.{all};
+
+    /// A shelf whose slots are closed, of which no call has failed yet.
+    pub fn make(rt: R) -> FileShelf<R>
+        ensures closed { ⟦<FileShelf<R> as Shelf>⟧.phases result ≡ all Phase.Closed }
+        ensures read_faults { ⟦<FileShelf<R> as Shelf>⟧.read_faults result ≡ 0 }
+        ensures write_faults { ⟦<FileShelf<R> as Shelf>⟧.write_faults result ≡ 0 }
+    {
+        FileShelf {
+            rt,
+            files: Slots {
+                settings: None,
+                nav: None,
+                obs: None,
+                rows: None,
+                log: None,
+            },
+            phases: Slots::of_each(Phase::Closed),
+            read_faults: 0,
+            write_faults: 0,
+        }
+    }
+}
+
+impl<R: Files> Shelf for FileShelf<R> {
+    ghost told = { λ _. None };
+
+    ghost phases = { λ s. s.phases };
+
+    ghost read_faults = { λ s. s.read_faults };
+
+    ghost write_faults = { λ s. s.write_faults };
+
+    ghost fails_at = { λ _ _. ⊥ };
+
+    ghost reliable = { λ _ _. ⊥ };
+
+    fn begin(&mut self, name: &str, slot: Slot) -> Result<(), Failed> {
+        match fs::open(&self.rt, name) {
+            Ok(file) => {
+                self.files.put(slot, Some(file));
+                self.phases.put(slot, Phase::Reading);
+                Ok(())
+            }
+            Err(_) => {
+                self.files.put(slot, None);
+                self.phases.put(slot, Phase::Closed);
+                self.read_faults = self.read_faults.saturating_add(1);
+                Err(Failed)
+            }
+        }
+    }
+
+    fn read(&mut self, slot: Slot, buf: &mut [u8]) -> Result<usize, Failed> {
+        if let Some(file) = self.files.at_mut(slot) {
+            if let Ok(count) = file.read(buf) {
+                return Ok(count);
+            }
+        }
+        self.read_faults = self.read_faults.saturating_add(1);
+        Err(Failed)
+    }
+
+    fn create(&mut self, name: &str, slot: Slot) -> Result<(), Failed> {
+        match fs::create(&self.rt, name) {
+            Ok(file) => {
+                self.files.put(slot, Some(file));
+                self.phases.put(slot, Phase::Writing);
+                Ok(())
+            }
+            Err(_) => {
+                self.files.put(slot, None);
+                self.phases.put(slot, Phase::Closed);
+                self.write_faults = self.write_faults.saturating_add(1);
+                Err(Failed)
+            }
+        }
+    }
+
+    fn write(&mut self, slot: Slot, bytes: &[u8]) -> Result<usize, Failed> {
+        if let Some(file) = self.files.at_mut(slot) {
+            match file.write(bytes) {
+                Ok(count) if count > 0 || bytes.is_empty() => return Ok(count),
+                _ => {}
+            }
+        }
+        self.write_faults = self.write_faults.saturating_add(1);
+        Err(Failed)
+    }
+}

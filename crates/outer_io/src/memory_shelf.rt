@@ -1,0 +1,165 @@
+//! A shelf in memory.
+
+ghost use Rattle.std.specs.Prelude.{◌≡◌, ◌<◌, ◌+◌, ◌^◌, ◌↔◌, ℕ, List, [], Contains, length, drop, string_bytes, None, Some, IfOk};
+ghost use Rattle.std.specs.FinMap as map;
+ghost use Rattle.std.specs.Option.{option_map};
+ghost use Rattle.outer_io.specs.declared.shelf.Phase.{Phase};
+ghost use Rattle.outer_io.specs.Marks.{WritesLog};
+ghost use Rattle.outer_io.specs.Slots.{AtEach, all};
+ghost use Rattle.outer_io.specs.Store.{HaveOwnNames, listed, files_in, name_of};
+ghost use Rattle.outer_io.specs.Told.{content, files_of, written_of};
+
+use crate::failing_calls::FailingCalls;
+use crate::marks::Mark;
+use crate::memory_files::{FileId, MemoryFiles};
+use crate::pieces::{copy, part};
+use crate::{Failed, Phase, Shelf, Slot, Slots};
+use sat_model::NoMemory;
+use std::alloc::Global;
+
+/// A shelf in memory, which tells everything. It takes no memory after `make`. It fails only
+/// where it is asked to, at a `begin` of a missing file, at a `create` of another name than its
+/// log's, and where there is no room for any byte of a piece.
+#[derive(Drop)]
+pub struct MemoryShelf {
+    store: MemoryFiles,
+    marks: Slots<Mark>,
+    failing: FailingCalls,
+    read_faults: u64,
+    write_faults: u64,
+    ghost quiet: { failing.numbers.items ≡ [] → read_faults ≡ 0 },
+    ghost writers: { AtEach (WritesLog store) marks },
+}
+
+impl MemoryShelf {
+    /// A shelf of these files, of which `log` alone can be created and written, with `room` bytes
+    /// in all. It fails at the calls of these numbers, counted from 1.
+    pub fn make(
+        alloc: Global,
+        files: Vec<(String, Vec<u8>)>,
+        log: String,
+        room: u64,
+        fails: Vec<u64>,
+    ) -> Result<MemoryShelf, NoMemory>
+        requires { HaveOwnNames files.items }
+        ensures files { IfOk result (λ s. files_of (⟦<MemoryShelf as Shelf>⟧.told s) ≡ Some (listed files.items)) }
+        ensures written { IfOk result (λ s. written_of (⟦<MemoryShelf as Shelf>⟧.told s) ≡ Some 0) }
+        ensures closed { IfOk result (λ s. ⟦<MemoryShelf as Shelf>⟧.phases s ≡ all Phase.Closed) }
+        ensures read_faults { IfOk result (λ s. ⟦<MemoryShelf as Shelf>⟧.read_faults s ≡ 0) }
+        ensures write_faults { IfOk result (λ s. ⟦<MemoryShelf as Shelf>⟧.write_faults s ≡ 0) }
+        ensures fails { IfOk result (λ s. (k : ℕ) → k < 2 ^ 64 → ⟦<MemoryShelf as Shelf>⟧.fails_at s k ↔ Contains fails.items k) }
+        ensures reads { IfOk result (λ s. ⟦<MemoryShelf as Shelf>⟧.reliable s None ↔ (fails.items ≡ [])) }
+        ensures writes { IfOk result (λ s. ⟦<MemoryShelf as Shelf>⟧.reliable s (Some (string_bytes log)) ↔ ((fails.items ≡ []) × (0 < room))) }
+    {
+        Ok(MemoryShelf {
+            store: MemoryFiles::make(alloc, files, log, room)?,
+            marks: Slots::of_each(Mark::at_start(FileId::Log, Phase::Closed)),
+            failing: FailingCalls::new(fails),
+            read_faults: 0,
+            write_faults: 0,
+        })
+    }
+
+    /// The bytes of the named file, none exactly where it isn't there.
+    pub fn file(&self, name: &str) -> Option<&[u8]>
+        ensures { Some (option_map (λ bytes. bytes.now) result) ≡ option_map (λ files. map.get files name.now) (files_of (⟦<MemoryShelf as Shelf>⟧.told self.now)) }
+    {
+        self.store.file(name)
+    }
+}
+
+// What is left to read at the mark.
+fn left(store: &MemoryFiles, mark: Mark) -> &[u8]
+    ensures bytes { result.now ≡ drop mark.from (content (files_in store.now) (name_of store.now mark.file)) }
+    ensures fits { mark.from + length result.now < 2 ^ 64 }
+{
+    match store.file(store.name_of(mark.file)) {
+        Some(bytes) => {
+            if mark.from < bytes.len() {
+                &bytes[mark.from..]
+            } else {
+                &[]
+            }
+        }
+        None => &[],
+    }
+}
+
+impl Shelf for MemoryShelf {
+    ghost use Rattle.outer_io.specs.Failing.{IsListed};
+    ghost use Rattle.outer_io.specs.Marks.{told_of, phases_of};
+    ghost use Rattle.outer_io.specs.Store.{HasRoomFor};
+
+    ghost told = { λ s. Some (told_of s.store s.marks) };
+
+    ghost phases = { λ s. phases_of s.marks };
+
+    ghost read_faults = { λ s. s.read_faults };
+
+    ghost write_faults = { λ s. s.write_faults };
+
+    ghost fails_at = { λ s k. IsListed s.failing k };
+
+    ghost reliable = { λ s log. (s.failing.numbers.items ≡ []) × HasRoomFor s.store log };
+
+    fn begin(&mut self, name: &str, slot: Slot) -> Result<(), Failed> {
+        let fails = self.failing.next_fails();
+        let mark = *self.marks.at(slot);
+        let Some(file) = self.store.id_of(name) else {
+            self.marks.put(slot, mark.closed());
+            return Err(Failed);
+        };
+        if fails {
+            self.read_faults = self.read_faults.saturating_add(1);
+            self.marks.put(slot, mark.closed());
+            return Err(Failed);
+        }
+        self.marks.put(slot, Mark::at_start(file, Phase::Reading));
+        Ok(())
+    }
+
+    fn read(&mut self, slot: Slot, buf: &mut [u8]) -> Result<usize, Failed> {
+        if self.failing.next_fails() {
+            self.read_faults = self.read_faults.saturating_add(1);
+            return Err(Failed);
+        }
+        let mark = *self.marks.at(slot);
+        let count = copy(left(&self.store, mark), buf);
+        self.marks.put(slot, mark.moved(count));
+        Ok(count)
+    }
+
+    fn create(&mut self, name: &str, slot: Slot) -> Result<(), Failed> {
+        let fails = self.failing.next_fails();
+        if fails || !self.store.is_log(name) {
+            self.write_faults = self.write_faults.saturating_add(1);
+            let mark = *self.marks.at(slot);
+            self.marks.put(slot, mark.closed());
+            return Err(Failed);
+        }
+        self.store.create_log();
+        self.marks
+            .put(slot, Mark::at_start(FileId::Log, Phase::Writing));
+        Ok(())
+    }
+
+    fn write(&mut self, slot: Slot, bytes: &[u8]) -> Result<usize, Failed> {
+        if self.failing.next_fails() {
+            self.write_faults = self.write_faults.saturating_add(1);
+            return Err(Failed);
+        }
+        if bytes.is_empty() {
+            return Ok(0);
+        }
+        let room = self.store.room();
+        if room == 0 {
+            self.write_faults = self.write_faults.saturating_add(1);
+            return Err(Failed);
+        }
+        let mark = *self.marks.at(slot);
+        let count = part(bytes.len(), room);
+        self.store.append(&bytes[..count]);
+        self.marks.put(slot, mark.moved(count));
+        Ok(count)
+    }
+}
