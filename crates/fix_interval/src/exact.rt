@@ -3,7 +3,7 @@
 ghost use Rattle.std.specs.Prelude.{◌≡◌, ◌^◌, ℤ, pos, ◌+ℤ◌, ◌-ℤ◌, ◌*ℤ◌, ◌≤ℤ◌, ◌<ℤ◌};
 ghost use Rattle.sat_model.specs.Sizes.{IsWithin};
 ghost use Rattle.sat_model.specs.Intervals.{Between};
-ghost use Rattle.sat_model.specs.Rounding.{Near, IsTightRound};
+ghost use Rattle.sat_model.specs.Rounding.{Near, IsTightRound, IsTightQuotient};
 ghost use Rattle.sat_model.specs.Products.{ProductsWithin, least_product, greatest_product};
 
 use crate::ends::{
@@ -88,9 +88,7 @@ impl Exact {
         requires low_size { IsWithin (10 ^ 38) (self.lo *ℤ num) }
         requires high_size { IsWithin (10 ^ 38) (self.hi *ℤ num) }
         ensures holds { (a b v : ℤ) → Between self.lo self.hi a → Between other.lo other.hi b → Near (a *ℤ num) b v → Between result.lo result.hi v }
-
-        // The low end is round one exact result, and the high end round another.
-        ensures tight { (a b a' b' : ℤ) × Between self.lo self.hi a × Between other.lo other.hi b × Between self.lo self.hi a' × Between other.lo other.hi b' × IsTightRound (a *ℤ num) b (a' *ℤ num) b' result.lo result.hi }
+        ensures tight { IsTightQuotient self.lo self.hi other.lo other.hi num result.lo result.hi }
     {
         let least = least_of_products(self.lo, self.hi, num, num);
         let greatest = greatest_of_products(self.lo, self.hi, num, num);

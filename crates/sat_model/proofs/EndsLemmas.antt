@@ -5,8 +5,8 @@ use Rattle.std.specs.Prelude.{ℤ, pos, ◌+ℤ◌, ◌-ℤ◌, ◌*ℤ◌, neg_
 use Rattle.std.proofs.lemmas.Int.{ints}
 use lib.IntN.{*ℤ_comm}
 use Rattle.sat_model.specs.Sizes.{IsWithin}
-use Rattle.sat_model.specs.Intervals.{Between, Ends}
-use Rattle.sat_model.specs.Rounding.{IsTightRound}
+use Rattle.sat_model.specs.Intervals.{Ends}
+use Rattle.sat_model.specs.Rounding.{IsTightRound, IsTightQuotient}
 use Rattle.sat_model.specs.Products.{least_product, greatest_product}
 use Rattle.sat_model.proofs.ProductLemmas.{mul_mono, mul_le_back, add_mul, neg_mul, mul_assoc, product_within, products_apart}
 use Rattle.sat_model.proofs.IntervalLemmas.{member_within, members_within}
@@ -111,13 +111,21 @@ quotient_width m v n w j p s num a a' b b' l h f g i k o q q' r r' c t =
 
 -- `over` of members of amount m and width v, times a number of amount p, by divisors of amount n
 -- and width w that are at least s
-pub quotient_ends : (m v n w k j p s : ℕ) (num a b c d l h : ℤ) → Ends m v a b → Ends n w c d → IsWithin p num → pos 0 <ℤ c → pos s ≤ℤ c → m * p ≤ k * s → m * p * w + n * (v * p) ≤ j * (s * s) → l ≤ℤ h →
-    ((x y x' y' : ℤ) × Between a b x × Between c d y × Between a b x' × Between c d y' × IsTightRound (x *ℤ num) y (x' *ℤ num) y' l h) → Ends (k + 2) (j + 4) l h
-quotient_ends m v n w k j p s num a b c d l h e f g q r u i o (x, y, x', y', X, Y, X', Y', t) =
-    let py : pos 0 <ℤ y = let z = Y.from in omega (arith, ints) in
-    let py' : pos 0 <ℤ y' = let z = Y'.from in omega (arith, ints) in
-    let sy : pos s ≤ℤ y = let z = Y.from in omega (arith, ints) in
-    let sy' : pos s ≤ℤ y' = let z = Y'.from in omega (arith, ints) in
+pub quotient_ends : (m v n w k j p s : ℕ) (num a b c d l h : ℤ) → Ends m v a b → Ends n w c d → IsWithin p num → pos 0 <ℤ c → pos s ≤ℤ c → m * p ≤ k * s → m * p * w + n * (v * p) ≤ j * (s * s) → l ≤ℤ h → IsTightQuotient a b c d num l h → Ends (k + 2) (j + 4) l h
+quotient_ends m v n w k j p s num a b c d l h e f g q r u i o z =
+    let x = z.low_num in
+    let y = z.low_den in
+    let x' = z.high_num in
+    let y' = z.high_den in
+    let t = z.tight in
+    let X = z.low_num_is in
+    let Y = z.low_den_is in
+    let X' = z.high_num_is in
+    let Y' = z.high_den_is in
+    let py : pos 0 <ℤ y = let g = Y.from in omega (arith, ints) in
+    let py' : pos 0 <ℤ y' = let g = Y'.from in omega (arith, ints) in
+    let sy : pos s ≤ℤ y = let g = Y.from in omega (arith, ints) in
+    let sy' : pos s ≤ℤ y' = let g = Y'.from in omega (arith, ints) in
     let low = low_of (m * p) (x *ℤ num) (pos k *ℤ y) (product_within m p x num (member_within m v a b x e X) g) (le_pos (m * p) (k * s) (pos k *ℤ y) u (least_divisor k s y sy)) in
     let high = high_of (m * p) (x' *ℤ num) (pos k *ℤ y') (product_within m p x' num (member_within m v a b x' e X') g) (le_pos (m * p) (k * s) (pos k *ℤ y') u (least_divisor k s y' sy')) in
     ends_from k j l h o (below_end (x *ℤ num) l y k py low t.low) (above_end (x' *ℤ num) h y' k py' high t.high)

@@ -1,6 +1,7 @@
 -- Fractions of whole numbers and what they are rounded to. Denominators are positive.
 use Rattle.std.specs.Prelude.{ℤ, pos, ◌+ℤ◌, ◌-ℤ◌, ◌*ℤ◌, neg_ℤ, ◌≤ℤ◌, ◌<ℤ◌}
 use Rattle.std.specs.Int.{int_div_euclid}
+use Rattle.sat_model.specs.Intervals.{Between}
 
 -- v is within one unit of num / den: how each printed equation is read
 pub record Near (num den v : ℤ) : Type 0 where
@@ -22,6 +23,18 @@ pub record IsCeiling (num den q : ℤ) : Type 0 where
 pub record IsTightRound (n d m e lo hi : ℤ) : Type 0 where
   pub low : n ≤ℤ ((lo +ℤ pos 2) *ℤ d)
   pub high : ((hi -ℤ pos 2) *ℤ e) ≤ℤ m
+
+-- the same round two quotients a n / b of a member a of the first interval and b of the second
+pub record IsTightQuotient (alo ahi blo bhi n lo hi : ℤ) : Type 0 where
+  pub low_num : ℤ
+  pub low_den : ℤ
+  pub high_num : ℤ
+  pub high_den : ℤ
+  pub low_num_is : Between alo ahi low_num
+  pub low_den_is : Between blo bhi low_den
+  pub high_num_is : Between alo ahi high_num
+  pub high_den_is : Between blo bhi high_den
+  pub tight : IsTightRound (low_num *ℤ n) low_den (high_num *ℤ n) high_den lo hi
 
 -- the greatest multiple of a grain that is at most x
 abbrev pub grain_floor : ℤ → ℤ → ℤ

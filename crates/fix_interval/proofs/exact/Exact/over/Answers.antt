@@ -45,7 +45,17 @@ returns-clause-tight c =
     let y = greatest_multiple c.args.self.lo c.args.self.hi c.args.num c.args.self.ordered in
     let s = simp to_z-of_z at c.low_end_over-lo.ensures.tight in
     let t = simp to_z-of_z at c.high_end_over-hi.ensures.tight in
-    (x.of, s.0, y.of, t.0, x.member, s.1, y.member, t.1, simp to_z-of_z (record { low = carry_low _ _ _ _ x.is e s.2; high = carry_high _ _ _ _ y.is e' t.2 }))
+    record {
+      low_num = x.of;
+      low_den = s.0;
+      high_num = y.of;
+      high_den = t.0;
+      low_num_is = x.member;
+      low_den_is = s.1;
+      high_num_is = y.member;
+      high_den_is = t.1;
+      tight = simp to_z-of_z (record { low = carry_low _ _ _ _ x.is e s.2; high = carry_high _ _ _ _ y.is e' t.2 });
+    }
 
 pub invariant_of-result : goal.invariant_of-result
 invariant_of-result c =
