@@ -1,5 +1,5 @@
 -- What a verdict's line says of the bytes that were read.
-use Rattle.std.proofs.Common.{◌≡◌, ◌⊎◌, ℕ, List, Ok, Option, None, Some, IsSomeAnd, inl, inr, refl, sym, ap, subst}
+use Rattle.std.proofs.Common.{◌≡◌, ◌⊎◌, ℕ, List, Ok, Option, None, Some, IsSomeAnd, inl, inr, refl, ap, subst}
 use Rattle.std.specs.FinMap as map
 use Rattle.outer_io.specs.Told.{Told}
 use Rattle.paving_log_check.specs.declared.verdict.Fault.{Fault}

@@ -1,5 +1,5 @@
 -- What `judge` answers of the bytes of a log, and what the sinks get.
-use Rattle.std.specs.Prelude.{◌≡◌, ◌≢◌, ◌≤◌, ◌<◌, ◌⊎◌, ℕ, List, length, Option, None, Some, IsSomeAnd, true, false}
+use Rattle.std.specs.Prelude.{◌≡◌, ◌≢◌, ◌≤◌, ◌<◌, ◌⊎◌, ℕ, List, length, Option, None, Some, IsSomeAnd}
 use Rattle.std.specs.Io.KnownBytes.{append_known}
 use Rattle.std.specs.FinMap as map
 use Rattle.outer_io.specs.Causes.{Rose}

@@ -12,11 +12,11 @@ ghost use Rattle.outer_io.specs.declared.slots.Slot.{Slot};
 ghost use Rattle.outer_io.specs.Taken.{TakenBy};
 ghost use Rattle.outer_io.specs.Told.{is_missing, files_of, written_of};
 
+use crate::Status;
 use crate::answer::print;
 use crate::file::read_file;
 use crate::notice::Notice;
 use crate::text::judge_text;
-use crate::Status;
 use outer_io::{Shelf, Sink, Slot};
 use std::alloc::Global;
 

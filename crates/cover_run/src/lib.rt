@@ -9,10 +9,10 @@ mod file;
 mod judging;
 mod limits;
 mod notice;
-mod top;
 mod status;
 mod text;
 mod texts;
+mod top;
 mod words;
 
 pub use limits::Limits;

@@ -18,7 +18,8 @@ edge 0 -1400000 1400000
 done 0
 ";
 
-const USAGE: &str = "usage: gpscover judge LOG, pave ROWS LOG, solve or check OBS NAV SETTINGS LOG, make SEED EPOCHS\n";
+const USAGE: &str =
+    "usage: gpscover judge LOG, pave ROWS LOG, solve or check OBS NAV SETTINGS LOG, make SEED EPOCHS\n";
 
 // A run over a shelf with the file `a.log`. Calls of these numbers fail, none where it is 0.
 #[derive(Clone, Copy)]
@@ -108,7 +109,13 @@ fn a_log_is_judged(rt: HostRuntime) -> Result<(), Fail> {
         log: "gpscover 1\nrules 0 0 1000000\nepoch 1 0 4\nroot 0 0 0 0 0 0\ndone 0\n",
         ..JUDGE
     };
-    expect(&rt, &open, Status::No, "no 52 SatelliteDiffers line 3\n", "")
+    expect(
+        &rt,
+        &open,
+        Status::No,
+        "no 52 SatelliteDiffers line 3\n",
+        "",
+    )
 }
 
 #[test]
@@ -116,7 +123,10 @@ fn what_is_no_log_is_refused(rt: HostRuntime) -> Result<(), Fail> {
     let table = [
         ("", "log 40 BadLog line 1 kind 4\n"),
         ("gpscover 2\n", "log 40 BadLog line 1 kind 1\n"),
-        ("gpscover 1\nrules 0 0 1000000\ndone 0\n", "log 40 BadLog line 3 kind 2\n"),
+        (
+            "gpscover 1\nrules 0 0 1000000\ndone 0\n",
+            "log 40 BadLog line 3 kind 2\n",
+        ),
         (
             "gpscover 1\nrules 0 0 1000000\nepoch 1 0 0\nroot 0 0 0 0 0 0\ncut 0 0 0\n",
             "log 41 NotBuilt line 5\n",
