@@ -8,7 +8,7 @@ use Rattle.sat_model.specs.Logs.{LogValue}
 use Rattle.sat_model.specs.Cover.{RowCover, kept_boxes}
 use Rattle.sat_model.specs.Verdicts.{Judged, FirstFault}
 use Rattle.cover_run.proofs.Saying.{IsRight, HasFault}
-use Rattle.cover_run.specs.Answers.{EndsText}
+use Rattle.cover_run.specs.Answers.{TextGives}
 use Rattle.cover_run.specs.Statuses.{status_of_verdict}
 use Rattle.cover_run.specs.declared.status.Status.{Status}
 use Rattle.cover_run.specs.declared.status.Status.TheVariants as status
@@ -18,7 +18,7 @@ abbrev pub IsOneLog : List ℕ → LogValue → Type 0
 IsOneLog bytes log = (other : LogValue) → IsLogText other bytes → other ≡ log
 
 pub done_ends : (bytes : List ℕ) (log : LogValue) → IsLogText log bytes → IsOneLog bytes log → Judged log
-    → (s : Status) → EndsText bytes s → status.Done ≡ s
+    → (s : Status) → TextGives bytes s → status.Done ≡ s
 done_ends bytes log text one judged status.Done ends = refl
 done_ends bytes log text one judged status.No ends = absurd (ends.2 (subst Judged (sym (one ends.0 ends.1)) judged))
 done_ends bytes log text one judged status.Refused none = absurd (none log text)
@@ -29,7 +29,7 @@ done_ends bytes log text one judged status.NoMemory ends = absurd ends
 done_ends bytes log text one judged status.LogFull ends = absurd ends
 
 pub no_ends : (bytes : List ℕ) (log : LogValue) → IsLogText log bytes → IsOneLog bytes log → (Judged log → ⊥)
-    → (s : Status) → EndsText bytes s → status.No ≡ s
+    → (s : Status) → TextGives bytes s → status.No ≡ s
 no_ends bytes log text one fails status.Done ends = absurd (fails (subst Judged (one ends.0 ends.1) ends.2))
 no_ends bytes log text one fails status.No ends = refl
 no_ends bytes log text one fails status.Refused none = absurd (none log text)
@@ -41,7 +41,7 @@ no_ends bytes log text one fails status.LogFull ends = absurd ends
 
 -- a verdict that is right for the text's log
 pub verdict_ends : (bytes : List ℕ) (log : LogValue) → IsLogText log bytes → IsOneLog bytes log → (v : Verdict)
-    → IfYes v (λ boxes. Judged log) → IfNo v (λ fault. Judged log → ⊥) → (s : Status) → EndsText bytes s → status_of_verdict (Ok v) ≡ s
+    → IfYes v (λ boxes. Judged log) → IfNo v (λ fault. Judged log → ⊥) → (s : Status) → TextGives bytes s → status_of_verdict (Ok v) ≡ s
 verdict_ends bytes log text one (verdict.Yes boxes) judged fails = done_ends bytes log text one judged
 verdict_ends bytes log text one (verdict.No fault) judged fails = no_ends bytes log text one fails
 

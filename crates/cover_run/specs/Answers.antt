@@ -68,22 +68,22 @@ IsPlain notice.NoMemory = Unit {0}
 IsPlain _ = ⊥
 
 -- the notice says why a file with these bytes is refused
-abbrev pub Refused : ℕ → List ℕ → Notice → Type 0
-Refused limit bytes (notice.TooLong most) = (most ≡ limit) × (limit < length bytes)
-Refused limit bytes notice = (length bytes ≤ limit) × NamesFault bytes notice
+abbrev pub RefusesFile : ℕ → List ℕ → Notice → Type 0
+RefusesFile limit bytes (notice.TooLong most) = (most ≡ limit) × (limit < length bytes)
+RefusesFile limit bytes notice = (length bytes ≤ limit) × NamesFault bytes notice
 
 -- ---- the status that bytes determine
 
--- the text determines how a run over it ends, that no fault and no want of memory ended before
-abbrev pub EndsText : List ℕ → Status → Type 0
-EndsText bytes status.Done = SpellLog bytes Judged
-EndsText bytes status.No = SpellLog bytes (λ log. Judged log → ⊥)
-EndsText bytes status.Refused = SpellNoLog bytes
-EndsText bytes _ = ⊥
+-- the text gives this status, where no fault and no want of memory ends the run before
+abbrev pub TextGives : List ℕ → Status → Type 0
+TextGives bytes status.Done = SpellLog bytes Judged
+TextGives bytes status.No = SpellLog bytes (λ log. Judged log → ⊥)
+TextGives bytes status.Refused = SpellNoLog bytes
+TextGives bytes _ = ⊥
 
--- the same of a file with a limit
-abbrev pub Ends : ℕ → List ℕ → Status → Type 0
-Ends limit bytes s = ((limit < length bytes) × (s ≡ status.Refused)) ⊎ ((length bytes ≤ limit) × EndsText bytes s)
+-- a file with these bytes does, under a limit
+abbrev pub FileGives : ℕ → List ℕ → Status → Type 0
+FileGives limit bytes s = ((limit < length bytes) × (s ≡ status.Refused)) ⊎ ((length bytes ≤ limit) × TextGives bytes s)
 
 -- a fault or want of memory ended the run
 abbrev pub IsBrokenOff : Status → Type 0

@@ -2,7 +2,7 @@
 
 ghost use Rattle.std.specs.Prelude.{◌≡◌, ◌≢◌, ◌≤◌, ◌⊎◌, ℕ, List, Option, Ok, Err, true, false, length};
 ghost use Rattle.std.specs.Io.KnownBytes.{append_known};
-ghost use Rattle.cover_run.specs.Answers.{HasFile, IsToldFile, SpellLog, SaysYes, SaysNo, Refused, Ends, IsBrokenOff, OpensNoFile};
+ghost use Rattle.cover_run.specs.Answers.{HasFile, IsToldFile, SpellLog, SaysYes, SaysNo, RefusesFile, FileGives, IsBrokenOff, OpensNoFile};
 ghost use Rattle.cover_run.specs.Statuses.{end_of, status_of};
 ghost use Rattle.cover_run.specs.Texts.{yes_text, no_text};
 ghost use Rattle.cover_run.specs.declared.notice.Notice.{Notice};
@@ -35,9 +35,9 @@ pub fn judge_log<H: Shelf, O: Sink>(
     ensures no { result ≡ Ok Status.No → HasFile (H.told shelf.old) name.now (λ bytes. (length bytes ≤ limit)
         × ((line : List ℕ) × SaysNo bytes line × (O.taken out.new ≡ append_known (O.taken out.old) line))) }
     ensures refused { (notice : Notice) → result ≡ Err notice → status_of notice ≡ Status.Refused
-        → HasFile (H.told shelf.old) name.now (λ bytes. Refused limit bytes notice) }
+        → HasFile (H.told shelf.old) name.now (λ bytes. RefusesFile limit bytes notice) }
     ensures known { result ≢ Err Notice.Usage }
-    ensures exact { (bytes : List ℕ) (s : Status) → IsToldFile (H.told shelf.old) name.now bytes → Ends limit bytes s
+    ensures exact { (bytes : List ℕ) (s : Status) → IsToldFile (H.told shelf.old) name.now bytes → FileGives limit bytes s
         → IsBrokenOff (end_of result) ⊎ (end_of result ≡ s) }
 
     // When a read fails.

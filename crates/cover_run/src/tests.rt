@@ -4,7 +4,7 @@ use std::alloc::Global;
 use std::process::Abort;
 use std::test::Fail;
 
-// One box at the edge of which nothing is known.
+// A log with one box, which is closed at the edge.
 const LOG: &str = "\
 gpscover 1
 rules 0 0 1000000

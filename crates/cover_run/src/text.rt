@@ -1,7 +1,7 @@
 //! A log's text, judged.
 
 ghost use Rattle.std.specs.Prelude.{◌≡◌, ◌≤◌, ◌⊎◌, Err, length, IfOk, IfErr};
-ghost use Rattle.cover_run.specs.Answers.{SpellLog, NamesFault, EndsText};
+ghost use Rattle.cover_run.specs.Answers.{SpellLog, NamesFault, TextGives};
 ghost use Rattle.cover_run.specs.Statuses.{status_of_verdict};
 ghost use Rattle.paving_log_check.specs.Answers.{IfYes, IfNo};
 ghost use Rattle.sat_model.specs.Cover.{RowCover, kept_boxes};
@@ -20,7 +20,7 @@ pub fn judge_text(alloc: Global, bytes: &[u8]) -> Result<Verdict, Notice>
     ensures yes { IfOk result (λ verdict. IfYes verdict (λ boxes. SpellLog bytes.now (λ log. Judged log × RowCover log × (boxes ≡ kept_boxes log)))) }
     ensures no { IfOk result (λ verdict. IfNo verdict (λ fault. SpellLog bytes.now (λ log. (Judged log → ⊥) × FirstFault log fault.line fault.number))) }
     ensures refused { IfErr result (λ notice. (notice ≡ Notice.NoMemory) ⊎ NamesFault bytes.now notice) }
-    ensures exact { (status : Status) → EndsText bytes.now status → (result ≡ Err Notice.NoMemory) ⊎ (status_of_verdict result ≡ status) }
+    ensures exact { (status : Status) → TextGives bytes.now status → (result ≡ Err Notice.NoMemory) ⊎ (status_of_verdict result ≡ status) }
 {
     let log = read_log(alloc, bytes)?;
     match judge(alloc, &log) {

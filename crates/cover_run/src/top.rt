@@ -2,7 +2,7 @@
 
 ghost use Rattle.std.specs.Prelude.{◌≡◌, ◌≢◌, ◌≤◌, ◌⊎◌, ◌↔◌, ℕ, List, Option, None, Some, IfSome, true, false, length};
 ghost use Rattle.std.specs.Io.KnownBytes.{append_known};
-ghost use Rattle.cover_run.specs.Answers.{HasFile, IsToldFile, SaysYes, SaysNo, Refused, Ends, IsBrokenOff, IsPlain, OpensNoFile, Gets};
+ghost use Rattle.cover_run.specs.Answers.{HasFile, IsToldFile, SaysYes, SaysNo, RefusesFile, FileGives, IsBrokenOff, IsPlain, OpensNoFile, Gets};
 ghost use Rattle.cover_run.specs.Statuses.{status_of};
 ghost use Rattle.cover_run.specs.Texts.{notice_text};
 ghost use Rattle.cover_run.specs.Words.{log_of, texts};
@@ -43,7 +43,7 @@ pub fn run<H: Shelf, O: Sink, E: Sink>(
     ensures no { result ≡ Status.No → IfSome (log_of (texts words.now)) (λ name. HasFile (H.told shelf.old) name (λ bytes.
         (length bytes ≤ limits.now.log) × ((line : List ℕ) × SaysNo bytes line × (O.taken out.new ≡ append_known (O.taken out.old) line)))) }
     ensures refused { result ≡ Status.Refused → IfSome (log_of (texts words.now)) (λ name. (notice : Notice)
-        × HasFile (H.told shelf.old) name (λ bytes. Refused limits.now.log bytes notice)
+        × HasFile (H.told shelf.old) name (λ bytes. RefusesFile limits.now.log bytes notice)
         × Gets (E.taken err.old) (E.taken err.new) (E.faults err.old) (E.faults err.new) (notice_text notice)) }
     ensures read_fault { result ≡ Status.ReadFault → IfSome (log_of (texts words.now)) (λ name.
         is_missing (H.told shelf.old) name ≡ false → Rose (H.read_faults shelf.old) (H.read_faults shelf.new)) }
@@ -53,7 +53,7 @@ pub fn run<H: Shelf, O: Sink, E: Sink>(
     // And each cause has its status, unless a fault or want of memory comes first.
     ensures missing { IfSome (log_of (texts words.now)) (λ name. is_missing (H.told shelf.old) name ≡ true → result ≡ Status.ReadFault) }
     ensures exact { (name bytes : List ℕ) (s : Status) → log_of (texts words.now) ≡ Some name → IsToldFile (H.told shelf.old) name bytes
-        → Ends limits.now.log bytes s → IsBrokenOff result ⊎ (result ≡ s) }
+        → FileGives limits.now.log bytes s → IsBrokenOff result ⊎ (result ≡ s) }
     ensures no_read_fault { (name : List ℕ) (log : Option (List ℕ)) → log_of (texts words.now) ≡ Some name → is_missing (H.told shelf.old) name ≡ false
         → H.reliable shelf.new log → result ≢ Status.ReadFault }
     ensures no_write_fault { O.reliable out.new → result ≢ Status.WriteFault }
