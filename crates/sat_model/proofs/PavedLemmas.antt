@@ -1,5 +1,5 @@
 -- The steps of a whole run pass all tests.
-use Rattle.std.proofs.Common.{◌≡◌, ℕ, zero, suc, ◌+◌, ◌*◌, ◌<◌, arith, List, [], ◌∷◌, ◌++◌, length, get_or, set, map, cond, nat_eq, eq-eqb, Option, None, Some, inl, inr, refl, sym, ap, subst, ◌∙◌, append_assoc}
+use Rattle.std.proofs.Common.{◌≡◌, ℕ, zero, suc, ◌+◌, ◌*◌, ◌<◌, arith, List, [], ◌∷◌, ◌++◌, length, get_or, set, cond, nat_eq, eq-eqb, Option, None, Some, inl, inr, refl, sym, ap, subst, ◌∙◌, append_assoc}
 use Rattle.std.specs.Prelude.{◌≢◌}
 use Rattle.std.proofs.lemmas.Int.{ints}
 use Rattle.std.proofs.lemmas.Bool.{cases_lt, cases_eq, ne_eqb}
@@ -10,10 +10,12 @@ use Rattle.sat_model.specs.declared.rules.Rules.{Rules}
 use Rattle.sat_model.specs.declared.steps.Step.{Step}
 use Rattle.sat_model.specs.declared.steps.Step.TheVariants.{Cut, Split, Outside, Inside, Edge}
 use Rattle.sat_model.specs.Boxes.{GridBox, side_at, with_side, low_half, high_half}
-use Rattle.sat_model.specs.Fold.{Stage, first_stage, live_box, halves, after, ShownStep}
+use Rattle.sat_model.specs.Cover.{EpochCover}
+use Rattle.sat_model.specs.Fold.{Stage, first_stage, live_box, halves, after, ShownStep, pieces}
 use Rattle.sat_model.specs.Verdicts.{StepPasses, StepsPass}
 use Rattle.sat_model.specs.Paved.{WaitingBox, Paving, first_paving, IsNext, Closes, halves_from, beyond, joined, PavesTo, Paved, steps_of}
 use Rattle.sat_model.proofs.AmountLemmas.{above_is}
+use Rattle.sat_model.proofs.CoverLemmas.{epoch_cover}
 
 -- the box of a number, as a list
 abbrev pub boxes_in : Option GridBox → List GridBox
@@ -186,9 +188,18 @@ first_live : (root : GridBox) → AreLive ((record { id = 0; part = root }) ∷ 
 first_live root zero = refl
 first_live root (suc id) = with_no (record { id = 0; part = root }) (suc id) [] (λ e. omega arith)
 
--- a whole run passes all tests: each step does, no box is live at its end, and the splits are counted
 pub run_passes : (rows : List Row) (rules : Rules) (root : GridBox) (boxes : List (List ShownStep)) (last : Paving)
     → PavesTo rows rules (first_paving root) boxes last → last.waiting ≡ []
     → StepsPass rows rules last.splits (first_stage root) (steps_of (joined boxes))
 run_passes rows rules root boxes last paves none =
     passes_from rows rules (first_paving root) last (first_stage root) boxes paves (record { live = first_live root; given = omega arith; splits = refl }) none
+
+-- a whole run passes all tests: each step does, no box is live at its end, and the splits are counted
+pub paved_passes : (rows : List Row) (rules : Rules) (root : GridBox) (steps : List ShownStep) → (run : Paved rows rules root steps)
+    → StepsPass rows rules run.last.splits (first_stage root) (steps_of steps)
+paved_passes rows rules root steps run = rw run.all_steps (run_passes rows rules root run.boxes run.last run.paves run.none_waiting)
+
+-- so it partitions the root, and covers what fits
+pub paved_covers : (rows : List Row) (rules : Rules) (root : GridBox) (steps : List ShownStep) → Paved rows rules root steps
+    → EpochCover rows rules.outliers root (pieces root (steps_of steps))
+paved_covers rows rules root steps run = epoch_cover rows rules run.last.splits root (steps_of steps) (paved_passes rows rules root steps run)

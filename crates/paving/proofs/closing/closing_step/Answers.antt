@@ -7,6 +7,7 @@ use Rattle.sat_model.specs.ClockSpans.{IsClockHull}
 use Rattle.paving.proofs.closing.closing_step.Goals as goal
 use Rattle.paving.proofs.closing.closing_step.Goals.{else-longest-rules-via-then-longest-rules+else-splits-rules, else-longest-rules-via-else-longest-rules}
 
+-- the ends are read back from the step
 hull_same : (rows : List Row) (part : GridBox) (q : ℕ) (lo hi lo' hi' : ℤ) → lo ≡ lo' → hi ≡ hi'
     → IsClockHull rows part q lo hi → IsClockHull rows part q lo' hi'
 hull_same rows part q lo hi lo' hi' e f h = rw (← e, ← f) h
@@ -30,6 +31,6 @@ returns-else-longest-rules c = (
     | else-longest-rules-via-then-longest-rules+else-splits-rules w ↦ inr w.if-splits-rules.false
     | else-longest-rules-via-else-longest-rules w ↦ inl (omega (arith, ints))
   ],
-  hull_same c.args.rows.now (grid_box c.args.next.now.part) c.args.rules.now.outliers c.in-Some.hull.lo c.in-Some.hull.hi _ _
+  hull_same c.args.rows.now (grid_box c.args.next.now.part) c.args.rules.now.outliers c.in-Some.field-0.lo c.in-Some.field-0.hi _ _
       (omega (arith, ints)) (omega (arith, ints)) c.in-Some.ensures.some,
 )

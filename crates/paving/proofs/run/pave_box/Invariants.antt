@@ -1,4 +1,4 @@
-use Rattle.std.proofs.Common.{◌≡◌, ◌+◌, ◌-◌, ◌≤◌}
+use Rattle.std.proofs.Common.{◌+◌, ◌-◌, ◌≤◌}
 use Rattle.sat_model.specs.Boxes.{grid_box}
 use Rattle.paving.proofs.Underway.{IsUnderway}
 use Rattle.paving.proofs.run.pave_box.Given as goal
