@@ -11,7 +11,7 @@ use Rattle.sat_model.specs.declared.rules.Rules.{Rules}
 use Rattle.sat_model.specs.declared.steps.Step.{Step}
 use Rattle.sat_model.specs.Boxes.{GridBox, grid_box, side_at}
 use Rattle.sat_model.proofs.AmountLemmas.{above_is}
-use Rattle.sat_model.specs.Paved.{WaitingBox, Paving, first_paving, IsNext, AreStepsOf, Closes, opened_by, splits_after, beyond, beyond_all, joined, PavesTo, PavedFirst, steps_of}
+use Rattle.sat_model.specs.Paved.{WaitingBox, Paving, first_paving, IsNext, AreStepsOf, Closes, opened_by, splits_after, beyond, beyond_all, joined, PavesTo, Paved, PavedFirst, steps_of}
 use Rattle.paving.specs.declared.counts.Counts.{Counts}
 use Rattle.paving.specs.Taken.{TookAll, step_bytes}
 use Rattle.paving.specs.Counting.{IsCountOf, counts_after, is_inside, is_edge, is_outside, is_split}
@@ -20,8 +20,7 @@ use Rattle.paving.specs.declared.steps.StepFault.{StepFault}
 use Rattle.paving.specs.declared.steps.StepFault.TheVariants.{Full}
 use Rattle.sat_model.specs.Fold.{first_stage, ShownStep}
 use Rattle.sat_model.specs.Verdicts.{StepsPass}
-use Rattle.sat_model.proofs.CoverLemmas.{epoch_cover}
-use Rattle.sat_model.proofs.PavedLemmas.{run_passes}
+use Rattle.sat_model.proofs.PavedLemmas.{paved_passes, paved_covers}
 use Rattle.sat_model.proofs.PavedExists.{begins_run}
 use Rattle.paving.specs.Queues.{IsQueued, Takes, CanOpen, waiting_of}
 
@@ -250,17 +249,15 @@ measure_smaller took rows rules root first now lists mid counts after next step 
 pub whole_run : {L : Type 0} (took : L → Step → GridBox → L → Type 0) (rows : List Row) (rules : Rules) (root : GridBox) (first now : L) (lists mid : List (List WaitingBox)) (counts : Counts)
     → IsUnderway took rows rules root first now lists counts → Takes lists None mid → IsRun took rows rules root first now counts
 whole_run took rows rules root first now lists mid counts u takes =
-    let none = takes u.paving.waiting u.queued in
-    let passes : StepsPass rows rules counts.bisections (first_stage root) (steps_of (joined u.boxes))
-    = subst (λ (done : ℕ). StepsPass rows rules done (first_stage root) (steps_of (joined u.boxes))) u.splits_is
-    (run_passes rows rules root u.boxes u.paving u.paves none) in
+    let run : Paved rows rules root (joined u.boxes)
+    = record { boxes = u.boxes; all_steps = refl; last = u.paving; paves = u.paves; none_waiting = takes u.paving.waiting u.queued } in
     record {
       steps = joined u.boxes;
-      paved = record { boxes = u.boxes; all_steps = refl; last = u.paving; paves = u.paves; none_waiting = none };
+      paved = run;
       taken = u.taken;
       counted = u.counted;
-      passes = passes;
-      cover = epoch_cover rows rules counts.bisections root _ passes;
+      passes = subst (λ (done : ℕ). StepsPass rows rules done (first_stage root) (steps_of (joined u.boxes))) u.splits_is (paved_passes rows rules root _ run);
+      cover = paved_covers rows rules root _ run;
     }
 
 pub same_fault : (fault cause : StepFault) (P : Type 0) → ((◌≡◌ {A = Result (Unit {0}) StepFault} (Err fault) (Err cause)) ↔ P) → ((fault ≡ cause) ↔ P)
