@@ -25,10 +25,9 @@ other_set queues bits other queue apart =
     ap (λ lists. list_at lists other) (map-set (λ q. map waiting_of q.items) queues bits queue)
     ∙ get_or-set_other (lists_of queues) bits other (map waiting_of queue.items) [] apart
 
-pub pushed : (queues : List (VecDeque Waiting Global)) (bits : ℕ) (box : Waiting) (old new : VecDeque Waiting Global) → bits < length queues
-    → old ≡ get_or queues bits old → new.items ≡ old.items ++ box ∷ []
-    → IsPushed (lists_of queues) bits (waiting_of box) (lists_of (set queues bits new))
-pushed queues bits box old new within reads items = record {
+pub pushed : (queues : List (VecDeque Waiting Global)) (bits : ℕ) (box : Waiting) (old : VecDeque Waiting Global) → bits < length queues → old ≡ get_or queues bits old
+    → (new : VecDeque Waiting Global) → new.items ≡ old.items ++ box ∷ [] → IsPushed (lists_of queues) bits (waiting_of box) (lists_of (set queues bits new))
+pushed queues bits box old within reads new items = record {
   added =
       let now = list_set queues bits new within in
       let before = list_is queues bits old within in
