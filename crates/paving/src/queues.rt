@@ -36,7 +36,7 @@ fn push(queues: &mut Vec<VecDeque<Waiting>>, bits: u8, item: Waiting) -> Result<
     Ok(())
 }
 
-/// Takes the first box of the last queue that has one.
+/// Takes the first box of the last queue that has any.
 fn pop_last(queues: &mut Vec<VecDeque<Waiting>>) -> Option<Waiting>
     ensures taken { MatchOption result (AllEmpty (lists_of queues.old.items))
         (λ next. IsQueueTaken (lists_of queues.old.items) (waiting_of next) (lists_of queues.new.items)) }
@@ -95,25 +95,20 @@ impl Queues {
         )
     }
 
-    /// Opens the halves of a box that is split, after so many splits.
+    /// Opens what a step on the box opens, after so many splits: the halves, where it is split.
     pub fn open(&mut self, step: &Step, part: &Box3, splits: u32) -> Result<(), AllocError>
         requires can { CanOpen step.now (grid_box part.now) }
         requires few { splits ≤ 200000 }
         ensures { IfOk result (λ _. (waiting : _) → IsQueued waiting self.old
             → IsQueued (waiting ++ opened_by splits step.now (grid_box part.now)) self.new) }
     {
-        match step {
-            Step::Split { axis, .. } => {
-                let (low, high) = part.halves(*axis);
-                self.put(2 * splits + 1, &low)?;
-                self.put(2 * splits + 2, &high)?;
-                Ok(())
-            }
-            Step::Outside { .. } => Ok(()),
-            Step::Inside { .. } => Ok(()),
-            Step::Edge { .. } => Ok(()),
-            Step::Cut { .. } => Ok(()),
-        }
+        let Step::Split { axis, .. } = step else {
+            return Ok(());
+        };
+        let (low, high) = part.halves(*axis);
+        self.put(2 * splits + 1, &low)?;
+        self.put(2 * splits + 2, &high)?;
+        Ok(())
     }
 
     /// Takes the box that is next: the oldest of the greatest bit length.

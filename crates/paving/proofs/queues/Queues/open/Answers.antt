@@ -3,8 +3,8 @@ use Rattle.sat_model.specs.Boxes.{grid_box}
 use Rattle.paving.proofs.WaitingLemmas.{halves_queued}
 use Rattle.paving.proofs.queues.Queues.open.Goals as goal
 
-pub returns-in_ok-put-in-Split-2 : goal.returns-in_ok-put-in-Split-2
-returns-in_ok-put-in-Split-2 c = λ waiting queued. rw c.in-Split.is
+pub returns : goal.returns
+returns c = λ waiting queued. rw c.in-Split.is
     (halves_queued waiting c.args.splits c.in-Split.axis (2 * c.args.splits + 1) (2 * c.args.splits + 2) (grid_box c.args.part.now) (grid_box c.halves.result.0) (grid_box c.halves.result.1)
-    c.args.self.now c.put.new.self c.put-in-Split.new.self
-    refl (omega arith) c.halves.ensures.low c.halves.ensures.high c.in_ok-put-in-Split.ensures c.in_ok-put-in-Split-2.ensures queued)
+    c.args.self.now c.put.new.self c.put-2.new.self
+    refl (omega arith) c.halves.ensures.low c.halves.ensures.high c.in_ok-put.ensures c.in_ok-put-2.ensures queued)
