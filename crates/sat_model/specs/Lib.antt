@@ -8,6 +8,7 @@ pub mod ClockSpans
 pub mod Fitting
 pub mod Fold
 pub mod Logs
+pub mod Paved
 pub mod Verdicts
 pub mod Cover
 pub mod Intervals

@@ -1,0 +1,46 @@
+//! What is to be paved.
+
+ghost use Rattle.std.specs.Prelude.{◌≡◌, ◌≤◌, ◌+◌, length, IfOk};
+ghost use Rattle.sat_model.specs.Boxes.{grid_box};
+
+use sat_model::{Box3, NoMemory, Row, Rules};
+use std::alloc::Global;
+use std::marker::Model;
+
+/// The rows and the rules of an epoch, and the root box, where they are to be searched.
+#[derive(Drop)]
+pub struct Plan {
+    pub(crate) rows: Vec<Row>,
+    pub(crate) rules: Rules,
+    pub(crate) root: Box3,
+}
+
+impl Model for Plan {
+    ghost use Rattle.std.specs.Prelude.{◌+◌, ◌≤◌, length};
+    ghost use Rattle.sat_model.specs.Boxes.{grid_box};
+    ghost use Rattle.paving.specs.Plans.{PlanValue};
+
+    ghost Value = { PlanValue };
+
+    ghost view = { λ plan. record { rows = plan.rows.items; rules = plan.rules; root = grid_box plan.root } };
+
+    ghost invariant = { λ plan. (plan.rules.outliers + 4 ≤ length plan.rows.items) × (length plan.rows.items ≤ 64) };
+}
+
+impl Plan {
+    /// The plan of these rows, rules and root. Four rows more than may be inconsistent are needed.
+    pub fn make(alloc: Global, rows: &[Row], rules: &Rules, root: &Box3) -> Result<Plan, NoMemory>
+        requires { (rules.now.outliers + 4 ≤ length rows.now) × (length rows.now ≤ 64) }
+        ensures rows { IfOk result (λ plan. plan.rows ≡ rows.now) }
+        ensures rules { IfOk result (λ plan. plan.rules ≡ rules.now) }
+        ensures root { IfOk result (λ plan. plan.root ≡ grid_box root.now) }
+    {
+        let mut own: Vec<Row> = Vec::new(alloc);
+        own.extend_from_slice(rows)?;
+        Ok(Plan {
+            rows: own,
+            rules: *rules,
+            root: *root,
+        })
+    }
+}

@@ -1,0 +1,137 @@
+-- The runs of a paving: which box comes next, and which steps it gets.
+use Rattle.std.specs.Prelude.{◌≡◌, ℕ, ◌+◌, ◌*◌, ◌<◌, ◌≤◌, ◌⊎◌, pos, ◌<ℤ◌, ◌≤ℤ◌, List, [], ◌∷◌, ◌++◌, map, All}
+use Rattle.sat_model.specs.declared.rules.Rules.{Rules}
+use Rattle.sat_model.specs.declared.satellites.Row.{Row}
+use Rattle.sat_model.specs.declared.steps.Step.{Step}
+use Rattle.sat_model.specs.declared.steps.Step.TheVariants.{Cut, Split, Outside, Inside, Edge}
+use Rattle.sat_model.specs.Boxes.{GridBox, side_at, with_side, low_half, high_half}
+use Rattle.sat_model.specs.ClockSpans.{IsShownEmpty, NoneIsShownInner, IsLeastShownInner, IsClockHull}
+use Rattle.sat_model.specs.Fold.{ShownStep}
+use Rattle.sat_model.specs.Lengths.{longest_length, IsLongestAxis, bit_length}
+
+-- ---- the boxes that wait
+
+-- a box that waits, as it was opened
+pub record WaitingBox : Type 0 where
+  pub id : ℕ
+  pub part : GridBox
+
+-- the bit length of its longest side
+abbrev pub bits_of : WaitingBox → ℕ
+bits_of box = bit_length (longest_length box.part)
+
+-- the boxes that wait, in order of opening, and how many splits were made
+pub record Paving : Type 0 where
+  pub waiting : List WaitingBox
+  pub splits : ℕ
+
+-- the root waits alone
+abbrev pub first_paving : GridBox → Paving
+first_paving root = record { waiting = (record { id = 0; part = root }) ∷ []; splits = 0 }
+
+-- next is the oldest of the greatest bit length, and rest are the others
+pub record IsNext (waiting : List WaitingBox) (next : WaitingBox) (rest : List WaitingBox) : Type 0 where
+  pub before : List WaitingBox
+  pub behind : List WaitingBox
+  pub all_waiting : waiting ≡ before ++ (next ∷ behind)
+  pub others : rest ≡ before ++ behind
+  pub before_shorter : All (λ box. bits_of box < bits_of next) before
+  pub behind_no_longer : All (λ box. bits_of box ≤ bits_of next) behind
+
+-- ---- the steps of one box
+
+-- the box is neither shown empty nor shown inner
+pub record IsUndecided (rows : List Row) (rules : Rules) (part : GridBox) : Type 0 where
+  pub not_empty : IsShownEmpty rows part rules.outliers → ⊥
+  pub not_inner : NoneIsShownInner rows part rules.outliers
+
+-- the box may be split: it is longer than the width, and splits are left
+abbrev pub MaySplit : Rules → ℕ → GridBox → Type 0
+MaySplit rules splits part = (rules.width <ℤ pos (longest_length part)) × (splits < rules.bisections)
+
+abbrev pub MayNotSplit : Rules → ℕ → GridBox → Type 0
+MayNotSplit rules splits part = (pos (longest_length part) ≤ℤ rules.width) ⊎ (rules.bisections ≤ splits)
+
+-- the step that splits or closes a box, after so many splits
+abbrev pub Closes : List Row → Rules → ℕ → ℕ → GridBox → Step → Type 0
+Closes rows rules splits id part (Outside n) = (n ≡ id) × IsShownEmpty rows part rules.outliers
+Closes rows rules splits id part (Inside n clock lo hi) =
+    (n ≡ id) × IsLeastShownInner rows part rules.outliers clock × IsClockHull rows part rules.outliers lo hi
+Closes rows rules splits id part (Split n axis) =
+    (n ≡ id) × IsUndecided rows rules part × MaySplit rules splits part × IsLongestAxis part axis
+Closes rows rules splits id part (Edge n lo hi) =
+    (n ≡ id) × IsUndecided rows rules part × MayNotSplit rules splits part × IsClockHull rows part rules.outliers lo hi
+Closes rows rules splits id part (Cut n face bound) = ⊥
+
+-- the steps of one box, in order: the one that splits or closes it as it stands
+abbrev pub AreStepsOf : List Row → Rules → ℕ → WaitingBox → List ShownStep → Type 0
+AreStepsOf rows rules splits box [] = ⊥
+AreStepsOf rows rules splits box (last ∷ []) = (last.part ≡ box.part) × Closes rows rules splits box.id box.part last.step
+AreStepsOf rows rules splits box (first ∷ second ∷ more) = ⊥
+
+-- ---- from box to box
+
+-- a split opens two halves under the next two numbers
+abbrev pub halves_from : ℕ → ℕ → GridBox → List WaitingBox
+halves_from id axis part =
+    (record { id = id; part = with_side axis part (low_half (side_at axis part)) })
+    ∷ (record { id = id + 1; part = with_side axis part (high_half (side_at axis part)) })
+    ∷ []
+
+-- what a step opens: after s splits the numbers up to 2 * s are given
+abbrev pub opened_by : ℕ → Step → GridBox → List WaitingBox
+opened_by splits (Split n axis) part = halves_from (2 * splits + 1) axis part
+opened_by splits (Outside n) part = []
+opened_by splits (Inside n clock lo hi) part = []
+opened_by splits (Edge n lo hi) part = []
+opened_by splits (Cut n face bound) part = []
+
+abbrev pub splits_after : ℕ → Step → ℕ
+splits_after splits (Split n axis) = splits + 1
+splits_after splits (Outside n) = splits
+splits_after splits (Inside n clock lo hi) = splits
+splits_after splits (Edge n lo hi) = splits
+splits_after splits (Cut n face bound) = splits
+
+-- the paving behind a step
+abbrev pub beyond : Paving → ShownStep → Paving
+beyond paving shown = record {
+  waiting = paving.waiting ++ opened_by paving.splits shown.step shown.part;
+  splits = splits_after paving.splits shown.step;
+}
+
+abbrev pub beyond_all : Paving → List ShownStep → Paving
+beyond_all paving [] = paving
+beyond_all paving (shown ∷ more) = beyond_all (beyond paving shown) more
+
+-- the steps of all boxes, in order
+abbrev pub joined : List (List ShownStep) → List ShownStep
+joined [] = []
+joined (own ∷ boxes) = own ++ joined boxes
+
+-- the boxes that were taken up got these steps, each box its own list, and the paving stands at last
+abbrev pub PavesTo : List Row → Rules → Paving → List (List ShownStep) → Paving → Type 0
+PavesTo rows rules paving [] last = paving ≡ last
+PavesTo rows rules paving (own ∷ boxes) last =
+    (next : WaitingBox) × (rest : List WaitingBox) × IsNext paving.waiting next rest
+    × AreStepsOf rows rules paving.splits next own
+    × PavesTo rows rules (beyond_all (record { waiting = rest; splits = paving.splits }) own) boxes last
+
+-- ---- a run
+
+-- the steps are a whole run from the root: no box waits any more
+pub record Paved (rows : List Row) (rules : Rules) (root : GridBox) (steps : List ShownStep) : Type 0 where
+  pub boxes : List (List ShownStep)
+  pub all_steps : steps ≡ joined boxes
+  pub last : Paving
+  pub paves : PavesTo rows rules (first_paving root) boxes last
+  pub none_waiting : last.waiting ≡ []
+
+-- the steps are the first ones of a whole run from the root
+pub record PavedFirst (rows : List Row) (rules : Rules) (root : GridBox) (steps : List ShownStep) : Type 0 where
+  pub more : List ShownStep
+  pub whole : Paved rows rules root (steps ++ more)
+
+-- the steps without the boxes that they speak of
+abbrev pub steps_of : List ShownStep → List Step
+steps_of steps = map (λ shown. shown.step) steps
