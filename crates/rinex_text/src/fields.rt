@@ -39,7 +39,10 @@ fn without_blank_end(field: &[u8]) -> &[u8]
     ensures { result.now ≡ trimmed field.now }
 {
     let mut end = field.len();
-    'blanks: while end > 0 && is_blank_byte(field[end - 1]) {
+    'blanks: while end > 0 {
+        if !is_blank_byte(field[end - 1]) {
+            return &field[..end];
+        }
         end -= 1;
     }
     &field[..end]

@@ -21,12 +21,10 @@ const LAST_VERSION: i128 = 30_500_000_000_000_000;
 fn is_version(field: &[u8]) -> bool
     ensures { IsTrue result ↔ IsVersion field.now }
 {
-    match read_fixed(field) {
-        Ok(Some(number)) => {
-            to_unit_between(number, Unit::Ratio, FIRST_VERSION, LAST_VERSION).is_some()
-        }
-        _ => false,
-    }
+    let Ok(Some(number)) = read_fixed(field) else {
+        return false;
+    };
+    to_unit_between(number, Unit::Ratio, FIRST_VERSION, LAST_VERSION).is_some()
 }
 
 /// Whether the letter stands for GPS or for mixed files, or is blank.
