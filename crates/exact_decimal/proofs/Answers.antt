@@ -16,10 +16,10 @@ no_length : (xs : List ℕ) → (length xs == 0) ≡ true → xs ≡ []
 no_length [] h = refl
 no_length (x ∷ xs) h = absurd (let e : suc (length xs) ≡ 0 = eqb-true _ _ h in omega arith)
 
-blank_from : (text : List ℕ) → is_blank_text text ≡ true → AreBlanks text
+pub blank_from : (text : List ℕ) → is_blank_text text ≡ true → AreBlanks text
 blank_from text h = all_passed is_blank text (no_length (behind is_blank text) h)
 
-blank_to : (text : List ℕ) → AreBlanks text → is_blank_text text ≡ true
+pub blank_to : (text : List ℕ) → AreBlanks text → is_blank_text text ≡ true
 blank_to text blanks = rw (all_behind is_blank text blanks) refl
 
 -- ---- decimals
@@ -72,7 +72,7 @@ fixed_is field digits ten e = elim (cases_Bool (is_blank_text field)) [
 ]
 
 -- the text behind the blanks at the front
-behind_is : (field before text : List ℕ) → AreBlanks before → Stops is_blank text → field ≡ before ++ text → behind is_blank field ≡ text
+pub behind_is : (field before text : List ℕ) → AreBlanks before → Stops is_blank text → field ≡ before ++ text → behind is_blank field ≡ text
 behind_is field before text blanks stops e = rw e ((cut_at is_blank before text blanks stops).behind)
 
 is_fixed : (field : List ℕ) (digits ten : ℤ) → IsFixed field digits ten → fixed_of field ≡ number digits ten

@@ -92,7 +92,7 @@ none_at : (after : List ℕ) → AreBlanks after → exponent_of after ≡ found
 none_at [] blanks = refl
 none_at (byte ∷ bytes) blanks = rw (blank_ends byte (head_passes is_blank byte bytes blanks)).2 refl
 
-blanks_no_digit : (after : List ℕ) → AreBlanks after → Stops is_ascii_digit after
+pub blanks_no_digit : (after : List ℕ) → AreBlanks after → Stops is_ascii_digit after
 blanks_no_digit [] blanks = tt
 blanks_no_digit (byte ∷ bytes) blanks = (blank_ends byte (head_passes is_blank byte bytes blanks)).0
 

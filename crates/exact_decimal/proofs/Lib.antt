@@ -4,4 +4,6 @@ pub mod Signs
 pub mod Mantissas
 pub mod Exponents
 pub mod Answers
+pub mod Counts
 pub mod Units
+pub mod Limits

@@ -1,3 +1,4 @@
+pub mod Counts
 pub mod NumberFields
 pub mod Parts
 pub mod Reading

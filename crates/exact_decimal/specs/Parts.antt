@@ -87,3 +87,12 @@ floating_text text =
 
 abbrev pub floating_of : List ℕ → Result (Option Decimal) BadNumber
 floating_of field = cond (is_blank_text field) (Ok None) (floating_text (behind is_blank field))
+
+-- ---- counts
+
+abbrev pub count_text : List ℕ → Option ℕ
+count_text text =
+    cond (nat_lt 0 (length (front is_ascii_digit text))) (cond (is_blank_text (behind is_ascii_digit text)) (Some (digits_value 10 (front is_ascii_digit text))) None) None
+
+abbrev pub count_of : List ℕ → Option ℕ
+count_of field = count_text (behind is_blank field)

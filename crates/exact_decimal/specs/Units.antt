@@ -1,5 +1,5 @@
 -- A decimal in a unit: the exact value as a fraction, and its floor and ceiling.
-use Rattle.std.specs.Prelude.{ℕ, ◌+◌, ◌*◌, ◌^◌, ◌<◌, ◌≤◌, ℤ, pos, ◌+ℤ◌, ◌*ℤ◌, unsigned_abs, Option, None, Some}
+use Rattle.std.specs.Prelude.{ℕ, ◌+◌, ◌*◌, ◌^◌, ◌<◌, ◌≤◌, ℤ, pos, ◌+ℤ◌, ◌*ℤ◌, ◌≤ℤ◌, unsigned_abs, Option, None, Some}
 use borrow.Author.Differences.{up, down}
 use Rattle.exact_decimal.specs.declared.unit.Unit.{Unit}
 use Rattle.exact_decimal.specs.declared.unit.Unit.TheVariants.{Length, Ratio, Rate, Drift, Time, Clock, RootA}
@@ -50,3 +50,8 @@ pub record IsRounded (num den floor ceiling : ℕ) : Type 0 where
 abbrev pub RoundsWithin : ℕ → ℕ → ℕ → Option (ℕ × ℕ) → Type 0
 RoundsWithin num den bound None = bound * den < num
 RoundsWithin num den bound (Some (floor, ceiling)) = (num ≤ bound * den) × IsRounded num den floor ceiling
+
+-- the number lies from low to high units
+pub record LiesBetween (digits ten : ℤ) (unit : Unit) (low high : ℤ) : Type 0 where
+  pub from : (low *ℤ pos (denominator ten unit)) ≤ℤ numerator digits ten unit
+  pub to : numerator digits ten unit ≤ℤ (high *ℤ pos (denominator ten unit))

@@ -35,7 +35,7 @@ fn blanks_in_front(text: &[u8]) -> usize
 }
 
 /// The digits at the front, and the rest.
-fn split_digits(text: &[u8]) -> (&[u8], &[u8])
+pub fn split_digits(text: &[u8]) -> (&[u8], &[u8])
     ensures digits { result.0.now ≡ front is_ascii_digit text.now }
     ensures rest { result.1.now ≡ behind is_ascii_digit text.now }
     ensures are_digits { AreDigits result.0.now }
@@ -82,7 +82,7 @@ fn split_fraction(text: &[u8]) -> (&[u8], &[u8])
 }
 
 /// The number that the digits write when they follow those of `front`.
-fn number_after(front: u64, digits: &[u8]) -> u64
+pub fn number_after(front: u64, digits: &[u8]) -> u64
     requires digits { AreDigits digits.now }
     requires short { length digits.now ≤ 18 }
     requires room { front < 10 ^ (18 - length digits.now) }

@@ -1,0 +1,5 @@
+pub mod DateLemmas
+pub mod LineLemmas
+pub mod FieldLemmas
+pub mod BodyLemmas
+pub mod HeaderLemmas

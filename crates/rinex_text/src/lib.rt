@@ -1,0 +1,17 @@
+//! What the navigation and the observation files of RINEX 3 share: lines, columns and labels,
+//! dates, faults, the header, and where a file ends.
+#![tactic(auto)]
+
+mod body;
+mod dates;
+mod fault;
+mod fields;
+mod header;
+mod lines;
+
+pub use body::Body;
+pub use dates::{BadDate, gps_ps};
+pub use fault::{Fault, ReadError, Refusal};
+pub use fields::{column, columns, is_blank_text, is_labelled, is_printable_text, label};
+pub use header::{behind_header, behind_version, short_line};
+pub use lines::{Line, Lines};
