@@ -132,3 +132,48 @@ fn units_hold_the_decimal(rt: HostRuntime) -> Result<(), Fail> {
     }
     Ok(())
 }
+
+#[test]
+fn counts_are_digits_among_blanks(rt: HostRuntime) -> Result<(), Fail> {
+    let counts: [(&[u8], u64); 4] = [
+        (b"  4", 4),
+        (b"04 ", 4),
+        (b"\t12\t", 12),
+        (b"999999999999999999", 999_999_999_999_999_999),
+    ];
+    for (field, count) in counts.iter() {
+        assert!(rt; field.len() <= 18 && read_count(field) == Some(*count));
+    }
+    let others: [&[u8]; 7] = [b"", b"   ", b"+4", b"-1", b"4 5", b"4.", b"x4"];
+    for field in others.iter() {
+        assert!(rt; field.len() <= 18 && read_count(field).is_none());
+    }
+    Ok(())
+}
+
+#[test]
+fn ends_belong_to_what_lies_between(rt: HostRuntime) -> Result<(), Fail> {
+    let (low, high) = (30_000_000_000_000_000, 30_500_000_000_000_000);
+    for (digits, ten) in [(3, 0), (305, -2), (30_000_000_000_000_001, -16)].iter() {
+        let decimal = Decimal {
+            digits: *digits,
+            ten: *ten,
+        };
+        assert!(rt; to_unit_between(decimal, Unit::Ratio, low, high).is_some());
+    }
+    for (digits, ten) in [
+        (299_999, -5),
+        (305_000_000_000_000_001, -17),
+        (-3, 0),
+        (3, 2),
+    ]
+    .iter()
+    {
+        let decimal = Decimal {
+            digits: *digits,
+            ten: *ten,
+        };
+        assert!(rt; to_unit_between(decimal, Unit::Ratio, low, high).is_none());
+    }
+    Ok(())
+}

@@ -1,4 +1,3 @@
-use Rattle.std.proofs.Common.{◌≡◌, refl}
 use Rattle.rinex_text.proofs.HeaderLemmas.{version_lies, is_version}
 use Rattle.rinex_text.proofs.header.is_version.Goals as goal
 
@@ -10,8 +9,7 @@ returns-in_default-2 c = (λ e. absurd cc, λ v. absurd (let other = (c.read_fix
 
 pub returns : goal.returns
 returns c =
-    let numbers = c.read_fixed.ensures.number in
-    (
+    let numbers = c.read_fixed.ensures.number in (
       λ some. is_version _ _ c.in-Ok-Some.number numbers (cc) (c.to_unit_between.ensures.lies.0 (cc)),
       λ v. let there = c.to_unit_between.ensures.lies.1 (version_lies _ _ c.in-Ok-Some.number numbers (cc) v) in cc,
     )
