@@ -1,5 +1,5 @@
 -- Fields, counts and clock times: what none is, and that there is only one.
-use Rattle.std.proofs.Common.{◌≡◌, ℕ, ◌+◌, ◌-◌, ◌*◌, ◌^◌, ◌<◌, ◌≤◌, List, length, arith, refl, sym, ◌∙◌, subst, inl, inr, Option, Some, None, Result, Ok, Err}
+use Rattle.std.proofs.Common.{◌≡◌, ℕ, Bool, true, false, ◌+◌, ◌-◌, ◌*◌, ◌^◌, ◌<◌, ◌≤◌, List, length, arith, refl, sym, ◌∙◌, subst, inl, inr, Option, Some, None, Result, Ok, Err}
 use Rattle.std.specs.Prelude.{ℤ, pos, ◌↔◌}
 use Rattle.std.proofs.Math.Nat.{pow-le-pow_right}
 use Rattle.exact_decimal.specs.declared.decimal.BadNumber.{BadNumber}
@@ -43,3 +43,9 @@ no_time text year month day hour minute second y mo d h mi s toc is =
     let emi = same_count _ _ _ is.minute_is mi in
     let es = same_count _ _ _ is.second_is s in
     (rw (ey, emo, ed, eh, emi, es) at is.time, rw (ey, emo, ed, eh, emi, es) at is.value)
+
+pub never : false ≡ true → ⊥
+never e = cc
+
+pub both_ways : (b : Bool) → b ≡ true → b ≡ false → ⊥
+both_ways b e f = cc

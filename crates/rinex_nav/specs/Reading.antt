@@ -1,5 +1,5 @@
 -- What a reader of navigation files has read.
-use Rattle.std.specs.Prelude.{ℕ, ◌≡◌, ◌+◌, ◌⊎◌, List, [], ◌∷◌, ◌≤◌, ◌<◌, Vec, length, drop, Result, Ok, Err, map}
+use Rattle.std.specs.Prelude.{ℕ, ◌≡◌, ◌+◌, ◌⊎◌, List, [], ◌∷◌, ◌≤◌, ◌<◌, ◌++◌, length, drop, Result, Ok, Err, map}
 use Rattle.rinex_text.specs.Faults.{refusal}
 use Rattle.rinex_text.specs.Headers.{Behind}
 use Rattle.rinex_text.specs.Lines.{TextLine}
@@ -11,10 +11,14 @@ use Rattle.rinex_text.specs.declared.fault.ReadError.{ReadError}
 use Rattle.rinex_text.specs.declared.fault.ReadError.TheVariants.{Refused, NoMemory}
 use Rattle.rinex_text.specs.declared.fault.Refusal.{Refusal}
 use Rattle.rinex_nav.specs.Records.{Broadcast}
+use Rattle.rinex_nav.specs.declared.nav.Nav.{Nav}
 use Rattle.rinex_nav.specs.declared.record.NavRecord.{NavRecord}
 
 abbrev pub plain_record : NavRecord → Broadcast
 plain_record r = record { sat = r.sat; toc = r.toc; healthy = r.healthy; fields = r.fields }
+
+abbrev pub records_of : Nav → List Broadcast
+records_of nav = map plain_record nav.records.items
 
 abbrev pub body_behind : Body → Behind
 body_behind body = record { number = body.lines.number; lines = body_left body }
@@ -25,6 +29,7 @@ pub record Takes {V : Type 0} (line : TextLine → Result V Fault → Type 0) (o
   pub lines : body_left old ≡ taken ∷ body_left new
   pub number : new.lines.number ≡ old.lines.number + 1
   pub gave : line taken (Ok v)
+  pub less : new.left < old.left
 
 -- the next line is missing, or has this first fault
 pub record Fails {V : Type 0} (line : TextLine → Result V Fault → Type 0) (old : Body) (e : Refusal) : Type 0 where
@@ -37,8 +42,12 @@ pub record Leaves (old : Body) (taken : ℕ) (new : Body) : Type 0 where
   pub number : new.lines.number ≡ old.lines.number + taken
   pub less : new.left < old.left
 
--- these records or this refusal is what was read, unless memory ran out
-abbrev pub GivesRecords : (Result (List Broadcast) Refusal → Type 0) → Result (Vec NavRecord) ReadError → Type 0
-GivesRecords reader (Ok records) = reader (Ok (map plain_record records.items))
-GivesRecords reader (Err NoMemory) = Unit {0}
-GivesRecords reader (Err (Refused refusal)) = reader (Err refusal)
+-- the refusal is what the reader gives, unless memory ran out
+abbrev pub Refuses : (Result (List Broadcast) Refusal → Type 0) → ReadError → Type 0
+Refuses reader NoMemory = Unit {0}
+Refuses reader (Refused e) = reader (Err e)
+
+-- records before those that come later
+abbrev pub with_all : List Broadcast → Result (List Broadcast) Refusal → Result (List Broadcast) Refusal
+with_all records (Ok more) = Ok (records ++ more)
+with_all records (Err e) = Err e

@@ -4,11 +4,11 @@
 
 mod field;
 mod line;
-
+mod nav;
 mod read;
 mod record;
 mod take;
 
-
-
+pub use nav::Nav;
+pub use read::read_nav;
 pub use record::NavRecord;

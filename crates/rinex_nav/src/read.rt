@@ -1,17 +1,20 @@
 //! Navigation files.
 
-ghost use Rattle.std.specs.Prelude.{◌≡◌, ◌≤◌, ◌<◌, ◌+◌, ◌⊎◌, IfOk, IfErr, Ok, Err, drop, length, map};
-ghost use Rattle.rinex_text.specs.Bodies.{counted};
+ghost use Rattle.std.specs.Prelude.{◌≡◌, ◌≤◌, ◌<◌, ◌+◌, IfOk, IfErr, Ok, Err, drop, length, map};
+ghost use Rattle.rinex_text.specs.Lines.{lines_of};
 ghost use Rattle.rinex_text.specs.Reading.{body_left};
-ghost use Rattle.rinex_nav.specs.Files.{records_from};
-ghost use Rattle.rinex_nav.specs.Reading.{plain_record, body_behind, Leaves, GivesRecords};
+ghost use Rattle.rinex_nav.specs.Files.{records_from, nav_file, IsNavFile};
+ghost use Rattle.rinex_nav.specs.Reading.{plain_record, records_of, body_behind, Leaves, Refuses};
 ghost use Rattle.rinex_nav.specs.Records.{record_from};
 
-use rinex_text::{Body, Fault, ReadError, Refusal, column, is_short};
+use rinex_text::{
+    Body, Fault, ReadError, Refusal, behind_header, behind_version, column, is_short,
+};
 use sat_model::Sat;
 use std::alloc::Global;
 
 use crate::field::is_zero;
+use crate::nav::Nav;
 use crate::record::NavRecord;
 use crate::take::{take_clock, take_first, take_last, take_middle, take_unread, take_whole};
 
@@ -46,7 +49,8 @@ fn read_record(body: Body<'_>, count: usize) -> Result<(NavRecord, Body<'_>), Re
 
 /// The records of a body.
 fn read_records(alloc: Global, body: Body<'_>) -> Result<Vec<NavRecord>, ReadError>
-    ensures { GivesRecords (records_from 0 body.entry.lines.number 0 (body_left body.entry)) result }
+    ensures records { IfOk result (λ records. records_from 0 body.entry.lines.number 0 (body_left body.entry) (Ok (map plain_record records.items))) }
+    ensures fault { IfErr result (Refuses (records_from 0 body.entry.lines.number 0 (body_left body.entry))) }
 {
     let mut records = Vec::new(alloc);
     let mut left = body;
@@ -64,4 +68,25 @@ fn read_records(alloc: Global, body: Body<'_>) -> Result<Vec<NavRecord>, ReadErr
         }
     }
     Ok(records)
+}
+
+/// Reads a navigation file of at most 4 * 10^9 bytes: its GPS records in file order. The header is
+/// read line by line, then the lines behind it are counted and read once; no line is copied.
+pub fn read_nav(alloc: Global, bytes: &[u8]) -> Result<Nav, ReadError>
+    requires { length bytes.now ≤ 4000000000 }
+    // What is read are the records of a navigation file with this text.
+    ensures records { IfOk result (λ nav. IsNavFile bytes.now (records_of nav)) }
+    // What isn't read has this first fault, unless memory ran out.
+    ensures fault { IfErr result (Refuses (nav_file (lines_of bytes.now))) }
+{
+    let header = match behind_version(bytes, b'N') {
+        Ok(lines) => lines,
+        Err(refusal) => return Err(ReadError::Refused(refusal)),
+    };
+    let lines = match behind_header(header) {
+        Ok(lines) => lines,
+        Err(refusal) => return Err(ReadError::Refused(refusal)),
+    };
+    let records = read_records(alloc, Body::new(lines))?;
+    Ok(Nav { records })
 }
