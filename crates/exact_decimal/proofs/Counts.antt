@@ -64,7 +64,7 @@ count_answer field n = (count_is field n, is_count field n)
 pub count_below : (field : List ℕ) (n : ℕ) → IsCount field n → n < 10 ^ length field
 count_below field n c =
     let bytes : length field ≡ length c.before + (length c.digits + length c.after) =
-        ap (λ (l : List ℕ). length l) c.spelled ∙ (length-append c.before (c.digits ++ c.after) ∙ ap (λ (m : ℕ). length c.before + m) (length-append c.digits c.after)) in
+    ap (λ (l : List ℕ). length l) c.spelled ∙ (length-append c.before (c.digits ++ c.after) ∙ ap (λ (m : ℕ). length c.before + m) (length-append c.digits c.after)) in
     let most : 0 + length c.digits ≤ length field = omega arith in
     omega (arith, c.value, after_below 0 0 c.digits c.are_digits (omega arith), pow-le-pow_right {n = 10} (omega arith) most)
 

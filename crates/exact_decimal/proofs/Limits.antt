@@ -19,18 +19,18 @@ pub below_floor : (num den low q : ℤ) → pos 0 <ℤ den → IsFloor num den q
 below_floor num den low q some f = (
   λ h. le_z_trans _ _ _ (mul_mono low q den h (omega (arith, ints))) f.le,
   λ h.
-    let under : (low *ℤ den) <ℤ ((q +ℤ pos 1) *ℤ den) = omega (arith, ints, add_mul q (pos 1) den, one_times den, f.gt, h) in
-    let less : low <ℤ (q +ℤ pos 1) = mul_lt_back low (q +ℤ pos 1) den some under in
-    omega (arith, ints, less),
+      let under : (low *ℤ den) <ℤ ((q +ℤ pos 1) *ℤ den) = omega (arith, ints, add_mul q (pos 1) den, one_times den, f.gt, h) in
+      let less : low <ℤ (q +ℤ pos 1) = mul_lt_back low (q +ℤ pos 1) den some under in
+      omega (arith, ints, less),
 )
 
 pub above_ceiling : (num den high q : ℤ) → pos 0 <ℤ den → IsCeiling num den q → (q ≤ℤ high) ↔ (num ≤ℤ (high *ℤ den))
 above_ceiling num den high q some c = (
   λ h. le_z_trans _ _ _ c.ge (mul_mono q high den h (omega (arith, ints))),
   λ h.
-    let under : (q *ℤ den) <ℤ ((high +ℤ pos 1) *ℤ den) = omega (arith, ints, add_mul high (pos 1) den, one_times den, c.lt, h) in
-    let less : q <ℤ (high +ℤ pos 1) = mul_lt_back q (high +ℤ pos 1) den some under in
-    omega (arith, ints, less),
+      let under : (q *ℤ den) <ℤ ((high +ℤ pos 1) *ℤ den) = omega (arith, ints, add_mul high (pos 1) den, one_times den, c.lt, h) in
+      let less : q <ℤ (high +ℤ pos 1) = mul_lt_back q (high +ℤ pos 1) den some under in
+      omega (arith, ints, less),
 )
 
 pub some_parts : (ten : ℤ) (unit : Unit) → pos 0 <ℤ pos (denominator ten unit)
@@ -50,6 +50,6 @@ passes_none digits ten unit low high l h passes lies =
     let flip = neg_mul (pos (bound_of unit)) (pos (denominator ten unit)) in
     let product : pos (bound_of unit) *ℤ pos (denominator ten unit) ≡ pos (bound_of unit * denominator ten unit) = refl in
     let most : unsigned_abs (numerator digits ten unit) ≤ bound_of unit * denominator ten unit =
-        amount_low (bound_of unit * denominator ten unit) (numerator digits ten unit)
-        (omega (arith, ints, below, flip, product, lies.from)) (omega (arith, ints, above, product, lies.to)) in
+    amount_low (bound_of unit * denominator ten unit) (numerator digits ten unit)
+    (omega (arith, ints, below, flip, product, lies.from)) (omega (arith, ints, above, product, lies.to)) in
     omega (arith, passes, most)

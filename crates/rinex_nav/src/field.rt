@@ -112,7 +112,14 @@ pub fn clock_time(text: &[u8]) -> Option<i128>
     let hour = two_digits(text, 16)?;
     let minute = two_digits(text, 19)?;
     let second = two_digits(text, 22)?;
-    match gps_ps(year, month, day, hour, minute, u64::from(second) * 10_000_000) {
+    match gps_ps(
+        year,
+        month,
+        day,
+        hour,
+        minute,
+        u64::from(second) * 10_000_000,
+    ) {
         Ok(toc) => Some(toc),
         Err(_) => None,
     }

@@ -12,3 +12,6 @@ mod take;
 pub use nav::Nav;
 pub use read::read_nav;
 pub use record::NavRecord;
+
+#[cfg(test)]
+mod tests;

@@ -6,12 +6,9 @@ ghost use Rattle.rinex_text.specs.Reading.{plain_line};
 ghost use Rattle.rinex_nav.specs.Fields.{FirstField, MiddleFields, LastFields, AllFields};
 ghost use Rattle.rinex_nav.specs.Records.{MayFollow, clock_line, further_text, further_line};
 
+use crate::field::{all_fields, clock_time, field, last_fields, middle_fields, satellite_number};
 use exact_decimal::Decimal;
 use rinex_text::{Fault, Line, column, is_printable_text, is_short};
-
-use crate::field::{
-    all_fields, clock_time, field, last_fields, middle_fields, satellite_number,
-};
 
 /// The most records of a file.
 const MOST_RECORDS: usize = 200_000;

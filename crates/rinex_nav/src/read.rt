@@ -7,16 +7,15 @@ ghost use Rattle.rinex_nav.specs.Files.{records_from, nav_file, IsNavFile};
 ghost use Rattle.rinex_nav.specs.Reading.{plain_record, records_of, body_behind, Leaves, Refuses};
 ghost use Rattle.rinex_nav.specs.Records.{record_from};
 
+use crate::field::is_zero;
+use crate::nav::Nav;
+use crate::record::NavRecord;
+use crate::take::{take_clock, take_first, take_last, take_middle, take_unread, take_whole};
 use rinex_text::{
     Body, Fault, ReadError, Refusal, behind_header, behind_version, column, is_short,
 };
 use sat_model::Sat;
 use std::alloc::Global;
-
-use crate::field::is_zero;
-use crate::nav::Nav;
-use crate::record::NavRecord;
-use crate::take::{take_clock, take_first, take_last, take_middle, take_unread, take_whole};
 
 /// The record that begins with the next line, behind so many records.
 fn read_record(body: Body<'_>, count: usize) -> Result<(NavRecord, Body<'_>), Refusal>

@@ -5,10 +5,9 @@ ghost use Rattle.rinex_nav.specs.Fields.{FirstField, MiddleFields, LastFields, A
 ghost use Rattle.rinex_nav.specs.Records.{clock_line, further_text, further_line};
 ghost use Rattle.rinex_nav.specs.Reading.{Takes, Fails};
 
+use crate::line::{clock_line, first_line, further_text, last_line, middle_line, whole_line};
 use exact_decimal::Decimal;
 use rinex_text::{Body, Fault, Refusal};
-
-use crate::line::{clock_line, first_line, further_text, last_line, middle_line, whole_line};
 
 /// What the first line of a record gives: the satellite's number, the clock time, and af0, af1, af2.
 type Clock = (u8, i128, (Decimal, Decimal, Decimal));
@@ -44,7 +43,9 @@ pub fn take_last(body: Body<'_>) -> Result<((Decimal, Decimal, Decimal), Body<'_
 }
 
 /// The four fields of the next line.
-pub fn take_whole(body: Body<'_>) -> Result<((Decimal, Decimal, Decimal, Decimal), Body<'_>), Refusal>
+pub fn take_whole(
+    body: Body<'_>,
+) -> Result<((Decimal, Decimal, Decimal, Decimal), Body<'_>), Refusal>
     ensures took { IfOk result (λ t. Takes (further_line AllFields) body.entry t.0 t.1) }
     ensures failed { IfErr result (Fails (further_line AllFields) body.entry) }
 {

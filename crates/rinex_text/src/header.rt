@@ -15,6 +15,7 @@ const LONGEST_LINE: usize = 4_096;
 
 /// Versions 3.00 and 3.05, in units of 10^-16.
 const FIRST_VERSION: i128 = 30_000_000_000_000_000;
+
 const LAST_VERSION: i128 = 30_500_000_000_000_000;
 
 /// Whether the field is a version from 3.00 to 3.05.

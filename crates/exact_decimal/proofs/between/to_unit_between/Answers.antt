@@ -10,23 +10,23 @@ pub returns-then-held-low-clause-lies : goal.returns-then-held-low-clause-lies
 returns-then-held-low-clause-lies c = (
   λ e. absurd cc,
   λ lies. let some = some_parts c.args.decimal.ten c.args.unit in
-    absurd (let no = (below_floor _ _ c.args.low c.in-Ok.held.lo some c.in-Ok.ensures.floor).1 lies.from in omega (arith, ints, no, c.if-held-low.true)),
+      absurd (let no = (below_floor _ _ c.args.low c.in-Ok.held.lo some c.in-Ok.ensures.floor).1 lies.from in omega (arith, ints, no, c.if-held-low.true)),
 )
 
 pub returns-then-held-high-clause-lies : goal.returns-then-held-high-clause-lies
 returns-then-held-high-clause-lies c = (
   λ e. absurd cc,
   λ lies. let some = some_parts c.args.decimal.ten c.args.unit in
-    absurd (let no = (above_ceiling _ _ c.args.high c.in-Ok.held.hi some c.in-Ok.ensures.ceiling).1 lies.to in omega (arith, ints, no, c.if-held-high.true)),
+      absurd (let no = (above_ceiling _ _ c.args.high c.in-Ok.held.hi some c.in-Ok.ensures.ceiling).1 lies.to in omega (arith, ints, no, c.if-held-high.true)),
 )
 
 pub returns-clause-lies : goal.returns-clause-lies
 returns-clause-lies c = (
   λ e.
-    let some = some_parts c.args.decimal.ten c.args.unit in
-    record {
-      from = (below_floor _ _ c.args.low c.in-Ok.held.lo some c.in-Ok.ensures.floor).0 (omega (arith, ints, c.if-held-low.false));
-      to = (above_ceiling _ _ c.args.high c.in-Ok.held.hi some c.in-Ok.ensures.ceiling).0 (omega (arith, ints, c.if-held-high.false));
-    },
+      let some = some_parts c.args.decimal.ten c.args.unit in
+      record {
+        from = (below_floor _ _ c.args.low c.in-Ok.held.lo some c.in-Ok.ensures.floor).0 (omega (arith, ints, c.if-held-low.false));
+        to = (above_ceiling _ _ c.args.high c.in-Ok.held.hi some c.in-Ok.ensures.ceiling).0 (omega (arith, ints, c.if-held-high.false));
+      },
   λ lies. refl,
 )

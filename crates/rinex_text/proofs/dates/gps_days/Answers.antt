@@ -12,7 +12,7 @@ returns-then-number-gt-LAST_DAY-clause-date c = (λ e. absurd cc, λ g. absurd (
 pub returns-clause-date : goal.returns-clause-date
 returns-clause-date c = (
   λ e. in_time _ _ _ c.in-Some.number (c.in-Some.ensures.date.0 refl) c.in-Some.ensures.value
-    (omega (arith, ints, c.if-number-lt-FIRST_DAY.false)) (omega (arith, ints, c.if-number-gt-LAST_DAY.false)),
+      (omega (arith, ints, c.if-number-lt-FIRST_DAY.false)) (omega (arith, ints, c.if-number-gt-LAST_DAY.false)),
   λ g. refl,
 )
 

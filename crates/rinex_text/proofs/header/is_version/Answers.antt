@@ -10,8 +10,7 @@ returns-in_default-2 c = (λ e. absurd cc, λ v. absurd (let other = (c.read_fix
 
 pub returns : goal.returns
 returns c =
-    let numbers = c.read_fixed.ensures.number in
-    (
+    let numbers = c.read_fixed.ensures.number in (
       λ some. is_version _ _ c.in-Ok-Some.number numbers (cc) (c.to_unit_between.ensures.lies.0 (cc)),
       λ v. let there = c.to_unit_between.ensures.lies.1 (version_lies _ _ c.in-Ok-Some.number numbers (cc) v) in cc,
     )
