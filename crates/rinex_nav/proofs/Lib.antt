@@ -1,3 +1,4 @@
 pub mod FieldLemmas
 pub mod TakeLemmas
 pub mod RecordLemmas
+pub mod OnlyLemmas

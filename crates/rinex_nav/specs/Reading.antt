@@ -51,3 +51,13 @@ Refuses reader (Refused e) = reader (Err e)
 abbrev pub with_all : List Broadcast → Result (List Broadcast) Refusal → Result (List Broadcast) Refusal
 with_all records (Ok more) = Ok (records ++ more)
 with_all records (Err e) = Err e
+
+-- these records were read, unless memory ran out
+abbrev pub GivesRecords : List Broadcast → Result Nav ReadError → Type 0
+GivesRecords records (Ok nav) = records_of nav ≡ records
+GivesRecords records (Err e) = e ≡ NoMemory
+
+-- the text was refused with this fault, unless memory ran out
+abbrev pub GivesRefusal : Refusal → Result Nav ReadError → Type 0
+GivesRefusal r (Ok nav) = ⊥
+GivesRefusal r (Err e) = (e ≡ Refused r) ⊎ (e ≡ NoMemory)

@@ -1,11 +1,12 @@
 //! Navigation files.
 
-ghost use Rattle.std.specs.Prelude.{◌≡◌, ◌≤◌, ◌<◌, ◌+◌, IfOk, IfErr, Ok, Err, drop, length, map};
+ghost use Rattle.std.specs.Prelude.{◌≡◌, ◌≤◌, ◌<◌, ◌+◌, List, IfOk, IfErr, Ok, Err, drop, length, map};
 ghost use Rattle.rinex_text.specs.Lines.{lines_of};
+ghost use Rattle.rinex_text.specs.declared.fault.Refusal.{Refusal};
 ghost use Rattle.rinex_text.specs.Reading.{body_left};
-ghost use Rattle.rinex_nav.specs.Files.{records_from, nav_file, IsNavFile};
-ghost use Rattle.rinex_nav.specs.Reading.{plain_record, records_of, body_behind, Leaves, Refuses};
-ghost use Rattle.rinex_nav.specs.Records.{record_from};
+ghost use Rattle.rinex_nav.specs.Files.{records_from, nav_file, IsNavFile, IsFirstFault};
+ghost use Rattle.rinex_nav.specs.Reading.{plain_record, records_of, body_behind, Leaves, Refuses, GivesRecords, GivesRefusal};
+ghost use Rattle.rinex_nav.specs.Records.{Broadcast, record_from};
 
 use crate::field::is_zero;
 use crate::nav::Nav;
@@ -69,13 +70,10 @@ fn read_records(alloc: Global, body: Body<'_>) -> Result<Vec<NavRecord>, ReadErr
     Ok(records)
 }
 
-/// Reads a navigation file of at most 4 * 10^9 bytes: its GPS records in file order. The header is
-/// read line by line, then the lines behind it are counted and read once; no line is copied.
-pub fn read_nav(alloc: Global, bytes: &[u8]) -> Result<Nav, ReadError>
+/// The records of a navigation file, or its first fault.
+fn read_text(alloc: Global, bytes: &[u8]) -> Result<Nav, ReadError>
     requires { length bytes.now ≤ 4000000000 }
-    // What is read are the records of a navigation file with this text.
     ensures records { IfOk result (λ nav. IsNavFile bytes.now (records_of nav)) }
-    // What isn't read has this first fault, unless memory ran out.
     ensures fault { IfErr result (Refuses (nav_file (lines_of bytes.now))) }
 {
     let header = match behind_version(bytes, b'N') {
@@ -88,4 +86,20 @@ pub fn read_nav(alloc: Global, bytes: &[u8]) -> Result<Nav, ReadError>
     };
     let records = read_records(alloc, Body::new(lines))?;
     Ok(Nav { records })
+}
+
+/// Reads a navigation file of at most 4 * 10^9 bytes: its GPS records in file order. The header is
+/// read line by line, then the lines behind it are counted and read once; no line is copied.
+pub fn read_nav(alloc: Global, bytes: &[u8]) -> Result<Nav, ReadError>
+    requires { length bytes.now ≤ 4000000000 }
+    // What is read are the records of a navigation file with this text.
+    ensures records { IfOk result (λ nav. IsNavFile bytes.now (records_of nav)) }
+    // What isn't read has this first fault, unless memory ran out.
+    ensures fault { IfErr result (Refuses (nav_file (lines_of bytes.now))) }
+    // A navigation file is read as its records, unless memory runs out.
+    ensures exact { (records : List Broadcast) → IsNavFile bytes.now records → GivesRecords records result }
+    // A text with a fault is refused with its first, unless memory runs out.
+    ensures first { (refusal : Refusal) → IsFirstFault bytes.now refusal → GivesRefusal refusal result }
+{
+    read_text(alloc, bytes)
 }

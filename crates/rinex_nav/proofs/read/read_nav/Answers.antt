@@ -1,24 +1,8 @@
-use Rattle.std.proofs.lemmas.Result.{err_from_is_err_and}
-use Rattle.std.proofs.Common.{inl, sym}
-use Rattle.rinex_text.specs.Lines.{lines_of}
-use Rattle.rinex_text.specs.Reading.{behind_of, body_left}
-use Rattle.rinex_nav.specs.Files.{nav_file, records_from}
-use Rattle.rinex_nav.proofs.RecordLemmas.{in_body, refuses_on}
+use Rattle.rinex_nav.proofs.OnlyLemmas.{gives_records, gives_refusal}
 use Rattle.rinex_nav.proofs.read.read_nav.Goals as goal
 
-pub returns-in_err-records-clause-fault : goal.returns-in_err-records-clause-fault
-returns-in_err-records-clause-fault c =
-    let p = err_from_is_err_and c.from_residual.result c.from_residual.ensures.1 in
-    rw (p.1, p.2)
-    (refuses_on (records_from 0 c.new.result.lines.number 0 (body_left c.new.result)) (nav_file (lines_of c.args.bytes.now))
-    (λ refused h.
-    inl (
-      behind_of c.in-Ok.lines,
-      c.in-Ok.ensures,
-      inl (
-        behind_of c.in-Ok-behind_header.lines,
-        c.in-Ok-behind_header.ensures,
-        in_body _ _ _ _ _ c.new.ensures.number c.new.ensures.lines h,
-      ),
-    ))
-    _ c.in_err-records.ensures.fault)
+pub returns-clause-exact : goal.returns-clause-exact
+returns-clause-exact c = λ records. gives_records c.args.bytes.now records c.read_text.result c.read_text.ensures.records c.read_text.ensures.fault
+
+pub returns-clause-first : goal.returns-clause-first
+returns-clause-first c = λ r. gives_refusal c.args.bytes.now r c.read_text.result c.read_text.ensures.records c.read_text.ensures.fault
