@@ -42,6 +42,10 @@ test passed fault later answer = (passed × later answer) ⊎ ((passed → ⊥) 
 abbrev pub read : {V X E : Type 0} → (V → Type 0) → E → (V → Result X E → Type 0) → Result X E → Type 0
 read {V} IsValue fault later answer = ((v : V) × IsValue v × later v answer) ⊎ (((v : V) → IsValue v → ⊥) × (answer ≡ Err fault))
 
+-- what one reader gives, and with it what comes later; or the reader's fault
+abbrev pub then : {V X E : Type 0} → (Result V E → Type 0) → (V → Result X E → Type 0) → Result X E → Type 0
+then {V} {X} {E} reader later answer = ((v : V) × reader (Ok v) × later v answer) ⊎ ((e : E) × reader (Err e) × (answer ≡ Err e))
+
 -- what a line gives, and what comes later; or the refusal of its first fault
 abbrev pub line_gives : {V X : Type 0} → (Result V Fault → Type 0) → ℕ → (V → Result X Refusal → Type 0) → Result X Refusal → Type 0
 line_gives {V} line number later answer =

@@ -35,10 +35,6 @@ version_line kind line =
     (test (IsSystem (column_of line.text 41)) fault.System
     (gives tt)))))
 
--- the one test of each line behind it
-abbrev pub short_line : TextLine → Result (Unit {0}) Fault → Type 0
-short_line line = test (IsShort line) fault.LongLine (gives tt)
-
 abbrev pub IsHeaderEnd : TextLine → Type 0
 IsHeaderEnd line = label_of line.text ≡ codes "END OF HEADER"
 
@@ -51,8 +47,8 @@ pub record Behind : Type 0 where
 abbrev pub header_from : ℕ → List TextLine → Result Behind Refusal → Type 0
 header_from number [] answer = answer ≡ Err (refusal fault.NoEndOfHeader number)
 header_from number (line ∷ more) answer =
-    line_gives (short_line line) number
-    (λ passed later. (IsHeaderEnd line × (later ≡ Ok (record { number = number + 1; lines = more }))) ⊎ ((IsHeaderEnd line → ⊥) × header_from (number + 1) more later))
+    test (IsShort line) (refusal fault.LongLine number)
+    (λ later. (IsHeaderEnd line × (later ≡ Ok (record { number = number + 1; lines = more }))) ⊎ ((IsHeaderEnd line → ⊥) × header_from (number + 1) more later))
     answer
 
 -- the version line of a file, and the lines behind it

@@ -2,7 +2,7 @@
 
 ghost use Rattle.std.specs.Prelude.{◌≡◌, ◌≤◌, ◌↔◌, IsTrue, length};
 ghost use Rattle.rinex_text.specs.Lines.{lines_of};
-ghost use Rattle.rinex_text.specs.Headers.{IsVersion, IsSystem, version_line, short_line, version_of, header_from};
+ghost use Rattle.rinex_text.specs.Headers.{IsVersion, IsSystem, IsShort, version_line, version_of, header_from};
 ghost use Rattle.rinex_text.specs.Reading.{plain_line, lines_left, left_of};
 
 use crate::fault::{Fault, Refusal};
@@ -35,21 +35,18 @@ fn is_system(letter: u8) -> bool
     matches!(letter, b'G' | b'M' | b' ' | b'\t')
 }
 
-/// The test that a line isn't too long.
-pub fn short_line(line: Line<'_>) -> Result<(), Fault>
-    ensures { short_line (plain_line line.entry) result }
+/// Whether the line has at most 4,096 bytes.
+pub fn is_short(line: Line<'_>) -> bool
+    ensures { IsTrue result ↔ IsShort (plain_line line.entry) }
 {
-    if line.size > LONGEST_LINE {
-        return Err(Fault::LongLine);
-    }
-    Ok(())
+    line.size <= LONGEST_LINE
 }
 
 /// The tests of the version line of a file of this kind, `b'N'` or `b'O'`.
 fn version_line(line: Line<'_>, kind: u8) -> Result<(), Fault>
     ensures { version_line kind (plain_line line.entry) result }
 {
-    if line.size > LONGEST_LINE {
+    if !is_short(line) {
         return Err(Fault::LongLine);
     }
     if !is_labelled(line.text, b"RINEX VERSION / TYPE") {
@@ -87,8 +84,8 @@ pub fn behind_header(lines: Lines<'_>) -> Result<Lines<'_>, Refusal>
 {
     let mut left = lines;
     'header: while let Some((line, behind)) = left.split_first() {
-        if let Err(fault) = short_line(line) {
-            return Err(Refusal::new(fault, left.number));
+        if !is_short(line) {
+            return Err(Refusal::new(Fault::LongLine, left.number));
         }
         left = behind;
         if is_labelled(line.text, b"END OF HEADER") {

@@ -13,7 +13,7 @@ pub use body::Body;
 pub use dates::{BadDate, gps_ps};
 pub use fault::{Fault, ReadError, Refusal};
 pub use fields::{column, columns, is_blank_text, is_labelled, is_printable_text, label};
-pub use header::{behind_header, behind_version, short_line};
+pub use header::{behind_header, behind_version, is_short};
 pub use lines::{Line, Lines};
 
 #[cfg(test)]

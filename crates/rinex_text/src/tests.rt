@@ -126,7 +126,7 @@ fn dates_are_gps_times(rt: HostRuntime) -> Result<(), Fail> {
     for (year, month, day, hour, minute, tenths) in [
         (1980, 1, 5, 23, 59, 0),
         (2100, 1, 1, 0, 0, 0),
-        (2001, 2, 29, 0, 0, 0),
+        (2023, 2, 29, 0, 0, 0),
         (2000, 13, 1, 0, 0, 0),
         (2000, 0, 1, 0, 0, 0),
         (2000, 1, 0, 0, 0, 0),

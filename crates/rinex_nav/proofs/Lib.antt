@@ -1,0 +1,4 @@
+pub mod FieldLemmas
+pub mod TakeLemmas
+pub mod RecordLemmas
+pub mod OnlyLemmas

@@ -1,0 +1,213 @@
+-- The lines of a file give one answer only.
+use Rattle.std.proofs.Common.{◌≡◌, ℕ, zero, suc, ◌+◌, List, [], ◌∷◌, refl, sym, ap, subst, ◌⊎◌, inl, inr, ◌∙◌, Some, None, IfOk, IfErr, Result, Ok, Err}
+use Rattle.std.specs.Prelude.{ℤ}
+use Rattle.exact_decimal.specs.declared.decimal.Decimal.{Decimal}
+use Rattle.exact_decimal.proofs.Answers.{floating_answer, floating_blank}
+use Rattle.rinex_text.specs.Bodies.{counted}
+use Rattle.rinex_text.specs.Faults.{refusal, test, read, then, line_gives}
+use Rattle.rinex_text.specs.Headers.{Behind, version_line, version_of, header_from}
+use Rattle.rinex_text.specs.Lines.{TextLine, lines_of}
+use Rattle.rinex_text.specs.declared.fault.Fault.{Fault}
+use Rattle.rinex_text.specs.declared.fault.ReadError.{ReadError}
+use Rattle.rinex_text.specs.declared.fault.ReadError.TheVariants.{Refused, NoMemory}
+use Rattle.rinex_text.specs.declared.fault.Refusal.{Refusal}
+use Rattle.rinex_nav.specs.Reading.{records_of, Refuses, GivesRecords, GivesRefusal}
+use Rattle.rinex_nav.specs.declared.nav.Nav.{Nav}
+use Rattle.rinex_nav.specs.Fields.{Two, Three, Four, IsField, FirstField, MiddleFields, LastFields, AllFields, IsNumber, IsClockTime}
+use Rattle.rinex_nav.specs.Files.{BeginsRecord, with_first, record_then, records_from, nav_file, IsNavFile, IsFirstFault}
+use Rattle.rinex_nav.specs.Records.{Broadcast, clock_line, further_text, further_line, first_of, needs, record_from}
+use Rattle.rinex_nav.proofs.FieldLemmas.{same_count, no_time}
+
+-- the reader has one answer
+abbrev IsOnly : {X : Type 0} → (X → Type 0) → Type 0
+IsOnly {X} reader = (x y : X) → reader x → reader y → x ≡ y
+
+test_only : {X E : Type 0} (P : Type 0) (f : E) (later : Result X E → Type 0) → IsOnly later → IsOnly (test P f later)
+test_only P f later only x y a b = elim a [
+  | inl (p, h) ↦ elim b [
+    | inl (q, k) ↦ only x y h k
+    | inr (other, e) ↦ absurd (other p)
+  ]
+  | inr (other, e) ↦ elim b [
+    | inl (q, k) ↦ absurd (other q)
+    | inr (also, f) ↦ e ∙ sym f
+  ]
+]
+
+read_only : {V X E : Type 0} (Is : V → Type 0) (f : E) (later : V → Result X E → Type 0) → IsOnly Is → ((v : V) → IsOnly (later v)) → IsOnly (read Is f later)
+read_only Is f later one only x y a b = elim a [
+  | inl (v, is, h) ↦ elim b [
+    | inl (w, also, k) ↦ only w x y (subst (λ u. later u x) (one v w is also) h) k
+    | inr (other, e) ↦ absurd (other v is)
+  ]
+  | inr (other, e) ↦ elim b [
+    | inl (w, also, k) ↦ absurd (other w also)
+    | inr (also, f) ↦ e ∙ sym f
+  ]
+]
+
+ok_same : {V E : Type 0} (v w : V) → ◌≡◌ {A = Result V E} (Ok v) (Ok w) → v ≡ w
+ok_same v w e = cc
+
+err_same : {V E : Type 0} (e f : E) → ◌≡◌ {A = Result V E} (Err e) (Err f) → e ≡ f
+err_same e f h = cc
+
+not_both : {V E : Type 0} (v : V) (e : E) → ◌≡◌ {A = Result V E} (Ok v) (Err e) → ⊥
+not_both v e h = cc
+
+then_only : {V X E : Type 0} (reader : Result V E → Type 0) (later : V → Result X E → Type 0) → IsOnly reader → ((v : V) → IsOnly (later v)) → IsOnly (then reader later)
+then_only reader later one only x y a b = elim a [
+  | inl (v, r, h) ↦ elim b [
+    | inl (w, s, k) ↦ only w x y (subst (λ u. later u x) (ok_same v w (one (Ok v) (Ok w) r s)) h) k
+    | inr (e, s, k) ↦ absurd (not_both v e (one (Ok v) (Err e) r s))
+  ]
+  | inr (e, r, h) ↦ elim b [
+    | inl (w, s, k) ↦ absurd (not_both w e (one (Ok w) (Err e) s r))
+    | inr (f, s, k) ↦ h ∙ (ap (λ u. Err u) (err_same e f (one (Err e) (Err f) r s)) ∙ sym k)
+  ]
+]
+
+gives_only : {X E : Type 0} (v : X) → IsOnly (λ (answer : Result X E). answer ≡ Ok v)
+gives_only v x y a b = a ∙ sym b
+
+line_only : {V X : Type 0} (reader : Result V Fault → Type 0) (number : ℕ) (later : V → Result X Refusal → Type 0) → IsOnly reader → ((v : V) → IsOnly (later v)) → IsOnly (line_gives reader number later)
+line_only reader number later one only x y a b = elim a [
+  | inl (v, r, h) ↦ elim b [
+    | inl (w, s, k) ↦ only w x y (subst (λ u. later u x) (ok_same v w (one (Ok v) (Ok w) r s)) h) k
+    | inr (e, s, k) ↦ absurd (not_both v e (one (Ok v) (Err e) r s))
+  ]
+  | inr (e, r, h) ↦ elim b [
+    | inl (w, s, k) ↦ absurd (not_both w e (one (Ok w) (Err e) s r))
+    | inr (f, s, k) ↦ h ∙ (ap (λ u. Err (refusal u number)) (err_same e f (one (Err e) (Err f) r s)) ∙ sym k)
+  ]
+]
+
+-- ---- fields
+
+field_only : (field : List ℕ) → IsOnly (IsField field)
+field_only field d e a b = elim a [
+  | inl (blank, none) ↦ elim b [
+    | inl (also, other) ↦ none ∙ sym other
+    | inr floating ↦ absurd (let none = (floating_blank field).1 blank in let some = (floating_answer field e.digits e.ten).1 floating in cc)
+  ]
+  | inr floating ↦ elim b [
+    | inl (blank, other) ↦ absurd (let none = (floating_blank field).1 blank in let some = (floating_answer field d.digits d.ten).1 floating in cc)
+    | inr also ↦ let first = (floating_answer field d.digits d.ten).1 floating in let second = (floating_answer field e.digits e.ten).1 also in cc
+  ]
+]
+
+middle_only : (text : List ℕ) → IsOnly (MiddleFields text)
+middle_only text (a, b) (k, l) f g = let e1 = field_only _ a k f.0 g.0 in let e2 = field_only _ b l f.1 g.1 in cc
+
+last_only : (text : List ℕ) → IsOnly (LastFields text)
+last_only text (a, b, c) (k, l, m) f g =
+    let e1 = field_only _ a k f.0 g.0 in
+    let e2 = field_only _ b l f.1 g.1 in
+    let e3 = field_only _ c m f.2 g.2 in
+    cc
+
+all_only : (text : List ℕ) → IsOnly (AllFields text)
+all_only text (a, b, c, d) (k, l, m, n) f g =
+    let e1 = field_only _ a k f.0 g.0 in
+    let e2 = field_only _ b l f.1 g.1 in
+    let e3 = field_only _ c m f.2 g.2 in
+    let e4 = field_only _ d n f.3 g.3 in
+    cc
+
+number_only : (text : List ℕ) → IsOnly (IsNumber text)
+number_only text m n a b = same_count _ m n a.count b.count
+
+time_only : (text : List ℕ) → IsOnly (IsClockTime text)
+time_only text s t a b =
+    a.value ∙ sym (no_time text a.year a.month a.day a.hour a.minute a.second a.year_is a.month_is a.day_is a.hour_is a.minute_is a.second_is t b).1
+
+-- ---- lines
+
+clock_only : (count : ℕ) (line : TextLine) → IsOnly (clock_line count line)
+clock_only count line =
+    test_only _ _ _ (test_only _ _ _ (read_only _ _ _ (number_only line.text) (λ number. test_only _ _ _ (read_only _ _ _ (time_only line.text) (λ toc. read_only _ _ _ (last_only line.text) (λ clock. gives_only _))))))
+
+text_only : (line : TextLine) → IsOnly (further_text line)
+text_only line = test_only _ _ _ (test_only _ _ _ (test_only _ _ _ (test_only _ _ _ (gives_only tt))))
+
+further_only : {V : Type 0} (Are : List ℕ → V → Type 0) → ((text : List ℕ) → IsOnly (Are text)) → (line : TextLine) → IsOnly (further_line Are line)
+further_only Are one line = then_only _ _ (text_only line) (λ passed. read_only _ _ _ (one line.text) (λ v. gives_only v))
+
+first_only : {V X : Type 0} (line : TextLine → Result V Fault → Type 0) (later : V → Behind → Result X Refusal → Type 0) → ((t : TextLine) → IsOnly (line t)) → ((v : V) (from : Behind) → IsOnly (later v from))
+    → (number : ℕ) (lines : List TextLine) → IsOnly (first_of line number lines later)
+first_only line later one only number [] x y a b = a ∙ sym b
+first_only line later one only number (next ∷ more) x y a b = line_only _ _ _ (one next) (λ v. only v _) x y a b
+
+record_only : (count : ℕ) (from : Behind) → IsOnly (record_from count from)
+record_only count from =
+    first_only _ _ (clock_only count) (λ clock l1.
+    first_only _ _ (further_only _ last_only) (λ a l2.
+    first_only _ _ (further_only _ all_only) (λ b l3.
+    first_only _ _ (further_only _ all_only) (λ c l4.
+    first_only _ _ (further_only _ all_only) (λ d l5.
+    first_only _ _ (further_only _ (λ text. field_only _)) (λ idot l6.
+    first_only _ _ (further_only _ middle_only) (λ health l7.
+    first_only _ _ text_only (λ none l8. gives_only _) l7.number l7.lines)
+    l6.number l6.lines) l5.number l5.lines) l4.number l4.lines) l3.number l3.lines) l2.number l2.lines) l1.number l1.lines) from.number from.lines
+
+-- ---- files
+
+-- a record before what comes later
+more_only : (r : Broadcast) (later : Result (List Broadcast) Refusal → Type 0) → IsOnly later
+    → IsOnly (λ (given : Result (List Broadcast) Refusal). (more : Result (List Broadcast) Refusal) × later more × (given ≡ with_first r more))
+more_only r later one x y (m, h, e) (n, k, f) = e ∙ (ap (with_first r) (one m n h k) ∙ sym f)
+
+records_only : (count number skip : ℕ) (lines : List TextLine) → IsOnly (records_from count number skip lines)
+records_only count number skip [] x y a b = a ∙ sym b
+records_only count number (suc skip) (line ∷ more) x y a b = records_only count (number + 1) skip more x y a b
+records_only count number zero (line ∷ more) x y a b = elim a [
+  | inl (begins, h) ↦ elim b [
+    | inl (also, k) ↦ then_only _ _ (record_only count (record { number = number; lines = line ∷ more })) (λ r. more_only r _ (records_only (count + 1) (number + 1) 7 more)) x y h k
+    | inr (other, k) ↦ absurd (other begins)
+  ]
+  | inr (other, h) ↦ elim b [
+    | inl (begins, k) ↦ absurd (other begins)
+    | inr (also, k) ↦ test_only _ _ _ (records_only count (number + 1) 0 more) x y h k
+  ]
+]
+
+-- a test that ends a header, or else what comes later
+ended_only : (End : Type 0) (v : Behind) (later : Result Behind Refusal → Type 0) → IsOnly later → IsOnly (λ (given : Result Behind Refusal). (End × (given ≡ Ok v)) ⊎ ((End → ⊥) × later given))
+ended_only End v later one x y a b = elim a [
+  | inl (end, h) ↦ elim b [
+    | inl (also, k) ↦ h ∙ sym k
+    | inr (other, k) ↦ absurd (other end)
+  ]
+  | inr (other, h) ↦ elim b [
+    | inl (end, k) ↦ absurd (other end)
+    | inr (also, k) ↦ one x y h k
+  ]
+]
+
+header_only : (number : ℕ) (lines : List TextLine) → IsOnly (header_from number lines)
+header_only number [] x y a b = a ∙ sym b
+header_only number (line ∷ more) x y a b = test_only _ _ _ (ended_only _ _ _ (header_only (number + 1) more)) x y a b
+
+version_line_only : (kind : ℕ) (line : TextLine) → IsOnly (version_line kind line)
+version_line_only kind line = test_only _ _ _ (test_only _ _ _ (test_only _ _ _ (test_only _ _ _ (test_only _ _ _ (gives_only tt)))))
+
+version_only : (kind : ℕ) (lines : List TextLine) → IsOnly (version_of kind lines)
+version_only kind [] x y a b = a ∙ sym b
+version_only kind (line ∷ more) x y a b = line_only _ _ _ (version_line_only kind line) (λ passed. gives_only _) x y a b
+
+pub file_only : (lines : List TextLine) (x y : Result (List Broadcast) Refusal) → nav_file lines x → nav_file lines y → x ≡ y
+file_only lines = then_only _ _ (version_only 78 lines) (λ header. then_only _ _ (header_only header.number header.lines) (λ body. records_only 0 body.number 0 (counted body.lines)))
+
+-- ---- answers
+
+pub gives_records : (text : List ℕ) (records : List Broadcast) (given : Result Nav ReadError) → IfOk given (λ nav. IsNavFile text (records_of nav)) → IfErr given (Refuses (nav_file (lines_of text)))
+    → IsNavFile text records → GivesRecords records given
+gives_records text records (Ok nav) is fault file = ok_same _ _ (file_only (lines_of text) _ _ is file)
+gives_records text records (Err (Refused r)) is fault file = absurd (not_both _ _ (file_only (lines_of text) _ _ file fault))
+gives_records text records (Err NoMemory) is fault file = refl
+
+pub gives_refusal : (text : List ℕ) (r : Refusal) (given : Result Nav ReadError) → IfOk given (λ nav. IsNavFile text (records_of nav)) → IfErr given (Refuses (nav_file (lines_of text)))
+    → IsFirstFault text r → GivesRefusal r given
+gives_refusal text r (Ok nav) is fault first = not_both _ _ (file_only (lines_of text) _ _ is first)
+gives_refusal text r (Err (Refused other)) is fault first = inl (ap (λ u. Refused u) (err_same _ _ (file_only (lines_of text) _ _ fault first)))
+gives_refusal text r (Err NoMemory) is fault first = inr refl

@@ -1,0 +1,28 @@
+use Rattle.std.proofs.Common.{ℕ, ◌*◌, sym, subst}
+use Rattle.rinex_text.specs.Dates.{IsGpsTime}
+use Rattle.rinex_nav.proofs.FieldLemmas.{no_time, never}
+use Rattle.rinex_nav.proofs.field.clock_time.Goals as goal
+
+pub returns-in_err-year-clause-none : goal.returns-in_err-year-clause-none
+returns-in_err-year-clause-none c = rw c.from_residual.ensures (λ v is. c.in_err-year.ensures.none is.year is.year_is)
+
+pub returns-in_err-month-clause-none : goal.returns-in_err-month-clause-none
+returns-in_err-month-clause-none c = rw c.from_residual-in_err-month.ensures (λ v is. c.in_err-month.ensures.none is.month is.month_is)
+
+pub returns-in_err-day-clause-none : goal.returns-in_err-day-clause-none
+returns-in_err-day-clause-none c = rw c.from_residual-in_err-day.ensures (λ v is. c.in_err-day.ensures.none is.day is.day_is)
+
+pub returns-in_err-hour-clause-none : goal.returns-in_err-hour-clause-none
+returns-in_err-hour-clause-none c = rw c.from_residual-in_err-hour.ensures (λ v is. c.in_err-hour.ensures.none is.hour is.hour_is)
+
+pub returns-in_err-minute-clause-none : goal.returns-in_err-minute-clause-none
+returns-in_err-minute-clause-none c = rw c.from_residual-in_err-minute.ensures (λ v is. c.in_err-minute.ensures.none is.minute is.minute_is)
+
+pub returns-in_err-second-clause-none : goal.returns-in_err-second-clause-none
+returns-in_err-second-clause-none c = rw c.from_residual-in_err-second.ensures (λ v is. c.in_err-second.ensures.none is.second is.second_is)
+
+pub returns-in-Err-clause-none : goal.returns-in-Err-clause-none
+returns-in-Err-clause-none c = λ toc is.
+    let t = no_time _ _ _ _ _ _ _ c.in_ok-year.ensures.number c.in_ok-month.ensures.number c.in_ok-day.ensures.number c.in_ok-hour.ensures.number c.in_ok-minute.ensures.number c.in_ok-second.ensures.number toc is in
+    let time = subst (λ (n : ℕ). IsGpsTime c.in_ok-year.year c.in_ok-month.month c.in_ok-day.day c.in_ok-hour.hour c.in_ok-minute.minute (n * 10000000)) (sym c.from.ensures) t.0 in
+    never (c.in-Err.ensures.date.1 time)

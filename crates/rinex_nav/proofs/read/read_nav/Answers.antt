@@ -1,0 +1,8 @@
+use Rattle.rinex_nav.proofs.OnlyLemmas.{gives_records, gives_refusal}
+use Rattle.rinex_nav.proofs.read.read_nav.Goals as goal
+
+pub returns-clause-exact : goal.returns-clause-exact
+returns-clause-exact c = λ records. gives_records c.args.bytes.now records c.read_text.result c.read_text.ensures.records c.read_text.ensures.fault
+
+pub returns-clause-first : goal.returns-clause-first
+returns-clause-first c = λ r. gives_refusal c.args.bytes.now r c.read_text.result c.read_text.ensures.records c.read_text.ensures.fault

@@ -1,0 +1,69 @@
+-- The fields on the lines of a navigation record (RINEX 3.04, table A6).
+use Rattle.std.specs.Prelude.{ℕ, zero, suc, ◌≡◌, ◌⊎◌, ◌+◌, ◌*◌, ◌≤◌, ℤ, pos, negsuc, Bool, true, false, List}
+use Rattle.exact_decimal.specs.Counts.{IsCount}
+use Rattle.exact_decimal.specs.NumberFields.{AreBlanks, IsFloating}
+use Rattle.exact_decimal.specs.declared.decimal.Decimal.{Decimal}
+use Rattle.rinex_text.specs.Columns.{columns_of}
+use Rattle.rinex_text.specs.Dates.{IsGpsTime, gps_time}
+
+-- a blank field is zero
+abbrev pub zero_decimal : Decimal
+zero_decimal = record { digits = pos 0; ten = pos 0 }
+
+abbrev pub IsField : List ℕ → Decimal → Type 0
+IsField field number = (AreBlanks field × (number ≡ zero_decimal)) ⊎ IsFloating field number.digits number.ten
+
+-- the field of 19 columns that begins in a column
+abbrev pub FieldAt : List ℕ → ℕ → Decimal → Type 0
+FieldAt text first number = IsField (columns_of text first (first + 18)) number
+
+abbrev pub Two : Type 0
+Two = Decimal × Decimal
+
+abbrev pub Three : Type 0
+Three = Decimal × Decimal × Decimal
+
+abbrev pub Four : Type 0
+Four = Decimal × Decimal × Decimal × Decimal
+
+-- the first field of a line, its second and third, its last three, or all four
+abbrev pub FirstField : List ℕ → Decimal → Type 0
+FirstField text number = FieldAt text 5 number
+
+abbrev pub MiddleFields : List ℕ → Two → Type 0
+MiddleFields text numbers = FieldAt text 24 numbers.0 × FieldAt text 43 numbers.1
+
+abbrev pub LastFields : List ℕ → Three → Type 0
+LastFields text numbers = FieldAt text 24 numbers.0 × FieldAt text 43 numbers.1 × FieldAt text 62 numbers.2
+
+abbrev pub AllFields : List ℕ → Four → Type 0
+AllFields text numbers = FieldAt text 5 numbers.0 × FieldAt text 24 numbers.1 × FieldAt text 43 numbers.2 × FieldAt text 62 numbers.3
+
+-- the number of a satellite, from 1 to 99, in columns 2 and 3
+pub record IsNumber (text : List ℕ) (number : ℕ) : Type 0 where
+  pub count : IsCount (columns_of text 2 3) number
+  pub from : 1 ≤ number
+  pub to : number ≤ 99
+
+-- the clock time, from its year, month, day, hour, minute and second
+pub record IsClockTime (text : List ℕ) (toc : ℤ) : Type 0 where
+  pub year : ℕ
+  pub month : ℕ
+  pub day : ℕ
+  pub hour : ℕ
+  pub minute : ℕ
+  pub second : ℕ
+  pub year_is : IsCount (columns_of text 5 8) year
+  pub month_is : IsCount (columns_of text 10 11) month
+  pub day_is : IsCount (columns_of text 13 14) day
+  pub hour_is : IsCount (columns_of text 16 17) hour
+  pub minute_is : IsCount (columns_of text 19 20) minute
+  pub second_is : IsCount (columns_of text 22 23) second
+  pub time : IsGpsTime year month day hour minute (second * 10000000)
+  pub value : toc ≡ pos (gps_time year month day hour minute (second * 10000000))
+
+-- a satellite is healthy where its health is zero
+abbrev pub is_zero : ℤ → Bool
+is_zero (pos zero) = true
+is_zero (pos (suc n)) = false
+is_zero (negsuc n) = false

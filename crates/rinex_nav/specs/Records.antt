@@ -1,0 +1,91 @@
+-- The eight lines of a navigation record.
+use Rattle.std.specs.Prelude.{ℕ, ◌≡◌, ◌⊎◌, ◌+◌, ◌<◌, ℤ, Bool, true, List, [], ◌∷◌, Result, Ok, Err}
+use Rattle.std.specs.List.{list_all}
+use Rattle.exact_decimal.specs.NumberFields.{is_blank}
+use Rattle.exact_decimal.specs.declared.decimal.Decimal.{Decimal}
+use Rattle.rinex_text.specs.Bodies.{is_printable}
+use Rattle.rinex_text.specs.Columns.{column_of}
+use Rattle.rinex_text.specs.Faults.{refusal, gives, test, read, then, line_gives}
+use Rattle.rinex_text.specs.Headers.{IsShort, Behind}
+use Rattle.rinex_text.specs.Lines.{TextLine}
+use Rattle.rinex_text.specs.declared.fault.Fault.{Fault}
+use Rattle.rinex_text.specs.declared.fault.Fault.TheVariants as fault
+use Rattle.rinex_text.specs.declared.fault.Refusal.{Refusal}
+use Rattle.sat_model.specs.declared.satellites.Sat.{Sat}
+use Rattle.rinex_nav.specs.Fields.{Two, Three, Four, FirstField, MiddleFields, LastFields, AllFields, IsNumber, IsClockTime, is_zero}
+
+-- ---- its lines
+
+-- what the first line gives: the number of the satellite, the clock time, and af0, af1 and af2
+abbrev pub Clock : Type 0
+Clock = ℕ × ℤ × Three
+
+-- the first line, behind so many records
+abbrev pub clock_line : ℕ → TextLine → Result Clock Fault → Type 0
+clock_line count line =
+    test (IsShort line) fault.LongLine
+    (test (list_all is_printable line.text ≡ true) fault.NotAscii
+    (read (IsNumber line.text) fault.BadSatellite (λ number.
+    test (count < 200000) fault.TooMany
+    (read (IsClockTime line.text) fault.BadEpoch (λ toc.
+    read (LastFields line.text) fault.BadNumber (λ clock.
+    gives (number, toc, clock)))))))
+
+abbrev pub MayFollow : ℕ → Type 0
+MayFollow byte = (is_blank byte ≡ true) ⊎ (byte ≡ 71)
+
+-- A further line has a blank first column. What begins another record is a fault; `G` begins a line
+-- that is read, and so its bytes are tested before.
+abbrev pub further_text : TextLine → Result (Unit {0}) Fault → Type 0
+further_text line =
+    test (IsShort line) fault.LongLine
+    (test (MayFollow (column_of line.text 1)) fault.Truncated
+    (test (list_all is_printable line.text ≡ true) fault.NotAscii
+    (test (is_blank (column_of line.text 1) ≡ true) fault.Truncated
+    (gives tt))))
+
+-- its fields
+abbrev pub further_line : {V : Type 0} → (List ℕ → V → Type 0) → TextLine → Result V Fault → Type 0
+further_line AreFields line =
+    then (further_text line) (λ passed.
+    read (AreFields line.text) fault.BadNumber gives)
+
+-- ---- the lines one behind another
+
+-- a record as it stands in a file
+pub record Broadcast : Type 0 where
+  pub sat : Sat
+  pub toc : ℤ
+  pub healthy : Bool
+  pub fields : List Decimal
+
+-- a record from what its lines give
+abbrev pub broadcast : Clock → Three → Four → Four → Four → Decimal → Two → Broadcast
+broadcast clock a b c d idot health = record {
+  sat = record { system = 71; number = clock.0 };
+  toc = clock.1;
+  healthy = is_zero health.0.digits;
+  fields =
+      clock.2.0 ∷ clock.2.1 ∷ clock.2.2 ∷ a.0 ∷ a.1 ∷ a.2 ∷ b.0 ∷ b.1 ∷ b.2 ∷ b.3 ∷ c.0 ∷ c.1 ∷ c.2 ∷ c.3 ∷ d.0 ∷ d.1 ∷ d.2 ∷ d.3 ∷ idot ∷ health.1 ∷ [];
+}
+
+-- the first of the lines, which the file may not lack, and what comes later
+abbrev pub first_of : {V X : Type 0} → (TextLine → Result V Fault → Type 0) → ℕ → List TextLine → (V → Behind → Result X Refusal → Type 0) → Result X Refusal → Type 0
+first_of line number [] later answer = answer ≡ Err (refusal fault.Truncated number)
+first_of line number (next ∷ more) later answer = line_gives (line next) number (λ v. later v (record { number = number + 1; lines = more })) answer
+
+abbrev pub needs : {V X : Type 0} → (TextLine → Result V Fault → Type 0) → Behind → (V → Behind → Result X Refusal → Type 0) → Result X Refusal → Type 0
+needs line from later answer = first_of line from.number from.lines later answer
+
+-- a GPS record behind so many others
+abbrev pub record_from : ℕ → Behind → Result Broadcast Refusal → Type 0
+record_from count from =
+    needs (clock_line count) from (λ clock l1.
+    needs (further_line LastFields) l1 (λ a l2.
+    needs (further_line AllFields) l2 (λ b l3.
+    needs (further_line AllFields) l3 (λ c l4.
+    needs (further_line AllFields) l4 (λ d l5.
+    needs (further_line FirstField) l5 (λ idot l6.
+    needs (further_line MiddleFields) l6 (λ health l7.
+    needs further_text l7 (λ none l8.
+    gives (broadcast clock a b c d idot health)))))))))

@@ -1,0 +1,101 @@
+//! The lines of a navigation record, one behind another.
+
+ghost use Rattle.std.specs.Prelude.{◌≤ℤ◌, ◌<ℤ◌, pos, IfOk, IfErr};
+ghost use Rattle.rinex_nav.specs.Fields.{FirstField, MiddleFields, LastFields, AllFields};
+ghost use Rattle.rinex_nav.specs.Records.{clock_line, further_text, further_line};
+ghost use Rattle.rinex_nav.specs.Reading.{Takes, Fails};
+
+use crate::line::{clock_line, first_line, further_text, last_line, middle_line, whole_line};
+use exact_decimal::Decimal;
+use rinex_text::{Body, Fault, Refusal};
+
+/// What the first line of a record gives: the satellite's number, the clock time, and af0, af1, af2.
+type Clock = (u8, i128, (Decimal, Decimal, Decimal));
+
+/// The first line of a record, behind so many records.
+pub fn take_clock(body: Body<'_>, count: usize) -> Result<(Clock, Body<'_>), Refusal>
+    ensures took { IfOk result (λ t. Takes (clock_line count) body.entry t.0 t.1) }
+    ensures from { IfOk result (λ t. pos 0 ≤ℤ t.0.1) }
+    ensures under { IfOk result (λ t. t.0.1 <ℤ pos 4000000000000000000000) }
+    ensures failed { IfErr result (Fails (clock_line count) body.entry) }
+{
+    let Some((line, behind)) = body.split_first() else {
+        return Err(Refusal::new(Fault::Truncated, body.lines.number));
+    };
+    match clock_line(line, count) {
+        Ok(read) => Ok((read, behind)),
+        Err(fault) => Err(Refusal::new(fault, body.lines.number)),
+    }
+}
+
+/// The last three fields of the next line.
+pub fn take_last(body: Body<'_>) -> Result<((Decimal, Decimal, Decimal), Body<'_>), Refusal>
+    ensures took { IfOk result (λ t. Takes (further_line LastFields) body.entry t.0 t.1) }
+    ensures failed { IfErr result (Fails (further_line LastFields) body.entry) }
+{
+    let Some((line, behind)) = body.split_first() else {
+        return Err(Refusal::new(Fault::Truncated, body.lines.number));
+    };
+    match last_line(line) {
+        Ok(read) => Ok((read, behind)),
+        Err(fault) => Err(Refusal::new(fault, body.lines.number)),
+    }
+}
+
+/// The four fields of the next line.
+pub fn take_whole(
+    body: Body<'_>,
+) -> Result<((Decimal, Decimal, Decimal, Decimal), Body<'_>), Refusal>
+    ensures took { IfOk result (λ t. Takes (further_line AllFields) body.entry t.0 t.1) }
+    ensures failed { IfErr result (Fails (further_line AllFields) body.entry) }
+{
+    let Some((line, behind)) = body.split_first() else {
+        return Err(Refusal::new(Fault::Truncated, body.lines.number));
+    };
+    match whole_line(line) {
+        Ok(read) => Ok((read, behind)),
+        Err(fault) => Err(Refusal::new(fault, body.lines.number)),
+    }
+}
+
+/// The first field of the next line.
+pub fn take_first(body: Body<'_>) -> Result<(Decimal, Body<'_>), Refusal>
+    ensures took { IfOk result (λ t. Takes (further_line FirstField) body.entry t.0 t.1) }
+    ensures failed { IfErr result (Fails (further_line FirstField) body.entry) }
+{
+    let Some((line, behind)) = body.split_first() else {
+        return Err(Refusal::new(Fault::Truncated, body.lines.number));
+    };
+    match first_line(line) {
+        Ok(read) => Ok((read, behind)),
+        Err(fault) => Err(Refusal::new(fault, body.lines.number)),
+    }
+}
+
+/// The second and the third field of the next line.
+pub fn take_middle(body: Body<'_>) -> Result<((Decimal, Decimal), Body<'_>), Refusal>
+    ensures took { IfOk result (λ t. Takes (further_line MiddleFields) body.entry t.0 t.1) }
+    ensures failed { IfErr result (Fails (further_line MiddleFields) body.entry) }
+{
+    let Some((line, behind)) = body.split_first() else {
+        return Err(Refusal::new(Fault::Truncated, body.lines.number));
+    };
+    match middle_line(line) {
+        Ok(read) => Ok((read, behind)),
+        Err(fault) => Err(Refusal::new(fault, body.lines.number)),
+    }
+}
+
+/// The next line, of which no field is read.
+pub fn take_unread(body: Body<'_>) -> Result<((), Body<'_>), Refusal>
+    ensures took { IfOk result (λ t. Takes further_text body.entry t.0 t.1) }
+    ensures failed { IfErr result (Fails further_text body.entry) }
+{
+    let Some((line, behind)) = body.split_first() else {
+        return Err(Refusal::new(Fault::Truncated, body.lines.number));
+    };
+    match further_text(line) {
+        Ok(read) => Ok((read, behind)),
+        Err(fault) => Err(Refusal::new(fault, body.lines.number)),
+    }
+}
