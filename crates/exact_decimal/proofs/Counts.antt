@@ -1,5 +1,5 @@
 -- What is cut from a field is its count, and a field's count is what is cut.
-use Rattle.std.proofs.Common.{◌≡◌, ℕ, suc, ◌+◌, ◌<◌, ◌≤◌, ◌^◌, true, false, List, [], ◌∷◌, ◌++◌, length, arith, refl, sym, ap, ◌∙◌, inl, inr, Option, Some, None, IfSome, subst}
+use Rattle.std.proofs.Common.{◌≡◌, ℕ, ◌+◌, ◌<◌, ◌≤◌, ◌^◌, true, false, List, [], ◌∷◌, ◌++◌, length, arith, sym, ap, ◌∙◌, inl, inr, Option, Some, None, IfSome, subst}
 use Rattle.std.specs.Prelude.{◌↔◌, nat_lt}
 use Rattle.std.specs.Char.{is_ascii_digit}
 use Rattle.std.specs.Str.Parse.{digits_value}
@@ -11,7 +11,7 @@ use Rattle.exact_decimal.specs.NumberFields.{is_blank, AreBlanks, AreDigits}
 use Rattle.exact_decimal.specs.Parts.{front, behind, is_blank_text, count_text, count_of}
 use Rattle.exact_decimal.proofs.Answers.{blank_from, blank_to, behind_is}
 use Rattle.exact_decimal.proofs.Exponents.{blanks_no_digit}
-use Rattle.exact_decimal.proofs.Digits.{after_below, digit_at}
+use Rattle.exact_decimal.proofs.Digits.{after_below}
 use Rattle.exact_decimal.proofs.Runs.{Stops, cut_at, passes_front, front_and_behind, head_passes}
 
 count_text_is : (before text : List ℕ) (n : ℕ) → AreBlanks before → count_text text ≡ Some n → IsCount (before ++ text) n

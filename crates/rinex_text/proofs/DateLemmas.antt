@@ -1,9 +1,8 @@
 -- The first and the last day of the calendar that is read.
-use Rattle.std.proofs.Common.{◌≡◌, ℕ, ◌+◌, ◌≤◌, arith, refl}
-use Rattle.std.specs.Prelude.{ℤ, pos, ◌+ℤ◌, ◌-ℤ◌, ◌≤ℤ◌, ◌<ℤ◌}
+use Rattle.std.proofs.Common.{◌≡◌, ℕ, arith, refl}
+use Rattle.std.specs.Prelude.{ℤ, pos, ◌-ℤ◌, ◌≤ℤ◌, ◌<ℤ◌}
 use Rattle.std.proofs.lemmas.Int.{ints}
 use Rattle.jiff_core.specs.Calendar.{IsDate, days_of_years, days_of_months, day_count, days_from_civil}
-use Rattle.sat_model.specs.Amounts.{above}
 use Rattle.sat_model.proofs.AmountLemmas.{above_is}
 use Rattle.rinex_text.specs.Dates.{first_day, last_day, IsGpsDate, days_behind_first}
 

@@ -1,5 +1,5 @@
 -- The header, line by line.
-use Rattle.std.proofs.Common.{◌≡◌, ℕ, ◌+◌, List, [], ◌∷◌, refl, sym, ap, subst, inl, inr, Option, Some, None, Result, Ok, Err}
+use Rattle.std.proofs.Common.{◌≡◌, ℕ, ◌+◌, List, ◌∷◌, refl, subst, inl, inr, Option, Some, Result, Ok, Err}
 use Rattle.std.specs.Prelude.{ℤ, pos, ◌↔◌}
 use Rattle.exact_decimal.specs.declared.decimal.BadNumber.{BadNumber}
 use Rattle.exact_decimal.specs.declared.decimal.Decimal.{Decimal}

@@ -1,11 +1,11 @@
 -- The lines of a text, from its first LF.
-use Rattle.std.proofs.Common.{◌≡◌, ℕ, zero, suc, ◌+◌, ◌-◌, ◌<◌, ◌≤◌, Bool, true, false, List, [], ◌∷◌, ◌++◌, length, get_or, take, drop, refl, sym, ap, ◌∙◌, arith, inl, inr, cond, subst, add-one}
+use Rattle.std.proofs.Common.{◌≡◌, ℕ, zero, suc, ◌+◌, ◌-◌, ◌<◌, Bool, true, false, List, [], ◌∷◌, ◌++◌, length, get_or, take, drop, refl, sym, ap, ◌∙◌, arith, inl, inr, subst, add-one}
 use Rattle.std.proofs.lemmas.Grind.{common_steps}
-use Rattle.std.specs.Prelude.{nat_eq, ◌==◌, ◌&&◌}
+use Rattle.std.specs.Prelude.{nat_eq, ◌==◌}
 use Rattle.std.proofs.lemmas.Bool.{cases_Bool, eqb-true}
 use Rattle.std.proofs.lemmas.List.{length-take-le}
 use Rattle.std.proofs.Math.Seq.{take-length}
-use Rattle.rinex_text.specs.Lines.{TextLine, with_ends, without_end, without_lf, line_of, lines_of}
+use Rattle.rinex_text.specs.Lines.{with_ends, without_end, without_lf, lines_of}
 use Rattle.rinex_text.specs.LineEnds.{ends_with_cr, without_cr}
 
 -- no byte is LF

@@ -1,5 +1,5 @@
 -- The lines of a text. Each ends with LF, which the last may lack, and one CR before LF is dropped.
-use Rattle.std.specs.Prelude.{ℕ, Bool, true, false, ◌==◌, ◌&&◌, ◌||◌, cond, List, [], ◌∷◌, length, map}
+use Rattle.std.specs.Prelude.{ℕ, Bool, false, ◌==◌, ◌&&◌, cond, List, [], ◌∷◌, length, map}
 
 pub record TextLine : Type 0 where
   -- without LF, and without one CR before it

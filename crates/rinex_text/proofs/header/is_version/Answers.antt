@@ -1,4 +1,3 @@
-use Rattle.std.proofs.Common.{◌≡◌, refl}
 use Rattle.rinex_text.proofs.HeaderLemmas.{version_lies, is_version}
 use Rattle.rinex_text.proofs.header.is_version.Goals as goal
 

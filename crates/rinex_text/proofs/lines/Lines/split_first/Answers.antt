@@ -1,4 +1,4 @@
-use Rattle.std.proofs.Common.{◌≡◌, List, ℕ, suc, ◌+◌, ◌-◌, ◌∷◌, length, take, drop, ap, sym, ◌∙◌, arith, add-one}
+use Rattle.std.proofs.Common.{◌+◌, sym, arith}
 use Rattle.rinex_text.proofs.LineLemmas.{ended_line, line_found, only_line, all_dropped}
 use Rattle.rinex_text.proofs.lines.Lines.split_first.Goals as goal
 
