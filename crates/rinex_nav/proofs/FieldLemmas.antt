@@ -1,5 +1,5 @@
 -- Fields, counts and clock times: what none is, and that there is only one.
-use Rattle.std.proofs.Common.{◌≡◌, ℕ, Bool, true, false, ◌+◌, ◌-◌, ◌*◌, ◌^◌, ◌<◌, ◌≤◌, List, length, arith, refl, sym, ◌∙◌, subst, inl, inr, Option, Some, None, Result, Ok, Err}
+use Rattle.std.proofs.Common.{◌≡◌, ℕ, Bool, true, false, ◌+◌, ◌-◌, ◌*◌, ◌^◌, ◌<◌, ◌≤◌, List, arith, sym, ◌∙◌, inl, inr, Option, Some, None, Result, Ok, Err}
 use Rattle.std.specs.Prelude.{ℤ, pos, ◌↔◌}
 use Rattle.std.proofs.Math.Nat.{pow-le-pow_right}
 use Rattle.exact_decimal.specs.declared.decimal.BadNumber.{BadNumber}
@@ -10,7 +10,7 @@ use Rattle.exact_decimal.specs.Reading.{Reads}
 use Rattle.exact_decimal.proofs.Counts.{count_answer}
 use Rattle.rinex_text.specs.Columns.{columns_of}
 use Rattle.rinex_text.specs.Dates.{IsGpsTime, gps_time}
-use Rattle.rinex_nav.specs.Fields.{IsField, IsNumber, IsClockTime}
+use Rattle.rinex_nav.specs.Fields.{IsField, IsClockTime}
 
 pub no_field : (read : Result (Option Decimal) BadNumber) (field : List ℕ) (e : BadNumber) → (read ≡ Ok None) ↔ AreBlanks field → ((digits ten : ℤ) → Reads read digits ten ↔ IsFloating field digits ten)
     → read ≡ Err e → (number : Decimal) → IsField field number → ⊥

@@ -1,7 +1,5 @@
 -- The lines of a file give one answer only.
-use Rattle.std.proofs.Common.{◌≡◌, ℕ, zero, suc, ◌+◌, List, [], ◌∷◌, refl, sym, ap, subst, ◌⊎◌, inl, inr, ◌∙◌, Some, None, IfOk, IfErr, Result, Ok, Err}
-use Rattle.std.specs.Prelude.{ℤ}
-use Rattle.exact_decimal.specs.declared.decimal.Decimal.{Decimal}
+use Rattle.std.proofs.Common.{◌≡◌, ℕ, zero, suc, ◌+◌, List, [], ◌∷◌, refl, sym, ap, subst, ◌⊎◌, inl, inr, ◌∙◌, IfOk, IfErr, Result, Ok, Err}
 use Rattle.exact_decimal.proofs.Answers.{floating_answer, floating_blank}
 use Rattle.rinex_text.specs.Bodies.{counted}
 use Rattle.rinex_text.specs.Faults.{refusal, test, read, then, line_gives}
@@ -13,9 +11,9 @@ use Rattle.rinex_text.specs.declared.fault.ReadError.TheVariants.{Refused, NoMem
 use Rattle.rinex_text.specs.declared.fault.Refusal.{Refusal}
 use Rattle.rinex_nav.specs.Reading.{records_of, Refuses, GivesRecords, GivesRefusal}
 use Rattle.rinex_nav.specs.declared.nav.Nav.{Nav}
-use Rattle.rinex_nav.specs.Fields.{Two, Three, Four, IsField, FirstField, MiddleFields, LastFields, AllFields, IsNumber, IsClockTime}
-use Rattle.rinex_nav.specs.Files.{BeginsRecord, with_first, record_then, records_from, nav_file, IsNavFile, IsFirstFault}
-use Rattle.rinex_nav.specs.Records.{Broadcast, clock_line, further_text, further_line, first_of, needs, record_from}
+use Rattle.rinex_nav.specs.Fields.{IsField, MiddleFields, LastFields, AllFields, IsNumber, IsClockTime}
+use Rattle.rinex_nav.specs.Files.{with_first, records_from, nav_file, IsNavFile, IsFirstFault}
+use Rattle.rinex_nav.specs.Records.{Broadcast, clock_line, further_text, further_line, first_of, record_from}
 use Rattle.rinex_nav.proofs.FieldLemmas.{same_count, no_time}
 
 -- the reader has one answer

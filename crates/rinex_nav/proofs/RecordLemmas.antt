@@ -2,7 +2,7 @@
 use Rattle.std.proofs.Common.{◌≡◌, ℕ, zero, suc, ◌+◌, ◌≤◌, List, [], ◌∷◌, ◌++◌, length, drop, map, arith, refl, sym, ap, subst, inl, inr, Result, Ok, Err, append_assoc, ◌∙◌}
 use Rattle.std.proofs.lemmas.List.{append-nil}
 use Rattle.rinex_text.specs.Faults.{refusal}
-use Rattle.rinex_text.specs.Headers.{IsShort, Behind}
+use Rattle.rinex_text.specs.Headers.{IsShort}
 use Rattle.rinex_text.specs.Lines.{TextLine}
 use Rattle.rinex_text.specs.declared.fault.Fault.TheVariants.{LongLine}
 use Rattle.rinex_text.specs.declared.fault.ReadError.{ReadError}

@@ -1,5 +1,5 @@
 -- Lines one behind another.
-use Rattle.std.proofs.Common.{◌≡◌, ℕ, zero, suc, ◌+◌, ◌<◌, ◌≤◌, List, [], ◌∷◌, length, drop, arith, refl, sym, subst, inl, inr, Result, Ok, Err, ◌∙◌}
+use Rattle.std.proofs.Common.{◌≡◌, ℕ, zero, suc, ◌+◌, ◌≤◌, List, [], ◌∷◌, length, drop, arith, refl, sym, subst, inl, inr, Result, Ok, Err, ◌∙◌}
 use Rattle.rinex_text.specs.Headers.{Behind}
 use Rattle.rinex_text.specs.Lines.{TextLine}
 use Rattle.rinex_text.specs.Reading.{body_left}

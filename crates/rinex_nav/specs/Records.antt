@@ -1,5 +1,5 @@
 -- The eight lines of a navigation record.
-use Rattle.std.specs.Prelude.{ℕ, ◌≡◌, ◌⊎◌, ◌+◌, ◌<◌, ℤ, Bool, true, List, [], ◌∷◌, Result, Ok, Err}
+use Rattle.std.specs.Prelude.{ℕ, ◌≡◌, ◌⊎◌, ◌+◌, ◌<◌, ℤ, Bool, true, List, [], ◌∷◌, Result, Err}
 use Rattle.std.specs.List.{list_all}
 use Rattle.exact_decimal.specs.NumberFields.{is_blank}
 use Rattle.exact_decimal.specs.declared.decimal.Decimal.{Decimal}

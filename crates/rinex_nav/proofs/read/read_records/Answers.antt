@@ -1,4 +1,4 @@
-use Rattle.std.proofs.Common.{◌≡◌, ℕ, arith, refl, sym, subst, Err}
+use Rattle.std.proofs.Common.{ℕ, arith, subst, Err}
 use Rattle.std.proofs.lemmas.Result.{err_from_is_err_and}
 use Rattle.rinex_text.specs.Reading.{plain_line, body_left}
 use Rattle.rinex_nav.specs.Files.{BeginsRecord, records_from}

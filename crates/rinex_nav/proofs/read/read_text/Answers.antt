@@ -1,5 +1,5 @@
 use Rattle.std.proofs.lemmas.Result.{err_from_is_err_and}
-use Rattle.std.proofs.Common.{inl, sym}
+use Rattle.std.proofs.Common.{inl}
 use Rattle.rinex_text.specs.Lines.{lines_of}
 use Rattle.rinex_text.specs.Reading.{behind_of, body_left}
 use Rattle.rinex_nav.specs.Files.{nav_file, records_from}
