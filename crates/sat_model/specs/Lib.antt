@@ -19,3 +19,8 @@ pub mod Angles
 pub mod Taylor
 pub mod Sines
 pub mod Kepler
+pub mod RecordBounds
+pub mod EarthModel
+pub mod MeanMotion
+pub mod ClockChain
+pub mod OrbitChain

@@ -5,7 +5,9 @@
 #![tactic(auto)]
 
 mod boxes;
+mod elements;
 mod memory;
+mod record_bounds;
 mod roots;
 mod rules;
 mod satellites;
@@ -13,7 +15,12 @@ mod spans;
 mod steps;
 
 pub use boxes::{Box3, Pos};
+pub use elements::Elements;
 pub use memory::NoMemory;
+pub use record_bounds::{
+    AGEING_BOUND, ANGLE_BOUND, ANGLE_SWING_BOUND, DELAY_BOUND, DRIFT_BOUND, ECCENTRICITY_BOUND,
+    GREATEST_ROOT_A, LEAST_ROOT_A, OFFSET_BOUND, RADIUS_SWING_BOUND, RATE_BOUND, WEEK,
+};
 pub use roots::{root_u128, spare};
 pub use rules::Rules;
 pub use satellites::{Row, Sat, SatEntry, Signal, Skip};

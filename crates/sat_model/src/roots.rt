@@ -1,6 +1,6 @@
 //! Whole-number roots, and how much wider a row may be than the values it holds.
 
-ghost use Rattle.std.specs.Prelude.{◌≡◌, pos};
+ghost use Rattle.std.specs.Prelude.{◌≡◌, ◌↔◌, ◌<◌, IsTrue, pos};
 ghost use Rattle.sat_model.specs.Boxes.{grid_box};
 ghost use Rattle.sat_model.specs.Lengths.{spare_of};
 ghost use Rattle.sat_model.specs.Roots.{IsRoot};
@@ -8,10 +8,73 @@ ghost use Rattle.sat_model.specs.Roots.{IsRoot};
 use crate::boxes::Box3;
 
 /// The whole-number root of `a`: the `v` with `v^2 <= a < (v + 1)^2`.
+///
+/// It is guessed with divisions in 64 bits and then tested. Where the guess is wrong it is found
+/// bit by bit, so nothing has to be known of the guess.
 pub fn root_u128(a: u128) -> u64
     ensures { IsRoot a result }
 {
-    a.isqrt() as u64
+    let guess = nearest(a, guess(a));
+    if is_root(a, guess) {
+        guess
+    } else {
+        a.isqrt() as u64
+    }
+}
+
+/// Whether `v` is the whole-number root of `a`.
+fn is_root(a: u128, v: u64) -> bool
+    ensures { IsTrue result ↔ IsRoot a v }
+{
+    let square = u128::from(v) * u128::from(v);
+    square <= a && a - square <= 2 * u128::from(v)
+}
+
+/// The number one below or above a guess, where the guess is too great or too small.
+fn nearest(a: u128, guess: u64) -> u64 {
+    let square = u128::from(guess) * u128::from(guess);
+    if square > a {
+        guess.saturating_sub(1)
+    } else if a - square > 2 * u128::from(guess) {
+        guess.saturating_add(1)
+    } else {
+        guess
+    }
+}
+
+/// A guess of the root of a number from 2^60 to 2^96, which squared distances of satellites are;
+/// 0 for others. The 62 bits in front give 31 bits of the root, and one division of what is left
+/// over gives the rest.
+fn guess(a: u128) -> u64 {
+    if a >> 60 == 0 || a >> 96 != 0 {
+        return 0;
+    }
+    let shift = 67_u32.saturating_sub(a.leading_zeros()) & !1;
+    let front = low_bits(a >> shift);
+    let root = root_of_front(front) << (shift / 2);
+    let square = u128::from(root) * u128::from(root);
+    if square <= a {
+        root.wrapping_add(low_bits((a - square) >> 4) / (root >> 3).max(1))
+    } else {
+        root.saturating_sub(low_bits((square - a) >> 4) / (root >> 3).max(1))
+    }
+}
+
+/// A guess of the root of a number from 2^60 to 2^62: that of a straight line, which is wrong by
+/// at most a 24th, made better three times by Newton's step.
+fn root_of_front(front: u64) -> u64 {
+    let line = 760_567_125 + front / 3_221_225_472;
+    newton(front, newton(front, newton(front, line)))
+}
+
+/// Newton's step towards the root of `a`.
+fn newton(a: u64, root: u64) -> u64 {
+    root / 2 + a / root.max(1) / 2
+}
+
+/// The low 64 bits.
+fn low_bits(a: u128) -> u64 {
+    (a & u128::from(u64::MAX)) as u64
 }
 
 /// How wide, in um, the spans of a row of this search box may be: 2,000 and a 50,000th of the
