@@ -24,3 +24,6 @@ pub mod EarthModel
 pub mod MeanMotion
 pub mod ClockChain
 pub mod OrbitChain
+pub mod Pseudorange
+pub mod Turn
+pub mod Consistent

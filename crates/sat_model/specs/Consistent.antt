@@ -1,0 +1,46 @@
+-- What the equations allow of one satellite: its place and range as seen from a point, and the corrected
+-- pseudorange; and whether it is consistent with a point and a clock offset.
+use Rattle.std.specs.Prelude.{ℕ, ℤ, pos, ◌-ℤ◌}
+use Rattle.sat_model.specs.ClockChain.{ClockChain}
+use Rattle.sat_model.specs.MeanMotion.{MeanMotion}
+use Rattle.sat_model.specs.OrbitChain.{OrbitChain}
+use Rattle.sat_model.specs.Pseudorange.{Codes, is_single, IsPseudorange, IsSent, IsCorrected}
+use Rattle.sat_model.specs.Intervals.{Between}
+use Rattle.sat_model.specs.Turn.{Turn}
+use Rattle.sat_model.specs.declared.boxes.Pos.{Pos}
+use Rattle.sat_model.specs.declared.elements.Elements.{Elements}
+
+-- what is known of a satellite: when its signal was received by the receiver's clock, in ps, the codes that
+-- were measured, and its ephemeris
+pub record Observed : Type 0 where
+  pub tag : ℤ
+  pub codes : Codes
+  pub el : Elements
+
+-- the place x, y, z, turned into the frame of the reception at p, the corrected pseudorange, and the range:
+-- one whole number for each printed equation from the codes on
+pub record ChainValue (seen : Observed) (p : Pos) (x y z corrected : ℤ) (range : ℕ) : Type 0 where
+  pub pr : ℤ
+  pub pr_is : IsPseudorange seen.codes pr
+  pub tsv : ℤ
+  pub tsv_is : IsSent seen.tag pr tsv
+  pub n : ℤ
+  pub n_is : MeanMotion seen.el n
+  pub dt : ℤ
+  pub t : ℤ
+  pub clock : ClockChain seen.el (is_single seen.codes) n tsv dt t
+  pub corrected_is : IsCorrected pr dt corrected
+  pub sent_x : ℤ
+  pub sent_y : ℤ
+  pub orbit : OrbitChain seen.el n t sent_x sent_y z
+  pub turn : Turn p sent_x sent_y z x y range
+
+-- some such value leaves an error from lo to hi at p and the clock offset b
+pub record IsConsistent (seen : Observed) (lo hi : ℤ) (p : Pos) (b : ℤ) : Type 0 where
+  pub x : ℤ
+  pub y : ℤ
+  pub z : ℤ
+  pub corrected : ℤ
+  pub range : ℕ
+  pub value : ChainValue seen p x y z corrected range
+  pub allowed : Between lo hi (corrected -ℤ pos range -ℤ b)

@@ -1,0 +1,40 @@
+-- The pseudorange of a satellite, when its signal was sent by the satellite's clock, and the pseudorange
+-- less the clock's offset (IS-GPS-200, 20.3.3.3.3). Lengths are in um, times in ps.
+use Rattle.std.specs.Prelude.{◌^◌, ℤ, pos, ◌+ℤ◌, ◌-ℤ◌, ◌*ℤ◌, Bool, true, false, Option, None, Some}
+use Rattle.sat_model.specs.EarthModel.{light_speed}
+use Rattle.sat_model.specs.RecordBounds.{IsValue}
+use Rattle.sat_model.specs.Rounding.{Near}
+use Rattle.sat_model.specs.declared.spans.Wide.{Wide}
+
+-- the measured codes: one, or a second on the other frequency
+pub record Codes : Type 0 where
+  pub first : Wide
+  pub second : Option Wide
+
+abbrev pub is_none : Option Wide → Bool
+is_none None = true
+is_none (Some code) = false
+
+abbrev pub is_single : Codes → Bool
+is_single codes = is_none codes.second
+
+-- The ionosphere-free combination (20.3.3.3.3.3). L1 and L2 are 154 and 120 times 10.23 MHz, and their
+-- squares are as 5929 to 3600, which differ by 2329.
+abbrev pub IsIonosphereFree : ℤ → ℤ → ℤ → Type 0
+IsIonosphereFree p1 p2 pr = Near ((pos 5929 *ℤ p1) -ℤ (pos 3600 *ℤ p2)) (pos 2329) pr
+
+abbrev pub IsRangeWith : Wide → Option Wide → ℤ → Type 0
+IsRangeWith first None pr = IsValue first pr
+IsRangeWith first (Some second) pr = (p1 : ℤ) × (p2 : ℤ) × IsValue first p1 × IsValue second p2 × IsIonosphereFree p1 p2 pr
+
+-- pr is a pseudorange by the codes
+abbrev pub IsPseudorange : Codes → ℤ → Type 0
+IsPseudorange codes pr = IsRangeWith codes.first codes.second pr
+
+-- the satellite's clock showed tsv when it sent what was received at tag: tag - pr / c
+abbrev pub IsSent : ℤ → ℤ → ℤ → Type 0
+IsSent tag pr tsv = Near ((tag *ℤ pos light_speed) -ℤ (pr *ℤ pos (10 ^ 6))) (pos light_speed) tsv
+
+-- the pseudorange less the clock's offset dt: pr + c dt
+abbrev pub IsCorrected : ℤ → ℤ → ℤ → Type 0
+IsCorrected pr dt corrected = Near ((pr *ℤ pos (10 ^ 10)) +ℤ (pos light_speed *ℤ dt)) (pos (10 ^ 10)) corrected
