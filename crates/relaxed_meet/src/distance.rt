@@ -48,6 +48,7 @@ fn root_of_squares(x: u64, y: u64, z: u64) -> u64
 pub fn near_far(row: &Row, part: &Box3) -> (u64, u64)
     ensures near { result.0 ≡ near_of row.now (grid_box part.now) }
     ensures far { result.1 ≡ far_of row.now (grid_box part.now) }
+    ensures order { result.0 ≤ result.1 }
     ensures bounds { (result.0 ≤ 200000000000000) × (result.1 ≤ 200000000000000) }
 {
     let near = root_of_squares(

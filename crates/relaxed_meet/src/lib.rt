@@ -11,7 +11,7 @@ mod shown;
 pub use clocks::{clock_span, inner_span};
 pub use distance::near_far;
 pub use hull::relaxed;
-pub use shown::{clock_hull, shown_empty, shown_inner};
+pub use shown::{BoxState, box_state, clock_hull, shown_empty, shown_inner};
 
 #[cfg(test)]
 mod tests;

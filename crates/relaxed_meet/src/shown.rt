@@ -2,9 +2,10 @@
 
 ghost use Rattle.std.specs.Prelude.{◌≡◌, ◌-◌, ◌<◌, ◌≤◌, ◌↔◌, length, IsTrue, IfSome, IsNone};
 ghost use Rattle.sat_model.specs.Boxes.{grid_box};
+ghost use Rattle.relaxed_meet.specs.BoxStates.{IsBoxState};
 ghost use Rattle.sat_model.specs.ClockSpans.{IsClockHull, IsShownEmpty, NoneIsShownInner, IsLeastShownInner};
 
-use crate::clocks::{clock_span, inner_span};
+use crate::clocks::{clock_span, clock_spans, inner_span};
 use crate::hull::{least_number, relaxed};
 use arrayvec::ArrayVec;
 use sat_model::{Box3, Row, Span};
@@ -47,4 +48,40 @@ pub fn shown_inner(rows: &[Row], part: &Box3, q: u8) -> Option<i64>
         }
     }
     least_number(&spans, rows.len() - usize::from(q))
+}
+
+/// What the rows show of a box. Offsets are in um.
+#[derive(Clone, Copy, Debug, PartialEq, Eq)]
+pub enum BoxState {
+    /// No point of it fits.
+    Empty,
+    /// Every point of it fits at `clock`, the least such offset. Offsets that fit lie in `hull`.
+    Inner { clock: i64, hull: Span },
+    /// Neither. Offsets that fit lie in `hull`.
+    Undecided { hull: Span },
+}
+
+/// What the rows show of a box where up to `q` of them may be inconsistent: `clock_hull` and
+/// `shown_inner` at once, from one pair of ranges a row.
+pub fn box_state(rows: &[Row], part: &Box3, q: u8) -> BoxState
+    requires { (q < length rows.now) × (length rows.now ≤ 64) }
+    ensures { IsBoxState rows.now (grid_box part.now) q result }
+{
+    let mut clocks: ArrayVec<Span, 64> = ArrayVec::new();
+    let mut inner: ArrayVec<Span, 64> = ArrayVec::new();
+    for row in rows {
+        let (clock, everywhere) = clock_spans(row, part);
+        clocks.push(clock);
+        match everywhere {
+            Some(span) => inner.push(span),
+            None => {}
+        }
+    }
+    let Some(hull) = relaxed(&clocks, rows.len() as u8 - q) else {
+        return BoxState::Empty;
+    };
+    match least_number(&inner, rows.len() - usize::from(q)) {
+        Some(clock) => BoxState::Inner { clock, hull },
+        None => BoxState::Undecided { hull },
+    }
 }

@@ -3,7 +3,7 @@ use Rattle.std.specs.Prelude.{ℤ}
 use Rattle.std.proofs.lemmas.Int.{ints}
 use Rattle.sat_model.specs.Amounts.{least_amount, greatest_amount}
 use Rattle.sat_model.specs.ClockSpans.{near_of, far_of}
-use Rattle.sat_model.proofs.ClockLemmas.{root_same}
+use Rattle.sat_model.proofs.ClockLemmas.{root_same, near_le_far}
 use Rattle.relaxed_meet.proofs.distance.near_far.Goals as goal
 
 at_ends : (f : ℤ → ℤ → ℤ → ℤ → ℕ) (r : ℕ) (a b c d a' b' c' d' : ℤ) → r ≡ f a b c d → a ≡ a' → b ≡ b' → c ≡ c' → d ≡ d' → r ≡ f a' b' c' d'
@@ -24,3 +24,6 @@ returns-clause-far c =
     (at_ends greatest_amount _ _ _ _ _ _ _ _ _ c.greatest.ensures.value (omega (arith, ints)) (omega (arith, ints)) (omega (arith, ints)) (omega (arith, ints)))
     (at_ends greatest_amount _ _ _ _ _ _ _ _ _ c.greatest-2.ensures.value (omega (arith, ints)) (omega (arith, ints)) (omega (arith, ints)) (omega (arith, ints)))
     (at_ends greatest_amount _ _ _ _ _ _ _ _ _ c.greatest-3.ensures.value (omega (arith, ints)) (omega (arith, ints)) (omega (arith, ints)) (omega (arith, ints)))
+
+pub returns-clause-order : goal.returns-clause-order
+returns-clause-order c = omega (arith, near_le_far c.args.row.now c.args.part.now, returns-clause-near c, returns-clause-far c)

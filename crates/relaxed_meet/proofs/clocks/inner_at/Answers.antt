@@ -1,7 +1,7 @@
 use Rattle.std.proofs.Common.{◌≡◌, arith}
 use Rattle.std.specs.Prelude.{ℤ}
 use Rattle.std.proofs.lemmas.Int.{ints}
-use Rattle.relaxed_meet.proofs.clocks.inner_span.Goals as goal
+use Rattle.relaxed_meet.proofs.clocks.inner_at.Goals as goal
 
 same_pair : (a b a' b' : ℤ) → a ≡ a' → b ≡ b' → ◌≡◌ {A = ℤ × ℤ} (a, b) (a', b')
 same_pair a b a' b' e f = cc
