@@ -14,7 +14,7 @@ use crate::boxes::Box3;
 pub fn root_u128(a: u128) -> u64
     ensures { IsRoot a result }
 {
-    let guess = nearest(a, guess(a));
+    let guess = guess(a);
     if is_root(a, guess) {
         guess
     } else {
@@ -30,46 +30,31 @@ fn is_root(a: u128, v: u64) -> bool
     square <= a && a - square <= 2 * u128::from(v)
 }
 
-/// The number one below or above a guess, where the guess is too great or too small.
-fn nearest(a: u128, guess: u64) -> u64 {
-    let square = u128::from(guess) * u128::from(guess);
-    if square > a {
-        guess.saturating_sub(1)
-    } else if a - square > 2 * u128::from(guess) {
-        guess.saturating_add(1)
-    } else {
-        guess
-    }
-}
-
-/// A guess of the root of a number from 2^60 to 2^96, which squared distances of satellites are;
-/// 0 for others. The 62 bits in front give 31 bits of the root, and one division of what is left
-/// over gives the rest.
+/// A guess of the root of a number from 2^64 to 2^96, which squared distances of satellites are, and
+/// which is seldom wrong; 0 for others. The 64 bits in front give 31 bits of the root, and one
+/// division of what is left over the rest.
 fn guess(a: u128) -> u64 {
-    if a >> 60 == 0 || a >> 96 != 0 {
+    let high = low_bits(a >> 64);
+    if high == 0 || high >> 32 != 0 {
         return 0;
     }
-    let shift = 67_u32.saturating_sub(a.leading_zeros()) & !1;
-    let front = low_bits(a >> shift);
-    let root = root_of_front(front) << (shift / 2);
-    let square = u128::from(root) * u128::from(root);
-    if square <= a {
-        root.wrapping_add(low_bits((a - square) >> 4) / (root >> 3).max(1))
-    } else {
-        root.saturating_sub(low_bits((square - a) >> 4) / (root >> 3).max(1))
-    }
+    let spare = high.leading_zeros() & 62;
+    let front = (high << spare) | (low_bits(a) >> (63 - spare) >> 1);
+    let root = (root_of_front(front) << (32 - spare / 2)).max(8);
+    let left_over = a.wrapping_sub(u128::from(root) * u128::from(root));
+    root.wrapping_add(low_bits(left_over >> 4) / (root >> 3))
 }
 
-/// A guess of the root of a number from 2^60 to 2^62: that of a straight line, which is wrong by
-/// at most a 24th, made better three times by Newton's step.
+/// A guess of the root of a number from 2^62 on, not above it: that of a straight line, which is
+/// wrong by at most a 24th, made better three times by Newton's step.
 fn root_of_front(front: u64) -> u64 {
-    let line = 760_567_125 + front / 3_221_225_472;
-    newton(front, newton(front, newton(front, line)))
+    let line = 1_521_134_251 + front / 6_442_450_944;
+    newton(front, newton(front, newton(front, line))).saturating_sub(1)
 }
 
 /// Newton's step towards the root of `a`.
 fn newton(a: u64, root: u64) -> u64 {
-    root / 2 + a / root.max(1) / 2
+    root.wrapping_add(a / root.max(1)) / 2
 }
 
 /// The low 64 bits.
