@@ -39,17 +39,17 @@ fn keep(kept: &mut Falling, number: i64, most: usize)
     }
 }
 
-/// The greatest low ends of the spans and the least high ends, which are mirrored: `most` of each.
-pub(crate) fn extremes(spans: &[Span], most: usize) -> (Falling, Falling)
-    requires { most ≤ 64 }
-    ensures lows { Keeps most result.0.items (map (λ s. s.lo) spans.now) }
-    ensures highs { Keeps most result.1.items (map (λ s. mirrored s.hi) spans.now) }
+/// Puts the greatest low ends of the spans into `lows` and the least high ends, mirrored, into
+/// `highs`: `most` of each.
+pub(crate) fn extremes(spans: &[Span], most: usize, lows: &mut Falling, highs: &mut Falling)
+    requires most { most ≤ 64 }
+    requires no_lows { lows.old.items ≡ [] }
+    requires no_highs { highs.old.items ≡ [] }
+    ensures lows { Keeps most lows.new.items (map (λ s. s.lo) spans.now) }
+    ensures highs { Keeps most highs.new.items (map (λ s. mirrored s.hi) spans.now) }
 {
-    let mut lows = Falling::new();
-    let mut highs = Falling::new();
     for span in spans {
-        keep(&mut lows, span.lo, most);
-        keep(&mut highs, -1 - span.hi, most);
+        keep(lows, span.lo, most);
+        keep(highs, -1 - span.hi, most);
     }
-    (lows, highs)
 }

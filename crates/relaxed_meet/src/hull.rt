@@ -5,7 +5,7 @@ ghost use Rattle.std.specs.Prelude.{◌≡◌, ◌≤◌, ◌↔◌, length, map
 ghost use Rattle.relaxed_meet.specs.Kept.{LiesBetween, IsFalling, IsLeastIn, IsGreatestIn};
 ghost use Rattle.sat_model.specs.Relaxed.{IsRelaxedHull, LiesInRelaxed, IsRelaxedEmpty, ends};
 
-use crate::extremes::extremes;
+use crate::extremes::{Falling, extremes};
 use sat_model::Span;
 
 /// The least number that lies between a low end and the high end that goes with it.
@@ -44,7 +44,9 @@ pub(crate) fn least_number(spans: &[Span], need: usize) -> Option<i64>
     if spans.len() < need {
         return None;
     }
-    let (lows, highs) = extremes(spans, spans.len() - need + 1);
+    let mut lows = Falling::new();
+    let mut highs = Falling::new();
+    extremes(spans, spans.len() - need + 1, &mut lows, &mut highs);
     least_between(&lows, &highs)
 }
 
@@ -54,7 +56,10 @@ pub fn relaxed(spans: &[Span], need: u8) -> Option<Span>
     ensures none { IsNone result ↔ IsRelaxedEmpty (map ends spans.now) need }
     ensures some { IfSome result (λ h. IsRelaxedHull (map ends spans.now) need h.lo h.hi) }
 {
-    let (lows, highs) = extremes(spans, spans.len() - usize::from(need) + 1);
+    let mut lows = Falling::new();
+    let mut highs = Falling::new();
+    let most = spans.len() - usize::from(need) + 1;
+    extremes(spans, most, &mut lows, &mut highs);
     match (
         least_between(&lows, &highs),
         greatest_between(&lows, &highs),

@@ -46,9 +46,9 @@ fn guess(a: u128) -> u64 {
 }
 
 /// A guess of the root of a number from 2^62 on, not above it: that of a straight line, which is
-/// wrong by at most a 24th, made better three times by Newton's step.
+/// wrong by at most an eighth, made better three times by Newton's step.
 fn root_of_front(front: u64) -> u64 {
-    let line = 1_521_134_251 + front / 6_442_450_944;
+    let line = 1_879_048_192 + (front >> 33);
     newton(front, newton(front, newton(front, line))).saturating_sub(1)
 }
 

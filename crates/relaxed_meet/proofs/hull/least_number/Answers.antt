@@ -10,6 +10,6 @@ returns c =
     least_in_relaxed c.args.spans.now c.args.need _ _ _ (record {
       some = omega (arith, c.requires);
       enough = c.if-spans-need.false;
-      keeps_lows = c.extremes-lows.ensures.lows;
-      keeps_highs = c.extremes-lows.ensures.highs;
+      keeps_lows = c.extremes.ensures.lows;
+      keeps_highs = c.extremes.ensures.highs;
     }) (rw (c.deref.ensures.0, c.deref-2.ensures.0) at c.least_between.ensures)
