@@ -6,5 +6,6 @@ pub mod Lines
 pub mod Order
 pub mod Text
 pub mod Faults
+pub mod RowsText
 pub mod Taking
 pub mod Answers

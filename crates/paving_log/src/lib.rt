@@ -1,4 +1,4 @@
-//! The log of a paving: its value, and its one text.
+//! The log of a paving, and its rows alone: the value, and its one text.
 #![tactic(auto)]
 
 mod fields;
@@ -12,12 +12,13 @@ mod reading;
 mod rows;
 mod steps;
 mod take;
+mod texts;
 mod words;
 mod write;
 
 pub use log::{Log, LogEpoch, LogError};
-pub use read::read_log;
 pub use sat_model::SatEntry;
+pub use texts::{read_log, read_rows};
 pub use write::{Line, done_line, epoch_line, head_lines, root_line, sat_line, step_line};
 
 #[cfg(test)]
