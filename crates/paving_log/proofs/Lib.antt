@@ -11,3 +11,6 @@ pub mod FaultLemmas
 pub mod LeadLemmas
 pub mod ValueLemmas
 pub mod LogLemmas
+pub mod SatelliteLemmas
+pub mod OwnLemmas
+pub mod RowsLemmas

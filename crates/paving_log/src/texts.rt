@@ -14,6 +14,7 @@ ghost use Rattle.paving_log.specs.Values.{log_value};
 use crate::line::Form;
 use crate::lines::Lines;
 use crate::log::{Log, LogError};
+use crate::own_tests::first_own_fault;
 use crate::read::{blocks, head};
 use std::alloc::Global;
 
@@ -48,10 +49,23 @@ pub fn read_log(alloc: Global, bytes: &[u8]) -> Result<Log, LogError>
     read_text(alloc, Form::Log, bytes)
 }
 
+/// The rows that the text spells, or its first fault.
+fn tested_rows(alloc: Global, bytes: &[u8]) -> Result<Log, LogError>
+    requires { length bytes.now ≤ 4000000000 }
+    ensures value { IfOk result (λ log. IsRowsText (log_value log) bytes.now) }
+    ensures fault { IfErr result (λ e. (e ≡ error.NoMemory) ⊎ FirstRowsFault bytes.now e) }
+{
+    let log = read_text(alloc, Form::Rows, bytes)?;
+    match first_own_fault(&log) {
+        Some(line) => Err(LogError::BadLog { line, kind: 5 }),
+        None => Ok(log),
+    }
+}
+
 /// Reads the rows of a log from their text: the log without its steps, where each block of an epoch
 /// ends with its root. Where all lines fit, the first line that fails a test of its own is refused
 /// with kind 5.
-pub fn read_rows(_alloc: Global, bytes: &[u8]) -> Result<Log, LogError>
+pub fn read_rows(alloc: Global, bytes: &[u8]) -> Result<Log, LogError>
     requires { length bytes.now ≤ 4000000000 }
     // What is read is a value that fits, passes the tests of its own lines and has this text.
     ensures value { IfOk result (λ log. IsRowsText (log_value log) bytes.now) }
@@ -64,5 +78,5 @@ pub fn read_rows(_alloc: Global, bytes: &[u8]) -> Result<Log, LogError>
     // Each block that isn't one of few satellites has a root and enough rows for a paving.
     ensures pavable { IfOk result (λ log. ArePavable (log_value log)) }
 {
-    Err(LogError::NoMemory)
+    tested_rows(alloc, bytes)
 }
