@@ -8,7 +8,7 @@ use Rattle.paving_log.specs.declared.log.Log.{Log}
 use Rattle.paving_log.specs.declared.log.LogError.{LogError}
 use Rattle.paving_log.specs.declared.log.LogError.TheVariants as error
 use Rattle.paving_log.specs.Answers.{GivesLog, GivesFault}
-use Rattle.paving_log.specs.RowsText.{IsSpelling, IsRowsText, FailsTest, FirstRowsFault, HasOwnFault, ArePavable}
+use Rattle.paving_log.specs.RowsText.{IsRowsText, FirstRowsFault, HasOwnFault, ArePavable}
 use Rattle.paving_log.specs.Values.{log_value}
 use Rattle.paving_log.proofs.FaultLemmas.{one_fault}
 use Rattle.paving_log.proofs.LogLemmas.{one_spelled, spelled_has_no_fault}
