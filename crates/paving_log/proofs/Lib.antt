@@ -14,3 +14,4 @@ pub mod LogLemmas
 pub mod SatelliteLemmas
 pub mod OwnLemmas
 pub mod RowsLemmas
+pub mod BuiltLemmas

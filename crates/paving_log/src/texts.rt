@@ -1,6 +1,6 @@
 //! A log, or its rows, from a text.
 
-ghost use Rattle.std.specs.Prelude.{◌≡◌, ◌⊎◌, ◌≤◌, length, IfOk, IfErr};
+ghost use Rattle.std.specs.Prelude.{ℕ, ◌≡◌, ◌≢◌, ◌⊎◌, ◌≤◌, length, IfOk, IfErr};
 ghost use Rattle.sat_model.specs.Logs.{LogValue};
 ghost use Rattle.paving_log.specs.declared.line.Place.TheVariants as place;
 ghost use Rattle.paving_log.specs.declared.log.LogError.{LogError};
@@ -75,6 +75,8 @@ pub fn read_rows(alloc: Global, bytes: &[u8]) -> Result<Log, LogError>
     ensures exact { (log : LogValue) → IsRowsText log bytes.now → GivesLog log result }
     // A text with a fault is refused with its first, unless memory runs out.
     ensures first { (e : LogError) → FirstRowsFault bytes.now e → GivesFault e result }
+    // The rows have no place for a word that isn't built yet.
+    ensures built { IfErr result (λ e. (line : ℕ) → e ≢ error.NotBuilt line) }
     // Each block that isn't one of few satellites has a root and enough rows for a paving.
     ensures pavable { IfOk result (λ log. ArePavable (log_value log)) }
 {
