@@ -10,7 +10,7 @@ use Rattle.paving_log.specs.declared.line.Place.{Place}
 use Rattle.paving_log.specs.declared.line.Place.TheVariants as place
 use Rattle.paving_log.specs.declared.log.LogError.{LogError}
 use Rattle.paving_log.specs.declared.log.LogError.TheVariants as error
-use Rattle.paving_log.specs.Words.{words}
+use Rattle.log_words.specs.Words.{words}
 use Rattle.paving_log.specs.Lines.{LineFits, spelled, name_of, line_words, text_of}
 use Rattle.paving_log.specs.Order.{next, may_end, Leads}
 

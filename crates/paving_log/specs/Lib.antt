@@ -1,6 +1,4 @@
 pub mod Values
-pub mod Words
-pub mod Fields
 pub mod Rows
 pub mod Lines
 pub mod Order

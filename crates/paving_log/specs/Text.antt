@@ -11,7 +11,7 @@ use Rattle.paving_log.specs.declared.line.Form.TheVariants as form
 use Rattle.paving_log.specs.declared.line.Header.{Header}
 use Rattle.paving_log.specs.declared.line.LogLine.{LogLine}
 use Rattle.paving_log.specs.declared.line.LogLine.TheVariants as line
-use Rattle.paving_log.specs.Fields.{IsCountFromTo}
+use Rattle.log_words.specs.Fields.{IsCountFromTo}
 use Rattle.paving_log.specs.Rows.{EntryFits, CornersFit, corners_of}
 use Rattle.paving_log.specs.Lines.{HeaderFits, StepFits, text_of}
 

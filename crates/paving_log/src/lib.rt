@@ -1,7 +1,6 @@
 //! The log of a paving, and its rows alone: the value, and its one text.
 #![tactic(auto)]
 
-mod fields;
 mod header;
 mod line;
 mod lines;
@@ -14,7 +13,6 @@ mod rows;
 mod steps;
 mod take;
 mod texts;
-mod words;
 mod write;
 
 pub use log::{Log, LogEpoch, LogError};

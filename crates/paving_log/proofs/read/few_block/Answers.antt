@@ -1,7 +1,7 @@
 use Rattle.std.proofs.Common.{◌≡◌, refl, sym, subst, to_z, of_z, arith}
 use mir.Syntax.{w128}
 use Rattle.std.proofs.lemmas.Int.{ints}
-use Rattle.paving_log.specs.Fields.{IsTime}
+use Rattle.log_words.specs.Fields.{IsTime}
 use Rattle.paving_log.proofs.FitLemmas.{few_fit}
 use Rattle.paving_log.proofs.read.few_block.Goals as goal
 

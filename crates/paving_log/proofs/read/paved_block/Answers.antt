@@ -4,7 +4,7 @@ use Rattle.std.proofs.lemmas.Int.{ints}
 use Rattle.std.proofs.lemmas.Result.{err_from_is_err_and}
 use Rattle.paving_log.specs.declared.line.LogLine.TheVariants as line
 use Rattle.paving_log.specs.declared.line.Place.TheVariants as place
-use Rattle.paving_log.specs.Fields.{IsTime}
+use Rattle.log_words.specs.Fields.{IsTime}
 use Rattle.paving_log.specs.Order.{place_behind_root}
 use Rattle.paving_log.specs.Rows.{CornersFit}
 use Rattle.paving_log.proofs.LineLemmas.{refuses_behind}
