@@ -31,6 +31,11 @@ pub record IsSpelling (f : Form) (log : LogValue) (text : List ℕ) : Type 0 whe
 
 -- ---- the tests of a block's own lines
 
+-- the satellite line has a row
+abbrev pub has_row : SatEntry → Bool
+has_row (entry.Row row) = true
+has_row (entry.Skipped sat skip) = false
+
 -- Its index is greater than that of the block before, its number of satellites suits it and is that
 -- of its rows, and no satellite is named twice.
 pub record OwnPasses (rules : Rules) (before : Option ℕ) (b : Block) : Type 0 where
@@ -77,10 +82,6 @@ abbrev pub FirstRowsFault : List ℕ → LogError → Type 0
 FirstRowsFault text e = FaultFrom (place.First form.Rows) text 1 e ⊎ FailsTest text e
 
 -- ---- what a paving asks for
-
-abbrev pub has_row : SatEntry → Bool
-has_row (entry.Row row) = true
-has_row (entry.Skipped sat skip) = false
 
 -- the block has a root, and rows of four satellites more than may be inconsistent
 pub record IsPavable (rules : Rules) (b : Block) : Type 0 where
