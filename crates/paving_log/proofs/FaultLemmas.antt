@@ -12,7 +12,7 @@ use Rattle.paving_log.specs.declared.line.LogLine.{LogLine}
 use Rattle.paving_log.specs.declared.line.LogLine.TheVariants as line
 use Rattle.paving_log.specs.declared.line.Place.{Place}
 use Rattle.paving_log.specs.declared.log.LogError.{LogError}
-use Rattle.paving_log.specs.Words.{words}
+use Rattle.log_words.specs.Words.{words}
 use Rattle.paving_log.specs.Lines.{spelled, name_of, LineFits, line_text, text_of}
 use Rattle.paving_log.specs.Order.{next, may_end, Leads}
 use Rattle.paving_log.specs.Faults.{is_built, FitsAt, head_of, Begins, Misfit, refusal, IsLineEnd, FirstLine, LineFails, FaultFrom}

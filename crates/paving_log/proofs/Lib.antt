@@ -1,7 +1,3 @@
-pub mod WordLemmas
-pub mod NumberLemmas
-pub mod TimeLemmas
-pub mod JoinedLemmas
 pub mod LineLemmas
 pub mod BlockLemmas
 pub mod FitLemmas
@@ -11,3 +7,7 @@ pub mod FaultLemmas
 pub mod LeadLemmas
 pub mod ValueLemmas
 pub mod LogLemmas
+pub mod SatelliteLemmas
+pub mod OwnLemmas
+pub mod RowsLemmas
+pub mod BuiltLemmas

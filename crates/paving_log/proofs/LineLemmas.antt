@@ -10,10 +10,10 @@ use Rattle.paving_log.specs.declared.log.LogError.{LogError}
 use Rattle.paving_log.specs.declared.log.LogError.TheVariants as error
 use Rattle.paving_log.specs.Lines.{line_text, text_of}
 use Rattle.paving_log.specs.Order.{Leads}
-use Rattle.paving_log.specs.Words.{joined}
+use Rattle.log_words.specs.Words.{joined}
 use Rattle.paving_log.specs.Faults.{FitsAt, FirstLine, LineFails, FaultFrom}
 use Rattle.paving_log.specs.Taking.{Refuses, Takes}
-use Rattle.paving_log.proofs.WordLemmas.{joined-words}
+use Rattle.log_words.proofs.WordLemmas.{joined-words}
 
 -- a text is what stands before a byte, the byte, and what stands behind it
 pub cut_at : (text : List ℕ) (end byte : ℕ) → end < length text → get_or text end 0 ≡ byte → text ≡ take end text ++ byte ∷ drop (suc end) text

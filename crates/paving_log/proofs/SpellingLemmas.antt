@@ -24,12 +24,12 @@ use Rattle.paving_log.specs.declared.line.LineName.{LineName}
 use Rattle.paving_log.specs.declared.line.LineName.TheVariants as name
 use Rattle.paving_log.specs.declared.line.LogLine.{LogLine}
 use Rattle.paving_log.specs.declared.line.LogLine.TheVariants as line
-use Rattle.paving_log.specs.Words.{words, joined}
-use Rattle.paving_log.specs.Fields.{optional_words, span_words, IsSpanWithin, pos_words, IsPosWithin, sat_words, IsGps, skip_words, SkipFits, IsTime}
+use Rattle.log_words.specs.Words.{words, joined}
+use Rattle.log_words.specs.Fields.{optional_words, span_words, IsSpanWithin, pos_words, IsPosWithin, sat_words, IsGps, skip_words, SkipFits, IsTime}
 use Rattle.paving_log.specs.Rows.{row_words, RowFits, entry_words, EntryFits}
 use Rattle.paving_log.specs.Lines.{spelled, name_of, fields, rules_words, header_words, HeaderFits, step_words, IsId, StepFits, LineFits, line_words, line_text}
-use Rattle.paving_log.proofs.TimeLemmas.{time_count}
-use Rattle.paving_log.proofs.JoinedLemmas.{HasNoBlank, words-joined}
+use Rattle.log_words.proofs.TimeLemmas.{time_count}
+use Rattle.log_words.proofs.JoinedLemmas.{HasNoBlank, words-joined}
 
 -- each byte is above the blank
 abbrev pub IsWord : List ℕ → Type 0

@@ -27,7 +27,7 @@ use Rattle.paving_log.specs.declared.line.LineName.TheVariants as name
 use Rattle.paving_log.specs.declared.line.LogLine.{LogLine}
 use Rattle.paving_log.specs.declared.line.LogLine.TheVariants as line
 use Rattle.paving_log.specs.declared.line.Place.{Place}
-use Rattle.paving_log.specs.Fields.{IsSpanWithin, IsPosWithin, IsTime, sat_words, IsGps, optional_words, skip_words, SkipFits}
+use Rattle.log_words.specs.Fields.{IsSpanWithin, IsPosWithin, IsTime, sat_words, IsGps, optional_words, skip_words, SkipFits}
 use Rattle.paving_log.specs.Rows.{row_words, RowFits, entry_words, EntryFits, root_words, CornersFit}
 use Rattle.paving_log.specs.Lines.{rules_words, header_words, HeaderFits, step_words, step_name, IsId, StepFits, entry_name, name_of, fields, LineFits, line_words, text_of}
 use Rattle.paving_log.specs.Order.{Leads}
@@ -35,8 +35,8 @@ use Rattle.paving_log.specs.Faults.{head_of}
 use Rattle.std.specs.List.{AllByRecursion}
 use Rattle.paving_log.proofs.SpellingLemmas.{same_line}
 use Rattle.paving_log.proofs.FaultLemmas.{same_name, line_some}
-use Rattle.paving_log.proofs.NumberLemmas.{one_number}
-use Rattle.paving_log.proofs.TimeLemmas.{time_count}
+use Rattle.log_words.proofs.NumberLemmas.{one_number}
+use Rattle.log_words.proofs.TimeLemmas.{time_count}
 
 -- ---- proofs
 

@@ -2,6 +2,7 @@
 use Rattle.std.specs.Prelude.{ℕ, ◌≡◌, ◌≢◌, ◌+◌, ◌<◌, ◌⊎◌, Bool, true, false, if◌then◌else◌, List, [], ◌∷◌, ◌++◌, length, Some, None, slice_index}
 use Rattle.paving_log.specs.declared.line.Fault.{Fault}
 use Rattle.paving_log.specs.declared.line.Fault.TheVariants as fault
+use Rattle.paving_log.specs.declared.line.Form.TheVariants as form
 use Rattle.paving_log.specs.declared.line.LineName.{LineName}
 use Rattle.paving_log.specs.declared.line.LineName.TheVariants as name
 use Rattle.paving_log.specs.declared.line.LogLine.{LogLine}
@@ -9,7 +10,7 @@ use Rattle.paving_log.specs.declared.line.Place.{Place}
 use Rattle.paving_log.specs.declared.line.Place.TheVariants as place
 use Rattle.paving_log.specs.declared.log.LogError.{LogError}
 use Rattle.paving_log.specs.declared.log.LogError.TheVariants as error
-use Rattle.paving_log.specs.Words.{words}
+use Rattle.log_words.specs.Words.{words}
 use Rattle.paving_log.specs.Lines.{LineFits, spelled, name_of, line_words, text_of}
 use Rattle.paving_log.specs.Order.{next, may_end, Leads}
 
@@ -51,8 +52,8 @@ Misfit at here fault.NotBuilt = (n : LineName) × Begins at here n × (is_built 
 -- ---- the first line that doesn't fit
 
 abbrev pub is_head : Place → Bool
-is_head place.First = true
-is_head place.Second = true
+is_head (place.First f) = true
+is_head (place.Second f) = true
 is_head _ = false
 
 -- how a line is refused that is no line for its place
@@ -111,4 +112,4 @@ pub record FaultFrom (at : Place) (text : List ℕ) (number : ℕ) (e : LogError
 
 -- the first line that doesn't fit in the text of a log, and how
 abbrev pub FirstFault : List ℕ → LogError → Type 0
-FirstFault text e = FaultFrom place.First text 1 e
+FirstFault text e = FaultFrom (place.First form.Log) text 1 e

@@ -1,10 +1,9 @@
 pub mod Values
-pub mod Words
-pub mod Fields
 pub mod Rows
 pub mod Lines
 pub mod Order
 pub mod Text
 pub mod Faults
+pub mod RowsText
 pub mod Taking
 pub mod Answers

@@ -12,8 +12,8 @@ use Rattle.paving_log.specs.declared.line.LineName.{LineName}
 use Rattle.paving_log.specs.declared.line.LineName.TheVariants as name
 use Rattle.paving_log.specs.declared.line.LogLine.{LogLine}
 use Rattle.paving_log.specs.declared.line.LogLine.TheVariants as line
-use Rattle.paving_log.specs.Words.{joined}
-use Rattle.paving_log.specs.Fields.{IsCountFromTo, IsTime}
+use Rattle.log_words.specs.Words.{joined}
+use Rattle.log_words.specs.Fields.{IsCountFromTo, IsTime}
 use Rattle.paving_log.specs.Rows.{entry_words, EntryFits, root_words, CornersFit}
 
 -- ---- the fields behind the first word

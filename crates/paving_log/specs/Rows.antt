@@ -5,7 +5,7 @@ use Rattle.sat_model.specs.declared.satellites.SatEntry.{SatEntry}
 use Rattle.sat_model.specs.declared.satellites.SatEntry.TheVariants as entry
 use Rattle.sat_model.specs.Boxes.{GridBox}
 use Rattle.paving_log.specs.declared.line.Corners.{Corners}
-use Rattle.paving_log.specs.Fields.{span_words, pos_words, IsPosWithin, sat_words, IsGps, skip_words, SkipFits}
+use Rattle.log_words.specs.Fields.{span_words, pos_words, IsPosWithin, sat_words, IsGps, skip_words, SkipFits}
 
 -- the satellite, and the spans of its place, of the range and of the error
 abbrev pub row_words : Row → List (List ℕ)

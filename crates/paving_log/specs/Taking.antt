@@ -1,6 +1,7 @@
 -- Lines that were taken from the front of a text.
 use Rattle.std.specs.Prelude.{ℕ, ◌≡◌, ◌+◌, Bool, true, false, List, [], ◌∷◌, ◌++◌, length, Option, None, Some}
-use Rattle.sat_model.specs.Logs.{Block, lines_in}
+use Rattle.sat_model.specs.Logs.{Block}
+use Rattle.paving_log.specs.declared.line.Form.{Form}
 use Rattle.paving_log.specs.declared.line.LogLine.{LogLine}
 use Rattle.paving_log.specs.declared.line.Place.{Place}
 use Rattle.paving_log.specs.declared.line.Place.TheVariants as place
@@ -26,9 +27,9 @@ pub record Takes (at : Place) (old : Lines) (lines : List LogLine) (to : Place) 
   pub number : new.number ≡ old.number + length lines
 
 -- the place behind the first line of a block
-abbrev pub block_place : Bool → Place
-block_place true = place.Few 0
-block_place false = place.Satellites 0
+abbrev pub block_place : Form → Bool → Place
+block_place f true = place.Few f 0
+block_place f false = place.Satellites f 0
 
 -- these lines were taken, and then the text ended
 pub record TakesAll (at : Place) (old : Lines) (lines : List LogLine) (new : Lines) : Type 0 where
@@ -38,14 +39,14 @@ pub record TakesAll (at : Place) (old : Lines) (lines : List LogLine) (new : Lin
   pub ended : new.rest.now ≡ []
 
 -- these lines were taken, and behind them the first line of a block
-pub record TakesWith (at : Place) (old : Lines) (lines : List LogLine) (o : Opening) (new : Lines) : Type 0 where
-  pub taken : Takes at old (lines ++ first_line o.few o.header ∷ []) (block_place o.few) new
+pub record TakesWith (f : Form) (at : Place) (old : Lines) (lines : List LogLine) (o : Opening) (new : Lines) : Type 0 where
+  pub taken : Takes at old (lines ++ first_line o.few o.header ∷ []) (block_place f o.few) new
   pub number : new.number ≡ o.line + 1
 
 -- these lines were taken, and behind them the first line of a block, or else the text ended
-abbrev pub TakesTo : Place → Lines → List LogLine → Option Opening → Lines → Type 0
-TakesTo at old lines None new = TakesAll at old lines new
-TakesTo at old lines (Some o) new = TakesWith at old lines o new
+abbrev pub TakesTo : Form → Place → Lines → List LogLine → Option Opening → Lines → Type 0
+TakesTo f at old lines None new = TakesAll at old lines new
+TakesTo f at old lines (Some o) new = TakesWith f at old lines o new
 
 -- the block begins with this line
 pub record IsOpened (o : Opening) (b : Block) : Type 0 where
@@ -54,15 +55,15 @@ pub record IsOpened (o : Opening) (b : Block) : Type 0 where
   pub line : b.line ≡ o.line
 
 -- the blocks begin one behind the other, from one line number up to another
-abbrev pub AreNumbered : ℕ → List Block → ℕ → Type 0
-AreNumbered from [] to = from ≡ to
-AreNumbered from (b ∷ more) to = (b.line ≡ from) × AreNumbered (from + lines_in b) more to
+abbrev pub AreNumbered : Form → ℕ → List Block → ℕ → Type 0
+AreNumbered f from [] to = from ≡ to
+AreNumbered f from (b ∷ more) to = (b.line ≡ from) × AreNumbered f (from + length (block_lines f b)) more to
 
 -- the blocks fit, were taken up to the end of the text, and are numbered
-pub record TakesBlocks (old : Lines) (blocks : List Block) : Type 0 where
+pub record TakesBlocks (f : Form) (old : Lines) (blocks : List Block) : Type 0 where
   pub to : Place
-  pub leads : Leads place.Between (flat_map block_lines blocks) to
+  pub leads : Leads (place.Between f) (flat_map (block_lines f) blocks) to
   pub may_end : may_end to ≡ true
-  pub parts : old.rest.now ≡ text_of (flat_map block_lines blocks)
-  pub fit : AllByRecursion BlockFits blocks
-  pub numbered : AreNumbered old.number blocks (old.number + length (flat_map block_lines blocks))
+  pub parts : old.rest.now ≡ text_of (flat_map (block_lines f) blocks)
+  pub fit : AllByRecursion (BlockFits f) blocks
+  pub numbered : AreNumbered f old.number blocks (old.number + length (flat_map (block_lines f) blocks))

@@ -1,11 +1,10 @@
 //! The rules, and the first line of a block.
 
-ghost use Rattle.paving_log.specs.Words.{words_left, Reads};
+ghost use Rattle.log_words.specs.Words.{words_left, Reads};
 ghost use Rattle.paving_log.specs.Lines.{rules_words, RulesFit, header_words, HeaderFits};
 
-use crate::fields::{count, time};
 use crate::line::Header;
-use crate::words::{Rest, is_ended, number};
+use log_words::{Rest, count, is_ended, number, time};
 use sat_model::Rules;
 
 /// The rules of a log.

@@ -1,23 +1,24 @@
-//! The log of a paving: its value, and its one text.
+//! The log of a paving, and its rows alone: the value, and its one text.
 #![tactic(auto)]
 
-mod fields;
 mod header;
 mod line;
 mod lines;
 mod log;
 mod order;
+mod own_tests;
 mod read;
 mod reading;
 mod rows;
 mod steps;
 mod take;
-mod words;
+mod texts;
 mod write;
 
 pub use log::{Log, LogEpoch, LogError};
-pub use read::read_log;
+pub use own_tests::{LineFault, own_fault};
 pub use sat_model::SatEntry;
+pub use texts::{read_log, read_rows};
 pub use write::{Line, done_line, epoch_line, head_lines, root_line, sat_line, step_line};
 
 #[cfg(test)]

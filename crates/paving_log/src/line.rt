@@ -48,20 +48,28 @@ pub enum LineName {
     Done,
 }
 
+/// Which lines a text has: those of a log, or those of its rows alone, where each block with a root
+/// ends with the line of the root.
+#[derive(Clone, Copy, Debug, PartialEq, Eq)]
+pub enum Form {
+    Log,
+    Rows,
+}
+
 /// What may come next.
 #[derive(Clone, Copy, Debug, PartialEq, Eq)]
 pub enum Place {
     /// The line of the version.
-    First,
+    First(Form),
     /// The line of the rules.
-    Second,
+    Second(Form),
     /// A block, or the end.
-    Between,
+    Between(Form),
     /// Behind so many satellite lines of a block.
-    Satellites(usize),
+    Satellites(Form, usize),
     /// Behind so many satellite lines of a block of few satellites.
-    Few(usize),
-    /// Behind the root.
+    Few(Form, usize),
+    /// Behind the root of a log.
     Steps,
 }
 

@@ -3,9 +3,9 @@
 ghost use Rattle.std.specs.Prelude.{◌≡◌, Some, None, IfSome, IfNone};
 ghost use Rattle.paving_log.specs.declared.line.LineName.{LineName};
 ghost use Rattle.paving_log.specs.Lines.{spelled};
-ghost use Rattle.paving_log.specs.Order.{next};
+ghost use Rattle.paving_log.specs.Order.{next, place_behind_root};
 
-use crate::line::{LineName, Place};
+use crate::line::{Form, LineName, Place};
 
 /// The word's name, where it is a first word of some line.
 pub fn name_from(word: &[u8]) -> Option<LineName>
@@ -30,25 +30,39 @@ pub fn name_from(word: &[u8]) -> Option<LineName>
     }
 }
 
+/// The place behind the line of a root.
+fn behind_root(form: Form) -> Place
+    ensures { result ≡ place_behind_root form }
+{
+    match form {
+        Form::Log => Place::Steps,
+        Form::Rows => Place::Between(Form::Rows),
+    }
+}
+
 /// The place behind a line with this first word, where the line may come.
 pub fn place_behind(place: Place, name: LineName) -> Option<Place>
     ensures { result ≡ next place name }
 {
     match (place, name) {
-        (Place::First, LineName::Gpscover) => Some(Place::Second),
-        (Place::Second, LineName::Rules) => Some(Place::Between),
-        (Place::Between | Place::Few(_), LineName::Epoch) => Some(Place::Satellites(0)),
-        (Place::Between | Place::Few(_), LineName::Few) => Some(Place::Few(0)),
-        (Place::Few(count), LineName::Skip) if count < 64 => Some(Place::Few(count + 1)),
-        (Place::Satellites(count), LineName::Sat | LineName::Skip) if count < 64 => {
-            Some(Place::Satellites(count + 1))
+        (Place::First(form), LineName::Gpscover) => Some(Place::Second(form)),
+        (Place::Second(form), LineName::Rules) => Some(Place::Between(form)),
+        (Place::Between(form) | Place::Few(form, _), LineName::Epoch) => {
+            Some(Place::Satellites(form, 0))
         }
-        (Place::Satellites(_), LineName::Root) => Some(Place::Steps),
+        (Place::Between(form) | Place::Few(form, _), LineName::Few) => Some(Place::Few(form, 0)),
+        (Place::Few(form, count), LineName::Skip) if count < 64 => {
+            Some(Place::Few(form, count + 1))
+        }
+        (Place::Satellites(form, count), LineName::Sat | LineName::Skip) if count < 64 => {
+            Some(Place::Satellites(form, count + 1))
+        }
+        (Place::Satellites(form, _), LineName::Root) => Some(behind_root(form)),
         (
             Place::Steps,
             LineName::Cut | LineName::Split | LineName::Out | LineName::In | LineName::Edge,
         ) => Some(Place::Steps),
-        (Place::Steps, LineName::Done) => Some(Place::Between),
+        (Place::Steps, LineName::Done) => Some(Place::Between(Form::Log)),
         _ => None,
     }
 }

@@ -1,17 +1,16 @@
 //! One line at its place.
 
 ghost use Rattle.std.specs.Prelude.{◌≡◌, true, IfOk, IfErr};
-ghost use Rattle.paving_log.specs.Words.{words_left, Reads};
+ghost use Rattle.log_words.specs.Words.{words_left, Reads};
 ghost use Rattle.paving_log.specs.Lines.{LineFits, name_of, fields};
 ghost use Rattle.paving_log.specs.Faults.{is_built, FitsAt, Misfit};
 
-use crate::fields::count;
 use crate::header::{header, rules};
 use crate::line::{Fault, LineName, LogLine, Place};
 use crate::order::{name_from, place_behind};
 use crate::rows::{root, row, skipped};
 use crate::steps::{edge, inside, out, split};
-use crate::words::{Rest, is_ended, word};
+use log_words::{Rest, count, is_ended, word};
 use sat_model::SatEntry;
 
 /// Whether the lines that begin with the word can be read.

@@ -3,13 +3,12 @@
 ghost use Rattle.std.specs.Prelude.{◌≡◌};
 ghost use Rattle.sat_model.specs.declared.satellites.Skip.{Skip};
 ghost use Rattle.paving_log.specs.declared.line.LineName.TheVariants as names;
-ghost use Rattle.paving_log.specs.Words.{words_left, Reads};
+ghost use Rattle.log_words.specs.Words.{words_left, Reads};
 ghost use Rattle.paving_log.specs.Rows.{row_words, RowFits, entry_words, EntryFits, root_words, CornersFit};
 ghost use Rattle.paving_log.specs.Lines.{entry_name};
 
-use crate::fields::{place, satellite, skip, span};
 use crate::line::Corners;
-use crate::words::{Rest, is_ended};
+use log_words::{Rest, is_ended, place, satellite, skip, span};
 use sat_model::{Row, SatEntry};
 
 /// The greatest amount of a satellite's coordinate and of a range, in um.

@@ -15,7 +15,7 @@ use memchr::memchr;
 fn is_first_two(place: Place) -> bool
     ensures { result ≡ is_head place }
 {
-    matches!(place, Place::First | Place::Second)
+    matches!(place, Place::First(_) | Place::Second(_))
 }
 
 /// How a line is refused that is no line for its place.

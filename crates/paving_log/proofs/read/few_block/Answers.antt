@@ -1,7 +1,7 @@
 use Rattle.std.proofs.Common.{◌≡◌, refl, sym, subst, to_z, of_z, arith}
 use mir.Syntax.{w128}
 use Rattle.std.proofs.lemmas.Int.{ints}
-use Rattle.paving_log.specs.Fields.{IsTime}
+use Rattle.log_words.specs.Fields.{IsTime}
 use Rattle.paving_log.proofs.FitLemmas.{few_fit}
 use Rattle.paving_log.proofs.read.few_block.Goals as goal
 
@@ -10,7 +10,7 @@ returns-clause-fits c =
     let h = c.args.opening.header in
     let time = c.requires.header.ps in
     let same : to_z w128 (of_z w128 h.ps) ≡ h.ps = omega (arith, ints, time.0, time.1) in
-    let sats = few_fit c.args.lines c.in_ok-sats.left c.in_ok-sats.sats.items c.in_ok-sats.next c.in_ok-sats.ensures.taken in
+    let sats = few_fit c.args.form c.args.lines c.in_ok-sats.left c.in_ok-sats.sats.items c.in_ok-sats.next c.in_ok-sats.ensures.taken in
     record {
       header = record { index = c.requires.header.index; ps = subst IsTime (sym same) time; n = c.requires.header.n };
       sats = sats.0;

@@ -9,11 +9,11 @@ use Rattle.paving_log.proofs.read.head.Goals as goal
 pub returns-in_err-lines-clause-refused : goal.returns-in_err-lines-clause-refused
 returns-in_err-lines-clause-refused c =
     let p = err_from_is_err_and c.from_residual.result c.from_residual.ensures.1 in
-    rw (p.1, p.2) (refuses_here place.First c.args.lines _ c.in_err-lines.ensures.fails)
+    rw (p.1, p.2) (refuses_here (place.First c.args.form) c.args.lines _ c.in_err-lines.ensures.fails)
 
 pub returns-in_err-line-clause-refused : goal.returns-in_err-line-clause-refused
 returns-in_err-line-clause-refused c =
     let p = err_from_is_err_and c.from_residual-in_err-line.result c.from_residual-in_err-line.ensures.1 in
-    let first = behind_first c.in_ok-lines.field-0-0 c.in_ok-lines.field-0-1 (leads_to _ c.args.lines _ _ c.in_ok-lines.lines c.in_ok-lines.ensures.taken) in
-    let taken = takes_one _ _ _ _ line.Version _ place.Second _ refl first.0 first.1 c.in_ok-lines.ensures.taken in
-    rw (p.1, p.2) (refuses_behind place.First place.Second c.args.lines c.in_ok-lines.lines (line.Version ∷ []) _ taken (refuses_here place.Second c.in_ok-lines.lines _ c.in_err-line.ensures.fails))
+    let first = behind_first c.args.form c.in_ok-lines.field-0-0 c.in_ok-lines.field-0-1 (leads_to _ c.args.lines _ _ c.in_ok-lines.lines c.in_ok-lines.ensures.taken) in
+    let taken = takes_one _ _ _ _ line.Version _ (place.Second c.args.form) _ refl first.0 first.1 c.in_ok-lines.ensures.taken in
+    rw (p.1, p.2) (refuses_behind (place.First c.args.form) (place.Second c.args.form) c.args.lines c.in_ok-lines.lines (line.Version ∷ []) _ taken (refuses_here (place.Second c.args.form) c.in_ok-lines.lines _ c.in_err-line.ensures.fails))

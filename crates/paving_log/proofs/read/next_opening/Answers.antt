@@ -6,4 +6,4 @@ use Rattle.paving_log.proofs.read.next_opening.Goals as goal
 pub returns-in_err-line-clause-refused : goal.returns-in_err-line-clause-refused
 returns-in_err-line-clause-refused c =
     let p = err_from_is_err_and c.from_residual.result c.from_residual.ensures.1 in
-    rw (p.1, p.2) (refuses_here place.Between c.args.lines _ c.in_err-line.ensures.fails)
+    rw (p.1, p.2) (refuses_here (place.Between c.args.form) c.args.lines _ c.in_err-line.ensures.fails)

@@ -4,35 +4,35 @@ use Rattle.std.proofs.lemmas.Int.{ints}
 use Rattle.std.proofs.lemmas.Result.{err_from_is_err_and}
 use Rattle.paving_log.specs.declared.line.LogLine.TheVariants as line
 use Rattle.paving_log.specs.declared.line.Place.TheVariants as place
-use Rattle.paving_log.specs.Fields.{IsTime}
+use Rattle.log_words.specs.Fields.{IsTime}
+use Rattle.paving_log.specs.Order.{place_behind_root}
 use Rattle.paving_log.specs.Rows.{CornersFit}
 use Rattle.paving_log.proofs.LineLemmas.{refuses_behind}
 use Rattle.paving_log.proofs.BlockLemmas.{paved_taken}
-use Rattle.paving_log.proofs.FitLemmas.{sat_parts, step_parts}
+use Rattle.paving_log.proofs.FitLemmas.{sat_parts}
 use Rattle.paving_log.proofs.read.paved_block.Goals as goal
 
 pub returns-in_err-steps-clause-refused : goal.returns-in_err-steps-clause-refused
 returns-in_err-steps-clause-refused c =
     let p = err_from_is_err_and c.from_residual-in_err-steps.result c.from_residual-in_err-steps.ensures.1 in
-    rw (p.1, p.2) (refuses_behind (place.Satellites 0) place.Steps c.args.lines c.in_ok-sats.left (map line.Sat c.in_ok-sats.sats.items ++ line.Root c.in_ok-sats.corners ∷ []) _ c.in_ok-sats.ensures.taken c.in_err-steps.ensures.refused)
+    rw (p.1, p.2) (refuses_behind (place.Satellites c.args.form 0) (place_behind_root c.args.form) c.args.lines c.in_ok-sats.left (map line.Sat c.in_ok-sats.sats.items ++ line.Root c.in_ok-sats.corners ∷ []) _ c.in_ok-sats.ensures.taken c.in_err-steps.ensures.refused)
 
 pub root_box-requires : goal.root_box-requires
-root_box-requires c = (sat_parts 0 c.in_ok-sats.sats.items (line.Root c.in_ok-sats.corners ∷ []) place.Steps (omega arith) c.in_ok-sats.ensures.taken.leads).rest.0
+root_box-requires c = (sat_parts c.args.form 0 c.in_ok-sats.sats.items (line.Root c.in_ok-sats.corners ∷ []) (place_behind_root c.args.form) (omega arith) c.in_ok-sats.ensures.taken.leads).rest.0
 
 pub returns-clause-taken : goal.returns-clause-taken
 returns-clause-taken c =
-    paved_taken c.args.lines c.in_ok-sats.left c.in_ok-steps.left c.in_ok-sats.sats.items c.in_ok-sats.corners _ c.in_ok-steps.steps.items c.in_ok-steps.done c.root_box.ensures c.in_ok-sats.ensures.taken c.in_ok-steps.ensures.taken
+    paved_taken c.args.form c.args.lines c.in_ok-sats.left c.in_ok-steps.left c.in_ok-sats.sats.items c.in_ok-sats.corners _ c.in_ok-steps.steps.items c.in_ok-steps.done c.root_box.ensures c.in_ok-sats.ensures.taken c.in_ok-steps.ensures.taken
 
 pub returns-clause-fits : goal.returns-clause-fits
 returns-clause-fits c =
     let h = c.args.opening.header in
     let time = c.requires.header.ps in
     let same : to_z w128 (of_z w128 h.ps) ≡ h.ps = omega (arith, ints, time.0, time.1) in
-    let sats = sat_parts 0 c.in_ok-sats.sats.items (line.Root c.in_ok-sats.corners ∷ []) place.Steps (omega arith) c.in_ok-sats.ensures.taken.leads in
-    let steps = step_parts c.in_ok-steps.steps.items (line.Done c.in_ok-steps.done ∷ []) place.Between c.in_ok-steps.ensures.taken.leads in
+    let sats = sat_parts c.args.form 0 c.in_ok-sats.sats.items (line.Root c.in_ok-sats.corners ∷ []) (place_behind_root c.args.form) (omega arith) c.in_ok-sats.ensures.taken.leads in
     record {
       header = record { index = c.requires.header.index; ps = subst IsTime (sym same) time; n = c.requires.header.n };
       sats = sats.fit;
       at_most = c.in_ok-sats.ensures.at_most;
-      body = (refl, subst CornersFit (sym c.root_box.ensures) sats.rest.0, steps.0, steps.1.0);
+      body = (refl, subst CornersFit (sym c.root_box.ensures) sats.rest.0, c.in_ok-steps.ensures.fits);
     }

@@ -1,0 +1,12 @@
+//! The words of a log's lines, and the numbers, spans, points and satellites that they spell, each in
+//! its one spelling.
+#![tactic(auto)]
+
+mod fields;
+mod words;
+
+pub use fields::{amount, count, place, satellite, skip, span, time};
+pub use words::{Rest, is_ended, number, word};
+
+#[cfg(test)]
+mod tests;

@@ -1,0 +1,76 @@
+use super::*;
+use std::test::Fail;
+
+#[test]
+fn a_number_has_one_spelling(rt: HostRuntime) -> Result<(), Fail> {
+    for (line, value) in [
+        ("0", Some(0)),
+        ("-5", Some(-5)),
+        ("5 6", Some(5)),
+        ("", None),
+        ("-0", None),
+        ("05", None),
+        ("+5", None),
+        (" 5", None),
+        ("5\t6", None),
+        ("-6", None),
+        ("9", Some(9)),
+        ("10", None),
+    ] {
+        let read = number(Some(line.as_bytes()), -5, 9);
+        assert_eq!(rt; read.map(|(number, _)| number), value, "at {line}");
+    }
+    Ok(())
+}
+
+#[test]
+fn spans_are_in_order_and_within_their_bound(rt: HostRuntime) -> Result<(), Fail> {
+    for (line, ends) in [
+        ("-7 7", Some((-7, 7))),
+        ("1 1 x", Some((1, 1))),
+        ("2 1", None),
+        ("-8 7", None),
+        ("-7 8", None),
+        ("1", None),
+        ("1  1", None),
+    ] {
+        let read = span(Some(line.as_bytes()), 7);
+        assert_eq!(rt; read.map(|(span, _)| (span.lo, span.hi)), ends, "at {line}");
+    }
+    Ok(())
+}
+
+#[test]
+fn satellites_and_why_one_is_skipped(rt: HostRuntime) -> Result<(), Fail> {
+    for (line, value) in [
+        ("G01", Some(1)),
+        ("G99", Some(99)),
+        ("G00", None),
+        ("G1", None),
+        ("G001", None),
+        ("g01", None),
+        ("E01", None),
+    ] {
+        let read = satellite(Some(line.as_bytes()));
+        assert_eq!(rt; read.map(|(sat, _)| sat.number), value, "at {line}");
+    }
+    for (line, value) in [
+        ("1", Some((1, 0))),
+        ("5", Some((5, 0))),
+        ("6 20", Some((6, 20))),
+        ("0", None),
+        ("5 1", None),
+        ("6", None),
+        ("6 21", None),
+        ("6 1 1", None),
+        ("7", None),
+    ] {
+        let read = skip(Some(line.as_bytes()));
+        assert_eq!(rt;
+            read.map(|skip| (skip.number, skip.field)),
+            value,
+            "at {line}"
+        );
+    }
+    Ok(())
+}

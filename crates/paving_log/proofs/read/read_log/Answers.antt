@@ -1,8 +1,0 @@
-use Rattle.paving_log.proofs.LogLemmas.{gives_log, gives_fault}
-use Rattle.paving_log.proofs.read.read_log.Goals as goal
-
-pub returns-clause-exact : goal.returns-clause-exact
-returns-clause-exact c = gives_log c.read_text.result c.args.bytes.now c.read_text.ensures.value c.read_text.ensures.fault
-
-pub returns-clause-first : goal.returns-clause-first
-returns-clause-first c = gives_fault c.read_text.result c.args.bytes.now c.read_text.ensures.value c.read_text.ensures.fault
