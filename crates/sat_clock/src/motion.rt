@@ -35,6 +35,7 @@ fn slowest(root_a: u128) -> u128
     ensures holds { (s n : ℕ) → s ≤ root_a → IsComputedMotion (pos s) n → result ≤ n }
     ensures tight { ROOT_OF_GRAVITY * 10 ^ 29 < (result + 1) * (root_a * root_a * root_a + 2 * 10 ^ 29) }
     ensures low { 10 ^ 15 ≤ result }
+    ensures high { result ≤ 17 * 10 ^ 17 }
 {
     ROOT_OF_GRAVITY / (cube(root_a) + 2)
 }
