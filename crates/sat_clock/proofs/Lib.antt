@@ -1,1 +1,2 @@
 pub mod MotionLemmas
+pub mod ClockLemmas

@@ -1,0 +1,49 @@
+-- Ends of the lines of the clock chain, from the ends of their factors.
+use Rattle.std.proofs.Common.{◌≡◌, ℕ, ◌+◌, ◌*◌, ◌/◌, ◌^◌, ◌≤◌, arith}
+use Rattle.std.specs.Prelude.{ℤ, pos, neg_ℤ, nat_abs, ◌+ℤ◌, ◌-ℤ◌, ◌*ℤ◌, ◌≤ℤ◌}
+use Rattle.std.proofs.lemmas.Int.{ints}
+use Rattle.sat_model.specs.ClockChain.{IsEarlier}
+use Rattle.sat_model.specs.Intervals.{Between, Ends}
+use Rattle.sat_model.specs.Sizes.{IsWithin}
+use Rattle.sat_model.specs.RecordBounds.{clock_reach}
+use Rattle.sat_model.proofs.IntervalLemmas.{ends_of}
+use Rattle.sat_clock.specs.ClockSizes.{ephemeris_reach, since_size, width}
+
+-- a field's numbers
+pub field_ends : (n : ℕ) (lo hi : ℤ) → lo ≤ℤ hi → neg_ℤ (pos n) ≤ℤ lo → hi ≤ℤ pos n → hi ≤ℤ (lo +ℤ pos 1) → Ends n 1 lo hi
+field_ends n lo hi o f g w = record { order = o; low = record { low = f; high = omega (arith, ints) }; high = record { low = omega (arith, ints); high = g }; width = omega (arith, ints) }
+
+-- wider ends
+pub ends_up : (m n v w : ℕ) (a b : ℤ) → m ≤ n → v ≤ w → Ends m v a b → Ends n w a b
+ends_up m n v w a b h k e = record { order = e.order; low = record { low = omega (arith, ints, e.low.low); high = omega (arith, ints, e.low.high) }; high = record { low = omega (arith, ints, e.high.low); high = omega (arith, ints, e.high.high) }; width = omega (arith, ints, e.width) }
+
+-- ends at a new place
+pub ends_width : (n w : ℕ) (a b : ℤ) → Ends n w a b → width a b ≤ w
+ends_width n w a b e = omega (arith, ints, e.order, e.width)
+
+-- ---- times
+
+-- tsv - toc, by way of the ephemeris time
+pub since_ends : (lo hi start early late toc : ℤ) → lo ≤ℤ hi → neg_ℤ (pos ephemeris_reach) ≤ℤ (lo -ℤ (start +ℤ late)) → (hi -ℤ (start +ℤ early)) ≤ℤ pos ephemeris_reach → IsWithin clock_reach (toc -ℤ (start +ℤ early)) → IsWithin clock_reach (toc -ℤ (start +ℤ late)) → Ends since_size (width lo hi) (lo -ℤ toc) (hi -ℤ toc)
+since_ends lo hi start early late toc o f g v w = record {
+  order = omega (arith, ints);
+  low = record { low = omega (arith, ints, w.high); high = omega (arith, ints, v.low) };
+  high = record { low = omega (arith, ints, w.high); high = omega (arith, ints, v.low) };
+  width = omega (arith, ints);
+}
+
+-- tsv - toe
+pub ephemeris_ends : (lo hi start early late l h : ℤ) → lo ≤ℤ hi → early ≤ℤ late → late ≤ℤ (early +ℤ pos 1) → neg_ℤ (pos ephemeris_reach) ≤ℤ (lo -ℤ (start +ℤ late)) → (hi -ℤ (start +ℤ early)) ≤ℤ pos ephemeris_reach → l ≡ lo -ℤ (start +ℤ late) → h ≡ hi -ℤ (start +ℤ early) → Ends ephemeris_reach (width lo hi + 1) l h
+ephemeris_ends lo hi start early late l h o p q f g d e = record {
+  order = omega (arith, ints);
+  low = record { low = omega (arith, ints); high = omega (arith, ints) };
+  high = record { low = omega (arith, ints); high = omega (arith, ints) };
+  width = omega (arith, ints);
+}
+
+pub ephemeris_between : (lo hi start early late l h x toe : ℤ) → l ≡ lo -ℤ (start +ℤ late) → h ≡ hi -ℤ (start +ℤ early) → Between lo hi x → Between early late toe → Between l h (x -ℤ (start +ℤ toe))
+ephemeris_between lo hi start early late l h x toe d e p q = record { from = omega (arith, ints, p.from, q.to); to = omega (arith, ints, p.to, q.from) }
+
+-- the same time from another zero
+pub earlier_from : (x b t zero : ℤ) → IsEarlier x b t → IsEarlier (x -ℤ zero) b (t -ℤ zero)
+earlier_from x b t zero n = record { below = omega (arith, ints, n.below, n.above); above = omega (arith, ints, n.below, n.above) }
