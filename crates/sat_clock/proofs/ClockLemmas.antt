@@ -5,19 +5,20 @@ use Rattle.std.proofs.lemmas.Int.{ints}
 use Rattle.sat_model.specs.ClockChain.{IsEarlier}
 use Rattle.sat_model.specs.Intervals.{Between, Ends}
 use Rattle.sat_model.specs.Sizes.{IsWithin}
-use Rattle.sat_model.specs.RecordBounds.{clock_reach}
+use Rattle.sat_model.specs.RecordBounds.{IsField, clock_reach}
+use Rattle.sat_model.specs.declared.spans.Wide.{Wide}
 use Rattle.sat_model.proofs.IntervalLemmas.{ends_of}
 use Rattle.sat_clock.specs.ClockSizes.{ephemeris_reach, since_size, width}
 
 -- a field's numbers
-pub field_ends : (n : ℕ) (lo hi : ℤ) → lo ≤ℤ hi → neg_ℤ (pos n) ≤ℤ lo → hi ≤ℤ pos n → hi ≤ℤ (lo +ℤ pos 1) → Ends n 1 lo hi
-field_ends n lo hi o f g w = record { order = o; low = record { low = f; high = omega (arith, ints) }; high = record { low = omega (arith, ints); high = g }; width = omega (arith, ints) }
+pub field_ends : (n : ℕ) (field : Wide) → IsField n field → Ends n 1 field.lo field.hi
+field_ends n field f = record { order = field.ordered; low = record { low = f.from; high = omega (arith, ints, f.to, field.ordered) }; high = record { low = omega (arith, ints, f.from, field.ordered); high = f.to }; width = omega (arith, ints, f.narrow) }
 
 -- wider ends
 pub ends_up : (m n v w : ℕ) (a b : ℤ) → m ≤ n → v ≤ w → Ends m v a b → Ends n w a b
 ends_up m n v w a b h k e = record { order = e.order; low = record { low = omega (arith, ints, e.low.low); high = omega (arith, ints, e.low.high) }; high = record { low = omega (arith, ints, e.high.low); high = omega (arith, ints, e.high.high) }; width = omega (arith, ints, e.width) }
 
--- ends at a new place
+-- how far apart the ends are
 pub ends_width : (n w : ℕ) (a b : ℤ) → Ends n w a b → width a b ≤ w
 ends_width n w a b e = omega (arith, ints, e.order, e.width)
 
