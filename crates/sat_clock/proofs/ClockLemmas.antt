@@ -2,13 +2,14 @@
 use Rattle.std.proofs.Common.{◌≡◌, ℕ, ◌+◌, ◌*◌, ◌/◌, ◌^◌, ◌≤◌, arith}
 use Rattle.std.specs.Prelude.{ℤ, pos, neg_ℤ, nat_abs, ◌+ℤ◌, ◌-ℤ◌, ◌*ℤ◌, ◌≤ℤ◌}
 use Rattle.std.proofs.lemmas.Int.{ints}
+use Rattle.sat_model.specs.Angles.{unit}
 use Rattle.sat_model.specs.ClockChain.{IsEarlier}
 use Rattle.sat_model.specs.Intervals.{Between, Ends}
 use Rattle.sat_model.specs.Sizes.{IsWithin}
-use Rattle.sat_model.specs.RecordBounds.{IsField, clock_reach}
+use Rattle.sat_model.specs.RecordBounds.{IsField, LiesFrom, clock_reach}
 use Rattle.sat_model.specs.declared.spans.Wide.{Wide}
 use Rattle.sat_model.proofs.IntervalLemmas.{ends_of}
-use Rattle.sat_clock.specs.ClockSizes.{ephemeris_reach, since_size, width}
+use Rattle.sat_clock.specs.ClockSizes.{ephemeris_reach, since_size, motion_size, motion_width, width}
 
 -- a field's numbers
 pub field_ends : (n : ℕ) (field : Wide) → IsField n field → Ends n 1 field.lo field.hi
@@ -48,3 +49,15 @@ ephemeris_between lo hi start early late l h x toe d e p q = record { from = ome
 -- the same time from another zero
 pub earlier_from : (x b t zero : ℤ) → IsEarlier x b t → IsEarlier (x -ℤ zero) b (t -ℤ zero)
 earlier_from x b t zero n = record { below = omega (arith, ints, n.below, n.above); above = omega (arith, ints, n.below, n.above) }
+
+-- ---- the mean motion and the anomaly
+
+pub motion_ends : (lo hi : ℤ) → lo ≤ℤ hi → pos 0 ≤ℤ lo → hi ≤ℤ pos motion_size → (hi -ℤ lo) ≤ℤ pos motion_width → Ends motion_size motion_width lo hi
+motion_ends lo hi o f g w = record { order = o; low = record { low = omega (arith, ints); high = omega (arith, ints) }; high = record { low = omega (arith, ints); high = omega (arith, ints) }; width = w }
+
+-- a field that isn't negative
+pub natural_ends : (n : ℕ) (least : ℤ) (field : Wide) → pos 0 ≤ℤ least → LiesFrom least (pos n) field → Ends n 1 field.lo field.hi
+natural_ends n least field h f = record { order = field.ordered; low = record { low = omega (arith, ints, f.from); high = omega (arith, ints, f.to, field.ordered) }; high = record { low = omega (arith, ints, f.from, field.ordered); high = f.to }; width = omega (arith, ints, f.narrow) }
+
+pub sine_ends : (ml mh el eh xl xh sl sh : ℤ) → ml ≤ℤ mh → eh ≤ℤ (el +ℤ pos 1) → sl ≤ℤ sh → (xh -ℤ xl) ≤ℤ (pos 2 *ℤ ((mh -ℤ ml) +ℤ (eh -ℤ el)) +ℤ pos 64) → (sh -ℤ sl) ≤ℤ ((xh -ℤ xl) +ℤ pos 16) → IsWithin (unit + 8) sl → IsWithin (unit + 8) sh → Ends (unit + 8) (2 * width ml mh + 82) sl sh
+sine_ends ml mh el eh xl xh sl sh o n p f g v w = record { order = p; low = v; high = w; width = omega (arith, ints) }
