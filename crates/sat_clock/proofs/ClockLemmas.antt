@@ -1,23 +1,18 @@
 -- Ends of the lines of the clock chain, from the ends of their factors.
-use Rattle.std.proofs.Common.{◌≡◌, ℕ, ◌+◌, ◌*◌, ◌/◌, ◌^◌, ◌≤◌, arith}
-use Rattle.std.specs.Prelude.{ℤ, pos, neg_ℤ, nat_abs, ◌+ℤ◌, ◌-ℤ◌, ◌*ℤ◌, ◌≤ℤ◌}
+use Rattle.std.proofs.Common.{◌≡◌, ℕ, ◌+◌, ◌*◌, ◌≤◌, arith}
+use Rattle.std.specs.Prelude.{ℤ, pos, neg_ℤ, ◌+ℤ◌, ◌-ℤ◌, ◌*ℤ◌, ◌≤ℤ◌, ◌<ℤ◌}
 use Rattle.std.proofs.lemmas.Int.{ints}
 use Rattle.sat_model.specs.Angles.{unit}
 use Rattle.sat_model.specs.ClockChain.{IsEarlier}
 use Rattle.sat_model.specs.Intervals.{Between, Ends}
 use Rattle.sat_model.specs.Sizes.{IsWithin}
-use Rattle.sat_model.specs.RecordBounds.{IsField, LiesFrom, clock_reach}
+use Rattle.sat_model.specs.RecordBounds.{IsField, LiesFrom, clock_reach, time_bound}
 use Rattle.sat_model.specs.declared.spans.Wide.{Wide}
-use Rattle.sat_model.proofs.IntervalLemmas.{ends_of}
-use Rattle.sat_clock.specs.ClockSizes.{ephemeris_reach, since_size, motion_size, motion_width, width}
+use Rattle.sat_clock.specs.ClockSizes.{ephemeris_reach, since_size, sent_size, motion_size, motion_width, width}
 
 -- a field's numbers
 pub field_ends : (n : ℕ) (field : Wide) → IsField n field → Ends n 1 field.lo field.hi
 field_ends n field f = record { order = field.ordered; low = record { low = f.from; high = omega (arith, ints, f.to, field.ordered) }; high = record { low = omega (arith, ints, f.from, field.ordered); high = f.to }; width = omega (arith, ints, f.narrow) }
-
--- wider ends
-pub ends_up : (m n v w : ℕ) (a b : ℤ) → m ≤ n → v ≤ w → Ends m v a b → Ends n w a b
-ends_up m n v w a b h k e = record { order = e.order; low = record { low = omega (arith, ints, e.low.low); high = omega (arith, ints, e.low.high) }; high = record { low = omega (arith, ints, e.high.low); high = omega (arith, ints, e.high.high) }; width = omega (arith, ints, e.width) }
 
 -- how far apart the ends are
 pub ends_width : (n w : ℕ) (a b : ℤ) → Ends n w a b → width a b ≤ w
@@ -61,3 +56,13 @@ natural_ends n least field h f = record { order = field.ordered; low = record { 
 
 pub sine_ends : (ml mh el eh xl xh sl sh : ℤ) → ml ≤ℤ mh → eh ≤ℤ (el +ℤ pos 1) → sl ≤ℤ sh → (xh -ℤ xl) ≤ℤ (pos 2 *ℤ ((mh -ℤ ml) +ℤ (eh -ℤ el)) +ℤ pos 64) → (sh -ℤ sl) ≤ℤ ((xh -ℤ xl) +ℤ pos 16) → IsWithin (unit + 8) sl → IsWithin (unit + 8) sh → Ends (unit + 8) (2 * width ml mh + 82) sl sh
 sine_ends ml mh el eh xl xh sl sh o n p f g v w = record { order = p; low = v; high = w; width = omega (arith, ints) }
+
+-- ---- tsv is a time after the start of GPS time
+
+pub sent_ends : (lo hi start early late toc : ℤ) → lo ≤ℤ hi → neg_ℤ (pos ephemeris_reach) ≤ℤ (lo -ℤ (start +ℤ late)) → (hi -ℤ (start +ℤ early)) ≤ℤ pos ephemeris_reach → IsWithin clock_reach (toc -ℤ (start +ℤ early)) → IsWithin clock_reach (toc -ℤ (start +ℤ late)) → pos 0 ≤ℤ toc → toc <ℤ pos time_bound → Ends sent_size (width lo hi) lo hi
+sent_ends lo hi start early late toc o f g v w p q = record {
+  order = o;
+  low = record { low = omega (arith, ints, w.high); high = omega (arith, ints, v.low) };
+  high = record { low = omega (arith, ints, w.high); high = omega (arith, ints, v.low) };
+  width = omega (arith, ints);
+}

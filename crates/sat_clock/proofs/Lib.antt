@@ -1,2 +1,3 @@
 pub mod MotionLemmas
 pub mod ClockLemmas
+pub mod RelativityLemmas

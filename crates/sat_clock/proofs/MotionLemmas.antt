@@ -72,10 +72,14 @@ cube_positive s h = mul-le 1 1 (s * s) s (mul-le 1 1 s s h h) h
 cubes_positive : (s : ℕ) → 0 < s → 0 < (s * s * s) * (s * s * s)
 cubes_positive s h = mul-le 1 1 (s * s * s) (s * s * s) (cube_positive s h) (cube_positive s h)
 
-pub motion_exists : (s : ℕ) → 0 < s → (n : ℕ) × IsComputedMotion (pos s) n
+motion_exists : (s : ℕ) → 0 < s → (n : ℕ) × IsComputedMotion (pos s) n
 motion_exists s h =
     let p = (s * s * s) * (s * s * s) in
     (root (mu / p), record { low = in_le _ s mu (root_between mu p (cubes_positive s h)); high = in_lt _ s mu (root_above mu p (cubes_positive s h)) })
+
+pub root_has_motion : (r : ℤ) → pos 0 <ℤ r → (n : ℕ) × IsComputedMotion r n
+root_has_motion (pos s) h = motion_exists s (omega (arith, ints))
+root_has_motion (negsuc s) h = absurd (omega (arith, ints))
 
 -- ---- the quotient by a cube, rounded
 

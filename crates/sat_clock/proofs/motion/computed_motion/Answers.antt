@@ -1,5 +1,5 @@
-use Rattle.std.proofs.Common.{ℕ, arith, rules, ◌≤◌, FitsSigned, ◌+◌}
-use Rattle.std.specs.Prelude.{ℤ, pos, nat_abs, ◌≤ℤ◌}
+use Rattle.std.proofs.Common.{arith, rules, ◌≤◌, FitsSigned, ◌+◌}
+use Rattle.std.specs.Prelude.{pos, nat_abs, ◌≤ℤ◌}
 use Rattle.std.specs.Int.{w128}
 use Rattle.std.proofs.lemmas.Int.{ints, to_z-of_z}
 use Rattle.sat_model.specs.Intervals.{Between}

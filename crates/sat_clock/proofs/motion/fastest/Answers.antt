@@ -1,4 +1,4 @@
-use Rattle.std.proofs.Common.{◌^◌, ◌<◌, arith}
+use Rattle.std.proofs.Common.{◌^◌}
 use Rattle.sat_clock.proofs.MotionLemmas.{root_of_gravity, fastest_holds, fastest_tight, cube_not_none}
 use Rattle.sat_clock.proofs.motion.fastest.Goals as goal
 

@@ -1,7 +1,8 @@
 use Rattle.std.proofs.Common.{◌≤◌, ◌+◌, ◌*◌, arith, lit≤}
 use Rattle.std.specs.Prelude.{◌+ℤ◌, ◌-ℤ◌}
+use Rattle.sat_model.proofs.EndsLemmas.{wider_ends}
 use Rattle.sat_clock.specs.ClockSizes.{width}
-use Rattle.sat_clock.proofs.ClockLemmas.{ends_width, ends_up}
+use Rattle.sat_clock.proofs.ClockLemmas.{ends_width}
 use Rattle.sat_clock.proofs.relativity.relativistic.Goals as goal
 
 pub returns-clause-holds : goal.returns-clause-holds
@@ -15,4 +16,4 @@ returns-clause-ends c =
     let x : width c.after.result.lo c.after.result.hi ≤ width c.args.tsv.lo c.args.tsv.hi + width c.args.base.lo c.args.base.hi + 6 = ends_width _ _ _ _ c.after.ensures.ends in
     let y : width c.mean_anomaly-mean.result.lo c.mean_anomaly-mean.result.hi ≤ 2 * width c.after.result.lo c.after.result.hi + 66 = ends_width _ _ _ _ c.mean_anomaly-mean.ensures.ends in
     let z : width c.sine_of_eccentric.result.lo c.sine_of_eccentric.result.hi ≤ 2 * width c.mean_anomaly-mean.result.lo c.mean_anomaly-mean.result.hi + 82 = ends_width _ _ _ _ c.sine_of_eccentric.ensures.ends in
-    ends_up _ _ _ _ _ _ (lit≤ tt) (omega arith) c.relative.ensures.ends
+    wider_ends _ _ _ _ _ _ (lit≤ tt) (omega arith) c.relative.ensures.ends

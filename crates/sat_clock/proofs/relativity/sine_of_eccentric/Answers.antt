@@ -1,5 +1,3 @@
-use Rattle.std.proofs.Common.{arith}
-use Rattle.std.proofs.lemmas.Int.{ints}
 use Rattle.sat_model.specs.Intervals.{Between}
 use Rattle.sat_clock.proofs.ClockLemmas.{sine_ends}
 use Rattle.sat_clock.proofs.relativity.sine_of_eccentric.Goals as goal

@@ -1,5 +1,4 @@
-use Rattle.std.proofs.Common.{◌≡◌, arith}
-use Rattle.std.specs.Prelude.{◌+ℤ◌, ◌-ℤ◌}
+use Rattle.std.proofs.Common.{arith}
 use Rattle.std.proofs.lemmas.Int.{ints}
 use Rattle.sat_clock.proofs.ClockLemmas.{ephemeris_ends, ephemeris_between}
 use Rattle.sat_clock.proofs.times.since_ephemeris.Goals as goal
