@@ -8,9 +8,11 @@ mod drift;
 mod existence;
 mod motion;
 mod relativity;
-mod times;
+#[cfg(test)]
+mod records;
 #[cfg(test)]
 mod tests;
+mod times;
 
 pub use clock::{Clock, correction};
 pub use existence::clock_exists;
