@@ -166,10 +166,10 @@ cube_not_none c a h k = omega (arith, least_cube a h)
 pub motions_apart : (l h s r : ℕ) → 5 * 10 ^ 15 ≤ s → s ≤ 7 * 10 ^ 15 → r ≤ s + 1 → root_of_gravity * 10 ^ 29 < (l + 1) * (r * r * r + 2 * 10 ^ 29) → h * (s * s * s) ≤ root_of_gravity * 10 ^ 29 + h * (2 * 10 ^ 29) → h ≤ 17 * 10 ^ 17 → h ≤ l + 4095
 motions_apart l h s r f g i a b j = ⊎_elim
     (λ (k : l < h).
-      let d = h - (l + 1) in
-      let e : h ≡ l + 1 + d = omega arith in
-      let x : d ≤ 4094 = quotients_apart scale h d (lit≤ tt) j (cubes_apart root_of_gravity scale l h (12 * 10 ^ 17) d (s * s * s) (r * r * r) a (cube_grows s r g i) b (least_cube s f) e) in
-      omega arith)
+    let d = h - (l + 1) in
+    let e : h ≡ l + 1 + d = omega arith in
+    let x : d ≤ 4094 = quotients_apart scale h d (lit≤ tt) j (cubes_apart root_of_gravity scale l h (12 * 10 ^ 17) d (s * s * s) (r * r * r) a (cube_grows s r g i) b (least_cube s f) e) in
+    omega arith)
     (λ (k : h ≤ l). omega arith) (cases_lt l h)
 
 -- ---- a record's root

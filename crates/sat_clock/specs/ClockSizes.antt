@@ -69,7 +69,11 @@ relative_size = rounded_size height_size relativity (10 ^ 19)
 abbrev pub correction_size : ℕ
 correction_size = 5 * 10 ^ 14
 
--- t, in ps
+-- how far t may be from tsv: a second in ps
+abbrev pub sent_reach : ℕ
+sent_reach = 10 ^ 12
+
+-- tsv and t, in ps
 abbrev pub sent_size : ℕ
 sent_size = 10 ^ 22
 

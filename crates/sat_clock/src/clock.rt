@@ -1,11 +1,11 @@
 //! The satellite's clock.
 
-ghost use Rattle.std.specs.Prelude.{ℤ, pos, ◌-ℤ◌, ◌≤ℤ◌};
+ghost use Rattle.std.specs.Prelude.{ℤ, pos, ◌+ℤ◌, ◌-ℤ◌, ◌≤ℤ◌};
 ghost use Rattle.sat_model.specs.ClockChain.{ClockChain};
 ghost use Rattle.sat_model.specs.Intervals.{Between};
 ghost use Rattle.sat_model.specs.MeanMotion.{MeanMotion};
 ghost use Rattle.sat_model.specs.Sizes.{IsWithin};
-ghost use Rattle.sat_clock.specs.ClockSizes.{IsNearEphemeris, correction_size};
+ghost use Rattle.sat_clock.specs.ClockSizes.{IsNearEphemeris, correction_size, sent_reach};
 
 use crate::drift::base;
 use crate::relativity::relativistic;
@@ -32,6 +32,10 @@ pub fn correction(el: &Elements, tsv: Exact, single: bool) -> Clock
     // Within 0.05 s.
     ensures low_size { IsWithin correction_size result.dt.lo }
     ensures high_size { IsWithin correction_size result.dt.hi }
+
+    // Within a second of tsv.
+    ensures early { (tsv.lo -ℤ pos sent_reach) ≤ℤ result.t.lo }
+    ensures late { result.t.hi ≤ℤ (tsv.hi +ℤ pos sent_reach) }
 
     // For a signal whose time is known to 8 ps.
     ensures narrow_dt { (tsv.hi -ℤ tsv.lo) ≤ℤ pos 8 → (result.dt.hi -ℤ result.dt.lo) ≤ℤ pos 64 }

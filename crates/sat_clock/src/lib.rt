@@ -7,9 +7,9 @@ mod clock;
 mod drift;
 mod existence;
 mod motion;
-mod relativity;
 #[cfg(test)]
 mod records;
+mod relativity;
 #[cfg(test)]
 mod tests;
 mod times;

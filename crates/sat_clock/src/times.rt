@@ -24,7 +24,7 @@ pub(crate) fn since_clock(el: &Elements, tsv: Exact) -> Exact
 }
 
 // The ephemeris time.
-fn ephemeris_time(el: &Elements) -> Exact
+pub(crate) fn ephemeris_time(el: &Elements) -> Exact
     ensures low { result.lo ≡ el.now.week_start +ℤ el.now.toe_week.lo }
     ensures high { result.hi ≡ el.now.week_start +ℤ el.now.toe_week.hi }
 {
@@ -51,8 +51,11 @@ pub(crate) fn earlier(time: Exact, offset: Exact) -> Exact
     requires offset_high_size { IsWithin (10 ^ 37) offset.hi }
     ensures holds { (a b t : ℤ) → Between time.lo time.hi a → Between offset.lo offset.hi b → IsEarlier a b t → Between result.lo result.hi t }
 
-    // For amounts m, n and widths v, w of the two: the offset is at most j ps and at most k wide.
+    // For amounts m, n and widths v, w of the two: the offset is at most j ps and at most k
+    // wide.
     ensures ends { (m v n w j k : ℕ) → Ends m v time.lo time.hi → Ends n w offset.lo offset.hi → n ≤ j * 10 ^ 4 → w ≤ k * 10 ^ 4 → Ends (m + (j + 2)) (v + (k + 4)) result.lo result.hi }
+    ensures early { (n w j : ℕ) → Ends n w offset.lo offset.hi → n ≤ j * 10 ^ 4 → (time.lo -ℤ pos (j + 2)) ≤ℤ result.lo }
+    ensures late { (n w j : ℕ) → Ends n w offset.lo offset.hi → n ≤ j * 10 ^ 4 → result.hi ≤ℤ (time.hi +ℤ pos (j + 2)) }
 {
     time.minus(offset.times_over(Exact { lo: 1, hi: 1 }, PS))
 }

@@ -1,10 +1,10 @@
-use Rattle.std.proofs.Common.{◌≡◌, ℕ, ◌≤◌, ◌+◌, arith, lit≤}
-use Rattle.std.specs.Prelude.{ℤ, ◌+ℤ◌}
+use Rattle.std.proofs.Common.{◌≡◌, ℕ, ◌≤◌, ◌+◌, ◌*◌, ◌/◌, ◌^◌, arith, lit≤}
+use Rattle.std.specs.Prelude.{ℤ, pos, ◌+ℤ◌, ◌-ℤ◌, ◌*ℤ◌, ◌≤ℤ◌}
 use Rattle.std.proofs.lemmas.Int.{ints}
 use Rattle.sat_model.specs.Intervals.{Between, Ends}
 use Rattle.sat_model.proofs.EndsLemmas.{sum_ends}
 use Rattle.sat_model.proofs.ProductLemmas.{larger}
-use Rattle.sat_clock.specs.ClockSizes.{base_size, relative_size, sent_size, width}
+use Rattle.sat_clock.specs.ClockSizes.{base_size, relative_size, sent_reach, sent_size, width}
 use Rattle.sat_clock.proofs.ClockLemmas.{sent_ends, ends_width}
 use Rattle.sat_clock.proofs.clock.correction.Goals as goal
 
@@ -55,3 +55,19 @@ returns-clause-narrow_t c h =
     let e = c.earlier-t.ensures.ends sent_size tsv (base_size + relative_size) _ (base_size + relative_size) 1
     (sent_ends c.args.tsv.lo c.args.tsv.hi el.week_start el.toe_week.lo el.toe_week.hi el.toc c.args.tsv.ordered c.requires.near.low c.requires.near.high el.toc_near.low el.toc_near.high el.toc_from el.toc_under) dt (lit≤ tt) (omega arith) in
     omega (arith, ints, e.width)
+
+earlier_by : (a b : ℤ) (n : ℕ) → n ≤ sent_reach → (a -ℤ pos n) ≤ℤ b → (a -ℤ pos sent_reach) ≤ℤ b
+earlier_by a b n h k = omega (arith, ints)
+
+later_by : (a b : ℤ) (n : ℕ) → n ≤ sent_reach → b ≤ℤ (a +ℤ pos n) → b ≤ℤ (a +ℤ pos sent_reach)
+later_by a b n h k = omega (arith, ints)
+
+pub returns-clause-early : goal.returns-clause-early
+returns-clause-early c =
+    let dt = dt_ends _ _ _ _ _ _ _ _ c.plus-dt.ensures.low c.plus-dt.ensures.high c.base-base.ensures.ends c.relativistic.ensures.ends in
+    earlier_by c.args.tsv.lo c.earlier-t.result.lo ((base_size + relative_size) / 10 ^ 4 + 1 + 2) (lit≤ tt) (c.earlier-t.ensures.early (base_size + relative_size) _ ((base_size + relative_size) / 10 ^ 4 + 1) dt (lit≤ tt))
+
+pub returns-clause-late : goal.returns-clause-late
+returns-clause-late c =
+    let dt = dt_ends _ _ _ _ _ _ _ _ c.plus-dt.ensures.low c.plus-dt.ensures.high c.base-base.ensures.ends c.relativistic.ensures.ends in
+    later_by c.args.tsv.hi c.earlier-t.result.hi ((base_size + relative_size) / 10 ^ 4 + 1 + 2) (lit≤ tt) (c.earlier-t.ensures.late (base_size + relative_size) _ ((base_size + relative_size) / 10 ^ 4 + 1) dt (lit≤ tt))

@@ -17,8 +17,8 @@ returns-clause-ends c =
     let w = width c.args.since.lo c.args.since.hi in
     wider_ends _ _ _ _ _ _ (lit≤ tt) (omega arith)
     (
-      c.advanced.ensures.ends drift_bound 1 ageing_bound 1 since_size w (ageing_bound * since_size / rate_scale + 1) (w + 1)
-      (rw (c.of_wide.ensures.low, c.of_wide.ensures.high) (field_ends _ _ c.args.el.now.af1_within))
-      (rw (c.of_wide-2.ensures.low, c.of_wide-2.ensures.high) (field_ends _ _ c.args.el.now.af2_within))
-      (ends_of since_size _ _ c.args.since.ordered c.requires.low_size c.requires.high_size) (lit≤ tt) (omega arith)
+    c.advanced.ensures.ends drift_bound 1 ageing_bound 1 since_size w (ageing_bound * since_size / rate_scale + 1) (w + 1)
+    (rw (c.of_wide.ensures.low, c.of_wide.ensures.high) (field_ends _ _ c.args.el.now.af1_within))
+    (rw (c.of_wide-2.ensures.low, c.of_wide-2.ensures.high) (field_ends _ _ c.args.el.now.af2_within))
+    (ends_of since_size _ _ c.args.since.ordered c.requires.low_size c.requires.high_size) (lit≤ tt) (omega arith)
     )

@@ -17,7 +17,7 @@ returns-clause-ends c =
     let w = width c.args.since.lo c.args.since.hi in
     wider_ends _ _ _ _ _ _ (lit≤ tt) (omega arith)
     (
-      c.advanced.ensures.ends offset_bound 1 drift_size (w + 6) since_size w (drift_size * since_size / rate_scale + 1) (w + 2)
-      (rw (c.of_wide.ensures.low, c.of_wide.ensures.high) (field_ends _ _ c.args.el.now.af0_within)) c.drift.ensures.ends
-      (ends_of since_size _ _ c.args.since.ordered c.requires.low_size c.requires.high_size) (lit≤ tt) (omega arith)
+    c.advanced.ensures.ends offset_bound 1 drift_size (w + 6) since_size w (drift_size * since_size / rate_scale + 1) (w + 2)
+    (rw (c.of_wide.ensures.low, c.of_wide.ensures.high) (field_ends _ _ c.args.el.now.af0_within)) c.drift.ensures.ends
+    (ends_of since_size _ _ c.args.since.ordered c.requires.low_size c.requires.high_size) (lit≤ tt) (omega arith)
     )

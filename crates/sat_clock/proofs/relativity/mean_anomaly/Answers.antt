@@ -19,7 +19,7 @@ returns-clause-ends c =
     let n = c.mean_motion.ensures in
     wider_ends _ _ _ _ _ _ (lit≤ tt) (omega arith)
     (
-      c.advanced.ensures.ends angle_bound 1 motion_size motion_width after_size w (motion_size * after_size / rate_scale + 1) (2 * w + 60)
-      (rw (c.of_wide.ensures.low, c.of_wide.ensures.high) (field_ends _ _ c.args.el.now.m0_within)) (motion_ends _ _ c.mean_motion.result.ordered n.low n.high n.width)
-      (ends_of after_size _ _ c.args.after.ordered c.requires.low_size c.requires.high_size) (lit≤ tt) (omega arith)
+    c.advanced.ensures.ends angle_bound 1 motion_size motion_width after_size w (motion_size * after_size / rate_scale + 1) (2 * w + 60)
+    (rw (c.of_wide.ensures.low, c.of_wide.ensures.high) (field_ends _ _ c.args.el.now.m0_within)) (motion_ends _ _ c.mean_motion.result.ordered n.low n.high n.width)
+    (ends_of after_size _ _ c.args.after.ordered c.requires.low_size c.requires.high_size) (lit≤ tt) (omega arith)
     )

@@ -1,5 +1,5 @@
 use Rattle.std.proofs.Common.{◌≡◌, ℕ, ◌^◌, ◌+◌, ◌*◌, ◌≤◌, arith}
-use Rattle.std.specs.Prelude.{ℤ, pos, ◌-ℤ◌, ◌*ℤ◌, ◌≤ℤ◌}
+use Rattle.std.specs.Prelude.{ℤ, pos, ◌+ℤ◌, ◌-ℤ◌, ◌*ℤ◌, ◌≤ℤ◌}
 use Rattle.std.proofs.lemmas.Int.{ints}
 use Rattle.sat_model.specs.ClockChain.{IsEarlier}
 use Rattle.sat_model.specs.Intervals.{Between, Ends}
@@ -47,3 +47,19 @@ returns-clause-ends c m v n w j k e f g h =
     rw (c.minus.ensures.low, c.minus.ensures.high)
     (difference_ends m v (j + 2) (k + 4) c.args.time.lo c.args.time.hi c.times_over.result.lo c.times_over.result.hi e
     (in_ps n w j k c.args.offset.lo c.args.offset.hi c.times_over.result.lo c.times_over.result.hi f g h c.times_over.result.ordered c.times_over.ensures.tight))
+
+early : (r time l h : ℤ) (j k : ℕ) → r ≡ time -ℤ h → Ends j k l h → (time -ℤ pos j) ≤ℤ r
+early r time l h j k e f = omega (arith, ints, f.high.high)
+
+late : (r time l h : ℤ) (j k : ℕ) → r ≡ time -ℤ l → Ends j k l h → r ≤ℤ (time +ℤ pos j)
+late r time l h j k e f = omega (arith, ints, f.low.low)
+
+pub returns-clause-early : goal.returns-clause-early
+returns-clause-early c n w j f g =
+    early c.minus.result.lo c.args.time.lo c.times_over.result.lo c.times_over.result.hi (j + 2) (w + 4) c.minus.ensures.low
+    (in_ps n w j w c.args.offset.lo c.args.offset.hi c.times_over.result.lo c.times_over.result.hi f g (omega arith) c.times_over.result.ordered c.times_over.ensures.tight)
+
+pub returns-clause-late : goal.returns-clause-late
+returns-clause-late c n w j f g =
+    late c.minus.result.hi c.args.time.hi c.times_over.result.lo c.times_over.result.hi (j + 2) (w + 4) c.minus.ensures.high
+    (in_ps n w j w c.args.offset.lo c.args.offset.hi c.times_over.result.lo c.times_over.result.hi f g (omega arith) c.times_over.result.ordered c.times_over.ensures.tight)
