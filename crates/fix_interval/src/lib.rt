@@ -3,6 +3,7 @@
 //! one unit of the exact result.
 #![tactic(auto)]
 
+mod advance;
 mod distance;
 mod ends;
 mod exact;
@@ -10,6 +11,7 @@ mod exact_interval;
 mod interval;
 mod place;
 
+pub use advance::advanced;
 pub use distance::squared_distance;
 pub use exact::Exact;
 pub use exact_interval::ExactArea;
