@@ -3,6 +3,7 @@
 //! one unit of the exact result.
 #![tactic(auto)]
 
+mod advance;
 mod distance;
 mod ends;
 mod exact;
@@ -11,6 +12,7 @@ mod interval;
 mod place;
 mod products;
 
+pub use advance::advanced;
 pub use distance::squared_distance;
 pub use exact::Exact;
 pub use exact_interval::ExactArea;
