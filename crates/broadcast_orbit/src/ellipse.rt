@@ -1,11 +1,12 @@
 //! Where the satellite is on the ellipse of its orbit.
 
-ghost use Rattle.std.specs.Prelude.{ℕ, ◌+◌, ◌*◌, ℤ, pos, ◌+ℤ◌, ◌-ℤ◌, ◌*ℤ◌, ◌≤ℤ◌, ◌<ℤ◌};
+ghost use Rattle.std.specs.Prelude.{ℕ, ◌+◌, ◌-◌, ◌*◌, ◌≤◌, ℤ, pos, ◌+ℤ◌, ◌-ℤ◌, ◌*ℤ◌, ◌≤ℤ◌, ◌<ℤ◌};
 ghost use Rattle.sat_model.specs.Angles.{unit};
 ghost use Rattle.sat_model.specs.ClockChain.{IsAdvanced};
 ghost use Rattle.sat_model.specs.Kepler.{Kepler};
 ghost use Rattle.sat_model.specs.OrbitChain.{OrbitFields, AreOrbitFields, Anomaly};
 ghost use Rattle.sat_model.specs.RecordBounds.{IsValue};
+ghost use Rattle.sat_model.specs.Roots.{IsRoot};
 ghost use Rattle.sat_model.specs.Rounding.{Near};
 ghost use Rattle.sat_model.specs.Sines.{Sine, Cosine};
 ghost use Rattle.fix_interval.specs.Factors.{Holds, HasEnds, HasAmount};
@@ -16,6 +17,9 @@ use crate::directions::{Direction, direction_of};
 use fix_interval::{Exact, UNIT, advanced, product};
 use kepler_enclosure::eccentric;
 use sat_model::{Elements, root_u128};
+
+// The square of one, in 10^-32.
+const SQUARE_OF_ONE: u128 = 100_000_000_000_000_000_000_000_000_000_000;
 
 /// The satellite on the ellipse.
 #[derive(Clone, Copy, Debug, PartialEq, Eq)]
@@ -63,15 +67,11 @@ fn ratio(e: Exact, cos_e: Exact) -> Exact
 }
 
 // sqrt(1 - e^2), cut off, for one eccentricity.
-fn flatness_of(e: i128) -> i128
-    requires low { pos 0 ≤ℤ e }
-    requires high { e ≤ℤ pos eccentricity_amount }
-    ensures low { pos 0 ≤ℤ result }
-    ensures high { result ≤ℤ pos unit }
-    ensures square { ((result *ℤ result) +ℤ (e *ℤ e)) ≤ℤ pos (unit * unit) }
-    ensures next { pos (unit * unit) <ℤ (((result +ℤ pos 1) *ℤ (result +ℤ pos 1)) +ℤ (e *ℤ e)) }
+fn flatness_of(e: u128) -> u64
+    requires { e ≤ eccentricity_amount }
+    ensures { IsRoot (unit * unit - e * e) result }
 {
-    i128::from(root_u128((UNIT * UNIT - e * e) as u128))
+    root_u128(SQUARE_OF_ONE - e * e)
 }
 
 // sqrt(1 - e^2), cut off
@@ -82,8 +82,8 @@ fn flatness(e: Exact) -> Exact
     ensures ends { HasEnds unit 1 result }
 {
     Exact {
-        lo: flatness_of(e.hi),
-        hi: flatness_of(e.lo),
+        lo: i128::from(flatness_of(e.hi as u128)),
+        hi: i128::from(flatness_of(e.lo as u128)),
     }
 }
 
