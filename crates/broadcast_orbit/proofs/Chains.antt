@@ -8,9 +8,11 @@ use Rattle.sat_model.specs.Intervals.{Between, Ends}
 use Rattle.sat_model.specs.RecordBounds.{LiesFrom, IsField, IsValue}
 use Rattle.sat_model.specs.Rounding.{Near}
 use Rattle.sat_model.specs.declared.spans.Wide.{Wide}
-use Rattle.sat_model.proofs.EndsLemmas.{sum_ends, difference_ends}
+use Rattle.sat_model.proofs.EndsLemmas.{sum_ends, difference_ends, wider_ends}
 use Rattle.fix_interval.specs.declared.exact.Exact.{Exact}
 use Rattle.fix_interval.specs.Factors.{Holds, HasEnds, HasAmount, Spread}
+use Rattle.broadcast_orbit.specs.Directions.{DirectionEnds, DirectionAmount, DirectionSpread}
+use Rattle.broadcast_orbit.specs.declared.directions.Direction.{Direction}
 
 pub amount_of : (n w : ℕ) (a b : ℤ) → Ends n w a b → Ends n (2 * n) a b
 amount_of n w a b e = let o = e.order in let l = e.low in let h = e.high in record { order = o; low = l; high = h; width = omega (arith, ints) }
@@ -74,3 +76,19 @@ sum_has m v n w a b c e f p q = rw (e, f) (sum_ends m v n w a.lo a.hi b.lo b.hi 
 
 pub difference_has : (m v n w : ℕ) (a b c : Exact) → c.lo ≡ a.lo -ℤ b.hi → c.hi ≡ a.hi -ℤ b.lo → HasEnds m v a → HasEnds n w b → HasEnds (m + n) (v + w) c
 difference_has m v n w a b c e f p q = rw (e, f) (difference_ends m v n w a.lo a.hi b.lo b.hi p q)
+
+-- ---- directions
+
+pub wider_directions : (m n v w : ℕ) (a : Direction) → m ≤ n → v ≤ w → DirectionEnds m v a → DirectionEnds n w a
+wider_directions m n v w a h k d = record { cosine = wider_ends m n v w a.cosine.lo a.cosine.hi h k d.cosine; sine = wider_ends m n v w a.sine.lo a.sine.hi h k d.sine }
+
+pub direction_amount : (n w : ℕ) (a : Direction) → DirectionEnds n w a → DirectionAmount n a
+direction_amount n w a d = record { cosine = amount_of n w a.cosine.lo a.cosine.hi d.cosine; sine = amount_of n w a.sine.lo a.sine.hi d.sine }
+
+pub direction_spread : (m v n w n' w' k j l i : ℕ) (a b : Direction) → DirectionEnds m v a → HasEnds n w b.cosine → HasEnds n' w' b.sine → m * n ≤ k * unit → m * w + n * v ≤ j * unit → m * n' ≤ l * unit → m * w' + n' * v ≤ i * unit → DirectionSpread k j l i a b
+direction_spread m v n w n' w' k j l i a b d p q e f g h = record {
+  cosines = spread m v n w k j a.cosine b.cosine d.cosine p e f;
+  sines = spread m v n' w' l i a.sine b.sine d.sine q g h;
+  sine_cosine = spread m v n w k j a.sine b.cosine d.sine p e f;
+  cosine_sine = spread m v n' w' l i a.cosine b.sine d.cosine q g h;
+}

@@ -1,22 +1,19 @@
 -- The sine of a small angle is small, and so are the ends of an interval of such sines.
-use Rattle.std.proofs.Common.{◌≡◌, ℕ, ◌+◌, ◌*◌, ◌≤◌, arith, refl, subst}
+use Rattle.std.proofs.Common.{◌≡◌, ℕ, ◌+◌, ◌*◌, ◌≤◌, arith, inl}
 use Rattle.std.specs.Prelude.{ℤ, pos, ◌+ℤ◌, ◌-ℤ◌, ◌≤ℤ◌}
 use Rattle.std.proofs.lemmas.Int.{ints}
 use Rattle.sat_model.specs.Angles.{unit}
 use Rattle.sat_model.specs.Sizes.{IsWithin}
 use Rattle.sat_model.specs.Intervals.{Between, Close, Ends}
 use Rattle.sat_model.specs.Sines.{Sine}
+use Rattle.sat_model.specs.Taylor.{SineAt}
 use Rattle.sat_model.proofs.IntervalLemmas.{low_member}
-use Rattle.interval_trig.specs.NestedSums.{sine_whole}
 use Rattle.interval_trig.proofs.Existence.{sine_exists}
 use Rattle.interval_trig.proofs.Smoothness.{sine_smooth}
 
-zero_is : (sine_exists (pos 0)).0 ≡ pos 0
-unfolding sine_whole
-zero_is = refl
-
 sine_of_zero : Sine (pos 0) (pos 0)
-sine_of_zero = subst (λ (z : ℤ). Sine (pos 0) z) zero_is (sine_exists (pos 0)).1
+unfolding Sine SineAt
+sine_of_zero = (pos 0, record { within = record { low = record { le = tt }; high = record { le = tt } } }, record { low = inl (record { le = tt }); high = inl (record { le = tt }) })
 
 near_zero : (n : ℕ) (x : ℤ) → IsWithin n x → Close n x (pos 0)
 near_zero n x w = record { below = omega (arith, ints, w.low, w.high); above = omega (arith, ints, w.low, w.high) }

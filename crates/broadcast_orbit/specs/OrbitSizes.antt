@@ -113,6 +113,10 @@ latitude_width = 3151
 
 -- ---- lengths, in um
 
+-- the root of the semi-major axis, in 10^-12 m^(1/2)
+abbrev pub root_a_amount : ℕ
+root_a_amount = 66 * 10 ^ 14
+
 abbrev pub axis_amount : ℕ
 axis_amount = 43560000000002
 

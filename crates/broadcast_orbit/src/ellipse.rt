@@ -1,6 +1,6 @@
 //! Where the satellite is on the ellipse of its orbit.
 
-ghost use Rattle.std.specs.Prelude.{ℕ, ◌+◌, ◌-◌, ◌*◌, ◌≤◌, ℤ, pos, ◌+ℤ◌, ◌-ℤ◌, ◌*ℤ◌, ◌≤ℤ◌, ◌<ℤ◌};
+ghost use Rattle.std.specs.Prelude.{ℕ, ◌≡◌, ◌+◌, ◌-◌, ◌*◌, ◌≤◌, ℤ, pos, ◌+ℤ◌, ◌-ℤ◌, ◌*ℤ◌, ◌≤ℤ◌, ◌<ℤ◌};
 ghost use Rattle.sat_model.specs.Angles.{unit};
 ghost use Rattle.sat_model.specs.ClockChain.{IsAdvanced};
 ghost use Rattle.sat_model.specs.Kepler.{Kepler};
@@ -66,6 +66,14 @@ fn ratio(e: Exact, cos_e: Exact) -> Exact
     one.minus(product(e, cos_e))
 }
 
+// A number that isn't negative.
+fn amount(e: i128) -> u128
+    requires { pos 0 ≤ℤ e }
+    ensures { pos result ≡ e }
+{
+    e as u128
+}
+
 // sqrt(1 - e^2), cut off, for one eccentricity.
 fn flatness_of(e: u128) -> u64
     requires { e ≤ eccentricity_amount }
@@ -82,8 +90,8 @@ fn flatness(e: Exact) -> Exact
     ensures ends { HasEnds unit 1 result }
 {
     Exact {
-        lo: i128::from(flatness_of(e.hi as u128)),
-        hi: i128::from(flatness_of(e.lo as u128)),
+        lo: i128::from(flatness_of(amount(e.hi))),
+        hi: i128::from(flatness_of(amount(e.lo))),
     }
 }
 

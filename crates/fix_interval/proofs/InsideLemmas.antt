@@ -1,13 +1,13 @@
 -- What holds every number near a fraction holds the fraction itself strictly between its ends. So it
 -- goes with sums, differences and products of fractions, and a number near one of these is held.
-use Rattle.std.proofs.Common.{◌≡◌, arith, sym, ap, ◌∙◌}
+use Rattle.std.proofs.Common.{◌≡◌, arith, sym, ap, ◌∙◌, subst}
 use Rattle.std.specs.Prelude.{ℤ, pos, neg_ℤ, ◌+ℤ◌, ◌-ℤ◌, ◌*ℤ◌, ◌≤ℤ◌, ◌<ℤ◌}
 use Rattle.std.specs.Int.{int_div_euclid}
 use Rattle.std.proofs.lemmas.Int.{ints, by_lt_z}
 use lib.IntN.{*ℤ_comm}
 use Rattle.sat_model.specs.Intervals.{Between}
 use Rattle.sat_model.specs.Rounding.{Near, IsFloor}
-use Rattle.sat_model.proofs.ProductLemmas.{mul_mono, mul_anti, mul_lt_back, add_mul, neg_mul, mul_assoc}
+use Rattle.sat_model.proofs.ProductLemmas.{mul_mono, mul_anti, mul_lt_back, add_mul, neg_mul, mul_neg, mul_assoc}
 use Rattle.sat_model.proofs.RoundingLemmas.{floor_is}
 
 -- num / den lies strictly between lo and hi
@@ -83,19 +83,25 @@ scaled_inside m d a b q p i =
     let t : ((m +ℤ pos 1) *ℤ q) ≤ℤ ((b *ℤ d) *ℤ q) = step m (b *ℤ d) (omega (arith, ints, i.high)) in
     record { low = omega (arith, ints, add_mul (a *ℤ d) (pos 1) q, mul_assoc a d q); high = omega (arith, ints, add_mul m (pos 1) q, mul_assoc b d q) }
 
--- m / q lies between lo and hi, and the products of these with y lie between a and b, over d
-pub product_inside : (m q y d lo hi a b : ℤ) → pos 0 <ℤ q → Inside m q lo hi → Inside (lo *ℤ y) d a b → Inside (hi *ℤ y) d a b → Inside (m *ℤ y) (d *ℤ q) a b
-product_inside m q y d lo hi a b p i j k =
-    let s = scaled_inside (lo *ℤ y) d a b q p j in
-    let t = scaled_inside (hi *ℤ y) d a b q p k in
-    let e : ((lo *ℤ y) *ℤ q) ≡ ((lo *ℤ q) *ℤ y) = mul_assoc lo y q ∙ ap (λ (z : ℤ). lo *ℤ z) (*ℤ_comm y q) ∙ sym (mul_assoc lo q y) in
-    let f : ((hi *ℤ y) *ℤ q) ≡ ((hi *ℤ q) *ℤ y) = mul_assoc hi y q ∙ ap (λ (z : ℤ). hi *ℤ z) (*ℤ_comm y q) ∙ sym (mul_assoc hi q y) in
+-- m / q lies between lo and hi, and t and the product of y with either of these between a and b, over d
+pub mixed_sum : (t m q y d lo hi a b : ℤ) → pos 0 <ℤ q → Inside m q lo hi → Inside (t +ℤ (lo *ℤ y)) d a b → Inside (t +ℤ (hi *ℤ y)) d a b → Inside ((t *ℤ q) +ℤ (m *ℤ y)) (d *ℤ q) a b
+mixed_sum t m q y d lo hi a b p i j k =
+    let s = scaled_inside (t +ℤ (lo *ℤ y)) d a b q p j in
+    let r = scaled_inside (t +ℤ (hi *ℤ y)) d a b q p k in
+    let swap = λ (x : ℤ). mul_assoc x y q ∙ ap (λ (z : ℤ). x *ℤ z) (*ℤ_comm y q) ∙ sym (mul_assoc x q y) in
+    let e : (t +ℤ (lo *ℤ y)) *ℤ q ≡ (t *ℤ q) +ℤ ((lo *ℤ q) *ℤ y) = add_mul t (lo *ℤ y) q ∙ ap (λ (z : ℤ). (t *ℤ q) +ℤ z) (swap lo) in
+    let f : (t +ℤ (hi *ℤ y)) *ℤ q ≡ (t *ℤ q) +ℤ ((hi *ℤ q) *ℤ y) = add_mul t (hi *ℤ y) q ∙ ap (λ (z : ℤ). (t *ℤ q) +ℤ z) (swap hi) in
     by_lt_z y (pos 0)
     (λ h.
-    let u : (m *ℤ y) ≤ℤ ((lo *ℤ q) *ℤ y) = mul_anti (lo *ℤ q) m y (omega (arith, ints, i.low)) (omega (arith, ints)) in
-    let v : ((hi *ℤ q) *ℤ y) ≤ℤ (m *ℤ y) = mul_anti m (hi *ℤ q) y (omega (arith, ints, i.high)) (omega (arith, ints)) in
-    record { low = omega (arith, ints, t.low); high = omega (arith, ints, s.high) })
+        let u : (m *ℤ y) ≤ℤ ((lo *ℤ q) *ℤ y) = mul_anti (lo *ℤ q) m y (omega (arith, ints, i.low)) (omega (arith, ints)) in
+        let v : ((hi *ℤ q) *ℤ y) ≤ℤ (m *ℤ y) = mul_anti m (hi *ℤ q) y (omega (arith, ints, i.high)) (omega (arith, ints)) in
+        record { low = omega (arith, ints, r.low); high = omega (arith, ints, s.high) })
     (λ h.
-    let u : ((lo *ℤ q) *ℤ y) ≤ℤ (m *ℤ y) = mul_mono (lo *ℤ q) m y (omega (arith, ints, i.low)) h in
-    let v : (m *ℤ y) ≤ℤ ((hi *ℤ q) *ℤ y) = mul_mono m (hi *ℤ q) y (omega (arith, ints, i.high)) h in
-    record { low = omega (arith, ints, s.low); high = omega (arith, ints, t.high) })
+        let u : ((lo *ℤ q) *ℤ y) ≤ℤ (m *ℤ y) = mul_mono (lo *ℤ q) m y (omega (arith, ints, i.low)) h in
+        let v : (m *ℤ y) ≤ℤ ((hi *ℤ q) *ℤ y) = mul_mono m (hi *ℤ q) y (omega (arith, ints, i.high)) h in
+        record { low = omega (arith, ints, s.low); high = omega (arith, ints, r.high) })
+
+pub mixed_difference : (t m q y d lo hi a b : ℤ) → pos 0 <ℤ q → Inside m q lo hi → Inside (t -ℤ (lo *ℤ y)) d a b → Inside (t -ℤ (hi *ℤ y)) d a b → Inside ((t *ℤ q) -ℤ (m *ℤ y)) (d *ℤ q) a b
+mixed_difference t m q y d lo hi a b p i j k =
+    let turn = λ (x : ℤ) (h : Inside (t -ℤ (x *ℤ y)) d a b). subst (λ (z : ℤ). Inside (t +ℤ z) d a b) (sym (mul_neg x y)) h in
+    subst (λ (z : ℤ). Inside ((t *ℤ q) +ℤ z) (d *ℤ q) a b) (mul_neg m y) (mixed_sum t m q (neg_ℤ y) d lo hi a b p i (turn lo j) (turn hi k))
