@@ -1,11 +1,11 @@
 -- What the equations of the chain share: the ends and the members of fields, of sums and of differences.
-use Rattle.std.proofs.Common.{◌≡◌, ℕ, ◌+◌, ◌*◌, ◌≤◌, arith, lit≤}
-use Rattle.std.specs.Prelude.{ℤ, pos, neg_ℤ, ◌+ℤ◌, ◌-ℤ◌, ◌*ℤ◌, ◌≤ℤ◌}
+use Rattle.std.proofs.Common.{◌≡◌, ℕ, ◌+◌, ◌*◌, ◌^◌, ◌≤◌, arith}
+use Rattle.std.specs.Prelude.{ℤ, pos, neg_ℤ, ◌+ℤ◌, ◌-ℤ◌, ◌*ℤ◌, ◌≤ℤ◌, ◌<ℤ◌}
 use Rattle.std.proofs.lemmas.Int.{ints}
 use Rattle.sat_model.specs.Angles.{unit}
 use Rattle.sat_model.specs.Sizes.{IsWithin}
 use Rattle.sat_model.specs.Intervals.{Between, Ends}
-use Rattle.sat_model.specs.RecordBounds.{LiesFrom, IsField, IsValue}
+use Rattle.sat_model.specs.RecordBounds.{LiesFrom, IsField, IsValue, time_bound, clock_reach}
 use Rattle.sat_model.specs.Rounding.{Near}
 use Rattle.sat_model.specs.declared.spans.Wide.{Wide}
 use Rattle.sat_model.proofs.EndsLemmas.{sum_ends, difference_ends, wider_ends}
@@ -92,3 +92,28 @@ direction_spread m v n w n' w' k j l i a b d p q e f g h = record {
   sine_cosine = spread m v n w k j a.sine b.cosine d.sine p e f;
   cosine_sine = spread m v n' w' l i a.cosine b.sine d.cosine q g h;
 }
+
+-- ---- one number added or taken off
+
+pub less_number : (m n w : ℕ) (a b l h : ℤ) → Ends n w a b → l ≡ a -ℤ pos m → h ≡ b -ℤ pos m → Ends (n + m) w l h
+less_number m n w a b l h p e f = let o = p.order in let x = p.low in let y = p.high in let z = p.width in record { order = omega (arith, ints); low = record { low = omega (arith, ints); high = omega (arith, ints) }; high = record { low = omega (arith, ints); high = omega (arith, ints) }; width = omega (arith, ints) }
+
+pub less_number_held : (m : ℕ) (a b l h x : ℤ) → l ≡ a -ℤ pos m → h ≡ b -ℤ pos m → Between a b x → Between l h (x -ℤ pos m)
+less_number_held m a b l h x e f p = record { from = omega (arith, ints, p.from); to = omega (arith, ints, p.to) }
+
+pub one_number : (m : ℕ) → Ends m 0 (pos m) (pos m)
+one_number m = record { order = omega (arith, ints); low = record { low = omega (arith, ints); high = omega (arith, ints) }; high = record { low = omega (arith, ints); high = omega (arith, ints) }; width = omega (arith, ints) }
+
+pub one_held : (x : ℤ) → Between x x x
+one_held x = record { from = omega (arith, ints); to = omega (arith, ints) }
+
+-- ---- the time from the ephemeris time
+
+pub start_size : (toc s l w : ℤ) → pos 0 ≤ℤ toc → toc <ℤ pos time_bound → IsWithin clock_reach (toc -ℤ (s +ℤ w)) → l ≡ w → IsWithin (10 ^ 38) (s +ℤ l)
+start_size toc s l w h k n e = record { low = omega (arith, ints, n.low, n.high); high = omega (arith, ints, n.low, n.high) }
+
+pub after_held : (tl th s wl wh ol oh pl ph rl rh time toe : ℤ) → ol ≡ wl → oh ≡ wh → pl ≡ s +ℤ ol → ph ≡ s +ℤ oh → rl ≡ tl -ℤ ph → rh ≡ th -ℤ pl → Between tl th time → Between wl wh toe → Between rl rh (time -ℤ (s +ℤ toe))
+after_held tl th s wl wh ol oh pl ph rl rh time toe e f g h i j p q = record { from = omega (arith, ints, p.from, q.to); to = omega (arith, ints, p.to, q.from) }
+
+pub after_ends : (tl th s wl wh ol oh pl ph rl rh : ℤ) (d v w : ℕ) → tl ≤ℤ th → ol ≤ℤ oh → ol ≡ wl → oh ≡ wh → pl ≡ s +ℤ ol → ph ≡ s +ℤ oh → rl ≡ tl -ℤ ph → rh ≡ th -ℤ pl → neg_ℤ (pos d) ≤ℤ (tl -ℤ (s +ℤ wh)) → (th -ℤ (s +ℤ wl)) ≤ℤ pos d → wh ≤ℤ (wl +ℤ pos w) → (th -ℤ tl) ≤ℤ pos v → Ends d (v + w) rl rh
+after_ends tl th s wl wh ol oh pl ph rl rh d v w o o' e f g h i j x y z u = record { order = omega (arith, ints); low = record { low = omega (arith, ints); high = omega (arith, ints) }; high = record { low = omega (arith, ints); high = omega (arith, ints) }; width = omega (arith, ints) }
