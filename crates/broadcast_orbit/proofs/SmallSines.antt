@@ -1,5 +1,5 @@
 -- The sine of a small angle is small, and so are the ends of an interval of such sines.
-use Rattle.std.proofs.Common.{◌≡◌, ℕ, ◌+◌, ◌*◌, ◌≤◌, arith, inl}
+use Rattle.std.proofs.Common.{ℕ, ◌+◌, ◌≤◌, arith, inl}
 use Rattle.std.specs.Prelude.{ℤ, pos, ◌+ℤ◌, ◌-ℤ◌, ◌≤ℤ◌}
 use Rattle.std.proofs.lemmas.Int.{ints}
 use Rattle.sat_model.specs.Angles.{unit}

@@ -13,9 +13,7 @@ ghost use Rattle.broadcast_orbit.specs.OrbitSizes.{orbit_reach, after_width, val
 
 use crate::directions::{Direction, direction_of};
 use crate::plane::PlanePoint;
-use fix_interval::{
-    Exact, Place, advanced, difference_of_products, product, sum_of_products,
-};
+use fix_interval::{Exact, Place, advanced, difference_of_products, product, sum_of_products};
 use sat_model::Elements;
 
 // The earth's rotation rate, in 10^-22 rad/s.
@@ -76,7 +74,12 @@ fn turned_out(point: PlanePoint, tilt: Direction, node: Direction) -> Place
 
 // The place in the earth-fixed frame, `after` ps behind the ephemeris time, of a point of the
 // plane of the orbit.
-pub(crate) fn earth_fixed(el: &Elements, after: Exact, correction: Exact, point: PlanePoint) -> Place
+pub(crate) fn earth_fixed(
+    el: &Elements,
+    after: Exact,
+    correction: Exact,
+    point: PlanePoint,
+) -> Place
     requires after_size { HasAmount orbit_reach after }
     requires correction_size { HasAmount angle_swing_amount correction }
     requires x_size { HasAmount plane_amount point.x }

@@ -93,13 +93,13 @@ mixed_sum t m q y d lo hi a b p i j k =
     let f : (t +ℤ (hi *ℤ y)) *ℤ q ≡ (t *ℤ q) +ℤ ((hi *ℤ q) *ℤ y) = add_mul t (hi *ℤ y) q ∙ ap (λ (z : ℤ). (t *ℤ q) +ℤ z) (swap hi) in
     by_lt_z y (pos 0)
     (λ h.
-        let u : (m *ℤ y) ≤ℤ ((lo *ℤ q) *ℤ y) = mul_anti (lo *ℤ q) m y (omega (arith, ints, i.low)) (omega (arith, ints)) in
-        let v : ((hi *ℤ q) *ℤ y) ≤ℤ (m *ℤ y) = mul_anti m (hi *ℤ q) y (omega (arith, ints, i.high)) (omega (arith, ints)) in
-        record { low = omega (arith, ints, r.low); high = omega (arith, ints, s.high) })
+    let u : (m *ℤ y) ≤ℤ ((lo *ℤ q) *ℤ y) = mul_anti (lo *ℤ q) m y (omega (arith, ints, i.low)) (omega (arith, ints)) in
+    let v : ((hi *ℤ q) *ℤ y) ≤ℤ (m *ℤ y) = mul_anti m (hi *ℤ q) y (omega (arith, ints, i.high)) (omega (arith, ints)) in
+    record { low = omega (arith, ints, r.low); high = omega (arith, ints, s.high) })
     (λ h.
-        let u : ((lo *ℤ q) *ℤ y) ≤ℤ (m *ℤ y) = mul_mono (lo *ℤ q) m y (omega (arith, ints, i.low)) h in
-        let v : (m *ℤ y) ≤ℤ ((hi *ℤ q) *ℤ y) = mul_mono m (hi *ℤ q) y (omega (arith, ints, i.high)) h in
-        record { low = omega (arith, ints, s.low); high = omega (arith, ints, r.high) })
+    let u : ((lo *ℤ q) *ℤ y) ≤ℤ (m *ℤ y) = mul_mono (lo *ℤ q) m y (omega (arith, ints, i.low)) h in
+    let v : (m *ℤ y) ≤ℤ ((hi *ℤ q) *ℤ y) = mul_mono m (hi *ℤ q) y (omega (arith, ints, i.high)) h in
+    record { low = omega (arith, ints, s.low); high = omega (arith, ints, r.high) })
 
 pub mixed_difference : (t m q y d lo hi a b : ℤ) → pos 0 <ℤ q → Inside m q lo hi → Inside (t -ℤ (lo *ℤ y)) d a b → Inside (t -ℤ (hi *ℤ y)) d a b → Inside ((t *ℤ q) -ℤ (m *ℤ y)) (d *ℤ q) a b
 mixed_difference t m q y d lo hi a b p i j k =

@@ -1,15 +1,15 @@
 -- Numbers near a fraction: there is one, how large it is, what is left when a whole number is taken off,
 -- and how an interval that holds all of them goes on through a product.
-use Rattle.std.proofs.Common.{◌≡◌, ℕ, ◌+◌, ◌*◌, arith, ap, ◌∙◌, sym, ◌⊎◌, inl, inr, ⊎_elim}
-use Rattle.std.specs.Prelude.{ℤ, pos, negsuc, ◌+ℤ◌, ◌-ℤ◌, ◌*ℤ◌, neg_ℤ, ◌≤ℤ◌, ◌<ℤ◌}
+use Rattle.std.proofs.Common.{◌≡◌, ℕ, ◌+◌, arith, ap, ◌∙◌, sym, ◌⊎◌, inl, inr, ⊎_elim}
+use Rattle.std.specs.Prelude.{ℤ, pos, ◌+ℤ◌, ◌-ℤ◌, ◌*ℤ◌, neg_ℤ, ◌≤ℤ◌, ◌<ℤ◌}
 use Rattle.std.specs.Int.{int_div_euclid}
 use Rattle.std.proofs.lemmas.Int.{ints, by_lt_z}
 use lib.IntN.{*ℤ_comm}
 use Rattle.sat_model.specs.Sizes.{IsWithin}
 use Rattle.sat_model.specs.Intervals.{Between, Ends}
 use Rattle.sat_model.specs.Products.{ProductsWithin, least_product, greatest_product}
-use Rattle.sat_model.specs.Rounding.{Near, IsTightRound, IsFloor}
-use Rattle.sat_model.proofs.ProductLemmas.{mul_mono, mul_anti, mul_le_back, mul_lt_back, add_mul, neg_mul, mul_neg, mul_assoc}
+use Rattle.sat_model.specs.Rounding.{Near, IsTightRound}
+use Rattle.sat_model.proofs.ProductLemmas.{mul_mono, mul_anti, mul_le_back, mul_lt_back, add_mul, neg_mul, mul_assoc}
 use Rattle.sat_model.proofs.IntervalLemmas.{low_member, high_member}
 use Rattle.sat_model.proofs.RoundingLemmas.{floor_is, floor_near}
 use Rattle.sat_model.proofs.SpreadLemmas.{least_has, greatest_has}

@@ -1,4 +1,4 @@
-use Rattle.std.proofs.Common.{◌+◌, arith}
+use Rattle.std.proofs.Common.{arith}
 use Rattle.std.proofs.lemmas.Int.{ints}
 use Rattle.broadcast_orbit.proofs.SmallSines.{small_ends}
 use Rattle.broadcast_orbit.proofs.directions.direction_of.Goals as goal

@@ -1,7 +1,7 @@
-use Rattle.std.proofs.Common.{arith, FitsSigned, rules, ◌≡◌}
+use Rattle.std.proofs.Common.{FitsSigned, rules, ◌≡◌}
 use Rattle.std.specs.Prelude.{pos}
 use Rattle.std.specs.Int.{w128}
-use Rattle.std.proofs.lemmas.Int.{ints, to_z-of_z}
+use Rattle.std.proofs.lemmas.Int.{to_z-of_z}
 use Rattle.broadcast_orbit.proofs.Flatness.{root_held, root_ends}
 use Rattle.broadcast_orbit.proofs.ellipse.flatness.Goals as goal
 

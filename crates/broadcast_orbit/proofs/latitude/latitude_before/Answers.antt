@@ -1,11 +1,7 @@
 use Rattle.std.proofs.Common.{◌*◌, lit≤}
-use Rattle.std.specs.Prelude.{ℕ}
 use Rattle.sat_model.specs.Angles.{unit}
 use Rattle.sat_model.specs.RecordBounds.{angle_bound}
-use Rattle.sat_model.proofs.EndsLemmas.{wider_ends}
-use Rattle.broadcast_orbit.specs.Directions.{DirectionEnds, DirectionAmount, DirectionSpread}
-use Rattle.broadcast_orbit.specs.OrbitSizes.{value_amount, true_amount, true_width, perigee_width, phi_amount}
-use Rattle.broadcast_orbit.specs.declared.directions.Direction.{Direction}
+use Rattle.broadcast_orbit.specs.OrbitSizes.{value_amount, true_amount, true_width, perigee_width}
 use Rattle.broadcast_orbit.proofs.Chains.{field_ends, value_held, wider_directions, direction_amount, direction_spread}
 use Rattle.broadcast_orbit.proofs.latitude.latitude_before.Goals as goal
 

@@ -1,7 +1,7 @@
-use Rattle.std.proofs.Common.{arith, FitsSigned, rules, ◌≡◌}
-use Rattle.std.specs.Prelude.{ℤ, pos, ◌+ℤ◌, ◌-ℤ◌}
+use Rattle.std.proofs.Common.{FitsSigned, rules, ◌≡◌}
+use Rattle.std.specs.Prelude.{◌+ℤ◌}
 use Rattle.std.specs.Int.{w128}
-use Rattle.std.proofs.lemmas.Int.{ints, to_z-of_z}
+use Rattle.std.proofs.lemmas.Int.{to_z-of_z}
 use Rattle.broadcast_orbit.specs.OrbitSizes.{orbit_reach, time_width}
 use Rattle.broadcast_orbit.proofs.Chains.{start_size, after_held, after_ends}
 use Rattle.broadcast_orbit.proofs.places.after.Goals as goal

@@ -1,4 +1,4 @@
-use Rattle.std.proofs.Common.{◌*◌, lit≤}
+use Rattle.std.proofs.Common.{lit≤}
 use Rattle.sat_model.proofs.EndsLemmas.{wider_ends}
 use Rattle.fix_interval.proofs.ProductEnds.{spread_by}
 use Rattle.broadcast_orbit.specs.OrbitSizes.{radius_amount, radius_width, latitude_amount, latitude_width}

@@ -1,4 +1,4 @@
-use Rattle.std.proofs.Common.{◌+◌, ◌*◌, ◌^◌, arith, lit≤}
+use Rattle.std.proofs.Common.{◌*◌, ◌^◌, arith, lit≤}
 use Rattle.std.specs.Prelude.{◌+ℤ◌}
 use Rattle.std.proofs.lemmas.Int.{ints}
 use Rattle.sat_model.specs.RecordBounds.{angle_bound, rate_bound}
