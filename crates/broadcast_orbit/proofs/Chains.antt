@@ -112,8 +112,8 @@ one_held x = record { from = omega (arith, ints); to = omega (arith, ints) }
 pub start_size : (toc s l w : ℤ) → pos 0 ≤ℤ toc → toc <ℤ pos time_bound → IsWithin clock_reach (toc -ℤ (s +ℤ w)) → l ≡ w → IsWithin (10 ^ 38) (s +ℤ l)
 start_size toc s l w h k n e = record { low = omega (arith, ints, n.low, n.high); high = omega (arith, ints, n.low, n.high) }
 
-pub after_held : (tl th s wl wh ol oh pl ph rl rh time toe : ℤ) → ol ≡ wl → oh ≡ wh → pl ≡ s +ℤ ol → ph ≡ s +ℤ oh → rl ≡ tl -ℤ ph → rh ≡ th -ℤ pl → Between tl th time → Between wl wh toe → Between rl rh (time -ℤ (s +ℤ toe))
-after_held tl th s wl wh ol oh pl ph rl rh time toe e f g h i j p q = record { from = omega (arith, ints, p.from, q.to); to = omega (arith, ints, p.to, q.from) }
+pub after_held : (tl th s wl wh pl ph rl rh time toe : ℤ) → pl ≡ s +ℤ wl → ph ≡ s +ℤ wh → rl ≡ tl -ℤ ph → rh ≡ th -ℤ pl → Between tl th time → Between wl wh toe → Between rl rh (time -ℤ (s +ℤ toe))
+after_held tl th s wl wh pl ph rl rh time toe g h i j p q = record { from = omega (arith, ints, p.from, q.to); to = omega (arith, ints, p.to, q.from) }
 
-pub after_ends : (tl th s wl wh ol oh pl ph rl rh : ℤ) (d v w : ℕ) → tl ≤ℤ th → ol ≤ℤ oh → ol ≡ wl → oh ≡ wh → pl ≡ s +ℤ ol → ph ≡ s +ℤ oh → rl ≡ tl -ℤ ph → rh ≡ th -ℤ pl → neg_ℤ (pos d) ≤ℤ (tl -ℤ (s +ℤ wh)) → (th -ℤ (s +ℤ wl)) ≤ℤ pos d → wh ≤ℤ (wl +ℤ pos w) → (th -ℤ tl) ≤ℤ pos v → Ends d (v + w) rl rh
-after_ends tl th s wl wh ol oh pl ph rl rh d v w o o' e f g h i j x y z u = record { order = omega (arith, ints); low = record { low = omega (arith, ints); high = omega (arith, ints) }; high = record { low = omega (arith, ints); high = omega (arith, ints) }; width = omega (arith, ints) }
+pub after_ends : (tl th s wl wh pl ph rl rh : ℤ) (d v w : ℕ) → tl ≤ℤ th → wl ≤ℤ wh → pl ≡ s +ℤ wl → ph ≡ s +ℤ wh → rl ≡ tl -ℤ ph → rh ≡ th -ℤ pl → neg_ℤ (pos d) ≤ℤ (tl -ℤ (s +ℤ wh)) → (th -ℤ (s +ℤ wl)) ≤ℤ pos d → wh ≤ℤ (wl +ℤ pos w) → (th -ℤ tl) ≤ℤ pos v → Ends d (v + w) rl rh
+after_ends tl th s wl wh pl ph rl rh d v w o o' g h i j x y z u = record { order = omega (arith, ints); low = record { low = omega (arith, ints); high = omega (arith, ints) }; high = record { low = omega (arith, ints); high = omega (arith, ints) }; width = omega (arith, ints) }

@@ -1,6 +1,6 @@
 //! The satellite's place at a time.
 
-ghost use Rattle.std.specs.Prelude.{ℤ, pos, neg_ℤ, ◌+ℤ◌, ◌-ℤ◌, ◌≤ℤ◌};
+ghost use Rattle.std.specs.Prelude.{◌≡◌, ℤ, pos, neg_ℤ, ◌+ℤ◌, ◌-ℤ◌, ◌≤ℤ◌};
 ghost use Rattle.sat_model.specs.OrbitChain.{OrbitChain};
 ghost use Rattle.sat_model.specs.RecordBounds.{IsValue};
 ghost use Rattle.sat_model.specs.Sizes.{IsWithin};
@@ -14,6 +14,18 @@ use crate::space::earth_fixed;
 use fix_interval::{Exact, Place};
 use sat_model::Elements;
 
+// The ephemeris time.
+pub(crate) fn ephemeris_time(el: &Elements) -> Exact
+    ensures low { result.lo ≡ el.now.week_start +ℤ el.now.toe_week.lo }
+    ensures high { result.hi ≡ el.now.week_start +ℤ el.now.toe_week.hi }
+{
+    let start = Exact {
+        lo: el.week_start,
+        hi: el.week_start,
+    };
+    start.plus(Exact::of_wide(el.toe_week))
+}
+
 // t_k = t - t_oe
 fn after(el: &Elements, t: Exact) -> Exact
     requires from { neg_ℤ (pos orbit_reach) ≤ℤ (t.lo -ℤ (el.now.week_start +ℤ el.now.toe_week.hi)) }
@@ -22,11 +34,7 @@ fn after(el: &Elements, t: Exact) -> Exact
     ensures amount { HasAmount orbit_reach result }
     ensures narrow { (t.hi -ℤ t.lo) ≤ℤ pos time_width → HasEnds orbit_reach after_width result }
 {
-    let start = Exact {
-        lo: el.week_start,
-        hi: el.week_start,
-    };
-    t.minus(start.plus(Exact::of_wide(el.toe_week)))
+    t.minus(ephemeris_time(el))
 }
 
 /// Every place of the satellite at a member of `t`, in um in the earth-fixed frame, with a member of
