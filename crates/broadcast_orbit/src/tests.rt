@@ -34,7 +34,10 @@ fn placed(rt: &impl Abort, el: &Elements, motion: i128, after: i128) -> Place {
     let toe = ephemeris_time(el);
     assert!(rt; toe.lo == toe.hi, "one ephemeris time");
     assert!(rt; 0 <= motion, "a motion that isn't negative");
-    assert!(rt; motion <= 2_000_000_000_000_000_000, "a motion that isn't too great");
+    assert!(rt;
+        motion <= 2_000_000_000_000_000_000,
+        "a motion that isn't too great"
+    );
     let motion = Exact {
         lo: motion,
         hi: motion,
