@@ -10,6 +10,7 @@ mod exact;
 mod exact_interval;
 mod interval;
 mod place;
+mod products;
 
 pub use advance::advanced;
 pub use distance::squared_distance;
@@ -17,6 +18,7 @@ pub use exact::Exact;
 pub use exact_interval::ExactArea;
 pub use interval::Interval;
 pub use place::Place;
+pub use products::{UNIT, difference_of_products, product, sum_of_products};
 
 #[cfg(test)]
 mod tests;

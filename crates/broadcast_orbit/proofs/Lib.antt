@@ -1,0 +1,4 @@
+pub mod Chains
+pub mod Flatness
+pub mod SmallSines
+pub mod ChainExists

@@ -1,0 +1,71 @@
+ghost use Rattle.std.specs.Prelude.{pos, neg_ℤ, ◌≤ℤ◌};
+ghost use Rattle.broadcast_orbit.specs.OrbitSizes.{orbit_reach};
+
+use crate::place;
+use crate::places::ephemeris_time;
+use crate::records::{circle, recorded};
+use crate::vectors::VECTORS;
+use fix_interval::{Exact, Place};
+use sat_model::Elements;
+use std::process::Abort;
+
+fn number(rt: &impl Abort, field: Option<&str>) -> i128 {
+    field.expect(rt, "a number").parse().expect(rt, "a number")
+}
+
+fn holds(x: Exact, n: i128) -> bool {
+    x.lo <= n && n <= x.hi
+}
+
+/// The 32 ps to both sides of a time, so many ps after the ephemeris time.
+fn around(rt: &impl Abort, after: i128) -> Exact
+    ensures low { neg_ℤ (pos orbit_reach) ≤ℤ result.lo }
+    ensures high { result.hi ≤ℤ pos orbit_reach }
+{
+    assert!(rt; -14_400_000_000_000_000 <= after, "not too early");
+    assert!(rt; after <= 14_400_000_000_000_000, "not too late");
+    Exact {
+        lo: after - 32,
+        hi: after + 32,
+    }
+}
+
+fn placed(rt: &impl Abort, el: &Elements, motion: i128, after: i128) -> Place {
+    let toe = ephemeris_time(el);
+    assert!(rt; toe.lo == toe.hi, "one ephemeris time");
+    assert!(rt; 0 <= motion, "a motion that isn't negative");
+    assert!(rt;
+        motion <= 2_000_000_000_000_000_000,
+        "a motion that isn't too great"
+    );
+    let motion = Exact {
+        lo: motion,
+        hi: motion,
+    };
+    place(el, motion, around(rt, after).plus(toe))
+}
+
+#[test]
+fn a_circle_over_the_equator(rt: HostRuntime) {
+    let at = placed(&rt, &circle(), 1_419_860_000_000_000_000, 0);
+    assert!(rt; holds(at.x, 27_040_000_000_000), "5,200^2 m");
+    assert!(rt; holds(at.y, 0), "no y");
+    assert!(rt; holds(at.z, 0), "no z");
+}
+
+#[test]
+fn places_of_a_recorded_satellite(rt: HostRuntime) {
+    assert_eq!(rt; VECTORS.lines().count(), 4, "rows");
+    let el = recorded();
+    for line in VECTORS.lines() {
+        let mut fields = line.split(' ');
+        let motion = number(&rt, fields.next());
+        let after = number(&rt, fields.next());
+        let at = placed(&rt, &el, motion, after);
+        for x in [at.x, at.y, at.z] {
+            let n = number(&rt, fields.next());
+            assert!(rt; holds(x, n), "the coordinate {n}");
+            assert!(rt; x.hi <= x.lo.saturating_add(500), "the width at {n}");
+        }
+    }
+}
