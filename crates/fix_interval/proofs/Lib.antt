@@ -1,0 +1,3 @@
+pub mod InsideLemmas
+pub mod NearLemmas
+pub mod ProductEnds

@@ -3,18 +3,22 @@
 //! one unit of the exact result.
 #![tactic(auto)]
 
+mod advance;
 mod distance;
 mod ends;
 mod exact;
 mod exact_interval;
 mod interval;
 mod place;
+mod products;
 
+pub use advance::advanced;
 pub use distance::squared_distance;
 pub use exact::Exact;
 pub use exact_interval::ExactArea;
 pub use interval::Interval;
 pub use place::Place;
+pub use products::{UNIT, difference_of_products, product, sum_of_products};
 
 #[cfg(test)]
 mod tests;

@@ -1,0 +1,3 @@
+pub mod Chains
+pub mod Flatness
+pub mod SmallSines
