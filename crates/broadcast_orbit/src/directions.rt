@@ -18,7 +18,7 @@ pub(crate) struct Direction {
     pub(crate) sine: Exact,
 }
 
-// The cosine and the sine of an angle.
+/// The cosine and the sine of an angle.
 pub(crate) fn direction_of(x: Exact) -> Direction
     requires { HasAmount (64 * unit) x }
     ensures holds { (a c s : ℤ) → Holds x a → Cosine a c → Sine a s → HoldsDirection result c s }
@@ -34,7 +34,7 @@ pub(crate) fn direction_of(x: Exact) -> Direction
     }
 }
 
-// The cosine and the sine of the sum of two angles.
+/// The cosine and the sine of the sum of two angles.
 pub(crate) fn joined(a: Direction, b: Direction) -> Direction
     requires a_size { DirectionAmount (10 * unit) a }
     requires b_size { DirectionAmount value_amount b }
@@ -47,7 +47,7 @@ pub(crate) fn joined(a: Direction, b: Direction) -> Direction
     }
 }
 
-// The cosine and the sine of twice an angle.
+/// The cosine and the sine of twice an angle.
 pub(crate) fn doubled(a: Direction) -> Direction
     requires { DirectionAmount phi_amount a }
     ensures holds { (c s p q : ℤ) → HoldsDirection a c s → IsDifferenceOf c c s s p → IsProduct (pos 2 *ℤ s) c q → HoldsDirection result p q }

@@ -18,7 +18,7 @@ use fix_interval::{Exact, UNIT, advanced, product};
 use kepler_enclosure::eccentric;
 use sat_model::{Elements, root_u128};
 
-// The square of one, in 10^-32.
+/// The square of one, in 10^-32.
 const SQUARE_OF_ONE: u128 = 100_000_000_000_000_000_000_000_000_000_000;
 
 /// The satellite on the ellipse.
@@ -30,7 +30,7 @@ pub(crate) struct Ellipse {
     pub(crate) direction: Direction,
 }
 
-// M_k = M_0 + n t_k
+/// M_k = M_0 + n t_k
 fn mean_anomaly(el: &Elements, motion: Exact, after: Exact) -> Exact
     requires motion_ends { HasEnds motion_amount motion_width motion }
     requires after_size { HasAmount orbit_reach after }
@@ -41,7 +41,7 @@ fn mean_anomaly(el: &Elements, motion: Exact, after: Exact) -> Exact
     advanced(Exact::of_wide(el.m0), motion, after)
 }
 
-// M_k = E_k - e sin E_k, and the cosine and the sine of E_k
+/// M_k = E_k - e sin E_k, and the cosine and the sine of E_k
 fn eccentric_direction(mean: Exact, e: Exact) -> Direction
     requires mean_size { HasAmount mean_amount mean }
     requires e_low { pos 0 ≤ℤ e.lo }
@@ -53,7 +53,7 @@ fn eccentric_direction(mean: Exact, e: Exact) -> Direction
     direction_of(eccentric(mean, e))
 }
 
-// 1 - e cos E_k
+/// 1 - e cos E_k
 fn ratio(e: Exact, cos_e: Exact) -> Exact
     requires e_ends { HasEnds eccentricity_amount 1 e }
     requires cos_size { HasAmount value_amount cos_e }
@@ -66,7 +66,7 @@ fn ratio(e: Exact, cos_e: Exact) -> Exact
     one.minus(product(e, cos_e))
 }
 
-// A number that isn't negative.
+/// A number that isn't negative.
 fn amount(e: i128) -> u128
     requires { pos 0 ≤ℤ e }
     ensures { pos result ≡ e }
@@ -74,7 +74,7 @@ fn amount(e: i128) -> u128
     e as u128
 }
 
-// sqrt(1 - e^2), cut off, for one eccentricity.
+/// sqrt(1 - e^2), cut off, for one eccentricity.
 fn flatness_of(e: u128) -> u64
     requires { e ≤ eccentricity_amount }
     ensures { IsRoot (unit * unit - e * e) result }
@@ -82,7 +82,7 @@ fn flatness_of(e: u128) -> u64
     root_u128(SQUARE_OF_ONE - e * e)
 }
 
-// sqrt(1 - e^2), cut off
+/// sqrt(1 - e^2), cut off
 fn flatness(e: Exact) -> Exact
     requires e_low { pos 0 ≤ℤ e.lo }
     requires e_ends { HasEnds eccentricity_amount 1 e }
@@ -95,7 +95,7 @@ fn flatness(e: Exact) -> Exact
     }
 }
 
-// cos v_k = (cos E_k - e) / (1 - e cos E_k)
+/// cos v_k = (cos E_k - e) / (1 - e cos E_k)
 fn true_cosine(cos_e: Exact, e: Exact, ratio: Exact) -> Exact
     requires cos_size { HasAmount value_amount cos_e }
     requires e_ends { HasEnds eccentricity_amount 1 e }
@@ -108,7 +108,7 @@ fn true_cosine(cos_e: Exact, e: Exact, ratio: Exact) -> Exact
     cos_e.minus(e).over(ratio, UNIT)
 }
 
-// sin v_k = sqrt(1 - e^2) sin E_k / (1 - e cos E_k)
+/// sin v_k = sqrt(1 - e^2) sin E_k / (1 - e cos E_k)
 fn true_sine(flatness: Exact, sin_e: Exact, ratio: Exact) -> Exact
     requires flatness_ends { HasEnds unit 1 flatness }
     requires sin_size { HasAmount value_amount sin_e }
@@ -121,7 +121,7 @@ fn true_sine(flatness: Exact, sin_e: Exact, ratio: Exact) -> Exact
     flatness.times_over(sin_e, 1).over(ratio, 1)
 }
 
-// The distance and the true anomaly, `after` ps behind the ephemeris time.
+/// The distance and the true anomaly, `after` ps behind the ephemeris time.
 pub(crate) fn on_ellipse(el: &Elements, motion: Exact, after: Exact) -> Ellipse
     requires motion_ends { HasEnds motion_amount motion_width motion }
     requires after_size { HasAmount orbit_reach after }

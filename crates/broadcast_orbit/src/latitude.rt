@@ -33,7 +33,7 @@ pub(crate) struct CorrectedLatitude {
     pub(crate) inclination: Exact,
 }
 
-// phi_k = v_k + omega
+/// phi_k = v_k + omega
 fn latitude_before(el: &Elements, v: Direction) -> Direction
     requires { DirectionAmount true_amount v }
     ensures holds { (perigee c s cw sw p q : ℤ) → IsValue el.now.omega perigee → HoldsDirection v c s → Cosine perigee cw → Sine perigee sw → IsDifferenceOf c cw s sw p → IsSumOf s cw c sw q → HoldsDirection result p q }
@@ -43,7 +43,7 @@ fn latitude_before(el: &Elements, v: Direction) -> Direction
     joined(v, direction_of(Exact::of_wide(el.omega)))
 }
 
-// du_k, dr_k and di_k, each C_s sin 2 phi_k + C_c cos 2 phi_k
+/// du_k, dr_k and di_k, each C_s sin 2 phi_k + C_c cos 2 phi_k
 fn swings(el: &Elements, twice: Direction) -> Corrections
     requires { DirectionAmount twice_amount twice }
     ensures holds { (f : OrbitFields) (c s du dr di : ℤ) → AreOrbitFields el.now f → HoldsDirection twice c s → Swings f c s du dr di → Holds result.latitude du × Holds result.radius dr × Holds result.inclination di }
@@ -74,7 +74,7 @@ fn swings(el: &Elements, twice: Direction) -> Corrections
     }
 }
 
-// u_k = phi_k + du_k
+/// u_k = phi_k + du_k
 fn latitude_after(phi: Direction, correction: Exact) -> Direction
     requires phi_size { DirectionAmount phi_amount phi }
     requires correction_size { HasAmount angle_swing_amount correction }
@@ -85,7 +85,7 @@ fn latitude_after(phi: Direction, correction: Exact) -> Direction
     joined(phi, direction_of(correction))
 }
 
-// The corrected argument of latitude of the true anomaly v.
+/// The corrected argument of latitude of the true anomaly v.
 pub(crate) fn corrected(el: &Elements, v: Direction) -> CorrectedLatitude
     requires { DirectionAmount true_amount v }
     ensures holds { (f : OrbitFields) (cos_v sin_v c s dr di : ℤ) → AreOrbitFields el.now f → HoldsDirection v cos_v sin_v → Latitude f cos_v sin_v c s dr di → HoldsDirection result.direction c s × Holds result.radius dr × Holds result.inclination di }

@@ -14,7 +14,7 @@ use crate::space::earth_fixed;
 use fix_interval::{Exact, Place};
 use sat_model::Elements;
 
-// The ephemeris time.
+/// The ephemeris time.
 pub(crate) fn ephemeris_time(el: &Elements) -> Exact
     ensures low { result.lo ≡ el.now.week_start +ℤ el.now.toe_week.lo }
     ensures high { result.hi ≡ el.now.week_start +ℤ el.now.toe_week.hi }
@@ -26,7 +26,7 @@ pub(crate) fn ephemeris_time(el: &Elements) -> Exact
     start.plus(Exact::of_wide(el.toe_week))
 }
 
-// t_k = t - t_oe
+/// t_k = t - t_oe
 fn after(el: &Elements, t: Exact) -> Exact
     requires from { neg_ℤ (pos orbit_reach) ≤ℤ (t.lo -ℤ (el.now.week_start +ℤ el.now.toe_week.hi)) }
     requires to { (t.hi -ℤ (el.now.week_start +ℤ el.now.toe_week.lo)) ≤ℤ pos orbit_reach }

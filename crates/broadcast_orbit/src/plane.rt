@@ -13,7 +13,7 @@ use crate::directions::Direction;
 use fix_interval::{Exact, product};
 use sat_model::Elements;
 
-// A square of a root of a length is in 10^-24 m; there are so many in one um.
+/// A square of a root of a length is in 10^-24 m; there are so many in one um.
 const AXIS_SCALE: i128 = 1_000_000_000_000_000_000;
 
 /// A place in the plane of the orbit, in um.
@@ -23,7 +23,7 @@ pub(crate) struct PlanePoint {
     pub(crate) y: Exact,
 }
 
-// A = sqrt(A)^2
+/// A = sqrt(A)^2
 fn axis(el: &Elements) -> Exact
     ensures holds { (s a : ℤ) → IsValue el.now.root_a s → Near (s *ℤ s) (pos (10 ^ 18)) a → Holds result a }
     ensures ends { HasEnds axis_amount axis_width result }
@@ -32,7 +32,7 @@ fn axis(el: &Elements) -> Exact
     root_a.times_over(root_a, AXIS_SCALE)
 }
 
-// r_k = A (1 - e cos E_k) + dr_k
+/// r_k = A (1 - e cos E_k) + dr_k
 fn radius(axis: Exact, ratio: Exact, correction: Exact) -> Exact
     requires axis_ends { HasEnds axis_amount axis_width axis }
     requires ratio_size { HasAmount ratio_amount ratio }
@@ -44,7 +44,7 @@ fn radius(axis: Exact, ratio: Exact, correction: Exact) -> Exact
     product(axis, ratio).plus(correction)
 }
 
-// x_k' = r_k cos u_k, y_k' = r_k sin u_k
+/// x_k' = r_k cos u_k, y_k' = r_k sin u_k
 pub(crate) fn in_plane(el: &Elements, ratio: Exact, correction: Exact, at: Direction) -> PlanePoint
     requires ratio_size { HasAmount ratio_amount ratio }
     requires correction_size { HasAmount radius_swing_amount correction }

@@ -16,13 +16,13 @@ use crate::plane::PlanePoint;
 use fix_interval::{Exact, Place, advanced, difference_of_products, product, sum_of_products};
 use sat_model::Elements;
 
-// The earth's rotation rate, in 10^-22 rad/s.
+/// The earth's rotation rate, in 10^-22 rad/s.
 const EARTH_RATE: i128 = 729_211_514_670_000_000;
 
-// A rate over a time in ps is in 10^-34 rad; there are so many in one of 10^-16.
+/// A rate over a time in ps is in 10^-34 rad; there are so many in one of 10^-16.
 const RATE_SCALE: i128 = 1_000_000_000_000_000_000;
 
-// i_k = i_0 + di_k + IDOT t_k
+/// i_k = i_0 + di_k + IDOT t_k
 fn inclination(el: &Elements, correction: Exact, after: Exact) -> Exact
     requires correction_size { HasAmount angle_swing_amount correction }
     requires after_size { HasAmount orbit_reach after }
@@ -34,7 +34,7 @@ fn inclination(el: &Elements, correction: Exact, after: Exact) -> Exact
     advanced(start, Exact::of_wide(el.idot), after)
 }
 
-// Om_k = Om_0 + (OmDot - Om_e) t_k - Om_e t_oe
+/// Om_k = Om_0 + (OmDot - Om_e) t_k - Om_e t_oe
 fn node(el: &Elements, after: Exact) -> Exact
     requires { HasAmount orbit_reach after }
     ensures holds { (om0 om_dot toe t o : ℤ) → IsValue el.now.om0 om0 → IsValue el.now.om_dot om_dot → IsValue el.now.toe_week toe → Holds after t → Near (((om0 *ℤ pos rate_scale) +ℤ ((om_dot -ℤ pos earth_rate) *ℤ t)) -ℤ (pos earth_rate *ℤ toe)) (pos rate_scale) o → Holds result o }
@@ -50,7 +50,7 @@ fn node(el: &Elements, after: Exact) -> Exact
     advanced(Exact::of_wide(el.om0), rate, after).minus(start)
 }
 
-// x_k = x_k' cos Om_k - y_k' cos i_k sin Om_k, and so on, from the cosines and sines of i_k and Om_k
+/// x_k = x_k' cos Om_k - y_k' cos i_k sin Om_k, and so on, from the cosines and sines of i_k and Om_k
 fn turned_out(point: PlanePoint, tilt: Direction, node: Direction) -> Place
     requires x_size { HasAmount plane_amount point.x }
     requires y_size { HasAmount plane_amount point.y }
@@ -72,8 +72,8 @@ fn turned_out(point: PlanePoint, tilt: Direction, node: Direction) -> Place
     }
 }
 
-// The place in the earth-fixed frame, `after` ps behind the ephemeris time, of a point of the
-// plane of the orbit.
+/// The place in the earth-fixed frame, `after` ps behind the ephemeris time, of a point of the
+/// plane of the orbit.
 pub(crate) fn earth_fixed(
     el: &Elements,
     after: Exact,

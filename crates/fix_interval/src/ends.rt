@@ -9,7 +9,7 @@ ghost use Rattle.sat_model.specs.Squares.{least_end, greatest_end};
 
 use crate::exact::Exact;
 
-// The least amount of a number from lo to hi.
+/// The least amount of a number from lo to hi.
 pub(crate) fn least_amount(lo: i128, hi: i128) -> u128
     requires lo_size { IsWithin (2 ^ 126) lo }
     requires hi_size { IsWithin (2 ^ 126) hi }
@@ -18,7 +18,7 @@ pub(crate) fn least_amount(lo: i128, hi: i128) -> u128
     lo.max(-hi).max(0) as u128
 }
 
-// The greatest amount of a number from lo to hi.
+/// The greatest amount of a number from lo to hi.
 pub(crate) fn greatest_amount(lo: i128, hi: i128) -> u128
     requires lo_size { IsWithin (2 ^ 126) lo }
     requires hi_size { IsWithin (2 ^ 126) hi }
@@ -27,7 +27,7 @@ pub(crate) fn greatest_amount(lo: i128, hi: i128) -> u128
     hi.max(-lo).max(0) as u128
 }
 
-// A product that fits.
+/// A product that fits.
 fn product(a: i128, b: i128) -> i128
     requires { IsWithin (10 ^ 38) (a *ℤ b) }
     ensures value { result ≡ a *ℤ b }
@@ -36,7 +36,7 @@ fn product(a: i128, b: i128) -> i128
     a * b
 }
 
-// The least product of a number from a to b and one from c to d.
+/// The least product of a number from a to b and one from c to d.
 pub(crate) fn least_of_products(a: i128, b: i128, c: i128, d: i128) -> i128
     requires { ProductsWithin (10 ^ 38) a b c d }
     ensures value { result ≡ least_product a b c d }
@@ -47,7 +47,7 @@ pub(crate) fn least_of_products(a: i128, b: i128, c: i128, d: i128) -> i128
         .min(product(b, c).min(product(b, d)))
 }
 
-// The greatest such product.
+/// The greatest such product.
 pub(crate) fn greatest_of_products(a: i128, b: i128, c: i128, d: i128) -> i128
     requires { ProductsWithin (10 ^ 38) a b c d }
     ensures value { result ≡ greatest_product a b c d }
@@ -58,7 +58,7 @@ pub(crate) fn greatest_of_products(a: i128, b: i128, c: i128, d: i128) -> i128
         .max(product(b, c).max(product(b, d)))
 }
 
-// num / den rounded down.
+/// num / den rounded down.
 fn floor_of(num: i128, den: i128) -> i128
     requires positive { pos 0 <ℤ den }
     requires num_size { IsWithin (10 ^ 38) num }
@@ -68,7 +68,7 @@ fn floor_of(num: i128, den: i128) -> i128
     num.div_euclid(den)
 }
 
-// At most each number that is near num / den or above, and at most two units below num / den.
+/// At most each number that is near num / den or above, and at most two units below num / den.
 pub(crate) fn low_end(num: i128, den: i128) -> i128
     requires positive { pos 0 <ℤ den }
     requires num_size { IsWithin (10 ^ 38) num }
@@ -78,7 +78,7 @@ pub(crate) fn low_end(num: i128, den: i128) -> i128
     floor_of(num, den) - 1
 }
 
-// At least each number that is near num / den or below, and at most two units above num / den.
+/// At least each number that is near num / den or below, and at most two units above num / den.
 pub(crate) fn high_end(num: i128, den: i128) -> i128
     requires positive { pos 0 <ℤ den }
     requires num_size { IsWithin (10 ^ 38) num }
@@ -88,7 +88,7 @@ pub(crate) fn high_end(num: i128, den: i128) -> i128
     floor_of(num, den) + 1
 }
 
-// At most each number that is near num / d or above, for each divisor d.
+/// At most each number that is near num / d or above, for each divisor d.
 pub(crate) fn low_end_over(num: i128, divisor: Exact) -> i128
     requires positive { pos 0 <ℤ divisor.lo }
     requires num_size { IsWithin (10 ^ 38) num }
@@ -102,7 +102,7 @@ pub(crate) fn low_end_over(num: i128, divisor: Exact) -> i128
     }
 }
 
-// At least each number that is near num / d or below, for each divisor d.
+/// At least each number that is near num / d or below, for each divisor d.
 pub(crate) fn high_end_over(num: i128, divisor: Exact) -> i128
     requires positive { pos 0 <ℤ divisor.lo }
     requires num_size { IsWithin (10 ^ 38) num }

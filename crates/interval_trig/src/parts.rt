@@ -15,7 +15,7 @@ pub(crate) struct Part {
     ghost ordered: { lo ≤ hi },
 }
 
-// 1 - y/d * part.
+/// 1 - y/d * part.
 fn step(part: Part, y: Part, d: u128) -> Part
     requires part_size { part.hi ≤ 10 ^ 18 }
     requires y_size { y.hi ≤ 10 ^ 18 }
@@ -33,7 +33,7 @@ fn step(part: Part, y: Part, d: u128) -> Part
     }
 }
 
-// The nested sum of the sine, of degree 15.
+/// The nested sum of the sine, of degree 15.
 pub(crate) fn sine_part(y: Part) -> Part
     requires y_size { y.hi ≤ 10 ^ 18 }
     ensures holds { (square : ℕ) → HoldsSquare y.lo y.hi square → Holds result.lo result.hi (plain_num square sine_15) (nested_den sine_15) }
@@ -50,7 +50,7 @@ pub(crate) fn sine_part(y: Part) -> Part
     step(p5, y, 2 * 3)
 }
 
-// The nested sum of the cosine, of degree 16.
+/// The nested sum of the cosine, of degree 16.
 pub(crate) fn cosine_part(y: Part) -> Part
     requires y_size { y.hi ≤ 10 ^ 18 }
     ensures holds { (square : ℕ) → HoldsSquare y.lo y.hi square → Holds result.lo result.hi (plain_num square cosine_16) (nested_den cosine_16) }
@@ -68,7 +68,7 @@ pub(crate) fn cosine_part(y: Part) -> Part
     step(p4, y, 1 * 2)
 }
 
-// The square of a rest's amount.
+/// The square of a rest's amount.
 pub(crate) fn square_of(a: u128) -> Part
     requires size { a ≤ greatest_rest }
     ensures holds { HoldsSquare result.lo result.hi (a * a) }

@@ -12,7 +12,7 @@ use crate::quarters::{left_of, quarter_of, turn_of, whole_of};
 
 const UNIT: u128 = 10_000_000_000_000_000;
 
-// A value of the sine at a rest that is not negative.
+/// A value of the sine at a rest that is not negative.
 fn sine_of_amount(a: u128) -> u128
     requires size { a ≤ greatest_rest }
     ensures value { SineAt (pos a) (pos result) }
@@ -22,7 +22,7 @@ fn sine_of_amount(a: u128) -> u128
     a * part.hi / FINE
 }
 
-// A value of the cosine at a rest that is not negative.
+/// A value of the cosine at a rest that is not negative.
 fn cosine_of_amount(a: u128) -> u128
     requires size { a ≤ greatest_rest }
     ensures value { CosineAt (pos a) (pos result) }
@@ -32,7 +32,7 @@ fn cosine_of_amount(a: u128) -> u128
     UNIT * part.hi / FINE
 }
 
-// A value of the sine at a rest.
+/// A value of the sine at a rest.
 fn sine_at(r: i128) -> i128
     requires size { IsWithin greatest_rest r }
     ensures value { SineAt r result }
@@ -45,7 +45,7 @@ fn sine_at(r: i128) -> i128
     }
 }
 
-// A value of the cosine at a rest.
+/// A value of the cosine at a rest.
 fn cosine_at(r: i128) -> i128
     requires size { IsWithin greatest_rest r }
     ensures value { CosineAt r result }
@@ -54,7 +54,7 @@ fn cosine_at(r: i128) -> i128
     cosine_of_amount(r.unsigned_abs()) as i128
 }
 
-// A value of the function that a quarter names, at a rest.
+/// A value of the function that a quarter names, at a rest.
 fn turned(turn: u8, r: i128) -> i128
     requires turn_size { turn < 4 }
     requires r_size { IsWithin greatest_rest r }
@@ -69,7 +69,7 @@ fn turned(turn: u8, r: i128) -> i128
     }
 }
 
-// A value of the sine.
+/// A value of the sine.
 pub(crate) fn sine_point(x: i128) -> i128
     requires { IsWithin (64 * unit) x }
     ensures value { Sine x result }
@@ -79,7 +79,7 @@ pub(crate) fn sine_point(x: i128) -> i128
     turned(turn_of(k), whole_of(left_of(x, k)))
 }
 
-// A value of the cosine.
+/// A value of the cosine.
 pub(crate) fn cosine_point(x: i128) -> i128
     requires { IsWithin (64 * unit) x }
     ensures value { Cosine x result }

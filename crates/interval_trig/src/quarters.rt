@@ -7,10 +7,10 @@ ghost use Rattle.sat_model.specs.Rounding.{IsFloor};
 ghost use Rattle.sat_model.specs.Sines.{modulo_4};
 ghost use Rattle.interval_trig.specs.NestedSums.{greatest_rest};
 
-// In units of 10^-20 rad.
+/// In units of 10^-20 rad.
 const QUARTER_TURN: i128 = 157_079_632_679_489_661_923;
 
-// The number of the quarter round x.
+/// The number of the quarter round x.
 pub(crate) fn quarter_of(x: i128) -> i128
     requires { IsWithin (64 * unit) x }
     ensures value { result ≡ quarter x }
@@ -19,7 +19,7 @@ pub(crate) fn quarter_of(x: i128) -> i128
     (20000 * x + QUARTER_TURN).div_euclid(2 * QUARTER_TURN)
 }
 
-// What is left of x without its quarters, in units of 10^-20.
+/// What is left of x without its quarters, in units of 10^-20.
 pub(crate) fn left_of(x: i128, k: i128) -> i128
     requires x_size { IsWithin (64 * unit) x }
     requires k_size { IsWithin 41 k }
@@ -30,7 +30,7 @@ pub(crate) fn left_of(x: i128, k: i128) -> i128
     10000 * x - k * QUARTER_TURN
 }
 
-// What is left in whole units, rounded down.
+/// What is left in whole units, rounded down.
 pub(crate) fn whole_of(left: i128) -> i128
     requires { IsWithin 78539816339744830962 left }
     ensures floor { IsFloor left (pos 10000) result }
@@ -39,7 +39,7 @@ pub(crate) fn whole_of(left: i128) -> i128
     left.div_euclid(10000)
 }
 
-// A quarter's number modulo 4.
+/// A quarter's number modulo 4.
 pub(crate) fn turn_of(k: i128) -> u8
     requires { IsWithin 42 k }
     ensures value { result ≡ modulo_4 k }

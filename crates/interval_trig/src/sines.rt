@@ -12,10 +12,10 @@ use fix_interval::Exact;
 
 const UNIT: i128 = 10_000_000_000_000_000;
 
-// No value is more in amount.
+/// No value is more in amount.
 const GREATEST_VALUE: i128 = UNIT + 8;
 
-// The middle of an interval, rounded down.
+/// The middle of an interval, rounded down.
 fn middle(x: Exact) -> i128
     requires low_size { IsWithin (64 * unit) x.lo }
     requires high_size { IsWithin (64 * unit) x.hi }
@@ -27,8 +27,8 @@ fn middle(x: Exact) -> i128
     (x.lo + x.hi).div_euclid(2)
 }
 
-// The numbers that are at most a half width and seven units away from a value, and no more than a
-// value can be. Where the half width is more than a radian, all that a value can be.
+/// The numbers that are at most a half width and seven units away from a value, and no more than a
+/// value can be. Where the half width is more than a radian, all that a value can be.
 fn around(value: i128, half: i128) -> Exact
     requires value_size { IsWithin unit value }
     requires half_low { pos 0 ≤ℤ half }

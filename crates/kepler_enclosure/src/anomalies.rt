@@ -16,8 +16,8 @@ const UNIT: i128 = 10_000_000_000_000_000;
 /// The greatest eccentricity, 0.2, in units of 10^-16.
 pub const GREATEST_ECCENTRICITY: i128 = 2_000_000_000_000_000;
 
-// The mean anomaly, one eccentricity and four units more on each side: it holds every eccentric
-// anomaly.
+/// The mean anomaly, one eccentricity and four units more on each side: it holds every eccentric
+/// anomaly.
 fn start(m: Exact, e: Exact) -> Exact
     requires m_low { IsWithin (60 * unit) m.lo }
     requires m_high { IsWithin (60 * unit) m.hi }
@@ -35,7 +35,7 @@ fn start(m: Exact, e: Exact) -> Exact
     }
 }
 
-// One unit more at the high end: it holds x + 1 for every member x too.
+/// One unit more at the high end: it holds x + 1 for every member x too.
 fn with_next(x: Exact) -> Exact
     requires low_size { IsWithin (61 * unit) x.lo }
     requires high_size { IsWithin (61 * unit) x.hi }
@@ -48,7 +48,7 @@ fn with_next(x: Exact) -> Exact
     }
 }
 
-// Every e sin y, for y from the low end of x to one unit beyond the high end.
+/// Every e sin y, for y from the low end of x to one unit beyond the high end.
 fn swing(e: Exact, x: Exact) -> Exact
     requires e_low { pos 0 ≤ℤ e.lo }
     requires e_high { e.hi ≤ℤ GREATEST_ECCENTRICITY }
@@ -62,7 +62,7 @@ fn swing(e: Exact, x: Exact) -> Exact
     e.times_over(sine(with_next(x)), UNIT)
 }
 
-// The mean anomaly and p, one unit more at the low end.
+/// The mean anomaly and p, one unit more at the low end.
 fn moved(m: Exact, p: Exact) -> Exact
     requires m_low { IsWithin (60 * unit) m.lo }
     requires m_high { IsWithin (60 * unit) m.hi }
@@ -77,7 +77,7 @@ fn moved(m: Exact, p: Exact) -> Exact
     }
 }
 
-// The members of x that can be eccentric anomalies: those that are m + e sin x for a member.
+/// The members of x that can be eccentric anomalies: those that are m + e sin x for a member.
 fn narrowed(m: Exact, e: Exact, x: Exact) -> Exact
     requires m_low { IsWithin (60 * unit) m.lo }
     requires m_high { IsWithin (60 * unit) m.hi }
@@ -93,7 +93,7 @@ fn narrowed(m: Exact, e: Exact, x: Exact) -> Exact
     moved(m, swing(e, x))
 }
 
-// By how much the start may be too wide.
+/// By how much the start may be too wide.
 fn first_excess(e: Exact) -> u128
     requires e_low { pos 0 ≤ℤ e.lo }
     requires e_high { e.hi ≤ℤ GREATEST_ECCENTRICITY }

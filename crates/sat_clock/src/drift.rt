@@ -11,7 +11,7 @@ use crate::times::since_clock;
 use fix_interval::{Exact, advanced};
 use sat_model::Elements;
 
-// af1 + af2 (tsv - toc).
+/// af1 + af2 (tsv - toc).
 fn drift(el: &Elements, since: Exact) -> Exact
     requires low_size { IsWithin since_size since.lo }
     requires high_size { IsWithin since_size since.hi }
@@ -21,7 +21,7 @@ fn drift(el: &Elements, since: Exact) -> Exact
     advanced(Exact::of_wide(el.af1), Exact::of_wide(el.af2), since)
 }
 
-// af0 + af1 (tsv - toc) + af2 (tsv - toc)^2.
+/// af0 + af1 (tsv - toc) + af2 (tsv - toc)^2.
 fn offset(el: &Elements, since: Exact) -> Exact
     requires low_size { IsWithin since_size since.lo }
     requires high_size { IsWithin since_size since.hi }
@@ -31,7 +31,7 @@ fn offset(el: &Elements, since: Exact) -> Exact
     advanced(Exact::of_wide(el.af0), drift(el, since), since)
 }
 
-// The offset, less the group delay for one frequency.
+/// The offset, less the group delay for one frequency.
 fn less_group_delay(el: &Elements, offset: Exact, single: bool) -> Exact
     requires low_size { IsWithin offset_size offset.lo }
     requires high_size { IsWithin offset_size offset.hi }
@@ -45,7 +45,7 @@ fn less_group_delay(el: &Elements, offset: Exact, single: bool) -> Exact
     }
 }
 
-// The clock's offset without the relativistic correction.
+/// The clock's offset without the relativistic correction.
 pub(crate) fn base(el: &Elements, tsv: Exact, single: bool) -> Exact
     requires near { IsNearEphemeris el.now tsv.lo tsv.hi }
     ensures holds { (f : ClockFields) → (x drift offset : ℤ) → AreClockFields el.now f → Between tsv.lo tsv.hi x → IsAdvanced f.af1 f.af2 (x -ℤ el.now.toc) drift → IsAdvanced f.af0 drift (x -ℤ el.now.toc) offset → Between result.lo result.hi (less_delay single offset f.tgd) }

@@ -19,7 +19,7 @@ const AXIS_STEP: u128 = 10_000_000_000_000;
 /// A cube in 10^-23 m^(3/2) is divided by it to be one in 10^-7.
 const CUBE_STEP: u128 = 10_000_000_000_000_000;
 
-// The cube of a root in 10^-12, in units of 10^-7: at most two units too small.
+/// The cube of a root in 10^-12, in units of 10^-7: at most two units too small.
 fn cube(root_a: u128) -> u128
     requires high { root_a ≤ root_limit }
     ensures below { result * 10 ^ 29 ≤ root_a * root_a * root_a }
@@ -28,7 +28,7 @@ fn cube(root_a: u128) -> u128
     root_a * root_a / AXIS_STEP * root_a / CUBE_STEP
 }
 
-// At most each mean motion of a root up to this one.
+/// At most each mean motion of a root up to this one.
 fn slowest(root_a: u128) -> u128
     requires low { least_root_a ≤ root_a }
     requires high { root_a ≤ root_limit }
@@ -40,7 +40,7 @@ fn slowest(root_a: u128) -> u128
     ROOT_OF_GRAVITY / (cube(root_a) + 2)
 }
 
-// At least each mean motion of a root from this one on.
+/// At least each mean motion of a root from this one on.
 fn fastest(root_a: u128) -> u128
     requires low { least_root_a ≤ root_a }
     requires high { root_a ≤ root_limit }
@@ -51,7 +51,7 @@ fn fastest(root_a: u128) -> u128
     ROOT_OF_GRAVITY / cube(root_a)
 }
 
-// Every mean motion of a root, before its correction.
+/// Every mean motion of a root, before its correction.
 fn computed_motion(root_a: Wide) -> Exact
     requires { LiesFrom (pos least_root_a) (pos root_limit) root_a }
     ensures holds { (s : ℤ) → (n : ℕ) → IsValue root_a s → IsComputedMotion s n → Between result.lo result.hi (pos n) }

@@ -32,7 +32,7 @@ const UNIT: i128 = 10_000_000_000_000_000;
 /// A product of F and a length's root in 10^-35 is divided by it to be one in 10^-16.
 const RELATIVITY_UNIT: i128 = 10_000_000_000_000_000_000;
 
-// M_k = M_0 + n t_k.
+/// M_k = M_0 + n t_k.
 fn mean_anomaly(el: &Elements, after: Exact) -> Exact
     requires low_size { IsWithin after_size after.lo }
     requires high_size { IsWithin after_size after.hi }
@@ -42,7 +42,7 @@ fn mean_anomaly(el: &Elements, after: Exact) -> Exact
     advanced(Exact::of_wide(el.m0), mean_motion(el), after)
 }
 
-// sin E_k.
+/// sin E_k.
 fn sine_of_eccentric(el: &Elements, mean: Exact) -> Exact
     requires low_size { IsWithin mean_size mean.lo }
     requires high_size { IsWithin mean_size mean.hi }
@@ -52,7 +52,7 @@ fn sine_of_eccentric(el: &Elements, mean: Exact) -> Exact
     sine(eccentric(mean, Exact::of_wide(el.e)))
 }
 
-// dt_r = F e sqrt(A) sin E_k. The products are taken in steps, the sum of whose powers of ten is 47.
+/// dt_r = F e sqrt(A) sin E_k. The products are taken in steps, the sum of whose powers of ten is 47.
 fn relative(el: &Elements, sine: Exact) -> Exact
     requires low_size { IsWithin (unit + 8) sine.lo }
     requires high_size { IsWithin (unit + 8) sine.hi }
@@ -69,7 +69,7 @@ fn relative(el: &Elements, sine: Exact) -> Exact
         .times_over(factor, RELATIVITY_UNIT)
 }
 
-// The relativistic correction of a signal sent at tsv, for the offset without it.
+/// The relativistic correction of a signal sent at tsv, for the offset without it.
 pub(crate) fn relativistic(el: &Elements, tsv: Exact, base: Exact) -> Exact
     requires near { IsNearEphemeris el.now tsv.lo tsv.hi }
     requires low_size { IsWithin base_size base.lo }

@@ -13,7 +13,7 @@ use sat_model::Elements;
 /// A ps in the unit of clock offsets, 10^-16 s.
 const PS: i128 = 10_000;
 
-// tsv - toc.
+/// tsv - toc.
 pub(crate) fn since_clock(el: &Elements, tsv: Exact) -> Exact
     requires near { IsNearEphemeris el.now tsv.lo tsv.hi }
     ensures holds { (x : ℤ) → Between tsv.lo tsv.hi x → Between result.lo result.hi (x -ℤ el.now.toc) }
@@ -23,7 +23,7 @@ pub(crate) fn since_clock(el: &Elements, tsv: Exact) -> Exact
     tsv.minus(Exact { lo: toc, hi: toc })
 }
 
-// The ephemeris time.
+/// The ephemeris time.
 pub(crate) fn ephemeris_time(el: &Elements) -> Exact
     ensures low { result.lo ≡ el.now.week_start +ℤ el.now.toe_week.lo }
     ensures high { result.hi ≡ el.now.week_start +ℤ el.now.toe_week.hi }
@@ -34,7 +34,7 @@ pub(crate) fn ephemeris_time(el: &Elements) -> Exact
     }
 }
 
-// tsv - toe.
+/// tsv - toe.
 fn since_ephemeris(el: &Elements, tsv: Exact) -> Exact
     requires near { IsNearEphemeris el.now tsv.lo tsv.hi }
     ensures holds { (x toe : ℤ) → Between tsv.lo tsv.hi x → IsValue el.now.toe_week toe → Between result.lo result.hi (x -ℤ (el.now.week_start +ℤ toe)) }
@@ -43,7 +43,7 @@ fn since_ephemeris(el: &Elements, tsv: Exact) -> Exact
     tsv.minus(ephemeris_time(el))
 }
 
-// A time less a clock offset.
+/// A time less a clock offset.
 pub(crate) fn earlier(time: Exact, offset: Exact) -> Exact
     requires low_size { IsWithin (10 ^ 37) time.lo }
     requires high_size { IsWithin (10 ^ 37) time.hi }
@@ -60,7 +60,7 @@ pub(crate) fn earlier(time: Exact, offset: Exact) -> Exact
     time.minus(offset.times_over(Exact { lo: 1, hi: 1 }, PS))
 }
 
-// t_k, for the offset without the relativistic correction.
+/// t_k, for the offset without the relativistic correction.
 pub(crate) fn after(el: &Elements, tsv: Exact, base: Exact) -> Exact
     requires near { IsNearEphemeris el.now tsv.lo tsv.hi }
     requires low_size { IsWithin base_size base.lo }
