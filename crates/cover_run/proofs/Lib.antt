@@ -1,2 +1,5 @@
 pub mod Saying
 pub mod Ending
+pub mod Rewriting
+pub mod Paving
+pub mod PavingRun
