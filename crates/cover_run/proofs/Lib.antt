@@ -3,3 +3,5 @@ pub mod Ending
 pub mod Rewriting
 pub mod Paving
 pub mod PavingRun
+pub mod JudgingRun
+pub mod PavingReads

@@ -3,8 +3,11 @@
 ghost use Rattle.std.specs.Prelude.{◌≡◌, ◌≢◌, ◌+◌, ◌<◌, ◌≤◌, [], ◌∷◌, ℕ, List, Option, Some, is_some, true, length, map, false, None, Err, IfOk, IfErr};
 ghost use Rattle.std.specs.List.{AllByRecursion};
 ghost use Rattle.log_writer.specs.Writing.{seen, Written};
-ghost use Rattle.log_writer.specs.Wrote.{WroteRun, WroteBlock, WroteLog};
+ghost use Rattle.log_writer.specs.Texts.{IsText};
+ghost use Rattle.log_writer.specs.Wrote.{WroteRun, WroteBlock};
 ghost use Rattle.outer_io.specs.Causes.{Rose};
+ghost use Rattle.outer_io.specs.declared.slots.Slot.TheVariants as slot;
+ghost use Rattle.outer_io.specs.Told.{AppendedBy};
 ghost use Rattle.paving_log.specs.declared.line.Form.TheVariants as form;
 ghost use Rattle.paving_log.specs.declared.line.LogLine.TheVariants as line;
 ghost use Rattle.paving_log.specs.Rows.{EntryFits};
@@ -39,12 +42,7 @@ fn rows_among(alloc: Global, sats: &[SatEntry]) -> Result<Vec<Row>, AllocError>
 }
 
 /// What is to be paved by the rows among the satellite lines.
-fn plan_of(
-    alloc: Global,
-    rules: &Rules,
-    sats: &[SatEntry],
-    root: &Box3,
-) -> Result<Plan, StepFault>
+fn plan_of(alloc: Global, rules: &Rules, sats: &[SatEntry], root: &Box3) -> Result<Plan, StepFault>
     requires enough { rules.now.outliers + 4 ≤ length (rows_of sats.now) }
     requires at_most { length (rows_of sats.now) ≤ 64 }
     ensures rows { IfOk result (λ plan. plan.rows ≡ rows_of sats.now) }
@@ -146,9 +144,9 @@ impl<'a, H: Shelf> LogFile<'a, H> {
         requires room { self.old.left ≤ 4000000000 }
         requires fits { LogFits form.Rows (log_value rows.now) }
         requires passes { AllOwnPass rows.now.rules None (log_value rows.now).blocks }
-        ensures written { WroteLog (log_value rows.now)
-            (seen (H.told self.old.shelf.now) (H.phases self.old.shelf.now) self.old.left) result
-            (seen (H.told self.new.shelf.now) (H.phases self.new.shelf.now) self.new.left) }
+        ensures text { (bytes : List ℕ) × AppendedBy (H.told self.old.shelf.now) (H.told self.new.shelf.now) slot.Log bytes
+            × IsText (log_value rows.now) self.old.left result bytes }
+        ensures phases { H.phases self.new.shelf.now ≡ H.phases self.old.shelf.now }
         ensures same_shelf { self.new.shelf.ghost_name ≡ self.old.shelf.ghost_name }
         ensures failed { result ≡ Err StepFault.Failed → Rose (H.write_faults self.old.shelf.now) (H.write_faults self.new.shelf.now) }
         ensures counted { H.write_faults self.old.shelf.now ≤ H.write_faults self.new.shelf.now }

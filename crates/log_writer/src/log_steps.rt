@@ -21,7 +21,7 @@ impl<H: Shelf> Steps for LogFile<'_, H> {
         Broke (seen (H.told old.shelf.now) (H.phases old.shelf.now) old.left) (step_bytes step) (seen (H.told new.shelf.now) (H.phases new.shelf.now) new.left)
         × (new.shelf.ghost_name ≡ old.shelf.ghost_name)
         × ((log : Option (List ℕ)) → H.reliable new.shelf.now log
-            → H.reliable old.shelf.now log × (length (step_bytes step) ≤ old.left → is_some log ≡ true → ⊥)) };
+        → H.reliable old.shelf.now log × (length (step_bytes step) ≤ old.left → is_some log ≡ true → ⊥)) };
 
     ghost room = { λ file. file.left };
 

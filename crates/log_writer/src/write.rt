@@ -42,6 +42,5 @@ pub fn write_log<H: Shelf>(
         → H.reliable shelf.old log × (is_some log ≡ true → result ≢ Err StepFault.Failed) }
 {
     let mut file = LogFile::over(shelf, limit);
-    file.put_log(alloc, rows)?;
-    Ok(())
+    file.put_log(alloc, rows)
 }

@@ -33,32 +33,32 @@ returns-in_err-put_sats-clause-written g c =
     rw (p.1, p.2) (sats_ended_early c.args.rules.now block _ _ _ _ can (rw bytes at c.in_ok-put.ensures.grew) (rw c.deref-2.ensures.value at c.in_err-put_sats.ensures.written))
 
 pub plan_of-requires-clause-at_most : goal.plan_of-requires-clause-at_most
-plan_of-requires-clause-at_most g c = omega (arith, rows_le_lines c.deref-3.result.now, ap length c.deref-3.ensures.value, c.requires.fits.at_most)
+plan_of-requires-clause-at_most g c = omega (arith, rows_le_lines c.deref-in-Some.result.now, ap length c.deref-in-Some.ensures.value, c.requires.fits.at_most)
 
-pub returns-in_err-plan-clause-written : goal.returns-in_err-plan-clause-written
-returns-in_err-plan-clause-written g c =
-    let p = err_from_is_err_and c.from_residual-in_err-plan.result c.from_residual-in_err-plan.ensures.1 in
+pub returns-in_err-plan-in-Some-clause-written : goal.returns-in_err-plan-in-Some-clause-written
+returns-in_err-plan-in-Some-clause-written g c =
     let block = block_of c.args.epoch.now in
     let can : CanPave c.args.rules.now block = record { fits = c.requires.fits; rows = c.requires.enough } in
     let bytes = first_bytes c.as_bytes.result.now c.args.epoch.now.few c.args.epoch.now.index _ c.args.epoch.now.n _ c.args.epoch.now.ps _
     (c.as_bytes.ensures.value ∙ c.deref.ensures.0 ∙ c.epoch_line-first.ensures) refl (omega (arith, ints, c.requires.fits.header.ps)) refl in
-    let fault : p.0 ≡ NoMemory = p.2 ∙ c.in_err-plan.ensures.no_memory in
+    let p = err_from_is_err_and c.from_residual-in_err-plan-in-Some.result c.from_residual-in_err-plan-in-Some.ensures.1 in
+    let fault : p.0 ≡ NoMemory = p.2 ∙ c.in_err-plan-in-Some.ensures.no_memory in
     rw (p.1, fault) (run_not_begun c.args.rules.now block _ _ can
     (opening_grew block _ _ _ (rw bytes at c.in_ok-put.ensures.grew) (rw c.deref-2.ensures.value at c.in_ok-put_sats.ensures.written)))
 
-pub returns-in-Some-clause-written : goal.returns-in-Some-clause-written
-returns-in-Some-clause-written g c =
+pub returns-in_ok-plan-in-Some-clause-written : goal.returns-in_ok-plan-in-Some-clause-written
+returns-in_ok-plan-in-Some-clause-written g c =
     let block = block_of c.args.epoch.now in
     let can : CanPave c.args.rules.now block = record { fits = c.requires.fits; rows = c.requires.enough } in
     let bytes = first_bytes c.as_bytes.result.now c.args.epoch.now.few c.args.epoch.now.index _ c.args.epoch.now.n _ c.args.epoch.now.ps _
     (c.as_bytes.ensures.value ∙ c.deref.ensures.0 ∙ c.epoch_line-first.ensures) refl (omega (arith, ints, c.requires.fits.header.ps)) refl in
-    let plan = c.in_ok-plan.ensures in
+    let plan = c.in_ok-plan-in-Some.ensures in
     run_wrote c.args.rules.now _ block (grid_box c.in-Some.root) _ _ _ _ _ c.put_run.result can (ap box_option c.in-Some.is)
     (opening_grew block _ _ _ (rw bytes at c.in_ok-put.ensures.grew) (rw c.deref-2.ensures.value at c.in_ok-put_sats.ensures.written))
-    (plan.rows ∙ ap rows_of c.deref-3.ensures.value) plan.rules plan.root c.put_run.ensures.written
+    (plan.rows ∙ ap rows_of c.deref-in-Some.ensures.value) plan.rules plan.root c.put_run.ensures.written
 
-pub returns-in-Some-clause-reliable : goal.returns-in-Some-clause-reliable
-returns-in-Some-clause-reliable g c = λ log after.
+pub returns-in_ok-plan-in-Some-clause-reliable : goal.returns-in_ok-plan-in-Some-clause-reliable
+returns-in_ok-plan-in-Some-clause-reliable g c = λ log after.
     let last = c.put_run.ensures.reliable log after in
     let sats = c.in_ok-put_sats.ensures.reliable log last.0 in
     ((c.in_ok-put.ensures.reliable log sats.0).0, last.1)
