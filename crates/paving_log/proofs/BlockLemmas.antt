@@ -47,7 +47,7 @@ pub record IsOneMore (k : ℕ) (after to : Place) : Type 0 where
   pub below : k < 64
   pub place : to ≡ after
 
-one_more_if : (k : ℕ) (test : Bool) (after to : Place) → nat_lt k 64 ≡ test → (if test then Some after else None) ≡ Some to → IsOneMore k after to
+pub one_more_if : (k : ℕ) (test : Bool) (after to : Place) → nat_lt k 64 ≡ test → (if test then Some after else None) ≡ Some to → IsOneMore k after to
 one_more_if k true after to is e = record { below = ltb-true k 64 is; place = cc }
 one_more_if k false after to is e = cc
 

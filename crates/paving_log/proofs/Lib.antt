@@ -11,3 +11,7 @@ pub mod FaultLemmas
 pub mod LeadLemmas
 pub mod ValueLemmas
 pub mod LogLemmas
+pub mod SatelliteLemmas
+pub mod OwnLemmas
+pub mod RowsLemmas
+pub mod BuiltLemmas

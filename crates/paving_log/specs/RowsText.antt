@@ -1,7 +1,9 @@
 -- The text of rows: a log without its steps, whose blocks pass the tests of their own lines.
-use Rattle.std.specs.Prelude.{ℕ, ◌≡◌, ◌+◌, ◌≤◌, ◌⊎◌, Bool, false, List, [], ◌∷◌, length, Option, None, Some}
+use Rattle.std.specs.Prelude.{ℕ, ◌≡◌, ◌+◌, ◌≤◌, ◌⊎◌, Bool, true, false, List, [], ◌∷◌, length, Option, None, Some}
 use Rattle.std.specs.List.{AllByRecursion}
 use Rattle.sat_model.specs.declared.rules.Rules.{Rules}
+use Rattle.sat_model.specs.declared.satellites.SatEntry.{SatEntry}
+use Rattle.sat_model.specs.declared.satellites.SatEntry.TheVariants as entry
 use Rattle.sat_model.specs.Boxes.{GridBox}
 use Rattle.sat_model.specs.Logs.{Block, LogValue, rows_of}
 use Rattle.sat_model.specs.Verdicts.{HeadPasses, HeadFails, NoneRepeats, IsFirstRepeat}
@@ -35,21 +37,25 @@ pub record OwnPasses (rules : Rules) (before : Option ℕ) (b : Block) : Type 0 
   pub head : HeadPasses rules before b
   pub sats : NoneRepeats b.sats
 
--- the first line of the block that fails one of these tests
-abbrev pub OwnFails : Rules → Option ℕ → Block → ℕ → Type 0
-OwnFails rules before b line =
-    (((number : ℕ) × HeadFails rules before b number) × (line ≡ b.line))
-    ⊎ (HeadPasses rules before b × ((k : ℕ) × IsFirstRepeat b.sats k × (line ≡ b.line + 1 + k)))
+-- the first line of the block that fails one of these tests, and the least number of one on it
+abbrev pub OwnFails : Rules → Option ℕ → Block → ℕ → ℕ → Type 0
+OwnFails rules before b line number =
+    (HeadFails rules before b number × (line ≡ b.line))
+    ⊎ (HeadPasses rules before b × ((k : ℕ) × IsFirstRepeat b.sats k × (line ≡ b.line + 1 + k)) × (number ≡ 52))
 
 abbrev pub AllOwnPass : Rules → Option ℕ → List Block → Type 0
 AllOwnPass rules before [] = Unit {0}
 AllOwnPass rules before (b ∷ more) = OwnPasses rules before b × AllOwnPass rules (Some b.index) more
 
--- the first of all their lines that fails one
-abbrev pub FirstOwnFails : Rules → Option ℕ → List Block → ℕ → Type 0
-FirstOwnFails rules before [] line = ⊥
-FirstOwnFails rules before (b ∷ more) line =
-    OwnFails rules before b line ⊎ (OwnPasses rules before b × FirstOwnFails rules (Some b.index) more line)
+-- the first of all their lines that fails one, and the number
+abbrev pub FirstOwnFails : Rules → Option ℕ → List Block → ℕ → ℕ → Type 0
+FirstOwnFails rules before [] line number = ⊥
+FirstOwnFails rules before (b ∷ more) line number =
+    OwnFails rules before b line number ⊎ (OwnPasses rules before b × FirstOwnFails rules (Some b.index) more line number)
+
+-- the first line of the value that fails one
+abbrev pub HasOwnFault : LogValue → ℕ → Type 0
+HasOwnFault log line = (number : ℕ) × FirstOwnFails log.rules None log.blocks line number
 
 -- ---- the text
 
@@ -63,7 +69,7 @@ pub record FailsTest (text : List ℕ) (e : LogError) : Type 0 where
   pub log : LogValue
   pub spelling : IsSpelling form.Rows log text
   pub line : ℕ
-  pub fails : FirstOwnFails log.rules None log.blocks line
+  pub fails : HasOwnFault log line
   pub error : e ≡ error.BadLog line 5
 
 -- the first line that doesn't fit, and where all lines fit the first that fails a test
@@ -71,6 +77,10 @@ abbrev pub FirstRowsFault : List ℕ → LogError → Type 0
 FirstRowsFault text e = FaultFrom (place.First form.Rows) text 1 e ⊎ FailsTest text e
 
 -- ---- what a paving asks for
+
+abbrev pub has_row : SatEntry → Bool
+has_row (entry.Row row) = true
+has_row (entry.Skipped sat skip) = false
 
 -- the block has a root, and rows of four satellites more than may be inconsistent
 pub record IsPavable (rules : Rules) (b : Block) : Type 0 where

@@ -7,6 +7,7 @@ mod line;
 mod lines;
 mod log;
 mod order;
+mod own_tests;
 mod read;
 mod reading;
 mod rows;
@@ -17,6 +18,7 @@ mod words;
 mod write;
 
 pub use log::{Log, LogEpoch, LogError};
+pub use own_tests::{LineFault, own_fault};
 pub use sat_model::SatEntry;
 pub use texts::{read_log, read_rows};
 pub use write::{Line, done_line, epoch_line, head_lines, root_line, sat_line, step_line};

@@ -22,10 +22,24 @@ fn fault(alloc: Global, text: &str) -> (u32, u8) {
     if bytes.len() > 4_000_000_000 {
         return (0, 255);
     }
-    match read_log(alloc, bytes) {
+    told(&read_log(alloc, bytes))
+}
+
+/// The same of the text of rows.
+fn rows_fault(alloc: Global, text: &str) -> (u32, u8) {
+    let bytes = text.as_bytes();
+    if bytes.len() > 4_000_000_000 {
+        return (0, 255);
+    }
+    told(&read_rows(alloc, bytes))
+}
+
+/// A fault's line and kind.
+fn told(read: &Result<Log, LogError>) -> (u32, u8) {
+    match read {
         Ok(_) => (0, 0),
-        Err(LogError::BadLog { line, kind }) => (line, kind),
-        Err(LogError::NotBuilt { line }) => (line, 41),
+        Err(LogError::BadLog { line, kind }) => (*line, *kind),
+        Err(LogError::NotBuilt { line }) => (*line, 41),
         Err(LogError::NoMemory) => (0, 254),
     }
 }
@@ -96,6 +110,61 @@ fn each_changed_log_is_refused_at_its_first_fault(rt: HostRuntime) -> Result<(),
     Ok(())
 }
 
+/// The rows of the log, which are its lines up to the root.
+fn rows_of_log() -> &'static str {
+    let (rows, _) = LOG.split_once("edge").unwrap_or(("", ""));
+    rows
+}
+
+#[test]
+fn each_changed_text_of_rows_is_refused_at_its_first_fault(rt: HostRuntime) -> Result<(), Fail> {
+    let root = "root -1000000 -900000 -900000 1000000 900000 900000\n";
+    for (old, new, line, kind) in [
+        (root, root, 0, 0),
+        // A block of few has less than q + 4, the block of an epoch at least as many.
+        ("rules 0", "rules 1", 3, 5),
+        ("4\nsat", "5\nsat", 3, 5),
+        ("4\nsat", "3\nsat", 3, 5),
+        ("sat G04", "sat G03", 7, 5),
+        ("sat G01", "skip G04 1\nsat G01", 8, 5),
+        ("epoch 1", "few 1 0 0\nepoch 1", 4, 5),
+        ("epoch 1", "few 1 0 0\nepoch 2", 0, 0),
+        ("epoch", "few 1 0 4\nepoch", 3, 5),
+        (
+            "epoch 1",
+            "few 1 0 0\nskip G01 1\nskip G01 2\nepoch 2",
+            5,
+            5,
+        ),
+        ("root", "cut 0 0 5\nroot", 8, 2),
+        (root, "root 0 0 0 0 0 0\ncut 0 0 5\n", 9, 2),
+        (root, "root 0 0 0 0 0 0\nsplit 0 0\n", 9, 2),
+        (root, "root 0 0 0 0 0 0\ndone 0\n", 9, 2),
+        (root, "root 0 0 0 0 0 0", 8, 4),
+        (root, "", 8, 4),
+    ] {
+        let text = changed(rt.alloc(), rows_of_log(), old, new)?;
+        assert_eq!(rt; rows_fault(rt.alloc(), &text), (line, kind), "at {new}");
+    }
+    Ok(())
+}
+
+#[test]
+fn kind_5_yields_to_a_later_line_of_another_kind(rt: HostRuntime) -> Result<(), Fail> {
+    for (last, line, kind) in [
+        ("", 3, 5),
+        ("few 3\n", 5, 3),
+        ("few 3 0 0", 5, 4),
+        ("few 3 0 0\nsat\n", 6, 2),
+    ] {
+        let mut text = String::new(rt.alloc());
+        text.push_str("gpscover 1\nrules 0 0 1000\nepoch 2 0 3\nroot 0 0 0 0 0 0\n")?;
+        text.push_str(last)?;
+        assert_eq!(rt; rows_fault(rt.alloc(), &text), (line, kind), "at {last}");
+    }
+    Ok(())
+}
+
 #[test]
 fn short_texts(rt: HostRuntime) -> Result<(), Fail> {
     for (text, line, kind) in [
@@ -156,6 +225,29 @@ fn written(alloc: Global, log: &Log) -> Result<String, AllocError> {
         }
     }
     Ok(text)
+}
+
+#[test]
+fn rows_that_were_read_are_written_as_they_were(rt: HostRuntime) -> Result<(), Fail> {
+    let mut text = String::new(rt.alloc());
+    text.push_str(rows_of_log())?;
+    text.push_str("few 2 1388102401000000000000 1\nskip G02 1\nskip G03 6 20\n")?;
+    if text.len() > 4_000_000_000 {
+        return Ok(());
+    }
+    match read_rows(rt.alloc(), text.as_bytes()) {
+        Ok(log) => {
+            let mut whole = String::new(rt.alloc());
+            whole.push_str(rows_of_log())?;
+            whole.push_str("done 0\nfew 2 1388102401000000000000 1\nskip G02 1\nskip G03 6 20\n")?;
+            assert_eq!(rt; written(rt.alloc(), &log)?, whole);
+            for (epoch, line) in log.epochs.iter().zip([3, 9]) {
+                assert_eq!(rt; (epoch.line, epoch.steps.len(), epoch.done), (line, 0, 0));
+            }
+        }
+        Err(error) => assert!(rt; false, "refused: {error:?}"),
+    }
+    Ok(())
 }
 
 #[test]

@@ -1,6 +1,6 @@
 //! A log, or its rows, from a text.
 
-ghost use Rattle.std.specs.Prelude.{◌≡◌, ◌⊎◌, ◌≤◌, length, IfOk, IfErr};
+ghost use Rattle.std.specs.Prelude.{ℕ, ◌≡◌, ◌≢◌, ◌⊎◌, ◌≤◌, length, IfOk, IfErr};
 ghost use Rattle.sat_model.specs.Logs.{LogValue};
 ghost use Rattle.paving_log.specs.declared.line.Place.TheVariants as place;
 ghost use Rattle.paving_log.specs.declared.log.LogError.{LogError};
@@ -14,6 +14,7 @@ ghost use Rattle.paving_log.specs.Values.{log_value};
 use crate::line::Form;
 use crate::lines::Lines;
 use crate::log::{Log, LogError};
+use crate::own_tests::first_own_fault;
 use crate::read::{blocks, head};
 use std::alloc::Global;
 
@@ -48,10 +49,23 @@ pub fn read_log(alloc: Global, bytes: &[u8]) -> Result<Log, LogError>
     read_text(alloc, Form::Log, bytes)
 }
 
+/// The rows that the text spells, or its first fault.
+fn tested_rows(alloc: Global, bytes: &[u8]) -> Result<Log, LogError>
+    requires { length bytes.now ≤ 4000000000 }
+    ensures value { IfOk result (λ log. IsRowsText (log_value log) bytes.now) }
+    ensures fault { IfErr result (λ e. (e ≡ error.NoMemory) ⊎ FirstRowsFault bytes.now e) }
+{
+    let log = read_text(alloc, Form::Rows, bytes)?;
+    match first_own_fault(&log) {
+        Some(line) => Err(LogError::BadLog { line, kind: 5 }),
+        None => Ok(log),
+    }
+}
+
 /// Reads the rows of a log from their text: the log without its steps, where each block of an epoch
 /// ends with its root. Where all lines fit, the first line that fails a test of its own is refused
 /// with kind 5.
-pub fn read_rows(_alloc: Global, bytes: &[u8]) -> Result<Log, LogError>
+pub fn read_rows(alloc: Global, bytes: &[u8]) -> Result<Log, LogError>
     requires { length bytes.now ≤ 4000000000 }
     // What is read is a value that fits, passes the tests of its own lines and has this text.
     ensures value { IfOk result (λ log. IsRowsText (log_value log) bytes.now) }
@@ -61,8 +75,10 @@ pub fn read_rows(_alloc: Global, bytes: &[u8]) -> Result<Log, LogError>
     ensures exact { (log : LogValue) → IsRowsText log bytes.now → GivesLog log result }
     // A text with a fault is refused with its first, unless memory runs out.
     ensures first { (e : LogError) → FirstRowsFault bytes.now e → GivesFault e result }
+    // The rows have no place for a word that isn't built yet.
+    ensures built { IfErr result (λ e. (line : ℕ) → e ≢ error.NotBuilt line) }
     // Each block that isn't one of few satellites has a root and enough rows for a paving.
     ensures pavable { IfOk result (λ log. ArePavable (log_value log)) }
 {
-    Err(LogError::NoMemory)
+    tested_rows(alloc, bytes)
 }

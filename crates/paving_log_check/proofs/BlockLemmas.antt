@@ -1,30 +1,21 @@
 -- The lines of a block, and a log judged block by block.
-use Rattle.std.proofs.Common.{◌≡◌, ℕ, zero, suc, ◌+◌, ◌<◌, ◌≤◌, arith, Bool, true, false, List, [], ◌∷◌, length, get_or, drop, map, sym, ap, ◌∙◌, add-one, Option, None, Some, inl, inr}
-use Rattle.std.proofs.Math.ListN.{get_or-map}
-use Rattle.std.proofs.Math.Seq.{drop-cons}
-use Rattle.std.proofs.lemmas.Grind.{common_steps}
-use Rattle.std.proofs.lemmas.List.{length-map}
+use Rattle.std.proofs.Common.{◌≡◌, ℕ, zero, suc, ◌+◌, ◌<◌, ◌≤◌, arith, Bool, true, false, List, [], ◌∷◌, length, drop, ap, Option, None, Some, inl, inr}
 use Rattle.sat_model.specs.declared.rules.Rules.{Rules}
 use Rattle.sat_model.specs.declared.satellites.Row.{Row}
 use Rattle.sat_model.specs.declared.satellites.SatEntry.{SatEntry}
-use Rattle.sat_model.specs.declared.satellites.SatEntry.TheVariants as entry
 use Rattle.sat_model.specs.declared.steps.Step.{Step}
 use Rattle.sat_model.specs.declared.boxes.Box3.{Box3}
 use Rattle.sat_model.specs.Boxes.{GridBox, grid_box}
 use Rattle.sat_model.specs.Cover.{kept_in, kept_boxes_in, kept_boxes}
 use Rattle.sat_model.specs.Fold.{Stage, first_stage, after}
 use Rattle.sat_model.specs.Logs.{Block, LogValue, rows_of, lines_with, lines_in, IsNumberedFrom}
-use Rattle.sat_model.specs.Verdicts.{StepsPass, StepsFail, SuitsNumber, CountsRows, HeadPasses, NoneRepeats, BlockPasses, BlockFails, BlocksPass, BlocksFail, Judged, FirstFault}
-use Rattle.paving_log.specs.Values.{block_of, box_option, log_value}
-use Rattle.paving_log.specs.declared.log.Log.{Log}
+use Rattle.sat_model.specs.Verdicts.{StepsPass, StepsFail, SuitsNumber, CountsRows, BlockPasses, BlockFails, BlocksPass, BlocksFail, Judged, FirstFault}
+use Rattle.paving_log.specs.RowsText.{OwnPasses}
+use Rattle.paving_log.specs.Values.{block_of, box_option}
 use Rattle.paving_log.specs.declared.log.LogEpoch.{LogEpoch}
+use Rattle.paving_log.proofs.OwnLemmas.{rows_le_lines, IsBlockAt}
 
 -- ---- the rows of a paved block
-
-rows_le_lines : (sats : List SatEntry) → length (rows_of sats) ≤ length sats
-rows_le_lines [] = omega arith
-rows_le_lines (entry.Row row ∷ more) = omega (arith, rows_le_lines more)
-rows_le_lines (entry.Skipped sat skip ∷ more) = omega (arith, rows_le_lines more)
 
 -- more rows than may be inconsistent, and at most 64
 pub enough_rows : (few : Bool) (q n : ℕ) (sats : List SatEntry) → few ≡ false → SuitsNumber few q n → CountsRows few n sats → length sats ≤ 64
@@ -34,23 +25,23 @@ enough_rows false q n sats is suits counts most = (omega arith, omega (arith, ro
 
 -- ---- a paved block, its steps judged
 
-pub paved_passes : (rules : Rules) (before : Option ℕ) (epoch : LogEpoch) (root : Box3) (sats : List SatEntry) (rows : List Row) (steps : List Step)
-    → epoch.root ≡ Some root → sats ≡ epoch.sats.items → rows ≡ rows_of epoch.sats.items → steps ≡ epoch.steps.items
-    → HeadPasses rules before (block_of epoch) → NoneRepeats sats
+pub paved_passes : (rules : Rules) (before : Option ℕ) (epoch : LogEpoch) (root : Box3) (rows : List Row) (steps : List Step)
+    → epoch.root ≡ Some root → rows ≡ rows_of epoch.sats.items → steps ≡ epoch.steps.items
+    → OwnPasses rules before (block_of epoch)
     → StepsPass rows rules epoch.done (first_stage (grid_box root)) steps → BlockPasses rules before (block_of epoch)
-paved_passes rules before epoch root sats rows steps paved same_sats same_rows same_steps head none passes = record {
-  head = head;
-  sats = rw same_sats at none;
+paved_passes rules before epoch root rows steps paved same_rows same_steps own passes = record {
+  head = own.head;
+  sats = own.sats;
   body = rw paved (rw (same_rows, same_steps) at passes);
 }
 
-pub paved_fails : (rules : Rules) (before : Option ℕ) (epoch : LogEpoch) (root : Box3) (k number line : ℕ) (sats : List SatEntry) (rows : List Row) (steps : List Step)
-    → epoch.root ≡ Some root → sats ≡ epoch.sats.items → rows ≡ rows_of epoch.sats.items → steps ≡ epoch.steps.items
-    → HeadPasses rules before (block_of epoch) → NoneRepeats sats
+pub paved_fails : (rules : Rules) (before : Option ℕ) (epoch : LogEpoch) (root : Box3) (k number line : ℕ) (rows : List Row) (steps : List Step)
+    → epoch.root ≡ Some root → rows ≡ rows_of epoch.sats.items → steps ≡ epoch.steps.items
+    → OwnPasses rules before (block_of epoch)
     → StepsFail rows rules epoch.done (first_stage (grid_box root)) steps k number
     → line ≡ epoch.line + 2 + length epoch.sats.items + k → BlockFails rules before (block_of epoch) line number
-paved_fails rules before epoch root k number line sats rows steps paved same_sats same_rows same_steps head none fails is_line =
-    inr (inr (head, rw same_sats at none, (grid_box root, k, ap box_option paved, rw (same_rows, same_steps) at fails, is_line)))
+paved_fails rules before epoch root k number line rows steps paved same_rows same_steps own fails is_line =
+    inr (inr (own.head, own.sats, (grid_box root, k, ap box_option paved, rw (same_rows, same_steps) at fails, is_line)))
 
 -- ---- a failing line is one of the block's
 
@@ -84,23 +75,6 @@ pub record IsUnderway (log : LogValue) (before : Option ℕ) (i boxes : ℕ) : T
   pub next : ℕ
   pub numbered : IsNumberedFrom next (drop i log.blocks)
   pub few_boxes : boxes ≤ next
-
--- block i of the log is this one
-pub record IsBlockAt (log : LogValue) (i : ℕ) (block : Block) : Type 0 where
-  pub at : drop i log.blocks ≡ block ∷ drop (i + 1) log.blocks
-
-pub block_at : (log : Log) {epochs : List LogEpoch} (i : ℕ) (epoch : LogEpoch) → epochs ≡ log.epochs.items
-    → i < length epochs → epoch ≡ get_or epochs i epoch → IsBlockAt (log_value log) i (block_of epoch)
-block_at log {epochs = epochs} i epoch items within is = record {
-  at = rw (← items, add-one, drop-cons (map block_of epochs) i (block_of epoch) (omega (arith, length-map epochs block_of)))
-      (ap (λ (b : Block). b ∷ drop (suc i) (map block_of epochs)) (get_or-map block_of epochs i epoch ∙ ap block_of (sym is)));
-}
-
-pub no_block : (log : Log) {epochs : List LogEpoch} (i : ℕ) → epochs ≡ log.epochs.items → length epochs ≤ i → drop i (log_value log).blocks ≡ []
-no_block log {epochs = epochs} i items ended =
-    let same = length-map log.epochs.items block_of in
-    let short : length (map block_of log.epochs.items) ≤ i = omega (arith, ap length items) in
-    grind (arith, common_steps)
 
 last_number : (next : ℕ) (blocks : List Block) → IsNumberedFrom next blocks → next ≤ 4000000001
 last_number next [] h = h

@@ -2,5 +2,4 @@ pub mod SpanLemmas
 pub mod CutLemmas
 pub mod StageLemmas
 pub mod StepLemmas
-pub mod SatelliteLemmas
 pub mod BlockLemmas

@@ -1,9 +1,5 @@
-//! The numbers of the tests.
+//! The numbers of the tests of steps.
 
-/// An epoch's index isn't greater than the one before, or its number of satellites doesn't suit it.
-pub const EPOCH_DIFFERS: u8 = 51;
-/// An epoch's number isn't that of its rows, or a satellite is named twice.
-pub const SATELLITE_DIFFERS: u8 = 52;
 /// A step's box isn't live.
 pub const NOT_LIVE: u8 = 56;
 /// A cut takes nothing, leaves nothing, or takes a slab that isn't shown empty.

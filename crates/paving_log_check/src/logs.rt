@@ -8,8 +8,8 @@ ghost use Rattle.paving_log.specs.Values.{log_value};
 ghost use Rattle.paving_log_check.specs.Answers.{IfYes, IfNo, IsOnlyFault, ShowsNoSpans};
 
 use crate::blocks::{block_fault, kept_boxes};
-use crate::verdict::{Fault, LineFault, Verdict};
-use paving_log::Log;
+use crate::verdict::{Fault, Verdict};
+use paving_log::{LineFault, Log};
 use sat_model::{NoMemory, Span};
 use std::alloc::Global;
 

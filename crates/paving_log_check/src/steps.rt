@@ -14,7 +14,7 @@ use crate::faults::{
     OUT_NOT_SHOWN, OVER_BUDGET,
 };
 use crate::live::Live;
-use crate::verdict::LineFault;
+use paving_log::LineFault;
 use relaxed_meet::shown_empty;
 use sat_model::{Box3, NoMemory, Row, Rules, Step};
 use std::alloc::{AllocError, Global};

@@ -18,11 +18,3 @@ pub struct Fault {
     pub theirs: Span,
     pub ours: Span,
 }
-
-/// A line that fails: how far it is behind the first of its lines, and the least number of a test
-/// that fails there.
-#[derive(Clone, Copy, Debug, PartialEq, Eq)]
-pub(crate) struct LineFault {
-    pub(crate) offset: usize,
-    pub(crate) number: u8,
-}

@@ -10,10 +10,10 @@ pub steps_fault-requires : goal.steps_fault-requires
 steps_fault-requires c =
     let rows = c.deref-in-Some-root.ensures.value ∙ c.in_ok-rows.ensures ∙ ap rows_of c.deref.ensures.value in
     rw rows (enough_rows c.args.epoch.now.few c.args.rules.now.outliers c.args.epoch.now.n c.args.epoch.now.sats.items
-    (sym c.args.epoch.now.paved ∙ ap is_none c.in-Some-root.is) c.in_default.ensures.suits c.in_default.ensures.counts c.args.epoch.now.at_most)
+    (sym c.args.epoch.now.paved ∙ ap is_none c.in-Some-root.is) c.in_default.ensures.head.suits c.in_default.ensures.head.counts c.args.epoch.now.at_most)
 
-pub overflow_add-result-in-Some-2-2 : goal.overflow_add-result-in-Some-2-2
-overflow_add-result-in-Some-2-2 c =
+pub overflow_add-result-in-Some-2 : goal.overflow_add-result-in-Some-2
+overflow_add-result-in-Some-2 c =
     let fails = rw c.in-Some-2.is at c.in_ok-fault-in-Some-root.ensures in
     omega (
       arith,
@@ -25,20 +25,16 @@ overflow_add-result-in-Some-2-2 c =
 pub returns-in-Some-2 : goal.returns-in-Some-2
 returns-in-Some-2 c =
     let rows = c.deref-in-Some-root.ensures.value ∙ c.in_ok-rows.ensures ∙ ap rows_of c.deref.ensures.value in
-    paved_fails c.args.rules.now c.args.before c.args.epoch.now c.in-Some-root.root c.in-Some-2.fault.offset c.in-Some-2.fault.number _ _ _ _
-    c.in-Some-root.is c.deref-3.ensures.value rows c.deref-in-Some-root-2.ensures.value
-    c.in_default.ensures c.in_default-first_repeat.ensures (rw c.in-Some-2.is at c.in_ok-fault-in-Some-root.ensures) (omega (arith, c.len.ensures, c.args.epoch.now.sats.ok))
+    paved_fails c.args.rules.now c.args.before c.args.epoch.now c.in-Some-root.root c.in-Some-2.fault.offset c.in-Some-2.fault.number _ _ _
+    c.in-Some-root.is rows c.deref-in-Some-root-2.ensures.value
+    c.in_default.ensures (rw c.in-Some-2.is at c.in_ok-fault-in-Some-root.ensures) (omega (arith, c.len.ensures, c.args.epoch.now.sats.ok))
 
 pub returns-in-Some-root : goal.returns-in-Some-root
 returns-in-Some-root c =
     let rows = c.deref-in-Some-root.ensures.value ∙ c.in_ok-rows.ensures ∙ ap rows_of c.deref.ensures.value in
-    paved_passes c.args.rules.now c.args.before c.args.epoch.now c.in-Some-root.root _ _ _
-    c.in-Some-root.is c.deref-3.ensures.value rows c.deref-in-Some-root-2.ensures.value
-    c.in_default.ensures c.in_default-first_repeat.ensures (rw c.in-None-2.is at c.in_ok-fault-in-Some-root.ensures)
+    paved_passes c.args.rules.now c.args.before c.args.epoch.now c.in-Some-root.root _ _
+    c.in-Some-root.is rows c.deref-in-Some-root-2.ensures.value
+    c.in_default.ensures (rw c.in-None-2.is at c.in_ok-fault-in-Some-root.ensures)
 
 pub returns : goal.returns
-returns c = record {
-  head = c.in_default.ensures;
-  sats = rw c.deref-3.ensures.value at c.in_default-first_repeat.ensures;
-  body = rw c.in-None.is tt;
-}
+returns c = record { head = c.in_default.ensures.head; sats = c.in_default.ensures.sats; body = rw c.in-None.is tt }

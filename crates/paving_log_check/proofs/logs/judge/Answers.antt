@@ -3,7 +3,8 @@ use Rattle.sat_model.proofs.CoverLemmas.{row_cover}
 use Rattle.sat_model.proofs.FaultLemmas.{one_first_fault}
 use Rattle.sat_model.proofs.VerdictLemmas.{not_both}
 use Rattle.paving_log.specs.Values.{log_value}
-use Rattle.paving_log_check.proofs.BlockLemmas.{block_at, no_block, underway_more, underway_fails, underway_ends, line_fits, boxes_fit}
+use Rattle.paving_log.proofs.OwnLemmas.{block_at, no_block}
+use Rattle.paving_log_check.proofs.BlockLemmas.{underway_more, underway_fails, underway_ends, line_fits, boxes_fit}
 use Rattle.paving_log_check.proofs.logs.judge.Goals as goal
 
 pub fault_behind-requires : goal.fault_behind-requires

@@ -1,7 +1,7 @@
 use Rattle.std.proofs.Common.{below_more, sym, ◌∙◌}
 use Rattle.std.proofs.lemmas.Bool.{false≢true}
-use Rattle.paving_log_check.proofs.SatelliteLemmas.{repeat_from, repeat_named}
-use Rattle.paving_log_check.proofs.satellites.first_repeat.Goals as goal
+use Rattle.paving_log.proofs.SatelliteLemmas.{repeat_from, repeat_named}
+use Rattle.paving_log.proofs.own_tests.first_repeat.Goals as goal
 
 pub returns-then-names : goal.returns-then-names
 returns-then-names c = record {
