@@ -1,7 +1,9 @@
 pub mod Saying
 pub mod Ending
 pub mod Rewriting
-pub mod Paving
+pub mod PavingEnds
 pub mod PavingRun
 pub mod JudgingRun
 pub mod PavingReads
+pub mod Commands
+pub mod TextRefusals

@@ -98,3 +98,11 @@ plain_is limits rows log before after n notice.LogFault ends plain e = write_of 
 plain_is limits rows log before after n notice.NoMemory ends plain e = memory_of n e
 plain_is limits rows log before after n (notice.LogFull limit) ends plain e = full_of limits rows log before after n ends e ∙ ap notice.LogFull (sym plain)
 plain_is limits rows log before after n _ ends plain e = absurd plain
+
+-- no plain notice goes with a job that was done
+pub done_not_plain : (limits : Limits) (m : Notice) → IsPlainNotice limits m → status.Done ≡ status_of m → ⊥
+done_not_plain limits (notice.ReadFault slot.Rows) plain e = cc
+done_not_plain limits notice.LogFault plain e = cc
+done_not_plain limits notice.NoMemory plain e = cc
+done_not_plain limits (notice.LogFull limit) plain e = cc
+done_not_plain limits _ plain e = absurd plain

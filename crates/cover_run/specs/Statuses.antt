@@ -1,8 +1,10 @@
 -- How a run ends that gives a notice, and the notices of the calls below.
-use Rattle.std.specs.Prelude.{Result, Ok, Err}
+use Rattle.std.specs.Prelude.{ℕ, Result, Ok, Err}
 use Rattle.outer_io.specs.declared.reading.ReadAll.{ReadAll}
 use Rattle.outer_io.specs.declared.reading.ReadAll.TheVariants as read
 use Rattle.outer_io.specs.declared.slots.Slot.{Slot}
+use Rattle.paving.specs.declared.steps.StepFault.{StepFault}
+use Rattle.paving.specs.declared.steps.StepFault.TheVariants as fault
 use Rattle.paving_log.specs.declared.log.LogError.{LogError}
 use Rattle.paving_log.specs.declared.log.LogError.TheVariants as log
 use Rattle.paving_log_check.specs.declared.verdict.Verdict.{Verdict}
@@ -32,6 +34,11 @@ abbrev pub notice_of_log : Slot → LogError → Notice
 notice_of_log slot (log.BadLog line kind) = notice.BadLog slot line kind
 notice_of_log slot (log.NotBuilt line) = notice.NotBuilt slot line
 notice_of_log slot log.NoMemory = notice.NoMemory
+
+abbrev pub notice_of_fault : ℕ → StepFault → Notice
+notice_of_fault limit fault.Failed = notice.LogFault
+notice_of_fault limit fault.Full = notice.LogFull limit
+notice_of_fault limit fault.NoMemory = notice.NoMemory
 
 -- how a run ends whose log was read and judged so, where its verdict is written
 abbrev pub status_of_verdict : Result Verdict Notice → Status

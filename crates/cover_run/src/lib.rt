@@ -9,7 +9,7 @@ mod file;
 mod judging;
 mod limits;
 mod notice;
-mod paving;
+mod pave;
 mod status;
 mod text;
 mod texts;

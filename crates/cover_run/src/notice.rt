@@ -1,9 +1,10 @@
 //! Why a run doesn't do its job to the end.
 
 ghost use Rattle.std.specs.Prelude.{◌≡◌};
-ghost use Rattle.cover_run.specs.Statuses.{status_of, notice_of_read, notice_of_log};
+ghost use Rattle.cover_run.specs.Statuses.{status_of, notice_of_read, notice_of_log, notice_of_fault};
 
 use crate::Status;
+use log_writer::StepFault;
 use outer_io::{ReadAll, Slot};
 use paving_log::LogError;
 
@@ -56,6 +57,17 @@ impl Notice {
             ReadAll::ReadFault => Notice::ReadFault { slot },
             ReadAll::TooLong { limit } => Notice::TooLong { slot, limit },
             ReadAll::NoMemory => Notice::NoMemory,
+        }
+    }
+
+    /// Why the log wasn't written to its end, of which this is the limit.
+    pub fn of_writing(limit: u64, fault: StepFault) -> Notice
+        ensures { result ≡ notice_of_fault limit fault }
+    {
+        match fault {
+            StepFault::Failed => Notice::LogFault,
+            StepFault::Full => Notice::LogFull { limit },
+            StepFault::NoMemory => Notice::NoMemory,
         }
     }
 

@@ -12,7 +12,7 @@ ghost use Rattle.cover_run.specs.declared.status.Status.{Status};
 use crate::answer::say;
 use crate::judging::run_judge;
 use crate::notice::Notice;
-use crate::paving::run_pave;
+use crate::pave::run_pave;
 use crate::words::{Command, command_of};
 use crate::{Limits, Status};
 use outer_io::{Shelf, Sink};

@@ -7,4 +7,5 @@ mod log_file;
 mod log_steps;
 mod write;
 
+pub use paving::StepFault;
 pub use write::write_log;

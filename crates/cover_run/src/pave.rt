@@ -23,7 +23,7 @@ use crate::file::read_file;
 use crate::notice::Notice;
 use crate::text::rows_in;
 use crate::{Limits, Status};
-use log_writer::{StepFault, write_log};
+use log_writer::write_log;
 use outer_io::{Shelf, Sink, Slot};
 use paving_log::Log;
 use std::alloc::Global;
@@ -53,9 +53,7 @@ fn create_log<H: Shelf>(
     }
     match write_log(alloc, shelf, limit, rows) {
         Ok(()) => Ok(()),
-        Err(StepFault::Failed) => Err(Notice::LogFault),
-        Err(StepFault::Full) => Err(Notice::LogFull { limit }),
-        Err(StepFault::NoMemory) => Err(Notice::NoMemory),
+        Err(fault) => Err(Notice::of_writing(limit, fault)),
     }
 }
 

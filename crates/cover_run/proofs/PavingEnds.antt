@@ -12,6 +12,7 @@ use Rattle.cover_run.proofs.Rewriting.{rewrites, rewrites_behind, leaves_behind}
 use Rattle.cover_run.proofs.Saying.{HasFile-of}
 use Rattle.cover_run.specs.Answers.{HasFile, LeavesFiles, RewritesTo}
 use Rattle.cover_run.specs.Paving.{WritesLog, LogEnds, PavingEnds}
+use Rattle.cover_run.specs.Statuses.{notice_of_fault}
 use Rattle.cover_run.specs.declared.limits.Limits.{Limits}
 use Rattle.cover_run.specs.declared.notice.Notice.{Notice}
 use Rattle.cover_run.specs.declared.notice.Notice.TheVariants as notice
@@ -23,6 +24,12 @@ pub wrote : {T : Type 0} (rows : LogValue) (limit : ℕ) (before middle after : 
     → (bytes : List ℕ) × AppendedBy middle after Log bytes × IsText rows limit r bytes → RewritesTo before after name (IsText rows limit r)
 wrote rows limit before middle after name r is (bytes, appended, text) =
     (bytes, rewrites before after name bytes (subst (λ (t : Option Told). AppendedBy t after Log bytes) is appended), text)
+
+pub fault_ends : (rows : LogValue) (limit : ℕ) (before after : Option Told) (name : List ℕ) (fault : StepFault) → RewritesTo before after name (IsText {T = Unit {0}} rows limit (Err fault))
+    → LogEnds rows limit before after name (Err (notice_of_fault limit fault))
+fault_ends rows limit before after name Failed r = inr r
+fault_ends rows limit before after name Full r = (refl, r)
+fault_ends rows limit before after name NoMemory r = r
 
 -- ---- behind the reading of the rows
 
