@@ -105,7 +105,7 @@ log_accepts given limit before after log (Err (notice.NotBuilt of line)) ends = 
 log_accepts given limit before after log (Err (notice.ReadFault of)) ends = absurd ends
 
 -- such a log has no other notice
-pub log_notice : (given : LogValue) (limit : ℕ) (before after : Option Told) (log : List ℕ) (n : Notice) → LogEnds given limit before after log (Err n)
+log_notice : (given : LogValue) (limit : ℕ) (before after : Option Told) (log : List ℕ) (n : Notice) → LogEnds given limit before after log (Err n)
     → (status_of n ≡ status.Refused) ⊎ (status_of n ≡ status.ReadFault) → ⊥
 log_notice given limit before after log notice.LogFault ends (inl e) = absurd cc
 log_notice given limit before after log notice.LogFault ends (inr e) = absurd cc
@@ -119,3 +119,8 @@ log_notice given limit before after log (notice.TooLong of most) ends e = absurd
 log_notice given limit before after log (notice.BadLog of line kind) ends e = absurd ends
 log_notice given limit before after log (notice.NotBuilt of line) ends e = absurd ends
 log_notice given limit before after log (notice.ReadFault of) ends e = absurd ends
+
+pub not_notice : (given : LogValue) (limit : ℕ) (before after : Option Told) (log : List ℕ) (r : Result (Unit {0}) Notice) (n : Notice) → LogEnds given limit before after log r
+    → r ≡ Err n → (status_of n ≡ status.Refused) ⊎ (status_of n ≡ status.ReadFault) → ⊥
+not_notice given limit before after log r n ends e d =
+    log_notice given limit before after log n (subst (λ (q : Result (Unit {0}) Notice). LogEnds given limit before after log q) e ends) d

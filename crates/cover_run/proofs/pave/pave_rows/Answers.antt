@@ -5,10 +5,8 @@ use Rattle.outer_io.specs.Slots.{put}
 use Rattle.paving_log.specs.RowsText.{IsRowsText}
 use Rattle.paving_log.specs.Values.{log_value}
 use Rattle.cover_run.proofs.PavingEnds.{paving_ends}
-use Rattle.cover_run.proofs.PavingReads.{of_told, read_ended, read_status, read_accepts, text_ended, text_status, log_accepts, log_notice}
-use Rattle.cover_run.specs.Paving.{NamesRowsFault, LogEnds}
+use Rattle.cover_run.proofs.PavingReads.{of_told, read_ended, read_status, read_accepts, text_ended, text_status, log_accepts, not_notice}
 use Rattle.cover_run.specs.Statuses.{status_of}
-use Rattle.cover_run.specs.declared.notice.Notice.{Notice}
 use Rattle.cover_run.specs.declared.notice.Notice.TheVariants as notice
 use Rattle.cover_run.proofs.pave.pave_rows.Goals as goal
 
@@ -95,17 +93,15 @@ returns-clause-missing g c = λ m. let e = c.in_ok-bytes.ensures.missing m in cc
 
 pub returns-clause-read_fault : goal.returns-clause-read_fault
 returns-clause-read_fault g c = λ e there.
-    let ends : LogEnds (log_value c.in_ok-given.given) c.args.limits.now.log _ _ c.args.log.now (Err (notice.ReadFault slot.Rows)) = rw e at c.create_log.ensures.log in
-    absurd ends
+    absurd (not_notice (log_value c.in_ok-given.given) c.args.limits.now.log _ _ c.args.log.now c.create_log.result (notice.ReadFault slot.Rows) c.create_log.ensures.log e (inr refl))
 
 pub returns-clause-reads : goal.returns-clause-reads
 returns-clause-reads g c = λ other there reliable e.
-    let ends : LogEnds (log_value c.in_ok-given.given) c.args.limits.now.log _ _ c.args.log.now (Err (notice.ReadFault slot.Rows)) = rw e at c.create_log.ensures.log in
-    ends
+    not_notice (log_value c.in_ok-given.given) c.args.limits.now.log _ _ c.args.log.now c.create_log.result (notice.ReadFault slot.Rows) c.create_log.ensures.log e (inr refl)
 
 pub returns-clause-writes : goal.returns-clause-writes
 returns-clause-writes g c = λ reliable. (c.create_log.ensures.reliable (Some c.args.log.now) reliable).1 refl
 
 pub returns-clause-unwritten : goal.returns-clause-unwritten
 returns-clause-unwritten g c = λ n e d.
-    absurd (log_notice (log_value c.in_ok-given.given) c.args.limits.now.log _ _ c.args.log.now n (rw e at c.create_log.ensures.log) d)
+    absurd (not_notice (log_value c.in_ok-given.given) c.args.limits.now.log _ _ c.args.log.now c.create_log.result n c.create_log.ensures.log e d)
