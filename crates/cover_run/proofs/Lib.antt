@@ -5,5 +5,3 @@ pub mod PavingEnds
 pub mod PavingRun
 pub mod JudgingRun
 pub mod PavingReads
-pub mod Commands
-pub mod TextRefusals

@@ -43,12 +43,19 @@ const JUDGE: Case = Case {
     err_fails: 0,
 };
 
-fn shelf(alloc: Global, case: &Case) -> Result<MemoryShelf, Fail> {
+// A shelf with one file, on which `b.log` alone can be written, up to so many bytes.
+fn shelf(
+    alloc: Global,
+    name: &str,
+    text: &str,
+    room: u64,
+    fails: u64,
+) -> Result<MemoryShelf, Fail> {
     let mut bytes = Vec::new(alloc);
-    bytes.extend_from_slice(case.log.as_bytes())?;
-    let files = vec![in alloc; (String::from_str(alloc, "a.log")?, bytes)]?;
+    bytes.extend_from_slice(text.as_bytes())?;
+    let files = vec![in alloc; (String::from_str(alloc, name)?, bytes)]?;
     let log = String::from_str(alloc, "b.log")?;
-    Ok(MemoryShelf::make(alloc, files, log, 0, vec![in alloc; case.read_fails]?)?)
+    Ok(MemoryShelf::make(alloc, files, log, room, vec![in alloc; fails]?)?)
 }
 
 fn expect(
@@ -68,7 +75,7 @@ fn expect(
         settings: 0,
         log: case.limit.min(4_000_000_000),
     };
-    let mut shelf = shelf(alloc, case)?;
+    let mut shelf = shelf(alloc, "a.log", case.log, 0, case.read_fails)?;
     let mut out = MemorySink::make(alloc, case.room, vec![in alloc; case.out_fails]?)?;
     let mut err = MemorySink::make(alloc, 200, vec![in alloc; case.err_fails]?)?;
     let ended = run(alloc, &limits, &words, &mut shelf, &mut out, &mut err);
@@ -249,10 +256,22 @@ const PAVE: Paving = Paving {
 };
 
 // What a paving leaves: its status, the line on standard error and the log in two parts.
+#[derive(Clone, Copy)]
 struct Left {
     status: Status,
     err: &'static str,
     log: Option<(&'static str, &'static str)>,
+}
+
+// Whether `b.log` is these two texts, one behind the other.
+fn has_log(shelf: &MemoryShelf, first: &str, second: &str) -> bool {
+    match shelf.file("b.log") {
+        Some(bytes) => match bytes.strip_prefix(first.as_bytes()) {
+            Some(rest) => rest == second.as_bytes(),
+            None => false,
+        },
+        None => false,
+    }
 }
 
 fn paves(rt: &(impl Abort + AllocGlobal), case: &Paving, left: &Left) -> Result<(), Fail> {
@@ -266,24 +285,16 @@ fn paves(rt: &(impl Abort + AllocGlobal), case: &Paving, left: &Left) -> Result<
         settings: 0,
         log: case.limit.min(4_000_000_000),
     };
-    let mut rows = Vec::new(alloc);
-    rows.extend_from_slice(case.rows.as_bytes())?;
-    let files = vec![in alloc; (String::from_str(alloc, "a.rows")?, rows)]?;
-    let log = String::from_str(alloc, "b.log")?;
-    let mut shelf = MemoryShelf::make(alloc, files, log, case.room, vec![in alloc; case.fails]?)?;
+    let mut shelf = shelf(alloc, "a.rows", case.rows, case.room, case.fails)?;
     let mut out = MemorySink::make(alloc, 100, Vec::new(alloc))?;
     let mut err = MemorySink::make(alloc, 200, Vec::new(alloc))?;
     let ended = run(alloc, &limits, &words, &mut shelf, &mut out, &mut err);
     assert_eq!(rt; ended, left.status);
     assert_eq!(rt; out.bytes(), b"".as_slice());
     assert_eq!(rt; err.bytes(), left.err.as_bytes());
-    let mut text = Vec::new(alloc);
-    if let Some((first, second)) = left.log {
-        text.extend_from_slice(first.as_bytes())?;
-        text.extend_from_slice(second.as_bytes())?;
-        assert_eq!(rt; shelf.file("b.log"), Some(text.as_slice()));
-    } else {
-        assert_eq!(rt; shelf.file("b.log"), None);
+    match left.log {
+        Some((first, second)) => assert!(rt; has_log(&shelf, first, second)),
+        None => assert!(rt; shelf.file("b.log").is_none()),
     }
     Ok(())
 }
