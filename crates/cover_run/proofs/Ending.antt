@@ -8,7 +8,7 @@ use Rattle.sat_model.specs.Logs.{LogValue}
 use Rattle.sat_model.specs.Cover.{RowCover, kept_boxes}
 use Rattle.sat_model.specs.Verdicts.{Judged, FirstFault}
 use Rattle.cover_run.proofs.Saying.{IsRight, HasFault}
-use Rattle.cover_run.specs.Answers.{TextGives}
+use Rattle.cover_run.specs.Judging.{TextGives}
 use Rattle.cover_run.specs.Statuses.{status_of_verdict}
 use Rattle.cover_run.specs.declared.status.Status.{Status}
 use Rattle.cover_run.specs.declared.status.Status.TheVariants as status

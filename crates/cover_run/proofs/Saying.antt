@@ -8,7 +8,8 @@ use Rattle.paving_log_check.specs.declared.verdict.Verdict.TheVariants.{Yes, No}
 use Rattle.paving_log_check.specs.Answers.{IfYes, IfNo}
 use Rattle.sat_model.specs.Cover.{RowCover, kept_boxes}
 use Rattle.sat_model.specs.Verdicts.{Judged, FirstFault}
-use Rattle.cover_run.specs.Answers.{HasFile, SpellLog, SaysYes, SaysNo}
+use Rattle.cover_run.specs.Answers.{HasFile}
+use Rattle.cover_run.specs.Judging.{SpellLog, SaysYes, SaysNo}
 use Rattle.cover_run.specs.Statuses.{status_of_verdict}
 use Rattle.cover_run.specs.Texts.{yes_text, verdict_text}
 use Rattle.cover_run.specs.declared.status.Status.TheVariants as status

@@ -1,6 +1,7 @@
--- What `judge` answers of the bytes of a log, and what the sinks get.
-use Rattle.std.specs.Prelude.{◌≡◌, ◌≢◌, ◌≤◌, ◌<◌, ◌⊎◌, ℕ, List, length, Option, None, Some, IsSomeAnd}
+-- What is seen of a run: the files, the slots and what the sinks get.
+use Rattle.std.specs.Prelude.{◌≡◌, ◌≢◌, ℕ, ◌+◌, ◌⊎◌, List, length, Option, None, Some, IsSomeAnd}
 use Rattle.std.specs.Io.KnownBytes.{append_known}
+use Rattle.std.specs.Option.{option_map}
 use Rattle.std.specs.FinMap as map
 use Rattle.outer_io.specs.Causes.{Rose}
 use Rattle.outer_io.specs.Slots.{put}
@@ -9,20 +10,34 @@ use Rattle.outer_io.specs.declared.shelf.Phase.TheVariants.{Writing}
 use Rattle.outer_io.specs.declared.slots.Slot.{Slot}
 use Rattle.outer_io.specs.declared.slots.Slots.{Slots}
 use Rattle.outer_io.specs.Taken.{TakenBy}
-use Rattle.outer_io.specs.Told.{Told}
-use Rattle.paving_log.specs.Faults as text
-use Rattle.paving_log.specs.Text.{IsLogText}
-use Rattle.paving_log.specs.declared.log.LogError.TheVariants as error
-use Rattle.sat_model.specs.Cover.{RowCover, kept_boxes}
-use Rattle.sat_model.specs.Logs.{LogValue}
-use Rattle.sat_model.specs.Verdicts.{Judged, FirstFault}
-use Rattle.cover_run.specs.Texts.{yes_text, no_text}
-use Rattle.cover_run.specs.declared.notice.Notice.{Notice}
-use Rattle.cover_run.specs.declared.notice.Notice.TheVariants as notice
+use Rattle.outer_io.specs.Told.{Told, files_of, written_of}
 use Rattle.cover_run.specs.declared.status.Status.{Status}
 use Rattle.cover_run.specs.declared.status.Status.TheVariants as status
 
--- ---- the file
+-- what a shelf tells, what its slots are open for and its counts of faults, and for each sink what it has taken and its count
+pub record World : Type 0 where
+  pub told : Option Told
+  pub phases : Slots Phase
+  pub read_faults : ℕ
+  pub write_faults : ℕ
+  pub out : Option (List ℕ)
+  pub out_faults : ℕ
+  pub err : Option (List ℕ)
+  pub err_faults : ℕ
+
+abbrev pub world : Option Told → Slots Phase → ℕ → ℕ → Option (List ℕ) → ℕ → Option (List ℕ) → ℕ → World
+world told phases read_faults write_faults out out_faults err err_faults = record {
+  told = told;
+  phases = phases;
+  read_faults = read_faults;
+  write_faults = write_faults;
+  out = out;
+  out_faults = out_faults;
+  err = err;
+  err_faults = err_faults;
+}
+
+-- ---- a file
 
 -- where the files are told, the named one is there, and the fact holds of its bytes
 abbrev pub HasFile : Option Told → List ℕ → (List ℕ → Type 0) → Type 0
@@ -34,56 +49,21 @@ abbrev pub IsToldFile : Option Told → List ℕ → List ℕ → Type 0
 IsToldFile None name bytes = ⊥
 IsToldFile (Some told) name bytes = map.get told.files name ≡ Some bytes
 
--- ---- its bytes
+-- no file has changed, and nothing was written
+pub record LeavesFiles (before after : Option Told) : Type 0 where
+  pub files : files_of after ≡ files_of before
+  pub written : written_of after ≡ written_of before
 
--- the bytes are the text of a log that meets the fact
-abbrev pub SpellLog : List ℕ → (LogValue → Type 0) → Type 0
-SpellLog bytes Meets = (log : LogValue) × IsLogText log bytes × Meets log
+-- The named file has these bytes now, and no other file has changed. No more than they were written.
+pub record Rewrites (before after : Option Told) (name bytes : List ℕ) : Type 0 where
+  pub files : files_of after ≡ option_map (λ files. map.insert files name bytes) (files_of before)
+  pub written : written_of after ≡ option_map (λ count. count + length bytes) (written_of before)
 
--- the bytes are no log's text
-abbrev pub SpellNoLog : List ℕ → Type 0
-SpellNoLog bytes = (log : LogValue) → IsLogText log bytes → ⊥
+-- it has bytes that meet the fact
+abbrev pub RewritesTo : Option Told → Option Told → List ℕ → (List ℕ → Type 0) → Type 0
+RewritesTo before after name Meets = (bytes : List ℕ) × Rewrites before after name bytes × Meets bytes
 
--- these bytes are a log that is right, with the cover that it claims, and this line says so
-abbrev pub SaysYes : List ℕ → List ℕ → Type 0
-SaysYes bytes line = SpellLog bytes (λ log. Judged log × RowCover log × (line ≡ yes_text (kept_boxes log)))
-
--- these bytes are a log with a fault, and this line names the first
-abbrev pub SaysNo : List ℕ → List ℕ → Type 0
-SaysNo bytes line =
-    SpellLog bytes (λ log. (Judged log → ⊥) × ((at number : ℕ) × FirstFault log at number × (line ≡ no_text number at)))
-
--- the notice is that for the first fault of a text that is no log's
-abbrev pub NamesFault : List ℕ → Notice → Type 0
-NamesFault bytes (notice.BadLog line kind) = SpellNoLog bytes × text.FirstFault bytes (error.BadLog line kind)
-NamesFault bytes (notice.NotBuilt line) = SpellNoLog bytes × text.FirstFault bytes (error.NotBuilt line)
-NamesFault bytes _ = ⊥
-
--- the notice isn't one of a refused file
-abbrev pub IsPlain : Notice → Type 0
-IsPlain notice.Usage = Unit {0}
-IsPlain notice.LogFault = Unit {0}
-IsPlain notice.OutFault = Unit {0}
-IsPlain notice.NoMemory = Unit {0}
-IsPlain _ = ⊥
-
--- the notice says why a file with these bytes is refused
-abbrev pub RefusesFile : ℕ → List ℕ → Notice → Type 0
-RefusesFile limit bytes (notice.TooLong most) = (most ≡ limit) × (limit < length bytes)
-RefusesFile limit bytes notice = (length bytes ≤ limit) × NamesFault bytes notice
-
--- ---- the status that bytes determine
-
--- the text gives this status, where no fault and no want of memory ends the run before
-abbrev pub TextGives : List ℕ → Status → Type 0
-TextGives bytes status.Done = SpellLog bytes Judged
-TextGives bytes status.No = SpellLog bytes (λ log. Judged log → ⊥)
-TextGives bytes status.Refused = SpellNoLog bytes
-TextGives bytes _ = ⊥
-
--- a file with these bytes does, under a limit
-abbrev pub FileGives : ℕ → List ℕ → Status → Type 0
-FileGives limit bytes s = ((limit < length bytes) × (s ≡ status.Refused)) ⊎ ((length bytes ≤ limit) × TextGives bytes s)
+-- ---- the status
 
 -- a fault or want of memory ended the run
 abbrev pub IsBrokenOff : Status → Type 0

@@ -1,4 +1,7 @@
 pub mod Words
+pub mod Asked
 pub mod Statuses
 pub mod Texts
 pub mod Answers
+pub mod Judging
+pub mod Paving

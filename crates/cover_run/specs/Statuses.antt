@@ -1,7 +1,10 @@
 -- How a run ends that gives a notice, and the notices of the calls below.
-use Rattle.std.specs.Prelude.{Result, Ok, Err}
+use Rattle.std.specs.Prelude.{ℕ, Result, Ok, Err}
 use Rattle.outer_io.specs.declared.reading.ReadAll.{ReadAll}
 use Rattle.outer_io.specs.declared.reading.ReadAll.TheVariants as read
+use Rattle.outer_io.specs.declared.slots.Slot.{Slot}
+use Rattle.paving.specs.declared.steps.StepFault.{StepFault}
+use Rattle.paving.specs.declared.steps.StepFault.TheVariants as fault
 use Rattle.paving_log.specs.declared.log.LogError.{LogError}
 use Rattle.paving_log.specs.declared.log.LogError.TheVariants as log
 use Rattle.paving_log_check.specs.declared.verdict.Verdict.{Verdict}
@@ -13,22 +16,29 @@ use Rattle.cover_run.specs.declared.status.Status.TheVariants as status
 
 abbrev pub status_of : Notice → Status
 status_of notice.Usage = status.Usage
-status_of (notice.TooLong limit) = status.Refused
-status_of (notice.BadLog line kind) = status.Refused
-status_of (notice.NotBuilt line) = status.Refused
-status_of notice.LogFault = status.ReadFault
+status_of (notice.TooLong slot limit) = status.Refused
+status_of (notice.BadLog slot line kind) = status.Refused
+status_of (notice.NotBuilt slot line) = status.Refused
+status_of (notice.ReadFault slot) = status.ReadFault
+status_of notice.LogFault = status.WriteFault
 status_of notice.OutFault = status.WriteFault
 status_of notice.NoMemory = status.NoMemory
+status_of (notice.LogFull limit) = status.LogFull
 
-abbrev pub notice_of_read : ReadAll → Notice
-notice_of_read read.ReadFault = notice.LogFault
-notice_of_read (read.TooLong limit) = notice.TooLong limit
-notice_of_read read.NoMemory = notice.NoMemory
+abbrev pub notice_of_read : Slot → ReadAll → Notice
+notice_of_read slot read.ReadFault = notice.ReadFault slot
+notice_of_read slot (read.TooLong limit) = notice.TooLong slot limit
+notice_of_read slot read.NoMemory = notice.NoMemory
 
-abbrev pub notice_of_log : LogError → Notice
-notice_of_log (log.BadLog line kind) = notice.BadLog line kind
-notice_of_log (log.NotBuilt line) = notice.NotBuilt line
-notice_of_log log.NoMemory = notice.NoMemory
+abbrev pub notice_of_log : Slot → LogError → Notice
+notice_of_log slot (log.BadLog line kind) = notice.BadLog slot line kind
+notice_of_log slot (log.NotBuilt line) = notice.NotBuilt slot line
+notice_of_log slot log.NoMemory = notice.NoMemory
+
+abbrev pub notice_of_fault : ℕ → StepFault → Notice
+notice_of_fault limit fault.Failed = notice.LogFault
+notice_of_fault limit fault.Full = notice.LogFull limit
+notice_of_fault limit fault.NoMemory = notice.NoMemory
 
 -- how a run ends whose log was read and judged so, where its verdict is written
 abbrev pub status_of_verdict : Result Verdict Notice → Status
@@ -40,3 +50,8 @@ status_of_verdict (Err notice) = status_of notice
 abbrev pub end_of : Result Status Notice → Status
 end_of (Ok s) = s
 end_of (Err notice) = status_of notice
+
+-- the same, where a run that does its job has no other answer
+abbrev pub ending : Result (Unit {0}) Notice → Status
+ending (Ok done) = status.Done
+ending (Err notice) = status_of notice

@@ -1,5 +1,7 @@
 -- The lines that the program prints.
 use Rattle.std.specs.Prelude.{ℕ, ◌++◌, List, codes, decimal, nat_eq, if◌then◌else◌}
+use Rattle.outer_io.specs.declared.slots.Slot.{Slot}
+use Rattle.outer_io.specs.declared.slots.Slot.TheVariants as slot
 use Rattle.paving_log_check.specs.declared.verdict.Verdict.{Verdict}
 use Rattle.paving_log_check.specs.declared.verdict.Verdict.TheVariants as verdict
 use Rattle.cover_run.specs.declared.notice.Notice.{Notice}
@@ -40,11 +42,21 @@ verdict_text (verdict.No fault) = no_text fault.number fault.line
 
 -- ---- on standard error
 
+-- what a file is read or written for
+abbrev pub role_text : Slot → List ℕ
+role_text slot.Settings = codes "settings"
+role_text slot.Nav = codes "nav"
+role_text slot.Obs = codes "obs"
+role_text slot.Rows = codes "rows"
+role_text slot.Log = codes "log"
+
 abbrev pub notice_text : Notice → List ℕ
 notice_text notice.Usage = codes "usage: gpscover judge LOG, pave ROWS LOG, solve or check OBS NAV SETTINGS LOG, make SEED EPOCHS\n"
-notice_text (notice.TooLong limit) = codes "log 29 TooLong " ++ decimal limit ++ codes "\n"
-notice_text (notice.BadLog line kind) = codes "log 40 BadLog line " ++ decimal line ++ codes " kind " ++ decimal kind ++ codes "\n"
-notice_text (notice.NotBuilt line) = codes "log 41 NotBuilt line " ++ decimal line ++ codes "\n"
+notice_text (notice.TooLong slot limit) = role_text slot ++ codes " 29 TooLong " ++ decimal limit ++ codes "\n"
+notice_text (notice.BadLog slot line kind) = role_text slot ++ codes " 40 BadLog line " ++ decimal line ++ codes " kind " ++ decimal kind ++ codes "\n"
+notice_text (notice.NotBuilt slot line) = role_text slot ++ codes " 41 NotBuilt line " ++ decimal line ++ codes "\n"
+notice_text (notice.ReadFault slot) = role_text slot ++ codes " fault\n"
 notice_text notice.LogFault = codes "log fault\n"
 notice_text notice.OutFault = codes "out fault\n"
 notice_text notice.NoMemory = codes "no memory\n"
+notice_text (notice.LogFull limit) = codes "log full " ++ decimal limit ++ codes "\n"

@@ -1,7 +1,7 @@
 //! What the program does: words, files and sinks go in, and a status comes out.
 //!
 //! `judge LOG` reads a log, judges it with its satellite rows taken as given, and prints the
-//! verdict.
+//! verdict. `pave ROWS LOG` reads satellite rows, paves their epochs and writes the log.
 #![tactic(auto)]
 
 mod answer;
@@ -9,6 +9,7 @@ mod file;
 mod judging;
 mod limits;
 mod notice;
+mod pave;
 mod status;
 mod text;
 mod texts;

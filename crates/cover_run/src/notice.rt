@@ -1,28 +1,34 @@
-//! Why a run gives no verdict.
+//! Why a run doesn't do its job to the end.
 
 ghost use Rattle.std.specs.Prelude.{◌≡◌};
-ghost use Rattle.cover_run.specs.Statuses.{status_of};
+ghost use Rattle.cover_run.specs.Statuses.{status_of, notice_of_read, notice_of_log, notice_of_fault};
 
 use crate::Status;
-use outer_io::{Failed, ReadAll};
+use log_writer::StepFault;
+use outer_io::{ReadAll, Slot};
 use paving_log::LogError;
 
-/// What is said on standard error, in one line, of a run without a verdict.
+/// What is said on standard error, in one line, of a run that doesn't do its job to the end. A slot
+/// says which file it is about.
 #[derive(Clone, Copy, Debug, PartialEq, Eq)]
 pub enum Notice {
     /// The words are no command.
     Usage,
-    /// The log has more bytes than this limit.
-    TooLong { limit: u64 },
-    /// The log's text has its first fault at this line, of this kind.
-    BadLog { line: u32, kind: u8 },
-    /// The first line of the log that doesn't fit begins with a word that isn't built yet.
-    NotBuilt { line: u32 },
-    /// The log is missing, or a read of it has failed.
+    /// The file has more bytes than this limit.
+    TooLong { slot: Slot, limit: u64 },
+    /// The file's text has its first fault at this line, of this kind.
+    BadLog { slot: Slot, line: u32, kind: u8 },
+    /// The first line of the file that doesn't fit begins with a word that isn't built yet.
+    NotBuilt { slot: Slot, line: u32 },
+    /// The file is missing, or a read of it has failed.
+    ReadFault { slot: Slot },
+    /// The log couldn't be created, or a write to it has failed.
     LogFault,
     /// A write to standard output has failed.
     OutFault,
     NoMemory,
+    /// The next line of the log would bring it past this limit.
+    LogFull { limit: u64 },
 }
 
 impl Notice {
@@ -32,39 +38,46 @@ impl Notice {
     {
         match self {
             Notice::Usage => Status::Usage,
-            Notice::TooLong { limit: _ } => Status::Refused,
-            Notice::BadLog { line: _, kind: _ } => Status::Refused,
-            Notice::NotBuilt { line: _ } => Status::Refused,
-            Notice::LogFault => Status::ReadFault,
+            Notice::TooLong { .. } => Status::Refused,
+            Notice::BadLog { .. } => Status::Refused,
+            Notice::NotBuilt { .. } => Status::Refused,
+            Notice::ReadFault { .. } => Status::ReadFault,
+            Notice::LogFault => Status::WriteFault,
             Notice::OutFault => Status::WriteFault,
             Notice::NoMemory => Status::NoMemory,
+            Notice::LogFull { .. } => Status::LogFull,
         }
     }
-}
 
-impl From<ReadAll> for Notice {
-    ghost use Rattle.cover_run.specs.Statuses.{notice_of_read};
-
-    ghost from_gives = { λ refusal notice. notice ≡ notice_of_read refusal };
-
-    fn from(refusal: ReadAll) -> Notice {
+    /// Why the slot's file wasn't read to its end.
+    pub fn of_read(slot: Slot, refusal: ReadAll) -> Notice
+        ensures { result ≡ notice_of_read slot refusal }
+    {
         match refusal {
-            ReadAll::ReadFault => Notice::LogFault,
-            ReadAll::TooLong { limit } => Notice::TooLong { limit },
+            ReadAll::ReadFault => Notice::ReadFault { slot },
+            ReadAll::TooLong { limit } => Notice::TooLong { slot, limit },
             ReadAll::NoMemory => Notice::NoMemory,
         }
     }
-}
 
-impl From<LogError> for Notice {
-    ghost use Rattle.cover_run.specs.Statuses.{notice_of_log};
+    /// Why the log wasn't written to its end, of which this is the limit.
+    pub fn of_writing(limit: u64, fault: StepFault) -> Notice
+        ensures { result ≡ notice_of_fault limit fault }
+    {
+        match fault {
+            StepFault::Failed => Notice::LogFault,
+            StepFault::Full => Notice::LogFull { limit },
+            StepFault::NoMemory => Notice::NoMemory,
+        }
+    }
 
-    ghost from_gives = { λ error notice. notice ≡ notice_of_log error };
-
-    fn from(error: LogError) -> Notice {
+    /// Why the text of the slot's file is none of its kind.
+    pub fn of_text(slot: Slot, error: LogError) -> Notice
+        ensures { result ≡ notice_of_log slot error }
+    {
         match error {
-            LogError::BadLog { line, kind } => Notice::BadLog { line, kind },
-            LogError::NotBuilt { line } => Notice::NotBuilt { line },
+            LogError::BadLog { line, kind } => Notice::BadLog { slot, line, kind },
+            LogError::NotBuilt { line } => Notice::NotBuilt { slot, line },
             LogError::NoMemory => Notice::NoMemory,
         }
     }

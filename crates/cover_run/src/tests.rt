@@ -43,12 +43,19 @@ const JUDGE: Case = Case {
     err_fails: 0,
 };
 
-fn shelf(alloc: Global, case: &Case) -> Result<MemoryShelf, Fail> {
+// A shelf with one file, on which `b.log` alone can be written, up to so many bytes.
+fn shelf(
+    alloc: Global,
+    name: &str,
+    text: &str,
+    room: u64,
+    fails: u64,
+) -> Result<MemoryShelf, Fail> {
     let mut bytes = Vec::new(alloc);
-    bytes.extend_from_slice(case.log.as_bytes())?;
-    let files = vec![in alloc; (String::from_str(alloc, "a.log")?, bytes)]?;
+    bytes.extend_from_slice(text.as_bytes())?;
+    let files = vec![in alloc; (String::from_str(alloc, name)?, bytes)]?;
     let log = String::from_str(alloc, "b.log")?;
-    Ok(MemoryShelf::make(alloc, files, log, 0, vec![in alloc; case.read_fails]?)?)
+    Ok(MemoryShelf::make(alloc, files, log, room, vec![in alloc; fails]?)?)
 }
 
 fn expect(
@@ -68,7 +75,7 @@ fn expect(
         settings: 0,
         log: case.limit.min(4_000_000_000),
     };
-    let mut shelf = shelf(alloc, case)?;
+    let mut shelf = shelf(alloc, "a.log", case.log, 0, case.read_fails)?;
     let mut out = MemorySink::make(alloc, case.room, vec![in alloc; case.out_fails]?)?;
     let mut err = MemorySink::make(alloc, 200, vec![in alloc; case.err_fails]?)?;
     let ended = run(alloc, &limits, &words, &mut shelf, &mut out, &mut err);
@@ -80,14 +87,17 @@ fn expect(
 
 #[test]
 fn other_words_are_answered_with_the_usage(rt: HostRuntime) -> Result<(), Fail> {
-    let table: [&[&str]; 8] = [
+    let table: [&[&str]; 11] = [
         &[],
         &["judge"],
         &["judge", "-"],
         &["judge", "--help"],
         &["judge", "a.log", "b.log"],
         &["Judge", "a.log"],
-        &["pave", "a.rows", "a.log"],
+        &["pave", "a.rows"],
+        &["pave", "a.rows", "a.log", "b.log"],
+        &["pave", "-", "a.log"],
+        &["pave", "a.rows", "-a.log"],
         &["--version"],
     ];
     for words in table {
@@ -171,4 +181,216 @@ fn each_call_that_fails_has_its_status(rt: HostRuntime) -> Result<(), Fail> {
         ..JUDGE
     };
     expect(&rt, &both, Status::WriteFault, "", "")
+}
+
+// The rows of the log above.
+const ROWS: &str = "\
+gpscover 1
+rules 0 0 1000000
+epoch 1 1388102400000000000000 4
+sat G01 20000000000000 20000000000000 0 0 0 0 20000000000000 20000000000000 -500000 500000
+sat G02 0 0 20000000000000 20000000000000 0 0 20000000000000 20000000000000 -500000 500000
+sat G03 0 0 0 0 20000000000000 20000000000000 20000000000000 20000000000000 -500000 500000
+sat G04 12000000000000 12000000000000 16000000000000 16000000000000 0 0 20000000000000 20000000000000 -500000 500000
+root -1000000 -900000 -900000 1000000 900000 900000
+";
+
+// The same with one split allowed.
+const SPLIT_ROWS: &str = "\
+gpscover 1
+rules 0 1 1000000
+epoch 1 1388102400000000000000 4
+sat G01 20000000000000 20000000000000 0 0 0 0 20000000000000 20000000000000 -500000 500000
+sat G02 0 0 20000000000000 20000000000000 0 0 20000000000000 20000000000000 -500000 500000
+sat G03 0 0 0 0 20000000000000 20000000000000 20000000000000 20000000000000 -500000 500000
+sat G04 12000000000000 12000000000000 16000000000000 16000000000000 0 0 20000000000000 20000000000000 -500000 500000
+root -1000000 -900000 -900000 1000000 900000 900000
+";
+
+// The first satellite is 10 m too far off for any point, in the second of two epochs. The first epoch
+// has too few satellites.
+const EMPTY_ROWS: &str = "\
+gpscover 1
+rules 0 0 1000000
+few 1 0 3
+skip G07 6 20
+epoch 2 1388102400000000000000 4
+sat G01 20000000000000 20000000000000 0 0 0 0 20000010000000 20000010000000 -500000 500000
+sat G02 0 0 20000000000000 20000000000000 0 0 20000000000000 20000000000000 -500000 500000
+sat G03 0 0 0 0 20000000000000 20000000000000 20000000000000 20000000000000 -500000 500000
+sat G04 12000000000000 12000000000000 16000000000000 16000000000000 0 0 20000000000000 20000000000000 -500000 500000
+root -1000000 -900000 -900000 1000000 900000 900000
+";
+
+// One of five satellites may be wrong, and all points fit.
+const INNER_ROWS: &str = "\
+gpscover 1
+rules 1 0 1000000
+epoch 1 1388102400000000000000 5
+sat G01 20000000000000 20000000000000 0 0 0 0 20000000000000 20000000000000 -1000000 1000000
+sat G02 0 0 20000000000000 20000000000000 0 0 20000000000000 20000000000000 -1000000 1000000
+sat G03 0 0 0 0 20000000000000 20000000000000 20000000000000 20000000000000 -1000000 1000000
+sat G04 12000000000000 12000000000000 16000000000000 16000000000000 0 0 20000000000000 20000000000000 -1000000 1000000
+sat G05 0 0 0 0 -20000000000000 -20000000000000 20000000000000 20000000000000 -1000000 1000000
+root -1000000 -900000 -900000 1000000 900000 900000
+";
+
+const FEW: &str = "gpscover 1\nrules 1 0 1000000\nfew 1 1388102400000000000000 4\n";
+
+// A run over a shelf with the rows `a.rows`, on which `b.log` alone can be written.
+#[derive(Clone, Copy)]
+struct Paving {
+    words: &'static [&'static str],
+    rows: &'static str,
+    limit: u64,
+    room: u64,
+    fails: u64,
+}
+
+const PAVE: Paving = Paving {
+    words: &["pave", "a.rows", "b.log"],
+    rows: ROWS,
+    limit: 2_000,
+    room: 2_000,
+    fails: 0,
+};
+
+// What a paving leaves: its status, the line on standard error and the log in two parts.
+#[derive(Clone, Copy)]
+struct Left {
+    status: Status,
+    err: &'static str,
+    log: Option<(&'static str, &'static str)>,
+}
+
+// Whether `b.log` is these two texts, one behind the other.
+fn has_log(shelf: &MemoryShelf, first: &str, second: &str) -> bool {
+    match shelf.file("b.log") {
+        Some(bytes) => match bytes.strip_prefix(first.as_bytes()) {
+            Some(rest) => rest == second.as_bytes(),
+            None => false,
+        },
+        None => false,
+    }
+}
+
+fn paves(rt: &(impl Abort + AllocGlobal), case: &Paving, left: &Left) -> Result<(), Fail> {
+    let alloc = rt.alloc();
+    let mut words = Vec::new(alloc);
+    for word in case.words {
+        words.push(String::from_str(alloc, *word)?)?;
+    }
+    let limits = Limits {
+        file: 10_000,
+        settings: 0,
+        log: case.limit.min(4_000_000_000),
+    };
+    let mut shelf = shelf(alloc, "a.rows", case.rows, case.room, case.fails)?;
+    let mut out = MemorySink::make(alloc, 100, Vec::new(alloc))?;
+    let mut err = MemorySink::make(alloc, 200, Vec::new(alloc))?;
+    let ended = run(alloc, &limits, &words, &mut shelf, &mut out, &mut err);
+    assert_eq!(rt; ended, left.status);
+    assert_eq!(rt; out.bytes(), b"".as_slice());
+    assert_eq!(rt; err.bytes(), left.err.as_bytes());
+    match left.log {
+        Some((first, second)) => assert!(rt; has_log(&shelf, first, second)),
+        None => assert!(rt; shelf.file("b.log").is_none()),
+    }
+    Ok(())
+}
+
+#[test]
+fn rows_are_paved(rt: HostRuntime) -> Result<(), Fail> {
+    let table = [
+        (ROWS, "edge 0 -1400000 1400000\ndone 0\n"),
+        (
+            SPLIT_ROWS,
+            "split 0 0\nedge 1 -1400000 500000\nedge 2 -499999 1400000\ndone 1\n",
+        ),
+        (EMPTY_ROWS, "out 0\ndone 0\n"),
+        (INNER_ROWS, "in 0 0 -1900000 1900000\ndone 0\n"),
+        (FEW, ""),
+        ("gpscover 1\nrules 8 200000 1000\n", ""),
+    ];
+    for (rows, steps) in table {
+        let left = Left {
+            status: Status::Done,
+            err: "",
+            log: Some((rows, steps)),
+        };
+        paves(&rt, &Paving { rows, ..PAVE }, &left)?;
+    }
+    Ok(())
+}
+
+#[test]
+fn what_is_no_rows_is_refused(rt: HostRuntime) -> Result<(), Fail> {
+    let table = [
+        (LOG, "rows 40 BadLog line 9 kind 2\n"),
+        ("gpscover 1\n", "rows 40 BadLog line 2 kind 4\n"),
+        (
+            "gpscover 1\nrules 0 0 1000000\nepoch 1 0 4\nroot 0 0 0 0 0 0\n",
+            "rows 40 BadLog line 3 kind 5\n",
+        ),
+    ];
+    for (rows, err) in table {
+        let left = Left {
+            status: Status::Refused,
+            err,
+            log: None,
+        };
+        paves(&rt, &Paving { rows, ..PAVE }, &left)?;
+    }
+    Ok(())
+}
+
+// A line that would pass the limit isn't begun, and a device that is full keeps what it took.
+#[test]
+fn a_log_ends_early(rt: HostRuntime) -> Result<(), Fail> {
+    let head = "gpscover 1\nrules 0 0 1000000\nepoch 1 1388102400000000000000 4\n";
+    let table = [
+        (100, 2_000, Status::LogFull, "log full 100\n", head),
+        (62, 2_000, Status::LogFull, "log full 62\n", head),
+        (28, 2_000, Status::LogFull, "log full 28\n", "gpscover 1\n"),
+        (0, 2_000, Status::LogFull, "log full 0\n", ""),
+        (2_000, 20, Status::WriteFault, "log fault\n", "gpscover 1\nrules 0 0"),
+    ];
+    for (limit, room, status, err, text) in table {
+        let left = Left {
+            status,
+            err,
+            log: Some((text, "")),
+        };
+        paves(&rt, &Paving { limit, room, ..PAVE }, &left)?;
+    }
+    Ok(())
+}
+
+// The rows are begun by call 1, read by calls 2 and 3, and the log is created by call 4.
+#[test]
+fn each_call_of_a_paving_that_fails_has_its_status(rt: HostRuntime) -> Result<(), Fail> {
+    let none = Left {
+        status: Status::ReadFault,
+        err: "rows fault\n",
+        log: None,
+    };
+    for fails in 1..4u64 {
+        paves(&rt, &Paving { fails, ..PAVE }, &none)?;
+    }
+    let words: &[&str] = &["pave", "c.rows", "b.log"];
+    paves(&rt, &Paving { words, ..PAVE }, &none)?;
+    let uncreated = Left {
+        status: Status::WriteFault,
+        err: "log fault\n",
+        log: None,
+    };
+    paves(&rt, &Paving { fails: 4, ..PAVE }, &uncreated)?;
+    let words: &[&str] = &["pave", "a.rows", "c.log"];
+    paves(&rt, &Paving { words, ..PAVE }, &uncreated)?;
+    let broken = Left {
+        status: Status::WriteFault,
+        err: "log fault\n",
+        log: Some(("gpscover 1\n", "")),
+    };
+    paves(&rt, &Paving { fails: 6, ..PAVE }, &broken)
 }

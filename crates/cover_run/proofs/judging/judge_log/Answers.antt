@@ -1,6 +1,6 @@
 use Rattle.std.proofs.Common.{◌≡◌, sym, subst, ◌∙◌, ◌⊎◌}
 use Rattle.cover_run.proofs.Saying.{HasFile-of, says_yes, says_no, says_either}
-use Rattle.cover_run.specs.Answers.{SaysYes, SaysNo}
+use Rattle.cover_run.specs.Judging.{SaysYes, SaysNo}
 use Rattle.cover_run.specs.Texts.{verdict_text}
 use Rattle.cover_run.specs.declared.status.Status.TheVariants as status
 use Rattle.cover_run.proofs.judging.judge_log.Goals as goal

@@ -1,0 +1,8 @@
+-- The command that a parsed one stands for.
+use Rattle.cover_run.specs.Words.{Command, Judge, Pave}
+use Rattle.cover_run.specs.declared.words.Command as parsed
+use Rattle.cover_run.specs.declared.words.Command.TheVariants as variant
+
+abbrev pub asked : parsed.Command → Command
+asked (variant.Judge log) = Judge log.now
+asked (variant.Pave rows log) = Pave rows.now log.now

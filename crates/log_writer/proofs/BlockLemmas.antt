@@ -1,0 +1,156 @@
+-- The lines of a block that paves a given one.
+use Rattle.std.proofs.Common.{◌≡◌, ℕ, ◌+◌, ◌<◌, ◌≤◌, List, [], ◌∷◌, ◌++◌, length, map, Option, None, Some, Result, Ok, Err, refl, sym, ap, subst, ◌∙◌, append-nil, arith}
+use Rattle.std.specs.Prelude.{OnOk, Bool, false, ℤ}
+use Rattle.std.specs.List.{AllByRecursion}
+use Rattle.std.proofs.lemmas.Result.{on_ok_weaker}
+use Rattle.sat_model.specs.declared.rules.Rules.{Rules}
+use Rattle.sat_model.specs.declared.satellites.Row.{Row}
+use Rattle.sat_model.specs.declared.steps.Step.{Step}
+use Rattle.sat_model.specs.declared.satellites.SatEntry.{SatEntry}
+use Rattle.sat_model.specs.declared.satellites.SatEntry.TheVariants as entry
+use Rattle.sat_model.specs.Boxes.{GridBox}
+use Rattle.sat_model.specs.Fold.{ShownStep}
+use Rattle.sat_model.specs.Logs.{Block, rows_of}
+use Rattle.sat_model.specs.Paved.{Paved, steps_of}
+use Rattle.paving.specs.declared.steps.StepFault.{StepFault}
+use Rattle.paving.specs.declared.steps.StepFault.TheVariants.{NoMemory}
+use Rattle.paving_log.specs.declared.line.Header.{Header}
+use Rattle.paving_log.specs.declared.line.LogLine.{LogLine}
+use Rattle.paving_log.specs.declared.line.LogLine.TheVariants as line
+use Rattle.paving_log.specs.Fields.{IsCountFromTo}
+use Rattle.paving_log.specs.declared.line.Form.TheVariants as form
+use Rattle.paving_log.specs.Lines.{StepFits, line_text, text_of}
+use Rattle.paving_log.specs.Text.{first_line, header_of, paved_lines, block_lines, BodyFits, BlockFits}
+use Rattle.log_writer.specs.Pavings.{BodyPaves, Paves}
+use Rattle.log_writer.specs.Writing.{Seen, Grew, EndedBy, Written}
+use Rattle.log_writer.specs.Wrote.{WroteRun, WroteBlock}
+use Rattle.log_writer.proofs.RunLemmas.{some_run}
+use Rattle.log_writer.proofs.WritingLemmas.{grew_lines, ended_behind, ended_before, none_written, written_behind}
+
+pub rows_le_lines : (sats : List SatEntry) → length (rows_of sats) ≤ length sats
+rows_le_lines [] = omega arith
+rows_le_lines (entry.Row row ∷ more) = omega (arith, rows_le_lines more)
+rows_le_lines (entry.Skipped sat skip ∷ more) = omega (arith, rows_le_lines more)
+
+abbrev pub with_steps : Block → List Step → ℕ → Block
+with_steps g steps done = record g { steps = steps; done = done }
+
+abbrev pub opening : Block → List LogLine
+opening g = first_line g.few (header_of g) ∷ map line.Sat g.sats
+
+-- ---- a block that paves
+
+paves_root : (rules : Rules) (g : Block) (root : GridBox) (shown : List ShownStep) → (run : Paved (rows_of g.sats) rules root shown) → g.root ≡ Some root
+    → Paves rules g (with_steps g (steps_of shown) run.last.splits)
+paves_root rules g root shown run is = record {
+  index = refl;
+  ps = refl;
+  n = refl;
+  few = refl;
+  sats = refl;
+  root = refl;
+  body = subst (λ (o : Option GridBox). BodyPaves rules (with_steps g (steps_of shown) run.last.splits) o) (sym is)
+      (record { shown = shown; run = run; steps = refl; done = refl });
+}
+
+paves_none : (rules : Rules) (g : Block) → g.root ≡ None → Paves rules g (with_steps g [] 0)
+paves_none rules g is = record {
+  index = refl;
+  ps = refl;
+  n = refl;
+  few = refl;
+  sats = refl;
+  root = refl;
+  body = subst (λ (o : Option GridBox). BodyPaves rules (with_steps g [] 0) o) (sym is) (refl, refl);
+}
+
+-- the block, where it isn't one of few, has rows enough
+abbrev pub HasRows : Rules → Block → Type 0
+HasRows rules g = g.few ≡ false → rules.outliers + 4 ≤ length (rows_of g.sats)
+
+pub record CanPave (rules : Rules) (g : Block) : Type 0 where
+  pub fits : BlockFits form.Rows g
+  pub rows : HasRows rules g
+
+some_body : (rules : Rules) (g : Block) (o : Option GridBox) → g.root ≡ o → HasRows rules g → BodyFits form.Rows g o → (b : Block) × (Paves rules g b)
+some_body rules g None is rows body = (with_steps g [] 0, paves_none rules g is)
+some_body rules g (Some root) is rows body =
+    let some = rows body.0 in
+    let (shown, run) = some_run (rows_of g.sats) rules root (omega (arith, some)) in
+    (with_steps g (steps_of shown) run.last.splits, paves_root rules g root shown run is)
+
+pub some_block : (rules : Rules) (g : Block) → CanPave rules g → (b : Block) × (Paves rules g b)
+some_block rules g p = some_body rules g g.root refl p.rows p.fits.body
+
+-- ---- its lines
+
+lines_from : (rules : Rules) (g b : Block) → Paves rules g b → block_lines form.Log b ≡ opening g ++ paved_lines form.Log b.root b.steps b.done
+lines_from rules g b p =
+    let header = ap {A = ℕ} (λ (i : ℕ). i) p.index in
+    cc
+
+-- the lines before the root ended early
+pub opening_ended : {T : Type 0} (rules : Rules) (g : Block) (a d : Seen) (fault : StepFault) → CanPave rules g → EndedBy a (opening g) fault d → WroteBlock {T = T} rules g a (Err fault) d
+opening_ended rules g a d fault p ended =
+    let (b, paves) = some_block rules g p in record {
+      block = b;
+      paves = paves;
+      written = subst (λ (ls : List LogLine). EndedBy a ls fault d) (sym (lines_from rules g b paves)) (ended_before a d (opening g) (paved_lines form.Log b.root b.steps b.done) fault ended);
+      fits = tt;
+    }
+
+-- there is no root
+pub none_wrote : {T : Type 0} (rules : Rules) (g : Block) (a c : Seen) (done : T) → CanPave rules g → g.root ≡ None → Grew a (text_of (opening g)) c → WroteBlock {T = T} rules g a (Ok done) c
+none_wrote rules g a c done p is grew =
+    let b = with_steps g [] 0 in record {
+      block = b;
+      paves = paves_none rules g is;
+      written = subst (λ (ls : List LogLine). Grew a (text_of ls) c)
+          (sym (append-nil (opening g)) ∙ ap (λ (o : Option GridBox). opening g ++ paved_lines form.Log o [] 0) (sym is)) grew;
+      fits = record {
+        header = p.fits.header;
+        sats = p.fits.sats;
+        at_most = p.fits.at_most;
+        body = subst (λ (o : Option GridBox). BodyFits form.Log b o) (sym is) (let body = subst (λ (o : Option GridBox). BodyFits form.Rows g o) is p.fits.body in (body.0, body.1, refl, refl));
+      };
+    }
+
+-- behind the opening came the root
+pub run_wrote : {T : Type 0} (rules used : Rules) (g : Block) (root from : GridBox) (rows : List Row) (a c d : Seen) (r : Result T StepFault) → CanPave rules g → g.root ≡ Some root → Grew a (text_of (opening g)) c
+    → rows ≡ rows_of g.sats → used ≡ rules → from ≡ root → WroteRun rows used from c r d → WroteBlock rules g a r d
+run_wrote rules used g root from rows a c d r p is grew same_rows same_rules same_root wrote =
+    let w = rw (same_rows, same_rules, same_root) at wrote in
+    let b = with_steps g (steps_of w.shown) w.run.last.splits in record {
+      block = b;
+      paves = paves_root rules g root w.shown w.run is;
+      written = subst (λ (ls : List LogLine). Written a ls r d) (ap (λ (o : Option GridBox). opening g ++ paved_lines form.Log o (steps_of w.shown) w.run.last.splits) (sym is))
+          (written_behind a c d (opening g) (paved_lines form.Log (Some root) (steps_of w.shown) w.run.last.splits) r grew w.written);
+      fits = on_ok_weaker r (λ (f : AllByRecursion StepFits (steps_of w.shown) × IsCountFromTo 0 200000 w.run.last.splits). record {
+        header = p.fits.header;
+        sats = p.fits.sats;
+        at_most = p.fits.at_most;
+        body = subst (λ (o : Option GridBox). BodyFits form.Log b o) (sym is) (let body = subst (λ (o : Option GridBox). BodyFits form.Rows g o) is p.fits.body in (body.0, body.1, f));
+      }) w.fits;
+    }
+
+-- there was no memory for the run
+pub run_not_begun : {T : Type 0} (rules : Rules) (g : Block) (a c : Seen) → CanPave rules g → Grew a (text_of (opening g)) c → WroteBlock {T = T} rules g a (Err NoMemory) c
+run_not_begun rules g a c p grew =
+    opening_ended rules g a c NoMemory p (record { earlier = opening g; more = []; all = sym (append-nil (opening g)); grew = grew })
+
+-- the first line, and then the satellite lines
+pub opening_grew : (g : Block) (a b c : Seen) → Grew a (text_of (first_line g.few (header_of g) ∷ [])) b → Grew b (text_of (map line.Sat g.sats)) c → Grew a (text_of (opening g)) c
+opening_grew g a b c f h = grew_lines a b c (first_line g.few (header_of g) ∷ []) (map line.Sat g.sats) f h
+
+pub first_ended : {T : Type 0} (rules : Rules) (g : Block) (a d : Seen) (fault : StepFault) → CanPave rules g → EndedBy a (first_line g.few (header_of g) ∷ []) fault d → WroteBlock {T = T} rules g a (Err fault) d
+first_ended rules g a d fault p ended = opening_ended rules g a d fault p (ended_before a d (first_line g.few (header_of g) ∷ []) (map line.Sat g.sats) fault ended)
+
+pub sats_ended_early : {T : Type 0} (rules : Rules) (g : Block) (a b d : Seen) (fault : StepFault) → CanPave rules g → Grew a (text_of (first_line g.few (header_of g) ∷ [])) b
+    → EndedBy b (map line.Sat g.sats) fault d → WroteBlock {T = T} rules g a (Err fault) d
+sats_ended_early rules g a b d fault p grew ended =
+    opening_ended rules g a d fault p (ended_behind a b d (first_line g.few (header_of g) ∷ []) (map line.Sat g.sats) fault grew ended)
+
+-- the bytes of the first line, where its numbers are those of the block
+pub first_bytes : (bytes : List ℕ) (few : Bool) (index index' n n' : ℕ) (ps ps' : ℤ) → bytes ≡ line_text (first_line few (record { index = index'; ps = ps'; n = n' })) ++ 10 ∷ []
+    → index' ≡ index → ps' ≡ ps → n' ≡ n → bytes ≡ text_of (first_line few (record { index = index; ps = ps; n = n }) ∷ [])
+first_bytes bytes few index index' n n' ps ps' is same_index same_ps same_n = rw (same_index, same_ps, same_n) at is
