@@ -2,3 +2,4 @@ pub mod FieldLemmas
 pub mod TakeLemmas
 pub mod RecordLemmas
 pub mod OnlyLemmas
+pub mod WeekLemmas

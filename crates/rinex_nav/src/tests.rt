@@ -61,7 +61,7 @@ fn reads_a_record(rt: HostRuntime) -> Result<(), Fail> {
             .ok_or("long")?
             .ok()
             .ok_or("refused")?;
-        assert_eq!(rt; nav.records.len(), 1);
+        assert_eq!(rt; nav.count(), 1);
         let record = nav.at(0);
         assert_eq!(rt; record.sat.number, 1);
         assert_eq!(rt; record.toc, 1_388_620_800_000_000_000_000);
@@ -172,7 +172,7 @@ fn passes_over_what_is_not_read(rt: HostRuntime) -> Result<(), Fail> {
             .ok_or("long")?
             .ok()
             .ok_or("refused")?;
-        assert_eq!(rt; nav.records.len(), 1, "line {place} {line}");
+        assert_eq!(rt; nav.count(), 1, "line {place} {line}");
     }
     Ok(())
 }
@@ -218,7 +218,7 @@ fn mixed_files(rt: HostRuntime) -> Result<(), Fail> {
             .ok_or("long")?
             .ok()
             .ok_or("refused")?;
-        assert_eq!(rt; nav.records.len(), 2);
+        assert_eq!(rt; nav.count(), 2);
         let first = nav.at(0);
         assert_eq!(rt; first.sat.number, 7);
         assert_eq!(rt; first.healthy, false);
