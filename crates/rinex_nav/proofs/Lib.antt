@@ -3,3 +3,4 @@ pub mod TakeLemmas
 pub mod RecordLemmas
 pub mod OnlyLemmas
 pub mod WeekLemmas
+pub mod BoundLemmas

@@ -6,3 +6,4 @@ pub mod FieldBounds
 pub mod Weeks
 pub mod ElementsOf
 pub mod Places
+pub mod Index

@@ -18,11 +18,15 @@ pub record IsNearestWeek (toc toe start : ℤ) : Type 0 where
   pub after : neg_ℤ (pos half_week) <ℤ ((start +ℤ toe) -ℤ toc)
   pub before : ((start +ℤ toe) -ℤ toc) ≤ℤ pos half_week
 
--- age is how far a time is from the ephemeris time, whose time in its week is rounded down
-pub record IsAge (r : NavRecord) (time age : ℤ) : Type 0 where
+-- the ephemeris time; its time in the week is rounded down
+pub record IsEphemerisTime (r : NavRecord) (time : ℤ) : Type 0 where
   pub inside : IsInside r.fields 11
   pub toe : ℤ
   pub start : ℤ
   pub toe_is : IsFloor (numerator (field_of r.fields 11).digits (field_of r.fields 11).ten Time) (pos (denominator (field_of r.fields 11).ten Time)) toe
   pub start_is : IsNearestWeek r.toc toe start
-  pub age_is : age ≡ pos (unsigned_abs (time -ℤ (start +ℤ toe)))
+  pub time_is : time ≡ start +ℤ toe
+
+-- age is how far a time is from the ephemeris time
+abbrev pub IsAge : NavRecord → ℤ → ℤ → Type 0
+IsAge r tag age = (time : ℤ) × IsEphemerisTime r time × (age ≡ pos (unsigned_abs (tag -ℤ time)))

@@ -1,16 +1,16 @@
 //! The numbers of a record in whole units.
 
-ghost use Rattle.std.specs.Prelude.{◌≡◌, ◌≤◌, ◌+◌, ◌-◌, ◌↔◌, ◌≤ℤ◌, ◌<ℤ◌, pos, neg_ℤ, ℕ, IsOk, IsSome, IfOk, IfErr, IfSome, IfNone, OnOk, slice_get};
+ghost use Rattle.std.specs.Prelude.{◌≡◌, ◌≤◌, ◌+◌, ◌-◌, ◌^◌, ◌↔◌, ◌≤ℤ◌, ◌<ℤ◌, pos, neg_ℤ, ℕ, IsOk, IfOk, IfErr, IfSome, IfNone, OnSome, OnOk, slice_get};
 ghost use Rattle.exact_decimal.specs.Units.{bound_of};
 ghost use Rattle.sat_model.specs.RecordBounds.{time_bound};
 ghost use Rattle.sat_model.specs.Sizes.{IsWithin};
-ghost use Rattle.rinex_nav.specs.FieldBounds.{Between, field_bounds, IsInside, AreInsideBefore, AreInside, IsFirstOutside};
+ghost use Rattle.rinex_nav.specs.FieldBounds.{Between, field_bounds, field_of, IsInside, AreInsideBefore, AreInside, IsFirstOutside};
 ghost use Rattle.rinex_nav.specs.ElementsOf.{Holds, AreElements};
-ghost use Rattle.rinex_nav.specs.Weeks.{IsAge};
+ghost use Rattle.rinex_nav.specs.Weeks.{IsEphemerisTime, IsAge};
 
 use crate::record::NavRecord;
 use crate::week::nearest_week;
-use exact_decimal::{Unit, to_unit_between};
+use exact_decimal::{Decimal, Unit, to_unit_between};
 use sat_model::{
     AGEING_BOUND, ANGLE_BOUND, ANGLE_SWING_BOUND, DELAY_BOUND, DRIFT_BOUND, ECCENTRICITY_BOUND,
     Elements, GREATEST_ROOT_A, LEAST_ROOT_A, OFFSET_BOUND, RADIUS_SWING_BOUND, RATE_BOUND, WEEK,
@@ -69,9 +69,18 @@ impl NavRecord {
         ensures age { IfSome result (IsAge self.now tag) }
         ensures none { IfNone result (¬ IsInside self.now.fields 11) }
     {
-        let toe = self.time_in_week()?;
-        let time = nearest_week(self.toc, toe.lo) + toe.lo;
+        let time = self.ephemeris_time()?;
         Some((tag - time).abs())
+    }
+
+    /// The ephemeris time, rounded down to ps. None where its time in the week is outside its bounds.
+    fn ephemeris_time(&self) -> Option<i128>
+        ensures time { IfSome result (IsEphemerisTime self.now) }
+        ensures size { IfSome result (IsWithin (10 ^ 22)) }
+        ensures none { IfNone result (¬ IsInside self.now.fields 11) }
+    {
+        let toe = self.time_in_week()?;
+        Some(nearest_week(self.toc, toe.lo) + toe.lo)
     }
 
     /// af0, af1 and af2.
@@ -120,7 +129,9 @@ impl NavRecord {
         ensures fields { IfOk result (λ t. Holds self.now.fields 11 t.0 × Holds self.now.fields 12 t.1 × Holds self.now.fields 13 t.2 × Holds self.now.fields 14 t.3) }
         ensures outside { IfErr result (IsFirstOutside self.now.fields) }
     {
-        let toe = self.time_in_week().ok_or(11)?;
+        let Some(toe) = self.time_in_week() else {
+            return Err(11);
+        };
         let cic = self.amount(12, Unit::Ratio, ANGLE_SWING_BOUND)?;
         let om0 = self.amount(13, Unit::Ratio, ANGLE_BOUND)?;
         let cis = self.amount(14, Unit::Ratio, ANGLE_SWING_BOUND)?;
@@ -167,16 +178,28 @@ impl NavRecord {
         ensures field { IfOk result (Holds self.now.fields number) }
         ensures outside { IfErr result (IsFirstOutside self.now.fields) }
     {
-        let decimal = self.fields[usize::from(number - 1)];
-        to_unit_between(decimal, unit, low, high).ok_or(number)
+        match to_unit_between(self.decimal(number), unit, low, high) {
+            Some(field) => Ok(field),
+            None => Err(number),
+        }
+    }
+
+    /// The decimal of the field with a number.
+    fn decimal(&self, number: u8) -> Decimal
+        requires from { 1 ≤ number }
+        requires to { number ≤ 20 }
+        ensures { result ≡ field_of self.now.fields number }
+    {
+        self.fields[usize::from(number - 1)]
     }
 
     /// The ephemeris time in its week, from 0 to under a week.
     fn time_in_week(&self) -> Option<Wide>
-        ensures inside { IsSome result ↔ IsInside self.now.fields 11 }
+        ensures inside { OnSome result (IsInside self.now.fields 11) }
         ensures field { IfSome result (Holds self.now.fields 11) }
+        ensures none { IfNone result (¬ IsInside self.now.fields 11) }
     {
-        let toe = to_unit_between(self.fields[10], Unit::Time, 0, WEEK)?;
+        let toe = to_unit_between(self.decimal(11), Unit::Time, 0, WEEK)?;
         if toe.lo >= WEEK {
             return None;
         }

@@ -1,7 +1,9 @@
 //! The places of each satellite's records.
 
-ghost use Rattle.std.specs.Prelude.{◌≡◌, ◌++◌, [], ◌∷◌, OnOk, Some, option_map, unwrap_or, if◌then◌else◌};
-ghost use Rattle.indexmap.specs.IndexMap.{get};
+ghost use Rattle.std.specs.Prelude.{◌≡◌, ◌++◌, [], ◌∷◌, OnOk, IfErr, if◌then◌else◌};
+ghost use Rattle.sat_model.specs.declared.satellites.Sat.{Sat};
+ghost use Rattle.rinex_text.specs.declared.fault.ReadError.TheVariants.{NoMemory};
+ghost use Rattle.rinex_nav.specs.Index.{listed};
 ghost use Rattle.rinex_nav.specs.Places.{is_same};
 
 use indexmap::IndexMap;
@@ -14,7 +16,7 @@ pub type Places = IndexMap<Sat, Vec<u32>>;
 
 /// The places of the satellite's records.
 pub fn places_of(places: &Places, sat: Sat) -> &[u32]
-    ensures { result.now ≡ unwrap_or (option_map (λ list. list.items) (get ⟦<Sat as PartialEq>⟧.eq places.now sat)) [] }
+    ensures { result.now ≡ listed places.now sat }
 {
     match places.get(&sat) {
         Some(list) => list.as_slice(),
@@ -24,6 +26,8 @@ pub fn places_of(places: &Places, sat: Sat) -> &[u32]
 
 /// Notes one more place of the satellite.
 pub fn add_place(alloc: Global, places: &mut Places, sat: Sat, place: u32) -> Result<(), ReadError>
+    ensures listed { OnOk result ((other : Sat) → listed places.new other ≡ listed places.old other ++ (if is_same other sat then place ∷ [] else [])) }
+    ensures memory { IfErr result (λ e. e ≡ NoMemory) }
 {
     if let Some(list) = places.get_mut(&sat) {
         list.push(place)?;
