@@ -4,3 +4,4 @@ pub mod RecordLemmas
 pub mod OnlyLemmas
 pub mod WeekLemmas
 pub mod BoundLemmas
+pub mod IndexLemmas

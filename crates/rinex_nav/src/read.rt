@@ -1,6 +1,6 @@
 //! Navigation files.
 
-ghost use Rattle.std.specs.Prelude.{◌≡◌, ◌≤◌, ◌<◌, ◌+◌, List, IfOk, IfErr, Ok, Err, drop, length, map};
+ghost use Rattle.std.specs.Prelude.{◌≡◌, ◌≤◌, ◌<◌, ◌+◌, List, IfOk, IfErr, OnOk, Ok, Err, drop, length, map};
 ghost use Rattle.rinex_text.specs.Lines.{lines_of};
 ghost use Rattle.rinex_text.specs.declared.fault.Refusal.{Refusal};
 ghost use Rattle.rinex_text.specs.Reading.{body_left};
@@ -24,6 +24,7 @@ use std::alloc::Global;
 fn read_record(body: Body<'_>, count: usize) -> Result<(NavRecord, Body<'_>), Refusal>
     ensures record { IfOk result (λ t. record_from count (body_behind body.entry) (Ok (plain_record t.0))) }
     ensures left { IfOk result (λ t. Leaves body.entry 8 t.1) }
+    ensures few { OnOk result (count < 200000) }
     ensures fault { IfErr result (λ e. record_from count (body_behind body.entry) (Err e)) }
 {
     let ((number, toc, (af0, af1, af2)), left) = take_clock(body, count)?;
