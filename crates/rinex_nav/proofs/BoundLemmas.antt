@@ -42,6 +42,7 @@ pub under_floor : (number : Decimal) (high q : ℤ) → IsFloor (numerator numbe
     → (q <ℤ high) ↔ (numerator number.digits number.ten Time <ℤ (high *ℤ pos (denominator number.ten Time)))
 under_floor number high q f =
     let some = some_parts number.ten Time in
-    let same = below_floor (numerator number.digits number.ten Time) (pos (denominator number.ten Time)) high q some f in
-    (λ h. by_lt_z _ _ (λ (l : numerator number.digits number.ten Time <ℤ (high *ℤ pos (denominator number.ten Time))). l) (λ g. let no = same.1 g in absurd (omega (arith, ints, h, no))),
-    λ h. by_lt_z _ _ (λ (l : q <ℤ high). l) (λ g. let no = same.0 g in absurd (omega (arith, ints, h, no))))
+    let same = below_floor (numerator number.digits number.ten Time) (pos (denominator number.ten Time)) high q some f in (
+      λ h. by_lt_z _ _ (λ (l : numerator number.digits number.ten Time <ℤ (high *ℤ pos (denominator number.ten Time))). l) (λ g. let no = same.1 g in absurd (omega (arith, ints, h, no))),
+      λ h. by_lt_z _ _ (λ (l : q <ℤ high). l) (λ g. let no = same.0 g in absurd (omega (arith, ints, h, no))),
+    )

@@ -1,10 +1,13 @@
 -- The week that brings a time in it nearest to the clock time.
-use Rattle.std.proofs.Common.{◌≡◌, ℕ, arith, refl}
+use Rattle.std.proofs.Common.{◌≡◌, ◌*◌, ◌^◌, arith, rules, FitsSigned}
 use Rattle.std.specs.Prelude.{ℤ, pos, neg_ℤ, ◌+ℤ◌, ◌-ℤ◌, ◌*ℤ◌, ◌≤ℤ◌, ◌<ℤ◌}
+use Rattle.std.specs.Int.{w128}
 use Rattle.std.proofs.lemmas.Int.{ints}
-use Rattle.sat_model.specs.RecordBounds.{week}
+use Rattle.sat_model.specs.RecordBounds.{week, LiesFrom, IsNearTime}
+use Rattle.sat_model.specs.Sizes.{IsWithin}
+use Rattle.sat_model.specs.declared.spans.Wide.{Wide}
 use Rattle.sat_model.specs.Rounding.{IsFloor}
-use Rattle.rinex_nav.specs.Weeks.{half_week, IsNearestWeek}
+use Rattle.rinex_nav.specs.Weeks.{IsNearestWeek}
 
 pub nearest_is : (toc toe weeks start : ℤ) → IsFloor ((toc -ℤ toe) +ℤ pos 302400000000000000) (pos 604800000000000000) weeks → start ≡ weeks *ℤ pos 604800000000000000 → IsNearestWeek toc toe start
 nearest_is toc toe weeks start f e = record {
@@ -14,10 +17,29 @@ nearest_is toc toe weeks start f e = record {
   before = let h : ((start +ℤ toe) -ℤ toc) ≤ℤ pos 302400000000000000 = omega (arith, ints, e, f.le) in h;
 }
 
--- it is within half a week
-pub near_size : (toc toe start : ℤ) → IsNearestWeek toc toe start → pos 0 ≤ℤ toc → toc <ℤ pos 4000000000000000000000 → pos 0 ≤ℤ toe → toe ≤ℤ pos 604800000000000000
-    → (neg_ℤ (pos 1000000000000000000) ≤ℤ start) × (start ≤ℤ pos 5000000000000000000000)
-near_size toc toe start w a b c d =
+-- the ephemeris time is near the clock time
+pub time_size : (toc toe start : ℤ) → IsNearestWeek toc toe start → pos 0 ≤ℤ toc → toc <ℤ pos 4000000000000000000000 → pos 0 ≤ℤ toe → toe ≤ℤ pos 604800000000000000
+    → IsWithin (5 * 10 ^ 21) start × IsWithin (10 ^ 22) (start +ℤ toe)
+time_size toc toe start w a b c d =
     let after : neg_ℤ (pos 302400000000000000) <ℤ ((start +ℤ toe) -ℤ toc) = w.after in
     let before : ((start +ℤ toe) -ℤ toc) ≤ℤ pos 302400000000000000 = w.before in
-    (omega (arith, ints), omega (arith, ints))
+    (record { low = omega (arith, ints); high = omega (arith, ints) }, record { low = omega (arith, ints); high = omega (arith, ints) })
+
+within_second : (toc toe other start : ℤ) → IsNearestWeek toc toe start → toe ≤ℤ other → other ≤ℤ (toe +ℤ pos 1) → IsWithin 302401000000000000 (toc -ℤ (start +ℤ other))
+within_second toc toe other start w low high =
+    let after : neg_ℤ (pos 302400000000000000) <ℤ ((start +ℤ toe) -ℤ toc) = w.after in
+    let before : ((start +ℤ toe) -ℤ toc) ≤ℤ pos 302400000000000000 = w.before in
+    record { low = omega (arith, ints); high = omega (arith, ints) }
+
+-- both ends of the ephemeris time are
+pub is_near : (toc start : ℤ) (toe : Wide) → IsNearestWeek toc toe.lo start → LiesFrom (pos 0) (pos week) toe → IsNearTime toc start toe
+is_near toc start toe w f = record {
+  low = within_second toc toe.lo toe.lo start w (omega (arith, ints)) (omega (arith, ints));
+  high = within_second toc toe.lo toe.hi start w toe.ordered f.narrow;
+}
+
+pub apart_fits : (a b : ℤ) → pos 0 ≤ℤ a → a <ℤ pos 4000000000000000000000 → IsWithin (10 ^ 22) b → FitsSigned w128 (a -ℤ b)
+apart_fits a b from under size =
+    let low : neg_ℤ (pos 10000000000000000000000) ≤ℤ b = size.low in
+    let high : b ≤ℤ pos 10000000000000000000000 = size.high in
+    search rules

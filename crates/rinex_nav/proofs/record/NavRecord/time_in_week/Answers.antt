@@ -18,6 +18,7 @@ returns-clause-inside c =
 
 pub returns-clause-field : goal.returns-clause-field
 returns-clause-field c =
-    let e = c.in_ok-toe.ensures in
-    (subst (λ (d : Decimal). IsRounded c.in_ok-toe.toe d Time) c.decimal.ensures (record { floor = e.floor; ceiling = e.ceiling }),
-    record { from = e.from; to = e.to; narrow = narrow _ _ _ _ (some_parts c.decimal.result.ten Time) e.floor e.ceiling })
+    let e = c.in_ok-toe.ensures in (
+      subst (λ (d : Decimal). IsRounded c.in_ok-toe.toe d Time) c.decimal.ensures (record { floor = e.floor; ceiling = e.ceiling }),
+      record { from = e.from; to = e.to; narrow = narrow _ _ _ _ (some_parts c.decimal.result.ten Time) e.floor e.ceiling },
+    )
