@@ -1,6 +1,6 @@
 //! The numbers of a record in whole units.
 
-ghost use Rattle.std.specs.Prelude.{◌≡◌, ◌≤◌, ◌+◌, ◌-◌, ◌^◌, ◌↔◌, ◌≤ℤ◌, ◌<ℤ◌, pos, neg_ℤ, ℕ, IsOk, IfOk, IfErr, IfSome, IfNone, OnSome, OnOk, slice_get};
+ghost use Rattle.std.specs.Prelude.{◌≡◌, ◌≤◌, ◌+◌, ◌-◌, ◌^◌, ◌↔◌, ◌≤ℤ◌, ◌<ℤ◌, pos, neg_ℤ, ℕ, ℤ, IsOk, IfOk, IfErr, IfSome, IfNone, OnSome, OnOk, slice_get};
 ghost use Rattle.exact_decimal.specs.Units.{bound_of};
 ghost use Rattle.sat_model.specs.RecordBounds.{time_bound};
 ghost use Rattle.sat_model.specs.Sizes.{IsWithin};
@@ -66,7 +66,7 @@ impl NavRecord {
     pub fn age(&self, tag: i128) -> Option<i128>
         requires from { pos 0 ≤ℤ tag }
         requires under { tag <ℤ pos time_bound }
-        ensures age { IfSome result (IsAge self.now tag) }
+        ensures age { (age : ℤ) → (result ≡ Some age) ↔ IsAge self.now tag age }
         ensures none { IfNone result (¬ IsInside self.now.fields 11) }
     {
         let time = self.ephemeris_time()?;
