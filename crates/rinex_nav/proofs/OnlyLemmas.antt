@@ -10,7 +10,7 @@ use Rattle.rinex_text.specs.declared.fault.ReadError.{ReadError}
 use Rattle.rinex_text.specs.declared.fault.ReadError.TheVariants.{Refused, NoMemory}
 use Rattle.rinex_text.specs.declared.fault.Refusal.{Refusal}
 use Rattle.rinex_nav.specs.Reading.{records_of, Refuses, GivesRecords, GivesRefusal}
-use Rattle.rinex_nav.specs.declared.nav.Nav.{Nav}
+use Rattle.rinex_nav.specs.declared.record.NavRecord.{NavRecord}
 use Rattle.rinex_nav.specs.Fields.{IsField, MiddleFields, LastFields, AllFields, IsNumber, IsClockTime}
 use Rattle.rinex_nav.specs.Files.{with_first, records_from, nav_file, IsNavFile, IsFirstFault}
 use Rattle.rinex_nav.specs.Records.{Broadcast, clock_line, further_text, further_line, first_of, record_from}
@@ -198,13 +198,13 @@ file_only lines = then_only _ _ (version_only 78 lines) (λ header. then_only _ 
 
 -- ---- answers
 
-pub gives_records : (text : List ℕ) (records : List Broadcast) (given : Result Nav ReadError) → IfOk given (λ nav. IsNavFile text (records_of nav)) → IfErr given (Refuses (nav_file (lines_of text)))
+pub gives_records : (text : List ℕ) (records : List Broadcast) (given : Result (List NavRecord) ReadError) → IfOk given (λ nav. IsNavFile text (records_of nav)) → IfErr given (Refuses (nav_file (lines_of text)))
     → IsNavFile text records → GivesRecords records given
 gives_records text records (Ok nav) is fault file = ok_same _ _ (file_only (lines_of text) _ _ is file)
 gives_records text records (Err (Refused r)) is fault file = absurd (not_both _ _ (file_only (lines_of text) _ _ file fault))
 gives_records text records (Err NoMemory) is fault file = refl
 
-pub gives_refusal : (text : List ℕ) (r : Refusal) (given : Result Nav ReadError) → IfOk given (λ nav. IsNavFile text (records_of nav)) → IfErr given (Refuses (nav_file (lines_of text)))
+pub gives_refusal : (text : List ℕ) (r : Refusal) (given : Result (List NavRecord) ReadError) → IfOk given (λ nav. IsNavFile text (records_of nav)) → IfErr given (Refuses (nav_file (lines_of text)))
     → IsFirstFault text r → GivesRefusal r given
 gives_refusal text r (Ok nav) is fault first = not_both _ _ (file_only (lines_of text) _ _ is first)
 gives_refusal text r (Err (Refused other)) is fault first = inl (ap (λ u. Refused u) (err_same _ _ (file_only (lines_of text) _ _ fault first)))

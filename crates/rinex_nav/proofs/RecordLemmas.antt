@@ -1,5 +1,5 @@
 -- The records of a body, one behind another.
-use Rattle.std.proofs.Common.{◌≡◌, ℕ, zero, suc, ◌+◌, ◌≤◌, List, [], ◌∷◌, ◌++◌, length, drop, map, arith, refl, sym, ap, subst, inl, inr, Result, Ok, Err, append_assoc, ◌∙◌}
+use Rattle.std.proofs.Common.{◌≡◌, ℕ, zero, suc, ◌+◌, ◌≤◌, List, [], ◌∷◌, ◌++◌, length, drop, map, arith, refl, sym, ap, subst, inl, inr, Result, Ok, Err, IfErr, append_assoc, ◌∙◌}
 use Rattle.std.proofs.lemmas.List.{append-nil}
 use Rattle.rinex_text.specs.Faults.{refusal}
 use Rattle.rinex_text.specs.Headers.{IsShort}
@@ -74,3 +74,7 @@ in_body n m lines others answer e f h = subst (λ (k : ℕ). records_from 0 k 0 
 pub refuses_on : (inner outer : Result (List Broadcast) Refusal → Type 0) → ((refused : Refusal) → inner (Err refused) → outer (Err refused)) → (e : ReadError) → Refuses inner e → Refuses outer e
 refuses_on inner outer on (Refused refused) h = on refused h
 refuses_on inner outer on NoMemory h = tt
+
+pub err_on : {X : Type 0} (inner outer : ReadError → Type 0) (r : Result X ReadError) → ((e : ReadError) → inner e → outer e) → IfErr r inner → IfErr r outer
+err_on inner outer (Ok x) on h = tt
+err_on inner outer (Err e) on h = on e h

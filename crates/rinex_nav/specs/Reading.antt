@@ -11,14 +11,13 @@ use Rattle.rinex_text.specs.declared.fault.ReadError.{ReadError}
 use Rattle.rinex_text.specs.declared.fault.ReadError.TheVariants.{Refused, NoMemory}
 use Rattle.rinex_text.specs.declared.fault.Refusal.{Refusal}
 use Rattle.rinex_nav.specs.Records.{Broadcast}
-use Rattle.rinex_nav.specs.declared.nav.Nav.{Nav}
 use Rattle.rinex_nav.specs.declared.record.NavRecord.{NavRecord}
 
 abbrev pub plain_record : NavRecord → Broadcast
 plain_record r = record { sat = r.sat; toc = r.toc; healthy = r.healthy; fields = r.fields }
 
-abbrev pub records_of : Nav → List Broadcast
-records_of nav = map plain_record nav.records.items
+abbrev pub records_of : List NavRecord → List Broadcast
+records_of records = map plain_record records
 
 abbrev pub body_behind : Body → Behind
 body_behind body = record { number = body.lines.number; lines = body_left body }
@@ -53,11 +52,11 @@ with_all records (Ok more) = Ok (records ++ more)
 with_all records (Err e) = Err e
 
 -- these records were read, unless memory ran out
-abbrev pub GivesRecords : List Broadcast → Result Nav ReadError → Type 0
+abbrev pub GivesRecords : List Broadcast → Result (List NavRecord) ReadError → Type 0
 GivesRecords records (Ok nav) = records_of nav ≡ records
 GivesRecords records (Err e) = e ≡ NoMemory
 
 -- the text was refused with this fault, unless memory ran out
-abbrev pub GivesRefusal : Refusal → Result Nav ReadError → Type 0
+abbrev pub GivesRefusal : Refusal → Result (List NavRecord) ReadError → Type 0
 GivesRefusal r (Ok nav) = ⊥
 GivesRefusal r (Err e) = (e ≡ Refused r) ⊎ (e ≡ NoMemory)

@@ -2,12 +2,15 @@
 //! exact decimals.
 #![tactic(auto)]
 
+mod elements;
 mod field;
 mod line;
 mod nav;
+mod places;
 mod read;
 mod record;
 mod take;
+mod week;
 
 pub use nav::Nav;
 pub use read::read_nav;

@@ -1,6 +1,6 @@
 //! The lines of a navigation record.
 
-ghost use Rattle.std.specs.Prelude.{◌≡◌, ◌↔◌, ◌<ℤ◌, ◌≤ℤ◌, pos, IfOk, IsTrue};
+ghost use Rattle.std.specs.Prelude.{◌≡◌, ◌↔◌, ◌<◌, ◌<ℤ◌, ◌≤ℤ◌, pos, IfOk, OnOk, IsTrue};
 ghost use Rattle.exact_decimal.specs.NumberFields.{is_blank};
 ghost use Rattle.rinex_text.specs.Reading.{plain_line};
 ghost use Rattle.rinex_nav.specs.Fields.{FirstField, MiddleFields, LastFields, AllFields};
@@ -22,6 +22,7 @@ pub fn clock_line(
     ensures line { clock_line count (plain_line line.entry) result }
     ensures from { IfOk result (λ clock. pos 0 ≤ℤ clock.1) }
     ensures under { IfOk result (λ clock. clock.1 <ℤ pos 4000000000000000000000) }
+    ensures few { OnOk result (count < 200000) }
 {
     if !is_short(line) {
         return Err(Fault::LongLine);

@@ -1,6 +1,6 @@
 //! Navigation files.
 
-ghost use Rattle.std.specs.Prelude.{◌≡◌, ◌≤◌, ◌<◌, ◌+◌, List, IfOk, IfErr, Ok, Err, drop, length, map};
+ghost use Rattle.std.specs.Prelude.{◌≡◌, ◌≤◌, ◌<◌, ◌+◌, List, IfOk, IfErr, OnOk, Ok, Err, drop, length, map};
 ghost use Rattle.rinex_text.specs.Lines.{lines_of};
 ghost use Rattle.rinex_text.specs.declared.fault.Refusal.{Refusal};
 ghost use Rattle.rinex_text.specs.Reading.{body_left};
@@ -10,8 +10,10 @@ ghost use Rattle.rinex_nav.specs.Records.{Broadcast, record_from};
 
 use crate::field::is_zero;
 use crate::nav::Nav;
+use crate::places::add_place;
 use crate::record::NavRecord;
 use crate::take::{take_clock, take_first, take_last, take_middle, take_unread, take_whole};
+use indexmap::IndexMap;
 use rinex_text::{
     Body, Fault, ReadError, Refusal, behind_header, behind_version, column, is_short,
 };
@@ -22,6 +24,7 @@ use std::alloc::Global;
 fn read_record(body: Body<'_>, count: usize) -> Result<(NavRecord, Body<'_>), Refusal>
     ensures record { IfOk result (λ t. record_from count (body_behind body.entry) (Ok (plain_record t.0))) }
     ensures left { IfOk result (λ t. Leaves body.entry 8 t.1) }
+    ensures few { OnOk result (count < 200000) }
     ensures fault { IfErr result (λ e. record_from count (body_behind body.entry) (Err e)) }
 {
     let ((number, toc, (af0, af1, af2)), left) = take_clock(body, count)?;
@@ -48,15 +51,17 @@ fn read_record(body: Body<'_>, count: usize) -> Result<(NavRecord, Body<'_>), Re
 }
 
 /// The records of a body.
-fn read_records(alloc: Global, body: Body<'_>) -> Result<Vec<NavRecord>, ReadError>
-    ensures records { IfOk result (λ records. records_from 0 body.entry.lines.number 0 (body_left body.entry) (Ok (map plain_record records.items))) }
+fn read_records(alloc: Global, body: Body<'_>) -> Result<Nav, ReadError>
+    ensures records { IfOk result (λ nav. records_from 0 body.entry.lines.number 0 (body_left body.entry) (Ok (records_of nav))) }
     ensures fault { IfErr result (Refuses (records_from 0 body.entry.lines.number 0 (body_left body.entry))) }
 {
     let mut records = Vec::new(alloc);
+    let mut places = IndexMap::new(alloc);
     let mut left = body;
     'lines: while let Some((line, behind)) = left.split_first() {
         if column(line.text, 1) == b'G' {
             let (record, after) = read_record(left, records.len())?;
+            add_place(alloc, &mut places, record.sat, records.len() as u32)?;
             records.push(record)?;
             left = after;
         } else {
@@ -67,7 +72,7 @@ fn read_records(alloc: Global, body: Body<'_>) -> Result<Vec<NavRecord>, ReadErr
             left = behind;
         }
     }
-    Ok(records)
+    Ok(Nav { records, places })
 }
 
 /// The records of a navigation file, or its first fault.
@@ -84,8 +89,7 @@ fn read_text(alloc: Global, bytes: &[u8]) -> Result<Nav, ReadError>
         Ok(lines) => lines,
         Err(refusal) => return Err(ReadError::Refused(refusal)),
     };
-    let records = read_records(alloc, Body::new(lines))?;
-    Ok(Nav { records })
+    read_records(alloc, Body::new(lines))
 }
 
 /// Reads a navigation file of at most 4 * 10^9 bytes: its GPS records in file order. The header is

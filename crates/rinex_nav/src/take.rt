@@ -1,6 +1,6 @@
 //! The lines of a navigation record, one behind another.
 
-ghost use Rattle.std.specs.Prelude.{◌≤ℤ◌, ◌<ℤ◌, pos, IfOk, IfErr};
+ghost use Rattle.std.specs.Prelude.{◌<◌, ◌≤ℤ◌, ◌<ℤ◌, pos, IfOk, IfErr, OnOk};
 ghost use Rattle.rinex_nav.specs.Fields.{FirstField, MiddleFields, LastFields, AllFields};
 ghost use Rattle.rinex_nav.specs.Records.{clock_line, further_text, further_line};
 ghost use Rattle.rinex_nav.specs.Reading.{Takes, Fails};
@@ -17,6 +17,7 @@ pub fn take_clock(body: Body<'_>, count: usize) -> Result<(Clock, Body<'_>), Ref
     ensures took { IfOk result (λ t. Takes (clock_line count) body.entry t.0 t.1) }
     ensures from { IfOk result (λ t. pos 0 ≤ℤ t.0.1) }
     ensures under { IfOk result (λ t. t.0.1 <ℤ pos 4000000000000000000000) }
+    ensures few { OnOk result (count < 200000) }
     ensures failed { IfErr result (Fails (clock_line count) body.entry) }
 {
     let Some((line, behind)) = body.split_first() else {
