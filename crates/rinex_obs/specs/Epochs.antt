@@ -9,7 +9,7 @@ use Rattle.rinex_text.specs.Bodies.{is_printable, needs}
 use Rattle.rinex_text.specs.Columns.{column_of, columns_of}
 use Rattle.rinex_text.specs.Counts.{IsNumber}
 use Rattle.rinex_text.specs.Dates.{IsGpsTime, gps_time}
-use Rattle.rinex_text.specs.Faults.{test, where_holds, read, then, gives}
+use Rattle.rinex_text.specs.Faults.{test, where_holds, read, then, gives, line_gives}
 use Rattle.rinex_text.specs.Headers.{Behind, IsShort}
 use Rattle.rinex_text.specs.Lines.{TextLine}
 use Rattle.rinex_text.specs.declared.fault.Fault.{Fault}
@@ -53,9 +53,9 @@ pub record IsTag (text : List ℕ) (tag : ℤ) : Type 0 where
 abbrev pub IsFlag : ℕ → Type 0
 IsFlag byte = (48 ≤ byte) × (byte ≤ 54)
 
--- the number of lines; blank is none
+-- the number of lines, which is zero where it is blank
 abbrev pub IsLineCount : List ℕ → ℕ → Type 0
-IsLineCount field lines = ((list_all is_blank field ≡ true) × (lines ≡ 0)) ⊎ IsCount field lines
+IsLineCount field lines = ((list_all is_blank field ≡ true) × (lines ≡ 0)) ⊎ ((list_all is_blank field ≡ true → ⊥) × IsCount field lines)
 
 -- Behind so many epochs. Flags 0 and 1 begin an epoch, 2 to 6 an event, and the labels of the lines of
 -- an event are looked at unless its flag is 6.
@@ -108,7 +108,7 @@ satellite_line wanted sats line =
     (test (length sats < 64) fault.TooMany
     (read (IsObserved (field_at line.text wanted.first)) fault.BadNumber (λ first.
     read (IsSecond line.text wanted.second) fault.BadNumber (λ second.
-    gives (sats ++ record { sat = record { system = 71; number = number }; first = first; second = second } ∷ [])))))))))
+    gives (sats ++ record { sat = record { system = 71; number = number }; first = first; second = second } ∷ []))))))))))
 
 -- so many satellite lines, behind satellites of the same epoch
 abbrev pub satellites_from : Wanted → ℕ → List SatObs → Behind → Result (List SatObs) Refusal → Type 0
@@ -144,17 +144,14 @@ pub record Block : Type 0 where
   pub epochs : List Observed
   pub lines : ℕ
 
-abbrev pub block_behind : Wanted → ℕ → Head → Behind → Result Block Refusal → Type 0
-block_behind wanted count (Epoch tag lines) from =
+-- what stands behind its first line, and behind so many epochs
+abbrev pub block_from : Wanted → ℕ → Head → Behind → Result Block Refusal → Type 0
+block_from wanted count (Epoch tag lines) from =
     then (satellites_from wanted lines [] from) (λ sats.
     gives (record { epochs = record { index = count + 1; tag = tag; sats = sats } ∷ []; lines = lines }))
-block_behind wanted count (Event labelled lines) from =
+block_from wanted count (Event labelled lines) from =
     then (event_from labelled lines from) (λ none.
     gives (record { epochs = []; lines = lines }))
-
--- what begins with the next line, behind so many epochs
-abbrev pub block_from : Wanted → ℕ → Behind → Result Block Refusal → Type 0
-block_from wanted count from = needs (head_line count) from (block_behind wanted count)
 
 -- The epochs in the lines of a body, behind those before, from a line number on. So many of the first
 -- lines belong to what was read.
@@ -162,6 +159,7 @@ abbrev pub epochs_from : Wanted → List Observed → ℕ → ℕ → List TextL
 epochs_from wanted epochs number read [] answer = answer ≡ Ok epochs
 epochs_from wanted epochs number (suc read) (line ∷ more) answer = epochs_from wanted epochs (number + 1) read more answer
 epochs_from wanted epochs number zero (line ∷ more) answer =
-    then (block_from wanted (length epochs) (record { number = number; lines = line ∷ more })) (λ block.
-    epochs_from wanted (epochs ++ block.epochs) (number + 1) block.lines more)
+    line_gives (head_line (length epochs) line) number (λ head.
+    then (block_from wanted (length epochs) head (record { number = number + 1; lines = more })) (λ block.
+    epochs_from wanted (epochs ++ block.epochs) (number + 1) block.lines more))
     answer

@@ -50,10 +50,10 @@ impl Found {
 
     /// Behind the next type, which has this code.
     pub fn with(self, code: &[u8], signal: &Signal) -> Found
-        requires { self.entry.seen < self.entry.count }
-        ensures found { (types : Types) → IsFound signal.now types self.entry → IsFound signal.now (record { count = types.count; codes = types.codes ++ code.now ∷ [] }) result }
-        ensures seen { result.seen ≡ self.entry.seen + 1 }
-        ensures count { result.count ≡ self.entry.count }
+        requires { self.seen < self.count }
+        ensures found { (types : Types) → IsFound signal.now types self → IsFound signal.now (record { count = types.count; codes = types.codes ++ code.now ∷ [] }) result }
+        ensures seen { result.seen ≡ self.seen + 1 }
+        ensures count { result.count ≡ self.count }
     {
         let seen = self.seen;
         match signal {
@@ -74,8 +74,8 @@ impl Found {
 
     /// The places of the wanted codes, where they were all found.
     pub fn places(self, signal: &Signal) -> Option<Places>
-        ensures places { (types : Types) → IsFound signal.now types self.entry → IfSome result (λ places. AreWanted signal.now types.codes (wanted_of places)) }
-        ensures none { (types : Types) → IsFound signal.now types self.entry → IfNone result ((wanted : Wanted) → AreWanted signal.now types.codes wanted → ⊥) }
+        ensures places { (types : Types) → IsFound signal.now types self → IfSome result (λ places. AreWanted signal.now types.codes (wanted_of places)) }
+        ensures none { (types : Types) → IsFound signal.now types self → IfNone result ((wanted : Wanted) → AreWanted signal.now types.codes wanted → ⊥) }
     {
         let first = self.first?;
         match signal {

@@ -42,7 +42,7 @@ fn header_line(
     signal: &Signal,
     position: bool,
 ) -> Result<Header, Fault>
-    ensures { (known : Known) → IsHeader signal.now known header.entry → Stands (IsHeader signal.now) (header_line position known (plain_line line.entry)) result }
+    ensures { (known : Known) → IsHeader signal.now known header → Stands (IsHeader signal.now) (header_line position known (plain_line line.entry)) result }
 {
     let text = line.text;
     if is_labelled(text, b"SYS / # / OBS TYPES") {
@@ -84,7 +84,7 @@ fn header_end(
     signal: &Signal,
     wanted: bool,
 ) -> Result<(Places, Option<Pos>), Fault>
-    ensures { (known : Known) → IsHeader signal.now known header.entry → header_end signal.now wanted known (end_of result) }
+    ensures { (known : Known) → IsHeader signal.now known header → header_end signal.now wanted known (end_of result) }
 {
     let Some(found) = header.types else {
         return Err(Fault::CodeAbsent);

@@ -25,7 +25,7 @@ fn code_at(text: &[u8], place: u16) -> [u8; 3]
 
 /// The types of a line behind those before.
 fn more_codes(text: &[u8], found: Found, signal: &Signal) -> Result<Found, Fault>
-    ensures { (types : Types) → IsFound signal.now types found.entry → Stands (IsFound signal.now) (more_codes text.now types) result }
+    ensures { (types : Types) → IsFound signal.now types found → Stands (IsFound signal.now) (more_codes text.now types) result }
 {
     let missing = (found.count - found.seen).min(MOST_ON_LINE);
     let mut more = found;
@@ -78,7 +78,7 @@ pub fn types_line(
     text: &[u8],
     signal: &Signal,
 ) -> Result<Option<Found>, Fault>
-    ensures { (types : Option Types) → MayBeFound signal.now types known.entry → Stands (MayBeFound signal.now) (types_line types text.now) result }
+    ensures { (types : Option Types) → MayBeFound signal.now types known → Stands (MayBeFound signal.now) (types_line types text.now) result }
 {
     let Some(found) = known else {
         if !is_of_gps(text) {
