@@ -1,3 +1,4 @@
 pub mod CodeLemmas
 pub mod TypesLemmas
+pub mod HeaderLemmas
 pub mod OnlyLemmas
