@@ -1,4 +1,6 @@
 pub mod CodeLemmas
 pub mod TypesLemmas
 pub mod HeaderLemmas
+pub mod FieldLemmas
+pub mod LineLemmas
 pub mod OnlyLemmas
