@@ -2,6 +2,7 @@
 use Rattle.std.proofs.Common.{◌≡◌, ℕ, zero, suc, ◌+◌, ◌-◌, ◌*◌, ◌^◌, Bool, true, false, List, [], ◌∷◌, ◌++◌, length, Option, None, Some, refl, sym, ap, subst, ◌⊎◌, inl, inr, ◌∙◌, arith, IfOk, IfErr, Result, Ok, Err}
 use Rattle.std.specs.Prelude.{ℤ, pos, neg_ℤ, ◌+ℤ◌, ◌*ℤ◌, ◌<ℤ◌, ◌≤ℤ◌, IsSome}
 use Rattle.std.proofs.lemmas.Int.{ints}
+use Rattle.std.proofs.lemmas.Option.{same_Some}
 use Rattle.exact_decimal.specs.NumberFields.{AreBlanks, IsFixed}
 use Rattle.exact_decimal.specs.Units.{numerator, denominator}
 use Rattle.exact_decimal.specs.declared.decimal.Decimal.{Decimal}
@@ -47,7 +48,7 @@ more_only text types = then_only _ _ (codes_only text 0 _ types.codes) (λ codes
 types_only : (types : Option Types) (text : List ℕ) → IsOnly (types_line types text)
 types_only None text =
     where_only _ _ _
-    (then_only _ _ (read_only _ _ _ (same_count _) (λ count. test_only _ _ _ (more_only text _))) (λ types. gives_only _))
+    (then_only _ _ (read_only _ _ _ (same_count _) (λ count. test_only _ _ _ (more_only text (record { count = count; codes = [] })))) (λ types. gives_only _))
     (gives_only _)
 types_only (Some types) text =
     where_only _ _ _
@@ -56,11 +57,11 @@ types_only (Some types) text =
 
 -- ---- fields
 
-same_fixed : (field : List ℕ) (digits ten others power : ℤ) → IsFixed field digits ten → IsFixed field others power → (digits ≡ others) × (ten ≡ power)
-same_fixed field digits ten others power a b =
-    let first = (fixed_answer field digits ten).1 a in
-    let second = (fixed_answer field others power).1 b in
-    (cc, cc)
+same_fixed : (field : List ℕ) (number other : Decimal) → IsFixed field number.digits number.ten → IsFixed field other.digits other.ten → number ≡ other
+same_fixed field number other a b =
+    let first = (fixed_answer field number.digits number.ten).1 a in
+    let second = (fixed_answer field other.digits other.ten).1 b in
+    same_Some number other (ok_same (Some number) (Some other) (sym first ∙ second))
 
 not_blank : (field : List ℕ) (digits ten : ℤ) → AreBlanks field → IsFixed field digits ten → ⊥
 not_blank field digits ten blank a =
@@ -72,27 +73,23 @@ fixed_only : (field : List ℕ) → IsOnly (IsFixedField field)
 fixed_only field None None a b = refl
 fixed_only field None (Some number) a b = absurd (not_blank field number.digits number.ten a b)
 fixed_only field (Some number) None a b = absurd (not_blank field number.digits number.ten b a)
-fixed_only field (Some number) (Some other) a b =
-    let same = same_fixed field number.digits number.ten other.digits other.ten a b in
-    let e = same.0 in
-    let f = same.1 in
-    cc
+fixed_only field (Some number) (Some other) a b = ap (λ (d : Decimal). Some d) (same_fixed field number other a b)
+
+-- a number of the field is zero where the field has zero
+is_zero : (field : List ℕ) (ten : ℤ) (number : Decimal) → IsFixed field (pos 0) ten → IsFixed field number.digits number.ten → number.digits ≡ pos 0
+is_zero field ten number a b = ap (λ (d : Decimal). d.digits) (same_fixed field number (record { digits = pos 0; ten = ten }) b a)
 
 observed_only : (field : List ℕ) → IsOnly (IsObserved field)
 observed_only field None None a b = refl
 observed_only field None (Some number) a b = elim a [
   | inl blank ↦ absurd (not_blank field number.digits number.ten blank b.0)
-  | inr zero ↦ absurd (b.1 (sym (same_fixed field (pos 0) zero.0 number.digits number.ten zero.1 b.0).0))
+  | inr none ↦ absurd (b.1 (is_zero field none.0 number none.1 b.0))
 ]
 observed_only field (Some number) None a b = elim b [
   | inl blank ↦ absurd (not_blank field number.digits number.ten blank a.0)
-  | inr zero ↦ absurd (a.1 (sym (same_fixed field (pos 0) zero.0 number.digits number.ten zero.1 a.0).0))
+  | inr none ↦ absurd (a.1 (is_zero field none.0 number none.1 a.0))
 ]
-observed_only field (Some number) (Some other) a b =
-    let same = same_fixed field number.digits number.ten other.digits other.ten a.0 b.0 in
-    let e = same.0 in
-    let f = same.1 in
-    cc
+observed_only field (Some number) (Some other) a b = ap (λ (d : Decimal). Some d) (same_fixed field number other a.0 b.0)
 
 second_only : (text : List ℕ) (place : Option ℕ) → IsOnly (IsSecond text place)
 second_only text None None None a b = refl
@@ -112,12 +109,11 @@ coordinate_only number q r a b =
     let den : pos 0 <ℤ pos (denominator number.ten Length) = omega (arith, ints, power_some (denominator number.ten Length)) in
     omega (arith, ints, floor_most _ _ q r den a.floor b.floor, floor_most _ _ r q den b.floor a.floor)
 
+same_point : (x y z u v w : ℤ) → x ≡ u → y ≡ v → z ≡ w → ◌≡◌ {A = Pos} (record { x = x; y = y; z = z }) (record { x = u; y = v; z = w })
+same_point x y z u v w e f g = rw (e, f, g) refl
+
 point_only : (coordinates : Coordinates) → IsOnly (IsPoint coordinates)
-point_only coordinates p q a b =
-    let e = coordinate_only _ p.x q.x a.x b.x in
-    let f = coordinate_only _ p.y q.y a.y b.y in
-    let g = coordinate_only _ p.z q.z a.z b.z in
-    cc
+point_only coordinates p q a b = same_point _ _ _ _ _ _ (coordinate_only _ p.x q.x a.x b.x) (coordinate_only _ p.y q.y a.y b.y) (coordinate_only _ p.z q.z a.z b.z)
 
 position_only : (wanted : Bool) (coordinates : Option Coordinates) → IsOnly (IsPosition wanted coordinates)
 position_only false coordinates None None a b = refl
@@ -128,19 +124,12 @@ position_only true (Some coordinates) None y a b = absurd a
 position_only true (Some coordinates) (Some p) None a b = absurd b
 position_only true (Some coordinates) (Some p) (Some q) a b = ap (λ (point : Pos). Some point) (point_only coordinates p q a b)
 
+same_wanted : (m n : ℕ) (p q : Option ℕ) → m ≡ n → p ≡ q → ◌≡◌ {A = Wanted} (record { first = m; second = p }) (record { first = n; second = q })
+same_wanted m n p q e f = rw (e, f) refl
+
 wanted_only : (signal : Signal) (codes : List Code) → IsOnly (AreWanted signal codes)
-wanted_only (Single code) codes x y a b =
-    let e = a.0 in
-    let f = b.0 in
-    let g = a.1 in
-    let h = b.1 in
-    cc
-wanted_only (Dual first second) codes x y a b =
-    let e = a.0 in
-    let f = b.0 in
-    let g = a.1 in
-    let h = b.1 in
-    cc
+wanted_only (Single code) codes x y a b = same_wanted _ _ _ _ (same_Some x.first y.first (sym a.0 ∙ b.0)) (a.1 ∙ sym b.1)
+wanted_only (Dual first second) codes x y a b = same_wanted _ _ _ _ (same_Some x.first y.first (sym a.0 ∙ b.0)) (sym a.1 ∙ b.1)
 
 position_line_only : (text : List ℕ) → IsOnly (position_line text)
 position_line_only text =
@@ -168,11 +157,11 @@ header_lines_only signal position header number (line ∷ more) x y a b =
 
 -- ---- epochs
 
-seconds_only : (field : List ℕ) → IsOnly (IsSeconds field)
+pub seconds_only : (field : List ℕ) → IsOnly (IsSeconds field)
 seconds_only field m n a b =
-    let same = same_fixed field (pos a.digits) (neg_ℤ (pos a.decimals)) (pos b.digits) (neg_ℤ (pos b.decimals)) a.number b.number in
-    let e : a.digits ≡ b.digits = omega (arith, ints, same.0) in
-    let f : a.decimals ≡ b.decimals = omega (arith, ints, same.1) in
+    let same = same_fixed field (record { digits = pos a.digits; ten = neg_ℤ (pos a.decimals) }) (record { digits = pos b.digits; ten = neg_ℤ (pos b.decimals) }) a.number b.number in
+    let e : a.digits ≡ b.digits = omega (arith, ints, ap (λ (d : Decimal). d.digits) same) in
+    let f : a.decimals ≡ b.decimals = omega (arith, ints, ap (λ (d : Decimal). d.ten) same) in
     a.value ∙ (rw (e, f) (sym b.value))
 
 tag_only : (text : List ℕ) → IsOnly (IsTag text)

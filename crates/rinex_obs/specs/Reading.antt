@@ -1,6 +1,6 @@
 -- What a reader of observation files has read.
-use Rattle.std.specs.Prelude.{ℕ, ◌≡◌, ◌≤◌, ◌<◌, ◌≤ℤ◌, ◌<ℤ◌, ℤ, pos, List, [], ◌∷◌, ◌++◌, length, Option, None, Some, map, Result, Ok, Err}
-use Rattle.rinex_text.specs.Headers.{Behind}
+use Rattle.std.specs.Prelude.{ℕ, ◌≡◌, ◌-◌, ◌*◌, ◌^◌, ◌≤◌, ◌<◌, ◌≤ℤ◌, ◌<ℤ◌, pos, neg_ℤ, List, [], ◌∷◌, ◌++◌, length, Option, None, Some, map, Result, Ok, Err}
+use Rattle.exact_decimal.specs.declared.decimal.Decimal.{Decimal}
 use Rattle.rinex_text.specs.Reading.{behind_of}
 use Rattle.rinex_text.specs.declared.fault.Fault.{Fault}
 use Rattle.rinex_text.specs.declared.fault.ReadError.{ReadError}
@@ -10,7 +10,7 @@ use Rattle.sat_model.specs.declared.boxes.Pos.{Pos}
 use Rattle.sat_model.specs.declared.satellites.Signal.{Signal}
 use Rattle.sat_model.specs.declared.satellites.Signal.TheVariants.{Single, Dual}
 use Rattle.rinex_obs.specs.Types.{Code, Types, place_of}
-use Rattle.rinex_obs.specs.Header.{Header as Known, Coordinates, Wanted, Start}
+use Rattle.rinex_obs.specs.Header.{Header as Known, Wanted, Start}
 use Rattle.rinex_obs.specs.Epochs.{Observed, Block}
 use Rattle.rinex_obs.specs.Files.{Observations}
 use Rattle.rinex_obs.specs.declared.found.Found.{Found}
@@ -67,6 +67,16 @@ abbrev pub start_of : Places → Option Pos → Lines → Start
 start_of places position lines = record { wanted = wanted_of places; position = position; behind = behind_of lines }
 
 -- ---- the epochs
+
+-- a number of seconds under 60 with at most 7 decimals, in 10^-7 s
+pub record AreTenths (number : Decimal) (tenths : ℕ) : Type 0 where
+  pub digits : ℕ
+  pub decimals : ℕ
+  pub digits_are : number.digits ≡ pos digits
+  pub ten_is : number.ten ≡ neg_ℤ (pos decimals)
+  pub few : decimals ≤ 7
+  pub value : tenths ≡ digits * 10 ^ (7 - decimals)
+  pub under : tenths < 600000000
 
 -- the time of an epoch, which is one of so many
 abbrev pub IsHeadBehind : ℕ → Head → Type 0

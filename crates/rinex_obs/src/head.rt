@@ -1,10 +1,10 @@
 //! The first line of an epoch or an event.
 
-ghost use Rattle.std.specs.Prelude.{◌≡◌, ◌↔◌, ◌≤◌, ◌<◌, ◌≤ℤ◌, ◌<ℤ◌, ℕ, ℤ, pos, IsTrue, IfOk, IfSome, IfNone};
+ghost use Rattle.std.specs.Prelude.{◌≡◌, ◌↔◌, ◌^◌, ◌≤◌, ◌<◌, ◌≤ℤ◌, ◌<ℤ◌, ℕ, ℤ, pos, neg_ℤ, IsTrue, IfOk, IfSome, IfNone};
 ghost use Rattle.rinex_text.specs.Columns.{columns_of};
 ghost use Rattle.rinex_text.specs.Reading.{plain_line};
 ghost use Rattle.rinex_obs.specs.Epochs.{IsSeconds, IsTag, IsFlag, IsLineCount, head_line};
-ghost use Rattle.rinex_obs.specs.Reading.{IsHeadBehind};
+ghost use Rattle.rinex_obs.specs.Reading.{AreTenths, IsHeadBehind};
 
 use exact_decimal::{Decimal, read_fixed};
 use rinex_text::{
@@ -16,7 +16,7 @@ use rinex_text::{
 const MOST_EPOCHS: usize = 200_000;
 
 /// A minute, in 10^-7 s.
-const MINUTE: u64 = 600_000_000;
+const MINUTE: i64 = 600_000_000;
 
 /// The first line of an epoch or an event, and the number of the lines behind it.
 #[derive(Clone, Copy)]
@@ -27,19 +27,54 @@ pub enum Head {
     Event { labelled: bool, lines: u16 },
 }
 
+/// A power of ten.
+fn ten_to(places: u8) -> u64
+    requires { places ≤ 7 }
+    ensures value { result ≡ 10 ^ places }
+    ensures bound { result ≤ 10000000 }
+{
+    10_u64.pow(u32::from(places))
+}
+
+/// The number of decimals for a power of ten, where it is at most 7.
+fn few_decimals(ten: i8) -> Option<u8>
+    ensures decimals { IfSome result (λ n. ten ≡ neg_ℤ (pos n)) }
+    ensures few { IfSome result (λ n. n ≤ 7) }
+    ensures none { IfNone result ((n : ℕ) → ten ≡ neg_ℤ (pos n) → n ≤ 7 → ⊥) }
+{
+    if ten < -7 {
+        return None;
+    }
+    if ten > 0 {
+        return None;
+    }
+    Some((-ten) as u8)
+}
+
+/// The number, where it is from 0 to under the number of 10^-7 s in a minute.
+fn under_minute(digits: i64) -> Option<u64>
+    ensures digits { IfSome result (λ n. digits ≡ pos n) }
+    ensures under { IfSome result (λ n. n < 600000000) }
+    ensures none { IfNone result ((n : ℕ) → digits ≡ pos n → n < 600000000 → ⊥) }
+{
+    if digits < 0 {
+        return None;
+    }
+    if digits >= MINUTE {
+        return None;
+    }
+    Some(digits as u64)
+}
+
 /// A number of seconds in 10^-7 s, where it has at most 7 decimals and is from 0 to under 60.
-fn in_tenths(number: Decimal) -> Option<u64> {
-    if number.ten < -7 {
-        return None;
-    }
-    if number.digits < 0 {
-        return None;
-    }
-    if number.digits >= 600_000_000 {
-        return None;
-    }
-    let tenths = number.digits as u64 * 10_u64.pow((7 + number.ten) as u32);
-    if tenths >= MINUTE {
+fn in_tenths(number: Decimal) -> Option<u64>
+    ensures tenths { IfSome result (AreTenths number) }
+    ensures none { IfNone result ((tenths : ℕ) → AreTenths number tenths → ⊥) }
+{
+    let decimals = few_decimals(number.ten)?;
+    let digits = under_minute(number.digits)?;
+    let tenths = digits * ten_to(7 - decimals);
+    if tenths >= MINUTE as u64 {
         return None;
     }
     Some(tenths)
