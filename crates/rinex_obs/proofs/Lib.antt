@@ -6,3 +6,4 @@ pub mod SecondsLemmas
 pub mod LineLemmas
 pub mod OnlyLemmas
 pub mod HeadLemmas
+pub mod BlockLemmas

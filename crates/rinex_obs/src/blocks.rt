@@ -53,7 +53,7 @@ pub fn read_epochs(
 {
     let mut epochs = Vec::new(alloc);
     let mut left = body;
-    'blocks: while let Some((line, behind)) = left.split_first() {
+    'lines: while let Some((line, behind)) = left.split_first() {
         let head = match head_line(line, epochs.len()) {
             Ok(head) => head,
             Err(fault) => {

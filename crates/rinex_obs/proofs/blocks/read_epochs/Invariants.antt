@@ -6,9 +6,9 @@ use Rattle.rinex_obs.specs.Reading.{wanted_of, plain_epochs}
 use Rattle.rinex_obs.proofs.blocks.read_epochs.Given as goal
 
 -- what the lines that are left give, behind the epochs so far, is what all give
-abbrev pub invariant-blocks : goal.invariant-blocks
-invariant-blocks l = (answer : Result (List Observed) Refusal) → epochs_from (wanted_of l.places) (plain_epochs l.epochs.items) l.left.lines.number 0 (body_left l.left) answer
+abbrev pub invariant-lines : goal.invariant-lines
+invariant-lines l = (answer : Result (List Observed) Refusal) → epochs_from (wanted_of l.places) (plain_epochs l.epochs.items) l.left.lines.number 0 (body_left l.left) answer
     → epochs_from (wanted_of l.places) [] l.fn.body.lines.number 0 (body_left l.fn.body) answer
 
-abbrev pub decreases-blocks : goal.decreases-blocks
-decreases-blocks l = l.left.left
+abbrev pub decreases-lines : goal.decreases-lines
+decreases-lines l = l.left.left
