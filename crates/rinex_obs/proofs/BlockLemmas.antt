@@ -67,3 +67,6 @@ lines_of_block (Some epoch) lines = refl
 
 pub count_is : (epochs : List ObsEpoch) (n : ℕ) → n ≡ length epochs → n ≡ length (plain_epochs epochs)
 count_is epochs n e = e ∙ sym (length-map epochs plain_epoch)
+
+pub in_body : (wanted : Wanted) (n m : ℕ) (lines others : List TextLine) (answer : Result (List Observed) Refusal) → n ≡ m → lines ≡ others → epochs_from wanted [] n 0 lines answer → epochs_from wanted [] m 0 others answer
+in_body wanted n m lines others answer e f h = rw (e, f) at h
