@@ -1,15 +1,14 @@
 -- Fields, counts and clock times: what none is, and that there is only one.
-use Rattle.std.proofs.Common.{◌≡◌, ℕ, Bool, true, false, ◌+◌, ◌-◌, ◌*◌, ◌^◌, ◌<◌, ◌≤◌, List, arith, sym, ◌∙◌, inl, inr, Option, Some, None, Result, Ok, Err}
+use Rattle.std.proofs.Common.{◌≡◌, ℕ, ◌*◌, List, inl, inr, Option, None, Result, Ok, Err}
 use Rattle.std.specs.Prelude.{ℤ, pos, ◌↔◌}
-use Rattle.std.proofs.Math.Nat.{pow-le-pow_right}
 use Rattle.exact_decimal.specs.declared.decimal.BadNumber.{BadNumber}
 use Rattle.exact_decimal.specs.declared.decimal.Decimal.{Decimal}
 use Rattle.exact_decimal.specs.Counts.{IsCount}
 use Rattle.exact_decimal.specs.NumberFields.{AreBlanks, IsFloating}
 use Rattle.exact_decimal.specs.Reading.{Reads}
-use Rattle.exact_decimal.proofs.Counts.{count_answer}
 use Rattle.rinex_text.specs.Columns.{columns_of}
 use Rattle.rinex_text.specs.Dates.{IsGpsTime, gps_time}
+use Rattle.rinex_text.proofs.FieldLemmas.{same_count}
 use Rattle.rinex_nav.specs.Fields.{IsField, IsClockTime}
 
 pub no_field : (read : Result (Option Decimal) BadNumber) (field : List ℕ) (e : BadNumber) → (read ≡ Ok None) ↔ AreBlanks field → ((digits ten : ℤ) → Reads read digits ten ↔ IsFloating field digits ten)
@@ -18,19 +17,6 @@ no_field read field e blank numbers is number of = elim of [
   | inl (blanks, zero) ↦ let other = blank.1 blanks in cc
   | inr floating ↦ let other = (numbers number.digits number.ten).1 floating in cc
 ]
-
-pub same_count : (field : List ℕ) (m n : ℕ) → IsCount field m → IsCount field n → m ≡ n
-same_count field m n first second =
-    let a = (count_answer field m).1 first in
-    let b = (count_answer field n).1 second in
-    let same : Some m ≡ Some n = sym a ∙ b in
-    cc
-
-pub two_columns : (first n wide : ℕ) → n < 10 ^ wide → wide ≤ first + 1 + 1 - first → n ≤ 99
-two_columns first n wide h w = let two : wide ≤ 2 = omega arith in omega (arith, pow-le-pow_right {n = 10} (omega arith) two)
-
-pub four_columns : (n wide : ℕ) → n < 10 ^ wide → wide ≤ 8 + 1 - 5 → n ≤ 9999
-four_columns n wide h w = let four : wide ≤ 4 = omega arith in omega (arith, pow-le-pow_right {n = 10} (omega arith) four)
 
 pub no_time : (text : List ℕ) (year month day hour minute second : ℕ)
     → IsCount (columns_of text 5 8) year → IsCount (columns_of text 10 11) month → IsCount (columns_of text 13 14) day → IsCount (columns_of text 16 17) hour → IsCount (columns_of text 19 20) minute → IsCount (columns_of text 22 23) second
@@ -43,9 +29,3 @@ no_time text year month day hour minute second y mo d h mi s toc is =
     let emi = same_count _ _ _ is.minute_is mi in
     let es = same_count _ _ _ is.second_is s in
     (rw (ey, emo, ed, eh, emi, es) at is.time, rw (ey, emo, ed, eh, emi, es) at is.value)
-
-pub never : false ≡ true → ⊥
-never e = cc
-
-pub both_ways : (b : Bool) → b ≡ true → b ≡ false → ⊥
-both_ways b e f = cc

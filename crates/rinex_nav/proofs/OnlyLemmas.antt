@@ -1,84 +1,20 @@
 -- The lines of a file give one answer only.
-use Rattle.std.proofs.Common.{◌≡◌, ℕ, zero, suc, ◌+◌, List, [], ◌∷◌, refl, sym, ap, subst, ◌⊎◌, inl, inr, ◌∙◌, IfOk, IfErr, Result, Ok, Err}
+use Rattle.std.proofs.Common.{◌≡◌, ℕ, zero, suc, ◌+◌, List, [], ◌∷◌, refl, sym, ap, inl, inr, ◌∙◌, IfOk, IfErr, Result, Ok, Err}
 use Rattle.exact_decimal.proofs.Answers.{floating_answer, floating_blank}
 use Rattle.rinex_text.specs.Bodies.{counted}
-use Rattle.rinex_text.specs.Faults.{refusal, test, read, then, line_gives}
-use Rattle.rinex_text.specs.Headers.{Behind, version_line, version_of, header_from}
+use Rattle.rinex_text.specs.Headers.{Behind}
 use Rattle.rinex_text.specs.Lines.{TextLine, lines_of}
-use Rattle.rinex_text.specs.declared.fault.Fault.{Fault}
+use Rattle.rinex_text.specs.Reading.{Refuses, GivesRefusal}
+use Rattle.rinex_text.proofs.OnlyLemmas.{IsOnly, test_only, read_only, ok_same, err_same, not_both, then_only, gives_only, number_only, first_only, header_only, version_only}
 use Rattle.rinex_text.specs.declared.fault.ReadError.{ReadError}
 use Rattle.rinex_text.specs.declared.fault.ReadError.TheVariants.{Refused, NoMemory}
 use Rattle.rinex_text.specs.declared.fault.Refusal.{Refusal}
-use Rattle.rinex_nav.specs.Reading.{records_of, Refuses, GivesRecords, GivesRefusal}
+use Rattle.rinex_nav.specs.Reading.{records_of, GivesRecords}
 use Rattle.rinex_nav.specs.declared.record.NavRecord.{NavRecord}
-use Rattle.rinex_nav.specs.Fields.{IsField, MiddleFields, LastFields, AllFields, IsNumber, IsClockTime}
+use Rattle.rinex_nav.specs.Fields.{IsField, MiddleFields, LastFields, AllFields, IsClockTime}
 use Rattle.rinex_nav.specs.Files.{with_first, records_from, nav_file, IsNavFile, IsFirstFault}
-use Rattle.rinex_nav.specs.Records.{Broadcast, clock_line, further_text, further_line, first_of, record_from}
-use Rattle.rinex_nav.proofs.FieldLemmas.{same_count, no_time}
-
--- the reader has one answer
-abbrev IsOnly : {X : Type 0} → (X → Type 0) → Type 0
-IsOnly {X} reader = (x y : X) → reader x → reader y → x ≡ y
-
-test_only : {X E : Type 0} (P : Type 0) (f : E) (later : Result X E → Type 0) → IsOnly later → IsOnly (test P f later)
-test_only P f later only x y a b = elim a [
-  | inl (p, h) ↦ elim b [
-    | inl (q, k) ↦ only x y h k
-    | inr (other, e) ↦ absurd (other p)
-  ]
-  | inr (other, e) ↦ elim b [
-    | inl (q, k) ↦ absurd (other q)
-    | inr (also, f) ↦ e ∙ sym f
-  ]
-]
-
-read_only : {V X E : Type 0} (Is : V → Type 0) (f : E) (later : V → Result X E → Type 0) → IsOnly Is → ((v : V) → IsOnly (later v)) → IsOnly (read Is f later)
-read_only Is f later one only x y a b = elim a [
-  | inl (v, is, h) ↦ elim b [
-    | inl (w, also, k) ↦ only w x y (subst (λ u. later u x) (one v w is also) h) k
-    | inr (other, e) ↦ absurd (other v is)
-  ]
-  | inr (other, e) ↦ elim b [
-    | inl (w, also, k) ↦ absurd (other w also)
-    | inr (also, f) ↦ e ∙ sym f
-  ]
-]
-
-ok_same : {V E : Type 0} (v w : V) → ◌≡◌ {A = Result V E} (Ok v) (Ok w) → v ≡ w
-ok_same v w e = cc
-
-err_same : {V E : Type 0} (e f : E) → ◌≡◌ {A = Result V E} (Err e) (Err f) → e ≡ f
-err_same e f h = cc
-
-not_both : {V E : Type 0} (v : V) (e : E) → ◌≡◌ {A = Result V E} (Ok v) (Err e) → ⊥
-not_both v e h = cc
-
-then_only : {V X E : Type 0} (reader : Result V E → Type 0) (later : V → Result X E → Type 0) → IsOnly reader → ((v : V) → IsOnly (later v)) → IsOnly (then reader later)
-then_only reader later one only x y a b = elim a [
-  | inl (v, r, h) ↦ elim b [
-    | inl (w, s, k) ↦ only w x y (subst (λ u. later u x) (ok_same v w (one (Ok v) (Ok w) r s)) h) k
-    | inr (e, s, k) ↦ absurd (not_both v e (one (Ok v) (Err e) r s))
-  ]
-  | inr (e, r, h) ↦ elim b [
-    | inl (w, s, k) ↦ absurd (not_both w e (one (Ok w) (Err e) s r))
-    | inr (f, s, k) ↦ h ∙ (ap (λ u. Err u) (err_same e f (one (Err e) (Err f) r s)) ∙ sym k)
-  ]
-]
-
-gives_only : {X E : Type 0} (v : X) → IsOnly (λ (answer : Result X E). answer ≡ Ok v)
-gives_only v x y a b = a ∙ sym b
-
-line_only : {V X : Type 0} (reader : Result V Fault → Type 0) (number : ℕ) (later : V → Result X Refusal → Type 0) → IsOnly reader → ((v : V) → IsOnly (later v)) → IsOnly (line_gives reader number later)
-line_only reader number later one only x y a b = elim a [
-  | inl (v, r, h) ↦ elim b [
-    | inl (w, s, k) ↦ only w x y (subst (λ u. later u x) (ok_same v w (one (Ok v) (Ok w) r s)) h) k
-    | inr (e, s, k) ↦ absurd (not_both v e (one (Ok v) (Err e) r s))
-  ]
-  | inr (e, r, h) ↦ elim b [
-    | inl (w, s, k) ↦ absurd (not_both w e (one (Ok w) (Err e) s r))
-    | inr (f, s, k) ↦ h ∙ (ap (λ u. Err (refusal u number)) (err_same e f (one (Err e) (Err f) r s)) ∙ sym k)
-  ]
-]
+use Rattle.rinex_nav.specs.Records.{Broadcast, clock_line, further_text, further_line, record_from}
+use Rattle.rinex_nav.proofs.FieldLemmas.{no_time}
 
 -- ---- fields
 
@@ -112,9 +48,6 @@ all_only text (a, b, c, d) (k, l, m, n) f g =
     let e4 = field_only _ d n f.3 g.3 in
     cc
 
-number_only : (text : List ℕ) → IsOnly (IsNumber text)
-number_only text m n a b = same_count _ m n a.count b.count
-
 time_only : (text : List ℕ) → IsOnly (IsClockTime text)
 time_only text s t a b =
     a.value ∙ sym (no_time text a.year a.month a.day a.hour a.minute a.second a.year_is a.month_is a.day_is a.hour_is a.minute_is a.second_is t b).1
@@ -130,11 +63,6 @@ text_only line = test_only _ _ _ (test_only _ _ _ (test_only _ _ _ (test_only _ 
 
 further_only : {V : Type 0} (Are : List ℕ → V → Type 0) → ((text : List ℕ) → IsOnly (Are text)) → (line : TextLine) → IsOnly (further_line Are line)
 further_only Are one line = then_only _ _ (text_only line) (λ passed. read_only _ _ _ (one line.text) (λ v. gives_only v))
-
-first_only : {V X : Type 0} (line : TextLine → Result V Fault → Type 0) (later : V → Behind → Result X Refusal → Type 0) → ((t : TextLine) → IsOnly (line t)) → ((v : V) (from : Behind) → IsOnly (later v from))
-    → (number : ℕ) (lines : List TextLine) → IsOnly (first_of line number lines later)
-first_only line later one only number [] x y a b = a ∙ sym b
-first_only line later one only number (next ∷ more) x y a b = line_only _ _ _ (one next) (λ v. only v _) x y a b
 
 record_only : (count : ℕ) (from : Behind) → IsOnly (record_from count from)
 record_only count from =
@@ -168,30 +96,6 @@ records_only count number zero (line ∷ more) x y a b = elim a [
     | inr (also, k) ↦ test_only _ _ _ (records_only count (number + 1) 0 more) x y h k
   ]
 ]
-
--- a test that ends a header, or else what comes later
-ended_only : (End : Type 0) (v : Behind) (later : Result Behind Refusal → Type 0) → IsOnly later → IsOnly (λ (given : Result Behind Refusal). (End × (given ≡ Ok v)) ⊎ ((End → ⊥) × later given))
-ended_only End v later one x y a b = elim a [
-  | inl (end, h) ↦ elim b [
-    | inl (also, k) ↦ h ∙ sym k
-    | inr (other, k) ↦ absurd (other end)
-  ]
-  | inr (other, h) ↦ elim b [
-    | inl (end, k) ↦ absurd (other end)
-    | inr (also, k) ↦ one x y h k
-  ]
-]
-
-header_only : (number : ℕ) (lines : List TextLine) → IsOnly (header_from number lines)
-header_only number [] x y a b = a ∙ sym b
-header_only number (line ∷ more) x y a b = test_only _ _ _ (ended_only _ _ _ (header_only (number + 1) more)) x y a b
-
-version_line_only : (kind : ℕ) (line : TextLine) → IsOnly (version_line kind line)
-version_line_only kind line = test_only _ _ _ (test_only _ _ _ (test_only _ _ _ (test_only _ _ _ (test_only _ _ _ (gives_only tt)))))
-
-version_only : (kind : ℕ) (lines : List TextLine) → IsOnly (version_of kind lines)
-version_only kind [] x y a b = a ∙ sym b
-version_only kind (line ∷ more) x y a b = line_only _ _ _ (version_line_only kind line) (λ passed. gives_only _) x y a b
 
 pub file_only : (lines : List TextLine) (x y : Result (List Broadcast) Refusal) → nav_file lines x → nav_file lines y → x ≡ y
 file_only lines = then_only _ _ (version_only 78 lines) (λ header. then_only _ _ (header_only header.number header.lines) (λ body. records_only 0 body.number 0 (counted body.lines)))

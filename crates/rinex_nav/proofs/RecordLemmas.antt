@@ -5,12 +5,10 @@ use Rattle.rinex_text.specs.Faults.{refusal}
 use Rattle.rinex_text.specs.Headers.{IsShort}
 use Rattle.rinex_text.specs.Lines.{TextLine}
 use Rattle.rinex_text.specs.declared.fault.Fault.TheVariants.{LongLine}
-use Rattle.rinex_text.specs.declared.fault.ReadError.{ReadError}
-use Rattle.rinex_text.specs.declared.fault.ReadError.TheVariants.{Refused, NoMemory}
 use Rattle.rinex_text.specs.declared.fault.Refusal.{Refusal}
 use Rattle.rinex_nav.specs.Files.{BeginsRecord, with_first, records_from}
 use Rattle.rinex_nav.specs.Records.{Broadcast, record_from}
-use Rattle.rinex_nav.specs.Reading.{with_all, plain_record, Refuses}
+use Rattle.rinex_nav.specs.Reading.{with_all, plain_record}
 use Rattle.rinex_nav.specs.declared.record.NavRecord.{NavRecord}
 
 -- the lines of a record that was read are passed over
@@ -70,10 +68,6 @@ all_read records count n first lines all e inv =
 
 pub in_body : (n m : ℕ) (lines others : List TextLine) (answer : Result (List Broadcast) Refusal) → n ≡ m → lines ≡ others → records_from 0 n 0 lines answer → records_from 0 m 0 others answer
 in_body n m lines others answer e f h = subst (λ (k : ℕ). records_from 0 k 0 others answer) e (subst (λ (l : List TextLine). records_from 0 n 0 l answer) f h)
-
-pub refuses_on : (inner outer : Result (List Broadcast) Refusal → Type 0) → ((refused : Refusal) → inner (Err refused) → outer (Err refused)) → (e : ReadError) → Refuses inner e → Refuses outer e
-refuses_on inner outer on (Refused refused) h = on refused h
-refuses_on inner outer on NoMemory h = tt
 
 pub err_on : {X : Type 0} (inner outer : ReadError → Type 0) (r : Result X ReadError) → ((e : ReadError) → inner e → outer e) → IfErr r inner → IfErr r outer
 err_on inner outer (Ok x) on h = tt

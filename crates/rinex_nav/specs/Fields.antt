@@ -1,5 +1,5 @@
 -- The fields on the lines of a navigation record (RINEX 3.04, table A6).
-use Rattle.std.specs.Prelude.{ℕ, zero, suc, ◌≡◌, ◌⊎◌, ◌+◌, ◌*◌, ◌≤◌, ℤ, pos, negsuc, Bool, true, false, List}
+use Rattle.std.specs.Prelude.{ℕ, zero, suc, ◌≡◌, ◌⊎◌, ◌+◌, ◌*◌, ℤ, pos, negsuc, Bool, true, false, List}
 use Rattle.exact_decimal.specs.Counts.{IsCount}
 use Rattle.exact_decimal.specs.NumberFields.{AreBlanks, IsFloating}
 use Rattle.exact_decimal.specs.declared.decimal.Decimal.{Decimal}
@@ -38,12 +38,6 @@ LastFields text numbers = FieldAt text 24 numbers.0 × FieldAt text 43 numbers.1
 
 abbrev pub AllFields : List ℕ → Four → Type 0
 AllFields text numbers = FieldAt text 5 numbers.0 × FieldAt text 24 numbers.1 × FieldAt text 43 numbers.2 × FieldAt text 62 numbers.3
-
--- the number of a satellite, from 1 to 99, in columns 2 and 3
-pub record IsNumber (text : List ℕ) (number : ℕ) : Type 0 where
-  pub count : IsCount (columns_of text 2 3) number
-  pub from : 1 ≤ number
-  pub to : number ≤ 99
 
 -- the clock time, from its year, month, day, hour, minute and second
 pub record IsClockTime (text : List ℕ) (toc : ℤ) : Type 0 where

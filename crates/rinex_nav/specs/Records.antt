@@ -1,18 +1,19 @@
 -- The eight lines of a navigation record.
-use Rattle.std.specs.Prelude.{ℕ, ◌≡◌, ◌⊎◌, ◌+◌, ◌<◌, ℤ, Bool, true, List, [], ◌∷◌, Result, Err}
+use Rattle.std.specs.Prelude.{ℕ, ◌≡◌, ◌⊎◌, ◌<◌, ℤ, Bool, true, List, [], ◌∷◌, Result}
 use Rattle.std.specs.List.{list_all}
 use Rattle.exact_decimal.specs.NumberFields.{is_blank}
 use Rattle.exact_decimal.specs.declared.decimal.Decimal.{Decimal}
-use Rattle.rinex_text.specs.Bodies.{is_printable}
+use Rattle.rinex_text.specs.Bodies.{is_printable, needs}
 use Rattle.rinex_text.specs.Columns.{column_of}
-use Rattle.rinex_text.specs.Faults.{refusal, gives, test, read, then, line_gives}
+use Rattle.rinex_text.specs.Counts.{IsNumber}
+use Rattle.rinex_text.specs.Faults.{gives, test, read, then}
 use Rattle.rinex_text.specs.Headers.{IsShort, Behind}
 use Rattle.rinex_text.specs.Lines.{TextLine}
 use Rattle.rinex_text.specs.declared.fault.Fault.{Fault}
 use Rattle.rinex_text.specs.declared.fault.Fault.TheVariants as fault
 use Rattle.rinex_text.specs.declared.fault.Refusal.{Refusal}
 use Rattle.sat_model.specs.declared.satellites.Sat.{Sat}
-use Rattle.rinex_nav.specs.Fields.{Two, Three, Four, FirstField, MiddleFields, LastFields, AllFields, IsNumber, IsClockTime, is_zero}
+use Rattle.rinex_nav.specs.Fields.{Two, Three, Four, FirstField, MiddleFields, LastFields, AllFields, IsClockTime, is_zero}
 
 -- ---- its lines
 
@@ -68,14 +69,6 @@ broadcast clock a b c d idot health = record {
   fields =
       clock.2.0 ∷ clock.2.1 ∷ clock.2.2 ∷ a.0 ∷ a.1 ∷ a.2 ∷ b.0 ∷ b.1 ∷ b.2 ∷ b.3 ∷ c.0 ∷ c.1 ∷ c.2 ∷ c.3 ∷ d.0 ∷ d.1 ∷ d.2 ∷ d.3 ∷ idot ∷ health.1 ∷ [];
 }
-
--- the first of the lines, which the file may not lack, and what comes later
-abbrev pub first_of : {V X : Type 0} → (TextLine → Result V Fault → Type 0) → ℕ → List TextLine → (V → Behind → Result X Refusal → Type 0) → Result X Refusal → Type 0
-first_of line number [] later answer = answer ≡ Err (refusal fault.Truncated number)
-first_of line number (next ∷ more) later answer = line_gives (line next) number (λ v. later v (record { number = number + 1; lines = more })) answer
-
-abbrev pub needs : {V X : Type 0} → (TextLine → Result V Fault → Type 0) → Behind → (V → Behind → Result X Refusal → Type 0) → Result X Refusal → Type 0
-needs line from later answer = first_of line from.number from.lines later answer
 
 -- a GPS record behind so many others
 abbrev pub record_from : ℕ → Behind → Result Broadcast Refusal → Type 0

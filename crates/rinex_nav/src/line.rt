@@ -1,14 +1,15 @@
 //! The lines of a navigation record.
 
 ghost use Rattle.std.specs.Prelude.{◌≡◌, ◌↔◌, ◌<◌, ◌<ℤ◌, ◌≤ℤ◌, pos, IfOk, OnOk, IsTrue};
-ghost use Rattle.exact_decimal.specs.NumberFields.{is_blank};
 ghost use Rattle.rinex_text.specs.Reading.{plain_line};
 ghost use Rattle.rinex_nav.specs.Fields.{FirstField, MiddleFields, LastFields, AllFields};
 ghost use Rattle.rinex_nav.specs.Records.{MayFollow, clock_line, further_text, further_line};
 
-use crate::field::{all_fields, clock_time, field, last_fields, middle_fields, satellite_number};
+use crate::field::{all_fields, clock_time, field, last_fields, middle_fields};
 use exact_decimal::Decimal;
-use rinex_text::{Fault, Line, column, is_printable_text, is_short};
+use rinex_text::{
+    Fault, Line, column, is_blank_byte, is_printable_text, is_short, satellite_number,
+};
 
 /// The most records of a file.
 const MOST_RECORDS: usize = 200_000;
@@ -45,18 +46,11 @@ pub fn clock_line(
     Ok((number, toc, clock))
 }
 
-/// Whether the byte is a space or a tab.
-fn is_blank(byte: u8) -> bool
-    ensures { result ≡ is_blank byte }
-{
-    byte == b' ' || byte == b'\t'
-}
-
 /// Whether the byte is a blank or `G`.
 fn may_follow(byte: u8) -> bool
     ensures { IsTrue result ↔ MayFollow byte }
 {
-    is_blank(byte) || byte == b'G'
+    is_blank_byte(byte) || byte == b'G'
 }
 
 /// The tests of a further line of a record, before its fields.
@@ -72,7 +66,7 @@ pub fn further_text(line: Line<'_>) -> Result<(), Fault>
     if !is_printable_text(line.text) {
         return Err(Fault::NotAscii);
     }
-    if !is_blank(column(line.text, 1)) {
+    if !is_blank_byte(column(line.text, 1)) {
         return Err(Fault::Truncated);
     }
     Ok(())

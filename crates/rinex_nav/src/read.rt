@@ -3,9 +3,9 @@
 ghost use Rattle.std.specs.Prelude.{◌≡◌, ◌≤◌, ◌<◌, ◌+◌, List, IfOk, IfErr, OnOk, Ok, Err, drop, length, map};
 ghost use Rattle.rinex_text.specs.Lines.{lines_of};
 ghost use Rattle.rinex_text.specs.declared.fault.Refusal.{Refusal};
-ghost use Rattle.rinex_text.specs.Reading.{body_left};
+ghost use Rattle.rinex_text.specs.Reading.{body_left, body_behind, Leaves, Refuses, GivesRefusal};
 ghost use Rattle.rinex_nav.specs.Files.{records_from, nav_file, IsNavFile, IsFirstFault};
-ghost use Rattle.rinex_nav.specs.Reading.{plain_record, records_of, body_behind, Leaves, Refuses, GivesRecords, GivesRefusal};
+ghost use Rattle.rinex_nav.specs.Reading.{plain_record, records_of, GivesRecords};
 ghost use Rattle.rinex_nav.specs.Records.{Broadcast, record_from};
 
 use crate::field::is_zero;

@@ -3,7 +3,7 @@
 ghost use Rattle.std.specs.Prelude.{◌<◌, ◌≤ℤ◌, ◌<ℤ◌, pos, IfOk, IfErr, OnOk};
 ghost use Rattle.rinex_nav.specs.Fields.{FirstField, MiddleFields, LastFields, AllFields};
 ghost use Rattle.rinex_nav.specs.Records.{clock_line, further_text, further_line};
-ghost use Rattle.rinex_nav.specs.Reading.{Takes, Fails};
+ghost use Rattle.rinex_text.specs.Reading.{Takes, Fails};
 
 use crate::line::{clock_line, first_line, further_text, last_line, middle_line, whole_line};
 use exact_decimal::Decimal;

@@ -3,3 +3,5 @@ pub mod LineLemmas
 pub mod FieldLemmas
 pub mod BodyLemmas
 pub mod HeaderLemmas
+pub mod TakeLemmas
+pub mod OnlyLemmas

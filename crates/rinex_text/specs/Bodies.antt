@@ -1,8 +1,13 @@
 -- What stands behind the header: all lines but the blank ones at the end of the file.
-use Rattle.std.specs.Prelude.{ℕ, suc, Bool, ◌&&◌, nat_le, List, [], ◌∷◌, cond}
+use Rattle.std.specs.Prelude.{ℕ, suc, ◌≡◌, ◌+◌, Bool, ◌&&◌, nat_le, List, [], ◌∷◌, cond, Result, Err}
 use Rattle.std.specs.List.{list_all}
 use Rattle.exact_decimal.specs.NumberFields.{is_blank}
+use Rattle.rinex_text.specs.Faults.{refusal, line_gives}
+use Rattle.rinex_text.specs.Headers.{Behind}
 use Rattle.rinex_text.specs.Lines.{TextLine}
+use Rattle.rinex_text.specs.declared.fault.Fault.{Fault}
+use Rattle.rinex_text.specs.declared.fault.Fault.TheVariants.{Truncated}
+use Rattle.rinex_text.specs.declared.fault.Refusal.{Refusal}
 
 -- a line of blanks alone
 abbrev pub is_blank_line : TextLine → Bool
@@ -21,6 +26,14 @@ counted (line ∷ more) = counted_with line (counted more)
 -- a byte of printable ASCII, the space among them
 abbrev pub is_printable : ℕ → Bool
 is_printable byte = nat_le 32 byte && nat_le byte 126
+
+-- the first of the lines, which the file may not lack, and what comes later
+abbrev pub first_of : {V X : Type 0} → (TextLine → Result V Fault → Type 0) → ℕ → List TextLine → (V → Behind → Result X Refusal → Type 0) → Result X Refusal → Type 0
+first_of line number [] later answer = answer ≡ Err (refusal Truncated number)
+first_of line number (next ∷ more) later answer = line_gives (line next) number (λ v. later v (record { number = number + 1; lines = more })) answer
+
+abbrev pub needs : {V X : Type 0} → (TextLine → Result V Fault → Type 0) → Behind → (V → Behind → Result X Refusal → Type 0) → Result X Refusal → Type 0
+needs line from later answer = first_of line from.number from.lines later answer
 
 -- The number of lines that count, behind so many lines of which so many counted. The reader finds it
 -- from the first line to the last; no public clause cites it.

@@ -38,6 +38,10 @@ gives value answer = answer ≡ Ok value
 abbrev pub test : {X E : Type 0} → Type 0 → E → (Result X E → Type 0) → Result X E → Type 0
 test passed fault later answer = (passed × later answer) ⊎ ((passed → ⊥) × (answer ≡ Err fault))
 
+-- where this holds, the first; else the second
+abbrev pub where_holds : {X E : Type 0} → Type 0 → (Result X E → Type 0) → (Result X E → Type 0) → Result X E → Type 0
+where_holds this first second answer = (this × first answer) ⊎ ((this → ⊥) × second answer)
+
 -- some value of this kind, and with it what comes later; where there is none its fault
 abbrev pub read : {V X E : Type 0} → (V → Type 0) → E → (V → Result X E → Type 0) → Result X E → Type 0
 read {V} IsValue fault later answer = ((v : V) × IsValue v × later v answer) ⊎ (((v : V) → IsValue v → ⊥) × (answer ≡ Err fault))

@@ -1,6 +1,7 @@
 pub mod Lines
 pub mod LineEnds
 pub mod Columns
+pub mod Counts
 pub mod Dates
 pub mod Faults
 pub mod Headers

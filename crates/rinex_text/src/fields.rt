@@ -28,7 +28,7 @@ pub fn column(line: &[u8], place: u16) -> u8
 }
 
 /// Whether the byte is a space or a tab.
-fn is_blank_byte(byte: u8) -> bool
+pub fn is_blank_byte(byte: u8) -> bool
     ensures { result ≡ is_blank byte }
 {
     byte == b' ' || byte == b'\t'

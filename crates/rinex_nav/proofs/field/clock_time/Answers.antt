@@ -1,6 +1,7 @@
 use Rattle.std.proofs.Common.{ℕ, ◌*◌, sym, subst}
 use Rattle.rinex_text.specs.Dates.{IsGpsTime}
-use Rattle.rinex_nav.proofs.FieldLemmas.{no_time, never}
+use Rattle.rinex_text.proofs.FieldLemmas.{never}
+use Rattle.rinex_nav.proofs.FieldLemmas.{no_time}
 use Rattle.rinex_nav.proofs.field.clock_time.Goals as goal
 
 pub returns-in_err-year-clause-none : goal.returns-in_err-year-clause-none

@@ -1,7 +1,8 @@
 use Rattle.std.proofs.Common.{◌≡◌, refl, to_z-of_z, to_z, of_z, FitsSigned, rules}
 use mir.Syntax.{w128}
 use Rattle.std.proofs.lemmas.Result.{err_from_is_err_and}
-use Rattle.rinex_nav.proofs.TakeLemmas.{needs_took, needs_failed, leaves_one, leaves_next, broadcast_is}
+use Rattle.rinex_text.proofs.TakeLemmas.{needs_took, needs_failed, leaves_one, leaves_next}
+use Rattle.rinex_nav.proofs.TakeLemmas.{broadcast_is}
 use Rattle.rinex_nav.proofs.read.read_record.Goals as goal
 
 pub returns-in_err-crs-clause-fault : goal.returns-in_err-crs-clause-fault

@@ -3,8 +3,8 @@ use Rattle.std.proofs.lemmas.List.{length-append}
 use Rattle.std.proofs.lemmas.Result.{err_from_is_err_and}
 use Rattle.rinex_text.specs.Reading.{plain_line, body_left}
 use Rattle.rinex_nav.specs.Files.{BeginsRecord, records_from}
-use Rattle.rinex_nav.proofs.FieldLemmas.{both_ways}
 use Rattle.rinex_nav.proofs.IndexLemmas.{index_more}
+use Rattle.rinex_text.proofs.FieldLemmas.{both_ways}
 use Rattle.rinex_nav.proofs.RecordLemmas.{record_fault, record_on, long_fault, all_read}
 use Rattle.rinex_nav.proofs.read.read_records.Goals as goal
 

@@ -2,8 +2,9 @@ use Rattle.std.proofs.Common.{inl}
 use Rattle.rinex_text.specs.Lines.{lines_of}
 use Rattle.rinex_text.specs.Reading.{behind_of, body_left}
 use Rattle.rinex_nav.specs.Files.{nav_file, records_from}
-use Rattle.rinex_nav.specs.Reading.{Refuses}
-use Rattle.rinex_nav.proofs.RecordLemmas.{in_body, refuses_on, err_on}
+use Rattle.rinex_text.specs.Reading.{Refuses}
+use Rattle.rinex_text.proofs.TakeLemmas.{refuses_on}
+use Rattle.rinex_nav.proofs.RecordLemmas.{in_body, err_on}
 use Rattle.rinex_nav.proofs.read.read_text.Goals as goal
 
 pub returns-clause-fault : goal.returns-clause-fault

@@ -1,6 +1,6 @@
 use Rattle.std.proofs.Common.{List, ℕ, sym, subst}
 use Rattle.exact_decimal.specs.Counts.{IsCount}
-use Rattle.rinex_nav.proofs.field.two_digits.Goals as goal
+use Rattle.rinex_text.proofs.counts.two_digits.Goals as goal
 
 pub returns-in-None-clause-none : goal.returns-in-None-clause-none
 returns-in-None-clause-none c = λ number is.

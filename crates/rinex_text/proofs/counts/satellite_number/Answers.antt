@@ -1,6 +1,6 @@
 use Rattle.std.proofs.Common.{arith}
-use Rattle.rinex_nav.proofs.FieldLemmas.{same_count}
-use Rattle.rinex_nav.proofs.field.satellite_number.Goals as goal
+use Rattle.rinex_text.proofs.FieldLemmas.{same_count}
+use Rattle.rinex_text.proofs.counts.satellite_number.Goals as goal
 
 pub returns-in_err-number-clause-none : goal.returns-in_err-number-clause-none
 returns-in_err-number-clause-none c = rw c.from_residual.ensures (λ v is. c.in_err-number.ensures.none v is.count)

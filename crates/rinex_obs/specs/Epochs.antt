@@ -1,0 +1,165 @@
+-- The epochs of an observation file (RINEX 3.05, table A3): epoch lines with their satellite lines, and
+-- events with the lines that belong to them.
+use Rattle.std.specs.Prelude.{ℕ, zero, suc, ◌≡◌, ◌⊎◌, ◌+◌, ◌-◌, ◌*◌, ◌^◌, ◌≤◌, ◌<◌, ℤ, pos, neg_ℤ, Bool, true, false, ◌==◌, nat_le, List, [], ◌∷◌, ◌++◌, length, Option, None, Some, Result, Ok, codes}
+use Rattle.std.specs.List.{list_all, list_any}
+use Rattle.exact_decimal.specs.Counts.{IsCount}
+use Rattle.exact_decimal.specs.NumberFields.{is_blank, AreBlanks, IsFixed}
+use Rattle.exact_decimal.specs.declared.decimal.Decimal.{Decimal}
+use Rattle.rinex_text.specs.Bodies.{is_printable, needs}
+use Rattle.rinex_text.specs.Columns.{column_of, columns_of}
+use Rattle.rinex_text.specs.Counts.{IsNumber}
+use Rattle.rinex_text.specs.Dates.{IsGpsTime, gps_time}
+use Rattle.rinex_text.specs.Faults.{test, where_holds, read, then, gives, line_gives}
+use Rattle.rinex_text.specs.Headers.{Behind, IsShort}
+use Rattle.rinex_text.specs.Lines.{TextLine}
+use Rattle.rinex_text.specs.declared.fault.Fault.{Fault}
+use Rattle.rinex_text.specs.declared.fault.Fault.TheVariants as fault
+use Rattle.rinex_text.specs.declared.fault.Refusal.{Refusal}
+use Rattle.rinex_obs.specs.Types.{IsOfGps}
+use Rattle.rinex_obs.specs.Header.{Wanted, IsLabelled}
+use Rattle.rinex_obs.specs.declared.head.Head.{Head}
+use Rattle.rinex_obs.specs.declared.head.Head.TheVariants.{Epoch, Event}
+use Rattle.rinex_obs.specs.declared.obs.SatObs.{SatObs}
+
+-- ---- the first line of an epoch or an event
+
+-- seconds under 60 with at most 7 decimals, in 10^-7 s
+pub record IsSeconds (field : List ℕ) (tenths : ℕ) : Type 0 where
+  pub digits : ℕ
+  pub decimals : ℕ
+  pub number : IsFixed field (pos digits) (neg_ℤ (pos decimals))
+  pub few : decimals ≤ 7
+  pub value : tenths ≡ digits * 10 ^ (7 - decimals)
+  pub under : tenths < 600000000
+
+-- the time of an epoch, from its year, month, day, hour, minute and seconds
+pub record IsTag (text : List ℕ) (tag : ℤ) : Type 0 where
+  pub year : ℕ
+  pub month : ℕ
+  pub day : ℕ
+  pub hour : ℕ
+  pub minute : ℕ
+  pub tenths : ℕ
+  pub year_is : IsCount (columns_of text 3 6) year
+  pub month_is : IsCount (columns_of text 8 9) month
+  pub day_is : IsCount (columns_of text 11 12) day
+  pub hour_is : IsCount (columns_of text 14 15) hour
+  pub minute_is : IsCount (columns_of text 17 18) minute
+  pub seconds_are : IsSeconds (columns_of text 19 29) tenths
+  pub time : IsGpsTime year month day hour minute tenths
+  pub value : tag ≡ pos (gps_time year month day hour minute tenths)
+
+-- a digit from `0` to `6`
+abbrev pub IsFlag : ℕ → Type 0
+IsFlag byte = (48 ≤ byte) × (byte ≤ 54)
+
+-- the number of lines, which is zero where it is blank
+abbrev pub IsLineCount : List ℕ → ℕ → Type 0
+IsLineCount field lines = ((list_all is_blank field ≡ true) × (lines ≡ 0)) ⊎ ((list_all is_blank field ≡ true → ⊥) × IsCount field lines)
+
+-- Behind so many epochs. Flags 0 and 1 begin an epoch, 2 to 6 an event, and the labels of the lines of
+-- an event are looked at unless its flag is 6.
+abbrev pub head_line : ℕ → TextLine → Result Head Fault → Type 0
+head_line count line =
+    test (IsShort line) fault.LongLine
+    (test (list_all is_printable line.text ≡ true) fault.NotAscii
+    (test (column_of line.text 1 ≡ 62) fault.BadEpoch
+    (test (IsFlag (column_of line.text 32)) fault.BadEpoch
+    (read (IsLineCount (columns_of line.text 33 35)) fault.BadCount (λ lines.
+    where_holds (column_of line.text 32 ≤ 49)
+    (read (IsTag line.text) fault.BadEpoch (λ tag.
+    test (count < 200000) fault.TooMany
+    (gives (Epoch tag lines))))
+    (gives (Event (nat_le (column_of line.text 32) 53) lines)))))))
+
+-- ---- the satellites of an epoch
+
+-- the value of a field: none where it is blank or zero
+abbrev pub IsObserved : List ℕ → Option Decimal → Type 0
+IsObserved field None = AreBlanks field ⊎ ((ten : ℤ) × IsFixed field (pos 0) ten)
+IsObserved field (Some number) = IsFixed field number.digits number.ten × (number.digits ≡ pos 0 → ⊥)
+
+-- the field of the type at a place: columns 4 to 17, 20 to 33, and so on
+abbrev pub field_at : List ℕ → ℕ → List ℕ
+field_at text place = columns_of text (4 + 16 * place) (17 + 16 * place)
+
+-- the field of the second wanted code, where there are two
+abbrev pub IsSecond : List ℕ → Option ℕ → Option Decimal → Type 0
+IsSecond text None None = Unit {0}
+IsSecond text None (Some number) = ⊥
+IsSecond text (Some place) value = IsObserved (field_at text place) value
+
+-- a capital letter other than `G`
+abbrev pub IsOtherSystem : ℕ → Type 0
+IsOtherSystem byte = (65 ≤ byte) × (byte ≤ 90) × (byte ≡ 71 → ⊥)
+
+abbrev pub has_number : ℕ → SatObs → Bool
+has_number number obs = obs.sat.number == number
+
+-- a satellite line, and the GPS satellites with that of the line behind those before
+abbrev pub satellite_line : Wanted → List SatObs → TextLine → Result (List SatObs) Fault → Type 0
+satellite_line wanted sats line =
+    test (IsShort line) fault.LongLine
+    (where_holds (IsOtherSystem (column_of line.text 1)) (gives sats)
+    (test (list_all is_printable line.text ≡ true) fault.NotAscii
+    (test (IsOfGps line.text) fault.BadSatellite
+    (read (IsNumber line.text) fault.BadSatellite (λ number.
+    test (list_any (has_number number) sats ≡ false) fault.RepeatSatellite
+    (test (length sats < 64) fault.TooMany
+    (read (IsObserved (field_at line.text wanted.first)) fault.BadNumber (λ first.
+    read (IsSecond line.text wanted.second) fault.BadNumber (λ second.
+    gives (sats ++ record { sat = record { system = 71; number = number }; first = first; second = second } ∷ []))))))))))
+
+-- so many satellite lines, behind satellites of the same epoch
+abbrev pub satellites_from : Wanted → ℕ → List SatObs → Behind → Result (List SatObs) Refusal → Type 0
+satellites_from wanted zero sats from answer = answer ≡ Ok sats
+satellites_from wanted (suc left) sats from answer = needs (satellite_line wanted sats) from (λ more next. satellites_from wanted left more next) answer
+
+-- ---- the lines of an event
+
+abbrev pub event_line : Bool → TextLine → Result (Unit {0}) Fault → Type 0
+event_line labelled line =
+    test (IsShort line) fault.LongLine
+    (where_holds (labelled ≡ true)
+    (test (IsLabelled (codes "SYS / SCALE FACTOR") line × IsOfGps line.text → ⊥) fault.ScaleFactor
+    (test (IsLabelled (codes "SYS / # / OBS TYPES") line → ⊥) fault.HeaderChange
+    (gives tt)))
+    (gives tt))
+
+-- so many of them
+abbrev pub event_from : Bool → ℕ → Behind → Result (Unit {0}) Refusal → Type 0
+event_from labelled zero from answer = answer ≡ Ok tt
+event_from labelled (suc left) from answer = needs (event_line labelled) from (λ none next. event_from labelled left next) answer
+
+-- ---- epochs and events one behind another
+
+-- an epoch as it stands in a file
+pub record Observed : Type 0 where
+  pub index : ℕ
+  pub tag : ℤ
+  pub sats : List SatObs
+
+-- an epoch or none, and the number of lines behind the first
+pub record Block : Type 0 where
+  pub epochs : List Observed
+  pub lines : ℕ
+
+-- what stands behind its first line, and behind so many epochs
+abbrev pub block_from : Wanted → ℕ → Head → Behind → Result Block Refusal → Type 0
+block_from wanted count (Epoch tag lines) from =
+    then (satellites_from wanted lines [] from) (λ sats.
+    gives (record { epochs = record { index = count + 1; tag = tag; sats = sats } ∷ []; lines = lines }))
+block_from wanted count (Event labelled lines) from =
+    then (event_from labelled lines from) (λ none.
+    gives (record { epochs = []; lines = lines }))
+
+-- The epochs in the lines of a body, behind those before, from a line number on. So many of the first
+-- lines belong to what was read.
+abbrev pub epochs_from : Wanted → List Observed → ℕ → ℕ → List TextLine → Result (List Observed) Refusal → Type 0
+epochs_from wanted epochs number read [] answer = answer ≡ Ok epochs
+epochs_from wanted epochs number (suc read) (line ∷ more) answer = epochs_from wanted epochs (number + 1) read more answer
+epochs_from wanted epochs number zero (line ∷ more) answer =
+    line_gives (head_line (length epochs) line) number (λ head.
+    then (block_from wanted (length epochs) head (record { number = number + 1; lines = more })) (λ block.
+    epochs_from wanted (epochs ++ block.epochs) (number + 1) block.lines more))
+    answer

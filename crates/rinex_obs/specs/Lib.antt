@@ -1,0 +1,5 @@
+pub mod Types
+pub mod Header
+pub mod Epochs
+pub mod Files
+pub mod Reading

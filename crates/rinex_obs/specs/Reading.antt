@@ -1,0 +1,111 @@
+-- What a reader of observation files has read.
+use Rattle.std.specs.Prelude.{ℕ, ◌≡◌, ◌-◌, ◌*◌, ◌^◌, ◌≤◌, ◌<◌, ◌≤ℤ◌, ◌<ℤ◌, pos, neg_ℤ, List, [], ◌∷◌, ◌++◌, length, Option, None, Some, map, Result, Ok, Err}
+use Rattle.exact_decimal.specs.declared.decimal.Decimal.{Decimal}
+use Rattle.rinex_text.specs.Reading.{behind_of}
+use Rattle.rinex_text.specs.declared.fault.Fault.{Fault}
+use Rattle.rinex_text.specs.declared.fault.ReadError.{ReadError}
+use Rattle.rinex_text.specs.declared.fault.ReadError.TheVariants.{NoMemory}
+use Rattle.rinex_text.specs.declared.lines.Lines.{Lines}
+use Rattle.sat_model.specs.declared.boxes.Pos.{Pos}
+use Rattle.sat_model.specs.declared.satellites.Signal.{Signal}
+use Rattle.sat_model.specs.declared.satellites.Signal.TheVariants.{Single, Dual}
+use Rattle.rinex_obs.specs.Types.{Code, Types, place_of}
+use Rattle.rinex_obs.specs.Header.{Header as Known, Wanted, Start}
+use Rattle.rinex_obs.specs.Epochs.{Observed, Block}
+use Rattle.rinex_obs.specs.Files.{Observations}
+use Rattle.rinex_obs.specs.declared.found.Found.{Found}
+use Rattle.rinex_obs.specs.declared.found.Places.{Places}
+use Rattle.rinex_obs.specs.declared.head.Head.{Head}
+use Rattle.rinex_obs.specs.declared.head.Head.TheVariants.{Epoch, Event}
+use Rattle.rinex_obs.specs.declared.header.Header.{Header}
+use Rattle.rinex_obs.specs.declared.obs.Obs.{Obs}
+use Rattle.rinex_obs.specs.declared.obs.ObsEpoch.{ObsEpoch}
+use Rattle.rinex_obs.specs.declared.obs.SatObs.{SatObs}
+
+-- The reader keeps something else than the definitions speak of: what it keeps stands for the answer of
+-- a definition, or it has its fault.
+abbrev pub Stands : {X Y E : Type 0} → (X → Y → Type 0) → (Result X E → Type 0) → Result Y E → Type 0
+Stands {X} For reader (Ok kept) = (x : X) × reader (Ok x) × For x kept
+Stands For reader (Err e) = reader (Err e)
+
+-- ---- the header
+
+abbrev pub first_code : Signal → Code
+first_code (Single code) = code
+first_code (Dual first second) = first
+
+abbrev pub second_place : Signal → List Code → Option ℕ
+second_place (Single code) codes = None
+second_place (Dual first second) codes = place_of second codes
+
+-- in place of the list of types, where the wanted codes stand in it
+pub record IsFound (signal : Signal) (types : Types) (found : Found) : Type 0 where
+  pub count : found.count ≡ types.count
+  pub seen : found.seen ≡ length types.codes
+  pub first : found.first ≡ place_of (first_code signal) types.codes
+  pub second : found.second ≡ second_place signal types.codes
+
+abbrev pub MayBeFound : Signal → Option Types → Option Found → Type 0
+MayBeFound signal None None = Unit {0}
+MayBeFound signal None (Some found) = ⊥
+MayBeFound signal (Some types) None = ⊥
+MayBeFound signal (Some types) (Some found) = IsFound signal types found
+
+pub record IsHeader (signal : Signal) (known : Known) (kept : Header) : Type 0 where
+  pub types : MayBeFound signal known.types kept.types
+  pub position : kept.position ≡ known.position
+
+abbrev pub wanted_of : Places → Wanted
+wanted_of places = record { first = places.first; second = places.second }
+
+abbrev pub end_of : Result (Places × Option Pos) Fault → Result (Wanted × Option Pos) Fault
+end_of (Ok (places, position)) = Ok (wanted_of places, position)
+end_of (Err f) = Err f
+
+-- what the reader has read of a header
+abbrev pub start_of : Places → Option Pos → Lines → Start
+start_of places position lines = record { wanted = wanted_of places; position = position; behind = behind_of lines }
+
+-- ---- the epochs
+
+-- a number of seconds under 60 with at most 7 decimals, in 10^-7 s
+pub record AreTenths (number : Decimal) (tenths : ℕ) : Type 0 where
+  pub digits : ℕ
+  pub decimals : ℕ
+  pub digits_are : number.digits ≡ pos digits
+  pub ten_is : number.ten ≡ neg_ℤ (pos decimals)
+  pub few : decimals ≤ 7
+  pub value : tenths ≡ digits * 10 ^ (7 - decimals)
+  pub under : tenths < 600000000
+
+-- the time of an epoch, which is one of so many
+abbrev pub IsHeadBehind : ℕ → Head → Type 0
+IsHeadBehind count (Epoch tag lines) = (pos 0 ≤ℤ tag) × (tag <ℤ pos 4000000000000000000000) × (count < 200000)
+IsHeadBehind count (Event labelled lines) = Unit {0}
+
+-- a satellite, or none, behind those before
+abbrev pub with_found : List SatObs → Option SatObs → List SatObs
+with_found sats None = sats
+with_found sats (Some sat) = sats ++ sat ∷ []
+
+abbrev pub with_line : List SatObs → Result (Option SatObs) Fault → Result (List SatObs) Fault
+with_line sats (Ok found) = Ok (with_found sats found)
+with_line sats (Err f) = Err f
+
+abbrev pub plain_epoch : ObsEpoch → Observed
+plain_epoch epoch = record { index = epoch.index; tag = epoch.tag; sats = epoch.sats.items }
+
+abbrev pub plain_epochs : List ObsEpoch → List Observed
+plain_epochs epochs = map plain_epoch epochs
+
+abbrev pub block_of : Option ObsEpoch → ℕ → Block
+block_of None lines = record { epochs = []; lines = lines }
+block_of (Some epoch) lines = record { epochs = plain_epoch epoch ∷ []; lines = lines }
+
+abbrev pub observations_of : Obs → Observations
+observations_of obs = record { position = obs.position; epochs = plain_epochs obs.epochs.items }
+
+-- these observations were read, unless memory ran out
+abbrev pub GivesObservations : Observations → Result Obs ReadError → Type 0
+GivesObservations observations (Ok obs) = observations_of obs ≡ observations
+GivesObservations observations (Err e) = e ≡ NoMemory

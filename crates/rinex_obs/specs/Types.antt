@@ -1,0 +1,84 @@
+-- The observation types of GPS that a header lists (RINEX 3.05, table A2, `SYS / # / OBS TYPES`).
+use Rattle.std.specs.Prelude.{ℕ, zero, suc, ◌≡◌, ◌+◌, ◌-◌, ◌*◌, ◌≤◌, ◌<◌, min, true, false, cond, List, [], ◌∷◌, ◌++◌, length, Option, None, Some, Result}
+use Rattle.std.specs.Option.{option_map}
+use Rattle.std.specs.List.{list_all}
+use Rattle.std.specs.Str.{bytes_eq}
+use Rattle.exact_decimal.specs.Counts.{IsCount}
+use Rattle.exact_decimal.specs.NumberFields.{is_blank}
+use Rattle.rinex_text.specs.Columns.{column_of, columns_of}
+use Rattle.rinex_text.specs.Faults.{test, where_holds, read, then, gives}
+use Rattle.rinex_text.specs.declared.fault.Fault.{Fault}
+use Rattle.rinex_text.specs.declared.fault.Fault.TheVariants.{BadCount}
+
+-- the bytes of a code
+abbrev pub Code : Type 0
+Code = List ℕ
+
+-- how many there are, and the codes of the lines so far
+pub record Types : Type 0 where
+  pub count : ℕ
+  pub codes : List Code
+
+-- ---- the lines
+
+-- The code at a place of a line, from 0: columns 8 to 10, 12 to 14, and so on up to place 12.
+abbrev pub code_at : List ℕ → ℕ → Code
+code_at text place = column_of text (8 + 4 * place) ∷ column_of text (9 + 4 * place) ∷ column_of text (10 + 4 * place) ∷ []
+
+abbrev pub IsSolid : Code → Type 0
+IsSolid code = list_all is_blank code ≡ false
+
+-- so many codes of a line, from a place on, behind those before
+abbrev pub codes_from : List ℕ → ℕ → ℕ → List Code → Result (List Code) Fault → Type 0
+codes_from text place zero codes answer = gives codes answer
+codes_from text place (suc left) codes answer =
+    test (IsSolid (code_at text place)) BadCount (codes_from text (place + 1) left (codes ++ code_at text place ∷ [])) answer
+
+-- the codes of a line: 13, or those that are missing
+abbrev pub more_codes : List ℕ → Types → Result Types Fault → Type 0
+more_codes text types =
+    then (codes_from text 0 (min 13 (types.count - length types.codes)) types.codes) (λ codes.
+    gives (record { count = types.count; codes = codes }))
+
+-- the line with their number, in columns 4 to 6
+abbrev pub first_codes : List ℕ → Result Types Fault → Type 0
+first_codes text =
+    read (IsCount (columns_of text 4 6)) BadCount (λ count.
+    test (0 < count) BadCount
+    (more_codes text (record { count = count; codes = [] })))
+
+-- a line belongs to GPS
+abbrev pub IsOfGps : List ℕ → Type 0
+IsOfGps text = column_of text 1 ≡ 71
+
+-- a line goes on with the types of the line before
+abbrev pub GoesOn : List ℕ → Type 0
+GoesOn text = list_all is_blank (columns_of text 1 6) ≡ true
+
+-- A line of types. Where some are missing it has to go on with them; where there are all, it may not
+-- be another line of GPS. What is left belongs to other systems.
+abbrev pub types_line : Option Types → List ℕ → Result (Option Types) Fault → Type 0
+types_line None text =
+    where_holds (IsOfGps text)
+    (then (first_codes text) (λ types. gives (Some types)))
+    (gives None)
+types_line (Some types) text =
+    where_holds (length types.codes < types.count)
+    (test (GoesOn text) BadCount (then (more_codes text types) (λ more. gives (Some more))))
+    (test (IsOfGps text → ⊥) BadCount (gives (Some types)))
+
+-- ---- the list
+
+-- no type is missing
+abbrev pub AreComplete : Option Types → Type 0
+AreComplete None = Unit {0}
+AreComplete (Some types) = types.count ≤ length types.codes
+
+abbrev pub codes_of : Option Types → List Code
+codes_of None = []
+codes_of (Some types) = types.codes
+
+-- the first place of a code in a list, from 0
+abbrev pub place_of : Code → List Code → Option ℕ
+place_of code [] = None
+place_of code (next ∷ codes) = cond (bytes_eq next code) (Some 0) (option_map suc (place_of code codes))

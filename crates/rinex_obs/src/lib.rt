@@ -1,0 +1,22 @@
+//! Observation files of RINEX 3: the epochs with the wanted observations of GPS satellites as exact
+//! decimals, and the approximate position of the header.
+#![tactic(auto)]
+
+mod blocks;
+mod event;
+mod found;
+mod head;
+mod header;
+mod obs;
+mod position;
+mod read;
+mod satellite;
+mod satellites;
+mod types;
+
+pub use obs::{Obs, ObsEpoch, SatObs};
+pub use read::read_obs;
+
+
+#[cfg(test)]
+mod tests;

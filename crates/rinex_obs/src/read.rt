@@ -1,0 +1,64 @@
+//! Observation files.
+
+ghost use Rattle.std.specs.Prelude.{◌≡◌, ◌≤◌, IfOk, IfErr, length};
+ghost use Rattle.rinex_text.specs.Lines.{lines_of};
+ghost use Rattle.rinex_text.specs.Reading.{Refuses, GivesRefusal};
+ghost use Rattle.rinex_text.specs.declared.fault.Refusal.{Refusal};
+ghost use Rattle.rinex_obs.specs.Files.{Observations, obs_file, IsObsFile, IsFirstFault};
+ghost use Rattle.rinex_obs.specs.Reading.{observations_of, GivesObservations};
+
+use crate::blocks::read_epochs;
+use crate::header::read_header;
+use crate::obs::Obs;
+use rinex_text::{Body, ReadError, behind_version};
+use sat_model::Signal;
+use std::alloc::Global;
+
+/// The observations of a file, or its first fault.
+fn read_text(
+    alloc: Global,
+    bytes: &[u8],
+    signal: &Signal,
+    position: bool,
+) -> Result<Obs, ReadError>
+    requires { length bytes.now ≤ 4000000000 }
+    ensures observations { IfOk result (λ obs. IsObsFile signal.now position bytes.now (observations_of obs)) }
+    ensures fault { IfErr result (Refuses (obs_file signal.now position (lines_of bytes.now))) }
+{
+    let header = match behind_version(bytes, b'O') {
+        Ok(lines) => lines,
+        Err(refusal) => return Err(ReadError::Refused(refusal)),
+    };
+    let (places, point, lines) = match read_header(header, signal, position) {
+        Ok(start) => start,
+        Err(refusal) => return Err(ReadError::Refused(refusal)),
+    };
+    let epochs = read_epochs(alloc, Body::new(lines), &places)?;
+    Ok(Obs {
+        position: point,
+        epochs,
+    })
+}
+
+/// Reads an observation file of at most 4 * 10^9 bytes: its epochs with flags 0 and 1, with the wanted
+/// codes of their GPS satellites, and the position of its header where it is wanted. The header is read
+/// line by line, then the lines behind it are counted and read once; no line is copied, and only what
+/// is given is kept.
+pub fn read_obs(
+    alloc: Global,
+    bytes: &[u8],
+    signal: &Signal,
+    position: bool,
+) -> Result<Obs, ReadError>
+    requires { length bytes.now ≤ 4000000000 }
+    // What is read are the observations of an observation file with this text.
+    ensures records { IfOk result (λ obs. IsObsFile signal.now position bytes.now (observations_of obs)) }
+    // What isn't read has this first fault, unless memory ran out.
+    ensures fault { IfErr result (Refuses (obs_file signal.now position (lines_of bytes.now))) }
+    // An observation file is read as its observations, unless memory runs out.
+    ensures exact { (observations : Observations) → IsObsFile signal.now position bytes.now observations → GivesObservations observations result }
+    // A text with a fault is refused with its first, unless memory runs out.
+    ensures first { (refusal : Refusal) → IsFirstFault signal.now position bytes.now refusal → GivesRefusal refusal result }
+{
+    read_text(alloc, bytes, signal, position)
+}
