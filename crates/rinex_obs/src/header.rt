@@ -79,11 +79,7 @@ fn header_line(
 }
 
 /// What the end of the header gives.
-fn header_end(
-    header: Header,
-    signal: &Signal,
-    wanted: bool,
-) -> Result<(Places, Option<Pos>), Fault>
+fn header_end(header: Header, signal: &Signal, wanted: bool) -> Result<(Places, Option<Pos>), Fault>
     ensures { (known : Known) → IsHeader signal.now known header → header_end signal.now wanted known (end_of result) }
 {
     let Some(found) = header.types else {

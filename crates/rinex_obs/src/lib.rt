@@ -17,6 +17,5 @@ mod types;
 pub use obs::{Obs, ObsEpoch, SatObs};
 pub use read::read_obs;
 
-
 #[cfg(test)]
 mod tests;

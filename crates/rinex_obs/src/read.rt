@@ -15,12 +15,7 @@ use sat_model::Signal;
 use std::alloc::Global;
 
 /// The observations of a file, or its first fault.
-fn read_text(
-    alloc: Global,
-    bytes: &[u8],
-    signal: &Signal,
-    position: bool,
-) -> Result<Obs, ReadError>
+fn read_text(alloc: Global, bytes: &[u8], signal: &Signal, position: bool) -> Result<Obs, ReadError>
     requires { length bytes.now ≤ 4000000000 }
     ensures observations { IfOk result (λ obs. IsObsFile signal.now position bytes.now (observations_of obs)) }
     ensures fault { IfErr result (Refuses (obs_file signal.now position (lines_of bytes.now))) }

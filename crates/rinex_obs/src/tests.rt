@@ -8,10 +8,10 @@ use std::test::Fail;
 const VERSION: &str =
     "     3.05           OBSERVATION DATA    G                   RINEX VERSION / TYPE";
 
-const TYPES: &str = "G    1 C1C                                                  SYS / # / OBS TYPES";
+const TYPES: &str =
+    "G    1 C1C                                                  SYS / # / OBS TYPES";
 
-const FIRST: &str =
-    "  2024     1     7     0     0    0.0700000     GPS         TIME OF FIRST OBS";
+const FIRST: &str = "  2024     1     7     0     0    0.0700000     GPS         TIME OF FIRST OBS";
 
 const HEADER_END: &str =
     "                                                            END OF HEADER";
@@ -91,11 +91,11 @@ fn reads_an_epoch(rt: HostRuntime) -> Result<(), Fail> {
             .ok_or("refused")?;
         assert!(rt; obs.position.is_none());
         assert_eq!(rt; obs.epochs.len(), 1);
-        let epoch = &obs.epochs[0];
+        let epoch = obs.epochs.get(0).ok_or("no epoch")?;
         assert_eq!(rt; epoch.index, 1);
         assert_eq!(rt; epoch.tag, 1_388_620_800_070_000_000_000);
         assert_eq!(rt; epoch.sats.len(), 2);
-        let first = epoch.sats[0];
+        let first = epoch.sats.get(0).ok_or("no satellite")?;
         let range = Decimal {
             digits: 20_985_472_060,
             ten: -3,
@@ -103,7 +103,7 @@ fn reads_an_epoch(rt: HostRuntime) -> Result<(), Fail> {
         assert_eq!(rt; first.sat.number, 1);
         assert_eq!(rt; first.first, Some(range));
         assert_eq!(rt; first.second, None);
-        let second = epoch.sats[1];
+        let second = epoch.sats.get(1).ok_or("no satellite")?;
         assert_eq!(rt; second.sat.number, 2);
         assert_eq!(rt; second.first, None);
     }
@@ -114,28 +114,112 @@ fn reads_an_epoch(rt: HostRuntime) -> Result<(), Fail> {
 fn faults_of_the_header(rt: HostRuntime) -> Result<(), Fail> {
     for (place, line, number, at) in [
         (1, "", 10, 1),
-        (1, "     3.06           OBSERVATION DATA    G                   RINEX VERSION / TYPE", 11, 1),
-        (1, "     3.05           N: GNSS NAV DATA    G                   RINEX VERSION / TYPE", 12, 1),
-        (1, "     3.05           OBSERVATION DATA    R                   RINEX VERSION / TYPE", 13, 1),
+        (
+            1,
+            "     3.06           OBSERVATION DATA    G                   RINEX VERSION / TYPE",
+            11,
+            1,
+        ),
+        (
+            1,
+            "     3.05           N: GNSS NAV DATA    G                   RINEX VERSION / TYPE",
+            12,
+            1,
+        ),
+        (
+            1,
+            "     3.05           OBSERVATION DATA    R                   RINEX VERSION / TYPE",
+            13,
+            1,
+        ),
         (4, "", 14, 8),
-        (2, "G    1 C1W                                                  SYS / # / OBS TYPES", 16, 4),
-        (2, "R    1 C1C                                                  SYS / # / OBS TYPES", 16, 4),
-        (3, "  2024     1     7     0     0    0.0700000     GLO         TIME OF FIRST OBS", 17, 3),
-        (3, "G                                                           SYS / SCALE FACTOR", 18, 3),
-        (2, "G    x C1C                                                  SYS / # / OBS TYPES", 20, 2),
-        (2, "G      C1C                                                  SYS / # / OBS TYPES", 20, 2),
-        (2, "G    0 C1C                                                  SYS / # / OBS TYPES", 20, 2),
-        (2, "G    2 C1C                                                  SYS / # / OBS TYPES", 20, 2),
-        (3, "G    1 C1C                                                  SYS / # / OBS TYPES", 20, 3),
-        (2, "G   14 C1C C1C C1C C1C C1C C1C C1C C1C C1C C1C C1C C1C C1C  SYS / # / OBS TYPES", 20, 4),
-        (2, "G   14 C1W C1W C1W C1W C1W C1W C1W C1W C1W C1W C1W C1W C1W  SYS / # / OBS TYPES", 20, 4),
-        (2, "G   14 C1C C1C C1C C1C C1C C1C C1C C1C C1C C1C C1C C1C C1C  SYS / # / OBS TYPES
-R    1 C1C                                                  SYS / # / OBS TYPES", 20, 3),
-        (2, "G   14 C1C C1C C1C C1C C1C C1C C1C C1C C1C C1C C1C C1C C1C  SYS / # / OBS TYPES
-                                                            SYS / # / OBS TYPES", 20, 3),
+        (
+            2,
+            "G    1 C1W                                                  SYS / # / OBS TYPES",
+            16,
+            4,
+        ),
+        (
+            2,
+            "R    1 C1C                                                  SYS / # / OBS TYPES",
+            16,
+            4,
+        ),
+        (
+            3,
+            "  2024     1     7     0     0    0.0700000     GLO         TIME OF FIRST OBS",
+            17,
+            3,
+        ),
+        (
+            3,
+            "G                                                           SYS / SCALE FACTOR",
+            18,
+            3,
+        ),
+        (
+            2,
+            "G    x C1C                                                  SYS / # / OBS TYPES",
+            20,
+            2,
+        ),
+        (
+            2,
+            "G      C1C                                                  SYS / # / OBS TYPES",
+            20,
+            2,
+        ),
+        (
+            2,
+            "G    0 C1C                                                  SYS / # / OBS TYPES",
+            20,
+            2,
+        ),
+        (
+            2,
+            "G    2 C1C                                                  SYS / # / OBS TYPES",
+            20,
+            2,
+        ),
+        (
+            3,
+            "G    1 C1C                                                  SYS / # / OBS TYPES",
+            20,
+            3,
+        ),
+        (
+            2,
+            "G   14 C1C C1C C1C C1C C1C C1C C1C C1C C1C C1C C1C C1C C1C  SYS / # / OBS TYPES",
+            20,
+            4,
+        ),
+        (
+            2,
+            "G   14 C1W C1W C1W C1W C1W C1W C1W C1W C1W C1W C1W C1W C1W  SYS / # / OBS TYPES",
+            20,
+            4,
+        ),
+        (
+            2,
+            "G   14 C1C C1C C1C C1C C1C C1C C1C C1C C1C C1C C1C C1C C1C  SYS / # / OBS TYPES
+R    1 C1C                                                  SYS / # / OBS TYPES",
+            20,
+            3,
+        ),
+        (
+            2,
+            "G   14 C1C C1C C1C C1C C1C C1C C1C C1C C1C C1C C1C C1C C1C  SYS / # / OBS TYPES
+                                                            SYS / # / OBS TYPES",
+            20,
+            3,
+        ),
     ] {
         let bytes = with_line(rt.alloc(), place, line)?;
-        assert_eq!(rt; refused(rt.alloc(), &bytes, false), refusal(number, at), "line {place} {line}");
+        assert_eq!(rt;
+            refused(rt.alloc(), &bytes, false),
+            refusal(number, at),
+            "line {place} {line}"
+        );
     }
     Ok(())
 }
@@ -173,19 +257,38 @@ fn faults_of_epochs(rt: HostRuntime) -> Result<(), Fail> {
         (6, "G01   20985472. 6", 23, 6),
         (7, "", 24, 7),
         (7, "  \t", 24, 7),
-        (5, "> 2024 01 07 00 00  0.0700000  4  1
+        (
+            5,
+            "> 2024 01 07 00 00  0.0700000  4  1
                                                             SYS / # / OBS TYPES
-> 2024 01 07 00 00  0.0700000  0  2", 25, 6),
-        (5, "> 2024 01 07 00 00  0.0700000  2  1
+> 2024 01 07 00 00  0.0700000  0  2",
+            25,
+            6,
+        ),
+        (
+            5,
+            "> 2024 01 07 00 00  0.0700000  2  1
 G                                                           SYS / SCALE FACTOR
-> 2024 01 07 00 00  0.0700000  0  2", 18, 6),
+> 2024 01 07 00 00  0.0700000  0  2",
+            18,
+            6,
+        ),
         (5, "> 2024 01 07 00 00  0.0700000  5  9", 24, 8),
-        (5, "> 2024 01 07 00 00  0.0700000  6  2
+        (
+            5,
+            "> 2024 01 07 00 00  0.0700000  6  2
 G                                                           SYS / SCALE FACTOR
-                                                            SYS / # / OBS TYPES", 19, 8),
+                                                            SYS / # / OBS TYPES",
+            19,
+            8,
+        ),
     ] {
         let bytes = with_line(rt.alloc(), place, line)?;
-        assert_eq!(rt; refused(rt.alloc(), &bytes, false), refusal(number, at), "line {place} {line}");
+        assert_eq!(rt;
+            refused(rt.alloc(), &bytes, false),
+            refusal(number, at),
+            "line {place} {line}"
+        );
     }
     Ok(())
 }
@@ -193,11 +296,23 @@ G                                                           SYS / SCALE FACTOR
 #[test]
 fn positions(rt: HostRuntime) -> Result<(), Fail> {
     for (line, x) in [
-        ("  6378137.0000        0.0000       -0.1234                  APPROX POSITION XYZ", 6_378_137_000_000),
-        ("    -1.0000005        0.0000       -0.1234                  APPROX POSITION XYZ", -1_000_001),
-        ("  8500000.0000        0.0000       -0.1234                  APPROX POSITION XYZ", 8_500_000_000_000),
-        ("  x                                                         APPROX POSITION XYZ
-        1.0000        0.0000       -0.1234                  APPROX POSITION XYZ", 0),
+        (
+            "  6378137.0000        0.0000       -0.1234                  APPROX POSITION XYZ",
+            6_378_137_000_000,
+        ),
+        (
+            "    -1.0000005        0.0000       -0.1234                  APPROX POSITION XYZ",
+            -1_000_001,
+        ),
+        (
+            "  8500000.0000        0.0000       -0.1234                  APPROX POSITION XYZ",
+            8_500_000_000_000,
+        ),
+        (
+            "  x                                                         APPROX POSITION XYZ
+        1.0000        0.0000       -0.1234                  APPROX POSITION XYZ",
+            0,
+        ),
     ] {
         let bytes = with_line(rt.alloc(), 3, line)?;
         if x == 0 {
@@ -208,7 +323,15 @@ fn positions(rt: HostRuntime) -> Result<(), Fail> {
                 .ok_or("long")?
                 .ok()
                 .ok_or("refused")?;
-            assert_eq!(rt; obs.position, Some(Pos { x, y: 0, z: -123_400 }), "{line}");
+            assert_eq!(rt;
+                obs.position,
+                Some(Pos {
+                    x,
+                    y: 0,
+                    z: -123_400
+                }),
+                "{line}"
+            );
         }
     }
     for line in [
@@ -221,7 +344,11 @@ fn positions(rt: HostRuntime) -> Result<(), Fail> {
     ] {
         let at = if line.len() > 100 { 5 } else { 4 };
         let bytes = with_line(rt.alloc(), 3, line)?;
-        assert_eq!(rt; refused(rt.alloc(), &bytes, true), refusal(28, at), "{line}");
+        assert_eq!(rt;
+            refused(rt.alloc(), &bytes, true),
+            refusal(28, at),
+            "{line}"
+        );
         assert_eq!(rt; refused(rt.alloc(), &bytes, false), None, "{line}");
     }
     let bytes = with_line(rt.alloc(), 2, "")?;
@@ -279,13 +406,13 @@ fn mixed_files(rt: HostRuntime) -> Result<(), Fail> {
             (1, 1, 5, metres(-5, -1), None),
         ];
         for (epoch, place, number, first, second) in found {
-            let epoch = &obs.epochs[epoch];
-            let sat = epoch.sats[place];
+            let epoch = obs.epochs.get(epoch).ok_or("no epoch")?;
+            let sat = epoch.sats.get(place).ok_or("no satellite")?;
             assert_eq!(rt; sat.sat.number, number);
             assert_eq!(rt; sat.first, first);
             assert_eq!(rt; sat.second, second);
         }
-        let last = &obs.epochs[1];
+        let last = obs.epochs.get(1).ok_or("no epoch")?;
         assert_eq!(rt; last.index, 2);
         assert_eq!(rt; last.tag, 1_388_620_830_000_000_000_000);
         assert_eq!(rt; last.sats.len(), 2);
