@@ -56,4 +56,3 @@ paving_ends limits rows log all given before middle after (Err (notice.BadLog sl
 paving_ends limits rows log all given before middle after (Err (notice.NotBuilt slot line)) read within is files written ends = absurd ends
 paving_ends limits rows log all given before middle after (Err (notice.ReadFault slot)) read within is files written ends = absurd ends
 paving_ends limits rows log all given before middle after (Err notice.OutFault) read within is files written ends = absurd ends
-

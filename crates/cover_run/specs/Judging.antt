@@ -85,13 +85,11 @@ pub record JudgeRun (limit : ℕ) (name : List ℕ) (before after : World) (shel
   pub read_fault : s ≡ status.ReadFault → is_missing before.told name ≡ false → Rose before.read_faults after.read_faults
   pub write_fault : s ≡ status.WriteFault → Rose before.out_faults after.out_faults
   pub no_log_full : s ≢ status.LogFull
-
   -- And each cause has its status, unless a fault or want of memory comes first.
   pub missing : is_missing before.told name ≡ true → s ≡ status.ReadFault
   pub exact : (bytes : List ℕ) (other : Status) → IsToldFile before.told name bytes → FileGives limit bytes other → IsBrokenOff s ⊎ (s ≡ other)
   pub no_read_fault : (log : Option (List ℕ)) → is_missing before.told name ≡ false → shelf_reliable log → s ≢ status.ReadFault
   pub no_write_fault : out_reliable → s ≢ status.WriteFault
-
   -- What is written.
   pub notices : (n : Notice) → IsPlain n → s ≡ status_of n → Gets before.err after.err before.err_faults after.err_faults (notice_text n)
   pub quiet : (s ≡ status.Done) ⊎ (s ≡ status.No) → after.err ≡ before.err

@@ -98,7 +98,6 @@ pub record PaveRun (limits : Limits) (rows log : List ℕ) (before after : World
   pub read_fault : s ≡ status.ReadFault → is_missing before.told rows ≡ false → Rose before.read_faults after.read_faults
   pub write_fault : s ≡ status.WriteFault → Rose before.write_faults after.write_faults
   pub log_full : s ≡ status.LogFull → WritesLog limits rows log before.told after.told IsFull
-
   -- And each cause has its status, unless a fault or want of memory comes first.
   pub missing : is_missing before.told rows ≡ true → s ≡ status.ReadFault
   pub too_long : (bytes : List ℕ) → IsToldFile before.told rows bytes → limits.file < length bytes → IsBrokenOff s ⊎ (s ≡ status.Refused)
@@ -107,7 +106,6 @@ pub record PaveRun (limits : Limits) (rows log : List ℕ) (before after : World
       → IsBrokenOff s ⊎ ((s ≡ status.Done) ⊎ (s ≡ status.LogFull))
   pub no_read_fault : (other : Option (List ℕ)) → is_missing before.told rows ≡ false → reliable other → s ≢ status.ReadFault
   pub no_write_fault : reliable (Some log) → s ≢ status.WriteFault
-
   -- What is written.
   pub notices : (n : Notice) → IsPlainNotice limits n → s ≡ status_of n → Gets before.err after.err before.err_faults after.err_faults (notice_text n)
   pub quiet : s ≡ status.Done → after.err ≡ before.err

@@ -353,7 +353,13 @@ fn a_log_ends_early(rt: HostRuntime) -> Result<(), Fail> {
         (62, 2_000, Status::LogFull, "log full 62\n", head),
         (28, 2_000, Status::LogFull, "log full 28\n", "gpscover 1\n"),
         (0, 2_000, Status::LogFull, "log full 0\n", ""),
-        (2_000, 20, Status::WriteFault, "log fault\n", "gpscover 1\nrules 0 0"),
+        (
+            2_000,
+            20,
+            Status::WriteFault,
+            "log fault\n",
+            "gpscover 1\nrules 0 0",
+        ),
     ];
     for (limit, room, status, err, text) in table {
         let left = Left {
@@ -361,7 +367,15 @@ fn a_log_ends_early(rt: HostRuntime) -> Result<(), Fail> {
             err,
             log: Some((text, "")),
         };
-        paves(&rt, &Paving { limit, room, ..PAVE }, &left)?;
+        paves(
+            &rt,
+            &Paving {
+                limit,
+                room,
+                ..PAVE
+            },
+            &left,
+        )?;
     }
     Ok(())
 }

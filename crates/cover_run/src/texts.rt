@@ -103,7 +103,11 @@ pub fn notice_line(notice: Notice) -> Line
             push_count(&mut line, " 29 TooLong ", limit);
             line.push_str("\n");
         }
-        Notice::BadLog { slot, line: number, kind } => {
+        Notice::BadLog {
+            slot,
+            line: number,
+            kind,
+        } => {
             line.push_str(role_of(slot));
             push_count(&mut line, " 40 BadLog line ", u64::from(number));
             push_count(&mut line, " kind ", u64::from(kind));
