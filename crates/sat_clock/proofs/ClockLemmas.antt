@@ -1,14 +1,15 @@
 -- Ends of the lines of the clock chain, from the ends of their factors.
 use Rattle.std.proofs.Common.{◌≡◌, ℕ, ◌+◌, ◌*◌, ◌≤◌, arith}
-use Rattle.std.specs.Prelude.{ℤ, pos, neg_ℤ, ◌+ℤ◌, ◌-ℤ◌, ◌*ℤ◌, ◌≤ℤ◌, ◌<ℤ◌}
+use Rattle.std.specs.Prelude.{ℤ, pos, neg_ℤ, ◌+ℤ◌, ◌-ℤ◌, ◌*ℤ◌, ◌≤ℤ◌}
 use Rattle.std.proofs.lemmas.Int.{ints}
 use Rattle.sat_model.specs.Angles.{unit}
 use Rattle.sat_model.specs.ClockChain.{IsEarlier}
 use Rattle.sat_model.specs.Intervals.{Between, Ends}
 use Rattle.sat_model.specs.Sizes.{IsWithin}
-use Rattle.sat_model.specs.RecordBounds.{IsField, LiesFrom, clock_reach, time_bound}
+use Rattle.sat_model.specs.RecordBounds.{IsField, LiesFrom}
+use Rattle.sat_model.specs.declared.elements.Elements.{Elements}
 use Rattle.sat_model.specs.declared.spans.Wide.{Wide}
-use Rattle.sat_clock.specs.ClockSizes.{ephemeris_reach, since_size, sent_size, motion_size, motion_width, width}
+use Rattle.sat_clock.specs.ClockSizes.{IsNearEphemeris, ephemeris_reach, since_size, sent_size, motion_size, motion_width, width}
 
 -- a field's numbers
 pub field_ends : (n : ℕ) (field : Wide) → IsField n field → Ends n 1 field.lo field.hi
@@ -21,13 +22,16 @@ ends_width n w a b e = omega (arith, ints, e.order, e.width)
 -- ---- times
 
 -- tsv - toc, by way of the ephemeris time
-pub since_ends : (lo hi start early late toc : ℤ) → lo ≤ℤ hi → neg_ℤ (pos ephemeris_reach) ≤ℤ (lo -ℤ (start +ℤ late)) → (hi -ℤ (start +ℤ early)) ≤ℤ pos ephemeris_reach → IsWithin clock_reach (toc -ℤ (start +ℤ early)) → IsWithin clock_reach (toc -ℤ (start +ℤ late)) → Ends since_size (width lo hi) (lo -ℤ toc) (hi -ℤ toc)
-since_ends lo hi start early late toc o f g v w = record {
-  order = omega (arith, ints);
-  low = record { low = omega (arith, ints, w.high); high = omega (arith, ints, v.low) };
-  high = record { low = omega (arith, ints, w.high); high = omega (arith, ints, v.low) };
-  width = omega (arith, ints);
-}
+pub since_ends : (el : Elements) (lo hi : ℤ) → lo ≤ℤ hi → IsNearEphemeris el lo hi → Ends since_size (width lo hi) (lo -ℤ el.toc) (hi -ℤ el.toc)
+since_ends el lo hi o n =
+    let v = el.toc_near.low in
+    let w = el.toc_near.high in
+    record {
+      order = omega (arith, ints);
+      low = record { low = omega (arith, ints, n.low, w.high); high = omega (arith, ints, n.high, v.low) };
+      high = record { low = omega (arith, ints, n.low, w.high); high = omega (arith, ints, n.high, v.low) };
+      width = omega (arith, ints);
+    }
 
 -- tsv - toe
 pub ephemeris_ends : (lo hi start early late l h : ℤ) → lo ≤ℤ hi → early ≤ℤ late → late ≤ℤ (early +ℤ pos 1) → neg_ℤ (pos ephemeris_reach) ≤ℤ (lo -ℤ (start +ℤ late)) → (hi -ℤ (start +ℤ early)) ≤ℤ pos ephemeris_reach → l ≡ lo -ℤ (start +ℤ late) → h ≡ hi -ℤ (start +ℤ early) → Ends ephemeris_reach (width lo hi + 1) l h
@@ -59,10 +63,15 @@ sine_ends ml mh el eh xl xh sl sh o n p f g v w = record { order = p; low = v; h
 
 -- ---- tsv is a time after the start of GPS time
 
-pub sent_ends : (lo hi start early late toc : ℤ) → lo ≤ℤ hi → neg_ℤ (pos ephemeris_reach) ≤ℤ (lo -ℤ (start +ℤ late)) → (hi -ℤ (start +ℤ early)) ≤ℤ pos ephemeris_reach → IsWithin clock_reach (toc -ℤ (start +ℤ early)) → IsWithin clock_reach (toc -ℤ (start +ℤ late)) → pos 0 ≤ℤ toc → toc <ℤ pos time_bound → Ends sent_size (width lo hi) lo hi
-sent_ends lo hi start early late toc o f g v w p q = record {
-  order = o;
-  low = record { low = omega (arith, ints, w.high); high = omega (arith, ints, v.low) };
-  high = record { low = omega (arith, ints, w.high); high = omega (arith, ints, v.low) };
-  width = omega (arith, ints);
-}
+pub sent_ends : (el : Elements) (lo hi : ℤ) → lo ≤ℤ hi → IsNearEphemeris el lo hi → Ends sent_size (width lo hi) lo hi
+sent_ends el lo hi o n =
+    let v = el.toc_near.low in
+    let w = el.toc_near.high in
+    let p = el.toc_from in
+    let q = el.toc_under in
+    record {
+      order = o;
+      low = record { low = omega (arith, ints, n.low, w.high); high = omega (arith, ints, n.high, v.low) };
+      high = record { low = omega (arith, ints, n.low, w.high); high = omega (arith, ints, n.high, v.low) };
+      width = omega (arith, ints);
+    }

@@ -30,8 +30,10 @@ root_ends s f = natural_ends greatest_root_a (pos least_root_a) s (record { le =
 pub factor_ends : Ends relativity 0 (neg_ℤ (pos relativity)) (neg_ℤ (pos relativity))
 factor_ends = record { order = record { le = tt }; low = record { low = record { le = tt }; high = record { le = tt } }; high = record { low = record { le = tt }; high = record { le = tt } }; width = record { le = tt } }
 
-pub focus_ends : (a b c d l h : ℤ) → Ends eccentricity_bound 1 a b → Ends greatest_root_a 1 c d → l ≤ℤ h → IsTightRound (least_product a b c d) (pos (10 ^ 12)) (greatest_product a b c d) (pos (10 ^ 12)) l h → Ends focus_size focus_width l h
-focus_ends a b c d l h e f o t = product_ends eccentricity_bound 1 greatest_root_a 1 (eccentricity_bound * greatest_root_a / 10 ^ 12 + 1) ((eccentricity_bound + greatest_root_a) / 10 ^ 12 + 1) a b c d (pos (10 ^ 12)) l h e f (record { lt = tt }) (record { le = tt }) (record { le = tt }) o t
+pub focus_ends : (e s : Wide) (a b c d l h : ℤ) → LiesFrom (pos 0) (pos eccentricity_bound) e → LiesFrom (pos least_root_a) (pos greatest_root_a) s → a ≡ e.lo → b ≡ e.hi → c ≡ s.lo → d ≡ s.hi → l ≤ℤ h → IsTightRound (least_product a b c d) (pos (10 ^ 12)) (greatest_product a b c d) (pos (10 ^ 12)) l h → Ends focus_size focus_width l h
+focus_ends e s a b c d l h f g p q r u o t =
+    product_ends eccentricity_bound 1 greatest_root_a 1 (eccentricity_bound * greatest_root_a / 10 ^ 12 + 1) ((eccentricity_bound + greatest_root_a) / 10 ^ 12 + 1) a b c d (pos (10 ^ 12)) l h
+    (rw (p, q) (e_ends e f)) (rw (r, u) (root_ends s g)) (record { lt = tt }) (record { le = tt }) (record { le = tt }) o t
 
 abbrev height_width : ℕ → ℕ
 height_width w = (focus_size / unit + 1) * w + 2 * focus_width + 4

@@ -10,13 +10,11 @@ use Rattle.sat_clock.proofs.clock.correction.Goals as goal
 
 pub earlier-t-requires-clause-low_size : goal.earlier-t-requires-clause-low_size
 earlier-t-requires-clause-low_size c =
-    let el = c.args.el.now in
-    larger _ _ _ (lit≤ tt) (sent_ends c.args.tsv.lo c.args.tsv.hi el.week_start el.toe_week.lo el.toe_week.hi el.toc c.args.tsv.ordered c.requires.near.low c.requires.near.high el.toc_near.low el.toc_near.high el.toc_from el.toc_under).low
+    larger _ _ _ (lit≤ tt) (sent_ends c.args.el.now c.args.tsv.lo c.args.tsv.hi c.args.tsv.ordered c.requires.near).low
 
 pub earlier-t-requires-clause-high_size : goal.earlier-t-requires-clause-high_size
 earlier-t-requires-clause-high_size c =
-    let el = c.args.el.now in
-    larger _ _ _ (lit≤ tt) (sent_ends c.args.tsv.lo c.args.tsv.hi el.week_start el.toe_week.lo el.toe_week.hi el.toc c.args.tsv.ordered c.requires.near.low c.requires.near.high el.toc_near.low el.toc_near.high el.toc_from el.toc_under).high
+    larger _ _ _ (lit≤ tt) (sent_ends c.args.el.now c.args.tsv.lo c.args.tsv.hi c.args.tsv.ordered c.requires.near).high
 
 dt_ends : (v w : ℕ) (a b l h i j : ℤ) → i ≡ a +ℤ l → j ≡ b +ℤ h → Ends base_size v a b → Ends relative_size w l h → Ends (base_size + relative_size) (v + w) i j
 dt_ends v w a b l h i j d e f g = rw (d, e) (sum_ends base_size v relative_size w a b l h f g)
@@ -47,13 +45,12 @@ returns-clause-narrow_dt c h =
 
 pub returns-clause-narrow_t : goal.returns-clause-narrow_t
 returns-clause-narrow_t c h =
-    let el = c.args.el.now in
     let tsv = width c.args.tsv.lo c.args.tsv.hi in
     let w : tsv ≤ 8 = omega (arith, ints, c.args.tsv.ordered) in
     let base : width c.base-base.result.lo c.base-base.result.hi ≤ tsv + 8 = ends_width _ _ _ _ c.base-base.ensures.ends in
     let dt = dt_ends _ _ _ _ _ _ _ _ c.plus-dt.ensures.low c.plus-dt.ensures.high c.base-base.ensures.ends c.relativistic.ensures.ends in
     let e = c.earlier-t.ensures.ends sent_size tsv (base_size + relative_size) _ (base_size + relative_size) 1
-    (sent_ends c.args.tsv.lo c.args.tsv.hi el.week_start el.toe_week.lo el.toe_week.hi el.toc c.args.tsv.ordered c.requires.near.low c.requires.near.high el.toc_near.low el.toc_near.high el.toc_from el.toc_under) dt (lit≤ tt) (omega arith) in
+    (sent_ends c.args.el.now c.args.tsv.lo c.args.tsv.hi c.args.tsv.ordered c.requires.near) dt (lit≤ tt) (omega arith) in
     omega (arith, ints, e.width)
 
 earlier_by : (a b : ℤ) (n : ℕ) → n ≤ sent_reach → (a -ℤ pos n) ≤ℤ b → (a -ℤ pos sent_reach) ≤ℤ b

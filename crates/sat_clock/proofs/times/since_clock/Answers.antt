@@ -9,14 +9,14 @@ pub minus-requires-clause-low_size : goal.minus-requires-clause-low_size
 minus-requires-clause-low_size c =
     let el = c.args.el.now in
     let f : FitsSigned w128 el.toc = search rules in
-    let e = since_ends c.args.tsv.lo c.args.tsv.hi el.week_start el.toe_week.lo el.toe_week.hi el.toc c.args.tsv.ordered c.requires.near.low c.requires.near.high el.toc_near.low el.toc_near.high in
+    let e = since_ends el c.args.tsv.lo c.args.tsv.hi c.args.tsv.ordered c.requires.near in
     simp to_z-of_z (larger _ _ _ (lit≤ tt) e.low)
 
 pub minus-requires-clause-high_size : goal.minus-requires-clause-high_size
 minus-requires-clause-high_size c =
     let el = c.args.el.now in
     let f : FitsSigned w128 el.toc = search rules in
-    let e = since_ends c.args.tsv.lo c.args.tsv.hi el.week_start el.toe_week.lo el.toe_week.hi el.toc c.args.tsv.ordered c.requires.near.low c.requires.near.high el.toc_near.low el.toc_near.high in
+    let e = since_ends el c.args.tsv.lo c.args.tsv.hi c.args.tsv.ordered c.requires.near in
     simp to_z-of_z (larger _ _ _ (lit≤ tt) e.high)
 
 pub returns-clause-ends : goal.returns-clause-ends
@@ -25,4 +25,4 @@ returns-clause-ends c =
     let f : FitsSigned w128 el.toc = search rules in
     let d = simp to_z-of_z at c.minus.ensures.low in
     let h = simp to_z-of_z at c.minus.ensures.high in
-    rw (d, h) (since_ends c.args.tsv.lo c.args.tsv.hi el.week_start el.toe_week.lo el.toe_week.hi el.toc c.args.tsv.ordered c.requires.near.low c.requires.near.high el.toc_near.low el.toc_near.high)
+    rw (d, h) (since_ends el c.args.tsv.lo c.args.tsv.hi c.args.tsv.ordered c.requires.near)
