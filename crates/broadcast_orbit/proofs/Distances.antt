@@ -113,10 +113,10 @@ circle_squares s c n = record { from = omega (arith, ints, n.below, n.above); to
 
 -- xx, yy are squares, B and D are y^2 cos^2 i and y^2 sin^2 i, T is the sum of the squares of the cosine
 -- and the sine of the node, and X, Y and Z are the squares of the coordinates
-space_by : (xx yy B D HT P Q R X Y Z : ℤ) → pos 0 ≤ℤ xx → pos 0 ≤ℤ yy → pos 0 ≤ℤ D → Between (pos plane_low) (pos plane_high) (xx +ℤ yy) → (pos turn_low *ℤ yy) ≤ℤ (B +ℤ D) → (B +ℤ D) ≤ℤ (pos turn_high *ℤ yy) →
+space_by : (xx yy B D HT P Q X Y Z : ℤ) → pos 0 ≤ℤ xx → pos 0 ≤ℤ yy → pos 0 ≤ℤ D → Between (pos plane_low) (pos plane_high) (xx +ℤ yy) → (pos turn_low *ℤ yy) ≤ℤ (B +ℤ D) → (B +ℤ D) ≤ℤ (pos turn_high *ℤ yy) →
     (pos turn_low *ℤ ((pos (unit * unit) *ℤ xx) +ℤ B)) ≤ℤ HT → HT ≤ℤ (pos turn_high *ℤ ((pos (unit * unit) *ℤ xx) +ℤ B)) → P +ℤ Q ≡ HT →
     IsWithin level_slip ((X *ℤ pos (unit * unit * (unit * unit))) -ℤ P) → IsWithin level_slip ((Y *ℤ pos (unit * unit * (unit * unit))) -ℤ Q) → IsWithin height_slip ((Z *ℤ pos (unit * unit)) -ℤ D) → Between (pos space_low) (pos space_high) (X +ℤ Y +ℤ Z)
-space_by xx yy B D HT P Q R X Y Z hx hy hd b bl bh tl th e v w u = record { from = omega (arith, ints, b.from, v.low, w.low, u.low); to = omega (arith, ints, b.to, v.high, w.high, u.high) }
+space_by xx yy B D HT P Q X Y Z hx hy hd b bl bh tl th e v w u = record { from = omega (arith, ints, b.from, v.low, w.low, u.low); to = omega (arith, ints, b.to, v.high, w.high, u.high) }
 
 swap_unit : (x c : ℤ) → (x *ℤ c) *ℤ pos unit ≡ (x *ℤ pos unit) *ℤ c
 swap_unit x c = mul_assoc x c (pos unit) ∙ ap (λ (z : ℤ). x *ℤ z) (*ℤ_comm c (pos unit)) ∙ sym (mul_assoc x (pos unit) c)
@@ -186,7 +186,7 @@ space_between x y ci si co so X Y Z s i o nx ny nz =
     let eb : b *ℤ b ≡ B = swap4 y y ci ci in
     let e : (P *ℤ P) +ℤ (Q *ℤ Q) ≡ H *ℤ ((co *ℤ co) +ℤ (so *ℤ so)) = pair_squares a b co so ∙ ap (λ (z : ℤ). (z +ℤ (b *ℤ b)) *ℤ ((co *ℤ co) +ℤ (so *ℤ so))) ea ∙ ap (λ (z : ℤ). ((pos (unit * unit) *ℤ xx) +ℤ z) *ℤ ((co *ℤ co) +ℤ (so *ℤ so))) eb in
     let f : yy *ℤ ((ci *ℤ ci) +ℤ (si *ℤ si)) ≡ B +ℤ D = distrib yy (ci *ℤ ci) (si *ℤ si) in
-    space_by xx yy B D (H *ℤ ((co *ℤ co) +ℤ (so *ℤ so))) (P *ℤ P) (Q *ℤ Q) (pos 0) (X *ℤ X) (Y *ℤ Y) (Z *ℤ Z) hx hy hD s
+    space_by xx yy B D (H *ℤ ((co *ℤ co) +ℤ (so *ℤ so))) (P *ℤ P) (Q *ℤ Q) (X *ℤ X) (Y *ℤ Y) (Z *ℤ Z) hx hy hD s
     (subst (λ (z : ℤ). (pos turn_low *ℤ yy) ≤ℤ z) f F.0) (subst (λ (z : ℤ). z ≤ℤ (pos turn_high *ℤ yy)) f F.1) G.0 G.1 e
     (subst (λ (z : ℤ). IsWithin level_slip (z -ℤ (P *ℤ P))) (swap4 X X (pos (unit * unit)) (pos (unit * unit))) u)
     (subst (λ (z : ℤ). IsWithin level_slip (z -ℤ (Q *ℤ Q))) (swap4 Y Y (pos (unit * unit)) (pos (unit * unit))) v)

@@ -6,8 +6,7 @@ use Rattle.std.specs.Prelude.{ℕ, ◌+◌, ◌*◌, ◌^◌, ℤ, pos, ◌+ℤ�
 use Rattle.sat_model.specs.Angles.{unit}
 use Rattle.sat_model.specs.Intervals.{Between}
 
--- how far a time may be from the ephemeris time, in ps: half a week's clock reach is far beyond what
--- a signal and a clock's offset need
+-- how far a time may be from the ephemeris time: 14,501 s in ps
 abbrev pub orbit_reach : ℕ
 orbit_reach = 14501 * 10 ^ 12
 
