@@ -2,3 +2,7 @@ pub mod Chains
 pub mod Flatness
 pub mod SmallSines
 pub mod ChainExists
+pub mod PairLemmas
+pub mod TrueSquares
+pub mod Distances
+pub mod ChainDistance

@@ -2,11 +2,11 @@
 -- apart where the time is one of at most 64 ps. They follow one from the other in the order of table
 -- 20-IV, with four units more for each product, for eccentricities up to 0.2 and roots of the
 -- semi-major axis up to 6,600 m^(1/2). Amounts are crude: no law on sines and cosines is used.
-use Rattle.std.specs.Prelude.{ℕ, ◌+◌, ◌*◌, ◌^◌}
+use Rattle.std.specs.Prelude.{ℕ, ◌+◌, ◌*◌, ◌^◌, ℤ, pos, ◌+ℤ◌, ◌*ℤ◌}
 use Rattle.sat_model.specs.Angles.{unit}
+use Rattle.sat_model.specs.Intervals.{Between}
 
--- how far a time may be from the ephemeris time, in ps: half a week's clock reach is far beyond what
--- a signal and a clock's offset need
+-- how far a time may be from the ephemeris time: 14,501 s in ps
 abbrev pub orbit_reach : ℕ
 orbit_reach = 14501 * 10 ^ 12
 
@@ -167,3 +167,18 @@ place_amount = 348700896000089
 
 abbrev pub place_width : ℕ
 place_width = 439
+
+-- ---- how far a satellite is from the earth's centre, in um: 24,200 to 32,400 km
+
+abbrev pub least_distance : ℕ
+least_distance = 24200 * 10 ^ 9
+
+abbrev pub greatest_distance : ℕ
+greatest_distance = 32400 * 10 ^ 9
+
+-- a coordinate at a time of at most 64 ps
+abbrev pub coordinate_amount : ℕ
+coordinate_amount = 34 * 10 ^ 12
+
+abbrev pub IsOrbitDistance : ℤ → ℤ → ℤ → Type 0
+IsOrbitDistance x y z = Between (pos (least_distance * least_distance)) (pos (greatest_distance * greatest_distance)) ((x *ℤ x) +ℤ (y *ℤ y) +ℤ (z *ℤ z))
