@@ -1,0 +1,132 @@
+//! Names that are those of no key.
+
+ghost use Rattle.std.specs.Prelude.{◌≡◌, [], map, string_bytes, IfOk};
+ghost use Rattle.toml.specs.View.{table_view};
+ghost use Rattle.error_bounds.specs.Names.{unknown};
+
+use crate::fault::{Fault, SettingsError, SettingsFault};
+use std::alloc::{AllocError, Global};
+use toml::{Table, Value};
+
+/// Where names stand: in the root of a tree, or in one of its tables.
+#[derive(Clone, Copy, Debug, PartialEq, Eq)]
+enum Scope {
+    Root,
+    Search,
+    Signal,
+    Bounds,
+    Satellite,
+}
+
+impl Scope {
+    /// Whether a name is one of a key or a table here.
+    fn knows(self, name: &str) -> bool {
+        match self {
+            Scope::Root => is_one_of(&["search", "signal", "bounds", "satellite"], name),
+            Scope::Search => is_one_of(
+                &["centre", "half", "outliers", "bisections", "width", "max_age"],
+                name,
+            ),
+            Scope::Signal => is_one_of(&["mode", "codes"], name),
+            Scope::Bounds => is_one_of(
+                &["receiver", "orbit_clock", "ionosphere", "troposphere"],
+                name,
+            ),
+            Scope::Satellite => is_satellite(name),
+        }
+    }
+
+    /// What the printed name of a member begins with.
+    fn prefix(self) -> &'static str {
+        match self {
+            Scope::Root => "",
+            Scope::Search => "search.",
+            Scope::Signal => "signal.",
+            Scope::Bounds => "bounds.",
+            Scope::Satellite => "satellite.",
+        }
+    }
+}
+
+/// Whether a name is among these.
+fn is_one_of(names: &[&str], name: &str) -> bool {
+    for known in names {
+        if *known == name {
+            return true;
+        }
+    }
+    false
+}
+
+/// Whether a name is one of G01 to G99.
+fn is_satellite(name: &str) -> bool {
+    let [system, tens, ones] = name.as_bytes() else {
+        return false;
+    };
+    *system == b'G'
+        && tens.is_ascii_digit()
+        && ones.is_ascii_digit()
+        && !(*tens == b'0' && *ones == b'0')
+}
+
+/// The printed name of a member.
+fn printed(alloc: Global, scope: Scope, name: &str) -> Result<String, AllocError> {
+    let mut text = String::from_str(alloc, scope.prefix())?;
+    text.push_str(name)?;
+    Ok(text)
+}
+
+/// Adds the printed names of the members that aren't known.
+fn add_unknown(
+    alloc: Global,
+    names: &mut Vec<String>,
+    scope: Scope,
+    members: &Table,
+) -> Result<(), AllocError> {
+    for (name, _value) in members.iter() {
+        if !scope.knows(name.as_str()) {
+            names.push(printed(alloc, scope, name.as_str())?)?;
+        }
+    }
+    Ok(())
+}
+
+/// Adds those of the members of a table of the tree.
+fn add_unknown_in(
+    alloc: Global,
+    names: &mut Vec<String>,
+    scope: Scope,
+    tree: &Table,
+    table: &str,
+) -> Result<(), AllocError> {
+    match tree.get(table).and_then(Value::as_table) {
+        Some(members) => add_unknown(alloc, names, scope, members),
+        None => Ok(()),
+    }
+}
+
+/// The printed names of all members that aren't known.
+fn unknown_names(alloc: Global, tree: &Table) -> Result<Vec<String>, AllocError>
+    ensures { IfOk result (λ names. map string_bytes names.items ≡ unknown (table_view tree.now)) }
+{
+    let mut names = Vec::new(alloc);
+    add_unknown(alloc, &mut names, Scope::Root, tree)?;
+    add_unknown_in(alloc, &mut names, Scope::Search, tree, "search")?;
+    add_unknown_in(alloc, &mut names, Scope::Signal, tree, "signal")?;
+    add_unknown_in(alloc, &mut names, Scope::Bounds, tree, "bounds")?;
+    add_unknown_in(alloc, &mut names, Scope::Satellite, tree, "satellite")?;
+    Ok(names)
+}
+
+/// Passes a tree whose names are all known, and tells of the first of the others.
+pub fn check_names(alloc: Global, tree: &Table) -> Result<(), SettingsError>
+{
+    let names = unknown_names(alloc, tree)?;
+    match names.iter().min() {
+        Some(name) => Err(SettingsError::Refused(SettingsFault::new(
+            Fault::Unknown,
+            name.as_str(),
+        ))),
+        None => Ok(()),
+    }
+}

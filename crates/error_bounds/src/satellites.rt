@@ -1,0 +1,75 @@
+//! What is declared for single satellites.
+
+ghost use Rattle.std.specs.Prelude.{◌≡◌, ◌≤◌, ◌+◌, Ok, option_map};
+ghost use Rattle.toml.specs.View.{view, table_view};
+ghost use Rattle.error_bounds.specs.Keys.{satellites, satellite, satellite_name, satellite_tests, first_found, optional};
+ghost use Rattle.error_bounds.specs.Reading.{Tells, RefusesTests};
+ghost use Rattle.error_bounds.specs.Sizes.{AreDeclared, IsAscendingFrom};
+ghost use Rattle.error_bounds.specs.Texts.{extra_in};
+
+use crate::fault::{Fault, SettingsError, SettingsFault};
+use crate::form::{Errors, Form};
+use crate::key::fault_at;
+use arrayvec::ArrayString;
+use sat_model::{Sat, Span};
+use std::alloc::Global;
+use toml::Table;
+
+/// The name of a GPS satellite.
+fn satellite_name(number: u8) -> ArrayString<3>
+    requires { number ≤ 99 }
+    ensures { result.bytes ≡ satellite_name number }
+{
+    let mut name = ArrayString::new();
+    name.push('G');
+    name.push((b'0' + number / 10) as char);
+    name.push((b'0' + number % 10) as char);
+    name
+}
+
+/// The span of errors of one satellite, where it has one.
+fn own_span(members: &Table, number: u8) -> Result<Option<Span>, SettingsFault>
+    requires { number ≤ 99 }
+{
+    let name = satellite_name(number);
+    let Some(value) = members.get(name.as_str()) else {
+        return Ok(None);
+    };
+    match Errors.read(value) {
+        Ok(span) => Ok(Some(span)),
+        Err(fault) => Err(fault_at(fault, "satellite", name.as_str())),
+    }
+}
+
+/// The spans in the table of the satellites.
+fn own_spans(alloc: Global, members: &Table) -> Result<Vec<(Sat, Span)>, SettingsError>
+{
+    let mut spans = Vec::new(alloc);
+    'numbers: for number in 1..100 {
+        if let Some(span) = own_span(members, number)? {
+            let sat = Sat {
+                system: b'G',
+                number,
+            };
+            spans.push((sat, span))?;
+        }
+    }
+    Ok(spans)
+}
+
+/// The spans of single satellites, in the order of their numbers.
+pub fn read_satellites(alloc: Global, tree: &Table) -> Result<Vec<(Sat, Span)>, SettingsError>
+    ensures none { IfOk result (λ extra. first_found (satellite_tests (table_view tree.now)) ≡ None) }
+    ensures extra { IfOk result (λ extra. extra.items ≡ extra_in (satellites (table_view tree.now))) }
+    ensures within { IfOk result (λ extra. AreDeclared extra.items) }
+    ensures once { IfOk result (λ extra. IsAscendingFrom 0 extra.items) }
+    ensures fault { IfErr result (RefusesTests (satellite_tests (table_view tree.now))) }
+{
+    let Some(value) = tree.get("satellite") else {
+        return Ok(Vec::new(alloc));
+    };
+    match value.as_table() {
+        Some(members) => own_spans(alloc, members),
+        None => Err(SettingsError::Refused(SettingsFault::new(Fault::WrongKind, "satellite"))),
+    }
+}
