@@ -6,7 +6,6 @@ use lib.Signed.{le_z}
 use Rattle.sat_model.specs.declared.boxes.Pos.{Pos}
 use Rattle.sat_model.specs.declared.satellites.Signal.{Signal}
 use Rattle.sat_model.specs.declared.satellites.Signal.TheVariants as signal
-use Rattle.sat_model.specs.declared.spans.Span.{Span}
 use Rattle.toml.specs.Data.{Data, Items, no_items, item, as_str, as_integer, as_array}
 use Rattle.error_bounds.specs.Sizes.{is_code}
 use Rattle.error_bounds.specs.declared.fault.Fault.{Fault}
@@ -62,13 +61,13 @@ count lo hi d = of_kind (as_integer d) (λ n. right (is_from (pos lo) (pos hi) n
 abbrev pub length_from : ℕ → ℕ → Data → Result ℤ Fault
 length_from lo hi d = of_kind (as_integer d) (λ n. right (is_from (pos lo) (pos hi) n) (um n))
 
--- `[lo, hi]`
-abbrev pub ends : List ℤ → Result Span Fault
-ends (lo ∷ hi ∷ []) = right ((is_within 1000000 lo && is_within 1000000 hi) && le_z lo hi) (record { lo = um lo; hi = um hi })
-ends _ = Err Outside
+-- `[lo, hi]`, amounts of at most 1 km
+abbrev pub ends_of : List ℤ → Result (ℤ × ℤ) Fault
+ends_of (lo ∷ hi ∷ []) = right ((is_within 1000000 lo && is_within 1000000 hi) && le_z lo hi) (um lo, um hi)
+ends_of _ = Err Outside
 
-abbrev pub span : Data → Result Span Fault
-span d = of_kind (as_list_of as_integer d) ends
+abbrev pub errors : Data → Result (ℤ × ℤ) Fault
+errors d = of_kind (as_list_of as_integer d) ends_of
 
 -- three lengths that pass one test
 abbrev pub three : (ℤ → Bool) → List ℤ → Result Pos Fault

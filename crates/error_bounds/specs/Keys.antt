@@ -3,10 +3,9 @@ use Rattle.std.specs.Prelude.{ℕ, ◌+◌, ◌/◌, ◌%◌, ℤ, codes, List, 
 use Rattle.std.specs.List.{range_with_len}
 use Rattle.sat_model.specs.declared.boxes.Pos.{Pos}
 use Rattle.sat_model.specs.declared.satellites.Signal.{Signal}
-use Rattle.sat_model.specs.declared.spans.Span.{Span}
 use Rattle.toml.specs.Data.{Data, Members, no_members, get_member, as_table}
 use Rattle.error_bounds.specs.Faults.{Found}
-use Rattle.error_bounds.specs.Forms.{count, length_from, span, place, half_sides, mode_word, code_list}
+use Rattle.error_bounds.specs.Forms.{count, length_from, errors, place, half_sides, mode_word, code_list}
 use Rattle.error_bounds.specs.declared.fault.Fault.{Fault}
 use Rattle.error_bounds.specs.declared.fault.Fault.TheVariants.{Missing, WrongKind}
 use Rattle.error_bounds.specs.declared.signals.Mode.{Mode}
@@ -74,27 +73,27 @@ signal_mode = record { table = codes "signal"; name = codes "mode"; form = mode_
 abbrev pub signal_codes : Mode → Key Signal
 signal_codes mode = record { table = codes "signal"; name = codes "codes"; form = code_list mode }
 
-abbrev pub bound : List ℕ → Key Span
-bound name = record { table = codes "bounds"; name = name; form = span }
+abbrev pub bound : List ℕ → Key (ℤ × ℤ)
+bound name = record { table = codes "bounds"; name = name; form = errors }
 
-abbrev pub receiver : Key Span
+abbrev pub receiver : Key (ℤ × ℤ)
 receiver = bound (codes "receiver")
 
-abbrev pub orbit_clock : Key Span
+abbrev pub orbit_clock : Key (ℤ × ℤ)
 orbit_clock = bound (codes "orbit_clock")
 
-abbrev pub ionosphere : Key Span
+abbrev pub ionosphere : Key (ℤ × ℤ)
 ionosphere = bound (codes "ionosphere")
 
-abbrev pub troposphere : Key Span
+abbrev pub troposphere : Key (ℤ × ℤ)
 troposphere = bound (codes "troposphere")
 
 -- `G01` to `G99`
 abbrev pub satellite_name : ℕ → List ℕ
 satellite_name number = 71 ∷ (48 + number / 10) ∷ (48 + number % 10) ∷ []
 
-abbrev pub satellite : ℕ → Key Span
-satellite number = record { table = codes "satellite"; name = satellite_name number; form = span }
+abbrev pub satellite : ℕ → Key (ℤ × ℤ)
+satellite number = record { table = codes "satellite"; name = satellite_name number; form = errors }
 
 abbrev pub satellite_numbers : List ℕ
 satellite_numbers = range_with_len 1 99

@@ -5,3 +5,4 @@ pub mod Keys
 pub mod Names
 pub mod Texts
 pub mod Reading
+pub mod Scopes

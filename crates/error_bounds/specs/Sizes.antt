@@ -1,5 +1,6 @@
 -- What each value of the settings keeps to. Lengths are in um.
-use Rattle.std.specs.Prelude.{◌≡◌, ℕ, ◌+◌, ◌<◌, ◌≤◌, ℤ, pos, Bool, true, false, ◌&&◌, ◌==◌, nat_le, List, [], ◌∷◌, map, ◌≤ℤ◌}
+use Rattle.std.specs.Prelude.{◌≡◌, ℕ, ◌<◌, ℤ, pos, Bool, true, false, ◌&&◌, ◌==◌, nat_le, List, [], ◌∷◌, length, ◌≤ℤ◌, slice_index_or}
+use Rattle.std.specs.List.{All}
 use Rattle.sat_model.specs.Sizes.{IsWithin}
 use Rattle.sat_model.specs.declared.boxes.Pos.{Pos}
 use Rattle.sat_model.specs.declared.satellites.Sat.{Sat}
@@ -15,9 +16,9 @@ pub record IsNearEarth (p : Pos) : Type 0 where
   pub y : IsWithin 8500000000000 p.y
   pub z : IsWithin 8500000000000 p.z
 
-abbrev pub IsCentre : Centre → Type 0
-IsCentre Header = Unit {0}
-IsCentre (At p) = IsNearEarth p
+-- the centre, where it is a point
+pub record IsCentre (centre : Centre) : Type 0 where
+  pub near : (p : Pos) → centre ≡ At p → IsNearEarth p
 
 -- from 1 mm to 100 km
 pub record IsHalfSide (z : ℤ) : Type 0 where
@@ -54,12 +55,11 @@ abbrev pub are_codes : Signal → Bool
 are_codes (Single code) = is_code 49 code
 are_codes (Dual first second) = is_code 49 first && is_code 50 second
 
--- satellites in the order of their numbers, and so none twice
-abbrev pub IsAscendingFrom : ℕ → List (Sat × Span) → Type 0
-IsAscendingFrom number [] = Unit {0}
-IsAscendingFrom number (e ∷ more) = (number ≤ e.0.number) × IsAscendingFrom (e.0.number + 1) more
-
--- each satellite's own span is within 1 km
+-- each satellite's own span is a declared one
 abbrev pub AreDeclared : List (Sat × Span) → Type 0
-AreDeclared [] = Unit {0}
-AreDeclared (e ∷ more) = IsDeclared e.1 × AreDeclared more
+AreDeclared extra = All (λ e. IsDeclared e.1) extra
+
+-- earlier satellites have lower numbers, and so none is listed twice
+abbrev pub IsAscending : List (Sat × Span) → Type 0
+IsAscending extra =
+    (i j : ℕ) (e : Sat × Span) → i < j → j < length extra → (slice_index_or extra i e).0.number < (slice_index_or extra j e).0.number

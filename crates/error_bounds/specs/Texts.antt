@@ -1,11 +1,9 @@
 -- Settings texts: the value of one, or its first fault.
-use Rattle.std.specs.Prelude.{◌≡◌, ◌⊎◌, ℕ, ◌+ℤ◌, List, [], ◌∷◌, Option, None, Some, Result, Ok, Err, IsUtf8}
+use Rattle.std.specs.Prelude.{◌≡◌, ◌⊎◌, ℕ, ℤ, ◌+ℤ◌, List, [], ◌∷◌, Option, None, Some, Result, Ok, Err, IsUtf8}
 use Rattle.std.specs.List.{filter_map}
 use Rattle.sat_model.specs.declared.boxes.Pos.{Pos}
-use Rattle.sat_model.specs.declared.rules.Rules.{Rules}
 use Rattle.sat_model.specs.declared.satellites.Sat.{Sat}
 use Rattle.sat_model.specs.declared.satellites.Signal.{Signal}
-use Rattle.sat_model.specs.declared.spans.Span.{Span}
 use Rattle.toml.specs.Data.{Members}
 use Rattle.toml.specs.Parse.{parse_document}
 use Rattle.error_bounds.specs.Faults.{Found}
@@ -19,25 +17,28 @@ use Rattle.error_bounds.specs.declared.settings.Centre.{Centre}
 pub record SettingsValue : Type 0 where
   pub centre : Centre
   pub half : Pos
-  pub rules : Rules
+  pub outliers : ℕ
+  pub bisections : ℕ
+  pub width : ℤ
   pub max_age : ℕ
   pub signal : Signal
-  pub common : Span
-  pub extra : List (Sat × Span)
+  pub common : ℤ × ℤ
+  pub extra : List (Sat × (ℤ × ℤ))
 
 abbrev pub gps : ℕ → Sat
 gps number = record { system = 71; number = number }
 
-abbrev pub add : Span → Span → Span
-add a b = record { lo = a.lo +ℤ b.lo; hi = a.hi +ℤ b.hi }
+-- the sum of two spans, each a pair of ends
+abbrev pub add : ℤ × ℤ → ℤ × ℤ → ℤ × ℤ
+add a b = (a.0 +ℤ b.0, a.1 +ℤ b.1)
 
 -- a satellite and its own span, where it has one
-abbrev pub extra_of : ℕ → Result (Option Span) Fault → Option (Sat × Span)
+abbrev pub extra_of : ℕ → Result (Option (ℤ × ℤ)) Fault → Option (Sat × (ℤ × ℤ))
 extra_of number (Ok None) = None
 extra_of number (Ok (Some span)) = Some (gps number, span)
 extra_of number (Err fault) = None
 
-abbrev pub extra_in : Result Members Fault → List (Sat × Span)
+abbrev pub extra_in : Result Members Fault → List (Sat × (ℤ × ℤ))
 extra_in (Ok members) = filter_map (λ number. extra_of number (key.optional (key.satellite number) members)) key.satellite_numbers
 extra_in (Err fault) = []
 
@@ -45,18 +46,18 @@ extra_in (Err fault) = []
 pub record IsValue (tree : Members) (v : SettingsValue) : Type 0 where
   pub centre : key.value_of key.centre tree ≡ Ok v.centre
   pub half : key.value_of key.half tree ≡ Ok v.half
-  pub outliers : key.value_of key.outliers tree ≡ Ok v.rules.outliers
-  pub bisections : key.value_of key.bisections tree ≡ Ok v.rules.bisections
-  pub width : key.value_of key.width tree ≡ Ok v.rules.width
+  pub outliers : key.value_of key.outliers tree ≡ Ok v.outliers
+  pub bisections : key.value_of key.bisections tree ≡ Ok v.bisections
+  pub width : key.value_of key.width tree ≡ Ok v.width
   pub max_age : key.value_of key.max_age tree ≡ Ok v.max_age
   pub signal : key.value_of (key.codes_key tree) tree ≡ Ok v.signal
-  pub receiver : Span
+  pub receiver : ℤ × ℤ
   pub is_receiver : key.value_of key.receiver tree ≡ Ok receiver
-  pub orbit_clock : Span
+  pub orbit_clock : ℤ × ℤ
   pub is_orbit_clock : key.value_of key.orbit_clock tree ≡ Ok orbit_clock
-  pub ionosphere : Span
+  pub ionosphere : ℤ × ℤ
   pub is_ionosphere : key.value_of key.ionosphere tree ≡ Ok ionosphere
-  pub troposphere : Span
+  pub troposphere : ℤ × ℤ
   pub is_troposphere : key.value_of key.troposphere tree ≡ Ok troposphere
   pub common : v.common ≡ add (add (add receiver orbit_clock) ionosphere) troposphere
   pub extra : v.extra ≡ extra_in (key.satellites tree)

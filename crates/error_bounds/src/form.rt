@@ -1,9 +1,11 @@
 //! What a value has to be. Lengths stand in mm in the text, and are read in um.
 
-ghost use Rattle.std.specs.Prelude.{◌≡◌, Result, is_some, pos, [], ◌∷◌, ◌≤ℤ◌, ◌-ℤ◌};
+ghost use Rattle.std.specs.Prelude.{◌≡◌, ◌≤◌, Result, IfOk, is_some, pos, [], ◌∷◌, ◌≤ℤ◌, ◌-ℤ◌};
 ghost use Rattle.toml.specs.Data.{Data, as_integer};
 ghost use Rattle.toml.specs.View.{view, items_view};
-ghost use Rattle.error_bounds.specs.Forms.{all_members, count, length_from, span, ends, is_from};
+ghost use Rattle.error_bounds.specs.Forms.{all_members, count, length_from, errors, ends_of, is_from, um};
+ghost use Rattle.error_bounds.specs.Sizes.{IsDeclared};
+ghost use Rattle.error_bounds.specs.Reading.{ends_in};
 ghost use Rattle.error_bounds.specs.declared.fault.Fault.{Fault};
 
 use crate::fault::Fault;
@@ -17,34 +19,41 @@ const MAX_ERROR: i64 = 1_000_000;
 pub trait Form {
     type Output;
 
-    ghost reads: { Self → Data → Result Output Fault };
+    // What is read from a value.
+    ghost reads: { Self → Data → Result Self.Output Fault → Type 0 };
+
+    // The size that is kept.
+    ghost allows: { Self → Self.Output → Type 0 };
 
     fn read(&self, value: &Value) -> Result<Self::Output, Fault>
-        ensures { result ≡ reads self.now (view value.now) };
+        ensures value { reads self.now (view value.now) result }
+        ensures allowed { IfOk result (allows self.now) };
 }
 
 /// A whole number from `lo` to `hi`.
-#[derive(Clone, Copy, Debug)]
+#[derive(Clone, Copy)]
 pub struct Count {
     pub lo: u32,
     pub hi: u32,
 }
 
 /// A length from `lo` to `hi` mm, read in um.
-#[derive(Clone, Copy, Debug)]
+#[derive(Clone, Copy)]
 pub struct Length {
     pub lo: u32,
     pub hi: u32,
 }
 
 /// A span of errors, `[lo, hi]` in mm, read in um.
-#[derive(Clone, Copy, Debug)]
+#[derive(Clone, Copy)]
 pub struct Errors;
 
 impl Form for Count {
     type Output = u32;
 
-    ghost reads = { λ form. count form.lo form.hi };
+    ghost reads = { λ form d r. r ≡ count form.lo form.hi d };
+
+    ghost allows = { λ form n. (form.lo ≤ n) × (n ≤ form.hi) };
 
     fn read(&self, value: &Value) -> Result<u32, Fault> {
         let Some(n) = value.as_integer() else {
@@ -61,7 +70,9 @@ impl Form for Count {
 impl Form for Length {
     type Output = i64;
 
-    ghost reads = { λ form. length_from form.lo form.hi };
+    ghost reads = { λ form d r. r ≡ length_from form.lo form.hi d };
+
+    ghost allows = { λ form z. (um (pos form.lo) ≤ℤ z) × (z ≤ℤ um (pos form.hi)) };
 
     fn read(&self, value: &Value) -> Result<i64, Fault> {
         let Some(n) = value.as_integer() else {
@@ -78,7 +89,9 @@ impl Form for Length {
 impl Form for Errors {
     type Output = Span;
 
-    ghost reads = { λ form. span };
+    ghost reads = { λ form d r. ends_in r ≡ errors d };
+
+    ghost allows = { λ form s. IsDeclared s };
 
     fn read(&self, value: &Value) -> Result<Span, Fault> {
         let Some(items) = value.as_array() else {
@@ -99,7 +112,8 @@ impl Form for Errors {
 
 /// The span of errors with these ends in mm.
 fn span_of(lo: i64, hi: i64) -> Result<Span, Fault>
-    ensures { result ≡ ends (lo ∷ hi ∷ []) }
+    ensures value { ends_in result ≡ ends_of (lo ∷ hi ∷ []) }
+    ensures within { IfOk result IsDeclared }
 {
     if is_within(MAX_ERROR, lo) && is_within(MAX_ERROR, hi) && lo <= hi {
         Ok(Span {

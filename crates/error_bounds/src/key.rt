@@ -1,6 +1,6 @@
 //! Keys: where they stand in the tree of a text, and how their faults are told.
 
-ghost use Rattle.std.specs.Prelude.{◌≡◌, ◌<◌, ◌+◌, length};
+ghost use Rattle.std.specs.Prelude.{◌≡◌, ◌<◌, ◌+◌, length, IfOk};
 ghost use Rattle.toml.specs.View.{table_view};
 ghost use Rattle.error_bounds.specs.Keys.{data_at, dotted};
 ghost use Rattle.error_bounds.specs.Reading.{Answers, Tells, data_of};
@@ -17,7 +17,8 @@ pub fn required<F: Form>(
     form: &F,
 ) -> Result<F::Output, SettingsFault>
     requires { length table.now + length name.now < 64 }
-    ensures { Answers (record { table = table.now; name = name.now; form = F.reads form.now }) (table_view tree.now) result }
+    ensures value { Answers (F.reads form.now) table.now name.now (table_view tree.now) result }
+    ensures allowed { IfOk result (F.allows form.now) }
 {
     let value = match find(tree, table, name) {
         Ok(value) => value,

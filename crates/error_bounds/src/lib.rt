@@ -9,8 +9,10 @@ mod names;
 mod places;
 mod read;
 mod satellites;
+mod search;
 mod settings;
 mod signals;
+mod tables;
 
 pub use fault::{Fault, KeyText, SettingsError, SettingsFault};
 pub use read::read_settings;

@@ -1,15 +1,17 @@
 //! Names that are those of no key.
 
-ghost use Rattle.std.specs.Prelude.{◌≡◌, [], map, string_bytes, IfOk};
+ghost use Rattle.std.specs.Prelude.{◌≡◌, ◌++◌, [], map, string_bytes, IfOk, IfErr, OnOk};
 ghost use Rattle.toml.specs.View.{table_view};
-ghost use Rattle.error_bounds.specs.Names.{unknown};
+ghost use Rattle.error_bounds.specs.Names.{unknown, strangers, members_at, is_table, is_satellite};
+ghost use Rattle.error_bounds.specs.Reading.{RefusesName};
+ghost use Rattle.error_bounds.specs.Scopes.{knows, prefix_of, printed_in};
 
 use crate::fault::{Fault, SettingsError, SettingsFault};
 use std::alloc::{AllocError, Global};
 use toml::{Table, Value};
 
 /// Where names stand: in the root of a tree, or in one of its tables.
-#[derive(Clone, Copy, Debug, PartialEq, Eq)]
+#[derive(Clone, Copy)]
 enum Scope {
     Root,
     Search,
@@ -19,25 +21,25 @@ enum Scope {
 }
 
 impl Scope {
+    ghost use Rattle.error_bounds.specs.Scopes.{knows, prefix_of};
+
     /// Whether a name is one of a key or a table here.
-    fn knows(self, name: &str) -> bool {
+    fn knows(self, name: &str) -> bool
+        ensures { result ≡ knows self name.now }
+    {
         match self {
-            Scope::Root => is_one_of(&["search", "signal", "bounds", "satellite"], name),
-            Scope::Search => is_one_of(
-                &["centre", "half", "outliers", "bisections", "width", "max_age"],
-                name,
-            ),
-            Scope::Signal => is_one_of(&["mode", "codes"], name),
-            Scope::Bounds => is_one_of(
-                &["receiver", "orbit_clock", "ionosphere", "troposphere"],
-                name,
-            ),
+            Scope::Root => is_table(name),
+            Scope::Search => is_search_key(name),
+            Scope::Signal => name == "mode" || name == "codes",
+            Scope::Bounds => is_bound(name),
             Scope::Satellite => is_satellite(name),
         }
     }
 
     /// What the printed name of a member begins with.
-    fn prefix(self) -> &'static str {
+    fn prefix(self) -> &'static str
+        ensures { result.now ≡ prefix_of self }
+    {
         match self {
             Scope::Root => "",
             Scope::Search => "search.",
@@ -48,18 +50,36 @@ impl Scope {
     }
 }
 
-/// Whether a name is among these.
-fn is_one_of(names: &[&str], name: &str) -> bool {
-    for known in names {
-        if *known == name {
-            return true;
-        }
-    }
-    false
+/// Whether a name is that of a table.
+fn is_table(name: &str) -> bool
+    ensures { result ≡ is_table name.now }
+{
+    name == "search" || name == "signal" || name == "bounds" || name == "satellite"
+}
+
+/// Whether a name is that of a key of `search`.
+fn is_search_key(name: &str) -> bool
+    ensures { result ≡ knows Scope.Search name.now }
+{
+    name == "centre"
+        || name == "half"
+        || name == "outliers"
+        || name == "bisections"
+        || name == "width"
+        || name == "max_age"
+}
+
+/// Whether a name is that of a key of `bounds`.
+fn is_bound(name: &str) -> bool
+    ensures { result ≡ knows Scope.Bounds name.now }
+{
+    name == "receiver" || name == "orbit_clock" || name == "ionosphere" || name == "troposphere"
 }
 
 /// Whether a name is one of G01 to G99.
-fn is_satellite(name: &str) -> bool {
+fn is_satellite(name: &str) -> bool
+    ensures { result ≡ is_satellite name.now }
+{
     let [system, tens, ones] = name.as_bytes() else {
         return false;
     };
@@ -70,7 +90,9 @@ fn is_satellite(name: &str) -> bool {
 }
 
 /// The printed name of a member.
-fn printed(alloc: Global, scope: Scope, name: &str) -> Result<String, AllocError> {
+fn printed(alloc: Global, scope: Scope, name: &str) -> Result<String, AllocError>
+    ensures { IfOk result (λ text. string_bytes text ≡ prefix_of scope ++ name.now) }
+{
     let mut text = String::from_str(alloc, scope.prefix())?;
     text.push_str(name)?;
     Ok(text)
@@ -82,7 +104,9 @@ fn add_unknown(
     names: &mut Vec<String>,
     scope: Scope,
     members: &Table,
-) -> Result<(), AllocError> {
+) -> Result<(), AllocError>
+    ensures { OnOk result (map string_bytes names.new.items ≡ map string_bytes names.old.items ++ strangers (knows scope) (printed_in scope) (table_view members.now)) }
+{
     for (name, _value) in members.iter() {
         if !scope.knows(name.as_str()) {
             names.push(printed(alloc, scope, name.as_str())?)?;
@@ -98,7 +122,9 @@ fn add_unknown_in(
     scope: Scope,
     tree: &Table,
     table: &str,
-) -> Result<(), AllocError> {
+) -> Result<(), AllocError>
+    ensures { OnOk result (map string_bytes names.new.items ≡ map string_bytes names.old.items ++ strangers (knows scope) (printed_in scope) (members_at table.now (table_view tree.now))) }
+{
     match tree.get(table).and_then(Value::as_table) {
         Some(members) => add_unknown(alloc, names, scope, members),
         None => Ok(()),
@@ -120,6 +146,8 @@ fn unknown_names(alloc: Global, tree: &Table) -> Result<Vec<String>, AllocError>
 
 /// Passes a tree whose names are all known, and tells of the first of the others.
 pub fn check_names(alloc: Global, tree: &Table) -> Result<(), SettingsError>
+    ensures known { OnOk result (unknown (table_view tree.now) ≡ []) }
+    ensures fault { IfErr result (RefusesName (unknown (table_view tree.now))) }
 {
     let names = unknown_names(alloc, tree)?;
     match names.iter().min() {

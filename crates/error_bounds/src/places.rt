@@ -5,6 +5,7 @@ ghost use Rattle.sat_model.specs.Sizes.{IsWithin};
 ghost use Rattle.toml.specs.View.{view};
 ghost use Rattle.error_bounds.specs.Forms.{place, half_sides, um, is_half, is_coordinate, is_text, right};
 ghost use Rattle.error_bounds.specs.Reading.{AreThree};
+ghost use Rattle.error_bounds.specs.Sizes.{IsCentre, AreHalfSides};
 
 use crate::fault::Fault;
 use crate::form::{Form, are_integers, is_within};
@@ -19,17 +20,19 @@ const MAX_COORDINATE: i64 = 8_500_000_000;
 const MAX_HALF: i64 = 100_000_000;
 
 /// `"header"`, or three coordinates in mm.
-#[derive(Clone, Copy, Debug)]
+#[derive(Clone, Copy)]
 pub struct Place;
 
 /// One half side in mm for all three axes, or one for each.
-#[derive(Clone, Copy, Debug)]
+#[derive(Clone, Copy)]
 pub struct HalfSides;
 
 impl Form for Place {
     type Output = Centre;
 
-    ghost reads = { λ form. place };
+    ghost reads = { λ form d r. r ≡ place d };
+
+    ghost allows = { λ form centre. IsCentre centre };
 
     fn read(&self, value: &Value) -> Result<Centre, Fault> {
         if let Some(text) = value.as_str() {
@@ -47,7 +50,9 @@ impl Form for Place {
 impl Form for HalfSides {
     type Output = Pos;
 
-    ghost reads = { λ form. half_sides };
+    ghost reads = { λ form d r. r ≡ half_sides d };
+
+    ghost allows = { λ form half. AreHalfSides half };
 
     fn read(&self, value: &Value) -> Result<Pos, Fault> {
         let (x, y, z) = match value.as_integer() {

@@ -1,77 +1,24 @@
 //! Settings texts.
 
 ghost use Rattle.std.specs.Prelude.{◌≡◌, IfOk, IfErr};
+ghost use Rattle.toml.specs.View.{table_view};
 ghost use Rattle.error_bounds.specs.Faults.{Found};
-ghost use Rattle.error_bounds.specs.Reading.{value_of_settings, RefusesFirst, GivesSettings, GivesFault};
+ghost use Rattle.error_bounds.specs.Reading.{value_of_settings, IsTreeOf, RefusesTree, RefusesFirst, GivesSettings, GivesFault};
 ghost use Rattle.error_bounds.specs.Texts.{SettingsValue, IsSettings, IsFirstFault};
 
 use crate::fault::{Fault, SettingsError, SettingsFault};
-use crate::form::{Count, Errors, Length};
-use crate::key::required;
 use crate::names::check_names;
-use crate::places::{HalfSides, Place};
 use crate::satellites::read_satellites;
-use crate::settings::{Centre, Settings};
-use crate::signals::{Codes, ModeWord};
-use sat_model::{Pos, Rules, Signal, Span};
+use crate::settings::Settings;
+use crate::tables::{read_bounds, read_search, read_signal};
 use std::alloc::Global;
 use toml::Table;
 
-/// Where to search, and how.
-#[derive(Clone, Copy, Debug)]
-struct Search {
-    centre: Centre,
-    half: Pos,
-    rules: Rules,
-    max_age: u32,
-}
-
-/// The keys of `search`.
-fn read_search(tree: &Table) -> Result<Search, SettingsFault> {
-    let centre = required(tree, "search", "centre", &Place)?;
-    let half = required(tree, "search", "half", &HalfSides)?;
-    let outliers = required(tree, "search", "outliers", &Count { lo: 0, hi: 8 })?;
-    let bisections = required(tree, "search", "bisections", &Count { lo: 0, hi: 200_000 })?;
-    let width = required(tree, "search", "width", &Length { lo: 1, hi: 10_000_000 })?;
-    let max_age = required(tree, "search", "max_age", &Count { lo: 1, hi: 14_400 })?;
-    let rules = Rules {
-        outliers: outliers as u8,
-        bisections,
-        width,
-    };
-    Ok(Search {
-        centre,
-        half,
-        rules,
-        max_age,
-    })
-}
-
-/// The keys of `signal`.
-fn read_signal(tree: &Table) -> Result<Signal, SettingsFault> {
-    let mode = required(tree, "signal", "mode", &ModeWord)?;
-    required(tree, "signal", "codes", &Codes { mode })
-}
-
-/// The keys of `bounds`: the sum of the four spans that are declared for every satellite.
-fn read_bounds(tree: &Table) -> Result<Span, SettingsFault> {
-    let receiver = required(tree, "bounds", "receiver", &Errors)?;
-    let orbit_clock = required(tree, "bounds", "orbit_clock", &Errors)?;
-    let ionosphere = required(tree, "bounds", "ionosphere", &Errors)?;
-    let troposphere = required(tree, "bounds", "troposphere", &Errors)?;
-    Ok(sum(sum(sum(receiver, orbit_clock), ionosphere), troposphere))
-}
-
-/// The sum of two spans.
-fn sum(a: Span, b: Span) -> Span {
-    Span {
-        lo: a.lo + b.lo,
-        hi: a.hi + b.hi,
-    }
-}
-
 /// The settings of a tree, or its first fault.
-fn read_tree(alloc: Global, tree: &Table) -> Result<Settings, SettingsError> {
+fn read_tree(alloc: Global, tree: &Table) -> Result<Settings, SettingsError>
+    ensures settings { IfOk result (IsTreeOf (table_view tree.now)) }
+    ensures fault { IfErr result (RefusesTree (table_view tree.now)) }
+{
     let search = read_search(tree)?;
     let signal = read_signal(tree)?;
     let common = read_bounds(tree)?;

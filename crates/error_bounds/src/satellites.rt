@@ -1,10 +1,11 @@
 //! What is declared for single satellites.
 
-ghost use Rattle.std.specs.Prelude.{◌≡◌, ◌≤◌, ◌+◌, Ok, option_map};
-ghost use Rattle.toml.specs.View.{view, table_view};
-ghost use Rattle.error_bounds.specs.Keys.{satellites, satellite, satellite_name, satellite_tests, first_found, optional};
-ghost use Rattle.error_bounds.specs.Reading.{Tells, RefusesTests};
-ghost use Rattle.error_bounds.specs.Sizes.{AreDeclared, IsAscendingFrom};
+ghost use Rattle.std.specs.Prelude.{◌≡◌, ◌≤◌, [], ◌∷◌, None, Ok, option_map, IfSome, IfOk, IfErr, OnOk};
+ghost use Rattle.sat_model.specs.Relaxed.{ends};
+ghost use Rattle.toml.specs.View.{table_view};
+ghost use Rattle.error_bounds.specs.Keys.{satellites, satellite, satellite_name, satellite_tests, satellite_tests_in, optional, test_optional, first_found};
+ghost use Rattle.error_bounds.specs.Reading.{TellsFirst, RefusesTests, with_ends};
+ghost use Rattle.error_bounds.specs.Sizes.{IsDeclared, AreDeclared, IsAscending};
 ghost use Rattle.error_bounds.specs.Texts.{extra_in};
 
 use crate::fault::{Fault, SettingsError, SettingsFault};
@@ -30,6 +31,9 @@ fn satellite_name(number: u8) -> ArrayString<3>
 /// The span of errors of one satellite, where it has one.
 fn own_span(members: &Table, number: u8) -> Result<Option<Span>, SettingsFault>
     requires { number ≤ 99 }
+    ensures span { IfOk result (λ span. optional (satellite number) (table_view members.now) ≡ Ok (option_map ends span)) }
+    ensures within { IfOk result (λ span. IfSome span IsDeclared) }
+    ensures fault { IfErr result (TellsFirst (test_optional (table_view members.now) (satellite number) ∷ [])) }
 {
     let name = satellite_name(number);
     let Some(value) = members.get(name.as_str()) else {
@@ -43,6 +47,11 @@ fn own_span(members: &Table, number: u8) -> Result<Option<Span>, SettingsFault>
 
 /// The spans in the table of the satellites.
 fn own_spans(alloc: Global, members: &Table) -> Result<Vec<(Sat, Span)>, SettingsError>
+    ensures none { OnOk result (first_found (satellite_tests_in (Ok (table_view members.now))) ≡ None) }
+    ensures extra { IfOk result (λ extra. with_ends extra.items ≡ extra_in (Ok (table_view members.now))) }
+    ensures within { IfOk result (λ extra. AreDeclared extra.items) }
+    ensures once { IfOk result (λ extra. IsAscending extra.items) }
+    ensures fault { IfErr result (RefusesTests (satellite_tests_in (Ok (table_view members.now)))) }
 {
     let mut spans = Vec::new(alloc);
     'numbers: for number in 1..100 {
@@ -59,10 +68,10 @@ fn own_spans(alloc: Global, members: &Table) -> Result<Vec<(Sat, Span)>, Setting
 
 /// The spans of single satellites, in the order of their numbers.
 pub fn read_satellites(alloc: Global, tree: &Table) -> Result<Vec<(Sat, Span)>, SettingsError>
-    ensures none { IfOk result (λ extra. first_found (satellite_tests (table_view tree.now)) ≡ None) }
-    ensures extra { IfOk result (λ extra. extra.items ≡ extra_in (satellites (table_view tree.now))) }
+    ensures none { OnOk result (first_found (satellite_tests (table_view tree.now)) ≡ None) }
+    ensures extra { IfOk result (λ extra. with_ends extra.items ≡ extra_in (satellites (table_view tree.now))) }
     ensures within { IfOk result (λ extra. AreDeclared extra.items) }
-    ensures once { IfOk result (λ extra. IsAscendingFrom 0 extra.items) }
+    ensures once { IfOk result (λ extra. IsAscending extra.items) }
     ensures fault { IfErr result (RefusesTests (satellite_tests (table_view tree.now))) }
 {
     let Some(value) = tree.get("satellite") else {

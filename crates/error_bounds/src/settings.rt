@@ -1,7 +1,7 @@
 //! The settings of a run.
 
 ghost use Rattle.std.specs.Prelude.{◌≡◌, ◌≤◌, true};
-ghost use Rattle.error_bounds.specs.Sizes.{IsCentre, AreHalfSides, IsSumOfFour, IsDeclared, IsAscendingFrom, are_codes, AreDeclared};
+ghost use Rattle.error_bounds.specs.Sizes.{IsCentre, AreHalfSides, IsSumOfFour, IsDeclared, IsAscending, are_codes, AreDeclared};
 
 use sat_model::{Box3, Pos, Rules, Sat, Signal, Span};
 
@@ -36,16 +36,17 @@ pub struct Settings {
     pub ghost codes: { are_codes signal ≡ true },
     pub ghost common_within: { IsSumOfFour common },
     pub ghost extra_within: { AreDeclared extra.items },
-    pub ghost extra_once: { IsAscendingFrom 0 extra.items },
+    pub ghost extra_once: { IsAscending extra.items },
 }
 
 impl Settings {
     ghost use Rattle.sat_model.specs.Boxes.{grid_box};
-    ghost use Rattle.error_bounds.specs.Reading.{value_of_settings, bound_for, centre_with, IsEnough, IsRoot};
+    ghost use Rattle.sat_model.specs.Relaxed.{ends};
+    ghost use Rattle.error_bounds.specs.Reading.{value_of_settings, with_ends, bound_for, extra_for, centre_with, IsEnough, IsRoot};
 
     /// The sum of all spans that are declared for the satellite, in um.
     pub fn bound_of(&self, sat: Sat) -> Span
-        ensures { result ≡ bound_for sat (value_of_settings self.now) }
+        ensures { ends result ≡ bound_for sat (value_of_settings self.now) }
     {
         let extra = self.extra_of(sat);
         Span {
@@ -56,6 +57,8 @@ impl Settings {
 
     /// The satellite's own span, and that of 0 alone where it has none.
     fn extra_of(&self, sat: Sat) -> Span
+        ensures value { ends result ≡ extra_for sat (with_ends self.now.extra.items) }
+        ensures within { IsDeclared result }
     {
         'entries: for entry in &self.extra {
             if entry.0 == sat {

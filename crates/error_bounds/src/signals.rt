@@ -1,10 +1,10 @@
 //! Which signals are used.
 
-ghost use Rattle.std.specs.Prelude.{◌≡◌, false, true, is_some, IfNone, IfSome, option_map};
+ghost use Rattle.std.specs.Prelude.{◌≡◌, false, true, is_some, IfOk, IfNone, IfSome};
 ghost use Rattle.toml.specs.Data.{as_str};
 ghost use Rattle.toml.specs.View.{view, items_view};
 ghost use Rattle.error_bounds.specs.Forms.{all_members, of_kind, codes_for, mode_word, code_list};
-ghost use Rattle.error_bounds.specs.Sizes.{is_code, is_capital};
+ghost use Rattle.error_bounds.specs.Sizes.{is_code, is_capital, are_codes};
 
 use crate::fault::Fault;
 use crate::form::Form;
@@ -12,18 +12,18 @@ use sat_model::Signal;
 use toml::Value;
 
 /// Whether one code is used, or two.
-#[derive(Clone, Copy, Debug, PartialEq, Eq)]
+#[derive(Clone, Copy)]
 pub enum Mode {
     Single,
     Dual,
 }
 
 /// `"single"` or `"dual"`.
-#[derive(Clone, Copy, Debug)]
+#[derive(Clone, Copy)]
 pub struct ModeWord;
 
 /// A list of one code in single mode, and of two in dual mode.
-#[derive(Clone, Copy, Debug)]
+#[derive(Clone, Copy)]
 pub struct Codes {
     pub mode: Mode,
 }
@@ -31,7 +31,9 @@ pub struct Codes {
 impl Form for ModeWord {
     type Output = Mode;
 
-    ghost reads = { λ form. mode_word };
+    ghost reads = { λ form d r. r ≡ mode_word d };
+
+    ghost allows = { λ form mode. Unit {0} };
 
     fn read(&self, value: &Value) -> Result<Mode, Fault> {
         let Some(text) = value.as_str() else {
@@ -50,7 +52,9 @@ impl Form for ModeWord {
 impl Form for Codes {
     type Output = Signal;
 
-    ghost reads = { λ form. code_list form.mode };
+    ghost reads = { λ form d r. r ≡ code_list form.mode d };
+
+    ghost allows = { λ form signal. are_codes signal ≡ true };
 
     fn read(&self, value: &Value) -> Result<Signal, Fault> {
         let Some(items) = value.as_array() else {
@@ -69,7 +73,8 @@ impl Form for Codes {
 /// The signal of a list of one code.
 fn single(items: &[Value]) -> Result<Signal, Fault>
     requires { is_some (all_members as_str (items_view items.now)) ≡ true }
-    ensures { result ≡ of_kind (all_members as_str (items_view items.now)) (codes_for Mode.Single) }
+    ensures value { result ≡ of_kind (all_members as_str (items_view items.now)) (codes_for Mode.Single) }
+    ensures codes { IfOk result (λ signal. are_codes signal ≡ true) }
 {
     let [item] = items else {
         return Err(Fault::Outside);
@@ -86,7 +91,8 @@ fn single(items: &[Value]) -> Result<Signal, Fault>
 /// The signal of a list of two codes.
 fn dual(items: &[Value]) -> Result<Signal, Fault>
     requires { is_some (all_members as_str (items_view items.now)) ≡ true }
-    ensures { result ≡ of_kind (all_members as_str (items_view items.now)) (codes_for Mode.Dual) }
+    ensures value { result ≡ of_kind (all_members as_str (items_view items.now)) (codes_for Mode.Dual) }
+    ensures codes { IfOk result (λ signal. are_codes signal ≡ true) }
 {
     let [first, second] = items else {
         return Err(Fault::Outside);

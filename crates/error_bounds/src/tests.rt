@@ -22,7 +22,9 @@ troposphere = [2000, 25000]
 
 #[test]
 fn reads_a_file(rt: HostRuntime) -> Result<(), Fail> {
-    let settings = read_settings(rt.alloc(), FILE.as_bytes()).ok().ok_or("refused")?;
+    let settings = read_settings(rt.alloc(), FILE.as_bytes())
+        .ok()
+        .ok_or("refused")?;
     assert_eq!(rt; settings.max_age, 7200);
     Ok(())
 }
