@@ -2,7 +2,7 @@
 use Rattle.std.specs.Prelude.{◌≡◌, ℕ, nat_eq, Bool, true, false, ◌&&◌, ◌||◌, ◌==◌, not, if◌then◌else◌, codes, List, [], ◌∷◌, ◌++◌, Option, None, Some}
 use Rattle.std.specs.Char.{is_ascii_digit}
 use Rattle.std.specs.Cmp.Lexicographic.{slice_cmp}
-use Rattle.std.specs.List.{list_any, list_all}
+use Rattle.std.specs.List.{list_any, All, Contains}
 use Rattle.std.specs.Ordering.{nat_cmp, is_lt}
 use Rattle.toml.specs.Data.{Data, Members, no_members, member, get_member, as_table}
 use Rattle.error_bounds.specs.Forms.{is_text}
@@ -57,5 +57,5 @@ unknown tree =
 
 -- a name of a list that none of the others comes before in byte order
 pub record IsFirstName (names : List (List ℕ)) (name : List ℕ) : Type 0 where
-  pub among : list_any (is_text name) names ≡ true
-  pub first : list_all (λ other. not (is_lt (slice_cmp nat_cmp other name))) names ≡ true
+  pub among : Contains names name
+  pub first : All (λ other. is_lt (slice_cmp nat_cmp other name) ≡ false) names

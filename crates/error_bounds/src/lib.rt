@@ -10,6 +10,7 @@ mod places;
 mod read;
 mod satellites;
 mod search;
+mod search_box;
 mod settings;
 mod signals;
 mod tables;

@@ -8,7 +8,7 @@ ghost use Rattle.error_bounds.specs.Scopes.{knows, prefix_of, printed_in};
 
 use crate::fault::{Fault, SettingsError, SettingsFault};
 use std::alloc::{AllocError, Global};
-use toml::{Table, Value};
+use toml::Table;
 
 /// Where names stand: in the root of a tree, or in one of its tables.
 #[derive(Clone, Copy)]
@@ -125,7 +125,10 @@ fn add_unknown_in(
 ) -> Result<(), AllocError>
     ensures { OnOk result (map string_bytes names.new.items ≡ map string_bytes names.old.items ++ strangers (knows scope) (printed_in scope) (members_at table.now (table_view tree.now))) }
 {
-    match tree.get(table).and_then(Value::as_table) {
+    let Some(value) = tree.get(table) else {
+        return Ok(());
+    };
+    match value.as_table() {
         Some(members) => add_unknown(alloc, names, scope, members),
         None => Ok(()),
     }

@@ -1,11 +1,11 @@
 //! The centre of the search box and its half sides.
 
-ghost use Rattle.std.specs.Prelude.{◌≡◌, codes};
+ghost use Rattle.std.specs.Prelude.{◌≡◌, [], ◌∷◌, codes, IfOk};
 ghost use Rattle.sat_model.specs.Sizes.{IsWithin};
 ghost use Rattle.toml.specs.View.{view};
-ghost use Rattle.error_bounds.specs.Forms.{place, half_sides, um, is_half, is_coordinate, is_text, right};
+ghost use Rattle.error_bounds.specs.Forms.{place, half_sides, three, um, is_half, is_coordinate, is_text, right};
 ghost use Rattle.error_bounds.specs.Reading.{AreThree};
-ghost use Rattle.error_bounds.specs.Sizes.{IsCentre, AreHalfSides};
+ghost use Rattle.error_bounds.specs.Sizes.{IsNearEarth, IsCentre, AreHalfSides};
 
 use crate::fault::Fault;
 use crate::form::{Form, are_integers, is_within};
@@ -38,11 +38,13 @@ impl Form for Place {
         if let Some(text) = value.as_str() {
             return header(text);
         }
-        let (x, y, z) = three(value)?;
-        if is_coordinate(x) && is_coordinate(y) && is_coordinate(z) {
-            Ok(Centre::At(in_um(x, y, z)))
-        } else {
-            Err(Fault::Outside)
+        let (x, y, z) = match three(value) {
+            Ok(numbers) => numbers,
+            Err(fault) => return Err(fault),
+        };
+        match point(x, y, z) {
+            Ok(p) => Ok(Centre::At(p)),
+            Err(fault) => Err(fault),
         }
     }
 }
@@ -55,14 +57,12 @@ impl Form for HalfSides {
     ghost allows = { λ form half. AreHalfSides half };
 
     fn read(&self, value: &Value) -> Result<Pos, Fault> {
-        let (x, y, z) = match value.as_integer() {
-            Some(n) => (n, n, n),
-            None => three(value)?,
-        };
-        if is_half(x) && is_half(y) && is_half(z) {
-            Ok(in_um(x, y, z))
-        } else {
-            Err(Fault::Outside)
+        if let Some(n) = value.as_integer() {
+            return halves(n, n, n);
+        }
+        match three(value) {
+            Ok((x, y, z)) => halves(x, y, z),
+            Err(fault) => Err(fault),
         }
     }
 }
@@ -97,11 +97,28 @@ fn three(value: &Value) -> Result<(i64, i64, i64), Fault>
     }
 }
 
-/// Whether a coordinate is within 8,500 km.
-fn is_coordinate(n: i64) -> bool
-    ensures { result ≡ is_coordinate n }
+/// The point with these coordinates in mm, each within 8,500 km.
+fn point(x: i64, y: i64, z: i64) -> Result<Pos, Fault>
+    ensures value { result ≡ three is_coordinate (x ∷ y ∷ z ∷ []) }
+    ensures near { IfOk result IsNearEarth }
 {
-    is_within(MAX_COORDINATE, n)
+    if is_within(MAX_COORDINATE, x) && is_within(MAX_COORDINATE, y) && is_within(MAX_COORDINATE, z) {
+        Ok(in_um(x, y, z))
+    } else {
+        Err(Fault::Outside)
+    }
+}
+
+/// The half sides of these lengths in mm, each from 1 mm to 100 km.
+fn halves(x: i64, y: i64, z: i64) -> Result<Pos, Fault>
+    ensures value { result ≡ three is_half (x ∷ y ∷ z ∷ []) }
+    ensures allowed { IfOk result AreHalfSides }
+{
+    if is_half(x) && is_half(y) && is_half(z) {
+        Ok(in_um(x, y, z))
+    } else {
+        Err(Fault::Outside)
+    }
 }
 
 /// Whether a half side is from 1 mm to 100 km.

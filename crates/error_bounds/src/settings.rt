@@ -3,6 +3,7 @@
 ghost use Rattle.std.specs.Prelude.{◌≡◌, ◌≤◌, true};
 ghost use Rattle.error_bounds.specs.Sizes.{IsCentre, AreHalfSides, IsSumOfFour, IsDeclared, IsAscending, are_codes, AreDeclared};
 
+use crate::search_box::box_around;
 use sat_model::{Box3, Pos, Rules, Sat, Signal, Span};
 
 /// Where the middle of the search box is.
@@ -65,7 +66,7 @@ impl Settings {
                 return entry.1;
             }
         }
-        Span::default()
+        Span { lo: 0, hi: 0 }
     }
 
     /// The search box: the centre plus and minus the half sides. Where the centre is that of the
@@ -74,21 +75,9 @@ impl Settings {
         requires { IsEnough self.now.centre header }
         ensures { IsRoot (centre_with header self.now.centre) self.now.half (grid_box result) }
     {
-        let centre = match self.centre {
-            Centre::At(point) => point,
-            Centre::Header => header.unwrap(),
-        };
-        Box3 {
-            lo: Pos {
-                x: centre.x - self.half.x,
-                y: centre.y - self.half.y,
-                z: centre.z - self.half.z,
-            },
-            hi: Pos {
-                x: centre.x + self.half.x,
-                y: centre.y + self.half.y,
-                z: centre.z + self.half.z,
-            },
+        match self.centre {
+            Centre::At(point) => box_around(point, self.half),
+            Centre::Header => box_around(header.unwrap(), self.half),
         }
     }
 }

@@ -1,11 +1,11 @@
 //! The tables whose keys have to be there.
 
-ghost use Rattle.std.specs.Prelude.{◌≡◌, ◌≤◌, true, None, Ok, IfOk, IfErr, OnOk};
+ghost use Rattle.std.specs.Prelude.{◌≡◌, ℕ, ◌+◌, ◌≤◌, true, None, Ok, IfOk, IfErr, OnOk};
 ghost use Rattle.sat_model.specs.Relaxed.{ends};
 ghost use Rattle.toml.specs.View.{table_view};
 ghost use Rattle.error_bounds.specs.Keys.{value_of, codes_key, search_tests, signal_tests, bounds_tests, first_found};
 ghost use Rattle.error_bounds.specs.Reading.{IsSearch, IsCommon, TellsFirst};
-ghost use Rattle.error_bounds.specs.Sizes.{IsDeclared, IsSumOfFour, are_codes};
+ghost use Rattle.error_bounds.specs.Sizes.{IsDeclared, IsSpanWithin, IsSumOfFour, are_codes};
 ghost use Rattle.error_bounds.specs.Texts.{add};
 
 use crate::fault::SettingsFault;
@@ -72,20 +72,20 @@ pub fn read_bounds(tree: &Table) -> Result<Span, SettingsFault>
     let orbit_clock = required(tree, "bounds", "orbit_clock", &Errors)?;
     let ionosphere = required(tree, "bounds", "ionosphere", &Errors)?;
     let troposphere = required(tree, "bounds", "troposphere", &Errors)?;
-    Ok(sum_of(receiver, orbit_clock, ionosphere, troposphere))
+    let common = sum(receiver, orbit_clock);
+    let common = sum(common, ionosphere);
+    Ok(sum(common, troposphere))
 }
 
-/// The sum of four spans.
-fn sum_of(a: Span, b: Span, c: Span, d: Span) -> Span
-    requires a_within { IsDeclared a }
+/// The sum of two spans.
+fn sum(a: Span, b: Span) -> Span
+    requires a_within { IsSpanWithin 3000000000 a }
     requires b_within { IsDeclared b }
-    requires c_within { IsDeclared c }
-    requires d_within { IsDeclared d }
-    ensures value { ends result ≡ add (add (add (ends a) (ends b)) (ends c)) (ends d) }
-    ensures within { IsSumOfFour result }
+    ensures value { ends result ≡ add (ends a) (ends b) }
+    ensures within { (n : ℕ) → IsSpanWithin n a → IsSpanWithin (n + 1000000000) result }
 {
     Span {
-        lo: a.lo + b.lo + c.lo + d.lo,
-        hi: a.hi + b.hi + c.hi + d.hi,
+        lo: a.lo + b.lo,
+        hi: a.hi + b.hi,
     }
 }

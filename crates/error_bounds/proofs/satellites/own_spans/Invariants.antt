@@ -1,0 +1,19 @@
+use Rattle.std.proofs.Common.{◌≡◌, ◌++◌, ◌-◌, ◌<◌, None, Ok, map}
+use Rattle.std.specs.List.{All, range_with_len, filter_map}
+use Rattle.toml.specs.View.{table_view}
+use Rattle.error_bounds.specs.Keys.{first_found, test_optional, satellite, satellite_tests_in, optional}
+use Rattle.error_bounds.specs.Reading.{with_ends}
+use Rattle.error_bounds.specs.Sizes.{AreDeclared, IsAscending}
+use Rattle.error_bounds.specs.Texts.{extra_of, extra_in}
+use Rattle.error_bounds.proofs.satellites.own_spans.Given as goal
+
+abbrev pub invariant-numbers : goal.invariant-numbers
+invariant-numbers l = record {
+  tests : first_found (map (λ number. test_optional (table_view l.members) (satellite number)) (range_with_len l.number (100 - l.number)))
+      ≡ first_found (satellite_tests_in (Ok (table_view l.members)));
+  extra : with_ends l.spans.items ++ filter_map (λ number. extra_of number (optional (satellite number) (table_view l.members))) (range_with_len l.number (100 - l.number))
+      ≡ extra_in (Ok (table_view l.members));
+  within : AreDeclared l.spans.items;
+  once : IsAscending l.spans.items;
+  below : All (λ e. e.0.number < l.number) l.spans.items;
+}
