@@ -1,0 +1,114 @@
+-- The forms over values as the code holds them.
+use Rattle.std.proofs.Common.{◌≡◌, ℕ, ◌+◌, ◌<◌, ℤ, pos, negsuc, ◌≤ℤ◌, ◌*ℤ◌, Bool, true, false, List, [], ◌∷◌, length, get_or, drop, is_some, suc, Option, Some, None, option_map, option_and_then, Result, Err, refl, sym, ap, ◌∙◌, ◌≢◌, arith}
+use Rattle.std.proofs.lemmas.Bool.{and_parts, false≢true}
+use Rattle.std.proofs.lemmas.Int.{ints}
+use Rattle.sat_model.specs.Sizes.{IsWithin}
+use Rattle.sat_model.specs.declared.boxes.Pos.{Pos}
+use Rattle.toml.specs.Data.{Data, Items, no_items, item}
+use Rattle.toml.specs.View.{view, items_view}
+use Rattle.toml.specs.declared.value.Value.{Value}
+use Rattle.toml.proofs.Views.{items_view-drop}
+use Rattle.std.proofs.lemmas.Option.{same_Some, none-some}
+use Rattle.error_bounds.specs.Forms.{all_members, of_kind, ends_of, three, codes_for, is_from, um}
+use Rattle.error_bounds.specs.declared.fault.Fault.{Fault}
+use Rattle.error_bounds.specs.Sizes.{IsHalfSide}
+use Rattle.error_bounds.specs.declared.fault.Fault.TheVariants.{Outside}
+use Rattle.error_bounds.specs.declared.signals.Mode.TheVariants as mode
+use lib.Signed.{le_z}
+
+pub same_pos : (x y z a b c : ℤ) → x ≡ a → y ≡ b → z ≡ c → ◌≡◌ {A = Pos} (record { x = x; y = y; z = z }) (record { x = a; y = b; z = c })
+same_pos x y z a b c e f g = cc
+
+pub same_pair : (a b c d : ℤ) → a ≡ c → b ≡ d → ◌≡◌ {A = ℤ × ℤ} (a, b) (c, d)
+same_pair a b c d e f = cc
+
+pub from_between : (lo hi n : ℤ) → is_from lo hi n ≡ true → (lo ≤ℤ n) × (n ≤ℤ hi)
+from_between lo hi n h =
+    let (low, high) = and_parts (le_z lo n) (le_z n hi) h in
+    (omega (arith, ints, low), omega (arith, ints, high))
+
+-- ---- lists whose members are all of one kind
+
+map_is_some : {A B : Type 0} (f : A → B) (o : Option A) → is_some (option_map f o) ≡ is_some o
+map_is_some f None = refl
+map_is_some f (Some x) = refl
+
+kind_there : {V : Type 0} (kind : Data → Option V) (o : Option V) (more : Items) → is_some o ≡ true
+    → is_some (option_and_then (λ v. option_map (λ vs. v ∷ vs) (all_members kind more)) o) ≡ is_some (all_members kind more)
+kind_there kind None more h = absurd (false≢true h)
+kind_there kind (Some v) more h = map_is_some (λ vs. v ∷ vs) (all_members kind more)
+
+kind_absent : {V : Type 0} (kind : Data → Option V) (o : Option V) (more : Items) → is_some o ≡ false
+    → is_some (option_and_then (λ v. option_map (λ vs. v ∷ vs) (all_members kind more)) o) ≡ false
+kind_absent kind None more h = refl
+kind_absent kind (Some v) more h = absurd (false≢true (sym h))
+
+pub members_step : {V : Type 0} (kind : Data → Option V) (vs : List Value) (i : ℕ) (x : Value) → i < length vs → get_or vs i x ≡ x → is_some (kind (view x)) ≡ true
+    → is_some (all_members kind (items_view (drop i vs))) ≡ is_some (all_members kind (items_view (drop (i + 1) vs)))
+members_step kind vs i x h at there = rw (items_view-drop vs i x h, at) (kind_there kind (kind (view x)) _ there)
+
+pub members_stop : {V : Type 0} (kind : Data → Option V) (vs : List Value) (i : ℕ) (x : Value) → i < length vs → get_or vs i x ≡ x → is_some (kind (view x)) ≡ false
+    → is_some (all_members kind (items_view (drop i vs))) ≡ false
+members_stop kind vs i x h at absent = rw (items_view-drop vs i x h, at) (kind_absent kind (kind (view x)) _ absent)
+
+members_long : {V : Type 0} (kind : Data → Option V) (vs : List Value) (ns : List V) → all_members kind (items_view vs) ≡ Some ns → length ns ≡ length vs
+members_long kind [] ns h = rw (← same_Some _ _ h) refl
+members_long {V} kind (v ∷ vs) ns h = longer (kind (view v)) (all_members kind (items_view vs)) ns h (members_long kind vs)
+  where
+    longer : (o : Option V) (more : Option (List V)) (ns : List V) → option_and_then (λ v. option_map (λ vs. v ∷ vs) more) o ≡ Some ns → ((ms : List V) → more ≡ Some ms → length ms ≡ length vs) → length ns ≡ suc (length vs)
+    longer None more ns h ih = absurd (none-some ns h)
+    longer (Some x) None ns h ih = absurd (none-some ns h)
+    longer (Some x) (Some ms) ns h ih = rw (← same_Some _ _ h) (ap suc (ih ms refl))
+
+-- a list of another length
+pub others_outside : {V W : Type 0} (kind : Data → Option V) (form : List V → Result W Fault) (n : ℕ) (vs : List Value)
+    → ((ns : List V) → (length ns ≢ n) → form ns ≡ Err Outside) → (length vs ≢ n) → true ≡ is_some (all_members kind (items_view vs))
+    → Err Outside ≡ of_kind (all_members kind (items_view vs)) form
+others_outside {V} {W} kind form n vs outside other there = by_members (all_members kind (items_view vs)) (members_long kind vs) there
+  where
+    by_members : (o : Option (List V)) → ((ns : List V) → o ≡ Some ns → length ns ≡ length vs) → true ≡ is_some o → Err Outside ≡ of_kind o form
+    by_members None long there = absurd (false≢true (sym there))
+    by_members (Some ns) long there = sym (outside ns (λ e. other (sym (long ns refl) ∙ e)))
+
+pub not_two : (ns : List ℤ) → (length ns ≢ 2) → ends_of ns ≡ Err Outside
+not_two [] other = refl
+not_two (x ∷ []) other = refl
+not_two (x ∷ y ∷ []) other = absurd (other refl)
+not_two (x ∷ y ∷ z ∷ ns) other = refl
+
+pub not_three : (passes : ℤ → Bool) (ns : List ℤ) → (length ns ≢ 3) → three passes ns ≡ Err Outside
+not_three passes [] other = refl
+not_three passes (x ∷ []) other = refl
+not_three passes (x ∷ y ∷ []) other = refl
+not_three passes (x ∷ y ∷ z ∷ []) other = absurd (other refl)
+not_three passes (x ∷ y ∷ z ∷ w ∷ ns) other = refl
+
+pub not_one_code : (ns : List (List ℕ)) → (length ns ≢ 1) → codes_for mode.Single ns ≡ Err Outside
+not_one_code [] other = refl
+not_one_code (x ∷ []) other = absurd (other refl)
+not_one_code (x ∷ y ∷ ns) other = refl
+
+pub not_two_codes : (ns : List (List ℕ)) → (length ns ≢ 2) → codes_for mode.Dual ns ≡ Err Outside
+not_two_codes [] other = refl
+not_two_codes (x ∷ []) other = refl
+not_two_codes (x ∷ y ∷ []) other = absurd (other refl)
+not_two_codes (x ∷ y ∷ z ∷ ns) other = refl
+
+pub two_members : {V : Type 0} (kind : Data → Option V) (vs : List Value) (a b : Value) (x y : V) → length vs ≡ 2 → a ≡ get_or vs 0 a → b ≡ get_or vs 1 b
+    → kind (view a) ≡ Some x → kind (view b) ≡ Some y → all_members kind (items_view vs) ≡ Some (x ∷ y ∷ [])
+two_members kind [] a b x y l ia ib fa fb = absurd (omega (arith, l))
+two_members kind (u ∷ []) a b x y l ia ib fa fb = absurd (omega (arith, l))
+two_members kind (u ∷ v ∷ []) a b x y l ia ib fa fb = rw (← ia, ← ib, fa, fb) refl
+two_members kind (u ∷ v ∷ w ∷ vs) a b x y l ia ib fa fb = absurd (omega (arith, l))
+
+-- ---- sizes
+
+pub half_of : (n m : ℤ) → is_from (pos 1) (pos 100000000) n ≡ true → m ≡ n *ℤ pos 1000 → IsHalfSide m
+half_of n m h e =
+    let (low, high) = from_between (pos 1) (pos 100000000) n h in
+    record { low = omega (arith, ints, low, e); high = omega (arith, ints, high, e) }
+
+pub coordinate_of : (n m : ℤ) → is_from (negsuc 8499999999) (pos 8500000000) n ≡ true → m ≡ n *ℤ pos 1000 → IsWithin 8500000000000 m
+coordinate_of n m h e =
+    let (low, high) = from_between (negsuc 8499999999) (pos 8500000000) n h in
+    record { low = omega (arith, ints, low, e); high = omega (arith, ints, high, e) }

@@ -1,0 +1,6 @@
+pub mod FormLemmas
+pub mod SettingsLemmas
+pub mod KeyLemmas
+pub mod NameLemmas
+pub mod TreeLemmas
+pub mod OnlyLemmas

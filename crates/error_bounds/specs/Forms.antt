@@ -1,0 +1,113 @@
+-- What a value in the tree of the text has to be: first its kind, then what is read from it.
+-- Lengths stand in mm in the text and are read in um.
+use Rattle.std.specs.Prelude.{ℕ, ◌+◌, ℤ, pos, neg_ℤ, ◌*ℤ◌, unsigned_abs, nat_eq, Bool, true, false, ◌&&◌, if◌then◌else◌, codes, List, [], ◌∷◌, Option, None, Some, option_map, option_and_then, Result, Ok, Err}
+use lib.Pointwise.{pointwise}
+use lib.Signed.{le_z}
+use Rattle.sat_model.specs.declared.boxes.Pos.{Pos}
+use Rattle.sat_model.specs.declared.satellites.Signal.{Signal}
+use Rattle.sat_model.specs.declared.satellites.Signal.TheVariants as signal
+use Rattle.toml.specs.Data.{Data, Items, no_items, item, as_str, as_integer, as_array}
+use Rattle.error_bounds.specs.Sizes.{is_code}
+use Rattle.error_bounds.specs.declared.fault.Fault.{Fault}
+use Rattle.error_bounds.specs.declared.fault.Fault.TheVariants.{WrongKind, Outside}
+use Rattle.error_bounds.specs.declared.signals.Mode.{Mode}
+use Rattle.error_bounds.specs.declared.signals.Mode.TheVariants as mode
+use Rattle.error_bounds.specs.declared.settings.Centre.{Centre}
+use Rattle.error_bounds.specs.declared.settings.Centre.TheVariants as centre
+
+-- ---- kinds and ranges
+
+-- a value of a kind, or another form
+abbrev pub or_form : {V W : Type 0} → Option V → (V → Result W Fault) → Result W Fault → Result W Fault
+or_form None form other = other
+or_form (Some v) form other = form v
+
+-- a value of a kind
+abbrev pub of_kind : {V W : Type 0} → Option V → (V → Result W Fault) → Result W Fault
+of_kind kind form = or_form kind form (Err WrongKind)
+
+-- a value that is right
+abbrev pub right : {V : Type 0} → Bool → V → Result V Fault
+right true v = Ok v
+right false v = Err Outside
+
+abbrev pub is_from : ℤ → ℤ → ℤ → Bool
+is_from lo hi n = le_z lo n && le_z n hi
+
+abbrev pub is_within : ℕ → ℤ → Bool
+is_within n z = is_from (neg_ℤ (pos n)) (pos n) z
+
+abbrev pub is_text : List ℕ → List ℕ → Bool
+is_text a b = pointwise nat_eq a b
+
+abbrev pub um : ℤ → ℤ
+um mm = mm *ℤ pos 1000
+
+-- the members of a list, where all are of one kind
+abbrev pub all_members : {V : Type 0} → (Data → Option V) → Items → Option (List V)
+all_members kind no_items = Some []
+all_members kind (item d more) = option_and_then (λ v. option_map (λ vs. v ∷ vs) (all_members kind more)) (kind d)
+
+abbrev pub as_list_of : {V : Type 0} → (Data → Option V) → Data → Option (List V)
+as_list_of kind d = option_and_then (all_members kind) (as_array d)
+
+-- ---- one definition a form
+
+-- a whole number from `lo` to `hi`
+abbrev pub count : ℕ → ℕ → Data → Result ℕ Fault
+count lo hi d = of_kind (as_integer d) (λ n. right (is_from (pos lo) (pos hi) n) (unsigned_abs n))
+
+-- a length from `lo` to `hi` mm
+abbrev pub length_from : ℕ → ℕ → Data → Result ℤ Fault
+length_from lo hi d = of_kind (as_integer d) (λ n. right (is_from (pos lo) (pos hi) n) (um n))
+
+-- `[lo, hi]`, amounts of at most 1 km
+abbrev pub ends_of : List ℤ → Result (ℤ × ℤ) Fault
+ends_of (lo ∷ hi ∷ []) = right ((is_within 1000000 lo && is_within 1000000 hi) && le_z lo hi) (um lo, um hi)
+ends_of _ = Err Outside
+
+abbrev pub errors : Data → Result (ℤ × ℤ) Fault
+errors d = of_kind (as_list_of as_integer d) ends_of
+
+-- three lengths that pass one test
+abbrev pub three : (ℤ → Bool) → List ℤ → Result Pos Fault
+three passes (x ∷ y ∷ z ∷ []) = right ((passes x && passes y) && passes z) (record { x = um x; y = um y; z = um z })
+three passes _ = Err Outside
+
+abbrev pub is_coordinate : ℤ → Bool
+is_coordinate n = is_within 8500000000 n
+
+abbrev pub is_half : ℤ → Bool
+is_half n = is_from (pos 1) (pos 100000000) n
+
+-- `"header"`, or three coordinates
+abbrev pub at : Result Pos Fault → Result Centre Fault
+at (Ok p) = Ok (centre.At p)
+at (Err e) = Err e
+
+abbrev pub place : Data → Result Centre Fault
+place d =
+    or_form (as_str d) (λ text. right (is_text text (codes "header")) centre.Header)
+    (at (of_kind (as_list_of as_integer d) (three is_coordinate)))
+
+-- one half side for all three axes, or one each
+abbrev pub half_sides : Data → Result Pos Fault
+half_sides d =
+    or_form (as_integer d) (λ n. three is_half (n ∷ n ∷ n ∷ []))
+    (of_kind (as_list_of as_integer d) (three is_half))
+
+-- `"single"` or `"dual"`
+abbrev pub mode_word : Data → Result Mode Fault
+mode_word d =
+    of_kind (as_str d) (λ text.
+    if is_text text (codes "single") then Ok mode.Single
+    else right (is_text text (codes "dual")) mode.Dual)
+
+-- one code in single mode, and two in dual mode
+abbrev pub codes_for : Mode → List (List ℕ) → Result Signal Fault
+codes_for mode.Single (code ∷ []) = right (is_code 49 code) (signal.Single code)
+codes_for mode.Dual (first ∷ second ∷ []) = right (is_code 49 first && is_code 50 second) (signal.Dual first second)
+codes_for _ _ = Err Outside
+
+abbrev pub code_list : Mode → Data → Result Signal Fault
+code_list which d = of_kind (as_list_of as_str d) (codes_for which)

@@ -1,0 +1,179 @@
+-- The keys of the settings, in the order in which they are tested.
+use Rattle.std.specs.Prelude.{ℕ, ◌+◌, ◌-◌, ◌/◌, ◌%◌, ℤ, codes, List, [], ◌∷◌, ◌++◌, map, Option, None, Some, ok_or, Result, Ok, Err}
+use Rattle.std.specs.List.{range_with_len}
+use Rattle.sat_model.specs.declared.boxes.Pos.{Pos}
+use Rattle.sat_model.specs.declared.satellites.Signal.{Signal}
+use Rattle.toml.specs.Data.{Data, Members, no_members, get_member, as_table}
+use Rattle.error_bounds.specs.Faults.{Found}
+use Rattle.error_bounds.specs.Forms.{count, length_from, errors, place, half_sides, mode_word, code_list}
+use Rattle.error_bounds.specs.declared.fault.Fault.{Fault}
+use Rattle.error_bounds.specs.declared.fault.Fault.TheVariants.{Missing, WrongKind}
+use Rattle.error_bounds.specs.declared.signals.Mode.{Mode}
+use Rattle.error_bounds.specs.declared.signals.Mode.TheVariants.{Single}
+use Rattle.error_bounds.specs.declared.settings.Centre.{Centre}
+
+-- ---- what a key is
+
+-- a key: its table, its own name, and what its value has to be
+pub record Key (V : Type 0) : Type 0 where
+  pub table : List ℕ
+  pub name : List ℕ
+  pub form : Data → Result V Fault
+
+-- the name of a key as it is printed: its table, a dot and its own name
+abbrev pub dotted : List ℕ → List ℕ → List ℕ
+dotted table name = table ++ 46 ∷ name
+
+abbrev pub printed : {V : Type 0} → Key V → List ℕ
+printed key = dotted key.table key.name
+
+-- what stands at a key of a tree: its table comes first, then what the table has there
+abbrev pub data_under : List ℕ → Option Members → Result Data Fault
+data_under name None = Err WrongKind
+data_under name (Some members) = ok_or (get_member name members) Missing
+
+abbrev pub data_from : List ℕ → Option Data → Result Data Fault
+data_from name None = Err Missing
+data_from name (Some d) = data_under name (as_table d)
+
+abbrev pub data_at : List ℕ → List ℕ → Members → Result Data Fault
+data_at table name tree = data_from name (get_member table tree)
+
+-- what is read at it
+abbrev pub in_form : {V : Type 0} → (Data → Result V Fault) → Result Data Fault → Result V Fault
+in_form form (Ok d) = form d
+in_form form (Err fault) = Err fault
+
+abbrev pub value_of : {V : Type 0} → Key V → Members → Result V Fault
+value_of key tree = in_form key.form (data_at key.table key.name tree)
+
+-- ---- the table of keys
+
+abbrev pub centre : Key Centre
+centre = record { table = codes "search"; name = codes "centre"; form = place }
+
+abbrev pub half : Key Pos
+half = record { table = codes "search"; name = codes "half"; form = half_sides }
+
+abbrev pub outliers : Key ℕ
+outliers = record { table = codes "search"; name = codes "outliers"; form = count 0 8 }
+
+abbrev pub bisections : Key ℕ
+bisections = record { table = codes "search"; name = codes "bisections"; form = count 0 200000 }
+
+abbrev pub width : Key ℤ
+width = record { table = codes "search"; name = codes "width"; form = length_from 1 10000000 }
+
+abbrev pub max_age : Key ℕ
+max_age = record { table = codes "search"; name = codes "max_age"; form = count 1 14400 }
+
+abbrev pub signal_mode : Key Mode
+signal_mode = record { table = codes "signal"; name = codes "mode"; form = mode_word }
+
+abbrev pub signal_codes : Mode → Key Signal
+signal_codes mode = record { table = codes "signal"; name = codes "codes"; form = code_list mode }
+
+abbrev pub bound : List ℕ → Key (ℤ × ℤ)
+bound name = record { table = codes "bounds"; name = name; form = errors }
+
+abbrev pub receiver : Key (ℤ × ℤ)
+receiver = bound (codes "receiver")
+
+abbrev pub orbit_clock : Key (ℤ × ℤ)
+orbit_clock = bound (codes "orbit_clock")
+
+abbrev pub ionosphere : Key (ℤ × ℤ)
+ionosphere = bound (codes "ionosphere")
+
+abbrev pub troposphere : Key (ℤ × ℤ)
+troposphere = bound (codes "troposphere")
+
+-- `G01` to `G99`
+abbrev pub satellite_name : ℕ → List ℕ
+satellite_name number = 71 ∷ (48 + number / 10) ∷ (48 + number % 10) ∷ []
+
+abbrev pub satellite : ℕ → Key (ℤ × ℤ)
+satellite number = record { table = codes "satellite"; name = satellite_name number; form = errors }
+
+-- the numbers from one up to 99
+unfoldable pub numbers_from : ℕ → List ℕ
+numbers_from number = range_with_len number (100 - number)
+
+abbrev pub satellite_numbers : List ℕ
+satellite_numbers = numbers_from 1
+
+-- ---- their tests
+
+-- a printed name, and the fault that is found there
+pub record Test : Type 0 where
+  pub key : List ℕ
+  pub fault : Option Fault
+
+abbrev pub fault_in : {V : Type 0} → Result V Fault → Option Fault
+fault_in (Ok v) = None
+fault_in (Err fault) = Some fault
+
+-- a key that has to be there
+abbrev pub test : {V : Type 0} → Key V → Members → Test
+test key tree = record { key = printed key; fault = fault_in (value_of key tree) }
+
+-- the codes go by the mode; where that has a fault of its own, it comes first
+abbrev pub mode_or_single : Result Mode Fault → Mode
+mode_or_single (Ok mode) = mode
+mode_or_single (Err fault) = Single
+
+abbrev pub codes_key : Members → Key Signal
+codes_key tree = signal_codes (mode_or_single (value_of signal_mode tree))
+
+abbrev pub search_tests : Members → List Test
+search_tests tree =
+    test centre tree ∷ test half tree ∷ test outliers tree ∷ test bisections tree ∷ test width tree ∷ test max_age tree ∷ []
+
+abbrev pub signal_tests : Members → List Test
+signal_tests tree = test signal_mode tree ∷ test (codes_key tree) tree ∷ []
+
+abbrev pub bounds_tests : Members → List Test
+bounds_tests tree = test receiver tree ∷ test orbit_clock tree ∷ test ionosphere tree ∷ test troposphere tree ∷ []
+
+-- what is read at a key that may be absent from its table
+abbrev pub some_of : {V : Type 0} → Result V Fault → Result (Option V) Fault
+some_of (Ok v) = Ok (Some v)
+some_of (Err fault) = Err fault
+
+abbrev pub optional_in : {V : Type 0} → Key V → Option Data → Result (Option V) Fault
+optional_in key None = Ok None
+optional_in key (Some d) = some_of (key.form d)
+
+abbrev pub optional : {V : Type 0} → Key V → Members → Result (Option V) Fault
+optional key members = optional_in key (get_member key.name members)
+
+abbrev pub test_optional : {V : Type 0} → Members → Key V → Test
+test_optional members key = record { key = printed key; fault = fault_in (optional key members) }
+
+-- the table of the satellites may be absent too
+abbrev pub satellites_in : Option Data → Result Members Fault
+satellites_in None = Ok no_members
+satellites_in (Some d) = ok_or (as_table d) WrongKind
+
+abbrev pub satellites : Members → Result Members Fault
+satellites tree = satellites_in (get_member (codes "satellite") tree)
+
+abbrev pub satellite_tests_in : Result Members Fault → List Test
+satellite_tests_in (Ok members) = map (λ number. test_optional members (satellite number)) satellite_numbers
+satellite_tests_in (Err fault) = record { key = codes "satellite"; fault = Some fault } ∷ []
+
+abbrev pub satellite_tests : Members → List Test
+satellite_tests tree = satellite_tests_in (satellites tree)
+
+-- all of them
+abbrev pub tests : Members → List Test
+tests tree = search_tests tree ++ (signal_tests tree ++ (bounds_tests tree ++ satellite_tests tree))
+
+-- the first of them that finds a fault
+abbrev pub first_or : Option Fault → List ℕ → Option Found → Option Found
+first_or None key later = later
+first_or (Some fault) key later = Some (record { fault = fault; key = key })
+
+abbrev pub first_found : List Test → Option Found
+first_found [] = None
+first_found (t ∷ more) = first_or t.fault t.key (first_found more)

@@ -1,0 +1,26 @@
+-- The walk over the names of a tree. No public clause cites this.
+use Rattle.std.specs.Prelude.{ℕ, Bool, codes, List, [], ◌∷◌, ◌++◌}
+use Rattle.std.specs.List.{list_any}
+use Rattle.error_bounds.specs.Forms.{is_text}
+use Rattle.error_bounds.specs.Names.{is_table, is_satellite}
+use Rattle.error_bounds.specs.declared.names.Scope.{Scope}
+use Rattle.error_bounds.specs.declared.names.Scope.TheVariants as scope
+
+abbrev pub knows : Scope → List ℕ → Bool
+knows scope.Root name = is_table name
+knows scope.Search name =
+    list_any (is_text name) (codes "centre" ∷ codes "half" ∷ codes "outliers" ∷ codes "bisections" ∷ codes "width" ∷ codes "max_age" ∷ [])
+knows scope.Signal name = list_any (is_text name) (codes "mode" ∷ codes "codes" ∷ [])
+knows scope.Bounds name =
+    list_any (is_text name) (codes "receiver" ∷ codes "orbit_clock" ∷ codes "ionosphere" ∷ codes "troposphere" ∷ [])
+knows scope.Satellite name = is_satellite name
+
+abbrev pub prefix_of : Scope → List ℕ
+prefix_of scope.Root = []
+prefix_of scope.Search = codes "search."
+prefix_of scope.Signal = codes "signal."
+prefix_of scope.Bounds = codes "bounds."
+prefix_of scope.Satellite = codes "satellite."
+
+abbrev pub printed_in : Scope → List ℕ → List ℕ
+printed_in place name = prefix_of place ++ name

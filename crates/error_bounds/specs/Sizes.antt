@@ -1,0 +1,65 @@
+-- What each value of the settings keeps to. Lengths are in um.
+use Rattle.std.specs.Prelude.{◌≡◌, ℕ, ◌<◌, ℤ, pos, Bool, true, false, ◌&&◌, ◌==◌, nat_le, List, [], ◌∷◌, length, ◌≤ℤ◌, slice_index_or}
+use Rattle.std.specs.List.{All}
+use Rattle.sat_model.specs.Sizes.{IsWithin}
+use Rattle.sat_model.specs.declared.boxes.Pos.{Pos}
+use Rattle.sat_model.specs.declared.satellites.Sat.{Sat}
+use Rattle.sat_model.specs.declared.satellites.Signal.{Signal}
+use Rattle.sat_model.specs.declared.satellites.Signal.TheVariants.{Single, Dual}
+use Rattle.sat_model.specs.declared.spans.Span.{Span}
+use Rattle.error_bounds.specs.declared.settings.Centre.{Centre}
+use Rattle.error_bounds.specs.declared.settings.Centre.TheVariants.{Header, At}
+
+-- a point within 8,500 km of the origin on each axis
+pub record IsNearEarth (p : Pos) : Type 0 where
+  pub x : IsWithin 8500000000000 p.x
+  pub y : IsWithin 8500000000000 p.y
+  pub z : IsWithin 8500000000000 p.z
+
+-- the centre, where it is a point
+pub record IsCentre (centre : Centre) : Type 0 where
+  pub near : (p : Pos) → centre ≡ At p → IsNearEarth p
+
+-- from 1 mm to 100 km
+pub record IsHalfSide (z : ℤ) : Type 0 where
+  pub low : pos 1000 ≤ℤ z
+  pub high : z ≤ℤ pos 100000000000
+
+pub record AreHalfSides (half : Pos) : Type 0 where
+  pub x : IsHalfSide half.x
+  pub y : IsHalfSide half.y
+  pub z : IsHalfSide half.z
+
+-- both ends of one declared span are within 1 km, and those of a sum of four within 4 km
+pub record IsSpanWithin (n : ℕ) (s : Span) : Type 0 where
+  pub lo : IsWithin n s.lo
+  pub hi : IsWithin n s.hi
+
+abbrev pub IsDeclared : Span → Type 0
+IsDeclared s = IsSpanWithin 1000000000 s
+
+abbrev pub IsSumOfFour : Span → Type 0
+IsSumOfFour s = IsSpanWithin 4000000000 s
+
+-- the letters from A to Z
+abbrev pub is_capital : ℕ → Bool
+is_capital byte = nat_le 65 byte && nat_le byte 90
+
+-- `C`, the digit of a band and a capital letter: the code of a pseudorange (RINEX 3, table A2)
+abbrev pub is_code : ℕ → List ℕ → Bool
+is_code band (kind ∷ digit ∷ letter ∷ []) = kind == 67 && (digit == band && is_capital letter)
+is_code band _ = false
+
+-- one code of the first band, or one of the first and one of the second
+abbrev pub are_codes : Signal → Bool
+are_codes (Single code) = is_code 49 code
+are_codes (Dual first second) = is_code 49 first && is_code 50 second
+
+-- each satellite's own span is a declared one
+abbrev pub AreDeclared : List (Sat × Span) → Type 0
+AreDeclared extra = All (λ e. IsDeclared e.1) extra
+
+-- earlier satellites have lower numbers, and so none is listed twice
+abbrev pub IsAscending : List (Sat × Span) → Type 0
+IsAscending extra =
+    (i j : ℕ) (e : Sat × Span) → i < j → j < length extra → (slice_index_or extra i e).0.number < (slice_index_or extra j e).0.number

@@ -1,0 +1,88 @@
+-- Settings texts: the value of one, or its first fault.
+use Rattle.std.specs.Prelude.{◌≡◌, ◌⊎◌, ℕ, ℤ, ◌+ℤ◌, List, [], ◌∷◌, Option, None, Some, Result, Ok, Err, IsUtf8}
+use Rattle.std.specs.List.{filter_map}
+use Rattle.sat_model.specs.declared.boxes.Pos.{Pos}
+use Rattle.sat_model.specs.declared.satellites.Sat.{Sat}
+use Rattle.sat_model.specs.declared.satellites.Signal.{Signal}
+use Rattle.toml.specs.Data.{Members}
+use Rattle.toml.specs.Parse.{parse_document}
+use Rattle.error_bounds.specs.Faults.{Found}
+use Rattle.error_bounds.specs.Keys as key
+use Rattle.error_bounds.specs.Names.{unknown, IsFirstName}
+use Rattle.error_bounds.specs.declared.fault.Fault.{Fault}
+use Rattle.error_bounds.specs.declared.fault.Fault.TheVariants.{NotToml, Unknown}
+use Rattle.error_bounds.specs.declared.settings.Centre.{Centre}
+
+-- settings as they stand in a text, with lengths in um
+pub record SettingsValue : Type 0 where
+  pub centre : Centre
+  pub half : Pos
+  pub outliers : ℕ
+  pub bisections : ℕ
+  pub width : ℤ
+  pub max_age : ℕ
+  pub signal : Signal
+  pub common : ℤ × ℤ
+  pub extra : List (Sat × (ℤ × ℤ))
+
+abbrev pub gps : ℕ → Sat
+gps number = record { system = 71; number = number }
+
+-- the sum of two spans, each a pair of ends
+abbrev pub add : ℤ × ℤ → ℤ × ℤ → ℤ × ℤ
+add a b = (a.0 +ℤ b.0, a.1 +ℤ b.1)
+
+-- a satellite and its own span, where it has one
+abbrev pub extra_of : ℕ → Result (Option (ℤ × ℤ)) Fault → Option (Sat × (ℤ × ℤ))
+extra_of number (Ok None) = None
+extra_of number (Ok (Some span)) = Some (gps number, span)
+extra_of number (Err fault) = None
+
+abbrev pub extra_in : Result Members Fault → List (Sat × (ℤ × ℤ))
+extra_in (Ok members) = filter_map (λ number. extra_of number (key.optional (key.satellite number) members)) key.satellite_numbers
+extra_in (Err fault) = []
+
+-- the value that the keys of a tree give
+pub record IsValue (tree : Members) (v : SettingsValue) : Type 0 where
+  pub centre : key.value_of key.centre tree ≡ Ok v.centre
+  pub half : key.value_of key.half tree ≡ Ok v.half
+  pub outliers : key.value_of key.outliers tree ≡ Ok v.outliers
+  pub bisections : key.value_of key.bisections tree ≡ Ok v.bisections
+  pub width : key.value_of key.width tree ≡ Ok v.width
+  pub max_age : key.value_of key.max_age tree ≡ Ok v.max_age
+  pub signal : key.value_of (key.codes_key tree) tree ≡ Ok v.signal
+  pub receiver : ℤ × ℤ
+  pub is_receiver : key.value_of key.receiver tree ≡ Ok receiver
+  pub orbit_clock : ℤ × ℤ
+  pub is_orbit_clock : key.value_of key.orbit_clock tree ≡ Ok orbit_clock
+  pub ionosphere : ℤ × ℤ
+  pub is_ionosphere : key.value_of key.ionosphere tree ≡ Ok ionosphere
+  pub troposphere : ℤ × ℤ
+  pub is_troposphere : key.value_of key.troposphere tree ≡ Ok troposphere
+  pub common : v.common ≡ add (add (add receiver orbit_clock) ionosphere) troposphere
+  pub extra : v.extra ≡ extra_in (key.satellites tree)
+
+-- the first fault of a tree: the first key with one, and behind all keys the first unknown name
+abbrev pub IsFound : Members → Found → Type 0
+IsFound tree found =
+    (key.first_found (key.tests tree) ≡ Some found)
+    ⊎ ((key.first_found (key.tests tree) ≡ None) × (found.fault ≡ Unknown) × IsFirstName (unknown tree) found.key)
+
+-- the tree that the bytes write
+pub record IsTree (text : List ℕ) (tree : Members) : Type 0 where
+  pub utf8 : IsUtf8 text
+  pub parsed : parse_document text ≡ Some tree
+
+-- the text has no fault, and this is its value
+pub record IsSettings (text : List ℕ) (v : SettingsValue) : Type 0 where
+  pub tree : Members
+  pub is_tree : IsTree text tree
+  pub faultless : key.first_found (key.tests tree) ≡ None
+  pub known : unknown tree ≡ []
+  pub value : IsValue tree v
+
+-- the text is no TOML, or this is the first fault of its tree
+abbrev pub IsFirstFault : List ℕ → Found → Type 0
+IsFirstFault text found =
+    ((IsUtf8 text → parse_document text ≡ None) × (found ≡ record { fault = NotToml; key = [] }))
+    ⊎ ((tree : Members) × IsTree text tree × IsFound tree found)

@@ -1,0 +1,146 @@
+//! What a value has to be. Lengths stand in mm in the text, and are read in um.
+
+ghost use Rattle.std.specs.Prelude.{◌≡◌, ◌≤◌, Result, IfOk, is_some, pos, [], ◌∷◌, ◌≤ℤ◌, ◌-ℤ◌};
+ghost use Rattle.toml.specs.Data.{Data, as_integer};
+ghost use Rattle.toml.specs.View.{view, items_view};
+ghost use Rattle.error_bounds.specs.Forms.{all_members, count, length_from, errors, ends_of, is_from, um};
+ghost use Rattle.error_bounds.specs.Sizes.{IsDeclared};
+ghost use Rattle.error_bounds.specs.Reading.{ends_in};
+ghost use Rattle.error_bounds.specs.declared.fault.Fault.{Fault};
+
+use crate::fault::Fault;
+use sat_model::Span;
+use toml::Value;
+
+/// The greatest amount of a declared error, in mm.
+const MAX_ERROR: i64 = 1_000_000;
+
+/// What a value has to be, and what is read from it.
+pub trait Form {
+    type Output;
+
+    // What is read from a value.
+    ghost reads: { Self → Data → Result Self.Output Fault → Type 0 };
+
+    // The size that is kept.
+    ghost allows: { Self → Self.Output → Type 0 };
+
+    fn read(&self, value: &Value) -> Result<Self::Output, Fault>
+        ensures value { reads self.now (view value.now) result }
+        ensures allowed { IfOk result (allows self.now) };
+}
+
+/// A whole number from `lo` to `hi`.
+#[derive(Clone, Copy)]
+pub struct Count {
+    pub lo: u32,
+    pub hi: u32,
+}
+
+/// A length from `lo` to `hi` mm, read in um.
+#[derive(Clone, Copy)]
+pub struct Length {
+    pub lo: u32,
+    pub hi: u32,
+}
+
+/// A span of errors, `[lo, hi]` in mm, read in um.
+#[derive(Clone, Copy)]
+pub struct Errors;
+
+impl Form for Count {
+    type Output = u32;
+
+    ghost reads = { λ form d r. r ≡ count form.lo form.hi d };
+
+    ghost allows = { λ form n. (form.lo ≤ n) × (n ≤ form.hi) };
+
+    fn read(&self, value: &Value) -> Result<u32, Fault> {
+        let Some(n) = value.as_integer() else {
+            return Err(Fault::WrongKind);
+        };
+        if (self.lo as i64) <= n && n <= (self.hi as i64) {
+            Ok(n as u32)
+        } else {
+            Err(Fault::Outside)
+        }
+    }
+}
+
+impl Form for Length {
+    type Output = i64;
+
+    ghost reads = { λ form d r. r ≡ length_from form.lo form.hi d };
+
+    ghost allows = { λ form z. (um (pos form.lo) ≤ℤ z) × (z ≤ℤ um (pos form.hi)) };
+
+    fn read(&self, value: &Value) -> Result<i64, Fault> {
+        let Some(n) = value.as_integer() else {
+            return Err(Fault::WrongKind);
+        };
+        if (self.lo as i64) <= n && n <= (self.hi as i64) {
+            Ok(n * 1_000)
+        } else {
+            Err(Fault::Outside)
+        }
+    }
+}
+
+impl Form for Errors {
+    type Output = Span;
+
+    ghost reads = { λ form d r. ends_in r ≡ errors d };
+
+    ghost allows = { λ form s. IsDeclared s };
+
+    fn read(&self, value: &Value) -> Result<Span, Fault> {
+        let Some(items) = value.as_array() else {
+            return Err(Fault::WrongKind);
+        };
+        if !are_integers(items) {
+            return Err(Fault::WrongKind);
+        }
+        let [lo, hi] = items.as_slice() else {
+            return Err(Fault::Outside);
+        };
+        match (lo.as_integer(), hi.as_integer()) {
+            (Some(lo), Some(hi)) => span_of(lo, hi),
+            _ => Err(Fault::WrongKind),
+        }
+    }
+}
+
+/// The span of errors with these ends in mm.
+fn span_of(lo: i64, hi: i64) -> Result<Span, Fault>
+    ensures value { ends_in result ≡ ends_of (lo ∷ hi ∷ []) }
+    ensures within { IfOk result IsDeclared }
+{
+    if is_within(MAX_ERROR, lo) && is_within(MAX_ERROR, hi) && lo <= hi {
+        Ok(Span {
+            lo: lo * 1_000,
+            hi: hi * 1_000,
+        })
+    } else {
+        Err(Fault::Outside)
+    }
+}
+
+/// Whether a number is at most `most` in amount.
+pub fn is_within(most: i64, n: i64) -> bool
+    requires { pos 0 ≤ℤ most }
+    ensures { result ≡ is_from (pos 0 -ℤ most) most n }
+{
+    -most <= n && n <= most
+}
+
+/// Whether each member is a whole number.
+pub fn are_integers(items: &[Value]) -> bool
+    ensures { result ≡ is_some (all_members as_integer (items_view items.now)) }
+{
+    'items: for item in items {
+        if item.as_integer().is_none() {
+            return false;
+        }
+    }
+    true
+}

@@ -1,0 +1,23 @@
+//! The settings of a run, read from TOML: where to search and how, which signals to use, and the
+//! declared bounds of the errors.
+#![tactic(auto)]
+
+mod fault;
+mod form;
+mod key;
+mod names;
+mod places;
+mod read;
+mod satellites;
+mod search;
+mod search_box;
+mod settings;
+mod signals;
+mod tables;
+
+pub use fault::{Fault, KeyText, SettingsError, SettingsFault};
+pub use read::read_settings;
+pub use settings::{Centre, Settings};
+
+#[cfg(test)]
+mod tests;

@@ -1,0 +1,83 @@
+//! The settings of a run.
+
+ghost use Rattle.std.specs.Prelude.{◌≡◌, ◌≤◌, true};
+ghost use Rattle.error_bounds.specs.Sizes.{IsCentre, AreHalfSides, IsSumOfFour, IsDeclared, IsAscending, are_codes, AreDeclared};
+
+use crate::search_box::box_around;
+use sat_model::{Box3, Pos, Rules, Sat, Signal, Span};
+
+/// Where the middle of the search box is.
+#[derive(Clone, Copy, Debug, PartialEq, Eq)]
+pub enum Centre {
+    /// At the approximate position in the header of the observation file.
+    Header,
+    /// At this point.
+    At(Pos),
+}
+
+/// The settings of a run, with lengths in um.
+#[derive(Drop)]
+pub struct Settings {
+    /// The middle of the search box, within 8,500 km of the origin on each axis.
+    pub centre: Centre,
+    /// Half of each side of the search box, from 1 mm to 100 km.
+    pub half: Pos,
+    pub rules: Rules,
+    /// How far, in s, the ephemeris time of a record may be from the time of an epoch: 1 to 14,400.
+    pub max_age: u32,
+    pub signal: Signal,
+    /// The sum of the four spans declared for every satellite, each within 1 km.
+    pub common: Span,
+    /// What is declared for one satellite beyond that, within 1 km, in the order of their numbers.
+    pub extra: Vec<(Sat, Span)>,
+    pub ghost centre_within: { IsCentre centre },
+    pub ghost half_within: { AreHalfSides half },
+    pub ghost some_age: { 1 ≤ max_age },
+    pub ghost short_age: { max_age ≤ 14400 },
+    pub ghost codes: { are_codes signal ≡ true },
+    pub ghost common_within: { IsSumOfFour common },
+    pub ghost extra_within: { AreDeclared extra.items },
+    pub ghost extra_once: { IsAscending extra.items },
+}
+
+impl Settings {
+    ghost use Rattle.sat_model.specs.Boxes.{grid_box};
+    ghost use Rattle.sat_model.specs.Relaxed.{ends};
+    ghost use Rattle.error_bounds.specs.Reading.{value_of_settings, with_ends, bound_for, extra_for, centre_with, IsEnough, IsRoot};
+
+    /// The sum of all spans that are declared for the satellite, in um.
+    pub fn bound_of(&self, sat: Sat) -> Span
+        ensures { ends result ≡ bound_for sat (value_of_settings self.now) }
+    {
+        let extra = self.extra_of(sat);
+        Span {
+            lo: self.common.lo + extra.lo,
+            hi: self.common.hi + extra.hi,
+        }
+    }
+
+    /// The satellite's own span, and that of 0 alone where it has none.
+    fn extra_of(&self, sat: Sat) -> Span
+        ensures value { ends result ≡ extra_for sat (with_ends self.now.extra.items) }
+        ensures within { IsDeclared result }
+    {
+        'entries: for entry in &self.extra {
+            if entry.0 == sat {
+                return entry.1;
+            }
+        }
+        Span { lo: 0, hi: 0 }
+    }
+
+    /// The search box: the centre plus and minus the half sides. Where the centre is that of the
+    /// header, `header` has to be there, within 8,500 km of the origin on each axis.
+    pub fn root(&self, header: Option<Pos>) -> Box3
+        requires { IsEnough self.now.centre header }
+        ensures { IsRoot (centre_with header self.now.centre) self.now.half (grid_box result) }
+    {
+        match self.centre {
+            Centre::At(point) => box_around(point, self.half),
+            Centre::Header => box_around(header.unwrap(), self.half),
+        }
+    }
+}

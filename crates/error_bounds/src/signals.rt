@@ -1,0 +1,141 @@
+//! Which signals are used.
+
+ghost use Rattle.std.specs.Prelude.{◌≡◌, false, true, is_some, IfOk, IfNone, IfSome};
+ghost use Rattle.toml.specs.Data.{as_str};
+ghost use Rattle.toml.specs.View.{view, items_view};
+ghost use Rattle.error_bounds.specs.Forms.{all_members, of_kind, codes_for, mode_word, code_list};
+ghost use Rattle.error_bounds.specs.Sizes.{is_code, is_capital, are_codes};
+
+use crate::fault::Fault;
+use crate::form::Form;
+use sat_model::Signal;
+use toml::Value;
+
+/// Whether one code is used, or two.
+#[derive(Clone, Copy)]
+pub enum Mode {
+    Single,
+    Dual,
+}
+
+/// `"single"` or `"dual"`.
+#[derive(Clone, Copy)]
+pub struct ModeWord;
+
+/// A list of one code in single mode, and of two in dual mode.
+#[derive(Clone, Copy)]
+pub struct Codes {
+    pub mode: Mode,
+}
+
+impl Form for ModeWord {
+    type Output = Mode;
+
+    ghost reads = { λ form d r. r ≡ mode_word d };
+
+    ghost allows = { λ form mode. Unit {0} };
+
+    fn read(&self, value: &Value) -> Result<Mode, Fault> {
+        let Some(text) = value.as_str() else {
+            return Err(Fault::WrongKind);
+        };
+        if text == "single" {
+            Ok(Mode::Single)
+        } else if text == "dual" {
+            Ok(Mode::Dual)
+        } else {
+            Err(Fault::Outside)
+        }
+    }
+}
+
+impl Form for Codes {
+    type Output = Signal;
+
+    ghost reads = { λ form d r. r ≡ code_list form.mode d };
+
+    ghost allows = { λ form signal. are_codes signal ≡ true };
+
+    fn read(&self, value: &Value) -> Result<Signal, Fault> {
+        let Some(items) = value.as_array() else {
+            return Err(Fault::WrongKind);
+        };
+        if !are_texts(items) {
+            return Err(Fault::WrongKind);
+        }
+        match self.mode {
+            Mode::Single => single(items),
+            Mode::Dual => dual(items),
+        }
+    }
+}
+
+/// The signal of a list of one code.
+fn single(items: &[Value]) -> Result<Signal, Fault>
+    requires { is_some (all_members as_str (items_view items.now)) ≡ true }
+    ensures value { result ≡ of_kind (all_members as_str (items_view items.now)) (codes_for Mode.Single) }
+    ensures codes { IfOk result (λ signal. are_codes signal ≡ true) }
+{
+    let [item] = items else {
+        return Err(Fault::Outside);
+    };
+    let Some(text) = item.as_str() else {
+        return Err(Fault::WrongKind);
+    };
+    match code(text, b'1') {
+        Some(code) => Ok(Signal::Single { code }),
+        None => Err(Fault::Outside),
+    }
+}
+
+/// The signal of a list of two codes.
+fn dual(items: &[Value]) -> Result<Signal, Fault>
+    requires { is_some (all_members as_str (items_view items.now)) ≡ true }
+    ensures value { result ≡ of_kind (all_members as_str (items_view items.now)) (codes_for Mode.Dual) }
+    ensures codes { IfOk result (λ signal. are_codes signal ≡ true) }
+{
+    let [first, second] = items else {
+        return Err(Fault::Outside);
+    };
+    let (Some(first), Some(second)) = (first.as_str(), second.as_str()) else {
+        return Err(Fault::WrongKind);
+    };
+    match (code(first, b'1'), code(second, b'2')) {
+        (Some(first), Some(second)) => Ok(Signal::Dual { first, second }),
+        _ => Err(Fault::Outside),
+    }
+}
+
+/// The code of a pseudorange on a band: `C`, the digit of the band and a capital letter.
+fn code(text: &str, band: u8) -> Option<[u8; 3]>
+    ensures none { IfNone result (is_code band text.now ≡ false) }
+    ensures some { IfSome result (λ code. (code ≡ text.now) × (is_code band text.now ≡ true)) }
+{
+    let [kind, digit, letter] = text.as_bytes() else {
+        return None;
+    };
+    if *kind == b'C' && *digit == band && is_capital(*letter) {
+        Some([*kind, *digit, *letter])
+    } else {
+        None
+    }
+}
+
+/// Whether a byte is a letter from A to Z.
+fn is_capital(byte: u8) -> bool
+    ensures { result ≡ is_capital byte }
+{
+    b'A' <= byte && byte <= b'Z'
+}
+
+/// Whether each member is a text.
+fn are_texts(items: &[Value]) -> bool
+    ensures { result ≡ is_some (all_members as_str (items_view items.now)) }
+{
+    'items: for item in items {
+        if item.as_str().is_none() {
+            return false;
+        }
+    }
+    true
+}

@@ -1,0 +1,91 @@
+//! The tables whose keys have to be there.
+
+ghost use Rattle.std.specs.Prelude.{◌≡◌, ℕ, ◌+◌, ◌≤◌, true, None, Ok, IfOk, IfErr, OnOk};
+ghost use Rattle.sat_model.specs.Relaxed.{ends};
+ghost use Rattle.toml.specs.View.{table_view};
+ghost use Rattle.error_bounds.specs.Keys.{value_of, codes_key, search_tests, signal_tests, bounds_tests, first_found};
+ghost use Rattle.error_bounds.specs.Reading.{IsSearch, IsCommon, TellsFirst};
+ghost use Rattle.error_bounds.specs.Sizes.{IsDeclared, IsSpanWithin, IsSumOfFour, are_codes};
+ghost use Rattle.error_bounds.specs.Texts.{add};
+
+use crate::fault::SettingsFault;
+use crate::form::{Count, Errors, Length};
+use crate::key::required;
+use crate::places::{HalfSides, Place};
+use crate::search::Search;
+use crate::signals::{Codes, ModeWord};
+use sat_model::{Rules, Signal, Span};
+use toml::Table;
+
+/// The keys of `search`.
+pub fn read_search(tree: &Table) -> Result<Search, SettingsFault>
+    ensures none { OnOk result (first_found (search_tests (table_view tree.now)) ≡ None) }
+    ensures value { IfOk result (IsSearch (table_view tree.now)) }
+    ensures fault { IfErr result (TellsFirst (search_tests (table_view tree.now))) }
+{
+    let centre = required(tree, "search", "centre", &Place)?;
+    let half = required(tree, "search", "half", &HalfSides)?;
+    let outliers = required(tree, "search", "outliers", &Count { lo: 0, hi: 8 })?;
+    let bisections = required(tree, "search", "bisections", &Count { lo: 0, hi: 200_000 })?;
+    let width = required(
+        tree,
+        "search",
+        "width",
+        &Length {
+            lo: 1,
+            hi: 10_000_000,
+        },
+    )?;
+    let max_age = required(tree, "search", "max_age", &Count { lo: 1, hi: 14_400 })?;
+    let rules = Rules {
+        outliers: outliers as u8,
+        bisections,
+        width,
+    };
+    Ok(Search {
+        centre,
+        half,
+        rules,
+        max_age,
+    })
+}
+
+/// The keys of `signal`.
+pub fn read_signal(tree: &Table) -> Result<Signal, SettingsFault>
+    ensures none { OnOk result (first_found (signal_tests (table_view tree.now)) ≡ None) }
+    ensures value { IfOk result (λ signal. value_of (codes_key (table_view tree.now)) (table_view tree.now) ≡ Ok signal) }
+    ensures codes { IfOk result (λ signal. are_codes signal ≡ true) }
+    ensures fault { IfErr result (TellsFirst (signal_tests (table_view tree.now))) }
+{
+    let mode = required(tree, "signal", "mode", &ModeWord)?;
+    required(tree, "signal", "codes", &Codes { mode })
+}
+
+/// The keys of `bounds`: the sum of the four spans that are declared for every satellite.
+pub fn read_bounds(tree: &Table) -> Result<Span, SettingsFault>
+    ensures none { OnOk result (first_found (bounds_tests (table_view tree.now)) ≡ None) }
+    ensures value { IfOk result (λ common. IsCommon (table_view tree.now) (ends common)) }
+    ensures within { IfOk result IsSumOfFour }
+    ensures fault { IfErr result (TellsFirst (bounds_tests (table_view tree.now))) }
+{
+    let receiver = required(tree, "bounds", "receiver", &Errors)?;
+    let orbit_clock = required(tree, "bounds", "orbit_clock", &Errors)?;
+    let ionosphere = required(tree, "bounds", "ionosphere", &Errors)?;
+    let troposphere = required(tree, "bounds", "troposphere", &Errors)?;
+    let common = sum(receiver, orbit_clock);
+    let common = sum(common, ionosphere);
+    Ok(sum(common, troposphere))
+}
+
+/// The sum of two spans.
+fn sum(a: Span, b: Span) -> Span
+    requires a_within { IsSpanWithin 3000000000 a }
+    requires b_within { IsDeclared b }
+    ensures value { ends result ≡ add (ends a) (ends b) }
+    ensures within { (n : ℕ) → IsSpanWithin n a → IsSpanWithin (n + 1000000000) result }
+{
+    Span {
+        lo: a.lo + b.lo,
+        hi: a.hi + b.hi,
+    }
+}
