@@ -20,26 +20,14 @@ ghost use Rattle.sat_model.specs.Logs.{rows_of};
 use crate::log_file::LogFile;
 use outer_io::Shelf;
 use paving::{Plan, StepFault, pave};
-use paving_log::{Log, LogEpoch, SatEntry, done_line, epoch_line, head_lines, root_line, sat_line};
-use sat_model::{Box3, NoMemory, Row, Rules};
-use std::alloc::{AllocError, Global};
+use paving_log::{
+    Log, LogEpoch, SatEntry, done_line, epoch_line, head_lines, root_line, rows_among, sat_line,
+};
+use sat_model::{Box3, NoMemory, Rules};
+use std::alloc::Global;
 
 /// The bytes of the first line of a head.
 const VERSION_LENGTH: usize = 11;
-
-/// The rows among the satellite lines.
-fn rows_among(alloc: Global, sats: &[SatEntry]) -> Result<Vec<Row>, AllocError>
-    ensures { IfOk result (λ rows. rows.items ≡ rows_of sats.now) }
-{
-    let mut rows = Vec::new(alloc);
-    for entry in sats {
-        match entry {
-            SatEntry::Row(row) => rows.push(*row)?,
-            SatEntry::Skipped { .. } => {}
-        }
-    }
-    Ok(rows)
-}
 
 /// What is to be paved by the rows among the satellite lines.
 fn plan_of(alloc: Global, rules: &Rules, sats: &[SatEntry], root: &Box3) -> Result<Plan, StepFault>

@@ -1,6 +1,7 @@
 //! The log of a paving, and its rows alone: the value, and its one text.
 #![tactic(auto)]
 
+mod entries;
 mod header;
 mod line;
 mod lines;
@@ -15,6 +16,7 @@ mod take;
 mod texts;
 mod write;
 
+pub use entries::rows_among;
 pub use log::{Log, LogEpoch, LogError};
 pub use own_tests::{LineFault, own_fault};
 pub use sat_model::SatEntry;

@@ -7,9 +7,8 @@ ghost use Rattle.sat_model.specs.Logs.{rows_of, lines_in};
 ghost use Rattle.sat_model.specs.Verdicts.{IsLater, SuitsNumber, HeadPasses, HeadFails, BodyPasses, BlockPasses, BlockFails};
 ghost use Rattle.paving_log.specs.Values.{block_of};
 
-use crate::satellites::rows_among;
 use crate::steps::steps_fault;
-use paving_log::{LineFault, LogEpoch, own_fault};
+use paving_log::{LineFault, LogEpoch, own_fault, rows_among};
 use sat_model::{NoMemory, Row, Rules, Step};
 use std::alloc::Global;
 

@@ -7,7 +7,6 @@ mod cuts;
 mod faults;
 mod live;
 mod logs;
-mod satellites;
 mod steps;
 mod verdict;
 
