@@ -24,19 +24,13 @@ near_exists num den p = (int_div_euclid num den, floor_near num den _ p (floor_i
 pub near_low : (num den v low : ℤ) → pos 0 <ℤ den → (low *ℤ den) ≤ℤ num → Near num den v → (low -ℤ pos 1) ≤ℤ v
 near_low num den v low p h n = mul_le_back (low -ℤ pos 1) v den p (rw (add_mul low (neg_ℤ (pos 1)) den) (omega (arith, ints, n.above)))
 
-pub near_high : (num den v high : ℤ) → pos 0 <ℤ den → num ≤ℤ (high *ℤ den) → Near num den v → v ≤ℤ (high +ℤ pos 1)
-near_high num den v high p h n = mul_le_back v (high +ℤ pos 1) den p (rw (add_mul high (pos 1) den) (omega (arith, ints, n.below)))
-
--- ---- whole numbers taken off and signs turned round
+-- ---- whole numbers taken off
 
 -- what is near a + num / den is, without a, near num / den
 pub near_without : (a num den v : ℤ) → Near ((a *ℤ den) +ℤ num) den v → Near num den (v -ℤ a)
 near_without a num den v n =
     let e : (v -ℤ a) *ℤ den ≡ (v *ℤ den) -ℤ (a *ℤ den) = add_mul v (neg_ℤ a) den ∙ ap (λ (z : ℤ). (v *ℤ den) +ℤ z) (neg_mul a den) in
     record { below = omega (arith, ints, e, n.below, n.above); above = omega (arith, ints, e, n.below, n.above) }
-
-pub near_turned : (num den v : ℤ) → Near num den v → Near (neg_ℤ num) den (neg_ℤ v)
-near_turned num den v n = record { below = omega (arith, ints, neg_mul v den, n.below, n.above); above = omega (arith, ints, neg_mul v den, n.below, n.above) }
 
 -- ---- the ends of a product whose factors are any
 

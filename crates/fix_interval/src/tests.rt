@@ -90,3 +90,21 @@ fn distances(rt: HostRuntime) {
     assert_eq!(rt; square.lo, 13, "4 + 9 + 0");
     assert_eq!(rt; square.hi, 81, "9 + 36 + 36");
 }
+
+#[test]
+fn values_moved_on(rt: HostRuntime) {
+    // 100 + 3 * (5 * 10^17) / 10^18 is 101.5, and with -3 it is 98.5.
+    let value = Exact { lo: 100, hi: 100 };
+    let half = Exact {
+        lo: 500_000_000_000_000_000,
+        hi: 500_000_000_000_000_000,
+    };
+    for (rate, below) in [(3, 101), (-3, 98)] {
+        let moved = advanced(value, Exact { lo: rate, hi: rate }, half);
+        assert!(rt;
+            moved.lo <= below && below < moved.hi,
+            "{below} and the next"
+        );
+        assert!(rt; moved.hi <= moved.lo.saturating_add(4), "the width");
+    }
+}

@@ -1,0 +1,3 @@
+pub mod MotionLemmas
+pub mod ClockLemmas
+pub mod RelativityLemmas
