@@ -3,7 +3,6 @@
 ghost use Rattle.std.specs.Prelude.{◌≡◌, ℤ, pos, neg_ℤ, ◌+ℤ◌, ◌-ℤ◌, ◌≤ℤ◌};
 ghost use Rattle.sat_model.specs.OrbitChain.{OrbitChain};
 ghost use Rattle.sat_model.specs.RecordBounds.{IsValue};
-ghost use Rattle.sat_model.specs.Sizes.{IsWithin};
 ghost use Rattle.fix_interval.specs.Factors.{Holds, HasEnds, HasAmount};
 ghost use Rattle.broadcast_orbit.specs.OrbitSizes.{orbit_reach, motion_amount, motion_width, time_width, after_width, coordinate_amount, place_amount, IsOrbitDistance};
 
