@@ -1,10 +1,10 @@
 -- The lines of an observation file give one answer only.
-use Rattle.std.proofs.Common.{◌≡◌, ℕ, zero, suc, ◌+◌, ◌-◌, ◌*◌, ◌^◌, Bool, true, false, List, [], ◌∷◌, ◌++◌, length, Option, None, Some, refl, sym, ap, subst, ◌⊎◌, inl, inr, ◌∙◌, arith, IfOk, IfErr, Result, Ok, Err}
-use Rattle.std.specs.Prelude.{ℤ, pos, neg_ℤ, ◌+ℤ◌, ◌*ℤ◌, ◌<ℤ◌, ◌≤ℤ◌, IsSome}
+use Rattle.std.proofs.Common.{◌≡◌, ℕ, zero, suc, ◌+◌, Bool, true, false, List, [], ◌∷◌, length, Option, None, Some, refl, sym, ap, inl, inr, ◌∙◌, arith, IfOk, IfErr, Result, Ok, Err}
+use Rattle.std.specs.Prelude.{ℤ, pos, neg_ℤ, ◌+ℤ◌, ◌<ℤ◌, ◌≤ℤ◌}
 use Rattle.std.proofs.lemmas.Int.{ints}
 use Rattle.std.proofs.lemmas.Option.{same_Some}
 use Rattle.exact_decimal.specs.NumberFields.{AreBlanks, IsFixed}
-use Rattle.exact_decimal.specs.Units.{numerator, denominator}
+use Rattle.exact_decimal.specs.Units.{denominator}
 use Rattle.exact_decimal.specs.declared.decimal.Decimal.{Decimal}
 use Rattle.exact_decimal.specs.declared.unit.Unit.TheVariants.{Length}
 use Rattle.exact_decimal.proofs.Answers.{fixed_answer, fixed_blank}
@@ -15,19 +15,16 @@ use Rattle.sat_model.specs.declared.satellites.Signal.{Signal}
 use Rattle.sat_model.specs.declared.satellites.Signal.TheVariants.{Single, Dual}
 use Rattle.sat_model.proofs.ProductLemmas.{add_mul, mul_lt_back}
 use Rattle.rinex_text.specs.Bodies.{counted}
-use Rattle.rinex_text.specs.Columns.{columns_of}
-use Rattle.rinex_text.specs.Dates.{IsGpsTime, gps_time}
 use Rattle.rinex_text.specs.Headers.{Behind}
 use Rattle.rinex_text.specs.Lines.{TextLine, lines_of}
 use Rattle.rinex_text.specs.Reading.{Refuses, GivesRefusal}
-use Rattle.rinex_text.specs.declared.fault.Fault.{Fault}
 use Rattle.rinex_text.specs.declared.fault.ReadError.{ReadError}
 use Rattle.rinex_text.specs.declared.fault.ReadError.TheVariants.{Refused, NoMemory}
 use Rattle.rinex_text.specs.declared.fault.Refusal.{Refusal}
 use Rattle.rinex_text.proofs.FieldLemmas.{same_count}
 use Rattle.rinex_text.proofs.OnlyLemmas.{IsOnly, test_only, where_only, read_only, ok_same, err_same, not_both, then_only, gives_only, line_only, number_only, first_only, version_only}
-use Rattle.rinex_obs.specs.Types.{Code, Types, codes_from, more_codes, first_codes, types_line}
-use Rattle.rinex_obs.specs.Header.{IsFixedField, Coordinates, position_line, IsCoordinate, IsPoint, IsPosition, Header, header_line, Wanted, AreWanted, header_end, Start, header_lines}
+use Rattle.rinex_obs.specs.Types.{Code, Types, codes_from, more_codes, types_line}
+use Rattle.rinex_obs.specs.Header.{IsFixedField, Coordinates, position_line, IsCoordinate, IsPoint, IsPosition, Header, header_line, Wanted, AreWanted, header_end, header_lines}
 use Rattle.rinex_obs.specs.Epochs.{IsSeconds, IsTag, IsLineCount, head_line, IsObserved, IsSecond, satellite_line, satellites_from, event_line, event_from, Observed, block_from, epochs_from}
 use Rattle.rinex_obs.specs.Files.{Observations, obs_file, IsObsFile, IsFirstFault}
 use Rattle.rinex_obs.specs.Reading.{observations_of, GivesObservations}

@@ -1,4 +1,4 @@
-use Rattle.std.proofs.Common.{◌≡◌, ℕ, List, [], length, sym, ◌∙◌, subst, arith, Result, Ok}
+use Rattle.std.proofs.Common.{ℕ, List, [], sym, ◌∙◌, subst, arith, Ok}
 use Rattle.std.proofs.lemmas.Result.{err_from_is_err_and}
 use Rattle.rinex_text.specs.Reading.{plain_line, body_left, body_behind}
 use Rattle.rinex_text.proofs.TakeLemmas.{refuses_on}

@@ -1,6 +1,5 @@
-use Rattle.std.proofs.Common.{◌≡◌, ◌≤◌, ◌<◌, refl, sym, ◌∙◌, inl, inr, arith, to_z-of_z, FitsSigned, rules}
+use Rattle.std.proofs.Common.{refl, sym, ◌∙◌, inl, inr, arith, to_z-of_z, FitsSigned, rules}
 use mir.Syntax.{w128}
-use Rattle.rinex_text.specs.Columns.{column_of}
 use Rattle.rinex_text.specs.Reading.{plain_line}
 use Rattle.rinex_text.proofs.FieldLemmas.{both_ways}
 use Rattle.rinex_obs.proofs.HeadLemmas.{no_mark, no_flag, no_count, is_event, no_date, too_many, is_epoch}

@@ -1,5 +1,4 @@
-use Rattle.std.proofs.Common.{to_z-of_z, FitsSigned, rules, arith}
-use Rattle.std.proofs.lemmas.Int.{ints}
+use Rattle.std.proofs.Common.{to_z-of_z, FitsSigned, rules}
 use mir.Syntax.{w64, w128}
 use Rattle.rinex_obs.proofs.position.coordinate.Goals as goal
 

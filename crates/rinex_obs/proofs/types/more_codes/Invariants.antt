@@ -1,4 +1,4 @@
-use Rattle.std.proofs.Common.{◌≡◌, ℕ, ◌+◌, ◌-◌, List, Result}
+use Rattle.std.proofs.Common.{◌≡◌, ◌+◌, ◌-◌, List, Result}
 use Rattle.rinex_text.specs.declared.fault.Fault.{Fault}
 use Rattle.rinex_obs.specs.Types.{Code, Types, codes_from}
 use Rattle.rinex_obs.specs.Reading.{IsFound}

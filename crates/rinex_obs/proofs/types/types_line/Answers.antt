@@ -1,4 +1,3 @@
-use Rattle.std.proofs.Common.{sym, ◌∙◌}
 use Rattle.rinex_obs.proofs.TypesLemmas.{line_first, line_more}
 use Rattle.rinex_obs.proofs.types.types_line.Goals as goal
 
