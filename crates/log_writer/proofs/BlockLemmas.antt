@@ -17,7 +17,7 @@ use Rattle.paving.specs.declared.steps.StepFault.TheVariants.{NoMemory}
 use Rattle.paving_log.specs.declared.line.Header.{Header}
 use Rattle.paving_log.specs.declared.line.LogLine.{LogLine}
 use Rattle.paving_log.specs.declared.line.LogLine.TheVariants as line
-use Rattle.paving_log.specs.Fields.{IsCountFromTo}
+use Rattle.log_words.specs.Fields.{IsCountFromTo}
 use Rattle.paving_log.specs.declared.line.Form.TheVariants as form
 use Rattle.paving_log.specs.Lines.{StepFits, line_text, text_of}
 use Rattle.paving_log.specs.Text.{first_line, header_of, paved_lines, block_lines, BodyFits, BlockFits}

@@ -9,7 +9,7 @@ use Rattle.sat_model.specs.declared.steps.Step.TheVariants.{Cut, Split, Outside,
 use Rattle.sat_model.specs.Boxes.{GridBox}
 use Rattle.sat_model.specs.Fold.{ShownStep}
 use Rattle.sat_model.specs.Paved.{WaitingBox, Paving, first_paving, IsNext, Closes, opened_by, splits_after, beyond, joined, PavesTo, Paved, steps_of}
-use Rattle.paving_log.specs.Fields.{IsCountFromTo}
+use Rattle.log_words.specs.Fields.{IsCountFromTo}
 use Rattle.paving_log.specs.Lines.{StepFits}
 use Rattle.paving_log.specs.Rows.{CornersFit, corners_of}
 use Rattle.log_writer.proofs.ClockSizes.{clock_fits, inner_fits}

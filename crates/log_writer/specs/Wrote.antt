@@ -10,7 +10,7 @@ use Rattle.sat_model.specs.Logs.{Block, LogValue}
 use Rattle.sat_model.specs.Paved.{Paved, steps_of}
 use Rattle.sat_model.specs.Verdicts.{Judged}
 use Rattle.paving.specs.declared.steps.StepFault.{StepFault}
-use Rattle.paving_log.specs.Fields.{IsCountFromTo}
+use Rattle.log_words.specs.Fields.{IsCountFromTo}
 use Rattle.paving_log.specs.declared.line.Form.TheVariants as form
 use Rattle.paving_log.specs.Lines.{StepFits}
 use Rattle.paving_log.specs.Text.{paved_lines, block_lines, log_lines, log_text, BlockFits, IsLogText}
