@@ -1,15 +1,22 @@
 -- Keys and their tests.
-use Rattle.std.proofs.Common.{◌≡◌, ℕ, suc, ◌+◌, ◌-◌, ◌<◌, ℤ, codes, List, [], ◌∷◌, ◌++◌, map, Option, Some, None, Result, Ok, Err, refl, sym, ap, ◌∙◌, arith}
+use Rattle.std.proofs.Common.{◌≡◌, ℕ, suc, ◌+◌, ◌-◌, ◌<◌, ℤ, codes, List, [], ◌∷◌, ◌++◌, map, length, get_or, Option, Some, None, Result, Ok, Err, refl, sym, ap, ◌∙◌, inl, inr, arith, append_assoc, append-nil, length-append}
+use Rattle.std.proofs.lemmas.Bool.{cases_lt}
+use Rattle.std.proofs.lemmas.List.{get_or_append_left, get_or-append-add}
 use Rattle.std.proofs.lemmas.Option.{none-some}
-use Rattle.std.specs.List.{range_with_len, filter_map}
+use Rattle.std.specs.List.{range_with_len, filter_map, cons_option}
 use Rattle.sat_model.specs.Relaxed.{ends}
+use Rattle.sat_model.specs.declared.satellites.Sat.{Sat}
 use Rattle.sat_model.specs.declared.spans.Span.{Span}
 use Rattle.toml.specs.Data.{Members}
 use Rattle.error_bounds.specs.Faults.{Found}
 use Rattle.error_bounds.specs.Forms.{errors}
-use Rattle.error_bounds.specs.Keys.{Test, bound, value_of, first_found, first_or}
-use Rattle.error_bounds.specs.Reading.{Answers, ends_in}
+use Rattle.error_bounds.specs.Keys.{Test, bound, value_of, printed, optional, satellite, test_optional, satellite_tests_in, fault_in, first_found, first_or}
+use Rattle.error_bounds.specs.Reading.{Answers, AreListed, RefusesTests, ends_in}
+use Rattle.error_bounds.specs.Sizes.{IsDeclared}
+use Rattle.error_bounds.specs.Texts.{extra_of}
 use Rattle.error_bounds.specs.declared.fault.Fault.{Fault}
+use Rattle.error_bounds.specs.declared.fault.SettingsError.{SettingsError}
+use Rattle.error_bounds.specs.declared.fault.SettingsError.TheVariants.{Refused, NoMemory}
 
 -- what is read at a key of `bounds`
 pub bound_value : (name : List ℕ) (tree : Members) (s : Span) → Answers (λ d r. ends_in r ≡ errors d) (codes "bounds") name tree (Ok s) → value_of (bound name) tree ≡ Ok (ends s)
@@ -17,21 +24,23 @@ bound_value name tree s answer = rw (answer.1) (sym answer.2)
 
 -- ---- tests one behind another
 
+pub passed : (o : Option Fault) (key : List ℕ) (a : Option Found) → first_or o key a ≡ None → (o ≡ None) × (a ≡ None)
+passed None key a h = (refl, h)
+passed (Some fault) key a h = absurd (none-some _ (sym h))
+
 pub found_behind : (a b : List Test) → first_found a ≡ None → first_found (a ++ b) ≡ first_found b
 found_behind [] b h = refl
-found_behind (t ∷ a) b h = behind t.fault h
-  where
-  behind : (o : Option Fault) → first_or o t.key (first_found a) ≡ None → first_or o t.key (first_found (a ++ b)) ≡ first_found b
-  behind None h = found_behind a b h
-  behind (Some f) h = absurd (none-some _ (sym h))
+found_behind (t ∷ a) b h =
+    let (here, later) = passed t.fault t.key (first_found a) h in
+    rw here (found_behind a b later)
+
+before_one : (o : Option Fault) (key : List ℕ) (a b : Option Found) (found : Found) → first_or o key a ≡ Some found → (a ≡ Some found → b ≡ Some found) → first_or o key b ≡ Some found
+before_one None key a b found h f = f h
+before_one (Some fault) key a b found h f = h
 
 pub found_before : (a b : List Test) (found : Found) → first_found a ≡ Some found → first_found (a ++ b) ≡ Some found
 found_before [] b found h = absurd (none-some _ h)
-found_before (t ∷ a) b found h = before t.fault h
-  where
-  before : (o : Option Fault) → first_or o t.key (first_found a) ≡ Some found → first_or o t.key (first_found (a ++ b)) ≡ Some found
-  before None h = found_before a b found h
-  before (Some f) h = h
+found_before (t ∷ a) b found h = before_one t.fault t.key (first_found a) (first_found (a ++ b)) found h (found_before a b found)
 
 -- ---- the numbers of the satellites
 
@@ -39,3 +48,54 @@ pub numbers_step : (n : ℕ) → n < 100 → range_with_len n (100 - n) ≡ n �
 numbers_step n h =
     let more : 100 - n ≡ suc (100 - (n + 1)) = omega arith in
     rw more refl
+
+-- what a step over one satellite leaves
+pub tests_step : (n : ℕ) (members : Members) → n < 100 → fault_in (optional (satellite n) members) ≡ None
+    → first_found (map (λ number. test_optional members (satellite number)) (range_with_len n (100 - n)))
+    ≡ first_found (map (λ number. test_optional members (satellite number)) (range_with_len (n + 1) (100 - (n + 1))))
+tests_step n members h none = rw (numbers_step n h, none) refl
+
+append_option : (o : Option (Sat × (ℤ × ℤ))) (old rest : List (Sat × (ℤ × ℤ))) → (old ++ cons_option o []) ++ rest ≡ old ++ cons_option o rest
+append_option None old rest = rw (append-nil old) refl
+append_option (Some e) old rest = append_assoc old (e ∷ []) rest
+
+pub extra_step : (n : ℕ) (members : Members) (old new all : List (Sat × (ℤ × ℤ))) → n < 100 → new ≡ old ++ cons_option (extra_of n (optional (satellite n) members)) []
+    → old ++ filter_map (λ number. extra_of number (optional (satellite number) members)) (range_with_len n (100 - n)) ≡ all
+    → new ++ filter_map (λ number. extra_of number (optional (satellite number) members)) (range_with_len (n + 1) (100 - (n + 1))) ≡ all
+extra_step n members old new all h added whole = rw added (append_option (extra_of n (optional (satellite n) members)) old _ ∙ (rw (numbers_step n h) at whole))
+
+pub refused_step : (n : ℕ) (members : Members) (error : SettingsError) → n < 100
+    → first_found (map (λ number. test_optional members (satellite number)) (range_with_len n (100 - n))) ≡ first_found (satellite_tests_in (Ok members))
+    → RefusesTests (test_optional members (satellite n) ∷ []) error → RefusesTests (satellite_tests_in (Ok members)) error
+refused_step n members NoMemory h same refused = tt
+refused_step n members (Refused told) h same (found, here, tells) =
+    (found, sym same ∙ rw (numbers_step n h) (before_one (fault_in (optional (satellite n) members)) (printed (satellite n)) None _ found here (λ e. absurd (none-some _ e))), tells)
+
+-- ---- the spans of satellites
+
+last_at : (xs : List (Sat × Span)) (e : Sat × Span) (k : ℕ) (d : Sat × Span) → k ≡ length xs + 0 → get_or (xs ++ e ∷ []) k d ≡ e
+last_at xs e k d same = rw same (get_or-append-add xs (e ∷ []) 0 d)
+
+pub listed_push : (n : ℕ) (xs : List (Sat × Span)) (e : Sat × Span) → AreListed n xs → IsDeclared e.1 → e.0.number ≡ n → AreListed (n + 1) (xs ++ e ∷ [])
+listed_push n xs e h d here = record {
+  declared = λ k x bound. elim (cases_lt k (length xs)) [
+    | inl low ↦ rw (get_or_append_left xs (e ∷ []) x k low) (h.declared k x low)
+    | inr high ↦ rw (last_at xs e k x (omega (arith, length-append xs (e ∷ []), bound, high))) d
+  ];
+  ascending = λ i j x less bound. elim (cases_lt j (length xs)) [
+    | inl low ↦ rw (get_or_append_left xs (e ∷ []) x j low, get_or_append_left xs (e ∷ []) x i (omega (arith, less, low))) (h.ascending i j x less low)
+    | inr high ↦ rw (last_at xs e j x (omega (arith, length-append xs (e ∷ []), bound, high)), get_or_append_left xs (e ∷ []) x i (omega (arith, length-append xs (e ∷ []), bound, less)))
+        (omega (arith, here, h.below i x (omega (arith, length-append xs (e ∷ []), bound, less))))
+  ];
+  below = λ k x bound. elim (cases_lt k (length xs)) [
+    | inl low ↦ rw (get_or_append_left xs (e ∷ []) x k low) (omega (arith, h.below k x low))
+    | inr high ↦ rw (last_at xs e k x (omega (arith, length-append xs (e ∷ []), bound, high))) (omega (arith, here))
+  ];
+}
+
+pub listed_next : (n : ℕ) (xs : List (Sat × Span)) → AreListed n xs → AreListed (n + 1) xs
+listed_next n xs h = record {
+  declared = h.declared;
+  ascending = h.ascending;
+  below = λ k x bound. omega (arith, h.below k x bound);
+}

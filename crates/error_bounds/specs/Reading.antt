@@ -1,5 +1,5 @@
 -- What a reader of settings texts answers.
-use Rattle.std.specs.Prelude.{◌≡◌, ◌⊎◌, ℤ, map, ◌+ℤ◌, ◌-ℤ◌, ℕ, List, [], ◌∷◌, Bool, ◌&&◌, ◌==◌, if◌then◌else◌, pos, Option, None, Some, Result, Ok, Err}
+use Rattle.std.specs.Prelude.{◌≡◌, ◌⊎◌, ◌<◌, ℤ, map, ◌+ℤ◌, ◌-ℤ◌, ℕ, List, [], ◌∷◌, Bool, ◌&&◌, ◌==◌, if◌then◌else◌, pos, Option, None, Some, Result, Ok, Err}
 use Rattle.std.specs.Borrow.{Bor}
 use Rattle.sat_model.specs.Boxes.{GridBox}
 use Rattle.sat_model.specs.Relaxed.{ends}
@@ -10,7 +10,8 @@ use Rattle.error_bounds.specs.Faults.{Found, IsCut, number_of}
 use Rattle.error_bounds.specs.Keys.{Test, data_at, dotted, first_found}
 use Rattle.error_bounds.specs.Keys as key
 use Rattle.error_bounds.specs.Names.{unknown, IsFirstName}
-use Rattle.error_bounds.specs.Sizes.{IsNearEarth}
+use Rattle.std.specs.List.{All}
+use Rattle.error_bounds.specs.Sizes.{IsNearEarth, AreDeclared, IsAscending}
 use Rattle.error_bounds.specs.Texts.{SettingsValue, IsValue, IsFirstFault, IsFound, add}
 use Rattle.error_bounds.specs.declared.fault.Fault.{Fault}
 use Rattle.error_bounds.specs.declared.fault.Fault.TheVariants.{Unknown}
@@ -107,6 +108,12 @@ IsRefusalOf found (Refused told) = Tells found told
 abbrev pub GivesFault : Found → Result Settings SettingsError → Type 0
 GivesFault found (Ok settings) = ⊥
 GivesFault found (Err e) = IsRefusalOf found e
+
+-- satellites with numbers below one, in order, with declared spans
+pub record AreListed (number : ℕ) (extra : List (Sat × Span)) : Type 0 where
+  pub declared : AreDeclared extra
+  pub ascending : IsAscending extra
+  pub below : All (λ e. e.0.number < number) extra
 
 -- ---- what the keys of a table give
 

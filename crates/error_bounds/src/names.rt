@@ -1,6 +1,9 @@
 //! Names that are those of no key.
 
-ghost use Rattle.std.specs.Prelude.{◌≡◌, ◌++◌, [], map, string_bytes, IfOk, IfErr, OnOk};
+ghost use Rattle.std.specs.Prelude.{◌≡◌, ◌++◌, [], false, map, string_bytes, MatchOption, IfOk, IfErr, OnOk};
+ghost use Rattle.std.specs.List.{All, Contains};
+ghost use Rattle.std.specs.Ordering.{is_lt};
+ghost use Rattle.std.specs.String.{string_cmp};
 ghost use Rattle.toml.specs.View.{table_view};
 ghost use Rattle.error_bounds.specs.Names.{unknown, strangers, members_at, is_table, is_satellite};
 ghost use Rattle.error_bounds.specs.Reading.{RefusesName};
@@ -147,13 +150,20 @@ fn unknown_names(alloc: Global, tree: &Table) -> Result<Vec<String>, AllocError>
     Ok(names)
 }
 
+/// The first of the names in byte order, where there is one.
+fn first_name(names: &[String]) -> Option<&String>
+    ensures { MatchOption result (names.now ≡ []) (λ name. Contains names.now name.now × All (λ other. is_lt (string_cmp other name.now) ≡ false) names.now) }
+{
+    names.iter().min()
+}
+
 /// Passes a tree whose names are all known, and tells of the first of the others.
 pub fn check_names(alloc: Global, tree: &Table) -> Result<(), SettingsError>
     ensures known { OnOk result (unknown (table_view tree.now) ≡ []) }
     ensures fault { IfErr result (RefusesName (unknown (table_view tree.now))) }
 {
     let names = unknown_names(alloc, tree)?;
-    match names.iter().min() {
+    match first_name(&names) {
         Some(name) => Err(SettingsError::Refused(SettingsFault::new(
             Fault::Unknown,
             name.as_str(),

@@ -1,12 +1,13 @@
 //! What is declared for single satellites.
 
-ghost use Rattle.std.specs.Prelude.{◌≡◌, ◌≤◌, [], ◌∷◌, None, Ok, option_map, IfSome, IfOk, IfErr, OnOk};
+ghost use Rattle.std.specs.Prelude.{◌≡◌, ◌≤◌, ◌+◌, [], ◌∷◌, ◌++◌, None, Ok, option_map, IfSome, IfOk, IfErr, OnOk};
+ghost use Rattle.std.specs.List.{cons_option};
 ghost use Rattle.sat_model.specs.Relaxed.{ends};
 ghost use Rattle.toml.specs.View.{table_view};
-ghost use Rattle.error_bounds.specs.Keys.{satellites, satellite, satellite_name, satellite_tests, satellite_tests_in, optional, test_optional, first_found};
-ghost use Rattle.error_bounds.specs.Reading.{TellsFirst, RefusesTests, with_ends};
-ghost use Rattle.error_bounds.specs.Sizes.{IsDeclared, AreDeclared, IsAscending};
-ghost use Rattle.error_bounds.specs.Texts.{extra_in};
+ghost use Rattle.error_bounds.specs.Keys.{satellites, satellite, satellite_name, satellite_tests, satellite_tests_in, optional, test_optional, fault_in, first_found};
+ghost use Rattle.error_bounds.specs.Reading.{AreListed, TellsFirst, RefusesTests, with_ends};
+ghost use Rattle.error_bounds.specs.Sizes.{IsDeclared};
+ghost use Rattle.error_bounds.specs.Texts.{extra_in, extra_of};
 
 use crate::fault::{Fault, SettingsError, SettingsFault};
 use crate::form::{Errors, Form};
@@ -45,22 +46,46 @@ fn own_span(members: &Table, number: u8) -> Result<Option<Span>, SettingsFault>
     }
 }
 
-/// The spans in the table of the satellites.
-fn own_spans(alloc: Global, members: &Table) -> Result<Vec<(Sat, Span)>, SettingsError>
-    ensures none { OnOk result (first_found (satellite_tests_in (Ok (table_view members.now))) ≡ None) }
-    ensures extra { IfOk result (λ extra. with_ends extra.items ≡ extra_in (Ok (table_view members.now))) }
-    ensures within { IfOk result (λ extra. AreDeclared extra.items) }
-    ensures once { IfOk result (λ extra. IsAscending extra.items) }
-    ensures fault { IfErr result (RefusesTests (satellite_tests_in (Ok (table_view members.now)))) }
+/// Adds the span of one satellite, where it has one.
+fn add_own_span(
+    members: &Table,
+    number: u8,
+    spans: &mut Vec<(Sat, Span)>,
+) -> Result<(), SettingsError>
+    requires { number ≤ 99 }
+    ensures faultless { OnOk result (fault_in (optional (satellite number) (table_view members.now)) ≡ None) }
+    ensures extra { OnOk result (with_ends spans.new.items ≡ with_ends spans.old.items ++ cons_option (extra_of number (optional (satellite number) (table_view members.now))) []) }
+    ensures listed { OnOk result (AreListed number spans.old.items → AreListed (number + 1) spans.new.items) }
+    ensures fault { IfErr result (RefusesTests (test_optional (table_view members.now) (satellite number) ∷ [])) }
 {
-    let mut spans = Vec::new(alloc);
-    'numbers: for number in 1..100 {
-        if let Some(span) = own_span(members, number)? {
+    match own_span(members, number) {
+        Ok(Some(span)) => {
             let sat = Sat {
                 system: b'G',
                 number,
             };
-            spans.push((sat, span))?;
+            match spans.push((sat, span)) {
+                Ok(()) => Ok(()),
+                Err(_) => Err(SettingsError::NoMemory),
+            }
+        }
+        Ok(None) => Ok(()),
+        Err(fault) => Err(SettingsError::Refused(fault)),
+    }
+}
+
+/// The spans in the table of the satellites.
+fn own_spans(alloc: Global, members: &Table) -> Result<Vec<(Sat, Span)>, SettingsError>
+    ensures none { OnOk result (first_found (satellite_tests_in (Ok (table_view members.now))) ≡ None) }
+    ensures extra { IfOk result (λ extra. with_ends extra.items ≡ extra_in (Ok (table_view members.now))) }
+    ensures listed { IfOk result (λ extra. AreListed 100 extra.items) }
+    ensures fault { IfErr result (RefusesTests (satellite_tests_in (Ok (table_view members.now)))) }
+{
+    let mut spans = Vec::new(alloc);
+    'numbers: for number in 1..100 {
+        match add_own_span(members, number, &mut spans) {
+            Ok(()) => {}
+            Err(error) => return Err(error),
         }
     }
     Ok(spans)
@@ -70,8 +95,7 @@ fn own_spans(alloc: Global, members: &Table) -> Result<Vec<(Sat, Span)>, Setting
 pub fn read_satellites(alloc: Global, tree: &Table) -> Result<Vec<(Sat, Span)>, SettingsError>
     ensures none { OnOk result (first_found (satellite_tests (table_view tree.now)) ≡ None) }
     ensures extra { IfOk result (λ extra. with_ends extra.items ≡ extra_in (satellites (table_view tree.now))) }
-    ensures within { IfOk result (λ extra. AreDeclared extra.items) }
-    ensures once { IfOk result (λ extra. IsAscending extra.items) }
+    ensures listed { IfOk result (λ extra. AreListed 100 extra.items) }
     ensures fault { IfErr result (RefusesTests (satellite_tests (table_view tree.now))) }
 {
     let Some(value) = tree.get("satellite") else {

@@ -1,9 +1,8 @@
-use Rattle.std.proofs.Common.{◌≡◌, ◌++◌, ◌-◌, ◌<◌, None, Ok, map}
-use Rattle.std.specs.List.{All, range_with_len, filter_map}
+use Rattle.std.proofs.Common.{◌≡◌, ◌++◌, ◌-◌,  Ok, map}
+use Rattle.std.specs.List.{range_with_len, filter_map}
 use Rattle.toml.specs.View.{table_view}
 use Rattle.error_bounds.specs.Keys.{first_found, test_optional, satellite, satellite_tests_in, optional}
-use Rattle.error_bounds.specs.Reading.{with_ends}
-use Rattle.error_bounds.specs.Sizes.{AreDeclared, IsAscending}
+use Rattle.error_bounds.specs.Reading.{AreListed, with_ends}
 use Rattle.error_bounds.specs.Texts.{extra_of, extra_in}
 use Rattle.error_bounds.proofs.satellites.own_spans.Given as goal
 
@@ -13,7 +12,5 @@ invariant-numbers l = record {
       ≡ first_found (satellite_tests_in (Ok (table_view l.members)));
   extra : with_ends l.spans.items ++ filter_map (λ number. extra_of number (optional (satellite number) (table_view l.members))) (range_with_len l.number (100 - l.number))
       ≡ extra_in (Ok (table_view l.members));
-  within : AreDeclared l.spans.items;
-  once : IsAscending l.spans.items;
-  below : All (λ e. e.0.number < l.number) l.spans.items;
+  listed : AreListed l.number l.spans.items;
 }

@@ -9,13 +9,13 @@ use Rattle.error_bounds.proofs.tables.read_bounds.Goals as goal
 pub returns-clause-value : goal.returns-clause-value
 returns-clause-value c = record {
   receiver = ends c.in_ok-receiver.receiver;
-  is_receiver = bound_value (codes "receiver") (table_view c.args.tree.now) _ c.in_ok-receiver.ensures.value;
+  is_receiver = bound_value (codes "receiver") (table_view c.args.tree.now) c.in_ok-receiver.receiver c.in_ok-receiver.ensures.value;
   orbit_clock = ends c.in_ok-orbit_clock.orbit_clock;
-  is_orbit_clock = bound_value (codes "orbit_clock") (table_view c.args.tree.now) _ c.in_ok-orbit_clock.ensures.value;
+  is_orbit_clock = bound_value (codes "orbit_clock") (table_view c.args.tree.now) c.in_ok-orbit_clock.orbit_clock c.in_ok-orbit_clock.ensures.value;
   ionosphere = ends c.in_ok-ionosphere.ionosphere;
-  is_ionosphere = bound_value (codes "ionosphere") (table_view c.args.tree.now) _ c.in_ok-ionosphere.ensures.value;
+  is_ionosphere = bound_value (codes "ionosphere") (table_view c.args.tree.now) c.in_ok-ionosphere.ionosphere c.in_ok-ionosphere.ensures.value;
   troposphere = ends c.in_ok-troposphere.troposphere;
-  is_troposphere = bound_value (codes "troposphere") (table_view c.args.tree.now) _ c.in_ok-troposphere.ensures.value;
+  is_troposphere = bound_value (codes "troposphere") (table_view c.args.tree.now) c.in_ok-troposphere.troposphere c.in_ok-troposphere.ensures.value;
   sum = c.sum.ensures.value
       ∙ ap (λ (e : ℤ × ℤ). add e (ends c.in_ok-troposphere.troposphere))
       (c.sum-common-2.ensures.value ∙ ap (λ (e : ℤ × ℤ). add e (ends c.in_ok-ionosphere.ionosphere)) c.sum-common.ensures.value);
