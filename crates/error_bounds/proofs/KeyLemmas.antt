@@ -3,14 +3,14 @@ use Rattle.std.proofs.Common.{◌≡◌, ℕ, suc, ◌+◌, ◌-◌, ◌<◌, �
 use Rattle.std.proofs.lemmas.Bool.{cases_lt}
 use Rattle.std.proofs.lemmas.List.{get_or_append_left, get_or-append-add}
 use Rattle.std.proofs.lemmas.Option.{none-some}
-use Rattle.std.specs.List.{range_with_len, filter_map, cons_option}
+use Rattle.std.specs.List.{filter_map, cons_option}
 use Rattle.sat_model.specs.Relaxed.{ends}
 use Rattle.sat_model.specs.declared.satellites.Sat.{Sat}
 use Rattle.sat_model.specs.declared.spans.Span.{Span}
-use Rattle.toml.specs.Data.{Members}
+use Rattle.toml.specs.Data.{Members, no_members}
 use Rattle.error_bounds.specs.Faults.{Found}
 use Rattle.error_bounds.specs.Forms.{errors}
-use Rattle.error_bounds.specs.Keys.{Test, bound, value_of, printed, optional, satellite, test_optional, satellite_tests_in, fault_in, first_found, first_or}
+use Rattle.error_bounds.specs.Keys.{Test, bound, value_of, printed, optional, satellite, test_optional, satellite_tests_in, fault_in, first_found, first_or, numbers_from}
 use Rattle.error_bounds.specs.Reading.{Answers, AreListed, RefusesTests, ends_in}
 use Rattle.error_bounds.specs.Sizes.{IsDeclared}
 use Rattle.error_bounds.specs.Texts.{extra_of}
@@ -44,32 +44,37 @@ found_before (t ∷ a) b found h = before_one t.fault t.key (first_found a) (fir
 
 -- ---- the numbers of the satellites
 
-pub numbers_step : (n : ℕ) → n < 100 → range_with_len n (100 - n) ≡ n ∷ range_with_len (n + 1) (100 - (n + 1))
+pub numbers_step : (n : ℕ) → n < 100 → numbers_from n ≡ n ∷ numbers_from (n + 1)
+unfolding numbers_from
 numbers_step n h =
     let more : 100 - n ≡ suc (100 - (n + 1)) = omega arith in
     rw more refl
 
+pub numbers_end : (n : ℕ) → n ≡ 100 → numbers_from n ≡ []
+unfolding numbers_from
+numbers_end n e = rw e refl
+
 -- what a step over one satellite leaves
-pub tests_step : (n : ℕ) (members : Members) → n < 100 → fault_in (optional (satellite n) members) ≡ None
-    → first_found (map (λ number. test_optional members (satellite number)) (range_with_len n (100 - n)))
-    ≡ first_found (map (λ number. test_optional members (satellite number)) (range_with_len (n + 1) (100 - (n + 1))))
-tests_step n members h none = rw (numbers_step n h, none) refl
+pub tests_step : (n : ℕ) (table : Members) → n < 100 → fault_in (optional (satellite n) table) ≡ None
+    → first_found (map (λ number. test_optional table (satellite number)) (numbers_from n))
+    ≡ first_found (map (λ number. test_optional table (satellite number)) (numbers_from (n + 1)))
+tests_step n table h none = rw (numbers_step n h, none) refl
 
 append_option : (o : Option (Sat × (ℤ × ℤ))) (old rest : List (Sat × (ℤ × ℤ))) → (old ++ cons_option o []) ++ rest ≡ old ++ cons_option o rest
 append_option None old rest = rw (append-nil old) refl
 append_option (Some e) old rest = append_assoc old (e ∷ []) rest
 
-pub extra_step : (n : ℕ) (members : Members) (old new all : List (Sat × (ℤ × ℤ))) → n < 100 → new ≡ old ++ cons_option (extra_of n (optional (satellite n) members)) []
-    → old ++ filter_map (λ number. extra_of number (optional (satellite number) members)) (range_with_len n (100 - n)) ≡ all
-    → new ++ filter_map (λ number. extra_of number (optional (satellite number) members)) (range_with_len (n + 1) (100 - (n + 1))) ≡ all
-extra_step n members old new all h added whole = rw added (append_option (extra_of n (optional (satellite n) members)) old _ ∙ (rw (numbers_step n h) at whole))
+pub extra_step : (n : ℕ) (table : Members) (old new all : List (Sat × (ℤ × ℤ))) → n < 100 → new ≡ old ++ cons_option (extra_of n (optional (satellite n) table)) []
+    → old ++ filter_map (λ number. extra_of number (optional (satellite number) table)) (numbers_from n) ≡ all
+    → new ++ filter_map (λ number. extra_of number (optional (satellite number) table)) (numbers_from (n + 1)) ≡ all
+extra_step n table old new all h added whole = rw added (append_option (extra_of n (optional (satellite n) table)) old _ ∙ (rw (numbers_step n h) at whole))
 
-pub refused_step : (n : ℕ) (members : Members) (error : SettingsError) → n < 100
-    → first_found (map (λ number. test_optional members (satellite number)) (range_with_len n (100 - n))) ≡ first_found (satellite_tests_in (Ok members))
-    → RefusesTests (test_optional members (satellite n) ∷ []) error → RefusesTests (satellite_tests_in (Ok members)) error
-refused_step n members NoMemory h same refused = tt
-refused_step n members (Refused told) h same (found, here, tells) =
-    (found, sym same ∙ rw (numbers_step n h) (before_one (fault_in (optional (satellite n) members)) (printed (satellite n)) None _ found here (λ e. absurd (none-some _ e))), tells)
+pub refused_step : (n : ℕ) (table : Members) (error : SettingsError) → n < 100
+    → first_found (map (λ number. test_optional table (satellite number)) (numbers_from n)) ≡ first_found (satellite_tests_in (Ok table))
+    → RefusesTests (test_optional table (satellite n) ∷ []) error → RefusesTests (satellite_tests_in (Ok table)) error
+refused_step n table NoMemory h same refused = tt
+refused_step n table (Refused told) h same (found, here, tells) =
+    (found, sym same ∙ rw (numbers_step n h) (before_one (fault_in (optional (satellite n) table)) (printed (satellite n)) None _ found here (λ e. absurd (none-some _ e))), tells)
 
 -- ---- the spans of satellites
 
@@ -99,3 +104,13 @@ listed_next n xs h = record {
   ascending = h.ascending;
   below = λ k x bound. omega (arith, h.below k x bound);
 }
+
+-- ---- a text without the table of satellites
+
+pub empty_tests : (numbers : List ℕ) → first_found (map (λ number. test_optional no_members (satellite number)) numbers) ≡ None
+empty_tests [] = refl
+empty_tests (n ∷ more) = empty_tests more
+
+pub empty_extra : (numbers : List ℕ) → filter_map (λ number. extra_of number (optional (satellite number) no_members)) numbers ≡ []
+empty_extra [] = refl
+empty_extra (n ∷ more) = empty_extra more

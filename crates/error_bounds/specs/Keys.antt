@@ -1,5 +1,5 @@
 -- The keys of the settings, in the order in which they are tested.
-use Rattle.std.specs.Prelude.{ℕ, ◌+◌, ◌/◌, ◌%◌, ℤ, codes, List, [], ◌∷◌, ◌++◌, map, Option, None, Some, ok_or, Result, Ok, Err}
+use Rattle.std.specs.Prelude.{ℕ, ◌+◌, ◌-◌, ◌/◌, ◌%◌, ℤ, codes, List, [], ◌∷◌, ◌++◌, map, Option, None, Some, ok_or, Result, Ok, Err}
 use Rattle.std.specs.List.{range_with_len}
 use Rattle.sat_model.specs.declared.boxes.Pos.{Pos}
 use Rattle.sat_model.specs.declared.satellites.Signal.{Signal}
@@ -95,8 +95,12 @@ satellite_name number = 71 ∷ (48 + number / 10) ∷ (48 + number % 10) ∷ []
 abbrev pub satellite : ℕ → Key (ℤ × ℤ)
 satellite number = record { table = codes "satellite"; name = satellite_name number; form = errors }
 
+-- the numbers from one up to 99
+unfoldable pub numbers_from : ℕ → List ℕ
+numbers_from number = range_with_len number (100 - number)
+
 abbrev pub satellite_numbers : List ℕ
-satellite_numbers = range_with_len 1 99
+satellite_numbers = numbers_from 1
 
 -- ---- their tests
 

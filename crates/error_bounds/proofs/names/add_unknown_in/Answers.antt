@@ -11,3 +11,8 @@ pub returns-in-Some-as_table : goal.returns-in-Some-as_table
 returns-in-Some-as_table c =
     let found = table_get c.get.result c.args.table.now c.args.tree.now.entries c.get.ensures.value in
     rw (← rw c.in-Some.is at found, ← rw c.in-Some-as_table.is at c.as_table.ensures) c.add_unknown.ensures
+
+pub returns-in-None : goal.returns-in-None
+returns-in-None c =
+    let found = table_get c.get.result c.args.table.now c.args.tree.now.entries c.get.ensures.value in
+    rw (← rw c.in-Some.is at found, ← rw c.in-None.is at c.as_table.ensures) (sym (append-nil _))

@@ -1,6 +1,6 @@
-use Rattle.std.proofs.Common.{◌≡◌, ◌<◌, sym, ◌∙◌}
+use Rattle.std.proofs.Common.{◌≡◌, refl, sym, ◌∙◌, arith, append-nil}
 use Rattle.toml.specs.View.{table_view}
-use Rattle.error_bounds.proofs.KeyLemmas.{tests_step, extra_step, refused_step}
+use Rattle.error_bounds.proofs.KeyLemmas.{tests_step, extra_step, refused_step, numbers_end}
 use Rattle.error_bounds.proofs.satellites.own_spans.Goals as goal
 
 pub numbers-preserved : goal.numbers-preserved
@@ -12,3 +12,10 @@ numbers-preserved c = record {
 
 pub returns-in-Err-clause-fault : goal.returns-in-Err-clause-fault
 returns-in-Err-clause-fault c = refused_step c.numbers.number (table_view c.args.members.now) _ c.numbers-test.true c.numbers.invariant.tests c.in-Err.ensures.fault
+
+pub returns-clause-none : goal.returns-clause-none
+returns-clause-none c = sym c.numbers.invariant.tests ∙ rw (numbers_end c.numbers.number (omega (arith, c.numbers-test.false, c.numbers.auto.number-end))) refl
+
+pub returns-clause-extra : goal.returns-clause-extra
+returns-clause-extra c =
+    sym (append-nil _) ∙ (rw (numbers_end c.numbers.number (omega (arith, c.numbers-test.false, c.numbers.auto.number-end))) at c.numbers.invariant.extra)

@@ -1,0 +1,40 @@
+use Rattle.std.proofs.Common.{codes, refl}
+use Rattle.toml.proofs.Views.{table_get}
+use Rattle.error_bounds.specs.Keys.{satellite_numbers}
+use Rattle.error_bounds.specs.declared.fault.Fault.TheVariants.{WrongKind}
+use Rattle.error_bounds.proofs.KeyLemmas.{empty_tests, empty_extra}
+use Rattle.error_bounds.proofs.satellites.read_satellites.Goals as goal
+
+pub returns-in_default-clause-none : goal.returns-in_default-clause-none
+returns-in_default-clause-none c =
+    let found = table_get c.get.result (codes "satellite") c.args.tree.now.entries c.get.ensures.value in
+    rw (← rw c.in_default.is at found) (empty_tests satellite_numbers)
+
+pub returns-in_default-clause-extra : goal.returns-in_default-clause-extra
+returns-in_default-clause-extra c =
+    let found = table_get c.get.result (codes "satellite") c.args.tree.now.entries c.get.ensures.value in
+    rw (← rw c.in_default.is at found, empty_extra satellite_numbers, c.new.ensures.items) refl
+
+pub returns-in-Some-as_table-clause-none : goal.returns-in-Some-as_table-clause-none
+returns-in-Some-as_table-clause-none c =
+    let found = table_get c.get.result (codes "satellite") c.args.tree.now.entries c.get.ensures.value in
+    rw (← rw c.in-Some.is at found, ← rw c.in-Some-as_table.is at c.as_table.ensures) c.own_spans.ensures.none
+
+pub returns-in-Some-as_table-clause-extra : goal.returns-in-Some-as_table-clause-extra
+returns-in-Some-as_table-clause-extra c =
+    let found = table_get c.get.result (codes "satellite") c.args.tree.now.entries c.get.ensures.value in
+    rw (← rw c.in-Some.is at found, ← rw c.in-Some-as_table.is at c.as_table.ensures) c.own_spans.ensures.extra
+
+pub returns-in-Some-as_table-clause-fault : goal.returns-in-Some-as_table-clause-fault
+returns-in-Some-as_table-clause-fault c =
+    let found = table_get c.get.result (codes "satellite") c.args.tree.now.entries c.get.ensures.value in
+    rw (← rw c.in-Some.is at found, ← rw c.in-Some-as_table.is at c.as_table.ensures) c.own_spans.ensures.fault
+
+pub returns-in-None-clause-fault : goal.returns-in-None-clause-fault
+returns-in-None-clause-fault c =
+    let found = table_get c.get.result (codes "satellite") c.args.tree.now.entries c.get.ensures.value in
+    (
+      record { fault = WrongKind; key = codes "satellite" },
+      rw (← rw c.in-Some.is at found, ← rw c.in-None.is at c.as_table.ensures) refl,
+      c.new.ensures,
+    )
