@@ -2,3 +2,4 @@ pub mod FormLemmas
 pub mod SettingsLemmas
 pub mod KeyLemmas
 pub mod NameLemmas
+pub mod TreeLemmas

@@ -36,5 +36,5 @@ returns-in-None-clause-fault c =
     (
       record { fault = WrongKind; key = codes "satellite" },
       rw (← rw c.in-Some.is at found, ← rw c.in-None.is at c.as_table.ensures) refl,
-      c.new.ensures,
+      c.new-in-None.ensures,
     )
