@@ -55,10 +55,10 @@ members_long : {V : Type 0} (kind : Data → Option V) (vs : List Value) (ns : L
 members_long kind [] ns h = rw (← same_Some _ _ h) refl
 members_long {V} kind (v ∷ vs) ns h = longer (kind (view v)) (all_members kind (items_view vs)) ns h (members_long kind vs)
   where
-  longer : (o : Option V) (more : Option (List V)) (ns : List V) → option_and_then (λ v. option_map (λ vs. v ∷ vs) more) o ≡ Some ns → ((ms : List V) → more ≡ Some ms → length ms ≡ length vs) → length ns ≡ suc (length vs)
-  longer None more ns h ih = absurd (none-some ns h)
-  longer (Some x) None ns h ih = absurd (none-some ns h)
-  longer (Some x) (Some ms) ns h ih = rw (← same_Some _ _ h) (ap suc (ih ms refl))
+    longer : (o : Option V) (more : Option (List V)) (ns : List V) → option_and_then (λ v. option_map (λ vs. v ∷ vs) more) o ≡ Some ns → ((ms : List V) → more ≡ Some ms → length ms ≡ length vs) → length ns ≡ suc (length vs)
+    longer None more ns h ih = absurd (none-some ns h)
+    longer (Some x) None ns h ih = absurd (none-some ns h)
+    longer (Some x) (Some ms) ns h ih = rw (← same_Some _ _ h) (ap suc (ih ms refl))
 
 -- a list of another length
 pub others_outside : {V W : Type 0} (kind : Data → Option V) (form : List V → Result W Fault) (n : ℕ) (vs : List Value)
@@ -66,9 +66,9 @@ pub others_outside : {V W : Type 0} (kind : Data → Option V) (form : List V �
     → Err Outside ≡ of_kind (all_members kind (items_view vs)) form
 others_outside {V} {W} kind form n vs outside other there = by_members (all_members kind (items_view vs)) (members_long kind vs) there
   where
-  by_members : (o : Option (List V)) → ((ns : List V) → o ≡ Some ns → length ns ≡ length vs) → true ≡ is_some o → Err Outside ≡ of_kind o form
-  by_members None long there = absurd (false≢true (sym there))
-  by_members (Some ns) long there = sym (outside ns (λ e. other (sym (long ns refl) ∙ e)))
+    by_members : (o : Option (List V)) → ((ns : List V) → o ≡ Some ns → length ns ≡ length vs) → true ≡ is_some o → Err Outside ≡ of_kind o form
+    by_members None long there = absurd (false≢true (sym there))
+    by_members (Some ns) long there = sym (outside ns (λ e. other (sym (long ns refl) ∙ e)))
 
 pub not_two : (ns : List ℤ) → (length ns ≢ 2) → ends_of ns ≡ Err Outside
 not_two [] other = refl

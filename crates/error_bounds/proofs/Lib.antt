@@ -3,3 +3,4 @@ pub mod SettingsLemmas
 pub mod KeyLemmas
 pub mod NameLemmas
 pub mod TreeLemmas
+pub mod OnlyLemmas

@@ -25,14 +25,20 @@ pub from_search : (tree : Members) (told : SettingsFault) → TellsFirst (search
 from_search tree told (found, here, tells) = (found, inl (found_before (search_tests tree) (signal_tests tree ++ (bounds_tests tree ++ satellite_tests tree)) found here), tells)
 
 pub from_signal : (tree : Members) (told : SettingsFault) → first_found (search_tests tree) ≡ None → TellsFirst (signal_tests tree) told → RefusesTree tree (Refused told)
-from_signal tree told a (found, here, tells) =
-    (found, inl (found_behind (search_tests tree) (signal_tests tree ++ (bounds_tests tree ++ satellite_tests tree)) a
-    ∙ found_before (signal_tests tree) (bounds_tests tree ++ satellite_tests tree) found here), tells)
+from_signal tree told a (found, here, tells) = (
+  found,
+  inl (found_behind (search_tests tree) (signal_tests tree ++ (bounds_tests tree ++ satellite_tests tree)) a
+      ∙ found_before (signal_tests tree) (bounds_tests tree ++ satellite_tests tree) found here),
+  tells,
+)
 
 pub from_bounds : (tree : Members) (told : SettingsFault) → first_found (search_tests tree) ≡ None → first_found (signal_tests tree) ≡ None → TellsFirst (bounds_tests tree) told → RefusesTree tree (Refused told)
-from_bounds tree told a b (found, here, tells) =
-    (found, inl (found_behind (search_tests tree) (signal_tests tree ++ (bounds_tests tree ++ satellite_tests tree)) a
-    ∙ (found_behind (signal_tests tree) (bounds_tests tree ++ satellite_tests tree) b ∙ found_before (bounds_tests tree) (satellite_tests tree) found here)), tells)
+from_bounds tree told a b (found, here, tells) = (
+  found,
+  inl (found_behind (search_tests tree) (signal_tests tree ++ (bounds_tests tree ++ satellite_tests tree)) a
+      ∙ (found_behind (signal_tests tree) (bounds_tests tree ++ satellite_tests tree) b ∙ found_before (bounds_tests tree) (satellite_tests tree) found here)),
+  tells,
+)
 
 pub from_satellites : (tree : Members) (error : SettingsError) → first_found (search_tests tree) ≡ None → first_found (signal_tests tree) ≡ None → first_found (bounds_tests tree) ≡ None
     → RefusesTests (satellite_tests tree) error → RefusesTree tree error

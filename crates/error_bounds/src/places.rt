@@ -102,7 +102,10 @@ fn point(x: i64, y: i64, z: i64) -> Result<Pos, Fault>
     ensures value { result ≡ three is_coordinate (x ∷ y ∷ z ∷ []) }
     ensures near { IfOk result IsNearEarth }
 {
-    if is_within(MAX_COORDINATE, x) && is_within(MAX_COORDINATE, y) && is_within(MAX_COORDINATE, z) {
+    if is_within(MAX_COORDINATE, x)
+        && is_within(MAX_COORDINATE, y)
+        && is_within(MAX_COORDINATE, z)
+    {
         Ok(in_um(x, y, z))
     } else {
         Err(Fault::Outside)

@@ -32,8 +32,7 @@ returns-in-Some-as_table-clause-fault c =
 
 pub returns-in-None-clause-fault : goal.returns-in-None-clause-fault
 returns-in-None-clause-fault c =
-    let found = table_get c.get.result (codes "satellite") c.args.tree.now.entries c.get.ensures.value in
-    (
+    let found = table_get c.get.result (codes "satellite") c.args.tree.now.entries c.get.ensures.value in (
       record { fault = WrongKind; key = codes "satellite" },
       rw (← rw c.in-Some.is at found, ← rw c.in-None.is at c.as_table.ensures) refl,
       c.new-in-None.ensures,

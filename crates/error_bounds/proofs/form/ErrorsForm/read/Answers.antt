@@ -26,5 +26,5 @@ returns-in-Some-Some-clause-value c =
     let hi_is : to_z w64 (of_z w64 c.in-Some-Some.hi) ≡ c.in-Some-Some.hi = omega (arith, ints) in
     let two : length c.as_slice.result.now ≡ 2 = omega (arith, c.in-len2.len_at_least, c.in-len2.len_below) in
     let members = two_members as_integer c.as_slice.result.now c.lo-item.result c.hi-item.result c.in-Some-Some.lo c.in-Some-Some.hi two c.lo-item.is c.hi-item.is
-        (sym c.as_integer.ensures ∙ c.in-Some-Some.is-0) (sym c.as_integer-2.ensures ∙ c.in-Some-Some.is-1) in
+    (sym c.as_integer.ensures ∙ c.in-Some-Some.is-0) (sym c.as_integer-2.ensures ∙ c.in-Some-Some.is-1) in
     (rw (lo_is, hi_is) at c.span_of.ensures.value) ∙ rw (← rw c.in-Some.is at c.as_array.ensures, rw c.as_slice.ensures.value at members) refl
