@@ -1,5 +1,5 @@
 -- Fields inside and outside their bounds.
-use Rattle.std.proofs.Common.{◌≡◌, ℕ, ◌+◌, ◌-◌, ◌<◌, ◌≤◌, arith, refl, sym, subst, List, inl, inr, Some, Option, None, slice_get, ◌↔◌}
+use Rattle.std.proofs.Common.{◌≡◌, ℕ, ◌+◌, ◌-◌, arith, sym, subst, List, inl, inr, Some, slice_get, ◌↔◌}
 use Rattle.std.specs.Prelude.{ℤ, pos, ◌+ℤ◌, ◌*ℤ◌, ◌≤ℤ◌, ◌<ℤ◌}
 use Rattle.std.proofs.Math.Nat.{eq-or-lt_of_le}
 use Rattle.std.proofs.lemmas.Int.{ints, by_lt_z}
@@ -11,9 +11,9 @@ use Rattle.exact_decimal.proofs.Limits.{below_floor, some_parts}
 use Rattle.sat_model.specs.RecordBounds.{LiesFrom}
 use Rattle.sat_model.specs.Rounding.{IsFloor, IsCeiling}
 use Rattle.sat_model.specs.declared.spans.Wide.{Wide}
-use Rattle.sat_model.proofs.ProductLemmas.{add_mul, mul_lt_back, mul_mono}
-use Rattle.rinex_nav.specs.FieldBounds.{FieldBound, Between, Under, field_bounds, field_of, LiesUnder, IsInside, AreInsideBefore, IsFirstOutside}
-use Rattle.rinex_nav.specs.ElementsOf.{IsRounded, HoldsIn, Holds}
+use Rattle.sat_model.proofs.ProductLemmas.{add_mul, mul_lt_back}
+use Rattle.rinex_nav.specs.FieldBounds.{Between, field_bounds, field_of, IsInside, AreInsideBefore}
+use Rattle.rinex_nav.specs.ElementsOf.{IsRounded, Holds}
 
 pub one_more : (fields : List Decimal) (k : ℕ) → AreInsideBefore fields k → IsInside fields k → AreInsideBefore fields (k + 1)
 one_more fields k before is j from under = elim (eq-or-lt_of_le {n = j} {m = k} (omega arith)) [

@@ -5,6 +5,7 @@ use Rattle.rinex_text.specs.Faults.{refusal}
 use Rattle.rinex_text.specs.Headers.{IsShort}
 use Rattle.rinex_text.specs.Lines.{TextLine}
 use Rattle.rinex_text.specs.declared.fault.Fault.TheVariants.{LongLine}
+use Rattle.rinex_text.specs.declared.fault.ReadError.{ReadError}
 use Rattle.rinex_text.specs.declared.fault.Refusal.{Refusal}
 use Rattle.rinex_nav.specs.Files.{BeginsRecord, with_first, records_from}
 use Rattle.rinex_nav.specs.Records.{Broadcast, record_from}

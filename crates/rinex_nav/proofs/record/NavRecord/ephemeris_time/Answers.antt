@@ -1,8 +1,7 @@
 use Rattle.std.proofs.Common.{rules, refl, arith, FitsSigned}
-use Rattle.std.specs.Prelude.{pos, ◌+ℤ◌, ◌≤ℤ◌}
+use Rattle.std.specs.Prelude.{◌+ℤ◌}
 use Rattle.std.specs.Int.{w128}
 use Rattle.std.proofs.lemmas.Int.{to_z-of_z, ints}
-use Rattle.sat_model.specs.Sizes.{IsWithin}
 use Rattle.rinex_nav.specs.Weeks.{IsNearestWeek, IsEphemerisTime}
 use Rattle.rinex_nav.proofs.WeekLemmas.{time_size}
 use Rattle.rinex_nav.proofs.record.NavRecord.ephemeris_time.Goals as goal
