@@ -1,5 +1,5 @@
 -- What a notice of `judge` is by the status of its run.
-use Rattle.std.proofs.Common.{◌≡◌, ◌⊎◌, inl, inr, refl, sym, ap, ◌∙◌}
+use Rattle.std.proofs.Common.{◌≡◌, ◌⊎◌, inl, inr, sym, ap, ◌∙◌}
 use Rattle.std.specs.Prelude.{◌≢◌}
 use Rattle.outer_io.specs.declared.slots.Slot.TheVariants as slot
 use Rattle.cover_run.specs.Judging.{IsPlain}

@@ -1,5 +1,5 @@
 -- What a run of `pave` has read and written, by how it ended.
-use Rattle.std.proofs.Common.{◌≡◌, ◌⊎◌, ◌≤◌, ℕ, List, length, Option, Result, Ok, Err, inl, inr, refl, sym, ap, subst, ◌∙◌}
+use Rattle.std.proofs.Common.{◌≡◌, ◌≤◌, ℕ, List, length, Option, Result, Ok, Err, inl, inr, refl, subst}
 use Rattle.std.specs.Option.{option_map}
 use Rattle.log_writer.specs.Texts.{IsWhole, IsFull, IsCut, IsBegun, IsText}
 use Rattle.outer_io.specs.declared.slots.Slot.TheVariants.{Log}
@@ -10,7 +10,7 @@ use Rattle.paving_log.specs.RowsText.{IsRowsText}
 use Rattle.sat_model.specs.Logs.{LogValue}
 use Rattle.cover_run.proofs.Rewriting.{rewrites, rewrites_behind, leaves_behind}
 use Rattle.cover_run.proofs.Saying.{HasFile-of}
-use Rattle.cover_run.specs.Answers.{HasFile, LeavesFiles, RewritesTo}
+use Rattle.cover_run.specs.Answers.{HasFile, RewritesTo}
 use Rattle.cover_run.specs.Paving.{WritesLog, LogEnds, PavingEnds}
 use Rattle.cover_run.specs.Statuses.{notice_of_fault}
 use Rattle.cover_run.specs.declared.limits.Limits.{Limits}

@@ -1,18 +1,16 @@
 -- What the bytes of the rows mean for how a run of `pave` ends.
-use Rattle.std.proofs.Common.{◌≡◌, ◌⊎◌, ◌<◌, ◌≤◌, ℕ, List, length, Option, None, Some, IsSomeAnd, Result, Ok, Err, inl, inr, refl, sym, ap, subst, ◌∙◌, arith}
+use Rattle.std.proofs.Common.{◌≡◌, ◌⊎◌, ◌<◌, ◌≤◌, ℕ, List, length, Option, None, Some, IsSomeAnd, Result, Ok, Err, inl, inr, refl, sym, ap, subst, arith}
 use Rattle.std.specs.FinMap as map
 use Rattle.outer_io.specs.declared.slots.Slot.TheVariants as slot
 use Rattle.outer_io.specs.Told.{Told, files_of, written_of}
-use Rattle.paving_log.specs.RowsText.{IsRowsText}
 use Rattle.sat_model.specs.Logs.{LogValue}
 use Rattle.cover_run.proofs.Saying.{HasFile-of}
 use Rattle.cover_run.specs.Answers.{HasFile, IsToldFile, LeavesFiles, IsBrokenOff}
-use Rattle.cover_run.specs.Paving.{SpellNoRows, NamesRowsFault, RefusesRows, LogEnds, PavingEnds}
+use Rattle.cover_run.specs.Paving.{NamesRowsFault, RefusesRows, LogEnds, PavingEnds}
 use Rattle.cover_run.specs.Statuses.{ending, status_of}
 use Rattle.cover_run.specs.declared.limits.Limits.{Limits}
 use Rattle.cover_run.specs.declared.notice.Notice.{Notice}
 use Rattle.cover_run.specs.declared.notice.Notice.TheVariants as notice
-use Rattle.cover_run.specs.declared.status.Status.{Status}
 use Rattle.cover_run.specs.declared.status.Status.TheVariants as status
 
 -- ---- a told file

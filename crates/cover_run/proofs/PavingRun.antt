@@ -1,19 +1,15 @@
 -- How a run of `pave` ended says what it has read and written.
-use Rattle.std.proofs.Common.{◌≡◌, ◌⊎◌, ◌≤◌, ℕ, List, length, Option, Some, true, false, Result, Ok, Err, inl, inr, refl, sym, ap, subst, ◌∙◌}
-use Rattle.std.specs.Prelude.{◌≢◌, IfErr}
+use Rattle.std.proofs.Common.{◌≡◌, ◌⊎◌, ℕ, List, Option, Result, Ok, Err, inl, inr, refl, sym, ap, ◌∙◌}
+use Rattle.std.specs.Prelude.{◌≢◌}
 use Rattle.log_writer.specs.Texts.{IsWhole, IsFull, IsCut, IsBegun}
-use Rattle.outer_io.specs.Causes.{Rose}
-use Rattle.outer_io.specs.declared.slots.Slot.{Slot}
 use Rattle.outer_io.specs.declared.slots.Slot.TheVariants as slot
-use Rattle.outer_io.specs.Told.{Told, is_missing}
-use Rattle.cover_run.specs.Answers.{HasFile, LeavesFiles, Gets}
+use Rattle.outer_io.specs.Told.{Told}
+use Rattle.cover_run.specs.Answers.{HasFile, LeavesFiles}
 use Rattle.cover_run.specs.Paving.{RefusesRows, WritesLog, PavingEnds, IsPlainNotice}
 use Rattle.cover_run.specs.Statuses.{ending, status_of}
-use Rattle.cover_run.specs.Texts.{notice_text}
 use Rattle.cover_run.specs.declared.limits.Limits.{Limits}
 use Rattle.cover_run.specs.declared.notice.Notice.{Notice}
 use Rattle.cover_run.specs.declared.notice.Notice.TheVariants as notice
-use Rattle.cover_run.specs.declared.status.Status.{Status}
 use Rattle.cover_run.specs.declared.status.Status.TheVariants as status
 
 abbrev pub Ended : Type 0

@@ -4,7 +4,7 @@ use Rattle.std.specs.Io.KnownBytes.{append_known}
 use Rattle.outer_io.specs.Causes.{Rose}
 use Rattle.outer_io.specs.declared.slots.Slot.TheVariants as slot
 use Rattle.outer_io.specs.Taken.{TakenBy}
-use Rattle.outer_io.specs.Told.{is_missing, files_of, written_of}
+use Rattle.outer_io.specs.Told.{is_missing}
 use Rattle.paving_log.specs.Faults as text
 use Rattle.paving_log.specs.Text.{IsLogText}
 use Rattle.paving_log.specs.declared.log.LogError.TheVariants as error

@@ -4,12 +4,12 @@ use Rattle.std.proofs.lemmas.Bool.{and_parts, false≢true}
 use Rattle.std.proofs.lemmas.Int.{ints}
 use Rattle.sat_model.specs.Sizes.{IsWithin}
 use Rattle.sat_model.specs.declared.boxes.Pos.{Pos}
-use Rattle.toml.specs.Data.{Data, Items, no_items, item}
+use Rattle.toml.specs.Data.{Data, Items}
 use Rattle.toml.specs.View.{view, items_view}
 use Rattle.toml.specs.declared.value.Value.{Value}
 use Rattle.toml.proofs.Views.{items_view-drop}
 use Rattle.std.proofs.lemmas.Option.{same_Some, none-some}
-use Rattle.error_bounds.specs.Forms.{all_members, of_kind, ends_of, three, codes_for, is_from, um}
+use Rattle.error_bounds.specs.Forms.{all_members, of_kind, ends_of, three, codes_for, is_from}
 use Rattle.error_bounds.specs.declared.fault.Fault.{Fault}
 use Rattle.error_bounds.specs.Sizes.{IsHalfSide}
 use Rattle.error_bounds.specs.declared.fault.Fault.TheVariants.{Outside}

@@ -1,5 +1,5 @@
 -- A text has one value or one first fault.
-use Rattle.std.proofs.Common.{◌≡◌, ℕ, ℤ, List, [], Option, Some, None, Result, Ok, Err, IfOk, IfErr, IsUtf8, length, false, Ordering, Less, Equal, Greater, nat_cmp, is_eq, refl, sym, ap, ◌∙◌, inl, inr, arith}
+use Rattle.std.proofs.Common.{◌≡◌, ℕ, ℤ, List, [], Result, Ok, Err, IfOk, IfErr, length, false, Ordering, Less, Equal, Greater, nat_cmp, is_eq, refl, sym, ap, ◌∙◌, inl, inr, arith}
 use Rattle.std.proofs.lemmas.Bool.{false≢true}
 use Rattle.std.proofs.lemmas.Cmp.{nat_list_cmp_total}
 use Rattle.std.proofs.lemmas.Map.Text.{is_eq-slice_cmp}
@@ -11,12 +11,10 @@ use Rattle.sat_model.specs.declared.boxes.Pos.{Pos}
 use Rattle.sat_model.specs.declared.satellites.Sat.{Sat}
 use Rattle.sat_model.specs.declared.satellites.Signal.{Signal}
 use Rattle.toml.specs.Data.{Members}
-use Rattle.toml.specs.Parse.{parse_document}
 use Rattle.error_bounds.specs.Texts.{SettingsValue, IsValue, IsTree, IsSettings, IsFound, IsFirstFault, add}
 use Rattle.error_bounds.specs.Faults.{Found}
 use Rattle.error_bounds.specs.Names.{unknown, IsFirstName}
 use Rattle.error_bounds.specs.declared.fault.Fault.{Fault}
-use Rattle.error_bounds.specs.declared.fault.Fault.TheVariants.{Unknown}
 use Rattle.error_bounds.specs.declared.fault.SettingsError.TheVariants.{Refused, NoMemory}
 use Rattle.error_bounds.specs.Reading.{value_of_settings, GivesSettings, GivesFault, RefusesFirst}
 use Rattle.error_bounds.specs.declared.settings.Centre.{Centre}

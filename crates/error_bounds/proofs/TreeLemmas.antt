@@ -1,7 +1,6 @@
 -- A tree's first fault, table by table.
-use Rattle.std.proofs.Common.{◌≡◌, ℕ, List, [], ◌++◌, Some, None, refl, sym, ◌∙◌, inl, inr}
+use Rattle.std.proofs.Common.{◌≡◌, ◌++◌, None, refl, ◌∙◌, inl, inr}
 use Rattle.toml.specs.Data.{Members}
-use Rattle.error_bounds.specs.Faults.{Found}
 use Rattle.error_bounds.specs.Keys.{tests, search_tests, signal_tests, bounds_tests, satellite_tests, first_found}
 use Rattle.error_bounds.specs.Names.{unknown}
 use Rattle.error_bounds.specs.Reading.{TellsFirst, RefusesTests, RefusesTree, RefusesName}

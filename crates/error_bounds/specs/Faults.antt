@@ -1,5 +1,5 @@
 -- The numbers of the faults of a settings text, and the key that a fault is told with.
-use Rattle.std.specs.Prelude.{ℕ, ◌≡◌, ◌≤◌, ◌<◌, List, take, length}
+use Rattle.std.specs.Prelude.{ℕ, ◌≡◌, ◌≤◌, ◌<◌, List, take}
 use Rattle.std.specs.Str.{IsCharBoundary}
 use Rattle.error_bounds.specs.declared.fault.Fault.{Fault}
 use Rattle.error_bounds.specs.declared.fault.Fault.TheVariants as fault

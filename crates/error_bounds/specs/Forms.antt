@@ -1,6 +1,6 @@
 -- What a value in the tree of the text has to be: first its kind, then what is read from it.
 -- Lengths stand in mm in the text and are read in um.
-use Rattle.std.specs.Prelude.{ℕ, ◌+◌, ℤ, pos, neg_ℤ, ◌*ℤ◌, unsigned_abs, nat_eq, Bool, true, false, ◌&&◌, if◌then◌else◌, codes, List, [], ◌∷◌, Option, None, Some, option_map, option_and_then, Result, Ok, Err}
+use Rattle.std.specs.Prelude.{ℕ, ℤ, pos, neg_ℤ, ◌*ℤ◌, unsigned_abs, nat_eq, Bool, true, false, ◌&&◌, if◌then◌else◌, codes, List, [], ◌∷◌, Option, None, Some, option_map, option_and_then, Result, Ok, Err}
 use lib.Pointwise.{pointwise}
 use lib.Signed.{le_z}
 use Rattle.sat_model.specs.declared.boxes.Pos.{Pos}

@@ -1,5 +1,5 @@
 -- What each value of the settings keeps to. Lengths are in um.
-use Rattle.std.specs.Prelude.{◌≡◌, ℕ, ◌<◌, ℤ, pos, Bool, true, false, ◌&&◌, ◌==◌, nat_le, List, [], ◌∷◌, length, ◌≤ℤ◌, slice_index_or}
+use Rattle.std.specs.Prelude.{◌≡◌, ℕ, ◌<◌, ℤ, pos, Bool, false, ◌&&◌, ◌==◌, nat_le, List, [], ◌∷◌, length, ◌≤ℤ◌, slice_index_or}
 use Rattle.std.specs.List.{All}
 use Rattle.sat_model.specs.Sizes.{IsWithin}
 use Rattle.sat_model.specs.declared.boxes.Pos.{Pos}
@@ -8,7 +8,7 @@ use Rattle.sat_model.specs.declared.satellites.Signal.{Signal}
 use Rattle.sat_model.specs.declared.satellites.Signal.TheVariants.{Single, Dual}
 use Rattle.sat_model.specs.declared.spans.Span.{Span}
 use Rattle.error_bounds.specs.declared.settings.Centre.{Centre}
-use Rattle.error_bounds.specs.declared.settings.Centre.TheVariants.{Header, At}
+use Rattle.error_bounds.specs.declared.settings.Centre.TheVariants.{At}
 
 -- a point within 8,500 km of the origin on each axis
 pub record IsNearEarth (p : Pos) : Type 0 where

@@ -1,5 +1,5 @@
 -- Settings texts: the value of one, or its first fault.
-use Rattle.std.specs.Prelude.{◌≡◌, ◌⊎◌, ℕ, ℤ, ◌+ℤ◌, List, [], ◌∷◌, Option, None, Some, Result, Ok, Err, IsUtf8}
+use Rattle.std.specs.Prelude.{◌≡◌, ◌⊎◌, ℕ, ℤ, ◌+ℤ◌, List, [], Option, None, Some, Result, Ok, Err, IsUtf8}
 use Rattle.std.specs.List.{filter_map}
 use Rattle.sat_model.specs.declared.boxes.Pos.{Pos}
 use Rattle.sat_model.specs.declared.satellites.Sat.{Sat}

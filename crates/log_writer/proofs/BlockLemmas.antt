@@ -1,6 +1,6 @@
 -- The lines of a block that paves a given one.
-use Rattle.std.proofs.Common.{◌≡◌, ℕ, ◌+◌, ◌<◌, ◌≤◌, List, [], ◌∷◌, ◌++◌, length, map, Option, None, Some, Result, Ok, Err, refl, sym, ap, subst, ◌∙◌, append-nil, arith}
-use Rattle.std.specs.Prelude.{OnOk, Bool, false, ℤ}
+use Rattle.std.proofs.Common.{◌≡◌, ℕ, ◌+◌, ◌≤◌, List, [], ◌∷◌, ◌++◌, length, map, Option, None, Some, Result, Ok, Err, refl, sym, ap, subst, ◌∙◌, append-nil, arith}
+use Rattle.std.specs.Prelude.{Bool, false, ℤ}
 use Rattle.std.specs.List.{AllByRecursion}
 use Rattle.std.proofs.lemmas.Result.{on_ok_weaker}
 use Rattle.sat_model.specs.declared.rules.Rules.{Rules}
@@ -14,7 +14,6 @@ use Rattle.sat_model.specs.Logs.{Block, rows_of}
 use Rattle.sat_model.specs.Paved.{Paved, steps_of}
 use Rattle.paving.specs.declared.steps.StepFault.{StepFault}
 use Rattle.paving.specs.declared.steps.StepFault.TheVariants.{NoMemory}
-use Rattle.paving_log.specs.declared.line.Header.{Header}
 use Rattle.paving_log.specs.declared.line.LogLine.{LogLine}
 use Rattle.paving_log.specs.declared.line.LogLine.TheVariants as line
 use Rattle.log_words.specs.Fields.{IsCountFromTo}
@@ -25,7 +24,7 @@ use Rattle.log_writer.specs.Pavings.{BodyPaves, Paves}
 use Rattle.log_writer.specs.Writing.{Seen, Grew, EndedBy, Written}
 use Rattle.log_writer.specs.Wrote.{WroteRun, WroteBlock}
 use Rattle.log_writer.proofs.RunLemmas.{some_run}
-use Rattle.log_writer.proofs.WritingLemmas.{grew_lines, ended_behind, ended_before, none_written, written_behind}
+use Rattle.log_writer.proofs.WritingLemmas.{grew_lines, ended_behind, ended_before, written_behind}
 
 pub rows_le_lines : (sats : List SatEntry) → length (rows_of sats) ≤ length sats
 rows_le_lines [] = omega arith

@@ -1,6 +1,6 @@
 -- A log that paves given rows, block by block.
-use Rattle.std.proofs.Common.{◌≡◌, ℕ, suc, ◌+◌, ◌<◌, ◌≤◌, List, [], ◌∷◌, ◌++◌, length, get_or, drop, map, add-one, Option, None, Some, Result, Ok, Err, refl, sym, ap, subst, ◌∙◌, append_assoc, append-nil, arith, length-append}
-use Rattle.std.specs.Prelude.{OnOk, Bool, true, false}
+use Rattle.std.proofs.Common.{◌≡◌, ℕ, suc, ◌+◌, ◌<◌, ◌≤◌, List, [], ◌∷◌, ◌++◌, length, get_or, drop, map, add-one, Option, None, Some, Ok, Err, refl, sym, ap, subst, ◌∙◌, append_assoc, append-nil, arith, length-append}
+use Rattle.std.specs.Prelude.{Bool, true, false}
 use Rattle.std.specs.List.{flat_map, AllByRecursion}
 use Rattle.std.proofs.Math.ListN.{get_or-map}
 use Rattle.std.proofs.Math.Seq.{drop-cons}
@@ -9,10 +9,8 @@ use Rattle.std.proofs.lemmas.List.{length-map}
 use Rattle.std.proofs.lemmas.List.Concat.{flat_map-append}
 use Rattle.sat_model.specs.declared.rules.Rules.{Rules}
 use Rattle.sat_model.specs.Boxes.{GridBox}
-use Rattle.sat_model.specs.Cover.{RowCover}
-use Rattle.sat_model.specs.Fold.{first_stage}
 use Rattle.sat_model.specs.Logs.{Block, LogValue, rows_of}
-use Rattle.sat_model.specs.Verdicts.{StepsPass, IsLater, SuitsNumber, CountsRows, HeadPasses, NoneRepeats, BodyPasses, BlockPasses, BlocksPass, Judged}
+use Rattle.sat_model.specs.Verdicts.{IsLater, SuitsNumber, CountsRows, HeadPasses, BodyPasses, BlocksPass, Judged}
 use Rattle.sat_model.proofs.CoverLemmas.{row_cover}
 use Rattle.sat_model.proofs.PavedLemmas.{paved_passes}
 use Rattle.paving.specs.declared.steps.StepFault.{StepFault}
@@ -22,13 +20,13 @@ use Rattle.paving_log.specs.declared.log.Log.{Log}
 use Rattle.paving_log.specs.declared.log.LogEpoch.{LogEpoch}
 use Rattle.paving_log.specs.declared.line.Form.TheVariants as form
 use Rattle.paving_log.specs.Lines.{text_of}
-use Rattle.paving_log.specs.Text.{block_lines, log_lines, log_text, BodyFits, BlockFits, IsLogText}
+use Rattle.paving_log.specs.Text.{block_lines, log_lines, log_text, BodyFits, BlockFits}
 use Rattle.paving_log.specs.Values.{block_of, log_value}
 use Rattle.paving_log.proofs.LogLemmas.{log_text_from}
 use Rattle.paving_log.proofs.NumberingLemmas.{length-text_of}
-use Rattle.paving_log.specs.RowsText.{IsNumberedIn, OwnPasses, AllOwnPass}
-use Rattle.log_writer.specs.Pavings.{HasRun, BodyPaves, Paves, AllPave, IsPavingOf}
-use Rattle.log_writer.specs.Writing.{Seen, Grew, EndedBy, Written}
+use Rattle.paving_log.specs.RowsText.{IsNumberedIn, AllOwnPass}
+use Rattle.log_writer.specs.Pavings.{BodyPaves, Paves, AllPave}
+use Rattle.log_writer.specs.Writing.{Seen, Grew, EndedBy}
 use Rattle.log_writer.specs.Wrote.{WroteBlock, WroteLog}
 use Rattle.log_writer.proofs.BlockLemmas.{CanPave, HasRows, some_block}
 use Rattle.log_writer.proofs.WritingLemmas.{grew_lines, ended_behind, ended_before}

@@ -1,6 +1,6 @@
 -- The lines of a run that a log took.
-use Rattle.std.proofs.Common.{◌≡◌, ℕ, ◌+◌, ◌<◌, ◌≤◌, ◌↔◌, List, [], ◌∷◌, ◌++◌, length, map, Option, Some, Result, Ok, Err, refl, sym, ap, subst, ◌∙◌, append_assoc, arith, inl, inr}
-use Rattle.std.specs.Prelude.{OnOk, OnErr, IfOk, IfErr, ◌≢◌}
+use Rattle.std.proofs.Common.{◌≡◌, ℕ, ◌<◌, ◌≤◌, ◌↔◌, List, [], ◌∷◌, ◌++◌, length, map, Result, Ok, Err, refl, sym, ap, subst, ◌∙◌, append_assoc, inl, inr}
+use Rattle.std.specs.Prelude.{OnOk, ◌≢◌}
 use Rattle.std.specs.List.{AllByRecursion}
 use Rattle.std.proofs.lemmas.Bool.{cases_lt}
 use Rattle.std.proofs.lemmas.List.{map-append}
@@ -9,7 +9,7 @@ use Rattle.sat_model.specs.declared.rules.Rules.{Rules}
 use Rattle.sat_model.specs.declared.steps.Step.{Step}
 use Rattle.sat_model.specs.Boxes.{GridBox}
 use Rattle.sat_model.specs.Fold.{Stage, ShownStep, first_stage, after}
-use Rattle.sat_model.specs.Paved.{first_paving, Paved, PavedFirst, steps_of}
+use Rattle.sat_model.specs.Paved.{first_paving, Paved, steps_of}
 use Rattle.sat_model.specs.Verdicts.{StepsPass}
 use Rattle.sat_model.proofs.PavedExists.{begins_run}
 use Rattle.sat_model.proofs.PavedLemmas.{paved_passes}
@@ -22,12 +22,11 @@ use Rattle.paving_log.specs.declared.line.LogLine.{LogLine}
 use Rattle.paving_log.specs.declared.line.LogLine.TheVariants as line
 use Rattle.paving_log.specs.Lines.{text_of}
 use Rattle.paving_log.specs.Rows.{corners_of}
-use Rattle.paving_log.specs.Text.{paved_lines}
 use Rattle.log_writer.specs.Steps.{Took}
 use Rattle.log_writer.specs.Writing.{Seen, Grew, Broke, BrokeOff, Stopped, EndedBy, Written}
 use Rattle.log_writer.specs.Wrote.{WroteRun}
 use Rattle.log_writer.proofs.StepSizes.{HasGridBox, run_fits}
-use Rattle.log_writer.proofs.WritingLemmas.{Grew-none, grew_lines, ended_behind, ended_before, none_written, written_behind}
+use Rattle.log_writer.proofs.WritingLemmas.{Grew-none, grew_lines, ended_behind, ended_before, written_behind}
 
 -- ---- steps that were taken one after another
 

@@ -1,4 +1,4 @@
-use Rattle.std.proofs.Common.{◌≡◌, ◌⊎◌, ℕ, List, Ok, Err, inl, inr, refl, sym, ap, subst, ◌∙◌}
+use Rattle.std.proofs.Common.{◌≡◌, ◌⊎◌, Ok, Err, inl, inr, refl, sym, ap, subst, ◌∙◌}
 use Rattle.cover_run.proofs.JudgingRun.{not_others, read_is, write_is, same_plain, not_plain, not_both}
 use Rattle.cover_run.specs.Answers.{IsBrokenOff}
 use Rattle.cover_run.specs.Statuses.{status_of}

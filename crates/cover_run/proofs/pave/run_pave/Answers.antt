@@ -1,4 +1,4 @@
-use Rattle.std.proofs.Common.{◌≡◌, ◌⊎◌, ℕ, List, Ok, Err, inl, inr, refl, sym, ap, subst, ◌∙◌}
+use Rattle.std.proofs.Common.{◌≡◌, ◌⊎◌, Err, inl, inr, refl, sym, ap, subst, ◌∙◌}
 use Rattle.outer_io.specs.declared.slots.Slot.TheVariants as slot
 use Rattle.cover_run.proofs.PavingRun.{full_has, cut_has, begun_has, refused_has, leaves_files, read_of, write_of, is_no_usage, plain_is, done_not_plain}
 use Rattle.cover_run.specs.Answers.{IsBrokenOff}

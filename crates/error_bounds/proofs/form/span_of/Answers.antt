@@ -1,4 +1,4 @@
-use Rattle.std.proofs.Common.{◌≡◌, true, arith, sym, ◌∙◌, ℤ, pos, negsuc, to_z, of_z, w64}
+use Rattle.std.proofs.Common.{arith, sym, ◌∙◌, pos, negsuc, to_z, of_z, w64}
 use Rattle.std.proofs.lemmas.Int.{ints}
 use Rattle.error_bounds.proofs.FormLemmas.{from_between}
 use Rattle.error_bounds.proofs.form.span_of.Goals as goal

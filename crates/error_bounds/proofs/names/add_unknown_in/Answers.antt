@@ -1,4 +1,4 @@
-use Rattle.std.proofs.Common.{◌≡◌, sym, refl, append-nil}
+use Rattle.std.proofs.Common.{sym, append-nil}
 use Rattle.toml.proofs.Views.{table_get}
 use Rattle.error_bounds.proofs.names.add_unknown_in.Goals as goal
 

@@ -1,4 +1,4 @@
-use Rattle.std.proofs.Common.{◌≡◌, ℤ, sym, ap, ◌∙◌, to_z, of_z, w64}
+use Rattle.std.proofs.Common.{sym, ap, ◌∙◌, to_z, of_z, w64}
 use Rattle.sat_model.specs.declared.boxes.Pos.{Pos}
 use Rattle.error_bounds.proofs.FormLemmas.{coordinate_of}
 use Rattle.error_bounds.proofs.places.point.Goals as goal

@@ -1,4 +1,4 @@
-use Rattle.std.proofs.Common.{◌≡◌, List, ℕ, refl, ◌∙◌, codes}
+use Rattle.std.proofs.Common.{◌≡◌, refl, ◌∙◌, codes}
 use Rattle.toml.proofs.Views.{table_get}
 use Rattle.error_bounds.specs.Keys.{satellite_name, dotted}
 use Rattle.error_bounds.proofs.satellites.own_span.Goals as goal

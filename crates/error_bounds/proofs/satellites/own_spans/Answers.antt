@@ -1,4 +1,4 @@
-use Rattle.std.proofs.Common.{◌≡◌, refl, sym, ◌∙◌, arith, append-nil}
+use Rattle.std.proofs.Common.{refl, sym, ◌∙◌, arith, append-nil}
 use Rattle.toml.specs.View.{table_view}
 use Rattle.error_bounds.proofs.KeyLemmas.{tests_step, extra_step, refused_step, numbers_end}
 use Rattle.error_bounds.proofs.satellites.own_spans.Goals as goal

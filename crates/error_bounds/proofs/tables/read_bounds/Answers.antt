@@ -1,4 +1,4 @@
-use Rattle.std.proofs.Common.{◌≡◌, codes, ap, ◌∙◌}
+use Rattle.std.proofs.Common.{codes, ap, ◌∙◌}
 use Rattle.std.specs.Prelude.{ℤ}
 use Rattle.sat_model.specs.Relaxed.{ends}
 use Rattle.toml.specs.View.{table_view}

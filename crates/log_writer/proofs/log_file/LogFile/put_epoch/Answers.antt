@@ -1,11 +1,9 @@
-use Rattle.std.proofs.Common.{◌≡◌, ◌≤◌, ◌<◌, ◌+◌, ℕ, List, [], ◌∷◌, map, length, Ok, Err, Some, None, ap, refl, sym, ◌∙◌, arith}
+use Rattle.std.proofs.Common.{◌≡◌, length, Err, ap, refl, ◌∙◌, arith}
 use Rattle.std.proofs.lemmas.Int.{ints}
 use Rattle.std.proofs.lemmas.Result.{err_from_is_err_and}
-use Rattle.sat_model.specs.Boxes.{GridBox, grid_box}
+use Rattle.sat_model.specs.Boxes.{grid_box}
 use Rattle.sat_model.specs.Logs.{rows_of}
 use Rattle.paving.specs.declared.steps.StepFault.TheVariants.{NoMemory}
-use Rattle.paving_log.specs.declared.line.LogLine.TheVariants as line
-use Rattle.paving_log.specs.Lines.{text_of}
 use Rattle.paving_log.specs.Text.{first_line, header_of}
 use Rattle.paving_log.specs.Values.{block_of, box_option}
 use Rattle.log_writer.proofs.BlockLemmas.{CanPave, rows_le_lines, first_bytes, first_ended, sats_ended_early, opening_grew, none_wrote, run_wrote, run_not_begun}

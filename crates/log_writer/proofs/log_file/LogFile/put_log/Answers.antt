@@ -1,7 +1,6 @@
-use Rattle.std.proofs.Common.{◌≡◌, ◌≤◌, ℕ, List, [], ◌∷◌, Ok, Err, None, ap, refl, sym, ◌∙◌, arith}
+use Rattle.std.proofs.Common.{None, ◌∙◌, arith}
 use Rattle.std.proofs.lemmas.Result.{err_from_is_err_and}
-use Rattle.paving_log.specs.Values.{block_of, log_value}
-use Rattle.log_writer.proofs.BlockLemmas.{CanPave}
+use Rattle.paving_log.specs.Values.{log_value}
 use Rattle.log_writer.proofs.LogLemmas.{can_all_pave, block_at, no_block, begun, can_pave_here, block_more, log_done, log_ended, head_ended}
 use Rattle.log_writer.proofs.TextLemmas.{text_written}
 use Rattle.log_writer.proofs.log_file.LogFile.put_log.Goals as goal
