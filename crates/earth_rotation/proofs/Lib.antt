@@ -1,0 +1,4 @@
+pub mod SquareSpread
+pub mod SmallAngles
+pub mod Offsets
+pub mod TurnExists
