@@ -1,4 +1,6 @@
 pub mod SquareSpread
 pub mod SmallAngles
 pub mod Offsets
+pub mod CircleRoots
+pub mod TurnWidths
 pub mod TurnExists

@@ -2,6 +2,7 @@
 use Rattle.std.proofs.Common.{◌≡◌, ℕ, ◌+◌, ◌*◌, ◌^◌, ◌≤◌, ◌<◌, arith, lit≤}
 use Rattle.std.specs.Prelude.{ℤ, pos, ◌-ℤ◌, ◌≤ℤ◌}
 use Rattle.std.proofs.lemmas.Int.{ints}
+use Rattle.sat_model.specs.Angles.{unit}
 use Rattle.sat_model.specs.Amounts.{above}
 use Rattle.sat_model.specs.Sizes.{IsWithin, IsBoxSize}
 use Rattle.sat_model.specs.Intervals.{Between, Ends}
@@ -14,6 +15,8 @@ use Rattle.sat_model.proofs.EndsLemmas.{difference_ends, wider_ends}
 use Rattle.sat_model.proofs.RootLemmas.{square-mono, root_is}
 use Rattle.sat_model.proofs.RoundingLemmas.{grain_floor_one, grain_ceil_one}
 use Rattle.sat_model.proofs.SquareLemmas.{one_part, least_le_greatest_end, greatest_square_le}
+use Rattle.fix_interval.specs.declared.exact.Exact.{Exact}
+use Rattle.fix_interval.specs.Factors.{HasEnds, Spread}
 use Rattle.earth_rotation.specs.TurnSizes.{turned_reach, range_amount}
 use Rattle.earth_rotation.proofs.SquareSpread.{root_spread}
 
@@ -23,6 +26,10 @@ offset_amount = 71 * 10 ^ 12
 
 pub amount_of : (n w : ℕ) (a b : ℤ) → Ends n w a b → Ends n (2 * n) a b
 amount_of n w a b e = let o = e.order in let l = e.low in let h = e.high in record { order = o; low = l; high = h; width = omega (arith, ints) }
+
+-- what two factors of known ends spread
+pub spread : (m v n w k j : ℕ) (a b : Exact) → HasEnds m v a → HasEnds n w b → m * n ≤ k * unit → m * w + n * v ≤ j * unit → Spread k j a b
+spread m v n w k j a b p q h i = record { m = m; v = v; n = n; w = w; left = p; right = q; amount = h; width = i }
 
 side_ends : (lo hi : ℤ) → lo ≤ℤ hi → IsBoxSize lo → IsBoxSize hi → Ends (10 ^ 13) (above hi lo) lo hi
 side_ends lo hi o l h = record { order = o; low = l; high = h; width = omega (arith, ints, above_is hi lo) }
@@ -40,7 +47,7 @@ offset_held a b s t lo hi l h x p d e f g i j k = record { from = omega (arith, 
 
 -- ---- squares
 
-ends_apart : (n w : ℕ) (l h : ℤ) → Ends n w l h → greatest_end l h ≤ least_end l h + w
+pub ends_apart : (n w : ℕ) (l h : ℤ) → Ends n w l h → greatest_end l h ≤ least_end l h + w
 ends_apart n w l h e = let o = e.order in let k = e.width in omega (arith, ints, one_part l, one_part h)
 
 pub squares_fit : (xl xh yl yh zl zh : ℤ) → IsWithin offset_amount xl → IsWithin offset_amount xh → IsWithin offset_amount yl → IsWithin offset_amount yh → IsWithin offset_amount zl → IsWithin offset_amount zh → greatest_square xl xh + greatest_square yl yh + greatest_square zl zh ≤ 3 * (offset_amount * offset_amount)
