@@ -6,6 +6,7 @@ ghost use Rattle.sat_model.specs.Fitting.{range_to};
 ghost use Rattle.sat_model.specs.Sizes.{IsBoxSize};
 ghost use Rattle.sat_model.specs.declared.boxes.Pos.{Pos};
 ghost use Rattle.fix_interval.specs.Factors.{Holds, HasEnds, HasAmount};
+ghost use Rattle.earth_rotation.specs.Places.{HoldsPlace, PlaceEnds, PlaceAmount};
 ghost use Rattle.earth_rotation.specs.TurnSizes.{turned_reach, range_amount, range_width};
 
 use fix_interval::{Exact, ExactArea, Interval, Place, squared_distance};
@@ -53,12 +54,10 @@ fn offsets(x: Exact, side: Exact) -> Exact
 /// From the least to the greatest range, in um, from a point of the box to a point of the place, each
 /// axis taken for itself.
 pub(crate) fn range(place: Place, part: &Box3) -> Exact
-    requires x_size { HasAmount turned_reach place.x }
-    requires y_size { HasAmount turned_reach place.y }
-    requires z_size { HasAmount turned_reach place.z }
-    ensures holds { (p : Pos) (x y z : ℤ) → box_holds (grid_box part.now) p ≡ true → Holds place.x x → Holds place.y y → Holds place.z z → Holds result (pos (range_to x y z p)) }
+    requires { PlaceAmount turned_reach place }
+    ensures holds { (p : Pos) (x y z : ℤ) → box_holds (grid_box part.now) p ≡ true → HoldsPlace place x y z → Holds result (pos (range_to x y z p)) }
     ensures amount { HasAmount range_amount result }
-    ensures narrow { (w : ℕ) → HasEnds turned_reach w place.x → HasEnds turned_reach w place.y → HasEnds turned_reach w place.z → HasEnds range_amount (range_width (grid_box part.now) w) result }
+    ensures narrow { (w : ℕ) → PlaceEnds turned_reach w place → HasEnds range_amount (range_width (grid_box part.now) w) result }
 {
     let points = place_of(part);
     let x = offsets(place.x, points.x);
