@@ -18,6 +18,7 @@ const LIGHT_SCALE: i128 = 299_792_458_000_000_000_000;
 
 /// The square of one, 16 units of 10^-16 less and more, in 10^-32.
 const LEAST_CIRCLE: u128 = 99_999_999_999_999_840_000_000_000_000_000;
+
 const GREATEST_CIRCLE: u128 = 100_000_000_000_000_160_000_000_000_000_000;
 
 /// The angle by which the earth turns while light goes a range, in 10^-16 rad.

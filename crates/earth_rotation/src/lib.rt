@@ -8,6 +8,8 @@ mod ranges;
 #[cfg(test)]
 mod tests;
 mod turns;
+#[cfg(test)]
+mod vectors;
 
 pub use existence::turn_exists;
 pub use turns::turned;
