@@ -1,6 +1,6 @@
 -- The cosine beside a small sine: the roots of one, 16 units less and more, less the square of the sine.
-use Rattle.std.proofs.Common.{◌≡◌, ℕ, ◌+◌, ◌-◌, ◌*◌, ◌/◌, ◌^◌, ◌≤◌, ◌<◌, arith, lit≤, subst, sym}
-use Rattle.std.specs.Prelude.{ℤ, pos, nat_abs, ◌-ℤ◌, ◌≤ℤ◌}
+use Rattle.std.proofs.Common.{◌≡◌, ℕ, ◌+◌, ◌-◌, ◌*◌, ◌/◌, ◌^◌, ◌≤◌, ◌<◌, arith, subst, sym}
+use Rattle.std.specs.Prelude.{ℤ, pos, nat_abs, ◌≤ℤ◌}
 use Rattle.std.proofs.lemmas.Int.{ints}
 use Rattle.std.proofs.lemmas.Nat.{mul-le}
 use Rattle.sat_model.specs.Amounts.{square}
@@ -14,7 +14,7 @@ use Rattle.sat_model.proofs.ClockLemmas.{root_mono}
 use Rattle.sat_model.proofs.ProductLemmas.{square_of_amount}
 use Rattle.sat_model.proofs.RootLemmas.{square-mono, root_is}
 use Rattle.sat_model.proofs.RoundingLemmas.{grain_floor_one, grain_ceil_one}
-use Rattle.sat_model.proofs.SquareLemmas.{one_part, square_between, least_le_greatest_end, greatest_square_le, root_between}
+use Rattle.sat_model.proofs.SquareLemmas.{one_part, square_between, least_le_greatest_end, root_between}
 use Rattle.earth_rotation.specs.TurnSizes.{sine_amount, cosine_amount, cosine_width}
 use Rattle.earth_rotation.proofs.Offsets.{ends_apart}
 

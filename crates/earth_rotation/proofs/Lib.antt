@@ -1,6 +1,6 @@
 pub mod SquareSpread
 pub mod SmallAngles
-pub mod PlaceLemmas
+pub mod Bounds
 pub mod Offsets
 pub mod CircleRoots
 pub mod TurnWidths

@@ -1,8 +1,7 @@
 -- The offsets of a place from a box on the axes, and the roots of their squares.
-use Rattle.std.proofs.Common.{◌≡◌, ℕ, ◌+◌, ◌*◌, ◌^◌, ◌≤◌, ◌<◌, arith, lit≤}
+use Rattle.std.proofs.Common.{◌≡◌, ℕ, ◌+◌, ◌*◌, ◌^◌, ◌≤◌, arith, lit≤}
 use Rattle.std.specs.Prelude.{ℤ, pos, ◌-ℤ◌, ◌≤ℤ◌}
 use Rattle.std.proofs.lemmas.Int.{ints}
-use Rattle.sat_model.specs.Angles.{unit}
 use Rattle.sat_model.specs.Amounts.{above}
 use Rattle.sat_model.specs.Sizes.{IsWithin, IsBoxSize}
 use Rattle.sat_model.specs.Intervals.{Between, Ends}
@@ -15,21 +14,12 @@ use Rattle.sat_model.proofs.EndsLemmas.{difference_ends, wider_ends}
 use Rattle.sat_model.proofs.RootLemmas.{square-mono, root_is}
 use Rattle.sat_model.proofs.RoundingLemmas.{grain_floor_one, grain_ceil_one}
 use Rattle.sat_model.proofs.SquareLemmas.{one_part, least_le_greatest_end, greatest_square_le}
-use Rattle.fix_interval.specs.declared.exact.Exact.{Exact}
-use Rattle.fix_interval.specs.Factors.{HasEnds, Spread}
 use Rattle.earth_rotation.specs.TurnSizes.{turned_reach, range_amount}
 use Rattle.earth_rotation.proofs.SquareSpread.{root_spread}
 
 -- an offset on an axis
 abbrev pub offset_amount : ℕ
 offset_amount = 71 * 10 ^ 12
-
-pub amount_of : (n w : ℕ) (a b : ℤ) → Ends n w a b → Ends n (2 * n) a b
-amount_of n w a b e = let o = e.order in let l = e.low in let h = e.high in record { order = o; low = l; high = h; width = omega (arith, ints) }
-
--- what two factors of known ends spread
-pub spread : (m v n w k j : ℕ) (a b : Exact) → HasEnds m v a → HasEnds n w b → m * n ≤ k * unit → m * w + n * v ≤ j * unit → Spread k j a b
-spread m v n w k j a b p q h i = record { m = m; v = v; n = n; w = w; left = p; right = q; amount = h; width = i }
 
 side_ends : (lo hi : ℤ) → lo ≤ℤ hi → IsBoxSize lo → IsBoxSize hi → Ends (10 ^ 13) (above hi lo) lo hi
 side_ends lo hi o l h = record { order = o; low = l; high = h; width = omega (arith, ints, above_is hi lo) }

@@ -1,17 +1,14 @@
-use Rattle.std.proofs.Common.{◌≡◌, ◌+◌, ◌*◌, ◌≤◌, arith, lit≤, ℕ}
-use Rattle.std.specs.Prelude.{pos, ℤ, ◌-ℤ◌}
-use Rattle.sat_model.specs.Amounts.{above}
+use Rattle.std.proofs.Common.{◌+◌, ◌*◌, arith, lit≤}
+use Rattle.std.specs.Prelude.{pos, ◌-ℤ◌}
 use Rattle.sat_model.specs.Boxes.{grid_box}
 use Rattle.sat_model.specs.Fitting.{range_to}
-use Rattle.sat_model.specs.Intervals.{Ends}
 use Rattle.sat_model.specs.Lengths.{longest_length}
 use Rattle.sat_model.proofs.EndsLemmas.{wider_ends}
 use Rattle.sat_model.proofs.FittingLemmas.{in_box}
 use Rattle.sat_model.proofs.RootLemmas.{root_is}
 use Rattle.sat_model.proofs.SquareLemmas.{root_between}
-use Rattle.fix_interval.specs.Factors.{HasEnds}
-use Rattle.earth_rotation.specs.TurnSizes.{turned_reach, range_amount}
-use Rattle.earth_rotation.proofs.Offsets.{offset_amount, amount_of, offset_fits, offset_ends, offset_held, squares_fit, range_ends}
+use Rattle.earth_rotation.proofs.Bounds.{amount_of}
+use Rattle.earth_rotation.proofs.Offsets.{offset_amount, offset_fits, offset_ends, offset_held, squares_fit, range_ends}
 use Rattle.earth_rotation.proofs.ranges.range.Goals as goal
 
 pub squared_distance-squares-requires-clause-x_low : goal.squared_distance-squares-requires-clause-x_low
