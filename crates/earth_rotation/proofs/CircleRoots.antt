@@ -15,7 +15,7 @@ use Rattle.sat_model.proofs.ProductLemmas.{square_of_amount}
 use Rattle.sat_model.proofs.RootLemmas.{square-mono, root_is}
 use Rattle.sat_model.proofs.RoundingLemmas.{grain_floor_one, grain_ceil_one}
 use Rattle.sat_model.proofs.SquareLemmas.{one_part, square_between, least_le_greatest_end, root_between}
-use Rattle.earth_rotation.specs.TurnSizes.{sine_amount, cosine_amount, cosine_width}
+use Rattle.earth_rotation.specs.RoundSizes.{sine_amount, cosine_amount, cosine_width}
 use Rattle.earth_rotation.proofs.Offsets.{ends_apart}
 
 abbrev pub least_circle : ℕ

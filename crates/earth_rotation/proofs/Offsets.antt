@@ -14,7 +14,7 @@ use Rattle.sat_model.proofs.EndsLemmas.{difference_ends, wider_ends}
 use Rattle.sat_model.proofs.RootLemmas.{square-mono, root_is}
 use Rattle.sat_model.proofs.RoundingLemmas.{grain_floor_one, grain_ceil_one}
 use Rattle.sat_model.proofs.SquareLemmas.{one_part, least_le_greatest_end, greatest_square_le}
-use Rattle.earth_rotation.specs.TurnSizes.{turned_reach, range_amount}
+use Rattle.earth_rotation.specs.RoundSizes.{turned_reach, range_amount}
 use Rattle.earth_rotation.proofs.SquareSpread.{root_spread}
 
 -- an offset on an axis

@@ -4,7 +4,8 @@ use Rattle.std.specs.Prelude.{pos, ◌*ℤ◌, ◌≤ℤ◌}
 use Rattle.std.proofs.lemmas.Int.{ints}
 use Rattle.sat_model.specs.Angles.{unit}
 use Rattle.sat_model.specs.EarthModel.{earth_rate, light_speed}
-use Rattle.earth_rotation.specs.TurnSizes.{near_reach, narrow_width, range_amount, sine_amount, cosine_amount, sine_width, cosine_width, turned_width, turn_reach, reach_after}
+use Rattle.earth_rotation.specs.TurnSizes.{near_reach, narrow_width, turn_reach, reach_after}
+use Rattle.earth_rotation.specs.RoundSizes.{range_amount, sine_amount, cosine_amount, sine_width, cosine_width, turned_width}
 
 pub rate_spread : (v : ℕ) → pos (earth_rate * v + range_amount * 0) ≤ℤ (pos (v / 400 + 1) *ℤ pos (light_speed * 10 ^ 12))
 rate_spread v = omega (arith, ints)

@@ -4,7 +4,7 @@ ghost use Rattle.std.specs.Prelude.{ℕ, ◌+◌, ◌*◌, ◌≤◌, ℤ, pos, 
 ghost use Rattle.sat_model.specs.Sines.{Sine, NearCircle};
 ghost use Rattle.sat_model.specs.Turn.{IsEarthAngle};
 ghost use Rattle.fix_interval.specs.Factors.{Holds, HasEnds, HasAmount};
-ghost use Rattle.earth_rotation.specs.TurnSizes.{range_amount, angle_amount, sine_amount, cosine_amount, angle_width, cosine_width};
+ghost use Rattle.earth_rotation.specs.RoundSizes.{range_amount, angle_amount, sine_amount, cosine_amount, angle_width, cosine_width};
 
 use fix_interval::{Exact, ExactArea, Interval};
 use interval_trig::sine;

@@ -7,7 +7,8 @@ ghost use Rattle.sat_model.specs.Turn.{Turn, IsTurnedOver};
 ghost use Rattle.sat_model.specs.declared.boxes.Pos.{Pos};
 ghost use Rattle.fix_interval.specs.Factors.{Holds, HasEnds, HasAmount};
 ghost use Rattle.earth_rotation.specs.Places.{HoldsPlace, PlaceEnds, PlaceAmount};
-ghost use Rattle.earth_rotation.specs.TurnSizes.{turn_reach, reach_after, range_amount, near_reach, narrow_width, turned_width};
+ghost use Rattle.earth_rotation.specs.TurnSizes.{turn_reach, reach_after, near_reach, narrow_width};
+ghost use Rattle.earth_rotation.specs.RoundSizes.{range_amount, turned_width};
 
 use crate::angles::{cosine_beside, earth_angle, small_sine};
 use crate::ranges::range;
@@ -40,6 +41,8 @@ pub fn turned(unturned: Place, part: &Box3) -> Place
     requires { PlaceAmount turn_reach unturned }
     ensures holds { (p : Pos) (x y z tx ty : ℤ) (r : ℕ) → box_holds (grid_box part.now) p ≡ true → HoldsPlace unturned x y z → Turn p x y z tx ty r → HoldsPlace result tx ty z }
     ensures same_z { result.z ≡ unturned.z }
+
+    // The turn hardly changes the size of a coordinate.
     ensures sizes { (n : ℕ) → n ≤ turn_reach → PlaceAmount n unturned → PlaceAmount (reach_after n) result }
     ensures narrow { PlaceEnds near_reach narrow_width unturned → PlaceEnds (reach_after near_reach) (spare_of (grid_box part.now)) result }
 {

@@ -1,7 +1,7 @@
 use Rattle.std.proofs.Common.{◌+◌, ◌*◌, arith, lit≤}
 use Rattle.std.proofs.lemmas.Int.{ints}
 use Rattle.sat_model.proofs.EndsLemmas.{wider_ends}
-use Rattle.earth_rotation.specs.TurnSizes.{angle_amount, sine_amount}
+use Rattle.earth_rotation.specs.RoundSizes.{angle_amount, sine_amount}
 use Rattle.earth_rotation.proofs.Bounds.{amount_of}
 use Rattle.earth_rotation.proofs.SmallAngles.{small_ends}
 use Rattle.earth_rotation.proofs.angles.small_sine.Goals as goal
