@@ -1,0 +1,7 @@
+pub mod SquareSpread
+pub mod SmallAngles
+pub mod Bounds
+pub mod Offsets
+pub mod CircleRoots
+pub mod TurnWidths
+pub mod TurnExists

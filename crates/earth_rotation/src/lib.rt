@@ -1,0 +1,15 @@
+//! The turn of the earth while a signal is under way (IS-GPS-200, 20.3.3.4.3.3.2 and 20.3.3.4.3.4):
+//! a satellite's place when it sent, in the earth-fixed frame of the time of reception.
+#![tactic(auto)]
+
+mod angles;
+mod existence;
+mod ranges;
+#[cfg(test)]
+mod tests;
+mod turns;
+#[cfg(test)]
+mod vectors;
+
+pub use existence::turn_exists;
+pub use turns::turned;
