@@ -1,5 +1,5 @@
 -- The offsets of a place from a box on the axes, and the roots of their squares.
-use Rattle.std.proofs.Common.{◌≡◌, ℕ, ◌+◌, ◌*◌, ◌^◌, ◌≤◌, arith, lit≤}
+use Rattle.std.proofs.Common.{◌≡◌, ℕ, ◌+◌, ◌*◌, ◌/◌, ◌^◌, ◌≤◌, arith, lit≤}
 use Rattle.std.specs.Prelude.{ℤ, pos, ◌-ℤ◌, ◌≤ℤ◌}
 use Rattle.std.proofs.lemmas.Int.{ints}
 use Rattle.sat_model.specs.Amounts.{above}
@@ -50,7 +50,7 @@ range_by : (w u v : ℕ) (l h : ℤ) → l ≡ pos u → h ≡ pos v → u ≤ v
 range_by w u v l h e f o k i = record { order = omega (arith, ints); low = record { low = omega (arith, ints); high = omega (arith, ints) }; high = record { low = omega (arith, ints); high = omega (arith, ints) }; width = omega (arith, ints) }
 
 -- the roots of the least and the greatest sum of squares
-pub range_ends : (w : ℕ) (xl xh yl yh zl zh l h : ℤ) (a b : ℕ) → Ends offset_amount w xl xh → Ends offset_amount w yl yh → Ends offset_amount w zl zh → a ≡ least_square xl xh + least_square yl yh + least_square zl zh → b ≡ greatest_square xl xh + greatest_square yl yh + greatest_square zl zh → l ≡ grain_floor (pos 1) (pos (root a)) → h ≡ grain_ceil (pos 1) (pos (root b)) → Ends range_amount (2 * w + 1) l h
+pub range_ends : (w : ℕ) (xl xh yl yh zl zh l h : ℤ) (a b : ℕ) → Ends offset_amount w xl xh → Ends offset_amount w yl yh → Ends offset_amount w zl zh → a ≡ least_square xl xh + least_square yl yh + least_square zl zh → b ≡ greatest_square xl xh + greatest_square yl yh + greatest_square zl zh → l ≡ grain_floor (pos 1) (pos (root a)) → h ≡ grain_ceil (pos 1) (pos (root b)) → Ends range_amount (7 * w / 4 + 1) l h
 range_ends w xl xh yl yh zl zh l h a b x y z ea eb el eh =
     let ra = root_is a in
     let rb = root_is b in
@@ -60,4 +60,4 @@ range_ends w xl xh yl yh zl zh l h a b x y z ea eb el eh =
     let fit = squares_fit xl xh yl yh zl zh x.low x.high y.low y.high z.low z.high in
     let order = root_mono a b (root a) (root b) ra rb (omega arith) in
     let s = root_spread (least_end xl xh) (least_end yl yh) (least_end zl zh) (greatest_end xl xh) (greatest_end yl yh) (greatest_end zl zh) w (root a) (root b) (ends_apart _ w xl xh x) (ends_apart _ w yl yh y) (ends_apart _ w zl zh z) (omega (arith, ra.next_square_gt)) (omega (arith, rb.square_le)) in
-    range_by (2 * w + 1) (root a) (root b) l h (omega (arith, ints, grain_floor_one (pos (root a)))) (omega (arith, ints, grain_ceil_one (pos (root b)))) order (root_fits b (root b) rb (omega arith)) s
+    range_by (7 * w / 4 + 1) (root a) (root b) l h (omega (arith, ints, grain_floor_one (pos (root a)))) (omega (arith, ints, grain_ceil_one (pos (root b)))) order (root_fits b (root b) rb (omega arith)) s

@@ -32,5 +32,5 @@ turned_spread v = omega arith
 
 -- ---- two rounds
 
-pub second_spread : (d : ℕ) → turned_width (2 * (d + turned_width (2 * (d + narrow_width) + 1)) + 1) ≤ 2000 + d / 50000
+pub second_spread : (d : ℕ) → turned_width (7 * (d + turned_width (7 * (d + narrow_width) / 4 + 1)) / 4 + 1) ≤ 2000 + d / 50000
 second_spread d = omega arith

@@ -23,9 +23,9 @@ sine_amount = 10 ^ 12
 abbrev pub cosine_amount : ℕ
 cosine_amount = unit + 8
 
--- the range to the points of a box, from a place w wide
+-- the range to the points of a box, from a place w wide: the root of three of the sides, a little more
 abbrev pub range_width : GridBox → ℕ → ℕ
-range_width part w = 2 * (longest_length part + w) + 1
+range_width part w = 7 * (longest_length part + w) / 4 + 1
 
 -- the angle and its sine, for a range v wide
 abbrev pub angle_width : ℕ → ℕ
