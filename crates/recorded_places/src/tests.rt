@@ -18,14 +18,14 @@ const REACH: i128 = 14_500_000_000_000_000;
 /// The last time that is asked for, in ps.
 const LATEST: i128 = 4_000_000_000_000_000_000_000;
 
-/// How far the clock's offset may be from the expected one, in 10^-16 s.
+/// How far the offsets of a clock may be from the expected one, in 10^-16 s.
 const OFFSET_TOLERANCE: i128 = 10;
 
-/// How far the time may be from the expected one, in ps.
+/// How far the times may be from the expected one, in ps.
 const TIME_TOLERANCE: i128 = 10;
 
-/// How far a coordinate may be from the expected one, in um.
-const PLACE_TOLERANCE: i128 = 1_000;
+/// How far the numbers of a coordinate may be from the expected one, in um.
+const PLACE_TOLERANCE: i128 = 100;
 
 /// The recorded records.
 fn recorded(alloc: Global) -> Result<Nav, Fail> {
@@ -86,9 +86,12 @@ fn place_at(rt: &impl Abort, el: &Elements, t: i128) -> Place {
     place(el, mean_motion(el), point(t))
 }
 
-/// Whether every member is so near to a number.
-fn is_within(x: Exact, n: i128, tolerance: i128) -> bool {
-    n.saturating_sub(tolerance) <= x.lo && x.hi <= n.saturating_add(tolerance)
+/// Whether the members hold a number, and none is further from it than the tolerance.
+fn hold_closely(x: Exact, n: i128, tolerance: i128) -> bool {
+    n.saturating_sub(tolerance) <= x.lo
+        && x.lo <= n
+        && n <= x.hi
+        && x.hi <= n.saturating_add(tolerance)
 }
 
 #[test]
@@ -106,14 +109,14 @@ fn clocks_and_places_of_recorded_satellites(rt: HostRuntime) -> Result<(), Fail>
         let dt = number(&rt, fields.next());
         let clock = clock_at(&rt, &el, tsv);
         assert!(rt;
-            is_within(clock.dt, dt, OFFSET_TOLERANCE),
+            hold_closely(clock.dt, dt, OFFSET_TOLERANCE),
             "the offset {dt}"
         );
-        assert!(rt; is_within(clock.t, t, TIME_TOLERANCE), "the time {t}");
+        assert!(rt; hold_closely(clock.t, t, TIME_TOLERANCE), "the time {t}");
         let at = place_at(&rt, &el, t);
         for x in [at.x, at.y, at.z] {
             let n = number(&rt, fields.next());
-            assert!(rt; is_within(x, n, PLACE_TOLERANCE), "the coordinate {n}");
+            assert!(rt; hold_closely(x, n, PLACE_TOLERANCE), "the coordinate {n}");
         }
     }
     Ok(())
