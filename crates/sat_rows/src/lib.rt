@@ -1,0 +1,9 @@
+//! The rows of an epoch's satellites: spans that hold whatever the equations of IS-GPS-200 allow of a
+//! satellite at every grid point of the search box, or why the satellite isn't used.
+#![tactic(auto)]
+
+mod lines;
+mod source;
+
+pub use lines::{EpochRows, SatLine};
+pub use source::RowSource;
