@@ -1,11 +1,12 @@
 -- Rows that hold what the equations allow, for any source that says which satellites are usable and what is
 -- allowed of them.
-use Rattle.std.specs.Prelude.{ℕ, ◌+◌, ◌≡◌, ℤ, pos, ◌-ℤ◌, ◌≤ℤ◌, true, List, [], ◌∷◌, Option, None, Some}
+use Rattle.std.specs.Prelude.{ℕ, ◌+◌, ◌*◌, ◌^◌, ◌≡◌, ℤ, pos, ◌-ℤ◌, ◌≤ℤ◌, true, List, [], ◌∷◌, Option, None, Some}
 use Rattle.rinex_obs.specs.declared.obs.SatObs.{SatObs}
 use Rattle.sat_model.specs.Boxes.{GridBox, box_holds}
 use Rattle.sat_model.specs.Intervals.{Between}
 use Rattle.sat_model.specs.Lengths.{spare_of}
 use Rattle.sat_model.specs.Relaxed.{ends}
+use Rattle.sat_model.specs.Sizes.{IsWithin}
 use Rattle.sat_model.specs.declared.boxes.Pos.{Pos}
 use Rattle.sat_model.specs.declared.satellites.Row.{Row}
 use Rattle.sat_model.specs.declared.satellites.Sat.{Sat}
@@ -61,3 +62,25 @@ usable_line (Skipped sat skip) = 0
 abbrev pub usable_in : List SatLine → ℕ
 usable_in [] = 0
 usable_in (line ∷ lines) = usable_line line + usable_in lines
+
+-- ---- sizes: below those that a row may have, so that there is room to widen it
+
+pub record IsSmall (n : ℕ) (span : Span) : Type 0 where
+  pub lo : IsWithin n span.lo
+  pub hi : IsWithin n span.hi
+
+-- places and ranges are within 56,000 km, errors within 10 km, in um
+pub record IsSmallRow (row : Row) : Type 0 where
+  pub x : IsSmall (56 * 10 ^ 12) row.x
+  pub y : IsSmall (56 * 10 ^ 12) row.y
+  pub z : IsSmall (56 * 10 ^ 12) row.z
+  pub range : IsSmall (56 * 10 ^ 12) row.range
+  pub err : IsSmall (10 ^ 10) row.err
+
+abbrev pub IsSmallLine : SatLine → Type 0
+IsSmallLine (Usable row) = IsSmallRow row
+IsSmallLine (Skipped sat skip) = Unit {0}
+
+abbrev pub AreSmall : List SatLine → Type 0
+AreSmall [] = Unit {0}
+AreSmall (line ∷ lines) = IsSmallLine line × AreSmall lines

@@ -7,7 +7,7 @@ ghost use Rattle.sat_model.specs.declared.boxes.Pos.{Pos};
 ghost use Rattle.sat_model.specs.declared.satellites.Sat.{Sat};
 ghost use Rattle.sat_model.specs.declared.satellites.Skip.{Skip};
 ghost use Rattle.sat_rows.specs.Chains.{Chain};
-ghost use Rattle.sat_rows.specs.OwnRows.{AreOwnLines, usable_in};
+ghost use Rattle.sat_rows.specs.OwnRows.{AreOwnLines, AreSmall, usable_in};
 
 use crate::lines::EpochRows;
 use rinex_obs::ObsEpoch;
@@ -31,6 +31,7 @@ pub trait RowSource {
     fn lines(&self, alloc: Global, epoch: &ObsEpoch, root: &Box3) -> Result<EpochRows, NoMemory>
         ensures lines { IfOk result (λ rows. AreOwnLines (judged self.now epoch.now.tag) (allows self.now epoch.now.tag) (declared self.now) (grid_box root.now)
             epoch.now.sats.items rows.lines.items) }
+        ensures small { IfOk result (λ rows. AreSmall rows.lines.items) }
         ensures usable { IfOk result (λ rows. rows.usable ≡ usable_in rows.lines.items) };
 
     /// A satellite is judged in one way.
