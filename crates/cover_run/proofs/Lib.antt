@@ -1,3 +1,6 @@
+pub mod ShownLemmas
+pub mod FileReads
+pub mod InputReads
 pub mod Saying
 pub mod Ending
 pub mod Rewriting

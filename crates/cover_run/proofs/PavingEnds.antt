@@ -54,5 +54,6 @@ paving_ends limits rows log all given before middle after (Err notice.Usage) rea
 paving_ends limits rows log all given before middle after (Err (notice.TooLong slot limit)) read within is files written ends = absurd ends
 paving_ends limits rows log all given before middle after (Err (notice.BadLog slot line kind)) read within is files written ends = absurd ends
 paving_ends limits rows log all given before middle after (Err (notice.NotBuilt slot line)) read within is files written ends = absurd ends
+paving_ends limits rows log all given before middle after (Err (notice.BadInput fault)) read within is files written ends = absurd ends
 paving_ends limits rows log all given before middle after (Err (notice.ReadFault slot)) read within is files written ends = absurd ends
 paving_ends limits rows log all given before middle after (Err notice.OutFault) read within is files written ends = absurd ends

@@ -11,6 +11,12 @@ abbrev pub begins_with_dash : List ℕ → Bool
 begins_with_dash [] = false
 begins_with_dash (byte ∷ more) = byte == 45
 
+-- the names of a receiver's files
+pub record Names : Type 0 where
+  pub obs : List ℕ
+  pub nav : List ℕ
+  pub settings : List ℕ
+
 -- what is asked for, with the names of files
 pub data Command : Type 0 where
   Judge : (log : List ℕ) → Command

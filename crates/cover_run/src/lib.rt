@@ -6,6 +6,9 @@
 
 mod answer;
 mod file;
+mod input_fault;
+mod input_texts;
+mod inputs;
 mod judging;
 mod limits;
 mod notice;

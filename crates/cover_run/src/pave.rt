@@ -114,6 +114,6 @@ pub fn run_pave<H: Shelf, O: Sink, E: Sink>(
 {
     match pave_rows(alloc, limits, rows, log, shelf) {
         Ok(()) => Status::Done,
-        Err(notice) => say(err, notice),
+        Err(notice) => say(err, &notice),
     }
 }

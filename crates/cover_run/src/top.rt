@@ -53,6 +53,6 @@ pub fn run<H: Shelf, O: Sink, E: Sink>(
     match command_of(words) {
         Some(Command::Judge { log }) => run_judge(alloc, limits.log, log, shelf, out, err),
         Some(Command::Pave { rows, log }) => run_pave(alloc, limits, rows, log, shelf, out, err),
-        None => say(err, Notice::Usage),
+        None => say(err, &Notice::Usage),
     }
 }

@@ -1,0 +1,15 @@
+use Rattle.std.proofs.Common.{ap, ◌∙◌}
+use Rattle.rinex_obs.specs.Reading.{observations_of}
+use Rattle.cover_run.proofs.InputReads.{no_obs_fault}
+use Rattle.cover_run.specs.Statuses.{notice_of_file}
+use Rattle.cover_run.specs.declared.input_fault.InputFault.TheVariants.{Obs}
+use Rattle.cover_run.proofs.inputs.obs_of.Goals as goal
+
+pub returns-in-Ok-clause-value : goal.returns-in-Ok-clause-value
+returns-in-Ok-clause-value c = λ other is. c.in-Ok.ensures.exact (observations_of other) is
+
+pub returns-in-Ok-clause-fault : goal.returns-in-Ok-clause-fault
+returns-in-Ok-clause-fault c = λ fault is. absurd (no_obs_fault c.args.signal.now c.args.position c.args.bytes.now c.in-Ok.ensures.first fault is)
+
+pub returns-in-Err-clause-value : goal.returns-in-Err-clause-value
+returns-in-Err-clause-value c = λ other is. c.of_obs.ensures ∙ ap (notice_of_file (λ refusal. Obs refusal)) (c.in-Err.ensures.exact (observations_of other) is)
