@@ -50,7 +50,7 @@ fn is_row(entry: &SatEntry) -> bool
 
 /// How many satellite lines have a row.
 #[tactic(auto, using(crate::proofs::OwnLemmas::count_rows))]
-fn rows_in(sats: &[SatEntry]) -> usize
+pub fn rows_in(sats: &[SatEntry]) -> usize
     ensures { result ≡ length (rows_of sats.now) }
 {
     sats.iter().filter(|entry| is_row(entry)).count()
