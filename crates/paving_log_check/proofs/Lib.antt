@@ -3,3 +3,4 @@ pub mod CutLemmas
 pub mod StageLemmas
 pub mod StepLemmas
 pub mod BlockLemmas
+pub mod SatLineLemmas

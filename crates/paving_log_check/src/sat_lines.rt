@@ -1,6 +1,6 @@
 //! The satellite lines of a block against those that the files give.
 
-ghost use Rattle.std.specs.Prelude.{◌≡◌, ◌+◌, ◌<◌, ◌^◌, ◌↔◌, ℕ, length, IsTrue, IfOk, MatchOption};
+ghost use Rattle.std.specs.Prelude.{◌≡◌, ◌+◌, ◌<◌, ◌^◌, ◌↔◌, ℕ, length, IsTrue, IfOk, MatchOption, Some};
 ghost use Rattle.sat_model.specs.Verdicts.{IsRepeat};
 ghost use Rattle.sat_model.specs.declared.satellites.SatEntry.TheVariants as entry;
 ghost use Rattle.sat_rows.specs.declared.lines.SatLine.TheVariants.{Usable};
@@ -141,14 +141,19 @@ fn line_fault(
     ensures { MatchOption result (LinePasses sats.now lines.now k)
         (λ fault. LineFails sats.now lines.now k fault × (fault.line ≡ line)) }
 {
-    match lines.get(k) {
-        Some(ours) => {
-            if repeats || !is_same_line(&sats[k], ours) {
-                return Some(plain_fault(line, SATELLITE_DIFFERS));
-            }
-            row_fault(line, &sats[k], ours)
-        }
-        None => Some(plain_fault(line, SATELLITE_DIFFERS)),
+    if repeats || lines.len() <= k || !is_same_line(&sats[k], &lines[k]) {
+        return Some(plain_fault(line, SATELLITE_DIFFERS));
+    }
+    row_fault(line, &sats[k], &lines[k])
+}
+
+/// Whether the place that was found is this one.
+fn is_at(found: Option<usize>, k: usize) -> bool
+    ensures { IsTrue result ↔ (found ≡ Some k) }
+{
+    match found {
+        Some(place) => place == k,
+        None => false,
     }
 }
 
@@ -161,7 +166,7 @@ pub(crate) fn sats_fault(line: u32, sats: &[SatEntry], lines: &[SatLine]) -> Opt
 {
     let first = first_repeat(sats);
     for k in 0..sats.len() {
-        if let Some(fault) = line_fault(line + k as u32, sats, lines, k, first == Some(k)) {
+        if let Some(fault) = line_fault(line + k as u32, sats, lines, k, is_at(first, k)) {
             return Some(fault);
         }
     }
