@@ -4,3 +4,6 @@ pub mod StageLemmas
 pub mod StepLemmas
 pub mod BlockLemmas
 pub mod SatLineLemmas
+pub mod EpochLemmas
+pub mod FirstFaultLemmas
+pub mod FitLemmas

@@ -11,10 +11,10 @@ use Rattle.paving_log_check.specs.declared.verdict.Fault.{Fault}
 
 -- ---- one line
 
-pub expected_here : {sats : List SatEntry} {lines : List SatLine} {k : ℕ} {theirs : SatEntry} {ours : SatLine}
+abbrev expected_here : (sats : List SatEntry) (lines : List SatLine) (k : ℕ) (theirs : SatEntry) (ours : SatLine)
     → k < length sats → theirs ≡ get_or sats k theirs → k < length lines → ours ≡ get_or lines k ours
     → IsSameLine theirs ours → (IsRepeat sats k → ⊥) → IsExpected sats lines k
-expected_here {sats = sats} {lines = lines} {k = k} {theirs = theirs} {ours = ours} within is below are same once = record {
+expected_here sats lines k theirs ours within is below are same once = record {
   theirs = theirs;
   theirs_at = slice_get_read sats (length sats) k theirs refl within is;
   ours = ours;
@@ -24,28 +24,18 @@ expected_here {sats = sats} {lines = lines} {k = k} {theirs = theirs} {ours = ou
 }
 
 -- a row that passes or fails against the expected line decides
-pub line_decided : {sats : List SatEntry} {lines : List SatLine} {k : ℕ} {theirs : SatEntry} {ours : SatLine} (found : Option Fault) (line : ℕ)
+pub line_decided : (sats : List SatEntry) (lines : List SatLine) (k : ℕ) (theirs : SatEntry) (ours : SatLine) (found : Option Fault) (line : ℕ)
     → k < length sats → theirs ≡ get_or sats k theirs → k < length lines → ours ≡ get_or lines k ours
     → IsSameLine theirs ours → (IsRepeat sats k → ⊥)
     → MatchOption found (RowPasses theirs ours) (λ fault. RowFails theirs ours fault × (fault.line ≡ line))
     → MatchOption found (LinePasses sats lines k) (λ fault. LineFails sats lines k fault × (fault.line ≡ line))
-line_decided None line within is below are same once row = record { is_expected = expected_here within is below are same once; passes = row }
-line_decided (Some fault) line within is below are same once row =
-    (inr (record { is_expected = expected_here within is below are same once; fails = row.0 }), row.1)
+line_decided sats lines k theirs ours None line within is below are same once row =
+    record { is_expected = expected_here sats lines k theirs ours within is below are same once; passes = row }
+line_decided sats lines k theirs ours (Some fault) line within is below are same once row =
+    (inr (record { is_expected = expected_here sats lines k theirs ours within is below are same once; fails = row.0 }), row.1)
 
 same_some : {X : Type 0} (o : Option X) (x y : X) → o ≡ Some x → o ≡ Some y → x ≡ y
 same_some o x y e f = cc
-
-pub none_past : {sats : List SatEntry} {lines : List SatLine} {k : ℕ} → length lines ≤ k → IsExpected sats lines k → ⊥
-none_past {lines = lines} {k = k} past e = absurd (let none = slice_get_past lines k past in let some = e.ours_at in cc)
-
-pub other_here : {sats : List SatEntry} {lines : List SatLine} {k : ℕ} {theirs : SatEntry} {ours : SatLine}
-    → k < length sats → theirs ≡ get_or sats k theirs → k < length lines → ours ≡ get_or lines k ours
-    → (IsSameLine theirs ours → ⊥) → IsExpected sats lines k → ⊥
-other_here {sats = sats} {lines = lines} {k = k} {theirs = theirs} {ours = ours} within is below are other e =
-    let their = same_some (slice_get sats k) e.theirs theirs e.theirs_at (slice_get_read sats (length sats) k theirs refl within is) in
-    let our = same_some (slice_get lines k) e.ours ours e.ours_at (slice_get_read lines (length lines) k ours refl below are) in
-    other (subst (λ t. IsSameLine t ours) their (subst (λ o. IsSameLine e.theirs o) our e.same))
 
 -- ---- the first repeat
 

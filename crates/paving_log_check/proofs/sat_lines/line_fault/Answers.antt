@@ -2,5 +2,5 @@ use Rattle.std.proofs.Common.{arith}
 use Rattle.paving_log_check.proofs.SatLineLemmas.{line_decided}
 use Rattle.paving_log_check.proofs.sat_lines.line_fault.Goals as goal
 
-pub returns-else-not-is_same_line : goal.returns-else-not-is_same_line
-returns-else-not-is_same_line c = ?
+pub returns : goal.returns
+returns c = ?
