@@ -132,7 +132,7 @@ one_in_steps rules root block j n k m none f g =
     let log : LogValue = record { rules = rules; blocks = alone block root ∷ [] } in
     let head = head_alone rules block root in
     let same = one_first_fault log (0 + 2 + length block.sats + j) n (0 + 2 + length block.sats + k) m
-        (inl (inr (inr (head, none, (root, j, refl, f, refl))))) (inl (inr (inr (head, none, (root, k, refl, g, refl))))) in
+    (inl (inr (inr (head, none, (root, j, refl, f, refl))))) (inl (inr (inr (head, none, (root, k, refl, g, refl))))) in
     (omega (arith, same.0), same.1)
 
 -- ---- a block

@@ -100,8 +100,8 @@ all_fair (theirs ∷ sats) (ours ∷ lines) short each =
     let first = each 0 (omega arith) in (
       fair_pair theirs first.theirs ours first.ours (same_one theirs first.theirs first.theirs_at) (same_one ours first.ours first.ours_at) first.fair,
       all_fair sats lines (omega arith) (λ k less.
-      let later = each (suc k) (omega arith) in
-      record { theirs = later.theirs; theirs_at = later.theirs_at; ours = later.ours; ours_at = later.ours_at; fair = later.fair }),
+          let later = each (suc k) (omega arith) in
+          record { theirs = later.theirs; theirs_at = later.theirs_at; ours = later.ours; ours_at = later.ours_at; fair = later.fair }),
     )
 
 fair_at : (sats : List SatEntry) (lines : List SatLine) → SatsPass sats lines → (k : ℕ) → k < length sats → FairAt sats lines k
@@ -123,7 +123,6 @@ module _ (IsJudged : SatObs → Option Skip → Type 0) (Allows : SatObs → Pos
     (one : (seen : SatObs) (a b : Option Skip) → IsJudged seen a → IsJudged seen b → a ≡ b)
     (exists : (seen : SatObs) (p : Pos) → IsJudged seen None → (c : Chain) × Allows seen p c)
     (range_is : (seen : SatObs) (p : Pos) (c : Chain) → Allows seen p c → c.range ≡ range_to c.x c.y c.z p) where
-
   possible : (row ours : Row) (seen : SatObs) (p : Pos) (b : ℤ) → HoldsOwn row ours → HasBound row ours → IsOwnRow (Allows seen) (declared seen.sat) root ours
       → box_holds root p ≡ true → IsConsistent (Allows seen) (declared seen.sat) p b → IsPossible p b row
   possible row ours seen p b holds bound own inside k = record {
@@ -217,6 +216,7 @@ module _ (IsJudged : SatObs → Option Skip → Type 0) (Allows : SatObs → Pos
           let counted = sum_by-cons (λ (piece : ShownStep). cond (box_holds piece.part p) 1 0) piece more in
           let here : cond (box_holds piece.part p) 1 0 ≡ 1 = rw holds refl in
           omega (arith, counted, here)
+
       held_later : (p : Pos) (piece : ShownStep) (more : List ShownStep) → 0 < count_by (λ piece. box_holds piece.part p) more → 0 < count_by (λ piece. box_holds piece.part p) (piece ∷ more)
       held_later p piece more some = omega (arith, sum_by-cons (λ (piece : ShownStep). cond (box_holds piece.part p) 1 0) piece more)
 

@@ -7,3 +7,4 @@ pub mod SatLineLemmas
 pub mod EpochLemmas
 pub mod FirstFaultLemmas
 pub mod FitLemmas
+pub mod PlaceLemmas

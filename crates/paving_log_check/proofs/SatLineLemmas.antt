@@ -23,6 +23,14 @@ expected_here sats lines k theirs ours within is below are same once = record {
   once = once;
 }
 
+pub same_some : {X : Type 0} (o : Option X) (x y : X) → o ≡ Some x → o ≡ Some y → x ≡ y
+same_some o x y e f = cc
+
+-- what stands at a place is one value
+pub same_item : {X : Type 0} (xs : List X) (k : ℕ) (x y : X) → k < length xs → x ≡ get_or xs k x → y ≡ get_or xs k y → x ≡ y
+same_item xs k x y within is are =
+    same_some (slice_get xs k) x y (slice_get_read xs (length xs) k x refl within is) (slice_get_read xs (length xs) k y refl within are)
+
 -- a row that passes or fails against the expected line decides
 pub line_decided : (sats : List SatEntry) (lines : List SatLine) (k : ℕ) (theirs : SatEntry) (ours : SatLine) (found : Option Fault) (line : ℕ)
     → k < length sats → theirs ≡ get_or sats k theirs → k < length lines → ours ≡ get_or lines k ours
@@ -34,8 +42,16 @@ line_decided sats lines k theirs ours None line within is below are same once ro
 line_decided sats lines k theirs ours (Some fault) line within is below are same once row =
     (inr (record { is_expected = expected_here sats lines k theirs ours within is below are same once; fails = row.0 }), row.1)
 
-same_some : {X : Type 0} (o : Option X) (x y : X) → o ≡ Some x → o ≡ Some y → x ≡ y
-same_some o x y e f = cc
+-- the lines were read twice
+pub line_decided_again : (sats : List SatEntry) (lines : List SatLine) (k : ℕ) (theirs them : SatEntry) (ours us : SatLine) (found : Option Fault) (line : ℕ)
+    → k < length sats → theirs ≡ get_or sats k theirs → them ≡ get_or sats k them → k < length lines → ours ≡ get_or lines k ours → us ≡ get_or lines k us
+    → IsSameLine theirs ours → (IsRepeat sats k → ⊥)
+    → MatchOption found (RowPasses them us) (λ fault. RowFails them us fault × (fault.line ≡ line))
+    → MatchOption found (LinePasses sats lines k) (λ fault. LineFails sats lines k fault × (fault.line ≡ line))
+line_decided_again sats lines k theirs them ours us found line within is too below are also same once row =
+    line_decided sats lines k them us found line within too below also
+    (subst (λ t. IsSameLine t us) (same_item sats k theirs them within is too) (subst (λ o. IsSameLine theirs o) (same_item lines k ours us below are also) same))
+    once row
 
 -- ---- the first repeat
 

@@ -15,7 +15,7 @@ mod steps;
 mod verdict;
 
 pub use epochs::check_epoch;
-
+pub use files::check_with;
 pub use logs::judge;
 pub use verdict::{Fault, Verdict};
 
