@@ -45,13 +45,13 @@ record AreAlike (a b : Fault) : Type 0 where
   pub ours : ends a.ours ≡ ends b.ours
 
 both_plain : (a b : Fault) → a.number ≡ b.number → ShowsNoSpans a → ShowsNoSpans b → AreAlike a b
-both_plain a b number no none = record { number = number; theirs = no.0 ∙ sym none.0; ours = no.1 ∙ sym none.1 }
+both_plain a b number one other = record { number = number; theirs = one.0 ∙ sym other.0; ours = one.1 ∙ sym other.1 }
 
 on_line : (a b : Fault) → a.line ≡ b.line → AreAlike a b → AreSameFault a b
 on_line a b line alike = record { line = line; number = alike.number; theirs = alike.theirs; ours = alike.ours }
 
 same_plain : (a b : Fault) → a.line ≡ b.line → a.number ≡ b.number → ShowsNoSpans a → ShowsNoSpans b → AreSameFault a b
-same_plain a b line number no none = on_line a b line (both_plain a b number no none)
+same_plain a b line number one other = on_line a b line (both_plain a b number one other)
 
 row_not_both : (theirs : SatEntry) (ours : SatLine) (fault : Fault) → RowPasses theirs ours → RowFails theirs ours fault → ⊥
 row_not_both (entry.Row row) (Usable ours) fault h (inl f) = narrow_not_held (compared row ours) fault.theirs fault.ours h.0 f.0

@@ -7,6 +7,7 @@ use Rattle.std.proofs.lemmas.List.Sums.{sum_by-cons}
 use Rattle.rinex_obs.specs.declared.obs.ObsEpoch.{ObsEpoch}
 use Rattle.rinex_obs.specs.declared.obs.SatObs.{SatObs}
 use Rattle.sat_model.specs.Boxes.{GridBox, box_holds}
+use Rattle.sat_model.specs.declared.boxes.Box3.{Box3}
 use Rattle.sat_model.specs.Cover.{IsSureInside, AreSureInside, EpochCover}
 use Rattle.sat_model.specs.Fitting.{range_to, RowValue, error_of, IsAllowed, IsPossible, IsSure, AllBut}
 use Rattle.sat_model.specs.Fold.{ShownStep, pieces}
@@ -29,7 +30,7 @@ use Rattle.sat_rows.specs.Fitting.{IsConsistent, Agrees, Fits}
 use Rattle.sat_rows.specs.OwnRows.{HoldsChain, IsOwnRow, IsOwnLine, AreOwnLines}
 use Rattle.sat_rows.specs.declared.lines.SatLine.{SatLine}
 use Rattle.sat_rows.specs.declared.lines.SatLine.TheVariants.{Usable, Skipped}
-use Rattle.paving_log.specs.Values.{block_of}
+use Rattle.paving_log.specs.Values.{block_of, box_option}
 use Rattle.paving_log.specs.declared.log.LogEpoch.{LogEpoch}
 use Rattle.paving_log_check.specs.Admissible.{AreOwn, AdmitsFrom}
 use Rattle.paving_log_check.specs.Epochs.{BodyPassesAt, EpochPasses}
@@ -125,6 +126,7 @@ module _ (IsJudged : SatObs → Option Skip → Type 0) (Allows : SatObs → Pos
     (range_is : (seen : SatObs) (p : Pos) (c : Chain) → Allows seen p c → c.range ≡ range_to c.x c.y c.z p) where
   possible : (row ours : Row) (seen : SatObs) (p : Pos) (b : ℤ) → HoldsOwn row ours → HasBound row ours → IsOwnRow (Allows seen) (declared seen.sat) root ours
       → box_holds root p ≡ true → IsConsistent (Allows seen) (declared seen.sat) p b → IsPossible p b row
+  unfolding value_of
   possible row ours seen p b holds bound own inside k = record {
     value = value_of row ours k.values holds (own.holds p k.values inside k.are);
     allowed = allowed row (declared seen.sat) k.values.corrected b k.values.range (range_to k.values.x k.values.y k.values.z p) (bound ∙ own.err)
@@ -133,6 +135,7 @@ module _ (IsJudged : SatObs → Option Skip → Type 0) (Allows : SatObs → Pos
 
   consistent : (row ours : Row) (seen : SatObs) (p : Pos) (b : ℤ) → HoldsOwn row ours → HasBound row ours → IsOwnRow (Allows seen) (declared seen.sat) root ours
       → box_holds root p ≡ true → IsJudged seen None → IsSure p b row → IsConsistent (Allows seen) (declared seen.sat) p b
+  unfolding value_of
   consistent row ours seen p b holds bound own inside usable sure =
       let (c, are) = exists seen p usable in
       let v = value_of row ours c holds (own.holds p c inside are) in
@@ -214,7 +217,7 @@ module _ (IsJudged : SatObs → Option Skip → Type 0) (Allows : SatObs → Pos
       held_here : (p : Pos) (piece : ShownStep) (more : List ShownStep) → box_holds piece.part p ≡ true → 0 < count_by (λ piece. box_holds piece.part p) (piece ∷ more)
       held_here p piece more holds =
           let counted = sum_by-cons (λ (piece : ShownStep). cond (box_holds piece.part p) 1 0) piece more in
-          let here : cond (box_holds piece.part p) 1 0 ≡ 1 = rw holds refl in
+          let here : ◌≡◌ {A = ℕ} (cond (box_holds piece.part p) 1 0) 1 = rw holds refl in
           omega (arith, counted, here)
 
       held_later : (p : Pos) (piece : ShownStep) (more : List ShownStep) → 0 < count_by (λ piece. box_holds piece.part p) more → 0 < count_by (λ piece. box_holds piece.part p) (piece ∷ more)
@@ -239,3 +242,28 @@ module _ (IsJudged : SatObs → Option Skip → Type 0) (Allows : SatObs → Pos
   block_cover rules block (Some theirs) lines seens few sats whole body own =
       let fair = all_fair block.sats lines (rw few at whole) (fair_at block.sats lines (rw few at sats)) in
       fit_cover rules.outliers block.sats lines seens (pieces root block.steps) fair own (epoch_cover (rows_of block.sats) rules block.done root block.steps body.1)
+
+none_of : (root : Option Box3) → is_none (box_option root) ≡ is_none root
+none_of None = refl
+none_of (Some root) = refl
+
+-- a log that is admitted by own lines of each epoch covers what fits
+module _ (IsJudged : ℤ → SatObs → Option Skip → Type 0) (Allows : ℤ → SatObs → Pos → Chain → Type 0) (declared : Sat → ℤ × ℤ) (root : GridBox)
+    (one : (tag : ℤ) (seen : SatObs) (a b : Option Skip) → IsJudged tag seen a → IsJudged tag seen b → a ≡ b)
+    (exists : (tag : ℤ) (seen : SatObs) (p : Pos) → IsJudged tag seen None → (c : Chain) × Allows tag seen p c)
+    (range_is : (tag : ℤ) (seen : SatObs) (p : Pos) (c : Chain) → Allows tag seen p c → c.range ≡ range_to c.x c.y c.z p) where
+
+  pub blocks_fit : (rules : Rules) (before : Option ℕ) (owns : List (List SatLine)) (seens : List ObsEpoch) (epochs : List LogEpoch)
+      → AdmitsFrom rules root before owns seens (map block_of epochs) → AreOwn IsJudged Allows declared root seens owns → length owns ≡ length seens
+      → BlocksFitCover IsJudged Allows declared rules.outliers root seens (map block_of epochs)
+  blocks_fit rules before [] [] [] admits are each = tt
+  blocks_fit rules before [] [] (epoch ∷ epochs) admits are each = absurd admits
+  blocks_fit rules before [] (seen ∷ seens) epochs admits are each = absurd (omega (arith, each))
+  blocks_fit rules before (own ∷ owns) [] epochs admits are each = absurd are
+  blocks_fit rules before (own ∷ owns) (seen ∷ seens) [] admits are each = absurd admits
+  blocks_fit rules before (own ∷ owns) (seen ∷ seens) (epoch ∷ epochs) admits are each = (
+    block_cover (IsJudged seen.tag) (Allows seen.tag) declared root (one seen.tag) (exists seen.tag) (range_is seen.tag)
+        rules (block_of epoch) (box_option epoch.root) own seen.sats.items (sym epoch.paved ∙ sym (none_of epoch.root))
+        admits.1.sats admits.1.whole admits.1.body are.0,
+    blocks_fit rules (Some epoch.index) owns seens epochs admits.2 are.1 (omega (arith, each)),
+  )

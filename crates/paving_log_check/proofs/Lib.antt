@@ -8,3 +8,4 @@ pub mod EpochLemmas
 pub mod FirstFaultLemmas
 pub mod FitLemmas
 pub mod PlaceLemmas
+pub mod CheckLemmas

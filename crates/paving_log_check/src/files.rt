@@ -1,6 +1,6 @@
 //! The verdict on a log, checked against files.
 
-ghost use Rattle.std.specs.Prelude.{◌≡◌, ◌+◌, ◌<◌, ◌≤◌, ◌^◌, ◌↔◌, ℕ, List, [], ◌∷◌, map, IsTrue, IfOk, MatchOption, Option, Some, None, drop};
+ghost use Rattle.std.specs.Prelude.{◌≡◌, ◌+◌, ◌<◌, ◌≤◌, ◌^◌, ◌↔◌, ℕ, List, [], ◌∷◌, map, IsTrue, IfOk, IfSome, MatchOption, Option, Some, None, drop, length};
 ghost use Rattle.rinex_obs.specs.declared.obs.ObsEpoch.{ObsEpoch};
 ghost use Rattle.sat_model.specs.Boxes.{GridBox, grid_box};
 ghost use Rattle.sat_model.specs.Logs.{Block, lines_in, IsNumbered};
@@ -39,8 +39,9 @@ fn is_selected(seen: &ObsEpoch, from: u32, to: u32) -> bool
 
 /// The place of the first epoch from a place on whose index is from `from` to `to`.
 fn next_selected(epochs: &[ObsEpoch], from: u32, to: u32, start: usize) -> Option<usize>
-    ensures { MatchOption result (selected from to (drop start epochs.now) ≡ [])
+    ensures place { MatchOption result (selected from to (drop start epochs.now) ≡ [])
         (λ i. IsNextSelected from to epochs.now start i) }
+    ensures within { IfSome result (λ i. i < length epochs.now) }
 {
     for i in start..epochs.len() {
         if is_selected(&epochs[i], from, to) {
@@ -70,9 +71,10 @@ fn place_of(
     start: usize,
     epoch: &LogEpoch,
 ) -> Option<usize>
-    ensures { MatchOption result
+    ensures place { MatchOption result
         ((more : List Block) → IsDue rules.now before (selected from to (drop start epochs.now)) (block_of epoch.now ∷ more) → ⊥)
         (λ i. IsPlaceOf rules.now before from to epochs.now start (block_of epoch.now) i) }
+    ensures within { IfSome result (λ i. i < length epochs.now) }
 {
     match next_selected(epochs, from, to, start) {
         Some(i) => {
@@ -159,7 +161,8 @@ pub fn check_with<S: RowSource>(
     let mut before: Option<u32> = None;
     let mut next: u32 = 3;
     let mut start: usize = 0;
-    for (k, epoch) in log.epochs.iter().enumerate() {
+    for k in 0..log.epochs.len() {
+        let epoch = &log.epochs[k];
         match place_of(rules, before, &obs.epochs, from, to, start, epoch) {
             Some(i) => {
                 next += lines_of(epoch);
