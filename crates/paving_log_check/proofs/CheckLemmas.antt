@@ -54,7 +54,7 @@ module _ (IsJudged : ℤ → SatObs → Option Skip → Type 0) (Allows : ℤ �
     fail = λ owns fault h. h;
     own = λ owns h. h;
     long = λ owns e. e;
-    kept = refl;
+    kept = omega arith;
     numbered = numbered;
     few_boxes = omega arith;
   }
@@ -122,12 +122,12 @@ module _ (IsJudged : ℤ → SatObs → Option Skip → Type 0) (Allows : ℤ �
       (u.fail [] fault (record { fails = not_due; line = line; number = number; no_spans = none }))
 
   pub block_refused : {rules : Rules} {root : GridBox} {epochs : List ObsEpoch} {log : LogValue} {before : Option ℕ} {next boxes : ℕ} {rest : List ObsEpoch} {left : List Block}
-      (seen : ObsEpoch) (more : List ObsEpoch) (block : Block) (behind : List Block) (found fault : Fault) (due : Type 0)
+      (seen : ObsEpoch) (more : List ObsEpoch) (block : Block) (behind : List Block) (found fault : Fault)
       → IsUnderway rules root epochs log before next boxes rest left → AreSameRules rules log.rules → rest ≡ seen ∷ more → left ≡ block ∷ behind
       → IsOf rules before seen block → EpochRefused IsJudged Allows declared rules root seen block found
       → ((own : List SatLine) → EpochFails rules root own block found → BlockFault rules root (next + lines_in block) own more block behind fault)
       → IsRefused IsJudged Allows declared epochs rules root log fault
-  block_refused {rules = rules} {root = root} {epochs = epochs} {log = log} {next = next} seen more block behind found fault due u same is first is_of refused fails =
+  block_refused {rules = rules} {root = root} {epochs = epochs} {log = log} {next = next} seen more block behind found fault u same is first is_of refused fails =
       refused_by rules root epochs log fault (u.whole (refused.own ∷ [])) same (u.own (refused.own ∷ []) (rw is (refused.are_own, none_own root more)))
       (u.fail (refused.own ∷ []) fault (rw (is, first) (inr (inl (is_of, fails refused.own refused.fails)))))
 
@@ -137,15 +137,15 @@ module _ (IsJudged : ℤ → SatObs → Option Skip → Type 0) (Allows : ℤ �
   ended_rest rules before [] h = refl
   ended_rest rules before (seen ∷ rest) h = absurd h
 
-  pub accepted : {rules : Rules} {root : GridBox} {epochs : List ObsEpoch} {before : Option ℕ} {next boxes : ℕ} {rest : List ObsEpoch} {left : List Block} (log : Log)
+  pub all_accepted : {rules : Rules} {root : GridBox} {epochs : List ObsEpoch} {before : Option ℕ} {next boxes : ℕ} {rest : List ObsEpoch} {left : List Block} (log : Log)
       → ((tag : ℤ) (seen : SatObs) (a b : Option Skip) → IsJudged tag seen a → IsJudged tag seen b → a ≡ b)
       → ((tag : ℤ) (seen : SatObs) (p : Pos) → IsJudged tag seen None → (c : Chain) × Allows tag seen p c)
       → ((tag : ℤ) (seen : SatObs) (p : Pos) (c : Chain) → Allows tag seen p c → c.range ≡ range_to c.x c.y c.z p)
-      → IsUnderway rules root epochs (log_value log) before next boxes rest left → AreSameRules rules log.rules → left ≡ [] → IsDue rules before rest left
+      → IsUnderway rules root epochs (log_value log) before next boxes rest left → AreSameRules rules log.rules → left ≡ [] → IsDue rules before rest []
       → IsAccepted IsJudged Allows declared epochs rules root (log_value log) boxes
-  accepted {rules = rules} {root = root} {epochs = epochs} {before = before} {boxes = boxes} {rest = rest} {left = left} log one exists range_is u same ended due =
-      let none = ended_rest rules before rest (rw ended at due) in
-      let admits = u.pass [] due in
+  all_accepted {rules = rules} {root = root} {epochs = epochs} {before = before} {boxes = boxes} {rest = rest} {left = left} log one exists range_is u same ended due =
+      let none = ended_rest rules before rest due in
+      let admits = u.pass [] (rw ended due) in
       let own = u.own [] (none_own root rest) in
       let long = u.long [] (sym (ap length none)) in
       record {

@@ -72,6 +72,9 @@ pub block_left : (blocks : List LogEpoch) (k : ℕ) (epoch : LogEpoch) → k < l
 block_left blocks k epoch within is = next_item (map block_of blocks) k (block_of epoch) (omega (arith, length-map blocks block_of))
     (ap block_of is ∙ sym (get_or-map block_of blocks k epoch))
 
+pub blocks_ended : (blocks : List LogEpoch) (k : ℕ) → length blocks ≤ k → drop k (map block_of blocks) ≡ []
+blocks_ended blocks k ended = no_item (map block_of blocks) k (omega (arith, length-map blocks block_of))
+
 -- a block is left: it is due where its place was found
 pub due_block : (rules : Rules) (before : Option ℕ) (from to : ℕ) (epochs : List ObsEpoch) (start : ℕ) (block : Block) (left more : List Block) (found : Option ℕ)
     → left ≡ block ∷ more
