@@ -19,32 +19,28 @@ loop-k-init g c = underway_first (g.S.RowSource.judged c.args.source.now) (g.S.R
 
 pub lines_of-next-requires : goal.lines_of-next-requires
 lines_of-next-requires g c =
-    let within = omega (arith, c.loop-k-test.true, c.len-k-end.ensures, c.args.log.now.epochs.ok) in
-    let first = block_left c.args.log.now.epochs.items c.loop-k.k c.index-epoch.result.now within c.index-epoch.ensures in
+    let first = block_left c.args.log.now.epochs.items c.loop-k.k c.index-epoch.result.now (omega (arith, c.loop-k-test.true, c.len-k-end.ensures, c.args.log.now.epochs.ok)) c.index-epoch.ensures in
     let numbered = block_numbered (g.S.RowSource.judged c.args.source.now) (g.S.RowSource.allows c.args.source.now) (g.S.RowSource.declared c.args.source.now)
         (block_of c.index-epoch.result.now) (drop (c.loop-k.k + 1) (log_value c.args.log.now).blocks) c.loop-k.invariant first in
     omega (arith, numbered.1)
 
 pub overflow_add-next : goal.overflow_add-next
 overflow_add-next g c =
-    let within = omega (arith, c.loop-k-test.true, c.len-k-end.ensures, c.args.log.now.epochs.ok) in
-    let first = block_left c.args.log.now.epochs.items c.loop-k.k c.index-epoch.result.now within c.index-epoch.ensures in
+    let first = block_left c.args.log.now.epochs.items c.loop-k.k c.index-epoch.result.now (omega (arith, c.loop-k-test.true, c.len-k-end.ensures, c.args.log.now.epochs.ok)) c.index-epoch.ensures in
     let numbered = block_numbered (g.S.RowSource.judged c.args.source.now) (g.S.RowSource.allows c.args.source.now) (g.S.RowSource.declared c.args.source.now)
         (block_of c.index-epoch.result.now) (drop (c.loop-k.k + 1) (log_value c.args.log.now).blocks) c.loop-k.invariant first in
     omega (arith, numbered.1, c.lines_of-next.ensures)
 
 pub check_epoch-requires-clause-numbered : goal.check_epoch-requires-clause-numbered
 check_epoch-requires-clause-numbered g c =
-    let within = omega (arith, c.loop-k-test.true, c.len-k-end.ensures, c.args.log.now.epochs.ok) in
-    let first = block_left c.args.log.now.epochs.items c.loop-k.k c.index-epoch.result.now within c.index-epoch.ensures in
+    let first = block_left c.args.log.now.epochs.items c.loop-k.k c.index-epoch.result.now (omega (arith, c.loop-k-test.true, c.len-k-end.ensures, c.args.log.now.epochs.ok)) c.index-epoch.ensures in
     let numbered = block_numbered (g.S.RowSource.judged c.args.source.now) (g.S.RowSource.allows c.args.source.now) (g.S.RowSource.declared c.args.source.now)
         (block_of c.index-epoch.result.now) (drop (c.loop-k.k + 1) (log_value c.args.log.now).blocks) c.loop-k.invariant first in
     omega (arith, numbered.0, numbered.1)
 
 pub returns-in-Some-2-clause-no : goal.returns-in-Some-2-clause-no
 returns-in-Some-2-clause-no g c =
-    let within = omega (arith, c.loop-k-test.true, c.len-k-end.ensures, c.args.log.now.epochs.ok) in
-    let first = block_left c.args.log.now.epochs.items c.loop-k.k c.index-epoch.result.now within c.index-epoch.ensures in
+    let first = block_left c.args.log.now.epochs.items c.loop-k.k c.index-epoch.result.now (omega (arith, c.loop-k-test.true, c.len-k-end.ensures, c.args.log.now.epochs.ok)) c.index-epoch.ensures in
     let place = rw c.deref.ensures.value at c.in-Some.ensures.place in
     let seen = seen_at c.args.from c.args.to c.args.obs.now.epochs.items c.loop-k.start c.in-Some.i c.index.result.now place.next c.index.ensures in
     let refused = rw c.in-Some-2.is at c.in_ok-fault-in-Some.ensures in
@@ -61,8 +57,7 @@ returns-in-Some-2-clause-no g c =
 
 pub returns-in-None-clause-no : goal.returns-in-None-clause-no
 returns-in-None-clause-no g c =
-    let within = omega (arith, c.loop-k-test.true, c.len-k-end.ensures, c.args.log.now.epochs.ok) in
-    let first = block_left c.args.log.now.epochs.items c.loop-k.k c.index-epoch.result.now within c.index-epoch.ensures in
+    let first = block_left c.args.log.now.epochs.items c.loop-k.k c.index-epoch.result.now (omega (arith, c.loop-k-test.true, c.len-k-end.ensures, c.args.log.now.epochs.ok)) c.index-epoch.ensures in
     let none = rw c.deref.ensures.value at c.in-None.ensures.place in
     due_refused (g.S.RowSource.judged c.args.source.now) (g.S.RowSource.allows c.args.source.now) (g.S.RowSource.declared c.args.source.now)
     c.plain_fault-in-None.result c.loop-k.invariant (c.are_same_rules.ensures.0 c.if-not-are_same_rules.false)
@@ -71,8 +66,7 @@ returns-in-None-clause-no g c =
 
 pub loop-k-preserved : goal.loop-k-preserved
 loop-k-preserved g c =
-    let within = omega (arith, c.loop-k-test.true, c.len-k-end.ensures, c.args.log.now.epochs.ok) in
-    let first = block_left c.args.log.now.epochs.items c.loop-k.k c.index-epoch.result.now within c.index-epoch.ensures in
+    let first = block_left c.args.log.now.epochs.items c.loop-k.k c.index-epoch.result.now (omega (arith, c.loop-k-test.true, c.len-k-end.ensures, c.args.log.now.epochs.ok)) c.index-epoch.ensures in
     let place = rw c.deref.ensures.value at c.in-Some.ensures.place in
     let seen = seen_at c.args.from c.args.to c.args.obs.now.epochs.items c.loop-k.start c.in-Some.i c.index.result.now place.next c.index.ensures in
     let passes = rw c.in-None-2.is at c.in_ok-fault-in-Some.ensures in
