@@ -1,6 +1,8 @@
 pub mod ShownLemmas
 pub mod FileReads
 pub mod InputReads
+pub mod PositionLemmas
+pub mod CheckedReads
 pub mod Saying
 pub mod Ending
 pub mod Rewriting

@@ -28,29 +28,29 @@ use Rattle.sat_model.specs.declared.satellites.Signal.{Signal}
 use Rattle.cover_run.specs.Answers.{IsBrokenOff}
 use Rattle.cover_run.specs.Statuses.{status_of}
 use Rattle.cover_run.specs.Words.{Names}
-use Rattle.cover_run.specs.declared.input_fault.InputFault.{InputFault}
 use Rattle.cover_run.specs.declared.input_fault.InputFault.TheVariants as fault
 use Rattle.cover_run.specs.declared.inputs.Inputs.{Inputs}
 use Rattle.cover_run.specs.declared.limits.Limits.{Limits}
 use Rattle.cover_run.specs.declared.notice.Notice.{Notice}
 use Rattle.cover_run.specs.declared.notice.Notice.TheVariants as notice
+use Rattle.cover_run.specs.declared.status.Status.TheVariants as status
 
 -- ---- the bytes of each file
 
--- the bytes are settings, or have this fault
+-- the bytes are settings, or have the fault of this notice
 abbrev pub AreSettings : List ℕ → Settings → Type 0
 AreSettings bytes s = settings.IsSettings bytes (value_of_settings s)
 
-abbrev pub IsSettingsFault : List ℕ → InputFault → Type 0
-IsSettingsFault bytes (fault.Settings told) = (found : Found) × settings.IsFirstFault bytes found × Tells found told
+abbrev pub IsSettingsFault : List ℕ → Notice → Type 0
+IsSettingsFault bytes (notice.BadInput (fault.Settings told)) = (found : Found) × settings.IsFirstFault bytes found × Tells found told
 IsSettingsFault bytes _ = ⊥
 
 -- the bytes are a navigation file
 abbrev pub AreRecords : List ℕ → List NavRecord → Type 0
 AreRecords bytes records = nav.IsNavFile bytes (records_of records)
 
-abbrev pub IsNavFault : List ℕ → InputFault → Type 0
-IsNavFault bytes (fault.Nav refusal) = nav.IsFirstFault bytes refusal
+abbrev pub IsNavFault : List ℕ → Notice → Type 0
+IsNavFault bytes (notice.BadInput (fault.Nav refusal)) = nav.IsFirstFault bytes refusal
 IsNavFault bytes _ = ⊥
 
 -- the position of an observation file's header is wanted where it is the centre of the search box
@@ -62,16 +62,16 @@ wants_position (At p) = false
 abbrev pub AreObservations : Signal → Bool → List ℕ → Obs → Type 0
 AreObservations signal position bytes o = obs.IsObsFile signal position bytes (observations_of o)
 
-abbrev pub IsObsFault : Signal → Bool → List ℕ → InputFault → Type 0
-IsObsFault signal position bytes (fault.Obs refusal) = obs.IsFirstFault signal position bytes refusal
+abbrev pub IsObsFault : Signal → Bool → List ℕ → Notice → Type 0
+IsObsFault signal position bytes (notice.BadInput (fault.Obs refusal)) = obs.IsFirstFault signal position bytes refusal
 IsObsFault signal position bytes _ = ⊥
 
 -- ---- what a reader of a text answers
 
 -- the value, or a fault of the text, or that memory ran out
-abbrev pub TextGives : {V : Type 0} → (List ℕ → V → Type 0) → (List ℕ → InputFault → Type 0) → List ℕ → Result V Notice → Type 0
+abbrev pub TextGives : {V : Type 0} → (List ℕ → V → Type 0) → (List ℕ → Notice → Type 0) → List ℕ → Result V Notice → Type 0
 TextGives Are HaveFault bytes (Ok v) = Are bytes v
-TextGives Are HaveFault bytes (Err n) = (n ≡ notice.NoMemory) ⊎ ((fault : InputFault) × (n ≡ notice.BadInput fault) × HaveFault bytes fault)
+TextGives Are HaveFault bytes (Err n) = (n ≡ notice.NoMemory) ⊎ HaveFault bytes n
 
 -- the same value as this one, or that memory ran out
 abbrev pub IsAnswer : {V : Type 0} → (V → V → Type 0) → V → Result V Notice → Type 0
@@ -81,17 +81,15 @@ IsAnswer Same w (Err n) = n ≡ notice.NoMemory
 -- ---- one file
 
 -- what bytes are read as, under a limit: a value, or a notice that says why they are refused
-abbrev pub BytesGive : {V : Type 0} → Slot → ℕ → (List ℕ → V → Type 0) → (List ℕ → InputFault → Type 0) → List ℕ → Result V Notice → Type 0
+abbrev pub BytesGive : {V : Type 0} → Slot → ℕ → (List ℕ → V → Type 0) → (List ℕ → Notice → Type 0) → List ℕ → Result V Notice → Type 0
 BytesGive of limit Are HaveFault bytes (Ok v) = (length bytes ≤ limit) × Are bytes v
-BytesGive of limit Are HaveFault bytes (Err (notice.TooLong other most)) = (other ≡ of) × (most ≡ limit) × (limit < length bytes)
-BytesGive of limit Are HaveFault bytes (Err (notice.BadInput fault)) = (length bytes ≤ limit) × HaveFault bytes fault
-BytesGive of limit Are HaveFault bytes (Err _) = ⊥
+BytesGive of limit Are HaveFault bytes (Err n) =
+    ((n ≡ notice.TooLong of limit) × (limit < length bytes)) ⊎ ((length bytes ≤ limit) × HaveFault bytes n)
 
 -- a file that isn't told may be read as anything, but isn't known to be missing
 abbrev pub UntoldGives : {V : Type 0} → Result V Notice → Type 0
 UntoldGives (Ok v) = Unit {0}
-UntoldGives (Err (notice.ReadFault of)) = ⊥
-UntoldGives (Err _) = Unit {0}
+UntoldGives (Err n) = status_of n ≡ status.Refused
 
 -- what a file is read as that is told: it is missing, or has bytes
 abbrev pub TellsFile : {V : Type 0} → Slot → (List ℕ → Result V Notice → Type 0) → Option (List ℕ) → Result V Notice → Type 0

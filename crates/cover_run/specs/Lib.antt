@@ -7,3 +7,4 @@ pub mod Answers
 pub mod Inputs
 pub mod Judging
 pub mod Paving
+pub mod CheckReads

@@ -1,11 +1,10 @@
 //! The three files of a receiver.
 
-ghost use Rattle.std.specs.Prelude.{◌≡◌, ◌≤◌, ◌⊎◌, ℕ, List, Option, Some, Result, IsErr, length};
+ghost use Rattle.std.specs.Prelude.{◌≡◌, ◌≤◌, ◌⊎◌, ℕ, List, Option, Some, Result, IfOk, IsErr, true, length};
 ghost use Rattle.cover_run.specs.Inputs.{IsCounted, MayBreak, NeverBreaks, ReadsSettings, ReadsNav, ReadsObs, ReadsInputs, InputsGive, SameAnswer, IsBroken, AreSameInputs, OpensNone, file_in, wants_position, TextGives, IsAnswer, AreSettings, IsSettingsFault, AreRecords, IsNavFault, AreObservations, IsObsFault};
-ghost use Rattle.cover_run.specs.declared.input_fault.InputFault.{InputFault};
 ghost use Rattle.cover_run.specs.declared.inputs.Inputs.{Inputs};
 ghost use Rattle.cover_run.specs.declared.notice.Notice.{Notice};
-ghost use Rattle.error_bounds.specs.Reading.{value_of_settings};
+ghost use Rattle.error_bounds.specs.Reading.{value_of_settings, IsKnown, IsEnough};
 ghost use Rattle.error_bounds.specs.declared.settings.Settings.{Settings};
 ghost use Rattle.outer_io.specs.Told.{Files, files_of, written_of};
 ghost use Rattle.rinex_nav.specs.Reading.{records_of};
@@ -45,7 +44,7 @@ fn wants_position(centre: Centre) -> bool
 fn settings_of(alloc: Global, bytes: &[u8]) -> Result<Settings, Notice>
     ensures reads { TextGives AreSettings IsSettingsFault bytes.now result }
     ensures value { (other : Settings) → AreSettings bytes.now other → IsAnswer (λ a b. value_of_settings a ≡ value_of_settings b) other result }
-    ensures fault { (fault : InputFault) → IsSettingsFault bytes.now fault → IsErr result }
+    ensures fault { (notice : Notice) → IsSettingsFault bytes.now notice → IsErr result }
 {
     match read_settings(alloc, bytes) {
         Ok(settings) => Ok(settings),
@@ -58,7 +57,7 @@ fn nav_of(alloc: Global, bytes: &[u8]) -> Result<Nav, Notice>
     requires { length bytes.now ≤ 4000000000 }
     ensures reads { TextGives AreRecords IsNavFault bytes.now result }
     ensures value { (other : List NavRecord) → AreRecords bytes.now other → IsAnswer (λ a b. records_of a ≡ records_of b) other result }
-    ensures fault { (fault : InputFault) → IsNavFault bytes.now fault → IsErr result }
+    ensures fault { (notice : Notice) → IsNavFault bytes.now notice → IsErr result }
 {
     match read_nav(alloc, bytes) {
         Ok(nav) => Ok(nav),
@@ -71,7 +70,8 @@ fn obs_of(alloc: Global, bytes: &[u8], signal: &Signal, position: bool) -> Resul
     requires { length bytes.now ≤ 4000000000 }
     ensures reads { TextGives (AreObservations signal.now position) (IsObsFault signal.now position) bytes.now result }
     ensures value { (other : Obs) → AreObservations signal.now position bytes.now other → IsAnswer (λ a b. observations_of a ≡ observations_of b) other result }
-    ensures fault { (fault : InputFault) → IsObsFault signal.now position bytes.now fault → IsErr result }
+    ensures known { IfOk result (λ obs. position ≡ true → IsKnown obs.position) }
+    ensures fault { (notice : Notice) → IsObsFault signal.now position bytes.now notice → IsErr result }
 {
     match read_obs(alloc, bytes, signal, position) {
         Ok(obs) => Ok(obs),
@@ -137,6 +137,7 @@ fn obs_in<H: Shelf>(
     ensures exact { (file : Option (List ℕ)) (other : Result Obs Notice) → file_in (files_of (H.told shelf.old)) name.now ≡ Some file
         → ReadsObs NeverBreaks limit signal.now position (Some file) other
         → IsBroken result ⊎ SameAnswer (λ a b. observations_of a ≡ observations_of b) result other }
+    ensures known { IfOk result (λ obs. position ≡ true → IsKnown obs.position) }
 
     // Nothing is written.
     ensures files { files_of (H.told shelf.new) ≡ files_of (H.told shelf.old) }
@@ -168,6 +169,8 @@ pub fn read_inputs<H: Shelf>(
     ensures exact { (told : Files) (other : Result Inputs Notice) → files_of (H.told shelf.old) ≡ Some told
         → InputsGive limits.now (record { obs = obs.now; nav = nav.now; settings = settings.now }) (Some told) other
         → IsBroken result ⊎ SameAnswer AreSameInputs result other }
+    // The position of the header is there where it is the centre.
+    ensures enough { IfOk result (λ inputs. IsEnough inputs.settings.centre inputs.obs.position) }
 
     // Nothing is written.
     ensures files { files_of (H.told shelf.new) ≡ files_of (H.told shelf.old) }

@@ -5,6 +5,7 @@
 #![tactic(auto)]
 
 mod answer;
+mod checked;
 mod file;
 mod input_fault;
 mod input_texts;

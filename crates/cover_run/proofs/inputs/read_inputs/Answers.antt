@@ -4,6 +4,7 @@ use Rattle.std.specs.FinMap as map
 use Rattle.outer_io.specs.Told.{Files}
 use Rattle.cover_run.proofs.FileReads.{counted_from}
 use Rattle.cover_run.proofs.InputReads.{nav_behind, obs_behind, nav_there, obs_there, settings_end, nav_end, obs_end, all_end}
+use Rattle.cover_run.proofs.PositionLemmas.{enough}
 use Rattle.cover_run.specs.Inputs.{file_in, wants_position}
 use Rattle.cover_run.proofs.inputs.read_inputs.Goals as goal
 
@@ -94,3 +95,7 @@ returns-clause-exact g c = λ told other is gives.
     (λ o r. c.in_ok-settings.ensures.exact (map.get told c.args.settings.now) o (ap (λ (files : Option Files). file_in files c.args.settings.now) is) r)
     (λ o r. c.in_ok-nav.ensures.exact (map.get told c.args.nav.now) o (ap (λ (files : Option Files). file_in files c.args.nav.now) (c.in_ok-settings.ensures.files ∙ is)) r)
     (λ o r. c.in_ok-obs.ensures.exact (map.get told c.args.obs.now) o (ap (λ (files : Option Files). file_in files c.args.obs.now) (c.in_ok-nav.ensures.files ∙ c.in_ok-settings.ensures.files ∙ is)) (rw c.wants_position-position.ensures r)) other gives
+
+pub returns-clause-enough : goal.returns-clause-enough
+returns-clause-enough g c =
+    enough c.in_ok-settings.settings.centre c.in_ok-obs.obs.position (rw c.wants_position-position.ensures at c.in_ok-obs.ensures.known)
