@@ -9,3 +9,6 @@ mod lines;
 pub use counts::Counts4;
 pub use lengths::metres;
 pub use lines::{epoch_text, step_text, total_text};
+
+#[cfg(test)]
+mod tests;
