@@ -1,6 +1,6 @@
 //! Lengths and times as text.
 
-ghost use Rattle.std.specs.Prelude.{◌≡◌, ◌<◌};
+ghost use Rattle.std.specs.Prelude.{◌≡◌, ◌<◌, ◌≤◌, length};
 ghost use Rattle.std.specs.Fmt.{sign_text};
 ghost use Rattle.epoch_report.specs.Metres.{last_digits, metres_text, seconds_text};
 
@@ -24,12 +24,14 @@ fn six_digits(number: u32) -> ArrayString<6>
 
 /// A minus for a negative number.
 fn sign(negative: bool) -> &'static str
-    ensures { result.now ≡ sign_text negative }
+    ensures spelled { result.now ≡ sign_text negative }
+    ensures length { length result.now ≤ 1 }
 {
     if negative { "-" } else { "" }
 }
 
 /// A length in um, as metres with six decimals.
+#[tactic(auto, unfolding(crate::specs::Metres::metres_text))]
 pub fn metres(um: i64) -> ArrayString<24>
     ensures { result.bytes ≡ metres_text um }
 {
@@ -44,17 +46,17 @@ pub fn metres(um: i64) -> ArrayString<24>
 }
 
 /// A time in ps, as seconds with twelve decimals.
-pub(crate) fn seconds(ps: i128) -> ArrayString<48>
+#[tactic(auto, unfolding(crate::specs::Metres::seconds_text))]
+pub(crate) fn seconds(ps: i128) -> ArrayString<64>
     ensures { result.bytes ≡ seconds_text ps }
 {
     let mut buffer = Buffer::new();
     let mut text = ArrayString::new();
     let amount = ps.unsigned_abs();
-    let rest = (amount % 1_000_000_000_000) as u64;
     text.push_str(sign(ps < 0));
     text.push_str(buffer.format(amount / 1_000_000_000_000));
     text.push_str(".");
-    text.push_str(&six_digits((rest / 1_000_000) as u32));
-    text.push_str(&six_digits((rest % 1_000_000) as u32));
+    text.push_str(&six_digits((amount / 1_000_000 % 1_000_000) as u32));
+    text.push_str(&six_digits((amount % 1_000_000) as u32));
     text
 }
