@@ -7,8 +7,13 @@ ghost use Rattle.epoch_report.specs.Metres.{last_digits, metres_text, seconds_te
 use arrayvec::ArrayString;
 use itoa::Buffer;
 
-/// A million, which has one digit more than the numbers below it.
 const MILLION: u32 = 1_000_000;
+
+const UM_IN_METRE: u64 = 1_000_000;
+
+const PS_IN_SECOND: u128 = 1_000_000_000_000;
+
+const PS_IN_MICROSECOND: u128 = 1_000_000;
 
 /// The six digits of a number below a million, zeros in front included.
 fn six_digits(number: u32) -> ArrayString<6>
@@ -17,6 +22,7 @@ fn six_digits(number: u32) -> ArrayString<6>
 {
     let mut buffer = Buffer::new();
     let mut text = ArrayString::new();
+    // The one in front keeps the zeros behind it.
     let behind_one = buffer.format(MILLION + number);
     text.push_str(&behind_one[1..]);
     text
@@ -39,14 +45,13 @@ pub fn metres(um: i64) -> ArrayString<24>
     let mut text = ArrayString::new();
     let amount = um.unsigned_abs();
     text.push_str(sign(um < 0));
-    text.push_str(buffer.format(amount / 1_000_000));
+    text.push_str(buffer.format(amount / UM_IN_METRE));
     text.push_str(".");
-    text.push_str(&six_digits((amount % 1_000_000) as u32));
+    text.push_str(&six_digits((amount % UM_IN_METRE) as u32));
     text
 }
 
 /// A time in ps, as seconds with twelve decimals.
-#[tactic(auto, unfolding(crate::specs::Metres::seconds_text))]
 pub(crate) fn seconds(ps: i128) -> ArrayString<64>
     ensures { result.bytes ≡ seconds_text ps }
 {
@@ -54,9 +59,9 @@ pub(crate) fn seconds(ps: i128) -> ArrayString<64>
     let mut text = ArrayString::new();
     let amount = ps.unsigned_abs();
     text.push_str(sign(ps < 0));
-    text.push_str(buffer.format(amount / 1_000_000_000_000));
+    text.push_str(buffer.format(amount / PS_IN_SECOND));
     text.push_str(".");
-    text.push_str(&six_digits((amount / 1_000_000 % 1_000_000) as u32));
-    text.push_str(&six_digits((amount % 1_000_000) as u32));
+    text.push_str(&six_digits((amount / PS_IN_MICROSECOND % 1_000_000) as u32));
+    text.push_str(&six_digits((amount % PS_IN_MICROSECOND) as u32));
     text
 }

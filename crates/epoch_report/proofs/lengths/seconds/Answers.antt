@@ -1,4 +1,4 @@
-use Rattle.std.proofs.Common.{◌≡◌, ℕ, ◌+◌, ◌<◌, ◌≤◌, ◌/◌, ◌%◌, ◌^◌, ℤ, pos, negsuc, List, [], length, ◌∷◌, ◌++◌, ◌∙◌, sym, ap, refl, arith, append_assoc, to_z, of_z, Bool, false, suc}
+use Rattle.std.proofs.Common.{◌≡◌, ℕ, ◌/◌, ◌%◌, ℤ, pos, negsuc, List, [], ◌∷◌, ◌++◌, ◌∙◌, ap, arith, append_assoc, to_z, of_z, false, suc}
 use Rattle.std.specs.Int.{w128}
 use Rattle.std.proofs.lemmas.Int.{ints}
 use Rattle.std.specs.Fmt.{decimal, sign_text}
@@ -29,7 +29,7 @@ spelled (pos n) =
 spelled (negsuc n) = ap (λ ds. 45 ∷ ds) (unsigned (suc n))
 
 pub returns : goal.returns
-returns c = 
+returns c =
     let same : to_z w128 (of_z w128 c.args.ps) ≡ c.args.ps = omega (arith, ints) in
     let amount = rw same at c.unsigned_abs-amount.ensures.value in
     let sign = rw same at c.sign.ensures.spelled in

@@ -1,6 +1,5 @@
-use Rattle.std.proofs.Common.{◌≡◌, ℕ, ◌+◌, ◌<◌, ◌≤◌, length, ◌∷◌, ◌++◌, ◌∙◌, ap, refl, arith}
+use Rattle.std.proofs.Common.{length, ◌∙◌, ap, refl, arith}
 use Rattle.std.proofs.lemmas.Str.{IsCharBoundary-from_ascii}
-use Rattle.epoch_report.specs.Metres.{last_digits}
 use Rattle.epoch_report.proofs.DigitLemmas.{behind_one}
 use Rattle.epoch_report.proofs.lengths.six_digits.Goals as goal
 

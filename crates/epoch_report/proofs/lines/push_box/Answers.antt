@@ -1,4 +1,4 @@
-use Rattle.std.proofs.Common.{◌≡◌, ℤ, ◌++◌, append_assoc, arith, to_z, of_z}
+use Rattle.std.proofs.Common.{◌≡◌, ℤ, append_assoc, arith, to_z, of_z}
 use Rattle.std.specs.Int.{w64}
 use Rattle.std.proofs.lemmas.Int.{ints}
 use Rattle.sat_model.specs.Sizes.{IsBoxSize}

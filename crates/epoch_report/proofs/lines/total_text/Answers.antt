@@ -1,4 +1,4 @@
-use Rattle.std.proofs.Common.{◌++◌, append_assoc}
+use Rattle.std.proofs.Common.{append_assoc}
 use Rattle.epoch_report.proofs.lines.total_text.Goals as goal
 
 pub returns : goal.returns
