@@ -41,38 +41,41 @@ fn an_epoch_begins_with_its_time_in_seconds(rt: HostRuntime) -> Result<(), Fail>
     Ok(())
 }
 
-/// The box between two corners.
-fn between(lo: (i32, i32, i32), hi: (i32, i32, i32)) -> Option<Box3> {
-    if hi.0 < lo.0 || hi.1 < lo.1 || hi.2 < lo.2 {
-        return None;
-    }
-    Some(Box3 {
+/// A box that steps close.
+fn closed() -> Box3 {
+    Box3 {
         lo: Pos {
-            x: i64::from(lo.0),
-            y: i64::from(lo.1),
-            z: i64::from(lo.2),
+            x: -1_000_000,
+            y: -900_000,
+            z: -900_000,
         },
         hi: Pos {
-            x: i64::from(hi.0),
-            y: i64::from(hi.1),
-            z: i64::from(hi.2),
+            x: 1_000_000,
+            y: 900_000,
+            z: 900_000,
         },
-    })
+    }
 }
 
-/// The line of a step, and nothing for none.
-fn told(step: Step, part: &Box3) -> Line {
-    step_text(&step, part).unwrap_or(Line::new())
+/// What a cut takes off.
+fn slab() -> Box3 {
+    Box3 {
+        lo: Pos {
+            x: -8_000_000,
+            y: -1_000_000,
+            z: -1_000_000,
+        },
+        hi: Pos {
+            x: -6_000_001,
+            y: 1_000_000,
+            z: 1_000_000,
+        },
+    }
 }
 
 #[test]
-fn a_step_is_told_by_the_box_that_it_closes(rt: HostRuntime) -> Result<(), Fail> {
-    let Some(part) = between(
-        (-1_000_000, -900_000, -900_000),
-        (1_000_000, 900_000, 900_000),
-    ) else {
-        return Ok(());
-    };
+fn a_step_is_told_by_the_box_that_it_closes_and_a_split_not(rt: HostRuntime) -> Result<(), Fail> {
+    let part = closed();
     for (step, text) in [
         (
             Step::Edge {
@@ -95,28 +98,25 @@ fn a_step_is_told_by_the_box_that_it_closes(rt: HostRuntime) -> Result<(), Fail>
             Step::Outside { id: 2 },
             "out -1.000000 1.000000 -0.900000 0.900000 -0.900000 0.900000\n",
         ),
-        (Step::Split { id: 0, axis: 1 }, ""),
     ] {
-        assert_eq!(rt; &*told(step, &part), text);
+        let line = step_text(&step, &part).unwrap_or(Line::new());
+        assert_eq!(rt; &*line, text);
     }
+    let split = Step::Split { id: 0, axis: 1 };
+    assert!(rt; step_text(&split, &part).is_none());
     Ok(())
 }
 
 #[test]
 fn a_cut_is_told_by_its_slab(rt: HostRuntime) -> Result<(), Fail> {
-    let Some(slab) = between(
-        (-8_000_000, -1_000_000, -1_000_000),
-        (-6_000_001, 1_000_000, 1_000_000),
-    ) else {
-        return Ok(());
-    };
     let cut = Step::Cut {
         id: 0,
         face: 0,
         bound: -6_000_000,
     };
+    let line = step_text(&cut, &slab()).unwrap_or(Line::new());
     assert_eq!(rt;
-        &*told(cut, &slab),
+        &*line,
         "out -8.000000 -6.000001 -1.000000 1.000000 -1.000000 1.000000\n"
     );
     Ok(())
