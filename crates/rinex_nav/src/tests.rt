@@ -1,49 +1,206 @@
+ghost use Rattle.std.specs.Prelude.{pos, ◌≤ℤ◌, ◌<ℤ◌, ◌<◌};
+
 use super::*;
 use exact_decimal::Decimal;
-use rinex_text::{ReadError, Refusal};
-use sat_model::Sat;
+use rinex_text::ReadError;
+use sat_model::{Elements, Sat, Wide};
 use std::alloc::{AllocError, Global};
+use std::process::Abort;
 use std::test::Fail;
 
-const VERSION: &str =
-    "     3.05           N: GNSS NAV DATA    G                   RINEX VERSION / TYPE";
+/// A file of one record. The first numbers of lines 4 to 9 are those of the lines.
+const FILE: &str = "     3.05           N: GNSS NAV DATA    G                   RINEX VERSION / TYPE
+                                                            END OF HEADER
+G01 2024 01 07 00 00 00 1.250000000000D-04 0.000000000000D+00 0.000000000000D+00
+     4.000000000000D+00 0.000000000000D+00 0.000000000000D+00 1.500000000000D+00
+     5.000000000000D+00 0.000000000000D+00 0.000000000000D+00 1.500000000000D+00
+     6.000000000000D+00 0.000000000000D+00 0.000000000000D+00 1.500000000000D+00
+     7.000000000000D+00 0.000000000000D+00 0.000000000000D+00 1.500000000000D+00
+     8.000000000000D+00 0.000000000000D+00 0.000000000000D+00 1.500000000000D+00
+     9.000000000000D+00 0.000000000000D+00 0.000000000000D+00 1.500000000000D+00
+     1.000000000000D+01
+";
 
-const HEADER_END: &str =
-    "                                                            END OF HEADER";
+/// Texts in place of one in the file of one record, and what comes of it: the number and the line of the
+/// first fault, or twice 0. `@` ends a line.
+const CHANGES: &str = "0|0|VERSION / TYPE|VERSION / TYPE
+10|1|VERSION / TYPE|VERSION /TYPE
+11|1|3.05|2.11
+12|1|N: GNSS NAV DATA|OBSERVATION DATA
+13|1|    G       |    R       
+14|11|END OF HEADER|END OF HEAD
+21|3|G01|G00
+19|3|01 07|02 30
+19|3|00 00 00 1.250000000000D-04|00 00 60 1.250000000000D-0x
+23|3|1.250000000000D-04|1.250000000000D-0x
+26|3|00 1.250000000000D-04|00\t1.250000000000D-0x
+23|4|4.000000000000D+00 0|4.000000000000D+00 x
+23|4|D+00 1.5|D+00 1x5
+26|4|4.000000000000D+00 0|4.000000000000D+00\t0
+24|5|     5|R01  5
+24|5|     5|R01\t 5
+24|5|     5|G01  5
+26|5|     5|G01\t 5
+24|10|     1.000000000000D+01|
+24|10|     1.000000000000D+01|    \t
+0|0|     4|     x
+0|0|     8.000000000000D+00 0.000000000000D+00|     8.000000000000D+00 0.000000000000D+00 x
+0|0|     1.000000000000D+01|     never read
+0|0|     6.000000000000D+00 0.000000000000D+00 0.000000000000D+00 1.500000000000D+00|
+0|0|     7.000000000000D+00|     0.7e1
+0|0|     7.000000000000D+00|     0.7d+1
+0|0|     7.000000000000D+00|     70.E-1
+0|0|     7.000000000000D+00|     .7E1";
 
-const CLOCK: &str =
-    "G01 2024 01 07 00 00 00 0.000000000000D+00 0.000000000000D+00 0.000000000000D+00";
+/// Records of six systems as converters write them, with each letter of an exponent; the last is sick.
+const MIXED: &str =
+    "     3.04           NAVIGATION DATA     M: MIXED            RINEX VERSION / TYPE
+converter           observer            20240107 040000 UTC PGM / RUN BY / DATE
+GPSA   1.1176E-08  7.4506E-09 -5.9605E-08 -5.9605E-08       IONOSPHERIC CORR
+    18    18  2185     7                                    LEAP SECONDS
+                                                            END OF HEADER
+G07 2024 01 07 02 00 00-1.000000000001D-04 1.023181539495D-11 0.000000000000D+00
+     5.100000000000D+01 7.884375000000D+01 4.123385972393D-09-2.500000000001D+00
+     3.983268737793D-06 1.234567890123D-02-9.424984455109D-06 5.153648925781D+03
+     7.200000000000D+03 1.322478055954D-07-1.123456789012D+00-5.401670932770D-08
+     9.600000000001D-01 2.105937500000D+02 1.500000000000D+00-8.000690412220D-09
+     1.785788656800D-10 1.000000000000D+00 2.296000000000D+03 0.000000000000D+00
+     2.000000000000D+00 0.000000000000D+00-1.117587089539D-08 5.100000000000D+01
+     1.800000000000D+01 4.000000000000D+00
+R05 2024 01 07 00 15 00 7.012393325567D-05 0.000000000000D+00 1.800000000000D+04
+     1.078432812500D+04-1.286716461182D+00 0.000000000000D+00 0.000000000000D+00
+    -1.218842138672D+04 1.672964096069D+00 9.313225746155D-10-7.000000000000D+00
+     1.949183837891D+04 1.758534431458D+00-1.862645149231D-09 0.000000000000D+00
+G08 2024 01 07 02 00 00-1.000000000001d-04 1.023181539495d-11 0.000000000000d+00
+     5.100000000000d+01 7.884375000000d+01 4.123385972393d-09-2.500000000001d+00
+     3.983268737793d-06 1.234567890123d-02-9.424984455109d-06 5.153648925781d+03
+     7.200000000000d+03 1.322478055954d-07-1.123456789012d+00-5.401670932770d-08
+     9.600000000001d-01 2.105937500000d+02 1.500000000000d+00-8.000690412220d-09
+     1.785788656800d-10 1.000000000000d+00 2.296000000000d+03 0.000000000000d+00
+     2.000000000000d+00 0.000000000000d+00-1.117587089539d-08 5.100000000000d+01
+     1.800000000000d+01 4.000000000000d+00
+E11 2024 01 07 00 10 00-4.616509540938D-04-7.887024366937D-12 0.000000000000D+00
+     6.400000000000D+01 1.690625000000D+01 3.078342512130D-09 2.104837512451D+00
+     7.953494787216D-07 4.226121818647D-04 8.268281817436D-06 5.440612150192D+03
+     6.000000000000D+02-3.725290298462D-09 1.871048510121D+00 5.587935447693D-09
+     9.676412341234D-01 1.755937500000D+02-5.012345678901D-01-5.534159093012D-09
+    -2.100087485950D-10 5.170000000000D+02 2.296000000000D+03
+     3.120000000000D+00 0.000000000000D+00-2.561137080193D-09-2.793967723846D-09
+     1.264000000000D+03
+C05 2024 01 07 00 00 00 2.471582265571D-04 3.330704022693D-11 0.000000000000D+00
+     1.000000000000D+00-2.867968750000D+02 1.153262348351D-09-1.123412341234D+00
+    -9.385403245688D-06 5.123412341234D-04 7.236376404762D-06 6.493412341234D+03
+     0.000000000000D+00-1.462176442146D-07-2.123412341234D+00-5.634501576424D-08
+     8.123412341234D-02-2.190000000000D+02-3.012341234123D+00 2.123412341234D-10
+    -4.123412341234D-10 0.000000000000D+00 9.390000000000D+02
+     2.000000000000D+00 0.000000000000D+00-5.000000000000D-10-9.900000000000D-09
+     0.000000000000D+00 0.000000000000D+00
+G09 2024 01 07 02 00 00-1.000000000001E-04 1.023181539495E-11 0.000000000000E+00
+     5.100000000000E+01 7.884375000000E+01 4.123385972393E-09-2.500000000001E+00
+     3.983268737793E-06 1.234567890123E-02-9.424984455109E-06 5.153648925781E+03
+     7.200000000000E+03 1.322478055954E-07-1.123456789012E+00-5.401670932770E-08
+     9.600000000001E-01 2.105937500000E+02 1.500000000000E+00-8.000690412220E-09
+     1.785788656800E-10 1.000000000000E+00 2.296000000000E+03 0.000000000000E+00
+     2.000000000000E+00 0.000000000000E+00-1.117587089539E-08 5.100000000000E+01
+     1.800000000000E+01 4.000000000000E+00
+J02 2024 01 07 02 00 00-3.725290298462D-09 0.000000000000D+00 0.000000000000D+00
+     5.100000000000D+01 7.884375000000D+01 4.123385972393D-09-2.500000000001D+00
+     3.983268737793D-06 1.234567890123D-02-9.424984455109D-06 5.153648925781D+03
+     7.200000000000D+03 1.322478055954D-07-1.123456789012D+00-5.401670932770D-08
+     9.600000000001D-01 2.105937500000D+02 1.500000000000D+00-8.000690412220D-09
+     1.785788656800D-10 1.000000000000D+00 2.296000000000D+03 0.000000000000D+00
+     2.000000000000D+00 0.000000000000D+00-1.117587089539D-08 5.100000000000D+01
+     1.800000000000D+01 4.000000000000D+00
+S20 2024 01 07 00 00 32 1.396983861923D-08 9.094947017729D-13 2.160000000000D+04
+     3.231720000000D+04 0.000000000000D+00 0.000000000000D+00 0.000000000000D+00
+    -2.708160000000D+04 0.000000000000D+00 0.000000000000D+00 3.276700000000D+04
+     0.000000000000D+00 0.000000000000D+00 0.000000000000D+00 4.000000000000D+00
+G10 2024 01 07 02 00 00-1.000000000001e-04 1.023181539495e-11 0.000000000000e+00
+     5.100000000000e+01 7.884375000000e+01 4.123385972393e-09-2.500000000001e+00
+     3.983268737793e-06 1.234567890123e-02-9.424984455109e-06 5.153648925781e+03
+     7.200000000000e+03 1.322478055954e-07-1.123456789012e+00-5.401670932770e-08
+     9.600000000001e-01 2.105937500000e+02 1.500000000000e+00-8.000690412220e-09
+     1.785788656800e-10 1.000000000000e+00 2.296000000000e+03 0.000000000000e+00
+     2.000000000000e+00 6.300000000000e+01-1.117587089539e-08 5.100000000000e+01
+     1.800000000000e+01 4.000000000000e+00
+";
 
-const ZEROS: &str =
-    "     0.000000000000D+00 0.000000000000D+00 0.000000000000D+00 0.000000000000D+00";
+/// The numbers of the GPS records of the mixed file in file order, in their units: the least and the
+/// greatest of each field.
+const NUMBERS: &str = "-1000000000001 -1000000000001
+102318153949 102318153950
+0 0
+78843750 78843750
+41233859723930 41233859723930
+-25000000000010000 -25000000000010000
+39832687377 39832687378
+123456789012300 123456789012300
+-94249844552 -94249844551
+5153648925781000 5153648925781000
+7200000000000000 7200000000000000
+1322478055 1322478056
+-11234567890120000 -11234567890120000
+-540167094 -540167093
+9600000000001000 9600000000001000
+210593750 210593750
+15000000000000000 15000000000000000
+-80006904122200 -80006904122200
+1785788656800 1785788656800
+-111758709 -111758708";
 
-const ROOT: &str =
-    "     0.000000000000D+00 0.000000000000D+00 0.000000000000D+00 5.200000000000D+03";
+/// The least and the greatest digits within the bounds of a field, and their power of ten.
+const BOUNDS: &str = "1 -10000 10000 -6
+2 -10000 10000 -12
+3 -10000 10000 -17
+4 -50000 50000 -1
+5 -10000 10000 -11
+6 -70000 70000 -4
+7 -10000 10000 -7
+8 0 30000 -6
+9 -10000 10000 -7
+10 50000 56000 -1
+11 0 604799999999999999 -12
+12 -10000 10000 -7
+13 -70000 70000 -4
+14 -10000 10000 -7
+15 -7000000000000000000 7000000000000000000 -18
+16 -50000 50000 -1
+17 -70000 70000 -4
+18 -10000 10000 -11
+19 -10000 10000 -11
+20 -1000000000000000 1000000000000000 -20";
 
-/// A file of one record.
-const FILE: [&str; 10] = [
-    VERSION, HEADER_END, CLOCK, ZEROS, ROOT, ZEROS, ZEROS, ZEROS, ZEROS, ZEROS,
-];
+/// The first field outside its bounds where two fields have these digits and powers of ten.
+const OUTSIDE: &str = "3 20 1 0 3 -1 0
+11 11 -1 0 12 1 0
+9 10 0 0 9 1 18
+10 10 0 0 9 0 0
+1 1 -9223372036854775808 127 2 9223372036854775807 -128";
 
-/// The lines, each with this end.
-fn joined(alloc: Global, lines: &[&str], end: &str) -> Result<Vec<u8>, AllocError> {
-    let mut text = Vec::new(alloc);
-    for line in lines {
-        text.extend_from_slice(line.as_bytes())?;
-        text.extend_from_slice(end.as_bytes())?;
-    }
-    Ok(text)
-}
+/// A field's digits and power of ten, and its number in its unit: the least and the greatest.
+const ROUNDED: &str = "1 -123456789012 -15 -1234567890120 -1234567890120
+2 15 -23 1 2
+6 -15 -17 -2 -1
+10 5153648925781 -9 5153648925781000 5153648925781000
+11 75 -13 7 8
+20 -15 -17 -2 -1
+17 0 0 0 0";
 
-/// The file of one record with one of its lines replaced.
-fn with_line(alloc: Global, place: usize, line: &[u8]) -> Result<Vec<u8>, AllocError> {
-    let mut text = Vec::new(alloc);
-    for (i, old) in FILE.iter().enumerate() {
-        let kept = if i + 1 == place { line } else { old.as_bytes() };
-        text.extend_from_slice(kept)?;
-        text.push(b'\n')?;
-    }
-    Ok(text)
+/// A clock time, an ephemeris time in its week, the start of the week, a time and its age, in s. The first
+/// lines are those of 2024-01-13 23:59:44 and 2024-01-14 00:00:10, the fourth is as far from either week,
+/// and in the last two the times lie before the first week.
+const AGES: &str = "1389225584 604784 1388620800 1389225610 26
+1389225616 604784 1388620800 1389225584 0
+1389225584 0 1389225600 1389225584 16
+1388923200 0 1389225600 1388923200 302400
+1388620800 302400 1388620800 1388620800 302400
+1388620801 302400 1388620800 1388620801 302399
+1388620799 302400 1388016000 1388620799 302399
+0 604799 -604800 0 1
+0 302400 0 3999999999 3999697599";
+
+fn number(rt: &impl Abort, field: Option<&str>) -> i64 {
+    field.expect(rt, "a number").parse().expect(rt, "a number")
 }
 
 /// What is read from the bytes, none where they are too many for one file.
@@ -54,209 +211,185 @@ fn read(alloc: Global, bytes: &[u8]) -> Option<Result<Nav, ReadError>> {
     Some(read_nav(alloc, bytes))
 }
 
+/// The records of a file.
+fn records(alloc: Global, text: &str) -> Result<Nav, Fail> {
+    let answer = read(alloc, text.as_bytes()).ok_or("long")?;
+    Ok(answer.ok().ok_or("refused")?)
+}
+
+/// The number and the line of the first fault, twice 0 where there is none.
+fn fault(alloc: Global, text: &str) -> (i64, i64) {
+    match read(alloc, text.as_bytes()) {
+        Some(Err(ReadError::Refused(refusal))) => {
+            (i64::from(refusal.number), i64::from(refusal.line))
+        }
+        Some(Ok(_)) => (0, 0),
+        _ => (-1, 0),
+    }
+}
+
+#[test]
+fn first_faults(rt: HostRuntime) -> Result<(), Fail> {
+    for row in CHANGES.lines() {
+        let mut fields = row.split('|');
+        let told = (number(&rt, fields.next()), number(&rt, fields.next()));
+        let old = fields.next().ok_or("no text")?;
+        let new = fields.next().ok_or("no text")?;
+        let new = new.replace(rt.alloc(), "@", "\n")?;
+        let text = FILE.replacen(rt.alloc(), old, new.as_str(), 1)?;
+        assert_eq!(rt; fault(rt.alloc(), text.as_str()), told, "{row}");
+    }
+    Ok(())
+}
+
 #[test]
 fn reads_a_record(rt: HostRuntime) -> Result<(), Fail> {
     for end in ["\n", "\r\n"] {
-        let bytes = joined(rt.alloc(), &FILE, end)?;
-        let nav = read(rt.alloc(), &bytes)
-            .ok_or("long")?
-            .ok()
-            .ok_or("refused")?;
+        let text = FILE.replace(rt.alloc(), "\n", end)?;
+        let nav = records(rt.alloc(), text.as_str())?;
         assert_eq!(rt; nav.count(), 1);
         let record = nav.at(0);
         assert_eq!(rt; record.sat.number, 1);
         assert_eq!(rt; record.toc, 1_388_620_800_000_000_000_000);
         assert!(rt; record.healthy);
-        let root = Decimal {
-            digits: 5_200_000_000_000,
-            ten: -9,
-        };
-        let read = record.fields[9];
-        assert_eq!(rt; read, root);
+        let offset = record.fields[0];
+        assert_eq!(rt; offset.digits, 1_250_000_000_000);
+        assert_eq!(rt; offset.ten, -16);
     }
     Ok(())
 }
 
 #[test]
-fn first_faults(rt: HostRuntime) -> Result<(), Fail> {
-    for (place, line, number, at) in [
-        (1, "", 10, 1),
-        (
-            1,
-            "     2.11           N: GNSS NAV DATA    G                   RINEX VERSION / TYPE",
-            11,
-            1,
-        ),
-        (
-            1,
-            "     3.05           OBSERVATION DATA    G                   RINEX VERSION / TYPE",
-            12,
-            1,
-        ),
-        (
-            1,
-            "     3.05           N: GNSS NAV DATA    R                   RINEX VERSION / TYPE",
-            13,
-            1,
-        ),
-        (2, "", 14, 11),
-        (
-            3,
-            "G00 2024 01 07 00 00 00 0.000000000000D+00 0.000000000000D+00 0.000000000000D+00",
-            21,
-            3,
-        ),
-        (
-            3,
-            "G01 2024 02 30 00 00 00 0.000000000000D+00 0.000000000000D+00 0.000000000000D+00",
-            19,
-            3,
-        ),
-        (
-            3,
-            "G01 2024 01 07 00 00 60 0.000000000000D+0x 0.000000000000D+00 0.000000000000D+00",
-            19,
-            3,
-        ),
-        (
-            3,
-            "G01 2024 01 07 00 00 00 0.000000000000D+0x 0.000000000000D+00 0.000000000000D+00",
-            23,
-            3,
-        ),
-        (3, "G01 2024 01 07 00 00 00\t0.000000000000D+0x", 26, 3),
-        (
-            4,
-            "     x                   0.0                0.0                0x0",
-            23,
-            4,
-        ),
-        (4, "     0.0               \t0.0", 26, 4),
-        (5, "R01", 24, 5),
-        (5, "R01\t", 24, 5),
-        (5, "G01", 24, 5),
-        (5, "G01\t", 26, 5),
-        (10, "", 24, 10),
-        (10, "    \t", 24, 10),
-    ] {
-        let bytes = with_line(rt.alloc(), place, line.as_bytes())?;
-        let refusal = Refusal { number, line: at };
-        assert_eq!(rt;
-            read(rt.alloc(), &bytes).ok_or("long")?.err(),
-            Some(ReadError::Refused(refusal)),
-            "line {place} {line}"
-        );
+fn long_lines(rt: HostRuntime) -> Result<(), Fail> {
+    let long = "x".repeat(rt.alloc(), 4_097)?;
+    let mut place = 0_i64;
+    for line in FILE.lines() {
+        place = place.wrapping_add(1);
+        let text = FILE.replacen(rt.alloc(), line, long.as_str(), 1)?;
+        assert_eq!(rt; fault(rt.alloc(), text.as_str()), (15, place));
+    }
+    let last = "     1.000000000000D+01";
+    let longest = "x".repeat(rt.alloc(), 4_096)?;
+    let text = FILE.replacen(rt.alloc(), last, longest.as_str(), 1)?;
+    assert_eq!(rt; fault(rt.alloc(), text.as_str()), (24, 10));
+    let mut text = String::new(rt.alloc());
+    text.push_str(FILE)?;
+    text.push_str(long.as_str())?;
+    assert_eq!(rt; fault(rt.alloc(), text.as_str()), (15, 11));
+    Ok(())
+}
+
+/// Lines behind the first, and the line at which the end of the header is missed. `@` ends a line.
+const HEADERS: &str = "2|
+3|@
+4| \t@@
+3|COMMENT@";
+
+#[test]
+fn headers_without_end(rt: HostRuntime) -> Result<(), Fail> {
+    let (first, _) = FILE.split_once("\n").ok_or("no line")?;
+    for row in HEADERS.lines() {
+        let (line, rest) = row.split_once("|").ok_or("no text")?;
+        let rest = rest.replace(rt.alloc(), "@", "\n")?;
+        let mut text = String::new(rt.alloc());
+        text.push_str(first)?;
+        text.push_str("\n")?;
+        text.push_str(rest.as_str())?;
+        let told = (14, number(&rt, Some(line)));
+        assert_eq!(rt; fault(rt.alloc(), text.as_str()), told, "{row}");
     }
     Ok(())
 }
 
+/// The text of a file with so many short records, ended by a record of another system.
+fn many(alloc: Global, records: usize) -> Result<String, AllocError> {
+    let record = "G01 2024 01 07 00 00 00\n\n\n\n\n\n\n\n".repeat(alloc, records)?;
+    let mut text = String::new(alloc);
+    text.push_str(
+        "     3.05           N: GNSS NAV DATA    G                   RINEX VERSION / TYPE\n",
+    )?;
+    text.push_str("                                                            END OF HEADER\n")?;
+    text.push_str(record.as_str())?;
+    text.push_str("E05\n")?;
+    Ok(text)
+}
+
 #[test]
-fn passes_over_what_is_not_read(rt: HostRuntime) -> Result<(), Fail> {
-    for (place, line) in [
-        (
-            4,
-            "     x                 0.0                0.0                0.0",
-        ),
-        (
-            8,
-            "                       x                  y                  z",
-        ),
-        (10, "     never read"),
-        (6, ""),
-        (
-            7,
-            "     0.1e1              0.1d+1             0.1E-1             .1",
-        ),
-    ] {
-        let bytes = with_line(rt.alloc(), place, line.as_bytes())?;
-        let nav = read(rt.alloc(), &bytes)
-            .ok_or("long")?
-            .ok()
-            .ok_or("refused")?;
-        assert_eq!(rt; nav.count(), 1, "line {place} {line}");
+fn record_200_001_is_one_too_many(rt: HostRuntime) -> Result<(), Fail> {
+    let text = many(rt.alloc(), 200_000)?;
+    assert_eq!(rt; fault(rt.alloc(), text.as_str()), (0, 0));
+    let text = many(rt.alloc(), 200_001)?;
+    assert_eq!(rt; fault(rt.alloc(), text.as_str()), (27, 1_600_003));
+    Ok(())
+}
+
+/// The numbers in the order of the fields of a record.
+fn in_order(el: &Elements) -> [Wide; 20] {
+    [
+        el.af0,
+        el.af1,
+        el.af2,
+        el.crs,
+        el.dn,
+        el.m0,
+        el.cuc,
+        el.e,
+        el.cus,
+        el.root_a,
+        el.toe_week,
+        el.cic,
+        el.om0,
+        el.cis,
+        el.i0,
+        el.crc,
+        el.omega,
+        el.om_dot,
+        el.idot,
+        el.tgd,
+    ]
+}
+
+#[test]
+fn reads_records_of_converters(rt: HostRuntime) -> Result<(), Fail> {
+    let nav = records(rt.alloc(), MIXED)?;
+    assert_eq!(rt; nav.count(), 4);
+    for place in 0..4 {
+        assert!(rt; place < nav.count());
+        let record = nav.at(place);
+        assert_eq!(rt; u32::from(record.sat.number), 7 + place);
+        assert_eq!(rt; record.healthy, place < 3);
+        let elements = record.elements().ok().ok_or("outside")?;
+        assert_eq!(rt; elements.toc, 1_388_628_000_000_000_000_000);
+        assert_eq!(rt; elements.week_start, 1_388_620_800_000_000_000_000);
+        for (read, row) in in_order(&elements).iter().zip(NUMBERS.lines()) {
+            let mut fields = row.split(' ');
+            assert_eq!(rt; read.lo, i128::from(number(&rt, fields.next())), "{row}");
+            assert_eq!(rt; read.hi, i128::from(number(&rt, fields.next())), "{row}");
+        }
     }
     Ok(())
 }
 
-#[test]
-fn mixed_files(rt: HostRuntime) -> Result<(), Fail> {
-    let sick = "     0.000000000000D+00 6.300000000000D+01 0.000000000000D+00 0.000000000000D+00";
-    let lines = [
-        "     3.04           NAVIGATION DATA     M: MIXED            RINEX VERSION / TYPE",
-        "made up                                 20240107 000000 UTC PGM / RUN BY / DATE",
-        HEADER_END,
-        "R01 2024 01 07 00 15 00 1.0D-04 2.0D+00 3.0D+00",
-        "     anything",
-        "",
-        "     \t",
-        "G07 2024 01 07 02 00 00 1.000000000000E-04 0.000000000000E+00",
-        ZEROS,
-        ROOT,
-        ZEROS,
-        ZEROS,
-        ZEROS,
-        sick,
-        ZEROS,
-        "E11 2024 01 07 00 10 00",
-        "     x",
-        "C05 2024 01 07 00 10 00",
-        "J02 2024 01 07 00 10 00",
-        "S20 2024 01 07 00 10 00",
-        "G32 2024 01 07 02 00 00",
-        "",
-        "",
-        "",
-        "",
-        "",
-        "",
-        "     x",
-        "",
-        "  ",
-    ];
-    for end in ["\n", "\r\n"] {
-        let bytes = joined(rt.alloc(), &lines, end)?;
-        let nav = read(rt.alloc(), &bytes)
-            .ok_or("long")?
-            .ok()
-            .ok_or("refused")?;
-        assert_eq!(rt; nav.count(), 2);
-        let first = nav.at(0);
-        assert_eq!(rt; first.sat.number, 7);
-        assert_eq!(rt; first.healthy, false);
-        let af0 = first.fields[0];
-        assert_eq!(rt;
-            af0,
-            Decimal {
-                digits: 1_000_000_000_000,
-                ten: -16
-            }
-        );
-        let second = nav.at(1);
-        assert_eq!(rt; second.sat.number, 32);
-        assert!(rt; second.healthy);
-    }
-    Ok(())
-}
+/// Records of four satellites, of which one is of another system.
+const PLACES: &str = "G05 2024 01 07 00 00 00
+G12 2024 01 07 00 00 00
+R05 2024 01 07 00 15 00
+G05 2024 01 07 02 00 00
+G12 2024 01 07 02 00 00
+G05 2024 01 07 04 00 00
+";
 
 #[test]
 fn places_of_a_satellite(rt: HostRuntime) -> Result<(), Fail> {
-    let mut text = joined(rt.alloc(), &[VERSION, HEADER_END], "\n")?;
-    for line in [
-        "G05 2024 01 07 00 00 00",
-        "G12 2024 01 07 00 00 00",
-        "R05 2024 01 07 00 15 00",
-        "G05 2024 01 07 02 00 00",
-        "G12 2024 01 07 02 00 00",
-        "G05 2024 01 07 04 00 00",
-    ] {
-        text.extend_from_slice(line.as_bytes())?;
-        text.extend_from_slice(b"\n\n\n\n\n\n\n\n")?;
-    }
-    text.extend_from_slice(b"E05\n")?;
-    let nav = read(rt.alloc(), &text)
-        .ok_or("long")?
-        .ok()
-        .ok_or("refused")?;
+    let lines = PLACES.replace(rt.alloc(), "\n", "\n\n\n\n\n\n\n\n")?;
+    let mut text = String::new(rt.alloc());
+    text.push_str(
+        "     3.05           N: GNSS NAV DATA    G                   RINEX VERSION / TYPE\n",
+    )?;
+    text.push_str("                                                            END OF HEADER\n")?;
+    text.push_str(lines.as_str())?;
+    text.push_str("E05\n")?;
+    let nav = records(rt.alloc(), text.as_str())?;
     assert_eq!(rt; nav.count(), 5);
     let systems: [(u8, u8, &[u32]); 4] = [
         (b'G', 5, &[0, 2, 4]),
@@ -270,147 +403,77 @@ fn places_of_a_satellite(rt: HostRuntime) -> Result<(), Fail> {
     Ok(())
 }
 
-#[test]
-fn long_lines(rt: HostRuntime) -> Result<(), Fail> {
-    let mut long = Vec::new(rt.alloc());
-    for _ in 0..4096 {
-        long.push(b'x')?;
-    }
-    let bytes = with_line(rt.alloc(), 10, &long)?;
-    assert_eq!(rt;
-        read(rt.alloc(), &bytes).ok_or("long")?.err(),
-        Some(ReadError::Refused(Refusal {
-            number: 24,
-            line: 10
-        }))
-    );
-    long.push(b'x')?;
-    for place in [1_u16, 2, 3, 4, 5, 6, 7, 8, 9, 10] {
-        let bytes = with_line(rt.alloc(), usize::from(place), &long)?;
-        let refusal = Refusal {
-            number: 15,
-            line: u32::from(place),
-        };
-        assert_eq!(rt;
-            read(rt.alloc(), &bytes).ok_or("long")?.err(),
-            Some(ReadError::Refused(refusal)),
-            "line {place}"
-        );
-    }
-    let mut bytes = joined(rt.alloc(), &FILE, "\n")?;
-    bytes.extend_from_slice(&long)?;
-    assert_eq!(rt;
-        read(rt.alloc(), &bytes).ok_or("long")?.err(),
-        Some(ReadError::Refused(Refusal {
-            number: 15,
-            line: 11
-        }))
-    );
-    Ok(())
-}
-
-#[test]
-fn headers_without_end(rt: HostRuntime) -> Result<(), Fail> {
-    for (text, line) in [("", 2), ("\n", 3), (" \t\n\n", 4), ("COMMENT\n", 3)] {
-        let mut bytes = joined(rt.alloc(), &[VERSION], "\n")?;
-        bytes.extend_from_slice(text.as_bytes())?;
-        let refusal = Refusal { number: 14, line };
-        assert_eq!(rt;
-            read(rt.alloc(), &bytes).ok_or("long")?.err(),
-            Some(ReadError::Refused(refusal)),
-            "{text:?}"
-        );
-    }
-    Ok(())
-}
-
-/// A record with this clock time in s and these fields.
-fn record(seconds: i64, fields: [Decimal; 20]) -> Option<NavRecord> {
-    if seconds < 0 {
-        return None;
-    }
-    if seconds >= 4_000_000_000 {
-        return None;
-    }
-    Some(NavRecord {
-        sat: Sat {
-            system: b'G',
-            number: 1,
-        },
-        toc: i128::from(seconds) * 1_000_000_000_000,
-        healthy: true,
-        fields,
-    })
-}
-
-/// Fields of zero but for the root of the semi-major axis, and with these digits and ten of some.
-fn fields_with(changes: &[(u8, i64, i8)]) -> [Decimal; 20] {
+/// Fields of zero but for the root of the semi-major axis.
+fn zeros() -> [Decimal; 20] {
     let mut fields = [Decimal { digits: 0, ten: 0 }; 20];
     fields[9] = Decimal {
         digits: 5153,
         ten: 0,
     };
-    for (number, digits, ten) in changes {
-        let index = usize::from(*number).wrapping_sub(1);
-        if index < 20 {
-            fields[index] = Decimal {
-                digits: *digits,
-                ten: *ten,
-            };
-        }
-    }
     fields
 }
 
-/// How far a time in s is from the record's ephemeris time, none where the time is out of range.
-fn age_at(record: &NavRecord, seconds: i64) -> Option<Option<i128>> {
-    if seconds < 0 {
-        return None;
+/// The place of a field among the fields of a record.
+fn place(rt: &impl Abort, field: i64) -> usize
+    ensures { result < 20 }
+{
+    let place = usize::try_from(field).expect(rt, "a field").wrapping_sub(1);
+    assert!(rt; place < 20, "a field");
+    place
+}
+
+fn decimal(rt: &impl Abort, digits: i64, ten: i64) -> Decimal {
+    let ten = i8::try_from(ten).expect(rt, "a power of ten");
+    Decimal { digits, ten }
+}
+
+/// A time in ps.
+fn time(rt: &impl Abort, seconds: i64) -> i128
+    ensures from { pos 0 ≤ℤ result }
+    ensures under { result <ℤ pos 4000000000000000000000 }
+{
+    assert!(rt; 0 <= seconds && seconds < 4_000_000_000, "a time");
+    i128::from(seconds) * 1_000_000_000_000
+}
+
+/// A record with this clock time in s and these fields.
+fn record(rt: &impl Abort, seconds: i64, fields: [Decimal; 20]) -> NavRecord {
+    NavRecord {
+        sat: Sat {
+            system: b'G',
+            number: 1,
+        },
+        toc: time(rt, seconds),
+        healthy: true,
+        fields,
     }
-    if seconds >= 4_000_000_000 {
-        return None;
+}
+
+/// The first field outside its bounds, 0 where none is.
+fn outside(rt: &impl Abort, fields: [Decimal; 20]) -> i64 {
+    match record(rt, 0, fields).elements() {
+        Ok(_) => 0,
+        Err(field) => i64::from(field),
     }
-    Some(record.age(i128::from(seconds) * 1_000_000_000_000))
 }
 
 #[test]
 fn bounds_of_fields(rt: HostRuntime) -> Result<(), Fail> {
-    for (number, low, high, ten) in [
-        (1, -10_000, 10_000, -6),
-        (2, -10_000, 10_000, -12),
-        (3, -10_000, 10_000, -17),
-        (4, -50_000, 50_000, -1),
-        (5, -10_000, 10_000, -11),
-        (6, -70_000, 70_000, -4),
-        (7, -10_000, 10_000, -7),
-        (8, 0, 30_000, -6),
-        (9, -10_000, 10_000, -7),
-        (10, 50_000, 56_000, -1),
-        (11, 0, 604_799_999_999_999_999, -12),
-        (12, -10_000, 10_000, -7),
-        (13, -70_000, 70_000, -4),
-        (14, -10_000, 10_000, -7),
-        (
-            15,
-            -7_000_000_000_000_000_000,
-            7_000_000_000_000_000_000,
-            -18,
-        ),
-        (16, -50_000, 50_000, -1),
-        (17, -70_000, 70_000, -4),
-        (18, -10_000, 10_000, -11),
-        (19, -10_000, 10_000, -11),
-        (20, -1_000_000_000_000_000, 1_000_000_000_000_000, -20),
-    ] {
-        for digits in [low, high] {
-            let fields = fields_with(&[(number, digits, ten)]);
-            let elements = record(0, fields).ok_or("time")?.elements();
-            assert_eq!(rt; elements.err(), None, "field {number} {digits}");
-        }
-        for digits in [low.wrapping_sub(1), high.wrapping_add(1)] {
-            let fields = fields_with(&[(number, digits, ten)]);
-            let elements = record(0, fields).ok_or("time")?.elements();
-            assert_eq!(rt; elements.err(), Some(number), "field {number} {digits}");
+    for row in BOUNDS.lines() {
+        let mut words = row.split(' ');
+        let field = number(&rt, words.next());
+        let low = number(&rt, words.next());
+        let high = number(&rt, words.next());
+        let ten = number(&rt, words.next());
+        for (digits, told) in [
+            (low, 0),
+            (high, 0),
+            (low.wrapping_sub(1), field),
+            (high.wrapping_add(1), field),
+        ] {
+            let mut fields = zeros();
+            fields[place(&rt, field)] = decimal(&rt, digits, ten);
+            assert_eq!(rt; outside(&rt, fields), told, "{row}");
         }
     }
     Ok(())
@@ -418,105 +481,61 @@ fn bounds_of_fields(rt: HostRuntime) -> Result<(), Fail> {
 
 #[test]
 fn first_field_outside(rt: HostRuntime) -> Result<(), Fail> {
-    let outside: [(&[(u8, i64, i8)], u8); 5] = [
-        (&[(20, 1, 0), (3, -1, 0)], 3),
-        (&[(11, -1, 0), (12, 1, 0)], 11),
-        (&[(10, 0, 0), (9, 1, 18)], 9),
-        (&[(10, 0, 0)], 10),
-        (&[(1, i64::MIN, 127), (2, i64::MAX, -128)], 1),
-    ];
-    for (changes, number) in outside {
-        let elements = record(0, fields_with(changes)).ok_or("time")?.elements();
-        assert_eq!(rt; elements.err(), Some(number));
+    for row in OUTSIDE.lines() {
+        let mut words = row.split(' ');
+        let told = number(&rt, words.next());
+        let mut fields = zeros();
+        for _ in 0..2 {
+            let field = number(&rt, words.next());
+            let digits = number(&rt, words.next());
+            fields[place(&rt, field)] = decimal(&rt, digits, number(&rt, words.next()));
+        }
+        assert_eq!(rt; outside(&rt, fields), told, "{row}");
     }
     Ok(())
 }
 
 #[test]
 fn fields_in_units(rt: HostRuntime) -> Result<(), Fail> {
-    let changes = [
-        (1, -123_456_789_012, -15),
-        (2, 15, -23),
-        (6, -15, -17),
-        (10, 5_153_648_925_781, -9),
-        (11, 75, -13),
-        (20, -15, -17),
-    ];
-    let elements = record(1_388_620_800, fields_with(&changes))
-        .ok_or("time")?
-        .elements()
-        .ok()
-        .ok_or("outside")?;
-    for (field, lo, hi) in [
-        (elements.af0, -1_234_567_890_120, -1_234_567_890_120),
-        (elements.af1, 1, 2),
-        (elements.m0, -2, -1),
-        (
-            elements.root_a,
-            5_153_648_925_781_000,
-            5_153_648_925_781_000,
-        ),
-        (elements.toe_week, 7, 8),
-        (elements.tgd, -2, -1),
-        (elements.omega, 0, 0),
-    ] {
-        assert_eq!(rt; field.lo, lo);
-        assert_eq!(rt; field.hi, hi);
+    for row in ROUNDED.lines() {
+        let mut words = row.split(' ');
+        let at = place(&rt, number(&rt, words.next()));
+        let digits = number(&rt, words.next());
+        let mut fields = zeros();
+        fields[at] = decimal(&rt, digits, number(&rt, words.next()));
+        let elements = record(&rt, 0, fields).elements().ok().ok_or("outside")?;
+        let read = in_order(&elements)[at];
+        assert_eq!(rt; read.lo, i128::from(number(&rt, words.next())), "{row}");
+        assert_eq!(rt; read.hi, i128::from(number(&rt, words.next())), "{row}");
     }
-    assert_eq!(rt; elements.toc, 1_388_620_800_000_000_000_000);
     Ok(())
 }
 
 #[test]
 fn weeks_and_ages(rt: HostRuntime) -> Result<(), Fail> {
-    // clock time, ephemeris time in its week, start of the week, a time and its age, in s
-    let times: [(i64, i64, i64, i64, i64); 9] = [
-        // 2024-01-13 23:59:44 and 2024-01-14 00:00:10
-        (1_389_225_584, 604_784, 1_388_620_800, 1_389_225_610, 26),
-        (1_389_225_616, 604_784, 1_388_620_800, 1_389_225_584, 0),
-        (1_389_225_584, 0, 1_389_225_600, 1_389_225_584, 16),
-        // as far from either week
-        (1_388_923_200, 0, 1_389_225_600, 1_388_923_200, 302_400),
-        (
-            1_388_620_800,
-            302_400,
-            1_388_620_800,
-            1_388_620_800,
-            302_400,
-        ),
-        (
-            1_388_620_801,
-            302_400,
-            1_388_620_800,
-            1_388_620_801,
-            302_399,
-        ),
-        (
-            1_388_620_799,
-            302_400,
-            1_388_016_000,
-            1_388_620_799,
-            302_399,
-        ),
-        // before the first week
-        (0, 604_799, -604_800, 0, 1),
-        (0, 302_400, 0, 3_999_999_999, 3_999_697_599),
-    ];
-    for (toc, toe, week, tag, age) in times {
-        let record = record(toc, fields_with(&[(11, toe, 0)])).ok_or("time")?;
+    for row in AGES.lines() {
+        let mut words = row.split(' ');
+        let toc = number(&rt, words.next());
+        let mut fields = zeros();
+        fields[10] = decimal(&rt, number(&rt, words.next()), 0);
+        let record = record(&rt, toc, fields);
         let elements = record.elements().ok().ok_or("outside")?;
-        assert_eq!(rt; elements.week_start, i128::from(week) * 1_000_000_000_000);
-        assert_eq!(rt;
-            age_at(&record, tag),
-            Some(Some(i128::from(age) * 1_000_000_000_000))
-        );
+        let week = i128::from(number(&rt, words.next())) * 1_000_000_000_000;
+        assert_eq!(rt; elements.week_start, week, "{row}");
+        let tag = time(&rt, number(&rt, words.next()));
+        let age = i128::from(number(&rt, words.next())) * 1_000_000_000_000;
+        assert_eq!(rt; record.age(tag), Some(age), "{row}");
     }
-    for (toe, ten) in [(604_800, 0), (-1, -20)] {
-        let record = record(0, fields_with(&[(11, toe, ten)])).ok_or("time")?;
-        assert_eq!(rt; age_at(&record, 0), Some(None));
+    Ok(())
+}
+
+// An ephemeris time that isn't one of a week has no age; else it is rounded down to ps.
+#[test]
+fn ages_of_odd_times(rt: HostRuntime) -> Result<(), Fail> {
+    for (digits, ten, age) in [(604_800, 0, None), (-1, -20, None), (19, -13, Some(1))] {
+        let mut fields = zeros();
+        fields[10] = Decimal { digits, ten };
+        assert_eq!(rt; record(&rt, 0, fields).age(0), age);
     }
-    // rounded down to ps
-    let record = record(0, fields_with(&[(11, 19, -13)])).ok_or("time")?;
-    assert_eq!(rt; age_at(&record, 0), Some(Some(1)));
     Ok(())
 }

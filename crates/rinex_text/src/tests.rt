@@ -1,5 +1,6 @@
 use super::*;
 use std::alloc::{AllocError, Global};
+use std::process::Abort;
 use std::test::Fail;
 
 const HEADER: &str =
@@ -7,64 +8,89 @@ const HEADER: &str =
                                                             END OF HEADER
 ";
 
-/// The text with `new` in the first place of `old`.
+/// Texts in place of one in that header, and what comes of it: the number and the line of the first fault,
+/// or 0 and the number of the first line behind the header. `@` ends a line.
+const CHANGES: &str = "0|3|3.04|3.00
+0|3|3.04|3.05
+0|3|G: GPS|M: GPS
+0|3|G: GPS| : GPS
+0|3|TYPE@|TYPE\r@
+0|3|END OF HEADER@|END OF HEADER  
+10|1|RINEX VERSION|RINEX VERSION 
+11|1|3.04|2.99
+11|1|3.04|3.06
+11|1|3.04|    
+12|1|N: GNSS|O: GNSS
+13|1|G: GPS|R: GPS
+14|3|END OF HEADER|END OF HEAD
+14|3|END OF HEADER@|";
+
+/// Year, month, day, hour, minute and tenths of microseconds, and the time in ps, -1 for no date. A day has
+/// 86,400 s. From 1980-01-06 to 2000-02-29 there are 7,359 days, and 43,824 to 2099-12-31.
+const DATES: &str = "1980 1 6 0 0 0 0
+1980 1 7 0 0 1 86400000000100000
+2000 2 29 23 59 0 635903940000000000000
+2099 12 31 1 0 599999999 3786397259999999900000
+1980 1 5 23 59 0 -1
+2100 1 1 0 0 0 -1
+2023 2 29 0 0 0 -1
+2000 13 1 0 0 0 -1
+2000 0 1 0 0 0 -1
+2000 1 0 0 0 0 -1
+10000 1 1 0 0 0 -1
+2000 1 1 24 0 0 -1
+2000 1 1 0 60 0 -1
+2000 1 1 0 0 600000000 -1";
+
+fn number(rt: &impl Abort, field: Option<&str>) -> i128 {
+    field.expect(rt, "a number").parse().expect(rt, "a number")
+}
+
+fn small(rt: &impl Abort, field: Option<&str>) -> u8 {
+    field.expect(rt, "a number").parse().expect(rt, "a number")
+}
+
+/// The text with a new text in the first place of an old one, where `@` ends a line.
 fn changed(alloc: Global, text: &str, old: &str, new: &str) -> Result<String, AllocError> {
-    let (front, back) = text.split_once(old).unwrap_or(("", ""));
-    let mut whole = String::new(alloc);
-    whole.push_str(front)?;
-    whole.push_str(new)?;
-    whole.push_str(back)?;
-    Ok(whole)
+    let old = old.replace(alloc, "@", "\n")?;
+    let new = new.replace(alloc, "@", "\n")?;
+    text.replacen(alloc, old.as_str(), new.as_str(), 1)
 }
 
 /// The number of the first fault in the header of a navigation file, and that of its line. Without a
 /// fault 0, and the number of the first line behind the header.
-fn fault(bytes: &[u8]) -> (u8, u32) {
+fn fault(text: &str) -> (i128, i128) {
+    let bytes = text.as_bytes();
     if bytes.len() > 4_000_000_000 {
-        return (255, 0);
+        return (-1, 0);
     }
     match behind_version(bytes, b'N').and_then(behind_header) {
-        Ok(behind) => (0, behind.number),
-        Err(refusal) => (refusal.number, refusal.line),
+        Ok(behind) => (0, i128::from(behind.number)),
+        Err(refusal) => (i128::from(refusal.number), i128::from(refusal.line)),
     }
 }
 
 #[test]
 fn headers_are_refused_at_their_first_fault(rt: HostRuntime) -> Result<(), Fail> {
-    for (old, new, number, line) in [
-        ("3.04", "3.00", 0, 3),
-        ("3.04", "3.05", 0, 3),
-        ("G: GPS", "M: GPS", 0, 3),
-        ("G: GPS", " : GPS", 0, 3),
-        ("TYPE\n", "TYPE\r\n", 0, 3),
-        ("END OF HEADER\n", "END OF HEADER  ", 0, 3),
-        ("RINEX VERSION", "RINEX VERSION ", 10, 1),
-        ("3.04", "2.99", 11, 1),
-        ("3.04", "3.06", 11, 1),
-        ("3.04", "    ", 11, 1),
-        ("N: GNSS", "O: GNSS", 12, 1),
-        ("G: GPS", "R: GPS", 13, 1),
-        ("END OF HEADER", "END OF HEAD", 14, 3),
-        ("END OF HEADER\n", "", 14, 3),
-    ] {
+    for row in CHANGES.lines() {
+        let mut fields = row.split('|');
+        let told = (number(&rt, fields.next()), number(&rt, fields.next()));
+        let old = fields.next().ok_or("no text")?;
+        let new = fields.next().ok_or("no text")?;
         let text = changed(rt.alloc(), HEADER, old, new)?;
-        assert_eq!(rt; fault(text.as_bytes()), (number, line));
+        assert_eq!(rt; fault(text.as_str()), told, "{row}");
     }
-    assert_eq!(rt; fault(b""), (10, 1));
+    assert_eq!(rt; fault(""), (10, 1));
     Ok(())
 }
 
 #[test]
 fn lines_of_4096_bytes_are_the_longest(rt: HostRuntime) -> Result<(), Fail> {
-    for (size, number, line) in [(4_096, 0, 4), (4_097, 15, 2)] {
-        let mut long = String::new(rt.alloc());
-        long.push_str("TYPE\n")?;
-        for _ in 0..size {
-            long.push_str("x")?;
-        }
-        long.push_str("\n")?;
-        let text = changed(rt.alloc(), HEADER, "TYPE\n", long.as_str())?;
-        assert_eq!(rt; fault(text.as_bytes()), (number, line));
+    for (size, told) in [(4_096, (0, 4)), (4_097, (15, 2))] {
+        let long = "x".repeat(rt.alloc(), size)?;
+        let text = changed(rt.alloc(), HEADER, "TYPE@", "TYPE@!@")?;
+        let text = text.replacen(rt.alloc(), "!", long.as_str(), 1)?;
+        assert_eq!(rt; fault(text.as_str()), told);
     }
     Ok(())
 }
@@ -104,38 +130,18 @@ fn columns_count_from_one(rt: HostRuntime) -> Result<(), Fail> {
     Ok(())
 }
 
-// A day has 86,400 s. From 1980-01-06 to 2000-02-29 there are 7,359 days, and 43,824 to 2099-12-31.
 #[test]
 fn dates_are_gps_times(rt: HostRuntime) -> Result<(), Fail> {
-    for (year, month, day, hour, minute, tenths, ps) in [
-        (1980, 1, 6, 0, 0, 0, 0),
-        (1980, 1, 7, 0, 0, 1, 86_400_000_000_100_000),
-        (2000, 2, 29, 23, 59, 0, 635_903_940_000_000_000_000),
-        (
-            2099,
-            12,
-            31,
-            1,
-            0,
-            599_999_999,
-            3_786_397_259_999_999_900_000,
-        ),
-    ] {
-        assert!(rt; gps_ps(year, month, day, hour, minute, tenths) == Ok(ps));
-    }
-    for (year, month, day, hour, minute, tenths) in [
-        (1980, 1, 5, 23, 59, 0),
-        (2100, 1, 1, 0, 0, 0),
-        (2023, 2, 29, 0, 0, 0),
-        (2000, 13, 1, 0, 0, 0),
-        (2000, 0, 1, 0, 0, 0),
-        (2000, 1, 0, 0, 0, 0),
-        (10_000, 1, 1, 0, 0, 0),
-        (2000, 1, 1, 24, 0, 0),
-        (2000, 1, 1, 0, 60, 0),
-        (2000, 1, 1, 0, 0, 600_000_000),
-    ] {
-        assert!(rt; gps_ps(year, month, day, hour, minute, tenths) == Err(BadDate));
+    for row in DATES.lines() {
+        let mut words = row.split(' ');
+        let year = u16::try_from(number(&rt, words.next())).expect(&rt, "a year");
+        let month = small(&rt, words.next());
+        let day = small(&rt, words.next());
+        let hour = small(&rt, words.next());
+        let minute = small(&rt, words.next());
+        let tenths = u64::try_from(number(&rt, words.next())).expect(&rt, "a time");
+        let ps = gps_ps(year, month, day, hour, minute, tenths).unwrap_or(-1);
+        assert_eq!(rt; ps, number(&rt, words.next()), "{row}");
     }
     Ok(())
 }
