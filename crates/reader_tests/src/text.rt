@@ -1,4 +1,7 @@
-use super::*;
+use crate::words::changed;
+use rinex_text::{
+    Body, Lines, behind_header, behind_version, column, columns, gps_ps, is_printable_text,
+};
 use std::alloc::{AllocError, Global};
 use std::process::Abort;
 use std::test::Fail;
@@ -50,13 +53,6 @@ fn small(rt: &impl Abort, field: Option<&str>) -> u8 {
     field.expect(rt, "a number").parse().expect(rt, "a number")
 }
 
-/// The text with a new text in the first place of an old one, where `@` ends a line.
-fn changed(alloc: Global, text: &str, old: &str, new: &str) -> Result<String, AllocError> {
-    let old = old.replace(alloc, "@", "\n")?;
-    let new = new.replace(alloc, "@", "\n")?;
-    text.replacen(alloc, old.as_str(), new.as_str(), 1)
-}
-
 /// The number of the first fault in the header of a navigation file, and that of its line. Without a
 /// fault 0, and the number of the first line behind the header.
 fn fault(text: &str) -> (i128, i128) {
@@ -75,8 +71,8 @@ fn headers_are_refused_at_their_first_fault(rt: HostRuntime) -> Result<(), Fail>
     for row in CHANGES.lines() {
         let mut fields = row.split('|');
         let told = (number(&rt, fields.next()), number(&rt, fields.next()));
-        let old = fields.next().ok_or("no text")?;
-        let new = fields.next().ok_or("no text")?;
+        let old = fields.next().expect(&rt, "a text");
+        let new = fields.next().expect(&rt, "a text");
         let text = changed(rt.alloc(), HEADER, old, new)?;
         assert_eq!(rt; fault(text.as_str()), told, "{row}");
     }

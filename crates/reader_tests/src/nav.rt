@@ -1,7 +1,8 @@
 ghost use Rattle.std.specs.Prelude.{pos, ◌≤ℤ◌, ◌<ℤ◌, ◌<◌};
 
-use super::*;
+use crate::words::{changed, number};
 use exact_decimal::Decimal;
+use rinex_nav::{Nav, NavRecord, read_nav};
 use rinex_text::ReadError;
 use sat_model::{Elements, Sat, Wide};
 use std::alloc::{AllocError, Global};
@@ -199,10 +200,6 @@ const AGES: &str = "1389225584 604784 1388620800 1389225610 26
 0 604799 -604800 0 1
 0 302400 0 3999999999 3999697599";
 
-fn number(rt: &impl Abort, field: Option<&str>) -> i64 {
-    field.expect(rt, "a number").parse().expect(rt, "a number")
-}
-
 /// What is read from the bytes, none where they are too many for one file.
 fn read(alloc: Global, bytes: &[u8]) -> Option<Result<Nav, ReadError>> {
     if bytes.len() > 4_000_000_000 {
@@ -233,10 +230,9 @@ fn first_faults(rt: HostRuntime) -> Result<(), Fail> {
     for row in CHANGES.lines() {
         let mut fields = row.split('|');
         let told = (number(&rt, fields.next()), number(&rt, fields.next()));
-        let old = fields.next().ok_or("no text")?;
-        let new = fields.next().ok_or("no text")?;
-        let new = new.replace(rt.alloc(), "@", "\n")?;
-        let text = FILE.replacen(rt.alloc(), old, new.as_str(), 1)?;
+        let old = fields.next().expect(&rt, "a text");
+        let new = fields.next().expect(&rt, "a text");
+        let text = changed(rt.alloc(), FILE, old, new)?;
         assert_eq!(rt; fault(rt.alloc(), text.as_str()), told, "{row}");
     }
     Ok(())
@@ -316,8 +312,6 @@ fn many(alloc: Global, records: usize) -> Result<String, AllocError> {
 
 #[test]
 fn record_200_001_is_one_too_many(rt: HostRuntime) -> Result<(), Fail> {
-    let text = many(rt.alloc(), 200_000)?;
-    assert_eq!(rt; fault(rt.alloc(), text.as_str()), (0, 0));
     let text = many(rt.alloc(), 200_001)?;
     assert_eq!(rt; fault(rt.alloc(), text.as_str()), (27, 1_600_003));
     Ok(())

@@ -1,4 +1,5 @@
-use super::*;
+use crate::words::changed;
+use error_bounds::{Centre, Settings, SettingsError, read_settings};
 use sat_model::{Pos, Sat, Signal};
 use std::alloc::{AllocError, Global};
 use std::process::Abort;
@@ -104,13 +105,6 @@ fn settings(alloc: Global, text: &str) -> Result<Settings, Fail> {
     Ok(read_settings(alloc, text.as_bytes()).ok().ok_or("refused")?)
 }
 
-/// The text with a new text in the first place of an old one, where `@` ends a line.
-fn changed(alloc: Global, text: &str, old: &str, new: &str) -> Result<String, AllocError> {
-    let old = old.replace(alloc, "@", "\n")?;
-    let new = new.replace(alloc, "@", "\n")?;
-    text.replacen(alloc, old.as_str(), new.as_str(), 1)
-}
-
 /// Whether the bytes have this first fault, none where the number is 0.
 fn has_fault(alloc: Global, bytes: &[u8], number: u8, key: &str) -> bool {
     match read_settings(alloc, bytes) {
@@ -129,9 +123,9 @@ fn first_faults(rt: HostRuntime) -> Result<(), Fail> {
             .expect(&rt, "a number")
             .parse()
             .expect(&rt, "a number");
-        let key = fields.next().ok_or("no key")?;
-        let old = fields.next().ok_or("no text")?;
-        let new = fields.next().ok_or("no text")?;
+        let key = fields.next().expect(&rt, "a key");
+        let old = fields.next().expect(&rt, "a text");
+        let new = fields.next().expect(&rt, "a text");
         let text = changed(rt.alloc(), FILE, old, new)?;
         assert!(rt;
             has_fault(rt.alloc(), text.as_bytes(), number, key),
