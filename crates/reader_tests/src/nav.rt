@@ -5,7 +5,7 @@ use exact_decimal::Decimal;
 use rinex_nav::{Nav, NavRecord, read_nav};
 use rinex_text::ReadError;
 use sat_model::{Elements, Sat, Wide};
-use std::alloc::{AllocError, Global};
+use std::alloc::Global;
 use std::process::Abort;
 use std::test::Fail;
 
@@ -52,6 +52,17 @@ const CHANGES: &str = "0|0|VERSION / TYPE|VERSION / TYPE
 0|0|     7.000000000000D+00|     0.7d+1            
 0|0|     7.000000000000D+00|     70.E-1            
 0|0|     7.000000000000D+00|     .7E1              ";
+
+/// A file that goes on behind its first line with another text.
+const START: &str =
+    "     3.05           N: GNSS NAV DATA    G                   RINEX VERSION / TYPE
+!";
+
+/// Texts behind that line, and what comes of it.
+const ENDS: &str = "14|2|!|
+14|3|!|@
+14|4|!| \t@@
+14|3|!|COMMENT@";
 
 /// Records of six systems as converters write them, with each letter of an exponent; the last is sick.
 const MIXED: &str =
@@ -227,13 +238,15 @@ fn fault(alloc: Global, text: &str) -> (i64, i64) {
 
 #[test]
 fn first_faults(rt: HostRuntime) -> Result<(), Fail> {
-    for row in CHANGES.lines() {
-        let mut fields = row.split('|');
-        let told = (number(&rt, fields.next()), number(&rt, fields.next()));
-        let old = fields.next().expect(&rt, "a text");
-        let new = fields.next().expect(&rt, "a text");
-        let text = changed(rt.alloc(), FILE, old, new)?;
-        assert_eq!(rt; fault(rt.alloc(), text.as_str()), told, "{row}");
+    for (file, rows) in [(FILE, CHANGES), (START, ENDS)] {
+        for row in rows.lines() {
+            let mut fields = row.split('|');
+            let told = (number(&rt, fields.next()), number(&rt, fields.next()));
+            let old = fields.next().expect(&rt, "a text");
+            let new = fields.next().expect(&rt, "a text");
+            let text = changed(rt.alloc(), file, old, new)?;
+            assert_eq!(rt; fault(rt.alloc(), text.as_str()), told, "{row}");
+        }
     }
     Ok(())
 }
@@ -275,44 +288,19 @@ fn long_lines(rt: HostRuntime) -> Result<(), Fail> {
     Ok(())
 }
 
-/// Lines behind the first, and the line at which the end of the header is missed. `@` ends a line.
-const HEADERS: &str = "2|
-3|@
-4| \t@@
-3|COMMENT@";
+/// A file with a record of another system at its end, and a place for others.
+const BODY: &str = "     3.05           N: GNSS NAV DATA    G                   RINEX VERSION / TYPE
+                                                            END OF HEADER
+!
+E05
+";
 
-#[test]
-fn headers_without_end(rt: HostRuntime) -> Result<(), Fail> {
-    let (first, _) = FILE.split_once("\n").ok_or("no line")?;
-    for row in HEADERS.lines() {
-        let (line, rest) = row.split_once("|").ok_or("no text")?;
-        let rest = rest.replace(rt.alloc(), "@", "\n")?;
-        let mut text = String::new(rt.alloc());
-        text.push_str(first)?;
-        text.push_str("\n")?;
-        text.push_str(rest.as_str())?;
-        let told = (14, number(&rt, Some(line)));
-        assert_eq!(rt; fault(rt.alloc(), text.as_str()), told, "{row}");
-    }
-    Ok(())
-}
-
-/// The text of a file with so many short records, ended by a record of another system.
-fn many(alloc: Global, records: usize) -> Result<String, AllocError> {
-    let record = "G01 2024 01 07 00 00 00\n\n\n\n\n\n\n\n".repeat(alloc, records)?;
-    let mut text = String::new(alloc);
-    text.push_str(
-        "     3.05           N: GNSS NAV DATA    G                   RINEX VERSION / TYPE\n",
-    )?;
-    text.push_str("                                                            END OF HEADER\n")?;
-    text.push_str(record.as_str())?;
-    text.push_str("E05\n")?;
-    Ok(text)
-}
-
+// A text of 6 MB: `rt try` needs more than its own time for it.
 #[test]
 fn record_200_001_is_one_too_many(rt: HostRuntime) -> Result<(), Fail> {
-    let text = many(rt.alloc(), 200_001)?;
+    let record = "G01 2024 01 07 00 00 00\n\n\n\n\n\n\n\n";
+    let many = record.repeat(rt.alloc(), 200_001)?;
+    let text = changed(rt.alloc(), BODY, "!", many.as_str())?;
     assert_eq!(rt; fault(rt.alloc(), text.as_str()), (27, 1_600_003));
     Ok(())
 }
@@ -343,6 +331,24 @@ fn in_order(el: &Elements) -> [Wide; 20] {
     ]
 }
 
+/// Whether the numbers are those of a row.
+fn are_of_row(rt: &impl Abort, read: &Wide, row: &str) -> bool {
+    let mut words = row.split(' ');
+    let lo = number(rt, words.next());
+    let hi = number(rt, words.next());
+    read.lo == i128::from(lo) && read.hi == i128::from(hi)
+}
+
+/// Asserts that the record has the expected times and numbers.
+fn assert_numbers(rt: &impl Abort, record: &NavRecord) {
+    let elements = record.elements().ok().expect(rt, "numbers within bounds");
+    assert_eq!(rt; elements.toc, 1_388_628_000_000_000_000_000);
+    assert_eq!(rt; elements.week_start, 1_388_620_800_000_000_000_000);
+    for (read, row) in in_order(&elements).iter().zip(NUMBERS.lines()) {
+        assert!(rt; are_of_row(rt, read, row), "{row}");
+    }
+}
+
 #[test]
 fn reads_records_of_converters(rt: HostRuntime) -> Result<(), Fail> {
     let nav = records(rt.alloc(), MIXED)?;
@@ -352,14 +358,7 @@ fn reads_records_of_converters(rt: HostRuntime) -> Result<(), Fail> {
         let record = nav.at(place);
         assert_eq!(rt; u32::from(record.sat.number), 7 + place);
         assert_eq!(rt; record.healthy, place < 3);
-        let elements = record.elements().ok().ok_or("outside")?;
-        assert_eq!(rt; elements.toc, 1_388_628_000_000_000_000_000);
-        assert_eq!(rt; elements.week_start, 1_388_620_800_000_000_000_000);
-        for (read, row) in in_order(&elements).iter().zip(NUMBERS.lines()) {
-            let mut fields = row.split(' ');
-            assert_eq!(rt; read.lo, i128::from(number(&rt, fields.next())), "{row}");
-            assert_eq!(rt; read.hi, i128::from(number(&rt, fields.next())), "{row}");
-        }
+        assert_numbers(&rt, record);
     }
     Ok(())
 }
@@ -376,13 +375,7 @@ G05 2024 01 07 04 00 00
 #[test]
 fn places_of_a_satellite(rt: HostRuntime) -> Result<(), Fail> {
     let lines = PLACES.replace(rt.alloc(), "\n", "\n\n\n\n\n\n\n\n")?;
-    let mut text = String::new(rt.alloc());
-    text.push_str(
-        "     3.05           N: GNSS NAV DATA    G                   RINEX VERSION / TYPE\n",
-    )?;
-    text.push_str("                                                            END OF HEADER\n")?;
-    text.push_str(lines.as_str())?;
-    text.push_str("E05\n")?;
+    let text = changed(rt.alloc(), BODY, "!", lines.as_str())?;
     let nav = records(rt.alloc(), text.as_str())?;
     assert_eq!(rt; nav.count(), 5);
     let systems: [(u8, u8, &[u32]); 4] = [
@@ -421,7 +414,11 @@ fn decimal(rt: &impl Abort, digits: i64, ten: i64) -> Decimal {
     Decimal { digits, ten }
 }
 
-/// A time in ps.
+fn in_ps(seconds: i64) -> i128 {
+    i128::from(seconds) * 1_000_000_000_000
+}
+
+/// A time in ps, where it is one of the times of records.
 fn time(rt: &impl Abort, seconds: i64) -> i128
     ensures from { pos 0 ≤ℤ result }
     ensures under { result <ℤ pos 4000000000000000000000 }
@@ -514,10 +511,10 @@ fn weeks_and_ages(rt: HostRuntime) -> Result<(), Fail> {
         fields[10] = decimal(&rt, number(&rt, words.next()), 0);
         let record = record(&rt, toc, fields);
         let elements = record.elements().ok().ok_or("outside")?;
-        let week = i128::from(number(&rt, words.next())) * 1_000_000_000_000;
+        let week = in_ps(number(&rt, words.next()));
         assert_eq!(rt; elements.week_start, week, "{row}");
         let tag = time(&rt, number(&rt, words.next()));
-        let age = i128::from(number(&rt, words.next())) * 1_000_000_000_000;
+        let age = in_ps(number(&rt, words.next()));
         assert_eq!(rt; record.age(tag), Some(age), "{row}");
     }
     Ok(())

@@ -3,7 +3,7 @@ use exact_decimal::Decimal;
 use rinex_obs::{Obs, read_obs};
 use rinex_text::ReadError;
 use sat_model::{Pos, Signal};
-use std::alloc::{AllocError, Global};
+use std::alloc::Global;
 use std::process::Abort;
 use std::test::Fail;
 

@@ -1,7 +1,7 @@
 use crate::words::changed;
 use error_bounds::{Centre, Settings, SettingsError, read_settings};
 use sat_model::{Pos, Sat, Signal};
-use std::alloc::{AllocError, Global};
+use std::alloc::Global;
 use std::process::Abort;
 use std::test::Fail;
 

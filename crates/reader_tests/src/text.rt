@@ -2,7 +2,7 @@ use crate::words::changed;
 use rinex_text::{
     Body, Lines, behind_header, behind_version, column, columns, gps_ps, is_printable_text,
 };
-use std::alloc::{AllocError, Global};
+use std::alloc::Global;
 use std::process::Abort;
 use std::test::Fail;
 
@@ -60,7 +60,11 @@ fn fault(text: &str) -> (i128, i128) {
     if bytes.len() > 4_000_000_000 {
         return (-1, 0);
     }
-    match behind_version(bytes, b'N').and_then(behind_header) {
+    let behind = match behind_version(bytes, b'N') {
+        Ok(lines) => behind_header(lines),
+        Err(refusal) => Err(refusal),
+    };
+    match behind {
         Ok(behind) => (0, i128::from(behind.number)),
         Err(refusal) => (i128::from(refusal.number), i128::from(refusal.line)),
     }
