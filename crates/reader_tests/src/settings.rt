@@ -1,8 +1,7 @@
-use crate::words::changed;
+use crate::words::{changed, number};
 use error_bounds::{Centre, Settings, SettingsError, read_settings};
 use sat_model::{Pos, Sat, Signal};
 use std::alloc::Global;
-use std::process::Abort;
 use std::test::Fail;
 
 /// Settings without a fault.
@@ -105,12 +104,21 @@ fn settings(alloc: Global, text: &str) -> Result<Settings, Fail> {
     Ok(read_settings(alloc, text.as_bytes()).ok().ok_or("refused")?)
 }
 
+/// Whether it is this fault.
+fn is_refusal(error: &SettingsError, number: i64, key: &str) -> bool {
+    match error {
+        SettingsError::Refused(fault) => {
+            i64::from(fault.number) == number && fault.key.as_str() == key
+        }
+        SettingsError::NoMemory => false,
+    }
+}
+
 /// Whether the bytes have this first fault, none where the number is 0.
-fn has_fault(alloc: Global, bytes: &[u8], number: u8, key: &str) -> bool {
+fn has_fault(alloc: Global, bytes: &[u8], number: i64, key: &str) -> bool {
     match read_settings(alloc, bytes) {
         Ok(_) => number == 0,
-        Err(SettingsError::Refused(fault)) => fault.number == number && fault.key.as_str() == key,
-        Err(SettingsError::NoMemory) => false,
+        Err(error) => is_refusal(&error, number, key),
     }
 }
 
@@ -118,19 +126,13 @@ fn has_fault(alloc: Global, bytes: &[u8], number: u8, key: &str) -> bool {
 fn first_faults(rt: HostRuntime) -> Result<(), Fail> {
     for row in CHANGES.lines() {
         let mut fields = row.split('|');
-        let number = fields
-            .next()
-            .expect(&rt, "a number")
-            .parse()
-            .expect(&rt, "a number");
+        let told = number(&rt, fields.next());
         let key = fields.next().expect(&rt, "a key");
         let old = fields.next().expect(&rt, "a text");
         let new = fields.next().expect(&rt, "a text");
         let text = changed(rt.alloc(), FILE, old, new)?;
-        assert!(rt;
-            has_fault(rt.alloc(), text.as_bytes(), number, key),
-            "{row}"
-        );
+        let is_told = has_fault(rt.alloc(), text.as_bytes(), told, key);
+        assert!(rt; is_told, "{row}");
     }
     // A comment that isn't UTF-8.
     assert!(rt; has_fault(rt.alloc(), b"#\xff\n", 30, ""));
