@@ -1,3 +1,5 @@
+//! Navigation files with one thing changed, a mixed one, and records of which one number is set.
+
 ghost use Rattle.std.specs.Prelude.{pos, ◌≤ℤ◌, ◌<ℤ◌, ◌<◌};
 
 use crate::words::{changed, number};
@@ -47,6 +49,7 @@ const CHANGES: &str = "0|0|VERSION / TYPE|VERSION / TYPE
 0|0|     4|     x
 0|0|     8.000000000000D+00 0.000000000000D+00|     8.000000000000D+00 0.000000000000D+00 x
 0|0|     1.000000000000D+01|     never read
+0|0|     1.000000000000D+01|     1.000000000000D+01@R02 2024 01 07 00 15 00\t@     \t@@E11@     x
 0|0|     6.000000000000D+00 0.000000000000D+00 0.000000000000D+00 1.500000000000D+00|
 0|0|     7.000000000000D+00|     0.7e1             
 0|0|     7.000000000000D+00|     0.7d+1            

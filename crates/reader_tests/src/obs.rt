@@ -1,3 +1,5 @@
+//! Observation files with one thing changed, and a mixed one.
+
 use crate::words::{changed, number};
 use exact_decimal::Decimal;
 use rinex_obs::{Obs, read_obs};

@@ -1,3 +1,5 @@
+//! Settings with one thing changed, and settings of either mode.
+
 use crate::words::{changed, number};
 use error_bounds::{Centre, Settings, SettingsError, read_settings};
 use sat_model::{Pos, Sat, Signal};
@@ -116,9 +118,9 @@ fn is_refusal(error: &SettingsError, number: i64, key: &str) -> bool {
 
 /// Whether the bytes have this first fault, none where the number is 0.
 fn has_fault(alloc: Global, bytes: &[u8], number: i64, key: &str) -> bool {
-    match read_settings(alloc, bytes) {
-        Ok(_) => number == 0,
-        Err(error) => is_refusal(&error, number, key),
+    match read_settings(alloc, bytes).err() {
+        None => number == 0,
+        Some(error) => is_refusal(&error, number, key),
     }
 }
 

@@ -1,3 +1,5 @@
+//! Headers with one thing changed, lines, columns and dates.
+
 use crate::words::changed;
 use rinex_text::{
     Body, Lines, behind_header, behind_version, column, columns, gps_ps, is_printable_text,
