@@ -1,4 +1,5 @@
 pub mod Usability
+pub mod Measured
 pub mod Chains
 pub mod OwnRows
 pub mod Fitting
