@@ -1,5 +1,6 @@
 pub mod Usability
 pub mod Measured
+pub mod Answers
 pub mod Chains
 pub mod OwnRows
 pub mod Fitting

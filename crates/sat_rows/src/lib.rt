@@ -2,6 +2,7 @@
 //! satellite at every grid point of the search box, or why the satellite isn't used.
 #![tactic(auto)]
 
+mod choice;
 mod codes;
 mod lines;
 mod source;
