@@ -3,6 +3,7 @@ use Rattle.std.proofs.Common.{◌≡◌, ℕ, arith, ap, ◌∙◌, sym, subst}
 use Rattle.std.specs.Prelude.{ℤ, pos, neg_ℤ, ◌+ℤ◌, ◌-ℤ◌, ◌*ℤ◌, ◌≤ℤ◌, ◌<ℤ◌}
 use Rattle.std.proofs.lemmas.Int.{ints}
 use Rattle.std.proofs.Math.Dec.{T_prop}
+use mathlib.Core.Path.{PathP}
 use mathlib.Core.HLevel.{is_prop→PathP}
 use Rattle.exact_decimal.specs.declared.decimal.Decimal.{Decimal}
 use Rattle.exact_decimal.specs.declared.unit.Unit.{Unit}

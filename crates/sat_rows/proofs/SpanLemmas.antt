@@ -7,19 +7,22 @@ use Rattle.broadcast_orbit.proofs.PairLemmas.{square_natural, side_within}
 use Rattle.earth_rotation.specs.Places.{PlaceEnds}
 use Rattle.earth_rotation.specs.TurnSizes.{near_reach, narrow_width}
 use Rattle.fix_interval.specs.declared.place.Place.{Place}
-use Rattle.fix_interval.specs.Factors.{Holds}
+use Rattle.fix_interval.specs.declared.exact.Exact.{Exact}
+use Rattle.fix_interval.specs.Factors.{Holds, HasEnds}
 use Rattle.fix_interval.proofs.NearLemmas.{near_exists}
 use Rattle.pseudorange_prep.specs.Ranges.{IsCode, IsNarrow}
 use Rattle.sat_clock.specs.ClockSizes.{IsNearEphemeris, sent_reach}
-use Rattle.sat_model.specs.Boxes.{GridBox}
 use Rattle.sat_model.specs.Intervals.{Between, Ends}
-use Rattle.sat_model.specs.Lengths.{longest_length, spare_of}
 use Rattle.sat_model.specs.Pseudorange.{IsRangeWith, IsIonosphereFree}
 use Rattle.sat_model.specs.Rounding.{Near}
-use Rattle.sat_model.specs.Sizes.{IsWithin}
+use Rattle.sat_model.specs.Sizes.{IsWithin, IsPlaceSize}
 use Rattle.sat_model.specs.declared.elements.Elements.{Elements}
+use Rattle.sat_model.specs.declared.spans.Span.{Span}
 use Rattle.sat_model.specs.declared.spans.Wide.{Wide}
 use Rattle.sat_model.proofs.IntervalLemmas.{low_member, high_member}
+use Rattle.sat_model.proofs.ProductLemmas.{larger}
+use Rattle.sat_rows.specs.Growth.{GrowsWithin}
+use Rattle.sat_rows.specs.OwnRows.{IsSmall}
 use Rattle.sat_rows.specs.RowSizes.{IsNearEpoch, IsNearOrbit, pseudorange_amount}
 use Rattle.sat_rows.specs.Usability.{IsPlausible}
 
@@ -91,13 +94,21 @@ orbit_ends at d x y z =
     let low = d at.x.lo at.y.lo at.z.lo (low_member _ _ at.x.ordered) (low_member _ _ at.y.ordered) (low_member _ _ at.z.ordered) in
     let high = d at.x.hi at.y.hi at.z.hi (high_member _ _ at.x.ordered) (high_member _ _ at.y.ordered) (high_member _ _ at.z.ordered) in
     record {
-      x_ends = record { order = at.x.ordered; low = x_within _ _ _ low; high = x_within _ _ _ high; width = more _ _ x };
-      y_ends = record { order = at.y.ordered; low = y_within _ _ _ low; high = y_within _ _ _ high; width = more _ _ y };
-      z_ends = record { order = at.z.ordered; low = z_within _ _ _ low; high = z_within _ _ _ high; width = more _ _ z };
+      x_ends = record { order = at.x.ordered; low = x_within _ _ _ low; high = x_within _ _ _ high; width = more at.x.lo at.x.hi x };
+      y_ends = record { order = at.y.ordered; low = y_within _ _ _ low; high = y_within _ _ _ high; width = more at.y.lo at.y.hi y };
+      z_ends = record { order = at.z.ordered; low = z_within _ _ _ low; high = z_within _ _ _ high; width = more at.z.lo at.z.hi z };
     }
 
 -- ---- spans
 
--- fourteen is less than a row may be wide
-pub range_tight : (root : GridBox) (lo hi : ℤ) → (hi -ℤ lo) ≤ℤ pos 14 → (hi -ℤ lo) ≤ℤ pos (spare_of root)
-range_tight root lo hi h = omega (arith, ints)
+pub sent_width : (n : ℕ) (lo hi : ℤ) → Ends n 8 lo hi → IsNarrow 1008 lo hi
+sent_width n lo hi e = record { width = omega (arith, ints, e.width) }
+
+pub span_holds : (x : Exact) (span : Span) (n : ℤ) → span.lo ≡ x.lo → span.hi ≡ x.hi → Holds x n → Between span.lo span.hi n
+span_holds x span n e f h = rw (e, f) h
+
+pub span_small : (m n w : ℕ) (x : Exact) (span : Span) → span.lo ≡ x.lo → span.hi ≡ x.hi → m ≤ n → HasEnds m w x → IsSmall n span
+span_small m n w x span e f k h = record { lo = rw e (larger m n x.lo k h.low); hi = rw f (larger m n x.hi k h.high) }
+
+pub grown_within : (by : ℤ) (span grown : Span) → GrowsWithin by span → grown.lo ≡ span.lo -ℤ by → grown.hi ≡ span.hi +ℤ by → IsPlaceSize grown.lo × IsPlaceSize grown.hi
+grown_within by span grown g e f = (rw e g.low, rw f g.high)
