@@ -70,7 +70,14 @@ fn seen_by(codes: &Measured) -> Row {
         lo: -1_000,
         hi: 2_000,
     };
-    row_of(sat, WEEK_START + 70_000_000_000, codes, &circle(), err, &root)
+    row_of(
+        sat,
+        WEEK_START + 70_000_000_000,
+        codes,
+        &circle(),
+        err,
+        &root,
+    )
 }
 
 fn holds(span: Span, n: i64) -> bool {
@@ -91,7 +98,13 @@ fn a_satellite_overhead_with_one_code_and_with_two(rt: HostRuntime) {
         assert!(rt; -135_899_000 <= row.y.lo, "no farther");
         assert!(rt; row.y.hi <= -135_894_000, "no less far");
         assert!(rt; holds(row.z, 0), "over the equator");
-        assert_eq!(rt; row.err, Span { lo: -1_000, hi: 2_000 });
+        assert_eq!(rt;
+            row.err,
+            Span {
+                lo: -1_000,
+                hi: 2_000
+            }
+        );
     }
 }
 

@@ -32,7 +32,14 @@ fn span_of(x: Exact) -> Span
 
 /// The row of a satellite whose signal came at `tag` by the receiver's clock, in ps since 1980-01-06
 /// 00:00:00 GPS time: whatever the equations allow as seen from the points of the box.
-pub(crate) fn row_of(sat: Sat, tag: i128, codes: &Measured, el: &Elements, err: Span, root: &Box3) -> Row
+pub(crate) fn row_of(
+    sat: Sat,
+    tag: i128,
+    codes: &Measured,
+    el: &Elements,
+    err: Span,
+    root: &Box3,
+) -> Row
     requires tag_from { pos 0 ≤ℤ tag }
     requires tag_under { tag <ℤ pos time_bound }
     requires plausible { ArePlausible (codes_of codes.now) }
