@@ -1,4 +1,8 @@
-ghost use Rattle.std.specs.Prelude.{◌≡◌};
+ghost use Rattle.std.specs.Prelude.{◌≡◌, pos, ◌+ℤ◌};
+ghost use Rattle.sat_rows.specs.Measured.{codes_of};
+ghost use Rattle.sat_rows.specs.OwnRows.{IsSmallRow};
+ghost use Rattle.sat_rows.specs.RowSizes.{AreNarrow};
+ghost use Rattle.sat_rows.specs.Usability.{ArePlausible};
 
 use crate::codes::Measured;
 use crate::grown;
@@ -11,6 +15,12 @@ const WEEK_START: i128 = 1_388_620_800_000_000_000_000;
 /// 0.07 s of light, in um.
 const RANGE: i128 = 20_985_472_060_000;
 
+/// The error that is declared, in um.
+const ERROR: Span = Span {
+    lo: -1_000,
+    hi: 2_000,
+};
+
 /// A number that a field gives exactly.
 fn exact(x: i128) -> Wide
     ensures low { result.lo ≡ x }
@@ -20,7 +30,11 @@ fn exact(x: i128) -> Wide
 }
 
 /// A circle of 5,200^2 m over the equator, and a group delay of 10^-8 s.
-fn circle() -> Elements {
+fn circle() -> Elements
+    ensures start { result.week_start ≡ WEEK_START }
+    ensures low { result.toe_week.lo ≡ pos 0 }
+    ensures high { result.toe_week.hi ≡ pos 0 }
+{
     let zero = exact(0);
     Elements {
         toc: WEEK_START,
@@ -49,7 +63,11 @@ fn circle() -> Elements {
 }
 
 /// What was received 0.07 s after the ephemeris time, over a cube of 2 m round a point of the equator.
-fn seen_by(codes: &Measured) -> Row {
+fn seen_by(codes: &Measured) -> Row
+    requires plausible { ArePlausible (codes_of codes.now) }
+    requires narrow { AreNarrow (codes_of codes.now) }
+    ensures { IsSmallRow result }
+{
     let root = Box3 {
         lo: Pos {
             x: 6_378_136_000_000,
@@ -66,16 +84,12 @@ fn seen_by(codes: &Measured) -> Row {
         system: b'G',
         number: 1,
     };
-    let err = Span {
-        lo: -1_000,
-        hi: 2_000,
-    };
     row_of(
         sat,
         WEEK_START + 70_000_000_000,
         codes,
         &circle(),
-        err,
+        ERROR,
         &root,
     )
 }
@@ -86,25 +100,23 @@ fn holds(span: Span, n: i64) -> bool {
 
 #[test]
 fn a_satellite_overhead_with_one_code_and_with_two(rt: HostRuntime) {
-    // A group delay of 10 ns is taken off of one code alone: 2997924.58 um.
-    let rows = [
-        (seen_by(&Measured::Single(exact(RANGE))), 2_997_925),
-        (seen_by(&Measured::Dual(exact(RANGE), exact(RANGE))), 0),
-    ];
-    for (row, less) in rows {
-        assert!(rt; holds(row.range, 20_985_472_060_000 - less), "the range");
-        assert!(rt; holds(row.x, 27_039_999_999_658), "nearly as far");
-        assert!(rt; holds(row.y, -135_896_721), "136 m to the west");
-        assert!(rt; -135_899_000 <= row.y.lo, "no farther");
+    // A group delay of 10 ns is taken off of one code alone: the range is 2997924.58 um shorter, and
+    // the satellite has gone on by 18.7 um to the east.
+    let one = seen_by(&Measured::Single(exact(RANGE)));
+    assert!(rt;
+        holds(one.range, 20_985_472_060_000 - 2_997_925),
+        "the range by one"
+    );
+    assert!(rt; holds(one.y, -135_896_703), "the place by one");
+    let two = seen_by(&Measured::Dual(exact(RANGE), exact(RANGE)));
+    assert!(rt; holds(two.range, 20_985_472_060_000), "the range by two");
+    assert!(rt; holds(two.y, -135_896_721), "136 m to the west");
+    for row in [one, two] {
+        assert!(rt; holds(row.x, 27_039_999_999_658), "nearly as far as sent");
+        assert!(rt; -135_899_000 <= row.y.lo, "no farther to the west");
         assert!(rt; row.y.hi <= -135_894_000, "no less far");
         assert!(rt; holds(row.z, 0), "over the equator");
-        assert_eq!(rt;
-            row.err,
-            Span {
-                lo: -1_000,
-                hi: 2_000
-            }
-        );
+        assert_eq!(rt; row.err, ERROR, "the error");
     }
 }
 
