@@ -5,3 +5,5 @@ pub mod Chains
 pub mod OwnRows
 pub mod Fitting
 pub mod Sources
+pub mod RowSizes
+pub mod Growth

@@ -4,8 +4,15 @@
 
 mod choice;
 mod codes;
+mod growth;
 mod lines;
+mod places;
+mod signals;
 mod source;
+#[cfg(test)]
+mod span_tests;
+mod spans;
 
+pub use growth::grown;
 pub use lines::{EpochRows, SatLine};
 pub use source::RowSource;
