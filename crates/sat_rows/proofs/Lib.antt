@@ -1,3 +1,7 @@
 pub mod ElementLemmas
 pub mod ChainLemmas
 pub mod SpanLemmas
+pub mod CodeLemmas
+pub mod RecordLemmas
+pub mod ChoiceLemmas
+pub mod WalkLemmas

@@ -14,7 +14,7 @@ use sat_model::Elements;
 const PS_PER_S: i128 = 1_000_000_000_000;
 
 /// What the records give of a satellite.
-#[derive(Clone, Copy, Debug, PartialEq, Eq)]
+#[derive(Clone, Copy)]
 pub(crate) enum Choice {
     /// There is none.
     NoRecord,
@@ -65,19 +65,19 @@ impl Choice {
 }
 
 /// What the record of a satellite gives alone.
-fn alone(record: &NavRecord, epoch: &ObsEpoch, settings: &Settings) -> Choice
-    ensures { IsAlone settings.now.max_age epoch.now.tag record.now result }
+fn alone(one: &NavRecord, epoch: &ObsEpoch, settings: &Settings) -> Choice
+    ensures { IsAlone settings.now.max_age epoch.now.tag one.now result }
 {
-    if !record.healthy {
+    if !one.healthy {
         return Choice::Unhealthy;
     }
-    let Some(age) = record.age(epoch.tag) else {
+    let Some(age) = one.age(epoch.tag) else {
         return Choice::Old;
     };
     if age > i128::from(settings.max_age) * PS_PER_S {
         return Choice::Old;
     }
-    match record.elements() {
+    match one.elements() {
         Ok(elements) => Choice::Fit { age, elements },
         Err(field) => Choice::Unfit { age, field },
     }
@@ -86,16 +86,16 @@ fn alone(record: &NavRecord, epoch: &ObsEpoch, settings: &Settings) -> Choice
 /// What the records of the satellite give with one more.
 fn with_record(
     so_far: Choice,
-    record: &NavRecord,
+    one: &NavRecord,
     seen: &SatObs,
     epoch: &ObsEpoch,
     settings: &Settings,
 ) -> Choice
-    requires { record.now.sat ≡ seen.now.sat }
+    requires { one.now.sat ≡ seen.now.sat }
     ensures { (records : List NavRecord) → IsChoice (sighting records settings.now epoch.now.tag seen.now) so_far
-        → IsChoice (sighting (records ++ record.now ∷ []) settings.now epoch.now.tag seen.now) result }
+        → IsChoice (sighting (records ++ one.now ∷ []) settings.now epoch.now.tag seen.now) result }
 {
-    let later = alone(record, epoch, settings);
+    let later = alone(one, epoch, settings);
     if so_far.is_better(&later) {
         so_far
     } else {

@@ -24,7 +24,7 @@ pub(crate) enum Measured {
 }
 
 /// What the wanted codes of a satellite are.
-#[derive(Clone, Copy, Debug, PartialEq, Eq)]
+#[derive(Clone, Copy)]
 pub(crate) enum Reading {
     Missing,
     OutOfRange,
