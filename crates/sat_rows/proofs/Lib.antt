@@ -5,3 +5,4 @@ pub mod CodeLemmas
 pub mod RecordLemmas
 pub mod ChoiceLemmas
 pub mod WalkLemmas
+pub mod JudgementLemmas

@@ -10,11 +10,13 @@ use Rattle.sat_model.specs.Pseudorange.{Codes}
 use Rattle.sat_model.specs.declared.elements.Elements.{Elements}
 use Rattle.sat_model.specs.declared.satellites.Signal.{Signal}
 use Rattle.sat_rows.specs.Measured.{codes_of}
-use Rattle.sat_rows.specs.Usability.{Sighting, AreThere, HaveValue, ArePlausible, IsItsRecord, IsHealthy, IsFresh, IsFit, IsNearest}
+use Rattle.sat_rows.specs.Usability.{Sighting, AreThere, HaveValue, ArePlausible, IsItsRecord, IsHealthy, IsFresh, IsFit, IsNearest, IsUsable, IsSkip}
 use Rattle.sat_rows.specs.declared.choice.Choice.{Choice}
 use Rattle.sat_rows.specs.declared.choice.Choice.TheVariants.{NoRecord, Unhealthy, Old, Unfit, Fit}
 use Rattle.sat_rows.specs.declared.codes.Reading.{Reading}
 use Rattle.sat_rows.specs.declared.codes.Reading.TheVariants.{Missing, OutOfRange, Within}
+use Rattle.sat_rows.specs.declared.judging.Judgement.{Judgement}
+use Rattle.sat_rows.specs.declared.judging.Judgement.TheVariants.{Usable, Skipped}
 
 -- what the wanted codes of a satellite are
 abbrev pub IsReading : Signal → SatObs → Reading → Type 0
@@ -80,3 +82,15 @@ age_of (Fit age el) = age
 -- a choice is better than one from later in the file
 abbrev pub IsBetter : Choice → Choice → Type 0
 IsBetter a b = (passed_by b < passed_by a) ⊎ ((passed_by b ≡ passed_by a) × (age_of a <ℤ age_of b))
+
+-- ---- the judgement
+
+-- the satellite is usable, and known by these codes and elements
+pub record IsKnownBy (a : Sighting) (codes : Codes) (el : Elements) : Type 0 where
+  pub usable : IsUsable a
+  pub codes_are : usable.measured.codes ≡ codes
+  pub el_is : usable.el ≡ el
+
+abbrev pub IsJudgement : Sighting → Judgement → Type 0
+IsJudgement a (Usable codes el) = IsKnownBy a (codes_of codes) el
+IsJudgement a (Skipped skip) = IsSkip a skip

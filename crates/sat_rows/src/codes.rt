@@ -1,6 +1,6 @@
 //! The codes of a satellite.
 
-ghost use Rattle.std.specs.Prelude.{ℕ, List, ◌↔◌, IsTrue, IsNone, IfSome};
+ghost use Rattle.std.specs.Prelude.{ℕ, ◌≡◌, ◌↔◌, pos, ◌-ℤ◌, ◌*ℤ◌, List, IsTrue, IsNone, IfSome};
 ghost use Rattle.exact_decimal.specs.declared.unit.Unit.TheVariants.{Length};
 ghost use Rattle.rinex_nav.specs.ElementsOf.{IsRounded};
 ghost use Rattle.sat_model.specs.declared.satellites.Signal.TheVariants.{Single, Dual};
@@ -15,6 +15,10 @@ use sat_model::{Signal, Wide};
 /// The least and the greatest range that a signal of a GPS satellite is under way, in um.
 const LEAST_RANGE: i128 = 15_000_000_000_000;
 const GREATEST_RANGE: i128 = 40_000_000_000_000;
+
+/// The same of an ionosphere-free combination, times 2329.
+const LEAST_COMBINATION: i128 = 2329 * LEAST_RANGE;
+const GREATEST_COMBINATION: i128 = 2329 * GREATEST_RANGE;
 
 /// The codes of a satellite in whole um: one, or one on each of two frequencies.
 #[derive(Clone, Copy, Debug, PartialEq, Eq)]
@@ -86,7 +90,19 @@ fn is_combination_in_range(first: &Wide, second: &Wide) -> bool
     requires second { IsPlausible second.now.lo second.now.hi 1 }
     ensures { IsTrue result ↔ IsCombinationPlausible first.now second.now }
 {
-    let least = 5929 * first.lo - 3600 * second.hi;
-    let greatest = 5929 * first.hi - 3600 * second.lo;
-    2329 * LEAST_RANGE <= least && greatest <= 2329 * GREATEST_RANGE
+    let sum = combination(first, second);
+    LEAST_COMBINATION <= sum.lo && sum.hi <= GREATEST_COMBINATION
+}
+
+/// The least and the greatest ionosphere-free combination of two codes, in um, times 2329.
+fn combination(first: &Wide, second: &Wide) -> Wide
+    requires first { IsPlausible first.now.lo first.now.hi 1 }
+    requires second { IsPlausible second.now.lo second.now.hi 1 }
+    ensures least { result.lo ≡ (pos 5929 *ℤ first.now.lo) -ℤ (pos 3600 *ℤ second.now.hi) }
+    ensures greatest { result.hi ≡ (pos 5929 *ℤ first.now.hi) -ℤ (pos 3600 *ℤ second.now.lo) }
+{
+    Wide {
+        lo: 5929 * first.lo - 3600 * second.hi,
+        hi: 5929 * first.hi - 3600 * second.lo,
+    }
 }

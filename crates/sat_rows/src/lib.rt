@@ -5,6 +5,7 @@
 mod choice;
 mod codes;
 mod growth;
+mod judging;
 mod lines;
 mod places;
 mod signals;
