@@ -1,6 +1,7 @@
 -- A satellite is judged in one way, and a usable one is known by one value of its codes and elements.
 use Rattle.std.proofs.Common.{◌≡◌, ℕ, ◌<◌, ◌≤◌, arith, refl, sym, ap, subst, ◌∙◌, inl, inr, List, Some, None, slice_get}
 use Rattle.std.specs.Prelude.{ℤ, Option}
+use Rattle.std.proofs.Math.Nat.{eq-or-lt_of_le}
 use Rattle.std.proofs.lemmas.Int.{ints}
 use Rattle.std.proofs.lemmas.Option.{same_Some}
 use Rattle.exact_decimal.specs.declared.decimal.Decimal.{Decimal}
@@ -158,9 +159,10 @@ module _ (a : Sighting) where
       let up = not_later s t f g in
       let down = not_later t s g f in
       let number : s.number ≡ t.number = omega (arith, up, down) in
-      let field : s.field ≡ t.field = by_lt s.number 6
-          (λ (h : s.number < 6). no_field s f (omega arith) ∙ sym (no_field t g (omega (arith, number))))
-          (λ h. one_fit s.field t.field (lacks_fit s f (omega arith)) (lacks_fit t g (omega (arith, number)))) in
+      let field : s.field ≡ t.field = elim (eq-or-lt_of_le {n = s.number} {m = 6} (last_test s f)) [
+        | inl last ↦ one_fit s.field t.field (lacks_fit s f (omega (arith, last))) (lacks_fit t g (omega (arith, last, number)))
+        | inr less ↦ no_field s f (omega arith) ∙ sym (no_field t g (omega (arith, number)))
+      ] in
       λ i. record { number = number i; field = field i }
 
   pub judgement_one : (x y : Option Skip) → IsJudged a x → IsJudged a y → x ≡ y

@@ -6,3 +6,4 @@ pub mod RecordLemmas
 pub mod ChoiceLemmas
 pub mod WalkLemmas
 pub mod JudgementLemmas
+pub mod RowLemmas

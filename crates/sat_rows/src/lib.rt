@@ -4,6 +4,7 @@
 
 mod choice;
 mod codes;
+mod epochs;
 mod growth;
 mod judging;
 mod lines;
@@ -14,6 +15,7 @@ mod source;
 mod span_tests;
 mod spans;
 
+pub use epochs::rows;
 pub use growth::grown;
 pub use lines::{EpochRows, SatLine};
 pub use source::RowSource;
