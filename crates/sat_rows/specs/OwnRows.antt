@@ -1,0 +1,86 @@
+-- Rows that hold what the equations allow, for any source that says which satellites are usable and what is
+-- allowed of them.
+use Rattle.std.specs.Prelude.{ℕ, ◌+◌, ◌*◌, ◌^◌, ◌≡◌, ℤ, pos, ◌-ℤ◌, ◌≤ℤ◌, true, List, [], ◌∷◌, Option, None, Some}
+use Rattle.rinex_obs.specs.declared.obs.SatObs.{SatObs}
+use Rattle.sat_model.specs.Boxes.{GridBox, box_holds}
+use Rattle.sat_model.specs.Intervals.{Between}
+use Rattle.sat_model.specs.Lengths.{spare_of}
+use Rattle.sat_model.specs.Relaxed.{ends}
+use Rattle.sat_model.specs.Sizes.{IsWithin}
+use Rattle.sat_model.specs.declared.boxes.Pos.{Pos}
+use Rattle.sat_model.specs.declared.satellites.Row.{Row}
+use Rattle.sat_model.specs.declared.satellites.Sat.{Sat}
+use Rattle.sat_model.specs.declared.satellites.Skip.{Skip}
+use Rattle.sat_model.specs.declared.spans.Span.{Span}
+use Rattle.sat_rows.specs.Chains.{Chain}
+use Rattle.sat_rows.specs.declared.lines.SatLine.{SatLine}
+use Rattle.sat_rows.specs.declared.lines.SatLine.TheVariants.{Usable, Skipped}
+
+-- the row's spans hold the values
+pub record HoldsChain (row : Row) (c : Chain) : Type 0 where
+  pub x : Between row.x.lo row.x.hi c.x
+  pub y : Between row.y.lo row.y.hi c.y
+  pub z : Between row.z.lo row.z.hi c.z
+  pub corrected : Between row.range.lo row.range.hi c.corrected
+
+-- ... of whatever is allowed at the grid points of the root
+abbrev pub HoldsAllowed : (Pos → Chain → Type 0) → GridBox → Row → Type 0
+HoldsAllowed Allows root row = (p : Pos) (c : Chain) → box_holds root p ≡ true → Allows p c → HoldsChain row c
+
+-- a span is at most W wide
+abbrev pub IsTight : GridBox → Span → Type 0
+IsTight root span = (span.hi -ℤ span.lo) ≤ℤ pos (spare_of root)
+
+-- a row of a usable satellite over a root: it holds what is allowed, each span is at most W wide, and the
+-- error is the declared one
+pub record IsOwnRow (Allows : Pos → Chain → Type 0) (declared : ℤ × ℤ) (root : GridBox) (row : Row) : Type 0 where
+  pub holds : HoldsAllowed Allows root row
+  pub x : IsTight root row.x
+  pub y : IsTight root row.y
+  pub z : IsTight root row.z
+  pub range : IsTight root row.range
+  pub err : ends row.err ≡ declared
+
+module _ (IsJudged : SatObs → Option Skip → Type 0) (Allows : SatObs → Pos → Chain → Type 0) (declared : Sat → ℤ × ℤ) (root : GridBox) where
+  -- the line of a satellite: an own row where it is usable, else why it isn't
+  abbrev pub IsOwnLine : SatObs → SatLine → Type 0
+  IsOwnLine seen (Usable row) = (row.sat ≡ seen.sat) × IsJudged seen None × IsOwnRow (Allows seen) (declared seen.sat) root row
+  IsOwnLine seen (Skipped sat skip) = (sat ≡ seen.sat) × IsJudged seen (Some skip)
+
+  -- one for each satellite, in order
+  abbrev pub AreOwnLines : List SatObs → List SatLine → Type 0
+  AreOwnLines [] [] = Unit {0}
+  AreOwnLines [] (line ∷ lines) = ⊥
+  AreOwnLines (seen ∷ sats) [] = ⊥
+  AreOwnLines (seen ∷ sats) (line ∷ lines) = IsOwnLine seen line × AreOwnLines sats lines
+
+-- how many lines are of usable satellites
+abbrev pub usable_line : SatLine → ℕ
+usable_line (Usable row) = 1
+usable_line (Skipped sat skip) = 0
+
+abbrev pub usable_in : List SatLine → ℕ
+usable_in [] = 0
+usable_in (line ∷ lines) = usable_line line + usable_in lines
+
+-- ---- sizes: below those that a row may have, so that there is room to widen it
+
+pub record IsSmall (n : ℕ) (span : Span) : Type 0 where
+  pub lo : IsWithin n span.lo
+  pub hi : IsWithin n span.hi
+
+-- places and ranges are within 56,000 km, errors within 10 km, in um
+pub record IsSmallRow (row : Row) : Type 0 where
+  pub x : IsSmall (56 * 10 ^ 12) row.x
+  pub y : IsSmall (56 * 10 ^ 12) row.y
+  pub z : IsSmall (56 * 10 ^ 12) row.z
+  pub range : IsSmall (56 * 10 ^ 12) row.range
+  pub err : IsSmall (10 ^ 10) row.err
+
+abbrev pub IsSmallLine : SatLine → Type 0
+IsSmallLine (Usable row) = IsSmallRow row
+IsSmallLine (Skipped sat skip) = Unit {0}
+
+abbrev pub AreSmall : List SatLine → Type 0
+AreSmall [] = Unit {0}
+AreSmall (line ∷ lines) = IsSmallLine line × AreSmall lines

@@ -1,0 +1,21 @@
+//! The rows of an epoch's satellites: spans that hold whatever the equations of IS-GPS-200 allow of a
+//! satellite at every grid point of the search box, or why the satellite isn't used.
+#![tactic(auto)]
+
+mod choice;
+mod codes;
+mod epochs;
+mod growth;
+mod judging;
+mod lines;
+mod places;
+mod signals;
+mod source;
+#[cfg(test)]
+mod span_tests;
+mod spans;
+
+pub use epochs::rows;
+pub use growth::grown;
+pub use lines::{EpochRows, SatLine};
+pub use source::RowSource;

@@ -1,0 +1,17 @@
+//! What becomes of the satellites of an epoch.
+
+use sat_model::{Row, Sat, Skip};
+
+/// A satellite's row, or why it isn't used.
+#[derive(Clone, Copy, Debug, PartialEq, Eq)]
+pub enum SatLine {
+    Usable(Row),
+    Skipped { sat: Sat, skip: Skip },
+}
+
+/// One line for each satellite of an epoch, in its order, and how many are usable.
+#[derive(Debug, Drop)]
+pub struct EpochRows {
+    pub lines: Vec<SatLine>,
+    pub usable: u32,
+}
