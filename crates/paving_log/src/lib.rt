@@ -18,7 +18,7 @@ mod write;
 
 pub use entries::rows_among;
 pub use log::{Log, LogEpoch, LogError};
-pub use own_tests::{LineFault, own_fault};
+pub use own_tests::{LineFault, first_repeat, own_fault};
 pub use sat_model::SatEntry;
 pub use texts::{read_log, read_rows};
 pub use write::{Line, done_line, epoch_line, head_lines, root_line, sat_line, step_line};

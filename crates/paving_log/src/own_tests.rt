@@ -93,7 +93,7 @@ fn names(sats: &[SatEntry], sat: Sat) -> bool
 }
 
 /// The first line that names the satellite of a line before it.
-fn first_repeat(sats: &[SatEntry]) -> Option<usize>
+pub fn first_repeat(sats: &[SatEntry]) -> Option<usize>
     ensures { MatchOption result (NoneRepeats sats.now) (λ k. IsFirstRepeat sats.now k) }
 {
     for (k, entry) in sats.iter().enumerate() {

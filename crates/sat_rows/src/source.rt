@@ -3,6 +3,7 @@
 ghost use Rattle.std.specs.Prelude.{◌≡◌, ℕ, ℤ, Option, None, Some, IfOk};
 ghost use Rattle.rinex_obs.specs.declared.obs.SatObs.{SatObs};
 ghost use Rattle.sat_model.specs.Boxes.{grid_box};
+ghost use Rattle.sat_model.specs.Fitting.{range_to};
 ghost use Rattle.sat_model.specs.declared.boxes.Pos.{Pos};
 ghost use Rattle.sat_model.specs.declared.satellites.Sat.{Sat};
 ghost use Rattle.sat_model.specs.declared.satellites.Skip.{Skip};
@@ -41,4 +42,8 @@ pub trait RowSource {
     /// Something is allowed of a usable satellite at each point.
     ghost allowed_exists: { (source : Self) (tag : ℤ) (seen : SatObs) (p : Pos)
         → judged source tag seen None → (c : Chain) × allows source tag seen p c };
+
+    /// The range of what is allowed is that from the point to the place.
+    ghost range_is: { (source : Self) (tag : ℤ) (seen : SatObs) (p : Pos) (c : Chain)
+        → allows source tag seen p c → c.range ≡ range_to c.x c.y c.z p };
 }

@@ -1,0 +1,90 @@
+-- The tests of one block of a log against the lines that the files give for its epoch, but for those of its
+-- place among the epochs (50 and 51).
+use Rattle.std.specs.Prelude.{◌≡◌, ◌≢◌, ℕ, ◌+◌, ◌<◌, ◌≤◌, ◌⊎◌, List, length, Option, None, Some}
+use Rattle.sat_model.specs.Boxes.{GridBox}
+use Rattle.sat_model.specs.Fold.{first_stage}
+use Rattle.sat_model.specs.Logs.{Block, rows_of}
+use Rattle.sat_model.specs.Verdicts.{CountsRows, StepsPass, StepsFail}
+use Rattle.sat_model.specs.declared.rules.Rules.{Rules}
+use Rattle.sat_rows.specs.OwnRows.{usable_in}
+use Rattle.sat_rows.specs.declared.lines.SatLine.{SatLine}
+use Rattle.paving_log_check.specs.Answers.{ShowsNoSpans}
+use Rattle.paving_log_check.specs.Lines.{expected, SatsPass, SatsFail}
+use Rattle.paving_log_check.specs.declared.verdict.Fault.{Fault}
+
+-- the number of the first line is that of the block's rows, unless it is a block of few, and that of the
+-- satellites that are usable
+pub record Counts (own : List SatLine) (block : Block) : Type 0 where
+  pub rows : CountsRows block.few block.n block.sats
+  pub usable : block.n ≡ usable_in own
+
+-- none of the expected lines is missing behind those of the block
+abbrev pub IsWhole : List SatLine → Block → Type 0
+IsWhole own block = length (expected block.few own) ≤ length block.sats
+
+-- the root is the given one, and the steps pass by the block's own rows
+abbrev pub BodyPassesAt : Rules → GridBox → Block → Option GridBox → Type 0
+BodyPassesAt rules root block None = Unit {0}
+BodyPassesAt rules root block (Some theirs) =
+    (theirs ≡ root) × StepsPass (rows_of block.sats) rules block.done (first_stage root) block.steps
+
+-- no test fails
+pub record EpochPasses (rules : Rules) (root : GridBox) (own : List SatLine) (block : Block) : Type 0 where
+  pub counts : Counts own block
+  pub sats : SatsPass block.sats (expected block.few own)
+  pub whole : IsWhole own block
+  pub body : BodyPassesAt rules root block block.root
+
+-- ---- what fails, each part behind those that pass
+
+pub record HeadDiffers (own : List SatLine) (block : Block) (fault : Fault) : Type 0 where
+  pub differs : Counts own block → ⊥
+  pub line : fault.line ≡ block.line
+  pub number : fault.number ≡ 52
+  pub no_spans : ShowsNoSpans fault
+
+pub record LineDiffers (own : List SatLine) (block : Block) (fault : Fault) : Type 0 where
+  pub counts : Counts own block
+  pub k : ℕ
+  pub fails : SatsFail block.sats (expected block.few own) k fault
+  pub line : fault.line ≡ block.line + 1 + k
+
+-- a line is missing: that is told at the line that stands in its place
+pub record LineMissing (own : List SatLine) (block : Block) (fault : Fault) : Type 0 where
+  pub counts : Counts own block
+  pub sats : SatsPass block.sats (expected block.few own)
+  pub missing : length block.sats < length (expected block.few own)
+  pub line : fault.line ≡ block.line + 1 + length block.sats
+  pub number : fault.number ≡ 52
+  pub no_spans : ShowsNoSpans fault
+
+-- the own lines pass, and the block has a root
+pub record LinesPass (own : List SatLine) (block : Block) (theirs : GridBox) : Type 0 where
+  pub counts : Counts own block
+  pub sats : SatsPass block.sats (expected block.few own)
+  pub whole : IsWhole own block
+  pub is_root : block.root ≡ Some theirs
+
+pub record RootDiffers (root : GridBox) (own : List SatLine) (block : Block) (fault : Fault) : Type 0 where
+  pub theirs : GridBox
+  pub lines : LinesPass own block theirs
+  pub differs : theirs ≢ root
+  pub line : fault.line ≡ block.line + 1 + length block.sats
+  pub number : fault.number ≡ 55
+  pub no_spans : ShowsNoSpans fault
+
+pub record StepDiffers (rules : Rules) (root : GridBox) (own : List SatLine) (block : Block) (fault : Fault) : Type 0 where
+  pub lines : LinesPass own block root
+  pub k : ℕ
+  pub fails : StepsFail (rows_of block.sats) rules block.done (first_stage root) block.steps k fault.number
+  pub line : fault.line ≡ block.line + 2 + length block.sats + k
+  pub no_spans : ShowsNoSpans fault
+
+-- the first line that fails a test, and the least number of one on it
+abbrev pub EpochFails : Rules → GridBox → List SatLine → Block → Fault → Type 0
+EpochFails rules root own block fault =
+    HeadDiffers own block fault
+    ⊎ (LineDiffers own block fault
+    ⊎ (LineMissing own block fault
+    ⊎ (RootDiffers root own block fault
+    ⊎ StepDiffers rules root own block fault)))
