@@ -2,8 +2,16 @@
 //! satellite at every grid point of the search box, or why the satellite isn't used.
 #![tactic(auto)]
 
+mod codes;
+mod growth;
 mod lines;
+mod places;
+mod signals;
 mod source;
+#[cfg(test)]
+mod span_tests;
+mod spans;
 
+pub use growth::grown;
 pub use lines::{EpochRows, SatLine};
 pub use source::RowSource;
