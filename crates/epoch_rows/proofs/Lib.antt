@@ -1,0 +1,6 @@
+pub mod SpareLemmas
+pub mod ApartLemmas
+pub mod LineLemmas
+pub mod BlockLemmas
+pub mod RowsLemmas
+pub mod PassLemmas
