@@ -4,12 +4,14 @@ use Rattle.std.specs.Prelude.{nat_le, ◌&&◌}
 use Rattle.std.specs.List.{filter, AllByRecursion}
 use Rattle.std.proofs.lemmas.Bool.{cond_both}
 use Rattle.std.proofs.lemmas.Grind.{common_steps}
-use Rattle.std.proofs.lemmas.List.{length-map}
+use Rattle.std.proofs.lemmas.List.{length-map, map-append}
 use Rattle.epoch_rows.specs.Grown.{IsGrownBlock, AreGrown}
 use Rattle.log_words.specs.Fields.{IsCountFromTo}
 use Rattle.paving_log.specs.declared.line.Form.TheVariants as form
+use Rattle.paving_log.specs.declared.log.LogEpoch.{LogEpoch}
 use Rattle.paving_log.specs.RowsText.{IsNumberedIn}
 use Rattle.paving_log.specs.Text.{block_lines, BlockFits}
+use Rattle.paving_log.specs.Values.{block_of}
 use Rattle.paving_log_check.specs.Admissible.{selected}
 use Rattle.rinex_obs.specs.Facts.{AreNumberedFrom, AreNumbered, AreGpsSats, InEach}
 use Rattle.rinex_obs.specs.Reading.{plain_epoch, plain_epochs}
@@ -21,6 +23,9 @@ use Rattle.sat_rows.specs.declared.lines.SatLine.{SatLine}
 all_more : (blocks : List Block) (block : Block) → AllByRecursion (BlockFits form.Rows) blocks → BlockFits form.Rows block → AllByRecursion (BlockFits form.Rows) (blocks ++ block ∷ [])
 all_more [] block fit one = (one, tt)
 all_more (first ∷ blocks) block fit one = (fit.0, all_more blocks block fit.1 one)
+
+pub one_more : (epochs more : List LogEpoch) (epoch : LogEpoch) → more ≡ epochs ++ epoch ∷ [] → map block_of more ≡ map block_of epochs ++ block_of epoch ∷ []
+one_more epochs more epoch is = ap (λ (es : List LogEpoch). map block_of es) is ∙ map-append block_of epochs (epoch ∷ [])
 
 -- ---- the epochs that are left
 
@@ -78,9 +83,6 @@ module _ (from to : ℕ) where
 
       pub gps_here : AreGpsSats epoch.sats.items
       gps_here = first_gps.0
-
-      pub line_here : line ≤ 13200003
-      line_here = omega (arith, u.room, one_less)
 
       pub with_block : (block : Block) (more : List Block) (next : ℕ) → is_selected epoch.index ≡ true → more ≡ blocks ++ block ∷ [] → IsGrownBlock AreOwn q root epoch block → BlockFits form.Rows block
           → block.line ≡ line → next ≡ line + length (block_lines form.Rows block) → length (block_lines form.Rows block) ≤ 66 → IsUnderway all (i + 1) more next
