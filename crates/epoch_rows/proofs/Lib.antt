@@ -4,3 +4,5 @@ pub mod LineLemmas
 pub mod BlockLemmas
 pub mod RowsLemmas
 pub mod PassLemmas
+pub mod AgreeLemmas
+pub mod AdmitLemmas
