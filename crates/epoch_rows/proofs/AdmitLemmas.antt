@@ -1,6 +1,8 @@
 -- A log that paves the rows of the selected epochs is admissible.
 use Rattle.std.proofs.Common.{◌≡◌, ℕ, zero, suc, ◌<◌, ◌≤◌, Bool, true, false, List, [], ◌∷◌, length, refl, sym, ap, subst, ◌∙◌, arith}
 use Rattle.std.specs.Prelude.{ℤ, pos, Option, None, Some, slice_get}
+use Rattle.std.proofs.lemmas.Grind.{common_steps}
+use Rattle.std.proofs.lemmas.Int.{ints}
 use Rattle.epoch_rows.specs.Grown.{AreGrownLines, skips_of, HasBody, IsGrownBlock, AreGrown}
 use Rattle.log_writer.specs.Pavings.{Paves, AllPave, IsPavingOf}
 use Rattle.paving_log_check.specs.Admissible.{AreSameRules, IsOf, IsDue, AdmitsFrom, Admits, Admissible, AreOwn}
@@ -8,10 +10,11 @@ use Rattle.paving_log_check.specs.Epochs.{IsWhole, BodyPassesAt, EpochPasses}
 use Rattle.paving_log_check.specs.Lines.{expected, IsSameLine, RowPasses, LinePasses, SatsPass}
 use Rattle.rinex_obs.specs.declared.obs.ObsEpoch.{ObsEpoch}
 use Rattle.rinex_obs.specs.declared.obs.SatObs.{SatObs}
-use Rattle.sat_model.specs.Boxes.{GridBox, box_holds}
+use Rattle.sat_model.specs.Boxes.{GridBox, grid_box, box_holds}
 use Rattle.sat_model.specs.Lengths.{spare_of}
 use Rattle.sat_model.specs.Logs.{Block, LogValue}
 use Rattle.sat_model.specs.Verdicts.{BodyPasses, BlockPasses, BlocksPass, NoneRepeats, Judged}
+use Rattle.sat_model.specs.declared.boxes.Box3.{Box3}
 use Rattle.sat_model.specs.declared.boxes.Pos.{Pos}
 use Rattle.sat_model.specs.declared.rules.Rules.{Rules}
 use Rattle.sat_model.specs.declared.satellites.Sat.{Sat}
@@ -122,3 +125,24 @@ module _ (IsJudged : ℤ → SatObs → Option Skip → Type 0) (Allows : ℤ �
         same_rules = rw is (record { outliers = refl; bisections = refl; width = refl });
         blocks = admits_from None epochs rows.blocks log.blocks grown (rw same at paves.blocks) (rw is at judged) owns are;
       }
+
+  -- the own lines that the rows were made of
+  owns_of : (epochs : List ObsEpoch) (rows : List Block) → AreGrown (OwnLines IsJudged Allows declared root) rules.outliers root epochs rows
+      → (owns : List (List SatLine)) × AreOwn IsJudged Allows declared root epochs owns × (length owns ≡ length epochs)
+  owns_of [] [] grown = ([], tt, refl)
+  owns_of [] (given ∷ rows) grown = absurd grown
+  owns_of (seen ∷ epochs) [] grown = absurd grown
+  owns_of (seen ∷ epochs) (given ∷ rows) grown =
+      let (owns, are, each) = owns_of epochs rows grown.1 in
+      (grown.0.own ∷ owns, (grown.0.are_own, are), ap suc each)
+
+  -- and it is admissible for own lines of each epoch
+  pub solved_admissible : (epochs : List ObsEpoch) (rows log : LogValue) → rows.rules ≡ rules → AreGrown (OwnLines IsJudged Allows declared root) rules.outliers root epochs rows.blocks → IsPavingOf rows log → Judged log
+      → (owns : List (List SatLine)) × AreOwn IsJudged Allows declared root epochs owns × Admissible epochs owns rules root log
+  solved_admissible epochs rows log same grown paves judged =
+      let (owns, are, each) = owns_of epochs rows.blocks grown in
+      (owns, are, record { each = each; admits = solved_admits epochs rows log same grown paves judged owns are })
+
+-- a root has a point: its low corner
+pub has_corner : (root : Box3) → box_holds (grid_box root) root.lo ≡ true
+has_corner root = grind (arith, ints, common_steps, root.x_ordered, root.y_ordered, root.z_ordered)

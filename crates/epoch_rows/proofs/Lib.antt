@@ -6,3 +6,4 @@ pub mod RowsLemmas
 pub mod PassLemmas
 pub mod AgreeLemmas
 pub mod AdmitLemmas
+pub mod SkipLemmas
