@@ -18,7 +18,9 @@ mod write;
 
 pub use entries::rows_among;
 pub use log::{Log, LogEpoch, LogError};
-pub use own_tests::{LineFault, first_repeat, own_fault};
+pub use own_tests::{
+    EPOCH_DIFFERS, LineFault, SATELLITE_DIFFERS, first_repeat, is_later, own_fault, rows_in, suits,
+};
 pub use sat_model::SatEntry;
 pub use texts::{read_log, read_rows};
 pub use write::{Line, done_line, epoch_line, head_lines, root_line, sat_line, step_line};

@@ -24,7 +24,7 @@ pub struct LineFault {
 }
 
 /// Whether an index is greater than that of the block before.
-fn is_later(before: Option<u32>, index: u32) -> bool
+pub fn is_later(before: Option<u32>, index: u32) -> bool
     ensures { IsTrue result ↔ IsLater before index }
 {
     match before {
@@ -34,7 +34,7 @@ fn is_later(before: Option<u32>, index: u32) -> bool
 }
 
 /// Whether a block, of few satellites or not, may have so many.
-fn suits(few: bool, q: u8, n: u32) -> bool
+pub fn suits(few: bool, q: u8, n: u32) -> bool
     ensures { IsTrue result ↔ SuitsNumber few q n }
 {
     let enough = u32::from(q) + 4;
@@ -50,7 +50,7 @@ fn is_row(entry: &SatEntry) -> bool
 
 /// How many satellite lines have a row.
 #[tactic(auto, using(crate::proofs::OwnLemmas::count_rows))]
-fn rows_in(sats: &[SatEntry]) -> usize
+pub fn rows_in(sats: &[SatEntry]) -> usize
     ensures { result ≡ length (rows_of sats.now) }
 {
     sats.iter().filter(|entry| is_row(entry)).count()

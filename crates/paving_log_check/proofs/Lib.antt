@@ -3,3 +3,9 @@ pub mod CutLemmas
 pub mod StageLemmas
 pub mod StepLemmas
 pub mod BlockLemmas
+pub mod SatLineLemmas
+pub mod EpochLemmas
+pub mod FirstFaultLemmas
+pub mod FitLemmas
+pub mod PlaceLemmas
+pub mod CheckLemmas

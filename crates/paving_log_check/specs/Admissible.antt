@@ -1,6 +1,6 @@
 -- A log against the files: what it has to be where own lines are given for the first of the selected epochs,
 -- and the first line that fails a test.
-use Rattle.std.specs.Prelude.{◌≡◌, ℕ, ◌+◌, ◌⊎◌, ℤ, ◌&&◌, nat_le, List, [], ◌∷◌, length, Option, None, Some}
+use Rattle.std.specs.Prelude.{◌≡◌, ℕ, ◌+◌, ◌⊎◌, ℤ, Bool, ◌&&◌, nat_le, List, [], ◌∷◌, length, Option, None, Some}
 use Rattle.std.specs.List.{filter}
 use Rattle.rinex_obs.specs.declared.obs.ObsEpoch.{ObsEpoch}
 use Rattle.rinex_obs.specs.declared.obs.SatObs.{SatObs}
@@ -18,9 +18,12 @@ use Rattle.paving_log_check.specs.Answers.{ShowsNoSpans}
 use Rattle.paving_log_check.specs.Epochs.{EpochPasses, EpochFails}
 use Rattle.paving_log_check.specs.declared.verdict.Fault.{Fault}
 
--- the epochs whose index is from the one number to the other
+-- the epoch's index is from the one number to the other
+abbrev pub is_selected : ℕ → ℕ → ObsEpoch → Bool
+is_selected from to seen = nat_le from seen.index && nat_le seen.index to
+
 abbrev pub selected : ℕ → ℕ → List ObsEpoch → List ObsEpoch
-selected from to epochs = filter (λ seen. nat_le from seen.index && nat_le seen.index to) epochs
+selected from to epochs = filter (is_selected from to) epochs
 
 -- ---- the rules
 

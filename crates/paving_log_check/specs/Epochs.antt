@@ -58,33 +58,33 @@ pub record LineMissing (own : List SatLine) (block : Block) (fault : Fault) : Ty
   pub number : fault.number ≡ 52
   pub no_spans : ShowsNoSpans fault
 
--- the own lines pass, and the block has a root
-pub record LinesPass (own : List SatLine) (block : Block) (theirs : GridBox) : Type 0 where
-  pub counts : Counts own block
-  pub sats : SatsPass block.sats (expected block.few own)
-  pub whole : IsWhole own block
-  pub is_root : block.root ≡ Some theirs
-
-pub record RootDiffers (root : GridBox) (own : List SatLine) (block : Block) (fault : Fault) : Type 0 where
-  pub theirs : GridBox
-  pub lines : LinesPass own block theirs
+-- the root isn't the given one
+pub record RootDiffers (root : GridBox) (block : Block) (theirs : GridBox) (fault : Fault) : Type 0 where
   pub differs : theirs ≢ root
   pub line : fault.line ≡ block.line + 1 + length block.sats
   pub number : fault.number ≡ 55
   pub no_spans : ShowsNoSpans fault
 
-pub record StepDiffers (rules : Rules) (root : GridBox) (own : List SatLine) (block : Block) (fault : Fault) : Type 0 where
-  pub lines : LinesPass own block root
+-- it is, and this is the first fault of the steps
+pub record StepDiffers (rules : Rules) (root : GridBox) (block : Block) (theirs : GridBox) (fault : Fault) : Type 0 where
+  pub same : theirs ≡ root
   pub k : ℕ
   pub fails : StepsFail (rows_of block.sats) rules block.done (first_stage root) block.steps k fault.number
   pub line : fault.line ≡ block.line + 2 + length block.sats + k
   pub no_spans : ShowsNoSpans fault
 
+abbrev pub BodyFailsAt : Rules → GridBox → Block → GridBox → Fault → Type 0
+BodyFailsAt rules root block theirs fault = RootDiffers root block theirs fault ⊎ StepDiffers rules root block theirs fault
+
+pub record BodyDiffers (rules : Rules) (root : GridBox) (own : List SatLine) (block : Block) (fault : Fault) : Type 0 where
+  pub counts : Counts own block
+  pub sats : SatsPass block.sats (expected block.few own)
+  pub whole : IsWhole own block
+  pub theirs : GridBox
+  pub is_root : block.root ≡ Some theirs
+  pub fails : BodyFailsAt rules root block theirs fault
+
 -- the first line that fails a test, and the least number of one on it
 abbrev pub EpochFails : Rules → GridBox → List SatLine → Block → Fault → Type 0
 EpochFails rules root own block fault =
-    HeadDiffers own block fault
-    ⊎ (LineDiffers own block fault
-    ⊎ (LineMissing own block fault
-    ⊎ (RootDiffers root own block fault
-    ⊎ StepDiffers rules root own block fault)))
+    HeadDiffers own block fault ⊎ (LineDiffers own block fault ⊎ (LineMissing own block fault ⊎ BodyDiffers rules root own block fault))

@@ -1,5 +1,19 @@
-//! The numbers of the tests of steps.
+//! The numbers of the tests, and faults that show no spans.
 
+ghost use Rattle.std.specs.Prelude.{◌≡◌};
+ghost use Rattle.paving_log_check.specs.Answers.{ShowsNoSpans};
+
+use crate::verdict::Fault;
+use sat_model::Span;
+
+/// A log's rules aren't those of the settings.
+pub const RULES_DIFFER: u8 = 50;
+/// A row's span doesn't hold the checker's own one.
+pub const ROW_NARROW: u8 = 53;
+/// A row's error isn't the declared one.
+pub const BOUND_DIFFERS: u8 = 54;
+/// The root isn't the one that is given.
+pub const ROOT_DIFFERS: u8 = 55;
 /// A step's box isn't live.
 pub const NOT_LIVE: u8 = 56;
 /// A cut takes nothing, leaves nothing, or takes a slab that isn't shown empty.
@@ -18,3 +32,17 @@ pub const OVER_BUDGET: u8 = 62;
 pub const NOT_CLOSED: u8 = 63;
 /// The number of splits isn't the one that is said.
 pub const COUNT_DIFFERS: u8 = 64;
+
+/// A fault that shows no spans.
+pub(crate) fn plain_fault(line: u32, number: u8) -> Fault
+    ensures line { result.line ≡ line }
+    ensures number { result.number ≡ number }
+    ensures no_spans { ShowsNoSpans result }
+{
+    Fault {
+        number,
+        line,
+        theirs: Span { lo: 0, hi: 0 },
+        ours: Span { lo: 0, hi: 0 },
+    }
+}

@@ -1,15 +1,21 @@
-//! Judges a log: whether its steps show what it claims, and else the first line that fails a test.
+//! Judges a log: whether its steps show what it claims, and else the first line that fails a test; and checks
+//! it against files in the same way.
 #![tactic(auto)]
 
 mod blocks;
 mod claims;
 mod cuts;
+mod epochs;
 mod faults;
+mod files;
 mod live;
 mod logs;
+mod sat_lines;
 mod steps;
 mod verdict;
 
+pub use epochs::check_epoch;
+pub use files::check_with;
 pub use logs::judge;
 pub use verdict::{Fault, Verdict};
 

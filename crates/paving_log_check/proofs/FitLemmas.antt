@@ -1,0 +1,269 @@
+-- Rows that hold own rows keep what fits the satellites, and what surely fits the rows fits the satellites.
+use Rattle.std.proofs.Common.{◌≡◌, ◌⊎◌, ℕ, zero, suc, ◌+◌, ◌<◌, ◌≤◌, arith, Bool, true, false, cond, List, [], ◌∷◌, length, map, inl, inr, refl, sym, ap, ◌∙◌, Option, None, Some, count_by}
+use Rattle.std.specs.Prelude.{ℤ, pos, ◌-ℤ◌, ◌≤ℤ◌, slice_get, is_none}
+use Rattle.std.proofs.lemmas.Bool.{cases_Bool}
+use Rattle.std.proofs.lemmas.Int.{ints}
+use Rattle.std.proofs.lemmas.List.Sums.{sum_by-cons}
+use Rattle.rinex_obs.specs.declared.obs.ObsEpoch.{ObsEpoch}
+use Rattle.rinex_obs.specs.declared.obs.SatObs.{SatObs}
+use Rattle.sat_model.specs.Boxes.{GridBox, box_holds}
+use Rattle.sat_model.specs.declared.boxes.Box3.{Box3}
+use Rattle.sat_model.specs.Cover.{IsSureInside, AreSureInside, EpochCover}
+use Rattle.sat_model.specs.Fitting.{range_to, RowValue, error_of, IsAllowed, IsPossible, IsSure, AllBut}
+use Rattle.sat_model.specs.Fold.{ShownStep, pieces}
+use Rattle.sat_model.specs.Intervals.{Between}
+use Rattle.sat_model.specs.Logs.{Block, rows_of}
+use Rattle.sat_model.specs.Relaxed.{ends}
+use Rattle.sat_model.specs.declared.boxes.Pos.{Pos}
+use Rattle.sat_model.specs.declared.rules.Rules.{Rules}
+use Rattle.sat_model.specs.declared.satellites.Row.{Row}
+use Rattle.sat_model.specs.declared.satellites.Sat.{Sat}
+use Rattle.sat_model.specs.declared.satellites.SatEntry.{SatEntry}
+use Rattle.sat_model.specs.declared.satellites.SatEntry.TheVariants as entry
+use Rattle.sat_model.specs.declared.satellites.Skip.{Skip}
+use Rattle.sat_model.specs.declared.spans.Span.{Span}
+use Rattle.sat_model.specs.declared.steps.Step.{Step}
+use Rattle.sat_model.specs.declared.steps.Step.TheVariants.{Cut, Split, Outside, Inside, Edge}
+use Rattle.sat_model.proofs.CoverLemmas.{epoch_cover}
+use Rattle.sat_rows.specs.Chains.{Chain}
+use Rattle.sat_rows.specs.Fitting.{IsConsistent, Agrees, Fits}
+use Rattle.sat_rows.specs.OwnRows.{HoldsChain, IsOwnRow, IsOwnLine, AreOwnLines}
+use Rattle.sat_rows.specs.declared.lines.SatLine.{SatLine}
+use Rattle.sat_rows.specs.declared.lines.SatLine.TheVariants.{Usable, Skipped}
+use Rattle.paving_log.specs.Values.{block_of, box_option}
+use Rattle.paving_log.specs.declared.log.LogEpoch.{LogEpoch}
+use Rattle.paving_log_check.specs.Admissible.{AreOwn, AdmitsFrom}
+use Rattle.paving_log_check.specs.Epochs.{BodyPassesAt, EpochPasses}
+use Rattle.paving_log_check.specs.FileCover.{FitsInside, AllFitInside, FitCover, FitBlockCover, BlocksFitCover}
+use Rattle.paving_log_check.specs.Lines.{expected, IsSameLine, HoldsSpan, HoldsOwn, HasBound, RowPasses, LinePasses, SatsPass}
+
+-- ---- one row
+
+within : (theirs ours : Span) (n : ℤ) → HoldsSpan theirs ours → Between ours.lo ours.hi n → (theirs.lo ≤ℤ n) × (n ≤ℤ theirs.hi)
+within theirs ours n h k = (omega (arith, ints, h.lo, k.from), omega (arith, ints, h.hi, k.to))
+
+-- what the own row holds, the row holds
+value_of : (row ours : Row) (c : Chain) → HoldsOwn row ours → HoldsChain ours c → RowValue row
+value_of row ours c h k = record {
+  x = c.x;
+  y = c.y;
+  z = c.z;
+  measured = c.corrected;
+  x_in = within row.x ours.x c.x h.0 k.x;
+  y_in = within row.y ours.y c.y h.1.0 k.y;
+  z_in = within row.z ours.z c.z h.1.1.0 k.z;
+  measured_in = within row.range ours.range c.corrected h.1.1.1.0 k.corrected;
+}
+
+-- an error within the declared bounds is one that the row allows, and the other way round
+allowed : (row : Row) (d : ℤ × ℤ) (m b : ℤ) (r s : ℕ) → ends row.err ≡ d → r ≡ s → Between d.0 d.1 (m -ℤ pos r -ℤ b) → IsAllowed row (m -ℤ pos s -ℤ b)
+allowed row d m b r s e same k =
+    let lo : row.err.lo ≡ d.0 = ap (λ (x : ℤ × ℤ). x.0) e in
+    let hi : row.err.hi ≡ d.1 = ap (λ (x : ℤ × ℤ). x.1) e in
+    let moved : Between d.0 d.1 (m -ℤ pos s -ℤ b) = rw (sym same) k in
+    (rw lo moved.from, rw hi moved.to)
+
+declared_from : (row : Row) (d : ℤ × ℤ) (m b : ℤ) (r s : ℕ) → ends row.err ≡ d → r ≡ s → IsAllowed row (m -ℤ pos s -ℤ b) → Between d.0 d.1 (m -ℤ pos r -ℤ b)
+declared_from row d m b r s e same k =
+    let lo : d.0 ≡ row.err.lo = ap (λ (x : ℤ × ℤ). x.0) (sym e) in
+    let hi : d.1 ≡ row.err.hi = ap (λ (x : ℤ × ℤ). x.1) (sym e) in
+    rw same (record { from = rw lo k.0; to = rw hi k.1 })
+
+-- ---- the lines of a block against own lines, pair by pair
+
+abbrev AreFair : SatEntry → SatLine → Type 0
+AreFair theirs ours = IsSameLine theirs ours × RowPasses theirs ours
+
+abbrev AllFair : List SatEntry → List SatLine → Type 0
+AllFair [] [] = Unit {0}
+AllFair [] (ours ∷ lines) = ⊥
+AllFair (theirs ∷ sats) [] = ⊥
+AllFair (theirs ∷ sats) (ours ∷ lines) = AreFair theirs ours × AllFair sats lines
+
+record FairAt (sats : List SatEntry) (lines : List SatLine) (k : ℕ) : Type 0 where
+  pub theirs : SatEntry
+  pub theirs_at : slice_get sats k ≡ Some theirs
+  pub ours : SatLine
+  pub ours_at : slice_get lines k ≡ Some ours
+  pub fair : AreFair theirs ours
+
+same_one : {X : Type 0} (x y : X) → Some x ≡ Some y → x ≡ y
+same_one x y e = cc
+
+fair_pair : (a b : SatEntry) (c d : SatLine) → a ≡ b → c ≡ d → AreFair b d → AreFair a c
+fair_pair a b c d e f h = rw (e, f) h
+
+all_fair : (sats : List SatEntry) (lines : List SatLine) → length lines ≤ length sats → ((k : ℕ) → k < length sats → FairAt sats lines k) → AllFair sats lines
+all_fair [] [] short each = tt
+all_fair [] (ours ∷ lines) short each = absurd (omega arith)
+all_fair (theirs ∷ sats) [] short each = absurd (let first = (each 0 (omega arith)).ours_at in cc)
+all_fair (theirs ∷ sats) (ours ∷ lines) short each =
+    let first = each 0 (omega arith) in (
+      fair_pair theirs first.theirs ours first.ours (same_one theirs first.theirs first.theirs_at) (same_one ours first.ours first.ours_at) first.fair,
+      all_fair sats lines (omega arith) (λ k less.
+          let later = each (suc k) (omega arith) in
+          record { theirs = later.theirs; theirs_at = later.theirs_at; ours = later.ours; ours_at = later.ours_at; fair = later.fair }),
+    )
+
+fair_at : (sats : List SatEntry) (lines : List SatLine) → SatsPass sats lines → (k : ℕ) → k < length sats → FairAt sats lines k
+fair_at sats lines pass k less =
+    let p = pass k less in
+    record { theirs = p.is_expected.theirs; theirs_at = p.is_expected.theirs_at; ours = p.is_expected.ours; ours_at = p.is_expected.ours_at; fair = (p.is_expected.same, p.passes) }
+
+-- ---- all but q
+
+one_more : (q : ℕ) (Meets : Row → Type 0) (rows : List Row) → AllBut q Meets rows → AllBut (suc q) Meets rows
+one_more q Meets [] h = tt
+one_more zero Meets (row ∷ rows) h = inl (h.0, one_more zero Meets rows h.1)
+one_more (suc q) Meets (row ∷ rows) h = elim h [
+  | inl here ↦ inl (here.0, one_more (suc q) Meets rows here.1)
+  | inr later ↦ inr (one_more q Meets rows later)
+]
+
+module _ (IsJudged : SatObs → Option Skip → Type 0) (Allows : SatObs → Pos → Chain → Type 0) (declared : Sat → ℤ × ℤ) (root : GridBox)
+    (one : (seen : SatObs) (a b : Option Skip) → IsJudged seen a → IsJudged seen b → a ≡ b)
+    (exists : (seen : SatObs) (p : Pos) → IsJudged seen None → (c : Chain) × Allows seen p c)
+    (range_is : (seen : SatObs) (p : Pos) (c : Chain) → Allows seen p c → c.range ≡ range_to c.x c.y c.z p) where
+  possible : (row ours : Row) (seen : SatObs) (p : Pos) (b : ℤ) → HoldsOwn row ours → HasBound row ours → IsOwnRow (Allows seen) (declared seen.sat) root ours
+      → box_holds root p ≡ true → IsConsistent (Allows seen) (declared seen.sat) p b → IsPossible p b row
+  unfolding value_of
+  possible row ours seen p b holds bound own inside k = record {
+    value = value_of row ours k.values holds (own.holds p k.values inside k.are);
+    allowed = allowed row (declared seen.sat) k.values.corrected b k.values.range (range_to k.values.x k.values.y k.values.z p) (bound ∙ own.err)
+        (range_is seen p k.values k.are) k.within;
+  }
+
+  consistent : (row ours : Row) (seen : SatObs) (p : Pos) (b : ℤ) → HoldsOwn row ours → HasBound row ours → IsOwnRow (Allows seen) (declared seen.sat) root ours
+      → box_holds root p ≡ true → IsJudged seen None → IsSure p b row → IsConsistent (Allows seen) (declared seen.sat) p b
+  unfolding value_of
+  consistent row ours seen p b holds bound own inside usable sure =
+      let (c, are) = exists seen p usable in
+      let v = value_of row ours c holds (own.holds p c inside are) in
+      record {
+        values = c;
+        are = are;
+        within = declared_from row (declared seen.sat) c.corrected b c.range (range_to c.x c.y c.z p) (bound ∙ own.err) (range_is seen p c are) (sure v);
+      }
+
+  agrees_possible : (row ours : Row) (seen : SatObs) (p : Pos) (b : ℤ) → HoldsOwn row ours → HasBound row ours → IsOwnRow (Allows seen) (declared seen.sat) root ours
+      → box_holds root p ≡ true → IsJudged seen None → Agrees IsJudged Allows declared p b seen → IsPossible p b row
+  agrees_possible row ours seen p b holds bound own inside usable a = elim a [
+    | inl skipped ↦ absurd (let e = one seen None (Some skipped.0) usable skipped.1 in cc)
+    | inr k ↦ possible row ours seen p b holds bound own inside k
+  ]
+
+  possible_all : (q : ℕ) (p : Pos) (b : ℤ) (sats : List SatEntry) (lines : List SatLine) (seens : List SatObs) → AllFair sats lines
+      → AreOwnLines IsJudged Allows declared root seens lines → box_holds root p ≡ true → Fits IsJudged Allows declared q p b seens → AllBut q (IsPossible p b) (rows_of sats)
+  possible_all q p b [] lines seens fair own inside h = tt
+  possible_all q p b (theirs ∷ sats) [] seens fair own inside h = absurd fair
+  possible_all q p b (theirs ∷ sats) (ours ∷ lines) [] fair own inside h = absurd own
+  possible_all q p b (entry.Row row ∷ sats) (Skipped sat skip ∷ lines) (seen ∷ seens) fair own inside h = absurd fair.0.0
+  possible_all q p b (entry.Skipped sat skip ∷ sats) (Usable ours ∷ lines) (seen ∷ seens) fair own inside h = absurd fair.0.0
+  possible_all zero p b (entry.Row row ∷ sats) (Usable ours ∷ lines) (seen ∷ seens) fair own inside h =
+      (agrees_possible row ours seen p b fair.0.1.0 fair.0.1.1 own.0.2 inside own.0.1 h.0, possible_all zero p b sats lines seens fair.1 own.1 inside h.1)
+  possible_all (suc q) p b (entry.Row row ∷ sats) (Usable ours ∷ lines) (seen ∷ seens) fair own inside h = elim h [
+    | inl here ↦ inl (agrees_possible row ours seen p b fair.0.1.0 fair.0.1.1 own.0.2 inside own.0.1 here.0, possible_all (suc q) p b sats lines seens fair.1 own.1 inside here.1)
+    | inr later ↦ inr (possible_all q p b sats lines seens fair.1 own.1 inside later)
+  ]
+  possible_all zero p b (entry.Skipped sat skip ∷ sats) (Skipped other why ∷ lines) (seen ∷ seens) fair own inside h =
+      possible_all zero p b sats lines seens fair.1 own.1 inside h.1
+  possible_all (suc q) p b (entry.Skipped sat skip ∷ sats) (Skipped other why ∷ lines) (seen ∷ seens) fair own inside h = elim h [
+    | inl here ↦ possible_all (suc q) p b sats lines seens fair.1 own.1 inside here.1
+    | inr later ↦ one_more q (IsPossible p b) (rows_of sats) (possible_all q p b sats lines seens fair.1 own.1 inside later)
+  ]
+
+  fits_all : (q : ℕ) (p : Pos) (b : ℤ) (sats : List SatEntry) (lines : List SatLine) (seens : List SatObs) → AllFair sats lines
+      → AreOwnLines IsJudged Allows declared root seens lines → box_holds root p ≡ true → AllBut q (IsSure p b) (rows_of sats) → Fits IsJudged Allows declared q p b seens
+  fits_all q p b [] [] [] fair own inside h = tt
+  fits_all q p b [] [] (seen ∷ seens) fair own inside h = absurd own
+  fits_all q p b [] (ours ∷ lines) seens fair own inside h = absurd fair
+  fits_all q p b (theirs ∷ sats) [] seens fair own inside h = absurd fair
+  fits_all q p b (theirs ∷ sats) (ours ∷ lines) [] fair own inside h = absurd own
+  fits_all q p b (entry.Row row ∷ sats) (Skipped sat skip ∷ lines) (seen ∷ seens) fair own inside h = absurd fair.0.0
+  fits_all q p b (entry.Skipped sat skip ∷ sats) (Usable ours ∷ lines) (seen ∷ seens) fair own inside h = absurd fair.0.0
+  fits_all zero p b (entry.Row row ∷ sats) (Usable ours ∷ lines) (seen ∷ seens) fair own inside h =
+      (inr (consistent row ours seen p b fair.0.1.0 fair.0.1.1 own.0.2 inside own.0.1 h.0), fits_all zero p b sats lines seens fair.1 own.1 inside h.1)
+  fits_all (suc q) p b (entry.Row row ∷ sats) (Usable ours ∷ lines) (seen ∷ seens) fair own inside h = elim h [
+    | inl here ↦ inl (inr (consistent row ours seen p b fair.0.1.0 fair.0.1.1 own.0.2 inside own.0.1 here.0), fits_all (suc q) p b sats lines seens fair.1 own.1 inside here.1)
+    | inr later ↦ inr (fits_all q p b sats lines seens fair.1 own.1 inside later)
+  ]
+  fits_all zero p b (entry.Skipped sat skip ∷ sats) (Skipped other why ∷ lines) (seen ∷ seens) fair own inside h =
+      (inl (why, own.0.1), fits_all zero p b sats lines seens fair.1 own.1 inside h)
+  fits_all (suc q) p b (entry.Skipped sat skip ∷ sats) (Skipped other why ∷ lines) (seen ∷ seens) fair own inside h =
+      inl (inl (why, own.0.1), fits_all (suc q) p b sats lines seens fair.1 own.1 inside h)
+
+  -- ---- an epoch
+
+  fit_step : (q : ℕ) (sats : List SatEntry) (lines : List SatLine) (seens : List SatObs) (step : Step) (part : GridBox) → AllFair sats lines
+      → AreOwnLines IsJudged Allows declared root seens lines → ((p : Pos) → box_holds part p ≡ true → box_holds root p ≡ true)
+      → IsSureInside (rows_of sats) q step part → FitsInside (λ p b. Fits IsJudged Allows declared q p b seens) step part
+  fit_step q sats lines seens (Cut id face bound) part fair own inside h = tt
+  fit_step q sats lines seens (Split id axis) part fair own inside h = tt
+  fit_step q sats lines seens (Outside id) part fair own inside h = tt
+  fit_step q sats lines seens (Inside id clock lo hi) part fair own inside h =
+      λ p holds. fits_all q p clock sats lines seens fair own (inside p holds) (h p holds)
+  fit_step q sats lines seens (Edge id lo hi) part fair own inside h = tt
+
+  fit_steps : (q : ℕ) (sats : List SatEntry) (lines : List SatLine) (seens : List SatObs) (parts : List ShownStep) → AllFair sats lines
+      → AreOwnLines IsJudged Allows declared root seens lines → ((p : Pos) → 0 < count_by (λ piece. box_holds piece.part p) parts → box_holds root p ≡ true)
+      → AreSureInside (rows_of sats) q parts → AllFitInside (λ p b. Fits IsJudged Allows declared q p b seens) parts
+  fit_steps q sats lines seens [] fair own inside h = tt
+  fit_steps q sats lines seens (piece ∷ more) fair own inside h = (
+    fit_step q sats lines seens piece.step piece.part fair own
+        (λ p holds. inside p (held_here p piece more holds)) h.0,
+    fit_steps q sats lines seens more fair own (λ p some. inside p (held_later p piece more some)) h.1,
+  )
+    where
+      held_here : (p : Pos) (piece : ShownStep) (more : List ShownStep) → box_holds piece.part p ≡ true → 0 < count_by (λ piece. box_holds piece.part p) (piece ∷ more)
+      held_here p piece more holds =
+          let counted = sum_by-cons (λ (piece : ShownStep). cond (box_holds piece.part p) 1 0) piece more in
+          let here : ◌≡◌ {A = ℕ} (cond (box_holds piece.part p) 1 0) 1 = rw holds refl in
+          omega (arith, counted, here)
+
+      held_later : (p : Pos) (piece : ShownStep) (more : List ShownStep) → 0 < count_by (λ piece. box_holds piece.part p) more → 0 < count_by (λ piece. box_holds piece.part p) (piece ∷ more)
+      held_later p piece more some = omega (arith, sum_by-cons (λ (piece : ShownStep). cond (box_holds piece.part p) 1 0) piece more)
+
+  held_in_root : (n : ℕ) (t : Bool) → n ≡ cond t 1 0 → 0 < n → t ≡ true
+  held_in_root n true e some = refl
+  held_in_root n false e some = absurd (omega arith)
+
+  fit_cover : (q : ℕ) (sats : List SatEntry) (lines : List SatLine) (seens : List SatObs) (parts : List ShownStep) → AllFair sats lines
+      → AreOwnLines IsJudged Allows declared root seens lines → EpochCover (rows_of sats) q root parts → FitCover (λ p b. Fits IsJudged Allows declared q p b seens) root parts
+  fit_cover q sats lines seens parts fair own cover = record {
+    partition = cover.partition;
+    covers = λ p b inside fits. cover.covers p b inside (possible_all q p b sats lines seens fair own inside fits);
+    fits_inside = fit_steps q sats lines seens parts fair own (λ p some. held_in_root (count_by (λ piece. box_holds piece.part p) parts) (box_holds root p) (cover.partition p) some) cover.sure;
+  }
+
+  block_cover : (rules : Rules) (block : Block) (theirs : Option GridBox) (lines : List SatLine) (seens : List SatObs) → block.few ≡ is_none theirs
+      → SatsPass block.sats (expected block.few lines) → length (expected block.few lines) ≤ length block.sats → BodyPassesAt rules root block theirs
+      → AreOwnLines IsJudged Allows declared root seens lines → FitBlockCover (λ p b. Fits IsJudged Allows declared rules.outliers p b seens) root block theirs
+  block_cover rules block None lines seens few sats whole body own = tt
+  block_cover rules block (Some theirs) lines seens few sats whole body own =
+      let fair = all_fair block.sats lines (rw few at whole) (fair_at block.sats lines (rw few at sats)) in
+      fit_cover rules.outliers block.sats lines seens (pieces root block.steps) fair own (epoch_cover (rows_of block.sats) rules block.done root block.steps body.1)
+
+none_of : (root : Option Box3) → is_none (box_option root) ≡ is_none root
+none_of None = refl
+none_of (Some root) = refl
+
+-- a log that is admitted by own lines of each epoch covers what fits
+module _ (IsJudged : ℤ → SatObs → Option Skip → Type 0) (Allows : ℤ → SatObs → Pos → Chain → Type 0) (declared : Sat → ℤ × ℤ) (root : GridBox)
+    (one : (tag : ℤ) (seen : SatObs) (a b : Option Skip) → IsJudged tag seen a → IsJudged tag seen b → a ≡ b)
+    (exists : (tag : ℤ) (seen : SatObs) (p : Pos) → IsJudged tag seen None → (c : Chain) × Allows tag seen p c)
+    (range_is : (tag : ℤ) (seen : SatObs) (p : Pos) (c : Chain) → Allows tag seen p c → c.range ≡ range_to c.x c.y c.z p) where
+
+  pub blocks_fit : (rules : Rules) (before : Option ℕ) (owns : List (List SatLine)) (seens : List ObsEpoch) (epochs : List LogEpoch)
+      → AdmitsFrom rules root before owns seens (map block_of epochs) → AreOwn IsJudged Allows declared root seens owns → length owns ≡ length seens
+      → BlocksFitCover IsJudged Allows declared rules.outliers root seens (map block_of epochs)
+  blocks_fit rules before [] [] [] admits are each = tt
+  blocks_fit rules before [] [] (epoch ∷ epochs) admits are each = absurd admits
+  blocks_fit rules before [] (seen ∷ seens) epochs admits are each = absurd (omega (arith, each))
+  blocks_fit rules before (own ∷ owns) [] epochs admits are each = absurd are
+  blocks_fit rules before (own ∷ owns) (seen ∷ seens) [] admits are each = absurd admits
+  blocks_fit rules before (own ∷ owns) (seen ∷ seens) (epoch ∷ epochs) admits are each = (
+    block_cover (IsJudged seen.tag) (Allows seen.tag) declared root (one seen.tag) (exists seen.tag) (range_is seen.tag)
+        rules (block_of epoch) (box_option epoch.root) own seen.sats.items (sym epoch.paved ∙ sym (none_of epoch.root))
+        admits.1.sats admits.1.whole admits.1.body are.0,
+    blocks_fit rules (Some epoch.index) owns seens epochs admits.2 are.1 (omega (arith, each)),
+  )
