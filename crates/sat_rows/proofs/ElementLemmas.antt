@@ -1,17 +1,19 @@
 -- A record has one value for its elements.
-use Rattle.std.proofs.Common.{◌≡◌, ℕ, arith, ap, ◌∙◌, sym, subst}
-use Rattle.std.specs.Prelude.{ℤ, pos, neg_ℤ, ◌+ℤ◌, ◌-ℤ◌, ◌*ℤ◌, ◌≤ℤ◌, ◌<ℤ◌}
+use Rattle.std.proofs.Common.{◌≡◌, arith, ap, ◌∙◌, sym, subst}
+use Rattle.std.specs.Prelude.{ℤ, pos, neg_ℤ, ◌+ℤ◌, ◌*ℤ◌, ◌≤ℤ◌, ◌<ℤ◌}
 use Rattle.std.proofs.lemmas.Int.{ints}
 use Rattle.std.proofs.Math.Dec.{T_prop}
 use mathlib.Core.Path.{PathP}
 use mathlib.Core.HLevel.{is_prop→PathP}
+use Rattle.exact_decimal.specs.Units.{denominator}
 use Rattle.exact_decimal.specs.declared.decimal.Decimal.{Decimal}
 use Rattle.exact_decimal.specs.declared.unit.Unit.{Unit}
 use Rattle.exact_decimal.proofs.Limits.{some_parts}
+use Rattle.pseudorange_prep.specs.Ranges.{IsNarrow}
 use Rattle.rinex_nav.specs.ElementsOf.{IsRounded, AreElements}
 use Rattle.rinex_nav.specs.Weeks.{IsNearestWeek}
 use Rattle.rinex_nav.specs.declared.record.NavRecord.{NavRecord}
-use Rattle.sat_model.specs.RecordBounds.{LiesFrom, IsField, IsNearTime, offset_bound, drift_bound, ageing_bound, delay_bound, angle_bound, rate_bound, angle_swing_bound, radius_swing_bound, eccentricity_bound, least_root_a, greatest_root_a, week, time_bound}
+use Rattle.sat_model.specs.RecordBounds.{LiesFrom, IsNearTime, offset_bound, drift_bound, ageing_bound, delay_bound, angle_bound, rate_bound, angle_swing_bound, radius_swing_bound, eccentricity_bound, least_root_a, greatest_root_a, week, time_bound}
 use Rattle.sat_model.specs.Rounding.{IsFloor, IsCeiling}
 use Rattle.sat_model.specs.declared.elements.Elements.{Elements}
 use Rattle.sat_model.specs.declared.spans.Wide.{Wide}
@@ -41,6 +43,13 @@ one_week toc toe s t f g =
     let h = g.start_is in
     let same : f.weeks ≡ g.weeks = omega (arith, ints, f.after, f.before, g.after, g.before) in
     e ∙ ap (λ (z : ℤ). z *ℤ pos week) same ∙ sym h
+
+-- a floor and a ceiling are at most one apart
+pub rounded_narrow : (number : Decimal) (unit : Unit) (a : Wide) → IsRounded a number unit → IsNarrow 1 a.lo a.hi
+rounded_narrow number unit a f =
+    let d = pos (denominator number.ten unit) in
+    let k : a.hi <ℤ (a.lo +ℤ pos 2) = mul_lt_back a.hi (a.lo +ℤ pos 2) d (some_parts number.ten unit) (omega (arith, ints, add_mul a.lo (pos 2) d, f.floor.gt, f.ceiling.lt)) in
+    record { width = omega (arith, ints) }
 
 -- ---- facts
 

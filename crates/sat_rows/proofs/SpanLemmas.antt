@@ -1,8 +1,8 @@
 -- Ends of the numbers on the way from codes to a row.
-use Rattle.std.proofs.Common.{◌≡◌, ℕ, ◌+◌, ◌*◌, ◌^◌, ◌/◌, ◌≤◌, arith, lit≤}
-use Rattle.std.specs.Prelude.{ℤ, pos, neg_ℤ, ◌+ℤ◌, ◌-ℤ◌, ◌*ℤ◌, ◌≤ℤ◌, Some}
+use Rattle.std.proofs.Common.{◌≡◌, ℕ, ◌+◌, ◌*◌, ◌^◌, ◌≤◌, arith}
+use Rattle.std.specs.Prelude.{ℤ, pos, ◌+ℤ◌, ◌-ℤ◌, ◌*ℤ◌, ◌≤ℤ◌, Some}
 use Rattle.std.proofs.lemmas.Int.{ints}
-use Rattle.broadcast_orbit.specs.OrbitSizes.{orbit_reach, greatest_distance, IsOrbitDistance}
+use Rattle.broadcast_orbit.specs.OrbitSizes.{greatest_distance, IsOrbitDistance}
 use Rattle.broadcast_orbit.proofs.PairLemmas.{square_natural, side_within}
 use Rattle.earth_rotation.specs.Places.{PlaceEnds}
 use Rattle.earth_rotation.specs.TurnSizes.{near_reach, narrow_width}
@@ -14,7 +14,6 @@ use Rattle.pseudorange_prep.specs.Ranges.{IsCode, IsNarrow}
 use Rattle.sat_clock.specs.ClockSizes.{IsNearEphemeris, sent_reach}
 use Rattle.sat_model.specs.Intervals.{Between, Ends}
 use Rattle.sat_model.specs.Pseudorange.{IsRangeWith, IsIonosphereFree}
-use Rattle.sat_model.specs.Rounding.{Near}
 use Rattle.sat_model.specs.Sizes.{IsWithin, IsPlaceSize}
 use Rattle.sat_model.specs.declared.elements.Elements.{Elements}
 use Rattle.sat_model.specs.declared.spans.Span.{Span}

@@ -36,5 +36,6 @@ pub(crate) fn seen_place(el: &Elements, t: Exact, root: &Box3) -> Place
     ensures holds { (p : Pos) (n time x y z tx ty : ℤ) (r : ℕ) → box_holds (grid_box root.now) p ≡ true → MeanMotion el.now n → Holds t time → OrbitChain el.now n time x y z → Turn p x y z tx ty r → HoldsPlace result tx ty z }
     ensures ends { PlaceEnds (reach_after near_reach) (spare_of (grid_box root.now)) result }
 {
-    turned(sent_place(el, t), root)
+    let unturned = sent_place(el, t);
+    turned(unturned, root)
 }

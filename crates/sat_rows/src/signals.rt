@@ -52,7 +52,8 @@ pub(crate) fn clock(tag: i128, range: Exact, el: &Elements, one_code: bool) -> C
     ensures t { (result.t.hi -ℤ result.t.lo) ≤ℤ pos time_width }
     ensures near_orbit { IsNearOrbit el.now result.t.lo result.t.hi }
 {
-    correction(el, sent_at(tag, range), one_code)
+    let sent = sent_at(tag, range);
+    correction(el, sent, one_code)
 }
 
 /// Every pseudorange less what the clock's offset makes of it, in um.

@@ -2,10 +2,10 @@
 
 ghost use Rattle.std.specs.Prelude.{◌≡◌, ◌*◌, ◌^◌, pos, ◌≤ℤ◌, ◌<ℤ◌};
 ghost use Rattle.sat_model.specs.Boxes.{grid_box};
-ghost use Rattle.sat_model.specs.Consistent.{ChainValue};
 ghost use Rattle.sat_model.specs.RecordBounds.{time_bound};
 ghost use Rattle.sat_model.specs.Relaxed.{ends};
 ghost use Rattle.sat_model.specs.Sizes.{IsPlaceSize};
+ghost use Rattle.sat_rows.specs.Chains.{IsChainOf};
 ghost use Rattle.sat_rows.specs.Measured.{codes_of};
 ghost use Rattle.sat_rows.specs.OwnRows.{HoldsAllowed, IsTight, IsSmall, IsSmallRow};
 ghost use Rattle.sat_rows.specs.RowSizes.{AreNarrow, IsNearEpoch};
@@ -31,7 +31,8 @@ fn span_of(x: Exact) -> Span
 }
 
 /// The row of a satellite whose signal came at `tag` by the receiver's clock, in ps since 1980-01-06
-/// 00:00:00 GPS time: whatever the equations allow as seen from the points of the box.
+/// 00:00:00 GPS time and within 14,401 s of the ephemeris time: it holds whatever the equations allow
+/// as seen from the points of the box.
 pub(crate) fn row_of(
     sat: Sat,
     tag: i128,
@@ -48,9 +49,9 @@ pub(crate) fn row_of(
     requires small_err { IsSmall (10 ^ 10) err }
     ensures sat { result.sat ≡ sat }
     ensures err { ends result.err ≡ ends err }
-    ensures holds { HoldsAllowed (λ p c. ChainValue (record { tag = tag; codes = codes_of codes.now; el = el.now }) p c.x c.y c.z c.corrected c.range) (grid_box root.now) result }
+    ensures holds { HoldsAllowed (IsChainOf (record { tag = tag; codes = codes_of codes.now; el = el.now })) (grid_box root.now) result }
 
-    // Each span is at most W wide.
+    // Each span is at most 2,000 um and a 50,000th of the longest side of the box wide.
     ensures x_tight { IsTight (grid_box root.now) result.x }
     ensures y_tight { IsTight (grid_box root.now) result.y }
     ensures z_tight { IsTight (grid_box root.now) result.z }

@@ -1,5 +1,4 @@
 use Rattle.std.proofs.Common.{subst}
-use Rattle.std.specs.Prelude.{ℤ}
 use Rattle.sat_model.specs.Pseudorange.{IsPseudorange}
 use Rattle.sat_rows.specs.Measured.{codes_of}
 use Rattle.sat_rows.specs.RowSizes.{AreNarrow}
