@@ -5,5 +5,6 @@ pub mod Chains
 pub mod OwnRows
 pub mod Fitting
 pub mod Sources
+pub mod Laws
 pub mod RowSizes
 pub mod Growth
