@@ -7,8 +7,8 @@ use Rattle.sat_model.specs.declared.boxes.Pos.{Pos}
 use Rattle.sat_model.specs.declared.satellites.Skip.{Skip}
 use Rattle.sat_rows.specs.Chains.{Chain, observed}
 use Rattle.sat_rows.specs.Sources.{sighting, IsGpsJudged, IsGpsChain}
-use Rattle.sat_rows.proofs.ChainLemmas.{chain_exists}
-use Rattle.sat_rows.proofs.JudgementLemmas.{judgement_one}
+use Rattle.sat_rows.specs.ChainLemmas.{chain_exists}
+use Rattle.sat_rows.specs.JudgementLemmas.{judgement_one}
 
 pub one_gps_judgement : (records : List NavRecord) (settings : Settings) (tag : ℤ) (seen : SatObs) (a b : Option Skip) → IsGpsJudged records settings tag seen a → IsGpsJudged records settings tag seen b → a ≡ b
 one_gps_judgement records settings tag seen = judgement_one (sighting records settings tag seen)
