@@ -13,7 +13,7 @@ use Rattle.rinex_obs.specs.declared.obs.SatObs.{SatObs}
 use Rattle.sat_model.specs.Pseudorange.{Codes}
 use Rattle.sat_model.specs.declared.satellites.Signal.TheVariants.{Single, Dual}
 use Rattle.sat_model.specs.declared.spans.Wide.{Wide}
-use Rattle.sat_rows.proofs.ElementLemmas.{one_rounded}
+use Rattle.sat_rows.specs.ElementLemmas.{one_rounded}
 use Rattle.sat_rows.specs.Usability.{HaveValue, IsPlausible, IsCombinationPlausible, ArePlausibleWith, ArePlausible}
 
 pub lies_between : (d : Decimal) (w : Wide) → IsRounded w d Length → IsPlausible w.lo w.hi 1 → LiesBetween d.digits d.ten Length (pos 15000000000000) (pos 40000000000000)

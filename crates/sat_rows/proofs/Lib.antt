@@ -1,9 +1,6 @@
-pub mod ElementLemmas
-pub mod ChainLemmas
 pub mod SpanLemmas
 pub mod CodeLemmas
 pub mod RecordLemmas
 pub mod ChoiceLemmas
 pub mod WalkLemmas
-pub mod JudgementLemmas
 pub mod RowLemmas

@@ -27,8 +27,8 @@ use Rattle.sat_model.specs.declared.satellites.Signal.{Signal}
 use Rattle.sat_model.specs.declared.satellites.Signal.TheVariants.{Single, Dual}
 use Rattle.sat_model.specs.declared.satellites.Skip.{Skip}
 use Rattle.sat_model.specs.declared.spans.Span.{Span}
-use Rattle.sat_rows.proofs.ElementLemmas.{rounded_narrow}
-use Rattle.sat_rows.proofs.JudgementLemmas.{codes_one, elements_one}
+use Rattle.sat_rows.specs.ElementLemmas.{rounded_narrow}
+use Rattle.sat_rows.specs.JudgementLemmas.{codes_one, elements_one}
 use Rattle.sat_rows.specs.Answers.{IsKnownBy}
 use Rattle.sat_rows.specs.Chains.{Chain, observed, IsChainOf, IsChainAt}
 use Rattle.sat_rows.specs.OwnRows.{HoldsAllowed, IsOwnLine, AreOwnLines, IsSmall, IsSmallLine, AreSmall, usable_line, usable_in}

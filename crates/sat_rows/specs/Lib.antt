@@ -5,5 +5,9 @@ pub mod Chains
 pub mod OwnRows
 pub mod Fitting
 pub mod Sources
+pub mod ElementLemmas
+pub mod ChainLemmas
+pub mod JudgementLemmas
+pub mod Laws
 pub mod RowSizes
 pub mod Growth

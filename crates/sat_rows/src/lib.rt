@@ -5,6 +5,7 @@
 mod choice;
 mod codes;
 mod epochs;
+mod gps;
 mod growth;
 mod judging;
 mod lines;
@@ -16,6 +17,10 @@ mod span_tests;
 mod spans;
 
 pub use epochs::rows;
+pub use gps::GpsRows;
 pub use growth::grown;
 pub use lines::{EpochRows, SatLine};
 pub use source::RowSource;
+
+#[cfg(test)]
+mod tests;

@@ -15,7 +15,7 @@ use Rattle.sat_model.specs.declared.satellites.Signal.{Signal}
 use Rattle.sat_model.specs.declared.satellites.Signal.TheVariants.{Single, Dual}
 use Rattle.sat_model.specs.declared.satellites.Skip.{Skip}
 use Rattle.sat_model.specs.declared.spans.Wide.{Wide}
-use Rattle.sat_rows.proofs.ElementLemmas.{one_rounded, same_elements}
+use Rattle.sat_rows.specs.ElementLemmas.{one_rounded, same_elements}
 use Rattle.sat_rows.specs.Usability.{Sighting, AreThere, HaveValue, IsMeasured, IsItsRecord, IsHealthy, IsFresh, IsFit, IsNearest, IsUsable, LacksFit, IsSkip, IsJudged}
 
 -- ---- one value
