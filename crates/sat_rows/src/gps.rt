@@ -17,7 +17,7 @@ pub struct GpsRows<'a> {
 
 impl<'a> RowSource for GpsRows<'a> {
     ghost use Rattle.sat_rows.specs.Sources.{IsGpsJudged, IsGpsChain, gps_declared};
-    ghost use Rattle.sat_rows.specs.Laws.{one_gps_judgement, gps_chain_exists};
+    ghost use Rattle.sat_rows.specs.Laws.{one_gps_judgement, gps_chain_exists, gps_range_is};
 
     ghost judged = { λ source. IsGpsJudged source.nav.now source.settings.now };
 
@@ -32,4 +32,6 @@ impl<'a> RowSource for GpsRows<'a> {
     ghost one_judgement = { λ source. one_gps_judgement source.nav.now source.settings.now };
 
     ghost allowed_exists = { λ source. gps_chain_exists source.nav.now source.settings.now };
+
+    ghost range_is = { λ source. gps_range_is source.nav.now source.settings.now };
 }
