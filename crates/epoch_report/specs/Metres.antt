@@ -17,9 +17,9 @@ signed_with_point k (pos n) = with_point k n
 signed_with_point k (negsuc n) = 45 ∷ with_point k (suc n)
 
 -- a length in um, as metres with six decimals
-abbrev pub metres_text : ℤ → List ℕ
+unfoldable pub metres_text : ℤ → List ℕ
 metres_text um = signed_with_point 6 um
 
 -- a time in ps, as seconds with twelve decimals
-abbrev pub seconds_text : ℤ → List ℕ
+unfoldable pub seconds_text : ℤ → List ℕ
 seconds_text ps = signed_with_point 12 ps
