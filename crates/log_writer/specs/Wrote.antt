@@ -12,7 +12,7 @@ use Rattle.sat_model.specs.Verdicts.{Judged}
 use Rattle.log_words.specs.Fields.{IsCountFromTo}
 use Rattle.paving_log.specs.declared.line.Form.TheVariants as form
 use Rattle.paving_log.specs.Lines.{StepFits}
-use Rattle.paving_log.specs.Text.{log_text, BlockFits, IsLogText}
+use Rattle.paving_log.specs.Text.{BlockFits, IsLogText}
 use Rattle.epoch_report.specs.declared.counts.Counts4.{Counts4}
 use Rattle.epoch_report.specs.Reports.{counts_of, report_text}
 use Rattle.log_writer.specs.declared.fault.WriteFault.{WriteFault}

@@ -106,7 +106,8 @@ impl<'a, 'b, H: Shelf, O: Sink> Writer<'a, 'b, H, O> {
                 bisections: counts.bisections,
             }),
             Err(StepFault::NoMemory) => Err(WriteFault::NoMemory),
-            Err(StepFault::Failed | StepFault::Full) => Err(self.last),
+            Err(StepFault::Failed) => Err(self.last),
+            Err(StepFault::Full) => Err(self.last),
         }
     }
 
@@ -132,7 +133,12 @@ impl<'a, 'b, H: Shelf, O: Sink> Writer<'a, 'b, H, O> {
     }
 
     /// Writes an epoch, and paves its root where it has one.
-    fn put_epoch(&mut self, alloc: Global, rules: &Rules, epoch: &LogEpoch) -> Result<(), WriteFault>
+    fn put_epoch(
+        &mut self,
+        alloc: Global,
+        rules: &Rules,
+        epoch: &LogEpoch,
+    ) -> Result<(), WriteFault>
         requires fits { BlockFits form.Rows (block_of epoch.now) }
         requires enough { epoch.now.few ≡ false → rules.now.outliers + 4 ≤ length (rows_of epoch.now.sats.items) }
         ensures written { WroteBlock rules.now (block_of epoch.now)

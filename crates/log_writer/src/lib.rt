@@ -3,11 +3,11 @@
 //! line of it right behind.
 #![tactic(auto)]
 
-mod fault;
-mod writer;
-mod steps;
 mod epochs;
+mod fault;
+mod steps;
 mod write;
+mod writer;
 
 pub use fault::WriteFault;
 pub use write::write_log;
