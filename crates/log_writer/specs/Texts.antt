@@ -22,7 +22,7 @@ pub record IsWhole (rows : LogValue) (limit : ℕ) (bytes said : List ℕ) : Typ
   pub fits : length bytes ≤ limit
 
 -- the first bytes of both, as this fault left them
-pub record IsBegun (rows : LogValue) (limit : ℕ) (fault : WriteFault) (bytes said : List ℕ) : Type 0 where
+pub record IsBegun (fault : WriteFault) (rows : LogValue) (limit : ℕ) (bytes said : List ℕ) : Type 0 where
   pub log : LogValue
   pub paving : IsPavingOf rows log
   pub broke : BrokeOff limit (log_pieces log) fault bytes said
@@ -30,4 +30,4 @@ pub record IsBegun (rows : LogValue) (limit : ℕ) (fault : WriteFault) (bytes s
 -- by how the writing ended
 abbrev pub IsText : {T : Type 0} → LogValue → ℕ → Result T WriteFault → (bytes said : List ℕ) → Type 0
 IsText rows limit (Ok done) bytes said = IsWhole rows limit bytes said
-IsText rows limit (Err fault) bytes said = IsBegun rows limit fault bytes said
+IsText rows limit (Err fault) bytes said = IsBegun fault rows limit bytes said
