@@ -3,8 +3,8 @@ use Rattle.std.specs.Prelude.{ℕ, Result, Ok, Err}
 use Rattle.outer_io.specs.declared.reading.ReadAll.{ReadAll}
 use Rattle.outer_io.specs.declared.reading.ReadAll.TheVariants as read
 use Rattle.outer_io.specs.declared.slots.Slot.{Slot}
-use Rattle.paving.specs.declared.steps.StepFault.{StepFault}
-use Rattle.paving.specs.declared.steps.StepFault.TheVariants as fault
+use Rattle.log_writer.specs.declared.fault.WriteFault.{WriteFault}
+use Rattle.log_writer.specs.declared.fault.WriteFault.TheVariants as why
 use Rattle.paving_log.specs.declared.log.LogError.{LogError}
 use Rattle.paving_log.specs.declared.log.LogError.TheVariants as log
 use Rattle.paving_log_check.specs.declared.verdict.Verdict.{Verdict}
@@ -35,10 +35,11 @@ notice_of_log slot (log.BadLog line kind) = notice.BadLog slot line kind
 notice_of_log slot (log.NotBuilt line) = notice.NotBuilt slot line
 notice_of_log slot log.NoMemory = notice.NoMemory
 
-abbrev pub notice_of_fault : ℕ → StepFault → Notice
-notice_of_fault limit fault.Failed = notice.LogFault
-notice_of_fault limit fault.Full = notice.LogFull limit
-notice_of_fault limit fault.NoMemory = notice.NoMemory
+abbrev pub notice_of_fault : ℕ → WriteFault → Notice
+notice_of_fault limit why.Log = notice.LogFault
+notice_of_fault limit why.Out = notice.OutFault
+notice_of_fault limit why.Full = notice.LogFull limit
+notice_of_fault limit why.NoMemory = notice.NoMemory
 
 -- how a run ends whose log was read and judged so, where its verdict is written
 abbrev pub status_of_verdict : Result Verdict Notice → Status

@@ -4,7 +4,7 @@ ghost use Rattle.std.specs.Prelude.{◌≡◌};
 ghost use Rattle.cover_run.specs.Statuses.{status_of, notice_of_read, notice_of_log, notice_of_fault};
 
 use crate::Status;
-use log_writer::StepFault;
+use log_writer::WriteFault;
 use outer_io::{ReadAll, Slot};
 use paving_log::LogError;
 
@@ -60,14 +60,15 @@ impl Notice {
         }
     }
 
-    /// Why the log wasn't written to its end, of which this is the limit.
-    pub fn of_writing(limit: u64, fault: StepFault) -> Notice
+    /// Why the log and its report weren't written to their end. This is the log's limit.
+    pub fn of_writing(limit: u64, fault: WriteFault) -> Notice
         ensures { result ≡ notice_of_fault limit fault }
     {
         match fault {
-            StepFault::Failed => Notice::LogFault,
-            StepFault::Full => Notice::LogFull { limit },
-            StepFault::NoMemory => Notice::NoMemory,
+            WriteFault::Log => Notice::LogFault,
+            WriteFault::Out => Notice::OutFault,
+            WriteFault::Full => Notice::LogFull { limit },
+            WriteFault::NoMemory => Notice::NoMemory,
         }
     }
 
