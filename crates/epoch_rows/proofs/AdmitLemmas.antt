@@ -1,17 +1,16 @@
 -- A log that paves the rows of the selected epochs is admissible.
-use Rattle.std.proofs.Common.{◌≡◌, ℕ, zero, suc, ◌<◌, ◌≤◌, Bool, true, false, List, [], ◌∷◌, length, refl, sym, ap, subst, ◌∙◌, arith}
-use Rattle.std.specs.Prelude.{ℤ, pos, Option, None, Some, slice_get}
+use Rattle.std.proofs.Common.{◌≡◌, ℕ, zero, suc, ◌<◌, Bool, true, false, List, [], ◌∷◌, length, refl, sym, ap, subst, ◌∙◌, arith}
+use Rattle.std.specs.Prelude.{ℤ, Option, None, Some, slice_get}
 use Rattle.std.proofs.lemmas.Grind.{common_steps}
 use Rattle.std.proofs.lemmas.Int.{ints}
-use Rattle.epoch_rows.specs.Grown.{AreGrownLines, skips_of, HasBody, IsGrownBlock, AreGrown}
+use Rattle.epoch_rows.specs.Grown.{HasBody, IsGrownBlock, AreGrown}
 use Rattle.log_writer.specs.Pavings.{Paves, AllPave, IsPavingOf}
-use Rattle.paving_log_check.specs.Admissible.{AreSameRules, IsOf, IsDue, AdmitsFrom, Admits, Admissible, AreOwn}
-use Rattle.paving_log_check.specs.Epochs.{IsWhole, BodyPassesAt, EpochPasses}
-use Rattle.paving_log_check.specs.Lines.{expected, IsSameLine, RowPasses, LinePasses, SatsPass}
+use Rattle.paving_log_check.specs.Admissible.{IsOf, AdmitsFrom, Admits, Admissible, AreOwn}
+use Rattle.paving_log_check.specs.Epochs.{BodyPassesAt, EpochPasses}
+use Rattle.paving_log_check.specs.Lines.{expected, SatsPass}
 use Rattle.rinex_obs.specs.declared.obs.ObsEpoch.{ObsEpoch}
 use Rattle.rinex_obs.specs.declared.obs.SatObs.{SatObs}
 use Rattle.sat_model.specs.Boxes.{GridBox, grid_box, box_holds}
-use Rattle.sat_model.specs.Lengths.{spare_of}
 use Rattle.sat_model.specs.Logs.{Block, LogValue}
 use Rattle.sat_model.specs.Verdicts.{BodyPasses, BlockPasses, BlocksPass, NoneRepeats, Judged}
 use Rattle.sat_model.specs.declared.boxes.Box3.{Box3}
@@ -21,7 +20,6 @@ use Rattle.sat_model.specs.declared.satellites.Sat.{Sat}
 use Rattle.sat_model.specs.declared.satellites.SatEntry.{SatEntry}
 use Rattle.sat_model.specs.declared.satellites.Skip.{Skip}
 use Rattle.sat_rows.specs.Chains.{Chain}
-use Rattle.sat_rows.specs.OwnRows.{usable_in}
 use Rattle.sat_rows.specs.declared.lines.SatLine.{SatLine}
 use Rattle.epoch_rows.proofs.AgreeLemmas.{AllAgree, LineAgrees, lines_agree, skips_agree, same_usable}
 use Rattle.epoch_rows.proofs.PassLemmas.{OwnLines}

@@ -1,10 +1,10 @@
 -- Satellite lines no two of which name one satellite.
-use Rattle.std.proofs.Common.{◌≡◌, ◌≢◌, ℕ, zero, suc, ◌<◌, List, [], ◌∷◌, length, map, Some, sym, arith}
+use Rattle.std.proofs.Common.{◌≢◌, ℕ, zero, suc, ◌<◌, List, [], ◌∷◌, length, map, Some, sym, arith}
 use Rattle.std.specs.Prelude.{slice_get}
 use Rattle.std.specs.List.{AllByRecursion}
 use Rattle.std.proofs.lemmas.Option.{same_Some}
 use Rattle.sat_model.specs.Logs.{sat_of}
-use Rattle.sat_model.specs.Verdicts.{IsRepeat, NoneRepeats}
+use Rattle.sat_model.specs.Verdicts.{NoneRepeats}
 use Rattle.sat_model.specs.declared.satellites.Sat.{Sat}
 use Rattle.sat_model.specs.declared.satellites.SatEntry.{SatEntry}
 

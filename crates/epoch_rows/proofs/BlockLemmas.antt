@@ -1,27 +1,22 @@
 -- The blocks that are made of own lines.
-use Rattle.std.proofs.Common.{◌≡◌, ℕ, ◌+◌, ◌*◌, ◌≤◌, List, length, ap, arith}
+use Rattle.std.proofs.Common.{◌≡◌, ℕ, ◌≤◌, List, length, ap, arith}
 use Rattle.std.specs.Prelude.{ℤ, pos, ◌≤ℤ◌, ◌<ℤ◌, Option, Some}
 use Rattle.std.specs.List.{AllByRecursion}
 use Rattle.std.proofs.lemmas.Int.{ints}
 use Rattle.epoch_rows.specs.Grown.{AreGrownLines, skips_of}
 use Rattle.log_words.specs.Fields.{IsCountFromTo, SkipFits}
-use Rattle.paving_log.specs.declared.line.Header.{Header}
 use Rattle.paving_log.specs.Lines.{HeaderFits}
 use Rattle.paving_log.specs.Rows.{CornersFit, corners_of, EntryFits}
 use Rattle.paving_log.specs.Text.{IsSkipped}
 use Rattle.rinex_obs.specs.Facts.{AreGpsSats}
 use Rattle.rinex_obs.specs.declared.obs.ObsEpoch.{ObsEpoch}
 use Rattle.rinex_obs.specs.declared.obs.SatObs.{SatObs}
-use Rattle.sat_model.specs.Amounts.{above}
 use Rattle.sat_model.specs.Boxes.{GridBox, grid_box}
-use Rattle.sat_model.specs.Lengths.{longest_length, spare_of}
-use Rattle.sat_model.specs.Sizes.{IsBoxSize}
 use Rattle.sat_model.specs.declared.boxes.Box3.{Box3}
 use Rattle.sat_model.specs.declared.boxes.Pos.{Pos}
 use Rattle.sat_model.specs.declared.satellites.Sat.{Sat}
 use Rattle.sat_model.specs.declared.satellites.SatEntry.{SatEntry}
 use Rattle.sat_model.specs.declared.satellites.Skip.{Skip}
-use Rattle.sat_model.proofs.AmountLemmas.{above_is}
 use Rattle.sat_rows.specs.Chains.{Chain}
 use Rattle.sat_rows.specs.OwnRows.{AreOwnLines, usable_in}
 use Rattle.sat_rows.specs.declared.lines.SatLine.{SatLine}

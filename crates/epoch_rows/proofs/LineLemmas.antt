@@ -1,6 +1,6 @@
 -- The satellite lines that are made of own lines.
 use Rattle.std.proofs.Common.{◌≡◌, ◌≢◌, ℕ, suc, ◌+◌, ◌≤◌, ◌<◌, List, [], ◌∷◌, ◌++◌, length, get_or, drop, sym, ap, subst, ◌∙◌, refl, add-one, append_assoc, append-nil, drop-cons, arith}
-use Rattle.std.specs.Prelude.{◌*◌, ◌^◌, ℤ, pos, ◌≤ℤ◌, Option, None, Some}
+use Rattle.std.specs.Prelude.{◌*◌, ◌^◌, ℤ, pos, Option, Some}
 use Rattle.std.specs.List.{AllByRecursion}
 use Rattle.std.proofs.lemmas.Grind.{common_steps}
 use Rattle.std.proofs.lemmas.Int.{ints}

@@ -1,11 +1,10 @@
 -- The blocks of the selected epochs pass the tests of their own lines.
-use Rattle.std.proofs.Common.{◌≡◌, ℕ, ◌+◌, ◌<◌, ◌≤◌, Bool, true, false, cond, List, [], ◌∷◌, length, sym, ap, subst, ◌∙◌, arith}
-use Rattle.std.specs.Prelude.{ℤ, pos, nat_lt, nat_le, ◌&&◌, Option, None, Some}
-use Rattle.std.specs.List.{filter}
+use Rattle.std.proofs.Common.{◌≡◌, ℕ, ◌+◌, Bool, true, false, List, [], ◌∷◌, sym, subst, ◌∙◌, arith}
+use Rattle.std.specs.Prelude.{ℤ, pos, nat_lt, Option, None, Some}
 use Rattle.std.proofs.lemmas.Bool.{cond_both, ltb-true, ltb-false}
-use Rattle.epoch_rows.specs.Grown.{AreGrownLines, skips_of, HasBody, IsGrownBlock, AreGrown}
+use Rattle.epoch_rows.specs.Grown.{skips_of, HasBody, IsGrownBlock, AreGrown}
 use Rattle.paving_log.specs.RowsText.{OwnPasses, AllOwnPass}
-use Rattle.paving_log_check.specs.Admissible.{selected}
+use Rattle.paving_log_check.specs.Admissible.{is_selected, selected}
 use Rattle.rinex_obs.specs.Facts.{AreNumberedFrom, AreDistinct, InEach}
 use Rattle.rinex_obs.specs.Reading.{plain_epochs}
 use Rattle.rinex_obs.specs.declared.obs.ObsEpoch.{ObsEpoch}
@@ -39,14 +38,14 @@ module _ (from to : ℕ) where
   pub selected_rise : (before : Option ℕ) (next : ℕ) (epochs : List ObsEpoch) → IsLater before next → AreNumberedFrom next (plain_epochs epochs) → Rise before (selected from to epochs)
   selected_rise before next [] later numbered = tt
   selected_rise before next (epoch ∷ more) later numbered =
-      cond_both (nat_le from epoch.index && nat_le epoch.index to) (epoch ∷ selected from to more) (selected from to more) (Rise before)
+      cond_both (is_selected from to epoch) (epoch ∷ selected from to more) (selected from to more) (Rise before)
       (λ is. (subst (IsLater before) (sym numbered.0) later, selected_rise (Some epoch.index) (next + 1) more (omega (arith, numbered.0)) numbered.1))
       (λ other. selected_rise before (next + 1) more (later_more before next later) numbered.1)
 
   pub selected_distinct : (epochs : List ObsEpoch) → InEach AreDistinct (plain_epochs epochs) → InEach AreDistinct (plain_epochs (selected from to epochs))
   selected_distinct [] distinct = tt
   selected_distinct (epoch ∷ more) distinct =
-      cond_both (nat_le from epoch.index && nat_le epoch.index to) (epoch ∷ selected from to more) (selected from to more) (λ (es : List ObsEpoch). InEach AreDistinct (plain_epochs es))
+      cond_both (is_selected from to epoch) (epoch ∷ selected from to more) (selected from to more) (λ (es : List ObsEpoch). InEach AreDistinct (plain_epochs es))
       (λ is. (distinct.0, selected_distinct more distinct.1))
       (λ other. selected_distinct more distinct.1)
 

@@ -38,12 +38,13 @@ pub fn block<S: RowSource>(
     ensures line { IfOk result (λ block. block.line ≡ line) }
 {
     let own = source.lines(alloc, epoch, root)?;
-    if own.usable < u32::from(rules.outliers) + 4 {
+    let n = own.usable;
+    if n < u32::from(rules.outliers) + 4 {
         return Ok(LogEpoch {
             line,
             index: epoch.index,
             ps: epoch.tag,
-            n: own.usable,
+            n,
             few: true,
             sats: skip_lines(alloc, &own.lines)?,
             root: None,
@@ -55,7 +56,7 @@ pub fn block<S: RowSource>(
         line,
         index: epoch.index,
         ps: epoch.tag,
-        n: own.usable,
+        n,
         few: false,
         sats: grown_lines(alloc, &own.lines, root)?,
         root: Some(*root),

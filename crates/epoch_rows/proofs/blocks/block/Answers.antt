@@ -17,8 +17,8 @@ invariant_of-result g c =
       paved = refl;
     }
 
-pub returns-then-own-from-clause-fits : goal.returns-then-own-from-clause-fits
-returns-then-own-from-clause-fits g c =
+pub returns-then-n-from-clause-fits : goal.returns-then-n-from-clause-fits
+returns-then-n-from-clause-fits g c =
     let fits : FitsSigned w128 c.args.epoch.now.tag = search rules in
     let same : to_z w128 (of_z w128 c.args.epoch.now.tag) ≡ c.args.epoch.now.tag = simp to_z-of_z refl in
     let s = g.S.RowSource in

@@ -1,5 +1,5 @@
 use Rattle.std.proofs.Common.{None, map, sym, ◌∙◌, arith}
-use Rattle.paving_log.specs.Values.{block_of, log_value}
+use Rattle.paving_log.specs.Values.{block_of}
 use Rattle.paving_log.proofs.OwnLemmas.{all_pavable}
 use Rattle.sat_model.specs.Boxes.{grid_box}
 use Rattle.epoch_rows.proofs.PassLemmas.{OwnLines, selected_rise, selected_distinct, blocks_pass}
