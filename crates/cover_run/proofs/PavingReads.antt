@@ -2,11 +2,12 @@
 use Rattle.std.proofs.Common.{◌≡◌, ◌⊎◌, ◌<◌, ◌≤◌, ℕ, List, length, Option, None, Some, IsSomeAnd, Result, Ok, Err, inl, inr, refl, sym, ap, subst, arith}
 use Rattle.std.specs.FinMap as map
 use Rattle.outer_io.specs.declared.slots.Slot.TheVariants as slot
-use Rattle.outer_io.specs.Told.{Told, files_of, written_of}
+use Rattle.outer_io.specs.Told.{Told}
 use Rattle.sat_model.specs.Logs.{LogValue}
+use Rattle.cover_run.proofs.PavingEnds.{IsRead}
 use Rattle.cover_run.proofs.Saying.{HasFile-of}
-use Rattle.cover_run.specs.Answers.{HasFile, IsToldFile, LeavesFiles, IsBrokenOff}
-use Rattle.cover_run.specs.Paving.{NamesRowsFault, RefusesRows, LogEnds, PavingEnds}
+use Rattle.cover_run.specs.Answers.{HasFile, IsToldFile, IsBrokenOff}
+use Rattle.cover_run.specs.Paving.{Outputs, LeavesAll, NamesRowsFault, RefusesRows, LogEnds, PavingEnds}
 use Rattle.cover_run.specs.Statuses.{ending, status_of}
 use Rattle.cover_run.specs.declared.limits.Limits.{Limits}
 use Rattle.cover_run.specs.declared.notice.Notice.{Notice}
@@ -34,19 +35,22 @@ has_weaker (Some t) name P Q f has = weaker (map.get t.files name) P Q f has
 
 -- ---- the rows weren't read
 
+left_all : (before after : Outputs) → IsRead before after → LeavesAll before after
+left_all before after read = record { files = record { files = read.files; written = read.written }; out = read.out }
+
 abbrev pub IsReadRefusal : ℕ → Notice → Type 0
 IsReadRefusal limit n = (n ≡ notice.NoMemory) ⊎ ((n ≡ notice.ReadFault slot.Rows) ⊎ (n ≡ notice.TooLong slot.Rows limit))
 
-pub read_ended : (limits : Limits) (rows log : List ℕ) (before after : Option Told) (n : Notice) → files_of after ≡ files_of before → written_of after ≡ written_of before
-    → IsReadRefusal limits.file n → ((most : ℕ) → n ≡ notice.TooLong slot.Rows most → (most ≡ limits.file) × HasFile before rows (λ bytes. limits.file < length bytes))
+pub read_ended : (limits : Limits) (rows log : List ℕ) (before after : Outputs) (n : Notice) → IsRead before after
+    → IsReadRefusal limits.file n → ((most : ℕ) → n ≡ notice.TooLong slot.Rows most → (most ≡ limits.file) × HasFile before.told rows (λ bytes. limits.file < length bytes))
     → PavingEnds limits rows log before after (Err n)
-read_ended limits rows log before after n files written (inl m) long =
-    subst (λ (k : Notice). PavingEnds limits rows log before after (Err k)) (sym m) (inl (record { files = files; written = written }))
-read_ended limits rows log before after n files written (inr (inl m)) long =
-    subst (λ (k : Notice). PavingEnds limits rows log before after (Err k)) (sym m) (refl, record { files = files; written = written })
-read_ended limits rows log before after n files written (inr (inr m)) long =
+read_ended limits rows log before after n read (inl m) long =
+    subst (λ (k : Notice). PavingEnds limits rows log before after (Err k)) (sym m) (inl (left_all before after read))
+read_ended limits rows log before after n read (inr (inl m)) long =
+    subst (λ (k : Notice). PavingEnds limits rows log before after (Err k)) (sym m) (refl, left_all before after read)
+read_ended limits rows log before after n read (inr (inr m)) long =
     subst (λ (k : Notice). PavingEnds limits rows log before after (Err k)) (sym m)
-    (record { files = files; written = written }, has_weaker before rows _ (λ bytes. RefusesRows limits.file bytes (notice.TooLong slot.Rows limits.file)) (λ bytes h. (refl, h)) (long limits.file m).1)
+    (left_all before after read, has_weaker before.told rows _ (λ bytes. RefusesRows limits.file bytes (notice.TooLong slot.Rows limits.file)) (λ bytes h. (refl, h)) (long limits.file m).1)
 
 pub read_status : (limit : ℕ) (n : Notice) → IsReadRefusal limit n → IsBrokenOff (status_of n) ⊎ (status_of n ≡ status.Refused)
 read_status limit n (inl m) = inl (inr (inr (ap status_of m)))
@@ -63,20 +67,20 @@ read_accepts limits rows bytes before n (inr (inr m)) long told within =
 
 -- ---- the rows were read and their text refused
 
-text_refused : (limits : Limits) (rows log all : List ℕ) (before after : Option Told) (n : Notice) → LeavesFiles before after → HasFile before rows (λ bytes. all ≡ bytes) → length all ≤ limits.file
+text_refused : (limits : Limits) (rows log all : List ℕ) (before after : Outputs) (n : Notice) → LeavesAll before after → HasFile before.told rows (λ bytes. all ≡ bytes) → length all ≤ limits.file
     → NamesRowsFault all n → PavingEnds limits rows log before after (Err n)
-text_refused limits rows log all before after (notice.BadLog slot.Rows line kind) leaves read within names =
-    (leaves, HasFile-of before rows all (λ bytes. RefusesRows limits.file bytes (notice.BadLog slot.Rows line kind)) read (within, names))
-text_refused limits rows log all before after (notice.NotBuilt slot.Rows line) leaves read within names =
-    (leaves, HasFile-of before rows all (λ bytes. RefusesRows limits.file bytes (notice.NotBuilt slot.Rows line)) read (within, names))
-text_refused limits rows log all before after _ leaves read within names = absurd names
+text_refused limits rows log all before after (notice.BadLog slot.Rows line kind) leaves has within names =
+    (leaves, HasFile-of before.told rows all (λ bytes. RefusesRows limits.file bytes (notice.BadLog slot.Rows line kind)) has (within, names))
+text_refused limits rows log all before after (notice.NotBuilt slot.Rows line) leaves has within names =
+    (leaves, HasFile-of before.told rows all (λ bytes. RefusesRows limits.file bytes (notice.NotBuilt slot.Rows line)) has (within, names))
+text_refused limits rows log all before after _ leaves has within names = absurd names
 
-pub text_ended : (limits : Limits) (rows log all : List ℕ) (before after : Option Told) (n : Notice) → files_of after ≡ files_of before → written_of after ≡ written_of before
-    → HasFile before rows (λ bytes. all ≡ bytes) → length all ≤ limits.file → (n ≡ notice.NoMemory) ⊎ NamesRowsFault all n → PavingEnds limits rows log before after (Err n)
-text_ended limits rows log all before after n files written read within (inl m) =
-    subst (λ (k : Notice). PavingEnds limits rows log before after (Err k)) (sym m) (inl (record { files = files; written = written }))
-text_ended limits rows log all before after n files written read within (inr names) =
-    text_refused limits rows log all before after n (record { files = files; written = written }) read within names
+pub text_ended : (limits : Limits) (rows log all : List ℕ) (before after : Outputs) (n : Notice) → IsRead before after
+    → HasFile before.told rows (λ bytes. all ≡ bytes) → length all ≤ limits.file → (n ≡ notice.NoMemory) ⊎ NamesRowsFault all n → PavingEnds limits rows log before after (Err n)
+text_ended limits rows log all before after n read has within (inl m) =
+    subst (λ (k : Notice). PavingEnds limits rows log before after (Err k)) (sym m) (inl (left_all before after read))
+text_ended limits rows log all before after n read has within (inr names) =
+    text_refused limits rows log all before after n (left_all before after read) has within names
 
 named_status : (all : List ℕ) (n : Notice) → NamesRowsFault all n → status_of n ≡ status.Refused
 named_status all (notice.BadLog slot.Rows line kind) names = refl
@@ -89,14 +93,14 @@ text_status all n (inr names) = inr (named_status all n names)
 
 -- ---- the log was written
 
-pub log_accepts : (given : LogValue) (limit : ℕ) (before after : Option Told) (log : List ℕ) (r : Result (Unit {0}) Notice) → LogEnds given limit before after log r
+pub log_accepts : (given : LogValue) (limit : ℕ) (before after : Outputs) (log : List ℕ) (r : Result (Unit {0}) Notice) → LogEnds given limit before after log r
     → IsBrokenOff (ending r) ⊎ ((ending r ≡ status.Done) ⊎ (ending r ≡ status.LogFull))
 log_accepts given limit before after log (Ok done) ends = inr (inl refl)
 log_accepts given limit before after log (Err notice.LogFault) ends = inl (inr (inl refl))
 log_accepts given limit before after log (Err notice.NoMemory) ends = inl (inr (inr refl))
 log_accepts given limit before after log (Err (notice.LogFull most)) ends = inr (inr refl)
 log_accepts given limit before after log (Err notice.Usage) ends = absurd ends
-log_accepts given limit before after log (Err notice.OutFault) ends = absurd ends
+log_accepts given limit before after log (Err notice.OutFault) ends = inl (inr (inl refl))
 log_accepts given limit before after log (Err (notice.TooLong of most)) ends = absurd ends
 log_accepts given limit before after log (Err (notice.BadLog of line kind)) ends = absurd ends
 log_accepts given limit before after log (Err (notice.NotBuilt of line)) ends = absurd ends
@@ -104,23 +108,24 @@ log_accepts given limit before after log (Err (notice.BadInput fault)) ends = ab
 log_accepts given limit before after log (Err (notice.ReadFault of)) ends = absurd ends
 
 -- such a log has no other notice
-log_notice : (given : LogValue) (limit : ℕ) (before after : Option Told) (log : List ℕ) (n : Notice) → LogEnds given limit before after log (Err n)
+log_notice : (given : LogValue) (limit : ℕ) (before after : Outputs) (log : List ℕ) (n : Notice) → LogEnds given limit before after log (Err n)
     → (status_of n ≡ status.Refused) ⊎ (status_of n ≡ status.ReadFault) → ⊥
 log_notice given limit before after log notice.LogFault ends (inl e) = absurd cc
 log_notice given limit before after log notice.LogFault ends (inr e) = absurd cc
+log_notice given limit before after log notice.OutFault ends (inl e) = absurd cc
+log_notice given limit before after log notice.OutFault ends (inr e) = absurd cc
 log_notice given limit before after log notice.NoMemory ends (inl e) = absurd cc
 log_notice given limit before after log notice.NoMemory ends (inr e) = absurd cc
 log_notice given limit before after log (notice.LogFull most) ends (inl e) = absurd cc
 log_notice given limit before after log (notice.LogFull most) ends (inr e) = absurd cc
 log_notice given limit before after log notice.Usage ends e = absurd ends
-log_notice given limit before after log notice.OutFault ends e = absurd ends
 log_notice given limit before after log (notice.TooLong of most) ends e = absurd ends
 log_notice given limit before after log (notice.BadLog of line kind) ends e = absurd ends
 log_notice given limit before after log (notice.NotBuilt of line) ends e = absurd ends
 log_notice given limit before after log (notice.BadInput fault) ends e = absurd ends
 log_notice given limit before after log (notice.ReadFault of) ends e = absurd ends
 
-pub not_notice : (given : LogValue) (limit : ℕ) (before after : Option Told) (log : List ℕ) (r : Result (Unit {0}) Notice) (n : Notice) → LogEnds given limit before after log r
+pub not_notice : (given : LogValue) (limit : ℕ) (before after : Outputs) (log : List ℕ) (r : Result (Unit {0}) Notice) (n : Notice) → LogEnds given limit before after log r
     → r ≡ Err n → (status_of n ≡ status.Refused) ⊎ (status_of n ≡ status.ReadFault) → ⊥
 not_notice given limit before after log r n ends e d =
     log_notice given limit before after log n (subst (λ (q : Result (Unit {0}) Notice). LogEnds given limit before after log q) e ends) d

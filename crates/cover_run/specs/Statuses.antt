@@ -5,8 +5,8 @@ use Rattle.error_bounds.specs.declared.fault.SettingsError.TheVariants as settin
 use Rattle.outer_io.specs.declared.reading.ReadAll.{ReadAll}
 use Rattle.outer_io.specs.declared.reading.ReadAll.TheVariants as read
 use Rattle.outer_io.specs.declared.slots.Slot.{Slot}
-use Rattle.paving.specs.declared.steps.StepFault.{StepFault}
-use Rattle.paving.specs.declared.steps.StepFault.TheVariants as fault
+use Rattle.log_writer.specs.declared.fault.WriteFault.{WriteFault}
+use Rattle.log_writer.specs.declared.fault.WriteFault.TheVariants as why
 use Rattle.paving_log.specs.declared.log.LogError.{LogError}
 use Rattle.paving_log.specs.declared.log.LogError.TheVariants as log
 use Rattle.paving_log_check.specs.declared.verdict.Verdict.{Verdict}
@@ -52,10 +52,11 @@ abbrev pub notice_of_file : (Refusal → InputFault) → ReadError → Notice
 notice_of_file input_of (rinex.Refused refusal) = notice.BadInput (input_of refusal)
 notice_of_file input_of rinex.NoMemory = notice.NoMemory
 
-abbrev pub notice_of_fault : ℕ → StepFault → Notice
-notice_of_fault limit fault.Failed = notice.LogFault
-notice_of_fault limit fault.Full = notice.LogFull limit
-notice_of_fault limit fault.NoMemory = notice.NoMemory
+abbrev pub notice_of_fault : ℕ → WriteFault → Notice
+notice_of_fault limit why.Log = notice.LogFault
+notice_of_fault limit why.Out = notice.OutFault
+notice_of_fault limit why.Full = notice.LogFull limit
+notice_of_fault limit why.NoMemory = notice.NoMemory
 
 -- how a run ends whose log was read and judged so, where its verdict is written
 abbrev pub status_of_verdict : Result Verdict Notice → Status

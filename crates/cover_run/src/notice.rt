@@ -6,7 +6,7 @@ ghost use Rattle.cover_run.specs.Statuses.{status_of, notice_of_read, notice_of_
 use crate::Status;
 use crate::input_fault::InputFault;
 use error_bounds::SettingsError;
-use log_writer::StepFault;
+use log_writer::WriteFault;
 use outer_io::{ReadAll, Slot};
 use paving_log::LogError;
 use rinex_text::ReadError;
@@ -66,14 +66,15 @@ impl Notice {
         }
     }
 
-    /// Why the log wasn't written to its end, of which this is the limit.
-    pub fn of_writing(limit: u64, fault: StepFault) -> Notice
+    /// Why the log and its report weren't written to their end. This is the log's limit.
+    pub fn of_writing(limit: u64, fault: WriteFault) -> Notice
         ensures { result ≡ notice_of_fault limit fault }
     {
         match fault {
-            StepFault::Failed => Notice::LogFault,
-            StepFault::Full => Notice::LogFull { limit },
-            StepFault::NoMemory => Notice::NoMemory,
+            WriteFault::Log => Notice::LogFault,
+            WriteFault::Out => Notice::OutFault,
+            WriteFault::Full => Notice::LogFull { limit },
+            WriteFault::NoMemory => Notice::NoMemory,
         }
     }
 

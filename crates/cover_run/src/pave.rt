@@ -2,7 +2,7 @@
 
 ghost use Rattle.std.specs.Prelude.{◌≡◌, ◌≢◌, ◌≤◌, ◌<◌, ◌⊎◌, ℕ, List, Option, None, Some, Ok, Err, true, false, length};
 ghost use Rattle.cover_run.specs.Answers.{world, IsToldFile, IsBrokenOff, OpensNoFile};
-ghost use Rattle.cover_run.specs.Paving.{SpellNoRows, LogEnds, PavingEnds, OpensLog, PaveRun};
+ghost use Rattle.cover_run.specs.Paving.{SpellNoRows, outputs, LogEnds, PavingEnds, OpensLog, PaveRun};
 ghost use Rattle.cover_run.specs.Statuses.{ending, status_of};
 ghost use Rattle.cover_run.specs.declared.limits.Limits.{Limits};
 ghost use Rattle.cover_run.specs.declared.notice.Notice.{Notice};
@@ -28,46 +28,50 @@ use outer_io::{Shelf, Sink, Slot};
 use paving_log::Log;
 use std::alloc::Global;
 
-/// Creates the named log, and writes it for these rows.
-fn create_log<H: Shelf>(
+/// Creates the named log, writes it for these rows and prints its report.
+fn create_log<H: Shelf, O: Sink>(
     alloc: Global,
     limit: u64,
     name: &str,
     rows: &Log,
     shelf: &mut H,
+    out: &mut O,
 ) -> Result<(), Notice>
     requires limit { limit ≤ 4000000000 }
     requires fits { LogFits form.Rows (log_value rows.now) }
     requires passes { AllOwnPass rows.now.rules None (log_value rows.now).blocks }
-    ensures log { LogEnds (log_value rows.now) limit (H.told shelf.old) (H.told shelf.new) name.now result }
+    ensures log { LogEnds (log_value rows.now) limit (outputs (H.told shelf.old) (O.taken out.old)) (outputs (H.told shelf.new) (O.taken out.new)) name.now result }
     ensures phases { (phase : Phase) × (H.phases shelf.new ≡ put (H.phases shelf.old) Slot.Log phase) }
 
     // When a write fails.
     ensures failed { result ≡ Err Notice.LogFault → Rose (H.write_faults shelf.old) (H.write_faults shelf.new) }
     ensures reliable { (log : Option (List ℕ)) → H.reliable shelf.new log
         → H.reliable shelf.old log × (log ≡ Some name.now → result ≢ Err Notice.LogFault) }
+    ensures out_failed { result ≡ Err Notice.OutFault → Rose (O.faults out.old) (O.faults out.new) }
+    ensures out_reliable { O.reliable out.new → result ≢ Err Notice.OutFault }
 {
     match shelf.create(name, Slot::Log) {
         Ok(()) => {}
         Err(_) => return Err(Notice::LogFault),
     }
-    match write_log(alloc, shelf, limit, rows) {
+    match write_log(alloc, shelf, out, limit, rows) {
         Ok(()) => Ok(()),
         Err(fault) => Err(Notice::of_writing(limit, fault)),
     }
 }
 
-/// Reads the named rows, paves their epochs and writes the log.
-fn pave_rows<H: Shelf>(
+/// Reads the named rows, paves their epochs, writes the log and prints the report.
+fn pave_rows<H: Shelf, O: Sink>(
     alloc: Global,
     limits: &Limits,
     rows: &str,
     log: &str,
     shelf: &mut H,
+    out: &mut O,
 ) -> Result<(), Notice>
     requires file { limits.now.file ≤ 4000000000 }
     requires log { limits.now.log ≤ 4000000000 }
-    ensures ends { PavingEnds limits.now rows.now log.now (H.told shelf.old) (H.told shelf.new) result }
+    ensures ends { PavingEnds limits.now rows.now log.now (outputs (H.told shelf.old) (O.taken out.old)) (outputs (H.told shelf.new) (O.taken out.new)) result }
     ensures phases { OpensNoFile Slot.Rows (H.phases shelf.old) (H.phases shelf.new) ⊎ OpensLog (H.phases shelf.old) (H.phases shelf.new) }
 
     // Each cause has its answer, unless a fault or want of memory comes first.
@@ -87,12 +91,14 @@ fn pave_rows<H: Shelf>(
     // When a write fails.
     ensures write_fault { result ≡ Err Notice.LogFault → Rose (H.write_faults shelf.old) (H.write_faults shelf.new) }
     ensures writes { H.reliable shelf.new (Some log.now) → result ≢ Err Notice.LogFault }
+    ensures out_fault { result ≡ Err Notice.OutFault → Rose (O.faults out.old) (O.faults out.new) }
+    ensures prints { O.reliable out.new → result ≢ Err Notice.OutFault }
     ensures unwritten { (notice : Notice) → result ≡ Err notice → (status_of notice ≡ Status.Refused) ⊎ (status_of notice ≡ Status.ReadFault)
-        → H.write_faults shelf.new ≡ H.write_faults shelf.old }
+        → (H.write_faults shelf.new ≡ H.write_faults shelf.old) × (O.faults out.new ≡ O.faults out.old) }
 {
     let bytes = read_file(alloc, shelf, rows, Slot::Rows, limits.file)?;
     let given = rows_in(alloc, &bytes)?;
-    create_log(alloc, limits.log, log, &given, shelf)
+    create_log(alloc, limits.log, log, &given, shelf, out)
 }
 
 /// Does what `pave ROWS LOG` asks for.
@@ -110,9 +116,9 @@ pub fn run_pave<H: Shelf, O: Sink, E: Sink>(
     ensures { PaveRun limits.now rows.now log.now
         (world (H.told shelf.old) (H.phases shelf.old) (H.read_faults shelf.old) (H.write_faults shelf.old) (O.taken out.old) (O.faults out.old) (E.taken err.old) (E.faults err.old))
         (world (H.told shelf.new) (H.phases shelf.new) (H.read_faults shelf.new) (H.write_faults shelf.new) (O.taken out.new) (O.faults out.new) (E.taken err.new) (E.faults err.new))
-        (H.reliable shelf.new) result }
+        (H.reliable shelf.new) (O.reliable out.new) result }
 {
-    match pave_rows(alloc, limits, rows, log, shelf) {
+    match pave_rows(alloc, limits, rows, log, shelf, out) {
         Ok(()) => Status::Done,
         Err(notice) => say(err, &notice),
     }

@@ -237,7 +237,8 @@ root -1000000 -900000 -900000 1000000 900000 900000
 
 const FEW: &str = "gpscover 1\nrules 1 0 1000000\nfew 1 1388102400000000000000 4\n";
 
-// A run over a shelf with the rows `a.rows`, on which `b.log` alone can be written.
+// A run over a shelf with the rows `a.rows`, on which `b.log` alone can be written, and over a sink for
+// the report.
 #[derive(Clone, Copy)]
 struct Paving {
     words: &'static [&'static str],
@@ -245,6 +246,8 @@ struct Paving {
     limit: u64,
     room: u64,
     fails: u64,
+    out_room: u64,
+    out_fails: u64,
 }
 
 const PAVE: Paving = Paving {
@@ -253,14 +256,17 @@ const PAVE: Paving = Paving {
     limit: 2_000,
     room: 2_000,
     fails: 0,
+    out_room: 400,
+    out_fails: 0,
 };
 
-// What a paving leaves: its status, the line on standard error and the log in two parts.
+// What a paving leaves: its status, the line on standard error, the log in two parts and the report.
 #[derive(Clone, Copy)]
 struct Left {
     status: Status,
     err: &'static str,
     log: Option<(&'static str, &'static str)>,
+    out: &'static str,
 }
 
 // Whether `b.log` is these two texts, one behind the other.
@@ -286,11 +292,11 @@ fn paves(rt: &(impl Abort + AllocGlobal), case: &Paving, left: &Left) -> Result<
         log: case.limit.min(4_000_000_000),
     };
     let mut shelf = shelf(alloc, "a.rows", case.rows, case.room, case.fails)?;
-    let mut out = MemorySink::make(alloc, 100, Vec::new(alloc))?;
+    let mut out = MemorySink::make(alloc, case.out_room, vec![in alloc; case.out_fails]?)?;
     let mut err = MemorySink::make(alloc, 200, Vec::new(alloc))?;
     let ended = run(alloc, &limits, &words, &mut shelf, &mut out, &mut err);
     assert_eq!(rt; ended, left.status);
-    assert_eq!(rt; out.bytes(), b"".as_slice());
+    assert_eq!(rt; out.bytes(), left.out.as_bytes());
     assert_eq!(rt; err.bytes(), left.err.as_bytes());
     match left.log {
         Some((first, second)) => assert!(rt; has_log(&shelf, first, second)),
@@ -299,24 +305,58 @@ fn paves(rt: &(impl Abort + AllocGlobal), case: &Paving, left: &Left) -> Result<
     Ok(())
 }
 
+const EPOCH_LINE: &str = "epoch 1 gps 1388102400.000000000000 satellites 4\n";
+
+const REPORT: &str = "\
+epoch 1 gps 1388102400.000000000000 satellites 4
+edge -1.000000 1.000000 -0.900000 0.900000 -0.900000 0.900000 clock -1.400000 1.400000
+total in 0 edge 1 out 0 bisections 0
+";
+
+const SPLIT_REPORT: &str = "\
+epoch 1 gps 1388102400.000000000000 satellites 4
+edge -1.000000 0.000000 -0.900000 0.900000 -0.900000 0.900000 clock -1.400000 0.500000
+edge 0.000001 1.000000 -0.900000 0.900000 -0.900000 0.900000 clock -0.499999 1.400000
+total in 0 edge 2 out 0 bisections 1
+";
+
+const EMPTY_REPORT: &str = "\
+epoch 1 gps 0.000000000000 few 3
+epoch 2 gps 1388102400.000000000000 satellites 4
+out -1.000000 1.000000 -0.900000 0.900000 -0.900000 0.900000
+total in 0 edge 0 out 1 bisections 0
+";
+
+const INNER_REPORT: &str = "\
+epoch 1 gps 1388102400.000000000000 satellites 5
+in -1.000000 1.000000 -0.900000 0.900000 -0.900000 0.900000 clock 0.000000
+total in 1 edge 0 out 0 bisections 0
+";
+
 #[test]
-fn rows_are_paved(rt: HostRuntime) -> Result<(), Fail> {
+fn rows_are_paved_and_reported(rt: HostRuntime) -> Result<(), Fail> {
     let table = [
-        (ROWS, "edge 0 -1400000 1400000\ndone 0\n"),
+        (ROWS, "edge 0 -1400000 1400000\ndone 0\n", REPORT),
         (
             SPLIT_ROWS,
             "split 0 0\nedge 1 -1400000 500000\nedge 2 -499999 1400000\ndone 1\n",
+            SPLIT_REPORT,
         ),
-        (EMPTY_ROWS, "out 0\ndone 0\n"),
-        (INNER_ROWS, "in 0 0 -1900000 1900000\ndone 0\n"),
-        (FEW, ""),
-        ("gpscover 1\nrules 8 200000 1000\n", ""),
+        (EMPTY_ROWS, "out 0\ndone 0\n", EMPTY_REPORT),
+        (
+            INNER_ROWS,
+            "in 0 0 -1900000 1900000\ndone 0\n",
+            INNER_REPORT,
+        ),
+        (FEW, "", "epoch 1 gps 1388102400.000000000000 few 4\n"),
+        ("gpscover 1\nrules 8 200000 1000\n", "", ""),
     ];
-    for (rows, steps) in table {
+    for (rows, steps, out) in table {
         let left = Left {
             status: Status::Done,
             err: "",
             log: Some((rows, steps)),
+            out,
         };
         paves(&rt, &Paving { rows, ..PAVE }, &left)?;
     }
@@ -338,44 +378,79 @@ fn what_is_no_rows_is_refused(rt: HostRuntime) -> Result<(), Fail> {
             status: Status::Refused,
             err,
             log: None,
+            out: "",
         };
         paves(&rt, &Paving { rows, ..PAVE }, &left)?;
     }
     Ok(())
 }
 
+const HEAD: &str = "gpscover 1\nrules 0 0 1000000\nepoch 1 1388102400000000000000 4\n";
+
 // A line that would pass the limit isn't begun, and a device that is full keeps what it took.
 #[test]
 fn a_log_ends_early(rt: HostRuntime) -> Result<(), Fail> {
-    let head = "gpscover 1\nrules 0 0 1000000\nepoch 1 1388102400000000000000 4\n";
+    let first = "gpscover 1\n";
+    let cut = "gpscover 1\nrules 0 0";
     let table = [
-        (100, 2_000, Status::LogFull, "log full 100\n", head),
-        (62, 2_000, Status::LogFull, "log full 62\n", head),
-        (28, 2_000, Status::LogFull, "log full 28\n", "gpscover 1\n"),
-        (0, 2_000, Status::LogFull, "log full 0\n", ""),
         (
+            100,
             2_000,
-            20,
-            Status::WriteFault,
-            "log fault\n",
-            "gpscover 1\nrules 0 0",
+            Status::LogFull,
+            "log full 100\n",
+            HEAD,
+            EPOCH_LINE,
         ),
+        (
+            62,
+            2_000,
+            Status::LogFull,
+            "log full 62\n",
+            HEAD,
+            EPOCH_LINE,
+        ),
+        (28, 2_000, Status::LogFull, "log full 28\n", first, ""),
+        (0, 2_000, Status::LogFull, "log full 0\n", "", ""),
+        (2_000, 20, Status::WriteFault, "log fault\n", cut, ""),
     ];
-    for (limit, room, status, err, text) in table {
+    for (limit, room, status, err, text, out) in table {
         let left = Left {
             status,
             err,
             log: Some((text, "")),
+            out,
         };
-        paves(
-            &rt,
-            &Paving {
-                limit,
-                room,
-                ..PAVE
-            },
-            &left,
-        )?;
+        let case = Paving {
+            limit,
+            room,
+            ..PAVE
+        };
+        paves(&rt, &case, &left)?;
+    }
+    Ok(())
+}
+
+// The line of the log stands where its line of the report broke off.
+#[test]
+fn a_report_ends_early(rt: HostRuntime) -> Result<(), Fail> {
+    let table = [
+        (20, 0, HEAD, "", "epoch 1 gps 13881024"),
+        (400, 1, HEAD, "", ""),
+        (400, 2, ROWS, "edge 0 -1400000 1400000\n", EPOCH_LINE),
+    ];
+    for (out_room, out_fails, rows, step, out) in table {
+        let left = Left {
+            status: Status::WriteFault,
+            err: "out fault\n",
+            log: Some((rows, step)),
+            out,
+        };
+        let case = Paving {
+            out_room,
+            out_fails,
+            ..PAVE
+        };
+        paves(&rt, &case, &left)?;
     }
     Ok(())
 }
@@ -387,6 +462,7 @@ fn each_call_of_a_paving_that_fails_has_its_status(rt: HostRuntime) -> Result<()
         status: Status::ReadFault,
         err: "rows fault\n",
         log: None,
+        out: "",
     };
     for fails in 1..4u64 {
         paves(&rt, &Paving { fails, ..PAVE }, &none)?;
@@ -397,6 +473,7 @@ fn each_call_of_a_paving_that_fails_has_its_status(rt: HostRuntime) -> Result<()
         status: Status::WriteFault,
         err: "log fault\n",
         log: None,
+        out: "",
     };
     paves(&rt, &Paving { fails: 4, ..PAVE }, &uncreated)?;
     let words: &[&str] = &["pave", "a.rows", "c.log"];
@@ -405,6 +482,7 @@ fn each_call_of_a_paving_that_fails_has_its_status(rt: HostRuntime) -> Result<()
         status: Status::WriteFault,
         err: "log fault\n",
         log: Some(("gpscover 1\n", "")),
+        out: "",
     };
     paves(&rt, &Paving { fails: 6, ..PAVE }, &broken)
 }

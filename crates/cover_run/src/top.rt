@@ -20,8 +20,8 @@ use std::alloc::Global;
 
 /// Does what the words after the program's name ask for. `judge LOG` reads the log, judges it with
 /// its satellite rows taken as given, and prints the verdict on `out`. `pave ROWS LOG` reads the
-/// rows, paves their epochs and writes the log. What stands in the way is said on `err`, where a
-/// fault changes nothing.
+/// rows, paves their epochs, writes the log and prints the report on `out`. What stands in the way is
+/// said on `err`, where a fault changes nothing.
 pub fn run<H: Shelf, O: Sink, E: Sink>(
     alloc: Global,
     limits: &Limits,
@@ -48,7 +48,7 @@ pub fn run<H: Shelf, O: Sink, E: Sink>(
     ensures pave { IfPave (command_of (texts words.now)) (λ rows log. PaveRun limits.now rows log
         (world (H.told shelf.old) (H.phases shelf.old) (H.read_faults shelf.old) (H.write_faults shelf.old) (O.taken out.old) (O.faults out.old) (E.taken err.old) (E.faults err.old))
         (world (H.told shelf.new) (H.phases shelf.new) (H.read_faults shelf.new) (H.write_faults shelf.new) (O.taken out.new) (O.faults out.new) (E.taken err.new) (E.faults err.new))
-        (H.reliable shelf.new) result) }
+        (H.reliable shelf.new) (O.reliable out.new) result) }
 {
     match command_of(words) {
         Some(Command::Judge { log }) => run_judge(alloc, limits.log, log, shelf, out, err),

@@ -18,6 +18,3 @@ mod tables;
 pub use fault::{Fault, KeyText, SettingsError, SettingsFault};
 pub use read::read_settings;
 pub use settings::{Centre, Settings};
-
-#[cfg(test)]
-mod tests;

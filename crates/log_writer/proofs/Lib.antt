@@ -1,8 +1,9 @@
-pub mod WritingLemmas
 pub mod ClockSizes
 pub mod StepSizes
+pub mod WritingLemmas
+pub mod ReportLemmas
+pub mod TextLemmas
 pub mod RunLemmas
 pub mod SatLemmas
 pub mod BlockLemmas
 pub mod LogLemmas
-pub mod TextLemmas

@@ -1,5 +1,5 @@
 -- A log that paves given rows, block by block.
-use Rattle.std.proofs.Common.{◌≡◌, ℕ, suc, ◌+◌, ◌<◌, ◌≤◌, List, [], ◌∷◌, ◌++◌, length, get_or, drop, map, add-one, Option, None, Some, Ok, Err, refl, sym, ap, subst, ◌∙◌, append_assoc, append-nil, arith, length-append}
+use Rattle.std.proofs.Common.{◌≡◌, ℕ, suc, ◌+◌, ◌<◌, ◌≤◌, List, [], ◌∷◌, ◌++◌, length, get_or, drop, map, add-one, Option, None, Some, Result, Ok, Err, refl, sym, ap, subst, ◌∙◌, append_assoc, append-nil, arith, length-append}
 use Rattle.std.specs.Prelude.{Bool, true, false}
 use Rattle.std.specs.List.{flat_map, AllByRecursion}
 use Rattle.std.proofs.Math.ListN.{get_or-map}
@@ -13,23 +13,24 @@ use Rattle.sat_model.specs.Logs.{Block, LogValue, rows_of}
 use Rattle.sat_model.specs.Verdicts.{IsLater, SuitsNumber, CountsRows, HeadPasses, BodyPasses, BlocksPass, Judged}
 use Rattle.sat_model.proofs.CoverLemmas.{row_cover}
 use Rattle.sat_model.proofs.PavedLemmas.{paved_passes}
-use Rattle.paving.specs.declared.steps.StepFault.{StepFault}
 use Rattle.paving_log.specs.declared.line.LogLine.{LogLine}
-use Rattle.paving_log.specs.declared.line.LogLine.TheVariants as line
 use Rattle.paving_log.specs.declared.log.Log.{Log}
 use Rattle.paving_log.specs.declared.log.LogEpoch.{LogEpoch}
 use Rattle.paving_log.specs.declared.line.Form.TheVariants as form
-use Rattle.paving_log.specs.Lines.{text_of}
-use Rattle.paving_log.specs.Text.{block_lines, log_lines, log_text, BodyFits, BlockFits}
+use Rattle.paving_log.specs.Text.{block_lines, log_lines, BodyFits, BlockFits}
 use Rattle.paving_log.specs.Values.{block_of, log_value}
 use Rattle.paving_log.proofs.LogLemmas.{log_text_from}
 use Rattle.paving_log.proofs.NumberingLemmas.{length-text_of}
 use Rattle.paving_log.specs.RowsText.{IsNumberedIn, AllOwnPass}
 use Rattle.log_writer.specs.Pavings.{BodyPaves, Paves, AllPave}
-use Rattle.log_writer.specs.Writing.{Seen, Grew, EndedBy}
+use Rattle.log_writer.specs.declared.fault.WriteFault.{WriteFault}
+use Rattle.log_writer.specs.Pieces.{Piece, log_bytes, report_bytes, block_pieces, head_pieces, log_pieces}
+use Rattle.log_writer.specs.Texts.{IsText}
+use Rattle.log_writer.specs.Writing.{Seen, Sent, Went, Ended}
 use Rattle.log_writer.specs.Wrote.{WroteBlock, WroteLog}
 use Rattle.log_writer.proofs.BlockLemmas.{CanPave, HasRows, some_block}
-use Rattle.log_writer.proofs.WritingLemmas.{grew_lines, ended_behind, ended_before}
+use Rattle.log_writer.proofs.TextLemmas.{pieces_text, pieces_report}
+use Rattle.log_writer.proofs.WritingLemmas.{went_twice, ended_behind, ended_before}
 
 -- ---- given blocks
 
@@ -74,19 +75,16 @@ no_block rows {epochs = epochs} i items ended =
 
 -- ---- a log underway
 
-abbrev pub head_of : Rules → List LogLine
-head_of rules = line.Version ∷ line.Rules rules ∷ []
-
 -- blocks that pave the first i of the rows were written
 pub record IsUnderway (rows : LogValue) (a : Seen) (i : ℕ) (now : Seen) : Type 0 where
   pub blocks : List Block
   pub whole : (more : List Block) → AllPave rows.rules (drop i rows.blocks) more → AllPave rows.rules rows.blocks (blocks ++ more)
   pub pavable : CanAllPave rows.rules (drop i rows.blocks)
   pub fit : AllByRecursion (BlockFits form.Log) blocks
-  pub grew : Grew a (text_of (head_of rows.rules ++ flat_map (block_lines form.Log) blocks)) now
+  pub went : Went a (head_pieces rows.rules ++ flat_map block_pieces blocks) now
 
-pub begun : (rows : LogValue) (a now : Seen) → CanAllPave rows.rules rows.blocks → Grew a (text_of (head_of rows.rules)) now → IsUnderway rows a 0 now
-begun rows a now p grew = record { blocks = []; whole = λ more all. all; pavable = p; fit = tt; grew = grew }
+pub begun : (rows : LogValue) (a now : Seen) → CanAllPave rows.rules rows.blocks → Went a (head_pieces rows.rules) now → IsUnderway rows a 0 now
+begun rows a now p went = record { blocks = []; whole = λ more all. all; pavable = p; fit = tt; went = went }
 
 pub can_pave_here : {rows : LogValue} {a now : Seen} {i : ℕ} {g : Block} → IsUnderway rows a i now → IsBlockAt rows i g → CanPave rows.rules g
 can_pave_here {rows = rows} u here = (subst (λ (gs : List Block). CanAllPave rows.rules gs) here.at u.pavable).0
@@ -104,10 +102,10 @@ block_more {rows = rows} {a = a} {now = now} {last = last} {i = i} {g = g} done 
       (u.whole (w.block ∷ more) (subst (λ (gs : List Block). AllPave rows.rules gs (w.block ∷ more)) (sym here.at) (w.paves, all)));
   pavable = (subst (λ (gs : List Block). CanAllPave rows.rules gs) here.at u.pavable).1;
   fit = fit_more u.blocks w.block u.fit w.fits;
-  grew = subst (λ (ls : List LogLine). Grew a (text_of (head_of rows.rules ++ ls)) last)
-      (ap (λ (ls : List LogLine). flat_map (block_lines form.Log) u.blocks ++ ls) (sym (append-nil (block_lines form.Log w.block))) ∙ sym (flat_map-append (block_lines form.Log) u.blocks (w.block ∷ [])))
-      (subst (λ (ls : List LogLine). Grew a (text_of ls) last) (append_assoc (head_of rows.rules) (flat_map (block_lines form.Log) u.blocks) (block_lines form.Log w.block))
-      (grew_lines a now last (head_of rows.rules ++ flat_map (block_lines form.Log) u.blocks) (block_lines form.Log w.block) u.grew w.written));
+  went = subst (λ (ps : List Piece). Went a (head_pieces rows.rules ++ ps) last)
+      (ap (λ (ps : List Piece). flat_map block_pieces u.blocks ++ ps) (sym (append-nil (block_pieces w.block))) ∙ sym (flat_map-append block_pieces u.blocks (w.block ∷ [])))
+      (subst (λ (ps : List Piece). Went a ps last) (append_assoc (head_pieces rows.rules) (flat_map block_pieces u.blocks) (block_pieces w.block))
+      (went_twice a now last (head_pieces rows.rules ++ flat_map block_pieces u.blocks) (block_pieces w.block) u.went w.written));
 }
 
 -- ---- what a paving passes
@@ -144,6 +142,10 @@ with_line next b = record b { line = next }
 abbrev numbered : ℕ → List Block → List Block
 numbered next [] = []
 numbered next (b ∷ more) = with_line next b ∷ numbered (next + length (block_lines form.Log b)) more
+
+same_pieces : (next : ℕ) (blocks : List Block) → flat_map block_pieces (numbered next blocks) ≡ flat_map block_pieces blocks
+same_pieces next [] = refl
+same_pieces next (b ∷ more) = ap (λ (ps : List Piece). block_pieces b ++ ps) (same_pieces (next + length (block_lines form.Log b)) more)
 
 same_lines : (next : ℕ) (blocks : List Block) → flat_map (block_lines form.Log) (numbered next blocks) ≡ flat_map (block_lines form.Log) blocks
 same_lines next [] = refl
@@ -196,46 +198,79 @@ log_done {rows = rows} {a = a} {now = now} {i = i} done room passes u ended =
     let all : AllPave rows.rules rows.blocks u.blocks = subst (λ (bs : List Block). AllPave rows.rules rows.blocks bs) (append-nil u.blocks)
     (u.whole [] (subst (λ (gs : List Block). AllPave rows.rules gs []) (sym ended) tt)) in
     let log : LogValue = record { rules = rows.rules; blocks = numbered 3 u.blocks } in
-    let lines : head_of rows.rules ++ flat_map (block_lines form.Log) u.blocks ≡ log_lines form.Log log = ap (λ (ls : List LogLine). line.Version ∷ line.Rules rows.rules ∷ ls) (sym (same_lines 3 u.blocks)) in
-    let grew : Grew a (log_text form.Log log) now = subst (λ (ls : List LogLine). Grew a (text_of ls) now) lines u.grew in
+    let went : Went a (log_pieces log) now = subst (λ (ps : List Piece). Went a (head_pieces rows.rules ++ ps) now) (sym (same_pieces 3 u.blocks)) u.went in
     let paves = pave_numbered rows.rules 3 rows.blocks u.blocks all in
     let judged : Judged log = blocks_pass rows.rules None rows.blocks (numbered 3 u.blocks) paves passes in
+    let text = pieces_text log in
     let count : 3 + length (flat_map (block_lines form.Log) u.blocks) ≤ 4000000001 =
-    omega (arith, u.grew.left, room, length-text_of (head_of rows.rules ++ flat_map (block_lines form.Log) u.blocks)) in
+    omega (arith, went.left, room, ap length text, length-text_of (log_lines form.Log log), ap length (same_lines 3 u.blocks)) in
     record {
       log = log;
       paving = record { rules = refl; blocks = paves };
-      written = grew;
-      text = log_text_from log (log_text form.Log log) (record { fits = fits_numbered 3 u.blocks u.fit; numbered = are_numbered 3 u.blocks count; spelled = refl });
+      written = went;
+      text = log_text_from log (log_bytes (log_pieces log)) (record { fits = fits_numbered 3 u.blocks u.fit; numbered = are_numbered 3 u.blocks count; spelled = text });
+      report = pieces_report log;
       right = (judged, row_cover log judged);
     }
 
 -- a block ended early
-pub log_ended : {T S : Type 0} {rows : LogValue} {a now last : Seen} {i : ℕ} {g : Block} (fault : StepFault) → IsUnderway rows a i now → IsBlockAt rows i g
+pub log_ended : {T S : Type 0} {rows : LogValue} {a now last : Seen} {i : ℕ} {g : Block} (fault : WriteFault) → IsUnderway rows a i now → IsBlockAt rows i g
     → WroteBlock {T = T} rows.rules g now (Err fault) last → WroteLog {T = S} rows a (Err fault) last
 log_ended {rows = rows} {a = a} {now = now} {last = last} {i = i} {g = g} fault u here w =
     let (more, all) = some_blocks rows.rules (drop (i + 1) rows.blocks) (subst (λ (gs : List Block). CanAllPave rows.rules gs) here.at u.pavable).1 in
     let whole = u.whole (w.block ∷ more) (subst (λ (gs : List Block). AllPave rows.rules gs (w.block ∷ more)) (sym here.at) (w.paves, all)) in
-    let rest : List LogLine = flat_map (block_lines form.Log) more in
+    let rest : List Piece = flat_map block_pieces more in
     record {
       log = record { rules = rows.rules; blocks = u.blocks ++ w.block ∷ more };
       paving = record { rules = refl; blocks = whole };
-      written = subst (λ (ls : List LogLine). EndedBy a ls fault last)
-          (append_assoc (head_of rows.rules) (flat_map (block_lines form.Log) u.blocks) (block_lines form.Log w.block ++ rest)
-          ∙ ap (λ (ls : List LogLine). head_of rows.rules ++ ls) (sym (flat_map-append (block_lines form.Log) u.blocks (w.block ∷ more))))
-          (ended_behind a now last (head_of rows.rules ++ flat_map (block_lines form.Log) u.blocks) (block_lines form.Log w.block ++ rest) fault u.grew
-          (ended_before now last (block_lines form.Log w.block) rest fault w.written));
+      written = subst (λ (ps : List Piece). Ended a ps fault last)
+          (append_assoc (head_pieces rows.rules) (flat_map block_pieces u.blocks) (block_pieces w.block ++ rest)
+          ∙ ap (λ (ps : List Piece). head_pieces rows.rules ++ ps) (sym (flat_map-append block_pieces u.blocks (w.block ∷ more))))
+          (ended_behind a now last (head_pieces rows.rules ++ flat_map block_pieces u.blocks) (block_pieces w.block ++ rest) fault u.went
+          (ended_before now last (block_pieces w.block) rest fault w.written));
       text = tt;
+      report = tt;
       right = tt;
     }
 
 -- the head ended early
-pub head_ended : {S : Type 0} {rows : LogValue} {a last : Seen} (fault : StepFault) → CanAllPave rows.rules rows.blocks → EndedBy a (head_of rows.rules) fault last → WroteLog {T = S} rows a (Err fault) last
+pub head_ended : {S : Type 0} {rows : LogValue} {a last : Seen} (fault : WriteFault) → CanAllPave rows.rules rows.blocks → Ended a (head_pieces rows.rules) fault last → WroteLog {T = S} rows a (Err fault) last
 head_ended {rows = rows} {a = a} {last = last} fault p ended =
     let (blocks, all) = some_blocks rows.rules rows.blocks p in record {
       log = record { rules = rows.rules; blocks = blocks };
       paving = record { rules = refl; blocks = all };
-      written = ended_before a last (head_of rows.rules) (flat_map (block_lines form.Log) blocks) fault ended;
+      written = ended_before a last (head_pieces rows.rules) (flat_map block_pieces blocks) fault ended;
       text = tt;
+      report = tt;
       right = tt;
     }
+
+-- ---- what the whole writing says
+
+pub record HasText {T : Type 0} (rows : LogValue) (before : Seen) (result : Result T WriteFault) (after : Seen) : Type 0 where
+  pub bytes : List ℕ
+  pub said : List ℕ
+  pub sent : Sent before bytes said after
+  pub is_text : IsText rows before.left result bytes said
+
+pub text_written : {T : Type 0} (rows : LogValue) (a c : Seen) (r : Result T WriteFault) → WroteLog rows a r c → HasText rows a r c
+text_written rows a c (Ok done) w = record {
+  bytes = log_bytes (log_pieces w.log);
+  said = report_bytes (log_pieces w.log);
+  sent = w.written.sent;
+  is_text = record {
+    log = w.log;
+    paving = w.paving;
+    text = w.text;
+    report = w.report;
+    judged = w.right.0;
+    cover = w.right.1;
+    fits = omega (arith, w.written.left);
+  };
+}
+text_written rows a c (Err fault) w = record {
+  bytes = w.written.log;
+  said = w.written.report;
+  sent = w.written.sent;
+  is_text = record { log = w.log; paving = w.paving; broke = w.written.broke };
+}

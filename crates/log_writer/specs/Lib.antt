@@ -1,4 +1,6 @@
 pub mod Pavings
+pub mod Pieces
+pub mod Breaks
 pub mod Writing
 pub mod Steps
 pub mod Wrote

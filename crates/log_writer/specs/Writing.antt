@@ -1,62 +1,59 @@
--- How much of a log's lines was written.
-use Rattle.std.specs.Prelude.{◌≡◌, ℕ, ◌+◌, ◌<◌, ◌≤◌, ◌↔◌, List, [], ◌∷◌, ◌++◌, length, take, Option, Result, Ok, Err}
+-- What went to a log and to `out`.
+use Rattle.std.specs.Prelude.{◌≡◌, ℕ, ◌+◌, ◌≤◌, List, length, Option, Result, Ok, Err}
+use Rattle.std.specs.Io.KnownBytes.{append_known}
+use Rattle.outer_io.specs.Causes.{Rose}
 use Rattle.outer_io.specs.declared.shelf.Phase.{Phase}
-use Rattle.outer_io.specs.declared.slots.Slot.TheVariants.{Log}
+use Rattle.outer_io.specs.declared.slots.Slot.TheVariants as slot
 use Rattle.outer_io.specs.declared.slots.Slots.{Slots}
 use Rattle.outer_io.specs.Told.{Told, AppendedBy}
-use Rattle.paving.specs.declared.steps.StepFault.{StepFault}
-use Rattle.paving.specs.declared.steps.StepFault.TheVariants.{Failed, Full, NoMemory}
-use Rattle.paving_log.specs.declared.line.LogLine.{LogLine}
-use Rattle.paving_log.specs.Lines.{text_of}
+use Rattle.log_writer.specs.declared.fault.WriteFault.{WriteFault}
+use Rattle.log_writer.specs.declared.fault.WriteFault.TheVariants as why
+use Rattle.log_writer.specs.Pieces.{Piece, log_bytes, report_bytes}
+use Rattle.log_writer.specs.Breaks.{BrokeOff}
 
--- what a shelf tells of its files, what its slots are open for, and how many bytes of the log may still come
+-- What a shelf tells of its files, what its slots are open for, and how often it failed to write; what
+-- `out` has taken, and how often it failed; and how many bytes of the log may still come.
 pub record Seen : Type 0 where
   pub told : Option Told
   pub phases : Slots Phase
+  pub log_faults : ℕ
+  pub taken : Option (List ℕ)
+  pub out_faults : ℕ
   pub left : ℕ
 
-abbrev pub seen : Option Told → Slots Phase → ℕ → Seen
-seen told phases left = record { told = told; phases = phases; left = left }
+abbrev pub seen : Option Told → Slots Phase → ℕ → Option (List ℕ) → ℕ → ℕ → Seen
+seen told phases log_faults taken out_faults left =
+    record { told = told; phases = phases; log_faults = log_faults; taken = taken; out_faults = out_faults; left = left }
 
--- these bytes went to the log
-pub record Grew (before : Seen) (bytes : List ℕ) (after : Seen) : Type 0 where
-  pub appended : AppendedBy before.told after.told Log bytes
+-- these bytes went to the log, and these to `out`
+pub record Sent (before : Seen) (log report : List ℕ) (after : Seen) : Type 0 where
+  pub appended : AppendedBy before.told after.told slot.Log log
+  pub taken : after.taken ≡ append_known before.taken report
   pub phases : after.phases ≡ before.phases
-  pub left : length bytes + after.left ≡ before.left
+  pub log_faults : before.log_faults ≤ after.log_faults
+  pub out_faults : before.out_faults ≤ after.out_faults
 
--- some first bytes of the piece did, and none where it is longer than what is left
-pub record Broke (before : Seen) (bytes : List ℕ) (after : Seen) : Type 0 where
-  pub kept : ℕ
-  pub is_part : kept ≤ length bytes
-  pub none : before.left < length bytes → kept ≡ 0
-  pub appended : AppendedBy before.told after.told Log (take kept bytes)
-  pub phases : after.phases ≡ before.phases
+-- all of the pieces went out
+pub record Went (before : Seen) (pieces : List Piece) (after : Seen) : Type 0 where
+  pub sent : Sent before (log_bytes pieces) (report_bytes pieces) after
+  pub left : length (log_bytes pieces) + after.left ≡ before.left
 
--- The first of the lines went to the log, and the next one broke off: with this fault, which is that
--- of want of room exactly where the line is longer than what was left.
-pub record BrokeOff (before : Seen) (lines : List LogLine) (fault : StepFault) (after : Seen) : Type 0 where
-  pub earlier : List LogLine
-  pub next : LogLine
-  pub more : List LogLine
-  pub all : lines ≡ earlier ++ next ∷ more
-  pub middle : Seen
-  pub grew : Grew before (text_of earlier) middle
-  pub broke : Broke middle (text_of (next ∷ [])) after
-  pub full : (fault ≡ Full) ↔ (middle.left < length (text_of (next ∷ [])))
+-- the device that is at fault has counted it
+abbrev pub IsCounted : Seen → WriteFault → Seen → Type 0
+IsCounted before why.Log after = Rose before.log_faults after.log_faults
+IsCounted before why.Out after = Rose before.out_faults after.out_faults
+IsCounted before why.Full after = Unit {0}
+IsCounted before why.NoMemory after = Unit {0}
 
--- the first of the lines went to the log
-pub record Stopped (before : Seen) (lines : List LogLine) (after : Seen) : Type 0 where
-  pub earlier : List LogLine
-  pub more : List LogLine
-  pub all : lines ≡ earlier ++ more
-  pub grew : Grew before (text_of earlier) after
+-- the pieces broke off with this fault
+pub record Ended (before : Seen) (pieces : List Piece) (fault : WriteFault) (after : Seen) : Type 0 where
+  pub log : List ℕ
+  pub report : List ℕ
+  pub sent : Sent before log report after
+  pub broke : BrokeOff before.left pieces fault log report
+  pub counted : IsCounted before fault after
 
-abbrev pub EndedBy : Seen → List LogLine → StepFault → Seen → Type 0
-EndedBy before lines Failed after = BrokeOff before lines Failed after
-EndedBy before lines Full after = BrokeOff before lines Full after
-EndedBy before lines NoMemory after = Stopped before lines after
-
--- all lines went to the log, or the first of them where a fault or want of memory ended it
-abbrev pub Written : {T : Type 0} → Seen → List LogLine → Result T StepFault → Seen → Type 0
-Written before lines (Ok done) after = Grew before (text_of lines) after
-Written before lines (Err fault) after = EndedBy before lines fault after
+-- by how the writing ended
+abbrev pub Written : {T : Type 0} → Seen → List Piece → Result T WriteFault → Seen → Type 0
+Written before pieces (Ok done) after = Went before pieces after
+Written before pieces (Err fault) after = Ended before pieces fault after

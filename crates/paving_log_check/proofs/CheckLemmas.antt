@@ -1,6 +1,6 @@
 -- The blocks of a log, checked one by one against the epochs.
-use Rattle.std.proofs.Common.{◌≡◌, ℕ, zero, suc, ◌+◌, ◌<◌, ◌≤◌, arith, List, [], ◌∷◌, length, drop, map, get_or, inl, inr, refl, sym, ap, subst, ◌∙◌, Option, None, Some}
-use Rattle.std.specs.Prelude.{ℤ, IsTrue, ◌↔◌}
+use Rattle.std.proofs.Common.{◌≡◌, ℕ, ◌+◌, ◌≤◌, arith, List, [], ◌∷◌, length, inl, inr, refl, sym, ap, Option, None, Some}
+use Rattle.std.specs.Prelude.{ℤ}
 use Rattle.rinex_obs.specs.declared.obs.ObsEpoch.{ObsEpoch}
 use Rattle.rinex_obs.specs.declared.obs.SatObs.{SatObs}
 use Rattle.sat_model.specs.Boxes.{GridBox}
@@ -14,9 +14,9 @@ use Rattle.sat_model.specs.declared.satellites.Sat.{Sat}
 use Rattle.sat_model.specs.declared.satellites.Skip.{Skip}
 use Rattle.sat_rows.specs.Chains.{Chain}
 use Rattle.sat_rows.specs.declared.lines.SatLine.{SatLine}
-use Rattle.paving_log.specs.Values.{block_of, log_value}
+use Rattle.paving_log.specs.Values.{log_value}
 use Rattle.paving_log.specs.declared.log.Log.{Log}
-use Rattle.paving_log_check.specs.Admissible.{AreSameRules, IsOf, IsDue, DueFails, AdmitsFrom, BlockFault, FailsFrom, Admits, Admissible, Fails, AreOwn, RulesDiffer}
+use Rattle.paving_log_check.specs.Admissible.{AreSameRules, IsOf, IsDue, AdmitsFrom, BlockFault, FailsFrom, Fails, AreOwn}
 use Rattle.paving_log_check.specs.Answers.{ShowsNoSpans}
 use Rattle.paving_log_check.specs.Checked.{EpochAccepted, EpochRefused, IsAccepted, IsRefused}
 use Rattle.paving_log_check.specs.Epochs.{BodyPassesAt, EpochFails}

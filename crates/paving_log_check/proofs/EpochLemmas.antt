@@ -1,5 +1,5 @@
 -- A block whose own lines pass is decided by its body.
-use Rattle.std.proofs.Common.{◌≡◌, ℕ, List, inr, Option, None, Some, Result, Ok, Err}
+use Rattle.std.proofs.Common.{◌≡◌, List, inr, Option, None, Some, Result, Ok, Err}
 use Rattle.std.specs.Prelude.{IfOk, MatchOption}
 use Rattle.sat_model.specs.Boxes.{GridBox}
 use Rattle.sat_model.specs.Logs.{Block}

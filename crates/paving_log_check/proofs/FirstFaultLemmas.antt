@@ -1,6 +1,6 @@
 -- A log that is admitted has no fault, and for given own lines a first fault is the only one.
-use Rattle.std.proofs.Common.{◌≡◌, ◌⊎◌, ℕ, zero, suc, ◌+◌, ◌<◌, ◌≤◌, arith, Bool, true, false, List, [], ◌∷◌, length, inl, inr, refl, sym, ap, subst, ◌∙◌, Option, None, Some}
-use Rattle.std.specs.Prelude.{ℤ, pos, slice_get}
+use Rattle.std.proofs.Common.{◌≡◌, ℕ, ◌+◌, arith, true, List, [], ◌∷◌, length, inl, inr, refl, sym, ap, subst, ◌∙◌, Option, None, Some}
+use Rattle.std.specs.Prelude.{pos, slice_get}
 use Rattle.std.proofs.lemmas.Bool.{cases_order}
 use Rattle.rinex_obs.specs.declared.obs.ObsEpoch.{ObsEpoch}
 use Rattle.sat_model.specs.Boxes.{GridBox}
@@ -9,7 +9,6 @@ use Rattle.sat_model.specs.Logs.{Block, LogValue, rows_of, lines_in}
 use Rattle.sat_model.specs.Relaxed.{ends}
 use Rattle.sat_model.specs.Verdicts.{NoneRepeats, HeadPasses, StepsPass, StepsFail}
 use Rattle.sat_model.specs.declared.rules.Rules.{Rules}
-use Rattle.sat_model.specs.declared.satellites.Row.{Row}
 use Rattle.sat_model.specs.declared.satellites.SatEntry.{SatEntry}
 use Rattle.sat_model.specs.declared.satellites.SatEntry.TheVariants as entry
 use Rattle.sat_model.specs.declared.spans.Span.{Span}
@@ -17,11 +16,11 @@ use Rattle.sat_model.proofs.FaultLemmas.{one_first_fault}
 use Rattle.sat_model.proofs.VerdictLemmas.{block_not_both}
 use Rattle.sat_rows.specs.declared.lines.SatLine.{SatLine}
 use Rattle.sat_rows.specs.declared.lines.SatLine.TheVariants.{Usable, Skipped}
-use Rattle.paving_log_check.specs.Admissible.{IsOf, IsDue, DueFails, AdmitsFrom, BlockFault, FailsFrom, Admits, Fails}
+use Rattle.paving_log_check.specs.Admissible.{DueFails, AdmitsFrom, BlockFault, FailsFrom, Admits, Fails}
 use Rattle.paving_log_check.specs.Answers.{ShowsNoSpans}
 use Rattle.paving_log_check.specs.Checked.{AreSameFault}
 use Rattle.paving_log_check.specs.Epochs.{EpochPasses, BodyFailsAt, BodyDiffers, EpochFails}
-use Rattle.paving_log_check.specs.Lines.{expected, HoldsSpan, HoldEach, compared, IsFirstNarrow, IsExpected, RowPasses, RowFails, LinePasses, LineFails, SatsPass, SatsFail}
+use Rattle.paving_log_check.specs.Lines.{expected, HoldEach, compared, IsFirstNarrow, IsExpected, RowPasses, RowFails, LinePasses, LineFails, SatsPass, SatsFail}
 use Rattle.paving_log_check.specs.declared.verdict.Fault.{Fault}
 
 -- ---- rows

@@ -1,7 +1,6 @@
 -- Rows that hold own rows keep what fits the satellites, and what surely fits the rows fits the satellites.
-use Rattle.std.proofs.Common.{◌≡◌, ◌⊎◌, ℕ, zero, suc, ◌+◌, ◌<◌, ◌≤◌, arith, Bool, true, false, cond, List, [], ◌∷◌, length, map, inl, inr, refl, sym, ap, ◌∙◌, Option, None, Some, count_by}
+use Rattle.std.proofs.Common.{◌≡◌, ℕ, zero, suc, ◌<◌, ◌≤◌, arith, Bool, true, false, cond, List, [], ◌∷◌, length, map, inl, inr, refl, sym, ap, ◌∙◌, Option, None, Some, count_by}
 use Rattle.std.specs.Prelude.{ℤ, pos, ◌-ℤ◌, ◌≤ℤ◌, slice_get, is_none}
-use Rattle.std.proofs.lemmas.Bool.{cases_Bool}
 use Rattle.std.proofs.lemmas.Int.{ints}
 use Rattle.std.proofs.lemmas.List.Sums.{sum_by-cons}
 use Rattle.rinex_obs.specs.declared.obs.ObsEpoch.{ObsEpoch}
@@ -9,7 +8,7 @@ use Rattle.rinex_obs.specs.declared.obs.SatObs.{SatObs}
 use Rattle.sat_model.specs.Boxes.{GridBox, box_holds}
 use Rattle.sat_model.specs.declared.boxes.Box3.{Box3}
 use Rattle.sat_model.specs.Cover.{IsSureInside, AreSureInside, EpochCover}
-use Rattle.sat_model.specs.Fitting.{range_to, RowValue, error_of, IsAllowed, IsPossible, IsSure, AllBut}
+use Rattle.sat_model.specs.Fitting.{range_to, RowValue, IsAllowed, IsPossible, IsSure, AllBut}
 use Rattle.sat_model.specs.Fold.{ShownStep, pieces}
 use Rattle.sat_model.specs.Intervals.{Between}
 use Rattle.sat_model.specs.Logs.{Block, rows_of}
@@ -27,15 +26,15 @@ use Rattle.sat_model.specs.declared.steps.Step.TheVariants.{Cut, Split, Outside,
 use Rattle.sat_model.proofs.CoverLemmas.{epoch_cover}
 use Rattle.sat_rows.specs.Chains.{Chain}
 use Rattle.sat_rows.specs.Fitting.{IsConsistent, Agrees, Fits}
-use Rattle.sat_rows.specs.OwnRows.{HoldsChain, IsOwnRow, IsOwnLine, AreOwnLines}
+use Rattle.sat_rows.specs.OwnRows.{HoldsChain, IsOwnRow, AreOwnLines}
 use Rattle.sat_rows.specs.declared.lines.SatLine.{SatLine}
 use Rattle.sat_rows.specs.declared.lines.SatLine.TheVariants.{Usable, Skipped}
 use Rattle.paving_log.specs.Values.{block_of, box_option}
 use Rattle.paving_log.specs.declared.log.LogEpoch.{LogEpoch}
 use Rattle.paving_log_check.specs.Admissible.{AreOwn, AdmitsFrom}
-use Rattle.paving_log_check.specs.Epochs.{BodyPassesAt, EpochPasses}
+use Rattle.paving_log_check.specs.Epochs.{BodyPassesAt}
 use Rattle.paving_log_check.specs.FileCover.{FitsInside, AllFitInside, FitCover, FitBlockCover, BlocksFitCover}
-use Rattle.paving_log_check.specs.Lines.{expected, IsSameLine, HoldsSpan, HoldsOwn, HasBound, RowPasses, LinePasses, SatsPass}
+use Rattle.paving_log_check.specs.Lines.{expected, IsSameLine, HoldsSpan, HoldsOwn, HasBound, RowPasses, SatsPass}
 
 -- ---- one row
 
@@ -252,7 +251,6 @@ module _ (IsJudged : ℤ → SatObs → Option Skip → Type 0) (Allows : ℤ �
     (one : (tag : ℤ) (seen : SatObs) (a b : Option Skip) → IsJudged tag seen a → IsJudged tag seen b → a ≡ b)
     (exists : (tag : ℤ) (seen : SatObs) (p : Pos) → IsJudged tag seen None → (c : Chain) × Allows tag seen p c)
     (range_is : (tag : ℤ) (seen : SatObs) (p : Pos) (c : Chain) → Allows tag seen p c → c.range ≡ range_to c.x c.y c.z p) where
-
   pub blocks_fit : (rules : Rules) (before : Option ℕ) (owns : List (List SatLine)) (seens : List ObsEpoch) (epochs : List LogEpoch)
       → AdmitsFrom rules root before owns seens (map block_of epochs) → AreOwn IsJudged Allows declared root seens owns → length owns ≡ length seens
       → BlocksFitCover IsJudged Allows declared rules.outliers root seens (map block_of epochs)

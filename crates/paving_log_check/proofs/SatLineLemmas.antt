@@ -1,8 +1,8 @@
 -- Satellite lines against the expected ones.
-use Rattle.std.proofs.Common.{◌≡◌, ◌⊎◌, ℕ, ◌<◌, ◌≤◌, arith, Bool, true, List, [], ◌∷◌, length, get_or, subst, sym, ap, inl, inr, refl, ◌∙◌, Option, None, Some}
+use Rattle.std.proofs.Common.{◌≡◌, ℕ, ◌<◌, Bool, List, length, get_or, subst, ap, inl, inr, refl, Option, None, Some}
 use Rattle.std.specs.Prelude.{IsTrue, ◌↔◌, MatchOption, slice_get}
 use Rattle.std.proofs.lemmas.Bool.{cases_order}
-use Rattle.std.proofs.lemmas.Option.{slice_get_read, slice_get_past}
+use Rattle.std.proofs.lemmas.Option.{slice_get_read}
 use Rattle.sat_model.specs.Verdicts.{IsRepeat, NoneRepeats, IsFirstRepeat}
 use Rattle.sat_model.specs.declared.satellites.SatEntry.{SatEntry}
 use Rattle.sat_rows.specs.declared.lines.SatLine.{SatLine}

@@ -1,5 +1,5 @@
 -- A log's satellite lines against the lines of the epoch's satellites that the files give.
-use Rattle.std.specs.Prelude.{◌≡◌, ◌≢◌, ℕ, ◌<◌, ◌⊎◌, ◌≤ℤ◌, Bool, true, false, List, [], ◌∷◌, length, Some, slice_get}
+use Rattle.std.specs.Prelude.{◌≡◌, ℕ, ◌<◌, ◌⊎◌, ◌≤ℤ◌, Bool, true, false, List, [], ◌∷◌, length, Some, slice_get}
 use Rattle.sat_model.specs.Relaxed.{ends}
 use Rattle.sat_model.specs.Verdicts.{IsRepeat}
 use Rattle.sat_model.specs.declared.satellites.Row.{Row}

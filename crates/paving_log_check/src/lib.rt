@@ -8,6 +8,7 @@ mod cuts;
 mod epochs;
 mod faults;
 mod files;
+mod gps;
 mod live;
 mod logs;
 mod sat_lines;
@@ -16,6 +17,7 @@ mod verdict;
 
 pub use epochs::check_epoch;
 pub use files::check_with;
+pub use gps::check;
 pub use logs::judge;
 pub use verdict::{Fault, Verdict};
 

@@ -15,6 +15,3 @@ mod week;
 pub use nav::Nav;
 pub use read::read_nav;
 pub use record::NavRecord;
-
-#[cfg(test)]
-mod tests;

@@ -7,3 +7,4 @@ pub mod LineLemmas
 pub mod OnlyLemmas
 pub mod HeadLemmas
 pub mod BlockLemmas
+pub mod FactLemmas

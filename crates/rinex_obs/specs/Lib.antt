@@ -3,3 +3,4 @@ pub mod Header
 pub mod Epochs
 pub mod Files
 pub mod Reading
+pub mod Facts

@@ -16,6 +16,3 @@ mod types;
 
 pub use obs::{Obs, ObsEpoch, SatObs};
 pub use read::read_obs;
-
-#[cfg(test)]
-mod tests;

@@ -4,6 +4,7 @@ ghost use Rattle.std.specs.Prelude.{◌≡◌, ◌≤◌, IfOk, IfErr, length};
 ghost use Rattle.rinex_text.specs.Lines.{lines_of};
 ghost use Rattle.rinex_text.specs.Reading.{Refuses, GivesRefusal};
 ghost use Rattle.rinex_text.specs.declared.fault.Refusal.{Refusal};
+ghost use Rattle.rinex_obs.specs.Facts.{AreNumbered, AreDistinct, AreGpsSats, InEach};
 ghost use Rattle.rinex_obs.specs.Files.{Observations, obs_file, IsObsFile, IsFirstFault};
 ghost use Rattle.rinex_obs.specs.Reading.{observations_of, GivesObservations};
 
@@ -54,6 +55,10 @@ pub fn read_obs(
     ensures exact { (observations : Observations) → IsObsFile signal.now position bytes.now observations → GivesObservations observations result }
     // A text with a fault is refused with its first, unless memory runs out.
     ensures first { (refusal : Refusal) → IsFirstFault signal.now position bytes.now refusal → GivesRefusal refusal result }
+    // Of the epochs of every file the same holds.
+    ensures numbered { IfOk result (λ obs. AreNumbered (observations_of obs).epochs) }
+    ensures distinct { IfOk result (λ obs. InEach AreDistinct (observations_of obs).epochs) }
+    ensures gps { IfOk result (λ obs. InEach AreGpsSats (observations_of obs).epochs) }
 {
     read_text(alloc, bytes, signal, position)
 }

@@ -19,6 +19,3 @@ pub use fields::{
 };
 pub use header::{behind_header, behind_version, is_short};
 pub use lines::{Line, Lines};
-
-#[cfg(test)]
-mod tests;

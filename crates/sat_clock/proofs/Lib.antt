@@ -1,3 +1,4 @@
 pub mod MotionLemmas
 pub mod ClockLemmas
 pub mod RelativityLemmas
+pub mod ClockExists

@@ -17,7 +17,11 @@ pub record Chain : Type 0 where
 abbrev pub observed : (a : Sighting) → IsUsable a → Observed
 observed a usable = record { tag = a.tag; codes = usable.measured.codes; el = usable.el }
 
--- the equations allow these values at p
+-- the equations allow these values of what was observed, as seen from p
+abbrev pub IsChainOf : Observed → Pos → Chain → Type 0
+IsChainOf seen p c = ChainValue seen p c.x c.y c.z c.corrected c.range
+
+-- ... and of a usable satellite
 pub record IsChainAt (a : Sighting) (p : Pos) (c : Chain) : Type 0 where
   pub usable : IsUsable a
-  pub value : ChainValue (observed a usable) p c.x c.y c.z c.corrected c.range
+  pub value : IsChainOf (observed a usable) p c

@@ -49,13 +49,15 @@ pub record IsPlausible (lo hi : ℤ) (scale : ℕ) : Type 0 where
   pub from : pos (scale * least_range) ≤ℤ lo
   pub to : hi ≤ℤ pos (scale * greatest_range)
 
--- of two codes also the least and the greatest ionosphere-free combination (IS-GPS-200, 20.3.3.3.3.3), times 2329
+-- the least and the greatest ionosphere-free combination of two codes (IS-GPS-200, 20.3.3.3.3.3), times 2329
+abbrev pub IsCombinationPlausible : Wide → Wide → Type 0
+IsCombinationPlausible first second =
+    IsPlausible ((pos 5929 *ℤ first.lo) -ℤ (pos 3600 *ℤ second.hi)) ((pos 5929 *ℤ first.hi) -ℤ (pos 3600 *ℤ second.lo)) 2329
+
 abbrev pub ArePlausibleWith : Wide → Option Wide → Type 0
 ArePlausibleWith first None = IsPlausible first.lo first.hi 1
 ArePlausibleWith first (Some second) =
-    IsPlausible first.lo first.hi 1
-    × IsPlausible second.lo second.hi 1
-    × IsPlausible ((pos 5929 *ℤ first.lo) -ℤ (pos 3600 *ℤ second.hi)) ((pos 5929 *ℤ first.hi) -ℤ (pos 3600 *ℤ second.lo)) 2329
+    IsPlausible first.lo first.hi 1 × IsPlausible second.lo second.hi 1 × IsCombinationPlausible first second
 
 abbrev pub ArePlausible : Codes → Type 0
 ArePlausible codes = ArePlausibleWith codes.first codes.second

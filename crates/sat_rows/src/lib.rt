@@ -2,8 +2,25 @@
 //! satellite at every grid point of the search box, or why the satellite isn't used.
 #![tactic(auto)]
 
+mod choice;
+mod codes;
+mod epochs;
+mod gps;
+mod growth;
+mod judging;
 mod lines;
+mod places;
+mod signals;
 mod source;
+#[cfg(test)]
+mod span_tests;
+mod spans;
 
+pub use epochs::rows;
+pub use gps::GpsRows;
+pub use growth::grown;
 pub use lines::{EpochRows, SatLine};
 pub use source::RowSource;
+
+#[cfg(test)]
+mod tests;

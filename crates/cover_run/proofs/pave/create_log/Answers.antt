@@ -5,9 +5,9 @@ use Rattle.cover_run.proofs.pave.create_log.Goals as goal
 
 pub returns-in-Ok-write_log-clause-log : goal.returns-in-Ok-write_log-clause-log
 returns-in-Ok-write_log-clause-log g c =
-    wrote (log_value c.args.rows.now) c.args.limit _ _ _ c.args.name.now (Ok c.in-Ok-write_log.field-0) c.in-Ok.ensures.created c.in-Ok-write_log.ensures.text
+    wrote (log_value c.args.rows.now) c.args.limit _ _ _ _ _ c.args.name.now (Ok c.in-Ok-write_log.field-0) c.in-Ok.ensures.created c.in-Ok-write_log.ensures.text
 
 pub returns-in-Err-write_log-clause-log : goal.returns-in-Err-write_log-clause-log
 returns-in-Err-write_log-clause-log g c =
     rw c.of_writing.ensures (fault_ends (log_value c.args.rows.now) c.args.limit _ _ c.args.name.now c.in-Err-write_log.fault
-    (wrote {T = Unit {0}} (log_value c.args.rows.now) c.args.limit _ _ _ c.args.name.now (Err c.in-Err-write_log.fault) c.in-Ok.ensures.created c.in-Err-write_log.ensures.text))
+    (wrote {T = Unit {0}} (log_value c.args.rows.now) c.args.limit _ _ _ _ _ c.args.name.now (Err c.in-Err-write_log.fault) c.in-Ok.ensures.created c.in-Err-write_log.ensures.text))

@@ -16,7 +16,7 @@ pub returns-in_err-bytes-clause-ends : goal.returns-in_err-bytes-clause-ends
 returns-in_err-bytes-clause-ends g c =
     let p = err_from_is_err_and c.from_residual.result c.from_residual.ensures.1 in
     let b = c.in_err-bytes.ensures in
-    rw (p.1, p.2) (read_ended c.args.limits.now c.args.rows.now c.args.log.now _ _ c.in_err-bytes.field-0.0 b.files b.written b.refusals (λ most e. b.too_long most (ap Err e)))
+    rw (p.1, p.2) (read_ended c.args.limits.now c.args.rows.now c.args.log.now _ _ c.in_err-bytes.field-0.0 (record { files = b.files; written = b.written; out = refl }) b.refusals (λ most e. b.too_long most (ap Err e)))
 
 pub returns-in_err-bytes-clause-too_long : goal.returns-in_err-bytes-clause-too_long
 returns-in_err-bytes-clause-too_long g c = λ bytes told long.
@@ -40,7 +40,7 @@ pub returns-in_err-given-clause-ends : goal.returns-in_err-given-clause-ends
 returns-in_err-given-clause-ends g c =
     let p = err_from_is_err_and c.from_residual-in_err-given.result c.from_residual-in_err-given.ensures.1 in
     let b = c.in_ok-bytes.ensures in
-    rw (p.1, p.2) (text_ended c.args.limits.now c.args.rows.now c.args.log.now c.in_ok-bytes.bytes.items _ _ c.in_err-given.field-0.0 b.files b.written b.whole b.within
+    rw (p.1, p.2) (text_ended c.args.limits.now c.args.rows.now c.args.log.now c.in_ok-bytes.bytes.items _ _ c.in_err-given.field-0.0 (record { files = b.files; written = b.written; out = refl }) b.whole b.within
     (rw c.deref.ensures.value at c.in_err-given.ensures.refused))
 
 pub returns-in_err-given-clause-too_long : goal.returns-in_err-given-clause-too_long
@@ -66,7 +66,7 @@ pub returns-clause-ends : goal.returns-clause-ends
 returns-clause-ends g c =
     let b = c.in_ok-bytes.ensures in
     paving_ends c.args.limits.now c.args.rows.now c.args.log.now c.in_ok-bytes.bytes.items (log_value c.in_ok-given.given) _ _ _ c.create_log.result b.whole b.within
-    (rw c.deref.ensures.value at c.in_ok-given.ensures.rows) b.files b.written c.create_log.ensures.log
+    (rw c.deref.ensures.value at c.in_ok-given.ensures.rows) (record { files = b.files; written = b.written; out = refl }) c.create_log.ensures.log
 
 pub returns-clause-phases : goal.returns-clause-phases
 returns-clause-phases g c =

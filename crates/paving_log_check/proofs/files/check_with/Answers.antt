@@ -21,21 +21,21 @@ pub lines_of-next-requires : goal.lines_of-next-requires
 lines_of-next-requires g c =
     let first = block_left c.args.log.now.epochs.items c.loop-k.k c.index-epoch.result.now (omega (arith, c.loop-k-test.true, c.len-k-end.ensures, c.args.log.now.epochs.ok)) c.index-epoch.ensures in
     let numbered = block_numbered (g.S.RowSource.judged c.args.source.now) (g.S.RowSource.allows c.args.source.now) (g.S.RowSource.declared c.args.source.now)
-        (block_of c.index-epoch.result.now) (drop (c.loop-k.k + 1) (log_value c.args.log.now).blocks) c.loop-k.invariant first in
+    (block_of c.index-epoch.result.now) (drop (c.loop-k.k + 1) (log_value c.args.log.now).blocks) c.loop-k.invariant first in
     omega (arith, numbered.1)
 
 pub overflow_add-next : goal.overflow_add-next
 overflow_add-next g c =
     let first = block_left c.args.log.now.epochs.items c.loop-k.k c.index-epoch.result.now (omega (arith, c.loop-k-test.true, c.len-k-end.ensures, c.args.log.now.epochs.ok)) c.index-epoch.ensures in
     let numbered = block_numbered (g.S.RowSource.judged c.args.source.now) (g.S.RowSource.allows c.args.source.now) (g.S.RowSource.declared c.args.source.now)
-        (block_of c.index-epoch.result.now) (drop (c.loop-k.k + 1) (log_value c.args.log.now).blocks) c.loop-k.invariant first in
+    (block_of c.index-epoch.result.now) (drop (c.loop-k.k + 1) (log_value c.args.log.now).blocks) c.loop-k.invariant first in
     omega (arith, numbered.1, c.lines_of-next.ensures)
 
 pub check_epoch-requires-clause-numbered : goal.check_epoch-requires-clause-numbered
 check_epoch-requires-clause-numbered g c =
     let first = block_left c.args.log.now.epochs.items c.loop-k.k c.index-epoch.result.now (omega (arith, c.loop-k-test.true, c.len-k-end.ensures, c.args.log.now.epochs.ok)) c.index-epoch.ensures in
     let numbered = block_numbered (g.S.RowSource.judged c.args.source.now) (g.S.RowSource.allows c.args.source.now) (g.S.RowSource.declared c.args.source.now)
-        (block_of c.index-epoch.result.now) (drop (c.loop-k.k + 1) (log_value c.args.log.now).blocks) c.loop-k.invariant first in
+    (block_of c.index-epoch.result.now) (drop (c.loop-k.k + 1) (log_value c.args.log.now).blocks) c.loop-k.invariant first in
     omega (arith, numbered.0, numbered.1)
 
 pub returns-in-Some-2-clause-no : goal.returns-in-Some-2-clause-no

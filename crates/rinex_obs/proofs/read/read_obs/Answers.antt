@@ -1,3 +1,4 @@
+use Rattle.rinex_obs.proofs.FactLemmas.{numbered_read, distinct_read, gps_read}
 use Rattle.rinex_obs.proofs.OnlyLemmas.{gives_observations, gives_refusal}
 use Rattle.rinex_obs.proofs.read.read_obs.Goals as goal
 
@@ -6,3 +7,12 @@ returns-clause-exact c = λ observations. gives_observations c.args.signal.now c
 
 pub returns-clause-first : goal.returns-clause-first
 returns-clause-first c = λ r. gives_refusal c.args.signal.now c.args.position c.args.bytes.now r c.read_text.result c.read_text.ensures.observations c.read_text.ensures.fault
+
+pub returns-clause-numbered : goal.returns-clause-numbered
+returns-clause-numbered c = numbered_read c.args.signal.now c.args.position c.args.bytes.now c.read_text.result c.read_text.ensures.observations
+
+pub returns-clause-distinct : goal.returns-clause-distinct
+returns-clause-distinct c = distinct_read c.args.signal.now c.args.position c.args.bytes.now c.read_text.result c.read_text.ensures.observations
+
+pub returns-clause-gps : goal.returns-clause-gps
+returns-clause-gps c = gps_read c.args.signal.now c.args.position c.args.bytes.now c.read_text.result c.read_text.ensures.observations

@@ -1,0 +1,181 @@
+-- The satellite lines that are made of own lines.
+use Rattle.std.proofs.Common.{◌≡◌, ◌≢◌, ℕ, suc, ◌+◌, ◌≤◌, ◌<◌, List, [], ◌∷◌, ◌++◌, length, get_or, drop, sym, ap, subst, ◌∙◌, refl, add-one, append_assoc, append-nil, drop-cons, arith}
+use Rattle.std.specs.Prelude.{◌*◌, ◌^◌, ℤ, pos, Option, Some}
+use Rattle.std.specs.List.{AllByRecursion}
+use Rattle.std.proofs.lemmas.Grind.{common_steps}
+use Rattle.std.proofs.lemmas.Int.{ints}
+use Rattle.epoch_rows.specs.Grown.{IsGrownLine, AreGrownLines, skips_of}
+use Rattle.log_words.specs.Fields.{IsGps, SkipFits}
+use Rattle.paving_log.specs.Rows.{EntryFits}
+use Rattle.paving_log.specs.Text.{IsSkipped}
+use Rattle.rinex_obs.specs.Facts.{IsGpsSat, AreGpsSats, AreDistinct}
+use Rattle.rinex_obs.specs.declared.obs.SatObs.{SatObs}
+use Rattle.sat_model.specs.Boxes.{GridBox}
+use Rattle.sat_model.specs.Logs.{sat_of, rows_of}
+use Rattle.sat_model.specs.Relaxed.{ends}
+use Rattle.sat_model.specs.declared.boxes.Pos.{Pos}
+use Rattle.sat_model.specs.declared.satellites.Row.{Row}
+use Rattle.sat_model.specs.declared.satellites.Sat.{Sat}
+use Rattle.sat_model.specs.declared.satellites.SatEntry.{SatEntry}
+use Rattle.sat_model.specs.declared.satellites.SatEntry.TheVariants as entry
+use Rattle.sat_model.specs.declared.satellites.Skip.{Skip}
+use Rattle.sat_model.specs.declared.spans.Span.{Span}
+use Rattle.sat_rows.specs.Chains.{Chain}
+use Rattle.sat_rows.specs.Growth.{GrowsWithin, IsGrown}
+use Rattle.sat_rows.specs.OwnRows.{IsOwnLine, AreOwnLines, usable_in, IsSmall, IsSmallRow, IsSmallLine, AreSmall}
+use Rattle.sat_rows.specs.declared.lines.SatLine.{SatLine}
+use Rattle.sat_rows.specs.declared.lines.SatLine.TheVariants.{Usable, Skipped}
+use Rattle.epoch_rows.proofs.ApartLemmas.{NoneNames, AreApart}
+
+-- ---- how many there are
+
+pub usable_le : (own : List SatLine) → usable_in own ≤ length own
+usable_le [] = omega arith
+usable_le (Usable row ∷ own) = omega (arith, usable_le own)
+usable_le (Skipped sat skip ∷ own) = omega (arith, usable_le own)
+
+pub skips_le : (own : List SatLine) → length (skips_of own) ≤ length own
+skips_le [] = omega arith
+skips_le (Usable row ∷ own) = omega (arith, skips_le own)
+skips_le (Skipped sat skip ∷ own) = omega (arith, skips_le own)
+
+module _ (by : ℤ) where
+  pub grown_count : (own : List SatLine) (entries : List SatEntry) → AreGrownLines by own entries → length entries ≡ length own
+  grown_count [] [] grown = refl
+  grown_count [] (e ∷ entries) grown = absurd grown
+  grown_count (line ∷ own) [] grown = absurd grown
+  grown_count (line ∷ own) (e ∷ entries) grown = omega (arith, grown_count own entries grown.1)
+
+  pub grown_rows : (own : List SatLine) (entries : List SatEntry) → AreGrownLines by own entries → length (rows_of entries) ≡ usable_in own
+  grown_rows [] [] grown = refl
+  grown_rows [] (e ∷ entries) grown = absurd grown
+  grown_rows (line ∷ own) [] grown = absurd grown
+  grown_rows (Usable row ∷ own) (entry.Row wide ∷ entries) grown = omega (arith, grown_rows own entries grown.1)
+  grown_rows (Usable row ∷ own) (entry.Skipped sat skip ∷ entries) grown = absurd grown.0
+  grown_rows (Skipped sat skip ∷ own) (entry.Row wide ∷ entries) grown = absurd grown.0
+  grown_rows (Skipped sat skip ∷ own) (entry.Skipped same why ∷ entries) grown = omega (arith, grown_rows own entries grown.1)
+
+-- ---- one line behind another
+
+-- the lines that are left stand behind those before
+pub record IsLineAt (lines : List SatLine) (i : ℕ) (line : SatLine) : Type 0 where
+  pub at : drop i lines ≡ line ∷ drop (i + 1) lines
+
+pub line_at : (lines : List SatLine) (i : ℕ) (line : SatLine) → i < length lines → line ≡ get_or lines i line → IsLineAt lines i line
+line_at lines i line within is = record { at = rw (add-one, drop-cons lines i line within) (ap (λ (l : SatLine). l ∷ drop (suc i) lines) (sym is)) }
+
+pub small_here : (lines : List SatLine) (i : ℕ) (line : SatLine) → IsLineAt lines i line → AreSmall (drop i lines) → IsSmallLine line × AreSmall (drop (i + 1) lines)
+small_here lines i line here small = rw here.at at small
+
+-- grown lines of those that are left make them all
+abbrev pub GrowOn : ℤ → List SatLine → ℕ → List SatEntry → Type 0
+GrowOn by lines i entries = (rest : List SatEntry) → AreGrownLines by (drop i lines) rest → AreGrownLines by lines (entries ++ rest)
+
+pub grow_more : (by : ℤ) (lines : List SatLine) (i : ℕ) (line : SatLine) (e : SatEntry) (entries more : List SatEntry) → more ≡ entries ++ e ∷ [] → IsLineAt lines i line → IsGrownLine by line e
+    → GrowOn by lines i entries → GrowOn by lines (i + 1) more
+grow_more by lines i line e entries more is here one on rest later = rw (is, append_assoc) (on (e ∷ rest) (rw here.at (one, later)))
+
+pub grow_done : (by : ℤ) (lines : List SatLine) (i : ℕ) (entries : List SatEntry) → length lines ≤ i → GrowOn by lines i entries → AreGrownLines by lines entries
+grow_done by lines i entries ended on =
+    let none : drop i lines ≡ [] = grind (arith, common_steps) in
+    subst (λ (l : List SatEntry). AreGrownLines by lines l) (append-nil entries) (on [] (rw none tt))
+
+pub all_skipped : (own : List SatLine) → AllByRecursion IsSkipped (skips_of own)
+all_skipped [] = tt
+all_skipped (Usable row ∷ own) = all_skipped own
+all_skipped (Skipped sat skip ∷ own) = (tt, all_skipped own)
+
+-- ---- room at their ends
+
+pub room : (by b : ℤ) (span : Span) → b ≡ by → (n : ℕ) → by ≡ pos n → n ≤ 400002000 → IsSmall (56 * 10 ^ 12) span → GrowsWithin b span
+room by b span same n is few small = record {
+  low = record { low = omega (arith, ints, small.lo.low); high = omega (arith, ints, small.lo.high) };
+  high = record { low = omega (arith, ints, small.hi.low); high = omega (arith, ints, small.hi.high) };
+}
+
+pub is_small : (line : SatLine) (row : Row) → line ≡ Usable row → IsSmallLine line → IsSmallRow row
+is_small line row e small = rw e at small
+
+pub row_grown : (by b n : ℤ) (line : SatLine) (own row : Row) → b ≡ n → n ≡ by → line ≡ Usable own → row.sat ≡ own.sat → ends row.err ≡ ends own.err
+    → IsGrown b own.x row.x → IsGrown b own.y row.y → IsGrown b own.z row.z → IsGrown b own.range row.range → IsGrownLine by line (entry.Row row)
+row_grown by b n line own row same is e sat err x y z range =
+    let all : b ≡ by = same ∙ is in
+    rw e (record { sat = sat; x = rw all at x; y = rw all at y; z = rw all at z; range = rw all at range; err = err })
+
+-- ---- the satellites that they name
+
+pub gps_fits : (seen : SatObs) (sat : Sat) → IsGpsSat seen → sat ≡ seen.sat → IsGps sat
+gps_fits seen sat gps same = subst IsGps (sym same) (gps.system, (gps.from, gps.to))
+
+module _ (IsJudged : SatObs → Option Skip → Type 0) (Allows : SatObs → Pos → Chain → Type 0) (declared : Sat → ℤ × ℤ) (root : GridBox) where
+  pub own_count : (sats : List SatObs) (own : List SatLine) → AreOwnLines IsJudged Allows declared root sats own → length own ≡ length sats
+  own_count [] [] are = refl
+  own_count [] (line ∷ own) are = absurd are
+  own_count (seen ∷ sats) [] are = absurd are
+  own_count (seen ∷ sats) (line ∷ own) are = omega (arith, own_count sats own are.1)
+
+  module _ (skips : (seen : SatObs) (skip : Skip) → IsJudged seen (Some skip) → SkipFits skip) where
+    pub skips_fit : (sats : List SatObs) (own : List SatLine) → AreGpsSats sats → AreOwnLines IsJudged Allows declared root sats own → AllByRecursion EntryFits (skips_of own)
+    skips_fit [] [] gps are = tt
+    skips_fit [] (line ∷ own) gps are = absurd are
+    skips_fit (seen ∷ sats) [] gps are = absurd are
+    skips_fit (seen ∷ sats) (Usable row ∷ own) gps are = skips_fit sats own gps.1 are.1
+    skips_fit (seen ∷ sats) (Skipped sat skip ∷ own) gps are = ((gps_fits seen sat gps.0 are.0.0, skips seen skip are.0.1), skips_fit sats own gps.1 are.1)
+
+    line_fits : (by : ℤ) (seen : SatObs) (line : SatLine) (e : SatEntry) → IsGpsSat seen → IsOwnLine IsJudged Allows declared root seen line → IsGrownLine by line e → EntryFits e
+    line_fits by seen (Usable row) (entry.Row wide) gps is grown = gps_fits seen wide.sat gps (grown.sat ∙ is.0)
+    line_fits by seen (Usable row) (entry.Skipped sat skip) gps is grown = absurd grown
+    line_fits by seen (Skipped sat skip) (entry.Row wide) gps is grown = absurd grown
+    line_fits by seen (Skipped sat skip) (entry.Skipped same why) gps is grown = (gps_fits seen same gps (grown.0 ∙ is.0), subst SkipFits (sym grown.1) (skips seen skip is.1))
+
+    pub lines_fit : (by : ℤ) (sats : List SatObs) (own : List SatLine) (entries : List SatEntry) → AreGpsSats sats → AreOwnLines IsJudged Allows declared root sats own → AreGrownLines by own entries → AllByRecursion EntryFits entries
+    lines_fit by [] [] [] gps are grown = tt
+    lines_fit by [] [] (e ∷ entries) gps are grown = absurd grown
+    lines_fit by [] (line ∷ own) entries gps are grown = absurd are
+    lines_fit by (seen ∷ sats) [] entries gps are grown = absurd are
+    lines_fit by (seen ∷ sats) (line ∷ own) [] gps are grown = absurd grown
+    lines_fit by (seen ∷ sats) (line ∷ own) (e ∷ entries) gps are grown = (line_fits by seen line e gps.0 are.0 grown.0, lines_fit by sats own entries gps.1 are.1 grown.1)
+
+  -- ---- no satellite is named twice
+
+  abbrev Other : Sat → List SatObs → Type 0
+  Other sat sats = AllByRecursion (λ seen. seen.sat ≢ sat) sats
+
+  no_skip_names : (sat : Sat) (sats : List SatObs) (own : List SatLine) → Other sat sats → AreOwnLines IsJudged Allows declared root sats own → NoneNames sat (skips_of own)
+  no_skip_names sat [] [] other are = tt
+  no_skip_names sat [] (line ∷ own) other are = absurd are
+  no_skip_names sat (seen ∷ sats) [] other are = absurd are
+  no_skip_names sat (seen ∷ sats) (Usable row ∷ own) other are = no_skip_names sat sats own other.1 are.1
+  no_skip_names sat (seen ∷ sats) (Skipped named skip ∷ own) other are = ((λ same. other.0 (sym are.0.0 ∙ same)), no_skip_names sat sats own other.1 are.1)
+
+  pub skips_apart : (sats : List SatObs) (own : List SatLine) → AreDistinct sats → AreOwnLines IsJudged Allows declared root sats own → AreApart (skips_of own)
+  skips_apart [] [] distinct are = tt
+  skips_apart [] (line ∷ own) distinct are = absurd are
+  skips_apart (seen ∷ sats) [] distinct are = absurd are
+  skips_apart (seen ∷ sats) (Usable row ∷ own) distinct are = skips_apart sats own distinct.1 are.1
+  skips_apart (seen ∷ sats) (Skipped sat skip ∷ own) distinct are =
+      (no_skip_names sat sats own (subst (λ (s : Sat). Other s sats) (sym are.0.0) distinct.0) are.1, skips_apart sats own distinct.1 are.1)
+
+  line_names : (by : ℤ) (seen : SatObs) (line : SatLine) (e : SatEntry) → IsOwnLine IsJudged Allows declared root seen line → IsGrownLine by line e → sat_of e ≡ seen.sat
+  line_names by seen (Usable row) (entry.Row wide) is grown = grown.sat ∙ is.0
+  line_names by seen (Usable row) (entry.Skipped sat skip) is grown = absurd grown
+  line_names by seen (Skipped sat skip) (entry.Row wide) is grown = absurd grown
+  line_names by seen (Skipped sat skip) (entry.Skipped same why) is grown = grown.0 ∙ is.0
+
+  none_names : (by : ℤ) (sat : Sat) (sats : List SatObs) (own : List SatLine) (entries : List SatEntry) → Other sat sats → AreOwnLines IsJudged Allows declared root sats own → AreGrownLines by own entries → NoneNames sat entries
+  none_names by sat [] [] [] other are grown = tt
+  none_names by sat [] [] (e ∷ entries) other are grown = absurd grown
+  none_names by sat [] (line ∷ own) entries other are grown = absurd are
+  none_names by sat (seen ∷ sats) [] entries other are grown = absurd are
+  none_names by sat (seen ∷ sats) (line ∷ own) [] other are grown = absurd grown
+  none_names by sat (seen ∷ sats) (line ∷ own) (e ∷ entries) other are grown =
+      ((λ same. other.0 (sym (line_names by seen line e are.0 grown.0) ∙ same)), none_names by sat sats own entries other.1 are.1 grown.1)
+
+  pub lines_apart : (by : ℤ) (sats : List SatObs) (own : List SatLine) (entries : List SatEntry) → AreDistinct sats → AreOwnLines IsJudged Allows declared root sats own → AreGrownLines by own entries → AreApart entries
+  lines_apart by [] [] [] distinct are grown = tt
+  lines_apart by [] [] (e ∷ entries) distinct are grown = absurd grown
+  lines_apart by [] (line ∷ own) entries distinct are grown = absurd are
+  lines_apart by (seen ∷ sats) [] entries distinct are grown = absurd are
+  lines_apart by (seen ∷ sats) (line ∷ own) [] distinct are grown = absurd grown
+  lines_apart by (seen ∷ sats) (line ∷ own) (e ∷ entries) distinct are grown =
+      (none_names by (sat_of e) sats own entries (subst (λ (s : Sat). Other s sats) (sym (line_names by seen line e are.0 grown.0)) distinct.0) are.1 grown.1, lines_apart by sats own entries distinct.1 are.1 grown.1)

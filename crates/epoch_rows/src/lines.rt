@@ -1,0 +1,58 @@
+//! The satellite lines of a block.
+
+ghost use Rattle.std.specs.Prelude.{◌≡◌, pos, IfOk};
+ghost use Rattle.epoch_rows.specs.Grown.{IsGrownLine, AreGrownLines, skips_of};
+ghost use Rattle.sat_model.specs.Boxes.{grid_box};
+ghost use Rattle.sat_model.specs.Lengths.{spare_of};
+ghost use Rattle.sat_rows.specs.OwnRows.{IsSmallLine, AreSmall};
+
+use sat_model::{Box3, NoMemory, SatEntry, spare};
+use sat_rows::{SatLine, grown};
+use std::alloc::Global;
+
+/// The line, whose row is wider at both ends by what a row over this root may be wide.
+fn grown_line(line: &SatLine, root: &Box3) -> SatEntry
+    requires { IsSmallLine line.now }
+    ensures { IsGrownLine (pos (spare_of (grid_box root.now))) line.now result }
+{
+    match line {
+        SatLine::Usable(row) => SatEntry::Row(grown(row, spare(root))),
+        SatLine::Skipped { sat, skip } => SatEntry::Skipped {
+            sat: *sat,
+            skip: *skip,
+        },
+    }
+}
+
+/// All lines, their rows wider in this way.
+pub fn grown_lines(
+    alloc: Global,
+    lines: &[SatLine],
+    root: &Box3,
+) -> Result<Vec<SatEntry>, NoMemory>
+    requires { AreSmall lines.now }
+    ensures { IfOk result (λ sats. AreGrownLines (pos (spare_of (grid_box root.now))) lines.now sats.items) }
+{
+    let mut sats = Vec::new(alloc);
+    for line in lines {
+        sats.push(grown_line(line, root))?;
+    }
+    Ok(sats)
+}
+
+/// The lines of the satellites that aren't usable.
+pub fn skip_lines(alloc: Global, lines: &[SatLine]) -> Result<Vec<SatEntry>, NoMemory>
+    ensures { IfOk result (λ sats. sats.items ≡ skips_of lines.now) }
+{
+    let mut sats = Vec::new(alloc);
+    for line in lines {
+        match line {
+            SatLine::Usable(_) => {}
+            SatLine::Skipped { sat, skip } => sats.push(SatEntry::Skipped {
+                sat: *sat,
+                skip: *skip,
+            })?,
+        }
+    }
+    Ok(sats)
+}

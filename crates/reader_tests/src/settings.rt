@@ -1,0 +1,215 @@
+//! Settings with one thing changed, and settings of either mode.
+
+use crate::words::{changed, number};
+use error_bounds::{Centre, Settings, SettingsError, read_settings};
+use sat_model::{Pos, Sat, Signal};
+use std::alloc::Global;
+use std::test::Fail;
+
+/// Settings without a fault.
+const FILE: &str = "[search]
+centre = [6378137000, 0, 0]
+half = 200000
+outliers = 1
+bisections = 4096
+width = 1000
+max_age = 7200
+[signal]
+mode = \"single\"
+codes = [\"C1C\"]
+[bounds]
+receiver = [-3000, 3000]
+orbit_clock = [-3000, 3000]
+ionosphere = [0, 20000]
+troposphere = [2000, 25000]
+";
+
+/// Texts in place of one in those settings, and what comes of it: the number and the key of the first
+/// fault, or 0. `@` ends a line. The last key has a character of two bytes at its 64th.
+const CHANGES: &str = "0||half|half
+0||[6378137000, 0, 0]|\"header\"
+0||[6378137000, 0, 0]|[-8500000000, 8500000000, 0]
+0||200000|1
+0||200000|[1, 100000000, 7]
+0||outliers = 1|outliers = 8
+0||4096|0
+0||4096|200000
+0||width = 1000|width = 1
+0||width = 1000|width = 10000000
+0||7200|1
+0||7200|14400
+0||[-3000, 3000]|[1000000, 1000000]
+0||[2000, 25000]|[0, 1]@[satellite]@G01 = [0, 0]@G99 = [-1, 2]
+0||[2000, 25000]|[0, 1]@[satellite]
+0||\"single\"@codes = [\"C1C\"]|\"dual\"@codes = [\"C1C\", \"C2W\"]
+30||[search]|[search
+31|search.half|half = 200000|
+31|bounds.receiver|[bounds]|
+32|search.centre|[search]|search = 1@[x]
+32|search.centre|[6378137000, 0, 0]|1
+33|search.centre|[6378137000, 0, 0]|\"head\"
+33|search.centre|6378137000|8500000001
+32|search.half|200000|\"1\"
+32|search.half|200000|[1, 2, 3, \"4\"]
+33|search.half|200000|[1, 2]
+33|search.half|200000|0
+33|search.half|200000|100000001
+33|search.outliers|outliers = 1|outliers = 9
+33|search.outliers|outliers = 1|outliers = -1
+33|search.bisections|4096|200001
+33|search.width|width = 1000|width = 10000001
+33|search.max_age|7200|0
+33|search.max_age|7200|14401
+32|signal.mode|\"single\"|1
+33|signal.mode|single|triple
+33|signal.codes|single|dual
+32|signal.codes|[\"C1C\"]|\"C1C\"
+32|signal.codes|\"C1C\"|\"C1C\", 1
+33|signal.codes|\"C1C\"|\"C1C\", \"C2W\"
+33|signal.codes|C1C|C1c
+33|signal.codes|\"single\"@codes = [\"C1C\"]|\"dual\"@codes = [\"C1C\", \"C1W\"]
+33|signal.codes|\"single\"@codes = [\"C1C\"]|\"dual\"@codes = [\"C2W\", \"C1C\"]
+32|signal.codes|\"single\"@codes = [\"C1C\"]|\"dual\"@codes = [\"C1C\", 2]
+32|bounds.receiver|[-3000, 3000]|[1.0, 2]
+33|bounds.receiver|[-3000, 3000]|[1, 0]
+33|bounds.receiver|[-3000, 3000]|[-1000001, 0]
+32|satellite|[search]|satellite = 1@[search]
+33|satellite.G05|[2000, 25000]|[0, 1]@[satellite]@G05 = [1]
+34|satellite.G00|[2000, 25000]|[0, 1]@[satellite]@G00 = [0, 1]
+34|search.alpha|[search]|zeal = 1@[search]@alpha = 1
+31|search.half|half = 200000|zeal = 1
+34|a\u{7}b|[search]|\"a\\u0007b\" = 1@[search]
+34|abcdefghijklmnopqrstuvwxyzabcdefghijklmnopqrstuvwxyzabcdefghijk|[search]|\"abcdefghijklmnopqrstuvwxyzabcdefghijklmnopqrstuvwxyzabcdefghijk\u{e9}z\" = 1@[search]";
+
+/// Settings with two codes and one satellite's own span.
+const DUAL: &str = "[search]
+centre = \"header\"
+half = [1, 2, 3]
+outliers = 8
+bisections = 200000
+width = 1
+max_age = 14400
+[signal]
+mode = \"dual\"
+codes = [\"C1C\", \"C2W\"]
+[bounds]
+receiver = [-1, 1]
+orbit_clock = [-20, 20]
+ionosphere = [0, 300]
+troposphere = [-4000, 0]
+[satellite]
+G05 = [-50000, 600000]
+";
+
+/// What is read from the text.
+fn settings(alloc: Global, text: &str) -> Result<Settings, Fail> {
+    Ok(read_settings(alloc, text.as_bytes()).ok().ok_or("refused")?)
+}
+
+/// Whether it is this fault.
+fn is_refusal(error: &SettingsError, number: i64, key: &str) -> bool {
+    match error {
+        SettingsError::Refused(fault) => {
+            i64::from(fault.number) == number && fault.key.as_str() == key
+        }
+        SettingsError::NoMemory => false,
+    }
+}
+
+/// Whether the bytes have this first fault, none where the number is 0.
+fn has_fault(alloc: Global, bytes: &[u8], number: i64, key: &str) -> bool {
+    match read_settings(alloc, bytes).err() {
+        None => number == 0,
+        Some(error) => is_refusal(&error, number, key),
+    }
+}
+
+#[test]
+fn first_faults(rt: HostRuntime) -> Result<(), Fail> {
+    for row in CHANGES.lines() {
+        let mut fields = row.split('|');
+        let told = number(&rt, fields.next());
+        let key = fields.next().expect(&rt, "a key");
+        let old = fields.next().expect(&rt, "a text");
+        let new = fields.next().expect(&rt, "a text");
+        let text = changed(rt.alloc(), FILE, old, new)?;
+        let is_told = has_fault(rt.alloc(), text.as_bytes(), told, key);
+        assert!(rt; is_told, "{row}");
+    }
+    // A comment that isn't UTF-8.
+    assert!(rt; has_fault(rt.alloc(), b"#\xff\n", 30, ""));
+    Ok(())
+}
+
+/// The span declared for a satellite of GPS.
+fn bound_of(settings: &Settings, number: u8) -> (i64, i64) {
+    let bound = settings.bound_of(Sat {
+        system: b'G',
+        number,
+    });
+    (bound.lo, bound.hi)
+}
+
+#[test]
+fn reads_lengths_in_um(rt: HostRuntime) -> Result<(), Fail> {
+    let settings = settings(rt.alloc(), FILE)?;
+    assert_eq!(rt; settings.rules.outliers, 1);
+    assert_eq!(rt; settings.rules.bisections, 4096);
+    assert_eq!(rt; settings.rules.width, 1_000_000);
+    assert_eq!(rt; settings.max_age, 7200);
+    let code = *b"C1C";
+    assert!(rt; settings.signal == Signal::Single { code });
+    assert_eq!(rt; bound_of(&settings, 5), (-4_000_000, 51_000_000));
+    let centre = Pos {
+        x: 6_378_137_000_000,
+        y: 0,
+        z: 0,
+    };
+    assert!(rt; settings.centre == Centre::At(centre));
+    let root = settings.root(Some(Pos { x: 1, y: 2, z: 3 }));
+    let lo = Pos {
+        x: 6_377_937_000_000,
+        y: -200_000_000,
+        z: -200_000_000,
+    };
+    let hi = Pos {
+        x: 6_378_337_000_000,
+        y: 200_000_000,
+        z: 200_000_000,
+    };
+    assert_eq!(rt; root.lo, lo);
+    assert_eq!(rt; root.hi, hi);
+    Ok(())
+}
+
+#[test]
+fn reads_settings_of_two_codes(rt: HostRuntime) -> Result<(), Fail> {
+    let settings = settings(rt.alloc(), DUAL)?;
+    assert_eq!(rt; settings.rules.outliers, 8);
+    assert_eq!(rt; settings.rules.bisections, 200_000);
+    assert_eq!(rt; settings.rules.width, 1_000);
+    assert_eq!(rt; settings.max_age, 14_400);
+    let (first, second) = (*b"C1C", *b"C2W");
+    assert!(rt; settings.signal == Signal::Dual { first, second });
+    assert_eq!(rt; bound_of(&settings, 6), (-4_021_000, 321_000));
+    assert_eq!(rt; bound_of(&settings, 5), (-54_021_000, 600_321_000));
+    assert!(rt; settings.centre == Centre::Header);
+    let root = settings.root(Some(Pos {
+        x: 1_000_000,
+        y: -2,
+        z: 8_500_000_000_000,
+    }));
+    let lo = Pos {
+        x: 999_000,
+        y: -2_002,
+        z: 8_499_999_997_000,
+    };
+    let hi = Pos {
+        x: 1_001_000,
+        y: 1_998,
+        z: 8_500_000_003_000,
+    };
+    assert_eq!(rt; root.lo, lo);
+    assert_eq!(rt; root.hi, hi);
+    Ok(())
+}

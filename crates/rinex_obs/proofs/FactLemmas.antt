@@ -1,0 +1,160 @@
+-- The numbers and the satellites of the epochs that are read.
+use Rattle.std.proofs.Common.{◌≡◌, ℕ, zero, suc, ◌+◌, ◌<◌, Bool, false, List, [], ◌∷◌, ◌++◌, length, refl, ap, sym, inl, inr, arith, Result, Ok, Err, IfOk}
+use Rattle.std.specs.List.{AllByRecursion, list_any}
+use Rattle.std.proofs.lemmas.Grind.{common_steps}
+use Rattle.std.proofs.lemmas.List.{append-nil, length-append}
+use Rattle.rinex_text.specs.Bodies.{counted, first_of}
+use Rattle.rinex_text.specs.Counts.{IsNumber}
+use Rattle.rinex_text.specs.Faults.{test, where_holds, read, then, gives, line_gives}
+use Rattle.rinex_text.specs.Headers.{Behind, version_of}
+use Rattle.rinex_text.specs.Lines.{TextLine, lines_of}
+use Rattle.rinex_text.specs.declared.fault.Fault.{Fault}
+use Rattle.rinex_text.specs.declared.fault.ReadError.{ReadError}
+use Rattle.rinex_text.specs.declared.fault.Refusal.{Refusal}
+use Rattle.sat_model.specs.declared.satellites.Sat.{Sat}
+use Rattle.sat_model.specs.declared.satellites.Signal.{Signal}
+use Rattle.rinex_obs.specs.Header.{Wanted, header_lines}
+use Rattle.rinex_obs.specs.Epochs.{Observed, Block, head_line, has_number, satellite_line, satellites_from, event_from, block_from, epochs_from}
+use Rattle.rinex_obs.specs.Facts.{AreNumberedFrom, AreNumbered, IsGpsSat, AreGpsSats, AreDistinct, InEach}
+use Rattle.rinex_obs.specs.Files.{Observations, unread, IsObsFile}
+use Rattle.rinex_obs.specs.Reading.{observations_of}
+use Rattle.rinex_obs.specs.declared.head.Head.{Head}
+use Rattle.rinex_obs.specs.declared.head.Head.TheVariants.{Epoch, Event}
+use Rattle.rinex_obs.specs.declared.obs.Obs.{Obs}
+use Rattle.rinex_obs.specs.declared.obs.SatObs.{SatObs}
+
+-- ---- readers
+
+-- the value that the reader gives meets the fact
+abbrev Give : {X E : Type 0} → (X → Type 0) → (Result X E → Type 0) → Type 0
+Give {X} {E} Meets reader = (r : Result X E) → reader r → IfOk r Meets
+
+given : {X E : Type 0} (Meets : X → Type 0) (v : X) → Meets v → Give {E = E} Meets (gives v)
+given Meets v is r e = rw e is
+
+on_test : {X E : Type 0} (Meets : X → Type 0) (P : Type 0) (f : E) (later : Result X E → Type 0) → (P → Give Meets later) → Give Meets (test P f later)
+on_test Meets P f later h r (inl (p, l)) = h p r l
+on_test Meets P f later h r (inr (other, e)) = rw e tt
+
+on_where : {X E : Type 0} (Meets : X → Type 0) (P : Type 0) (first second : Result X E → Type 0) → (P → Give Meets first) → Give Meets second → Give Meets (where_holds P first second)
+on_where Meets P first second h k r (inl (p, l)) = h p r l
+on_where Meets P first second h k r (inr (other, l)) = k r l
+
+on_read : {V X E : Type 0} (Meets : X → Type 0) (Is : V → Type 0) (f : E) (later : V → Result X E → Type 0) → ((v : V) → Is v → Give Meets (later v)) → Give Meets (read Is f later)
+on_read Meets Is f later h r (inl (v, is, l)) = h v is r l
+on_read Meets Is f later h r (inr (other, e)) = rw e tt
+
+on_then : {V X E : Type 0} (Meets : X → Type 0) (reader : Result V E → Type 0) (later : V → Result X E → Type 0) → ((v : V) → reader (Ok v) → Give Meets (later v)) → Give Meets (then reader later)
+on_then Meets reader later h r (inl (v, is, l)) = h v is r l
+on_then Meets reader later h r (inr (e, is, l)) = rw l tt
+
+on_line : {V X : Type 0} (Meets : X → Type 0) (line : Result V Fault → Type 0) (number : ℕ) (later : V → Result X Refusal → Type 0) → ((v : V) → line (Ok v) → Give Meets (later v)) → Give Meets (line_gives line number later)
+on_line Meets line number later h r (inl (v, is, l)) = h v is r l
+on_line Meets line number later h r (inr (f, is, e)) = rw e tt
+
+on_first : {V X : Type 0} (Meets : X → Type 0) (line : TextLine → Result V Fault → Type 0) (number : ℕ) (lines : List TextLine) (later : V → Behind → Result X Refusal → Type 0)
+    → ((t : TextLine) (v : V) (next : Behind) → line t (Ok v) → Give Meets (later v next)) → Give Meets (first_of line number lines later)
+on_first Meets line number [] later h r e = rw e tt
+on_first Meets line number (next ∷ more) later h r l = on_line Meets (line next) number (λ v. later v (record { number = number + 1; lines = more })) (λ v is. h next v (record { number = number + 1; lines = more }) is) r l
+
+-- ---- satellites
+
+record AreSats (sats : List SatObs) : Type 0 where
+  gps : AreGpsSats sats
+  distinct : AreDistinct sats
+
+all_more : {X : Type 0} (P : X → Type 0) (xs : List X) (x : X) → AllByRecursion P xs → P x → AllByRecursion P (xs ++ x ∷ [])
+all_more P [] x all one = (one, tt)
+all_more P (first ∷ xs) x all one = (all.0, all_more P xs x all.1 one)
+
+distinct_more : (sats : List SatObs) (seen : SatObs) → AreDistinct sats → list_any (has_number seen.sat.number) sats ≡ false → AreDistinct (sats ++ seen ∷ [])
+distinct_more [] seen distinct new = (tt, tt)
+distinct_more (first ∷ sats) seen distinct new =
+    (all_more _ sats seen distinct.0 (λ same. let number : first.sat.number ≡ seen.sat.number = ap (λ (s : Sat). s.number) (sym same) in grind (arith, common_steps)),
+    distinct_more sats seen distinct.1 (grind (arith, common_steps)))
+
+on_satellite : (wanted : Wanted) (sats : List SatObs) (line : TextLine) → AreSats sats → Give AreSats (satellite_line wanted sats line)
+on_satellite wanted sats line are =
+    on_test AreSats _ _ _ (λ short. on_where AreSats _ _ _ (λ other. given AreSats sats are)
+    (on_test AreSats _ _ _ (λ ascii. on_test AreSats _ _ _ (λ gps. on_read AreSats _ _ _ (λ number (is : IsNumber line.text number).
+    on_test AreSats _ _ _ (λ new. on_test AreSats _ _ _ (λ room. on_read AreSats _ _ _ (λ first a. on_read AreSats _ _ _ (λ second b.
+    let seen : SatObs = record { sat = record { system = 71; number = number }; first = first; second = second } in
+    given AreSats (sats ++ seen ∷ []) (record {
+      gps = all_more IsGpsSat sats seen are.gps (record { system = refl; from = is.from; to = is.to });
+      distinct = distinct_more sats seen are.distinct new;
+    }))))))))))
+
+on_satellites : (wanted : Wanted) (left : ℕ) (sats : List SatObs) (from : Behind) → AreSats sats → Give AreSats (satellites_from wanted left sats from)
+on_satellites wanted zero sats from are = given AreSats sats are
+on_satellites wanted (suc left) sats from are =
+    on_first AreSats (satellite_line wanted sats) from.number from.lines (λ more next. satellites_from wanted left more next)
+    (λ line more next is. on_satellites wanted left more next (on_satellite wanted sats line are (Ok more) is))
+
+-- ---- epochs
+
+record AreEpochs (epochs : List Observed) : Type 0 where
+  numbered : AreNumbered epochs
+  gps : InEach AreGpsSats epochs
+  distinct : InEach AreDistinct epochs
+
+-- an epoch is one of so many
+abbrev IsOneMore : ℕ → Head → Type 0
+IsOneMore count (Epoch tag lines) = count < 200000
+IsOneMore count (Event labelled lines) = Unit {0}
+
+on_head : (count : ℕ) (line : TextLine) → Give (IsOneMore count) (head_line count line)
+on_head count line =
+    on_test (IsOneMore count) _ _ _ (λ short. on_test (IsOneMore count) _ _ _ (λ ascii. on_test (IsOneMore count) _ _ _ (λ mark. on_test (IsOneMore count) _ _ _ (λ flag.
+    on_read (IsOneMore count) _ _ _ (λ lines is. on_where (IsOneMore count) _ _ _
+    (λ epoch. on_read (IsOneMore count) _ _ _ (λ tag time. on_test (IsOneMore count) _ _ _ (λ few. given (IsOneMore count) (Epoch tag lines) few)))
+    (given (IsOneMore count) (Event _ lines) tt))))))
+
+numbered_more : (next : ℕ) (epochs : List Observed) (epoch : Observed) → AreNumberedFrom next epochs → epoch.index ≡ length epochs + next → AreNumberedFrom next (epochs ++ epoch ∷ [])
+numbered_more next [] epoch numbered is = (omega (arith, is), tt)
+numbered_more next (first ∷ epochs) epoch numbered is = (numbered.0, numbered_more (next + 1) epochs epoch numbered.1 (omega (arith, is)))
+
+with_epoch : (epochs : List Observed) (epoch : Observed) → AreEpochs epochs → AreSats epoch.sats → epoch.index ≡ length epochs + 1 → length epochs < 200000 → AreEpochs (epochs ++ epoch ∷ [])
+with_epoch epochs epoch are sats is few = record {
+  numbered = record { in_order = numbered_more 1 epochs epoch are.numbered.in_order is; at_most = omega (arith, length-append epochs (epoch ∷ [])) };
+  gps = all_more (λ (e : Observed). AreGpsSats e.sats) epochs epoch are.gps sats.gps;
+  distinct = all_more (λ (e : Observed). AreDistinct e.sats) epochs epoch are.distinct sats.distinct;
+}
+
+on_block : (wanted : Wanted) (epochs : List Observed) (head : Head) (from : Behind) → IsOneMore (length epochs) head → AreEpochs epochs
+    → Give (λ (block : Block). AreEpochs (epochs ++ block.epochs)) (block_from wanted (length epochs) head from)
+on_block wanted epochs (Epoch tag lines) from few are =
+    let Meets : Block → Type 0 = λ block. AreEpochs (epochs ++ block.epochs) in
+    on_then Meets (satellites_from wanted lines [] from) _ (λ sats l. given Meets _ (with_epoch epochs (record { index = length epochs + 1; tag = tag; sats = sats }) are (on_satellites wanted lines [] from (record { gps = tt; distinct = tt }) (Ok sats) l) refl few))
+on_block wanted epochs (Event labelled lines) from few are =
+    let Meets : Block → Type 0 = λ block. AreEpochs (epochs ++ block.epochs) in
+    on_then Meets (event_from labelled lines from) _ (λ none l. given Meets _ (rw append-nil are))
+
+on_epochs : (wanted : Wanted) (epochs : List Observed) (number skip : ℕ) (lines : List TextLine) → AreEpochs epochs → Give AreEpochs (epochs_from wanted epochs number skip lines)
+on_epochs wanted epochs number skip [] are = given AreEpochs epochs are
+on_epochs wanted epochs number (suc skip) (line ∷ more) are = on_epochs wanted epochs (number + 1) skip more are
+on_epochs wanted epochs number zero (line ∷ more) are =
+    on_line AreEpochs (head_line (length epochs) line) number _ (λ head is. on_then AreEpochs (block_from wanted (length epochs) head (record { number = number + 1; lines = more })) _ (λ block l.
+    on_epochs wanted (epochs ++ block.epochs) (number + 1) block.lines more (on_block wanted epochs head (record { number = number + 1; lines = more }) (on_head (length epochs) line (Ok head) is) are (Ok block) l)))
+
+-- ---- files
+
+on_file : (signal : Signal) (position : Bool) (text : List ℕ) (observations : Observations) → IsObsFile signal position text observations → AreEpochs observations.epochs
+on_file signal position text observations file =
+    let Meets : Observations → Type 0 = λ observations. AreEpochs observations.epochs in
+    let none : AreEpochs [] = record { numbered = record { in_order = tt; at_most = omega arith }; gps = tt; distinct = tt } in
+    on_then Meets (version_of 79 (lines_of text)) _ (λ version v. on_then Meets (header_lines signal position unread version.number version.lines) _ (λ start s.
+    on_then Meets (epochs_from start.wanted [] start.behind.number 0 (counted start.behind.lines)) _ (λ epochs e.
+    given Meets (record { position = start.position; epochs = epochs }) (on_epochs start.wanted [] start.behind.number 0 (counted start.behind.lines) none (Ok epochs) e)))) (Ok observations) file
+
+module _ (signal : Signal) (position : Bool) (text : List ℕ) where
+  pub numbered_read : (read : Result Obs ReadError) → IfOk read (λ obs. IsObsFile signal position text (observations_of obs)) → IfOk read (λ obs. AreNumbered (observations_of obs).epochs)
+  numbered_read (Ok obs) file = (on_file signal position text (observations_of obs) file).numbered
+  numbered_read (Err e) file = tt
+
+  pub distinct_read : (read : Result Obs ReadError) → IfOk read (λ obs. IsObsFile signal position text (observations_of obs)) → IfOk read (λ obs. InEach AreDistinct (observations_of obs).epochs)
+  distinct_read (Ok obs) file = (on_file signal position text (observations_of obs) file).distinct
+  distinct_read (Err e) file = tt
+
+  pub gps_read : (read : Result Obs ReadError) → IfOk read (λ obs. IsObsFile signal position text (observations_of obs)) → IfOk read (λ obs. InEach AreGpsSats (observations_of obs).epochs)
+  gps_read (Ok obs) file = (on_file signal position text (observations_of obs) file).gps
+  gps_read (Err e) file = tt

@@ -1,0 +1,162 @@
+-- What a usable satellite's row is made of, and the lines of an epoch.
+use Rattle.std.proofs.Common.{◌≡◌, ℕ, ◌+◌, ◌*◌, ◌^◌, ◌≤◌, arith, refl, sym, ap, subst, ◌∙◌, List, [], ◌∷◌, ◌++◌, length, cond, true, false, drop, get_or, add-one, drop-cons, drop_of_length-le, append_assoc, append-nil, ◌<◌}
+use Rattle.std.specs.Prelude.{ℤ, pos, neg_ℤ, ◌+ℤ◌, ◌-ℤ◌, ◌≤ℤ◌, unsigned_abs, Option}
+use Rattle.std.specs.List.{AllByRecursion}
+use Rattle.std.proofs.lemmas.Int.{ints}
+use Rattle.std.proofs.lemmas.List.Elements.{recursion_from_All}
+use Rattle.error_bounds.specs.declared.settings.Settings.{Settings}
+use Rattle.error_bounds.specs.Reading.{with_ends, is_sat, extra_for, bound_for, value_of_settings}
+use Rattle.error_bounds.specs.Sizes.{IsDeclared}
+use Rattle.rinex_nav.proofs.WeekLemmas.{time_only}
+use Rattle.rinex_nav.specs.ElementsOf.{AreElements}
+use Rattle.rinex_nav.specs.Weeks.{IsEphemerisTime, IsAge}
+use Rattle.rinex_nav.specs.declared.record.NavRecord.{NavRecord}
+use Rattle.rinex_obs.specs.declared.obs.SatObs.{SatObs}
+use Rattle.exact_decimal.specs.declared.unit.Unit.TheVariants.{Length, Time}
+use Rattle.rinex_nav.specs.FieldBounds.{field_of}
+use Rattle.sat_model.specs.Boxes.{GridBox}
+use Rattle.sat_model.specs.Consistent.{Observed}
+use Rattle.sat_model.specs.Pseudorange.{Codes}
+use Rattle.sat_model.specs.Relaxed.{ends}
+use Rattle.sat_model.specs.Sizes.{IsWithin}
+use Rattle.sat_model.specs.declared.boxes.Pos.{Pos}
+use Rattle.sat_model.specs.declared.elements.Elements.{Elements}
+use Rattle.sat_model.specs.declared.satellites.Row.{Row}
+use Rattle.sat_model.specs.declared.satellites.Sat.{Sat}
+use Rattle.sat_model.specs.declared.satellites.Signal.{Signal}
+use Rattle.sat_model.specs.declared.satellites.Signal.TheVariants.{Single, Dual}
+use Rattle.sat_model.specs.declared.satellites.Skip.{Skip}
+use Rattle.sat_model.specs.declared.spans.Span.{Span}
+use Rattle.sat_rows.specs.ElementLemmas.{rounded_narrow}
+use Rattle.sat_rows.specs.JudgementLemmas.{codes_one, elements_one}
+use Rattle.sat_rows.specs.Answers.{IsKnownBy}
+use Rattle.sat_rows.specs.Chains.{Chain, observed, IsChainOf, IsChainAt}
+use Rattle.sat_rows.specs.OwnRows.{HoldsAllowed, IsOwnLine, AreOwnLines, IsSmall, IsSmallLine, AreSmall, usable_line, usable_in}
+use Rattle.sat_rows.specs.RowSizes.{AreNarrowWith, AreNarrow, IsNearEpoch}
+use Rattle.sat_rows.specs.Usability.{Sighting, HaveValue, ArePlausible, IsUsable}
+use Rattle.sat_rows.specs.declared.lines.SatLine.{SatLine}
+use Rattle.sat_rows.specs.declared.lines.SatLine.TheVariants.{Usable, Skipped}
+
+-- ---- codes
+
+narrow_codes : (signal : Signal) (seen : SatObs) (codes : Codes) → HaveValue signal seen codes → AreNarrow codes
+narrow_codes (Single code) seen codes v = subst (AreNarrowWith codes.first) (sym v.3) (rounded_narrow v.0 Length codes.first v.2)
+narrow_codes (Dual code other) seen codes v = subst (AreNarrowWith codes.first) (sym v.1.3) (rounded_narrow v.0.0 Length codes.first v.0.2, rounded_narrow v.1.0 Length v.1.1 v.1.4)
+
+-- ---- times
+
+near_time : (tag time age : ℤ) (max : ℕ) → age ≡ pos (unsigned_abs (tag -ℤ time)) → age ≤ℤ pos (max * 1000000000000) → max ≤ 14400
+    → (more : ℤ) → pos 0 ≤ℤ more → more ≤ℤ pos 1 → IsWithin 14401000000000000 (tag -ℤ (time +ℤ more))
+near_time tag time age max e fresh short more low high = record { low = omega (arith, ints, e); high = omega (arith, ints, e) }
+
+plus_none : (s : ℤ) → s +ℤ pos 0 ≡ s
+plus_none s = omega (arith, ints)
+
+plus_apart : (s l h : ℤ) → (s +ℤ l) +ℤ (h -ℤ l) ≡ s +ℤ h
+plus_apart s l h = omega (arith, ints)
+
+plus_some : (l h : ℤ) → l ≤ℤ h → pos 0 ≤ℤ (h -ℤ l)
+plus_some l h o = omega (arith, ints)
+
+near_elements : (r : NavRecord) (el : Elements) (tag age : ℤ) (max : ℕ) → IsAge r tag age → age ≤ℤ pos (max * 10 ^ 12) → max ≤ 14400 → AreElements r el → IsNearEpoch el tag
+near_elements r el tag age max a fresh short f =
+    let here : IsEphemerisTime r (el.week_start +ℤ el.toe_week.lo) = record { inside = a.1.inside; toe = el.toe_week.lo; start = el.week_start; toe_is = f.toe_week.floor; start_is = f.week_start; time_is = refl } in
+    let same = time_only r a.0 (el.week_start +ℤ el.toe_week.lo) a.1 here in
+    let age_is : age ≡ pos (unsigned_abs (tag -ℤ (el.week_start +ℤ el.toe_week.lo))) = subst (λ (t : ℤ). age ≡ pos (unsigned_abs (tag -ℤ t))) same a.2 in
+    let old : age ≤ℤ pos (max * 1000000000000) = fresh in
+    let narrow = rounded_narrow (field_of r.fields 11) Time el.toe_week f.toe_week in
+    record {
+      low = subst (λ (t : ℤ). IsWithin 14401000000000000 (tag -ℤ t)) (plus_none (el.week_start +ℤ el.toe_week.lo)) (near_time tag (el.week_start +ℤ el.toe_week.lo) age max age_is old short (pos 0) (omega (arith, ints)) (omega (arith, ints)));
+      high = subst (λ (t : ℤ). IsWithin 14401000000000000 (tag -ℤ t)) (plus_apart el.week_start el.toe_week.lo el.toe_week.hi)
+          (near_time tag (el.week_start +ℤ el.toe_week.lo) age max age_is old short (el.toe_week.hi -ℤ el.toe_week.lo) (plus_some el.toe_week.lo el.toe_week.hi el.toe_week.ordered) narrow.width);
+    }
+
+-- ---- what a usable satellite is known by
+
+module _ (a : Sighting) (codes : Codes) (el : Elements) (known : IsKnownBy a codes el) where
+  pub known_plausible : ArePlausible codes
+  known_plausible = subst ArePlausible known.codes_are known.usable.measured.plausible
+
+  pub known_narrow : AreNarrow codes
+  known_narrow = subst AreNarrow known.codes_are (narrow_codes a.signal a.seen known.usable.measured.codes known.usable.measured.values)
+
+  pub known_near : a.max_age ≤ 14400 → IsNearEpoch el a.tag
+  known_near short =
+      let fresh = known.usable.used.meets.fresh in
+      let near = near_elements known.usable.r known.usable.el a.tag known.usable.age a.max_age fresh.age_is fresh.fresh short known.usable.elements in
+      subst (λ (e : Elements). IsNearEpoch e a.tag) known.el_is near
+
+  known_observed : (u : IsUsable a) → observed a u ≡ record { tag = a.tag; codes = codes; el = el }
+  known_observed u =
+      let c = codes_one a u known.usable ∙ known.codes_are in
+      let e = elements_one a u known.usable ∙ known.el_is in
+      λ i. record { tag = a.tag; codes = c i; el = e i }
+
+  pub known_holds : (root : GridBox) (row : Row) → HoldsAllowed (IsChainOf (record { tag = a.tag; codes = codes; el = el })) root row → HoldsAllowed (IsChainAt a) root row
+  known_holds root row holds p c inside chain = holds p c inside (subst (λ (seen : Observed). IsChainOf seen p c) (known_observed chain.usable) chain.value)
+
+-- ---- the declared error
+
+extra_small : (sat : Sat) (extra : List (Sat × Span)) → AllByRecursion (λ e. IsDeclared e.1) extra
+    → IsWithin 1000000000 (extra_for sat (with_ends extra)).0 × IsWithin 1000000000 (extra_for sat (with_ends extra)).1
+extra_small sat [] f = (record { low = omega (arith, ints); high = omega (arith, ints) }, record { low = omega (arith, ints); high = omega (arith, ints) })
+extra_small sat (e ∷ more) f =
+    elim (is_sat e.0 sat) as (λ b. IsWithin 1000000000 (cond b (ends e.1) (extra_for sat (with_ends more))).0 × IsWithin 1000000000 (cond b (ends e.1) (extra_for sat (with_ends more))).1) [
+      | true ↦ (f.0.lo, f.0.hi)
+      | false ↦ extra_small sat more f.1
+    ]
+
+within_sum : (sum a b : ℤ) → sum ≡ a +ℤ b → IsWithin 4000000000 a → IsWithin 1000000000 b → IsWithin (10 ^ 10) sum
+within_sum sum a b e f g =
+    let bounds : IsWithin 10000000000 sum = record { low = omega (arith, ints, e, f.low, g.low); high = omega (arith, ints, e, f.high, g.high) } in
+    bounds
+
+pub error_small : (settings : Settings) (sat : Sat) (err : Span) → ends err ≡ bound_for sat (value_of_settings settings) → IsSmall (10 ^ 10) err
+error_small settings sat err e =
+    let low : err.lo ≡ settings.common.lo +ℤ (extra_for sat (with_ends settings.extra.items)).0 = ap (λ (p : ℤ × ℤ). p.0) e in
+    let high : err.hi ≡ settings.common.hi +ℤ (extra_for sat (with_ends settings.extra.items)).1 = ap (λ (p : ℤ × ℤ). p.1) e in
+    let extra = extra_small sat settings.extra.items (recursion_from_All _ settings.extra.items settings.extra_within) in
+    let common = settings.common_within in
+    (record { lo = within_sum err.lo _ _ low common.lo extra.0; hi = within_sum err.hi _ _ high common.hi extra.1 })
+
+-- ---- the lines of an epoch
+
+module _ (IsJudged : SatObs → Option Skip → Type 0) (Allows : SatObs → Pos → Chain → Type 0) (declared : Sat → ℤ × ℤ) (root : GridBox) where
+  -- lines of all satellites: those so far, before whatever lines the satellites left have
+  pub record AreSoFar (sats left : List SatObs) (lines : List SatLine) : Type 0 where
+    pub own : (more : List SatLine) → AreOwnLines IsJudged Allows declared root left more → AreOwnLines IsJudged Allows declared root sats (lines ++ more)
+
+  pub so_far_none : (sats : List SatObs) → AreSoFar sats sats []
+  so_far_none sats = record { own = λ more f. f }
+
+  pub so_far_more : (sats left : List SatObs) (lines after : List SatLine) (k : ℕ) (line : SatLine) (d : SatObs) → AreSoFar sats (drop k left) lines → k < length left
+      → IsOwnLine IsJudged Allows declared root (get_or left k d) line → after ≡ lines ++ line ∷ [] → AreSoFar sats (drop (k + 1) left) after
+  so_far_more sats left lines after k line d f h own e = record {
+    own = λ more g.
+        let next : drop k left ≡ get_or left k d ∷ drop (k + 1) left = rw (add-one, drop-cons left k d) refl in
+        let all = f.own (line ∷ more) (subst (λ (l : List SatObs). AreOwnLines IsJudged Allows declared root l (line ∷ more)) (sym next) (own, g)) in
+        subst (AreOwnLines IsJudged Allows declared root sats) (sym (append_assoc lines (line ∷ []) more) ∙ ap (λ (l : List SatLine). l ++ more) (sym e)) all;
+  }
+
+  pub so_far_all : (sats left : List SatObs) (lines : List SatLine) (k : ℕ) → AreSoFar sats (drop k left) lines → length left ≤ k → AreOwnLines IsJudged Allows declared root sats lines
+  so_far_all sats left lines k f h =
+      let none = drop_of_length-le left {i = k} h in
+      subst (AreOwnLines IsJudged Allows declared root sats) (append-nil lines) (f.own [] (subst (λ (l : List SatObs). AreOwnLines IsJudged Allows declared root l []) (sym none) tt))
+
+small_end : (lines : List SatLine) (line : SatLine) → AreSmall lines → IsSmallLine line → AreSmall (lines ++ line ∷ [])
+small_end [] line f g = (g, tt)
+small_end (first ∷ lines) line f g = (f.0, small_end lines line f.1 g)
+
+pub small_more : (lines after : List SatLine) (line : SatLine) → AreSmall lines → IsSmallLine line → after ≡ lines ++ line ∷ [] → AreSmall after
+small_more lines after line f g e = subst AreSmall (sym e) (small_end lines line f g)
+
+usable_end : (lines : List SatLine) (line : SatLine) → usable_in (lines ++ line ∷ []) ≡ usable_in lines + usable_line line
+usable_end [] line = omega arith
+usable_end (first ∷ lines) line = omega (arith, usable_end lines line)
+
+pub usable_more : (lines after : List SatLine) (line : SatLine) → after ≡ lines ++ line ∷ [] → usable_in after ≡ usable_in lines + usable_line line
+usable_more lines after line e = ap usable_in e ∙ usable_end lines line
+
+pub usable_one : (line : SatLine) → usable_line line ≤ 1
+usable_one (Usable row) = omega arith
+usable_one (Skipped sat skip) = omega arith

@@ -1,0 +1,113 @@
+-- Ends of the numbers on the way from codes to a row.
+use Rattle.std.proofs.Common.{◌≡◌, ℕ, ◌+◌, ◌*◌, ◌^◌, ◌≤◌, arith}
+use Rattle.std.specs.Prelude.{ℤ, pos, ◌+ℤ◌, ◌-ℤ◌, ◌*ℤ◌, ◌≤ℤ◌, Some}
+use Rattle.std.proofs.lemmas.Int.{ints}
+use Rattle.broadcast_orbit.specs.OrbitSizes.{greatest_distance, IsOrbitDistance}
+use Rattle.broadcast_orbit.proofs.PairLemmas.{square_natural, side_within}
+use Rattle.earth_rotation.specs.Places.{PlaceEnds}
+use Rattle.earth_rotation.specs.TurnSizes.{near_reach, narrow_width}
+use Rattle.fix_interval.specs.declared.place.Place.{Place}
+use Rattle.fix_interval.specs.declared.exact.Exact.{Exact}
+use Rattle.fix_interval.specs.Factors.{Holds, HasEnds}
+use Rattle.fix_interval.proofs.NearLemmas.{near_exists}
+use Rattle.pseudorange_prep.specs.Ranges.{IsCode, IsNarrow}
+use Rattle.sat_clock.specs.ClockSizes.{IsNearEphemeris, sent_reach}
+use Rattle.sat_model.specs.Intervals.{Between, Ends}
+use Rattle.sat_model.specs.Pseudorange.{IsRangeWith, IsIonosphereFree}
+use Rattle.sat_model.specs.Sizes.{IsWithin, IsPlaceSize}
+use Rattle.sat_model.specs.declared.elements.Elements.{Elements}
+use Rattle.sat_model.specs.declared.spans.Span.{Span}
+use Rattle.sat_model.specs.declared.spans.Wide.{Wide}
+use Rattle.sat_model.proofs.IntervalLemmas.{low_member, high_member}
+use Rattle.sat_model.proofs.ProductLemmas.{larger}
+use Rattle.sat_rows.specs.Growth.{GrowsWithin}
+use Rattle.sat_rows.specs.OwnRows.{IsSmall}
+use Rattle.sat_rows.specs.RowSizes.{IsNearEpoch, IsNearOrbit, pseudorange_amount}
+use Rattle.sat_rows.specs.Usability.{IsPlausible}
+
+-- ---- pseudoranges
+
+pub code_of : (code : Wide) → IsPlausible code.lo code.hi 1 → IsCode code.lo code.hi
+code_of code p = record { from = omega (arith, ints, p.from); to = omega (arith, ints, p.to) }
+
+pub single_ends : (a b lo hi : ℤ) → a ≤ℤ b → IsPlausible a b 1 → IsNarrow 1 a b → lo ≡ a → hi ≡ b → Ends pseudorange_amount 8 lo hi
+single_ends a b lo hi o p n e f = record {
+  order = omega (arith, ints);
+  low = record { low = omega (arith, ints, p.from); high = omega (arith, ints, p.to) };
+  high = record { low = omega (arith, ints, p.from); high = omega (arith, ints, p.to) };
+  width = omega (arith, ints, n.width);
+}
+
+-- a combination of plausible codes
+free_within : (a b c d v : ℤ) → a ≤ℤ b → c ≤ℤ d → IsPlausible ((pos 5929 *ℤ a) -ℤ (pos 3600 *ℤ d)) ((pos 5929 *ℤ b) -ℤ (pos 3600 *ℤ c)) 2329
+    → IsIonosphereFree a d v → Between (pos 0) (pos (40 * 10 ^ 12 + 1)) v
+free_within a b c d v o q p n = record { from = omega (arith, ints, p.from, n.above); to = omega (arith, ints, p.to, n.below) }
+
+around : (lo hi v : ℤ) → Between lo hi v → IsNarrow 8 lo hi → Between (pos 0) (pos (40 * 10 ^ 12 + 1)) v → Ends pseudorange_amount 8 lo hi
+around lo hi v b n f = record {
+  order = omega (arith, ints, b.from, b.to);
+  low = record { low = omega (arith, ints, b.to, n.width, f.from); high = omega (arith, ints, b.from, f.to) };
+  high = record { low = omega (arith, ints, b.to, f.from); high = omega (arith, ints, b.from, n.width, f.to) };
+  width = n.width;
+}
+
+pub dual_ends : (first second : Wide) (lo hi : ℤ) → IsPlausible ((pos 5929 *ℤ first.lo) -ℤ (pos 3600 *ℤ second.hi)) ((pos 5929 *ℤ first.hi) -ℤ (pos 3600 *ℤ second.lo)) 2329
+    → ((x : ℤ) → IsRangeWith first (Some second) x → Between lo hi x) → IsNarrow 8 lo hi → Ends pseudorange_amount 8 lo hi
+dual_ends first second lo hi p h n =
+    let v = near_exists ((pos 5929 *ℤ first.lo) -ℤ (pos 3600 *ℤ second.hi)) (pos 2329) (record { lt = tt }) in
+    around lo hi v.0 (h v.0 (first.lo, second.hi, low_member _ _ first.ordered, high_member _ _ second.ordered, v.1)) n
+    (free_within first.lo first.hi second.lo second.hi v.0 first.ordered second.ordered p v.1)
+
+-- ---- times
+
+pub near_ephemeris : (el : Elements) (tag lo hi : ℤ) → IsNearEpoch el tag → IsWithin (4 * 10 ^ 12) (tag -ℤ lo) → IsWithin (4 * 10 ^ 12) (tag -ℤ hi) → IsNearEphemeris el lo hi
+near_ephemeris el tag lo hi n l h = record {
+  low = omega (arith, ints, n.high.low, n.high.high, l.low, l.high);
+  high = omega (arith, ints, n.low.low, n.low.high, h.low, h.high);
+}
+
+pub near_orbit : (el : Elements) (tag lo hi l h : ℤ) → IsNearEpoch el tag → IsWithin (4 * 10 ^ 12) (tag -ℤ lo) → IsWithin (4 * 10 ^ 12) (tag -ℤ hi)
+    → (lo -ℤ pos sent_reach) ≤ℤ l → h ≤ℤ (hi +ℤ pos sent_reach) → IsNearOrbit el l h
+near_orbit el tag lo hi l h n f g early late = record {
+  from = omega (arith, ints, n.high.low, n.high.high, f.low, f.high, early);
+  to = omega (arith, ints, n.low.low, n.low.high, g.low, g.high, late);
+}
+
+-- ---- places
+
+x_within : (x y z : ℤ) → IsOrbitDistance x y z → IsWithin near_reach x
+x_within x y z d = side_within greatest_distance x (omega (arith, ints, d.to, square_natural y, square_natural z))
+
+y_within : (x y z : ℤ) → IsOrbitDistance x y z → IsWithin near_reach y
+y_within x y z d = side_within greatest_distance y (omega (arith, ints, d.to, square_natural x, square_natural z))
+
+z_within : (x y z : ℤ) → IsOrbitDistance x y z → IsWithin near_reach z
+z_within x y z d = side_within greatest_distance z (omega (arith, ints, d.to, square_natural x, square_natural y))
+
+more : (lo hi : ℤ) → (hi -ℤ lo) ≤ℤ pos 500 → (hi -ℤ lo) ≤ℤ pos narrow_width
+more lo hi h = omega (arith, ints)
+
+pub orbit_ends : (at : Place) → ((x y z : ℤ) → Holds at.x x → Holds at.y y → Holds at.z z → IsOrbitDistance x y z)
+    → (at.x.hi -ℤ at.x.lo) ≤ℤ pos 500 → (at.y.hi -ℤ at.y.lo) ≤ℤ pos 500 → (at.z.hi -ℤ at.z.lo) ≤ℤ pos 500 → PlaceEnds near_reach narrow_width at
+orbit_ends at d x y z =
+    let low = d at.x.lo at.y.lo at.z.lo (low_member _ _ at.x.ordered) (low_member _ _ at.y.ordered) (low_member _ _ at.z.ordered) in
+    let high = d at.x.hi at.y.hi at.z.hi (high_member _ _ at.x.ordered) (high_member _ _ at.y.ordered) (high_member _ _ at.z.ordered) in
+    record {
+      x_ends = record { order = at.x.ordered; low = x_within _ _ _ low; high = x_within _ _ _ high; width = more at.x.lo at.x.hi x };
+      y_ends = record { order = at.y.ordered; low = y_within _ _ _ low; high = y_within _ _ _ high; width = more at.y.lo at.y.hi y };
+      z_ends = record { order = at.z.ordered; low = z_within _ _ _ low; high = z_within _ _ _ high; width = more at.z.lo at.z.hi z };
+    }
+
+-- ---- spans
+
+pub sent_width : (n : ℕ) (lo hi : ℤ) → Ends n 8 lo hi → IsNarrow 1008 lo hi
+sent_width n lo hi e = record { width = omega (arith, ints, e.width) }
+
+pub span_holds : (x : Exact) (span : Span) (n : ℤ) → span.lo ≡ x.lo → span.hi ≡ x.hi → Holds x n → Between span.lo span.hi n
+span_holds x span n e f h = rw (e, f) h
+
+pub span_small : (m n w : ℕ) (x : Exact) (span : Span) → span.lo ≡ x.lo → span.hi ≡ x.hi → m ≤ n → HasEnds m w x → IsSmall n span
+span_small m n w x span e f k h = record { lo = rw e (larger m n x.lo k h.low); hi = rw f (larger m n x.hi k h.high) }
+
+pub grown_within : (by : ℤ) (span grown : Span) → GrowsWithin by span → grown.lo ≡ span.lo -ℤ by → grown.hi ≡ span.hi +ℤ by → IsPlaceSize grown.lo × IsPlaceSize grown.hi
+grown_within by span grown g e f = (rw e g.low, rw f g.high)

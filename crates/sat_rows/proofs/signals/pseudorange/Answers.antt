@@ -1,0 +1,17 @@
+use Rattle.std.proofs.Common.{subst}
+use Rattle.sat_model.specs.Pseudorange.{IsPseudorange}
+use Rattle.sat_rows.specs.Measured.{codes_of}
+use Rattle.sat_rows.specs.RowSizes.{AreNarrow}
+use Rattle.sat_rows.specs.Usability.{ArePlausible}
+use Rattle.sat_rows.specs.declared.codes.Measured.{Measured}
+use Rattle.sat_rows.proofs.SpanLemmas.{dual_ends}
+use Rattle.sat_rows.proofs.signals.pseudorange.Goals as goal
+
+pub returns-in-Dual-clause-holds : goal.returns-in-Dual-clause-holds
+returns-in-Dual-clause-holds c x h = c.dual.ensures.holds x (subst (λ (codes : Measured). IsPseudorange (codes_of codes) x) c.in-Dual.is h)
+
+pub returns-in-Dual-clause-ends : goal.returns-in-Dual-clause-ends
+returns-in-Dual-clause-ends c =
+    let p = subst (λ (codes : Measured). ArePlausible (codes_of codes)) c.in-Dual.is c.requires.plausible in
+    let n = subst (λ (codes : Measured). AreNarrow (codes_of codes)) c.in-Dual.is c.requires.narrow in
+    dual_ends c.in-Dual.first c.in-Dual.second c.dual.result.lo c.dual.result.hi p.2 c.dual.ensures.holds (c.dual.ensures.width n.0 n.1)

@@ -1,0 +1,72 @@
+//! The rows of an epoch.
+
+ghost use Rattle.std.specs.Prelude.{◌≡◌, IfOk};
+ghost use Rattle.sat_model.specs.Boxes.{grid_box};
+ghost use Rattle.sat_rows.specs.OwnRows.{IsOwnLine, IsSmallLine, AreOwnLines, AreSmall, usable_in, usable_line};
+ghost use Rattle.sat_rows.specs.Sources.{IsGpsJudged, IsGpsChain, gps_declared};
+
+use crate::judging::{Judgement, judge_satellite};
+use crate::lines::{EpochRows, SatLine};
+use crate::spans::row_of;
+use error_bounds::Settings;
+use rinex_nav::Nav;
+use rinex_obs::{ObsEpoch, SatObs};
+use sat_model::{Box3, NoMemory};
+use std::alloc::Global;
+
+/// One line for each satellite of the epoch, in order: a row that holds whatever the equations allow
+/// of it at the points of the root, or why it isn't usable.
+pub fn rows(
+    alloc: Global,
+    epoch: &ObsEpoch,
+    nav: &Nav,
+    settings: &Settings,
+    root: &Box3,
+) -> Result<EpochRows, NoMemory>
+    ensures lines { IfOk result (λ rows. AreOwnLines (IsGpsJudged nav.now settings.now epoch.now.tag) (IsGpsChain nav.now settings.now epoch.now.tag) (gps_declared settings.now)
+        (grid_box root.now) epoch.now.sats.items rows.lines.items) }
+    ensures small { IfOk result (λ rows. AreSmall rows.lines.items) }
+    ensures usable { IfOk result (λ rows. rows.usable ≡ usable_in rows.lines.items) }
+{
+    let mut lines = Vec::new(alloc);
+    let mut usable = 0;
+    for seen in &epoch.sats {
+        let line = line_of(seen, epoch, nav, settings, root);
+        usable += count(&line);
+        lines.push(line)?;
+    }
+    Ok(EpochRows { lines, usable })
+}
+
+/// The line of a satellite of the epoch.
+fn line_of(
+    seen: &SatObs,
+    epoch: &ObsEpoch,
+    nav: &Nav,
+    settings: &Settings,
+    root: &Box3,
+) -> SatLine
+    ensures own { IsOwnLine (IsGpsJudged nav.now settings.now epoch.now.tag) (IsGpsChain nav.now settings.now epoch.now.tag) (gps_declared settings.now) (grid_box root.now) seen.now result }
+    ensures small { IsSmallLine result }
+{
+    match judge_satellite(seen, epoch, nav, settings) {
+        Judgement::Usable { codes, elements } => {
+            let err = settings.bound_of(seen.sat);
+            SatLine::Usable(row_of(seen.sat, epoch.tag, &codes, &elements, err, root))
+        }
+        Judgement::Skipped(skip) => SatLine::Skipped {
+            sat: seen.sat,
+            skip,
+        },
+    }
+}
+
+/// 1 for a usable satellite, else 0.
+fn count(line: &SatLine) -> u32
+    ensures { result ≡ usable_line line.now }
+{
+    match line {
+        SatLine::Usable(_) => 1,
+        SatLine::Skipped { .. } => 0,
+    }
+}

@@ -1,0 +1,41 @@
+//! The satellite's place when it sent, and as seen from a box.
+
+ghost use Rattle.std.specs.Prelude.{ℕ, ◌≡◌, ℤ, pos, ◌-ℤ◌, ◌≤ℤ◌, true};
+ghost use Rattle.broadcast_orbit.specs.OrbitSizes.{time_width};
+ghost use Rattle.earth_rotation.specs.Places.{HoldsPlace, PlaceEnds};
+ghost use Rattle.earth_rotation.specs.TurnSizes.{near_reach, narrow_width, reach_after};
+ghost use Rattle.fix_interval.specs.Factors.{Holds};
+ghost use Rattle.sat_model.specs.Boxes.{grid_box, box_holds};
+ghost use Rattle.sat_model.specs.Lengths.{spare_of};
+ghost use Rattle.sat_model.specs.MeanMotion.{MeanMotion};
+ghost use Rattle.sat_model.specs.OrbitChain.{OrbitChain};
+ghost use Rattle.sat_model.specs.Turn.{Turn};
+ghost use Rattle.sat_model.specs.declared.boxes.Pos.{Pos};
+ghost use Rattle.sat_rows.specs.RowSizes.{IsNearOrbit};
+
+use broadcast_orbit::place;
+use earth_rotation::turned;
+use fix_interval::{Exact, Place};
+use sat_clock::mean_motion;
+use sat_model::{Box3, Elements};
+
+/// Every place of the satellite when the signal was sent.
+fn sent_place(el: &Elements, t: Exact) -> Place
+    requires near { IsNearOrbit el.now t.lo t.hi }
+    requires width { (t.hi -ℤ t.lo) ≤ℤ pos time_width }
+    ensures holds { (n time x y z : ℤ) → MeanMotion el.now n → Holds t time → OrbitChain el.now n time x y z → HoldsPlace result x y z }
+    ensures ends { PlaceEnds near_reach narrow_width result }
+{
+    place(el, mean_motion(el), t)
+}
+
+/// The same as seen from the points of the box.
+pub(crate) fn seen_place(el: &Elements, t: Exact, root: &Box3) -> Place
+    requires near { IsNearOrbit el.now t.lo t.hi }
+    requires width { (t.hi -ℤ t.lo) ≤ℤ pos time_width }
+    ensures holds { (p : Pos) (n time x y z tx ty : ℤ) (r : ℕ) → box_holds (grid_box root.now) p ≡ true → MeanMotion el.now n → Holds t time → OrbitChain el.now n time x y z → Turn p x y z tx ty r → HoldsPlace result tx ty z }
+    ensures ends { PlaceEnds (reach_after near_reach) (spare_of (grid_box root.now)) result }
+{
+    let unturned = sent_place(el, t);
+    turned(unturned, root)
+}

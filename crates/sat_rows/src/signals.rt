@@ -1,0 +1,67 @@
+//! What a signal tells of itself: its pseudorange, the satellite's clock, and when it was sent.
+
+ghost use Rattle.std.specs.Prelude.{◌≡◌, ℤ, pos, ◌-ℤ◌, ◌≤ℤ◌, ◌<ℤ◌, ◌*◌, ◌^◌};
+ghost use Rattle.broadcast_orbit.specs.OrbitSizes.{time_width};
+ghost use Rattle.fix_interval.specs.Factors.{Holds, HasEnds};
+ghost use Rattle.sat_clock.specs.ClockSizes.{correction_size};
+ghost use Rattle.sat_model.specs.ClockChain.{ClockChain};
+ghost use Rattle.sat_model.specs.MeanMotion.{MeanMotion};
+ghost use Rattle.sat_model.specs.Pseudorange.{is_single, IsPseudorange, IsSent, IsCorrected};
+ghost use Rattle.sat_model.specs.RecordBounds.{time_bound};
+ghost use Rattle.sat_rows.specs.Measured.{codes_of};
+ghost use Rattle.sat_rows.specs.RowSizes.{AreNarrow, IsNearEpoch, IsNearOrbit, pseudorange_amount};
+ghost use Rattle.sat_rows.specs.Usability.{ArePlausible};
+
+use crate::codes::Measured;
+use fix_interval::Exact;
+use pseudorange_prep::{corrected, dual, sent_at, single};
+use sat_clock::{Clock, correction};
+use sat_model::Elements;
+
+/// Whether there is one code alone.
+pub(crate) fn of_one_code(codes: &Measured) -> bool
+    ensures { result ≡ is_single (codes_of codes.now) }
+{
+    match codes {
+        Measured::Single(_) => true,
+        Measured::Dual(_, _) => false,
+    }
+}
+
+/// Every pseudorange by the codes, in um.
+pub(crate) fn pseudorange(codes: &Measured) -> Exact
+    requires plausible { ArePlausible (codes_of codes.now) }
+    requires narrow { AreNarrow (codes_of codes.now) }
+    ensures holds { (x : ℤ) → IsPseudorange (codes_of codes.now) x → Holds result x }
+    ensures ends { HasEnds pseudorange_amount 8 result }
+{
+    match codes {
+        Measured::Single(code) => single(*code),
+        Measured::Dual(first, second) => dual(*first, *second),
+    }
+}
+
+/// Every clock offset and every time of sending of a signal that came at `tag` over the pseudorange.
+pub(crate) fn clock(tag: i128, range: Exact, el: &Elements, one_code: bool) -> Clock
+    requires tag_from { pos 0 ≤ℤ tag }
+    requires tag_under { tag <ℤ pos time_bound }
+    requires near { IsNearEpoch el.now tag }
+    requires range_ends { HasEnds pseudorange_amount 8 range }
+    ensures holds { (p v n dt t : ℤ) → Holds range p → IsSent tag p v → MeanMotion el.now n → ClockChain el.now one_code n v dt t → Holds result.dt dt × Holds result.t t }
+    ensures dt { HasEnds correction_size 64 result.dt }
+    ensures t { (result.t.hi -ℤ result.t.lo) ≤ℤ pos time_width }
+    ensures near_orbit { IsNearOrbit el.now result.t.lo result.t.hi }
+{
+    let sent = sent_at(tag, range);
+    correction(el, sent, one_code)
+}
+
+/// Every pseudorange less what the clock's offset makes of it, in um.
+pub(crate) fn corrected_range(range: Exact, dt: Exact) -> Exact
+    requires range_ends { HasEnds pseudorange_amount 8 range }
+    requires dt_ends { HasEnds correction_size 64 dt }
+    ensures holds { (p d v : ℤ) → Holds range p → Holds dt d → IsCorrected p d v → Holds result v }
+    ensures ends { HasEnds (56 * 10 ^ 12) 14 result }
+{
+    corrected(range, dt)
+}

@@ -1,0 +1,138 @@
+ghost use Rattle.std.specs.Prelude.{◌≡◌, pos, ◌+ℤ◌};
+ghost use Rattle.sat_rows.specs.Measured.{codes_of};
+ghost use Rattle.sat_rows.specs.OwnRows.{IsSmallRow};
+ghost use Rattle.sat_rows.specs.RowSizes.{AreNarrow};
+ghost use Rattle.sat_rows.specs.Usability.{ArePlausible};
+
+use crate::codes::Measured;
+use crate::grown;
+use crate::spans::row_of;
+use sat_model::{Box3, Elements, Pos, Row, Sat, Span, Wide};
+
+/// 2024-01-07 00:00:00, a Sunday, in ps.
+const WEEK_START: i128 = 1_388_620_800_000_000_000_000;
+
+/// 0.07 s of light, in um.
+const RANGE: i128 = 20_985_472_060_000;
+
+/// The error that is declared, in um.
+const ERROR: Span = Span {
+    lo: -1_000,
+    hi: 2_000,
+};
+
+/// A number that a field gives exactly.
+fn exact(x: i128) -> Wide
+    ensures low { result.lo ≡ x }
+    ensures high { result.hi ≡ x }
+{
+    Wide { lo: x, hi: x }
+}
+
+/// A circle of 5,200^2 m over the equator, and a group delay of 10^-8 s.
+fn circle() -> Elements
+    ensures start { result.week_start ≡ WEEK_START }
+    ensures low { result.toe_week.lo ≡ pos 0 }
+    ensures high { result.toe_week.hi ≡ pos 0 }
+{
+    let zero = exact(0);
+    Elements {
+        toc: WEEK_START,
+        week_start: WEEK_START,
+        toe_week: zero,
+        af0: zero,
+        af1: zero,
+        af2: zero,
+        tgd: exact(100_000_000),
+        root_a: exact(5_200_000_000_000_000),
+        e: zero,
+        m0: zero,
+        dn: zero,
+        cuc: zero,
+        cus: zero,
+        crc: zero,
+        crs: zero,
+        cic: zero,
+        cis: zero,
+        i0: zero,
+        idot: zero,
+        om0: zero,
+        om_dot: zero,
+        omega: zero,
+    }
+}
+
+/// What was received 0.07 s after the ephemeris time, over a cube of 2 m round a point of the equator.
+fn seen_by(codes: &Measured) -> Row
+    requires plausible { ArePlausible (codes_of codes.now) }
+    requires narrow { AreNarrow (codes_of codes.now) }
+    ensures { IsSmallRow result }
+{
+    let root = Box3 {
+        lo: Pos {
+            x: 6_378_136_000_000,
+            y: -1_000_000,
+            z: -1_000_000,
+        },
+        hi: Pos {
+            x: 6_378_138_000_000,
+            y: 1_000_000,
+            z: 1_000_000,
+        },
+    };
+    let sat = Sat {
+        system: b'G',
+        number: 1,
+    };
+    row_of(
+        sat,
+        WEEK_START + 70_000_000_000,
+        codes,
+        &circle(),
+        ERROR,
+        &root,
+    )
+}
+
+fn holds(span: Span, n: i64) -> bool {
+    span.lo <= n && n <= span.hi
+}
+
+#[test]
+fn a_satellite_overhead_with_one_code_and_with_two(rt: HostRuntime) {
+    // A group delay of 10 ns is taken off of one code alone: the range is 2997924.58 um shorter, and
+    // the satellite has gone on by 18.7 um to the east.
+    let one = seen_by(&Measured::Single(exact(RANGE)));
+    assert!(rt;
+        holds(one.range, 20_985_472_060_000 - 2_997_925),
+        "the range by one"
+    );
+    assert!(rt; holds(one.y, -135_896_703), "the place by one");
+    let two = seen_by(&Measured::Dual(exact(RANGE), exact(RANGE)));
+    assert!(rt; holds(two.range, 20_985_472_060_000), "the range by two");
+    assert!(rt; holds(two.y, -135_896_721), "136 m to the west");
+    for row in [one, two] {
+        assert!(rt; holds(row.x, 27_039_999_999_658), "nearly as far as sent");
+        assert!(rt; -135_899_000 <= row.y.lo, "no farther to the west");
+        assert!(rt; row.y.hi <= -135_894_000, "no less far");
+        assert!(rt; holds(row.z, 0), "over the equator");
+        assert_eq!(rt; row.err, ERROR, "the error");
+    }
+}
+
+#[test]
+fn growth_is_at_both_ends(rt: HostRuntime) {
+    let row = seen_by(&Measured::Single(exact(RANGE)));
+    let wide = grown(&row, 3);
+    for (span, more) in [
+        (row.x, wide.x),
+        (row.y, wide.y),
+        (row.z, wide.z),
+        (row.range, wide.range),
+    ] {
+        assert_eq!(rt; more.lo.checked_add(3), Some(span.lo));
+        assert_eq!(rt; span.hi.checked_add(3), Some(more.hi));
+    }
+    assert_eq!(rt; wide.err, row.err, "the same error");
+    assert_eq!(rt; wide.sat, row.sat, "the same satellite");
+}
