@@ -20,6 +20,7 @@ use Rattle.outer_io.specs.Slots.{at}
 use Rattle.rinex_nav.specs.Files as nav
 use Rattle.rinex_nav.specs.Reading.{records_of}
 use Rattle.rinex_nav.specs.declared.record.NavRecord.{NavRecord}
+use Rattle.rinex_obs.specs.Facts.{AreNumbered, AreDistinct, AreGpsSats, InEach}
 use Rattle.rinex_obs.specs.Files as obs
 use Rattle.rinex_obs.specs.Reading.{observations_of}
 use Rattle.rinex_obs.specs.declared.obs.Obs.{Obs}
@@ -65,6 +66,13 @@ AreObservations signal position bytes o = obs.IsObsFile signal position bytes (o
 abbrev pub IsObsFault : Signal → Bool → List ℕ → Notice → Type 0
 IsObsFault signal position bytes (notice.BadInput (fault.Obs refusal)) = obs.IsFirstFault signal position bytes refusal
 IsObsFault signal position bytes _ = ⊥
+
+-- as of every observation file, its epochs are numbered, and the satellites of each are GPS satellites, none
+-- of them twice
+pub record AreUsual (o : Obs) : Type 0 where
+  pub numbered : AreNumbered (observations_of o).epochs
+  pub distinct : InEach AreDistinct (observations_of o).epochs
+  pub gps : InEach AreGpsSats (observations_of o).epochs
 
 -- ---- what a reader of a text answers
 

@@ -8,3 +8,6 @@ pub mod Inputs
 pub mod Judging
 pub mod Paving
 pub mod CheckReads
+pub mod CheckTexts
+pub mod Checking
+pub mod Solving

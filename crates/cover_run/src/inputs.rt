@@ -1,7 +1,7 @@
 //! The three files of a receiver.
 
 ghost use Rattle.std.specs.Prelude.{◌≡◌, ◌≤◌, ◌⊎◌, ℕ, List, Option, Some, Result, IfOk, IsErr, true, length};
-ghost use Rattle.cover_run.specs.Inputs.{IsCounted, MayBreak, NeverBreaks, ReadsSettings, ReadsNav, ReadsObs, ReadsInputs, InputsGive, SameAnswer, IsBroken, AreSameInputs, OpensNone, file_in, wants_position, TextGives, IsAnswer, AreSettings, IsSettingsFault, AreRecords, IsNavFault, AreObservations, IsObsFault};
+ghost use Rattle.cover_run.specs.Inputs.{IsCounted, MayBreak, NeverBreaks, ReadsSettings, ReadsNav, ReadsObs, ReadsInputs, InputsGive, SameAnswer, IsBroken, AreSameInputs, OpensNone, file_in, wants_position, TextGives, IsAnswer, AreSettings, IsSettingsFault, AreRecords, IsNavFault, AreObservations, IsObsFault, AreUsual};
 ghost use Rattle.cover_run.specs.declared.inputs.Inputs.{Inputs};
 ghost use Rattle.cover_run.specs.declared.notice.Notice.{Notice};
 ghost use Rattle.error_bounds.specs.Reading.{value_of_settings, IsKnown, IsEnough};
@@ -71,6 +71,7 @@ fn obs_of(alloc: Global, bytes: &[u8], signal: &Signal, position: bool) -> Resul
     ensures reads { TextGives (AreObservations signal.now position) (IsObsFault signal.now position) bytes.now result }
     ensures value { (other : Obs) → AreObservations signal.now position bytes.now other → IsAnswer (λ a b. observations_of a ≡ observations_of b) other result }
     ensures known { IfOk result (λ obs. position ≡ true → IsKnown obs.position) }
+    ensures usual { IfOk result AreUsual }
     ensures fault { (notice : Notice) → IsObsFault signal.now position bytes.now notice → IsErr result }
 {
     match read_obs(alloc, bytes, signal, position) {
@@ -138,6 +139,7 @@ fn obs_in<H: Shelf>(
         → ReadsObs NeverBreaks limit signal.now position (Some file) other
         → IsBroken result ⊎ SameAnswer (λ a b. observations_of a ≡ observations_of b) result other }
     ensures known { IfOk result (λ obs. position ≡ true → IsKnown obs.position) }
+    ensures usual { IfOk result AreUsual }
 
     // Nothing is written.
     ensures files { files_of (H.told shelf.new) ≡ files_of (H.told shelf.old) }
@@ -171,6 +173,7 @@ pub fn read_inputs<H: Shelf>(
         → IsBroken result ⊎ SameAnswer AreSameInputs result other }
     // The position of the header is there where it is the centre.
     ensures enough { IfOk result (λ inputs. IsEnough inputs.settings.centre inputs.obs.position) }
+    ensures usual { IfOk result (λ inputs. AreUsual inputs.obs) }
 
     // Nothing is written.
     ensures files { files_of (H.told shelf.new) ≡ files_of (H.told shelf.old) }

@@ -41,8 +41,8 @@ pub fn no_line(fault: &Fault) -> Line
     line
 }
 
-// The name of a test of a log's lines.
-fn name_of_test(number: u8) -> &'static str
+/// The name of a test of a log's lines.
+pub fn name_of_test(number: u8) -> &'static str
     ensures name { result.now ≡ test_name number }
     ensures short { length result.now ≤ 16 }
 {

@@ -25,12 +25,16 @@ returns-in_err-inputs-clause-exact g c = λ told other is gives.
 pub returns-in_err-log-clause-reads : goal.returns-in_err-log-clause-reads
 returns-in_err-log-clause-reads g c =
     let p = err_from_is_err_and c.from_residual-in_err-log.result c.from_residual-in_err-log.ensures.1 in
-    rw (p.1, p.2) (inl (c.in_ok-inputs.inputs, inputs_there (MayBreak (IsCounted (g.H.Shelf.read_faults c.args.shelf.now) (g.H.Shelf.read_faults c.read_inputs.new.shelf) (g.H.Shelf.reliable c.read_inputs.new.shelf)))
-      (MayBreak (IsCounted (g.H.Shelf.read_faults c.args.shelf.now) (g.H.Shelf.read_faults c.log_in.new.shelf) (g.H.Shelf.reliable c.log_in.new.shelf))) c.args.limits.now _ _ c.in_ok-inputs.inputs c.in_ok-inputs.ensures.reads, inr (
-      c.in_err-log.field-0.0,
-      log_behind c.args.limits.now.log _ _ c.args.log.now _ _ (Err c.in_err-log.field-0.0) c.in_ok-inputs.ensures.files (counted_from _ _ _ _ c.in_ok-inputs.ensures.later) c.in_err-log.ensures.reads,
-      refl,
-    )))
+    rw (p.1, p.2) (inl (
+      c.in_ok-inputs.inputs,
+      inputs_there (MayBreak (IsCounted (g.H.Shelf.read_faults c.args.shelf.now) (g.H.Shelf.read_faults c.read_inputs.new.shelf) (g.H.Shelf.reliable c.read_inputs.new.shelf)))
+          (MayBreak (IsCounted (g.H.Shelf.read_faults c.args.shelf.now) (g.H.Shelf.read_faults c.log_in.new.shelf) (g.H.Shelf.reliable c.log_in.new.shelf))) c.args.limits.now _ _ c.in_ok-inputs.inputs c.in_ok-inputs.ensures.reads,
+      inr (
+        c.in_err-log.field-0.0,
+        log_behind c.args.limits.now.log _ _ c.args.log.now _ _ (Err c.in_err-log.field-0.0) c.in_ok-inputs.ensures.files (counted_from _ _ _ _ c.in_ok-inputs.ensures.later) c.in_err-log.ensures.reads,
+        refl,
+      ),
+    ))
 
 pub returns-in_err-log-clause-exact : goal.returns-in_err-log-clause-exact
 returns-in_err-log-clause-exact g c = λ told other is gives.
@@ -43,12 +47,16 @@ returns-in_err-log-clause-exact g c = λ told other is gives.
 
 pub returns-clause-reads : goal.returns-clause-reads
 returns-clause-reads g c =
-    inl (c.in_ok-inputs.inputs, inputs_there (MayBreak (IsCounted (g.H.Shelf.read_faults c.args.shelf.now) (g.H.Shelf.read_faults c.read_inputs.new.shelf) (g.H.Shelf.reliable c.read_inputs.new.shelf)))
-      (MayBreak (IsCounted (g.H.Shelf.read_faults c.args.shelf.now) (g.H.Shelf.read_faults c.log_in.new.shelf) (g.H.Shelf.reliable c.log_in.new.shelf))) c.args.limits.now _ _ c.in_ok-inputs.inputs c.in_ok-inputs.ensures.reads, inl (
-      c.in_ok-log.log,
-      log_there c.args.limits.now.log _ _ c.args.log.now c.in_ok-log.log c.in_ok-inputs.ensures.files c.in_ok-log.ensures.reads,
-      refl,
-    ))
+    inl (
+      c.in_ok-inputs.inputs,
+      inputs_there (MayBreak (IsCounted (g.H.Shelf.read_faults c.args.shelf.now) (g.H.Shelf.read_faults c.read_inputs.new.shelf) (g.H.Shelf.reliable c.read_inputs.new.shelf)))
+          (MayBreak (IsCounted (g.H.Shelf.read_faults c.args.shelf.now) (g.H.Shelf.read_faults c.log_in.new.shelf) (g.H.Shelf.reliable c.log_in.new.shelf))) c.args.limits.now _ _ c.in_ok-inputs.inputs c.in_ok-inputs.ensures.reads,
+      inl (
+        c.in_ok-log.log,
+        log_there c.args.limits.now.log _ _ c.args.log.now c.in_ok-log.log c.in_ok-inputs.ensures.files c.in_ok-log.ensures.reads,
+        refl,
+      ),
+    )
 
 pub returns-clause-exact : goal.returns-clause-exact
 returns-clause-exact g c = λ told other is gives.

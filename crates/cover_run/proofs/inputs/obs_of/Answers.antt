@@ -20,3 +20,6 @@ returns-in-Ok-clause-known c = λ wanted. known c.args.signal.now c.args.positio
 
 pub returns-in-Err-clause-reads : goal.returns-in-Err-clause-reads
 returns-in-Err-clause-reads c = rw c.of_obs.ensures (obs_gives c.args.signal.now c.args.position c.args.bytes.now c.in-Err.error c.in-Err.ensures.fault)
+
+pub returns-in-Ok-clause-usual : goal.returns-in-Ok-clause-usual
+returns-in-Ok-clause-usual c = record { numbered = c.in-Ok.ensures.numbered; distinct = c.in-Ok.ensures.distinct; gps = c.in-Ok.ensures.gps }
