@@ -5,6 +5,7 @@
 //! and `check` with the same words checks the log against the files. `pave ROWS LOG` reads satellite rows, paves their epochs and writes the log.
 #![tactic(auto)]
 
+mod accepting;
 mod answer;
 mod check_texts;
 mod checked;
@@ -24,6 +25,7 @@ mod texts;
 mod top;
 mod words;
 
+pub use accepting::solved_is_accepted;
 pub use limits::Limits;
 pub use paving_log_check::{Fault, Verdict, judge};
 pub use status::Status;
