@@ -7,6 +7,7 @@ pub mod CheckedReads
 pub mod CheckingRun
 pub mod SolvingLemmas
 pub mod SolvingRun
+pub mod SameInputs
 pub mod AcceptLemmas
 pub mod Saying
 pub mod Ending
