@@ -9,6 +9,7 @@ pub mod SolvingLemmas
 pub mod SolvingRun
 pub mod SameInputs
 pub mod AcceptLemmas
+pub mod Headline
 pub mod Saying
 pub mod Ending
 pub mod Rewriting

@@ -1,5 +1,5 @@
 -- What the files say of a log is said by the values that are read from them.
-use Rattle.std.proofs.Common.{◌≡◌, ◌⊎◌, ℕ, Bool, true, false, List, [], ◌∷◌, map, Option, None, Some, inl, inr, refl, sym, ap, subst, ◌∙◌, ◌≤◌}
+use Rattle.std.proofs.Common.{◌≡◌, ℕ, Bool, List, [], ◌∷◌, Option, None, Some, inl, inr, refl, sym, ap, subst, ◌∙◌, ◌≤◌}
 use Rattle.std.proofs.lemmas.Bool.{cases_Bool}
 use Rattle.std.specs.Prelude.{ℤ, pos, ◌≤ℤ◌, ◌<ℤ◌, nat_le, ◌&&◌}
 use Rattle.std.specs.List.{filter}
@@ -14,7 +14,7 @@ use Rattle.rinex_nav.specs.Records.{Broadcast}
 use Rattle.rinex_nav.specs.declared.record.NavRecord.{NavRecord}
 use Rattle.rinex_obs.specs.Epochs.{Observed}
 use Rattle.rinex_obs.specs.Files.{Observations}
-use Rattle.rinex_obs.specs.Reading.{observations_of, plain_epoch, plain_epochs}
+use Rattle.rinex_obs.specs.Reading.{plain_epoch, plain_epochs}
 use Rattle.rinex_obs.specs.declared.obs.ObsEpoch.{ObsEpoch}
 use Rattle.rinex_obs.specs.declared.obs.SatObs.{SatObs}
 use Rattle.sat_model.specs.Boxes.{GridBox}
@@ -159,9 +159,9 @@ module _ (i j : Inputs) (same : AreSameInputs i j) where
   pub own_there : (root : GridBox) (owns : List (List SatLine)) → OwnBy j.nav (value_of_settings j.settings) root (epochs_of j) owns → OwnBy i.nav (value_of_settings i.settings) root (epochs_of i) owns
   own_there root owns are =
       let here : OwnBy i.nav (value_of_settings j.settings) root (epochs_of j) owns =
-          subst (λ (records : List NavRecord). OwnBy records (value_of_settings j.settings) root (epochs_of j) owns) (sym (same_records i.nav j.nav same.nav)) are in
+      subst (λ (records : List NavRecord). OwnBy records (value_of_settings j.settings) root (epochs_of j) owns) (sym (same_records i.nav j.nav same.nav)) are in
       let by : OwnBy i.nav (value_of_settings i.settings) root (epochs_of j) owns =
-          subst (λ (v : SettingsValue). OwnBy i.nav v root (epochs_of j) owns) (sym same.settings) here in
+      subst (λ (v : SettingsValue). OwnBy i.nav v root (epochs_of j) owns) (sym same.settings) here in
       let v = value_of_settings i.settings in
       own_same (JudgedBy i.nav v) (AllowedBy i.nav v) (declared_by v) root (epochs_of j) (epochs_of i) owns (sym epochs_same) by
 
