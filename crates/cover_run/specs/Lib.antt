@@ -11,3 +11,4 @@ pub mod CheckReads
 pub mod CheckTexts
 pub mod Checking
 pub mod Solving
+pub mod Accepting

@@ -1,15 +1,15 @@
-//! What the files say of a log that was solved for them.
+//! What `check` says of a log that was solved.
 
-ghost use Rattle.std.specs.Prelude.{◌≡◌, ◌⊎◌, ℕ, List, Some};
+ghost use Rattle.std.specs.Prelude.{◌≡◌, ◌⊎◌, ℕ, List, None};
+ghost use Rattle.cover_run.specs.Accepting.{SolvesThenChecks};
 ghost use Rattle.cover_run.specs.Answers.{World, IsBrokenOff};
-ghost use Rattle.cover_run.specs.Checking.{Refuses, CheckRun};
+ghost use Rattle.cover_run.specs.Checking.{Refuses};
 ghost use Rattle.cover_run.specs.Inputs.{AreSameInputs};
-ghost use Rattle.cover_run.specs.Solving.{IsSolved, SolveRun};
-ghost use Rattle.cover_run.specs.Words.{Names, AreApart};
+ghost use Rattle.cover_run.specs.Solving.{IsSolved};
+ghost use Rattle.cover_run.specs.Words.{Names};
 ghost use Rattle.cover_run.specs.declared.inputs.Inputs.{Inputs};
 ghost use Rattle.cover_run.specs.declared.limits.Limits.{Limits};
 ghost use Rattle.cover_run.specs.declared.status.Status.{Status};
-ghost use Rattle.outer_io.specs.Told.{Files, files_of};
 ghost use Rattle.paving_log.specs.Text.{IsLogText};
 ghost use Rattle.paving_log_check.specs.declared.verdict.Fault.{Fault};
 ghost use Rattle.sat_model.specs.Logs.{LogValue};
@@ -22,10 +22,12 @@ pub fn solved_is_accepted<H: Shelf, O: Sink>()
     // It has no fault against the values that it was solved for, whichever own lines it is checked by.
     ensures fault { (i j : Inputs) (limit : ℕ) (bytes said : List ℕ) (log : LogValue) (fault : Fault)
         → AreSameInputs i j → IsSolved i limit bytes said → IsLogText log bytes → Refuses j log fault → ⊥ }
-    // A run of `check` on the files that a run of `solve` has left prints yes, unless a fault or want of
-    // memory ends it. None of the three files is the log.
-    ensures accepted { (limits : Limits) (names : Names) (log : List ℕ) (told : Files) (a b c d : World) (solving checking : H) (report verdict : O) (status : Status)
-        → AreApart names log → files_of a.told ≡ Some told → SolveRun limits names log a b (H.reliable solving) (O.reliable report) Status.Done
-        → files_of c.told ≡ files_of b.told → CheckRun limits names log c d (H.reliable checking) (O.reliable verdict) status
+    // A run of `check` behind it prints yes, unless a fault or want of memory ends it;
+    ensures accepted { (limits : Limits) (names : Names) (log : List ℕ) (before solved kept after : World) (solving checking : H) (report verdict : O) (status : Status)
+        → SolvesThenChecks limits names log before solved kept after (H.reliable solving) (H.reliable checking) (O.reliable report) (O.reliable verdict) status
         → IsBrokenOff status ⊎ (status ≡ Status.Done) }
+    // and want of memory alone can end it where the shelf and `out` are reliable.
+    ensures certain { (limits : Limits) (names : Names) (log : List ℕ) (before solved kept after : World) (solving checking : H) (report verdict : O) (status : Status)
+        → SolvesThenChecks limits names log before solved kept after (H.reliable solving) (H.reliable checking) (O.reliable report) (O.reliable verdict) status
+        → H.reliable checking None → O.reliable verdict → (status ≡ Status.NoMemory) ⊎ (status ≡ Status.Done) }
 {}
