@@ -49,9 +49,10 @@ module _ (limit : ℕ) (log : List ℕ) (before after : World) (reliable out_rel
 
   begun_ends : (rows : LogValue) (n : Notice) → HasRows i rows → LogEnds rows limit (outputs_in before) (outputs_in after) log (Err n) → HasCauses n → Notes (sinks_of before) (sinks_of after) n → Ends (status_of n)
   begun_ends rows notice.LogFault has (inl leaves) causes notes =
-      inl (record { begun = inl leaves; rose = (causes.of_log refl).0; unreliable = (causes.of_log refl).1; said = notes })
+      inl (record { accepted = refl; begun = inl leaves; rose = (causes.of_log refl).0; unreliable = (causes.of_log refl).1; said = notes })
   begun_ends rows notice.LogFault has (inr gives) causes notes =
       inl (record {
+        accepted = refl;
         begun = inr (gives_map _ _ log (IsBegun why.Log rows limit) (IsSolvedTo (IsBegun why.Log) i limit) (to_solved (IsBegun why.Log) i rows limit has) gives);
         rose = (causes.of_log refl).0;
         unreliable = (causes.of_log refl).1;
@@ -113,6 +114,7 @@ module _ (limit : ℕ) (log : List ℕ) (before after : World) (reliable out_rel
   ends_behind status.ReadFault ends = absurd ends
   ends_behind status.WriteFault (inl fails) =
       inl (record {
+        accepted = refl;
         begun = either_there (IsSolvedTo (IsBegun why.Log) i limit) fails.begun;
         rose = subst (λ (n : ℕ). Rose n after.write_faults) faults fails.rose;
         unreliable = fails.unreliable;

@@ -1,5 +1,5 @@
 -- What `solve` does.
-use Rattle.std.specs.Prelude.{◌≡◌, ◌≢◌, ◌⊎◌, ℕ, true, List, Option, Some, Result, Ok, Err}
+use Rattle.std.specs.Prelude.{◌≡◌, ◌≢◌, ◌⊎◌, ℕ, true, List, Option, Some, Result, Ok, Err, IsOk}
 use Rattle.epoch_rows.specs.Grown.{AreGrown}
 use Rattle.error_bounds.specs.Reading.{centre_with, IsRoot}
 use Rattle.log_writer.specs.Texts.{IsWhole, IsBegun}
@@ -88,8 +88,9 @@ abbrev pub Fails : (before after : World) → Status → Result Inputs Notice �
 Fails before after s (Ok i) = ⊥
 Fails before after s (Err n) = (status_of n ≡ s) × Notes (sinks_of before) (sinks_of after) n × CreatesNothing before after
 
--- LOG couldn't be created, or a write to it has failed
+-- the files were accepted, but LOG couldn't be created, or a write to it has failed
 pub record LogFails (limit : ℕ) (log : List ℕ) (before after : World) (reliable : Type 0) (found : Result Inputs Notice) : Type 0 where
+  pub accepted : IsOk found
   pub begun : LeavesAll (outputs_in before) (outputs_in after) ⊎ Writes log before after found (λ i. IsSolvedTo (IsBegun why.Log) i limit)
   pub rose : Rose before.write_faults after.write_faults
   pub unreliable : reliable → ⊥
