@@ -24,7 +24,7 @@ use Rattle.sat_rows.specs.declared.lines.SatLine.{SatLine}
 use Rattle.cover_run.specs.Answers.{World, IsBrokenOff}
 use Rattle.cover_run.specs.Checking.{first_epoch, last_epoch, sinks_of, Notes}
 use Rattle.cover_run.specs.Inputs.{IsCounted, MayBreak, ReadsInputs, InputsGive}
-use Rattle.cover_run.specs.Paving.{Outputs, outputs_in, LeavesAll, Gives}
+use Rattle.cover_run.specs.Paving.{outputs_in, LeavesAll, Gives}
 use Rattle.cover_run.specs.Statuses.{status_of}
 use Rattle.cover_run.specs.Words.{Names}
 use Rattle.cover_run.specs.declared.inputs.Inputs.{Inputs}
