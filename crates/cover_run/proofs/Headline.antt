@@ -15,9 +15,9 @@ use Rattle.cover_run.proofs.CheckedReads.{inputs_there, no_log_fault}
 use Rattle.cover_run.specs.Accepting.{AreApart, SolvesThenChecks}
 use Rattle.cover_run.specs.Answers.{World, IsBrokenOff}
 use Rattle.cover_run.specs.CheckReads.{ReadsLog, ReadsChecked}
-use Rattle.cover_run.specs.Checking.{Refuses, sinks_of, CheckEnds, CheckRun}
+use Rattle.cover_run.specs.Checking.{Refuses, sinks_of, CheckEnds}
 use Rattle.cover_run.specs.Inputs.{MayBreak, NeverBreaks, ReadsSettings, ReadsNav, ReadsObs, ReadsInputs, InputsGive, SameAnswer, IsBroken, AreSameInputs, IsCounted, file_in, wants_position}
-use Rattle.cover_run.specs.Solving.{IsSolved, Writes, SolveRun}
+use Rattle.cover_run.specs.Solving.{IsSolved, Writes}
 use Rattle.cover_run.specs.Statuses.{status_of}
 use Rattle.cover_run.specs.Words.{Names}
 use Rattle.cover_run.specs.declared.checked.Checked.{Checked}
