@@ -105,12 +105,16 @@ fn log_of(alloc: Global, from: u32, to: u32) -> Result<Log, Fail> {
         Err(_) => return Err(Fail::from("observations")),
     };
     let nav = nav_of(alloc)?;
-    let settings = read_settings(alloc, SETTINGS.as_bytes()).ok().ok_or("settings")?;
+    let settings = read_settings(alloc, SETTINGS.as_bytes())
+        .ok()
+        .ok_or("settings")?;
     let source = GpsRows {
         nav: &nav,
         settings: &settings,
     };
-    let log = rows_log(alloc, &source, &obs, &settings.rules, &root(), from, to).ok().ok_or("memory")?;
+    let log = rows_log(alloc, &source, &obs, &settings.rules, &root(), from, to)
+        .ok()
+        .ok_or("memory")?;
     Ok(log)
 }
 
@@ -130,13 +134,22 @@ fn skip(number: u8, test: u8) -> SatEntry {
 
 #[test]
 fn blocks_of_the_selected_epochs(rt: HostRuntime) -> Result<(), Fail> {
-    for (from, to, count) in [(1, 200_000, 2), (2, 2, 1), (1, 1, 1), (3, 200_000, 0), (2, 1, 0)] {
+    for (from, to, count) in [
+        (1, 200_000, 2),
+        (2, 2, 1),
+        (1, 1, 1),
+        (3, 200_000, 0),
+        (2, 1, 0),
+    ] {
         let log = log_of(rt.alloc(), from, to)?;
         assert_eq!(rt; log.epochs.len(), count);
     }
     let log = log_of(rt.alloc(), 1, 2)?;
     let first = log.epochs.first().ok_or("first")?;
-    assert_eq!(rt; (first.line, first.index, first.n, first.few), (3, 1, 4, false));
+    assert_eq!(rt;
+        (first.line, first.index, first.n, first.few),
+        (3, 1, 4, false)
+    );
     assert_eq!(rt; first.ps, 1_388_628_001_000_000_000_000);
     assert_eq!(rt; (first.sats.len(), first.root), (5, Some(root())));
     assert_eq!(rt; first.sats.get(2), Some(&skip(5, 3)));
@@ -145,10 +158,16 @@ fn blocks_of_the_selected_epochs(rt: HostRuntime) -> Result<(), Fail> {
     };
     for span in [row.x, row.y, row.z, row.range] {
         let width = i128::from(span.hi) - i128::from(span.lo);
-        assert!(rt; 2 * ROOM <= width && width <= 3 * ROOM, "room at both ends of a span");
+        assert!(rt;
+            2 * ROOM <= width && width <= 3 * ROOM,
+            "room at both ends of a span"
+        );
     }
     let second = log.epochs.get(1).ok_or("second")?;
-    assert_eq!(rt; (second.line, second.index, second.n, second.few), (10, 2, 1, true));
+    assert_eq!(rt;
+        (second.line, second.index, second.n, second.few),
+        (10, 2, 1, true)
+    );
     assert_eq!(rt; second.sats.as_slice(), [skip(2, 1), skip(5, 3)].as_slice());
     assert_eq!(rt; second.root, None);
     Ok(())
