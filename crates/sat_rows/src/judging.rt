@@ -14,10 +14,15 @@ use sat_model::{Elements, Skip};
 
 /// The numbers of the tests of a satellite, in their order.
 const CODE_MISSING: u8 = 1;
+
 const CODE_OUT_OF_RANGE: u8 = 2;
+
 const NO_RECORD: u8 = 3;
+
 const NONE_HEALTHY: u8 = 4;
+
 const NONE_FRESH: u8 = 5;
+
 const NONE_FIT: u8 = 6;
 
 /// What is known of a satellite that is usable, or why it isn't used.
