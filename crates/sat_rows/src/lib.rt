@@ -21,3 +21,6 @@ pub use gps::GpsRows;
 pub use growth::grown;
 pub use lines::{EpochRows, SatLine};
 pub use source::RowSource;
+
+#[cfg(test)]
+mod tests;
