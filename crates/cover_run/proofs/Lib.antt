@@ -1,3 +1,12 @@
+pub mod WordLemmas
+pub mod ShownLemmas
+pub mod FileReads
+pub mod InputReads
+pub mod PositionLemmas
+pub mod CheckedReads
+pub mod CheckingRun
+pub mod SolvingLemmas
+pub mod SolvingRun
 pub mod Saying
 pub mod Ending
 pub mod Rewriting

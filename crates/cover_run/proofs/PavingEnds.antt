@@ -42,12 +42,12 @@ pub record IsRead (before middle : Outputs) : Type 0 where
   pub written : written_of middle.told ≡ written_of before.told
   pub out : middle.out ≡ before.out
 
-gives_behind : (before middle after : Outputs) (name : List ℕ) (Meets : List ℕ → List ℕ → Type 0) → IsRead before middle → Gives middle after name Meets → Gives before after name Meets
+pub gives_behind : (before middle after : Outputs) (name : List ℕ) (Meets : List ℕ → List ℕ → Type 0) → IsRead before middle → Gives middle after name Meets → Gives before after name Meets
 gives_behind before middle after name Meets read (bytes, said, rewritten, printed, meets) =
     let behind = rewrites_behind before.told middle.told after.told name (λ b. b ≡ bytes) read.files read.written (bytes, rewritten, refl) in
     (bytes, said, subst (λ (b : List ℕ). Rewrites before.told after.told name b) behind.2 behind.1, printed ∙ ap (λ (o : Option (List ℕ)). append_known o said) read.out, meets)
 
-leaves_all_behind : (before middle after : Outputs) → IsRead before middle → LeavesAll middle after → LeavesAll before after
+pub leaves_all_behind : (before middle after : Outputs) → IsRead before middle → LeavesAll middle after → LeavesAll before after
 leaves_all_behind before middle after read l = record {
   files = leaves_behind before.told middle.told after.told read.files read.written l.files;
   out = l.out ∙ read.out;
@@ -76,4 +76,5 @@ paving_ends limits rows log all given before middle after (Err notice.Usage) has
 paving_ends limits rows log all given before middle after (Err (notice.TooLong slot limit)) has within is read ends = absurd ends
 paving_ends limits rows log all given before middle after (Err (notice.BadLog slot line kind)) has within is read ends = absurd ends
 paving_ends limits rows log all given before middle after (Err (notice.NotBuilt slot line)) has within is read ends = absurd ends
+paving_ends limits rows log all given before middle after (Err (notice.BadInput fault)) has within is read ends = absurd ends
 paving_ends limits rows log all given before middle after (Err (notice.ReadFault slot)) has within is read ends = absurd ends

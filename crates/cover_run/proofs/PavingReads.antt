@@ -104,6 +104,7 @@ log_accepts given limit before after log (Err notice.OutFault) ends = inl (inr (
 log_accepts given limit before after log (Err (notice.TooLong of most)) ends = absurd ends
 log_accepts given limit before after log (Err (notice.BadLog of line kind)) ends = absurd ends
 log_accepts given limit before after log (Err (notice.NotBuilt of line)) ends = absurd ends
+log_accepts given limit before after log (Err (notice.BadInput fault)) ends = absurd ends
 log_accepts given limit before after log (Err (notice.ReadFault of)) ends = absurd ends
 
 -- such a log has no other notice
@@ -121,6 +122,7 @@ log_notice given limit before after log notice.Usage ends e = absurd ends
 log_notice given limit before after log (notice.TooLong of most) ends e = absurd ends
 log_notice given limit before after log (notice.BadLog of line kind) ends e = absurd ends
 log_notice given limit before after log (notice.NotBuilt of line) ends e = absurd ends
+log_notice given limit before after log (notice.BadInput fault) ends e = absurd ends
 log_notice given limit before after log (notice.ReadFault of) ends e = absurd ends
 
 pub not_notice : (given : LogValue) (limit : ℕ) (before after : Outputs) (log : List ℕ) (r : Result (Unit {0}) Notice) (n : Notice) → LogEnds given limit before after log r

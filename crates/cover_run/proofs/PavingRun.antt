@@ -24,6 +24,7 @@ done_has limits rows log before after (Err notice.Usage) ends e = cc
 done_has limits rows log before after (Err (notice.TooLong of limit)) ends e = cc
 done_has limits rows log before after (Err (notice.BadLog of line kind)) ends e = cc
 done_has limits rows log before after (Err (notice.NotBuilt of line)) ends e = cc
+done_has limits rows log before after (Err (notice.BadInput fault)) ends e = cc
 done_has limits rows log before after (Err (notice.ReadFault of)) ends e = cc
 done_has limits rows log before after (Err notice.LogFault) ends e = cc
 done_has limits rows log before after (Err notice.OutFault) ends e = cc
@@ -54,6 +55,7 @@ pub refused_has : (limits : Limits) (rows log : List ℕ) (before after : Output
 refused_has limits rows log before after (notice.TooLong of limit) ends e = ends.1
 refused_has limits rows log before after (notice.BadLog of line kind) ends e = ends.1
 refused_has limits rows log before after (notice.NotBuilt of line) ends e = ends.1
+refused_has limits rows log before after (notice.BadInput fault) ends e = ends.1
 refused_has limits rows log before after _ ends e = cc
 
 pub leaves_all : (limits : Limits) (rows log : List ℕ) (before after : Outputs) (n : Notice) → PavingEnds limits rows log before after (Err n)
@@ -61,6 +63,7 @@ pub leaves_all : (limits : Limits) (rows log : List ℕ) (before after : Outputs
 leaves_all limits rows log before after (notice.TooLong of limit) ends e = ends.0
 leaves_all limits rows log before after (notice.BadLog of line kind) ends e = ends.0
 leaves_all limits rows log before after (notice.NotBuilt of line) ends e = ends.0
+leaves_all limits rows log before after (notice.BadInput fault) ends e = ends.0
 leaves_all limits rows log before after (notice.ReadFault of) ends e = ends.1
 leaves_all limits rows log before after _ ends (inl e) = cc
 leaves_all limits rows log before after _ ends (inr e) = cc

@@ -1,7 +1,13 @@
 pub mod Words
 pub mod Asked
 pub mod Statuses
+pub mod InputTexts
 pub mod Texts
 pub mod Answers
+pub mod Inputs
 pub mod Judging
 pub mod Paving
+pub mod CheckReads
+pub mod CheckTexts
+pub mod Checking
+pub mod Solving

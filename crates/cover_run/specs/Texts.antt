@@ -4,6 +4,7 @@ use Rattle.outer_io.specs.declared.slots.Slot.{Slot}
 use Rattle.outer_io.specs.declared.slots.Slot.TheVariants as slot
 use Rattle.paving_log_check.specs.declared.verdict.Verdict.{Verdict}
 use Rattle.paving_log_check.specs.declared.verdict.Verdict.TheVariants as verdict
+use Rattle.cover_run.specs.InputTexts.{input_fault_text}
 use Rattle.cover_run.specs.declared.notice.Notice.{Notice}
 use Rattle.cover_run.specs.declared.notice.Notice.TheVariants as notice
 
@@ -55,6 +56,7 @@ notice_text notice.Usage = codes "usage: gpscover judge LOG, pave ROWS LOG, solv
 notice_text (notice.TooLong slot limit) = role_text slot ++ codes " 29 TooLong " ++ decimal limit ++ codes "\n"
 notice_text (notice.BadLog slot line kind) = role_text slot ++ codes " 40 BadLog line " ++ decimal line ++ codes " kind " ++ decimal kind ++ codes "\n"
 notice_text (notice.NotBuilt slot line) = role_text slot ++ codes " 41 NotBuilt line " ++ decimal line ++ codes "\n"
+notice_text (notice.BadInput fault) = input_fault_text fault
 notice_text (notice.ReadFault slot) = role_text slot ++ codes " fault\n"
 notice_text notice.LogFault = codes "log fault\n"
 notice_text notice.OutFault = codes "out fault\n"

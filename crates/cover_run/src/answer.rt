@@ -15,9 +15,9 @@ use crate::{Status, Verdict};
 use outer_io::{Failed, Sink, write_sink};
 
 /// Says the notice on standard error, whatever becomes of it there, and how the run ends.
-pub fn say<E: Sink>(err: &mut E, notice: Notice) -> Status
-    ensures status { result ≡ status_of notice }
-    ensures line { Gets (E.taken err.old) (E.taken err.new) (E.faults err.old) (E.faults err.new) (notice_text notice) }
+pub fn say<E: Sink>(err: &mut E, notice: &Notice) -> Status
+    ensures status { result ≡ status_of notice.now }
+    ensures line { Gets (E.taken err.old) (E.taken err.new) (E.faults err.old) (E.faults err.new) (notice_text notice.now) }
 {
     let _ = write_sink(err, notice_line(notice).as_bytes());
     notice.status()

@@ -29,6 +29,9 @@ pub fn read_file<H: Shelf>(
         is_missing (H.told shelf.old) name.now ≡ false → Rose (H.read_faults shelf.old) (H.read_faults shelf.new) }
     ensures reliable { (log : Option (List ℕ)) → is_missing (H.told shelf.old) name.now ≡ false → H.reliable shelf.new log → result ≢ Err (Notice.ReadFault slot) }
 
+    ensures later { H.read_faults shelf.old ≤ H.read_faults shelf.new }
+    ensures before { (log : Option (List ℕ)) → H.reliable shelf.new log → H.reliable shelf.old log }
+
     // Nothing is written.
     ensures files { files_of (H.told shelf.new) ≡ files_of (H.told shelf.old) }
     ensures written { written_of (H.told shelf.new) ≡ written_of (H.told shelf.old) }

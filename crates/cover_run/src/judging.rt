@@ -85,6 +85,6 @@ pub fn run_judge<H: Shelf, O: Sink, E: Sink>(
 {
     match judge_log(alloc, limit, name, shelf, out) {
         Ok(status) => status,
-        Err(notice) => say(err, notice),
+        Err(notice) => say(err, &notice),
     }
 }

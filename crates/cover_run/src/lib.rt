@@ -1,15 +1,23 @@
 //! What the program does: words, files and sinks go in, and a status comes out.
 //!
 //! `judge LOG` reads a log, judges it with its satellite rows taken as given, and prints the
-//! verdict. `pave ROWS LOG` reads satellite rows, paves their epochs and writes the log.
+//! verdict. `solve OBS NAV SETTINGS LOG` paves the epochs of a receiver's files and writes the log,
+//! and `check` with the same words checks the log against the files. `pave ROWS LOG` reads satellite rows, paves their epochs and writes the log.
 #![tactic(auto)]
 
 mod answer;
+mod check_texts;
+mod checked;
+mod checking;
 mod file;
+mod input_fault;
+mod input_texts;
+mod inputs;
 mod judging;
 mod limits;
 mod notice;
 mod pave;
+mod solving;
 mod status;
 mod text;
 mod texts;

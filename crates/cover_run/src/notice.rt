@@ -1,16 +1,19 @@
 //! Why a run doesn't do its job to the end.
 
 ghost use Rattle.std.specs.Prelude.{◌≡◌};
-ghost use Rattle.cover_run.specs.Statuses.{status_of, notice_of_read, notice_of_log, notice_of_fault};
+ghost use Rattle.cover_run.specs.Statuses.{status_of, notice_of_read, notice_of_log, notice_of_settings, notice_of_file, notice_of_fault};
 
 use crate::Status;
+use crate::input_fault::InputFault;
+use error_bounds::SettingsError;
 use log_writer::WriteFault;
 use outer_io::{ReadAll, Slot};
 use paving_log::LogError;
+use rinex_text::ReadError;
 
 /// What is said on standard error, in one line, of a run that doesn't do its job to the end. A slot
 /// says which file it is about.
-#[derive(Clone, Copy, Debug, PartialEq, Eq)]
+#[derive(Clone, Copy, PartialEq, Eq)]
 pub enum Notice {
     /// The words are no command.
     Usage,
@@ -20,6 +23,8 @@ pub enum Notice {
     BadLog { slot: Slot, line: u32, kind: u8 },
     /// The first line of the file that doesn't fit begins with a word that isn't built yet.
     NotBuilt { slot: Slot, line: u32 },
+    /// A receiver's file has this first fault.
+    BadInput(InputFault),
     /// The file is missing, or a read of it has failed.
     ReadFault { slot: Slot },
     /// The log couldn't be created, or a write to it has failed.
@@ -33,14 +38,15 @@ pub enum Notice {
 
 impl Notice {
     /// How a run ends that gives this notice.
-    pub fn status(self) -> Status
-        ensures { result ≡ status_of self }
+    pub fn status(&self) -> Status
+        ensures { result ≡ status_of self.now }
     {
         match self {
             Notice::Usage => Status::Usage,
             Notice::TooLong { .. } => Status::Refused,
             Notice::BadLog { .. } => Status::Refused,
             Notice::NotBuilt { .. } => Status::Refused,
+            Notice::BadInput(_) => Status::Refused,
             Notice::ReadFault { .. } => Status::ReadFault,
             Notice::LogFault => Status::WriteFault,
             Notice::OutFault => Status::WriteFault,
@@ -80,6 +86,36 @@ impl Notice {
             LogError::BadLog { line, kind } => Notice::BadLog { slot, line, kind },
             LogError::NotBuilt { line } => Notice::NotBuilt { slot, line },
             LogError::NoMemory => Notice::NoMemory,
+        }
+    }
+
+    /// Why the settings weren't read.
+    pub fn of_settings(error: SettingsError) -> Notice
+        ensures { result ≡ notice_of_settings error }
+    {
+        match error {
+            SettingsError::Refused(fault) => Notice::BadInput(InputFault::Settings(fault)),
+            SettingsError::NoMemory => Notice::NoMemory,
+        }
+    }
+
+    /// Why the navigation file wasn't read.
+    pub fn of_nav(error: ReadError) -> Notice
+        ensures { result ≡ notice_of_file (λ refusal. InputFault.Nav refusal) error }
+    {
+        match error {
+            ReadError::Refused(refusal) => Notice::BadInput(InputFault::Nav(refusal)),
+            ReadError::NoMemory => Notice::NoMemory,
+        }
+    }
+
+    /// Why the observation file wasn't read.
+    pub fn of_obs(error: ReadError) -> Notice
+        ensures { result ≡ notice_of_file (λ refusal. InputFault.Obs refusal) error }
+    {
+        match error {
+            ReadError::Refused(refusal) => Notice::BadInput(InputFault::Obs(refusal)),
+            ReadError::NoMemory => Notice::NoMemory,
         }
     }
 }

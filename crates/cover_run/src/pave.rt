@@ -29,7 +29,7 @@ use paving_log::Log;
 use std::alloc::Global;
 
 /// Creates the named log, writes it for these rows and prints its report.
-fn create_log<H: Shelf, O: Sink>(
+pub fn create_log<H: Shelf, O: Sink>(
     alloc: Global,
     limit: u64,
     name: &str,
@@ -120,6 +120,6 @@ pub fn run_pave<H: Shelf, O: Sink, E: Sink>(
 {
     match pave_rows(alloc, limits, rows, log, shelf, out) {
         Ok(()) => Status::Done,
-        Err(notice) => say(err, notice),
+        Err(notice) => say(err, &notice),
     }
 }

@@ -4,6 +4,7 @@ ghost use Rattle.std.specs.Prelude.{◌≡◌, ◌+◌, ◌≤◌, ◌++◌, len
 ghost use Rattle.cover_run.specs.Texts.{yes_text, no_text, test_name, role_text, notice_text};
 
 use crate::Fault;
+use crate::input_texts::push_input_fault;
 use crate::notice::Notice;
 use arrayvec::ArrayString;
 use itoa::Buffer;
@@ -40,8 +41,8 @@ pub fn no_line(fault: &Fault) -> Line
     line
 }
 
-// The name of a test of a log's lines.
-fn name_of_test(number: u8) -> &'static str
+/// The name of a test of a log's lines.
+pub fn name_of_test(number: u8) -> &'static str
     ensures name { result.now ≡ test_name number }
     ensures short { length result.now ≤ 16 }
 {
@@ -90,11 +91,11 @@ fn push_count(line: &mut Line, text: &str, count: u64)
 }
 
 /// The line on standard error for a run that doesn't do its job to the end.
-pub fn notice_line(notice: Notice) -> Line
-    ensures { result.bytes ≡ notice_text notice }
+pub fn notice_line(notice: &Notice) -> Line
+    ensures { result.bytes ≡ notice_text notice.now }
 {
     let mut line = Line::new();
-    match notice {
+    match *notice {
         Notice::Usage => line.push_str(
             "usage: gpscover judge LOG, pave ROWS LOG, solve or check OBS NAV SETTINGS LOG, make SEED EPOCHS\n",
         ),
@@ -118,6 +119,7 @@ pub fn notice_line(notice: Notice) -> Line
             push_count(&mut line, " 41 NotBuilt line ", u64::from(number));
             line.push_str("\n");
         }
+        Notice::BadInput(ref fault) => push_input_fault(&mut line, fault),
         Notice::ReadFault { slot } => {
             line.push_str(role_of(slot));
             line.push_str(" fault\n");

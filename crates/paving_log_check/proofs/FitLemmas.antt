@@ -1,6 +1,7 @@
 -- Rows that hold own rows keep what fits the satellites, and what surely fits the rows fits the satellites.
 use Rattle.std.proofs.Common.{◌≡◌, ℕ, zero, suc, ◌<◌, ◌≤◌, arith, Bool, true, false, cond, List, [], ◌∷◌, length, map, inl, inr, refl, sym, ap, ◌∙◌, Option, None, Some, count_by}
 use Rattle.std.specs.Prelude.{ℤ, pos, ◌-ℤ◌, ◌≤ℤ◌, slice_get, is_none}
+use Rattle.std.specs.List.{AllByRecursion}
 use Rattle.std.proofs.lemmas.Int.{ints}
 use Rattle.std.proofs.lemmas.List.Sums.{sum_by-cons}
 use Rattle.rinex_obs.specs.declared.obs.ObsEpoch.{ObsEpoch}
@@ -242,6 +243,10 @@ module _ (IsJudged : SatObs → Option Skip → Type 0) (Allows : SatObs → Pos
       let fair = all_fair block.sats lines (rw few at whole) (fair_at block.sats lines (rw few at sats)) in
       fit_cover rules.outliers block.sats lines seens (pieces root block.steps) fair own (epoch_cover (rows_of block.sats) rules block.done root block.steps body.1)
 
+-- a block of few satellites, and no other, has no root
+abbrev pub HasFewRoot : Block → Type 0
+HasFewRoot block = block.few ≡ is_none block.root
+
 none_of : (root : Option Box3) → is_none (box_option root) ≡ is_none root
 none_of None = refl
 none_of (Some root) = refl
@@ -251,6 +256,20 @@ module _ (IsJudged : ℤ → SatObs → Option Skip → Type 0) (Allows : ℤ �
     (one : (tag : ℤ) (seen : SatObs) (a b : Option Skip) → IsJudged tag seen a → IsJudged tag seen b → a ≡ b)
     (exists : (tag : ℤ) (seen : SatObs) (p : Pos) → IsJudged tag seen None → (c : Chain) × Allows tag seen p c)
     (range_is : (tag : ℤ) (seen : SatObs) (p : Pos) (c : Chain) → Allows tag seen p c → c.range ≡ range_to c.x c.y c.z p) where
+  pub fit_all : (rules : Rules) (before : Option ℕ) (owns : List (List SatLine)) (seens : List ObsEpoch) (blocks : List Block) → AllByRecursion HasFewRoot blocks
+      → AdmitsFrom rules root before owns seens blocks → AreOwn IsJudged Allows declared root seens owns → length owns ≡ length seens
+      → BlocksFitCover IsJudged Allows declared rules.outliers root seens blocks
+  fit_all rules before [] [] [] few admits are each = tt
+  fit_all rules before [] [] (block ∷ blocks) few admits are each = absurd admits
+  fit_all rules before [] (seen ∷ seens) blocks few admits are each = absurd (omega (arith, each))
+  fit_all rules before (own ∷ owns) [] blocks few admits are each = absurd are
+  fit_all rules before (own ∷ owns) (seen ∷ seens) [] few admits are each = absurd admits
+  fit_all rules before (own ∷ owns) (seen ∷ seens) (block ∷ blocks) few admits are each = (
+    block_cover (IsJudged seen.tag) (Allows seen.tag) declared root (one seen.tag) (exists seen.tag) (range_is seen.tag)
+        rules block block.root own seen.sats.items few.0 admits.1.sats admits.1.whole admits.1.body are.0,
+    fit_all rules (Some block.index) owns seens blocks few.1 admits.2 are.1 (omega (arith, each)),
+  )
+
   pub blocks_fit : (rules : Rules) (before : Option ℕ) (owns : List (List SatLine)) (seens : List ObsEpoch) (epochs : List LogEpoch)
       → AdmitsFrom rules root before owns seens (map block_of epochs) → AreOwn IsJudged Allows declared root seens owns → length owns ≡ length seens
       → BlocksFitCover IsJudged Allows declared rules.outliers root seens (map block_of epochs)

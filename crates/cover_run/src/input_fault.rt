@@ -1,0 +1,12 @@
+//! Why a receiver's file is refused that isn't too long.
+
+use error_bounds::SettingsFault;
+use rinex_text::Refusal;
+
+/// The first fault of an observation file, of a navigation file or of settings.
+#[derive(Clone, Copy, PartialEq, Eq)]
+pub enum InputFault {
+    Obs(Refusal),
+    Nav(Refusal),
+    Settings(SettingsFault),
+}
