@@ -30,15 +30,6 @@ use Rattle.sat_rows.specs.declared.lines.SatLine.{SatLine}
 use Rattle.cover_run.specs.Solving.{epochs_of, AreRowsOf, HasRows, IsSolved}
 use Rattle.cover_run.specs.declared.inputs.Inputs.{Inputs}
 
--- a skip of a satellite can be written
-pub skip_fits : (records : List NavRecord) (settings : Settings) (tag : ℤ) (seen : SatObs) (skip : Skip) → IsGpsJudged records settings tag seen (Some skip) → SkipFits skip
-skip_fits records settings tag seen skip (inl one) = inl ((omega (arith, one.0), omega (arith, one.0)), one.1)
-skip_fits records settings tag seen skip (inr (inl two)) = inl ((omega (arith, two.0), omega (arith, two.0)), two.1)
-skip_fits records settings tag seen skip (inr (inr (inl three))) = inl ((omega (arith, three.0), omega (arith, three.0)), three.1)
-skip_fits records settings tag seen skip (inr (inr (inr (inl four)))) = inl ((omega (arith, four.0), omega (arith, four.0)), four.1)
-skip_fits records settings tag seen skip (inr (inr (inr (inr (inl five))))) = inl ((omega (arith, five.0), omega (arith, five.0)), five.1)
-skip_fits records settings tag seen skip (inr (inr (inr (inr (inr six))))) = inr (six.0, (six.1.first.from, six.1.first.to))
-
 -- a block of few satellites, and no other, has no root
 body_root : (few : Bool) (root : GridBox) (own : List SatLine) (given : Block) → HasBody few root own given → few ≡ is_none given.root
 body_root true root own given body = sym (ap is_none body.1)
@@ -65,10 +56,7 @@ is_solved i rows limit bytes said (root, are, p, inside) whole =
       rows = rows;
       are_rows = are;
       whole = whole;
-      admissible = λ others theirs each. record {
-        each = each;
-        admits = solved_admits (IsGpsJudged i.nav i.settings) (IsGpsChain i.nav i.settings) (gps_declared i.settings) root one exists p inside i.settings.rules (epochs_of i) rows whole.log are.rules are.blocks whole.paving whole.judged others theirs;
-      };
+      admits = λ others theirs. solved_admits (IsGpsJudged i.nav i.settings) (IsGpsChain i.nav i.settings) (gps_declared i.settings) root one exists p inside i.settings.rules (epochs_of i) rows whole.log are.rules are.blocks whole.paving whole.judged others theirs;
       cover = fit_all (IsGpsJudged i.nav i.settings) (IsGpsChain i.nav i.settings) (gps_declared i.settings) root one exists (gps_range_is i.nav i.settings) i.settings.rules None owns (epochs_of i) whole.log.blocks
           (few_roots _ i.settings.rules.outliers root rows.rules (epochs_of i) rows.blocks whole.log.blocks are.blocks whole.paving.blocks) admissible.admits.blocks own admissible.each;
     }

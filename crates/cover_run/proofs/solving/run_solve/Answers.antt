@@ -37,7 +37,12 @@ returns-in-Err g c =
     (g.H.Shelf.reliable c.read_inputs.new.shelf (Some c.args.log.now)) (g.O.Sink.reliable c.args.out.now) n c.say.result
     (inputs_status (IsCounted (g.H.Shelf.read_faults c.args.shelf.now) (g.H.Shelf.read_faults c.read_inputs.new.shelf) (g.H.Shelf.reliable c.read_inputs.new.shelf))
     c.args.limits.now (record { obs = c.args.obs.now; nav = c.args.nav.now; settings = c.args.settings.now }) (files_of (g.H.Shelf.told c.args.shelf.now)) n j.reads) c.say.ensures.status c.say.ensures.line
-    (record { files = record { files = j.files; written = j.written }; out = refl }) in
+    (record {
+      leaves = record { files = record { files = j.files; written = j.written }; out = refl };
+      phases = j.phases;
+      write_faults = j.write_faults;
+      out_faults = refl;
+    }) in
     record {
       found = Err n;
       reads = j.reads;
