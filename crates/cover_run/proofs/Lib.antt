@@ -1,4 +1,3 @@
-pub mod WordLemmas
 pub mod ShownLemmas
 pub mod FileReads
 pub mod InputReads
@@ -14,3 +13,4 @@ pub mod PavingEnds
 pub mod PavingRun
 pub mod JudgingRun
 pub mod PavingReads
+pub mod OwnNames

@@ -177,8 +177,8 @@ put_alone slot.Log old phase other = absurd (other refl)
 pub opens_log : (old new : Slots Phase) (phase : Phase) → new ≡ put old slot.Log phase → OpensLogAlone old new
 opens_log old new phase is of other e = sym (put_alone of old phase other) ∙ ap (λ (s : Slots Phase). at s of) (sym is) ∙ e
 
-pub opens_behind : (old middle new : Slots Phase) → OpensNone old middle → OpensLogAlone middle new → OpensLogAlone old new
-opens_behind old middle new none alone of other e = none of (alone of other e)
+pub opens_behind : (old now new : Slots Phase) → OpensNone old now → OpensLogAlone now new → OpensLogAlone old new
+opens_behind old now new none alone of other e = none of (alone of other e)
 
 pub opens_no_more : (old new : Slots Phase) → OpensNone old new → OpensLogAlone old new
 opens_no_more old new none of other e = none of e

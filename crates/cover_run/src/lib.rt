@@ -30,4 +30,6 @@ pub use status::Status;
 pub use top::run;
 
 #[cfg(test)]
+mod file_tests;
+#[cfg(test)]
 mod tests;

@@ -87,7 +87,7 @@ fn expect(
 
 #[test]
 fn other_words_are_answered_with_the_usage(rt: HostRuntime) -> Result<(), Fail> {
-    let table: [&[&str]; 11] = [
+    let table: [&[&str]; 13] = [
         &[],
         &["judge"],
         &["judge", "-"],
@@ -99,6 +99,8 @@ fn other_words_are_answered_with_the_usage(rt: HostRuntime) -> Result<(), Fail> 
         &["pave", "-", "a.log"],
         &["pave", "a.rows", "-a.log"],
         &["--version"],
+        &["check", "a.obs", "a.nav", "a.toml"],
+        &["solve", "a.obs", "-", "a.toml", "a.log"],
     ];
     for words in table {
         let case = Case { words, ..JUDGE };

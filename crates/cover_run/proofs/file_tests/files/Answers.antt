@@ -1,0 +1,7 @@
+use Rattle.cover_run.proofs.OwnNames.{four_own_names}
+use Rattle.cover_run.proofs.file_tests.files.Goals as goal
+
+pub returns : goal.returns
+returns c =
+    rw c.in_ok-vec.ensures.items (four_own_names c.in_ok-obs.obs c.in_ok-nav.nav c.in_ok-settings.settings c.in_ok-log.log
+    c.in_ok-obs.ensures c.in_ok-nav.ensures c.in_ok-settings.ensures c.in_ok-log.ensures)

@@ -1,0 +1,251 @@
+ghost use Rattle.std.specs.Prelude.{◌≡◌, IfOk, string_bytes};
+ghost use Rattle.outer_io.specs.Store.{HaveOwnNames};
+
+use crate::{Limits, Status, run};
+use outer_io::{MemoryShelf, MemorySink};
+use std::alloc::Global;
+use std::process::Abort;
+use std::test::Fail;
+
+// One epoch, in which the code of the second satellite is missing.
+const OBS: &str = "     3.05           OBSERVATION DATA    G                   RINEX VERSION / TYPE
+G    1 C1C                                                  SYS / # / OBS TYPES
+  2024     1     7     0     0    0.0700000     GPS         TIME OF FIRST OBS
+                                                            END OF HEADER
+> 2024 01 07 00 00  0.0700000  0  2
+G01  20985472.060
+G02
+";
+
+// The same without its last line.
+const SHORT_OBS: &str =
+    "     3.05           OBSERVATION DATA    G                   RINEX VERSION / TYPE
+G    1 C1C                                                  SYS / # / OBS TYPES
+  2024     1     7     0     0    0.0700000     GPS         TIME OF FIRST OBS
+                                                            END OF HEADER
+> 2024 01 07 00 00  0.0700000  0  2
+G01  20985472.060
+";
+
+// One record of the first satellite.
+const NAV: &str = "     3.05           N: GNSS NAV DATA    G                   RINEX VERSION / TYPE
+                                                            END OF HEADER
+G01 2024 01 07 00 00 00 0.000000000000D+00 0.000000000000D+00 0.000000000000D+00
+     0.000000000000D+00 0.000000000000D+00 0.000000000000D+00 0.000000000000D+00
+     0.000000000000D+00 0.000000000000D+00 0.000000000000D+00 5.200000000000D+03
+     0.000000000000D+00 0.000000000000D+00 0.000000000000D+00 0.000000000000D+00
+     0.000000000000D+00 0.000000000000D+00 0.000000000000D+00 0.000000000000D+00
+     0.000000000000D+00 0.000000000000D+00 0.000000000000D+00 0.000000000000D+00
+     0.000000000000D+00 0.000000000000D+00 0.000000000000D+00 0.000000000000D+00
+     0.000000000000D+00 0.000000000000D+00 0.000000000000D+00 0.000000000000D+00
+";
+
+// The clock's first field is no number.
+const BAD_NAV: &str =
+    "     3.05           N: GNSS NAV DATA    G                   RINEX VERSION / TYPE
+                                                            END OF HEADER
+G01 2024 01 07 00 00 00 0.000000000000D+0x 0.000000000000D+00 0.000000000000D+00
+";
+
+const SETTINGS: &str = "\
+[search]
+centre = [6378137000, 0, 0]
+half = 200000
+outliers = 1
+bisections = 4096
+width = 1000
+max_age = 7200
+[signal]
+mode = \"single\"
+codes = [\"C1C\"]
+[bounds]
+receiver = [-3000, 3000]
+orbit_clock = [-3000, 3000]
+ionosphere = [0, 20000]
+troposphere = [2000, 25000]
+";
+
+const LOG: &str = "gpscover 1\nrules 1 4096 1000000\nfew 1 1388620800070000000000 1\nskip G02 1\n";
+
+// A run over a shelf with the files `a.obs`, `a.nav`, `a.toml` and `a.log`.
+#[derive(Clone, Copy)]
+struct Case {
+    words: &'static [&'static str],
+    obs: &'static str,
+    nav: &'static str,
+    settings: &'static str,
+    log: &'static str,
+    limit: u64,
+}
+
+const CHECK: Case = Case {
+    words: &["check", "a.obs", "a.nav", "a.toml", "a.log"],
+    obs: OBS,
+    nav: NAV,
+    settings: SETTINGS,
+    log: LOG,
+    limit: 2_000,
+};
+
+// A file with a name and bytes.
+fn file(alloc: Global, name: &str, text: &str) -> Result<(String, Vec<u8>), Fail>
+    ensures { IfOk result (λ file. string_bytes file.0 ≡ name.now) }
+{
+    let mut bytes = Vec::new(alloc);
+    bytes.extend_from_slice(text.as_bytes())?;
+    Ok((String::from_str(alloc, name)?, bytes))
+}
+
+// The four files.
+fn files(alloc: Global, case: &Case) -> Result<Vec<(String, Vec<u8>)>, Fail>
+    ensures { IfOk result (λ files. HaveOwnNames files.items) }
+{
+    let obs = file(alloc, "a.obs", case.obs)?;
+    let nav = file(alloc, "a.nav", case.nav)?;
+    let settings = file(alloc, "a.toml", case.settings)?;
+    let log = file(alloc, "a.log", case.log)?;
+    Ok(vec![in alloc; obs, nav, settings, log]?)
+}
+
+fn expect(
+    rt: &(impl Abort + AllocGlobal),
+    case: &Case,
+    status: Status,
+    out_text: &str,
+    err_text: &str,
+) -> Result<(), Fail> {
+    let alloc = rt.alloc();
+    let mut words = Vec::new(alloc);
+    for word in case.words {
+        words.push(String::from_str(alloc, *word)?)?;
+    }
+    let limits = Limits {
+        file: case.limit.min(4_000_000_000),
+        settings: 2_000,
+        log: 2_000,
+    };
+    let name = String::from_str(alloc, "b.log")?;
+    let mut shelf = MemoryShelf::make(alloc, files(alloc, case)?, name, 0, Vec::new(alloc))?;
+    let mut out = MemorySink::make(alloc, 100, Vec::new(alloc))?;
+    let mut err = MemorySink::make(alloc, 200, Vec::new(alloc))?;
+    let ended = run(alloc, &limits, &words, &mut shelf, &mut out, &mut err);
+    assert_eq!(rt; ended, status);
+    assert_eq!(rt; out.bytes(), out_text.as_bytes());
+    assert_eq!(rt; err.bytes(), err_text.as_bytes());
+    Ok(())
+}
+
+#[test]
+fn a_log_is_checked_against_files(rt: HostRuntime) -> Result<(), Fail> {
+    expect(&rt, &CHECK, Status::Done, "yes 0\n", "")?;
+    let table = [
+        (
+            "gpscover 1\nrules 1 4096 1000000\nfew 1 1388620800070000000000 1\nskip G02 2\n",
+            "no 52 SatelliteDiffers line 4\n",
+        ),
+        (
+            "gpscover 1\nrules 1 4096 1000001\nfew 1 1388620800070000000000 1\nskip G02 1\n",
+            "no 50 RulesDiffer line 2\n",
+        ),
+        (
+            "gpscover 1\nrules 1 4096 1000000\n",
+            "no 51 EpochDiffers line 3\n",
+        ),
+    ];
+    for (log, text) in table {
+        expect(&rt, &Case { log, ..CHECK }, Status::No, text, "")?;
+    }
+    Ok(())
+}
+
+// The settings come first, then the navigation file, and the log comes last.
+#[test]
+fn files_are_refused_in_their_order(rt: HostRuntime) -> Result<(), Fail> {
+    let no_log = Case {
+        log: "gpscover 2\n",
+        ..CHECK
+    };
+    let no_obs = Case {
+        obs: SHORT_OBS,
+        ..no_log
+    };
+    let no_nav = Case {
+        nav: BAD_NAV,
+        ..no_obs
+    };
+    let long_nav = Case {
+        limit: 100,
+        ..no_nav
+    };
+    let no_settings = Case {
+        settings: "[search]\ncentre = \"header\"\n",
+        ..long_nav
+    };
+    let no_toml = Case {
+        settings: "x",
+        ..no_settings
+    };
+    let table = [
+        (no_log, "log 40 BadLog line 1 kind 1\n"),
+        (no_obs, "obs 24 Truncated line 7\n"),
+        (no_nav, "nav 23 BadNumber line 3\n"),
+        (long_nav, "nav 29 TooLong 100\n"),
+        (no_settings, "settings 31 Missing search.half\n"),
+        (no_toml, "settings 30 NotToml\n"),
+    ];
+    for (case, text) in table {
+        expect(&rt, &case, Status::Refused, "", text)?;
+    }
+    let words: &[&str] = &["check", "a.obs", "c.nav", "a.toml", "a.log"];
+    let missing = Case { words, ..no_obs };
+    expect(&rt, &missing, Status::ReadFault, "", "nav fault\n")
+}
+
+// What is solved is checked with the same files, and a device that is full keeps what it took.
+#[test]
+fn an_epoch_of_few_satellites_is_solved(rt: HostRuntime) -> Result<(), Fail> {
+    let alloc = rt.alloc();
+    let limits = Limits {
+        file: 2_000,
+        settings: 2_000,
+        log: 2_000,
+    };
+    let table = [
+        (
+            2_000,
+            Status::Done,
+            "epoch 1 gps 1388620800.070000000000 few 1\n",
+            "",
+            LOG,
+        ),
+        (
+            20,
+            Status::WriteFault,
+            "",
+            "log fault\n",
+            "gpscover 1\nrules 1 4",
+        ),
+    ];
+    for (room, status, out_text, err_text, log) in table {
+        let mut words = Vec::new(alloc);
+        for word in ["solve", "a.obs", "a.nav", "a.toml", "b.log"] {
+            words.push(String::from_str(alloc, word)?)?;
+        }
+        let name = String::from_str(alloc, "b.log")?;
+        let mut shelf = MemoryShelf::make(
+            alloc,
+            files(alloc, &CHECK)?,
+            name,
+            room,
+            Vec::new(alloc),
+        )?;
+        let mut out = MemorySink::make(alloc, 100, Vec::new(alloc))?;
+        let mut err = MemorySink::make(alloc, 200, Vec::new(alloc))?;
+        let ended = run(alloc, &limits, &words, &mut shelf, &mut out, &mut err);
+        assert_eq!(rt; ended, status);
+        assert_eq!(rt; out.bytes(), out_text.as_bytes());
+        assert_eq!(rt; err.bytes(), err_text.as_bytes());
+        assert!(rt; shelf.file("b.log") == Some(log.as_bytes()));
+    }
+    Ok(())
+}
