@@ -13,4 +13,3 @@ pub mod PavingEnds
 pub mod PavingRun
 pub mod JudgingRun
 pub mod PavingReads
-pub mod OwnNames
