@@ -1,33 +1,25 @@
 -- The log that `solve` writes, against the files.
-use Rattle.std.proofs.Common.{◌≡◌, ◌⊎◌, ℕ, Bool, true, false, List, [], ◌∷◌, length, Option, None, Some, is_none, Result, Ok, Err, IfOk, inl, inr, refl, sym, ap, subst, ◌∙◌, arith}
-use Rattle.std.specs.Prelude.{ℤ}
+use Rattle.std.proofs.Common.{◌≡◌, ℕ, Bool, true, false, List, [], ◌∷◌, None, is_none, Result, Ok, Err, IfOk, sym, ap, ◌∙◌}
 use Rattle.std.specs.List.{AllByRecursion}
 use Rattle.epoch_rows.proofs.AdmitLemmas.{solved_admits, solved_admissible, has_corner}
-use Rattle.epoch_rows.specs.Grown.{HasBody, IsGrownBlock, AreGrown}
+use Rattle.epoch_rows.specs.Grown.{HasBody, AreGrown}
 use Rattle.log_writer.specs.Pavings.{AllPave}
 use Rattle.log_writer.specs.Texts.{IsWhole}
-use Rattle.log_words.specs.Fields.{SkipFits}
 use Rattle.paving_log.specs.Values.{log_value}
 use Rattle.paving_log.specs.declared.log.Log.{Log}
 use Rattle.paving_log_check.proofs.FitLemmas.{HasFewRoot, fit_all}
-use Rattle.paving_log_check.specs.Admissible.{AreOwn, Admissible}
 use Rattle.rinex_obs.specs.declared.obs.ObsEpoch.{ObsEpoch}
-use Rattle.rinex_obs.specs.declared.obs.SatObs.{SatObs}
 use Rattle.error_bounds.specs.Reading.{centre_with, IsRoot}
-use Rattle.error_bounds.specs.declared.settings.Settings.{Settings}
-use Rattle.rinex_nav.specs.declared.record.NavRecord.{NavRecord}
-use Rattle.sat_model.specs.Boxes.{GridBox, box_holds, grid_box}
+use Rattle.sat_model.specs.Boxes.{GridBox, grid_box}
 use Rattle.sat_model.specs.Logs.{Block, LogValue}
 use Rattle.sat_model.specs.declared.boxes.Box3.{Box3}
-use Rattle.sat_model.specs.declared.boxes.Pos.{Pos}
 use Rattle.sat_model.specs.declared.rules.Rules.{Rules}
-use Rattle.sat_model.specs.declared.satellites.Skip.{Skip}
 use Rattle.sat_model.specs.declared.memory.NoMemory.{NoMemory}
 use Rattle.sat_rows.specs.OwnRows.{AreOwnLines}
 use Rattle.sat_rows.specs.Laws.{one_gps_judgement, gps_chain_exists, gps_range_is}
 use Rattle.sat_rows.specs.Sources.{IsGpsJudged, IsGpsChain, gps_declared}
 use Rattle.sat_rows.specs.declared.lines.SatLine.{SatLine}
-use Rattle.cover_run.specs.Solving.{epochs_of, AreRowsOf, HasRows, IsSolved}
+use Rattle.cover_run.specs.Solving.{epochs_of, HasRows, IsSolved}
 use Rattle.cover_run.specs.declared.inputs.Inputs.{Inputs}
 
 -- a block of few satellites, and no other, has no root

@@ -7,7 +7,6 @@ use Rattle.outer_io.specs.Causes.{Rose}
 use Rattle.outer_io.specs.Slots.{at, put}
 use Rattle.outer_io.specs.Told.{Told, files_of, written_of}
 use Rattle.outer_io.specs.declared.shelf.Phase.{Phase}
-use Rattle.outer_io.specs.declared.shelf.Phase.TheVariants.{Writing}
 use Rattle.outer_io.specs.declared.slots.Slot.{Slot}
 use Rattle.outer_io.specs.declared.slots.Slot.TheVariants as slot
 use Rattle.outer_io.specs.declared.slots.Slots.{Slots}
@@ -19,7 +18,7 @@ use Rattle.cover_run.specs.Answers.{World, IsBrokenOff}
 use Rattle.cover_run.specs.Checking.{sinks_of, Notes}
 use Rattle.cover_run.specs.Inputs.{SameAnswer, IsBroken, AreSameInputs, OpensNone}
 use Rattle.cover_run.specs.Paving.{Outputs, outputs_in, LeavesAll, Gives, LogEnds}
-use Rattle.cover_run.specs.Solving.{HasRows, IsSolved, IsSolvedTo, CreatesNothing, LogFails, OutFails, SolveEnds, SolveSuits, OpensLogAlone}
+use Rattle.cover_run.specs.Solving.{HasRows, IsSolved, IsSolvedTo, CreatesNothing, SolveEnds, SolveSuits, OpensLogAlone}
 use Rattle.cover_run.specs.Statuses.{status_of}
 use Rattle.cover_run.specs.declared.inputs.Inputs.{Inputs}
 use Rattle.cover_run.specs.declared.notice.Notice.{Notice}

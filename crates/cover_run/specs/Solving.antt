@@ -23,8 +23,8 @@ use Rattle.sat_rows.specs.Sources.{IsGpsJudged, IsGpsChain, gps_declared}
 use Rattle.sat_rows.specs.declared.lines.SatLine.{SatLine}
 use Rattle.cover_run.specs.Answers.{World, IsBrokenOff}
 use Rattle.cover_run.specs.Checking.{first_epoch, last_epoch, sinks_of, Notes}
-use Rattle.cover_run.specs.Inputs.{IsCounted, MayBreak, ReadsInputs, InputsGive, OpensNone}
-use Rattle.cover_run.specs.Paving.{Outputs, outputs_in, LeavesAll, Gives}
+use Rattle.cover_run.specs.Inputs.{IsCounted, MayBreak, ReadsInputs, InputsGive, SameAnswer, IsBroken, AreSameInputs, OpensNone}
+use Rattle.cover_run.specs.Paving.{outputs_in, LeavesAll, Gives}
 use Rattle.cover_run.specs.Statuses.{status_of}
 use Rattle.cover_run.specs.Words.{Names}
 use Rattle.cover_run.specs.declared.inputs.Inputs.{Inputs}
@@ -138,7 +138,9 @@ pub record SolveRun (limits : Limits) (names : Names) (log : List ℕ) (before a
   -- The status has its cause in it,
   pub no_usage : s ≢ status.Usage
   pub ends : SolveEnds limits.log log before after (shelf_reliable (Some log)) out_reliable found s
-  -- and what told files give has its status, unless a fault or want of memory comes first.
+  -- and what told files give was read and has its status, unless a fault or want of memory comes first.
+  pub same : (told : Files) (other : Result Inputs Notice) → files_of before.told ≡ Some told → InputsGive limits names (Some told) other
+      → IsBroken found ⊎ SameAnswer AreSameInputs found other
   pub exact : (told : Files) (other : Result Inputs Notice) → files_of before.told ≡ Some told → InputsGive limits names (Some told) other
       → IsBrokenOff s ⊎ SolveSuits other s
   pub phases : OpensLogAlone before.phases after.phases

@@ -6,6 +6,7 @@
 //! given.
 #![tactic(auto)]
 
+mod accepting;
 mod answer;
 mod check_texts;
 mod checked;
@@ -25,6 +26,7 @@ mod texts;
 mod top;
 mod words;
 
+pub use accepting::solved_is_accepted;
 pub use limits::Limits;
 pub use paving_log_check::{Fault, Verdict, judge};
 pub use status::Status;
