@@ -6,6 +6,9 @@ pub mod CheckedReads
 pub mod CheckingRun
 pub mod SolvingLemmas
 pub mod SolvingRun
+pub mod SameInputs
+pub mod AcceptLemmas
+pub mod Headline
 pub mod Saying
 pub mod Ending
 pub mod Rewriting
@@ -13,4 +16,3 @@ pub mod PavingEnds
 pub mod PavingRun
 pub mod JudgingRun
 pub mod PavingReads
-pub mod OwnNames

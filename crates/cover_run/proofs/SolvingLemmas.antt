@@ -1,25 +1,19 @@
 -- The log that `solve` writes, against the files.
-use Rattle.std.proofs.Common.{◌≡◌, ℕ, Bool, true, false, List, [], ◌∷◌, None, Some, is_none, Result, Ok, Err, IfOk, inl, inr, sym, ap, ◌∙◌, arith}
-use Rattle.std.specs.Prelude.{ℤ}
+use Rattle.std.proofs.Common.{◌≡◌, ℕ, Bool, true, false, List, [], ◌∷◌, None, is_none, Result, Ok, Err, IfOk, sym, ap, ◌∙◌}
 use Rattle.std.specs.List.{AllByRecursion}
 use Rattle.epoch_rows.proofs.AdmitLemmas.{solved_admits, solved_admissible, has_corner}
 use Rattle.epoch_rows.specs.Grown.{HasBody, AreGrown}
 use Rattle.log_writer.specs.Pavings.{AllPave}
 use Rattle.log_writer.specs.Texts.{IsWhole}
-use Rattle.log_words.specs.Fields.{SkipFits}
 use Rattle.paving_log.specs.Values.{log_value}
 use Rattle.paving_log.specs.declared.log.Log.{Log}
 use Rattle.paving_log_check.proofs.FitLemmas.{HasFewRoot, fit_all}
 use Rattle.rinex_obs.specs.declared.obs.ObsEpoch.{ObsEpoch}
-use Rattle.rinex_obs.specs.declared.obs.SatObs.{SatObs}
 use Rattle.error_bounds.specs.Reading.{centre_with, IsRoot}
-use Rattle.error_bounds.specs.declared.settings.Settings.{Settings}
-use Rattle.rinex_nav.specs.declared.record.NavRecord.{NavRecord}
 use Rattle.sat_model.specs.Boxes.{GridBox, grid_box}
 use Rattle.sat_model.specs.Logs.{Block, LogValue}
 use Rattle.sat_model.specs.declared.boxes.Box3.{Box3}
 use Rattle.sat_model.specs.declared.rules.Rules.{Rules}
-use Rattle.sat_model.specs.declared.satellites.Skip.{Skip}
 use Rattle.sat_model.specs.declared.memory.NoMemory.{NoMemory}
 use Rattle.sat_rows.specs.OwnRows.{AreOwnLines}
 use Rattle.sat_rows.specs.Laws.{one_gps_judgement, gps_chain_exists, gps_range_is}
@@ -27,15 +21,6 @@ use Rattle.sat_rows.specs.Sources.{IsGpsJudged, IsGpsChain, gps_declared}
 use Rattle.sat_rows.specs.declared.lines.SatLine.{SatLine}
 use Rattle.cover_run.specs.Solving.{epochs_of, HasRows, IsSolved}
 use Rattle.cover_run.specs.declared.inputs.Inputs.{Inputs}
-
--- a skip of a satellite can be written
-pub skip_fits : (records : List NavRecord) (settings : Settings) (tag : ℤ) (seen : SatObs) (skip : Skip) → IsGpsJudged records settings tag seen (Some skip) → SkipFits skip
-skip_fits records settings tag seen skip (inl one) = inl ((omega (arith, one.0), omega (arith, one.0)), one.1)
-skip_fits records settings tag seen skip (inr (inl two)) = inl ((omega (arith, two.0), omega (arith, two.0)), two.1)
-skip_fits records settings tag seen skip (inr (inr (inl three))) = inl ((omega (arith, three.0), omega (arith, three.0)), three.1)
-skip_fits records settings tag seen skip (inr (inr (inr (inl four)))) = inl ((omega (arith, four.0), omega (arith, four.0)), four.1)
-skip_fits records settings tag seen skip (inr (inr (inr (inr (inl five))))) = inl ((omega (arith, five.0), omega (arith, five.0)), five.1)
-skip_fits records settings tag seen skip (inr (inr (inr (inr (inr six))))) = inr (six.0, (six.1.first.from, six.1.first.to))
 
 -- a block of few satellites, and no other, has no root
 body_root : (few : Bool) (root : GridBox) (own : List SatLine) (given : Block) → HasBody few root own given → few ≡ is_none given.root
@@ -63,10 +48,7 @@ is_solved i rows limit bytes said (root, are, p, inside) whole =
       rows = rows;
       are_rows = are;
       whole = whole;
-      admissible = λ others theirs each. record {
-        each = each;
-        admits = solved_admits (IsGpsJudged i.nav i.settings) (IsGpsChain i.nav i.settings) (gps_declared i.settings) root one exists p inside i.settings.rules (epochs_of i) rows whole.log are.rules are.blocks whole.paving whole.judged others theirs;
-      };
+      admits = λ others theirs. solved_admits (IsGpsJudged i.nav i.settings) (IsGpsChain i.nav i.settings) (gps_declared i.settings) root one exists p inside i.settings.rules (epochs_of i) rows whole.log are.rules are.blocks whole.paving whole.judged others theirs;
       cover = fit_all (IsGpsJudged i.nav i.settings) (IsGpsChain i.nav i.settings) (gps_declared i.settings) root one exists (gps_range_is i.nav i.settings) i.settings.rules None owns (epochs_of i) whole.log.blocks
           (few_roots _ i.settings.rules.outliers root rows.rules (epochs_of i) rows.blocks whole.log.blocks are.blocks whole.paving.blocks) admissible.admits.blocks own admissible.each;
     }

@@ -18,7 +18,7 @@ use Rattle.cover_run.specs.Answers.{World, IsBrokenOff}
 use Rattle.cover_run.specs.Checking.{sinks_of, Notes}
 use Rattle.cover_run.specs.Inputs.{SameAnswer, IsBroken, AreSameInputs, OpensNone}
 use Rattle.cover_run.specs.Paving.{Outputs, outputs_in, LeavesAll, Gives, LogEnds}
-use Rattle.cover_run.specs.Solving.{HasRows, IsSolved, IsSolvedTo, SolveEnds, SolveSuits, OpensLogAlone}
+use Rattle.cover_run.specs.Solving.{HasRows, IsSolved, IsSolvedTo, CreatesNothing, SolveEnds, SolveSuits, OpensLogAlone}
 use Rattle.cover_run.specs.Statuses.{status_of}
 use Rattle.cover_run.specs.declared.inputs.Inputs.{Inputs}
 use Rattle.cover_run.specs.declared.notice.Notice.{Notice}
@@ -130,14 +130,14 @@ memory_is notice.NoMemory e = refl
 memory_is _ e = cc
 
 pub solve_noticed : (limit : ℕ) (log : List ℕ) (before after : World) (reliable out_reliable : Type 0) (n : Notice) (s : Status) → IsReadEnd n → s ≡ status_of n
-    → Notes (sinks_of before) (sinks_of after) n → LeavesAll (outputs_in before) (outputs_in after) → SolveEnds limit log before after reliable out_reliable (Err n) s
-solve_noticed limit log before after reliable out_reliable n s (inl e) is notes leaves =
-    subst (λ (t : Status). SolveEnds limit log before after reliable out_reliable (Err n) t) (sym (is ∙ e)) (e, notes, leaves)
-solve_noticed limit log before after reliable out_reliable n s (inr (inl e)) is notes leaves =
-    subst (λ (t : Status). SolveEnds limit log before after reliable out_reliable (Err n) t) (sym (is ∙ e)) (e, notes, leaves)
-solve_noticed limit log before after reliable out_reliable n s (inr (inr e)) is notes leaves =
+    → Notes (sinks_of before) (sinks_of after) n → CreatesNothing before after → SolveEnds limit log before after reliable out_reliable (Err n) s
+solve_noticed limit log before after reliable out_reliable n s (inl e) is notes none =
+    subst (λ (t : Status). SolveEnds limit log before after reliable out_reliable (Err n) t) (sym (is ∙ e)) (e, notes, none)
+solve_noticed limit log before after reliable out_reliable n s (inr (inl e)) is notes none =
+    subst (λ (t : Status). SolveEnds limit log before after reliable out_reliable (Err n) t) (sym (is ∙ e)) (e, notes, none)
+solve_noticed limit log before after reliable out_reliable n s (inr (inr e)) is notes none =
     subst (λ (t : Status). SolveEnds limit log before after reliable out_reliable (Err n) t) (sym (is ∙ e))
-    (inl leaves, subst (λ (m : Notice). Notes (sinks_of before) (sinks_of after) m) (memory_is n e) notes)
+    (inl none.leaves, subst (λ (m : Notice). Notes (sinks_of before) (sinks_of after) m) (memory_is n e) notes)
 
 -- ---- each cause has its status
 

@@ -1,5 +1,5 @@
 -- What `solve` does.
-use Rattle.std.specs.Prelude.{◌≡◌, ◌≢◌, ◌⊎◌, ℕ, true, List, length, Option, Some, Result, Ok, Err}
+use Rattle.std.specs.Prelude.{◌≡◌, ◌≢◌, ◌⊎◌, ℕ, true, List, Option, Some, Result, Ok, Err}
 use Rattle.epoch_rows.specs.Grown.{AreGrown}
 use Rattle.error_bounds.specs.Reading.{centre_with, IsRoot}
 use Rattle.log_writer.specs.Texts.{IsWhole, IsBegun}
@@ -12,7 +12,7 @@ use Rattle.outer_io.specs.declared.slots.Slot.{Slot}
 use Rattle.outer_io.specs.declared.slots.Slot.TheVariants as slot
 use Rattle.outer_io.specs.declared.slots.Slots.{Slots}
 use Rattle.outer_io.specs.Slots.{at}
-use Rattle.paving_log_check.specs.Admissible.{selected, Admissible, AreOwn}
+use Rattle.paving_log_check.specs.Admissible.{selected, Admits, AreOwn}
 use Rattle.paving_log_check.specs.FileCover.{FileCover}
 use Rattle.rinex_obs.specs.declared.obs.ObsEpoch.{ObsEpoch}
 use Rattle.sat_model.specs.Boxes.{GridBox, box_holds}
@@ -23,7 +23,7 @@ use Rattle.sat_rows.specs.Sources.{IsGpsJudged, IsGpsChain, gps_declared}
 use Rattle.sat_rows.specs.declared.lines.SatLine.{SatLine}
 use Rattle.cover_run.specs.Answers.{World, IsBrokenOff}
 use Rattle.cover_run.specs.Checking.{first_epoch, last_epoch, sinks_of, Notes}
-use Rattle.cover_run.specs.Inputs.{IsCounted, MayBreak, ReadsInputs, InputsGive}
+use Rattle.cover_run.specs.Inputs.{IsCounted, MayBreak, ReadsInputs, InputsGive, SameAnswer, IsBroken, AreSameInputs, OpensNone}
 use Rattle.cover_run.specs.Paving.{outputs_in, LeavesAll, Gives}
 use Rattle.cover_run.specs.Statuses.{status_of}
 use Rattle.cover_run.specs.Words.{Names}
@@ -51,15 +51,15 @@ abbrev pub HasRows : Inputs → LogValue → Type 0
 HasRows i rows = (root : GridBox) × AreRowsOf i root rows × (p : Pos) × (box_holds root p ≡ true)
 
 -- The text of one log and its report, within the limit. The log has a whole run of steps in each paved epoch
--- of such rows. It is admissible for all own lines of the epochs; and in each epoch that it gives as paved,
--- what fits is covered, and each in box fits.
+-- of such rows. All own lines of the epochs admit it, also those of the first epochs alone; and in each epoch
+-- that it gives as paved, what fits is covered, and each in box fits.
 pub record IsSolved (i : Inputs) (limit : ℕ) (bytes said : List ℕ) : Type 0 where
   pub root : GridBox
   pub rows : LogValue
   pub are_rows : AreRowsOf i root rows
   pub whole : IsWhole rows limit bytes said
-  pub admissible : (owns : List (List SatLine)) → AreOwn (IsGpsJudged i.nav i.settings) (IsGpsChain i.nav i.settings) (gps_declared i.settings) root (epochs_of i) owns
-      → length owns ≡ length (epochs_of i) → Admissible (epochs_of i) owns i.settings.rules root whole.log
+  pub admits : (owns : List (List SatLine)) → AreOwn (IsGpsJudged i.nav i.settings) (IsGpsChain i.nav i.settings) (gps_declared i.settings) root (epochs_of i) owns
+      → Admits (epochs_of i) owns i.settings.rules root whole.log
   pub cover : FileCover (IsGpsJudged i.nav i.settings) (IsGpsChain i.nav i.settings) (gps_declared i.settings) i.settings.rules.outliers root (epochs_of i) whole.log
 
 -- first bytes of both, as a fault left them
@@ -76,10 +76,17 @@ abbrev pub Writes : (log : List ℕ) → (before after : World) → Result Input
 Writes log before after (Ok i) Meets = Gives (outputs_in before) (outputs_in after) log (Meets i)
 Writes log before after (Err n) Meets = ⊥
 
+-- nothing was created, and nothing was printed
+pub record CreatesNothing (before after : World) : Type 0 where
+  pub leaves : LeavesAll (outputs_in before) (outputs_in after)
+  pub phases : OpensNone before.phases after.phases
+  pub write_faults : after.write_faults ≡ before.write_faults
+  pub out_faults : after.out_faults ≡ before.out_faults
+
 -- the files weren't accepted, for a cause of this status, and it was said
 abbrev pub Fails : (before after : World) → Status → Result Inputs Notice → Type 0
 Fails before after s (Ok i) = ⊥
-Fails before after s (Err n) = (status_of n ≡ s) × Notes (sinks_of before) (sinks_of after) n × LeavesAll (outputs_in before) (outputs_in after)
+Fails before after s (Err n) = (status_of n ≡ s) × Notes (sinks_of before) (sinks_of after) n × CreatesNothing before after
 
 -- LOG couldn't be created, or a write to it has failed
 pub record LogFails (limit : ℕ) (log : List ℕ) (before after : World) (reliable : Type 0) (found : Result Inputs Notice) : Type 0 where
@@ -131,7 +138,9 @@ pub record SolveRun (limits : Limits) (names : Names) (log : List ℕ) (before a
   -- The status has its cause in it,
   pub no_usage : s ≢ status.Usage
   pub ends : SolveEnds limits.log log before after (shelf_reliable (Some log)) out_reliable found s
-  -- and what told files give has its status, unless a fault or want of memory comes first.
+  -- and what told files give was read and has its status, unless a fault or want of memory comes first.
+  pub same : (told : Files) (other : Result Inputs Notice) → files_of before.told ≡ Some told → InputsGive limits names (Some told) other
+      → IsBroken found ⊎ SameAnswer AreSameInputs found other
   pub exact : (told : Files) (other : Result Inputs Notice) → files_of before.told ≡ Some told → InputsGive limits names (Some told) other
       → IsBrokenOff s ⊎ SolveSuits other s
   pub phases : OpensLogAlone before.phases after.phases

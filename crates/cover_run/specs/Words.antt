@@ -1,5 +1,5 @@
 -- The words of the command line.
-use Rattle.std.specs.Prelude.{ℕ, List, [], ◌∷◌, map, codes, nat_eq, Bool, false, not, ◌&&◌, ◌==◌, if◌then◌else◌, Option, None, Some, String, string_bytes}
+use Rattle.std.specs.Prelude.{◌≢◌, ℕ, List, [], ◌∷◌, map, codes, nat_eq, Bool, false, not, ◌&&◌, ◌==◌, if◌then◌else◌, Option, None, Some, String, string_bytes}
 use lib.Pointwise.{pointwise}
 use Rattle.std.specs.declared.alloc.Global.{Global}
 
@@ -16,6 +16,12 @@ pub record Names : Type 0 where
   pub obs : List ℕ
   pub nav : List ℕ
   pub settings : List ℕ
+
+-- none of the files is the log
+pub record AreApart (names : Names) (log : List ℕ) : Type 0 where
+  pub obs : names.obs ≢ log
+  pub nav : names.nav ≢ log
+  pub settings : names.settings ≢ log
 
 -- what is asked for, with the names of files
 pub data Command : Type 0 where

@@ -2,17 +2,16 @@
 use Rattle.std.proofs.Common.{◌≡◌, ℕ, suc, ◌+◌, ◌*◌, ◌≤◌, ◌<◌, true, false, List, [], ◌∷◌, ◌++◌, length, map, get_or, drop, sym, ap, subst, ◌∙◌, add-one, append_assoc, append-nil, drop-cons, arith}
 use Rattle.std.specs.List.{AllByRecursion}
 use Rattle.std.proofs.lemmas.Grind.{common_steps}
-use Rattle.std.proofs.lemmas.List.{length-map, map-append}
+use Rattle.std.proofs.lemmas.List.{map-append}
 use Rattle.epoch_rows.specs.Grown.{IsGrownBlock, AreGrown}
-use Rattle.log_words.specs.Fields.{IsCountFromTo}
 use Rattle.paving_log.specs.declared.line.Form.TheVariants as form
 use Rattle.paving_log.specs.declared.log.LogEpoch.{LogEpoch}
 use Rattle.paving_log.specs.RowsText.{IsNumberedIn}
 use Rattle.paving_log.specs.Text.{block_lines, BlockFits}
 use Rattle.paving_log.specs.Values.{block_of}
 use Rattle.paving_log_check.specs.Admissible.{is_selected, selected}
-use Rattle.rinex_obs.specs.Facts.{AreNumberedFrom, AreNumbered, AreGpsSats, InEach}
-use Rattle.rinex_obs.specs.Reading.{plain_epoch, plain_epochs}
+use Rattle.rinex_obs.specs.Facts.{AreNumberedFrom, AreGpsSats, InEach}
+use Rattle.rinex_obs.specs.Reading.{plain_epochs}
 use Rattle.rinex_obs.specs.declared.obs.ObsEpoch.{ObsEpoch}
 use Rattle.sat_model.specs.Boxes.{GridBox}
 use Rattle.sat_model.specs.Logs.{Block}
@@ -51,17 +50,6 @@ module _ (from to : ℕ) (AreOwn : ObsEpoch → List SatLine → Type 0) (q : �
     pub gps : InEach AreGpsSats (plain_epochs (drop i all))
     pub room : line ≤ 3 + 66 * i
 
-  pub none_yet : (all : List ObsEpoch) (blocks : List Block) → blocks ≡ [] → AreNumbered (plain_epochs all) → InEach AreGpsSats (plain_epochs all) → IsUnderway all 0 blocks 3
-  none_yet all blocks none numbered gps = record {
-    grown = λ rest h. rw none h;
-    fits = rw none tt;
-    numbered = λ rest h. rw none h;
-    indices = numbered.in_order;
-    at_most = omega (arith, numbered.at_most, length-map all plain_epoch);
-    gps = gps;
-    room = omega arith;
-  }
-
   module _ (all : List ObsEpoch) (i : ℕ) (epoch : ObsEpoch) (here : IsEpochAt all i epoch) (blocks : List Block) (line : ℕ) (u : IsUnderway all i blocks line) where
     first_indices : (epoch.index ≡ i + 1) × AreNumberedFrom (i + 1 + 1) (plain_epochs (drop (i + 1) all))
     first_indices = rw here.at at u.indices
@@ -71,12 +59,6 @@ module _ (from to : ℕ) (AreOwn : ObsEpoch → List SatLine → Type 0) (q : �
 
     one_less : i + 1 + length (drop (i + 1) all) ≤ 200000
     one_less = omega (arith, u.at_most, ap length here.at)
-
-    pub index_here : IsCountFromTo 1 200000 epoch.index
-    index_here = (omega (arith, first_indices.0), omega (arith, first_indices.0, one_less))
-
-    pub gps_here : AreGpsSats epoch.sats.items
-    gps_here = first_gps.0
 
     pub with_block : (block : Block) (more : List Block) (next : ℕ) → is_selected from to epoch ≡ true → more ≡ blocks ++ block ∷ [] → IsGrownBlock AreOwn q root epoch block → BlockFits form.Rows block
         → block.line ≡ line → next ≡ line + length (block_lines form.Rows block) → length (block_lines form.Rows block) ≤ 66 → IsUnderway all (i + 1) more next

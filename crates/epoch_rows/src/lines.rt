@@ -1,6 +1,6 @@
 //! The satellite lines of a block.
 
-ghost use Rattle.std.specs.Prelude.{◌≡◌, pos, IfOk};
+ghost use Rattle.std.specs.Prelude.{◌≡◌, ◌≤◌, pos, IfOk};
 ghost use Rattle.epoch_rows.specs.Grown.{IsGrownLine, AreGrownLines, skips_of};
 ghost use Rattle.sat_model.specs.Boxes.{grid_box};
 ghost use Rattle.sat_model.specs.Lengths.{spare_of};
@@ -10,13 +10,21 @@ use sat_model::{Box3, NoMemory, SatEntry, spare};
 use sat_rows::{SatLine, grown};
 use std::alloc::Global;
 
-/// The line, whose row is wider at both ends by what a row over this root may be wide.
+/// By how much a row over this root is made wider at each end, in um: as much as its spans may be wide.
+fn room_over(root: &Box3) -> i64
+    ensures value { result ≡ pos (spare_of (grid_box root.now)) }
+    ensures most { spare_of (grid_box root.now) ≤ 400002000 }
+{
+    spare(root)
+}
+
+/// The line, whose row is wider by this at both ends.
 fn grown_line(line: &SatLine, root: &Box3) -> SatEntry
     requires { IsSmallLine line.now }
     ensures { IsGrownLine (pos (spare_of (grid_box root.now))) line.now result }
 {
     match line {
-        SatLine::Usable(row) => SatEntry::Row(grown(row, spare(root))),
+        SatLine::Usable(row) => SatEntry::Row(grown(row, room_over(root))),
         SatLine::Skipped { sat, skip } => SatEntry::Skipped {
             sat: *sat,
             skip: *skip,
@@ -25,11 +33,7 @@ fn grown_line(line: &SatLine, root: &Box3) -> SatEntry
 }
 
 /// All lines, their rows wider in this way.
-pub fn grown_lines(
-    alloc: Global,
-    lines: &[SatLine],
-    root: &Box3,
-) -> Result<Vec<SatEntry>, NoMemory>
+pub fn grown_lines(alloc: Global, lines: &[SatLine], root: &Box3) -> Result<Vec<SatEntry>, NoMemory>
     requires { AreSmall lines.now }
     ensures { IfOk result (λ sats. AreGrownLines (pos (spare_of (grid_box root.now))) lines.now sats.items) }
 {

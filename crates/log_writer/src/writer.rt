@@ -13,9 +13,9 @@ use outer_io::{Shelf, Sink, Slot, write_shelf, write_sink};
 /// A shelf whose log is open, how many bytes of it may still come, and the sink of the report.
 #[derive(Drop)]
 pub(crate) struct Writer<'a, 'b, H: Shelf, O: Sink> {
-    pub shelf: &'a mut H,
-    pub out: &'b mut O,
-    pub left: u64,
+    shelf: &'a mut H,
+    out: &'b mut O,
+    left: u64,
     /// The fault of the last step that broke off.
     pub last: WriteFault,
     ghost open: { at (H.phases shelf.now) Log ≡ Writing },

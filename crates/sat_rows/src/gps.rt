@@ -10,7 +10,7 @@ use sat_model::{Box3, NoMemory};
 use std::alloc::Global;
 
 /// The rows that a navigation file and settings give.
-#[derive(Drop)]
+#[derive(Clone, Copy)]
 pub struct GpsRows<'a> {
     pub nav: &'a Nav,
     pub settings: &'a Settings,

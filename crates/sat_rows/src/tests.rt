@@ -1,9 +1,9 @@
 use super::*;
-use error_bounds::{Centre, Settings};
+use error_bounds::read_settings;
 use exact_decimal::Decimal;
 use rinex_nav::{Nav, read_nav};
 use rinex_obs::{ObsEpoch, SatObs};
-use sat_model::{Box3, Pos, Rules, Sat, Signal, Skip, Span};
+use sat_model::{Box3, Pos, Sat, Skip};
 use std::alloc::{AllocError, Global};
 use std::test::Fail;
 
@@ -87,38 +87,29 @@ fn nav_of(alloc: Global, records: &[Ephemeris]) -> Result<Nav, Fail> {
 }
 
 /// Single codes, and records of an age up to 7,200 s.
-fn settings(alloc: Global) -> Settings {
-    let centre = Pos {
-        x: 6_378_137_000_000,
-        y: 0,
-        z: 0,
-    };
-    Settings {
-        centre: Centre::At(centre),
-        half: Pos {
-            x: 1_000_000,
-            y: 1_000_000,
-            z: 1_000_000,
-        },
-        rules: Rules {
-            outliers: 1,
-            bisections: 0,
-            width: 1_000_000,
-        },
-        max_age: 7200,
-        signal: Signal::Single { code: *b"C1C" },
-        common: Span {
-            lo: -1_000,
-            hi: 2_000,
-        },
-        extra: Vec::new(alloc),
-    }
-}
+const SETTINGS: &str = "[search]
+centre = \"header\"
+half = 1000
+outliers = 1
+bisections = 0
+width = 1000
+max_age = 7200
+[signal]
+mode = \"single\"
+codes = [\"C1C\"]
+[bounds]
+receiver = [0, 0]
+orbit_clock = [0, 0]
+ionosphere = [0, 0]
+troposphere = [0, 0]
+";
 
 /// The line of G01 where it was observed with this code, in mm.
 fn line(alloc: Global, code: Option<i64>, records: &[Ephemeris]) -> Result<SatLine, Fail> {
     let nav = nav_of(alloc, records)?;
-    let settings = settings(alloc);
+    let settings = read_settings(alloc, SETTINGS.as_bytes())
+        .ok()
+        .ok_or("settings")?;
     let mut sats = Vec::new(alloc);
     sats.push(SatObs {
         sat: SAT,
@@ -145,22 +136,24 @@ fn line(alloc: Global, code: Option<i64>, records: &[Ephemeris]) -> Result<SatLi
             z: 1_000_000,
         },
     };
-    let rows = rows(alloc, &epoch, &nav, &settings, &root).ok().ok_or("memory")?;
+    let rows = rows(alloc, &epoch, &nav, &settings, &root)
+        .ok()
+        .ok_or("memory")?;
     let line = rows.lines.first().ok_or("no line")?;
     Ok(*line)
 }
 
 #[test]
 fn the_first_test_that_fails(rt: HostRuntime) -> Result<(), Fail> {
-    for (code, records, number, field) in [
-        (None, [].as_slice(), 1, 0),
-        (Some(14_999_999_999), [].as_slice(), 2, 0),
-        (Some(15_000_000_000), [].as_slice(), 3, 0),
-        (Some(15_000_000_000), [UNHEALTHY].as_slice(), 4, 0),
-        (Some(15_000_000_000), [OLD].as_slice(), 5, 0),
-        (Some(15_000_000_000), [OLD, ECCENTRIC].as_slice(), 6, 8),
+    let alloc = rt.alloc();
+    for (told, number, field) in [
+        (line(alloc, None, &[])?, 1, 0),
+        (line(alloc, Some(14_999_999_999), &[])?, 2, 0),
+        (line(alloc, Some(15_000_000_000), &[])?, 3, 0),
+        (line(alloc, Some(15_000_000_000), &[UNHEALTHY])?, 4, 0),
+        (line(alloc, Some(15_000_000_000), &[OLD])?, 5, 0),
+        (line(alloc, Some(15_000_000_000), &[OLD, ECCENTRIC])?, 6, 8),
     ] {
-        let told = line(rt.alloc(), code, records)?;
         let skip = Skip { number, field };
         assert_eq!(rt; told, SatLine::Skipped { sat: SAT, skip });
     }
@@ -170,11 +163,17 @@ fn the_first_test_that_fails(rt: HostRuntime) -> Result<(), Fail> {
 #[test]
 fn of_two_records_as_near_the_later(rt: HostRuntime) -> Result<(), Fail> {
     // 10 us of light are 2997.92458 m.
-    for (records, range) in [
-        (&[FRESH, AHEAD], 15_002_997_924_580),
-        (&[AHEAD, FRESH], 15_000_000_000_000),
+    let alloc = rt.alloc();
+    for (told, range) in [
+        (
+            line(alloc, Some(15_000_000_000), &[FRESH, AHEAD])?,
+            15_002_997_924_580,
+        ),
+        (
+            line(alloc, Some(15_000_000_000), &[AHEAD, FRESH])?,
+            15_000_000_000_000,
+        ),
     ] {
-        let told = line(rt.alloc(), Some(15_000_000_000), records)?;
         let SatLine::Usable(row) = told else {
             return Err(Fail::from("skipped"));
         };

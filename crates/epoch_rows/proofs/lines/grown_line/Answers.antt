@@ -3,36 +3,35 @@ use mir.Syntax.{w64}
 use Rattle.sat_model.specs.Boxes.{grid_box}
 use Rattle.sat_model.specs.Lengths.{spare_of}
 use Rattle.epoch_rows.proofs.LineLemmas.{room, is_small, row_grown}
-use Rattle.epoch_rows.proofs.SpareLemmas.{spare_le}
 use Rattle.epoch_rows.proofs.lines.grown_line.Goals as goal
 
 pub grown-requires-clause-x : goal.grown-requires-clause-x
 grown-requires-clause-x c =
-    let fits : FitsSigned w64 c.spare.result = search rules in
-    let same : to_z w64 (of_z w64 c.spare.result) ≡ c.spare.result = simp to_z-of_z refl in
-    room c.spare.result _ c.in-Usable.row.x same (spare_of (grid_box c.args.root.now)) c.spare.ensures (spare_le c.args.root.now) (is_small c.args.line.now c.in-Usable.row c.in-Usable.is c.requires).x
+    let fits : FitsSigned w64 c.room_over.result = search rules in
+    let same : to_z w64 (of_z w64 c.room_over.result) ≡ c.room_over.result = simp to_z-of_z refl in
+    room c.room_over.result _ c.in-Usable.row.x same (spare_of (grid_box c.args.root.now)) c.room_over.ensures.value c.room_over.ensures.most (is_small c.args.line.now c.in-Usable.row c.in-Usable.is c.requires).x
 
 pub grown-requires-clause-y : goal.grown-requires-clause-y
 grown-requires-clause-y c =
-    let fits : FitsSigned w64 c.spare.result = search rules in
-    let same : to_z w64 (of_z w64 c.spare.result) ≡ c.spare.result = simp to_z-of_z refl in
-    room c.spare.result _ c.in-Usable.row.y same (spare_of (grid_box c.args.root.now)) c.spare.ensures (spare_le c.args.root.now) (is_small c.args.line.now c.in-Usable.row c.in-Usable.is c.requires).y
+    let fits : FitsSigned w64 c.room_over.result = search rules in
+    let same : to_z w64 (of_z w64 c.room_over.result) ≡ c.room_over.result = simp to_z-of_z refl in
+    room c.room_over.result _ c.in-Usable.row.y same (spare_of (grid_box c.args.root.now)) c.room_over.ensures.value c.room_over.ensures.most (is_small c.args.line.now c.in-Usable.row c.in-Usable.is c.requires).y
 
 pub grown-requires-clause-z : goal.grown-requires-clause-z
 grown-requires-clause-z c =
-    let fits : FitsSigned w64 c.spare.result = search rules in
-    let same : to_z w64 (of_z w64 c.spare.result) ≡ c.spare.result = simp to_z-of_z refl in
-    room c.spare.result _ c.in-Usable.row.z same (spare_of (grid_box c.args.root.now)) c.spare.ensures (spare_le c.args.root.now) (is_small c.args.line.now c.in-Usable.row c.in-Usable.is c.requires).z
+    let fits : FitsSigned w64 c.room_over.result = search rules in
+    let same : to_z w64 (of_z w64 c.room_over.result) ≡ c.room_over.result = simp to_z-of_z refl in
+    room c.room_over.result _ c.in-Usable.row.z same (spare_of (grid_box c.args.root.now)) c.room_over.ensures.value c.room_over.ensures.most (is_small c.args.line.now c.in-Usable.row c.in-Usable.is c.requires).z
 
 pub grown-requires-clause-range : goal.grown-requires-clause-range
 grown-requires-clause-range c =
-    let fits : FitsSigned w64 c.spare.result = search rules in
-    let same : to_z w64 (of_z w64 c.spare.result) ≡ c.spare.result = simp to_z-of_z refl in
-    room c.spare.result _ c.in-Usable.row.range same (spare_of (grid_box c.args.root.now)) c.spare.ensures (spare_le c.args.root.now) (is_small c.args.line.now c.in-Usable.row c.in-Usable.is c.requires).range
+    let fits : FitsSigned w64 c.room_over.result = search rules in
+    let same : to_z w64 (of_z w64 c.room_over.result) ≡ c.room_over.result = simp to_z-of_z refl in
+    room c.room_over.result _ c.in-Usable.row.range same (spare_of (grid_box c.args.root.now)) c.room_over.ensures.value c.room_over.ensures.most (is_small c.args.line.now c.in-Usable.row c.in-Usable.is c.requires).range
 
 pub returns-in-Usable : goal.returns-in-Usable
 returns-in-Usable c =
-    let fits : FitsSigned w64 c.spare.result = search rules in
-    let same : to_z w64 (of_z w64 c.spare.result) ≡ c.spare.result = simp to_z-of_z refl in
+    let fits : FitsSigned w64 c.room_over.result = search rules in
+    let same : to_z w64 (of_z w64 c.room_over.result) ≡ c.room_over.result = simp to_z-of_z refl in
     let h = c.grown.ensures in
-    row_grown _ _ c.spare.result c.args.line.now c.in-Usable.row c.grown.result same c.spare.ensures c.in-Usable.is h.sat h.err h.x h.y h.z h.range
+    row_grown _ _ c.room_over.result c.args.line.now c.in-Usable.row c.grown.result same c.room_over.ensures.value c.in-Usable.is h.sat h.err h.x h.y h.z h.range
