@@ -16,4 +16,3 @@ pub mod PavingEnds
 pub mod PavingRun
 pub mod JudgingRun
 pub mod PavingReads
-pub mod OwnNames

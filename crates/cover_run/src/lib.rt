@@ -1,8 +1,9 @@
 //! What the program does: words, files and sinks go in, and a status comes out.
 //!
-//! `judge LOG` reads a log, judges it with its satellite rows taken as given, and prints the
-//! verdict. `solve OBS NAV SETTINGS LOG` paves the epochs of a receiver's files and writes the log,
-//! and `check` with the same words checks the log against the files. `pave ROWS LOG` reads satellite rows, paves their epochs and writes the log.
+//! `solve OBS NAV SETTINGS LOG` paves the epochs of a receiver's files and writes the log, and
+//! `check` with the same words checks the log against the files. `pave ROWS LOG` reads satellite
+//! rows, paves their epochs and writes the log, and `judge LOG` judges a log with its rows taken as
+//! given.
 #![tactic(auto)]
 
 mod accepting;
@@ -30,8 +31,3 @@ pub use limits::Limits;
 pub use paving_log_check::{Fault, Verdict, judge};
 pub use status::Status;
 pub use top::run;
-
-#[cfg(test)]
-mod file_tests;
-#[cfg(test)]
-mod tests;

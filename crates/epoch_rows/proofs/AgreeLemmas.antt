@@ -3,7 +3,7 @@ use Rattle.std.proofs.Common.{◌≡◌, List, [], ◌∷◌, true, refl, sym, �
 use Rattle.std.specs.Prelude.{ℤ, pos, Option, None, Some}
 use Rattle.std.proofs.lemmas.Int.{ints}
 use Rattle.epoch_rows.specs.Grown.{IsGrownRow, IsGrownLine, AreGrownLines, skips_of}
-use Rattle.paving_log_check.specs.Lines.{skipped_in, IsSameLine, HoldsSpan, RowPasses}
+use Rattle.paving_log_check.specs.Lines.{skipped_in, IsSameLine, HoldsSpan, HoldsOwn, RowPasses}
 use Rattle.rinex_obs.specs.declared.obs.SatObs.{SatObs}
 use Rattle.sat_model.specs.Boxes.{GridBox, box_holds}
 use Rattle.sat_model.specs.Intervals.{Between}
@@ -27,6 +27,9 @@ holds_span root own wide other n grown here there tight also = record {
   lo = omega (arith, ints, grown.low, here.from, there.to, also);
   hi = omega (arith, ints, grown.high, here.to, there.from, also);
 }
+
+holds_each : (row ours : Row) → HoldsSpan row.x ours.x → HoldsSpan row.y ours.y → HoldsSpan row.z ours.z → HoldsSpan row.range ours.range → HoldsOwn row ours
+holds_each row ours x y z range = (x, (y, (z, (range, tt))))
 
 -- the line is the expected one, and passes
 pub record LineAgrees (theirs : SatEntry) (ours : SatLine) : Type 0 where
@@ -53,11 +56,10 @@ module _ (IsJudged : SatObs → Option Skip → Type 0) (Allows : SatObs → Pos
       record {
         same = g.sat ∙ (named ∙ sym also);
         passes = (
-          (holds_span root own.x wide.x other.x c.x g.x here.x there.x a.x b.x,
-          (holds_span root own.y wide.y other.y c.y g.y here.y there.y a.y b.y,
-          (holds_span root own.z wide.z other.z c.z g.z here.z there.z a.z b.z,
-          (holds_span root own.range wide.range other.range c.corrected g.range here.corrected there.corrected a.range b.range,
-          tt)))),
+          holds_each wide other (holds_span root own.x wide.x other.x c.x g.x here.x there.x a.x b.x)
+              (holds_span root own.y wide.y other.y c.y g.y here.y there.y a.y b.y)
+              (holds_span root own.z wide.z other.z c.z g.z here.z there.z a.z b.z)
+              (holds_span root own.range wide.range other.range c.corrected g.range here.corrected there.corrected a.range b.range),
           g.err ∙ (a.err ∙ sym b.err),
         );
       }

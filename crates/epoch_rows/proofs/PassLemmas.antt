@@ -80,6 +80,7 @@ module _ (IsJudged : ℤ → SatObs → Option Skip → Type 0) (Allows : ℤ �
   blocks_pass rules before [] [] rise distinct grown = tt
   blocks_pass rules before [] (block ∷ blocks) rise distinct grown = absurd grown
   blocks_pass rules before (seen ∷ more) [] rise distinct grown = absurd grown
-  blocks_pass rules before (seen ∷ more) (block ∷ blocks) rise distinct grown =
-      (block_passes rules before seen block rise.0 distinct.0 grown.0,
-      blocks_pass rules (Some block.index) more blocks (subst (λ (n : ℕ). Rise (Some n) more) (sym grown.0.index) rise.1) distinct.1 grown.1)
+  blocks_pass rules before (seen ∷ more) (block ∷ blocks) rise distinct grown = (
+    block_passes rules before seen block rise.0 distinct.0 grown.0,
+    blocks_pass rules (Some block.index) more blocks (subst (λ (n : ℕ). Rise (Some n) more) (sym grown.0.index) rise.1) distinct.1 grown.1,
+  )

@@ -6,3 +6,6 @@ mod lines;
 mod rows;
 
 pub use rows::rows_log;
+
+#[cfg(test)]
+mod tests;

@@ -33,11 +33,7 @@ fn grown_line(line: &SatLine, root: &Box3) -> SatEntry
 }
 
 /// All lines, their rows wider in this way.
-pub fn grown_lines(
-    alloc: Global,
-    lines: &[SatLine],
-    root: &Box3,
-) -> Result<Vec<SatEntry>, NoMemory>
+pub fn grown_lines(alloc: Global, lines: &[SatLine], root: &Box3) -> Result<Vec<SatEntry>, NoMemory>
     requires { AreSmall lines.now }
     ensures { IfOk result (λ sats. AreGrownLines (pos (spare_of (grid_box root.now))) lines.now sats.items) }
 {

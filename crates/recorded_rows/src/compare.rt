@@ -61,7 +61,10 @@ fn width(span: Span) -> i64 {
 
 /// The width of the widest of a row's spans.
 fn widest(row: &Row) -> i64 {
-    width(row.x).max(width(row.y)).max(width(row.z)).max(width(row.range))
+    width(row.x)
+        .max(width(row.y))
+        .max(width(row.z))
+        .max(width(row.range))
 }
 
 /// Whether their line says the same of the satellite, with spans that hold ours.
@@ -75,7 +78,8 @@ fn agrees(theirs: &SatEntry, ours: &SatLine) -> bool {
                 && holds(a.range, b.range)
                 && a.err == b.err
         }
-        (SatEntry::Skipped { sat: a, skip: s }, SatLine::Skipped { sat: b, skip: t }) => a == b && s == t,
+        (SatEntry::Skipped { sat: a, skip: s }, SatLine::Skipped { sat: b, skip: t }) => a == b
+            && s == t,
         _ => false,
     }
 }

@@ -1,6 +1,6 @@
 //! The files that are compared.
 
-ghost use Rattle.error_bounds.specs.Reading.{IsEnough};
+ghost use Rattle.std.specs.Prelude.{◌≤◌, length, IfOk};
 
 use error_bounds::{Centre, Settings, read_settings};
 use outer_io::{Shelf, Slot, read_all};
@@ -27,7 +27,14 @@ pub struct Inputs {
 pub struct BadInput;
 
 /// The bytes of a file.
-fn bytes_of<H: Shelf>(alloc: Global, shelf: &mut H, name: &str, slot: Slot) -> Result<Vec<u8>, BadInput> {
+fn bytes_of<H: Shelf>(
+    alloc: Global,
+    shelf: &mut H,
+    name: &str,
+    slot: Slot,
+) -> Result<Vec<u8>, BadInput>
+    ensures { IfOk result (λ bytes. length bytes.items ≤ 4000000000) }
+{
     if shelf.begin(name, slot).is_err() {
         return Err(BadInput);
     }

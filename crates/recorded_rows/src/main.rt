@@ -26,8 +26,9 @@ fn main(rt: HostRuntime) -> ExitCode {
         return ExitCode::from(2);
     }
     let mut shelf = FileShelf::make(rt);
-    let Ok(inputs) = read_inputs(alloc, &mut shelf, &names[0], &names[1], &names[2], &names[3])
-    else {
+    let Ok(inputs) = read_inputs(
+        alloc, &mut shelf, &names[0], &names[1], &names[2], &names[3],
+    ) else {
         return ExitCode::from(3);
     };
     let Ok(seen) = compare(alloc, &inputs) else {

@@ -69,9 +69,10 @@ all_more P (first ∷ xs) x all one = (all.0, all_more P xs x all.1 one)
 
 distinct_more : (sats : List SatObs) (seen : SatObs) → AreDistinct sats → list_any (has_number seen.sat.number) sats ≡ false → AreDistinct (sats ++ seen ∷ [])
 distinct_more [] seen distinct new = (tt, tt)
-distinct_more (first ∷ sats) seen distinct new =
-    (all_more _ sats seen distinct.0 (λ same. let number : first.sat.number ≡ seen.sat.number = ap (λ (s : Sat). s.number) (sym same) in grind (arith, common_steps)),
-    distinct_more sats seen distinct.1 (grind (arith, common_steps)))
+distinct_more (first ∷ sats) seen distinct new = (
+  all_more _ sats seen distinct.0 (λ same. let number : first.sat.number ≡ seen.sat.number = ap (λ (s : Sat). s.number) (sym same) in grind (arith, common_steps)),
+  distinct_more sats seen distinct.1 (grind (arith, common_steps)),
+)
 
 on_satellite : (wanted : Wanted) (sats : List SatObs) (line : TextLine) → AreSats sats → Give AreSats (satellite_line wanted sats line)
 on_satellite wanted sats line are =

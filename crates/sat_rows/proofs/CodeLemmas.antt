@@ -11,7 +11,7 @@ use Rattle.exact_decimal.proofs.Limits.{below_floor, above_ceiling, some_parts}
 use Rattle.rinex_nav.specs.ElementsOf.{IsRounded}
 use Rattle.rinex_obs.specs.declared.obs.SatObs.{SatObs}
 use Rattle.sat_model.specs.Pseudorange.{Codes}
-use Rattle.sat_model.specs.declared.satellites.Signal.TheVariants.{Single, Dual}
+use Rattle.sat_model.specs.declared.satellites.Signal.TheVariants.{Dual}
 use Rattle.sat_model.specs.declared.spans.Wide.{Wide}
 use Rattle.sat_rows.specs.ElementLemmas.{one_rounded}
 use Rattle.sat_rows.specs.Usability.{HaveValue, IsPlausible, IsCombinationPlausible, ArePlausibleWith, ArePlausible}

@@ -1,5 +1,5 @@
 -- What records meet of a list with one more record at its end, and the nearest of them.
-use Rattle.std.proofs.Common.{◌≡◌, ℕ, zero, suc, ◌<◌, ◌≤◌, arith, refl, ap, subst, List, [], ◌∷◌, ◌++◌, length, Some, slice_get, inl, inr, ◌⊎◌}
+use Rattle.std.proofs.Common.{◌≡◌, ℕ, zero, suc, ◌<◌, arith, refl, ap, subst, List, [], ◌∷◌, ◌++◌, length, Some, slice_get, inl, inr, ◌⊎◌}
 use Rattle.std.specs.Prelude.{ℤ, ◌≤ℤ◌, ◌<ℤ◌}
 use Rattle.std.proofs.lemmas.Int.{ints}
 use Rattle.error_bounds.specs.declared.settings.Settings.{Settings}

@@ -1,5 +1,5 @@
 -- A walk over the places of a satellite's records meets all of them.
-use Rattle.std.proofs.Common.{◌≡◌, ℕ, ◌+◌, ◌<◌, arith, refl, sym, ap, subst, ◌∙◌, Bool, true, false, List, [], ◌∷◌, ◌++◌, length, Some, slice_get, append_assoc, ◌≤◌, add-one, drop-cons, drop_of_length-le, drop, get_or}
+use Rattle.std.proofs.Common.{◌≡◌, ℕ, ◌+◌, ◌<◌, refl, sym, ap, subst, ◌∙◌, Bool, true, false, List, [], ◌∷◌, ◌++◌, length, Some, slice_get, append_assoc, ◌≤◌, add-one, drop-cons, drop_of_length-le, drop, get_or}
 use Rattle.std.specs.Prelude.{ℤ}
 use Rattle.std.proofs.lemmas.Bool.{eq-eqb, false≢true}
 use Rattle.std.proofs.lemmas.List.{length-append, append-nil}
@@ -57,13 +57,13 @@ module _ (records : List NavRecord) (settings : Settings) (tag : ℤ) (seen : Sa
   next_from front [] place rest choice all places f = absurd cc
   next_from front (q ∷ behind) place rest choice all places f = by_bool (is_same seen.sat q.sat)
       (λ yes.
-          let here = rw yes at places in
-          (q, record { front = front; behind = behind; all = all; at = cc; own = sym (same_is seen.sat q.sat yes); places = cc; choice_is = f }))
+      let here = rw yes at places in
+      (q, record { front = front; behind = behind; all = all; at = cc; own = sym (same_is seen.sat q.sat yes); places = cc; choice_is = f }))
       (λ differ.
-          let later = rw differ at places in
-          next_from (front ++ q ∷ []) behind place rest choice (all ∙ sym (append_assoc front (q ∷ []) behind))
-          (subst (λ (n : ℕ). places_from n seen.sat behind ≡ place ∷ rest) (place_last front q _ refl) later)
-          (passes_over settings tag seen front q choice (other_sat seen.sat q.sat differ) f))
+      let later = rw differ at places in
+      next_from (front ++ q ∷ []) behind place rest choice (all ∙ sym (append_assoc front (q ∷ []) behind))
+      (subst (λ (n : ℕ). places_from n seen.sat behind ≡ place ∷ rest) (place_last front q _ refl) later)
+      (passes_over settings tag seen front q choice (other_sat seen.sat q.sat differ) f))
 
   end_from : (front behind : List NavRecord) (choice : Choice) → records ≡ front ++ behind → places_from (length front) seen.sat behind ≡ [] → IsChoice (sighting front settings tag seen) choice
       → IsChoice (sighting records settings tag seen) choice
@@ -71,10 +71,10 @@ module _ (records : List NavRecord) (settings : Settings) (tag : ℤ) (seen : Sa
   end_from front (q ∷ behind) choice all places f = by_bool (is_same seen.sat q.sat)
       (λ yes. let here = rw yes at places in absurd cc)
       (λ differ.
-          let later = rw differ at places in
-          end_from (front ++ q ∷ []) behind choice (all ∙ sym (append_assoc front (q ∷ []) behind))
-          (subst (λ (n : ℕ). places_from n seen.sat behind ≡ []) (place_last front q _ refl) later)
-          (passes_over settings tag seen front q choice (other_sat seen.sat q.sat differ) f))
+      let later = rw differ at places in
+      end_from (front ++ q ∷ []) behind choice (all ∙ sym (append_assoc front (q ∷ []) behind))
+      (subst (λ (n : ℕ). places_from n seen.sat behind ≡ []) (place_last front q _ refl) later)
+      (passes_over settings tag seen front q choice (other_sat seen.sat q.sat differ) f))
 
   -- the next place has a record of the satellite
   pub walk_next : (place : ℕ) (rest : List ℕ) (choice : Choice) → IsWalked records settings tag seen (place ∷ rest) choice → (r : NavRecord) × IsAtNext records settings tag seen place r rest choice

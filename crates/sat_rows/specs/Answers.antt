@@ -1,6 +1,5 @@
 -- What the code answers about a satellite on the way to a judgement. No public clause cites it.
-use Rattle.std.specs.Prelude.{ℕ, ◌*◌, ◌^◌, ◌<◌, ◌≡◌, ◌⊎◌, ℤ, pos, ◌≤ℤ◌, ◌<ℤ◌, true, false, List, Option, None, Some}
-use Rattle.error_bounds.specs.declared.settings.Settings.{Settings}
+use Rattle.std.specs.Prelude.{ℕ, ◌*◌, ◌^◌, ◌<◌, ◌≡◌, ◌⊎◌, ℤ, pos, ◌≤ℤ◌, ◌<ℤ◌, true, false}
 use Rattle.rinex_nav.specs.ElementsOf.{AreElements}
 use Rattle.rinex_nav.specs.FieldBounds.{AreInside, IsFirstOutside}
 use Rattle.rinex_nav.specs.Weeks.{IsAge}

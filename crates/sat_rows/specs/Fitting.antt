@@ -1,6 +1,6 @@
 -- Where a receiver may be: the points and clock offsets that all but at most q usable satellites of an epoch
 -- are consistent with.
-use Rattle.std.specs.Prelude.{ℕ, zero, suc, ◌⊎◌, ℤ, pos, ◌-ℤ◌, List, [], ◌∷◌, Option, None, Some}
+use Rattle.std.specs.Prelude.{ℕ, zero, suc, ◌⊎◌, ℤ, pos, ◌-ℤ◌, List, [], ◌∷◌, Option, Some}
 use Rattle.rinex_obs.specs.declared.obs.SatObs.{SatObs}
 use Rattle.sat_model.specs.Intervals.{Between}
 use Rattle.sat_model.specs.declared.boxes.Pos.{Pos}

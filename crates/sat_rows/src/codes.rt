@@ -12,12 +12,16 @@ use exact_decimal::{Decimal, Unit, to_unit_between};
 use rinex_obs::SatObs;
 use sat_model::{Signal, Wide};
 
-/// The least and the greatest range that a signal of a GPS satellite is under way, in um.
+/// The least range that a signal of a GPS satellite is under way, in um.
 const LEAST_RANGE: i128 = 15_000_000_000_000;
+
+/// The greatest.
 const GREATEST_RANGE: i128 = 40_000_000_000_000;
 
-/// The same of an ionosphere-free combination, times 2329.
+/// The least ionosphere-free combination of two codes, times 2329.
 const LEAST_COMBINATION: i128 = 2329 * LEAST_RANGE;
+
+/// The greatest.
 const GREATEST_COMBINATION: i128 = 2329 * GREATEST_RANGE;
 
 /// The codes of a satellite in whole um: one, or one on each of two frequencies.

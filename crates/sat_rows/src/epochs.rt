@@ -39,13 +39,7 @@ pub fn rows(
 }
 
 /// The line of a satellite of the epoch.
-fn line_of(
-    seen: &SatObs,
-    epoch: &ObsEpoch,
-    nav: &Nav,
-    settings: &Settings,
-    root: &Box3,
-) -> SatLine
+fn line_of(seen: &SatObs, epoch: &ObsEpoch, nav: &Nav, settings: &Settings, root: &Box3) -> SatLine
     ensures own { IsOwnLine (IsGpsJudged nav.now settings.now epoch.now.tag) (IsGpsChain nav.now settings.now epoch.now.tag) (gps_declared settings.now) (grid_box root.now) seen.now result }
     ensures small { IsSmallLine result }
 {

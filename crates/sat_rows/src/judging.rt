@@ -12,12 +12,22 @@ use rinex_nav::Nav;
 use rinex_obs::{ObsEpoch, SatObs};
 use sat_model::{Elements, Skip};
 
-/// The numbers of the tests of a satellite, in their order.
+/// The number of the first test of a satellite: the wanted codes are there.
 const CODE_MISSING: u8 = 1;
+
+/// ... and in range.
 const CODE_OUT_OF_RANGE: u8 = 2;
+
+/// ... it has a record.
 const NO_RECORD: u8 = 3;
+
+/// ... one that is healthy.
 const NONE_HEALTHY: u8 = 4;
+
+/// ... one of these that is fresh.
 const NONE_FRESH: u8 = 5;
+
+/// ... and one of these with all fields within their bounds.
 const NONE_FIT: u8 = 6;
 
 /// What is known of a satellite that is usable, or why it isn't used.

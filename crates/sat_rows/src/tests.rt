@@ -107,7 +107,9 @@ troposphere = [0, 0]
 /// The line of G01 where it was observed with this code, in mm.
 fn line(alloc: Global, code: Option<i64>, records: &[Ephemeris]) -> Result<SatLine, Fail> {
     let nav = nav_of(alloc, records)?;
-    let settings = read_settings(alloc, SETTINGS.as_bytes()).ok().ok_or("settings")?;
+    let settings = read_settings(alloc, SETTINGS.as_bytes())
+        .ok()
+        .ok_or("settings")?;
     let mut sats = Vec::new(alloc);
     sats.push(SatObs {
         sat: SAT,
@@ -134,7 +136,9 @@ fn line(alloc: Global, code: Option<i64>, records: &[Ephemeris]) -> Result<SatLi
             z: 1_000_000,
         },
     };
-    let rows = rows(alloc, &epoch, &nav, &settings, &root).ok().ok_or("memory")?;
+    let rows = rows(alloc, &epoch, &nav, &settings, &root)
+        .ok()
+        .ok_or("memory")?;
     let line = rows.lines.first().ok_or("no line")?;
     Ok(*line)
 }
@@ -161,8 +165,14 @@ fn of_two_records_as_near_the_later(rt: HostRuntime) -> Result<(), Fail> {
     // 10 us of light are 2997.92458 m.
     let alloc = rt.alloc();
     for (told, range) in [
-        (line(alloc, Some(15_000_000_000), &[FRESH, AHEAD])?, 15_002_997_924_580),
-        (line(alloc, Some(15_000_000_000), &[AHEAD, FRESH])?, 15_000_000_000_000),
+        (
+            line(alloc, Some(15_000_000_000), &[FRESH, AHEAD])?,
+            15_002_997_924_580,
+        ),
+        (
+            line(alloc, Some(15_000_000_000), &[AHEAD, FRESH])?,
+            15_000_000_000_000,
+        ),
     ] {
         let SatLine::Usable(row) = told else {
             return Err(Fail::from("skipped"));

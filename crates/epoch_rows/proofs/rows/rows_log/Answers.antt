@@ -19,14 +19,14 @@ loop-epoch-preserved g c =
     let before = c.loop-epoch.epochs.items in
     elim c.if-is_selected.branch [
       | then-is_selected+in_ok-block+in_ok-push w ↦
-        let block = w.in_ok-block.block in
-        let h = w.in_ok-block.ensures in
-        rw (w.epochs-is, w.line-is)
-        (with_block c.args.from c.args.to own c.args.rules.now.outliers root all i epoch here (map block_of before) c.loop-epoch.line c.loop-epoch.invariant (block_of block) _ _ (sym c.is_selected.ensures ∙ w.if-is_selected.true)
-        (one_more before _ block w.in_ok-push.ensures.items) h.grown h.fits h.line (omega (arith, w.lines_of-line.ensures.lines)) (omega (arith, w.lines_of-line.ensures.lines, w.lines_of-line.ensures.few)))
+          let block = w.in_ok-block.block in
+          let h = w.in_ok-block.ensures in
+          rw (w.epochs-is, w.line-is)
+          (with_block c.args.from c.args.to own c.args.rules.now.outliers root all i epoch here (map block_of before) c.loop-epoch.line c.loop-epoch.invariant (block_of block) _ _ (sym c.is_selected.ensures ∙ w.if-is_selected.true)
+          (one_more before _ block w.in_ok-push.ensures.items) h.grown h.fits h.line (omega (arith, w.lines_of-line.ensures.lines)) (omega (arith, w.lines_of-line.ensures.lines, w.lines_of-line.ensures.few)))
       | else-is_selected w ↦
-        rw (w.epochs-is, w.line-is)
-        (passed_over c.args.from c.args.to own c.args.rules.now.outliers root all i epoch here (map block_of before) c.loop-epoch.line c.loop-epoch.invariant (sym c.is_selected.ensures ∙ w.if-is_selected.false))
+          rw (w.epochs-is, w.line-is)
+          (passed_over c.args.from c.args.to own c.args.rules.now.outliers root all i epoch here (map block_of before) c.loop-epoch.line c.loop-epoch.invariant (sym c.is_selected.ensures ∙ w.if-is_selected.false))
     ]
 
 pub returns-clause-rows : goal.returns-clause-rows

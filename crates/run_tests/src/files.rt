@@ -1,7 +1,7 @@
 ghost use Rattle.std.specs.Prelude.{◌≡◌, IfOk, string_bytes};
 ghost use Rattle.outer_io.specs.Store.{HaveOwnNames};
 
-use crate::{Limits, Status, run};
+use cover_run::{Limits, Status, run};
 use outer_io::{MemoryShelf, MemorySink};
 use std::alloc::Global;
 use std::process::Abort;

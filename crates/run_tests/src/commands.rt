@@ -1,4 +1,4 @@
-use crate::{Limits, Status, run};
+use cover_run::{Limits, Status, run};
 use outer_io::{MemoryShelf, MemorySink};
 use std::alloc::Global;
 use std::process::Abort;

@@ -1,0 +1,174 @@
+use super::*;
+use error_bounds::read_settings;
+use paving_log::Log;
+use rinex_nav::{Nav, read_nav};
+use rinex_obs::read_obs;
+use sat_model::{Box3, Pos, Sat, SatEntry, Signal, Skip};
+use sat_rows::GpsRows;
+use std::alloc::{AllocError, Global};
+use std::test::Fail;
+
+const OBS: &str = "     3.05           OBSERVATION DATA    G                   RINEX VERSION / TYPE
+G    1 C1C                                                  SYS / # / OBS TYPES
+                                                            END OF HEADER
+> 2024 01 07 02 00  1.0000000  0  5
+G01  20000000.000
+G02  20000000.000
+G05  20000000.000
+G03  20000000.000
+G04  20000000.000
+> 2024 01 07 02 00 31.0000000  0  3
+G01  20000000.000
+G02
+G05  20000000.000
+";
+
+const SETTINGS: &str = "[search]
+centre = [6378137000, 0, 0]
+half = 1000
+outliers = 0
+bisections = 0
+width = 1000
+max_age = 14400
+[signal]
+mode = \"single\"
+codes = [\"C1C\"]
+[bounds]
+receiver = [0, 0]
+orbit_clock = [0, 0]
+ionosphere = [0, 0]
+troposphere = [0, 0]
+";
+
+/// What a row over a root with sides of 2 m may be wide, in um: 2,000 and 2,000,000/50,000.
+const ROOM: i128 = 2040;
+
+/// Blanks and a word.
+fn put(text: &mut Vec<u8>, blanks: usize, word: &str) -> Result<(), AllocError> {
+    for _ in 0..blanks {
+        text.push(b' ')?;
+    }
+    text.extend_from_slice(word.as_bytes())
+}
+
+/// The eight lines of a record of this satellite: all fields are zero but for the root of the axis.
+fn put_record(text: &mut Vec<u8>, sat: &str) -> Result<(), AllocError> {
+    put(text, 0, sat)?;
+    put(text, 0, " 2024 01 07 00 00 00 0\n\n")?;
+    put(text, 61, "5200\n")?;
+    put(text, 4, "1\n\n\n\n    0\n")
+}
+
+/// A navigation file with records of G01 to G04.
+fn nav_of(alloc: Global) -> Result<Nav, Fail> {
+    let mut text = Vec::new(alloc);
+    put(&mut text, 5, "3.05")?;
+    put(&mut text, 11, "N")?;
+    put(&mut text, 19, "G")?;
+    put(&mut text, 19, "RINEX VERSION / TYPE\n")?;
+    put(&mut text, 60, "END OF HEADER\n")?;
+    for sat in ["G01", "G02", "G03", "G04"] {
+        put_record(&mut text, sat)?;
+    }
+    if text.len() > 4_000 {
+        return Err(Fail::from("long"));
+    }
+    let nav = read_nav(alloc, &text).ok().ok_or("refused")?;
+    Ok(nav)
+}
+
+/// A box with sides of 2 m.
+fn root() -> Box3 {
+    Box3 {
+        lo: Pos {
+            x: 6_378_136_000_000,
+            y: -1_000_000,
+            z: -1_000_000,
+        },
+        hi: Pos {
+            x: 6_378_138_000_000,
+            y: 1_000_000,
+            z: 1_000_000,
+        },
+    }
+}
+
+/// The rows of the epochs from the one number to the other.
+fn log_of(alloc: Global, from: u32, to: u32) -> Result<Log, Fail> {
+    let text = OBS.as_bytes();
+    if text.len() > 4_000 {
+        return Err(Fail::from("long"));
+    }
+    let signal = Signal::Single { code: *b"C1C" };
+    let obs = match read_obs(alloc, text, &signal, false) {
+        Ok(obs) => obs,
+        Err(_) => return Err(Fail::from("observations")),
+    };
+    let nav = nav_of(alloc)?;
+    let settings = read_settings(alloc, SETTINGS.as_bytes())
+        .ok()
+        .ok_or("settings")?;
+    let source = GpsRows {
+        nav: &nav,
+        settings: &settings,
+    };
+    let log = rows_log(alloc, &source, &obs, &settings.rules, &root(), from, to)
+        .ok()
+        .ok_or("memory")?;
+    Ok(log)
+}
+
+/// The skip of a GPS satellite.
+fn skip(number: u8, test: u8) -> SatEntry {
+    SatEntry::Skipped {
+        sat: Sat {
+            system: b'G',
+            number,
+        },
+        skip: Skip {
+            number: test,
+            field: 0,
+        },
+    }
+}
+
+#[test]
+fn blocks_of_the_selected_epochs(rt: HostRuntime) -> Result<(), Fail> {
+    for (from, to, count) in [
+        (1, 200_000, 2),
+        (2, 2, 1),
+        (1, 1, 1),
+        (3, 200_000, 0),
+        (2, 1, 0),
+    ] {
+        let log = log_of(rt.alloc(), from, to)?;
+        assert_eq!(rt; log.epochs.len(), count);
+    }
+    let log = log_of(rt.alloc(), 1, 2)?;
+    let first = log.epochs.first().ok_or("first")?;
+    assert_eq!(rt;
+        (first.line, first.index, first.n, first.few),
+        (3, 1, 4, false)
+    );
+    assert_eq!(rt; first.ps, 1_388_628_001_000_000_000_000);
+    assert_eq!(rt; (first.sats.len(), first.root), (5, Some(root())));
+    assert_eq!(rt; first.sats.get(2), Some(&skip(5, 3)));
+    let Some(SatEntry::Row(row)) = first.sats.first() else {
+        return Err(Fail::from("no row"));
+    };
+    for span in [row.x, row.y, row.z, row.range] {
+        let width = i128::from(span.hi) - i128::from(span.lo);
+        assert!(rt;
+            2 * ROOM <= width && width <= 3 * ROOM,
+            "room at both ends of a span"
+        );
+    }
+    let second = log.epochs.get(1).ok_or("second")?;
+    assert_eq!(rt;
+        (second.line, second.index, second.n, second.few),
+        (10, 2, 1, true)
+    );
+    assert_eq!(rt; second.sats.as_slice(), [skip(2, 1), skip(5, 3)].as_slice());
+    assert_eq!(rt; second.root, None);
+    Ok(())
+}
