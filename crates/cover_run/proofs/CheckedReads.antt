@@ -1,19 +1,17 @@
 -- The reading of a log behind a receiver's files.
-use Rattle.std.proofs.Common.{◌≡◌, ◌⊎◌, ℕ, List, Option, Some, Result, Ok, Err, inl, inr, refl, sym, ap, subst}
+use Rattle.std.proofs.Common.{◌≡◌, ◌⊎◌, ℕ, List, Option, Some, Result, Ok, Err, inl, inr, refl, sym, subst}
 use Rattle.outer_io.specs.Told.{Files}
 use Rattle.outer_io.specs.declared.slots.Slot.{Slot}
 use Rattle.outer_io.specs.declared.slots.Slot.TheVariants as slot
 use Rattle.paving_log.specs.Text.{IsLogText}
-use Rattle.paving_log.specs.Faults as text
 use Rattle.paving_log.specs.Values.{log_value}
 use Rattle.paving_log.specs.declared.log.Log.{Log}
-use Rattle.paving_log.specs.declared.log.LogError.TheVariants as error
 use Rattle.sat_model.specs.Logs.{LogValue}
 use Rattle.cover_run.proofs.FileReads.{AreRefusals, read_status}
 use Rattle.cover_run.proofs.InputReads.{wider, IsReadEnd, inputs_status, same_end, broken_end, no_end, same_value}
 use Rattle.cover_run.specs.CheckReads.{AreLog, ReadsLog, ReadsChecked, AreSameChecked}
 use Rattle.cover_run.specs.Inputs.{MayBreak, NeverBreaks, ReadsInputs, InputsGive, FileGives, BytesGive, SameAnswer, IsBroken, AreSameInputs, file_in}
-use Rattle.cover_run.specs.Judging.{NamesFault, SpellNoLog}
+use Rattle.cover_run.specs.Judging.{NamesFault}
 use Rattle.cover_run.specs.Statuses.{status_of}
 use Rattle.cover_run.specs.Words.{Names}
 use Rattle.cover_run.specs.declared.checked.Checked.{Checked}

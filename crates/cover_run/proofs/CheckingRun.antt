@@ -1,5 +1,5 @@
 -- How a run of `check` ends, by what was read.
-use Rattle.std.proofs.Common.{◌≡◌, ◌⊎◌, ℕ, List, Option, Result, Ok, Err, inl, inr, refl, sym, ap, subst, ◌∙◌}
+use Rattle.std.proofs.Common.{◌≡◌, ◌⊎◌, Result, Ok, Err, inl, inr, refl, sym, subst, ◌∙◌}
 use Rattle.std.specs.Io.KnownBytes.{append_known}
 use Rattle.paving_log.specs.Values.{log_value}
 use Rattle.paving_log_check.specs.Answers.{IfYes, IfNo}

@@ -1,5 +1,5 @@
 -- The reading of a receiver's files, one behind another.
-use Rattle.std.proofs.Common.{◌≡◌, ◌⊎◌, ◌≤◌, ℕ, Bool, List, Option, Some, Result, Ok, Err, inl, inr, refl, sym, ap, subst, ◌∙◌}
+use Rattle.std.proofs.Common.{◌≡◌, ◌⊎◌, ℕ, Bool, List, Option, Some, Result, Ok, Err, inl, inr, refl, sym, subst}
 use Rattle.error_bounds.specs.declared.settings.Settings.{Settings}
 use Rattle.error_bounds.specs.Reading.{value_of_settings}
 use Rattle.error_bounds.specs.Texts.{SettingsValue}

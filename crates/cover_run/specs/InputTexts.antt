@@ -1,5 +1,5 @@
 -- What is said of a receiver's file that is refused.
-use Rattle.std.specs.Prelude.{ℕ, ◌++◌, List, [], map, codes, decimal, nat_eq, encode_utf8_all, if◌then◌else◌}
+use Rattle.std.specs.Prelude.{ℕ, ◌++◌, List, map, codes, decimal, nat_eq, encode_utf8_all, if◌then◌else◌}
 use Rattle.std.specs.Char.{is_control}
 use Rattle.std.specs.Str.{chars}
 use Rattle.error_bounds.specs.declared.fault.SettingsFault.{SettingsFault}

@@ -1,5 +1,5 @@
 -- Four files with names of their own.
-use Rattle.std.proofs.Common.{◌≡◌, ℕ, List, [], ◌∷◌, false, nat_eq, codes, refl, sym, subst}
+use Rattle.std.proofs.Common.{◌≡◌, [], ◌∷◌, nat_eq, codes, refl}
 use Rattle.std.specs.List.{IsDistinct}
 use lib.Pointwise.{pointwise}
 use Rattle.outer_io.specs.Store.{NamedBytes, HaveOwnNames, name_in}

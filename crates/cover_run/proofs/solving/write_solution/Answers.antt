@@ -1,6 +1,6 @@
-use Rattle.std.proofs.Common.{Some, Err, refl, ap, arith}
+use Rattle.std.proofs.Common.{Some, Err, refl, ap}
 use Rattle.paving_log.specs.Values.{log_value}
-use Rattle.cover_run.proofs.SolvingRun.{solve_done, solve_ended, not_begun, opens_log}
+use Rattle.cover_run.proofs.SolvingRun.{solve_done, solve_ended, opens_log}
 use Rattle.cover_run.specs.Answers.{world}
 use Rattle.cover_run.specs.declared.status.Status.TheVariants as status
 use Rattle.cover_run.proofs.solving.write_solution.Goals as goal
