@@ -1,10 +1,5 @@
 -- The log that `solve` writes, against the files.
-<<<<<<< HEAD
 use Rattle.std.proofs.Common.{◌≡◌, ℕ, Bool, true, false, List, [], ◌∷◌, None, is_none, Result, Ok, Err, IfOk, sym, ap, ◌∙◌}
-=======
-use Rattle.std.proofs.Common.{◌≡◌, ℕ, Bool, true, false, List, [], ◌∷◌, None, Some, is_none, Result, Ok, Err, IfOk, inl, inr, sym, ap, ◌∙◌, arith}
-use Rattle.std.specs.Prelude.{ℤ}
->>>>>>> ea2d064566030140e45464127887b009c514e06b
 use Rattle.std.specs.List.{AllByRecursion}
 use Rattle.epoch_rows.proofs.AdmitLemmas.{solved_admits, solved_admissible, has_corner}
 use Rattle.epoch_rows.specs.Grown.{HasBody, AreGrown}
@@ -15,11 +10,6 @@ use Rattle.paving_log.specs.declared.log.Log.{Log}
 use Rattle.paving_log_check.proofs.FitLemmas.{HasFewRoot, fit_all}
 use Rattle.rinex_obs.specs.declared.obs.ObsEpoch.{ObsEpoch}
 use Rattle.error_bounds.specs.Reading.{centre_with, IsRoot}
-<<<<<<< HEAD
-=======
-use Rattle.error_bounds.specs.declared.settings.Settings.{Settings}
-use Rattle.rinex_nav.specs.declared.record.NavRecord.{NavRecord}
->>>>>>> ea2d064566030140e45464127887b009c514e06b
 use Rattle.sat_model.specs.Boxes.{GridBox, grid_box}
 use Rattle.sat_model.specs.Logs.{Block, LogValue}
 use Rattle.sat_model.specs.declared.boxes.Box3.{Box3}

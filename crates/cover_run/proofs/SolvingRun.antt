@@ -18,11 +18,7 @@ use Rattle.cover_run.specs.Answers.{World, IsBrokenOff}
 use Rattle.cover_run.specs.Checking.{sinks_of, Notes}
 use Rattle.cover_run.specs.Inputs.{SameAnswer, IsBroken, AreSameInputs, OpensNone}
 use Rattle.cover_run.specs.Paving.{Outputs, outputs_in, LeavesAll, Gives, LogEnds}
-<<<<<<< HEAD
 use Rattle.cover_run.specs.Solving.{HasRows, IsSolved, IsSolvedTo, CreatesNothing, SolveEnds, SolveSuits, OpensLogAlone}
-=======
-use Rattle.cover_run.specs.Solving.{HasRows, IsSolved, IsSolvedTo, SolveEnds, SolveSuits, OpensLogAlone}
->>>>>>> ea2d064566030140e45464127887b009c514e06b
 use Rattle.cover_run.specs.Statuses.{status_of}
 use Rattle.cover_run.specs.declared.inputs.Inputs.{Inputs}
 use Rattle.cover_run.specs.declared.notice.Notice.{Notice}

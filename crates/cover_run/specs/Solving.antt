@@ -23,11 +23,7 @@ use Rattle.sat_rows.specs.Sources.{IsGpsJudged, IsGpsChain, gps_declared}
 use Rattle.sat_rows.specs.declared.lines.SatLine.{SatLine}
 use Rattle.cover_run.specs.Answers.{World, IsBrokenOff}
 use Rattle.cover_run.specs.Checking.{first_epoch, last_epoch, sinks_of, Notes}
-<<<<<<< HEAD
 use Rattle.cover_run.specs.Inputs.{IsCounted, MayBreak, ReadsInputs, InputsGive, SameAnswer, IsBroken, AreSameInputs, OpensNone}
-=======
-use Rattle.cover_run.specs.Inputs.{IsCounted, MayBreak, ReadsInputs, InputsGive}
->>>>>>> ea2d064566030140e45464127887b009c514e06b
 use Rattle.cover_run.specs.Paving.{outputs_in, LeavesAll, Gives}
 use Rattle.cover_run.specs.Statuses.{status_of}
 use Rattle.cover_run.specs.Words.{Names}
