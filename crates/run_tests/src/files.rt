@@ -27,6 +27,32 @@ G    1 C1C                                                  SYS / # / OBS TYPES
 G01  20985472.060
 ";
 
+// An event with a remark stands before the epoch.
+const REMARKED_OBS: &str =
+    "     3.05           OBSERVATION DATA    G                   RINEX VERSION / TYPE
+G    1 C1C                                                  SYS / # / OBS TYPES
+  2024     1     7     0     0    0.0700000     GPS         TIME OF FIRST OBS
+                                                            END OF HEADER
+>                              4  1
+a remark                                                    COMMENT
+> 2024 01 07 00 00  0.0700000  0  2
+G01  20985472.060
+G02
+";
+
+// Or one that declares other types.
+const CHANGED_OBS: &str =
+    "     3.05           OBSERVATION DATA    G                   RINEX VERSION / TYPE
+G    1 C1C                                                  SYS / # / OBS TYPES
+  2024     1     7     0     0    0.0700000     GPS         TIME OF FIRST OBS
+                                                            END OF HEADER
+>                              4  1
+G    1 C1C                                                  SYS / # / OBS TYPES
+> 2024 01 07 00 00  0.0700000  0  2
+G01  20985472.060
+G02
+";
+
 // One record of the first satellite.
 const NAV: &str = "     3.05           N: GNSS NAV DATA    G                   RINEX VERSION / TYPE
                                                             END OF HEADER
@@ -156,6 +182,27 @@ fn a_log_is_checked_against_files(rt: HostRuntime) -> Result<(), Fail> {
         expect(&rt, &Case { log, ..CHECK }, Status::No, text, "")?;
     }
     Ok(())
+}
+
+// Nothing is lost by an event, unless it changes the types of the observations.
+#[test]
+fn events_are_passed_over(rt: HostRuntime) -> Result<(), Fail> {
+    let remarked = Case {
+        obs: REMARKED_OBS,
+        ..CHECK
+    };
+    expect(&rt, &remarked, Status::Done, "yes 0\n", "")?;
+    let changed = Case {
+        obs: CHANGED_OBS,
+        ..CHECK
+    };
+    expect(
+        &rt,
+        &changed,
+        Status::Refused,
+        "",
+        "obs 25 HeaderChange line 6\n",
+    )
 }
 
 // The settings come first, then the navigation file, and the log comes last.
