@@ -23,6 +23,7 @@ use Rattle.paving_log_check.specs.Epochs.{BodyPassesAt, EpochFails}
 use Rattle.paving_log_check.specs.declared.verdict.Fault.{Fault}
 use Rattle.paving_log_check.proofs.FirstFaultLemmas.{not_both, one_fault}
 use Rattle.paving_log_check.proofs.FitLemmas.{blocks_fit}
+use Rattle.paving_log_check.proofs.NarrowLemmas.{log_narrow}
 
 pub body_passes : (rules : Rules) (root : GridBox) (block : Block) (theirs : Option GridBox) → BodyPassesAt rules root block theirs → BodyPasses rules block theirs
 body_passes rules root block None h = tt
@@ -97,6 +98,7 @@ module _ (IsJudged : ℤ → SatObs → Option Skip → Type 0) (Allows : ℤ �
         first = first;
         refused = not_both epochs [] rules root log fault first;
         only = λ other f. one_fault epochs [] rules root log other fault f first;
+        narrow = λ is. absurd (omega (arith, number));
       }
 
   refused_by : (rules : Rules) (root : GridBox) (epochs : List ObsEpoch) (log : LogValue) (fault : Fault) (owns : List (List SatLine)) → AreSameRules rules log.rules
@@ -109,6 +111,7 @@ module _ (IsJudged : ℤ → SatObs → Option Skip → Type 0) (Allows : ℤ �
         first = first;
         refused = not_both epochs owns rules root log fault first;
         only = λ other f. one_fault epochs owns rules root log other fault f first;
+        narrow = log_narrow IsJudged Allows declared root rules 3 None owns epochs log.blocks fault own fails;
       }
 
   none_own : (root : GridBox) (epochs : List ObsEpoch) → AreOwn IsJudged Allows declared root epochs []

@@ -7,5 +7,6 @@ pub mod SatLineLemmas
 pub mod EpochLemmas
 pub mod FirstFaultLemmas
 pub mod FitLemmas
+pub mod NarrowLemmas
 pub mod PlaceLemmas
 pub mod CheckLemmas

@@ -16,6 +16,7 @@ use Rattle.sat_rows.specs.declared.lines.SatLine.{SatLine}
 use Rattle.paving_log_check.specs.Admissible.{Admits, Admissible, Fails, AreOwn}
 use Rattle.paving_log_check.specs.Epochs.{EpochPasses, EpochFails}
 use Rattle.paving_log_check.specs.FileCover.{FileCover}
+use Rattle.paving_log_check.specs.Narrow.{HasNarrowRow, HasNarrowBlock}
 use Rattle.paving_log_check.specs.declared.verdict.Fault.{Fault}
 
 -- the same line, number and spans
@@ -37,11 +38,12 @@ module _ (IsJudged : ℤ → SatObs → Option Skip → Type 0) (Allows : ℤ �
     pub are_own : AreLinesOf root seen own
     pub passes : EpochPasses rules root own block
 
-  -- this is its first fault against them
+  -- this is its first fault against them, for a row too narrow with both spans
   pub record EpochRefused (rules : Rules) (root : GridBox) (seen : ObsEpoch) (block : Block) (fault : Fault) : Type 0 where
     pub own : List SatLine
     pub are_own : AreLinesOf root seen own
     pub fails : EpochFails rules root own block fault
+    pub narrow : fault.number ≡ 53 → HasNarrowRow IsJudged Allows declared root seen block fault
 
   -- the log is admissible for own lines of each epoch, and covers what fits, with so many boxes
   pub record IsAccepted (epochs : List ObsEpoch) (rules : Rules) (root : GridBox) (log : LogValue) (boxes : ℕ) : Type 0 where
@@ -58,3 +60,4 @@ module _ (IsJudged : ℤ → SatObs → Option Skip → Type 0) (Allows : ℤ �
     pub first : Fails epochs owns rules root log fault
     pub refused : Admits epochs owns rules root log → ⊥
     pub only : (other : Fault) → Fails epochs owns rules root log other → AreSameFault other fault
+    pub narrow : fault.number ≡ 53 → HasNarrowBlock IsJudged Allows declared root epochs log.blocks fault
