@@ -26,4 +26,4 @@ pub mod ClockChain
 pub mod OrbitChain
 pub mod Pseudorange
 pub mod Turn
-pub mod Consistent
+pub mod ChainValues

@@ -1,7 +1,7 @@
 -- Something is allowed of each satellite that was observed, as seen from each point.
 use Rattle.std.proofs.Common.{◌^◌}
 use Rattle.std.specs.Prelude.{ℤ, pos, ◌+ℤ◌, ◌-ℤ◌, ◌*ℤ◌, Option, None, Some}
-use Rattle.sat_model.specs.Consistent.{Observed}
+use Rattle.sat_model.specs.ChainValues.{Observed}
 use Rattle.sat_model.specs.EarthModel.{light_speed}
 use Rattle.sat_model.specs.Pseudorange.{is_single, IsRangeWith}
 use Rattle.sat_model.specs.declared.boxes.Pos.{Pos}
