@@ -10,6 +10,7 @@ pub mod Fold
 pub mod Logs
 pub mod Paved
 pub mod Verdicts
+pub mod StepKinds
 pub mod Cover
 pub mod Intervals
 pub mod Rounding
