@@ -1,11 +1,10 @@
 -- What the equations of the chain share: the ends and the members of fields, of sums and of differences.
-use Rattle.std.proofs.Common.{◌≡◌, ℕ, ◌+◌, ◌*◌, ◌^◌, ◌≤◌, arith}
-use Rattle.std.specs.Prelude.{ℤ, pos, neg_ℤ, ◌+ℤ◌, ◌-ℤ◌, ◌≤ℤ◌, ◌<ℤ◌}
+use Rattle.std.proofs.Common.{◌≡◌, ℕ, ◌+◌, ◌*◌, ◌≤◌, arith}
+use Rattle.std.specs.Prelude.{ℤ, pos, neg_ℤ, ◌+ℤ◌, ◌-ℤ◌, ◌≤ℤ◌}
 use Rattle.std.proofs.lemmas.Int.{ints}
 use Rattle.sat_model.specs.Angles.{unit}
-use Rattle.sat_model.specs.Sizes.{IsWithin}
 use Rattle.sat_model.specs.Intervals.{Between, Ends}
-use Rattle.sat_model.specs.RecordBounds.{LiesFrom, IsField, IsValue, time_bound, clock_reach}
+use Rattle.sat_model.specs.RecordBounds.{LiesFrom, IsField, IsValue}
 use Rattle.sat_model.specs.Rounding.{Near}
 use Rattle.sat_model.specs.declared.spans.Wide.{Wide}
 use Rattle.sat_model.proofs.EndsLemmas.{sum_ends, difference_ends, wider_ends}
@@ -108,9 +107,6 @@ pub one_held : (x : ℤ) → Between x x x
 one_held x = record { from = omega (arith, ints); to = omega (arith, ints) }
 
 -- ---- the time from the ephemeris time
-
-pub start_size : (toc s l w : ℤ) → pos 0 ≤ℤ toc → toc <ℤ pos time_bound → IsWithin clock_reach (toc -ℤ (s +ℤ w)) → l ≡ w → IsWithin (10 ^ 38) (s +ℤ l)
-start_size toc s l w h k n e = record { low = omega (arith, ints, n.low, n.high); high = omega (arith, ints, n.low, n.high) }
 
 pub after_held : (tl th s wl wh pl ph rl rh time toe : ℤ) → pl ≡ s +ℤ wl → ph ≡ s +ℤ wh → rl ≡ tl -ℤ ph → rh ≡ th -ℤ pl → Between tl th time → Between wl wh toe → Between rl rh (time -ℤ (s +ℤ toe))
 after_held tl th s wl wh pl ph rl rh time toe g h i j p q = record { from = omega (arith, ints, p.from, q.to); to = omega (arith, ints, p.to, q.from) }
