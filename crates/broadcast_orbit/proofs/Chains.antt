@@ -3,18 +3,17 @@ use Rattle.std.proofs.Common.{◌≡◌, ℕ, ◌+◌, ◌*◌, ◌≤◌, arith
 use Rattle.std.specs.Prelude.{ℤ, pos, neg_ℤ, ◌+ℤ◌, ◌-ℤ◌, ◌≤ℤ◌}
 use Rattle.std.proofs.lemmas.Int.{ints}
 use Rattle.sat_model.specs.Angles.{unit}
+use Rattle.sat_model.specs.Sizes.{IsWithin}
 use Rattle.sat_model.specs.Intervals.{Between, Ends}
 use Rattle.sat_model.specs.RecordBounds.{LiesFrom, IsField, IsValue}
 use Rattle.sat_model.specs.Rounding.{Near}
 use Rattle.sat_model.specs.declared.spans.Wide.{Wide}
 use Rattle.sat_model.proofs.EndsLemmas.{sum_ends, difference_ends, wider_ends}
 use Rattle.fix_interval.specs.declared.exact.Exact.{Exact}
-use Rattle.fix_interval.specs.Factors.{Holds, HasEnds, Spread}
+use Rattle.fix_interval.specs.Factors.{Holds, HasEnds}
+use Rattle.fix_interval.proofs.ProductEnds.{amount_of, spread}
 use Rattle.broadcast_orbit.specs.Directions.{DirectionEnds, DirectionAmount, DirectionSpread}
 use Rattle.broadcast_orbit.specs.declared.directions.Direction.{Direction}
-
-pub amount_of : (n w : ℕ) (a b : ℤ) → Ends n w a b → Ends n (2 * n) a b
-amount_of n w a b e = let o = e.order in let l = e.low in let h = e.high in record { order = o; low = l; high = h; width = omega (arith, ints) }
 
 -- ---- fields
 
@@ -52,9 +51,6 @@ pub difference_held : (a b c : Exact) (x y : ℤ) → c.lo ≡ a.lo -ℤ b.hi �
 difference_held a b c x y e f p q = difference_by a.lo a.hi b.lo b.hi c.lo c.hi x y e f p q
 
 -- ---- products of factors of known ends
-
-pub spread : (m v n w k j : ℕ) (a b : Exact) → HasEnds m v a → HasEnds n w b → m * n ≤ k * unit → m * w + n * v ≤ j * unit → Spread k j a b
-spread m v n w k j a b p q h i = record { m = m; v = v; n = n; w = w; left = p; right = q; amount = h; width = i }
 
 -- ---- one less a product
 
@@ -102,6 +98,9 @@ less_number_held m a b l h x e f p = record { from = omega (arith, ints, p.from)
 
 pub one_number : (m : ℕ) → Ends m 0 (pos m) (pos m)
 one_number m = record { order = omega (arith, ints); low = record { low = omega (arith, ints); high = omega (arith, ints) }; high = record { low = omega (arith, ints); high = omega (arith, ints) }; width = omega (arith, ints) }
+
+pub one_within : IsWithin unit (pos unit)
+one_within = record { low = omega (arith, ints); high = omega (arith, ints) }
 
 pub one_held : (x : ℤ) → Between x x x
 one_held x = record { from = omega (arith, ints); to = omega (arith, ints) }
