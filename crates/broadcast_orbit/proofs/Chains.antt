@@ -1,21 +1,19 @@
 -- What the equations of the chain share: the ends and the members of fields, of sums and of differences.
-use Rattle.std.proofs.Common.{◌≡◌, ℕ, ◌+◌, ◌*◌, ◌^◌, ◌≤◌, arith}
-use Rattle.std.specs.Prelude.{ℤ, pos, neg_ℤ, ◌+ℤ◌, ◌-ℤ◌, ◌≤ℤ◌, ◌<ℤ◌}
+use Rattle.std.proofs.Common.{◌≡◌, ℕ, ◌+◌, ◌*◌, ◌≤◌, arith}
+use Rattle.std.specs.Prelude.{ℤ, pos, neg_ℤ, ◌+ℤ◌, ◌-ℤ◌, ◌≤ℤ◌}
 use Rattle.std.proofs.lemmas.Int.{ints}
 use Rattle.sat_model.specs.Angles.{unit}
 use Rattle.sat_model.specs.Sizes.{IsWithin}
 use Rattle.sat_model.specs.Intervals.{Between, Ends}
-use Rattle.sat_model.specs.RecordBounds.{LiesFrom, IsField, IsValue, time_bound, clock_reach}
+use Rattle.sat_model.specs.RecordBounds.{LiesFrom, IsField, IsValue}
 use Rattle.sat_model.specs.Rounding.{Near}
 use Rattle.sat_model.specs.declared.spans.Wide.{Wide}
 use Rattle.sat_model.proofs.EndsLemmas.{sum_ends, difference_ends, wider_ends}
 use Rattle.fix_interval.specs.declared.exact.Exact.{Exact}
-use Rattle.fix_interval.specs.Factors.{Holds, HasEnds, Spread}
+use Rattle.fix_interval.specs.Factors.{Holds, HasEnds}
+use Rattle.fix_interval.proofs.ProductEnds.{amount_of, spread}
 use Rattle.broadcast_orbit.specs.Directions.{DirectionEnds, DirectionAmount, DirectionSpread}
 use Rattle.broadcast_orbit.specs.declared.directions.Direction.{Direction}
-
-pub amount_of : (n w : ℕ) (a b : ℤ) → Ends n w a b → Ends n (2 * n) a b
-amount_of n w a b e = let o = e.order in let l = e.low in let h = e.high in record { order = o; low = l; high = h; width = omega (arith, ints) }
 
 -- ---- fields
 
@@ -53,9 +51,6 @@ pub difference_held : (a b c : Exact) (x y : ℤ) → c.lo ≡ a.lo -ℤ b.hi �
 difference_held a b c x y e f p q = difference_by a.lo a.hi b.lo b.hi c.lo c.hi x y e f p q
 
 -- ---- products of factors of known ends
-
-pub spread : (m v n w k j : ℕ) (a b : Exact) → HasEnds m v a → HasEnds n w b → m * n ≤ k * unit → m * w + n * v ≤ j * unit → Spread k j a b
-spread m v n w k j a b p q h i = record { m = m; v = v; n = n; w = w; left = p; right = q; amount = h; width = i }
 
 -- ---- one less a product
 
@@ -104,13 +99,13 @@ less_number_held m a b l h x e f p = record { from = omega (arith, ints, p.from)
 pub one_number : (m : ℕ) → Ends m 0 (pos m) (pos m)
 one_number m = record { order = omega (arith, ints); low = record { low = omega (arith, ints); high = omega (arith, ints) }; high = record { low = omega (arith, ints); high = omega (arith, ints) }; width = omega (arith, ints) }
 
+pub one_within : IsWithin unit (pos unit)
+one_within = record { low = omega (arith, ints); high = omega (arith, ints) }
+
 pub one_held : (x : ℤ) → Between x x x
 one_held x = record { from = omega (arith, ints); to = omega (arith, ints) }
 
 -- ---- the time from the ephemeris time
-
-pub start_size : (toc s l w : ℤ) → pos 0 ≤ℤ toc → toc <ℤ pos time_bound → IsWithin clock_reach (toc -ℤ (s +ℤ w)) → l ≡ w → IsWithin (10 ^ 38) (s +ℤ l)
-start_size toc s l w h k n e = record { low = omega (arith, ints, n.low, n.high); high = omega (arith, ints, n.low, n.high) }
 
 pub after_held : (tl th s wl wh pl ph rl rh time toe : ℤ) → pl ≡ s +ℤ wl → ph ≡ s +ℤ wh → rl ≡ tl -ℤ ph → rh ≡ th -ℤ pl → Between tl th time → Between wl wh toe → Between rl rh (time -ℤ (s +ℤ toe))
 after_held tl th s wl wh pl ph rl rh time toe g h i j p q = record { from = omega (arith, ints, p.from, q.to); to = omega (arith, ints, p.to, q.from) }

@@ -10,6 +10,7 @@ use Rattle.sat_model.specs.Rounding.{Near}
 use Rattle.sat_model.specs.Sines.{NearCircle}
 use Rattle.sat_model.specs.Sizes.{IsWithin}
 use Rattle.sat_model.proofs.ProductLemmas.{mul_mono, distrib, mul_assoc, product_within}
+use Rattle.broadcast_orbit.proofs.Chains.{one_within}
 use Rattle.broadcast_orbit.proofs.PairLemmas.{swap4, pair_squares, near_squares, times_near, square_natural, first_within, second_within, product_between, Squares}
 
 -- ---- in um: the radius, the distance in the plane, and that in the earth-fixed frame
@@ -126,9 +127,6 @@ small_first x y s = first_within side plane_low plane_high x y (lit≤ tt) s
 
 small_second : (x y : ℤ) → Squares plane_low plane_high x y → IsWithin side y
 small_second x y s = second_within side plane_low plane_high x y (lit≤ tt) s
-
-one_within : IsWithin unit (pos unit)
-one_within = record { low = omega (arith, ints); high = omega (arith, ints) }
 
 level_within : (p q : ℤ) → IsWithin (side * unit * (2 * unit)) p → IsWithin (side * (2 * unit) * (2 * unit)) q → IsWithin (2 * 10 ^ 14 * (unit * unit)) (p +ℤ q)
 level_within p q v w = record { low = omega (arith, ints, v.low, w.low); high = omega (arith, ints, v.high, w.high) }

@@ -1,6 +1,5 @@
 pub mod Chains
 pub mod Flatness
-pub mod SmallSines
 pub mod ChainExists
 pub mod PairLemmas
 pub mod TrueSquares

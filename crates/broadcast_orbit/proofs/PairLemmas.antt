@@ -1,22 +1,20 @@
 -- The sum of the squares of a cosine and a sine goes with the sum of two angles.
 use Rattle.std.proofs.Common.{◌≡◌, ℕ, ◌+◌, ◌*◌, ◌≤◌, arith, sym, ap, ◌∙◌, subst}
-use Rattle.std.specs.Prelude.{ℤ, pos, neg_ℤ, nat_abs, ◌+ℤ◌, ◌-ℤ◌, ◌*ℤ◌, ◌≤ℤ◌}
+use Rattle.std.specs.Prelude.{ℤ, pos, nat_abs, ◌+ℤ◌, ◌-ℤ◌, ◌*ℤ◌, ◌≤ℤ◌}
 use Rattle.std.proofs.lemmas.Int.{ints}
 use lib.IntN.{*ℤ_comm}
 use Rattle.sat_model.specs.Angles.{unit}
 use Rattle.sat_model.specs.Intervals.{Between}
 use Rattle.sat_model.specs.Rounding.{Near}
 use Rattle.sat_model.specs.Sizes.{IsWithin}
-use Rattle.sat_model.proofs.ProductLemmas.{mul_mono, add_mul, neg_mul, distrib, distrib_less, mul_assoc, product_within, square_of_amount}
+use Rattle.sat_model.proofs.ProductLemmas.{mul_mono, add_mul, distrib, distrib_less, mul_assoc, product_within, square_of_amount}
 use Rattle.sat_model.proofs.RootLemmas.{square-mono}
+use Rattle.fix_interval.proofs.InsideLemmas.{less_mul}
 
 -- the middle factors change places
 pub swap4 : (a b c d : ℤ) → (a *ℤ c) *ℤ (b *ℤ d) ≡ (a *ℤ b) *ℤ (c *ℤ d)
 swap4 a b c d =
     mul_assoc a c (b *ℤ d) ∙ ap (λ (z : ℤ). a *ℤ z) (sym (mul_assoc c b d) ∙ ap (λ (z : ℤ). z *ℤ d) (*ℤ_comm c b) ∙ mul_assoc b c d) ∙ sym (mul_assoc a b (c *ℤ d))
-
-less_mul : (a b d : ℤ) → (a -ℤ b) *ℤ d ≡ (a *ℤ d) -ℤ (b *ℤ d)
-less_mul a b d = add_mul a (neg_ℤ b) d ∙ ap (λ (z : ℤ). (a *ℤ d) +ℤ z) (neg_mul b d)
 
 square_of_sum : (a b : ℤ) → (a +ℤ b) *ℤ (a +ℤ b) ≡ (a *ℤ a) +ℤ (a *ℤ b) +ℤ ((a *ℤ b) +ℤ (b *ℤ b))
 square_of_sum a b = add_mul a b (a +ℤ b) ∙ (let p = distrib a a b in let q = distrib b a b in let r = *ℤ_comm b a in omega (arith, ints))

@@ -1,7 +1,7 @@
 -- The squares of the cosine and the sine of the true anomaly add up to one, as those of the eccentric
 -- anomaly do.
 use Rattle.std.proofs.Common.{◌≡◌, ℕ, ◌+◌, ◌-◌, ◌*◌, ◌^◌, ◌≤◌, arith, sym, ap, ◌∙◌, refl, subst, lit≤}
-use Rattle.std.specs.Prelude.{ℤ, pos, neg_ℤ, ◌+ℤ◌, ◌-ℤ◌, ◌*ℤ◌, ◌≤ℤ◌, ◌<ℤ◌}
+use Rattle.std.specs.Prelude.{ℤ, pos, ◌+ℤ◌, ◌-ℤ◌, ◌*ℤ◌, ◌≤ℤ◌, ◌<ℤ◌}
 use Rattle.std.proofs.lemmas.Int.{ints}
 use lib.IntN.{*ℤ_comm}
 use Rattle.sat_model.specs.Angles.{unit}
@@ -9,18 +9,17 @@ use Rattle.sat_model.specs.Intervals.{Between}
 use Rattle.sat_model.specs.Rounding.{Near}
 use Rattle.sat_model.specs.Sines.{NearCircle}
 use Rattle.sat_model.specs.Sizes.{IsWithin}
-use Rattle.sat_model.proofs.ProductLemmas.{mul_mono, mul_le_back, add_mul, neg_mul, distrib, distrib_less, product_within}
+use Rattle.sat_model.proofs.ProductLemmas.{mul_mono, mul_le_back, add_mul, distrib, distrib_less, product_within}
 use Rattle.broadcast_orbit.specs.OrbitSizes.{eccentricity_amount}
 use Rattle.broadcast_orbit.proofs.PairLemmas.{swap4, square_of_difference, near_squares, times_near, square_natural, Squares}
 use Rattle.sat_model.proofs.RootLemmas.{square-mono}
+use Rattle.fix_interval.proofs.InsideLemmas.{less_mul}
+use Rattle.broadcast_orbit.proofs.Chains.{one_within}
 
 -- ---- (c - e)^2 one^2 + w^2 s^2, where the products of squares are variables
 pub join : (C S X E W ES WS EC XX o : ℤ) → o ≡ pos (unit * unit) -ℤ E -ℤ W → pos 0 ≤ℤ o → o ≤ℤ pos (2 * unit) → IsWithin (16 * unit) ((S +ℤ C) -ℤ pos (unit * unit)) → EC ≡ XX → WS ≡ (pos (unit * unit) *ℤ S) -ℤ ES -ℤ (o *ℤ S) → IsWithin (4 * (unit * unit * unit)) (o *ℤ S) → IsWithin (unit * unit * unit) ((ES +ℤ EC) -ℤ (pos (unit * unit) *ℤ E)) →
     IsWithin (24 * (unit * unit * unit)) (((pos (unit * unit) *ℤ ((C -ℤ X) -ℤ (X -ℤ E))) +ℤ WS) -ℤ ((pos (unit * unit * (unit * unit)) -ℤ (pos (unit * unit) *ℤ X)) -ℤ ((pos (unit * unit) *ℤ X) -ℤ XX)))
 join C S X E W ES WS EC XX o e p q d f g h i = record { low = omega (arith, ints, d.low, d.high, h.low, h.high, i.low, i.high); high = omega (arith, ints, d.low, d.high, h.low, h.high, i.low, i.high) }
-
-less_mul : (a b d : ℤ) → (a -ℤ b) *ℤ d ≡ (a *ℤ d) -ℤ (b *ℤ d)
-less_mul a b d = add_mul a (neg_ℤ b) d ∙ ap (λ (z : ℤ). (a *ℤ d) +ℤ z) (neg_mul b d)
 
 -- what w^2 lacks
 lack_is : (E W S o : ℤ) → o ≡ pos (unit * unit) -ℤ E -ℤ W → W *ℤ S ≡ (pos (unit * unit) *ℤ S) -ℤ (E *ℤ S) -ℤ (o *ℤ S)
@@ -96,9 +95,6 @@ difference_small c e p q = record { low = omega (arith, ints, p.low, q.high); hi
 
 root_within : (w : ℕ) → w ≤ unit → IsWithin unit (pos w)
 root_within w h = record { low = omega (arith, ints); high = omega (arith, ints) }
-
-one_within : IsWithin unit (pos unit)
-one_within = record { low = omega (arith, ints); high = omega (arith, ints) }
 
 square_least : (g : ℤ) → pos (7 * 10 ^ 15) ≤ℤ g → pos (49 * 10 ^ 30) ≤ℤ (g *ℤ g)
 square_least g h =

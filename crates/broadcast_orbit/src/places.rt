@@ -1,6 +1,6 @@
 //! The satellite's place at a time.
 
-ghost use Rattle.std.specs.Prelude.{◌≡◌, ℤ, pos, neg_ℤ, ◌+ℤ◌, ◌-ℤ◌, ◌≤ℤ◌};
+ghost use Rattle.std.specs.Prelude.{ℤ, pos, neg_ℤ, ◌+ℤ◌, ◌-ℤ◌, ◌≤ℤ◌};
 ghost use Rattle.sat_model.specs.OrbitChain.{OrbitChain};
 ghost use Rattle.sat_model.specs.RecordBounds.{IsValue};
 ghost use Rattle.fix_interval.specs.Factors.{Holds, HasEnds, HasAmount};
@@ -13,18 +13,6 @@ use crate::space::earth_fixed;
 use fix_interval::{Exact, Place};
 use sat_model::Elements;
 
-/// The ephemeris time.
-pub(crate) fn ephemeris_time(el: &Elements) -> Exact
-    ensures low { result.lo ≡ el.now.week_start +ℤ el.now.toe_week.lo }
-    ensures high { result.hi ≡ el.now.week_start +ℤ el.now.toe_week.hi }
-{
-    let start = Exact {
-        lo: el.week_start,
-        hi: el.week_start,
-    };
-    start.plus(Exact::of_wide(el.toe_week))
-}
-
 /// t_k = t - t_oe
 fn after(el: &Elements, t: Exact) -> Exact
     requires from { neg_ℤ (pos orbit_reach) ≤ℤ (t.lo -ℤ (el.now.week_start +ℤ el.now.toe_week.hi)) }
@@ -33,7 +21,7 @@ fn after(el: &Elements, t: Exact) -> Exact
     ensures amount { HasAmount orbit_reach result }
     ensures narrow { (t.hi -ℤ t.lo) ≤ℤ pos time_width → HasEnds orbit_reach after_width result }
 {
-    t.minus(ephemeris_time(el))
+    t.minus(Exact::of_wide(el.ephemeris_time()))
 }
 
 /// Every place of the satellite at a member of `t`, in um in the earth-fixed frame, with a member of

@@ -13,14 +13,10 @@ ghost use Rattle.broadcast_orbit.specs.OrbitSizes.{orbit_reach, after_width, val
 
 use crate::directions::{Direction, direction_of};
 use crate::plane::PlanePoint;
-use fix_interval::{Exact, Place, advanced, difference_of_products, product, sum_of_products};
-use sat_model::Elements;
-
-/// The earth's rotation rate, in 10^-22 rad/s.
-const EARTH_RATE: i128 = 729_211_514_670_000_000;
-
-/// A rate over a time in ps is in 10^-34 rad; there are so many in one of 10^-16.
-const RATE_SCALE: i128 = 1_000_000_000_000_000_000;
+use fix_interval::{
+    Exact, Place, RATE_SCALE, advanced, difference_of_products, product, sum_of_products,
+};
+use sat_model::{EARTH_RATE, Elements};
 
 /// i_k = i_0 + di_k + IDOT t_k
 fn inclination(el: &Elements, correction: Exact, after: Exact) -> Exact

@@ -2,7 +2,6 @@ ghost use Rattle.std.specs.Prelude.{pos, neg_ℤ, ◌≤ℤ◌};
 ghost use Rattle.broadcast_orbit.specs.OrbitSizes.{orbit_reach};
 
 use crate::place;
-use crate::places::ephemeris_time;
 use crate::records::{circle, recorded};
 use crate::vectors::VECTORS;
 use fix_interval::{Exact, Place};
@@ -31,7 +30,7 @@ fn around(rt: &impl Abort, after: i128) -> Exact
 }
 
 fn placed(rt: &impl Abort, el: &Elements, motion: i128, after: i128) -> Place {
-    let toe = ephemeris_time(el);
+    let toe = Exact::of_wide(el.ephemeris_time());
     assert!(rt; toe.lo == toe.hi, "one ephemeris time");
     assert!(rt; 0 <= motion, "a motion that isn't negative");
     assert!(rt;

@@ -36,9 +36,6 @@ pub broken : (before after : Sinks) (R : Type 0) (f : Checked) (v : Verdict) (s 
 broken before after R f v s accepts refuses is breaks =
     subst (λ (t : Status). CheckEnds before after R (Ok f) t) (sym is) (checked_text v, says f v accepts refuses, breaks)
 
-pub no_memory : (before after : Sinks) (R : Type 0) (f : Checked) (s : Status) → s ≡ status.NoMemory → Notes before after notice.NoMemory → after.out ≡ before.out → CheckEnds before after R (Ok f) s
-no_memory before after R f s is notes out = subst (λ (t : Status). CheckEnds before after R (Ok f) t) (sym is) (notes, out)
-
 -- ---- the status
 
 -- what was accepted ends so

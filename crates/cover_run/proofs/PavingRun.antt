@@ -1,35 +1,18 @@
 -- How a run of `pave` ended says what it has read and written.
-use Rattle.std.proofs.Common.{◌≡◌, ◌⊎◌, ℕ, List, Result, Ok, Err, inl, inr, refl, sym, ap, subst, ◌∙◌}
+use Rattle.std.proofs.Common.{◌≡◌, ◌⊎◌, ℕ, List, Err, inl, inr, refl, sym, ap, subst, ◌∙◌}
 use Rattle.std.specs.Prelude.{◌≢◌}
-use Rattle.log_writer.specs.Texts.{IsWhole, IsBegun}
+use Rattle.log_writer.specs.Texts.{IsBegun}
 use Rattle.log_writer.specs.declared.fault.WriteFault.TheVariants as why
 use Rattle.outer_io.specs.declared.slots.Slot.TheVariants as slot
 use Rattle.outer_io.specs.Causes.{Rose}
 use Rattle.cover_run.specs.Texts.{notice_text}
 use Rattle.cover_run.specs.Answers.{HasFile, World, Gets}
 use Rattle.cover_run.specs.Paving.{Outputs, outputs_in, LeavesAll, RefusesRows, WritesLog, PavingEnds, IsPlainNotice, LogFails, OutFails}
-use Rattle.cover_run.specs.Statuses.{ending, status_of}
+use Rattle.cover_run.specs.Statuses.{status_of}
 use Rattle.cover_run.specs.declared.limits.Limits.{Limits}
 use Rattle.cover_run.specs.declared.notice.Notice.{Notice}
 use Rattle.cover_run.specs.declared.notice.Notice.TheVariants as notice
 use Rattle.cover_run.specs.declared.status.Status.TheVariants as status
-
-abbrev pub Ended : Type 0
-Ended = Result (Unit {0}) Notice
-
-pub done_has : (limits : Limits) (rows log : List ℕ) (before after : Outputs) (r : Ended) → PavingEnds limits rows log before after r
-    → ending r ≡ status.Done → WritesLog limits rows log before after IsWhole
-done_has limits rows log before after (Ok done) ends e = ends
-done_has limits rows log before after (Err notice.Usage) ends e = cc
-done_has limits rows log before after (Err (notice.TooLong of limit)) ends e = cc
-done_has limits rows log before after (Err (notice.BadLog of line kind)) ends e = cc
-done_has limits rows log before after (Err (notice.NotBuilt of line)) ends e = cc
-done_has limits rows log before after (Err (notice.BadInput fault)) ends e = cc
-done_has limits rows log before after (Err (notice.ReadFault of)) ends e = cc
-done_has limits rows log before after (Err notice.LogFault) ends e = cc
-done_has limits rows log before after (Err notice.OutFault) ends e = cc
-done_has limits rows log before after (Err notice.NoMemory) ends e = cc
-done_has limits rows log before after (Err (notice.LogFull limit)) ends e = cc
 
 pub full_has : (limits : Limits) (rows log : List ℕ) (before after : Outputs) (n : Notice) → PavingEnds limits rows log before after (Err n)
     → status_of n ≡ status.LogFull → WritesLog limits rows log before after (IsBegun why.Full)

@@ -1,13 +1,13 @@
 -- What the files say of a log is said by the values that are read from them.
-use Rattle.std.proofs.Common.{◌≡◌, ℕ, Bool, List, [], ◌∷◌, Option, None, Some, inl, inr, refl, sym, ap, subst, ◌∙◌, ◌≤◌}
+use Rattle.std.proofs.Common.{◌≡◌, ℕ, Bool, List, [], ◌∷◌, Option, None, Some, inl, inr, refl, sym, ap, subst, ◌∙◌}
 use Rattle.std.proofs.lemmas.Bool.{cases_Bool}
 use Rattle.std.specs.Prelude.{ℤ, pos, ◌≤ℤ◌, ◌<ℤ◌, nat_le, ◌&&◌}
 use Rattle.std.specs.List.{filter}
 use Rattle.std.proofs.Math.Dec.{T_prop}
-use Rattle.std.proofs.Math.Bridge.{le_prop}
 use mathlib.Core.HLevel.{is_prop→PathP}
 use Rattle.error_bounds.specs.Reading.{bound_for, centre_with, IsRoot, value_of_settings}
 use Rattle.error_bounds.specs.Texts.{SettingsValue}
+use Rattle.paving_log.proofs.ValueLemmas.{same_rules}
 use Rattle.paving_log_check.specs.Admissible.{is_selected, selected, IsOf, IsDue, AdmitsFrom, Admits, AreOwn}
 use Rattle.rinex_nav.specs.Reading.{plain_record, records_of}
 use Rattle.rinex_nav.specs.Records.{Broadcast}
@@ -38,17 +38,6 @@ from_prop a b = hlevel T_prop
 
 under_prop : (a b : ℤ) (p q : a <ℤ b) → p ≡ q
 under_prop a b = hlevel T_prop
-
-same_rules : (a b : Rules) → a.outliers ≡ b.outliers → a.bisections ≡ b.bisections → a.width ≡ b.width → a ≡ b
-same_rules a b p q r = λ i. record {
-  outliers = p i;
-  bisections = q i;
-  width = r i;
-  few_outliers = is_prop→PathP (λ j. p j ≤ 8) (λ j. le_prop) a.few_outliers b.few_outliers i;
-  few_bisections = is_prop→PathP (λ j. q j ≤ 200000) (λ j. le_prop) a.few_bisections b.few_bisections i;
-  wide = is_prop→PathP (λ j. pos 1000 ≤ℤ r j) (λ j. from_prop (pos 1000) (r j)) a.wide b.wide i;
-  narrow = is_prop→PathP (λ j. r j ≤ℤ pos 10000000000) (λ j. from_prop (r j) (pos 10000000000)) a.narrow b.narrow i;
-}
 
 same_record : (a b : NavRecord) → plain_record a ≡ plain_record b → a ≡ b
 same_record a b e =

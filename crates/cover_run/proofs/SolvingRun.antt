@@ -82,9 +82,6 @@ module _ (limit : ℕ) (log : List ℕ) (before after : World) (reliable out_rel
       → Notes (sinks_of before) (sinks_of after) n → Ends s
   solve_ended rows n s has ends causes is notes = subst Ends (sym is) (begun_ends rows n has ends causes notes)
 
-  pub not_begun : (s : Status) → s ≡ status.NoMemory → LeavesAll (outputs_in before) (outputs_in after) → Notes (sinks_of before) (sinks_of after) notice.NoMemory → Ends s
-  not_begun s is leaves notes = subst Ends (sym is) (inl leaves, notes)
-
 -- ---- behind the reading of the files
 
 module _ (limit : ℕ) (log : List ℕ) (before after : World) (reliable out_reliable : Type 0) (i : Inputs) (t : Option Told) (p : Slots Phase) (r w : ℕ)

@@ -1,5 +1,4 @@
 pub mod SquareSpread
-pub mod SmallAngles
 pub mod Bounds
 pub mod Offsets
 pub mod CircleRoots

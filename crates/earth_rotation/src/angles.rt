@@ -8,9 +8,7 @@ ghost use Rattle.earth_rotation.specs.RoundSizes.{range_amount, angle_amount, si
 
 use fix_interval::{Exact, ExactArea, Interval};
 use interval_trig::sine;
-
-/// The earth's rotation rate, in 10^-22 rad/s.
-const EARTH_RATE: i128 = 729_211_514_670_000_000;
+use sat_model::EARTH_RATE;
 
 /// The speed of light, in m/s, times 10^12: a rate in 10^-22 rad/s times a range in um over it is an
 /// angle in 10^-16 rad.

@@ -4,9 +4,9 @@ ghost use Rattle.std.specs.Prelude.{◌≡◌, ◌↔◌, ◌+◌, ◌≤◌, �
 ghost use Rattle.std.specs.Fmt.{decimal};
 ghost use Rattle.log_words.specs.Words.{joined};
 ghost use Rattle.sat_model.specs.Boxes.{grid_box};
+ghost use Rattle.sat_model.specs.StepKinds.{is_split};
 ghost use Rattle.epoch_report.specs.Metres.{metres_text};
 ghost use Rattle.epoch_report.specs.ReportLines.{counted_name, box_words, in_words, edge_words, out_words, line_of, epoch_text_of, step_text_of, total_text_of};
-ghost use Rattle.epoch_report.specs.Reports.{is_split};
 
 use crate::counts::Counts4;
 use crate::lengths::{metres, seconds};

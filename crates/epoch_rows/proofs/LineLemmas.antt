@@ -1,5 +1,5 @@
 -- The satellite lines that are made of own lines.
-use Rattle.std.proofs.Common.{◌≡◌, ◌≢◌, ℕ, suc, ◌+◌, ◌≤◌, ◌<◌, List, [], ◌∷◌, ◌++◌, length, get_or, drop, sym, ap, subst, ◌∙◌, refl, add-one, append_assoc, append-nil, drop-cons, arith}
+use Rattle.std.proofs.Common.{◌≡◌, ◌≢◌, ℕ, ◌≤◌, List, [], ◌∷◌, ◌++◌, length, drop, sym, subst, ◌∙◌, refl, append-nil, arith}
 use Rattle.std.specs.Prelude.{◌*◌, ◌^◌, ℤ, pos, Option, Some}
 use Rattle.std.specs.List.{AllByRecursion}
 use Rattle.std.proofs.lemmas.Grind.{common_steps}
@@ -22,7 +22,7 @@ use Rattle.sat_model.specs.declared.satellites.Skip.{Skip}
 use Rattle.sat_model.specs.declared.spans.Span.{Span}
 use Rattle.sat_rows.specs.Chains.{Chain}
 use Rattle.sat_rows.specs.Growth.{GrowsWithin, IsGrown}
-use Rattle.sat_rows.specs.OwnRows.{IsOwnLine, AreOwnLines, usable_in, IsSmall, IsSmallRow, IsSmallLine, AreSmall}
+use Rattle.sat_rows.specs.OwnRows.{IsOwnLine, AreOwnLines, usable_in, IsSmall, IsSmallRow, IsSmallLine}
 use Rattle.sat_rows.specs.declared.lines.SatLine.{SatLine}
 use Rattle.sat_rows.specs.declared.lines.SatLine.TheVariants.{Usable, Skipped}
 use Rattle.epoch_rows.proofs.ApartLemmas.{NoneNames, AreApart}
@@ -57,23 +57,9 @@ module _ (by : ℤ) where
 
 -- ---- one line behind another
 
--- the lines that are left stand behind those before
-pub record IsLineAt (lines : List SatLine) (i : ℕ) (line : SatLine) : Type 0 where
-  pub at : drop i lines ≡ line ∷ drop (i + 1) lines
-
-pub line_at : (lines : List SatLine) (i : ℕ) (line : SatLine) → i < length lines → line ≡ get_or lines i line → IsLineAt lines i line
-line_at lines i line within is = record { at = rw (add-one, drop-cons lines i line within) (ap (λ (l : SatLine). l ∷ drop (suc i) lines) (sym is)) }
-
-pub small_here : (lines : List SatLine) (i : ℕ) (line : SatLine) → IsLineAt lines i line → AreSmall (drop i lines) → IsSmallLine line × AreSmall (drop (i + 1) lines)
-small_here lines i line here small = rw here.at at small
-
 -- grown lines of those that are left make them all
 abbrev pub GrowOn : ℤ → List SatLine → ℕ → List SatEntry → Type 0
 GrowOn by lines i entries = (rest : List SatEntry) → AreGrownLines by (drop i lines) rest → AreGrownLines by lines (entries ++ rest)
-
-pub grow_more : (by : ℤ) (lines : List SatLine) (i : ℕ) (line : SatLine) (e : SatEntry) (entries more : List SatEntry) → more ≡ entries ++ e ∷ [] → IsLineAt lines i line → IsGrownLine by line e
-    → GrowOn by lines i entries → GrowOn by lines (i + 1) more
-grow_more by lines i line e entries more is here one on rest later = rw (is, append_assoc) (on (e ∷ rest) (rw here.at (one, later)))
 
 pub grow_done : (by : ℤ) (lines : List SatLine) (i : ℕ) (entries : List SatEntry) → length lines ≤ i → GrowOn by lines i entries → AreGrownLines by lines entries
 grow_done by lines i entries ended on =

@@ -1,13 +1,12 @@
 -- The forms over values as the code holds them.
-use Rattle.std.proofs.Common.{◌≡◌, ℕ, ◌+◌, ◌<◌, ℤ, pos, negsuc, ◌≤ℤ◌, ◌*ℤ◌, Bool, true, false, List, [], ◌∷◌, length, get_or, drop, is_some, suc, Option, Some, None, option_map, option_and_then, Result, Err, refl, sym, ap, ◌∙◌, ◌≢◌, arith}
+use Rattle.std.proofs.Common.{◌≡◌, ℕ, ℤ, pos, negsuc, ◌≤ℤ◌, ◌*ℤ◌, Bool, true, false, List, [], ◌∷◌, length, get_or, is_some, suc, Option, Some, None, option_map, option_and_then, Result, Err, refl, sym, ap, ◌∙◌, ◌≢◌, arith}
 use Rattle.std.proofs.lemmas.Bool.{and_parts, false≢true}
 use Rattle.std.proofs.lemmas.Int.{ints}
 use Rattle.sat_model.specs.Sizes.{IsWithin}
 use Rattle.sat_model.specs.declared.boxes.Pos.{Pos}
-use Rattle.toml.specs.Data.{Data, Items}
+use Rattle.toml.specs.Data.{Data}
 use Rattle.toml.specs.View.{view, items_view}
 use Rattle.toml.specs.declared.value.Value.{Value}
-use Rattle.toml.proofs.Views.{items_view-drop}
 use Rattle.std.proofs.lemmas.Option.{same_Some, none-some}
 use Rattle.error_bounds.specs.Forms.{all_members, of_kind, ends_of, three, codes_for, is_from}
 use Rattle.error_bounds.specs.declared.fault.Fault.{Fault}
@@ -28,28 +27,6 @@ from_between lo hi n h =
     (omega (arith, ints, low), omega (arith, ints, high))
 
 -- ---- lists whose members are all of one kind
-
-map_is_some : {A B : Type 0} (f : A → B) (o : Option A) → is_some (option_map f o) ≡ is_some o
-map_is_some f None = refl
-map_is_some f (Some x) = refl
-
-kind_there : {V : Type 0} (kind : Data → Option V) (o : Option V) (more : Items) → is_some o ≡ true
-    → is_some (option_and_then (λ v. option_map (λ vs. v ∷ vs) (all_members kind more)) o) ≡ is_some (all_members kind more)
-kind_there kind None more h = absurd (false≢true h)
-kind_there kind (Some v) more h = map_is_some (λ vs. v ∷ vs) (all_members kind more)
-
-kind_absent : {V : Type 0} (kind : Data → Option V) (o : Option V) (more : Items) → is_some o ≡ false
-    → is_some (option_and_then (λ v. option_map (λ vs. v ∷ vs) (all_members kind more)) o) ≡ false
-kind_absent kind None more h = refl
-kind_absent kind (Some v) more h = absurd (false≢true (sym h))
-
-pub members_step : {V : Type 0} (kind : Data → Option V) (vs : List Value) (i : ℕ) (x : Value) → i < length vs → get_or vs i x ≡ x → is_some (kind (view x)) ≡ true
-    → is_some (all_members kind (items_view (drop i vs))) ≡ is_some (all_members kind (items_view (drop (i + 1) vs)))
-members_step kind vs i x h at there = rw (items_view-drop vs i x h, at) (kind_there kind (kind (view x)) _ there)
-
-pub members_stop : {V : Type 0} (kind : Data → Option V) (vs : List Value) (i : ℕ) (x : Value) → i < length vs → get_or vs i x ≡ x → is_some (kind (view x)) ≡ false
-    → is_some (all_members kind (items_view (drop i vs))) ≡ false
-members_stop kind vs i x h at absent = rw (items_view-drop vs i x h, at) (kind_absent kind (kind (view x)) _ absent)
 
 members_long : {V : Type 0} (kind : Data → Option V) (vs : List Value) (ns : List V) → all_members kind (items_view vs) ≡ Some ns → length ns ≡ length vs
 members_long kind [] ns h = rw (← same_Some _ _ h) refl

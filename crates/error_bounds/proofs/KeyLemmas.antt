@@ -1,7 +1,5 @@
 -- Keys and their tests.
-use Rattle.std.proofs.Common.{◌≡◌, ℕ, suc, ◌+◌, ◌-◌, ◌<◌, ℤ, codes, List, [], ◌∷◌, ◌++◌, map, length, get_or, Option, Some, None, Ok, refl, sym, ◌∙◌, inl, inr, arith, append_assoc, append-nil, length-append}
-use Rattle.std.proofs.lemmas.Bool.{cases_lt}
-use Rattle.std.proofs.lemmas.List.{get_or_append_left, get_or-append-add}
+use Rattle.std.proofs.Common.{◌≡◌, ℕ, suc, ◌+◌, ◌-◌, ◌<◌, ℤ, codes, List, [], ◌∷◌, ◌++◌, map, Option, Some, None, Ok, refl, sym, ◌∙◌, arith, append_assoc, append-nil}
 use Rattle.std.proofs.lemmas.Option.{none-some}
 use Rattle.std.specs.List.{filter_map, cons_option}
 use Rattle.sat_model.specs.Relaxed.{ends}
@@ -11,8 +9,7 @@ use Rattle.toml.specs.Data.{Members, no_members}
 use Rattle.error_bounds.specs.Faults.{Found}
 use Rattle.error_bounds.specs.Forms.{errors}
 use Rattle.error_bounds.specs.Keys.{Test, bound, value_of, printed, optional, satellite, test_optional, satellite_tests_in, fault_in, first_found, first_or, numbers_from}
-use Rattle.error_bounds.specs.Reading.{Answers, AreListed, RefusesTests, ends_in}
-use Rattle.error_bounds.specs.Sizes.{IsDeclared}
+use Rattle.error_bounds.specs.Reading.{Answers, RefusesTests, ends_in}
 use Rattle.error_bounds.specs.Texts.{extra_of}
 use Rattle.error_bounds.specs.declared.fault.Fault.{Fault}
 use Rattle.error_bounds.specs.declared.fault.SettingsError.{SettingsError}
@@ -75,35 +72,6 @@ pub refused_step : (n : ℕ) (table : Members) (error : SettingsError) → n < 1
 refused_step n table NoMemory h same refused = tt
 refused_step n table (Refused told) h same (found, here, tells) =
     (found, sym same ∙ rw (numbers_step n h) (before_one (fault_in (optional (satellite n) table)) (printed (satellite n)) None _ found here (λ e. absurd (none-some _ e))), tells)
-
--- ---- the spans of satellites
-
-last_at : (xs : List (Sat × Span)) (e : Sat × Span) (k : ℕ) (d : Sat × Span) → k ≡ length xs + 0 → get_or (xs ++ e ∷ []) k d ≡ e
-last_at xs e k d same = rw same (get_or-append-add xs (e ∷ []) 0 d)
-
-pub listed_push : (n : ℕ) (xs : List (Sat × Span)) (e : Sat × Span) → AreListed n xs → IsDeclared e.1 → e.0.number ≡ n → AreListed (n + 1) (xs ++ e ∷ [])
-listed_push n xs e h d here = record {
-  declared = λ k x bound. elim (cases_lt k (length xs)) [
-    | inl low ↦ rw (get_or_append_left xs (e ∷ []) x k low) (h.declared k x low)
-    | inr high ↦ rw (last_at xs e k x (omega (arith, length-append xs (e ∷ []), bound, high))) d
-  ];
-  ascending = λ i j x less bound. elim (cases_lt j (length xs)) [
-    | inl low ↦ rw (get_or_append_left xs (e ∷ []) x j low, get_or_append_left xs (e ∷ []) x i (omega (arith, less, low))) (h.ascending i j x less low)
-    | inr high ↦ rw (last_at xs e j x (omega (arith, length-append xs (e ∷ []), bound, high)), get_or_append_left xs (e ∷ []) x i (omega (arith, length-append xs (e ∷ []), bound, less)))
-        (omega (arith, here, h.below i x (omega (arith, length-append xs (e ∷ []), bound, less))))
-  ];
-  below = λ k x bound. elim (cases_lt k (length xs)) [
-    | inl low ↦ rw (get_or_append_left xs (e ∷ []) x k low) (omega (arith, h.below k x low))
-    | inr high ↦ rw (last_at xs e k x (omega (arith, length-append xs (e ∷ []), bound, high))) (omega (arith, here))
-  ];
-}
-
-pub listed_next : (n : ℕ) (xs : List (Sat × Span)) → AreListed n xs → AreListed (n + 1) xs
-listed_next n xs h = record {
-  declared = h.declared;
-  ascending = h.ascending;
-  below = λ k x bound. omega (arith, h.below k x bound);
-}
 
 -- ---- a text without the table of satellites
 

@@ -62,7 +62,7 @@ held n d lo hi v p i h =
 pub sum_inside : (m n d a b a' b' : ℤ) → Inside m d a b → Inside n d a' b' → Inside (m +ℤ n) d (a +ℤ a') (b +ℤ b')
 sum_inside m n d a b a' b' i j = record { low = omega (arith, ints, i.low, j.low, add_mul a a' d); high = omega (arith, ints, i.high, j.high, add_mul b b' d) }
 
-less_mul : (a b d : ℤ) → (a -ℤ b) *ℤ d ≡ (a *ℤ d) -ℤ (b *ℤ d)
+pub less_mul : (a b d : ℤ) → (a -ℤ b) *ℤ d ≡ (a *ℤ d) -ℤ (b *ℤ d)
 less_mul a b d = add_mul a (neg_ℤ b) d ∙ ap (λ (z : ℤ). (a *ℤ d) +ℤ z) (neg_mul b d)
 
 pub difference_inside : (m n d a b a' b' : ℤ) → Inside m d a b → Inside n d a' b' → Inside (m -ℤ n) d (a -ℤ b') (b -ℤ a')

@@ -1,16 +1,24 @@
 -- The ends of products of factors, and what these products hold.
-use Rattle.std.proofs.Common.{ℕ, ◌*◌, ◌^◌, ◌≤◌, arith, lit≤}
+use Rattle.std.proofs.Common.{ℕ, ◌+◌, ◌*◌, ◌^◌, ◌≤◌, arith, lit≤}
 use Rattle.std.specs.Prelude.{ℤ, pos, ◌+ℤ◌, ◌-ℤ◌, ◌*ℤ◌, ◌≤ℤ◌}
 use Rattle.std.proofs.lemmas.Int.{ints}
 use Rattle.sat_model.specs.Angles.{unit}
-use Rattle.sat_model.specs.Intervals.{Between}
+use Rattle.sat_model.specs.Intervals.{Between, Ends}
 use Rattle.sat_model.specs.Rounding.{Near}
 use Rattle.fix_interval.specs.declared.exact.Exact.{Exact}
-use Rattle.fix_interval.specs.Factors.{HasAmount, Spread, factor_bound}
+use Rattle.fix_interval.specs.Factors.{HasEnds, HasAmount, Spread, factor_bound}
 use Rattle.fix_interval.proofs.InsideLemmas.{Inside, inside_of, held, sum_inside, difference_inside}
 
 pub over_one : (n k : ℕ) → n ≤ k * unit → pos n ≤ℤ (pos k *ℤ pos unit)
 over_one n k h = omega (arith, ints)
+
+-- numbers of a known amount, as wide as they can be
+pub amount_of : (n w : ℕ) (a b : ℤ) → Ends n w a b → Ends n (2 * n) a b
+amount_of n w a b e = let o = e.order in let l = e.low in let h = e.high in record { order = o; low = l; high = h; width = omega (arith, ints) }
+
+-- factors of two known ends
+pub spread : (m v n w k j : ℕ) (a b : Exact) → HasEnds m v a → HasEnds n w b → m * n ≤ k * unit → m * w + n * v ≤ j * unit → Spread k j a b
+spread m v n w k j a b p q h i = record { m = m; v = v; n = n; w = w; left = p; right = q; amount = h; width = i }
 
 -- factors of two known amounts
 pub spread_by : (m n : ℕ) (a b : Exact) → HasAmount m a → HasAmount n b → (k : ℕ) → m * n ≤ k * unit → Spread k (4 * k) a b

@@ -10,7 +10,7 @@ ghost use Rattle.sat_model.specs.Products.{ProductsWithin};
 use crate::exact::Exact;
 
 /// A rate in 10^-22 per s over a time in ps is a number in 10^-34: so many are one in 10^-16.
-const RATE_SCALE: i128 = 1_000_000_000_000_000_000;
+pub const RATE_SCALE: i128 = 1_000_000_000_000_000_000;
 
 /// Every whole number within one unit of `value + rate * time / 10^18`, for members of the three.
 pub fn advanced(value: Exact, rate: Exact, time: Exact) -> Exact

@@ -12,7 +12,7 @@ mod interval;
 mod place;
 mod products;
 
-pub use advance::advanced;
+pub use advance::{RATE_SCALE, advanced};
 pub use distance::squared_distance;
 pub use exact::Exact;
 pub use exact_interval::ExactArea;

@@ -14,3 +14,4 @@ pub mod Polynomials
 pub mod SquareSums
 pub mod CircleLaw
 pub mod Existence
+pub mod SmallAngles

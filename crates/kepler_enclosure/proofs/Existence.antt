@@ -18,9 +18,6 @@ record Crosses (f : ℤ → ℤ) (t x : ℤ) : Type 0 where
 next_is : (a : ℤ) (n : ℕ) → a +ℤ pos (suc n) ≡ (a +ℤ pos n) +ℤ pos 1
 next_is a n = omega (arith, ints)
 
-none_is : (a : ℤ) → a ≡ a +ℤ pos 0
-none_is a = omega (arith, ints)
-
 -- what is at most t at a and at least t at a + n + 1 crosses it between
 crossing : (f : ℤ → ℤ) (t a : ℤ) (n : ℕ) → f a ≤ℤ t → t ≤ℤ f (a +ℤ pos (suc n)) → (x : ℤ) × Crosses f t x
 crossing f t a zero h k = (a, record { below = h; above = k })

@@ -8,10 +8,8 @@ ghost use Rattle.sat_model.specs.Angles.{unit};
 ghost use Rattle.sat_model.specs.Sines.{Sine};
 ghost use Rattle.sat_model.specs.Kepler.{Kepler};
 
-use fix_interval::Exact;
+use fix_interval::{Exact, UNIT};
 use interval_trig::sine;
-
-const UNIT: i128 = 10_000_000_000_000_000;
 
 /// The greatest eccentricity, 0.2, in units of 10^-16.
 pub const GREATEST_ECCENTRICITY: i128 = 2_000_000_000_000_000;

@@ -10,14 +10,15 @@ use Rattle.sat_model.specs.declared.steps.Step.{Step}
 use Rattle.sat_model.specs.declared.steps.Step.TheVariants.{Cut, Split, Outside, Inside, Edge}
 use Rattle.sat_model.specs.Boxes.{GridBox}
 use Rattle.sat_model.specs.Fold.{Stage, first_stage, live_box, after, ShownStep, shown, taken_by, pieces_from, pieces}
+use Rattle.sat_model.specs.StepKinds.{is_inside, is_edge, is_outside, is_split}
 use Rattle.sat_model.specs.Paved.{Paving, first_paving, Closes, beyond, joined, PavesTo, Paved, steps_of}
 use Rattle.sat_model.proofs.PavedLemmas.{AreLive, IsStageOf, taken_out, stage_goes_on}
 use Rattle.paving.specs.declared.counts.Counts.{Counts}
-use Rattle.paving.specs.Counting.{IsCountOf, is_inside, is_edge, is_outside, is_split as is_split_step}
+use Rattle.paving.specs.Counting.{IsCountOf}
 use Rattle.paving_log.specs.declared.line.LogLine.TheVariants as line
 use Rattle.epoch_report.specs.declared.counts.Counts4.{Counts4}
 use Rattle.epoch_report.specs.ReportLines.{step_text_of}
-use Rattle.epoch_report.specs.Reports.{is_in_line, is_edge_line, is_out_line, is_split, counts_of, piece_text}
+use Rattle.epoch_report.specs.Reports.{counts_of, piece_text}
 use Rattle.log_writer.specs.Pieces.{Piece, with_report, step_pieces}
 use Rattle.log_writer.specs.Steps.{step_piece}
 
@@ -115,39 +116,10 @@ run_counted : (p : Step → Bool) → ((id axis : ℕ) → p (Split id axis) ≡
 run_counted p none rows rules root steps run =
     rw run.all_steps (counted_from p none rows rules (first_paving root) run.last (first_stage root) run.boxes run.paves (first_is root))
 
-same_inside : (step : Step) → is_inside step ≡ is_in_line step
-same_inside (Cut id face bound) = refl
-same_inside (Split id axis) = refl
-same_inside (Outside id) = refl
-same_inside (Inside id clock lo hi) = refl
-same_inside (Edge id lo hi) = refl
-
-same_edge : (step : Step) → is_edge step ≡ is_edge_line step
-same_edge (Cut id face bound) = refl
-same_edge (Split id axis) = refl
-same_edge (Outside id) = refl
-same_edge (Inside id clock lo hi) = refl
-same_edge (Edge id lo hi) = refl
-
-same_outside : (step : Step) → is_outside step ≡ is_out_line step
-same_outside (Cut id face bound) = refl
-same_outside (Split id axis) = refl
-same_outside (Outside id) = refl
-same_outside (Inside id clock lo hi) = refl
-same_outside (Edge id lo hi) = refl
-
-same_split : (step : Step) → is_split_step step ≡ is_split step
-same_split (Cut id face bound) = refl
-same_split (Split id axis) = refl
-same_split (Outside id) = refl
-same_split (Inside id clock lo hi) = refl
-same_split (Edge id lo hi) = refl
-
-splits_counted : (steps : List ShownStep) → count_by (λ (x : ShownStep). is_split_step x.step) steps ≡ count_by is_split (steps_of steps)
+splits_counted : (steps : List ShownStep) → count_by (λ (x : ShownStep). is_split x.step) steps ≡ count_by is_split (steps_of steps)
 splits_counted [] = refl
 splits_counted (s ∷ steps) =
-    count-cons (λ (x : ShownStep). is_split_step x.step) s steps
-    ∙ ap (λ (b : Bool). cond b 1 0 + count_by (λ (x : ShownStep). is_split_step x.step) steps) (same_split s.step)
+    count-cons (λ (x : ShownStep). is_split x.step) s steps
     ∙ ap (λ (k : ℕ). cond (is_split s.step) 1 0 + k) (splits_counted steps)
     ∙ sym (count-cons is_split s.step (steps_of steps))
 
@@ -156,10 +128,10 @@ pub run_counts : (rows : List Row) (rules : Rules) (root : GridBox) (steps : Lis
     → ◌≡◌ {A = Counts4} (record { inside = counts.inside; edge = counts.edge; outside = counts.outside; bisections = counts.bisections }) (counts_of root (steps_of steps))
 run_counts rows rules root steps counts run is =
     let inside : counts.inside ≡ (counts_of root (steps_of steps)).inside =
-    is.inside ∙ (λ i. count_by (λ (x : ShownStep). same_inside x.step i) steps) ∙ run_counted is_in_line (λ id axis. refl) rows rules root steps run in
+    is.inside ∙ run_counted is_inside (λ id axis. refl) rows rules root steps run in
     let edge : counts.edge ≡ (counts_of root (steps_of steps)).edge =
-    is.edge ∙ (λ i. count_by (λ (x : ShownStep). same_edge x.step i) steps) ∙ run_counted is_edge_line (λ id axis. refl) rows rules root steps run in
+    is.edge ∙ run_counted is_edge (λ id axis. refl) rows rules root steps run in
     let outside : counts.outside ≡ (counts_of root (steps_of steps)).outside =
-    is.outside ∙ (λ i. count_by (λ (x : ShownStep). same_outside x.step i) steps) ∙ run_counted is_out_line (λ id axis. refl) rows rules root steps run in
+    is.outside ∙ run_counted is_outside (λ id axis. refl) rows rules root steps run in
     let bisections : counts.bisections ≡ (counts_of root (steps_of steps)).bisections = is.bisections ∙ splits_counted steps in
     λ i. record { inside = inside i; edge = edge i; outside = outside i; bisections = bisections i }

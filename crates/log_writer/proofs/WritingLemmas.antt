@@ -149,13 +149,6 @@ stopped a b xs ys g = record {
 
 -- ---- one piece
 
-pub piece_went : (a c : Seen) (p : Piece) → Sent a p.line p.report c → length p.line + c.left ≡ a.left → Went a (p ∷ []) c
-piece_went a c p sent left = record {
-  sent = subst (λ (l : List ℕ). Sent a l (p.report ++ []) c) (sym (append-nil p.line))
-      (subst (λ (r : List ℕ). Sent a p.line r c) (sym (append-nil p.report)) sent);
-  left = omega (arith, ap length (append-nil p.line), left);
-}
-
 pub piece_ended : (a c : Seen) (p : Piece) (fault : WriteFault) (log report : List ℕ) → PieceBreaks a.left p fault log report → Sent a log report c → IsCounted a fault c
     → Ended a (p ∷ []) fault c
 piece_ended a c p fault log report breaks sent counted = record {

@@ -1,13 +1,12 @@
 -- Queues as lists: what a push and a pop change.
-use Rattle.std.proofs.Common.{◌≡◌, ◌≢◌, ℕ, zero, suc, ◌<◌, List, [], ◌∷◌, ◌++◌, length, get_or, set, map, arith, inl, inr, refl, sym, ap, subst, ◌∙◌}
+use Rattle.std.proofs.Common.{◌≡◌, ◌≢◌, ℕ, ◌<◌, List, [], ◌∷◌, ◌++◌, length, get_or, set, map, arith, inl, inr, sym, ap, subst, ◌∙◌}
 use Rattle.std.proofs.lemmas.List.{map-set, map-append, get_or-set_same, get_or-set_other, get_or-map}
 use Rattle.std.proofs.Math.ListN.{length-set}
 use Rattle.std.proofs.lemmas.Bool.{cases_eq}
 use Rattle.std.specs.declared.collections.VecDeque.{VecDeque}
 use Rattle.std.specs.declared.alloc.Global.{Global}
 use Rattle.paving.specs.declared.waiting.Waiting.{Waiting}
-use Rattle.paving.specs.Queues.{waiting_of, lists_of, list_at, AllEmpty, IsPushed, IsQueueTaken}
-use Rattle.sat_model.specs.Paved.{WaitingBox}
+use Rattle.paving.specs.Queues.{waiting_of, lists_of, list_at, IsPushed, IsQueueTaken}
 
 -- the list of a queue
 pub list_is : (queues : List (VecDeque Waiting Global)) (bits : ℕ) (d : VecDeque Waiting Global) → bits < length queues
@@ -36,20 +35,6 @@ pushed queues bits box old within reads new items = record {
       cc;
   others = λ other apart. other_set queues bits other new apart;
 }
-
-one_more_empty : (lists : List (List WaitingBox)) → AllEmpty lists → AllEmpty (lists ++ [] ∷ [])
-one_more_empty [] none zero = refl
-one_more_empty [] none (suc bits) = refl
-one_more_empty (list ∷ lists) none zero = none 0
-one_more_empty (list ∷ lists) none (suc bits) = one_more_empty lists (λ b. none (suc b)) bits
-
--- an empty queue is put behind empty queues
-pub empty_pushed : (queues new : List (VecDeque Waiting Global)) (queue : VecDeque Waiting Global) → new ≡ queues ++ queue ∷ [] → queue.items ≡ []
-    → AllEmpty (lists_of queues) → AllEmpty (lists_of new)
-empty_pushed queues new queue now empty none bits =
-    let mapped = map-append (λ q. map waiting_of q.items) queues (queue ∷ []) in
-    let lists : lists_of new ≡ lists_of queues ++ [] ∷ [] = cc in
-    rw lists (one_more_empty (lists_of queues) none bits)
 
 -- a queue that stays as long keeps every list
 pub same_set : (queues : List (VecDeque Waiting Global)) (bits other : ℕ) (old new : VecDeque Waiting Global) → bits < length queues

@@ -14,11 +14,12 @@ use Rattle.sat_model.proofs.AmountLemmas.{above_is}
 use Rattle.sat_model.specs.Paved.{WaitingBox, Paving, first_paving, IsNext, AreStepsOf, Closes, opened_by, splits_after, beyond, beyond_all, joined, PavesTo, Paved, PavedFirst, steps_of}
 use Rattle.paving.specs.declared.counts.Counts.{Counts}
 use Rattle.paving.specs.Taken.{TookAll, step_bytes}
-use Rattle.paving.specs.Counting.{IsCountOf, counts_after, is_inside, is_edge, is_outside, is_split}
+use Rattle.paving.specs.Counting.{IsCountOf, counts_after}
 use Rattle.paving.specs.Runs.{IsRun, IsBroken, IsStopped}
 use Rattle.paving.specs.declared.steps.StepFault.{StepFault}
 use Rattle.paving.specs.declared.steps.StepFault.TheVariants.{Full}
 use Rattle.sat_model.specs.Fold.{first_stage, ShownStep}
+use Rattle.sat_model.specs.StepKinds.{is_inside, is_edge, is_outside, is_split}
 use Rattle.sat_model.specs.Verdicts.{StepsPass}
 use Rattle.sat_model.proofs.PavedLemmas.{paved_passes, paved_covers}
 use Rattle.sat_model.proofs.PavedExists.{begins_run}

@@ -114,10 +114,6 @@ refusal_cases at lines (error.NotBuilt line) fault = inr fault
 pub refusal_behind : (at mid : Place) (old now : Lines) (lines : List LogLine) (e : LogError) → Takes at old lines mid now → Refuses mid now e → (e ≡ error.NoMemory) ⊎ FaultFrom at old.rest.now old.number e
 refusal_behind at mid old now lines e taken refused = refusal_cases at old e (refuses_behind at mid old now lines e taken refused)
 
--- nothing was taken yet
-pub takes_none : (at : Place) (now : Lines) → Takes at now [] at now
-takes_none at now = record { leads = refl; parts = refl; number = omega arith }
-
 -- a test found the list not empty
 pub tested_nonempty : (text : List ℕ) (empty : Bool) → empty ≡ nat_eq (length text) 0 → empty ≡ false → text ≢ []
 tested_nonempty [] empty test e f = cc

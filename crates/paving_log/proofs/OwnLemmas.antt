@@ -63,9 +63,6 @@ pub record IsTestedTo (log : LogValue) (before : Option ℕ) (i : ℕ) : Type 0 
   pub next : ℕ
   pub numbered : IsNumberedIn form.Rows next (drop i log.blocks)
 
-pub none_tested : (log : LogValue) → IsNumberedIn form.Rows 3 log.blocks → IsTestedTo log None 0
-none_tested log numbered = record { pass = λ h. h; fail = λ line number h. h; next = 3; numbered = numbered }
-
 tested_here : {log : LogValue} {before : Option ℕ} {i : ℕ} {b : Block} (t : IsTestedTo log before i) → IsBlockAt log i b
     → (b.line ≡ t.next) × IsNumberedIn form.Rows (t.next + length (block_lines form.Rows b)) (drop (i + 1) log.blocks)
 tested_here t here = rw here.at at t.numbered

@@ -9,7 +9,7 @@ use Rattle.std.proofs.Math.Dec.{T_prop}
 use Rattle.std.proofs.Math.Bridge.{le_prop}
 use Rattle.std.proofs.Math.ListN.{get_or}
 use mathlib.Core.HLevel.{is_prop→PathP}
-use Rattle.sat_model.specs.Sizes.{IsWithin, IsPlaceSize, IsErrorSize, IsClockSize}
+use Rattle.sat_model.specs.Sizes.{IsPlaceSize, IsErrorSize, IsClockSize}
 use Rattle.sat_model.specs.declared.rules.Rules.{Rules}
 use Rattle.sat_model.specs.declared.boxes.Pos.{Pos}
 use Rattle.sat_model.specs.declared.spans.Span.{Span}
@@ -43,9 +43,6 @@ use Rattle.log_words.proofs.TimeLemmas.{time_count}
 int_prop : (a b : ℤ) (p q : a ≤ℤ b) → p ≡ q
 int_prop a b = hlevel T_prop
 
-within_prop : (bound : ℕ) (z : ℤ) (p q : IsWithin bound z) → p ≡ q
-within_prop bound z = hlevel T_prop
-
 place_prop : (s : Span) (p q : IsPlaceSize s.lo × IsPlaceSize s.hi) → p ≡ q
 place_prop s = hlevel T_prop
 
@@ -57,7 +54,7 @@ error_prop s = hlevel T_prop
 same_span : (a b : Span) → a.lo ≡ b.lo → a.hi ≡ b.hi → a ≡ b
 same_span a b p q = λ i. record { lo = p i; hi = q i; ordered = is_prop→PathP (λ j. p j ≤ℤ q j) (λ j. int_prop (p j) (q j)) a.ordered b.ordered i }
 
-same_rules : (a b : Rules) → a.outliers ≡ b.outliers → a.bisections ≡ b.bisections → a.width ≡ b.width → a ≡ b
+pub same_rules : (a b : Rules) → a.outliers ≡ b.outliers → a.bisections ≡ b.bisections → a.width ≡ b.width → a ≡ b
 same_rules a b p q r = λ i. record {
   outliers = p i;
   bisections = q i;

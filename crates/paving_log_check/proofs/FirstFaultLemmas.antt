@@ -1,5 +1,5 @@
 -- A log that is admitted has no fault, and for given own lines a first fault is the only one.
-use Rattle.std.proofs.Common.{◌≡◌, ℕ, ◌+◌, arith, true, List, [], ◌∷◌, ◌++◌, length, inl, inr, refl, sym, ap, subst, ◌∙◌, Option, None, Some}
+use Rattle.std.proofs.Common.{◌≡◌, ℕ, ◌+◌, arith, true, List, [], ◌∷◌, length, inl, inr, refl, sym, ap, subst, ◌∙◌, Option, None, Some}
 use Rattle.std.specs.Prelude.{pos, slice_get}
 use Rattle.std.proofs.lemmas.Bool.{cases_order}
 use Rattle.rinex_obs.specs.declared.obs.ObsEpoch.{ObsEpoch}
@@ -250,17 +250,3 @@ one_fault epochs owns rules root log a b (inl f) (inl g) = same_plain a b (f.lin
 one_fault epochs owns rules root log a b (inl f) (inr g) = absurd (f.differ g.0)
 one_fault epochs owns rules root log a b (inr f) (inl g) = absurd (g.differ f.0)
 one_fault epochs owns rules root log a b (inr f) (inr g) = one_from rules root 3 None owns epochs log.blocks a b f.1 g.1
-
--- ---- fewer own lines
-
--- what is admitted by own lines of more epochs is admitted by those of the first of them
-pub admits_shorter : (rules : Rules) (root : GridBox) (before : Option ℕ) (owns more : List (List SatLine)) (epochs : List ObsEpoch) (blocks : List Block)
-    → AdmitsFrom rules root before (owns ++ more) epochs blocks → AdmitsFrom rules root before owns epochs blocks
-admits_shorter rules root before [] [] epochs blocks h = h
-admits_shorter rules root before [] (own ∷ more) [] blocks h = absurd h
-admits_shorter rules root before [] (own ∷ more) (seen ∷ rest) [] h = absurd h
-admits_shorter rules root before [] (own ∷ more) (seen ∷ rest) (block ∷ blocks) h = h.0
-admits_shorter rules root before (own ∷ owns) more [] blocks h = absurd h
-admits_shorter rules root before (own ∷ owns) more (seen ∷ rest) [] h = absurd h
-admits_shorter rules root before (own ∷ owns) more (seen ∷ rest) (block ∷ blocks) h =
-    (h.0, h.1, admits_shorter rules root (Some block.index) owns more rest blocks h.2)

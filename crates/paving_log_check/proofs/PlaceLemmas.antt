@@ -1,6 +1,6 @@
 -- The next selected epoch, and the block that is due.
-use Rattle.std.proofs.Common.{◌≡◌, ℕ, suc, ◌+◌, ◌<◌, ◌≤◌, arith, Bool, true, false, List, [], ◌∷◌, length, get_or, drop, map, refl, sym, ap, subst, ◌∙◌, add-one, Option, None, Some}
-use Rattle.std.specs.Prelude.{IsTrue, ◌↔◌, MatchOption, is_some, is_none, slice_get}
+use Rattle.std.proofs.Common.{◌≡◌, ℕ, suc, ◌+◌, ◌<◌, ◌≤◌, arith, Bool, true, List, [], ◌∷◌, length, get_or, drop, map, refl, sym, ap, subst, ◌∙◌, add-one, Option, None, Some}
+use Rattle.std.specs.Prelude.{IsTrue, ◌↔◌, MatchOption, is_some, slice_get}
 use Rattle.std.specs.List.{filter}
 use Rattle.std.proofs.Math.ListN.{get_or-map}
 use Rattle.std.proofs.Math.Seq.{drop-cons}
@@ -21,9 +21,6 @@ next_item xs i x within is = rw add-one (drop-cons xs i x within ∙ ap (λ y. y
 filter_yes : {X : Type 0} (p : X → Bool) (x : X) (xs : List X) → p x ≡ true → filter p (x ∷ xs) ≡ x ∷ filter p xs
 filter_yes p x xs e = rw e refl
 
-filter_no : {X : Type 0} (p : X → Bool) (x : X) (xs : List X) → p x ≡ false → filter p (x ∷ xs) ≡ filter p xs
-filter_no p x xs e = rw e refl
-
 pub selected_here : (from to : ℕ) (epochs : List ObsEpoch) (start i : ℕ) (seen : ObsEpoch) → selected from to (drop start epochs) ≡ selected from to (drop i epochs)
     → i < length epochs → seen ≡ get_or epochs i seen → is_selected from to seen ≡ true → IsNextSelected from to epochs start i
 selected_here from to epochs start i seen so_far within is chosen = record {
@@ -32,17 +29,8 @@ selected_here from to epochs start i seen so_far within is chosen = record {
   are = so_far ∙ ap (filter (is_selected from to)) (next_item epochs i seen within is) ∙ filter_yes (is_selected from to) seen (drop (i + 1) epochs) chosen;
 }
 
-pub passed_over : (from to : ℕ) (epochs : List ObsEpoch) (start i : ℕ) (seen : ObsEpoch) → selected from to (drop start epochs) ≡ selected from to (drop i epochs)
-    → i < length epochs → seen ≡ get_or epochs i seen → is_selected from to seen ≡ false → selected from to (drop start epochs) ≡ selected from to (drop (i + 1) epochs)
-passed_over from to epochs start i seen so_far within is other =
-    so_far ∙ ap (filter (is_selected from to)) (next_item epochs i seen within is) ∙ filter_no (is_selected from to) seen (drop (i + 1) epochs) other
-
 no_item : {X : Type 0} (xs : List X) (i : ℕ) → length xs ≤ i → drop i xs ≡ []
 no_item xs i h = grind (arith, common_steps)
-
-pub none_selected : (from to : ℕ) (epochs : List ObsEpoch) (start i : ℕ) → selected from to (drop start epochs) ≡ selected from to (drop i epochs)
-    → length epochs ≤ i → selected from to (drop start epochs) ≡ []
-none_selected from to epochs start i so_far ended = so_far ∙ ap (filter (is_selected from to)) (no_item epochs i ended)
 
 -- ---- the block
 
@@ -83,10 +71,3 @@ pub due_block : (rules : Rules) (before : Option ℕ) (from to : ℕ) (epochs : 
     → IsTrue (is_some found) ↔ IsDue rules before (selected from to (drop start epochs)) left
 due_block rules before from to epochs start block left more None is m = (λ h. absurd cc, λ due. absurd (m more (rw is at due)))
 due_block rules before from to epochs start block left more (Some i) is m = (λ h. rw (is, m.next.are) m.is_of, λ due. refl)
-
--- none is left: that is due where no epoch is
-pub due_none : (rules : Rules) (before : Option ℕ) (from to : ℕ) (epochs : List ObsEpoch) (start : ℕ) (left : List Block) (found : Option ℕ) → left ≡ []
-    → MatchOption found (selected from to (drop start epochs) ≡ []) (λ i. IsNextSelected from to epochs start i)
-    → IsTrue (is_none found) ↔ IsDue rules before (selected from to (drop start epochs)) left
-due_none rules before from to epochs start left None is m = (λ h. rw (is, m) tt, λ due. refl)
-due_none rules before from to epochs start left (Some i) is m = (λ h. absurd cc, λ due. absurd (rw (is, m.are) at due))

@@ -44,11 +44,6 @@ fails_more rows rules done stage next first steps i d rest within passes is j nu
     subst (λ (k : ℕ). StepsFail rows rules done first steps k number) (omega (arith, add-one j))
     (rest (suc j) number (rw (next_step steps i d within) (passes, subst (λ (s : Stage). StepsFail rows rules done s (drop (i + 1) steps) j number) is fails)))
 
-pub passes_end : (rows : List Row) (rules : Rules) (done : ℕ) (stage first : Stage) (steps : List Step) (i : ℕ)
-    → PassesOn rows rules done stage first steps i
-    → length steps ≤ i → NoneLive stage → stage.splits ≡ done → StepsPass rows rules done first steps
-passes_end rows rules done stage first steps i rest ended none count = rest (rw (no_step steps i ended) (none, count))
-
 pub fails_end : (rows : List Row) (rules : Rules) (done : ℕ) (stage first : Stage) (steps : List Step) (i number : ℕ)
     → FailsOn rows rules done stage first steps i
     → length steps ≤ i → i ≤ length steps

@@ -2,8 +2,9 @@
 
 ghost use Rattle.std.specs.Prelude.{◌≡◌, ◌+◌, ◌<◌, ◌≤◌, ◌↔◌, length, count_by, IsTrue, IfOk, MatchOption};
 ghost use Rattle.sat_model.specs.declared.rules.Rules.{Rules};
-ghost use Rattle.sat_model.specs.Cover.{is_kept_step, kept_in};
+ghost use Rattle.sat_model.specs.Cover.{kept_in};
 ghost use Rattle.sat_model.specs.Logs.{rows_of, lines_in};
+ghost use Rattle.sat_model.specs.StepKinds.{is_kept_step};
 ghost use Rattle.sat_model.specs.Verdicts.{IsLater, SuitsNumber, HeadPasses, HeadFails, BodyPasses, BlockPasses, BlockFails};
 ghost use Rattle.paving_log.specs.Values.{block_of};
 

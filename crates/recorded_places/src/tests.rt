@@ -7,7 +7,7 @@ use broadcast_orbit::place;
 use fix_interval::{Exact, Place};
 use rinex_nav::{Nav, read_nav};
 use sat_clock::{Clock, correction, mean_motion};
-use sat_model::Elements;
+use sat_model::{Elements, Wide};
 use std::alloc::Global;
 use std::process::Abort;
 use std::test::Fail;
@@ -52,7 +52,7 @@ fn point(n: i128) -> Exact
 }
 
 /// The ephemeris time, within the times that are asked for.
-fn ephemeris_time(rt: &impl Abort, el: &Elements) -> Exact
+fn ephemeris_time(rt: &impl Abort, el: &Elements) -> Wide
     ensures low { result.lo ≡ el.now.week_start +ℤ el.now.toe_week.lo }
     ensures high { result.hi ≡ el.now.week_start +ℤ el.now.toe_week.hi }
     ensures from { pos 0 ≤ℤ result.lo }
@@ -60,10 +60,7 @@ fn ephemeris_time(rt: &impl Abort, el: &Elements) -> Exact
 {
     assert!(rt; 0 <= el.week_start, "not too early a week");
     assert!(rt; el.week_start <= LATEST, "not too late a week");
-    Exact {
-        lo: el.week_start + el.toe_week.lo,
-        hi: el.week_start + el.toe_week.hi,
-    }
+    el.ephemeris_time()
 }
 
 /// The time is so near to the ephemeris time that the clock and the place are told.

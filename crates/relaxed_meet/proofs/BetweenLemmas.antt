@@ -42,9 +42,6 @@ pub record AreExtremes (spans : List Span) (need : ℕ) (lows highs : List ℤ) 
 counts : (spans : List Span) → (length (lows_of spans) ≡ length spans) × (length (highs_of spans) ≡ length spans)
 counts spans = (length-map spans (λ s. s.lo), length-map spans (λ s. mirrored s.hi))
 
-pub same_count : (spans : List Span) (need : ℕ) (lows highs : List ℤ) → AreExtremes spans need lows highs → length highs ≡ length lows
-same_count spans need lows highs e = let n = counts spans in omega (arith, e.keeps_lows.count, e.keeps_highs.count, n.0, n.1)
-
 pub between : (spans : List Span) (need : ℕ) (lows highs : List ℤ) (b : ℤ) → AreExtremes spans need lows highs
     → LiesInRelaxed (map ends spans) need b → LiesBetween lows highs b
 between spans need lows highs b e h =

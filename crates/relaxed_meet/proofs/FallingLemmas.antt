@@ -2,9 +2,8 @@
 use Rattle.std.proofs.Common.{◌≡◌, refl, ℕ, ◌+◌, ◌<◌, ◌≤◌, min, List, [], ◌∷◌, ◌++◌, length, take, map, get_or, set, true, false, arith, ap, ◌∙◌, ◌⊎◌, inl, inr}
 use Rattle.std.specs.Prelude.{ℤ, pos, ◌≤ℤ◌, ◌<ℤ◌}
 use Rattle.std.proofs.lemmas.Int.{ints}
-use Rattle.std.proofs.lemmas.Bool.{cases_Bool, cases_lt, cases_eq}
-use Rattle.std.proofs.lemmas.List.{map_more, length-set, length-append, get_or-set_same, get_or-set_other, get_or_append_left}
-use Rattle.std.proofs.Math.Seq.{get_or-append_seam}
+use Rattle.std.proofs.lemmas.Bool.{cases_Bool, cases_eq}
+use Rattle.std.proofs.lemmas.List.{map_more, length-set, length-append, get_or-set_same, get_or-set_other}
 use Rattle.std.proofs.lemmas.List.Sums.{sum_by-append, sum_by-set, sum_by-cons}
 use Rattle.std.specs.List.{refill}
 use Rattle.std.proofs.lemmas.Grind.{common_steps}
@@ -17,9 +16,6 @@ lt_true a b h = grind (arith, ints)
 
 pub lt_false : (a b : ℤ) → b ≤ℤ a → lt_z a b ≡ false
 lt_false a b h = grind (arith, ints)
-
-pub bit_one : (b x : ℤ) → b <ℤ x → bit b x ≡ 1
-bit_one b x h = rw (lt_true b x h) refl
 
 -- ---- the rank of a number
 
@@ -85,21 +81,6 @@ above_set xs i c b within = omega (arith, sum_by-set (λ x. bit b x) xs i c (pos
 
 -- ---- a number is put last
 
-pub falling_push : (xs : List ℤ) (c : ℤ) → IsFalling xs → ((j : ℕ) → j < length xs → c ≤ℤ get_or xs j (pos 0)) → IsFalling (xs ++ c ∷ [])
-falling_push xs c falling least = record { falls = falls }
-  where
-    falls : (a b : ℕ) → a ≤ b → b < length (xs ++ c ∷ []) → get_or (xs ++ c ∷ []) b (pos 0) ≤ℤ get_or (xs ++ c ∷ []) a (pos 0)
-    falls a b le inside = elim (cases_lt b (length xs)) [
-      | inl b_old ↦ same_le _ _ _ _ (get_or_append_left xs (c ∷ []) (pos 0) b b_old) (get_or_append_left xs (c ∷ []) (pos 0) a (omega arith)) (falling.falls a b le b_old)
-      | inr b_new ↦
-          let last : b ≡ length xs = omega (arith, length-append xs (c ∷ [])) in
-          let at_last : get_or (xs ++ c ∷ []) b (pos 0) ≡ c = ap (λ n. get_or (xs ++ c ∷ []) n (pos 0)) last ∙ get_or-append_seam xs c [] (pos 0) in
-          elim (cases_lt a (length xs)) [
-            | inl a_old ↦ same_le _ _ _ _ at_last (get_or_append_left xs (c ∷ []) (pos 0) a a_old) (least a a_old)
-            | inr a_new ↦ let same : a ≡ b = omega arith in rw same (itself _)
-          ]
-    ]
-
 pub above_push : (xs : List ℤ) (c b : ℤ) → above b (xs ++ c ∷ []) ≡ above b xs + bit b c
 above_push xs c b = omega (arith, sum_by-append (λ x. bit b x) xs (c ∷ []), sum_by-cons (λ x. bit b x) c [])
 
@@ -141,12 +122,6 @@ passed_by i xs next old c d n k le is carried = rw (is, carried) record {
     | inr other ↦ k.least j (omega arith)
   ];
 }
-
-pub kept_first : (xs : List ℤ) (n : ℤ) → IsFalling xs → IsKeptUpTo 0 xs xs n n
-kept_first xs n falling = record { falling = falling; count = refl; same_above = λ b. refl; least = λ j before. absurd (omega arith) }
-
-pub refill_set : (xs ys : List ℤ) (i : ℕ) (c : ℤ) → ys ≡ xs → refill (length xs) xs (set ys i c) ≡ set xs i c
-refill_set xs ys i c e = rw e (grind (arith, common_steps))
 
 pub refill-same : (xs ys : List ℤ) → length ys ≡ length xs → refill (length xs) xs ys ≡ ys
 refill-same xs ys e = grind (arith, common_steps)

@@ -31,10 +31,6 @@ pub record_fault : (count n : ℕ) (lines more : List TextLine) (line : TextLine
     → record_from count (record { number = n; lines = lines }) (Err refused) → records_from count n 0 lines (Err refused)
 record_fault count n lines more line refused e begins is = rw e (inl (begins, inr (refused, (rw e at is), refl)))
 
-pub pass_step : (count n m : ℕ) (lines more : List TextLine) (line : TextLine) (answer : Result (List Broadcast) Refusal) → lines ≡ line ∷ more → (BeginsRecord line → ⊥)
-    → IsShort line → m ≡ n + 1 → records_from count m 0 more answer → records_from count n 0 lines answer
-pass_step count n m lines more line answer e other short number h = rw e (inr (other, inl (short, rw number at h)))
-
 pub long_fault : (count n : ℕ) (lines more : List TextLine) (line : TextLine) → lines ≡ line ∷ more → (BeginsRecord line → ⊥)
     → (IsShort line → ⊥) → records_from count n 0 lines (Err (refusal LongLine n))
 long_fault count n lines more line e other long = rw e (inr (other, inr (long, refl)))

@@ -1,11 +1,11 @@
 -- The lines of a header, one behind another.
-use Rattle.std.proofs.Common.{◌≡◌, ℕ, ◌+◌, ◌≤◌, Bool, List, [], ◌∷◌, length, refl, subst, arith, inl, inr, Option, None, Some, Result, Ok, Err}
+use Rattle.std.proofs.Common.{◌≡◌, ℕ, ◌+◌, ◌≤◌, Bool, List, ◌∷◌, length, refl, subst, arith, inl, inr, Option, None, Some, Result, Ok, Err}
 use Rattle.std.proofs.lemmas.Option.{same_Some}
 use Rattle.rinex_text.specs.Faults.{refusal}
 use Rattle.rinex_text.specs.Headers.{IsShort, IsHeaderEnd}
 use Rattle.rinex_text.specs.Lines.{TextLine}
 use Rattle.rinex_text.specs.declared.fault.Fault.{Fault}
-use Rattle.rinex_text.specs.declared.fault.Fault.TheVariants.{LongLine, NoEndOfHeader, NoPosition}
+use Rattle.rinex_text.specs.declared.fault.Fault.TheVariants.{NoPosition}
 use Rattle.rinex_text.specs.declared.fault.Refusal.{Refusal}
 use Rattle.sat_model.specs.declared.boxes.Pos.{Pos}
 use Rattle.sat_model.specs.declared.satellites.Signal.{Signal}
@@ -15,9 +15,6 @@ use Rattle.rinex_obs.specs.Reading.{IsFound, MayBeFound}
 use Rattle.rinex_obs.specs.declared.found.Found.{Found}
 
 module _ (signal : Signal) (position : Bool) (known : Header) (n : ℕ) (lines more : List TextLine) (line : TextLine) (e : lines ≡ line ∷ more) where
-  pub long_fault : (IsShort line → ⊥) → header_lines signal position known n lines (Err (refusal LongLine n))
-  long_fault long = rw e (inr (long, refl))
-
   pub line_step : (next : Header) (m : ℕ) (answer : Result Start Refusal) → m ≡ n + 1 → IsShort line → (IsHeaderEnd line → ⊥) → header_line position known line (Ok next)
       → header_lines signal position next m more answer → header_lines signal position known n lines answer
   line_step next m answer f short other is h = rw e (inl (short, inr (other, inl (next, is, rw f at h))))
@@ -25,15 +22,8 @@ module _ (signal : Signal) (position : Bool) (known : Header) (n : ℕ) (lines m
   pub line_fault : (f : Fault) → IsShort line → (IsHeaderEnd line → ⊥) → header_line position known line (Err f) → header_lines signal position known n lines (Err (refusal f n))
   line_fault f short other is = rw e (inl (short, inr (other, inr (f, is, refl))))
 
-  pub end_step : (wanted : Wanted) (point : Option Pos) (m : ℕ) → m ≡ n + 1 → IsShort line → IsHeaderEnd line → header_end signal position known (Ok (wanted, point))
-      → header_lines signal position known n lines (Ok (record { wanted = wanted; position = point; behind = record { number = m; lines = more } }))
-  end_step wanted point m f short end is = rw e (inl (short, inl (end, inl ((wanted, point), is, rw f refl))))
-
   pub end_fault : (f : Fault) → IsShort line → IsHeaderEnd line → header_end signal position known (Err f) → header_lines signal position known n lines (Err (refusal f n))
   end_fault f short end is = rw e (inl (short, inl (end, inr (f, is, refl))))
-
-pub no_end : (signal : Signal) (position : Bool) (known : Header) (n : ℕ) (lines : List TextLine) → lines ≡ [] → header_lines signal position known n lines (Err (refusal NoEndOfHeader n))
-no_end signal position known n lines e = rw e refl
 
 -- ---- what its end gives
 

@@ -16,10 +16,6 @@ pub code_fault : (text : List ℕ) (place left rest : ℕ) (codes : List Code) (
     → code ≡ code_at text place → (IsSolid code → ⊥) → codes_from text place left codes (Err BadCount)
 code_fault text place left rest codes code e is blank = rw e (inr ((rw is at blank), refl))
 
-pub codes_read : (text : List ℕ) (types : Types) (missing : ℕ) (codes : List Code) → missing ≡ min 13 (types.count - length types.codes)
-    → codes_from text 0 missing types.codes (Ok codes) → more_codes text types (Ok (record { count = types.count; codes = codes }))
-codes_read text types missing codes e h = inl (codes, (rw e at h), refl)
-
 pub codes_fault : (text : List ℕ) (types : Types) (missing : ℕ) (f : Fault) → missing ≡ min 13 (types.count - length types.codes)
     → codes_from text 0 missing types.codes (Err f) → more_codes text types (Err f)
 codes_fault text types missing f e h = inr (f, (rw e at h), refl)

@@ -1,5 +1,5 @@
--- The header, line by line.
-use Rattle.std.proofs.Common.{◌≡◌, ℕ, ◌+◌, List, ◌∷◌, refl, subst, inl, inr, Option, Some, Result, Ok, Err}
+-- The version that a header names.
+use Rattle.std.proofs.Common.{◌≡◌, ℕ, List, subst, Option, Some, Result, Ok}
 use Rattle.std.specs.Prelude.{ℤ, pos, ◌↔◌}
 use Rattle.exact_decimal.specs.declared.decimal.BadNumber.{BadNumber}
 use Rattle.exact_decimal.specs.declared.decimal.Decimal.{Decimal}
@@ -7,22 +7,7 @@ use Rattle.exact_decimal.specs.declared.unit.Unit.TheVariants.{Ratio}
 use Rattle.exact_decimal.specs.NumberFields.{IsFixed}
 use Rattle.exact_decimal.specs.Reading.{Reads}
 use Rattle.exact_decimal.specs.Units.{LiesBetween}
-use Rattle.rinex_text.specs.declared.fault.Fault.TheVariants.{LongLine}
-use Rattle.rinex_text.specs.declared.fault.Refusal.{Refusal}
-use Rattle.rinex_text.specs.Faults.{refusal}
-use Rattle.rinex_text.specs.Headers.{IsVersion, IsShort, IsHeaderEnd, Behind, header_from}
-use Rattle.rinex_text.specs.Lines.{TextLine}
-
-pub header_step : (n m : ℕ) (lines more : List TextLine) (line : TextLine) (answer : Result Behind Refusal) → lines ≡ line ∷ more → m ≡ n + 1
-    → IsShort line → (IsHeaderEnd line → ⊥) → header_from m more answer → header_from n lines answer
-header_step n m lines more line answer e f short other h = rw e (inl (short, inr (other, rw f at h)))
-
-pub header_done : (n m : ℕ) (lines more : List TextLine) (line : TextLine) (answer : Result Behind Refusal) → lines ≡ line ∷ more → m ≡ n + 1
-    → IsShort line → IsHeaderEnd line → answer ≡ Ok (record { number = m; lines = more }) → header_from n lines answer
-header_done n m lines more line answer e f short end h = rw e (inl (short, inl (end, rw f at h)))
-
-pub header_long : (n : ℕ) (lines more : List TextLine) (line : TextLine) → lines ≡ line ∷ more → (IsShort line → ⊥) → header_from n lines (Err (refusal LongLine n))
-header_long n lines more line e long = rw e (inr (long, refl))
+use Rattle.rinex_text.specs.Headers.{IsVersion}
 
 -- the field's number is the only one
 pub version_lies : (read : Result (Option Decimal) BadNumber) (field : List ℕ) (number : Decimal) → ((digits ten : ℤ) → Reads read digits ten ↔ IsFixed field digits ten)

@@ -1,5 +1,5 @@
 -- Lines one behind another.
-use Rattle.std.proofs.Common.{◌≡◌, ℕ, zero, suc, ◌+◌, ◌≤◌, List, [], ◌∷◌, length, drop, arith, refl, sym, subst, inl, inr, Result, Ok, Err, ◌∙◌}
+use Rattle.std.proofs.Common.{◌≡◌, ℕ, zero, suc, ◌+◌, ◌≤◌, List, [], ◌∷◌, length, drop, arith, refl, sym, subst, inl, inr, Result, Err, ◌∙◌}
 use Rattle.rinex_text.specs.Bodies.{needs}
 use Rattle.rinex_text.specs.Headers.{Behind}
 use Rattle.rinex_text.specs.Lines.{TextLine}
@@ -30,9 +30,6 @@ dropped (suc k) (first ∷ lines) more line e =
     let rest = dropped k lines more line e in
     let next : suc k + 1 ≡ suc (k + 1) = omega arith in
     (rw next rest.0, omega (arith, rest.1))
-
-pub leaves_none : (body : Body) → Leaves body 0 body
-leaves_none body = record { enough = omega arith; lines = refl; number = omega arith; less = omega arith }
 
 pub leaves_one : {V : Type 0} (line : TextLine → Result V Fault → Type 0) (old : Body) (v : V) (new : Body) → Takes line old v new → Leaves old 1 new
 leaves_one line old v new t =

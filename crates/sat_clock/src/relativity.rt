@@ -15,7 +15,7 @@ ghost use Rattle.sat_clock.specs.ClockSizes.{IsNearEphemeris, base_size, after_s
 
 use crate::motion::mean_motion;
 use crate::times::after;
-use fix_interval::{Exact, advanced};
+use fix_interval::{Exact, UNIT, advanced};
 use interval_trig::sine;
 use kepler_enclosure::eccentric;
 use sat_model::Elements;
@@ -25,9 +25,6 @@ const RELATIVITY: i128 = -4_442_807_633;
 
 /// A product of an eccentricity and a root in 10^-28 is divided by it to be one in 10^-16.
 const ROOT_UNIT: i128 = 1_000_000_000_000;
-
-/// One, in units of an angle or a ratio.
-const UNIT: i128 = 10_000_000_000_000_000;
 
 /// A product of F and a length's root in 10^-35 is divided by it to be one in 10^-16.
 const RELATIVITY_UNIT: i128 = 10_000_000_000_000_000_000;

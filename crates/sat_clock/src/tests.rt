@@ -3,7 +3,6 @@ ghost use Rattle.sat_clock.specs.ClockSizes.{ephemeris_reach};
 
 use super::*;
 use crate::records::{circle, greatest, least, usual};
-use crate::times::ephemeris_time;
 use fix_interval::Exact;
 use sat_model::Elements;
 use std::process::Abort;
@@ -27,7 +26,7 @@ fn just_before(rt: &impl Abort, after: i128) -> Exact
 /// What the clock tells of a signal that was sent in the 8 ps up to so many after the ephemeris
 /// time, with the time when it was sent since then.
 fn corrected(rt: &impl Abort, el: &Elements, after: i128, single: bool) -> Clock {
-    let toe = ephemeris_time(el);
+    let toe = Exact::of_wide(el.ephemeris_time());
     assert!(rt; toe.lo == toe.hi, "one ephemeris time");
     let clock = correction(el, just_before(rt, after).plus(toe), single);
     Clock {

@@ -1,6 +1,6 @@
 //! Times on a record's scale: from its clock time, from its ephemeris time, and by GPS time.
 
-ghost use Rattle.std.specs.Prelude.{◌≡◌, ℕ, ◌+◌, ◌*◌, ◌^◌, ◌≤◌, ℤ, pos, ◌+ℤ◌, ◌-ℤ◌, ◌≤ℤ◌};
+ghost use Rattle.std.specs.Prelude.{ℕ, ◌+◌, ◌*◌, ◌^◌, ◌≤◌, ℤ, pos, ◌+ℤ◌, ◌-ℤ◌, ◌≤ℤ◌};
 ghost use Rattle.sat_model.specs.ClockChain.{IsEarlier};
 ghost use Rattle.sat_model.specs.Intervals.{Between, Ends};
 ghost use Rattle.sat_model.specs.RecordBounds.{IsValue};
@@ -23,24 +23,13 @@ pub(crate) fn since_clock(el: &Elements, tsv: Exact) -> Exact
     tsv.minus(Exact { lo: toc, hi: toc })
 }
 
-/// The ephemeris time.
-pub(crate) fn ephemeris_time(el: &Elements) -> Exact
-    ensures low { result.lo ≡ el.now.week_start +ℤ el.now.toe_week.lo }
-    ensures high { result.hi ≡ el.now.week_start +ℤ el.now.toe_week.hi }
-{
-    Exact {
-        lo: el.week_start + el.toe_week.lo,
-        hi: el.week_start + el.toe_week.hi,
-    }
-}
-
 /// tsv - toe.
 fn since_ephemeris(el: &Elements, tsv: Exact) -> Exact
     requires near { IsNearEphemeris el.now tsv.lo tsv.hi }
     ensures holds { (x toe : ℤ) → Between tsv.lo tsv.hi x → IsValue el.now.toe_week toe → Between result.lo result.hi (x -ℤ (el.now.week_start +ℤ toe)) }
     ensures ends { Ends ephemeris_reach (width tsv.lo tsv.hi + 1) result.lo result.hi }
 {
-    tsv.minus(ephemeris_time(el))
+    tsv.minus(Exact::of_wide(el.ephemeris_time()))
 }
 
 /// A time less a clock offset.

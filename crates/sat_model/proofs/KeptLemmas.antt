@@ -5,8 +5,9 @@ use Rattle.sat_model.specs.declared.rules.Rules.{Rules}
 use Rattle.sat_model.specs.declared.satellites.Row.{Row}
 use Rattle.sat_model.specs.declared.steps.Step.{Step}
 use Rattle.sat_model.specs.declared.steps.Step.TheVariants.{Cut, Split, Outside, Inside, Edge}
-use Rattle.sat_model.specs.Cover.{is_kept_step, is_kept}
+use Rattle.sat_model.specs.Cover.{is_kept}
 use Rattle.sat_model.specs.Fold.{Stage, after, taken_by, pieces_from}
+use Rattle.sat_model.specs.StepKinds.{is_kept_step}
 use Rattle.sat_model.specs.Verdicts.{StepPasses, StepsPass}
 
 kept_taken : (rows : List Row) (rules : Rules) (stage : Stage) (step : Step) → StepPasses rows rules stage step

@@ -1,6 +1,6 @@
 -- What a log claims of its epochs: its pieces partition the root, and its in and edge boxes cover
 -- what fits.
-use Rattle.std.specs.Prelude.{◌≡◌, ℕ, ◌+◌, ◌⊎◌, ℤ, ◌≤ℤ◌, Bool, true, false, cond, List, [], ◌∷◌, Option, None, Some, count_by}
+use Rattle.std.specs.Prelude.{◌≡◌, ℕ, ◌+◌, ◌⊎◌, ℤ, ◌≤ℤ◌, Bool, true, cond, List, [], ◌∷◌, Option, None, Some, count_by}
 use Rattle.sat_model.specs.declared.boxes.Pos.{Pos}
 use Rattle.sat_model.specs.declared.satellites.Row.{Row}
 use Rattle.sat_model.specs.declared.steps.Step.{Step}
@@ -9,6 +9,7 @@ use Rattle.sat_model.specs.Boxes.{GridBox, box_holds}
 use Rattle.sat_model.specs.Fitting.{IsPossible, IsSure, AllBut}
 use Rattle.sat_model.specs.Fold.{ShownStep, pieces}
 use Rattle.sat_model.specs.Logs.{Block, LogValue, rows_of}
+use Rattle.sat_model.specs.StepKinds.{is_kept_step}
 
 -- each grid point of the root lies in one slab or closed box, and no other point in any
 abbrev pub Partitions : GridBox → List ShownStep → Type 0
@@ -64,13 +65,6 @@ abbrev pub RowCover : LogValue → Type 0
 RowCover log = BlocksCover log.rules.outliers log.blocks
 
 -- ---- how many in and edge boxes there are
-
-abbrev pub is_kept_step : Step → Bool
-is_kept_step (Cut id face bound) = false
-is_kept_step (Split id axis) = false
-is_kept_step (Outside id) = false
-is_kept_step (Inside id clock lo hi) = true
-is_kept_step (Edge id lo hi) = true
 
 abbrev pub is_kept : ShownStep → Bool
 is_kept piece = is_kept_step piece.step

@@ -10,6 +10,7 @@ pub mod Fold
 pub mod Logs
 pub mod Paved
 pub mod Verdicts
+pub mod StepKinds
 pub mod Cover
 pub mod Intervals
 pub mod Rounding
@@ -26,4 +27,4 @@ pub mod ClockChain
 pub mod OrbitChain
 pub mod Pseudorange
 pub mod Turn
-pub mod Consistent
+pub mod ChainValues

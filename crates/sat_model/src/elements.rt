@@ -1,6 +1,6 @@
 //! A broadcast ephemeris in whole numbers.
 
-ghost use Rattle.std.specs.Prelude.{pos, ◌≤ℤ◌, ◌<ℤ◌};
+ghost use Rattle.std.specs.Prelude.{◌≡◌, pos, ◌+ℤ◌, ◌≤ℤ◌, ◌<ℤ◌};
 ghost use Rattle.sat_model.specs.RecordBounds.{LiesFrom, IsField, IsNearTime, offset_bound, drift_bound, ageing_bound, delay_bound, angle_bound, rate_bound, angle_swing_bound, radius_swing_bound, eccentricity_bound, least_root_a, greatest_root_a, week, time_bound};
 
 use crate::spans::Wide;
@@ -74,4 +74,17 @@ pub struct Elements {
     pub ghost om0_within: { IsField angle_bound om0 },
     pub ghost om_dot_within: { IsField rate_bound om_dot },
     pub ghost omega_within: { IsField angle_bound omega },
+}
+
+impl Elements {
+    /// The ephemeris time, in ps since 1980-01-06 00:00:00 GPS time.
+    pub fn ephemeris_time(&self) -> Wide
+        ensures low { result.lo ≡ self.now.week_start +ℤ self.now.toe_week.lo }
+        ensures high { result.hi ≡ self.now.week_start +ℤ self.now.toe_week.hi }
+    {
+        Wide {
+            lo: self.week_start + self.toe_week.lo,
+            hi: self.week_start + self.toe_week.hi,
+        }
+    }
 }

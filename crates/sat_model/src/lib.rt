@@ -5,6 +5,7 @@
 #![tactic(auto)]
 
 mod boxes;
+mod earth_model;
 mod elements;
 mod memory;
 mod record_bounds;
@@ -15,6 +16,7 @@ mod spans;
 mod steps;
 
 pub use boxes::{Box3, Pos};
+pub use earth_model::EARTH_RATE;
 pub use elements::Elements;
 pub use memory::NoMemory;
 pub use record_bounds::{

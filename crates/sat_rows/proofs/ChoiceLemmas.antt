@@ -34,13 +34,6 @@ module _ (max_age : ℕ) (tag : ℤ) (r : NavRecord) where
   some_passed (Unfit age field) g = omega arith
   some_passed (Fit age el) g = omega arith
 
-  sick : (t : Choice) → IsAlone max_age tag r t → passed_by t ≤ 1 → r.healthy ≡ true → ⊥
-  sick NoRecord g few healthy = g
-  sick Unhealthy g few healthy = true_false r.healthy healthy g
-  sick Old g few healthy = absurd (omega arith)
-  sick (Unfit age field) g few healthy = absurd (omega arith)
-  sick (Fit age el) g few healthy = absurd (omega arith)
-
   old : (t : Choice) → IsAlone max_age tag r t → passed_by t ≤ 2 → (age : ℤ) → IsRecent max_age tag r age → ⊥
   old NoRecord g few age recent = g
   old Unhealthy g few age recent = true_false r.healthy recent.healthy g

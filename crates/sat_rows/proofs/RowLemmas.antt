@@ -15,7 +15,7 @@ use Rattle.rinex_obs.specs.declared.obs.SatObs.{SatObs}
 use Rattle.exact_decimal.specs.declared.unit.Unit.TheVariants.{Length, Time}
 use Rattle.rinex_nav.specs.FieldBounds.{field_of}
 use Rattle.sat_model.specs.Boxes.{GridBox}
-use Rattle.sat_model.specs.Consistent.{Observed}
+use Rattle.sat_model.specs.ChainValues.{Observed}
 use Rattle.sat_model.specs.Pseudorange.{Codes}
 use Rattle.sat_model.specs.Relaxed.{ends}
 use Rattle.sat_model.specs.Sizes.{IsWithin}

@@ -10,33 +10,20 @@ use Rattle.fix_interval.specs.declared.place.Place.{Place}
 use Rattle.fix_interval.specs.declared.exact.Exact.{Exact}
 use Rattle.fix_interval.specs.Factors.{Holds, HasEnds}
 use Rattle.fix_interval.proofs.NearLemmas.{near_exists}
-use Rattle.pseudorange_prep.specs.Ranges.{IsCode, IsNarrow}
-use Rattle.sat_clock.specs.ClockSizes.{IsNearEphemeris, sent_reach}
+use Rattle.pseudorange_prep.specs.Ranges.{IsNarrow}
 use Rattle.sat_model.specs.Intervals.{Between, Ends}
 use Rattle.sat_model.specs.Pseudorange.{IsRangeWith, IsIonosphereFree}
 use Rattle.sat_model.specs.Sizes.{IsWithin, IsPlaceSize}
-use Rattle.sat_model.specs.declared.elements.Elements.{Elements}
 use Rattle.sat_model.specs.declared.spans.Span.{Span}
 use Rattle.sat_model.specs.declared.spans.Wide.{Wide}
 use Rattle.sat_model.proofs.IntervalLemmas.{low_member, high_member}
 use Rattle.sat_model.proofs.ProductLemmas.{larger}
 use Rattle.sat_rows.specs.Growth.{GrowsWithin}
 use Rattle.sat_rows.specs.OwnRows.{IsSmall}
-use Rattle.sat_rows.specs.RowSizes.{IsNearEpoch, IsNearOrbit, pseudorange_amount}
+use Rattle.sat_rows.specs.RowSizes.{pseudorange_amount}
 use Rattle.sat_rows.specs.Usability.{IsPlausible}
 
 -- ---- pseudoranges
-
-pub code_of : (code : Wide) → IsPlausible code.lo code.hi 1 → IsCode code.lo code.hi
-code_of code p = record { from = omega (arith, ints, p.from); to = omega (arith, ints, p.to) }
-
-pub single_ends : (a b lo hi : ℤ) → a ≤ℤ b → IsPlausible a b 1 → IsNarrow 1 a b → lo ≡ a → hi ≡ b → Ends pseudorange_amount 8 lo hi
-single_ends a b lo hi o p n e f = record {
-  order = omega (arith, ints);
-  low = record { low = omega (arith, ints, p.from); high = omega (arith, ints, p.to) };
-  high = record { low = omega (arith, ints, p.from); high = omega (arith, ints, p.to) };
-  width = omega (arith, ints, n.width);
-}
 
 -- a combination of plausible codes
 free_within : (a b c d v : ℤ) → a ≤ℤ b → c ≤ℤ d → IsPlausible ((pos 5929 *ℤ a) -ℤ (pos 3600 *ℤ d)) ((pos 5929 *ℤ b) -ℤ (pos 3600 *ℤ c)) 2329
@@ -57,21 +44,6 @@ dual_ends first second lo hi p h n =
     let v = near_exists ((pos 5929 *ℤ first.lo) -ℤ (pos 3600 *ℤ second.hi)) (pos 2329) (record { lt = tt }) in
     around lo hi v.0 (h v.0 (first.lo, second.hi, low_member _ _ first.ordered, high_member _ _ second.ordered, v.1)) n
     (free_within first.lo first.hi second.lo second.hi v.0 first.ordered second.ordered p v.1)
-
--- ---- times
-
-pub near_ephemeris : (el : Elements) (tag lo hi : ℤ) → IsNearEpoch el tag → IsWithin (4 * 10 ^ 12) (tag -ℤ lo) → IsWithin (4 * 10 ^ 12) (tag -ℤ hi) → IsNearEphemeris el lo hi
-near_ephemeris el tag lo hi n l h = record {
-  low = omega (arith, ints, n.high.low, n.high.high, l.low, l.high);
-  high = omega (arith, ints, n.low.low, n.low.high, h.low, h.high);
-}
-
-pub near_orbit : (el : Elements) (tag lo hi l h : ℤ) → IsNearEpoch el tag → IsWithin (4 * 10 ^ 12) (tag -ℤ lo) → IsWithin (4 * 10 ^ 12) (tag -ℤ hi)
-    → (lo -ℤ pos sent_reach) ≤ℤ l → h ≤ℤ (hi +ℤ pos sent_reach) → IsNearOrbit el l h
-near_orbit el tag lo hi l h n f g early late = record {
-  from = omega (arith, ints, n.high.low, n.high.high, f.low, f.high, early);
-  to = omega (arith, ints, n.low.low, n.low.high, g.low, g.high, late);
-}
 
 -- ---- places
 

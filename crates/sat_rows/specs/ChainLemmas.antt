@@ -1,7 +1,7 @@
 -- Something is allowed of each satellite that was observed, as seen from each point.
 use Rattle.std.proofs.Common.{◌^◌}
 use Rattle.std.specs.Prelude.{ℤ, pos, ◌+ℤ◌, ◌-ℤ◌, ◌*ℤ◌, Option, None, Some}
-use Rattle.sat_model.specs.Consistent.{Observed}
+use Rattle.sat_model.specs.ChainValues.{Observed}
 use Rattle.sat_model.specs.EarthModel.{light_speed}
 use Rattle.sat_model.specs.Pseudorange.{is_single, IsRangeWith}
 use Rattle.sat_model.specs.declared.boxes.Pos.{Pos}
@@ -11,8 +11,7 @@ use Rattle.fix_interval.proofs.NearLemmas.{near_exists}
 use Rattle.sat_clock.proofs.ClockExists.{motion_exists, clock_exists}
 use Rattle.broadcast_orbit.proofs.ChainExists.{orbit_exists}
 use Rattle.earth_rotation.proofs.TurnExists.{turn_exists}
-use Rattle.sat_rows.specs.Chains.{Chain, observed, IsChainOf, IsChainAt}
-use Rattle.sat_rows.specs.Usability.{Sighting, IsUsable}
+use Rattle.sat_rows.specs.Chains.{Chain, IsChainOf}
 
 range_exists : (first : Wide) (second : Option Wide) → (pr : ℤ) × IsRangeWith first second pr
 range_exists first None = (first.lo, low_member _ _ first.ordered)
@@ -47,8 +46,3 @@ chain_exists seen p =
         turn = turn.3;
       },
     )
-
-pub usable_has_chain : (a : Sighting) (p : Pos) → IsUsable a → (c : Chain) × IsChainAt a p c
-usable_has_chain a p usable =
-    let c = chain_exists (observed a usable) p in
-    (c.0, record { usable = usable; value = c.1 })

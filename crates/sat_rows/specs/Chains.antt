@@ -1,7 +1,7 @@
 -- What the equations allow of a usable satellite, as seen from a point: its values come from one
 -- pseudorange, one clock chain, one orbit chain at the time of sending, and one turn of the earth.
 use Rattle.std.specs.Prelude.{ℕ, ℤ}
-use Rattle.sat_model.specs.Consistent.{Observed, ChainValue}
+use Rattle.sat_model.specs.ChainValues.{Observed, ChainValue}
 use Rattle.sat_model.specs.declared.boxes.Pos.{Pos}
 use Rattle.sat_rows.specs.Usability.{Sighting, IsUsable}
 

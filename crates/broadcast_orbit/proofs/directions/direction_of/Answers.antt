@@ -1,6 +1,6 @@
 use Rattle.std.proofs.Common.{arith}
 use Rattle.std.proofs.lemmas.Int.{ints}
-use Rattle.broadcast_orbit.proofs.SmallSines.{small_ends}
+use Rattle.interval_trig.proofs.SmallAngles.{small_ends}
 use Rattle.broadcast_orbit.proofs.directions.direction_of.Goals as goal
 
 pub returns-clause-ends : goal.returns-clause-ends

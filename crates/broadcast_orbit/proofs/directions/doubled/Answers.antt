@@ -4,9 +4,9 @@ use Rattle.std.proofs.Common.{arith, subst}
 use Rattle.std.proofs.lemmas.Int.{ints}
 use Rattle.sat_model.proofs.EndsLemmas.{wider_ends}
 use Rattle.fix_interval.specs.Factors.{Holds}
-use Rattle.fix_interval.proofs.ProductEnds.{spread_by}
+use Rattle.fix_interval.proofs.ProductEnds.{spread_by, amount_of, spread}
 use Rattle.broadcast_orbit.specs.OrbitSizes.{phi_amount, phi_width, twice_amount, twice_width}
-use Rattle.broadcast_orbit.proofs.Chains.{amount_of, spread, sum_has, sum_held}
+use Rattle.broadcast_orbit.proofs.Chains.{sum_has, sum_held}
 use Rattle.broadcast_orbit.proofs.directions.doubled.Goals as goal
 
 twice_is : (s : ℤ) → s +ℤ s ≡ pos 2 *ℤ s

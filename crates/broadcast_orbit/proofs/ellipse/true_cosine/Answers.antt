@@ -2,14 +2,11 @@ use Rattle.std.proofs.Common.{◌*◌, ◌^◌, arith, lit≤}
 use Rattle.std.specs.Prelude.{pos, ◌-ℤ◌, ◌<ℤ◌}
 use Rattle.std.proofs.lemmas.Int.{ints}
 use Rattle.sat_model.specs.Angles.{unit}
-use Rattle.sat_model.specs.Sizes.{IsWithin}
 use Rattle.sat_model.proofs.EndsLemmas.{quotient_ends}
+use Rattle.fix_interval.proofs.ProductEnds.{amount_of}
 use Rattle.broadcast_orbit.specs.OrbitSizes.{eccentricity_amount, value_amount, eccentric_value_width, ratio_amount, ratio_width, least_ratio}
-use Rattle.broadcast_orbit.proofs.Chains.{amount_of, difference_has, difference_held}
+use Rattle.broadcast_orbit.proofs.Chains.{difference_has, difference_held, one_within}
 use Rattle.broadcast_orbit.proofs.ellipse.true_cosine.Goals as goal
-
-one_within : IsWithin unit (pos unit)
-one_within = record { low = omega (arith, ints); high = omega (arith, ints) }
 
 pub returns-clause-holds : goal.returns-clause-holds
 returns-clause-holds c d x r v p q s n = c.over.ensures.holds (d -ℤ x) r v (difference_held c.args.cos_e c.args.e c.minus.result d x c.minus.ensures.low c.minus.ensures.high p q) s n

@@ -8,8 +8,8 @@ use Rattle.sat_model.specs.Products.{least_product, greatest_product}
 use Rattle.sat_model.specs.Sizes.{IsWithin}
 use Rattle.sat_model.proofs.EndsLemmas.{product_ends, quotient_ends, wider_ends}
 use Rattle.sat_model.proofs.SpreadLemmas.{products_fit}
+use Rattle.fix_interval.proofs.ProductEnds.{amount_of}
 use Rattle.broadcast_orbit.specs.OrbitSizes.{height_amount, height_width, value_amount, eccentric_value_width, ratio_amount, ratio_width, least_ratio, true_width}
-use Rattle.broadcast_orbit.proofs.Chains.{amount_of}
 use Rattle.broadcast_orbit.proofs.ellipse.true_sine.Goals as goal
 
 one_within : IsWithin 1 (pos 1)

@@ -3,8 +3,9 @@ use Rattle.std.specs.Prelude.{pos, ◌*ℤ◌}
 use Rattle.std.proofs.lemmas.Int.{ints}
 use Rattle.sat_model.specs.Angles.{unit}
 use Rattle.fix_interval.proofs.InsideLemmas.{held, inside_of, moved_inside}
+use Rattle.fix_interval.proofs.ProductEnds.{amount_of, spread}
 use Rattle.broadcast_orbit.specs.OrbitSizes.{axis_amount, axis_width, ratio_amount, ratio_width, radius_swing_amount, radius_swing_width}
-use Rattle.broadcast_orbit.proofs.Chains.{amount_of, spread, sum_has}
+use Rattle.broadcast_orbit.proofs.Chains.{sum_has}
 use Rattle.broadcast_orbit.proofs.plane.radius.Goals as goal
 
 pub plus-requires-clause-low_size : goal.plus-requires-clause-low_size

@@ -3,8 +3,9 @@ use Rattle.std.specs.Prelude.{◌+ℤ◌}
 use Rattle.std.proofs.lemmas.Int.{ints}
 use Rattle.sat_model.specs.RecordBounds.{angle_bound, rate_bound}
 use Rattle.sat_model.proofs.SpreadLemmas.{products_fit}
+use Rattle.fix_interval.proofs.ProductEnds.{amount_of}
 use Rattle.broadcast_orbit.specs.OrbitSizes.{orbit_reach, after_width, angle_swing_amount, angle_swing_width}
-use Rattle.broadcast_orbit.proofs.Chains.{amount_of, field_ends, value_held, sum_has, sum_held}
+use Rattle.broadcast_orbit.proofs.Chains.{field_ends, value_held, sum_has, sum_held}
 use Rattle.broadcast_orbit.proofs.space.inclination.Goals as goal
 
 pub advanced-requires-clause-high_size : goal.advanced-requires-clause-high_size

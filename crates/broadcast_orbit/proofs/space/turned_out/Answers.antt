@@ -5,9 +5,8 @@ use Rattle.sat_model.proofs.EndsLemmas.{wider_ends}
 use Rattle.sat_model.proofs.IntervalLemmas.{low_member, high_member}
 use Rattle.fix_interval.specs.Factors.{Holds}
 use Rattle.fix_interval.proofs.InsideLemmas.{Inside, held, inside_of, mixed_sum, mixed_difference}
-use Rattle.fix_interval.proofs.ProductEnds.{spread_by}
+use Rattle.fix_interval.proofs.ProductEnds.{spread_by, amount_of, spread}
 use Rattle.broadcast_orbit.specs.OrbitSizes.{value_amount, plane_amount, plane_width, inclination_value_width, node_value_width, level_amount, level_width}
-use Rattle.broadcast_orbit.proofs.Chains.{amount_of, spread}
 use Rattle.broadcast_orbit.proofs.space.turned_out.Goals as goal
 
 pub difference_of_products-requires-clause-c_size : goal.difference_of_products-requires-clause-c_size

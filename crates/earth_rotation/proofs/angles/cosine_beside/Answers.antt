@@ -1,7 +1,7 @@
 use Rattle.std.proofs.Common.{arith, ◌*◌}
 use Rattle.sat_model.proofs.SquareLemmas.{greatest_square_le}
+use Rattle.fix_interval.proofs.ProductEnds.{amount_of}
 use Rattle.earth_rotation.specs.RoundSizes.{sine_amount}
-use Rattle.earth_rotation.proofs.Bounds.{amount_of}
 use Rattle.earth_rotation.proofs.CircleRoots.{circle_held, circle_ends}
 use Rattle.earth_rotation.proofs.angles.cosine_beside.Goals as goal
 

@@ -1,9 +1,9 @@
 use Rattle.std.proofs.Common.{◌+◌, ◌*◌, arith, lit≤}
 use Rattle.std.proofs.lemmas.Int.{ints}
 use Rattle.sat_model.proofs.EndsLemmas.{wider_ends}
+use Rattle.fix_interval.proofs.ProductEnds.{amount_of}
+use Rattle.interval_trig.proofs.SmallAngles.{small_ends}
 use Rattle.earth_rotation.specs.RoundSizes.{angle_amount, sine_amount}
-use Rattle.earth_rotation.proofs.Bounds.{amount_of}
-use Rattle.earth_rotation.proofs.SmallAngles.{small_ends}
 use Rattle.earth_rotation.proofs.angles.small_sine.Goals as goal
 
 pub returns-clause-amount : goal.returns-clause-amount

@@ -7,7 +7,7 @@ use Rattle.sat_model.proofs.EndsLemmas.{wider_ends}
 use Rattle.sat_model.proofs.FittingLemmas.{in_box}
 use Rattle.sat_model.proofs.RootLemmas.{root_is}
 use Rattle.sat_model.proofs.SquareLemmas.{root_between}
-use Rattle.earth_rotation.proofs.Bounds.{amount_of}
+use Rattle.fix_interval.proofs.ProductEnds.{amount_of}
 use Rattle.earth_rotation.proofs.Offsets.{offset_amount, offset_fits, offset_ends, offset_held, squares_fit, range_ends}
 use Rattle.earth_rotation.proofs.ranges.range.Goals as goal
 

@@ -2,12 +2,11 @@ use Rattle.std.proofs.Common.{◌+◌, ◌*◌, ◌/◌, arith, lit≤}
 use Rattle.sat_model.proofs.EndsLemmas.{wider_ends}
 use Rattle.sat_model.proofs.IntervalLemmas.{member_within}
 use Rattle.fix_interval.specs.Factors.{factor_bound}
-use Rattle.fix_interval.proofs.ProductEnds.{spread_by}
+use Rattle.fix_interval.proofs.ProductEnds.{spread_by, amount_of, spread}
 use Rattle.interval_trig.proofs.CircleLaw.{sine_and_cosine}
+use Rattle.interval_trig.proofs.SmallAngles.{cosine_natural}
 use Rattle.earth_rotation.specs.TurnSizes.{turn_reach, near_reach, narrow_width, reach_after}
 use Rattle.earth_rotation.specs.RoundSizes.{angle_amount, sine_amount, cosine_amount, angle_width, sine_width, cosine_width, turned_width}
-use Rattle.earth_rotation.proofs.Bounds.{amount_of, spread}
-use Rattle.earth_rotation.proofs.SmallAngles.{cosine_natural}
 use Rattle.earth_rotation.proofs.TurnWidths.{cosine_reach, sine_reach, reach_sum, cosine_spread, sine_spread, turned_spread}
 use Rattle.earth_rotation.proofs.turns.turned_over.Goals as goal
 

@@ -1,11 +1,10 @@
 -- What the equations allow of one satellite: its place and range as seen from a point, and the corrected
--- pseudorange; and whether it is consistent with a point and a clock offset.
-use Rattle.std.specs.Prelude.{ℕ, ℤ, pos, ◌-ℤ◌}
+-- pseudorange.
+use Rattle.std.specs.Prelude.{ℕ, ℤ}
 use Rattle.sat_model.specs.ClockChain.{ClockChain}
 use Rattle.sat_model.specs.MeanMotion.{MeanMotion}
 use Rattle.sat_model.specs.OrbitChain.{OrbitChain}
 use Rattle.sat_model.specs.Pseudorange.{Codes, is_single, IsPseudorange, IsSent, IsCorrected}
-use Rattle.sat_model.specs.Intervals.{Between}
 use Rattle.sat_model.specs.Turn.{Turn}
 use Rattle.sat_model.specs.declared.boxes.Pos.{Pos}
 use Rattle.sat_model.specs.declared.elements.Elements.{Elements}
@@ -34,13 +33,3 @@ pub record ChainValue (seen : Observed) (p : Pos) (x y z corrected : ℤ) (range
   pub sent_y : ℤ
   pub orbit : OrbitChain seen.el n t sent_x sent_y z
   pub turn : Turn p sent_x sent_y z x y range
-
--- some such value leaves an error from lo to hi at p and the clock offset b
-pub record IsConsistent (seen : Observed) (lo hi : ℤ) (p : Pos) (b : ℤ) : Type 0 where
-  pub x : ℤ
-  pub y : ℤ
-  pub z : ℤ
-  pub corrected : ℤ
-  pub range : ℕ
-  pub value : ChainValue seen p x y z corrected range
-  pub allowed : Between lo hi (corrected -ℤ pos range -ℤ b)
