@@ -1,8 +1,8 @@
 use Rattle.std.proofs.Common.{w64}
 use Rattle.std.proofs.lemmas.Int.{to_z-of_z}
 use Rattle.sat_model.specs.Boxes.{grid_box}
-use Rattle.paving_log_check.proofs.CutLemmas.{left_high}
-use Rattle.paving_log_check.proofs.cuts.left_by.Goals as goal
+use Rattle.live_boxes.proofs.CutLemmas.{left_high}
+use Rattle.live_boxes.proofs.cuts.left_by.Goals as goal
 
 pub returns-else-face-eq0 : goal.returns-else-face-eq0
 returns-else-face-eq0 c =

@@ -2,8 +2,8 @@ use Rattle.std.proofs.Common.{arith, to_z, of_z, w64}
 use Rattle.std.specs.Prelude.{pos, ◌+ℤ◌, ◌-ℤ◌}
 use Rattle.std.proofs.lemmas.Int.{ints}
 use Rattle.sat_model.specs.Boxes.{grid_box}
-use Rattle.paving_log_check.proofs.CutLemmas.{proper_low, proper_high, slab_low, slab_high}
-use Rattle.paving_log_check.proofs.cuts.slab_of.Goals as goal
+use Rattle.live_boxes.proofs.CutLemmas.{proper_low, proper_high, slab_low, slab_high}
+use Rattle.live_boxes.proofs.cuts.slab_of.Goals as goal
 
 pub overflow_sub-bound : goal.overflow_sub-bound
 overflow_sub-bound c = omega (arith, ints, proper_low c.args.face c.args.bound c.args.part.now c.if-face-eq0.true c.requires)

@@ -7,7 +7,7 @@ ghost use Rattle.sat_model.specs.Fold.{IsProperCut, left_by_cut, slab_of_cut};
 use sat_model::Box3;
 
 /// Whether a cut takes something off the box, and leaves something.
-pub(crate) fn is_proper_cut(part: &Box3, face: u8, bound: i64) -> bool
+pub fn is_proper_cut(part: &Box3, face: u8, bound: i64) -> bool
     ensures { IsTrue result ↔ IsProperCut face bound (grid_box part.now) }
 {
     let (lo, hi) = part.side(face / 2);
@@ -19,7 +19,7 @@ pub(crate) fn is_proper_cut(part: &Box3, face: u8, bound: i64) -> bool
 }
 
 /// The slab beyond the bound at a face, which a cut takes off.
-pub(crate) fn slab_of(part: &Box3, face: u8, bound: i64) -> Box3
+pub fn slab_of(part: &Box3, face: u8, bound: i64) -> Box3
     requires { IsProperCut face bound (grid_box part.now) }
     ensures { grid_box result ≡ slab_of_cut face bound (grid_box part.now) }
 {

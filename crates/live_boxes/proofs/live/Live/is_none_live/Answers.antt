@@ -1,8 +1,8 @@
 use Rattle.std.proofs.Common.{sym, ap, ◌∙◌, None, below_more}
 use Rattle.std.proofs.lemmas.List.{get_or-map}
-use Rattle.paving_log.specs.Values.{box_option}
-use Rattle.paving_log_check.proofs.StageLemmas.{all_none}
-use Rattle.paving_log_check.proofs.live.Live.is_none_live.Goals as goal
+use Rattle.live_boxes.specs.Stages.{box_option}
+use Rattle.live_boxes.proofs.StageLemmas.{all_none}
+use Rattle.live_boxes.proofs.live.Live.is_none_live.Goals as goal
 
 pub loop-found-preserved : goal.loop-found-preserved
 loop-found-preserved c = below_more _ _ c.loop-found.invariant
