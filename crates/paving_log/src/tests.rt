@@ -266,3 +266,66 @@ fn a_log_that_was_read_is_written_as_it_was(rt: HostRuntime) -> Result<(), Fail>
     }
     Ok(())
 }
+
+/// The boxes of an epoch with this search box and these steps.
+fn cover(
+    alloc: Global,
+    root: Option<Box3>,
+    steps: &[Step],
+) -> Result<Vec<Box3>, NoMemory>
+    requires { IfSome root (λ box. StepsFold (first_stage (grid_box box)) steps.now) }
+{
+    let epoch = LogEpoch {
+        line: 3,
+        index: 1,
+        ps: 0,
+        n: 0,
+        few: root.is_none(),
+        sats: Vec::new(alloc),
+        root,
+        steps: Vec::from_slice(alloc, steps)?,
+        done: 0,
+    };
+    cover_boxes(alloc, &epoch)
+}
+
+#[test]
+fn the_cover_has_the_kept_boxes_in_order_of_closing(rt: HostRuntime) -> Result<(), Fail> {
+    let root = Box3 {
+        lo: Pos { x: 0, y: 0, z: 0 },
+        hi: Pos { x: 7, y: 3, z: 1 },
+    };
+    let low_half = Box3 {
+        lo: Pos { x: 0, y: 0, z: 0 },
+        hi: Pos { x: 3, y: 3, z: 1 },
+    };
+    let high_quarter = Box3 {
+        lo: Pos { x: 4, y: 2, z: 0 },
+        hi: Pos { x: 7, y: 3, z: 1 },
+    };
+    let steps = [
+        Step::Split { id: 0, axis: 0 },
+        Step::Split { id: 2, axis: 1 },
+        Step::Outside { id: 3 },
+        Step::Edge {
+            id: 4,
+            lo: -1,
+            hi: 1,
+        },
+        Step::Inside {
+            id: 1,
+            clock: 0,
+            lo: -1,
+            hi: 1,
+        },
+    ];
+    match cover(rt.alloc(), Some(root), &steps) {
+        Ok(boxes) => assert_eq!(rt; boxes.as_slice(), &[high_quarter, low_half][..]),
+        Err(NoMemory) => assert!(rt; false, "no memory"),
+    }
+    match cover(rt.alloc(), None, &steps) {
+        Ok(boxes) => assert!(rt; boxes.is_empty()),
+        Err(NoMemory) => assert!(rt; false, "no memory"),
+    }
+    Ok(())
+}
