@@ -11,3 +11,4 @@ pub mod SatelliteLemmas
 pub mod OwnLemmas
 pub mod RowsLemmas
 pub mod BuiltLemmas
+pub mod CoverLemmas

@@ -7,3 +7,4 @@ pub mod Faults
 pub mod RowsText
 pub mod Taking
 pub mod Answers
+pub mod CoverBoxes

@@ -1,14 +1,9 @@
 -- The plain value of a log.
-use Rattle.std.specs.Prelude.{map, Option, None, Some}
-use Rattle.sat_model.specs.declared.boxes.Box3.{Box3}
-use Rattle.sat_model.specs.Boxes.{GridBox, grid_box}
+use Rattle.std.specs.Prelude.{map}
 use Rattle.sat_model.specs.Logs.{Block, LogValue}
+use Rattle.live_boxes.specs.Stages.{box_option}
 use Rattle.paving_log.specs.declared.log.Log.{Log}
 use Rattle.paving_log.specs.declared.log.LogEpoch.{LogEpoch}
-
-abbrev pub box_option : Option Box3 → Option GridBox
-box_option None = None
-box_option (Some part) = Some (grid_box part)
 
 abbrev pub block_of : LogEpoch → Block
 block_of epoch = record {

@@ -1,6 +1,7 @@
 //! The log of a paving, and its rows alone: the value, and its one text.
 #![tactic(auto)]
 
+mod cover;
 mod entries;
 mod header;
 mod line;
@@ -16,6 +17,7 @@ mod take;
 mod texts;
 mod write;
 
+pub use cover::cover_boxes;
 pub use entries::rows_among;
 pub use log::{Log, LogEpoch, LogError};
 pub use own_tests::{

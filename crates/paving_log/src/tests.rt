@@ -1,5 +1,10 @@
+ghost use Rattle.std.specs.Prelude.{IfSome};
+ghost use Rattle.live_boxes.specs.Folding.{StepsFold};
+ghost use Rattle.sat_model.specs.Boxes.{grid_box};
+ghost use Rattle.sat_model.specs.Fold.{first_stage};
+
 use super::*;
-use sat_model::{Rules, Sat, SatEntry, Skip, Step};
+use sat_model::{Box3, NoMemory, Pos, Rules, Sat, SatEntry, Skip, Step};
 use std::alloc::{AllocError, Global};
 use std::test::Fail;
 
@@ -263,6 +268,104 @@ fn a_log_that_was_read_is_written_as_it_was(rt: HostRuntime) -> Result<(), Fail>
     match read_log(rt.alloc(), text.as_bytes()) {
         Ok(log) => assert_eq!(rt; written(rt.alloc(), &log)?, text),
         Err(error) => assert!(rt; false, "refused: {error:?}"),
+    }
+    Ok(())
+}
+
+/// The boxes of an epoch with this search box and these steps.
+fn cover(alloc: Global, root: Option<Box3>, steps: &[Step]) -> Result<Vec<Box3>, NoMemory>
+    requires { IfSome root (λ box. StepsFold (first_stage (grid_box box)) steps.now) }
+{
+    let epoch = LogEpoch {
+        line: 3,
+        index: 1,
+        ps: 0,
+        n: 0,
+        few: root.is_none(),
+        sats: Vec::new(alloc),
+        root,
+        steps: Vec::from_slice(alloc, steps)?,
+        done: 0,
+    };
+    cover_boxes(alloc, &epoch)
+}
+
+#[test]
+fn the_cover_of_the_log_is_its_search_box(rt: HostRuntime) -> Result<(), Fail> {
+    let root = Box3 {
+        lo: Pos {
+            x: -1_000_000,
+            y: -900_000,
+            z: -900_000,
+        },
+        hi: Pos {
+            x: 1_000_000,
+            y: 900_000,
+            z: 900_000,
+        },
+    };
+    let steps = [Step::Edge {
+        id: 0,
+        lo: -1_400_000,
+        hi: 1_400_000,
+    }];
+    if LOG.len() > 4_000_000_000 {
+        return Ok(());
+    }
+    match read_log(rt.alloc(), LOG.as_bytes()) {
+        Ok(log) => {
+            assert_eq!(rt; log.epochs.len(), 1);
+            for epoch in &log.epochs {
+                assert_eq!(rt; epoch.root, Some(root));
+                assert_eq!(rt; epoch.steps.as_slice(), &steps[..]);
+            }
+        }
+        Err(error) => assert!(rt; false, "refused: {error:?}"),
+    }
+    match cover(rt.alloc(), Some(root), &steps) {
+        Ok(boxes) => assert_eq!(rt; boxes.as_slice(), &[root][..]),
+        Err(NoMemory) => assert!(rt; false, "no memory"),
+    }
+    Ok(())
+}
+
+#[test]
+fn the_cover_has_the_kept_boxes_in_order_of_closing(rt: HostRuntime) -> Result<(), Fail> {
+    let root = Box3 {
+        lo: Pos { x: 0, y: 0, z: 0 },
+        hi: Pos { x: 7, y: 3, z: 1 },
+    };
+    let low_half = Box3 {
+        lo: Pos { x: 0, y: 0, z: 0 },
+        hi: Pos { x: 3, y: 3, z: 1 },
+    };
+    let high_quarter = Box3 {
+        lo: Pos { x: 4, y: 2, z: 0 },
+        hi: Pos { x: 7, y: 3, z: 1 },
+    };
+    let steps = [
+        Step::Split { id: 0, axis: 0 },
+        Step::Split { id: 2, axis: 1 },
+        Step::Outside { id: 3 },
+        Step::Edge {
+            id: 4,
+            lo: -1,
+            hi: 1,
+        },
+        Step::Inside {
+            id: 1,
+            clock: 0,
+            lo: -1,
+            hi: 1,
+        },
+    ];
+    match cover(rt.alloc(), Some(root), &steps) {
+        Ok(boxes) => assert_eq!(rt; boxes.as_slice(), &[high_quarter, low_half][..]),
+        Err(NoMemory) => assert!(rt; false, "no memory"),
+    }
+    match cover(rt.alloc(), None, &steps) {
+        Ok(boxes) => assert!(rt; boxes.is_empty()),
+        Err(NoMemory) => assert!(rt; false, "no memory"),
     }
     Ok(())
 }

@@ -11,7 +11,8 @@ use Rattle.sat_model.specs.Fold.{Stage, first_stage, after}
 use Rattle.sat_model.specs.Logs.{Block, LogValue, rows_of, lines_with, lines_in, IsNumberedFrom}
 use Rattle.sat_model.specs.Verdicts.{StepsPass, StepsFail, SuitsNumber, CountsRows, BlockPasses, BlockFails, BlocksPass, BlocksFail, Judged, FirstFault}
 use Rattle.paving_log.specs.RowsText.{OwnPasses}
-use Rattle.paving_log.specs.Values.{block_of, box_option}
+use Rattle.live_boxes.specs.Stages.{box_option}
+use Rattle.paving_log.specs.Values.{block_of}
 use Rattle.paving_log.specs.declared.log.LogEpoch.{LogEpoch}
 use Rattle.paving_log.proofs.OwnLemmas.{rows_le_lines, IsBlockAt}
 

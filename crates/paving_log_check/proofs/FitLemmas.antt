@@ -30,7 +30,8 @@ use Rattle.sat_rows.specs.Fitting.{IsConsistent, Agrees, Fits}
 use Rattle.sat_rows.specs.OwnRows.{HoldsChain, IsOwnRow, AreOwnLines}
 use Rattle.sat_rows.specs.declared.lines.SatLine.{SatLine}
 use Rattle.sat_rows.specs.declared.lines.SatLine.TheVariants.{Usable, Skipped}
-use Rattle.paving_log.specs.Values.{block_of, box_option}
+use Rattle.live_boxes.specs.Stages.{box_option}
+use Rattle.paving_log.specs.Values.{block_of}
 use Rattle.paving_log.specs.declared.log.LogEpoch.{LogEpoch}
 use Rattle.paving_log_check.specs.Admissible.{AreOwn, AdmitsFrom}
 use Rattle.paving_log_check.specs.Epochs.{BodyPassesAt}

@@ -1,6 +1,4 @@
 pub mod SpanLemmas
-pub mod CutLemmas
-pub mod StageLemmas
 pub mod StepLemmas
 pub mod BlockLemmas
 pub mod SatLineLemmas

@@ -6,7 +6,7 @@ ghost use Rattle.sat_model.specs.ClockSpans.{inner_ends, IsShownInner};
 ghost use Rattle.sat_model.specs.Relaxed.{holds};
 ghost use Rattle.sat_model.specs.Verdicts.{CutsEmptySlab, HoldsHull, IsLong};
 
-use crate::cuts::{is_proper_cut, slab_of};
+use live_boxes::{is_proper_cut, slab_of};
 use relaxed_meet::{clock_hull, inner_span, shown_empty};
 use sat_model::{Box3, Row, Rules};
 

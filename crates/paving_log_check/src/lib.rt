@@ -4,12 +4,11 @@
 
 mod blocks;
 mod claims;
-mod cuts;
 mod epochs;
 mod faults;
 mod files;
+mod folds;
 mod gps;
-mod live;
 mod logs;
 mod sat_lines;
 mod steps;
@@ -17,6 +16,7 @@ mod verdict;
 
 pub use epochs::check_epoch;
 pub use files::check_with;
+pub use folds::judged_folds;
 pub use gps::check;
 pub use logs::judge;
 pub use verdict::{Fault, Verdict};

@@ -5,7 +5,8 @@ use Rattle.sat_model.specs.StepKinds.{is_kept_step}
 use Rattle.sat_model.specs.Fold.{first_stage}
 use Rattle.sat_model.specs.Logs.{rows_of, lines_with}
 use Rattle.sat_model.proofs.KeptLemmas.{kept_of_steps}
-use Rattle.paving_log.specs.Values.{block_of, box_option}
+use Rattle.live_boxes.specs.Stages.{box_option}
+use Rattle.paving_log.specs.Values.{block_of}
 use Rattle.paving_log_check.proofs.blocks.kept_boxes.Goals as goal
 
 pub returns-in-Some-clause-value : goal.returns-in-Some-clause-value

@@ -1,7 +1,8 @@
 use Rattle.std.proofs.Common.{arith, ap, sym, length, ◌∙◌}
 use Rattle.std.specs.Prelude.{is_none}
 use Rattle.sat_model.specs.Boxes.{grid_box}
-use Rattle.paving_log.specs.Values.{block_of, box_option}
+use Rattle.live_boxes.specs.Stages.{box_option}
+use Rattle.paving_log.specs.Values.{block_of}
 use Rattle.paving_log_check.proofs.BlockLemmas.{enough_rows}
 use Rattle.paving_log_check.proofs.EpochLemmas.{body_decided}
 use Rattle.paving_log_check.proofs.epochs.epoch_fault.Goals as goal

@@ -3,7 +3,8 @@ use Rattle.std.proofs.lemmas.Int.{ints}
 use Rattle.std.proofs.lemmas.Result.{err_from_is_err_and}
 use Rattle.sat_model.specs.Boxes.{grid_box}
 use Rattle.sat_model.specs.Logs.{rows_of}
-use Rattle.paving_log.specs.Values.{block_of, box_option}
+use Rattle.live_boxes.specs.Stages.{box_option}
+use Rattle.paving_log.specs.Values.{block_of}
 use Rattle.log_writer.specs.declared.fault.WriteFault.TheVariants as why
 use Rattle.log_writer.proofs.BlockLemmas.{CanPave, rows_le_lines, first_is, first_ended, sats_ended_early, opening_went, none_wrote, run_wrote, run_not_begun}
 use Rattle.log_writer.proofs.writer.Writer.put_epoch.Goals as goal

@@ -1,0 +1,25 @@
+-- Steps that pass the tests of a log can be taken.
+use Rattle.std.proofs.Common.{ℕ, arith, List, [], ◌∷◌}
+use Rattle.std.proofs.lemmas.Int.{ints}
+use Rattle.sat_model.specs.declared.rules.Rules.{Rules}
+use Rattle.sat_model.specs.declared.satellites.Row.{Row}
+use Rattle.sat_model.specs.declared.steps.Step.{Step}
+use Rattle.sat_model.specs.declared.steps.Step.TheVariants.{Cut, Split, Outside, Inside, Edge}
+use Rattle.sat_model.specs.Boxes.{GridBox}
+use Rattle.sat_model.specs.Fold.{Stage, after}
+use Rattle.sat_model.specs.Verdicts.{IsLong, StepPasses, StepsPass}
+use Rattle.live_boxes.specs.Folding.{IsDivisible, StepFolds, StepsFold}
+
+long_divisible : (rules : Rules) (axis : ℕ) (part : GridBox) → IsLong rules axis part → IsDivisible axis part
+long_divisible rules axis part long = omega (arith, ints, long, rules.wide)
+
+pub step_folds : (rows : List Row) (rules : Rules) (stage : Stage) (step : Step) → StepPasses rows rules stage step → StepFolds stage step
+step_folds rows rules stage (Cut id face bound) (part, is, (proper, empty)) = (part, is, proper)
+step_folds rows rules stage (Split id axis) (part, is, long, left) = (part, is, long_divisible rules axis part long)
+step_folds rows rules stage (Outside id) (part, is, empty) = (part, is)
+step_folds rows rules stage (Inside id clock lo hi) (part, is, inner, hull) = (part, is)
+step_folds rows rules stage (Edge id lo hi) (part, is, hull) = (part, is)
+
+pub steps_fold : (rows : List Row) (rules : Rules) (done : ℕ) (stage : Stage) (steps : List Step) → StepsPass rows rules done stage steps → StepsFold stage steps
+steps_fold rows rules done stage [] h = tt
+steps_fold rows rules done stage (step ∷ steps) h = (step_folds rows rules stage step h.0, steps_fold rows rules done (after stage step) steps h.1)

@@ -1,0 +1,8 @@
+//! The live boxes of an epoch, folded over its steps.
+#![tactic(auto)]
+
+mod cuts;
+mod live;
+
+pub use cuts::{is_proper_cut, slab_of};
+pub use live::Live;

@@ -1,0 +1,117 @@
+//! The boxes of an epoch that no step has closed yet.
+
+ghost use Rattle.std.specs.Prelude.{◌≡◌, ◌≢◌, ◌%◌, ℕ, length, Some, None, false, IfOk, OnOk, OnErr, IsTrue};
+ghost use Rattle.sat_model.specs.declared.steps.Step.TheVariants.{Cut, Split, Outside};
+ghost use Rattle.sat_model.specs.Boxes.{grid_box};
+ghost use Rattle.sat_model.specs.Fold.{Stage, first_stage, live_box, NoneLive, after};
+
+use crate::cuts::left_by;
+use sat_model::{Box3, Step};
+use std::alloc::{AllocError, Global};
+
+/// The boxes by their numbers, none in place of a closed one. The root has number 0, and each split
+/// gives the next two.
+#[derive(Debug, Drop)]
+pub struct Live {
+    boxes: Vec<Option<Box3>>,
+    ghost odd: { length boxes.items % 2 ≡ 1 },
+}
+
+impl Live {
+    ghost use Rattle.live_boxes.specs.Stages.{box_option, stage_of};
+    ghost use Rattle.live_boxes.specs.Folding.{HasLive, StepFolds};
+
+    /// The root alone is live.
+    pub fn of_root(alloc: Global, root: &Box3) -> Result<Live, AllocError>
+        ensures { IfOk result (λ live. stage_of live ≡ first_stage (grid_box root.now)) }
+    {
+        let mut boxes = Vec::new(alloc);
+        boxes.push(Some(*root))?;
+        Ok(Live { boxes })
+    }
+
+    /// The live box of a number.
+    pub fn box_of(&self, id: u32) -> Option<Box3>
+        ensures { box_option result ≡ live_box (stage_of self.now) id }
+    {
+        match self.boxes.get(id as usize) {
+            Some(found) => *found,
+            None => None,
+        }
+    }
+
+    /// How many splits were made.
+    pub fn splits(&self) -> usize
+        ensures { result ≡ (stage_of self.now).splits }
+    {
+        self.boxes.len() / 2
+    }
+
+    /// Whether no box is live.
+    pub fn is_none_live(&self) -> bool
+        ensures yes { IsTrue result → NoneLive (stage_of self.now) }
+        ensures no { (result ≡ false) → (id : ℕ) × (live_box (stage_of self.now) id ≢ None) }
+    {
+        for found in &self.boxes {
+            match found {
+                Some(_) => return false,
+                None => {}
+            }
+        }
+        true
+    }
+
+    /// Takes a step: a cut leaves a part of its box, a split closes its box and opens the two halves, and
+    /// each other step closes its box. Where memory runs out the boxes are as they were.
+    pub fn take(&mut self, step: &Step) -> Result<(), AllocError>
+        requires { StepFolds (stage_of self.old) step.now }
+        ensures ok { OnOk result (stage_of self.new ≡ after (stage_of self.old) step.now) }
+        ensures err { OnErr result (stage_of self.new ≡ stage_of self.old) }
+    {
+        match step {
+            Step::Cut { id, face, bound } => {
+                self.cut(*id, *face, *bound);
+                Ok(())
+            }
+            Step::Split { id, axis } => self.split(*id, *axis),
+            Step::Outside { id } | Step::Inside { id, .. } | Step::Edge { id, .. } => {
+                self.close(*id);
+                Ok(())
+            }
+        }
+    }
+
+    /// The live box of a number that has one.
+    fn part_of(&self, id: u32) -> Box3
+        requires { HasLive (stage_of self.now) id }
+        ensures { live_box (stage_of self.now) id ≡ Some (grid_box result) }
+    {
+        self.box_of(id).unwrap()
+    }
+
+    fn cut(&mut self, id: u32, face: u8, bound: i64)
+        requires { StepFolds (stage_of self.old) (Cut id face bound) }
+        ensures { stage_of self.new ≡ after (stage_of self.old) (Cut id face bound) }
+    {
+        let part = self.part_of(id);
+        self.boxes[id as usize] = Some(left_by(&part, face, bound));
+    }
+
+    fn split(&mut self, id: u32, axis: u8) -> Result<(), AllocError>
+        requires { StepFolds (stage_of self.old) (Split id axis) }
+        ensures ok { OnOk result (stage_of self.new ≡ after (stage_of self.old) (Split id axis)) }
+        ensures err { OnErr result (stage_of self.new ≡ stage_of self.old) }
+    {
+        let (low, high) = self.part_of(id).halves(axis);
+        self.boxes.extend_from_slice(&[Some(low), Some(high)])?;
+        self.boxes[id as usize] = None;
+        Ok(())
+    }
+
+    fn close(&mut self, id: u32)
+        requires { HasLive (stage_of self.old) id }
+        ensures { stage_of self.new ≡ after (stage_of self.old) (Outside id) }
+    {
+        self.boxes[id as usize] = None;
+    }
+}

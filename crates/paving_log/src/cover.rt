@@ -1,0 +1,54 @@
+//! The boxes that are left of a search box.
+
+ghost use Rattle.std.specs.Prelude.{◌≡◌, map, option_to_list, IfOk};
+ghost use Rattle.sat_model.specs.Boxes.{grid_box};
+ghost use Rattle.sat_model.specs.Fold.{first_stage, taken_by, pieces};
+ghost use Rattle.live_boxes.specs.Folding.{StepsFold};
+ghost use Rattle.live_boxes.specs.Stages.{box_option, stage_of};
+ghost use Rattle.paving_log.specs.CoverBoxes.{BlockFolds, kept_parts, cover_of};
+ghost use Rattle.paving_log.specs.Values.{block_of};
+
+use crate::log::LogEpoch;
+use live_boxes::Live;
+use sat_model::{Box3, NoMemory, Step};
+use std::alloc::{AllocError, Global};
+
+/// The box that the step closes inside or at the edge.
+fn kept_by(live: &Live, step: &Step) -> Option<Box3>
+    ensures { option_to_list (box_option result) ≡ kept_parts (taken_by (stage_of live.now) step.now) }
+{
+    match step {
+        Step::Inside { id, .. } | Step::Edge { id, .. } => live.box_of(*id),
+        Step::Cut { .. } | Step::Split { .. } | Step::Outside { .. } => None,
+    }
+}
+
+/// The boxes that the steps close inside or at the edge, in order of closing.
+fn boxes_kept(alloc: Global, root: &Box3, steps: &[Step]) -> Result<Vec<Box3>, AllocError>
+    requires { StepsFold (first_stage (grid_box root.now)) steps.now }
+    ensures { IfOk result (λ boxes. map grid_box boxes.items ≡ kept_parts (pieces (grid_box root.now) steps.now)) }
+{
+    let mut live = Live::of_root(alloc, root)?;
+    let mut boxes = Vec::new(alloc);
+    for step in steps {
+        if let Some(part) = kept_by(&live, step) {
+            boxes.push(part)?;
+        }
+        live.take(step)?;
+    }
+    Ok(boxes)
+}
+
+/// The boxes that the steps of an epoch close inside or at the edge, in order of closing, and none
+/// where the epoch has no search box. Each step is to speak of a box that is live when it comes, each cut
+/// is to take something off its box and to leave something, and each split is to divide two grid points or
+/// more: all this is so in a log that is judged to be right.
+pub fn cover_boxes(alloc: Global, epoch: &LogEpoch) -> Result<Vec<Box3>, NoMemory>
+    requires { BlockFolds (block_of epoch.now) (block_of epoch.now).root }
+    ensures { IfOk result (λ boxes. map grid_box boxes.items ≡ cover_of (block_of epoch.now) (block_of epoch.now).root) }
+{
+    match &epoch.root {
+        Some(root) => Ok(boxes_kept(alloc, root, &epoch.steps)?),
+        None => Ok(Vec::new(alloc)),
+    }
+}
