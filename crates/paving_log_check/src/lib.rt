@@ -20,6 +20,3 @@ pub use files::check_with;
 pub use gps::check;
 pub use logs::judge;
 pub use verdict::{Fault, Verdict};
-
-#[cfg(test)]
-mod tests;

@@ -1,5 +1,7 @@
-use super::*;
-use sat_model::{Rules, Sat, SatEntry, Skip, Step};
+use paving_log::{
+    Log, LogError, done_line, epoch_line, head_lines, read_log, read_rows, root_line, sat_line,
+    step_line,
+};
 use std::alloc::{AllocError, Global};
 use std::test::Fail;
 

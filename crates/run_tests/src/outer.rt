@@ -1,4 +1,4 @@
-use crate::{
+use outer_io::{
     FileShelf, MemoryShelf, MemorySink, ReadAll, Shelf, Sink, Slot, StreamSink, read_all,
     write_shelf, write_sink,
 };
