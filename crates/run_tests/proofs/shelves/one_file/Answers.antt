@@ -1,6 +1,6 @@
 use Rattle.std.proofs.Common.{arith}
 use Rattle.std.proofs.lemmas.Grind.{common_steps}
-use Rattle.outer_io.proofs.Naming.{few_have_own_names}
+use Rattle.run_tests.proofs.OwnNames.{few_have_own_names}
 use Rattle.run_tests.proofs.shelves.one_file.Goals as goal
 
 pub make-requires : goal.make-requires
