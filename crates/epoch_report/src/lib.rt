@@ -10,6 +10,3 @@ pub use counts::Counts4;
 pub use lengths::metres;
 pub use lines::{epoch_text, step_text, total_text};
 pub use paving_log::Line;
-
-#[cfg(test)]
-mod tests;

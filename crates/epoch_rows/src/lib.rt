@@ -6,6 +6,3 @@ mod lines;
 mod rows;
 
 pub use rows::rows_log;
-
-#[cfg(test)]
-mod tests;

@@ -7,6 +7,3 @@ mod words;
 
 pub use fields::{amount, count, place, satellite, skip, span, time};
 pub use words::{Rest, is_ended, number, word};
-
-#[cfg(test)]
-mod tests;

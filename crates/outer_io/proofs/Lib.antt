@@ -1,7 +1,6 @@
 pub mod SlotLemmas
 pub mod Appending
 pub mod Moving
-pub mod Naming
 pub mod Covering
 pub mod Finding
 pub mod Marking

@@ -30,6 +30,3 @@ pub use sink::Sink;
 pub use slots::{Slot, Slots};
 pub use stream_sink::StreamSink;
 pub use writing::{write_shelf, write_sink};
-
-#[cfg(test)]
-mod tests;

@@ -26,6 +26,3 @@ pub use own_tests::{
 pub use sat_model::SatEntry;
 pub use texts::{read_log, read_rows};
 pub use write::{Line, done_line, epoch_line, head_lines, root_line, sat_line, step_line};
-
-#[cfg(test)]
-mod tests;

@@ -20,6 +20,3 @@ pub use folds::judged_folds;
 pub use gps::check;
 pub use logs::judge;
 pub use verdict::{Fault, Verdict};
-
-#[cfg(test)]
-mod tests;

@@ -12,6 +12,3 @@ pub use clocks::{clock_span, inner_span};
 pub use distance::near_far;
 pub use hull::relaxed;
 pub use shown::{BoxState, box_state, clock_hull, shown_empty, shown_inner};
-
-#[cfg(test)]
-mod tests;

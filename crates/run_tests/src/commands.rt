@@ -1,6 +1,6 @@
+use crate::shelves::{one_file, words};
 use cover_run::{Limits, Status, run};
 use outer_io::{MemoryShelf, MemorySink};
-use std::alloc::Global;
 use std::process::Abort;
 use std::test::Fail;
 
@@ -43,21 +43,6 @@ const JUDGE: Case = Case {
     err_fails: 0,
 };
 
-// A shelf with one file, on which `b.log` alone can be written, up to so many bytes.
-fn shelf(
-    alloc: Global,
-    name: &str,
-    text: &str,
-    room: u64,
-    fails: u64,
-) -> Result<MemoryShelf, Fail> {
-    let mut bytes = Vec::new(alloc);
-    bytes.extend_from_slice(text.as_bytes())?;
-    let files = vec![in alloc; (String::from_str(alloc, name)?, bytes)]?;
-    let log = String::from_str(alloc, "b.log")?;
-    Ok(MemoryShelf::make(alloc, files, log, room, vec![in alloc; fails]?)?)
-}
-
 fn expect(
     rt: &(impl Abort + AllocGlobal),
     case: &Case,
@@ -66,16 +51,14 @@ fn expect(
     err_text: &str,
 ) -> Result<(), Fail> {
     let alloc = rt.alloc();
-    let mut words = Vec::new(alloc);
-    for word in case.words {
-        words.push(String::from_str(alloc, *word)?)?;
-    }
+    let words = words(alloc, case.words)?;
     let limits = Limits {
         file: 0,
         settings: 0,
         log: case.limit.min(4_000_000_000),
     };
-    let mut shelf = shelf(alloc, "a.log", case.log, 0, case.read_fails)?;
+    let fails = vec![in alloc; case.read_fails]?;
+    let mut shelf = one_file(alloc, "a.log", case.log, "b.log", 0, fails)?;
     let mut out = MemorySink::make(alloc, case.room, vec![in alloc; case.out_fails]?)?;
     let mut err = MemorySink::make(alloc, 200, vec![in alloc; case.err_fails]?)?;
     let ended = run(alloc, &limits, &words, &mut shelf, &mut out, &mut err);
@@ -284,16 +267,14 @@ fn has_log(shelf: &MemoryShelf, first: &str, second: &str) -> bool {
 
 fn paves(rt: &(impl Abort + AllocGlobal), case: &Paving, left: &Left) -> Result<(), Fail> {
     let alloc = rt.alloc();
-    let mut words = Vec::new(alloc);
-    for word in case.words {
-        words.push(String::from_str(alloc, *word)?)?;
-    }
+    let words = words(alloc, case.words)?;
     let limits = Limits {
         file: 10_000,
         settings: 0,
         log: case.limit.min(4_000_000_000),
     };
-    let mut shelf = shelf(alloc, "a.rows", case.rows, case.room, case.fails)?;
+    let fails = vec![in alloc; case.fails]?;
+    let mut shelf = one_file(alloc, "a.rows", case.rows, "b.log", case.room, fails)?;
     let mut out = MemorySink::make(alloc, case.out_room, vec![in alloc; case.out_fails]?)?;
     let mut err = MemorySink::make(alloc, 200, Vec::new(alloc))?;
     let ended = run(alloc, &limits, &words, &mut shelf, &mut out, &mut err);

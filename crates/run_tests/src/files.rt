@@ -1,14 +1,12 @@
-ghost use Rattle.std.specs.Prelude.{◌≡◌, IfOk, string_bytes};
-ghost use Rattle.outer_io.specs.Store.{HaveOwnNames};
-
+use crate::shelves::{four_files, words};
 use cover_run::{Limits, Status, run};
 use outer_io::{MemoryShelf, MemorySink};
-use std::alloc::Global;
 use std::process::Abort;
 use std::test::Fail;
 
 // One epoch, in which the code of the second satellite is missing.
-const OBS: &str = "     3.05           OBSERVATION DATA    G                   RINEX VERSION / TYPE
+pub const OBS: &str =
+    "     3.05           OBSERVATION DATA    G                   RINEX VERSION / TYPE
 G    1 C1C                                                  SYS / # / OBS TYPES
   2024     1     7     0     0    0.0700000     GPS         TIME OF FIRST OBS
                                                             END OF HEADER
@@ -54,7 +52,8 @@ G02
 ";
 
 // One record of the first satellite.
-const NAV: &str = "     3.05           N: GNSS NAV DATA    G                   RINEX VERSION / TYPE
+pub const NAV: &str =
+    "     3.05           N: GNSS NAV DATA    G                   RINEX VERSION / TYPE
                                                             END OF HEADER
 G01 2024 01 07 00 00 00 0.000000000000D+00 0.000000000000D+00 0.000000000000D+00
      0.000000000000D+00 0.000000000000D+00 0.000000000000D+00 0.000000000000D+00
@@ -73,7 +72,7 @@ const BAD_NAV: &str =
 G01 2024 01 07 00 00 00 0.000000000000D+0x 0.000000000000D+00 0.000000000000D+00
 ";
 
-const SETTINGS: &str = "\
+pub const SETTINGS: &str = "\
 [search]
 centre = [6378137000, 0, 0]
 half = 200000
@@ -113,26 +112,6 @@ const CHECK: Case = Case {
     limit: 2_000,
 };
 
-// A file with a name and bytes.
-fn file(alloc: Global, name: &str, text: &str) -> Result<(String, Vec<u8>), Fail>
-    ensures { IfOk result (λ file. string_bytes file.0 ≡ name.now) }
-{
-    let mut bytes = Vec::new(alloc);
-    bytes.extend_from_slice(text.as_bytes())?;
-    Ok((String::from_str(alloc, name)?, bytes))
-}
-
-// The four files.
-fn files(alloc: Global, case: &Case) -> Result<Vec<(String, Vec<u8>)>, Fail>
-    ensures { IfOk result (λ files. HaveOwnNames files.items) }
-{
-    let obs = file(alloc, "a.obs", case.obs)?;
-    let nav = file(alloc, "a.nav", case.nav)?;
-    let settings = file(alloc, "a.toml", case.settings)?;
-    let log = file(alloc, "a.log", case.log)?;
-    Ok(vec![in alloc; obs, nav, settings, log]?)
-}
-
 fn expect(
     rt: &(impl Abort + AllocGlobal),
     case: &Case,
@@ -141,17 +120,15 @@ fn expect(
     err_text: &str,
 ) -> Result<(), Fail> {
     let alloc = rt.alloc();
-    let mut words = Vec::new(alloc);
-    for word in case.words {
-        words.push(String::from_str(alloc, *word)?)?;
-    }
+    let words = words(alloc, case.words)?;
     let limits = Limits {
         file: case.limit.min(4_000_000_000),
         settings: 2_000,
         log: 2_000,
     };
     let name = String::from_str(alloc, "b.log")?;
-    let mut shelf = MemoryShelf::make(alloc, files(alloc, case)?, name, 0, Vec::new(alloc))?;
+    let files = four_files(alloc, case.obs, case.nav, case.settings, case.log)?;
+    let mut shelf = MemoryShelf::make(alloc, files, name, 0, Vec::new(alloc))?;
     let mut out = MemorySink::make(alloc, 100, Vec::new(alloc))?;
     let mut err = MemorySink::make(alloc, 200, Vec::new(alloc))?;
     let ended = run(alloc, &limits, &words, &mut shelf, &mut out, &mut err);
@@ -274,18 +251,10 @@ fn an_epoch_of_few_satellites_is_solved(rt: HostRuntime) -> Result<(), Fail> {
         ),
     ];
     for (room, status, out_text, err_text, log) in table {
-        let mut words = Vec::new(alloc);
-        for word in ["solve", "a.obs", "a.nav", "a.toml", "b.log"] {
-            words.push(String::from_str(alloc, word)?)?;
-        }
+        let words = words(alloc, &["solve", "a.obs", "a.nav", "a.toml", "b.log"])?;
         let name = String::from_str(alloc, "b.log")?;
-        let mut shelf = MemoryShelf::make(
-            alloc,
-            files(alloc, &CHECK)?,
-            name,
-            room,
-            Vec::new(alloc),
-        )?;
+        let files = four_files(alloc, OBS, NAV, SETTINGS, LOG)?;
+        let mut shelf = MemoryShelf::make(alloc, files, name, room, Vec::new(alloc))?;
         let mut out = MemorySink::make(alloc, 100, Vec::new(alloc))?;
         let mut err = MemorySink::make(alloc, 200, Vec::new(alloc))?;
         let ended = run(alloc, &limits, &words, &mut shelf, &mut out, &mut err);

@@ -1,7 +1,16 @@
-//! Tests alone: whole runs of the program over files and sinks in memory.
+//! Tests alone: whole runs of the program over files and sinks in memory, these files and sinks themselves,
+//! and the checker's tests of one epoch and of one row.
 #![tactic(auto)]
 
 #[cfg(test)]
 mod commands;
 #[cfg(test)]
+mod epochs;
+#[cfg(test)]
 mod files;
+#[cfg(test)]
+mod narrowing;
+#[cfg(test)]
+mod outer;
+#[cfg(test)]
+mod shelves;

@@ -1,4 +1,4 @@
-use super::*;
+use epoch_rows::rows_log;
 use error_bounds::read_settings;
 use paving_log::Log;
 use rinex_nav::{Nav, read_nav};

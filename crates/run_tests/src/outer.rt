@@ -1,4 +1,5 @@
-use crate::{
+use crate::shelves::one_file;
+use outer_io::{
     FileShelf, MemoryShelf, MemorySink, ReadAll, Shelf, Sink, Slot, StreamSink, read_all,
     write_shelf, write_sink,
 };
@@ -7,11 +8,7 @@ use std::test::Fail;
 
 // A shelf with the file `a.log`, which is its log too, and room for five bytes.
 fn shelf(alloc: Global, fails: Vec<u64>) -> Result<MemoryShelf, Fail> {
-    let mut bytes = Vec::new(alloc);
-    bytes.extend_from_slice(b"old")?;
-    let files = vec![in alloc; (String::from_str(alloc, "a.log")?, bytes)]?;
-    let log = String::from_str(alloc, "a.log")?;
-    Ok(MemoryShelf::make(alloc, files, log, 5, fails)?)
+    one_file(alloc, "a.log", "old", "a.log", 5, fails)
 }
 
 #[test]

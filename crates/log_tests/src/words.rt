@@ -1,4 +1,4 @@
-use super::*;
+use log_words::{number, satellite, skip, span};
 use std::test::Fail;
 
 #[test]

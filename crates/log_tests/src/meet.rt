@@ -1,18 +1,9 @@
-ghost use Rattle.std.specs.Prelude.{◌≡◌};
-
-use super::*;
+use crate::small_rows::only;
+use relaxed_meet::{
+    clock_hull, clock_span, inner_span, near_far, relaxed, shown_empty, shown_inner,
+};
 use sat_model::{Box3, Pos, Row, Sat, Span};
 use std::test::Fail;
-
-fn only(number: i64) -> Span
-    ensures lo { result.lo ≡ number }
-    ensures hi { result.hi ≡ number }
-{
-    Span {
-        lo: number,
-        hi: number,
-    }
-}
 
 #[test]
 fn spans_meet_where_enough_hold(rt: HostRuntime) -> Result<(), Fail> {

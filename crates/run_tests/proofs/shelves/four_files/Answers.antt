@@ -1,5 +1,5 @@
 use Rattle.run_tests.proofs.OwnNames.{four_own_names}
-use Rattle.run_tests.proofs.files.files.Goals as goal
+use Rattle.run_tests.proofs.shelves.four_files.Goals as goal
 
 pub returns : goal.returns
 returns c =

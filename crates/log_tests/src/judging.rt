@@ -1,20 +1,15 @@
 //! Small logs whose verdicts were worked out by hand.
-#![tactic(auto)]
 
-ghost use Rattle.std.specs.Prelude.{◌≡◌, ◌≤◌, ◌≤ℤ◌, pos, length};
+ghost use Rattle.std.specs.Prelude.{◌≡◌, ◌≤◌, length};
 ghost use Rattle.sat_model.specs.Logs.{lines_in};
-ghost use Rattle.sat_model.specs.Sizes.{IsPlaceSize, IsErrorSize};
 ghost use Rattle.paving_log.specs.Values.{block_of};
 
-use crate::logs::judge;
-use crate::verdict::{Fault, Verdict};
+use crate::small_rows::{FAR, cuboid, edge, five_rows, four_rows, row, rules, split, up_to};
 use paving_log::{Log, LogEpoch};
-use sat_model::{Box3, NoMemory, Pos, Row, Rules, Sat, SatEntry, Span, Step};
+use paving_log_check::{Fault, Verdict, judge};
+use sat_model::{Box3, NoMemory, Pos, Row, Rules, SatEntry, Span, Step};
 use std::alloc::Global;
 use std::test::Fail;
-
-/// The distance of the satellites from the origin.
-const FAR: i64 = 20_000_000_000_000;
 
 fn yes(boxes: u64) -> Verdict {
     Verdict::Yes { boxes }
@@ -29,108 +24,21 @@ fn no(number: u8, line: u32) -> Verdict {
     })
 }
 
-/// The span of one number.
-fn only(number: i64) -> Span
-    ensures lo { result.lo ≡ number }
-    ensures hi { result.hi ≡ number }
-{
-    Span {
-        lo: number,
-        hi: number,
-    }
-}
-
-/// The errors of at most this amount.
-fn up_to(amount: i64) -> Span
-    requires { (pos 0 ≤ℤ amount) × (amount ≤ℤ pos 1000000000000) }
-    ensures { IsErrorSize result.lo × IsErrorSize result.hi }
-{
-    Span {
-        lo: -amount,
-        hi: amount,
-    }
-}
-
-/// A satellite whose place is known exactly, with its range in um.
-fn satellite(number: u8, place: Pos, range: i64, err: Span) -> SatEntry
-    requires place { IsPlaceSize place.x × IsPlaceSize place.y × IsPlaceSize place.z }
-    requires range { IsPlaceSize range }
-    requires err { IsErrorSize err.lo × IsErrorSize err.hi }
-{
-    SatEntry::Row(Row {
-        sat: Sat {
-            system: b'G',
-            number,
-        },
-        x: only(place.x),
-        y: only(place.y),
-        z: only(place.z),
-        range: only(range),
-        err,
-    })
-}
-
-/// Satellites 20,000 km from the origin, three of them on the axes; the first has this range.
-fn four_satellites(first_range: i64, err: Span) -> [SatEntry; 4]
-    requires range { IsPlaceSize first_range }
-    requires err { IsErrorSize err.lo × IsErrorSize err.hi }
-    ensures { length result ≡ 4 }
-{
-    let on_x = Pos { x: FAR, y: 0, z: 0 };
-    let on_y = Pos { x: 0, y: FAR, z: 0 };
-    let on_z = Pos { x: 0, y: 0, z: FAR };
-    let between = Pos {
-        x: 12_000_000_000_000,
-        y: 16_000_000_000_000,
-        z: 0,
-    };
-    [
-        satellite(1, on_x, first_range, err),
-        satellite(2, on_y, FAR, err),
-        satellite(3, on_z, FAR, err),
-        satellite(4, between, FAR, err),
-    ]
-}
-
-fn root() -> Box3 {
-    Box3 {
-        lo: Pos {
-            x: -1_000_000,
-            y: -900_000,
-            z: -900_000,
-        },
-        hi: Pos {
-            x: 1_000_000,
-            y: 900_000,
-            z: 900_000,
-        },
-    }
-}
-
-fn rules(outliers: u8, bisections: u32, width: i64) -> Rules
-    requires counts { (outliers ≤ 8) × (bisections ≤ 200000) }
-    requires width { (pos 1000 ≤ℤ width) × (width ≤ℤ pos 10000000000) }
-{
-    Rules {
-        outliers,
-        bisections,
-        width,
-    }
-}
-
 /// The verdict on a log of one paved epoch, which has as many satellites as rows.
 fn judged(
     alloc: Global,
     rules: Rules,
-    satellites: &[SatEntry],
+    rows: &[Row],
     root: Box3,
     steps: &[Step],
     done: u32,
 ) -> Result<Verdict, NoMemory>
-    requires { (length satellites.now ≤ 64) × (length steps.now ≤ 64) }
+    requires { (length rows.now ≤ 64) × (length steps.now ≤ 64) }
 {
     let mut sats = Vec::new(alloc);
-    sats.extend_from_slice(satellites)?;
+    for row in rows {
+        sats.push(SatEntry::Row(*row))?;
+    }
     let mut taken = Vec::new(alloc);
     taken.extend_from_slice(steps)?;
     let mut epochs = Vec::new(alloc);
@@ -138,7 +46,7 @@ fn judged(
         line: 3,
         index: 1,
         ps: 1_388_102_400_000_000_000_000,
-        n: satellites.len() as u32,
+        n: rows.len() as u32,
         few: false,
         sats,
         root: Some(root),
@@ -148,16 +56,8 @@ fn judged(
     judge(alloc, &Log { rules, epochs })
 }
 
-fn edge(id: u32, lo: i64, hi: i64) -> Step {
-    Step::Edge { id, lo, hi }
-}
-
 fn inside(id: u32, clock: i64, lo: i64, hi: i64) -> Step {
     Step::Inside { id, clock, lo, hi }
-}
-
-fn split(id: u32, axis: u8) -> Step {
-    Step::Split { id, axis }
 }
 
 fn cut(id: u32, face: u8, bound: i64) -> Step {
@@ -166,7 +66,7 @@ fn cut(id: u32, face: u8, bound: i64) -> Step {
 
 #[test]
 fn judges_one_box(rt: HostRuntime) -> Result<(), Fail> {
-    let satellites = four_satellites(FAR, up_to(500_000));
+    let rows = four_rows(FAR, up_to(500_000));
     let closing = edge(0, -1_400_000, 1_400_000);
     let table = [
         (&[closing][..], yes(1)),
@@ -176,17 +76,17 @@ fn judges_one_box(rt: HostRuntime) -> Result<(), Fail> {
         (&[edge(0, -1_399_999, 1_400_000)][..], no(60, 9)),
         (&[edge(0, -1_400_000, 1_399_999)][..], no(60, 9)),
         (&[edge(1, 0, 0)][..], no(56, 9)),
-        (&[split(1, 0)][..], no(56, 9)),
+        (&[split(1)][..], no(56, 9)),
         (&[closing, closing][..], no(56, 10)),
-        (&[split(0, 0)][..], no(62, 9)),
+        (&[split(0)][..], no(62, 9)),
     ];
     for (steps, want) in table {
         assert!(rt; steps.len() <= 64);
         let found = judged(
             rt.alloc(),
             rules(0, 0, 1_000_000),
-            &satellites,
-            root(),
+            &rows,
+            cuboid(),
             steps,
             0,
         )?;
@@ -197,9 +97,9 @@ fn judges_one_box(rt: HostRuntime) -> Result<(), Fail> {
 
 #[test]
 fn judges_two_halves(rt: HostRuntime) -> Result<(), Fail> {
-    let satellites = four_satellites(FAR, up_to(500_000));
+    let rows = four_rows(FAR, up_to(500_000));
     let steps = [
-        split(0, 0),
+        split(0),
         edge(1, -1_400_000, 500_000),
         edge(2, -499_999, 1_400_000),
     ];
@@ -210,7 +110,7 @@ fn judges_two_halves(rt: HostRuntime) -> Result<(), Fail> {
         (rules(0, 1, 1_000_000), 2, no(64, 12)),
     ];
     for (rules, done, want) in table {
-        let found = judged(rt.alloc(), rules, &satellites, root(), &steps, done)?;
+        let found = judged(rt.alloc(), rules, &rows, cuboid(), &steps, done)?;
         assert_eq!(rt; found, want);
     }
     Ok(())
@@ -219,13 +119,13 @@ fn judges_two_halves(rt: HostRuntime) -> Result<(), Fail> {
 /// The clock spans of the first satellite lie 10 m above those of the second and third.
 #[test]
 fn judges_an_empty_cover(rt: HostRuntime) -> Result<(), Fail> {
-    let satellites = four_satellites(20_000_010_000_000, up_to(500_000));
+    let rows = four_rows(20_000_010_000_000, up_to(500_000));
     let steps = [Step::Outside { id: 0 }];
     let found = judged(
         rt.alloc(),
         rules(0, 0, 1_000_000),
-        &satellites,
-        root(),
+        &rows,
+        cuboid(),
         &steps,
         0,
     )?;
@@ -237,26 +137,14 @@ fn judges_an_empty_cover(rt: HostRuntime) -> Result<(), Fail> {
 /// and at 1 only three of them.
 #[test]
 fn judges_an_inner_box(rt: HostRuntime) -> Result<(), Fail> {
-    let [first, second, third, fourth] = four_satellites(FAR, up_to(1_000_000));
-    let below = Pos {
-        x: 0,
-        y: 0,
-        z: -FAR,
-    };
-    let satellites = [
-        first,
-        second,
-        third,
-        fourth,
-        satellite(5, below, FAR, up_to(1_000_000)),
-    ];
+    let rows = five_rows(up_to(1_000_000));
     for (clock, want) in [(0, yes(1)), (1, no(59, 10))] {
         let steps = [inside(0, clock, -1_900_000, 1_900_000)];
         let found = judged(
             rt.alloc(),
             rules(1, 0, 1_000_000),
-            &satellites,
-            root(),
+            &rows,
+            cuboid(),
             &steps,
             0,
         )?;
@@ -276,11 +164,11 @@ fn judges_cuts(rt: HostRuntime) -> Result<(), Fail> {
     let on_x = Pos { x: FAR, y: 0, z: 0 };
     let on_y = Pos { x: 0, y: FAR, z: 0 };
     let on_z = Pos { x: 0, y: 0, z: FAR };
-    let satellites = [
-        satellite(1, on_x, FAR, up_to(5_000_000)),
-        satellite(2, on_y, FAR, up_to(50_000_000)),
-        satellite(3, on_z, FAR, up_to(50_000_000)),
-        satellite(5, low, FAR, up_to(5_000_000)),
+    let rows = [
+        row(1, on_x, FAR, up_to(5_000_000)),
+        row(2, on_y, FAR, up_to(50_000_000)),
+        row(3, on_z, FAR, up_to(50_000_000)),
+        row(5, low, FAR, up_to(5_000_000)),
     ];
     let long = Box3 {
         lo: Pos {
@@ -305,14 +193,7 @@ fn judges_cuts(rt: HostRuntime) -> Result<(), Fail> {
     ];
     for (low, want) in table {
         let steps = [low, high, closing];
-        let found = judged(
-            rt.alloc(),
-            rules(0, 0, 1_000_000),
-            &satellites,
-            long,
-            &steps,
-            0,
-        )?;
+        let found = judged(rt.alloc(), rules(0, 0, 1_000_000), &rows, long, &steps, 0)?;
         assert_eq!(rt; found, want);
     }
     Ok(())
@@ -321,24 +202,24 @@ fn judges_cuts(rt: HostRuntime) -> Result<(), Fail> {
 /// Four satellites are too few where one may be inconsistent, and one is named twice.
 #[test]
 fn judges_satellites(rt: HostRuntime) -> Result<(), Fail> {
-    let satellites = four_satellites(FAR, up_to(500_000));
+    let rows = four_rows(FAR, up_to(500_000));
     let steps = [edge(0, -1_400_000, 1_400_000)];
     let found = judged(
         rt.alloc(),
         rules(1, 0, 1_000_000),
-        &satellites,
-        root(),
+        &rows,
+        cuboid(),
         &steps,
         0,
     )?;
     assert_eq!(rt; found, no(51, 3));
-    let [first, _, third, fourth] = satellites;
+    let [first, _, third, fourth] = rows;
     let twice = [first, first, third, fourth];
     let found = judged(
         rt.alloc(),
         rules(0, 0, 1_000_000),
         &twice,
-        root(),
+        cuboid(),
         &steps,
         0,
     )?;

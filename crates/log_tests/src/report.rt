@@ -1,4 +1,5 @@
-use super::*;
+use crate::small_rows::cuboid;
+use epoch_report::{Counts4, Line, epoch_text, metres, step_text, total_text};
 use sat_model::{Box3, Pos, Step};
 use std::test::Fail;
 
@@ -41,22 +42,6 @@ fn an_epoch_begins_with_its_time_in_seconds(rt: HostRuntime) -> Result<(), Fail>
     Ok(())
 }
 
-/// A box that steps close.
-fn closed() -> Box3 {
-    Box3 {
-        lo: Pos {
-            x: -1_000_000,
-            y: -900_000,
-            z: -900_000,
-        },
-        hi: Pos {
-            x: 1_000_000,
-            y: 900_000,
-            z: 900_000,
-        },
-    }
-}
-
 /// What a cut takes off.
 fn slab() -> Box3 {
     Box3 {
@@ -75,7 +60,7 @@ fn slab() -> Box3 {
 
 #[test]
 fn a_step_is_told_by_the_box_that_it_closes_and_a_split_not(rt: HostRuntime) -> Result<(), Fail> {
-    let part = closed();
+    let part = cuboid();
     for (step, text) in [
         (
             Step::Edge {

@@ -3,7 +3,11 @@ ghost use Rattle.live_boxes.specs.Folding.{StepsFold};
 ghost use Rattle.sat_model.specs.Boxes.{grid_box};
 ghost use Rattle.sat_model.specs.Fold.{first_stage};
 
-use super::*;
+use crate::small_rows::{cuboid, edge};
+use paving_log::{
+    Log, LogEpoch, LogError, cover_boxes, done_line, epoch_line, head_lines, read_log, read_rows,
+    root_line, sat_line, step_line,
+};
 use sat_model::{Box3, NoMemory, Pos, Rules, Sat, SatEntry, Skip, Step};
 use std::alloc::{AllocError, Global};
 use std::test::Fail;
@@ -292,23 +296,8 @@ fn cover(alloc: Global, root: Option<Box3>, steps: &[Step]) -> Result<Vec<Box3>,
 
 #[test]
 fn the_cover_of_the_log_is_its_search_box(rt: HostRuntime) -> Result<(), Fail> {
-    let root = Box3 {
-        lo: Pos {
-            x: -1_000_000,
-            y: -900_000,
-            z: -900_000,
-        },
-        hi: Pos {
-            x: 1_000_000,
-            y: 900_000,
-            z: 900_000,
-        },
-    };
-    let steps = [Step::Edge {
-        id: 0,
-        lo: -1_400_000,
-        hi: 1_400_000,
-    }];
+    let root = cuboid();
+    let steps = [edge(0, -1_400_000, 1_400_000)];
     if LOG.len() > 4_000_000_000 {
         return Ok(());
     }
@@ -347,11 +336,7 @@ fn the_cover_has_the_kept_boxes_in_order_of_closing(rt: HostRuntime) -> Result<(
         Step::Split { id: 0, axis: 0 },
         Step::Split { id: 2, axis: 1 },
         Step::Outside { id: 3 },
-        Step::Edge {
-            id: 4,
-            lo: -1,
-            hi: 1,
-        },
+        edge(4, -1, 1),
         Step::Inside {
             id: 1,
             clock: 0,

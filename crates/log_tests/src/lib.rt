@@ -1,0 +1,20 @@
+//! Tests alone: the words of a log, its text, the paving of its boxes, the judge of its steps, its report,
+//! and the rows that it begins with.
+#![tactic(auto)]
+
+#[cfg(test)]
+mod judging;
+#[cfg(test)]
+mod logs;
+#[cfg(test)]
+mod meet;
+#[cfg(test)]
+mod pavings;
+#[cfg(test)]
+mod report;
+#[cfg(test)]
+mod rows;
+#[cfg(test)]
+mod small_rows;
+#[cfg(test)]
+mod words;

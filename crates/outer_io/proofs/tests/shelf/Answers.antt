@@ -1,7 +1,0 @@
-use Rattle.std.proofs.Common.{arith}
-use Rattle.std.proofs.lemmas.Grind.{common_steps}
-use Rattle.outer_io.proofs.Naming.{few_have_own_names}
-use Rattle.outer_io.proofs.tests.shelf.Goals as goal
-
-pub make-requires : goal.make-requires
-make-requires c = few_have_own_names _ (grind (arith, common_steps, c.in_ok-files.ensures.len))
