@@ -1,4 +1,4 @@
--- A log that was full had room for fewer bytes than it may have.
+-- A full log had less room than the most bytes of a log of its rows.
 use Rattle.std.proofs.Common.{◌≡◌, ℕ, ◌+◌, ◌*◌, ◌<◌, ◌≤◌, List, [], ◌∷◌, length, map, Option, None, Some, Result, Err, ap, subst, sym, ◌∙◌, arith, length-append}
 use Rattle.std.specs.List.{flat_map, AllByRecursion}
 use Rattle.std.proofs.lemmas.List.{length-map}
@@ -108,7 +108,7 @@ full_below room pieces log report h =
       length-append (log_bytes h.earlier) (log_bytes h.more),
     )
 
--- the room was less than the most bytes that a log of the rows has
+-- the limit was less than the most bytes
 pub full_room : (rows : LogValue) (limit : ℕ) (bytes said : List ℕ) → LogFits form.Rows rows → AllOwnPass rows.rules None rows.blocks → IsBegun why.Full rows limit bytes said
     → limit < most_bytes (length rows.blocks) rows.rules.bisections
 full_room rows limit bytes said fits passes begun =
