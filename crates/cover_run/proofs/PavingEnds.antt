@@ -1,7 +1,8 @@
 -- What a run of `pave` has read and written, by how it ended.
-use Rattle.std.proofs.Common.{◌≡◌, ◌≤◌, ℕ, List, length, Option, Result, Ok, Err, inl, inr, refl, ap, subst, ◌∙◌}
+use Rattle.std.proofs.Common.{◌≡◌, ◌<◌, ◌≤◌, ℕ, List, length, Option, Result, Ok, Err, inl, inr, refl, ap, subst, ◌∙◌}
 use Rattle.std.specs.Io.KnownBytes.{append_known}
 use Rattle.std.specs.Option.{option_map}
+use Rattle.log_writer.specs.Sizes.{most_bytes}
 use Rattle.log_writer.specs.Texts.{IsWhole, IsBegun, IsText}
 use Rattle.log_writer.specs.declared.fault.WriteFault.{WriteFault}
 use Rattle.log_writer.specs.declared.fault.WriteFault.TheVariants as why
@@ -12,7 +13,7 @@ use Rattle.sat_model.specs.Logs.{LogValue}
 use Rattle.cover_run.proofs.Rewriting.{rewrites, rewrites_behind, leaves_behind}
 use Rattle.cover_run.proofs.Saying.{HasFile-of}
 use Rattle.cover_run.specs.Answers.{HasFile, Rewrites}
-use Rattle.cover_run.specs.Paving.{Outputs, outputs, LeavesAll, Gives, WritesLog, LogEnds, PavingEnds}
+use Rattle.cover_run.specs.Paving.{Outputs, outputs, LeavesAll, Gives, WritesLog, IsFull, LogEnds, PavingEnds}
 use Rattle.cover_run.specs.Statuses.{notice_of_fault}
 use Rattle.cover_run.specs.declared.limits.Limits.{Limits}
 use Rattle.cover_run.specs.declared.notice.Notice.{Notice}
@@ -27,12 +28,17 @@ pub wrote : {T : Type 0} (rows : LogValue) (limit : ℕ) (before middle after : 
 wrote rows limit before middle after out now name r is (bytes, said, appended, printed, text) =
     (bytes, said, rewrites before after name bytes (subst (λ (t : Option Told). AppendedBy t after Log bytes) is appended), printed, text)
 
+pub gives_map : (before after : Outputs) (log : List ℕ) (P Q : List ℕ → List ℕ → Type 0) → ((bytes said : List ℕ) → P bytes said → Q bytes said) → Gives before after log P → Gives before after log Q
+gives_map before after log P Q f (bytes, said, rewrites, out, p) = (bytes, said, rewrites, out, f bytes said p)
+
+-- where the log is full, its limit was less than the most bytes of a log of the rows
 pub fault_ends : (rows : LogValue) (limit : ℕ) (before after : Outputs) (name : List ℕ) (fault : WriteFault) → Gives before after name (IsText {T = Unit {0}} rows limit (Err fault))
-    → LogEnds rows limit before after name (Err (notice_of_fault limit fault))
-fault_ends rows limit before after name why.Log r = inr r
-fault_ends rows limit before after name why.Out r = r
-fault_ends rows limit before after name why.Full r = (refl, r)
-fault_ends rows limit before after name why.NoMemory r = r
+    → (fault ≡ why.Full → limit < most_bytes (length rows.blocks) rows.rules.bisections) → LogEnds rows limit before after name (Err (notice_of_fault limit fault))
+fault_ends rows limit before after name why.Log r room = inr r
+fault_ends rows limit before after name why.Out r room = r
+fault_ends rows limit before after name why.Full r room =
+    (refl, gives_map before after name (IsBegun why.Full rows limit) (IsFull rows limit) (λ bytes said begun. record { begun = begun; room = room refl }) r)
+fault_ends rows limit before after name why.NoMemory r room = r
 
 -- ---- behind the reading of the rows
 
@@ -69,7 +75,7 @@ paving_ends limits rows log all given before middle after (Err notice.LogFault) 
 paving_ends limits rows log all given before middle after (Err notice.OutFault) has within is read cut =
     log_of limits rows log all given before middle after (IsBegun why.Out) has within is read cut
 paving_ends limits rows log all given before middle after (Err (notice.LogFull most)) has within is read (same, full) =
-    (same, log_of limits rows log all given before middle after (IsBegun why.Full) has within is read full)
+    (same, log_of limits rows log all given before middle after IsFull has within is read full)
 paving_ends limits rows log all given before middle after (Err notice.NoMemory) has within is read begun =
     inr (log_of limits rows log all given before middle after (IsBegun why.NoMemory) has within is read begun)
 paving_ends limits rows log all given before middle after (Err notice.Usage) has within is read ends = absurd ends

@@ -7,7 +7,7 @@ use Rattle.outer_io.specs.declared.slots.Slot.TheVariants as slot
 use Rattle.outer_io.specs.Causes.{Rose}
 use Rattle.cover_run.specs.Texts.{notice_text}
 use Rattle.cover_run.specs.Answers.{HasFile, World, Gets}
-use Rattle.cover_run.specs.Paving.{Outputs, outputs_in, LeavesAll, RefusesRows, WritesLog, PavingEnds, IsPlainNotice, LogFails, OutFails}
+use Rattle.cover_run.specs.Paving.{Outputs, outputs_in, LeavesAll, RefusesRows, WritesLog, IsFull, PavingEnds, IsPlainNotice, LogFails, OutFails}
 use Rattle.cover_run.specs.Statuses.{status_of}
 use Rattle.cover_run.specs.declared.limits.Limits.{Limits}
 use Rattle.cover_run.specs.declared.notice.Notice.{Notice}
@@ -15,7 +15,7 @@ use Rattle.cover_run.specs.declared.notice.Notice.TheVariants as notice
 use Rattle.cover_run.specs.declared.status.Status.TheVariants as status
 
 pub full_has : (limits : Limits) (rows log : List ℕ) (before after : Outputs) (n : Notice) → PavingEnds limits rows log before after (Err n)
-    → status_of n ≡ status.LogFull → WritesLog limits rows log before after (IsBegun why.Full)
+    → status_of n ≡ status.LogFull → WritesLog limits rows log before after IsFull
 full_has limits rows log before after (notice.LogFull most) ends e = ends.1
 full_has limits rows log before after _ ends e = cc
 

@@ -1,5 +1,5 @@
 -- The log that `solve` writes, against the files.
-use Rattle.std.proofs.Common.{◌≡◌, ℕ, Bool, true, false, List, [], ◌∷◌, None, is_none, Result, Ok, Err, IfOk, sym, ap, ◌∙◌}
+use Rattle.std.proofs.Common.{◌≡◌, ℕ, Bool, true, false, List, [], ◌∷◌, length, None, is_none, Result, Ok, Err, IfOk, refl, sym, ap, ◌∙◌, arith}
 use Rattle.std.specs.List.{AllByRecursion}
 use Rattle.epoch_rows.proofs.AdmitLemmas.{solved_admits, solved_admissible, has_corner}
 use Rattle.epoch_rows.specs.Grown.{HasBody, AreGrown}
@@ -36,6 +36,14 @@ few_roots Own q root rules (seen ∷ epochs) [] blocks grown paves = absurd grow
 few_roots Own q root rules (seen ∷ epochs) (g ∷ given) [] grown paves = absurd paves
 few_roots Own q root rules (seen ∷ epochs) (g ∷ given) (b ∷ blocks) grown paves =
     (paves.0.few ∙ body_root g.few root grown.0.own g grown.0.body ∙ ap is_none (sym paves.0.root), few_roots Own q root rules epochs given blocks grown.1 paves.1)
+
+-- as many blocks as epochs
+pub blocks_count : (Own : ObsEpoch → List SatLine → Type 0) (q : ℕ) (root : GridBox) (epochs : List ObsEpoch) (blocks : List Block) → AreGrown Own q root epochs blocks
+    → length blocks ≡ length epochs
+blocks_count Own q root [] [] grown = refl
+blocks_count Own q root [] (b ∷ blocks) grown = absurd grown
+blocks_count Own q root (seen ∷ epochs) [] grown = absurd grown
+blocks_count Own q root (seen ∷ epochs) (b ∷ blocks) grown = omega (arith, blocks_count Own q root epochs blocks grown.1)
 
 -- the whole log of such rows is admissible, and covers what fits
 pub is_solved : (i : Inputs) (rows : LogValue) (limit : ℕ) (bytes said : List ℕ) → HasRows i rows → IsWhole rows limit bytes said → IsSolved i limit bytes said

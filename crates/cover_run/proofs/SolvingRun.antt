@@ -12,13 +12,13 @@ use Rattle.outer_io.specs.declared.slots.Slot.TheVariants as slot
 use Rattle.outer_io.specs.declared.slots.Slots.{Slots}
 use Rattle.sat_model.specs.Logs.{LogValue}
 use Rattle.cover_run.proofs.InputReads.{IsReadEnd}
-use Rattle.cover_run.proofs.PavingEnds.{IsRead, gives_behind, leaves_all_behind}
-use Rattle.cover_run.proofs.SolvingLemmas.{is_solved}
+use Rattle.cover_run.proofs.PavingEnds.{IsRead, gives_map, gives_behind, leaves_all_behind}
+use Rattle.cover_run.proofs.SolvingLemmas.{is_solved, blocks_count}
 use Rattle.cover_run.specs.Answers.{World, IsBrokenOff}
 use Rattle.cover_run.specs.Checking.{sinks_of, Notes}
 use Rattle.cover_run.specs.Inputs.{SameAnswer, IsBroken, AreSameInputs, OpensNone}
-use Rattle.cover_run.specs.Paving.{Outputs, outputs_in, LeavesAll, Gives, LogEnds}
-use Rattle.cover_run.specs.Solving.{HasRows, IsSolved, IsSolvedTo, CreatesNothing, SolveEnds, SolveSuits, OpensLogAlone}
+use Rattle.cover_run.specs.Paving.{outputs_in, LeavesAll, Gives, IsFull, LogEnds}
+use Rattle.cover_run.specs.Solving.{epochs_of, HasRows, IsSolved, IsSolvedTo, IsSolvedToFull, CreatesNothing, SolveEnds, SolveSuits, OpensLogAlone}
 use Rattle.cover_run.specs.Statuses.{status_of}
 use Rattle.cover_run.specs.declared.inputs.Inputs.{Inputs}
 use Rattle.cover_run.specs.declared.notice.Notice.{Notice}
@@ -28,11 +28,14 @@ use Rattle.cover_run.specs.declared.status.Status.TheVariants as status
 
 -- ---- what was written
 
-gives_map : (before after : Outputs) (log : List ℕ) (P Q : List ℕ → List ℕ → Type 0) → ((bytes said : List ℕ) → P bytes said → Q bytes said) → Gives before after log P → Gives before after log Q
-gives_map before after log P Q f (bytes, said, rewrites, out, p) = (bytes, said, rewrites, out, f bytes said p)
-
 to_solved : (Begun : LogValue → ℕ → List ℕ → List ℕ → Type 0) (i : Inputs) (rows : LogValue) (limit : ℕ) → HasRows i rows → (bytes said : List ℕ) → Begun rows limit bytes said → IsSolvedTo Begun i limit bytes said
 to_solved Begun i rows limit has bytes said begun = record { root = has.0; rows = rows; are_rows = has.1; begun = begun }
+
+to_full : (i : Inputs) (rows : LogValue) (limit : ℕ) → HasRows i rows → (bytes said : List ℕ) → IsFull rows limit bytes said → IsSolvedToFull i limit bytes said
+to_full i rows limit has bytes said full = record {
+  solved = to_solved (IsBegun why.Full) i rows limit has bytes said full.begun;
+  room = rw (sym (blocks_count _ i.settings.rules.outliers has.0 (epochs_of i) rows.blocks has.1.blocks), sym has.1.rules) full.room;
+}
 
 module _ (limit : ℕ) (log : List ℕ) (before after : World) (reliable out_reliable : Type 0) (i : Inputs) where
   abbrev Ends : Status → Type 0
@@ -66,7 +69,7 @@ module _ (limit : ℕ) (log : List ℕ) (before after : World) (reliable out_rel
         said = notes;
       })
   begun_ends rows (notice.LogFull most) has (same, gives) causes notes = (
-    gives_map _ _ log (IsBegun why.Full rows limit) (IsSolvedTo (IsBegun why.Full) i limit) (to_solved (IsBegun why.Full) i rows limit has) gives,
+    gives_map _ _ log (IsFull rows limit) (IsSolvedToFull i limit) (to_full i rows limit has) gives,
     subst (λ (m : ℕ). Notes (sinks_of before) (sinks_of after) (notice.LogFull m)) same notes,
   )
   begun_ends rows notice.NoMemory has gives causes notes =
@@ -120,7 +123,7 @@ module _ (limit : ℕ) (log : List ℕ) (before after : World) (reliable out_rel
   ends_behind status.WriteFault (inr fails) =
       inr (record { begun = gives_there (IsSolvedTo (IsBegun why.Out) i limit) fails.begun; rose = fails.rose; unreliable = fails.unreliable; said = fails.said })
   ends_behind status.NoMemory (either, notes) = (either_there (IsSolvedTo (IsBegun why.NoMemory) i limit) either, notes)
-  ends_behind status.LogFull (gives, notes) = (gives_there (IsSolvedTo (IsBegun why.Full) i limit) gives, notes)
+  ends_behind status.LogFull (gives, notes) = (gives_there (IsSolvedToFull i limit) gives, notes)
 
 -- ---- the files weren't read
 

@@ -1,6 +1,7 @@
 -- What `pave` does.
 use Rattle.std.specs.Prelude.{◌≡◌, ◌≢◌, ◌≤◌, ◌<◌, ◌⊎◌, ℕ, true, false, List, length, Option, Some, Result, Ok, Err}
 use Rattle.std.specs.Io.KnownBytes.{append_known}
+use Rattle.log_writer.specs.Sizes.{most_bytes}
 use Rattle.log_writer.specs.Texts.{IsWhole, IsBegun}
 use Rattle.log_writer.specs.declared.fault.WriteFault.TheVariants as why
 use Rattle.outer_io.specs.Causes.{Rose}
@@ -72,12 +73,17 @@ abbrev pub WritesLog : Limits → (rows log : List ℕ) → (before after : Outp
 WritesLog limits rows log before after Meets = HasFile before.told rows (λ bytes. (length bytes ≤ limits.file)
     × SpellRows bytes (λ given. Gives before after log (Meets given limits.log)))
 
+-- First bytes of both, as a full log left them. Its limit was less than the most bytes of a log of the rows.
+pub record IsFull (rows : LogValue) (limit : ℕ) (bytes said : List ℕ) : Type 0 where
+  pub begun : IsBegun why.Full rows limit bytes said
+  pub room : limit < most_bytes (length rows.blocks) rows.rules.bisections
+
 -- what is written for some rows, by how it ended
 abbrev pub LogEnds : LogValue → ℕ → (before after : Outputs) → List ℕ → Result (Unit {0}) Notice → Type 0
 LogEnds rows limit before after log (Ok done) = Gives before after log (IsWhole rows limit)
 LogEnds rows limit before after log (Err notice.LogFault) = LeavesAll before after ⊎ Gives before after log (IsBegun why.Log rows limit)
 LogEnds rows limit before after log (Err notice.OutFault) = Gives before after log (IsBegun why.Out rows limit)
-LogEnds rows limit before after log (Err (notice.LogFull most)) = (most ≡ limit) × Gives before after log (IsBegun why.Full rows limit)
+LogEnds rows limit before after log (Err (notice.LogFull most)) = (most ≡ limit) × Gives before after log (IsFull rows limit)
 LogEnds rows limit before after log (Err notice.NoMemory) = Gives before after log (IsBegun why.NoMemory rows limit)
 LogEnds rows limit before after log (Err _) = ⊥
 
@@ -86,7 +92,7 @@ abbrev pub PavingEnds : Limits → (rows log : List ℕ) → (before after : Out
 PavingEnds limits rows log before after (Ok done) = WritesLog limits rows log before after IsWhole
 PavingEnds limits rows log before after (Err notice.LogFault) = LeavesAll before after ⊎ WritesLog limits rows log before after (IsBegun why.Log)
 PavingEnds limits rows log before after (Err notice.OutFault) = WritesLog limits rows log before after (IsBegun why.Out)
-PavingEnds limits rows log before after (Err (notice.LogFull most)) = (most ≡ limits.log) × WritesLog limits rows log before after (IsBegun why.Full)
+PavingEnds limits rows log before after (Err (notice.LogFull most)) = (most ≡ limits.log) × WritesLog limits rows log before after IsFull
 PavingEnds limits rows log before after (Err notice.NoMemory) = LeavesAll before after ⊎ WritesLog limits rows log before after (IsBegun why.NoMemory)
 PavingEnds limits rows log before after (Err (notice.ReadFault of)) = (of ≡ slot.Rows) × LeavesAll before after
 PavingEnds limits rows log before after (Err notice.Usage) = ⊥
@@ -132,7 +138,7 @@ pub record PaveRun (limits : Limits) (rows log : List ℕ) (before after : World
       × Gets before.err after.err before.err_faults after.err_faults (notice_text n)
   pub read_fault : s ≡ status.ReadFault → is_missing before.told rows ≡ false → Rose before.read_faults after.read_faults
   pub write_fault : s ≡ status.WriteFault → LogFails limits rows log before after ⊎ OutFails limits rows log before after
-  pub log_full : s ≡ status.LogFull → WritesLog limits rows log (outputs_in before) (outputs_in after) (IsBegun why.Full)
+  pub log_full : s ≡ status.LogFull → WritesLog limits rows log (outputs_in before) (outputs_in after) IsFull
   pub no_memory : s ≡ status.NoMemory → LeavesAll (outputs_in before) (outputs_in after) ⊎ WritesLog limits rows log (outputs_in before) (outputs_in after) (IsBegun why.NoMemory)
   -- And each cause has its status, unless a fault or want of memory comes first.
   pub missing : is_missing before.told rows ≡ true → s ≡ status.ReadFault

@@ -1,7 +1,8 @@
 -- What `solve` does.
-use Rattle.std.specs.Prelude.{◌≡◌, ◌≢◌, ◌⊎◌, ℕ, true, List, Option, Some, Result, Ok, Err, IsOk}
+use Rattle.std.specs.Prelude.{◌≡◌, ◌≢◌, ◌<◌, ◌⊎◌, ℕ, true, List, length, Option, Some, Result, Ok, Err, IsOk}
 use Rattle.epoch_rows.specs.Grown.{AreGrown}
 use Rattle.error_bounds.specs.Reading.{centre_with, IsRoot}
+use Rattle.log_writer.specs.Sizes.{most_bytes}
 use Rattle.log_writer.specs.Texts.{IsWhole, IsBegun}
 use Rattle.log_writer.specs.declared.fault.WriteFault.TheVariants as why
 use Rattle.outer_io.specs.Causes.{Rose}
@@ -69,6 +70,11 @@ pub record IsSolvedTo (Begun : LogValue → ℕ → List ℕ → List ℕ → Ty
   pub are_rows : AreRowsOf i root rows
   pub begun : Begun rows limit bytes said
 
+-- First bytes of both, as a full log left them. Its limit was less than the most bytes of a log of the epochs.
+pub record IsSolvedToFull (i : Inputs) (limit : ℕ) (bytes said : List ℕ) : Type 0 where
+  pub solved : IsSolvedTo (IsBegun why.Full) i limit bytes said
+  pub room : limit < most_bytes (length (epochs_of i)) i.settings.rules.bisections
+
 -- ---- how the run ends
 
 -- the files were accepted, and LOG and `out` got bytes that meet the fact
@@ -117,7 +123,7 @@ SolveEnds limit log before after reliable out_reliable found status.NoMemory =
     (LeavesAll (outputs_in before) (outputs_in after) ⊎ Writes log before after found (λ i. IsSolvedTo (IsBegun why.NoMemory) i limit))
     × Notes (sinks_of before) (sinks_of after) notice.NoMemory
 SolveEnds limit log before after reliable out_reliable found status.LogFull =
-    Writes log before after found (λ i. IsSolvedTo (IsBegun why.Full) i limit) × Notes (sinks_of before) (sinks_of after) (notice.LogFull limit)
+    Writes log before after found (λ i. IsSolvedToFull i limit) × Notes (sinks_of before) (sinks_of after) (notice.LogFull limit)
 
 -- each cause has its status, where the files give this
 abbrev pub SolveSuits : Result Inputs Notice → Status → Type 0

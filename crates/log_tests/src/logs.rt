@@ -8,7 +8,7 @@ use paving_log::{
     Log, LogEpoch, LogError, cover_boxes, done_line, epoch_line, head_lines, read_log, read_rows,
     root_line, sat_line, step_line,
 };
-use sat_model::{Box3, NoMemory, Pos, Rules, Sat, SatEntry, Skip, Step};
+use sat_model::{Box3, NoMemory, Pos, Step};
 use std::alloc::{AllocError, Global};
 use std::test::Fail;
 

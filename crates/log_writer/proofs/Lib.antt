@@ -1,5 +1,7 @@
 pub mod ClockSizes
 pub mod StepSizes
+pub mod RunSizes
+pub mod LineSizes
 pub mod WritingLemmas
 pub mod ReportLemmas
 pub mod TextLemmas
@@ -7,3 +9,4 @@ pub mod RunLemmas
 pub mod SatLemmas
 pub mod BlockLemmas
 pub mod LogLemmas
+pub mod RoomLemmas

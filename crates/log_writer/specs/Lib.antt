@@ -5,3 +5,4 @@ pub mod Writing
 pub mod Steps
 pub mod Wrote
 pub mod Texts
+pub mod Sizes

@@ -1,8 +1,9 @@
 //! The whole log of some rows.
 
-ghost use Rattle.std.specs.Prelude.{◌≡◌, ◌≢◌, ◌≤◌, ℕ, List, Option, None, is_some, true, Err};
+ghost use Rattle.std.specs.Prelude.{◌≡◌, ◌≢◌, ◌<◌, ◌≤◌, ℕ, List, length, Option, None, is_some, true, Err};
 ghost use Rattle.std.specs.Io.KnownBytes.{append_known};
 ghost use Rattle.paving_log.specs.RowsText.{AllOwnPass};
+ghost use Rattle.log_writer.specs.Sizes.{most_bytes};
 ghost use Rattle.log_writer.specs.Texts.{IsText};
 ghost use Rattle.outer_io.specs.Told.{AppendedBy};
 ghost use Rattle.outer_io.specs.Causes.{Rose};
@@ -39,6 +40,7 @@ pub fn write_log<H: Shelf, O: Sink>(
         × (O.taken out.new ≡ append_known (O.taken out.old) said)
         × IsText (log_value rows.now) limit result bytes said }
     ensures phases { H.phases shelf.new ≡ H.phases shelf.old }
+    ensures room { result ≡ Err WriteFault.Full → limit < most_bytes (length rows.now.epochs.items) rows.now.rules.bisections }
 
     // When a write of the log fails.
     ensures log_failed { result ≡ Err WriteFault.Log → Rose (H.write_faults shelf.old) (H.write_faults shelf.new) }
