@@ -1,4 +1,4 @@
-//! A solved log with a row that is narrower: each span may lose what was put to the checker's own one.
+//! A solved log with a narrower row: a span may lose the room that `solve` gave it, and no more.
 
 use crate::shelves::{four_files, words};
 use cover_run::{Limits, Status, run};
