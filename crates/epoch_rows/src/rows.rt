@@ -1,6 +1,6 @@
 //! The selected epochs of an observation file.
 
-ghost use Rattle.std.specs.Prelude.{◌≡◌, ◌&&◌, nat_le, ℤ, None, Some, IfOk};
+ghost use Rattle.std.specs.Prelude.{◌≡◌, ℤ, None, Some, IfOk};
 ghost use Rattle.epoch_rows.specs.Grown.{AreGrown};
 ghost use Rattle.log_words.specs.Fields.{SkipFits};
 ghost use Rattle.paving_log.specs.declared.line.Form.TheVariants as form;
@@ -17,17 +17,11 @@ ghost use Rattle.sat_rows.specs.OwnRows.{AreOwnLines};
 
 use crate::blocks::{block, lines_of};
 use paving_log::Log;
+use paving_log_check::is_selected;
 use rinex_obs::Obs;
 use sat_model::{Box3, NoMemory, Rules};
 use sat_rows::RowSource;
 use std::alloc::Global;
-
-/// Whether an epoch is one of those from the one number to the other.
-fn is_selected(from: u32, to: u32, index: u32) -> bool
-    ensures { result ≡ (nat_le from index && nat_le index to) }
-{
-    from <= index && index <= to
-}
 
 /// The rows of the selected epochs, each span widened by W at both ends, as a log without steps.
 pub fn rows_log<S: RowSource>(
@@ -55,7 +49,7 @@ pub fn rows_log<S: RowSource>(
     let mut epochs = Vec::new(alloc);
     let mut line = 3;
     for epoch in &obs.epochs {
-        if is_selected(from, to, epoch.index) {
+        if is_selected(epoch, from, to) {
             let block = block(alloc, source, epoch, rules, root, line)?;
             line += lines_of(&block);
             epochs.push(block)?;

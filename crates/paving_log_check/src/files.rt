@@ -31,24 +31,10 @@ fn are_same_rules(a: &Rules, b: &Rules) -> bool
 }
 
 /// Whether the index of an epoch is from `from` to `to`.
-fn is_selected(seen: &ObsEpoch, from: u32, to: u32) -> bool
+pub fn is_selected(seen: &ObsEpoch, from: u32, to: u32) -> bool
     ensures { result ≡ is_selected from to seen.now }
 {
     from <= seen.index && seen.index <= to
-}
-
-/// The place of the first epoch from a place on whose index is from `from` to `to`.
-fn next_selected(epochs: &[ObsEpoch], from: u32, to: u32, start: usize) -> Option<usize>
-    ensures place { MatchOption result (selected from to (drop start epochs.now) ≡ [])
-        (λ i. IsNextSelected from to epochs.now start i) }
-    ensures within { IfSome result (λ i. i < length epochs.now) }
-{
-    for i in start..epochs.len() {
-        if is_selected(&epochs[i], from, to) {
-            return Some(i);
-        }
-    }
-    None
 }
 
 /// Whether a block is that of an epoch, behind a block of the index `before`.
@@ -61,50 +47,70 @@ fn is_of(rules: &Rules, before: Option<u32>, seen: &ObsEpoch, epoch: &LogEpoch) 
         && epoch.ps == seen.tag
 }
 
-/// The place of the epoch that a block has to be of, where the block is.
-fn place_of(
-    rules: &Rules,
-    before: Option<u32>,
-    epochs: &[ObsEpoch],
+/// The epochs whose index is from `from` to `to`.
+#[derive(Clone, Copy)]
+struct Selection<'a> {
+    epochs: &'a [ObsEpoch],
     from: u32,
     to: u32,
-    start: usize,
-    epoch: &LogEpoch,
-) -> Option<usize>
-    ensures place { MatchOption result
-        ((more : List Block) → IsDue rules.now before (selected from to (drop start epochs.now)) (block_of epoch.now ∷ more) → ⊥)
-        (λ i. IsPlaceOf rules.now before from to epochs.now start (block_of epoch.now) i) }
-    ensures within { IfSome result (λ i. i < length epochs.now) }
-{
-    match next_selected(epochs, from, to, start) {
-        Some(i) => {
-            if is_of(rules, before, &epochs[i], epoch) {
-                Some(i)
-            } else {
-                None
-            }
-        }
-        None => None,
-    }
 }
 
-/// Whether the block at place `k` is that of the next epoch, and there is none where no epoch is left.
-fn is_due(
-    rules: &Rules,
-    before: Option<u32>,
-    epochs: &[ObsEpoch],
-    from: u32,
-    to: u32,
-    start: usize,
-    blocks: &[LogEpoch],
-    k: usize,
-) -> bool
-    ensures { IsTrue result ↔ IsDue rules.now before (selected from to (drop start epochs.now)) (drop k (map block_of blocks.now)) }
-{
-    if k < blocks.len() {
-        place_of(rules, before, epochs, from, to, start, &blocks[k]).is_some()
-    } else {
-        next_selected(epochs, from, to, start).is_none()
+impl<'a> Selection<'a> {
+    /// The place of the first of them from a place on.
+    fn next(&self, start: usize) -> Option<usize>
+        ensures place { MatchOption result (selected self.now.from self.now.to (drop start self.now.epochs.now) ≡ [])
+            (λ i. IsNextSelected self.now.from self.now.to self.now.epochs.now start i) }
+        ensures within { IfSome result (λ i. i < length self.now.epochs.now) }
+    {
+        for i in start..self.epochs.len() {
+            if is_selected(&self.epochs[i], self.from, self.to) {
+                return Some(i);
+            }
+        }
+        None
+    }
+
+    /// The place of the epoch that a block has to be of, where the block is.
+    fn place_of(
+        &self,
+        rules: &Rules,
+        before: Option<u32>,
+        start: usize,
+        epoch: &LogEpoch,
+    ) -> Option<usize>
+        ensures place { MatchOption result
+            ((more : List Block) → IsDue rules.now before (selected self.now.from self.now.to (drop start self.now.epochs.now)) (block_of epoch.now ∷ more) → ⊥)
+            (λ i. IsPlaceOf rules.now before self.now.from self.now.to self.now.epochs.now start (block_of epoch.now) i) }
+        ensures within { IfSome result (λ i. i < length self.now.epochs.now) }
+    {
+        match self.next(start) {
+            Some(i) => {
+                if is_of(rules, before, &self.epochs[i], epoch) {
+                    Some(i)
+                } else {
+                    None
+                }
+            }
+            None => None,
+        }
+    }
+
+    /// Whether the block at place `k` is that of the next epoch, and there is none where no epoch is left.
+    fn is_due(
+        &self,
+        rules: &Rules,
+        before: Option<u32>,
+        start: usize,
+        blocks: &[LogEpoch],
+        k: usize,
+    ) -> bool
+        ensures { IsTrue result ↔ IsDue rules.now before (selected self.now.from self.now.to (drop start self.now.epochs.now)) (drop k (map block_of blocks.now)) }
+    {
+        if k < blocks.len() {
+            self.place_of(rules, before, start, &blocks[k]).is_some()
+        } else {
+            self.next(start).is_none()
+        }
     }
 }
 
@@ -161,19 +167,21 @@ pub fn check_with<S: RowSource>(
     let mut before: Option<u32> = None;
     let mut next: u32 = 3;
     let mut start: usize = 0;
+    let selection = Selection {
+        epochs: &obs.epochs,
+        from,
+        to,
+    };
     for k in 0..log.epochs.len() {
         let epoch = &log.epochs[k];
-        match place_of(rules, before, &obs.epochs, from, to, start, epoch) {
+        match selection.place_of(rules, before, start, epoch) {
             Some(i) => {
                 next += lines_of(epoch);
                 match check_epoch(alloc, source, &obs.epochs[i], rules, root, epoch)? {
                     Some(fault) => {
-                        let due = is_due(
+                        let due = selection.is_due(
                             rules,
                             Some(epoch.index),
-                            &obs.epochs,
-                            from,
-                            to,
                             i + 1,
                             &log.epochs,
                             k + 1,
@@ -189,16 +197,7 @@ pub fn check_with<S: RowSource>(
         boxes += kept_boxes(epoch);
         before = Some(epoch.index);
     }
-    if !is_due(
-        rules,
-        before,
-        &obs.epochs,
-        from,
-        to,
-        start,
-        &log.epochs,
-        log.epochs.len(),
-    ) {
+    if !selection.is_due(rules, before, start, &log.epochs, log.epochs.len()) {
         return Ok(Verdict::No(plain_fault(next, EPOCH_DIFFERS)));
     }
     Ok(Verdict::Yes { boxes })

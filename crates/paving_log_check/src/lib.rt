@@ -15,7 +15,7 @@ mod steps;
 mod verdict;
 
 pub use epochs::check_epoch;
-pub use files::check_with;
+pub use files::{check_with, is_selected};
 pub use folds::judged_folds;
 pub use gps::check;
 pub use logs::judge;

@@ -44,7 +44,7 @@ returns-in-Some-2-clause-no g c =
     let place = rw c.deref.ensures.value at c.in-Some.ensures.place in
     let seen = seen_at c.args.from c.args.to c.args.obs.now.epochs.items c.loop-k.start c.in-Some.i c.index.result.now place.next c.index.ensures in
     let refused = rw c.in-Some-2.is at c.in_ok-fault-in-Some.ensures in
-    let due = rw (c.deref-in-Some-2.ensures.value, c.deref-in-Some-2-2.ensures.value) at c.is_due-due.ensures in
+    let due = rw (c.deref.ensures.value, c.deref-in-Some-2.ensures.value) at c.is_due-due.ensures in
     block_refused (g.S.RowSource.judged c.args.source.now) (g.S.RowSource.allows c.args.source.now) (g.S.RowSource.declared c.args.source.now)
     place.next.seen (selected c.args.from c.args.to (drop (c.in-Some.i + 1) c.args.obs.now.epochs.items))
     (block_of c.index-epoch.result.now) (drop (c.loop-k.k + 1) (log_value c.args.log.now).blocks) c.in-Some-2.fault c.first_of.result
@@ -84,7 +84,7 @@ pub returns-then-not-is_due-clause-no : goal.returns-then-not-is_due-clause-no
 returns-then-not-is_due-clause-no g c =
     let ended = blocks_ended c.args.log.now.epochs.items c.loop-k.k (omega (arith, c.loop-k-test.false, c.len-k-end.ensures, c.args.log.now.epochs.ok)) in
     let none = blocks_ended c.args.log.now.epochs.items c.len.result (omega (arith, c.len.ensures, c.args.log.now.epochs.ok)) in
-    let due = rw none at (rw (c.deref-2.ensures.value, c.deref-3.ensures.value) at c.is_due.ensures) in
+    let due = rw none at (rw (c.deref.ensures.value, c.deref-2.ensures.value) at c.is_due.ensures) in
     due_refused (g.S.RowSource.judged c.args.source.now) (g.S.RowSource.allows c.args.source.now) (g.S.RowSource.declared c.args.source.now)
     c.plain_fault-then-not-is_due.result c.loop-k.invariant (c.are_same_rules.ensures.0 c.if-not-are_same_rules.false)
     (λ is. false≢true (sym c.if-not-is_due.true ∙ due.1 (rw ended at is)))
@@ -94,7 +94,7 @@ pub returns-clause-yes : goal.returns-clause-yes
 returns-clause-yes g c =
     let ended = blocks_ended c.args.log.now.epochs.items c.loop-k.k (omega (arith, c.loop-k-test.false, c.len-k-end.ensures, c.args.log.now.epochs.ok)) in
     let none = blocks_ended c.args.log.now.epochs.items c.len.result (omega (arith, c.len.ensures, c.args.log.now.epochs.ok)) in
-    let due = rw none at (rw (c.deref-2.ensures.value, c.deref-3.ensures.value) at c.is_due.ensures) in
+    let due = rw none at (rw (c.deref.ensures.value, c.deref-2.ensures.value) at c.is_due.ensures) in
     all_accepted (g.S.RowSource.judged c.args.source.now) (g.S.RowSource.allows c.args.source.now) (g.S.RowSource.declared c.args.source.now)
     c.args.log.now (g.met.S.RowSource.one_judgement c.args.source.now) (g.met.S.RowSource.allowed_exists c.args.source.now) (g.met.S.RowSource.range_is c.args.source.now)
     c.loop-k.invariant (c.are_same_rules.ensures.0 c.if-not-are_same_rules.false) ended (due.0 c.if-not-is_due.false)
