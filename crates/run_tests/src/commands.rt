@@ -454,7 +454,15 @@ fn a_log_has_room_where_the_limit_is_enough(rt: HostRuntime) -> Result<(), Fail>
             log: Some((rows, steps)),
             out,
         };
-        paves(&rt, &Paving { limit, rows, ..PAVE }, &left)?;
+        paves(
+            &rt,
+            &Paving {
+                limit,
+                rows,
+                ..PAVE
+            },
+            &left,
+        )?;
     }
     Ok(())
 }
