@@ -3,7 +3,7 @@
 ghost use Rattle.std.specs.Prelude.{◌≡◌, ◌≢◌, ◌%◌, ℕ, length, Some, None, false, IfOk, OnOk, OnErr, IsTrue};
 ghost use Rattle.sat_model.specs.declared.steps.Step.TheVariants.{Cut, Split, Outside};
 ghost use Rattle.sat_model.specs.Boxes.{grid_box};
-ghost use Rattle.sat_model.specs.Fold.{Stage, first_stage, live_box, NoneLive, after};
+ghost use Rattle.sat_model.specs.Fold.{first_stage, live_box, NoneLive, after};
 
 use crate::cuts::left_by;
 use sat_model::{Box3, Step};

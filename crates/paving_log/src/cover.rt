@@ -42,7 +42,7 @@ fn boxes_kept(alloc: Global, root: &Box3, steps: &[Step]) -> Result<Vec<Box3>, A
 /// The boxes that the steps of an epoch close inside or at the edge, in order of closing, and none
 /// where the epoch has no search box. Each step is to speak of a box that is live when it comes, each cut
 /// is to take something off its box and to leave something, and each split is to divide two grid points or
-/// more: all this is so in a log that is judged to be right.
+/// more: all this is so in a log that is judged to be right. Want of memory is the only error.
 pub fn cover_boxes(alloc: Global, epoch: &LogEpoch) -> Result<Vec<Box3>, NoMemory>
     requires { BlockFolds (block_of epoch.now) (block_of epoch.now).root }
     ensures { IfOk result (λ boxes. map grid_box boxes.items ≡ cover_of (block_of epoch.now) (block_of epoch.now).root) }

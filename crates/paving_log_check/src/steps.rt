@@ -1,9 +1,9 @@
 //! The steps of an epoch, in one pass over its live boxes.
 
-ghost use Rattle.std.specs.Prelude.{◌≡◌, ◌+◌, ◌<◌, ◌≤◌, ◌≢◌, length, Some, None, IfOk, MatchOption};
+ghost use Rattle.std.specs.Prelude.{◌<◌, ◌≤◌, length, IfOk, MatchOption};
 ghost use Rattle.sat_model.specs.declared.steps.Step.TheVariants.{Cut, Split, Outside, Inside, Edge};
 ghost use Rattle.sat_model.specs.Boxes.{grid_box};
-ghost use Rattle.sat_model.specs.Fold.{first_stage, NoneLive, live_box};
+ghost use Rattle.sat_model.specs.Fold.{first_stage};
 ghost use Rattle.sat_model.specs.Verdicts.{StepsPass, StepsFail};
 ghost use Rattle.live_boxes.specs.Stages.{stage_of};
 ghost use Rattle.paving_log_check.specs.Steps.{IsStepFault};
@@ -96,6 +96,7 @@ impl<'a> Judge<'a> {
         None
     }
 
+    /// Of a step of any kind.
     fn step_fault(&self, live: &Live, step: &Step) -> Option<u8>
         ensures { IsStepFault self.now.rows.now self.now.rules.now (stage_of live.now) step.now result }
     {
