@@ -1,4 +1,4 @@
-ghost use Rattle.std.specs.Prelude.{pos, neg_ℤ, ◌≤ℤ◌};
+ghost use Rattle.std.specs.Prelude.{pos, neg_ℤ, ◌-ℤ◌, ◌≤ℤ◌};
 ghost use Rattle.broadcast_orbit.specs.OrbitSizes.{orbit_reach};
 
 use crate::place;
@@ -7,6 +7,9 @@ use crate::vectors::VECTORS;
 use fix_interval::{Exact, Place};
 use sat_model::Elements;
 use std::process::Abort;
+
+/// Later than the ephemerides of the tests, in ps since the start of GPS time.
+const LATEST: i128 = 4_000_000_000_000_000_000_000;
 
 fn number(rt: &impl Abort, field: Option<&str>) -> i128 {
     field.expect(rt, "a number").parse().expect(rt, "a number")
@@ -17,20 +20,22 @@ fn holds(x: Exact, n: i128) -> bool {
 }
 
 /// The 32 ps to both sides of a time, so many ps after the ephemeris time.
-fn around(rt: &impl Abort, after: i128) -> Exact
-    ensures low { neg_ℤ (pos orbit_reach) ≤ℤ result.lo }
-    ensures high { result.hi ≤ℤ pos orbit_reach }
+fn around(rt: &impl Abort, toe: i128, after: i128) -> Exact
+    ensures low { neg_ℤ (pos orbit_reach) ≤ℤ (result.lo -ℤ toe) }
+    ensures high { (result.hi -ℤ toe) ≤ℤ pos orbit_reach }
 {
+    assert!(rt; 0 <= toe, "an ephemeris time of GPS");
+    assert!(rt; toe <= LATEST, "not too late an ephemeris");
     assert!(rt; -14_400_000_000_000_000 <= after, "not too early");
     assert!(rt; after <= 14_400_000_000_000_000, "not too late");
     Exact {
-        lo: after - 32,
-        hi: after + 32,
+        lo: toe + after - 32,
+        hi: toe + after + 32,
     }
 }
 
 fn placed(rt: &impl Abort, el: &Elements, motion: i128, after: i128) -> Place {
-    let toe = Exact::of_wide(el.ephemeris_time());
+    let toe = el.ephemeris_time();
     assert!(rt; toe.lo == toe.hi, "one ephemeris time");
     assert!(rt; 0 <= motion, "a motion that isn't negative");
     assert!(rt;
@@ -41,7 +46,7 @@ fn placed(rt: &impl Abort, el: &Elements, motion: i128, after: i128) -> Place {
         lo: motion,
         hi: motion,
     };
-    place(el, motion, around(rt, after).plus(toe))
+    place(el, motion, around(rt, toe.lo, after))
 }
 
 #[test]
