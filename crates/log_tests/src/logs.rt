@@ -2,12 +2,15 @@ ghost use Rattle.std.specs.Prelude.{IfSome};
 ghost use Rattle.live_boxes.specs.Folding.{StepsFold};
 ghost use Rattle.sat_model.specs.Boxes.{grid_box};
 ghost use Rattle.sat_model.specs.Fold.{first_stage};
+ghost use Rattle.sat_model.specs.Logs.{IsNumbered};
+ghost use Rattle.paving_log.specs.Values.{log_value};
 
 use crate::small_rows::{cuboid, edge};
 use paving_log::{
     Log, LogEpoch, LogError, cover_boxes, done_line, epoch_line, head_lines, read_log, read_rows,
     root_line, sat_line, step_line,
 };
+use paving_log_check::{Verdict, judge, judged_folds};
 use sat_model::{Box3, NoMemory, Pos, Step};
 use std::alloc::{AllocError, Global};
 use std::test::Fail;
@@ -294,27 +297,26 @@ fn cover(alloc: Global, root: Option<Box3>, steps: &[Step]) -> Result<Vec<Box3>,
     cover_boxes(alloc, &epoch)
 }
 
+/// The boxes that are left of the first epoch of a log that is judged to be right.
+fn judged_cover(alloc: Global, log: &Log) -> Result<Vec<Box3>, Fail>
+    requires { IsNumbered (log_value log.now) }
+{
+    let Verdict::Yes { .. } = judge(alloc, log)? else {
+        return Err(Fail::from("no"));
+    };
+    let epoch = log.epochs.first().ok_or("no epoch")?;
+    judged_folds(epoch, &log.rules);
+    Ok(cover_boxes(alloc, epoch)?)
+}
+
 #[test]
 fn the_cover_of_the_log_is_its_search_box(rt: HostRuntime) -> Result<(), Fail> {
-    let root = cuboid();
-    let steps = [edge(0, -1_400_000, 1_400_000)];
     if LOG.len() > 4_000_000_000 {
         return Ok(());
     }
-    match read_log(rt.alloc(), LOG.as_bytes()) {
-        Ok(log) => {
-            assert_eq!(rt; log.epochs.len(), 1);
-            for epoch in &log.epochs {
-                assert_eq!(rt; epoch.root, Some(root));
-                assert_eq!(rt; epoch.steps.as_slice(), &steps[..]);
-            }
-        }
-        Err(error) => assert!(rt; false, "refused: {error:?}"),
-    }
-    match cover(rt.alloc(), Some(root), &steps) {
-        Ok(boxes) => assert_eq!(rt; boxes.as_slice(), &[root][..]),
-        Err(NoMemory) => assert!(rt; false, "no memory"),
-    }
+    let log = read_log(rt.alloc(), LOG.as_bytes()).ok().ok_or("refused")?;
+    let boxes = judged_cover(rt.alloc(), &log)?;
+    assert_eq!(rt; boxes.as_slice(), &[cuboid()][..]);
     Ok(())
 }
 
