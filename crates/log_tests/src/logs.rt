@@ -304,7 +304,10 @@ fn judged_cover(alloc: Global, log: &Log) -> Result<Vec<Box3>, Fail>
     let Verdict::Yes { .. } = judge(alloc, log)? else {
         return Err(Fail::from("no"));
     };
-    let epoch = log.epochs.first().ok_or("no epoch")?;
+    if log.epochs.is_empty() {
+        return Err(Fail::from("no epoch"));
+    }
+    let epoch = &log.epochs[0];
     judged_folds(epoch, &log.rules);
     Ok(cover_boxes(alloc, epoch)?)
 }
