@@ -5,7 +5,7 @@ ghost use Rattle.sat_model.specs.Fold.{first_stage};
 ghost use Rattle.sat_model.specs.Logs.{IsNumbered};
 ghost use Rattle.paving_log.specs.Values.{log_value};
 
-use crate::small_rows::{cuboid, edge};
+use crate::small_rows::cuboid;
 use paving_log::{
     Log, LogEpoch, LogError, cover_boxes, done_line, epoch_line, head_lines, read_log, read_rows,
     root_line, sat_line, step_line,
@@ -341,7 +341,11 @@ fn the_cover_has_the_kept_boxes_in_order_of_closing(rt: HostRuntime) -> Result<(
         Step::Split { id: 0, axis: 0 },
         Step::Split { id: 2, axis: 1 },
         Step::Outside { id: 3 },
-        edge(4, -1, 1),
+        Step::Edge {
+            id: 4,
+            lo: -1,
+            hi: 1,
+        },
         Step::Inside {
             id: 1,
             clock: 0,
