@@ -5,7 +5,7 @@ use Rattle.paving_log.specs.Values.{log_value}
 use Rattle.paving_log_check.specs.Answers.{IfYes, IfNo}
 use Rattle.paving_log_check.specs.declared.verdict.Verdict.{Verdict}
 use Rattle.paving_log_check.specs.declared.verdict.Verdict.TheVariants as verdict
-use Rattle.cover_run.proofs.InputReads.{IsReadEnd}
+use Rattle.cover_run.proofs.InputReads.{IsReadEnd, memory_is}
 use Rattle.cover_run.specs.Answers.{IsBrokenOff}
 use Rattle.cover_run.specs.CheckReads.{AreSameChecked}
 use Rattle.cover_run.specs.Checking.{Accepts, Refuses, SaysAccepted, SaysRefused, checked_text, Sinks, Notes, Breaks, CheckEnds, CheckSuits}
@@ -13,7 +13,6 @@ use Rattle.cover_run.specs.Inputs.{SameAnswer, IsBroken}
 use Rattle.cover_run.specs.Statuses.{status_of, status_of_verdict}
 use Rattle.cover_run.specs.declared.checked.Checked.{Checked}
 use Rattle.cover_run.specs.declared.notice.Notice.{Notice}
-use Rattle.cover_run.specs.declared.notice.Notice.TheVariants as notice
 use Rattle.cover_run.specs.declared.status.Status.{Status}
 use Rattle.cover_run.specs.declared.status.Status.TheVariants as status
 
@@ -62,10 +61,6 @@ exact_of_notice n s (Ok g) is (inr none) = absurd none
 exact_of_notice n s (Err m) is (inr same) = inr (is ∙ same)
 
 -- ---- a notice
-
-memory_is : (n : Notice) → status_of n ≡ status.NoMemory → n ≡ notice.NoMemory
-memory_is notice.NoMemory e = refl
-memory_is _ e = cc
 
 pub noticed : (before after : Sinks) (R : Type 0) (n : Notice) (s : Status) → IsReadEnd n → s ≡ status_of n → Notes before after n → after.out ≡ before.out → CheckEnds before after R (Err n) s
 noticed before after R n s (inl e) is notes out =

@@ -229,6 +229,10 @@ obs_refusals signal position = record { refuses = obs_refuse signal position }
 abbrev pub IsReadEnd : Notice → Type 0
 IsReadEnd n = (status_of n ≡ status.Refused) ⊎ ((status_of n ≡ status.ReadFault) ⊎ (status_of n ≡ status.NoMemory))
 
+pub memory_is : (n : Notice) → status_of n ≡ status.NoMemory → n ≡ notice.NoMemory
+memory_is notice.NoMemory e = refl
+memory_is _ e = cc
+
 pub inputs_status : (Counted : Type 0) (limits : Limits) (names : Names) (files : Option Files) (n : Notice) → ReadsInputs (MayBreak Counted) limits names files (Err n) → IsReadEnd n
 inputs_status Counted limits names files n (inr (e, reads, m)) =
     let same : n ≡ e = cc in subst IsReadEnd (sym same) (read_status slot.Settings limits.settings AreSettings IsSettingsFault settings_refusals Counted (file_in files names.settings) e reads)

@@ -11,7 +11,7 @@ use Rattle.outer_io.specs.declared.slots.Slot.{Slot}
 use Rattle.outer_io.specs.declared.slots.Slot.TheVariants as slot
 use Rattle.outer_io.specs.declared.slots.Slots.{Slots}
 use Rattle.sat_model.specs.Logs.{LogValue}
-use Rattle.cover_run.proofs.InputReads.{IsReadEnd}
+use Rattle.cover_run.proofs.InputReads.{IsReadEnd, memory_is}
 use Rattle.cover_run.proofs.PavingEnds.{IsRead, gives_map, gives_behind, leaves_all_behind}
 use Rattle.cover_run.proofs.SolvingLemmas.{is_solved, blocks_count}
 use Rattle.cover_run.specs.Answers.{World, IsBrokenOff}
@@ -126,10 +126,6 @@ module _ (limit : ℕ) (log : List ℕ) (before after : World) (reliable out_rel
   ends_behind status.LogFull (gives, notes) = (gives_there (IsSolvedToFull i limit) gives, notes)
 
 -- ---- the files weren't read
-
-memory_is : (n : Notice) → status_of n ≡ status.NoMemory → n ≡ notice.NoMemory
-memory_is notice.NoMemory e = refl
-memory_is _ e = cc
 
 pub solve_noticed : (limit : ℕ) (log : List ℕ) (before after : World) (reliable out_reliable : Type 0) (n : Notice) (s : Status) → IsReadEnd n → s ≡ status_of n
     → Notes (sinks_of before) (sinks_of after) n → CreatesNothing before after → SolveEnds limit log before after reliable out_reliable (Err n) s

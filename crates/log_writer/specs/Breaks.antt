@@ -1,5 +1,5 @@
 -- How far some pieces went out before a fault.
-use Rattle.std.specs.Prelude.{◌≡◌, ℕ, ◌+◌, ◌<◌, ◌≤◌, List, [], ◌∷◌, ◌++◌, length, take}
+use Rattle.std.specs.Prelude.{◌≡◌, ◌≢◌, ℕ, ◌+◌, ◌<◌, ◌≤◌, List, [], ◌∷◌, ◌++◌, length, take}
 use Rattle.log_writer.specs.declared.fault.WriteFault.{WriteFault}
 use Rattle.log_writer.specs.declared.fault.WriteFault.TheVariants as why
 use Rattle.log_writer.specs.Pieces.{Piece, log_bytes, report_bytes}
@@ -9,11 +9,11 @@ abbrev pub IsFrontOf : List ℕ → List ℕ → Type 0
 IsFrontOf front bytes = (kept : ℕ) × (front ≡ take kept bytes)
 
 -- What of a piece went out before this fault, where the log had room for so many bytes: first bytes
--- of its line, where the log's file failed; its whole line and first bytes of the report's line, where
--- `out` did; and nothing where its line is longer than the room, or memory had ended.
+-- of its line, where the log's file failed; its whole line and first bytes of the report's line, which it
+-- has, where `out` did; and nothing where its line is longer than the room, or memory had ended.
 abbrev pub PieceBreaks : ℕ → Piece → WriteFault → (log report : List ℕ) → Type 0
 PieceBreaks room next why.Log log report = (length next.line ≤ room) × IsFrontOf log next.line × (report ≡ [])
-PieceBreaks room next why.Out log report = (length next.line ≤ room) × (log ≡ next.line) × IsFrontOf report next.report
+PieceBreaks room next why.Out log report = (length next.line ≤ room) × (log ≡ next.line) × (next.report ≢ []) × IsFrontOf report next.report
 PieceBreaks room next why.Full log report = (room < length next.line) × (log ≡ []) × (report ≡ [])
 PieceBreaks room next why.NoMemory log report = (log ≡ []) × (report ≡ [])
 

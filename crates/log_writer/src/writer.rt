@@ -61,6 +61,9 @@ impl<'a, 'b, H: Shelf, O: Sink> Writer<'a, 'b, H, O> {
             Ok(()) => self.left -= length,
             Err(_) => return Err(WriteFault::Log),
         }
+        if report.is_empty() {
+            return Ok(());
+        }
         match write_sink(self.out, report) {
             Ok(()) => Ok(()),
             Err(_) => Err(WriteFault::Out),

@@ -1,4 +1,4 @@
-use Rattle.std.proofs.Common.{[], take, refl, arith}
+use Rattle.std.proofs.Common.{[], take, refl, arith, rules}
 use Rattle.outer_io.proofs.Appending.{append_known-nil}
 use Rattle.log_writer.specs.Pieces.{piece}
 use Rattle.log_writer.specs.declared.fault.WriteFault.TheVariants as why
@@ -21,5 +21,5 @@ returns-in-Err-write_sink-clause-written g c =
     let whole = c.in-Ok.ensures in
     let b = c.in-Err-write_sink.ensures in
     let (kept, at_most, taken) = b.prefix in
-    piece_ended _ _ (piece c.args.line.now c.args.report.now) why.Out c.args.line.now (take kept c.args.report.now) (c.if-self-length.false, refl, (kept, refl))
+    piece_ended _ _ (piece c.args.line.now c.args.report.now) why.Out c.args.line.now (take kept c.args.report.now) (c.if-self-length.false, refl, search rules, (kept, refl))
     (record { appended = whole.all; taken = taken; phases = whole.phase; log_faults = whole.cause.later; out_faults = b.cause.later }) b.cause.failed
