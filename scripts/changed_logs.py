@@ -113,8 +113,8 @@ def line_changes(lines):
 class Checks:
     """Runs `check` on changed logs of some files."""
 
-    def __init__(self, program, files):
-        self.program, self.files, self.folder = program, files, tempfile.mkdtemp()
+    def __init__(self, program, files, folder):
+        self.program, self.files, self.folder = program, files, folder
 
     def answer(self, number, lines, original):
         """What `check` says of a log of these lines."""
@@ -162,17 +162,17 @@ def main():
     with tempfile.TemporaryDirectory() as room, ThreadPoolExecutor(os.cpu_count()) as pool:
         for name, text in (("given", settings), ("wide", with_wide_bounds(settings))):
             files, lines = solved(program, room, name, three_epochs(obs), nav, text)
-            checks = Checks(program, files)
+            checks = Checks(program, files, room)
             changes = [((numbers, kind, field, way), changed) for kind, field, way, changed in number_changes(lines)]
             changes += [((wholes, kind, "", way), changed) for kind, way, changed in line_changes(lines)]
             answers = pool.map(lambda it: checks.answer(it[0], it[1][1], lines), enumerate(changes))
             for ((counted, kind, field, way), _), answer in zip(changes, answers):
                 counted[kind, field, way][answer] += 1
             count += len(changes)
-    rows = dict.fromkeys((f"`{kind}`", field) for kind, fields in FIELDS.items() for field in fields)
+    rows = dict.fromkeys((kind, field) for kind, fields in FIELDS.items() for field in fields)
     print(f"{count} changed logs\n")
     print(table(["line", "number", "up", "down"],
-                [[kind, field, *(cell(numbers[kind.strip("`"), field, way]) for way in ("up", "down"))] for kind, field in rows]))
+                [[f"`{kind}`", field, *(cell(numbers[kind, field, way]) for way in ("up", "down"))] for kind, field in rows]))
     ways = ["dropped", "doubled", "behind the next", "from another epoch"]
     print(table(["line", *ways], [[f"`{kind}`", *(cell(wholes[kind, "", way]) for way in ways)] for kind in FIELDS]))
 
