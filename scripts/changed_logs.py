@@ -3,7 +3,7 @@
 
 usage: changed_logs.py PROGRAM FOLDER
 
-FOLDER has receiver.obs, receiver.nav and settings.toml, as examples/ has. Two logs of their first three epochs
+FOLDER has receiver.obs, receiver.nav and settings.toml, as crates/gpscover/data has. Two logs of their first three epochs
 are solved: one with the settings as they are, and one over a small box with wide bounds, so that there are
 boxes inside. Of the second epoch four satellites are left, and there and in the third one satellite lacks its
 code. Each number of each line goes up and down by one, and each line is dropped, doubled, put behind the next,

@@ -40,7 +40,7 @@ double_is s c =
 
 -- ---- the chain
 
-chain_distance : (el : Elements) (n t x y z : ℤ) → OrbitChain el n t x y z → Between (pos space_low) (pos space_high) ((x *ℤ x) +ℤ (y *ℤ y) +ℤ (z *ℤ z))
+pub chain_distance : (el : Elements) (n t x y z : ℤ) → OrbitChain el n t x y z → Between (pos space_low) (pos space_high) ((x *ℤ x) +ℤ (y *ℤ y) +ℤ (z *ℤ z))
 chain_distance el n t x y z o =
     let f = o.f in
     let F = o.fields in

@@ -1,135 +1,205 @@
 -- The reading of one file: from its bytes to what it gives.
-use Rattle.std.proofs.Common.{◌≡◌, ◌⊎◌, ◌<◌, ◌≤◌, ℕ, true, false, not, List, length, Option, None, Some, IsSomeAnd, is_some, Result, Ok, Err, is_err, IsErr, inl, inr, refl, sym, ap, subst, ◌∙◌, arith}
+use Rattle.std.proofs.Common.{◌≡◌, ◌<◌, ◌≤◌, ℕ, Bool, true, false, not, List, [], ◌∷◌, length}
+use Rattle.std.proofs.Common.{Option, None, Some, IsSomeAnd, is_some, Result, Ok, Err, IfErr, is_ok}
+use Rattle.std.proofs.Common.{inl, inr, refl, sym, ap, subst, arith}
 use Rattle.std.specs.FinMap as map
-use Rattle.outer_io.specs.Causes.{Rose}
-use Rattle.outer_io.specs.Told.{Told, files_of, is_missing}
+use Rattle.std.specs.Option.{option_map}
+use Rattle.outer_io.specs.Told.{Files, Told, ShelfState, files_of, lacks}
 use Rattle.outer_io.specs.declared.slots.Slot.{Slot}
-use Rattle.cover_run.specs.Answers.{HasFile}
-use Rattle.cover_run.specs.Inputs.{TextGives, IsAnswer, BytesGive, TellsFile, FileGives, UntoldGives, file_in, IsCounted, MayBreak, NeverBreaks, Reads, SameAnswer, IsBroken}
+use Rattle.cover_run.specs.Reading.{Text, Gives, GivesOrEnds, GivesWithin, ReadsFile, Named}
+use Rattle.cover_run.specs.Reading.{MayBreak}
+use Rattle.cover_run.specs.Reading.{NeverBreaks, IsCounted, Found, Settles, IsSameAnswer, file_in}
+use Rattle.cover_run.specs.Reading.{limit_of}
+use Rattle.cover_run.specs.Reading.{IsOfReading, OnlyReads, Opens, Touches, valued}
 use Rattle.cover_run.specs.Statuses.{status_of}
+use Rattle.cover_run.specs.Unread.{HasFile, IsTold, IsUnread}
+use Rattle.cover_run.specs.declared.limits.Limits.{Limits}
 use Rattle.cover_run.specs.declared.notice.Notice.{Notice}
 use Rattle.cover_run.specs.declared.notice.Notice.TheVariants as notice
-use Rattle.cover_run.specs.declared.status.Status.TheVariants as status
 
--- why a file wasn't read to its end
-abbrev pub IsReadRefusal : Slot → ℕ → Notice → Type 0
-IsReadRefusal of limit n = (n ≡ notice.NoMemory) ⊎ ((n ≡ notice.ReadFault of) ⊎ (n ≡ notice.TooLong of limit))
+-- ---- the slot
 
--- counted since something earlier
-pub counted_from : (a b c : ℕ) (reliable : Option (List ℕ) → Type 0) → a ≤ b → IsCounted b c reliable → IsCounted a c reliable
-counted_from a b c reliable le is = record { rose = let h : Rose b c = is.rose in omega arith; unreliable = is.unreliable }
+opens_one : (of : Slot) (all : Bool) (a b : ShelfState)
+    → Touches of a b → Opens (of ∷ []) all a.phases b.phases
+opens_one of true a b t = (t.phases.0, t.phases.1, inr (refl, t.phases.2))
+opens_one of false a b t = (t.phases.0, t.phases.1, inl (refl, t.phases.2))
 
--- notices of the fault of a text are those of a refusal
-pub record AreRefusals (HaveFault : List ℕ → Notice → Type 0) : Type 0 where
-  pub refuses : (bytes : List ℕ) (n : Notice) → HaveFault bytes n → status_of n ≡ status.Refused
+pub only_one : {V : Type 0} (of to : Slot) (a b : ShelfState) (r : Result V Notice) → of ≡ to
+    → Touches of a b → IfErr r IsOfReading → OnlyReads (to ∷ []) a b r
+only_one {V} of to a b r e t ends = subst (λ (s : Slot). OnlyReads {V = V} (s ∷ []) a b r) e
+    (record {
+      untouched = record {
+        leaves = t.leaves;
+        phases = opens_one of (is_ok r) a b t;
+        write_faults = t.write_faults;
+      };
+      ends = ends;
+      later = t.later;
+    })
 
-module _ {V : Type 0} (of : Slot) (limit : ℕ) (Are : List ℕ → V → Type 0) (HaveFault : List ℕ → Notice → Type 0) (refusals : AreRefusals HaveFault) where
-  abbrev Give : List ℕ → Result V Notice → Type 0
-  Give = BytesGive of limit Are HaveFault
+pub unread_ends : (of : Slot) (limit : ℕ) (n : Notice) → IsUnread of limit n → IsOfReading n
+unread_ends of limit n (inl m) = inr (inr (ap status_of m))
+unread_ends of limit n (inr (inl m)) = inr (inl (ap status_of m))
+unread_ends of limit n (inr (inr m)) = inl (ap status_of m)
 
-  -- ---- what was read
+module _ {V : Type 0} (text : Text V) where
+  text_ends_at : (bytes : List ℕ) (n : Notice) → GivesOrEnds text bytes (Err n) → IsOfReading n
+  text_ends_at bytes n (inl e) = let m : n ≡ notice.NoMemory = cc in inr (inr (ap status_of m))
+  text_ends_at bytes n (inr given) = inl given.0
 
-  fails : (Counted : Type 0) (file : Option (List ℕ)) (n : Notice) → IsReadRefusal of limit n → ((most : ℕ) → n ≡ notice.TooLong of most → IsSomeAnd file (λ bytes. limit < length bytes))
-      → (n ≡ notice.ReadFault of → not (is_some file) ≡ false → Counted) → Reads (MayBreak Counted) of (TellsFile of Give file) (Err n)
-  fails Counted file n (inl m) long fault = inr (inl m)
-  fails Counted None n (inr (inl m)) long fault = inl (ap Err m)
-  fails Counted (Some bytes) n (inr (inl m)) long fault = inr (inr (m, fault m refl))
-  fails Counted None n (inr (inr m)) long fault = absurd (long limit m)
-  fails Counted (Some bytes) n (inr (inr m)) long fault = inl (inl (m, long limit m))
+  pub text_ends : (bytes : List ℕ) (r : Result V Notice)
+      → GivesOrEnds text bytes (valued text.value r) → IfErr r IsOfReading
+  text_ends bytes (Ok v) gives = tt
+  text_ends bytes (Err n) gives = text_ends_at bytes n gives
 
-  fails_untold : (Counted : Type 0) (n : Notice) → IsReadRefusal of limit n → (n ≡ notice.ReadFault of → Counted) → Reads (MayBreak Counted) {V = V} of UntoldGives (Err n)
-  fails_untold Counted n (inl m) fault = inr (inl m)
-  fails_untold Counted n (inr (inl m)) fault = inr (inr (m, fault m))
-  fails_untold Counted n (inr (inr m)) fault = inl (ap status_of m)
+  module _ (limit : ℕ) (name : List ℕ) where
+    abbrev Here : Option Told → Option (Option (List ℕ))
+    Here told = file_in (option_map (λ t. t.files) told) name
 
-  pub read_fails : (Counted : Type 0) (told : Option Told) (name : List ℕ) (n : Notice) → IsReadRefusal of limit n
-      → ((most : ℕ) → n ≡ notice.TooLong of most → (most ≡ limit) × HasFile told name (λ bytes. limit < length bytes))
-      → (n ≡ notice.ReadFault of → is_missing told name ≡ false → Counted) → Reads (MayBreak Counted) of (FileGives of Give (file_in (files_of told) name)) (Err n)
-  read_fails Counted None name n refusal long fault = fails_untold Counted n refusal (λ m. fault m refl)
-  read_fails Counted (Some t) name n refusal long fault = fails Counted (map.get t.files name) n refusal (λ most m. (long most m).1) fault
+    -- ---- what was read
 
-  -- ---- the text was read
+    unread_told : (a b : ShelfState) (reliable : Option (List ℕ) → Type 0)
+        (file : Option (List ℕ)) (n : Notice) → IsUnread text.slot limit n
+        → (n ≡ notice.TooLong text.slot limit → IsSomeAnd file (λ bytes. limit < length bytes))
+        → (not (is_some file) ≡ true → n ≡ notice.ReadFault text.slot)
+        → (n ≡ notice.ReadFault text.slot → not (is_some file) ≡ false → IsCounted a b reliable)
+        → ReadsFile text limit (MayBreak a b reliable) (Some file) (Err n)
+    unread_told a b reliable None n unread long missing fault =
+        inl (ap Err (missing refl))
+    unread_told a b reliable (Some bytes) n (inl m) long missing fault = inr (n, refl, tt, inl m)
+    unread_told a b reliable (Some bytes) n (inr (inl m)) long missing fault =
+        inr (n, refl, tt, inr (m, fault m refl))
+    unread_told a b reliable (Some bytes) n (inr (inr m)) long missing fault =
+        inl (inr (long m, ap Err m))
 
-  reads_text : (Counted : Type 0) (file : Option (List ℕ)) (all : List ℕ) (r : Result V Notice) → IsSomeAnd file (λ bytes. all ≡ bytes) → length all ≤ limit → TextGives Are HaveFault all r
-      → Reads (MayBreak Counted) of (TellsFile of Give file) r
-  reads_text Counted None all r has within gives = absurd has
-  reads_text Counted (Some bytes) all (Ok v) has within gives = subst (λ (b : List ℕ). Give b (Ok v)) has (within, gives)
-  reads_text Counted (Some bytes) all (Err n) has within (inl m) = inr (inl m)
-  reads_text Counted (Some bytes) all (Err n) has within (inr fault) = inl (subst (λ (b : List ℕ). Give b (Err n)) has (inr (within, fault)))
+    unread_reads : (a b : ShelfState) (reliable : Option (List ℕ) → Type 0)
+        (told : Option Told) (n : Notice) → IsUnread text.slot limit n
+        → (n ≡ notice.TooLong text.slot limit → IsTold told name (λ bytes. limit < length bytes))
+        → (lacks told name ≡ true → n ≡ notice.ReadFault text.slot)
+        → (n ≡ notice.ReadFault text.slot → lacks told name ≡ false → IsCounted a b reliable)
+        → ReadsFile text limit (MayBreak a b reliable) (Here told) (Err n)
+    unread_reads a b reliable (Some t) n unread long missing fault =
+        unread_told a b reliable (map.get t.files name) n unread long missing fault
+    unread_reads a b reliable None n (inl m) long missing fault = inr (n, refl, tt, inl m)
+    unread_reads a b reliable None n (inr (inl m)) long missing fault =
+        inr (n, refl, tt, inr (m, fault m refl))
+    unread_reads a b reliable None n (inr (inr m)) long missing fault = inl (ap status_of m)
 
-  reads_untold : (Counted : Type 0) (all : List ℕ) (r : Result V Notice) → TextGives Are HaveFault all r → Reads (MayBreak Counted) {V = V} of UntoldGives r
-  reads_untold Counted all (Ok v) gives = tt
-  reads_untold Counted all (Err n) (inl m) = inr (inl m)
-  reads_untold Counted all (Err n) (inr fault) = inl (refusals.refuses all n fault)
+    text_told : (a b : ShelfState) (reliable : Option (List ℕ) → Type 0) (file : Option (List ℕ))
+        (all : List ℕ) (r : Result text.Value Notice) → IsSomeAnd file (λ bytes. all ≡ bytes)
+        → length all ≤ limit → GivesOrEnds text all r
+        → ReadsFile text limit (MayBreak a b reliable) (Some file) r
+    text_told a b reliable None all r has within gives = absurd has
+    text_told a b reliable (Some bytes) all r has within (inl m) =
+        inr (notice.NoMemory, m, tt, inl refl)
+    text_told a b reliable (Some bytes) all r has within (inr given) =
+        inl (subst (λ (bs : List ℕ). GivesWithin text limit bs r) has (inl (within, given)))
 
-  pub file_reads : (Counted : Type 0) (told : Option Told) (name all : List ℕ) (r : Result V Notice) → HasFile told name (λ bytes. all ≡ bytes) → length all ≤ limit → TextGives Are HaveFault all r
-      → Reads (MayBreak Counted) of (FileGives of Give (file_in (files_of told) name)) r
-  file_reads Counted None name all r has within gives = reads_untold Counted all r gives
-  file_reads Counted (Some t) name all r has within gives = reads_text Counted (map.get t.files name) all r has within gives
+    text_untold : (a b : ShelfState) (reliable : Option (List ℕ) → Type 0) (all : List ℕ)
+        (r : Result text.Value Notice) → GivesOrEnds text all r
+        → ReadsFile text limit (MayBreak a b reliable) None r
+    text_untold a b reliable all r (inl m) = inr (notice.NoMemory, m, tt, inl refl)
+    text_untold a b reliable all (Ok w) (inr given) = inl tt
+    text_untold a b reliable all (Err n) (inr given) = inl given.0
 
-  refused_is : (bytes : List ℕ) (n : Notice) → Give bytes (Err n) → status_of n ≡ status.Refused
-  refused_is bytes n (inl (m, long)) = ap status_of m
-  refused_is bytes n (inr (within, fault)) = refusals.refuses bytes n fault
+    text_reads : (a b : ShelfState) (reliable : Option (List ℕ) → Type 0) (told : Option Told)
+        (all : List ℕ) (r : Result text.Value Notice) → IsTold told name (λ bytes. all ≡ bytes)
+        → length all ≤ limit → GivesOrEnds text all r
+        → ReadsFile text limit (MayBreak a b reliable) (Here told) r
+    text_reads a b reliable None all r has within gives = text_untold a b reliable all r gives
+    text_reads a b reliable (Some t) all r has within gives =
+        text_told a b reliable (map.get t.files name) all r has within gives
 
-  -- a notice of a reading has one of three statuses
-  pub read_status : (Counted : Type 0) (file : Option (Option (List ℕ))) (n : Notice) → Reads (MayBreak Counted) of (FileGives of Give file) (Err n)
-      → (status_of n ≡ status.Refused) ⊎ ((status_of n ≡ status.ReadFault) ⊎ (status_of n ≡ status.NoMemory))
-  read_status Counted file n (inr (inl m)) = inr (inr (ap status_of m))
-  read_status Counted file n (inr (inr (m, counted))) = inr (inl (ap status_of m))
-  read_status Counted None n (inl refused) = inl refused
-  read_status Counted (Some None) n (inl e) = let m : n ≡ notice.ReadFault of = cc in inr (inl (ap status_of m))
-  read_status Counted (Some (Some bytes)) n (inl gives) = inl (refused_is bytes n gives)
+    -- ---- what told files give is read
 
-  -- ---- what a told file gives is read
+    long_is : (bytes : List ℕ) (n : Notice) (other : Result text.Value Notice)
+        → limit < length bytes → n ≡ notice.TooLong text.slot limit
+        → ReadsFile text limit NeverBreaks (Some (Some bytes)) other → Settles (Err n) other
+    long_is bytes n other long m (inl (inl (within, given))) = absurd (omega arith)
+    long_is bytes n other long m (inl (inr (le, is))) =
+        inr (subst (λ (o : Result text.Value Notice). IsSameAnswer (Err n) o) (sym is)
+        (ap status_of m))
+    long_is bytes n other long m (inr (k, is, there, breaks)) = absurd breaks
 
-  module _ (Same : V → V → Type 0) where
-    long_is : (bytes : List ℕ) (other : Result V Notice) (n : Notice) → limit < length bytes → n ≡ notice.TooLong of limit → Reads NeverBreaks of (Give bytes) other
-        → IsBroken {V = V} (Err n) ⊎ SameAnswer Same (Err n) other
-    long_is bytes (Ok w) n long m gives = let h : length bytes ≤ limit = gives.0 in absurd (omega arith)
-    long_is bytes (Err k) n long m (inl gives) = inr (ap status_of m ∙ sym (refused_is bytes k gives))
-    long_is bytes (Err k) n long m (inr broken) = absurd broken
+    unread_settles : (file : Option (List ℕ)) (n : Notice) (other : Result text.Value Notice)
+        → IsUnread text.slot limit n
+        → (n ≡ notice.TooLong text.slot limit → IsSomeAnd file (λ bytes. limit < length bytes))
+        → ReadsFile text limit NeverBreaks (Some file) other → Settles (Err n) other
+    unread_settles file n other (inl m) long reads = inl (inr (inr (ap status_of m)))
+    unread_settles file n other (inr (inl m)) long reads = inl (inl (ap status_of m))
+    unread_settles None n other (inr (inr m)) long reads = absurd (long m)
+    unread_settles (Some bytes) n other (inr (inr m)) long reads =
+        long_is bytes n other (long m) m reads
 
-    is_told : (file told : Option (List ℕ)) (P : List ℕ → Type 0) → told ≡ file → IsSomeAnd told P → IsSomeAnd file P
-    is_told file told P e has = subst (λ (f : Option (List ℕ)). IsSomeAnd f P) e has
+    unread_same : (told : Option Told) (files : Files) (n : Notice)
+        (other : Result text.Value Notice) → option_map (λ t. t.files) told ≡ Some files
+        → IsUnread text.slot limit n
+        → (n ≡ notice.TooLong text.slot limit → IsTold told name (λ bytes. limit < length bytes))
+        → ReadsFile text limit NeverBreaks (Here told) other → Settles (Err n) other
+    unread_same None files n other is unread long reads = cc
+    unread_same (Some t) files n other is unread long reads =
+        unread_settles (map.get t.files name) n other unread long reads
 
-    fails_exact : (file : Option (List ℕ)) (other : Result V Notice) (n : Notice) → IsReadRefusal of limit n → ((most : ℕ) → n ≡ notice.TooLong of most → IsSomeAnd file (λ bytes. limit < length bytes))
-        → Reads NeverBreaks of (TellsFile of Give file) other → IsBroken {V = V} (Err n) ⊎ SameAnswer Same (Err n) other
-    fails_exact file other n (inl m) long gives = inl (inr (inr (ap status_of m)))
-    fails_exact file other n (inr (inl m)) long gives = inl (inl (ap status_of m))
-    fails_exact None other n (inr (inr m)) long gives = absurd (long limit m)
-    fails_exact (Some bytes) other n (inr (inr m)) long gives = long_is bytes other n (long limit m) m gives
+    text_settles : (file : Option (List ℕ)) (all : List ℕ) (r other : Result text.Value Notice)
+        → IsSomeAnd file (λ bytes. all ≡ bytes) → length all ≤ limit
+        → ((o : Result text.Value Notice) → Gives text all o → Settles r o)
+        → ReadsFile text limit NeverBreaks (Some file) other → Settles r other
+    text_settles None all r other has within same reads = absurd has
+    text_settles (Some bytes) all r other has within same (inl (inl (le, given))) =
+        same other (subst (λ (bs : List ℕ). Gives text bs other) (sym has) given)
+    text_settles (Some bytes) all r other has within same (inl (inr (long, is))) =
+        let e : length all ≡ length bytes = ap length has in absurd (omega arith)
+    text_settles (Some bytes) all r other has within same (inr (k, is, there, breaks)) =
+        absurd breaks
 
-    pub read_fails_exact : (told : Option Told) (name : List ℕ) (file : Option (List ℕ)) (other : Result V Notice) (n : Notice) → file_in (files_of told) name ≡ Some file → IsReadRefusal of limit n
-        → ((most : ℕ) → n ≡ notice.TooLong of most → (most ≡ limit) × HasFile told name (λ bytes. limit < length bytes))
-        → Reads NeverBreaks of (FileGives of Give (Some file)) other → IsBroken {V = V} (Err n) ⊎ SameAnswer Same (Err n) other
-    read_fails_exact None name file other n e refusal long gives = cc
-    read_fails_exact (Some t) name file other n e refusal long gives =
-        let same : map.get t.files name ≡ file = cc in fails_exact file other n refusal (λ most m. is_told file _ _ same (long most m).1) gives
+    text_same : (told : Option Told) (files : Files) (all : List ℕ)
+        (r other : Result text.Value Notice) → option_map (λ t. t.files) told ≡ Some files
+        → IsTold told name (λ bytes. all ≡ bytes) → length all ≤ limit
+        → ((o : Result text.Value Notice) → Gives text all o → Settles r o)
+        → ReadsFile text limit NeverBreaks (Here told) other → Settles r other
+    text_same None files all r other is has within same reads = cc
+    text_same (Some t) files all r other is has within same reads =
+        text_settles (map.get t.files name) all r other has within same reads
 
-    -- within the limit it is a fault
-    has_fault : (bytes : List ℕ) (n : Notice) → length bytes ≤ limit → Give bytes (Err n) → HaveFault bytes n
-    has_fault bytes n within (inl (m, long)) = absurd (omega arith)
-    has_fault bytes n within (inr (le, fault)) = fault
+-- ---- both
 
-    text_exact : (all : List ℕ) (r other : Result V Notice) → length all ≤ limit → ((w : V) → Are all w → IsAnswer Same w r) → ((n : Notice) → HaveFault all n → IsErr r)
-        → TextGives Are HaveFault all r → Reads NeverBreaks of (Give all) other → IsBroken r ⊎ SameAnswer Same r other
-    text_exact all (Ok v) (Ok w) within value fault gives is = inr (value w is.1)
-    text_exact all (Ok v) (Err k) within value fault gives (inl is) = let none : is_err {E = Notice} (Ok v) ≡ true = fault k (has_fault all k within is) in cc
-    text_exact all (Ok v) (Err k) within value fault gives (inr broken) = absurd broken
-    text_exact all (Err n) (Ok w) within value fault gives is = inl (inr (inr (ap status_of (value w is.1))))
-    text_exact all (Err n) (Err k) within value fault (inl m) is = inl (inr (inr (ap status_of m)))
-    text_exact all (Err n) (Err k) within value fault (inr has) (inl is) = inr (refusals.refuses all n has ∙ sym (refused_is all k is))
-    text_exact all (Err n) (Err k) within value fault (inr has) (inr broken) = absurd broken
+module _ {V : Type 0} (limits : Limits) (text : Text V) (name : List ℕ) (a b : ShelfState)
+    (reliable : Option (List ℕ) → Type 0) where
+  -- why the bytes weren't read
+  pub record IsUnreadAt (of : Slot) (n : Notice) : Type 0 where
+    pub unread : IsUnread of (limit_of limits of) n
+    pub long : n ≡ notice.TooLong of (limit_of limits of)
+        → HasFile a name (λ bytes. limit_of limits of < length bytes)
+    pub missing : lacks a.told name ≡ true → n ≡ notice.ReadFault of
+    pub fault : n ≡ notice.ReadFault of → lacks a.told name ≡ false → IsCounted a b reliable
 
-    told_exact : (file : Option (List ℕ)) (all : List ℕ) (r other : Result V Notice) → IsSomeAnd file (λ bytes. all ≡ bytes) → length all ≤ limit → ((w : V) → Are all w → IsAnswer Same w r)
-        → ((n : Notice) → HaveFault all n → IsErr r) → TextGives Are HaveFault all r → Reads NeverBreaks of (TellsFile of Give file) other → IsBroken r ⊎ SameAnswer Same r other
-    told_exact None all r other has within value fault gives is = absurd has
-    told_exact (Some bytes) all r other has within value fault gives is =
-        text_exact all r other within value fault gives (subst (λ (b : List ℕ). Reads NeverBreaks of (Give b) other) (sym has) is)
+  there : (files : Files) (other : Result text.Value Notice) → files_of a ≡ Some files
+      → Named limits text name NeverBreaks (Some files) other
+      → Named limits text name NeverBreaks (files_of a) other
+  there files other is reads =
+      subst (λ (fs : Option Files). Named limits text name NeverBreaks fs other) (sym is) reads
 
-    pub file_exact : (told : Option Told) (name : List ℕ) (file : Option (List ℕ)) (all : List ℕ) (r other : Result V Notice) → file_in (files_of told) name ≡ Some file
-        → HasFile told name (λ bytes. all ≡ bytes) → length all ≤ limit → ((w : V) → Are all w → IsAnswer Same w r) → ((n : Notice) → HaveFault all n → IsErr r)
-        → TextGives Are HaveFault all r → Reads NeverBreaks of (FileGives of Give (Some file)) other → IsBroken r ⊎ SameAnswer Same r other
-    file_exact None name file all r other e has within value fault gives is = cc
-    file_exact (Some t) name file all r other e has within value fault gives is =
-        let same : map.get t.files name ≡ file = cc in told_exact file all r other (is_told file _ _ same has) within value fault gives is
+  pub found_unread : (of : Slot) (n : Notice) → of ≡ text.slot → IsUnreadAt of n
+      → Found (Named limits text name) a b reliable (Err n)
+  found_unread of n e at_slot =
+      let u = subst (λ (s : Slot). IsUnreadAt s n) e at_slot in
+      let limit = limit_of limits text.slot in
+      record {
+        reads =
+            unread_reads text limit name a b reliable a.told n u.unread u.long u.missing u.fault;
+        same = λ told other is reads. unread_same text limit name a.told told n other is u.unread
+            u.long (there told other is reads);
+      }
+
+  pub found_text : (of : Slot) (all : List ℕ) (r : Result text.Value Notice) → of ≡ text.slot
+      → HasFile a name (λ bytes. all ≡ bytes) → length all ≤ limit_of limits of
+      → GivesOrEnds text all r → ((o : Result text.Value Notice) → Gives text all o → Settles r o)
+      → Found (Named limits text name) a b reliable r
+  found_text of all r e has within gives same =
+      let limit = limit_of limits text.slot in
+      let fits = subst (λ (s : Slot). length all ≤ limit_of limits s) e within in
+      record {
+        reads = text_reads text limit name a b reliable a.told all r has fits gives;
+        same = λ told other is reads. text_same text limit name a.told told all r other is has fits
+            same (there told other is reads);
+      }

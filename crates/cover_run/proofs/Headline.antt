@@ -1,177 +1,276 @@
 -- A log that was solved is accepted where it is checked with the same files.
-use Rattle.std.proofs.Common.{◌≡◌, ◌⊎◌, ◌≤◌, ℕ, List, length, Option, None, Some, Result, Ok, Err, inl, inr, refl, sym, ap, subst, ◌∙◌, arith}
+use Rattle.std.proofs.Common.{◌≡◌, ◌⊎◌, ◌≤◌, ℕ, List, length, Option, None, Some, Result, Ok}
+use Rattle.std.proofs.Common.{Err}
+use Rattle.std.proofs.Common.{inl, inr, refl, sym, ap, subst, ◌∙◌, arith}
+use Rattle.std.specs.Prelude.{◌≢◌}
 use Rattle.std.specs.FinMap as map
 use Rattle.std.specs.Option.{option_map}
+use Rattle.log_writer.specs.Writing.{Trust}
 use Rattle.outer_io.proofs.Covering.{get-other, get-log}
 use Rattle.outer_io.specs.Told.{Files, files_of}
 use Rattle.outer_io.specs.declared.slots.Slot.{Slot}
 use Rattle.outer_io.specs.declared.slots.Slot.TheVariants as slot
+use Rattle.paving_log.specs.Faults.{FirstFault}
 use Rattle.paving_log.specs.Text.{IsLogText}
 use Rattle.paving_log.specs.Values.{log_value}
-use Rattle.paving_log.specs.declared.log.Log.{Log}
-use Rattle.rinex_text.specs.Faults.{gives, then}
+use Rattle.paving_log_check.specs.declared.verdict.Fault.{Fault}
+use Rattle.sat_model.specs.Logs.{LogValue}
 use Rattle.cover_run.proofs.AcceptLemmas.{not_refused}
-use Rattle.cover_run.proofs.CheckedReads.{inputs_there, no_log_fault}
+use Rattle.cover_run.proofs.GrammarLemmas.{no_first}
+use Rattle.cover_run.proofs.RunLemmas.{stopped_not_done}
+use Rattle.cover_run.proofs.TaskLemmas.{checked_fair}
 use Rattle.cover_run.specs.Accepting.{AreApart, SolvesThenChecks}
-use Rattle.cover_run.specs.Answers.{World, IsBrokenOff}
-use Rattle.cover_run.specs.CheckReads.{ReadsLog, ReadsChecked}
-use Rattle.cover_run.specs.Checking.{Refuses, sinks_of, CheckEnds}
-use Rattle.cover_run.specs.Inputs.{MayBreak, NeverBreaks, ReadsSettings, ReadsNav, ReadsObs, ReadsInputs, InputsGive, SameAnswer, IsBroken, AreSameInputs, IsCounted, file_in, wants_position}
-use Rattle.cover_run.specs.Solving.{IsSolved, Writes}
+use Rattle.cover_run.specs.Checking.{CheckedValue, ReadsChecked, Refuses, SaysAccepted}
+use Rattle.cover_run.specs.Checking.{SaysRefused, checked_value}
+use Rattle.cover_run.specs.Inputs.{InputsValue, ReadsInputs, inputs_value, nav_text, obs_text}
+use Rattle.cover_run.specs.Inputs.{settings_text, wants_position}
+use Rattle.cover_run.specs.Logs.{log_text}
+use Rattle.cover_run.specs.Reading.{IsBrokenOff, MayBreak, NeverBreaks, ReadsFile, Settles, Text}
+use Rattle.cover_run.specs.Reading.{file_in, limit_of, valued}
+use Rattle.cover_run.specs.Runs.{Ends, checking, solving}
+use Rattle.cover_run.specs.Solving.{IsSolved, IsSolution, Solves}
 use Rattle.cover_run.specs.Statuses.{status_of}
+use Rattle.cover_run.specs.Telling.{Tells, sinks}
 use Rattle.cover_run.specs.Words.{Names}
+use Rattle.cover_run.specs.Worlds.{World}
+use Rattle.cover_run.specs.Writing.{Answer, status_of_writing}
 use Rattle.cover_run.specs.declared.checked.Checked.{Checked}
 use Rattle.cover_run.specs.declared.inputs.Inputs.{Inputs}
 use Rattle.cover_run.specs.declared.limits.Limits.{Limits}
 use Rattle.cover_run.specs.declared.notice.Notice.{Notice}
 use Rattle.cover_run.specs.declared.status.Status.{Status}
 use Rattle.cover_run.specs.declared.status.Status.TheVariants as status
+use Rattle.log_writer.specs.declared.fault.WriteFault.TheVariants as why
 
--- ---- readings that break off
+-- ---- the files behind the log
 
--- a counted fault or want of memory ended it
-abbrev Ended : Type 0 → Notice → Type 0
-Ended Counted n = (of : Slot) × MayBreak Counted of n
-
-broken : (Counted : Type 0) (n : Notice) → Ended Counted n → IsBrokenOff (status_of n)
-broken Counted n (of, inl m) = inr (inr (ap status_of m))
-broken Counted n (of, inr (m, counted)) = inl (ap status_of m)
-
-no_memory : (Counted : Type 0) (n : Notice) → (Counted → ⊥) → Ended Counted n → status_of n ≡ status.NoMemory
-no_memory Counted n none (of, inl m) = ap status_of m
-no_memory Counted n none (of, inr (m, counted)) = absurd (none counted)
-
-ended_as : (Counted : Type 0) (n e : Notice) → n ≡ e → Ended Counted e → Ended Counted n
-ended_as Counted n e same ended = subst (λ (k : Notice). Ended Counted k) (sym same) ended
-
--- a reading that ends with a notice has it from the files, or is broken off
-inputs_end : (Counted : Type 0) (limits : Limits) (names : Names) (files : Option Files) (n : Notice) → ReadsInputs (MayBreak Counted) limits names files (Err n)
-    → InputsGive limits names files (Err n) ⊎ Ended Counted n
-inputs_end Counted limits names files n (inr (e, inl g, m)) = inl (inr (e, inl g, m))
-inputs_end Counted limits names files n (inr (e, inr b, m)) = let same : n ≡ e = cc in inr (ended_as Counted n e same (slot.Settings, b))
-inputs_end Counted limits names files n (inl (s, is, inr (e, inl g, m))) = inl (inl (s, is, inr (e, inl g, m)))
-inputs_end Counted limits names files n (inl (s, is, inr (e, inr b, m))) = let same : n ≡ e = cc in inr (ended_as Counted n e same (slot.Nav, b))
-inputs_end Counted limits names files n (inl (s, is, inl (records, has, inr (e, inl g, m)))) = inl (inl (s, is, inl (records, has, inr (e, inl g, m))))
-inputs_end Counted limits names files n (inl (s, is, inl (records, has, inr (e, inr b, m)))) = let same : n ≡ e = cc in inr (ended_as Counted n e same (slot.Obs, b))
-inputs_end Counted limits names files n (inl (s, is, inl (records, has, inl (o, sees, m)))) = cc
-
--- ---- other files than the log
-
-abbrev ReadsFiles : (Breaks : Slot → Notice → Type 0) → Limits → Option (Option (List ℕ)) → Option (Option (List ℕ)) → Option (Option (List ℕ)) → Result Inputs Notice → Type 0
-ReadsFiles Breaks limits settings nav obs =
-    then (ReadsSettings Breaks limits.settings settings) (λ s.
-    then (ReadsNav Breaks limits.file nav) (λ records.
-    then (ReadsObs Breaks limits.file s.signal (wants_position s.centre) obs) (λ o.
-    gives (record { settings = s; nav = records; obs = o }))))
-
-module _ (limits : Limits) (names : Names) (log bytes : List ℕ) (told : Files) (apart : AreApart names log) where
+module _ (limits : Limits) (names : Names) (log bytes : List ℕ) (told : Files)
+    (apart : AreApart names log) where
   abbrev later : Files
   later = map.insert told log bytes
 
-  still : (name : List ℕ) → (name ≡ log → ⊥) → file_in (Some later) name ≡ file_in (Some told) name
-  still name other = ap Some (get-other told log name (Some bytes) other)
+  still : {V : Type 0} (text : Text V) (name : List ℕ) (r : Result text.Value Notice) → name ≢ log
+      → ReadsFile text (limit_of limits text.slot) NeverBreaks (file_in (Some later) name) r
+      → ReadsFile text (limit_of limits text.slot) NeverBreaks (file_in (Some told) name) r
+  still text name r other reads = subst
+      (λ (f : Option (Option (List ℕ))).
+      ReadsFile text (limit_of limits text.slot) NeverBreaks f r)
+      (ap Some (get-other told log name (Some bytes) other)) reads
 
-  inputs_before : (r : Result Inputs Notice) → InputsGive limits names (Some later) r → InputsGive limits names (Some told) r
-  inputs_before r reads =
-      subst (λ (f : Option (Option (List ℕ))). ReadsFiles NeverBreaks limits (file_in (Some told) names.settings) (file_in (Some told) names.nav) f r) (still names.obs apart.obs)
-      (subst (λ (f : Option (Option (List ℕ))). ReadsFiles NeverBreaks limits (file_in (Some told) names.settings) f (file_in (Some later) names.obs) r) (still names.nav apart.nav)
-      (subst (λ (f : Option (Option (List ℕ))). ReadsFiles NeverBreaks limits f (file_in (Some later) names.nav) (file_in (Some later) names.obs) r) (still names.settings apart.settings) reads))
+  inputs_before : (r : Result InputsValue Notice)
+      → ReadsInputs limits names NeverBreaks (Some later) r
+      → ReadsInputs limits names NeverBreaks (Some told) r
+  inputs_before r (inr (n, is, e)) =
+      inr (n, still settings_text names.settings (Err n) apart.settings is, e)
+  inputs_before r (inl (s, is, inr (n, has, e))) = inl (
+    s,
+    still settings_text names.settings (Ok s) apart.settings is,
+    inr (n, still nav_text names.nav (Err n) apart.nav has, e),
+  )
+  inputs_before r (inl (s, is, inl (records, has, inr (n, sees, e)))) = inl (
+    s,
+    still settings_text names.settings (Ok s) apart.settings is,
+    inl (
+      records,
+      still nav_text names.nav (Ok records) apart.nav has,
+      inr (
+        n,
+        still (obs_text s.signal (wants_position s.centre)) names.obs (Err n) apart.obs sees,
+        e,
+      ),
+    ),
+  )
+  inputs_before r (inl (s, is, inl (records, has, inl (o, sees, e)))) = inl (
+    s,
+    still settings_text names.settings (Ok s) apart.settings is,
+    inl (
+      records,
+      still nav_text names.nav (Ok records) apart.nav has,
+      inl (
+        o,
+        still (obs_text s.signal (wants_position s.centre)) names.obs (Ok o) apart.obs sees,
+        e,
+      ),
+    ),
+  )
+
+  -- ---- the log is read as it was written
 
   log_there : file_in (Some later) log ≡ Some (Some bytes)
   log_there = ap Some (get-log told log log (Some bytes) refl refl)
 
-  module _ (i : Inputs) (said : List ℕ) (solved : IsSolved i limits.log bytes said)
-      (same : (other : Result Inputs Notice) → InputsGive limits names (Some told) other → IsBroken (Ok i) ⊎ SameAnswer AreSameInputs (Ok i) other) where
-    -- the same values are read again
-    same_inputs : (Breaks : Slot → Notice → Type 0) (j : Inputs) → ReadsInputs Breaks limits names (Some later) (Ok j) → AreSameInputs i j
-    same_inputs Breaks j reads = elim (same (Ok j) (inputs_before (Ok j) (inputs_there Breaks NeverBreaks limits names (Some later) j reads))) [ inl none ↦ absurd none | inr values ↦ values ]
+  log_is : (value : LogValue) → ReadsFile log_text limits.log NeverBreaks (Some (Some bytes))
+      (Ok value)
+      → IsLogText value bytes
+  log_is value (inl (inl (within, text))) = text
+  log_is value (inl (inr (long, e))) = cc
+  log_is value (inr (n, e, there, breaks)) = absurd breaks
 
-    no_end : (Counted : Type 0) (n : Notice) → ReadsInputs (MayBreak Counted) limits names (Some later) (Err n) → Ended Counted n
-    no_end Counted n reads = elim (inputs_end Counted limits names (Some later) n reads) [
-      | inl given ↦ elim (same (Err n) (inputs_before (Err n) given)) [ inl none ↦ absurd none | inr none ↦ absurd none ]
-      | inr ended ↦ ended
+  module _ (i : Inputs) (said : List ℕ) (solved : IsSolved i limits.log bytes said)
+      (same : (other : Result InputsValue Notice)
+      → ReadsInputs limits names NeverBreaks (Some told) other
+      → Settles (Ok (inputs_value i)) other) where
+    log_read : (n : Notice)
+        → ReadsFile log_text limits.log NeverBreaks (Some (Some bytes)) (Err n) → ⊥
+    log_read n (inl (inl (within, refused))) =
+        no_first slot.Log IsLogText FirstFault bytes solved.whole.log solved.whole.text n refused.1
+    log_read n (inl (inr (long, e))) =
+        let fits : length bytes ≤ limits.log = solved.whole.fits in absurd (omega arith)
+    log_read n (inr (k, e, there, breaks)) = breaks
+
+    same_inputs : (v : InputsValue) → ReadsInputs limits names NeverBreaks (Some later) (Ok v)
+        → inputs_value i ≡ v
+    same_inputs v reads = elim (same (Ok v) (inputs_before (Ok v) reads)) [
+      | inl none ↦ absurd none
+      | inr is ↦ is
     ]
 
-    -- and so is the log
-    log_text : (Breaks : Slot → Notice → Type 0) (value : Log) → ReadsLog Breaks limits.log (file_in (Some later) log) (Ok value) → IsLogText (log_value value) bytes
-    log_text Breaks value reads =
-        let here : ReadsLog Breaks limits.log (Some (Some bytes)) (Ok value) = subst (λ (f : Option (Option (List ℕ))). ReadsLog Breaks limits.log f (Ok value)) log_there reads in here.1
+    inputs_read : (n : Notice) → ReadsInputs limits names NeverBreaks (Some later) (Err n) → ⊥
+    inputs_read n reads = elim (same (Err n) (inputs_before (Err n) reads)) [
+      | inl none ↦ none
+      | inr none ↦ none
+    ]
 
-    log_end_at : (Counted : Type 0) (n : Notice) → ReadsLog (MayBreak Counted) limits.log (Some (Some bytes)) (Err n) → Ended Counted n
-    log_end_at Counted n (inl (inl (m, long))) = let fits : length bytes ≤ limits.log = solved.whole.fits in absurd (omega arith)
-    log_end_at Counted n (inl (inr (within, fault))) = absurd (no_log_fault bytes solved.whole.log solved.whole.text n fault)
-    log_end_at Counted n (inr b) = (slot.Log, b)
+    -- the same values are read again
+    pub record IsReadAgain (v : CheckedValue) : Type 0 where
+      pub inputs : inputs_value i ≡ v.inputs
+      pub text : IsLogText v.log bytes
 
-    log_end : (Counted : Type 0) (n : Notice) → ReadsLog (MayBreak Counted) limits.log (file_in (Some later) log) (Err n) → Ended Counted n
-    log_end Counted n reads = log_end_at Counted n (subst (λ (f : Option (Option (List ℕ))). ReadsLog (MayBreak Counted) limits.log f (Err n)) log_there reads)
+    at_log : (r : Result LogValue Notice)
+        → ReadsFile log_text limits.log NeverBreaks (file_in (Some later) log) r
+        → ReadsFile log_text limits.log NeverBreaks (Some (Some bytes)) r
+    at_log r reads = subst (λ (f : Option (Option (List ℕ))).
+        ReadsFile log_text limits.log NeverBreaks f r) log_there reads
 
-    checked_end : (Counted : Type 0) (n : Notice) → ReadsChecked (MayBreak Counted) limits names log (Some later) (Err n) → Ended Counted n
-    checked_end Counted n (inr (e, reads, m)) = let is : n ≡ e = cc in ended_as Counted n e is (no_end Counted e reads)
-    checked_end Counted n (inl (j, is_read, inr (e, reads, m))) = let is : n ≡ e = cc in ended_as Counted n e is (log_end Counted e reads)
-    checked_end Counted n (inl (j, is_read, inl (value, reads, m))) = cc
+    read_again : (v : CheckedValue) → ReadsChecked limits names log NeverBreaks (Some later) (Ok v)
+        → IsReadAgain v
+    read_again v (inr (n, is, e)) = cc
+    read_again v (inl (w, is, inr (n, has, e))) = cc
+    read_again v (inl (w, is, inl (value, has, e))) =
+        let made : v ≡ record { inputs = w; log = value } = cc in
+        subst IsReadAgain (sym made)
+        (record { inputs = same_inputs w is; text = log_is value (at_log (Ok value) has) })
 
-    never_refused : (Counted : Type 0) (f : Checked) → ReadsChecked (MayBreak Counted) limits names log (Some later) (Ok f) → (fault : _) → Refuses f.inputs (log_value f.log) fault → ⊥
-    never_refused Counted f (inr (e, reads, m)) fault refused = cc
-    never_refused Counted f (inl (j, is_read, inr (e, reads, m))) fault refused = cc
-    never_refused Counted f (inl (j, is_read, inl (value, reads, m))) fault refused =
-        let is : f ≡ record { inputs = j; log = value } = cc in
-        not_refused i j limits.log bytes said (log_value value) fault (same_inputs (MayBreak Counted) j is_read) solved (log_text (MayBreak Counted) value reads)
-        (subst (λ (g : Checked). Refuses g.inputs (log_value g.log) fault) is refused)
+    read_ends : (n : Notice) → ReadsChecked limits names log NeverBreaks (Some later) (Err n) → ⊥
+    read_ends n (inr (k, is, e)) = inputs_read k is
+    read_ends n (inl (w, is, inr (k, has, e))) = log_read k (at_log (Err k) has)
+    read_ends n (inl (w, is, inl (value, has, e))) = cc
 
-    -- so the status is none but that of an accepted log
-    status_is : (c d : World) (Q Counted : Type 0) (found : Result Checked Notice) (s : Status) → ReadsChecked (MayBreak Counted) limits names log (Some later) found
-        → CheckEnds (sinks_of c) (sinks_of d) Q found s → IsBrokenOff s ⊎ (s ≡ status.Done)
-    status_is c d Q Counted found status.Done reads ends = inr refl
-    status_is c d Q Counted (Ok f) status.No reads ends = absurd (never_refused Counted f reads ends.1.0 ends.1.1)
-    status_is c d Q Counted (Err n) status.No reads ends = absurd ends
-    status_is c d Q Counted found status.Usage reads ends = absurd ends
-    status_is c d Q Counted (Ok f) status.Refused reads ends = absurd ends
-    status_is c d Q Counted (Err n) status.Refused reads ends = inl (subst IsBrokenOff ends.0 (broken Counted n (checked_end Counted n reads)))
-    status_is c d Q Counted found status.ReadFault reads ends = inl (inl refl)
-    status_is c d Q Counted found status.WriteFault reads ends = inl (inr (inl refl))
-    status_is c d Q Counted found status.NoMemory reads ends = inl (inr (inr refl))
-    status_is c d Q Counted found status.LogFull reads ends = absurd ends
+-- ---- the status
 
-    -- want of memory alone ends a run where nothing else fails
-    certain_is : (c d : World) (Q Counted : Type 0) (found : Result Checked Notice) (s : Status) → ReadsChecked (MayBreak Counted) limits names log (Some later) found
-        → CheckEnds (sinks_of c) (sinks_of d) Q found s → (Counted → ⊥) → Q → (s ≡ status.NoMemory) ⊎ (s ≡ status.Done)
-    certain_is c d Q Counted found status.Done reads ends none prints = inr refl
-    certain_is c d Q Counted (Ok f) status.No reads ends none prints = absurd (never_refused Counted f reads ends.1.0 ends.1.1)
-    certain_is c d Q Counted (Err n) status.No reads ends none prints = absurd ends
-    certain_is c d Q Counted found status.Usage reads ends none prints = absurd ends
-    certain_is c d Q Counted (Ok f) status.Refused reads ends none prints = absurd ends
-    certain_is c d Q Counted (Err n) status.Refused reads ends none prints = inl (sym ends.0 ∙ no_memory Counted n none (checked_end Counted n reads))
-    certain_is c d Q Counted (Ok f) status.ReadFault reads ends none prints = absurd ends
-    certain_is c d Q Counted (Err n) status.ReadFault reads ends none prints = inl (sym ends.0 ∙ no_memory Counted n none (checked_end Counted n reads))
-    certain_is c d Q Counted (Ok f) status.WriteFault reads ends none prints = absurd (ends.2.unreliable prints)
-    certain_is c d Q Counted (Err n) status.WriteFault reads ends none prints = absurd ends
-    certain_is c d Q Counted found status.NoMemory reads ends none prints = inl refl
-    certain_is c d Q Counted found status.LogFull reads ends none prints = absurd ends
+-- want of memory, or a fault of a shelf or sink that isn't reliable
+abbrev IsLost : Trust → Status → Type 0
+IsLost trust s = (s ≡ status.NoMemory) ⊎ (IsBrokenOff s × (trust.log None → trust.out → ⊥))
 
-module _ (limits : Limits) (names : Names) (log : List ℕ) (a b c d : World) (R S : Option (List ℕ) → Type 0) (P Q : Type 0) (s : Status) (runs : SolvesThenChecks limits names log a b c d R S P Q s) where
-  abbrev Counted : Type 0
-  Counted = IsCounted c.read_faults d.read_faults S
+module _ (limits : Limits) (names : Names) (log : List ℕ) (a b c d : World)
+    (solver checker : Trust) (s : Status)
+    (runs : SolvesThenChecks limits names log a b c d solver checker s) where
+  abbrev Breaking : Slot → Notice → Type 0
+  Breaking = MayBreak c.shelf d.shelf checker.log
 
-  abbrev IsSameAs : Result Inputs Notice → Type 0
-  IsSameAs found = (other : Result Inputs Notice) → InputsGive limits names (Some runs.told) other → IsBroken found ⊎ SameAnswer AreSameInputs found other
+  of_break : (of : Slot) (n : Notice) → s ≡ status_of n → Breaking of n → IsLost checker s
+  of_break of n is (inl m) = inl (is ∙ ap status_of m)
+  of_break of n is (inr (m, counted)) =
+      inr (inl (is ∙ ap status_of m), λ reads prints. counted.unreliable None reads)
 
-  read_later : (bytes : List ℕ) → files_of b.told ≡ option_map (λ fs. map.insert fs log bytes) (files_of a.told) → ReadsChecked (MayBreak Counted) limits names log (Some (map.insert runs.told log bytes)) runs.checks.found
-  read_later bytes rewritten =
-      let files : files_of c.told ≡ Some (map.insert runs.told log bytes) = runs.keeps ∙ rewritten ∙ ap (option_map (λ fs. map.insert fs log bytes)) runs.are_told in
-      subst (λ (f : Option Files). ReadsChecked (MayBreak Counted) limits names log f runs.checks.found) files runs.checks.reads
+  module _ (i : Inputs) (bytes said : List ℕ) (solved : IsSolved i limits.log bytes said)
+      (rewritten : files_of b.shelf ≡ option_map (λ fs. map.insert fs log bytes) (files_of a.shelf))
+      (same : (other : Result InputsValue Notice)
+      → ReadsInputs limits names NeverBreaks (Some runs.told) other
+      → Settles (Ok (inputs_value i)) other) where
+    abbrev behind : Files
+    behind = map.insert runs.told log bytes
 
-  accepted_for : (found : Result Inputs Notice) → Writes log a b found (λ i. IsSolved i limits.log) → IsSameAs found → IsBrokenOff s ⊎ (s ≡ status.Done)
-  accepted_for (Err n) writes same = absurd writes
-  accepted_for (Ok i) (bytes, said, rewrites, printed, solved) same =
-      status_is limits names log bytes runs.told runs.apart i said solved same c d Q Counted runs.checks.found s (read_later bytes rewrites.files) runs.checks.ends
+    abbrev Read : Result CheckedValue Notice → Type 0
+    Read r = ReadsChecked limits names log Breaking (Some behind) r
+
+    read_behind : Read (valued checked_value runs.checks.read)
+    read_behind =
+        let files = runs.keeps ∙ rewritten
+        ∙ ap (option_map (λ fs. map.insert fs log bytes)) runs.are_told in
+        subst (λ (f : Option Files).
+        ReadsChecked limits names log Breaking f (valued checked_value runs.checks.read)) files
+        runs.checks.found.reads
+
+    not_said : (f : Checked) (fault : Fault) → Read (Ok (checked_value f))
+        → Refuses f.inputs (log_value f.log) fault → ⊥
+    not_said f fault reads refused =
+        let given = (checked_fair limits names log).value Breaking NeverBreaks (Some behind)
+        (checked_value f) reads in
+        let again = read_again limits names log bytes runs.told runs.apart i said solved same
+        (checked_value f) given in
+        not_refused i f.inputs limits.log bytes said (log_value f.log) fault again.inputs solved
+        again.text refused
+
+    told_is : (f : Checked) (t : Status) → Read (Ok (checked_value f))
+        → Tells (SaysAccepted f) (SaysRefused f) (sinks c.out c.err) (sinks d.out d.err) checker.out
+        t
+        → IsLost checker t ⊎ (t ≡ status.Done)
+    told_is f status.Done reads told = inr refl
+    told_is f status.No reads told = absurd (not_said f told.1.0 reads told.1.1)
+    told_is f status.WriteFault reads told =
+        inl (inr (inr (inl refl), λ reliable prints. told.2.unreliable prints))
+    told_is f status.NoMemory reads told = inl (inl refl)
+    told_is f status.Usage reads told = absurd told
+    told_is f status.Refused reads told = absurd told
+    told_is f status.ReadFault reads told = absurd told
+    told_is f status.LogFull reads told = absurd told
+
+    status_is : (read : Result Checked Notice) → Read (valued checked_value read)
+        → Ends (checking limits names log) c d checker s read → IsLost checker s ⊎ (s ≡ status.Done)
+    status_is (Ok f) reads ends = told_is f s reads ends.told
+    status_is (Err n) reads ends =
+        elim ((checked_fair limits names log).ends Breaking (Some behind) n reads) [
+          | inl given ↦ absurd (read_ends limits names log bytes runs.told runs.apart i said solved
+              same n given)
+          | inr broken ↦ inl (of_break broken.0 n ends.status broken.1)
+        ]
+
+    ends_so : IsLost checker s ⊎ (s ≡ status.Done)
+    ends_so = status_is runs.checks.read read_behind runs.checks.ends
+
+  -- ---- what was solved
+
+  whole_of : (i : Inputs) (bytes said : List ℕ) (answer : Answer)
+      → status.Done ≡ status_of_writing limits.log answer
+      → IsSolution i limits.log answer bytes said → IsSolved i limits.log bytes said
+  whole_of i bytes said (Ok done) e text = text
+  whole_of i bytes said (Err why.Log) e text = cc
+  whole_of i bytes said (Err why.Out) e text = cc
+  whole_of i bytes said (Err why.Full) e text = cc
+  whole_of i bytes said (Err why.NoMemory) e text = cc
+
+  solved_so : (i : Inputs)
+      → ((other : Result InputsValue Notice)
+      → ReadsInputs limits names NeverBreaks (Some runs.told) other
+      → Settles (Ok (inputs_value i)) other)
+      → Solves limits.log log i a b solver status.Done → IsLost checker s ⊎ (s ≡ status.Done)
+  solved_so i same (inl none) = let e : status.Done ≡ status.WriteFault = none.status in cc
+  solved_so i same (inr wrote) =
+      ends_so i wrote.bytes wrote.said
+      (whole_of i wrote.bytes wrote.said wrote.answer wrote.status wrote.text) wrote.log.files same
+
+  read_so : (read : Result Inputs Notice)
+      → ((other : Result InputsValue Notice)
+      → ReadsInputs limits names NeverBreaks (Some runs.told) other
+      → Settles (valued inputs_value read) other)
+      → Ends (solving limits names log) a b solver status.Done read
+      → IsLost checker s ⊎ (s ≡ status.Done)
+  read_so (Ok i) same ends = solved_so i same ends
+  read_so (Err n) same ends = absurd (stopped_not_done n ends.ends (sym ends.status))
+
+  is_so : IsLost checker s ⊎ (s ≡ status.Done)
+  is_so = read_so runs.solves.read
+      (λ other given. runs.solves.found.same runs.told other runs.are_told given) runs.solves.ends
 
   pub accepted : IsBrokenOff s ⊎ (s ≡ status.Done)
-  accepted = accepted_for runs.solves.found runs.solves.ends.0 (λ other given. runs.solves.same runs.told other runs.are_told given)
+  accepted = elim is_so [
+    | inl lost ↦ elim lost [ inl m ↦ inl (inr (inr m)) | inr broken ↦ inl broken.0 ]
+    | inr done ↦ inr done
+  ]
 
-  certain_for : (found : Result Inputs Notice) → Writes log a b found (λ i. IsSolved i limits.log) → IsSameAs found → S None → Q → (s ≡ status.NoMemory) ⊎ (s ≡ status.Done)
-  certain_for (Err n) writes same reads prints = absurd writes
-  certain_for (Ok i) (bytes, said, rewrites, printed, solved) same reads prints =
-      certain_is limits names log bytes runs.told runs.apart i said solved same c d Q Counted runs.checks.found s (read_later bytes rewrites.files) runs.checks.ends (λ (k : Counted). k.unreliable None reads) prints
-
-  pub certain : S None → Q → (s ≡ status.NoMemory) ⊎ (s ≡ status.Done)
-  certain = certain_for runs.solves.found runs.solves.ends.0 (λ other given. runs.solves.same runs.told other runs.are_told given)
+  pub certain : checker.log None → checker.out → (s ≡ status.NoMemory) ⊎ (s ≡ status.Done)
+  certain reads prints = elim is_so [
+    | inl lost ↦ elim lost [ inl m ↦ inl m | inr broken ↦ absurd (broken.1 reads prints) ]
+    | inr done ↦ inr done
+  ]

@@ -1,34 +1,35 @@
 -- What the files say of a log is said by the values that are read from them.
-use Rattle.std.proofs.Common.{◌≡◌, ℕ, Bool, List, [], ◌∷◌, Option, None, Some, inl, inr, refl, sym, ap, subst, ◌∙◌}
+use Rattle.std.proofs.Common.{◌≡◌, ℕ, Bool, List, [], ◌∷◌, Option, None, Some, inl, inr}
+use Rattle.std.proofs.Common.{refl, sym, ap, subst, ◌∙◌}
 use Rattle.std.proofs.lemmas.Bool.{cases_Bool}
 use Rattle.std.specs.Prelude.{ℤ, pos, ◌≤ℤ◌, ◌<ℤ◌, nat_le, ◌&&◌}
 use Rattle.std.specs.List.{filter}
 use Rattle.std.proofs.Math.Dec.{T_prop}
 use mathlib.Core.HLevel.{is_prop→PathP}
+use Rattle.epoch_selection.specs.Searches.{searches_in}
+use Rattle.epoch_selection.specs.Selections.{all_epochs, is_selected, selected}
+use Rattle.epoch_selection.specs.declared.selection.Selection.{Selection}
 use Rattle.error_bounds.specs.Reading.{bound_for, centre_with, IsRoot, value_of_settings}
 use Rattle.error_bounds.specs.Texts.{SettingsValue}
 use Rattle.paving_log.proofs.ValueLemmas.{same_rules}
-use Rattle.paving_log_check.specs.Admissible.{is_selected, selected, IsOf, IsDue, AdmitsFrom, Admits, AreOwn}
+use Rattle.paving_log_check.specs.Admissible.{Admits, AdmitsFrom, AreOwn, IsDue, IsOf}
 use Rattle.rinex_nav.specs.Reading.{plain_record, records_of}
 use Rattle.rinex_nav.specs.Records.{Broadcast}
 use Rattle.rinex_nav.specs.declared.record.NavRecord.{NavRecord}
 use Rattle.rinex_obs.specs.Epochs.{Observed}
-use Rattle.rinex_obs.specs.Files.{Observations}
 use Rattle.rinex_obs.specs.Reading.{plain_epoch, plain_epochs}
 use Rattle.rinex_obs.specs.declared.obs.ObsEpoch.{ObsEpoch}
 use Rattle.rinex_obs.specs.declared.obs.SatObs.{SatObs}
 use Rattle.sat_model.specs.Boxes.{GridBox}
 use Rattle.sat_model.specs.Logs.{Block, LogValue}
-use Rattle.sat_model.specs.declared.boxes.Pos.{Pos}
 use Rattle.sat_model.specs.declared.rules.Rules.{Rules}
-use Rattle.sat_model.specs.declared.satellites.Sat.{Sat}
-use Rattle.sat_model.specs.declared.satellites.Skip.{Skip}
-use Rattle.sat_rows.specs.Chains.{Chain, IsChainAt}
+use Rattle.sat_rows.specs.Chains.{IsChainAt}
+use Rattle.sat_rows.specs.Meanings.{Meaning}
 use Rattle.sat_rows.specs.OwnRows.{AreOwnLines}
-use Rattle.sat_rows.specs.Usability.{Sighting, IsJudged}
 use Rattle.sat_rows.specs.declared.lines.SatLine.{SatLine}
-use Rattle.cover_run.specs.Inputs.{AreSameInputs}
-use Rattle.cover_run.specs.Solving.{epochs_of}
+use Rattle.usable_sats.specs.Usability.{Sighting, IsJudged}
+use Rattle.cover_run.specs.Inputs.{InputsValue, inputs_value}
+use Rattle.cover_run.specs.Solving.{IsRootOf, epochs_of, meaning_of}
 use Rattle.cover_run.specs.declared.inputs.Inputs.{Inputs}
 
 -- ---- values with proofs in them
@@ -46,8 +47,10 @@ same_record a b e =
       toc = toc i;
       healthy = ap (λ (r : Broadcast). r.healthy) e i;
       fields = ap (λ (r : Broadcast). r.fields) e i;
-      toc_from = is_prop→PathP (λ j. pos 0 ≤ℤ toc j) (λ j. from_prop (pos 0) (toc j)) a.toc_from b.toc_from i;
-      toc_under = is_prop→PathP (λ j. toc j <ℤ pos 4000000000000000000000) (λ j. under_prop (toc j) (pos 4000000000000000000000)) a.toc_under b.toc_under i;
+      toc_from = is_prop→PathP (λ j. pos 0 ≤ℤ toc j) (λ j. from_prop (pos 0) (toc j))
+          a.toc_from b.toc_from i;
+      toc_under = is_prop→PathP (λ j. toc j <ℤ pos 4000000000000000000000)
+          (λ j. under_prop (toc j) (pos 4000000000000000000000)) a.toc_under b.toc_under i;
     }
 
 record IsCons {A : Type 0} (a b : A) (xs ys : List A) : Type 0 where
@@ -63,99 +66,139 @@ same_records [] (b ∷ ys) e = cc
 same_records (a ∷ xs) [] e = cc
 same_records (a ∷ xs) (b ∷ ys) e =
     let both = cons (plain_record a) (plain_record b) (records_of xs) (records_of ys) e in
-    ap (λ (r : NavRecord). r ∷ xs) (same_record a b both.head) ∙ ap (λ (rs : List NavRecord). b ∷ rs) (same_records xs ys both.tail)
+    ap (λ (r : NavRecord). r ∷ xs) (same_record a b both.head)
+    ∙ ap (λ (rs : List NavRecord). b ∷ rs) (same_records xs ys both.tail)
 
 -- ---- epochs
 
-module _ (from to : ℕ) where
+module _ (s : Selection) where
   abbrev is_chosen : Observed → Bool
-  is_chosen o = nat_le from o.index && nat_le o.index to
+  is_chosen o = nat_le s.from o.index && nat_le o.index s.to
 
-  chosen : (epochs : List ObsEpoch) → plain_epochs (selected from to epochs) ≡ filter is_chosen (plain_epochs epochs)
+  chosen : (epochs : List ObsEpoch)
+      → plain_epochs (selected s epochs) ≡ filter is_chosen (plain_epochs epochs)
   chosen [] = refl
-  chosen (seen ∷ epochs) = elim (cases_Bool (is_selected from to seen)) [
+  chosen (seen ∷ epochs) = elim (cases_Bool (is_selected s seen)) [
     | inl is ↦ rw is (ap (λ (os : List Observed). plain_epoch seen ∷ os) (chosen epochs))
     | inr other ↦ rw other (chosen epochs)
   ]
 
-  same_selected : (xs ys : List ObsEpoch) → plain_epochs xs ≡ plain_epochs ys → plain_epochs (selected from to xs) ≡ plain_epochs (selected from to ys)
-  same_selected xs ys e = chosen xs ∙ ap (λ (os : List Observed). filter is_chosen os) e ∙ sym (chosen ys)
+  same_selected : (xs ys : List ObsEpoch) → plain_epochs xs ≡ plain_epochs ys
+      → plain_epochs (selected s xs) ≡ plain_epochs (selected s ys)
+  same_selected xs ys e =
+      chosen xs ∙ ap (λ (os : List Observed). filter is_chosen os) e ∙ sym (chosen ys)
 
--- ---- own lines
+module _ (root : GridBox) where
+  heads : (a b : ObsEpoch) (xs ys : List ObsEpoch) → plain_epochs (a ∷ xs) ≡ plain_epochs (b ∷ ys)
+      → IsCons (plain_epoch a) (plain_epoch b) (plain_epochs xs) (plain_epochs ys)
+  heads a b xs ys e =
+      cons (plain_epoch a) (plain_epoch b) (plain_epochs xs) (plain_epochs ys) e
 
-module _ (J : ℤ → SatObs → Option Skip → Type 0) (A : ℤ → SatObs → Pos → Chain → Type 0) (d : Sat → ℤ × ℤ) (root : GridBox) where
-  abbrev OwnOf : Observed → List SatLine → Type 0
-  OwnOf o own = AreOwnLines (J o.tag) (A o.tag) d root o.sats own
+  -- ---- own lines
 
-  own_same : (xs ys : List ObsEpoch) (owns : List (List SatLine)) → plain_epochs xs ≡ plain_epochs ys → AreOwn J A d root xs owns → AreOwn J A d root ys owns
-  own_same xs ys [] e are = tt
-  own_same [] [] (own ∷ owns) e are = are
-  own_same [] (b ∷ ys) (own ∷ owns) e are = cc
-  own_same (a ∷ xs) [] (own ∷ owns) e are = cc
-  own_same (a ∷ xs) (b ∷ ys) (own ∷ owns) e are =
-      let both = cons (plain_epoch a) (plain_epoch b) (plain_epochs xs) (plain_epochs ys) e in
-      (subst (λ (o : Observed). OwnOf o own) both.head are.0, own_same xs ys owns both.tail are.1)
+  own_same : (m : Meaning) (xs ys : List ObsEpoch) (owns : List (List SatLine))
+      → plain_epochs xs ≡ plain_epochs ys
+      → AreOwn m (searches_in root xs) owns → AreOwn m (searches_in root ys) owns
+  own_same m xs ys [] e are = tt
+  own_same m [] [] (own ∷ owns) e are = are
+  own_same m [] (b ∷ ys) (own ∷ owns) e are = cc
+  own_same m (a ∷ xs) [] (own ∷ owns) e are = cc
+  own_same m (a ∷ xs) (b ∷ ys) (own ∷ owns) e are = let both = heads a b xs ys e in (
+    subst (λ (o : Observed). AreOwnLines m root o.tag o.sats own) both.head are.0,
+    own_same m xs ys owns both.tail are.1,
+  )
 
--- ---- the log
+  -- ---- the log
 
-of_same : (rules : Rules) (before : Option ℕ) (a b : ObsEpoch) (block : Block) → plain_epoch a ≡ plain_epoch b → IsOf rules before a block → IsOf rules before b block
-of_same rules before a b block e is = record { later = is.later; suits = is.suits; index = is.index ∙ ap (λ (o : Observed). o.index) e; tag = is.tag ∙ ap (λ (o : Observed). o.tag) e }
+  of_same : (rules : Rules) (before : Option ℕ) (a b : ObsEpoch) (block : Block)
+      → plain_epoch a ≡ plain_epoch b → IsOf rules before a block → IsOf rules before b block
+  of_same rules before a b block e is = record {
+    later = is.later;
+    suits = is.suits;
+    index = is.index ∙ ap (λ (o : Observed). o.index) e;
+    tag = is.tag ∙ ap (λ (o : Observed). o.tag) e;
+  }
 
-due_same : (rules : Rules) (before : Option ℕ) (xs ys : List ObsEpoch) (blocks : List Block) → plain_epochs xs ≡ plain_epochs ys → IsDue rules before xs blocks → IsDue rules before ys blocks
-due_same rules before [] [] blocks e due = due
-due_same rules before [] (b ∷ ys) blocks e due = cc
-due_same rules before (a ∷ xs) [] blocks e due = cc
-due_same rules before (a ∷ xs) (b ∷ ys) [] e due = absurd due
-due_same rules before (a ∷ xs) (b ∷ ys) (block ∷ blocks) e due = of_same rules before a b block (cons (plain_epoch a) (plain_epoch b) (plain_epochs xs) (plain_epochs ys) e).head due
+  due_same : (rules : Rules) (before : Option ℕ) (xs ys : List ObsEpoch) (blocks : List Block)
+      → plain_epochs xs ≡ plain_epochs ys → IsDue rules before (searches_in root xs) blocks
+      → IsDue rules before (searches_in root ys) blocks
+  due_same rules before [] [] blocks e due = due
+  due_same rules before [] (b ∷ ys) blocks e due = cc
+  due_same rules before (a ∷ xs) [] blocks e due = cc
+  due_same rules before (a ∷ xs) (b ∷ ys) [] e due = absurd due
+  due_same rules before (a ∷ xs) (b ∷ ys) (block ∷ blocks) e due =
+      of_same rules before a b block (heads a b xs ys e).head due
 
-admits_same : (rules : Rules) (root : GridBox) (before : Option ℕ) (owns : List (List SatLine)) (xs ys : List ObsEpoch) (blocks : List Block) → plain_epochs xs ≡ plain_epochs ys
-    → AdmitsFrom rules root before owns xs blocks → AdmitsFrom rules root before owns ys blocks
-admits_same rules root before [] xs ys blocks e admits = due_same rules before xs ys blocks e admits
-admits_same rules root before (own ∷ owns) [] ys blocks e admits = absurd admits
-admits_same rules root before (own ∷ owns) (a ∷ xs) [] blocks e admits = cc
-admits_same rules root before (own ∷ owns) (a ∷ xs) (b ∷ ys) [] e admits = absurd admits
-admits_same rules root before (own ∷ owns) (a ∷ xs) (b ∷ ys) (block ∷ blocks) e admits =
-    let both = cons (plain_epoch a) (plain_epoch b) (plain_epochs xs) (plain_epochs ys) e in
-    (of_same rules before a b block both.head admits.0, admits.1, admits_same rules root (Some block.index) owns xs ys blocks both.tail admits.2)
+  admits_same : (rules : Rules) (before : Option ℕ) (owns : List (List SatLine))
+      (xs ys : List ObsEpoch) (blocks : List Block) → plain_epochs xs ≡ plain_epochs ys
+      → AdmitsFrom rules before owns (searches_in root xs) blocks
+      → AdmitsFrom rules before owns (searches_in root ys) blocks
+  admits_same rules before [] xs ys blocks e admits = due_same rules before xs ys blocks e admits
+  admits_same rules before (own ∷ owns) [] ys blocks e admits = absurd admits
+  admits_same rules before (own ∷ owns) (a ∷ xs) [] blocks e admits = cc
+  admits_same rules before (own ∷ owns) (a ∷ xs) (b ∷ ys) [] e admits = absurd admits
+  admits_same rules before (own ∷ owns) (a ∷ xs) (b ∷ ys) (block ∷ blocks) e admits =
+      let both = heads a b xs ys e in (
+        of_same rules before a b block both.head admits.0,
+        admits.1,
+        admits_same rules (Some block.index) owns xs ys blocks both.tail admits.2,
+      )
 
 -- ---- inputs
 
--- own lines by the values alone
+-- what the values alone say of satellites
 abbrev sighting_by : List NavRecord → SettingsValue → ℤ → SatObs → Sighting
-sighting_by records v tag seen = record { records = records; signal = v.signal; max_age = v.max_age; tag = tag; seen = seen }
+sighting_by records v tag seen = record {
+  records = records;
+  signal = v.signal;
+  max_age = v.max_age;
+  tag = tag;
+  seen = seen;
+}
 
-abbrev JudgedBy : List NavRecord → SettingsValue → ℤ → SatObs → Option Skip → Type 0
-JudgedBy records v tag seen = IsJudged (sighting_by records v tag seen)
+abbrev meaning_by : List NavRecord → SettingsValue → Meaning
+meaning_by records v = record {
+  judged = λ tag seen. IsJudged (sighting_by records v tag seen);
+  allows = λ tag seen. IsChainAt (sighting_by records v tag seen);
+  declared = λ sat. bound_for sat v;
+}
 
-abbrev AllowedBy : List NavRecord → SettingsValue → ℤ → SatObs → Pos → Chain → Type 0
-AllowedBy records v tag seen = IsChainAt (sighting_by records v tag seen)
+module _ (i j : Inputs) (same : inputs_value i ≡ inputs_value j) (root : GridBox) where
+  settings_same : value_of_settings i.settings ≡ value_of_settings j.settings
+  settings_same = ap (λ (v : InputsValue). v.settings) same
 
-abbrev declared_by : SettingsValue → Sat → ℤ × ℤ
-declared_by v sat = bound_for sat v
-
-abbrev pub OwnBy : List NavRecord → SettingsValue → GridBox → List ObsEpoch → List (List SatLine) → Type 0
-OwnBy records v root epochs owns = AreOwn (JudgedBy records v) (AllowedBy records v) (declared_by v) root epochs owns
-
-module _ (i j : Inputs) (same : AreSameInputs i j) where
   epochs_same : plain_epochs (epochs_of i) ≡ plain_epochs (epochs_of j)
-  epochs_same = same_selected 1 200000 i.obs.epochs.items j.obs.epochs.items (ap (λ (o : Observations). o.epochs) same.obs)
+  epochs_same = same_selected all_epochs i.obs.epochs.items j.obs.epochs.items
+      (ap (λ (v : InputsValue). v.obs.epochs) same)
 
-  pub root_there : (root : GridBox) → IsRoot (centre_with j.obs.position j.settings.centre) j.settings.half root → IsRoot (centre_with i.obs.position i.settings.centre) i.settings.half root
-  root_there root is =
-      subst (λ (v : SettingsValue). IsRoot (centre_with i.obs.position v.centre) v.half root) (sym same.settings)
-      (subst (λ (o : Observations). IsRoot (centre_with o.position j.settings.centre) j.settings.half root) (sym same.obs) is)
+  pub root_there : IsRootOf j root → IsRootOf i root
+  root_there is = subst
+      (λ (v : InputsValue).
+      IsRoot (centre_with v.obs.position v.settings.centre) v.settings.half root) (sym same) is
 
-  pub own_there : (root : GridBox) (owns : List (List SatLine)) → OwnBy j.nav (value_of_settings j.settings) root (epochs_of j) owns → OwnBy i.nav (value_of_settings i.settings) root (epochs_of i) owns
-  own_there root owns are =
-      let here : OwnBy i.nav (value_of_settings j.settings) root (epochs_of j) owns =
-      subst (λ (records : List NavRecord). OwnBy records (value_of_settings j.settings) root (epochs_of j) owns) (sym (same_records i.nav j.nav same.nav)) are in
-      let by : OwnBy i.nav (value_of_settings i.settings) root (epochs_of j) owns =
-      subst (λ (v : SettingsValue). OwnBy i.nav v root (epochs_of j) owns) (sym same.settings) here in
-      let v = value_of_settings i.settings in
-      own_same (JudgedBy i.nav v) (AllowedBy i.nav v) (declared_by v) root (epochs_of j) (epochs_of i) owns (sym epochs_same) by
+  abbrev OwnBy : List NavRecord → SettingsValue → Inputs → List (List SatLine) → Type 0
+  OwnBy records v k owns = AreOwn (meaning_by records v) (searches_in root (epochs_of k)) owns
 
-  pub admits_there : (root : GridBox) (owns : List (List SatLine)) (log : LogValue) → Admits (epochs_of i) owns i.settings.rules root log → Admits (epochs_of j) owns j.settings.rules root log
-  admits_there root owns log admits =
-      let rules = same_rules i.settings.rules j.settings.rules (ap (λ (v : SettingsValue). v.outliers) same.settings) (ap (λ (v : SettingsValue). v.bisections) same.settings) (ap (λ (v : SettingsValue). v.width) same.settings) in
-      subst (λ (r : Rules). Admits (epochs_of j) owns r root log) rules
-      (record { same_rules = admits.same_rules; blocks = admits_same i.settings.rules root None owns (epochs_of i) (epochs_of j) log.blocks epochs_same admits.blocks })
+  pub own_there : (owns : List (List SatLine))
+      → AreOwn (meaning_of j) (searches_in root (epochs_of j)) owns
+      → AreOwn (meaning_of i) (searches_in root (epochs_of i)) owns
+  own_there owns are =
+      let w = value_of_settings j.settings in
+      let nav = same_records i.nav j.nav (ap (λ (v : InputsValue). v.nav) same) in
+      let here = subst (λ (records : List NavRecord). OwnBy records w j owns) (sym nav) are in
+      let by = subst (λ (v : SettingsValue). OwnBy i.nav v j owns) (sym settings_same) here in
+      own_same root (meaning_of i) (epochs_of j) (epochs_of i) owns (sym epochs_same) by
+
+  pub admits_there : (owns : List (List SatLine)) (log : LogValue)
+      → Admits (searches_in root (epochs_of i)) owns i.settings.rules log
+      → Admits (searches_in root (epochs_of j)) owns j.settings.rules log
+  admits_there owns log admits =
+      let rules = same_rules i.settings.rules j.settings.rules
+      (ap (λ (v : SettingsValue). v.outliers) settings_same)
+      (ap (λ (v : SettingsValue). v.bisections) settings_same)
+      (ap (λ (v : SettingsValue). v.width) settings_same) in
+      subst (λ (r : Rules). Admits (searches_in root (epochs_of j)) owns r log) rules (record {
+        same_rules = admits.same_rules;
+        blocks = admits_same root i.settings.rules None owns (epochs_of i) (epochs_of j) log.blocks
+            epochs_same admits.blocks;
+      })

@@ -12,9 +12,12 @@ span_text span = signed_decimal span.lo ++ codes " " ++ signed_decimal span.hi
 -- of a row that is too narrow, its span and the one that it doesn't hold
 abbrev pub spans_text : Fault → List ℕ
 spans_text fault =
-    if nat_eq fault.number 53 then codes " theirs " ++ span_text fault.theirs ++ codes " ours " ++ span_text fault.ours else []
+    if nat_eq fault.number 53
+    then codes " theirs " ++ span_text fault.theirs ++ codes " ours " ++ span_text fault.ours
+    else []
 
 -- a line is the first that fails a test, of which this is the least number
 abbrev pub fault_text : Fault → List ℕ
 fault_text fault =
-    codes "no " ++ decimal fault.number ++ codes " " ++ test_name fault.number ++ codes " line " ++ decimal fault.line ++ spans_text fault ++ codes "\n"
+    codes "no " ++ decimal fault.number ++ codes " " ++ test_name fault.number
+    ++ codes " line " ++ decimal fault.line ++ spans_text fault ++ codes "\n"

@@ -1,5 +1,6 @@
 -- What is said of a receiver's file that is refused.
-use Rattle.std.specs.Prelude.{ℕ, ◌++◌, List, map, codes, decimal, nat_eq, encode_utf8_all, if◌then◌else◌}
+use Rattle.std.specs.Prelude.{ℕ, ◌++◌, List, map, codes, decimal, nat_eq, encode_utf8_all}
+use Rattle.std.specs.Prelude.{if◌then◌else◌}
 use Rattle.std.specs.Char.{is_control}
 use Rattle.std.specs.Str.{chars}
 use Rattle.error_bounds.specs.declared.fault.SettingsFault.{SettingsFault}
@@ -56,13 +57,15 @@ shown text = shown_chars (chars text)
 -- the first fault of a file with lines
 abbrev pub file_fault_text : List ℕ → Refusal → List ℕ
 file_fault_text role refusal =
-    role ++ codes " " ++ decimal refusal.number ++ codes " " ++ file_fault_name refusal.number ++ codes " line " ++ decimal refusal.line ++ codes "\n"
+    role ++ codes " " ++ decimal refusal.number ++ codes " " ++ file_fault_name refusal.number
+    ++ codes " line " ++ decimal refusal.line ++ codes "\n"
 
 -- the first fault of settings: a text that is no TOML has no key
 abbrev pub settings_fault_text : SettingsFault → List ℕ
 settings_fault_text fault =
     if nat_eq fault.number 30 then codes "settings 30 NotToml\n"
-    else codes "settings " ++ decimal fault.number ++ codes " " ++ settings_fault_name fault.number ++ codes " " ++ shown fault.key.bytes ++ codes "\n"
+    else codes "settings " ++ decimal fault.number ++ codes " " ++ settings_fault_name fault.number
+    ++ codes " " ++ shown fault.key.bytes ++ codes "\n"
 
 abbrev pub input_fault_text : InputFault → List ℕ
 input_fault_text (fault.Obs refusal) = file_fault_text (codes "obs") refusal

@@ -1,5 +1,5 @@
 -- How a run ends that gives a notice, and the notices of the calls below.
-use Rattle.std.specs.Prelude.{ℕ, Result, Ok, Err}
+use Rattle.std.specs.Prelude.{ℕ}
 use Rattle.error_bounds.specs.declared.fault.SettingsError.{SettingsError}
 use Rattle.error_bounds.specs.declared.fault.SettingsError.TheVariants as settings
 use Rattle.outer_io.specs.declared.reading.ReadAll.{ReadAll}
@@ -9,8 +9,6 @@ use Rattle.log_writer.specs.declared.fault.WriteFault.{WriteFault}
 use Rattle.log_writer.specs.declared.fault.WriteFault.TheVariants as why
 use Rattle.paving_log.specs.declared.log.LogError.{LogError}
 use Rattle.paving_log.specs.declared.log.LogError.TheVariants as log
-use Rattle.paving_log_check.specs.declared.verdict.Verdict.{Verdict}
-use Rattle.paving_log_check.specs.declared.verdict.Verdict.TheVariants as verdict
 use Rattle.rinex_text.specs.declared.fault.ReadError.{ReadError}
 use Rattle.rinex_text.specs.declared.fault.ReadError.TheVariants as rinex
 use Rattle.rinex_text.specs.declared.fault.Refusal.{Refusal}
@@ -25,7 +23,6 @@ abbrev pub status_of : Notice → Status
 status_of notice.Usage = status.Usage
 status_of (notice.TooLong slot limit) = status.Refused
 status_of (notice.BadLog slot line kind) = status.Refused
-status_of (notice.NotBuilt slot line) = status.Refused
 status_of (notice.BadInput fault) = status.Refused
 status_of (notice.ReadFault slot) = status.ReadFault
 status_of notice.LogFault = status.WriteFault
@@ -40,7 +37,6 @@ notice_of_read slot read.NoMemory = notice.NoMemory
 
 abbrev pub notice_of_log : Slot → LogError → Notice
 notice_of_log slot (log.BadLog line kind) = notice.BadLog slot line kind
-notice_of_log slot (log.NotBuilt line) = notice.NotBuilt slot line
 notice_of_log slot log.NoMemory = notice.NoMemory
 
 abbrev pub notice_of_settings : SettingsError → Notice
@@ -57,19 +53,3 @@ notice_of_fault limit why.Log = notice.LogFault
 notice_of_fault limit why.Out = notice.OutFault
 notice_of_fault limit why.Full = notice.LogFull limit
 notice_of_fault limit why.NoMemory = notice.NoMemory
-
--- how a run ends whose log was read and judged so, where its verdict is written
-abbrev pub status_of_verdict : Result Verdict Notice → Status
-status_of_verdict (Ok (verdict.Yes boxes)) = status.Done
-status_of_verdict (Ok (verdict.No fault)) = status.No
-status_of_verdict (Err notice) = status_of notice
-
--- how a run ends
-abbrev pub end_of : Result Status Notice → Status
-end_of (Ok s) = s
-end_of (Err notice) = status_of notice
-
--- the same, where a run that does its job has no other answer
-abbrev pub ending : Result (Unit {0}) Notice → Status
-ending (Ok done) = status.Done
-ending (Err notice) = status_of notice

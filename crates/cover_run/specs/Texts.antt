@@ -2,8 +2,6 @@
 use Rattle.std.specs.Prelude.{ℕ, ◌++◌, List, codes, decimal, nat_eq, if◌then◌else◌}
 use Rattle.outer_io.specs.declared.slots.Slot.{Slot}
 use Rattle.outer_io.specs.declared.slots.Slot.TheVariants as slot
-use Rattle.paving_log_check.specs.declared.verdict.Verdict.{Verdict}
-use Rattle.paving_log_check.specs.declared.verdict.Verdict.TheVariants as verdict
 use Rattle.cover_run.specs.InputTexts.{input_fault_text}
 use Rattle.cover_run.specs.declared.notice.Notice.{Notice}
 use Rattle.cover_run.specs.declared.notice.Notice.TheVariants as notice
@@ -35,11 +33,8 @@ test_name number =
 
 -- a line of a log is the first that fails a test, of which this is the least number
 abbrev pub no_text : ℕ → ℕ → List ℕ
-no_text number line = codes "no " ++ decimal number ++ codes " " ++ test_name number ++ codes " line " ++ decimal line ++ codes "\n"
-
-abbrev pub verdict_text : Verdict → List ℕ
-verdict_text (verdict.Yes boxes) = yes_text boxes
-verdict_text (verdict.No fault) = no_text fault.number fault.line
+no_text number line = codes "no " ++ decimal number ++ codes " " ++ test_name number
+    ++ codes " line " ++ decimal line ++ codes "\n"
 
 -- ---- on standard error
 
@@ -52,10 +47,12 @@ role_text slot.Rows = codes "rows"
 role_text slot.Log = codes "log"
 
 abbrev pub notice_text : Notice → List ℕ
-notice_text notice.Usage = codes "usage: gpscover judge LOG, pave ROWS LOG, solve or check OBS NAV SETTINGS LOG, make SEED EPOCHS\n"
-notice_text (notice.TooLong slot limit) = role_text slot ++ codes " 29 TooLong " ++ decimal limit ++ codes "\n"
-notice_text (notice.BadLog slot line kind) = role_text slot ++ codes " 40 BadLog line " ++ decimal line ++ codes " kind " ++ decimal kind ++ codes "\n"
-notice_text (notice.NotBuilt slot line) = role_text slot ++ codes " 41 NotBuilt line " ++ decimal line ++ codes "\n"
+notice_text notice.Usage = codes "usage: gpscover judge LOG, pave ROWS LOG, "
+    ++ codes "solve or check OBS NAV SETTINGS LOG, make SEED EPOCHS\n"
+notice_text (notice.TooLong slot limit) =
+    role_text slot ++ codes " 29 TooLong " ++ decimal limit ++ codes "\n"
+notice_text (notice.BadLog slot line kind) = role_text slot ++ codes " 40 BadLog line "
+    ++ decimal line ++ codes " kind " ++ decimal kind ++ codes "\n"
 notice_text (notice.BadInput fault) = input_fault_text fault
 notice_text (notice.ReadFault slot) = role_text slot ++ codes " fault\n"
 notice_text notice.LogFault = codes "log fault\n"

@@ -1,5 +1,6 @@
 -- The words of the command line.
-use Rattle.std.specs.Prelude.{ℕ, List, [], ◌∷◌, map, codes, nat_eq, Bool, false, not, ◌&&◌, ◌==◌, if◌then◌else◌, Option, None, Some, String, string_bytes}
+use Rattle.std.specs.Prelude.{ℕ, List, [], ◌∷◌, map, codes, nat_eq, Bool, false, not, ◌&&◌, ◌==◌}
+use Rattle.std.specs.Prelude.{if◌then◌else◌, Option, None, Some, String, string_bytes}
 use lib.Pointwise.{pointwise}
 use Rattle.std.specs.declared.alloc.Global.{Global}
 
@@ -27,7 +28,8 @@ pub data Command : Type 0 where
 -- four names of files
 abbrev pub are_names : List ℕ → List ℕ → List ℕ → List ℕ → Bool
 are_names obs nav settings log =
-    not (begins_with_dash obs) && (not (begins_with_dash nav) && (not (begins_with_dash settings) && not (begins_with_dash log)))
+    not (begins_with_dash obs) && (not (begins_with_dash nav)
+    && (not (begins_with_dash settings) && not (begins_with_dash log)))
 
 -- a word and four names of files
 abbrev pub are_file_words : List (List ℕ) → Bool
@@ -37,31 +39,21 @@ are_file_words words = false
 abbrev pub names_of : List ℕ → List ℕ → List ℕ → Names
 names_of obs nav settings = record { obs = obs; nav = nav; settings = settings }
 
--- `judge LOG`, `pave ROWS LOG`, `solve OBS NAV SETTINGS LOG` and `check` with the same words, where no name
+-- `judge LOG`, `pave ROWS LOG`, `solve OBS NAV SETTINGS LOG` and `check` with the same words, where
+-- no name
 -- begins with `-`
 abbrev pub command_of : List (List ℕ) → Option Command
-command_of (word ∷ log ∷ []) = if pointwise nat_eq word (codes "judge") && not (begins_with_dash log) then Some (Judge log) else None
+command_of (word ∷ log ∷ []) =
+    if pointwise nat_eq word (codes "judge") && not (begins_with_dash log)
+    then Some (Judge log) else None
 command_of (word ∷ rows ∷ log ∷ []) =
-    if pointwise nat_eq word (codes "pave") && (not (begins_with_dash rows) && not (begins_with_dash log)) then Some (Pave rows log) else None
+    if pointwise nat_eq word (codes "pave")
+    && (not (begins_with_dash rows) && not (begins_with_dash log))
+    then Some (Pave rows log) else None
 command_of (word ∷ obs ∷ nav ∷ settings ∷ log ∷ []) =
-    if pointwise nat_eq word (codes "solve") && are_names obs nav settings log then Some (Solve (names_of obs nav settings) log)
-    else if pointwise nat_eq word (codes "check") && are_names obs nav settings log then Some (Check (names_of obs nav settings) log)
+    if pointwise nat_eq word (codes "solve") && are_names obs nav settings log
+    then Some (Solve (names_of obs nav settings) log)
+    else if pointwise nat_eq word (codes "check") && are_names obs nav settings log
+    then Some (Check (names_of obs nav settings) log)
     else None
 command_of words = None
-
--- the fact holds of the command, where it is this one
-abbrev pub IfJudge : Option Command → (List ℕ → Type 0) → Type 0
-IfJudge (Some (Judge log)) Meets = Meets log
-IfJudge _ Meets = Unit {0}
-
-abbrev pub IfPave : Option Command → (List ℕ → List ℕ → Type 0) → Type 0
-IfPave (Some (Pave rows log)) Meets = Meets rows log
-IfPave _ Meets = Unit {0}
-
-abbrev pub IfSolve : Option Command → (Names → List ℕ → Type 0) → Type 0
-IfSolve (Some (Solve names log)) Meets = Meets names log
-IfSolve _ Meets = Unit {0}
-
-abbrev pub IfCheck : Option Command → (Names → List ℕ → Type 0) → Type 0
-IfCheck (Some (Check names log)) Meets = Meets names log
-IfCheck _ Meets = Unit {0}

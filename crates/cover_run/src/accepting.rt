@@ -2,32 +2,46 @@
 
 ghost use Rattle.std.specs.Prelude.{◌≡◌, ◌⊎◌, ℕ, List, None};
 ghost use Rattle.cover_run.specs.Accepting.{SolvesThenChecks};
-ghost use Rattle.cover_run.specs.Answers.{World, IsBrokenOff};
 ghost use Rattle.cover_run.specs.Checking.{Refuses};
-ghost use Rattle.cover_run.specs.Inputs.{AreSameInputs};
+ghost use Rattle.cover_run.specs.Inputs.{inputs_value};
+ghost use Rattle.cover_run.specs.Reading.{IsBrokenOff};
 ghost use Rattle.cover_run.specs.Solving.{IsSolved};
 ghost use Rattle.cover_run.specs.Words.{Names};
+ghost use Rattle.cover_run.specs.Worlds.{World};
 ghost use Rattle.cover_run.specs.declared.inputs.Inputs.{Inputs};
 ghost use Rattle.cover_run.specs.declared.limits.Limits.{Limits};
 ghost use Rattle.cover_run.specs.declared.status.Status.{Status};
+ghost use Rattle.log_writer.specs.Writing.{trust_of};
 ghost use Rattle.paving_log.specs.Text.{IsLogText};
 ghost use Rattle.paving_log_check.specs.declared.verdict.Fault.{Fault};
 ghost use Rattle.sat_model.specs.Logs.{LogValue};
 
 use outer_io::{Shelf, Sink};
 
-/// The law: a log that `solve` completes is one that `check` accepts, over shelves and sinks of these
-/// kinds. The call does nothing.
+/// The law: a log that `solve` completes is one that `check` accepts, over shelves and sinks of
+/// these kinds. The call does nothing.
 pub fn solved_is_accepted<H: Shelf, O: Sink>()
-    // It has no fault against the values that it was solved for, whichever own lines it is checked by.
-    ensures fault { (i j : Inputs) (limit : ℕ) (bytes said : List ℕ) (log : LogValue) (fault : Fault)
-        → AreSameInputs i j → IsSolved i limit bytes said → IsLogText log bytes → Refuses j log fault → ⊥ }
+    // It has no fault against the values that it was solved for, whichever own lines it is
+    // checked by.
+    ensures fault { (i j : Inputs) (limit : ℕ) (bytes said : List ℕ) (log : LogValue)
+        (fault : Fault)
+        → inputs_value i ≡ inputs_value j → IsSolved i limit bytes said → IsLogText log bytes
+        → Refuses j log fault → ⊥ }
     // A run of `check` behind it prints yes, unless a fault or want of memory ends it;
-    ensures accepted { (limits : Limits) (names : Names) (log : List ℕ) (before solved kept after : World) (solving checking : H) (report verdict : O) (status : Status)
-        → SolvesThenChecks limits names log before solved kept after (H.reliable solving) (H.reliable checking) (O.reliable report) (O.reliable verdict) status
+    ensures accepted { (limits : Limits) (names : Names) (log : List ℕ)
+        (before solved kept after : World) (solving checking : H) (report verdict : O)
+        (status : Status)
+        → SolvesThenChecks limits names log before solved kept after
+        (trust_of (H.reliable solving) (O.reliable report))
+        (trust_of (H.reliable checking) (O.reliable verdict)) status
         → IsBrokenOff status ⊎ (status ≡ Status.Done) }
     // and want of memory alone can end it where the shelf and `out` are reliable.
-    ensures certain { (limits : Limits) (names : Names) (log : List ℕ) (before solved kept after : World) (solving checking : H) (report verdict : O) (status : Status)
-        → SolvesThenChecks limits names log before solved kept after (H.reliable solving) (H.reliable checking) (O.reliable report) (O.reliable verdict) status
-        → H.reliable checking None → O.reliable verdict → (status ≡ Status.NoMemory) ⊎ (status ≡ Status.Done) }
+    ensures certain { (limits : Limits) (names : Names) (log : List ℕ)
+        (before solved kept after : World) (solving checking : H) (report verdict : O)
+        (status : Status)
+        → SolvesThenChecks limits names log before solved kept after
+        (trust_of (H.reliable solving) (O.reliable report))
+        (trust_of (H.reliable checking) (O.reliable verdict)) status
+        → H.reliable checking None → O.reliable verdict
+        → (status ≡ Status.NoMemory) ⊎ (status ≡ Status.Done) }
 {}

@@ -1,7 +1,10 @@
 //! The line on standard error for a receiver's file that is refused.
 
 ghost use Rattle.std.specs.Prelude.{◌≡◌, ◌+◌, ◌≤◌, ◌++◌, length, if◌then◌else◌};
-ghost use Rattle.cover_run.specs.InputTexts.{header_fault_name, file_fault_name, settings_fault_name, shown_char, shown, file_fault_text, settings_fault_text, input_fault_text};
+ghost use Rattle.cover_run.specs.InputTexts.{header_fault_name, file_fault_name};
+ghost use Rattle.cover_run.specs.InputTexts.{settings_fault_name, shown_char, shown};
+ghost use Rattle.cover_run.specs.InputTexts.{file_fault_text, settings_fault_text};
+ghost use Rattle.cover_run.specs.InputTexts.{input_fault_text};
 
 use crate::input_fault::InputFault;
 use crate::texts::Line;

@@ -7,24 +7,27 @@
 #![tactic(auto)]
 
 mod accepting;
-mod answer;
 mod check_texts;
 mod checked;
 mod checking;
-mod file;
+mod grammar;
 mod input_fault;
+mod input_grammars;
 mod input_texts;
 mod inputs;
 mod judging;
 mod limits;
+mod log_grammars;
+mod named;
 mod notice;
 mod pave;
 mod solving;
 mod status;
-mod text;
+mod telling;
 mod texts;
 mod top;
 mod words;
+mod writing;
 
 pub use accepting::solved_is_accepted;
 pub use limits::Limits;

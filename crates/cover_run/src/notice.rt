@@ -1,7 +1,8 @@
 //! Why a run doesn't do its job to the end.
 
 ghost use Rattle.std.specs.Prelude.{◌≡◌};
-ghost use Rattle.cover_run.specs.Statuses.{status_of, notice_of_read, notice_of_log, notice_of_settings, notice_of_file, notice_of_fault};
+ghost use Rattle.cover_run.specs.Statuses.{status_of, notice_of_read, notice_of_log};
+ghost use Rattle.cover_run.specs.Statuses.{notice_of_settings, notice_of_file, notice_of_fault};
 
 use crate::Status;
 use crate::input_fault::InputFault;
@@ -21,8 +22,6 @@ pub enum Notice {
     TooLong { slot: Slot, limit: u64 },
     /// The file's text has its first fault at this line, of this kind.
     BadLog { slot: Slot, line: u32, kind: u8 },
-    /// The first line of the file that doesn't fit begins with a word that isn't built yet.
-    NotBuilt { slot: Slot, line: u32 },
     /// A receiver's file has this first fault.
     BadInput(InputFault),
     /// The file is missing, or a read of it has failed.
@@ -45,7 +44,6 @@ impl Notice {
             Notice::Usage => Status::Usage,
             Notice::TooLong { .. } => Status::Refused,
             Notice::BadLog { .. } => Status::Refused,
-            Notice::NotBuilt { .. } => Status::Refused,
             Notice::BadInput(_) => Status::Refused,
             Notice::ReadFault { .. } => Status::ReadFault,
             Notice::LogFault => Status::WriteFault,
@@ -84,7 +82,6 @@ impl Notice {
     {
         match error {
             LogError::BadLog { line, kind } => Notice::BadLog { slot, line, kind },
-            LogError::NotBuilt { line } => Notice::NotBuilt { slot, line },
             LogError::NoMemory => Notice::NoMemory,
         }
     }

@@ -96,9 +96,10 @@ pub fn notice_line(notice: &Notice) -> Line
 {
     let mut line = Line::new();
     match *notice {
-        Notice::Usage => line.push_str(
-            "usage: gpscover judge LOG, pave ROWS LOG, solve or check OBS NAV SETTINGS LOG, make SEED EPOCHS\n",
-        ),
+        Notice::Usage => {
+            line.push_str("usage: gpscover judge LOG, pave ROWS LOG, ");
+            line.push_str("solve or check OBS NAV SETTINGS LOG, make SEED EPOCHS\n");
+        }
         Notice::TooLong { slot, limit } => {
             line.push_str(role_of(slot));
             push_count(&mut line, " 29 TooLong ", limit);
@@ -112,11 +113,6 @@ pub fn notice_line(notice: &Notice) -> Line
             line.push_str(role_of(slot));
             push_count(&mut line, " 40 BadLog line ", u64::from(number));
             push_count(&mut line, " kind ", u64::from(kind));
-            line.push_str("\n");
-        }
-        Notice::NotBuilt { slot, line: number } => {
-            line.push_str(role_of(slot));
-            push_count(&mut line, " 41 NotBuilt line ", u64::from(number));
             line.push_str("\n");
         }
         Notice::BadInput(ref fault) => push_input_fault(&mut line, fault),

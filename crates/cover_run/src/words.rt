@@ -5,32 +5,26 @@ ghost use Rattle.std.specs.Option.{option_map};
 ghost use Rattle.cover_run.specs.Asked.{asked};
 ghost use Rattle.cover_run.specs.Words.{command_of, texts, begins_with_dash, are_file_words};
 
+/// The names of a receiver's files and of a log.
+#[derive(Clone, Copy, Debug, PartialEq, Eq)]
+pub struct FileWords<'a> {
+    pub obs: &'a str,
+    pub nav: &'a str,
+    pub settings: &'a str,
+    pub log: &'a str,
+}
+
 /// What the words ask for. The files are given by their names.
 #[derive(Clone, Copy, Debug, PartialEq, Eq)]
 pub enum Command<'a> {
     /// Judge this log.
-    Judge {
-        log: &'a str,
-    },
+    Judge { log: &'a str },
     /// Pave these rows, and write the log.
-    Pave {
-        rows: &'a str,
-        log: &'a str,
-    },
+    Pave { rows: &'a str, log: &'a str },
     /// Pave the epochs of these files, and write the log.
-    Solve {
-        obs: &'a str,
-        nav: &'a str,
-        settings: &'a str,
-        log: &'a str,
-    },
+    Solve(FileWords<'a>),
     /// Check this log against the files.
-    Check {
-        obs: &'a str,
-        nav: &'a str,
-        settings: &'a str,
-        log: &'a str,
-    },
+    Check(FileWords<'a>),
 }
 
 /// Whether a word begins with a dash.
@@ -95,21 +89,17 @@ fn file_command(words: &[String]) -> Option<Command<'_>>
     if has_option(words) {
         return None;
     }
+    let files = FileWords {
+        obs: words[1].as_str(),
+        nav: words[2].as_str(),
+        settings: words[3].as_str(),
+        log: words[4].as_str(),
+    };
     if words[0].as_str() == "solve" {
-        return Some(Command::Solve {
-            obs: words[1].as_str(),
-            nav: words[2].as_str(),
-            settings: words[3].as_str(),
-            log: words[4].as_str(),
-        });
+        return Some(Command::Solve(files));
     }
     if words[0].as_str() == "check" {
-        return Some(Command::Check {
-            obs: words[1].as_str(),
-            nav: words[2].as_str(),
-            settings: words[3].as_str(),
-            log: words[4].as_str(),
-        });
+        return Some(Command::Check(files));
     }
     None
 }

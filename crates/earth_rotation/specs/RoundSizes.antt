@@ -1,5 +1,6 @@
--- How large the numbers of one round are, and how far those of one result may be apart. No clause of a
--- public call cites these. Lengths are in um; angles, sines and cosines in 10^-16.
+-- How large the numbers of one round are, and how far those of one result may be apart. The clauses
+-- of `range` cite how large a turned place and a range are, and how wide a range is. Lengths are in
+-- um; angles, sines and cosines in 10^-16.
 use Rattle.std.specs.Prelude.{ℕ, ◌+◌, ◌*◌, ◌/◌, ◌^◌}
 use Rattle.sat_model.specs.Angles.{unit}
 use Rattle.sat_model.specs.Boxes.{GridBox}
@@ -23,7 +24,8 @@ sine_amount = 10 ^ 12
 abbrev pub cosine_amount : ℕ
 cosine_amount = unit + 8
 
--- the range to the points of a box, from a place w wide: the root of three of the sides, a little more
+-- the range to the points of a box, from a place w wide: the root of three of the sides, a little
+-- more
 abbrev pub range_width : GridBox → ℕ → ℕ
 range_width part w = 7 * (longest_length part + w) / 4 + 1
 

@@ -12,4 +12,5 @@ mod turns;
 mod vectors;
 
 pub use existence::turn_exists;
+pub use ranges::range;
 pub use turns::turned;

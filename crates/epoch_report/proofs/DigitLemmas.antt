@@ -3,10 +3,11 @@ use Rattle.std.proofs.Common.{◌≡◌, ℕ, zero, suc, ◌+◌, ◌/◌, ◌%�
 use Rattle.std.proofs.Math.Nat.{div-div-eq-div-mul}
 use Rattle.std.proofs.lemmas.Fmt.{decimal_step, decimal_digit}
 use Rattle.std.specs.Fmt.{decimal}
-use Rattle.epoch_report.specs.Metres.{last_digits}
+use Rattle.decimal_digits.specs.Digits.{last_digits}
 
 -- the last digit comes behind those of a tenth
 last_step : (k n : ℕ) → last_digits (suc k) n ≡ last_digits k (n / 10) ++ ((48 + n % 10) ∷ [])
+unfolding last_digits
 last_step zero n = ap (λ d. (48 + d) ∷ []) (omega arith)
 last_step (suc k) n =
     let place : n / 10 ^ suc k ≡ n / 10 / 10 ^ k = ap (λ m. n / m) (omega arith) ∙ sym (div-div-eq-div-mul n 10 (10 ^ k)) in
@@ -14,6 +15,7 @@ last_step (suc k) n =
 
 -- a one in front of k digits
 pub behind_one : (k n : ℕ) → n < 10 ^ k → 10 ^ k + n < 2 ^ 64 → decimal (10 ^ k + n) ≡ 49 ∷ last_digits k n
+unfolding last_digits
 behind_one zero n small fits =
     let none : n ≡ 0 = omega arith in
     rw none (decimal_digit 1 (omega arith))
@@ -24,6 +26,7 @@ behind_one (suc k) n small fits =
 
 -- what is left of a division by a million has the same six digits
 pub six_of_rest : (n : ℕ) → last_digits 6 (n % 1000000) ≡ last_digits 6 n
+unfolding last_digits
 six_of_rest n =
     let a : n % 1000000 / 100000 % 10 ≡ n / 100000 % 10 = omega arith in
     let b : n % 1000000 / 10000 % 10 ≡ n / 10000 % 10 = omega arith in
@@ -35,6 +38,7 @@ six_of_rest n =
 
 -- twelve digits are six and six more
 twelve_digits : (n : ℕ) → last_digits 12 n ≡ last_digits 6 (n / 1000000) ++ last_digits 6 n
+unfolding last_digits
 twelve_digits n =
     let a : n / 1000000 / 100000 ≡ n / 100000000000 = div-div-eq-div-mul n 1000000 100000 in
     let b : n / 1000000 / 10000 ≡ n / 10000000000 = div-div-eq-div-mul n 1000000 10000 in

@@ -1,11 +1,7 @@
 -- Lengths in metres and times in seconds, as text.
-use Rattle.std.specs.Prelude.{ℕ, zero, suc, ◌+◌, ◌/◌, ◌%◌, ◌^◌, ℤ, pos, negsuc, List, [], ◌∷◌, ◌++◌}
+use Rattle.std.specs.Prelude.{ℕ, suc, ◌/◌, ◌^◌, ℤ, pos, negsuc, List, ◌∷◌, ◌++◌}
 use Rattle.std.specs.Fmt.{decimal}
-
--- the last k decimal digits of n, leading zeros included
-abbrev pub last_digits : ℕ → ℕ → List ℕ
-last_digits zero n = []
-last_digits (suc k) n = (48 + n / 10 ^ k % 10) ∷ last_digits k n
+use Rattle.decimal_digits.specs.Digits.{last_digits}
 
 -- n parts, of which 10^k are a whole: the wholes, a point, and k digits of what is left
 abbrev pub with_point : ℕ → ℕ → List ℕ

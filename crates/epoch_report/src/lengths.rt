@@ -2,7 +2,8 @@
 
 ghost use Rattle.std.specs.Prelude.{◌≡◌, ◌<◌, ◌≤◌, length};
 ghost use Rattle.std.specs.Fmt.{sign_text};
-ghost use Rattle.epoch_report.specs.Metres.{last_digits, metres_text, seconds_text};
+ghost use Rattle.decimal_digits.specs.Digits.{last_digits};
+ghost use Rattle.epoch_report.specs.Metres.{metres_text, seconds_text};
 
 use arrayvec::ArrayString;
 use itoa::Buffer;
@@ -37,7 +38,6 @@ fn sign(negative: bool) -> &'static str
 }
 
 /// A length in um, as metres with six decimals.
-#[tactic(auto, unfolding(crate::specs::Metres::metres_text))]
 pub fn metres(um: i64) -> ArrayString<24>
     ensures { result.bytes ≡ metres_text um }
 {

@@ -1,28 +1,27 @@
--- A log that paves the rows of the selected epochs is admissible.
+-- A log that paves the rows of some searches is admitted by all own lines of theirs.
 use Rattle.std.proofs.Common.{◌≡◌, ℕ, zero, suc, ◌<◌, Bool, true, false, List, [], ◌∷◌, length, refl, sym, ap, subst, ◌∙◌, arith}
-use Rattle.std.specs.Prelude.{ℤ, Option, None, Some, slice_get}
+use Rattle.std.specs.Prelude.{Option, None, Some, is_none, slice_get}
+use Rattle.std.specs.List.{AllByRecursion}
 use Rattle.std.proofs.lemmas.Grind.{common_steps}
 use Rattle.std.proofs.lemmas.Int.{ints}
 use Rattle.epoch_rows.specs.Grown.{HasBody, IsGrownBlock, AreGrown}
-use Rattle.log_writer.specs.Pavings.{Paves, AllPave, IsPavingOf}
-use Rattle.paving_log_check.specs.Admissible.{IsOf, AdmitsFrom, Admits, Admissible, AreOwn}
+use Rattle.epoch_selection.specs.Searches.{Search}
+use Rattle.log_writer.specs.Pavings.{Paves, AllPave}
+use Rattle.paving_log_check.specs.Admissible.{IsOf, AdmitsFrom, AreOwn}
 use Rattle.paving_log_check.specs.Epochs.{BodyPassesAt, EpochPasses}
 use Rattle.paving_log_check.specs.Lines.{expected, SatsPass}
-use Rattle.rinex_obs.specs.declared.obs.ObsEpoch.{ObsEpoch}
-use Rattle.rinex_obs.specs.declared.obs.SatObs.{SatObs}
 use Rattle.sat_model.specs.Boxes.{GridBox, grid_box, box_holds}
-use Rattle.sat_model.specs.Logs.{Block, LogValue}
-use Rattle.sat_model.specs.Verdicts.{BodyPasses, BlockPasses, BlocksPass, NoneRepeats, Judged}
+use Rattle.sat_model.specs.Logs.{Block}
+use Rattle.sat_model.specs.Verdicts.{BodyPasses, BlockPasses, BlocksPass, NoneRepeats}
 use Rattle.sat_model.specs.declared.boxes.Box3.{Box3}
 use Rattle.sat_model.specs.declared.boxes.Pos.{Pos}
 use Rattle.sat_model.specs.declared.rules.Rules.{Rules}
-use Rattle.sat_model.specs.declared.satellites.Sat.{Sat}
 use Rattle.sat_model.specs.declared.satellites.SatEntry.{SatEntry}
-use Rattle.sat_model.specs.declared.satellites.Skip.{Skip}
-use Rattle.sat_rows.specs.Chains.{Chain}
+use Rattle.paving_log_check.proofs.FitLemmas.{HasFewRoot}
+use Rattle.sat_rows.specs.Meanings.{Meaning, IsSound}
+use Rattle.sat_rows.specs.OwnRows.{AreLinesOf}
 use Rattle.sat_rows.specs.declared.lines.SatLine.{SatLine}
 use Rattle.epoch_rows.proofs.AgreeLemmas.{AllAgree, LineAgrees, lines_agree, skips_agree, same_usable}
-use Rattle.epoch_rows.proofs.PassLemmas.{OwnLines}
 
 -- ---- satellite lines
 
@@ -69,77 +68,86 @@ body_at rules root false own given block (Some theirs) body is passes =
     let same = same_root root theirs (sym is ∙ body.1) in
     (same, subst (λ (r : GridBox). BodyPasses rules block (Some r)) same passes)
 
+-- a block of few satellites, and no other, has no root
+body_root : (few : Bool) (root : GridBox) (own : List SatLine) (given : Block) → HasBody few root own given → few ≡ is_none given.root
+body_root true root own given body = sym (ap is_none body.1)
+body_root false root own given body = sym (ap is_none body.1)
+
 -- ---- the log
 
-module _ (IsJudged : ℤ → SatObs → Option Skip → Type 0) (Allows : ℤ → SatObs → Pos → Chain → Type 0) (declared : Sat → ℤ × ℤ) (root : GridBox)
-    (one : (tag : ℤ) (seen : SatObs) (a b : Option Skip) → IsJudged tag seen a → IsJudged tag seen b → a ≡ b)
-    (exists : (tag : ℤ) (seen : SatObs) (p : Pos) → IsJudged tag seen None → (c : Chain) × Allows tag seen p c)
-    (p : Pos) (inside : box_holds root p ≡ true) (rules : Rules) where
-  sats_agree : (few : Bool) (seen : ObsEpoch) (own other : List SatLine) (given : Block) → OwnLines IsJudged Allows declared root seen own → OwnLines IsJudged Allows declared root seen other → HasBody few root own given
-      → AllAgree given.sats (expected few other)
-  sats_agree true seen own other given a b body =
-      rw body.0 (skips_agree (IsJudged seen.tag) (Allows seen.tag) declared root (one seen.tag) (exists seen.tag) p inside seen.sats.items own other a b)
-  sats_agree false seen own other given a b body =
-      lines_agree (IsJudged seen.tag) (Allows seen.tag) declared root (one seen.tag) (exists seen.tag) p inside seen.sats.items own other given.sats a b body.0
+-- each root has a point in it
+abbrev pub HavePoints : List Search → Type 0
+HavePoints searches = AllByRecursion (λ search. (p : Pos) × (box_holds search.root p ≡ true)) searches
 
-  module _ (before : Option ℕ) (seen : ObsEpoch) (given block : Block) (g : IsGrownBlock (OwnLines IsJudged Allows declared root) rules.outliers root seen given) (paves : Paves rules given block) (passes : BlockPasses rules before block) where
-    is_of : IsOf rules before seen block
-    is_of = record { later = passes.head.later; suits = passes.head.suits; index = paves.index ∙ g.index; tag = paves.ps ∙ g.ps }
+-- by what a source says of satellites
+module _ (m : Meaning) (sound : IsSound m) (rules : Rules) where
+  -- over a root with a point in it
+  module _ (search : Search) (p : Pos) (inside : box_holds search.root p ≡ true) where
+    sats_agree : (few : Bool) (own other : List SatLine) (given : Block) → AreLinesOf m search.root search.epoch own → AreLinesOf m search.root search.epoch other
+        → HasBody few search.root own given → AllAgree given.sats (expected few other)
+    sats_agree true own other given a b body =
+        rw body.0 (skips_agree m sound search.root search.epoch.tag p inside search.epoch.sats.items own other a b)
+    sats_agree false own other given a b body =
+        lines_agree m sound search.root search.epoch.tag p inside search.epoch.sats.items own other given.sats a b body.0
 
-    block_agrees : (other : List SatLine) → OwnLines IsJudged Allows declared root seen other → AllAgree block.sats (expected block.few other)
-    block_agrees other are = rw (paves.sats, paves.few) (sats_agree given.few seen g.own other given g.are_own are g.body)
+    module _ (before : Option ℕ) (given block : Block) (g : IsGrownBlock m rules.outliers search given) (paves : Paves rules given block) (passes : BlockPasses rules before block) where
+      is_of : IsOf rules before search.epoch block
+      is_of = record { later = passes.head.later; suits = passes.head.suits; index = paves.index ∙ g.index; tag = paves.ps ∙ g.ps }
 
-    epoch_passes : (other : List SatLine) → OwnLines IsJudged Allows declared root seen other → EpochPasses rules root other block
-    epoch_passes other are =
-        let all = block_agrees other are in
-        record {
-          counts = record {
-            rows = passes.head.counts;
-            usable = paves.n ∙ (g.n ∙ same_usable (IsJudged seen.tag) (Allows seen.tag) declared root (one seen.tag) (exists seen.tag) p inside seen.sats.items g.own other g.are_own are);
-          };
-          sats = sats_pass block.sats (expected block.few other) all passes.sats;
-          whole = omega (arith, as_many block.sats (expected block.few other) all);
-          body = body_at rules root given.few g.own given block block.root g.body (sym paves.root) passes.body;
-        }
+      block_agrees : (other : List SatLine) → AreLinesOf m search.root search.epoch other → AllAgree block.sats (expected block.few other)
+      block_agrees other are = rw (paves.sats, paves.few) (sats_agree given.few g.own other given g.are_own are g.body)
 
-  admits_from : (before : Option ℕ) (epochs : List ObsEpoch) (rows blocks : List Block) → AreGrown (OwnLines IsJudged Allows declared root) rules.outliers root epochs rows → AllPave rules rows blocks → BlocksPass rules before blocks
-      → (owns : List (List SatLine)) → AreOwn IsJudged Allows declared root epochs owns → AdmitsFrom rules root before owns epochs blocks
-  admits_from before [] [] [] grown pave pass [] are = tt
-  admits_from before [] [] [] grown pave pass (own ∷ owns) are = absurd are
-  admits_from before [] [] (block ∷ blocks) grown pave pass owns are = absurd pave
-  admits_from before [] (given ∷ rows) blocks grown pave pass owns are = absurd grown
-  admits_from before (seen ∷ epochs) [] blocks grown pave pass owns are = absurd grown
-  admits_from before (seen ∷ epochs) (given ∷ rows) [] grown pave pass owns are = absurd pave
-  admits_from before (seen ∷ epochs) (given ∷ rows) (block ∷ blocks) grown pave pass [] are = is_of before seen given block grown.0 pave.0 pass.0
-  admits_from before (seen ∷ epochs) (given ∷ rows) (block ∷ blocks) grown pave pass (own ∷ owns) are =
-      (is_of before seen given block grown.0 pave.0 pass.0, epoch_passes before seen given block grown.0 pave.0 pass.0 own are.0, admits_from (Some block.index) epochs rows blocks grown.1 pave.1 pass.1 owns are.1)
+      epoch_passes : (other : List SatLine) → AreLinesOf m search.root search.epoch other → EpochPasses rules search.root other block
+      epoch_passes other are =
+          let all = block_agrees other are in
+          record {
+            counts = record {
+              rows = passes.head.counts;
+              usable = paves.n ∙ (g.n ∙ same_usable m sound search.root search.epoch.tag p inside search.epoch.sats.items g.own other g.are_own are);
+            };
+            sats = sats_pass block.sats (expected block.few other) all passes.sats;
+            whole = omega (arith, as_many block.sats (expected block.few other) all);
+            body = body_at rules search.root given.few g.own given block block.root g.body (sym paves.root) passes.body;
+          }
 
-  -- a log that paves such rows and fails no test is admitted by all own lines
-  pub solved_admits : (epochs : List ObsEpoch) (rows log : LogValue) → rows.rules ≡ rules → AreGrown (OwnLines IsJudged Allows declared root) rules.outliers root epochs rows.blocks → IsPavingOf rows log → Judged log
-      → (owns : List (List SatLine)) → AreOwn IsJudged Allows declared root epochs owns → Admits epochs owns rules root log
-  solved_admits epochs rows log same grown paves judged owns are =
-      let is : log.rules ≡ rules = paves.rules ∙ same in
-      record {
-        same_rules = rw is (record { outliers = refl; bisections = refl; width = refl });
-        blocks = admits_from None epochs rows.blocks log.blocks grown (rw same at paves.blocks) (rw is at judged) owns are;
-      }
+  pub admits_from : (before : Option ℕ) (searches : List Search) (given blocks : List Block) → HavePoints searches → AreGrown m rules.outliers searches given
+      → AllPave rules given blocks → BlocksPass rules before blocks
+      → (owns : List (List SatLine)) → AreOwn m searches owns → AdmitsFrom rules before owns searches blocks
+  admits_from before [] [] [] points grown pave pass [] are = tt
+  admits_from before [] [] [] points grown pave pass (own ∷ owns) are = absurd are
+  admits_from before [] [] (block ∷ blocks) points grown pave pass owns are = absurd pave
+  admits_from before [] (g ∷ given) blocks points grown pave pass owns are = absurd grown
+  admits_from before (search ∷ rest) [] blocks points grown pave pass owns are = absurd grown
+  admits_from before (search ∷ rest) (g ∷ given) [] points grown pave pass owns are = absurd pave
+  admits_from before (search ∷ rest) (g ∷ given) (block ∷ blocks) points grown pave pass [] are =
+      is_of search points.0.0 points.0.1 before g block grown.0 pave.0 pass.0
+  admits_from before (search ∷ rest) (g ∷ given) (block ∷ blocks) points grown pave pass (own ∷ owns) are = (
+    is_of search points.0.0 points.0.1 before g block grown.0 pave.0 pass.0,
+    epoch_passes search points.0.0 points.0.1 before g block grown.0 pave.0 pass.0 own are.0,
+    admits_from (Some block.index) rest given blocks points.1 grown.1 pave.1 pass.1 owns are.1,
+  )
 
   -- the own lines that the rows were made of
-  owns_of : (epochs : List ObsEpoch) (rows : List Block) → AreGrown (OwnLines IsJudged Allows declared root) rules.outliers root epochs rows
-      → (owns : List (List SatLine)) × AreOwn IsJudged Allows declared root epochs owns × (length owns ≡ length epochs)
+  pub owns_of : (searches : List Search) (given : List Block) → AreGrown m rules.outliers searches given
+      → (owns : List (List SatLine)) × AreOwn m searches owns × (length owns ≡ length searches)
   owns_of [] [] grown = ([], tt, refl)
-  owns_of [] (given ∷ rows) grown = absurd grown
-  owns_of (seen ∷ epochs) [] grown = absurd grown
-  owns_of (seen ∷ epochs) (given ∷ rows) grown =
-      let (owns, are, each) = owns_of epochs rows grown.1 in
+  owns_of [] (g ∷ given) grown = absurd grown
+  owns_of (search ∷ rest) [] grown = absurd grown
+  owns_of (search ∷ rest) (g ∷ given) grown =
+      let (owns, are, each) = owns_of rest given grown.1 in
       (grown.0.own ∷ owns, (grown.0.are_own, are), ap suc each)
 
-  -- and it is admissible for own lines of each epoch
-  pub solved_admissible : (epochs : List ObsEpoch) (rows log : LogValue) → rows.rules ≡ rules → AreGrown (OwnLines IsJudged Allows declared root) rules.outliers root epochs rows.blocks → IsPavingOf rows log → Judged log
-      → (owns : List (List SatLine)) × AreOwn IsJudged Allows declared root epochs owns × Admissible epochs owns rules root log
-  solved_admissible epochs rows log same grown paves judged =
-      let (owns, are, each) = owns_of epochs rows.blocks grown in
-      (owns, are, record { each = each; admits = solved_admits epochs rows log same grown paves judged owns are })
+  pub few_roots : (searches : List Search) (given blocks : List Block) → AreGrown m rules.outliers searches given → AllPave rules given blocks
+      → AllByRecursion HasFewRoot blocks
+  few_roots [] [] [] grown paves = tt
+  few_roots [] [] (block ∷ blocks) grown paves = absurd paves
+  few_roots [] (g ∷ given) blocks grown paves = absurd grown
+  few_roots (search ∷ rest) [] blocks grown paves = absurd grown
+  few_roots (search ∷ rest) (g ∷ given) [] grown paves = absurd paves
+  few_roots (search ∷ rest) (g ∷ given) (block ∷ blocks) grown paves = (
+    paves.0.few ∙ body_root g.few search.root grown.0.own g grown.0.body ∙ ap is_none (sym paves.0.root),
+    few_roots rest given blocks grown.1 paves.1,
+  )
 
 -- a root has a point: its low corner
 pub has_corner : (root : Box3) → box_holds (grid_box root) root.lo ≡ true

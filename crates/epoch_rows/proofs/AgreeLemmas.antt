@@ -1,6 +1,6 @@
 -- Two own lines of a satellite: a grown one holds the other.
 use Rattle.std.proofs.Common.{◌≡◌, List, [], ◌∷◌, true, refl, sym, ◌∙◌, arith}
-use Rattle.std.specs.Prelude.{ℤ, pos, Option, None, Some}
+use Rattle.std.specs.Prelude.{ℤ, pos, None, Some}
 use Rattle.std.proofs.lemmas.Int.{ints}
 use Rattle.epoch_rows.specs.Grown.{IsGrownRow, IsGrownLine, AreGrownLines, skips_of}
 use Rattle.paving_log_check.specs.Lines.{skipped_in, IsSameLine, HoldsSpan, HoldsOwn, RowPasses}
@@ -10,13 +10,12 @@ use Rattle.sat_model.specs.Intervals.{Between}
 use Rattle.sat_model.specs.Lengths.{spare_of}
 use Rattle.sat_model.specs.declared.boxes.Pos.{Pos}
 use Rattle.sat_model.specs.declared.satellites.Row.{Row}
-use Rattle.sat_model.specs.declared.satellites.Sat.{Sat}
 use Rattle.sat_model.specs.declared.satellites.SatEntry.{SatEntry}
 use Rattle.sat_model.specs.declared.satellites.SatEntry.TheVariants as entry
 use Rattle.sat_model.specs.declared.satellites.Skip.{Skip}
 use Rattle.sat_model.specs.declared.spans.Span.{Span}
-use Rattle.sat_rows.specs.Chains.{Chain}
 use Rattle.sat_rows.specs.Growth.{IsGrown}
+use Rattle.sat_rows.specs.Meanings.{Meaning, IsSound}
 use Rattle.sat_rows.specs.OwnRows.{IsTight, IsOwnRow, IsOwnLine, AreOwnLines, usable_in}
 use Rattle.sat_rows.specs.declared.lines.SatLine.{SatLine}
 use Rattle.sat_rows.specs.declared.lines.SatLine.TheVariants.{Usable, Skipped}
@@ -42,15 +41,12 @@ AllAgree [] (line ∷ lines) = ⊥
 AllAgree (e ∷ entries) [] = ⊥
 AllAgree (e ∷ entries) (line ∷ lines) = LineAgrees e line × AllAgree entries lines
 
--- a source that judges a satellite in one way, and allows something of a usable one at each point; and a point of the root
-module _ (IsJudged : SatObs → Option Skip → Type 0) (Allows : SatObs → Pos → Chain → Type 0) (declared : Sat → ℤ × ℤ) (root : GridBox)
-    (one : (seen : SatObs) (a b : Option Skip) → IsJudged seen a → IsJudged seen b → a ≡ b)
-    (exists : (seen : SatObs) (p : Pos) → IsJudged seen None → (c : Chain) × Allows seen p c)
-    (p : Pos) (inside : box_holds root p ≡ true) where
-  rows_agree : (seen : SatObs) (own other wide : Row) → IsJudged seen None → IsOwnRow (Allows seen) (declared seen.sat) root own → IsOwnRow (Allows seen) (declared seen.sat) root other
+-- over a root with a point in it
+module _ (m : Meaning) (sound : IsSound m) (root : GridBox) (tag : ℤ) (p : Pos) (inside : box_holds root p ≡ true) where
+  rows_agree : (seen : SatObs) (own other wide : Row) → m.judged tag seen None → IsOwnRow m root tag seen own → IsOwnRow m root tag seen other
       → own.sat ≡ seen.sat → other.sat ≡ seen.sat → IsGrownRow (pos (spare_of root)) own wide → LineAgrees (entry.Row wide) (Usable other)
   rows_agree seen own other wide usable a b named also g =
-      let (c, allowed) = exists seen p usable in
+      let (c, allowed) = sound.allowed_exists tag seen p usable in
       let here = a.holds p c inside allowed in
       let there = b.holds p c inside allowed in
       record {
@@ -64,13 +60,13 @@ module _ (IsJudged : SatObs → Option Skip → Type 0) (Allows : SatObs → Pos
         );
       }
 
-  not_both : (seen : SatObs) (skip : Skip) → IsJudged seen None → IsJudged seen (Some skip) → ⊥
-  not_both seen skip usable skipped = let same = one seen None (Some skip) usable skipped in cc
+  not_both : (seen : SatObs) (skip : Skip) → m.judged tag seen None → m.judged tag seen (Some skip) → ⊥
+  not_both seen skip usable skipped = let same = sound.one_judgement tag seen None (Some skip) usable skipped in cc
 
-  same_skip : (seen : SatObs) (skip other : Skip) → IsJudged seen (Some skip) → IsJudged seen (Some other) → skip ≡ other
-  same_skip seen skip other a b = let same = one seen (Some skip) (Some other) a b in cc
+  same_skip : (seen : SatObs) (skip other : Skip) → m.judged tag seen (Some skip) → m.judged tag seen (Some other) → skip ≡ other
+  same_skip seen skip other a b = let same = sound.one_judgement tag seen (Some skip) (Some other) a b in cc
 
-  line_agrees : (seen : SatObs) (own other : SatLine) (e : SatEntry) → IsOwnLine IsJudged Allows declared root seen own → IsOwnLine IsJudged Allows declared root seen other → IsGrownLine (pos (spare_of root)) own e → LineAgrees e other
+  line_agrees : (seen : SatObs) (own other : SatLine) (e : SatEntry) → IsOwnLine m root tag seen own → IsOwnLine m root tag seen other → IsGrownLine (pos (spare_of root)) own e → LineAgrees e other
   line_agrees seen (Usable own) (Usable other) (entry.Row wide) a b g = rows_agree seen own other wide a.1 a.2 b.2 a.0 b.0 g
   line_agrees seen (Usable own) (Skipped sat skip) (entry.Row wide) a b g = absurd (not_both seen skip a.1 b.1)
   line_agrees seen (Usable own) other (entry.Skipped sat skip) a b g = absurd g
@@ -80,7 +76,7 @@ module _ (IsJudged : SatObs → Option Skip → Type 0) (Allows : SatObs → Pos
       record { same = (g.0 ∙ (a.0 ∙ sym b.0), g.1 ∙ same_skip seen skip reason a.1 b.1); passes = tt }
 
   -- each grown line of one reading passes against the other
-  pub lines_agree : (sats : List SatObs) (own other : List SatLine) (entries : List SatEntry) → AreOwnLines IsJudged Allows declared root sats own → AreOwnLines IsJudged Allows declared root sats other
+  pub lines_agree : (sats : List SatObs) (own other : List SatLine) (entries : List SatEntry) → AreOwnLines m root tag sats own → AreOwnLines m root tag sats other
       → AreGrownLines (pos (spare_of root)) own entries → AllAgree entries other
   lines_agree [] [] [] [] a b g = tt
   lines_agree [] [] [] (e ∷ entries) a b g = absurd g
@@ -91,7 +87,7 @@ module _ (IsJudged : SatObs → Option Skip → Type 0) (Allows : SatObs → Pos
   lines_agree (seen ∷ sats) (line ∷ own) (ours ∷ other) [] a b g = absurd g
   lines_agree (seen ∷ sats) (line ∷ own) (ours ∷ other) (e ∷ entries) a b g = (line_agrees seen line ours e a.0 b.0 g.0, lines_agree sats own other entries a.1 b.1 g.1)
 
-  pub skips_agree : (sats : List SatObs) (own other : List SatLine) → AreOwnLines IsJudged Allows declared root sats own → AreOwnLines IsJudged Allows declared root sats other → AllAgree (skips_of own) (skipped_in other)
+  pub skips_agree : (sats : List SatObs) (own other : List SatLine) → AreOwnLines m root tag sats own → AreOwnLines m root tag sats other → AllAgree (skips_of own) (skipped_in other)
   skips_agree [] [] [] a b = tt
   skips_agree [] [] (line ∷ other) a b = absurd b
   skips_agree [] (line ∷ own) other a b = absurd a
@@ -103,7 +99,7 @@ module _ (IsJudged : SatObs → Option Skip → Type 0) (Allows : SatObs → Pos
   skips_agree (seen ∷ sats) (Skipped sat skip ∷ own) (Skipped named why ∷ other) a b =
       (record { same = (a.0.0 ∙ sym b.0.0, same_skip seen skip why a.0.1 b.0.1); passes = tt }, skips_agree sats own other a.1 b.1)
 
-  pub same_usable : (sats : List SatObs) (own other : List SatLine) → AreOwnLines IsJudged Allows declared root sats own → AreOwnLines IsJudged Allows declared root sats other → usable_in own ≡ usable_in other
+  pub same_usable : (sats : List SatObs) (own other : List SatLine) → AreOwnLines m root tag sats own → AreOwnLines m root tag sats other → usable_in own ≡ usable_in other
   same_usable [] [] [] a b = refl
   same_usable [] [] (line ∷ other) a b = absurd b
   same_usable [] (line ∷ own) other a b = absurd a

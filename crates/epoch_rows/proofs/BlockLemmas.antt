@@ -1,24 +1,22 @@
 -- The blocks that are made of own lines.
 use Rattle.std.proofs.Common.{◌≡◌, ℕ, ◌≤◌, List, length, ap, arith}
-use Rattle.std.specs.Prelude.{ℤ, pos, ◌≤ℤ◌, ◌<ℤ◌, Option, Some}
+use Rattle.std.specs.Prelude.{ℤ, pos, ◌≤ℤ◌, ◌<ℤ◌}
 use Rattle.std.specs.List.{AllByRecursion}
 use Rattle.std.proofs.lemmas.Int.{ints}
 use Rattle.epoch_rows.specs.Grown.{AreGrownLines, skips_of}
-use Rattle.log_words.specs.Fields.{IsCountFromTo, SkipFits}
+use Rattle.epoch_rows.specs.Ready.{SkipsFit}
+use Rattle.epoch_selection.specs.Selections.{first_epoch, last_epoch}
+use Rattle.log_words.specs.Fields.{IsCountFromTo}
 use Rattle.paving_log.specs.Lines.{HeaderFits}
 use Rattle.paving_log.specs.Rows.{CornersFit, corners_of, EntryFits}
 use Rattle.paving_log.specs.Text.{IsSkipped}
 use Rattle.rinex_obs.specs.Facts.{AreGpsSats}
 use Rattle.rinex_obs.specs.declared.obs.ObsEpoch.{ObsEpoch}
-use Rattle.rinex_obs.specs.declared.obs.SatObs.{SatObs}
 use Rattle.sat_model.specs.Boxes.{GridBox, grid_box}
 use Rattle.sat_model.specs.declared.boxes.Box3.{Box3}
-use Rattle.sat_model.specs.declared.boxes.Pos.{Pos}
-use Rattle.sat_model.specs.declared.satellites.Sat.{Sat}
 use Rattle.sat_model.specs.declared.satellites.SatEntry.{SatEntry}
-use Rattle.sat_model.specs.declared.satellites.Skip.{Skip}
-use Rattle.sat_rows.specs.Chains.{Chain}
-use Rattle.sat_rows.specs.OwnRows.{AreOwnLines, usable_in}
+use Rattle.sat_rows.specs.Meanings.{Meaning}
+use Rattle.sat_rows.specs.OwnRows.{AreLinesOf, usable_in}
 use Rattle.sat_rows.specs.declared.lines.SatLine.{SatLine}
 use Rattle.epoch_rows.proofs.LineLemmas.{usable_le, skips_le, grown_count, all_skipped, own_count, skips_fit, lines_fit}
 
@@ -35,29 +33,29 @@ root_fits root = record {
 
 -- ---- first lines
 
-pub header_fits : (index n : ℕ) (ps tag : ℤ) → ps ≡ tag → IsCountFromTo 1 200000 index → pos 0 ≤ℤ tag → tag <ℤ pos 4000000000000000000000 → n ≤ 64
+pub header_fits : (index n : ℕ) (ps tag : ℤ) → ps ≡ tag → IsCountFromTo first_epoch last_epoch index → pos 0 ≤ℤ tag → tag <ℤ pos 4000000000000000000000 → n ≤ 64
     → HeaderFits (record { index = index; ps = ps; n = n })
 header_fits index n ps tag same counted from under few = record { index = counted; ps = (omega (arith, ints, from), omega (arith, ints, under)); n = (omega arith, few) }
 
 -- ---- satellite lines
 
-module _ (IsJudged : SatObs → Option Skip → Type 0) (Allows : SatObs → Pos → Chain → Type 0) (declared : Sat → ℤ × ℤ) (root : GridBox) (seen : ObsEpoch)
-    (own given : List SatLine) (are : AreOwnLines IsJudged Allows declared root seen.sats.items own) (same : given ≡ own) where
+module _ (m : Meaning) (root : GridBox) (seen : ObsEpoch) (own given : List SatLine) (are : AreLinesOf m root seen own) (same : given ≡ own) where
   pub few_usable : (n : ℕ) → n ≡ usable_in own → n ≤ 64
-  few_usable n is = omega (arith, usable_le own, own_count IsJudged Allows declared root seen.sats.items own are, seen.few)
+  few_usable n is = omega (arith, usable_le own, own_count m root seen.tag seen.sats.items own are, seen.few)
 
   pub few_skips : (items : List SatEntry) → items ≡ skips_of given → length items ≤ 64
-  few_skips items is = rw (is, same) (omega (arith, skips_le own, own_count IsJudged Allows declared root seen.sats.items own are, seen.few))
+  few_skips items is = rw (is, same) (omega (arith, skips_le own, own_count m root seen.tag seen.sats.items own are, seen.few))
 
   pub skips_skipped : (items : List SatEntry) → items ≡ skips_of given → AllByRecursion IsSkipped items
   skips_skipped items is = rw (is, same) (all_skipped own)
 
   pub few_grown : (by : ℤ) (items : List SatEntry) → AreGrownLines by given items → length items ≤ 64
-  few_grown by items grown = omega (arith, grown_count by given items grown, ap length same, own_count IsJudged Allows declared root seen.sats.items own are, seen.few)
+  few_grown by items grown =
+      omega (arith, grown_count by given items grown, ap length same, own_count m root seen.tag seen.sats.items own are, seen.few)
 
-  module _ (skips : (other : SatObs) (skip : Skip) → IsJudged other (Some skip) → SkipFits skip) (gps : AreGpsSats seen.sats.items) where
+  module _ (skips : SkipsFit m) (gps : AreGpsSats seen.sats.items) where
     pub skip_entries : (items : List SatEntry) → items ≡ skips_of given → AllByRecursion EntryFits items
-    skip_entries items is = rw (is, same) (skips_fit IsJudged Allows declared root skips seen.sats.items own gps are)
+    skip_entries items is = rw (is, same) (skips_fit m root seen.tag skips seen.sats.items own gps are)
 
     pub grown_entries : (by : ℤ) (items : List SatEntry) → AreGrownLines by given items → AllByRecursion EntryFits items
-    grown_entries by items grown = lines_fit IsJudged Allows declared root skips by seen.sats.items own items gps are (rw same at grown)
+    grown_entries by items grown = lines_fit m root seen.tag skips by seen.sats.items own items gps are (rw same at grown)

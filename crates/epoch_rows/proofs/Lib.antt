@@ -2,8 +2,11 @@ pub mod SpareLemmas
 pub mod ApartLemmas
 pub mod LineLemmas
 pub mod BlockLemmas
-pub mod RowsLemmas
 pub mod PassLemmas
+pub mod ReadyLemmas
+pub mod NextLemmas
 pub mod AgreeLemmas
 pub mod AdmitLemmas
+pub mod KeptLemmas
+pub mod CameLemmas
 pub mod SkipLemmas

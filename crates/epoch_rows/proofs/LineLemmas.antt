@@ -1,10 +1,11 @@
 -- The satellite lines that are made of own lines.
 use Rattle.std.proofs.Common.{◌≡◌, ◌≢◌, ℕ, ◌≤◌, List, [], ◌∷◌, ◌++◌, length, drop, sym, subst, ◌∙◌, refl, append-nil, arith}
-use Rattle.std.specs.Prelude.{◌*◌, ◌^◌, ℤ, pos, Option, Some}
+use Rattle.std.specs.Prelude.{◌*◌, ◌^◌, ℤ, pos}
 use Rattle.std.specs.List.{AllByRecursion}
 use Rattle.std.proofs.lemmas.Grind.{common_steps}
 use Rattle.std.proofs.lemmas.Int.{ints}
-use Rattle.epoch_rows.specs.Grown.{IsGrownLine, AreGrownLines, skips_of}
+use Rattle.epoch_rows.specs.Grown.{IsGrownLine, AreGrownLines, greatest_spare, skips_of}
+use Rattle.epoch_rows.specs.Ready.{SkipsFit}
 use Rattle.log_words.specs.Fields.{IsGps, SkipFits}
 use Rattle.paving_log.specs.Rows.{EntryFits}
 use Rattle.paving_log.specs.Text.{IsSkipped}
@@ -13,15 +14,13 @@ use Rattle.rinex_obs.specs.declared.obs.SatObs.{SatObs}
 use Rattle.sat_model.specs.Boxes.{GridBox}
 use Rattle.sat_model.specs.Logs.{sat_of, rows_of}
 use Rattle.sat_model.specs.Relaxed.{ends}
-use Rattle.sat_model.specs.declared.boxes.Pos.{Pos}
 use Rattle.sat_model.specs.declared.satellites.Row.{Row}
 use Rattle.sat_model.specs.declared.satellites.Sat.{Sat}
 use Rattle.sat_model.specs.declared.satellites.SatEntry.{SatEntry}
 use Rattle.sat_model.specs.declared.satellites.SatEntry.TheVariants as entry
-use Rattle.sat_model.specs.declared.satellites.Skip.{Skip}
 use Rattle.sat_model.specs.declared.spans.Span.{Span}
-use Rattle.sat_rows.specs.Chains.{Chain}
 use Rattle.sat_rows.specs.Growth.{GrowsWithin, IsGrown}
+use Rattle.sat_rows.specs.Meanings.{Meaning}
 use Rattle.sat_rows.specs.OwnRows.{IsOwnLine, AreOwnLines, usable_in, IsSmall, IsSmallRow, IsSmallLine}
 use Rattle.sat_rows.specs.declared.lines.SatLine.{SatLine}
 use Rattle.sat_rows.specs.declared.lines.SatLine.TheVariants.{Usable, Skipped}
@@ -73,7 +72,7 @@ all_skipped (Skipped sat skip ∷ own) = (tt, all_skipped own)
 
 -- ---- room at their ends
 
-pub room : (by b : ℤ) (span : Span) → b ≡ by → (n : ℕ) → by ≡ pos n → n ≤ 400002000 → IsSmall (56 * 10 ^ 12) span → GrowsWithin b span
+pub room : (by b : ℤ) (span : Span) → b ≡ by → (n : ℕ) → by ≡ pos n → n ≤ greatest_spare → IsSmall (56 * 10 ^ 12) span → GrowsWithin b span
 room by b span same n is few small = record {
   low = record { low = omega (arith, ints, small.lo.low); high = omega (arith, ints, small.lo.high) };
   high = record { low = omega (arith, ints, small.hi.low); high = omega (arith, ints, small.hi.high) };
@@ -93,28 +92,28 @@ row_grown by b n line own row same is e sat err x y z range =
 pub gps_fits : (seen : SatObs) (sat : Sat) → IsGpsSat seen → sat ≡ seen.sat → IsGps sat
 gps_fits seen sat gps same = subst IsGps (sym same) (gps.system, (gps.from, gps.to))
 
-module _ (IsJudged : SatObs → Option Skip → Type 0) (Allows : SatObs → Pos → Chain → Type 0) (declared : Sat → ℤ × ℤ) (root : GridBox) where
-  pub own_count : (sats : List SatObs) (own : List SatLine) → AreOwnLines IsJudged Allows declared root sats own → length own ≡ length sats
+module _ (m : Meaning) (root : GridBox) (tag : ℤ) where
+  pub own_count : (sats : List SatObs) (own : List SatLine) → AreOwnLines m root tag sats own → length own ≡ length sats
   own_count [] [] are = refl
   own_count [] (line ∷ own) are = absurd are
   own_count (seen ∷ sats) [] are = absurd are
   own_count (seen ∷ sats) (line ∷ own) are = omega (arith, own_count sats own are.1)
 
-  module _ (skips : (seen : SatObs) (skip : Skip) → IsJudged seen (Some skip) → SkipFits skip) where
-    pub skips_fit : (sats : List SatObs) (own : List SatLine) → AreGpsSats sats → AreOwnLines IsJudged Allows declared root sats own → AllByRecursion EntryFits (skips_of own)
+  module _ (skips : SkipsFit m) where
+    pub skips_fit : (sats : List SatObs) (own : List SatLine) → AreGpsSats sats → AreOwnLines m root tag sats own → AllByRecursion EntryFits (skips_of own)
     skips_fit [] [] gps are = tt
     skips_fit [] (line ∷ own) gps are = absurd are
     skips_fit (seen ∷ sats) [] gps are = absurd are
     skips_fit (seen ∷ sats) (Usable row ∷ own) gps are = skips_fit sats own gps.1 are.1
-    skips_fit (seen ∷ sats) (Skipped sat skip ∷ own) gps are = ((gps_fits seen sat gps.0 are.0.0, skips seen skip are.0.1), skips_fit sats own gps.1 are.1)
+    skips_fit (seen ∷ sats) (Skipped sat skip ∷ own) gps are = ((gps_fits seen sat gps.0 are.0.0, skips tag seen skip are.0.1), skips_fit sats own gps.1 are.1)
 
-    line_fits : (by : ℤ) (seen : SatObs) (line : SatLine) (e : SatEntry) → IsGpsSat seen → IsOwnLine IsJudged Allows declared root seen line → IsGrownLine by line e → EntryFits e
+    line_fits : (by : ℤ) (seen : SatObs) (line : SatLine) (e : SatEntry) → IsGpsSat seen → IsOwnLine m root tag seen line → IsGrownLine by line e → EntryFits e
     line_fits by seen (Usable row) (entry.Row wide) gps is grown = gps_fits seen wide.sat gps (grown.sat ∙ is.0)
     line_fits by seen (Usable row) (entry.Skipped sat skip) gps is grown = absurd grown
     line_fits by seen (Skipped sat skip) (entry.Row wide) gps is grown = absurd grown
-    line_fits by seen (Skipped sat skip) (entry.Skipped same why) gps is grown = (gps_fits seen same gps (grown.0 ∙ is.0), subst SkipFits (sym grown.1) (skips seen skip is.1))
+    line_fits by seen (Skipped sat skip) (entry.Skipped same why) gps is grown = (gps_fits seen same gps (grown.0 ∙ is.0), subst SkipFits (sym grown.1) (skips tag seen skip is.1))
 
-    pub lines_fit : (by : ℤ) (sats : List SatObs) (own : List SatLine) (entries : List SatEntry) → AreGpsSats sats → AreOwnLines IsJudged Allows declared root sats own → AreGrownLines by own entries → AllByRecursion EntryFits entries
+    pub lines_fit : (by : ℤ) (sats : List SatObs) (own : List SatLine) (entries : List SatEntry) → AreGpsSats sats → AreOwnLines m root tag sats own → AreGrownLines by own entries → AllByRecursion EntryFits entries
     lines_fit by [] [] [] gps are grown = tt
     lines_fit by [] [] (e ∷ entries) gps are grown = absurd grown
     lines_fit by [] (line ∷ own) entries gps are grown = absurd are
@@ -127,14 +126,14 @@ module _ (IsJudged : SatObs → Option Skip → Type 0) (Allows : SatObs → Pos
   abbrev Other : Sat → List SatObs → Type 0
   Other sat sats = AllByRecursion (λ seen. seen.sat ≢ sat) sats
 
-  no_skip_names : (sat : Sat) (sats : List SatObs) (own : List SatLine) → Other sat sats → AreOwnLines IsJudged Allows declared root sats own → NoneNames sat (skips_of own)
+  no_skip_names : (sat : Sat) (sats : List SatObs) (own : List SatLine) → Other sat sats → AreOwnLines m root tag sats own → NoneNames sat (skips_of own)
   no_skip_names sat [] [] other are = tt
   no_skip_names sat [] (line ∷ own) other are = absurd are
   no_skip_names sat (seen ∷ sats) [] other are = absurd are
   no_skip_names sat (seen ∷ sats) (Usable row ∷ own) other are = no_skip_names sat sats own other.1 are.1
   no_skip_names sat (seen ∷ sats) (Skipped named skip ∷ own) other are = ((λ same. other.0 (sym are.0.0 ∙ same)), no_skip_names sat sats own other.1 are.1)
 
-  pub skips_apart : (sats : List SatObs) (own : List SatLine) → AreDistinct sats → AreOwnLines IsJudged Allows declared root sats own → AreApart (skips_of own)
+  pub skips_apart : (sats : List SatObs) (own : List SatLine) → AreDistinct sats → AreOwnLines m root tag sats own → AreApart (skips_of own)
   skips_apart [] [] distinct are = tt
   skips_apart [] (line ∷ own) distinct are = absurd are
   skips_apart (seen ∷ sats) [] distinct are = absurd are
@@ -142,13 +141,13 @@ module _ (IsJudged : SatObs → Option Skip → Type 0) (Allows : SatObs → Pos
   skips_apart (seen ∷ sats) (Skipped sat skip ∷ own) distinct are =
       (no_skip_names sat sats own (subst (λ (s : Sat). Other s sats) (sym are.0.0) distinct.0) are.1, skips_apart sats own distinct.1 are.1)
 
-  line_names : (by : ℤ) (seen : SatObs) (line : SatLine) (e : SatEntry) → IsOwnLine IsJudged Allows declared root seen line → IsGrownLine by line e → sat_of e ≡ seen.sat
+  line_names : (by : ℤ) (seen : SatObs) (line : SatLine) (e : SatEntry) → IsOwnLine m root tag seen line → IsGrownLine by line e → sat_of e ≡ seen.sat
   line_names by seen (Usable row) (entry.Row wide) is grown = grown.sat ∙ is.0
   line_names by seen (Usable row) (entry.Skipped sat skip) is grown = absurd grown
   line_names by seen (Skipped sat skip) (entry.Row wide) is grown = absurd grown
   line_names by seen (Skipped sat skip) (entry.Skipped same why) is grown = grown.0 ∙ is.0
 
-  none_names : (by : ℤ) (sat : Sat) (sats : List SatObs) (own : List SatLine) (entries : List SatEntry) → Other sat sats → AreOwnLines IsJudged Allows declared root sats own → AreGrownLines by own entries → NoneNames sat entries
+  none_names : (by : ℤ) (sat : Sat) (sats : List SatObs) (own : List SatLine) (entries : List SatEntry) → Other sat sats → AreOwnLines m root tag sats own → AreGrownLines by own entries → NoneNames sat entries
   none_names by sat [] [] [] other are grown = tt
   none_names by sat [] [] (e ∷ entries) other are grown = absurd grown
   none_names by sat [] (line ∷ own) entries other are grown = absurd are
@@ -157,7 +156,7 @@ module _ (IsJudged : SatObs → Option Skip → Type 0) (Allows : SatObs → Pos
   none_names by sat (seen ∷ sats) (line ∷ own) (e ∷ entries) other are grown =
       ((λ same. other.0 (sym (line_names by seen line e are.0 grown.0) ∙ same)), none_names by sat sats own entries other.1 are.1 grown.1)
 
-  pub lines_apart : (by : ℤ) (sats : List SatObs) (own : List SatLine) (entries : List SatEntry) → AreDistinct sats → AreOwnLines IsJudged Allows declared root sats own → AreGrownLines by own entries → AreApart entries
+  pub lines_apart : (by : ℤ) (sats : List SatObs) (own : List SatLine) (entries : List SatEntry) → AreDistinct sats → AreOwnLines m root tag sats own → AreGrownLines by own entries → AreApart entries
   lines_apart by [] [] [] distinct are grown = tt
   lines_apart by [] [] (e ∷ entries) distinct are grown = absurd grown
   lines_apart by [] (line ∷ own) entries distinct are grown = absurd are

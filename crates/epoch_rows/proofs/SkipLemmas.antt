@@ -1,17 +1,24 @@
 -- Each reason not to use a GPS satellite can stand in a log.
-use Rattle.std.proofs.Common.{◌≡◌, ℕ, ◌≤◌, inl, inr, arith}
+use Rattle.std.proofs.Common.{◌≡◌, ℕ, ◌≤◌, List, inl, inr, arith}
 use Rattle.std.specs.Prelude.{Some}
 use Rattle.log_words.specs.Fields.{SkipFits}
 use Rattle.sat_model.specs.declared.satellites.Skip.{Skip}
-use Rattle.sat_rows.specs.Usability.{Sighting, IsJudged}
+use Rattle.epoch_rows.specs.Ready.{SkipsFit}
+use Rattle.error_bounds.specs.declared.settings.Settings.{Settings}
+use Rattle.rinex_nav.specs.declared.record.NavRecord.{NavRecord}
+use Rattle.sat_rows.specs.Sources.{gps_meaning}
+use Rattle.usable_sats.specs.Usability.{Sighting, sighting, IsJudged}
 
 alone : (skip : Skip) (number : ℕ) → skip.number ≡ number → skip.field ≡ 0 → 1 ≤ number → number ≤ 5 → SkipFits skip
 alone skip number is none from to = inl ((omega arith, omega arith), none)
 
-pub skip_fits : (a : Sighting) (skip : Skip) → IsJudged a (Some skip) → SkipFits skip
+skip_fits : (a : Sighting) (skip : Skip) → IsJudged a (Some skip) → SkipFits skip
 skip_fits a skip (inl (is, none, lacks)) = alone skip 1 is none (omega arith) (omega arith)
 skip_fits a skip (inr (inl (is, none, out))) = alone skip 2 is none (omega arith) (omega arith)
 skip_fits a skip (inr (inr (inl (is, none, lacks)))) = alone skip 3 is none (omega arith) (omega arith)
 skip_fits a skip (inr (inr (inr (inl (is, none, lacks))))) = alone skip 4 is none (omega arith) (omega arith)
 skip_fits a skip (inr (inr (inr (inr (inl (is, none, lacks)))))) = alone skip 5 is none (omega arith) (omega arith)
 skip_fits a skip (inr (inr (inr (inr (inr (is, lacks)))))) = inr (is, (lacks.first.from, lacks.first.to))
+
+pub gps_skips_fit : (records : List NavRecord) (settings : Settings) → SkipsFit (gps_meaning records settings)
+gps_skips_fit records settings tag seen skip judged = skip_fits (sighting records settings tag seen) skip judged

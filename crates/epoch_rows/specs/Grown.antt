@@ -1,6 +1,6 @@
 -- Own rows with room at their ends, as the blocks of a log that has no steps yet.
-use Rattle.std.specs.Prelude.{ℕ, ◌≡◌, ◌+◌, ℤ, pos, Bool, true, false, nat_lt, List, [], ◌∷◌, None, Some}
-use Rattle.rinex_obs.specs.declared.obs.ObsEpoch.{ObsEpoch}
+use Rattle.std.specs.Prelude.{ℕ, ◌≡◌, ◌+◌, ◌*◌, ◌/◌, ◌^◌, ℤ, pos, Bool, true, false, nat_lt, List, [], ◌∷◌, None, Some}
+use Rattle.epoch_selection.specs.Searches.{Search}
 use Rattle.sat_model.specs.Boxes.{GridBox}
 use Rattle.sat_model.specs.Lengths.{spare_of}
 use Rattle.sat_model.specs.Logs.{Block}
@@ -9,9 +9,14 @@ use Rattle.sat_model.specs.declared.satellites.Row.{Row}
 use Rattle.sat_model.specs.declared.satellites.SatEntry.{SatEntry}
 use Rattle.sat_model.specs.declared.satellites.SatEntry.TheVariants as entry
 use Rattle.sat_rows.specs.Growth.{IsGrown}
-use Rattle.sat_rows.specs.OwnRows.{usable_in}
+use Rattle.sat_rows.specs.Meanings.{Meaning}
+use Rattle.sat_rows.specs.OwnRows.{AreLinesOf, usable_in}
 use Rattle.sat_rows.specs.declared.lines.SatLine.{SatLine}
 use Rattle.sat_rows.specs.declared.lines.SatLine.TheVariants.{Usable, Skipped}
+
+-- the greatest W: the sides of a box are at most 2 * 10^13 um long
+abbrev pub greatest_spare : ℕ
+greatest_spare = 2000 + (2 * 10 ^ 13) / 50000
 
 -- ---- satellite lines
 
@@ -45,27 +50,29 @@ skips_of (Skipped sat skip ∷ lines) = entry.Skipped sat skip ∷ skips_of line
 
 -- ---- blocks
 
--- Where too few satellites are usable a block has the skip lines alone. Else it has all lines, whose rows
--- are wider by W at both ends, and the root.
+-- Where too few satellites are usable a block has the skip lines alone. Else it has all lines,
+-- whose rows are wider by W at both ends, and the root.
 abbrev pub HasBody : Bool → GridBox → List SatLine → Block → Type 0
 HasBody true root own block = (block.sats ≡ skips_of own) × (block.root ≡ None)
-HasBody false root own block = AreGrownLines (pos (spare_of root)) own block.sats × (block.root ≡ Some root)
+HasBody false root own block =
+    AreGrownLines (pos (spare_of root)) own block.sats × (block.root ≡ Some root)
 
--- for any meaning of the own lines of an epoch, where so many satellites may be inconsistent
-module _ (AreOwn : ObsEpoch → List SatLine → Type 0) (q : ℕ) (root : GridBox) where
-  -- the block of an epoch
-  pub record IsGrownBlock (seen : ObsEpoch) (block : Block) : Type 0 where
+-- by what a source says of satellites, where so many of them may be inconsistent
+module _ (m : Meaning) (q : ℕ) where
+  -- the block of a search
+  pub record IsGrownBlock (search : Search) (block : Block) : Type 0 where
     pub own : List SatLine
-    pub are_own : AreOwn seen own
-    pub index : block.index ≡ seen.index
-    pub ps : block.ps ≡ seen.tag
+    pub are_own : AreLinesOf m search.root search.epoch own
+    pub index : block.index ≡ search.epoch.index
+    pub ps : block.ps ≡ search.epoch.tag
     pub n : block.n ≡ usable_in own
     pub few : block.few ≡ nat_lt (usable_in own) (q + 4)
-    pub body : HasBody block.few root own block
+    pub body : HasBody block.few search.root own block
 
-  -- one for each epoch, in order
-  abbrev pub AreGrown : List ObsEpoch → List Block → Type 0
+  -- one for each search, in order
+  abbrev pub AreGrown : List Search → List Block → Type 0
   AreGrown [] [] = Unit {0}
   AreGrown [] (block ∷ blocks) = ⊥
-  AreGrown (seen ∷ epochs) [] = ⊥
-  AreGrown (seen ∷ epochs) (block ∷ blocks) = IsGrownBlock seen block × AreGrown epochs blocks
+  AreGrown (search ∷ searches) [] = ⊥
+  AreGrown (search ∷ searches) (block ∷ blocks) =
+      IsGrownBlock search block × AreGrown searches blocks

@@ -1,17 +1,16 @@
 //! The block of an epoch.
 
-ghost use Rattle.std.specs.Prelude.{◌≡◌, ◌+◌, ◌≤◌, ◌<◌, ℕ, ℤ, Some, IfOk, length, true, false};
-ghost use Rattle.std.specs.List.{AllByRecursion};
+ghost use Rattle.std.specs.Prelude.{IfOk};
 ghost use Rattle.epoch_rows.specs.Grown.{IsGrownBlock};
-ghost use Rattle.log_words.specs.Fields.{IsCountFromTo, SkipFits};
+ghost use Rattle.epoch_rows.specs.Ready.{SkipsFit};
+ghost use Rattle.epoch_selection.specs.Searches.{search_in};
+ghost use Rattle.epoch_selection.specs.Selections.{first_epoch, last_epoch};
+ghost use Rattle.log_words.specs.Fields.{IsCountFromTo};
 ghost use Rattle.paving_log.specs.declared.line.Form.TheVariants as form;
-ghost use Rattle.paving_log.specs.Text.{BlockFits, block_lines};
+ghost use Rattle.paving_log.specs.Text.{BlockFits};
 ghost use Rattle.paving_log.specs.Values.{block_of};
 ghost use Rattle.rinex_obs.specs.Facts.{AreGpsSats};
-ghost use Rattle.rinex_obs.specs.declared.obs.SatObs.{SatObs};
 ghost use Rattle.sat_model.specs.Boxes.{grid_box};
-ghost use Rattle.sat_model.specs.declared.satellites.Skip.{Skip};
-ghost use Rattle.sat_rows.specs.OwnRows.{AreOwnLines};
 
 use crate::lines::{grown_lines, skip_lines};
 use paving_log::LogEpoch;
@@ -20,28 +19,27 @@ use sat_model::{Box3, NoMemory, Rules};
 use sat_rows::RowSource;
 use std::alloc::Global;
 
-/// The block of an epoch's rows, whose first line has this number.
+/// The block of an epoch: the rows of its satellites, each span wider by W at both ends, the skips,
+/// and the root; where fewer than q + 4 satellites are usable the skips alone. No line is numbered.
 pub fn block<S: RowSource>(
     alloc: Global,
     source: &S,
     epoch: &ObsEpoch,
     rules: &Rules,
     root: &Box3,
-    line: u32,
 ) -> Result<LogEpoch, NoMemory>
-    requires index { IsCountFromTo 1 200000 epoch.now.index }
+    requires index { IsCountFromTo first_epoch last_epoch epoch.now.index }
     requires gps { AreGpsSats epoch.now.sats.items }
-    requires skips { (tag : ℤ) (seen : SatObs) (skip : Skip) → S.judged source.now tag seen (Some skip) → SkipFits skip }
-    ensures grown { IfOk result (λ block. IsGrownBlock (λ seen. AreOwnLines (S.judged source.now seen.tag) (S.allows source.now seen.tag) (S.declared source.now) (grid_box root.now) seen.sats.items)
-        rules.now.outliers (grid_box root.now) epoch.now (block_of block)) }
+    requires skips { SkipsFit (S.meaning source.now) }
+    ensures grown { IfOk result (λ block. IsGrownBlock (S.meaning source.now) rules.now.outliers
+        (search_in (grid_box root.now) epoch.now) (block_of block)) }
     ensures fits { IfOk result (λ block. BlockFits form.Rows (block_of block)) }
-    ensures line { IfOk result (λ block. block.line ≡ line) }
 {
     let own = source.lines(alloc, epoch, root)?;
     let n = own.usable;
     if n < u32::from(rules.outliers) + 4 {
         return Ok(LogEpoch {
-            line,
+            line: 0,
             index: epoch.index,
             ps: epoch.tag,
             n,
@@ -53,7 +51,7 @@ pub fn block<S: RowSource>(
         });
     }
     Ok(LogEpoch {
-        line,
+        line: 0,
         index: epoch.index,
         ps: epoch.tag,
         n,
@@ -63,16 +61,4 @@ pub fn block<S: RowSource>(
         steps: Vec::new(alloc),
         done: 0,
     })
-}
-
-/// How many lines the block has.
-pub fn lines_of(block: &LogEpoch) -> u32
-    ensures lines { result ≡ length (block_lines form.Rows (block_of block.now)) }
-    ensures few { result ≤ 66 }
-{
-    let satellites = block.sats.len() as u32;
-    match block.root {
-        None => 1 + satellites,
-        Some(_) => 2 + satellites,
-    }
 }

@@ -1,8 +1,9 @@
-//! The rows of the epochs of an observation file, with room at their ends, as a log that has no steps yet.
+//! The blocks of the epochs of an observation file: the rows of its satellites, with room at their
+//! ends, each block formed when the one before is finished.
 #![tactic(auto)]
 
 mod blocks;
 mod lines;
-mod rows;
+mod source;
 
-pub use rows::rows_log;
+pub use source::ObsBlocks;

@@ -1,7 +1,7 @@
 //! The satellite lines of a block.
 
 ghost use Rattle.std.specs.Prelude.{◌≡◌, ◌≤◌, pos, IfOk};
-ghost use Rattle.epoch_rows.specs.Grown.{IsGrownLine, AreGrownLines, skips_of};
+ghost use Rattle.epoch_rows.specs.Grown.{IsGrownLine, AreGrownLines, greatest_spare, skips_of};
 ghost use Rattle.sat_model.specs.Boxes.{grid_box};
 ghost use Rattle.sat_model.specs.Lengths.{spare_of};
 ghost use Rattle.sat_rows.specs.OwnRows.{IsSmallLine, AreSmall};
@@ -10,10 +10,11 @@ use sat_model::{Box3, NoMemory, SatEntry, spare};
 use sat_rows::{SatLine, grown};
 use std::alloc::Global;
 
-/// By how much a row over this root is made wider at each end, in um: as much as its spans may be wide.
+/// By how much a row over this root is made wider at each end, in um: as much as its spans may be
+/// wide.
 fn room_over(root: &Box3) -> i64
     ensures value { result ≡ pos (spare_of (grid_box root.now)) }
-    ensures most { spare_of (grid_box root.now) ≤ 400002000 }
+    ensures most { spare_of (grid_box root.now) ≤ greatest_spare }
 {
     spare(root)
 }
@@ -35,7 +36,8 @@ fn grown_line(line: &SatLine, root: &Box3) -> SatEntry
 /// All lines, their rows wider in this way.
 pub fn grown_lines(alloc: Global, lines: &[SatLine], root: &Box3) -> Result<Vec<SatEntry>, NoMemory>
     requires { AreSmall lines.now }
-    ensures { IfOk result (λ sats. AreGrownLines (pos (spare_of (grid_box root.now))) lines.now sats.items) }
+    ensures { IfOk result
+        (λ sats. AreGrownLines (pos (spare_of (grid_box root.now))) lines.now sats.items) }
 {
     let mut sats = Vec::new(alloc);
     for line in lines {

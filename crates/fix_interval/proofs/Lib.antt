@@ -1,3 +1,4 @@
+pub mod GrainLemmas
 pub mod InsideLemmas
 pub mod NearLemmas
 pub mod ProductEnds

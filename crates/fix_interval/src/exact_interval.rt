@@ -1,6 +1,7 @@
 //! `Exact` as an interval whose grain is 1 um.
 
 ghost use Rattle.std.specs.Prelude.{◌≤◌, pos, refl};
+ghost use Rattle.sat_model.proofs.RoundingLemmas.{multiple_of_one};
 
 use crate::ends::{greatest_amount, least_amount};
 use crate::exact::Exact;
@@ -43,6 +44,10 @@ impl Interval for Exact {
     ghost grain_high = { record { le = tt } };
 
     ghost slack = { refl };
+
+    ghost whole_low = { λ x. multiple_of_one x.lo };
+
+    ghost whole_high = { λ x. multiple_of_one x.hi };
 
     fn of(lo: i64, hi: i64) -> Exact {
         Exact {

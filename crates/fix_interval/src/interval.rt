@@ -4,7 +4,7 @@ ghost use Rattle.std.specs.Prelude.{◌≡◌, ℕ, ◌+◌, ◌-◌, ◌^◌, �
 ghost use Rattle.std.specs.Int.{int_min, int_max};
 ghost use Rattle.sat_model.specs.Sizes.{IsWithin};
 ghost use Rattle.sat_model.specs.Roots.{root};
-ghost use Rattle.sat_model.specs.Rounding.{grain_floor, grain_ceil};
+ghost use Rattle.sat_model.specs.Rounding.{grain_floor, grain_ceil, IsMultipleOf};
 ghost use Rattle.sat_model.specs.Squares.{least_square, greatest_square};
 
 /// The whole numbers of um between two multiples of `GRAIN`, ends included.
@@ -90,7 +90,10 @@ pub trait Interval: Copy {
     /// From the least difference of members that isn't negative to the greatest, if there is one.
     // The difference of natural numbers is 0 where it would be negative.
     fn area_less(a: Self::Area, b: Self::Area) -> Option<Self::Area>
-        ensures { MatchOption result (area_high a < area_low b) (λ r. (area_low r ≡ area_low a - area_high b) × (area_high r ≡ area_high a - area_low b)) };
+        ensures { MatchOption result (area_high a < area_low b) (λ r.
+            (area_low b ≤ area_high a)
+            × (area_low r ≡ area_low a - area_high b)
+            × (area_high r ≡ area_high a - area_low b)) };
 
     /// The numbers whose squares, or a number up to the next square, `a` holds.
     fn root(a: Self::Area) -> Self
@@ -106,4 +109,8 @@ pub trait Interval: Copy {
     ghost grain_high: { GRAIN ≤ℤ pos (2 ^ 20) };
 
     ghost slack: { SLACK ≡ pos 16 *ℤ GRAIN };
+
+    ghost whole_low: { (x : Self) → IsMultipleOf GRAIN (low x) };
+
+    ghost whole_high: { (x : Self) → IsMultipleOf GRAIN (high x) };
 }

@@ -1,4 +1,5 @@
 use super::*;
+use crate::grains::GRAIN;
 use sat_model::Wide;
 
 #[test]
@@ -107,4 +108,85 @@ fn values_moved_on(rt: HostRuntime) {
         );
         assert!(rt; moved.hi <= moved.lo.saturating_add(4), "the width");
     }
+}
+
+#[test]
+fn coarse_ends(rt: HostRuntime) {
+    let x: Coarse = Interval::of(1, 65_537);
+    assert_eq!(rt; x.lo(), 0, "rounded down");
+    assert_eq!(rt; x.hi(), 131_072, "rounded up");
+    let y: Coarse = Interval::of(-65_537, -1);
+    assert_eq!(rt; y.lo(), -131_072, "rounded down");
+    assert_eq!(rt; y.hi(), 0, "rounded up");
+    let a: Coarse = Interval::of(0, 65_536);
+    let shared: Coarse = Interval::of(65_536, 65_536);
+    assert!(rt;
+        a.meet(Interval::of(65_536, 65_537)) == Some(shared),
+        "both hold 65536"
+    );
+    assert!(rt;
+        a.meet(Interval::of(131_072, 131_073)) == None,
+        "no number in both"
+    );
+    let wide: Coarse = Interval::of(-65_536, 131_072);
+    assert!(rt; a.add(a).sub(a) == wide, "sums and differences");
+    let held = a.hull(Interval::of(-1, 65_537));
+    assert!(rt; held == wide, "the hull");
+}
+
+#[test]
+fn coarse_squares(rt: HostRuntime) {
+    let x: Coarse = Interval::of(131_072, 196_608);
+    let area = x.square();
+    assert_eq!(rt; area.lo, 4, "least square, in squares of a grain");
+    assert_eq!(rt; area.hi, 9, "greatest square");
+    assert!(rt; <Coarse as Interval>::root(area) == x, "the roots");
+}
+
+#[test]
+fn coarse_roots(rt: HostRuntime) {
+    for n in [0, 1, 3, 32_768, 2_147_483_647] {
+        let x: Coarse = Interval::of(n * 65_536, n * 65_536);
+        assert!(rt;
+            <Coarse as Interval>::root(x.square()) == x,
+            "the root of {n} squared"
+        );
+    }
+    // With one square of a grain more the root in um passes n grains, up to n = 32,767.
+    let one: Coarse = Interval::of(65_536, 65_536);
+    for n in [1, 32_767] {
+        let x: Coarse = Interval::of(n * 65_536, n * 65_536);
+        let area = <Coarse as Interval>::area_sum(x.square(), one.square());
+        let ends: Coarse = Interval::of(n * 65_536, n * 65_536 + 1);
+        assert!(rt;
+            <Coarse as Interval>::root(area) == ends,
+            "the root past {n} squared"
+        );
+    }
+    for n in [32_768, 32_769] {
+        let x: Coarse = Interval::of(n * 65_536, n * 65_536);
+        let area = <Coarse as Interval>::area_sum(x.square(), one.square());
+        assert!(rt;
+            <Coarse as Interval>::root(area) == x,
+            "the root past {n} squared"
+        );
+    }
+}
+
+#[test]
+fn coarse_areas(rt: HostRuntime) {
+    let x: Coarse = Interval::of(2 * GRAIN, 3 * GRAIN);
+    let y: Coarse = Interval::of(-6 * GRAIN, -3 * GRAIN);
+    let z: Coarse = Interval::of(-GRAIN, 6 * GRAIN);
+    let square = squared_distance(x, y, z);
+    assert_eq!(rt; square.lo, 13, "4 + 9 + 0");
+    assert_eq!(rt; square.hi, 81, "9 + 36 + 36");
+    let four: Coarse = Interval::of(4 * GRAIN, 4 * GRAIN);
+    let left = <Coarse as Interval>::area_less(square, four.square());
+    assert!(rt; left == Some(CoarseArea { lo: 0, hi: 65 }), "from 0 to 65");
+    let ten: Coarse = Interval::of(10 * GRAIN, 10 * GRAIN);
+    assert!(rt;
+        <Coarse as Interval>::area_less(square, ten.square()) == None,
+        "all differences are negative"
+    );
 }

@@ -1,5 +1,5 @@
-//! Tests alone: the words of a log, its text, the paving of its boxes, the judge of its steps, its report,
-//! and the rows that it begins with.
+//! Tests alone: the words of a log, its text, the paving of its boxes, the judge of its steps, its
+//! report, how both are written, and the rows that it begins with.
 #![tactic(auto)]
 
 #[cfg(test)]
@@ -18,3 +18,5 @@ mod rows;
 mod small_rows;
 #[cfg(test)]
 mod words;
+#[cfg(test)]
+mod writing;

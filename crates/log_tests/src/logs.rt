@@ -51,7 +51,6 @@ fn told(read: &Result<Log, LogError>) -> (u32, u8) {
     match read {
         Ok(_) => (0, 0),
         Err(LogError::BadLog { line, kind }) => (*line, *kind),
-        Err(LogError::NotBuilt { line }) => (*line, 41),
         Err(LogError::NoMemory) => (0, 254),
     }
 }
@@ -108,8 +107,13 @@ fn each_changed_log_is_refused_at_its_first_fault(rt: HostRuntime) -> Result<(),
         (edge, "out  0", 9, 3),
         (edge, "out 0 ", 9, 3),
         (edge, "out", 9, 3),
-        (edge, "cut 0 0 5", 9, 41),
-        (edge, "cut", 9, 41),
+        (edge, "cut 400000 5 -10000000000000", 0, 0),
+        (edge, "cut 400001 0 5", 9, 3),
+        (edge, "cut 0 6 5", 9, 3),
+        (edge, "cut 0 0 10000000000001", 9, 3),
+        (edge, "cut 0 0", 9, 3),
+        (edge, "cut 0 0 5 5", 9, 3),
+        (edge, "cut", 9, 3),
         ("done 0\n", "done 200001\n", 10, 3),
         ("done 0\n", "done 00", 10, 3),
         ("done 0\n", "done 0", 10, 4),
@@ -267,7 +271,7 @@ fn a_log_that_was_read_is_written_as_it_was(rt: HostRuntime) -> Result<(), Fail>
     let mut text = String::new(rt.alloc());
     text.push_str(LOG)?;
     text.push_str(
-        "few 2 1388102401000000000000 1\nskip G02 1\nskip G03 6 20\nepoch 3 1388102402000000000000 0\nroot 0 0 0 1 1 1\nsplit 0 2\nout 1\nin 2 -3 -4 5\ndone 1\n",
+        "few 2 1388102401000000000000 1\nskip G02 1\nskip G03 6 20\nepoch 3 1388102402000000000000 0\nroot 0 0 0 1 1 1\ncut 0 3 0\nsplit 0 2\nout 1\nin 2 -3 -4 5\ndone 1\n",
     )?;
     if text.len() > 4_000_000_000 {
         return Ok(());

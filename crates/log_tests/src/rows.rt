@@ -1,6 +1,8 @@
-use epoch_rows::rows_log;
+use epoch_rows::ObsBlocks;
+use epoch_selection::{LAST_EPOCH, Selection};
 use error_bounds::read_settings;
-use paving_log::Log;
+use log_writer::Blocks;
+use paving_log::LogEpoch;
 use rinex_nav::{Nav, read_nav};
 use rinex_obs::read_obs;
 use sat_model::{Box3, Pos, Sat, SatEntry, Signal, Skip};
@@ -93,8 +95,8 @@ fn root() -> Box3 {
     }
 }
 
-/// The rows of the epochs from the one number to the other.
-fn log_of(alloc: Global, from: u32, to: u32) -> Result<Log, Fail> {
+/// The blocks of the selected epochs.
+fn blocks_of(alloc: Global, selection: Selection) -> Result<Vec<LogEpoch>, Fail> {
     let text = OBS.as_bytes();
     if text.len() > 4_000 {
         return Err(Fail::from("long"));
@@ -112,10 +114,16 @@ fn log_of(alloc: Global, from: u32, to: u32) -> Result<Log, Fail> {
         nav: &nav,
         settings: &settings,
     };
-    let log = rows_log(alloc, &source, &obs, &settings.rules, &root(), from, to)
-        .ok()
-        .ok_or("memory")?;
-    Ok(log)
+    let mut left = ObsBlocks::of_file(&source, &obs, selection, &root(), &settings.rules);
+    let mut blocks = Vec::new(alloc);
+    for _ in 0..3 {
+        match left.next(alloc, None) {
+            Ok(Some(block)) => blocks.push(block)?,
+            Ok(None) => return Ok(blocks),
+            Err(_) => return Err(Fail::from("memory")),
+        }
+    }
+    Err(Fail::from("more than two blocks"))
 }
 
 /// The skip of a GPS satellite.
@@ -134,22 +142,25 @@ fn skip(number: u8, test: u8) -> SatEntry {
 
 #[test]
 fn blocks_of_the_selected_epochs(rt: HostRuntime) -> Result<(), Fail> {
-    for (from, to, count) in [
-        (1, 200_000, 2),
-        (2, 2, 1),
-        (1, 1, 1),
-        (3, 200_000, 0),
-        (2, 1, 0),
+    for (selection, count) in [
+        (Selection::all(), 2),
+        (Selection { from: 2, to: 2 }, 1),
+        (Selection { from: 1, to: 1 }, 1),
+        (
+            Selection {
+                from: 3,
+                to: LAST_EPOCH,
+            },
+            0,
+        ),
+        (Selection { from: 2, to: 1 }, 0),
     ] {
-        let log = log_of(rt.alloc(), from, to)?;
-        assert_eq!(rt; log.epochs.len(), count);
+        let blocks = blocks_of(rt.alloc(), selection)?;
+        assert_eq!(rt; blocks.len(), count);
     }
-    let log = log_of(rt.alloc(), 1, 2)?;
-    let first = log.epochs.first().ok_or("first")?;
-    assert_eq!(rt;
-        (first.line, first.index, first.n, first.few),
-        (3, 1, 4, false)
-    );
+    let blocks = blocks_of(rt.alloc(), Selection::all())?;
+    let first = blocks.first().ok_or("first")?;
+    assert_eq!(rt; (first.index, first.n, first.few), (1, 4, false));
     assert_eq!(rt; first.ps, 1_388_628_001_000_000_000_000);
     assert_eq!(rt; (first.sats.len(), first.root), (5, Some(root())));
     assert_eq!(rt; first.sats.get(2), Some(&skip(5, 3)));
@@ -163,11 +174,8 @@ fn blocks_of_the_selected_epochs(rt: HostRuntime) -> Result<(), Fail> {
             "room at both ends of a span"
         );
     }
-    let second = log.epochs.get(1).ok_or("second")?;
-    assert_eq!(rt;
-        (second.line, second.index, second.n, second.few),
-        (10, 2, 1, true)
-    );
+    let second = blocks.get(1).ok_or("second")?;
+    assert_eq!(rt; (second.index, second.n, second.few), (2, 1, true));
     assert_eq!(rt; second.sats.as_slice(), [skip(2, 1), skip(5, 3)].as_slice());
     assert_eq!(rt; second.root, None);
     Ok(())

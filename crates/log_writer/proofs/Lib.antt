@@ -10,3 +10,7 @@ pub mod SatLemmas
 pub mod BlockLemmas
 pub mod LogLemmas
 pub mod RoomLemmas
+pub mod WholeLemmas
+pub mod FaultLemmas
+pub mod MapLemmas
+pub mod KnownRows

@@ -1,5 +1,6 @@
--- Pieces written one after another.
-use Rattle.std.proofs.Common.{◌≡◌, ℕ, ◌+◌, ◌≤◌, List, [], ◌∷◌, ◌++◌, length, Option, Result, Ok, Err, refl, sym, ap, subst, ◌∙◌, append_assoc, append-nil, arith, length-append}
+-- Pieces put one after another.
+use Rattle.std.proofs.Common.{◌≡◌, ℕ, ◌+◌, ◌≤◌, ◌<◌, List, [], ◌∷◌, ◌++◌, length, add-one, Option, Result, Ok, Err, refl, sym, ap, subst, ◌∙◌, append_assoc, append-nil, arith, length-append}
+use Rattle.std.specs.Prelude.{OnOk}
 use Rattle.std.specs.Io.KnownBytes.{append_known}
 use Rattle.std.proofs.lemmas.List.Concat.{flat_map-append}
 use Rattle.outer_io.specs.declared.slots.Slot.TheVariants as slot
@@ -7,9 +8,9 @@ use Rattle.outer_io.specs.Causes.{Rose}
 use Rattle.outer_io.proofs.Appending.{appended-none, appended-twice, append_known-nil, append_known-append}
 use Rattle.log_writer.specs.declared.fault.WriteFault.{WriteFault}
 use Rattle.log_writer.specs.declared.fault.WriteFault.TheVariants as why
-use Rattle.log_writer.specs.Pieces.{Piece, log_bytes, report_bytes}
-use Rattle.log_writer.specs.Breaks.{PieceBreaks, FirstBreaks, BrokeOff}
-use Rattle.log_writer.specs.Writing.{Seen, Sent, Went, IsCounted, Ended, Written}
+use Rattle.log_writer.specs.Pieces.{Piece, piece, log_bytes, report_bytes}
+use Rattle.log_writer.specs.Breaks.{IsFrontOf, IsLonger}
+use Rattle.log_writer.specs.Writing.{Devices, Sent, Sends, Seen, Put, Lost, Stops, Stopped, Went, Ended, Written, Flushes, Flushed}
 
 pub log_bytes-append : (xs ys : List Piece) → log_bytes (xs ++ ys) ≡ log_bytes xs ++ log_bytes ys
 log_bytes-append xs ys = flat_map-append (λ (p : Piece). p.line) xs ys
@@ -19,72 +20,36 @@ report_bytes-append xs ys = flat_map-append (λ (p : Piece). p.report) xs ys
 
 -- ---- what was sent
 
-pub sent_none : (a : Seen) → Sent a [] [] a
+pub sent_none : (a : Devices) → Sent a [] [] a
 sent_none a = record {
-  appended = appended-none slot.Log a.told;
-  taken = append_known-nil a.taken;
+  appended = appended-none slot.Log a.shelf.told;
+  taken = append_known-nil a.out.taken;
   phases = refl;
   log_faults = omega arith;
   out_faults = omega arith;
 }
 
-sent_twice : (a b c : Seen) (log more report also : List ℕ) → Sent a log report b → Sent b more also c → Sent a (log ++ more) (report ++ also) c
+pub sent_twice : (a b c : Devices) (log more report also : List ℕ) → Sent a log report b → Sent b more also c → Sent a (log ++ more) (report ++ also) c
 sent_twice a b c log more report also f g = record {
-  appended = appended-twice slot.Log log more a.told b.told c.told f.appended g.appended;
-  taken = g.taken ∙ ap (λ (o : Option (List ℕ)). append_known o also) f.taken ∙ append_known-append a.taken report also;
+  appended = appended-twice slot.Log log more a.shelf.told b.shelf.told c.shelf.told f.appended g.appended;
+  taken = g.taken ∙ ap (λ (o : Option (List ℕ)). append_known o also) f.taken ∙ append_known-append a.out.taken report also;
   phases = g.phases ∙ f.phases;
   log_faults = omega (arith, f.log_faults, g.log_faults);
   out_faults = omega (arith, f.out_faults, g.out_faults);
 }
 
-pub went_none : (a : Seen) → Went a [] a
-went_none a = record { sent = sent_none a; left = omega arith }
-
-pub went_twice : (a b c : Seen) (xs ys : List Piece) → Went a xs b → Went b ys c → Went a (xs ++ ys) c
-went_twice a b c xs ys f g = record {
-  sent = subst (λ (l : List ℕ). Sent a l (report_bytes (xs ++ ys)) c) (sym (log_bytes-append xs ys))
-      (subst (λ (r : List ℕ). Sent a (log_bytes xs ++ log_bytes ys) r c) (sym (report_bytes-append xs ys))
-      (sent_twice a b c (log_bytes xs) (log_bytes ys) (report_bytes xs) (report_bytes ys) f.sent g.sent));
-  left = omega (arith, ap length (log_bytes-append xs ys), length-append (log_bytes xs) (log_bytes ys), f.left, g.left);
-}
-
 -- ---- pieces behind others
 
-rose_behind : (m n k : ℕ) → m ≤ n → Rose n k → Rose m k
-rose_behind m n k le rose = omega (arith, rose)
+pub went_none : (a : Seen) → Went a [] a
+went_none a = λ start earlier put. subst (λ (ps : List Piece). Put start ps a) (sym (append-nil earlier)) put
 
-counted_behind : (a b c : Seen) (fault : WriteFault) → a.log_faults ≤ b.log_faults → a.out_faults ≤ b.out_faults → IsCounted b fault c → IsCounted a fault c
-counted_behind a b c why.Log log out is = rose_behind _ _ _ log is
-counted_behind a b c why.Out log out is = rose_behind _ _ _ out is
-counted_behind a b c why.Full log out is = tt
-counted_behind a b c why.NoMemory log out is = tt
-
-bytes_behind : (front more rest whole : List ℕ) → whole ≡ more ++ rest → front ++ whole ≡ (front ++ more) ++ rest
-bytes_behind front more rest whole is = ap (λ (l : List ℕ). front ++ l) is ∙ sym (append_assoc front more rest)
-
-broke_behind : (room left : ℕ) (xs ys : List Piece) (fault : WriteFault) (log report : List ℕ) → length (log_bytes xs) + left ≡ room
-    → BrokeOff left ys fault log report → BrokeOff room (xs ++ ys) fault (log_bytes xs ++ log) (report_bytes xs ++ report)
-broke_behind room left xs ys fault log report fits h = record {
-  earlier = xs ++ h.earlier;
-  more = h.more;
-  all = ap (λ (l : List Piece). xs ++ l) h.all ∙ sym (append_assoc xs h.earlier h.more);
-  left = h.left;
-  fits = omega (arith, ap length (log_bytes-append xs h.earlier), length-append (log_bytes xs) (log_bytes h.earlier), fits, h.fits);
-  log_rest = h.log_rest;
-  report_rest = h.report_rest;
-  breaks = h.breaks;
-  log_is = bytes_behind (log_bytes xs) (log_bytes h.earlier) h.log_rest log h.log_is ∙ ap (λ (l : List ℕ). l ++ h.log_rest) (sym (log_bytes-append xs h.earlier));
-  report_is = bytes_behind (report_bytes xs) (report_bytes h.earlier) h.report_rest report h.report_is ∙ ap (λ (l : List ℕ). l ++ h.report_rest) (sym (report_bytes-append xs h.earlier));
-}
+pub went_twice : (a b c : Seen) (xs ys : List Piece) → Went a xs b → Went b ys c → Went a (xs ++ ys) c
+went_twice a b c xs ys f g = λ start earlier put.
+    subst (λ (ps : List Piece). Put start ps c) (append_assoc earlier xs ys) (g start (earlier ++ xs) (f start earlier put))
 
 pub ended_behind : (a b c : Seen) (xs ys : List Piece) (fault : WriteFault) → Went a xs b → Ended b ys fault c → Ended a (xs ++ ys) fault c
-ended_behind a b c xs ys fault g h = record {
-  log = log_bytes xs ++ h.log;
-  report = report_bytes xs ++ h.report;
-  sent = sent_twice a b c (log_bytes xs) h.log (report_bytes xs) h.report g.sent h.sent;
-  broke = broke_behind a.left b.left xs ys fault h.log h.report g.left h.broke;
-  counted = counted_behind a b c fault g.sent.log_faults g.sent.out_faults h.counted;
-}
+ended_behind a b c xs ys fault f h = λ start earlier put.
+    subst (λ (ps : List Piece). Stopped start ps fault c) (append_assoc earlier xs ys) (h start (earlier ++ xs) (f start earlier put))
 
 pub written_behind : {T : Type 0} (a b c : Seen) (xs ys : List Piece) (r : Result T WriteFault) → Went a xs b → Written b ys r c → Written a (xs ++ ys) r c
 written_behind a b c xs ys (Ok x) g h = went_twice a b c xs ys g h
@@ -92,80 +57,181 @@ written_behind a b c xs ys (Err fault) g h = ended_behind a b c xs ys fault g h
 
 -- ---- pieces that others would have followed
 
-first_before : (room : ℕ) (more ys : List Piece) (fault : WriteFault) (log report : List ℕ) → FirstBreaks room more fault log report → FirstBreaks room (more ++ ys) fault log report
-first_before room [] [] fault log report h = h
-first_before room [] (y ∷ ys) fault log report (is, log_none, report_none) =
-    subst (λ (f : WriteFault). PieceBreaks room y f log report) (sym is) (log_none, report_none)
-first_before room (next ∷ more) ys fault log report h = h
+pub longer_before : (limit : ℕ) (text more ys : List Piece) → IsLonger limit text more → IsLonger limit text (more ++ ys)
+longer_before limit text [] ys longer = absurd longer
+longer_before limit text (next ∷ more) ys longer = longer
 
-broke_before : (room : ℕ) (xs ys : List Piece) (fault : WriteFault) (log report : List ℕ) → BrokeOff room xs fault log report → BrokeOff room (xs ++ ys) fault log report
-broke_before room xs ys fault log report h = record {
-  earlier = h.earlier;
+stops_before : (start : Seen) (text more ys : List Piece) (fault : WriteFault) (c : Seen) → Stops start text more fault c → Stops start text (more ++ ys) fault c
+stops_before start text more ys why.Log c s = s
+stops_before start text more ys why.Out c s = s
+stops_before start text more ys why.Full c s = (s.0, longer_before start.left text more ys s.1)
+stops_before start text more ys why.NoMemory c s = s
+
+stopped_before : (start : Seen) (xs ys : List Piece) (fault : WriteFault) (c : Seen) → Stopped start xs fault c → Stopped start (xs ++ ys) fault c
+stopped_before start xs ys fault c h = record {
+  text = h.text;
   more = h.more ++ ys;
-  all = ap (λ (l : List Piece). l ++ ys) h.all ∙ append_assoc h.earlier h.more ys;
-  left = h.left;
-  fits = h.fits;
-  log_rest = h.log_rest;
-  report_rest = h.report_rest;
-  breaks = first_before h.left h.more ys fault h.log_rest h.report_rest h.breaks;
-  log_is = h.log_is;
-  report_is = h.report_is;
+  all = ap (λ (l : List Piece). l ++ ys) h.all ∙ append_assoc h.text h.more ys;
+  stops = stops_before start h.text h.more ys fault c h.stops;
 }
 
 pub ended_before : (a c : Seen) (xs ys : List Piece) (fault : WriteFault) → Ended a xs fault c → Ended a (xs ++ ys) fault c
-ended_before a c xs ys fault h = record {
-  log = h.log;
-  report = h.report;
-  sent = h.sent;
-  broke = broke_before a.left xs ys fault h.log h.report h.broke;
-  counted = h.counted;
-}
+ended_before a c xs ys fault h = λ start earlier put.
+    subst (λ (ps : List Piece). Stopped start ps fault c) (append_assoc earlier xs ys) (stopped_before start (earlier ++ xs) ys fault c (h start earlier put))
 
--- ---- memory ended behind some pieces
-
-none_breaks : (room : ℕ) (ys : List Piece) → FirstBreaks room ys why.NoMemory [] []
-none_breaks room [] = (refl, refl, refl)
-none_breaks room (y ∷ ys) = (refl, refl)
-
+-- memory ended behind some pieces
 pub stopped : (a b : Seen) (xs ys : List Piece) → Went a xs b → Ended a (xs ++ ys) why.NoMemory b
-stopped a b xs ys g = record {
-  log = log_bytes xs;
-  report = report_bytes xs;
-  sent = g.sent;
-  broke = record {
-    earlier = xs;
-    more = ys;
-    all = refl;
-    left = b.left;
-    fits = g.left;
-    log_rest = [];
-    report_rest = [];
-    breaks = none_breaks b.left ys;
-    log_is = sym (append-nil (log_bytes xs));
-    report_is = sym (append-nil (report_bytes xs));
-  };
-  counted = tt;
+stopped a b xs ys g = λ start earlier put. record {
+  text = earlier ++ xs;
+  more = ys;
+  all = sym (append_assoc earlier xs ys);
+  stops = g start earlier put;
 }
 
 -- ---- one piece
 
-pub piece_ended : (a c : Seen) (p : Piece) (fault : WriteFault) (log report : List ℕ) → PieceBreaks a.left p fault log report → Sent a log report c → IsCounted a fault c
-    → Ended a (p ∷ []) fault c
-piece_ended a c p fault log report breaks sent counted = record {
-  log = log;
-  report = report;
-  sent = sent;
-  broke = record {
-    earlier = [];
-    more = p ∷ [];
-    all = refl;
-    left = a.left;
-    fits = omega arith;
-    log_rest = log;
-    report_rest = report;
-    breaks = breaks;
-    log_is = refl;
-    report_is = refl;
-  };
-  counted = counted;
+-- its line is longer than the room
+pub piece_full : (a : Seen) (p : Piece) → a.left < length p.line → Ended a (p ∷ []) why.Full a
+piece_full a p longer = λ start earlier put. record {
+  text = earlier;
+  more = p ∷ [];
+  all = refl;
+  stops = (put, omega (arith, put.left, longer));
 }
+
+-- a device failed while the pieces before were on their way
+pub piece_lost : (a c : Seen) (p : Piece) (fault : WriteFault) → ((start : Seen) (text : List Piece) → Put start text a → Lost start text fault c) → Ended a (p ∷ []) fault c
+piece_lost a c p why.Log lost = λ start earlier put. record { text = earlier; more = p ∷ []; all = refl; stops = lost start earlier put }
+piece_lost a c p why.Out lost = λ start earlier put. record { text = earlier; more = p ∷ []; all = refl; stops = lost start earlier put }
+piece_lost a c p why.Full lost = λ start earlier put. absurd (lost start earlier put).fails
+piece_lost a c p why.NoMemory lost = λ start earlier put. absurd (lost start earlier put).fails
+
+-- it waits with the others
+pub piece_waits : (a c : Seen) (line report : List ℕ) → c.at ≡ a.at → c.shelf ≡ a.shelf → c.out ≡ a.out
+    → c.log_waits ≡ a.log_waits ++ line → c.report_waits ≡ a.report_waits ++ report → length line + c.left ≡ a.left → Went a (piece line report ∷ []) c
+piece_waits a c line report at shelf out lines reports left = λ start earlier put.
+    let p = piece line report in record {
+      gone = put.gone;
+      waiting = put.waiting ++ p ∷ [];
+      all = ap (λ (l : List Piece). l ++ p ∷ []) put.all ∙ append_assoc put.gone put.waiting (p ∷ []);
+      sent = subst (λ (d : Devices). Sent start.at (log_bytes put.gone) (report_bytes put.gone) d) (sym at) put.sent;
+      same_shelf = shelf ∙ put.same_shelf;
+      same_out = out ∙ put.same_out;
+      log_waits = lines ∙ ap (λ (l : List ℕ). l ++ line) put.log_waits ∙ ap (λ (l : List ℕ). log_bytes put.waiting ++ l) (sym (append-nil line)) ∙ sym (log_bytes-append put.waiting (p ∷ []));
+      report_waits = reports ∙ ap (λ (l : List ℕ). l ++ report) put.report_waits ∙ ap (λ (l : List ℕ). report_bytes put.waiting ++ l) (sym (append-nil report)) ∙ sym (report_bytes-append put.waiting (p ∷ []));
+      left = omega (arith, ap length (log_bytes-append earlier (p ∷ [])), length-append (log_bytes earlier) (line ++ []), length-append line [], put.left, left);
+    }
+
+-- ---- what waits is sent
+
+-- all of it
+pub flushed_all : {T : Type 0} (a c : Seen) (done : T) → Sends a.at a.log_waits a.report_waits (Ok done) c.at → c.shelf ≡ a.shelf → c.out ≡ a.out
+    → c.log_waits ≡ [] → c.report_waits ≡ [] → c.left ≡ a.left → (start : Seen) (text : List Piece) → Put start text a → Flushes {T = T} start text (Ok done) c
+flushed_all a c done sends shelf out lines reports left start text put =
+    let log = ap (λ (l : List ℕ). log_bytes put.gone ++ l) put.log_waits ∙ sym (log_bytes-append put.gone put.waiting) ∙ ap log_bytes (sym put.all) in
+    let report = ap (λ (l : List ℕ). report_bytes put.gone ++ l) put.report_waits ∙ sym (report_bytes-append put.gone put.waiting) ∙ ap report_bytes (sym put.all) in
+    let sent : Sent start.at (log_bytes text) (report_bytes text) c.at =
+    subst (λ (l : List ℕ). Sent start.at l (report_bytes text) c.at) log
+    (subst (λ (r : List ℕ). Sent start.at (log_bytes put.gone ++ a.log_waits) r c.at) report
+    (sent_twice start.at a.at c.at (log_bytes put.gone) a.log_waits (report_bytes put.gone) a.report_waits put.sent sends)) in (
+      record {
+        gone = text;
+        waiting = [];
+        all = sym (append-nil text);
+        sent = sent;
+        same_shelf = shelf ∙ put.same_shelf;
+        same_out = out ∙ put.same_out;
+        log_waits = lines;
+        report_waits = reports;
+        left = omega (arith, put.left, left);
+      },
+      sent,
+    )
+
+front_behind : (xs ys front : List ℕ) → IsFrontOf front ys → IsFrontOf (xs ++ front) (xs ++ ys)
+front_behind [] ys front is = is
+front_behind (x ∷ xs) ys front is = let (kept, same) = front_behind xs ys front is in (kept + 1, rw add-one (ap (λ (l : List ℕ). x ∷ l) same))
+
+rose_behind : (m n k : ℕ) → m ≤ n → Rose n k → Rose m k
+rose_behind m n k le rose = omega (arith, rose)
+
+-- or a device failed
+pub flushed_lost : (T : Type 0) (a c : Seen) (fault : WriteFault) → Sends {T = T} a.at a.log_waits a.report_waits (Err fault) c.at → c.shelf ≡ a.shelf → c.out ≡ a.out
+    → (start : Seen) (text : List Piece) → Put start text a → Lost start text fault c
+flushed_lost T a c why.Log (front, is, sent, rose) shelf out start text put = record {
+  log = log_bytes put.gone ++ front;
+  report = report_bytes put.gone;
+  sent = subst (λ (r : List ℕ). Sent start.at (log_bytes put.gone ++ front) r c.at) (append-nil (report_bytes put.gone))
+      (sent_twice start.at a.at c.at (log_bytes put.gone) front (report_bytes put.gone) [] put.sent sent);
+  same_shelf = shelf ∙ put.same_shelf;
+  same_out = out ∙ put.same_out;
+  fits = omega (arith, put.left);
+  fails = (
+    record {
+      earlier = put.gone;
+      later = put.waiting;
+      all = put.all;
+      rest = front;
+      front = subst (λ (l : List ℕ). IsFrontOf front l) put.log_waits is;
+      log_is = refl;
+      report_is = refl;
+    },
+    rose_behind start.at.shelf.write_faults a.at.shelf.write_faults c.at.shelf.write_faults put.sent.log_faults rose,
+  );
+}
+flushed_lost T a c why.Out (front, is, sent, rose) shelf out start text put =
+    let log : log_bytes put.gone ++ a.log_waits ≡ log_bytes text = ap (λ (l : List ℕ). log_bytes put.gone ++ l) put.log_waits ∙ sym (log_bytes-append put.gone put.waiting) ∙ ap log_bytes (sym put.all) in
+    let report : report_bytes put.gone ++ a.report_waits ≡ report_bytes text = ap (λ (l : List ℕ). report_bytes put.gone ++ l) put.report_waits ∙ sym (report_bytes-append put.gone put.waiting) ∙ ap report_bytes (sym put.all) in
+    record {
+      log = log_bytes put.gone ++ a.log_waits;
+      report = report_bytes put.gone ++ front;
+      sent = sent_twice start.at a.at c.at (log_bytes put.gone) a.log_waits (report_bytes put.gone) front put.sent sent;
+      same_shelf = shelf ∙ put.same_shelf;
+      same_out = out ∙ put.same_out;
+      fits = omega (arith, put.left);
+      fails = (
+        log,
+        subst (λ (l : List ℕ). IsFrontOf (report_bytes put.gone ++ front) l) report (front_behind (report_bytes put.gone) a.report_waits front is),
+        rose_behind start.at.out.faults a.at.out.faults c.at.out.faults put.sent.out_faults rose,
+      );
+    }
+flushed_lost T a c why.Full sends shelf out start text put = absurd sends
+flushed_lost T a c why.NoMemory sends shelf out start text put = absurd sends
+
+-- by how it ended
+pub flushed_any : {T : Type 0} (a c : Seen) (r : Result T WriteFault) → Sends a.at a.log_waits a.report_waits r c.at → c.shelf ≡ a.shelf → c.out ≡ a.out
+    → OnOk r (c.log_waits ≡ []) → OnOk r (c.report_waits ≡ []) → c.left ≡ a.left → Flushed a r c
+flushed_any {T} a c (Ok done) sends shelf out lines reports left = flushed_all a c done sends shelf out lines reports left
+flushed_any {T} a c (Err fault) sends shelf out lines reports left = flushed_lost T a c fault sends shelf out
+
+lost_stops : (start : Seen) (text more : List Piece) (fault : WriteFault) (c : Seen) → Lost start text fault c → Stops start text more fault c
+lost_stops start text more why.Log c l = l
+lost_stops start text more why.Out c l = l
+lost_stops start text more why.Full c l = absurd l.fails
+lost_stops start text more why.NoMemory c l = absurd l.fails
+
+sent_after : {T : Type 0} (b w c : Seen) (p : Piece) (r : Result T WriteFault) → Went b (p ∷ []) w
+    → ((fault : WriteFault) → Sends {T = T} w.at w.log_waits w.report_waits (Err fault) c.at → (start : Seen) (text : List Piece) → Put start text w → Lost start text fault c)
+    → ((done : T) → Sends {T = T} w.at w.log_waits w.report_waits (Ok done) c.at → (start : Seen) (text : List Piece) → Put start text w → Flushes {T = T} start text (Ok done) c)
+    → Sends w.at w.log_waits w.report_waits r c.at → Written b (p ∷ []) r c
+sent_after b w c p (Ok done) went lost all sends = λ start earlier put. (all done sends start (earlier ++ p ∷ []) (went start earlier put)).0
+sent_after b w c p (Err fault) went lost all sends = λ start earlier put. record {
+  text = earlier ++ p ∷ [];
+  more = [];
+  all = sym (append-nil (earlier ++ p ∷ []));
+  stops = lost_stops start (earlier ++ p ∷ []) [] fault c (lost fault sends start (earlier ++ p ∷ []) (went start earlier put));
+}
+
+-- a piece that is too long to wait is sent by itself
+pub piece_sent : {T : Type 0} (b c : Seen) (line report : List ℕ) (left : ℕ) (r : Result T WriteFault) → b.log_waits ≡ [] → b.report_waits ≡ [] → length line + left ≡ b.left
+    → Sends b.at line report r c.at → c.shelf ≡ b.shelf → c.out ≡ b.out → c.log_waits ≡ [] → c.report_waits ≡ [] → c.left ≡ left → Written b (piece line report ∷ []) r c
+piece_sent {T} b c line report left r lines reports room sends shelf out lines_c reports_c left_c =
+    let w : Seen = record { at = b.at; shelf = b.shelf; out = b.out; log_waits = line; report_waits = report; left = left } in
+    let went = piece_waits b w line report refl refl refl (ap (λ (l : List ℕ). l ++ line) (sym lines)) (ap (λ (l : List ℕ). l ++ report) (sym reports)) room in
+    sent_after b w c (piece line report) r went (λ fault l. flushed_lost T w c fault l shelf out)
+    (λ done s. flushed_all w c done s shelf out lines_c reports_c left_c) sends
+
+-- nothing was put, and what waited went out
+pub emptied : {T : Type 0} (a b : Seen) (done : T) → Sends a.at a.log_waits a.report_waits (Ok done) b.at → b.shelf ≡ a.shelf → b.out ≡ a.out → b.log_waits ≡ [] → b.report_waits ≡ [] → b.left ≡ a.left → Went a [] b
+emptied a b done sends shelf out lines reports left = λ start earlier put.
+    subst (λ (ps : List Piece). Put start ps b) (sym (append-nil earlier)) (flushed_all a b done sends shelf out lines reports left start earlier put).0

@@ -1,5 +1,5 @@
--- How far some pieces went out before a fault.
-use Rattle.std.specs.Prelude.{◌≡◌, ◌≢◌, ℕ, ◌+◌, ◌<◌, ◌≤◌, List, [], ◌∷◌, ◌++◌, length, take}
+-- How far a text went out before a fault.
+use Rattle.std.specs.Prelude.{◌≡◌, ℕ, ◌+◌, ◌<◌, ◌≤◌, List, [], ◌∷◌, ◌++◌, length, take}
 use Rattle.log_writer.specs.declared.fault.WriteFault.{WriteFault}
 use Rattle.log_writer.specs.declared.fault.WriteFault.TheVariants as why
 use Rattle.log_writer.specs.Pieces.{Piece, log_bytes, report_bytes}
@@ -8,31 +8,40 @@ use Rattle.log_writer.specs.Pieces.{Piece, log_bytes, report_bytes}
 abbrev pub IsFrontOf : List ℕ → List ℕ → Type 0
 IsFrontOf front bytes = (kept : ℕ) × (front ≡ take kept bytes)
 
--- What of a piece went out before this fault, where the log had room for so many bytes: first bytes
--- of its line, where the log's file failed; its whole line and first bytes of the report's line, which it
--- has, where `out` did; and nothing where its line is longer than the room, or memory had ended.
-abbrev pub PieceBreaks : ℕ → Piece → WriteFault → (log report : List ℕ) → Type 0
-PieceBreaks room next why.Log log report = (length next.line ≤ room) × IsFrontOf log next.line × (report ≡ [])
-PieceBreaks room next why.Out log report = (length next.line ≤ room) × (log ≡ next.line) × (next.report ≢ []) × IsFrontOf report next.report
-PieceBreaks room next why.Full log report = (room < length next.line) × (log ≡ []) × (report ≡ [])
-PieceBreaks room next why.NoMemory log report = (log ≡ []) × (report ≡ [])
-
--- what of the pieces went out, where the fault came at the first of them; behind the last of all there
--- is want of memory alone
-abbrev pub FirstBreaks : ℕ → List Piece → WriteFault → (log report : List ℕ) → Type 0
-FirstBreaks room [] fault log report = (fault ≡ why.NoMemory) × (log ≡ []) × (report ≡ [])
-FirstBreaks room (next ∷ more) fault log report = PieceBreaks room next fault log report
-
--- The first of the pieces went out whole, and the next one broke off. This is all that went to the log
--- and to `out`.
-pub record BrokeOff (room : ℕ) (pieces : List Piece) (fault : WriteFault) (log report : List ℕ) : Type 0 where
+-- The log's file failed. It has the first bytes of the text, and the report has the lines of some
+-- first pieces, whose lines are all in the log.
+pub record LogBreaks (text : List Piece) (log report : List ℕ) : Type 0 where
   pub earlier : List Piece
+  pub later : List Piece
+  pub all : text ≡ earlier ++ later
+  pub rest : List ℕ
+  pub front : IsFrontOf rest (log_bytes later)
+  pub log_is : log ≡ log_bytes earlier ++ rest
+  pub report_is : report ≡ report_bytes earlier
+
+-- the next line is longer than the room that the text has left of the limit
+abbrev pub IsLonger : ℕ → List Piece → List Piece → Type 0
+IsLonger limit text [] = ⊥
+IsLonger limit text (next ∷ more) = limit < length (log_bytes text) + length next.line
+
+-- What the log and the report have of a text, which more would have followed: first bytes of it
+-- where a device failed, the whole log where that was `out`; and all of it where the next line
+-- didn't fit, or memory ended.
+abbrev pub Leaves : ℕ → (text more : List Piece) → WriteFault → (log report : List ℕ) → Type 0
+Leaves limit text more why.Log log report = LogBreaks text log report
+Leaves limit text more why.Out log report =
+    (log ≡ log_bytes text) × IsFrontOf report (report_bytes text)
+Leaves limit text more why.Full log report =
+    (log ≡ log_bytes text) × (report ≡ report_bytes text) × IsLonger limit text more
+Leaves limit text more why.NoMemory log report =
+    (log ≡ log_bytes text) × (report ≡ report_bytes text)
+
+-- The first of the pieces were made, and fit the limit. The fault came at the next one, or behind
+-- them.
+pub record BrokeOff (limit : ℕ) (pieces : List Piece) (fault : WriteFault)
+    (log report : List ℕ) : Type 0 where
+  pub text : List Piece
   pub more : List Piece
-  pub all : pieces ≡ earlier ++ more
-  pub left : ℕ
-  pub fits : length (log_bytes earlier) + left ≡ room
-  pub log_rest : List ℕ
-  pub report_rest : List ℕ
-  pub breaks : FirstBreaks left more fault log_rest report_rest
-  pub log_is : log ≡ log_bytes earlier ++ log_rest
-  pub report_is : report ≡ report_bytes earlier ++ report_rest
+  pub all : pieces ≡ text ++ more
+  pub fits : length (log_bytes text) ≤ limit
+  pub leaves : Leaves limit text more fault log report

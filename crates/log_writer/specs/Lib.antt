@@ -1,4 +1,7 @@
+pub mod Kept
 pub mod Pavings
+pub mod Sources
+pub mod RowsFrom
 pub mod Pieces
 pub mod Breaks
 pub mod Writing
@@ -6,3 +9,4 @@ pub mod Steps
 pub mod Wrote
 pub mod Texts
 pub mod Sizes
+pub mod KnownRows

@@ -1,33 +1,49 @@
--- What a log's file and `out` got where a log is written for given rows, up to a limit on its bytes.
-use Rattle.std.specs.Prelude.{◌≡◌, ℕ, ◌≤◌, List, length, Result, Ok, Err}
+-- What a log's file and `out` got where a log is written of the blocks of a source, up to a limit
+-- on its bytes.
+use Rattle.std.specs.Prelude.{◌≡◌, ℕ, ◌≤◌, List, length, None, Result, Ok, Err}
+use Rattle.sat_model.specs.declared.rules.Rules.{Rules}
 use Rattle.sat_model.specs.Cover.{RowCover}
-use Rattle.sat_model.specs.Logs.{LogValue}
+use Rattle.sat_model.specs.Logs.{Block, LogValue}
 use Rattle.sat_model.specs.Verdicts.{Judged}
 use Rattle.paving_log.specs.Text.{IsLogText}
 use Rattle.epoch_report.specs.Reports.{report_text}
 use Rattle.log_writer.specs.declared.fault.WriteFault.{WriteFault}
 use Rattle.log_writer.specs.Breaks.{BrokeOff}
-use Rattle.log_writer.specs.Pavings.{IsPavingOf}
+use Rattle.log_writer.specs.Kept.{hull_of_last}
 use Rattle.log_writer.specs.Pieces.{log_pieces}
+use Rattle.log_writer.specs.Sources.{Gives, Came}
 
--- The text and the report of one log that paves the rows. It passes all tests, and its cover by the
--- rows holds.
-pub record IsWhole (rows : LogValue) (limit : ℕ) (bytes said : List ℕ) : Type 0 where
+-- The text and the report of one log. Its blocks are all that the source gave, each one paved
+-- before the next was given. It passes all tests, and its cover by the rows holds.
+pub record IsWhole {B : Type 0} (gives : Gives B) (rules : Rules) (first : B) (limit : ℕ)
+    (bytes said : List ℕ) : Type 0 where
   pub log : LogValue
-  pub paving : IsPavingOf rows log
+  pub same_rules : log.rules ≡ rules
+  pub behind : B
+  pub last : B
+  pub came : Came gives rules first None log.blocks behind
+  pub no_more : gives behind (hull_of_last None log.blocks) None last
   pub text : IsLogText log bytes
   pub report : said ≡ report_text log
   pub judged : Judged log
   pub cover : RowCover log
   pub fits : length bytes ≤ limit
 
--- the first bytes of both, as this fault left them
-pub record IsBegun (fault : WriteFault) (rows : LogValue) (limit : ℕ) (bytes said : List ℕ) : Type 0 where
-  pub log : LogValue
-  pub paving : IsPavingOf rows log
-  pub broke : BrokeOff limit (log_pieces log) fault bytes said
+-- What this fault left of the head and some blocks: the finished ones, and where an epoch was in
+-- hand that one last, which goes on to the end of a whole run. They came from the source, each when
+-- the one before was finished. Nothing is said of later ones.
+pub record IsBegun {B : Type 0} (fault : WriteFault) (gives : Gives B) (rules : Rules) (first : B)
+    (limit : ℕ) (bytes said : List ℕ) : Type 0 where
+  pub blocks : List Block
+  pub behind : B
+  pub came : Came gives rules first None blocks behind
+  pub broke : BrokeOff limit (log_pieces (record { rules = rules; blocks = blocks }))
+      fault bytes said
 
 -- by how the writing ended
-abbrev pub IsText : {T : Type 0} → LogValue → ℕ → Result T WriteFault → (bytes said : List ℕ) → Type 0
-IsText rows limit (Ok done) bytes said = IsWhole rows limit bytes said
-IsText rows limit (Err fault) bytes said = IsBegun fault rows limit bytes said
+abbrev pub IsText : {B T : Type 0} → Gives B → Rules → B → ℕ → Result T WriteFault
+    → (bytes said : List ℕ) → Type 0
+IsText gives rules first limit (Ok done) bytes said =
+    IsWhole gives rules first limit bytes said
+IsText gives rules first limit (Err fault) bytes said =
+    IsBegun fault gives rules first limit bytes said

@@ -1,54 +1,94 @@
 -- What was written of a paving: all of it, or the first pieces, which go on to a whole one.
-use Rattle.std.specs.Prelude.{◌≡◌, List, Some, Result, OnOk, IfOk}
+use Rattle.std.specs.Prelude.{◌≡◌, ℕ, ◌≤◌, List, [], length, Option, None, Some, Result, OnOk, IfOk}
 use Rattle.std.specs.List.{AllByRecursion}
 use Rattle.sat_model.specs.declared.rules.Rules.{Rules}
 use Rattle.sat_model.specs.declared.satellites.Row.{Row}
 use Rattle.sat_model.specs.Boxes.{GridBox}
-use Rattle.sat_model.specs.Cover.{RowCover}
 use Rattle.sat_model.specs.Fold.{first_stage, ShownStep}
-use Rattle.sat_model.specs.Logs.{Block, LogValue}
+use Rattle.sat_model.specs.Logs.{Block}
 use Rattle.sat_model.specs.Paved.{Paved, steps_of}
-use Rattle.sat_model.specs.Verdicts.{Judged}
 use Rattle.log_words.specs.Fields.{IsCountFromTo}
 use Rattle.paving_log.specs.declared.line.Form.TheVariants as form
 use Rattle.paving_log.specs.Lines.{StepFits}
-use Rattle.paving_log.specs.Text.{BlockFits, IsLogText}
-use Rattle.epoch_report.specs.declared.counts.Counts4.{Counts4}
-use Rattle.epoch_report.specs.Reports.{counts_of, report_text}
+use Rattle.paving_log.specs.RowsText.{AllOwnPass}
+use Rattle.paving_log.specs.Text.{BlockFits}
+use Rattle.live_boxes.specs.Stages.{box_option}
+use Rattle.log_writer.specs.Kept.{hull_kept, hull_of_last}
+use Rattle.log_writer.specs.declared.epochs.Outcome.{Outcome}
+use Rattle.sat_model.specs.declared.boxes.Box3.{Box3}
+use Rattle.epoch_report.specs.Reports.{counts_of}
 use Rattle.log_writer.specs.declared.fault.WriteFault.{WriteFault}
-use Rattle.log_writer.specs.Pavings.{Paves, IsPavingOf}
-use Rattle.log_writer.specs.Pieces.{step_pieces, paved_pieces, block_pieces, log_pieces, log_bytes, report_bytes}
-use Rattle.log_writer.specs.Writing.{Seen, Written}
+use Rattle.log_writer.specs.Pavings.{Paves, AllPave}
+use Rattle.log_writer.specs.Pieces.{step_pieces, paved_pieces, block_pieces, log_pieces}
+use Rattle.log_writer.specs.Sizes.{most_splits, most_bytes, HasRoom}
+use Rattle.log_writer.specs.Sources.{Gives, Came}
+use Rattle.log_writer.specs.Texts.{IsText}
+use Rattle.log_writer.specs.Writing.{Sent, Counts, Seen, Put, Written}
 
 -- the steps of a whole run, and the counts are its own
-pub record WroteSteps (rows : List Row) (rules : Rules) (root : GridBox) (before : Seen) (result : Result Counts4 WriteFault) (after : Seen) : Type 0 where
+pub record WroteSteps (rows : List Row) (rules : Rules) (root : GridBox) (before : Seen)
+    (result : Result Outcome WriteFault) (after : Seen) : Type 0 where
   pub shown : List ShownStep
   pub run : Paved rows rules root shown
   pub written : Written before (step_pieces (first_stage root) (steps_of shown)) result after
-  pub counts : IfOk result (λ counts. counts ≡ counts_of root (steps_of shown))
-  pub splits : IfOk result (λ counts. counts.bisections ≡ run.last.splits)
-  pub fits : OnOk result (AllByRecursion StepFits (steps_of shown) × IsCountFromTo 0 200000 run.last.splits)
+  pub counts : IfOk result (λ done. done.counts ≡ counts_of root (steps_of shown))
+  pub splits : IfOk result (λ done. done.counts.bisections ≡ run.last.splits)
+  pub kept : IfOk result (λ done. box_option done.kept ≡ hull_kept (steps_of shown) (Some root))
+  pub fits : OnOk result
+      (AllByRecursion StepFits (steps_of shown) × IsCountFromTo 0 most_splits run.last.splits)
 
 -- the root, the steps of a whole run, and the number of its splits with the total
-pub record WroteRun {T : Type 0} (rows : List Row) (rules : Rules) (root : GridBox) (before : Seen) (result : Result T WriteFault) (after : Seen) : Type 0 where
+pub record WroteRun (rows : List Row) (rules : Rules) (root : GridBox) (before : Seen)
+    (result : Result (Option Box3) WriteFault) (after : Seen) : Type 0 where
   pub shown : List ShownStep
   pub run : Paved rows rules root shown
-  pub written : Written before (paved_pieces (Some root) (steps_of shown) run.last.splits) result after
-  pub fits : OnOk result (AllByRecursion StepFits (steps_of shown) × IsCountFromTo 0 200000 run.last.splits)
+  pub written : Written before (paved_pieces (Some root) (steps_of shown) run.last.splits)
+      result after
+  pub fits : OnOk result
+      (AllByRecursion StepFits (steps_of shown) × IsCountFromTo 0 most_splits run.last.splits)
+  pub kept : IfOk result (λ kept. box_option kept ≡ hull_kept (steps_of shown) (Some root))
 
 -- a block that paves the given one
-pub record WroteBlock {T : Type 0} (rules : Rules) (given : Block) (before : Seen) (result : Result T WriteFault) (after : Seen) : Type 0 where
+pub record WroteBlock (rules : Rules) (given : Block) (before : Seen)
+    (result : Result (Option Box3) WriteFault) (after : Seen) : Type 0 where
   pub block : Block
   pub paves : Paves rules given block
   pub written : Written before (block_pieces block) result after
   pub fits : OnOk result (BlockFits form.Log block)
+  pub kept : IfOk result (λ kept. box_option kept ≡ hull_kept block.steps block.root)
 
--- A log that paves the given rows. Where all of it was written, it has one text, passes all tests, and
--- its cover by the rows holds.
-pub record WroteLog {T : Type 0} (rows : LogValue) (before : Seen) (result : Result T WriteFault) (after : Seen) : Type 0 where
-  pub log : LogValue
-  pub paving : IsPavingOf rows log
-  pub written : Written before (log_pieces log) result after
-  pub text : OnOk result (IsLogText log (log_bytes (log_pieces log)))
-  pub report : OnOk result (report_bytes (log_pieces log) ≡ report_text log)
-  pub right : OnOk result (Judged log × RowCover log)
+-- blocks of a source that were given one after another, each with its rows form
+pub record Gave {B : Type 0} (gives : Gives B) (rules : Rules) (first : B) (most : ℕ)
+    (given blocks : List Block) (behind : B) : Type 0 where
+  pub came : Came gives rules first None blocks behind
+  pub pave : AllPave rules given blocks
+  pub fit : AllByRecursion (BlockFits form.Rows) given
+  pub own : AllOwnPass rules None given
+  pub at_most : length given ≤ most
+
+-- the head and the blocks; where all of it was written the source had no more
+pub record WroteLog {B T : Type 0} (gives : Gives B) (rules : Rules) (first : B) (most : ℕ)
+    (before : Seen) (result : Result T WriteFault) (after : Seen) : Type 0 where
+  pub given : List Block
+  pub blocks : List Block
+  pub behind : B
+  pub gave : Gave gives rules first most given blocks behind
+  pub written : Written before (log_pieces (record { rules = rules; blocks = blocks })) result after
+  pub no_more : OnOk result ((last : B) × gives behind (hull_of_last None blocks) None last)
+
+-- what went to the devices, where nothing waited before
+pub record Finishes {B T : Type 0} (gives : Gives B) (rules : Rules) (first : B) (most : ℕ)
+    (before : Seen) (result : Result T WriteFault) (after : Seen) : Type 0 where
+  pub bytes : List ℕ
+  pub said : List ℕ
+  pub sent : Sent before.at bytes said after.at
+  pub same_shelf : after.shelf ≡ before.shelf
+  pub same_out : after.out ≡ before.out
+  pub is_text : IsText gives rules first before.left result bytes said
+  pub counts : Counts before.at result after.at
+  pub room : HasRoom before.left (most_bytes most rules.bisections) result
+
+abbrev pub Finished : {B T : Type 0}
+    → Gives B → Rules → B → ℕ → Seen → Result T WriteFault → Seen → Type 0
+Finished gives rules first most before result after =
+    Put before [] before → Finishes gives rules first most before result after

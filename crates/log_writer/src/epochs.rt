@@ -1,31 +1,28 @@
 //! The head of a log, and its epochs.
 
-ghost use Rattle.std.specs.Prelude.{◌≡◌, ◌≢◌, ◌+◌, ◌<◌, ◌≤◌, [], ◌∷◌, ℕ, List, Option, is_some, true, length, map, false, None, Err, IfOk, IfErr};
-ghost use Rattle.std.specs.Io.KnownBytes.{append_known};
+ghost use Rattle.std.specs.Prelude.{◌≡◌, ◌≢◌, ◌+◌, ◌<◌, ◌≤◌, ℕ, List, Option, length, map, false, None, Err, IfOk, IfErr};
 ghost use Rattle.std.specs.List.{AllByRecursion};
 ghost use Rattle.log_writer.specs.Pieces.{alone, head_pieces};
-ghost use Rattle.log_writer.specs.Writing.{seen, Written};
-ghost use Rattle.log_writer.specs.Texts.{IsText};
-ghost use Rattle.log_writer.specs.Wrote.{WroteSteps, WroteRun, WroteBlock};
-ghost use Rattle.outer_io.specs.Causes.{Rose};
-ghost use Rattle.outer_io.specs.declared.slots.Slot.TheVariants as slot;
-ghost use Rattle.outer_io.specs.Told.{AppendedBy};
+ghost use Rattle.log_writer.specs.Sizes.{most_sats};
+ghost use Rattle.log_writer.specs.Writing.{Written, Trusts};
+ghost use Rattle.log_writer.specs.Wrote.{WroteSteps, WroteRun, WroteBlock, WroteLog, Finished};
+ghost use Rattle.outer_io.specs.Sizes.{longest_file};
 ghost use Rattle.paving_log.specs.declared.line.Form.TheVariants as form;
 ghost use Rattle.paving_log.specs.declared.line.LogLine.TheVariants as line;
 ghost use Rattle.paving_log.specs.Rows.{EntryFits};
-ghost use Rattle.paving_log.specs.Text.{BlockFits, LogFits};
-ghost use Rattle.paving_log.specs.RowsText.{AllOwnPass};
-ghost use Rattle.paving_log.specs.Values.{block_of, log_value};
+ghost use Rattle.paving_log.specs.Text.{BlockFits};
+ghost use Rattle.paving_log.specs.Values.{block_of};
 ghost use Rattle.sat_model.specs.Boxes.{grid_box};
 ghost use Rattle.sat_model.specs.Logs.{rows_of};
 
+use crate::blocks::Blocks;
 use crate::fault::WriteFault;
-use crate::writer::Writer;
+use crate::pen::Pen;
+use crate::steps::Track;
 use epoch_report::{Counts4, epoch_text, total_text};
-use outer_io::{Shelf, Sink};
 use paving::{Plan, StepFault, pave};
 use paving_log::{
-    Log, LogEpoch, SatEntry, done_line, epoch_line, head_lines, root_line, rows_among, sat_line,
+    LogEpoch, SatEntry, done_line, epoch_line, head_lines, root_line, rows_among, sat_line,
 };
 use sat_model::{Box3, NoMemory, Rules};
 use std::alloc::Global;
@@ -36,7 +33,7 @@ const VERSION_LENGTH: usize = 11;
 /// What is to be paved by the rows among the satellite lines.
 fn plan_of(alloc: Global, rules: &Rules, sats: &[SatEntry], root: &Box3) -> Result<Plan, WriteFault>
     requires enough { rules.now.outliers + 4 ≤ length (rows_of sats.now) }
-    requires at_most { length (rows_of sats.now) ≤ 64 }
+    requires at_most { length (rows_of sats.now) ≤ most_sats }
     ensures rows { IfOk result (λ plan. plan.rows ≡ rows_of sats.now) }
     ensures rules { IfOk result (λ plan. plan.rules ≡ rules.now) }
     ensures root { IfOk result (λ plan. plan.root ≡ grid_box root.now) }
@@ -49,143 +46,176 @@ fn plan_of(alloc: Global, rules: &Rules, sats: &[SatEntry], root: &Box3) -> Resu
     }
 }
 
-impl<'a, 'b, H: Shelf, O: Sink> Writer<'a, 'b, H, O> {
-    /// Writes the two lines of the head.
-    pub fn put_head(&mut self, rules: &Rules) -> Result<(), WriteFault>
-        ensures written { Written (seen (H.told self.old.shelf.now) (H.phases self.old.shelf.now) (H.write_faults self.old.shelf.now) (O.taken self.old.out.now) (O.faults self.old.out.now) self.old.left)
-            (head_pieces rules.now) result
-            (seen (H.told self.new.shelf.now) (H.phases self.new.shelf.now) (H.write_faults self.new.shelf.now) (O.taken self.new.out.now) (O.faults self.new.out.now) self.new.left) }
-        ensures same_shelf { self.new.shelf.ghost_name ≡ self.old.shelf.ghost_name }
-        ensures same_out { self.new.out.ghost_name ≡ self.old.out.ghost_name }
-        ensures log_reliable { (log : Option (List ℕ)) → H.reliable self.new.shelf.now log
-            → H.reliable self.old.shelf.now log × (is_some log ≡ true → result ≢ Err WriteFault.Log) }
-        ensures out_reliable { O.reliable self.new.out.now → O.reliable self.old.out.now × (result ≢ Err WriteFault.Out) }
-    {
-        let lines = head_lines(rules);
-        let (version, rules_line) = lines.as_bytes().split_at(VERSION_LENGTH);
-        self.put(version, &[])?;
-        self.put(rules_line, &[])
-    }
+/// Writes the two lines of the head.
+fn put_head<P: Pen>(pen: &mut P, rules: &Rules) -> Result<(), WriteFault>
+    ensures written { Written (P.seen pen.old) (head_pieces rules.now) result (P.seen pen.new) }
+    ensures trust { Trusts (P.trust pen.old) result (P.trust pen.new) }
+{
+    let lines = head_lines(rules);
+    let (version, rules_line) = lines.as_bytes().split_at(VERSION_LENGTH);
+    pen.put(version, &[])?;
+    pen.put(rules_line, &[])
+}
 
-    /// Writes the satellite lines.
-    fn put_sats(&mut self, sats: &[SatEntry]) -> Result<(), WriteFault>
-        requires { AllByRecursion EntryFits sats.now }
-        ensures written { Written (seen (H.told self.old.shelf.now) (H.phases self.old.shelf.now) (H.write_faults self.old.shelf.now) (O.taken self.old.out.now) (O.faults self.old.out.now) self.old.left)
-            (map (λ entry. alone (line.Sat entry)) sats.now) result
-            (seen (H.told self.new.shelf.now) (H.phases self.new.shelf.now) (H.write_faults self.new.shelf.now) (O.taken self.new.out.now) (O.faults self.new.out.now) self.new.left) }
-        ensures same_shelf { self.new.shelf.ghost_name ≡ self.old.shelf.ghost_name }
-        ensures same_out { self.new.out.ghost_name ≡ self.old.out.ghost_name }
-        ensures log_reliable { (log : Option (List ℕ)) → H.reliable self.new.shelf.now log
-            → H.reliable self.old.shelf.now log × (is_some log ≡ true → result ≢ Err WriteFault.Log) }
-        ensures out_reliable { O.reliable self.new.out.now → O.reliable self.old.out.now × (result ≢ Err WriteFault.Out) }
-    {
-        for entry in sats {
-            let line = sat_line(entry);
-            self.put(line.as_bytes(), &[])?;
-        }
-        Ok(())
+/// Writes the satellite lines.
+fn put_sats<P: Pen>(pen: &mut P, sats: &[SatEntry]) -> Result<(), WriteFault>
+    requires { AllByRecursion EntryFits sats.now }
+    ensures written { Written (P.seen pen.old) (map (λ entry. alone (line.Sat entry)) sats.now)
+        result (P.seen pen.new) }
+    ensures trust { Trusts (P.trust pen.old) result (P.trust pen.new) }
+{
+    for entry in sats {
+        let line = sat_line(entry);
+        pen.put(line.as_bytes(), &[])?;
     }
+    Ok(())
+}
 
-    /// Writes the steps of a paving as they are made.
-    fn put_steps(&mut self, alloc: Global, plan: Plan) -> Result<Counts4, WriteFault>
-        requires enough { plan.rules.outliers < length plan.rows }
-        ensures written { WroteSteps plan.rows plan.rules plan.root
-            (seen (H.told self.old.shelf.now) (H.phases self.old.shelf.now) (H.write_faults self.old.shelf.now) (O.taken self.old.out.now) (O.faults self.old.out.now) self.old.left) result
-            (seen (H.told self.new.shelf.now) (H.phases self.new.shelf.now) (H.write_faults self.new.shelf.now) (O.taken self.new.out.now) (O.faults self.new.out.now) self.new.left) }
-        ensures same_shelf { self.new.shelf.ghost_name ≡ self.old.shelf.ghost_name }
-        ensures same_out { self.new.out.ghost_name ≡ self.old.out.ghost_name }
-        ensures log_reliable { (log : Option (List ℕ)) → H.reliable self.new.shelf.now log
-            → H.reliable self.old.shelf.now log × (is_some log ≡ true → result ≢ Err WriteFault.Log) }
-        ensures out_reliable { O.reliable self.new.out.now → O.reliable self.old.out.now × (result ≢ Err WriteFault.Out) }
-    {
-        match pave(alloc, plan, self) {
-            Ok(counts) => Ok(Counts4 {
+/// What came of the steps of a paving.
+#[derive(Drop)]
+pub(crate) struct Outcome {
+    counts: Counts4,
+    kept: Option<Box3>,
+}
+
+/// Writes the steps of a paving as they are made.
+fn pave_on<P: Pen>(
+    alloc: Global,
+    track: &mut Track<'_, P>,
+    plan: Plan,
+) -> Result<Outcome, WriteFault>
+    requires enough { plan.rules.outliers < length plan.rows }
+    requires none { track.old.kept ≡ None }
+    ensures written { WroteSteps plan.rows plan.rules plan.root
+        (P.seen track.old.pen.now) result (P.seen track.new.pen.now) }
+    ensures trust { Trusts (P.trust track.old.pen.now) result (P.trust track.new.pen.now) }
+    ensures same { track.new.pen.ghost_name ≡ track.old.pen.ghost_name }
+{
+    match pave(alloc, plan, track) {
+        Ok(counts) => Ok(Outcome {
+            counts: Counts4 {
                 inside: counts.inside,
                 edge: counts.edge,
                 outside: counts.outside,
                 bisections: counts.bisections,
-            }),
-            Err(StepFault::NoMemory) => Err(WriteFault::NoMemory),
-            Err(StepFault::Failed) => Err(self.last),
-            Err(StepFault::Full) => Err(self.last),
+            },
+            kept: track.kept,
+        }),
+        Err(StepFault::NoMemory) => Err(WriteFault::NoMemory),
+        Err(StepFault::Failed) => Err(track.last),
+        Err(StepFault::Full) => Err(track.last),
+    }
+}
+
+/// The same on a pen.
+fn put_steps<P: Pen>(alloc: Global, pen: &mut P, plan: Plan) -> Result<Outcome, WriteFault>
+    requires enough { plan.rules.outliers < length plan.rows }
+    ensures written { WroteSteps plan.rows plan.rules plan.root
+        (P.seen pen.old) result (P.seen pen.new) }
+    ensures trust { Trusts (P.trust pen.old) result (P.trust pen.new) }
+{
+    let mut track = Track {
+        pen,
+        last: WriteFault::NoMemory,
+        kept: None,
+    };
+    pave_on(alloc, &mut track, plan)
+}
+
+/// Writes the root, its steps, and the number of splits with the total.
+fn put_run<P: Pen>(
+    alloc: Global,
+    pen: &mut P,
+    plan: Plan,
+    root: &Box3,
+) -> Result<Option<Box3>, WriteFault>
+    requires root { plan.root ≡ grid_box root.now }
+    requires enough { plan.rules.outliers < length plan.rows }
+    ensures written { WroteRun plan.rows plan.rules plan.root
+        (P.seen pen.old) result (P.seen pen.new) }
+    ensures trust { Trusts (P.trust pen.old) result (P.trust pen.new) }
+{
+    let first = root_line(root);
+    pen.put(first.as_bytes(), &[])?;
+    let done = put_steps(alloc, pen, plan)?;
+    let last = done_line(done.counts.bisections);
+    let total = total_text(&done.counts);
+    pen.put(last.as_bytes(), total.as_bytes())?;
+    Ok(done.kept)
+}
+
+/// Writes an epoch, and paves its root where it has one.
+fn put_epoch<P: Pen>(
+    alloc: Global,
+    pen: &mut P,
+    rules: &Rules,
+    epoch: &LogEpoch,
+) -> Result<Option<Box3>, WriteFault>
+    requires fits { BlockFits form.Rows (block_of epoch.now) }
+    requires enough { epoch.now.few ≡ false
+        → rules.now.outliers + 4 ≤ length (rows_of epoch.now.sats.items) }
+    ensures written { WroteBlock rules.now (block_of epoch.now)
+        (P.seen pen.old) result (P.seen pen.new) }
+    ensures trust { Trusts (P.trust pen.old) result (P.trust pen.new) }
+{
+    let first = epoch_line(epoch.few, epoch.index, epoch.ps, epoch.n);
+    let report = epoch_text(epoch.few, epoch.index, epoch.ps, epoch.n);
+    pen.put(first.as_bytes(), report.as_bytes())?;
+    put_sats(pen, &epoch.sats)?;
+    match &epoch.root {
+        Some(root) => {
+            let plan = plan_of(alloc, rules, &epoch.sats, root)?;
+            put_run(alloc, pen, plan, root)
         }
+        None => Ok(None),
     }
+}
 
-    /// Writes the root, its steps, and the number of splits with the total.
-    fn put_run(&mut self, alloc: Global, plan: Plan, root: &Box3) -> Result<(), WriteFault>
-        requires root { plan.root ≡ grid_box root.now }
-        requires enough { plan.rules.outliers < length plan.rows }
-        ensures written { WroteRun plan.rows plan.rules plan.root
-            (seen (H.told self.old.shelf.now) (H.phases self.old.shelf.now) (H.write_faults self.old.shelf.now) (O.taken self.old.out.now) (O.faults self.old.out.now) self.old.left) result
-            (seen (H.told self.new.shelf.now) (H.phases self.new.shelf.now) (H.write_faults self.new.shelf.now) (O.taken self.new.out.now) (O.faults self.new.out.now) self.new.left) }
-        ensures same_shelf { self.new.shelf.ghost_name ≡ self.old.shelf.ghost_name }
-        ensures same_out { self.new.out.ghost_name ≡ self.old.out.ghost_name }
-        ensures log_reliable { (log : Option (List ℕ)) → H.reliable self.new.shelf.now log
-            → H.reliable self.old.shelf.now log × (is_some log ≡ true → result ≢ Err WriteFault.Log) }
-        ensures out_reliable { O.reliable self.new.out.now → O.reliable self.old.out.now × (result ≢ Err WriteFault.Out) }
-    {
-        let first = root_line(root);
-        self.put(first.as_bytes(), &[])?;
-        let counts = self.put_steps(alloc, plan)?;
-        let last = done_line(counts.bisections);
-        let total = total_text(&counts);
-        self.put(last.as_bytes(), total.as_bytes())
+/// Writes the head and the blocks, each one before it asks for the next.
+fn put_blocks<P: Pen, B: Blocks>(
+    alloc: Global,
+    rules: &Rules,
+    blocks: &mut B,
+    pen: &mut P,
+) -> Result<(), WriteFault>
+    requires rules { (B.standing blocks.old).rules ≡ rules.now }
+    requires first { (B.standing blocks.old).before ≡ None }
+    requires ready { B.ready blocks.old }
+    ensures written { WroteLog B.gives rules.now blocks.old (B.standing blocks.old).most
+        (P.seen pen.old) result (P.seen pen.new) }
+    ensures trust { Trusts (P.trust pen.old) result (P.trust pen.new) }
+{
+    put_head(pen, rules)?;
+    let mut kept = None;
+    while let Some(epoch) = blocks.next(alloc, kept)? {
+        kept = put_epoch(alloc, pen, rules, &epoch)?;
     }
+    Ok(())
+}
 
-    /// Writes an epoch, and paves its root where it has one.
-    fn put_epoch(
-        &mut self,
-        alloc: Global,
-        rules: &Rules,
-        epoch: &LogEpoch,
-    ) -> Result<(), WriteFault>
-        requires fits { BlockFits form.Rows (block_of epoch.now) }
-        requires enough { epoch.now.few ≡ false → rules.now.outliers + 4 ≤ length (rows_of epoch.now.sats.items) }
-        ensures written { WroteBlock rules.now (block_of epoch.now)
-            (seen (H.told self.old.shelf.now) (H.phases self.old.shelf.now) (H.write_faults self.old.shelf.now) (O.taken self.old.out.now) (O.faults self.old.out.now) self.old.left) result
-            (seen (H.told self.new.shelf.now) (H.phases self.new.shelf.now) (H.write_faults self.new.shelf.now) (O.taken self.new.out.now) (O.faults self.new.out.now) self.new.left) }
-        ensures same_shelf { self.new.shelf.ghost_name ≡ self.old.shelf.ghost_name }
-        ensures same_out { self.new.out.ghost_name ≡ self.old.out.ghost_name }
-        ensures log_reliable { (log : Option (List ℕ)) → H.reliable self.new.shelf.now log
-            → H.reliable self.old.shelf.now log × (is_some log ≡ true → result ≢ Err WriteFault.Log) }
-        ensures out_reliable { O.reliable self.new.out.now → O.reliable self.old.out.now × (result ≢ Err WriteFault.Out) }
-    {
-        let first = epoch_line(epoch.few, epoch.index, epoch.ps, epoch.n);
-        let report = epoch_text(epoch.few, epoch.index, epoch.ps, epoch.n);
-        self.put(first.as_bytes(), report.as_bytes())?;
-        self.put_sats(&epoch.sats)?;
-        match &epoch.root {
-            Some(root) => {
-                let plan = plan_of(alloc, rules, &epoch.sats, root)?;
-                self.put_run(alloc, plan, root)
+/// Writes the log of a source, and sends on all lines that were made where no device failed.
+pub(crate) fn put_whole<P: Pen, B: Blocks>(
+    alloc: Global,
+    rules: &Rules,
+    blocks: &mut B,
+    pen: &mut P,
+) -> Result<(), WriteFault>
+    requires rules { (B.standing blocks.old).rules ≡ rules.now }
+    requires first { (B.standing blocks.old).before ≡ None }
+    requires ready { B.ready blocks.old }
+    requires room { (P.seen pen.old).left ≤ longest_file }
+    ensures finished { Finished B.gives rules.now blocks.old (B.standing blocks.old).most
+        (P.seen pen.old) result (P.seen pen.new) }
+    ensures trust { Trusts (P.trust pen.old) result (P.trust pen.new) }
+{
+    match put_blocks(alloc, rules, blocks, pen) {
+        Ok(()) => pen.flush(),
+        Err(fault) => {
+            if fault.is_of_device() {
+                return Err(fault);
             }
-            None => Ok(()),
+            pen.flush()?;
+            Err(fault)
         }
-    }
-
-    /// Writes the whole log of these rows.
-    pub fn put_log(&mut self, alloc: Global, rows: &Log) -> Result<(), WriteFault>
-        requires room { self.old.left ≤ 4000000000 }
-        requires fits { LogFits form.Rows (log_value rows.now) }
-        requires passes { AllOwnPass rows.now.rules None (log_value rows.now).blocks }
-        ensures text { (bytes said : List ℕ) × AppendedBy (H.told self.old.shelf.now) (H.told self.new.shelf.now) slot.Log bytes
-            × (O.taken self.new.out.now ≡ append_known (O.taken self.old.out.now) said)
-            × IsText (log_value rows.now) self.old.left result bytes said }
-        ensures phases { H.phases self.new.shelf.now ≡ H.phases self.old.shelf.now }
-        ensures same_shelf { self.new.shelf.ghost_name ≡ self.old.shelf.ghost_name }
-        ensures same_out { self.new.out.ghost_name ≡ self.old.out.ghost_name }
-        ensures log_failed { result ≡ Err WriteFault.Log → Rose (H.write_faults self.old.shelf.now) (H.write_faults self.new.shelf.now) }
-        ensures log_counted { H.write_faults self.old.shelf.now ≤ H.write_faults self.new.shelf.now }
-        ensures log_reliable { (log : Option (List ℕ)) → H.reliable self.new.shelf.now log
-            → H.reliable self.old.shelf.now log × (is_some log ≡ true → result ≢ Err WriteFault.Log) }
-        ensures out_failed { result ≡ Err WriteFault.Out → Rose (O.faults self.old.out.now) (O.faults self.new.out.now) }
-        ensures out_counted { O.faults self.old.out.now ≤ O.faults self.new.out.now }
-        ensures out_reliable { O.reliable self.new.out.now → O.reliable self.old.out.now × (result ≢ Err WriteFault.Out) }
-    {
-        self.put_head(&rows.rules)?;
-        for epoch in &rows.epochs {
-            self.put_epoch(alloc, &rows.rules, epoch)?;
-        }
-        Ok(())
     }
 }

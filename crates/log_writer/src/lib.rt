@@ -1,13 +1,20 @@
 //! Writes the log of a paving and its report as it is made: the head, and for each epoch its
-//! satellites, its root and the steps. Each line goes to the log's file by itself, and the report's
-//! line of it right behind.
+//! satellites, its root and the steps. The lines are gathered and go out in pieces of up to 64 KiB,
+//! the log's before the report's. The epochs come from a source, the next one when the one before
+//! is finished.
 #![tactic(auto)]
 
+mod blocks;
 mod epochs;
 mod fault;
+mod kept;
+mod known_rows;
+mod pen;
 mod steps;
 mod write;
 mod writer;
 
+pub use blocks::{Blocks, LogBlocks};
 pub use fault::WriteFault;
+pub use known_rows::begun_logs_go_on;
 pub use write::write_log;

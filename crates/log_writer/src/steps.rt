@@ -1,66 +1,73 @@
 //! The steps of a paving, each as a line of the log and one of the report.
 
-ghost use Rattle.std.specs.Prelude.{◌≡◌, ◌≢◌, ◌+◌, ◌<◌, ◌↔◌, ◌∷◌, [], ℕ, List, Option, is_some, true, length, Err};
+ghost use Rattle.std.specs.Prelude.{◌≡◌, ◌≢◌, ◌+◌, ◌<◌, ◌↔◌, ◌∷◌, [], length, Ok, Err, Result};
+ghost use Rattle.live_boxes.specs.Stages.{box_option};
+ghost use Rattle.log_writer.specs.Kept.{hull_after};
 ghost use Rattle.log_writer.specs.Steps.{step_piece};
-ghost use Rattle.log_writer.specs.Writing.{seen, Went, Ended, Written};
+ghost use Rattle.log_writer.specs.Writing.{Went, Ended, Written, Trusts, done, failed};
 ghost use Rattle.paving.specs.Taken.{step_bytes};
 ghost use Rattle.paving_log.specs.Rows.{CornersFit, corners_of};
 ghost use Rattle.sat_model.specs.Boxes.{grid_box};
-ghost use Rattle.log_writer.specs.declared.fault.WriteFault.TheVariants as why;
 
 use crate::fault::WriteFault;
-use crate::writer::Writer;
+use crate::kept::hull_with_step;
+use crate::pen::Pen;
 use epoch_report::step_text;
-use outer_io::{Shelf, Sink};
 use paving::{StepFault, Steps};
 use paving_log::step_line;
 use sat_model::{Box3, Step};
 
-impl<'a, 'b, H: Shelf, O: Sink> Writer<'a, 'b, H, O> {
-    /// Writes a step with the box or slab that it speaks of.
-    fn put_step(&mut self, step: &Step, part: &Box3) -> Result<(), WriteFault>
-        ensures written { Written (seen (H.told self.old.shelf.now) (H.phases self.old.shelf.now) (H.write_faults self.old.shelf.now) (O.taken self.old.out.now) (O.faults self.old.out.now) self.old.left)
-            (step_piece step.now (grid_box part.now) ∷ []) result
-            (seen (H.told self.new.shelf.now) (H.phases self.new.shelf.now) (H.write_faults self.new.shelf.now) (O.taken self.new.out.now) (O.faults self.new.out.now) self.new.left) }
-        ensures same_shelf { self.new.shelf.ghost_name ≡ self.old.shelf.ghost_name }
-        ensures same_out { self.new.out.ghost_name ≡ self.old.out.ghost_name }
-        ensures log_reliable { (log : Option (List ℕ)) → H.reliable self.new.shelf.now log
-            → H.reliable self.old.shelf.now log × (is_some log ≡ true → result ≢ Err WriteFault.Log) }
-        ensures out_reliable { O.reliable self.new.out.now → O.reliable self.old.out.now × (result ≢ Err WriteFault.Out) }
-        ensures full { (result ≡ Err WriteFault.Full) ↔ (self.old.left < length (step_bytes step.now)) }
-        ensures no_memory_taken { result ≢ Err WriteFault.NoMemory }
-    {
-        let line = step_line(step);
-        match step_text(step, part) {
-            Some(report) => self.put(line.as_bytes(), report.as_bytes()),
-            None => self.put(line.as_bytes(), &[]),
-        }
+/// Writes a step with the box or slab that it speaks of.
+fn put_step<P: Pen>(pen: &mut P, step: &Step, part: &Box3) -> Result<(), WriteFault>
+    ensures written { Written (P.seen pen.old) (step_piece step.now (grid_box part.now) ∷ [])
+        result (P.seen pen.new) }
+    ensures trust { Trusts (P.trust pen.old) result (P.trust pen.new) }
+    ensures full { (result ≡ Err WriteFault.Full)
+        ↔ ((P.seen pen.old).left < length (step_bytes step.now)) }
+    ensures no_memory_taken { result ≢ Err WriteFault.NoMemory }
+{
+    let line = step_line(step);
+    match step_text(step, part) {
+        Some(report) => pen.put(line.as_bytes(), report.as_bytes()),
+        None => pen.put(line.as_bytes(), &[]),
     }
 }
 
-impl<H: Shelf, O: Sink> Steps for Writer<'_, '_, H, O> {
+/// A pen that takes the steps of a paving.
+#[derive(Drop)]
+pub(crate) struct Track<'a, P: Pen> {
+    pub pen: &'a mut P,
+    /// The fault of the last step that broke off.
+    pub last: WriteFault,
+    /// The hull of the boxes that the steps kept.
+    pub kept: Option<Box3>,
+}
+
+impl<P: Pen> Steps for Track<'_, P> {
     ghost took = { λ old step part new.
-        Went (seen (H.told old.shelf.now) (H.phases old.shelf.now) (H.write_faults old.shelf.now) (O.taken old.out.now) (O.faults old.out.now) old.left) (step_piece step part ∷ []) (seen (H.told new.shelf.now) (H.phases new.shelf.now) (H.write_faults new.shelf.now) (O.taken new.out.now) (O.faults new.out.now) new.left)
+        Went (P.seen old.pen.now) (step_piece step part ∷ []) (P.seen new.pen.now)
         × (CornersFit (corners_of part))
-        × (new.shelf.ghost_name ≡ old.shelf.ghost_name)
-        × (new.out.ghost_name ≡ old.out.ghost_name)
-        × ((log : Option (List ℕ)) → H.reliable new.shelf.now log → H.reliable old.shelf.now log)
-        × (O.reliable new.out.now → O.reliable old.out.now) };
+        × (new.pen.ghost_name ≡ old.pen.ghost_name)
+        × Trusts (P.trust old.pen.now) done (P.trust new.pen.now)
+        × (box_option new.kept
+        ≡ hull_after (box_option old.kept) (record { step = step; part = part })) };
 
     ghost broke = { λ old step part new.
-        Ended (seen (H.told old.shelf.now) (H.phases old.shelf.now) (H.write_faults old.shelf.now) (O.taken old.out.now) (O.faults old.out.now) old.left) (step_piece step part ∷ []) new.last (seen (H.told new.shelf.now) (H.phases new.shelf.now) (H.write_faults new.shelf.now) (O.taken new.out.now) (O.faults new.out.now) new.left)
-        × (new.shelf.ghost_name ≡ old.shelf.ghost_name)
-        × (new.out.ghost_name ≡ old.out.ghost_name)
-        × ((log : Option (List ℕ)) → H.reliable new.shelf.now log → H.reliable old.shelf.now log × (is_some log ≡ true → new.last ≢ why.Log))
-        × (O.reliable new.out.now → O.reliable old.out.now × (new.last ≢ why.Out)) };
+        Ended (P.seen old.pen.now) (step_piece step part ∷ []) new.last (P.seen new.pen.now)
+        × (new.pen.ghost_name ≡ old.pen.ghost_name)
+        × Trusts (P.trust old.pen.now) (failed new.last) (P.trust new.pen.now) };
 
-    ghost room = { λ writer. writer.left };
+    ghost room = { λ track. (P.seen track.pen.now).left };
 
-    ghost faults = { λ writer. H.write_faults writer.shelf.now + O.faults writer.out.now };
+    ghost faults = { λ track. (P.seen track.pen.now).at.shelf.write_faults
+        + (P.seen track.pen.now).at.out.faults };
 
     fn step(&mut self, step: &Step, part: &Box3) -> Result<(), StepFault> {
-        match self.put_step(step, part) {
-            Ok(()) => Ok(()),
+        match put_step(self.pen, step, part) {
+            Ok(()) => {
+                self.kept = hull_with_step(self.kept, step, part);
+                Ok(())
+            }
             Err(fault) => {
                 self.last = fault;
                 Err(fault.in_paving())

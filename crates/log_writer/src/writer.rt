@@ -1,72 +1,162 @@
 //! A log and its report while they are written.
 
-ghost use Rattle.std.specs.Prelude.{◌≡◌, ◌≢◌, ◌<◌, ◌↔◌, ◌∷◌, [], ℕ, List, Option, is_some, true, length, Err};
-ghost use Rattle.log_writer.specs.Pieces.{piece};
-ghost use Rattle.log_writer.specs.Writing.{seen, Written};
+ghost use Rattle.std.specs.Prelude.{◌≡◌, ◌≤◌, ◌+◌, ◌++◌, [], ℕ, List, Option, length, true, OnOk};
+ghost use Rattle.arrayvec.specs.ArrayVec.{array_vec_len};
+ghost use Rattle.log_writer.specs.Sizes.{piece_size};
+ghost use Rattle.log_writer.specs.Writing.{devices, Sends, Seen, Trust, trust_of, Trusts};
 ghost use Rattle.outer_io.specs.Slots.{at};
 ghost use Rattle.outer_io.specs.declared.shelf.Phase.TheVariants.{Writing};
 ghost use Rattle.outer_io.specs.declared.slots.Slot.TheVariants.{Log};
 
 use crate::fault::WriteFault;
+use crate::pen::Pen;
+use arrayvec::ArrayVec;
 use outer_io::{Shelf, Sink, Slot, write_shelf, write_sink};
 
-/// A shelf whose log is open, how many bytes of it may still come, and the sink of the report.
+/// The most bytes that are gathered for a device: `piece_size` of the clauses.
+const PIECE: usize = 65536;
+
+/// Appends these bytes to the log, and then these to `out`.
+fn send<H: Shelf, O: Sink>(
+    shelf: &mut H,
+    out: &mut O,
+    log: &[u8],
+    report: &[u8],
+) -> Result<(), WriteFault>
+    requires { at (H.state shelf.old).phases Log ≡ Writing }
+    ensures sends { Sends (devices (H.state shelf.old) (O.state out.old)) log.now report.now
+        result (devices (H.state shelf.new) (O.state out.new)) }
+    ensures phases { (H.state shelf.new).phases ≡ (H.state shelf.old).phases }
+    ensures trust { Trusts (trust_of (H.reliable shelf.old) (O.reliable out.old)) result
+        (trust_of (H.reliable shelf.new) (O.reliable out.new)) }
+{
+    match write_shelf(shelf, Slot::Log, log) {
+        Ok(()) => {}
+        Err(_) => return Err(WriteFault::Log),
+    }
+    match write_sink(out, report) {
+        Ok(()) => Ok(()),
+        Err(_) => Err(WriteFault::Out),
+    }
+}
+
+/// A shelf whose log is open, the sink of the report, the bytes that wait for them, and how many
+/// more of the log may come.
 #[derive(Drop)]
 pub(crate) struct Writer<'a, 'b, H: Shelf, O: Sink> {
     shelf: &'a mut H,
     out: &'b mut O,
+    lines: ArrayVec<u8, PIECE>,
+    reports: ArrayVec<u8, PIECE>,
     left: u64,
-    /// The fault of the last step that broke off.
-    pub last: WriteFault,
-    ghost open: { at (H.phases shelf.now) Log ≡ Writing },
+    ghost open: { at (H.state shelf.now).phases Log ≡ Writing },
 }
 
 impl<'a, 'b, H: Shelf, O: Sink> Writer<'a, 'b, H, O> {
     /// The log of the shelf, with room for so many bytes, and the report on `out`.
     pub fn over(shelf: &'a mut H, out: &'b mut O, left: u64) -> Writer<'a, 'b, H, O>
-        requires { at (H.phases shelf.old) Log ≡ Writing }
+        requires { at (H.state shelf.old).phases Log ≡ Writing }
         ensures shelf { result.shelf.ghost_name ≡ shelf.entry.ghost_name }
         ensures out { result.out.ghost_name ≡ out.entry.ghost_name }
         ensures shelf_value { result.shelf.now ≡ shelf.old }
         ensures out_value { result.out.now ≡ out.old }
+        ensures lines { result.lines.items ≡ [] }
+        ensures reports { result.reports.items ≡ [] }
         ensures left { result.left ≡ left }
     {
         Writer {
             shelf,
             out,
+            lines: ArrayVec::new(),
+            reports: ArrayVec::new(),
             left,
-            last: WriteFault::NoMemory,
         }
     }
 
-    /// Appends a line to the log whole, where there is room for it, and then the report's line to
-    /// `out`. An empty one is none.
-    pub fn put(&mut self, line: &[u8], report: &[u8]) -> Result<(), WriteFault>
-        ensures written { Written (seen (H.told self.old.shelf.now) (H.phases self.old.shelf.now) (H.write_faults self.old.shelf.now) (O.taken self.old.out.now) (O.faults self.old.out.now) self.old.left)
-            (piece line.now report.now ∷ []) result
-            (seen (H.told self.new.shelf.now) (H.phases self.new.shelf.now) (H.write_faults self.new.shelf.now) (O.taken self.new.out.now) (O.faults self.new.out.now) self.new.left) }
+    /// Whether a line and its report can be gathered.
+    fn has_room(&self, line: &[u8], report: &[u8]) -> bool
+        ensures lines { result ≡ true
+            → array_vec_len self.now.lines + length line.now ≤ piece_size }
+        ensures reports { result ≡ true
+            → array_vec_len self.now.reports + length report.now ≤ piece_size }
+    {
+        line.len() <= self.lines.remaining_capacity()
+            && report.len() <= self.reports.remaining_capacity()
+    }
+
+    /// Gathers them.
+    fn gather(&mut self, line: &[u8], report: &[u8])
+        requires lines { array_vec_len self.old.lines + length line.now ≤ piece_size }
+        requires reports { array_vec_len self.old.reports + length report.now ≤ piece_size }
+        ensures lines { self.new.lines.items ≡ self.old.lines.items ++ line.now }
+        ensures reports { self.new.reports.items ≡ self.old.reports.items ++ report.now }
+        ensures left { self.new.left ≡ self.old.left }
+        ensures shelf { self.new.shelf ≡ self.old.shelf }
+        ensures out { self.new.out ≡ self.old.out }
+    {
+        let _ = self.lines.try_extend_from_slice(line);
+        let _ = self.reports.try_extend_from_slice(report);
+    }
+
+    /// Sends on what is gathered.
+    fn empty(&mut self) -> Result<(), WriteFault>
+        ensures sends { Sends (devices (H.state self.old.shelf.now) (O.state self.old.out.now))
+            self.old.lines.items self.old.reports.items result
+            (devices (H.state self.new.shelf.now) (O.state self.new.out.now)) }
+        ensures trust { Trusts
+            (trust_of (H.reliable self.old.shelf.now) (O.reliable self.old.out.now)) result
+            (trust_of (H.reliable self.new.shelf.now) (O.reliable self.new.out.now)) }
+        ensures lines { OnOk result (self.new.lines.items ≡ []) }
+        ensures reports { OnOk result (self.new.reports.items ≡ []) }
+        ensures left { self.new.left ≡ self.old.left }
         ensures same_shelf { self.new.shelf.ghost_name ≡ self.old.shelf.ghost_name }
         ensures same_out { self.new.out.ghost_name ≡ self.old.out.ghost_name }
-        ensures log_reliable { (log : Option (List ℕ)) → H.reliable self.new.shelf.now log
-            → H.reliable self.old.shelf.now log × (is_some log ≡ true → result ≢ Err WriteFault.Log) }
-        ensures out_reliable { O.reliable self.new.out.now → O.reliable self.old.out.now × (result ≢ Err WriteFault.Out) }
-        ensures full { (result ≡ Err WriteFault.Full) ↔ (self.old.left < length line.now) }
-        ensures no_memory_taken { result ≢ Err WriteFault.NoMemory }
     {
+        send(
+            self.shelf,
+            self.out,
+            self.lines.as_slice(),
+            self.reports.as_slice(),
+        )?;
+        self.lines.clear();
+        self.reports.clear();
+        Ok(())
+    }
+}
+
+impl<H: Shelf, O: Sink> Pen for Writer<'_, '_, H, O> {
+    ghost seen = { λ w. record {
+      at = devices (H.state w.shelf.now) (O.state w.out.now);
+      shelf = w.shelf.ghost_name;
+      out = w.out.ghost_name;
+      log_waits = w.lines.items;
+      report_waits = w.reports.items;
+      left = w.left;
+    } };
+
+    ghost trust = { λ w. trust_of (H.reliable w.shelf.now) (O.reliable w.out.now) };
+
+    fn put(&mut self, line: &[u8], report: &[u8]) -> Result<(), WriteFault> {
         let length = line.len() as u64;
         if self.left < length {
             return Err(WriteFault::Full);
         }
-        match write_shelf(self.shelf, Slot::Log, line) {
-            Ok(()) => self.left -= length,
-            Err(_) => return Err(WriteFault::Log),
-        }
-        if report.is_empty() {
+        if self.has_room(line, report) {
+            self.left -= length;
+            self.gather(line, report);
             return Ok(());
         }
-        match write_sink(self.out, report) {
-            Ok(()) => Ok(()),
-            Err(_) => Err(WriteFault::Out),
+        self.empty()?;
+        self.left -= length;
+        if self.has_room(line, report) {
+            self.gather(line, report);
+            return Ok(());
         }
+        // One of them is longer than a piece, so it goes out by itself.
+        send(self.shelf, self.out, line, report)
+    }
+
+    fn flush(&mut self) -> Result<(), WriteFault> {
+        self.empty()
     }
 }

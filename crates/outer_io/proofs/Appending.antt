@@ -10,7 +10,7 @@ use Rattle.std.specs.FinMap as map
 use Rattle.outer_io.specs.declared.slots.Slot.{Slot}
 use Rattle.outer_io.specs.Slots.{at, put}
 use Rattle.outer_io.proofs.SlotLemmas.{at-put, put-put}
-use Rattle.outer_io.specs.Told.{Files, Told, content, appended, AppendedBy}
+use Rattle.outer_io.specs.Told.{Files, Told, content, appended}
 
 pub append_known-nil : (a : Option (List ℕ)) → a ≡ append_known a []
 append_known-nil None = refl
@@ -58,30 +58,32 @@ appended-append : (slot : Slot) (xs ys : List ℕ) (t : Told) → appended slot 
 appended-append slot [] ys t = refl
 appended-append slot (x ∷ xs) [] t = ap (λ l. appended slot l t) (sym (append-nil (x ∷ xs)))
 appended-append slot (x ∷ xs) (y ∷ ys) t =
-    let name = (at t.places slot).name in
-    let from = (at t.places slot).from in
+    let name = (at t.positions slot).name in
+    let from = (at t.positions slot).from in
     let bytes : (content t.files name ++ x ∷ xs) ++ y ∷ ys ≡ content t.files name ++ x ∷ (xs ++ y ∷ ys) = append_assoc (content t.files name) (x ∷ xs) (y ∷ ys) in
-    let places : (from + length (x ∷ xs)) + length (y ∷ ys) ≡ from + length (x ∷ (xs ++ y ∷ ys)) = simp length-append (omega arith) in
+    let positions : (from + length (x ∷ xs)) + length (y ∷ ys) ≡ from + length (x ∷ (xs ++ y ∷ ys)) = simp length-append (omega arith) in
     let written : (t.written + length (x ∷ xs)) + length (y ∷ ys) ≡ t.written + length (x ∷ (xs ++ y ∷ ys)) = simp length-append (omega arith) in
     let all : ◌≡◌ {A = Told}
-    (record { files = map.insert t.files name ((content t.files name ++ x ∷ xs) ++ y ∷ ys); places = put t.places slot (record { name = name; from = (from + length (x ∷ xs)) + length (y ∷ ys) }); written = (t.written + length (x ∷ xs)) + length (y ∷ ys) })
-    (record { files = map.insert t.files name (content t.files name ++ x ∷ (xs ++ y ∷ ys)); places = put t.places slot (record { name = name; from = from + length (x ∷ (xs ++ y ∷ ys)) }); written = t.written + length (x ∷ (xs ++ y ∷ ys)) }) =
-    λ i. record { files = map.insert t.files name (bytes i); places = put t.places slot (record { name = name; from = places i }); written = written i } in
+    (record { files = map.insert t.files name ((content t.files name ++ x ∷ xs) ++ y ∷ ys); positions = put t.positions slot (record { name = name; from = (from + length (x ∷ xs)) + length (y ∷ ys) }); written = (t.written + length (x ∷ xs)) + length (y ∷ ys) })
+    (record { files = map.insert t.files name (content t.files name ++ x ∷ (xs ++ y ∷ ys)); positions = put t.positions slot (record { name = name; from = from + length (x ∷ (xs ++ y ∷ ys)) }); written = t.written + length (x ∷ (xs ++ y ∷ ys)) }) =
+    λ i. record { files = map.insert t.files name (bytes i); positions = put t.positions slot (record { name = name; from = positions i }); written = written i } in
     simp (at-put, put-put, content-insert, insert-insert) all
 
 appended_by-append : (slot : Slot) (xs ys : List ℕ) (a : Option Told) → option_map (appended slot ys) (option_map (appended slot xs) a) ≡ option_map (appended slot (xs ++ ys)) a
 appended_by-append slot xs ys None = refl
 appended_by-append slot xs ys (Some t) = ap Some (appended-append slot xs ys t)
 
-pub appended-twice : (slot : Slot) (xs ys : List ℕ) (a b c : Option Told) → AppendedBy a b slot xs → AppendedBy b c slot ys → AppendedBy a c slot (xs ++ ys)
+pub appended-twice : (slot : Slot) (xs ys : List ℕ) (a b c : Option Told)
+    → b ≡ option_map (appended slot xs) a → c ≡ option_map (appended slot ys) b → c ≡ option_map (appended slot (xs ++ ys)) a
 appended-twice slot xs ys a b c first second = second ∙ ap (option_map (appended slot ys)) first ∙ appended_by-append slot xs ys a
 
-pub appended-none : (slot : Slot) (a : Option Told) → AppendedBy a a slot []
+pub appended-none : (slot : Slot) (a : Option Told) → a ≡ option_map (appended slot []) a
 appended-none slot None = refl
 appended-none slot (Some t) = refl
 
 pub appended-more : (slot : Slot) (a b c : Option Told) (bytes : List ℕ) (done k : ℕ)
-    → AppendedBy a b slot (take done bytes) → AppendedBy b c slot (take k (take (length bytes - done) (drop done bytes))) → AppendedBy a c slot (take (done + k) bytes)
+    → b ≡ option_map (appended slot (take done bytes)) a → c ≡ option_map (appended slot (take k (take (length bytes - done) (drop done bytes)))) b
+    → c ≡ option_map (appended slot (take (done + k) bytes)) a
 appended-more slot a b c bytes done k before then =
     then ∙ ap (λ p. option_map (appended slot (take k p)) b) (rest_whole bytes done) ∙ ap (option_map (appended slot (take k (drop done bytes)))) before
     ∙ appended_by-append slot _ _ a ∙ ap (λ p. option_map (appended slot p) a) (front_of_rest bytes done k)

@@ -4,3 +4,4 @@ pub mod Moving
 pub mod Covering
 pub mod Finding
 pub mod Marking
+pub mod OwnNames

@@ -9,8 +9,8 @@ use Rattle.outer_io.specs.declared.memory_files.FileId.TheVariants as id
 use Rattle.outer_io.specs.declared.shelf.Phase.TheVariants.{Writing}
 use Rattle.outer_io.specs.Slots.{at, put, each, AtEach}
 use Rattle.outer_io.specs.Store.{Store, listed, files_in, name_of, grown}
-use Rattle.outer_io.specs.Marks.{place_of, told_of, WritesLog}
-use Rattle.outer_io.specs.Told.{Place, Told, content, left, created, appended}
+use Rattle.outer_io.specs.Marks.{position_of, told_of, WritesLog}
+use Rattle.outer_io.specs.Told.{FilePosition, Told, content, left, created, appended}
 use Rattle.outer_io.proofs.SlotLemmas.{at-put, each-at, each-put, AtEach-at, AtEach-put}
 use Rattle.outer_io.proofs.Covering.{created-files, longer-files}
 
@@ -20,7 +20,7 @@ abbrev pub left_at : Store → Mark → List ℕ
 left_at s mark = drop mark.from (content (files_in s) (name_of s mark.file))
 
 pub left-at : (s : Store) (marks : Slots Mark) (slot : Slot) → left slot (told_of s marks) ≡ left_at s (at marks slot)
-left-at s marks slot = ap (λ (place : Place). drop place.from (content (files_in s) place.name)) (each-at (place_of s) marks slot)
+left-at s marks slot = ap (λ (place : FilePosition). drop place.from (content (files_in s) place.name)) (each-at (position_of s) marks slot)
 
 pub left-put : (s : Store) (marks : Slots Mark) (slot : Slot) (mark : Mark) → left slot (told_of s (put marks slot mark)) ≡ left_at s mark
 left-put s marks slot mark = left-at s (put marks slot mark) slot ∙ ap (left_at s) (at-put marks slot mark)
@@ -29,24 +29,24 @@ left-put s marks slot mark = left-at s (put marks slot mark) slot ∙ ap (left_a
 pub told-created : (s : Store) (marks : Slots Mark) (slot : Slot) (mark : Mark) (name : List ℕ) → name ≡ s.log_name → mark.file ≡ id.Log → mark.from ≡ 0
     → told_of (record s { log = Some [] }) (put marks slot mark) ≡ created name slot (told_of s marks)
 told-created s marks slot mark name named in_log start =
-    let place : place_of s mark ≡ record { name = name; from = 0 } = λ i. record { name = (ap (name_of s) in_log ∙ sym named) i; from = start i } in
+    let place : position_of s mark ≡ record { name = name; from = 0 } = λ i. record { name = (ap (name_of s) in_log ∙ sym named) i; from = start i } in
     let files : files_in (record s { log = Some [] }) ≡ map.insert (files_in s) name [] =
     created-files (listed s.files) s.log_name s.log [] ∙ ap (λ n. map.insert (files_in s) n []) (sym named) in
-    let places : each (place_of s) (put marks slot mark) ≡ put (each (place_of s) marks) slot (record { name = name; from = 0 }) =
-    each-put (place_of s) marks slot mark ∙ ap (put (each (place_of s) marks) slot) place in
-    λ i. record { files = files i; places = places i; written = s.written }
+    let positions : each (position_of s) (put marks slot mark) ≡ put (each (position_of s) marks) slot (record { name = name; from = 0 }) =
+    each-put (position_of s) marks slot mark ∙ ap (put (each (position_of s) marks) slot) place in
+    λ i. record { files = files i; positions = positions i; written = s.written }
 
 -- what a piece that isn't empty makes of a slot at this place
-appended-at : (slot : Slot) (bytes : List ℕ) (t : Told) (place : Place) → 0 < length bytes → at t.places slot ≡ place → appended slot bytes t ≡ record {
+appended-at : (slot : Slot) (bytes : List ℕ) (t : Told) (place : FilePosition) → 0 < length bytes → at t.positions slot ≡ place → appended slot bytes t ≡ record {
   files = map.insert t.files place.name (content t.files place.name ++ bytes);
-  places = put t.places slot (record { name = place.name; from = place.from + length bytes });
+  positions = put t.positions slot (record { name = place.name; from = place.from + length bytes });
   written = t.written + length bytes;
 }
 appended-at slot [] t place some is = absurd (omega arith)
-appended-at slot (b ∷ bytes) t place some is = ap (λ (p : Place).
+appended-at slot (b ∷ bytes) t place some is = ap (λ (p : FilePosition).
     let r : Told = record {
       files = map.insert t.files p.name (content t.files p.name ++ b ∷ bytes);
-      places = put t.places slot (record { name = p.name; from = p.from + length (b ∷ bytes) });
+      positions = put t.positions slot (record { name = p.name; from = p.from + length (b ∷ bytes) });
       written = t.written + length (b ∷ bytes);
     } in r) is
 
@@ -58,13 +58,13 @@ pub told-appended : (s : Store) (marks : Slots Mark) (slot : Slot) (bytes : List
 told-appended s marks slot bytes some is_created in_log =
     let from = (at marks slot).from in
     let name : name_of s (at marks slot).file ≡ s.log_name = ap (name_of s) in_log in
-    let place : at (each (place_of s) marks) slot ≡ record { name = s.log_name; from = from } =
-    each-at (place_of s) marks slot ∙ (λ i. record { name = name i; from = from }) in
+    let place : at (each (position_of s) marks) slot ≡ record { name = s.log_name; from = from } =
+    each-at (position_of s) marks slot ∙ (λ i. record { name = name i; from = from }) in
     let files = longer-files (listed s.files) s.log_name s.log bytes is_created in
-    let places : each (place_of s) (put marks slot (record (at marks slot) { from = from + length bytes }))
-    ≡ put (each (place_of s) marks) slot (record { name = s.log_name; from = from + length bytes }) =
-    each-put (place_of s) marks slot _ ∙ (λ i. put (each (place_of s) marks) slot (record { name = name i; from = from + length bytes })) in
-    (λ i. record { files = files i; places = places i; written = s.written + length bytes })
+    let positions : each (position_of s) (put marks slot (record (at marks slot) { from = from + length bytes }))
+    ≡ put (each (position_of s) marks) slot (record { name = s.log_name; from = from + length bytes }) =
+    each-put (position_of s) marks slot _ ∙ (λ i. put (each (position_of s) marks) slot (record { name = name i; from = from + length bytes })) in
+    (λ i. record { files = files i; positions = positions i; written = s.written + length bytes })
     ∙ sym (appended-at slot bytes (told_of s marks) (record { name = s.log_name; from = from }) some place)
 
 -- a slot that writes stands in the log

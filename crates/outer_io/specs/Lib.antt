@@ -6,3 +6,4 @@ pub mod Reading
 pub mod Failing
 pub mod Store
 pub mod Marks
+pub mod Sizes

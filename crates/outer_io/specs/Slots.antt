@@ -25,7 +25,13 @@ all x = record { settings = x; nav = x; obs = x; rows = x; log = x }
 
 -- the same function of each value
 abbrev pub each : {X Y : Type 0} → (X → Y) → Slots X → Slots Y
-each f s = record { settings = f s.settings; nav = f s.nav; obs = f s.obs; rows = f s.rows; log = f s.log }
+each f s = record {
+  settings = f s.settings;
+  nav = f s.nav;
+  obs = f s.obs;
+  rows = f s.rows;
+  log = f s.log;
+}
 
 -- the same fact of each value
 pub record AtEach {X : Type 0} (P : X → Type 0) (s : Slots X) : Type 0 where

@@ -48,7 +48,8 @@ files_in s = covered (listed s.files) s.log_name s.log
 
 -- the name of a file
 abbrev pub name_among : List NamedBytes → List ℕ → FileId → List ℕ
-name_among files log_name (Listed i) = unwrap_or (option_map (λ file. string_bytes file.0) (slice_get files i)) []
+name_among files log_name (Listed i) =
+    unwrap_or (option_map (λ file. string_bytes file.0) (slice_get files i)) []
 name_among files log_name Log = log_name
 
 abbrev pub name_of : Store → FileId → List ℕ

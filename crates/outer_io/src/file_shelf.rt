@@ -22,9 +22,9 @@ impl<R: Files> FileShelf<R> {
 
     /// A shelf whose slots are closed, of which no call has failed yet.
     pub fn make(rt: R) -> FileShelf<R>
-        ensures closed { ⟦<FileShelf<R> as Shelf>⟧.phases result ≡ all Phase.Closed }
-        ensures read_faults { ⟦<FileShelf<R> as Shelf>⟧.read_faults result ≡ 0 }
-        ensures write_faults { ⟦<FileShelf<R> as Shelf>⟧.write_faults result ≡ 0 }
+        ensures closed { (⟦<FileShelf<R> as Shelf>⟧.state result).phases ≡ all Phase.Closed }
+        ensures read_faults { (⟦<FileShelf<R> as Shelf>⟧.state result).read_faults ≡ 0 }
+        ensures write_faults { (⟦<FileShelf<R> as Shelf>⟧.state result).write_faults ≡ 0 }
     {
         FileShelf {
             rt,
@@ -43,13 +43,12 @@ impl<R: Files> FileShelf<R> {
 }
 
 impl<R: Files> Shelf for FileShelf<R> {
-    ghost told = { λ _. None };
-
-    ghost phases = { λ s. s.phases };
-
-    ghost read_faults = { λ s. s.read_faults };
-
-    ghost write_faults = { λ s. s.write_faults };
+    ghost state = { λ s. record {
+      told = None;
+      phases = s.phases;
+      read_faults = s.read_faults;
+      write_faults = s.write_faults;
+    } };
 
     ghost fails_at = { λ _ _. ⊥ };
 

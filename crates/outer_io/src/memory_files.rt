@@ -39,7 +39,8 @@ impl Model for MemoryFiles {
       written = m.written;
     } };
 
-    ghost invariant = { λ m. (m.written + m.room ≤ vec_capacity m.log) × (vec_len m.log ≤ m.written) };
+    ghost invariant = { λ m.
+        (m.written + m.room ≤ vec_capacity m.log) × (vec_len m.log ≤ m.written) };
 }
 
 impl MemoryFiles {
@@ -129,9 +130,11 @@ impl MemoryFiles {
 
     // Whether the log is created and has this name.
     fn is_covered(&self, name: &str) -> bool
-        ensures log { result ≡ true → (name.now ≡ self.now.log_name) × (map.get (files_in self.now) name.now ≡ self.now.log) }
+        ensures log { result ≡ true → (name.now ≡ self.now.log_name)
+            × (map.get (files_in self.now) name.now ≡ self.now.log) }
         ensures created { result ≡ true → is_some self.now.log ≡ true }
-        ensures other { result ≡ false → map.get (files_in self.now) name.now ≡ map.get (listed self.now.files) name.now }
+        ensures other { result ≡ false
+            → map.get (files_in self.now) name.now ≡ map.get (listed self.now.files) name.now }
     {
         self.is_created && self.is_log(name)
     }
@@ -163,7 +166,8 @@ impl MemoryFiles {
 // The first file of this name.
 fn find(files: &[(String, Vec<u8>)], name: &str) -> Option<usize>
     ensures bound { IfSome result (λ i. i < length files.now) }
-    ensures found { IfSome result (λ i. (f : NamedBytes) × (slice_get files.now i ≡ Some f) × (string_bytes f.0 ≡ name.now)
+    ensures found { IfSome result (λ i. (f : NamedBytes)
+        × (slice_get files.now i ≡ Some f) × (string_bytes f.0 ≡ name.now)
         × (map.get (listed files.now) name.now ≡ Some f.1.items)) }
     ensures none { IfNone result (map.get (listed files.now) name.now ≡ None) }
 {

@@ -42,14 +42,23 @@ impl MemoryShelf {
         fails: Vec<u64>,
     ) -> Result<MemoryShelf, NoMemory>
         requires { HaveOwnNames files.items }
-        ensures files { IfOk result (λ s. files_of (⟦<MemoryShelf as Shelf>⟧.told s) ≡ Some (listed files.items)) }
-        ensures written { IfOk result (λ s. written_of (⟦<MemoryShelf as Shelf>⟧.told s) ≡ Some 0) }
-        ensures closed { IfOk result (λ s. ⟦<MemoryShelf as Shelf>⟧.phases s ≡ all Phase.Closed) }
-        ensures read_faults { IfOk result (λ s. ⟦<MemoryShelf as Shelf>⟧.read_faults s ≡ 0) }
-        ensures write_faults { IfOk result (λ s. ⟦<MemoryShelf as Shelf>⟧.write_faults s ≡ 0) }
-        ensures fails { IfOk result (λ s. (k : ℕ) → k < 2 ^ 64 → ⟦<MemoryShelf as Shelf>⟧.fails_at s k ↔ Contains fails.items k) }
-        ensures reads { IfOk result (λ s. ⟦<MemoryShelf as Shelf>⟧.reliable s None ↔ (fails.items ≡ [])) }
-        ensures writes { IfOk result (λ s. ⟦<MemoryShelf as Shelf>⟧.reliable s (Some (string_bytes log)) ↔ ((fails.items ≡ []) × (0 < room))) }
+        ensures files { IfOk result (λ s.
+            files_of (⟦<MemoryShelf as Shelf>⟧.state s) ≡ Some (listed files.items)) }
+        ensures written { IfOk result (λ s.
+            written_of (⟦<MemoryShelf as Shelf>⟧.state s) ≡ Some 0) }
+        ensures closed { IfOk result (λ s.
+            (⟦<MemoryShelf as Shelf>⟧.state s).phases ≡ all Phase.Closed) }
+        ensures read_faults { IfOk result (λ s.
+            (⟦<MemoryShelf as Shelf>⟧.state s).read_faults ≡ 0) }
+        ensures write_faults { IfOk result (λ s.
+            (⟦<MemoryShelf as Shelf>⟧.state s).write_faults ≡ 0) }
+        ensures fails { IfOk result (λ s. (k : ℕ) → k < 2 ^ 64
+            → ⟦<MemoryShelf as Shelf>⟧.fails_at s k ↔ Contains fails.items k) }
+        ensures reads { IfOk result (λ s.
+            ⟦<MemoryShelf as Shelf>⟧.reliable s None ↔ (fails.items ≡ [])) }
+        ensures writes { IfOk result (λ s.
+            ⟦<MemoryShelf as Shelf>⟧.reliable s (Some (string_bytes log))
+            ↔ ((fails.items ≡ []) × (0 < room))) }
     {
         Ok(MemoryShelf {
             store: MemoryFiles::make(alloc, files, log, room)?,
@@ -62,7 +71,9 @@ impl MemoryShelf {
 
     /// The bytes of the named file, none exactly where it isn't there.
     pub fn file(&self, name: &str) -> Option<&[u8]>
-        ensures { Some (option_map (λ bytes. bytes.now) result) ≡ option_map (λ files. map.get files name.now) (files_of (⟦<MemoryShelf as Shelf>⟧.told self.now)) }
+        ensures { Some (option_map (λ bytes. bytes.now) result)
+            ≡ option_map (λ files. map.get files name.now)
+            (files_of (⟦<MemoryShelf as Shelf>⟧.state self.now)) }
     {
         self.store.file(name)
     }
@@ -70,7 +81,8 @@ impl MemoryShelf {
 
 // What is left to read at the mark.
 fn left(store: &MemoryFiles, mark: Mark) -> &[u8]
-    ensures bytes { result.now ≡ drop mark.from (content (files_in store.now) (name_of store.now mark.file)) }
+    ensures bytes { result.now
+        ≡ drop mark.from (content (files_in store.now) (name_of store.now mark.file)) }
     ensures fits { mark.from + length result.now < 2 ^ 64 }
 {
     match store.file(store.name_of(mark.file)) {
@@ -87,16 +99,10 @@ fn left(store: &MemoryFiles, mark: Mark) -> &[u8]
 
 impl Shelf for MemoryShelf {
     ghost use Rattle.outer_io.specs.Failing.{IsListed};
-    ghost use Rattle.outer_io.specs.Marks.{told_of, phases_of};
+    ghost use Rattle.outer_io.specs.Marks.{state_of};
     ghost use Rattle.outer_io.specs.Store.{HasRoomFor};
 
-    ghost told = { λ s. Some (told_of s.store s.marks) };
-
-    ghost phases = { λ s. phases_of s.marks };
-
-    ghost read_faults = { λ s. s.read_faults };
-
-    ghost write_faults = { λ s. s.write_faults };
+    ghost state = { λ s. state_of s.store s.marks s.read_faults s.write_faults };
 
     ghost fails_at = { λ s k. IsListed s.failing k };
 

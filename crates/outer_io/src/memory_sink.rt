@@ -24,10 +24,12 @@ impl MemorySink {
     /// An empty sink that takes `room` bytes in all, and fails at the calls of these numbers,
     /// counted from 1.
     pub fn make(alloc: Global, room: u64, fails: Vec<u64>) -> Result<MemorySink, NoMemory>
-        ensures empty { IfOk result (λ s. ⟦<MemorySink as Sink>⟧.taken s ≡ Some []) }
-        ensures faults { IfOk result (λ s. ⟦<MemorySink as Sink>⟧.faults s ≡ 0) }
-        ensures listed { IfOk result (λ s. (k : ℕ) → k < 2 ^ 64 → ⟦<MemorySink as Sink>⟧.fails_at s k ↔ Contains fails.items k) }
-        ensures reliable { IfOk result (λ s. ⟦<MemorySink as Sink>⟧.reliable s ↔ ((fails.items ≡ []) × (0 < room))) }
+        ensures empty { IfOk result (λ s. (⟦<MemorySink as Sink>⟧.state s).taken ≡ Some []) }
+        ensures faults { IfOk result (λ s. (⟦<MemorySink as Sink>⟧.state s).faults ≡ 0) }
+        ensures listed { IfOk result (λ s. (k : ℕ) → k < 2 ^ 64
+            → ⟦<MemorySink as Sink>⟧.fails_at s k ↔ Contains fails.items k) }
+        ensures reliable { IfOk result (λ s.
+            ⟦<MemorySink as Sink>⟧.reliable s ↔ ((fails.items ≡ []) × (0 < room))) }
     {
         Ok(MemorySink {
             bytes: Vec::with_capacity(alloc, room as usize)?,
@@ -39,7 +41,7 @@ impl MemorySink {
 
     /// What was taken.
     pub fn bytes(&self) -> &[u8]
-        ensures { Some result.now ≡ ⟦<MemorySink as Sink>⟧.taken self.now }
+        ensures { Some result.now ≡ (⟦<MemorySink as Sink>⟧.state self.now).taken }
     {
         &self.bytes
     }
@@ -48,9 +50,7 @@ impl MemorySink {
 impl Sink for MemorySink {
     ghost use Rattle.outer_io.specs.Failing.{IsListed};
 
-    ghost taken = { λ s. Some s.bytes.items };
-
-    ghost faults = { λ s. s.faults };
+    ghost state = { λ s. record { taken = Some s.bytes.items; faults = s.faults } };
 
     ghost fails_at = { λ s k. IsListed s.failing k };
 

@@ -47,23 +47,29 @@ pub fn read_all<H: Shelf>(
     slot: Slot,
     limit: u64,
 ) -> Result<Vec<u8>, ReadAll>
-    requires { at (H.phases shelf.old) slot ≡ Phase.Reading }
+    requires { at (H.state shelf.old).phases slot ≡ Phase.Reading }
 
-    ensures whole { IfOk result (λ all. IfSome (left_of slot (H.told shelf.old)) (λ left. all.items ≡ left)) }
+    ensures whole { IfOk result (λ all.
+        IfSome (left_of slot (H.state shelf.old)) (λ left. all.items ≡ left)) }
     ensures within { IfOk result (λ all. vec_len all ≤ limit) }
-    ensures ended { IfOk result (λ all. MovedBy (H.told shelf.old) (H.told shelf.new) slot (vec_len all)) }
+    ensures ended { IfOk result (λ all.
+        MovedBy (H.state shelf.old) (H.state shelf.new) slot (vec_len all)) }
 
     // It is refused exactly where more than the limit is there.
-    ensures too_long { (l : ℕ) → IsErrOf result (ReadAll.TooLong l) → (l ≡ limit) × IsTooLong (left_of slot (H.told shelf.old)) limit }
-    ensures at_most { (k : ℕ) × (k ≤ limit + 1) × MovedBy (H.told shelf.old) (H.told shelf.new) slot k }
+    ensures too_long { (l : ℕ) → IsErrOf result (ReadAll.TooLong l)
+        → (l ≡ limit) × IsTooLong (left_of slot (H.state shelf.old)) limit }
+    ensures at_most { (k : ℕ) × (k ≤ limit + 1)
+        × MovedBy (H.state shelf.old) (H.state shelf.new) slot k }
 
     // When it fails.
-    ensures fault { IsErrOf result ReadAll.ReadFault → Rose (H.read_faults shelf.old) (H.read_faults shelf.new) }
-    ensures later { H.read_faults shelf.old ≤ H.read_faults shelf.new }
-    ensures other { H.write_faults shelf.new ≡ H.write_faults shelf.old }
-    ensures phase { H.phases shelf.new ≡ H.phases shelf.old }
+    ensures fault { IsErrOf result ReadAll.ReadFault
+        → Rose (H.state shelf.old).read_faults (H.state shelf.new).read_faults }
+    ensures later { (H.state shelf.old).read_faults ≤ (H.state shelf.new).read_faults }
+    ensures other { (H.state shelf.new).write_faults ≡ (H.state shelf.old).write_faults }
+    ensures phase { (H.state shelf.new).phases ≡ (H.state shelf.old).phases }
     ensures reliable { (log : Option (List ℕ)) → H.reliable shelf.new log
-        → H.reliable shelf.old log × (¬ IsErrOf result ReadAll.ReadFault) × (H.read_faults shelf.new ≡ H.read_faults shelf.old) }
+        → H.reliable shelf.old log × (¬ IsErrOf result ReadAll.ReadFault)
+        × ((H.state shelf.new).read_faults ≡ (H.state shelf.old).read_faults) }
 {
     let mut all = Vec::new(alloc);
     let mut buf = [0u8; 4096];

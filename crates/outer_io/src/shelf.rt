@@ -5,9 +5,8 @@ ghost use Rattle.std.specs.Io.{ReadsAtMost};
 ghost use Rattle.std.specs.Io.KnownBytes.{ReadConsumes};
 ghost use Rattle.outer_io.specs.Causes.{HasCause, HasCauseUnless, SucceedsWhile, SucceedsWhileAnd, CountsCall};
 ghost use Rattle.outer_io.specs.declared.shelf.Phase.{Phase};
-ghost use Rattle.outer_io.specs.declared.slots.Slots.{Slots};
 ghost use Rattle.outer_io.specs.Slots.{at, put};
-ghost use Rattle.outer_io.specs.Told.{Told, left_of, is_missing, Begins, Moves, Creates, Writes};
+ghost use Rattle.outer_io.specs.Told.{ShelfState, left_of, is_missing, Begins, Moves, Creates, Writes};
 
 use crate::{Failed, Slot};
 
@@ -24,18 +23,9 @@ pub enum Phase {
 /// A call that fails changes no file. `begin` and `read` change none at all, and `create` and
 /// `write` none but the slot's. No call touches another slot.
 pub trait Shelf {
-    /// The files, where each slot stands in them, and how many bytes were written in all; none
-    /// where the shelf doesn't tell.
-    ghost told: { Self → Option Told };
-
-    /// What each slot is open for.
-    ghost phases: { Self → Slots Phase };
-
-    /// How often `begin` and `read` have failed, but for a name that is told and missing.
-    ghost read_faults: { Self → ℕ };
-
-    /// How often `create` and `write` have failed.
-    ghost write_faults: { Self → ℕ };
+    /// What is seen of it: the files, where each slot stands in them and how many bytes were
+    /// written in all, where it tells that; what each slot is open for; and how often calls failed.
+    ghost state: { Self → ShelfState };
 
     /// The call of this number is known to fail, where the next call has number 1.
     ghost fails_at: { Self → ℕ → Type 0 };
@@ -46,54 +36,69 @@ pub trait Shelf {
 
     /// Opens the named file for reading, from its start. A failure closes the slot.
     fn begin(&mut self, name: &str, slot: Slot) -> Result<(), Failed>
-        ensures begun { Begins (told self.old) (told self.new) name.now slot result }
-        ensures phase { phases self.new ≡ put (phases self.old) slot (if is_ok result then Phase.Reading else Phase.Closed) }
+        ensures begun { Begins (state self.old) (state self.new) name.now slot result }
+        ensures phase { (state self.new).phases ≡ put (state self.old).phases slot
+            (if is_ok result then Phase.Reading else Phase.Closed) }
 
         // When it fails.
-        ensures missing { is_missing (told self.old) name.now ≡ true → is_ok result ≡ false }
-        ensures cause { HasCauseUnless (is_missing (told self.old) name.now) (read_faults self.old) (read_faults self.new) result }
-        ensures other { write_faults self.new ≡ write_faults self.old }
+        ensures missing { is_missing (state self.old) name.now ≡ true → is_ok result ≡ false }
+        ensures cause { HasCauseUnless (is_missing (state self.old) name.now)
+            (state self.old).read_faults (state self.new).read_faults result }
+        ensures other { (state self.new).write_faults ≡ (state self.old).write_faults }
         ensures counted { CountsCall (fails_at self.old) (fails_at self.new) result }
-        ensures reliable { (log : Option (List ℕ)) → SucceedsWhileAnd (reliable self.old log) (reliable self.new log) (is_missing (told self.old) name.now ≡ false) (read_faults self.old) (read_faults self.new) result };
+        ensures reliable { (log : Option (List ℕ)) → SucceedsWhileAnd
+            (reliable self.old log) (reliable self.new log)
+            (is_missing (state self.old) name.now ≡ false)
+            (state self.old).read_faults (state self.new).read_faults result };
 
     /// The next bytes of the slot's file: as many as it answers, at the buffer's start. Where the
     /// buffer isn't empty, 0 means the end of the file.
     fn read(&mut self, slot: Slot, buf: &mut [u8]) -> Result<usize, Failed>
-        requires { at (phases self.old) slot ≡ Phase.Reading }
+        requires { at (state self.old).phases slot ≡ Phase.Reading }
         ensures bound { ReadsAtMost result buf.new }
-        ensures bytes { ReadConsumes (left_of slot (told self.old)) (left_of slot (told self.new)) result buf.new }
-        ensures moves { Moves (told self.old) (told self.new) slot result }
-        ensures phase { phases self.new ≡ phases self.old }
+        ensures bytes { ReadConsumes
+            (left_of slot (state self.old)) (left_of slot (state self.new)) result buf.new }
+        ensures moves { Moves (state self.old) (state self.new) slot result }
+        ensures phase { (state self.new).phases ≡ (state self.old).phases }
 
         // When it fails.
-        ensures cause { HasCause (read_faults self.old) (read_faults self.new) result }
-        ensures other { write_faults self.new ≡ write_faults self.old }
+        ensures cause { HasCause (state self.old).read_faults (state self.new).read_faults result }
+        ensures other { (state self.new).write_faults ≡ (state self.old).write_faults }
         ensures counted { CountsCall (fails_at self.old) (fails_at self.new) result }
-        ensures reliable { (log : Option (List ℕ)) → SucceedsWhile (reliable self.old log) (reliable self.new log) (read_faults self.old) (read_faults self.new) result };
+        ensures reliable { (log : Option (List ℕ)) → SucceedsWhile
+            (reliable self.old log) (reliable self.new log)
+            (state self.old).read_faults (state self.new).read_faults result };
 
     /// Makes the named file empty, and opens it for writing. A failure closes the slot.
     fn create(&mut self, name: &str, slot: Slot) -> Result<(), Failed>
-        ensures created { Creates (told self.old) (told self.new) name.now slot result }
-        ensures phase { phases self.new ≡ put (phases self.old) slot (if is_ok result then Phase.Writing else Phase.Closed) }
+        ensures created { Creates (state self.old) (state self.new) name.now slot result }
+        ensures phase { (state self.new).phases ≡ put (state self.old).phases slot
+            (if is_ok result then Phase.Writing else Phase.Closed) }
 
         // When it fails.
-        ensures cause { HasCause (write_faults self.old) (write_faults self.new) result }
-        ensures other { read_faults self.new ≡ read_faults self.old }
+        ensures cause { HasCause
+            (state self.old).write_faults (state self.new).write_faults result }
+        ensures other { (state self.new).read_faults ≡ (state self.old).read_faults }
         ensures counted { CountsCall (fails_at self.old) (fails_at self.new) result }
-        ensures reliable { (log : Option (List ℕ)) → SucceedsWhileAnd (reliable self.old log) (reliable self.new log) (log ≡ Some name.now) (write_faults self.old) (write_faults self.new) result };
+        ensures reliable { (log : Option (List ℕ)) → SucceedsWhileAnd
+            (reliable self.old log) (reliable self.new log) (log ≡ Some name.now)
+            (state self.old).write_faults (state self.new).write_faults result };
 
     /// Appends the first bytes of the piece to the slot's file, as many as it answers. Of a piece
     /// that isn't empty it takes at least one.
     fn write(&mut self, slot: Slot, bytes: &[u8]) -> Result<usize, Failed>
-        requires { at (phases self.old) slot ≡ Phase.Writing }
+        requires { at (state self.old).phases slot ≡ Phase.Writing }
         ensures bound { IfOk result (λ k. k ≤ length bytes.now) }
         ensures some { 0 < length bytes.now → IfOk result (λ k. 0 < k) }
-        ensures appended { Writes (told self.old) (told self.new) slot result bytes.now }
-        ensures phase { phases self.new ≡ phases self.old }
+        ensures appended { Writes (state self.old) (state self.new) slot result bytes.now }
+        ensures phase { (state self.new).phases ≡ (state self.old).phases }
 
         // When it fails.
-        ensures cause { HasCause (write_faults self.old) (write_faults self.new) result }
-        ensures other { read_faults self.new ≡ read_faults self.old }
+        ensures cause { HasCause
+            (state self.old).write_faults (state self.new).write_faults result }
+        ensures other { (state self.new).read_faults ≡ (state self.old).read_faults }
         ensures counted { CountsCall (fails_at self.old) (fails_at self.new) result }
-        ensures reliable { (log : Option (List ℕ)) → SucceedsWhileAnd (reliable self.old log) (reliable self.new log) (is_some log ≡ true) (write_faults self.old) (write_faults self.new) result };
+        ensures reliable { (log : Option (List ℕ)) → SucceedsWhileAnd
+            (reliable self.old log) (reliable self.new log) (is_some log ≡ true)
+            (state self.old).write_faults (state self.new).write_faults result };
 }

@@ -15,7 +15,7 @@ pub struct StreamSink<W> {
 impl StreamSink<Stdout> {
     /// Standard output, of which no write has failed yet.
     pub fn out(stdout: Stdout) -> StreamSink<Stdout>
-        ensures { ⟦<StreamSink<Stdout> as Sink>⟧.faults result ≡ 0 }
+        ensures { (⟦<StreamSink<Stdout> as Sink>⟧.state result).faults ≡ 0 }
     {
         StreamSink {
             stream: stdout,
@@ -27,7 +27,7 @@ impl StreamSink<Stdout> {
 impl StreamSink<Stderr> {
     /// Standard error, of which no write has failed yet.
     pub fn err(stderr: Stderr) -> StreamSink<Stderr>
-        ensures { ⟦<StreamSink<Stderr> as Sink>⟧.faults result ≡ 0 }
+        ensures { (⟦<StreamSink<Stderr> as Sink>⟧.state result).faults ≡ 0 }
     {
         StreamSink {
             stream: stderr,
@@ -37,9 +37,7 @@ impl StreamSink<Stderr> {
 }
 
 impl<W: Write> Sink for StreamSink<W> {
-    ghost taken = { λ _. None };
-
-    ghost faults = { λ s. s.faults };
+    ghost state = { λ s. record { taken = None; faults = s.faults } };
 
     ghost fails_at = { λ _ _. ⊥ };
 

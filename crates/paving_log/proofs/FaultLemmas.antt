@@ -1,21 +1,18 @@
 -- A text has one first fault at most, and the text of a log has none.
-use Rattle.std.proofs.Common.{◌≡◌, ◌≢◌, ℕ, zero, suc, ◌+◌, ◌*◌, ◌<◌, true, false, List, [], ◌∷◌, ◌++◌, length, Some, refl, sym, ap, subst, ◌∙◌, append_assoc, arith, inl, inr}
+use Rattle.std.proofs.Common.{◌≡◌, ◌≢◌, ℕ, zero, suc, ◌+◌, ◌*◌, ◌<◌, true, List, [], ◌∷◌, ◌++◌, length, Some, refl, sym, ap, subst, ◌∙◌, append_assoc, arith, inl, inr}
 use Rattle.std.specs.Prelude.{slice_index}
 use Rattle.std.proofs.lemmas.List.{length-append}
-use Rattle.sat_model.specs.declared.satellites.SatEntry.TheVariants as entry
-use Rattle.sat_model.specs.declared.steps.Step.TheVariants.{Cut, Split, Outside, Inside, Edge}
 use Rattle.paving_log.specs.declared.line.Fault.{Fault}
 use Rattle.paving_log.specs.declared.line.Fault.TheVariants as fault
 use Rattle.paving_log.specs.declared.line.LineName.{LineName}
 use Rattle.paving_log.specs.declared.line.LineName.TheVariants as name
 use Rattle.paving_log.specs.declared.line.LogLine.{LogLine}
-use Rattle.paving_log.specs.declared.line.LogLine.TheVariants as line
 use Rattle.paving_log.specs.declared.line.Place.{Place}
 use Rattle.paving_log.specs.declared.log.LogError.{LogError}
 use Rattle.log_words.specs.Words.{words}
 use Rattle.paving_log.specs.Lines.{spelled, name_of, LineFits, line_text, text_of}
 use Rattle.paving_log.specs.Order.{next, may_end, Leads}
-use Rattle.paving_log.specs.Faults.{is_built, FitsAt, head_of, Begins, Misfit, refusal, IsLineEnd, FirstLine, LineFails, FaultFrom}
+use Rattle.paving_log.specs.Faults.{FitsAt, head_of, Begins, Misfit, refusal, IsLineEnd, FirstLine, LineFails, FaultFrom}
 use Rattle.paving_log.proofs.SpellingLemmas.{HasNoEnd, words-line_text, line_end, same_line}
 
 -- ---- names
@@ -41,41 +38,22 @@ same_name name.Edge name.Edge e = refl
 same_name name.Done name.Done e = refl
 same_name _ _ e = absurd (omega (arith, ap digest e))
 
-built : (l : LogLine) → LineFits l → is_built (name_of l) ≡ true
-built (line.Sat (entry.Row r)) fits = refl
-built (line.Sat (entry.Skipped sat skip)) fits = refl
-built (line.Step (Cut id face bound)) fits = absurd fits
-built (line.Step (Split id axis)) fits = refl
-built (line.Step (Outside id)) fits = refl
-built (line.Step (Inside id clock lo hi)) fits = refl
-built (line.Step (Edge id lo hi)) fits = refl
-built _ fits = refl
-
 -- ---- one line
 
 begins : (at : Place) (here : List ℕ) (l : LogLine) (after : Place) → FitsAt at here l after → Begins at here (name_of l)
 begins at here l after fits = record { word = ap head_of fits.spelled; may_come = λ none. let some = fits.next in cc }
 
-begins_built : (at : Place) (here : List ℕ) (m n : LineName) → Begins at here m → Begins at here n → is_built m ≡ true → is_built n ≡ false → ⊥
-begins_built at here m n first second here_built not_built = let same = same_name m n (sym first.word ∙ second.word) in cc
-
 -- a line that fits is no misfit
 no_misfit : (at : Place) (here : List ℕ) (f : Fault) (l : LogLine) (after : Place) → Misfit at here f → FitsAt at here l after → ⊥
 no_misfit at here fault.Word l after misfit fits = misfit (name_of l) (begins at here l after fits)
-no_misfit at here fault.Fields l after misfit fits = misfit.3 l fits.fits fits.spelled
-no_misfit at here fault.NotBuilt l after misfit fits = begins_built at here (name_of l) misfit.0 (begins at here l after fits) misfit.1 (built l fits.fits) misfit.2
+no_misfit at here fault.Fields l after misfit fits = misfit.2 l fits.fits fits.spelled
 
 -- a line is a misfit in one way
 one_misfit : (at : Place) (here : List ℕ) (f g : Fault) → Misfit at here f → Misfit at here g → f ≡ g
 one_misfit at here fault.Word fault.Word first second = refl
 one_misfit at here fault.Word fault.Fields first second = absurd (first second.0 second.1)
-one_misfit at here fault.Word fault.NotBuilt first second = absurd (first second.0 second.1)
 one_misfit at here fault.Fields fault.Word first second = absurd (second first.0 first.1)
 one_misfit at here fault.Fields fault.Fields first second = refl
-one_misfit at here fault.Fields fault.NotBuilt first second = absurd (begins_built at here first.0 second.0 first.1 second.1 first.2 second.2)
-one_misfit at here fault.NotBuilt fault.Word first second = absurd (second first.0 first.1)
-one_misfit at here fault.NotBuilt fault.Fields first second = absurd (begins_built at here second.0 first.0 second.1 first.1 second.2 first.2)
-one_misfit at here fault.NotBuilt fault.NotBuilt first second = refl
 
 -- ---- the first line of a text
 

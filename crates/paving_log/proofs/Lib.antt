@@ -10,5 +10,3 @@ pub mod LogLemmas
 pub mod SatelliteLemmas
 pub mod OwnLemmas
 pub mod RowsLemmas
-pub mod BuiltLemmas
-pub mod CoverLemmas

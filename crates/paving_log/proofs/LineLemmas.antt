@@ -85,7 +85,6 @@ fault_behind at mid old now lines e taken fault = record {
 refuses : (at : Place) (lines : Lines) (e : LogError) → FaultFrom at lines.rest.now lines.number e → Refuses at lines e
 refuses at lines error.NoMemory fault = tt
 refuses at lines (error.BadLog line kind) fault = fault
-refuses at lines (error.NotBuilt line) fault = fault
 
 -- the first line fails
 pub refuses_here : (at : Place) (lines : Lines) (e : LogError) → LineFails at lines.rest.now lines.number e → Refuses at lines e
@@ -102,13 +101,11 @@ refuses_here at lines e fails = refuses at lines e (record {
 pub refuses_behind : (at mid : Place) (old now : Lines) (lines : List LogLine) (e : LogError) → Takes at old lines mid now → Refuses mid now e → Refuses at old e
 refuses_behind at mid old now lines error.NoMemory taken fault = tt
 refuses_behind at mid old now lines (error.BadLog line kind) taken fault = fault_behind at mid old now lines (error.BadLog line kind) taken fault
-refuses_behind at mid old now lines (error.NotBuilt line) taken fault = fault_behind at mid old now lines (error.NotBuilt line) taken fault
 
 -- a refusal is want of memory or a fault
 refusal_cases : (at : Place) (lines : Lines) (e : LogError) → Refuses at lines e → (e ≡ error.NoMemory) ⊎ FaultFrom at lines.rest.now lines.number e
 refusal_cases at lines error.NoMemory fault = inl refl
 refusal_cases at lines (error.BadLog line kind) fault = inr fault
-refusal_cases at lines (error.NotBuilt line) fault = inr fault
 
 -- the same, behind lines that were taken
 pub refusal_behind : (at mid : Place) (old now : Lines) (lines : List LogLine) (e : LogError) → Takes at old lines mid now → Refuses mid now e → (e ≡ error.NoMemory) ⊎ FaultFrom at old.rest.now old.number e

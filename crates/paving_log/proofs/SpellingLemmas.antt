@@ -109,7 +109,7 @@ id_word : (id : ℕ) → IsId id → IsWord (decimal id)
 id_word id fits = count_word 400000 id (lit< tt) fits.1
 
 step_are : (s : Step) → StepFits s → AreWords (step_words s)
-step_are (Cut id face bound) fits = absurd fits
+step_are (Cut id face bound) fits = (id_word id fits.0, (count_word 5 face (lit< tt) fits.1.1, (within_word 10000000000000 bound (lit< tt) fits.2, tt)))
 step_are (Split id axis) fits = (id_word id fits.0, (count_word 2 axis (lit< tt) fits.1.1, tt))
 step_are (Outside id) fits = (id_word id fits, tt)
 step_are (Inside id clock lo hi) fits = (id_word id fits.0, (clock_word clock fits.1, (clock_word lo fits.2, (clock_word hi fits.3, tt))))

@@ -9,7 +9,7 @@ use Rattle.std.proofs.Math.Dec.{T_prop}
 use Rattle.std.proofs.Math.Bridge.{le_prop}
 use Rattle.std.proofs.Math.ListN.{get_or}
 use mathlib.Core.HLevel.{is_prop→PathP}
-use Rattle.sat_model.specs.Sizes.{IsPlaceSize, IsErrorSize, IsClockSize}
+use Rattle.sat_model.specs.Sizes.{IsBoxSize, IsPlaceSize, IsErrorSize, IsClockSize}
 use Rattle.sat_model.specs.declared.rules.Rules.{Rules}
 use Rattle.sat_model.specs.declared.boxes.Pos.{Pos}
 use Rattle.sat_model.specs.declared.spans.Span.{Span}
@@ -184,8 +184,15 @@ id_from m n f g e = count_same 400000 m n (lit< tt) f.1 g.1 e
 clock_from : (m n : ℤ) → IsClockSize m → IsClockSize n → signed_decimal m ≡ signed_decimal n → m ≡ n
 clock_from m n f g e = one_number 200000000000000 m n (lit< tt) f g e
 
+bound_from : (m n : ℤ) → IsBoxSize m → IsBoxSize n → signed_decimal m ≡ signed_decimal n → m ≡ n
+bound_from m n f g e = one_number 10000000000000 m n (lit< tt) f g e
+
 step_from : (a b : Step) → StepFits a → StepFits b → step_name a ≡ step_name b → step_words a ≡ step_words b → a ≡ b
-step_from (Cut id face bound) b f g name e = absurd f
+step_from (Cut i face bound) (Cut j other limit) f g name e =
+    let id = id_from i j f.0 g.0 (at_index 0 _ _ e) in
+    let same = count_same 5 face other (lit< tt) f.1.1 g.1.1 (at_index 1 _ _ e) in
+    let at = bound_from bound limit f.2 g.2 (at_index 2 _ _ e) in
+    cc
 step_from (Split i axis) (Split j other) f g name e =
     let id = id_from i j f.0 g.0 (at_index 0 _ _ e) in
     let same = count_same 2 axis other (lit< tt) f.1.1 g.1.1 (at_index 1 _ _ e) in

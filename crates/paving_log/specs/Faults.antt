@@ -4,7 +4,6 @@ use Rattle.paving_log.specs.declared.line.Fault.{Fault}
 use Rattle.paving_log.specs.declared.line.Fault.TheVariants as fault
 use Rattle.paving_log.specs.declared.line.Form.TheVariants as form
 use Rattle.paving_log.specs.declared.line.LineName.{LineName}
-use Rattle.paving_log.specs.declared.line.LineName.TheVariants as name
 use Rattle.paving_log.specs.declared.line.LogLine.{LogLine}
 use Rattle.paving_log.specs.declared.line.Place.{Place}
 use Rattle.paving_log.specs.declared.line.Place.TheVariants as place
@@ -15,11 +14,6 @@ use Rattle.paving_log.specs.Lines.{LineFits, spelled, name_of, line_words, text_
 use Rattle.paving_log.specs.Order.{next, may_end, Leads}
 
 -- ---- a line at its place
-
--- the words whose lines can be read
-abbrev pub is_built : LineName → Bool
-is_built name.Cut = false
-is_built _ = true
 
 -- the bytes are the line, which may come here, and what may come behind it
 pub record FitsAt (at : Place) (here : List ℕ) (l : LogLine) (after : Place) : Type 0 where
@@ -45,9 +39,7 @@ abbrev pub Misfit : Place → List ℕ → Fault → Type 0
 -- no line that begins with the first word may come here
 Misfit at here fault.Word = (n : LineName) → Begins at here n → ⊥
 -- one may come here, and none that fits has these words
-Misfit at here fault.Fields = (n : LineName) × Begins at here n × (is_built n ≡ true) × ((l : LogLine) → LineFits l → words here ≡ line_words l → ⊥)
--- one may come here, and can't be read yet
-Misfit at here fault.NotBuilt = (n : LineName) × Begins at here n × (is_built n ≡ false)
+Misfit at here fault.Fields = (n : LineName) × Begins at here n × ((l : LogLine) → LineFits l → words here ≡ line_words l → ⊥)
 
 -- ---- the first line that doesn't fit
 
@@ -58,7 +50,6 @@ is_head _ = false
 
 -- how a line is refused that is no line for its place
 abbrev pub refusal : Place → ℕ → Fault → LogError
-refusal at number fault.NotBuilt = error.NotBuilt number
 refusal at number fault.Word = if is_head at then error.BadLog number 1 else error.BadLog number 2
 refusal at number fault.Fields = if is_head at then error.BadLog number 1 else error.BadLog number 3
 

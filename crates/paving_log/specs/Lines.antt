@@ -1,7 +1,7 @@
 -- The lines of a log: the words of each, and which values fit in it.
 use Rattle.std.specs.Prelude.{ℕ, ◌≤ℤ◌, List, [], ◌∷◌, ◌++◌, codes}
 use Rattle.std.specs.Fmt.{decimal, signed_decimal}
-use Rattle.sat_model.specs.Sizes.{IsClockSize}
+use Rattle.sat_model.specs.Sizes.{IsBoxSize, IsClockSize}
 use Rattle.sat_model.specs.declared.rules.Rules.{Rules}
 use Rattle.sat_model.specs.declared.satellites.SatEntry.{SatEntry}
 use Rattle.sat_model.specs.declared.satellites.SatEntry.TheVariants as entry
@@ -44,9 +44,8 @@ step_words (Edge id lo hi) = decimal id ∷ signed_decimal lo ∷ signed_decimal
 abbrev pub IsId : ℕ → Type 0
 IsId id = IsCountFromTo 0 400000 id
 
--- A line of a cut can't be read yet, so none fits.
 abbrev pub StepFits : Step → Type 0
-StepFits (Cut id face bound) = ⊥
+StepFits (Cut id face bound) = IsId id × IsCountFromTo 0 5 face × IsBoxSize bound
 StepFits (Split id axis) = IsId id × IsCountFromTo 0 2 axis
 StepFits (Outside id) = IsId id
 StepFits (Inside id clock lo hi) = IsId id × IsClockSize clock × IsClockSize lo × IsClockSize hi × (lo ≤ℤ hi)

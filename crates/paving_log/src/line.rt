@@ -80,6 +80,4 @@ pub enum Fault {
     Word,
     /// The fields are wrong.
     Fields,
-    /// The word may come here, and its lines can't be read yet.
-    NotBuilt,
 }

@@ -43,8 +43,6 @@ pub enum LogError {
     /// first word, 3 by its fields, 4 where the text ends too early or lacks its last LF. In the text
     /// of rows, where all lines fit, the first that fails a test: 5.
     BadLog { line: u32, kind: u8 },
-    /// The first line that doesn't fit begins with a word that isn't built yet.
-    NotBuilt { line: u32 },
     NoMemory,
 }
 

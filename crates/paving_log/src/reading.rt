@@ -1,24 +1,17 @@
 //! One line at its place.
 
-ghost use Rattle.std.specs.Prelude.{◌≡◌, true, IfOk, IfErr};
+ghost use Rattle.std.specs.Prelude.{◌≡◌, IfOk, IfErr};
 ghost use Rattle.log_words.specs.Words.{words_left, Reads};
 ghost use Rattle.paving_log.specs.Lines.{LineFits, name_of, fields};
-ghost use Rattle.paving_log.specs.Faults.{is_built, FitsAt, Misfit};
+ghost use Rattle.paving_log.specs.Faults.{FitsAt, Misfit};
 
 use crate::header::{header, rules};
 use crate::line::{Fault, LineName, LogLine, Place};
 use crate::order::{name_from, place_behind};
 use crate::rows::{root, row, skipped};
-use crate::steps::{edge, inside, out, split};
+use crate::steps::{cut, edge, inside, out, split};
 use log_words::{Rest, count, is_ended, word};
 use sat_model::SatEntry;
-
-/// Whether the lines that begin with the word can be read.
-fn has_lines(name: LineName) -> bool
-    ensures { result ≡ is_built name }
-{
-    !matches!(name, LineName::Cut)
-}
 
 /// The one field of the first line.
 fn version(rest: Rest<'_>) -> Option<LogLine>
@@ -45,7 +38,6 @@ fn done(rest: Rest<'_>) -> Option<LogLine>
 
 /// The line whose first word is the name and whose other words are left.
 fn fields_of(name: LineName, rest: Rest<'_>) -> Option<LogLine>
-    requires { is_built name ≡ true }
     ensures { Reads (λ l. LineFits l × (name_of l ≡ name)) fields (words_left rest.entry) result }
 {
     match name {
@@ -56,12 +48,12 @@ fn fields_of(name: LineName, rest: Rest<'_>) -> Option<LogLine>
         LineName::Sat => Some(LogLine::Sat(SatEntry::Row(row(rest)?))),
         LineName::Skip => Some(LogLine::Sat(skipped(rest)?)),
         LineName::Root => Some(LogLine::Root(root(rest)?)),
+        LineName::Cut => Some(LogLine::Step(cut(rest)?)),
         LineName::Split => Some(LogLine::Step(split(rest)?)),
         LineName::Out => Some(LogLine::Step(out(rest)?)),
         LineName::In => Some(LogLine::Step(inside(rest)?)),
         LineName::Edge => Some(LogLine::Step(edge(rest)?)),
         LineName::Done => done(rest),
-        LineName::Cut => unreachable!(),
     }
 }
 
@@ -79,9 +71,6 @@ pub fn line_at(place: Place, here: &[u8]) -> Result<(LogLine, Place), Fault>
     let Some(after) = place_behind(place, name) else {
         return Err(Fault::Word);
     };
-    if !has_lines(name) {
-        return Err(Fault::NotBuilt);
-    }
     match fields_of(name, rest) {
         Some(line) => Ok((line, after)),
         None => Err(Fault::Fields),

@@ -10,8 +10,27 @@ use sat_model::Step;
 
 /// The greatest number of a box.
 const LAST_ID: u32 = 400_000;
+/// The greatest amount of a bound, in um.
+const GREATEST_BOUND: u64 = 10_000_000_000_000;
 /// The greatest amount of a clock offset, in um.
 const GREATEST_CLOCK: u64 = 200_000_000_000_000;
+
+/// A box from which the slab between a face and a bound is cut.
+pub fn cut(rest: Rest<'_>) -> Option<Step>
+    ensures { Reads (λ step. StepFits step × (step_name step ≡ names.Cut)) step_words (words_left rest.entry) result }
+{
+    let (id, rest) = count(rest, 0, LAST_ID)?;
+    let (face, rest) = count(rest, 0, 5)?;
+    let (bound, rest) = amount(rest, GREATEST_BOUND)?;
+    if !is_ended(rest) {
+        return None;
+    }
+    Some(Step::Cut {
+        id,
+        face: face as u8,
+        bound,
+    })
+}
 
 /// A box that is split in halves.
 pub fn split(rest: Rest<'_>) -> Option<Step>

@@ -23,7 +23,6 @@ fn refused(place: Place, line: u32, fault: Fault) -> LogError
     ensures { result ≡ refusal place line fault }
 {
     match fault {
-        Fault::NotBuilt => LogError::NotBuilt { line },
         Fault::Word if is_first_two(place) => LogError::BadLog { line, kind: 1 },
         Fault::Word => LogError::BadLog { line, kind: 2 },
         Fault::Fields if is_first_two(place) => LogError::BadLog { line, kind: 1 },

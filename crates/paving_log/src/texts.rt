@@ -75,8 +75,6 @@ pub fn read_rows(alloc: Global, bytes: &[u8]) -> Result<Log, LogError>
     ensures exact { (log : LogValue) → IsRowsText log bytes.now → GivesLog log result }
     // A text with a fault is refused with its first, unless memory runs out.
     ensures first { (e : LogError) → FirstRowsFault bytes.now e → GivesFault e result }
-    // The rows have no place for a word that isn't built yet.
-    ensures built { IfErr result (λ e. (line : ℕ) → e ≢ error.NotBuilt line) }
     // Each block that isn't one of few satellites has a root and enough rows for a paving.
     ensures pavable { IfOk result (λ log. ArePavable (log_value log)) }
 {

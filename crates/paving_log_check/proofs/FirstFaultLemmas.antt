@@ -2,7 +2,7 @@
 use Rattle.std.proofs.Common.{◌≡◌, ℕ, ◌+◌, arith, true, List, [], ◌∷◌, length, inl, inr, refl, sym, ap, subst, ◌∙◌, Option, None, Some}
 use Rattle.std.specs.Prelude.{pos, slice_get}
 use Rattle.std.proofs.lemmas.Bool.{cases_order}
-use Rattle.rinex_obs.specs.declared.obs.ObsEpoch.{ObsEpoch}
+use Rattle.epoch_selection.specs.Searches.{Search}
 use Rattle.sat_model.specs.Boxes.{GridBox}
 use Rattle.sat_model.specs.Fold.{first_stage}
 use Rattle.sat_model.specs.Logs.{Block, LogValue, rows_of, lines_in}
@@ -16,7 +16,7 @@ use Rattle.sat_model.proofs.FaultLemmas.{one_first_fault}
 use Rattle.sat_model.proofs.VerdictLemmas.{block_not_both}
 use Rattle.sat_rows.specs.declared.lines.SatLine.{SatLine}
 use Rattle.sat_rows.specs.declared.lines.SatLine.TheVariants.{Usable, Skipped}
-use Rattle.paving_log_check.specs.Admissible.{DueFails, AdmitsFrom, BlockFault, FailsFrom, Admits, Fails}
+use Rattle.paving_log_check.specs.Admissible.{DueFails, AdmitsFrom, BlockFault, FailsFrom, Admits, FailsFirst}
 use Rattle.paving_log_check.specs.Answers.{ShowsNoSpans}
 use Rattle.paving_log_check.specs.Checked.{AreSameFault}
 use Rattle.paving_log_check.specs.Epochs.{EpochPasses, BodyFailsAt, BodyDiffers, EpochFails}
@@ -187,66 +187,66 @@ one_in_epoch rules root own block a b (inr (inr (inr f))) (inr (inr (inr g))) = 
 
 -- ---- the blocks
 
-one_due : {rules : Rules} {next : ℕ} {before : Option ℕ} {epochs : List ObsEpoch} {blocks : List Block} (a b : Fault)
-    → DueFails rules next before epochs blocks a → DueFails rules next before epochs blocks b → AreSameFault a b
+one_due : {rules : Rules} {next : ℕ} {before : Option ℕ} {searches : List Search} {blocks : List Block} (a b : Fault)
+    → DueFails rules next before searches blocks a → DueFails rules next before searches blocks b → AreSameFault a b
 one_due a b f g = same_plain a b (f.line ∙ sym g.line) (f.number ∙ sym g.number) f.no_spans g.no_spans
 
-block_fault_not : (rules : Rules) (root : GridBox) (behind : ℕ) (own : List SatLine) (rest : List ObsEpoch) (block : Block) (more : List Block) (fault : Fault)
-    → EpochPasses rules root own block → BlockFault rules root behind own rest block more fault → ⊥
-block_fault_not rules root behind own rest block more fault h (inl f) = epoch_not_both rules root own block fault h f.0
-block_fault_not rules root behind own rest block more fault h (inr (due, (other, fails, line))) = epoch_not_both rules root own block other h fails
+block_fault_not : (rules : Rules) (behind : ℕ) (own : List SatLine) (search : Search) (rest : List Search) (block : Block) (more : List Block) (fault : Fault)
+    → EpochPasses rules search.root own block → BlockFault rules behind own search rest block more fault → ⊥
+block_fault_not rules behind own search rest block more fault h (inl f) = epoch_not_both rules search.root own block fault h f.0
+block_fault_not rules behind own search rest block more fault h (inr (due, (other, fails, line))) = epoch_not_both rules search.root own block other h fails
 
-one_block_fault : (rules : Rules) (root : GridBox) (behind : ℕ) (own : List SatLine) (rest : List ObsEpoch) (block : Block) (more : List Block) (a b : Fault)
-    → BlockFault rules root behind own rest block more a → BlockFault rules root behind own rest block more b → AreSameFault a b
-one_block_fault rules root behind own rest block more a b (inl f) (inl g) = one_in_epoch rules root own block a b f.0 g.0
-one_block_fault rules root behind own rest block more a b (inl f) (inr (due, (other, fails, line))) =
-    absurd (due.fails (f.1 ((one_in_epoch rules root own block a other f.0 fails).line ∙ line)))
-one_block_fault rules root behind own rest block more a b (inr (due, (other, fails, line))) (inl g) =
-    absurd (due.fails (g.1 ((one_in_epoch rules root own block b other g.0 fails).line ∙ line)))
-one_block_fault rules root behind own rest block more a b (inr (due, f)) (inr (again, g)) = one_due a b due again
+one_block_fault : (rules : Rules) (behind : ℕ) (own : List SatLine) (search : Search) (rest : List Search) (block : Block) (more : List Block) (a b : Fault)
+    → BlockFault rules behind own search rest block more a → BlockFault rules behind own search rest block more b → AreSameFault a b
+one_block_fault rules behind own search rest block more a b (inl f) (inl g) = one_in_epoch rules search.root own block a b f.0 g.0
+one_block_fault rules behind own search rest block more a b (inl f) (inr (due, (other, fails, line))) =
+    absurd (due.fails (f.1 ((one_in_epoch rules search.root own block a other f.0 fails).line ∙ line)))
+one_block_fault rules behind own search rest block more a b (inr (due, (other, fails, line))) (inl g) =
+    absurd (due.fails (g.1 ((one_in_epoch rules search.root own block b other g.0 fails).line ∙ line)))
+one_block_fault rules behind own search rest block more a b (inr (due, f)) (inr (again, g)) = one_due a b due again
 
-pub from_not_both : (rules : Rules) (root : GridBox) (next : ℕ) (before : Option ℕ) (owns : List (List SatLine)) (epochs : List ObsEpoch) (blocks : List Block) (fault : Fault)
-    → AdmitsFrom rules root before owns epochs blocks → FailsFrom rules root next before owns epochs blocks fault → ⊥
-from_not_both rules root next before [] epochs blocks fault h f = f.fails h
-from_not_both rules root next before (own ∷ owns) [] blocks fault h f = h
-from_not_both rules root next before (own ∷ owns) (seen ∷ rest) [] fault h f = h
-from_not_both rules root next before (own ∷ owns) (seen ∷ rest) (block ∷ more) fault h (inl f) = f.fails h.0
-from_not_both rules root next before (own ∷ owns) (seen ∷ rest) (block ∷ more) fault h (inr (inl f)) =
-    block_fault_not rules root (next + lines_in block) own rest block more fault h.1 f.1
-from_not_both rules root next before (own ∷ owns) (seen ∷ rest) (block ∷ more) fault h (inr (inr f)) =
-    from_not_both rules root (next + lines_in block) (Some block.index) owns rest more fault h.2 f.2
+pub from_not_both : (rules : Rules) (next : ℕ) (before : Option ℕ) (owns : List (List SatLine)) (searches : List Search) (blocks : List Block) (fault : Fault)
+    → AdmitsFrom rules before owns searches blocks → FailsFrom rules next before owns searches blocks fault → ⊥
+from_not_both rules next before [] searches blocks fault h f = f.fails h
+from_not_both rules next before (own ∷ owns) [] blocks fault h f = h
+from_not_both rules next before (own ∷ owns) (search ∷ rest) [] fault h f = h
+from_not_both rules next before (own ∷ owns) (search ∷ rest) (block ∷ more) fault h (inl f) = f.fails h.0
+from_not_both rules next before (own ∷ owns) (search ∷ rest) (block ∷ more) fault h (inr (inl f)) =
+    block_fault_not rules (next + lines_in block) own search rest block more fault h.1 f.1
+from_not_both rules next before (own ∷ owns) (search ∷ rest) (block ∷ more) fault h (inr (inr f)) =
+    from_not_both rules (next + lines_in block) (Some block.index) owns rest more fault h.2 f.2
 
-one_from : (rules : Rules) (root : GridBox) (next : ℕ) (before : Option ℕ) (owns : List (List SatLine)) (epochs : List ObsEpoch) (blocks : List Block) (a b : Fault)
-    → FailsFrom rules root next before owns epochs blocks a → FailsFrom rules root next before owns epochs blocks b → AreSameFault a b
-one_from rules root next before [] epochs blocks a b f g = one_due a b f g
-one_from rules root next before (own ∷ owns) [] blocks a b f g = one_due a b f g
-one_from rules root next before (own ∷ owns) (seen ∷ rest) [] a b f g = one_due a b f g
-one_from rules root next before (own ∷ owns) (seen ∷ rest) (block ∷ more) a b (inl f) (inl g) = one_due a b f g
-one_from rules root next before (own ∷ owns) (seen ∷ rest) (block ∷ more) a b (inl f) (inr (inl g)) = absurd (f.fails g.0)
-one_from rules root next before (own ∷ owns) (seen ∷ rest) (block ∷ more) a b (inl f) (inr (inr g)) = absurd (f.fails g.0)
-one_from rules root next before (own ∷ owns) (seen ∷ rest) (block ∷ more) a b (inr (inl f)) (inl g) = absurd (g.fails f.0)
-one_from rules root next before (own ∷ owns) (seen ∷ rest) (block ∷ more) a b (inr (inl f)) (inr (inl g)) =
-    one_block_fault rules root (next + lines_in block) own rest block more a b f.1 g.1
-one_from rules root next before (own ∷ owns) (seen ∷ rest) (block ∷ more) a b (inr (inl f)) (inr (inr g)) =
-    absurd (block_fault_not rules root (next + lines_in block) own rest block more a g.1 f.1)
-one_from rules root next before (own ∷ owns) (seen ∷ rest) (block ∷ more) a b (inr (inr f)) (inl g) = absurd (g.fails f.0)
-one_from rules root next before (own ∷ owns) (seen ∷ rest) (block ∷ more) a b (inr (inr f)) (inr (inl g)) =
-    absurd (block_fault_not rules root (next + lines_in block) own rest block more b f.1 g.1)
-one_from rules root next before (own ∷ owns) (seen ∷ rest) (block ∷ more) a b (inr (inr f)) (inr (inr g)) =
-    one_from rules root (next + lines_in block) (Some block.index) owns rest more a b f.2 g.2
+one_from : (rules : Rules) (next : ℕ) (before : Option ℕ) (owns : List (List SatLine)) (searches : List Search) (blocks : List Block) (a b : Fault)
+    → FailsFrom rules next before owns searches blocks a → FailsFrom rules next before owns searches blocks b → AreSameFault a b
+one_from rules next before [] searches blocks a b f g = one_due a b f g
+one_from rules next before (own ∷ owns) [] blocks a b f g = one_due a b f g
+one_from rules next before (own ∷ owns) (search ∷ rest) [] a b f g = one_due a b f g
+one_from rules next before (own ∷ owns) (search ∷ rest) (block ∷ more) a b (inl f) (inl g) = one_due a b f g
+one_from rules next before (own ∷ owns) (search ∷ rest) (block ∷ more) a b (inl f) (inr (inl g)) = absurd (f.fails g.0)
+one_from rules next before (own ∷ owns) (search ∷ rest) (block ∷ more) a b (inl f) (inr (inr g)) = absurd (f.fails g.0)
+one_from rules next before (own ∷ owns) (search ∷ rest) (block ∷ more) a b (inr (inl f)) (inl g) = absurd (g.fails f.0)
+one_from rules next before (own ∷ owns) (search ∷ rest) (block ∷ more) a b (inr (inl f)) (inr (inl g)) =
+    one_block_fault rules (next + lines_in block) own search rest block more a b f.1 g.1
+one_from rules next before (own ∷ owns) (search ∷ rest) (block ∷ more) a b (inr (inl f)) (inr (inr g)) =
+    absurd (block_fault_not rules (next + lines_in block) own search rest block more a g.1 f.1)
+one_from rules next before (own ∷ owns) (search ∷ rest) (block ∷ more) a b (inr (inr f)) (inl g) = absurd (g.fails f.0)
+one_from rules next before (own ∷ owns) (search ∷ rest) (block ∷ more) a b (inr (inr f)) (inr (inl g)) =
+    absurd (block_fault_not rules (next + lines_in block) own search rest block more b f.1 g.1)
+one_from rules next before (own ∷ owns) (search ∷ rest) (block ∷ more) a b (inr (inr f)) (inr (inr g)) =
+    one_from rules (next + lines_in block) (Some block.index) owns rest more a b f.2 g.2
 
 -- ---- the log
 
 -- a log that is admitted by own lines has no fault for them
-pub not_both : (epochs : List ObsEpoch) (owns : List (List SatLine)) (rules : Rules) (root : GridBox) (log : LogValue) (fault : Fault)
-    → Fails epochs owns rules root log fault → Admits epochs owns rules root log → ⊥
-not_both epochs owns rules root log fault (inl f) h = f.differ h.same_rules
-not_both epochs owns rules root log fault (inr f) h = from_not_both rules root 3 None owns epochs log.blocks fault h.blocks f.1
+pub not_both : (searches : List Search) (owns : List (List SatLine)) (rules : Rules) (log : LogValue) (fault : Fault)
+    → FailsFirst searches owns rules log fault → Admits searches owns rules log → ⊥
+not_both searches owns rules log fault (inl f) h = f.differ h.same_rules
+not_both searches owns rules log fault (inr f) h = from_not_both rules 3 None owns searches log.blocks fault h.blocks f.1
 
 -- a first fault is the only one
-pub one_fault : (epochs : List ObsEpoch) (owns : List (List SatLine)) (rules : Rules) (root : GridBox) (log : LogValue) (a b : Fault)
-    → Fails epochs owns rules root log a → Fails epochs owns rules root log b → AreSameFault a b
-one_fault epochs owns rules root log a b (inl f) (inl g) = same_plain a b (f.line ∙ sym g.line) (f.number ∙ sym g.number) f.no_spans g.no_spans
-one_fault epochs owns rules root log a b (inl f) (inr g) = absurd (f.differ g.0)
-one_fault epochs owns rules root log a b (inr f) (inl g) = absurd (g.differ f.0)
-one_fault epochs owns rules root log a b (inr f) (inr g) = one_from rules root 3 None owns epochs log.blocks a b f.1 g.1
+pub one_fault : (searches : List Search) (owns : List (List SatLine)) (rules : Rules) (log : LogValue) (a b : Fault)
+    → FailsFirst searches owns rules log a → FailsFirst searches owns rules log b → AreSameFault a b
+one_fault searches owns rules log a b (inl f) (inl g) = same_plain a b (f.line ∙ sym g.line) (f.number ∙ sym g.number) f.no_spans g.no_spans
+one_fault searches owns rules log a b (inl f) (inr g) = absurd (f.differ g.0)
+one_fault searches owns rules log a b (inr f) (inl g) = absurd (g.differ f.0)
+one_fault searches owns rules log a b (inr f) (inr g) = one_from rules 3 None owns searches log.blocks a b f.1 g.1

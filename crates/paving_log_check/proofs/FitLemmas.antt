@@ -4,7 +4,7 @@ use Rattle.std.specs.Prelude.{ℤ, pos, ◌-ℤ◌, ◌≤ℤ◌, slice_get, is_
 use Rattle.std.specs.List.{AllByRecursion}
 use Rattle.std.proofs.lemmas.Int.{ints}
 use Rattle.std.proofs.lemmas.List.Sums.{sum_by-cons}
-use Rattle.rinex_obs.specs.declared.obs.ObsEpoch.{ObsEpoch}
+use Rattle.epoch_selection.specs.Searches.{Search}
 use Rattle.rinex_obs.specs.declared.obs.SatObs.{SatObs}
 use Rattle.sat_model.specs.Boxes.{GridBox, box_holds}
 use Rattle.sat_model.specs.declared.boxes.Box3.{Box3}
@@ -17,17 +17,16 @@ use Rattle.sat_model.specs.Relaxed.{ends}
 use Rattle.sat_model.specs.declared.boxes.Pos.{Pos}
 use Rattle.sat_model.specs.declared.rules.Rules.{Rules}
 use Rattle.sat_model.specs.declared.satellites.Row.{Row}
-use Rattle.sat_model.specs.declared.satellites.Sat.{Sat}
 use Rattle.sat_model.specs.declared.satellites.SatEntry.{SatEntry}
 use Rattle.sat_model.specs.declared.satellites.SatEntry.TheVariants as entry
-use Rattle.sat_model.specs.declared.satellites.Skip.{Skip}
 use Rattle.sat_model.specs.declared.spans.Span.{Span}
 use Rattle.sat_model.specs.declared.steps.Step.{Step}
 use Rattle.sat_model.specs.declared.steps.Step.TheVariants.{Cut, Split, Outside, Inside, Edge}
 use Rattle.sat_model.proofs.CoverLemmas.{epoch_cover}
 use Rattle.sat_rows.specs.Chains.{Chain}
-use Rattle.sat_rows.specs.Fitting.{IsConsistent, Agrees, Fits}
-use Rattle.sat_rows.specs.OwnRows.{HoldsChain, IsOwnRow, AreOwnLines}
+use Rattle.sat_rows.specs.Fitting.{IsConsistent, Agrees, Fits, FitsEpoch}
+use Rattle.sat_rows.specs.Meanings.{Meaning, IsSound}
+use Rattle.sat_rows.specs.OwnRows.{HoldsChain, IsOwnRow, AreOwnLines, AreLinesOf}
 use Rattle.sat_rows.specs.declared.lines.SatLine.{SatLine}
 use Rattle.sat_rows.specs.declared.lines.SatLine.TheVariants.{Usable, Skipped}
 use Rattle.live_boxes.specs.Stages.{box_option}
@@ -121,40 +120,37 @@ one_more (suc q) Meets (row ∷ rows) h = elim h [
   | inr later ↦ inr (one_more q Meets rows later)
 ]
 
-module _ (IsJudged : SatObs → Option Skip → Type 0) (Allows : SatObs → Pos → Chain → Type 0) (declared : Sat → ℤ × ℤ) (root : GridBox)
-    (one : (seen : SatObs) (a b : Option Skip) → IsJudged seen a → IsJudged seen b → a ≡ b)
-    (exists : (seen : SatObs) (p : Pos) → IsJudged seen None → (c : Chain) × Allows seen p c)
-    (range_is : (seen : SatObs) (p : Pos) (c : Chain) → Allows seen p c → c.range ≡ range_to c.x c.y c.z p) where
-  possible : (row ours : Row) (seen : SatObs) (p : Pos) (b : ℤ) → HoldsOwn row ours → HasBound row ours → IsOwnRow (Allows seen) (declared seen.sat) root ours
-      → box_holds root p ≡ true → IsConsistent (Allows seen) (declared seen.sat) p b → IsPossible p b row
+module _ (m : Meaning) (sound : IsSound m) (root : GridBox) (tag : ℤ) where
+  possible : (row ours : Row) (seen : SatObs) (p : Pos) (b : ℤ) → HoldsOwn row ours → HasBound row ours → IsOwnRow m root tag seen ours
+      → box_holds root p ≡ true → IsConsistent m tag p b seen → IsPossible p b row
   unfolding value_of
   possible row ours seen p b holds bound own inside k = record {
     value = value_of row ours k.values holds (own.holds p k.values inside k.are);
-    allowed = allowed row (declared seen.sat) k.values.corrected b k.values.range (range_to k.values.x k.values.y k.values.z p) (bound ∙ own.err)
-        (range_is seen p k.values k.are) k.within;
+    allowed = allowed row (m.declared seen.sat) k.values.corrected b k.values.range (range_to k.values.x k.values.y k.values.z p) (bound ∙ own.err)
+        (sound.range_is tag seen p k.values k.are) k.within;
   }
 
-  consistent : (row ours : Row) (seen : SatObs) (p : Pos) (b : ℤ) → HoldsOwn row ours → HasBound row ours → IsOwnRow (Allows seen) (declared seen.sat) root ours
-      → box_holds root p ≡ true → IsJudged seen None → IsSure p b row → IsConsistent (Allows seen) (declared seen.sat) p b
+  consistent : (row ours : Row) (seen : SatObs) (p : Pos) (b : ℤ) → HoldsOwn row ours → HasBound row ours → IsOwnRow m root tag seen ours
+      → box_holds root p ≡ true → m.judged tag seen None → IsSure p b row → IsConsistent m tag p b seen
   unfolding value_of
   consistent row ours seen p b holds bound own inside usable sure =
-      let (c, are) = exists seen p usable in
+      let (c, are) = sound.allowed_exists tag seen p usable in
       let v = value_of row ours c holds (own.holds p c inside are) in
       record {
         values = c;
         are = are;
-        within = declared_from row (declared seen.sat) c.corrected b c.range (range_to c.x c.y c.z p) (bound ∙ own.err) (range_is seen p c are) (sure v);
+        within = declared_from row (m.declared seen.sat) c.corrected b c.range (range_to c.x c.y c.z p) (bound ∙ own.err) (sound.range_is tag seen p c are) (sure v);
       }
 
-  agrees_possible : (row ours : Row) (seen : SatObs) (p : Pos) (b : ℤ) → HoldsOwn row ours → HasBound row ours → IsOwnRow (Allows seen) (declared seen.sat) root ours
-      → box_holds root p ≡ true → IsJudged seen None → Agrees IsJudged Allows declared p b seen → IsPossible p b row
+  agrees_possible : (row ours : Row) (seen : SatObs) (p : Pos) (b : ℤ) → HoldsOwn row ours → HasBound row ours → IsOwnRow m root tag seen ours
+      → box_holds root p ≡ true → m.judged tag seen None → Agrees m tag p b seen → IsPossible p b row
   agrees_possible row ours seen p b holds bound own inside usable a = elim a [
-    | inl skipped ↦ absurd (let e = one seen None (Some skipped.0) usable skipped.1 in cc)
+    | inl skipped ↦ absurd (let e = sound.one_judgement tag seen None (Some skipped.0) usable skipped.1 in cc)
     | inr k ↦ possible row ours seen p b holds bound own inside k
   ]
 
   possible_all : (q : ℕ) (p : Pos) (b : ℤ) (sats : List SatEntry) (lines : List SatLine) (seens : List SatObs) → AllFair sats lines
-      → AreOwnLines IsJudged Allows declared root seens lines → box_holds root p ≡ true → Fits IsJudged Allows declared q p b seens → AllBut q (IsPossible p b) (rows_of sats)
+      → AreOwnLines m root tag seens lines → box_holds root p ≡ true → Fits m tag q p b seens → AllBut q (IsPossible p b) (rows_of sats)
   possible_all q p b [] lines seens fair own inside h = tt
   possible_all q p b (theirs ∷ sats) [] seens fair own inside h = absurd fair
   possible_all q p b (theirs ∷ sats) (ours ∷ lines) [] fair own inside h = absurd own
@@ -174,7 +170,7 @@ module _ (IsJudged : SatObs → Option Skip → Type 0) (Allows : SatObs → Pos
   ]
 
   fits_all : (q : ℕ) (p : Pos) (b : ℤ) (sats : List SatEntry) (lines : List SatLine) (seens : List SatObs) → AllFair sats lines
-      → AreOwnLines IsJudged Allows declared root seens lines → box_holds root p ≡ true → AllBut q (IsSure p b) (rows_of sats) → Fits IsJudged Allows declared q p b seens
+      → AreOwnLines m root tag seens lines → box_holds root p ≡ true → AllBut q (IsSure p b) (rows_of sats) → Fits m tag q p b seens
   fits_all q p b [] [] [] fair own inside h = tt
   fits_all q p b [] [] (seen ∷ seens) fair own inside h = absurd own
   fits_all q p b [] (ours ∷ lines) seens fair own inside h = absurd fair
@@ -196,8 +192,8 @@ module _ (IsJudged : SatObs → Option Skip → Type 0) (Allows : SatObs → Pos
   -- ---- an epoch
 
   fit_step : (q : ℕ) (sats : List SatEntry) (lines : List SatLine) (seens : List SatObs) (step : Step) (part : GridBox) → AllFair sats lines
-      → AreOwnLines IsJudged Allows declared root seens lines → ((p : Pos) → box_holds part p ≡ true → box_holds root p ≡ true)
-      → IsSureInside (rows_of sats) q step part → FitsInside (λ p b. Fits IsJudged Allows declared q p b seens) step part
+      → AreOwnLines m root tag seens lines → ((p : Pos) → box_holds part p ≡ true → box_holds root p ≡ true)
+      → IsSureInside (rows_of sats) q step part → FitsInside (λ p b. Fits m tag q p b seens) step part
   fit_step q sats lines seens (Cut id face bound) part fair own inside h = tt
   fit_step q sats lines seens (Split id axis) part fair own inside h = tt
   fit_step q sats lines seens (Outside id) part fair own inside h = tt
@@ -206,8 +202,8 @@ module _ (IsJudged : SatObs → Option Skip → Type 0) (Allows : SatObs → Pos
   fit_step q sats lines seens (Edge id lo hi) part fair own inside h = tt
 
   fit_steps : (q : ℕ) (sats : List SatEntry) (lines : List SatLine) (seens : List SatObs) (parts : List ShownStep) → AllFair sats lines
-      → AreOwnLines IsJudged Allows declared root seens lines → ((p : Pos) → 0 < count_by (λ piece. box_holds piece.part p) parts → box_holds root p ≡ true)
-      → AreSureInside (rows_of sats) q parts → AllFitInside (λ p b. Fits IsJudged Allows declared q p b seens) parts
+      → AreOwnLines m root tag seens lines → ((p : Pos) → 0 < count_by (λ piece. box_holds piece.part p) parts → box_holds root p ≡ true)
+      → AreSureInside (rows_of sats) q parts → AllFitInside (λ p b. Fits m tag q p b seens) parts
   fit_steps q sats lines seens [] fair own inside h = tt
   fit_steps q sats lines seens (piece ∷ more) fair own inside h = (
     fit_step q sats lines seens piece.step piece.part fair own
@@ -229,7 +225,7 @@ module _ (IsJudged : SatObs → Option Skip → Type 0) (Allows : SatObs → Pos
   held_in_root n false e some = absurd (omega arith)
 
   fit_cover : (q : ℕ) (sats : List SatEntry) (lines : List SatLine) (seens : List SatObs) (parts : List ShownStep) → AllFair sats lines
-      → AreOwnLines IsJudged Allows declared root seens lines → EpochCover (rows_of sats) q root parts → FitCover (λ p b. Fits IsJudged Allows declared q p b seens) root parts
+      → AreOwnLines m root tag seens lines → EpochCover (rows_of sats) q root parts → FitCover (λ p b. Fits m tag q p b seens) root parts
   fit_cover q sats lines seens parts fair own cover = record {
     partition = cover.partition;
     covers = λ p b inside fits. cover.covers p b inside (possible_all q p b sats lines seens fair own inside fits);
@@ -238,7 +234,7 @@ module _ (IsJudged : SatObs → Option Skip → Type 0) (Allows : SatObs → Pos
 
   block_cover : (rules : Rules) (block : Block) (theirs : Option GridBox) (lines : List SatLine) (seens : List SatObs) → block.few ≡ is_none theirs
       → SatsPass block.sats (expected block.few lines) → length (expected block.few lines) ≤ length block.sats → BodyPassesAt rules root block theirs
-      → AreOwnLines IsJudged Allows declared root seens lines → FitBlockCover (λ p b. Fits IsJudged Allows declared rules.outliers p b seens) root block theirs
+      → AreOwnLines m root tag seens lines → FitBlockCover (λ p b. Fits m tag rules.outliers p b seens) root block theirs
   block_cover rules block None lines seens few sats whole body own = tt
   block_cover rules block (Some theirs) lines seens few sats whole body own =
       let fair = all_fair block.sats lines (rw few at whole) (fair_at block.sats lines (rw few at sats)) in
@@ -252,36 +248,33 @@ none_of : (root : Option Box3) → is_none (box_option root) ≡ is_none root
 none_of None = refl
 none_of (Some root) = refl
 
--- a log that is admitted by own lines of each epoch covers what fits
-module _ (IsJudged : ℤ → SatObs → Option Skip → Type 0) (Allows : ℤ → SatObs → Pos → Chain → Type 0) (declared : Sat → ℤ × ℤ) (root : GridBox)
-    (one : (tag : ℤ) (seen : SatObs) (a b : Option Skip) → IsJudged tag seen a → IsJudged tag seen b → a ≡ b)
-    (exists : (tag : ℤ) (seen : SatObs) (p : Pos) → IsJudged tag seen None → (c : Chain) × Allows tag seen p c)
-    (range_is : (tag : ℤ) (seen : SatObs) (p : Pos) (c : Chain) → Allows tag seen p c → c.range ≡ range_to c.x c.y c.z p) where
-  pub fit_all : (rules : Rules) (before : Option ℕ) (owns : List (List SatLine)) (seens : List ObsEpoch) (blocks : List Block) → AllByRecursion HasFewRoot blocks
-      → AdmitsFrom rules root before owns seens blocks → AreOwn IsJudged Allows declared root seens owns → length owns ≡ length seens
-      → BlocksFitCover IsJudged Allows declared rules.outliers root seens blocks
+-- a log that is admitted by own lines of each search covers what fits
+module _ (m : Meaning) (sound : IsSound m) where
+  search_cover : (rules : Rules) (search : Search) (block : Block) (theirs : Option GridBox) (lines : List SatLine) → block.few ≡ is_none theirs
+      → SatsPass block.sats (expected block.few lines) → length (expected block.few lines) ≤ length block.sats → BodyPassesAt rules search.root block theirs
+      → AreLinesOf m search.root search.epoch lines → FitBlockCover (FitsEpoch m rules.outliers search.epoch) search.root block theirs
+  search_cover rules search block theirs lines few sats whole body are =
+      block_cover m sound search.root search.epoch.tag rules block theirs lines search.epoch.sats.items few sats whole body are
+
+  pub fit_all : (rules : Rules) (before : Option ℕ) (owns : List (List SatLine)) (searches : List Search) (blocks : List Block) → AllByRecursion HasFewRoot blocks
+      → AdmitsFrom rules before owns searches blocks → AreOwn m searches owns → length owns ≡ length searches
+      → BlocksFitCover m rules.outliers searches blocks
   fit_all rules before [] [] [] few admits are each = tt
   fit_all rules before [] [] (block ∷ blocks) few admits are each = absurd admits
-  fit_all rules before [] (seen ∷ seens) blocks few admits are each = absurd (omega (arith, each))
+  fit_all rules before [] (search ∷ rest) blocks few admits are each = absurd (omega (arith, each))
   fit_all rules before (own ∷ owns) [] blocks few admits are each = absurd are
-  fit_all rules before (own ∷ owns) (seen ∷ seens) [] few admits are each = absurd admits
-  fit_all rules before (own ∷ owns) (seen ∷ seens) (block ∷ blocks) few admits are each = (
-    block_cover (IsJudged seen.tag) (Allows seen.tag) declared root (one seen.tag) (exists seen.tag) (range_is seen.tag)
-        rules block block.root own seen.sats.items few.0 admits.1.sats admits.1.whole admits.1.body are.0,
-    fit_all rules (Some block.index) owns seens blocks few.1 admits.2 are.1 (omega (arith, each)),
+  fit_all rules before (own ∷ owns) (search ∷ rest) [] few admits are each = absurd admits
+  fit_all rules before (own ∷ owns) (search ∷ rest) (block ∷ blocks) few admits are each = (
+    search_cover rules search block block.root own few.0 admits.1.sats admits.1.whole admits.1.body are.0,
+    fit_all rules (Some block.index) owns rest blocks few.1 admits.2 are.1 (omega (arith, each)),
   )
 
-  pub blocks_fit : (rules : Rules) (before : Option ℕ) (owns : List (List SatLine)) (seens : List ObsEpoch) (epochs : List LogEpoch)
-      → AdmitsFrom rules root before owns seens (map block_of epochs) → AreOwn IsJudged Allows declared root seens owns → length owns ≡ length seens
-      → BlocksFitCover IsJudged Allows declared rules.outliers root seens (map block_of epochs)
-  blocks_fit rules before [] [] [] admits are each = tt
-  blocks_fit rules before [] [] (epoch ∷ epochs) admits are each = absurd admits
-  blocks_fit rules before [] (seen ∷ seens) epochs admits are each = absurd (omega (arith, each))
-  blocks_fit rules before (own ∷ owns) [] epochs admits are each = absurd are
-  blocks_fit rules before (own ∷ owns) (seen ∷ seens) [] admits are each = absurd admits
-  blocks_fit rules before (own ∷ owns) (seen ∷ seens) (epoch ∷ epochs) admits are each = (
-    block_cover (IsJudged seen.tag) (Allows seen.tag) declared root (one seen.tag) (exists seen.tag) (range_is seen.tag)
-        rules (block_of epoch) (box_option epoch.root) own seen.sats.items (sym epoch.paved ∙ sym (none_of epoch.root))
-        admits.1.sats admits.1.whole admits.1.body are.0,
-    blocks_fit rules (Some epoch.index) owns seens epochs admits.2 are.1 (omega (arith, each)),
-  )
+  all_few : (epochs : List LogEpoch) → AllByRecursion HasFewRoot (map block_of epochs)
+  all_few [] = tt
+  all_few (epoch ∷ epochs) = (sym epoch.paved ∙ sym (none_of epoch.root), all_few epochs)
+
+  pub blocks_fit : (rules : Rules) (before : Option ℕ) (owns : List (List SatLine)) (searches : List Search) (epochs : List LogEpoch)
+      → AdmitsFrom rules before owns searches (map block_of epochs) → AreOwn m searches owns → length owns ≡ length searches
+      → BlocksFitCover m rules.outliers searches (map block_of epochs)
+  blocks_fit rules before owns searches epochs admits are each =
+      fit_all rules before owns searches (map block_of epochs) (all_few epochs) admits are each

@@ -2,26 +2,24 @@
 use Rattle.std.proofs.Common.{◌≡◌, ℕ, zero, suc, ◌+◌, arith, Bool, true, false, List, [], ◌∷◌, inl, inr, refl, sym, ap, Option, None, Some, Result, Ok, Err, ◌∙◌}
 use Rattle.std.specs.Prelude.{ℤ, Contains, slice_get, IfOk, MatchOption}
 use Rattle.std.proofs.lemmas.Int.{ints}
-use Rattle.rinex_obs.specs.declared.obs.ObsEpoch.{ObsEpoch}
+use Rattle.epoch_selection.specs.Searches.{Search}
 use Rattle.rinex_obs.specs.declared.obs.SatObs.{SatObs}
 use Rattle.sat_model.specs.Boxes.{GridBox}
 use Rattle.sat_model.specs.Fold.{Stage, first_stage, after}
 use Rattle.sat_model.specs.Intervals.{Between}
 use Rattle.sat_model.specs.Logs.{Block, lines_in}
 use Rattle.sat_model.specs.Verdicts.{StepFails, StepsFail}
-use Rattle.sat_model.specs.declared.boxes.Pos.{Pos}
 use Rattle.sat_model.specs.declared.memory.NoMemory.{NoMemory}
 use Rattle.sat_model.specs.declared.rules.Rules.{Rules}
 use Rattle.sat_model.specs.declared.satellites.Row.{Row}
-use Rattle.sat_model.specs.declared.satellites.Sat.{Sat}
 use Rattle.sat_model.specs.declared.satellites.SatEntry.{SatEntry}
 use Rattle.sat_model.specs.declared.satellites.SatEntry.TheVariants as entry
-use Rattle.sat_model.specs.declared.satellites.Skip.{Skip}
 use Rattle.sat_model.specs.declared.spans.Span.{Span}
 use Rattle.sat_model.specs.declared.steps.Step.{Step}
 use Rattle.sat_model.specs.declared.steps.Step.TheVariants.{Cut, Split, Outside, Inside, Edge}
 use Rattle.sat_rows.specs.Chains.{Chain}
-use Rattle.sat_rows.specs.OwnRows.{HoldsChain, IsTight, IsOwnRow, AreOwnLines}
+use Rattle.sat_rows.specs.Meanings.{Meaning}
+use Rattle.sat_rows.specs.OwnRows.{HoldsChain, IsTight, IsOwnRow, AreOwnLines, AreLinesOf}
 use Rattle.sat_rows.specs.declared.lines.SatLine.{SatLine}
 use Rattle.sat_rows.specs.declared.lines.SatLine.TheVariants.{Usable, Skipped}
 use Rattle.paving_log_check.specs.Admissible.{FailsFrom, AreOwn}
@@ -69,30 +67,30 @@ record IsTightRound (root : GridBox) (ours : Span) (n : ℤ) : Type 0 where
 tight_round : (root : GridBox) (a b : Span) (m n : ℤ) → IsTight root a → Between a.lo a.hi m → a ≡ b → m ≡ n → IsTightRound root b n
 tight_round root a b m n tight held e f = rw (sym e, sym f) (record { tight = tight; held = held })
 
-held_at : (Allows : Pos → Chain → Type 0) (declared : ℤ × ℤ) (root : GridBox) (row ours : Row) (theirs own : Span) (c : Chain) (n : ℤ) (place : ℕ)
-    → IsOwnRow Allows declared root ours → HoldsChain ours c → slice_get (compared row ours) place ≡ Some (theirs, own) → slice_get (values c) place ≡ Some n
-    → IsTightRound root own n
-held_at Allows declared root row ours theirs own c n zero is holds shown value =
-    tight_round root ours.x own c.x n is.x holds.x (same_ours row.x ours.x theirs own shown) (same_value c.x n value)
-held_at Allows declared root row ours theirs own c n (suc zero) is holds shown value =
-    tight_round root ours.y own c.y n is.y holds.y (same_ours row.y ours.y theirs own shown) (same_value c.y n value)
-held_at Allows declared root row ours theirs own c n (suc (suc zero)) is holds shown value =
-    tight_round root ours.z own c.z n is.z holds.z (same_ours row.z ours.z theirs own shown) (same_value c.z n value)
-held_at Allows declared root row ours theirs own c n (suc (suc (suc zero))) is holds shown value =
-    tight_round root ours.range own c.corrected n is.range holds.corrected (same_ours row.range ours.range theirs own shown) (same_value c.corrected n value)
-held_at Allows declared root row ours theirs own c n (suc (suc (suc (suc place)))) is holds shown value = absurd cc
+module _ (m : Meaning) (root : GridBox) (tag : ℤ) (sat : SatObs) where
+  held_at : (row ours : Row) (theirs own : Span) (c : Chain) (n : ℤ) (place : ℕ) → IsOwnRow m root tag sat ours → HoldsChain ours c
+      → slice_get (compared row ours) place ≡ Some (theirs, own) → slice_get (values c) place ≡ Some n → IsTightRound root own n
+  held_at row ours theirs own c n zero is holds shown value =
+      tight_round root ours.x own c.x n is.x holds.x (same_ours row.x ours.x theirs own shown) (same_value c.x n value)
+  held_at row ours theirs own c n (suc zero) is holds shown value =
+      tight_round root ours.y own c.y n is.y holds.y (same_ours row.y ours.y theirs own shown) (same_value c.y n value)
+  held_at row ours theirs own c n (suc (suc zero)) is holds shown value =
+      tight_round root ours.z own c.z n is.z holds.z (same_ours row.z ours.z theirs own shown) (same_value c.z n value)
+  held_at row ours theirs own c n (suc (suc (suc zero))) is holds shown value =
+      tight_round root ours.range own c.corrected n is.range holds.corrected (same_ours row.range ours.range theirs own shown) (same_value c.corrected n value)
+  held_at row ours theirs own c n (suc (suc (suc (suc place)))) is holds shown value = absurd cc
 
-too_narrow : (Allows : Pos → Chain → Type 0) (declared : ℤ × ℤ) (root : GridBox) (row ours : Row) (fault : Fault) → IsOwnRow Allows declared root ours
-    → IsFirstNarrow (compared row ours) fault.theirs fault.ours → IsTooNarrow Allows root row ours fault
-too_narrow Allows declared root row ours fault is first =
+too_narrow : (m : Meaning) (search : Search) (sat : SatObs) (row ours : Row) (fault : Fault) → IsOwnRow m search.root search.epoch.tag sat ours
+    → IsFirstNarrow (compared row ours) fault.theirs fault.ours → IsTooNarrow m search sat row ours fault
+too_narrow m search sat row ours fault is first =
     let at = narrow_at (compared row ours) fault.theirs fault.ours first in
     record {
       place = at.place;
       shown = at.shown;
       narrow = at.narrow;
       around = λ p c n inside allowed value around.
-          let round = held_at Allows declared root row ours fault.theirs fault.ours c n at.place is (is.holds p c inside allowed) at.shown value in
-          at.narrow (around_holds root fault.theirs fault.ours n round.tight round.held around);
+          let round = held_at m search.root search.epoch.tag sat row ours fault.theirs fault.ours c n at.place is (is.holds p c inside allowed) at.shown value in
+          at.narrow (around_holds search.root fault.theirs fault.ours n round.tight round.held around);
     }
 
 -- ---- the number of another fault
@@ -144,33 +142,33 @@ usable_at : (few : Bool) (own : List SatLine) (k : ℕ) (row : Row) → slice_ge
 usable_at true own k row e = absurd (none_usable own k row e)
 usable_at false own k row e = e
 
-module _ (IsJudged : ℤ → SatObs → Option Skip → Type 0) (Allows : ℤ → SatObs → Pos → Chain → Type 0) (declared : Sat → ℤ × ℤ) (root : GridBox) where
-  record HasOwn (tag : ℤ) (sats : List SatObs) (ours : Row) : Type 0 where
+module _ (m : Meaning) where
+  record HasOwn (root : GridBox) (tag : ℤ) (sats : List SatObs) (ours : Row) : Type 0 where
     pub sat : SatObs
     pub is_seen : Contains sats sat
     pub same_sat : ours.sat ≡ sat.sat
-    pub usable : IsJudged tag sat None
-    pub is_own : IsOwnRow (Allows tag sat) (declared sat.sat) root ours
+    pub usable : m.judged tag sat None
+    pub is_own : IsOwnRow m root tag sat ours
 
-  own_at : (tag : ℤ) (sats : List SatObs) (own : List SatLine) (k : ℕ) (ours : Row) → AreOwnLines (IsJudged tag) (Allows tag) declared root sats own
-      → slice_get own k ≡ Some (Usable ours) → HasOwn tag sats ours
-  own_at tag [] [] k ours h e = absurd cc
-  own_at tag [] (line ∷ own) k ours h e = absurd h
-  own_at tag (sat ∷ sats) [] k ours h e = absurd h
-  own_at tag (sat ∷ sats) (Usable row ∷ own) zero ours h e =
+  own_at : (root : GridBox) (tag : ℤ) (sats : List SatObs) (own : List SatLine) (k : ℕ) (ours : Row) → AreOwnLines m root tag sats own
+      → slice_get own k ≡ Some (Usable ours) → HasOwn root tag sats ours
+  own_at root tag [] [] k ours h e = absurd cc
+  own_at root tag [] (line ∷ own) k ours h e = absurd h
+  own_at root tag (sat ∷ sats) [] k ours h e = absurd h
+  own_at root tag (sat ∷ sats) (Usable row ∷ own) zero ours h e =
       let same : row ≡ ours = cc in
       rw (sym same) (record { sat = sat; is_seen = in_front sat sats; same_sat = h.0.0; usable = h.0.1; is_own = h.0.2 })
-  own_at tag (sat ∷ sats) (Skipped other skip ∷ own) zero ours h e = absurd cc
-  own_at tag (sat ∷ sats) (line ∷ own) (suc k) ours h e =
-      let later = own_at tag sats own k ours h.1 e in
+  own_at root tag (sat ∷ sats) (Skipped other skip ∷ own) zero ours h e = absurd cc
+  own_at root tag (sat ∷ sats) (line ∷ own) (suc k) ours h e =
+      let later = own_at root tag sats own k ours h.1 e in
       record { sat = later.sat; is_seen = behind sat later.sat sats later.is_seen; same_sat = later.same_sat; usable = later.usable; is_own = later.is_own }
 
-  narrow_row : (seen : ObsEpoch) (own : List SatLine) (block : Block) (k : ℕ) (theirs : SatEntry) (line : SatLine) (fault : Fault)
-      → AreOwnLines (IsJudged seen.tag) (Allows seen.tag) declared root seen.sats.items own
+  narrow_row : (search : Search) (own : List SatLine) (block : Block) (k : ℕ) (theirs : SatEntry) (line : SatLine) (fault : Fault)
+      → AreLinesOf m search.root search.epoch own
       → slice_get block.sats k ≡ Some theirs → slice_get (expected block.few own) k ≡ Some line → IsSameLine theirs line → RowFails theirs line fault
-      → fault.number ≡ 53 → HasNarrowRow IsJudged Allows declared root seen block fault
-  narrow_row seen own block k (entry.Row row) (Usable ours) fault are at other same (inl f) e =
-      let has = own_at seen.tag seen.sats.items own k ours are (usable_at block.few own k ours other) in
+      → fault.number ≡ 53 → HasNarrowRow m search block fault
+  narrow_row search own block k (entry.Row row) (Usable ours) fault are at other same (inl f) e =
+      let has = own_at search.root search.epoch.tag search.epoch.sats.items own k ours are (usable_at block.few own k ours other) in
       record {
         sat = has.sat;
         is_seen = has.is_seen;
@@ -180,71 +178,71 @@ module _ (IsJudged : ℤ → SatObs → Option Skip → Type 0) (Allows : ℤ �
         row = row;
         is_line = contained block.sats k (entry.Row row) at;
         same_sat = same ∙ has.same_sat;
-        too_narrow = too_narrow (Allows seen.tag has.sat) (declared has.sat.sat) root row ours fault has.is_own f.0;
+        too_narrow = too_narrow m search has.sat row ours fault has.is_own f.0;
       }
-  narrow_row seen own block k (entry.Row row) (Usable ours) fault are at other same (inr f) e = absurd (omega (arith, f.2))
-  narrow_row seen own block k (entry.Row row) (Skipped sat skip) fault are at other same f e = absurd f
-  narrow_row seen own block k (entry.Skipped sat skip) (Usable ours) fault are at other same f e = absurd f
-  narrow_row seen own block k (entry.Skipped sat skip) (Skipped name why) fault are at other same f e = absurd f
+  narrow_row search own block k (entry.Row row) (Usable ours) fault are at other same (inr f) e = absurd (omega (arith, f.2))
+  narrow_row search own block k (entry.Row row) (Skipped sat skip) fault are at other same f e = absurd f
+  narrow_row search own block k (entry.Skipped sat skip) (Usable ours) fault are at other same f e = absurd f
+  narrow_row search own block k (entry.Skipped sat skip) (Skipped name why) fault are at other same f e = absurd f
 
-  pub epoch_narrow : (rules : Rules) (seen : ObsEpoch) (own : List SatLine) (block : Block) (fault : Fault)
-      → AreOwnLines (IsJudged seen.tag) (Allows seen.tag) declared root seen.sats.items own → EpochFails rules root own block fault
-      → fault.number ≡ 53 → HasNarrowRow IsJudged Allows declared root seen block fault
-  epoch_narrow rules seen own block fault are (inl head) e = absurd (omega (arith, head.number))
-  epoch_narrow rules seen own block fault are (inr (inl differs)) e = elim differs.fails.here [
+  pub epoch_narrow : (rules : Rules) (search : Search) (own : List SatLine) (block : Block) (fault : Fault)
+      → AreLinesOf m search.root search.epoch own → EpochFails rules search.root own block fault
+      → fault.number ≡ 53 → HasNarrowRow m search block fault
+  epoch_narrow rules search own block fault are (inl head) e = absurd (omega (arith, head.number))
+  epoch_narrow rules search own block fault are (inr (inl differs)) e = elim differs.fails.here [
     | inl other ↦ absurd (omega (arith, other.1))
-    | inr has ↦ narrow_row seen own block differs.k has.is_expected.theirs has.is_expected.ours fault are
+    | inr has ↦ narrow_row search own block differs.k has.is_expected.theirs has.is_expected.ours fault are
         has.is_expected.theirs_at has.is_expected.ours_at has.is_expected.same has.fails e
   ]
-  epoch_narrow rules seen own block fault are (inr (inr (inl missing))) e = absurd (omega (arith, missing.number))
-  epoch_narrow rules seen own block fault are (inr (inr (inr body))) e = elim body.fails [
+  epoch_narrow rules search own block fault are (inr (inr (inl missing))) e = absurd (omega (arith, missing.number))
+  epoch_narrow rules search own block fault are (inr (inr (inr body))) e = elim body.fails [
     | inl differs ↦ absurd (omega (arith, differs.number))
-    | inr step ↦ absurd (steps_number _ rules block.done (first_stage root) block.steps step.k fault.number step.fails e)
+    | inr step ↦ absurd (steps_number _ rules block.done (first_stage search.root) block.steps step.k fault.number step.fails e)
   ]
 
   -- what the tests of a block against own lines find is found against the files
-  pub epoch_answered : (rules : Rules) (seen : ObsEpoch) (own : List SatLine) (block : Block) (result : Result (Option Fault) NoMemory)
-      → AreOwnLines (IsJudged seen.tag) (Allows seen.tag) declared root seen.sats.items own
-      → IfOk result (λ found. MatchOption found (EpochPasses rules root own block) (λ fault. EpochFails rules root own block fault))
-      → IfOk result (λ found. MatchOption found (EpochAccepted IsJudged Allows declared rules root seen block)
-      (λ fault. EpochRefused IsJudged Allows declared rules root seen block fault))
-  epoch_answered rules seen own block (Ok None) are h = record { own = own; are_own = are; passes = h }
-  epoch_answered rules seen own block (Ok (Some fault)) are h = record {
+  pub epoch_answered : (rules : Rules) (search : Search) (own : List SatLine) (block : Block) (result : Result (Option Fault) NoMemory)
+      → AreLinesOf m search.root search.epoch own
+      → IfOk result (λ found. MatchOption found (EpochPasses rules search.root own block) (λ fault. EpochFails rules search.root own block fault))
+      → IfOk result (λ found. MatchOption found (EpochAccepted m rules search block)
+      (λ fault. EpochRefused m rules search block fault))
+  epoch_answered rules search own block (Ok None) are h = record { own = own; are_own = are; passes = h }
+  epoch_answered rules search own block (Ok (Some fault)) are h = record {
     own = own;
     are_own = are;
     fails = h;
-    narrow = epoch_narrow rules seen own block fault are h;
+    narrow = epoch_narrow rules search own block fault are h;
   }
-  epoch_answered rules seen own block (Err e) are h = tt
+  epoch_answered rules search own block (Err e) are h = tt
 
   -- ---- the log
 
-  later_block : (first : ObsEpoch) (epochs : List ObsEpoch) (block : Block) (blocks : List Block) (fault : Fault)
-      → HasNarrowBlock IsJudged Allows declared root epochs blocks fault → HasNarrowBlock IsJudged Allows declared root (first ∷ epochs) (block ∷ blocks) fault
-  later_block first epochs block blocks fault h = record {
-    seen = h.seen;
-    is_epoch = behind first h.seen epochs h.is_epoch;
+  later_block : (first : Search) (searches : List Search) (block : Block) (blocks : List Block) (fault : Fault)
+      → HasNarrowBlock m searches blocks fault → HasNarrowBlock m (first ∷ searches) (block ∷ blocks) fault
+  later_block first searches block blocks fault h = record {
+    search = h.search;
+    is_search = behind first h.search searches h.is_search;
     block = h.block;
     is_block = behind block h.block blocks h.is_block;
     same_index = h.same_index;
     has_row = h.has_row;
   }
 
-  pub log_narrow : (rules : Rules) (next : ℕ) (before : Option ℕ) (owns : List (List SatLine)) (epochs : List ObsEpoch) (blocks : List Block) (fault : Fault)
-      → AreOwn IsJudged Allows declared root epochs owns → FailsFrom rules root next before owns epochs blocks fault
-      → fault.number ≡ 53 → HasNarrowBlock IsJudged Allows declared root epochs blocks fault
-  log_narrow rules next before [] epochs blocks fault are f e = absurd (omega (arith, f.number))
+  pub log_narrow : (rules : Rules) (next : ℕ) (before : Option ℕ) (owns : List (List SatLine)) (searches : List Search) (blocks : List Block) (fault : Fault)
+      → AreOwn m searches owns → FailsFrom rules next before owns searches blocks fault
+      → fault.number ≡ 53 → HasNarrowBlock m searches blocks fault
+  log_narrow rules next before [] searches blocks fault are f e = absurd (omega (arith, f.number))
   log_narrow rules next before (own ∷ owns) [] blocks fault are f e = absurd (omega (arith, f.number))
-  log_narrow rules next before (own ∷ owns) (seen ∷ rest) [] fault are f e = absurd (omega (arith, f.number))
-  log_narrow rules next before (own ∷ owns) (seen ∷ rest) (block ∷ more) fault are (inl due) e = absurd (omega (arith, due.number))
-  log_narrow rules next before (own ∷ owns) (seen ∷ rest) (block ∷ more) fault are (inr (inl (is_of, inl f))) e = record {
-    seen = seen;
-    is_epoch = in_front seen rest;
+  log_narrow rules next before (own ∷ owns) (search ∷ rest) [] fault are f e = absurd (omega (arith, f.number))
+  log_narrow rules next before (own ∷ owns) (search ∷ rest) (block ∷ more) fault are (inl due) e = absurd (omega (arith, due.number))
+  log_narrow rules next before (own ∷ owns) (search ∷ rest) (block ∷ more) fault are (inr (inl (is_of, inl f))) e = record {
+    search = search;
+    is_search = in_front search rest;
     block = block;
     is_block = in_front block more;
     same_index = is_of.index;
-    has_row = epoch_narrow rules seen own block fault are.0 f.0 e;
+    has_row = epoch_narrow rules search own block fault are.0 f.0 e;
   }
-  log_narrow rules next before (own ∷ owns) (seen ∷ rest) (block ∷ more) fault are (inr (inl (is_of, inr f))) e = absurd (omega (arith, f.0.number))
-  log_narrow rules next before (own ∷ owns) (seen ∷ rest) (block ∷ more) fault are (inr (inr (is_of, passes, f))) e =
-      later_block seen rest block more fault (log_narrow rules (next + lines_in block) (Some block.index) owns rest more fault are.1 f e)
+  log_narrow rules next before (own ∷ owns) (search ∷ rest) (block ∷ more) fault are (inr (inl (is_of, inr f))) e = absurd (omega (arith, f.0.number))
+  log_narrow rules next before (own ∷ owns) (search ∷ rest) (block ∷ more) fault are (inr (inr (is_of, passes, f))) e =
+      later_block search rest block more fault (log_narrow rules (next + lines_in block) (Some block.index) owns rest more fault are.1 f e)

@@ -19,7 +19,8 @@ IfNo (No fault) Holds = Holds fault
 
 -- no other line, and no other number, is the first that fails
 abbrev pub IsOnlyFault : LogValue → Fault → Type 0
-IsOnlyFault log fault = (line number : ℕ) → FirstFault log line number → (line ≡ fault.line) × (number ≡ fault.number)
+IsOnlyFault log fault =
+    (line number : ℕ) → FirstFault log line number → (line ≡ fault.line) × (number ≡ fault.number)
 
 -- both spans are [0, 0]
 abbrev pub ShowsNoSpans : Fault → Type 0

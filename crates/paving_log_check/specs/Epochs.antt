@@ -1,5 +1,5 @@
--- The tests of one block of a log against the lines that the files give for its epoch, but for those of its
--- place among the epochs (50 and 51).
+-- The tests of one block of a log against the lines that the files give for its epoch, but for
+-- those of its place among the epochs (50 and 51).
 use Rattle.std.specs.Prelude.{◌≡◌, ◌≢◌, ℕ, ◌+◌, ◌<◌, ◌≤◌, ◌⊎◌, List, length, Option, None, Some}
 use Rattle.sat_model.specs.Boxes.{GridBox}
 use Rattle.sat_model.specs.Fold.{first_stage}
@@ -12,8 +12,8 @@ use Rattle.paving_log_check.specs.Answers.{ShowsNoSpans}
 use Rattle.paving_log_check.specs.Lines.{expected, SatsPass, SatsFail}
 use Rattle.paving_log_check.specs.declared.verdict.Fault.{Fault}
 
--- the number of the first line is that of the block's rows, unless it is a block of few, and that of the
--- satellites that are usable
+-- the number of the first line is that of the block's rows, unless it is a block of few, and that
+-- of the satellites that are usable
 pub record Counts (own : List SatLine) (block : Block) : Type 0 where
   pub rows : CountsRows block.few block.n block.sats
   pub usable : block.n ≡ usable_in own
@@ -29,7 +29,8 @@ BodyPassesAt rules root block (Some theirs) =
     (theirs ≡ root) × StepsPass (rows_of block.sats) rules block.done (first_stage root) block.steps
 
 -- no test fails
-pub record EpochPasses (rules : Rules) (root : GridBox) (own : List SatLine) (block : Block) : Type 0 where
+pub record EpochPasses (rules : Rules) (root : GridBox) (own : List SatLine)
+    (block : Block) : Type 0 where
   pub counts : Counts own block
   pub sats : SatsPass block.sats (expected block.few own)
   pub whole : IsWhole own block
@@ -59,24 +60,29 @@ pub record LineMissing (own : List SatLine) (block : Block) (fault : Fault) : Ty
   pub no_spans : ShowsNoSpans fault
 
 -- the root isn't the given one
-pub record RootDiffers (root : GridBox) (block : Block) (theirs : GridBox) (fault : Fault) : Type 0 where
+pub record RootDiffers (root : GridBox) (block : Block) (theirs : GridBox)
+    (fault : Fault) : Type 0 where
   pub differs : theirs ≢ root
   pub line : fault.line ≡ block.line + 1 + length block.sats
   pub number : fault.number ≡ 55
   pub no_spans : ShowsNoSpans fault
 
 -- it is, and this is the first fault of the steps
-pub record StepDiffers (rules : Rules) (root : GridBox) (block : Block) (theirs : GridBox) (fault : Fault) : Type 0 where
+pub record StepDiffers (rules : Rules) (root : GridBox) (block : Block) (theirs : GridBox)
+    (fault : Fault) : Type 0 where
   pub same : theirs ≡ root
   pub k : ℕ
-  pub fails : StepsFail (rows_of block.sats) rules block.done (first_stage root) block.steps k fault.number
+  pub fails : StepsFail (rows_of block.sats) rules block.done
+      (first_stage root) block.steps k fault.number
   pub line : fault.line ≡ block.line + 2 + length block.sats + k
   pub no_spans : ShowsNoSpans fault
 
 abbrev pub BodyFailsAt : Rules → GridBox → Block → GridBox → Fault → Type 0
-BodyFailsAt rules root block theirs fault = RootDiffers root block theirs fault ⊎ StepDiffers rules root block theirs fault
+BodyFailsAt rules root block theirs fault =
+    RootDiffers root block theirs fault ⊎ StepDiffers rules root block theirs fault
 
-pub record BodyDiffers (rules : Rules) (root : GridBox) (own : List SatLine) (block : Block) (fault : Fault) : Type 0 where
+pub record BodyDiffers (rules : Rules) (root : GridBox) (own : List SatLine) (block : Block)
+    (fault : Fault) : Type 0 where
   pub counts : Counts own block
   pub sats : SatsPass block.sats (expected block.few own)
   pub whole : IsWhole own block
@@ -87,4 +93,6 @@ pub record BodyDiffers (rules : Rules) (root : GridBox) (own : List SatLine) (bl
 -- the first line that fails a test, and the least number of one on it
 abbrev pub EpochFails : Rules → GridBox → List SatLine → Block → Fault → Type 0
 EpochFails rules root own block fault =
-    HeadDiffers own block fault ⊎ (LineDiffers own block fault ⊎ (LineMissing own block fault ⊎ BodyDiffers rules root own block fault))
+    HeadDiffers own block fault
+    ⊎ (LineDiffers own block fault
+    ⊎ (LineMissing own block fault ⊎ BodyDiffers rules root own block fault))

@@ -49,7 +49,8 @@ pub record HoldsSpan (theirs ours : Span) : Type 0 where
 
 -- the spans that are compared, in this order: x, y, z and the range
 abbrev pub compared : Row → Row → List (Span × Span)
-compared row ours = (row.x, ours.x) ∷ (row.y, ours.y) ∷ (row.z, ours.z) ∷ (row.range, ours.range) ∷ []
+compared row ours =
+    (row.x, ours.x) ∷ (row.y, ours.y) ∷ (row.z, ours.z) ∷ (row.range, ours.range) ∷ []
 
 abbrev pub HoldEach : List (Span × Span) → Type 0
 HoldEach [] = Unit {0}
@@ -59,7 +60,8 @@ HoldEach (pair ∷ more) = HoldsSpan pair.0 pair.1 × HoldEach more
 abbrev pub IsFirstNarrow : List (Span × Span) → Span → Span → Type 0
 IsFirstNarrow [] theirs ours = ⊥
 IsFirstNarrow (pair ∷ more) theirs ours =
-    ((HoldsSpan pair.0 pair.1 → ⊥) × (theirs ≡ pair.0) × (ours ≡ pair.1)) ⊎ (HoldsSpan pair.0 pair.1 × IsFirstNarrow more theirs ours)
+    ((HoldsSpan pair.0 pair.1 → ⊥) × (theirs ≡ pair.0) × (ours ≡ pair.1))
+    ⊎ (HoldsSpan pair.0 pair.1 × IsFirstNarrow more theirs ours)
 
 -- the row's spans hold those of the own row
 abbrev pub HoldsOwn : Row → Row → Type 0
@@ -92,10 +94,12 @@ pub record LinePasses (sats : List SatEntry) (lines : List SatLine) (k : ℕ) : 
 
 -- it isn't the expected one
 abbrev pub IsOther : List SatEntry → List SatLine → ℕ → Fault → Type 0
-IsOther sats lines k fault = (IsExpected sats lines k → ⊥) × (fault.number ≡ 52) × ShowsNoSpans fault
+IsOther sats lines k fault =
+    (IsExpected sats lines k → ⊥) × (fault.number ≡ 52) × ShowsNoSpans fault
 
 -- it is, but its row fails
-pub record HasOtherRow (sats : List SatEntry) (lines : List SatLine) (k : ℕ) (fault : Fault) : Type 0 where
+pub record HasOtherRow (sats : List SatEntry) (lines : List SatLine) (k : ℕ)
+    (fault : Fault) : Type 0 where
   pub is_expected : IsExpected sats lines k
   pub fails : RowFails is_expected.theirs is_expected.ours fault
 
@@ -109,7 +113,8 @@ abbrev pub SatsPass : List SatEntry → List SatLine → Type 0
 SatsPass sats lines = (k : ℕ) → k < length sats → LinePasses sats lines k
 
 -- line k is the first that fails a test
-pub record SatsFail (sats : List SatEntry) (lines : List SatLine) (k : ℕ) (fault : Fault) : Type 0 where
+pub record SatsFail (sats : List SatEntry) (lines : List SatLine) (k : ℕ)
+    (fault : Fault) : Type 0 where
   pub is_line : k < length sats
   pub before : (j : ℕ) → j < k → LinePasses sats lines j
   pub here : LineFails sats lines k fault

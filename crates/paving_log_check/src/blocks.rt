@@ -20,8 +20,10 @@ pub(crate) fn block_fault(
     before: Option<u32>,
     epoch: &LogEpoch,
 ) -> Result<Option<LineFault>, NoMemory>
-    ensures { IfOk result (λ found. MatchOption found (BlockPasses rules.now before (block_of epoch.now))
-        (λ fault. BlockFails rules.now before (block_of epoch.now) (epoch.now.line + fault.offset) fault.number)) }
+    ensures { IfOk result (λ found. MatchOption found
+        (BlockPasses rules.now before (block_of epoch.now))
+        (λ fault. BlockFails rules.now before (block_of epoch.now)
+        (epoch.now.line + fault.offset) fault.number)) }
 {
     if let Some(fault) = own_fault(rules, before, epoch) {
         return Ok(Some(fault));
@@ -61,7 +63,8 @@ fn kept_steps(steps: &[Step]) -> usize
 
 /// How many boxes the steps of a block close inside or at the edge.
 pub(crate) fn kept_boxes(epoch: &LogEpoch) -> u64
-    ensures value { (rules : Rules) → BodyPasses rules (block_of epoch.now) (block_of epoch.now).root
+    ensures value { (rules : Rules)
+        → BodyPasses rules (block_of epoch.now) (block_of epoch.now).root
         → result ≡ kept_in (block_of epoch.now) (block_of epoch.now).root }
     ensures bound { result ≤ lines_in (block_of epoch.now) }
 {

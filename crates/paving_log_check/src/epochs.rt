@@ -1,6 +1,7 @@
 //! The tests of one block against what the files say of its epoch.
 
 ghost use Rattle.std.specs.Prelude.{◌≡◌, ◌+◌, ◌<◌, ◌≤◌, ◌^◌, ◌↔◌, length, IsTrue, IfOk, MatchOption, Some};
+ghost use Rattle.epoch_selection.specs.Searches.{search_in};
 ghost use Rattle.sat_model.specs.Boxes.{grid_box};
 ghost use Rattle.sat_model.specs.Logs.{rows_of, lines_in};
 ghost use Rattle.sat_model.specs.Verdicts.{SuitsNumber};
@@ -48,11 +49,15 @@ fn body_fault(
     epoch: &LogEpoch,
     theirs: &Box3,
 ) -> Result<Option<Fault>, NoMemory>
-    requires numbered { epoch.now.line + 2 + length epoch.now.sats.items + length epoch.now.steps.items < 2 ^ 32 }
-    requires rows { (rules.now.outliers < length (rows_of epoch.now.sats.items)) × (length (rows_of epoch.now.sats.items) ≤ 64) }
+    requires numbered { epoch.now.line + 2 + length epoch.now.sats.items
+        + length epoch.now.steps.items < 2 ^ 32 }
+    requires rows { (rules.now.outliers < length (rows_of epoch.now.sats.items))
+        × (length (rows_of epoch.now.sats.items) ≤ 64) }
     ensures { IfOk result (λ found. MatchOption found
-        (BodyPassesAt rules.now (grid_box root.now) (block_of epoch.now) (Some (grid_box theirs.now)))
-        (λ fault. BodyFailsAt rules.now (grid_box root.now) (block_of epoch.now) (grid_box theirs.now) fault)) }
+        (BodyPassesAt rules.now (grid_box root.now) (block_of epoch.now)
+        (Some (grid_box theirs.now)))
+        (λ fault. BodyFailsAt rules.now (grid_box root.now) (block_of epoch.now)
+        (grid_box theirs.now) fault)) }
 {
     if !is_same_box(theirs, root) {
         let line = epoch.line + 1 + epoch.sats.len() as u32;
@@ -81,7 +86,8 @@ fn epoch_fault(
     requires suits { SuitsNumber epoch.now.few rules.now.outliers epoch.now.n }
     ensures { IfOk result (λ found. MatchOption found
         (EpochPasses rules.now (grid_box root.now) own.now.lines.items (block_of epoch.now))
-        (λ fault. EpochFails rules.now (grid_box root.now) own.now.lines.items (block_of epoch.now) fault)) }
+        (λ fault. EpochFails rules.now (grid_box root.now) own.now.lines.items
+        (block_of epoch.now) fault)) }
 {
     if !has_counts(own, epoch) {
         return Ok(Some(plain_fault(epoch.line, SATELLITE_DIFFERS)));
@@ -114,8 +120,11 @@ pub fn check_epoch<S: RowSource>(
     requires numbered { epoch.now.line + lines_in (block_of epoch.now) ≤ 4000000001 }
     requires suits { SuitsNumber epoch.now.few rules.now.outliers epoch.now.n }
     ensures { IfOk result (λ found. MatchOption found
-        (EpochAccepted (S.judged source.now) (S.allows source.now) (S.declared source.now) rules.now (grid_box root.now) seen.now (block_of epoch.now))
-        (λ fault. EpochRefused (S.judged source.now) (S.allows source.now) (S.declared source.now) rules.now (grid_box root.now) seen.now (block_of epoch.now) fault)) }
+        (EpochAccepted (S.meaning source.now) rules.now (search_in (grid_box root.now) seen.now)
+        (block_of epoch.now))
+        (λ fault. EpochRefused (S.meaning source.now) rules.now
+        (search_in (grid_box root.now) seen.now)
+        (block_of epoch.now) fault)) }
 {
     let own = source.lines(alloc, seen, root)?;
     epoch_fault(alloc, &own, rules, root, epoch)

@@ -8,8 +8,8 @@ ghost use Rattle.paving_log.specs.Values.{block_of};
 use paving_log::LogEpoch;
 use sat_model::Rules;
 
-/// The law: each step of a block that passes can be taken, so that `cover_boxes` may be called for the
-/// block. The call does nothing.
+/// The law: each step of a block that passes can be taken, so that `cover_boxes` may be called for
+/// the block. The call does nothing.
 pub fn judged_folds(epoch: &LogEpoch, rules: &Rules)
     ensures { (before : Option ℕ) → BlockPasses rules.now before (block_of epoch.now)
         → BlockFolds (block_of epoch.now) (block_of epoch.now).root }

@@ -9,6 +9,7 @@ ghost use Rattle.paving_log_check.specs.GpsChecked.{IsGpsAccepted, IsGpsRefused}
 
 use crate::files::check_with;
 use crate::verdict::Verdict;
+use epoch_selection::{Searches, Selection};
 use error_bounds::Settings;
 use paving_log::Log;
 use rinex_nav::Nav;
@@ -18,26 +19,30 @@ use sat_rows::GpsRows;
 use std::alloc::Global;
 
 /// Checks a log against an observation file, a navigation file and settings: yes with the number of
-/// boxes closed inside or at the edge, or no with the first line that fails a test. Where the centre of
-/// the search box is that of the header, its position has to be there, within 8,500 km on each axis.
+/// boxes closed inside or at the edge, or no with the first line that fails a test. Where the
+/// centre of the search box is that of the header, its position has to be there, within 8,500 km on
+/// each axis.
 pub fn check(
     alloc: Global,
     obs: &Obs,
     nav: &Nav,
     settings: &Settings,
-    from: u32,
-    to: u32,
+    selection: Selection,
     log: &Log,
 ) -> Result<Verdict, NoMemory>
     requires numbered { IsNumbered (log_value log.now) }
     requires centre { IsEnough settings.now.centre obs.now.position }
 
     ensures yes { IfOk result (λ verdict. IfYes verdict (λ boxes.
-        IsGpsAccepted obs.now nav.now settings.now from to (log_value log.now) boxes)) }
+        IsGpsAccepted obs.now nav.now settings.now selection (log_value log.now) boxes)) }
     ensures no { IfOk result (λ verdict. IfNo verdict (λ fault.
-        IsGpsRefused obs.now nav.now settings.now from to (log_value log.now) fault)) }
+        IsGpsRefused obs.now nav.now settings.now selection (log_value log.now) fault)) }
 {
-    let root = settings.root(obs.position);
     let source = GpsRows { nav, settings };
-    check_with(alloc, &source, obs, &root, &settings.rules, from, to, log)
+    let searches = Searches {
+        left: &obs.epochs,
+        selection,
+        root: settings.root(obs.position),
+    };
+    check_with(alloc, &source, &searches, &settings.rules, log)
 }

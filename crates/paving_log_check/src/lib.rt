@@ -1,5 +1,5 @@
-//! Judges a log: whether its steps show what it claims, and else the first line that fails a test; and checks
-//! it against files in the same way.
+//! Judges a log: whether its steps show what it claims, and else the first line that fails a test;
+//! and checks it against files in the same way.
 #![tactic(auto)]
 
 mod blocks;
@@ -15,7 +15,7 @@ mod steps;
 mod verdict;
 
 pub use epochs::check_epoch;
-pub use files::{check_with, is_selected};
+pub use files::check_with;
 pub use folds::judged_folds;
 pub use gps::check;
 pub use logs::judge;

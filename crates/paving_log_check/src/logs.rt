@@ -37,11 +37,14 @@ pub fn judge(alloc: Global, log: &Log) -> Result<Verdict, NoMemory>
 
     ensures judged { IfOk result (λ verdict. IfYes verdict (λ boxes. Judged (log_value log.now))) }
     ensures cover { IfOk result (λ verdict. IfYes verdict (λ boxes. RowCover (log_value log.now))) }
-    ensures boxes { IfOk result (λ verdict. IfYes verdict (λ boxes. boxes ≡ kept_boxes (log_value log.now))) }
+    ensures boxes { IfOk result
+        (λ verdict. IfYes verdict (λ boxes. boxes ≡ kept_boxes (log_value log.now))) }
 
-    ensures first_fault { IfOk result (λ verdict. IfNo verdict (λ fault. FirstFault (log_value log.now) fault.line fault.number)) }
+    ensures first_fault { IfOk result (λ verdict. IfNo verdict (λ fault.
+        FirstFault (log_value log.now) fault.line fault.number)) }
     ensures only_fault { IfOk result (λ verdict. IfNo verdict (IsOnlyFault (log_value log.now))) }
-    ensures refused { IfOk result (λ verdict. IfNo verdict (λ fault. Judged (log_value log.now) → ⊥)) }
+    ensures refused { IfOk result
+        (λ verdict. IfNo verdict (λ fault. Judged (log_value log.now) → ⊥)) }
     ensures no_spans { IfOk result (λ verdict. IfNo verdict ShowsNoSpans) }
 {
     let mut boxes: u64 = 0;

@@ -31,7 +31,8 @@ struct Judge<'a> {
 /// Each gives the least number of a test of the step that fails.
 impl<'a> Judge<'a> {
     fn cut_fault(&self, live: &Live, id: u32, face: u8, bound: i64) -> Option<u8>
-        ensures { IsStepFault self.now.rows.now self.now.rules.now (stage_of live.now) (Cut id face bound) result }
+        ensures { IsStepFault self.now.rows.now self.now.rules.now (stage_of live.now)
+            (Cut id face bound) result }
     {
         let Some(part) = live.box_of(id) else {
             return Some(NOT_LIVE);
@@ -43,7 +44,8 @@ impl<'a> Judge<'a> {
     }
 
     fn split_fault(&self, live: &Live, id: u32, axis: u8) -> Option<u8>
-        ensures { IsStepFault self.now.rows.now self.now.rules.now (stage_of live.now) (Split id axis) result }
+        ensures { IsStepFault self.now.rows.now self.now.rules.now (stage_of live.now)
+            (Split id axis) result }
     {
         let Some(part) = live.box_of(id) else {
             return Some(NOT_LIVE);
@@ -58,7 +60,8 @@ impl<'a> Judge<'a> {
     }
 
     fn outside_fault(&self, live: &Live, id: u32) -> Option<u8>
-        ensures { IsStepFault self.now.rows.now self.now.rules.now (stage_of live.now) (Outside id) result }
+        ensures { IsStepFault self.now.rows.now self.now.rules.now (stage_of live.now)
+            (Outside id) result }
     {
         let Some(part) = live.box_of(id) else {
             return Some(NOT_LIVE);
@@ -70,7 +73,8 @@ impl<'a> Judge<'a> {
     }
 
     fn inside_fault(&self, live: &Live, id: u32, clock: i64, lo: i64, hi: i64) -> Option<u8>
-        ensures { IsStepFault self.now.rows.now self.now.rules.now (stage_of live.now) (Inside id clock lo hi) result }
+        ensures { IsStepFault self.now.rows.now self.now.rules.now (stage_of live.now)
+            (Inside id clock lo hi) result }
     {
         let Some(part) = live.box_of(id) else {
             return Some(NOT_LIVE);
@@ -85,7 +89,8 @@ impl<'a> Judge<'a> {
     }
 
     fn edge_fault(&self, live: &Live, id: u32, lo: i64, hi: i64) -> Option<u8>
-        ensures { IsStepFault self.now.rows.now self.now.rules.now (stage_of live.now) (Edge id lo hi) result }
+        ensures { IsStepFault self.now.rows.now self.now.rules.now (stage_of live.now)
+            (Edge id lo hi) result }
     {
         let Some(part) = live.box_of(id) else {
             return Some(NOT_LIVE);
@@ -98,7 +103,8 @@ impl<'a> Judge<'a> {
 
     /// Of a step of any kind.
     fn step_fault(&self, live: &Live, step: &Step) -> Option<u8>
-        ensures { IsStepFault self.now.rows.now self.now.rules.now (stage_of live.now) step.now result }
+        ensures { IsStepFault self.now.rows.now self.now.rules.now
+            (stage_of live.now) step.now result }
     {
         match step {
             Step::Cut { id, face, bound } => self.cut_fault(live, *id, *face, *bound),
@@ -122,7 +128,8 @@ pub(crate) fn steps_fault(
     requires { (rules.now.outliers < length rows.now) × (length rows.now ≤ 64) }
     ensures { IfOk result (λ found. MatchOption found
         (StepsPass rows.now rules.now done (first_stage (grid_box root.now)) steps.now)
-        (λ fault. StepsFail rows.now rules.now done (first_stage (grid_box root.now)) steps.now fault.offset fault.number)) }
+        (λ fault. StepsFail rows.now rules.now done
+        (first_stage (grid_box root.now)) steps.now fault.offset fault.number)) }
 {
     let judge = Judge { rows, rules };
     let mut live = Live::of_root(alloc, root)?;

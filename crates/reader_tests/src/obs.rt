@@ -48,7 +48,8 @@ const CHANGES: &str = "0|0|OBSERVATION|OBSERVATION
 20|3|G    1 C1C                                                  SYS / # / OBS TYPES|G   14 C1C C1C C1C C1C C1C C1C C1C C1C C1C C1C C1C C1C C1C  SYS / # / OBS TYPES@R    1 C1C                                                  SYS / # / OBS TYPES
 20|3|G    1 C1C                                                  SYS / # / OBS TYPES|G   14 C1C C1C C1C C1C C1C C1C C1C C1C C1C C1C C1C C1C C1C  SYS / # / OBS TYPES@                                                            SYS / # / OBS TYPES
 19|5|> 2024|  2024
-19|5|0000  0  2|0000     2
+0|0|0000  0  2|0000     2
+19|6|0000  0  2|0000
 19|5|0000  0  2|0000  7  2
 19|5|> 2024 01 07|> 2023 02 29
 19|5|01 07 00 00|01 07 24 00

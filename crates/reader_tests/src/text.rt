@@ -31,10 +31,12 @@ const CHANGES: &str = "0|3|3.04|3.00
 14|3|END OF HEADER@|";
 
 /// Year, month, day, hour, minute and tenths of microseconds, and the time in ps, -1 for no date. A day has
-/// 86,400 s. From 1980-01-06 to 2000-02-29 there are 7,359 days, and 43,824 to 2099-12-31.
+/// 86,400 s. From 1980-01-06 to 2000-02-29 there are 7,359 days, 16,066 to 2024-01-01, and 43,824 to
+/// 2099-12-31.
 const DATES: &str = "1980 1 6 0 0 0 0
 1980 1 7 0 0 1 86400000000100000
 2000 2 29 23 59 0 635903940000000000000
+2024 1 1 0 0 0 1388102400000000000000
 2099 12 31 1 0 599999999 3786397259999999900000
 1980 1 5 23 59 0 -1
 2100 1 1 0 0 0 -1

@@ -5,3 +5,4 @@ pub mod OnlyLemmas
 pub mod WeekLemmas
 pub mod BoundLemmas
 pub mod IndexLemmas
+pub mod WholeLemmas

@@ -1,5 +1,5 @@
 -- The elements of a record: its fields in whole units.
-use Rattle.std.specs.Prelude.{ℕ, ◌-◌, ◌≡◌, pos, List, slice_get, IfSome}
+use Rattle.std.specs.Prelude.{ℕ, ◌-◌, ◌≡◌, pos, ◌<ℤ◌, List, slice_get, IfSome}
 use Rattle.exact_decimal.specs.Units.{numerator, denominator}
 use Rattle.exact_decimal.specs.declared.decimal.Decimal.{Decimal}
 use Rattle.exact_decimal.specs.declared.unit.Unit.{Unit}
@@ -20,7 +20,7 @@ pub record IsRounded (field : Wide) (number : Decimal) (unit : Unit) : Type 0 wh
 -- the field holds the number in its unit, within its bounds
 abbrev pub HoldsIn : Wide → Decimal → FieldBound → Type 0
 HoldsIn field number (Between unit low high) = IsRounded field number unit × LiesFrom low high field
-HoldsIn field number (Under unit high) = IsRounded field number unit × LiesFrom (pos 0) high field
+HoldsIn field number (Under unit high) = IsRounded field number unit × LiesFrom (pos 0) high field × (field.lo <ℤ high)
 
 abbrev pub Holds : List Decimal → ℕ → Wide → Type 0
 Holds fields k field = IfSome (slice_get field_bounds (k - 1)) (HoldsIn field (field_of fields k))

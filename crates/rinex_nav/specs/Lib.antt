@@ -7,3 +7,4 @@ pub mod Weeks
 pub mod ElementsOf
 pub mod Places
 pub mod Index
+pub mod Whole

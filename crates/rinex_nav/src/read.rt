@@ -6,6 +6,7 @@ ghost use Rattle.rinex_text.specs.declared.fault.Refusal.{Refusal};
 ghost use Rattle.rinex_text.specs.Reading.{body_left, body_behind, Leaves, Refuses, GivesRefusal};
 ghost use Rattle.rinex_nav.specs.Files.{records_from, nav_file, IsNavFile, IsFirstFault};
 ghost use Rattle.rinex_nav.specs.Reading.{plain_record, records_of, GivesRecords};
+ghost use Rattle.rinex_nav.specs.Whole.{IsWhole};
 ghost use Rattle.rinex_nav.specs.Records.{Broadcast, record_from};
 
 use crate::field::is_zero;
@@ -104,6 +105,8 @@ pub fn read_nav(alloc: Global, bytes: &[u8]) -> Result<Nav, ReadError>
     ensures exact { (records : List Broadcast) → IsNavFile bytes.now records → GivesRecords records result }
     // A text with a fault is refused with its first, unless memory runs out.
     ensures first { (refusal : Refusal) → IsFirstFault bytes.now refusal → GivesRefusal refusal result }
+    // How its lines are shared out, and which records come of them.
+    ensures whole { IfOk result (λ nav. IsWhole (lines_of bytes.now) (records_of nav)) }
 {
     read_text(alloc, bytes)
 }

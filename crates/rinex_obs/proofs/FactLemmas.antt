@@ -26,29 +26,34 @@ use Rattle.rinex_obs.specs.declared.obs.SatObs.{SatObs}
 -- ---- readers
 
 -- the value that the reader gives meets the fact
-abbrev Give : {X E : Type 0} → (X → Type 0) → (Result X E → Type 0) → Type 0
+abbrev pub Give : {X E : Type 0} → (X → Type 0) → (Result X E → Type 0) → Type 0
 Give {X} {E} Meets reader = (r : Result X E) → reader r → IfOk r Meets
 
-given : {X E : Type 0} (Meets : X → Type 0) (v : X) → Meets v → Give {E = E} Meets (gives v)
+pub given : {X E : Type 0} (Meets : X → Type 0) (v : X) → Meets v → Give {E = E} Meets (gives v)
 given Meets v is r e = rw e is
 
-on_test : {X E : Type 0} (Meets : X → Type 0) (P : Type 0) (f : E) (later : Result X E → Type 0) → (P → Give Meets later) → Give Meets (test P f later)
+pub on_test : {X E : Type 0} (Meets : X → Type 0) (P : Type 0) (f : E) (later : Result X E → Type 0) → (P → Give Meets later) → Give Meets (test P f later)
 on_test Meets P f later h r (inl (p, l)) = h p r l
 on_test Meets P f later h r (inr (other, e)) = rw e tt
 
-on_where : {X E : Type 0} (Meets : X → Type 0) (P : Type 0) (first second : Result X E → Type 0) → (P → Give Meets first) → Give Meets second → Give Meets (where_holds P first second)
+pub on_where : {X E : Type 0} (Meets : X → Type 0) (P : Type 0) (first second : Result X E → Type 0) → (P → Give Meets first) → Give Meets second → Give Meets (where_holds P first second)
 on_where Meets P first second h k r (inl (p, l)) = h p r l
 on_where Meets P first second h k r (inr (other, l)) = k r l
 
-on_read : {V X E : Type 0} (Meets : X → Type 0) (Is : V → Type 0) (f : E) (later : V → Result X E → Type 0) → ((v : V) → Is v → Give Meets (later v)) → Give Meets (read Is f later)
+-- ... and where the second rests on the test too
+pub on_either : {X E : Type 0} (Meets : X → Type 0) (P : Type 0) (first second : Result X E → Type 0) → (P → Give Meets first) → ((P → ⊥) → Give Meets second) → Give Meets (where_holds P first second)
+on_either Meets P first second h k r (inl (p, l)) = h p r l
+on_either Meets P first second h k r (inr (other, l)) = k other r l
+
+pub on_read : {V X E : Type 0} (Meets : X → Type 0) (Is : V → Type 0) (f : E) (later : V → Result X E → Type 0) → ((v : V) → Is v → Give Meets (later v)) → Give Meets (read Is f later)
 on_read Meets Is f later h r (inl (v, is, l)) = h v is r l
 on_read Meets Is f later h r (inr (other, e)) = rw e tt
 
-on_then : {V X E : Type 0} (Meets : X → Type 0) (reader : Result V E → Type 0) (later : V → Result X E → Type 0) → ((v : V) → reader (Ok v) → Give Meets (later v)) → Give Meets (then reader later)
+pub on_then : {V X E : Type 0} (Meets : X → Type 0) (reader : Result V E → Type 0) (later : V → Result X E → Type 0) → ((v : V) → reader (Ok v) → Give Meets (later v)) → Give Meets (then reader later)
 on_then Meets reader later h r (inl (v, is, l)) = h v is r l
 on_then Meets reader later h r (inr (e, is, l)) = rw l tt
 
-on_line : {V X : Type 0} (Meets : X → Type 0) (line : Result V Fault → Type 0) (number : ℕ) (later : V → Result X Refusal → Type 0) → ((v : V) → line (Ok v) → Give Meets (later v)) → Give Meets (line_gives line number later)
+pub on_line : {V X : Type 0} (Meets : X → Type 0) (line : Result V Fault → Type 0) (number : ℕ) (later : V → Result X Refusal → Type 0) → ((v : V) → line (Ok v) → Give Meets (later v)) → Give Meets (line_gives line number later)
 on_line Meets line number later h r (inl (v, is, l)) = h v is r l
 on_line Meets line number later h r (inr (f, is, e)) = rw e tt
 
@@ -56,6 +61,10 @@ on_first : {V X : Type 0} (Meets : X → Type 0) (line : TextLine → Result V F
     → ((t : TextLine) (v : V) (next : Behind) → line t (Ok v) → Give Meets (later v next)) → Give Meets (first_of line number lines later)
 on_first Meets line number [] later h r e = rw e tt
 on_first Meets line number (next ∷ more) later h r l = on_line Meets (line next) number (λ v. later v (record { number = number + 1; lines = more })) (λ v is. h next v (record { number = number + 1; lines = more }) is) r l
+
+pub on_more : {X E : Type 0} (P Q : X → Type 0) (reader : Result X E → Type 0) → ((v : X) → P v → Q v) → Give P reader → Give Q reader
+on_more P Q reader more h (Ok v) l = more v (h (Ok v) l)
+on_more P Q reader more h (Err e) l = tt
 
 -- ---- satellites
 

@@ -14,7 +14,7 @@ use Rattle.rinex_text.specs.Headers.{IsShort}
 use Rattle.rinex_text.specs.Lines.{TextLine}
 use Rattle.rinex_text.specs.declared.fault.Fault.TheVariants as fault
 use Rattle.rinex_text.proofs.FieldLemmas.{same_count, both_ways}
-use Rattle.rinex_obs.specs.Epochs.{IsSeconds, IsTag, IsFlag, IsLineCount, head_line}
+use Rattle.rinex_obs.specs.Epochs.{IsSeconds, IsTag, flag_of, IsFlag, IsLineCount, head_line}
 use Rattle.rinex_obs.specs.declared.head.Head.TheVariants.{Epoch, Event}
 use Rattle.rinex_obs.specs.Reading.{AreTenths}
 use Rattle.rinex_obs.proofs.OnlyLemmas.{seconds_only}
@@ -70,7 +70,7 @@ module _ (count : ℕ) (line : TextLine) (short : IsShort line) (printable : lis
   pub no_mark : (column_of line.text 1 ≡ 62 → ⊥) → head_line count line (Err fault.BadEpoch)
   no_mark other = inl (short, inl (printable, inr (other, refl)))
 
-  module _ (begins : column_of line.text 1 ≡ 62) (flag : ℕ) (e : flag ≡ column_of line.text 32) where
+  module _ (begins : column_of line.text 1 ≡ 62) (flag : ℕ) (e : flag ≡ flag_of line.text) where
     pub no_flag : (IsFlag flag → ⊥) → head_line count line (Err fault.BadEpoch)
     no_flag other = inl (short, inl (printable, inl (begins, inr ((rw e at other), refl))))
 

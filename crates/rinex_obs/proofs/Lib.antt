@@ -8,3 +8,5 @@ pub mod OnlyLemmas
 pub mod HeadLemmas
 pub mod BlockLemmas
 pub mod FactLemmas
+pub mod JoinedLemmas
+pub mod WholeLemmas

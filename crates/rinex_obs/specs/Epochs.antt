@@ -1,6 +1,6 @@
 -- The epochs of an observation file (RINEX 3.05, table A3): epoch lines with their satellite lines, and
 -- events with the lines that belong to them.
-use Rattle.std.specs.Prelude.{ℕ, zero, suc, ◌≡◌, ◌⊎◌, ◌+◌, ◌-◌, ◌*◌, ◌^◌, ◌≤◌, ◌<◌, ℤ, pos, neg_ℤ, Bool, true, false, ◌==◌, nat_le, List, [], ◌∷◌, ◌++◌, length, Option, None, Some, Result, Ok, codes}
+use Rattle.std.specs.Prelude.{ℕ, zero, suc, ◌≡◌, ◌⊎◌, ◌+◌, ◌-◌, ◌*◌, ◌^◌, ◌≤◌, ◌<◌, ℤ, pos, neg_ℤ, Bool, true, false, cond, ◌==◌, nat_le, List, [], ◌∷◌, ◌++◌, length, Option, None, Some, Result, Ok, codes}
 use Rattle.std.specs.List.{list_all, list_any}
 use Rattle.exact_decimal.specs.Counts.{IsCount}
 use Rattle.exact_decimal.specs.NumberFields.{is_blank, AreBlanks, IsFixed}
@@ -49,6 +49,10 @@ pub record IsTag (text : List ℕ) (tag : ℤ) : Type 0 where
   pub time : IsGpsTime year month day hour minute tenths
   pub value : tag ≡ pos (gps_time year month day hour minute tenths)
 
+-- the digit of the flag in column 32, `0` where it is blank
+abbrev pub flag_of : List ℕ → ℕ
+flag_of text = cond (is_blank (column_of text 32)) 48 (column_of text 32)
+
 -- a digit from `0` to `6`
 abbrev pub IsFlag : ℕ → Type 0
 IsFlag byte = (48 ≤ byte) × (byte ≤ 54)
@@ -64,13 +68,13 @@ head_line count line =
     test (IsShort line) fault.LongLine
     (test (list_all is_printable line.text ≡ true) fault.NotAscii
     (test (column_of line.text 1 ≡ 62) fault.BadEpoch
-    (test (IsFlag (column_of line.text 32)) fault.BadEpoch
+    (test (IsFlag (flag_of line.text)) fault.BadEpoch
     (read (IsLineCount (columns_of line.text 33 35)) fault.BadCount (λ lines.
-    where_holds (column_of line.text 32 ≤ 49)
+    where_holds (flag_of line.text ≤ 49)
     (read (IsTag line.text) fault.BadEpoch (λ tag.
     test (count < 200000) fault.TooMany
     (gives (Epoch tag lines))))
-    (gives (Event (nat_le (column_of line.text 32) 53) lines)))))))
+    (gives (Event (nat_le (flag_of line.text) 53) lines)))))))
 
 -- ---- the satellites of an epoch
 

@@ -4,3 +4,4 @@ pub mod Epochs
 pub mod Files
 pub mod Reading
 pub mod Facts
+pub mod Whole

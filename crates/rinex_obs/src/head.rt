@@ -3,13 +3,13 @@
 ghost use Rattle.std.specs.Prelude.{◌≡◌, ◌↔◌, ◌^◌, ◌≤◌, ◌<◌, ◌≤ℤ◌, ◌<ℤ◌, ℕ, ℤ, pos, neg_ℤ, IsTrue, IfOk, IfSome, IfNone};
 ghost use Rattle.rinex_text.specs.Columns.{columns_of};
 ghost use Rattle.rinex_text.specs.Reading.{plain_line};
-ghost use Rattle.rinex_obs.specs.Epochs.{IsSeconds, IsTag, IsFlag, IsLineCount, head_line};
+ghost use Rattle.rinex_obs.specs.Epochs.{IsSeconds, IsTag, flag_of, IsFlag, IsLineCount, head_line};
 ghost use Rattle.rinex_obs.specs.Reading.{AreTenths, IsHeadBehind};
 
 use exact_decimal::{Decimal, read_fixed};
 use rinex_text::{
-    Fault, Line, column, columns, four_digits, gps_ps, is_blank_text, is_printable_text, is_short,
-    three_digits, two_digits,
+    Fault, Line, column, columns, four_digits, gps_ps, is_blank_byte, is_blank_text,
+    is_printable_text, is_short, three_digits, two_digits,
 };
 
 /// The most epochs of a file.
@@ -110,6 +110,17 @@ fn tag(text: &[u8]) -> Option<i128>
     }
 }
 
+/// The digit of the flag in column 32; blank is `0`.
+fn flag_digit(text: &[u8]) -> u8
+    ensures { result ≡ flag_of text.now }
+{
+    let byte = column(text, 32);
+    if is_blank_byte(byte) {
+        return b'0';
+    }
+    byte
+}
+
 /// Whether the byte is a digit from `0` to `6`.
 fn is_flag(byte: u8) -> bool
     ensures { IsTrue result ↔ IsFlag byte }
@@ -142,7 +153,7 @@ pub fn head_line(line: Line<'_>, count: usize) -> Result<Head, Fault>
     if column(line.text, 1) != b'>' {
         return Err(Fault::BadEpoch);
     }
-    let flag = column(line.text, 32);
+    let flag = flag_digit(line.text);
     if !is_flag(flag) {
         return Err(Fault::BadEpoch);
     }

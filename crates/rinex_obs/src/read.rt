@@ -7,6 +7,7 @@ ghost use Rattle.rinex_text.specs.declared.fault.Refusal.{Refusal};
 ghost use Rattle.rinex_obs.specs.Facts.{AreNumbered, AreDistinct, AreGpsSats, InEach};
 ghost use Rattle.rinex_obs.specs.Files.{Observations, obs_file, IsObsFile, IsFirstFault};
 ghost use Rattle.rinex_obs.specs.Reading.{observations_of, GivesObservations};
+ghost use Rattle.rinex_obs.specs.Whole.{IsWhole};
 
 use crate::blocks::read_epochs;
 use crate::header::read_header;
@@ -55,6 +56,8 @@ pub fn read_obs(
     ensures exact { (observations : Observations) → IsObsFile signal.now position bytes.now observations → GivesObservations observations result }
     // A text with a fault is refused with its first, unless memory runs out.
     ensures first { (refusal : Refusal) → IsFirstFault signal.now position bytes.now refusal → GivesRefusal refusal result }
+    // How its lines are shared out, and what comes of which.
+    ensures whole { IfOk result (λ obs. IsWhole signal.now position (lines_of bytes.now) (observations_of obs)) }
     // Of the epochs of every file the same holds.
     ensures numbered { IfOk result (λ obs. AreNumbered (observations_of obs).epochs) }
     ensures distinct { IfOk result (λ obs. InEach AreDistinct (observations_of obs).epochs) }

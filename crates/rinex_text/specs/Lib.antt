@@ -7,3 +7,4 @@ pub mod Faults
 pub mod Headers
 pub mod Bodies
 pub mod Reading
+pub mod Whole

@@ -1,5 +1,5 @@
--- Every ephemeris has a mean motion, and every time a clock offset and a time of sending.
-use Rattle.std.proofs.Common.{◌^◌, arith, refl}
+-- Every ephemeris has a mean motion, and every time with it a clock offset and a time of sending.
+use Rattle.std.proofs.Common.{◌≡◌, ◌^◌, arith, refl}
 use Rattle.std.specs.Prelude.{Bool, ℤ, pos, neg_ℤ, ◌+ℤ◌, ◌-ℤ◌, ◌*ℤ◌}
 use Rattle.std.proofs.lemmas.Int.{ints}
 use Rattle.sat_model.specs.EarthModel.{relativity, rate_scale}
@@ -12,13 +12,17 @@ use Rattle.interval_trig.proofs.Existence.{sine_exists}
 use Rattle.kepler_enclosure.proofs.Existence.{kepler_exists}
 use Rattle.sat_clock.proofs.MotionLemmas.{root_has_motion}
 
-pub motion_exists : (el : Elements) → (n : ℤ) × MeanMotion el n
+motion_exists : (el : Elements) → (n : ℤ) × MeanMotion el n
 motion_exists el =
     let n = root_has_motion el.root_a.lo (omega (arith, ints, el.root_a_within.from)) in
     (pos n.0 +ℤ el.dn.lo, record { root_a = el.root_a.lo; dn = el.dn.lo; root_a_is = low_member _ _ el.root_a.ordered; dn_is = low_member _ _ el.dn.ordered; n0 = n.0; n0_is = n.1; n_is = refl })
 
-pub clock_exists : (el : Elements) (single : Bool) (n tsv : ℤ) → (dt : ℤ) × (t : ℤ) × ClockChain el single n tsv dt t
-clock_exists el single n tsv =
+pub clock_exists : (el : Elements) (single : Bool) (tsv : ℤ)
+    → (n : ℤ) × (motion : MeanMotion el n) × (dt : ℤ) × (t : ℤ) × (clock : ClockChain el single n tsv dt t) × (clock.f.root_a ≡ motion.root_a)
+unfolding motion_exists
+clock_exists el single tsv =
+    let motion = motion_exists el in
+    let n = motion.0 in
     let f : ClockFields = record { af0 = el.af0.lo; af1 = el.af1.lo; af2 = el.af2.lo; tgd = el.tgd.lo; root_a = el.root_a.lo; e = el.e.lo; m0 = el.m0.lo; toe_week = el.toe_week.lo } in
     let fields : AreClockFields el f = record {
       af0_is = low_member _ _ el.af0.ordered;
@@ -40,6 +44,8 @@ clock_exists el single n tsv =
     let relative = near_exists (neg_ℤ (((pos relativity *ℤ f.e) *ℤ f.root_a) *ℤ sine.0)) (pos (10 ^ 47)) (record { lt = tt }) in
     let dt = base +ℤ relative.0 in
     let t = near_exists ((tsv *ℤ pos (10 ^ 4)) -ℤ dt) (pos (10 ^ 4)) (record { lt = tt }) in (
+      n,
+      motion.1,
       dt,
       t.0,
       record {
@@ -64,4 +70,5 @@ clock_exists el single n tsv =
         dt_is = refl;
         t_is = t.1;
       },
+      refl,
     )

@@ -17,7 +17,7 @@ root_mono a b v w p q le = grind (arith, square-mono (w + 1) v, p.square_le, q.n
 at_least : (z : ℤ) → z ≤ℤ z
 at_least z = omega (arith, ints)
 
-least_le_greatest : (a b c d : ℤ) → a ≤ℤ b → c ≤ℤ d → least_amount a b c d ≤ greatest_amount a b c d
+pub least_le_greatest : (a b c d : ℤ) → a ≤ℤ b → c ≤ℤ d → least_amount a b c d ≤ greatest_amount a b c d
 least_le_greatest a b c d h k =
     omega (
       arith,

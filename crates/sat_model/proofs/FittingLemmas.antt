@@ -21,17 +21,17 @@ pub record IsInBox (part : GridBox) (p : Pos) : Type 0 where
   pub y : (part.y.lo ≤ℤ p.y) × (p.y ≤ℤ part.y.hi)
   pub z : (part.z.lo ≤ℤ p.z) × (p.z ≤ℤ part.z.hi)
 
-both : (a b : Bool) → (a && b) ≡ true → (a ≡ true) × (b ≡ true)
+pub both : (a b : Bool) → (a && b) ≡ true → (a ≡ true) × (b ≡ true)
 both true b e = (refl, e)
 both false b e = absurd cc
 
-le_from : (a b : ℤ) → le_z a b ≡ true → a ≤ℤ b
+pub le_from : (a b : ℤ) → le_z a b ≡ true → a ≤ℤ b
 le_from a b h = omega (arith, ints)
 
-le_to : (a b : ℤ) → a ≤ℤ b → le_z a b ≡ true
+pub le_to : (a b : ℤ) → a ≤ℤ b → le_z a b ≡ true
 le_to a b h = grind (arith, ints)
 
-side_in : (s : Side) (n : ℤ) → side_holds s n ≡ true → (s.lo ≤ℤ n) × (n ≤ℤ s.hi)
+pub side_in : (s : Side) (n : ℤ) → side_holds s n ≡ true → (s.lo ≤ℤ n) × (n ≤ℤ s.hi)
 side_in s n h = let (l, u) = both _ _ h in (le_from s.lo n l, le_from n s.hi u)
 
 pub in_box : (part : GridBox) (p : Pos) → box_holds part p ≡ true → IsInBox part p
@@ -58,7 +58,7 @@ range_le_far row part p v i = root_mono _ (far_square row part) _ _ (root_is _) 
     (greatest_amount_ge _ _ _ _ v.y p.y v.y_in.0 v.y_in.1 i.y.0 i.y.1)
     (greatest_amount_ge _ _ _ _ v.z p.z v.z_in.0 v.z_in.1 i.z.0 i.z.1))
 
-holds_from : (lo hi b : ℤ) → lo ≤ℤ b → b ≤ℤ hi → holds (lo, hi) b ≡ true
+pub holds_from : (lo hi b : ℤ) → lo ≤ℤ b → b ≤ℤ hi → holds (lo, hi) b ≡ true
 holds_from lo hi b h k = rw (le_to lo b h, le_to b hi k) refl
 
 clock_holds : (row : Row) (part : GridBox) (p : Pos) (b : ℤ) → IsPossible p b row → IsInBox part p → holds (clock_ends part row) b ≡ true
@@ -77,13 +77,13 @@ inner_sure row part p b h i v =
 
 -- ---- all rows but at most q
 
-count_here : (b : ℤ) (s : ℤ × ℤ) (spans : List (ℤ × ℤ)) → holds s b ≡ true → count_by (λ t. holds t b) (s ∷ spans) ≡ 1 + count_by (λ t. holds t b) spans
+pub count_here : (b : ℤ) (s : ℤ × ℤ) (spans : List (ℤ × ℤ)) → holds s b ≡ true → count_by (λ t. holds t b) (s ∷ spans) ≡ 1 + count_by (λ t. holds t b) spans
 count_here b s spans e = sum_by-cons (λ t. cond (holds t b) 1 0) s spans ∙ rw e refl
 
-count_not_here : (b : ℤ) (s : ℤ × ℤ) (spans : List (ℤ × ℤ)) → holds s b ≡ false → count_by (λ t. holds t b) (s ∷ spans) ≡ count_by (λ t. holds t b) spans
+pub count_not_here : (b : ℤ) (s : ℤ × ℤ) (spans : List (ℤ × ℤ)) → holds s b ≡ false → count_by (λ t. holds t b) (s ∷ spans) ≡ count_by (λ t. holds t b) spans
 count_not_here b s spans e = sum_by-cons (λ t. cond (holds t b) 1 0) s spans ∙ rw e (omega arith)
 
-count_any : (b : ℤ) (s : ℤ × ℤ) (spans : List (ℤ × ℤ)) → count_by (λ t. holds t b) spans ≤ count_by (λ t. holds t b) (s ∷ spans)
+pub count_any : (b : ℤ) (s : ℤ × ℤ) (spans : List (ℤ × ℤ)) → count_by (λ t. holds t b) spans ≤ count_by (λ t. holds t b) (s ∷ spans)
 count_any b s spans = omega (arith, sum_by-cons (λ t. cond (holds t b) 1 0) s spans)
 
 all_but_held : (q : ℕ) (part : GridBox) (p : Pos) (b : ℤ) (rows : List Row) → IsInBox part p → AllBut q (IsPossible p b) rows

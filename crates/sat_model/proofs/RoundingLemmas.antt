@@ -1,12 +1,12 @@
 -- Fractions rounded down, and the ends that hold every number near a fraction.
-use Rattle.std.proofs.Common.{◌≡◌, ℕ, ◌<◌, arith}
+use Rattle.std.proofs.Common.{◌≡◌, ℕ, ◌<◌, arith, sym}
 use Rattle.std.specs.Prelude.{ℤ, pos, negsuc, ◌+ℤ◌, ◌-ℤ◌, ◌*ℤ◌, neg_ℤ, ◌≤ℤ◌, ◌<ℤ◌}
 use Rattle.std.specs.Int.{int_div_euclid}
 use Rattle.std.proofs.lemmas.Int.{ints, by_lt_z}
 use Rattle.std.proofs.Math.Nat.{div-add-mod', mod-lt, div-le_self}
 use Rattle.sat_model.specs.Sizes.{IsWithin}
 use Rattle.sat_model.specs.Intervals.{Between}
-use Rattle.sat_model.specs.Rounding.{Near, IsFloor, IsTightRound, grain_floor, grain_ceil}
+use Rattle.sat_model.specs.Rounding.{Near, IsFloor, IsTightRound, grain_floor, grain_ceil, IsMultipleOf}
 use Rattle.sat_model.proofs.ProductLemmas.{mul_mono, mul_anti, add_mul, neg_mul, mul_lt_back}
 use lib.IntN.{*ℤ_comm}
 
@@ -36,6 +36,9 @@ grain_between g x h =
 pub grain_floor_one : (x : ℤ) → grain_floor (pos 1) x ≡ x
 grain_floor_one (pos n) = omega (arith, ints)
 grain_floor_one (negsuc n) = omega (arith, ints)
+
+pub multiple_of_one : (v : ℤ) → IsMultipleOf (pos 1) v
+multiple_of_one v = record { times = int_div_euclid v (pos 1); is = sym (grain_floor_one v) }
 
 pub grain_ceil_one : (x : ℤ) → grain_ceil (pos 1) x ≡ x
 grain_ceil_one x = omega (arith, ints, grain_floor_one (neg_ℤ x))

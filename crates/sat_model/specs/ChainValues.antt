@@ -1,6 +1,6 @@
 -- What the equations allow of one satellite: its place and range as seen from a point, and the corrected
 -- pseudorange.
-use Rattle.std.specs.Prelude.{ℕ, ℤ}
+use Rattle.std.specs.Prelude.{ℕ, ◌≡◌, ℤ}
 use Rattle.sat_model.specs.ClockChain.{ClockChain}
 use Rattle.sat_model.specs.MeanMotion.{MeanMotion}
 use Rattle.sat_model.specs.OrbitChain.{OrbitChain}
@@ -28,6 +28,8 @@ pub record ChainValue (seen : Observed) (p : Pos) (x y z corrected : ℤ) (range
   pub dt : ℤ
   pub t : ℤ
   pub clock : ClockChain seen.el (is_single seen.codes) n tsv dt t
+  -- sqrt(A) of the relativistic correction is that of the mean motion
+  pub one_root : clock.f.root_a ≡ n_is.root_a
   pub corrected_is : IsCorrected pr dt corrected
   pub sent_x : ℤ
   pub sent_y : ℤ

@@ -55,10 +55,10 @@ pub record ClockChain (el : Elements) (single : Bool) (n tsv dt t : ℤ) : Type 
   -- less the group delay for one frequency, T_GD
   pub base : ℤ
   pub base_is : base ≡ less_delay single offset f.tgd
-  -- the time from the ephemeris time, t_k, before the relativistic correction
+  -- tsv less the polynomial and the group delay
   pub about : ℤ
   pub about_is : IsEarlier tsv base about
-  -- M_k = M_0 + n t_k
+  -- M_k = M_0 + n t_k, where t_k is from the ephemeris time to that time
   pub mean : ℤ
   pub mean_is : IsAdvanced f.m0 n (about -ℤ (el.week_start +ℤ f.toe_week)) mean
   -- M_k = E_k - e sin E_k

@@ -1,4 +1,5 @@
--- The constants of IS-GPS-200 (tables 20-IV and 20-V, 20.3.3.3.3.1), in the units of the chains.
+-- The constants of IS-GPS-200, in the units of the chains: mu and the earth's rotation rate stand in
+-- table 20-IV, F in section 20.3.3.3.3.1.
 use Rattle.std.specs.Prelude.{ℕ, ◌^◌}
 
 -- mu, the earth's gravitational constant, in m^3/s^2

@@ -6,6 +6,11 @@ pub mod Lengths
 pub mod Relaxed
 pub mod ClockSpans
 pub mod Fitting
+pub mod Trees
+pub mod RowTrees
+pub mod Contractors
+pub mod TightFaces
+pub mod Proposals
 pub mod Fold
 pub mod Logs
 pub mod Paved

@@ -1,5 +1,5 @@
 -- Fractions of whole numbers and what they are rounded to. Denominators are positive.
-use Rattle.std.specs.Prelude.{ℤ, pos, ◌+ℤ◌, ◌-ℤ◌, ◌*ℤ◌, neg_ℤ, ◌≤ℤ◌, ◌<ℤ◌}
+use Rattle.std.specs.Prelude.{◌≡◌, ℤ, pos, ◌+ℤ◌, ◌-ℤ◌, ◌*ℤ◌, neg_ℤ, ◌≤ℤ◌, ◌<ℤ◌}
 use Rattle.std.specs.Int.{int_div_euclid}
 use Rattle.sat_model.specs.Intervals.{Between}
 
@@ -43,3 +43,8 @@ grain_floor grain x = int_div_euclid x grain *ℤ grain
 -- the least multiple of a grain that is at least x
 abbrev pub grain_ceil : ℤ → ℤ → ℤ
 grain_ceil grain x = neg_ℤ (grain_floor grain (neg_ℤ x))
+
+-- v is a multiple of a grain
+pub record IsMultipleOf (grain v : ℤ) : Type 0 where
+  pub times : ℤ
+  pub is : v ≡ times *ℤ grain

@@ -14,7 +14,7 @@ pub struct Elements {
     /// The start of the week that brings the ephemeris time nearest to the clock time, in ps since
     /// 1980-01-06 00:00:00 GPS time.
     pub week_start: i128,
-    /// The ephemeris time in its week, in ps.
+    /// The ephemeris time in its week, in ps. Its low end is under a week.
     pub toe_week: Wide,
     /// The clock's offset, in 10^-16 s.
     pub af0: Wide,
@@ -55,6 +55,7 @@ pub struct Elements {
     pub ghost toc_under: { toc <ℤ pos time_bound },
     pub ghost toc_near: { IsNearTime toc week_start toe_week },
     pub ghost toe_within: { LiesFrom (pos 0) (pos week) toe_week },
+    pub ghost toe_under: { toe_week.lo <ℤ pos week },
     pub ghost af0_within: { IsField offset_bound af0 },
     pub ghost af1_within: { IsField drift_bound af1 },
     pub ghost af2_within: { IsField ageing_bound af2 },

@@ -23,7 +23,7 @@ pub use record_bounds::{
     AGEING_BOUND, ANGLE_BOUND, ANGLE_SWING_BOUND, DELAY_BOUND, DRIFT_BOUND, ECCENTRICITY_BOUND,
     GREATEST_ROOT_A, LEAST_ROOT_A, OFFSET_BOUND, RADIUS_SWING_BOUND, RATE_BOUND, WEEK,
 };
-pub use roots::{root_u128, spare};
+pub use roots::{root_u64, root_u128, spare};
 pub use rules::Rules;
 pub use satellites::{Row, Sat, SatEntry, Signal, Skip};
 pub use spans::{Span, Wide};

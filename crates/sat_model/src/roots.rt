@@ -62,6 +62,40 @@ fn low_bits(a: u128) -> u64 {
     (a & u128::from(u64::MAX)) as u64
 }
 
+/// The whole-number root of `a`, as `root_u128`, with numbers of 64 bits alone.
+pub fn root_u64(a: u64) -> u64
+    ensures { IsRoot a result }
+{
+    let guess = guess_u64(a);
+    let less = guess.saturating_sub(1);
+    if is_root_u64(a, guess) {
+        guess
+    } else if is_root_u64(a, less) {
+        less
+    } else {
+        a.isqrt()
+    }
+}
+
+/// Whether `v` is the whole-number root of `a`.
+fn is_root_u64(a: u64, v: u64) -> bool
+    ensures { IsTrue result ↔ IsRoot a v }
+{
+    if v >> 32 != 0 {
+        return false;
+    }
+    let square = v * v;
+    square <= a && a - square <= 2 * v
+}
+
+/// A guess of the root of `a`, seldom wrong and then mostly by one more: that of `a` with an even
+/// number of places put after it, without half of them.
+fn guess_u64(a: u64) -> u64 {
+    let spare = a.leading_zeros() & 62;
+    let front = a << spare;
+    newton(front, root_of_front(front)) >> (spare / 2)
+}
+
 /// How wide, in um, the spans of a row of this search box may be: 2,000 and a 50,000th of the
 /// longest side.
 pub fn spare(root: &Box3) -> i64

@@ -1,6 +1,2 @@
 pub mod SpanLemmas
-pub mod CodeLemmas
-pub mod RecordLemmas
-pub mod ChoiceLemmas
-pub mod WalkLemmas
 pub mod RowLemmas

@@ -1,6 +1,6 @@
 -- What a usable satellite's row is made of, and the lines of an epoch.
 use Rattle.std.proofs.Common.{◌≡◌, ℕ, ◌+◌, ◌*◌, ◌^◌, ◌≤◌, arith, refl, sym, ap, subst, ◌∙◌, List, [], ◌∷◌, ◌++◌, length, cond, true, false, drop, get_or, add-one, drop-cons, drop_of_length-le, append_assoc, append-nil, ◌<◌}
-use Rattle.std.specs.Prelude.{ℤ, pos, ◌+ℤ◌, ◌-ℤ◌, ◌≤ℤ◌, unsigned_abs, Option}
+use Rattle.std.specs.Prelude.{ℤ, pos, ◌+ℤ◌, ◌-ℤ◌, ◌≤ℤ◌, ◌<ℤ◌, unsigned_abs}
 use Rattle.std.specs.List.{AllByRecursion}
 use Rattle.std.proofs.lemmas.Int.{ints}
 use Rattle.std.proofs.lemmas.List.Elements.{recursion_from_All}
@@ -8,36 +8,49 @@ use Rattle.error_bounds.specs.declared.settings.Settings.{Settings}
 use Rattle.error_bounds.specs.Reading.{with_ends, is_sat, extra_for, bound_for, value_of_settings}
 use Rattle.error_bounds.specs.Sizes.{IsDeclared}
 use Rattle.rinex_nav.proofs.WeekLemmas.{time_only}
-use Rattle.rinex_nav.specs.ElementsOf.{AreElements}
+use Rattle.rinex_nav.specs.ElementsOf.{IsRounded, AreElements}
 use Rattle.rinex_nav.specs.Weeks.{IsEphemerisTime, IsAge}
 use Rattle.rinex_nav.specs.declared.record.NavRecord.{NavRecord}
 use Rattle.rinex_obs.specs.declared.obs.SatObs.{SatObs}
+use Rattle.exact_decimal.specs.Units.{denominator}
+use Rattle.exact_decimal.specs.declared.decimal.Decimal.{Decimal}
+use Rattle.exact_decimal.specs.declared.unit.Unit.{Unit}
 use Rattle.exact_decimal.specs.declared.unit.Unit.TheVariants.{Length, Time}
+use Rattle.exact_decimal.proofs.Limits.{some_parts}
+use Rattle.pseudorange_prep.specs.Ranges.{IsNarrow}
+use Rattle.sat_model.proofs.ProductLemmas.{add_mul, mul_lt_back}
+use Rattle.sat_model.specs.declared.spans.Wide.{Wide}
 use Rattle.rinex_nav.specs.FieldBounds.{field_of}
 use Rattle.sat_model.specs.Boxes.{GridBox}
 use Rattle.sat_model.specs.ChainValues.{Observed}
 use Rattle.sat_model.specs.Pseudorange.{Codes}
 use Rattle.sat_model.specs.Relaxed.{ends}
 use Rattle.sat_model.specs.Sizes.{IsWithin}
-use Rattle.sat_model.specs.declared.boxes.Pos.{Pos}
 use Rattle.sat_model.specs.declared.elements.Elements.{Elements}
 use Rattle.sat_model.specs.declared.satellites.Row.{Row}
 use Rattle.sat_model.specs.declared.satellites.Sat.{Sat}
 use Rattle.sat_model.specs.declared.satellites.Signal.{Signal}
 use Rattle.sat_model.specs.declared.satellites.Signal.TheVariants.{Single, Dual}
-use Rattle.sat_model.specs.declared.satellites.Skip.{Skip}
 use Rattle.sat_model.specs.declared.spans.Span.{Span}
-use Rattle.sat_rows.specs.ElementLemmas.{rounded_narrow}
-use Rattle.sat_rows.specs.JudgementLemmas.{codes_one, elements_one}
-use Rattle.sat_rows.specs.Answers.{IsKnownBy}
-use Rattle.sat_rows.specs.Chains.{Chain, observed, IsChainOf, IsChainAt}
+use Rattle.usable_sats.proofs.JudgementLemmas.{codes_one, elements_one}
+use Rattle.usable_sats.specs.Judgements.{IsKnownBy}
+use Rattle.sat_rows.specs.Chains.{observed, IsChainOf, IsChainAt}
+use Rattle.sat_rows.specs.Meanings.{Meaning}
 use Rattle.sat_rows.specs.OwnRows.{HoldsAllowed, IsOwnLine, AreOwnLines, IsSmall, IsSmallLine, AreSmall, usable_line, usable_in}
 use Rattle.sat_rows.specs.RowSizes.{AreNarrowWith, AreNarrow, IsNearEpoch}
-use Rattle.sat_rows.specs.Usability.{Sighting, HaveValue, ArePlausible, IsUsable}
+use Rattle.usable_sats.specs.Usability.{Sighting, HaveValue, ArePlausible, IsUsable}
 use Rattle.sat_rows.specs.declared.lines.SatLine.{SatLine}
 use Rattle.sat_rows.specs.declared.lines.SatLine.TheVariants.{Usable, Skipped}
 
 -- ---- codes
+
+-- a floor and a ceiling are at most one apart
+rounded_narrow : (number : Decimal) (unit : Unit) (a : Wide) → IsRounded a number unit → IsNarrow 1 a.lo a.hi
+rounded_narrow number unit a f =
+    let d = pos (denominator number.ten unit) in
+    let k : a.hi <ℤ (a.lo +ℤ pos 2) = mul_lt_back a.hi (a.lo +ℤ pos 2) d (some_parts number.ten unit)
+    (omega (arith, ints, add_mul a.lo (pos 2) d, f.floor.gt, f.ceiling.lt)) in
+    record { width = omega (arith, ints) }
 
 narrow_codes : (signal : Signal) (seen : SatObs) (codes : Codes) → HaveValue signal seen codes → AreNarrow codes
 narrow_codes (Single code) seen codes v = subst (AreNarrowWith codes.first) (sym v.3) (rounded_narrow v.0 Length codes.first v.2)
@@ -121,27 +134,27 @@ error_small settings sat err e =
 
 -- ---- the lines of an epoch
 
-module _ (IsJudged : SatObs → Option Skip → Type 0) (Allows : SatObs → Pos → Chain → Type 0) (declared : Sat → ℤ × ℤ) (root : GridBox) where
+module _ (m : Meaning) (root : GridBox) (tag : ℤ) where
   -- lines of all satellites: those so far, before whatever lines the satellites left have
   pub record AreSoFar (sats left : List SatObs) (lines : List SatLine) : Type 0 where
-    pub own : (more : List SatLine) → AreOwnLines IsJudged Allows declared root left more → AreOwnLines IsJudged Allows declared root sats (lines ++ more)
+    pub own : (more : List SatLine) → AreOwnLines m root tag left more → AreOwnLines m root tag sats (lines ++ more)
 
   pub so_far_none : (sats : List SatObs) → AreSoFar sats sats []
   so_far_none sats = record { own = λ more f. f }
 
   pub so_far_more : (sats left : List SatObs) (lines after : List SatLine) (k : ℕ) (line : SatLine) (d : SatObs) → AreSoFar sats (drop k left) lines → k < length left
-      → IsOwnLine IsJudged Allows declared root (get_or left k d) line → after ≡ lines ++ line ∷ [] → AreSoFar sats (drop (k + 1) left) after
+      → IsOwnLine m root tag (get_or left k d) line → after ≡ lines ++ line ∷ [] → AreSoFar sats (drop (k + 1) left) after
   so_far_more sats left lines after k line d f h own e = record {
     own = λ more g.
         let next : drop k left ≡ get_or left k d ∷ drop (k + 1) left = rw (add-one, drop-cons left k d) refl in
-        let all = f.own (line ∷ more) (subst (λ (l : List SatObs). AreOwnLines IsJudged Allows declared root l (line ∷ more)) (sym next) (own, g)) in
-        subst (AreOwnLines IsJudged Allows declared root sats) (sym (append_assoc lines (line ∷ []) more) ∙ ap (λ (l : List SatLine). l ++ more) (sym e)) all;
+        let all = f.own (line ∷ more) (subst (λ (l : List SatObs). AreOwnLines m root tag l (line ∷ more)) (sym next) (own, g)) in
+        subst (AreOwnLines m root tag sats) (sym (append_assoc lines (line ∷ []) more) ∙ ap (λ (l : List SatLine). l ++ more) (sym e)) all;
   }
 
-  pub so_far_all : (sats left : List SatObs) (lines : List SatLine) (k : ℕ) → AreSoFar sats (drop k left) lines → length left ≤ k → AreOwnLines IsJudged Allows declared root sats lines
+  pub so_far_all : (sats left : List SatObs) (lines : List SatLine) (k : ℕ) → AreSoFar sats (drop k left) lines → length left ≤ k → AreOwnLines m root tag sats lines
   so_far_all sats left lines k f h =
       let none = drop_of_length-le left {i = k} h in
-      subst (AreOwnLines IsJudged Allows declared root sats) (append-nil lines) (f.own [] (subst (λ (l : List SatObs). AreOwnLines IsJudged Allows declared root l []) (sym none) tt))
+      subst (AreOwnLines m root tag sats) (append-nil lines) (f.own [] (subst (λ (l : List SatObs). AreOwnLines m root tag l []) (sym none) tt))
 
 small_end : (lines : List SatLine) (line : SatLine) → AreSmall lines → IsSmallLine line → AreSmall (lines ++ line ∷ [])
 small_end [] line f g = (g, tt)

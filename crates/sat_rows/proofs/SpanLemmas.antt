@@ -21,7 +21,7 @@ use Rattle.sat_model.proofs.ProductLemmas.{larger}
 use Rattle.sat_rows.specs.Growth.{GrowsWithin}
 use Rattle.sat_rows.specs.OwnRows.{IsSmall}
 use Rattle.sat_rows.specs.RowSizes.{pseudorange_amount}
-use Rattle.sat_rows.specs.Usability.{IsPlausible}
+use Rattle.usable_sats.specs.Usability.{IsPlausible}
 
 -- ---- pseudoranges
 

@@ -3,7 +3,7 @@
 use Rattle.std.specs.Prelude.{ℕ, ℤ}
 use Rattle.sat_model.specs.ChainValues.{Observed, ChainValue}
 use Rattle.sat_model.specs.declared.boxes.Pos.{Pos}
-use Rattle.sat_rows.specs.Usability.{Sighting, IsUsable}
+use Rattle.usable_sats.specs.Usability.{Sighting, IsUsable}
 
 -- the turned place, the corrected pseudorange, and the range, in um
 pub record Chain : Type 0 where

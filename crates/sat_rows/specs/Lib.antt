@@ -1,13 +1,9 @@
-pub mod Usability
-pub mod Measured
-pub mod Answers
 pub mod Chains
+pub mod Meanings
 pub mod OwnRows
 pub mod Fitting
 pub mod Sources
-pub mod ElementLemmas
 pub mod ChainLemmas
-pub mod JudgementLemmas
 pub mod Laws
 pub mod RowSizes
 pub mod Growth

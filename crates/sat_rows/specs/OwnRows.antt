@@ -1,6 +1,6 @@
--- Rows that hold what the equations allow, for any source that says which satellites are usable and what is
--- allowed of them.
-use Rattle.std.specs.Prelude.{ℕ, ◌+◌, ◌*◌, ◌^◌, ◌≡◌, ℤ, pos, ◌-ℤ◌, ◌≤ℤ◌, true, List, [], ◌∷◌, Option, None, Some}
+-- Rows that hold what a source allows of the usable satellites.
+use Rattle.std.specs.Prelude.{ℕ, ◌+◌, ◌*◌, ◌^◌, ◌≡◌, ℤ, pos, ◌-ℤ◌, ◌≤ℤ◌, true, List, [], ◌∷◌, None, Some}
+use Rattle.rinex_obs.specs.declared.obs.ObsEpoch.{ObsEpoch}
 use Rattle.rinex_obs.specs.declared.obs.SatObs.{SatObs}
 use Rattle.sat_model.specs.Boxes.{GridBox, box_holds}
 use Rattle.sat_model.specs.Intervals.{Between}
@@ -9,10 +9,9 @@ use Rattle.sat_model.specs.Relaxed.{ends}
 use Rattle.sat_model.specs.Sizes.{IsWithin}
 use Rattle.sat_model.specs.declared.boxes.Pos.{Pos}
 use Rattle.sat_model.specs.declared.satellites.Row.{Row}
-use Rattle.sat_model.specs.declared.satellites.Sat.{Sat}
-use Rattle.sat_model.specs.declared.satellites.Skip.{Skip}
 use Rattle.sat_model.specs.declared.spans.Span.{Span}
 use Rattle.sat_rows.specs.Chains.{Chain}
+use Rattle.sat_rows.specs.Meanings.{Meaning}
 use Rattle.sat_rows.specs.declared.lines.SatLine.{SatLine}
 use Rattle.sat_rows.specs.declared.lines.SatLine.TheVariants.{Usable, Skipped}
 
@@ -25,27 +24,29 @@ pub record HoldsChain (row : Row) (c : Chain) : Type 0 where
 
 -- ... of whatever is allowed at the grid points of the root
 abbrev pub HoldsAllowed : (Pos → Chain → Type 0) → GridBox → Row → Type 0
-HoldsAllowed Allows root row = (p : Pos) (c : Chain) → box_holds root p ≡ true → Allows p c → HoldsChain row c
+HoldsAllowed Allows root row =
+    (p : Pos) (c : Chain) → box_holds root p ≡ true → Allows p c → HoldsChain row c
 
 -- a span is at most W wide
 abbrev pub IsTight : GridBox → Span → Type 0
 IsTight root span = (span.hi -ℤ span.lo) ≤ℤ pos (spare_of root)
 
--- a row of a usable satellite over a root: it holds what is allowed, each span is at most W wide, and the
--- error is the declared one
-pub record IsOwnRow (Allows : Pos → Chain → Type 0) (declared : ℤ × ℤ) (root : GridBox) (row : Row) : Type 0 where
-  pub holds : HoldsAllowed Allows root row
-  pub x : IsTight root row.x
-  pub y : IsTight root row.y
-  pub z : IsTight root row.z
-  pub range : IsTight root row.range
-  pub err : ends row.err ≡ declared
+-- for what a source says of the satellites that were observed at a time
+module _ (m : Meaning) (root : GridBox) (tag : ℤ) where
+  -- a row of a usable satellite over a root: it holds what is allowed, each span is at most W wide,
+  -- and the error is the declared one
+  pub record IsOwnRow (seen : SatObs) (row : Row) : Type 0 where
+    pub holds : HoldsAllowed (m.allows tag seen) root row
+    pub x : IsTight root row.x
+    pub y : IsTight root row.y
+    pub z : IsTight root row.z
+    pub range : IsTight root row.range
+    pub err : ends row.err ≡ m.declared seen.sat
 
-module _ (IsJudged : SatObs → Option Skip → Type 0) (Allows : SatObs → Pos → Chain → Type 0) (declared : Sat → ℤ × ℤ) (root : GridBox) where
   -- the line of a satellite: an own row where it is usable, else why it isn't
   abbrev pub IsOwnLine : SatObs → SatLine → Type 0
-  IsOwnLine seen (Usable row) = (row.sat ≡ seen.sat) × IsJudged seen None × IsOwnRow (Allows seen) (declared seen.sat) root row
-  IsOwnLine seen (Skipped sat skip) = (sat ≡ seen.sat) × IsJudged seen (Some skip)
+  IsOwnLine seen (Usable row) = (row.sat ≡ seen.sat) × m.judged tag seen None × IsOwnRow seen row
+  IsOwnLine seen (Skipped sat skip) = (sat ≡ seen.sat) × m.judged tag seen (Some skip)
 
   -- one for each satellite, in order
   abbrev pub AreOwnLines : List SatObs → List SatLine → Type 0
@@ -53,6 +54,10 @@ module _ (IsJudged : SatObs → Option Skip → Type 0) (Allows : SatObs → Pos
   AreOwnLines [] (line ∷ lines) = ⊥
   AreOwnLines (seen ∷ sats) [] = ⊥
   AreOwnLines (seen ∷ sats) (line ∷ lines) = IsOwnLine seen line × AreOwnLines sats lines
+
+-- those of an epoch
+abbrev pub AreLinesOf : Meaning → GridBox → ObsEpoch → List SatLine → Type 0
+AreLinesOf m root seen lines = AreOwnLines m root seen.tag seen.sats.items lines
 
 -- how many lines are of usable satellites
 abbrev pub usable_line : SatLine → ℕ

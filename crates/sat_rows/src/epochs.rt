@@ -2,10 +2,9 @@
 
 ghost use Rattle.std.specs.Prelude.{◌≡◌, IfOk};
 ghost use Rattle.sat_model.specs.Boxes.{grid_box};
-ghost use Rattle.sat_rows.specs.OwnRows.{IsOwnLine, IsSmallLine, AreOwnLines, AreSmall, usable_in, usable_line};
-ghost use Rattle.sat_rows.specs.Sources.{IsGpsJudged, IsGpsChain, gps_declared};
+ghost use Rattle.sat_rows.specs.OwnRows.{IsOwnLine, IsSmallLine, AreLinesOf, AreSmall, usable_in, usable_line};
+ghost use Rattle.sat_rows.specs.Sources.{gps_meaning};
 
-use crate::judging::{Judgement, judge_satellite};
 use crate::lines::{EpochRows, SatLine};
 use crate::spans::row_of;
 use error_bounds::Settings;
@@ -13,9 +12,10 @@ use rinex_nav::Nav;
 use rinex_obs::{ObsEpoch, SatObs};
 use sat_model::{Box3, NoMemory};
 use std::alloc::Global;
+use usable_sats::{Judgement, judge_satellite};
 
-/// One line for each satellite of the epoch, in order: a row that holds whatever the equations allow
-/// of it at the points of the root, or why it isn't usable.
+/// One line for each satellite of the epoch, in order: a row that holds whatever the equations
+/// allow of it at the points of the root, or why it isn't usable.
 pub fn rows(
     alloc: Global,
     epoch: &ObsEpoch,
@@ -23,8 +23,9 @@ pub fn rows(
     settings: &Settings,
     root: &Box3,
 ) -> Result<EpochRows, NoMemory>
-    ensures lines { IfOk result (λ rows. AreOwnLines (IsGpsJudged nav.now settings.now epoch.now.tag) (IsGpsChain nav.now settings.now epoch.now.tag) (gps_declared settings.now)
-        (grid_box root.now) epoch.now.sats.items rows.lines.items) }
+    ensures lines { IfOk result (λ rows.
+        AreLinesOf (gps_meaning nav.now settings.now) (grid_box root.now) epoch.now
+        rows.lines.items) }
     ensures small { IfOk result (λ rows. AreSmall rows.lines.items) }
     ensures usable { IfOk result (λ rows. rows.usable ≡ usable_in rows.lines.items) }
 {
@@ -40,7 +41,8 @@ pub fn rows(
 
 /// The line of a satellite of the epoch.
 fn line_of(seen: &SatObs, epoch: &ObsEpoch, nav: &Nav, settings: &Settings, root: &Box3) -> SatLine
-    ensures own { IsOwnLine (IsGpsJudged nav.now settings.now epoch.now.tag) (IsGpsChain nav.now settings.now epoch.now.tag) (gps_declared settings.now) (grid_box root.now) seen.now result }
+    ensures own { IsOwnLine (gps_meaning nav.now settings.now)
+        (grid_box root.now) epoch.now.tag seen.now result }
     ensures small { IsSmallLine result }
 {
     match judge_satellite(seen, epoch, nav, settings) {

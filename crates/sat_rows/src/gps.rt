@@ -17,22 +17,14 @@ pub struct GpsRows<'a> {
 }
 
 impl<'a> RowSource for GpsRows<'a> {
-    ghost use Rattle.sat_rows.specs.Sources.{IsGpsJudged, IsGpsChain, gps_declared};
-    ghost use Rattle.sat_rows.specs.Laws.{one_gps_judgement, gps_chain_exists, gps_range_is};
+    ghost use Rattle.sat_rows.specs.Sources.{gps_meaning};
+    ghost use Rattle.sat_rows.specs.Laws.{gps_sound};
 
-    ghost judged = { λ source. IsGpsJudged source.nav.now source.settings.now };
-
-    ghost allows = { λ source. IsGpsChain source.nav.now source.settings.now };
-
-    ghost declared = { λ source. gps_declared source.settings.now };
+    ghost meaning = { λ source. gps_meaning source.nav.now source.settings.now };
 
     fn lines(&self, alloc: Global, epoch: &ObsEpoch, root: &Box3) -> Result<EpochRows, NoMemory> {
         rows(alloc, epoch, self.nav, self.settings, root)
     }
 
-    ghost one_judgement = { λ source. one_gps_judgement source.nav.now source.settings.now };
-
-    ghost allowed_exists = { λ source. gps_chain_exists source.nav.now source.settings.now };
-
-    ghost range_is = { λ source. gps_range_is source.nav.now source.settings.now };
+    ghost sound = { λ source. gps_sound source.nav.now source.settings.now };
 }

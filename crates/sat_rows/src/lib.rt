@@ -1,13 +1,10 @@
-//! The rows of an epoch's satellites: spans that hold whatever the equations of IS-GPS-200 allow of a
-//! satellite at every grid point of the search box, or why the satellite isn't used.
+//! The rows of an epoch's satellites: spans that hold whatever the equations of IS-GPS-200 allow of
+//! a satellite at every grid point of the search box, or why the satellite isn't used.
 #![tactic(auto)]
 
-mod choice;
-mod codes;
 mod epochs;
 mod gps;
 mod growth;
-mod judging;
 mod lines;
 mod places;
 mod signals;
@@ -21,6 +18,3 @@ pub use gps::GpsRows;
 pub use growth::grown;
 pub use lines::{EpochRows, SatLine};
 pub use source::RowSource;
-
-#[cfg(test)]
-mod tests;

@@ -23,7 +23,8 @@ use sat_model::{Box3, Elements};
 fn sent_place(el: &Elements, t: Exact) -> Place
     requires near { IsNearOrbit el.now t.lo t.hi }
     requires width { (t.hi -ℤ t.lo) ≤ℤ pos time_width }
-    ensures holds { (n time x y z : ℤ) → MeanMotion el.now n → Holds t time → OrbitChain el.now n time x y z → HoldsPlace result x y z }
+    ensures holds { (n time x y z : ℤ) → MeanMotion el.now n → Holds t time
+        → OrbitChain el.now n time x y z → HoldsPlace result x y z }
     ensures ends { PlaceEnds near_reach narrow_width result }
 {
     place(el, mean_motion(el), t)
@@ -33,7 +34,9 @@ fn sent_place(el: &Elements, t: Exact) -> Place
 pub(crate) fn seen_place(el: &Elements, t: Exact, root: &Box3) -> Place
     requires near { IsNearOrbit el.now t.lo t.hi }
     requires width { (t.hi -ℤ t.lo) ≤ℤ pos time_width }
-    ensures holds { (p : Pos) (n time x y z tx ty : ℤ) (r : ℕ) → box_holds (grid_box root.now) p ≡ true → MeanMotion el.now n → Holds t time → OrbitChain el.now n time x y z → Turn p x y z tx ty r → HoldsPlace result tx ty z }
+    ensures holds { (p : Pos) (n time x y z tx ty : ℤ) (r : ℕ)
+        → box_holds (grid_box root.now) p ≡ true → MeanMotion el.now n → Holds t time
+        → OrbitChain el.now n time x y z → Turn p x y z tx ty r → HoldsPlace result tx ty z }
     ensures ends { PlaceEnds (reach_after near_reach) (spare_of (grid_box root.now)) result }
 {
     let unturned = sent_place(el, t);

@@ -8,15 +8,15 @@ ghost use Rattle.sat_model.specs.ClockChain.{ClockChain};
 ghost use Rattle.sat_model.specs.MeanMotion.{MeanMotion};
 ghost use Rattle.sat_model.specs.Pseudorange.{is_single, IsPseudorange, IsSent, IsCorrected};
 ghost use Rattle.sat_model.specs.RecordBounds.{time_bound};
-ghost use Rattle.sat_rows.specs.Measured.{codes_of};
+ghost use Rattle.usable_sats.specs.Measured.{codes_of};
 ghost use Rattle.sat_rows.specs.RowSizes.{AreNarrow, IsNearEpoch, IsNearOrbit, pseudorange_amount};
-ghost use Rattle.sat_rows.specs.Usability.{ArePlausible};
+ghost use Rattle.usable_sats.specs.Usability.{ArePlausible};
 
-use crate::codes::Measured;
 use fix_interval::Exact;
 use pseudorange_prep::{corrected, dual, sent_at, single};
 use sat_clock::{Clock, correction};
 use sat_model::Elements;
+use usable_sats::Measured;
 
 /// Whether there is one code alone.
 pub(crate) fn of_one_code(codes: &Measured) -> bool
@@ -41,13 +41,15 @@ pub(crate) fn pseudorange(codes: &Measured) -> Exact
     }
 }
 
-/// Every clock offset and every time of sending of a signal that came at `tag` over the pseudorange.
+/// Every clock offset and every time of sending of a signal that came at `tag` over the
+/// pseudorange.
 pub(crate) fn clock(tag: i128, range: Exact, el: &Elements, one_code: bool) -> Clock
     requires tag_from { pos 0 ≤ℤ tag }
     requires tag_under { tag <ℤ pos time_bound }
     requires near { IsNearEpoch el.now tag }
     requires range_ends { HasEnds pseudorange_amount 8 range }
-    ensures holds { (p v n dt t : ℤ) → Holds range p → IsSent tag p v → MeanMotion el.now n → ClockChain el.now one_code n v dt t → Holds result.dt dt × Holds result.t t }
+    ensures holds { (p v n dt t : ℤ) → Holds range p → IsSent tag p v → MeanMotion el.now n
+        → ClockChain el.now one_code n v dt t → Holds result.dt dt × Holds result.t t }
     ensures dt { HasEnds correction_size 64 result.dt }
     ensures t { (result.t.hi -ℤ result.t.lo) ≤ℤ pos time_width }
     ensures near_orbit { IsNearOrbit el.now result.t.lo result.t.hi }

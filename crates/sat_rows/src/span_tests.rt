@@ -1,13 +1,13 @@
 ghost use Rattle.std.specs.Prelude.{◌≡◌, pos, ◌+ℤ◌};
-ghost use Rattle.sat_rows.specs.Measured.{codes_of};
+ghost use Rattle.usable_sats.specs.Measured.{codes_of};
 ghost use Rattle.sat_rows.specs.OwnRows.{IsSmallRow};
 ghost use Rattle.sat_rows.specs.RowSizes.{AreNarrow};
-ghost use Rattle.sat_rows.specs.Usability.{ArePlausible};
+ghost use Rattle.usable_sats.specs.Usability.{ArePlausible};
 
-use crate::codes::Measured;
 use crate::grown;
 use crate::spans::row_of;
 use sat_model::{Box3, Elements, Pos, Row, Sat, Span, Wide};
+use usable_sats::Measured;
 
 /// 2024-01-07 00:00:00, a Sunday, in ps.
 const WEEK_START: i128 = 1_388_620_800_000_000_000_000;
@@ -62,7 +62,8 @@ fn circle() -> Elements
     }
 }
 
-/// What was received 0.07 s after the ephemeris time, over a cube of 2 m round a point of the equator.
+/// What was received 0.07 s after the ephemeris time, over a cube of 2 m round a point of the
+/// equator.
 fn seen_by(codes: &Measured) -> Row
     requires plausible { ArePlausible (codes_of codes.now) }
     requires narrow { AreNarrow (codes_of codes.now) }
@@ -100,8 +101,8 @@ fn holds(span: Span, n: i64) -> bool {
 
 #[test]
 fn a_satellite_overhead_with_one_code_and_with_two(rt: HostRuntime) {
-    // A group delay of 10 ns is taken off of one code alone: the range is 2997924.58 um shorter, and
-    // the satellite has gone on by 18.7 um to the east.
+    // A group delay of 10 ns is taken off of one code alone: the range is 2997924.58 um shorter,
+    // and the satellite has gone on by 18.7 um to the east.
     let one = seen_by(&Measured::Single(exact(RANGE)));
     assert!(rt;
         holds(one.range, 20_985_472_060_000 - 2_997_925),

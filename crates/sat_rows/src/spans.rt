@@ -6,16 +6,16 @@ ghost use Rattle.sat_model.specs.RecordBounds.{time_bound};
 ghost use Rattle.sat_model.specs.Relaxed.{ends};
 ghost use Rattle.sat_model.specs.Sizes.{IsPlaceSize};
 ghost use Rattle.sat_rows.specs.Chains.{IsChainOf};
-ghost use Rattle.sat_rows.specs.Measured.{codes_of};
+ghost use Rattle.usable_sats.specs.Measured.{codes_of};
 ghost use Rattle.sat_rows.specs.OwnRows.{HoldsAllowed, IsTight, IsSmall, IsSmallRow};
 ghost use Rattle.sat_rows.specs.RowSizes.{AreNarrow, IsNearEpoch};
-ghost use Rattle.sat_rows.specs.Usability.{ArePlausible};
+ghost use Rattle.usable_sats.specs.Usability.{ArePlausible};
 
-use crate::codes::Measured;
 use crate::places::seen_place;
 use crate::signals::{clock, corrected_range, of_one_code, pseudorange};
 use fix_interval::Exact;
 use sat_model::{Box3, Elements, Row, Sat, Span};
+use usable_sats::Measured;
 
 /// The same numbers in 64 bits.
 fn span_of(x: Exact) -> Span
@@ -30,9 +30,9 @@ fn span_of(x: Exact) -> Span
     }
 }
 
-/// The row of a satellite whose signal came at `tag` by the receiver's clock, in ps since 1980-01-06
-/// 00:00:00 GPS time and within 14,401 s of the ephemeris time: it holds whatever the equations allow
-/// as seen from the points of the box.
+/// The row of a satellite whose signal came at `tag` by the receiver's clock, in ps since
+/// 1980-01-06 00:00:00 GPS time and within 14,401 s of the ephemeris time: it holds whatever the
+/// equations allow as seen from the points of the box.
 pub(crate) fn row_of(
     sat: Sat,
     tag: i128,
@@ -49,7 +49,9 @@ pub(crate) fn row_of(
     requires small_err { IsSmall (10 ^ 10) err }
     ensures sat { result.sat ≡ sat }
     ensures err { ends result.err ≡ ends err }
-    ensures holds { HoldsAllowed (IsChainOf (record { tag = tag; codes = codes_of codes.now; el = el.now })) (grid_box root.now) result }
+    ensures holds { HoldsAllowed
+        (IsChainOf (record { tag = tag; codes = codes_of codes.now; el = el.now }))
+        (grid_box root.now) result }
 
     // Each span is at most 2,000 um and a 50,000th of the longest side of the box wide.
     ensures x_tight { IsTight (grid_box root.now) result.x }

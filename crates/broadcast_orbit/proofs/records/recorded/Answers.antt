@@ -8,6 +8,7 @@ invariant_of-result-5 c = record {
   toc_under = omega (arith, ints);
   toc_near = record { low = record { low = omega (arith, ints); high = omega (arith, ints) }; high = record { low = omega (arith, ints); high = omega (arith, ints) } };
   toe_within = record { from = omega (arith, ints); to = omega (arith, ints); narrow = omega (arith, ints) };
+  toe_under = omega (arith, ints);
   af0_within = record { from = omega (arith, ints); to = omega (arith, ints); narrow = omega (arith, ints) };
   af1_within = record { from = omega (arith, ints); to = omega (arith, ints); narrow = omega (arith, ints) };
   af2_within = record { from = omega (arith, ints); to = omega (arith, ints); narrow = omega (arith, ints) };

@@ -1,65 +1,70 @@
-use Rattle.std.proofs.Common.{Option, Err, inl, inr, refl, ap, ◌∙◌}
+use Rattle.std.proofs.Common.{[], ◌∷◌}
 use Rattle.std.proofs.lemmas.Result.{err_from_is_err_and}
-use Rattle.std.specs.FinMap as map
-use Rattle.outer_io.specs.Told.{Files}
-use Rattle.cover_run.proofs.FileReads.{counted_from}
-use Rattle.cover_run.proofs.CheckedReads.{log_behind, log_there, inputs_there, inputs_end, log_end, both_end}
-use Rattle.cover_run.specs.Inputs.{file_in, IsCounted, MayBreak}
+use Rattle.outer_io.specs.declared.slots.Slot.TheVariants as slot
+use Rattle.paving_log.specs.Values.{log_value}
+use Rattle.cover_run.proofs.ReadingLemmas.{found_err, found_then, found_return, named_fair}
+use Rattle.cover_run.proofs.ReadingLemmas.{return_fair}
+use Rattle.cover_run.proofs.ReadingLemmas.{only_as, only_err, only_then}
+use Rattle.cover_run.proofs.TaskLemmas.{inputs_fair, log_fair}
+use Rattle.cover_run.specs.Asked.{names_in}
+use Rattle.cover_run.specs.Inputs.{input_slots, inputs_value}
+use Rattle.cover_run.specs.Logs.{log_text}
+use Rattle.cover_run.specs.declared.checked.Checked.{Checked}
 use Rattle.cover_run.proofs.checked.read_checked.Goals as goal
 
 -- ---- the files weren't read
 
-pub returns-in_err-inputs-clause-reads : goal.returns-in_err-inputs-clause-reads
-returns-in_err-inputs-clause-reads g c =
+pub returns-in_err-inputs-clause-found : goal.returns-in_err-inputs-clause-found
+returns-in_err-inputs-clause-found g c =
     let p = err_from_is_err_and c.from_residual.result c.from_residual.ensures.1 in
-    rw (p.1, p.2) (inr (c.in_err-inputs.field-0.0, c.in_err-inputs.ensures.reads, refl))
+    rw (p.1, p.2) (found_err _ _ _ _ _ c.in_err-inputs.field-0.0 c.in_err-inputs.ensures.found)
 
-pub returns-in_err-inputs-clause-exact : goal.returns-in_err-inputs-clause-exact
-returns-in_err-inputs-clause-exact g c = λ told other is gives.
+pub returns-in_err-inputs-clause-only : goal.returns-in_err-inputs-clause-only
+returns-in_err-inputs-clause-only g c =
     let p = err_from_is_err_and c.from_residual.result c.from_residual.ensures.1 in
-    rw (p.1, p.2) (inputs_end c.args.limits.now (record { obs = c.args.obs.now; nav = c.args.nav.now; settings = c.args.settings.now }) c.args.log.now told c.in_err-inputs.field-0.0
-    (λ o r. c.in_err-inputs.ensures.exact told o is r) other gives)
+    rw (p.1, p.2) (only_err input_slots (slot.Log ∷ []) _ _ c.in_err-inputs.field-0.0
+    c.in_err-inputs.ensures.only)
 
 -- ---- the log wasn't read
 
-pub returns-in_err-log-clause-reads : goal.returns-in_err-log-clause-reads
-returns-in_err-log-clause-reads g c =
-    let p = err_from_is_err_and c.from_residual-in_err-log.result c.from_residual-in_err-log.ensures.1 in
-    rw (p.1, p.2) (inl (
-      c.in_ok-inputs.inputs,
-      inputs_there (MayBreak (IsCounted (g.H.Shelf.read_faults c.args.shelf.now) (g.H.Shelf.read_faults c.read_inputs.new.shelf) (g.H.Shelf.reliable c.read_inputs.new.shelf)))
-          (MayBreak (IsCounted (g.H.Shelf.read_faults c.args.shelf.now) (g.H.Shelf.read_faults c.log_in.new.shelf) (g.H.Shelf.reliable c.log_in.new.shelf))) c.args.limits.now _ _ c.in_ok-inputs.inputs c.in_ok-inputs.ensures.reads,
-      inr (
-        c.in_err-log.field-0.0,
-        log_behind c.args.limits.now.log _ _ c.args.log.now _ _ (Err c.in_err-log.field-0.0) c.in_ok-inputs.ensures.files (counted_from _ _ _ _ c.in_ok-inputs.ensures.later) c.in_err-log.ensures.reads,
-        refl,
-      ),
-    ))
+pub returns-in_err-log-clause-found : goal.returns-in_err-log-clause-found
+returns-in_err-log-clause-found g c =
+    let p = err_from_is_err_and c.from_residual-in_err-log.result
+    c.from_residual-in_err-log.ensures.1 in
+    let limits = c.args.limits.now in
+    let words = c.args.words.now in
+    rw (p.1, p.2) (found_then _ _ (inputs_fair limits (names_in words))
+    (log_fair limits (names_in words) words.log.now) input_slots _ _ _ _ _ _
+    (inputs_value c.in_ok-inputs.inputs) _ c.in_ok-inputs.ensures.only c.in_ok-inputs.ensures.found
+    (found_err _ _ _ _ _ c.in_err-log.field-0.0 c.in_err-log.ensures.found))
 
-pub returns-in_err-log-clause-exact : goal.returns-in_err-log-clause-exact
-returns-in_err-log-clause-exact g c = λ told other is gives.
-    let p = err_from_is_err_and c.from_residual-in_err-log.result c.from_residual-in_err-log.ensures.1 in
-    rw (p.1, p.2) (log_end c.args.limits.now (record { obs = c.args.obs.now; nav = c.args.nav.now; settings = c.args.settings.now }) c.args.log.now told c.in_ok-inputs.inputs c.in_err-log.field-0.0
-    (λ o r. c.in_ok-inputs.ensures.exact told o is r)
-    (λ o r. c.in_err-log.ensures.exact (map.get told c.args.log.now) o (ap (λ (files : Option Files). file_in files c.args.log.now) (c.in_ok-inputs.ensures.files ∙ is)) r) other gives)
+pub returns-in_err-log-clause-only : goal.returns-in_err-log-clause-only
+returns-in_err-log-clause-only g c =
+    let p = err_from_is_err_and c.from_residual-in_err-log.result
+    c.from_residual-in_err-log.ensures.1 in
+    rw (p.1, p.2) (only_then input_slots (slot.Log ∷ []) _ _ _ c.in_ok-inputs.inputs _
+    c.in_ok-inputs.ensures.only (only_err (slot.Log ∷ []) [] _ _ c.in_err-log.field-0.0
+    c.in_err-log.ensures.only))
 
 -- ---- all were read
 
-pub returns-clause-reads : goal.returns-clause-reads
-returns-clause-reads g c =
-    inl (
-      c.in_ok-inputs.inputs,
-      inputs_there (MayBreak (IsCounted (g.H.Shelf.read_faults c.args.shelf.now) (g.H.Shelf.read_faults c.read_inputs.new.shelf) (g.H.Shelf.reliable c.read_inputs.new.shelf)))
-          (MayBreak (IsCounted (g.H.Shelf.read_faults c.args.shelf.now) (g.H.Shelf.read_faults c.log_in.new.shelf) (g.H.Shelf.reliable c.log_in.new.shelf))) c.args.limits.now _ _ c.in_ok-inputs.inputs c.in_ok-inputs.ensures.reads,
-      inl (
-        c.in_ok-log.log,
-        log_there c.args.limits.now.log _ _ c.args.log.now c.in_ok-log.log c.in_ok-inputs.ensures.files c.in_ok-log.ensures.reads,
-        refl,
-      ),
-    )
+pub returns-clause-found : goal.returns-clause-found
+returns-clause-found g c =
+    let limits = c.args.limits.now in
+    let words = c.args.words.now in
+    let i = inputs_value c.in_ok-inputs.inputs in
+    let log = log_value c.in_ok-log.log in
+    found_then _ _ (inputs_fair limits (names_in words))
+    (log_fair limits (names_in words) words.log.now) input_slots _ _ _ _ _ _ i _
+    c.in_ok-inputs.ensures.only c.in_ok-inputs.ensures.found
+    (found_then _ _ (named_fair limits log_text words.log.now)
+    (λ x. return_fair (record { inputs = i; log = x }))
+    (slot.Log ∷ []) _ _ _ _ _ _ log _ c.in_ok-log.ensures.only c.in_ok-log.ensures.found
+    (found_return (record { inputs = i; log = log }) _ _ _))
 
-pub returns-clause-exact : goal.returns-clause-exact
-returns-clause-exact g c = λ told other is gives.
-    both_end c.args.limits.now (record { obs = c.args.obs.now; nav = c.args.nav.now; settings = c.args.settings.now }) c.args.log.now told (record { inputs = c.in_ok-inputs.inputs; log = c.in_ok-log.log })
-    (λ o r. c.in_ok-inputs.ensures.exact told o is r)
-    (λ o r. c.in_ok-log.ensures.exact (map.get told c.args.log.now) o (ap (λ (files : Option Files). file_in files c.args.log.now) (c.in_ok-inputs.ensures.files ∙ is)) r) other gives
+pub returns-clause-only : goal.returns-clause-only
+returns-clause-only g c =
+    let all : Checked = record { inputs = c.in_ok-inputs.inputs; log = c.in_ok-log.log } in
+    only_then input_slots (slot.Log ∷ []) _ _ _ c.in_ok-inputs.inputs _
+    c.in_ok-inputs.ensures.only (only_as (slot.Log ∷ []) _ _ c.in_ok-log.log all
+    c.in_ok-log.ensures.only)

@@ -5,4 +5,5 @@ use Rattle.cover_run.proofs.input_texts.push_shown.Given as goal
 
 abbrev pub invariant-characters : goal.invariant-characters
 invariant-characters l =
-    l.line.bytes ++ shown_chars (drop (length l.yielded) (chars l.text)) ≡ l.initial.line.bytes ++ shown_chars (chars l.text)
+    l.line.bytes ++ shown_chars (drop (length l.yielded) (chars l.text)) ≡ l.initial.line.bytes ++
+    shown_chars (chars l.text)

@@ -1,29 +1,45 @@
-use Rattle.std.proofs.Common.{Some, Err, refl, ap}
-use Rattle.paving_log.specs.Values.{log_value}
-use Rattle.cover_run.proofs.SolvingRun.{solve_done, solve_ended, opens_log}
-use Rattle.cover_run.specs.Answers.{world}
-use Rattle.cover_run.specs.declared.status.Status.TheVariants as status
+use Rattle.std.proofs.Common.{[], List, ℕ, length, ap, subst, ◌∙◌}
+use Rattle.epoch_rows.proofs.AdmitLemmas.{has_corner}
+use Rattle.epoch_rows.proofs.KeptLemmas.{text_of_epochs}
+use Rattle.epoch_rows.specs.EpochsLeft.{EpochsLeft, left_in, left_of, of_epochs}
+use Rattle.epoch_selection.specs.Selections.{selected}
+use Rattle.epoch_selection.specs.declared.selection.Selection.{Selection}
+use Rattle.log_writer.specs.Sizes.{most_bytes}
+use Rattle.log_writer.specs.Texts.{IsText}
+use Rattle.sat_model.specs.Boxes.{grid_box}
+use Rattle.sat_model.specs.declared.rules.Rules.{Rules}
+use Rattle.sat_rows.specs.Sources.{gps_meaning}
+use Rattle.sat_rows.specs.declared.gps.GpsRows.{GpsRows}
+use Rattle.cover_run.proofs.SolvingLemmas.{solution_of}
+use Rattle.cover_run.proofs.WritingLemmas.{writes_as}
+use Rattle.cover_run.specs.Solving.{IsSolution, gives_of, meaning_of}
+use Rattle.cover_run.specs.Writing.{Answer}
 use Rattle.cover_run.proofs.solving.write_solution.Goals as goal
 
-pub returns-in-Ok-create_log-clause-ends : goal.returns-in-Ok-create_log-clause-ends
-returns-in-Ok-create_log-clause-ends g c =
-    solve_done c.args.limit c.args.log.now (world (g.H.Shelf.told c.args.shelf.now) (g.H.Shelf.phases c.args.shelf.now) (g.H.Shelf.read_faults c.args.shelf.now) (g.H.Shelf.write_faults c.args.shelf.now) (g.O.Sink.taken c.args.out.now) (g.O.Sink.faults c.args.out.now) (g.E.Sink.taken c.args.err.now) (g.E.Sink.faults c.args.err.now))
-    (world (g.H.Shelf.told c.create_log.new.shelf) (g.H.Shelf.phases c.create_log.new.shelf) (g.H.Shelf.read_faults c.create_log.new.shelf) (g.H.Shelf.write_faults c.create_log.new.shelf) (g.O.Sink.taken c.create_log.new.out) (g.O.Sink.faults c.create_log.new.out) (g.E.Sink.taken c.args.err.now) (g.E.Sink.faults c.args.err.now))
-    (g.H.Shelf.reliable c.create_log.new.shelf (Some c.args.log.now)) (g.O.Sink.reliable c.create_log.new.out) c.args.inputs.now (log_value c.in-Ok.rows) status.Done c.in-Ok.ensures.rows c.in-Ok-create_log.ensures.log refl refl
-
-pub returns-in-Ok-create_log-clause-phases : goal.returns-in-Ok-create_log-clause-phases
-returns-in-Ok-create_log-clause-phases g c = opens_log _ _ c.create_log.ensures.phases.0 c.create_log.ensures.phases.1
-
-pub returns-clause-ends : goal.returns-clause-ends
-returns-clause-ends g c =
-    let j = c.create_log.ensures in
-    let is = c.in-Err-create_log.is in
-    solve_ended c.args.limit c.args.log.now (world (g.H.Shelf.told c.args.shelf.now) (g.H.Shelf.phases c.args.shelf.now) (g.H.Shelf.read_faults c.args.shelf.now) (g.H.Shelf.write_faults c.args.shelf.now) (g.O.Sink.taken c.args.out.now) (g.O.Sink.faults c.args.out.now) (g.E.Sink.taken c.args.err.now) (g.E.Sink.faults c.args.err.now))
-    (world (g.H.Shelf.told c.create_log.new.shelf) (g.H.Shelf.phases c.create_log.new.shelf) (g.H.Shelf.read_faults c.create_log.new.shelf) (g.H.Shelf.write_faults c.create_log.new.shelf) (g.O.Sink.taken c.create_log.new.out) (g.O.Sink.faults c.create_log.new.out) (g.E.Sink.taken c.say-in-Err-create_log.new.err) (g.E.Sink.faults c.say-in-Err-create_log.new.err))
-    (g.H.Shelf.reliable c.create_log.new.shelf (Some c.args.log.now)) (g.O.Sink.reliable c.create_log.new.out) c.args.inputs.now (log_value c.in-Ok.rows) c.in-Err-create_log.notice c.say-in-Err-create_log.result c.in-Ok.ensures.rows c.in-Err-create_log.ensures.log (record {
-      of_log = λ e. (c.in-Err-create_log.ensures.failed (ap Err e), λ reliable. (c.in-Err-create_log.ensures.reliable (Some c.args.log.now) reliable).1 refl (ap Err e));
-      of_out = λ e. (c.in-Err-create_log.ensures.out_failed (ap Err e), λ reliable. c.in-Err-create_log.ensures.out_reliable reliable (ap Err e));
-    }) c.say-in-Err-create_log.ensures.status c.say-in-Err-create_log.ensures.line
-
-pub returns-clause-phases : goal.returns-clause-phases
-returns-clause-phases g c = opens_log _ _ c.create_log.ensures.phases.0 c.create_log.ensures.phases.1
+pub returns : goal.returns
+returns g c =
+    let i = c.args.inputs.now in
+    let rules = i.settings.rules in
+    let limit = c.args.limits.now.log in
+    let made = c.of_file-blocks.ensures in
+    let b = c.of_file-blocks.result in
+    let left_is = made.left ∙ ap (λ (s : Selection).
+    left_in (grid_box c.root-root.result) (selected s i.obs.epochs.items)) c.all.ensures in
+    let by_source = λ (answer : Answer) (bytes said : List ℕ). subst
+    (λ (s : GpsRows). IsText (of_epochs (gps_meaning s.nav.now s.settings.now) b.rules.outliers)
+    rules (left_of b.searches) limit answer bytes said) made.source in
+    let by_rules = λ (answer : Answer) (bytes said : List ℕ). subst
+    (λ (r : Rules). IsText (of_epochs (meaning_of i) r.outliers) rules (left_of b.searches)
+    limit answer bytes said) made.rules in
+    let by_left = λ (answer : Answer) (bytes said : List ℕ). subst
+    (λ (left : EpochsLeft). IsText (gives_of i) rules left limit answer bytes said) left_is in
+    writes_as [] _ _ _ _ limit _ _ _ (IsSolution i limit)
+    (λ answer bytes said text. solution_of i (grid_box c.root-root.result) limit
+    c.root-root.result.lo answer bytes said c.root-root.ensures (has_corner c.root-root.result)
+    (by_left answer bytes said
+    (by_rules answer bytes said (by_source answer bytes said (text_of_epochs
+    (λ x. x.source.now) (λ x. x.rules) (λ x. x.searches)
+    (λ (s : GpsRows). gps_meaning s.nav.now s.settings.now) b rules limit answer bytes said
+    text)))))
+    (ap (λ (left : EpochsLeft). most_bytes (length left.epochs) rules.bisections) left_is)
+    c.write_named.result c.write_named.ensures

@@ -4,7 +4,8 @@ use Rattle.std.proofs.lemmas.Int.{ints}
 use Rattle.std.specs.Fmt.{decimal, sign_text}
 use lib.Signed.{lt_z}
 use lib.IntN.{nat_abs}
-use Rattle.epoch_report.specs.Metres.{last_digits, with_point, seconds_text}
+use Rattle.decimal_digits.specs.Digits.{last_digits}
+use Rattle.epoch_report.specs.Metres.{with_point, seconds_text}
 use Rattle.epoch_report.proofs.DigitLemmas.{twelve_of_rest}
 use Rattle.epoch_report.proofs.lengths.seconds.Goals as goal
 

@@ -12,7 +12,7 @@ invariant_of-result g c =
     let seen = c.args.epoch.now in
     let h = c.in_ok-own.ensures in
     record {
-      at_most = few_skips (s.judged c.args.source.now seen.tag) (s.allows c.args.source.now seen.tag) (s.declared c.args.source.now) (grid_box c.args.root.now) seen c.in_ok-own.own.lines.items _ h.lines c.deref.ensures.value _
+      at_most = few_skips (s.meaning c.args.source.now) (grid_box c.args.root.now) seen c.in_ok-own.own.lines.items _ h.lines c.deref.ensures.value _
           c.in_ok-skip_lines.ensures;
       paved = refl;
     }
@@ -30,10 +30,10 @@ returns-then-n-from-clause-fits g c =
     let items = c.in_ok-skip_lines.field-0.items in
     record {
       header = header_fits seen.index c.in_ok-own.own.usable _ seen.tag same c.requires.index seen.tag_from seen.tag_under
-          (few_usable (s.judged source seen.tag) (s.allows source seen.tag) (s.declared source) root seen own own h.lines refl _ h.usable);
-      sats = skip_entries (s.judged source seen.tag) (s.allows source seen.tag) (s.declared source) root seen own _ h.lines c.deref.ensures.value (c.requires.skips seen.tag) c.requires.gps items c.in_ok-skip_lines.ensures;
-      at_most = few_skips (s.judged source seen.tag) (s.allows source seen.tag) (s.declared source) root seen own _ h.lines c.deref.ensures.value items c.in_ok-skip_lines.ensures;
-      body = (refl, skips_skipped (s.judged source seen.tag) (s.allows source seen.tag) (s.declared source) root seen own _ h.lines c.deref.ensures.value items c.in_ok-skip_lines.ensures, c.new.ensures.items, refl);
+          (few_usable (s.meaning source) root seen own own h.lines refl _ h.usable);
+      sats = skip_entries (s.meaning source) root seen own _ h.lines c.deref.ensures.value c.requires.skips c.requires.gps items c.in_ok-skip_lines.ensures;
+      at_most = few_skips (s.meaning source) root seen own _ h.lines c.deref.ensures.value items c.in_ok-skip_lines.ensures;
+      body = (refl, skips_skipped (s.meaning source) root seen own _ h.lines c.deref.ensures.value items c.in_ok-skip_lines.ensures, c.new.ensures.items, refl);
     }
 
 pub invariant_of-result-2 : goal.invariant_of-result-2
@@ -42,7 +42,7 @@ invariant_of-result-2 g c =
     let seen = c.args.epoch.now in
     let h = c.in_ok-own.ensures in
     record {
-      at_most = few_grown (s.judged c.args.source.now seen.tag) (s.allows c.args.source.now seen.tag) (s.declared c.args.source.now) (grid_box c.args.root.now) seen c.in_ok-own.own.lines.items _ h.lines c.deref-2.ensures.value
+      at_most = few_grown (s.meaning c.args.source.now) (grid_box c.args.root.now) seen c.in_ok-own.own.lines.items _ h.lines c.deref-2.ensures.value
           (pos (spare_of (grid_box c.args.root.now))) _ c.in_ok-grown_lines.ensures;
       paved = refl;
     }
@@ -60,8 +60,8 @@ returns-clause-fits g c =
     let items = c.in_ok-grown_lines.field-0.items in
     record {
       header = header_fits seen.index c.in_ok-own.own.usable _ seen.tag same c.requires.index seen.tag_from seen.tag_under
-          (few_usable (s.judged source seen.tag) (s.allows source seen.tag) (s.declared source) root seen own own h.lines refl _ h.usable);
-      sats = grown_entries (s.judged source seen.tag) (s.allows source seen.tag) (s.declared source) root seen own _ h.lines c.deref-2.ensures.value (c.requires.skips seen.tag) c.requires.gps (pos (spare_of root)) items c.in_ok-grown_lines.ensures;
-      at_most = few_grown (s.judged source seen.tag) (s.allows source seen.tag) (s.declared source) root seen own _ h.lines c.deref-2.ensures.value (pos (spare_of root)) items c.in_ok-grown_lines.ensures;
+          (few_usable (s.meaning source) root seen own own h.lines refl _ h.usable);
+      sats = grown_entries (s.meaning source) root seen own _ h.lines c.deref-2.ensures.value c.requires.skips c.requires.gps (pos (spare_of root)) items c.in_ok-grown_lines.ensures;
+      at_most = few_grown (s.meaning source) root seen own _ h.lines c.deref-2.ensures.value (pos (spare_of root)) items c.in_ok-grown_lines.ensures;
       body = (refl, root_fits c.args.root.now, (c.new-2.ensures.items, refl));
     }

@@ -16,9 +16,9 @@ returns-in_err-extend_from_slice-clause-at_most g c = (
 pub reading-preserved : goal.reading-preserved
 reading-preserved g c = record {
   within = grind (arith, common_steps);
-  bytes = subst (Consumes (left_of c.args.slot (g.H.Shelf.told c.args.shelf.now)) (left_of c.args.slot (g.H.Shelf.told c.read.new.self)))
+  bytes = subst (Consumes (left_of c.args.slot (g.H.Shelf.state c.args.shelf.now)) (left_of c.args.slot (g.H.Shelf.state c.read.new.self)))
       (sym c.in_ok-extend_from_slice.ensures.items) (Consumes-trans _ _ _ _ _ c.reading.invariant.bytes c.in_ok-count.ensures.bytes.0);
-  moved = subst (MovedBy (g.H.Shelf.told c.args.shelf.now) (g.H.Shelf.told c.read.new.self) c.args.slot)
+  moved = subst (MovedBy (g.H.Shelf.state c.args.shelf.now) (g.H.Shelf.state c.read.new.self) c.args.slot)
       (sym (grind (arith, common_steps, c.in_ok-extend_from_slice.ensures.len, c.in_ok-count.ensures.bound))) (moved-more _ _ _ _ _ _ c.reading.invariant.moved c.in_ok-count.ensures.moves);
   later = grind (arith, common_steps, c.in_ok-count.ensures.cause.later);
   other = c.read.ensures.other ∙ c.reading.invariant.other;

@@ -6,13 +6,13 @@ use Rattle.outer_io.proofs.reading.read_all.Given as goal
 abbrev pub invariant-reading : goal.invariant-reading
 invariant-reading g l = record {
   within : vec_len l.all ≤ l.limit;
-  bytes : Consumes (left_of l.slot (g.H.Shelf.told l.fn.shelf)) (left_of l.slot (g.H.Shelf.told l.shelf)) l.all.items;
-  moved : MovedBy (g.H.Shelf.told l.fn.shelf) (g.H.Shelf.told l.shelf) l.slot (vec_len l.all);
-  later : g.H.Shelf.read_faults l.fn.shelf ≤ g.H.Shelf.read_faults l.shelf;
-  other : g.H.Shelf.write_faults l.shelf ≡ g.H.Shelf.write_faults l.fn.shelf;
+  bytes : Consumes (left_of l.slot (g.H.Shelf.state l.fn.shelf)) (left_of l.slot (g.H.Shelf.state l.shelf)) l.all.items;
+  moved : MovedBy (g.H.Shelf.state l.fn.shelf) (g.H.Shelf.state l.shelf) l.slot (vec_len l.all);
+  later : (g.H.Shelf.state l.fn.shelf).read_faults ≤ (g.H.Shelf.state l.shelf).read_faults;
+  other : (g.H.Shelf.state l.shelf).write_faults ≡ (g.H.Shelf.state l.fn.shelf).write_faults;
   reliable : (log : Option (List ℕ)) → g.H.Shelf.reliable l.shelf log
-      → g.H.Shelf.reliable l.fn.shelf log × (g.H.Shelf.read_faults l.shelf ≡ g.H.Shelf.read_faults l.fn.shelf);
-  phase : g.H.Shelf.phases l.shelf ≡ g.H.Shelf.phases l.fn.shelf;
+      → g.H.Shelf.reliable l.fn.shelf log × ((g.H.Shelf.state l.shelf).read_faults ≡ (g.H.Shelf.state l.fn.shelf).read_faults);
+  phase : (g.H.Shelf.state l.shelf).phases ≡ (g.H.Shelf.state l.fn.shelf).phases;
 }
 
 abbrev pub decreases-reading : goal.decreases-reading

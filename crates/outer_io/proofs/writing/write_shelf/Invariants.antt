@@ -5,12 +5,12 @@ use Rattle.outer_io.proofs.writing.write_shelf.Given as goal
 abbrev pub invariant-loop-done : goal.invariant-loop-done
 invariant-loop-done g l = record {
   within : l.done ≤ length l.bytes;
-  appended : AppendedBy (g.H.Shelf.told l.fn.shelf) (g.H.Shelf.told l.shelf) l.slot (take l.done l.bytes);
-  later : g.H.Shelf.write_faults l.fn.shelf ≤ g.H.Shelf.write_faults l.shelf;
-  other : g.H.Shelf.read_faults l.shelf ≡ g.H.Shelf.read_faults l.fn.shelf;
+  appended : AppendedBy (g.H.Shelf.state l.fn.shelf) (g.H.Shelf.state l.shelf) l.slot (take l.done l.bytes);
+  later : (g.H.Shelf.state l.fn.shelf).write_faults ≤ (g.H.Shelf.state l.shelf).write_faults;
+  other : (g.H.Shelf.state l.shelf).read_faults ≡ (g.H.Shelf.state l.fn.shelf).read_faults;
   reliable : (log : Option (List ℕ)) → g.H.Shelf.reliable l.shelf log
-      → g.H.Shelf.reliable l.fn.shelf log × (is_some log ≡ true → g.H.Shelf.write_faults l.shelf ≡ g.H.Shelf.write_faults l.fn.shelf);
-  phase : g.H.Shelf.phases l.shelf ≡ g.H.Shelf.phases l.fn.shelf;
+      → g.H.Shelf.reliable l.fn.shelf log × (is_some log ≡ true → (g.H.Shelf.state l.shelf).write_faults ≡ (g.H.Shelf.state l.fn.shelf).write_faults);
+  phase : (g.H.Shelf.state l.shelf).phases ≡ (g.H.Shelf.state l.fn.shelf).phases;
 }
 
 abbrev pub decreases-loop-done : goal.decreases-loop-done

@@ -1,13 +1,13 @@
 use Rattle.std.proofs.Common.{length, ◌-◌, ◌≡◌, ◌≤◌, take}
-use Rattle.std.specs.Io.KnownBytes.{append_known}
+use Rattle.outer_io.specs.Taken.{TakenBy}
 use Rattle.outer_io.proofs.writing.write_sink.Given as goal
 
 abbrev pub invariant-loop-done : goal.invariant-loop-done
 invariant-loop-done g l = record {
   within : l.done ≤ length l.bytes;
-  taken : g.O.Sink.taken l.sink ≡ append_known (g.O.Sink.taken l.fn.sink) (take l.done l.bytes);
-  later : g.O.Sink.faults l.fn.sink ≤ g.O.Sink.faults l.sink;
-  reliable : g.O.Sink.reliable l.sink → g.O.Sink.reliable l.fn.sink × (g.O.Sink.faults l.sink ≡ g.O.Sink.faults l.fn.sink);
+  taken : TakenBy (g.O.Sink.state l.fn.sink) (g.O.Sink.state l.sink) (take l.done l.bytes);
+  later : (g.O.Sink.state l.fn.sink).faults ≤ (g.O.Sink.state l.sink).faults;
+  reliable : g.O.Sink.reliable l.sink → g.O.Sink.reliable l.fn.sink × ((g.O.Sink.state l.sink).faults ≡ (g.O.Sink.state l.fn.sink).faults);
 }
 
 abbrev pub decreases-loop-done : goal.decreases-loop-done

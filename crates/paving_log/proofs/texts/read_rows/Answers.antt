@@ -1,4 +1,3 @@
-use Rattle.paving_log.proofs.BuiltLemmas.{gives_built}
 use Rattle.paving_log.proofs.RowsLemmas.{gives_rows, gives_rows_fault, gives_pavable}
 use Rattle.paving_log.proofs.texts.read_rows.Goals as goal
 
@@ -10,6 +9,3 @@ returns-clause-first c = gives_rows_fault c.tested_rows.result c.args.bytes.now 
 
 pub returns-clause-pavable : goal.returns-clause-pavable
 returns-clause-pavable c = gives_pavable c.tested_rows.result c.args.bytes.now c.tested_rows.ensures.value
-
-pub returns-clause-built : goal.returns-clause-built
-returns-clause-built c = gives_built c.tested_rows.result c.args.bytes.now c.tested_rows.ensures.fault

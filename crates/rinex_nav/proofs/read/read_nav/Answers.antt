@@ -1,4 +1,5 @@
 use Rattle.rinex_nav.proofs.OnlyLemmas.{gives_records, gives_refusal}
+use Rattle.rinex_nav.proofs.WholeLemmas.{whole_read}
 use Rattle.rinex_nav.proofs.read.read_nav.Goals as goal
 
 pub returns-clause-exact : goal.returns-clause-exact
@@ -6,3 +7,6 @@ returns-clause-exact c = λ records. gives_records c.args.bytes.now records c.re
 
 pub returns-clause-first : goal.returns-clause-first
 returns-clause-first c = λ r. gives_refusal c.args.bytes.now r c.read_text.result c.read_text.ensures.records c.read_text.ensures.fault
+
+pub returns-clause-whole : goal.returns-clause-whole
+returns-clause-whole c = whole_read c.args.bytes.now c.read_text.result c.read_text.ensures.records

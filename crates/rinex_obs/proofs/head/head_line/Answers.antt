@@ -20,29 +20,29 @@ returns-then-column-ne62-clause-line c =
 pub returns-then-not-is_flag-clause-line : goal.returns-then-not-is_flag-clause-line
 returns-then-not-is_flag-clause-line c =
     no_flag c.args.count (plain_line c.args.line) (c.is_short.ensures.0 c.if-not-is_short.false) (sym c.is_printable_text.ensures ∙ c.if-not-is_printable_text.false)
-    (sym c.column.ensures ∙ c.if-column-ne62.false) c.column-flag.result c.column-flag.ensures (λ f. both_ways _ (c.is_flag.ensures.1 f) c.if-not-is_flag.true)
+    (sym c.column.ensures ∙ c.if-column-ne62.false) c.flag_digit-flag.result c.flag_digit-flag.ensures (λ f. both_ways _ (c.is_flag.ensures.1 f) c.if-not-is_flag.true)
 
 pub returns-in_default-clause-line : goal.returns-in_default-clause-line
 returns-in_default-clause-line c =
     no_count c.args.count (plain_line c.args.line) (c.is_short.ensures.0 c.if-not-is_short.false) (sym c.is_printable_text.ensures ∙ c.if-not-is_printable_text.false)
-    (sym c.column.ensures ∙ c.if-column-ne62.false) c.column-flag.result c.column-flag.ensures (c.is_flag.ensures.0 c.if-not-is_flag.false) c.in_default.ensures.none
+    (sym c.column.ensures ∙ c.if-column-ne62.false) c.flag_digit-flag.result c.flag_digit-flag.ensures (c.is_flag.ensures.0 c.if-not-is_flag.false) c.in_default.ensures.none
 
 pub returns-then-flag-gt49-clause-line : goal.returns-then-flag-gt49-clause-line
 returns-then-flag-gt49-clause-line c =
     is_event c.args.count (plain_line c.args.line) (c.is_short.ensures.0 c.if-not-is_short.false) (sym c.is_printable_text.ensures ∙ c.if-not-is_printable_text.false)
-    (sym c.column.ensures ∙ c.if-column-ne62.false) c.column-flag.result c.column-flag.ensures (c.is_flag.ensures.0 c.if-not-is_flag.false) c.in-Some.lines c.in-Some.ensures.lines
+    (sym c.column.ensures ∙ c.if-column-ne62.false) c.flag_digit-flag.result c.flag_digit-flag.ensures (c.is_flag.ensures.0 c.if-not-is_flag.false) c.in-Some.lines c.in-Some.ensures.lines
     (λ le. absurd (omega (arith, le, c.if-flag-gt49.true)))
 
 pub returns-in_default-tag-clause-line : goal.returns-in_default-tag-clause-line
 returns-in_default-tag-clause-line c =
     no_date c.args.count (plain_line c.args.line) (c.is_short.ensures.0 c.if-not-is_short.false) (sym c.is_printable_text.ensures ∙ c.if-not-is_printable_text.false)
-    (sym c.column.ensures ∙ c.if-column-ne62.false) c.column-flag.result c.column-flag.ensures (c.is_flag.ensures.0 c.if-not-is_flag.false) c.in-Some.lines c.in-Some.ensures.lines
+    (sym c.column.ensures ∙ c.if-column-ne62.false) c.flag_digit-flag.result c.flag_digit-flag.ensures (c.is_flag.ensures.0 c.if-not-is_flag.false) c.in-Some.lines c.in-Some.ensures.lines
     c.if-flag-gt49.false c.in_default-tag.ensures.none
 
 pub returns-then-count-ge-MOST_EPOCHS-clause-line : goal.returns-then-count-ge-MOST_EPOCHS-clause-line
 returns-then-count-ge-MOST_EPOCHS-clause-line c =
     too_many c.args.count (plain_line c.args.line) (c.is_short.ensures.0 c.if-not-is_short.false) (sym c.is_printable_text.ensures ∙ c.if-not-is_printable_text.false)
-    (sym c.column.ensures ∙ c.if-column-ne62.false) c.column-flag.result c.column-flag.ensures (c.is_flag.ensures.0 c.if-not-is_flag.false) c.in-Some.lines c.in-Some.ensures.lines
+    (sym c.column.ensures ∙ c.if-column-ne62.false) c.flag_digit-flag.result c.flag_digit-flag.ensures (c.is_flag.ensures.0 c.if-not-is_flag.false) c.in-Some.lines c.in-Some.ensures.lines
     c.if-flag-gt49.false c.in-Some-tag.tag c.in-Some-tag.ensures.tag (λ few. absurd (omega (arith, few, c.if-count-ge-MOST_EPOCHS.true)))
 
 pub returns-clause-line : goal.returns-clause-line
@@ -50,7 +50,7 @@ returns-clause-line c =
     let fits : FitsSigned w128 c.in-Some-tag.tag = search rules in
     simp to_z-of_z
     (is_epoch c.args.count (plain_line c.args.line) (c.is_short.ensures.0 c.if-not-is_short.false) (sym c.is_printable_text.ensures ∙ c.if-not-is_printable_text.false)
-    (sym c.column.ensures ∙ c.if-column-ne62.false) c.column-flag.result c.column-flag.ensures (c.is_flag.ensures.0 c.if-not-is_flag.false) c.in-Some.lines c.in-Some.ensures.lines
+    (sym c.column.ensures ∙ c.if-column-ne62.false) c.flag_digit-flag.result c.flag_digit-flag.ensures (c.is_flag.ensures.0 c.if-not-is_flag.false) c.in-Some.lines c.in-Some.ensures.lines
     c.if-flag-gt49.false c.in-Some-tag.tag c.in-Some-tag.ensures.tag c.if-count-ge-MOST_EPOCHS.false)
 
 pub returns-clause-behind : goal.returns-clause-behind

@@ -1,5 +1,6 @@
 use Rattle.rinex_obs.proofs.FactLemmas.{numbered_read, distinct_read, gps_read}
 use Rattle.rinex_obs.proofs.OnlyLemmas.{gives_observations, gives_refusal}
+use Rattle.rinex_obs.proofs.WholeLemmas.{whole_read}
 use Rattle.rinex_obs.proofs.read.read_obs.Goals as goal
 
 pub returns-clause-exact : goal.returns-clause-exact
@@ -16,3 +17,6 @@ returns-clause-distinct c = distinct_read c.args.signal.now c.args.position c.ar
 
 pub returns-clause-gps : goal.returns-clause-gps
 returns-clause-gps c = gps_read c.args.signal.now c.args.position c.args.bytes.now c.read_text.result c.read_text.ensures.observations
+
+pub returns-clause-whole : goal.returns-clause-whole
+returns-clause-whole c = whole_read c.args.signal.now c.args.position c.args.bytes.now c.read_text.result c.read_text.ensures.observations

@@ -3,9 +3,9 @@ use Rattle.std.specs.Int.{w128}
 use Rattle.std.proofs.lemmas.Int.{to_z-of_z}
 use Rattle.sat_model.specs.Boxes.{grid_box}
 use Rattle.sat_rows.specs.Chains.{IsChainOf}
-use Rattle.sat_rows.specs.Measured.{codes_of}
+use Rattle.usable_sats.specs.Measured.{codes_of}
 use Rattle.sat_rows.specs.OwnRows.{HoldsAllowed}
-use Rattle.sat_rows.specs.Sources.{sighting}
+use Rattle.usable_sats.specs.Usability.{sighting}
 use Rattle.sat_rows.proofs.RowLemmas.{known_plausible, known_narrow, known_near, known_holds, error_small}
 use Rattle.sat_rows.proofs.epochs.line_of.Goals as goal
 

@@ -3,7 +3,7 @@ use Rattle.sat_rows.proofs.RowLemmas.{so_far_none, so_far_more, so_far_all, smal
 use Rattle.sat_rows.proofs.epochs.rows.Goals as goal
 
 pub loop-seen-init : goal.loop-seen-init
-loop-seen-init c = rw (c.new-lines.ensures.items, c.deref-seen-items.ensures.value) (record { lines = so_far_none _ _ _ _ c.args.epoch.now.sats.items; small = tt; usable = refl; few = omega arith })
+loop-seen-init c = rw (c.new-lines.ensures.items, c.deref-seen-items.ensures.value) (record { lines = so_far_none _ _ _ c.args.epoch.now.sats.items; small = tt; usable = refl; few = omega arith })
 
 pub overflow_add-usable : goal.overflow_add-usable
 overflow_add-usable c =
@@ -15,7 +15,7 @@ pub loop-seen-preserved : goal.loop-seen-preserved
 loop-seen-preserved c =
     let items = c.in_ok-push.ensures.items in
     record {
-      lines = so_far_more _ _ _ _ c.args.epoch.now.sats.items c.deref-seen-items.result.now c.loop-seen.lines.items c.push.new.self.items c.loop-seen.seen-index c.line_of-line.result _ c.loop-seen.invariant.lines
+      lines = so_far_more _ _ _ c.args.epoch.now.sats.items c.deref-seen-items.result.now c.loop-seen.lines.items c.push.new.self.items c.loop-seen.seen-index c.line_of-line.result _ c.loop-seen.invariant.lines
           c.loop-seen-test.true c.line_of-line.ensures.own items;
       small = small_more c.loop-seen.lines.items c.push.new.self.items c.line_of-line.result c.loop-seen.invariant.small c.line_of-line.ensures.small items;
       usable = omega (arith, usable_more c.loop-seen.lines.items c.push.new.self.items c.line_of-line.result items, c.loop-seen.invariant.usable, c.count-usable.ensures);
@@ -23,4 +23,4 @@ loop-seen-preserved c =
     }
 
 pub returns-clause-lines : goal.returns-clause-lines
-returns-clause-lines c = so_far_all _ _ _ _ c.args.epoch.now.sats.items c.deref-seen-items.result.now c.loop-seen.lines.items c.loop-seen.seen-index c.loop-seen.invariant.lines c.loop-seen-test.false
+returns-clause-lines c = so_far_all _ _ _ c.args.epoch.now.sats.items c.deref-seen-items.result.now c.loop-seen.lines.items c.loop-seen.seen-index c.loop-seen.invariant.lines c.loop-seen-test.false

@@ -1,13 +1,14 @@
 use Rattle.std.proofs.Common.{◌≡◌, ◌≤◌, drop}
 use Rattle.sat_model.specs.Boxes.{grid_box}
 use Rattle.sat_rows.specs.OwnRows.{AreSmall, usable_in}
-use Rattle.sat_rows.specs.Sources.{IsGpsJudged, IsGpsChain, gps_declared}
+use Rattle.sat_rows.specs.Sources.{gps_meaning}
 use Rattle.sat_rows.proofs.RowLemmas.{AreSoFar}
 use Rattle.sat_rows.proofs.epochs.rows.Given as goal
 
 abbrev pub invariant-loop-seen : goal.invariant-loop-seen
 invariant-loop-seen l = record {
-  lines : AreSoFar (IsGpsJudged l.nav l.settings l.epoch.tag) (IsGpsChain l.nav l.settings l.epoch.tag) (gps_declared l.settings) (grid_box l.root) l.epoch.sats.items (drop l.seen-index l.seen-items) l.lines.items;
+  lines : AreSoFar (gps_meaning l.nav l.settings) (grid_box l.root) l.epoch.tag l.epoch.sats.items
+      (drop l.seen-index l.seen-items) l.lines.items;
   small : AreSmall l.lines.items;
   usable : l.usable ≡ usable_in l.lines.items;
   few : l.usable ≤ l.seen-index;

@@ -1,9 +1,9 @@
 use Rattle.std.proofs.Common.{subst}
 use Rattle.sat_model.specs.Pseudorange.{IsPseudorange}
-use Rattle.sat_rows.specs.Measured.{codes_of}
+use Rattle.usable_sats.specs.Measured.{codes_of}
 use Rattle.sat_rows.specs.RowSizes.{AreNarrow}
-use Rattle.sat_rows.specs.Usability.{ArePlausible}
-use Rattle.sat_rows.specs.declared.codes.Measured.{Measured}
+use Rattle.usable_sats.specs.Usability.{ArePlausible}
+use Rattle.usable_sats.specs.declared.codes.Measured.{Measured}
 use Rattle.sat_rows.proofs.SpanLemmas.{dual_ends}
 use Rattle.sat_rows.proofs.signals.pseudorange.Goals as goal
 

@@ -27,6 +27,7 @@ invariant_of-result c =
       toc_under = simp to_z-of_z c.args.self.now.toc_under;
       toc_near = simp to_z-of_z near;
       toe_within = c.in_ok-toe_week.ensures.fields.0.1;
+      toe_under = c.in_ok-toe_week.ensures.fields.0.2;
       af0_within = c.in_ok-af0.ensures.fields.0.1;
       af1_within = c.in_ok-af0.ensures.fields.1.1;
       af2_within = c.in_ok-af0.ensures.fields.2.1;

@@ -21,4 +21,5 @@ returns-clause-field c =
     let e = c.in_ok-toe.ensures in (
       subst (λ (d : Decimal). IsRounded c.in_ok-toe.toe d Time) c.decimal.ensures (record { floor = e.floor; ceiling = e.ceiling }),
       record { from = e.from; to = e.to; narrow = narrow _ _ _ _ (some_parts c.decimal.result.ten Time) e.floor e.ceiling },
+      omega (arith, ints, c.if-toe-ge-WEEK.false),
     )

@@ -1,0 +1,120 @@
+-- The least box round items.
+use Rattle.std.proofs.Common.{◌≡◌, ◌≢◌, ℕ, zero, suc, ◌+◌, List, [], ◌∷◌, ◌++◌, take, Option, Some, None, arith, append_assoc, refl, sym, ap, subst, ◌∙◌}
+use Rattle.sat_model.specs.Boxes.{GridBox, grid_box}
+use Rattle.sat_model.specs.declared.boxes.Box3.{Box3}
+use Rattle.box_pool.specs.declared.item.Item.{Item}
+use Rattle.box_pool.specs.Lists.{list_at, AllEmpty}
+use Rattle.box_pool.specs.Hulls.{LiesIn, AllLieIn, IsHull, IsHullOf, IsHullOfAll}
+use Rattle.std.specs.Int.Signed.{≤ℤ_refl}
+use Rattle.std.specs.Prelude.{MatchOption}
+use Rattle.sat_model.proofs.IntervalLemmas.{le_z_trans}
+
+pub lies_trans : (a b c : GridBox) → LiesIn a b → LiesIn b c → LiesIn a c
+lies_trans a b c p q = (
+  (le_z_trans c.x.lo b.x.lo a.x.lo q.0.0 p.0.0, le_z_trans a.x.hi b.x.hi c.x.hi p.0.1 q.0.1),
+  (le_z_trans c.y.lo b.y.lo a.y.lo q.1.0 p.1.0, le_z_trans a.y.hi b.y.hi c.y.hi p.1.1 q.1.1),
+  (le_z_trans c.z.lo b.z.lo a.z.lo q.2.0 p.2.0, le_z_trans a.z.hi b.z.hi c.z.hi p.2.1 q.2.1),
+)
+
+pub lies_refl : (a : GridBox) → LiesIn a a
+lies_refl a = ((≤ℤ_refl a.x.lo, ≤ℤ_refl a.x.hi), (≤ℤ_refl a.y.lo, ≤ℤ_refl a.y.hi), (≤ℤ_refl a.z.lo, ≤ℤ_refl a.z.hi))
+
+pub all_wider : (items : List Item) (a b : GridBox) → AllLieIn items a → LiesIn a b → AllLieIn items b
+all_wider [] a b p q = tt
+all_wider (item ∷ items) a b p q = (lies_trans (grid_box item.part) a b p.0 q, all_wider items a b p.1 q)
+
+pub all_push : (items : List Item) (item : Item) (a : GridBox) → AllLieIn items a → LiesIn (grid_box item.part) a → AllLieIn (items ++ item ∷ []) a
+all_push [] item a p q = (q, tt)
+all_push (i ∷ items) item a p q = (p.0, all_push items item a p.1 q)
+
+pub all_left : (items others : List Item) (a : GridBox) → AllLieIn (items ++ others) a → AllLieIn items a
+all_left [] others a p = tt
+all_left (i ∷ items) others a p = (p.0, all_left items others a p.1)
+
+pub all_right : (items others : List Item) (a : GridBox) → AllLieIn (items ++ others) a → AllLieIn others a
+all_right [] others a p = p
+all_right (i ∷ items) others a p = all_right items others a p.1
+
+pub all_both : (items others : List Item) (a : GridBox) → AllLieIn items a → AllLieIn others a → AllLieIn (items ++ others) a
+all_both [] others a p q = q
+all_both (i ∷ items) others a p q = (p.0, all_both items others a p.1 q)
+
+not_nil : (items : List Item) (item : Item) → (items ++ item ∷ []) ≢ []
+not_nil [] item e = cc
+not_nil (i ∷ items) item e = cc
+
+-- one item alone
+pub hull_one : (items : List Item) (item : Item) → items ≡ [] → IsHull (items ++ item ∷ []) (grid_box item.part)
+hull_one items item e = record {
+  some = not_nil items item;
+  holds = all_push items item (grid_box item.part) (subst (λ xs. AllLieIn xs (grid_box item.part)) (sym e) tt) (lies_refl (grid_box item.part));
+  least = λ whole all. (all_right items (item ∷ []) whole all).0;
+}
+
+pub hull_more : (items : List Item) (item : Item) (hull now : GridBox) → IsHull items hull → LiesIn hull now → LiesIn (grid_box item.part) now
+    → ((whole : GridBox) → LiesIn hull whole → LiesIn (grid_box item.part) whole → LiesIn now whole) → IsHull (items ++ item ∷ []) now
+hull_more items item hull now k wider holds least = record {
+  some = not_nil items item;
+  holds = all_push items item now (all_wider items hull now k.holds wider) holds;
+  least = λ whole all. least whole (k.least whole (all_left items (item ∷ []) whole all)) (all_right items (item ∷ []) whole all).0;
+}
+
+-- the items of all lists
+unfoldable pub flat : List (List Item) → List Item
+flat [] = []
+flat (items ∷ lists) = items ++ flat lists
+
+append_nil : (xs : List Item) → xs ++ [] ≡ xs
+append_nil [] = refl
+append_nil (x ∷ xs) = ap (λ ys. x ∷ ys) (append_nil xs)
+
+flat_next : (lists : List (List Item)) (i : ℕ) → flat (take (suc i) lists) ≡ flat (take i lists) ++ list_at lists i
+unfolding flat
+flat_next [] zero = refl
+flat_next [] (suc i) = refl
+flat_next (items ∷ lists) zero = append_nil items
+flat_next (items ∷ lists) (suc i) = ap (λ xs. items ++ xs) (flat_next lists i) ∙ sym (append_assoc items (flat (take i lists)) (list_at lists i))
+
+pub flat_more : (lists : List (List Item)) (i : ℕ) → flat (take (i + 1) lists) ≡ flat (take i lists) ++ list_at lists i
+flat_more lists i = let next : i + 1 ≡ suc i = omega arith in ap (λ k. flat (take k lists)) next ∙ flat_next lists i
+
+all_at : (lists : List (List Item)) (a : GridBox) → AllLieIn (flat lists) a → (bucket : ℕ) → AllLieIn (list_at lists bucket) a
+unfolding flat
+all_at [] a p bucket = tt
+all_at (items ∷ lists) a p zero = all_left items (flat lists) a p
+all_at (items ∷ lists) a p (suc bucket) = all_at lists a (all_right items (flat lists) a p) bucket
+
+all_flat : (lists : List (List Item)) (a : GridBox) → ((bucket : ℕ) → AllLieIn (list_at lists bucket) a) → AllLieIn (flat lists) a
+unfolding flat
+all_flat [] a p = tt
+all_flat (items ∷ lists) a p = all_both items (flat lists) a (p 0) (all_flat lists a (λ bucket. p (suc bucket)))
+
+nil_both : (xs ys : List Item) → xs ++ ys ≡ [] → (xs ≡ []) × (ys ≡ [])
+nil_both [] ys e = (refl, e)
+nil_both (x ∷ xs) ys e = cc
+
+pub none_flat : (lists : List (List Item)) → flat lists ≡ [] → AllEmpty lists
+unfolding flat
+none_flat [] e bucket = refl
+none_flat (items ∷ lists) e zero = (nil_both items (flat lists) e).0
+none_flat (items ∷ lists) e (suc bucket) = none_flat lists (nil_both items (flat lists) e).1 bucket
+
+flat_none : (lists : List (List Item)) → AllEmpty lists → flat lists ≡ []
+unfolding flat
+flat_none [] e = refl
+flat_none (items ∷ lists) e = ap (λ xs. xs ++ flat lists) (e 0) ∙ flat_none lists (λ bucket. e (suc bucket))
+
+pub least_flat : (lists : List (List Item)) (hull : GridBox) → IsHull (flat lists) hull → IsHullOfAll lists hull
+least_flat lists hull k = record {
+  some = λ e. k.some (flat_none lists e);
+  holds = all_at lists hull k.holds;
+  least = λ whole all. k.least whole (all_flat lists whole all);
+}
+
+-- one list more, item by item
+pub append_to_nil : (xs ys : List Item) → ys ≡ [] → xs ++ ys ≡ xs
+append_to_nil xs ys e = ap (λ zs. xs ++ zs) e ∙ append_nil xs
+
+pub hull_all : (lists : List (List Item)) (hull : Option Box3) → IsHullOf (flat lists) hull → MatchOption hull (AllEmpty lists) (λ h. IsHullOfAll lists (grid_box h))
+hull_all lists None k = none_flat lists k
+hull_all lists (Some hull) k = least_flat lists (grid_box hull) k

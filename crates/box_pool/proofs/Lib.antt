@@ -1,0 +1,9 @@
+pub mod ChainLemmas
+pub mod CornerLemmas
+pub mod Crosses
+pub mod HullLemmas
+pub mod MaskLemmas
+pub mod Memory
+pub mod PoolLemmas
+pub mod Sharing
+pub mod WalkLemmas

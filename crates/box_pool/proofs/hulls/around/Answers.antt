@@ -1,0 +1,12 @@
+use Rattle.std.proofs.Common.{Option, subst}
+use Rattle.sat_model.specs.declared.boxes.Box3.{Box3}
+use Rattle.box_pool.specs.Hulls.{IsHullOf}
+use Rattle.sat_model.specs.Boxes.{grid_box}
+use Rattle.box_pool.proofs.HullLemmas.{hull_one, hull_more}
+use Rattle.box_pool.proofs.hulls.around.Goals as goal
+
+pub returns-in-None : goal.returns-in-None
+returns-in-None c = λ items none. hull_one items c.args.item.now (subst (λ (o : Option Box3). IsHullOf items o) c.in-None.is none)
+
+pub returns-in-Some : goal.returns-in-Some
+returns-in-Some c = λ items known. hull_more items c.args.item.now (grid_box c.in-Some.hull) (grid_box c.both.result) (subst (λ (o : Option Box3). IsHullOf items o) c.in-Some.is known) c.both.ensures.first c.both.ensures.second c.both.ensures.least

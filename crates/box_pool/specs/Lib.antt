@@ -1,0 +1,8 @@
+pub mod Chains
+pub mod Corners
+pub mod Hulls
+pub mod Lists
+pub mod Masks
+pub mod Ownership
+pub mod Places
+pub mod Blocks

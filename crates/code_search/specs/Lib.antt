@@ -1,0 +1,2 @@
+pub mod SearchSizes
+pub mod Residuals

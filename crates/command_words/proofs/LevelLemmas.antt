@@ -1,0 +1,168 @@
+-- What clap makes of the words behind a subcommand's name, one word at a time.
+use Rattle.std.proofs.Common.{◌≡◌, ℕ, Bool, true, false, List, [], ◌∷◌, None, get_or, refl, ap, ◌∙◌}
+use Rattle.std.specs.Prelude.{fold, if◌then◌else◌}
+use Rattle.std.specs.Option.{option_map_or}
+use Rattle.std.specs.Str.{bytes_eq}
+use Rattle.clap.specs.Lexer.{long_of, short_of}
+use Rattle.clap.specs.Kinds.{Kinds, or_else}
+use Rattle.clap.specs.Walk.{Text, Row, Rule, Held, Step, Walk, Waiting, idle, option, value, trailing, word_met, walked, after_step, to_positional, arg_by_index, plain_word, long_or_other, short_or_plain, nothing_held, walk_from, finished, settled, rows_after}
+use Rattle.clap.specs.Simple.{Shape, built, is_simple, with_subcommand}
+use Rattle.clap.specs.Faults.{level_fault, walk_fault, turn_fault, other_fault, flag_word_fault, bundle_fault, step_fault, settle_fault, defaults_fault, check_fault, is_simple_and_free}
+use Rattle.clap.proofs.OnLiterals.{clap_on_literals}
+use Rattle.command_words.specs.Program.{program, bare, files_app}
+use Rattle.command_words.specs.Stated.{begins_with_dash}
+
+-- the subcommands as they are built
+abbrev built_sub : ℕ → Shape
+built_sub i = get_or (built program).subs i (built program).top
+
+abbrev pub judge_shape : Shape
+judge_shape = built_sub 0
+
+abbrev pub pave_shape : Shape
+pave_shape = built_sub 1
+
+abbrev pub solve_shape : Shape
+solve_shape = built_sub 2
+
+abbrev pub check_shape : Shape
+check_shape = built_sub 3
+
+-- `solve` and `check` differ in their name alone
+abbrev pub files_shape : Text → Shape
+files_shape name = get_or (built (with_subcommand bare (files_app name).top)).subs 0 (built program).top
+
+abbrev pub make_shape : Shape
+make_shape = built_sub 4
+
+pub simple : is_simple program ≡ true
+unfolding clap_on_literals
+simple = refl
+
+pub simple_and_free : is_simple_and_free program ≡ true
+unfolding clap_on_literals
+simple_and_free = refl
+
+-- ---- a word without a dash in front is plain
+
+abbrev dashes : Text
+dashes = 45 ∷ 45 ∷ []
+
+no_long : (word : Text) → begins_with_dash word ≡ false → long_of word ≡ None
+no_long [] e = refl
+no_long (x ∷ xs) e = rw e refl
+
+no_short : (word : Text) → begins_with_dash word ≡ false → short_of word ≡ None
+no_short [] e = refl
+no_short (x ∷ xs) e = rw e refl
+
+no_dashes : (word : Text) → begins_with_dash word ≡ false → bytes_eq word dashes ≡ false
+no_dashes [] e = refl
+no_dashes (x ∷ xs) e = rw e refl
+
+abbrev pub at : Held → Waiting → ℕ → Walk
+at h waiting position = record { held = h; waiting = waiting; position = position; is_trailing = false; stopped = None }
+
+plain_met : (c : List Rule) (position : ℕ) (word : Text) (h : Held) → begins_with_dash word ≡ false
+    → word_met c [] false idle position word h ≡ (h, value)
+plain_met c position word h e =
+    ap (λ (b : Bool). if b then (h, trailing position) else long_or_other c idle word (long_of word) h) (no_dashes word e)
+    ∙ ap (λ l. long_or_other c idle word l h) (no_long word e)
+    ∙ ap (λ s. short_or_plain c idle word s h) (no_short word e)
+
+value_met : (c : List Rule) (id : Text) (position : ℕ) (word : Text) (h : Held) → begins_with_dash word ≡ false
+    → word_met c [] false (option id) position word h ≡ plain_word c (option id) word h
+value_met c id position word h e =
+    ap (λ (b : Bool). if b then (h, trailing position) else long_or_other c (option id) word (long_of word) h) (no_dashes word e)
+    ∙ ap (λ l. long_or_other c (option id) word l h) (no_long word e)
+    ∙ ap (λ s. short_or_plain c (option id) word s h) (no_short word e)
+
+other_plain : (s : Shape) (word : Text) (h : Held) → begins_with_dash word ≡ false → other_fault s None word h ≡ []
+other_plain s word h e =
+    ap (λ (b : Bool). if b then [] else flag_word_fault s.rules s.args_override_self (long_of word) word h) (no_dashes word e)
+    ∙ ap (λ l. flag_word_fault s.rules s.args_override_self l word h) (no_long word e)
+    ∙ ap (λ o. option_map_or (λ flags. bundle_fault s.rules s.args_override_self flags h) o []) (no_short word e)
+
+-- ---- a level
+
+-- the faults of a subcommand's words, and what its matches hold
+abbrev pub Level : Type 0
+Level = Kinds × List Row
+
+-- what is left of a level, from a place in its words on
+unfoldable pub level_from : Shape → Walk → List Text → Level
+level_from s w words =
+    let end = (fold (walked s.rules []) w words).held in (
+      or_else (walk_fault s [] w words)
+          (or_else (settle_fault s.rules s.args_override_self end)
+          (or_else (defaults_fault (settled s.rules end).rows s.rules) (check_fault s (finished s.rules end) false))),
+      finished s.rules end,
+    )
+
+abbrev pub level : Shape → List Text → Level
+level s words = (level_fault s [] nothing_held words false [], rows_after s.rules [] words)
+
+pub level_is : (s : Shape) (words : List Text) → level s words ≡ level_from s (walk_from nothing_held) words
+unfolding level_from
+level_is s words = refl
+
+-- one word more
+pub more : (s : Shape) (w now : Walk) (word : Text) (rest : List Text) → turn_fault s [] w word ≡ [] → walked s.rules [] w word ≡ now
+    → level_from s w (word ∷ rest) ≡ level_from s now rest
+unfolding level_from walk_fault
+more s w now word rest passes is =
+    ap (λ (k : Kinds).
+    let end = (fold (walked s.rules []) (walked s.rules [] w word) rest).held in
+    let both : Level = (
+      or_else (or_else k (walk_fault s [] (walked s.rules [] w word) rest))
+          (or_else (settle_fault s.rules s.args_override_self end)
+          (or_else (defaults_fault (settled s.rules end).rows s.rules) (check_fault s (finished s.rules end) false))),
+      finished s.rules end,
+    ) in both) passes
+    ∙ ap (λ v. level_from s v rest) is
+
+-- a word for a positional
+plain_turn : (s : Shape) (h : Held) (position : ℕ) (word : Text) → begins_with_dash word ≡ false → step_fault s position h value ≡ []
+    → turn_fault s [] (at h idle position) word ≡ []
+plain_turn s h position word e passes =
+    ap (λ (m : Held × Step). or_else (other_fault s None word h) (step_fault s position m.0 m.1)) (plain_met s.rules position word h e)
+    ∙ ap (λ k. or_else k (step_fault s position h value)) (other_plain s word h e)
+    ∙ passes
+
+plain_walked : (c : List Rule) (h : Held) (position : ℕ) (word : Text) → begins_with_dash word ≡ false
+    → walked c [] (at h idle position) word ≡ to_positional c (arg_by_index c position) word (at h idle position) h
+unfolding walked
+plain_walked c h position word e = ap (λ (m : Held × Step). after_step c word (at h idle position) m.0 m.1) (plain_met c position word h e)
+
+-- a word that a positional takes
+pub name_more : (s : Shape) (h : Held) (position : ℕ) (word : Text) (rest : List Text) → begins_with_dash word ≡ false
+    → step_fault s position h value ≡ []
+    → level_from s (at h idle position) (word ∷ rest)
+    ≡ level_from s (to_positional s.rules (arg_by_index s.rules position) word (at h idle position) h) rest
+name_more s h position word rest e passes =
+    more s (at h idle position) _ word rest (plain_turn s h position word e passes) (plain_walked s.rules h position word e)
+
+-- the walk behind an option's text
+abbrev pub behind_value : List Rule → Held → Text → ℕ → Text → Walk
+behind_value c h id position word =
+    after_step c word (at h (option id) position) (plain_word c (option id) word h).0 (plain_word c (option id) word h).1
+
+value_turn : (s : Shape) (h : Held) (id : Text) (position : ℕ) (word : Text) → begins_with_dash word ≡ false
+    → step_fault s position (plain_word s.rules (option id) word h).0 (plain_word s.rules (option id) word h).1 ≡ []
+    → turn_fault s [] (at h (option id) position) word ≡ []
+value_turn s h id position word e passes =
+    ap (λ (m : Held × Step). or_else (other_fault s None word h) (step_fault s position m.0 m.1)) (value_met s.rules id position word h e)
+    ∙ ap (λ k. or_else k (step_fault s position (plain_word s.rules (option id) word h).0 (plain_word s.rules (option id) word h).1)) (other_plain s word h e)
+    ∙ passes
+
+value_walked : (c : List Rule) (h : Held) (id : Text) (position : ℕ) (word : Text) → begins_with_dash word ≡ false
+    → walked c [] (at h (option id) position) word ≡ behind_value c h id position word
+unfolding walked
+value_walked c h id position word e = ap (λ (m : Held × Step). after_step c word (at h (option id) position) m.0 m.1) (value_met c id position word h e)
+
+-- a word that is an option's text
+pub value_more : (s : Shape) (h : Held) (id : Text) (position : ℕ) (word : Text) (rest : List Text) → begins_with_dash word ≡ false
+    → step_fault s position (plain_word s.rules (option id) word h).0 (plain_word s.rules (option id) word h).1 ≡ []
+    → level_from s (at h (option id) position) (word ∷ rest) ≡ level_from s (behind_value s.rules h id position word) rest
+value_more s h id position word rest e passes =
+    more s (at h (option id) position) _ word rest (value_turn s h id position word e passes) (value_walked s.rules h id position word e)

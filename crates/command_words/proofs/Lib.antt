@@ -1,0 +1,6 @@
+pub mod FilledLemmas
+pub mod LevelLemmas
+pub mod MatchLemmas
+pub mod NumberLemmas
+pub mod SaidLemmas
+pub mod StatedLemmas

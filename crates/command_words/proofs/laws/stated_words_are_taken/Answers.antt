@@ -1,0 +1,17 @@
+use Rattle.command_words.proofs.StatedLemmas.{judge_taken, pave_taken, solve_taken, check_taken, make_taken}
+use Rattle.command_words.proofs.laws.stated_words_are_taken.Goals as goal
+
+pub returns-clause-judge : goal.returns-clause-judge
+returns-clause-judge c = judge_taken
+
+pub returns-clause-pave : goal.returns-clause-pave
+returns-clause-pave c = pave_taken
+
+pub returns-clause-solve : goal.returns-clause-solve
+returns-clause-solve c = solve_taken
+
+pub returns-clause-check : goal.returns-clause-check
+returns-clause-check c = check_taken
+
+pub returns-clause-make : goal.returns-clause-make
+returns-clause-make c = make_taken

@@ -1,0 +1,8 @@
+use Rattle.std.proofs.Common.{◌≡◌, Bool, false, ◌||◌, rules, ap₂, ◌∙◌}
+use Rattle.std.proofs.lemmas.Result.{IfOk-weaker}
+use Rattle.command_words.proofs.program.with_option.Goals as goal
+
+pub returns-clause-local : goal.returns-clause-local
+returns-clause-local c = λ none.
+    let here : c.long-option.result.global ≡ false = search rules in
+    IfOk-weaker c.arg.result _ _ (λ r h. h.globals ∙ ap₂ (λ (a b : Bool). a || b) none here) c.arg.ensures

@@ -1,0 +1,5 @@
+pub mod Commands
+pub mod Numbers
+pub mod Program
+pub mod Seen
+pub mod Stated

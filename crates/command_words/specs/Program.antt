@@ -1,0 +1,55 @@
+-- The command line of the program as clap sees it: one command with five subcommands, without help
+-- or version words. This definition is what the words are judged by.
+use Rattle.std.specs.Prelude.{true, [], Some, codes}
+use Rattle.clap.specs.Walk.{Text}
+use Rattle.clap.specs.Simple.{App, new_app, new_rule, new_shape, with_rule, with_subcommand}
+
+-- one more required word
+abbrev pub with_word : App → Text → App
+with_word app id = with_rule app (record (new_rule id) { required = true })
+
+-- one more long option of one text
+abbrev pub with_option : App → Text → App
+with_option app id = with_rule app (record (new_rule id) { long = Some id })
+
+-- `judge LOG`
+abbrev pub judge_app : App
+judge_app = with_word (new_app (codes "judge")) (codes "log")
+
+-- `pave ROWS LOG`
+abbrev pub pave_app : App
+pave_app = with_word (with_word (new_app (codes "pave")) (codes "rows")) (codes "log")
+
+-- `solve OBS NAV SETTINGS LOG` and `check` with the same words, each with `--from N` and `--to N`
+abbrev pub files_app : Text → App
+files_app name =
+    let receiver = with_word (with_word (new_app name) (codes "obs")) (codes "nav") in
+    let files = with_word (with_word receiver (codes "settings")) (codes "log") in
+    with_option (with_option files (codes "from")) (codes "to")
+
+-- `make SEED EPOCHS`
+abbrev pub make_app : App
+make_app = with_word (with_word (new_app (codes "make")) (codes "seed")) (codes "epochs")
+
+abbrev pub bare : App
+bare = record {
+  top = record (new_shape (codes "gpscover")) {
+    no_binary_name = true;
+    disable_help_flag = true;
+    disable_help_subcommand = true;
+    disable_version_flag = true;
+    subcommand_required = true;
+  };
+  subs = [];
+}
+
+abbrev pub with_logs : App
+with_logs = with_subcommand (with_subcommand bare judge_app.top) pave_app.top
+
+abbrev pub with_files : App
+with_files =
+    with_subcommand (with_subcommand with_logs (files_app (codes "solve")).top)
+    (files_app (codes "check")).top
+
+abbrev pub program : App
+program = with_subcommand with_files make_app.top

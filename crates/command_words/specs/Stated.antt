@@ -1,0 +1,97 @@
+-- Words of the stated form, and that clap takes no others than a command's.
+use Rattle.std.specs.Prelude.{◌≡◌, ◌⊎◌, ◌==◌, ℕ, Bool, false, List, [], ◌∷◌, Option, Some, None, codes}
+use Rattle.clap.specs.Walk.{Text, Row, first_of}
+use Rattle.clap.specs.Simple.{subcommand_of}
+use Rattle.clap.specs.Faults.{fault_of}
+use Rattle.command_words.specs.Program.{program}
+use Rattle.command_words.specs.Numbers.{seed_number, count_number}
+use Rattle.command_words.specs.Commands.{Files, Command, Judge, Pave, Make, epochs_by, command_of}
+
+abbrev pub begins_with_dash : Text → Bool
+begins_with_dash [] = false
+begins_with_dash (byte ∷ more) = byte == 45
+
+abbrev pub IsName : Text → Type 0
+IsName text = begins_with_dash text ≡ false
+
+-- the options behind the names of files: each at most once, in either order
+pub data Options : Type 0 where
+  Neither : Options
+  From : (from : Text) → Options
+  To : (to : Text) → Options
+  FromTo : (from to : Text) → Options
+  ToFrom : (to from : Text) → Options
+
+abbrev pub option_words : Options → List Text
+option_words Neither = []
+option_words (From from) = codes "--from" ∷ from ∷ []
+option_words (To to) = codes "--to" ∷ to ∷ []
+option_words (FromTo from to) = codes "--from" ∷ from ∷ codes "--to" ∷ to ∷ []
+option_words (ToFrom to from) = codes "--to" ∷ to ∷ codes "--from" ∷ from ∷ []
+
+abbrev pub from_text : Options → Option Text
+from_text Neither = None
+from_text (From from) = Some from
+from_text (To to) = None
+from_text (FromTo from to) = Some from
+from_text (ToFrom to from) = Some from
+
+abbrev pub to_text : Options → Option Text
+to_text Neither = None
+to_text (From from) = None
+to_text (To to) = Some to
+to_text (FromTo from to) = Some to
+to_text (ToFrom to from) = Some to
+
+abbrev pub file_words : Files → Options → List Text
+file_words f options = f.obs ∷ f.nav ∷ f.settings ∷ f.log ∷ option_words options
+
+abbrev pub AreNames : Files → Type 0
+AreNames f = IsName f.obs × IsName f.nav × IsName f.settings × IsName f.log
+
+-- ---- words of the stated form ask for their command
+
+abbrev pub JudgeIsTaken : Type 0
+JudgeIsTaken = (log : Text) → IsName log → command_of (codes "judge" ∷ log ∷ []) ≡ Some (Judge log)
+
+abbrev pub PaveIsTaken : Type 0
+PaveIsTaken = (rows log : Text) → IsName rows → IsName log
+    → command_of (codes "pave" ∷ rows ∷ log ∷ []) ≡ Some (Pave rows log)
+
+-- the numbers of the options are those of the epochs
+abbrev pub FilesAreTaken : Text → (Files → Command) → Type 0
+FilesAreTaken name asked = (files : Files) (options : Options) → AreNames files
+    → epochs_by (from_text options) (to_text options) ≡ Some files.epochs
+    → command_of (name ∷ file_words files options) ≡ Some (asked files)
+
+abbrev pub MakeIsTaken : Type 0
+MakeIsTaken = (seed_text epochs_text : Text) (seed epochs : ℕ)
+    → seed_number seed_text ≡ Some seed → count_number epochs_text ≡ Some epochs
+    → command_of (codes "make" ∷ seed_text ∷ epochs_text ∷ []) ≡ Some (Make seed epochs)
+
+-- ---- words that clap takes are those of a command
+
+-- each of the words has a text
+abbrev pub HaveTexts : List Text → List Row → Type 0
+HaveTexts [] rows = Unit {0}
+HaveTexts (id ∷ ids) rows = ((text : Text) × (first_of id rows ≡ Some text)) × HaveTexts ids rows
+
+pub record Says (name : Text) (ids : List Text) (said : Option (Text × List Row)) : Type 0 where
+  pub rows : List Row
+  pub said_is : said ≡ Some (name, rows)
+  pub texts : HaveTexts ids rows
+
+abbrev pub file_ids : List Text
+file_ids = codes "obs" ∷ codes "nav" ∷ codes "settings" ∷ codes "log" ∷ []
+
+abbrev pub SaysCommand : Option (Text × List Row) → Type 0
+SaysCommand said =
+    Says (codes "judge") (codes "log" ∷ []) said
+    ⊎ (Says (codes "pave") (codes "rows" ∷ codes "log" ∷ []) said
+    ⊎ (Says (codes "solve") file_ids said
+    ⊎ (Says (codes "check") file_ids said
+    ⊎ Says (codes "make") (codes "seed" ∷ codes "epochs" ∷ []) said)))
+
+abbrev pub TakenIsCommand : Type 0
+TakenIsCommand = (words : List Text) → fault_of program words ≡ []
+    → SaysCommand (subcommand_of program words)

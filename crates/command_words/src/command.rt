@@ -1,0 +1,33 @@
+//! What the words ask for.
+
+/// The epochs of a file whose numbers are `from` to `to`, both of 1 to 200,000. There may be none.
+#[derive(Clone, Copy, Debug, PartialEq, Eq)]
+pub struct Selection {
+    pub from: u32,
+    pub to: u32,
+}
+
+/// The names of a receiver's files and of a log, and the epochs that are taken.
+#[derive(Clone, Copy, Debug, PartialEq, Eq)]
+pub struct Files<'a> {
+    pub obs: &'a str,
+    pub nav: &'a str,
+    pub settings: &'a str,
+    pub log: &'a str,
+    pub selection: Selection,
+}
+
+/// What the words ask for. Files are given by their names.
+#[derive(Clone, Copy, Debug, PartialEq, Eq)]
+pub enum Command<'a> {
+    /// Judge this log.
+    Judge { log: &'a str },
+    /// Pave these rows, and write the log.
+    Pave { rows: &'a str, log: &'a str },
+    /// Pave the epochs of these files, and write the log.
+    Solve(Files<'a>),
+    /// Check the log against the files.
+    Check(Files<'a>),
+    /// Make so many epochs of a known receiver, and solve them.
+    Make { seed: u32, epochs: u32 },
+}

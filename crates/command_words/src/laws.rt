@@ -1,0 +1,21 @@
+//! Laws of the definitions.
+
+ghost use Rattle.std.specs.Prelude.{codes};
+ghost use Rattle.command_words.specs.Commands.{Solve, Check};
+ghost use Rattle.command_words.specs.Stated.{JudgeIsTaken, PaveIsTaken, FilesAreTaken, MakeIsTaken, TakenIsCommand};
+
+/// Words of the stated form ask for their command: its name, its words, of which none begins with a
+/// dash, and then its options, each at most once. Each number is decimal digits in its range.
+pub fn stated_words_are_taken()
+    ensures judge { JudgeIsTaken }
+    ensures pave { PaveIsTaken }
+    ensures solve { FilesAreTaken (codes "solve") Solve }
+    ensures check { FilesAreTaken (codes "check") Check }
+    ensures make { MakeIsTaken }
+{}
+
+/// Words that clap takes are those of one of the five commands, with a text for each of its words.
+/// So none is asked for only where clap doesn't take the words, or by a number.
+pub fn taken_words_are_a_command()
+    ensures { TakenIsCommand }
+{}

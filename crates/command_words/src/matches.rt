@@ -1,0 +1,172 @@
+//! From the words to the command.
+
+ghost use Rattle.std.specs.Prelude.{◌≡◌, ◌≢◌, ◌≤◌, [], IfOk, IfSome, MatchOption, None, Option};
+ghost use Rattle.std.specs.Option.{option_map};
+ghost use Rattle.clap.specs.Faults.{fault_of};
+ghost use Rattle.clap.specs.Matches.{found_of};
+ghost use Rattle.clap.specs.Simple.{HasMatchesOf, subcommand_rows_of};
+ghost use Rattle.clap.specs.Values.{kind_of};
+ghost use Rattle.clap.specs.Walk.{rows_of, first_of};
+ghost use Rattle.command_words.specs.Program.{program};
+ghost use Rattle.command_words.specs.Numbers.{epoch_or};
+ghost use Rattle.command_words.specs.Commands.{judge_by, pave_by, files_by, make_by, epochs_by, command_by, command_said, command_of};
+ghost use Rattle.command_words.specs.Seen.{texts, epochs_asked, files_asked, asked, IsSelection, HasRanges};
+
+use crate::command::{Command, Files, Selection};
+use crate::numbers::number_in;
+use crate::program::program;
+use clap::error::ErrorKind;
+use clap::{ArgMatches, Error};
+use sat_model::NoMemory;
+use std::alloc::Global;
+
+/// The greatest number that an epoch can have.
+const LAST_EPOCH: u32 = 200_000;
+
+/// The command that the words after the program's name ask for. None exactly where `clap` doesn't
+/// take the words as one of the five commands, or a number among them hasn't its form and range.
+pub fn command_of<'a>(alloc: Global, words: &'a [String]) -> Result<Option<Command<'a>>, NoMemory>
+    ensures command { IfOk result (λ command.
+        option_map asked command ≡ command_of (texts words.entry.now)) }
+    ensures ranges { IfOk result (λ command. IfSome command HasRanges) }
+{
+    match matches_of(alloc, words)? {
+        Some(matches) => Ok(command_said(&matches)),
+        None => Ok(None),
+    }
+}
+
+/// What clap makes of the words, where it takes them.
+fn matches_of<'a>(alloc: Global, words: &'a [String]) -> Result<Option<ArgMatches<'a>>, NoMemory>
+    ensures { IfOk result (λ found. MatchOption found
+        (fault_of program (texts words.entry.now) ≢ [])
+        (λ m. (fault_of program (texts words.entry.now) ≡ [])
+        × HasMatchesOf program (texts words.entry.now) m)) }
+{
+    let command = program(alloc)?;
+    match command.try_get_matches_from(words) {
+        Ok(matches) => Ok(Some(matches)),
+        Err(error) => refused(&error),
+    }
+}
+
+/// What an error says of the words.
+fn refused<'a>(error: &Error) -> Result<Option<ArgMatches<'a>>, NoMemory>
+    ensures { IfOk result (λ found. (found ≡ None) × (kind_of error.now ≢ ErrorKind.OutOfMemory)) }
+{
+    if error.kind() == ErrorKind::OutOfMemory {
+        return Err(NoMemory);
+    }
+    Ok(None)
+}
+
+/// The command that the matches say.
+fn command_said<'a>(matches: &ArgMatches<'a>) -> Option<Command<'a>>
+    ensures command { option_map asked result ≡ command_said (subcommand_rows_of matches.now) }
+    ensures ranges { IfSome result HasRanges }
+{
+    match matches.subcommand() {
+        Some((name, found)) => command_by(name, found),
+        None => None,
+    }
+}
+
+/// The command with this name, of which these are the matches.
+fn command_by<'a>(name: &str, found: &ArgMatches<'a>) -> Option<Command<'a>>
+    ensures command { option_map asked result
+        ≡ command_by name.now (rows_of (found_of found.now)) }
+    ensures ranges { IfSome result HasRanges }
+{
+    if name == "judge" {
+        judge_by(found)
+    } else if name == "pave" {
+        pave_by(found)
+    } else if name == "solve" {
+        Some(Command::Solve(files_by(found)?))
+    } else if name == "check" {
+        Some(Command::Check(files_by(found)?))
+    } else if name == "make" {
+        make_by(found)
+    } else {
+        None
+    }
+}
+
+/// The text of a word or an option, where it is there.
+fn text_of<'a>(found: &ArgMatches<'a>, id: &str) -> Option<&'a str>
+    ensures { first_of id.now (rows_of (found_of found.now)) ≡ option_map (λ t. t.now) result }
+{
+    found.get_str(id)
+}
+
+/// `judge LOG`.
+fn judge_by<'a>(found: &ArgMatches<'a>) -> Option<Command<'a>>
+    ensures command { option_map asked result ≡ judge_by (rows_of (found_of found.now)) }
+    ensures ranges { IfSome result HasRanges }
+{
+    let log = text_of(found, "log")?;
+    Some(Command::Judge { log })
+}
+
+/// `pave ROWS LOG`.
+fn pave_by<'a>(found: &ArgMatches<'a>) -> Option<Command<'a>>
+    ensures command { option_map asked result ≡ pave_by (rows_of (found_of found.now)) }
+    ensures ranges { IfSome result HasRanges }
+{
+    let rows = text_of(found, "rows")?;
+    let log = text_of(found, "log")?;
+    Some(Command::Pave { rows, log })
+}
+
+/// `OBS NAV SETTINGS LOG`, `--from N` and `--to N`.
+fn files_by<'a>(found: &ArgMatches<'a>) -> Option<Files<'a>>
+    ensures files { option_map files_asked result ≡ files_by (rows_of (found_of found.now)) }
+    ensures ranges { IfSome result (λ files. IsSelection files.selection) }
+{
+    let obs = text_of(found, "obs")?;
+    let nav = text_of(found, "nav")?;
+    let settings = text_of(found, "settings")?;
+    let log = text_of(found, "log")?;
+    let selection = selection_by(text_of(found, "from"), text_of(found, "to"))?;
+    Some(Files {
+        obs,
+        nav,
+        settings,
+        log,
+        selection,
+    })
+}
+
+/// The epochs from `--from N` to `--to N`.
+fn selection_by(from: Option<&str>, to: Option<&str>) -> Option<Selection>
+    ensures epochs { option_map epochs_asked result
+        ≡ epochs_by (option_map (λ t. t.now) from.entry) (option_map (λ t. t.now) to.entry) }
+    ensures ranges { IfSome result IsSelection }
+{
+    let from = epoch_or(1, from)?;
+    let to = epoch_or(LAST_EPOCH, to)?;
+    Some(Selection { from, to })
+}
+
+/// An option's number of an epoch, and where it isn't given another one.
+fn epoch_or(otherwise: u32, text: Option<&str>) -> Option<u32>
+    requires first { 1 ≤ otherwise }
+    requires last { otherwise ≤ LAST_EPOCH }
+    ensures number { result ≡ epoch_or otherwise (option_map (λ t. t.now) text.entry) }
+    ensures range { IfSome result (λ n. (1 ≤ n) × (n ≤ LAST_EPOCH)) }
+{
+    match text {
+        Some(text) => number_in(text, 1, LAST_EPOCH),
+        None => Some(otherwise),
+    }
+}
+
+/// `make SEED EPOCHS`.
+fn make_by<'a>(found: &ArgMatches<'a>) -> Option<Command<'a>>
+    ensures command { option_map asked result ≡ make_by (rows_of (found_of found.now)) }
+    ensures ranges { IfSome result HasRanges }
+{
+    let seed = number_in(text_of(found, "seed")?, 0, u32::MAX)?;
+    let epochs = number_in(text_of(found, "epochs")?, 1, 240)?;
+    Some(Command::Make { seed, epochs })
+}

@@ -1,0 +1,156 @@
+//! Words that ask for a command, and words that don't.
+
+use crate::{Command, Files, Selection, command_of};
+use std::alloc::{AllocError, Global};
+
+fn owned(alloc: Global, words: &[&str]) -> Result<Vec<String>, AllocError> {
+    let mut all = Vec::new(alloc);
+    for word in words {
+        all.push(String::from_str(alloc, *word)?)?;
+    }
+    Ok(all)
+}
+
+/// The files `o`, `n` and `s`, a log, and the epochs that are taken.
+fn files(log: &str, from: u32, to: u32) -> Files<'_> {
+    Files {
+        obs: "o",
+        nav: "n",
+        settings: "s",
+        log,
+        selection: Selection { from, to },
+    }
+}
+
+#[test]
+fn taken(rt: HostRuntime) -> Result<(), AllocError> {
+    let judged = |log| Some(Command::Judge { log });
+    let rows: [(&[&str], Option<Command<'_>>); 20] = [
+        (&["judge", "x"], judged("x")),
+        (&["judge", ""], judged("")),
+        (&["judge", "-"], judged("-")),
+        (&["judge", "solve"], judged("solve")),
+        (&["judge", "--", "-x"], judged("-x")),
+        (&["judge", "--", "--"], judged("--")),
+        (
+            &["pave", "r", "l"],
+            Some(Command::Pave {
+                rows: "r",
+                log: "l",
+            }),
+        ),
+        (
+            &["solve", "o", "n", "s", "l"],
+            Some(Command::Solve(files("l", 1, 200_000))),
+        ),
+        (
+            &["check", "o", "n", "s", "l"],
+            Some(Command::Check(files("l", 1, 200_000))),
+        ),
+        (
+            &["solve", "o", "n", "s", "l", "--from", "3"],
+            Some(Command::Solve(files("l", 3, 200_000))),
+        ),
+        (
+            &["check", "o", "n", "s", "l", "--to", "200000"],
+            Some(Command::Check(files("l", 1, 200_000))),
+        ),
+        (
+            &["solve", "o", "n", "s", "l", "--from", "3", "--to", "2"],
+            Some(Command::Solve(files("l", 3, 2))),
+        ),
+        (
+            &["check", "o", "n", "s", "l", "--to", "20", "--from", "3"],
+            Some(Command::Check(files("l", 3, 20))),
+        ),
+        (
+            &["solve", "o", "n", "s", "l", "--from=3"],
+            Some(Command::Solve(files("l", 3, 200_000))),
+        ),
+        (
+            &["check", "--to", "7", "o", "n", "s", "l"],
+            Some(Command::Check(files("l", 1, 7))),
+        ),
+        (
+            &["solve", "o", "--to", "7", "n", "--from=2", "s", "l"],
+            Some(Command::Solve(files("l", 2, 7))),
+        ),
+        (
+            &["solve", "o", "n", "s", "--", "-l"],
+            Some(Command::Solve(files("-l", 1, 200_000))),
+        ),
+        (
+            &["make", "7", "3"],
+            Some(Command::Make { seed: 7, epochs: 3 }),
+        ),
+        (
+            &["make", "0", "1"],
+            Some(Command::Make { seed: 0, epochs: 1 }),
+        ),
+        (
+            &["make", "4294967295", "240"],
+            Some(Command::Make {
+                seed: 4_294_967_295,
+                epochs: 240,
+            }),
+        ),
+    ];
+    for (words, wanted) in rows.iter() {
+        let words = owned(rt.alloc(), *words)?;
+        let command = command_of(rt.alloc(), words.as_slice());
+        assert!(rt; command == Ok(*wanted), "{words:?}");
+    }
+    Ok(())
+}
+
+#[test]
+fn not_taken(rt: HostRuntime) -> Result<(), AllocError> {
+    let rows: [&[&str]; 40] = [
+        &[],
+        &[""],
+        &["judge"],
+        &["judge", "x", "y"],
+        &["jud", "x"],
+        &["paint", "x"],
+        &["Judge", "x"],
+        &["help"],
+        &["--help"],
+        &["-h"],
+        &["--version"],
+        &["judge", "--help"],
+        &["judge", "-h"],
+        &["judge", "-5"],
+        &["--", "judge", "x"],
+        &["judge", "x", "--from", "3"],
+        &["pave", "r"],
+        &["pave", "r", "l", "m"],
+        &["solve", "o", "n", "s"],
+        &["solve", "o", "n", "s", "l", "m"],
+        &["solve", "o", "n", "s", "l", "--fro", "3"],
+        &["solve", "o", "n", "s", "l", "--from"],
+        &["solve", "o", "n", "s", "l", "--from", "-3"],
+        &["solve", "o", "n", "s", "l", "--from", "3", "--from", "3"],
+        &["check", "o", "n", "s", "l", "--to", "3", "--to", "4"],
+        &["solve", "o", "n", "s", "l", "--from", "0"],
+        &["solve", "o", "n", "s", "l", "--from", "07"],
+        &["solve", "o", "n", "s", "l", "--from", "+3"],
+        &["solve", "o", "n", "s", "l", "--from", "3x"],
+        &["solve", "o", "n", "s", "l", "--from", ""],
+        &["solve", "o", "n", "s", "l", "--from="],
+        &["solve", "o", "n", "s", "l", "--from=-3"],
+        &["check", "o", "n", "s", "l", "--to", "200001"],
+        &["make", "7"],
+        &["make", "7", "3", "9"],
+        &["make", "-1", "3"],
+        &["make", "07", "3"],
+        &["make", "4294967296", "3"],
+        &["make", "7", "0"],
+        &["make", "7", "241"],
+    ];
+    for words in rows.iter() {
+        let words = owned(rt.alloc(), *words)?;
+        let command = command_of(rt.alloc(), words.as_slice());
+        assert!(rt; command == Ok(None), "{words:?}");
+    }
+    Ok(())
+}

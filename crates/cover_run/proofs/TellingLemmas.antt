@@ -1,0 +1,55 @@
+-- How a verdict that was printed is told.
+use Rattle.std.proofs.Common.{◌⊎◌, ℕ, List, inl, inr, refl, sym, subst}
+use Rattle.std.specs.Prelude.{◌≢◌}
+use Rattle.sat_model.specs.Logs.{LogValue}
+use Rattle.cover_run.specs.Logs.{IsJudgedAs, SaysJudged, SaysFault}
+use Rattle.cover_run.specs.Reading.{IsBrokenOff}
+use Rattle.cover_run.specs.Runs.{IsVerdict}
+use Rattle.cover_run.specs.Telling.{Sinks, Tells, TellsLine}
+use Rattle.cover_run.specs.declared.status.Status.{Status}
+use Rattle.cover_run.specs.declared.status.Status.TheVariants as status
+
+module _ (Yes No : List ℕ → Type 0) (before after : Sinks) (reliable : Type 0) where
+  abbrev Told : Status → Type 0
+  Told = Tells Yes No before after reliable
+
+  pub tells_yes : (line : List ℕ) (s : Status) → Yes line
+      → TellsLine status.Done line before after reliable s → Told s
+  tells_yes line s says (inl (is, prints)) = subst Told (sym is) (line, says, prints)
+  tells_yes line s says (inr (is, breaks)) = subst Told (sym is) (line, inl says, breaks)
+
+  pub tells_no : (line : List ℕ) (s : Status) → No line
+      → TellsLine status.No line before after reliable s → Told s
+  tells_no line s says (inl (is, prints)) = subst Told (sym is) (line, says, prints)
+  tells_no line s says (inr (is, breaks)) = subst Told (sym is) (line, inr says, breaks)
+
+  -- each verdict has its status
+  told_suits : (Suits : Status → Type 0) → ((line : List ℕ) → Yes line → Suits status.Done)
+      → ((line : List ℕ) → No line → Suits status.No)
+      → (s : Status) → Told s → IsBrokenOff s ⊎ Suits s
+  told_suits Suits done denied status.Done told = inr (done told.0 told.1)
+  told_suits Suits done denied status.No told = inr (denied told.0 told.1)
+  told_suits Suits done denied status.WriteFault told = inl (inr (inl refl))
+  told_suits Suits done denied status.NoMemory told = inl (inr (inr refl))
+  told_suits Suits done denied status.Usage told = absurd told
+  told_suits Suits done denied status.Refused told = absurd told
+  told_suits Suits done denied status.ReadFault told = absurd told
+  told_suits Suits done denied status.LogFull told = absurd told
+
+  pub verdict_suits : (s : Status) → Told s → IsBrokenOff s ⊎ IsVerdict s
+  verdict_suits = told_suits IsVerdict (λ line says. inl refl) (λ line says. inr refl)
+
+pub judged_suits : (log : LogValue) (before after : Sinks) (reliable : Type 0) (s : Status)
+    → Tells (SaysJudged log) (SaysFault log) before after reliable s
+    → IsBrokenOff s ⊎ IsJudgedAs log s
+judged_suits log before after reliable =
+    told_suits (SaysJudged log) (SaysFault log) before after reliable (IsJudgedAs log)
+    (λ line says. inl (refl, says.0)) (λ line says. inr (refl, says.0))
+
+pub verdict_known : (s : Status) → IsVerdict s → s ≢ status.Usage
+verdict_known s (inl e) usage = cc
+verdict_known s (inr e) usage = cc
+
+pub judged_known : (log : LogValue) (s : Status) → IsJudgedAs log s → s ≢ status.Usage
+judged_known log s (inl (e, right)) usage = cc
+judged_known log s (inr (e, wrong)) usage = cc

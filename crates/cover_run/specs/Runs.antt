@@ -1,0 +1,142 @@
+-- What a run of the program is, by what is asked for.
+use Rattle.std.specs.Prelude.{◌≡◌, ◌≢◌, ◌⊎◌, ℕ, true, false, List, [], ◌∷◌, Option, None, Some}
+use Rattle.std.specs.Prelude.{Result, Ok, Err}
+use Rattle.log_writer.specs.Writing.{Trust}
+use Rattle.outer_io.specs.Told.{Files, files_of}
+use Rattle.outer_io.specs.declared.slots.Slot.{Slot}
+use Rattle.outer_io.specs.declared.slots.Slot.TheVariants as slot
+use Rattle.paving_log.specs.Values.{log_value}
+use Rattle.paving_log.specs.declared.log.Log.{Log}
+use Rattle.sat_model.specs.Logs.{LogValue}
+use Rattle.cover_run.specs.Checking.{CheckedValue, ReadsChecked, checked_value, checked_slots}
+use Rattle.cover_run.specs.Checking.{SaysAccepted, SaysRefused}
+use Rattle.cover_run.specs.Inputs.{InputsValue, ReadsInputs, inputs_value, input_slots}
+use Rattle.cover_run.specs.Logs.{log_text, rows_text, SaysJudged, SaysFault, IsJudgedAs}
+use Rattle.cover_run.specs.Paving.{Paves}
+use Rattle.cover_run.specs.Reading.{IsBrokenOff, Found, IsOfReading, Named, NeverBreaks, Reading}
+use Rattle.cover_run.specs.Reading.{Untouched, valued}
+use Rattle.cover_run.specs.Solving.{Solves}
+use Rattle.cover_run.specs.Statuses.{status_of}
+use Rattle.cover_run.specs.Telling.{Tells, sinks}
+use Rattle.cover_run.specs.Words.{Command, Judge, Pave, Solve, Check, Names}
+use Rattle.cover_run.specs.Worlds.{World, Says}
+use Rattle.cover_run.specs.declared.checked.Checked.{Checked}
+use Rattle.cover_run.specs.declared.inputs.Inputs.{Inputs}
+use Rattle.cover_run.specs.declared.limits.Limits.{Limits}
+use Rattle.cover_run.specs.declared.notice.Notice.{Notice}
+use Rattle.cover_run.specs.declared.notice.Notice.TheVariants as notice
+use Rattle.cover_run.specs.declared.status.Status.{Status}
+use Rattle.cover_run.specs.declared.status.Status.TheVariants as status
+
+-- ---- a command
+
+-- What a command does: it reads files, and where all are accepted it does its job on what they say.
+pub record Task (V : Type 0) : Type 1 where
+  -- what the texts stand for
+  pub Value : Type 0
+  pub value : V → Value
+  pub slots : List Slot
+  pub reads : Reading Value
+  pub Does : V → World → World → Trust → Status → Type 0
+  -- the statuses of one who does it, but for faults and want of memory
+  pub Suits : Value → Status → Type 0
+
+-- a file wasn't read or accepted: it was said, and nothing was written or printed
+pub record Stops (slots : List Slot) (before after : World) (n : Notice) (s : Status) : Type 0 where
+  pub status : s ≡ status_of n
+  pub ends : IsOfReading n
+  pub said : Says before.err after.err n
+  pub out : after.out ≡ before.out
+  pub shelf : Untouched slots false before.shelf after.shelf
+
+module _ {V : Type 0} (task : Task V) (before after : World) (trust : Trust) (s : Status) where
+  abbrev pub Ends : Result V Notice → Type 0
+  Ends (Ok v) = task.Does v before after trust s
+  Ends (Err n) = Stops task.slots before after n s
+
+  -- each cause has its status, where the files give this
+  abbrev pub Fits : Result task.Value Notice → Type 0
+  Fits (Ok w) = task.Suits w s
+  Fits (Err n) = s ≡ status_of n
+
+  pub record RunOf : Type 0 where
+    -- What was read is what the files give, unless a counted fault or want of memory broke it off;
+    pub read : Result V Notice
+    pub found : Found task.reads before.shelf after.shelf trust.log (valued task.value read)
+    -- the status has its cause in it,
+    pub no_usage : s ≢ status.Usage
+    pub ends : Ends read
+    -- and what told files give has its status, unless a fault or want of memory comes first.
+    pub exact : (told : Files) (other : Result task.Value Notice)
+        → files_of before.shelf ≡ Some told
+        → task.reads NeverBreaks (Some told) other → IsBrokenOff s ⊎ Fits other
+
+-- ---- the commands
+
+-- a verdict was told, and no file but those that were read was opened
+module _ (Yes No : List ℕ → Type 0) (slots : List Slot) (before after : World) (trust : Trust) where
+  pub record TellsAlone (s : Status) : Type 0 where
+    pub told : Tells Yes No (sinks before.out before.err) (sinks after.out after.err) trust.out s
+    pub shelf : Untouched slots true before.shelf after.shelf
+
+-- the statuses of a verdict, and of a log that was written
+abbrev pub IsVerdict : Status → Type 0
+IsVerdict s = (s ≡ status.Done) ⊎ (s ≡ status.No)
+
+abbrev pub IsWritten : Status → Type 0
+IsWritten s = (s ≡ status.Done) ⊎ (s ≡ status.LogFull)
+
+abbrev pub judging : Limits → (log : List ℕ) → Task Log
+judging limits log = record {
+  Value = LogValue;
+  value = log_value;
+  slots = slot.Log ∷ [];
+  reads = Named limits log_text log;
+  Does = λ read. TellsAlone (SaysJudged (log_value read)) (SaysFault (log_value read))
+      (slot.Log ∷ []);
+  Suits = IsJudgedAs;
+}
+
+abbrev pub paving : Limits → (rows log : List ℕ) → Task Log
+paving limits rows log = record {
+  Value = LogValue;
+  value = log_value;
+  slots = slot.Rows ∷ [];
+  reads = Named limits rows_text rows;
+  Does = λ read. Paves limits.log log (log_value read);
+  Suits = λ rows s. IsWritten s;
+}
+
+abbrev pub solving : Limits → Names → (log : List ℕ) → Task Inputs
+solving limits names log = record {
+  Value = InputsValue;
+  value = inputs_value;
+  slots = input_slots;
+  reads = ReadsInputs limits names;
+  Does = Solves limits.log log;
+  Suits = λ i s. IsWritten s;
+}
+
+abbrev pub checking : Limits → Names → (log : List ℕ) → Task Checked
+checking limits names log = record {
+  Value = CheckedValue;
+  value = checked_value;
+  slots = checked_slots;
+  reads = ReadsChecked limits names log;
+  Does = λ read. TellsAlone (SaysAccepted read) (SaysRefused read) checked_slots;
+  Suits = λ found s. IsVerdict s;
+}
+
+-- The words ask for this. Where they are no command it is said, and nothing else is done.
+abbrev pub Runs : Limits → Option Command → World → World → Trust → Status → Type 0
+Runs limits None before after trust s = (s ≡ status.Usage)
+    × Says before.err after.err notice.Usage × (after.shelf ≡ before.shelf) ×
+    (after.out ≡ before.out)
+Runs limits (Some (Judge log)) before after trust s =
+    RunOf (judging limits log) before after trust s
+Runs limits (Some (Pave rows log)) before after trust s =
+    RunOf (paving limits rows log) before after trust s
+Runs limits (Some (Solve names log)) before after trust s =
+    RunOf (solving limits names log) before after trust s
+Runs limits (Some (Check names log)) before after trust s =
+    RunOf (checking limits names log) before after trust s

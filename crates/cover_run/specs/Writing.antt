@@ -1,0 +1,77 @@
+-- How a log is written and its report printed.
+use Rattle.std.specs.Prelude.{◌≡◌, ◌⊎◌, ℕ, true, List, Some, Result, Ok, Err}
+use Rattle.log_writer.specs.Sizes.{HasRoom}
+use Rattle.log_writer.specs.declared.fault.WriteFault.{WriteFault}
+use Rattle.log_writer.specs.declared.fault.WriteFault.TheVariants as why
+use Rattle.log_writer.specs.Writing.{Trust}
+use Rattle.outer_io.specs.Causes.{Rose}
+use Rattle.outer_io.specs.Slots.{put}
+use Rattle.outer_io.specs.Taken.{TakenBy}
+use Rattle.outer_io.specs.declared.shelf.Phase.{Phase}
+use Rattle.outer_io.specs.declared.slots.Slot.{Slot}
+use Rattle.outer_io.specs.declared.slots.Slot.TheVariants as slot
+use Rattle.outer_io.specs.declared.slots.Slots.{Slots}
+use Rattle.cover_run.specs.Reading.{LeavesFiles, Opens}
+use Rattle.cover_run.specs.Statuses.{status_of, notice_of_fault}
+use Rattle.cover_run.specs.Worlds.{World, Says, Rewrites}
+use Rattle.cover_run.specs.declared.notice.Notice.TheVariants as notice
+use Rattle.cover_run.specs.declared.status.Status.{Status}
+use Rattle.cover_run.specs.declared.status.Status.TheVariants as status
+
+-- the writer's answer
+abbrev pub Answer : Type 0
+Answer = Result (Unit {0}) WriteFault
+
+abbrev pub status_of_writing : ℕ → Answer → Status
+status_of_writing limit (Ok done) = status.Done
+status_of_writing limit (Err fault) = status_of (notice_of_fault limit fault)
+
+-- the files to read were opened in turn, and then the log
+abbrev pub OpensLog : List Slot → Slots Phase → Slots Phase → Type 0
+OpensLog reads old new =
+    (mid : Slots Phase) × (phase : Phase) × Opens reads true old mid ×
+    (new ≡ put mid slot.Log phase)
+
+module _ (name : List ℕ) (before after : World) (trust : Trust) where
+  -- a device that failed has counted it, and isn't reliable
+  abbrev pub IsCause : WriteFault → Type 0
+  IsCause why.Log = Rose before.shelf.write_faults after.shelf.write_faults × (trust.log (Some name)
+      → ⊥)
+  IsCause why.Out = Rose before.out.faults after.out.faults × (trust.out → ⊥)
+  IsCause why.Full = Unit {0}
+  IsCause why.NoMemory = Unit {0}
+
+  -- the fault was said, and nothing where there was none
+  abbrev pub SaysEnd : ℕ → Answer → Type 0
+  SaysEnd limit (Ok done) = after.err ≡ before.err
+  SaysEnd limit (Err fault) = Says before.err after.err (notice_of_fault limit fault) × IsCause
+      fault
+
+  -- The log couldn't be created. Nothing was written or printed.
+  pub record CreatesNone (reads : List Slot) (s : Status) : Type 0 where
+    pub status : s ≡ status.WriteFault
+    pub leaves : LeavesFiles before.shelf after.shelf
+    pub out : after.out ≡ before.out
+    pub phases : OpensLog reads before.shelf.phases after.shelf.phases
+    pub cause : IsCause why.Log
+    pub said : Says before.err after.err notice.LogFault
+
+  -- It was created. It and `out` got what the writer's answer says, within the limit or as far as
+  -- it goes.
+  -- A full log had less room than the most bytes.
+  pub record WritesLog (reads : List Slot) (limit most : ℕ) (IsText : Answer → (bytes said : List ℕ)
+      → Type 0) (s : Status) : Type 0 where
+    pub answer : Answer
+    pub status : s ≡ status_of_writing limit answer
+    pub bytes : List ℕ
+    pub said : List ℕ
+    pub text : IsText answer bytes said
+    pub log : Rewrites before.shelf after.shelf name bytes
+    pub report : TakenBy before.out after.out said
+    pub room : HasRoom limit most answer
+    pub phases : OpensLog reads before.shelf.phases after.shelf.phases
+    pub ends : SaysEnd limit answer
+
+  abbrev pub Writes : (reads : List Slot) → (limit most : ℕ)
+      → (Answer → (bytes said : List ℕ) → Type 0) → Status → Type 0
+  Writes reads limit most IsText s = CreatesNone reads s ⊎ WritesLog reads limit most IsText s

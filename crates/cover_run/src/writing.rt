@@ -1,0 +1,47 @@
+//! A log that is created and written.
+
+ghost use Rattle.std.specs.Prelude.{◌≡◌, None, []};
+ghost use Rattle.cover_run.specs.Worlds.{world};
+ghost use Rattle.cover_run.specs.Writing.{Writes};
+ghost use Rattle.log_writer.specs.Sizes.{most_bytes};
+ghost use Rattle.log_writer.specs.Texts.{IsText};
+ghost use Rattle.log_writer.specs.Writing.{trust_of};
+
+use crate::notice::Notice;
+use crate::telling::say;
+use crate::{Limits, Status};
+use log_writer::{Blocks, write_log};
+use outer_io::{Shelf, Sink, Slot};
+use sat_model::Rules;
+use std::alloc::Global;
+
+/// Creates the named log, writes it for the blocks of this source and prints its report.
+pub fn write_named<H: Shelf, O: Sink, E: Sink, B: Blocks>(
+    alloc: Global,
+    limits: &Limits,
+    name: &str,
+    rules: &Rules,
+    blocks: &mut B,
+    shelf: &mut H,
+    out: &mut O,
+    err: &mut E,
+) -> Status
+    requires rules { (B.standing blocks.old).rules ≡ rules.now }
+    requires first { (B.standing blocks.old).before ≡ None }
+    requires ready { B.ready blocks.old }
+    ensures { Writes name.now (world (H.state shelf.old) (O.state out.old) (E.state err.old))
+        (world (H.state shelf.new) (O.state out.new) (E.state err.new))
+        (trust_of (H.reliable shelf.new) (O.reliable out.new)) [] limits.now.log
+        (most_bytes (B.standing blocks.old).most rules.now.bisections)
+        (λ answer bytes said.
+        IsText B.gives rules.now blocks.old limits.now.log answer bytes said) result }
+{
+    match shelf.create(name, Slot::Log) {
+        Ok(()) => {}
+        Err(_) => return say(err, &Notice::LogFault),
+    }
+    match write_log(alloc, shelf, out, limits.log, rules, blocks) {
+        Ok(()) => Status::Done,
+        Err(fault) => say(err, &Notice::of_writing(limits.log, fault)),
+    }
+}

@@ -1,0 +1,30 @@
+-- Which epochs the blocks of a log may be formed of.
+use Rattle.std.specs.Prelude.{ℕ, ℤ, List, [], ◌∷◌, Option, Some}
+use Rattle.epoch_selection.specs.Selections.{first_epoch, last_epoch}
+use Rattle.log_words.specs.Fields.{IsCountFromTo, SkipFits}
+use Rattle.rinex_obs.specs.Facts.{AreDistinct, AreGpsSats}
+use Rattle.rinex_obs.specs.declared.obs.ObsEpoch.{ObsEpoch}
+use Rattle.rinex_obs.specs.declared.obs.SatObs.{SatObs}
+use Rattle.sat_model.specs.Verdicts.{IsLater}
+use Rattle.sat_model.specs.declared.satellites.Skip.{Skip}
+use Rattle.sat_rows.specs.Meanings.{Meaning}
+
+-- each reason not to use a satellite can stand in a log
+abbrev pub SkipsFit : Meaning → Type 0
+SkipsFit m = (tag : ℤ) (seen : SatObs) (skip : Skip) → m.judged tag seen (Some skip) → SkipFits skip
+
+-- its number is one of an epoch, and it has GPS satellites, none of them twice
+pub record IsWritable (epoch : ObsEpoch) : Type 0 where
+  pub index : IsCountFromTo first_epoch last_epoch epoch.index
+  pub distinct : AreDistinct epoch.sats.items
+  pub gps : AreGpsSats epoch.sats.items
+
+-- each may stand in a log, behind the one before
+abbrev pub AreWritable : Option ℕ → List ObsEpoch → Type 0
+AreWritable before [] = Unit {0}
+AreWritable before (epoch ∷ more) =
+    IsLater before epoch.index × IsWritable epoch × AreWritable (Some epoch.index) more
+
+pub record CanGive (m : Meaning) (before : Option ℕ) (epochs : List ObsEpoch) : Type 0 where
+  pub skips : SkipsFit m
+  pub epochs_are : AreWritable before epochs

@@ -1,0 +1,8 @@
+//! Which epochs of an observation file a run takes, and the box in which each of them is searched.
+#![tactic(auto)]
+
+mod searches;
+mod selection;
+
+pub use searches::Searches;
+pub use selection::{FIRST_EPOCH, LAST_EPOCH, Selection};

@@ -1,0 +1,33 @@
+//! Epochs with the box in which each is searched.
+
+use crate::selection::Selection;
+use rinex_obs::ObsEpoch;
+use sat_model::Box3;
+
+/// The selected ones among the epochs that are left of a file, each to be searched in the same box.
+#[derive(Clone, Copy)]
+pub struct Searches<'a> {
+    pub left: &'a [ObsEpoch],
+    pub selection: Selection,
+    pub root: Box3,
+}
+
+impl<'a> Searches<'a> {
+    ghost use Rattle.std.specs.Prelude.{◌≡◌, [], MatchOption};
+    ghost use Rattle.epoch_selection.specs.Searches.{epochs_left, IsTaken};
+
+    /// Takes the next epoch; none is left where it answers none.
+    pub fn next(&mut self) -> Option<&'a ObsEpoch>
+        ensures { MatchOption result (epochs_left self.old ≡ [])
+            (λ epoch. IsTaken self.old epoch.now self.new) }
+    {
+        match self.selection.first_of(self.left) {
+            Some(i) => {
+                let epoch = &self.left[i];
+                self.left = &self.left[i + 1..];
+                Some(epoch)
+            }
+            None => None,
+        }
+    }
+}

@@ -1,0 +1,342 @@
+//! A log and its report while they are written: in pieces of up to 64 KiB, the log's before the
+//! report's.
+
+ghost use Rattle.std.specs.Prelude.{◌≡◌, None, IfOk};
+ghost use Rattle.paving_log.specs.RowsText.{AllOwnPass};
+ghost use Rattle.paving_log.specs.Text.{LogFits};
+ghost use Rattle.paving_log.specs.Values.{log_value};
+ghost use Rattle.paving_log.specs.declared.line.Form.TheVariants as form;
+
+use log_writer::{Blocks, LogBlocks, WriteFault, write_log};
+use outer_io::{MemoryShelf, MemorySink, Shelf, Slot};
+use paving_log::{Log, LogEpoch, read_rows};
+use sat_model::{Box3, NoMemory, Rules};
+use std::alloc::{AllocError, Global};
+use std::test::Fail;
+
+/// The rows of a text.
+fn rows_in(alloc: Global, text: &str) -> Result<Log, Fail>
+    ensures fits { IfOk result (λ rows. LogFits form.Rows (log_value rows)) }
+    ensures passes { IfOk result (λ rows. AllOwnPass rows.rules None (log_value rows).blocks) }
+{
+    if text.len() > 4_000_000_000 {
+        return Err(Fail::from("too long"));
+    }
+    match read_rows(alloc, text.as_bytes()) {
+        Ok(rows) => Ok(rows),
+        Err(_) => Err(Fail::from("no rows")),
+    }
+}
+
+/// Devices on which a log is written: the bytes that each takes, and the number of its call that
+/// fails, none where it is 0. The log is created by call 1 of the shelf.
+#[derive(Clone, Copy)]
+struct Devices {
+    room: u64,
+    fails: u64,
+    out_room: u64,
+    out_fails: u64,
+}
+
+/// Devices that take all.
+const WHOLE: Devices = Devices {
+    room: 200_000,
+    fails: 0,
+    out_room: 200_000,
+    out_fails: 0,
+};
+
+/// What they hold in the end.
+#[derive(Drop)]
+struct Held {
+    result: Result<(), WriteFault>,
+    shelf: MemoryShelf,
+    out: MemorySink,
+}
+
+/// Writes the log of these blocks up to the limit.
+fn write<B: Blocks>(
+    alloc: Global,
+    rules: &Rules,
+    blocks: &mut B,
+    limit: u32,
+    devices: &Devices,
+) -> Result<Held, Fail>
+    requires rules { (B.standing blocks.old).rules ≡ rules.now }
+    requires first { (B.standing blocks.old).before ≡ None }
+    requires ready { B.ready blocks.old }
+{
+    let name = String::from_str(alloc, "b.log")?;
+    let fails = vec![in alloc; devices.fails]?;
+    let mut shelf = MemoryShelf::make(alloc, Vec::new(alloc), name, devices.room, fails)?;
+    let mut out = MemorySink::make(alloc, devices.out_room, vec![in alloc; devices.out_fails]?)?;
+    shelf.create("b.log", Slot::Log)?;
+    let limit = (limit as u64).min(4_000_000_000);
+    let result = write_log(alloc, &mut shelf, &mut out, limit, rules, blocks);
+    Ok(Held { result, shelf, out })
+}
+
+/// Writes the log of these rows.
+fn write_rows(alloc: Global, rows: &str, limit: u32, devices: &Devices) -> Result<Held, Fail> {
+    let log = rows_in(alloc, rows)?;
+    let rules = log.rules;
+    write(alloc, &rules, &mut LogBlocks::of_log(log), limit, devices)
+}
+
+/// The bytes of the log.
+fn log_bytes(held: &Held) -> &[u8] {
+    held.shelf.file("b.log").unwrap_or(&[])
+}
+
+/// A box that is closed at the edge.
+const ROWS: &str = "\
+gpscover 1
+rules 0 0 1000000
+epoch 1 1388102400000000000000 4
+sat G01 20000000000000 20000000000000 0 0 0 0 20000000000000 20000000000000 -500000 500000
+sat G02 0 0 20000000000000 20000000000000 0 0 20000000000000 20000000000000 -500000 500000
+sat G03 0 0 0 0 20000000000000 20000000000000 20000000000000 20000000000000 -500000 500000
+sat G04 12000000000000 12000000000000 16000000000000 16000000000000 0 0 20000000000000 20000000000000 -500000 500000
+root -1000000 -900000 -900000 1000000 900000 900000
+";
+
+const HEAD: &str = "gpscover 1\nrules 0 0 1000000\nepoch 1 1388102400000000000000 4\n";
+
+const STEPS: &str = "edge 0 -1400000 1400000\ndone 0\n";
+
+const FIRST_REPORT: &str = "epoch 1 gps 1388102400.000000000000 satellites 4\n";
+
+const MORE_REPORT: &str = "\
+edge -1.000000 1.000000 -0.900000 0.900000 -0.900000 0.900000 clock -1.400000 1.400000
+total in 0 edge 1 out 0 bisections 0
+";
+
+/// Two texts, one behind the other.
+fn both(alloc: Global, first: &str, second: &str) -> Result<String, AllocError> {
+    let mut text = String::from_str(alloc, first)?;
+    text.push_str(second)?;
+    Ok(text)
+}
+
+// What fits one piece goes out at the end, or at a full log in the middle of the epoch. A device that
+// is full keeps what it took.
+#[test]
+fn one_piece_goes_out_at_the_end(rt: HostRuntime) -> Result<(), Fail> {
+    let alloc = rt.alloc();
+    let all = 2_000;
+    let full = Err(WriteFault::Full);
+    let table = [
+        (
+            all,
+            WHOLE,
+            Ok(()),
+            (ROWS, STEPS),
+            (FIRST_REPORT, MORE_REPORT),
+        ),
+        (100, WHOLE, full, (HEAD, ""), (FIRST_REPORT, "")),
+        (28, WHOLE, full, ("gpscover 1\n", ""), ("", "")),
+        (0, WHOLE, full, ("", ""), ("", "")),
+        (
+            all,
+            Devices { fails: 2, ..WHOLE },
+            Err(WriteFault::Log),
+            ("", ""),
+            ("", ""),
+        ),
+        (
+            100,
+            Devices { room: 20, ..WHOLE },
+            Err(WriteFault::Log),
+            ("gpscover 1\nrules 0 0", ""),
+            ("", ""),
+        ),
+        (
+            all,
+            Devices {
+                out_fails: 1,
+                ..WHOLE
+            },
+            Err(WriteFault::Out),
+            (ROWS, STEPS),
+            ("", ""),
+        ),
+        (
+            100,
+            Devices {
+                out_room: 20,
+                ..WHOLE
+            },
+            Err(WriteFault::Out),
+            (HEAD, ""),
+            ("epoch 1 gps 13881024", ""),
+        ),
+    ];
+    for (limit, devices, result, log, report) in table {
+        let held = write_rows(alloc, ROWS, limit, &devices)?;
+        assert_eq!(rt; held.result, result);
+        assert_eq!(rt; log_bytes(&held), both(alloc, log.0, log.1)?.as_bytes());
+        assert_eq!(rt;
+            held.out.bytes(),
+            both(alloc, report.0, report.1)?.as_bytes()
+        );
+    }
+    Ok(())
+}
+
+/// How many epochs the long rows have. Each has a line of 36 bytes, and one of 47 in the report.
+const EPOCHS: u32 = 2_000;
+
+/// Rows of epochs with too few satellites.
+fn long_rows(alloc: Global) -> Result<String, Fail> {
+    let mut text = String::from_str(alloc, "gpscover 1\nrules 1 8 1000\n")?;
+    for index in 100_001..100_001 + EPOCHS {
+        text.push_str(&format!(in alloc; "few {index} 1388102400000000000000 4\n")?)?;
+    }
+    Ok(text)
+}
+
+// The report fills the first piece, with the lines of 1,394 epochs: 65,518 of 65,536 bytes. The head
+// has 26 bytes.
+#[test]
+fn the_logs_piece_goes_out_before_the_reports(rt: HostRuntime) -> Result<(), Fail> {
+    let alloc = rt.alloc();
+    let rows = long_rows(alloc)?;
+    let all = 100_000;
+    let table = [
+        (all, WHOLE, Ok(()), 72_026, 94_000),
+        (
+            all,
+            Devices { fails: 2, ..WHOLE },
+            Err(WriteFault::Log),
+            0,
+            0,
+        ),
+        (
+            all,
+            Devices { fails: 3, ..WHOLE },
+            Err(WriteFault::Log),
+            50_210,
+            65_518,
+        ),
+        (
+            all,
+            Devices {
+                room: 60_000,
+                ..WHOLE
+            },
+            Err(WriteFault::Log),
+            60_000,
+            65_518,
+        ),
+        (
+            all,
+            Devices {
+                out_fails: 1,
+                ..WHOLE
+            },
+            Err(WriteFault::Out),
+            50_210,
+            0,
+        ),
+        (
+            all,
+            Devices {
+                out_fails: 2,
+                ..WHOLE
+            },
+            Err(WriteFault::Out),
+            72_026,
+            65_518,
+        ),
+        (
+            all,
+            Devices {
+                out_room: 70_000,
+                ..WHOLE
+            },
+            Err(WriteFault::Out),
+            72_026,
+            70_000,
+        ),
+        (60_000, WHOLE, Err(WriteFault::Full), 59_966, 78_255),
+    ];
+    let whole = write_rows(alloc, &rows, all, &WHOLE)?;
+    assert_eq!(rt; log_bytes(&whole), rows.as_bytes());
+    for (limit, devices, result, log, report) in table {
+        let held = write_rows(alloc, &rows, limit, &devices)?;
+        assert_eq!(rt; held.result, result);
+        assert_eq!(rt;
+            (log_bytes(&held).len(), held.out.bytes().len()),
+            (log, report)
+        );
+        assert!(rt; rows.as_bytes().starts_with(log_bytes(&held)));
+        assert!(rt; whole.out.bytes().starts_with(held.out.bytes()));
+    }
+    Ok(())
+}
+
+/// The blocks of a log, of which so many come before memory ends.
+#[derive(Drop)]
+struct Ending {
+    blocks: LogBlocks,
+    left: u32,
+}
+
+impl Blocks for Ending {
+    ghost gives = { λ old kept next new.
+        ⟦<LogBlocks as Blocks>⟧.gives old.blocks kept next new.blocks };
+
+    ghost standing = { λ ending. ⟦<LogBlocks as Blocks>⟧.standing ending.blocks };
+
+    ghost ready = { λ ending. ⟦<LogBlocks as Blocks>⟧.ready ending.blocks };
+
+    fn next(&mut self, alloc: Global, kept: Option<Box3>) -> Result<Option<LogEpoch>, NoMemory> {
+        if self.left == 0 {
+            return Err(NoMemory);
+        }
+        self.left -= 1;
+        self.blocks.next(alloc, kept)
+    }
+}
+
+// What was gathered goes out, where a device doesn't fail then.
+#[test]
+fn finished_epochs_go_out_where_memory_ends(rt: HostRuntime) -> Result<(), Fail> {
+    let alloc = rt.alloc();
+    let table = [
+        (0, WHOLE, WriteFault::NoMemory, 26, 0),
+        (1_500, WHOLE, WriteFault::NoMemory, 54_026, 70_500),
+        (
+            1_500,
+            Devices { fails: 3, ..WHOLE },
+            WriteFault::Log,
+            50_210,
+            65_518,
+        ),
+        (
+            1_500,
+            Devices {
+                out_fails: 2,
+                ..WHOLE
+            },
+            WriteFault::Out,
+            54_026,
+            65_518,
+        ),
+    ];
+    for (left, devices, fault, log, report) in table {
+        let rows = rows_in(alloc, &long_rows(alloc)?)?;
+        let rules = rows.rules;
+        let mut blocks = Ending {
+            blocks: LogBlocks::of_log(rows),
+            left,
+        };
+        let held = write(alloc, &rules, &mut blocks, 100_000, &devices)?;
+        assert_eq!(rt; held.result, Err(fault));
+        assert_eq!(rt;
+            (log_bytes(&held).len(), held.out.bytes().len()),
+            (log, report)
+        );
+    }
+    Ok(())
+}

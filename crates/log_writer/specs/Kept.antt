@@ -1,0 +1,47 @@
+-- The hull of the boxes that a block keeps.
+use Rattle.std.specs.Prelude.{ℤ, List, [], ◌∷◌, Option, None, Some, cond}
+use Rattle.sat_model.specs.declared.steps.Step.{Step}
+use Rattle.sat_model.specs.Boxes.{Side, GridBox}
+use Rattle.sat_model.specs.Fold.{ShownStep, pieces}
+use Rattle.sat_model.specs.Logs.{Block}
+use Rattle.sat_model.specs.StepKinds.{is_kept_step}
+use lib.Signed.{le_z}
+
+abbrev pub lesser : ℤ → ℤ → ℤ
+lesser a b = cond (le_z a b) a b
+
+abbrev pub greater : ℤ → ℤ → ℤ
+greater a b = cond (le_z a b) b a
+
+abbrev pub joined_side : Side → Side → Side
+joined_side s t = record { lo = lesser s.lo t.lo; hi = greater s.hi t.hi }
+
+-- the least box that holds both
+abbrev pub joined_box : GridBox → GridBox → GridBox
+joined_box a b = record {
+  x = joined_side a.x b.x;
+  y = joined_side a.y b.y;
+  z = joined_side a.z b.z;
+}
+
+abbrev pub hull_with : Option GridBox → GridBox → Option GridBox
+hull_with None part = Some part
+hull_with (Some hull) part = Some (joined_box hull part)
+
+-- with the box that a step closes inside or at the edge
+abbrev pub hull_after : Option GridBox → ShownStep → Option GridBox
+hull_after hull shown = cond (is_kept_step shown.step) (hull_with hull shown.part) hull
+
+abbrev pub hull_behind : Option GridBox → List ShownStep → Option GridBox
+hull_behind hull [] = hull
+hull_behind hull (shown ∷ more) = hull_behind (hull_after hull shown) more
+
+-- of the in and edge boxes of an epoch with these steps; none where it has none, or no root
+abbrev pub hull_kept : List Step → Option GridBox → Option GridBox
+hull_kept steps None = None
+hull_kept steps (Some root) = hull_behind None (pieces root steps)
+
+-- of the last block
+abbrev pub hull_of_last : Option GridBox → List Block → Option GridBox
+hull_of_last hull [] = hull
+hull_of_last hull (block ∷ more) = hull_of_last (hull_kept block.steps block.root) more

@@ -1,0 +1,56 @@
+-- What a log and its report have of one log of rows that are all known.
+use Rattle.std.specs.Prelude.{◌≡◌, ℕ, ◌≤◌, List, length, None, Result, Ok, Err}
+use Rattle.std.specs.List.{AllByRecursion}
+use Rattle.sat_model.specs.Cover.{RowCover}
+use Rattle.sat_model.specs.Logs.{LogValue}
+use Rattle.sat_model.specs.Verdicts.{Judged}
+use Rattle.epoch_report.specs.Reports.{report_text}
+use Rattle.paving_log.specs.declared.line.Form.TheVariants as form
+use Rattle.paving_log.specs.RowsText.{AllOwnPass}
+use Rattle.paving_log.specs.Text.{IsLogText, BlockFits}
+use Rattle.log_writer.specs.declared.fault.WriteFault.{WriteFault}
+use Rattle.log_writer.specs.Breaks.{BrokeOff}
+use Rattle.log_writer.specs.Pavings.{AllPave}
+use Rattle.log_writer.specs.Pieces.{log_pieces}
+use Rattle.log_writer.specs.RowsFrom.{of_rows}
+use Rattle.log_writer.specs.Texts.{IsText}
+
+-- the log has the rules and blocks of the rows, and paves each root
+pub record IsPavingOf (rows log : LogValue) : Type 0 where
+  pub rules : log.rules ≡ rows.rules
+  pub blocks : AllPave rows.rules rows.blocks log.blocks
+
+-- The text and the report of one log that paves the rows. It passes all tests, and its cover by the
+-- rows holds.
+pub record IsWholeOf (rows : LogValue) (limit : ℕ) (bytes said : List ℕ) : Type 0 where
+  pub log : LogValue
+  pub paving : IsPavingOf rows log
+  pub text : IsLogText log bytes
+  pub report : said ≡ report_text log
+  pub judged : Judged log
+  pub cover : RowCover log
+  pub fits : length bytes ≤ limit
+
+-- what this fault left of one log that paves the rows
+pub record IsBegunOf (fault : WriteFault) (rows : LogValue) (limit : ℕ)
+    (bytes said : List ℕ) : Type 0 where
+  pub log : LogValue
+  pub paving : IsPavingOf rows log
+  pub broke : BrokeOff limit (log_pieces log) fault bytes said
+
+-- by how the writing ended
+abbrev pub IsTextOf : {T : Type 0} → LogValue → ℕ → Result T WriteFault
+    → (bytes said : List ℕ) → Type 0
+IsTextOf rows limit (Ok done) bytes said = IsWholeOf rows limit bytes said
+IsTextOf rows limit (Err fault) bytes said = IsBegunOf fault rows limit bytes said
+
+-- each block of the rows may be paved
+pub record CanBePaved (rows : LogValue) : Type 0 where
+  pub fit : AllByRecursion (BlockFits form.Rows) rows.blocks
+  pub own : AllOwnPass rows.rules None rows.blocks
+
+-- what is written of these rows, block by block, is of one log of them all
+abbrev pub GoesOn : (rows : LogValue) → Type 0
+GoesOn rows = (limit : ℕ) (result : Result (Unit {0}) WriteFault) (bytes said : List ℕ)
+    → IsText of_rows rows.rules rows.blocks limit result bytes said
+    → IsTextOf rows limit result bytes said

@@ -1,0 +1,10 @@
+pub mod BoundLemmas
+pub mod RecordLemmas
+pub mod TimeLemmas
+pub mod EpochLemmas
+pub mod ClockBounds
+pub mod RangeBounds
+pub mod DrawLemmas
+pub mod CodeLemmas
+pub mod MakeLemmas
+pub mod FitLemmas

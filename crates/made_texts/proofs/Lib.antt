@@ -1,0 +1,10 @@
+pub mod DigitBytes
+pub mod CellLemmas
+pub mod LineLemmas
+pub mod FieldLemmas
+pub mod NavLemmas
+pub mod NavWriting
+pub mod ObsFields
+pub mod ObsLemmas
+pub mod ObsWriting
+pub mod SettingsLemmas

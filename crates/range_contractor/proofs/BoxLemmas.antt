@@ -1,0 +1,42 @@
+-- Boxes axis by axis.
+use Rattle.std.proofs.Common.{◌≡◌, ℕ, zero, suc, arith, Bool, true, ◌&&◌, refl}
+use Rattle.std.specs.Prelude.{ℤ}
+use Rattle.std.proofs.lemmas.Int.{ints}
+use Rattle.sat_model.specs.declared.boxes.Pos.{Pos}
+use Rattle.sat_model.specs.Boxes.{Side, GridBox, side_holds, box_holds, side_at, grid_box}
+use Rattle.sat_model.specs.declared.boxes.Box3.{Box3}
+use Rattle.sat_model.proofs.FittingLemmas.{both, le_to, side_in}
+use Rattle.sat_model.specs.Trees.{IsIn}
+use Rattle.sat_model.specs.Contractors.{LiesIn}
+
+pub both_from : (a b : Bool) → a ≡ true → b ≡ true → (a && b) ≡ true
+both_from a b e f = rw (e, f) refl
+
+pub in_side : (s : Side) (n : ℤ) → IsIn s n → side_holds s n ≡ true
+in_side s n (l, u) = both_from _ _ (le_to s.lo n l) (le_to n s.hi u)
+
+-- the coordinate on an axis
+abbrev pub along : ℕ → Pos → ℤ
+along zero p = p.x
+along (suc zero) p = p.y
+along (suc (suc n)) p = p.z
+
+pub holds_at : (c : GridBox) (p : Pos) → box_holds c p ≡ true → (axis : ℕ) → IsIn (side_at axis c) (along axis p)
+holds_at c p h zero = side_in c.x p.x (both _ _ h).0
+holds_at c p h (suc zero) = side_in c.y p.y (both _ _ (both _ _ h).1).0
+holds_at c p h (suc (suc n)) = side_in c.z p.z (both _ _ (both _ _ h).1).1
+
+pub holds_all : (c : GridBox) (p : Pos) → ((axis : ℕ) → IsIn (side_at axis c) (along axis p)) → box_holds c p ≡ true
+holds_all c p h = both_from _ _ (in_side c.x p.x (h 0)) (both_from _ _ (in_side c.y p.y (h 1)) (in_side c.z p.z (h 2)))
+
+pub lies_through : (a m part : GridBox) → LiesIn a m → LiesIn m part → LiesIn a part
+lies_through a m part h k axis =
+    let u = h axis in
+    let v = k axis in
+    record { low = omega (arith, ints, u.low, v.low); ordered = u.ordered; high = omega (arith, ints, u.high, v.high) }
+
+-- a box isn't empty on any axis
+pub box_lies : (b : Box3) → LiesIn (grid_box b) (grid_box b)
+box_lies b zero = record { low = omega (arith, ints); ordered = b.x_ordered; high = omega (arith, ints) }
+box_lies b (suc zero) = record { low = omega (arith, ints); ordered = b.y_ordered; high = omega (arith, ints) }
+box_lies b (suc (suc n)) = record { low = omega (arith, ints); ordered = b.z_ordered; high = omega (arith, ints) }

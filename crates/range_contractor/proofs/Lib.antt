@@ -1,0 +1,15 @@
+pub mod BoxLemmas
+pub mod CountLemmas
+pub mod MeetLemmas
+pub mod TreeLemmas
+pub mod FaceLemmas
+pub mod AmountLemmas
+pub mod SquareLemmas
+pub mod TightLemmas
+pub mod LeafLemmas
+pub mod KidLemmas
+pub mod ViewLemmas
+pub mod RowLemmas
+pub mod LeafExists
+pub mod TreeExists
+pub mod RowTreeExists

@@ -1,0 +1,119 @@
+use Rattle.std.proofs.Common.{◌≡◌, ℕ, ◌-◌, arith, sym, subst, [], ◌∷◌, ◌++◌, option_map, ap, ◌∙◌, take, length}
+use Rattle.std.proofs.lemmas.List.{take_all}
+use Rattle.sat_model.specs.Boxes.{grid_box, side_at}
+use Rattle.sat_model.specs.Trees.{TreeValue, Relaxed, count_trees, span_side}
+use Rattle.sat_model.specs.Contractors.{Contractor, sides_of}
+use Rattle.sat_model.specs.Proposals.{IsTied}
+use Rattle.range_contractor.specs.Hulls.{AreInside}
+use Rattle.range_contractor.specs.Views.{tree_value, tree_values}
+use Rattle.range_contractor.proofs.KidLemmas.{repeat_more, repeat_none, repeat_done, turn_more, turn_none, sound_from, count_kids, tied_more, sides_append, answers_inside, relaxed_answer}
+use Rattle.range_contractor.proofs.ViewLemmas.{view_relaxed}
+use Rattle.range_contractor.proofs.BoxLemmas.{box_lies}
+use Rattle.range_contractor.proofs.contraction.+contraction.Goals as goal
+
+pub again-returns-in-None : goal.again-returns-in-None
+again-returns-in-None g t c =
+    let I = g.I.Interval in
+    let Run : Contractor = λ b a. IsTied (tree_value I.low I.high c.args.kid.now) I.GRAIN I.SLACK (span_side c.args.clock.now) b a in
+    repeat_none c.args.rounds c.loop-round.round Run (grid_box c.args.part.now) (grid_box c.loop-round.left) c.loop-round-test.true c.in-None.ensures c.loop-round.invariant
+
+pub again-loop-round-preserved : goal.again-loop-round-preserved
+again-loop-round-preserved g t c =
+    let I = g.I.Interval in
+    let Run : Contractor = λ b a. IsTied (tree_value I.low I.high c.args.kid.now) I.GRAIN I.SLACK (span_side c.args.clock.now) b a in
+    repeat_more c.args.rounds c.loop-round.round Run (grid_box c.args.part.now) (grid_box c.loop-round.left) (grid_box c.in-Some.kept) c.loop-round-test.true c.in-Some.ensures c.loop-round.invariant
+
+pub again-returns : goal.again-returns
+again-returns g t c =
+    let I = g.I.Interval in
+    let Run : Contractor = λ b a. IsTied (tree_value I.low I.high c.args.kid.now) I.GRAIN I.SLACK (span_side c.args.clock.now) b a in
+    repeat_done c.args.rounds c.loop-round.round Run (grid_box c.args.part.now) (grid_box c.loop-round.left) c.loop-round-test.false c.loop-round.invariant
+
+pub in_turn-returns-in-None : goal.in_turn-returns-in-None
+in_turn-returns-in-None g t c =
+    let I = g.I.Interval in
+    turn_none (tree_value I.low I.high) c.args.kids.now I.GRAIN I.SLACK (span_side c.args.clock.now) (grid_box c.args.part.now) c.loop-kid.kid-index c.kid-item.result (grid_box c.loop-kid.left)
+    c.loop-kid-test.true c.kid-item.is c.in-None.ensures c.loop-kid.invariant.goes_on
+
+pub in_turn-loop-kid-preserved : goal.in_turn-loop-kid-preserved
+in_turn-loop-kid-preserved g t c =
+    let I = g.I.Interval in
+    record {
+      sound = (sound_from (tree_value I.low I.high) c.args.kids.now c.loop-kid.kid-index c.kid-item.result c.loop-kid-test.true c.kid-item.is c.loop-kid.invariant.sound).1;
+      goes_on = turn_more (tree_value I.low I.high) c.args.kids.now I.GRAIN I.SLACK (span_side c.args.clock.now) (grid_box c.args.part.now) c.loop-kid.kid-index c.kid-item.result (grid_box c.loop-kid.left) (grid_box c.in-Some.kept)
+          c.loop-kid-test.true c.kid-item.is c.in-Some.ensures c.loop-kid.invariant.goes_on;
+    }
+
+pub contraction-returns-in-Relaxed : goal.contraction-returns-in-Relaxed
+contraction-returns-in-Relaxed g t c =
+    let I = g.I.Interval in
+    let e = ap (λ T. tree_value I.low I.high T) c.in-Relaxed.is ∙ view_relaxed I.low I.high c.in-Relaxed.q c.in-Relaxed.kids ∙ ap (λ l. Relaxed c.in-Relaxed.q (tree_values I.low I.high l)) (sym c.deref-in-Relaxed.ensures.value) in
+    subst (λ (v : TreeValue). IsTied v I.GRAIN I.SLACK (span_side c.args.clock.now) (grid_box c.args.part.now) (option_map grid_box c.relaxed_part.result)) (sym e) c.relaxed_part.ensures
+
+pub relaxed_part-add-requires : goal.relaxed_part-add-requires
+relaxed_part-add-requires g t c =
+    let I = g.I.Interval in
+    let n = count_kids (tree_value I.low I.high) c.args.kids.now in
+    let few = c.requires.1 in
+    let i = c.loop-kid.invariant.few in
+    let h = c.loop-kid-test.true in
+    (omega (arith, i.0), omega (arith, i.1), omega (arith, i.2))
+
+pub relaxed_part-overflow_cast-kids : goal.relaxed_part-overflow_cast-kids
+relaxed_part-overflow_cast-kids g t c =
+    let I = g.I.Interval in
+    let n = count_kids (tree_value I.low I.high) c.args.kids.now in
+    let few = c.requires.1 in
+    record { fits = omega arith }
+
+pub relaxed_part-overflow_sub-kids : goal.relaxed_part-overflow_sub-kids
+relaxed_part-overflow_sub-kids g t c =
+    let I = g.I.Interval in
+    let n = count_kids (tree_value I.low I.high) c.args.kids.now in
+    let q = c.requires.0 in
+    omega arith
+
+pub relaxed_part-hull_box-requires : goal.relaxed_part-hull_box-requires
+relaxed_part-hull_box-requires g t c =
+    let I = g.I.Interval in
+    let n = count_kids (tree_value I.low I.high) c.args.kids.now in
+    let q = c.requires.0 in
+    let few = c.requires.1 in
+    let i = c.loop-kid.invariant.few in
+    let lies = box_lies c.args.part.now in
+    let e = c.loop-kid.auto.kid-index-end in
+    let inside : (axis : ℕ) → AreInside (side_at axis (grid_box c.args.part.now)) (sides_of axis c.loop-kid.invariant.answers) = λ axis.
+    answers_inside axis (tree_values I.low I.high (take c.loop-kid.kid-index c.args.kids.now)) I.GRAIN I.SLACK (span_side c.args.clock.now) (grid_box c.args.part.now) c.loop-kid.invariant.answers lies c.loop-kid.invariant.tied in
+    record {
+      need = omega arith;
+      few = (omega (arith, i.0), omega (arith, i.1), omega (arith, i.2));
+      x_inside = rw c.loop-kid.invariant.x (inside 0);
+      y_inside = rw c.loop-kid.invariant.y (inside 1);
+      z_inside = rw c.loop-kid.invariant.z (inside 2);
+    }
+
+pub relaxed_part-loop-kid-preserved : goal.relaxed_part-loop-kid-preserved
+relaxed_part-loop-kid-preserved g t c =
+    let I = g.I.Interval in
+    let i = c.loop-kid.invariant in
+    let answer = option_map grid_box c.contraction.result in
+    record {
+      sound = (sound_from (tree_value I.low I.high) c.args.kids.now c.loop-kid.kid-index c.kid-item.result c.loop-kid-test.true c.kid-item.is i.sound).1;
+      few = (omega (arith, i.few.0, c.add.ensures.few.0), omega (arith, i.few.1, c.add.ensures.few.1), omega (arith, i.few.2, c.add.ensures.few.2));
+      answers = i.answers ++ answer ∷ [];
+      tied = tied_more (tree_value I.low I.high) c.args.kids.now c.loop-kid.kid-index c.kid-item.result I.GRAIN I.SLACK (span_side c.args.clock.now) (grid_box c.args.part.now) i.answers answer
+          c.loop-kid-test.true c.kid-item.is i.tied c.contraction.ensures;
+      x = c.add.ensures.x ∙ ap (λ l. l ++ sides_of 0 (answer ∷ [])) i.x ∙ sym (sides_append 0 i.answers (answer ∷ []));
+      y = c.add.ensures.y ∙ ap (λ l. l ++ sides_of 1 (answer ∷ [])) i.y ∙ sym (sides_append 1 i.answers (answer ∷ []));
+      z = c.add.ensures.z ∙ ap (λ l. l ++ sides_of 2 (answer ∷ [])) i.z ∙ sym (sides_append 2 i.answers (answer ∷ []));
+    }
+
+pub relaxed_part-returns : goal.relaxed_part-returns
+relaxed_part-returns g t c =
+    let I = g.I.Interval in
+    let i = c.loop-kid.invariant in
+    let n = count_kids (tree_value I.low I.high) c.args.kids.now in
+    let all : take c.loop-kid.kid-index c.args.kids.now ≡ c.args.kids.now = take_all c.loop-kid.kid-index c.args.kids.now c.loop-kid-test.false in
+    let hulls = rw (i.x, i.y, i.z) at c.hull_box.ensures in
+    let need : length c.args.kids.now - c.args.q ≡ count_trees (tree_values I.low I.high c.args.kids.now) - c.args.q = omega arith in
+    (i.answers, rw all at i.tied, rw need at (relaxed_answer i.answers (length c.args.kids.now - c.args.q) _ hulls))

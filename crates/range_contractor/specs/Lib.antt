@@ -1,0 +1,5 @@
+pub mod Views
+pub mod Ranges
+pub mod Squares
+pub mod Sides
+pub mod Hulls

@@ -1,0 +1,45 @@
+//! What one satellite leaves of a box.
+
+ghost use Rattle.std.specs.Prelude.{option_map};
+ghost use Rattle.sat_model.specs.Boxes.{grid_box};
+ghost use Rattle.sat_model.specs.Trees.{Sat, IsLeafSized, span_side};
+ghost use Rattle.sat_model.specs.Proposals.{IsTied};
+ghost use Rattle.range_contractor.specs.Views.{leaf_value};
+
+use crate::boxes::{box_of, side_of};
+use crate::ranges::wanted;
+use crate::sides::side_kept;
+use crate::squares::{difference_squares, range_squares};
+use crate::tree::Leaf;
+use fix_interval::Interval;
+use sat_model::{Box3, Span};
+
+/// The least box that holds each point of the box that the satellite allows with some offset of the
+/// clock span, but for the slack at the faces. Each axis is contracted by the given sides of the
+/// two others, so that each face is tight across the given box.
+pub(crate) fn leaf_part<I: Interval>(leaf: &Leaf<I>, part: &Box3, clock: &Span) -> Option<Box3>
+    requires { IsLeafSized (leaf_value I.low I.high leaf.now) }
+    ensures { IsTied (Sat (leaf_value I.low I.high leaf.now)) I.GRAIN I.SLACK
+        (span_side clock.now) (grid_box part.now) (option_map grid_box result) }
+{
+    let Some(ranges) = wanted(&leaf.range, &leaf.err, clock) else {
+        return None;
+    };
+    let squares = range_squares::<I>(&ranges);
+    let x = side_of(part, 0);
+    let y = side_of(part, 1);
+    let z = side_of(part, 2);
+    let x_squares = difference_squares(leaf.x, &x);
+    let y_squares = difference_squares(leaf.y, &y);
+    let z_squares = difference_squares(leaf.z, &z);
+    let Some(x_kept) = side_kept(leaf.x, &x, squares, y_squares, z_squares) else {
+        return None;
+    };
+    let Some(y_kept) = side_kept(leaf.y, &y, squares, x_squares, z_squares) else {
+        return None;
+    };
+    let Some(z_kept) = side_kept(leaf.z, &z, squares, x_squares, y_squares) else {
+        return None;
+    };
+    Some(box_of(&x_kept, &y_kept, &z_kept))
+}

@@ -1,0 +1,21 @@
+//! Contractor trees (Chabert and Jaulin, 2009): the part of a box that satellites, each by itself,
+//! all together, or all but a few, allow with the offsets of a clock span.
+#![tactic(auto)]
+
+mod boxes;
+mod contraction;
+mod hulls;
+mod leaf;
+mod meets;
+mod ranges;
+mod row_trees;
+mod sides;
+mod squares;
+mod tree;
+
+pub use contraction::contract;
+pub use row_trees::relaxed_tree;
+pub use tree::{Leaf, Tree};
+
+#[cfg(test)]
+mod tests;

@@ -1,0 +1,478 @@
+-- How the lines of an observation file that is read are shared out.
+use Rattle.std.proofs.Common.{◌≡◌, ℕ, zero, suc, ◌+◌, ◌≤◌, ◌∙◌, Bool, true, false, cond, List, [], ◌∷◌, ◌++◌, length, get_or, take, drop, append_assoc, refl, ap, sym, subst, inl, inr, arith, Option, None, Some, Result, Ok, Err, IfOk, ◌⊎◌}
+use Rattle.std.specs.Prelude.{◌==◌, nat_le, codes}
+use Rattle.std.specs.List.{AllByRecursion, filter, list_all}
+use Rattle.std.specs.Str.{bytes_eq}
+use Rattle.std.proofs.lemmas.Bool.Decides.{nat_tests}
+use Rattle.std.proofs.lemmas.Slice.Eq.{bytes_eq-Decides}
+use Rattle.std.proofs.lemmas.List.{append-nil, take-append-drop, length-take-le}
+use Rattle.rinex_text.specs.Bodies.{counted, is_printable}
+use Rattle.rinex_text.specs.Columns.{column_of, columns_of, label_of}
+use Rattle.rinex_text.specs.Counts.{IsNumber}
+use Rattle.rinex_text.specs.Headers.{Behind, IsShort, IsHeaderEnd, version_line, version_of}
+use Rattle.rinex_text.specs.Lines.{TextLine, lines_of}
+use Rattle.rinex_text.specs.Whole.{OneForOne}
+use Rattle.rinex_text.specs.declared.fault.ReadError.{ReadError}
+use Rattle.sat_model.specs.declared.boxes.Pos.{Pos}
+use Rattle.sat_model.specs.declared.satellites.Signal.{Signal}
+use Rattle.sat_model.specs.declared.satellites.Signal.TheVariants.{Single, Dual}
+use Rattle.rinex_obs.specs.Types.{Code, Types, types_line, AreComplete, codes_of}
+use Rattle.rinex_obs.specs.Header.{Coordinates, position_line, IsPosition, Header, header_line, Wanted, AreWanted, header_end, Start, header_lines}
+use Rattle.rinex_obs.specs.Epochs.{IsTag, flag_of, IsFlag, IsLineCount, satellite_line, satellites_from, event_line, event_from, head_line, Observed, Block, block_from, epochs_from}
+use Rattle.rinex_obs.specs.Files.{Observations, unread, IsObsFile}
+use Rattle.rinex_obs.specs.Reading.{observations_of}
+use Rattle.rinex_obs.specs.Whole.{is_types_line, AreJoined, IsPositionLine, IsPositionOf, IsFineInHeader, IsFineInEvent, Part, lines_of_parts, IsPart, begins_epoch, is_of_gps, IsSeenOn, IsEpochOf, IsWhole}
+use Rattle.rinex_obs.specs.declared.head.Head.{Head}
+use Rattle.rinex_obs.specs.declared.head.Head.TheVariants.{Epoch, Event}
+use Rattle.rinex_obs.specs.declared.obs.Obs.{Obs}
+use Rattle.rinex_obs.specs.declared.obs.SatObs.{SatObs}
+use Rattle.rinex_obs.proofs.FactLemmas.{Give, given, on_test, on_where, on_either, on_read, on_then, on_line, on_more}
+use Rattle.rinex_obs.proofs.JoinedLemmas.{Walks, AreTypesBehind, walks_first, joined}
+
+-- ---- one for one
+
+one_join : {X Y : Type 0} (F : X → Y → Type 0) (xs more : List X) (ys after : List Y) → OneForOne F xs ys → OneForOne F more after → OneForOne F (xs ++ more) (ys ++ after)
+one_join F [] more [] after a b = b
+one_join F [] more (y ∷ ys) after a b = absurd a
+one_join F (x ∷ xs) more [] after a b = absurd a
+one_join F (x ∷ xs) more (y ∷ ys) after a b = (a.0, one_join F xs more ys after a.1 b)
+
+filter_first : {X : Type 0} (p : X → Bool) (x : X) (xs : List X) → filter p (x ∷ xs) ≡ filter p (x ∷ []) ++ filter p xs
+filter_first p x xs = elim (p x) as (λ b. cond b (x ∷ filter p xs) (filter p xs) ≡ cond b (x ∷ []) [] ++ filter p xs) [
+  | true ↦ refl
+  | false ↦ refl
+]
+
+-- one more in front
+one_first : {X Y : Type 0} (F : X → Y → Type 0) (p : X → Bool) (x : X) (xs : List X) (ys after : List Y) → OneForOne F (filter p (x ∷ [])) ys → OneForOne F (filter p xs) after
+    → OneForOne F (filter p (x ∷ xs)) (ys ++ after)
+one_first F p x xs ys after a b = subst (λ l. OneForOne F l (ys ++ after)) (sym (filter_first p x xs)) (one_join F (filter p (x ∷ [])) (filter p xs) ys after a b)
+
+kept : {X Y : Type 0} (F : X → Y → Type 0) (b : Bool) (x : X) (y : Y) → b ≡ true → F x y → OneForOne F (cond b (x ∷ []) []) (y ∷ [])
+kept F b x y e is = subst (λ (t : Bool). OneForOne F (cond t (x ∷ []) []) (y ∷ [])) (sym e) (is, tt)
+
+left_out : {X Y : Type 0} (F : X → Y → Type 0) (b : Bool) (x : X) → b ≡ false → OneForOne {X = X} {Y = Y} F (cond b (x ∷ []) []) []
+left_out {X} {Y} F b x e = subst (λ (t : Bool). OneForOne {X = X} {Y = Y} F (cond t (x ∷ []) []) []) (sym e) tt
+
+is_gps : (byte : ℕ) → byte ≡ 71 → (byte == 71) ≡ true
+is_gps byte h = grind (arith, nat_tests)
+
+not_gps : (byte : ℕ) → (byte ≡ 71 → ⊥) → (byte == 71) ≡ false
+not_gps byte h = grind (arith, nat_tests)
+
+low_flag : (flag : ℕ) → flag ≤ 49 → nat_le flag 49 ≡ true
+low_flag flag h = grind (arith, nat_tests)
+
+high_flag : (flag : ℕ) → (flag ≤ 49 → ⊥) → nat_le flag 49 ≡ false
+high_flag flag h = grind (arith, nat_tests)
+
+-- ---- satellites
+
+-- the satellite of a line, or none, behind those before
+record AddsOn (wanted : Wanted) (line : TextLine) (sats after : List SatObs) : Type 0 where
+  short : IsShort line
+  new : List SatObs
+  after_is : after ≡ sats ++ new
+  seen : OneForOne (IsSeenOn wanted) (filter is_of_gps (line ∷ [])) new
+
+adds_on : (wanted : Wanted) (sats : List SatObs) (line : TextLine) → Give (AddsOn wanted line sats) (satellite_line wanted sats line)
+adds_on wanted sats line =
+    let Meets : List SatObs → Type 0 = AddsOn wanted line sats in
+    on_test Meets _ _ _ (λ short. on_where Meets _ _ _
+    (λ other. given Meets sats (record { short = short; new = []; after_is = sym (append-nil sats); seen = left_out (IsSeenOn wanted) _ line (not_gps (column_of line.text 1) other.2) }))
+    (on_test Meets _ _ _ (λ ascii. on_test Meets _ _ _ (λ gps. on_read Meets _ _ _ (λ number (is : IsNumber line.text number).
+    on_test Meets _ _ _ (λ new. on_test Meets _ _ _ (λ room. on_read Meets _ _ _ (λ first a. on_read Meets _ _ _ (λ second b.
+    let seen : SatObs = record { sat = record { system = 71; number = number }; first = first; second = second } in
+    given Meets (sats ++ seen ∷ []) (record {
+      short = short;
+      new = seen ∷ [];
+      after_is = refl;
+      seen = kept (IsSeenOn wanted) _ line seen (is_gps (column_of line.text 1) gps) (record { printable = ascii; number = is; first = a; second = b });
+    }))))))))))
+
+-- those of so many lines
+record AddAll (wanted : Wanted) (left : ℕ) (lines : List TextLine) (sats after : List SatObs) : Type 0 where
+  enough : left ≤ length lines
+  short : AllByRecursion IsShort (take left lines)
+  new : List SatObs
+  after_is : after ≡ sats ++ new
+  seen : OneForOne (IsSeenOn wanted) (filter is_of_gps (take left lines)) new
+
+add_first : (wanted : Wanted) (left : ℕ) (line : TextLine) (more : List TextLine) (sats next after : List SatObs) → AddsOn wanted line sats next → AddAll wanted left more next after
+    → AddAll wanted (suc left) (line ∷ more) sats after
+add_first wanted left line more sats next after a t = record {
+  enough = omega (arith, t.enough);
+  short = (a.short, t.short);
+  new = a.new ++ t.new;
+  after_is = t.after_is ∙ (ap (λ (s : List SatObs). s ++ t.new) a.after_is ∙ append_assoc sats a.new t.new);
+  seen = one_first (IsSeenOn wanted) is_of_gps line (take left more) a.new t.new a.seen t.seen;
+}
+
+add_all : (wanted : Wanted) (left : ℕ) (sats : List SatObs) (number : ℕ) (lines : List TextLine) → Give (AddAll wanted left lines sats) (satellites_from wanted left sats (record { number = number; lines = lines }))
+add_all wanted zero sats number lines = given (AddAll wanted zero lines sats) sats (record { enough = omega arith; short = tt; new = []; after_is = sym (append-nil sats); seen = tt })
+add_all wanted (suc left) sats number [] = λ r. λ e. rw e tt
+add_all wanted (suc left) sats number (line ∷ more) =
+    on_line (AddAll wanted (suc left) (line ∷ more) sats) (satellite_line wanted sats line) number (λ next. satellites_from wanted left next (record { number = number + 1; lines = more }))
+    (λ next is. on_more (AddAll wanted left more next) (AddAll wanted (suc left) (line ∷ more) sats) _
+    (λ after t. add_first wanted left line more sats next after (adds_on wanted sats line (Ok next) is) t)
+    (add_all wanted left next (number + 1) more))
+
+-- ---- events
+
+record Passes (labelled : Bool) (left : ℕ) (lines : List TextLine) : Type 0 where
+  enough : left ≤ length lines
+  short : AllByRecursion IsShort (take left lines)
+  fine : labelled ≡ true → AllByRecursion IsFineInEvent (take left lines)
+
+event_fine : (labelled : Bool) (line : TextLine) → Give (λ (none : Unit {0}). labelled ≡ true → IsFineInEvent line) (event_line labelled line)
+event_fine labelled line =
+    let Meets : Unit {0} → Type 0 = λ none. labelled ≡ true → IsFineInEvent line in
+    on_test Meets _ _ _ (λ short. on_either Meets _ _ _
+    (λ looked. on_test Meets _ _ _ (λ scale. on_test Meets _ _ _ (λ types. given Meets tt (λ e. record { scale = λ label gps. scale (label, gps); types = types }))))
+    (λ other. given Meets tt (λ e. absurd (other e))))
+
+event_short : (labelled : Bool) (line : TextLine) → Give (λ (none : Unit {0}). IsShort line) (event_line labelled line)
+event_short labelled line =
+    let Meets : Unit {0} → Type 0 = λ none. IsShort line in
+    on_test Meets _ _ _ (λ short. on_where Meets _ _ _ (λ looked. on_test Meets _ _ _ (λ scale. on_test Meets _ _ _ (λ types. given Meets tt short))) (given Meets tt short))
+
+passes_all : (labelled : Bool) (left number : ℕ) (lines : List TextLine) → Give (λ (none : Unit {0}). Passes labelled left lines) (event_from labelled left (record { number = number; lines = lines }))
+passes_all labelled zero number lines = given (λ (none : Unit {0}). Passes labelled zero lines) tt (record { enough = omega arith; short = tt; fine = λ e. tt })
+passes_all labelled (suc left) number [] = λ r. λ e. rw e tt
+passes_all labelled (suc left) number (line ∷ more) =
+    on_line (λ (none : Unit {0}). Passes labelled (suc left) (line ∷ more)) (event_line labelled line) number (λ none. event_from labelled left (record { number = number + 1; lines = more }))
+    (λ none is. on_more (λ (none : Unit {0}). Passes labelled left more) (λ (none : Unit {0}). Passes labelled (suc left) (line ∷ more)) _
+    (λ other t. record { enough = omega (arith, t.enough); short = (event_short labelled line (Ok none) is, t.short); fine = λ e. (event_fine labelled line (Ok none) is e, t.fine e) })
+    (passes_all labelled left (number + 1) more))
+
+-- ---- the first line of a part
+
+record IsOpening (line : TextLine) (lines : ℕ) : Type 0 where
+  marked : column_of line.text 1 ≡ 62
+  flag : IsFlag (flag_of line.text)
+  count : IsLineCount (columns_of line.text 33 35) lines
+  printable : list_all is_printable line.text ≡ true
+  short : IsShort line
+
+abbrev IsHeadOf : TextLine → Head → Type 0
+IsHeadOf line (Epoch tag lines) = IsOpening line lines × (nat_le (flag_of line.text) 49 ≡ true) × IsTag line.text tag
+IsHeadOf line (Event labelled lines) = IsOpening line lines × (nat_le (flag_of line.text) 49 ≡ false) × (labelled ≡ nat_le (flag_of line.text) 53)
+
+head_of : (count : ℕ) (line : TextLine) → Give (IsHeadOf line) (head_line count line)
+head_of count line =
+    on_test (IsHeadOf line) _ _ _ (λ short. on_test (IsHeadOf line) _ _ _ (λ ascii. on_test (IsHeadOf line) _ _ _ (λ mark. on_test (IsHeadOf line) _ _ _ (λ flag.
+    on_read (IsHeadOf line) _ _ _ (λ lines (is : IsLineCount (columns_of line.text 33 35) lines).
+    let opening : IsOpening line lines = record { marked = mark; flag = flag; count = is; printable = ascii; short = short } in
+    on_either (IsHeadOf line) _ _ _
+    (λ low. on_read (IsHeadOf line) _ _ _ (λ tag (time : IsTag line.text tag). on_test (IsHeadOf line) _ _ _ (λ few. given (IsHeadOf line) (Epoch tag lines) (opening, low_flag (flag_of line.text) low, time))))
+    (λ high. given (IsHeadOf line) (Event _ lines) (opening, high_flag (flag_of line.text) high, refl)))))))
+
+-- ---- parts
+
+record IsBlockOf (wanted : Wanted) (line : TextLine) (more : List TextLine) (block : Block) : Type 0 where
+  part : IsPart (record { head = line; lines = take block.lines more })
+  epochs : OneForOne (IsEpochOf wanted) (filter begins_epoch (record { head = line; lines = take block.lines more } ∷ [])) block.epochs
+
+is_part : (line : TextLine) (lines : ℕ) (more : List TextLine) → IsOpening line lines → lines ≤ length more → AllByRecursion IsShort (take lines more)
+    → (nat_le (flag_of line.text) 49 ≡ false → nat_le (flag_of line.text) 53 ≡ true → AllByRecursion IsFineInEvent (take lines more)) → IsPart (record { head = line; lines = take lines more })
+is_part line lines more opening enough short event = record {
+  marked = opening.marked;
+  flag = opening.flag;
+  count = subst (IsLineCount (columns_of line.text 33 35)) (sym (length-take-le lines more enough)) opening.count;
+  printable = opening.printable;
+  short = (opening.short, short);
+  event = event;
+}
+
+no_epoch : (b : Bool) → b ≡ true → b ≡ false → ⊥
+no_epoch b low high = absurd cc
+
+block_of : (wanted : Wanted) (count : ℕ) (line : TextLine) (head : Head) (number : ℕ) (more : List TextLine) → IsHeadOf line head
+    → Give (IsBlockOf wanted line more) (block_from wanted count head (record { number = number; lines = more }))
+block_of wanted count line (Epoch tag lines) number more is =
+    on_then (IsBlockOf wanted line more) (satellites_from wanted lines [] (record { number = number; lines = more })) _ (λ sats l.
+    let all = add_all wanted lines [] number more (Ok sats) l in
+    let epoch : Observed = record { index = count + 1; tag = tag; sats = sats } in
+    given (IsBlockOf wanted line more) (record { epochs = epoch ∷ []; lines = lines }) (record {
+      part = is_part line lines more is.0 all.enough all.short (λ high looked. absurd (no_epoch _ is.1 high));
+      epochs = kept (IsEpochOf wanted) _ (record { head = line; lines = take lines more }) epoch is.1
+          (record { tag = is.2; sats = subst (OneForOne (IsSeenOn wanted) (filter is_of_gps (take lines more))) (sym all.after_is) all.seen });
+    }))
+block_of wanted count line (Event labelled lines) number more is =
+    on_then (IsBlockOf wanted line more) (event_from labelled lines (record { number = number; lines = more })) _ (λ none l.
+    let all = passes_all labelled lines number more (Ok none) l in
+    given (IsBlockOf wanted line more) (record { epochs = []; lines = lines }) (record {
+      part = is_part line lines more is.0 all.enough all.short (λ high looked. all.fine (is.2 ∙ looked));
+      epochs = left_out (IsEpochOf wanted) _ (record { head = line; lines = take lines more }) is.1;
+    }))
+
+-- behind so many lines that were read, and epochs before
+record AreShared (wanted : Wanted) (skip : ℕ) (lines : List TextLine) (epochs after : List Observed) : Type 0 where
+  parts : List Part
+  spelled : drop skip lines ≡ lines_of_parts parts
+  are_parts : AllByRecursion IsPart parts
+  new : List Observed
+  after_is : after ≡ epochs ++ new
+  epochs_are : OneForOne (IsEpochOf wanted) (filter begins_epoch parts) new
+
+shared_first : (wanted : Wanted) (line : TextLine) (more : List TextLine) (block : Block) (epochs after : List Observed) → IsBlockOf wanted line more block
+    → AreShared wanted block.lines more (epochs ++ block.epochs) after → AreShared wanted zero (line ∷ more) epochs after
+shared_first wanted line more block epochs after b s =
+    let part : Part = record { head = line; lines = take block.lines more } in
+    record {
+      parts = part ∷ s.parts;
+      spelled = ap (λ (l : List TextLine). line ∷ l) (sym (take-append-drop block.lines more) ∙ ap (λ (l : List TextLine). take block.lines more ++ l) s.spelled);
+      are_parts = (b.part, s.are_parts);
+      new = block.epochs ++ s.new;
+      after_is = s.after_is ∙ append_assoc epochs block.epochs s.new;
+      epochs_are = one_first (IsEpochOf wanted) begins_epoch part s.parts block.epochs s.new b.epochs s.epochs_are;
+    }
+
+no_more : (wanted : Wanted) (epochs : List Observed) → AreShared wanted zero [] epochs epochs
+no_more wanted epochs = record { parts = []; spelled = refl; are_parts = tt; new = []; after_is = sym (append-nil epochs); epochs_are = tt }
+
+shared : (wanted : Wanted) (epochs : List Observed) (number skip : ℕ) (lines : List TextLine) → Give (AreShared wanted skip lines epochs) (epochs_from wanted epochs number skip lines)
+shared wanted epochs number zero [] = given (AreShared wanted zero [] epochs) epochs (no_more wanted epochs)
+shared wanted epochs number (suc skip) [] = given (AreShared wanted (suc skip) [] epochs) epochs (record { parts = []; spelled = refl; are_parts = tt; new = []; after_is = sym (append-nil epochs); epochs_are = tt })
+shared wanted epochs number (suc skip) (line ∷ more) =
+    on_more (AreShared wanted skip more epochs) (AreShared wanted (suc skip) (line ∷ more) epochs) _
+    (λ after s. record { parts = s.parts; spelled = s.spelled; are_parts = s.are_parts; new = s.new; after_is = s.after_is; epochs_are = s.epochs_are })
+    (shared wanted epochs (number + 1) skip more)
+shared wanted epochs number zero (line ∷ more) =
+    let Meets : List Observed → Type 0 = AreShared wanted zero (line ∷ more) epochs in
+    on_line Meets (head_line (length epochs) line) number _ (λ head is. on_then Meets (block_from wanted (length epochs) head (record { number = number + 1; lines = more })) _ (λ block l.
+    on_more (AreShared wanted block.lines more (epochs ++ block.epochs)) Meets _
+    (λ after s. shared_first wanted line more block epochs after (block_of wanted (length epochs) line head (number + 1) more (head_of (length epochs) line (Ok head) is) (Ok block) l) s)
+    (shared wanted (epochs ++ block.epochs) (number + 1) block.lines more)))
+
+-- ---- the position
+
+-- what is known behind some lines, from what was known before them: what the last of these lines says
+record IsLast (header : List TextLine) (after : Option Coordinates) : Type 0 where
+  before : List TextLine
+  line : TextLine
+  behind : List TextLine
+  spelled : header ≡ before ++ line ∷ behind
+  labelled : IsPositionLine line
+  last : AllByRecursion (λ next. IsPositionLine next → ⊥) behind
+  are : position_line line.text (Ok after)
+
+abbrev IsKnown : List TextLine → Option Coordinates → Option Coordinates → Type 0
+IsKnown header before after = (AllByRecursion (λ next. IsPositionLine next → ⊥) header × (after ≡ before)) ⊎ IsLast header after
+
+abbrev IsKnownBehind : TextLine → Option Coordinates → Option Coordinates → Type 0
+IsKnownBehind line before after = ((IsPositionLine line → ⊥) × (after ≡ before)) ⊎ (IsPositionLine line × position_line line.text (Ok after))
+
+known_first : (line : TextLine) (header : List TextLine) (before next after : Option Coordinates) → IsKnownBehind line before next → IsKnown header next after → IsKnown (line ∷ header) before after
+known_first line header before next after (inl (other, same)) (inl (none, e)) = inl ((other, none), e ∙ same)
+known_first line header before next after (inr (is, says)) (inl (none, e)) =
+    inr (record { before = []; line = line; behind = header; spelled = refl; labelled = is; last = none; are = subst (λ (c : Option Coordinates). position_line line.text (Ok c)) (sym e) says })
+known_first line header before next after b (inr k) =
+    inr (record { before = line ∷ k.before; line = k.line; behind = k.behind; spelled = ap (λ (l : List TextLine). line ∷ l) k.spelled; labelled = k.labelled; last = k.last; are = k.are })
+
+-- a label that begins with another letter
+other_label : (label some : List ℕ) → (get_or some 0 0 ≡ 65 → ⊥) → label ≡ some → label ≡ codes "APPROX POSITION XYZ" → ⊥
+other_label label some apart a b = apart (ap (λ (l : List ℕ). get_or l 0 0) (sym a ∙ b))
+
+known_behind : (header : Header) (line : TextLine) → Give (λ (next : Header). IsKnownBehind line header.position next.position) (header_line true header line)
+known_behind header line =
+    let Meets : Header → Type 0 = λ next. IsKnownBehind line header.position next.position in
+    on_where Meets _ _ _
+    (λ types. on_then Meets (types_line header.types line.text) _ (λ listed l. given Meets _ (inl (other_label _ (codes "SYS / # / OBS TYPES") (λ e. absurd (omega (arith, e))) types, refl))))
+    (on_where Meets _ _ _ (λ time. on_test Meets _ _ _ (λ system. given Meets header (inl (other_label _ (codes "TIME OF FIRST OBS") (λ e. absurd (omega (arith, e))) time, refl))))
+    (on_where Meets _ _ _ (λ scale. on_test Meets _ _ _ (λ free. given Meets header (inl (other_label _ (codes "SYS / SCALE FACTOR") (λ e. absurd (omega (arith, e))) scale, refl))))
+    (on_either Meets _ _ _
+    (λ is. on_then Meets (position_line line.text) _ (λ coordinates l. given Meets _ (inr (is.0, l))))
+    (λ other. given Meets header (inl (λ labelled. other (labelled, refl), refl))))))
+
+-- ---- the types
+
+types_label : (label : List ℕ) → label ≡ codes "SYS / # / OBS TYPES" → bytes_eq label (codes "SYS / # / OBS TYPES") ≡ true
+types_label label e = (bytes_eq-Decides label (codes "SYS / # / OBS TYPES")).1 e
+
+no_types_label : (label : List ℕ) → (label ≡ codes "SYS / # / OBS TYPES" → ⊥) → bytes_eq label (codes "SYS / # / OBS TYPES") ≡ false
+no_types_label label other = elim (bytes_eq label (codes "SYS / # / OBS TYPES")) as (λ b. (b ≡ true → label ≡ codes "SYS / # / OBS TYPES") → b ≡ false) [
+  | true ↦ λ is. absurd (other (is refl))
+  | false ↦ λ is. refl
+] ((bytes_eq-Decides label (codes "SYS / # / OBS TYPES")).0)
+
+types_behind : (position : Bool) (header : Header) (line : TextLine) → Give (λ (next : Header). AreTypesBehind line header.types next.types) (header_line position header line)
+types_behind position header line =
+    let Meets : Header → Type 0 = λ next. AreTypesBehind line header.types next.types in
+    on_either Meets _ _ _
+    (λ is. on_then Meets (types_line header.types line.text) _ (λ types l. given Meets _ (inl (types_label _ is, l))))
+    (λ other. let apart = no_types_label (label_of line.text) other in
+    on_where Meets _ _ _ (λ time. on_test Meets _ _ _ (λ system. given Meets header (inr (apart, refl))))
+    (on_where Meets _ _ _ (λ scale. on_test Meets _ _ _ (λ free. given Meets header (inr (apart, refl))))
+    (on_where Meets _ _ _ (λ at. on_then Meets (position_line line.text) _ (λ coordinates l. given Meets _ (inr (apart, refl))))
+    (given Meets header (inr (apart, refl))))))
+
+-- ---- the header
+
+labels_apart : (label a b : List ℕ) (k : ℕ) → (get_or a k 0 ≡ get_or b k 0 → ⊥) → label ≡ a → label ≡ b → ⊥
+labels_apart label a b k apart e f = apart (ap (λ (l : List ℕ). get_or l k 0) (sym e ∙ f))
+
+is_fine : (position : Bool) (header : Header) (line : TextLine) → Give (λ (next : Header). IsFineInHeader position line) (header_line position header line)
+is_fine position header line =
+    let Meets : Header → Type 0 = λ next. IsFineInHeader position line in
+    on_either Meets _ _ _
+    (λ is. on_then Meets (types_line header.types line.text) _ (λ types l. given Meets _ (record {
+      time = λ label. absurd (labels_apart _ (codes "SYS / # / OBS TYPES") (codes "TIME OF FIRST OBS") 0 (λ e. absurd (omega (arith, e))) is label);
+      scale = λ label. absurd (labels_apart _ (codes "SYS / # / OBS TYPES") (codes "SYS / SCALE FACTOR") 6 (λ e. absurd (omega (arith, e))) is label);
+      place = λ wanted label. absurd (labels_apart _ (codes "SYS / # / OBS TYPES") (codes "APPROX POSITION XYZ") 0 (λ e. absurd (omega (arith, e))) is label);
+    })))
+    (λ other. on_either Meets _ _ _
+    (λ is. on_test Meets _ _ _ (λ system. given Meets header (record {
+      time = λ label. system;
+      scale = λ label. absurd (labels_apart _ (codes "TIME OF FIRST OBS") (codes "SYS / SCALE FACTOR") 0 (λ e. absurd (omega (arith, e))) is label);
+      place = λ wanted label. absurd (labels_apart _ (codes "TIME OF FIRST OBS") (codes "APPROX POSITION XYZ") 0 (λ e. absurd (omega (arith, e))) is label);
+    })))
+    (λ no_time. on_either Meets _ _ _
+    (λ is. on_test Meets _ _ _ (λ free. given Meets header (record {
+      time = λ label. absurd (no_time label);
+      scale = λ label. free;
+      place = λ wanted label. absurd (labels_apart _ (codes "SYS / SCALE FACTOR") (codes "APPROX POSITION XYZ") 0 (λ e. absurd (omega (arith, e))) is label);
+    })))
+    (λ no_scale. on_either Meets _ _ _
+    (λ is. on_then Meets (position_line line.text) _ (λ coordinates l. given Meets _ (record { time = λ label. absurd (no_time label); scale = λ label. absurd (no_scale label); place = λ wanted label. (coordinates, l) })))
+    (λ none. given Meets header (record { time = λ label. absurd (no_time label); scale = λ label. absurd (no_scale label); place = λ wanted label. absurd (none (label, wanted)) })))))
+
+record IsStart (signal : Signal) (position : Bool) (known : Header) (lines : List TextLine) (start : Start) : Type 0 where
+  header : List TextLine
+  end : TextLine
+  spelled : lines ≡ header ++ end ∷ start.behind.lines
+  ends : IsHeaderEnd end
+  none_before : AllByRecursion (λ line. IsHeaderEnd line → ⊥) header
+  short : AllByRecursion IsShort (header ++ end ∷ [])
+  fine : AllByRecursion (IsFineInHeader position) header
+  after : Option Coordinates
+  known_is : position ≡ true → IsKnown header known.position after
+  position_is : IsPosition position after start.position
+  types : Option Types
+  types_are : Walks known.types (filter is_types_line header) types
+  complete : AreComplete types
+  wanted_is : AreWanted signal (codes_of types) start.wanted
+
+record IsEnd (signal : Signal) (position : Bool) (known : Header) (end : Wanted × Option Pos) : Type 0 where
+  complete : AreComplete known.types
+  wanted : AreWanted signal (codes_of known.types) end.0
+  position_is : IsPosition position known.position end.1
+
+end_gives : (signal : Signal) (position : Bool) (known : Header) → Give (IsEnd signal position known) (header_end signal position known)
+end_gives signal position known =
+    let Meets : Wanted × Option Pos → Type 0 = IsEnd signal position known in
+    on_test Meets _ _ _ (λ complete. on_read Meets _ _ _ (λ wanted (is : AreWanted signal (codes_of known.types) wanted). on_read Meets _ _ _ (λ point (at : IsPosition position known.position point).
+    given Meets (wanted, point) (record { complete = complete; wanted = is; position_is = at }))))
+
+start_first : (signal : Signal) (position : Bool) (known next : Header) (line : TextLine) (more : List TextLine) (start : Start) → IsShort line → (IsHeaderEnd line → ⊥)
+    → (position ≡ true → IsKnownBehind line known.position next.position) → AreTypesBehind line known.types next.types → IsFineInHeader position line
+    → IsStart signal position next more start → IsStart signal position known (line ∷ more) start
+start_first signal position known next line more start short other says lists fine s = record {
+  header = line ∷ s.header;
+  end = s.end;
+  spelled = ap (λ (l : List TextLine). line ∷ l) s.spelled;
+  ends = s.ends;
+  none_before = (other, s.none_before);
+  short = (short, s.short);
+  fine = (fine, s.fine);
+  after = s.after;
+  known_is = λ e. known_first line s.header known.position next.position s.after (says e) (s.known_is e);
+  position_is = s.position_is;
+  types = s.types;
+  types_are = walks_first line s.header known.types next.types s.types lists s.types_are;
+  complete = s.complete;
+  wanted_is = s.wanted_is;
+}
+
+starts : (signal : Signal) (position : Bool) (known : Header) (number : ℕ) (lines : List TextLine) → Give (IsStart signal position known lines) (header_lines signal position known number lines)
+starts signal position known number [] = λ r. λ e. rw e tt
+starts signal position known number (line ∷ more) =
+    let Meets : Start → Type 0 = IsStart signal position known (line ∷ more) in
+    on_test Meets _ _ _ (λ short. on_either Meets _ _ _
+    (λ is. on_line Meets (header_end signal position known) number _ (λ pair l.
+    let end = end_gives signal position known (Ok pair) l in
+    given Meets _ (record {
+      header = [];
+      end = line;
+      spelled = refl;
+      ends = is;
+      none_before = tt;
+      short = (short, tt);
+      fine = tt;
+      after = known.position;
+      known_is = λ e. inl (tt, refl);
+      position_is = end.position_is;
+      types = known.types;
+      types_are = refl;
+      complete = end.complete;
+      wanted_is = end.wanted;
+    })))
+    (λ other. on_line Meets (header_line position known line) number _ (λ next l. on_more (IsStart signal position next more) Meets _
+    (λ start s. start_first signal position known next line more start short other (λ e. known_behind known line (Ok next) (subst (λ (p : Bool). header_line p known line (Ok next)) e l)) (types_behind position known line (Ok next) l) (is_fine position known line (Ok next) l) s)
+    (starts signal position next (number + 1) more))))
+
+-- wanted codes are listed
+no_wanted : (signal : Signal) (wanted : Wanted) → AreWanted signal [] wanted → ⊥
+no_wanted (Single code) wanted is = absurd cc
+no_wanted (Dual first second) wanted is = absurd cc
+
+-- the types of the header
+record HasTypes (signal : Signal) (typed : List TextLine) (wanted : Wanted) : Type 0 where
+  types : List Code
+  types_are : AreJoined typed types
+  wanted_is : AreWanted signal types wanted
+
+has_types : (signal : Signal) (typed : List TextLine) (wanted : Wanted) (types : Option Types) → Walks None typed types → AreComplete types → AreWanted signal (codes_of types) wanted → HasTypes signal typed wanted
+has_types signal typed wanted None w complete is = absurd (no_wanted signal wanted is)
+has_types signal typed wanted (Some types) w complete is = record { types = types.codes; types_are = joined typed types complete w; wanted_is = is }
+
+-- ---- files
+
+point_of : (position : Bool) (header : List TextLine) (after : Option Coordinates) (point : Option Pos) → (position ≡ true → IsKnown header None after) → IsPosition position after point → IsPositionOf position header point
+point_of false header after None known is = refl
+point_of false header after (Some point) known is = absurd is
+point_of true header None point known is = absurd is
+point_of true header (Some coordinates) None known is = absurd is
+point_of true header (Some coordinates) (Some point) known is = elim (known refl) [
+  | inl (none, e) ↦ absurd cc
+  | inr k ↦ record { before = k.before; line = k.line; behind = k.behind; spelled = k.spelled; labelled = k.labelled; last = k.last; coordinates = coordinates; are = k.are; point_is = is }
+]
+
+version_short : (line : TextLine) → Give (λ (passed : Unit {0}). IsShort line) (version_line 79 line)
+version_short line =
+    let Meets : Unit {0} → Type 0 = λ passed. IsShort line in
+    on_test Meets _ _ _ (λ short. on_test Meets _ _ _ (λ label. on_test Meets _ _ _ (λ version. on_test Meets _ _ _ (λ kind. on_test Meets _ _ _ (λ system. given Meets tt short)))))
+
+-- the lines behind the version line
+behind_version : (lines : List TextLine) → Give (λ (version : Behind). (line : TextLine) × (lines ≡ line ∷ version.lines) × IsShort line) (version_of 79 lines)
+behind_version [] = λ r. λ e. rw e tt
+behind_version (line ∷ more) =
+    let Meets : Behind → Type 0 = λ version. (first : TextLine) × (line ∷ more ≡ first ∷ version.lines) × IsShort first in
+    on_line Meets (version_line 79 line) 1 _ (λ passed l. given Meets _ (line, refl, version_short line (Ok passed) l))
+
+whole : (signal : Signal) (position : Bool) (text : List ℕ) (observations : Observations) → IsObsFile signal position text observations → IsWhole signal position (lines_of text) observations
+whole signal position text observations file =
+    let Meets : Observations → Type 0 = IsWhole signal position (lines_of text) in
+    on_then Meets (version_of 79 (lines_of text)) _ (λ version v. on_then Meets (header_lines signal position unread version.number version.lines) _ (λ start s.
+    on_then Meets (epochs_from start.wanted [] start.behind.number 0 (counted start.behind.lines)) _ (λ epochs e.
+    let first = behind_version (lines_of text) (Ok version) v in
+    let top = starts signal position unread version.number version.lines (Ok start) s in
+    let typed = has_types signal (filter is_types_line top.header) start.wanted top.types top.types_are top.complete top.wanted_is in
+    let body = shared start.wanted [] start.behind.number 0 (counted start.behind.lines) (Ok epochs) e in
+    given Meets (record { position = start.position; epochs = epochs }) (record {
+      header = top.header;
+      behind = start.behind.lines;
+      parted = record { version = first.0; end = top.end; spelled = first.1 ∙ ap (λ (l : List TextLine). first.0 ∷ l) top.spelled; ends = top.ends; none_before = top.none_before; short = (first.2, top.short) };
+      fine = top.fine;
+      position_is = point_of position top.header top.after start.position top.known_is top.position_is;
+      types = typed.types;
+      types_are = typed.types_are;
+      wanted = start.wanted;
+      wanted_is = typed.wanted_is;
+      epochs_are = record { parts = body.parts; spelled = body.spelled; are_parts = body.are_parts; epochs_are = subst (OneForOne (IsEpochOf start.wanted) (filter begins_epoch body.parts)) (sym body.after_is) body.epochs_are };
+    })))) (Ok observations) file
+
+pub whole_read : (signal : Signal) (position : Bool) (text : List ℕ) (read : Result Obs ReadError) → IfOk read (λ obs. IsObsFile signal position text (observations_of obs))
+    → IfOk read (λ obs. IsWhole signal position (lines_of text) (observations_of obs))
+whole_read signal position text (Ok obs) file = whole signal position text (observations_of obs) file
+whole_read signal position text (Err e) file = tt

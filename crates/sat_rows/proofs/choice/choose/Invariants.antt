@@ -1,6 +1,0 @@
-use Rattle.std.proofs.Common.{drop}
-use Rattle.sat_rows.proofs.WalkLemmas.{IsWalked}
-use Rattle.sat_rows.proofs.choice.choose.Given as goal
-
-abbrev pub invariant-loop-place : goal.invariant-loop-place
-invariant-loop-place l = IsWalked l.nav l.settings l.epoch.tag l.seen (drop l.place-index l.place-items) l.choice

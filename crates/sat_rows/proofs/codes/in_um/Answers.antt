@@ -1,5 +1,0 @@
-use Rattle.sat_rows.proofs.CodeLemmas.{lies_between, not_none}
-use Rattle.sat_rows.proofs.codes.in_um.Goals as goal
-
-pub returns-clause-out : goal.returns-clause-out
-returns-clause-out c = λ none w rounded plausible. not_none c.to_unit_between.result none (c.to_unit_between.ensures.lies.1 (lies_between c.args.code w rounded plausible))

@@ -1,0 +1,6 @@
+pub mod ElementLemmas
+pub mod JudgementLemmas
+pub mod CodeLemmas
+pub mod RecordLemmas
+pub mod ChoiceLemmas
+pub mod WalkLemmas

@@ -1,0 +1,6 @@
+use Rattle.std.proofs.Common.{drop}
+use Rattle.usable_sats.proofs.WalkLemmas.{IsWalked}
+use Rattle.usable_sats.proofs.choice.choose.Given as goal
+
+abbrev pub invariant-loop-place : goal.invariant-loop-place
+invariant-loop-place l = IsWalked l.nav l.settings l.epoch.tag l.seen (drop l.place-index l.place-items) l.choice

@@ -1,0 +1,4 @@
+pub mod Usability
+pub mod Measured
+pub mod Judgements
+pub mod Answers

@@ -1,0 +1,182 @@
+-- Which satellites of an epoch are used, and by which record: six tests in their order. The choice
+-- is made from the whole list of records.
+use Rattle.std.specs.Prelude.{ℕ, ◌*◌, ◌^◌, ◌≤◌, ◌≡◌, ◌⊎◌, ℤ, pos, ◌-ℤ◌, ◌*ℤ◌, ◌≤ℤ◌, true, List, Option, None, Some, slice_get}
+use Rattle.error_bounds.specs.declared.settings.Settings.{Settings}
+use Rattle.exact_decimal.specs.declared.decimal.Decimal.{Decimal}
+use Rattle.exact_decimal.specs.declared.unit.Unit.TheVariants.{Length}
+use Rattle.rinex_nav.specs.ElementsOf.{IsRounded, AreElements}
+use Rattle.rinex_nav.specs.FieldBounds.{AreInside, IsFirstOutside}
+use Rattle.rinex_nav.specs.Weeks.{IsAge}
+use Rattle.rinex_nav.specs.declared.record.NavRecord.{NavRecord}
+use Rattle.rinex_obs.specs.declared.obs.SatObs.{SatObs}
+use Rattle.sat_model.specs.Pseudorange.{Codes}
+use Rattle.sat_model.specs.declared.elements.Elements.{Elements}
+use Rattle.sat_model.specs.declared.satellites.Signal.{Signal}
+use Rattle.sat_model.specs.declared.satellites.Signal.TheVariants.{Single, Dual}
+use Rattle.sat_model.specs.declared.satellites.Skip.{Skip}
+use Rattle.sat_model.specs.declared.spans.Wide.{Wide}
+
+-- what was observed of a satellite at a time, by the receiver's clock in ps, and what it is judged
+-- by: the records of a navigation file, the wanted codes, and how far in s an ephemeris time may be
+-- from that time
+pub record Sighting : Type 0 where
+  pub records : List NavRecord
+  pub signal : Signal
+  pub max_age : ℕ
+  pub tag : ℤ
+  pub seen : SatObs
+
+-- of a file's records, by its settings
+abbrev pub sighting : List NavRecord → Settings → ℤ → SatObs → Sighting
+sighting records settings tag seen = record {
+  records = records;
+  signal = settings.signal;
+  max_age = settings.max_age;
+  tag = tag;
+  seen = seen;
+}
+
+-- ---- the codes
+
+-- the wanted codes are there
+abbrev pub AreThere : Signal → SatObs → Type 0
+AreThere (Single code) seen = (d : Decimal) × (seen.first ≡ Some d)
+AreThere (Dual first second) seen =
+    ((d : Decimal) × (seen.first ≡ Some d)) × ((e : Decimal) × (seen.second ≡ Some e))
+
+-- their whole numbers of um
+abbrev pub HaveValue : Signal → SatObs → Codes → Type 0
+HaveValue (Single code) seen codes =
+    (d : Decimal) × (seen.first ≡ Some d) × IsRounded codes.first d Length × (codes.second ≡ None)
+HaveValue (Dual first second) seen codes =
+    ((d : Decimal) × (seen.first ≡ Some d) × IsRounded codes.first d Length)
+    × ((e : Decimal) × (w : Wide) × (seen.second ≡ Some e) × (codes.second ≡ Some w)
+    × IsRounded w e Length)
+
+-- a signal of a GPS satellite is under way for 15,000 to 40,000 km, in um
+abbrev pub least_range : ℕ
+least_range = 15 * 10 ^ 12
+
+abbrev pub greatest_range : ℕ
+greatest_range = 40 * 10 ^ 12
+
+pub record IsPlausible (lo hi : ℤ) (scale : ℕ) : Type 0 where
+  pub from : pos (scale * least_range) ≤ℤ lo
+  pub to : hi ≤ℤ pos (scale * greatest_range)
+
+-- the least and the greatest ionosphere-free combination of two codes (IS-GPS-200, 20.3.3.3.3.3),
+-- times 2329
+abbrev pub IsCombinationPlausible : Wide → Wide → Type 0
+IsCombinationPlausible first second =
+    IsPlausible ((pos 5929 *ℤ first.lo) -ℤ (pos 3600 *ℤ second.hi))
+    ((pos 5929 *ℤ first.hi) -ℤ (pos 3600 *ℤ second.lo)) 2329
+
+abbrev pub ArePlausibleWith : Wide → Option Wide → Type 0
+ArePlausibleWith first None = IsPlausible first.lo first.hi 1
+ArePlausibleWith first (Some second) =
+    IsPlausible first.lo first.hi 1 × IsPlausible second.lo second.hi 1
+    × IsCombinationPlausible first second
+
+abbrev pub ArePlausible : Codes → Type 0
+ArePlausible codes = ArePlausibleWith codes.first codes.second
+
+pub record IsMeasured (a : Sighting) : Type 0 where
+  pub codes : Codes
+  pub values : HaveValue a.signal a.seen codes
+  pub plausible : ArePlausible codes
+
+-- ---- the records
+
+-- r is the satellite's record at place i of the list
+pub record IsItsRecord (a : Sighting) (i : ℕ) (r : NavRecord) : Type 0 where
+  pub at : slice_get a.records i ≡ Some r
+  pub sat : r.sat ≡ a.seen.sat
+
+pub record IsHealthy (a : Sighting) (i : ℕ) (r : NavRecord) : Type 0 where
+  pub its : IsItsRecord a i r
+  pub healthy : r.healthy ≡ true
+
+-- a healthy record, whose ephemeris time is so many ps from the time of the epoch, and no more than
+-- allowed
+pub record IsFresh (a : Sighting) (i : ℕ) (r : NavRecord) (age : ℤ) : Type 0 where
+  pub healthy : IsHealthy a i r
+  pub age_is : IsAge r a.tag age
+  pub fresh : age ≤ℤ pos (a.max_age * 10 ^ 12)
+
+-- and each field is within its bounds
+pub record IsFit (a : Sighting) (i : ℕ) (r : NavRecord) (age : ℤ) : Type 0 where
+  pub fresh : IsFresh a i r age
+  pub inside : AreInside r.fields
+
+-- of the records that meet a fact this is the one of least age, the later in the file of two
+pub record IsNearest (Meets : ℕ → NavRecord → ℤ → Type 0) (i : ℕ) (r : NavRecord)
+    (age : ℤ) : Type 0 where
+  pub meets : Meets i r age
+  pub least : (j : ℕ) (s : NavRecord) (other : ℤ) → Meets j s other → age ≤ℤ other
+  pub last : (j : ℕ) (s : NavRecord) → Meets j s age → j ≤ i
+
+-- ---- usable satellites
+
+-- no test fails, and this is what the satellite is known by
+pub record IsUsable (a : Sighting) : Type 0 where
+  pub measured : IsMeasured a
+  pub i : ℕ
+  pub r : NavRecord
+  pub age : ℤ
+  pub used : IsNearest (IsFit a) i r age
+  pub el : Elements
+  pub elements : AreElements r el
+
+-- ---- and why one isn't used: each test behind those that pass
+
+-- 1: a wanted code is missing
+abbrev pub LacksCode : Sighting → Type 0
+LacksCode a = AreThere a.signal a.seen → ⊥
+
+-- 2: a code, or the combination of two, is out of range
+pub record IsOutOfRange (a : Sighting) : Type 0 where
+  pub there : AreThere a.signal a.seen
+  pub out : IsMeasured a → ⊥
+
+-- 3: there is no record of the satellite
+pub record LacksRecord (a : Sighting) : Type 0 where
+  pub measured : IsMeasured a
+  pub none : (i : ℕ) (r : NavRecord) → IsItsRecord a i r → ⊥
+
+-- 4: none of its records is healthy
+pub record LacksHealthy (a : Sighting) : Type 0 where
+  pub measured : IsMeasured a
+  pub some : (i : ℕ) × (r : NavRecord) × IsItsRecord a i r
+  pub none : (i : ℕ) (r : NavRecord) → IsHealthy a i r → ⊥
+
+-- 5: none of the healthy ones is fresh
+pub record LacksFresh (a : Sighting) : Type 0 where
+  pub measured : IsMeasured a
+  pub some : (i : ℕ) × (r : NavRecord) × IsHealthy a i r
+  pub none : (i : ℕ) (r : NavRecord) (age : ℤ) → IsFresh a i r age → ⊥
+
+-- 6: none of the fresh ones is within the bounds, and of the nearest this field is the first
+-- outside
+pub record LacksFit (a : Sighting) (field : ℕ) : Type 0 where
+  pub measured : IsMeasured a
+  pub none : (i : ℕ) (r : NavRecord) (age : ℤ) → IsFit a i r age → ⊥
+  pub i : ℕ
+  pub r : NavRecord
+  pub age : ℤ
+  pub nearest : IsNearest (IsFresh a) i r age
+  pub first : IsFirstOutside r.fields field
+
+-- the number of the test; no field is told but by the last
+abbrev pub IsSkip : Sighting → Skip → Type 0
+IsSkip a skip =
+    ((skip.number ≡ 1) × (skip.field ≡ 0) × LacksCode a)
+    ⊎ (((skip.number ≡ 2) × (skip.field ≡ 0) × IsOutOfRange a)
+    ⊎ (((skip.number ≡ 3) × (skip.field ≡ 0) × LacksRecord a)
+    ⊎ (((skip.number ≡ 4) × (skip.field ≡ 0) × LacksHealthy a)
+    ⊎ (((skip.number ≡ 5) × (skip.field ≡ 0) × LacksFresh a)
+    ⊎ ((skip.number ≡ 6) × LacksFit a skip.field)))))
+
+-- the satellite is usable, or this is why it isn't
+abbrev pub IsJudged : Sighting → Option Skip → Type 0
+IsJudged a None = IsUsable a
+IsJudged a (Some skip) = IsSkip a skip

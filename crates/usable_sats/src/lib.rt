@@ -1,0 +1,13 @@
+//! Which satellites of an epoch are usable, what such a satellite is known by, and by which record
+//! of the navigation file: six tests in their order, and the choice from the whole list of records.
+#![tactic(auto)]
+
+mod choice;
+mod codes;
+mod judging;
+
+pub use codes::Measured;
+pub use judging::{Judgement, judge_satellite};
+
+#[cfg(test)]
+mod tests;

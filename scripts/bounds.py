@@ -1,0 +1,175 @@
+#!/usr/bin/env python3
+"""Prints error bounds by elevation as the tables [bounds] and [satellite] of the settings.
+
+usage: bounds.py LOG X Y Z single|dual [options]
+
+LOG is what `gpscover solve` writes of the files with `bisections = 0`: its lines have the satellites' places. X Y Z is
+a rough place of the receiver in the earth-fixed frame in metres, good to some 10 km. Over all epochs of LOG each
+satellite gets the least and the greatest bound between the elevations at which it is seen. A satellite that LOG lacks
+gets those between --mask and the zenith, so that none is without a bound. One that is seen below --mask, where the
+mapping doesn't hold, is opened to 1 km, so that it limits nothing.
+
+A bound in metres at the elevation E is the sum of
+  troposphere  zenith delay times m(E) = 1.001 / sqrt(0.002001 + sin(E)^2), give or take a part of it for the mapping
+               (Black and Eisner, 1984; the mapping of RTCA DO-229 above 4 degrees)
+  ionosphere   single mode: zenith delay on L1 times the obliquity of a thin shell at 350 km, as in RTCA DO-229;
+               dual mode: what the combination leaves of it
+  receiver     noise and multipath of a code; in dual mode 4.09 times that, since P = 2.546 P1 - 1.546 P2;
+               it grows from the elevation --rise down to --horizon times as much at the horizon
+  orbit_clock  the error of the broadcast orbit and clock
+The parts that don't depend on the elevation are printed in [bounds], the rest in [satellite]. Each number is an
+option, and is the engineer's own declaration: the region holds the receiver only while they hold.
+
+Exit status: 0; 1 where LOG can't be read, isn't a whole log, or has no satellites; 2 for a wrong command line.
+"""
+import argparse
+import math
+
+from coverlog import UM_PER_M, LogError, epochs, run_tool
+from wgs84 import elevation
+
+EARTH_KM = 6371.0
+OPENED_M = (-1000.0, 1000.0)
+DUAL_FACTOR = (77**2 + 60**2) / (77**2 - 60**2)  # the sum of the amounts of the combination's two coefficients
+
+
+def troposphere_mapping(angle):
+    """How many times the zenith delay the troposphere delays a signal from an elevation in radians."""
+    return 1.001 / math.sqrt(0.002001 + math.sin(angle) ** 2)
+
+
+def ionosphere_mapping(angle, shell_km):
+    """The same of the ionosphere as a thin shell at a height in km."""
+    return 1 / math.sqrt(1 - (EARTH_KM * math.cos(angle) / (EARTH_KM + shell_km)) ** 2)
+
+
+def extra_noise(angle, args):
+    """How much the receiver's bound in metres grows at an elevation, beyond what it is high up."""
+    rise = math.radians(args.rise)
+    share = max(0.0, rise - angle) / rise if rise > 0 else 0.0
+    return (args.horizon - 1) * share * receiver_bound(args)
+
+
+def receiver_bound(args):
+    """The receiver's bound high up in metres, of the combination in dual mode."""
+    return args.receiver * (DUAL_FACTOR if args.mode == "dual" else 1.0)
+
+
+def varying(angle, args):
+    """The (low, high) in metres of what depends on the elevation."""
+    mapped = troposphere_mapping(angle)
+    low = args.troposphere[0] * mapped * (1 - args.mapping)
+    high = args.troposphere[1] * mapped * (1 + args.mapping)
+    if args.mode == "single":
+        oblique = ionosphere_mapping(angle, args.shell)
+        low, high = low + args.ionosphere[0] * oblique, high + args.ionosphere[1] * oblique
+    noise = extra_noise(angle, args)
+    return low - noise, high + noise
+
+
+def bound_between(lowest, highest, args):
+    """The least and the greatest bound in metres between two elevations in radians, taken at steps of 0.1 degrees."""
+    count = max(1, math.ceil((highest - lowest) / math.radians(0.1)))
+    angles = [lowest + (highest - lowest) * k / count for k in range(count + 1)]
+    lows, highs = zip(*(varying(angle, args) for angle in angles))
+    return min(lows), max(highs)
+
+
+def elevations(path, place):
+    """For each satellite of a log the least and the greatest elevation in radians at which it is seen."""
+    seen = {}
+    for epoch in epochs(path):
+        for row in epoch.rows:
+            middle = [(low + high) / 2 / UM_PER_M for low, high in row.place]
+            angle = elevation(place, middle)
+            low, high = seen.get(row.satellite, (angle, angle))
+            seen[row.satellite] = min(low, angle), max(high, angle)
+    if not seen:
+        raise LogError(f"{path} has no satellites: every epoch is few")
+    return seen
+
+
+def millimetres(bound):
+    """A bound in metres as `[low, high]` in mm, rounded outward."""
+    return f"[{math.floor(bound[0] * 1000)}, {math.ceil(bound[1] * 1000)}]"
+
+
+def common_lines(args):
+    """The table [bounds]: what is the same at every elevation."""
+    receiver, left = receiver_bound(args), (0.0, 0.0)
+    if args.mode == "dual":
+        left = (-args.left, args.left)
+    combined = f", {DUAL_FACTOR:.2f} times that in the combination" if args.mode == "dual" else ""
+    yield "[bounds]"
+    yield f"# Noise and multipath high up: {args.receiver:g} m on each code{combined}."
+    yield f"receiver = {millimetres((-receiver, receiver))}"
+    yield f"# The broadcast orbit and clock: {args.orbit:g} m."
+    yield f"orbit_clock = {millimetres((-args.orbit, args.orbit))}"
+    yield f"# {'What the combination leaves of the ionosphere.' if args.mode == 'dual' else 'By elevation below.'}"
+    yield f"ionosphere = {millimetres(left)}"
+    yield "# By elevation below."
+    yield "troposphere = [0, 0]"
+
+
+def reason_lines(args):
+    """What the bounds of the satellites are made of."""
+    low, high = args.troposphere
+    yield f"# Added to the bounds above: zenith troposphere {low:g} to {high:g} m, mapped, {args.mapping:.0%} for the mapping;"
+    if args.mode == "single":
+        low, high = args.ionosphere
+        yield f"# zenith ionosphere {low:g} to {high:g} m on L1, by a thin shell at {args.shell:g} km;"
+    yield f"# noise that grows below {args.rise:g} degrees, to {args.horizon:g} times as much at the horizon."
+
+
+def satellite_lines(seen, args):
+    """The table [satellite]: every GPS satellite, with the elevations that its bound holds for."""
+    yield "[satellite]"
+    yield from reason_lines(args)
+    anywhere = (math.radians(args.mask), math.pi / 2)
+    for number in range(1, 33):
+        name = f"G{number:02}"
+        low, high = seen.get(name, anywhere)
+        where = f"{math.degrees(low):.1f} to {math.degrees(high):.1f} degrees"
+        if name not in seen:
+            where += ", not in the log"
+        bound = bound_between(low, high, args) if low >= anywhere[0] else OPENED_M
+        if low < anywhere[0]:
+            where += ", below the mask: opened"
+        yield f"{name} = {millimetres(bound)}  # {where}"
+
+
+def arguments():
+    """The words of the command line."""
+    parser = argparse.ArgumentParser(description="Error bounds by elevation, as tables of the settings.")
+    parser.add_argument("log", metavar="LOG", help="a log that was solved with bisections = 0")
+    for axis in "XYZ":
+        parser.add_argument(axis.lower(), metavar=axis, type=float, help="a rough place, m")
+    parser.add_argument("mode", choices=("single", "dual"))
+    pair = {"nargs": 2, "type": float, "metavar": ("LOW", "HIGH")}
+    parser.add_argument("--troposphere", default=(1.95, 2.65), help="zenith delay, m (1.95 2.65: 0 to 1,000 m above sea)", **pair)
+    parser.add_argument("--ionosphere", default=(0.0, 6.0), help="zenith delay on L1, m (0 6)", **pair)
+    for name, default, meaning in (
+        ("mapping", 0.02, "part of the mapped troposphere added at both ends"),
+        ("shell", 350.0, "height of the ionosphere's shell, km"),
+        ("left", 0.3, "what the dual combination leaves of the ionosphere, m"),
+        ("receiver", 3.0, "noise and multipath of each code high up, m"),
+        ("rise", 30.0, "elevation below which the noise grows, degrees"),
+        ("horizon", 2.0, "how many times as much it is at the horizon"),
+        ("orbit", 3.0, "error of the broadcast orbit and clock, m"),
+        ("mask", 4.0, "the least elevation at which the delays are mapped, degrees"),
+    ):
+        parser.add_argument(f"--{name}", type=float, default=default, help=f"{meaning} ({default:g})", metavar="N")
+    return parser.parse_args()
+
+
+def main():
+    args = arguments()
+    seen = elevations(args.log, (args.x, args.y, args.z))
+    print(*common_lines(args), sep="\n")
+    print()
+    print(*satellite_lines(seen, args), sep="\n")
+    return 0
+
+
+if __name__ == "__main__":
+    run_tool(main)

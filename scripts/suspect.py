@@ -1,0 +1,168 @@
+#!/usr/bin/env python3
+"""Tells which satellites surely broke their declared bounds.
+
+usage: suspect.py log LOG
+       suspect.py open OBS NAV SETTINGS [--program GPSCOVER] [--folder FOLDER]
+
+`log` reads a log that was solved with outliers = 1 or more. At each point and clock offset that fits, all but at most
+q satellites keep their bounds. A satellite is named where in no kept box there is a clock offset at which it can be one
+of them, so that it broke its bounds wherever in the search box the receiver was. The spans are those of the log's
+rows and boxes, in whole numbers; a finer paving can name a satellite that a coarse one doesn't.
+
+`open` runs GPSCOVER (./gpscover) on the files with outliers = 0: with the bounds as they are, and with those of each
+satellite in turn opened to 1 km. Where no position fits as they are, the faulty satellite is among those whose opening
+leaves a region, if one alone is faulty. Only epochs that are empty with the bounds as they are get a line. The files of
+these runs stand in FOLDER, or in a folder that is removed at the end.
+
+A satellite that isn't named can be faulty too: that an epoch isn't empty says nothing of its bounds.
+
+Exit status: 0; 1 where a file can't be read or written, or a run of GPSCOVER fails; 2 for a wrong command line.
+"""
+import argparse
+import math
+import re
+import subprocess
+import tempfile
+from pathlib import Path
+
+from coverlog import LogError, calendar, epochs, run_tool, run_way
+
+OPENED_MM = 1_000_000
+
+
+def clock_span(row, box):
+    """The clock offsets in um that a row allows somewhere in a box: least and greatest."""
+    near = far = 0
+    for (low, high), box_low, box_high in zip(row.place, box[:3], box[3:]):
+        near += max(0, low - box_high, box_low - high) ** 2
+        far += max(high - box_low, box_high - low) ** 2
+    return (
+        row.range[0] - math.isqrt(far) - row.error[1],
+        row.range[1] - math.isqrt(near) - row.error[0],
+    )
+
+
+def possible_in(rows, box, outliers):
+    """The positions of the rows that can be kept at some clock offset in a box where all but `outliers` are kept.
+
+    It is enough to try the spans' low ends: where some spans share an offset, they share the greatest of their low ends.
+    """
+    spans = [clock_span(row, box) for row in rows]
+    possible = set()
+    for clock, _ in spans:
+        holding = {k for k, (low, high) in enumerate(spans) if low <= clock <= high}
+        if len(holding) >= len(rows) - outliers:
+            possible |= holding
+    return possible
+
+
+def surely_broken(epoch):
+    """The satellites that no kept box can count among those that keep their bounds."""
+    left = set(range(len(epoch.rows)))
+    for kept in epoch.kept:
+        left -= possible_in(epoch.rows, kept.box, epoch.outliers)
+        if not left:
+            break
+    return [epoch.rows[k].satellite for k in sorted(left)]
+
+
+def log_line(epoch):
+    """What a log says of an epoch's satellites."""
+    head = f"epoch {epoch.index} {calendar(epoch.time)}"
+    if epoch.few:
+        return f"{head} few"
+    if not epoch.kept:
+        return f"{head} empty: more than {epoch.outliers} satellites broke their bounds, or the receiver was outside"
+    broken = surely_broken(epoch)
+    return f"{head} broke their bounds: {' '.join(broken)}" if broken else f"{head} none is shown to have"
+
+
+def with_no_outliers(settings):
+    """The settings with outliers = 0."""
+    text, count = re.subn(r"(?m)^(\s*outliers\s*=).*$", r"\1 0", settings)
+    if count != 1:
+        raise LogError("the settings don't have the key `outliers` on a line of its own")
+    return text
+
+
+def with_opened(settings, satellite):
+    """The settings with the bounds of a satellite opened to 1 km."""
+    line = f"{satellite} = [-{OPENED_MM}, {OPENED_MM}]\n"
+    without = re.sub(rf"(?m)^\s*{satellite}\s*=.*\n?", "", settings)
+    text, count = re.subn(r"(?m)^\s*\[satellite\].*\n?", lambda found: found[0].rstrip("\n") + "\n" + line, without)
+    return text if count else f"{without.rstrip()}\n\n[satellite]\n{line}"
+
+
+class Runs:
+    """Runs the program on the same files with other settings."""
+
+    def __init__(self, program, obs, nav, folder):
+        self.program, self.obs, self.nav, self.folder = program, obs, nav, Path(folder)
+
+    def solve(self, name, settings):
+        """The epochs that the program finds with these settings."""
+        toml, log = self.folder / f"{name}.toml", self.folder / f"{name}.log"
+        toml.write_text(settings, encoding="utf-8")
+        words = [self.program, "solve", self.obs, self.nav, str(toml), str(log)]
+        ran = subprocess.run(words, stdout=subprocess.DEVNULL, stderr=subprocess.PIPE, text=True)
+        if ran.returncode:
+            raise LogError(f"{' '.join(words)} ended with {ran.returncode}: {ran.stderr.strip()}")
+        return list(epochs(log))
+
+
+def opened_lines(runs, settings):
+    """What comes of opening each satellite in turn, for each epoch that is empty with the bounds as they are."""
+    closed = with_no_outliers(settings)
+    given = runs.solve("given", closed)
+    empty = {epoch.index: epoch for epoch in given if not epoch.few and not epoch.kept}
+    satellites = sorted({row.satellite for epoch in empty.values() for row in epoch.rows})
+    helps = {index: [] for index in empty}
+    for satellite in satellites:
+        for epoch in runs.solve(satellite, with_opened(closed, satellite)):
+            if epoch.index in helps and epoch.kept:
+                helps[epoch.index].append(satellite)
+    for index, epoch in empty.items():
+        names = " ".join(helps[index]) or "none: more than one satellite broke its bounds, or the receiver was outside"
+        yield f"epoch {index} {calendar(epoch.time)} empty; a region is left when opening {names}"
+    yield f"epochs {len(given)}, of which {len(empty)} are empty at outliers = 0"
+
+
+def run_open(args):
+    """Opens each satellite in turn."""
+    settings = Path(args.settings).read_text(encoding="utf-8")
+    with tempfile.TemporaryDirectory() as room:
+        runs = Runs(args.program, args.obs, args.nav, args.folder or room)
+        for line in opened_lines(runs, settings):
+            print(line)
+
+
+def run_log(args):
+    """Goes through a log."""
+    for epoch in epochs(args.log):
+        if epoch.outliers == 0:
+            raise LogError(f"{args.log} was solved with outliers = 0, where no satellite may break its bounds")
+        print(log_line(epoch))
+
+
+def arguments():
+    """The words of the command line."""
+    parser = argparse.ArgumentParser(description="Which satellites surely broke their declared bounds.")
+    ways = parser.add_subparsers(required=True)
+    log = ways.add_parser("log", help="from a log that was solved with outliers = 1 or more")
+    log.add_argument("log", metavar="LOG")
+    log.set_defaults(work=run_log)
+    opened = ways.add_parser("open", help="by opening each satellite in turn at outliers = 0")
+    for name in ("obs", "nav", "settings"):
+        opened.add_argument(name, metavar=name.upper())
+    opened.add_argument("--program", default="./gpscover", help="the program (./gpscover)")
+    opened.add_argument("--folder", help="where the runs' files are kept")
+    opened.set_defaults(work=run_open)
+    return parser.parse_args()
+
+
+def main():
+    return run_way(arguments())
+
+
+if __name__ == "__main__":
+    run_tool(main)

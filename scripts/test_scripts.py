@@ -1,0 +1,483 @@
+#!/usr/bin/env python3
+"""Tests of the scripts: python3 scripts/test_scripts.py. The last line is `scripts: N passed, M failed`, and how many
+were left out since matplotlib isn't there. Exit status: 0, or 1 where one failed.
+
+The recorded logs of `recorded/` are those of four receivers, and the places beside them the solutions of another
+program (recorded/README.md). GPSCOVER_RECORDED names a folder with further pairs NAME.log and NAME.places.
+"""
+import contextlib
+import io
+import math
+import os
+import sys
+import tempfile
+import unittest
+from pathlib import Path
+from unittest import mock
+
+import bounds
+import coverlog
+import headline
+import outline
+import picture
+import region
+import summary
+import suspect
+import wgs84
+
+HERE = Path(__file__).resolve().parent
+RECORDED = HERE / "recorded"
+HEAD = "gpscover 1\nrules 1 10 1000\n"
+# A box of 200 m at the equator, at longitude 0: east is y, north is z, up is x.
+ROOT = "root 6378037000000 -100000000 -100000000 6378237000000 100000000 100000000\n"
+STEPS = (
+    "split 0 0\n"  # 1: the lower half, 2: x from 6378137.000001 m on
+    "out 1\n"
+    "split 2 1\n"  # 3: y up to 0, 4: y from 1 um on
+    "edge 3 -5000000 7000000\n"
+    "cut 4 5 50000000\n"  # z up to 50 m
+    "cut 4 2 20000000\n"  # y from 20 m on
+    "in 4 1000000 -9000000 2000000\n"
+    "done 2\n"
+)
+PAVED = "epoch 1 895816769999000000000 5\n" + ROOT + STEPS
+
+
+def epoch_of(text):
+    """The one epoch of a log with these lines behind its head."""
+    (epoch,) = epochs_of(text)
+    return epoch
+
+
+def epochs_of(text):
+    """The epochs of a log with these lines behind its head."""
+    with tempfile.TemporaryDirectory() as room:
+        path = os.path.join(room, "made.log")
+        Path(path).write_text(HEAD + text, newline="\n")
+        return list(coverlog.epochs(path))
+
+
+def box_at(point, sides, rest="edge 0 0 0\ndone 0\n"):
+    """An epoch whose one box has these sides in m round a point in m."""
+    ends = [round((p + sign * s / 2) * 1e6) for sign in (-1, 1) for p, s in zip(point, sides)]
+    return f"epoch 1 0 5\nroot {' '.join(map(str, ends))}\n{rest}"
+
+
+def totals_of(text):
+    """What the summary says of all epochs of a log."""
+    with tempfile.TemporaryDirectory() as room:
+        path = os.path.join(room, "made.log")
+        Path(path).write_text(HEAD + text, newline="\n")
+        lines = []
+        totals = summary.summarize(path, lambda epoch, found, mark: lines.append(mark))
+        return lines, list(totals.lines())
+
+
+class Logs(unittest.TestCase):
+    def test_the_steps_give_the_boxes_counted_by_hand(self):
+        epoch = epoch_of(PAVED)
+        boxes = [(kept.box, kept.inner, kept.clock) for kept in epoch.kept]
+        third = (6378137000001, -100000000, -100000000, 6378237000000, 0, 100000000)
+        fourth = (6378137000001, 20000000, -100000000, 6378237000000, 100000000, 50000000)
+        self.assertEqual(boxes, [(third, False, (-5000000, 7000000)), (fourth, True, (-9000000, 2000000))])
+        self.assertEqual((epoch.outs, epoch.splits, epoch.outliers), (1, 2, 1))
+
+    def test_each_face_is_cut_at_its_own_end(self):
+        ends = [(0, 11), (1, 89), (2, 12), (3, 88), (4, 13), (5, 87)]
+        cuts = "".join(f"cut 0 {face} {end}\n" for face, end in ends)
+        epoch = epoch_of(f"epoch 1 0 5\nroot 10 10 10 90 90 90\n{cuts}edge 0 0 0\ndone 0\n")
+        self.assertEqual(epoch.kept[0].box, (11, 12, 13, 89, 88, 87))
+
+    def test_halves_of_negative_ends_are_floored(self):
+        epoch = epoch_of("epoch 1 0 5\nroot -5 0 0 2 1 1\nsplit 0 0\nedge 1 0 0\nedge 2 0 0\ndone 1\n")
+        self.assertEqual([kept.box[::3] for kept in epoch.kept], [(-5, -2), (-1, 2)])
+
+    def test_the_time_is_a_date(self):
+        self.assertEqual(coverlog.calendar(1388102400 * 10**12), "2024-01-01 00:00:00.000")
+        self.assertEqual(coverlog.calendar(895816769999000000000), "2008-05-26 05:59:29.999")
+
+    def test_a_log_that_was_cut_is_refused(self):
+        whole = HEAD + PAVED
+        for cut in (whole[: whole.index("done")], whole[:-1], whole[: whole.index("root")], whole[:-30]):
+            with self.assertRaisesRegex(coverlog.LogError, "ends within an epoch"):
+                epochs_of(cut[len(HEAD) :])
+
+    def test_what_is_no_log_is_refused_at_its_line(self):
+        wrong = {
+            "epoch 1 0 5\nroot 0 0 0 1 1 1\nedge 7 0 0\ndone 0\n": 5,
+            "epoch 1 0 5\nroot 0 0 0 1 1 1\nedge 0 0 x\ndone 0\n": 5,
+            "epoch 1 0 5\nroot 0 0 0 1 1 1\npaint 0\ndone 0\n": 5,
+            "epoch 1 0 5\nsat G01 0 0 0\nroot 0 0 0 1 1 1\nedge 0 0 0\ndone 0\n": 4,
+            "edge 0 0 0\n": 3,
+        }
+        for text, line in wrong.items():
+            with self.assertRaisesRegex(coverlog.LogError, f"line {line}: this isn't a log"):
+                epochs_of(text)
+
+    def test_another_file_is_refused(self):
+        with self.assertRaisesRegex(coverlog.LogError, "line 1: this isn't a log"):
+            list(coverlog.epochs(__file__))
+
+
+class Extents(unittest.TestCase):
+    def assert_widths(self, text, east, north, up):
+        for found, wanted in zip(region.region_of(epoch_of(text)).widths(), (east, north, up)):
+            self.assertAlmostEqual(found, wanted, places=4)
+
+    def test_at_the_equator_they_are_the_sides(self):
+        self.assert_widths(PAVED, 200.0, 200.0, 100.0)
+        found = region.region_of(epoch_of(PAVED))
+        self.assertAlmostEqual(found.volume, 100 * 100 * 200 + 100 * 80 * 150, delta=1.0)
+        self.assertEqual(found.clock, (-9.0, 7.0))
+        self.assertEqual(found.faces, ["-y", "-z", "+x", "+y", "+z"])
+
+    def test_a_box_that_lies_askew(self):
+        half = math.sqrt(0.5)
+        # longitude 45 degrees: east is (y - x) and up is (x + y), each by the root of 2
+        self.assert_widths(box_at((6378137 * half, 6378137 * half, 0), (100, 100, 60)), 200 * half, 60, 200 * half)
+        # latitude 45 degrees: north is (z - x) and up is (x + z), each by the root of 2
+        place = wgs84.earth_fixed(math.pi / 4, 0, 0)
+        self.assert_widths(box_at(place, (100, 30, 60)), 30, 160 * half, 160 * half)
+
+    def test_they_are_not_those_of_the_hull(self):
+        # two boxes of 10 m, 100 m apart along east at longitude 45 degrees: up is 10 * sqrt(2), not that of the hull
+        half = math.sqrt(0.5)
+        a, shift = 6378137 * half, 100 * half
+        ends = [round(v * 1e6) for v in (a - shift - 5, a - 5, -5, a + 5, a + shift + 5, 5)]
+        x, y = ends[0], ends[1]
+        steps = (
+            "split 0 0\nsplit 1 1\nsplit 2 1\nout 3\nout 6\n"
+            f"cut 4 1 {x + 10**7}\ncut 4 2 {ends[4] - 10**7}\nedge 4 0 0\n"
+            f"cut 5 0 {ends[3] - 10**7}\ncut 5 3 {y + 10**7}\nedge 5 0 0\ndone 3\n"
+        )
+        epoch = epoch_of(f"epoch 1 0 5\nroot {' '.join(map(str, ends))}\n{steps}")
+        east, north, up = region.region_of(epoch).widths()
+        self.assertAlmostEqual(up, 20 * half, delta=0.01)
+        self.assertAlmostEqual(east, 100 + 20 * half, delta=0.01)
+        self.assertAlmostEqual(north, 10, delta=0.01)
+
+    def test_the_ellipsoid(self):
+        for degrees in ((0, 0, 0), (35.87, 138.39, 980), (-89.9, -179, 20), (45, 90, 8000)):
+            latitude, longitude = map(math.radians, degrees[:2])
+            found = wgs84.geodetic(wgs84.earth_fixed(latitude, longitude, degrees[2]))
+            self.assertAlmostEqual(math.degrees(found[0]), degrees[0], places=9)
+            self.assertAlmostEqual(math.degrees(found[1]), degrees[1], places=9)
+            self.assertAlmostEqual(found[2], degrees[2], places=5)
+        # the pole is the semi-minor axis, 6356752.3142 m, away
+        self.assertAlmostEqual(wgs84.earth_fixed(math.pi / 2, 0, 0)[2], 6356752.3142, places=4)
+
+    def test_the_outline_of_a_cube_askew_is_a_square(self):
+        half = math.sqrt(0.5)
+        box = (-500000, -500000, -500000, 500000, 500000, 500000)
+        ring = outline.outline([box], (0, 0, 0), (-half, half, 0), (0, 0, 1))
+        self.assertEqual(len(ring), 4)
+        self.assertAlmostEqual(max(x for x, _ in ring), half)
+
+
+class Marks(unittest.TestCase):
+    def test_few(self):
+        marks, lines = totals_of("few 1 0 3\nskip G01 3\nskip G02 3\nskip G03 1\nfew 2 1 4\n")
+        self.assertEqual(marks, ["few", "few"])
+        self.assertIn("2 few, 0 empty", lines[0])
+        self.assertIn("every epoch has too few usable satellites; 2 times", lines[1])
+        self.assertIn("is the navigation file of another day?", lines[1])
+
+    def test_empty(self):
+        marks, lines = totals_of("epoch 1 0 5\n" + ROOT + "out 0\ndone 0\n")
+        self.assertEqual(marks, ["empty"])
+        self.assertIn("every paved epoch is empty; the bounds are too narrow", lines[1])
+
+    def test_empty_round_the_earth_s_centre(self):
+        _, lines = totals_of("epoch 1 0 5\nroot -100 -100 -100 100 100 100\nout 0\ndone 0\n")
+        self.assertIn("0 km from the earth's centre: is the position in the header zero?", lines[1])
+
+    def test_reaches(self):
+        marks, lines = totals_of(PAVED)
+        self.assertEqual(marks, ["reaches"])
+        self.assertIn("its half side is 100 m: it is too small, or there are too few splits", lines[1])
+
+    def test_reaches_a_box_in_wrong_units(self):
+        _, lines = totals_of(box_at((6378137, 0, 0), (0.4, 0.4, 0.4)))
+        self.assertIn("its half side is 0.2 m: is search.half in metres", lines[1])
+
+    def test_none(self):
+        inner = "split 0 0\nout 1\nsplit 2 0\nout 4\n" + "".join(
+            f"cut 3 {face} {end}\n" for face, end in ((2, -9), (3, 9), (4, -9), (5, 9))
+        )
+        marks, lines = totals_of(f"epoch 1 0 5\n{ROOT}{inner}edge 3 0 0\ndone 2\n")
+        self.assertEqual((marks, len(lines)), ([""], 1))
+
+    def test_one_epoch_among_others_has_no_warning(self):
+        _, lines = totals_of("few 1 0 3\n" + PAVED.replace("epoch 1", "epoch 2") + f"epoch 3 9 5\n{ROOT}out 0\ndone 0\n")
+        self.assertEqual(lines[0], "epochs 3: 1 with a region, of which 1 reach the search box; 1 few, 1 empty")
+
+    def test_the_box_round_all_kept_boxes(self):
+        totals = summary.Totals()
+        for text in (PAVED, box_at((6378000, 1, 2), (0.002, 0.002, 0.0025))):
+            totals.add(epoch_of(text), "")
+        # x from 6377999.999 to 6378237, y from -100 to 100, z from -100 to 100, in mm
+        self.assertEqual(list(totals.box_lines()), ["centre = [6378118499, 0, 0]", "half = [118501, 100000, 100000]"])
+
+    def test_no_epochs(self):
+        self.assertIn("no epochs", totals_of("")[1][1])
+
+    def test_the_line_and_the_values(self):
+        epoch = epoch_of(PAVED)
+        found = region.region_of(epoch)
+        line = summary.text_line(epoch, found, "reaches")
+        self.assertRegex(line, r"^ +1  2008-05-26 05:59:29\.999 +5 +1 +1 +200\.0 +200\.0 +100\.0 +16\.0 +3200000 ")
+        values = dict(zip(summary.COLUMNS, summary.csv_line(epoch, found, "reaches")))
+        self.assertEqual((values["clock_low_m"], values["clock_high_m"]), ("-9.000", "7.000"))
+        self.assertEqual((values["x_m"], values["faces"]), ("6378187.000", "-y -z +x +y +z"))
+
+    def test_an_outline_for_a_map(self):
+        mark = summary.placemark(epoch_of(PAVED), region.region_of(epoch_of(PAVED)))
+        corners = [tuple(map(float, pair.split(","))) for pair in mark.split("coordinates>")[1][:-2].split()]
+        # 100 m east and north at the equator are 1 / 6378137 and 1 / 6335439 rad a metre
+        self.assertAlmostEqual(max(lon for lon, _ in corners), math.degrees(100 / 6378137), places=7)
+        self.assertAlmostEqual(max(lat for _, lat in corners), math.degrees(100 / 6335439), places=7)
+
+
+class Bounds(unittest.TestCase):
+    def table(self, *words):
+        with mock.patch("sys.argv", ["bounds.py", "LOG", "0", "0", "0", *words]):
+            return bounds.arguments()
+
+    def test_overhead_and_at_30_degrees(self):
+        args = self.table("single")
+        # overhead every factor is 1: 0.98 * 1.95, and 1.02 * 2.65 + 6
+        self.assertEqual(bounds.millimetres(bounds.bound_between(math.pi / 2, math.pi / 2, args)), "[1911, 8703]")
+        # 1.001 / sqrt(0.252001) = 1.99404 and 1 / sqrt(1 - (6371 * 0.866025 / 6721)^2) = 1.75121
+        low, high = bounds.bound_between(math.pi / 6, math.pi / 6, args)
+        self.assertAlmostEqual(low, 1.911 * 1.99404, places=3)
+        self.assertAlmostEqual(high, 2.703 * 1.99404 + 6 * 1.75121, places=3)
+
+    def test_the_noise_grows_to_the_horizon(self):
+        args = self.table("single", "--horizon", "3")
+        self.assertAlmostEqual(bounds.extra_noise(math.radians(15), args), 3.0)
+        self.assertEqual(bounds.extra_noise(math.radians(31), args), 0.0)
+
+    def test_two_frequencies_multiply_the_noise_by_4_09(self):
+        args = self.table("dual", "--receiver", "1")
+        self.assertAlmostEqual(bounds.receiver_bound(args), 9529 / 2329)
+        self.assertIn("receiver = [-4092, 4092]", list(bounds.common_lines(args)))
+        self.assertEqual(bounds.millimetres(bounds.bound_between(math.pi / 2, math.pi / 2, args)), "[1911, 2703]")
+
+    def test_an_unseen_satellite_gets_the_widest_bound(self):
+        args = self.table("single")
+        lines = list(bounds.satellite_lines({"G05": (1.0, 1.1)}, args))
+        self.assertEqual(sum(line.startswith("G") for line in lines), 32)
+        unseen = next(line for line in lines if line.startswith("G06"))
+        self.assertIn("[1911, ", unseen)
+        self.assertIn("4.0 to 90.0 degrees, not in the log", unseen)
+
+    def test_a_satellite_below_the_mask_limits_nothing(self):
+        lines = list(bounds.satellite_lines({"G05": (0.03, 0.2)}, self.table("single")))
+        line = next(line for line in lines if line.startswith("G05"))
+        self.assertEqual(line, "G05 = [-1000000, 1000000]  # 1.7 to 11.5 degrees, below the mask: opened")
+
+    def test_the_elevation_of_a_satellite(self):
+        place = wgs84.earth_fixed(0.6, 2.4, 100.0)
+        east, north, up = wgs84.local_axes(0.6, 2.4)
+        target = [p + 2e7 * (0.5 * u + math.sqrt(0.75) * n) for p, u, n in zip(place, up, north)]
+        self.assertAlmostEqual(math.degrees(wgs84.elevation(place, target)), 30.0, places=6)
+
+
+FIVE = "".join(
+    f"sat {name} {x} {x} {y} {y} {z} {z} {distance} {distance} -500000 500000\n"
+    for name, x, y, z, distance in (
+        ("G01", 2 * 10**13, 0, 0, 2 * 10**13),
+        ("G02", 0, 2 * 10**13, 0, 2 * 10**13),
+        ("G03", 0, 0, 2 * 10**13, 2 * 10**13),
+        ("G04", 12 * 10**12, 16 * 10**12, 0, 2 * 10**13),
+        ("G05", 0, 0, -2 * 10**13, 2 * 10**13 + 10**9),  # a pseudorange that is 1 km too long
+    )
+)
+FAULTY = f"epoch 1 0 5\n{FIVE}root -1000000 -1000000 -1000000 1000000 1000000 1000000\n"
+
+STUB = """#!/usr/bin/env python3
+import sys
+opened = "G03 = [-1000000, 1000000]" in open(sys.argv[4]).read()
+assert "outliers = 0" in open(sys.argv[4]).read()
+sats = "".join(f"sat G0{k} 0 0 0 0 0 0 0 0 0 0\\n" for k in (3, 4))
+for index in (1, 2):
+    kept = "edge 0 0 0" if opened or index == 2 else "out 0"
+    block = f"epoch {index} {index} 2\\n{sats}root 0 0 0 1 1 1\\n{kept}\\ndone 0\\n"
+    open(sys.argv[5], "a").write(("gpscover 1\\nrules 0 0 1000\\n" if index == 1 else "") + block)
+"""
+
+
+class Suspects(unittest.TestCase):
+    def test_a_pseudorange_that_is_too_long_is_named(self):
+        self.assertEqual(suspect.surely_broken(epoch_of(FAULTY + "edge 0 -1500000 1500000\ndone 0\n")), ["G05"])
+
+    def test_none_is_named_where_all_can_fit(self):
+        right = FAULTY.replace(str(2 * 10**13 + 10**9), str(2 * 10**13))
+        self.assertEqual(suspect.surely_broken(epoch_of(right + "edge 0 -1500000 1500000\ndone 0\n")), [])
+
+    def test_the_clock_spans_of_a_worked_box(self):
+        row = epoch_of(FAULTY + "edge 0 0 0\ndone 0\n").rows[0]
+        # G01 at 20,000 km along x, a box from -1 m to 1 m in x and 0.9 m around in y and z
+        box = (-1000000, -900000, -900000, 1000000, 900000, 900000)
+        self.assertEqual(suspect.clock_span(row, box), (-1500000, 1500000))
+
+    def test_an_empty_epoch_says_so(self):
+        self.assertIn("empty: more than 1 satellites", suspect.log_line(epoch_of(FAULTY + "out 0\ndone 0\n")))
+
+    def test_opening_changes_one_satellite(self):
+        settings = "[search]\noutliers = 1\n[satellite]\nG03 = [0, 5]\nG04 = [1, 2] # seen\n"
+        opened = suspect.with_opened(suspect.with_no_outliers(settings), "G03")
+        self.assertEqual(opened, "[search]\noutliers = 0\n[satellite]\nG03 = [-1000000, 1000000]\nG04 = [1, 2] # seen\n")
+        self.assertIn("[satellite]\nG07 = [", suspect.with_opened("[search]\noutliers = 0\n", "G07"))
+
+    def test_opening_each_in_turn(self):
+        with tempfile.TemporaryDirectory() as room:
+            stub = os.path.join(room, "stub")
+            Path(stub).write_text(STUB)
+            os.chmod(stub, 0o755)
+            lines = list(suspect.opened_lines(suspect.Runs(stub, "a", "b", room), "[search]\noutliers = 1\n"))
+        self.assertEqual(len(lines), 2)
+        self.assertRegex(lines[0], "^epoch 1 .* opening G03$")
+        self.assertEqual(lines[1], "epochs 2, of which 1 are empty at outliers = 0")
+
+
+def pairs():
+    """The logs with lists of places beside them."""
+    folders = [RECORDED] + [Path(it) for it in [os.environ.get("GPSCOVER_RECORDED")] if it]
+    return [log for folder in folders for log in sorted(folder.glob("*.log"))]
+
+
+class Recorded(unittest.TestCase):
+    def test_the_extents_contain_the_known_place(self):
+        for log in pairs():
+            places = picture.read_places(log.with_suffix(".places"))
+            tested = 0
+            for epoch in coverlog.epochs(log):
+                place = None if epoch.few else picture.place_at(places, epoch.time)
+                if place is None or not all(a <= p * 1e6 <= b for p, a, b in zip(place, epoch.root, epoch.root[3:])):
+                    continue
+                tested += 1
+                with self.subTest(log=log.name, epoch=epoch.index):
+                    self.assertTrue(epoch.kept)
+                    self.assertTrue(region.region_of(epoch).contains(place))
+            with self.subTest(log=log.name):
+                self.assertGreater(tested, 4)
+
+    def test_a_vehicle_that_has_left_the_search_box_leaves_epochs_empty(self):
+        epochs = list(coverlog.epochs(RECORDED / "cres_2008.log"))
+        self.assertEqual([summary.mark_of(it, it.kept or None) for it in epochs[6:]], ["empty", "empty"])
+
+
+class Places(unittest.TestCase):
+    def read(self, text):
+        with tempfile.TemporaryDirectory() as room:
+            path = os.path.join(room, "places")
+            Path(path).write_text(text)
+            return picture.read_places(path)
+
+    def test_both_forms(self):
+        both = self.read("% a head\n2008/05/26 05:59:30.000 1.5 -2 3 5 8\n\n895816771.25 4 5 6\n")
+        self.assertEqual(both, [(895816770 * 10**12, (1.5, -2.0, 3.0)), (895816771250 * 10**9, (4.0, 5.0, 6.0))])
+        self.assertEqual(picture.place_at(both, 895816769999 * 10**9), (1.5, -2.0, 3.0))
+        self.assertIsNone(picture.place_at(both, 895816769800 * 10**9))
+
+    def test_what_is_no_place_is_refused(self):
+        for text in ("1 2 3\n", "x 1 2 3\n", "2008/13/26 00:00:00.0 1 2 3\n", ""):
+            with self.assertRaises(coverlog.LogError):
+                self.read(text)
+
+
+def has_matplotlib():
+    """Whether pictures can be drawn."""
+    try:
+        picture.tools()
+    except coverlog.LogError:
+        return False
+    return True
+
+
+def area(polygon):
+    """The area of a polygon by the shoelace formula."""
+    turned = [*polygon[1:], polygon[0]]
+    return abs(sum(a[0] * b[1] - b[0] * a[1] for a, b in zip(polygon, turned))) / 2
+
+
+def shadow(box, across):
+    """The area of a box as seen along a unit vector: each of three faces times how far it is turned."""
+    x, y, z = (2 * half for half in region.half_sides(box))
+    return y * z * abs(across[0]) + x * z * abs(across[1]) + x * y * abs(across[2])
+
+
+@unittest.skipUnless(has_matplotlib(), "matplotlib isn't there")
+class Pictures(unittest.TestCase):
+    def test_the_drawn_boxes_have_the_areas_of_the_log_s(self):
+        for epoch in coverlog.epochs(RECORDED / "javad_2011.log"):
+            found = region.region_of(epoch)
+            east, north, up = found.axes
+            boxes = [kept.box for kept in epoch.kept]
+            for first, second, across in ((east, north, up), (east, up, north)):
+                drawn = picture.box_polygons(boxes, found.origin, first, second)
+                for box, polygon in zip(boxes, drawn):
+                    self.assertAlmostEqual(area(polygon.tolist()), shadow(box, across), places=3)
+
+    def test_the_drawn_boxes_reach_as_far_as_the_extents(self):
+        for epoch in coverlog.epochs(RECORDED / "ubx_2008.log"):
+            found = region.region_of(epoch)
+            drawn = picture.box_polygons([kept.box for kept in epoch.kept], found.origin, found.axes[0], found.axes[2])
+            for k, extent in ((0, found.extents[0]), (1, found.extents[2])):
+                self.assertAlmostEqual(drawn[..., k].min(), extent[0], places=5)
+                self.assertAlmostEqual(drawn[..., k].max(), extent[1], places=5)
+
+    def test_both_panels_have_one_scale(self):
+        pyplot, _ = picture.tools()
+        figure, both = picture.panels_at_one_scale(pyplot, {"east": (-20, 30), "north": (-60, 10), "up": (-5, 110)})
+        size = figure.get_size_inches()
+        scales = []
+        for axes, tall in zip(both, (70, 115)):
+            _, _, wide, high = axes.get_position().bounds
+            scales += [wide * size[0] / 50, high * size[1] / tall]
+        pyplot.close(figure)
+        self.assertLess(max(scales) - min(scales), 1e-12)
+
+    def test_pictures_are_written(self):
+        with tempfile.TemporaryDirectory() as room:
+            log = str(RECORDED / "geonet0759_2005.log")
+            places = str(RECORDED / "geonet0759_2005.places")
+            for words, ending in ((["region", "--epoch", "2"], "png"), (["region"], "svg"), (["time"], "png")):
+                out = os.path.join(room, f"out.{ending}")
+                words = ["picture.py", words[0], log, out, *words[1:], "--places", places]
+                with mock.patch("sys.argv", words):
+                    self.assertEqual(picture.main(), 0)
+                self.assertIn(b"svg" if ending == "svg" else b"PNG", Path(out).read_bytes()[:200])
+
+    def test_the_title_has_the_extents(self):
+        epoch = epoch_of(PAVED)
+        self.assertIn("east 200.0 m, north 200.0 m, up 100.0 m", picture.region_title(epoch, region.region_of(epoch)))
+
+    def test_an_epoch_without_a_region_is_refused(self):
+        with self.assertRaisesRegex(coverlog.LogError, "it is empty"):
+            picture.chosen_epoch(RECORDED / "cres_2008.log", 8)
+
+
+class Documents(unittest.TestCase):
+    def test_the_links_from_the_headline_down_are_there(self):
+        self.assertEqual((HERE.parent / "docs/HEADLINE.md").read_text(encoding="utf-8"), headline.page())
+
+    def test_a_name_that_is_gone_is_told(self):
+        with self.assertRaisesRegex(headline.Gone, "no definition NoSuchName"):
+            headline.definition("crates/sat_model/specs/Fold.antt", "NoSuchName")
+
+
+def main():
+    names = unittest.defaultTestLoader.loadTestsFromModule(sys.modules["__main__"])
+    with contextlib.redirect_stdout(io.StringIO()):
+        done = unittest.TextTestRunner(stream=sys.stderr, verbosity=1).run(names)
+    failed = len(done.failures) + len(done.errors)
+    left_out = len(done.skipped)
+    note = f", {left_out} left out since {sys.executable} has no matplotlib" if left_out else ""
+    print(f"scripts: {done.testsRun - failed - left_out} passed, {failed} failed{note}")
+    return 1 if failed else 0
+
+
+if __name__ == "__main__":
+    sys.exit(main())

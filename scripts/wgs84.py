@@ -1,0 +1,58 @@
+"""Latitude, longitude and height on the ellipsoid of WGS 84, and the local axes east, north and up.
+
+Points are (x, y, z) in metres in the earth-fixed frame, angles are in radians.
+"""
+import math
+
+SEMI_MAJOR_M = 6378137.0
+FLATTENING = 1 / 298.257223563
+ECCENTRICITY_2 = FLATTENING * (2 - FLATTENING)
+
+
+def prime_vertical(latitude):
+    """The radius of curvature in the prime vertical, in metres."""
+    return SEMI_MAJOR_M / math.sqrt(1 - ECCENTRICITY_2 * math.sin(latitude) ** 2)
+
+
+def geodetic(point):
+    """Latitude, longitude and height in metres of a point that isn't at the earth's centre."""
+    x, y, z = point
+    from_axis = math.hypot(x, y)
+    latitude = math.atan2(z, from_axis * (1 - ECCENTRICITY_2))
+    for _ in range(10):
+        raised = z + ECCENTRICITY_2 * prime_vertical(latitude) * math.sin(latitude)
+        latitude = math.atan2(raised, from_axis)
+    sine, cosine = math.sin(latitude), math.cos(latitude)
+    height = from_axis * cosine + z * sine - SEMI_MAJOR_M**2 / prime_vertical(latitude)
+    return latitude, math.atan2(y, x), height
+
+
+def earth_fixed(latitude, longitude, height):
+    """The point of a latitude, a longitude and a height in metres."""
+    radius = prime_vertical(latitude)
+    from_axis = (radius + height) * math.cos(latitude)
+    z = (radius * (1 - ECCENTRICITY_2) + height) * math.sin(latitude)
+    return from_axis * math.cos(longitude), from_axis * math.sin(longitude), z
+
+
+def local_axes(latitude, longitude):
+    """The unit vectors east, north and up."""
+    sin_lat, cos_lat = math.sin(latitude), math.cos(latitude)
+    sin_lon, cos_lon = math.sin(longitude), math.cos(longitude)
+    east = (-sin_lon, cos_lon, 0.0)
+    north = (-sin_lat * cos_lon, -sin_lat * sin_lon, cos_lat)
+    up = (cos_lat * cos_lon, cos_lat * sin_lon, sin_lat)
+    return east, north, up
+
+
+def dot(a, b):
+    """The scalar product of two vectors."""
+    return a[0] * b[0] + a[1] * b[1] + a[2] * b[2]
+
+
+def elevation(place, target):
+    """The angle above the horizon of `place` at which `target` is seen."""
+    latitude, longitude, _ = geodetic(place)
+    toward = [t - p for t, p in zip(target, place)]
+    up = local_axes(latitude, longitude)[2]
+    return math.asin(dot(toward, up) / math.hypot(*toward))

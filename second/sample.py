@@ -1,0 +1,178 @@
+#!/usr/bin/env python3
+"""Draws numbers that the equations of EQUATIONS.md allow, and tells how far they are from recheck.py's middle values.
+
+    sample.py OBS NAV SETTINGS LOG ROWS DRAWS
+
+The equations are followed as they are printed, with whole numbers; where they leave a choice, one is drawn at random,
+or the least or the greatest is taken all the time. Each result has to lie in the own row of recheck.py, and in the
+own row of the program that made the log (its spans with W taken off at both ends).
+"""
+
+import random
+import sys
+from fractions import Fraction
+from math import factorial, isqrt
+
+import recheck
+
+U = 10**16
+H = 157079632679489661923
+EARTH = 729211514670000000
+LIGHT = 299792458
+UNITS = {"af0": 10**16, "af1": 10**22, "af2": 10**28, "crs": 10**6, "dn": 10**22, "m0": U, "cuc": U, "e": U, "cus": U,
+         "root_a": 10**12, "toe": 10**12, "cic": U, "om0": U, "cis": U, "i0": U, "crc": 10**6, "omega": U,
+         "omdot": 10**22, "idot": 10**22, "tgd": 10**16}
+
+
+class Drawer:
+    """Chooses among whole numbers: at random, or always the same end."""
+
+    def __init__(self, way, seed):
+        self.way, self.random = way, random.Random(seed)
+
+    def of(self, low, high):
+        """A whole number from low to high."""
+        if low > high:
+            raise AssertionError("the equations leave nothing")
+        way = self.random.choice(("low", "high", "any")) if self.way == "mixed" else self.way
+        return low if way == "low" else high if way == "high" else self.random.randint(low, high)
+
+    def near(self, above, below):
+        """A number v with v ~ above / below."""
+        return self.of(-((below - above) // below), (above + below) // below)
+
+    def fields(self, values):
+        """A number of each field."""
+        return {name: self.of(*recheck.numbers_of(value, UNITS[name])) for name, value in values.items()
+                if name in UNITS}
+
+    def ends(self, x, of_cosine, every_rest=False):
+        """The least and greatest sine, or cosine, of x for a drawn rest, or for any."""
+        k = (20000 * x + H) // (2 * H)
+        middle = 10000 * x - k * H
+        low, high = -((10000 - middle) // 10000), (middle + 10000) // 10000
+        rests = range(low, high + 1) if every_rest else [self.of(low, high)]
+        quarter = (k + of_cosine) % 4
+        found = []
+        for rest in rests:
+            sums = [sum(Fraction((-1) ** (power // 2) * rest**power, U**power * factorial(power))
+                        for power in range(last % 2, last + 1, 2)) for last in ((16, 18) if quarter % 2 else (15, 17))]
+            if quarter > 1:
+                sums = [-value for value in sums]
+            found += [(min(sums) * U - 1).__ceil__(), (max(sums) * U + 1).__floor__()]
+        return min(found), max(found)
+
+    def sine(self, x):
+        """A sine of x."""
+        return self.of(*self.ends(x, 0))
+
+    def cosine(self, x):
+        """A cosine of x."""
+        return self.of(*self.ends(x, 1))
+
+    def anomaly(self, mean, e):
+        """An eccentric anomaly of a mean anomaly."""
+        middle, _, _ = recheck.eccentric_anomaly(mean * recheck.ONE // U, e * recheck.ONE // U, mean * recheck.ONE // U)
+        guess = middle * U >> recheck.BITS
+        found = []
+        for anomaly in range(guess - 6, guess + 7):
+            least_fits = anomaly * U - e * self.ends(anomaly, 0, True)[1] <= mean * U
+            if least_fits and mean * U <= (anomaly + 1) * U - e * self.ends(anomaly + 1, 0, True)[0]:
+                found.append(anomaly)
+        return self.of(min(found), max(found))
+
+
+def allowed(draw, record, time, values, dual, point):
+    """One choice of X2, Y2, Z and P that the equations allow at a grid point."""
+    codes = [draw.of(*recheck.numbers_of(value, 10**6)) for value in values]
+    measured = draw.near(5929 * codes[0] - 3600 * codes[1], 2329) if dual else codes[0]
+    f = draw.fields(record.values)
+    tsv = draw.near(time * LIGHT - measured * 10**6, LIGHT)
+    dc = tsv - record.toc
+    a1 = draw.near(f["af1"] * 10**18 + f["af2"] * dc, 10**18)
+    poly = draw.near(f["af0"] * 10**18 + a1 * dc, 10**18)
+    base = poly if dual else poly - f["tgd"]
+    t0 = draw.near(tsv * 10**4 - base, 10**4)
+    tk0 = t0 - (record.week + f["toe"])
+    n = isqrt(recheck.MU * 10**116 // f["root_a"] ** 6) + f["dn"]
+    mean = draw.near(f["m0"] * 10**18 + n * tk0, 10**18)
+    s0 = draw.sine(draw.anomaly(mean, f["e"]))
+    dtr = draw.near(-4442807633 * f["e"] * f["root_a"] * s0, 10**47)
+    dt = base + dtr
+    t = draw.near(tsv * 10**4 - dt, 10**4)
+    corrected = draw.near(measured * 10**10 + LIGHT * dt, 10**10)
+
+    f = draw.fields(record.values)
+    e = f["e"]
+    tk = t - (record.week + f["toe"])
+    axis = draw.near(f["root_a"] ** 2, 10**18)
+    anomaly = draw.anomaly(draw.near(f["m0"] * 10**18 + n * tk, 10**18), e)
+    cos_e, sin_e = draw.cosine(anomaly), draw.sine(anomaly)
+    g = draw.near(U * U - e * cos_e, U)
+    w = isqrt(U * U - e * e)
+    cn, sn = draw.near((cos_e - e) * U, g), draw.near(w * sin_e, g)
+    cw, sw = draw.cosine(f["omega"]), draw.sine(f["omega"])
+    cp, sp = draw.near(cn * cw - sn * sw, U), draw.near(sn * cw + cn * sw, U)
+    c2, s2 = draw.near(cp * cp - sp * sp, U), draw.near(2 * sp * cp, U)
+    du, dr, di = [draw.near(f[sine] * s2 + f[cosine] * c2, U)
+                  for sine, cosine in (("cus", "cuc"), ("crs", "crc"), ("cis", "cic"))]
+    cd, sd = draw.cosine(du), draw.sine(du)
+    cu, su = draw.near(cp * cd - sp * sd, U), draw.near(sp * cd + cp * sd, U)
+    r = draw.near(axis * g + dr * U, U)
+    i = draw.near((f["i0"] + di) * 10**18 + f["idot"] * tk, 10**18)
+    ci, si = draw.cosine(i), draw.sine(i)
+    x, y = draw.near(r * cu, U), draw.near(r * su, U)
+    node = draw.near(f["om0"] * 10**18 + (f["omdot"] - EARTH) * tk - EARTH * f["toe"], 10**18)
+    co, so = draw.cosine(node), draw.sine(node)
+    place = [draw.near(x * co * U - y * ci * so, U * U), draw.near(x * so * U + y * ci * co, U * U),
+             draw.near(y * si, U)]
+    seen = place
+    for _ in range(2):
+        way = isqrt(sum((here - there) ** 2 for here, there in zip(seen, point)))
+        th = draw.near(EARTH * way, LIGHT * 10**12)
+        ct, st = draw.cosine(th), draw.sine(th)
+        seen = [draw.near(place[0] * ct + place[1] * st, U), draw.near(place[1] * ct - place[0] * st, U), place[2]]
+    return seen + [corrected]
+
+
+def main():
+    """Draws for some rows of a log."""
+    *paths, log, rows, draws = sys.argv[1:]
+    files = recheck.Files(*paths)
+    lines = recheck.read_log(recheck.read_file("log", log))
+    found, epochs = [], iter(files.epochs)
+    for word, values in lines:
+        if word in (b"epoch", b"few"):
+            epoch = next(epochs)
+            used = dict(files.satellites(epoch))
+        if word == b"sat":
+            found.append((epoch, values, used[values[0]]))
+    choose = random.Random(1)
+    outside = [0, 0]
+    least, greatest = [0] * 4, [0] * 4
+    for epoch, values, (_, record, measured) in choose.sample(found, min(int(rows), len(found))):
+        row = files.row(epoch, ("sat", record, measured))
+        theirs = [(values[place] + files.room, values[place + 1] - files.room) for place in (1, 3, 5, 7)]
+        codes = dict(epoch.satellites)[values[0]]
+        for number in range(int(draws)):
+            ways = ("low", "high", "any", "mixed")
+            draw = Drawer(ways[number] if number < 4 else choose.choice(ways[2:]), number)
+            side = choose.randrange(3)
+            point = [draw.of(files.box[axis], files.box[axis + 3]) if side else
+                     choose.choice((files.box[axis], files.box[axis + 3])) for axis in range(3)]
+            result = allowed(draw, record, epoch.time, codes, files.settings.dual, point)
+            for axis, value in enumerate(result):
+                middle = sum(row[axis])
+                least[axis] = min(least[axis], (2 * value - middle) // 2)
+                greatest[axis] = max(greatest[axis], (2 * value - middle) // 2)
+                for number_of, (low, high) in enumerate((row[axis], theirs[axis])):
+                    if not low <= value <= high:
+                        outside[number_of] += 1
+                        whose = ("own", "the program's")[number_of]
+                        print("outside of", whose, "row:", epoch.index, values[0], "xyzP"[axis], value, low, high)
+    print("draws outside of own rows", outside[0], "of the program's", outside[1])
+    print("least and greatest distance of a draw from the own row's middle, um: x y z P", least, greatest)
+
+
+if __name__ == "__main__":
+    main()
