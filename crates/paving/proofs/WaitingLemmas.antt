@@ -102,34 +102,40 @@ pub next_of : (waiting : List WaitingBox) (bits : ℕ) (item : Item) (old new : 
     → (rest : List WaitingBox) × IsNext waiting (box_of item) rest × IsQueued rest new
 next_of waiting bits item old new greatest popped queued =
     let f = first_passing (has_bits bits) waiting (box_of item) (boxes_at new bits)
-        (sym (queued bits) ∙ ap (map box_of) popped.taken) in
+    (sym (queued bits) ∙ ap (map box_of) popped.taken) in
     let bits_is : bits_of (box_of item) ≡ bits = bits_from bits (box_of item) f.passes in
     let parts : (other : ℕ) → filter (has_bits other) waiting
-        ≡ filter (has_bits other) f.before ++ filter (has_bits other) (box_of item ∷ f.behind)
+    ≡ filter (has_bits other) f.before ++ filter (has_bits other) (box_of item ∷ f.behind)
     = λ other. ap (filter (has_bits other)) f.whole
-        ∙ filter-append (has_bits other) f.before (box_of item ∷ f.behind) in
+    ∙ filter-append (has_bits other) f.before (box_of item ∷ f.behind) in
     let none : (longer : ℕ) → bits < longer
-        → filter (has_bits longer) f.before ++ filter (has_bits longer) (box_of item ∷ f.behind) ≡ []
+    → filter (has_bits longer) f.before ++ filter (has_bits longer) (box_of item ∷ f.behind) ≡ []
     = λ longer more. sym (parts longer) ∙ sym (queued longer)
-        ∙ ap (map box_of) (greatest.none_greater longer more) in
+    ∙ ap (map box_of) (greatest.none_greater longer more) in
     let none_before : (longer : ℕ) → bits < longer → filter (has_bits longer) f.before ≡ []
     = λ longer more. front_empty _ (filter (has_bits longer) (box_of item ∷ f.behind))
-        (none longer more) in
+    (none longer more) in
     let none_behind : (longer : ℕ) → bits < longer → filter (has_bits longer) f.behind ≡ []
     = λ longer more. sym (filter_no (has_bits longer) (box_of item) f.behind
-        (apart_from bits longer (box_of item) bits_is (λ e. omega arith)))
-        ∙ back_empty (filter (has_bits longer) f.before) _ (none longer more) in (
+    (apart_from bits longer (box_of item) bits_is (λ e. omega arith)))
+    ∙ back_empty (filter (has_bits longer) f.before) _ (none longer more) in (
       f.before ++ f.behind,
       record {
         before = f.before;
         behind = f.behind;
         all_waiting = f.whole;
         others = refl;
-        before_shorter = λ k d within. omega (arith, bits_is,
-            all_within f.before bits none_before k d within,
-            all_others f.before bits f.none_before k d within);
-        behind_no_longer = λ k d within. omega (arith, bits_is,
-            all_within f.behind bits none_behind k d within);
+        before_shorter = λ k d within. omega (
+          arith,
+          bits_is,
+          all_within f.before bits none_before k d within,
+          all_others f.before bits f.none_before k d within,
+        );
+        behind_no_longer = λ k d within. omega (
+          arith,
+          bits_is,
+          all_within f.behind bits none_behind k d within,
+        );
       },
       λ other. elim (cases_eq other bits) [
         | inl here ↦ subst
@@ -150,7 +156,7 @@ pub none_waiting : (waiting : List WaitingBox) (lists : List (List Item))
 none_waiting [] lists empty queued = refl
 none_waiting (box ∷ waiting) lists empty queued =
     let is = filter_yes (has_bits (bits_of box)) box waiting
-        (eq-eqb (bits_of box) (bits_of box) refl) in
+    (eq-eqb (bits_of box) (bits_of box) refl) in
     let here = sym (queued (bits_of box)) ∙ ap (map box_of) (empty (bits_of box)) in
     absurd cc
 

@@ -41,12 +41,7 @@ impl Plan {
     /// The plan of these rows, rules and root. Four rows more than may be inconsistent are needed. All
     /// memory of the paving is taken here: each split makes one more box wait, so a node for each
     /// split that is allowed and one for the root are enough.
-    pub fn make(
-        alloc: Global,
-        rows: &[Row],
-        rules: &Rules,
-        root: &Box3,
-    ) -> Result<Plan, NoMemory>
+    pub fn make(alloc: Global, rows: &[Row], rules: &Rules, root: &Box3) -> Result<Plan, NoMemory>
         requires { (rules.now.outliers + 4 ≤ length rows.now) × (length rows.now ≤ 64) }
         ensures rows { IfOk result (λ plan. plan.rows ≡ rows.now) }
         ensures rules { IfOk result (λ plan. plan.rules ≡ rules.now) }
