@@ -8,8 +8,8 @@ use sat_model::{Box3, NoMemory, Row, Rules};
 use std::alloc::Global;
 use std::marker::Model;
 
-/// The rows and the rules of an epoch, the root box, where they are to be searched, and room for the
-/// boxes that will wait.
+/// The rows and the rules of an epoch, the root box, where they are to be searched, and room for
+/// the boxes that will wait.
 #[derive(Drop)]
 pub struct Plan {
     pub(crate) rows: Vec<Row>,
@@ -38,9 +38,9 @@ impl Model for Plan {
 }
 
 impl Plan {
-    /// The plan of these rows, rules and root. Four rows more than may be inconsistent are needed. All
-    /// memory of the paving is taken here: each split makes one more box wait, so a node for each
-    /// split that is allowed and one for the root are enough.
+    /// The plan of these rows, rules and root. Four rows more than may be inconsistent are needed.
+    /// All memory of the paving is taken here: each split makes one more box wait, so a node for
+    /// each split that is allowed and one for the root are enough.
     pub fn make(alloc: Global, rows: &[Row], rules: &Rules, root: &Box3) -> Result<Plan, NoMemory>
         requires { (rules.now.outliers + 4 ≤ length rows.now) × (length rows.now ≤ 64) }
         ensures rows { IfOk result (λ plan. plan.rows ≡ rows.now) }
