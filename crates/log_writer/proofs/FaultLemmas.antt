@@ -1,5 +1,5 @@
 -- Counts of faults, and what is reliable, over some pieces.
-use Rattle.std.proofs.Common.{◌≡◌, ◌+◌, ◌≤◌, List, [], ◌∷◌, length, Result, Ok, Err, refl, sym, arith, append-nil, length-append}
+use Rattle.std.proofs.Common.{◌≡◌, ◌+◌, ◌≤◌, List, [], ◌∷◌, length, Some, Result, Ok, Err, refl, sym, arith, append-nil, length-append}
 use Rattle.paving.specs.Taken.{Rose}
 use Rattle.paving.specs.declared.steps.StepFault.TheVariants as step_fault
 use Rattle.log_writer.specs.declared.fault.WriteFault.{WriteFault}
@@ -49,14 +49,14 @@ ended_counted a c ps fault ended =
     let k = stops_counted (start_of a) c s.text s.more fault s.stops in
     record { log = k.log; out = k.out }
 
-stops_rose : (start c : Seen) (text more : List Piece) (fault : WriteFault) → in_paving fault ≡ step_fault.Failed → Stops start text more fault c
+stops_rose : (start c : Seen) (text more : List Piece) (fault : WriteFault) → in_paving fault ≡ Some step_fault.Failed → Stops start text more fault c
     → Rose (start.at.shelf.write_faults + start.at.out.faults) (c.at.shelf.write_faults + c.at.out.faults)
 stops_rose start c text more why.Log is s = omega (arith, s.fails.1, s.sent.out_faults)
 stops_rose start c text more why.Out is s = omega (arith, s.fails.2, s.sent.log_faults)
 stops_rose start c text more why.Full is s = absurd cc
 stops_rose start c text more why.NoMemory is s = absurd cc
 
-pub ended_rose : (a c : Seen) (ps : List Piece) (fault : WriteFault) → in_paving fault ≡ step_fault.Failed → Ended a ps fault c
+pub ended_rose : (a c : Seen) (ps : List Piece) (fault : WriteFault) → in_paving fault ≡ Some step_fault.Failed → Ended a ps fault c
     → Rose (a.at.shelf.write_faults + a.at.out.faults) (c.at.shelf.write_faults + c.at.out.faults)
 ended_rose a c ps fault is ended =
     let s = ended (start_of a) (piece a.log_waits a.report_waits ∷ []) (some_put a) in
@@ -83,10 +83,6 @@ trusts_other a b fault f = record {
 -- and so may it where nothing failed
 pub trusts_done : {S T : Type 0} (a b : Trust) (x : S) (y : T) → Trusts a (Ok x) b → Trusts a (Ok y) b
 trusts_done a b x y f = record { log = λ name h. ((f.log name h).0, λ some e. cc); out = λ h. ((f.out h).0, λ e. cc) }
-
--- memory ended
-pub trusts_stop : {S T : Type 0} (a b : Trust) (x : S) → Trusts a (Ok x) b → Trusts {T = T} a (Err why.NoMemory) b
-trusts_stop a b x f = record { log = λ name h. ((f.log name h).0, λ some e. cc); out = λ h. ((f.out h).0, λ e. cc) }
 
 abbrev the_err : {E : Type 0} → E → Result (Unit {0}) E
 the_err x = Err x

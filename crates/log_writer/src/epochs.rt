@@ -79,11 +79,7 @@ pub(crate) struct Outcome {
 }
 
 /// Writes the steps of a paving as they are made.
-fn pave_on<P: Pen>(
-    alloc: Global,
-    track: &mut Track<'_, P>,
-    plan: Plan,
-) -> Result<Outcome, WriteFault>
+fn pave_on<P: Pen>(track: &mut Track<'_, P>, plan: Plan) -> Result<Outcome, WriteFault>
     requires enough { plan.rules.outliers < length plan.rows }
     requires none { track.old.kept ≡ None }
     ensures written { WroteSteps plan.rows plan.rules plan.root
@@ -91,7 +87,7 @@ fn pave_on<P: Pen>(
     ensures trust { Trusts (P.trust track.old.pen.now) result (P.trust track.new.pen.now) }
     ensures same { track.new.pen.ghost_name ≡ track.old.pen.ghost_name }
 {
-    match pave(alloc, plan, track) {
+    match pave(plan, track) {
         Ok(counts) => Ok(Outcome {
             counts: Counts4 {
                 inside: counts.inside,
@@ -101,14 +97,13 @@ fn pave_on<P: Pen>(
             },
             kept: track.kept,
         }),
-        Err(StepFault::NoMemory) => Err(WriteFault::NoMemory),
         Err(StepFault::Failed) => Err(track.last),
         Err(StepFault::Full) => Err(track.last),
     }
 }
 
 /// The same on a pen.
-fn put_steps<P: Pen>(alloc: Global, pen: &mut P, plan: Plan) -> Result<Outcome, WriteFault>
+fn put_steps<P: Pen>(pen: &mut P, plan: Plan) -> Result<Outcome, WriteFault>
     requires enough { plan.rules.outliers < length plan.rows }
     ensures written { WroteSteps plan.rows plan.rules plan.root
         (P.seen pen.old) result (P.seen pen.new) }
@@ -119,16 +114,11 @@ fn put_steps<P: Pen>(alloc: Global, pen: &mut P, plan: Plan) -> Result<Outcome, 
         last: WriteFault::NoMemory,
         kept: None,
     };
-    pave_on(alloc, &mut track, plan)
+    pave_on(&mut track, plan)
 }
 
 /// Writes the root, its steps, and the number of splits with the total.
-fn put_run<P: Pen>(
-    alloc: Global,
-    pen: &mut P,
-    plan: Plan,
-    root: &Box3,
-) -> Result<Option<Box3>, WriteFault>
+fn put_run<P: Pen>(pen: &mut P, plan: Plan, root: &Box3) -> Result<Option<Box3>, WriteFault>
     requires root { plan.root ≡ grid_box root.now }
     requires enough { plan.rules.outliers < length plan.rows }
     ensures written { WroteRun plan.rows plan.rules plan.root
@@ -137,7 +127,7 @@ fn put_run<P: Pen>(
 {
     let first = root_line(root);
     pen.put(first.as_bytes(), &[])?;
-    let done = put_steps(alloc, pen, plan)?;
+    let done = put_steps(pen, plan)?;
     let last = done_line(done.counts.bisections);
     let total = total_text(&done.counts);
     pen.put(last.as_bytes(), total.as_bytes())?;
@@ -165,7 +155,7 @@ fn put_epoch<P: Pen>(
     match &epoch.root {
         Some(root) => {
             let plan = plan_of(alloc, rules, &epoch.sats, root)?;
-            put_run(alloc, pen, plan, root)
+            put_run(pen, plan, root)
         }
         None => Ok(None),
     }

@@ -6,7 +6,7 @@ use Rattle.std.proofs.lemmas.List.Sums.{sum_by-append, sum_by-cons}
 use Rattle.std.proofs.lemmas.Int.{ints}
 use Rattle.sat_model.specs.declared.satellites.Row.{Row}
 use Rattle.sat_model.specs.declared.steps.Step.TheVariants.{Cut, Split, Outside, Inside, Edge}
-use Rattle.paving.specs.declared.waiting.Waiting.{Waiting}
+use Rattle.box_pool.specs.declared.item.Item.{Item}
 use Rattle.sat_model.specs.declared.rules.Rules.{Rules}
 use Rattle.sat_model.specs.declared.steps.Step.{Step}
 use Rattle.sat_model.specs.Boxes.{GridBox, grid_box, side_at}
@@ -15,7 +15,7 @@ use Rattle.sat_model.specs.Paved.{WaitingBox, Paving, first_paving, IsNext, AreS
 use Rattle.paving.specs.declared.counts.Counts.{Counts}
 use Rattle.paving.specs.Taken.{TookAll, step_bytes}
 use Rattle.paving.specs.Counting.{IsCountOf, counts_after}
-use Rattle.paving.specs.Runs.{IsRun, IsBroken, IsStopped}
+use Rattle.paving.specs.Runs.{IsRun, IsBroken}
 use Rattle.paving.specs.declared.steps.StepFault.{StepFault}
 use Rattle.paving.specs.declared.steps.StepFault.TheVariants.{Full}
 use Rattle.sat_model.specs.Fold.{first_stage, ShownStep}
@@ -23,10 +23,10 @@ use Rattle.sat_model.specs.StepKinds.{is_inside, is_edge, is_outside, is_split}
 use Rattle.sat_model.specs.Verdicts.{StepsPass}
 use Rattle.sat_model.proofs.PavedLemmas.{paved_passes, paved_covers}
 use Rattle.sat_model.proofs.PavedExists.{begins_run}
-use Rattle.paving.specs.Queues.{IsQueued, Takes, CanOpen, waiting_of}
+use Rattle.paving.specs.Queues.{IsQueued, Takes, CanOpen, box_of, opened_count}
 
 -- what holds before each box is taken up
-pub record IsUnderway {L : Type 0} (took : L → Step → GridBox → L → Type 0) (rows : List Row) (rules : Rules) (root : GridBox) (first now : L) (lists : List (List WaitingBox)) (counts : Counts) : Type 0 where
+pub record IsUnderway {L : Type 0} (took : L → Step → GridBox → L → Type 0) (rows : List Row) (rules : Rules) (root : GridBox) (first now : L) (lists : List (List Item)) (counts : Counts) : Type 0 where
   pub boxes : List (List ShownStep)
   pub paving : Paving
   pub paves : PavesTo rows rules (first_paving root) boxes paving
@@ -57,17 +57,17 @@ pub joined_more : (boxes : List (List ShownStep)) (own : List ShownStep) → joi
 joined_more [] own = append-nil own
 joined_more (first ∷ boxes) own = ap (λ l. first ++ l) (joined_more boxes own) ∙ sym (append_assoc first (joined boxes) own)
 
-abbrev pub shown_of : Step → Waiting → ShownStep
+abbrev pub shown_of : Step → Item → ShownStep
 shown_of step next = record { step = step; part = grid_box next.part }
 
 -- the box in hand, with its step
-pub record IsInHand (rows : List Row) (rules : Rules) (paving : Paving) (next : Waiting) (step : Step) (lists : List (List WaitingBox)) : Type 0 where
+pub record IsInHand (rows : List Row) (rules : Rules) (paving : Paving) (next : Item) (step : Step) (lists : List (List Item)) : Type 0 where
   pub rest : List WaitingBox
-  pub is_next : IsNext paving.waiting (waiting_of next) rest
+  pub is_next : IsNext paving.waiting (box_of next) rest
   pub queued : IsQueued rest lists
   pub ends : Closes rows rules paving.splits next.id (grid_box next.part) step
 
-pub in_hand : {L : Type 0} (took : L → Step → GridBox → L → Type 0) (rows : List Row) (rules : Rules) (root : GridBox) (first now : L) (lists mid : List (List WaitingBox)) (counts : Counts) (next : Waiting) (step : Step)
+pub in_hand : {L : Type 0} (took : L → Step → GridBox → L → Type 0) (rows : List Row) (rules : Rules) (root : GridBox) (first now : L) (lists mid : List (List Item)) (counts : Counts) (next : Item) (step : Step)
     → (u : IsUnderway took rows rules root first now lists counts) → Takes lists (Some next) mid → Closes rows rules counts.bisections next.id (grid_box next.part) step
     → IsInHand rows rules u.paving next step mid
 in_hand took rows rules root first now lists mid counts next step u takes ends =
@@ -78,16 +78,16 @@ in_hand took rows rules root first now lists mid counts next step u takes ends =
       ends = subst (λ (s : ℕ). Closes rows rules s next.id (grid_box next.part) step) (sym u.splits_is) ends;
     }
 
-pub paved_first_more : (rows : List Row) (rules : Rules) (root : GridBox) (boxes : List (List ShownStep)) (paving : Paving) (lists : List (List WaitingBox)) (next : Waiting) (step : Step) → rules.outliers < length rows
+pub paved_first_more : (rows : List Row) (rules : Rules) (root : GridBox) (boxes : List (List ShownStep)) (paving : Paving) (lists : List (List Item)) (next : Item) (step : Step) → rules.outliers < length rows
     → PavesTo rows rules (first_paving root) boxes paving → IsInHand rows rules paving next step lists
     → PavedFirst rows rules root (joined boxes ++ shown_of step next ∷ [])
 paved_first_more rows rules root boxes paving lists next step enough paves h =
     subst (λ (l : List ShownStep). PavedFirst rows rules root l) (joined_more boxes (shown_of step next ∷ []))
     (begins_run rows rules root (boxes ++ (shown_of step next ∷ []) ∷ []) (beyond (record { waiting = h.rest; splits = paving.splits }) (shown_of step next)) enough
-    (paves_more rows rules (first_paving root) paving boxes (waiting_of next) h.rest (shown_of step next ∷ []) paves h.is_next (refl, h.ends)))
+    (paves_more rows rules (first_paving root) paving boxes (box_of next) h.rest (shown_of step next ∷ []) paves h.is_next (refl, h.ends)))
 
 -- the step broke
-pub broke_here : {L : Type 0} (took broke : L → Step → GridBox → L → Type 0) (room : L → ℕ) (fault : StepFault) (rows : List Row) (rules : Rules) (root : GridBox) (first now last : L) (lists mid : List (List WaitingBox)) (counts : Counts) (next : Waiting) (step : Step)
+pub broke_here : {L : Type 0} (took broke : L → Step → GridBox → L → Type 0) (room : L → ℕ) (fault : StepFault) (rows : List Row) (rules : Rules) (root : GridBox) (first now last : L) (lists mid : List (List Item)) (counts : Counts) (next : Item) (step : Step)
     → rules.outliers < length rows → IsUnderway took rows rules root first now lists counts → Takes lists (Some next) mid → Closes rows rules counts.bisections next.id (grid_box next.part) step
     → broke now step (grid_box next.part) last → ((fault ≡ Full) ↔ (room now < length (step_bytes step))) → IsBroken took broke room fault rows rules root first last
 broke_here took broke room fault rows rules root first now last lists mid counts next step enough u takes ends broken full = record {
@@ -98,16 +98,6 @@ broke_here took broke room fault rows rules root first now last lists mid counts
   taken = u.taken;
   broken = broken;
   full = full;
-}
-
--- memory ended after the step
-pub stopped_here : {L : Type 0} (took : L → Step → GridBox → L → Type 0) (rows : List Row) (rules : Rules) (root : GridBox) (first now last : L) (lists mid : List (List WaitingBox)) (counts : Counts) (next : Waiting) (step : Step)
-    → rules.outliers < length rows → IsUnderway took rows rules root first now lists counts → Takes lists (Some next) mid → Closes rows rules counts.bisections next.id (grid_box next.part) step
-    → took now step (grid_box next.part) last → IsStopped took rows rules root first last
-stopped_here took rows rules root first now last lists mid counts next step enough u takes ends took_it = record {
-  steps = joined u.boxes ++ shown_of step next ∷ [];
-  paved_first = paved_first_more rows rules root u.boxes u.paving mid next step enough u.paves (in_hand took rows rules root first now lists mid counts next step u takes ends);
-  taken = took_more took first now last (joined u.boxes) (shown_of step next) u.taken took_it;
 }
 
 count_yes : (p : ShownStep → Bool) (xs : List ShownStep) (x : ShownStep) (n : ℕ) → n ≡ count_by p xs → p x ≡ true → n + 1 ≡ count_by p (xs ++ x ∷ [])
@@ -213,7 +203,7 @@ can_open rows rules splits id (Edge n lo hi) part ends = tt
 can_open rows rules splits id (Cut n face bound) part ends = absurd ends
 
 -- the step was taken, and what it opens waits
-pub more_underway : {L : Type 0} (took : L → Step → GridBox → L → Type 0) (rows : List Row) (rules : Rules) (root : GridBox) (first now last : L) (lists mid new : List (List WaitingBox)) (counts after : Counts) (next : Waiting) (step : Step)
+pub more_underway : {L : Type 0} (took : L → Step → GridBox → L → Type 0) (rows : List Row) (rules : Rules) (root : GridBox) (first now last : L) (lists mid new : List (List Item)) (counts after : Counts) (next : Item) (step : Step)
     → IsUnderway took rows rules root first now lists counts → Takes lists (Some next) mid → Closes rows rules counts.bisections next.id (grid_box next.part) step
     → took now step (grid_box next.part) last
     → ((waiting : List WaitingBox) → IsQueued waiting mid → IsQueued (waiting ++ opened_by counts.bisections step (grid_box next.part)) new)
@@ -221,13 +211,13 @@ pub more_underway : {L : Type 0} (took : L → Step → GridBox → L → Type 0
     → IsUnderway took rows rules root first last new after
 more_underway took rows rules root first now last lists mid new counts after next step u takes ends took_it opened same =
     let h = in_hand took rows rules root first now lists mid counts next step u takes ends in
-    let less = one_less u.paving.waiting (waiting_of next) h.rest h.is_next in
+    let less = one_less u.paving.waiting (box_of next) h.rest h.is_next in
     let on = goes_on rows rules h.rest u.paving.splits next.id step (grid_box next.part) counts h.ends u.splits_is (omega (arith, u.closed, less)) u.within in
     let steps = joined_more u.boxes (shown_of step next ∷ []) in
     rw same (record {
       boxes = u.boxes ++ (shown_of step next ∷ []) ∷ [];
       paving = beyond (record { waiting = h.rest; splits = u.paving.splits }) (shown_of step next);
-      paves = paves_more rows rules (first_paving root) u.paving u.boxes (waiting_of next) h.rest (shown_of step next ∷ []) u.paves h.is_next (refl, h.ends);
+      paves = paves_more rows rules (first_paving root) u.paving u.boxes (box_of next) h.rest (shown_of step next ∷ []) u.paves h.is_next (refl, h.ends);
       taken = subst (λ (l : List ShownStep). TookAll took first l last) (sym steps) (took_more took first now last (joined u.boxes) (shown_of step next) u.taken took_it);
       queued = subst (λ (s : ℕ). IsQueued (h.rest ++ opened_by s step (grid_box next.part)) new) (sym u.splits_is) (opened h.rest h.queued);
       counted = subst (λ (l : List ShownStep). IsCountOf (counts_after counts step) l) (sym steps) (counted_more counts (joined u.boxes) step (grid_box next.part) u.counted);
@@ -236,18 +226,18 @@ more_underway took rows rules root first now last lists mid new counts after nex
       within = on.within;
     })
 
-pub measure_smaller : {L : Type 0} (took : L → Step → GridBox → L → Type 0) (rows : List Row) (rules : Rules) (root : GridBox) (first now : L) (lists mid : List (List WaitingBox)) (counts after : Counts) (next : Waiting) (step : Step)
+pub measure_smaller : {L : Type 0} (took : L → Step → GridBox → L → Type 0) (rows : List Row) (rules : Rules) (root : GridBox) (first now : L) (lists mid : List (List Item)) (counts after : Counts) (next : Item) (step : Step)
     → IsUnderway took rows rules root first now lists counts → Takes lists (Some next) mid → Closes rows rules counts.bisections next.id (grid_box next.part) step
     → after ≡ counts_after counts step
     → rules.bisections - after.bisections + (rules.bisections + 1 - closed_boxes after) < rules.bisections - counts.bisections + (rules.bisections + 1 - closed_boxes counts)
 measure_smaller took rows rules root first now lists mid counts after next step u takes ends same =
     let h = in_hand took rows rules root first now lists mid counts next step u takes ends in
-    let less = one_less u.paving.waiting (waiting_of next) h.rest h.is_next in
+    let less = one_less u.paving.waiting (box_of next) h.rest h.is_next in
     let on = goes_on rows rules h.rest u.paving.splits next.id step (grid_box next.part) counts h.ends u.splits_is (omega (arith, u.closed, less)) u.within in
     rw same on.smaller
 
 -- no box waits any more
-pub whole_run : {L : Type 0} (took : L → Step → GridBox → L → Type 0) (rows : List Row) (rules : Rules) (root : GridBox) (first now : L) (lists mid : List (List WaitingBox)) (counts : Counts)
+pub whole_run : {L : Type 0} (took : L → Step → GridBox → L → Type 0) (rows : List Row) (rules : Rules) (root : GridBox) (first now : L) (lists mid : List (List Item)) (counts : Counts)
     → IsUnderway took rows rules root first now lists counts → Takes lists None mid → IsRun took rows rules root first now counts
 whole_run took rows rules root first now lists mid counts u takes =
     let run : Paved rows rules root (joined u.boxes)
@@ -264,11 +254,21 @@ whole_run took rows rules root first now lists mid counts u takes =
 pub same_fault : (fault cause : StepFault) (P : Type 0) → ((◌≡◌ {A = Result (Unit {0}) StepFault} (Err fault) (Err cause)) ↔ P) → ((fault ≡ cause) ↔ P)
 same_fault fault cause P h = (λ e. h.0 (rw e refl), λ p. let e = h.1 p in cc)
 
--- no step was taken yet
-pub not_begun : {L : Type 0} (took : L → Step → GridBox → L → Type 0) (rows : List Row) (rules : Rules) (root : GridBox) (first : L) → rules.outliers < length rows
-    → IsStopped took rows rules root first first
-not_begun took rows rules root first enough = record {
-  steps = [];
-  paved_first = begins_run rows rules root [] (first_paving root) enough refl;
-  taken = refl;
-}
+-- a box that is split has two spare nodes for its halves, one of them its own
+pub room_here : (rows : List Row) (rules : Rules) (splits id spare closed : ℕ) (step : Step) (part : GridBox) → Closes rows rules splits id part step
+    → spare + splits ≡ rules.bisections + closed → opened_count step ≤ spare + 1
+room_here rows rules splits id spare closed (Split n axis) part (is, undecided, may, longest) same = omega (arith, may.1, same)
+room_here rows rules splits id spare closed (Outside n) part ends same = omega arith
+room_here rows rules splits id spare closed (Inside n clock lo hi) part ends same = omega arith
+room_here rows rules splits id spare closed (Edge n lo hi) part ends same = omega arith
+room_here rows rules splits id spare closed (Cut n face bound) part ends same = omega arith
+
+-- the spare nodes after a step
+pub spare_after : (rows : List Row) (rules : Rules) (splits id spare left : ℕ) (step : Step) (part : GridBox) (counts after : Counts) → Closes rows rules splits id part step
+    → spare + counts.bisections ≡ rules.bisections + closed_boxes counts → left + opened_count step ≡ spare + 1 → after ≡ counts_after counts step
+    → left + after.bisections ≡ rules.bisections + closed_boxes after
+spare_after rows rules splits id spare left (Split n axis) part counts after ends same opened e = rw e (omega (arith, same, opened))
+spare_after rows rules splits id spare left (Outside n) part counts after ends same opened e = rw e (omega (arith, same, opened))
+spare_after rows rules splits id spare left (Inside n clock lo hi) part counts after ends same opened e = rw e (omega (arith, same, opened))
+spare_after rows rules splits id spare left (Edge n lo hi) part counts after ends same opened e = rw e (omega (arith, same, opened))
+spare_after rows rules splits id spare left (Cut n face bound) part counts after ends same opened e = absurd ends

@@ -1,11 +1,13 @@
 -- The boxes that wait, seen through the queues.
-use Rattle.std.proofs.Common.{◌≡◌, ◌≢◌, ℕ, zero, suc, ◌+◌, ◌<◌, ◌≤◌, List, [], ◌∷◌, ◌++◌, length, get_or, arith, inl, inr, refl, sym, ap, subst, ◌∙◌, Bool, true, false, nat_eq, Option, None, Some, eq-eqb, append_assoc, ◌*◌}
+use Rattle.std.proofs.Common.{◌≡◌, ◌≢◌, ℕ, zero, suc, ◌+◌, ◌<◌, ◌≤◌, List, [], ◌∷◌, ◌++◌, length, get_or, map, arith, inl, inr, refl, sym, ap, subst, ◌∙◌, Bool, true, false, nat_eq, Option, None, Some, eq-eqb, append_assoc, ◌*◌}
 use Rattle.std.specs.Prelude.{MatchOption, All}
 use Rattle.std.specs.List.{filter}
+use Rattle.std.proofs.lemmas.List.{append-nil, map-append}
 use Rattle.std.proofs.lemmas.List.Elements.{filter-append}
 use Rattle.std.proofs.lemmas.Bool.{cases_lt, cases_eq, cases_Bool, eqb-true}
-use Rattle.paving.specs.declared.waiting.Waiting.{Waiting}
-use Rattle.paving.specs.Queues.{waiting_of, list_at, AllEmpty, IsQueueTaken, IsQueued, Takes}
+use Rattle.box_pool.specs.declared.item.Item.{Item}
+use Rattle.box_pool.specs.Lists.{list_at, AllEmpty, IsPushed, IsPopped, IsGreatest}
+use Rattle.paving.specs.Queues.{box_of, boxes_at, IsQueued, Takes}
 use Rattle.sat_model.specs.Paved.{WaitingBox, bits_of, IsNext, halves_from}
 use Rattle.sat_model.specs.Boxes.{GridBox, with_side, side_at, low_half, high_half}
 
@@ -95,19 +97,27 @@ apart_from bits other box same apart = elim (cases_Bool (has_bits other box)) [
 ]
 
 -- what is taken is the next
-pub next_of : (waiting : List WaitingBox) (old new : List (List WaitingBox)) (box : WaitingBox) → IsQueueTaken old box new → IsQueued waiting old
-    → (rest : List WaitingBox) × IsNext waiting box rest × IsQueued rest new
-next_of waiting old new box t queued =
-    let f = first_passing (has_bits t.bits) waiting box (list_at new t.bits) (sym (queued t.bits) ∙ t.taken) in
-    let bits_is : bits_of box ≡ t.bits = bits_from t.bits box f.passes in
-    let parts : (other : ℕ) → filter (has_bits other) waiting ≡ filter (has_bits other) f.before ++ filter (has_bits other) (box ∷ f.behind)
-    = λ other. ap (filter (has_bits other)) f.whole ∙ filter-append (has_bits other) f.before (box ∷ f.behind) in
-    let none : (longer : ℕ) → t.bits < longer → filter (has_bits longer) f.before ++ filter (has_bits longer) (box ∷ f.behind) ≡ []
-    = λ longer more. sym (parts longer) ∙ sym (queued longer) ∙ t.none_longer longer more in
-    let none_before : (longer : ℕ) → t.bits < longer → filter (has_bits longer) f.before ≡ []
-    = λ longer more. front_empty _ (filter (has_bits longer) (box ∷ f.behind)) (none longer more) in
-    let none_behind : (longer : ℕ) → t.bits < longer → filter (has_bits longer) f.behind ≡ []
-    = λ longer more. sym (filter_no (has_bits longer) box f.behind (apart_from t.bits longer box bits_is (λ e. omega arith)))
+pub next_of : (waiting : List WaitingBox) (bits : ℕ) (item : Item) (old new : List (List Item))
+    → IsGreatest old bits → IsPopped old bits item new → IsQueued waiting old
+    → (rest : List WaitingBox) × IsNext waiting (box_of item) rest × IsQueued rest new
+next_of waiting bits item old new greatest popped queued =
+    let f = first_passing (has_bits bits) waiting (box_of item) (boxes_at new bits)
+    (sym (queued bits) ∙ ap (map box_of) popped.taken) in
+    let bits_is : bits_of (box_of item) ≡ bits = bits_from bits (box_of item) f.passes in
+    let parts : (other : ℕ) → filter (has_bits other) waiting
+    ≡ filter (has_bits other) f.before ++ filter (has_bits other) (box_of item ∷ f.behind)
+    = λ other. ap (filter (has_bits other)) f.whole
+    ∙ filter-append (has_bits other) f.before (box_of item ∷ f.behind) in
+    let none : (longer : ℕ) → bits < longer
+    → filter (has_bits longer) f.before ++ filter (has_bits longer) (box_of item ∷ f.behind) ≡ []
+    = λ longer more. sym (parts longer) ∙ sym (queued longer)
+    ∙ ap (map box_of) (greatest.none_greater longer more) in
+    let none_before : (longer : ℕ) → bits < longer → filter (has_bits longer) f.before ≡ []
+    = λ longer more. front_empty _ (filter (has_bits longer) (box_of item ∷ f.behind))
+    (none longer more) in
+    let none_behind : (longer : ℕ) → bits < longer → filter (has_bits longer) f.behind ≡ []
+    = λ longer more. sym (filter_no (has_bits longer) (box_of item) f.behind
+    (apart_from bits longer (box_of item) bits_is (λ e. omega arith)))
     ∙ back_empty (filter (has_bits longer) f.before) _ (none longer more) in (
       f.before ++ f.behind,
       record {
@@ -115,30 +125,48 @@ next_of waiting old new box t queued =
         behind = f.behind;
         all_waiting = f.whole;
         others = refl;
-        before_shorter = λ k d within. omega (arith, bits_is, all_within f.before t.bits none_before k d within, all_others f.before t.bits f.none_before k d within);
-        behind_no_longer = λ k d within. omega (arith, bits_is, all_within f.behind t.bits none_behind k d within);
+        before_shorter = λ k d within. omega (
+          arith,
+          bits_is,
+          all_within f.before bits none_before k d within,
+          all_others f.before bits f.none_before k d within,
+        );
+        behind_no_longer = λ k d within. omega (
+          arith,
+          bits_is,
+          all_within f.behind bits none_behind k d within,
+        );
       },
-      λ other. elim (cases_eq other t.bits) [
-        | inl here ↦ subst (λ (b : ℕ). list_at new b ≡ filter (has_bits b) (f.before ++ f.behind)) (sym here)
-            (sym f.others ∙ sym (filter-append (has_bits t.bits) f.before f.behind ∙ ap (λ l. l ++ filter (has_bits t.bits) f.behind) f.none_before))
-        | inr apart ↦ t.others other apart ∙ queued other ∙ parts other
-            ∙ ap (λ l. filter (has_bits other) f.before ++ l) (filter_no (has_bits other) box f.behind (apart_from t.bits other box bits_is apart))
+      λ other. elim (cases_eq other bits) [
+        | inl here ↦ subst
+            (λ (b : ℕ). boxes_at new b ≡ filter (has_bits b) (f.before ++ f.behind)) (sym here)
+            (sym f.others ∙ sym (filter-append (has_bits bits) f.before f.behind
+            ∙ ap (λ l. l ++ filter (has_bits bits) f.behind) f.none_before))
+        | inr apart ↦ ap (map box_of) (popped.others other apart) ∙ queued other ∙ parts other
+            ∙ ap (λ l. filter (has_bits other) f.before ++ l)
+            (filter_no (has_bits other) (box_of item) f.behind
+            (apart_from bits other (box_of item) bits_is apart))
             ∙ sym (filter-append (has_bits other) f.before f.behind)
       ],
     )
 
--- no box waits where all queues are empty
-pub none_waiting : (waiting : List WaitingBox) (lists : List (List WaitingBox)) → AllEmpty lists → IsQueued waiting lists → waiting ≡ []
+-- no box waits where all lists are empty
+pub none_waiting : (waiting : List WaitingBox) (lists : List (List Item))
+    → AllEmpty lists → IsQueued waiting lists → waiting ≡ []
 none_waiting [] lists empty queued = refl
 none_waiting (box ∷ waiting) lists empty queued =
-    let is = filter_yes (has_bits (bits_of box)) box waiting (eq-eqb (bits_of box) (bits_of box) refl) in
-    let here = sym (queued (bits_of box)) ∙ empty (bits_of box) in
+    let is = filter_yes (has_bits (bits_of box)) box waiting
+    (eq-eqb (bits_of box) (bits_of box) refl) in
+    let here = sym (queued (bits_of box)) ∙ ap (map box_of) (empty (bits_of box)) in
     absurd cc
 
-pub takes : (r : Option Waiting) (old new : List (List WaitingBox))
-    → MatchOption r (AllEmpty old) (λ w. IsQueueTaken old (waiting_of w) new) → Takes old r new
-takes None old new empty = λ waiting queued. none_waiting waiting old empty queued
-takes (Some next) old new taken = λ waiting queued. next_of waiting old new (waiting_of next) taken queued
+-- what the greatest list gives is the next
+pub takes : (r : Option Item) (bits : ℕ) (old new : List (List Item)) → IsGreatest old bits
+    → MatchOption r (list_at old bits ≡ []) (λ item. IsPopped old bits item new)
+    → Takes old r new
+takes None bits old new greatest empty = absurd (greatest.filled empty)
+takes (Some item) bits old new greatest popped =
+    λ waiting queued. next_of waiting bits item old new greatest popped queued
 
 two_more : (waiting : List WaitingBox) (first second : WaitingBox) → (waiting ++ first ∷ []) ++ second ∷ [] ≡ waiting ++ (first ∷ second ∷ [])
 two_more waiting first second = append_assoc waiting (first ∷ []) (second ∷ [])
@@ -151,7 +179,7 @@ two_boxes : (waiting : List WaitingBox) (a b m n : ℕ) (c d e f : GridBox) → 
 two_boxes waiting a b m n c d e f p q r s = rw (p, q, r, s) refl
 
 -- both halves are put last
-pub halves_queued : (waiting : List WaitingBox) (splits axis m n : ℕ) (part low high : GridBox) (old mid new : List (List WaitingBox))
+pub halves_queued : (waiting : List WaitingBox) (splits axis m n : ℕ) (part low high : GridBox) (old mid new : List (List Item))
     → m ≡ 2 * splits + 1 → n ≡ 2 * splits + 1 + 1
     → low ≡ with_side axis part (low_half (side_at axis part)) → high ≡ with_side axis part (high_half (side_at axis part))
     → ((w : List WaitingBox) → IsQueued w old → IsQueued (w ++ box_with m low ∷ []) mid)
@@ -161,3 +189,22 @@ halves_queued waiting splits axis m n part low high old mid new p q r s first se
     subst (λ (l : List WaitingBox). IsQueued l new)
     (two_more waiting (box_with m low) (box_with n high) ∙ two_boxes waiting m n _ _ low high _ _ p q r s)
     (second (waiting ++ box_with m low ∷ []) (first waiting queued))
+
+-- what is put behind those of its bit length waits last
+pub put_queued : (waiting : List WaitingBox) (bits : ℕ) (item : Item) (old new : List (List Item))
+    → bits ≡ bits_of (box_of item) → IsPushed old bits item new → IsQueued waiting old
+    → IsQueued (waiting ++ box_of item ∷ []) new
+put_queued waiting bits item old new same pushed queued other = elim (cases_eq other bits) [
+  | inl here ↦ subst
+      (λ (b : ℕ). boxes_at new b ≡ filter (has_bits b) (waiting ++ box_of item ∷ [])) (sym here)
+      (ap (map box_of) pushed.added ∙ map-append box_of (list_at old bits) (item ∷ [])
+      ∙ ap (λ l. l ++ box_of item ∷ []) (queued bits)
+      ∙ sym (filter-append (has_bits bits) waiting (box_of item ∷ [])
+      ∙ ap (λ l. filter (has_bits bits) waiting ++ l) (filter_yes (has_bits bits) (box_of item) []
+      (eq-eqb (bits_of (box_of item)) bits (sym same)))))
+  | inr apart ↦ ap (map box_of) (pushed.others other apart) ∙ queued other
+      ∙ sym (filter-append (has_bits other) waiting (box_of item ∷ [])
+      ∙ ap (λ l. filter (has_bits other) waiting ++ l) (filter_no (has_bits other) (box_of item) []
+      (apart_from bits other (box_of item) (sym same) apart))
+      ∙ append-nil (filter (has_bits other) waiting))
+]

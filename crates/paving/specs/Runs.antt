@@ -16,7 +16,9 @@ use Rattle.paving.specs.Taken.{TookAll, step_bytes}
 
 -- some whole run of steps was taken, one after another, and the counts are its own. So its steps
 -- pass all tests of a log, its pieces partition the root, and they cover what fits.
-pub record IsRun {L : Type 0} (took : L → Step → GridBox → L → Type 0) (rows : List Row) (rules : Rules) (root : GridBox) (first last : L) (counts : Counts) : Type 0 where
+pub record IsRun {L : Type 0} (took : L → Step → GridBox → L → Type 0)
+    (rows : List Row) (rules : Rules) (root : GridBox)
+    (first last : L) (counts : Counts) : Type 0 where
   pub steps : List ShownStep
   pub paved : Paved rows rules root steps
   pub taken : TookAll took first steps last
@@ -26,7 +28,9 @@ pub record IsRun {L : Type 0} (took : L → Step → GridBox → L → Type 0) (
 
 -- the first steps of a run were taken, and the next one broke: with this fault, which is that of
 -- want of room exactly where the step's line is longer than the bytes that were left
-pub record IsBroken {L : Type 0} (took broke : L → Step → GridBox → L → Type 0) (room : L → ℕ) (fault : StepFault) (rows : List Row) (rules : Rules) (root : GridBox) (first last : L) : Type 0 where
+pub record IsBroken {L : Type 0} (took broke : L → Step → GridBox → L → Type 0)
+    (room : L → ℕ) (fault : StepFault) (rows : List Row) (rules : Rules) (root : GridBox)
+    (first last : L) : Type 0 where
   pub steps : List ShownStep
   pub next : ShownStep
   pub paved_first : PavedFirst rows rules root (steps ++ next ∷ [])
@@ -34,9 +38,3 @@ pub record IsBroken {L : Type 0} (took broke : L → Step → GridBox → L → 
   pub taken : TookAll took first steps before
   pub broken : broke before next.step next.part last
   pub full : (fault ≡ Full) ↔ (room before < length (step_bytes next.step))
-
--- the first steps of a run were taken
-pub record IsStopped {L : Type 0} (took : L → Step → GridBox → L → Type 0) (rows : List Row) (rules : Rules) (root : GridBox) (first last : L) : Type 0 where
-  pub steps : List ShownStep
-  pub paved_first : PavedFirst rows rules root steps
-  pub taken : TookAll took first steps last

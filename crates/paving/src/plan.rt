@@ -3,32 +3,44 @@
 ghost use Rattle.std.specs.Prelude.{◌≡◌, ◌≤◌, ◌+◌, length, IfOk};
 ghost use Rattle.sat_model.specs.Boxes.{grid_box};
 
+use box_pool::Pool;
 use sat_model::{Box3, NoMemory, Row, Rules};
 use std::alloc::Global;
 use std::marker::Model;
 
-/// The rows and the rules of an epoch, and the root box, where they are to be searched.
+/// The rows and the rules of an epoch, the root box, where they are to be searched, and room for
+/// the boxes that will wait.
 #[derive(Drop)]
 pub struct Plan {
     pub(crate) rows: Vec<Row>,
     pub(crate) rules: Rules,
     pub(crate) root: Box3,
+    pub(crate) pool: Pool,
 }
 
 impl Model for Plan {
-    ghost use Rattle.std.specs.Prelude.{◌+◌, ◌≤◌, length};
+    ghost use Rattle.std.specs.Prelude.{◌≡◌, ◌+◌, ◌≤◌, length};
+    ghost use Rattle.box_pool.specs.Lists.{AllEmpty};
     ghost use Rattle.sat_model.specs.Boxes.{grid_box};
     ghost use Rattle.paving.specs.Plans.{PlanValue};
 
     ghost Value = { PlanValue };
 
-    ghost view = { λ plan. record { rows = plan.rows.items; rules = plan.rules; root = grid_box plan.root } };
+    ghost view = { λ plan. record {
+      rows = plan.rows.items;
+      rules = plan.rules;
+      root = grid_box plan.root;
+    } };
 
-    ghost invariant = { λ plan. (plan.rules.outliers + 4 ≤ length plan.rows.items) × (length plan.rows.items ≤ 64) };
+    ghost invariant = { λ plan. (plan.rules.outliers + 4 ≤ length plan.rows.items)
+        × (length plan.rows.items ≤ 64) × AllEmpty plan.pool.lists
+        × (plan.pool.spare ≡ plan.rules.bisections + 1) };
 }
 
 impl Plan {
     /// The plan of these rows, rules and root. Four rows more than may be inconsistent are needed.
+    /// All memory of the paving is taken here: each split makes one more box wait, so a node for
+    /// each split that is allowed and one for the root are enough.
     pub fn make(alloc: Global, rows: &[Row], rules: &Rules, root: &Box3) -> Result<Plan, NoMemory>
         requires { (rules.now.outliers + 4 ≤ length rows.now) × (length rows.now ≤ 64) }
         ensures rows { IfOk result (λ plan. plan.rows ≡ rows.now) }
@@ -41,6 +53,7 @@ impl Plan {
             rows: own,
             rules: *rules,
             root: *root,
+            pool: Pool::with_nodes(alloc, rules.bisections + 1)?,
         })
     }
 }

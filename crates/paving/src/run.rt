@@ -1,53 +1,64 @@
 //! The run of a paving.
 
-ghost use Rattle.std.specs.Prelude.{◌≡◌, ◌≢◌, ◌<◌, ◌≤◌, length, IfOk, IfErr, Err};
+ghost use Rattle.std.specs.Prelude.{◌≡◌, ◌<◌, ◌≤◌, ◌+◌, length, IfOk, IfErr, Err};
+ghost use Rattle.box_pool.specs.Lists.{AllEmpty};
 ghost use Rattle.sat_model.specs.Boxes.{grid_box};
 ghost use Rattle.paving.specs.Taken.{Rose};
-ghost use Rattle.paving.specs.Runs.{IsRun, IsBroken, IsStopped};
+ghost use Rattle.paving.specs.Runs.{IsRun, IsBroken};
 
 use crate::closing::closing_step;
 use crate::counts::Counts;
 use crate::plan::Plan;
 use crate::queues::Queues;
 use crate::steps::{StepFault, Steps};
+use box_pool::Pool;
 use sat_model::{Box3, Row, Rules};
-use std::alloc::Global;
 
 /// Paves the root of the plan, box by box, and hands each step to the log. Ends with the counts of
-/// the steps, or with the first fault of the log, or where memory for the boxes that wait ends.
-pub fn pave<L: Steps>(alloc: Global, plan: Plan, log: &mut L) -> Result<Counts, StepFault>
-    ensures run { IfOk result (λ counts. IsRun L.took plan.rows plan.rules plan.root log.old log.new counts) }
-    ensures broken { IfErr result (λ fault. fault ≢ StepFault.NoMemory → IsBroken L.took L.broke L.room fault plan.rows plan.rules plan.root log.old log.new) }
-    ensures stopped { IfErr result (λ fault. fault ≡ StepFault.NoMemory → IsStopped L.took plan.rows plan.rules plan.root log.old log.new) }
+/// the steps, or with the first fault of the log. It takes no memory: that of the plan is enough.
+pub fn pave<L: Steps>(plan: Plan, log: &mut L) -> Result<Counts, StepFault>
+    ensures run { IfOk result (λ counts. IsRun L.took plan.rows plan.rules plan.root
+        log.old log.new counts) }
+    ensures broken { IfErr result (λ fault. IsBroken L.took L.broke L.room fault
+        plan.rows plan.rules plan.root log.old log.new) }
     ensures failed { result ≡ Err StepFault.Failed → Rose (L.faults log.old) (L.faults log.new) }
     ensures counted { L.faults log.old ≤ L.faults log.new }
     ensures budget { IfOk result (λ counts. counts.bisections ≤ plan.rules.bisections) }
 {
-    pave_box(alloc, &plan.rows, &plan.rules, &plan.root, log)
+    let Plan {
+        rows,
+        rules,
+        root,
+        pool,
+    } = plan;
+    pave_box(&rows, &rules, &root, pool, log)
 }
 
-/// Paves a box by these rows and rules.
+/// Paves a box by these rows and rules, in a pool with a node for each split and one more.
 fn pave_box<L: Steps>(
-    alloc: Global,
     rows: &[Row],
     rules: &Rules,
     root: &Box3,
+    pool: Pool,
     log: &mut L,
 ) -> Result<Counts, StepFault>
-    requires { (rules.now.outliers < length rows.now) × (length rows.now ≤ 64) }
-    ensures run { IfOk result (λ counts. IsRun L.took rows.now rules.now (grid_box root.now) log.old log.new counts) }
-    ensures broken { IfErr result (λ fault. fault ≢ StepFault.NoMemory → IsBroken L.took L.broke L.room fault rows.now rules.now (grid_box root.now) log.old log.new) }
-    ensures stopped { IfErr result (λ fault. fault ≡ StepFault.NoMemory → IsStopped L.took rows.now rules.now (grid_box root.now) log.old log.new) }
+    requires rows { (rules.now.outliers < length rows.now) × (length rows.now ≤ 64) }
+    requires empty { AllEmpty pool.lists }
+    requires room { pool.spare ≡ rules.now.bisections + 1 }
+    ensures run { IfOk result (λ counts. IsRun L.took rows.now rules.now (grid_box root.now)
+        log.old log.new counts) }
+    ensures broken { IfErr result (λ fault. IsBroken L.took L.broke L.room fault
+        rows.now rules.now (grid_box root.now) log.old log.new) }
     ensures failed { result ≡ Err StepFault.Failed → Rose (L.faults log.old) (L.faults log.new) }
     ensures counted { L.faults log.old ≤ L.faults log.new }
     ensures budget { IfOk result (λ counts. counts.bisections ≤ rules.now.bisections) }
 {
     let mut counts = Counts::default();
-    let mut queues = Queues::of_root(alloc, root)?;
+    let mut queues = Queues::of_root(pool, root);
     while let Some(next) = queues.take_next() {
         let step = closing_step(rows, rules, &next, counts.bisections);
         log.step(&step, &next.part)?;
-        queues.open(&step, &next.part, counts.bisections)?;
+        queues.open(&step, &next.part, counts.bisections);
         counts.add(&step);
     }
     Ok(counts)
