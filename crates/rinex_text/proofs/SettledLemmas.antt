@@ -1,5 +1,5 @@
 -- The first fault of a file comes of the lines up to it.
-use Rattle.std.proofs.Common.{◌≡◌, ℕ, zero, suc, ◌+◌, ◌-◌, ◌≤◌, ◌∙◌, Bool, true, false, cond, List, [], ◌∷◌, ◌++◌, length, take, drop, refl, ap, sym, subst, inl, inr, arith, Result, Ok, Err}
+use Rattle.std.proofs.Common.{◌≡◌, ℕ, zero, suc, ◌+◌, ◌-◌, ◌≤◌, ◌∙◌, Bool, true, false, List, [], ◌∷◌, ◌++◌, length, take, drop, refl, ap, sym, subst, inl, inr, arith, Result, Ok, Err}
 use Rattle.std.specs.Prelude.{◌&&◌}
 use Rattle.std.specs.List.{list_all}
 use Rattle.std.proofs.lemmas.Bool.{cases_Bool}
@@ -83,10 +83,10 @@ all_blank (line ∷ more) e = elim (cases_Bool (is_blank_line line)) [
   | inl h ↦ elim (cases_Bool (list_all is_blank_line more)) [
     | inl all ↦ rw (h, all) refl
     | inr some ↦ absurd (let b = counts_before line (counted more) (λ none. absurd (let f : true ≡ false = sym (all_blank more none) ∙ some in cc)) in
-    let f : ◌≡◌ {A = List TextLine} [] (line ∷ b.later) = sym e ∙ b.spelled in cc)
+        let f : ◌≡◌ {A = List TextLine} [] (line ∷ b.later) = sym e ∙ b.spelled in cc)
   ]
   | inr h ↦ absurd (let b = counts_before line (counted more) (λ none. h) in
-  let f : ◌≡◌ {A = List TextLine} [] (line ∷ b.later) = sym e ∙ b.spelled in cc)
+      let f : ◌≡◌ {A = List TextLine} [] (line ∷ b.later) = sym e ∙ b.spelled in cc)
 ]
 
 some_counts : (line : TextLine) (more : List TextLine) → list_all is_blank_line (line ∷ more) ≡ false → BeginsWith line (counted (line ∷ more))
@@ -109,9 +109,9 @@ counted_alike zero (line ∷ more) those e blank =
     elim (cases_Bool (list_all is_blank_line (line ∷ more))) [
       | inl all ↦ rw (none_counts (line ∷ more) all, none_counts those (sym blank ∙ all)) refl
       | inr some ↦
-        let these_are = some_counts line more some in
-        let those_are = some_counts line begun.rest (subst (λ (l : List TextLine). list_all is_blank_line l ≡ false) begun.spelled (sym blank ∙ some)) in
-        rw begun.spelled (ap (take 1) these_are.spelled ∙ sym (ap (take 1) those_are.spelled))
+          let these_are = some_counts line more some in
+          let those_are = some_counts line begun.rest (subst (λ (l : List TextLine). list_all is_blank_line l ≡ false) begun.spelled (sym blank ∙ some)) in
+          rw begun.spelled (ap (take 1) these_are.spelled ∙ sym (ap (take 1) those_are.spelled))
     ]
 counted_alike (suc k) (line ∷ more) those e blank =
     let begun = begin_with (suc k) line more those e in
@@ -144,7 +144,7 @@ settled_here number reader line more r f e fails = record {
   behind = 0;
   line_is = fault_line r f number e;
   moves = λ others same. let begun = begin_with 0 line more others same in
-  subst (λ (l : List TextLine). reader l (Err r)) (sym begun.spelled) (fails begun.rest);
+      subst (λ (l : List TextLine). reader l (Err r)) (sym begun.spelled) (fails begun.rest);
 }
 
 pub settled_at_end : {X : Type 0} (number : ℕ) (reader : List TextLine → Result X Refusal → Type 0) (r : Refusal) (f : Fault) → ◌≡◌ {A = Result X Refusal} (Err r) (Err (refusal f number)) → reader [] (Err r)
@@ -156,13 +156,13 @@ settled_at_end number reader r f e fails = record {
 }
 
 -- the fault comes behind the first line
-pub settled_later : {X : Type 0} (number : ℕ) (reader later : List TextLine → Result X Refusal → Type 0) (line : TextLine) (more : List TextLine) (r : Refusal) (s : Settles (number + 1) later more r)
+unfoldable pub settled_later : {X Y : Type 0} (number : ℕ) (reader : List TextLine → Result X Refusal → Type 0) (later : List TextLine → Result Y Refusal → Type 0) (line : TextLine) (more : List TextLine) (r : Refusal) (s : Settles (number + 1) later more r)
     → ((rest : List TextLine) → take (suc s.behind) more ≡ take (suc s.behind) rest → reader (line ∷ rest) (Err r)) → Settles number reader (line ∷ more) r
 settled_later number reader later line more r s goes = record {
   behind = suc s.behind;
   line_is = omega (arith, s.line_is);
   moves = λ others same. let begun = begin_with (suc s.behind) line more others same in
-  subst (λ (l : List TextLine). reader l (Err r)) (sym begun.spelled) (goes begun.rest begun.alike);
+      subst (λ (l : List TextLine). reader l (Err r)) (sym begun.spelled) (goes begun.rest begun.alike);
 }
 
 module _ {V X : Type 0} (reader : TextLine → Result V Fault → Type 0) (number : ℕ) (later : V → Behind → Result X Refusal → Type 0) where
@@ -189,6 +189,14 @@ version_settled kind [] r e = settled_at_end 1 (version_of kind) r NotRinex e e
 version_settled kind (line ∷ more) r (inl (v, is, e)) = absurd (not_both _ r (sym e))
 version_settled kind (line ∷ more) r (inr (f, is, e)) = settled_here 1 (version_of kind) line more r f e (λ rest. inr (f, is, e))
 
+-- a version line that is passed, with other lines behind it
+pub version_passed : (kind : ℕ) (line : TextLine) (more rest : List TextLine) (version : Behind) → version_of kind (line ∷ more) (Ok version)
+    → (version.lines ≡ more) × (version.number ≡ 2) × version_of kind (line ∷ rest) (Ok (record { number = 2; lines = rest }))
+version_passed kind line more rest version (inl (v, is, e)) =
+    let same = ok_same version _ e in
+    (ap (λ (b : Behind). b.lines) same, ap (λ (b : Behind). b.number) same, inl (v, is, refl))
+version_passed kind line more rest version (inr (f, is, e)) = absurd (not_both _ _ e)
+
 pub header_settled : (number : ℕ) → AreSettled number (header_from number)
 header_settled number [] r e = settled_at_end number (header_from number) r NoEndOfHeader e e
 header_settled number (line ∷ more) r (inl (short, inl (is, e))) = absurd (not_both _ r (sym e))
@@ -197,7 +205,7 @@ header_settled number (line ∷ more) r (inl (short, inr (other, h))) =
     settled_later number (header_from number) (header_from (number + 1)) line more r s (λ rest same. inl (short, inr (other, s.moves rest same)))
 header_settled number (line ∷ more) r (inr (long, e)) = settled_here number (header_from number) line more r LongLine e (λ rest. inr (long, e))
 
--- A header was read, and stands whatever is behind it. `Gives` says what it gives with lines behind it.
+-- A header was read, and stands whatever is behind it. `with` is what it gives, with lines behind it.
 pub record IsFront {X : Type 0} (number : ℕ) (reader : List TextLine → Result X Refusal → Type 0) (lines : List TextLine) (behind : Behind) (with : List TextLine → X) : Type 0 where
   pub front : List TextLine
   pub spelled : lines ≡ front ++ behind.lines
@@ -240,8 +248,8 @@ in_body k line version front behind others e agree =
     let from : line - 1 ≡ length top + k = omega (arith, e) in
     let further = go_on_from (suc k) line top behind others (omega (arith, e)) agree.same in
     let same : list_all is_blank_line (drop k behind) ≡ list_all is_blank_line (drop k further.rest) =
-      ap (list_all is_blank_line) (sym (drop_front k (line - 1) top behind from))
-      ∙ (agree.blank ∙ (ap (λ (l : List TextLine). list_all is_blank_line (drop (line - 1) l)) further.spelled ∙ ap (list_all is_blank_line) (drop_front k (line - 1) top further.rest from))) in
+    ap (list_all is_blank_line) (sym (drop_front k (line - 1) top behind from))
+    ∙ (agree.blank ∙ (ap (λ (l : List TextLine). list_all is_blank_line (drop (line - 1) l)) further.spelled ∙ ap (list_all is_blank_line) (drop_front k (line - 1) top further.rest from))) in
     record { rest = further.rest; spelled = further.spelled; alike = counted_alike k behind further.rest further.alike same }
 
 -- the fault stands in the header
