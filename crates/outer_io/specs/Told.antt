@@ -18,11 +18,21 @@ pub record FilePosition : Type 0 where
   pub name : List ℕ
   pub from : ℕ
 
+-- What a shelf in memory was made with. No call changes it.
+pub record ShelfTerms : Type 0 where
+  -- the one file that can be created
+  pub log : List ℕ
+  -- the most bytes that `write` takes in all
+  pub room : ℕ
+  -- the numbers, from 1, of the calls that are to fail
+  pub fails : List ℕ
+
 pub record Told : Type 0 where
   pub files : Files
   pub positions : Slots FilePosition
   -- the bytes that `write` took in all
   pub written : ℕ
+  pub terms : ShelfTerms
 
 -- What is seen of a shelf: what it tells, where it tells anything; what each slot is open for; how
 -- often `begin` and `read` have failed, but for a name that is told and missing; and how often
@@ -40,6 +50,10 @@ files_of s = option_map (λ t. t.files) s.told
 -- how many bytes were written in all, where it is told
 abbrev pub written_of : ShelfState → Option ℕ
 written_of s = option_map (λ t. t.written) s.told
+
+-- what it was made with, where it is told
+abbrev pub terms_of : ShelfState → Option ShelfTerms
+terms_of s = option_map (λ t. t.terms) s.told
 
 -- the bytes of a file, and none where there is no such file
 abbrev pub content : Files → List ℕ → List ℕ
@@ -114,6 +128,7 @@ appended slot (b ∷ bytes) t =
       files = map.insert t.files name (content t.files name ++ b ∷ bytes);
       positions = put t.positions slot (record { name = name; from = from + length (b ∷ bytes) });
       written = t.written + length (b ∷ bytes);
+      terms = t.terms;
     }
 
 -- these bytes were appended

@@ -7,7 +7,7 @@ ghost use Rattle.outer_io.specs.declared.shelf.Phase.{Phase};
 ghost use Rattle.outer_io.specs.Marks.{WritesLog};
 ghost use Rattle.outer_io.specs.Slots.{AtEach, all};
 ghost use Rattle.outer_io.specs.Store.{HaveOwnNames, listed, files_in, name_of};
-ghost use Rattle.outer_io.specs.Told.{content, files_of, written_of};
+ghost use Rattle.outer_io.specs.Told.{Told, content, files_of, written_of, terms_of};
 
 use crate::failing_calls::FailingCalls;
 use crate::marks::Mark;
@@ -46,6 +46,9 @@ impl MemoryShelf {
             files_of (⟦<MemoryShelf as Shelf>⟧.state s) ≡ Some (listed files.items)) }
         ensures written { IfOk result (λ s.
             written_of (⟦<MemoryShelf as Shelf>⟧.state s) ≡ Some 0) }
+        ensures terms { IfOk result (λ s.
+            terms_of (⟦<MemoryShelf as Shelf>⟧.state s)
+            ≡ Some (record { log = string_bytes log; room = room; fails = fails.items })) }
         ensures closed { IfOk result (λ s.
             (⟦<MemoryShelf as Shelf>⟧.state s).phases ≡ all Phase.Closed) }
         ensures read_faults { IfOk result (λ s.
@@ -77,6 +80,18 @@ impl MemoryShelf {
     {
         self.store.file(name)
     }
+
+    /// How many bytes may still be written. A shelf of which no call is to fail is reliable, and
+    /// while there is room its log is too.
+    pub fn room(&self) -> u64
+        ensures left { (t : Told) → (⟦<MemoryShelf as Shelf>⟧.state self.now).told ≡ Some t
+            → t.written + result ≡ t.terms.room }
+        ensures reliable { (t : Told) → (⟦<MemoryShelf as Shelf>⟧.state self.now).told ≡ Some t
+            → t.terms.fails ≡ [] → ⟦<MemoryShelf as Shelf>⟧.reliable self.now None
+            × (0 < result → ⟦<MemoryShelf as Shelf>⟧.reliable self.now (Some t.terms.log)) }
+    {
+        self.store.room()
+    }
 }
 
 // What is left to read at the mark.
@@ -102,7 +117,8 @@ impl Shelf for MemoryShelf {
     ghost use Rattle.outer_io.specs.Marks.{state_of};
     ghost use Rattle.outer_io.specs.Store.{HasRoomFor};
 
-    ghost state = { λ s. state_of s.store s.marks s.read_faults s.write_faults };
+    ghost state = { λ s.
+        state_of s.failing.numbers.items s.store s.marks s.read_faults s.write_faults };
 
     ghost fails_at = { λ s k. IsListed s.failing k };
 
