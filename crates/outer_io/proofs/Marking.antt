@@ -19,22 +19,22 @@ use Rattle.outer_io.proofs.Covering.{created-files, longer-files}
 abbrev pub left_at : Store → Mark → List ℕ
 left_at s mark = drop mark.from (content (files_in s) (name_of s mark.file))
 
-pub left-at : (fails : List ℕ) (s : Store) (marks : Slots Mark) (slot : Slot) → left slot (told_of fails s marks) ≡ left_at s (at marks slot)
-left-at fails s marks slot = ap (λ (place : FilePosition). drop place.from (content (files_in s) place.name)) (each-at (position_of s) marks slot)
+pub left-at : (piece : ℕ) (fails : List ℕ) (s : Store) (marks : Slots Mark) (slot : Slot) → left slot (told_of piece fails s marks) ≡ left_at s (at marks slot)
+left-at piece fails s marks slot = ap (λ (place : FilePosition). drop place.from (content (files_in s) place.name)) (each-at (position_of s) marks slot)
 
-pub left-put : (fails : List ℕ) (s : Store) (marks : Slots Mark) (slot : Slot) (mark : Mark) → left slot (told_of fails s (put marks slot mark)) ≡ left_at s mark
-left-put fails s marks slot mark = left-at fails s (put marks slot mark) slot ∙ ap (left_at s) (at-put marks slot mark)
+pub left-put : (piece : ℕ) (fails : List ℕ) (s : Store) (marks : Slots Mark) (slot : Slot) (mark : Mark) → left slot (told_of piece fails s (put marks slot mark)) ≡ left_at s mark
+left-put piece fails s marks slot mark = left-at piece fails s (put marks slot mark) slot ∙ ap (left_at s) (at-put marks slot mark)
 
 -- a new log, with a slot at its start
-pub told-created : (fails : List ℕ) (s : Store) (marks : Slots Mark) (slot : Slot) (mark : Mark) (name : List ℕ) → name ≡ s.log_name → mark.file ≡ id.Log → mark.from ≡ 0
-    → told_of fails (record s { log = Some [] }) (put marks slot mark) ≡ created name slot (told_of fails s marks)
-told-created fails s marks slot mark name named in_log start =
+pub told-created : (piece : ℕ) (fails : List ℕ) (s : Store) (marks : Slots Mark) (slot : Slot) (mark : Mark) (name : List ℕ) → name ≡ s.log_name → mark.file ≡ id.Log → mark.from ≡ 0
+    → told_of piece fails (record s { log = Some [] }) (put marks slot mark) ≡ created name slot (told_of piece fails s marks)
+told-created piece fails s marks slot mark name named in_log start =
     let place : position_of s mark ≡ record { name = name; from = 0 } = λ i. record { name = (ap (name_of s) in_log ∙ sym named) i; from = start i } in
     let files : files_in (record s { log = Some [] }) ≡ map.insert (files_in s) name [] =
     created-files (listed s.files) s.log_name s.log [] ∙ ap (λ n. map.insert (files_in s) n []) (sym named) in
     let positions : each (position_of s) (put marks slot mark) ≡ put (each (position_of s) marks) slot (record { name = name; from = 0 }) =
     each-put (position_of s) marks slot mark ∙ ap (put (each (position_of s) marks) slot) place in
-    λ i. record { files = files i; positions = positions i; written = s.written; terms = (told_of fails s marks).terms }
+    λ i. record { files = files i; positions = positions i; written = s.written; terms = (told_of piece fails s marks).terms }
 
 -- what a piece that isn't empty makes of a slot at this place
 appended-at : (slot : Slot) (bytes : List ℕ) (t : Told) (place : FilePosition) → 0 < length bytes → at t.positions slot ≡ place → appended slot bytes t ≡ record {
@@ -53,11 +53,11 @@ appended-at slot (b ∷ bytes) t place some is = ap (λ (p : FilePosition).
     } in r) is
 
 -- a longer log, with a slot so much further on
-pub told-appended : (fails : List ℕ) (s : Store) (marks : Slots Mark) (slot : Slot) (bytes : List ℕ) → 0 < length bytes → length bytes ≤ s.room
+pub told-appended : (piece : ℕ) (fails : List ℕ) (s : Store) (marks : Slots Mark) (slot : Slot) (bytes : List ℕ) → 0 < length bytes → length bytes ≤ s.room
     → is_some s.log ≡ true → (at marks slot).file ≡ id.Log
-    → told_of fails (grown s bytes) (put marks slot (record (at marks slot) { from = (at marks slot).from + length bytes }))
-    ≡ appended slot bytes (told_of fails s marks)
-told-appended fails s marks slot bytes some fits is_created in_log =
+    → told_of piece fails (grown s bytes) (put marks slot (record (at marks slot) { from = (at marks slot).from + length bytes }))
+    ≡ appended slot bytes (told_of piece fails s marks)
+told-appended piece fails s marks slot bytes some fits is_created in_log =
     let from = (at marks slot).from in
     let name : name_of s (at marks slot).file ≡ s.log_name = ap (name_of s) in_log in
     let place : at (each (position_of s) marks) slot ≡ record { name = s.log_name; from = from } =
@@ -67,8 +67,8 @@ told-appended fails s marks slot bytes some fits is_created in_log =
     ≡ put (each (position_of s) marks) slot (record { name = s.log_name; from = from + length bytes }) =
     each-put (position_of s) marks slot _ ∙ (λ i. put (each (position_of s) marks) slot (record { name = name i; from = from + length bytes })) in
     let room : (s.written + length bytes) + (s.room - length bytes) ≡ s.written + s.room = omega (arith, fits) in
-    (λ i. record { files = files i; positions = positions i; written = s.written + length bytes; terms = record { log = s.log_name; room = room i; fails = fails } })
-    ∙ sym (appended-at slot bytes (told_of fails s marks) (record { name = s.log_name; from = from }) some place)
+    (λ i. record { files = files i; positions = positions i; written = s.written + length bytes; terms = record { log = s.log_name; room = room i; piece = piece; fails = fails } })
+    ∙ sym (appended-at slot bytes (told_of piece fails s marks) (record { name = s.log_name; from = from }) some place)
 
 -- a slot that writes stands in the log
 pub writing-mark : (s : Store) (marks : Slots Mark) (slot : Slot) → AtEach (WritesLog s) marks → at (each (λ mark. mark.phase) marks) slot ≡ Writing

@@ -87,7 +87,7 @@ impl Sink for MemorySink {
             self.faults = self.faults.saturating_add(1);
             return Err(Failed);
         }
-        let count = part(bytes.len(), self.room);
+        let count = part(bytes.len(), self.room, usize::MAX);
         match self.bytes.extend_from_slice(&bytes[..count]) {
             Ok(()) => {
                 self.room -= count as u64;
