@@ -196,7 +196,11 @@ opens_then (of ∷ xs) ys all a b c (phase, reads, inr more) behind =
 
 leaves_then : (a b c : ShelfState) → LeavesFiles a b → LeavesFiles b c → LeavesFiles a c
 leaves_then a b c here behind =
-    record { files = behind.files ∙ here.files; written = behind.written ∙ here.written }
+    record {
+      files = behind.files ∙ here.files;
+      written = behind.written ∙ here.written;
+      terms = behind.terms ∙ here.terms;
+    }
 
 pub only_err : {V W : Type 0} (xs ys : List Slot) (a b : ShelfState) (n : Notice)
     → OnlyReads {V = V} xs a b (Err n) → OnlyReads {V = W} (xs ++ ys) a b (Err n)

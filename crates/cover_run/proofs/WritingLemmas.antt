@@ -59,6 +59,17 @@ counts_are None after name bytes e = ap (option_map (λ (t : Told). t.written)) 
 counts_are (Some t) after name bytes e =
     ap (option_map (λ (t : Told). t.written)) e ∙ ap Some (count_is t name bytes)
 
+same_terms : (t : Told) (bytes : List ℕ) → (appended Log bytes t).terms ≡ t.terms
+same_terms t [] = refl
+same_terms t (b ∷ bytes) = refl
+
+terms_are : (told after : Option Told) (name bytes : List ℕ)
+    → after ≡ option_map (appended Log bytes) (option_map (created name Log) told)
+    → option_map (λ t. t.terms) after ≡ option_map (λ t. t.terms) told
+terms_are None after name bytes e = ap (option_map (λ (t : Told). t.terms)) e
+terms_are (Some t) after name bytes e = ap (option_map (λ (t : Told). t.terms)) e
+    ∙ ap Some (same_terms (created name Log t) bytes)
+
 -- ---- a log that was created
 
 -- how it was
@@ -92,6 +103,7 @@ module _ (name : List ℕ) (before after : World) (trust : Trust) (mid : ShelfSt
       record {
         files = files_are before.shelf.told after.shelf.told name bytes e;
         written = counts_are before.shelf.told after.shelf.told name bytes e;
+        terms = terms_are before.shelf.told after.shelf.told name bytes e;
       }
 
   module _ (limit most : ℕ) (IsText : Answer → (bytes said : List ℕ) → Type 0) (s : Status) where
@@ -147,6 +159,7 @@ module _ {V : Type 0} (slots : List Slot) (name : List ℕ) (before mid after : 
   leaves_behind leaves = record {
     files = leaves.files ∙ only.untouched.leaves.files;
     written = leaves.written ∙ only.untouched.leaves.written;
+    terms = leaves.terms ∙ only.untouched.leaves.terms;
   }
 
   rewrites_behind : (bytes : List ℕ) → Rewrites mid.shelf after.shelf name bytes
@@ -155,6 +168,7 @@ module _ {V : Type 0} (slots : List Slot) (name : List ℕ) (before mid after : 
     files = r.files ∙ ap (option_map (λ fs. map.insert fs name bytes)) only.untouched.leaves.files;
     written =
         r.written ∙ ap (option_map (λ count. count + length bytes)) only.untouched.leaves.written;
+    terms = r.terms ∙ only.untouched.leaves.terms;
   }
 
   cause_behind : (fault : WriteFault) → IsCause name mid after trust fault

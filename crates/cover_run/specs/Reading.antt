@@ -5,7 +5,7 @@ use Rattle.std.specs.Option.{option_map}
 use Rattle.std.specs.FinMap as map
 use Rattle.outer_io.specs.Causes.{Rose}
 use Rattle.outer_io.specs.Slots.{put}
-use Rattle.outer_io.specs.Told.{Files, ShelfState, files_of, written_of}
+use Rattle.outer_io.specs.Told.{Files, ShelfState, files_of, written_of, terms_of}
 use Rattle.outer_io.specs.declared.shelf.Phase.{Phase}
 use Rattle.outer_io.specs.declared.shelf.Phase.TheVariants.{Writing}
 use Rattle.outer_io.specs.declared.slots.Slot.{Slot}
@@ -163,10 +163,11 @@ Opens [] all old new = (all ≡ true) × (new ≡ old)
 Opens (of ∷ more) all old new = (phase : Phase) × (phase ≢ Writing)
     × (((all ≡ false) × (new ≡ put old of phase)) ⊎ Opens more all (put old of phase) new)
 
--- no file has changed, and nothing was written
+-- no file has changed, and nothing was written; what the shelf was made with never changes
 pub record LeavesFiles (before after : ShelfState) : Type 0 where
   pub files : files_of after ≡ files_of before
   pub written : written_of after ≡ written_of before
+  pub terms : terms_of after ≡ terms_of before
 
 -- and the slots alone were opened
 pub record Untouched (slots : List Slot) (all : Bool) (before after : ShelfState) : Type 0 where

@@ -4,7 +4,7 @@ use Rattle.std.specs.Option.{option_map}
 use Rattle.std.specs.FinMap as map
 use Rattle.outer_io.specs.Causes.{Rose}
 use Rattle.outer_io.specs.Taken.{SinkState, TakenBy, TakenPrefix}
-use Rattle.outer_io.specs.Told.{ShelfState, files_of, written_of}
+use Rattle.outer_io.specs.Told.{ShelfState, files_of, written_of, terms_of}
 use Rattle.cover_run.specs.Texts.{notice_text}
 use Rattle.cover_run.specs.declared.notice.Notice.{Notice}
 
@@ -30,3 +30,4 @@ Says old new n = Gets old new (notice_text n)
 pub record Rewrites (before after : ShelfState) (name bytes : List ℕ) : Type 0 where
   pub files : files_of after ≡ option_map (λ files. map.insert files name bytes) (files_of before)
   pub written : written_of after ≡ option_map (λ count. count + length bytes) (written_of before)
+  pub terms : terms_of after ≡ terms_of before

@@ -1,11 +1,12 @@
 -- Pieces put one after another.
 use Rattle.std.proofs.Common.{◌≡◌, ℕ, ◌+◌, ◌≤◌, ◌<◌, List, [], ◌∷◌, ◌++◌, length, add-one, Option, Result, Ok, Err, refl, sym, ap, subst, ◌∙◌, append_assoc, append-nil, arith, length-append}
 use Rattle.std.specs.Prelude.{OnOk}
-use Rattle.std.specs.Io.KnownBytes.{append_known}
+use Rattle.std.specs.Option.{option_map}
 use Rattle.std.proofs.lemmas.List.Concat.{flat_map-append}
 use Rattle.outer_io.specs.declared.slots.Slot.TheVariants as slot
 use Rattle.outer_io.specs.Causes.{Rose}
-use Rattle.outer_io.proofs.Appending.{appended-none, appended-twice, append_known-nil, append_known-append}
+use Rattle.outer_io.specs.Taken.{taking}
+use Rattle.outer_io.proofs.Appending.{appended-none, appended-twice, taking-none, taking-twice}
 use Rattle.log_writer.specs.declared.fault.WriteFault.{WriteFault}
 use Rattle.log_writer.specs.declared.fault.WriteFault.TheVariants as why
 use Rattle.log_writer.specs.Pieces.{Piece, piece, log_bytes, report_bytes}
@@ -23,7 +24,7 @@ report_bytes-append xs ys = flat_map-append (λ (p : Piece). p.report) xs ys
 pub sent_none : (a : Devices) → Sent a [] [] a
 sent_none a = record {
   appended = appended-none slot.Log a.shelf.told;
-  taken = append_known-nil a.out.taken;
+  taken = taking-none a.out.told;
   phases = refl;
   log_faults = omega arith;
   out_faults = omega arith;
@@ -32,7 +33,7 @@ sent_none a = record {
 pub sent_twice : (a b c : Devices) (log more report also : List ℕ) → Sent a log report b → Sent b more also c → Sent a (log ++ more) (report ++ also) c
 sent_twice a b c log more report also f g = record {
   appended = appended-twice slot.Log log more a.shelf.told b.shelf.told c.shelf.told f.appended g.appended;
-  taken = g.taken ∙ ap (λ (o : Option (List ℕ)). append_known o also) f.taken ∙ append_known-append a.out.taken report also;
+  taken = g.taken ∙ ap (option_map (taking also)) f.taken ∙ taking-twice a.out.told report also;
   phases = g.phases ∙ f.phases;
   log_faults = omega (arith, f.log_faults, g.log_faults);
   out_faults = omega (arith, f.out_faults, g.out_faults);

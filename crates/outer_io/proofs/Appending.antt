@@ -1,7 +1,6 @@
 -- A piece that goes out in several writes.
 use Rattle.std.proofs.Common.{◌≡◌, ℕ, ◌+◌, ◌-◌, List, [], ◌∷◌, ◌++◌, length, take, drop, Option, None, Some, refl, sym, ap, ◌∙◌, append_assoc, append-nil, arith, cond, Bool, true, false, length-append, length-drop, unwrap_or}
 use Rattle.std.proofs.Math.Seq.{take-add, take-length}
-use Rattle.std.specs.Io.KnownBytes.{append_known}
 use Rattle.std.specs.Option.{option_map}
 use Rattle.std.specs.Ordering.{nat_cmp, eq_by_cmp}
 use Rattle.std.proofs.lemmas.Cmp.{nat_list_cmp_total, eq_by_cmp_equiv}
@@ -10,15 +9,19 @@ use Rattle.std.specs.FinMap as map
 use Rattle.outer_io.specs.declared.slots.Slot.{Slot}
 use Rattle.outer_io.specs.Slots.{at, put}
 use Rattle.outer_io.proofs.SlotLemmas.{at-put, put-put}
+use Rattle.outer_io.specs.Taken.{SinkTold, taking}
 use Rattle.outer_io.specs.Told.{Files, Told, content, appended}
 
-pub append_known-nil : (a : Option (List ℕ)) → a ≡ append_known a []
-append_known-nil None = refl
-append_known-nil (Some xs) = ap Some (sym (append-nil xs))
+taking-nothing : (t : SinkTold) → t ≡ taking [] t
+taking-nothing t = λ i. record t { bytes = sym (append-nil t.bytes) i }
 
-pub append_known-append : (a : Option (List ℕ)) (xs ys : List ℕ) → append_known (append_known a xs) ys ≡ append_known a (xs ++ ys)
-append_known-append None xs ys = refl
-append_known-append (Some zs) xs ys = ap Some (append_assoc zs xs ys)
+pub taking-none : (a : Option SinkTold) → a ≡ option_map (taking []) a
+taking-none None = refl
+taking-none (Some t) = ap Some (taking-nothing t)
+
+pub taking-twice : (a : Option SinkTold) (xs ys : List ℕ) → option_map (taking ys) (option_map (taking xs) a) ≡ option_map (taking (xs ++ ys)) a
+taking-twice None xs ys = refl
+taking-twice (Some t) xs ys = λ i. Some (record t { bytes = append_assoc t.bytes xs ys i })
 
 -- the first bytes, and then the first of the rest
 front_of_rest : (bytes : List ℕ) (done k : ℕ) → take done bytes ++ take k (drop done bytes) ≡ take (done + k) bytes
@@ -27,11 +30,11 @@ front_of_rest bytes done k = sym (take-add done k bytes)
 rest_whole : (bytes : List ℕ) (done : ℕ) → take (length bytes - done) (drop done bytes) ≡ drop done bytes
 rest_whole bytes done = ap (λ n. take n (drop done bytes)) (sym (length-drop done bytes)) ∙ take-length (drop done bytes)
 
-pub taken-more : (a b c : Option (List ℕ)) (bytes : List ℕ) (done k : ℕ)
-    → b ≡ append_known a (take done bytes) → c ≡ append_known b (take k (take (length bytes - done) (drop done bytes))) → c ≡ append_known a (take (done + k) bytes)
+pub taken-more : (a b c : Option SinkTold) (bytes : List ℕ) (done k : ℕ)
+    → b ≡ option_map (taking (take done bytes)) a → c ≡ option_map (taking (take k (take (length bytes - done) (drop done bytes)))) b → c ≡ option_map (taking (take (done + k) bytes)) a
 taken-more a b c bytes done k before then =
-    then ∙ ap (λ p. append_known b (take k p)) (rest_whole bytes done) ∙ ap (λ o. append_known o (take k (drop done bytes))) before
-    ∙ append_known-append a _ _ ∙ ap (append_known a) (front_of_rest bytes done k)
+    then ∙ ap (λ p. option_map (taking (take k p)) b) (rest_whole bytes done) ∙ ap (λ o. option_map (taking (take k (drop done bytes))) o) before
+    ∙ taking-twice a _ _ ∙ ap (λ p. option_map (taking p) a) (front_of_rest bytes done k)
 
 -- ---- a shelf's file
 
@@ -64,9 +67,9 @@ appended-append slot (x ∷ xs) (y ∷ ys) t =
     let positions : (from + length (x ∷ xs)) + length (y ∷ ys) ≡ from + length (x ∷ (xs ++ y ∷ ys)) = simp length-append (omega arith) in
     let written : (t.written + length (x ∷ xs)) + length (y ∷ ys) ≡ t.written + length (x ∷ (xs ++ y ∷ ys)) = simp length-append (omega arith) in
     let all : ◌≡◌ {A = Told}
-    (record { files = map.insert t.files name ((content t.files name ++ x ∷ xs) ++ y ∷ ys); positions = put t.positions slot (record { name = name; from = (from + length (x ∷ xs)) + length (y ∷ ys) }); written = (t.written + length (x ∷ xs)) + length (y ∷ ys) })
-    (record { files = map.insert t.files name (content t.files name ++ x ∷ (xs ++ y ∷ ys)); positions = put t.positions slot (record { name = name; from = from + length (x ∷ (xs ++ y ∷ ys)) }); written = t.written + length (x ∷ (xs ++ y ∷ ys)) }) =
-    λ i. record { files = map.insert t.files name (bytes i); positions = put t.positions slot (record { name = name; from = positions i }); written = written i } in
+    (record { files = map.insert t.files name ((content t.files name ++ x ∷ xs) ++ y ∷ ys); positions = put t.positions slot (record { name = name; from = (from + length (x ∷ xs)) + length (y ∷ ys) }); written = (t.written + length (x ∷ xs)) + length (y ∷ ys); terms = t.terms })
+    (record { files = map.insert t.files name (content t.files name ++ x ∷ (xs ++ y ∷ ys)); positions = put t.positions slot (record { name = name; from = from + length (x ∷ (xs ++ y ∷ ys)) }); written = t.written + length (x ∷ (xs ++ y ∷ ys)); terms = t.terms }) =
+    λ i. record { files = map.insert t.files name (bytes i); positions = put t.positions slot (record { name = name; from = positions i }); written = written i; terms = t.terms } in
     simp (at-put, put-put, content-insert, insert-insert) all
 
 appended_by-append : (slot : Slot) (xs ys : List ℕ) (a : Option Told) → option_map (appended slot ys) (option_map (appended slot xs) a) ≡ option_map (appended slot (xs ++ ys)) a

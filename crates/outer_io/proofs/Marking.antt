@@ -1,5 +1,5 @@
 -- The slots of a shelf in memory, and what it tells of them.
-use Rattle.std.proofs.Common.{◌≡◌, ◌≤◌, ◌<◌, ℕ, ◌+◌, List, [], ◌∷◌, ◌++◌, length, drop, true, Option, None, Some, is_some, refl, sym, ap, ◌∙◌, arith}
+use Rattle.std.proofs.Common.{◌≡◌, ◌≤◌, ◌<◌, ℕ, ◌+◌, ◌-◌, List, [], ◌∷◌, ◌++◌, length, drop, true, Option, None, Some, is_some, refl, sym, ap, ◌∙◌, arith}
 use Rattle.std.specs.Option.{option_map}
 use Rattle.std.specs.FinMap as map
 use Rattle.outer_io.specs.declared.slots.Slot.{Slot}
@@ -19,28 +19,29 @@ use Rattle.outer_io.proofs.Covering.{created-files, longer-files}
 abbrev pub left_at : Store → Mark → List ℕ
 left_at s mark = drop mark.from (content (files_in s) (name_of s mark.file))
 
-pub left-at : (s : Store) (marks : Slots Mark) (slot : Slot) → left slot (told_of s marks) ≡ left_at s (at marks slot)
-left-at s marks slot = ap (λ (place : FilePosition). drop place.from (content (files_in s) place.name)) (each-at (position_of s) marks slot)
+pub left-at : (piece : ℕ) (fails : List ℕ) (s : Store) (marks : Slots Mark) (slot : Slot) → left slot (told_of piece fails s marks) ≡ left_at s (at marks slot)
+left-at piece fails s marks slot = ap (λ (place : FilePosition). drop place.from (content (files_in s) place.name)) (each-at (position_of s) marks slot)
 
-pub left-put : (s : Store) (marks : Slots Mark) (slot : Slot) (mark : Mark) → left slot (told_of s (put marks slot mark)) ≡ left_at s mark
-left-put s marks slot mark = left-at s (put marks slot mark) slot ∙ ap (left_at s) (at-put marks slot mark)
+pub left-put : (piece : ℕ) (fails : List ℕ) (s : Store) (marks : Slots Mark) (slot : Slot) (mark : Mark) → left slot (told_of piece fails s (put marks slot mark)) ≡ left_at s mark
+left-put piece fails s marks slot mark = left-at piece fails s (put marks slot mark) slot ∙ ap (left_at s) (at-put marks slot mark)
 
 -- a new log, with a slot at its start
-pub told-created : (s : Store) (marks : Slots Mark) (slot : Slot) (mark : Mark) (name : List ℕ) → name ≡ s.log_name → mark.file ≡ id.Log → mark.from ≡ 0
-    → told_of (record s { log = Some [] }) (put marks slot mark) ≡ created name slot (told_of s marks)
-told-created s marks slot mark name named in_log start =
+pub told-created : (piece : ℕ) (fails : List ℕ) (s : Store) (marks : Slots Mark) (slot : Slot) (mark : Mark) (name : List ℕ) → name ≡ s.log_name → mark.file ≡ id.Log → mark.from ≡ 0
+    → told_of piece fails (record s { log = Some [] }) (put marks slot mark) ≡ created name slot (told_of piece fails s marks)
+told-created piece fails s marks slot mark name named in_log start =
     let place : position_of s mark ≡ record { name = name; from = 0 } = λ i. record { name = (ap (name_of s) in_log ∙ sym named) i; from = start i } in
     let files : files_in (record s { log = Some [] }) ≡ map.insert (files_in s) name [] =
     created-files (listed s.files) s.log_name s.log [] ∙ ap (λ n. map.insert (files_in s) n []) (sym named) in
     let positions : each (position_of s) (put marks slot mark) ≡ put (each (position_of s) marks) slot (record { name = name; from = 0 }) =
     each-put (position_of s) marks slot mark ∙ ap (put (each (position_of s) marks) slot) place in
-    λ i. record { files = files i; positions = positions i; written = s.written }
+    λ i. record { files = files i; positions = positions i; written = s.written; terms = (told_of piece fails s marks).terms }
 
 -- what a piece that isn't empty makes of a slot at this place
 appended-at : (slot : Slot) (bytes : List ℕ) (t : Told) (place : FilePosition) → 0 < length bytes → at t.positions slot ≡ place → appended slot bytes t ≡ record {
   files = map.insert t.files place.name (content t.files place.name ++ bytes);
   positions = put t.positions slot (record { name = place.name; from = place.from + length bytes });
   written = t.written + length bytes;
+  terms = t.terms;
 }
 appended-at slot [] t place some is = absurd (omega arith)
 appended-at slot (b ∷ bytes) t place some is = ap (λ (p : FilePosition).
@@ -48,14 +49,15 @@ appended-at slot (b ∷ bytes) t place some is = ap (λ (p : FilePosition).
       files = map.insert t.files p.name (content t.files p.name ++ b ∷ bytes);
       positions = put t.positions slot (record { name = p.name; from = p.from + length (b ∷ bytes) });
       written = t.written + length (b ∷ bytes);
+      terms = t.terms;
     } in r) is
 
 -- a longer log, with a slot so much further on
-pub told-appended : (s : Store) (marks : Slots Mark) (slot : Slot) (bytes : List ℕ) → 0 < length bytes
+pub told-appended : (piece : ℕ) (fails : List ℕ) (s : Store) (marks : Slots Mark) (slot : Slot) (bytes : List ℕ) → 0 < length bytes → length bytes ≤ s.room
     → is_some s.log ≡ true → (at marks slot).file ≡ id.Log
-    → told_of (grown s bytes) (put marks slot (record (at marks slot) { from = (at marks slot).from + length bytes }))
-    ≡ appended slot bytes (told_of s marks)
-told-appended s marks slot bytes some is_created in_log =
+    → told_of piece fails (grown s bytes) (put marks slot (record (at marks slot) { from = (at marks slot).from + length bytes }))
+    ≡ appended slot bytes (told_of piece fails s marks)
+told-appended piece fails s marks slot bytes some fits is_created in_log =
     let from = (at marks slot).from in
     let name : name_of s (at marks slot).file ≡ s.log_name = ap (name_of s) in_log in
     let place : at (each (position_of s) marks) slot ≡ record { name = s.log_name; from = from } =
@@ -64,8 +66,9 @@ told-appended s marks slot bytes some is_created in_log =
     let positions : each (position_of s) (put marks slot (record (at marks slot) { from = from + length bytes }))
     ≡ put (each (position_of s) marks) slot (record { name = s.log_name; from = from + length bytes }) =
     each-put (position_of s) marks slot _ ∙ (λ i. put (each (position_of s) marks) slot (record { name = name i; from = from + length bytes })) in
-    (λ i. record { files = files i; positions = positions i; written = s.written + length bytes })
-    ∙ sym (appended-at slot bytes (told_of s marks) (record { name = s.log_name; from = from }) some place)
+    let room : (s.written + length bytes) + (s.room - length bytes) ≡ s.written + s.room = omega (arith, fits) in
+    (λ i. record { files = files i; positions = positions i; written = s.written + length bytes; terms = record { log = s.log_name; room = room i; piece = piece; fails = fails } })
+    ∙ sym (appended-at slot bytes (told_of piece fails s marks) (record { name = s.log_name; from = from }) some place)
 
 -- a slot that writes stands in the log
 pub writing-mark : (s : Store) (marks : Slots Mark) (slot : Slot) → AtEach (WritesLog s) marks → at (each (λ mark. mark.phase) marks) slot ≡ Writing

@@ -1,5 +1,5 @@
 -- What is seen of a shelf: its files, where each slot stands in them, and which calls failed.
-use Rattle.std.specs.Prelude.{◌≡◌, ◌≤◌, ℕ, ◌+◌, List, [], ◌∷◌, ◌++◌, length, take, drop, Bool, false, not, Option, None, Some, unwrap_or, Result, MatchResult}
+use Rattle.std.specs.Prelude.{◌≡◌, ◌≤◌, ℕ, ◌+◌, List, [], ◌∷◌, ◌++◌, length, take, drop, Bool, false, not, Option, None, Some, IfSome, unwrap_or, Result, MatchResult}
 use Rattle.std.specs.Option.{option_map}
 use Rattle.std.specs.Ordering.{nat_cmp}
 use Rattle.std.specs.Cmp.Lexicographic.{slice_cmp}
@@ -18,11 +18,23 @@ pub record FilePosition : Type 0 where
   pub name : List ℕ
   pub from : ℕ
 
+-- What a shelf in memory was made with. No call of the trait changes it.
+pub record ShelfTerms : Type 0 where
+  -- the one file that can be created
+  pub log : List ℕ
+  -- the most bytes that `write` takes in all
+  pub room : ℕ
+  -- the most bytes that one `read` or `write` moves
+  pub piece : ℕ
+  -- the numbers, from 1, of the calls that are to fail
+  pub fails : List ℕ
+
 pub record Told : Type 0 where
   pub files : Files
   pub positions : Slots FilePosition
   -- the bytes that `write` took in all
   pub written : ℕ
+  pub terms : ShelfTerms
 
 -- What is seen of a shelf: what it tells, where it tells anything; what each slot is open for; how
 -- often `begin` and `read` have failed, but for a name that is told and missing; and how often
@@ -40,6 +52,18 @@ files_of s = option_map (λ t. t.files) s.told
 -- how many bytes were written in all, where it is told
 abbrev pub written_of : ShelfState → Option ℕ
 written_of s = option_map (λ t. t.written) s.told
+
+-- what it was made with, where it is told
+abbrev pub terms_of : ShelfState → Option ShelfTerms
+terms_of s = option_map (λ t. t.terms) s.told
+
+-- so many bytes are no more than one call moves, where that is told
+abbrev pub IsPiece : ShelfState → ℕ → Type 0
+IsPiece s count = IfSome (terms_of s) (λ terms. count ≤ terms.piece)
+
+-- with other pieces
+abbrev pub in_pieces : ℕ → Told → Told
+in_pieces piece t = record t { terms = record t.terms { piece = piece } }
 
 -- the bytes of a file, and none where there is no such file
 abbrev pub content : Files → List ℕ → List ℕ
@@ -114,6 +138,7 @@ appended slot (b ∷ bytes) t =
       files = map.insert t.files name (content t.files name ++ b ∷ bytes);
       positions = put t.positions slot (record { name = name; from = from + length (b ∷ bytes) });
       written = t.written + length (b ∷ bytes);
+      terms = t.terms;
     }
 
 -- these bytes were appended

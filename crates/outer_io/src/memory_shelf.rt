@@ -1,13 +1,13 @@
 //! A shelf in memory.
 
-ghost use Rattle.std.specs.Prelude.{◌≡◌, ◌<◌, ◌+◌, ◌^◌, ◌↔◌, ℕ, List, [], Contains, length, drop, string_bytes, None, Some, IfOk};
+ghost use Rattle.std.specs.Prelude.{◌≡◌, ◌<◌, ◌+◌, ◌^◌, ◌↔◌, ℕ, List, [], Contains, length, drop, string_bytes, Option, None, Some, IfOk};
 ghost use Rattle.std.specs.FinMap as map;
 ghost use Rattle.std.specs.Option.{option_map};
 ghost use Rattle.outer_io.specs.declared.shelf.Phase.{Phase};
 ghost use Rattle.outer_io.specs.Marks.{WritesLog};
 ghost use Rattle.outer_io.specs.Slots.{AtEach, all};
 ghost use Rattle.outer_io.specs.Store.{HaveOwnNames, listed, files_in, name_of};
-ghost use Rattle.outer_io.specs.Told.{content, files_of, written_of};
+ghost use Rattle.outer_io.specs.Told.{Told, content, files_of, written_of, terms_of, in_pieces};
 
 use crate::failing_calls::FailingCalls;
 use crate::marks::Mark;
@@ -25,15 +25,19 @@ pub struct MemoryShelf {
     store: MemoryFiles,
     marks: Slots<Mark>,
     failing: FailingCalls,
+    // The most bytes that one `read` or `write` moves.
+    piece: u32,
     read_faults: u64,
     write_faults: u64,
+    ghost moves: { 0 < piece },
     ghost quiet: { failing.numbers.items ≡ [] → read_faults ≡ 0 },
     ghost writers: { AtEach (WritesLog store) marks },
 }
 
 impl MemoryShelf {
     /// A shelf of these files, of which `log` alone can be created and written, with `room` bytes
-    /// in all. It fails at the calls of these numbers, counted from 1.
+    /// in all. It fails at the calls of these numbers, counted from 1. A call moves as many bytes
+    /// as it can.
     pub fn make(
         alloc: Global,
         files: Vec<(String, Vec<u8>)>,
@@ -46,6 +50,14 @@ impl MemoryShelf {
             files_of (⟦<MemoryShelf as Shelf>⟧.state s) ≡ Some (listed files.items)) }
         ensures written { IfOk result (λ s.
             written_of (⟦<MemoryShelf as Shelf>⟧.state s) ≡ Some 0) }
+        ensures terms { IfOk result (λ s.
+            terms_of (⟦<MemoryShelf as Shelf>⟧.state s)
+            ≡ Some (record {
+              log = string_bytes log;
+              room = room;
+              piece = 4294967295;
+              fails = fails.items;
+            })) }
         ensures closed { IfOk result (λ s.
             (⟦<MemoryShelf as Shelf>⟧.state s).phases ≡ all Phase.Closed) }
         ensures read_faults { IfOk result (λ s.
@@ -64,6 +76,7 @@ impl MemoryShelf {
             store: MemoryFiles::make(alloc, files, log, room)?,
             marks: Slots::of_each(Mark::at_start(FileId::Log, Phase::Closed)),
             failing: FailingCalls::new(fails),
+            piece: u32::MAX,
             read_faults: 0,
             write_faults: 0,
         })
@@ -76,6 +89,37 @@ impl MemoryShelf {
             (files_of (⟦<MemoryShelf as Shelf>⟧.state self.now)) }
     {
         self.store.file(name)
+    }
+
+    /// Lets one `read` or `write` move at most so many bytes from now on.
+    pub fn set_piece(&mut self, piece: u32)
+        requires { 0 < piece }
+        ensures told { (⟦<MemoryShelf as Shelf>⟧.state self.new).told
+            ≡ option_map (in_pieces piece) (⟦<MemoryShelf as Shelf>⟧.state self.old).told }
+        ensures phases { (⟦<MemoryShelf as Shelf>⟧.state self.new).phases
+            ≡ (⟦<MemoryShelf as Shelf>⟧.state self.old).phases }
+        ensures read_faults { (⟦<MemoryShelf as Shelf>⟧.state self.new).read_faults
+            ≡ (⟦<MemoryShelf as Shelf>⟧.state self.old).read_faults }
+        ensures write_faults { (⟦<MemoryShelf as Shelf>⟧.state self.new).write_faults
+            ≡ (⟦<MemoryShelf as Shelf>⟧.state self.old).write_faults }
+        ensures fails { (k : ℕ) → ⟦<MemoryShelf as Shelf>⟧.fails_at self.new k
+            ↔ ⟦<MemoryShelf as Shelf>⟧.fails_at self.old k }
+        ensures reliable { (log : Option (List ℕ)) → ⟦<MemoryShelf as Shelf>⟧.reliable self.new log
+            ↔ ⟦<MemoryShelf as Shelf>⟧.reliable self.old log }
+    {
+        self.piece = piece;
+    }
+
+    /// How many bytes may still be written. A shelf of which no call is to fail is reliable, and
+    /// while there is room its log is too.
+    pub fn room(&self) -> u64
+        ensures left { (t : Told) → (⟦<MemoryShelf as Shelf>⟧.state self.now).told ≡ Some t
+            → t.written + result ≡ t.terms.room }
+        ensures reliable { (t : Told) → (⟦<MemoryShelf as Shelf>⟧.state self.now).told ≡ Some t
+            → t.terms.fails ≡ [] → ⟦<MemoryShelf as Shelf>⟧.reliable self.now None
+            × (0 < result → ⟦<MemoryShelf as Shelf>⟧.reliable self.now (Some t.terms.log)) }
+    {
+        self.store.room()
     }
 }
 
@@ -102,7 +146,8 @@ impl Shelf for MemoryShelf {
     ghost use Rattle.outer_io.specs.Marks.{state_of};
     ghost use Rattle.outer_io.specs.Store.{HasRoomFor};
 
-    ghost state = { λ s. state_of s.store s.marks s.read_faults s.write_faults };
+    ghost state = { λ s.
+        state_of s.piece s.failing.numbers.items s.store s.marks s.read_faults s.write_faults };
 
     ghost fails_at = { λ s k. IsListed s.failing k };
 
@@ -130,7 +175,7 @@ impl Shelf for MemoryShelf {
             return Err(Failed);
         }
         let mark = *self.marks.at(slot);
-        let count = copy(left(&self.store, mark), buf);
+        let count = copy(left(&self.store, mark), buf, self.piece as usize);
         self.marks.put(slot, mark.moved(count));
         Ok(count)
     }
@@ -163,7 +208,7 @@ impl Shelf for MemoryShelf {
             return Err(Failed);
         }
         let mark = *self.marks.at(slot);
-        let count = part(bytes.len(), room);
+        let count = part(bytes.len(), room, self.piece as usize);
         self.store.append(&bytes[..count]);
         self.marks.put(slot, mark.moved(count));
         Ok(count)

@@ -1,6 +1,7 @@
 //! A sink in memory.
 
-ghost use Rattle.std.specs.Prelude.{◌≡◌, ◌≤◌, ◌<◌, ◌+◌, ◌^◌, ◌↔◌, ℕ, [], vec_len, vec_capacity, Some, IfOk, Contains};
+ghost use Rattle.std.specs.Prelude.{◌≡◌, ◌≤◌, ◌<◌, ◌+◌, ◌^◌, ◌↔◌, ℕ, [], vec_len, vec_capacity, length, Some, IfOk, Contains};
+ghost use Rattle.outer_io.specs.Taken.{SinkTold, taken_of};
 
 use crate::failing_calls::FailingCalls;
 use crate::pieces::part;
@@ -24,7 +25,8 @@ impl MemorySink {
     /// An empty sink that takes `room` bytes in all, and fails at the calls of these numbers,
     /// counted from 1.
     pub fn make(alloc: Global, room: u64, fails: Vec<u64>) -> Result<MemorySink, NoMemory>
-        ensures empty { IfOk result (λ s. (⟦<MemorySink as Sink>⟧.state s).taken ≡ Some []) }
+        ensures told { IfOk result (λ s. (⟦<MemorySink as Sink>⟧.state s).told
+            ≡ Some (record { bytes = []; terms = record { room = room; fails = fails.items } })) }
         ensures faults { IfOk result (λ s. (⟦<MemorySink as Sink>⟧.state s).faults ≡ 0) }
         ensures listed { IfOk result (λ s. (k : ℕ) → k < 2 ^ 64
             → ⟦<MemorySink as Sink>⟧.fails_at s k ↔ Contains fails.items k) }
@@ -41,16 +43,36 @@ impl MemorySink {
 
     /// What was taken.
     pub fn bytes(&self) -> &[u8]
-        ensures { Some result.now ≡ (⟦<MemorySink as Sink>⟧.state self.now).taken }
+        ensures { Some result.now ≡ taken_of (⟦<MemorySink as Sink>⟧.state self.now) }
     {
         &self.bytes
+    }
+
+    /// How many bytes may still be written. A sink of which no call is to fail is reliable while
+    /// there is room.
+    pub fn room(&self) -> u64
+        ensures left { (t : SinkTold) → (⟦<MemorySink as Sink>⟧.state self.now).told ≡ Some t
+            → length t.bytes + result ≡ t.terms.room }
+        ensures reliable { (t : SinkTold) → (⟦<MemorySink as Sink>⟧.state self.now).told ≡ Some t
+            → t.terms.fails ≡ [] → 0 < result → ⟦<MemorySink as Sink>⟧.reliable self.now }
+    {
+        self.room
     }
 }
 
 impl Sink for MemorySink {
     ghost use Rattle.outer_io.specs.Failing.{IsListed};
 
-    ghost state = { λ s. record { taken = Some s.bytes.items; faults = s.faults } };
+    ghost state = { λ s. record {
+      told = Some (record {
+        bytes = s.bytes.items;
+        terms = record {
+          room = vec_len s.bytes + s.room;
+          fails = s.failing.numbers.items;
+        };
+      });
+      faults = s.faults;
+    } };
 
     ghost fails_at = { λ s k. IsListed s.failing k };
 
@@ -65,7 +87,7 @@ impl Sink for MemorySink {
             self.faults = self.faults.saturating_add(1);
             return Err(Failed);
         }
-        let count = part(bytes.len(), self.room);
+        let count = part(bytes.len(), self.room, usize::MAX);
         match self.bytes.extend_from_slice(&bytes[..count]) {
             Ok(()) => {
                 self.room -= count as u64;

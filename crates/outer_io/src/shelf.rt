@@ -6,7 +6,7 @@ ghost use Rattle.std.specs.Io.KnownBytes.{ReadConsumes};
 ghost use Rattle.outer_io.specs.Causes.{HasCause, HasCauseUnless, SucceedsWhile, SucceedsWhileAnd, CountsCall};
 ghost use Rattle.outer_io.specs.declared.shelf.Phase.{Phase};
 ghost use Rattle.outer_io.specs.Slots.{at, put};
-ghost use Rattle.outer_io.specs.Told.{ShelfState, left_of, is_missing, Begins, Moves, Creates, Writes};
+ghost use Rattle.outer_io.specs.Told.{ShelfState, IsPiece, left_of, is_missing, Begins, Moves, Creates, Writes};
 
 use crate::{Failed, Slot};
 
@@ -59,6 +59,7 @@ pub trait Shelf {
         ensures bytes { ReadConsumes
             (left_of slot (state self.old)) (left_of slot (state self.new)) result buf.new }
         ensures moves { Moves (state self.old) (state self.new) slot result }
+        ensures piece { IfOk result (IsPiece (state self.old)) }
         ensures phase { (state self.new).phases ≡ (state self.old).phases }
 
         // When it fails.
@@ -91,6 +92,7 @@ pub trait Shelf {
         ensures bound { IfOk result (λ k. k ≤ length bytes.now) }
         ensures some { 0 < length bytes.now → IfOk result (λ k. 0 < k) }
         ensures appended { Writes (state self.old) (state self.new) slot result bytes.now }
+        ensures piece { IfOk result (IsPiece (state self.old)) }
         ensures phase { (state self.new).phases ≡ (state self.old).phases }
 
         // When it fails.

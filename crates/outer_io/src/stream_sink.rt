@@ -37,7 +37,7 @@ impl StreamSink<Stderr> {
 }
 
 impl<W: Write> Sink for StreamSink<W> {
-    ghost state = { λ s. record { taken = None; faults = s.faults } };
+    ghost state = { λ s. record { told = None; faults = s.faults } };
 
     ghost fails_at = { λ _ _. ⊥ };
 

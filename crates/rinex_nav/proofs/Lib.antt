@@ -6,3 +6,4 @@ pub mod WeekLemmas
 pub mod BoundLemmas
 pub mod IndexLemmas
 pub mod WholeLemmas
+pub mod SettledLemmas

@@ -4,6 +4,7 @@ ghost use Rattle.std.specs.Prelude.{◌≡◌, ◌≤◌, ◌<◌, ◌+◌, List
 ghost use Rattle.rinex_text.specs.Lines.{lines_of};
 ghost use Rattle.rinex_text.specs.declared.fault.Refusal.{Refusal};
 ghost use Rattle.rinex_text.specs.Reading.{body_left, body_behind, Leaves, Refuses, GivesRefusal};
+ghost use Rattle.rinex_text.specs.Whole.{IsSettled};
 ghost use Rattle.rinex_nav.specs.Files.{records_from, nav_file, IsNavFile, IsFirstFault};
 ghost use Rattle.rinex_nav.specs.Reading.{plain_record, records_of, GivesRecords};
 ghost use Rattle.rinex_nav.specs.Whole.{IsWhole};
@@ -105,6 +106,8 @@ pub fn read_nav(alloc: Global, bytes: &[u8]) -> Result<Nav, ReadError>
     ensures exact { (records : List Broadcast) → IsNavFile bytes.now records → GivesRecords records result }
     // A text with a fault is refused with its first, unless memory runs out.
     ensures first { (refusal : Refusal) → IsFirstFault bytes.now refusal → GivesRefusal refusal result }
+    // What is behind the line of the fault doesn't matter, unless it is blank: then whether all are.
+    ensures settled { IfErr result (IsSettled nav_file bytes.now) }
     // How its lines are shared out, and which records come of them.
     ensures whole { IfOk result (λ nav. IsWhole (lines_of bytes.now) (records_of nav)) }
 {

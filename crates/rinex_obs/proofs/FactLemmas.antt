@@ -72,7 +72,7 @@ record AreSats (sats : List SatObs) : Type 0 where
   gps : AreGpsSats sats
   distinct : AreDistinct sats
 
-all_more : {X : Type 0} (P : X → Type 0) (xs : List X) (x : X) → AllByRecursion P xs → P x → AllByRecursion P (xs ++ x ∷ [])
+pub all_more : {X : Type 0} (P : X → Type 0) (xs : List X) (x : X) → AllByRecursion P xs → P x → AllByRecursion P (xs ++ x ∷ [])
 all_more P [] x all one = (one, tt)
 all_more P (first ∷ xs) x all one = (all.0, all_more P xs x all.1 one)
 

@@ -8,9 +8,9 @@ use Rattle.std.proofs.lemmas.Option.{same_Some}
 use Rattle.exact_decimal.specs.Counts.{IsCount}
 use Rattle.rinex_text.specs.Columns.{columns_of}
 use Rattle.rinex_text.specs.Lines.{TextLine}
-use Rattle.rinex_obs.specs.Types.{Code, Types, code_at, codes_from, more_codes, first_codes, IsOfGps, GoesOn, types_line, AreComplete}
+use Rattle.rinex_obs.specs.Types.{Code, Types, code_at, IsSolid, codes_from, more_codes, first_codes, IsOfGps, GoesOn, types_line, AreComplete, codes_of}
 use Rattle.rinex_obs.specs.Whole.{codes_on, codes_of_lines, is_types_line, AreJoined}
-use Rattle.rinex_obs.proofs.FactLemmas.{Give, given, on_test, on_where, on_read, on_then, on_either, on_more}
+use Rattle.rinex_obs.proofs.FactLemmas.{Give, given, on_test, on_where, on_read, on_then, on_either, on_more, all_more}
 
 -- ---- the codes of a line
 
@@ -199,6 +199,47 @@ joined (line ∷ more) last complete w = elim (first_line line.text (Ok w.0) w.1
         types_are = rest.types_are;
       }
 ]
+
+-- ---- no blank code
+
+abbrev pub AreSolid : List Code → Type 0
+AreSolid codes = AllByRecursion IsSolid codes
+
+-- with these codes before, none of those behind is blank where none before was
+abbrev StaySolid : List Code → List Code → Type 0
+StaySolid before after = AreSolid before → AreSolid after
+
+solid_codes : (text : List ℕ) (place left : ℕ) (seen : List Code) → Give (StaySolid seen) (codes_from text place left seen)
+solid_codes text place zero seen = given (StaySolid seen) seen (λ are. are)
+solid_codes text place (suc left) seen =
+    on_test (StaySolid seen) _ _ _ (λ solid. on_more (StaySolid (seen ++ code_at text place ∷ [])) (StaySolid seen) _ (λ codes more are. more (all_more IsSolid seen (code_at text place) are solid))
+    (solid_codes text (place + 1) left (seen ++ code_at text place ∷ [])))
+
+solid_more : (text : List ℕ) (types : Types) → Give (λ (more : Types). StaySolid types.codes more.codes) (more_codes text types)
+solid_more text types =
+    let k = min 13 (types.count - length types.codes) in
+    let Meets : Types → Type 0 = λ more. StaySolid types.codes more.codes in
+    on_then Meets (codes_from text 0 k types.codes) _ (λ codes l. given Meets (record { count = types.count; codes = codes }) (solid_codes text 0 k types.codes (Ok codes) l))
+
+solid_first : (text : List ℕ) → Give (λ (types : Types). AreSolid types.codes) (first_codes text)
+solid_first text =
+    let Meets : Types → Type 0 = λ types. AreSolid types.codes in
+    on_read Meets _ _ _ (λ count (is : IsCount (columns_of text 4 6) count). on_test Meets _ _ _ (λ some.
+    on_more (λ (more : Types). StaySolid [] more.codes) Meets _ (λ more stay. stay tt) (solid_more text (record { count = count; codes = [] }))))
+
+solid_line : (types : Option Types) (text : List ℕ) → Give (λ (next : Option Types). StaySolid (codes_of types) (codes_of next)) (types_line types text)
+solid_line None text =
+    let Meets : Option Types → Type 0 = λ next. StaySolid [] (codes_of next) in
+    on_where Meets _ _ _ (λ gps. on_then Meets (first_codes text) _ (λ types l. given Meets (Some types) (λ are. solid_first text (Ok types) l))) (given Meets None (λ are. are))
+solid_line (Some types) text =
+    let Meets : Option Types → Type 0 = λ next. StaySolid types.codes (codes_of next) in
+    on_where Meets _ _ _
+    (λ less. on_test Meets _ _ _ (λ on. on_then Meets (more_codes text types) _ (λ more l. given Meets (Some more) (solid_more text types (Ok more) l))))
+    (on_test Meets _ _ _ (λ other. given Meets (Some types) (λ are. are)))
+
+pub solid_walk : (types : Option Types) (lines : List TextLine) (after : Option Types) → Walks types lines after → AreSolid (codes_of types) → AreSolid (codes_of after)
+solid_walk types [] after e are = subst (λ (t : Option Types). AreSolid (codes_of t)) (sym e) are
+solid_walk types (line ∷ more) after w are = solid_walk w.0 more after w.2 (solid_line types line.text (Ok w.0) w.1 are)
 
 -- ---- the lines of a header
 

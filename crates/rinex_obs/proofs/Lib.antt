@@ -10,3 +10,4 @@ pub mod BlockLemmas
 pub mod FactLemmas
 pub mod JoinedLemmas
 pub mod WholeLemmas
+pub mod SettledLemmas

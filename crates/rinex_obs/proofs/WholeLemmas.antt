@@ -27,7 +27,7 @@ use Rattle.rinex_obs.specs.declared.head.Head.TheVariants.{Epoch, Event}
 use Rattle.rinex_obs.specs.declared.obs.Obs.{Obs}
 use Rattle.rinex_obs.specs.declared.obs.SatObs.{SatObs}
 use Rattle.rinex_obs.proofs.FactLemmas.{Give, given, on_test, on_where, on_either, on_read, on_then, on_line, on_more}
-use Rattle.rinex_obs.proofs.JoinedLemmas.{Walks, AreTypesBehind, walks_first, joined}
+use Rattle.rinex_obs.proofs.JoinedLemmas.{Walks, AreTypesBehind, walks_first, joined, AreSolid, solid_walk}
 
 -- ---- one for one
 
@@ -420,11 +420,12 @@ no_wanted (Dual first second) wanted is = absurd cc
 record HasTypes (signal : Signal) (typed : List TextLine) (wanted : Wanted) : Type 0 where
   types : List Code
   types_are : AreJoined typed types
+  solid : AreSolid types
   wanted_is : AreWanted signal types wanted
 
 has_types : (signal : Signal) (typed : List TextLine) (wanted : Wanted) (types : Option Types) → Walks None typed types → AreComplete types → AreWanted signal (codes_of types) wanted → HasTypes signal typed wanted
 has_types signal typed wanted None w complete is = absurd (no_wanted signal wanted is)
-has_types signal typed wanted (Some types) w complete is = record { types = types.codes; types_are = joined typed types complete w; wanted_is = is }
+has_types signal typed wanted (Some types) w complete is = record { types = types.codes; types_are = joined typed types complete w; solid = solid_walk None typed (Some types) w tt; wanted_is = is }
 
 -- ---- files
 
@@ -467,6 +468,7 @@ whole signal position text observations file =
       position_is = point_of position top.header top.after start.position top.known_is top.position_is;
       types = typed.types;
       types_are = typed.types_are;
+      solid = typed.solid;
       wanted = start.wanted;
       wanted_is = typed.wanted_is;
       epochs_are = record { parts = body.parts; spelled = body.spelled; are_parts = body.are_parts; epochs_are = subst (OneForOne (IsEpochOf start.wanted) (filter begins_epoch body.parts)) (sym body.after_is) body.epochs_are };

@@ -13,7 +13,7 @@ use Rattle.rinex_text.specs.Lines.{TextLine}
 use Rattle.rinex_text.specs.Whole.{OneForOne, IsParted}
 use Rattle.sat_model.specs.declared.boxes.Pos.{Pos}
 use Rattle.sat_model.specs.declared.satellites.Signal.{Signal}
-use Rattle.rinex_obs.specs.Types.{Code, code_at, IsOfGps, GoesOn}
+use Rattle.rinex_obs.specs.Types.{Code, code_at, IsSolid, IsOfGps, GoesOn}
 use Rattle.rinex_obs.specs.Header.{Coordinates, position_line, IsPoint, IsLabelled, IsTimeSystem, Wanted, AreWanted}
 use Rattle.rinex_obs.specs.Epochs.{IsTag, flag_of, IsFlag, IsLineCount, IsObserved, field_at, IsSecond, Observed}
 use Rattle.rinex_obs.specs.Files.{Observations}
@@ -145,6 +145,8 @@ pub record IsWhole (signal : Signal) (position : Bool) (lines : List TextLine) (
   pub position_is : IsPositionOf position header observations.position
   pub types : List Code
   pub types_are : AreJoined (filter is_types_line header) types
+  -- none is blank
+  pub solid : AllByRecursion IsSolid types
   pub wanted : Wanted
   pub wanted_is : AreWanted signal types wanted
   pub epochs_are : AreInParts wanted (counted behind) observations.epochs

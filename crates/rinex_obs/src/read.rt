@@ -3,6 +3,7 @@
 ghost use Rattle.std.specs.Prelude.{◌≡◌, ◌≤◌, IfOk, IfErr, length};
 ghost use Rattle.rinex_text.specs.Lines.{lines_of};
 ghost use Rattle.rinex_text.specs.Reading.{Refuses, GivesRefusal};
+ghost use Rattle.rinex_text.specs.Whole.{IsSettled};
 ghost use Rattle.rinex_text.specs.declared.fault.Refusal.{Refusal};
 ghost use Rattle.rinex_obs.specs.Facts.{AreNumbered, AreDistinct, AreGpsSats, InEach};
 ghost use Rattle.rinex_obs.specs.Files.{Observations, obs_file, IsObsFile, IsFirstFault};
@@ -56,6 +57,8 @@ pub fn read_obs(
     ensures exact { (observations : Observations) → IsObsFile signal.now position bytes.now observations → GivesObservations observations result }
     // A text with a fault is refused with its first, unless memory runs out.
     ensures first { (refusal : Refusal) → IsFirstFault signal.now position bytes.now refusal → GivesRefusal refusal result }
+    // What is behind the line of the fault doesn't matter, unless it is blank: then whether all are.
+    ensures settled { IfErr result (IsSettled (obs_file signal.now position) bytes.now) }
     // How its lines are shared out, and what comes of which.
     ensures whole { IfOk result (λ obs. IsWhole signal.now position (lines_of bytes.now) (observations_of obs)) }
     // Of the epochs of every file the same holds.

@@ -5,3 +5,4 @@ pub mod BodyLemmas
 pub mod HeaderLemmas
 pub mod TakeLemmas
 pub mod OnlyLemmas
+pub mod SettledLemmas

@@ -1,5 +1,5 @@
 use Rattle.std.proofs.Common.{take, refl, arith}
-use Rattle.outer_io.proofs.Appending.{append_known-nil}
+use Rattle.outer_io.proofs.Appending.{taking-none}
 use Rattle.log_writer.proofs.writer.send.Goals as goal
 
 pub returns-in-Err-clause-sends : goal.returns-in-Err-clause-sends
@@ -8,6 +8,6 @@ returns-in-Err-clause-sends g c =
     let (kept, at_most, appended) = b.prefix in (
       take kept c.args.log.now,
       (kept, refl),
-      record { appended = appended; taken = append_known-nil _; phases = b.phase; log_faults = b.cause.later; out_faults = omega arith },
+      record { appended = appended; taken = taking-none _; phases = b.phase; log_faults = b.cause.later; out_faults = omega arith },
       b.cause.failed,
     )

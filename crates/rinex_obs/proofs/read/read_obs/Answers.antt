@@ -1,6 +1,7 @@
 use Rattle.rinex_obs.proofs.FactLemmas.{numbered_read, distinct_read, gps_read}
 use Rattle.rinex_obs.proofs.OnlyLemmas.{gives_observations, gives_refusal}
 use Rattle.rinex_obs.proofs.WholeLemmas.{whole_read}
+use Rattle.rinex_obs.proofs.SettledLemmas.{settled_read}
 use Rattle.rinex_obs.proofs.read.read_obs.Goals as goal
 
 pub returns-clause-exact : goal.returns-clause-exact
@@ -20,3 +21,6 @@ returns-clause-gps c = gps_read c.args.signal.now c.args.position c.args.bytes.n
 
 pub returns-clause-whole : goal.returns-clause-whole
 returns-clause-whole c = whole_read c.args.signal.now c.args.position c.args.bytes.now c.read_text.result c.read_text.ensures.observations
+
+pub returns-clause-settled : goal.returns-clause-settled
+returns-clause-settled c = settled_read c.args.signal.now c.args.position c.args.bytes.now c.read_text.result c.read_text.ensures.fault
