@@ -4,8 +4,9 @@
 usage: forged_logs.py PROGRAM
 
 There is at least one forged log for every number of a verdict, and for every kind of refusal 40 on a log with `cut`,
-`in` and `skip` lines. Each expected answer was found by hand from docs/LOG.md, and none by the program. It takes some
-seconds. The last line is `forged logs: N passed, M failed`, and the status 1 where one failed.
+`in` and `skip` lines; one test is that none is missing. Each expected answer was found by hand from docs/LOG.md, and
+none by the program. It takes some seconds. The last line is `forged logs: N passed, M failed`, and the status 1 where
+one failed.
 """
 import collections
 import os
@@ -55,6 +56,10 @@ done 3
 FEW, EPOCH, ROOT, DONE = 3, 6, 14, 24
 
 Forged = collections.namedtuple("Forged", "name command data answer")
+
+# What has to come at least once.
+WANTED = {f"no {number}" for number in range(50, 65)}
+WANTED |= {f"log 40 kind {kind}" for kind in range(1, 5)} | {f"rows 40 kind {kind}" for kind in range(1, 6)}
 
 
 def text(lines):
@@ -222,7 +227,7 @@ def verdicts():
 WRONG_HEADS = {
     1: ("gpscover 2", "gpscover 1 ", " gpscover 1", "gpscover  1", "gpscover 01", "gpscover", "Gpscover 1", ""),
     2: ("rules 9 3 1000000", "rules 1 200001 1000000", "rules 1 3 999", "rules 1 3 10000000001", "rules 1 3",
-        "rules 1 3 1000000 0", "rules -1 3 1000000", "rules 01 3 1000000", "rules 1 3 1000000 ", "rule 1 3 1000000", ""),
+        "rules 1 3 1000000 0", "rules -1 3 1000000", "rules 01 3 1000000", "rules 1 3 1000000 ", "rule 1 3 1000", ""),
 }
 # Lines whose first word can't stand at their place.
 WRONG_WORDS = {
@@ -230,8 +235,8 @@ WRONG_WORDS = {
     4: (WITH_ALL[8], "root 0 0 0 0 0 0", "cut 0 1 5", "split 0 0", "out 0", "in 0 0 0 0", "edge 0 0 0", "done 0"),
     8: ("few 5 0 0", "epoch 5 0 5", "cut 0 1 5", "in 0 0 0 0", "done 0", "Skip G09 1", "skip\tG09 1", ""),
     14: ("cut 0 1 15000000", "done 0", "few 5 0 0", "roots 0 0 0 0 0 0"),
-    15: ("skip G10 1", WITH_ALL[6].replace("G01", "G11"), "few 5 0 0", "epoch 5 0 5", "root 0 0 0 0 0 0", "rules 1 3 1000",
-         "gpscover 1", "", " cut 0 1 15000000", "cut\t0 1 15000000", "Cut 0 1 15000000", "cuts 0 1 15000000", "cut\r",
+    15: ("skip G10 1", WITH_ALL[6].replace("G01", "G11"), "few 5 0 0", "epoch 5 0 5", "root 0 0 0 0 0 0",
+         "rules 1 3 1000", "gpscover 1", "", " cut 0 1 15000000", "cut\t0 1 15000000", "Cut 0 1 15000000", "cuts 0 1 15000000", "cut\r",
          "-1", "\0", "c\u00fct 0 1 15000000"),
     22: ("", " in 5 0 -1900000 1900000", "in\t5 0 -1900000 1900000", "IN 5 0 -1900000 1900000", "inn 5 0 0 0", "in\r"),
 }
@@ -239,16 +244,16 @@ WRONG_WORDS = {
 WRONG_FIELDS = {
     3: ("few 0 0 2", "few 200001 0 2", "few 1 4000000000000000000000 2", "few 1 -1 2", "few 1 0 65", "few 1 0", "few"),
     4: ("skip G03", "skip G03 0", "skip G03 7", "skip G03 6", "skip G03 6 0", "skip G03 6 21", "skip G03 5 1",
-        "skip G03 3 0", "skip G3 3", "skip G00 3", "skip G100 3", "skip R03 3", "skip g03 3", "skip 03 3", "skip  G03 3",
-        "skip G03 3 ", "skip G03 03", "skip G03 3\r", "skip G03\t3", "skip G03 -3", "skip"),
+        "skip G03 3 0", "skip G3 3", "skip G00 3", "skip G100 3", "skip R03 3", "skip g03 3", "skip 03 3",
+        "skip  G03 3", "skip G03 3 ", "skip G03 03", "skip G03 3\r", "skip G03\t3", "skip G03 -3", "skip"),
     6: ("epoch 200001 2000000000000 5", "epoch 4 2000000000000", "epoch 4 2000000000000 05", "epoch 4 0 65"),
     7: (WITH_ALL[6].replace("20000000000000 20000000000000 0 0 0 0", "20000000000001 20000000000000 0 0 0 0"),
         WITH_ALL[6].replace(" 1000000", " 1000000000001"), WITH_ALL[6].replace(" 1000000", " -1000001"),
         WITH_ALL[6].replace(" 0 0 0 0 ", " 0 0 0 60000000000001 "), WITH_ALL[6] + " 0", "sat G01"),
     14: ("root -1000000 -900000 -900000 -1000001 900000 900000", "root 0 0 0 10000000000001 0 0", "root 0 0 0 0 0"),
     15: ("cut", "cut 0", "cut 0 1", "cut 0 1 15000000 0", "cut 0 1 15000000 ", "cut  0 1 15000000", "cut 0  1 15000000",
-         "cut 0 6 15000000", "cut 0 -1 15000000", "cut -1 1 15000000", "cut 400001 1 15000000", "cut 0 1 10000000000001",
-         "cut 0 1 -10000000000001", "cut 0 1 015000000", "cut 0 1 +15000000", "cut 0 1 -0", "cut 0 1 15000000.0",
+         "cut 0 6 15000000", "cut 0 -1 15000000", "cut -1 1 15000000", "cut 400001 1 15000000",
+         "cut 0 1 10000000000001", "cut 0 1 -10000000000001", "cut 0 1 015000000", "cut 0 1 +15000000", "cut 0 1 -0", "cut 0 1 15000000.0",
          "cut 0 1 1e7", "cut 0 1 15000000\r", "cut 0 1\t15000000", "cut 0 01 15000000", "cut 0 x 15000000",
          "cut 0 1 99999999999999999999999999999999999999999"),
     16: ("split 0 3", "split 0", "split 0 0 0", "split 400001 0", "split -0 0"),
@@ -436,7 +441,8 @@ def satellite_logs(files, lines):
     """52 by `check`."""
     one, two, three, four = files.heads
     root = files.root
-    yield "swapped", put(put(lines, one + 1, lines[one + 1]), one + 2, lines[one]), f"no 52 SatelliteDiffers line {one + 1}"
+    swapped = changed(lines, {one + 1: lines[one + 1], one + 2: lines[one]})
+    yield "swapped", swapped, f"no 52 SatelliteDiffers line {one + 1}"
     yield "no skip line", put(lines, root - 1), f"no 52 SatelliteDiffers line {root - 1}"
     yield "another reason", put(lines, root - 1, "skip G01 4"), f"no 52 SatelliteDiffers line {root - 1}"
     yield "another satellite", put(lines, root - 1, "skip G02 3"), f"no 52 SatelliteDiffers line {root - 1}"
@@ -457,7 +463,9 @@ def satellite_logs(files, lines):
 
 
 def row_logs(files):
-    """53 and 54 by `check`: a span of which one end is left doesn't hold the checker's own, which is not so near to it."""
+    """53 and 54 by `check`. A span of which one end alone is left doesn't hold the checker's own: the spans of a log
+    that was solved are wider than theirs by W at both ends, and own spans of a satellite share a number and are at most
+    W wide."""
     for line in files.heads[0] + 1, files.heads[2] + 5:
         for low in 2, 4, 6, 8:
             ends = [files.number(line, low), files.number(line, low + 1)]
@@ -517,12 +525,13 @@ class Runner:
     def __init__(self, program, folder, files):
         self.program, self.folder = program, Path(folder)
         self.passed = self.failed = 0
+        self.answers = set()
         self.write("nav", files.nav)
         self.write("obs", files.obs)
         self.write("settings", files.settings)
 
-    def write(self, name, text):
-        (self.folder / name).write_text(text, newline="\n")
+    def write(self, name, lines):
+        (self.folder / name).write_text(lines, newline="\n")
 
     def said(self, command, data):
         """The status, standard output and standard error of a command over a log or rows of these bytes."""
@@ -539,11 +548,16 @@ class Runner:
         if within and out.startswith(answer):
             out = out if not holds_own(out, within) else answer + "\n"
         wanted = {"y": (0, answer + "\n", ""), "n": (1, answer + "\n", "")}.get(answer[0], (3, "", answer + "\n"))
-        if (status, out, err) == wanted and not (self.folder / "new.log").exists():
-            self.passed += 1
-        else:
-            self.failed += 1
-            print(f"{it.command}, {it.name}: {said}, and {answer!r} is wanted")
+        right = (status, out, err) == wanted and not (self.folder / "new.log").exists()
+        self.count(right, f"{it.command}, {it.name}: {said}, and {answer!r} is wanted")
+        self.answers.add(re.sub(r"^(no \d+|log 40|rows 40)(.*?)( kind \d)?$", r"\1\3", answer))
+
+    def count(self, right, otherwise):
+        """Counts a test, and says what is wrong where it fails."""
+        self.passed += right
+        self.failed += not right
+        if not right:
+            print(otherwise)
 
 
 def holds_own(out, ends):
@@ -564,6 +578,8 @@ def main(program):
         for settings, lines, answer in checked_rules(files):
             runner.write("settings", settings)
             runner.expect(Forged("other rules", "check", text(lines), answer))
+    missing = WANTED - runner.answers
+    runner.count(not missing, f"never wanted: {sorted(missing)}")
     print(f"forged logs: {runner.passed} passed, {runner.failed} failed")
     return 1 if runner.failed else 0
 
