@@ -6,14 +6,18 @@ usage: real_files.py PROGRAM
 Each run's status, standard output and standard error are compared byte for byte, and so is LOG.
 The expected logs and report are those of examples/ and of crates/gpscover/data, the expected lines
 are written here by hand. It takes half a minute, and 512 MiB in the folder for temporary files. The last
-line is `real files: N passed, M failed`, and the status 1 where one failed.
+line is `real files: N passed, M failed`, with how many were left out since the system doesn't allow
+them, and the status 1 where one failed.
 """
 import os
 import resource
 import shutil
+import signal
 import subprocess
 import sys
 import tempfile
+import threading
+import time
 import unittest
 from pathlib import Path
 
@@ -35,6 +39,8 @@ ROWS = "recorded-epoch.rows"
 MIB = 1 << 20
 # The most bytes of each kind of file.
 SETTINGS, INPUT, LOG = 64 << 10, 256 * MIB, 512 * MIB
+# A user whom the rights of files bind, as they don't bind root.
+NOBODY = 65534
 
 
 def closings(log):
@@ -67,25 +73,64 @@ class RealFiles(unittest.TestCase):
 
     def files(self):
         """What tells that a file was made or written."""
-        stats = {path.name: path.stat() for path in self.folder.iterdir()}
-        return {name: (it.st_ino, it.st_size, it.st_mtime_ns) for name, it in stats.items()}
+        stats = {path: path.stat() for path in self.folder.rglob("*")}
+        return {path: (it.st_ino, it.st_size, it.st_mtime_ns) for path, it in stats.items()}
 
-    def run_words(self, *words, stdout=subprocess.PIPE, memory=None):
-        """Runs the program on the words, in the folder of the test's files."""
-        limit = memory and (lambda: resource.setrlimit(resource.RLIMIT_AS, (memory, memory)))
-        how = {"cwd": self.folder, "stdin": subprocess.DEVNULL, "stderr": subprocess.PIPE}
-        words = [self.program, *words]
-        return subprocess.run(words, stdout=stdout, preexec_fn=limit, timeout=900, **how)
+    def run_words(self, *words, limits=(), **how):
+        """Runs the program on the words, in the folder of the test's files, within limits of the system."""
+        def limit():
+            for what, most in limits:
+                resource.setrlimit(what, (most, most))
+
+        usual = {"stdin": subprocess.DEVNULL, "stdout": subprocess.PIPE, "stderr": subprocess.PIPE, "preexec_fn": limit}
+        return subprocess.run([self.program, *words], cwd=self.folder, timeout=900, **usual | how)
+
+    def start(self, *words):
+        """The program on the words, running."""
+        how = {"stdin": subprocess.DEVNULL, "stdout": subprocess.PIPE, "stderr": subprocess.PIPE, "bufsize": 0}
+        run = subprocess.Popen([self.program, *words], cwd=self.folder, **how)
+        self.addCleanup(run.communicate)
+        self.addCleanup(run.kill)
+        return run
+
+    def long_rows(self, name, epochs, splits):
+        """Rows of so many epochs with boxes enough for so many splits in each."""
+        rows = (EXAMPLES / "one-edge-box.log").read_text().splitlines()
+        sats = [line for line in rows if line.startswith("sat ")]
+        root = "root -100000000 -90000000 -90000000 100000000 90000000 90000000"
+        lines = ["gpscover 1", f"rules 0 {splits} 1000"]
+        for index in range(1, epochs + 1):
+            lines += [f"epoch {index} {index}000000000000 4", *sats, root]
+        self.write(name, "".join(line + "\n" for line in lines).encode())
+
+    def expect_start(self, name, log):
+        """The named file holds the start of a log, and something of it."""
+        first = self.read(name)
+        self.assertTrue(first and log.startswith(first), (name, len(first)))
+
+    def bound_by_rights(self):
+        """How to run the program as a user whom the rights of files bind."""
+        if os.geteuid() != 0:
+            return {}
+        user = {"user": NOBODY, "group": NOBODY, "extra_groups": []}
+        self.folder.chmod(0o755)
+        self.program = shutil.copy(self.program, self.folder / "program")
+        self.program.chmod(0o755)
+        try:
+            self.run_words(**user)
+        except OSError as error:
+            self.skipTest(f"the program can't be run as a user without rights: {error}")
+        return user
 
     def expect(self, words, status, out=b"", err=b"", **how):
         ran = self.run_words(*words, **how)
         told = (ran.returncode, ran.stdout or b"", ran.stderr)
         self.assertEqual(told, (status, out, err), words)
 
-    def expect_nothing_done(self, words, status, err):
+    def expect_nothing_done(self, words, status, err, **how):
         """A run that prints nothing, makes no file and changes none, LOG included."""
         before = self.files()
-        self.expect(words, status, b"", err)
+        self.expect(words, status, b"", err, **how)
         self.assertEqual(self.files(), before, words)
 
     # ---- 0 and 1
@@ -191,6 +236,59 @@ class RealFiles(unittest.TestCase):
             ):
                 self.expect_nothing_done(words, 4, role + b" fault\n")
 
+    def test_files_and_folders_without_rights(self):
+        how = self.bound_by_rights()
+        locked = self.folder / "locked"
+        locked.mkdir()
+        self.addCleanup(locked.chmod, 0o755)
+        for name, rights in ("old.log", 0o444), ("secret", 0):
+            self.write(f"locked/{name}", SOLVED)
+            (locked / name).chmod(rights)
+        locked.chmod(0o555)
+        for words in ["solve", *FILES], ["pave", ROWS]:
+            for name in "new.log", "old.log":
+                self.expect_nothing_done([*words, f"locked/{name}"], 5, b"log fault\n", **how)
+        secret = "locked/secret"
+        for words, role in (
+            (["judge", secret], b"log"),
+            (["check", *FILES, secret], b"log"),
+            (["pave", secret, "locked/old.log"], b"rows"),
+            (["solve", *FILES[:2], secret, "locked/old.log"], b"settings"),
+            (["solve", FILES[0], secret, FILES[2], "locked/old.log"], b"nav"),
+            (["solve", secret, *FILES[1:], "locked/old.log"], b"obs"),
+        ):
+            self.expect_nothing_done(words, 4, role + b" fault\n", **how)
+
+    def test_a_pipe_in_the_place_of_a_file(self):
+        """It is read to its end, which comes early where its writer ends early."""
+        os.mkfifo(self.folder / "pipe")
+        boxes = closings(SOLVED)(b"in", b"edge")
+        lines = SOLVED.count(b"\n")
+        for data, status, out, err in (
+            (SOLVED, 0, b"yes %d\n" % boxes, b""),
+            (SOLVED[:-1], 3, b"", b"log 40 BadLog line %d kind 4\n" % lines),
+            (b"", 3, b"", b"log 40 BadLog line 1 kind 4\n"),
+        ):
+            for words in ["judge"], ["check", *FILES]:
+                writer = threading.Thread(target=self.write, args=("pipe", data))
+                writer.start()
+                self.expect([*words, "pipe"], status, out, err)
+                writer.join()
+
+    def test_a_file_that_shrinks_while_it_is_read(self):
+        """What counts is what was read: a log, and behind it some of the zeros that are no longer there."""
+        for words in ["judge", "large"], ["check", *FILES, "large"]:
+            self.write("large", SOLVED)
+            os.truncate(self.folder / "large", 400 * MIB)
+            run = self.start(*words)
+            place = stop_behind(run, self.folder / "large", len(SOLVED))
+            self.assertTrue(len(SOLVED) < place <= 400 * MIB, place)
+            os.truncate(self.folder / "large", len(SOLVED))
+            run.send_signal(signal.SIGCONT)
+            out, err = run.communicate(timeout=60)
+            line = SOLVED.count(b"\n") + 1
+            self.assertEqual((run.returncode, out, err), (3, b"", b"log 40 BadLog line %d kind 2\n" % line))
+
     # ---- 5
 
     def test_logs_that_cannot_be_written(self):
@@ -208,28 +306,92 @@ class RealFiles(unittest.TestCase):
             for words, log in (["solve", *FILES], SOLVED), (["pave", ROWS], PAVED):
                 self.expect([*words, "new.log"], 5, b"", b"out fault\n", stdout=full)
                 # What the log holds is the start of the whole one; these logs are one piece, which went out first.
-                first = self.read("new.log")
-                self.assertTrue(first and log.startswith(first), words)
+                self.expect_start("new.log", log)
+
+    def test_a_reader_that_has_gone(self):
+        for words in ["judge", "receiver.log"], ["check", *FILES, "receiver.log"]:
+            self.expect(words, 5, b"", b"out fault\n", stdout=unread_pipe())
+        for words, log in (["solve", *FILES], SOLVED), (["pave", ROWS], PAVED):
+            self.expect([*words, "new.log"], 5, b"", b"out fault\n", stdout=unread_pipe())
+            self.expect_start("new.log", log)
+
+    def test_a_reader_that_goes(self):
+        """It takes the first word of a report of some 600 KB and goes. LOG is cut too."""
+        self.long_rows("long.rows", 1, 8192)
+        self.assertEqual(self.run_words("pave", "long.rows", "whole.log").returncode, 0)
+        whole = self.read("whole.log")
+        run = self.start("pave", "long.rows", "new.log")
+        self.assertEqual(run.stdout.read(5), b"epoch")
+        run.stdout.close()
+        self.assertEqual((run.wait(timeout=60), run.stderr.read()), (5, b"out fault\n"))
+        self.expect_start("new.log", whole)
+        self.assertLess(len(self.read("new.log")), len(whole))
+
+    def test_a_standard_output_that_is_not_open(self):
+        """No file gets its place: LOG holds lines of the log alone, and the files that are read are as they were."""
+        texts = {name: self.read(name) for name in (*FILES, ROWS, "receiver.log")}
+        for words, log in (["judge", "receiver.log"], None), (["solve", *FILES], SOLVED), (["pave", ROWS], PAVED):
+            self.expect([*words, *["new.log"] * (log is not None)], 5, b"", b"out fault\n", preexec_fn=close_output)
+            if log:
+                self.expect_start("new.log", log)
+        self.assertEqual({name: self.read(name) for name in texts}, texts)
+
+    def test_a_standard_error_that_cannot_be_written(self):
+        """It changes no status."""
+        with open("/dev/full", "wb") as full:
+            for words, status in (
+                ([], 2),
+                (["judge", "settings.toml"], 3),
+                (["judge", "missing"], 4),
+                (["pave", ROWS, "missing/new.log"], 5),
+            ):
+                for broken in full, unread_pipe():
+                    self.assertEqual(self.run_words(*words, stderr=broken).returncode, status, words)
+
+    def test_a_log_that_may_not_grow(self):
+        """A limit on the sizes of files stands for a full disk: LOG is cut there, and the report comes behind it."""
+        for words, log in (["solve", *FILES], SOLVED), (["pave", ROWS], PAVED):
+            report = self.run_words(*words, "new.log").stdout
+            for most in 0, 1, 1000, len(log) - 1:
+                # Where the signal that comes with such a write isn't ignored, it ends the program, as any other.
+                how = {"limits": [(resource.RLIMIT_FSIZE, most)], "restore_signals": False}
+                ran = self.run_words(*words, "new.log", **how)
+                self.assertEqual((ran.returncode, ran.stderr), (5, b"log fault\n"))
+                self.assertEqual(self.read("new.log"), log[:most])
+                self.assertTrue(report.startswith(ran.stdout))
+
+    def test_a_full_file_system(self):
+        """LOG on a file system of 8 KiB, which is there for one run alone."""
+        (self.folder / "small").mkdir()
+        mounted = (
+            'mount -t tmpfs -o size=8k none small || exit 1; "$@"; status=$?; '
+            "cp small/new.log copied.log 2>/dev/null; exit $status"
+        )
+        alone = ["unshare", "--map-root-user", "--mount", "sh", "-c", mounted, "sh"]
+        how = {"cwd": self.folder, "stdin": subprocess.DEVNULL, "capture_output": True, "timeout": 60}
+        try:
+            subprocess.run([*alone, "true"], check=True, **how)
+        except (OSError, subprocess.CalledProcessError) as error:
+            self.skipTest(f"no file system can be mounted: {error}")
+        ran = subprocess.run([*alone, self.program, "solve", *FILES, "small/new.log"], **how)
+        self.assertEqual((ran.returncode, ran.stderr), (5, b"log fault\n"))
+        self.expect_start("copied.log", SOLVED)
+        self.assertLess(len(self.read("copied.log")), len(SOLVED))
+        self.assertTrue(self.run_words("solve", *FILES, "new.log").stdout.startswith(ran.stdout))
 
     # ---- 6
 
     def test_want_of_memory(self):
         self.sparse("large", 200 * MIB)
         words = ["solve", FILES[0], "large", FILES[2], "new.log"]
-        self.expect(words, 6, b"", b"no memory\n", memory=100 * MIB)
+        self.expect(words, 6, b"", b"no memory\n", limits=[(resource.RLIMIT_AS, 100 * MIB)])
         self.assertFalse((self.folder / "new.log").exists())
 
     # ---- 7
 
     def test_a_full_log(self):
         """80 epochs with 200,000 splits in each have a log of some 640 MB."""
-        rows = (EXAMPLES / "one-edge-box.log").read_text().splitlines()
-        sats = [line for line in rows if line.startswith("sat ")]
-        root = "root -100000000 -90000000 -90000000 100000000 90000000 90000000"
-        lines = ["gpscover 1", "rules 0 200000 1000"]
-        for index in range(1, 81):
-            lines += [f"epoch {index} {index}000000000000 4", *sats, root]
-        self.write("long.rows", "".join(line + "\n" for line in lines).encode())
+        self.long_rows("long.rows", 80, 200_000)
         words = ["pave", "long.rows", "new.log"]
         self.expect(words, 7, b"", b"log full %d\n" % LOG, stdout=subprocess.DEVNULL)
         # It holds whole lines, and the next one, of less than 100 bytes, isn't begun.
@@ -251,6 +413,42 @@ class RealFiles(unittest.TestCase):
         log = self.read("sky.log")
         self.assertEqual(rows_of(log), [crowded_rows(lines) for lines in rows_of(SOLVED)])
         self.expect(["check", *sky], 0, b"yes %d\n" % closings(log)(b"in", b"edge"))
+
+
+def unread_pipe():
+    """The end of a pipe to which one writes, and whose reader has gone; it is closed when it is no longer used."""
+    reader, writer = os.pipe()
+    os.close(reader)
+    return open(writer, "wb", buffering=0)
+
+
+def close_output():
+    """Takes standard output away from a program that is about to begin."""
+    os.close(1)
+
+
+def stop_behind(run, path, least):
+    """Stops a program when it has read more than so many bytes of a file, and gives how many it has."""
+    place = 0
+    while place <= least and run.poll() is None:
+        time.sleep(0.0005)
+        place = place_in(run, path)
+    run.send_signal(signal.SIGSTOP)
+    os.waitpid(run.pid, os.WUNTRACED)
+    return place_in(run, path)
+
+
+def place_in(run, path):
+    """How many bytes of a file a program has read, 0 where it doesn't have it open."""
+    for entry in Path(f"/proc/{run.pid}/fd").iterdir():
+        try:
+            if entry.samefile(path):
+                fields = Path(f"/proc/{run.pid}/fdinfo/{entry.name}").read_text().split()
+                return int(fields[fields.index("pos:") + 1])
+        except OSError:
+            # It was closed in between.
+            continue
+    return 0
 
 
 def rows_of(log):
@@ -307,7 +505,11 @@ def main(program):
     tests = unittest.defaultTestLoader.loadTestsFromTestCase(RealFiles)
     done = unittest.TextTestRunner().run(tests)
     failed = len(done.failures) + len(done.errors)
-    print(f"real files: {done.testsRun - failed} passed, {failed} failed")
+    left_out = len(done.skipped)
+    for _, why in done.skipped:
+        print(f"left out: {why}")
+    note = f", {left_out} left out" if left_out else ""
+    print(f"real files: {done.testsRun - failed - left_out} passed, {failed} failed{note}")
     return 1 if failed else 0
 
 

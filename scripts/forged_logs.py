@@ -1,0 +1,591 @@
+#!/usr/bin/env python3
+"""Judges, checks and paves forged logs, and compares each answer with the one that docs/LOG.md gives.
+
+usage: forged_logs.py PROGRAM
+
+There is at least one forged log for every number of a verdict, and for every kind of refusal 40 on a log with `cut`,
+`in` and `skip` lines; one test is that none is missing. Each expected answer was found by hand from docs/LOG.md, and
+none by the program. It takes some seconds. The last line is `forged logs: N passed, M failed`, and the status 1 where
+one failed.
+"""
+import collections
+import os
+import re
+import subprocess
+import sys
+import tempfile
+from pathlib import Path
+
+TOP = Path(__file__).resolve().parent.parent
+# Four satellites, and a box of some two metres that is closed at the edge.
+ONE_BOX = (TOP / "examples/one-edge-box.log").read_text().splitlines()
+DATA = TOP / "crates/gpscover/data"
+
+# Five satellites of which one may fail, 20,000 km away on the axes, on the diagonal of x and y with 0.6 and 0.8, and
+# below; errors of up to a metre. The y and z of the root are within 0.9 m. So at a point x metres along the x axis the
+# clock offset is within some 1.9 m by G02, G03 and G05, from x - 1 to x + 1 by G01, and from 0.6 * x - 1.72 to
+# 0.6 * x + 1.72 by G04, all give or take 0.1 mm. A box beyond x = 6.04 is shown empty, as neither G01 nor G04 agrees
+# with the other three. Box 5, within a metre of the origin, is inner at the clock 0: G04 alone fails there. Its clock
+# hull is within 1900000 um. The spans of boxes 4 and 6 are wider than they need be.
+WITH_ALL = """\
+gpscover 1
+rules 1 3 1000000
+few 1 1000000000000 2
+skip G03 3
+skip G08 6 20
+epoch 4 2000000000000 5
+sat G01 20000000000000 20000000000000 0 0 0 0 20000000000000 20000000000000 -1000000 1000000
+skip G09 1
+sat G02 0 0 20000000000000 20000000000000 0 0 20000000000000 20000000000000 -1000000 1000000
+sat G03 0 0 0 0 20000000000000 20000000000000 20000000000000 20000000000000 -1000000 1000000
+sat G04 12000000000000 12000000000000 16000000000000 16000000000000 0 0 20000000000000 20000000000000 -1000000 1000000
+skip G32 6 1
+sat G05 0 0 0 0 -20000000000000 -20000000000000 20000000000000 20000000000000 -1000000 1000000
+root -1000000 -900000 -900000 27000000 900000 900000
+cut 0 1 15000000
+split 0 0
+out 2
+split 1 0
+cut 4 1 6500000
+edge 4 -3000000 3000000
+split 3 0
+in 5 0 -1900000 1900000
+edge 6 -3000000 3000000
+done 3
+""".splitlines()
+FEW, EPOCH, ROOT, DONE = 3, 6, 14, 24
+
+Forged = collections.namedtuple("Forged", "name command data answer")
+
+# What has to come at least once.
+WANTED = {f"no {number}" for number in range(50, 65)}
+WANTED |= {f"log 40 kind {kind}" for kind in range(1, 5)} | {f"rows 40 kind {kind}" for kind in range(1, 6)}
+
+
+def text(lines):
+    """The bytes of a log of these lines."""
+    return "".join(line + "\n" for line in lines).encode()
+
+
+def put(lines, number, *new):
+    """The lines with others in the place of the one of this number."""
+    return [*lines[: number - 1], *new, *lines[number:]]
+
+
+def before(lines, number, *new):
+    """The lines with others in front of the one of this number."""
+    return put(lines, number, *new, lines[number - 1])
+
+
+def changed(lines, changes):
+    """The lines with another one at each of these numbers."""
+    for number, line in changes.items():
+        lines = put(lines, number, line)
+    return lines
+
+
+# ---- one box
+
+HALVES = put(changed(ONE_BOX, {2: "rules 0 1 1000000", 10: "done 1"}), 9, "split 0 0", "edge 1 -1400000 500000",
+             "edge 2 -499999 1400000")
+
+
+def one_box_logs():
+    """Changes of the log of one box, and of the same box in halves."""
+    for lines, number, new, answer in (
+        (ONE_BOX, 9, ["edge 0 -1400000 1400000"], "yes 1"),
+        (ONE_BOX, 9, ["edge 0 -1400000 1400000"] * 2, "no 56 NotLive line 10"),
+        (ONE_BOX, 9, ["split 1 0"], "no 56 NotLive line 9"),
+        (ONE_BOX, 9, ["edge 1 0 0"], "no 56 NotLive line 9"),
+        (ONE_BOX, 9, ["split 0 0"], "no 62 OverBudget line 9"),
+        (ONE_BOX, 9, ["edge 0 -0 5"], "log 40 BadLog line 9 kind 3"),
+        (ONE_BOX, 9, ["edge 0 -1400000 1400001"], "yes 1"),
+        (ONE_BOX, 9, ["edge 0 -1399999 1400000"], "no 60 ClockNarrow line 9"),
+        (ONE_BOX, 9, ["edge 0 -1400000 1399999"], "no 60 ClockNarrow line 9"),
+        (ONE_BOX, 9, ["out 0"], "no 58 OutNotShown line 9"),
+        (ONE_BOX, 9, [], "no 63 NotClosed line 9"),
+        (ONE_BOX, 4, [ONE_BOX[3].replace("G01", "G02")], "no 52 SatelliteDiffers line 5"),
+        (ONE_BOX, 2, ["rules 1 0 1000000"], "no 51 EpochDiffers line 3"),
+        (HALVES, 2, ["rules 0 1 1000000"], "yes 2"),
+        (HALVES, 2, ["rules 0 0 1000000"], "no 62 OverBudget line 9"),
+        (HALVES, 2, ["rules 0 1 3000000"], "no 61 BadSplit line 9"),
+        (HALVES, 2, ["rules 0 1 2000000"], "no 61 BadSplit line 9"),
+        (HALVES, 2, ["rules 0 1 1999999"], "yes 2"),
+        (HALVES, 12, ["done 2"], "no 64 CountDiffers line 12"),
+        (HALVES, 10, ["edge 1 -1400000 499999"], "no 60 ClockNarrow line 10"),
+    ):
+        yield f"line {number} {new}", "judge", text(put(lines, number, *new)), answer
+    # The range of G01 is 10 m longer: its offsets are from 8.5 m to 11.5 m, those of G02 and G03 within 1.4 m.
+    far = ONE_BOX[3].replace(" 20000000000000 20000000000000 -", " 20000010000000 20000010000000 -")
+    yield "nothing fits", "judge", text(changed(ONE_BOX, {4: far, 9: "out 0"})), "yes 0"
+    few = ["gpscover 1", "rules 1 0 1000000", "few 1 1388102400000000000000 4"]
+    yield "few alone", "judge", text(few), "yes 0"
+    yield "no bytes", "judge", b"", "log 40 BadLog line 1 kind 4"
+
+
+# ---- verdicts on the log with all kinds of lines
+
+VERDICTS = (
+    # 51: the index, and few or not; where 52 fails too, 51 is the lesser.
+    ({3: "few 4 1000000000000 2"}, "no 51 EpochDiffers line 6"),
+    ({3: "few 5 1000000000000 2"}, "no 51 EpochDiffers line 6"),
+    ({3: "few 3 1000000000000 2"}, "yes 3"),
+    ({3: "few 1 9000000000000 2"}, "yes 3"),
+    ({3: "few 1 1000000000000 5"}, "no 51 EpochDiffers line 3"),
+    ({3: "few 1 1000000000000 4"}, "yes 3"),
+    ({6: "epoch 4 2000000000000 4"}, "no 51 EpochDiffers line 6"),
+    ({2: "rules 2 3 1000000"}, "no 51 EpochDiffers line 6"),
+    # 52: the number of rows, and satellites that are named twice, in one epoch alone.
+    ({6: "epoch 4 2000000000000 6"}, "no 52 SatelliteDiffers line 6"),
+    ({5: "skip G03 6 20"}, "no 52 SatelliteDiffers line 5"),
+    ({8: "skip G01 1"}, "no 52 SatelliteDiffers line 8"),
+    ({12: "skip G09 6 1"}, "no 52 SatelliteDiffers line 12"),
+    ({13: WITH_ALL[12].replace("G05", "G09")}, "no 52 SatelliteDiffers line 13"),
+    ({8: "skip G08 6 20"}, "yes 3"),
+    # 56: boxes that were never opened, are split or are closed.
+    ({15: "cut 1 1 15000000"}, "no 56 NotLive line 15"),
+    ({16: "split 1 0"}, "no 56 NotLive line 16"),
+    ({17: "out 0"}, "no 56 NotLive line 17"),
+    ({20: "edge 2 -3000000 3000000"}, "no 56 NotLive line 20"),
+    ({22: "in 3 0 -1900000 1900000"}, "no 56 NotLive line 22"),
+    ({22: "in 7 0 -1900000 1900000"}, "no 56 NotLive line 22"),
+    ({23: "edge 400000 -3000000 3000000"}, "no 56 NotLive line 23"),
+    # 57: nothing is taken off, nothing is left, and a slab that isn't shown empty.
+    ({15: "cut 0 1 27000000"}, "no 57 CutNotShown line 15"),
+    ({15: "cut 0 1 27000001"}, "no 57 CutNotShown line 15"),
+    ({15: "cut 0 0 -1000000"}, "no 57 CutNotShown line 15"),
+    ({15: "cut 0 0 -1000001"}, "no 57 CutNotShown line 15"),
+    ({15: "cut 0 1 -1000001"}, "no 57 CutNotShown line 15"),
+    ({15: "cut 0 0 27000001"}, "no 57 CutNotShown line 15"),
+    ({15: "cut 0 1 5000000"}, "no 57 CutNotShown line 15"),
+    ({15: "cut 0 0 -500000"}, "no 57 CutNotShown line 15"),
+    ({15: "cut 0 2 0"}, "no 57 CutNotShown line 15"),
+    ({15: "cut 0 3 0"}, "no 57 CutNotShown line 15"),
+    ({15: "cut 0 4 0"}, "no 57 CutNotShown line 15"),
+    ({15: "cut 0 5 0"}, "no 57 CutNotShown line 15"),
+    ({19: "cut 4 1 7000000"}, "no 57 CutNotShown line 19"),
+    ({19: "cut 4 1 5000000"}, "no 57 CutNotShown line 19"),
+    # 58 to 60: closed boxes.
+    ({20: "out 4"}, "no 58 OutNotShown line 20"),
+    ({22: "out 5"}, "no 58 OutNotShown line 22"),
+    ({22: "in 5 1 -1900000 1900000"}, "no 59 InNotShown line 22"),
+    ({22: "in 5 -1 -1900000 1900000"}, "no 59 InNotShown line 22"),
+    ({22: "in 5 1 0 0"}, "no 59 InNotShown line 22"),
+    ({23: "in 6 0 -3000000 3000000"}, "no 59 InNotShown line 23"),
+    ({17: "in 2 0 0 0"}, "no 59 InNotShown line 17"),
+    ({22: "in 5 0 -1899999 1900000"}, "no 60 ClockNarrow line 22"),
+    ({22: "in 5 0 -1900000 1899999"}, "no 60 ClockNarrow line 22"),
+    ({22: "in 5 0 -200000000000000 200000000000000"}, "yes 3"),
+    ({22: "edge 5 -1899999 1900000"}, "no 60 ClockNarrow line 22"),
+    ({22: "edge 5 -1900000 1900000"}, "yes 3"),
+    ({20: "edge 4 2500000 3000000"}, "no 60 ClockNarrow line 20"),
+    ({23: "edge 6 -3000000 1500000"}, "no 60 ClockNarrow line 23"),
+    # A hull that is none is held by any span.
+    ({17: "edge 2 5 5"}, "yes 4"),
+    # 61 and 62: both fail where the third split is no longer allowed for either reason.
+    ({2: "rules 1 3 4000000"}, "no 61 BadSplit line 21"),
+    ({2: "rules 1 3 3999999"}, "yes 3"),
+    ({2: "rules 1 3 16000000"}, "no 61 BadSplit line 16"),
+    ({2: "rules 1 2 4000000"}, "no 61 BadSplit line 21"),
+    ({2: "rules 1 2 1000000"}, "no 62 OverBudget line 21"),
+    ({2: "rules 1 0 1000000"}, "no 62 OverBudget line 16"),
+    ({2: "rules 1 200000 1000"}, "yes 3"),
+    # 64
+    ({24: "done 2"}, "no 64 CountDiffers line 24"),
+    ({24: "done 4"}, "no 64 CountDiffers line 24"),
+    # The first line that fails decides.
+    ({24: "done 2", 20: "out 4", 5: "skip G03 6 20"}, "no 52 SatelliteDiffers line 5"),
+    ({24: "done 2", 20: "out 4"}, "no 58 OutNotShown line 20"),
+)
+
+
+def verdicts():
+    """Verdicts on the log with all kinds of lines."""
+    yield "with all, as it is", "judge", text(WITH_ALL), "yes 3"
+    for changes, answer in VERDICTS:
+        yield f"with all, {changes}", "judge", text(changed(WITH_ALL, changes)), answer
+    for lines, answer in (
+        (put(WITH_ALL, 13), "no 52 SatelliteDiffers line 6"),
+        (put(WITH_ALL, 23), "no 63 NotClosed line 23"),
+        (put(WITH_ALL, 20), "no 63 NotClosed line 23"),
+        (put(changed(WITH_ALL, {24: "done 2"}), 20), "no 63 NotClosed line 23"),
+        (WITH_ALL[:ROOT] + ["done 0"], "no 63 NotClosed line 15"),
+        (WITH_ALL[:ROOT] + ["edge 0 -3000000 30000000", "done 0"], "yes 1"),
+        (put(WITH_ALL, 23, *[WITH_ALL[22]] * 2), "no 56 NotLive line 24"),
+        (before(WITH_ALL, 21, "cut 4 1 6000000"), "no 56 NotLive line 21"),
+        (before(WITH_ALL, 20, "cut 4 1 6400000"), "yes 3"),
+        (WITH_ALL[:2] + WITH_ALL[EPOCH - 1 :] + WITH_ALL[2:5], "no 51 EpochDiffers line 22"),
+        (WITH_ALL[:2] + WITH_ALL[EPOCH - 1 :] + ["few 5 0 0"], "yes 3"),
+        (WITH_ALL + WITH_ALL[EPOCH - 1 :], "no 51 EpochDiffers line 25"),
+        (WITH_ALL + ["epoch 5 2000000000000 5"] + WITH_ALL[EPOCH:], "yes 6"),
+    ):
+        yield f"with all, {len(lines)} lines", "judge", text(lines), answer
+
+
+# ---- refusals of the log with all kinds of lines
+
+WRONG_HEADS = {
+    1: ("gpscover 2", "gpscover 1 ", " gpscover 1", "gpscover  1", "gpscover 01", "gpscover", "Gpscover 1", ""),
+    2: ("rules 9 3 1000000", "rules 1 200001 1000000", "rules 1 3 999", "rules 1 3 10000000001", "rules 1 3",
+        "rules 1 3 1000000 0", "rules -1 3 1000000", "rules 01 3 1000000", "rules 1 3 1000000 ", "rule 1 3 1000", ""),
+}
+# Lines whose first word can't stand at their place.
+WRONG_WORDS = {
+    3: ("skip G03 3", "sat G03", "root 0 0 0 0 0 0", "cut 0 1 5", "in 0 0 0 0", "done 0", "Few 1 0 0", "x"),
+    4: (WITH_ALL[8], "root 0 0 0 0 0 0", "cut 0 1 5", "split 0 0", "out 0", "in 0 0 0 0", "edge 0 0 0", "done 0"),
+    8: ("few 5 0 0", "epoch 5 0 5", "cut 0 1 5", "in 0 0 0 0", "done 0", "Skip G09 1", "skip\tG09 1", ""),
+    14: ("cut 0 1 15000000", "done 0", "few 5 0 0", "roots 0 0 0 0 0 0"),
+    15: ("skip G10 1", WITH_ALL[6].replace("G01", "G11"), "few 5 0 0", "epoch 5 0 5", "root 0 0 0 0 0 0",
+         "rules 1 3 1000", "gpscover 1", "", " cut 0 1 15000000", "cut\t0 1 15000000", "Cut 0 1 15000000",
+         "cuts 0 1 15000000", "cut\r", "-1", "\0", "c\u00fct 0 1 15000000"),
+    22: ("", " in 5 0 -1900000 1900000", "in\t5 0 -1900000 1900000", "IN 5 0 -1900000 1900000", "inn 5 0 0 0", "in\r"),
+}
+# Lines whose first word can stand at their place, and whose fields can't.
+WRONG_FIELDS = {
+    3: ("few 0 0 2", "few 200001 0 2", "few 1 4000000000000000000000 2", "few 1 -1 2", "few 1 0 65", "few 1 0", "few"),
+    4: ("skip G03", "skip G03 0", "skip G03 7", "skip G03 6", "skip G03 6 0", "skip G03 6 21", "skip G03 5 1",
+        "skip G03 3 0", "skip G3 3", "skip G00 3", "skip G100 3", "skip R03 3", "skip g03 3", "skip 03 3",
+        "skip  G03 3", "skip G03 3 ", "skip G03 03", "skip G03 3\r", "skip G03\t3", "skip G03 -3", "skip"),
+    6: ("epoch 200001 2000000000000 5", "epoch 4 2000000000000", "epoch 4 2000000000000 05", "epoch 4 0 65"),
+    7: (WITH_ALL[6].replace("20000000000000 20000000000000 0 0 0 0", "20000000000001 20000000000000 0 0 0 0"),
+        WITH_ALL[6].replace(" 1000000", " 1000000000001"), WITH_ALL[6].replace(" 1000000", " -1000001"),
+        WITH_ALL[6].replace(" 0 0 0 0 ", " 0 0 0 60000000000001 "), WITH_ALL[6] + " 0", "sat G01"),
+    14: ("root -1000000 -900000 -900000 -1000001 900000 900000", "root 0 0 0 10000000000001 0 0", "root 0 0 0 0 0"),
+    15: ("cut", "cut 0", "cut 0 1", "cut 0 1 15000000 0", "cut 0 1 15000000 ", "cut  0 1 15000000", "cut 0  1 15000000",
+         "cut 0 6 15000000", "cut 0 -1 15000000", "cut -1 1 15000000", "cut 400001 1 15000000",
+         "cut 0 1 10000000000001", "cut 0 1 -10000000000001", "cut 0 1 015000000", "cut 0 1 +15000000", "cut 0 1 -0",
+         "cut 0 1 15000000.0", "cut 0 1 1e7", "cut 0 1 15000000\r", "cut 0 1\t15000000", "cut 0 01 15000000",
+         "cut 0 x 15000000",
+         "cut 0 1 99999999999999999999999999999999999999999"),
+    16: ("split 0 3", "split 0", "split 0 0 0", "split 400001 0", "split -0 0"),
+    17: ("out", "out ", "out  2", "out 2 ", "out 2 0", "out 400001", "out -2", "out 02", "out 2\r"),
+    22: ("in", "in 5", "in 5 0", "in 5 0 0", "in 5 0 -1900000 1900000 0", "in 5 0 1900000 -1900000", "in 5 0 1 0",
+         "in 5 200000000000001 -1900000 1900000", "in 5 0 -200000000000001 1900000", "in 5 0 -1900000 200000000000001",
+         "in 5 -0 -1900000 1900000", "in 5 0 -01900000 1900000", "in 5 0 -1900000 1900000 ", "in 5 0  -1900000 1900000",
+         "in 400001 0 -1900000 1900000", "in -5 0 -1900000 1900000", "in 5 0 - 1900000", "in 5 0 -1900000 1900000\r"),
+    23: ("edge 6 3000000 -3000000", "edge 6 0", "edge 6 0 0 0", "edge 400001 0 0"),
+    24: ("done", "done -1", "done 200001", "done 3 ", "done 03", "done 3\r"),
+}
+# Numbers at the ends of their ranges are none of these.
+WIDEST = {3: "few 1 3999999999999999999999 0", 6: "epoch 200000 0 5", 20: "edge 4 -200000000000000 200000000000000"}
+
+
+def refused_logs():
+    """The log with all kinds of lines, with one line that doesn't fit, and what is said of it."""
+    for kind, wrong in ((1, WRONG_HEADS), (2, WRONG_WORDS), (3, WRONG_FIELDS)):
+        for number, lines in wrong.items():
+            for line in lines:
+                answer = f"log 40 BadLog line {number} kind {kind}"
+                yield f"line {number} {line!r}", text(changed(WITH_ALL, {number: line})), answer
+                if kind > 1:
+                    # Where the text ends there without LF, the other fault is still what is said.
+                    cut = text(changed(WITH_ALL, {number: line})[:number])[:-1]
+                    if line:
+                        yield f"line {number} {line!r} and no more", cut, answer
+    yield "no first line", text(WITH_ALL[1:]), "log 40 BadLog line 1 kind 1"
+    yield "no second line", text(put(WITH_ALL, 2)), "log 40 BadLog line 2 kind 1"
+    yield "no root", text(put(WITH_ALL, ROOT)), "log 40 BadLog line 14 kind 2"
+    yield "no done", text(WITH_ALL[:-1] + WITH_ALL[2:]), "log 40 BadLog line 24 kind 2"
+    yield "done twice", text(WITH_ALL + [WITH_ALL[-1]]), "log 40 BadLog line 25 kind 2"
+    yield "a step behind done", text(WITH_ALL + ["in 5 0 -1900000 1900000"]), "log 40 BadLog line 25 kind 2"
+    yield "an empty line at the end", text(WITH_ALL + [""]), "log 40 BadLog line 25 kind 2"
+    yield "a few epoch that ends with done", text(before(WITH_ALL, EPOCH, "done 0")), "log 40 BadLog line 6 kind 2"
+    two = changed(WITH_ALL, {15: "cut 0 6 15000000", 22: "", 2: "rules 1 3 1000000"})
+    yield "two lines that don't fit", text(two), "log 40 BadLog line 15 kind 3"
+    ends = text(WITH_ALL).splitlines(keepends=True)
+    yield "a line with a byte beyond ASCII", b"".join(put(ends, 15, b"cut 0 1 \xff\n")), "log 40 BadLog line 15 kind 3"
+    yield "CR LF", text(WITH_ALL).replace(b"\n", b"\r\n"), "log 40 BadLog line 1 kind 1"
+    # Seven satellite lines are there.
+    more = [f"skip G{number} 4" for number in range(40, 97)]
+    many = before(WITH_ALL, ROOT, *more)
+    yield "64 satellite lines", text(many), "yes 3"
+    for line in "skip G98 1", "skip", WITH_ALL[12].replace("G05", "G98"):
+        yield f"65 satellite lines, {line}", text(before(many, ROOT + 57, line)), "log 40 BadLog line 71 kind 2"
+    yield "wide numbers", text(changed(WITH_ALL, WIDEST)), "yes 3"
+
+
+def cut_logs():
+    """The log with all kinds of lines, cut behind each line and within the end of each."""
+    whole = {2: "yes 0", 3: "yes 0", 4: "yes 0", 5: "yes 0", DONE: "yes 3"}
+    for count in range(DONE + 1):
+        data = text(WITH_ALL[:count])
+        yield f"{count} lines", data, whole.get(count, f"log 40 BadLog line {count + 1} kind 4")
+        if count:
+            yield f"{count} lines without the last LF", data[:-1], f"log 40 BadLog line {count} kind 4"
+
+
+def refusals():
+    """The refused logs, which `check` refuses as `judge` does."""
+    for name, data, answer in [*refused_logs(), *cut_logs()]:
+        yield name, "judge", data, answer
+        if answer.startswith("log"):
+            yield name, "check", data, answer
+
+
+# ---- rows
+
+def refused_rows():
+    """Rows that `pave` refuses: the first lines of the two logs, with one thing changed."""
+    rows = WITH_ALL[:ROOT]
+    yield "another q", "pave", text(changed(ONE_BOX[:8], {2: "rules 1 0 1000000"})), "rows 40 BadLog line 3 kind 5"
+    for changes, answer in (
+        ({3: "few 4 1000000000000 2"}, "line 6 kind 5"),
+        ({3: "few 1 1000000000000 5"}, "line 3 kind 5"),
+        ({5: "skip G03 6 20"}, "line 5 kind 5"),
+        ({6: "epoch 4 2000000000000 4"}, "line 6 kind 5"),
+        ({6: "epoch 4 2000000000000 6"}, "line 6 kind 5"),
+        ({8: "skip G01 1"}, "line 8 kind 5"),
+        ({13: rows[12].replace("G05", "G09")}, "line 13 kind 5"),
+        ({13: rows[12].replace("G05", "G09"), 5: "skip G03 6 20"}, "line 5 kind 5"),
+        # Kind 5 comes only where all lines fit.
+        ({3: "few 4 1000000000000 2", 12: "skip G32 6 21"}, "line 12 kind 3"),
+        ({1: "gpscover 2"}, "line 1 kind 1"),
+        ({2: "rules 9 3 1000000"}, "line 2 kind 1"),
+        ({8: "cut 0 1 15000000"}, "line 8 kind 2"),
+        ({8: "skip G09 7"}, "line 8 kind 3"),
+    ):
+        yield f"{changes}", "pave", text(changed(rows, changes)), f"rows 40 BadLog {answer}"
+    for step in WITH_ALL[ROOT:]:
+        yield f"a step {step}", "pave", text(rows + [step]), "rows 40 BadLog line 15 kind 2"
+    for count in 0, 1, *range(EPOCH, ROOT):
+        yield f"{count} rows", "pave", text(rows[:count]), f"rows 40 BadLog line {count + 1} kind 4"
+    yield "rows without the last LF", "pave", text(rows)[:-1], "rows 40 BadLog line 14 kind 4"
+
+
+# ---- logs beside files
+
+# Of a satellite of this line there is no record in the navigation file.
+STRANGER = "G01  21654321.098   113793123.4561       1234.567          45.000"
+
+
+class Files:
+    """The recorded receiver's files with the second and the fourth epoch cut to four satellites, fewer than q + 4, and
+    with one without a record in each epoch; and the log of them, which is made of that of the whole files."""
+
+    def __init__(self):
+        head, *epochs = (DATA / "receiver.obs").read_text().split("\n> ")
+        obs = [head]
+        for index, epoch in enumerate(epochs, 1):
+            first, *sats = epoch.splitlines()
+            sats = [line for line in sats if line[0] == "G"]
+            kept = [*(sats[:4] if index % 2 == 0 else sats), STRANGER]
+            obs.append("\n".join([first[:30] + f"{len(kept):3}", *kept]))
+        self.obs = "\n> ".join(obs) + "\n"
+        self.nav = (DATA / "receiver.nav").read_text()
+        self.settings = (DATA / "settings.toml").read_text()
+        self.lines = self.log()
+        words = [line.split()[0] for line in self.lines]
+        self.heads = [at for at, word in enumerate(words, 1) if word in ("epoch", "few")]
+        self.root, self.done, self.split = (words.index(word) + 1 for word in ("root", "done", "split"))
+        self.edge = next(at for at, word in enumerate(words, 1) if word == "edge")
+        self.boxes = words.count("in") + words.count("edge")
+
+    @staticmethod
+    def log():
+        """The log of the changed files: a satellite more that isn't used, and two epochs of few."""
+        head, *blocks = re.split(r"(?m)^(?=epoch )", (DATA / "receiver.log").read_text())
+        lines = head.splitlines()
+        for index, block in enumerate(blocks, 1):
+            block = block.splitlines()
+            if index % 2 == 0:
+                _, number, time, _ = block[0].split()
+                lines += [f"few {number} {time} 4", "skip G01 3"]
+            else:
+                root = next(at for at, line in enumerate(block) if line.startswith("root "))
+                lines += [*block[:root], "skip G01 3", *block[root:]]
+        return lines
+
+    def words(self, number, **changes):
+        """The line of this number with other words at the places that are named w0, w1 and so on."""
+        words = self.lines[number - 1].split()
+        for place, word in changes.items():
+            words[int(place[1:])] = str(word)
+        return " ".join(words)
+
+    def number(self, line, place):
+        """A number of a line."""
+        return int(self.lines[line - 1].split()[place])
+
+    def stepped(self, line, place, by):
+        """The lines with one number changed by so much."""
+        return put(self.lines, line, self.words(line, **{f"w{place}": self.number(line, place) + by}))
+
+
+def checked_logs(files):
+    """Logs that `check` tests against the files."""
+    lines, (one, two, three, four) = files.lines, files.heads
+    yield "as it is", lines, f"yes {files.boxes}"
+    for place in 1, 2, 3:
+        for by in 1, -1:
+            yield "other rules", files.stepped(2, place, by), "no 50 RulesDiffer line 2"
+    for head in files.heads:
+        for place in 1, 2:
+            yield "another index or time", files.stepped(head, place, 1), f"no 51 EpochDiffers line {head}"
+        for by in 1, -1:
+            # With one less the first is few, and with one more the second isn't, where it is said otherwise.
+            test = "no 51 EpochDiffers" if head in (two, four) and by > 0 else "no 52 SatelliteDiffers"
+            yield "another number", files.stepped(head, 3, by), f"{test} line {head}"
+    yield "no second epoch", lines[: two - 1] + lines[three - 1 :], f"no 51 EpochDiffers line {two}"
+    yield "no last epoch", lines[: four - 1], f"no 51 EpochDiffers line {four}"
+    yield "no epochs", lines[:2], "no 51 EpochDiffers line 3"
+    more = f"few 5 {files.number(four, 2) + 10**12} 4"
+    yield "one epoch more", lines + [more], f"no 51 EpochDiffers line {len(lines) + 1}"
+    yield from satellite_logs(files, lines)
+    yield from row_logs(files)
+    for place in range(1, 7):
+        for by in 1, -1:
+            yield "another root", files.stepped(files.root, place, by), f"no 55 RootDiffers line {files.root}"
+    yield from step_logs(files, lines)
+
+
+def satellite_logs(files, lines):
+    """52 by `check`."""
+    one, two, three, four = files.heads
+    root = files.root
+    swapped = changed(lines, {one + 1: lines[one + 1], one + 2: lines[one]})
+    yield "swapped", swapped, f"no 52 SatelliteDiffers line {one + 1}"
+    yield "no skip line", put(lines, root - 1), f"no 52 SatelliteDiffers line {root - 1}"
+    yield "another reason", put(lines, root - 1, "skip G01 4"), f"no 52 SatelliteDiffers line {root - 1}"
+    yield "another satellite", put(lines, root - 1, "skip G02 3"), f"no 52 SatelliteDiffers line {root - 1}"
+    yield "one more", before(lines, root, "skip G02 3"), f"no 52 SatelliteDiffers line {root}"
+    name = files.words(one + 1, w1="G02")
+    yield "another satellite's row", put(lines, one + 1, name), f"no 52 SatelliteDiffers line {one + 1}"
+    skipped = put(lines, one + 1, "skip " + lines[one].split()[1] + " 3")
+    yield "a skip for a row", skipped, f"no 52 SatelliteDiffers line {one}"
+    fewer = put(skipped, one, files.words(one, w3=files.number(one, 3) - 1))
+    yield "a skip for a row, and its number", fewer, f"no 52 SatelliteDiffers line {one}"
+    # A line that is missing in an epoch of few is told at the next line, where 51 is the lesser number.
+    yield "no skip line in few", put(lines, two + 1), f"no 52 SatelliteDiffers line {two + 1}"
+    both = put(put(lines, three, files.words(three, w1=4)), two + 1)
+    yield "no skip line in few, and 51", both, f"no 51 EpochDiffers line {two + 1}"
+    yield "no skip line in few at the end", lines[:-1], f"no 52 SatelliteDiffers line {len(lines)}"
+    yield "another reason in few", put(lines, two + 1, "skip G01 2"), f"no 52 SatelliteDiffers line {two + 1}"
+    yield "no skip line in few, and no more", lines[:two], f"no 51 EpochDiffers line {two + 1}"
+
+
+def row_logs(files):
+    """53 and 54 by `check`. A span of which one end alone is left doesn't hold the checker's own: the spans of a log
+    that was solved are wider than theirs by W at both ends, and own spans of a satellite share a number and are at most
+    W wide."""
+    for line in files.heads[0] + 1, files.heads[2] + 5:
+        for low in 2, 4, 6, 8:
+            ends = [files.number(line, low), files.number(line, low + 1)]
+            for end in ends:
+                point = {f"w{low}": end, f"w{low + 1}": end}
+                answer = f"no 53 RowNarrow line {line} theirs {end} {end} ours"
+                yield "a narrow row", put(files.lines, line, files.words(line, **point)), (answer, ends)
+                # The span comes before the bounds, and x before y, z and the range.
+                point["w11"] = files.number(line, 11) + 1
+                if low < 8:
+                    point["w9"] = files.number(line, 8)
+                yield "a narrow row, and bounds", put(files.lines, line, files.words(line, **point)), (answer, ends)
+        for place in 10, 11:
+            for by in 1, -1:
+                yield "other bounds", files.stepped(line, place, by), f"no 54 BoundDiffers line {line}"
+
+
+def step_logs(files, lines):
+    """56 to 64 by `check`, on the steps of the first epoch."""
+    edge, done, root = files.edge, files.done, files.root
+    box, low, high = (files.number(edge, place) for place in (1, 2, 3))
+    x_low = files.number(root, 1)
+    yield "a box twice", before(lines, edge, lines[edge - 1]), f"no 56 NotLive line {edge + 1}"
+    yield "a cut of nothing", before(lines, root + 1, f"cut 0 0 {x_low}"), f"no 57 CutNotShown line {root + 1}"
+    yield "all is cut but a point", before(lines, root + 1, f"cut 0 1 {x_low}"), f"no 57 CutNotShown line {root + 1}"
+    yield "out for edge", put(lines, edge, f"out {box}"), f"no 58 OutNotShown line {edge}"
+    # Nothing fits there at an offset beyond the clock hull, which the log's span is.
+    inner = f"in {box} {high + 1} {low} {high}"
+    yield "in for edge", put(lines, edge, inner), f"no 59 InNotShown line {edge}"
+    yield "a span too short at its low end", files.stepped(edge, 2, 1), f"no 60 ClockNarrow line {edge}"
+    yield "a span too short at its high end", files.stepped(edge, 3, -1), f"no 60 ClockNarrow line {edge}"
+    yield "a span longer at its low end", files.stepped(edge, 2, -1), f"yes {files.boxes}"
+    yield "a span longer at its high end", files.stepped(edge, 3, 1), f"yes {files.boxes}"
+    yield "no line for a box", put(lines, edge), f"no 63 NotClosed line {done - 1}"
+    for by in 1, -1:
+        yield "another count", files.stepped(done, 1, by), f"no 64 CountDiffers line {done}"
+
+
+def checked_rules(files):
+    """61 and 62 by `check`, whose rules are those of the settings: the settings are changed with them."""
+    side = files.number(files.root, 4) - files.number(files.root, 1)
+    splits = [at for at, line in enumerate(files.lines, 1) if line.startswith("split ")]
+    for key, value, place, rule, answer in (
+        ("width", side // 1000, 3, side, f"no 61 BadSplit line {splits[0]}"),
+        ("bisections", 39, 2, 39, f"no 62 OverBudget line {splits[39]}"),
+        ("bisections", 0, 2, 0, f"no 62 OverBudget line {splits[0]}"),
+    ):
+        settings = re.sub(rf"(?m)^{key} = .*$", f"{key} = {value}", files.settings)
+        yield settings, put(files.lines, 2, files.words(2, **{f"w{place}": rule})), answer
+
+
+# ---- running them
+
+class Runner:
+    """Runs the program over files in a folder of its own."""
+
+    def __init__(self, program, folder, files):
+        self.program, self.folder = program, Path(folder)
+        self.passed = self.failed = 0
+        self.answers = set()
+        self.write("nav", files.nav)
+        self.write("obs", files.obs)
+        self.write("settings", files.settings)
+
+    def write(self, name, lines):
+        (self.folder / name).write_text(lines, newline="\n")
+
+    def said(self, command, data):
+        """The status, standard output and standard error of a command over a log or rows of these bytes."""
+        (self.folder / "log").write_bytes(data)
+        words = {"judge": ["log"], "check": ["obs", "nav", "settings", "log"], "pave": ["log", "new.log"]}[command]
+        run = [self.program, command, *words]
+        ran = subprocess.run(run, cwd=self.folder, stdin=subprocess.DEVNULL, capture_output=True, timeout=120)
+        return ran.returncode, ran.stdout.decode(), ran.stderr.decode()
+
+    def expect(self, it):
+        """Counts one forged log, and tells of it where its answer is another one."""
+        status, out, err = said = self.said(it.command, it.data)
+        answer, within = it.answer if isinstance(it.answer, tuple) else (it.answer, None)
+        if within and out.startswith(answer):
+            out = out if not holds_own(out, within) else answer + "\n"
+        wanted = {"y": (0, answer + "\n", ""), "n": (1, answer + "\n", "")}.get(answer[0], (3, "", answer + "\n"))
+        right = (status, out, err) == wanted and not (self.folder / "new.log").exists()
+        self.count(right, f"{it.command}, {it.name}: {said}, and {answer!r} is wanted")
+        self.answers.add(re.sub(r"^(no \d+|log 40|rows 40)(.*?)( kind \d)?$", r"\1\3", answer))
+
+    def count(self, right, otherwise):
+        """Counts a test, and says what is wrong where it fails."""
+        self.passed += right
+        self.failed += not right
+        if not right:
+            print(otherwise)
+
+
+def holds_own(out, ends):
+    """Whether the last two numbers of the verdict are a span within these ends, as the checker's own one is."""
+    match = re.fullmatch(r"no 53 RowNarrow line \d+ theirs \S+ \S+ ours (-?\d+) (-?\d+)\n", out)
+    return bool(match) and ends[0] <= int(match[1]) <= int(match[2]) <= ends[1]
+
+
+def main(program):
+    files = Files()
+    with tempfile.TemporaryDirectory() as folder:
+        runner = Runner(os.path.abspath(program), folder, files)
+        for table in one_box_logs(), verdicts(), refusals(), refused_rows():
+            for row in table:
+                runner.expect(Forged(*row))
+        for name, lines, answer in checked_logs(files):
+            runner.expect(Forged(name, "check", text(lines), answer))
+        for settings, lines, answer in checked_rules(files):
+            runner.write("settings", settings)
+            runner.expect(Forged("other rules", "check", text(lines), answer))
+    missing = WANTED - runner.answers
+    runner.count(not missing, f"never wanted: {sorted(missing)}")
+    print(f"forged logs: {runner.passed} passed, {runner.failed} failed")
+    return 1 if runner.failed else 0
+
+
+if __name__ == "__main__":
+    if len(sys.argv) != 2:
+        sys.exit(__doc__)
+    sys.exit(main(sys.argv[1]))
