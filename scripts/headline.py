@@ -33,7 +33,11 @@ LINKS = (
         "The program's top call",
         "`main` calls `run` with the words of the command line. This clause of its contract speaks of everything that is seen"
         " before and after the call, by the command that the words ask for.",
-        (("crates/cover_run/src/top.rt", "runs"), ("crates/cover_run/specs/Runs.antt", "Runs")),
+        (
+            ("crates/cover_run/src/top.rt", "runs"),
+            ("crates/cover_run/specs/Runs.antt", "Runs"),
+            ("crates/cover_run/specs/Runs.antt", "Obeys"),
+        ),
     ),
     (
         "A run of `check`, by its status",

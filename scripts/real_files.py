@@ -48,6 +48,54 @@ def closings(log):
     return lambda *words: sum(line.split()[0] in words for line in log.splitlines())
 
 
+def day(lines):
+    """A mixed observation file of one day, every 30 s, with six GPS satellites and others."""
+    codes = [b"G%02d  22000000.000\n" % number for number in range(1, 7)]
+    others = [b"R%02d  22000000.000\n" % number for number in range(1, 21)]
+    sats = b"".join(codes + others)
+    epochs = []
+    for k in range(2880):
+        minutes, seconds = divmod(30 * k, 60)
+        hour, minute = divmod(minutes, 60)
+        epochs.append(b"> 2024 01 07 %02d %02d %2d.0000000  0 26\n" % (hour, minute, seconds) + sats)
+    return b"".join([line.ljust(60) + label + b"\n" for line, label in lines] + epochs)
+
+
+# One record, of a satellite that stands still; five lines of zeros follow the first four.
+ZEROS = b"    " + b" 0.000000000000D+00" * 4 + b"\n"
+RECORD = (
+    b"G%02d 2024 01 07 00 00 00" + b" 0.000000000000D+00" * 3 + b"\n" + ZEROS
+    + b"    " + b" 0.000000000000D+00" * 3 + b" 5.200000000000D+03\n" + ZEROS * 5
+)
+DAY = {
+    "day.obs": day([
+        (b"     3.05           OBSERVATION DATA    M", b"RINEX VERSION / TYPE"),
+        (b"G    1 C1C", b"SYS / # / OBS TYPES"),
+        (b"R    1 C1C", b"SYS / # / OBS TYPES"),
+        (b"  2024     1     7     0     0    0.0000000     GPS", b"TIME OF FIRST OBS"),
+        (b"", b"END OF HEADER"),
+    ]),
+    "day.nav": b"     3.05           N: GNSS NAV DATA    G".ljust(60) + b"RINEX VERSION / TYPE\n"
+    + b"".ljust(60) + b"END OF HEADER\n" + b"".join(RECORD % number for number in range(1, 7)),
+    "day.toml": b"""[search]
+centre = [6378137000, 0, 0]
+half = 200000
+outliers = 1
+bisections = 4096
+width = 1000
+max_age = 7200
+[signal]
+mode = "single"
+codes = ["C1C"]
+[bounds]
+receiver = [-3000, 3000]
+orbit_clock = [-3000, 3000]
+ionosphere = [0, 20000]
+troposphere = [2000, 25000]
+""",
+}
+
+
 class RealFiles(unittest.TestCase):
     program = None
 
@@ -167,6 +215,24 @@ class RealFiles(unittest.TestCase):
         self.write("receiver.log", b"".join(lines))
         for words in ["judge", "receiver.log"], ["check", *FILES, "receiver.log"]:
             self.expect(words, 1, b"no 64 CountDiffers line %d\n" % (at + 1))
+
+    def test_a_day_is_solved_in_parts(self):
+        for name, data in DAY.items():
+            self.write(name, data)
+        # few epochs of the day, others, and none
+        for words, first in (["--from", "1", "--to", "4"], 1), (["--to=240", "--from=237"], 237):
+            ran = self.run_words("solve", *DAY, "part.log", *words)
+            self.assertEqual((ran.returncode, ran.stderr), (0, b""))
+            log = self.read("part.log")
+            indices = [int(line.split()[1]) for line in log.splitlines() if line.startswith(b"epoch")]
+            self.assertEqual(indices, list(range(first, first + 4)))
+            boxes = closings(log)(b"in", b"edge")
+            self.expect(["check", *DAY, "part.log", *words], 0, b"yes %d\n" % boxes)
+            ran = self.run_words("check", *DAY, "part.log", "--from", str(first + 1))
+            self.assertEqual((ran.returncode, ran.stdout), (1, b"no 51 EpochDiffers line 3\n"))
+        self.expect(["solve", *DAY, "none.log", "--from", "3", "--to", "2"], 0)
+        self.assertEqual(self.read("none.log"), b"gpscover 1\nrules 1 4096 1000000\n")
+        self.expect(["check", *DAY, "none.log", "--from", "3", "--to", "2"], 0, b"yes 0\n")
 
     # ---- 2
 

@@ -5,6 +5,7 @@ use Rattle.std.proofs.Common.{inl, inr, refl, sym, ap, subst, ◌∙◌, arith}
 use Rattle.std.specs.Prelude.{◌≢◌}
 use Rattle.std.specs.FinMap as map
 use Rattle.std.specs.Option.{option_map}
+use Rattle.command_words.specs.Commands as words
 use Rattle.log_writer.specs.Writing.{Trust}
 use Rattle.outer_io.proofs.Covering.{get-other, get-log}
 use Rattle.outer_io.specs.Told.{Files, files_of}
@@ -20,6 +21,7 @@ use Rattle.cover_run.proofs.GrammarLemmas.{no_first}
 use Rattle.cover_run.proofs.RunLemmas.{stopped_not_done}
 use Rattle.cover_run.proofs.TaskLemmas.{checked_fair}
 use Rattle.cover_run.specs.Accepting.{AreApart, SolvesThenChecks}
+use Rattle.cover_run.specs.Chosen.{chosen_in}
 use Rattle.cover_run.specs.Checking.{CheckedValue, ReadsChecked, Refuses, SaysAccepted}
 use Rattle.cover_run.specs.Checking.{SaysRefused, checked_value}
 use Rattle.cover_run.specs.Inputs.{InputsValue, ReadsInputs, inputs_value, nav_text, obs_text}
@@ -31,7 +33,6 @@ use Rattle.cover_run.specs.Runs.{Ends, checking, solving}
 use Rattle.cover_run.specs.Solving.{IsSolved, IsSolution, Solves}
 use Rattle.cover_run.specs.Statuses.{status_of}
 use Rattle.cover_run.specs.Telling.{Tells, sinks}
-use Rattle.cover_run.specs.Words.{Names}
 use Rattle.cover_run.specs.Worlds.{World}
 use Rattle.cover_run.specs.Writing.{Answer, status_of_writing}
 use Rattle.cover_run.specs.declared.checked.Checked.{Checked}
@@ -44,8 +45,11 @@ use Rattle.log_writer.specs.declared.fault.WriteFault.TheVariants as why
 
 -- ---- the files behind the log
 
-module _ (limits : Limits) (names : Names) (log bytes : List ℕ) (told : Files)
-    (apart : AreApart names log) where
+module _ (limits : Limits) (names : words.Files) (bytes : List ℕ) (told : Files)
+    (apart : AreApart names) where
+  abbrev log : List ℕ
+  log = names.log
+
   abbrev later : Files
   later = map.insert told log bytes
 
@@ -106,7 +110,7 @@ module _ (limits : Limits) (names : Names) (log bytes : List ℕ) (told : Files)
   log_is value (inl (inr (long, e))) = cc
   log_is value (inr (n, e, there, breaks)) = absurd breaks
 
-  module _ (i : Inputs) (said : List ℕ) (solved : IsSolved i limits.log bytes said)
+  module _ (i : Inputs) (said : List ℕ) (solved : IsSolved (chosen_in names) i limits.log bytes said)
       (same : (other : Result InputsValue Notice)
       → ReadsInputs limits names NeverBreaks (Some told) other
       → Settles (Ok (inputs_value i)) other) where
@@ -142,7 +146,7 @@ module _ (limits : Limits) (names : Names) (log bytes : List ℕ) (told : Files)
     at_log r reads = subst (λ (f : Option (Option (List ℕ))).
         ReadsFile log_text limits.log NeverBreaks f r) log_there reads
 
-    read_again : (v : CheckedValue) → ReadsChecked limits names log NeverBreaks (Some later) (Ok v)
+    read_again : (v : CheckedValue) → ReadsChecked limits names NeverBreaks (Some later) (Ok v)
         → IsReadAgain v
     read_again v (inr (n, is, e)) = cc
     read_again v (inl (w, is, inr (n, has, e))) = cc
@@ -151,7 +155,7 @@ module _ (limits : Limits) (names : Names) (log bytes : List ℕ) (told : Files)
         subst IsReadAgain (sym made)
         (record { inputs = same_inputs w is; text = log_is value (at_log (Ok value) has) })
 
-    read_ends : (n : Notice) → ReadsChecked limits names log NeverBreaks (Some later) (Err n) → ⊥
+    read_ends : (n : Notice) → ReadsChecked limits names NeverBreaks (Some later) (Err n) → ⊥
     read_ends n (inr (k, is, e)) = inputs_read k is
     read_ends n (inl (w, is, inr (k, has, e))) = log_read k (at_log (Err k) has)
     read_ends n (inl (w, is, inl (value, has, e))) = cc
@@ -162,9 +166,9 @@ module _ (limits : Limits) (names : Names) (log bytes : List ℕ) (told : Files)
 abbrev IsLost : Trust → Status → Type 0
 IsLost trust s = (s ≡ status.NoMemory) ⊎ (IsBrokenOff s × (trust.log None → trust.out → ⊥))
 
-module _ (limits : Limits) (names : Names) (log : List ℕ) (a b c d : World)
+module _ (limits : Limits) (names : words.Files) (a b c d : World)
     (solver checker : Trust) (s : Status)
-    (runs : SolvesThenChecks limits names log a b c d solver checker s) where
+    (runs : SolvesThenChecks limits names a b c d solver checker s) where
   abbrev Breaking : Slot → Notice → Type 0
   Breaking = MayBreak c.shelf d.shelf checker.log
 
@@ -173,37 +177,37 @@ module _ (limits : Limits) (names : Names) (log : List ℕ) (a b c d : World)
   of_break of n is (inr (m, counted)) =
       inr (inl (is ∙ ap status_of m), λ reads prints. counted.unreliable None reads)
 
-  module _ (i : Inputs) (bytes said : List ℕ) (solved : IsSolved i limits.log bytes said)
-      (rewritten : files_of b.shelf ≡ option_map (λ fs. map.insert fs log bytes) (files_of a.shelf))
+  module _ (i : Inputs) (bytes said : List ℕ) (solved : IsSolved (chosen_in names) i limits.log bytes said)
+      (rewritten : files_of b.shelf ≡ option_map (λ fs. map.insert fs names.log bytes) (files_of a.shelf))
       (same : (other : Result InputsValue Notice)
       → ReadsInputs limits names NeverBreaks (Some runs.told) other
       → Settles (Ok (inputs_value i)) other) where
     abbrev behind : Files
-    behind = map.insert runs.told log bytes
+    behind = map.insert runs.told names.log bytes
 
     abbrev Read : Result CheckedValue Notice → Type 0
-    Read r = ReadsChecked limits names log Breaking (Some behind) r
+    Read r = ReadsChecked limits names Breaking (Some behind) r
 
     read_behind : Read (valued checked_value runs.checks.read)
     read_behind =
         let files = runs.keeps ∙ rewritten
-        ∙ ap (option_map (λ fs. map.insert fs log bytes)) runs.are_told in
+        ∙ ap (option_map (λ fs. map.insert fs names.log bytes)) runs.are_told in
         subst (λ (f : Option Files).
-        ReadsChecked limits names log Breaking f (valued checked_value runs.checks.read)) files
+        ReadsChecked limits names Breaking f (valued checked_value runs.checks.read)) files
         runs.checks.found.reads
 
     not_said : (f : Checked) (fault : Fault) → Read (Ok (checked_value f))
-        → Refuses f.inputs (log_value f.log) fault → ⊥
+        → Refuses (chosen_in names) f.inputs (log_value f.log) fault → ⊥
     not_said f fault reads refused =
-        let given = (checked_fair limits names log).value Breaking NeverBreaks (Some behind)
+        let given = (checked_fair limits names).value Breaking NeverBreaks (Some behind)
         (checked_value f) reads in
-        let again = read_again limits names log bytes runs.told runs.apart i said solved same
+        let again = read_again limits names bytes runs.told runs.apart i said solved same
         (checked_value f) given in
-        not_refused i f.inputs limits.log bytes said (log_value f.log) fault again.inputs solved
+        not_refused (chosen_in names) i f.inputs limits.log bytes said (log_value f.log) fault again.inputs solved
         again.text refused
 
     told_is : (f : Checked) (t : Status) → Read (Ok (checked_value f))
-        → Tells (SaysAccepted f) (SaysRefused f) (sinks c.out c.err) (sinks d.out d.err) checker.out
+        → Tells (SaysAccepted (chosen_in names) f) (SaysRefused (chosen_in names) f) (sinks c.out c.err) (sinks d.out d.err) checker.out
         t
         → IsLost checker t ⊎ (t ≡ status.Done)
     told_is f status.Done reads told = inr refl
@@ -217,11 +221,11 @@ module _ (limits : Limits) (names : Names) (log : List ℕ) (a b c d : World)
     told_is f status.LogFull reads told = absurd told
 
     status_is : (read : Result Checked Notice) → Read (valued checked_value read)
-        → Ends (checking limits names log) c d checker s read → IsLost checker s ⊎ (s ≡ status.Done)
+        → Ends (checking limits names) c d checker s read → IsLost checker s ⊎ (s ≡ status.Done)
     status_is (Ok f) reads ends = told_is f s reads ends.told
     status_is (Err n) reads ends =
-        elim ((checked_fair limits names log).ends Breaking (Some behind) n reads) [
-          | inl given ↦ absurd (read_ends limits names log bytes runs.told runs.apart i said solved
+        elim ((checked_fair limits names).ends Breaking (Some behind) n reads) [
+          | inl given ↦ absurd (read_ends limits names bytes runs.told runs.apart i said solved
               same n given)
           | inr broken ↦ inl (of_break broken.0 n ends.status broken.1)
         ]
@@ -233,7 +237,8 @@ module _ (limits : Limits) (names : Names) (log : List ℕ) (a b c d : World)
 
   whole_of : (i : Inputs) (bytes said : List ℕ) (answer : Answer)
       → status.Done ≡ status_of_writing limits.log answer
-      → IsSolution i limits.log answer bytes said → IsSolved i limits.log bytes said
+      → IsSolution (chosen_in names) i limits.log answer bytes said
+      → IsSolved (chosen_in names) i limits.log bytes said
   whole_of i bytes said (Ok done) e text = text
   whole_of i bytes said (Err why.Log) e text = cc
   whole_of i bytes said (Err why.Out) e text = cc
@@ -244,7 +249,7 @@ module _ (limits : Limits) (names : Names) (log : List ℕ) (a b c d : World)
       → ((other : Result InputsValue Notice)
       → ReadsInputs limits names NeverBreaks (Some runs.told) other
       → Settles (Ok (inputs_value i)) other)
-      → Solves limits.log log i a b solver status.Done → IsLost checker s ⊎ (s ≡ status.Done)
+      → Solves limits.log names.log (chosen_in names) i a b solver status.Done → IsLost checker s ⊎ (s ≡ status.Done)
   solved_so i same (inl none) = let e : status.Done ≡ status.WriteFault = none.status in cc
   solved_so i same (inr wrote) =
       ends_so i wrote.bytes wrote.said
@@ -254,7 +259,7 @@ module _ (limits : Limits) (names : Names) (log : List ℕ) (a b c d : World)
       → ((other : Result InputsValue Notice)
       → ReadsInputs limits names NeverBreaks (Some runs.told) other
       → Settles (valued inputs_value read) other)
-      → Ends (solving limits names log) a b solver status.Done read
+      → Ends (solving limits names) a b solver status.Done read
       → IsLost checker s ⊎ (s ≡ status.Done)
   read_so (Ok i) same ends = solved_so i same ends
   read_so (Err n) same ends = absurd (stopped_not_done n ends.ends (sym ends.status))

@@ -7,7 +7,7 @@ use Rattle.std.specs.List.{filter}
 use Rattle.std.proofs.Math.Dec.{T_prop}
 use mathlib.Core.HLevel.{is_prop→PathP}
 use Rattle.epoch_selection.specs.Searches.{searches_in}
-use Rattle.epoch_selection.specs.Selections.{all_epochs, is_selected, selected}
+use Rattle.epoch_selection.specs.Selections.{is_selected, selected}
 use Rattle.epoch_selection.specs.declared.selection.Selection.{Selection}
 use Rattle.error_bounds.specs.Reading.{bound_for, centre_with, IsRoot, value_of_settings}
 use Rattle.error_bounds.specs.Texts.{SettingsValue}
@@ -167,8 +167,9 @@ module _ (i j : Inputs) (same : inputs_value i ≡ inputs_value j) (root : GridB
   settings_same : value_of_settings i.settings ≡ value_of_settings j.settings
   settings_same = ap (λ (v : InputsValue). v.settings) same
 
-  epochs_same : plain_epochs (epochs_of i) ≡ plain_epochs (epochs_of j)
-  epochs_same = same_selected all_epochs i.obs.epochs.items j.obs.epochs.items
+  epochs_same : (chosen : Selection)
+      → plain_epochs (epochs_of chosen i) ≡ plain_epochs (epochs_of chosen j)
+  epochs_same chosen = same_selected chosen i.obs.epochs.items j.obs.epochs.items
       (ap (λ (v : InputsValue). v.obs.epochs) same)
 
   pub root_there : IsRootOf j root → IsRootOf i root
@@ -176,29 +177,30 @@ module _ (i j : Inputs) (same : inputs_value i ≡ inputs_value j) (root : GridB
       (λ (v : InputsValue).
       IsRoot (centre_with v.obs.position v.settings.centre) v.settings.half root) (sym same) is
 
-  abbrev OwnBy : List NavRecord → SettingsValue → Inputs → List (List SatLine) → Type 0
-  OwnBy records v k owns = AreOwn (meaning_by records v) (searches_in root (epochs_of k)) owns
+  abbrev OwnBy : List NavRecord → SettingsValue → List ObsEpoch → List (List SatLine) → Type 0
+  OwnBy records v epochs owns = AreOwn (meaning_by records v) (searches_in root epochs) owns
 
-  pub own_there : (owns : List (List SatLine))
-      → AreOwn (meaning_of j) (searches_in root (epochs_of j)) owns
-      → AreOwn (meaning_of i) (searches_in root (epochs_of i)) owns
-  own_there owns are =
+  pub own_there : (chosen : Selection) (owns : List (List SatLine))
+      → AreOwn (meaning_of j) (searches_in root (epochs_of chosen j)) owns
+      → AreOwn (meaning_of i) (searches_in root (epochs_of chosen i)) owns
+  own_there chosen owns are =
+      let epochs = epochs_of chosen j in
       let w = value_of_settings j.settings in
       let nav = same_records i.nav j.nav (ap (λ (v : InputsValue). v.nav) same) in
-      let here = subst (λ (records : List NavRecord). OwnBy records w j owns) (sym nav) are in
-      let by = subst (λ (v : SettingsValue). OwnBy i.nav v j owns) (sym settings_same) here in
-      own_same root (meaning_of i) (epochs_of j) (epochs_of i) owns (sym epochs_same) by
+      let here = subst (λ (records : List NavRecord). OwnBy records w epochs owns) (sym nav) are in
+      let by = subst (λ (v : SettingsValue). OwnBy i.nav v epochs owns) (sym settings_same) here in
+      own_same root (meaning_of i) epochs (epochs_of chosen i) owns (sym (epochs_same chosen)) by
 
-  pub admits_there : (owns : List (List SatLine)) (log : LogValue)
-      → Admits (searches_in root (epochs_of i)) owns i.settings.rules log
-      → Admits (searches_in root (epochs_of j)) owns j.settings.rules log
-  admits_there owns log admits =
+  pub admits_there : (chosen : Selection) (owns : List (List SatLine)) (log : LogValue)
+      → Admits (searches_in root (epochs_of chosen i)) owns i.settings.rules log
+      → Admits (searches_in root (epochs_of chosen j)) owns j.settings.rules log
+  admits_there chosen owns log admits =
       let rules = same_rules i.settings.rules j.settings.rules
       (ap (λ (v : SettingsValue). v.outliers) settings_same)
       (ap (λ (v : SettingsValue). v.bisections) settings_same)
       (ap (λ (v : SettingsValue). v.width) settings_same) in
-      subst (λ (r : Rules). Admits (searches_in root (epochs_of j)) owns r log) rules (record {
+      subst (λ (r : Rules). Admits (searches_in root (epochs_of chosen j)) owns r log) rules (record {
         same_rules = admits.same_rules;
-        blocks = admits_same root i.settings.rules None owns (epochs_of i) (epochs_of j) log.blocks
-            epochs_same admits.blocks;
+        blocks = admits_same root i.settings.rules None owns (epochs_of chosen i) (epochs_of chosen j)
+            log.blocks (epochs_same chosen) admits.blocks;
       })

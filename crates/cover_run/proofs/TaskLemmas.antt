@@ -1,5 +1,6 @@
 -- What the commands read may be broken off as what any reading reads.
 use Rattle.std.proofs.Common.{ℕ, List}
+use Rattle.command_words.specs.Commands.{Files}
 use Rattle.error_bounds.specs.Texts.{SettingsValue}
 use Rattle.rinex_nav.specs.Records.{Broadcast}
 use Rattle.cover_run.proofs.ReadingLemmas.{IsFair, named_fair, return_fair, then_fair}
@@ -8,10 +9,9 @@ use Rattle.cover_run.specs.Inputs.{InputsValue, ReadsInputs, ReadsNav, ReadsObs,
 use Rattle.cover_run.specs.Inputs.{settings_text, wants_position}
 use Rattle.cover_run.specs.Logs.{log_text}
 use Rattle.cover_run.specs.Reading.{Named, Returns}
-use Rattle.cover_run.specs.Words.{Names}
 use Rattle.cover_run.specs.declared.limits.Limits.{Limits}
 
-module _ (limits : Limits) (names : Names) where
+module _ (limits : Limits) (names : Files) where
   pub obs_fair : (s : SettingsValue) (records : List Broadcast)
       → IsFair (ReadsObs limits names s records)
   obs_fair s records =
@@ -34,6 +34,6 @@ module _ (limits : Limits) (names : Names) where
       (λ value. Returns (record { inputs = i; log = value })) (named_fair limits log_text log)
       (λ value. return_fair (record { inputs = i; log = value }))
 
-  pub checked_fair : (log : List ℕ) → IsFair (ReadsChecked limits names log)
-  checked_fair log = then_fair (ReadsInputs limits names) (ReadsLog limits log) inputs_fair
-      (log_fair log)
+  pub checked_fair : IsFair (ReadsChecked limits names)
+  checked_fair = then_fair (ReadsInputs limits names) (ReadsLog limits names.log) inputs_fair
+      (log_fair names.log)

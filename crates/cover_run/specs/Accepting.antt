@@ -1,28 +1,28 @@
--- A run of `check` behind one of `solve`, on the same files.
-use Rattle.std.specs.Prelude.{◌≡◌, ◌≢◌, ℕ, List, Some}
+-- A run of `check` behind one of `solve`, on the same files and epochs.
+use Rattle.std.specs.Prelude.{◌≡◌, ◌≢◌, Some}
+use Rattle.command_words.specs.Commands as words
 use Rattle.log_writer.specs.Writing.{Trust}
 use Rattle.outer_io.specs.Told.{Files, files_of}
 use Rattle.cover_run.specs.Runs.{RunOf, checking, solving}
-use Rattle.cover_run.specs.Words.{Names}
 use Rattle.cover_run.specs.Worlds.{World}
 use Rattle.cover_run.specs.declared.limits.Limits.{Limits}
 use Rattle.cover_run.specs.declared.status.Status.{Status}
 use Rattle.cover_run.specs.declared.status.Status.TheVariants as status
 
 -- none of the files is the log
-pub record AreApart (names : Names) (log : List ℕ) : Type 0 where
-  pub obs : names.obs ≢ log
-  pub nav : names.nav ≢ log
-  pub settings : names.settings ≢ log
+pub record AreApart (names : words.Files) : Type 0 where
+  pub obs : names.obs ≢ names.log
+  pub nav : names.nav ≢ names.log
+  pub settings : names.settings ≢ names.log
 
 -- `solve` did its job to the end where the files were told, and `check` with the same words and
 -- limits found the files as they were left, and ended so
-module _ (limits : Limits) (names : Names) (log : List ℕ) where
+module _ (limits : Limits) (names : words.Files) where
   pub record SolvesThenChecks (before solved kept after : World) (solver checker : Trust)
       (s : Status) : Type 0 where
     pub told : Files
     pub are_told : files_of before.shelf ≡ Some told
-    pub apart : AreApart names log
-    pub solves : RunOf (solving limits names log) before solved solver status.Done
+    pub apart : AreApart names
+    pub solves : RunOf (solving limits names) before solved solver status.Done
     pub keeps : files_of kept.shelf ≡ files_of solved.shelf
-    pub checks : RunOf (checking limits names log) kept after checker s
+    pub checks : RunOf (checking limits names) kept after checker s

@@ -1,6 +1,7 @@
 -- What `check` reads, and what it says of a log.
 use Rattle.std.specs.Prelude.{◌≡◌, ℕ, List, [], ◌∷◌}
-use Rattle.epoch_selection.specs.Selections.{all_epochs}
+use Rattle.command_words.specs.Commands.{Files}
+use Rattle.epoch_selection.specs.declared.selection.Selection.{Selection}
 use Rattle.outer_io.specs.declared.slots.Slot.{Slot}
 use Rattle.outer_io.specs.declared.slots.Slot.TheVariants as slot
 use Rattle.paving_log.specs.Values.{log_value}
@@ -14,7 +15,6 @@ use Rattle.cover_run.specs.Inputs.{InputsValue, ReadsInputs, AreEnough, inputs_v
 use Rattle.cover_run.specs.Logs.{log_text}
 use Rattle.cover_run.specs.Reading.{Reading, Named, Then, Returns}
 use Rattle.cover_run.specs.Texts.{yes_text}
-use Rattle.cover_run.specs.Words.{Names}
 use Rattle.cover_run.specs.declared.checked.Checked.{Checked}
 use Rattle.cover_run.specs.declared.inputs.Inputs.{Inputs}
 use Rattle.cover_run.specs.declared.limits.Limits.{Limits}
@@ -37,8 +37,8 @@ ReadsLog limits log i =
     Then (Named limits log_text log) (λ value. Returns (record { inputs = i; log = value }))
 
 -- the files, and then the log
-abbrev pub ReadsChecked : Limits → Names → (log : List ℕ) → Reading CheckedValue
-ReadsChecked limits names log = Then (ReadsInputs limits names) (ReadsLog limits log)
+abbrev pub ReadsChecked : Limits → Files → Reading CheckedValue
+ReadsChecked limits names = Then (ReadsInputs limits names) (ReadsLog limits names.log)
 
 -- the search box is known, and the log's lines are numbered
 pub record AreReady (found : Checked) : Type 0 where
@@ -47,24 +47,26 @@ pub record AreReady (found : Checked) : Type 0 where
 
 -- ---- the log against the files
 
--- The log is admissible for own lines of each epoch, over the search box of the settings. In each
--- epoch that it gives as paved, what fits is covered, and each in box fits. It has so many in and
--- edge boxes.
-abbrev pub Accepts : Inputs → LogValue → ℕ → Type 0
-Accepts i log boxes = IsGpsAccepted i.obs i.nav i.settings all_epochs log boxes
+-- The log is admissible for own lines of each chosen epoch, over the search box of the settings. In
+-- each epoch that it gives as paved, what fits is covered, and each in box fits. It has so many in
+-- and edge boxes.
+abbrev pub Accepts : Selection → Inputs → LogValue → ℕ → Type 0
+Accepts chosen i log boxes = IsGpsAccepted i.obs i.nav i.settings chosen log boxes
 
--- it isn't admitted by own lines of the first epochs, and this is its first fault
-abbrev pub Refuses : Inputs → LogValue → Fault → Type 0
-Refuses i log fault = IsGpsRefused i.obs i.nav i.settings all_epochs log fault
+-- it isn't admitted by own lines of the first of them, and this is its first fault
+abbrev pub Refuses : Selection → Inputs → LogValue → Fault → Type 0
+Refuses chosen i log fault = IsGpsRefused i.obs i.nav i.settings chosen log fault
 
 -- the line says so
-abbrev pub SaysAccepted : Checked → List ℕ → Type 0
-SaysAccepted found line =
-    (boxes : ℕ) × Accepts found.inputs (log_value found.log) boxes × (line ≡ yes_text boxes)
+abbrev pub SaysAccepted : Selection → Checked → List ℕ → Type 0
+SaysAccepted chosen found line =
+    (boxes : ℕ) × Accepts chosen found.inputs (log_value found.log) boxes ×
+    (line ≡ yes_text boxes)
 
-abbrev pub SaysRefused : Checked → List ℕ → Type 0
-SaysRefused found line =
-    (fault : Fault) × Refuses found.inputs (log_value found.log) fault × (line ≡ fault_text fault)
+abbrev pub SaysRefused : Selection → Checked → List ℕ → Type 0
+SaysRefused chosen found line =
+    (fault : Fault) × Refuses chosen found.inputs (log_value found.log) fault ×
+    (line ≡ fault_text fault)
 
 -- the line for a verdict
 abbrev pub checked_text : Verdict → List ℕ

@@ -1,6 +1,7 @@
 -- What is read from the three files of a receiver, in one order: the settings, the navigation file,
 -- the observation file.
 use Rattle.std.specs.Prelude.{◌≡◌, ℕ, Bool, true, false, List, [], ◌∷◌}
+use Rattle.command_words.specs.Commands.{Files}
 use Rattle.error_bounds.specs.Faults.{Found}
 use Rattle.error_bounds.specs.Reading.{value_of_settings, Tells, IsKnown, IsEnough}
 use Rattle.error_bounds.specs.Texts as settings
@@ -19,7 +20,6 @@ use Rattle.rinex_obs.specs.Reading.{observations_of}
 use Rattle.rinex_obs.specs.declared.obs.Obs.{Obs}
 use Rattle.sat_model.specs.declared.satellites.Signal.{Signal}
 use Rattle.cover_run.specs.Reading.{Text, Reading, Named, Then, Returns}
-use Rattle.cover_run.specs.Words.{Names}
 use Rattle.cover_run.specs.declared.input_fault.InputFault.TheVariants as fault
 use Rattle.cover_run.specs.declared.inputs.Inputs.{Inputs}
 use Rattle.cover_run.specs.declared.limits.Limits.{Limits}
@@ -110,15 +110,15 @@ inputs_value i = record {
 abbrev pub input_slots : List Slot
 input_slots = slot.Settings ∷ slot.Nav ∷ slot.Obs ∷ []
 
-abbrev pub ReadsObs : Limits → Names → settings.SettingsValue → List Broadcast → Reading InputsValue
+abbrev pub ReadsObs : Limits → Files → settings.SettingsValue → List Broadcast → Reading InputsValue
 ReadsObs limits names s records =
     Then (Named limits (obs_text s.signal (wants_position s.centre)) names.obs)
     (λ o. Returns (record { settings = s; nav = records; obs = o }))
 
-abbrev pub ReadsNav : Limits → Names → settings.SettingsValue → Reading InputsValue
+abbrev pub ReadsNav : Limits → Files → settings.SettingsValue → Reading InputsValue
 ReadsNav limits names s = Then (Named limits nav_text names.nav) (ReadsObs limits names s)
 
-abbrev pub ReadsInputs : Limits → Names → Reading InputsValue
+abbrev pub ReadsInputs : Limits → Files → Reading InputsValue
 ReadsInputs limits names =
     Then (Named limits settings_text names.settings) (ReadsNav limits names)
 

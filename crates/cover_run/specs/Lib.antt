@@ -1,5 +1,4 @@
-pub mod Words
-pub mod Asked
+pub mod Chosen
 pub mod Statuses
 pub mod InputTexts
 pub mod Texts

@@ -1,6 +1,8 @@
 -- What a run of the program is, by what is asked for.
 use Rattle.std.specs.Prelude.{◌≡◌, ◌≢◌, ◌⊎◌, ℕ, true, false, List, [], ◌∷◌, Option, None, Some}
 use Rattle.std.specs.Prelude.{Result, Ok, Err}
+use Rattle.command_words.specs.Commands as words
+use Rattle.command_words.specs.Commands.{Command, Judge, Pave, Solve, Check, Make}
 use Rattle.log_writer.specs.Writing.{Trust}
 use Rattle.outer_io.specs.Told.{Files, files_of}
 use Rattle.outer_io.specs.declared.slots.Slot.{Slot}
@@ -10,6 +12,7 @@ use Rattle.paving_log.specs.declared.log.Log.{Log}
 use Rattle.sat_model.specs.Logs.{LogValue}
 use Rattle.cover_run.specs.Checking.{CheckedValue, ReadsChecked, checked_value, checked_slots}
 use Rattle.cover_run.specs.Checking.{SaysAccepted, SaysRefused}
+use Rattle.cover_run.specs.Chosen.{chosen_in}
 use Rattle.cover_run.specs.Inputs.{InputsValue, ReadsInputs, inputs_value, input_slots}
 use Rattle.cover_run.specs.Logs.{log_text, rows_text, SaysJudged, SaysFault, IsJudgedAs}
 use Rattle.cover_run.specs.Paving.{Paves}
@@ -18,7 +21,6 @@ use Rattle.cover_run.specs.Reading.{Untouched, valued}
 use Rattle.cover_run.specs.Solving.{Solves}
 use Rattle.cover_run.specs.Statuses.{status_of}
 use Rattle.cover_run.specs.Telling.{Tells, sinks}
-use Rattle.cover_run.specs.Words.{Command, Judge, Pave, Solve, Check, Names}
 use Rattle.cover_run.specs.Worlds.{World, Says}
 use Rattle.cover_run.specs.declared.checked.Checked.{Checked}
 use Rattle.cover_run.specs.declared.inputs.Inputs.{Inputs}
@@ -107,36 +109,58 @@ paving limits rows log = record {
   Suits = λ rows s. IsWritten s;
 }
 
-abbrev pub solving : Limits → Names → (log : List ℕ) → Task Inputs
-solving limits names log = record {
+abbrev pub solving : Limits → words.Files → Task Inputs
+solving limits names = record {
   Value = InputsValue;
   value = inputs_value;
   slots = input_slots;
   reads = ReadsInputs limits names;
-  Does = Solves limits.log log;
+  Does = Solves limits.log names.log (chosen_in names);
   Suits = λ i s. IsWritten s;
 }
 
-abbrev pub checking : Limits → Names → (log : List ℕ) → Task Checked
-checking limits names log = record {
+abbrev pub checking : Limits → words.Files → Task Checked
+checking limits names = record {
   Value = CheckedValue;
   value = checked_value;
   slots = checked_slots;
-  reads = ReadsChecked limits names log;
-  Does = λ read. TellsAlone (SaysAccepted read) (SaysRefused read) checked_slots;
+  reads = ReadsChecked limits names;
+  Does = λ read. TellsAlone (SaysAccepted (chosen_in names) read)
+      (SaysRefused (chosen_in names) read) checked_slots;
   Suits = λ found s. IsVerdict s;
 }
 
+-- ---- the words
+
+-- this was said, and nothing else was done
+abbrev pub OnlySays : Notice → World → World → Status → Type 0
+OnlySays n before after s = (s ≡ status_of n) × Says before.err after.err n
+    × (after.shelf ≡ before.shelf) × (after.out ≡ before.out)
+
 -- The words ask for this. Where they are no command it is said, and nothing else is done.
-abbrev pub Runs : Limits → Option Command → World → World → Trust → Status → Type 0
-Runs limits None before after trust s = (s ≡ status.Usage)
-    × Says before.err after.err notice.Usage × (after.shelf ≡ before.shelf) ×
-    (after.out ≡ before.out)
-Runs limits (Some (Judge log)) before after trust s =
+abbrev pub Obeys : Limits → Option Command → World → World → Trust → Status → Type 0
+Obeys limits None before after trust s = OnlySays notice.Usage before after s
+Obeys limits (Some (Judge log)) before after trust s =
     RunOf (judging limits log) before after trust s
-Runs limits (Some (Pave rows log)) before after trust s =
+Obeys limits (Some (Pave rows log)) before after trust s =
     RunOf (paving limits rows log) before after trust s
-Runs limits (Some (Solve names log)) before after trust s =
-    RunOf (solving limits names log) before after trust s
-Runs limits (Some (Check names log)) before after trust s =
-    RunOf (checking limits names log) before after trust s
+Obeys limits (Some (Solve names)) before after trust s =
+    RunOf (solving limits names) before after trust s
+Obeys limits (Some (Check names)) before after trust s =
+    RunOf (checking limits names) before after trust s
+-- this job isn't done yet
+Obeys limits (Some (Make seed epochs)) before after trust s = OnlySays notice.Usage before after s
+
+-- Memory may lack to read the words, whatever they are: then it is said, and nothing else is done.
+abbrev pub Runs : Limits → Option Command → World → World → Trust → Status → Type 0
+Runs limits asked before after trust s =
+    OnlySays notice.NoMemory before after s ⊎ Obeys limits asked before after trust s
+
+-- the words are none of a job that is done
+abbrev pub IsNoJob : Option Command → Type 0
+IsNoJob None = Unit {0}
+IsNoJob (Some (Judge log)) = ⊥
+IsNoJob (Some (Pave rows log)) = ⊥
+IsNoJob (Some (Solve names)) = ⊥
+IsNoJob (Some (Check names)) = ⊥
+IsNoJob (Some (Make seed epochs)) = Unit {0}

@@ -2,7 +2,8 @@
 use Rattle.std.specs.Prelude.{ℕ, List, [], length, Ok, Err}
 use Rattle.epoch_rows.specs.EpochsLeft.{EpochsLeft, left_in, of_epochs}
 use Rattle.epoch_selection.specs.Searches.{searches_in}
-use Rattle.epoch_selection.specs.Selections.{all_epochs, selected}
+use Rattle.epoch_selection.specs.Selections.{selected}
+use Rattle.epoch_selection.specs.declared.selection.Selection.{Selection}
 use Rattle.error_bounds.specs.Reading.{centre_with, IsRoot}
 use Rattle.log_writer.specs.Sizes.{most_bytes}
 use Rattle.log_writer.specs.Sources.{Gives}
@@ -23,13 +24,14 @@ use Rattle.cover_run.specs.Writing.{Answer, Writes}
 use Rattle.cover_run.specs.declared.inputs.Inputs.{Inputs}
 use Rattle.cover_run.specs.declared.status.Status.{Status}
 
+-- the chosen epochs of the file
+abbrev pub epochs_of : Selection → Inputs → List ObsEpoch
+epochs_of chosen i = selected chosen i.obs.epochs.items
+
 module _ (i : Inputs) where
   -- what the files say of satellites
   abbrev pub meaning_of : Meaning
   meaning_of = gps_meaning i.nav i.settings
-
-  abbrev pub epochs_of : List ObsEpoch
-  epochs_of = selected all_epochs i.obs.epochs.items
 
   -- the epochs give their blocks in turn
   abbrev pub gives_of : Gives EpochsLeft
@@ -39,6 +41,7 @@ module _ (i : Inputs) where
   abbrev pub IsRootOf : GridBox → Type 0
   IsRootOf root = IsRoot (centre_with i.obs.position i.settings.centre) i.settings.half root
 
+module _ (chosen : Selection) (i : Inputs) where
   -- The text of one log and its report, within the limit: each epoch's block has own lines, whose
   -- rows are wider by W at both ends, over the search box of the settings, and is formed when the
   -- one before is paved. All own lines of the epochs admit it, also those of the first epochs
@@ -46,19 +49,19 @@ module _ (i : Inputs) where
   -- and in each epoch that it gives as paved, what fits is covered, and each in box fits.
   pub record IsSolved (limit : ℕ) (bytes said : List ℕ) : Type 0 where
     pub root : GridBox
-    pub is_root : IsRootOf root
-    pub whole : IsWhole gives_of i.settings.rules (left_in root epochs_of) limit bytes said
+    pub is_root : IsRootOf i root
+    pub whole : IsWhole (gives_of i) i.settings.rules (left_in root (epochs_of chosen i)) limit bytes said
     pub admits : (owns : List (List SatLine))
-        → AreOwn meaning_of (searches_in root epochs_of) owns
-        → Admits (searches_in root epochs_of) owns i.settings.rules whole.log
-    pub cover : FileCover meaning_of i.settings.rules.outliers (searches_in root epochs_of)
+        → AreOwn (meaning_of i) (searches_in root (epochs_of chosen i)) owns
+        → Admits (searches_in root (epochs_of chosen i)) owns i.settings.rules whole.log
+    pub cover : FileCover (meaning_of i) i.settings.rules.outliers (searches_in root (epochs_of chosen i))
         whole.log
 
   -- what this fault left of both
   pub record IsSolvedTo (fault : WriteFault) (limit : ℕ) (bytes said : List ℕ) : Type 0 where
     pub root : GridBox
-    pub is_root : IsRootOf root
-    pub begun : IsBegun fault gives_of i.settings.rules (left_in root epochs_of) limit bytes said
+    pub is_root : IsRootOf i root
+    pub begun : IsBegun fault (gives_of i) i.settings.rules (left_in root (epochs_of chosen i)) limit bytes said
 
   -- by how the writing ended
   abbrev pub IsSolution : ℕ → Answer → (bytes said : List ℕ) → Type 0
@@ -66,11 +69,11 @@ module _ (i : Inputs) where
   IsSolution limit (Err fault) = IsSolvedTo fault limit
 
 -- The log of the files was written, and its report printed, or it couldn't be created.
-module _ (limit : ℕ) (log : List ℕ) (i : Inputs) (before after : World) (trust : Trust) where
+module _ (limit : ℕ) (log : List ℕ) (chosen : Selection) (i : Inputs) (before after : World) (trust : Trust) where
   -- behind the reading of files
   abbrev pub WritesBehind : List Slot → Status → Type 0
   WritesBehind slots = Writes log before after trust slots limit
-      (most_bytes (length (epochs_of i)) i.settings.rules.bisections) (IsSolution i limit)
+      (most_bytes (length (epochs_of chosen i)) i.settings.rules.bisections) (IsSolution chosen i limit)
 
   abbrev pub Solution : Status → Type 0
   Solution = WritesBehind []

@@ -1,16 +1,17 @@
 //! What `check` says of a log that was solved.
 
 ghost use Rattle.std.specs.Prelude.{◌≡◌, ◌⊎◌, ℕ, List, None};
+ghost use Rattle.command_words.specs.Commands.{Files};
 ghost use Rattle.cover_run.specs.Accepting.{SolvesThenChecks};
 ghost use Rattle.cover_run.specs.Checking.{Refuses};
 ghost use Rattle.cover_run.specs.Inputs.{inputs_value};
 ghost use Rattle.cover_run.specs.Reading.{IsBrokenOff};
 ghost use Rattle.cover_run.specs.Solving.{IsSolved};
-ghost use Rattle.cover_run.specs.Words.{Names};
 ghost use Rattle.cover_run.specs.Worlds.{World};
 ghost use Rattle.cover_run.specs.declared.inputs.Inputs.{Inputs};
 ghost use Rattle.cover_run.specs.declared.limits.Limits.{Limits};
 ghost use Rattle.cover_run.specs.declared.status.Status.{Status};
+ghost use Rattle.epoch_selection.specs.declared.selection.Selection.{Selection};
 ghost use Rattle.log_writer.specs.Writing.{trust_of};
 ghost use Rattle.paving_log.specs.Text.{IsLogText};
 ghost use Rattle.paving_log_check.specs.declared.verdict.Fault.{Fault};
@@ -18,28 +19,28 @@ ghost use Rattle.sat_model.specs.Logs.{LogValue};
 
 use outer_io::{Shelf, Sink};
 
-/// The law: a log that `solve` completes is one that `check` accepts, over shelves and sinks of
-/// these kinds. The call does nothing.
+/// The law: a log that `solve` completes is one that `check` accepts, with the same choice of
+/// epochs, over shelves and sinks of these kinds. The call does nothing.
 pub fn solved_is_accepted<H: Shelf, O: Sink>()
     // It has no fault against the values that it was solved for, whichever own lines it is
     // checked by.
-    ensures fault { (i j : Inputs) (limit : ℕ) (bytes said : List ℕ) (log : LogValue)
+    ensures fault { (chosen : Selection) (i j : Inputs) (limit : ℕ) (bytes said : List ℕ) (log : LogValue)
         (fault : Fault)
-        → inputs_value i ≡ inputs_value j → IsSolved i limit bytes said → IsLogText log bytes
-        → Refuses j log fault → ⊥ }
+        → inputs_value i ≡ inputs_value j → IsSolved chosen i limit bytes said → IsLogText log bytes
+        → Refuses chosen j log fault → ⊥ }
     // A run of `check` behind it prints yes, unless a fault or want of memory ends it;
-    ensures accepted { (limits : Limits) (names : Names) (log : List ℕ)
+    ensures accepted { (limits : Limits) (names : Files)
         (before solved kept after : World) (solving checking : H) (report verdict : O)
         (status : Status)
-        → SolvesThenChecks limits names log before solved kept after
+        → SolvesThenChecks limits names before solved kept after
         (trust_of (H.reliable solving) (O.reliable report))
         (trust_of (H.reliable checking) (O.reliable verdict)) status
         → IsBrokenOff status ⊎ (status ≡ Status.Done) }
     // and want of memory alone can end it where the shelf and `out` are reliable.
-    ensures certain { (limits : Limits) (names : Names) (log : List ℕ)
+    ensures certain { (limits : Limits) (names : Files)
         (before solved kept after : World) (solving checking : H) (report verdict : O)
         (status : Status)
-        → SolvesThenChecks limits names log before solved kept after
+        → SolvesThenChecks limits names before solved kept after
         (trust_of (H.reliable solving) (O.reliable report))
         (trust_of (H.reliable checking) (O.reliable verdict)) status
         → H.reliable checking None → O.reliable verdict

@@ -1,7 +1,7 @@
 //! The files that a log is checked against, and the log.
 
 ghost use Rattle.std.specs.Prelude.{IfOk};
-ghost use Rattle.cover_run.specs.Asked.{names_in};
+ghost use Rattle.command_words.specs.Seen.{files_asked};
 ghost use Rattle.cover_run.specs.Checking.{AreReady, ReadsChecked, checked_slots, checked_value};
 ghost use Rattle.cover_run.specs.Reading.{Found, OnlyReads, valued};
 
@@ -10,7 +10,7 @@ use crate::inputs::{Inputs, read_inputs};
 use crate::log_grammars::LogText;
 use crate::named::read_named;
 use crate::notice::Notice;
-use crate::words::FileWords;
+use command_words::Files;
 use outer_io::Shelf;
 use paving_log::Log;
 use std::alloc::Global;
@@ -26,10 +26,10 @@ pub struct Checked {
 pub fn read_checked<H: Shelf>(
     alloc: Global,
     limits: &Limits,
-    words: &FileWords<'_>,
+    words: &Files<'_>,
     shelf: &mut H,
 ) -> Result<Checked, Notice>
-    ensures found { Found (ReadsChecked limits.now (names_in words.now) words.now.log.now)
+    ensures found { Found (ReadsChecked limits.now (files_asked words.now))
         (H.state shelf.old) (H.state shelf.new) (H.reliable shelf.new)
         (valued checked_value result) }
     ensures only { OnlyReads checked_slots (H.state shelf.old) (H.state shelf.new) result }

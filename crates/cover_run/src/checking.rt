@@ -1,6 +1,6 @@
 //! The command `check OBS NAV SETTINGS LOG`.
 
-ghost use Rattle.cover_run.specs.Asked.{names_in};
+ghost use Rattle.command_words.specs.Seen.{files_asked};
 ghost use Rattle.cover_run.specs.Checking.{AreReady, SaysAccepted, SaysRefused};
 ghost use Rattle.cover_run.specs.Runs.{RunOf, checking};
 ghost use Rattle.cover_run.specs.Telling.{Tells, sinks};
@@ -9,26 +9,28 @@ ghost use Rattle.log_writer.specs.Writing.{trust_of};
 
 use crate::check_texts::fault_line;
 use crate::checked::{Checked, read_checked};
+use crate::chosen::chosen_in;
 use crate::notice::Notice;
 use crate::telling::{say, tell};
 use crate::texts::yes_line;
-use crate::words::FileWords;
 use crate::{Limits, Status, Verdict};
+use command_words::Files;
 use epoch_selection::Selection;
 use outer_io::{Shelf, Sink};
 use paving_log_check::check;
 use sat_model::NoMemory;
 use std::alloc::Global;
 
-/// Checks the log against the files and prints the verdict.
+/// Checks the log against these epochs of the files and prints the verdict.
 fn tell_checked<O: Sink, E: Sink>(
     alloc: Global,
     found: &Checked,
+    chosen: Selection,
     out: &mut O,
     err: &mut E,
 ) -> Status
     requires { AreReady found.now }
-    ensures { Tells (SaysAccepted found.now) (SaysRefused found.now)
+    ensures { Tells (SaysAccepted chosen found.now) (SaysRefused chosen found.now)
         (sinks (O.state out.old) (E.state err.old)) (sinks (O.state out.new) (E.state err.new))
         (O.reliable out.new) result }
 {
@@ -39,7 +41,7 @@ fn tell_checked<O: Sink, E: Sink>(
         &inputs.obs,
         &inputs.nav,
         settings,
-        Selection::all(),
+        chosen,
         &found.log,
     ) {
         Ok(Verdict::Yes { boxes }) => tell(Status::Done, yes_line(boxes).as_bytes(), out, err),
@@ -52,18 +54,18 @@ fn tell_checked<O: Sink, E: Sink>(
 pub fn run_check<H: Shelf, O: Sink, E: Sink>(
     alloc: Global,
     limits: &Limits,
-    words: &FileWords<'_>,
+    words: &Files<'_>,
     shelf: &mut H,
     out: &mut O,
     err: &mut E,
 ) -> Status
-    ensures { RunOf (checking limits.now (names_in words.now) words.now.log.now)
+    ensures { RunOf (checking limits.now (files_asked words.now))
         (world (H.state shelf.old) (O.state out.old) (E.state err.old))
         (world (H.state shelf.new) (O.state out.new) (E.state err.new))
         (trust_of (H.reliable shelf.new) (O.reliable out.new)) result }
 {
     match read_checked(alloc, limits, words, shelf) {
-        Ok(found) => tell_checked(alloc, &found, out, err),
+        Ok(found) => tell_checked(alloc, &found, chosen_in(words), out, err),
         Err(notice) => say(err, &notice),
     }
 }

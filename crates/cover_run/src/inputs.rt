@@ -1,7 +1,7 @@
 //! The three files of a receiver.
 
 ghost use Rattle.std.specs.Prelude.{◌≡◌, IfOk};
-ghost use Rattle.cover_run.specs.Asked.{names_in};
+ghost use Rattle.command_words.specs.Seen.{files_asked};
 ghost use Rattle.cover_run.specs.Inputs.{AreEnough, ReadsInputs, input_slots, inputs_value};
 ghost use Rattle.cover_run.specs.Inputs.{wants_position};
 ghost use Rattle.cover_run.specs.Reading.{Found, OnlyReads, valued};
@@ -10,7 +10,7 @@ use crate::Limits;
 use crate::input_grammars::{NavText, ObsText, SettingsText};
 use crate::named::read_named;
 use crate::notice::Notice;
-use crate::words::FileWords;
+use command_words::Files;
 use error_bounds::{Centre, Settings};
 use outer_io::Shelf;
 use rinex_nav::Nav;
@@ -40,10 +40,10 @@ fn wants_position(centre: Centre) -> bool
 pub fn read_inputs<H: Shelf>(
     alloc: Global,
     limits: &Limits,
-    words: &FileWords<'_>,
+    words: &Files<'_>,
     shelf: &mut H,
 ) -> Result<Inputs, Notice>
-    ensures found { Found (ReadsInputs limits.now (names_in words.now))
+    ensures found { Found (ReadsInputs limits.now (files_asked words.now))
         (H.state shelf.old) (H.state shelf.new) (H.reliable shelf.new)
         (valued inputs_value result) }
     ensures only { OnlyReads input_slots (H.state shelf.old) (H.state shelf.new) result }

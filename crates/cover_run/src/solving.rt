@@ -1,35 +1,37 @@
 //! The command `solve OBS NAV SETTINGS LOG`.
 
-ghost use Rattle.cover_run.specs.Asked.{names_in};
+ghost use Rattle.command_words.specs.Seen.{files_asked};
 ghost use Rattle.cover_run.specs.Inputs.{AreEnough};
 ghost use Rattle.cover_run.specs.Runs.{RunOf, solving};
 ghost use Rattle.cover_run.specs.Solving.{Solution};
 ghost use Rattle.cover_run.specs.Worlds.{world};
 ghost use Rattle.log_writer.specs.Writing.{trust_of};
 
+use crate::chosen::chosen_in;
 use crate::inputs::{Inputs, read_inputs};
 use crate::telling::say;
-use crate::words::FileWords;
 use crate::writing::write_named;
 use crate::{Limits, Status};
+use command_words::Files;
 use epoch_rows::ObsBlocks;
 use epoch_selection::Selection;
 use outer_io::{Shelf, Sink};
 use sat_rows::GpsRows;
 use std::alloc::Global;
 
-/// Writes the log of the files and prints its report.
+/// Writes the log of these epochs of the files and prints its report.
 fn write_solution<H: Shelf, O: Sink, E: Sink>(
     alloc: Global,
     limits: &Limits,
     inputs: &Inputs,
+    chosen: Selection,
     log: &str,
     shelf: &mut H,
     out: &mut O,
     err: &mut E,
 ) -> Status
     requires { AreEnough inputs.now }
-    ensures { Solution limits.now.log log.now inputs.now
+    ensures { Solution limits.now.log log.now chosen inputs.now
         (world (H.state shelf.old) (O.state out.old) (E.state err.old))
         (world (H.state shelf.new) (O.state out.new) (E.state err.new))
         (trust_of (H.reliable shelf.new) (O.reliable out.new)) result }
@@ -40,13 +42,7 @@ fn write_solution<H: Shelf, O: Sink, E: Sink>(
         nav: &inputs.nav,
         settings,
     };
-    let mut blocks = ObsBlocks::of_file(
-        &source,
-        &inputs.obs,
-        Selection::all(),
-        &root,
-        &settings.rules,
-    );
+    let mut blocks = ObsBlocks::of_file(&source, &inputs.obs, chosen, &root, &settings.rules);
     write_named(
         alloc,
         limits,
@@ -63,18 +59,27 @@ fn write_solution<H: Shelf, O: Sink, E: Sink>(
 pub fn run_solve<H: Shelf, O: Sink, E: Sink>(
     alloc: Global,
     limits: &Limits,
-    words: &FileWords<'_>,
+    words: &Files<'_>,
     shelf: &mut H,
     out: &mut O,
     err: &mut E,
 ) -> Status
-    ensures { RunOf (solving limits.now (names_in words.now) words.now.log.now)
+    ensures { RunOf (solving limits.now (files_asked words.now))
         (world (H.state shelf.old) (O.state out.old) (E.state err.old))
         (world (H.state shelf.new) (O.state out.new) (E.state err.new))
         (trust_of (H.reliable shelf.new) (O.reliable out.new)) result }
 {
     match read_inputs(alloc, limits, words, shelf) {
-        Ok(inputs) => write_solution(alloc, limits, &inputs, words.log, shelf, out, err),
+        Ok(inputs) => write_solution(
+            alloc,
+            limits,
+            &inputs,
+            chosen_in(words),
+            words.log,
+            shelf,
+            out,
+            err,
+        ),
         Err(notice) => say(err, &notice),
     }
 }

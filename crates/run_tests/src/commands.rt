@@ -70,20 +70,26 @@ fn expect(
 
 #[test]
 fn other_words_are_answered_with_the_usage(rt: HostRuntime) -> Result<(), Fail> {
-    let table: [&[&str]; 13] = [
+    let table: [&[&str]; 19] = [
         &[],
         &["judge"],
-        &["judge", "-"],
+        &["judge", "-l"],
         &["judge", "--help"],
         &["judge", "a.log", "b.log"],
         &["Judge", "a.log"],
         &["pave", "a.rows"],
         &["pave", "a.rows", "a.log", "b.log"],
-        &["pave", "-", "a.log"],
+        &["pave", "-a", "a.log"],
         &["pave", "a.rows", "-a.log"],
+        &["paint", "a.log"],
+        &["--", "judge", "a.log"],
+        &["judge", "a.log", "--from", "1"],
         &["--version"],
+        &["help"],
         &["check", "a.obs", "a.nav", "a.toml"],
-        &["solve", "a.obs", "-", "a.toml", "a.log"],
+        &["solve", "a.obs", "-n", "a.toml", "a.log"],
+        &["make", "7", "0"],
+        &["make", "07", "3"],
     ];
     for words in table {
         let case = Case { words, ..JUDGE };
@@ -94,7 +100,10 @@ fn other_words_are_answered_with_the_usage(rt: HostRuntime) -> Result<(), Fail> 
 
 #[test]
 fn a_log_is_judged(rt: HostRuntime) -> Result<(), Fail> {
-    expect(&rt, &JUDGE, Status::Done, "yes 1\n", "")?;
+    let words: &[&str] = &["judge", "--", "a.log"];
+    for words in [JUDGE.words, words] {
+        expect(&rt, &Case { words, ..JUDGE }, Status::Done, "yes 1\n", "")?;
+    }
     let exact = Case {
         limit: LOG.len() as u64,
         ..JUDGE
@@ -136,7 +145,13 @@ fn what_is_no_log_is_refused(rt: HostRuntime) -> Result<(), Fail> {
 
 #[test]
 fn a_missing_log_is_a_read_fault(rt: HostRuntime) -> Result<(), Fail> {
-    for words in [&["judge", "c.log"], &["judge", ""]] {
+    let table: [&[&str]; 4] = [
+        &["judge", "c.log"],
+        &["judge", ""],
+        &["judge", "-"],
+        &["judge", "--", "-l"],
+    ];
+    for words in table {
         let case = Case { words, ..JUDGE };
         expect(&rt, &case, Status::ReadFault, "", "log fault\n")?;
     }

@@ -13,4 +13,6 @@ mod narrowing;
 #[cfg(test)]
 mod outer;
 #[cfg(test)]
+mod parts;
+#[cfg(test)]
 mod shelves;

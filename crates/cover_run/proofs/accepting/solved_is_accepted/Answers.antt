@@ -6,9 +6,9 @@ pub returns-clause-fault : goal.returns-clause-fault
 returns-clause-fault g c = not_refused
 
 pub returns-clause-accepted : goal.returns-clause-accepted
-returns-clause-accepted g c = λ limits names log before solved kept after a b p q s runs.
-    accepted limits names log before solved kept after _ _ s runs
+returns-clause-accepted g c = λ limits names before solved kept after a b p q s runs.
+    accepted limits names before solved kept after _ _ s runs
 
 pub returns-clause-certain : goal.returns-clause-certain
-returns-clause-certain g c = λ limits names log before solved kept after a b p q s runs.
-    certain limits names log before solved kept after _ _ s runs
+returns-clause-certain g c = λ limits names before solved kept after a b p q s runs.
+    certain limits names before solved kept after _ _ s runs

@@ -1,12 +1,12 @@
 use Rattle.std.proofs.Common.{[], ◌∷◌}
 use Rattle.std.proofs.lemmas.Result.{err_from_is_err_and}
+use Rattle.command_words.specs.Seen.{files_asked}
 use Rattle.outer_io.specs.declared.slots.Slot.TheVariants as slot
 use Rattle.paving_log.specs.Values.{log_value}
 use Rattle.cover_run.proofs.ReadingLemmas.{found_err, found_then, found_return, named_fair}
 use Rattle.cover_run.proofs.ReadingLemmas.{return_fair}
 use Rattle.cover_run.proofs.ReadingLemmas.{only_as, only_err, only_then}
 use Rattle.cover_run.proofs.TaskLemmas.{inputs_fair, log_fair}
-use Rattle.cover_run.specs.Asked.{names_in}
 use Rattle.cover_run.specs.Inputs.{input_slots, inputs_value}
 use Rattle.cover_run.specs.Logs.{log_text}
 use Rattle.cover_run.specs.declared.checked.Checked.{Checked}
@@ -33,8 +33,8 @@ returns-in_err-log-clause-found g c =
     c.from_residual-in_err-log.ensures.1 in
     let limits = c.args.limits.now in
     let words = c.args.words.now in
-    rw (p.1, p.2) (found_then _ _ (inputs_fair limits (names_in words))
-    (log_fair limits (names_in words) words.log.now) input_slots _ _ _ _ _ _
+    rw (p.1, p.2) (found_then _ _ (inputs_fair limits (files_asked words))
+    (log_fair limits (files_asked words) words.log.now) input_slots _ _ _ _ _ _
     (inputs_value c.in_ok-inputs.inputs) _ c.in_ok-inputs.ensures.only c.in_ok-inputs.ensures.found
     (found_err _ _ _ _ _ c.in_err-log.field-0.0 c.in_err-log.ensures.found))
 
@@ -54,8 +54,8 @@ returns-clause-found g c =
     let words = c.args.words.now in
     let i = inputs_value c.in_ok-inputs.inputs in
     let log = log_value c.in_ok-log.log in
-    found_then _ _ (inputs_fair limits (names_in words))
-    (log_fair limits (names_in words) words.log.now) input_slots _ _ _ _ _ _ i _
+    found_then _ _ (inputs_fair limits (files_asked words))
+    (log_fair limits (files_asked words) words.log.now) input_slots _ _ _ _ _ _ i _
     c.in_ok-inputs.ensures.only c.in_ok-inputs.ensures.found
     (found_then _ _ (named_fair limits log_text words.log.now)
     (λ x. return_fair (record { inputs = i; log = x }))

@@ -5,9 +5,10 @@ use Rattle.cover_run.proofs.checking.run_check.Goals as goal
 
 pub returns-in-Ok : goal.returns-in-Ok
 returns-in-Ok g c =
+    let told = rw c.chosen_in.ensures at c.tell_checked.ensures in
     run_ok _ _ _ _ c.tell_checked.result c.in-Ok.found c.in-Ok.ensures.found
-    (record { told = c.tell_checked.ensures; shelf = c.in-Ok.ensures.only.untouched })
-    (verdict_suits _ _ _ _ _ c.tell_checked.result c.tell_checked.ensures)
+    (record { told = told; shelf = c.in-Ok.ensures.only.untouched })
+    (verdict_suits _ _ _ _ _ c.tell_checked.result told)
     (verdict_known c.tell_checked.result)
 
 pub returns-in-Err : goal.returns-in-Err

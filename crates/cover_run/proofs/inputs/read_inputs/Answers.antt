@@ -1,5 +1,6 @@
 use Rattle.std.proofs.Common.{[], ◌∷◌}
 use Rattle.std.proofs.lemmas.Result.{err_from_is_err_and}
+use Rattle.command_words.specs.Seen.{files_asked}
 use Rattle.error_bounds.specs.Reading.{value_of_settings}
 use Rattle.outer_io.specs.declared.slots.Slot.TheVariants as slot
 use Rattle.rinex_nav.specs.Reading.{records_of}
@@ -9,7 +10,6 @@ use Rattle.cover_run.proofs.ReadingLemmas.{found_err, found_then, found_return, 
 use Rattle.cover_run.proofs.ReadingLemmas.{return_fair}
 use Rattle.cover_run.proofs.ReadingLemmas.{only_as, only_err, only_then}
 use Rattle.cover_run.proofs.TaskLemmas.{nav_fair, obs_fair}
-use Rattle.cover_run.specs.Asked.{names_in}
 use Rattle.cover_run.specs.Inputs.{nav_text, obs_text, settings_text, wants_position}
 use Rattle.cover_run.specs.declared.inputs.Inputs.{Inputs}
 use Rattle.cover_run.proofs.inputs.read_inputs.Goals as goal
@@ -34,7 +34,7 @@ returns-in_err-nav-clause-found g c =
     let p = err_from_is_err_and c.from_residual-in_err-nav.result
     c.from_residual-in_err-nav.ensures.1 in
     let limits = c.args.limits.now in
-    let names = names_in c.args.words.now in
+    let names = files_asked c.args.words.now in
     rw (p.1, p.2) (found_then _ _ (named_fair limits settings_text names.settings)
     (nav_fair limits names)
     (slot.Settings ∷ []) _ _ _ _ _ _ (value_of_settings c.in_ok-settings.settings) _
@@ -57,7 +57,7 @@ returns-in_err-obs-clause-found g c =
     let p = err_from_is_err_and c.from_residual-in_err-obs.result
     c.from_residual-in_err-obs.ensures.1 in
     let limits = c.args.limits.now in
-    let names = names_in c.args.words.now in
+    let names = files_asked c.args.words.now in
     let s = value_of_settings c.in_ok-settings.settings in
     let records = records_of c.in_ok-nav.nav in
     rw (p.1, p.2) (found_then _ _ (named_fair limits settings_text names.settings)
@@ -82,7 +82,7 @@ returns-in_err-obs-clause-only g c =
 pub returns-clause-found : goal.returns-clause-found
 returns-clause-found g c =
     let limits = c.args.limits.now in
-    let names = names_in c.args.words.now in
+    let names = files_asked c.args.words.now in
     let s = value_of_settings c.in_ok-settings.settings in
     let records = records_of c.in_ok-nav.nav in
     let o = observations_of c.in_ok-obs.obs in

@@ -1,9 +1,10 @@
 use Rattle.std.proofs.Common.{refl}
+use Rattle.command_words.specs.Seen.{files_asked}
 use Rattle.cover_run.proofs.ReadingLemmas.{found_value}
 use Rattle.cover_run.proofs.RunLemmas.{run_ok, run_err}
 use Rattle.cover_run.proofs.TaskLemmas.{inputs_fair}
 use Rattle.cover_run.proofs.WritingLemmas.{writes_behind, writes_suits, written_known}
-use Rattle.cover_run.specs.Asked.{names_in}
+use Rattle.cover_run.specs.Chosen.{chosen_in}
 use Rattle.cover_run.specs.Inputs.{input_slots}
 use Rattle.cover_run.specs.Solving.{IsSolution}
 use Rattle.cover_run.proofs.solving.run_solve.Goals as goal
@@ -12,10 +13,12 @@ pub returns-in-Ok : goal.returns-in-Ok
 returns-in-Ok g c =
     let i = c.in-Ok.inputs in
     let limits = c.args.limits.now in
-    let fair = inputs_fair limits (names_in c.args.words.now) in
+    let names = files_asked c.args.words.now in
+    let fair = inputs_fair limits names in
     let s = c.write_solution.result in
     let does = writes_behind input_slots _ _ _ _ _ i c.in-Ok.ensures.only refl refl limits.log _
-    (IsSolution i limits.log) s c.write_solution.ensures in
+    (IsSolution (chosen_in names) i limits.log) s
+    (rw c.chosen_in.ensures at c.write_solution.ensures) in
     run_ok _ _ _ _ s i (found_value _ _ _ _ _ _ _ fair c.in-Ok.ensures.found) does
     (writes_suits _ _ _ _ _ _ _ _ s does) (written_known s)
 

@@ -1,9 +1,7 @@
-use Rattle.std.proofs.Common.{[], List, ℕ, length, ap, subst, ◌∙◌}
+use Rattle.std.proofs.Common.{[], List, ℕ, length, ap, subst}
 use Rattle.epoch_rows.proofs.AdmitLemmas.{has_corner}
 use Rattle.epoch_rows.proofs.KeptLemmas.{text_of_epochs}
-use Rattle.epoch_rows.specs.EpochsLeft.{EpochsLeft, left_in, left_of, of_epochs}
-use Rattle.epoch_selection.specs.Selections.{selected}
-use Rattle.epoch_selection.specs.declared.selection.Selection.{Selection}
+use Rattle.epoch_rows.specs.EpochsLeft.{EpochsLeft, left_of, of_epochs}
 use Rattle.log_writer.specs.Sizes.{most_bytes}
 use Rattle.log_writer.specs.Texts.{IsText}
 use Rattle.sat_model.specs.Boxes.{grid_box}
@@ -23,8 +21,8 @@ returns g c =
     let limit = c.args.limits.now.log in
     let made = c.of_file-blocks.ensures in
     let b = c.of_file-blocks.result in
-    let left_is = made.left ∙ ap (λ (s : Selection).
-    left_in (grid_box c.root-root.result) (selected s i.obs.epochs.items)) c.all.ensures in
+    let chosen = c.args.chosen in
+    let left_is = made.left in
     let by_source = λ (answer : Answer) (bytes said : List ℕ). subst
     (λ (s : GpsRows). IsText (of_epochs (gps_meaning s.nav.now s.settings.now) b.rules.outliers)
     rules (left_of b.searches) limit answer bytes said) made.source in
@@ -33,8 +31,8 @@ returns g c =
     limit answer bytes said) made.rules in
     let by_left = λ (answer : Answer) (bytes said : List ℕ). subst
     (λ (left : EpochsLeft). IsText (gives_of i) rules left limit answer bytes said) left_is in
-    writes_as [] _ _ _ _ limit _ _ _ (IsSolution i limit)
-    (λ answer bytes said text. solution_of i (grid_box c.root-root.result) limit
+    writes_as [] _ _ _ _ limit _ _ _ (IsSolution chosen i limit)
+    (λ answer bytes said text. solution_of chosen i (grid_box c.root-root.result) limit
     c.root-root.result.lo answer bytes said c.root-root.ensures (has_corner c.root-root.result)
     (by_left answer bytes said
     (by_rules answer bytes said (by_source answer bytes said (text_of_epochs
