@@ -6,8 +6,8 @@
 The parts are recorded, records, rows, logs, cuts, selections, cases and drawn; without one all are run. An answer is
 the exit status with all that is printed. Two answers agree where they are the same. Where both say 53 on the same line,
 the four printed spans may differ, as each is of a program's own: then both own spans have to be at most W wide and to
-share a number. Where one alone says 53, the log's span has to lie so near to both own spans that it holds the one and not the
-other. Every other difference is printed whole.
+share a number. Where one alone says 53, the log's span has to lie so near to both own spans that it holds the one and
+not the other. Every other difference is printed whole.
 """
 
 import argparse
