@@ -488,6 +488,22 @@ def settings_cases(settings):
                  b"a = " + b"[" * 3000 + b"]" * 3000,
                  b"a = " + b"{a = " * 100 + b"1" + b"}" * 100, b"." .join([b"a"] * 500) + b" = 1"):
         yield f"TOML {text[:60]}", text + b"\n" + plain
+    for levels in (80, 81):
+        for name, text in (("lists", b"a = " + b"[" * levels + b"]" * levels),
+                           ("inline tables", b"a = " + b"{a = " * levels + b"1" + b"}" * levels),
+                           ("both", b"a = " + b"[{a = " * 40 + b"[" * (levels - 80) + b"]" * (levels - 80)
+                            + b"1" * (levels == 80) + b"}]" * 40),
+                           ("parts of a key", b".".join([b"a"] * levels) + b" = 1"),
+                           ("parts of a key in an inline table", b"a = {" + b".".join([b"a"] * levels) + b" = 1}"),
+                           ("parts of a header", b"[" + b".".join([b"a"] * levels) + b"]"),
+                           ("parts of a header and a key", b"[" + b".".join([b"a"] * 40) + b"]\n"
+                            + b".".join([b"a"] * 41) + b" = 1"),
+                           ("parts of a key and lists", b".".join([b"a"] * levels) + b" = [[1]]")):
+            yield f"{levels} {name}", plain + b"[z]\n" * (b"=" in text) + text + b"\n"
+    for text in (b"1.7976931348623158e308", b"1.7976931348623159e308", b"-1e309", b"1e308", b"0e999", b"1e-400",
+                 b"1_0e3_07", b"1" + b"0" * 400 + b".0", b'"\\UFFFFFFFF"', b'"\\U0010FFFF"', b'"\\uE000"',
+                 b'"\\uDFFF"'):
+        yield f"TOML value {text[:30]}", b"a = " + text + b"\n" + plain
     for word in (b"search", b"signal"):
         yield f"dotted keys of {word}", b"".join(
             word + b"." + line + b"\n" for line in re.search(rb"\[%s\]\n((\w+ = .*\n)*)" % word,

@@ -1,13 +1,13 @@
 #!/usr/bin/env python3
 """Runs recheck.py and the proved program over the same files and logs, and prints where their answers differ.
 
-    compare.py --program PATH [--data DIRECTORY] [--draws NUMBER] [--seed NUMBER] [PART ..]
+    compare.py --program PATH --data DIRECTORY [--draws NUMBER] [--seed NUMBER] [PART ..]
 
-The parts are recorded, records, rows, logs, cases and drawn; without one all are run. An answer is the exit status
-with all that is printed. Two answers agree where they are the same. Where both say 53 on the same line, the four
-printed spans may differ, as each is of a program's own: then both own spans have to be at most W wide and to share a
-number. Where one alone says 53, the log's span has to lie so near to both own spans that it holds the one and not the
-other. Every other difference is printed whole.
+The parts are recorded, records, rows, logs, cuts, selections, cases and drawn; without one all are run. An answer is
+the exit status with all that is printed. Two answers agree where they are the same. Where both say 53 on the same line,
+the four printed spans may differ, as each is of a program's own: then both own spans have to be at most W wide and to
+share a number. Where one alone says 53, the log's span has to lie so near to both own spans that it holds the one and
+not the other. Every other difference is printed whole.
 """
 
 import argparse
@@ -22,15 +22,17 @@ from pathlib import Path
 
 import recheck
 from cases import named_cases
+from cuts import log_with_cuts, with_cuts
 
+TOP = Path(__file__).resolve().parent.parent
 PLACE = 6 * 10**13  # um
-PARTS = ("recorded", "records", "rows", "logs", "cases", "drawn")
+PARTS = ("recorded", "records", "rows", "logs", "cuts", "selections", "cases", "drawn")
 
 
 class Tally:
     """How many comparisons of each kind a part made."""
 
-    KINDS = ("same", "53 with other spans", "53 of one alone", "cut isn't built", "different")
+    KINDS = ("same", "53 with other spans", "53 of one alone", "different")
 
     def __init__(self, part):
         self.part, self.kinds = part, dict.fromkeys(self.KINDS, 0)
@@ -57,9 +59,9 @@ class Tracing(recheck.Judge):
         super().__init__(lines, files)
         self.own_rows = {}
 
-    def own(self, fields, satellite, used):
-        self.own_rows[self.number] = self.files.row(self.own_epoch, used), fields
-        super().own(fields, satellite, used)
+    def own(self, row, satellite, used):
+        self.own_rows[self.number] = self.files.row(self.own_epoch, used), row
+        super().own(row, satellite, used)
 
 
 class Pair:
@@ -97,10 +99,9 @@ class Pair:
             lines = recheck.read_log(log)
             walker = recheck.Judge(lines) if judge else Tracing(lines, self.files)
             return (0, f"yes {walker.verdict()}\n", ""), walker
-        except recheck.No as no:
-            return (1, f"{no}\n", ""), walker
-        except recheck.Refused as refused:
-            return (3, "", f"{refused}\n"), walker
+        except recheck.Ended as end:
+            status, line = end.args
+            return ((1, f"{line}\n", "") if status == 1 else (status, "", f"{line}\n")), walker
 
     def compare(self, log, tally, name, judge=False):
         """Compares both answers to a log (bytes)."""
@@ -118,8 +119,6 @@ class Pair:
         """Of which kind a pair of answers is, and a remark."""
         if theirs == own:
             return "same", ""
-        if "41 NotBuilt" in theirs[2]:
-            return "cut isn't built", ""
         places = [re.match(r"no 53 RowNarrow line (\d+)", answer[1]) for answer in (theirs, own)]
         if not any(places):
             return "different", ""
@@ -168,7 +167,7 @@ def recorded(arguments, directory):
             rows = own_rows(pair, log)
             print(f"| {settings.stem}, {nav} | {len(pair.files.epochs)} | {rows[0]} | {log.count(10)} | "
                   f"{theirs[1].strip()} | {spent:.1f} | {rows[0] / rows[1] if rows[0] else 0:.0f} |", flush=True)
-    for path in sorted((arguments.data / "logs").glob("*.log")) + sorted((arguments.data / "examples").glob("*.log")):
+    for path in sorted((arguments.data / "logs").glob("*.log")) + sorted((TOP / "examples").glob("*.log")):
         pair = Pair(arguments.program, directory)
         pair.compare(path.read_bytes(), tally, path.name, judge=True)
     for path in sorted((arguments.data / "rows").glob("*.rows")):
@@ -202,8 +201,8 @@ def own_rows(pair, log):
 NUMBER = re.compile(rb"-?[0-9]+")
 
 
-def log_changes(log, room):
-    """Systematic small changes of a log: (name, changed log)."""
+def log_changes(log, room, words=None):
+    """Systematic small changes of a log: (name, changed log). With `words` only of the lines with these first words."""
     lines = log.split(b"\n")[:-1]
 
     def joined(changed):
@@ -214,6 +213,8 @@ def log_changes(log, room):
     yield "two LF at the end", log + b"\n"
     yield "empty", b""
     for at, line in enumerate(lines):
+        if words and line.split(b" ")[0] not in words:
+            continue
         name = f"line {at + 1}: "
         before, after = lines[:at], lines[at + 1:]
         yield name + "removed", joined(before + after)
@@ -251,9 +252,7 @@ def log_changes(log, room):
 
 def logs(arguments, directory):
     """Systematic small changes of logs, checked and judged by both."""
-    example = arguments.data / "examples"
-    settings = (example / "settings.toml").read_bytes().replace(b"bisections = 40", b"bisections = 6")
-    obs, nav = (example / "receiver.obs").read_bytes(), (example / "receiver.nav").read_bytes()
+    obs, nav, settings = small_files(6)
     tallies = []
     epochs = obs.split(b"> ")
     short = epochs[1].replace(b"  0 11", b"  0  5").split(b"\n")[:6]
@@ -279,11 +278,98 @@ def logs(arguments, directory):
             pair.compare(changed, tally, change, judge=True)
         tallies.append(tally)
         print("answers of the program:", dict(sorted(tally.answers.items())), flush=True)
-    tally = Tally("changed: log with `cut`")
-    print("log with `cut`: recheck says", pair.own_answer(cut_log(), True)[0])
+    return tallies
+
+
+def cuts(arguments, directory):
+    """Logs with cuts: whole pavings that cut, cuts put into logs, and small changes of such logs."""
+    chance = random.Random(arguments.seed)
+    pavings, put, small = Tally("pavings with cuts"), Tally("cuts put into logs"), Tally("changed: logs with `cut`")
+    pair, lines = Pair(arguments.program, directory), 0
+    for number, contents in enumerate([small_files(20)] + bases(arguments.data)):
+        pair.write(contents)
+        _, log = pair.solve()
+        for _ in range(10):
+            paving, many = log_with_cuts(chance, log)
+            lines += many
+            for judge in (False, True):
+                pair.compare(paving, pavings, f"paving of files {number}", judge)
+        for base in (log, paving):
+            for name, changed in with_cuts(chance, base, arguments.draws // 10):
+                for judge in (False, True):
+                    pair.compare(changed, put, f"files {number}, {name}", judge)
+    pair.write(small_files(2))
+    paving, _ = log_with_cuts(chance, pair.solve()[1])
+    pair.own_answer(paving)
+    for change, changed in log_changes(paving, pair.files.room, (b"root", b"cut", b"split", b"out", b"edge", b"done")):
+        for judge in (False, True):
+            pair.compare(changed, small, f"paving of small files, {change}", judge)
+    print("log of four satellites with `cut`: recheck says", pair.own_answer(cut_log(), True)[0])
     for change, changed in log_changes(cut_log(), 10_000):
-        pair.compare(changed, tally, change, judge=True)
-    return tallies + [tally]
+        pair.compare(changed, small, change, judge=True)
+    for path in sorted((arguments.data / "rows").glob("*.rows")):
+        pair.run("pave", path, pair.log)
+        paving, many = log_with_cuts(chance, shortened(pair.log.read_bytes(), 12, 100))
+        lines += many
+        pair.compare(paving, pavings, f"paving of {path.name}", judge=True)
+    for tally in (pavings, put, small):
+        print(f"{tally.part}: answers of the program:", dict(sorted(tally.answers.items())))
+    print("pavings with cuts:", lines, "cuts")
+    return [pavings, put, small]
+
+
+def shortened(log, epochs, splits):
+    """The first epochs of a log, with at most so many splits in its rules; their steps no longer fit."""
+    head, *blocks = re.split(rb"(?m)^(?=epoch|few)", log)
+    most = min(splits, int(head.split()[4]))
+    return b"gpscover 1\nrules %s %d %s\n" % (head.split()[3], most, head.split()[5]) + b"".join(blocks[:epochs])
+
+
+def selections(arguments, directory):
+    """Checks of parts of a file with --from and --to, over logs of the same parts and of others."""
+    tally = Tally("selections of epochs")
+    pair = Pair(arguments.program, directory)
+    obs, nav, settings = small_files(2, epochs=4)
+    few = obs.replace(b"30.9990000  0 11", b"30.9990000  0  3", 1)
+    few = re.sub(rb"(?m)(^> .* 30\.999.*\n(?:.*\n){3})(?:.*\n){8}", rb"\1", few)
+    bad = ("0", "01", "200001", "-1", "+1", "x", "", "1 ", "1.0", "99999999999999999999999")
+    for name, contents in (("four epochs", (obs, nav, settings)), ("one of few", (few, nav, settings))):
+        pair.write(contents)
+        whole = pair.solve()[1]
+        head, *blocks = re.split(rb"(?m)^(?=epoch|few)", whole)
+        if pair.run("check", *pair.paths, pair.log, "--from", "1")[0] == 2:
+            print("selections: the program doesn't take --from and --to")
+            return tally
+        for first in range(5):
+            for last in range(first, 5):
+                pair.log.write_bytes(head + b"".join(blocks[first:last]))
+                for start in ("", "1", "2", "4", "5"):
+                    for end in ("", "1", "3", "200000"):
+                        options = ["--from", start] * bool(start) + ["--to", end] * bool(end)
+                        compare_words(pair, tally, [*map(str, pair.paths), str(pair.log), *options],
+                                      f"{name}, log of {first} to {last}")
+    paths = [*map(str, pair.paths), str(pair.log)]
+    for text in bad:
+        compare_words(pair, tally, paths + ["--from", text], "wrong number")
+        compare_words(pair, tally, paths + ["--from", "1", "--to", text], "wrong number")
+    for options in (["--from"], ["--to"], ["--from", "1", "--from", "2"], ["--to", "3", "--from", "2"], ["--step", "1"],
+                    ["--from", "1", "x"], ["x", "--from", "1"], ["--from", "--to", "1"], ["--from", "1", "--to"],
+                    ["--to", "1", "--to", "1"], ["-f", "1"]):
+        compare_words(pair, tally, paths + options, "options")
+    compare_words(pair, tally, paths[3:] + ["--from", "1"], "judge with an option")
+    return tally
+
+
+def compare_words(pair, tally, words, name):
+    """Compares both checkers on a command line, each run as a process."""
+    theirs = pair.run("check" if words[1:] and not words[1].startswith("-") else "judge", *words)
+    run = subprocess.run([sys.executable, Path(__file__).with_name("recheck.py"), *words], capture_output=True,
+                         check=False)
+    own = run.returncode, run.stdout.decode(), run.stderr.decode()
+    same = theirs == own or theirs[0] == own[0] == 2
+    tally.add("same" if same else "different", theirs)
+    if not same:
+        print(f"  different: {name}", words, theirs, own)
 
 
 def first_epochs(obs, number, skipped=0):
@@ -294,18 +380,23 @@ def first_epochs(obs, number, skipped=0):
     return obs[:end] + b"".join(blocks[skipped:skipped + number])
 
 
+def small_files(bisections, epochs=1):
+    """The first epochs of a recorded receiver, its navigation file, and settings that take the header's position."""
+    folder = TOP / "crates/gpscover/data"
+    obs, nav, settings = [(folder / name).read_bytes() for name in ("receiver.obs", "receiver.nav", "settings.toml")]
+    settings = re.sub(rb"bisections = \d+", b"bisections = %d" % bisections, settings)
+    return first_epochs(obs, epochs), nav, settings
+
+
 def bases(data):
     """The files that are changed: small pairs cut from the recorded ones."""
-    rinex, example = data / "rinex", data / "examples"
-    header_centre = (example / "settings.toml").read_bytes()
-    two = b"bisections = 8\n"
+    rinex, two = data / "rinex", b"bisections = 8\n"
 
     def settings(name):
         return re.sub(rb"bisections = \d+\n", two, (rinex / name).read_bytes())
 
     return [
-        [(example / "receiver.obs").read_bytes(), (example / "receiver.nav").read_bytes(),
-         re.sub(rb"bisections = \d+\n", two, header_centre)],
+        list(small_files(8)),
         [first_epochs((rinex / "javad_2011.obs").read_bytes(), 2), (rinex / "javad_2011.nav").read_bytes(),
          settings("javad_2011_dual.toml")],
         [first_epochs((rinex / "cres_2008.obs").read_bytes(), 2, 100), (rinex / "cres_2008.nav").read_bytes(),
@@ -499,14 +590,7 @@ def command_lines(arguments, directory, contents, log):
     tries += [[absent] * 4, [absent, bad, bad, bad], [bad, absent, good[2], bad], [bad, good[1], good[2], absent],
               [good[0], good[1], good[2], bad]]
     for words in tries:
-        theirs = pair.run("judge" if len(words) == 1 else "check", *words)
-        run = subprocess.run([sys.executable, Path(__file__).with_name("recheck.py"), *words], capture_output=True,
-                             check=False)
-        own = run.returncode, run.stdout.decode(), run.stderr.decode()
-        same = theirs == own or theirs[0] == own[0] == 2
-        tally.add("same" if same else "different", theirs)
-        if not same:
-            print("  different: command line", words, theirs, own)
+        compare_words(pair, tally, words, "command line")
     return tally
 
 
@@ -602,8 +686,8 @@ def main():
     """Runs the parts and prints the table."""
     parser = argparse.ArgumentParser()
     parser.add_argument("--program", required=True, help="the proved program")
-    parser.add_argument("--data", type=Path, default=Path(__file__).resolve().parent.parent,
-                        help="the directory with examples, rinex, rows and logs")
+    parser.add_argument("--data", type=Path, required=True,
+                        help="the directory with recorded rinex (NAME.obs, NAME.nav and settings), rows and logs")
     parser.add_argument("--draws", type=int, default=2000)
     parser.add_argument("--seed", type=int, default=20240101)
     parser.add_argument("part", nargs="*")

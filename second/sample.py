@@ -139,7 +139,7 @@ def main():
     """Draws for some rows of a log."""
     *paths, log, rows, draws = sys.argv[1:]
     files = recheck.Files(*paths)
-    lines = recheck.read_log(recheck.read_file("log", log))
+    lines = recheck.read_log(recheck.read_file("log", log, recheck.LOG_LIMIT))
     found, epochs = [], iter(files.epochs)
     for word, values in lines:
         if word in (b"epoch", b"few"):
