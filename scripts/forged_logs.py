@@ -290,7 +290,7 @@ def refused_logs():
     yield "a step behind done", text(WITH_ALL + ["in 5 0 -1900000 1900000"]), "log 40 BadLog line 25 kind 2"
     yield "an empty line at the end", text(WITH_ALL + [""]), "log 40 BadLog line 25 kind 2"
     yield "a few epoch that ends with done", text(before(WITH_ALL, EPOCH, "done 0")), "log 40 BadLog line 6 kind 2"
-    two = changed(WITH_ALL, {15: "cut 0 6 15000000", 22: "", 2: "rules 1 3 1000000"})
+    two = changed(WITH_ALL, {15: "cut 0 6 15000000", 22: ""})
     yield "two lines that don't fit", text(two), "log 40 BadLog line 15 kind 3"
     ends = text(WITH_ALL).splitlines(keepends=True)
     yield "a line with a byte beyond ASCII", b"".join(put(ends, 15, b"cut 0 1 \xff\n")), "log 40 BadLog line 15 kind 3"
@@ -376,8 +376,7 @@ class Files:
         self.lines = self.log()
         words = [line.split()[0] for line in self.lines]
         self.heads = [at for at, word in enumerate(words, 1) if word in ("epoch", "few")]
-        self.root, self.done, self.split = (words.index(word) + 1 for word in ("root", "done", "split"))
-        self.edge = next(at for at, word in enumerate(words, 1) if word == "edge")
+        self.root, self.done, self.edge = (words.index(word) + 1 for word in ("root", "done", "edge"))
         self.boxes = words.count("in") + words.count("edge")
 
     @staticmethod
@@ -395,12 +394,12 @@ class Files:
                 lines += [*block[:root], "skip G01 3", *block[root:]]
         return lines
 
-    def words(self, number, **changes):
-        """The line of this number with other words at the places that are named w0, w1 and so on."""
-        words = self.lines[number - 1].split()
+    def with_words(self, line, changes):
+        """The lines with other words at some places of one of them."""
+        words = self.lines[line - 1].split()
         for place, word in changes.items():
-            words[int(place[1:])] = str(word)
-        return " ".join(words)
+            words[place] = str(word)
+        return put(self.lines, line, " ".join(words))
 
     def number(self, line, place):
         """A number of a line."""
@@ -408,12 +407,12 @@ class Files:
 
     def stepped(self, line, place, by):
         """The lines with one number changed by so much."""
-        return put(self.lines, line, self.words(line, **{f"w{place}": self.number(line, place) + by}))
+        return self.with_words(line, {place: self.number(line, place) + by})
 
 
 def checked_logs(files):
     """Logs that `check` tests against the files."""
-    lines, (one, two, three, four) = files.lines, files.heads
+    lines, (_, two, three, four) = files.lines, files.heads
     yield "as it is", lines, f"yes {files.boxes}"
     for place in 1, 2, 3:
         for by in 1, -1:
@@ -440,7 +439,7 @@ def checked_logs(files):
 
 def satellite_logs(files, lines):
     """52 by `check`."""
-    one, two, three, four = files.heads
+    one, two, three, _ = files.heads
     root = files.root
     swapped = changed(lines, {one + 1: lines[one + 1], one + 2: lines[one]})
     yield "swapped", swapped, f"no 52 SatelliteDiffers line {one + 1}"
@@ -448,15 +447,15 @@ def satellite_logs(files, lines):
     yield "another reason", put(lines, root - 1, "skip G01 4"), f"no 52 SatelliteDiffers line {root - 1}"
     yield "another satellite", put(lines, root - 1, "skip G02 3"), f"no 52 SatelliteDiffers line {root - 1}"
     yield "one more", before(lines, root, "skip G02 3"), f"no 52 SatelliteDiffers line {root}"
-    name = files.words(one + 1, w1="G02")
-    yield "another satellite's row", put(lines, one + 1, name), f"no 52 SatelliteDiffers line {one + 1}"
+    renamed = files.with_words(one + 1, {1: "G02"})
+    yield "another satellite's row", renamed, f"no 52 SatelliteDiffers line {one + 1}"
     skipped = put(lines, one + 1, "skip " + lines[one].split()[1] + " 3")
     yield "a skip for a row", skipped, f"no 52 SatelliteDiffers line {one}"
-    fewer = put(skipped, one, files.words(one, w3=files.number(one, 3) - 1))
+    fewer = put(skipped, one, files.stepped(one, 3, -1)[one - 1])
     yield "a skip for a row, and its number", fewer, f"no 52 SatelliteDiffers line {one}"
     # A line that is missing in an epoch of few is told at the next line, where 51 is the lesser number.
     yield "no skip line in few", put(lines, two + 1), f"no 52 SatelliteDiffers line {two + 1}"
-    both = put(put(lines, three, files.words(three, w1=4)), two + 1)
+    both = put(files.with_words(three, {1: 4}), two + 1)
     yield "no skip line in few, and 51", both, f"no 51 EpochDiffers line {two + 1}"
     yield "no skip line in few at the end", lines[:-1], f"no 52 SatelliteDiffers line {len(lines)}"
     yield "another reason in few", put(lines, two + 1, "skip G01 2"), f"no 52 SatelliteDiffers line {two + 1}"
@@ -471,14 +470,14 @@ def row_logs(files):
         for low in 2, 4, 6, 8:
             ends = [files.number(line, low), files.number(line, low + 1)]
             for end in ends:
-                point = {f"w{low}": end, f"w{low + 1}": end}
+                point = {low: end, low + 1: end}
                 answer = f"no 53 RowNarrow line {line} theirs {end} {end} ours"
-                yield "a narrow row", put(files.lines, line, files.words(line, **point)), (answer, ends)
+                yield "a narrow row", files.with_words(line, point), (answer, ends)
                 # The span comes before the bounds, and x before y, z and the range.
-                point["w11"] = files.number(line, 11) + 1
+                point[11] = files.number(line, 11) + 1
                 if low < 8:
-                    point["w9"] = files.number(line, 8)
-                yield "a narrow row, and bounds", put(files.lines, line, files.words(line, **point)), (answer, ends)
+                    point[9] = files.number(line, 8)
+                yield "a narrow row, and bounds", files.with_words(line, point), (answer, ends)
         for place in 10, 11:
             for by in 1, -1:
                 yield "other bounds", files.stepped(line, place, by), f"no 54 BoundDiffers line {line}"
@@ -515,7 +514,7 @@ def checked_rules(files):
         ("bisections", 0, 2, 0, f"no 62 OverBudget line {splits[0]}"),
     ):
         settings = re.sub(rf"(?m)^{key} = .*$", f"{key} = {value}", files.settings)
-        yield settings, put(files.lines, 2, files.words(2, **{f"w{place}": rule})), answer
+        yield settings, files.with_words(2, {place: rule}), answer
 
 
 # ---- running them

@@ -37,12 +37,16 @@ LOG holds have to be starts of the whole texts; where LOG wasn't created yet it 
 may change.
 """
 
-FILES = """
-The files are those of `examples/` and of `crates/gpscover/data`{recorded}. A *long name* is a path of more than a
-thousand bytes. 'LOG as it was' is status 6 before LOG is created, or in a run that writes none; 'LOG cut' is status 6
-with the start of the log in LOG; 'whole' is a run that ended as if nothing had been refused.
+NOTES = """
+'LOG as it was' is status 6 before LOG is created, or in a run that writes none; 'LOG cut' is status 6 with the start of
+the log in LOG; 'whole' is a run that ended as if nothing had been refused; 'otherwise' counts the rest, which would be
+faults of the program. 'Status' is that of the whole run: where it is 2, the program takes these words for no command.
+'Before LOG' is how many allocations come before LOG is created. The files are those of `examples/` and of
+`crates/gpscover/data`. A *long name* is a path of more than a thousand bytes.
 """
-RECORDED = ", and those of one epoch of a recorded receiver"
+RECORDED = """
+The recorded epoch is the first of a recorded receiver's files that aren't here.
+"""
 
 # What a run left: its status, the bytes on both streams, those of LOG or None, and the counts.
 Ran = collections.namedtuple("Ran", "status out err log calls refused created before")
@@ -197,7 +201,7 @@ def main(program, *recorded):
                 print(f"{name}: {wrong}", file=sys.stderr)
             if rows[-1].whole.created:
                 runs.run(words)
-    print(HEAD + FILES.format(recorded=RECORDED if recorded else ""))
+    print(HEAD + NOTES + (RECORDED if recorded else ""))
     print(table(rows), end="")
     return 1 if any(row.wrong for row in rows) else 0
 
