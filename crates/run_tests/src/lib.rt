@@ -12,5 +12,6 @@ mod files;
 mod narrowing;
 #[cfg(test)]
 mod outer;
+pub mod roomy;
 #[cfg(test)]
 mod shelves;
