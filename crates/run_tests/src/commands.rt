@@ -1,3 +1,5 @@
+ghost use Rattle.std.specs.Prelude.{◌<◌};
+
 use crate::shelves::{one_file, words};
 use cover_run::{Limits, Status, run};
 use outer_io::{MemoryShelf, MemorySink};
@@ -43,6 +45,7 @@ const JUDGE: Case = Case {
     err_fails: 0,
 };
 
+// The same where a call moves one byte; calls that are to fail have other numbers then.
 fn expect(
     rt: &(impl Abort + AllocGlobal),
     case: &Case,
@@ -50,6 +53,23 @@ fn expect(
     out_text: &str,
     err_text: &str,
 ) -> Result<(), Fail> {
+    expect_in(rt, case, u32::MAX, status, out_text, err_text)?;
+    if case.read_fails == 0 {
+        expect_in(rt, case, 1, status, out_text, err_text)?;
+    }
+    Ok(())
+}
+
+fn expect_in(
+    rt: &(impl Abort + AllocGlobal),
+    case: &Case,
+    piece: u32,
+    status: Status,
+    out_text: &str,
+    err_text: &str,
+) -> Result<(), Fail>
+    requires { 0 < piece }
+{
     let alloc = rt.alloc();
     let words = words(alloc, case.words)?;
     let limits = Limits {
@@ -59,6 +79,7 @@ fn expect(
     };
     let fails = vec![in alloc; case.read_fails]?;
     let mut shelf = one_file(alloc, "a.log", case.log, "b.log", 0, fails)?;
+    shelf.set_piece(piece);
     let mut out = MemorySink::make(alloc, case.room, vec![in alloc; case.out_fails]?)?;
     let mut err = MemorySink::make(alloc, 200, vec![in alloc; case.err_fails]?)?;
     let ended = run(alloc, &limits, &words, &mut shelf, &mut out, &mut err);
@@ -280,7 +301,23 @@ fn has_log(shelf: &MemoryShelf, first: &str, second: &str) -> bool {
     }
 }
 
+// The same where a call moves one byte; calls that are to fail have other numbers then.
 fn paves(rt: &(impl Abort + AllocGlobal), case: &Paving, left: &Left) -> Result<(), Fail> {
+    paves_in(rt, case, u32::MAX, left)?;
+    if case.fails == 0 {
+        paves_in(rt, case, 1, left)?;
+    }
+    Ok(())
+}
+
+fn paves_in(
+    rt: &(impl Abort + AllocGlobal),
+    case: &Paving,
+    piece: u32,
+    left: &Left,
+) -> Result<(), Fail>
+    requires { 0 < piece }
+{
     let alloc = rt.alloc();
     let words = words(alloc, case.words)?;
     let limits = Limits {
@@ -290,6 +327,7 @@ fn paves(rt: &(impl Abort + AllocGlobal), case: &Paving, left: &Left) -> Result<
     };
     let fails = vec![in alloc; case.fails]?;
     let mut shelf = one_file(alloc, "a.rows", case.rows, "b.log", case.room, fails)?;
+    shelf.set_piece(piece);
     let mut out = MemorySink::make(alloc, case.out_room, vec![in alloc; case.out_fails]?)?;
     let mut err = MemorySink::make(alloc, 200, Vec::new(alloc))?;
     let ended = run(alloc, &limits, &words, &mut shelf, &mut out, &mut err);

@@ -1,3 +1,5 @@
+ghost use Rattle.std.specs.Prelude.{◌<◌};
+
 use crate::shelves::{four_files, words};
 use cover_run::{Limits, Status, run};
 use outer_io::{MemoryShelf, MemorySink};
@@ -112,6 +114,7 @@ const CHECK: Case = Case {
     limit: 2_000,
 };
 
+// The same where a call of the shelf moves one byte.
 fn expect(
     rt: &(impl Abort + AllocGlobal),
     case: &Case,
@@ -119,6 +122,20 @@ fn expect(
     out_text: &str,
     err_text: &str,
 ) -> Result<(), Fail> {
+    expect_in(rt, case, u32::MAX, status, out_text, err_text)?;
+    expect_in(rt, case, 1, status, out_text, err_text)
+}
+
+fn expect_in(
+    rt: &(impl Abort + AllocGlobal),
+    case: &Case,
+    piece: u32,
+    status: Status,
+    out_text: &str,
+    err_text: &str,
+) -> Result<(), Fail>
+    requires { 0 < piece }
+{
     let alloc = rt.alloc();
     let words = words(alloc, case.words)?;
     let limits = Limits {
@@ -129,6 +146,7 @@ fn expect(
     let name = String::from_str(alloc, "b.log")?;
     let files = four_files(alloc, case.obs, case.nav, case.settings, case.log)?;
     let mut shelf = MemoryShelf::make(alloc, files, name, 0, Vec::new(alloc))?;
+    shelf.set_piece(piece);
     let mut out = MemorySink::make(alloc, 100, Vec::new(alloc))?;
     let mut err = MemorySink::make(alloc, 200, Vec::new(alloc))?;
     let ended = run(alloc, &limits, &words, &mut shelf, &mut out, &mut err);
@@ -237,6 +255,15 @@ fn an_epoch_of_few_satellites_is_solved(rt: HostRuntime) -> Result<(), Fail> {
     let table = [
         (
             2_000,
+            false,
+            Status::Done,
+            "epoch 1 gps 1388620800.070000000000 few 1\n",
+            "",
+            LOG,
+        ),
+        (
+            2_000,
+            true,
             Status::Done,
             "epoch 1 gps 1388620800.070000000000 few 1\n",
             "",
@@ -244,17 +271,21 @@ fn an_epoch_of_few_satellites_is_solved(rt: HostRuntime) -> Result<(), Fail> {
         ),
         (
             20,
+            false,
             Status::WriteFault,
             "",
             "log fault\n",
             "gpscover 1\nrules 1 4",
         ),
     ];
-    for (room, status, out_text, err_text, log) in table {
+    for (room, by_bytes, status, out_text, err_text, log) in table {
         let words = words(alloc, &["solve", "a.obs", "a.nav", "a.toml", "b.log"])?;
         let name = String::from_str(alloc, "b.log")?;
         let files = four_files(alloc, OBS, NAV, SETTINGS, LOG)?;
         let mut shelf = MemoryShelf::make(alloc, files, name, room, Vec::new(alloc))?;
+        if by_bytes {
+            shelf.set_piece(1);
+        }
         let mut out = MemorySink::make(alloc, 100, Vec::new(alloc))?;
         let mut err = MemorySink::make(alloc, 200, Vec::new(alloc))?;
         let ended = run(alloc, &limits, &words, &mut shelf, &mut out, &mut err);

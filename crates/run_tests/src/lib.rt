@@ -12,6 +12,7 @@ mod files;
 mod narrowing;
 #[cfg(test)]
 mod outer;
+pub mod roomy;
 #[cfg(test)]
 mod parts;
 #[cfg(test)]

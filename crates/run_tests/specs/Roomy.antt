@@ -1,0 +1,51 @@
+-- Runs over objects in memory that have room for all that is written.
+use Rattle.std.specs.Prelude.{◌≡◌, ◌<◌, ◌⊎◌, ℕ, ◌+◌, List, [], length, Option, None, Some, IfSome, is_some, true}
+use Rattle.std.specs.FinMap as map
+use Rattle.outer_io.specs.Taken.{SinkState, SinkTold}
+use Rattle.outer_io.specs.Told.{Files, ShelfState, Told}
+use Rattle.cover_run.specs.Words.{Command, Judge, Pave, Solve, Check}
+use Rattle.cover_run.specs.declared.limits.Limits.{Limits}
+use Rattle.cover_run.specs.declared.status.Status.{Status}
+use Rattle.cover_run.specs.declared.status.Status.TheVariants as status
+
+abbrev pub IsThere : Files → List ℕ → Type 0
+IsThere files name = is_some (map.get files name) ≡ true
+
+-- the files that are read are there
+abbrev pub AreThere : Files → Command → Type 0
+AreThere files (Judge log) = IsThere files log
+AreThere files (Pave rows log) = IsThere files rows
+AreThere files (Solve names log) =
+    IsThere files names.settings × IsThere files names.nav × IsThere files names.obs
+AreThere files (Check names log) =
+    (IsThere files names.settings × IsThere files names.nav × IsThere files names.obs)
+    × IsThere files log
+
+-- the file that is written
+abbrev pub written_by : Command → Option (List ℕ)
+written_by (Judge log) = None
+written_by (Pave rows log) = Some log
+written_by (Solve names log) = Some log
+written_by (Check names log) = None
+
+-- The files are there, the one that is written can be created and has room for more than the limit,
+-- and no call is to fail.
+pub record IsRoomy (limits : Limits) (command : Command) (shelf : ShelfState)
+    (out : SinkState) : Type 0 where
+  pub told : Told
+  pub tells : shelf.told ≡ Some told
+  pub there : AreThere told.files command
+  pub log : IfSome (written_by command) (λ log. told.terms.log ≡ log)
+  pub room : told.written + limits.log < told.terms.room
+  pub sure : told.terms.fails ≡ []
+  pub out_told : SinkTold
+  pub out_tells : out.told ≡ Some out_told
+  pub out_sure : out_told.terms.fails ≡ []
+
+-- a sink has room left
+abbrev pub HasRoomLeft : SinkState → Type 0
+HasRoomLeft out = (t : SinkTold) → out.told ≡ Some t → length t.bytes < t.terms.room
+
+-- a file couldn't be read or written
+abbrev pub IsFault : Status → Type 0
+IsFault s = (s ≡ status.ReadFault) ⊎ (s ≡ status.WriteFault)
