@@ -1,0 +1,12 @@
+//! The steps of one box of a paving: slabs at its faces in which no point fits are cut off, by what
+//! a tree of contractors proposes and by eighths, and what is left is split or closed.
+#![tactic(auto)]
+
+mod closing;
+mod faces;
+mod proposal;
+mod rounds;
+mod target;
+mod work;
+
+pub use work::{Ended, work_on};
