@@ -52,3 +52,17 @@ one_broke took broke room fault next now last broken full = record {
   broken = broken;
   full = full;
 }
+
+-- the same steps, by another relation
+pub broke_as : {L : Type 0} (took broke : L → Step → GridBox → L → Type 0) (room : L → ℕ) (fault : StepFault) (A B : List ShownStep → Type 0) (first last : L)
+    → ((steps : List ShownStep) → A steps → B steps) → BrokeOff took broke room fault A first last → BrokeOff took broke room fault B first last
+broke_as took broke room fault A B first last f b = record {
+  steps = b.steps;
+  next = b.next;
+  more = b.more;
+  are = f (b.steps ++ b.next ∷ b.more) b.are;
+  before = b.before;
+  taken = b.taken;
+  broken = b.broken;
+  full = b.full;
+}
