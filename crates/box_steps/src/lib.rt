@@ -4,9 +4,14 @@
 
 mod closing;
 mod faces;
+mod laws;
 mod proposal;
 mod rounds;
 mod target;
 mod work;
 
+pub use laws::{box_steps_exist, cuts_leave_no_eighth};
 pub use work::{Ended, work_on};
+
+#[cfg(test)]
+mod tests;
