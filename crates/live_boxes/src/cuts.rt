@@ -30,8 +30,8 @@ pub fn slab_of(part: &Box3, face: u8, bound: i64) -> Box3
     }
 }
 
-/// The rest of the box.
-pub(crate) fn left_by(part: &Box3, face: u8, bound: i64) -> Box3
+/// The rest of the box, which the cut leaves.
+pub fn left_by(part: &Box3, face: u8, bound: i64) -> Box3
     requires { IsProperCut face bound (grid_box part.now) }
     ensures { grid_box result ≡ left_by_cut face bound (grid_box part.now) }
 {

@@ -4,5 +4,5 @@
 mod cuts;
 mod live;
 
-pub use cuts::{is_proper_cut, slab_of};
+pub use cuts::{is_proper_cut, left_by, slab_of};
 pub use live::Live;

@@ -1,0 +1,7 @@
+pub mod TakingLemmas
+pub mod EighthLemmas
+pub mod FaceLemmas
+pub mod RoundLemmas
+pub mod FacesUnderway
+pub mod RoundsUnderway
+pub mod BoxLemmas

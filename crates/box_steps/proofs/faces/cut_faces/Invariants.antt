@@ -1,0 +1,11 @@
+use Rattle.std.proofs.Common.{◌≤◌}
+use Rattle.sat_model.specs.Boxes.{grid_box}
+use Rattle.box_steps.specs.Targets.{bounds_of}
+use Rattle.box_steps.proofs.FacesUnderway.{FacesUnderway}
+use Rattle.box_steps.proofs.faces.cut_faces.Given as goal
+
+abbrev pub invariant-loop-face : goal.invariant-loop-face
+invariant-loop-face g l = record {
+  underway : FacesUnderway g.L.Steps.took l.rows l.q l.id (bounds_of l.target) l.face (grid_box l.fn.part) l.fn.log l.cuts (grid_box l.part) l.log;
+  faults : g.L.Steps.faults l.fn.log ≤ g.L.Steps.faults l.log;
+}

@@ -1,0 +1,52 @@
+-- The steps of one box of a paving: it is cut at its faces, and then split or closed.
+use Rattle.std.specs.Prelude.{◌≡◌, ℕ, ◌⊎◌, ℤ, List, [], ◌∷◌, ◌++◌, Option}
+use Rattle.sat_model.specs.declared.rules.Rules.{Rules}
+use Rattle.sat_model.specs.declared.satellites.Row.{Row}
+use Rattle.sat_model.specs.declared.steps.Step.{Step}
+use Rattle.sat_model.specs.Boxes.{Side, GridBox}
+use Rattle.sat_model.specs.ClockSpans.{IsClockHull}
+use Rattle.sat_model.specs.Fold.{ShownStep}
+use Rattle.sat_model.specs.Paved.{WaitingBox, IsUndecided, Closes}
+use Rattle.sat_model.specs.Proposals.{IsProposal}
+use Rattle.sat_model.specs.RowTrees.{row_tree}
+use Rattle.sat_model.specs.Trees.{TreeValue}
+use Rattle.box_steps.specs.Cuts.{AreProposalCuts, AreEighthCuts}
+
+-- the cuts are those by some proposal of the tree
+pub record AreCutsByTree (grain slack : ℤ) (t : TreeValue) (clock : Side) (rows : List Row)
+    (q id : ℕ) (part : GridBox) (cuts : List ShownStep) (left : GridBox) : Type 0 where
+  pub answer : Option GridBox
+  pub proposal : IsProposal grain slack t clock part answer
+  pub are : AreProposalCuts rows q id answer part cuts left
+
+-- for intervals between multiples of the grain, with faces that are tight but for the slack
+module _ (grain slack : ℤ) (rows : List Row) (rules : Rules) where
+  -- the tree of the rows is asked once, for the box and its clock hull; the box is cut to what it
+  -- proposes, and then by eighths
+  pub record IsCutDown (box : WaitingBox) (cuts : List ShownStep) (left : GridBox) : Type 0 where
+    pub undecided : IsUndecided rows rules box.part
+    pub clock : Side
+    pub hull : IsClockHull rows box.part rules.outliers clock.lo clock.hi
+    pub by_tree : List ShownStep
+    pub middle : GridBox
+    pub tree_cuts : AreCutsByTree grain slack (row_tree grain rows rules.outliers) clock rows
+        rules.outliers box.id box.part by_tree middle
+    pub by_eighths : List ShownStep
+    pub eighth_cuts : AreEighthCuts rows rules.outliers box.id middle by_eighths left
+    pub all_cuts : cuts ≡ by_tree ++ by_eighths
+
+  -- a box that is shown empty or inner isn't cut
+  abbrev pub AreCutsOf : WaitingBox → List ShownStep → GridBox → Type 0
+  AreCutsOf box cuts left =
+      IsCutDown box cuts left
+      ⊎ ((IsUndecided rows rules box.part → ⊥) × (cuts ≡ []) × (left ≡ box.part))
+
+  -- the steps of a box that is taken up after so many splits: its cuts, and the step that splits or
+  -- closes what they leave
+  pub record AreBoxSteps (splits : ℕ) (box : WaitingBox) (steps : List ShownStep) : Type 0 where
+    pub cuts : List ShownStep
+    pub left : GridBox
+    pub are_cuts : AreCutsOf box cuts left
+    pub last : Step
+    pub closes : Closes rows rules splits box.id left last
+    pub all_steps : steps ≡ cuts ++ (record { step = last; part = left }) ∷ []

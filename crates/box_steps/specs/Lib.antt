@@ -1,0 +1,5 @@
+pub mod Cuts
+pub mod BoxSteps
+pub mod Targets
+pub mod Taking
+pub mod Ends

@@ -1,0 +1,44 @@
+//! The step that splits or closes a box.
+
+ghost use Rattle.std.specs.Prelude.{◌≡◌, List};
+ghost use Rattle.sat_model.specs.Boxes.{grid_box};
+ghost use Rattle.sat_model.specs.ClockSpans.{IsClockHull};
+ghost use Rattle.sat_model.specs.Paved.{Closes, IsUndecided};
+ghost use Rattle.sat_model.specs.declared.satellites.Row.{Row};
+ghost use Rattle.relaxed_meet.specs.BoxStates.{IsBoxState};
+
+use relaxed_meet::BoxState;
+use sat_model::{Box3, Rules, Span, Step};
+
+/// What is done with a box of which the rows show this, after so many splits: it is closed outside
+/// where it is shown empty, and inside where it is shown inner. Else it is split on its longest
+/// axis, or closed at the edge where it is short enough or no split is left.
+pub fn closing_step(rules: &Rules, splits: u32, id: u32, part: &Box3, state: &BoxState) -> Step
+    ensures { (rows : List Row) → IsBoxState rows (grid_box part.now) rules.now.outliers state.now
+        → Closes rows rules.now splits id (grid_box part.now) result }
+{
+    match *state {
+        BoxState::Empty => Step::Outside { id },
+        BoxState::Inner { clock, hull } => Step::Inside {
+            id,
+            clock,
+            lo: hull.lo,
+            hi: hull.hi,
+        },
+        BoxState::Undecided { hull } => undecided_step(rules, splits, id, part, hull),
+    }
+}
+
+/// The step for a box that is shown neither empty nor inner, with its clock hull.
+fn undecided_step(rules: &Rules, splits: u32, id: u32, part: &Box3, hull: Span) -> Step
+    ensures { (rows : List Row) → IsUndecided rows rules.now (grid_box part.now) → IsClockHull rows (grid_box part.now) rules.now.outliers hull.lo hull.hi
+        → Closes rows rules.now splits id (grid_box part.now) result }
+{
+    let (axis, longest) = part.longest_axis();
+    if longest as i64 > rules.width && splits < rules.bisections {
+        Step::Split { id, axis }
+    } else {
+        let Span { lo, hi } = hull;
+        Step::Edge { id, lo, hi }
+    }
+}
