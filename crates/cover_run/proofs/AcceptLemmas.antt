@@ -23,7 +23,8 @@ one_root : (centre : Option Pos) (half : Pos) (a b : GridBox)
 one_root None half a b is also = absurd is
 one_root (Some p) half a b is also = is ∙ sym also
 
-pub not_refused : (chosen : Selection) (i j : Inputs) (limit : ℕ) (bytes said : List ℕ) (log : LogValue) (fault : Fault)
+pub not_refused : (chosen : Selection) (i j : Inputs) (limit : ℕ) (bytes said : List ℕ)
+    (log : LogValue) (fault : Fault)
     → inputs_value i ≡ inputs_value j → IsSolved chosen i limit bytes said → IsLogText log bytes
     → Refuses chosen j log fault → ⊥
 not_refused chosen i j limit bytes said log fault same solved text refused =
@@ -35,7 +36,8 @@ not_refused chosen i j limit bytes said log fault same solved text refused =
     let r = refused.refused in
     let own = own_there i j same refused.root chosen r.owns r.are_own in
     let admits = solved.admits r.owns (subst
-    (λ (root : GridBox). AreOwn (meaning_of i) (searches_in root (epochs_of chosen i)) r.owns) box own)
+    (λ (root : GridBox).
+    AreOwn (meaning_of i) (searches_in root (epochs_of chosen i)) r.owns) box own)
     in
     let here = admits_there i j same solved.root chosen r.owns whole.log admits in
     r.refused (subst

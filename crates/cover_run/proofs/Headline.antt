@@ -110,7 +110,8 @@ module _ (limits : Limits) (names : words.Files) (bytes : List ℕ) (told : File
   log_is value (inl (inr (long, e))) = cc
   log_is value (inr (n, e, there, breaks)) = absurd breaks
 
-  module _ (i : Inputs) (said : List ℕ) (solved : IsSolved (chosen_in names) i limits.log bytes said)
+  module _ (i : Inputs) (said : List ℕ)
+      (solved : IsSolved (chosen_in names) i limits.log bytes said)
       (same : (other : Result InputsValue Notice)
       → ReadsInputs limits names NeverBreaks (Some told) other
       → Settles (Ok (inputs_value i)) other) where
@@ -177,8 +178,10 @@ module _ (limits : Limits) (names : words.Files) (a b c d : World)
   of_break of n is (inr (m, counted)) =
       inr (inl (is ∙ ap status_of m), λ reads prints. counted.unreliable None reads)
 
-  module _ (i : Inputs) (bytes said : List ℕ) (solved : IsSolved (chosen_in names) i limits.log bytes said)
-      (rewritten : files_of b.shelf ≡ option_map (λ fs. map.insert fs names.log bytes) (files_of a.shelf))
+  module _ (i : Inputs) (bytes said : List ℕ)
+      (solved : IsSolved (chosen_in names) i limits.log bytes said)
+      (rewritten : files_of b.shelf
+      ≡ option_map (λ fs. map.insert fs names.log bytes) (files_of a.shelf))
       (same : (other : Result InputsValue Notice)
       → ReadsInputs limits names NeverBreaks (Some runs.told) other
       → Settles (Ok (inputs_value i)) other) where
@@ -203,12 +206,12 @@ module _ (limits : Limits) (names : words.Files) (a b c d : World)
         (checked_value f) reads in
         let again = read_again limits names bytes runs.told runs.apart i said solved same
         (checked_value f) given in
-        not_refused (chosen_in names) i f.inputs limits.log bytes said (log_value f.log) fault again.inputs solved
-        again.text refused
+        not_refused (chosen_in names) i f.inputs limits.log bytes said (log_value f.log) fault
+        again.inputs solved again.text refused
 
     told_is : (f : Checked) (t : Status) → Read (Ok (checked_value f))
-        → Tells (SaysAccepted (chosen_in names) f) (SaysRefused (chosen_in names) f) (sinks c.out c.err) (sinks d.out d.err) checker.out
-        t
+        → Tells (SaysAccepted (chosen_in names) f) (SaysRefused (chosen_in names) f)
+        (sinks c.out c.err) (sinks d.out d.err) checker.out t
         → IsLost checker t ⊎ (t ≡ status.Done)
     told_is f status.Done reads told = inr refl
     told_is f status.No reads told = absurd (not_said f told.1.0 reads told.1.1)
@@ -249,7 +252,8 @@ module _ (limits : Limits) (names : words.Files) (a b c d : World)
       → ((other : Result InputsValue Notice)
       → ReadsInputs limits names NeverBreaks (Some runs.told) other
       → Settles (Ok (inputs_value i)) other)
-      → Solves limits.log names.log (chosen_in names) i a b solver status.Done → IsLost checker s ⊎ (s ≡ status.Done)
+      → Solves limits.log names.log (chosen_in names) i a b solver status.Done
+      → IsLost checker s ⊎ (s ≡ status.Done)
   solved_so i same (inl none) = let e : status.Done ≡ status.WriteFault = none.status in cc
   solved_so i same (inr wrote) =
       ends_so i wrote.bytes wrote.said

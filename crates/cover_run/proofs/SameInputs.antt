@@ -199,8 +199,9 @@ module _ (i j : Inputs) (same : inputs_value i ≡ inputs_value j) (root : GridB
       (ap (λ (v : SettingsValue). v.outliers) settings_same)
       (ap (λ (v : SettingsValue). v.bisections) settings_same)
       (ap (λ (v : SettingsValue). v.width) settings_same) in
-      subst (λ (r : Rules). Admits (searches_in root (epochs_of chosen j)) owns r log) rules (record {
+      subst (λ (r : Rules).
+      Admits (searches_in root (epochs_of chosen j)) owns r log) rules (record {
         same_rules = admits.same_rules;
-        blocks = admits_same root i.settings.rules None owns (epochs_of chosen i) (epochs_of chosen j)
-            log.blocks (epochs_same chosen) admits.blocks;
+        blocks = admits_same root i.settings.rules None owns (epochs_of chosen i)
+            (epochs_of chosen j) log.blocks (epochs_same chosen) admits.blocks;
       })

@@ -12,9 +12,10 @@ use Rattle.cover_run.specs.Writing.{Answer}
 use Rattle.cover_run.specs.declared.inputs.Inputs.{Inputs}
 
 -- its text is that of a log that all own lines admit, and that covers what fits
-pub solution_of : (chosen : Selection) (i : Inputs) (root : GridBox) (limit : ℕ) (p : Pos) (answer : Answer)
-    (bytes said : List ℕ) → IsRootOf i root → box_holds root p ≡ true
-    → IsText (gives_of i) i.settings.rules (left_in root (epochs_of chosen i)) limit answer bytes said
+pub solution_of : (chosen : Selection) (i : Inputs) (root : GridBox) (limit : ℕ) (p : Pos)
+    (answer : Answer) (bytes said : List ℕ) → IsRootOf i root → box_holds root p ≡ true
+    → IsText (gives_of i) i.settings.rules (left_in root (epochs_of chosen i)) limit answer bytes
+    said
     → IsSolution chosen i limit answer bytes said
 solution_of chosen i root limit p (Ok done) bytes said is_root inside text =
     let m = meaning_of i in

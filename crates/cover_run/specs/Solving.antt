@@ -45,23 +45,24 @@ module _ (chosen : Selection) (i : Inputs) where
   -- The text of one log and its report, within the limit: each epoch's block has own lines, whose
   -- rows are wider by W at both ends, over the search box of the settings, and is formed when the
   -- one before is paved. All own lines of the epochs admit it, also those of the first epochs
-  -- alone;
-  -- and in each epoch that it gives as paved, what fits is covered, and each in box fits.
+  -- alone; and in each epoch that it gives as paved, what fits is covered, and each in box fits.
   pub record IsSolved (limit : ℕ) (bytes said : List ℕ) : Type 0 where
     pub root : GridBox
     pub is_root : IsRootOf i root
-    pub whole : IsWhole (gives_of i) i.settings.rules (left_in root (epochs_of chosen i)) limit bytes said
+    pub whole : IsWhole (gives_of i) i.settings.rules (left_in root (epochs_of chosen i)) limit
+        bytes said
     pub admits : (owns : List (List SatLine))
         → AreOwn (meaning_of i) (searches_in root (epochs_of chosen i)) owns
         → Admits (searches_in root (epochs_of chosen i)) owns i.settings.rules whole.log
-    pub cover : FileCover (meaning_of i) i.settings.rules.outliers (searches_in root (epochs_of chosen i))
-        whole.log
+    pub cover : FileCover (meaning_of i) i.settings.rules.outliers
+        (searches_in root (epochs_of chosen i)) whole.log
 
   -- what this fault left of both
   pub record IsSolvedTo (fault : WriteFault) (limit : ℕ) (bytes said : List ℕ) : Type 0 where
     pub root : GridBox
     pub is_root : IsRootOf i root
-    pub begun : IsBegun fault (gives_of i) i.settings.rules (left_in root (epochs_of chosen i)) limit bytes said
+    pub begun : IsBegun fault (gives_of i) i.settings.rules (left_in root (epochs_of chosen i))
+        limit bytes said
 
   -- by how the writing ended
   abbrev pub IsSolution : ℕ → Answer → (bytes said : List ℕ) → Type 0
@@ -69,11 +70,13 @@ module _ (chosen : Selection) (i : Inputs) where
   IsSolution limit (Err fault) = IsSolvedTo fault limit
 
 -- The log of the files was written, and its report printed, or it couldn't be created.
-module _ (limit : ℕ) (log : List ℕ) (chosen : Selection) (i : Inputs) (before after : World) (trust : Trust) where
+module _ (limit : ℕ) (log : List ℕ) (chosen : Selection) (i : Inputs) (before after : World)
+    (trust : Trust) where
   -- behind the reading of files
   abbrev pub WritesBehind : List Slot → Status → Type 0
   WritesBehind slots = Writes log before after trust slots limit
-      (most_bytes (length (epochs_of chosen i)) i.settings.rules.bisections) (IsSolution chosen i limit)
+      (most_bytes (length (epochs_of chosen i)) i.settings.rules.bisections)
+      (IsSolution chosen i limit)
 
   abbrev pub Solution : Status → Type 0
   Solution = WritesBehind []

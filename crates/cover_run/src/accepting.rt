@@ -24,8 +24,8 @@ use outer_io::{Shelf, Sink};
 pub fn solved_is_accepted<H: Shelf, O: Sink>()
     // It has no fault against the values that it was solved for, whichever own lines it is
     // checked by.
-    ensures fault { (chosen : Selection) (i j : Inputs) (limit : ℕ) (bytes said : List ℕ) (log : LogValue)
-        (fault : Fault)
+    ensures fault { (chosen : Selection) (i j : Inputs) (limit : ℕ) (bytes said : List ℕ)
+        (log : LogValue) (fault : Fault)
         → inputs_value i ≡ inputs_value j → IsSolved chosen i limit bytes said → IsLogText log bytes
         → Refuses chosen j log fault → ⊥ }
     // A run of `check` behind it prints yes, unless a fault or want of memory ends it;

@@ -22,8 +22,8 @@ use std::alloc::Global;
 
 /// Does what the words after the program's name ask for, which are read with `clap`. `judge LOG`
 /// reads the log, judges it with its satellite rows taken as given, and prints the verdict on
-/// `out`. `solve OBS NAV SETTINGS LOG` reads the files of a receiver, paves their epochs, writes the
-/// log and prints its report on `out`. `check` with the same words reads them and the log, and
+/// `out`. `solve OBS NAV SETTINGS LOG` reads the files of a receiver, paves their epochs, writes
+/// the log and prints its report on `out`. `check` with the same words reads them and the log, and
 /// prints the verdict of the files on it. Both take `--from N` and `--to N`, the first and the last
 /// epoch that is taken. `pave ROWS LOG` reads the rows, paves their epochs, writes the log and
 /// prints the report on `out`. What stands in the way is said on `err`, where a fault changes
