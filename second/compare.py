@@ -309,7 +309,7 @@ def cuts(arguments, directory):
         pair.compare(changed, small, change, judge=True)
     for path in sorted((arguments.data / "rows").glob("*.rows")):
         pair.run("pave", path, pair.log)
-        paving, many = log_with_cuts(chance, shortened(pair.log.read_bytes(), 12, 100))
+        paving, many = log_with_cuts(chance, shortened(pair.log.read_bytes(), 3, 30))
         lines += many
         pair.compare(paving, pavings, f"paving of {path.name}", judge=True)
     for tally in (pavings, put, small):

@@ -79,12 +79,13 @@ def log_with_cuts(chance, log):
 def cut_texts(chance, walker, box_id):
     """(name, text) of cuts of a live box: proper ones, where there are, and improper ones."""
     box = walker.live[box_id]
-    face = chance.randrange(6)
+    faces = {face: widest_cut(walker.rows, box, walker.needed, face) for face in chance.sample(range(6), 3)}
+    face = max(faces, key=lambda face: faces[face] is not None)  # one that can be cut, where one is among them
     axis, high_face = divmod(face, 2)
     inward = -1 if high_face else 1
     low, high = box[axis], box[axis + 3]
     end, other = (high, low) if high_face else (low, high)
-    widest = widest_cut(walker.rows, box, walker.needed, face)
+    widest = faces[face]
     bounds = [("nothing taken off", end), ("beyond its own end", end - inward), ("one layer", end + inward),
               ("all but a layer", other), ("nothing left", other + inward), ("drawn", chance.randint(low, high)),
               ("in the middle", (low + high) // 2)]
