@@ -3,7 +3,7 @@
 
 usage: largest_sizes.py PROGRAM
 
-Files are made in the folder for temporary files, which needs 2 GB. It takes some ten minutes. Each status and line is
+Files are made in the folder for temporary files, which needs 2 GB. It takes some five minutes. Each status and line is
 compared with the one that docs/LIMITS.md and docs/ERRORS.md give, and the status is 1 where one differs. Prints the
 table of the section 'Largest sizes' of docs/MEASURED.md.
 """
@@ -110,7 +110,7 @@ class Sizes:
         self.run(Case(what, words, 0, line))
         self.expect("the file isn't of the size that is meant", self.folder.size(name) == limited)
         self.folder.append(name, b"\n")
-        self.run(Case(f"{what}, and one byte more", words, 3, past))
+        self.run(Case("and one byte more", words, 3, past))
 
 
 def whole_text(name, folder=DATA):
@@ -140,9 +140,10 @@ def filling(index, size):
 
 
 def navigation_parts():
-    """The header of the navigation file, and its records."""
+    """The header of the navigation file, and its records of GPS, of eight lines each."""
     head, body = whole_text("receiver.nav").split("END OF HEADER       \n")
-    return head + "END OF HEADER       \n", re.split(r"(?m)^(?=G)", body)[1:]
+    parts = re.split(r"(?m)^(?=G)", body)[1:]
+    return head + "END OF HEADER       \n", ["".join(part.splitlines(keepends=True)[:8]) for part in parts]
 
 
 def observation_parts():
@@ -214,12 +215,12 @@ def observation_sizes(sizes):
     sizes.run(Case(f"OBS of 268,435,456 bytes, {EPOCHS:,} epochs", words, 0, ""))
     sizes.expect("the file isn't of the size that is meant", folder.size("large.obs") == INPUT)
     sizes.run(Case("and its log", ["check", *words[1:]], 0, f"yes {EPOCHS}"))
-    sizes.run(Case("the same log", ["judge", "new.log"], 0, f"yes {EPOCHS}"))
+    sizes.run(Case("its log alone", ["judge", "new.log"], 0, f"yes {EPOCHS}"))
     folder.append("large.obs", b"\n")
-    sizes.run(Case("and one byte more in OBS", words, 3, f"obs 29 TooLong {INPUT}"))
+    sizes.run(Case("and one byte more", words, 3, f"obs 29 TooLong {INPUT}"))
     folder.write("large.obs", head, (epochs[0], EPOCHS + 1))
     line = lines_of(head) + EPOCHS * lines_of(epochs[0]) + 1
-    sizes.run(Case(f"OBS of {EPOCHS + 1:,} epochs", words, 3, f"obs 27 TooMany line {line}"))
+    sizes.run(Case("one epoch more", words, 3, f"obs 27 TooMany line {line}"))
     log = (DATA / "receiver.log").read_bytes()
     words = ["solve", "large.obs", *FILES[1:], "new.log"]
     for length, status, said in (LINE, 0, ""), (LINE + 1, 3, f"obs 15 LongLine line {lines_of(head) + 1}"):
@@ -242,10 +243,11 @@ def satellite_sizes(sizes):
     folder.write("many.toml", settings_with(bisections=4096, outliers=8))
     words = ["solve", "many.obs", "many.nav", "many.toml", "new.log"]
     past = f"obs 27 TooMany line {lines_of(obs_head) + SATELLITES + 2}"
-    for count, status, said in (SATELLITES, 0, ""), (SATELLITES + 1, 3, past):
+    what = "64 usable satellites of GPS in an epoch, 4,096 splits, q = 8"
+    for what, count, status, said in (what, SATELLITES, 0, ""), ("and one satellite more", SATELLITES + 1, 3, past):
         text = "".join(name + line[3:] for name, line in named[:count])
         folder.write("many.obs", obs_head, first[:32] + f"{count:3}" + first[35:], text)
-        sizes.run(Case(f"{count} satellites of GPS in an epoch, 4,096 splits, q = 8", words, status, said))
+        sizes.run(Case(what, words, status, said))
         if status == 0:
             boxes, rows = kept_boxes(folder.path / "new.log")
             sizes.expect("not all satellites are usable", rows == SATELLITES)
@@ -310,7 +312,7 @@ def rows_sizes(sizes):
         file.writelines(filling(count + 1, left))
     what = f"ROWS of 268,435,456 bytes, {count:,} epochs without splits"
     sizes.at_and_past(what, ["pave", "large.rows", "new.log"], INPUT, "large.rows", f"rows 29 TooLong {INPUT}")
-    sizes.run(Case("the log of these rows", ["judge", "new.log"], 0, f"yes {count}"))
+    sizes.run(Case("the log of the rows at the limit", ["judge", "new.log"], 0, f"yes {count}"))
     folder.remove("large.rows", "new.log")
 
 
