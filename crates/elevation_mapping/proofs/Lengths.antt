@@ -52,19 +52,16 @@ squares_spread a b c d m h =
     let k = mul-le d (4 * (a + b + c)) d (7 * m) (omega arith) (sum_small a b c m h) in
     omega (arith, k, h)
 
+-- each of p, q, r is at most d more than a, b, c: the roots are at most 7 / 4 of that and one apart
 four_roots : (a b c p q r d n f : ℕ) → p ≤ a + d → q ≤ b + d → r ≤ c + d → a * a + b * b + c * c < (n + 1) * (n + 1) → f * f ≤ p * p + q * q + r * r → 4 * f ≤ 4 * (n + 1) + 7 * d
 four_roots a b c p q r d n f hp hq hr h k =
     let s = squares_spread a b c d (n + 1) h in
     grind (arith, square-mono (4 * (n + 1) + 7 * d + 1) (4 * f), square-mono p (a + d) hp, square-mono q (b + d) hq, square-mono r (c + d) hr, s, k)
 
--- each of p, q, r is at most d more than a, b, c: the roots are at most 7 / 4 of that and one apart
-pub root_spread : (a b c p q r d n f : ℕ) → p ≤ a + d → q ≤ b + d → r ≤ c + d → a * a + b * b + c * c < (n + 1) * (n + 1) → f * f ≤ p * p + q * q + r * r → 4 * f ≤ 4 * n + 7 * d + 4
-root_spread a b c p q r d n f hp hq hr h k = omega (arith, four_roots a b c p q r d n f hp hq hr h k)
-
 -- ---- of vectors that a place holds
 
 pub lengths_apart : (n w : ℕ) (a : Place) → PlaceEnds n w a → 4 * root (greatest_sum a) ≤ 4 * root (least_sum a) + 7 * w + 4
-lengths_apart n w a e = root_spread (least_end a.x.lo a.x.hi) (least_end a.y.lo a.y.hi) (least_end a.z.lo a.z.hi) (greatest_end a.x.lo a.x.hi) (greatest_end a.y.lo a.y.hi) (greatest_end a.z.lo a.z.hi) w (root (least_sum a)) (root (greatest_sum a)) (ends_apart n w a.x.lo a.x.hi e.x_ends) (ends_apart n w a.y.lo a.y.hi e.y_ends) (ends_apart n w a.z.lo a.z.hi e.z_ends) (root_is (least_sum a)).next_square_gt (root_is (greatest_sum a)).square_le
+lengths_apart n w a e = omega (arith, four_roots (least_end a.x.lo a.x.hi) (least_end a.y.lo a.y.hi) (least_end a.z.lo a.z.hi) (greatest_end a.x.lo a.x.hi) (greatest_end a.y.lo a.y.hi) (greatest_end a.z.lo a.z.hi) w (root (least_sum a)) (root (greatest_sum a)) (ends_apart n w a.x.lo a.x.hi e.x_ends) (ends_apart n w a.y.lo a.y.hi e.y_ends) (ends_apart n w a.z.lo a.z.hi e.z_ends) (root_is (least_sum a)).next_square_gt (root_is (greatest_sum a)).square_le)
 
 pub amounts_small : (a : Place) → 4 * (greatest_end a.x.lo a.x.hi + greatest_end a.y.lo a.y.hi + greatest_end a.z.lo a.z.hi) ≤ 7 * (root (greatest_sum a) + 1)
 amounts_small a = sum_small (greatest_end a.x.lo a.x.hi) (greatest_end a.y.lo a.y.hi) (greatest_end a.z.lo a.z.hi) (root (greatest_sum a) + 1) (root_is (greatest_sum a)).next_square_gt

@@ -1,4 +1,5 @@
--- The points of a box and the lines from them to a place: how large and wide they are, and how long.
+-- The points of a box and the lines from them to a place: how large and wide they are, and how
+-- long.
 use Rattle.std.proofs.Common.{◌≡◌, ℕ, ◌+◌, ◌*◌, ◌/◌, ◌^◌, ◌≤◌, arith, lit≤, sym, refl, Bool, true, ◌&&◌}
 use Rattle.std.specs.Prelude.{IsTrue, nat_le, ℤ, pos, nat_abs, ◌+ℤ◌, ◌-ℤ◌, ◌≤ℤ◌}
 use Rattle.std.proofs.lemmas.Int.{ints, by_lt_z}

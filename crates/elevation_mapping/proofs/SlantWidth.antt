@@ -17,7 +17,7 @@ use Rattle.sat_model.proofs.ProductLemmas.{mul_mono}
 use Rattle.sat_model.proofs.RootLemmas.{square-mono, root_is}
 use Rattle.sat_model.proofs.SquareLemmas.{one_part, square_between, least_le_greatest_end, greatest_square_le}
 use Rattle.elevation_mapping.specs.Mapping.{slant_floor, slant_of}
-use Rattle.elevation_mapping.specs.SineSizes.{sine_amount, sine_slope}
+use Rattle.elevation_mapping.specs.SineSizes.{sine_amount, sine_slope, least_slant, slant_amount}
 use Rattle.elevation_mapping.proofs.Lengths.{root_at_least, two_products}
 use Rattle.elevation_mapping.proofs.SineWidth.{cancel}
 
@@ -30,14 +30,10 @@ slant_held lo hi a b s e f h =
     let v = root_mono (slant_floor + square (nat_abs s)) (slant_floor + greatest_square lo hi) _ _ (root_is (slant_floor + square (nat_abs s))) (root_is (slant_floor + greatest_square lo hi)) (omega (arith, q.1)) in
     record { from = omega (arith, ints, e, u); to = omega (arith, ints, f, v) }
 
-pub slant_at_least : (x : ℕ) → 44 * 10 ^ 13 ≤ root (slant_floor + x)
-slant_at_least x = root_at_least (44 * 10 ^ 13) (slant_floor + x) (omega arith)
+pub slant_at_least : (x : ℕ) → least_slant ≤ root (slant_floor + x)
+slant_at_least x = root_at_least least_slant (slant_floor + x) (omega arith)
 
 -- ---- two slants p and q, of sines t and s
-
--- a little less than the root of the floor
-abbrev pub least_slant : ℕ
-least_slant = 44 * 10 ^ 13
 
 mixed_square : (n s t : ℕ) → (n + s * t) * (n + s * t) ≤ (n + s * s) * (n + t * t)
 mixed_square n s t =
@@ -61,7 +57,7 @@ mixed_less n s t p q h k =
 gap : (n s t p q : ℕ) → n + s * s < (q + 1) * (q + 1) → n + t * t < (p + 1) * (p + 1) → p * p ≤ n + t * t → q ≤ p → p * p + s * t ≤ q * p + t * t + 2 * p
 gap n s t p q h k i o = let m = mixed_less n s t p q h k in omega (arith, m, i, o)
 
-sine_square : (t p : ℕ) → slant_floor + t * t < (p + 1) * (p + 1) → p ≤ 4 * 10 ^ 18 → t * t + least_slant * least_slant ≤ p * p
+sine_square : (t p : ℕ) → slant_floor + t * t < (p + 1) * (p + 1) → p ≤ slant_amount → t * t + least_slant * least_slant ≤ p * p
 sine_square t p h k = omega (arith, h, k)
 
 -- the slope that is left of e
@@ -122,8 +118,8 @@ high_quotient (negsuc n) y q k r i j e = omega (arith, ints)
 same : (u x : ℤ) → Between u u x → x ≡ u
 same u x b = omega (arith, ints, b.from, b.to)
 
-pub slant_fits : (n p : ℕ) → IsRoot n p → n ≤ slant_floor + square sine_amount → p ≤ 4 * 10 ^ 18
-slant_fits n p r h = grind (arith, square-mono (4 * 10 ^ 18 + 1) p, r.square_le, h)
+pub slant_fits : (n p : ℕ) → IsRoot n p → n ≤ slant_floor + square sine_amount → p ≤ slant_amount
+slant_fits n p r h = grind (arith, square-mono (slant_amount + 1) p, r.square_le, h)
 
 ends_width : (l h : ℤ) (z t : ℕ) → (l +ℤ pos 2) ≡ pos (up (l +ℤ pos 2)) → up (h -ℤ pos 2) ≤ up (l +ℤ pos 2) + z → z + 4 ≤ t → (h -ℤ l) ≤ℤ pos t
 ends_width l h z t e i j = omega (arith, ints, e, i, j, one_part (h -ℤ pos 2), one_part h, one_part l)
@@ -135,7 +131,7 @@ no_width : (z t : ℕ) → z ≡ 0 → z + 4 ≤ 10 ^ 12 + t
 no_width z t e = omega arith
 
 -- all as natural numbers
-natural_width : (d s t p q l m : ℕ) → IsRoot (slant_floor + s * s) q → IsRoot (slant_floor + t * t) p → s ≤ t → p ≤ 4 * 10 ^ 18 → unit * t ≤ unit * s + (sine_slope d * (t + 109 * 10 ^ 14) + 10020 * unit) → m * q ≤ mapped_one → mapped_one ≤ l * p → (m - l) + 4 ≤ 10 ^ 12 + 10 ^ 16 * d / (3 * 10 ^ 9)
+natural_width : (d s t p q l m : ℕ) → IsRoot (slant_floor + s * s) q → IsRoot (slant_floor + t * t) p → s ≤ t → p ≤ slant_amount → unit * t ≤ unit * s + (sine_slope d * (t + 109 * 10 ^ 14) + 10020 * unit) → m * q ≤ mapped_one → mapped_one ≤ l * p → (m - l) + 4 ≤ 10 ^ 12 + 10 ^ 16 * d / (3 * 10 ^ 9)
 natural_width d s t p q l m rq rp o fp h i j =
     let a = square-mono s t o in
     let qp = root_mono (slant_floor + s * s) (slant_floor + t * t) q p rq rp (omega (arith, a)) in

@@ -1,10 +1,10 @@
--- The troposphere delays a signal more, the nearer to the horizon its satellite stands. Its delay at the
--- zenith is multiplied by 1.001 / sqrt(0.002001 + sin^2 E) at the elevation E: the mapping of Black and
--- Eisner (Journal of Geophysical Research 89, 1984), as RTCA DO-229 prints it in appendix A.4.2.4. The up
--- direction at a point is this project's own choice, since the standard leaves it open: that from the
--- earth's centre, with z scaled for the ellipsoid of WGS 84, which is the normal of the ellipsoid at each
--- of its points. Each printed equation has one named whole number, within one unit of its fraction.
--- Lengths are in um, ratios in 10^-16.
+-- The troposphere delays a signal more, the nearer to the horizon its satellite stands: by its
+-- delay at the zenith times 1.001 / sqrt(0.002001 + sin^2 E), E being the elevation. This is the
+-- mapping of Black and Eisner (Journal of Geophysical Research 89, 1984), as RTCA DO-229 prints it
+-- in appendix A.4.2.4. The up direction at a point is this project's own choice: it is that from
+-- the earth's centre, with z scaled for the ellipsoid of WGS 84, which is the ellipsoid's normal at
+-- its own points. Each printed equation has one named whole number, within one unit of its
+-- fraction. Lengths are in um, ratios in 10^-16.
 use Rattle.std.specs.Prelude.{ℕ, ◌≡◌, ◌+◌, ◌*◌, ◌^◌, ℤ, pos, ◌+ℤ◌, ◌-ℤ◌, ◌*ℤ◌, nat_abs}
 use Rattle.sat_model.specs.Amounts.{square}
 use Rattle.sat_model.specs.Angles.{unit}
@@ -38,8 +38,7 @@ slant_of sine = root (slant_floor + square (nat_abs sine))
 abbrev pub IsMapped : ℕ → ℤ → Type 0
 IsMapped slant factor = Near (pos (1001 * (unit * unit))) (pos (1000 * slant)) factor
 
--- seen from p, a satellite at x, y, z, at this range, has a delay that is `factor` times that at the
--- zenith
+-- seen from p, a satellite at x, y, z, at this range, has `factor` times the delay at the zenith
 pub record Mapping (p : Pos) (x y z : ℤ) (range : ℕ) (factor : ℤ) : Type 0 where
   -- the up direction at p
   pub raised_z : ℤ

@@ -1,5 +1,5 @@
--- How large and how wide a mapping may be over a box, and how much wider the mapped bounds of a row are
--- for it. Lengths are in um, mappings in 10^-16.
+-- How large and how wide a mapping may be over a box, and how wide the mapped bounds of a row are
+-- then. Lengths are in um, mappings in 10^-16.
 use Rattle.std.specs.Prelude.{ℕ, ◌+◌, ◌*◌, ◌/◌, ◌^◌, max, nat_abs, Option, None, Some}
 use Rattle.sat_model.specs.Boxes.{GridBox}
 use Rattle.sat_model.specs.Sizes.{IsWithin}

@@ -1,6 +1,7 @@
--- How large the numbers are from which the sine of an elevation is made, and how far it is spread over a
--- box. Lengths are in um, sines in 10^-16.
+-- How large the numbers are from which the sine of an elevation and a slant are made, and how far
+-- the sine is spread over a box. Lengths are in um, sines and slants in 10^-16.
 use Rattle.std.specs.Prelude.{ℕ, ◌+◌, ◌*◌, ◌^◌}
+use Rattle.sat_model.specs.Angles.{unit}
 
 -- a part of the up direction: a coordinate of a point, z raised
 abbrev pub up_amount : ℕ
@@ -33,7 +34,19 @@ least_up = 5900 * 10 ^ 9
 abbrev pub least_range : ℕ
 least_range = 5000 * 10 ^ 9
 
--- how far the sine is spread over a box whose longest side is d, over one: by the root of three, or 7 / 4,
--- over each of the least lengths, and a little more
+-- by the root of three, or 7 / 4, over each of the least lengths, and a little more: for a box
+-- whose longest side is d
 abbrev pub sine_slope : ℕ → ℕ
 sine_slope d = 6501 * d + 9 * 10 ^ 6
+
+-- how far a sine is spread over such a box whose greatest amount there is s, times one
+abbrev pub sine_spread : ℕ → ℕ → ℕ
+sine_spread d s = sine_slope d * (s + 109 * 10 ^ 14) + 10020 * unit
+
+-- a little less than the root of 0.002001, which is the least slant
+abbrev pub least_slant : ℕ
+least_slant = 44 * 10 ^ 13
+
+-- a slant, each axis of the sine taken for itself
+abbrev pub slant_amount : ℕ
+slant_amount = 4 * 10 ^ 18

@@ -19,9 +19,9 @@ fn one(n: i64) -> Exact
     }
 }
 
-/// Every delay, in um, of a signal that would be late by `zenith` um at the zenith, by a member of
-/// `mapping`, in 10^-16. It is at most 10 m at the zenith in amount, and a mapping at most 30, as that
-/// of `mapped`. Over a mapping as wide as `mapped` gives it, the delays are as wide as `err_spare` says.
+/// Every delay, in um, that the delay `zenith`, in um, becomes by a member of `mapping`, in 10^-16.
+/// The amount of `zenith` is at most 10 m and that of the mapping at most 30, as `mapped` gives it.
+/// Over a mapping as narrow as `mapped` gives it the result is as narrow as `err_spare` says.
 pub fn mapped_delay(zenith: i64, mapping: Exact) -> Exact
     requires zenith_size { IsWithin (10 ^ 7) zenith }
     requires mapping_size { HasAmount mapped_amount mapping }

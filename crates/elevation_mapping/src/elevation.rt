@@ -9,7 +9,7 @@ ghost use Rattle.sat_model.specs.Squares.{sum_of_squares, least_end, greatest_en
 ghost use Rattle.fix_interval.specs.Factors.{Holds, HasEnds, HasAmount, factor_bound};
 ghost use Rattle.elevation_mapping.specs.Places.{HoldsPlace, PlaceEnds, PlaceAmount, least_sum};
 ghost use Rattle.elevation_mapping.specs.Mapping.{IsRatio};
-ghost use Rattle.elevation_mapping.specs.SineSizes.{up_amount, offset_amount, inner_amount, sine_amount, least_up, least_range, sine_slope};
+ghost use Rattle.elevation_mapping.specs.SineSizes.{up_amount, offset_amount, inner_amount, sine_amount, least_up, least_range, sine_spread};
 
 use crate::lines::length_of;
 use fix_interval::{Exact, Place, UNIT};
@@ -39,10 +39,11 @@ fn inner_product(a: Place, b: Place) -> Exact
         .plus(product(a.z, b.z))
 }
 
-/// Every sine, in 10^-16, of the elevation of a line of sight over the plane across the up direction,
-/// both given as vectors in um. Both lengths are divided out last, once for all axes: a quotient by an
-/// interval spreads as its own size does, and this one is near 0 where the mapping is steepest. The
-/// equations round the ratios of each axis, which makes a difference of at most 8 units.
+/// Every sine, in 10^-16, of the elevation of a line of sight, where the up direction and the line
+/// are given as vectors in um. Both lengths are divided out last, once for all axes: a quotient
+/// spreads by its divisor the more, the greater it is itself, and where the mapping is steepest
+/// this one is near 0. The equations round the ratios of each axis, which makes a difference of at
+/// most 8 units.
 pub(crate) fn elevation_sine(up: Place, line: Place) -> Exact
     requires up_size { PlaceAmount up_amount up }
     requires line_size { PlaceAmount offset_amount line }
@@ -51,9 +52,8 @@ pub(crate) fn elevation_sine(up: Place, line: Place) -> Exact
     ensures holds { (x y z a b c up_x up_y up_z line_x line_y line_z sine : ℤ) → HoldsPlace up x y z → HoldsPlace line a b c → IsRatio x (root (sum_of_squares x y z)) up_x → IsRatio y (root (sum_of_squares x y z)) up_y → IsRatio z (root (sum_of_squares x y z)) up_z → IsRatio a (root (sum_of_squares a b c)) line_x → IsRatio b (root (sum_of_squares a b c)) line_y → IsRatio c (root (sum_of_squares a b c)) line_z → Near (((up_x *ℤ line_x) +ℤ (up_y *ℤ line_y)) +ℤ (up_z *ℤ line_z)) (pos unit) sine → Holds result sine }
     ensures amount { HasAmount sine_amount result }
 
-    // Over a box whose longest side is d the sine is spread by `sine_slope d`, over one, the more the
-    // greater it is.
-    ensures narrow { (d : ℕ) → d ≤ 2 * 10 ^ 11 → PlaceEnds up_amount (d + d / 148 + 5) up → PlaceEnds offset_amount (d + (2000 + d / 50000)) line → greatest_end result.lo result.hi * unit ≤ least_end result.lo result.hi * unit + (sine_slope d * (greatest_end result.lo result.hi + 109 * 10 ^ 14) + 10020 * unit) }
+    // For a box whose longest side is d.
+    ensures narrow { (d : ℕ) → d ≤ 2 * 10 ^ 11 → PlaceEnds up_amount (d + d / 148 + 5) up → PlaceEnds offset_amount (d + (2000 + d / 50000)) line → greatest_end result.lo result.hi * unit ≤ least_end result.lo result.hi * unit + sine_spread d (greatest_end result.lo result.hi) }
 {
     let height = inner_product(up, line).over(length_of(up), 1);
     let rounding = Exact { lo: -8, hi: 8 };

@@ -1,11 +1,11 @@
-//! How many times its delay at the zenith the troposphere delays a signal from a satellite, by the
-//! satellite's elevation: 1.001 / sqrt(0.002001 + sin^2 of the elevation), the mapping of Black and
-//! Eisner (1984) as RTCA DO-229 prints it in appendix A.4.2.4. It is enclosed over all points of a box
-//! and all members of a place, and nearly as narrow as it varies over the box.
+//! By how much the troposphere delays a signal more than at the zenith, for the elevation of its
+//! satellite: 1.001 / sqrt(0.002001 + sin^2 of the elevation), the mapping of Black and Eisner
+//! (1984) as RTCA DO-229 prints it in appendix A.4.2.4, enclosed over the points of a box.
 //!
-//! `lines` has the up direction and the lines of sight, `elevation` the sine of the elevation, `slants`
-//! and `mapping` the mapping. `specs/Places` and `side`, `place_of` and their lemmas stand in
-//! `earth_rotation` too, under the same names.
+//! `lines` has the up direction and the line of sight, `elevation` the sine of the elevation,
+//! `slants` the root below the line, `mapping` the whole. The first three definitions of
+//! `specs/Places`, `side` and `place_of`, and lemmas on the roots of sums of squares stand in
+//! `earth_rotation` too, under the same names: they wait for a place in a crate below both.
 #![tactic(auto)]
 
 mod delays;

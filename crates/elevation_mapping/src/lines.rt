@@ -8,6 +8,7 @@ ghost use Rattle.sat_model.specs.Squares.{sum_of_squares, least_end};
 ghost use Rattle.fix_interval.specs.Factors.{Holds, HasEnds, HasAmount};
 ghost use Rattle.elevation_mapping.specs.Places.{HoldsPlace, PlaceEnds, PlaceAmount, least_sum, greatest_sum};
 ghost use Rattle.elevation_mapping.specs.Mapping.{IsRaised};
+ghost use Rattle.elevation_mapping.specs.MappingSizes.{turned_reach};
 ghost use Rattle.elevation_mapping.specs.SineSizes.{up_amount, offset_amount};
 
 use fix_interval::{Exact, ExactArea, Interval, Place, squared_distance};
@@ -46,8 +47,8 @@ pub(crate) fn place_of(part: &Box3) -> Place
     }
 }
 
-/// Every coordinate z as it counts in the up direction, in um: over (1 - f)^2. It is as near to 0 as
-/// before, but for 3 um.
+/// Every coordinate z, in um, as it counts in the up direction: over (1 - f)^2. It comes no nearer
+/// to 0, but for 3 um.
 pub(crate) fn raised(z: Exact) -> Exact
     requires { HasAmount (10 ^ 13) z }
     ensures holds { (a raised : ℤ) → Holds z a → IsRaised a raised → Holds result raised }
@@ -64,7 +65,7 @@ pub(crate) fn raised(z: Exact) -> Exact
 
 /// From the least to the greatest difference of members, on each axis.
 pub(crate) fn offsets(a: Place, b: Place) -> Place
-    requires a_size { PlaceAmount (61 * 10 ^ 12) a }
+    requires a_size { PlaceAmount turned_reach a }
     requires b_size { PlaceAmount (10 ^ 13) b }
     ensures x_low { result.x.lo ≡ a.x.lo -ℤ b.x.hi }
     ensures x_high { result.x.hi ≡ a.x.hi -ℤ b.x.lo }
@@ -92,7 +93,8 @@ pub(crate) fn squares_of(a: Place) -> ExactArea
     squared_distance(a.x, a.y, a.z)
 }
 
-/// From the least to the greatest length of a vector that the place holds, each axis taken for itself.
+/// From the least to the greatest length of a vector that the place holds, each axis taken for
+/// itself.
 pub(crate) fn length_of(a: Place) -> Exact
     requires { PlaceAmount offset_amount a }
     ensures holds { (x y z : ℤ) → HoldsPlace a x y z → Holds result (pos (root (sum_of_squares x y z))) }

@@ -13,7 +13,8 @@ fn greater_amount(span: &Span) -> u64
     span.lo.unsigned_abs().max(span.hi.unsigned_abs())
 }
 
-/// 2,000 um, and how far a delay of this amount at the zenith spreads over a box with this longest side.
+/// How far a delay of this amount at the zenith spreads over a box with this longest side, and
+/// 2,000.
 fn spread(amount: u64, side: u64) -> i64
     requires amount { amount ≤ 10 ^ 7 }
     requires side { side ≤ 2 * 10 ^ 13 }
@@ -22,9 +23,10 @@ fn spread(amount: u64, side: u64) -> i64
     (2_000 + amount as u128 * side as u128 / 3_000_000_000) as i64
 }
 
-/// How wide, in um, each mapped bound of a row may be over this search box, where `zenith` is the span
-/// of the delay at the zenith, its ends within 10 m: 2,000 and the greater amount of its ends times the
-/// longest side over 3 * 10^9, rounded down. It is 0 without such a span.
+/// How wide, in um, each mapped bound of a row may be over this search box: 2,000, and the greater
+/// amount of the ends of `zenith`, the span of the delay at the zenith in um, times the longest
+/// side over 3 * 10^9, rounded down. It is 0 without such a span. The ends of the span are within
+/// 10 m.
 pub fn err_spare(root: &Box3, zenith: Option<Span>) -> i64
     requires { IsZenith zenith }
     ensures { result ≡ pos (err_spare_of (grid_box root.now) zenith) }

@@ -17,7 +17,12 @@ const FARTHEST_CORNER: i64 = 9_000_000_000_000;
 
 const LONGEST_SIDE: i64 = 200_000_000_000;
 
+/// The square of 5,000 km, in um^2.
 const LEAST_SQUARE: u128 = 25_000_000_000_000_000_000_000_000;
+
+/// By how much the equations may differ from the mapping, in 10^-16: they cut lengths off to whole um,
+/// and the vectors don't.
+const CUT_OFF: i128 = 10_000;
 
 fn number(rt: &impl Abort, field: Option<&str>) -> i128 {
     field.expect(rt, "a number").parse().expect(rt, "a number")
@@ -59,7 +64,7 @@ fn cube(rt: &impl Abort, low: Pos, side: i64) -> Box3 {
     }
 }
 
-/// The numbers from `at` up to W of the box beyond it.
+/// The numbers from `at` up to the width of a turned place beyond it.
 fn up_from(rt: &impl Abort, at: i128, part: &Box3) -> Exact
     ensures { HasEnds turned_reach (spare_of (grid_box part.now)) result }
 {
@@ -138,10 +143,15 @@ fn places_seen_from_the_corners_of_a_cube(rt: HostRuntime) {
         };
         let found = mapped_from(&rt, place, &part);
         for corner in ["low", "high"] {
-            let least = number(&rt, fields.next());
-            let greatest = number(&rt, fields.next());
-            assert!(rt; found.lo <= least, "{least} at the {corner} corner");
-            assert!(rt; greatest <= found.hi, "{greatest} at the {corner} corner");
+            let exact = number(&rt, fields.next());
+            assert!(rt;
+                found.lo.saturating_sub(CUT_OFF) <= exact,
+                "{exact} at the {corner} corner"
+            );
+            assert!(rt;
+                exact <= found.hi.saturating_add(CUT_OFF),
+                "{exact} at the {corner} corner"
+            );
         }
         let widest = 1_000_000_000_000 + 10_000_000 * i128::from(side.max(0)) / 3;
         assert!(rt; found.hi <= found.lo.saturating_add(widest), "the width");
