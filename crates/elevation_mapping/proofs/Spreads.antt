@@ -1,0 +1,33 @@
+-- Small facts on products and offsets.
+use Rattle.std.proofs.Common.{◌≡◌, ℕ, ◌+◌, ◌*◌, ◌/◌, ◌^◌, ◌≤◌, arith}
+use Rattle.std.specs.Prelude.{ℤ, pos, negsuc, ◌*ℤ◌, ◌≤ℤ◌}
+use Rattle.std.proofs.lemmas.Int.{ints}
+use Rattle.std.proofs.lemmas.Nat.{mul-le}
+use Rattle.sat_model.specs.Angles.{unit}
+use Rattle.sat_model.specs.Intervals.{Ends}
+use Rattle.sat_model.specs.Rounding.{Near}
+use Rattle.elevation_mapping.specs.Mapping.{up_scale, IsMapped}
+
+pub scale_spread : (w : ℕ) → pos (10 ^ 13 * 0 + up_scale * w) ≤ℤ (pos (w + w / 148 + 1) *ℤ pos (10 ^ 14))
+scale_spread w = omega (arith, ints)
+
+pub scale_ends : Ends up_scale 0 (pos up_scale) (pos up_scale)
+scale_ends = record { order = record { le = tt }; low = record { low = record { le = tt }; high = record { le = tt } }; high = record { low = record { le = tt }; high = record { le = tt } }; width = record { le = tt } }
+
+pub near_itself : (z : ℤ) → Near z (pos 1) z
+near_itself z = record { below = omega (arith, ints); above = omega (arith, ints) }
+
+pub one_times : (n : ℕ) → pos n ≤ℤ (pos n *ℤ pos 1)
+one_times n = omega (arith, ints)
+
+thousand : (z : ℤ) (h : ℕ) → z *ℤ pos (1000 * h) ≡ pos 1000 *ℤ (z *ℤ pos h)
+thousand (pos n) h = omega (arith, ints)
+thousand (negsuc n) h = omega (arith, ints)
+
+-- 1001 / 1000, both over 1000
+pub near_thousand : (h : ℕ) (mp : ℤ) → IsMapped h mp → Near (pos unit *ℤ pos (1001 * 10 ^ 13)) (pos h) mp
+near_thousand h mp n = record { below = omega (arith, ints, thousand mp h, n.below); above = omega (arith, ints, thousand mp h, n.above) }
+
+-- amounts of a zenith span and a side
+pub spare_fits : (a b : ℕ) → a ≤ 10 ^ 7 → b ≤ 2 * 10 ^ 13 → a * b ≤ 2 * 10 ^ 20
+spare_fits a b h k = omega (arith, mul-le a b (10 ^ 7) (2 * 10 ^ 13) h k)

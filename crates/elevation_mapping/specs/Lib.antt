@@ -1,0 +1,4 @@
+pub mod Places
+pub mod Mapping
+pub mod MappingSizes
+pub mod SineSizes

@@ -1,0 +1,41 @@
+//! How wide the mapped bounds of a row may be.
+
+ghost use Rattle.std.specs.Prelude.{◌≡◌, ◌+◌, ◌*◌, ◌/◌, ◌^◌, ◌≤◌, pos};
+ghost use Rattle.sat_model.specs.Boxes.{grid_box};
+ghost use Rattle.elevation_mapping.specs.MappingSizes.{IsZenith, span_amount, err_spare_of};
+
+use sat_model::{Box3, Span};
+
+/// The greater amount of the ends.
+fn greater_amount(span: &Span) -> u64
+    ensures { result ≡ span_amount span.now }
+{
+    span.lo.unsigned_abs().max(span.hi.unsigned_abs())
+}
+
+/// How far a delay of this amount at the zenith spreads over a box with this longest side, and
+/// 2,000.
+fn spread(amount: u64, side: u64) -> i64
+    requires amount { amount ≤ 10 ^ 7 }
+    requires side { side ≤ 2 * 10 ^ 13 }
+    ensures { result ≡ pos (2000 + amount * side / (3 * 10 ^ 9)) }
+{
+    (2_000 + amount as u128 * side as u128 / 3_000_000_000) as i64
+}
+
+/// How wide, in um, each mapped bound of a row may be over this search box: 2,000, and the greater
+/// amount of the ends of `zenith`, the span of the delay at the zenith in um, times the longest
+/// side over 3 * 10^9, rounded down. It is 0 without such a span. The ends of the span are within
+/// 10 m.
+pub fn err_spare(root: &Box3, zenith: Option<Span>) -> i64
+    requires { IsZenith zenith }
+    ensures { result ≡ pos (err_spare_of (grid_box root.now) zenith) }
+{
+    match zenith {
+        None => 0,
+        Some(span) => {
+            let (_, longest) = root.longest_axis();
+            spread(greater_amount(&span), longest)
+        }
+    }
+}
