@@ -106,7 +106,7 @@ pub fn read_nav(alloc: Global, bytes: &[u8]) -> Result<Nav, ReadError>
     ensures exact { (records : List Broadcast) → IsNavFile bytes.now records → GivesRecords records result }
     // A text with a fault is refused with its first, unless memory runs out.
     ensures first { (refusal : Refusal) → IsFirstFault bytes.now refusal → GivesRefusal refusal result }
-    // What is behind the line of the fault doesn't matter, unless it is blank: then whether all are.
+    // What is behind the line of the fault matters only where that is blank: then, whether all is.
     ensures settled { IfErr result (IsSettled nav_file bytes.now) }
     // How its lines are shared out, and which records come of them.
     ensures whole { IfOk result (λ nav. IsWhole (lines_of bytes.now) (records_of nav)) }

@@ -57,7 +57,7 @@ pub fn read_obs(
     ensures exact { (observations : Observations) → IsObsFile signal.now position bytes.now observations → GivesObservations observations result }
     // A text with a fault is refused with its first, unless memory runs out.
     ensures first { (refusal : Refusal) → IsFirstFault signal.now position bytes.now refusal → GivesRefusal refusal result }
-    // What is behind the line of the fault doesn't matter, unless it is blank: then whether all are.
+    // What is behind the line of the fault matters only where that is blank: then, whether all is.
     ensures settled { IfErr result (IsSettled (obs_file signal.now position) bytes.now) }
     // How its lines are shared out, and what comes of which.
     ensures whole { IfOk result (λ obs. IsWhole signal.now position (lines_of bytes.now) (observations_of obs)) }

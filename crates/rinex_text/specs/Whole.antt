@@ -25,13 +25,18 @@ pub record IsParted (lines header behind : List TextLine) : Type 0 where
   pub none_before : AllByRecursion (λ line. IsHeaderEnd line → ⊥) header
   pub short : AllByRecursion IsShort (version ∷ (header ++ end ∷ []))
 
--- Up to and with the line of this number both are the same. From it on both have a line that isn't blank,
--- or neither has, which says something more only where that line itself is blank or missing.
+-- Up to and with the line of this number both are the same. From it on both have a line that isn't
+-- blank, or neither has, which says something more only where that line is blank or missing.
 pub record AgreeTo (number : ℕ) (these those : List TextLine) : Type 0 where
   pub same : take number these ≡ take number those
-  pub blank : list_all is_blank_line (drop (number - 1) these) ≡ list_all is_blank_line (drop (number - 1) those)
+  pub blank : list_all is_blank_line (drop (number - 1) these)
+      ≡ list_all is_blank_line (drop (number - 1) those)
 
--- The fault of a text comes of the lines up to its own: each text that agrees with it so far has it too.
-abbrev pub IsSettled : {X : Type 0} → (List TextLine → Result X Refusal → Type 0) → List ℕ → ReadError → Type 0
+-- The fault of a text comes of the lines up to its own: each text that agrees with it so far has it
+-- too.
+abbrev pub IsSettled : {X : Type 0} → (List TextLine → Result X Refusal → Type 0)
+    → List ℕ → ReadError → Type 0
 IsSettled reader text NoMemory = Unit {0}
-IsSettled reader text (Refused refusal) = (other : List ℕ) → AgreeTo refusal.line (lines_of text) (lines_of other) → reader (lines_of other) (Err refusal)
+IsSettled reader text (Refused refusal) = (other : List ℕ)
+    → AgreeTo refusal.line (lines_of text) (lines_of other)
+    → reader (lines_of other) (Err refusal)

@@ -8,8 +8,8 @@ use cover_run::{Limits, Status, run};
 use outer_io::{MemoryShelf, MemorySink, Shelf, Sink};
 use std::alloc::Global;
 
-/// A run over a shelf that has room for more than the limit of a log, where no call is to fail. No fault
-/// ends it where `out` has room left behind it.
+/// A run over a shelf that has room for more bytes than the limit of a log, where no call is to
+/// fail. No fault ends it where `out` has room left behind it.
 pub fn run_with_room(
     alloc: Global,
     limits: &Limits,
