@@ -173,6 +173,7 @@ def settings_sizes(sizes):
     sizes.folder.write("large.toml", text, ("#", SETTINGS - len(text) - 1), "\n")
     words = ["solve", *FILES[:2], "large.toml", "new.log"]
     sizes.at_and_past("settings of 65,536 bytes", words, SETTINGS, "large.toml", f"settings 29 TooLong {SETTINGS}")
+    sizes.expect("the log isn't the usual one", sizes.folder.same("new.log", (DATA / "receiver.log").read_bytes()))
 
 
 def navigation_sizes(sizes):
@@ -186,6 +187,7 @@ def navigation_sizes(sizes):
     folder.write("large.nav", text, (other, count - 1), other[:-1], (" ", rest), "\n")
     words = ["solve", FILES[0], "large.nav", FILES[2], "new.log"]
     sizes.at_and_past("NAV of 268,435,456 bytes", words, INPUT, "large.nav", f"nav 29 TooLong {INPUT}")
+    sizes.expect("the log isn't the usual one", folder.same("new.log", log))
     repeats, more = divmod(RECORDS, len(records))
     folder.write("large.nav", head, ("".join(records), repeats), *records[:more])
     sizes.run(Case(f"NAV of {RECORDS:,} records of GPS", words, 0, ""))

@@ -156,6 +156,13 @@ class RealFiles(unittest.TestCase):
         first = self.read(name)
         self.assertTrue(first and log.startswith(first), (name, len(first)))
 
+    def unread_pipe(self):
+        """The end of a pipe to which one writes, and whose reader has gone."""
+        reader, writer = os.pipe()
+        os.close(reader)
+        self.addCleanup(os.close, writer)
+        return writer
+
     def bound_by_rights(self):
         """How to run the program as a user whom the rights of files bind."""
         if os.geteuid() != 0:
@@ -336,10 +343,10 @@ class RealFiles(unittest.TestCase):
             (b"", 3, b"", b"log 40 BadLog line 1 kind 4\n"),
         ):
             for words in ["judge"], ["check", *FILES]:
-                writer = threading.Thread(target=self.write, args=("pipe", data))
+                writer = threading.Thread(target=self.write, args=("pipe", data), daemon=True)
                 writer.start()
                 self.expect([*words, "pipe"], status, out, err)
-                writer.join()
+                writer.join(timeout=60)
 
     def test_a_file_that_shrinks_while_it_is_read(self):
         """What counts is what was read: a log, and behind it some of the zeros that are no longer there."""
@@ -376,9 +383,9 @@ class RealFiles(unittest.TestCase):
 
     def test_a_reader_that_has_gone(self):
         for words in ["judge", "receiver.log"], ["check", *FILES, "receiver.log"]:
-            self.expect(words, 5, b"", b"out fault\n", stdout=unread_pipe())
+            self.expect(words, 5, b"", b"out fault\n", stdout=self.unread_pipe())
         for words, log in (["solve", *FILES], SOLVED), (["pave", ROWS], PAVED):
-            self.expect([*words, "new.log"], 5, b"", b"out fault\n", stdout=unread_pipe())
+            self.expect([*words, "new.log"], 5, b"", b"out fault\n", stdout=self.unread_pipe())
             self.expect_start("new.log", log)
 
     def test_a_reader_that_goes(self):
@@ -411,7 +418,7 @@ class RealFiles(unittest.TestCase):
                 (["judge", "missing"], 4),
                 (["pave", ROWS, "missing/new.log"], 5),
             ):
-                for broken in full, unread_pipe():
+                for broken in full, self.unread_pipe():
                     self.assertEqual(self.run_words(*words, stderr=broken).returncode, status, words)
 
     def test_a_log_that_may_not_grow(self):
@@ -479,13 +486,6 @@ class RealFiles(unittest.TestCase):
         log = self.read("sky.log")
         self.assertEqual(rows_of(log), [crowded_rows(lines) for lines in rows_of(SOLVED)])
         self.expect(["check", *sky], 0, b"yes %d\n" % closings(log)(b"in", b"edge"))
-
-
-def unread_pipe():
-    """The end of a pipe to which one writes, and whose reader has gone; it is closed when it is no longer used."""
-    reader, writer = os.pipe()
-    os.close(reader)
-    return open(writer, "wb", buffering=0)
 
 
 def close_output():
