@@ -4,6 +4,9 @@ use Rattle.std.specs.Prelude.{IfSome}
 use Rattle.std.specs.FinMap as map
 use Rattle.std.specs.Option.{option_map}
 use Rattle.std.proofs.lemmas.List.{length-take}
+use Rattle.command_words.specs.Commands as words
+use Rattle.command_words.specs.Commands.{Command, Judge, Pave, Solve, Check, Make}
+use Rattle.epoch_selection.specs.declared.selection.Selection.{Selection}
 use Rattle.log_writer.specs.Breaks.{BrokeOff, Leaves, LogBreaks, IsFrontOf}
 use Rattle.log_writer.specs.Pieces.{Piece, log_bytes, report_bytes}
 use Rattle.log_writer.specs.RowsFrom.{of_rows}
@@ -27,12 +30,12 @@ use Rattle.cover_run.specs.Logs.{log_text, rows_text}
 use Rattle.cover_run.specs.Paving.{IsPaved}
 use Rattle.cover_run.specs.Reading as reading
 use Rattle.cover_run.specs.Reading.{Text, Breaks, MayBreak, IsCounted, Reading, Found, valued, Named, Then, Returns, ReadsFile, limit_of, file_in, LeavesFiles, Untouched}
-use Rattle.cover_run.specs.Runs.{Task, RunOf, Ends, Stops, Runs, TellsAlone, judging, paving, solving, checking}
+use Rattle.cover_run.specs.Chosen.{chosen_in}
+use Rattle.cover_run.specs.Runs.{Task, RunOf, Ends, Stops, OnlySays, Obeys, Runs, TellsAlone, judging, paving, solving, checking}
 use Rattle.cover_run.specs.Solving.{IsSolution}
 use Rattle.cover_run.specs.Statuses.{status_of}
 use Rattle.cover_run.specs.Telling as telling
 use Rattle.cover_run.specs.Telling.{Tells, sinks}
-use Rattle.cover_run.specs.Words.{Command, Judge, Pave, Solve, Check, Names}
 use Rattle.cover_run.specs.Worlds.{World, Rewrites}
 use Rattle.cover_run.specs.Writing.{Answer, Writes, SaysEnd, status_of_writing}
 use Rattle.cover_run.specs.declared.inputs.Inputs.{Inputs}
@@ -97,9 +100,9 @@ text_fits : {B : Type 0} (gives : Gives B) (rules : Rules) (first : B) (limit : 
 text_fits gives rules first limit (Ok done) bytes said whole = whole.fits
 text_fits gives rules first limit (Err fault) bytes said begun = broke_fits limit _ fault bytes said begun.broke
 
-solution_fits : (i : Inputs) (limit : ℕ) (answer : Answer) (bytes said : List ℕ) → IsSolution i limit answer bytes said → length bytes ≤ limit
-solution_fits i limit (Ok done) bytes said solved = solved.whole.fits
-solution_fits i limit (Err fault) bytes said solved = broke_fits limit _ fault bytes said solved.begun.broke
+solution_fits : (chosen : Selection) (i : Inputs) (limit : ℕ) (answer : Answer) (bytes said : List ℕ) → IsSolution chosen i limit answer bytes said → length bytes ≤ limit
+solution_fits chosen i limit (Ok done) bytes said solved = solved.whole.fits
+solution_fits chosen i limit (Err fault) bytes said solved = broke_fits limit _ fault bytes said solved.begun.broke
 
 -- ---- the shelf behind a run
 
@@ -234,11 +237,31 @@ write_safe name slots limit most IsTextOf told before after trust s tells fits w
   out = writes_takes name before after trust slots limit most IsTextOf s w;
 }
 
+-- nothing was done but something said
+memory_harmless : (s : Status) → s ≡ status.NoMemory → IsFault s → ⊥
+memory_harmless s is (inl e) = let f : status.NoMemory ≡ status.ReadFault = sym is ∙ e in cc
+memory_harmless s is (inr e) = let f : status.NoMemory ≡ status.WriteFault = sym is ∙ e in cc
+
+usage_harmless : (s : Status) → s ≡ status.Usage → IsFault s → ⊥
+usage_harmless s is (inl e) = let f : status.Usage ≡ status.ReadFault = sym is ∙ e in cc
+usage_harmless s is (inr e) = let f : status.Usage ≡ status.WriteFault = sym is ∙ e in cc
+
+same_told : (limit : ℕ) (told : Told) (before after : ShelfState) → before.told ≡ Some told → after ≡ before → HasWritten limit told after
+same_told limit told before after tells e = record { told = told; tells = ap (λ (s : ShelfState). s.told) e ∙ tells; terms = refl; few = omega arith }
+
+only_safe : (n : Notice) (limit : ℕ) (log : Option (List ℕ)) (told : Told) (before after : World) (trust : Trust) (s : Status) → before.shelf.told ≡ Some told
+    → (s ≡ status_of n → IsFault s → ⊥) → OnlySays n before after s → IsSafe limit log told before after trust s
+only_safe n limit log told before after trust s tells harmless (is, said, shelf, out) = record {
+  sound = λ sure named reliable. harmless is;
+  shelf = same_told limit told before.shelf after.shelf tells shelf;
+  out = took_none before.out after.out out;
+}
+
 module _ (limits : Limits) (told : Told) (before after : World) (trust : Trust) where
   abbrev Sound : {V : Type 0} → Reading V → Type 0
   Sound reads = trust.log None → NeverFails (MayBreak before.shelf after.shelf trust.log) told.files reads
 
-  inputs_sound : (names : Names) → IsThere told.files names.settings × IsThere told.files names.nav × IsThere told.files names.obs → Sound (ReadsInputs limits names)
+  inputs_sound : (names : words.Files) → IsThere told.files names.settings × IsThere told.files names.nav × IsThere told.files names.obs → Sound (ReadsInputs limits names)
   inputs_sound names there = λ sure.
       then_sound before.shelf after.shelf trust.log sure limits told.files (Named limits settings_text names.settings) (ReadsNav limits names)
       (named_sound before.shelf after.shelf trust.log sure limits told.files settings_text names.settings there.0) (λ s.
@@ -250,30 +273,36 @@ module _ (limits : Limits) (told : Told) (before after : World) (trust : Trust) 
       (named_sound before.shelf after.shelf trust.log sure limits told.files text names.obs there.2)
       (λ o. returns_sound before.shelf after.shelf trust.log sure limits told.files (value o))))
 
-  check_sound : (names : Names) (log : List ℕ) → AreThere told.files (Check names log) → Sound (ReadsChecked limits names log)
-  check_sound names log there = λ sure.
-      then_sound before.shelf after.shelf trust.log sure limits told.files (ReadsInputs limits names) (ReadsLog limits log) (inputs_sound names there.0 sure) (λ i.
+  check_sound : (names : words.Files) → AreThere told.files (Check names) → Sound (ReadsChecked limits names)
+  check_sound names there = λ sure.
+      then_sound before.shelf after.shelf trust.log sure limits told.files (ReadsInputs limits names) (ReadsLog limits names.log) (inputs_sound names there.0 sure) (λ i.
       let value : LogValue → CheckedValue = λ l. record { inputs = i; log = l } in
-      then_sound before.shelf after.shelf trust.log sure limits told.files (Named limits log_text log) (λ l. Returns (value l))
-      (named_sound before.shelf after.shelf trust.log sure limits told.files log_text log there.1)
+      then_sound before.shelf after.shelf trust.log sure limits told.files (Named limits log_text names.log) (λ l. Returns (value l))
+      (named_sound before.shelf after.shelf trust.log sure limits told.files log_text names.log there.1)
       (λ l. returns_sound before.shelf after.shelf trust.log sure limits told.files (value l)))
 
-  run_safe : (command : Command) (s : Status) → before.shelf.told ≡ Some told → AreThere told.files command → Runs limits (Some command) before after trust s
+  obeys_safe : (command : Command) (s : Status) → before.shelf.told ≡ Some told → AreThere told.files command → Obeys limits (Some command) before after trust s
       → IsSafe limits.log (written_by command) told before after trust s
-  run_safe (Judge log) s tells there r =
+  obeys_safe (Judge log) s tells there r =
       task_safe (judging limits log) limits.log None told before after trust s tells
       (λ sure. named_sound before.shelf after.shelf trust.log sure limits told.files log_text log there)
       (λ v does. tell_safe _ _ _ limits.log told before after trust s tells does) r
-  run_safe (Pave rows log) s tells there r =
+  obeys_safe (Pave rows log) s tells there r =
       task_safe (paving limits rows log) limits.log (Some log) told before after trust s tells
       (λ sure. named_sound before.shelf after.shelf trust.log sure limits told.files rows_text rows there)
       (λ v does. write_safe log _ limits.log _ (IsPaved (log_value v) limits.log) told before after trust s tells (text_fits of_rows v.rules (log_value v).blocks limits.log) does) r
-  run_safe (Solve names log) s tells there r =
-      task_safe (solving limits names log) limits.log (Some log) told before after trust s tells (inputs_sound names there)
-      (λ v does. write_safe log _ limits.log _ (IsSolution v limits.log) told before after trust s tells (solution_fits v limits.log) does) r
-  run_safe (Check names log) s tells there r =
-      task_safe (checking limits names log) limits.log None told before after trust s tells (check_sound names log there)
+  obeys_safe (Solve names) s tells there r =
+      task_safe (solving limits names) limits.log (Some names.log) told before after trust s tells (inputs_sound names there)
+      (λ v does. write_safe names.log _ limits.log _ (IsSolution (chosen_in names) v limits.log) told before after trust s tells (solution_fits (chosen_in names) v limits.log) does) r
+  obeys_safe (Check names) s tells there r =
+      task_safe (checking limits names) limits.log None told before after trust s tells (check_sound names there)
       (λ v does. tell_safe _ _ _ limits.log told before after trust s tells does) r
+  obeys_safe (Make seed epochs) s tells there r = only_safe notice.Usage limits.log None told before after trust s tells (usage_harmless s) r
+
+  run_safe : (command : Command) (s : Status) → before.shelf.told ≡ Some told → AreThere told.files command → Runs limits (Some command) before after trust s
+      → IsSafe limits.log (written_by command) told before after trust s
+  run_safe command s tells there (inl only) = only_safe notice.NoMemory limits.log (written_by command) told before after trust s tells (memory_harmless s) only
+  run_safe command s tells there (inr obeys) = obeys_safe command s tells there obeys
 
 -- ---- objects in memory
 
@@ -305,9 +334,9 @@ no_fault limits command before after trust s room out_room roomy runs says left 
     safe.sound sure.0 (named_sure (written_by command) roomy.told.terms.log trust.log roomy.log name) out fault
 
 -- no command is no fault
-pub usage_no_fault : (limits : Limits) (before after : World) (trust : Trust) (s : Status) → Runs limits None before after trust s → IsFault s → ⊥
-usage_no_fault limits before after trust s runs (inl is) = let f : status.Usage ≡ status.ReadFault = sym runs.0 ∙ is in cc
-usage_no_fault limits before after trust s runs (inr is) = let f : status.Usage ≡ status.WriteFault = sym runs.0 ∙ is in cc
+usage_no_fault : (limits : Limits) (before after : World) (trust : Trust) (s : Status) → Runs limits None before after trust s → IsFault s → ⊥
+usage_no_fault limits before after trust s (inl only) = memory_harmless s only.0
+usage_no_fault limits before after trust s (inr only) = usage_harmless s only.0
 
 pub no_fault_of : (limits : Limits) (asked : Option Command) (before after : World) (trust : Trust) (s : Status) (room out_room : ℕ) → IfSome asked (λ command. IsRoomy limits command before.shelf before.out)
     → Runs limits asked before after trust s → SaysRoom after trust room out_room → HasRoomLeft after.out → IsFault s → ⊥

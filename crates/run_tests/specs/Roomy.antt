@@ -3,7 +3,7 @@ use Rattle.std.specs.Prelude.{◌≡◌, ◌<◌, ◌⊎◌, ℕ, ◌+◌, List,
 use Rattle.std.specs.FinMap as map
 use Rattle.outer_io.specs.Taken.{SinkState, SinkTold}
 use Rattle.outer_io.specs.Told.{Files, ShelfState, Told}
-use Rattle.cover_run.specs.Words.{Command, Judge, Pave, Solve, Check}
+use Rattle.command_words.specs.Commands.{Command, Judge, Pave, Solve, Check, Make}
 use Rattle.cover_run.specs.declared.limits.Limits.{Limits}
 use Rattle.cover_run.specs.declared.status.Status.{Status}
 use Rattle.cover_run.specs.declared.status.Status.TheVariants as status
@@ -15,18 +15,20 @@ IsThere files name = is_some (map.get files name) ≡ true
 abbrev pub AreThere : Files → Command → Type 0
 AreThere files (Judge log) = IsThere files log
 AreThere files (Pave rows log) = IsThere files rows
-AreThere files (Solve names log) =
+AreThere files (Solve names) =
     IsThere files names.settings × IsThere files names.nav × IsThere files names.obs
-AreThere files (Check names log) =
+AreThere files (Check names) =
     (IsThere files names.settings × IsThere files names.nav × IsThere files names.obs)
-    × IsThere files log
+    × IsThere files names.log
+AreThere files (Make seed epochs) = Unit {0}
 
 -- the file that is written
 abbrev pub written_by : Command → Option (List ℕ)
 written_by (Judge log) = None
 written_by (Pave rows log) = Some log
-written_by (Solve names log) = Some log
-written_by (Check names log) = None
+written_by (Solve names) = Some names.log
+written_by (Check names) = None
+written_by (Make seed epochs) = None
 
 -- The files are there, the one that is written can be created and has room for more than the limit,
 -- and no call is to fail.

@@ -1,7 +1,8 @@
 //! Runs over objects in memory that have room for all that is written.
 
 ghost use Rattle.std.specs.Prelude.{IfSome};
-ghost use Rattle.cover_run.specs.Words.{command_of, texts};
+ghost use Rattle.command_words.specs.Commands.{command_of};
+ghost use Rattle.command_words.specs.Seen.{texts};
 ghost use Rattle.run_tests.specs.Roomy.{IsRoomy, HasRoomLeft, IsFault};
 
 use cover_run::{Limits, Status, run};

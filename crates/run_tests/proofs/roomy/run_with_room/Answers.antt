@@ -1,4 +1,5 @@
-use Rattle.cover_run.specs.Words.{command_of, texts}
+use Rattle.command_words.specs.Commands.{command_of}
+use Rattle.command_words.specs.Seen.{texts}
 use Rattle.run_tests.proofs.RoomLemmas.{no_fault_of}
 use Rattle.run_tests.proofs.roomy.run_with_room.Goals as goal
 
