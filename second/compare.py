@@ -3,11 +3,11 @@
 
     compare.py --program PATH --data DIRECTORY [--draws NUMBER] [--seed NUMBER] [PART ..]
 
-The parts are recorded, records, rows, logs, cuts, selections, cases and drawn; without one all are run. An answer is
-the exit status with all that is printed. Two answers agree where they are the same. Where both say 53 on the same line,
-the four printed spans may differ, as each is of a program's own: then both own spans have to be at most W wide and to
-share a number. Where one alone says 53, the log's span has to lie so near to both own spans that it holds the one and
-not the other. Every other difference is printed whole.
+The parts are recorded, records, rows, page, logs, cuts, selections, cases and drawn; without one all are run. An
+answer is the exit status with all that is printed. Two answers agree where they are the same. Where both say 53 on the
+same line, the four printed spans may differ, as each is of a program's own: then both own spans have to be at most W
+wide and to share a number. Where one alone says 53, the log's span has to lie so near to both own spans that it holds
+the one and not the other. Every other difference is printed whole.
 """
 
 import argparse
@@ -25,8 +25,11 @@ from cases import named_cases
 from cuts import log_with_cuts, with_cuts
 
 TOP = Path(__file__).resolve().parent.parent
+sys.path.append(str(TOP / "scripts"))
+import changed_logs  # of scripts/, which makes the logs of docs/CHANGED_LOGS.md
+
 PLACE = 6 * 10**13  # um
-PARTS = ("recorded", "records", "rows", "logs", "cuts", "selections", "cases", "drawn")
+PARTS = ("recorded", "records", "rows", "page", "logs", "cuts", "selections", "cases", "drawn")
 
 
 class Tally:
@@ -279,6 +282,22 @@ def logs(arguments, directory):
         tallies.append(tally)
         print("answers of the program:", dict(sorted(tally.answers.items())), flush=True)
     return tallies
+
+
+def page(arguments, directory):
+    """The changed logs of docs/CHANGED_LOGS.md, checked by both."""
+    tally = Tally("logs of CHANGED_LOGS.md")
+    pair = Pair(arguments.program, directory)
+    obs, nav, settings = [text.decode() for text in small_files(40, epochs=4)]
+    for name, text in (("given", settings), ("wide", changed_logs.with_wide_bounds(settings))):
+        pair.write([part.encode() for part in (changed_logs.three_epochs(obs), nav, text)])
+        _, log = pair.solve()
+        lines = log.decode().splitlines()
+        changes = [*changed_logs.number_changes(lines), *changed_logs.line_changes(lines)]
+        for number, (*what, changed) in enumerate(changes):
+            pair.compare("".join(line + "\n" for line in changed).encode(), tally, f"{name} {number} {what}")
+    print("answers of the program:", dict(sorted(tally.answers.items())))
+    return tally
 
 
 def cuts(arguments, directory):
