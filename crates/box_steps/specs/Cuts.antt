@@ -1,7 +1,8 @@
 -- Cuts of a box: slabs at its faces in which no point fits are taken off before it is split. A face
 -- may be moved to where a contractor proposes it (Chabert and Jaulin, 'Contractor programming', 2009),
 -- or a slab is tried and refuted (Lhomme, 'Consistency techniques for numeric CSPs', 1993).
-use Rattle.std.specs.Prelude.{◌≡◌, ◌≢◌, ℕ, ◌+◌, ◌/◌, ◌⊎◌, ℤ, pos, ◌+ℤ◌, ◌-ℤ◌, List, [], ◌∷◌, ◌++◌, Option, None, Some, Bool, true, false}
+use Rattle.std.specs.Prelude.{◌≡◌, ◌≢◌, ℕ, ◌+◌, ◌/◌, ◌⊎◌, ℤ, pos, ◌+ℤ◌, ◌-ℤ◌, List, [], ◌∷◌, ◌++◌}
+use Rattle.std.specs.Prelude.{Option, None, Some, Bool, true, false}
 use Rattle.sat_model.specs.declared.satellites.Row.{Row}
 use Rattle.sat_model.specs.declared.steps.Step.TheVariants.{Cut}
 use Rattle.sat_model.specs.Boxes.{Side, GridBox, side_at}

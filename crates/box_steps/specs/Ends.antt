@@ -10,7 +10,8 @@ abbrev pub last_of : Ended → ShownStep
 last_of ended = record { step = ended.step; part = grid_box ended.left }
 
 -- steps of a box were taken, one after another: so many cuts, and the last one
-pub record TookBox {L : Type 0} (took : L → Step → GridBox → L → Type 0) (Are : List ShownStep → Type 0) (first : L) (ended : Ended) (last : L) : Type 0 where
+pub record TookBox {L : Type 0} (took : L → Step → GridBox → L → Type 0)
+    (Are : List ShownStep → Type 0) (first : L) (ended : Ended) (last : L) : Type 0 where
   pub cuts : List ShownStep
   pub are : Are (cuts ++ last_of ended ∷ [])
   pub taken : TookAll took first (cuts ++ last_of ended ∷ []) last

@@ -8,7 +8,9 @@ use Rattle.paving.specs.declared.steps.StepFault.{StepFault}
 use Rattle.paving.specs.declared.steps.StepFault.TheVariants.{Full}
 
 -- cuts that leave a part of a box were taken, one after another, and so many
-pub record TookCuts {L : Type 0} (took : L → Step → GridBox → L → Type 0) (Are : List ShownStep → GridBox → Type 0) (first : L) (count : ℕ) (left : GridBox) (last : L) : Type 0 where
+pub record TookCuts {L : Type 0} (took : L → Step → GridBox → L → Type 0)
+    (Are : List ShownStep → GridBox → Type 0)
+    (first : L) (count : ℕ) (left : GridBox) (last : L) : Type 0 where
   pub steps : List ShownStep
   pub are : Are steps left
   pub taken : TookAll took first steps last
@@ -16,7 +18,9 @@ pub record TookCuts {L : Type 0} (took : L → Step → GridBox → L → Type 0
 
 -- the first ones of some steps were taken, and the next one broke: with this fault, which is that of
 -- want of room exactly where the step's line is longer than the bytes that were left
-pub record BrokeOff {L : Type 0} (took broke : L → Step → GridBox → L → Type 0) (room : L → ℕ) (fault : StepFault) (Are : List ShownStep → Type 0) (first last : L) : Type 0 where
+pub record BrokeOff {L : Type 0} (took broke : L → Step → GridBox → L → Type 0)
+    (room : L → ℕ) (fault : StepFault) (Are : List ShownStep → Type 0)
+    (first last : L) : Type 0 where
   pub steps : List ShownStep
   pub next : ShownStep
   pub more : List ShownStep

@@ -31,7 +31,8 @@ pub fn closing_step(rules: &Rules, splits: u32, id: u32, part: &Box3, state: &Bo
 
 /// The step for a box that is shown neither empty nor inner, with its clock hull.
 fn undecided_step(rules: &Rules, splits: u32, id: u32, part: &Box3, hull: Span) -> Step
-    ensures { (rows : List Row) → IsUndecided rows rules.now (grid_box part.now) → IsClockHull rows (grid_box part.now) rules.now.outliers hull.lo hull.hi
+    ensures { (rows : List Row) → IsUndecided rows rules.now (grid_box part.now)
+        → IsClockHull rows (grid_box part.now) rules.now.outliers hull.lo hull.hi
         → Closes rows rules.now splits id (grid_box part.now) result }
 {
     let (axis, longest) = part.longest_axis();

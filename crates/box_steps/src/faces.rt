@@ -36,8 +36,10 @@ fn cut_face<L: Steps>(
     log: &mut L,
 ) -> Result<u32, StepFault>
     requires { (q < length rows.now) × (length rows.now ≤ 64) }
-    ensures cut { IfOk result (λ cuts. TookCuts L.took (IsFaceCut rows.now q id face bound (grid_box part.old)) log.old cuts (grid_box part.new) log.new) }
-    ensures broken { IfErr result (λ fault. BrokeOff L.took L.broke L.room fault (LeaveSome (IsFaceCut rows.now q id face bound (grid_box part.old))) log.old log.new) }
+    ensures cut { IfOk result (λ cuts. TookCuts L.took (IsFaceCut rows.now q id face bound
+        (grid_box part.old)) log.old cuts (grid_box part.new) log.new) }
+    ensures broken { IfErr result (λ fault. BrokeOff L.took L.broke L.room fault (LeaveSome
+        (IsFaceCut rows.now q id face bound (grid_box part.old))) log.old log.new) }
     ensures few { IfOk result (λ cuts. cuts ≤ 1) }
     ensures failed { result ≡ Err StepFault.Failed → Rose (L.faults log.old) (L.faults log.new) }
     ensures counted { L.faults log.old ≤ L.faults log.new }
@@ -62,8 +64,12 @@ pub fn cut_faces<L: Steps>(
     log: &mut L,
 ) -> Result<u32, StepFault>
     requires { (q < length rows.now) × (length rows.now ≤ 64) }
-    ensures cut { IfOk result (λ cuts. TookCuts L.took (AreFacesCut rows.now q id (bounds_of target.now) all_faces (grid_box part.old)) log.old cuts (grid_box part.new) log.new) }
-    ensures broken { IfErr result (λ fault. BrokeOff L.took L.broke L.room fault (LeaveSome (AreFacesCut rows.now q id (bounds_of target.now) all_faces (grid_box part.old))) log.old log.new) }
+    ensures cut { IfOk result (λ cuts. TookCuts L.took (AreFacesCut rows.now q id
+        (bounds_of target.now) all_faces (grid_box part.old)) log.old cuts
+        (grid_box part.new) log.new) }
+    ensures broken { IfErr result (λ fault. BrokeOff L.took L.broke L.room fault (LeaveSome
+        (AreFacesCut rows.now q id (bounds_of target.now) all_faces
+        (grid_box part.old))) log.old log.new) }
     ensures few { IfOk result (λ cuts. cuts ≤ 6) }
     ensures failed { result ≡ Err StepFault.Failed → Rose (L.faults log.old) (L.faults log.new) }
     ensures counted { L.faults log.old ≤ L.faults log.new }

@@ -14,20 +14,27 @@ ghost use Rattle.box_steps.specs.Cuts.{NoneMayCut, all_faces};
 /// The law: for every grain that an interval may have, and more rows than may be inconsistent, each
 /// box has steps. The call does nothing.
 pub fn box_steps_exist()
-    ensures { (grain : ℤ) → (rows : List Row) → (rules : Rules) → (splits : ℕ) → (id : ℕ) → (part : Box3)
-        → pos 1 ≤ℤ grain → grain ≤ℤ pos 1048576 → rules.outliers < length rows
-        → (steps : List ShownStep) × AreBoxSteps grain (pos 16 *ℤ grain) rows rules splits (record { id = id; part = grid_box part }) steps }
+    ensures { (grain : ℤ) → (rows : List Row) → (rules : Rules) → (splits : ℕ) → (id : ℕ)
+        → (part : Box3) → pos 1 ≤ℤ grain → grain ≤ℤ pos 1048576 → rules.outliers < length rows
+        → (steps : List ShownStep) × AreBoxSteps grain (pos 16 *ℤ grain) rows rules splits
+            (record { id = id; part = grid_box part }) steps }
 {}
 
 /// The law: a box has at most 1,014 cuts, 6 by a proposal and 1,008 by eighths, and they leave a part
 /// of it. If the rows don't decide that part, no eighth at its faces is shown empty. The call does
 /// nothing.
 pub fn cuts_leave_no_eighth()
-    ensures few { (grain : ℤ) → (slack : ℤ) → (rows : List Row) → (rules : Rules) → (id : ℕ) → (part : Box3) → (cuts : List ShownStep) → (left : GridBox)
-        → AreCutsOf grain slack rows rules (record { id = id; part = grid_box part }) cuts left → length cuts ≤ 1014 }
-    ensures inside { (grain : ℤ) → (slack : ℤ) → (rows : List Row) → (rules : Rules) → (id : ℕ) → (part : Box3) → (cuts : List ShownStep) → (left : GridBox)
-        → AreCutsOf grain slack rows rules (record { id = id; part = grid_box part }) cuts left → LiesIn left (grid_box part) }
-    ensures none_left { (grain : ℤ) → (slack : ℤ) → (rows : List Row) → (rules : Rules) → (id : ℕ) → (part : Box3) → (cuts : List ShownStep) → (left : GridBox)
-        → AreCutsOf grain slack rows rules (record { id = id; part = grid_box part }) cuts left → IsUndecided rows rules left
+    ensures few { (grain : ℤ) → (slack : ℤ) → (rows : List Row) → (rules : Rules) → (id : ℕ)
+        → (part : Box3) → (cuts : List ShownStep) → (left : GridBox)
+        → AreCutsOf grain slack rows rules (record { id = id; part = grid_box part }) cuts left
+        → length cuts ≤ 1014 }
+    ensures inside { (grain : ℤ) → (slack : ℤ) → (rows : List Row) → (rules : Rules) → (id : ℕ)
+        → (part : Box3) → (cuts : List ShownStep) → (left : GridBox)
+        → AreCutsOf grain slack rows rules (record { id = id; part = grid_box part }) cuts left
+        → LiesIn left (grid_box part) }
+    ensures none_left { (grain : ℤ) → (slack : ℤ) → (rows : List Row) → (rules : Rules)
+        → (id : ℕ) → (part : Box3) → (cuts : List ShownStep) → (left : GridBox)
+        → AreCutsOf grain slack rows rules (record { id = id; part = grid_box part }) cuts left
+        → IsUndecided rows rules left
         → NoneMayCut rows rules.outliers all_faces left }
 {}

@@ -28,8 +28,12 @@ pub fn cut_by_tree<I: Interval, L: Steps>(
 ) -> Result<u32, StepFault>
     requires few { (q < length rows.now) × (length rows.now ≤ 64) }
     requires tree { IsWellFormed (tree_value I.low I.high tree.now) }
-    ensures cut { IfOk result (λ cuts. TookCuts L.took (AreCutsByTree I.GRAIN I.SLACK (tree_value I.low I.high tree.now) (span_side clock) rows.now q id (grid_box part.old)) log.old cuts (grid_box part.new) log.new) }
-    ensures broken { IfErr result (λ fault. BrokeOff L.took L.broke L.room fault (LeaveSome (AreCutsByTree I.GRAIN I.SLACK (tree_value I.low I.high tree.now) (span_side clock) rows.now q id (grid_box part.old))) log.old log.new) }
+    ensures cut { IfOk result (λ cuts. TookCuts L.took (AreCutsByTree I.GRAIN I.SLACK
+        (tree_value I.low I.high tree.now) (span_side clock) rows.now q id
+        (grid_box part.old)) log.old cuts (grid_box part.new) log.new) }
+    ensures broken { IfErr result (λ fault. BrokeOff L.took L.broke L.room fault (LeaveSome
+        (AreCutsByTree I.GRAIN I.SLACK (tree_value I.low I.high tree.now)
+        (span_side clock) rows.now q id (grid_box part.old))) log.old log.new) }
     ensures few { IfOk result (λ cuts. cuts ≤ 6) }
     ensures failed { result ≡ Err StepFault.Failed → Rose (L.faults log.old) (L.faults log.new) }
     ensures counted { L.faults log.old ≤ L.faults log.new }

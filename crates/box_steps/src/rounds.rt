@@ -21,8 +21,10 @@ pub fn cut_eighths<L: Steps>(
     log: &mut L,
 ) -> Result<u32, StepFault>
     requires { (q < length rows.now) × (length rows.now ≤ 64) }
-    ensures cut { IfOk result (λ cuts. TookCuts L.took (AreEighthCuts rows.now q id (grid_box part.old)) log.old cuts (grid_box part.new) log.new) }
-    ensures broken { IfErr result (λ fault. BrokeOff L.took L.broke L.room fault (LeaveSome (AreEighthCuts rows.now q id (grid_box part.old))) log.old log.new) }
+    ensures cut { IfOk result (λ cuts. TookCuts L.took (AreEighthCuts rows.now q id
+        (grid_box part.old)) log.old cuts (grid_box part.new) log.new) }
+    ensures broken { IfErr result (λ fault. BrokeOff L.took L.broke L.room fault (LeaveSome
+        (AreEighthCuts rows.now q id (grid_box part.old))) log.old log.new) }
     ensures few { IfOk result (λ cuts. cuts ≤ 1008) }
     ensures failed { result ≡ Err StepFault.Failed → Rose (L.faults log.old) (L.faults log.new) }
     ensures counted { L.faults log.old ≤ L.faults log.new }

@@ -43,9 +43,13 @@ pub fn work_on<I: Interval, L: Steps>(
     log: &mut L,
 ) -> Result<Ended, StepFault>
     requires few { (rules.now.outliers < length rows.now) × (length rows.now ≤ 64) }
-    requires tree { tree_value I.low I.high tree.now ≡ row_tree I.GRAIN rows.now rules.now.outliers }
-    ensures took { IfOk result (λ ended. TookBox L.took (AreBoxSteps I.GRAIN I.SLACK rows.now rules.now splits (record { id = id; part = grid_box part.now })) log.old ended log.new) }
-    ensures broken { IfErr result (λ fault. BrokeOff L.took L.broke L.room fault (AreBoxSteps I.GRAIN I.SLACK rows.now rules.now splits (record { id = id; part = grid_box part.now })) log.old log.new) }
+    requires tree { tree_value I.low I.high tree.now
+        ≡ row_tree I.GRAIN rows.now rules.now.outliers }
+    ensures took { IfOk result (λ ended. TookBox L.took (AreBoxSteps I.GRAIN I.SLACK rows.now
+        rules.now splits (record { id = id; part = grid_box part.now })) log.old ended log.new) }
+    ensures broken { IfErr result (λ fault. BrokeOff L.took L.broke L.room fault
+        (AreBoxSteps I.GRAIN I.SLACK rows.now rules.now splits
+        (record { id = id; part = grid_box part.now })) log.old log.new) }
     ensures few { IfOk result (λ ended. ended.cuts ≤ 1800) }
     ensures failed { result ≡ Err StepFault.Failed → Rose (L.faults log.old) (L.faults log.new) }
     ensures counted { L.faults log.old ≤ L.faults log.new }
@@ -80,11 +84,16 @@ fn cut_down<I: Interval, L: Steps>(
     log: &mut L,
 ) -> Result<u32, StepFault>
     requires few { (rules.now.outliers < length rows.now) × (length rows.now ≤ 64) }
-    requires tree { tree_value I.low I.high tree.now ≡ row_tree I.GRAIN rows.now rules.now.outliers }
+    requires tree { tree_value I.low I.high tree.now
+        ≡ row_tree I.GRAIN rows.now rules.now.outliers }
     requires undecided { IsUndecided rows.now rules.now (grid_box part.old) }
     requires hull { IsClockHull rows.now (grid_box part.old) rules.now.outliers hull.lo hull.hi }
-    ensures cut { IfOk result (λ cuts. TookCuts L.took (IsCutDown I.GRAIN I.SLACK rows.now rules.now (record { id = id; part = grid_box part.old })) log.old cuts (grid_box part.new) log.new) }
-    ensures broken { IfErr result (λ fault. BrokeOff L.took L.broke L.room fault (LeaveSome (IsCutDown I.GRAIN I.SLACK rows.now rules.now (record { id = id; part = grid_box part.old }))) log.old log.new) }
+    ensures cut { IfOk result (λ cuts. TookCuts L.took (IsCutDown I.GRAIN I.SLACK rows.now
+        rules.now (record { id = id; part = grid_box part.old })) log.old cuts
+        (grid_box part.new) log.new) }
+    ensures broken { IfErr result (λ fault. BrokeOff L.took L.broke L.room fault (LeaveSome
+        (IsCutDown I.GRAIN I.SLACK rows.now rules.now
+        (record { id = id; part = grid_box part.old }))) log.old log.new) }
     ensures few { IfOk result (λ cuts. cuts ≤ 1014) }
     ensures failed { result ≡ Err StepFault.Failed → Rose (L.faults log.old) (L.faults log.new) }
     ensures counted { L.faults log.old ≤ L.faults log.new }

@@ -1,5 +1,6 @@
 -- What was put to a pen: which of it went to the log and to `out`, and what it still holds.
-use Rattle.std.specs.Prelude.{◌≡◌, ◌≢◌, ℕ, ◌+◌, ◌≤◌, List, [], ◌++◌, length, Option, true, is_some, Result, Ok, Err}
+use Rattle.std.specs.Prelude.{◌≡◌, ◌≢◌, ℕ, ◌+◌, ◌≤◌, List, [], ◌++◌, length, Option, true, is_some}
+use Rattle.std.specs.Prelude.{Result, Ok, Err}
 use Rattle.outer_io.specs.Causes.{Rose}
 use Rattle.outer_io.specs.Taken.{SinkState, TakenBy}
 use Rattle.outer_io.specs.Told.{ShelfState, AppendedBy}

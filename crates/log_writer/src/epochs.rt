@@ -1,6 +1,7 @@
 //! The head of a log, and its epochs.
 
-ghost use Rattle.std.specs.Prelude.{◌≡◌, ◌≢◌, ◌+◌, ◌<◌, ◌≤◌, ℕ, List, Option, length, map, false, None, Err, IfOk, IfErr};
+ghost use Rattle.std.specs.Prelude.{◌≡◌, ◌≢◌, ◌+◌, ◌<◌, ◌≤◌, ℕ, List, Option, length, map, false};
+ghost use Rattle.std.specs.Prelude.{None, Err, IfOk, IfErr};
 ghost use Rattle.std.specs.List.{AllByRecursion};
 ghost use Rattle.log_writer.specs.Pieces.{alone, head_pieces};
 ghost use Rattle.log_writer.specs.Sizes.{most_sats};
