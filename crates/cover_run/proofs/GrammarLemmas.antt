@@ -12,7 +12,7 @@ use Rattle.rinex_text.specs.declared.fault.ReadError.TheVariants.{Refused, NoMem
 use Rattle.rinex_text.specs.declared.fault.Refusal.{Refusal}
 use Rattle.sat_model.specs.Logs.{LogValue}
 use Rattle.sat_model.specs.declared.satellites.Signal.{Signal}
-use Rattle.cover_run.specs.Inputs.{NamesNavFault, NamesObsFault, obs_text}
+use Rattle.cover_run.specs.Inputs.{NamesNavFault, NamesObsFault, nav_text, obs_text}
 use Rattle.cover_run.specs.Logs.{NamesFirst}
 use Rattle.cover_run.specs.Reading.{Text, Gives, GivesOrEnds, Settles}
 use Rattle.cover_run.specs.Statuses.{notice_of_file, status_of}
@@ -82,6 +82,11 @@ file_settles text bytes input_of (Refused r) none =
     (λ v is. let m : Refused r ≡ NoMemory = none v is in cc)
 file_settles text bytes input_of NoMemory none =
     memory_settles text bytes notice.NoMemory refl
+
+pub nav_gives : (bytes : List ℕ) (e : ReadError) → Refuses (nav.nav_file (lines_of bytes)) e
+    → GivesOrEnds nav_text bytes (Err (notice_of_file (λ r. input.Nav r) e))
+nav_gives bytes (Refused r) refuses = inr (refl, refuses)
+nav_gives bytes NoMemory refuses = inl refl
 
 pub obs_gives : (signal : Signal) (position : Bool) (bytes : List ℕ) (e : ReadError)
     → Refuses (obs.obs_file signal position (lines_of bytes)) e
