@@ -17,7 +17,7 @@ pub fn box_steps_exist()
     ensures { (grain : ℤ) → (rows : List Row) → (rules : Rules) → (splits : ℕ) → (id : ℕ)
         → (part : Box3) → pos 1 ≤ℤ grain → grain ≤ℤ pos 1048576 → rules.outliers < length rows
         → (steps : List ShownStep) × AreBoxSteps grain (pos 16 *ℤ grain) rows rules splits
-            (record { id = id; part = grid_box part }) steps }
+        (record { id = id; part = grid_box part }) steps }
 {}
 
 /// The law: a box has at most 1,014 cuts, 6 by a proposal and 1,008 by eighths, and they leave a part
