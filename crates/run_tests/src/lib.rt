@@ -12,8 +12,8 @@ mod files;
 mod narrowing;
 #[cfg(test)]
 mod outer;
-pub mod roomy;
 #[cfg(test)]
 mod parts;
+pub mod roomy;
 #[cfg(test)]
 mod shelves;
