@@ -167,20 +167,26 @@ fn a_part_is_checked_with_its_options(rt: HostRuntime) -> Result<(), Fail> {
 #[test]
 fn options_have_their_form(rt: HostRuntime) -> Result<(), Fail> {
     let table: [&[&str]; 14] = [
-        &["--from", "0"],
-        &["--from", "07"],
-        &["--from", "+3"],
-        &["--from", "-3"],
-        &["--from=-3"],
-        &["--from", "200001"],
-        &["--from", ""],
-        &["--from="],
-        &["--from"],
-        &["--from", "1 "],
-        &["--from", "1", "--from", "1"],
-        &["--to", "2", "--to", "2"],
-        &["--fro", "1"],
-        &["b.log"],
+        &["check", "a.obs", "a.nav", "a.toml", "a.log", "--from", "0"],
+        &["check", "a.obs", "a.nav", "a.toml", "a.log", "--from", "07"],
+        &["check", "a.obs", "a.nav", "a.toml", "a.log", "--from", "+3"],
+        &["check", "a.obs", "a.nav", "a.toml", "a.log", "--from", "-3"],
+        &["check", "a.obs", "a.nav", "a.toml", "a.log", "--from=-3"],
+        &[
+            "check", "a.obs", "a.nav", "a.toml", "a.log", "--from", "200001",
+        ],
+        &["check", "a.obs", "a.nav", "a.toml", "a.log", "--from", ""],
+        &["check", "a.obs", "a.nav", "a.toml", "a.log", "--from="],
+        &["check", "a.obs", "a.nav", "a.toml", "a.log", "--from"],
+        &["check", "a.obs", "a.nav", "a.toml", "a.log", "--from", "1 "],
+        &[
+            "check", "a.obs", "a.nav", "a.toml", "a.log", "--from", "1", "--from", "1",
+        ],
+        &[
+            "check", "a.obs", "a.nav", "a.toml", "a.log", "--to", "2", "--to", "2",
+        ],
+        &["check", "a.obs", "a.nav", "a.toml", "a.log", "--fro", "1"],
+        &["check", "a.obs", "a.nav", "a.toml", "a.log", "b.log"],
     ];
     let left = Left {
         status: Status::Usage,
@@ -188,12 +194,8 @@ fn options_have_their_form(rt: HostRuntime) -> Result<(), Fail> {
         err: USAGE,
         log: None,
     };
-    for options in table {
-        let mut texts = vec![in rt.alloc(); "check", "a.obs", "a.nav", "a.toml", "a.log"]?;
-        for option in options {
-            texts.push(*option)?;
-        }
-        expect(&rt, texts.as_slice(), BOTH, &left)?;
+    for texts in table {
+        expect(&rt, texts, BOTH, &left)?;
     }
     Ok(())
 }
