@@ -298,15 +298,8 @@ class RealFiles(unittest.TestCase):
 
     def test_files_that_cannot_be_read(self):
         (self.folder / "folder").mkdir()
-        for name in "missing", "folder", "":
-            for words, role in (
-                (["judge", name], b"log"),
-                (["check", *FILES, name], b"log"),
-                (["pave", name, "new.log"], b"rows"),
-                (["solve", *FILES[:2], name, "new.log"], b"settings"),
-                (["solve", FILES[0], name, FILES[2], "new.log"], b"nav"),
-                (["solve", name, *FILES[1:], "receiver.log"], b"obs"),
-            ):
+        for name, log in (("missing", "new.log"), ("folder", "receiver.log"), ("", "new.log")):
+            for words, role in readings(name, log):
                 self.expect_nothing_done(words, 4, role + b" fault\n")
 
     def test_files_and_folders_without_rights(self):
@@ -321,15 +314,7 @@ class RealFiles(unittest.TestCase):
         for words in ["solve", *FILES], ["pave", ROWS]:
             for name in "new.log", "old.log":
                 self.expect_nothing_done([*words, f"locked/{name}"], 5, b"log fault\n", **how)
-        secret = "locked/secret"
-        for words, role in (
-            (["judge", secret], b"log"),
-            (["check", *FILES, secret], b"log"),
-            (["pave", secret, "locked/old.log"], b"rows"),
-            (["solve", *FILES[:2], secret, "locked/old.log"], b"settings"),
-            (["solve", FILES[0], secret, FILES[2], "locked/old.log"], b"nav"),
-            (["solve", secret, *FILES[1:], "locked/old.log"], b"obs"),
-        ):
+        for words, role in readings("locked/secret", "locked/old.log"):
             self.expect_nothing_done(words, 4, role + b" fault\n", **how)
 
     def test_a_pipe_in_the_place_of_a_file(self):
@@ -515,6 +500,18 @@ def place_in(run, path):
             # It was closed in between.
             continue
     return 0
+
+
+def readings(name, log):
+    """The words of each command with this name for one of the files that it reads, and that file's role."""
+    return (
+        (["judge", name], b"log"),
+        (["check", *FILES, name], b"log"),
+        (["pave", name, log], b"rows"),
+        (["solve", *FILES[:2], name, log], b"settings"),
+        (["solve", FILES[0], name, FILES[2], log], b"nav"),
+        (["solve", name, *FILES[1:], log], b"obs"),
+    )
 
 
 def rows_of(log):
