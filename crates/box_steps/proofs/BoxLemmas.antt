@@ -23,9 +23,9 @@ use Rattle.range_contractor.proofs.LeafLemmas.{box_sizes}
 use Rattle.range_contractor.proofs.RowLemmas.{count_rows}
 use Rattle.range_contractor.proofs.RowTreeExists.{rows_grain}
 use Rattle.range_contractor.proofs.TreeExists.{IsGridPart, inside_part, tied_exists}
-use Rattle.paving.specs.Taken.{TookAll, step_bytes}
-use Rattle.paving.specs.declared.steps.StepFault.{StepFault}
-use Rattle.paving.specs.declared.steps.StepFault.TheVariants.{Full}
+use Rattle.box_steps.specs.Taken.{TookAll, step_bytes}
+use Rattle.box_steps.specs.declared.steps.StepFault.{StepFault}
+use Rattle.box_steps.specs.declared.steps.StepFault.TheVariants.{Full}
 use Rattle.box_steps.specs.Cuts.{all_faces, NoneMayCut, AreEighthCuts}
 use Rattle.box_steps.specs.BoxSteps.{AreCutsByTree, IsCutDown, AreCutsOf, AreBoxSteps}
 use Rattle.box_steps.specs.Ends.{last_of, TookBox}

@@ -5,8 +5,8 @@ use Rattle.sat_model.specs.declared.satellites.Row.{Row}
 use Rattle.sat_model.specs.declared.steps.Step.{Step}
 use Rattle.sat_model.specs.Boxes.{GridBox}
 use Rattle.sat_model.specs.Fold.{ShownStep}
-use Rattle.paving.specs.Taken.{TookAll}
-use Rattle.paving.specs.declared.steps.StepFault.{StepFault}
+use Rattle.box_steps.specs.Taken.{TookAll}
+use Rattle.box_steps.specs.declared.steps.StepFault.{StepFault}
 use Rattle.box_steps.specs.Cuts.{Bounds, all_faces, IsFaceCut, AreFacesCut}
 use Rattle.box_steps.specs.Taking.{TookCuts, BrokeOff, LeaveSome}
 use Rattle.box_steps.proofs.FaceLemmas.{faces_exist}

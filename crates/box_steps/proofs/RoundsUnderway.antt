@@ -6,8 +6,8 @@ use Rattle.sat_model.specs.declared.steps.Step.{Step}
 use Rattle.sat_model.specs.Boxes.{GridBox}
 use Rattle.sat_model.specs.Fold.{ShownStep}
 use Rattle.sat_model.specs.Paved.{joined}
-use Rattle.paving.specs.Taken.{TookAll}
-use Rattle.paving.specs.declared.steps.StepFault.{StepFault}
+use Rattle.box_steps.specs.Taken.{TookAll}
+use Rattle.box_steps.specs.declared.steps.StepFault.{StepFault}
 use Rattle.range_contractor.proofs.TreeExists.{IsGridPart}
 use Rattle.box_steps.specs.Cuts.{eighths, all_faces, AreFacesCut, AreRounds, AreEighthCuts}
 use Rattle.box_steps.specs.Taking.{TookCuts, BrokeOff, LeaveSome}

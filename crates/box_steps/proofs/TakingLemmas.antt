@@ -1,11 +1,11 @@
 -- Steps that a log took, one after another, and those that broke off.
-use Rattle.std.proofs.Common.{◌≡◌, ℕ, ◌<◌, List, [], ◌∷◌, ◌++◌, length, refl, sym, ap, subst, ◌∙◌, append_assoc, ◌↔◌}
+use Rattle.std.proofs.Common.{◌≡◌, ℕ, ◌<◌, List, [], ◌∷◌, ◌++◌, length, refl, sym, ap, subst, ◌∙◌, append_assoc, ◌↔◌, Result, Err}
 use Rattle.sat_model.specs.declared.steps.Step.{Step}
 use Rattle.sat_model.specs.Boxes.{GridBox}
 use Rattle.sat_model.specs.Fold.{ShownStep}
-use Rattle.paving.specs.Taken.{TookAll, step_bytes}
-use Rattle.paving.specs.declared.steps.StepFault.{StepFault}
-use Rattle.paving.specs.declared.steps.StepFault.TheVariants.{Full}
+use Rattle.box_steps.specs.Taken.{TookAll, step_bytes}
+use Rattle.box_steps.specs.declared.steps.StepFault.{StepFault}
+use Rattle.box_steps.specs.declared.steps.StepFault.TheVariants.{Full}
 use Rattle.box_steps.specs.Taking.{TookCuts, BrokeOff}
 
 pub took_both : {L : Type 0} (took : L → Step → GridBox → L → Type 0) (xs ys : List ShownStep) (first middle last : L) → TookAll took first xs middle → TookAll took middle ys last → TookAll took first (xs ++ ys) last
@@ -66,3 +66,6 @@ broke_as took broke room fault A B first last f b = record {
   broken = b.broken;
   full = b.full;
 }
+
+pub same_fault : (fault cause : StepFault) (P : Type 0) → ((◌≡◌ {A = Result (Unit {0}) StepFault} (Err fault) (Err cause)) ↔ P) → ((fault ≡ cause) ↔ P)
+same_fault fault cause P h = (λ e. h.0 (rw e refl), λ p. let e = h.1 p in cc)

@@ -3,7 +3,7 @@ use Rattle.std.specs.Prelude.{◌≡◌, ℕ, List, [], ◌∷◌, ◌++◌, len
 use Rattle.sat_model.specs.declared.steps.Step.{Step}
 use Rattle.sat_model.specs.Boxes.{GridBox, grid_box}
 use Rattle.sat_model.specs.Fold.{ShownStep}
-use Rattle.paving.specs.Taken.{TookAll}
+use Rattle.box_steps.specs.Taken.{TookAll}
 use Rattle.box_steps.specs.declared.work.Ended.{Ended}
 
 abbrev pub last_of : Ended → ShownStep

@@ -1,3 +1,4 @@
+pub mod Taken
 pub mod Cuts
 pub mod BoxSteps
 pub mod Targets

@@ -3,9 +3,9 @@ use Rattle.std.specs.Prelude.{◌≡◌, ℕ, ◌<◌, ◌↔◌, List, ◌∷�
 use Rattle.sat_model.specs.declared.steps.Step.{Step}
 use Rattle.sat_model.specs.Boxes.{GridBox}
 use Rattle.sat_model.specs.Fold.{ShownStep}
-use Rattle.paving.specs.Taken.{TookAll, step_bytes}
-use Rattle.paving.specs.declared.steps.StepFault.{StepFault}
-use Rattle.paving.specs.declared.steps.StepFault.TheVariants.{Full}
+use Rattle.box_steps.specs.Taken.{TookAll, step_bytes}
+use Rattle.box_steps.specs.declared.steps.StepFault.{StepFault}
+use Rattle.box_steps.specs.declared.steps.StepFault.TheVariants.{Full}
 
 -- cuts that leave a part of a box were taken, one after another, and so many
 pub record TookCuts {L : Type 0} (took : L → Step → GridBox → L → Type 0)

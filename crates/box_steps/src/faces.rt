@@ -2,14 +2,14 @@
 
 ghost use Rattle.std.specs.Prelude.{◌≡◌, ◌<◌, ◌≤◌, ◌↔◌, cond, length, IfOk, IfErr, Err, IsTrue};
 ghost use Rattle.sat_model.specs.Boxes.{grid_box};
-ghost use Rattle.paving.specs.Taken.{Rose};
+ghost use Rattle.box_steps.specs.Taken.{Rose};
 ghost use Rattle.box_steps.specs.Cuts.{MayCut, IsFaceCut, AreFacesCut, all_faces};
 ghost use Rattle.box_steps.specs.Targets.{bounds_of};
 ghost use Rattle.box_steps.specs.Taking.{TookCuts, BrokeOff, LeaveSome};
 
+use crate::steps::{StepFault, Steps};
 use crate::target::Target;
 use live_boxes::{is_proper_cut, left_by, slab_of};
-use paving::{StepFault, Steps};
 use relaxed_meet::shown_empty;
 use sat_model::{Box3, Row, Step};
 

@@ -7,8 +7,10 @@ mod faces;
 mod laws;
 mod proposal;
 mod rounds;
+mod steps;
 mod target;
 mod work;
 
 pub use laws::{box_steps_exist, cuts_leave_no_eighth};
+pub use steps::{StepFault, Steps};
 pub use work::{Ended, work_on};

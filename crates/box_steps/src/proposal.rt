@@ -4,14 +4,14 @@ ghost use Rattle.std.specs.Prelude.{◌≡◌, ◌<◌, ◌≤◌, Option, lengt
 ghost use Rattle.sat_model.specs.Boxes.{GridBox, grid_box};
 ghost use Rattle.sat_model.specs.Trees.{IsWellFormed, span_side};
 ghost use Rattle.range_contractor.specs.Views.{tree_value};
-ghost use Rattle.paving.specs.Taken.{Rose};
+ghost use Rattle.box_steps.specs.Taken.{Rose};
 ghost use Rattle.box_steps.specs.BoxSteps.{AreCutsByTree};
 ghost use Rattle.box_steps.specs.Taking.{TookCuts, BrokeOff, LeaveSome};
 
 use crate::faces::cut_faces;
+use crate::steps::{StepFault, Steps};
 use crate::target::Target;
 use fix_interval::Interval;
-use paving::{StepFault, Steps};
 use range_contractor::{Tree, contract};
 use sat_model::{Box3, Row, Span};
 

@@ -2,13 +2,13 @@
 
 ghost use Rattle.std.specs.Prelude.{◌≡◌, ◌<◌, ◌≤◌, length, IfOk, IfErr, Err};
 ghost use Rattle.sat_model.specs.Boxes.{grid_box};
-ghost use Rattle.paving.specs.Taken.{Rose};
+ghost use Rattle.box_steps.specs.Taken.{Rose};
 ghost use Rattle.box_steps.specs.Cuts.{AreEighthCuts};
 ghost use Rattle.box_steps.specs.Taking.{TookCuts, BrokeOff, LeaveSome};
 
 use crate::faces::cut_faces;
+use crate::steps::{StepFault, Steps};
 use crate::target::Target;
-use paving::{StepFault, Steps};
 use sat_model::{Box3, Row};
 
 /// Cuts eighths off the box, round by round over its faces, until a round makes no cut, and answers

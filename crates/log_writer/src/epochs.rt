@@ -21,7 +21,8 @@ use crate::fault::WriteFault;
 use crate::pen::Pen;
 use crate::steps::Track;
 use epoch_report::{Counts4, epoch_text, total_text};
-use paving::{Plan, StepFault, pave};
+use box_steps::StepFault;
+use paving::{Plan, pave};
 use paving_log::{
     LogEpoch, SatEntry, done_line, epoch_line, head_lines, root_line, rows_among, sat_line,
 };

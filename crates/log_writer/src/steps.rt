@@ -5,7 +5,7 @@ ghost use Rattle.live_boxes.specs.Stages.{box_option};
 ghost use Rattle.log_writer.specs.Kept.{hull_after};
 ghost use Rattle.log_writer.specs.Steps.{step_piece};
 ghost use Rattle.log_writer.specs.Writing.{Went, Ended, Written, Trusts, done, failed};
-ghost use Rattle.paving.specs.Taken.{step_bytes};
+ghost use Rattle.box_steps.specs.Taken.{step_bytes};
 ghost use Rattle.paving_log.specs.Rows.{CornersFit, corners_of};
 ghost use Rattle.sat_model.specs.Boxes.{grid_box};
 
@@ -13,7 +13,7 @@ use crate::fault::WriteFault;
 use crate::kept::hull_with_step;
 use crate::pen::Pen;
 use epoch_report::step_text;
-use paving::{StepFault, Steps};
+use box_steps::{StepFault, Steps};
 use paving_log::step_line;
 use sat_model::{Box3, Step};
 

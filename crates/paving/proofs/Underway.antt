@@ -11,18 +11,19 @@ use Rattle.sat_model.specs.declared.rules.Rules.{Rules}
 use Rattle.sat_model.specs.declared.steps.Step.{Step}
 use Rattle.sat_model.specs.Boxes.{GridBox, grid_box, side_at}
 use Rattle.sat_model.proofs.AmountLemmas.{above_is}
-use Rattle.sat_model.specs.Paved.{WaitingBox, Paving, first_paving, IsNext, AreStepsOf, Closes, opened_by, splits_after, beyond, beyond_all, joined, PavesTo, Paved, PavedFirst, steps_of}
+use Rattle.sat_model.specs.Paved.{WaitingBox, Paving, first_paving, IsNext, Closes, opened_by, splits_after, beyond, beyond_all, joined, steps_of}
+use Rattle.paving.specs.Paved.{AreStepsOf, PavesTo, Paved, PavedFirst}
 use Rattle.paving.specs.declared.counts.Counts.{Counts}
-use Rattle.paving.specs.Taken.{TookAll, step_bytes}
+use Rattle.box_steps.specs.Taken.{TookAll, step_bytes}
 use Rattle.paving.specs.Counting.{IsCountOf, counts_after}
 use Rattle.paving.specs.Runs.{IsRun, IsBroken}
-use Rattle.paving.specs.declared.steps.StepFault.{StepFault}
-use Rattle.paving.specs.declared.steps.StepFault.TheVariants.{Full}
+use Rattle.box_steps.specs.declared.steps.StepFault.{StepFault}
+use Rattle.box_steps.specs.declared.steps.StepFault.TheVariants.{Full}
 use Rattle.sat_model.specs.Fold.{first_stage, ShownStep}
 use Rattle.sat_model.specs.StepKinds.{is_inside, is_edge, is_outside, is_split}
 use Rattle.sat_model.specs.Verdicts.{StepsPass}
-use Rattle.sat_model.proofs.PavedLemmas.{paved_passes, paved_covers}
-use Rattle.sat_model.proofs.PavedExists.{begins_run}
+use Rattle.paving.proofs.PavedLemmas.{paved_passes, paved_covers}
+use Rattle.paving.proofs.PavedExists.{begins_run}
 use Rattle.paving.specs.Queues.{IsQueued, Takes, CanOpen, box_of, opened_count}
 
 -- what holds before each box is taken up
@@ -250,9 +251,6 @@ whole_run took rows rules root first now lists mid counts u takes =
       passes = subst (λ (done : ℕ). StepsPass rows rules done (first_stage root) (steps_of (joined u.boxes))) u.splits_is (paved_passes rows rules root _ run);
       cover = paved_covers rows rules root _ run;
     }
-
-pub same_fault : (fault cause : StepFault) (P : Type 0) → ((◌≡◌ {A = Result (Unit {0}) StepFault} (Err fault) (Err cause)) ↔ P) → ((fault ≡ cause) ↔ P)
-same_fault fault cause P h = (λ e. h.0 (rw e refl), λ p. let e = h.1 p in cc)
 
 -- a box that is split has two spare nodes for its halves, one of them its own
 pub room_here : (rows : List Row) (rules : Rules) (splits id spare closed : ℕ) (step : Step) (part : GridBox) → Closes rows rules splits id part step

@@ -6,13 +6,14 @@ use Rattle.sat_model.specs.declared.steps.Step.{Step}
 use Rattle.sat_model.specs.Boxes.{GridBox}
 use Rattle.sat_model.specs.Cover.{EpochCover}
 use Rattle.sat_model.specs.Fold.{first_stage, ShownStep, pieces}
-use Rattle.sat_model.specs.Paved.{Paved, PavedFirst, steps_of}
+use Rattle.sat_model.specs.Paved.{steps_of}
+use Rattle.paving.specs.Paved.{Paved, PavedFirst}
 use Rattle.sat_model.specs.Verdicts.{StepsPass}
 use Rattle.paving.specs.declared.counts.Counts.{Counts}
-use Rattle.paving.specs.declared.steps.StepFault.{StepFault}
-use Rattle.paving.specs.declared.steps.StepFault.TheVariants.{Full}
+use Rattle.box_steps.specs.declared.steps.StepFault.{StepFault}
+use Rattle.box_steps.specs.declared.steps.StepFault.TheVariants.{Full}
 use Rattle.paving.specs.Counting.{IsCountOf}
-use Rattle.paving.specs.Taken.{TookAll, step_bytes}
+use Rattle.box_steps.specs.Taken.{TookAll, step_bytes}
 
 -- some whole run of steps was taken, one after another, and the counts are its own. So its steps
 -- pass all tests of a log, its pieces partition the root, and they cover what fits.

@@ -3,7 +3,7 @@
 ghost use Rattle.std.specs.Prelude.{◌≡◌, ◌<◌, ◌≤◌, ◌+◌, length, IfOk, IfErr, Err};
 ghost use Rattle.box_pool.specs.Lists.{AllEmpty};
 ghost use Rattle.sat_model.specs.Boxes.{grid_box};
-ghost use Rattle.paving.specs.Taken.{Rose};
+ghost use Rattle.box_steps.specs.Taken.{Rose};
 ghost use Rattle.paving.specs.Runs.{IsRun, IsBroken};
 
 use crate::closing::closing_step;

@@ -5,9 +5,9 @@ use Rattle.std.proofs.lemmas.Result.{err_from_is_err_and}
 use Rattle.sat_model.specs.Boxes.{GridBox, grid_box}
 use Rattle.sat_model.specs.Fold.{slab_of_cut, left_by_cut}
 use Rattle.sat_model.specs.declared.steps.Step.TheVariants.{Cut}
-use Rattle.paving.specs.Taken.{step_bytes}
-use Rattle.paving.specs.declared.steps.StepFault.TheVariants.{Full}
-use Rattle.paving.proofs.Underway.{same_fault}
+use Rattle.box_steps.specs.Taken.{step_bytes}
+use Rattle.box_steps.specs.declared.steps.StepFault.TheVariants.{Full}
+use Rattle.box_steps.proofs.TakingLemmas.{same_fault}
 use Rattle.box_steps.specs.Cuts.{cut_shown, MayCut}
 use Rattle.box_steps.proofs.faces.cut_face.Goals as goal
 

@@ -8,11 +8,10 @@ use Rattle.sat_model.specs.declared.spans.Span.{Span}
 use Rattle.relaxed_meet.specs.BoxStates.{IsBoxState}
 use Rattle.relaxed_meet.specs.declared.shown.BoxState.{BoxState}
 use Rattle.relaxed_meet.specs.declared.shown.BoxState.TheVariants.{Empty, Inner, Undecided}
-use Rattle.paving.specs.declared.steps.StepFault.TheVariants.{Failed, Full}
-use Rattle.paving.proofs.Underway.{same_fault}
+use Rattle.box_steps.specs.declared.steps.StepFault.TheVariants.{Failed, Full}
 use Rattle.box_steps.specs.BoxSteps.{IsCutDown, AreCutsOf}
 use Rattle.box_steps.proofs.BoxLemmas.{box_took, last_broke, cuts_broke, no_cuts_taken}
-use Rattle.box_steps.proofs.TakingLemmas.{took_as}
+use Rattle.box_steps.proofs.TakingLemmas.{same_fault, took_as}
 use Rattle.box_steps.proofs.work.work_on.Goals as goal
 
 -- a state that isn't undecided
