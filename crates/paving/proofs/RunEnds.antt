@@ -44,9 +44,8 @@ broke_here took broke room fault rows rules root first now last lists mid spare 
     let h = in_hand u.paving.waiting lists mid next u.queued takes in record {
       steps = joined u.boxes ++ b.steps;
       next = b.next;
-      paved_first = subst (λ (l : List ShownStep). PavedFirst rows rules (grid_box root) l) (sym (append_assoc (joined u.boxes) b.steps (b.next ∷ [])))
-          (begins_within_box rows rules root u.boxes u.paving (box_of next) h.rest b.steps b.next b.more enough u.paves h.is_next
-          (subst (λ (s : ℕ). AreStepsOf rows rules s (box_of next) (b.steps ++ b.next ∷ b.more)) (sym u.splits_is) b.are));
+      paved_first = begins_within_box rows rules root u.boxes u.paving (box_of next) h.rest b.steps b.next b.more enough u.paves h.is_next
+          (subst (λ (s : ℕ). AreStepsOf rows rules s (box_of next) (b.steps ++ b.next ∷ b.more)) (sym u.splits_is) b.are);
       before = b.before;
       taken = took_both took (joined u.boxes) b.steps first now b.before u.taken b.taken;
       broken = b.broken;

@@ -22,7 +22,8 @@ use Rattle.paving.specs.Paved.{grain_for, AreStepsOf, PavesTo}
 use Rattle.paving.specs.declared.counts.Counts.{Counts}
 use Rattle.paving.specs.Counting.{IsCountOf, counts_after, counts_with_cuts, HasRoom}
 use Rattle.paving.specs.Queues.{IsQueued, Takes, CanOpen, box_of, opened_count}
-use Rattle.paving.proofs.CutLemmas.{OnlyCuts, ends_by_last, beyond_cuts, counted_cuts}
+use Rattle.paving.proofs.CutLemmas.{ends_by_last, opens_last, counted_cuts}
+use Rattle.paving.proofs.PavedLemmas.{AreCutsInTurn}
 
 -- so many boxes have at most so many steps of each kind, with up to 1,800 cuts a box
 pub record AreFew (counts : Counts) (boxes : ℕ) : Type 0 where
@@ -129,12 +130,13 @@ counted_more counts steps (Split id axis) part c = record {
 }
 
 -- the steps of a box are counted
-pub counted_box : (counts : Counts) (ended : Ended) (steps cuts : List ShownStep) → ended.cuts ≡ length cuts → IsCountOf counts steps → OnlyCuts cuts
+pub counted_box : (rows : List Row) (q id : ℕ) (part : GridBox) (counts : Counts) (ended : Ended) (steps cuts : List ShownStep) → ended.cuts ≡ length cuts
+    → AreCutsInTurn rows q id part cuts (grid_box ended.left) → IsCountOf counts steps
     → IsCountOf (counts_after (counts_with_cuts counts ended.cuts) ended.step) (steps ++ (cuts ++ last_of ended ∷ []))
-counted_box counts ended steps cuts many c only =
+counted_box rows q id part counts ended steps cuts many in_turn c =
     subst (λ (l : List ShownStep). IsCountOf (counts_after (counts_with_cuts counts ended.cuts) ended.step) l) (append_assoc steps cuts (last_of ended ∷ []))
     (counted_more (counts_with_cuts counts ended.cuts) (steps ++ cuts) ended.step (grid_box ended.left)
-    (subst (λ (n : ℕ). IsCountOf (counts_with_cuts counts n) (steps ++ cuts)) (sym many) (counted_cuts counts steps cuts c only)))
+    (subst (λ (n : ℕ). IsCountOf (counts_with_cuts counts n) (steps ++ cuts)) (sym many) (counted_cuts rows q id part (grid_box ended.left) counts steps cuts in_turn c)))
 
 one_less : (waiting : List WaitingBox) (next : WaitingBox) (rest : List WaitingBox) → IsNext waiting next rest → length waiting ≡ length rest + 1
 one_less waiting next rest n = omega (arith, ap length n.all_waiting, ap length n.others, length-append n.before (next ∷ n.behind), length-append n.before n.behind)
@@ -155,7 +157,7 @@ in_hand waiting old new next queued takes =
 -- the step that ends the box closes it, and the others are cuts
 pub ends_box : {L : Type 0} (took : L → Step → GridBox → L → Type 0) (rows : List Row) (rules : Rules) (splits : ℕ) (next : Item) (now last : L) (ended : Ended)
     → (t : TookBox took (AreStepsOf rows rules splits (box_of next)) now ended last)
-    → Closes rows rules splits next.id (grid_box ended.left) ended.step × OnlyCuts t.cuts
+    → Closes rows rules splits next.id (grid_box ended.left) ended.step × AreCutsInTurn rows rules.outliers next.id (grid_box next.part) t.cuts (grid_box ended.left)
 ends_box took rows rules splits next now last ended t = ends_by_last (grain_for (grid_box next.part)) _ rows rules splits (box_of next) t.cuts (last_of ended) t.are
 
 -- ---- how the numbers go on
@@ -264,19 +266,19 @@ module _ {L : Type 0} (took : L → Step → GridBox → L → Type 0) (rows : L
       let h = in_hand u.paving.waiting lists mid next u.queued takes in
       let on = goes_on_here left few change h in
       let own : List ShownStep = t.cuts ++ last_of ended ∷ [] in
-      let only = (ends_box took rows rules counts.bisections next now last ended t).1 in
+      let in_turn = (ends_box took rows rules counts.bisections next now last ended t).1 in
       let steps = joined_more u.boxes own in
-      let end : Paving = record { waiting = h.rest; splits = u.paving.splits } in
+      let rested : Paving = record { waiting = h.rest; splits = u.paving.splits } in
+      let are : AreStepsOf rows rules u.paving.splits (box_of next) own = subst (λ (s : ℕ). AreStepsOf rows rules s (box_of next) own) (sym u.splits_is) t.are in
       rw same (record {
         boxes = u.boxes ++ own ∷ [];
-        paving = beyond end (last_of ended);
-        paves = subst (λ (p : Paving). PavesTo rows rules (first_paving root) (u.boxes ++ own ∷ []) p) (beyond_cuts end t.cuts (last_of ended) only)
-            (paves_more rows rules (first_paving root) u.paving u.boxes (box_of next) h.rest own u.paves h.is_next
-            (subst (λ (s : ℕ). AreStepsOf rows rules s (box_of next) own) (sym u.splits_is) t.are));
+        paving = beyond rested (last_of ended);
+        paves = subst (λ (p : Paving). PavesTo rows rules (first_paving root) (u.boxes ++ own ∷ []) p) (opens_last rows rules u.paving.splits (box_of next) t.cuts (last_of ended) rested are)
+            (paves_more rows rules (first_paving root) u.paving u.boxes (box_of next) h.rest own u.paves h.is_next are);
         taken = subst (λ (l : List ShownStep). TookAll took first l last) (sym steps) (took_both took (joined u.boxes) own first now last u.taken t.taken);
         queued = subst (λ (s : ℕ). IsQueued (h.rest ++ opened_by s ended.step (grid_box ended.left)) new) (sym u.splits_is) (opened h.rest h.queued);
         counted = subst (λ (l : List ShownStep). IsCountOf (counts_with_box counts ended) l) (sym steps)
-            (counted_box counts ended (joined u.boxes) t.cuts t.counted u.counted only);
+            (counted_box rows rules.outliers next.id (grid_box next.part) counts ended (joined u.boxes) t.cuts t.counted in_turn u.counted);
         few = subst (λ (n : ℕ). AreFew (counts_with_box counts ended) n) (sym (length-append u.boxes (own ∷ []))) on.few;
         splits_is = on.splits_is;
         opened = omega (arith, on.opened, length-append u.boxes (own ∷ []));
