@@ -1,6 +1,6 @@
 -- Each run that has begun goes on to a whole one.
 use Rattle.std.proofs.Common.{◌≡◌, ℕ, zero, suc, ◌+◌, ◌-◌, ◌*◌, ◌<◌, ◌≤◌, arith, List, [], ◌∷◌, ◌++◌, length, inl, inr, refl, sym, ap, subst, ◌∙◌, append_assoc}
-use Rattle.std.specs.Prelude.{ℤ, pos, ◌≤ℤ◌, nat_lt, All}
+use Rattle.std.specs.Prelude.{pos, ◌≤ℤ◌, nat_lt, All}
 use Rattle.std.proofs.lemmas.Int.{ints}
 use Rattle.std.proofs.lemmas.Bool.{cases_Bool, cases_lt}
 use Rattle.std.proofs.lemmas.List.{length-append, append-nil}

@@ -15,7 +15,7 @@ use Rattle.sat_model.specs.Fold.{Stage, first_stage, live_box, left_by_cut, halv
 use Rattle.sat_model.specs.Verdicts.{StepPasses, StepsPass}
 use Rattle.sat_model.specs.Paved.{WaitingBox, Paving, first_paving, IsNext, Closes, halves_from, beyond, beyond_all, joined, steps_of}
 use Rattle.box_steps.specs.Cuts.{Bounds, proposed, eighths, all_faces, MayCut, cut_shown, IsFaceCut, AreFacesCut, AreProposalCuts, AreRounds}
-use Rattle.box_steps.specs.BoxSteps.{AreCutsOf, AreBoxSteps}
+use Rattle.box_steps.specs.BoxSteps.{AreCutsOf}
 use Rattle.paving.specs.Paved.{AreStepsOf, PavesTo, Paved}
 use Rattle.sat_model.proofs.AmountLemmas.{above_is}
 use Rattle.sat_model.proofs.CoverLemmas.{epoch_cover}
@@ -78,13 +78,16 @@ cuts_in_turn grain slack rows rules box cuts left are = elim are [
       (rounds_in_turn rows rules.outliers box.id down.middle rounds left are_rounds))
 ]
 
+abbrev waits : ℕ → List WaitingBox → Paving
+waits splits waiting = record { waiting = waiting; splits = splits }
+
 -- cuts open no box
 pub cuts_open_none : (rows : List Row) (q id : ℕ) (part : GridBox) (cuts more : List ShownStep) (left : GridBox) (paving : Paving) → AreCutsInTurn rows q id part cuts left
     → beyond_all paving (cuts ++ more) ≡ beyond_all paving more
 cuts_open_none rows q id part [] more left paving same = refl
 cuts_open_none rows q id part (shown ∷ cuts) more left paving (face, bound, may, is, later) =
     cuts_open_none rows q id (left_by_cut face bound part) cuts more left (beyond paving shown) later
-    ∙ ap (λ (p : Paving). beyond_all p more) (ap (beyond paving) is ∙ ap (λ (w : List WaitingBox). (record { waiting = w; splits = paving.splits } : Paving)) (append-nil paving.waiting))
+    ∙ ap (λ (p : Paving). beyond_all p more) (ap (beyond paving) is ∙ ap (waits paving.splits) (append-nil paving.waiting))
 
 -- so only the last step of a box does
 pub box_opens : (rows : List Row) (rules : Rules) (splits : ℕ) (box : WaitingBox) (own : List ShownStep) (paving : Paving) → (are : AreStepsOf rows rules splits box own)
