@@ -1,0 +1,3 @@
+pub mod RootLemmas
+pub mod RowLemmas
+pub mod LineLemmas

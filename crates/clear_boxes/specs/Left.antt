@@ -1,0 +1,44 @@
+-- What a run leaves: no box that it splits, or closes at the edge, is clear, and no eighth at its
+-- faces.
+use Rattle.std.specs.Prelude.{◌≡◌, ℕ, ◌≤◌, pos, ◌<ℤ◌, List}
+use Rattle.std.specs.List.{AllByRecursion}
+use Rattle.box_steps.specs.Cuts.{eighth_of, eighths}
+use Rattle.epoch_selection.specs.Searches.{Search}
+use Rattle.sat_model.specs.Boxes.{GridBox, side_at}
+use Rattle.sat_model.specs.Fold.{ShownStep, axis_of, slab_of_cut}
+use Rattle.sat_model.specs.Lengths.{longest_length}
+use Rattle.sat_model.specs.declared.rules.Rules.{Rules}
+use Rattle.sat_model.specs.declared.steps.Step.{Step}
+use Rattle.sat_model.specs.declared.steps.Step.TheVariants.{Cut, Split, Outside, Inside, Edge}
+use Rattle.sat_rows.specs.Meanings.{Meaning}
+use Rattle.clear_boxes.specs.Clear.{IsClearlyEmpty, IsClearlyInner}
+
+module _ (m : Meaning) (rules : Rules) (search : Search) where
+  -- no slab of an eighth at one of the six faces, where that is at least one grid point thick, is
+  -- clearly empty
+  abbrev pub NoEighthIsClear : GridBox → Type 0
+  NoEighthIsClear part = (face : ℕ) → face ≤ 5 → 1 ≤ eighth_of (side_at (axis_of face) part)
+      → IsClearlyEmpty m rules.outliers search (slab_of_cut face (eighths face part) part) → ⊥
+
+  pub record IsUnclear (part : GridBox) : Type 0 where
+    pub not_empty : IsClearlyEmpty m rules.outliers search part → ⊥
+    pub not_inner : IsClearlyInner m rules.outliers search part → ⊥
+    pub no_eighth : NoEighthIsClear part
+
+  -- after so many splits in all
+  module _ (done : ℕ) where
+    -- longer than the width only where all splits were made
+    abbrev pub IsSplitUp : GridBox → Type 0
+    IsSplitUp part = rules.width <ℤ pos (longest_length part) → done ≡ rules.bisections
+
+    -- what is split, or left at the edge, isn't clear, and the latter is split up
+    abbrev pub LeavesNothingClear : Step → GridBox → Type 0
+    LeavesNothingClear (Cut id face bound) part = Unit {0}
+    LeavesNothingClear (Split id axis) part = IsUnclear part
+    LeavesNothingClear (Outside id) part = Unit {0}
+    LeavesNothingClear (Inside id clock lo hi) part = Unit {0}
+    LeavesNothingClear (Edge id lo hi) part = IsUnclear part × IsSplitUp part
+
+    abbrev pub NothingClearLeft : List ShownStep → Type 0
+    NothingClearLeft steps =
+        AllByRecursion (λ shown. LeavesNothingClear shown.step shown.part) steps

@@ -1,0 +1,4 @@
+pub mod Grown
+pub mod Paved
+pub mod Clear
+pub mod Left

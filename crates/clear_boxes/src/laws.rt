@@ -1,0 +1,33 @@
+//! Laws of clear boxes.
+
+ghost use Rattle.std.specs.Prelude.{◌≡◌, ◌*◌, ◌≤◌, ℕ, List, pos};
+ghost use Rattle.clear_boxes.specs.Clear.{IsEmptyBy, IsInnerBy};
+ghost use Rattle.clear_boxes.specs.Grown.{AreGrownLines};
+ghost use Rattle.rinex_obs.specs.declared.obs.ObsEpoch.{ObsEpoch};
+ghost use Rattle.sat_model.specs.Boxes.{GridBox};
+ghost use Rattle.sat_model.specs.ClockSpans.{IsShownEmpty, IsShownInner};
+ghost use Rattle.sat_model.specs.Contractors.{LiesIn};
+ghost use Rattle.sat_model.specs.Lengths.{spare_of};
+ghost use Rattle.sat_model.specs.Logs.{rows_of};
+ghost use Rattle.sat_model.specs.declared.satellites.SatEntry.{SatEntry};
+ghost use Rattle.sat_rows.specs.OwnRows.{AreLinesOf};
+ghost use Rattle.sat_rows.specs.declared.lines.SatLine.{SatLine};
+
+use sat_rows::RowSource;
+
+/// The law: the own rows of a source, wider by W at both ends, show a box empty or inner where the
+/// true ranges make it clear by 6 W. The box lies in the root. The call does nothing.
+pub fn clear_boxes_are_shown<S: RowSource>()
+    ensures empty { (source : S) (epoch : ObsEpoch) (root part : GridBox) (margin q : ℕ)
+        (own : List SatLine) (sats : List SatEntry)
+        → AreLinesOf (S.meaning source) root epoch own → AreGrownLines (pos (spare_of root)) own sats
+        → LiesIn part root → 6 * spare_of root ≤ margin
+        → IsEmptyBy (S.meaning source) epoch part margin q
+        → IsShownEmpty (rows_of sats) part q }
+    ensures inner { (source : S) (epoch : ObsEpoch) (root part : GridBox) (margin q : ℕ)
+        (own : List SatLine) (sats : List SatEntry)
+        → AreLinesOf (S.meaning source) root epoch own → AreGrownLines (pos (spare_of root)) own sats
+        → LiesIn part root → 6 * spare_of root ≤ margin
+        → (clear : IsInnerBy (S.meaning source) epoch part margin q)
+        → IsShownInner (rows_of sats) part q clear.offset }
+{}
