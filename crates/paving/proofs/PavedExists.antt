@@ -1,21 +1,26 @@
 -- Each run that has begun goes on to a whole one.
-use Rattle.std.proofs.Common.{◌≡◌, ℕ, zero, suc, ◌+◌, ◌-◌, ◌*◌, ◌<◌, ◌≤◌, arith, List, [], ◌∷◌, ◌++◌, length, ◌⊎◌, inl, inr, refl, sym, ap, subst, ◌∙◌, append_assoc}
-use Rattle.std.specs.Prelude.{pos, All}
+use Rattle.std.proofs.Common.{◌≡◌, ℕ, zero, suc, ◌+◌, ◌-◌, ◌*◌, ◌<◌, ◌≤◌, arith, List, [], ◌∷◌, ◌++◌, length, inl, inr, refl, sym, ap, subst, ◌∙◌, append_assoc}
+use Rattle.std.specs.Prelude.{pos, ◌≤ℤ◌, nat_lt, All}
 use Rattle.std.proofs.lemmas.Int.{ints}
 use Rattle.std.proofs.lemmas.Bool.{cases_Bool, cases_lt}
 use Rattle.std.proofs.lemmas.List.{length-append, append-nil}
-use lib.Signed.{lt_z}
+use Rattle.sat_model.specs.declared.boxes.Box3.{Box3}
 use Rattle.sat_model.specs.declared.satellites.Row.{Row}
 use Rattle.sat_model.specs.declared.rules.Rules.{Rules}
 use Rattle.sat_model.specs.declared.steps.Step.{Step}
 use Rattle.sat_model.specs.declared.steps.Step.TheVariants.{Cut, Split, Outside, Inside, Edge}
-use Rattle.sat_model.specs.Boxes.{GridBox, side_at}
-use Rattle.sat_model.specs.Lengths.{side_length, longest_length, IsLongestAxis}
-use Rattle.sat_model.specs.ClockSpans.{clock_spans, inner_spans}
+use Rattle.sat_model.specs.Boxes.{Side, GridBox, grid_box, side_at, with_side, low_half, high_half}
+use Rattle.sat_model.specs.Contractors.{SideLiesIn, LiesIn}
 use Rattle.sat_model.specs.Fold.{ShownStep}
-use Rattle.sat_model.specs.Paved.{WaitingBox, bits_of, Paving, first_paving, IsNext, IsUndecided, MaySplit, MayNotSplit, Closes, opened_by, beyond, beyond_all, joined}
-use Rattle.paving.specs.Paved.{PavesTo, PavedFirst}
-use Rattle.sat_model.proofs.RelaxedExists.{least_relaxed, relaxed_hull}
+use Rattle.sat_model.specs.Lengths.{side_length, longest_length}
+use Rattle.sat_model.specs.Paved.{WaitingBox, bits_of, Paving, first_paving, IsNext, Closes, opened_by, beyond, beyond_all, joined}
+use Rattle.sat_model.proofs.AmountLemmas.{above_is}
+use Rattle.range_contractor.proofs.TreeExists.{IsGridPart, inside_part}
+use Rattle.box_steps.proofs.BoxLemmas.{grid_part, box_steps_exist, cuts_inside}
+use Rattle.paving.specs.Paved.{long_side, grain_for, AreStepsOf, PavesTo, Paved, PavedFirst}
+use Rattle.paving.proofs.PavedLemmas.{box_opens}
+
+-- ---- the box that comes next
 
 pub record HasNext (waiting : List WaitingBox) : Type 0 where
   pub next : WaitingBox
@@ -73,57 +78,95 @@ some_next box (second ∷ waiting) =
       }
     ]
 
-below_two : (P : ℕ → Type 0) → P 0 → P 1 → (k : ℕ) → k < 2 → P k
-below_two P p q zero h = p
-below_two P p q (suc zero) h = q
-below_two P p q (suc (suc k)) h = absurd (omega arith)
+-- ---- boxes of the grid
 
-pub longest_axis_exists : (c : GridBox) → (axis : ℕ) × IsLongestAxis c axis
-longest_axis_exists c = elim (cases_lt (side_length c.x) (longest_length c)) [
-  | inr x_longest ↦ (0, record { axis_le = omega arith; longest = omega arith; first = λ k h. absurd (omega arith) })
-  | inl x_shorter ↦ elim (cases_lt (side_length c.y) (longest_length c)) [
-    | inr y_longest ↦ (
-      1,
-      record {
-        axis_le = omega arith;
-        longest = omega arith;
-        first = λ k h. elim (cases_lt k 1) [
-          | inl less ↦ subst (λ (o : ℕ). side_length (side_at o c) < longest_length c) (let z : 0 ≡ k = omega arith in z) x_shorter
-          | inr more ↦ absurd (omega arith)
-        ];
-      },
-    )
-    | inl y_shorter ↦ (2, record { axis_le = omega arith; longest = omega arith; first = below_two (λ o. side_length (side_at o c) < longest_length c) x_shorter y_shorter })
-  ]
+-- each box that waits is a box of the grid
+abbrev pub AreGridBoxes : List WaitingBox → Type 0
+AreGridBoxes [] = Unit {0}
+AreGridBoxes (box ∷ waiting) = IsGridPart box.part × AreGridBoxes waiting
+
+grid_both : (xs ys : List WaitingBox) → AreGridBoxes xs → AreGridBoxes ys → AreGridBoxes (xs ++ ys)
+grid_both [] ys first second = second
+grid_both (x ∷ xs) ys (here, first) second = (here, grid_both xs ys first second)
+
+grid_parts : (xs ys : List WaitingBox) → AreGridBoxes (xs ++ ys) → AreGridBoxes xs × AreGridBoxes ys
+grid_parts [] ys all = (tt, all)
+grid_parts (x ∷ xs) ys (here, all) = let (first, second) = grid_parts xs ys all in ((here, first), second)
+
+pub next_in_grid : (waiting : List WaitingBox) (next : WaitingBox) (rest : List WaitingBox) → IsNext waiting next rest → AreGridBoxes waiting → IsGridPart next.part × AreGridBoxes rest
+next_in_grid waiting next rest n grid =
+    let (before, others) = grid_parts n.before (next ∷ n.behind) (subst AreGridBoxes n.all_waiting grid) in
+    (others.0, subst AreGridBoxes (sym n.others) (grid_both n.before n.behind before others.1))
+
+low_inside : (s : Side) → s.lo ≤ℤ s.hi → SideLiesIn (low_half s) s
+low_inside s ordered = record {
+  low = omega (arith, ints);
+  ordered = omega (arith, ints);
+  high = omega (arith, ints, above_is s.hi s.lo);
+}
+
+high_inside : (s : Side) → 0 < side_length s → SideLiesIn (high_half s) s
+high_inside s some = record {
+  low = omega (arith, ints);
+  ordered = omega (arith, ints, above_is s.hi s.lo);
+  high = omega (arith, ints);
+}
+
+with_inside : (axis : ℕ) (part : GridBox) (s : Side) → LiesIn part part → SideLiesIn s (side_at axis part) → LiesIn (with_side axis part s) part
+with_inside zero part s l h zero = h
+with_inside zero part s l h (suc zero) = l 1
+with_inside zero part s l h (suc (suc n)) = l 2
+with_inside (suc zero) part s l h zero = l 0
+with_inside (suc zero) part s l h (suc zero) = h
+with_inside (suc zero) part s l h (suc (suc n)) = l 2
+with_inside (suc (suc m)) part s l h zero = l 0
+with_inside (suc (suc m)) part s l h (suc zero) = l 1
+with_inside (suc (suc m)) part s l h (suc (suc n)) = h
+
+with_in_grid : (axis : ℕ) (part : GridBox) (s : Side) → IsGridPart part → SideLiesIn s (side_at axis part) → IsGridPart (with_side axis part s)
+with_in_grid axis part s grid inside = inside_part (with_side axis part s) part (with_inside axis part s grid.lies inside) grid
+
+opened_in_grid : (rows : List Row) (rules : Rules) (splits id : ℕ) (step : Step) (part : GridBox) → Closes rows rules splits id part step → IsGridPart part → AreGridBoxes (opened_by splits step part)
+opened_in_grid rows rules splits id (Outside n) part ends grid = tt
+opened_in_grid rows rules splits id (Inside n clock lo hi) part ends grid = tt
+opened_in_grid rows rules splits id (Edge n lo hi) part ends grid = tt
+opened_in_grid rows rules splits id (Split n axis) part (is, undecided, may, longest) grid = (
+  with_in_grid axis part (low_half (side_at axis part)) grid (low_inside (side_at axis part) (grid.lies axis).ordered),
+  (
+    with_in_grid axis part (high_half (side_at axis part)) grid (high_inside (side_at axis part) (omega (arith, ints, longest.longest, may.0, rules.wide))),
+    tt,
+  ),
+)
+opened_in_grid rows rules splits id (Cut n face bound) part ends grid = absurd ends
+
+-- what a box opens, behind other boxes of the grid
+box_in_grid : (rows : List Row) (rules : Rules) (splits : ℕ) (next : WaitingBox) (rest : List WaitingBox) (own : List ShownStep) → AreStepsOf rows rules splits next own
+    → IsGridPart next.part → AreGridBoxes rest → AreGridBoxes (beyond_all (record { waiting = rest; splits = splits }) own).waiting
+box_in_grid rows rules splits next rest own are grid others =
+    let left : IsGridPart are.left = inside_part are.left next.part (cuts_inside _ _ rows rules next are.cuts are.left grid are.are_cuts) grid in
+    subst (λ (p : Paving). AreGridBoxes p.waiting) (sym (box_opens rows rules splits next own (record { waiting = rest; splits = splits }) are))
+    (grid_both rest (opened_by splits are.last are.left) others (opened_in_grid rows rules splits next.id are.last are.left are.closes left))
+
+pub paves_in_grid : (rows : List Row) (rules : Rules) (start middle : Paving) (boxes : List (List ShownStep)) → PavesTo rows rules start boxes middle → AreGridBoxes start.waiting → AreGridBoxes middle.waiting
+paves_in_grid rows rules start middle [] paves grid = subst (λ (p : Paving). AreGridBoxes p.waiting) paves grid
+paves_in_grid rows rules start middle (own ∷ boxes) (next, rest, n, are, later) grid =
+    let (here, others) = next_in_grid start.waiting next rest n grid in
+    paves_in_grid rows rules (beyond_all (record { waiting = rest; splits = start.splits }) own) middle boxes later (box_in_grid rows rules start.splits next rest own are here others)
+
+-- ---- the rest of a run
+
+grain_bounds : (part : GridBox) → (pos 1 ≤ℤ grain_for part) × (grain_for part ≤ℤ pos 1048576)
+grain_bounds part = elim (cases_Bool (nat_lt long_side (longest_length part))) [
+  | inl long ↦ rw long (omega (arith, ints), omega (arith, ints))
+  | inr short ↦ rw short (omega (arith, ints), omega (arith, ints))
 ]
 
-may_split : (rules : Rules) (splits : ℕ) (part : GridBox) → MaySplit rules splits part ⊎ MayNotSplit rules splits part
-may_split rules splits part = elim (cases_Bool (lt_z rules.width (pos (longest_length part)))) [
-  | inl longer ↦ elim (cases_lt splits rules.bisections) [
-    | inl left ↦ inl (omega (arith, ints, longer), left)
-    | inr none_left ↦ inr (inr none_left)
-  ]
-  | inr no_longer ↦ inr (inl (omega (arith, ints, no_longer)))
-]
+-- each box of the grid has its steps
+pub own_steps_exist : (rows : List Row) (rules : Rules) (splits : ℕ) (box : WaitingBox) → rules.outliers < length rows → IsGridPart box.part → (own : List ShownStep) × AreStepsOf rows rules splits box own
+own_steps_exist rows rules splits box enough grid =
+    let (one, most) = grain_bounds box.part in
+    box_steps_exist (grain_for box.part) rows rules splits box one most enough grid
 
--- each box has its step
-pub ending_exists : (rows : List Row) (rules : Rules) (splits id : ℕ) (part : GridBox) → rules.outliers < length rows → (step : Step) × Closes rows rules splits id part step
-ending_exists rows rules splits id part enough =
-    let some : 0 < length rows - rules.outliers = omega arith in
-    elim (relaxed_hull (clock_spans part rows) (length rows - rules.outliers) some) [
-      | inl none ↦ (Outside id, (refl, none))
-      | inr (lo, hi, hull) ↦ elim (least_relaxed (inner_spans part rows) (length rows - rules.outliers) some) [
-        | inr (clock, least) ↦ (Inside id clock lo hi, (refl, record { shown = least.lies; least = least.least }, hull))
-        | inl not_inner ↦
-            let undecided : IsUndecided rows rules part = record { not_empty = λ none. none lo hull.lo_lies; not_inner = not_inner } in
-            elim (may_split rules splits part) [
-              | inl may ↦ let (axis, longest) = longest_axis_exists part in (Split id axis, (refl, undecided, may, longest))
-              | inr may_not ↦ (Edge id lo hi, (refl, undecided, may_not, hull))
-            ]
-      ]
-    ]
-
--- the rest of a run
 pub record HasRest (rows : List Row) (rules : Rules) (paving : Paving) : Type 0 where
   pub boxes : List (List ShownStep)
   pub last : Paving
@@ -143,15 +186,17 @@ work_less rows rules waiting rest splits id (Split n axis) part (is, undecided, 
     omega (arith, one, may.1, length-append rest (opened_by splits (Split n axis) part))
 work_less rows rules waiting rest splits id (Cut n face bound) part ends one = absurd ends
 
-rest_up_to : (rows : List Row) (rules : Rules) (fuel : ℕ) (waiting : List WaitingBox) (splits : ℕ) → rules.outliers < length rows
+rest_up_to : (rows : List Row) (rules : Rules) (fuel : ℕ) (waiting : List WaitingBox) (splits : ℕ) → rules.outliers < length rows → AreGridBoxes waiting
     → work rules (record { waiting = waiting; splits = splits }) ≤ fuel → HasRest rows rules (record { waiting = waiting; splits = splits })
-rest_up_to rows rules fuel [] splits enough le = record { boxes = []; last = record { waiting = []; splits = splits }; paves = refl; none_waiting = refl }
-rest_up_to rows rules zero (box ∷ waiting) splits enough le = absurd (omega arith)
-rest_up_to rows rules (suc fuel) (box ∷ waiting) splits enough le =
+rest_up_to rows rules fuel [] splits enough grid le = record { boxes = []; last = record { waiting = []; splits = splits }; paves = refl; none_waiting = refl }
+rest_up_to rows rules zero (box ∷ waiting) splits enough grid le = absurd (omega arith)
+rest_up_to rows rules (suc fuel) (box ∷ waiting) splits enough grid le =
     let n = some_next box waiting in
-    let (step, ends) = ending_exists rows rules splits n.next.id n.next.part enough in
-    let shown : ShownStep = record { step = step; part = n.next.part } in
-    let now : Paving = beyond (record { waiting = n.rest; splits = splits }) shown in
+    let (here, others) = next_in_grid (box ∷ waiting) n.next n.rest n.is_next grid in
+    let (own, are) = own_steps_exist rows rules splits n.next enough here in
+    let rested : Paving = record { waiting = n.rest; splits = splits } in
+    let now : Paving = beyond rested (record { step = are.last; part = are.left }) in
+    let opens : beyond_all rested own ≡ now = box_opens rows rules splits n.next own rested are in
     let one : length (box ∷ waiting) ≡ length n.rest + 1 = omega (
       arith,
       ap length n.is_next.all_waiting,
@@ -159,36 +204,64 @@ rest_up_to rows rules (suc fuel) (box ∷ waiting) splits enough le =
       length-append n.is_next.before (n.next ∷ n.is_next.behind),
       length-append n.is_next.before n.is_next.behind,
     ) in
-    let less = work_less rows rules (box ∷ waiting) n.rest splits n.next.id step n.next.part ends one in
-    let later = rest_up_to rows rules fuel now.waiting now.splits enough (omega (arith, less, le)) in
+    let less = work_less rows rules (box ∷ waiting) n.rest splits n.next.id are.last are.left are.closes one in
+    let now_grid : AreGridBoxes now.waiting = subst (λ (p : Paving). AreGridBoxes p.waiting) opens (box_in_grid rows rules splits n.next n.rest own are here others) in
+    let later = rest_up_to rows rules fuel now.waiting now.splits enough now_grid (omega (arith, less, le)) in
     record {
-      boxes = (shown ∷ []) ∷ later.boxes;
+      boxes = own ∷ later.boxes;
       last = later.last;
-      paves = (n.next, n.rest, n.is_next, (refl, ends), later.paves);
+      paves = (n.next, n.rest, n.is_next, are, subst (λ (p : Paving). PavesTo rows rules p later.boxes later.last) (sym opens) later.paves);
       none_waiting = later.none_waiting;
     }
 
-joined_append : (xs ys : List (List ShownStep)) → joined (xs ++ ys) ≡ joined xs ++ joined ys
+pub joined_append : (xs ys : List (List ShownStep)) → joined (xs ++ ys) ≡ joined xs ++ joined ys
 joined_append [] ys = refl
 joined_append (own ∷ xs) ys = ap (λ l. own ++ l) (joined_append xs ys) ∙ sym (append_assoc own (joined xs) (joined ys))
 
-paves_on : (rows : List Row) (rules : Rules) (xs ys : List (List ShownStep)) (start middle last : Paving)
+pub paves_on : (rows : List Row) (rules : Rules) (xs ys : List (List ShownStep)) (start middle last : Paving)
     → PavesTo rows rules start xs middle → PavesTo rows rules middle ys last → PavesTo rows rules start (xs ++ ys) last
 paves_on rows rules [] ys start middle last first second = subst (λ (p : Paving). PavesTo rows rules p ys last) (sym first) second
 paves_on rows rules (own ∷ xs) ys start middle last (next, rest, is, own_is, later) second =
     (next, rest, is, own_is, paves_on rows rules xs ys (beyond_all (record { waiting = rest; splits = start.splits }) own) middle last later second)
 
--- the steps begin a whole run
-pub begins_run : (rows : List Row) (rules : Rules) (root : GridBox) (boxes : List (List ShownStep)) (middle : Paving) → rules.outliers < length rows
-    → PavesTo rows rules (first_paving root) boxes middle → PavedFirst rows rules root (joined boxes)
+-- the boxes so far begin a whole run
+pub begins_run : (rows : List Row) (rules : Rules) (root : Box3) (boxes : List (List ShownStep)) (middle : Paving) → rules.outliers < length rows
+    → PavesTo rows rules (first_paving (grid_box root)) boxes middle → PavedFirst rows rules (grid_box root) (joined boxes)
 begins_run rows rules root boxes middle enough paves =
-    let r = rest_up_to rows rules (work rules middle) middle.waiting middle.splits enough (omega arith) in record {
+    let grid = paves_in_grid rows rules (first_paving (grid_box root)) middle boxes paves (grid_part root, tt) in
+    let r = rest_up_to rows rules (work rules middle) middle.waiting middle.splits enough grid (omega arith) in record {
       more = joined r.boxes;
       whole = record {
         boxes = boxes ++ r.boxes;
         all_steps = sym (joined_append boxes r.boxes);
         last = r.last;
-        paves = paves_on rows rules boxes r.boxes (first_paving root) middle r.last paves r.paves;
+        paves = paves_on rows rules boxes r.boxes (first_paving (grid_box root)) middle r.last paves r.paves;
         none_waiting = r.none_waiting;
       };
     }
+
+-- what begins a run begins with what begins it
+pub begins_earlier : (rows : List Row) (rules : Rules) (root : GridBox) (xs ys : List ShownStep) → PavedFirst rows rules root (xs ++ ys) → PavedFirst rows rules root xs
+begins_earlier rows rules root xs ys first = record {
+  more = ys ++ first.more;
+  whole = subst (λ (l : List ShownStep). Paved rows rules root l) (append_assoc xs ys first.more) first.whole;
+}
+
+two_lists : (a b : List ShownStep) (shown : ShownStep) (more : List ShownStep) → a ++ (b ++ shown ∷ more) ≡ ((a ++ b) ++ shown ∷ []) ++ more
+two_lists a b shown more = sym (append_assoc (a ++ b) (shown ∷ []) more ∙ append_assoc a b (shown ∷ more))
+
+-- so do the boxes so far and the first steps of the next one
+pub begins_within_box : (rows : List Row) (rules : Rules) (root : Box3) (boxes : List (List ShownStep)) (middle : Paving) (next : WaitingBox) (rest : List WaitingBox)
+    (steps : List ShownStep) (shown : ShownStep) (more : List ShownStep) → rules.outliers < length rows
+    → PavesTo rows rules (first_paving (grid_box root)) boxes middle → IsNext middle.waiting next rest → AreStepsOf rows rules middle.splits next (steps ++ shown ∷ more)
+    → PavedFirst rows rules (grid_box root) ((joined boxes ++ steps) ++ shown ∷ [])
+begins_within_box rows rules root boxes middle next rest steps shown more enough paves is are =
+    let own : List ShownStep = steps ++ shown ∷ more in
+    let last : Paving = beyond_all (record { waiting = rest; splits = middle.splits }) own in
+    let on : PavesTo rows rules (first_paving (grid_box root)) (boxes ++ own ∷ []) last
+    = paves_on rows rules boxes (own ∷ []) (first_paving (grid_box root)) middle last paves (next, rest, is, are, refl) in
+    let all : joined (boxes ++ own ∷ []) ≡ ((joined boxes ++ steps) ++ shown ∷ []) ++ more
+    = joined_append boxes (own ∷ []) ∙ ap (λ l. joined boxes ++ l) (append-nil own) ∙ two_lists (joined boxes) steps shown more in
+    begins_earlier rows rules (grid_box root) ((joined boxes ++ steps) ++ shown ∷ []) more
+    (subst (λ (l : List ShownStep). PavedFirst rows rules (grid_box root) l) all
+    (begins_run rows rules root (boxes ++ own ∷ []) last enough on))

@@ -1,6 +1,6 @@
 -- The steps of a whole run pass all tests.
 use Rattle.std.proofs.Common.{◌≡◌, ℕ, zero, suc, ◌+◌, ◌*◌, ◌<◌, arith, List, [], ◌∷◌, ◌++◌, length, get_or, set, cond, nat_eq, eq-eqb, Option, None, Some, inl, inr, refl, sym, ap, subst, ◌∙◌, append_assoc}
-use Rattle.std.specs.Prelude.{◌≢◌}
+use Rattle.std.specs.Prelude.{◌≢◌, ℤ}
 use Rattle.std.proofs.lemmas.Int.{ints}
 use Rattle.std.proofs.lemmas.Bool.{cases_lt, cases_eq, ne_eqb}
 use Rattle.std.proofs.lemmas.List.{get_or-set_same, get_or-set_other, get_or_append_left, get_or_past, get_or_push, length-append, append-nil}
@@ -11,12 +11,93 @@ use Rattle.sat_model.specs.declared.steps.Step.{Step}
 use Rattle.sat_model.specs.declared.steps.Step.TheVariants.{Cut, Split, Outside, Inside, Edge}
 use Rattle.sat_model.specs.Boxes.{GridBox, side_at, with_side, low_half, high_half}
 use Rattle.sat_model.specs.Cover.{EpochCover}
-use Rattle.sat_model.specs.Fold.{Stage, first_stage, live_box, halves, after, ShownStep, pieces}
+use Rattle.sat_model.specs.Fold.{Stage, first_stage, live_box, left_by_cut, halves, after, ShownStep, pieces}
 use Rattle.sat_model.specs.Verdicts.{StepPasses, StepsPass}
-use Rattle.sat_model.specs.Paved.{WaitingBox, Paving, first_paving, IsNext, Closes, halves_from, beyond, joined, steps_of}
-use Rattle.paving.specs.Paved.{PavesTo, Paved}
+use Rattle.sat_model.specs.Paved.{WaitingBox, Paving, first_paving, IsNext, Closes, halves_from, beyond, beyond_all, joined, steps_of}
+use Rattle.box_steps.specs.Cuts.{Bounds, proposed, eighths, all_faces, MayCut, cut_shown, IsFaceCut, AreFacesCut, AreProposalCuts, AreRounds}
+use Rattle.box_steps.specs.BoxSteps.{AreCutsOf}
+use Rattle.paving.specs.Paved.{AreStepsOf, PavesTo, Paved}
 use Rattle.sat_model.proofs.AmountLemmas.{above_is}
 use Rattle.sat_model.proofs.CoverLemmas.{epoch_cover}
+
+-- ---- cuts, one after another
+
+-- each step cuts off a slab that is shown empty of what the cuts before it left
+abbrev pub AreCutsInTurn : List Row → ℕ → ℕ → GridBox → List ShownStep → GridBox → Type 0
+AreCutsInTurn rows q id part [] left = left ≡ part
+AreCutsInTurn rows q id part (shown ∷ more) left =
+    (face : ℕ) × (bound : ℤ) × MayCut rows q face bound part × (shown ≡ cut_shown id face bound part)
+    × AreCutsInTurn rows q id (left_by_cut face bound part) more left
+
+cuts_both : (rows : List Row) (q id : ℕ) (part : GridBox) (xs ys : List ShownStep) (middle left : GridBox) → AreCutsInTurn rows q id part xs middle → AreCutsInTurn rows q id middle ys left
+    → AreCutsInTurn rows q id part (xs ++ ys) left
+cuts_both rows q id part [] ys middle left same later = subst (λ (c : GridBox). AreCutsInTurn rows q id c ys left) same later
+cuts_both rows q id part (x ∷ xs) ys middle left (face, bound, may, is, more) later =
+    (face, bound, may, is, cuts_both rows q id (left_by_cut face bound part) xs ys middle left more later)
+
+no_cuts : (rows : List Row) (q id : ℕ) (part : GridBox) (steps : List ShownStep) (left : GridBox) → steps ≡ [] → left ≡ part → AreCutsInTurn rows q id part steps left
+no_cuts rows q id part steps left none same = rw none same
+
+pub face_in_turn : (rows : List Row) (q id face : ℕ) (bound : ℤ) (part : GridBox) (steps : List ShownStep) (left : GridBox) → IsFaceCut rows q id face bound part steps left
+    → AreCutsInTurn rows q id part steps left
+face_in_turn rows q id face bound part steps left is = elim is [
+  | inl (may, one, cut) ↦ rw one (face, bound, may, refl, cut)
+  | inr (not, none, same) ↦ no_cuts rows q id part steps left none same
+]
+
+faces_in_turn : (rows : List Row) (q id : ℕ) (bounds : Bounds) (faces : List ℕ) (part : GridBox) (steps : List ShownStep) (left : GridBox) → AreFacesCut rows q id bounds faces part steps left
+    → AreCutsInTurn rows q id part steps left
+faces_in_turn rows q id bounds [] part steps left (none, same) = no_cuts rows q id part steps left none same
+faces_in_turn rows q id bounds (face ∷ faces) part steps left (own, middle, more, is, others, join) =
+    rw join (cuts_both rows q id part own more middle left (face_in_turn rows q id face (bounds face part) part own middle is) (faces_in_turn rows q id bounds faces middle more left others))
+
+proposal_in_turn : (rows : List Row) (q id : ℕ) (answer : Option GridBox) (part : GridBox) (steps : List ShownStep) (left : GridBox) → AreProposalCuts rows q id answer part steps left
+    → AreCutsInTurn rows q id part steps left
+proposal_in_turn rows q id None part steps left (none, same) = no_cuts rows q id part steps left none same
+proposal_in_turn rows q id (Some a) part steps left are = faces_in_turn rows q id (proposed a) all_faces part steps left are
+
+rounds_in_turn : (rows : List Row) (q id : ℕ) (part : GridBox) (rounds : List (List ShownStep)) (left : GridBox) → AreRounds rows q id part rounds left
+    → AreCutsInTurn rows q id part (joined rounds) left
+rounds_in_turn rows q id part [] left are = absurd are
+rounds_in_turn rows q id part (round ∷ []) left (cut, none) =
+    subst (λ (l : List ShownStep). AreCutsInTurn rows q id part l left) (sym (append-nil round)) (faces_in_turn rows q id eighths all_faces part round left cut)
+rounds_in_turn rows q id part (round ∷ (second ∷ more)) left (middle, cut, some, later) =
+    cuts_both rows q id part round (joined (second ∷ more)) middle left (faces_in_turn rows q id eighths all_faces part round middle cut)
+    (rounds_in_turn rows q id middle (second ∷ more) left later)
+
+-- so are all cuts of a box
+pub cuts_in_turn : (grain slack : ℤ) (rows : List Row) (rules : Rules) (box : WaitingBox) (cuts : List ShownStep) (left : GridBox) → AreCutsOf grain slack rows rules box cuts left
+    → AreCutsInTurn rows rules.outliers box.id box.part cuts left
+cuts_in_turn grain slack rows rules box cuts left are = elim are [
+  | inr (decided, none, same) ↦ no_cuts rows rules.outliers box.id box.part cuts left none same
+  | inl down ↦
+      let (rounds, are_rounds, join) = down.eighth_cuts in
+      rw (down.all_cuts, join)
+      (cuts_both rows rules.outliers box.id box.part down.by_tree (joined rounds) down.middle left
+      (proposal_in_turn rows rules.outliers box.id down.tree_cuts.answer box.part down.by_tree down.middle down.tree_cuts.are)
+      (rounds_in_turn rows rules.outliers box.id down.middle rounds left are_rounds))
+]
+
+abbrev waits : ℕ → List WaitingBox → Paving
+waits splits waiting = record { waiting = waiting; splits = splits }
+
+-- cuts open no box
+pub cuts_open_none : (rows : List Row) (q id : ℕ) (part : GridBox) (cuts more : List ShownStep) (left : GridBox) (paving : Paving) → AreCutsInTurn rows q id part cuts left
+    → beyond_all paving (cuts ++ more) ≡ beyond_all paving more
+cuts_open_none rows q id part [] more left paving same = refl
+cuts_open_none rows q id part (shown ∷ cuts) more left paving (face, bound, may, is, later) =
+    cuts_open_none rows q id (left_by_cut face bound part) cuts more left (beyond paving shown) later
+    ∙ ap (λ (p : Paving). beyond_all p more) (ap (beyond paving) is ∙ ap (waits paving.splits) (append-nil paving.waiting))
+
+-- so only the last step of a box does
+pub box_opens : (rows : List Row) (rules : Rules) (splits : ℕ) (box : WaitingBox) (own : List ShownStep) (paving : Paving) → (are : AreStepsOf rows rules splits box own)
+    → beyond_all paving own ≡ beyond paving (record { step = are.last; part = are.left })
+box_opens rows rules splits box own paving are =
+    ap (beyond_all paving) are.all_steps
+    ∙ cuts_open_none rows rules.outliers box.id box.part are.cuts ((record { step = are.last; part = are.left }) ∷ []) are.left paving
+    (cuts_in_turn _ _ rows rules box are.cuts are.left are.are_cuts)
+
+-- ---- the boxes that wait, and the live ones
 
 -- the box of a number, as a list
 abbrev pub boxes_in : Option GridBox → List GridBox
@@ -68,31 +149,97 @@ within_live live id c e = elim (cases_lt id (length live)) [
   | inr past ↦ let none = get_or_past live id None past in absurd cc
 ]
 
--- the next box is live, and the others stay live without it
-pub record IsOut (next : WaitingBox) (rest : List WaitingBox) (live : List (Option GridBox)) : Type 0 where
-  pub is_live : get_or live next.id None ≡ Some next.part
-  pub others : AreLive rest (set live next.id None)
+-- the box of that number is live as this part, and the boxes of rest are the other live ones
+pub record IsInWork (id : ℕ) (part : GridBox) (rest : List WaitingBox) (splits : ℕ) (st : Stage) : Type 0 where
+  pub is_live : get_or st.live id None ≡ Some part
+  pub others : AreLive rest (set st.live id None)
+  pub given : length st.live ≡ 2 * splits + 1
+  pub splits_is : st.splits ≡ splits
 
-pub taken_out : (waiting : List WaitingBox) (next : WaitingBox) (rest : List WaitingBox) (live : List (Option GridBox))
-    → IsNext waiting next rest → AreLive waiting live → IsOut next rest live
-taken_out waiting next rest live n are =
-    let parts : (id : ℕ) → parts_with id waiting ≡ parts_with id n.before ++ parts_with id (next ∷ n.behind)
+-- the next box is taken up
+pub taken_up : (paving : Paving) (next : WaitingBox) (rest : List WaitingBox) (st : Stage) → IsNext paving.waiting next rest → IsStageOf paving st
+    → IsInWork next.id next.part rest paving.splits st
+taken_up paving next rest st n stage =
+    let parts : (id : ℕ) → parts_with id paving.waiting ≡ parts_with id n.before ++ parts_with id (next ∷ n.behind)
     = λ id. ap (parts_with id) n.all_waiting ∙ parts_append id n.before (next ∷ n.behind) in
     let rests : (id : ℕ) → parts_with id rest ≡ parts_with id n.before ++ parts_with id n.behind
     = λ id. ap (parts_with id) n.others ∙ parts_append id n.before n.behind in
-    let here : parts_with next.id n.before ++ next.part ∷ parts_with next.id n.behind ≡ boxes_in (get_or live next.id None)
-    = ap (λ l. parts_with next.id n.before ++ l) (sym (with_yes next next.id n.behind refl)) ∙ sym (parts next.id) ∙ are next.id in
+    let here : parts_with next.id n.before ++ next.part ∷ parts_with next.id n.behind ≡ boxes_in (get_or st.live next.id None)
+    = ap (λ l. parts_with next.id n.before ++ l) (sym (with_yes next next.id n.behind refl)) ∙ sym (parts next.id) ∙ stage.live next.id in
     let (is, none_before, none_behind) = only_one _ _ next.part _ here in
     record {
       is_live = is;
       others = λ id. elim (cases_eq id next.id) [
-        | inl same ↦ subst (λ (i : ℕ). parts_with i rest ≡ boxes_in (get_or (set live next.id None) i None)) (sym same)
+        | inl same ↦ subst (λ (i : ℕ). parts_with i rest ≡ boxes_in (get_or (set st.live next.id None) i None)) (sym same)
             (rests next.id ∙ ap (λ l. l ++ parts_with next.id n.behind) none_before ∙ none_behind
-            ∙ ap boxes_in (sym (get_or-set_same live next.id None None (within_live live next.id next.part is))))
-        | inr apart ↦ rests id ∙ ap (λ l. parts_with id n.before ++ l) (sym (with_no next id n.behind (λ e. apart (sym e)))) ∙ sym (parts id) ∙ are id
-            ∙ ap boxes_in (sym (get_or-set_other live next.id id None None apart))
+            ∙ ap boxes_in (sym (get_or-set_same st.live next.id None None (within_live st.live next.id next.part is))))
+        | inr apart ↦ rests id ∙ ap (λ l. parts_with id n.before ++ l) (sym (with_no next id n.behind (λ e. apart (sym e)))) ∙ sym (parts id) ∙ stage.live id
+            ∙ ap boxes_in (sym (get_or-set_other st.live next.id id None None apart))
       ];
+      given = stage.given;
+      splits_is = stage.splits;
     }
+
+-- ---- the steps of a box, from stage to stage
+
+-- the steps pass their tests, one after another
+abbrev pub AllPass : List Row → Rules → Stage → List ShownStep → Type 0
+AllPass rows rules st [] = Unit {0}
+AllPass rows rules st (shown ∷ more) = StepPasses rows rules st shown.step × AllPass rows rules (after st shown.step) more
+
+abbrev pub stage_after : Stage → List ShownStep → Stage
+stage_after st [] = st
+stage_after st (shown ∷ more) = stage_after (after st shown.step) more
+
+pub pass_both : (rows : List Row) (rules : Rules) (st : Stage) (xs ys : List ShownStep) → AllPass rows rules st xs → AllPass rows rules (stage_after st xs) ys → AllPass rows rules st (xs ++ ys)
+pass_both rows rules st [] ys first later = later
+pass_both rows rules st (x ∷ xs) ys (here, first) later = (here, pass_both rows rules (after st x.step) xs ys first later)
+
+pub stage_both : (st : Stage) (xs ys : List ShownStep) → stage_after st (xs ++ ys) ≡ stage_after (stage_after st xs) ys
+stage_both st [] ys = refl
+stage_both st (x ∷ xs) ys = stage_both (after st x.step) xs ys
+
+-- the steps pass, and the box stays in work as what they leave of it
+pub record StaysInWork (rows : List Row) (rules : Rules) (id : ℕ) (left : GridBox) (rest : List WaitingBox) (splits : ℕ) (st : Stage) (steps : List ShownStep) : Type 0 where
+  pub pass : AllPass rows rules st steps
+  pub in_work : IsInWork id left rest splits (stage_after st steps)
+
+set_twice : (live : List (Option GridBox)) (id : ℕ) (a b : Option GridBox) → set (set live id a) id b ≡ set live id b
+set_twice [] id a b = refl
+set_twice (o ∷ live) zero a b = refl
+set_twice (o ∷ live) (suc id) a b = ap (λ l. o ∷ l) (set_twice live id a b)
+
+cut_in_work : (id face : ℕ) (bound : ℤ) (part : GridBox) (rest : List WaitingBox) (splits : ℕ) (st : Stage) → IsInWork id part rest splits st
+    → IsInWork id (left_by_cut face bound part) rest splits (after st (Cut id face bound))
+cut_in_work id face bound part rest splits st w =
+    let left : Option GridBox = Some (left_by_cut face bound part) in
+    rw w.is_live
+    (record {
+      is_live = get_or-set_same st.live id left None (within_live st.live id part w.is_live);
+      others = subst (λ (l : List (Option GridBox)). AreLive rest l) (sym (set_twice st.live id left None)) w.others;
+      given = length-set st.live id left ∙ w.given;
+      splits_is = w.splits_is;
+    })
+
+in_turn_go_on : (rows : List Row) (rules : Rules) (id : ℕ) (part : GridBox) (steps : List ShownStep) (left : GridBox) (rest : List WaitingBox) (splits : ℕ) (st : Stage)
+    → AreCutsInTurn rows rules.outliers id part steps left → IsInWork id part rest splits st → StaysInWork rows rules id left rest splits st steps
+in_turn_go_on rows rules id part [] left rest splits st same w = record { pass = tt; in_work = rw same w }
+in_turn_go_on rows rules id part (shown ∷ steps) left rest splits st (face, bound, may, is, later) w =
+    let w2 = cut_in_work id face bound part rest splits st w in
+    let r = in_turn_go_on rows rules id (left_by_cut face bound part) steps left rest splits (after st (Cut id face bound)) later w2 in
+    rw is (record { pass = ((part, w.is_live, may), r.pass); in_work = r.in_work })
+
+-- a face is cut, or isn't
+pub face_cut_goes_on : (rows : List Row) (rules : Rules) (id face : ℕ) (bound : ℤ) (part : GridBox) (steps : List ShownStep) (left : GridBox) (rest : List WaitingBox) (splits : ℕ) (st : Stage)
+    → IsFaceCut rows rules.outliers id face bound part steps left → IsInWork id part rest splits st → StaysInWork rows rules id left rest splits st steps
+face_cut_goes_on rows rules id face bound part steps left rest splits st is w =
+    in_turn_go_on rows rules id part steps left rest splits st (face_in_turn rows rules.outliers id face bound part steps left is) w
+
+-- all cuts of a box
+pub cuts_go_on : (grain slack : ℤ) (rows : List Row) (rules : Rules) (box : WaitingBox) (cuts : List ShownStep) (left : GridBox) (rest : List WaitingBox) (splits : ℕ) (st : Stage)
+    → AreCutsOf grain slack rows rules box cuts left → IsInWork box.id box.part rest splits st → StaysInWork rows rules box.id left rest splits st cuts
+cuts_go_on grain slack rows rules box cuts left rest splits st are w =
+    in_turn_go_on rows rules box.id box.part cuts left rest splits st (cuts_in_turn grain slack rows rules box cuts left are) w
 
 -- one more box is opened under the next number
 pub one_opened : (waiting : List WaitingBox) (live : List (Option GridBox)) (id : ℕ) (part : GridBox) → AreLive waiting live → id ≡ length live
@@ -115,7 +262,7 @@ one_opened waiting live id part are next other =
           ]
     ]
 
--- each step of a run passes its tests
+-- the last step of a box passes its tests
 pub step_passes : (rows : List Row) (rules : Rules) (st : Stage) (splits id : ℕ) (part : GridBox) (step : Step)
     → live_box st id ≡ Some part → st.splits ≡ splits → Closes rows rules splits id part step → StepPasses rows rules st step
 step_passes rows rules st splits id part (Outside n) is same (n_is, empty) = (part, rw n_is is, empty)
@@ -129,45 +276,71 @@ step_passes rows rules st splits id part (Split n axis) is same (n_is, undecided
 )
 step_passes rows rules st splits id part (Cut n face bound) is same ends = absurd ends
 
--- the stage after a step is that of the paving after it
-pub stage_goes_on : (rows : List Row) (rules : Rules) (st : Stage) (splits : ℕ) (next : WaitingBox) (rest : List WaitingBox) (step : Step) (part : GridBox)
-    → part ≡ next.part → Closes rows rules splits next.id next.part step → IsOut next rest st.live → length st.live ≡ 2 * splits + 1 → st.splits ≡ splits
+-- a box that is closed is gone, and the others are as they were
+closed_stage : (id n : ℕ) (part : GridBox) (rest : List WaitingBox) (splits : ℕ) (st : Stage) → n ≡ id → IsInWork id part rest splits st
+    → IsStageOf (record { waiting = rest ++ []; splits = splits }) (record { live = set st.live n None; splits = st.splits })
+closed_stage id n part rest splits st n_is w = record {
+  live = rw n_is (subst (λ (l : List WaitingBox). AreLive l (set st.live id None)) (sym (append-nil rest)) w.others);
+  given = length-set st.live n None ∙ w.given;
+  splits = w.splits_is;
+}
+
+-- the stage after the last step of a box is that of the paving after it
+stage_goes_on : (rows : List Row) (rules : Rules) (id : ℕ) (part : GridBox) (rest : List WaitingBox) (splits : ℕ) (st : Stage) (step : Step)
+    → Closes rows rules splits id part step → IsInWork id part rest splits st
     → IsStageOf (beyond (record { waiting = rest; splits = splits }) (record { step = step; part = part })) (after st step)
-stage_goes_on rows rules st splits next rest (Outside n) part is (n_is, ends) out given same = record {
-  live = rw n_is (subst (λ (l : List WaitingBox). AreLive l (set st.live next.id None)) (sym (append-nil rest)) out.others);
-  given = length-set st.live n None ∙ given;
-  splits = same;
-}
-stage_goes_on rows rules st splits next rest (Inside n clock lo hi) part is (n_is, least, hull) out given same = record {
-  live = rw n_is (subst (λ (l : List WaitingBox). AreLive l (set st.live next.id None)) (sym (append-nil rest)) out.others);
-  given = length-set st.live n None ∙ given;
-  splits = same;
-}
-stage_goes_on rows rules st splits next rest (Edge n lo hi) part is (n_is, undecided, may_not, hull) out given same = record {
-  live = rw n_is (subst (λ (l : List WaitingBox). AreLive l (set st.live next.id None)) (sym (append-nil rest)) out.others);
-  given = length-set st.live n None ∙ given;
-  splits = same;
-}
-stage_goes_on rows rules st splits next rest (Split n axis) part is (n_is, undecided, may, longest) out given same =
-    let low : GridBox = with_side axis next.part (low_half (side_at axis next.part)) in
-    let high : GridBox = with_side axis next.part (high_half (side_at axis next.part)) in
-    let first : AreLive (rest ++ (record { id = 2 * splits + 1; part = low }) ∷ []) (set st.live next.id None ++ Some low ∷ [])
-    = one_opened rest (set st.live next.id None) (2 * splits + 1) low out.others (omega (arith, length-set st.live next.id None)) in
-    let both = one_opened (rest ++ (record { id = 2 * splits + 1; part = low }) ∷ []) (set st.live next.id None ++ Some low ∷ []) (2 * splits + 1 + 1) high first
-    (omega (arith, length-set st.live next.id None, length-append (set st.live next.id None) (Some low ∷ []))) in
-    let lists : (rest ++ (record { id = 2 * splits + 1; part = low }) ∷ []) ++ (record { id = 2 * splits + 1 + 1; part = high }) ∷ [] ≡ rest ++ halves_from (2 * splits + 1) axis next.part
+stage_goes_on rows rules id part rest splits st (Outside n) (n_is, ends) w = closed_stage id n part rest splits st n_is w
+stage_goes_on rows rules id part rest splits st (Inside n clock lo hi) (n_is, least, hull) w = closed_stage id n part rest splits st n_is w
+stage_goes_on rows rules id part rest splits st (Edge n lo hi) (n_is, undecided, may_not, hull) w = closed_stage id n part rest splits st n_is w
+stage_goes_on rows rules id part rest splits st (Split n axis) (n_is, undecided, may, longest) w =
+    let low : GridBox = with_side axis part (low_half (side_at axis part)) in
+    let high : GridBox = with_side axis part (high_half (side_at axis part)) in
+    let first : AreLive (rest ++ (record { id = 2 * splits + 1; part = low }) ∷ []) (set st.live id None ++ Some low ∷ [])
+    = one_opened rest (set st.live id None) (2 * splits + 1) low w.others (omega (arith, length-set st.live id None, w.given)) in
+    let both = one_opened (rest ++ (record { id = 2 * splits + 1; part = low }) ∷ []) (set st.live id None ++ Some low ∷ []) (2 * splits + 1 + 1) high first
+    (omega (arith, length-set st.live id None, length-append (set st.live id None) (Some low ∷ []), w.given)) in
+    let lists : (rest ++ (record { id = 2 * splits + 1; part = low }) ∷ []) ++ (record { id = 2 * splits + 1 + 1; part = high }) ∷ [] ≡ rest ++ halves_from (2 * splits + 1) axis part
     = append_assoc rest ((record { id = 2 * splits + 1; part = low }) ∷ []) ((record { id = 2 * splits + 1 + 1; part = high }) ∷ []) in
-    let lives : (set st.live next.id None ++ Some low ∷ []) ++ Some high ∷ [] ≡ set st.live next.id None ++ halves axis (Some next.part)
-    = append_assoc (set st.live next.id None) (Some low ∷ []) (Some high ∷ []) in
-    let all : AreLive (rest ++ halves_from (2 * splits + 1) axis next.part) (set st.live next.id None ++ halves axis (Some next.part))
-    = subst (λ (l : List (Option GridBox)). AreLive (rest ++ halves_from (2 * splits + 1) axis next.part) l) lives
-    (subst (λ (w : List WaitingBox). AreLive w ((set st.live next.id None ++ Some low ∷ []) ++ Some high ∷ [])) lists both) in
+    let lives : (set st.live id None ++ Some low ∷ []) ++ Some high ∷ [] ≡ set st.live id None ++ halves axis (Some part)
+    = append_assoc (set st.live id None) (Some low ∷ []) (Some high ∷ []) in
+    let all : AreLive (rest ++ halves_from (2 * splits + 1) axis part) (set st.live id None ++ halves axis (Some part))
+    = subst (λ (l : List (Option GridBox)). AreLive (rest ++ halves_from (2 * splits + 1) axis part) l) lives
+    (subst (λ (o : List WaitingBox). AreLive o ((set st.live id None ++ Some low ∷ []) ++ Some high ∷ [])) lists both) in
     record {
-      live = rw (is, n_is, out.is_live) all;
-      given = rw (n_is, out.is_live) (omega (arith, length-append (set st.live next.id None) (halves axis (Some next.part)), length-set st.live next.id None));
-      splits = ap (λ s. s + 1) same;
+      live = rw (n_is, w.is_live) all;
+      given = rw (n_is, w.is_live) (omega (arith, length-append (set st.live id None) (halves axis (Some part)), length-set st.live id None, w.given));
+      splits = ap (λ s. s + 1) w.splits_is;
     }
-stage_goes_on rows rules st splits next rest (Cut n face bound) part is ends out given same = absurd ends
+stage_goes_on rows rules id part rest splits st (Cut n face bound) ends w = absurd ends
+
+-- the last step of a box
+pub last_goes_on : (rows : List Row) (rules : Rules) (id : ℕ) (left : GridBox) (rest : List WaitingBox) (splits : ℕ) (st : Stage) (step : Step)
+    → Closes rows rules splits id left step → IsInWork id left rest splits st
+    → StepPasses rows rules st step × IsStageOf (beyond (record { waiting = rest; splits = splits }) (record { step = step; part = left })) (after st step)
+last_goes_on rows rules id left rest splits st step ends w =
+    (step_passes rows rules st splits id left step w.is_live w.splits_is ends, stage_goes_on rows rules id left rest splits st step ends w)
+
+-- all steps of a box pass, and the stage after them is that of the paving after them
+pub box_goes_on : (rows : List Row) (rules : Rules) (next : WaitingBox) (own : List ShownStep) (rest : List WaitingBox) (splits : ℕ) (st : Stage)
+    → AreStepsOf rows rules splits next own → IsInWork next.id next.part rest splits st
+    → AllPass rows rules st own × IsStageOf (beyond_all (record { waiting = rest; splits = splits }) own) (stage_after st own)
+box_goes_on rows rules next own rest splits st are w =
+    let shown : ShownStep = record { step = are.last; part = are.left } in
+    let paving : Paving = record { waiting = rest; splits = splits } in
+    let c = cuts_go_on _ _ rows rules next are.cuts are.left rest splits st are.are_cuts w in
+    let (pass, stage) = last_goes_on rows rules next.id are.left rest splits (stage_after st are.cuts) are.last are.closes c.in_work in
+    let after_own : stage_after st own ≡ after (stage_after st are.cuts) are.last = ap (stage_after st) are.all_steps ∙ stage_both st are.cuts (shown ∷ []) in (
+      subst (λ (l : List ShownStep). AllPass rows rules st l) (sym are.all_steps) (pass_both rows rules st are.cuts (shown ∷ []) c.pass (pass, tt)),
+      subst (λ (p : Paving). IsStageOf p (stage_after st own)) (sym (box_opens rows rules splits next own paving are))
+          (subst (λ (s : Stage). IsStageOf (beyond paving shown) s) (sym after_own) stage),
+    )
+
+-- ---- a whole run
+
+pub passes_then : (rows : List Row) (rules : Rules) (done : ℕ) (st : Stage) (xs ys : List ShownStep) → AllPass rows rules st xs → StepsPass rows rules done (stage_after st xs) (steps_of ys)
+    → StepsPass rows rules done st (steps_of (xs ++ ys))
+passes_then rows rules done st [] ys first later = later
+passes_then rows rules done st (x ∷ xs) ys (here, first) later = (here, passes_then rows rules done (after st x.step) xs ys first later)
 
 pub passes_from : (rows : List Row) (rules : Rules) (paving last : Paving) (st : Stage) (boxes : List (List ShownStep))
     → PavesTo rows rules paving boxes last → IsStageOf paving st → last.waiting ≡ []
@@ -176,14 +349,10 @@ passes_from rows rules paving last st [] paves is none = (
   λ id. none_from (live_box st id) (ap (parts_with id) (sym none) ∙ ap (λ p. parts_with id p.waiting) (sym paves) ∙ is.live id),
   is.splits ∙ ap (λ p. p.splits) paves,
 )
-passes_from rows rules paving last st ([] ∷ boxes) (next, rest, n, own, later) is none = absurd own
-passes_from rows rules paving last st ((shown ∷ []) ∷ boxes) (next, rest, n, (part_is, ends), later) is none =
-    let out = taken_out paving.waiting next rest st.live n is.live in (
-      step_passes rows rules st paving.splits next.id next.part shown.step out.is_live is.splits ends,
-      passes_from rows rules (beyond (record { waiting = rest; splits = paving.splits }) shown) last (after st shown.step) boxes later
-          (stage_goes_on rows rules st paving.splits next rest shown.step shown.part part_is ends out is.given is.splits) none,
-    )
-passes_from rows rules paving last st ((first ∷ second ∷ more) ∷ boxes) (next, rest, n, own, later) is none = absurd own
+passes_from rows rules paving last st (own ∷ boxes) (next, rest, n, are, later) is none =
+    let (pass, stage) = box_goes_on rows rules next own rest paving.splits st are (taken_up paving next rest st n is) in
+    passes_then rows rules last.splits st own (joined boxes) pass
+    (passes_from rows rules (beyond_all (record { waiting = rest; splits = paving.splits }) own) last (stage_after st own) boxes later stage none)
 
 first_live : (root : GridBox) → AreLive ((record { id = 0; part = root }) ∷ []) (Some root ∷ [])
 first_live root zero = refl
