@@ -1,5 +1,5 @@
 -- How far the ends of a grown row's spans over a box are from those that the true values give.
-use Rattle.std.proofs.Common.{◌≡◌, ℕ, zero, suc, ◌+◌, ◌*◌, ◌<◌, ◌≤◌, arith, true, ap, ◌∙◌}
+use Rattle.std.proofs.Common.{◌≡◌, ℕ, zero, suc, ◌+◌, ◌*◌, ◌<◌, ◌≤◌, arith, true, ap}
 use Rattle.std.specs.Prelude.{ℤ, pos, ◌+ℤ◌, ◌-ℤ◌, ◌≤ℤ◌, None, unsigned_abs}
 use Rattle.std.proofs.lemmas.Int.{ints, by_lt_z}
 use Rattle.rinex_obs.specs.declared.obs.ObsEpoch.{ObsEpoch}
@@ -19,7 +19,7 @@ use Rattle.sat_rows.specs.Meanings.{Meaning, IsSound}
 use Rattle.sat_rows.specs.OwnRows.{HoldsAllowed, IsOwnRow}
 use Rattle.clear_boxes.specs.Clear.{HoldsRange, IsNearlyConsistent, IsSafelyConsistent}
 use Rattle.clear_boxes.specs.Grown.{IsGrownRow}
-use Rattle.clear_boxes.proofs.RootLemmas.{AxisPoint, root_grown, far_axis, near_axis}
+use Rattle.clear_boxes.proofs.RootLemmas.{root_grown, far_axis, near_axis}
 
 -- the first row holds what is allowed at the points of the box, each span at most w wide, and the
 -- second is wider by w at both ends

@@ -3,12 +3,18 @@
 ghost use Rattle.std.specs.Prelude.{◌≡◌, ◌*◌, ◌≤◌, ℕ, List, pos};
 ghost use Rattle.clear_boxes.specs.Clear.{IsEmptyBy, IsInnerBy};
 ghost use Rattle.clear_boxes.specs.Grown.{AreGrownLines};
+ghost use Rattle.clear_boxes.specs.Left.{NothingClearLeft};
+ghost use Rattle.clear_boxes.specs.Paved.{Paved};
+ghost use Rattle.epoch_selection.specs.Searches.{search_in};
 ghost use Rattle.rinex_obs.specs.declared.obs.ObsEpoch.{ObsEpoch};
-ghost use Rattle.sat_model.specs.Boxes.{GridBox};
+ghost use Rattle.sat_model.specs.Boxes.{GridBox, grid_box};
 ghost use Rattle.sat_model.specs.ClockSpans.{IsShownEmpty, IsShownInner};
 ghost use Rattle.sat_model.specs.Contractors.{LiesIn};
+ghost use Rattle.sat_model.specs.Fold.{ShownStep};
 ghost use Rattle.sat_model.specs.Lengths.{spare_of};
 ghost use Rattle.sat_model.specs.Logs.{rows_of};
+ghost use Rattle.sat_model.specs.declared.boxes.Box3.{Box3};
+ghost use Rattle.sat_model.specs.declared.rules.Rules.{Rules};
 ghost use Rattle.sat_model.specs.declared.satellites.SatEntry.{SatEntry};
 ghost use Rattle.sat_rows.specs.OwnRows.{AreLinesOf};
 ghost use Rattle.sat_rows.specs.declared.lines.SatLine.{SatLine};
@@ -30,4 +36,15 @@ pub fn clear_boxes_are_shown<S: RowSource>()
         → LiesIn part root → 6 * spare_of root ≤ margin
         → (clear : IsInnerBy (S.meaning source) epoch part margin q)
         → IsShownInner (rows_of sats) part q clear.offset }
+{}
+
+/// The law: a run over such rows of an epoch leaves nothing clear in its root. The call does nothing.
+pub fn nothing_clear_is_left<S: RowSource>()
+    ensures { (source : S) (rules : Rules) (epoch : ObsEpoch) (root : Box3)
+        (own : List SatLine) (sats : List SatEntry) (steps : List ShownStep)
+        → AreLinesOf (S.meaning source) (grid_box root) epoch own
+        → AreGrownLines (pos (spare_of (grid_box root))) own sats
+        → (run : Paved (rows_of sats) rules (grid_box root) steps)
+        → NothingClearLeft (S.meaning source) rules (search_in (grid_box root) epoch)
+        run.last.splits steps }
 {}

@@ -4,4 +4,4 @@
 
 mod laws;
 
-pub use laws::clear_boxes_are_shown;
+pub use laws::{clear_boxes_are_shown, nothing_clear_is_left};
