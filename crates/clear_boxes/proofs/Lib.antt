@@ -5,3 +5,4 @@ pub mod ListLemmas
 pub mod PavedLemmas
 pub mod PavedExists
 pub mod RunLemmas
+pub mod LogLemmas

@@ -1,17 +1,19 @@
 -- What a run leaves: no box that it splits, or closes at the edge, is clear, and no eighth at its
 -- faces.
-use Rattle.std.specs.Prelude.{◌≡◌, ℕ, ◌≤◌, pos, ◌<ℤ◌, List}
+use Rattle.std.specs.Prelude.{◌≡◌, ℕ, ◌≤◌, pos, ◌<ℤ◌, List, [], ◌∷◌, Option, None, Some}
 use Rattle.std.specs.List.{AllByRecursion}
 use Rattle.box_steps.specs.Cuts.{eighth_of, eighths}
 use Rattle.epoch_selection.specs.Searches.{Search}
 use Rattle.sat_model.specs.Boxes.{GridBox, side_at}
 use Rattle.sat_model.specs.Fold.{ShownStep, axis_of, slab_of_cut}
 use Rattle.sat_model.specs.Lengths.{longest_length}
+use Rattle.sat_model.specs.Logs.{Block}
 use Rattle.sat_model.specs.declared.rules.Rules.{Rules}
 use Rattle.sat_model.specs.declared.steps.Step.{Step}
 use Rattle.sat_model.specs.declared.steps.Step.TheVariants.{Cut, Split, Outside, Inside, Edge}
 use Rattle.sat_rows.specs.Meanings.{Meaning}
 use Rattle.clear_boxes.specs.Clear.{IsClearlyEmpty, IsClearlyInner}
+use Rattle.clear_boxes.specs.Pavings.{HasRun}
 
 module _ (m : Meaning) (rules : Rules) (search : Search) where
   -- no slab of an eighth at one of the six faces, where that is at least one grid point thick, is
@@ -42,3 +44,21 @@ module _ (m : Meaning) (rules : Rules) (search : Search) where
     abbrev pub NothingClearLeft : List ShownStep → Type 0
     NothingClearLeft steps =
         AllByRecursion (λ shown. LeavesNothingClear shown.step shown.part) steps
+
+-- ---- a log
+
+module _ (m : Meaning) (rules : Rules) where
+  -- a paved block has the steps of a run over its root, which leaves nothing clear there
+  abbrev pub BodyLeavesNothingClear : Search → Block → Option GridBox → Type 0
+  BodyLeavesNothingClear search block None = Unit {0}
+  BodyLeavesNothingClear search block (Some root) = (root ≡ search.root)
+      × (paved : HasRun rules root block)
+      × NothingClearLeft m rules search block.done paved.shown
+
+  -- so does each block, in the search that it is of
+  abbrev pub BlocksLeaveNothingClear : List Search → List Block → Type 0
+  BlocksLeaveNothingClear [] [] = Unit {0}
+  BlocksLeaveNothingClear [] (block ∷ blocks) = ⊥
+  BlocksLeaveNothingClear (search ∷ searches) [] = ⊥
+  BlocksLeaveNothingClear (search ∷ searches) (block ∷ blocks) =
+      BodyLeavesNothingClear search block block.root × BlocksLeaveNothingClear searches blocks

@@ -1,4 +1,5 @@
 pub mod Grown
 pub mod Paved
+pub mod Pavings
 pub mod Clear
 pub mod Left

@@ -2,17 +2,18 @@
 
 ghost use Rattle.std.specs.Prelude.{◌≡◌, ◌*◌, ◌≤◌, ℕ, List, pos};
 ghost use Rattle.clear_boxes.specs.Clear.{IsEmptyBy, IsInnerBy};
-ghost use Rattle.clear_boxes.specs.Grown.{AreGrownLines};
-ghost use Rattle.clear_boxes.specs.Left.{NothingClearLeft};
+ghost use Rattle.clear_boxes.specs.Grown.{AreGrown, AreGrownLines};
+ghost use Rattle.clear_boxes.specs.Left.{BlocksLeaveNothingClear, NothingClearLeft};
 ghost use Rattle.clear_boxes.specs.Paved.{Paved};
-ghost use Rattle.epoch_selection.specs.Searches.{search_in};
+ghost use Rattle.clear_boxes.specs.Pavings.{AllPave};
+ghost use Rattle.epoch_selection.specs.Searches.{search_in, searches_in};
 ghost use Rattle.rinex_obs.specs.declared.obs.ObsEpoch.{ObsEpoch};
 ghost use Rattle.sat_model.specs.Boxes.{GridBox, grid_box};
 ghost use Rattle.sat_model.specs.ClockSpans.{IsShownEmpty, IsShownInner};
 ghost use Rattle.sat_model.specs.Contractors.{LiesIn};
 ghost use Rattle.sat_model.specs.Fold.{ShownStep};
 ghost use Rattle.sat_model.specs.Lengths.{spare_of};
-ghost use Rattle.sat_model.specs.Logs.{rows_of};
+ghost use Rattle.sat_model.specs.Logs.{Block, rows_of};
 ghost use Rattle.sat_model.specs.declared.boxes.Box3.{Box3};
 ghost use Rattle.sat_model.specs.declared.rules.Rules.{Rules};
 ghost use Rattle.sat_model.specs.declared.satellites.SatEntry.{SatEntry};
@@ -39,7 +40,7 @@ pub fn clear_boxes_are_shown<S: RowSource>()
 {}
 
 /// The law: a run over such rows of an epoch leaves nothing clear in its root. The call does nothing.
-pub fn nothing_clear_is_left<S: RowSource>()
+pub fn runs_leave_nothing_clear<S: RowSource>()
     ensures { (source : S) (rules : Rules) (epoch : ObsEpoch) (root : Box3)
         (own : List SatLine) (sats : List SatEntry) (steps : List ShownStep)
         → AreLinesOf (S.meaning source) (grid_box root) epoch own
@@ -47,4 +48,15 @@ pub fn nothing_clear_is_left<S: RowSource>()
         → (run : Paved (rows_of sats) rules (grid_box root) steps)
         → NothingClearLeft (S.meaning source) rules (search_in (grid_box root) epoch)
         run.last.splits steps }
+{}
+
+/// The law: a log that paves such rows of searches in one root leaves nothing clear. The call does
+/// nothing.
+pub fn logs_leave_nothing_clear<S: RowSource>()
+    ensures { (source : S) (rules : Rules) (root : Box3) (epochs : List ObsEpoch)
+        (given blocks : List Block)
+        → AreGrown (S.meaning source) rules.outliers (searches_in (grid_box root) epochs) given
+        → AllPave rules given blocks
+        → BlocksLeaveNothingClear (S.meaning source) rules (searches_in (grid_box root) epochs)
+        blocks }
 {}

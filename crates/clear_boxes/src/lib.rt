@@ -3,5 +3,7 @@
 #![tactic(auto)]
 
 mod laws;
+#[cfg(test)]
+mod tests;
 
-pub use laws::{clear_boxes_are_shown, nothing_clear_is_left};
+pub use laws::{clear_boxes_are_shown, logs_leave_nothing_clear, runs_leave_nothing_clear};

@@ -1,7 +1,7 @@
 use Rattle.sat_model.specs.Boxes.{grid_box}
 use Rattle.box_steps.proofs.BoxLemmas.{grid_part}
 use Rattle.clear_boxes.proofs.RunLemmas.{run_clear}
-use Rattle.clear_boxes.proofs.laws.nothing_clear_is_left.Goals as goal
+use Rattle.clear_boxes.proofs.laws.runs_leave_nothing_clear.Goals as goal
 
 pub returns : goal.returns
 returns g c = λ source rules epoch root own sats steps are grown run.
