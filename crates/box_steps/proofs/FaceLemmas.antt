@@ -1,5 +1,5 @@
 -- Cuts at the faces of a box: there is one way to go on at each face, and what is left lies inside.
-use Rattle.std.proofs.Common.{◌≡◌, ℕ, zero, suc, ◌-◌, ◌<◌, ◌≤◌, arith, List, [], ◌∷◌, ◌++◌, length, ◌⊎◌, inl, inr, refl, ap, Option, None, Some, Bool, true, false}
+use Rattle.std.proofs.Common.{ℕ, zero, suc, ◌-◌, ◌<◌, ◌≤◌, arith, List, [], ◌∷◌, ◌++◌, length, ◌⊎◌, inl, inr, refl, ap, Option, None, Some, Bool, true, false}
 use Rattle.std.specs.Prelude.{ℤ, ◌≤ℤ◌}
 use Rattle.std.proofs.lemmas.Int.{ints, by_lt_z}
 use Rattle.std.proofs.lemmas.List.{length-append}

@@ -1,5 +1,5 @@
 -- How a box ended, and what the log took of it.
-use Rattle.std.specs.Prelude.{◌≡◌, ℕ, List, [], ◌∷◌, ◌++◌, length}
+use Rattle.std.specs.Prelude.{◌≡◌, List, [], ◌∷◌, ◌++◌, length}
 use Rattle.sat_model.specs.declared.steps.Step.{Step}
 use Rattle.sat_model.specs.Boxes.{GridBox, grid_box}
 use Rattle.sat_model.specs.Fold.{ShownStep}

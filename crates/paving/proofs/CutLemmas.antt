@@ -29,11 +29,10 @@ pub ends_by_last : (grain slack : ℤ) (rows : List Row) (rules : Rules) (splits
     → Closes rows rules splits box.id last.part last.step × AreCutsInTurn rows rules.outliers box.id box.part cuts last.part
 ends_by_last grain slack rows rules splits box cuts last are =
     let (same, last_is) = ends_same cuts are.cuts last (record { step = are.last; part = are.left }) are.all_steps in
-    let in_turn = cuts_in_turn grain slack rows rules box are.cuts are.left are.are_cuts in
-    (
+    let in_turn = cuts_in_turn grain slack rows rules box are.cuts are.left are.are_cuts in (
       subst (λ (s : ShownStep). Closes rows rules splits box.id s.part s.step) (sym last_is) are.closes,
       subst (λ (s : ShownStep). AreCutsInTurn rows rules.outliers box.id box.part cuts s.part) (sym last_is)
-      (subst (λ (l : List ShownStep). AreCutsInTurn rows rules.outliers box.id box.part l are.left) (sym same) in_turn),
+          (subst (λ (l : List ShownStep). AreCutsInTurn rows rules.outliers box.id box.part l are.left) (sym same) in_turn),
     )
 
 -- so it alone opens boxes

@@ -1,18 +1,18 @@
 -- How a run ends: whole, or broken off.
-use Rattle.std.proofs.Common.{◌≡◌, ℕ, ◌<◌, List, [], ◌∷◌, ◌++◌, length, refl, sym, subst, append_assoc, None, Some}
+use Rattle.std.proofs.Common.{ℕ, ◌<◌, List, ◌∷◌, ◌++◌, length, refl, sym, subst, None, Some}
 use Rattle.box_pool.specs.declared.item.Item.{Item}
 use Rattle.sat_model.specs.declared.boxes.Box3.{Box3}
 use Rattle.sat_model.specs.declared.rules.Rules.{Rules}
 use Rattle.sat_model.specs.declared.satellites.Row.{Row}
 use Rattle.sat_model.specs.declared.steps.Step.{Step}
 use Rattle.sat_model.specs.Boxes.{GridBox, grid_box}
-use Rattle.sat_model.specs.Fold.{first_stage, ShownStep}
+use Rattle.sat_model.specs.Fold.{first_stage}
 use Rattle.sat_model.specs.Paved.{joined, steps_of}
 use Rattle.sat_model.specs.Verdicts.{StepsPass}
 use Rattle.box_steps.specs.Taking.{BrokeOff}
 use Rattle.box_steps.specs.declared.steps.StepFault.{StepFault}
 use Rattle.box_steps.proofs.TakingLemmas.{took_both}
-use Rattle.paving.specs.Paved.{AreStepsOf, Paved, PavedFirst}
+use Rattle.paving.specs.Paved.{AreStepsOf, Paved}
 use Rattle.paving.specs.Queues.{Takes, box_of}
 use Rattle.paving.specs.Runs.{IsRun, IsBroken}
 use Rattle.paving.specs.declared.counts.Counts.{Counts}

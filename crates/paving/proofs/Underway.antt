@@ -20,7 +20,7 @@ use Rattle.box_steps.specs.declared.work.Ended.{Ended}
 use Rattle.box_steps.proofs.TakingLemmas.{took_both}
 use Rattle.paving.specs.Paved.{grain_for, AreStepsOf, PavesTo}
 use Rattle.paving.specs.declared.counts.Counts.{Counts}
-use Rattle.paving.specs.Counting.{IsCountOf, counts_after, counts_with_cuts, HasRoom}
+use Rattle.paving.specs.Counting.{IsCountOf, counts_after, counts_with_cuts}
 use Rattle.paving.specs.Queues.{IsQueued, Takes, CanOpen, box_of, opened_count}
 use Rattle.paving.proofs.CutLemmas.{ends_by_last, opens_last, counted_cuts}
 use Rattle.paving.proofs.PavedLemmas.{AreCutsInTurn}
@@ -45,24 +45,6 @@ pub record IsUnderway {L : Type 0} (took : L → Step → GridBox → L → Type
   pub opened : length paving.waiting + length boxes ≡ 2 * counts.bisections + 1
   pub spared : spare + length paving.waiting ≡ rules.bisections + 1
   pub within : counts.bisections ≤ rules.bisections
-
--- the root waits alone
-pub none_yet : {L : Type 0} (took : L → Step → GridBox → L → Type 0) (rows : List Row) (rules : Rules) (root : GridBox) (log : L) (lists : List (List Item)) (spare : ℕ) (counts : Counts)
-    → IsQueued (first_paving root).waiting lists → spare + 1 ≡ rules.bisections + 1 → counts ≡ (record { inside = 0; edge = 0; outside = 0; bisections = 0 })
-    → IsUnderway took rows rules root log log lists spare counts
-none_yet took rows rules root log lists spare counts queued spared none = rw none (record {
-  boxes = [];
-  paving = first_paving root;
-  paves = refl;
-  taken = refl;
-  queued = queued;
-  counted = record { inside = refl; edge = refl; outside = refl; bisections = refl };
-  few = record { inside = omega arith; edge = omega arith; outside = omega arith; splits = omega arith };
-  splits_is = refl;
-  opened = refl;
-  spared = spared;
-  within = omega arith;
-})
 
 -- a run goes on by one box
 pub paves_more : (rows : List Row) (rules : Rules) (start middle : Paving) (boxes : List (List ShownStep)) (next : WaitingBox) (rest : List WaitingBox) (own : List ShownStep)
@@ -217,15 +199,6 @@ can_open rows rules splits id (Inside n clock lo hi) part ends = tt
 can_open rows rules splits id (Edge n lo hi) part ends = tt
 can_open rows rules splits id (Cut n face bound) part ends = absurd ends
 
--- a box that is split has two spare nodes for its halves, one of them its own
-room_here : (rows : List Row) (rules : Rules) (splits id waiting boxes spare : ℕ) (step : Step) (part : GridBox) → Closes rows rules splits id part step
-    → waiting + boxes ≡ 2 * splits + 1 → spare + waiting ≡ rules.bisections + 1 → splits ≤ boxes → opened_count step ≤ spare + 1
-room_here rows rules splits id waiting boxes spare (Split n axis) part (is, undecided, may, longest) opened spared few = omega (arith, may.1, opened, spared, few)
-room_here rows rules splits id waiting boxes spare (Outside n) part ends opened spared few = omega arith
-room_here rows rules splits id waiting boxes spare (Inside n clock lo hi) part ends opened spared few = omega arith
-room_here rows rules splits id waiting boxes spare (Edge n lo hi) part ends opened spared few = omega arith
-room_here rows rules splits id waiting boxes spare (Cut n face bound) part ends opened spared few = absurd ends
-
 -- ---- a box is done
 
 -- the box was worked on, before what it opens waits
@@ -234,21 +207,6 @@ module _ {L : Type 0} (took : L → Step → GridBox → L → Type 0) (rows : L
     (t : TookBox took (AreStepsOf rows rules counts.bisections (box_of next)) now ended last) where
   pub can_open_left : CanOpen ended.step (grid_box ended.left)
   can_open_left = can_open rows rules counts.bisections next.id ended.step (grid_box ended.left) (ends_box took rows rules counts.bisections next now last ended t).0
-
-  pub room_to_open : opened_count ended.step ≤ spare + 1
-  room_to_open = room_here rows rules counts.bisections next.id (length u.paving.waiting) (length u.boxes) spare ended.step (grid_box ended.left)
-      (ends_box took rows rules counts.bisections next now last ended t).0 u.opened u.spared u.few.splits
-
-  pub room_for_cuts : ended.cuts ≤ 1800 → counts.outside + ended.cuts < 4294967296
-  room_for_cuts few = omega (arith, few, u.few.outside, u.opened, u.within, rules.few_bisections)
-
-  pub room_to_count : ended.cuts ≤ 1800 → HasRoom (counts_with_cuts counts ended.cuts)
-  room_to_count few = (
-    omega (arith, u.few.inside, u.opened, u.within, rules.few_bisections),
-    omega (arith, u.few.edge, u.opened, u.within, rules.few_bisections),
-    omega (arith, few, u.few.outside, u.opened, u.within, rules.few_bisections),
-    omega (arith, u.within, rules.few_bisections),
-  )
 
   goes_on_here : (left : ℕ) → ended.cuts ≤ 1800 → left + opened_count ended.step ≡ spare + 1
       → (h : IsInHand u.paving.waiting next mid)

@@ -1,4 +1,4 @@
-use Rattle.std.proofs.Common.{◌≡◌, ℕ, List, arith, inl, refl, ◌↔◌}
+use Rattle.std.proofs.Common.{◌≡◌, List, arith, inl, refl}
 use Rattle.std.proofs.lemmas.Result.{err_from_is_err_and}
 use Rattle.sat_model.specs.Boxes.{GridBox, grid_box}
 use Rattle.sat_model.specs.Paved.{IsUndecided}
@@ -9,7 +9,6 @@ use Rattle.relaxed_meet.specs.BoxStates.{IsBoxState}
 use Rattle.relaxed_meet.specs.declared.shown.BoxState.{BoxState}
 use Rattle.relaxed_meet.specs.declared.shown.BoxState.TheVariants.{Empty, Inner, Undecided}
 use Rattle.box_steps.specs.declared.steps.StepFault.TheVariants.{Failed, Full}
-use Rattle.box_steps.specs.BoxSteps.{IsCutDown, AreCutsOf}
 use Rattle.box_steps.proofs.BoxLemmas.{box_took, last_broke, cuts_broke, no_cuts_taken}
 use Rattle.box_steps.proofs.TakingLemmas.{same_fault, took_as}
 use Rattle.box_steps.proofs.work.work_on.Goals as goal

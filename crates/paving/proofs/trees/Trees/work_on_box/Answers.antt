@@ -1,4 +1,4 @@
-use Rattle.std.proofs.Common.{◌≡◌, ◌<◌, ◌≤◌, arith, refl, sym, subst, Bool, true, false, nat_lt}
+use Rattle.std.proofs.Common.{◌≡◌, ◌<◌, ◌≤◌, arith, refl, sym, subst, true, false, nat_lt}
 use Rattle.std.specs.Prelude.{ℤ, pos, ◌*ℤ◌, IfOk, IfErr}
 use Rattle.std.proofs.lemmas.Bool.{lt-ltb, le-ltb}
 use Rattle.sat_model.specs.Boxes.{GridBox, grid_box}
