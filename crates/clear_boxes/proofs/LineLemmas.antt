@@ -20,7 +20,7 @@ use Rattle.sat_rows.specs.OwnRows.{IsOwnRow, AreOwnLines}
 use Rattle.sat_rows.specs.declared.lines.SatLine.{SatLine}
 use Rattle.sat_rows.specs.declared.lines.SatLine.TheVariants.{Usable, Skipped}
 use Rattle.clear_boxes.specs.Clear.{UsableBut, IfUsable, HoldsRange, IsNearlyConsistent, IsSafelyConsistent, IsEmptyBy, IsInnerBy}
-use Rattle.clear_boxes.specs.Grown.{IsGrownRow, AreGrownLines}
+use Rattle.epoch_rows.specs.Grown.{IsGrownRow, AreGrownLines}
 use Rattle.box_steps.proofs.FaceLemmas.{own_box}
 use Rattle.clear_boxes.proofs.RowLemmas.{row_over, nearly_consistent, safely_inner}
 

@@ -1,30 +1,34 @@
 -- A log that paves the grown rows of searches leaves nothing clear.
-use Rattle.std.proofs.Common.{◌≡◌, Bool, true, false, List, [], ◌∷◌, refl, sym, subst, ◌∙◌, Option, None, Some}
+use Rattle.std.specs.Prelude.{pos}
+use Rattle.std.proofs.Common.{◌≡◌, Bool, true, false, List, [], ◌∷◌, refl, sym, ◌∙◌, Option, None, Some}
 use Rattle.epoch_selection.specs.Searches.{search_in, searches_in}
 use Rattle.range_contractor.proofs.TreeExists.{IsGridPart}
 use Rattle.rinex_obs.specs.declared.obs.ObsEpoch.{ObsEpoch}
 use Rattle.sat_model.specs.Boxes.{GridBox}
+use Rattle.sat_model.specs.Lengths.{spare_of}
 use Rattle.sat_model.specs.Logs.{Block}
 use Rattle.sat_model.specs.declared.rules.Rules.{Rules}
 use Rattle.sat_rows.specs.Meanings.{Meaning, IsSound}
 use Rattle.sat_rows.specs.OwnRows.{AreLinesOf}
 use Rattle.sat_rows.specs.declared.lines.SatLine.{SatLine}
-use Rattle.clear_boxes.specs.Grown.{HasBody, AreGrown}
+use Rattle.epoch_rows.specs.Grown.{HasBody, AreGrown, AreGrownLines}
 use Rattle.clear_boxes.specs.Left.{NothingClearLeft, BodyLeavesNothingClear, BlocksLeaveNothingClear}
-use Rattle.clear_boxes.specs.Pavings.{HasRun, BodyPaves, AllPave}
+use Rattle.log_writer.specs.Pavings.{HasRun, BodyPaves, AllPave}
 use Rattle.clear_boxes.proofs.RunLemmas.{run_clear}
 
 module _ (m : Meaning) (sound : IsSound m) (rules : Rules) (root : GridBox) (grid : IsGridPart root) where
+  run_of_block : (epoch : ObsEpoch) (own : List SatLine) (block : Block) → AreLinesOf m root epoch own → AreGrownLines (pos (spare_of root)) own block.sats → (paved : HasRun rules root block)
+      → NothingClearLeft m rules (search_in root epoch) block.done paved.shown
+  run_of_block epoch own block are grown paved = rw paved.done (run_clear m sound rules epoch root grid own block.sats are grown paved.shown paved.run)
+
   body_clear : (epoch : ObsEpoch) (few : Bool) (own : List SatLine) (given block : Block) (theirs : Option GridBox) → AreLinesOf m root epoch own → HasBody few root own given → given.root ≡ theirs
       → block.sats ≡ given.sats → BodyPaves rules block theirs → BodyLeavesNothingClear m rules (search_in root epoch) block theirs
   body_clear epoch few own given block None are body is sats paves = tt
   body_clear epoch true own given block (Some theirs) are body is sats paves = absurd (let none = sym is ∙ body.1 in cc)
   body_clear epoch false own given block (Some theirs) are body is sats paves =
       let same : theirs ≡ root = (let both = sym is ∙ body.1 in cc) in
-      let run : HasRun rules root block = subst (λ (r : GridBox). HasRun rules r block) same paves in
-      subst (λ (r : GridBox). BodyLeavesNothingClear m rules (search_in root epoch) block (Some r)) (sym same)
-      (refl, run, subst (λ n. NothingClearLeft m rules (search_in root epoch) n run.shown) (sym run.done)
-      (run_clear m sound rules epoch root grid own block.sats are (rw sats body.0) run.shown run.run))
+      let paved : HasRun rules root block = rw same at paves in
+      rw same (refl, paved, run_of_block epoch own block are (rw sats body.0) paved)
 
   pub log_clear : (epochs : List ObsEpoch) (given blocks : List Block) → AreGrown m rules.outliers (searches_in root epochs) given → AllPave rules given blocks
       → BlocksLeaveNothingClear m rules (searches_in root epochs) blocks

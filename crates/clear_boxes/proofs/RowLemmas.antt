@@ -18,7 +18,7 @@ use Rattle.sat_rows.specs.Chains.{Chain}
 use Rattle.sat_rows.specs.Meanings.{Meaning, IsSound}
 use Rattle.sat_rows.specs.OwnRows.{HoldsAllowed, IsOwnRow}
 use Rattle.clear_boxes.specs.Clear.{HoldsRange, IsNearlyConsistent, IsSafelyConsistent}
-use Rattle.clear_boxes.specs.Grown.{IsGrownRow}
+use Rattle.epoch_rows.specs.Grown.{IsGrownRow}
 use Rattle.clear_boxes.proofs.RootLemmas.{root_grown, far_axis, near_axis}
 
 -- the first row holds what is allowed at the points of the box, each span at most w wide, and the

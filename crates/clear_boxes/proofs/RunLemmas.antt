@@ -4,7 +4,7 @@ use Rattle.std.specs.List.{AllByRecursion}
 use Rattle.std.specs.Prelude.{ℤ, pos, ◌-ℤ◌, ◌≤ℤ◌}
 use Rattle.std.proofs.lemmas.Int.{ints}
 use Rattle.box_steps.proofs.BoxLemmas.{cuts_inside, none_left}
-use Rattle.box_steps.proofs.FaceLemmas.{own_box}
+use Rattle.box_steps.proofs.FaceLemmas.{own_box, with_inside}
 use Rattle.box_steps.specs.BoxSteps.{AreCutsOf}
 use Rattle.box_steps.specs.Cuts.{eighth_of, past_eighth, eighths, all_faces, MayCut, NoneMayCut}
 use Rattle.epoch_selection.specs.Searches.{search_in}
@@ -29,13 +29,13 @@ use Rattle.sat_rows.specs.Meanings.{Meaning, IsSound}
 use Rattle.sat_rows.specs.OwnRows.{AreLinesOf}
 use Rattle.sat_rows.specs.declared.lines.SatLine.{SatLine}
 use Rattle.clear_boxes.specs.Clear.{margin_over, IsClearlyEmpty}
-use Rattle.clear_boxes.specs.Grown.{AreGrownLines}
+use Rattle.epoch_rows.specs.Grown.{AreGrownLines}
 use Rattle.clear_boxes.specs.Left.{IsUnclear, LeavesNothingClear, NothingClearLeft}
-use Rattle.clear_boxes.specs.Paved.{PavesTo, Paved}
+use Rattle.paving.specs.Paved.{PavesTo, Paved}
 use Rattle.clear_boxes.proofs.LineLemmas.{empty_shown, inner_shown}
-use Rattle.clear_boxes.proofs.ListLemmas.{all_append, all_front, all_back}
-use Rattle.clear_boxes.proofs.PavedExists.{low_inside, high_inside, with_inside}
-use Rattle.clear_boxes.proofs.PavedLemmas.{AreCutsInTurn, cuts_in_turn, box_opens}
+use Rattle.log_writer.proofs.GridSizes.{all_append, all_front, all_back}
+use Rattle.paving.proofs.PavedExists.{low_inside, high_inside}
+use Rattle.paving.proofs.PavedLemmas.{AreCutsInTurn, cuts_in_turn, box_opens}
 
 -- ---- eighths
 

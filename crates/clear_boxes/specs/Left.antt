@@ -13,7 +13,7 @@ use Rattle.sat_model.specs.declared.steps.Step.{Step}
 use Rattle.sat_model.specs.declared.steps.Step.TheVariants.{Cut, Split, Outside, Inside, Edge}
 use Rattle.sat_rows.specs.Meanings.{Meaning}
 use Rattle.clear_boxes.specs.Clear.{IsClearlyEmpty, IsClearlyInner}
-use Rattle.clear_boxes.specs.Pavings.{HasRun}
+use Rattle.log_writer.specs.Pavings.{HasRun}
 
 module _ (m : Meaning) (rules : Rules) (search : Search) where
   -- no slab of an eighth at one of the six faces, where that is at least one grid point thick, is

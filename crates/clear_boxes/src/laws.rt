@@ -2,10 +2,10 @@
 
 ghost use Rattle.std.specs.Prelude.{◌≡◌, ◌*◌, ◌≤◌, ℕ, List, pos};
 ghost use Rattle.clear_boxes.specs.Clear.{IsEmptyBy, IsInnerBy};
-ghost use Rattle.clear_boxes.specs.Grown.{AreGrown, AreGrownLines};
+ghost use Rattle.epoch_rows.specs.Grown.{AreGrown, AreGrownLines};
 ghost use Rattle.clear_boxes.specs.Left.{BlocksLeaveNothingClear, NothingClearLeft};
-ghost use Rattle.clear_boxes.specs.Paved.{Paved};
-ghost use Rattle.clear_boxes.specs.Pavings.{AllPave};
+ghost use Rattle.paving.specs.Paved.{Paved};
+ghost use Rattle.log_writer.specs.Pavings.{AllPave};
 ghost use Rattle.epoch_selection.specs.Searches.{search_in, searches_in};
 ghost use Rattle.rinex_obs.specs.declared.obs.ObsEpoch.{ObsEpoch};
 ghost use Rattle.sat_model.specs.Boxes.{GridBox, grid_box};
