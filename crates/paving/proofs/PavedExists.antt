@@ -17,6 +17,7 @@ use Rattle.sat_model.specs.Paved.{WaitingBox, bits_of, Paving, first_paving, IsN
 use Rattle.sat_model.proofs.AmountLemmas.{above_is}
 use Rattle.range_contractor.proofs.TreeExists.{IsGridPart, inside_part}
 use Rattle.box_steps.proofs.BoxLemmas.{grid_part, box_steps_exist, cuts_inside}
+use Rattle.box_steps.proofs.FaceLemmas.{with_inside}
 use Rattle.paving.specs.Paved.{long_side, grain_for, AreStepsOf, PavesTo, Paved, PavedFirst}
 use Rattle.paving.proofs.PavedLemmas.{box_opens}
 
@@ -98,30 +99,19 @@ next_in_grid waiting next rest n grid =
     let (before, others) = grid_parts n.before (next ∷ n.behind) (subst AreGridBoxes n.all_waiting grid) in
     (others.0, subst AreGridBoxes (sym n.others) (grid_both n.before n.behind before others.1))
 
-low_inside : (s : Side) → s.lo ≤ℤ s.hi → SideLiesIn (low_half s) s
+pub low_inside : (s : Side) → s.lo ≤ℤ s.hi → SideLiesIn (low_half s) s
 low_inside s ordered = record {
   low = omega (arith, ints);
   ordered = omega (arith, ints);
   high = omega (arith, ints, above_is s.hi s.lo);
 }
 
-high_inside : (s : Side) → 0 < side_length s → SideLiesIn (high_half s) s
+pub high_inside : (s : Side) → 0 < side_length s → SideLiesIn (high_half s) s
 high_inside s some = record {
   low = omega (arith, ints);
   ordered = omega (arith, ints, above_is s.hi s.lo);
   high = omega (arith, ints);
 }
-
-with_inside : (axis : ℕ) (part : GridBox) (s : Side) → LiesIn part part → SideLiesIn s (side_at axis part) → LiesIn (with_side axis part s) part
-with_inside zero part s l h zero = h
-with_inside zero part s l h (suc zero) = l 1
-with_inside zero part s l h (suc (suc n)) = l 2
-with_inside (suc zero) part s l h zero = l 0
-with_inside (suc zero) part s l h (suc zero) = h
-with_inside (suc zero) part s l h (suc (suc n)) = l 2
-with_inside (suc (suc m)) part s l h zero = l 0
-with_inside (suc (suc m)) part s l h (suc zero) = l 1
-with_inside (suc (suc m)) part s l h (suc (suc n)) = h
 
 with_in_grid : (axis : ℕ) (part : GridBox) (s : Side) → IsGridPart part → SideLiesIn s (side_at axis part) → IsGridPart (with_side axis part s)
 with_in_grid axis part s grid inside = inside_part (with_side axis part s) part (with_inside axis part s grid.lies inside) grid
