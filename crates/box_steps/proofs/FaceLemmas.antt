@@ -79,7 +79,7 @@ side_inside : (low : Bool) (s : Side) (bound : ℤ) → s.lo ≤ℤ s.hi → IsP
 side_inside true s bound o (h, k) = record { low = omega (arith, ints); ordered = k; high = omega (arith, ints) }
 side_inside false s bound o (h, k) = record { low = omega (arith, ints); ordered = h; high = omega (arith, ints) }
 
-with_inside : (axis : ℕ) (part : GridBox) (s : Side) → LiesIn part part → SideLiesIn s (side_at axis part) → LiesIn (with_side axis part s) part
+pub with_inside : (axis : ℕ) (part : GridBox) (s : Side) → LiesIn part part → SideLiesIn s (side_at axis part) → LiesIn (with_side axis part s) part
 with_inside zero part s l h zero = h
 with_inside zero part s l h (suc zero) = l 1
 with_inside zero part s l h (suc (suc n)) = l 2

@@ -17,6 +17,7 @@ use Rattle.sat_model.specs.Paved.{WaitingBox, bits_of, Paving, first_paving, IsN
 use Rattle.sat_model.proofs.AmountLemmas.{above_is}
 use Rattle.range_contractor.proofs.TreeExists.{IsGridPart, inside_part}
 use Rattle.box_steps.proofs.BoxLemmas.{grid_part, box_steps_exist, cuts_inside}
+use Rattle.box_steps.proofs.FaceLemmas.{with_inside}
 use Rattle.paving.specs.Paved.{long_side, grain_for, AreStepsOf, PavesTo, Paved, PavedFirst}
 use Rattle.paving.proofs.PavedLemmas.{box_opens}
 
@@ -111,17 +112,6 @@ high_inside s some = record {
   ordered = omega (arith, ints, above_is s.hi s.lo);
   high = omega (arith, ints);
 }
-
-with_inside : (axis : ℕ) (part : GridBox) (s : Side) → LiesIn part part → SideLiesIn s (side_at axis part) → LiesIn (with_side axis part s) part
-with_inside zero part s l h zero = h
-with_inside zero part s l h (suc zero) = l 1
-with_inside zero part s l h (suc (suc n)) = l 2
-with_inside (suc zero) part s l h zero = l 0
-with_inside (suc zero) part s l h (suc zero) = h
-with_inside (suc zero) part s l h (suc (suc n)) = l 2
-with_inside (suc (suc m)) part s l h zero = l 0
-with_inside (suc (suc m)) part s l h (suc zero) = l 1
-with_inside (suc (suc m)) part s l h (suc (suc n)) = h
 
 with_in_grid : (axis : ℕ) (part : GridBox) (s : Side) → IsGridPart part → SideLiesIn s (side_at axis part) → IsGridPart (with_side axis part s)
 with_in_grid axis part s grid inside = inside_part (with_side axis part s) part (with_inside axis part s grid.lies inside) grid
