@@ -66,7 +66,7 @@ chain_distance el n t x y z o =
 -- ---- what is near
 
 abbrev side : ℕ
-side = 33 * 10 ^ 12
+side = 53 * 10 ^ 12
 
 sides_of : (x y z : ℤ) → Between (pos space_low) (pos space_high) ((x *ℤ x) +ℤ (y *ℤ y) +ℤ (z *ℤ z)) → IsWithin side x × IsWithin side y × IsWithin side z
 sides_of x y z b =

@@ -16,22 +16,22 @@ use Rattle.broadcast_orbit.proofs.PairLemmas.{swap4, pair_squares, near_squares,
 -- ---- in um: the radius, the distance in the plane, and that in the earth-fixed frame
 
 abbrev least_radius : ℕ
-least_radius = 24229 * 10 ^ 9
+least_radius = 19979 * 10 ^ 9
 
 abbrev greatest_radius : ℕ
-greatest_radius = 32321 * 10 ^ 9
+greatest_radius = 52293 * 10 ^ 9
 
 abbrev plane_low : ℕ
-plane_low = (24228 * 10 ^ 9) * (24228 * 10 ^ 9)
+plane_low = (19978 * 10 ^ 9) * (19978 * 10 ^ 9)
 
 abbrev plane_high : ℕ
-plane_high = (32322 * 10 ^ 9) * (32322 * 10 ^ 9)
+plane_high = (52294 * 10 ^ 9) * (52294 * 10 ^ 9)
 
 abbrev pub space_low : ℕ
-space_low = (24227 * 10 ^ 9) * (24227 * 10 ^ 9)
+space_low = (19977 * 10 ^ 9) * (19977 * 10 ^ 9)
 
 abbrev pub space_high : ℕ
-space_high = (32323 * 10 ^ 9) * (32323 * 10 ^ 9)
+space_high = (52295 * 10 ^ 9) * (52295 * 10 ^ 9)
 
 -- ---- the radius
 
@@ -39,13 +39,13 @@ abbrev axis_low : ℕ
 axis_low = 25 * 10 ^ 12 - 1
 
 abbrev axis_high : ℕ
-axis_high = 3136 * 10 ^ 10 + 1
+axis_high = 4356 * 10 ^ 10 + 1
 
 abbrev ratio_low : ℕ
-ratio_low = 9699999999999990
+ratio_low = 7999999999999990
 
 abbrev ratio_high : ℕ
-ratio_high = 10300000000000010
+ratio_high = 12000000000000010
 
 axis_between : (s a : ℤ) → Between (pos least_root_a) (pos greatest_root_a) s → Near (s *ℤ s) (pos (10 ^ 18)) a → Between (pos axis_low) (pos axis_high) a
 axis_between s a b n = let p = product_between least_root_a greatest_root_a least_root_a greatest_root_a s s b b in record { from = omega (arith, ints, p.from, n.above); to = omega (arith, ints, p.to, n.below) }
@@ -95,7 +95,7 @@ plane_between r c s x y b u n m =
 -- ---- in the earth-fixed frame
 
 abbrev side : ℕ
-side = 33 * 10 ^ 12
+side = 53 * 10 ^ 12
 
 abbrev turn_low : ℕ
 turn_low = unit * unit - 16 * unit
@@ -104,7 +104,7 @@ abbrev turn_high : ℕ
 turn_high = unit * unit + 16 * unit
 
 abbrev level_slip : ℕ
-level_slip = unit * unit * (unit * unit + 2 * (2 * 10 ^ 14 * (unit * unit)))
+level_slip = unit * unit * (unit * unit + 2 * (4 * 10 ^ 14 * (unit * unit)))
 
 abbrev height_slip : ℕ
 height_slip = unit * (unit + 2 * (side * (2 * unit)))
@@ -128,10 +128,10 @@ small_first x y s = first_within side plane_low plane_high x y (lit≤ tt) s
 small_second : (x y : ℤ) → Squares plane_low plane_high x y → IsWithin side y
 small_second x y s = second_within side plane_low plane_high x y (lit≤ tt) s
 
-level_within : (p q : ℤ) → IsWithin (side * unit * (2 * unit)) p → IsWithin (side * (2 * unit) * (2 * unit)) q → IsWithin (2 * 10 ^ 14 * (unit * unit)) (p +ℤ q)
+level_within : (p q : ℤ) → IsWithin (side * unit * (2 * unit)) p → IsWithin (side * (2 * unit) * (2 * unit)) q → IsWithin (4 * 10 ^ 14 * (unit * unit)) (p +ℤ q)
 level_within p q v w = record { low = omega (arith, ints, v.low, w.low); high = omega (arith, ints, v.high, w.high) }
 
-level_apart : (p q : ℤ) → IsWithin (side * unit * (2 * unit)) p → IsWithin (side * (2 * unit) * (2 * unit)) q → IsWithin (2 * 10 ^ 14 * (unit * unit)) (p -ℤ q)
+level_apart : (p q : ℤ) → IsWithin (side * unit * (2 * unit)) p → IsWithin (side * (2 * unit) * (2 * unit)) q → IsWithin (4 * 10 ^ 14 * (unit * unit)) (p -ℤ q)
 level_apart p q v w = record { low = omega (arith, ints, v.low, w.high); high = omega (arith, ints, v.high, w.low) }
 
 turns_of : (t0 t1 : ℕ) (z T : ℤ) → pos 0 ≤ℤ z → Between (pos t0) (pos t1) T → ((pos t0 *ℤ z) ≤ℤ (z *ℤ T)) × ((z *ℤ T) ≤ℤ (pos t1 *ℤ z))
@@ -164,10 +164,10 @@ space_between x y ci si co so X Y Z s i o nx ny nz =
     let Q = (b *ℤ co) +ℤ (a *ℤ so) in
     let mx : Near P (pos (unit * unit)) X = subst (λ (z : ℤ). Near (z -ℤ (b *ℤ so)) (pos (unit * unit)) X) (swap_unit x co) nx in
     let my : Near Q (pos (unit * unit)) Y = subst (λ (z : ℤ). Near z (pos (unit * unit)) Y) (commuted (a *ℤ so) (b *ℤ co)) (subst (λ (z : ℤ). Near (z +ℤ (b *ℤ co)) (pos (unit * unit)) Y) (swap_unit x so) ny) in
-    let wP : IsWithin (2 * 10 ^ 14 * (unit * unit)) P = level_apart (a *ℤ co) (b *ℤ so) (product_within (side * unit) (2 * unit) a co va vco) (product_within (side * (2 * unit)) (2 * unit) b so vb vso) in
-    let wQ : IsWithin (2 * 10 ^ 14 * (unit * unit)) Q = subst (λ (z : ℤ). IsWithin (2 * 10 ^ 14 * (unit * unit)) z) (commuted (a *ℤ so) (b *ℤ co)) (level_within (a *ℤ so) (b *ℤ co) (product_within (side * unit) (2 * unit) a so va vso) (product_within (side * (2 * unit)) (2 * unit) b co vb vco)) in
-    let u = near_squares (X *ℤ pos (unit * unit)) P (unit * unit) (2 * 10 ^ 14 * (unit * unit)) (times_near P (pos (unit * unit)) X (unit * unit) (record { le = tt }) mx) wP in
-    let v = near_squares (Y *ℤ pos (unit * unit)) Q (unit * unit) (2 * 10 ^ 14 * (unit * unit)) (times_near Q (pos (unit * unit)) Y (unit * unit) (record { le = tt }) my) wQ in
+    let wP : IsWithin (4 * 10 ^ 14 * (unit * unit)) P = level_apart (a *ℤ co) (b *ℤ so) (product_within (side * unit) (2 * unit) a co va vco) (product_within (side * (2 * unit)) (2 * unit) b so vb vso) in
+    let wQ : IsWithin (4 * 10 ^ 14 * (unit * unit)) Q = subst (λ (z : ℤ). IsWithin (4 * 10 ^ 14 * (unit * unit)) z) (commuted (a *ℤ so) (b *ℤ co)) (level_within (a *ℤ so) (b *ℤ co) (product_within (side * unit) (2 * unit) a so va vso) (product_within (side * (2 * unit)) (2 * unit) b co vb vco)) in
+    let u = near_squares (X *ℤ pos (unit * unit)) P (unit * unit) (4 * 10 ^ 14 * (unit * unit)) (times_near P (pos (unit * unit)) X (unit * unit) (record { le = tt }) mx) wP in
+    let v = near_squares (Y *ℤ pos (unit * unit)) Q (unit * unit) (4 * 10 ^ 14 * (unit * unit)) (times_near Q (pos (unit * unit)) Y (unit * unit) (record { le = tt }) my) wQ in
     let w = near_squares (Z *ℤ pos unit) (y *ℤ si) unit (side * (2 * unit)) (times_near (y *ℤ si) (pos unit) Z unit (record { le = tt }) nz) (product_within side (2 * unit) y si vy vsi) in
     let xx = x *ℤ x in
     let yy = y *ℤ y in
