@@ -258,8 +258,8 @@ def field_of(nav, number, value):
     return b"\n".join(lines)
 
 
-BOUNDS = {1: b"1D-2", 2: b"1D-8", 3: b"1D-13", 4: b"5000", 5: b"1D-7", 6: b"7", 7: b"1D-3", 8: b"3D-2", 9: b"1D-3",
-        10: b"5600",
+BOUNDS = {1: b"1D-2", 2: b"1D-8", 3: b"1D-13", 4: b"5000", 5: b"1D-7", 6: b"7", 7: b"1D-3", 8: b"2D-1", 9: b"1D-3",
+        10: b"6600",
           11: b"604800", 12: b"1D-3", 13: b"7", 14: b"1D-3", 15: b"7", 16: b"5000", 17: b"7", 18: b"1D-7",
                   19: b"1D-7", 20: b"1D-5"}
 
@@ -283,7 +283,7 @@ def navigation_cases(nav):
                            ("below its negative", b"-" + mantissa + b".0000000001" + power),
                            ("blank", b""), ("huge", b"1D99"), ("tiny", b"1D-99"), ("minus tiny", b"-1D-99")):
             yield f"field {number} {name}", field_of(single, number, text)
-    for text in (b"5000", b"4999.9999999999", b"5000.0000000001", b"5599.9999999999"):
+    for text in (b"5000", b"4999.9999999999", b"5000.0000000001", b"6599.9999999999"):
         yield f"root of the axis {text}", field_of(single, 10, text)
     for text in (b"0", b"604799", b"604799.9999999999", b"604799.9999999999999", b"604799.99999999999D0",
             b".99999999999999999D-9", b"1D-13", b"107999.99999999999",

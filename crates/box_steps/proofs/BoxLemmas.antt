@@ -14,7 +14,6 @@ use Rattle.sat_model.specs.Fold.{ShownStep}
 use Rattle.sat_model.specs.Paved.{WaitingBox, IsUndecided, Closes}
 use Rattle.sat_model.specs.RowTrees.{row_tree}
 use Rattle.sat_model.specs.Trees.{TreeValue}
-use Rattle.sat_model.proofs.PavedExists.{ending_exists}
 use Rattle.sat_model.proofs.RelaxedExists.{relaxed_hull}
 use Rattle.range_contractor.proofs.BoxLemmas.{box_lies, lies_through}
 use Rattle.range_contractor.proofs.FaceLemmas.{proposal}
@@ -30,6 +29,7 @@ use Rattle.box_steps.specs.BoxSteps.{AreCutsByTree, IsCutDown, AreCutsOf, AreBox
 use Rattle.box_steps.specs.Ends.{last_of, TookBox}
 use Rattle.box_steps.specs.declared.work.Ended.{Ended}
 use Rattle.box_steps.specs.Taking.{TookCuts, BrokeOff, LeaveSome}
+use Rattle.box_steps.proofs.EndingExists.{ending_exists}
 use Rattle.box_steps.proofs.FaceLemmas.{proposal_cuts_exist, proposal_cuts_few, proposal_inside, own_box}
 use Rattle.box_steps.proofs.RoundLemmas.{eighths_exist, eighths_few, eighths_inside, eighths_leave}
 use Rattle.box_steps.proofs.TakingLemmas.{took_both, broke_in, one_broke}

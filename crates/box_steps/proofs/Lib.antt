@@ -4,4 +4,5 @@ pub mod FaceLemmas
 pub mod RoundLemmas
 pub mod FacesUnderway
 pub mod RoundsUnderway
+pub mod EndingExists
 pub mod BoxLemmas

@@ -4,7 +4,7 @@ use Rattle.std.specs.Prelude.{ℤ, pos, neg_ℤ, ◌+ℤ◌, ◌-ℤ◌, ◌*ℤ
 use Rattle.std.proofs.lemmas.Int.{ints}
 use lib.IntN.{*ℤ_comm}
 use Rattle.sat_model.specs.Angles.{unit}
-use Rattle.sat_model.specs.Intervals.{Between, Ends}
+use Rattle.sat_model.specs.Intervals.{Between, Close, Ends}
 use Rattle.sat_model.specs.OrbitChain.{OrbitChain}
 use Rattle.sat_model.specs.RecordBounds.{LiesFrom, IsValue, eccentricity_bound, least_root_a, greatest_root_a, radius_swing_bound}
 use Rattle.sat_model.specs.Rounding.{Near}
@@ -15,9 +15,9 @@ use Rattle.sat_model.proofs.ProductLemmas.{add_mul}
 use Rattle.interval_trig.proofs.CircleLaw.{sine_and_cosine}
 use Rattle.interval_trig.proofs.Smoothness.{sine_value_small, cosine_value_small}
 use Rattle.broadcast_orbit.specs.OrbitSizes.{eccentricity_amount, place_amount, place_width, coordinate_amount, least_distance, greatest_distance, IsOrbitDistance}
-use Rattle.broadcast_orbit.proofs.PairLemmas.{pair_near, near_squares, square_natural, side_within, first_within, second_within}
+use Rattle.broadcast_orbit.proofs.PairLemmas.{pair_near, near_squares, product_between, square_natural, side_within, first_within, second_within, Squares}
 use Rattle.broadcast_orbit.proofs.TrueSquares.{true_squares}
-use Rattle.broadcast_orbit.proofs.Distances.{circle_squares, radius_between, plane_between, space_between, space_low, space_high}
+use Rattle.broadcast_orbit.proofs.Distances.{AreRadii, all_radii, least_radius, greatest_radius, radius_slack, circle_squares, radius_between, plane_near, space_near}
 
 -- ---- numbers of a field
 
@@ -40,14 +40,19 @@ double_is s c =
 
 -- ---- the chain
 
-pub chain_distance : (el : Elements) (n t x y z : ℤ) → OrbitChain el n t x y z → Between (pos space_low) (pos space_high) ((x *ℤ x) +ℤ (y *ℤ y) +ℤ (z *ℤ z))
-chain_distance el n t x y z o =
+-- sines and cosines on the way to the radius, in 10^-16
+record AreTurns (el : Elements) (n t x y z : ℤ) (o : OrbitChain el n t x y z) : Type 0 where
+  e_from : pos 0 ≤ℤ o.f.e
+  anomaly : IsWithin (unit + 8) o.anomaly.cos_e
+  twice : Squares (unit * unit - 700 * unit) (unit * unit + 700 * unit) o.latitude.cos_twice o.latitude.sin_twice
+  latitude : Squares (unit * unit - 400 * unit) (unit * unit + 400 * unit) o.cos_u o.sin_u
+
+chain_turns : (el : Elements) (n t x y z : ℤ) → (o : OrbitChain el n t x y z) → AreTurns el n t x y z o
+chain_turns el n t x y z o =
     let f = o.f in
     let F = o.fields in
     let a = o.anomaly in
     let l = o.latitude in
-    let p = o.in_plane in
-    let e = o.earth_fixed in
     let eb = in_range (pos 0) (pos eccentricity_bound) el.e f.e el.e_within F.e_is in
     let wc = cosine_value_small a.eccentric a.cos_e a.cos_e_is in
     let ws = sine_value_small a.eccentric a.sin_e a.sin_e_is in
@@ -57,16 +62,56 @@ chain_distance el n t x y z o =
     let tw = pair_near (unit * unit - 300 * unit) (unit * unit + 300 * unit) (unit * unit - 300 * unit) (unit * unit + 300 * unit) (unit * unit - 700 * unit) (unit * unit + 700 * unit) l.cos_phi l.sin_phi l.cos_phi l.sin_phi l.cos_twice l.sin_twice phi phi l.cos_twice_is (subst (λ (z : ℤ). Near z (pos unit) l.sin_twice) (double_is l.sin_phi l.cos_phi) l.sin_twice_is) (lit≤ tt) (lit≤ tt) (lit≤ tt) (lit≤ tt) in
     let du = circle_squares l.sin_du l.cos_du (sine_and_cosine l.du l.sin_du l.cos_du l.sin_du_is l.cos_du_is) in
     let u = pair_near (unit * unit - 300 * unit) (unit * unit + 300 * unit) (unit * unit - 16 * unit) (unit * unit + 16 * unit) (unit * unit - 400 * unit) (unit * unit + 400 * unit) l.cos_phi l.sin_phi l.cos_du l.sin_du o.cos_u o.sin_u phi du l.cos_u_is l.sin_u_is (lit≤ tt) (lit≤ tt) (lit≤ tt) (lit≤ tt) in
-    let r = radius_between f.root_a p.axis f.e a.cos_e o.ratio f.crs f.crc l.sin_twice l.cos_twice o.dr o.radius (in_range (pos least_root_a) (pos greatest_root_a) el.root_a f.root_a el.root_a_within F.root_a_is) p.axis_is eb.from eb.to wc a.ratio_is
+    record { e_from = eb.from; anomaly = wc; twice = tw; latitude = u }
+
+-- the radius of an orbit whose fields lie in such ranges
+pub chain_radius : (s0 s1 m low high : ℕ) (el : Elements) (n t x y z : ℤ) → AreRadii s0 s1 m low high → (o : OrbitChain el n t x y z) → Between (pos s0) (pos s1) o.f.root_a → o.f.e ≤ℤ pos m → Between (pos low) (pos high) o.radius
+chain_radius s0 s1 m low high el n t x y z radii o root most =
+    let f = o.f in
+    let F = o.fields in
+    let a = o.anomaly in
+    let l = o.latitude in
+    let p = o.in_plane in
+    let turns = chain_turns el n t x y z o in
+    radius_between s0 s1 m low high f.root_a p.axis f.e a.cos_e o.ratio f.crs f.crc l.sin_twice l.cos_twice o.dr o.radius radii root p.axis_is turns.e_from most turns.anomaly a.ratio_is
     (within_of radius_swing_bound f.crs (in_range (neg_ℤ (pos radius_swing_bound)) (pos radius_swing_bound) el.crs f.crs el.crs_within F.crs_is)) (within_of radius_swing_bound f.crc (in_range (neg_ℤ (pos radius_swing_bound)) (pos radius_swing_bound) el.crc f.crc el.crc_within F.crc_is))
-    (second_within (2 * unit) (unit * unit - 700 * unit) (unit * unit + 700 * unit) l.cos_twice l.sin_twice (lit≤ tt) tw) (first_within (2 * unit) (unit * unit - 700 * unit) (unit * unit + 700 * unit) l.cos_twice l.sin_twice (lit≤ tt) tw) l.swings.dr_is p.radius_is in
-    space_between o.plane_x o.plane_y e.cos_i e.sin_i e.cos_node e.sin_node x y z (plane_between o.radius o.cos_u o.sin_u o.plane_x o.plane_y r u p.x_is p.y_is)
+    (second_within (2 * unit) (unit * unit - 700 * unit) (unit * unit + 700 * unit) l.cos_twice l.sin_twice (lit≤ tt) turns.twice) (first_within (2 * unit) (unit * unit - 700 * unit) (unit * unit + 700 * unit) l.cos_twice l.sin_twice (lit≤ tt) turns.twice) l.swings.dr_is p.radius_is
+
+any_radius : (el : Elements) (n t x y z : ℤ) → (o : OrbitChain el n t x y z) → Between (pos least_radius) (pos greatest_radius) o.radius
+any_radius el n t x y z o =
+    let F = o.fields in
+    let e = in_range (pos 0) (pos eccentricity_bound) el.e o.f.e el.e_within F.e_is in
+    let root = in_range (pos least_root_a) (pos greatest_root_a) el.root_a o.f.root_a el.root_a_within F.root_a_is in
+    chain_radius least_root_a greatest_root_a eccentricity_bound least_radius greatest_radius el n t x y z all_radii o root e.to
+
+-- a place is as far from the origin as its radius is long
+pub chain_keeps_radius : (el : Elements) (n t x y z : ℤ) → (o : OrbitChain el n t x y z) → Close radius_slack (o.radius *ℤ o.radius) ((x *ℤ x) +ℤ (y *ℤ y) +ℤ (z *ℤ z))
+chain_keeps_radius el n t x y z o =
+    let p = o.in_plane in
+    let e = o.earth_fixed in
+    let r = any_radius el n t x y z o in
+    let turns = chain_turns el n t x y z o in
+    space_near (o.radius *ℤ o.radius) o.plane_x o.plane_y e.cos_i e.sin_i e.cos_node e.sin_node x y z (product_between least_radius greatest_radius least_radius greatest_radius o.radius o.radius r r).to (plane_near o.radius o.cos_u o.sin_u o.plane_x o.plane_y r turns.latitude p.x_is p.y_is)
     (sine_and_cosine e.inclination e.sin_i e.cos_i e.sin_i_is e.cos_i_is) (sine_and_cosine e.node e.sin_node e.cos_node e.sin_node_is e.cos_node_is) e.x_is e.y_is e.z_is
+
+abbrev space_low : ℕ
+space_low = (19978 * 10 ^ 9) * (19978 * 10 ^ 9)
+
+abbrev space_high : ℕ
+space_high = (52294 * 10 ^ 9) * (52294 * 10 ^ 9)
+
+distance_by : (rr v : ℤ) → Between (pos (least_radius * least_radius)) (pos (greatest_radius * greatest_radius)) rr → Close radius_slack rr v → Between (pos space_low) (pos space_high) v
+distance_by rr v b c = record { from = omega (arith, ints, b.from, c.below); to = omega (arith, ints, b.to, c.above) }
+
+chain_distance : (el : Elements) (n t x y z : ℤ) → OrbitChain el n t x y z → Between (pos space_low) (pos space_high) ((x *ℤ x) +ℤ (y *ℤ y) +ℤ (z *ℤ z))
+chain_distance el n t x y z o =
+    let r = any_radius el n t x y z o in
+    distance_by (o.radius *ℤ o.radius) ((x *ℤ x) +ℤ (y *ℤ y) +ℤ (z *ℤ z)) (product_between least_radius greatest_radius least_radius greatest_radius o.radius o.radius r r) (chain_keeps_radius el n t x y z o)
 
 -- ---- what is near
 
 abbrev side : ℕ
-side = 33 * 10 ^ 12
+side = 53 * 10 ^ 12
 
 sides_of : (x y z : ℤ) → Between (pos space_low) (pos space_high) ((x *ℤ x) +ℤ (y *ℤ y) +ℤ (z *ℤ z)) → IsWithin side x × IsWithin side y × IsWithin side z
 sides_of x y z b =

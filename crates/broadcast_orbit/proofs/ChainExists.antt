@@ -224,7 +224,7 @@ space_exists f after di p q =
 
 -- ---- the whole chain
 
-small_by : (l h : ℤ) → l ≤ℤ h → h ≤ℤ pos (3 * 10 ^ 14) → l ≤ℤ pos eccentricity_amount
+small_by : (l h : ℤ) → l ≤ℤ h → h ≤ℤ pos (2 * 10 ^ 15) → l ≤ℤ pos eccentricity_amount
 small_by l h o k = omega (arith, ints)
 
 pub orbit_exists : (el : Elements) (n t : ℤ) → (x : ℤ) × (y : ℤ) × (z : ℤ) × OrbitChain el n t x y z

@@ -168,17 +168,17 @@ place_amount = 348700896000089
 abbrev pub place_width : ℕ
 place_width = 439
 
--- ---- how far a satellite is from the earth's centre, in um: 24,200 to 32,400 km
+-- ---- how far a satellite is from the earth's centre, in um: 19,900 to 52,300 km
 
 abbrev pub least_distance : ℕ
-least_distance = 24200 * 10 ^ 9
+least_distance = 19900 * 10 ^ 9
 
 abbrev pub greatest_distance : ℕ
-greatest_distance = 32400 * 10 ^ 9
+greatest_distance = 52300 * 10 ^ 9
 
 -- a coordinate at a time of at most 64 ps
 abbrev pub coordinate_amount : ℕ
-coordinate_amount = 34 * 10 ^ 12
+coordinate_amount = 54 * 10 ^ 12
 
 abbrev pub IsOrbitDistance : ℤ → ℤ → ℤ → Type 0
 IsOrbitDistance x y z = Between (pos (least_distance * least_distance)) (pos (greatest_distance * greatest_distance)) ((x *ℤ x) +ℤ (y *ℤ y) +ℤ (z *ℤ z))

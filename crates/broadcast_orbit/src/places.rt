@@ -28,7 +28,7 @@ fn after(el: &Elements, t: Exact) -> Exact
 /// `motion` as its mean motion. Times are ps since 1980-01-06 00:00:00 GPS time, and `t` is within
 /// 14,501 s of the ephemeris time; `motion` is in 10^-22 rad/s, from 0 to 2 * 10^18 and at most 4,096
 /// units wide. For a `t` at most 64 ps wide no coordinate is more than 500 um wide, and every point
-/// is from 24,200 to 32,400 km from the origin.
+/// is from 19,900 to 52,300 km from the origin.
 pub fn place(el: &Elements, motion: Exact, t: Exact) -> Place
     requires from { neg_ℤ (pos orbit_reach) ≤ℤ (t.lo -ℤ (el.now.week_start +ℤ el.now.toe_week.hi)) }
     requires to { (t.hi -ℤ (el.now.week_start +ℤ el.now.toe_week.lo)) ≤ℤ pos orbit_reach }

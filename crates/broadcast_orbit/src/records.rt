@@ -55,6 +55,62 @@ pub(crate) fn circle() -> Elements {
     }
 }
 
+/// An ellipse over the equator with e = 0.1, the satellite at its lowest point.
+pub(crate) fn ellipse() -> Elements {
+    Elements {
+        toc: WEEK_START,
+        week_start: WEEK_START,
+        toe_week: ZERO,
+        af0: ZERO,
+        af1: ZERO,
+        af2: ZERO,
+        tgd: ZERO,
+        root_a: exact(5_200_000_000_000_000),
+        e: exact(1_000_000_000_000_000),
+        m0: ZERO,
+        dn: ZERO,
+        cuc: ZERO,
+        cus: ZERO,
+        crc: ZERO,
+        crs: ZERO,
+        cic: ZERO,
+        cis: ZERO,
+        i0: ZERO,
+        idot: ZERO,
+        om0: ZERO,
+        om_dot: ZERO,
+        omega: ZERO,
+    }
+}
+
+/// The widest ellipse of a record, the satellite at its highest point.
+pub(crate) fn far_ellipse() -> Elements {
+    Elements {
+        toc: WEEK_START,
+        week_start: WEEK_START,
+        toe_week: ZERO,
+        af0: ZERO,
+        af1: ZERO,
+        af2: ZERO,
+        tgd: ZERO,
+        root_a: exact(6_600_000_000_000_000),
+        e: exact(2_000_000_000_000_000),
+        m0: exact(31_415_926_535_897_932),
+        dn: ZERO,
+        cuc: ZERO,
+        cus: ZERO,
+        crc: ZERO,
+        crs: ZERO,
+        cic: ZERO,
+        cis: ZERO,
+        i0: ZERO,
+        idot: ZERO,
+        om0: ZERO,
+        om_dot: ZERO,
+        omega: ZERO,
+    }
+}
+
 /// G01 for 2011-01-14 22:00:00, as a receiver recorded it, without its clock.
 pub(crate) fn recorded() -> Elements {
     Elements {

@@ -2,7 +2,7 @@ ghost use Rattle.std.specs.Prelude.{pos, neg_ℤ, ◌-ℤ◌, ◌≤ℤ◌};
 ghost use Rattle.broadcast_orbit.specs.OrbitSizes.{orbit_reach};
 
 use crate::place;
-use crate::records::{circle, recorded};
+use crate::records::{circle, ellipse, far_ellipse, recorded};
 use crate::vectors::VECTORS;
 use fix_interval::{Exact, Place};
 use sat_model::Elements;
@@ -55,6 +55,19 @@ fn a_circle_over_the_equator(rt: HostRuntime) {
     assert!(rt; holds(at.x, 27_040_000_000_000), "5,200^2 m");
     assert!(rt; holds(at.y, 0), "no y");
     assert!(rt; holds(at.z, 0), "no z");
+}
+
+#[test]
+fn ellipses_over_the_equator(rt: HostRuntime) {
+    let low = placed(&rt, &ellipse(), 0, 0);
+    assert!(rt; holds(low.x, 24_336_000_000_000), "0.9 * 5,200^2 m");
+    assert!(rt; holds(low.y, 0), "no y");
+    let high = placed(&rt, &far_ellipse(), 0, 0);
+    assert!(rt; holds(high.x, -52_272_000_000_000), "1.2 * 6,600^2 m");
+    assert!(rt;
+        high.y.hi <= high.y.lo.saturating_add(500),
+        "the width of y"
+    );
 }
 
 #[test]

@@ -59,7 +59,7 @@ wider_place m n v w at h k e = record {
 pub from_point : (part : GridBox) (at : Place) → longest_length part ≡ 0 → PlaceEnds (reach_after near_reach) (spare_of part) at → PlaceEnds turned_reach 2000 at
 from_point part at none e =
     wider_place (reach_after near_reach) turned_reach 2000 2000 at (lit≤ tt) (lit≤ tt)
-    (subst (λ (n : ℕ). PlaceEnds (reach_after near_reach) (2000 + n / 50000) at) none e)
+    (subst (λ (n : ℕ). PlaceEnds (reach_after near_reach) (2000 + n / 40000) at) none e)
 
 pub point_range : (part : GridBox) (range : Exact) → longest_length part ≡ 0 → HasEnds range_amount (range_width part 2000) range → HasEnds range_amount 3501 range
 point_range part range none e = subst (λ (n : ℕ). HasEnds range_amount (7 * (n + 2000) / 4 + 1) range) none e

@@ -71,10 +71,10 @@ turn_keeps r b range p x y z tx ty most bound t = turned_over_keeps r b _ x y tx
 -- ---- a satellite's place, seen from a point, is as far from the origin as before, but for a few um
 
 abbrev pub turn_loss : ℕ
-turn_loss = 132 * 10 ^ 12
+turn_loss = 2136 * 10 ^ 11
 
 abbrev pub turned_low : ℕ
-turned_low = least_distance - 3
+turned_low = least_distance - 6
 
 abbrev pub turned_high : ℕ
 turned_high = greatest_distance + 3

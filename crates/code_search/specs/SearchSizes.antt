@@ -39,8 +39,8 @@ pub record IsNearPoint (p : Pos) : Type 0 where
 abbrev pub greatest_offset : ℕ
 greatest_offset = 14990 * 10 ^ 9
 
--- a satellite is at most so far from such a point, in um. Its orbit is within 32,400 km of the
--- earth's centre; this is enough up to 52,300 km.
+-- a satellite is at most so far from such a point, in um: its orbit is within 52,300 km of the
+-- earth's centre
 abbrev pub farthest_range : ℕ
 farthest_range = 61000 * 10 ^ 9
 

@@ -42,4 +42,4 @@ cosine_width w = w / 5000 + 33
 
 -- a coordinate of a satellite's place, turned over a range v wide
 abbrev pub turned_width : ℕ → ℕ
-turned_width v = v / 120000 + 1016
+turned_width v = v / 75000 + 1016

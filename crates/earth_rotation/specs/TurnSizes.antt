@@ -9,9 +9,9 @@ turn_reach = 6 * 10 ^ 13
 abbrev pub reach_after : ℕ → ℕ
 reach_after n = n + n / 1000 + 10
 
--- a coordinate of a satellite: 32,400 km
+-- a coordinate of a satellite: 52,300 km
 abbrev pub near_reach : ℕ
-near_reach = 32400 * 10 ^ 9
+near_reach = 52300 * 10 ^ 9
 
 -- how wide it is
 abbrev pub narrow_width : ℕ

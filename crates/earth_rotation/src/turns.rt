@@ -35,8 +35,8 @@ fn turned_over(place: Place, range: Exact) -> Place
 
 /// Every place in um that a member of `unturned`, the place when the signal was sent, has in the
 /// earth-fixed frame of the time when it is received at a grid point of the box. The coordinates of
-/// `unturned` are within 6 * 10^13 um. For coordinates at most 1,000 um wide and within 32,400 km none
-/// becomes wider than 2,000 um and a 50,000th of the longest side of the box.
+/// `unturned` are within 6 * 10^13 um. For coordinates at most 1,000 um wide and within 52,300 km none
+/// becomes wider than 2,000 um and a 40,000th of the longest side of the box.
 pub fn turned(unturned: Place, part: &Box3) -> Place
     requires { PlaceAmount turn_reach unturned }
     ensures holds { (p : Pos) (x y z tx ty : ℤ) (r : ℕ) → box_holds (grid_box part.now) p ≡ true → HoldsPlace unturned x y z → Turn p x y z tx ty r → HoldsPlace result tx ty z }

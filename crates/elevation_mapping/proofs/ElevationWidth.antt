@@ -63,10 +63,10 @@ total : (a b z m : ℕ) → a ≡ b → z ≤ a * (m + 109 * 10 ^ 14) + 10004 * 
 total a b z m e h = subst (λ (k : ℕ). z ≤ k * (m + 109 * 10 ^ 14) + 10004 * unit) e h
 
 -- all lengths as natural numbers
-width_in_steps : (d s t x y v r n g w z m : ℕ) → d ≤ 2 * 10 ^ 11 → least_up ≤ v → least_range ≤ r → 4 * s ≤ 7 * (v + x + 1) → 4 * t ≤ 7 * (r + y + 1) → 4 * x ≤ 7 * (d + d / 148 + 5) + 4 → 4 * y ≤ 7 * (d + (2000 + d / 50000)) + 4 →
-    n ≤ s * (d + (2000 + d / 50000)) + t * (d + d / 148 + 5) + 12 → w * v ≤ (g + 2) * x + n + 4 * v → g * unit ≤ m * r → z * r ≤ (m + 2) * y + unit * w + 4 * r → z * unit ≤ sine_slope d * (m + 109 * 10 ^ 14) + 10004 * unit
+width_in_steps : (d s t x y v r n g w z m : ℕ) → d ≤ 2 * 10 ^ 11 → least_up ≤ v → least_range ≤ r → 4 * s ≤ 7 * (v + x + 1) → 4 * t ≤ 7 * (r + y + 1) → 4 * x ≤ 7 * (d + d / 148 + 5) + 4 → 4 * y ≤ 7 * (d + (2000 + d / 40000)) + 4 →
+    n ≤ s * (d + (2000 + d / 40000)) + t * (d + d / 148 + 5) + 12 → w * v ≤ (g + 2) * x + n + 4 * v → g * unit ≤ m * r → z * r ≤ (m + 2) * y + unit * w + 4 * r → z * unit ≤ sine_slope d * (m + 109 * 10 ^ 14) + 10004 * unit
 width_in_steps d s t x y v r n g w z m k lv lr hs ht hx hy hn hw hg hz =
-    let e = d + (2000 + d / 50000) in
+    let e = d + (2000 + d / 40000) in
     let f = d + d / 148 + 5 in
     let p = line_slope d in
     let q = up_slope d in
@@ -80,13 +80,13 @@ width_in_steps d s t x y v r n g w z m k lv lr hs ht hx hy hn hw hg hz =
     let j = sine_step z w g m y p q r lr hz (length_slope e y p r hy el) i in
     total (p + q) (sine_slope d) (z * unit) m (omega (arith, slopes_sum d)) j
 
-pub elevation_width : (d : ℕ) (a b : Place) (inner : Exact) (vl vh ql qh rl rh l h m n : ℤ) → d ≤ 2 * 10 ^ 11 → PlaceEnds up_amount (d + d / 148 + 5) a → PlaceEnds offset_amount (d + (2000 + d / 50000)) b → square least_up ≤ least_sum a → square least_range ≤ least_sum b →
+pub elevation_width : (d : ℕ) (a b : Place) (inner : Exact) (vl vh ql qh rl rh l h m n : ℤ) → d ≤ 2 * 10 ^ 11 → PlaceEnds up_amount (d + d / 148 + 5) a → PlaceEnds offset_amount (d + (2000 + d / 40000)) b → square least_up ≤ least_sum a → square least_range ≤ least_sum b →
     vl ≡ pos (root (least_sum a)) → vh ≡ pos (root (greatest_sum a)) → rl ≡ pos (root (least_sum b)) → rh ≡ pos (root (greatest_sum b)) →
     ((k l m i j n v w : ℕ) → HasEnds k v a.x → HasEnds l v a.y → HasEnds m v a.z → HasEnds i w b.x → HasEnds j w b.y → HasEnds n w b.z → HasEnds (k * i + l * j + m * n + 6) ((k + l + m) * w + (i + j + n) * v + 12) inner) →
     ql ≤ℤ qh → IsTightQuotient inner.lo inner.hi vl vh (pos 1) ql qh → l ≤ℤ h → IsTightQuotient ql qh rl rh (pos unit) l h → ((g q : ℤ) → Between ql qh g → Near (g *ℤ pos unit) rl q → Between l h q) → pos 0 <ℤ rl → m ≡ l +ℤ neg_ℤ (pos 8) → n ≡ h +ℤ pos 8 →
     greatest_end m n * unit ≤ least_end m n * unit + (sine_slope d * (greatest_end m n + 109 * 10 ^ 14) + 10020 * unit)
 elevation_width d a b inner vl vh ql qh rl rh l h m n k eu el fu fl ivl ivh irl irh narrow oq tq os ts hs pr em en =
-    let e = d + (2000 + d / 50000) in
+    let e = d + (2000 + d / 40000) in
     let f = d + d / 148 + 5 in
     let v = root (least_sum a) in
     let v' = root (greatest_sum a) in

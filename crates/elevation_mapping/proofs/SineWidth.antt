@@ -22,13 +22,13 @@ line_slope d = 3501 * d + 8 * 10 ^ 6
 pub slopes_sum : (d : ℕ) → up_slope d + line_slope d ≡ sine_slope d
 slopes_sum d = omega arith
 
-pub line_spread : (d r : ℕ) → least_range ≤ r → (7 * (d + (2000 + d / 50000)) + 8) * unit ≤ 4 * (line_slope d * r)
+pub line_spread : (d r : ℕ) → least_range ≤ r → (7 * (d + (2000 + d / 40000)) + 8) * unit ≤ 4 * (line_slope d * r)
 line_spread d r h = omega (arith, mul-le (line_slope d) least_range (line_slope d) r (omega arith) h)
 
 pub up_spread : (d v : ℕ) → least_up ≤ v → (7 * (d + d / 148 + 5) + 8) * unit ≤ 4 * (up_slope d * v)
 up_spread d v h = omega (arith, mul-le (up_slope d) least_up (up_slope d) v (omega arith) h)
 
-pub line_small : (d r : ℕ) → d ≤ 2 * 10 ^ 11 → least_range ≤ r → 3 * (7 * (d + (2000 + d / 50000)) + 8) ≤ r
+pub line_small : (d r : ℕ) → d ≤ 2 * 10 ^ 11 → least_range ≤ r → 3 * (7 * (d + (2000 + d / 40000)) + 8) ≤ r
 line_small d r k h = omega arith
 
 pub up_small : (d v : ℕ) → d ≤ 2 * 10 ^ 11 → least_up ≤ v → 3 * (7 * (d + d / 148 + 5) + 8) ≤ v

@@ -53,7 +53,7 @@ pub(crate) fn elevation_sine(up: Place, line: Place) -> Exact
     ensures amount { HasAmount sine_amount result }
 
     // For a box whose longest side is d.
-    ensures narrow { (d : ℕ) → d ≤ 2 * 10 ^ 11 → PlaceEnds up_amount (d + d / 148 + 5) up → PlaceEnds offset_amount (d + (2000 + d / 50000)) line → greatest_end result.lo result.hi * unit ≤ least_end result.lo result.hi * unit + sine_spread d (greatest_end result.lo result.hi) }
+    ensures narrow { (d : ℕ) → d ≤ 2 * 10 ^ 11 → PlaceEnds up_amount (d + d / 148 + 5) up → PlaceEnds offset_amount (d + (2000 + d / 40000)) line → greatest_end result.lo result.hi * unit ≤ least_end result.lo result.hi * unit + sine_spread d (greatest_end result.lo result.hi) }
 {
     let height = inner_product(up, line).over(length_of(up), 1);
     let rounding = Exact { lo: -8, hi: 8 };

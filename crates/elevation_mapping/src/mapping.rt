@@ -40,7 +40,7 @@ fn over_slants(slants: Exact) -> Exact
 ///
 /// Each grid point is at least 6,000 km from the origin (`is_far_from_origin` is the test) and
 /// 5,000 km from each member of the place. No side is longer than 200 km. Each coordinate of the
-/// place is within 6.1 * 10^13 um, and at most 2,000 um and a 50,000th of the longest side wide: as
+/// place is within 6.1 * 10^13 um, and at most 2,000 um and a 40,000th of the longest side wide: as
 /// `earth_rotation::turned` makes it.
 pub fn mapped(turned: Place, part: &Box3) -> Exact
     requires from_origin { IsFarFromOrigin (6 * 10 ^ 12) (grid_box part.now) }

@@ -16,7 +16,7 @@ use Rattle.sat_rows.specs.declared.lines.SatLine.TheVariants.{Usable, Skipped}
 
 -- the greatest W: the sides of a box are at most 2 * 10^13 um long
 abbrev pub greatest_spare : ℕ
-greatest_spare = 2000 + (2 * 10 ^ 13) / 50000
+greatest_spare = 2000 + (2 * 10 ^ 13) / 40000
 
 -- ---- satellite lines
 

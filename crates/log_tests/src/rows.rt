@@ -42,8 +42,8 @@ ionosphere = [0, 0]
 troposphere = [0, 0]
 ";
 
-/// What a row over a root with sides of 2 m may be wide, in um: 2,000 and 2,000,000/50,000.
-const ROOM: i128 = 2040;
+/// What a row over a root with sides of 2 m may be wide, in um: 2,000 and 2,000,000/40,000.
+const ROOM: i128 = 2050;
 
 /// Blanks and a word.
 fn put(text: &mut Vec<u8>, blanks: usize, word: &str) -> Result<(), AllocError> {

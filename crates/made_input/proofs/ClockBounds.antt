@@ -70,13 +70,13 @@ offset_small af0 drift time v a d t is =
 small_between : (low high n : ℕ) (w : Wide) (v : ℤ) → high ≤ n → LiesFrom (pos low) (pos high) w → IsValue w v → IsWithin n v
 small_between low high n w v less lies is = record { low = omega (arith, ints, lies.from, is.from); high = omega (arith, ints, less, lies.to, is.to) }
 
-relative_small : (num v : ℤ) → IsWithin (relativity * eccentricity_bound * greatest_root_a * (unit + 8)) num → Near (neg_ℤ num) (pos (10 ^ 47)) v → IsWithin (10 ^ 9) v
+relative_small : (num v : ℤ) → IsWithin (relativity * eccentricity_bound * greatest_root_a * (unit + 8)) num → Near (neg_ℤ num) (pos (10 ^ 47)) v → IsWithin (10 ^ 10) v
 relative_small num v n is = record { low = omega (arith, ints, n.high, is.above); high = omega (arith, ints, n.low, is.below) }
 
 one_factor : IsWithin relativity (pos relativity)
 one_factor = record { low = record { le = tt }; high = record { le = tt } }
 
-base_small : (offset tgd base relative dt : ℤ) → IsWithin (8 * 10 ^ 11 + 2) offset → tgd ≡ neg_ℤ (pos 100000000) → base ≡ offset -ℤ tgd → IsWithin (10 ^ 9) relative → dt ≡ base +ℤ relative → IsWithin (10 ^ 12) dt
+base_small : (offset tgd base relative dt : ℤ) → IsWithin (8 * 10 ^ 11 + 2) offset → tgd ≡ neg_ℤ (pos 100000000) → base ≡ offset -ℤ tgd → IsWithin (10 ^ 10) relative → dt ≡ base +ℤ relative → IsWithin (10 ^ 12) dt
 base_small offset tgd base relative dt o t b r d = record { low = omega (arith, ints, o.low, t, b, r.low, d); high = omega (arith, ints, o.high, t, b, r.high, d) }
 
 pub clock_small : (el : Elements) (n tsv dt t : ℤ) → IsMadeClock el → IsWithin rate_scale (tsv -ℤ el.toc) → ClockChain el true n tsv dt t → IsWithin (10 ^ 12) dt

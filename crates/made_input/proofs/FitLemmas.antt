@@ -41,6 +41,7 @@ use Rattle.made_input.specs.MadeRecords.{made_broadcast, made_records, mean_draw
 use Rattle.made_input.specs.PlaceFits.{FitsAt}
 use Rattle.made_input.proofs.BoundLemmas.{inside}
 use Rattle.made_input.proofs.ClockBounds.{made_clock}
+use Rattle.made_input.proofs.OrbitBounds.{made_ellipse}
 use Rattle.made_input.proofs.RangeBounds.{code_in_range, drawn_below, IsPlausible as InRange}
 use Rattle.made_input.proofs.RecordLemmas.{record_at, eight_records}
 use Rattle.made_input.proofs.TimeLemmas.{tag_is, toc_is, week_is}
@@ -174,7 +175,7 @@ its_code seed j k records s known =
     let r = its_record seed j k records s known in
     let elements = its_elements seed j k records s known in
     let toc = elements.toc ∙ toc_is k (mean_draw seed k) r.0 r.2 in
-    code_in_range seed j k s.code known.code (made_clock k (mean_draw seed k) r.0 known.code.el known.to r.2 elements) (near_toc (tag_of j) known.code.el.toc j known.epoch (tag_is j) toc)
+    code_in_range seed j k s.code known.code (made_clock k (mean_draw seed k) r.0 known.code.el known.to r.2 elements) (made_ellipse k (mean_draw seed k) r.0 known.code.el known.to r.2 elements) (near_toc (tag_of j) known.code.el.toc j known.epoch (tag_is j) toc)
 
 its_codes : SatCode → Codes
 its_codes s = record { first = wide_of (s.code *ℤ pos 1000); second = None }

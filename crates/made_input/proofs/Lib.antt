@@ -3,6 +3,7 @@ pub mod RecordLemmas
 pub mod TimeLemmas
 pub mod EpochLemmas
 pub mod ClockBounds
+pub mod OrbitBounds
 pub mod RangeBounds
 pub mod DrawLemmas
 pub mod CodeLemmas

@@ -3,9 +3,6 @@ use Rattle.std.proofs.Common.{◌≡◌, ℕ, ◌+◌, ◌*◌, ◌%◌, ◌^◌
 use Rattle.std.specs.Prelude.{ℤ, pos, neg_ℤ, ◌+ℤ◌, ◌-ℤ◌, ◌*ℤ◌, ◌≤ℤ◌, ◌==◌}
 use Rattle.std.proofs.lemmas.Bool.{cases_Bool}
 use Rattle.std.proofs.lemmas.Int.{ints}
-use Rattle.broadcast_orbit.specs.OrbitSizes.{least_distance, greatest_distance}
-use Rattle.broadcast_orbit.proofs.ChainDistance.{chain_distance}
-use Rattle.broadcast_orbit.proofs.Distances.{space_low, space_high}
 use Rattle.sat_model.specs.Fitting.{range_to}
 use Rattle.sat_model.specs.Intervals.{Between}
 use Rattle.sat_model.specs.Pseudorange.{IsSent, IsCorrected}
@@ -16,10 +13,10 @@ use Rattle.sat_model.proofs.RootLemmas.{square-mono}
 use Rattle.code_search.specs.Residuals.{Residual}
 use Rattle.code_search.specs.SearchSizes.{IsNearPoint}
 use Rattle.code_search.proofs.SquareLemmas.{side_most, side_least, range_most, range_least}
-use Rattle.code_search.proofs.TurnKeeps.{turned_distance, turned_low, turned_high}
 use Rattle.made_input.specs.MadeCodes.{place_of, place_x, place_y, place_z, tag_of, goal_by, goal_of, IsMadeCode}
 use Rattle.made_input.specs.Generator.{drawn}
 use Rattle.made_input.proofs.ClockBounds.{IsMadeClock, clock_small}
+use Rattle.made_input.proofs.OrbitBounds.{IsMadeEllipse, seen_low, seen_high, seen_distance}
 
 -- ---- draws
 
@@ -39,10 +36,6 @@ least_range = 17800 * 10 ^ 9
 abbrev greatest_range : ℕ
 greatest_range = 38900 * 10 ^ 9
 
--- within 24,227 and 32,323 km, so within 24,200 and 32,400 km
-wider : (v : ℤ) → Between (pos space_low) (pos space_high) v → Between (pos (least_distance * least_distance)) (pos (greatest_distance * greatest_distance)) v
-wider v d = record { from = omega (arith, ints, d.from); to = omega (arith, ints, d.to) }
-
 square_to : (m : ℕ) (n : ℕ) → n ≤ m → (pos n *ℤ pos n) ≤ℤ pos (m * m)
 square_to m n h = let s = square-mono n m h in omega (arith, ints, s)
 
@@ -53,18 +46,17 @@ place_near seed =
     let c = square_to (3901 * 10 ^ 9) (place_z seed * 10 ^ 6) (omega (arith, drawn_below seed 2 1000 (lit≤ tt))) in
     omega (arith, ints, a, b, c)
 
-range_between : (x y z : ℤ) (p : Pos) → Between (pos (turned_low * turned_low)) (pos (turned_high * turned_high)) ((x *ℤ x) +ℤ (y *ℤ y) +ℤ (z *ℤ z))
+range_between : (x y z : ℤ) (p : Pos) → Between (pos (seen_low * seen_low)) (pos (seen_high * seen_high)) ((x *ℤ x) +ℤ (y *ℤ y) +ℤ (z *ℤ z))
     → ((p.x *ℤ p.x) +ℤ (p.y *ℤ p.y) +ℤ (p.z *ℤ p.z)) ≤ℤ pos place_square → (least_range ≤ range_to x y z p) × (range_to x y z p ≤ greatest_range)
 range_between x y z p d near = (
   range_least least_range x y z p (omega (arith, ints, side_least x p.x, side_least y p.y, side_least z p.z, d.from, near)),
   range_most greatest_range x y z p (omega (arith, ints, side_most x p.x, side_most y p.y, side_most z p.z, d.to, near)),
 )
 
-seen_range : (seed : ℕ) (el : Elements) (tag pr v : ℤ) → (c : Residual el tag (place_of seed) pr v) → (least_range ≤ c.range) × (c.range ≤ greatest_range)
-seen_range seed el tag pr v c =
-    let sent = wider _ (chain_distance el c.n c.t c.sent_x c.sent_y c.z c.orbit) in
-    let turned = turned_distance c.range (place_of seed) c.sent_x c.sent_y c.z c.x c.y sent c.turn in
-    subst (λ (r : ℕ). (least_range ≤ r) × (r ≤ greatest_range)) (sym c.turn.range_is) (range_between c.x c.y c.z (place_of seed) turned (place_near seed))
+seen_range : (seed : ℕ) (el : Elements) (tag pr v : ℤ) → IsMadeEllipse el → (c : Residual el tag (place_of seed) pr v) → (least_range ≤ c.range) × (c.range ≤ greatest_range)
+seen_range seed el tag pr v made c =
+    let seen = seen_distance el c.n c.t c.sent_x c.sent_y c.z c.x c.y (place_of seed) c.range made c.orbit c.turn in
+    subst (λ (r : ℕ). (least_range ≤ r) × (r ≤ greatest_range)) (sym c.turn.range_is) (range_between c.x c.y c.z (place_of seed) seen (place_near seed))
 
 -- ---- the place as a point of a box
 
@@ -106,11 +98,11 @@ code_between : (code corrected v goal : ℤ) (range : ℕ) → IsWithin (503 * 1
     → least_range ≤ range → range ≤ greatest_range → IsPlausible code
 code_between code corrected v goal range g b is c low high = record { from = omega (arith, ints, g.low, b.from, is, c.high, low); to = omega (arith, ints, g.high, b.to, is, c.low, high) }
 
-pub code_in_range : (seed j k : ℕ) (code : ℤ) → (c : IsMadeCode seed j k code) → IsMadeClock c.el → IsWithin (4 * 10 ^ 15) (tag_of j -ℤ c.el.toc) → IsPlausible code
-code_in_range seed j k code c clock near =
+pub code_in_range : (seed j k : ℕ) (code : ℤ) → (c : IsMadeCode seed j k code) → IsMadeClock c.el → IsMadeEllipse c.el → IsWithin (4 * 10 ^ 15) (tag_of j -ℤ c.el.toc) → IsPlausible code
+code_in_range seed j k code c clock ellipse near =
     let v = c.some.0 in
     let r = c.some.1 in
     let dt = clock_small c.el r.n r.tsv r.dt r.t clock (sent_near code (tag_of j) r.tsv c.el.toc c.from c.to near r.tsv_is) r.clock in
-    let far = seen_range seed c.el (tag_of j) (code *ℤ pos 1000) v r in
+    let far = seen_range seed c.el (tag_of j) (code *ℤ pos 1000) v ellipse r in
     code_between code r.corrected v (goal_of seed j k) r.range (goal_near (drawn seed (10 + 8 * j + k) 4001) j k (drawn_below seed (10 + 8 * j + k) 4001 (lit≤ tt))) (c.near v r) r.residual_is
     (corrected_near (code *ℤ pos 1000) r.dt r.corrected dt r.corrected_is) far.0 far.1

@@ -52,8 +52,8 @@ ionosphere = [0, 20000]
 troposphere = [2000, 25000]
 ";
 
-// What a solved log has more at each end of a span, in um: 2,000 and a 50,000th of the box's side.
-const ROOM: i64 = 2_040;
+// What a solved log has more at each end of a span, in um: 2,000 and a 40,000th of the box's side.
+const ROOM: i64 = 2_050;
 
 // Where the satellite is along x, turned with the earth until its signal comes in, in um.
 const TURNED: i64 = 27_039_999_999_658;

@@ -12,8 +12,6 @@ pub mod FoldLemmas
 pub mod CoverLemmas
 pub mod VerdictLemmas
 pub mod RelaxedExists
-pub mod PavedLemmas
-pub mod PavedExists
 pub mod KeptLemmas
 pub mod FaultLemmas
 pub mod EndsLemmas

@@ -32,4 +32,4 @@ bit_length n = digits_up_to n n
 
 -- how wide a row's spans may be over this search box
 abbrev pub spare_of : GridBox → ℕ
-spare_of root = 2000 + longest_length root / 50000
+spare_of root = 2000 + longest_length root / 40000

@@ -1,4 +1,4 @@
--- The runs of a paving: which box comes next, and which steps it gets.
+-- Boxes that wait in a paving: which of them comes next, what closes it, and what its steps open.
 use Rattle.std.specs.Prelude.{◌≡◌, ℕ, ◌+◌, ◌*◌, ◌<◌, ◌≤◌, ◌⊎◌, pos, ◌<ℤ◌, ◌≤ℤ◌, List, [], ◌∷◌, ◌++◌, map, All}
 use Rattle.sat_model.specs.declared.rules.Rules.{Rules}
 use Rattle.sat_model.specs.declared.satellites.Row.{Row}
@@ -63,12 +63,6 @@ Closes rows rules splits id part (Edge n lo hi) =
     (n ≡ id) × IsUndecided rows rules part × MayNotSplit rules splits part × IsClockHull rows part rules.outliers lo hi
 Closes rows rules splits id part (Cut n face bound) = ⊥
 
--- the steps of one box, in order: the one that splits or closes it as it stands
-abbrev pub AreStepsOf : List Row → Rules → ℕ → WaitingBox → List ShownStep → Type 0
-AreStepsOf rows rules splits box [] = ⊥
-AreStepsOf rows rules splits box (last ∷ []) = (last.part ≡ box.part) × Closes rows rules splits box.id box.part last.step
-AreStepsOf rows rules splits box (first ∷ second ∷ more) = ⊥
-
 -- ---- from box to box
 
 -- a split opens two halves under the next two numbers
@@ -108,29 +102,6 @@ beyond_all paving (shown ∷ more) = beyond_all (beyond paving shown) more
 abbrev pub joined : List (List ShownStep) → List ShownStep
 joined [] = []
 joined (own ∷ boxes) = own ++ joined boxes
-
--- the boxes that were taken up got these steps, each box its own list, and the paving stands at last
-abbrev pub PavesTo : List Row → Rules → Paving → List (List ShownStep) → Paving → Type 0
-PavesTo rows rules paving [] last = paving ≡ last
-PavesTo rows rules paving (own ∷ boxes) last =
-    (next : WaitingBox) × (rest : List WaitingBox) × IsNext paving.waiting next rest
-    × AreStepsOf rows rules paving.splits next own
-    × PavesTo rows rules (beyond_all (record { waiting = rest; splits = paving.splits }) own) boxes last
-
--- ---- a run
-
--- the steps are a whole run from the root: no box waits any more
-pub record Paved (rows : List Row) (rules : Rules) (root : GridBox) (steps : List ShownStep) : Type 0 where
-  pub boxes : List (List ShownStep)
-  pub all_steps : steps ≡ joined boxes
-  pub last : Paving
-  pub paves : PavesTo rows rules (first_paving root) boxes last
-  pub none_waiting : last.waiting ≡ []
-
--- the steps are the first ones of a whole run from the root
-pub record PavedFirst (rows : List Row) (rules : Rules) (root : GridBox) (steps : List ShownStep) : Type 0 where
-  pub more : List ShownStep
-  pub whole : Paved rows rules root (steps ++ more)
 
 -- the steps without the boxes that they speak of
 abbrev pub steps_of : List ShownStep → List Step

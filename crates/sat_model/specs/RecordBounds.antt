@@ -36,16 +36,16 @@ angle_swing_bound = 10 ^ 13
 abbrev pub radius_swing_bound : ℕ
 radius_swing_bound = 5 * 10 ^ 9
 
--- the eccentricity, up to 0.03 in 10^-16
+-- the eccentricity, up to 0.2 in 10^-16
 abbrev pub eccentricity_bound : ℕ
-eccentricity_bound = 3 * 10 ^ 14
+eccentricity_bound = 2 * 10 ^ 15
 
--- the root of the semi-major axis, from 5,000 to 5,600 m^(1/2) in 10^-12
+-- the root of the semi-major axis, from 5,000 to 6,600 m^(1/2) in 10^-12
 abbrev pub least_root_a : ℕ
 least_root_a = 5 * 10 ^ 15
 
 abbrev pub greatest_root_a : ℕ
-greatest_root_a = 56 * 10 ^ 14
+greatest_root_a = 66 * 10 ^ 14
 
 -- a week, 604,800 s in ps
 abbrev pub week : ℕ

@@ -25,14 +25,14 @@ pub const ANGLE_SWING_BOUND: i128 = 10_000_000_000_000;
 /// Crc and Crs, in um: 5,000 m.
 pub const RADIUS_SWING_BOUND: i128 = 5_000_000_000;
 
-/// e, in 10^-16: 0.03. It isn't negative.
-pub const ECCENTRICITY_BOUND: i128 = 300_000_000_000_000;
+/// e, in 10^-16: 0.2. It isn't negative.
+pub const ECCENTRICITY_BOUND: i128 = 2_000_000_000_000_000;
 
 /// sqrtA at least, in 10^-12 m^(1/2): 5,000 m^(1/2).
 pub const LEAST_ROOT_A: i128 = 5_000_000_000_000_000;
 
-/// sqrtA at most, in 10^-12 m^(1/2): 5,600 m^(1/2).
-pub const GREATEST_ROOT_A: i128 = 5_600_000_000_000_000;
+/// sqrtA at most, in 10^-12 m^(1/2): 6,600 m^(1/2).
+pub const GREATEST_ROOT_A: i128 = 6_600_000_000_000_000;
 
 /// A week, in ps. toe is from 0 to under a week.
 pub const WEEK: i128 = 604_800_000_000_000_000;

@@ -96,11 +96,11 @@ fn guess_u64(a: u64) -> u64 {
     newton(front, root_of_front(front)) >> (spare / 2)
 }
 
-/// How wide, in um, the spans of a row of this search box may be: 2,000 and a 50,000th of the
+/// How wide, in um, the spans of a row of this search box may be: 2,000 and a 40,000th of the
 /// longest side.
 pub fn spare(root: &Box3) -> i64
     ensures { result ≡ pos (spare_of (grid_box root.now)) }
 {
     let (_, longest) = root.longest_axis();
-    (2_000 + longest / 50_000) as i64
+    (2_000 + longest / 40_000) as i64
 }

@@ -53,7 +53,7 @@ pub(crate) fn row_of(
         (IsChainOf (record { tag = tag; codes = codes_of codes.now; el = el.now }))
         (grid_box root.now) result }
 
-    // Each span is at most 2,000 um and a 50,000th of the longest side of the box wide.
+    // Each span is at most 2,000 um and a 40,000th of the longest side of the box wide.
     ensures x_tight { IsTight (grid_box root.now) result.x }
     ensures y_tight { IsTight (grid_box root.now) result.y }
     ensures z_tight { IsTight (grid_box root.now) result.z }
