@@ -241,6 +241,16 @@ class RealFiles(unittest.TestCase):
         self.assertEqual(self.read("none.log"), b"gpscover 1\nrules 1 4096 1000000\n")
         self.expect(["check", *DAY, "none.log", "--from", "3", "--to", "2"], 0, b"yes 0\n")
 
+    def test_make_touches_no_file(self):
+        before = self.files()
+        said = [self.run_words("make", "7", "3") for _ in range(2)]
+        for ran in said:
+            self.assertEqual((ran.returncode, ran.stderr), (0, b""))
+            self.assertEqual(ran.stdout.splitlines()[0], b"made seed 7 epochs 3 satellites 24")
+            self.assertLessEqual(int(ran.stdout.split()[-1]), 192)
+        self.assertEqual(said[0].stdout, said[1].stdout)
+        self.assertEqual(self.files(), before)
+
     # ---- 2
 
     def test_words_that_are_no_command(self):
