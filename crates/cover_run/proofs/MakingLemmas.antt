@@ -97,11 +97,6 @@ module _ (limit : ℕ) (i : Inputs) (name : List ℕ) (after : ShelfState) where
       record { bytes = h.bytes; said = h.said; solved = h.solved; log_is = sym is }
   solved_as h (Err n) is = tt
 
-pub ends_at : (limit : ℕ) (Full : Type 0) (r : Result Log Notice)
-    → IfErr r (λ n. n ≡ notice.NoMemory) → IfErr r (IsCutOff limit Full)
-ends_at limit Full (Ok log) memory = tt
-ends_at limit Full (Err n) memory = inl memory
-
 -- ---- the log of made files
 
 module _ (limit seed count : ℕ) where
