@@ -21,6 +21,8 @@ import time
 import unittest
 from pathlib import Path
 
+import made_files
+
 TOP = Path(__file__).resolve().parent.parent
 EXAMPLES = TOP / "examples"
 # The files of a receiver with settings of 40 splits, and their log.
@@ -250,6 +252,11 @@ class RealFiles(unittest.TestCase):
             self.assertLessEqual(int(ran.stdout.split()[-1]), 192)
         self.assertEqual(said[0].stdout, said[1].stdout)
         self.assertEqual(self.files(), before)
+
+    def test_made_files_are_solved_and_checked_from_disk(self):
+        for seed, count in (0, 1), (7, 3), (4294967295, 9):
+            said = made_files.solve_and_check(self.program, self.folder, seed, count)
+            self.assertTrue(said.startswith(f"made seed {seed} epochs {count} satellites {8 * count}\n"), said)
 
     # ---- 2
 
