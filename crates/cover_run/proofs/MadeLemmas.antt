@@ -1,6 +1,6 @@
 -- Made files, as they are read.
 use Rattle.std.proofs.Common.{◌≡◌, ◌≤◌, ℕ, List, length, map, Result, Ok, Err, false, None}
-use Rattle.std.proofs.Common.{inl, inr, sym, ap, subst, ◌∙◌, arith}
+use Rattle.std.proofs.Common.{inl, inr, sym, ap, subst, arith}
 use Rattle.std.specs.Prelude.{IfOk, IfErr, Bool}
 use Rattle.std.proofs.lemmas.List.{length-map}
 use Rattle.error_bounds.specs.Reading.{value_of_settings}
@@ -13,10 +13,9 @@ use Rattle.made_input.specs.MadeRecords.{made_records}
 use Rattle.made_input.specs.declared.made.Made.{Made}
 use Rattle.made_texts.proofs.NavLemmas.{nav_length}
 use Rattle.made_texts.proofs.ObsLemmas.{obs_length}
-use Rattle.made_texts.specs.NavText.{broadcast_of, nav_lines}
-use Rattle.made_texts.specs.ObsText.{code_c1c, obs_lines, observed_from}
+use Rattle.made_texts.specs.NavText.{broadcast_of}
+use Rattle.made_texts.specs.ObsText.{code_c1c, observed_from}
 use Rattle.made_texts.specs.SettingsText.{settings_of}
-use Rattle.made_texts.specs.TextLines.{text_of}
 use Rattle.rinex_obs.specs.Files.{IsObsFile, Observations}
 use Rattle.sat_model.specs.declared.satellites.Signal.{Signal}
 use Rattle.sat_model.specs.declared.satellites.Signal.TheVariants.{Single}

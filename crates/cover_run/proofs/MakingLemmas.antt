@@ -1,5 +1,5 @@
 -- A log that was solved in memory, and the lines that are printed of it.
-use Rattle.std.proofs.Common.{◌≡◌, ◌⊎◌, ℕ, List, length, Option, Some, Ok, Err, inl, inr, refl}
+use Rattle.std.proofs.Common.{◌≡◌, ℕ, List, length, Option, Some, Ok, Err, inl, inr, refl}
 use Rattle.std.proofs.Common.{sym, ap, subst, ◌∙◌}
 use Rattle.std.specs.Prelude.{◌≢◌, Result, IfOk, IfErr, None, [], unwrap_or}
 use Rattle.std.specs.FinMap as map
@@ -23,7 +23,6 @@ use Rattle.cover_run.specs.Worlds.{World, Says}
 use Rattle.cover_run.specs.Writing.{Answer, status_of_writing}
 use Rattle.cover_run.specs.declared.inputs.Inputs.{Inputs}
 use Rattle.cover_run.specs.declared.notice.Notice.{Notice}
-use Rattle.cover_run.specs.declared.notice.Notice.TheVariants as notice
 use Rattle.cover_run.specs.declared.status.Status.{Status}
 use Rattle.cover_run.specs.declared.status.Status.TheVariants as status
 

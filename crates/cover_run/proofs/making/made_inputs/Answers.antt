@@ -1,6 +1,4 @@
-use Rattle.std.proofs.Common.{sym}
 use Rattle.made_input.specs.MadeCodes.{centre_x, centre_y, centre_z}
-use Rattle.made_input.specs.MadeRecords.{made_records}
 use Rattle.made_texts.specs.SettingsText.{settings_of}
 use Rattle.cover_run.proofs.MadeLemmas.{nav_short, obs_for, obs_short, seen}
 use Rattle.cover_run.proofs.PositionLemmas.{enough}
@@ -8,9 +6,10 @@ use Rattle.cover_run.proofs.making.made_inputs.Goals as goal
 
 pub faultless_settings-requires : goal.faultless_settings-requires
 faultless_settings-requires c = record {
-  faultless =
-      (settings_of (centre_x c.args.seed) (centre_y c.args.seed) (centre_z c.args.seed),
-      rw c.deref.ensures.value c.in-Ok.ensures.settings_accepted);
+  faultless = (
+    settings_of (centre_x c.args.seed) (centre_y c.args.seed) (centre_z c.args.seed),
+    rw c.deref.ensures.value c.in-Ok.ensures.settings_accepted,
+  );
 }
 
 pub read_faultless-requires-clause-short : goal.read_faultless-requires-clause-short
@@ -26,10 +25,11 @@ pub read_faultless-requires-2-clause-faultless : goal.read_faultless-requires-2-
 read_faultless-requires-2-clause-faultless c =
     let m = c.in-Ok.ensures in
     let s = c.in_ok-settings.settings in
-    let e = (rw c.deref.ensures.value at c.in_ok-settings.ensures.value) _ m.settings_accepted in
-    (seen c.args.seed c.args.epochs c.in-Ok.made m,
-    rw c.deref-3.ensures.value (rw c.wants_position-position.ensures
-    (obs_for c.args.seed c.args.epochs c.in-Ok.made m s e)))
+    let e = (rw c.deref.ensures.value at c.in_ok-settings.ensures.value) _ m.settings_accepted in (
+      seen c.args.seed c.args.epochs c.in-Ok.made m,
+      rw c.deref-3.ensures.value (rw c.wants_position-position.ensures
+          (obs_for c.args.seed c.args.epochs c.in-Ok.made m s e)),
+    )
 
 pub returns-clause-made : goal.returns-clause-made
 returns-clause-made c =

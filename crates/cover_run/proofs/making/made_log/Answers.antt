@@ -1,5 +1,3 @@
-use Rattle.std.proofs.Common.{inl}
-use Rattle.std.proofs.lemmas.Result.{err_from_is_err_and}
 use Rattle.cover_run.proofs.MakingLemmas.{fills_made, solves_made}
 use Rattle.cover_run.proofs.making.made_log.Goals as goal
 

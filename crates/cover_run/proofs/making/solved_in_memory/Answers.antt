@@ -6,8 +6,11 @@ use Rattle.cover_run.proofs.making.solved_in_memory.Goals as goal
 
 pub returns-in-LogFull-clause-cut_off : goal.returns-in-LogFull-clause-cut_off
 returns-in-LogFull-clause-cut_off c =
-    inr (refl, is_full c.args.limits.now.log _ c.args.inputs.now _ _ _
-    (rw c.all-all.ensures at (rw c.in-LogFull.is at c.write_solution.ensures)))
+    inr (
+      refl,
+      is_full c.args.limits.now.log _ c.args.inputs.now _ _ _
+          (rw c.all-all.ensures at (rw c.in-LogFull.is at c.write_solution.ensures)),
+    )
 
 pub read_faultless-requires-clause-short : goal.read_faultless-requires-clause-short
 read_faultless-requires-clause-short c =
