@@ -21,6 +21,8 @@ import time
 import unittest
 from pathlib import Path
 
+import made_files
+
 TOP = Path(__file__).resolve().parent.parent
 EXAMPLES = TOP / "examples"
 # The files of a receiver with settings of 40 splits, and their log.
@@ -240,6 +242,21 @@ class RealFiles(unittest.TestCase):
         self.expect(["solve", *DAY, "none.log", "--from", "3", "--to", "2"], 0)
         self.assertEqual(self.read("none.log"), b"gpscover 1\nrules 1 4096 1000000\n")
         self.expect(["check", *DAY, "none.log", "--from", "3", "--to", "2"], 0, b"yes 0\n")
+
+    def test_make_touches_no_file(self):
+        before = self.files()
+        said = [self.run_words("make", "7", "3") for _ in range(2)]
+        for ran in said:
+            self.assertEqual((ran.returncode, ran.stderr), (0, b""))
+            self.assertEqual(ran.stdout.splitlines()[0], b"made seed 7 epochs 3 satellites 24")
+            self.assertLessEqual(int(ran.stdout.split()[-1]), 192)
+        self.assertEqual(said[0].stdout, said[1].stdout)
+        self.assertEqual(self.files(), before)
+
+    def test_made_files_are_solved_and_checked_from_disk(self):
+        for seed, count in (0, 1), (7, 3), (4294967295, 9):
+            said = made_files.solve_and_check(self.program, self.folder, seed, count)
+            self.assertTrue(said.startswith(f"made seed {seed} epochs {count} satellites {8 * count}\n"), said)
 
     # ---- 2
 

@@ -11,3 +11,6 @@ pub mod SolvingLemmas
 pub mod SameInputs
 pub mod AcceptLemmas
 pub mod Headline
+pub mod TotalLemmas
+pub mod MadeLemmas
+pub mod MakingLemmas

@@ -13,5 +13,6 @@ pub mod Inputs
 pub mod Checking
 pub mod Solving
 pub mod Paving
+pub mod Making
 pub mod Runs
 pub mod Accepting

@@ -15,6 +15,7 @@ use Rattle.cover_run.specs.Checking.{SaysAccepted, SaysRefused}
 use Rattle.cover_run.specs.Chosen.{chosen_in}
 use Rattle.cover_run.specs.Inputs.{InputsValue, ReadsInputs, inputs_value, input_slots}
 use Rattle.cover_run.specs.Logs.{log_text, rows_text, SaysJudged, SaysFault, IsJudgedAs}
+use Rattle.cover_run.specs.Making.{Makes}
 use Rattle.cover_run.specs.Paving.{Paves}
 use Rattle.cover_run.specs.Reading.{IsBrokenOff, Found, IsOfReading, Named, NeverBreaks, Reading}
 use Rattle.cover_run.specs.Reading.{Untouched, valued}
@@ -148,19 +149,13 @@ Obeys limits (Some (Solve names)) before after trust s =
     RunOf (solving limits names) before after trust s
 Obeys limits (Some (Check names)) before after trust s =
     RunOf (checking limits names) before after trust s
--- this job isn't done yet
-Obeys limits (Some (Make seed epochs)) before after trust s = OnlySays notice.Usage before after s
+-- this one reads and writes no file
+Obeys limits (Some (Make seed epochs)) before after trust s =
+    Makes limits.log seed epochs (sinks before.out before.err) (sinks after.out after.err)
+    trust.out s
+    × (after.shelf ≡ before.shelf)
 
 -- Memory may lack to read the words, whatever they are: then it is said, and nothing else is done.
 abbrev pub Runs : Limits → Option Command → World → World → Trust → Status → Type 0
 Runs limits asked before after trust s =
     OnlySays notice.NoMemory before after s ⊎ Obeys limits asked before after trust s
-
--- the words are none of a job that is done
-abbrev pub IsNoJob : Option Command → Type 0
-IsNoJob None = Unit {0}
-IsNoJob (Some (Judge log)) = ⊥
-IsNoJob (Some (Pave rows log)) = ⊥
-IsNoJob (Some (Solve names)) = ⊥
-IsNoJob (Some (Check names)) = ⊥
-IsNoJob (Some (Make seed epochs)) = Unit {0}

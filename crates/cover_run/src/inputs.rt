@@ -26,7 +26,7 @@ pub struct Inputs {
 }
 
 /// Whether the search box stands round the position of the header.
-fn wants_position(centre: Centre) -> bool
+pub fn wants_position(centre: Centre) -> bool
     ensures { result ≡ wants_position centre }
 {
     match centre {

@@ -19,6 +19,8 @@ mod inputs;
 mod judging;
 mod limits;
 mod log_grammars;
+mod making;
+mod making_texts;
 mod named;
 mod notice;
 mod pave;
@@ -27,6 +29,8 @@ mod status;
 mod telling;
 mod texts;
 mod top;
+mod totals;
+mod unseen;
 mod writing;
 
 pub use accepting::solved_is_accepted;

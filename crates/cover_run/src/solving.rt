@@ -20,7 +20,7 @@ use sat_rows::GpsRows;
 use std::alloc::Global;
 
 /// Writes the log of these epochs of the files and prints its report.
-fn write_solution<H: Shelf, O: Sink, E: Sink>(
+pub fn write_solution<H: Shelf, O: Sink, E: Sink>(
     alloc: Global,
     limits: &Limits,
     inputs: &Inputs,

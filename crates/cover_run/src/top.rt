@@ -1,15 +1,16 @@
 //! The whole run of the program.
 
-ghost use Rattle.std.specs.Prelude.{◌≡◌, ◌⊎◌, Some};
+ghost use Rattle.std.specs.Prelude.{◌≡◌, ◌≢◌, ◌⊎◌, None, Some};
 ghost use Rattle.command_words.specs.Commands.{command_of};
-ghost use Rattle.command_words.specs.Seen.{asked, texts};
-ghost use Rattle.cover_run.specs.Runs.{IsNoJob, Obeys, Runs};
+ghost use Rattle.command_words.specs.Seen.{HasRanges, asked, texts};
+ghost use Rattle.cover_run.specs.Runs.{Obeys, Runs};
 ghost use Rattle.cover_run.specs.Worlds.{world};
 ghost use Rattle.log_writer.specs.Writing.{trust_of};
 ghost use Rattle.cover_run.specs.declared.status.Status.{Status};
 
 use crate::checking::run_check;
 use crate::judging::run_judge;
+use crate::making::run_make;
 use crate::notice::Notice;
 use crate::pave::run_pave;
 use crate::solving::run_solve;
@@ -26,8 +27,9 @@ use std::alloc::Global;
 /// the log and prints its report on `out`. `check` with the same words reads them and the log, and
 /// prints the verdict of the files on it. Both take `--from N` and `--to N`, the first and the last
 /// epoch that is taken. `pave ROWS LOG` reads the rows, paves their epochs, writes the log and
-/// prints the report on `out`. What stands in the way is said on `err`, where a fault changes
-/// nothing.
+/// prints the report on `out`. `make SEED EPOCHS` makes the files of a receiver, solves them in
+/// memory and prints two lines on `out`. What stands in the way is said on `err`, where a fault
+/// changes nothing.
 pub fn run<H: Shelf, O: Sink, E: Sink>(
     alloc: Global,
     limits: &Limits,
@@ -37,10 +39,9 @@ pub fn run<H: Shelf, O: Sink, E: Sink>(
     err: &mut E,
 ) -> Status
     // Usage is answered only where `clap` doesn't take the words or a number among them hasn't its
-    // form and range, and for a job that isn't done yet. There nothing else is, but for want of
-    // memory.
-    ensures usage { result ≡ Status.Usage → IsNoJob (command_of (texts words.now)) }
-    ensures no_job { IsNoJob (command_of (texts words.now))
+    // form and range. There nothing else is, but for want of memory.
+    ensures usage { result ≡ Status.Usage → command_of (texts words.now) ≡ None }
+    ensures no_command { command_of (texts words.now) ≡ None
         → (result ≡ Status.Usage) ⊎ (result ≡ Status.NoMemory) }
     ensures runs { Runs limits.now (command_of (texts words.now))
         (world (H.state shelf.old) (O.state out.old) (E.state err.old))
@@ -63,8 +64,8 @@ fn obey<H: Shelf, O: Sink, E: Sink>(
     out: &mut O,
     err: &mut E,
 ) -> Status
-    ensures usage { result ≡ Status.Usage → IsNoJob (Some (asked command.now)) }
-    ensures no_job { IsNoJob (Some (asked command.now)) → result ≡ Status.Usage }
+    requires { HasRanges command.now }
+    ensures known { result ≢ Status.Usage }
     ensures obeys { Obeys limits.now (Some (asked command.now))
         (world (H.state shelf.old) (O.state out.old) (E.state err.old))
         (world (H.state shelf.new) (O.state out.new) (E.state err.new))
@@ -75,6 +76,6 @@ fn obey<H: Shelf, O: Sink, E: Sink>(
         Command::Pave { rows, log } => run_pave(alloc, limits, rows, log, shelf, out, err),
         Command::Solve(files) => run_solve(alloc, limits, files, shelf, out, err),
         Command::Check(files) => run_check(alloc, limits, files, shelf, out, err),
-        Command::Make { .. } => say(err, &Notice::Usage),
+        Command::Make { seed, epochs } => run_make(alloc, limits, *seed, *epochs, out, err),
     }
 }

@@ -350,3 +350,32 @@ obs_read epochs are few =
         ),
       ),
     ))
+
+-- ---- how long it is
+
+satellites_length : (least : ℕ) (sats : List SatCode) (more : List (List ℕ)) → AreSeenFrom least sats
+    → length (text_of (satellite_lines sats more)) ≡ 18 * length sats + length (text_of more)
+satellites_length least [] more rising = omega arith
+satellites_length least (seen ∷ sats) more rising =
+    let line = (satellite_cell seen rising.2).len in
+    let rest = satellites_length (seen.number + 1) sats more rising.3 in
+    omega (arith, length-append (satellite_text seen) (10 ∷ text_of (satellite_lines sats more)), line, rest)
+
+epochs_length : (epochs : List EpochCodes) → AreEpochs epochs → length (text_of (epoch_lines epochs)) ≤ 1188 * length epochs
+epochs_length [] are = omega arith
+epochs_length (epoch ∷ epochs) are =
+    let is = are.0 in
+    let first = head_text epoch.hour epoch.minute epoch.second (length epoch.sats.items) in
+    let line = (head_cell epoch.hour epoch.minute epoch.second (length epoch.sats.items) is.second (omega (arith, is.few))).len in
+    let sats = satellites_length 1 epoch.sats.items (epoch_lines epochs) is.sats in
+    omega (
+      arith,
+      length-append first (10 ∷ text_of (satellite_lines epoch.sats.items (epoch_lines epochs))),
+      line,
+      sats,
+      is.few,
+      epochs_length epochs are.1,
+    )
+
+pub obs_length : (epochs : List EpochCodes) → AreEpochs epochs → length epochs ≤ 200000 → length (text_of (obs_lines epochs)) ≤ 4000000000
+obs_length epochs are few = omega (arith, few, epochs_length epochs are)

@@ -27,6 +27,7 @@ use Rattle.sat_model.specs.Logs.{LogValue}
 use Rattle.cover_run.specs.Checking.{CheckedValue, ReadsChecked, ReadsLog}
 use Rattle.cover_run.specs.Inputs.{InputsValue, ReadsInputs, ReadsNav, ReadsObs, settings_text, nav_text, obs_text, wants_position}
 use Rattle.cover_run.specs.Logs.{log_text, rows_text}
+use Rattle.cover_run.specs.Making.{Makes, made_text}
 use Rattle.cover_run.specs.Paving.{IsPaved}
 use Rattle.cover_run.specs.Reading as reading
 use Rattle.cover_run.specs.Reading.{Text, Breaks, MayBreak, IsCounted, Reading, Found, valued, Named, Then, Returns, ReadsFile, limit_of, file_in, LeavesFiles, Untouched}
@@ -164,6 +165,34 @@ module _ (Yes No : List ℕ → Type 0) (before after : World) (trust : Trust) w
   told_sound status.ReadFault out t is = t
   told_sound status.LogFull out t is = t
 
+-- the two lines of made files
+module _ (limit seed count : ℕ) (before after : World) (trust : Trust) where
+  abbrev MakesHere : Status → Type 0
+  MakesHere s = Makes limit seed count (sinks before.out before.err) (sinks after.out after.err) trust.out s
+
+  makes_takes : (s : Status) → MakesHere s → Takes before.out after.out
+  makes_takes status.Done (log, solves, prints) = (made_text seed count log, prints.0)
+  makes_takes status.WriteFault (log, solves, breaks) = (take breaks.prefix.0 (made_text seed count log), breaks.prefix.2)
+  makes_takes status.LogFull (full, said, same) = took_none before.out after.out same
+  makes_takes status.NoMemory (said, same) = took_none before.out after.out same
+  makes_takes status.No m = absurd m
+  makes_takes status.Usage m = absurd m
+  makes_takes status.Refused m = absurd m
+  makes_takes status.ReadFault m = absurd m
+
+  makes_sound : (s : Status) → trust.out → MakesHere s → IsFault s → ⊥
+  makes_sound status.Done out m (inl e) = cc
+  makes_sound status.Done out m (inr e) = cc
+  makes_sound status.WriteFault out (log, solves, breaks) is = breaks.unreliable out
+  makes_sound status.LogFull out m (inl e) = cc
+  makes_sound status.LogFull out m (inr e) = cc
+  makes_sound status.NoMemory out m (inl e) = cc
+  makes_sound status.NoMemory out m (inr e) = cc
+  makes_sound status.No out m is = m
+  makes_sound status.Usage out m is = m
+  makes_sound status.Refused out m is = m
+  makes_sound status.ReadFault out m is = m
+
 module _ (name : List ℕ) (before after : World) (trust : Trust) (slots : List Slot) (limit most : ℕ) (IsTextOf : Answer → (bytes said : List ℕ) → Type 0) (s : Status) where
   writes_takes : Writes name before after trust slots limit most IsTextOf s → Takes before.out after.out
   writes_takes (inl none) = took_none before.out after.out none.out
@@ -249,6 +278,14 @@ usage_harmless s is (inr e) = let f : status.Usage ≡ status.WriteFault = sym i
 same_told : (limit : ℕ) (told : Told) (before after : ShelfState) → before.told ≡ Some told → after ≡ before → HasWritten limit told after
 same_told limit told before after tells e = record { told = told; tells = ap (λ (s : ShelfState). s.told) e ∙ tells; terms = refl; few = omega arith }
 
+make_safe : (limit seed count : ℕ) (log : Option (List ℕ)) (told : Told) (before after : World) (trust : Trust) (s : Status) → before.shelf.told ≡ Some told
+    → MakesHere limit seed count before after trust s → after.shelf ≡ before.shelf → IsSafe limit log told before after trust s
+make_safe limit seed count log told before after trust s tells makes same = record {
+  sound = λ sure named out. makes_sound limit seed count before after trust s out makes;
+  shelf = same_told limit told before.shelf after.shelf tells same;
+  out = makes_takes limit seed count before after trust s makes;
+}
+
 only_safe : (n : Notice) (limit : ℕ) (log : Option (List ℕ)) (told : Told) (before after : World) (trust : Trust) (s : Status) → before.shelf.told ≡ Some told
     → (s ≡ status_of n → IsFault s → ⊥) → OnlySays n before after s → IsSafe limit log told before after trust s
 only_safe n limit log told before after trust s tells harmless (is, said, shelf, out) = record {
@@ -297,7 +334,8 @@ module _ (limits : Limits) (told : Told) (before after : World) (trust : Trust) 
   obeys_safe (Check names) s tells there r =
       task_safe (checking limits names) limits.log None told before after trust s tells (check_sound names there)
       (λ v does. tell_safe _ _ _ limits.log told before after trust s tells does) r
-  obeys_safe (Make seed epochs) s tells there r = only_safe notice.Usage limits.log None told before after trust s tells (usage_harmless s) r
+  obeys_safe (Make seed epochs) s tells there r =
+      make_safe limits.log seed epochs None told before after trust s tells r.0 r.1
 
   run_safe : (command : Command) (s : Status) → before.shelf.told ≡ Some told → AreThere told.files command → Runs limits (Some command) before after trust s
       → IsSafe limits.log (written_by command) told before after trust s

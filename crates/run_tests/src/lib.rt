@@ -9,6 +9,8 @@ mod epochs;
 #[cfg(test)]
 mod files;
 #[cfg(test)]
+mod made;
+#[cfg(test)]
 mod narrowing;
 #[cfg(test)]
 mod outer;

@@ -1,0 +1,126 @@
+-- The numbers of totals, summed block by block.
+use Rattle.std.proofs.Common.{◌≡◌, ℕ, ◌+◌, ◌*◌, ◌≤◌, arith, Bool, false, List, [], ◌∷◌, ap, cond}
+use Rattle.std.proofs.Common.{count_by, drop, Option, None, Some, refl}
+use Rattle.std.proofs.lemmas.List.Sums.{sum_by-cons, sum_by-append}
+use Rattle.epoch_report.specs.Reports.{counts_of}
+use Rattle.paving_log.proofs.OwnLemmas.{IsBlockAt}
+use Rattle.sat_model.specs.Boxes.{GridBox}
+use Rattle.sat_model.specs.Fold.{ShownStep, Stage, after, first_stage, pieces_from}
+use Rattle.sat_model.specs.Fold.{slab_of_cut, taken_by}
+use Rattle.sat_model.specs.Logs.{Block, LogValue, IsNumbered, IsNumberedFrom, lines_in, lines_with}
+use Rattle.sat_model.specs.StepKinds.{is_inside, is_edge, is_outside}
+use Rattle.sat_model.specs.Verdicts.{BlocksPass, BodyPasses, Judged, StepPasses, StepsPass}
+use Rattle.sat_model.specs.declared.rules.Rules.{Rules}
+use Rattle.sat_model.specs.declared.satellites.Row.{Row}
+use Rattle.sat_model.specs.declared.steps.Step.{Step}
+use Rattle.sat_model.specs.declared.steps.Step.TheVariants.{Cut, Split, Outside, Inside, Edge}
+use Rattle.cover_run.specs.Making.{count_of, is_of, summed}
+use Rattle.cover_run.specs.declared.totals.Kind.{Kind}
+use Rattle.cover_run.specs.declared.totals.Kind.TheVariants as kind
+
+-- ---- steps that pass are those of the report's lines
+
+module _ (p : Step → Bool) (splits : (id axis : ℕ) → p (Split id axis) ≡ false) where
+  abbrev shows : ShownStep → Bool
+  shows piece = p piece.step
+
+  one : (piece : ShownStep) → count_by shows (piece ∷ []) ≡ cond (p piece.step) 1 0
+  one piece = omega (arith, sum_by-cons (λ (x : ShownStep). cond (shows x) 1 0) piece [])
+
+  counted_taken : (rows : List Row) (rules : Rules) (stage : Stage) (step : Step)
+      → StepPasses rows rules stage step → count_by shows (taken_by stage step) ≡ cond (p step) 1 0
+  counted_taken rows rules stage (Cut id face bound) (part, is, cuts) =
+      rw is (one (record { step = Cut id face bound; part = slab_of_cut face bound part }))
+  counted_taken rows rules stage (Split id axis) h = rw (splits id axis) refl
+  counted_taken rows rules stage (Outside id) (part, is, empty) =
+      rw is (one (record { step = Outside id; part = part }))
+  counted_taken rows rules stage (Inside id clock lo hi) (part, is, inner, hull) =
+      rw is (one (record { step = Inside id clock lo hi; part = part }))
+  counted_taken rows rules stage (Edge id lo hi) (part, is, hull) =
+      rw is (one (record { step = Edge id lo hi; part = part }))
+
+  counted : (rows : List Row) (rules : Rules) (done : ℕ) (stage : Stage) (steps : List Step)
+      → StepsPass rows rules done stage steps
+      → count_by shows (pieces_from stage steps) ≡ count_by p steps
+  counted rows rules done stage [] h = refl
+  counted rows rules done stage (step ∷ steps) h =
+      omega (
+        arith,
+        sum_by-append (λ (x : ShownStep). cond (shows x) 1 0) (taken_by stage step)
+            (pieces_from (after stage step) steps),
+        sum_by-cons (λ (s : Step). cond (p s) 1 0) step steps,
+        counted_taken rows rules stage step h.0,
+        counted rows rules done (after stage step) steps h.1,
+      )
+
+pub count_is : (k : Kind) (rows : List Row) (rules : Rules) (done : ℕ) (root : GridBox)
+    (steps : List Step) → StepsPass rows rules done (first_stage root) steps
+    → count_of k (counts_of root steps) ≡ count_by (is_of k) steps
+count_is kind.Inside rows rules done root steps h =
+    counted is_inside (λ id axis. refl) rows rules done (first_stage root) steps h
+count_is kind.Edge rows rules done root steps h =
+    counted is_edge (λ id axis. refl) rows rules done (first_stage root) steps h
+count_is kind.Outside rows rules done root steps h =
+    counted is_outside (λ id axis. refl) rows rules done (first_stage root) steps h
+count_is kind.Splits rows rules done root steps h = refl
+
+pub some_line : (block : Block) (root : Option GridBox) → 1 ≤ lines_with block root
+some_line block None = omega arith
+some_line block (Some root) = omega arith
+
+-- ---- a sum, block by block
+
+last_number : (next : ℕ) (blocks : List Block) → IsNumberedFrom next blocks → next ≤ 4000000001
+last_number next [] h = h
+last_number next (block ∷ more) h = omega (arith, last_number (next + lines_in block) more h.1)
+
+-- the blocks before number i have this sum
+pub record IsSummed (number : Block → ℕ) (log : LogValue) (i total : ℕ) : Type 0 where
+  pub whole : total + summed number (drop i log.blocks) ≡ summed number log.blocks
+  pub next : ℕ
+  pub numbered : IsNumberedFrom next (drop i log.blocks)
+  pub few : total ≤ 4294967295 * next
+  pub before : Option ℕ
+  pub pass : BlocksPass log.rules before (drop i log.blocks)
+
+module _ {number : Block → ℕ} {log : LogValue} where
+  pub summed_first : IsNumbered log → Judged log → IsSummed number log 0 0
+  summed_first numbered judged = record {
+    whole = omega arith;
+    next = 3;
+    numbered = numbered;
+    few = omega arith;
+    before = None;
+    pass = judged;
+  }
+
+  pub body_here : {i total : ℕ} {block : Block} → IsSummed number log i total
+      → IsBlockAt log i block → BodyPasses log.rules block block.root
+  body_here s here = (rw here.at at s.pass).0.body
+
+  pub summed_more : {i total : ℕ} {block : Block} (one : ℕ) → IsSummed number log i total
+      → IsBlockAt log i block → one ≡ number block → one ≤ 4294967295 * lines_in block
+      → IsSummed number log (i + 1) (total + one)
+  summed_more {block = block} one s here is few = record {
+    whole = omega (arith, s.whole, ap (summed number) here.at, is);
+    next = s.next + lines_in block;
+    numbered = (rw here.at at s.numbered).1;
+    few = omega (arith, s.few, few);
+    before = Some block.index;
+    pass = (rw here.at at s.pass).1;
+  }
+
+  pub summed_fits : {i total : ℕ} {block : Block} (one : ℕ) → IsSummed number log i total
+      → IsBlockAt log i block → one ≤ 4294967295 * lines_in block
+      → total + one ≤ 17179869184294967295
+  summed_fits {i = i} {block = block} one s here few =
+      omega (
+        arith,
+        s.few,
+        few,
+        last_number (s.next + lines_in block) (drop (i + 1) log.blocks) (rw here.at at s.numbered).1,
+      )
+
+  pub summed_all : {i total : ℕ} → IsSummed number log i total → drop i log.blocks ≡ []
+      → total ≡ summed number log.blocks
+  summed_all s none = omega (arith, s.whole, ap (summed number) none)

@@ -1,0 +1,10 @@
+use Rattle.std.proofs.Common.{refl}
+use Rattle.cover_run.proofs.MakingLemmas.{makes_known}
+use Rattle.cover_run.proofs.top.obey.Goals as goal
+
+pub returns-in-Make-clause-known : goal.returns-in-Make-clause-known
+returns-in-Make-clause-known g c =
+    makes_known c.args.limits.now.log _ _ _ _ _ c.run_make.result c.run_make.ensures
+
+pub returns-in-Make-clause-obeys : goal.returns-in-Make-clause-obeys
+returns-in-Make-clause-obeys g c = rw c.in-Make.is (c.run_make.ensures, refl)

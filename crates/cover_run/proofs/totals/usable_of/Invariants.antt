@@ -1,0 +1,7 @@
+use Rattle.paving_log.specs.Values.{log_value}
+use Rattle.cover_run.proofs.TotalLemmas.{IsSummed}
+use Rattle.cover_run.specs.Making.{usable_in}
+use Rattle.cover_run.proofs.totals.usable_of.Given as goal
+
+abbrev pub invariant-loop-epoch : goal.invariant-loop-epoch
+invariant-loop-epoch l = IsSummed usable_in (log_value l.log) l.epoch-index l.total

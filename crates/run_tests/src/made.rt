@@ -1,0 +1,116 @@
+use crate::shelves::words;
+use cover_run::{Limits, Status, run};
+use made_input::make;
+use outer_io::{MemoryShelf, MemorySink};
+use std::alloc::Global;
+use std::process::Abort;
+use std::test::Fail;
+
+const LIMITS: Limits = Limits {
+    file: 1_000_000,
+    settings: 2_000,
+    log: 1_000_000,
+};
+
+// A shelf without files, on which nothing can be written.
+fn empty_shelf(alloc: Global) -> Result<MemoryShelf, Fail> {
+    let name = String::from_str(alloc, "b.log")?;
+    Ok(MemoryShelf::make(alloc, Vec::new(alloc), name, 0, Vec::new(alloc))?)
+}
+
+// What a run prints on standard output, which takes so many bytes.
+fn printed(
+    rt: &(impl Abort + AllocGlobal),
+    texts: &[&str],
+    limits: &Limits,
+    shelf: &mut MemoryShelf,
+    room: u64,
+    ends: (Status, &str),
+) -> Result<MemorySink, Fail> {
+    let alloc = rt.alloc();
+    let words = words(alloc, texts)?;
+    let mut out = MemorySink::make(alloc, room, Vec::new(alloc))?;
+    let mut err = MemorySink::make(alloc, 200, Vec::new(alloc))?;
+    let status = run(alloc, limits, &words, shelf, &mut out, &mut err);
+    assert_eq!(rt; status, ends.0);
+    assert_eq!(rt; err.bytes(), ends.1.as_bytes());
+    Ok(out)
+}
+
+// How many lines of a text begin with this word.
+fn lines_of(text: &str, word: &str) -> usize {
+    text.lines().filter(|line| line.starts_with(word)).count()
+}
+
+#[test]
+fn a_made_receiver_is_solved(rt: HostRuntime) -> Result<(), Fail> {
+    let table = [
+        ("0", "1", "made seed 0 epochs 1 satellites 8\nboxes in "),
+        ("7", "3", "made seed 7 epochs 3 satellites 24\nboxes in "),
+        (
+            "4294967295",
+            "2",
+            "made seed 4294967295 epochs 2 satellites 16\nboxes in ",
+        ),
+    ];
+    for (seed, epochs, begins) in table {
+        let mut shelf = empty_shelf(rt.alloc())?;
+        let texts = ["make", seed, epochs];
+        let ends = (Status::Done, "");
+        let first = printed(&rt, &texts, &LIMITS, &mut shelf, 200, ends)?;
+        assert!(rt; first.bytes().starts_with(begins.as_bytes()));
+        let second = printed(&rt, &texts, &LIMITS, &mut shelf, 200, ends)?;
+        assert_eq!(rt; second.bytes(), first.bytes());
+    }
+    Ok(())
+}
+
+// The log counts against its limit, and the lines are printed as far as there is room.
+#[test]
+fn a_made_run_ends_early(rt: HostRuntime) -> Result<(), Fail> {
+    let limits = Limits {
+        file: 0,
+        settings: 0,
+        log: 61,
+    };
+    let texts = ["make", "7", "1"];
+    let mut shelf = empty_shelf(rt.alloc())?;
+    let full = (Status::LogFull, "log full 61\n");
+    let none = printed(&rt, &texts, &limits, &mut shelf, 200, full)?;
+    assert!(rt; none.bytes().is_empty());
+    let fault = (Status::WriteFault, "out fault\n");
+    let cut = printed(&rt, &texts, &LIMITS, &mut shelf, 30, fault)?;
+    assert_eq!(rt; cut.bytes(), "made seed 7 epochs 1 satellite".as_bytes());
+    Ok(())
+}
+
+// The same files, written out, are solved and checked, and the totals are those of the report.
+#[test]
+fn made_files_are_solved_and_checked(rt: HostRuntime) -> Result<(), Fail> {
+    let alloc = rt.alloc();
+    let made = make(alloc, 7, 3)?;
+    let files = vec![in alloc;
+        (String::from_str(alloc, "a.obs")?, made.obs),
+        (String::from_str(alloc, "a.nav")?, made.nav),
+        (String::from_str(alloc, "a.toml")?, made.settings),
+    ]?;
+    let name = String::from_str(alloc, "b.log")?;
+    let mut shelf = MemoryShelf::make(alloc, files, name, 1_000_000, Vec::new(alloc))?;
+    let done = (Status::Done, "");
+    let solve = ["solve", "a.obs", "a.nav", "a.toml", "b.log"];
+    let out = printed(&rt, &solve, &LIMITS, &mut shelf, 1_000_000, done)?;
+    let report = str::from_utf8(out.bytes()).unwrap_or("");
+    let (inside, edge) = (lines_of(report, "in "), lines_of(report, "edge "));
+    let check = ["check", "a.obs", "a.nav", "a.toml", "b.log"];
+    let yes = printed(&rt, &check, &LIMITS, &mut shelf, 200, done)?;
+    let verdict = format!(in alloc; "yes {}\n", inside + edge)?;
+    assert_eq!(rt; yes.bytes(), verdict.as_bytes());
+    let outside = lines_of(report, "out ");
+    let lines = format!(in alloc;
+        "made seed 7 epochs 3 satellites 24\nboxes in {inside} edge {edge} out {outside} bisections "
+    )?;
+    let mut none = empty_shelf(alloc)?;
+    let told = printed(&rt, &["make", "7", "3"], &LIMITS, &mut none, 200, done)?;
+    assert!(rt; told.bytes().starts_with(lines.as_bytes()));
+    Ok(())
+}

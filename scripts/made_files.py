@@ -1,0 +1,253 @@
+#!/usr/bin/env python3
+"""Writes the files of a receiver whose place is known, has them solved and checked, and looks for the place.
+
+usage: made_files.py SEED EPOCHS [--folder FOLDER] [--program GPSCOVER]
+
+The files are those of which the command `make SEED EPOCHS` speaks: eight satellites, a place, and a pseudorange of each
+satellite every 30 s, with noise of up to 2 m and one outlier of 500 m an epoch, all drawn by one generator. Here they are
+computed anew with floating-point numbers, by the equations of IS-GPS-200 alone. GPSCOVER (./gpscover) solves them from
+FOLDER, or from a folder that is removed at the end, and checks its log. Then the place has to lie in a box that was kept
+of each epoch, at a clock span that holds 0. What is printed are the sums of the report's totals, in the form of `make`,
+and whether `make` prints the same. In one code of a hundred two neighbouring numbers of mm will do, and the program may
+take the other one; then the second line may differ.
+
+Exit status: 0; 1 where a run fails, the place isn't held or the first line of `make` is another; 2 for a wrong command
+line.
+"""
+import argparse
+import math
+import subprocess
+import tempfile
+from pathlib import Path
+
+from coverlog import UM_PER_M, LogError, epochs, run_tool
+
+LIGHT = 299792458.0  # m/s
+MU = 3.986005e14  # m^3/s^2
+EARTH_RATE = 7.2921151467e-5  # rad/s
+RELATIVITY = -4.442807633e-10  # s/m^(1/2)
+
+# What is the same in all made records, in s, m^(1/2) and rad. Their satellites' axes, planes and clocks follow.
+TOE, ROOT_AXIS, INCLINATION, PERIGEE, NODE_RATE, GROUP_DELAY = 7200.0, 5153.6, 0.96, 0.5, -8e-9, -1e-8
+# The time of the first epoch in s of the week, and what is between two.
+START, STEP = 3600, 30
+SATELLITES, NOISE_MM, OUTLIER_MM = range(1, 9), 2000, 500_000
+
+LABELS = {
+    "obs": [
+        ("     3.05           OBSERVATION DATA    G", "RINEX VERSION / TYPE"),
+        ("G    1 C1C", "SYS / # / OBS TYPES"),
+        ("  2024     1     7     1     0    0.0000000     GPS", "TIME OF FIRST OBS"),
+        ("", "END OF HEADER"),
+    ],
+    "nav": [("     3.05           N: GNSS NAV DATA    G", "RINEX VERSION / TYPE"), ("", "END OF HEADER")],
+}
+SETTINGS = """\
+[bounds]
+ionosphere = [0, 0]
+orbit_clock = [0, 0]
+receiver = [-2500, 2500]
+troposphere = [0, 0]
+
+[search]
+bisections = 64
+centre = [{}, {}, {}]
+half = 50000
+max_age = 7200
+outliers = 1
+width = 1000
+
+[signal]
+codes = ["C1C"]
+mode = "single"
+"""
+
+
+def draws(state):
+    """A function that draws a number below `most`, each time the next one."""
+    def draw(most):
+        nonlocal state
+        state = (6364136223846793005 * state + 1442695040888963407) % 2**64
+        return (state >> 33) % most
+
+    return draw
+
+
+# ---- a satellite
+
+class Satellite:
+    """A made satellite: its record, and what the user algorithm gives for it."""
+
+    def __init__(self, number, drawn):
+        self.number, self.mean_thousandths = number, 700 * number + drawn
+        self.mean, self.eccentricity = self.mean_thousandths / 1000, number / 1000
+        self.node, self.offset = float(number % 6), number * 1e-5
+        self.axis = ROOT_AXIS**2
+
+    def anomaly(self, time):
+        """The eccentric anomaly at a time in s from the ephemeris time."""
+        mean = self.mean + math.sqrt(MU / self.axis**3) * time
+        anomaly = mean
+        for _ in range(50):
+            anomaly = mean + self.eccentricity * math.sin(anomaly)
+        return anomaly
+
+    def clock(self, time):
+        """How much the satellite's clock is ahead for a user of one code, in s."""
+        periodic = RELATIVITY * self.eccentricity * ROOT_AXIS * math.sin(self.anomaly(time))
+        return self.offset - GROUP_DELAY + periodic
+
+    def place(self, time):
+        """The place in the earth-fixed frame of that time, in m."""
+        anomaly, e = self.anomaly(time), self.eccentricity
+        true = math.atan2(math.sqrt(1 - e * e) * math.sin(anomaly), math.cos(anomaly) - e)
+        radius, latitude = self.axis * (1 - e * math.cos(anomaly)), true + PERIGEE
+        x, y = radius * math.cos(latitude), radius * math.sin(latitude)
+        node = self.node + (NODE_RATE - EARTH_RATE) * time - EARTH_RATE * TOE
+        return (
+            x * math.cos(node) - y * math.cos(INCLINATION) * math.sin(node),
+            x * math.sin(node) + y * math.cos(INCLINATION) * math.cos(node),
+            y * math.sin(INCLINATION),
+        )
+
+    def residual(self, receiver, tag, code):
+        """The corrected pseudorange less the range in m, for a code in m at a time in s of the week."""
+        sent = tag - TOE - code / LIGHT
+        ahead = self.clock(sent - self.clock(sent))
+        x, y, z = self.place(sent - ahead)
+        distance = math.dist(receiver, (x, y, z))
+        for _ in range(2):
+            angle = EARTH_RATE * distance / LIGHT
+            turned = x * math.cos(angle) + y * math.sin(angle), y * math.cos(angle) - x * math.sin(angle), z
+            distance = math.dist(receiver, turned)
+        return code + LIGHT * ahead - distance
+
+    def code(self, receiver, tag, noise_mm):
+        """The greatest code in whole mm whose residual isn't above the noise, for a receiver whose clock is right."""
+        low, high = -20_000_000_000, 80_000_000_000
+        while high - low > 1:
+            middle = (low + high) // 2
+            if self.residual(receiver, tag, middle / 1000) * 1000 <= noise_mm:
+                low = middle
+            else:
+                high = middle
+        return low
+
+    def record(self):
+        """The eight lines of its navigation record."""
+        clock = f"G{self.number:02} 2024 01 07 02 00 00" + "".join(map(number, (self.offset, 0, 0)))
+        rows = [
+            (0, 0, 0, self.mean_thousandths / 1000),
+            (0, self.eccentricity, 0, ROOT_AXIS),
+            (TOE, 0, self.node, 0),
+            (INCLINATION, 0, PERIGEE, NODE_RATE),
+            (0, 0, 0, 0),
+            (0, 0, GROUP_DELAY, 0),
+            (0, 0, 0, 0),
+        ]
+        return [clock, *("    " + "".join(map(number, row)) for row in rows)]
+
+
+def number(value):
+    """A number in the 19 columns of a navigation field."""
+    return f"{value:19.12E}".replace("E", "D")
+
+
+# ---- the files
+
+def epoch_lines(index, receiver, satellites, draw):
+    """The lines of an epoch, counted from 0."""
+    tag = START + STEP * index
+    minutes, second = divmod(tag, 60)
+    lines = [f"> 2024 01 07 {minutes // 60:02} {minutes % 60:02} {second:2}.0000000  0  8"]
+    for satellite in satellites:
+        outlier = OUTLIER_MM if satellite.number == 1 + index % 8 else 0
+        noise = draw(2 * NOISE_MM + 1) - NOISE_MM + outlier
+        mm = satellite.code(receiver, tag, noise)
+        code = f"{mm // 1000}.{mm % 1000:03}"
+        lines.append(f"G{satellite.number:02}{code:>14}")
+    return lines
+
+
+def made(seed, count):
+    """The texts of the three files by their ending, and the place in m."""
+    draw = draws(seed)
+    receiver = [least + draw(1000) for least in (4_000_000, 3_000_000, 3_900_000)]
+    satellites = [Satellite(number, draw(100)) for number in SATELLITES]
+    head = {kind: [text.ljust(60) + label for text, label in lines] for kind, lines in LABELS.items()}
+    obs = [line for index in range(count) for line in epoch_lines(index, receiver, satellites, draw)]
+    nav = [line for satellite in satellites for line in satellite.record()]
+    centre = [1000 * (axis + aside) for axis, aside in zip(receiver, (7, -5, 3))]
+    texts = {
+        "obs": "".join(line + "\n" for line in head["obs"] + obs),
+        "nav": "".join(line + "\n" for line in head["nav"] + nav),
+        "toml": SETTINGS.format(*centre),
+    }
+    return texts, receiver
+
+
+# ---- the runs
+
+def run(words):
+    """What a run prints; LogError where it doesn't end with 0."""
+    ran = subprocess.run(words, stdin=subprocess.DEVNULL, capture_output=True, text=True)
+    if ran.returncode:
+        raise LogError(f"{' '.join(words)} ended with {ran.returncode}: {ran.stdout + ran.stderr.strip()}")
+    return ran.stdout
+
+
+def is_held(epoch, receiver):
+    """Whether the place is in a kept box of the epoch whose clock span holds 0."""
+    place = [axis * UM_PER_M for axis in receiver]
+    return any(
+        all(kept.box[k] <= place[k] <= kept.box[k + 3] for k in range(3)) and kept.clock[0] <= 0 <= kept.clock[1]
+        for kept in epoch.kept
+    )
+
+
+def sums(seed, count, usable, report):
+    """The two lines of `make`, from the totals of a report."""
+    totals = [line.split() for line in report.splitlines() if line.startswith("total ")]
+    inside, edge, out, splits = (sum(int(words[k]) for words in totals) for k in (2, 4, 6, 8))
+    first = f"made seed {seed} epochs {count} satellites {usable}\n"
+    return first + f"boxes in {inside} edge {edge} out {out} bisections {splits}\n"
+
+
+def solve_and_check(program, folder, seed, count):
+    """Writes the files into a folder, runs the program on them, and gives the lines to print."""
+    texts, receiver = made(seed, count)
+    for kind, text in texts.items():
+        (folder / f"made.{kind}").write_text(text, encoding="ascii", newline="\n")
+    files = [str(folder / f"made.{kind}") for kind in ("obs", "nav", "toml", "log")]
+    report = run([program, "solve", *files])
+    verdict = run([program, "check", *files])
+    found = list(epochs(files[-1]))
+    lost = [epoch.index for epoch in found if not is_held(epoch, receiver)]
+    if len(found) != count or lost:
+        raise LogError(f"of {count} epochs {len(found)} are in the log, and these don't hold the place: {lost}")
+    lines = sums(seed, count, sum(epoch.satellites for epoch in found), report)
+    printed = run([program, "make", str(seed), str(count)])
+    if printed.splitlines()[0] != lines.splitlines()[0]:
+        raise LogError(f"make prints {printed.splitlines()[0]!r}")
+    same = "the same" if printed == lines else "another second line"
+    return f"{lines}{verdict}the place is held in each epoch; make prints {same}"
+
+
+def arguments():
+    """The words of the command line."""
+    parser = argparse.ArgumentParser(description="Has the files of a made receiver solved and checked.")
+    parser.add_argument("seed", metavar="SEED", type=int)
+    parser.add_argument("epochs", metavar="EPOCHS", type=int)
+    parser.add_argument("--folder", help="where the files are kept")
+    parser.add_argument("--program", default="./gpscover", help="the program (./gpscover)")
+    return parser.parse_args()
+
+
+def main():
+    args = arguments()
+    with tempfile.TemporaryDirectory() as room:
+        print(solve_and_check(args.program, Path(args.folder or room), args.seed, args.epochs))
+
+
+if __name__ == "__main__":
+    run_tool(main)
