@@ -1,18 +1,23 @@
 -- A log that paves the grown rows of searches leaves nothing clear.
 use Rattle.std.specs.Prelude.{pos}
-use Rattle.std.proofs.Common.{◌≡◌, Bool, true, false, List, [], ◌∷◌, refl, sym, ◌∙◌, Option, None, Some}
+use Rattle.std.proofs.Common.{◌≡◌, ℕ, Bool, true, false, List, [], ◌∷◌, refl, sym, ◌∙◌, Option, None, Some}
+use Rattle.box_steps.proofs.BoxLemmas.{grid_part}
 use Rattle.epoch_selection.specs.Searches.{search_in, searches_in}
 use Rattle.range_contractor.proofs.TreeExists.{IsGridPart}
 use Rattle.rinex_obs.specs.declared.obs.ObsEpoch.{ObsEpoch}
-use Rattle.sat_model.specs.Boxes.{GridBox}
+use Rattle.sat_model.specs.Boxes.{GridBox, grid_box}
 use Rattle.sat_model.specs.Lengths.{spare_of}
 use Rattle.sat_model.specs.Logs.{Block}
+use Rattle.sat_model.specs.declared.boxes.Box3.{Box3}
 use Rattle.sat_model.specs.declared.rules.Rules.{Rules}
 use Rattle.sat_rows.specs.Meanings.{Meaning, IsSound}
 use Rattle.sat_rows.specs.OwnRows.{AreLinesOf}
 use Rattle.sat_rows.specs.declared.lines.SatLine.{SatLine}
+use Rattle.epoch_rows.proofs.CameLemmas.{whole_of}
+use Rattle.epoch_rows.specs.EpochsLeft.{left_in, of_epochs}
 use Rattle.epoch_rows.specs.Grown.{HasBody, AreGrown, AreGrownLines}
 use Rattle.clear_boxes.specs.Left.{NothingClearLeft, BodyLeavesNothingClear, BlocksLeaveNothingClear}
+use Rattle.log_writer.specs.Texts.{IsWhole}
 use Rattle.log_writer.specs.Pavings.{HasRun, BodyPaves, AllPave}
 use Rattle.clear_boxes.proofs.RunLemmas.{run_clear}
 
@@ -41,3 +46,10 @@ module _ (m : Meaning) (sound : IsSound m) (rules : Rules) (root : GridBox) (gri
     body_clear epoch g.few grown.0.own g block block.root grown.0.are_own grown.0.body (sym pave.0.root) pave.0.sats pave.0.body,
     log_clear epochs given blocks grown.1 pave.1,
   )
+
+-- the whole log of a source of epochs
+pub whole_clear : (m : Meaning) (sound : IsSound m) (rules : Rules) (root : Box3) (epochs : List ObsEpoch) (limit : ℕ) (bytes said : List ℕ)
+    (w : IsWhole (of_epochs m rules.outliers) rules (left_in (grid_box root) epochs) limit bytes said) → BlocksLeaveNothingClear m rules (searches_in (grid_box root) epochs) w.log.blocks
+whole_clear m sound rules root epochs limit bytes said w =
+    let (given, grown, pave) = whole_of m rules.outliers rules (left_in (grid_box root) epochs) w.log.blocks w.behind w.came w.no_more in
+    log_clear m sound rules (grid_box root) (grid_part root) epochs given w.log.blocks grown pave

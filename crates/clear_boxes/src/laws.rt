@@ -2,11 +2,11 @@
 
 ghost use Rattle.std.specs.Prelude.{◌≡◌, ◌*◌, ◌≤◌, ℕ, List, pos};
 ghost use Rattle.clear_boxes.specs.Clear.{IsEmptyBy, IsInnerBy};
-ghost use Rattle.epoch_rows.specs.Grown.{AreGrown, AreGrownLines};
 ghost use Rattle.clear_boxes.specs.Left.{BlocksLeaveNothingClear, NothingClearLeft};
-ghost use Rattle.paving.specs.Paved.{Paved};
-ghost use Rattle.log_writer.specs.Pavings.{AllPave};
+ghost use Rattle.epoch_rows.specs.Grown.{AreGrown, AreGrownLines};
 ghost use Rattle.epoch_selection.specs.Searches.{search_in, searches_in};
+ghost use Rattle.log_writer.specs.Pavings.{AllPave};
+ghost use Rattle.paving.specs.Paved.{Paved};
 ghost use Rattle.rinex_obs.specs.declared.obs.ObsEpoch.{ObsEpoch};
 ghost use Rattle.sat_model.specs.Boxes.{GridBox, grid_box};
 ghost use Rattle.sat_model.specs.ClockSpans.{IsShownEmpty, IsShownInner};
@@ -28,14 +28,14 @@ pub fn clear_boxes_are_shown<S: RowSource>()
     ensures empty { (source : S) (epoch : ObsEpoch) (root part : GridBox) (margin q : ℕ)
         (own : List SatLine) (sats : List SatEntry)
         → AreLinesOf (S.meaning source) root epoch own → AreGrownLines (pos (spare_of root)) own sats
-        → LiesIn part root → 6 * spare_of root ≤ margin
-        → IsEmptyBy (S.meaning source) epoch part margin q
+        → LiesIn part root
+        → 6 * spare_of root ≤ margin → IsEmptyBy (S.meaning source) epoch part margin q
         → IsShownEmpty (rows_of sats) part q }
     ensures inner { (source : S) (epoch : ObsEpoch) (root part : GridBox) (margin q : ℕ)
         (own : List SatLine) (sats : List SatEntry)
         → AreLinesOf (S.meaning source) root epoch own → AreGrownLines (pos (spare_of root)) own sats
-        → LiesIn part root → 6 * spare_of root ≤ margin
-        → (clear : IsInnerBy (S.meaning source) epoch part margin q)
+        → LiesIn part root
+        → 6 * spare_of root ≤ margin → (clear : IsInnerBy (S.meaning source) epoch part margin q)
         → IsShownInner (rows_of sats) part q clear.offset }
 {}
 

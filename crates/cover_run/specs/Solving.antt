@@ -1,5 +1,6 @@
 -- What `solve` writes.
 use Rattle.std.specs.Prelude.{ℕ, List, [], length, Ok, Err}
+use Rattle.clear_boxes.specs.Left.{BlocksLeaveNothingClear}
 use Rattle.epoch_rows.specs.EpochsLeft.{EpochsLeft, left_in, of_epochs}
 use Rattle.epoch_selection.specs.Searches.{searches_in}
 use Rattle.epoch_selection.specs.Selections.{selected}
@@ -45,7 +46,9 @@ module _ (chosen : Selection) (i : Inputs) where
   -- The text of one log and its report, within the limit: each epoch's block has own lines, whose
   -- rows are wider by W at both ends, over the search box of the settings, and is formed when the
   -- one before is paved. All own lines of the epochs admit it, also those of the first epochs
-  -- alone; and in each epoch that it gives as paved, what fits is covered, and each in box fits.
+  -- alone; and in each epoch that it gives as paved, what fits is covered, and each in box fits. No
+  -- box is split or left at the edge where it is clear from the true ranges that nothing in it fits,
+  -- or that all does.
   pub record IsSolved (limit : ℕ) (bytes said : List ℕ) : Type 0 where
     pub root : GridBox
     pub is_root : IsRootOf i root
@@ -56,6 +59,8 @@ module _ (chosen : Selection) (i : Inputs) where
         → Admits (searches_in root (epochs_of chosen i)) owns i.settings.rules whole.log
     pub cover : FileCover (meaning_of i) i.settings.rules.outliers
         (searches_in root (epochs_of chosen i)) whole.log
+    pub nothing_clear : BlocksLeaveNothingClear (meaning_of i) i.settings.rules
+        (searches_in root (epochs_of chosen i)) whole.log.blocks
 
   -- what this fault left of both
   pub record IsSolvedTo (fault : WriteFault) (limit : ℕ) (bytes said : List ℕ) : Type 0 where

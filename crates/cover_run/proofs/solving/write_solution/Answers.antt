@@ -1,10 +1,8 @@
 use Rattle.std.proofs.Common.{[], List, ℕ, length, ap, subst}
-use Rattle.epoch_rows.proofs.AdmitLemmas.{has_corner}
 use Rattle.epoch_rows.proofs.KeptLemmas.{text_of_epochs}
 use Rattle.epoch_rows.specs.EpochsLeft.{EpochsLeft, left_of, of_epochs}
 use Rattle.log_writer.specs.Sizes.{most_bytes}
 use Rattle.log_writer.specs.Texts.{IsText}
-use Rattle.sat_model.specs.Boxes.{grid_box}
 use Rattle.sat_model.specs.declared.rules.Rules.{Rules}
 use Rattle.sat_rows.specs.Sources.{gps_meaning}
 use Rattle.sat_rows.specs.declared.gps.GpsRows.{GpsRows}
@@ -32,8 +30,8 @@ returns g c =
     let by_left = λ (answer : Answer) (bytes said : List ℕ). subst
     (λ (left : EpochsLeft). IsText (gives_of i) rules left limit answer bytes said) left_is in
     writes_as [] _ _ _ _ limit _ _ _ (IsSolution chosen i limit)
-    (λ answer bytes said text. solution_of chosen i (grid_box c.root-root.result) limit
-    c.root-root.result.lo answer bytes said c.root-root.ensures (has_corner c.root-root.result)
+    (λ answer bytes said text. solution_of chosen i c.root-root.result limit answer bytes said
+    c.root-root.ensures
     (by_left answer bytes said
     (by_rules answer bytes said (by_source answer bytes said (text_of_epochs
     (λ x. x.source.now) (λ x. x.rules) (λ x. x.searches)
