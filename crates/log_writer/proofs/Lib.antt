@@ -1,4 +1,5 @@
 pub mod ClockSizes
+pub mod GridSizes
 pub mod StepSizes
 pub mod RunSizes
 pub mod LineSizes

@@ -99,14 +99,14 @@ next_in_grid waiting next rest n grid =
     let (before, others) = grid_parts n.before (next ∷ n.behind) (subst AreGridBoxes n.all_waiting grid) in
     (others.0, subst AreGridBoxes (sym n.others) (grid_both n.before n.behind before others.1))
 
-low_inside : (s : Side) → s.lo ≤ℤ s.hi → SideLiesIn (low_half s) s
+pub low_inside : (s : Side) → s.lo ≤ℤ s.hi → SideLiesIn (low_half s) s
 low_inside s ordered = record {
   low = omega (arith, ints);
   ordered = omega (arith, ints);
   high = omega (arith, ints, above_is s.hi s.lo);
 }
 
-high_inside : (s : Side) → 0 < side_length s → SideLiesIn (high_half s) s
+pub high_inside : (s : Side) → 0 < side_length s → SideLiesIn (high_half s) s
 high_inside s some = record {
   low = omega (arith, ints);
   ordered = omega (arith, ints, above_is s.hi s.lo);

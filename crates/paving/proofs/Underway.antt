@@ -1,6 +1,6 @@
 -- A run that is underway.
-use Rattle.std.proofs.Common.{◌≡◌, ℕ, ◌+◌, ◌-◌, ◌<◌, ◌≤◌, List, [], ◌∷◌, ◌++◌, length, arith, refl, sym, ap, subst, ◌∙◌, append_assoc, ◌↔◌, None, Result, Err}
-use Rattle.std.specs.Prelude.{Bool, true, false, cond, count_by, Some}
+use Rattle.std.proofs.Common.{◌≡◌, ℕ, ◌+◌, ◌-◌, ◌*◌, ◌<◌, ◌≤◌, List, [], ◌∷◌, ◌++◌, length, arith, refl, sym, ap, subst, ◌∙◌, append_assoc, Some}
+use Rattle.std.specs.Prelude.{Bool, true, false, cond, count_by}
 use Rattle.std.proofs.lemmas.List.{append-nil, length-append}
 use Rattle.std.proofs.lemmas.List.Sums.{sum_by-append, sum_by-cons}
 use Rattle.std.proofs.lemmas.Int.{ints}
@@ -11,31 +11,39 @@ use Rattle.sat_model.specs.declared.rules.Rules.{Rules}
 use Rattle.sat_model.specs.declared.steps.Step.{Step}
 use Rattle.sat_model.specs.Boxes.{GridBox, grid_box, side_at}
 use Rattle.sat_model.proofs.AmountLemmas.{above_is}
-use Rattle.sat_model.specs.Paved.{WaitingBox, Paving, first_paving, IsNext, Closes, opened_by, splits_after, beyond, beyond_all, joined, steps_of}
-use Rattle.paving.specs.Paved.{AreStepsOf, PavesTo, Paved, PavedFirst}
-use Rattle.paving.specs.declared.counts.Counts.{Counts}
-use Rattle.box_steps.specs.Taken.{TookAll, step_bytes}
-use Rattle.paving.specs.Counting.{IsCountOf, counts_after}
-use Rattle.paving.specs.Runs.{IsRun, IsBroken}
-use Rattle.box_steps.specs.declared.steps.StepFault.{StepFault}
-use Rattle.box_steps.specs.declared.steps.StepFault.TheVariants.{Full}
-use Rattle.sat_model.specs.Fold.{first_stage, ShownStep}
+use Rattle.sat_model.specs.Fold.{ShownStep}
 use Rattle.sat_model.specs.StepKinds.{is_inside, is_edge, is_outside, is_split}
-use Rattle.sat_model.specs.Verdicts.{StepsPass}
-use Rattle.paving.proofs.PavedLemmas.{paved_passes, paved_covers}
-use Rattle.paving.proofs.PavedExists.{begins_run}
+use Rattle.sat_model.specs.Paved.{WaitingBox, Paving, first_paving, IsNext, Closes, opened_by, splits_after, beyond, beyond_all, joined}
+use Rattle.box_steps.specs.Taken.{TookAll}
+use Rattle.box_steps.specs.Ends.{last_of, TookBox}
+use Rattle.box_steps.specs.declared.work.Ended.{Ended}
+use Rattle.box_steps.proofs.TakingLemmas.{took_both}
+use Rattle.paving.specs.Paved.{grain_for, AreStepsOf, PavesTo}
+use Rattle.paving.specs.declared.counts.Counts.{Counts}
+use Rattle.paving.specs.Counting.{IsCountOf, counts_after, counts_with_cuts}
 use Rattle.paving.specs.Queues.{IsQueued, Takes, CanOpen, box_of, opened_count}
+use Rattle.paving.proofs.CutLemmas.{ends_by_last, opens_last, counted_cuts}
+use Rattle.paving.proofs.PavedLemmas.{AreCutsInTurn}
 
--- what holds before each box is taken up
-pub record IsUnderway {L : Type 0} (took : L → Step → GridBox → L → Type 0) (rows : List Row) (rules : Rules) (root : GridBox) (first now : L) (lists : List (List Item)) (counts : Counts) : Type 0 where
+-- so many boxes have at most so many steps of each kind, with up to 1,800 cuts a box
+pub record AreFew (counts : Counts) (boxes : ℕ) : Type 0 where
+  pub inside : counts.inside ≤ boxes
+  pub edge : counts.edge ≤ boxes
+  pub outside : counts.outside ≤ 1801 * boxes
+  pub splits : counts.bisections ≤ boxes
+
+-- what holds before each box is taken up, with so many spare nodes for boxes
+pub record IsUnderway {L : Type 0} (took : L → Step → GridBox → L → Type 0) (rows : List Row) (rules : Rules) (root : GridBox) (first now : L) (lists : List (List Item)) (spare : ℕ) (counts : Counts) : Type 0 where
   pub boxes : List (List ShownStep)
   pub paving : Paving
   pub paves : PavesTo rows rules (first_paving root) boxes paving
   pub taken : TookAll took first (joined boxes) now
   pub queued : IsQueued paving.waiting lists
   pub counted : IsCountOf counts (joined boxes)
+  pub few : AreFew counts (length boxes)
   pub splits_is : paving.splits ≡ counts.bisections
-  pub closed : length paving.waiting + (counts.inside + counts.edge + counts.outside) ≡ counts.bisections + 1
+  pub opened : length paving.waiting + length boxes ≡ 2 * counts.bisections + 1
+  pub spared : spare + length paving.waiting ≡ rules.bisections + 1
   pub within : counts.bisections ≤ rules.bisections
 
 -- a run goes on by one box
@@ -48,58 +56,9 @@ paves_more rows rules start middle [] next rest own paves is own_is =
 paves_more rows rules start middle (first ∷ boxes) next rest own (n, r, n_is, f_is, later) is own_is =
     (n, r, n_is, f_is, paves_more rows rules (beyond_all (record { waiting = r; splits = start.splits }) first) middle boxes next rest own later is own_is)
 
-pub took_more : {L : Type 0} (took : L → Step → GridBox → L → Type 0) (first middle last : L) (steps : List ShownStep) (shown : ShownStep)
-    → TookAll took first steps middle → took middle shown.step shown.part last → TookAll took first (steps ++ shown ∷ []) last
-took_more {L} took first middle last [] shown taken took_it =
-    (last, subst (λ (l : L). took l shown.step shown.part last) (sym taken) took_it, refl)
-took_more took first middle last (s ∷ steps) shown (n, first_took, later) took_it = (n, first_took, took_more took n middle last steps shown later took_it)
-
 pub joined_more : (boxes : List (List ShownStep)) (own : List ShownStep) → joined (boxes ++ own ∷ []) ≡ joined boxes ++ own
 joined_more [] own = append-nil own
 joined_more (first ∷ boxes) own = ap (λ l. first ++ l) (joined_more boxes own) ∙ sym (append_assoc first (joined boxes) own)
-
-abbrev pub shown_of : Step → Item → ShownStep
-shown_of step next = record { step = step; part = grid_box next.part }
-
--- the box in hand, with its step
-pub record IsInHand (rows : List Row) (rules : Rules) (paving : Paving) (next : Item) (step : Step) (lists : List (List Item)) : Type 0 where
-  pub rest : List WaitingBox
-  pub is_next : IsNext paving.waiting (box_of next) rest
-  pub queued : IsQueued rest lists
-  pub ends : Closes rows rules paving.splits next.id (grid_box next.part) step
-
-pub in_hand : {L : Type 0} (took : L → Step → GridBox → L → Type 0) (rows : List Row) (rules : Rules) (root : GridBox) (first now : L) (lists mid : List (List Item)) (counts : Counts) (next : Item) (step : Step)
-    → (u : IsUnderway took rows rules root first now lists counts) → Takes lists (Some next) mid → Closes rows rules counts.bisections next.id (grid_box next.part) step
-    → IsInHand rows rules u.paving next step mid
-in_hand took rows rules root first now lists mid counts next step u takes ends =
-    let (rest, is_next, queued) = takes u.paving.waiting u.queued in record {
-      rest = rest;
-      is_next = is_next;
-      queued = queued;
-      ends = subst (λ (s : ℕ). Closes rows rules s next.id (grid_box next.part) step) (sym u.splits_is) ends;
-    }
-
-pub paved_first_more : (rows : List Row) (rules : Rules) (root : GridBox) (boxes : List (List ShownStep)) (paving : Paving) (lists : List (List Item)) (next : Item) (step : Step) → rules.outliers < length rows
-    → PavesTo rows rules (first_paving root) boxes paving → IsInHand rows rules paving next step lists
-    → PavedFirst rows rules root (joined boxes ++ shown_of step next ∷ [])
-paved_first_more rows rules root boxes paving lists next step enough paves h =
-    subst (λ (l : List ShownStep). PavedFirst rows rules root l) (joined_more boxes (shown_of step next ∷ []))
-    (begins_run rows rules root (boxes ++ (shown_of step next ∷ []) ∷ []) (beyond (record { waiting = h.rest; splits = paving.splits }) (shown_of step next)) enough
-    (paves_more rows rules (first_paving root) paving boxes (box_of next) h.rest (shown_of step next ∷ []) paves h.is_next (refl, h.ends)))
-
--- the step broke
-pub broke_here : {L : Type 0} (took broke : L → Step → GridBox → L → Type 0) (room : L → ℕ) (fault : StepFault) (rows : List Row) (rules : Rules) (root : GridBox) (first now last : L) (lists mid : List (List Item)) (counts : Counts) (next : Item) (step : Step)
-    → rules.outliers < length rows → IsUnderway took rows rules root first now lists counts → Takes lists (Some next) mid → Closes rows rules counts.bisections next.id (grid_box next.part) step
-    → broke now step (grid_box next.part) last → ((fault ≡ Full) ↔ (room now < length (step_bytes step))) → IsBroken took broke room fault rows rules root first last
-broke_here took broke room fault rows rules root first now last lists mid counts next step enough u takes ends broken full = record {
-  steps = joined u.boxes;
-  next = shown_of step next;
-  paved_first = paved_first_more rows rules root u.boxes u.paving mid next step enough u.paves (in_hand took rows rules root first now lists mid counts next step u takes ends);
-  before = now;
-  taken = u.taken;
-  broken = broken;
-  full = full;
-}
 
 count_yes : (p : ShownStep → Bool) (xs : List ShownStep) (x : ShownStep) (n : ℕ) → n ≡ count_by p xs → p x ≡ true → n + 1 ≡ count_by p (xs ++ x ∷ [])
 count_yes p xs x n e yes_x = omega (arith, e, sum_by-append (λ y. cond (p y) 1 0) xs (x ∷ []), sum_by-cons (λ y. cond (p y) 1 0) x [], ap {B = ℕ} (λ (b : Bool). cond b 1 0) yes_x)
@@ -152,47 +111,84 @@ counted_more counts steps (Split id axis) part c = record {
   bisections = count_yes split_in steps _ _ c.bisections refl;
 }
 
+-- the steps of a box are counted
+pub counted_box : (rows : List Row) (q id : ℕ) (part : GridBox) (counts : Counts) (ended : Ended) (steps cuts : List ShownStep) → ended.cuts ≡ length cuts
+    → AreCutsInTurn rows q id part cuts (grid_box ended.left) → IsCountOf counts steps
+    → IsCountOf (counts_after (counts_with_cuts counts ended.cuts) ended.step) (steps ++ (cuts ++ last_of ended ∷ []))
+counted_box rows q id part counts ended steps cuts many in_turn c =
+    subst (λ (l : List ShownStep). IsCountOf (counts_after (counts_with_cuts counts ended.cuts) ended.step) l) (append_assoc steps cuts (last_of ended ∷ []))
+    (counted_more (counts_with_cuts counts ended.cuts) (steps ++ cuts) ended.step (grid_box ended.left)
+    (subst (λ (n : ℕ). IsCountOf (counts_with_cuts counts n) (steps ++ cuts)) (sym many) (counted_cuts rows q id part (grid_box ended.left) counts steps cuts in_turn c)))
+
 one_less : (waiting : List WaitingBox) (next : WaitingBox) (rest : List WaitingBox) → IsNext waiting next rest → length waiting ≡ length rest + 1
 one_less waiting next rest n = omega (arith, ap length n.all_waiting, ap length n.others, length-append n.before (next ∷ n.behind), length-append n.before n.behind)
 
-abbrev pub closed_boxes : Counts → ℕ
-closed_boxes counts = counts.inside + counts.edge + counts.outside
+-- ---- the box in hand
 
--- how the numbers go on
-pub record GoesOn (rules : Rules) (rest : List WaitingBox) (splits : ℕ) (step : Step) (part : GridBox) (counts now : Counts) : Type 0 where
+pub record IsInHand (waiting : List WaitingBox) (next : Item) (lists : List (List Item)) : Type 0 where
+  pub rest : List WaitingBox
+  pub is_next : IsNext waiting (box_of next) rest
+  pub queued : IsQueued rest lists
+  pub one_less : length waiting ≡ length rest + 1
+
+pub in_hand : (waiting : List WaitingBox) (old new : List (List Item)) (next : Item) → IsQueued waiting old → Takes old (Some next) new → IsInHand waiting next new
+in_hand waiting old new next queued takes =
+    let (rest, is_next, others) = takes waiting queued in
+    record { rest = rest; is_next = is_next; queued = others; one_less = one_less waiting (box_of next) rest is_next }
+
+-- the step that ends the box closes it, and the others are cuts
+pub ends_box : {L : Type 0} (took : L → Step → GridBox → L → Type 0) (rows : List Row) (rules : Rules) (splits : ℕ) (next : Item) (now last : L) (ended : Ended)
+    → (t : TookBox took (AreStepsOf rows rules splits (box_of next)) now ended last)
+    → Closes rows rules splits next.id (grid_box ended.left) ended.step × AreCutsInTurn rows rules.outliers next.id (grid_box next.part) t.cuts (grid_box ended.left)
+ends_box took rows rules splits next now last ended t = ends_by_last (grain_for (grid_box next.part)) _ rows rules splits (box_of next) t.cuts (last_of ended) t.are
+
+-- ---- how the numbers go on
+
+-- the counts with a box
+abbrev pub counts_with_box : Counts → Ended → Counts
+counts_with_box counts ended = counts_after (counts_with_cuts counts ended.cuts) ended.step
+
+pub record GoesOn (rules : Rules) (rest : List WaitingBox) (splits : ℕ) (step : Step) (part : GridBox) (boxes spare : ℕ) (now : Counts) : Type 0 where
   pub splits_is : splits_after splits step ≡ now.bisections
-  pub closed : length (rest ++ opened_by splits step part) + closed_boxes now ≡ now.bisections + 1
+  pub opened : length (rest ++ opened_by splits step part) + (boxes + 1) ≡ 2 * now.bisections + 1
+  pub spared : spare + length (rest ++ opened_by splits step part) ≡ rules.bisections + 1
+  pub few : AreFew now (boxes + 1)
   pub within : now.bisections ≤ rules.bisections
-  pub smaller : rules.bisections - now.bisections + (rules.bisections + 1 - closed_boxes now) < rules.bisections - counts.bisections + (rules.bisections + 1 - closed_boxes counts)
 
-pub goes_on : (rows : List Row) (rules : Rules) (rest : List WaitingBox) (splits id : ℕ) (step : Step) (part : GridBox) (counts : Counts)
-    → Closes rows rules splits id part step → splits ≡ counts.bisections → length rest + 1 + closed_boxes counts ≡ counts.bisections + 1 → counts.bisections ≤ rules.bisections
-    → GoesOn rules rest splits step part counts (counts_after counts step)
-goes_on rows rules rest splits id (Inside n clock lo hi) part counts ends same closed within = record {
+pub goes_on : (rows : List Row) (rules : Rules) (rest : List WaitingBox) (splits id : ℕ) (step : Step) (part : GridBox) (boxes spare left cuts : ℕ) (counts : Counts)
+    → Closes rows rules splits id part step → splits ≡ counts.bisections → cuts ≤ 1800
+    → length rest + 1 + boxes ≡ 2 * counts.bisections + 1 → spare + (length rest + 1) ≡ rules.bisections + 1 → left + opened_count step ≡ spare + 1
+    → AreFew counts boxes → counts.bisections ≤ rules.bisections
+    → GoesOn rules rest splits step part boxes left (counts_after (counts_with_cuts counts cuts) step)
+goes_on rows rules rest splits id (Inside n clock lo hi) part boxes spare left cuts counts ends same few_cuts opened spared change few within = record {
   splits_is = same;
-  closed = omega (arith, ap length (append-nil rest));
+  opened = omega (arith, opened, ap length (append-nil rest));
+  spared = omega (arith, spared, change, ap length (append-nil rest));
+  few = record { inside = omega (arith, few.inside); edge = omega (arith, few.edge); outside = omega (arith, few.outside, few_cuts); splits = omega (arith, few.splits) };
   within = within;
-  smaller = omega arith;
 }
-goes_on rows rules rest splits id (Edge n lo hi) part counts ends same closed within = record {
+goes_on rows rules rest splits id (Edge n lo hi) part boxes spare left cuts counts ends same few_cuts opened spared change few within = record {
   splits_is = same;
-  closed = omega (arith, ap length (append-nil rest));
+  opened = omega (arith, opened, ap length (append-nil rest));
+  spared = omega (arith, spared, change, ap length (append-nil rest));
+  few = record { inside = omega (arith, few.inside); edge = omega (arith, few.edge); outside = omega (arith, few.outside, few_cuts); splits = omega (arith, few.splits) };
   within = within;
-  smaller = omega arith;
 }
-goes_on rows rules rest splits id (Outside n) part counts ends same closed within = record {
+goes_on rows rules rest splits id (Outside n) part boxes spare left cuts counts ends same few_cuts opened spared change few within = record {
   splits_is = same;
-  closed = omega (arith, ap length (append-nil rest));
+  opened = omega (arith, opened, ap length (append-nil rest));
+  spared = omega (arith, spared, change, ap length (append-nil rest));
+  few = record { inside = omega (arith, few.inside); edge = omega (arith, few.edge); outside = omega (arith, few.outside, few_cuts); splits = omega (arith, few.splits) };
   within = within;
-  smaller = omega arith;
 }
-goes_on rows rules rest splits id (Split n axis) part counts ends same closed within = record {
+goes_on rows rules rest splits id (Split n axis) part boxes spare left cuts counts ends same few_cuts opened spared change few within = record {
   splits_is = ap (λ s. s + 1) same;
-  closed = omega (arith, length-append rest (opened_by splits (Split n axis) part));
+  opened = omega (arith, opened, length-append rest (opened_by splits (Split n axis) part));
+  spared = omega (arith, spared, change, length-append rest (opened_by splits (Split n axis) part));
+  few = record { inside = omega (arith, few.inside); edge = omega (arith, few.edge); outside = omega (arith, few.outside, few_cuts); splits = omega (arith, few.splits) };
   within = omega (arith, ends);
-  smaller = omega (arith, ends);
 }
-goes_on rows rules rest splits id (Cut n face bound) part counts ends same closed within = absurd ends
+goes_on rows rules rest splits id (Cut n face bound) part boxes spare left cuts counts ends same few_cuts opened spared change few within = absurd ends
 
 -- a box that is split has two points at least on its longest side
 pub can_open : (rows : List Row) (rules : Rules) (splits id : ℕ) (step : Step) (part : GridBox) → Closes rows rules splits id part step → CanOpen step part
@@ -203,70 +199,56 @@ can_open rows rules splits id (Inside n clock lo hi) part ends = tt
 can_open rows rules splits id (Edge n lo hi) part ends = tt
 can_open rows rules splits id (Cut n face bound) part ends = absurd ends
 
--- the step was taken, and what it opens waits
-pub more_underway : {L : Type 0} (took : L → Step → GridBox → L → Type 0) (rows : List Row) (rules : Rules) (root : GridBox) (first now last : L) (lists mid new : List (List Item)) (counts after : Counts) (next : Item) (step : Step)
-    → IsUnderway took rows rules root first now lists counts → Takes lists (Some next) mid → Closes rows rules counts.bisections next.id (grid_box next.part) step
-    → took now step (grid_box next.part) last
-    → ((waiting : List WaitingBox) → IsQueued waiting mid → IsQueued (waiting ++ opened_by counts.bisections step (grid_box next.part)) new)
-    → after ≡ counts_after counts step
-    → IsUnderway took rows rules root first last new after
-more_underway took rows rules root first now last lists mid new counts after next step u takes ends took_it opened same =
-    let h = in_hand took rows rules root first now lists mid counts next step u takes ends in
-    let less = one_less u.paving.waiting (box_of next) h.rest h.is_next in
-    let on = goes_on rows rules h.rest u.paving.splits next.id step (grid_box next.part) counts h.ends u.splits_is (omega (arith, u.closed, less)) u.within in
-    let steps = joined_more u.boxes (shown_of step next ∷ []) in
-    rw same (record {
-      boxes = u.boxes ++ (shown_of step next ∷ []) ∷ [];
-      paving = beyond (record { waiting = h.rest; splits = u.paving.splits }) (shown_of step next);
-      paves = paves_more rows rules (first_paving root) u.paving u.boxes (box_of next) h.rest (shown_of step next ∷ []) u.paves h.is_next (refl, h.ends);
-      taken = subst (λ (l : List ShownStep). TookAll took first l last) (sym steps) (took_more took first now last (joined u.boxes) (shown_of step next) u.taken took_it);
-      queued = subst (λ (s : ℕ). IsQueued (h.rest ++ opened_by s step (grid_box next.part)) new) (sym u.splits_is) (opened h.rest h.queued);
-      counted = subst (λ (l : List ShownStep). IsCountOf (counts_after counts step) l) (sym steps) (counted_more counts (joined u.boxes) step (grid_box next.part) u.counted);
-      splits_is = on.splits_is;
-      closed = on.closed;
-      within = on.within;
-    })
+-- ---- a box is done
 
-pub measure_smaller : {L : Type 0} (took : L → Step → GridBox → L → Type 0) (rows : List Row) (rules : Rules) (root : GridBox) (first now : L) (lists mid : List (List Item)) (counts after : Counts) (next : Item) (step : Step)
-    → IsUnderway took rows rules root first now lists counts → Takes lists (Some next) mid → Closes rows rules counts.bisections next.id (grid_box next.part) step
-    → after ≡ counts_after counts step
-    → rules.bisections - after.bisections + (rules.bisections + 1 - closed_boxes after) < rules.bisections - counts.bisections + (rules.bisections + 1 - closed_boxes counts)
-measure_smaller took rows rules root first now lists mid counts after next step u takes ends same =
-    let h = in_hand took rows rules root first now lists mid counts next step u takes ends in
-    let less = one_less u.paving.waiting (box_of next) h.rest h.is_next in
-    let on = goes_on rows rules h.rest u.paving.splits next.id step (grid_box next.part) counts h.ends u.splits_is (omega (arith, u.closed, less)) u.within in
-    rw same on.smaller
+-- the box was worked on, before what it opens waits
+module _ {L : Type 0} (took : L → Step → GridBox → L → Type 0) (rows : List Row) (rules : Rules) (root : GridBox) (first now last : L) (lists mid : List (List Item)) (spare : ℕ) (counts : Counts) (next : Item) (ended : Ended)
+    (u : IsUnderway took rows rules root first now lists spare counts) (takes : Takes lists (Some next) mid)
+    (t : TookBox took (AreStepsOf rows rules counts.bisections (box_of next)) now ended last) where
+  pub can_open_left : CanOpen ended.step (grid_box ended.left)
+  can_open_left = can_open rows rules counts.bisections next.id ended.step (grid_box ended.left) (ends_box took rows rules counts.bisections next now last ended t).0
 
--- no box waits any more
-pub whole_run : {L : Type 0} (took : L → Step → GridBox → L → Type 0) (rows : List Row) (rules : Rules) (root : GridBox) (first now : L) (lists mid : List (List Item)) (counts : Counts)
-    → IsUnderway took rows rules root first now lists counts → Takes lists None mid → IsRun took rows rules root first now counts
-whole_run took rows rules root first now lists mid counts u takes =
-    let run : Paved rows rules root (joined u.boxes)
-    = record { boxes = u.boxes; all_steps = refl; last = u.paving; paves = u.paves; none_waiting = takes u.paving.waiting u.queued } in
-    record {
-      steps = joined u.boxes;
-      paved = run;
-      taken = u.taken;
-      counted = u.counted;
-      passes = subst (λ (done : ℕ). StepsPass rows rules done (first_stage root) (steps_of (joined u.boxes))) u.splits_is (paved_passes rows rules root _ run);
-      cover = paved_covers rows rules root _ run;
-    }
+  goes_on_here : (left : ℕ) → ended.cuts ≤ 1800 → left + opened_count ended.step ≡ spare + 1
+      → (h : IsInHand u.paving.waiting next mid)
+      → GoesOn rules h.rest u.paving.splits ended.step (grid_box ended.left) (length u.boxes) left (counts_with_box counts ended)
+  goes_on_here left few change h =
+      goes_on rows rules h.rest u.paving.splits next.id ended.step (grid_box ended.left) (length u.boxes) spare left ended.cuts counts
+      (subst (λ (s : ℕ). Closes rows rules s next.id (grid_box ended.left) ended.step) (sym u.splits_is) (ends_box took rows rules counts.bisections next now last ended t).0)
+      u.splits_is few (omega (arith, u.opened, h.one_less)) (omega (arith, u.spared, h.one_less)) change u.few u.within
 
--- a box that is split has two spare nodes for its halves, one of them its own
-pub room_here : (rows : List Row) (rules : Rules) (splits id spare closed : ℕ) (step : Step) (part : GridBox) → Closes rows rules splits id part step
-    → spare + splits ≡ rules.bisections + closed → opened_count step ≤ spare + 1
-room_here rows rules splits id spare closed (Split n axis) part (is, undecided, may, longest) same = omega (arith, may.1, same)
-room_here rows rules splits id spare closed (Outside n) part ends same = omega arith
-room_here rows rules splits id spare closed (Inside n clock lo hi) part ends same = omega arith
-room_here rows rules splits id spare closed (Edge n lo hi) part ends same = omega arith
-room_here rows rules splits id spare closed (Cut n face bound) part ends same = omega arith
+  pub more_underway : (new : List (List Item)) (left : ℕ) (after : Counts) → ended.cuts ≤ 1800 → left + opened_count ended.step ≡ spare + 1
+      → ((waiting : List WaitingBox) → IsQueued waiting mid → IsQueued (waiting ++ opened_by counts.bisections ended.step (grid_box ended.left)) new)
+      → after ≡ counts_with_box counts ended
+      → IsUnderway took rows rules root first last new left after
+  more_underway new left after few change opened same =
+      let h = in_hand u.paving.waiting lists mid next u.queued takes in
+      let on = goes_on_here left few change h in
+      let own : List ShownStep = t.cuts ++ last_of ended ∷ [] in
+      let in_turn = (ends_box took rows rules counts.bisections next now last ended t).1 in
+      let steps = joined_more u.boxes own in
+      let rested : Paving = record { waiting = h.rest; splits = u.paving.splits } in
+      let are : AreStepsOf rows rules u.paving.splits (box_of next) own = subst (λ (s : ℕ). AreStepsOf rows rules s (box_of next) own) (sym u.splits_is) t.are in
+      rw same (record {
+        boxes = u.boxes ++ own ∷ [];
+        paving = beyond rested (last_of ended);
+        paves = subst (λ (p : Paving). PavesTo rows rules (first_paving root) (u.boxes ++ own ∷ []) p) (opens_last rows rules u.paving.splits (box_of next) t.cuts (last_of ended) rested are)
+            (paves_more rows rules (first_paving root) u.paving u.boxes (box_of next) h.rest own u.paves h.is_next are);
+        taken = subst (λ (l : List ShownStep). TookAll took first l last) (sym steps) (took_both took (joined u.boxes) own first now last u.taken t.taken);
+        queued = subst (λ (s : ℕ). IsQueued (h.rest ++ opened_by s ended.step (grid_box ended.left)) new) (sym u.splits_is) (opened h.rest h.queued);
+        counted = subst (λ (l : List ShownStep). IsCountOf (counts_with_box counts ended) l) (sym steps)
+            (counted_box rows rules.outliers next.id (grid_box next.part) counts ended (joined u.boxes) t.cuts t.counted in_turn u.counted);
+        few = subst (λ (n : ℕ). AreFew (counts_with_box counts ended) n) (sym (length-append u.boxes (own ∷ []))) on.few;
+        splits_is = on.splits_is;
+        opened = omega (arith, on.opened, length-append u.boxes (own ∷ []));
+        spared = on.spared;
+        within = on.within;
+      })
 
--- the spare nodes after a step
-pub spare_after : (rows : List Row) (rules : Rules) (splits id spare left : ℕ) (step : Step) (part : GridBox) (counts after : Counts) → Closes rows rules splits id part step
-    → spare + counts.bisections ≡ rules.bisections + closed_boxes counts → left + opened_count step ≡ spare + 1 → after ≡ counts_after counts step
-    → left + after.bisections ≡ rules.bisections + closed_boxes after
-spare_after rows rules splits id spare left (Split n axis) part counts after ends same opened e = rw e (omega (arith, same, opened))
-spare_after rows rules splits id spare left (Outside n) part counts after ends same opened e = rw e (omega (arith, same, opened))
-spare_after rows rules splits id spare left (Inside n clock lo hi) part counts after ends same opened e = rw e (omega (arith, same, opened))
-spare_after rows rules splits id spare left (Edge n lo hi) part counts after ends same opened e = rw e (omega (arith, same, opened))
-spare_after rows rules splits id spare left (Cut n face bound) part counts after ends same opened e = absurd ends
+  -- of the 2 * bisections + 1 boxes that there may be, one is left less
+  pub measure_smaller : (left : ℕ) (after : Counts) → ended.cuts ≤ 1800 → left + opened_count ended.step ≡ spare + 1
+      → after ≡ counts_with_box counts ended
+      → 3 * rules.bisections + 1 - (2 * after.bisections + left) < 3 * rules.bisections + 1 - (2 * counts.bisections + spare)
+  measure_smaller left after few change same =
+      let h = in_hand u.paving.waiting lists mid next u.queued takes in
+      let on = goes_on_here left few change h in
+      rw same (omega (arith, on.opened, on.spared, u.opened, u.spared, u.within, h.one_less))

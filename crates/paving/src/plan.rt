@@ -3,18 +3,20 @@
 ghost use Rattle.std.specs.Prelude.{◌≡◌, ◌≤◌, ◌+◌, length, IfOk};
 ghost use Rattle.sat_model.specs.Boxes.{grid_box};
 
+use crate::trees::Trees;
 use box_pool::Pool;
 use sat_model::{Box3, NoMemory, Row, Rules};
 use std::alloc::Global;
 use std::marker::Model;
 
-/// The rows and the rules of an epoch, the root box, where they are to be searched, and room for
-/// the boxes that will wait.
+/// The rows and the rules of an epoch, the root box, where they are to be searched, the trees of
+/// the rows, and room for the boxes that will wait.
 #[derive(Drop)]
 pub struct Plan {
     pub(crate) rows: Vec<Row>,
     pub(crate) rules: Rules,
     pub(crate) root: Box3,
+    pub(crate) trees: Trees,
     pub(crate) pool: Pool,
 }
 
@@ -23,6 +25,7 @@ impl Model for Plan {
     ghost use Rattle.box_pool.specs.Lists.{AllEmpty};
     ghost use Rattle.sat_model.specs.Boxes.{grid_box};
     ghost use Rattle.paving.specs.Plans.{PlanValue};
+    ghost use Rattle.paving.specs.Trees.{AreTreesOf};
 
     ghost Value = { PlanValue };
 
@@ -34,13 +37,15 @@ impl Model for Plan {
 
     ghost invariant = { λ plan. (plan.rules.outliers + 4 ≤ length plan.rows.items)
         × (length plan.rows.items ≤ 64) × AllEmpty plan.pool.lists
+        × AreTreesOf plan.trees plan.rows.items plan.rules.outliers
         × (plan.pool.spare ≡ plan.rules.bisections + 1) };
 }
 
 impl Plan {
     /// The plan of these rows, rules and root. Four rows more than may be inconsistent are needed.
-    /// All memory of the paving is taken here: each split makes one more box wait, so a node for
-    /// each split that is allowed and one for the root are enough.
+    /// All memory of the paving is taken here: that of both trees, and that of the boxes that wait.
+    /// Each split makes one more box wait, so a node for each split that is allowed and one for the
+    /// root are enough.
     pub fn make(alloc: Global, rows: &[Row], rules: &Rules, root: &Box3) -> Result<Plan, NoMemory>
         requires { (rules.now.outliers + 4 ≤ length rows.now) × (length rows.now ≤ 64) }
         ensures rows { IfOk result (λ plan. plan.rows ≡ rows.now) }
@@ -53,6 +58,7 @@ impl Plan {
             rows: own,
             rules: *rules,
             root: *root,
+            trees: Trees::of_rows(alloc, rows, rules.outliers)?,
             pool: Pool::with_nodes(alloc, rules.bisections + 1)?,
         })
     }

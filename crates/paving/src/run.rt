@@ -5,13 +5,14 @@ ghost use Rattle.box_pool.specs.Lists.{AllEmpty};
 ghost use Rattle.sat_model.specs.Boxes.{grid_box};
 ghost use Rattle.box_steps.specs.Taken.{Rose};
 ghost use Rattle.paving.specs.Runs.{IsRun, IsBroken};
+ghost use Rattle.paving.specs.Trees.{AreTreesOf};
 
-use crate::closing::closing_step;
 use crate::counts::Counts;
 use crate::plan::Plan;
 use crate::queues::Queues;
-use crate::steps::{StepFault, Steps};
+use crate::trees::Trees;
 use box_pool::Pool;
+use box_steps::{StepFault, Steps};
 use sat_model::{Box3, Row, Rules};
 
 /// Paves the root of the plan, box by box, and hands each step to the log. Ends with the counts of
@@ -29,20 +30,24 @@ pub fn pave<L: Steps>(plan: Plan, log: &mut L) -> Result<Counts, StepFault>
         rows,
         rules,
         root,
+        trees,
         pool,
     } = plan;
-    pave_box(&rows, &rules, &root, pool, log)
+    pave_box(&rows, &rules, &root, &trees, pool, log)
 }
 
-/// Paves a box by these rows and rules, in a pool with a node for each split and one more.
+/// Paves a box by these rows and rules and the trees of these rows, in a pool with a node for each
+/// split and one more.
 fn pave_box<L: Steps>(
     rows: &[Row],
     rules: &Rules,
     root: &Box3,
+    trees: &Trees,
     pool: Pool,
     log: &mut L,
 ) -> Result<Counts, StepFault>
     requires rows { (rules.now.outliers < length rows.now) × (length rows.now ≤ 64) }
+    requires trees { AreTreesOf trees.now rows.now rules.now.outliers }
     requires empty { AllEmpty pool.lists }
     requires room { pool.spare ≡ rules.now.bisections + 1 }
     ensures run { IfOk result (λ counts. IsRun L.took rows.now rules.now (grid_box root.now)
@@ -56,10 +61,10 @@ fn pave_box<L: Steps>(
     let mut counts = Counts::default();
     let mut queues = Queues::of_root(pool, root);
     while let Some(next) = queues.take_next() {
-        let step = closing_step(rows, rules, &next, counts.bisections);
-        log.step(&step, &next.part)?;
-        queues.open(&step, &next.part, counts.bisections);
-        counts.add(&step);
+        let ended = trees.work_on_box(rows, rules, counts.bisections, &next, log)?;
+        queues.open(&ended.step, &ended.left, counts.bisections);
+        counts.add_cuts(ended.cuts);
+        counts.add(&ended.step);
     }
     Ok(counts)
 }

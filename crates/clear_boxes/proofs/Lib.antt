@@ -1,0 +1,5 @@
+pub mod RootLemmas
+pub mod RowLemmas
+pub mod LineLemmas
+pub mod RunLemmas
+pub mod LogLemmas

@@ -1,0 +1,43 @@
+-- A log that paves the grown rows of searches leaves nothing clear.
+use Rattle.std.specs.Prelude.{pos}
+use Rattle.std.proofs.Common.{◌≡◌, Bool, true, false, List, [], ◌∷◌, refl, sym, ◌∙◌, Option, None, Some}
+use Rattle.epoch_selection.specs.Searches.{search_in, searches_in}
+use Rattle.range_contractor.proofs.TreeExists.{IsGridPart}
+use Rattle.rinex_obs.specs.declared.obs.ObsEpoch.{ObsEpoch}
+use Rattle.sat_model.specs.Boxes.{GridBox}
+use Rattle.sat_model.specs.Lengths.{spare_of}
+use Rattle.sat_model.specs.Logs.{Block}
+use Rattle.sat_model.specs.declared.rules.Rules.{Rules}
+use Rattle.sat_rows.specs.Meanings.{Meaning, IsSound}
+use Rattle.sat_rows.specs.OwnRows.{AreLinesOf}
+use Rattle.sat_rows.specs.declared.lines.SatLine.{SatLine}
+use Rattle.epoch_rows.specs.Grown.{HasBody, AreGrown, AreGrownLines}
+use Rattle.clear_boxes.specs.Left.{NothingClearLeft, BodyLeavesNothingClear, BlocksLeaveNothingClear}
+use Rattle.log_writer.specs.Pavings.{HasRun, BodyPaves, AllPave}
+use Rattle.clear_boxes.proofs.RunLemmas.{run_clear}
+
+module _ (m : Meaning) (sound : IsSound m) (rules : Rules) (root : GridBox) (grid : IsGridPart root) where
+  run_of_block : (epoch : ObsEpoch) (own : List SatLine) (block : Block) → AreLinesOf m root epoch own → AreGrownLines (pos (spare_of root)) own block.sats → (paved : HasRun rules root block)
+      → NothingClearLeft m rules (search_in root epoch) block.done paved.shown
+  run_of_block epoch own block are grown paved = rw paved.done (run_clear m sound rules epoch root grid own block.sats are grown paved.shown paved.run)
+
+  body_clear : (epoch : ObsEpoch) (few : Bool) (own : List SatLine) (given block : Block) (theirs : Option GridBox) → AreLinesOf m root epoch own → HasBody few root own given → given.root ≡ theirs
+      → block.sats ≡ given.sats → BodyPaves rules block theirs → BodyLeavesNothingClear m rules (search_in root epoch) block theirs
+  body_clear epoch few own given block None are body is sats paves = tt
+  body_clear epoch true own given block (Some theirs) are body is sats paves = absurd (let none = sym is ∙ body.1 in cc)
+  body_clear epoch false own given block (Some theirs) are body is sats paves =
+      let same : theirs ≡ root = (let both = sym is ∙ body.1 in cc) in
+      let paved : HasRun rules root block = rw same at paves in
+      rw same (refl, paved, run_of_block epoch own block are (rw sats body.0) paved)
+
+  pub log_clear : (epochs : List ObsEpoch) (given blocks : List Block) → AreGrown m rules.outliers (searches_in root epochs) given → AllPave rules given blocks
+      → BlocksLeaveNothingClear m rules (searches_in root epochs) blocks
+  log_clear [] [] [] grown pave = tt
+  log_clear [] [] (block ∷ blocks) grown pave = absurd pave
+  log_clear [] (g ∷ given) blocks grown pave = absurd grown
+  log_clear (epoch ∷ epochs) [] blocks grown pave = absurd grown
+  log_clear (epoch ∷ epochs) (g ∷ given) [] grown pave = absurd pave
+  log_clear (epoch ∷ epochs) (g ∷ given) (block ∷ blocks) grown pave = (
+    body_clear epoch g.few grown.0.own g block block.root grown.0.are_own grown.0.body (sym pave.0.root) pave.0.sats pave.0.body,
+    log_clear epochs given blocks grown.1 pave.1,
+  )

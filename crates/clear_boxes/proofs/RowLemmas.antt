@@ -1,0 +1,170 @@
+-- How far the ends of a grown row's spans over a box are from those that the true values give.
+use Rattle.std.proofs.Common.{◌≡◌, ℕ, zero, suc, ◌+◌, ◌*◌, ◌<◌, ◌≤◌, arith, true, ap}
+use Rattle.std.specs.Prelude.{ℤ, pos, ◌+ℤ◌, ◌-ℤ◌, ◌≤ℤ◌, None, unsigned_abs}
+use Rattle.std.proofs.lemmas.Int.{ints, by_lt_z}
+use Rattle.rinex_obs.specs.declared.obs.ObsEpoch.{ObsEpoch}
+use Rattle.rinex_obs.specs.declared.obs.SatObs.{SatObs}
+use Rattle.sat_model.specs.Boxes.{Side, GridBox, side_at, box_holds}
+use Rattle.sat_model.specs.ClockSpans.{near_of, far_of, clock_ends, inner_ends}
+use Rattle.sat_model.specs.Contractors.{LiesIn}
+use Rattle.sat_model.specs.Fitting.{range_to}
+use Rattle.sat_model.specs.Lengths.{spare_of}
+use Rattle.sat_model.specs.Relaxed.{ends}
+use Rattle.sat_model.specs.Trees.{IsIn}
+use Rattle.sat_model.specs.declared.boxes.Pos.{Pos}
+use Rattle.sat_model.specs.declared.satellites.Row.{Row}
+use Rattle.range_contractor.proofs.BoxLemmas.{along, holds_all, holds_at}
+use Rattle.sat_rows.specs.Chains.{Chain}
+use Rattle.sat_rows.specs.Meanings.{Meaning, IsSound}
+use Rattle.sat_rows.specs.OwnRows.{HoldsAllowed, IsOwnRow}
+use Rattle.clear_boxes.specs.Clear.{HoldsRange, IsNearlyConsistent, IsSafelyConsistent}
+use Rattle.epoch_rows.specs.Grown.{IsGrownRow}
+use Rattle.clear_boxes.proofs.RootLemmas.{root_grown, far_axis, near_axis}
+
+-- the first row holds what is allowed at the points of the box, each span at most w wide, and the
+-- second is wider by w at both ends
+pub record IsRowOver (Allows : Pos → Chain → Type 0) (w : ℕ) (part : GridBox) (own row : Row) : Type 0 where
+  pub spare : 2 ≤ w
+  pub exists : (p : Pos) → (values : Chain) × Allows p values
+  pub range_is : (p : Pos) (values : Chain) → Allows p values → values.range ≡ range_to values.x values.y values.z p
+  pub holds : HoldsAllowed Allows part own
+  pub x : (own.x.hi -ℤ own.x.lo) ≤ℤ pos w
+  pub y : (own.y.hi -ℤ own.y.lo) ≤ℤ pos w
+  pub z : (own.z.hi -ℤ own.z.lo) ≤ℤ pos w
+  pub range : (own.range.hi -ℤ own.range.lo) ≤ℤ pos w
+  pub grown : IsGrownRow (pos w) own row
+
+-- ---- far and near
+
+-- what is allowed at a point of the box
+pub record AllowedIn (Allows : Pos → Chain → Type 0) (part : GridBox) (Good : Chain → Type 0) : Type 0 where
+  pub at : Pos
+  pub inside : box_holds part at ≡ true
+  pub values : Chain
+  pub are : Allows at values
+  pub good : Good values
+
+holds_sides : (part : GridBox) (p : Pos) → IsIn part.x p.x → IsIn part.y p.y → IsIn part.z p.z → box_holds part p ≡ true
+holds_sides part p x y z = holds_all part p (λ axis. side axis)
+  where
+    side : (axis : ℕ) → IsIn (side_at axis part) (along axis p)
+    side zero = x
+    side (suc zero) = y
+    side (suc (suc n)) = z
+
+module _ (Allows : Pos → Chain → Type 0) (w : ℕ) (part : GridBox) (own row : Row) (lies : LiesIn part part) (over : IsRowOver Allows w part own row) where
+  -- somewhere in the box the true range is more than far less four spares
+  far_less : AllowedIn Allows part (λ values. far_of row part < values.range + 4 * w)
+  unfolding far_of range_to
+  far_less =
+      let x = far_axis own.x.lo own.x.hi w part.x own.x.ordered over.x (lies 0).ordered in
+      let y = far_axis own.y.lo own.y.hi w part.y own.y.ordered over.y (lies 1).ordered in
+      let z = far_axis own.z.lo own.z.hi w part.z own.z.ordered over.z (lies 2).ordered in
+      let p : Pos = record { x = x.at; y = y.at; z = z.at } in
+      let inside = holds_sides part p x.inside y.inside z.inside in
+      let (v, are) = over.exists p in
+      let h = over.holds p v inside are in
+      let g = over.grown in
+      record {
+        at = p;
+        inside = inside;
+        values = v;
+        are = are;
+        good = rw (over.range_is p v are, g.x.low, g.x.high, g.y.low, g.y.high, g.z.low, g.z.high)
+            (root_grown w _ _ _ (unsigned_abs (v.x -ℤ p.x)) (unsigned_abs (v.y -ℤ p.y)) (unsigned_abs (v.z -ℤ p.z)) over.spare
+            (x.good v.x h.x.from h.x.to) (y.good v.y h.y.from h.y.to) (z.good v.z h.z.from h.z.to));
+      }
+
+  -- somewhere it is less than near and four spares
+  near_greater : AllowedIn Allows part (λ values. values.range < near_of row part + 4 * w)
+  unfolding near_of range_to
+  near_greater =
+      let x = near_axis own.x.lo own.x.hi w part.x own.x.ordered over.x (lies 0).ordered in
+      let y = near_axis own.y.lo own.y.hi w part.y own.y.ordered over.y (lies 1).ordered in
+      let z = near_axis own.z.lo own.z.hi w part.z own.z.ordered over.z (lies 2).ordered in
+      let p : Pos = record { x = x.at; y = y.at; z = z.at } in
+      let inside = holds_sides part p x.inside y.inside z.inside in
+      let (v, are) = over.exists p in
+      let h = over.holds p v inside are in
+      let g = over.grown in
+      record {
+        at = p;
+        inside = inside;
+        values = v;
+        are = are;
+        good = rw (over.range_is p v are, g.x.low, g.x.high, g.y.low, g.y.high, g.z.low, g.z.high)
+            (root_grown w (unsigned_abs (v.x -ℤ p.x)) (unsigned_abs (v.y -ℤ p.y)) (unsigned_abs (v.z -ℤ p.z)) _ _ _ over.spare
+            (x.good v.x h.x.from h.x.to) (y.good v.y h.y.from h.y.to) (z.good v.z h.z.from h.z.to));
+      }
+
+-- ---- the spans of a row, for a margin of six spares or more
+
+module _ (m : Meaning) (epoch : ObsEpoch) (part : GridBox) (margin : ℕ) (seen : SatObs) (w : ℕ) (own row : Row)
+    (lies : LiesIn part part) (over : IsRowOver (m.allows epoch.tag seen) w part own row) (enough : 6 * w ≤ margin) (err : ends row.err ≡ m.declared seen.sat) where
+  -- an offset in the clock span leaves the satellite nearly consistent
+  pub nearly_consistent : (range : Side) (b : ℤ) → HoldsRange m epoch part margin range seen → (clock_ends part row).0 ≤ℤ b → b ≤ℤ (clock_ends part row).1
+      → IsNearlyConsistent m epoch part margin range b seen
+  nearly_consistent range b ranges from to =
+      let f = far_less (m.allows epoch.tag seen) w part own row lies over in
+      let n = near_greater (m.allows epoch.tag seen) w part own row lies over in
+      let far = ranges.holds f.at f.values f.inside f.are in
+      let near = ranges.holds n.at n.values n.inside n.are in
+      let held = over.holds f.at f.values f.inside f.are in
+      let c = f.values.corrected in
+      let low : row.err.lo ≡ (m.declared seen.sat).0 = ap (λ e. e.0) err in
+      let high : row.err.hi ≡ (m.declared seen.sat).1 = ap (λ e. e.1) err in
+      let far_is : far_of row part < f.values.range + 4 * w = f.good in
+      let near_is : n.values.range < near_of row part + 4 * w = n.good in
+      let above : (c -ℤ range.hi -ℤ b) ≤ℤ ((m.declared seen.sat).1 +ℤ pos margin) = omega (arith, ints, over.grown.range.low, over.range, held.corrected.to) in
+      let below : ((m.declared seen.sat).0 -ℤ pos margin) ≤ℤ (c -ℤ range.lo -ℤ b) = omega (arith, ints, over.grown.range.high, over.range, held.corrected.from) in
+      by_lt_z ((m.declared seen.sat).1 +ℤ pos margin) (c -ℤ range.lo -ℤ b)
+      (λ k. record {
+        at = f.at;
+        inside = f.inside;
+        values = f.values;
+        are = f.are;
+        distance = c -ℤ b -ℤ ((m.declared seen.sat).1 +ℤ pos margin);
+        in_range = (omega (arith, ints), omega (arith, ints));
+        within = record { from = omega (arith, ints, row.err.ordered); to = omega (arith, ints) };
+      })
+      (λ k. record { at = f.at; inside = f.inside; values = f.values; are = f.are; distance = range.lo; in_range = (omega (arith, ints), ranges.ordered); within = record { from = below; to = k } })
+
+  -- an offset at which the satellite is safely consistent lies in the inner span
+  pub safely_inner : (b : ℤ) → IsSafelyConsistent m epoch part margin b seen → ((inner_ends part row).0 ≤ℤ b) × (b ≤ℤ (inner_ends part row).1)
+  safely_inner b safe =
+      let f = far_less (m.allows epoch.tag seen) w part own row lies over in
+      let n = near_greater (m.allows epoch.tag seen) w part own row lies over in
+      let far = safe f.at f.values f.inside f.are in
+      let near = safe n.at n.values n.inside n.are in
+      let far_held = over.holds f.at f.values f.inside f.are in
+      let near_held = over.holds n.at n.values n.inside n.are in
+      let low : row.err.lo ≡ (m.declared seen.sat).0 = ap (λ e. e.0) err in
+      let high : row.err.hi ≡ (m.declared seen.sat).1 = ap (λ e. e.1) err in
+      let far_is : far_of row part < f.values.range + 4 * w = f.good in
+      let near_is : n.values.range < near_of row part + 4 * w = n.good in (
+        omega (arith, ints, over.grown.range.high, over.range, near.to, far.to, far_held.corrected.from, near_held.corrected.from, far_held.corrected.to, near_held.corrected.to),
+        omega (arith, ints, over.grown.range.low, over.range, near.from, far.from, far_held.corrected.from, near_held.corrected.from, far_held.corrected.to, near_held.corrected.to),
+      )
+
+-- ---- own rows that are grown by W
+
+-- a point of a part is one of the whole
+pub part_holds : (part root : GridBox) (p : Pos) → LiesIn part root → box_holds part p ≡ true → box_holds root p ≡ true
+part_holds part root p lies inside = holds_all root p (λ axis.
+    let l = lies axis in
+    let i = holds_at part p inside axis in
+    (omega (arith, ints, l.low, i.0), omega (arith, ints, l.high, i.1)))
+
+pub row_over : (m : Meaning) (sound : IsSound m) (root part : GridBox) (tag : ℤ) (seen : SatObs) (own row : Row) → LiesIn part root → m.judged tag seen None
+    → IsOwnRow m root tag seen own → IsGrownRow (pos (spare_of root)) own row → IsRowOver (m.allows tag seen) (spare_of root) part own row
+row_over m sound root part tag seen own row lies usable is grown = record {
+  spare = omega arith;
+  exists = λ p. sound.allowed_exists tag seen p usable;
+  range_is = sound.range_is tag seen;
+  holds = λ p values inside allowed. is.holds p values (part_holds part root p lies inside) allowed;
+  x = is.x;
+  y = is.y;
+  z = is.z;
+  range = is.range;
+  grown = grown;
+}

@@ -1,0 +1,8 @@
+use Rattle.sat_model.specs.Boxes.{grid_box}
+use Rattle.box_steps.proofs.BoxLemmas.{grid_part}
+use Rattle.clear_boxes.proofs.RunLemmas.{run_clear}
+use Rattle.clear_boxes.proofs.laws.runs_leave_nothing_clear.Goals as goal
+
+pub returns : goal.returns
+returns g c = λ source rules epoch root own sats steps are grown run.
+    run_clear (g.S.RowSource.meaning source) (g.met.S.RowSource.sound source) rules epoch (grid_box root) (grid_part root) own sats are grown steps run

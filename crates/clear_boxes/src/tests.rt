@@ -1,0 +1,11 @@
+//! The laws hold for the rows of GPS satellites.
+
+use crate::{clear_boxes_are_shown, logs_leave_nothing_clear, runs_leave_nothing_clear};
+use sat_rows::GpsRows;
+
+#[test]
+fn laws_hold_for_gps_rows() {
+    clear_boxes_are_shown::<GpsRows>();
+    runs_leave_nothing_clear::<GpsRows>();
+    logs_leave_nothing_clear::<GpsRows>();
+}
