@@ -123,8 +123,6 @@ pub fn split(id: u32) -> Step {
 }
 
 /// A cut of box 0.
-pub fn cut(face: u8, bound: i64) -> Step
-    requires { face < 6 }
-{
+pub fn cut(face: u8, bound: i64) -> Step {
     Step::Cut { id: 0, face, bound }
 }
