@@ -10,7 +10,7 @@ ghost use Rattle.log_writer.specs.Wrote.{WroteSteps, WroteRun, WroteBlock, Wrote
 ghost use Rattle.outer_io.specs.Sizes.{longest_file};
 ghost use Rattle.paving_log.specs.declared.line.Form.TheVariants as form;
 ghost use Rattle.paving_log.specs.declared.line.LogLine.TheVariants as line;
-ghost use Rattle.paving_log.specs.Rows.{CornersFit, corners_of, EntryFits};
+ghost use Rattle.paving_log.specs.Rows.{EntryFits};
 ghost use Rattle.paving_log.specs.Text.{BlockFits};
 ghost use Rattle.paving_log.specs.Values.{block_of};
 ghost use Rattle.sat_model.specs.Boxes.{grid_box};
@@ -83,7 +83,6 @@ pub(crate) struct Outcome {
 /// Writes the steps of a paving as they are made.
 fn pave_on<P: Pen>(track: &mut Track<'_, P>, plan: Plan) -> Result<Outcome, WriteFault>
     requires enough { plan.rules.outliers < length plan.rows }
-    requires grid { CornersFit (corners_of plan.root) }
     requires none { track.old.kept ≡ None }
     ensures written { WroteSteps plan.rows plan.rules plan.root
         (P.seen track.old.pen.now) result (P.seen track.new.pen.now) }
@@ -108,7 +107,6 @@ fn pave_on<P: Pen>(track: &mut Track<'_, P>, plan: Plan) -> Result<Outcome, Writ
 /// The same on a pen.
 fn put_steps<P: Pen>(pen: &mut P, plan: Plan) -> Result<Outcome, WriteFault>
     requires enough { plan.rules.outliers < length plan.rows }
-    requires grid { CornersFit (corners_of plan.root) }
     ensures written { WroteSteps plan.rows plan.rules plan.root
         (P.seen pen.old) result (P.seen pen.new) }
     ensures trust { Trusts (P.trust pen.old) result (P.trust pen.new) }

@@ -6,6 +6,7 @@ ghost use Rattle.log_writer.specs.Kept.{hull_after};
 ghost use Rattle.log_writer.specs.Steps.{step_piece};
 ghost use Rattle.log_writer.specs.Writing.{Went, Ended, Written, Trusts, done, failed};
 ghost use Rattle.box_steps.specs.Taken.{step_bytes};
+ghost use Rattle.paving_log.specs.Rows.{CornersFit, corners_of};
 ghost use Rattle.sat_model.specs.Boxes.{grid_box};
 
 use crate::fault::WriteFault;
@@ -45,6 +46,7 @@ pub(crate) struct Track<'a, P: Pen> {
 impl<P: Pen> Steps for Track<'_, P> {
     ghost took = { λ old step part new.
         Went (P.seen old.pen.now) (step_piece step part ∷ []) (P.seen new.pen.now)
+        × (CornersFit (corners_of part))
         × (new.pen.ghost_name ≡ old.pen.ghost_name)
         × Trusts (P.trust old.pen.now) done (P.trust new.pen.now)
         × (box_option new.kept
