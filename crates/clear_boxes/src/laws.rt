@@ -27,19 +27,20 @@ use sat_rows::RowSource;
 pub fn clear_boxes_are_shown<S: RowSource>()
     ensures empty { (source : S) (epoch : ObsEpoch) (root part : GridBox) (margin q : ℕ)
         (own : List SatLine) (sats : List SatEntry)
-        → AreLinesOf (S.meaning source) root epoch own → AreGrownLines (pos (spare_of root)) own sats
-        → LiesIn part root
+        → AreLinesOf (S.meaning source) root epoch own
+        → AreGrownLines (pos (spare_of root)) own sats → LiesIn part root
         → 6 * spare_of root ≤ margin → IsEmptyBy (S.meaning source) epoch part margin q
         → IsShownEmpty (rows_of sats) part q }
     ensures inner { (source : S) (epoch : ObsEpoch) (root part : GridBox) (margin q : ℕ)
         (own : List SatLine) (sats : List SatEntry)
-        → AreLinesOf (S.meaning source) root epoch own → AreGrownLines (pos (spare_of root)) own sats
-        → LiesIn part root
+        → AreLinesOf (S.meaning source) root epoch own
+        → AreGrownLines (pos (spare_of root)) own sats → LiesIn part root
         → 6 * spare_of root ≤ margin → (clear : IsInnerBy (S.meaning source) epoch part margin q)
         → IsShownInner (rows_of sats) part q clear.offset }
 {}
 
-/// The law: a run over such rows of an epoch leaves nothing clear in its root. The call does nothing.
+/// The law: a run over such rows of an epoch leaves nothing clear in its root. The call does
+/// nothing.
 pub fn runs_leave_nothing_clear<S: RowSource>()
     ensures { (source : S) (rules : Rules) (epoch : ObsEpoch) (root : Box3)
         (own : List SatLine) (sats : List SatEntry) (steps : List ShownStep)

@@ -1,5 +1,5 @@
-//! Laws of what a paving leaves undone: a box of which the true ranges make clear that nothing in it
-//! fits, or that all of it does, is neither split nor left at the edge.
+//! Laws of what a paving leaves undone: a box of which the true ranges make clear that nothing in
+//! it fits, or that all of it does, is neither split nor left at the edge.
 #![tactic(auto)]
 
 mod laws;

@@ -1,5 +1,5 @@
 -- The log that `solve` writes, against the files.
-use Rattle.std.proofs.Common.{◌≡◌, ℕ, List, Ok, Err, true}
+use Rattle.std.proofs.Common.{ℕ, List, Ok, Err}
 use Rattle.clear_boxes.proofs.LogLemmas.{whole_clear}
 use Rattle.epoch_rows.proofs.AdmitLemmas.{has_corner}
 use Rattle.epoch_rows.proofs.CameLemmas.{whole_admits, whole_covers}

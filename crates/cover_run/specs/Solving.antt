@@ -47,8 +47,8 @@ module _ (chosen : Selection) (i : Inputs) where
   -- rows are wider by W at both ends, over the search box of the settings, and is formed when the
   -- one before is paved. All own lines of the epochs admit it, also those of the first epochs
   -- alone; and in each epoch that it gives as paved, what fits is covered, and each in box fits. No
-  -- box is split or left at the edge where it is clear from the true ranges that nothing in it fits,
-  -- or that all does.
+  -- box is split, or left at the edge, of which the true ranges make clear that nothing in it fits,
+  -- or that all of it does.
   pub record IsSolved (limit : ℕ) (bytes said : List ℕ) : Type 0 where
     pub root : GridBox
     pub is_root : IsRootOf i root

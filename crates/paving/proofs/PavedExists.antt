@@ -10,7 +10,7 @@ use Rattle.sat_model.specs.declared.rules.Rules.{Rules}
 use Rattle.sat_model.specs.declared.steps.Step.{Step}
 use Rattle.sat_model.specs.declared.steps.Step.TheVariants.{Cut, Split, Outside, Inside, Edge}
 use Rattle.sat_model.specs.Boxes.{Side, GridBox, grid_box, side_at, with_side, low_half, high_half}
-use Rattle.sat_model.specs.Contractors.{SideLiesIn, LiesIn}
+use Rattle.sat_model.specs.Contractors.{SideLiesIn}
 use Rattle.sat_model.specs.Fold.{ShownStep}
 use Rattle.sat_model.specs.Lengths.{side_length, longest_length}
 use Rattle.sat_model.specs.Paved.{WaitingBox, bits_of, Paving, first_paving, IsNext, Closes, opened_by, beyond, beyond_all, joined}
