@@ -26,6 +26,7 @@ FIELDS = {
     "sat": ["satellite", "x lo", "x hi", "y lo", "y hi", "z lo", "z hi", "range lo", "range hi", "error lo", "error hi"],
     "skip": ["satellite", "test"],
     "root": ["a coordinate"] * 6,
+    "cut": ["box", "face", "bound"],
     "split": ["box", "axis"],
     "out": ["box"],
     "in": ["box", "clock", "lo", "hi"],

@@ -17,6 +17,7 @@ from unittest import mock
 
 import bounds
 import coverlog
+import exact_extents
 import headline
 import outline
 import picture
@@ -172,6 +173,32 @@ class Extents(unittest.TestCase):
         ring = outline.outline([box], (0, 0, 0), (-half, half, 0), (0, 0, 1))
         self.assertEqual(len(ring), 4)
         self.assertAlmostEqual(max(x for x, _ in ring), half)
+
+
+class ExactExtents(unittest.TestCase):
+    """Satellites on either side on each axis, whose ranges are right within 1 m for a receiver at the origin: a point and
+    clock offset are allowed where the amounts of any coordinate and of the clock offset add up to 1 m at most."""
+
+    def extents(self, outliers):
+        far = 20_000_000_000_000
+        ends = [[far * (axis == k) * sign for k in range(3)] for axis in range(3) for sign in (1, -1)]
+        rows = [
+            coverlog.Row("G01", tuple((end, end) for end in place), (far, far), (-1_000_000, 1_000_000)) for place in ends
+        ]
+        axes = ((1, 0, 0), (0, 1, 0), (0, 0, 1))
+        found = exact_extents.exact_extents(rows, outliers, (0, 0, 0), axes)
+        return [(round(low, 5), round(high, 5)) for low, high in found]
+
+    def test_all_satellites(self):
+        self.assertEqual(self.extents(0), [(-1, 1)] * 4)
+
+    def test_one_may_be_left_out(self):
+        # without one on x: x - 1 <= b <= x + 1 and the others keep b within 1 m
+        self.assertEqual(self.extents(1), [(-2, 2)] * 3 + [(-1, 1)])
+
+    def test_an_empty_region(self):
+        row = coverlog.Row("G01", ((0, 0),) * 3, (0, 0), (0, 0))
+        self.assertIsNone(exact_extents.exact_extents([row], 0, (1, 0, 0), ((1, 0, 0),) * 3))
 
 
 class Marks(unittest.TestCase):

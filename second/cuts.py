@@ -1,7 +1,7 @@
 """Logs with cuts for compare.py: pavings that cut, and cuts put into a log where they are right or wrong.
 
-No program makes a log with `cut` lines yet. These are made with the readings of recheck.py, so that it has to accept
-the right ones; whether a cut is right is for both checkers to say.
+`gpscover` cuts by its own rules. These cuts are drawn at any face and as wide as is shown, with the readings of recheck.py,
+so that it has to accept the right ones; whether a cut is right is for both checkers to say.
 """
 
 from collections import deque

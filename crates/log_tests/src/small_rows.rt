@@ -121,3 +121,10 @@ pub fn edge(id: u32, lo: i64, hi: i64) -> Step {
 pub fn split(id: u32) -> Step {
     Step::Split { id, axis: 0 }
 }
+
+/// A cut of box 0.
+pub fn cut(face: u8, bound: i64) -> Step
+    requires { face < 6 }
+{
+    Step::Cut { id: 0, face, bound }
+}

@@ -183,6 +183,48 @@ fn one_piece_goes_out_at_the_end(rt: HostRuntime) -> Result<(), Fail> {
     Ok(())
 }
 
+/// A box that is cut at two faces before it is closed: its rows, its steps and what the report says of them.
+const CUT_ROWS: &str = "\
+gpscover 1
+rules 0 0 1000000
+epoch 1 1388102400000000000000 4
+sat G01 20000000000000 20000000000000 0 0 0 0 20000000000000 20000000000000 -5000000 5000000
+sat G02 0 0 20000000000000 20000000000000 0 0 20000000000000 20000000000000 -50000000 50000000
+sat G03 0 0 0 0 20000000000000 20000000000000 20000000000000 20000000000000 -50000000 50000000
+sat G05 -20000000000000 -20000000000000 0 0 0 0 20000000000000 20000000000000 -5000000 5000000
+root -8000000 -1000000 -1000000 8000000 1000000 1000000
+";
+
+const CUT_STEPS: &str = "\
+cut 0 0 -6000000
+cut 0 1 6250000
+edge 0 -11000000 11000000
+done 0
+";
+
+const CUT_REPORT: &str = "\
+out -8.000000 -6.000001 -1.000000 1.000000 -1.000000 1.000000
+out 6.250001 8.000000 -1.000000 1.000000 -1.000000 1.000000
+edge -6.000000 6.250000 -1.000000 1.000000 -1.000000 1.000000 clock -11.000000 11.000000
+total in 0 edge 1 out 2 bisections 0
+";
+
+#[test]
+fn a_cut_is_written_and_told(rt: HostRuntime) -> Result<(), Fail> {
+    let alloc = rt.alloc();
+    let held = write_rows(alloc, CUT_ROWS, 2_000, &WHOLE)?;
+    assert_eq!(rt; held.result, Ok(()));
+    assert_eq!(rt;
+        log_bytes(&held),
+        both(alloc, CUT_ROWS, CUT_STEPS)?.as_bytes()
+    );
+    assert_eq!(rt;
+        held.out.bytes(),
+        both(alloc, FIRST_REPORT, CUT_REPORT)?.as_bytes()
+    );
+    Ok(())
+}
+
 /// How many epochs the long rows have. Each has a line of 36 bytes, and one of 47 in the report.
 const EPOCHS: u32 = 2_000;
 

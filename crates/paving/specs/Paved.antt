@@ -22,16 +22,19 @@ abbrev pub AreStepsOf : List Row → Rules → ℕ → WaitingBox → List Shown
 AreStepsOf rows rules splits box steps =
     AreBoxSteps (grain_for box.part) (pos 16 *ℤ grain_for box.part) rows rules splits box steps
 
--- the boxes that were taken up got these steps, each box its own list, and the paving stands at last
+-- the boxes that were taken up got these steps, each box its own list, and the paving stands so
+-- at last
 abbrev pub PavesTo : List Row → Rules → Paving → List (List ShownStep) → Paving → Type 0
 PavesTo rows rules paving [] last = paving ≡ last
 PavesTo rows rules paving (own ∷ boxes) last =
     (next : WaitingBox) × (rest : List WaitingBox) × IsNext paving.waiting next rest
     × AreStepsOf rows rules paving.splits next own
-    × PavesTo rows rules (beyond_all (record { waiting = rest; splits = paving.splits }) own) boxes last
+    × PavesTo rows rules (beyond_all (record { waiting = rest; splits = paving.splits }) own)
+    boxes last
 
 -- the steps are a whole run from the root: no box waits any more
-pub record Paved (rows : List Row) (rules : Rules) (root : GridBox) (steps : List ShownStep) : Type 0 where
+pub record Paved (rows : List Row) (rules : Rules) (root : GridBox)
+    (steps : List ShownStep) : Type 0 where
   pub boxes : List (List ShownStep)
   pub all_steps : steps ≡ joined boxes
   pub last : Paving
@@ -39,6 +42,7 @@ pub record Paved (rows : List Row) (rules : Rules) (root : GridBox) (steps : Lis
   pub none_waiting : last.waiting ≡ []
 
 -- the steps are the first ones of a whole run from the root
-pub record PavedFirst (rows : List Row) (rules : Rules) (root : GridBox) (steps : List ShownStep) : Type 0 where
+pub record PavedFirst (rows : List Row) (rules : Rules) (root : GridBox)
+    (steps : List ShownStep) : Type 0 where
   pub more : List ShownStep
   pub whole : Paved rows rules root (steps ++ more)

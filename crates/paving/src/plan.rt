@@ -9,8 +9,8 @@ use sat_model::{Box3, NoMemory, Row, Rules};
 use std::alloc::Global;
 use std::marker::Model;
 
-/// The rows and the rules of an epoch, the root box, where they are to be searched, the trees of the
-/// rows, and room for the boxes that will wait.
+/// The rows and the rules of an epoch, the root box, where they are to be searched, the trees of
+/// the rows, and room for the boxes that will wait.
 #[derive(Drop)]
 pub struct Plan {
     pub(crate) rows: Vec<Row>,

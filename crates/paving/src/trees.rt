@@ -38,8 +38,9 @@ impl Trees {
         })
     }
 
-    /// Works on a box that is taken up after so many splits, with the tree for its length, and hands
-    /// each step to the log. A fault is that of the step that wasn't taken.
+    /// Works on a box that is taken up after so many splits, with the tree for its longest side, and
+    /// hands each step to the log. A fault is that of the step that wasn't taken. At most 1,800 cuts
+    /// are made.
     pub fn work_on_box<L: Steps>(
         &self,
         rows: &[Row],
