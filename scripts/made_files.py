@@ -8,8 +8,8 @@ satellite every 30 s, with noise of up to 2 m and one outlier of 500 m an epoch,
 computed anew with floating-point numbers, by the equations of IS-GPS-200 alone. GPSCOVER (./gpscover) solves them from
 FOLDER, or from a folder that is removed at the end, and checks its log. Then the place has to lie in a box that was kept
 of each epoch, at a clock span that holds 0. What is printed are the sums of the report's totals, in the form of `make`,
-and whether `make` prints the same. In one code of a hundred two neighbouring numbers of mm will do, and the program may
-take the other one; then the second line may differ.
+and whether `make` prints the same. The program compares intervals and not numbers, so it may take the next mm for a code, and
+then the second line may differ; of a hundred seeds it differed in none.
 
 Exit status: 0; 1 where a run fails, the place isn't held or the first line of `make` is another; 2 for a wrong command
 line.

@@ -1,4 +1,4 @@
-use crate::shelves::words;
+use crate::shelves::{four_files, one_file, words};
 use cover_run::{Limits, Status, run};
 use made_input::make;
 use outer_io::{MemoryShelf, MemorySink};
@@ -12,10 +12,9 @@ const LIMITS: Limits = Limits {
     log: 1_000_000,
 };
 
-// A shelf without files, on which nothing can be written.
+// A shelf with an empty file, on which nothing can be written.
 fn empty_shelf(alloc: Global) -> Result<MemoryShelf, Fail> {
-    let name = String::from_str(alloc, "b.log")?;
-    Ok(MemoryShelf::make(alloc, Vec::new(alloc), name, 0, Vec::new(alloc))?)
+    one_file(alloc, "a.log", "", "b.log", 0, Vec::new(alloc))
 }
 
 // What a run prints on standard output, which takes so many bytes.
@@ -35,6 +34,10 @@ fn printed(
     assert_eq!(rt; status, ends.0);
     assert_eq!(rt; err.bytes(), ends.1.as_bytes());
     Ok(out)
+}
+
+fn text(bytes: &[u8]) -> &str {
+    str::from_utf8(bytes).unwrap_or("")
 }
 
 // How many lines of a text begin with this word.
@@ -89,21 +92,18 @@ fn a_made_run_ends_early(rt: HostRuntime) -> Result<(), Fail> {
 fn made_files_are_solved_and_checked(rt: HostRuntime) -> Result<(), Fail> {
     let alloc = rt.alloc();
     let made = make(alloc, 7, 3)?;
-    let files = vec![in alloc;
-        (String::from_str(alloc, "a.obs")?, made.obs),
-        (String::from_str(alloc, "a.nav")?, made.nav),
-        (String::from_str(alloc, "a.toml")?, made.settings),
-    ]?;
+    let (obs, nav, settings) = (text(&made.obs), text(&made.nav), text(&made.settings));
+    let files = four_files(alloc, obs, nav, settings, "")?;
     let name = String::from_str(alloc, "b.log")?;
     let mut shelf = MemoryShelf::make(alloc, files, name, 1_000_000, Vec::new(alloc))?;
     let done = (Status::Done, "");
     let solve = ["solve", "a.obs", "a.nav", "a.toml", "b.log"];
     let out = printed(&rt, &solve, &LIMITS, &mut shelf, 1_000_000, done)?;
-    let report = str::from_utf8(out.bytes()).unwrap_or("");
+    let report = text(out.bytes());
     let (inside, edge) = (lines_of(report, "in "), lines_of(report, "edge "));
     let check = ["check", "a.obs", "a.nav", "a.toml", "b.log"];
     let yes = printed(&rt, &check, &LIMITS, &mut shelf, 200, done)?;
-    let verdict = format!(in alloc; "yes {}\n", inside + edge)?;
+    let verdict = format!(in alloc; "yes {}\n", inside.saturating_add(edge))?;
     assert_eq!(rt; yes.bytes(), verdict.as_bytes());
     let outside = lines_of(report, "out ");
     let lines = format!(in alloc;
