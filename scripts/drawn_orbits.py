@@ -6,9 +6,8 @@ usage: drawn_orbits.py [--program PATH] [--records N] [--seed N]
 Each file has twelve satellites, whose records are drawn from the whole range of every field, often from its ends, and a
 search box of up to 200 km on each side. For each row one choice of numbers is made as the equations of
 docs/EQUATIONS.md leave it, at a drawn point of the box, in exact fractions (`allowed` of second/sample.py). It has to
-lie in the row with W taken off at both ends, and a place within 19,900 and 52,300 km from the origin. The last line tells how
-many rows were compared and how far out and how eccentric their orbits were. 10,000 records take half an hour on one
-processor. It isn't part of the gate.
+lie in the row with W taken off at both ends, and a place between 19,900 and 52,300 km from the origin. The last line
+tells how many rows were compared, and how far out and how eccentric their orbits were. It isn't part of the gate.
 
 Exit status: 0; 1 where a number lies outside, of which a line tells, or a file isn't solved.
 """
