@@ -24,6 +24,16 @@ UNITS = {"af0": 10**16, "af1": 10**22, "af2": 10**28, "crs": 10**6, "dn": 10**22
          "omdot": 10**22, "idot": 10**22, "tgd": 10**16}
 
 
+# The terms of the Taylor sums, over U^last * last!: (power, factor of rest^power).
+TERMS = {last: [(power, (-1) ** (power // 2) * U ** (last - power) * (factorial(last) // factorial(power)))
+                for power in range(last % 2, last + 1, 2)] for last in (15, 16, 17, 18)}
+
+
+def taylor_sum(rest, last):
+    """The Taylor sum of the sine (`last` is odd) or the cosine of rest / U up to the power `last`."""
+    return Fraction(sum(factor * rest**power for power, factor in TERMS[last]), U**last * factorial(last))
+
+
 class Drawer:
     """Chooses among whole numbers: at random, or always the same end."""
 
@@ -55,8 +65,7 @@ class Drawer:
         quarter = (k + of_cosine) % 4
         found = []
         for rest in rests:
-            sums = [sum(Fraction((-1) ** (power // 2) * rest**power, U**power * factorial(power))
-                        for power in range(last % 2, last + 1, 2)) for last in ((16, 18) if quarter % 2 else (15, 17))]
+            sums = [taylor_sum(rest, last) for last in ((16, 18) if quarter % 2 else (15, 17))]
             if quarter > 1:
                 sums = [-value for value in sums]
             found += [(min(sums) * U - 1).__ceil__(), (max(sums) * U + 1).__floor__()]

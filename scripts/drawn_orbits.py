@@ -1,0 +1,108 @@
+#!/usr/bin/env python3
+"""Compares rows of `gpscover solve` with numbers that the equations allow, for drawn ephemerides.
+
+usage: drawn_orbits.py [--program PATH] [--records N] [--seed N]
+
+Each file has twelve satellites, whose records are drawn from the whole range of every field, often from its ends, and a
+search box of up to 200 km on each side. For each row one choice of numbers is made as the equations of
+docs/EQUATIONS.md leave it, at a drawn point of the box, in exact fractions (`allowed` of second/sample.py). It has to
+lie in the row with W taken off at both ends, and a place between 19,900 and 52,300 km from the origin. The last line
+tells how many rows were compared, and how far out and how eccentric their orbits were. It isn't part of the gate.
+
+Exit status: 0; 1 where a number lies outside, of which a line tells, or a file isn't solved.
+"""
+import argparse
+import random
+import subprocess
+import sys
+import tempfile
+from math import isqrt
+from pathlib import Path
+
+ROOT = Path(__file__).resolve().parent.parent
+sys.path.insert(0, str(ROOT / "second"))
+
+import compare  # noqa: E402
+import recheck  # noqa: E402
+import sample  # noqa: E402
+
+LEAST, GREATEST = 19_900 * 10**9, 52_300 * 10**9  # um
+NAMES = ("drawn.obs", "drawn.nav", "drawn.toml")
+
+
+class Drawn:
+    """The rows that were compared, and what was found of them."""
+
+    def __init__(self, program, folder, seed):
+        self.program, self.folder = program, Path(folder)
+        self.chance = random.Random(seed)
+        self.rows = self.outside = self.unsolved = 0
+        self.distances, self.eccentricities = [], []
+
+    def solve(self):
+        """Draws files and solves them; the files as the second checker reads them, and the lines of the log."""
+        for name, content in zip(NAMES, compare.random_files(self.chance)):
+            (self.folder / name).write_bytes(content)
+        paths = [str(self.folder / name) for name in NAMES]
+        log = str(self.folder / "drawn.log")
+        run = subprocess.run([self.program, "solve", *paths, log], stdout=subprocess.DEVNULL, check=False)
+        if run.returncode:
+            print("status", run.returncode, "of drawn files")
+            self.unsolved += 1
+            return None, []
+        return recheck.Files(*paths), recheck.read_log(recheck.read_file("log", log, recheck.LOG_LIMIT))
+
+    def choose(self, files, epoch, satellite, record):
+        """One choice of numbers that the equations allow at a point of the box."""
+        draw = sample.Drawer(self.chance.choice(("low", "high", "any", "mixed")), self.chance.random())
+        point = [draw.of(files.box[axis], files.box[axis + 3]) for axis in range(3)]
+        return sample.allowed(draw, record, epoch.time, dict(epoch.satellites)[satellite], files.settings.dual, point)
+
+    def compare(self, files, epoch, values, record):
+        """Compares a row with one choice."""
+        self.rows += 1
+        numbers = self.choose(files, epoch, values[0], record)
+        for axis, number in enumerate(numbers):
+            low, high = values[2 * axis + 1] + files.room, values[2 * axis + 2] - files.room
+            if not low <= number <= high:
+                self.outside += 1
+                print("outside:", values[0], "xyzP"[axis], number, low, high, record.values)
+        distance = isqrt(sum(number**2 for number in numbers[:3]))
+        if not LEAST <= distance <= GREATEST:
+            self.outside += 1
+            print("distance:", values[0], distance, record.values)
+        self.distances.append(distance)
+        self.eccentricities.append(record.values["e"])
+
+    def run(self):
+        """Draws one set of files, and compares all its rows."""
+        files, lines = self.solve()
+        epochs, used = iter(files.epochs if files else ()), {}
+        for word, values in lines:
+            if word in (b"epoch", b"few"):
+                epoch = next(epochs)
+                used = dict(files.satellites(epoch))
+            if word == b"sat":
+                self.compare(files, epoch, values, used[values[0]][1])
+
+
+def main():
+    """Draws until so many rows were compared."""
+    parser = argparse.ArgumentParser(description=__doc__.partition("\n")[0])
+    parser.add_argument("--program", default=str(ROOT / "gpscover"))
+    parser.add_argument("--records", type=int, default=10_000)
+    parser.add_argument("--seed", type=int, default=1)
+    arguments = parser.parse_args()
+    with tempfile.TemporaryDirectory() as folder:
+        drawn = Drawn(arguments.program, folder, arguments.seed)
+        while drawn.rows < arguments.records and drawn.unsolved < 10:
+            drawn.run()
+    if drawn.rows:
+        print(f"rows {drawn.rows}, numbers outside {drawn.outside}, files not solved {drawn.unsolved}; distances from"
+              f" {min(drawn.distances) // 10**9} to {max(drawn.distances) // 10**9} km, eccentricities up to"
+              f" {float(max(drawn.eccentricities))}")
+    sys.exit(1 if drawn.outside or drawn.unsolved or not drawn.rows else 0)
+
+
+if __name__ == "__main__":
+    main()
