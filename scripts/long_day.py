@@ -8,13 +8,15 @@ NAV is a navigation file of a whole day. The observation file begins with the ea
 pseudoranges by the equations of IS-GPS-200 in doubles, which keep the declared bounds; the phases, Doppler shifts and
 strengths beside them only fill a line as a receiver does. Each part of N epochs (10000) is solved with --from and --to,
 and its log checked with the same options; the region of each epoch has to hold the place. The first row is a part of
-one epoch, which shows what reading costs, the last the first part as a file of its own, whose log has to be the same.
+one epoch, which shows what reading costs; the last two are the day in one run, and the first part as a file of its own,
+whose log has to be the same.
 
-Files are made in FOLDER, or in one that is removed at the end: 150 MB for a day, which takes some four minutes.
+Files are made in FOLDER, or in one that is removed at the end: 450 MB for a day, which takes some five minutes.
 Prints the table of the section 'Long files' of docs/MEASURED.md. The status is 1 where a run or a region is wrong.
 """
 import argparse
 import datetime
+import filecmp
 import math
 import os
 import random
@@ -142,10 +144,10 @@ def epoch_texts(sky, count):
 
 
 def make_files(folder, nav, count):
-    """The three files of the day, and the observation file of its first part, of so many epochs; gives the sizes."""
+    """The three files of so many epochs."""
     head, records = navigation_parts(os.path.abspath(nav))
     folder.write(FILES[1], head, *records)
-    folder.write(FILES[2], settings_with(half=200000, bisections=64, **BOUNDS).split("[satellite]")[0])
+    folder.write(FILES[2], settings_with(half=200000, bisections=64, **BOUNDS).split("\n[satellite]\n")[0] + "\n")
     with open(folder.path / FILES[0], "w", encoding="ascii", newline="\n") as file:
         file.write(observation_parts()[0])
         file.writelines(epoch_texts(Sky([Record(text) for text in records]), count))
@@ -177,11 +179,10 @@ class Parts:
     def __init__(self, sizes):
         self.sizes, self.rows = sizes, []
 
-    def run(self, what, words):
-        """Solves a part, checks its log with the same options, and notes the figures; gives the log's bytes."""
+    def run(self, what, obs, *options, log="part.log"):
+        """Solves a part, checks its log with the same options, and notes the figures."""
         folder = self.sizes.folder
-        log, ranges = "part.log", words[1:]
-        words = [words[0], *FILES[1:], log, *ranges]
+        words = [obs, *FILES[1:], log, *options]
         solved, checked = (self.sizes.measure([command, *words]) for command in ("solve", "check"))
         count, held = holding(folder.path / log)
         boxes, rows = kept_boxes(folder.path / log)
@@ -189,24 +190,25 @@ class Parts:
         if (solved.status, solved.line, checked.status, checked.line, held) != wanted:
             self.sizes.wrong += 1
             print(f"{what}: {solved}, {checked}, {held} of {count} regions hold the place", file=sys.stderr)
-        row = [what, f"{folder.size(words[0]) / 1e6:.1f} MB", f"{count:,}", f"{rows / count:.1f}"]
+        row = [what, f"{folder.size(obs) / 1e6:.1f} MB", f"{rows / count:.1f}"]
         for it in solved, checked:
             row += [f"{it.seconds:.2f} s", it.peak]
         self.rows.append([*row, f"{folder.size(log) / 1e6:.1f} MB", f"`{checked.line}`", f"{held:,}"])
         print(" | ".join(self.rows[-1]), file=sys.stderr, flush=True)
-        return (folder.path / log).read_bytes()
 
 
 def run_parts(parts, count, step):
-    """A part of one epoch, all parts of the day, and the first part as a file of its own."""
-    parts.run("1", [FILES[0], "--to", "1"])
-    first = None
+    """A part of one epoch, all parts of the day, the day in one run, and the first part as a file of its own."""
+    folder = parts.sizes.folder
+    parts.run("1", FILES[0], "--to", "1")
     for start in range(1, count + 1, step):
         end = min(start + step - 1, count)
-        log = parts.run(f"{start:,} to {end:,}", [FILES[0], "--from", f"{start}", "--to", f"{end}"])
-        first = first or log
-    cut_after(parts.sizes.folder, "first.obs", step)
-    if parts.run("all of a file of the first part", ["first.obs"]) != first:
+        name = "first.log" if start == 1 else "part.log"
+        parts.run(f"{start:,} to {end:,}", FILES[0], "--from", f"{start}", "--to", f"{end}", log=name)
+    parts.run(f"1 to {count:,}", FILES[0])
+    cut_after(folder, "first.obs", step)
+    parts.run(f"1 to {min(step, count):,}, all of a file", "first.obs")
+    if not filecmp.cmp(folder.path / "first.log", folder.path / "part.log", shallow=False):
         parts.sizes.wrong += 1
         print("the first part has another log as a file of its own", file=sys.stderr)
 
@@ -224,7 +226,7 @@ def main():
         make_files(folder, args.nav, args.epochs)
         parts = Parts(Sizes(os.path.abspath(args.program), folder))
         run_parts(parts, args.epochs, args.part)
-    head = ["epochs", "file", "how many", "satellites", "`solve`", "its peak", "`check`", "its peak", "log", "verdict",
+    head = ["epochs", "file", "satellites", "`solve`", "its peak", "`check`", "its peak", "log", "verdict",
             "regions with the place"]
     for cells in head, ["---"] * len(head), *parts.rows:
         print("| " + " | ".join(cells) + " |")
