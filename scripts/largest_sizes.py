@@ -26,6 +26,7 @@ PIECE = 1 << 20
 
 # A run: what is large, the words, and what is wanted of it.
 Case = collections.namedtuple("Case", "what words status line")
+Measured = collections.namedtuple("Measured", "status line seconds peak")
 
 
 class Folder:
@@ -76,26 +77,30 @@ class Sizes:
         # What a child's peak says at least, since it begins as a copy of this script.
         self.floor = resource.getrusage(resource.RUSAGE_SELF).ru_maxrss
 
-    def run(self, case):
-        """Runs one case, compares it and notes its figures."""
+    def measure(self, words):
+        """Runs the program on words and gives its status, its line, the processor time in s, and the peak memory."""
         out, err = (self.folder.path / name for name in ("stdout", "stderr"))
         # Reports are long, and no line of them is looked at.
-        keeps_out = case.words[0] in ("judge", "check")
+        keeps_out = words[0] in ("judge", "check")
         with open(out if keeps_out else os.devnull, "wb") as to, open(err, "wb") as errors:
-            words = [self.program, *case.words]
+            words = [self.program, *words]
             process = subprocess.Popen(words, cwd=self.folder.path, stdin=subprocess.DEVNULL, stdout=to, stderr=errors)
             _, ended, usage = os.wait4(process.pid, 0)
         process.returncode = os.waitstatus_to_exitcode(ended)
         line = (err.read_text() or (out.read_text() if keeps_out else "")).strip()
-        if (process.returncode, line) != (case.status, case.line):
-            self.wrong += 1
-            ended = f"status {process.returncode}, {line!r}"
-            print(f"{case.what}: {ended}; wanted {case.status}, {case.line!r}", file=sys.stderr)
-        seconds = usage.ru_utime + usage.ru_stime
         floor = max(self.floor, resource.getrusage(resource.RUSAGE_SELF).ru_maxrss)
         peak = f"{usage.ru_maxrss / 1000:.0f} MB" if usage.ru_maxrss > floor else f"at most {floor / 1000:.0f} MB"
-        row = [case.what, f"`{case.words[0]}`", f"{seconds:.2f} s", peak, str(process.returncode)]
-        row.append(f"`{line}`" if line else "")
+        return Measured(process.returncode, line, usage.ru_utime + usage.ru_stime, peak)
+
+    def run(self, case):
+        """Runs one case, compares it and notes its figures."""
+        it = self.measure(case.words)
+        if (it.status, it.line) != (case.status, case.line):
+            self.wrong += 1
+            ended = f"status {it.status}, {it.line!r}"
+            print(f"{case.what}: {ended}; wanted {case.status}, {case.line!r}", file=sys.stderr)
+        row = [case.what, f"`{case.words[0]}`", f"{it.seconds:.2f} s", it.peak, str(it.status)]
+        row.append(f"`{it.line}`" if it.line else "")
         self.rows.append(row)
         print(" | ".join(row), file=sys.stderr, flush=True)
 
@@ -139,11 +144,11 @@ def filling(index, size):
     yield few_of_size(index, size)
 
 
-def navigation_parts():
-    """The header of the navigation file, and its records of GPS, of eight lines each."""
-    head, body = whole_text("receiver.nav").split("END OF HEADER       \n")
+def navigation_parts(name="receiver.nav"):
+    """The header of a navigation file, and its records of GPS, of eight lines each."""
+    *head, body = re.split(r"(?<=END OF HEADER)( *\n)", whole_text(name), maxsplit=1)
     parts = re.split(r"(?m)^(?=G)", body)[1:]
-    return head + "END OF HEADER       \n", ["".join(part.splitlines(keepends=True)[:8]) for part in parts]
+    return "".join(head), ["".join(part.splitlines(keepends=True)[:8]) for part in parts]
 
 
 def observation_parts():

@@ -19,6 +19,8 @@ import bounds
 import coverlog
 import exact_extents
 import headline
+import largest_sizes
+import long_day
 import outline
 import picture
 import region
@@ -484,6 +486,18 @@ class Pictures(unittest.TestCase):
     def test_an_epoch_without_a_region_is_refused(self):
         with self.assertRaisesRegex(coverlog.LogError, "it is empty"):
             picture.chosen_epoch(RECORDED / "cres_2008.log", 8)
+
+
+class LongDay(unittest.TestCase):
+    def test_its_ranges_are_the_recorded_ones_but_for_the_clock_and_the_air(self):
+        sky = long_day.Sky([long_day.Record(text) for text in largest_sizes.navigation_parts()[1]])
+        first, *lines = largest_sizes.observation_parts()[1][0].splitlines()
+        self.assertEqual(first[:29], "> 2008 05 26 05 59 29.9990000")
+        time = 895816769.999
+        seen = [(line[:3], float(line[3:17])) for line in lines if line[0] == "G"]
+        left = [code - sky.record(satellite, time).signal(time)[1] for satellite, code in seen]
+        self.assertEqual(len(left), 9)
+        self.assertLess(max(left) - min(left), 20)
 
 
 class Documents(unittest.TestCase):
