@@ -1,6 +1,6 @@
 //! Rows of a few satellites and small boxes, whose clock spans are easily worked out by hand.
 
-ghost use Rattle.std.specs.Prelude.{◌≡◌, ◌<◌, ◌≤◌, ◌≤ℤ◌, pos, length};
+ghost use Rattle.std.specs.Prelude.{◌≡◌, ◌≤◌, ◌≤ℤ◌, pos, length};
 ghost use Rattle.sat_model.specs.Sizes.{IsPlaceSize, IsErrorSize};
 
 use sat_model::{Box3, Pos, Row, Rules, Sat, Span, Step};
