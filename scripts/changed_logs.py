@@ -7,7 +7,7 @@ FOLDER has receiver.obs, receiver.nav and settings.toml, as crates/gpscover/data
 are solved: one with the settings as they are, and one over a small box with wide bounds, so that there are
 boxes inside. Of the second epoch four satellites are left, and there and in the third one satellite lacks its
 code. Each number of each line goes up and down by one, and each line is dropped, doubled, put behind the next,
-and replaced by the line at its place in another epoch. Prints two tables in Markdown.
+and replaced by the line at its place in another epoch; of the `cut` lines one in eight. Prints two tables in Markdown.
 """
 import collections
 import os
@@ -33,6 +33,7 @@ FIELDS = {
     "edge": ["box", "lo", "hi"],
     "done": ["number"],
 }
+CUTS_FOR_ONE = 8
 WIDE = {"half": "half = 2000", "receiver": "receiver = [-30000, 30000]"}
 
 
@@ -70,9 +71,18 @@ def stepped(word, by):
     return str(int(word) + by)
 
 
+def changed_lines(lines):
+    """The lines that are changed, with their places: all but most of the cuts."""
+    cuts = 0
+    for at, line in enumerate(lines):
+        cuts += line.startswith("cut")
+        if not line.startswith("cut") or cuts % CUTS_FOR_ONE == 1:
+            yield at, line
+
+
 def number_changes(lines):
     """Each number of each line up and down: the kind of the line, the field, the way, and the changed lines."""
-    for at, line in enumerate(lines):
+    for at, line in changed_lines(lines):
         kind, *words = line.split(" ")
         for place, name in enumerate(FIELDS[kind]):
             for way, by in (("up", 1), ("down", -1)):
@@ -100,7 +110,7 @@ def place_elsewhere(lines, at):
 
 def line_changes(lines):
     """Each line dropped, doubled, put behind the next, and taken from another epoch."""
-    for at, line in enumerate(lines):
+    for at, line in changed_lines(lines):
         kind = line.split(" ")[0]
         yield kind, "dropped", [*lines[:at], *lines[at + 1 :]]
         yield kind, "doubled", [*lines[: at + 1], *lines[at:]]
