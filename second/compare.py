@@ -288,7 +288,7 @@ def page(arguments, directory):
     """The changed logs of docs/CHANGED_LOGS.md, checked by both."""
     tally = Tally("logs of CHANGED_LOGS.md")
     pair = Pair(arguments.program, directory)
-    obs, nav, settings = [text.decode() for text in small_files(40, epochs=4)]
+    obs, nav, settings = [text.decode() for text in small_files(12, epochs=4)]
     for name, text in (("given", settings), ("wide", changed_logs.with_wide_bounds(settings))):
         pair.write([part.encode() for part in (changed_logs.three_epochs(obs), nav, text)])
         _, log = pair.solve()
@@ -305,7 +305,7 @@ def cuts(arguments, directory):
     chance = random.Random(arguments.seed)
     pavings, put, small = Tally("pavings with cuts"), Tally("cuts put into logs"), Tally("changed: logs with `cut`")
     pair, lines = Pair(arguments.program, directory), 0
-    for number, contents in enumerate([small_files(20)] + bases(arguments.data)):
+    for number, contents in enumerate([small_files(8)] + bases(arguments.data)):
         pair.write(contents)
         _, log = pair.solve()
         for _ in range(10):
