@@ -6,10 +6,11 @@ usage: drawn_orbits.py [--program PATH] [--records N] [--seed N]
 Each file has twelve satellites, whose records are drawn from the whole range of every field, often from its ends, and a
 search box of up to 200 km on each side. For each row one choice of numbers is made as the equations of
 docs/EQUATIONS.md leave it, at a drawn point of the box, in exact fractions (`allowed` of second/sample.py). It has to
-lie in the row with W taken off at both ends, and a place between 19,900 and 52,300 km from the origin. The last line
-tells how many rows were compared, and how far out and how eccentric their orbits were. It isn't part of the gate.
+lie in the row with W taken off at both ends, which has to be at most W wide, and a place between 19,900 and 52,300 km
+from the origin. The last line tells how many rows were compared, the greatest width beside W, and how far out and how
+eccentric their orbits were. It isn't part of the gate.
 
-Exit status: 0; 1 where a number lies outside, of which a line tells, or a file isn't solved.
+Exit status: 0; 1 where a number lies outside or a span is too wide, of which a line tells, or a file isn't solved.
 """
 import argparse
 import random
@@ -37,7 +38,7 @@ class Drawn:
         self.program, self.folder = program, Path(folder)
         self.chance = random.Random(seed)
         self.rows = self.outside = self.unsolved = 0
-        self.distances, self.eccentricities = [], []
+        self.distances, self.eccentricities, self.widths = [], [], []
 
     def solve(self):
         """Draws files and solves them; the files as the second checker reads them, and the lines of the log."""
@@ -64,9 +65,10 @@ class Drawn:
         numbers = self.choose(files, epoch, values[0], record)
         for axis, number in enumerate(numbers):
             low, high = values[2 * axis + 1] + files.room, values[2 * axis + 2] - files.room
-            if not low <= number <= high:
+            self.widths.append(((high - low) / files.room, high - low, files.room))
+            if not low <= number <= high or high - low > files.room:
                 self.outside += 1
-                print("outside:", values[0], "xyzP"[axis], number, low, high, record.values)
+                print("outside or too wide:", values[0], "xyzP"[axis], number, low, high, files.room, record.values)
         distance = isqrt(sum(number**2 for number in numbers[:3]))
         if not LEAST <= distance <= GREATEST:
             self.outside += 1
@@ -98,8 +100,9 @@ def main():
         while drawn.rows < arguments.records and drawn.unsolved < 10:
             drawn.run()
     if drawn.rows:
-        print(f"rows {drawn.rows}, numbers outside {drawn.outside}, files not solved {drawn.unsolved}; distances from"
-              f" {min(drawn.distances) // 10**9} to {max(drawn.distances) // 10**9} km, eccentricities up to"
+        _, width, room = max(drawn.widths)
+        print(f"rows {drawn.rows}, numbers outside {drawn.outside}, files not solved {drawn.unsolved}; the greatest width"
+              f" {width} um of W {room} um, distances from {min(drawn.distances) // 10**9} to {max(drawn.distances) // 10**9} km, eccentricities up to"
               f" {float(max(drawn.eccentricities))}")
     sys.exit(1 if drawn.outside or drawn.unsolved or not drawn.rows else 0)
 
