@@ -147,7 +147,7 @@ def make_files(folder, nav, count):
     """The three files of so many epochs."""
     head, records = navigation_parts(os.path.abspath(nav))
     folder.write(FILES[1], head, *records)
-    folder.write(FILES[2], settings_with(half=200000, bisections=64, **BOUNDS).split("\n[satellite]\n")[0] + "\n")
+    folder.write(FILES[2], settings_with(half=100000, bisections=8, **BOUNDS).split("\n[satellite]\n")[0] + "\n")
     with open(folder.path / FILES[0], "w", encoding="ascii", newline="\n") as file:
         file.write(observation_parts()[0])
         file.writelines(epoch_texts(Sky([Record(text) for text in records]), count))
