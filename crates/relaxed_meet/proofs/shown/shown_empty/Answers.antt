@@ -1,10 +1,10 @@
-use Rattle.std.proofs.Common.{◌≡◌, ◌+◌, arith, refl, Bool, true, false, not, map, length, take}
+use Rattle.std.proofs.Common.{◌≡◌, arith, refl, Bool, true, false, not, length, take}
 use Rattle.std.proofs.lemmas.Int.{ints}
 use Rattle.std.proofs.lemmas.List.{length-map}
 use Rattle.std.proofs.lemmas.Grind.{common_steps}
 use Rattle.sat_model.specs.Boxes.{grid_box}
 use Rattle.sat_model.specs.ClockSpans.{clock_ends}
-use Rattle.relaxed_meet.proofs.BetweenLemmas.{AreRead, read_more, found_or_empty}
+use Rattle.relaxed_meet.proofs.BetweenLemmas.{read_more, found_or_empty}
 use Rattle.relaxed_meet.proofs.shown.shown_empty.Goals as goal
 
 true_from : (a b : Bool) → a ≡ not b → a ≡ false → b ≡ true
