@@ -2,3 +2,4 @@ pub mod WordLemmas
 pub mod NumberLemmas
 pub mod TimeLemmas
 pub mod JoinedLemmas
+pub mod DigitLemmas

@@ -1,15 +1,15 @@
 -- The numbers that lie in enough spans are those between a low end and the high end that goes with it.
-use Rattle.std.proofs.Common.{◌≡◌, ℕ, ◌+◌, ◌-◌, ◌<◌, ◌≤◌, count_by, List, [], ◌∷◌, length, map, get_or, cond, ◌&&◌, arith, sym, subst, inl, inr, Option, None, Some}
+use Rattle.std.proofs.Common.{◌≡◌, ℕ, ◌+◌, ◌-◌, ◌<◌, ◌≤◌, min, count_by, List, [], ◌∷◌, ◌++◌, length, map, take, get_or, cond, ◌&&◌, arith, refl, sym, ap, subst, inl, inr, Option, None, Some, IsNone, ◌↔◌}
 use Rattle.std.specs.Prelude.{ℤ, pos, ◌≤ℤ◌, ◌<ℤ◌}
 use Rattle.std.proofs.lemmas.Int.{ints}
 use Rattle.std.proofs.lemmas.Bool.{cases_lt, cases_eq}
-use Rattle.std.proofs.lemmas.List.{length-map}
+use Rattle.std.proofs.lemmas.List.{length-map, map-append, map_more}
 use Rattle.std.proofs.lemmas.List.Sums.{sum_by-cons}
 use lib.Signed.{le_z}
 use Rattle.sat_model.specs.declared.spans.Span.{Span}
-use Rattle.sat_model.specs.Relaxed.{holds, ends, LiesInRelaxed, IsRelaxedHull}
+use Rattle.sat_model.specs.Relaxed.{holds, ends, LiesInRelaxed, IsRelaxedEmpty, IsRelaxedHull}
 use Rattle.relaxed_meet.specs.Kept.{above, bit, IsFalling, Keeps, mirrored, LiesBetween, IsLeastIn, IsGreatestIn}
-use Rattle.relaxed_meet.proofs.FallingLemmas.{above_le, at_rank}
+use Rattle.relaxed_meet.proofs.FallingLemmas.{above_le, at_rank, none_kept, kept_more}
 
 abbrev pub lows_of : List Span → List ℤ
 lows_of spans = map (λ s. s.lo) spans
@@ -164,3 +164,55 @@ are_extremes spans need n lows highs is some enough low high =
 pub none_relaxed : (spans : List Span) (need : ℕ) (lows highs : List ℤ) → AreExtremes spans need lows highs → IsLeastIn (LiesBetween lows highs) None
     → (b : ℤ) → LiesInRelaxed (map ends spans) need b → ⊥
 none_relaxed spans need lows highs e none b h = none b (between spans need lows highs b e h)
+
+-- ---- spans that were read one after another, of which only the extremes are kept
+
+pub record AreRead (most : ℕ) (lows highs : List ℤ) (all : List (ℤ × ℤ)) : Type 0 where
+  pub spans : List Span
+  pub are : map ends spans ≡ all
+  pub keeps_lows : Keeps most lows (lows_of spans)
+  pub keeps_highs : Keeps most highs (highs_of spans)
+
+pub none_read : (most : ℕ) → AreRead most [] [] []
+none_read most = record {
+  spans = [];
+  are = refl;
+  keeps_lows = none_kept most;
+  keeps_highs = none_kept most;
+}
+
+-- one more is read
+pub read_more : {X : Type 0} (f : X → ℤ × ℤ) (xs : List X) (i : ℕ) (x : X) (s : Span) (most : ℕ) (lows highs new_lows new_highs : List ℤ) (lo hi : ℤ)
+    → i < length xs → x ≡ get_or xs i x → ends s ≡ f x → lo ≡ s.lo → hi ≡ mirrored s.hi → AreRead most lows highs (map f (take i xs))
+    → IsFalling new_lows → length new_lows ≡ min (length lows + 1) most → ((b : ℤ) → above b new_lows ≡ min (above b (lows ++ lo ∷ [])) most)
+    → IsFalling new_highs → length new_highs ≡ min (length highs + 1) most → ((b : ℤ) → above b new_highs ≡ min (above b (highs ++ hi ∷ [])) most)
+    → AreRead most new_lows new_highs (map f (take (i + 1) xs))
+read_more f xs i x s most lows highs new_lows new_highs lo hi within reads is lo_is hi_is read low_falls low_count low_same high_falls high_count high_same =
+    let e = map_more f xs i x within in
+    let m = map-append ends read.spans (s ∷ []) in
+    let l = map-append (λ t. t.lo) read.spans (s ∷ []) in
+    let h = map-append (λ t. mirrored t.hi) read.spans (s ∷ []) in
+    record {
+      spans = read.spans ++ s ∷ [];
+      are = let had = read.are in cc;
+      keeps_lows = rw l (kept_more most lows new_lows (lows_of read.spans) lo s.lo read.keeps_lows low_falls low_count low_same lo_is);
+      keeps_highs = rw h (kept_more most highs new_highs (highs_of read.spans) hi (mirrored s.hi) read.keeps_highs high_falls high_count high_same hi_is);
+    }
+
+-- whether the search finds a number tells whether one lies in enough of the spans that were read
+pub found_or_empty : (all : List (ℤ × ℤ)) (q len : ℕ) (lows highs : List ℤ) (r : Option ℤ) → q < len → length all ≡ len → AreRead (q + 1) lows highs all
+    → IsLeastIn (LiesBetween lows highs) r → IsNone r ↔ IsRelaxedEmpty all (len - q)
+found_or_empty all q len lows highs r less count read least =
+    let same : length read.spans ≡ len = omega (arith, count, length-map read.spans ends, ap length read.are) in
+    let most : length read.spans - (len - q) + 1 ≡ q + 1 = omega (arith, same) in
+    let e : AreExtremes read.spans (len - q) lows highs = record {
+      some = omega (arith, less);
+      enough = omega (arith, same);
+      keeps_lows = rw most read.keeps_lows;
+      keeps_highs = rw most read.keeps_highs;
+    } in
+    rw (sym read.are) (by_cases r (least_in_relaxed read.spans (len - q) lows highs r e least))
+  where
+    by_cases : {Lies : ℤ → Type 0} (r : Option ℤ) → IsLeastIn Lies r → IsNone r ↔ ((b : ℤ) → Lies b → ⊥)
+    by_cases None none = (λ is. none, λ empty. refl)
+    by_cases (Some x) least = (λ is. absurd cc, λ empty. absurd (empty x least.0))

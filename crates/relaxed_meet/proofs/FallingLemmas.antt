@@ -1,5 +1,5 @@
 -- Lists in falling order, and how many of their numbers are greater than one.
-use Rattle.std.proofs.Common.{◌≡◌, refl, ℕ, ◌+◌, ◌<◌, ◌≤◌, min, List, [], ◌∷◌, ◌++◌, length, take, map, get_or, set, true, false, arith, ap, ◌∙◌, ◌⊎◌, inl, inr}
+use Rattle.std.proofs.Common.{◌≡◌, refl, ℕ, ◌+◌, ◌<◌, ◌≤◌, min, List, [], ◌∷◌, ◌++◌, length, take, map, get_or, set, true, false, arith, sym, ap, ◌∙◌, ◌⊎◌, inl, inr}
 use Rattle.std.specs.Prelude.{ℤ, pos, ◌≤ℤ◌, ◌<ℤ◌}
 use Rattle.std.proofs.lemmas.Int.{ints}
 use Rattle.std.proofs.lemmas.Bool.{cases_Bool, cases_eq}
@@ -132,14 +132,21 @@ pub above_kept : (xs old : List ℤ) (c n m : ℤ) (most : ℕ) (b : ℤ) → Is
 above_kept xs old c n m most b k full is =
     rw is (omega (arith, full, k.count, k.same_above b, above_push old n b, above_full xs c b (λ j within. k.least j (omega (arith, k.count)))))
 
+pub none_kept : (most : ℕ) → Keeps most [] []
+none_kept most = record { falling = record { falls = λ i j le inside. absurd (omega arith) }; count = omega arith; same_above = λ b. omega arith }
+
 -- one more number is read
+pub kept_more : (most : ℕ) (kept next all : List ℤ) (n m : ℤ) → Keeps most kept all → IsFalling next → length next ≡ min (length kept + 1) most
+    → ((b : ℤ) → above b next ≡ min (above b (kept ++ n ∷ [])) most) → n ≡ m → Keeps most next (all ++ m ∷ [])
+kept_more most kept next all n m k falling count same is = rw (sym is) record {
+  falling = falling;
+  count = omega (arith, count, k.count, length-append all (n ∷ []));
+  same_above = λ b. omega (arith, same b, k.same_above b, above_push kept n b, above_push all n b);
+}
+
 pub keeps_more : {X : Type 0} (f : X → ℤ) (spans : List X) (i : ℕ) (x : X) (most : ℕ) (kept next : List ℤ) (n : ℤ) → i < length spans → x ≡ get_or spans i x
     → Keeps most kept (map f (take i spans)) → IsFalling next → length next ≡ min (length kept + 1) most
     → ((b : ℤ) → above b next ≡ min (above b (kept ++ n ∷ [])) most) → n ≡ f x → Keeps most next (map f (take (i + 1) spans))
 keeps_more f spans i x most kept next n within reads k falling count same is =
-    let more : map f (take (i + 1) spans) ≡ map f (take i spans) ++ n ∷ [] = let e = map_more f spans i x within in cc in
-    rw more record {
-      falling = falling;
-      count = omega (arith, count, k.count, length-append (map f (take i spans)) (n ∷ []));
-      same_above = λ b. omega (arith, same b, k.same_above b, above_push kept n b, above_push (map f (take i spans)) n b);
-    }
+    let more : map f (take (i + 1) spans) ≡ map f (take i spans) ++ f x ∷ [] = let e = map_more f spans i x within in cc in
+    rw more (kept_more most kept next (map f (take i spans)) n (f x) k falling count same is)

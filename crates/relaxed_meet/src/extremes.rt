@@ -26,7 +26,7 @@ fn carry_past(kept: &mut [i64], number: i64) -> i64
 }
 
 /// Puts a number among the greatest, `most` of them at most.
-fn keep(kept: &mut Falling, number: i64, most: usize)
+pub(crate) fn keep(kept: &mut Falling, number: i64, most: usize)
     requires falling { IsFalling kept.old.items }
     requires room { (length kept.old.items ≤ most) × (most ≤ 64) }
     ensures falling { IsFalling kept.new.items }

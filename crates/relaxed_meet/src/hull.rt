@@ -9,7 +9,7 @@ use crate::extremes::{Falling, extremes};
 use sat_model::Span;
 
 /// The least number that lies between a low end and the high end that goes with it.
-fn least_between(lows: &[i64], highs: &[i64]) -> Option<i64>
+pub(crate) fn least_between(lows: &[i64], highs: &[i64]) -> Option<i64>
     requires falling { IsFalling lows.now }
     requires pairs { length highs.now ≡ length lows.now }
     ensures { IsLeastIn (LiesBetween lows.now highs.now) result }

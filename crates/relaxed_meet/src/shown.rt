@@ -6,7 +6,8 @@ ghost use Rattle.relaxed_meet.specs.BoxStates.{IsBoxState};
 ghost use Rattle.sat_model.specs.ClockSpans.{IsClockHull, IsShownEmpty, NoneIsShownInner, IsLeastShownInner};
 
 use crate::clocks::{clock_span, clock_spans, inner_span};
-use crate::hull::{least_number, relaxed};
+use crate::extremes::{Falling, keep};
+use crate::hull::{least_between, least_number, relaxed};
 use arrayvec::ArrayVec;
 use sat_model::{Box3, Row, Span};
 
@@ -30,7 +31,15 @@ pub fn shown_empty(rows: &[Row], part: &Box3, q: u8) -> bool
     requires { (q < length rows.now) × (length rows.now ≤ 64) }
     ensures { IsTrue result ↔ IsShownEmpty rows.now (grid_box part.now) q }
 {
-    clock_hull(rows, part, q).is_none()
+    let most = usize::from(q) + 1;
+    let mut lows = Falling::new();
+    let mut highs = Falling::new();
+    for row in rows {
+        let span = clock_span(row, part);
+        keep(&mut lows, span.lo, most);
+        keep(&mut highs, -1 - span.hi, most);
+    }
+    least_between(&lows, &highs).is_none()
 }
 
 /// The least clock offset in um that lies in the inner spans of all but at most `q` rows over the

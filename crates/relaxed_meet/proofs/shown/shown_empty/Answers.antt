@@ -1,4 +1,10 @@
-use Rattle.std.proofs.Common.{◌≡◌, Bool, true, false, not, refl}
+use Rattle.std.proofs.Common.{◌≡◌, arith, refl, Bool, true, false, not, length, take}
+use Rattle.std.proofs.lemmas.Int.{ints}
+use Rattle.std.proofs.lemmas.List.{length-map}
+use Rattle.std.proofs.lemmas.Grind.{common_steps}
+use Rattle.sat_model.specs.Boxes.{grid_box}
+use Rattle.sat_model.specs.ClockSpans.{clock_ends}
+use Rattle.relaxed_meet.proofs.BetweenLemmas.{read_more, found_or_empty}
 use Rattle.relaxed_meet.proofs.shown.shown_empty.Goals as goal
 
 true_from : (a b : Bool) → a ≡ not b → a ≡ false → b ≡ true
@@ -8,5 +14,21 @@ true_from a false e f = cc
 false_from : (a b : Bool) → a ≡ not b → b ≡ true → a ≡ false
 false_from a b e f = rw (e, f) refl
 
+pub loop-row-preserved : goal.loop-row-preserved
+loop-row-preserved c = record {
+  most = omega (arith, c.from-most.ensures);
+  read = read_more (clock_ends (grid_box c.args.part.now)) c.args.rows.now _ _ c.clock_span-span.result _ _ _ _ _ _ _ c.loop-row-test.true c.row-item.is c.clock_span-span.ensures
+      (omega (arith, ints)) (omega (arith, ints)) c.loop-row.invariant.read
+      c.keep.ensures.falling c.keep.ensures.count c.keep.ensures.same_above
+      c.keep-in-loop-row.ensures.falling c.keep-in-loop-row.ensures.count c.keep-in-loop-row.ensures.same_above;
+}
+
 pub returns : goal.returns
-returns c = (λ t. c.clock_hull.ensures.none.0 (false_from _ _ c.is_none.ensures t), λ e. true_from _ _ c.is_none.ensures (c.clock_hull.ensures.none.1 e))
+returns c =
+    let rows = c.args.rows.now in
+    let all : take c.loop-row.row-index rows ≡ rows = grind (arith, common_steps, c.loop-row-test.false) in
+    let most = c.loop-row.invariant.most in
+    let read = rw (all, most) at c.loop-row.invariant.read in
+    let found = found_or_empty _ c.args.q (length rows) _ _ c.least_between.result c.requires.0 (length-map rows (clock_ends (grid_box c.args.part.now))) read
+    (rw (c.deref.ensures.0, c.deref-2.ensures.0) at c.least_between.ensures) in
+    (λ t. found.0 (false_from _ _ c.is_none.ensures t), λ e. true_from _ _ c.is_none.ensures (found.1 e))
