@@ -1,5 +1,5 @@
 -- Nodes that are linked into lists: what a push and a pop change.
-use Rattle.std.proofs.Common.{◌≡◌, ◌≢◌, ℕ, zero, suc, ◌+◌, ◌-◌, ◌<◌, ◌≤◌, List, [], ◌∷◌, ◌++◌, length, get_or, set, replicate, map, Option, Some, None, Bool, cond, nat_eq, arith, inl, inr, refl, sym, ap, subst, ◌∙◌}
+use Rattle.std.proofs.Common.{◌≡◌, ◌≢◌, ℕ, zero, suc, ◌+◌, ◌-◌, ◌<◌, ◌≤◌, max, List, [], ◌∷◌, ◌++◌, length, get_or, set, replicate, map, Option, Some, None, Bool, cond, nat_eq, arith, inl, inr, refl, sym, ap, subst, ◌∙◌}
 use Rattle.std.proofs.lemmas.List.Sums.{sum_by-set}
 use Rattle.std.proofs.Math.ListN.{length-set}
 use Rattle.std.proofs.lemmas.List.{get_or-set_same, get_or-set_other, nil_from_length}
@@ -171,6 +171,7 @@ used_below slots used p n unused e = elim (cases_lt p used) [
 
 -- The spare node at the place is in no list. The others begin behind it, and so many of them are left.
 pub record IsSpare (slots : List (Option Node)) (chain : ℕ → List Link) (owner : ℕ → ℕ) (place behind left mark nodes : ℕ) : Type 0 where
+  pub inside : place < length slots
   pub apart : (bucket : ℕ) → IsFree place (chain bucket)
   pub others : List Link
   pub linked : ChainTo slots behind others mark
@@ -197,14 +198,15 @@ module _ (slots : List (Option Node)) (firsts lasts counts : List ℕ) (free spa
       go (l ∷ ls) c e = (within slots free (node l.item c.1.0) c.1.1, (λ lt. (node l.item c.1.0, c.1.1)))
 
   -- it leaves the spare ones
-  pub spare_there : (behind mark : ℕ) → 0 < spare → behind ≡ spare_behind (node_at slots free) free → (free ≡ used → mark ≡ used + 1) → (free < used → mark ≡ used)
+  pub spare_there : (behind mark : ℕ) → 0 < spare → length slots ≡ nodes → behind ≡ spare_behind (node_at slots free) free → mark ≡ max used (free + 1)
       → IsSpare slots k.chain k.owner free behind (spare - 1) mark nodes
-  spare_there behind mark some is raised stays = go k.spares k.spares_linked k.spares_counted k.spares_owned k.spares_once
+  spare_there behind mark some long is marked = go k.spares k.spares_linked k.spares_counted k.spares_owned k.spares_once
     where
       go : (ls : List Link) → ChainTo slots free ls used → length ls + nodes ≡ spare + used → Belong k.owner 0 ls → Once ls → IsSpare slots k.chain k.owner free behind (spare - 1) mark nodes
       go [] c n own once =
-          let none : node_at slots free ≡ None = k.unused free (omega (arith, c)) in let up = raised c in
+          let none : node_at slots free ≡ None = k.unused free (omega (arith, c)) in let up : mark ≡ used + 1 = omega (arith, c, marked) in
           record {
+            inside = (first_spare some long).0;
             apart = λ x. unused_free slots free (get_or firsts x 0) (k.chain x) none (k.linked x);
             others = [];
             linked = is ∙ ap (λ o. spare_behind o free) none ∙ omega (arith, c, up);
@@ -216,9 +218,10 @@ module _ (slots : List (Option Node)) (firsts lasts counts : List ℕ) (free spa
             unused = λ i le. k.unused i (omega (arith, up, le));
           }
       go (l ∷ ls) c n own once =
-          let lt = used_below slots used free (node l.item c.1.0) k.unused c.1.1 in let same : mark ≡ used = stays lt in
+          let lt = used_below slots used free (node l.item c.1.0) k.unused c.1.1 in let same : mark ≡ used = omega (arith, lt, marked) in
           let owner_free : k.owner free ≡ 0 = ap k.owner (sym c.0) ∙ own.0 in
           record {
+            inside = within slots free (node l.item c.1.0) c.1.1;
             apart = λ x. free_of k.owner (suc x) free (k.chain x) (k.owned x) (λ e. absurd (omega (arith, e, owner_free)));
             others = ls;
             linked = subst (λ p. ChainTo slots p ls mark) (sym (is ∙ ap (λ o. spare_behind o free) c.1.1)) (subst (λ m. ChainTo slots c.1.0 ls m) (sym same) c.1.2);
@@ -330,7 +333,7 @@ module _ (slots : List (Option Node)) (firsts lasts counts : List ℕ) (free spa
         go (l ∷ ls) c n ends own once e = (kept l ls c n ends own once, taken l ls c n ends own once e)
 
   -- the first spare node goes to the end of the list
-  module _ (inside : free < length slots) (item : Item) (long_lasts : length lasts ≡ length firsts) (behind mark : ℕ) (spare_is : IsSpare slots k.chain k.owner free behind (spare - 1) mark nodes) (some : 0 < spare) where
+  module _ (item : Item) (long_lasts : length lasts ≡ length firsts) (behind mark : ℕ) (spare_is : IsSpare slots k.chain k.owner free behind (spare - 1) mark nodes) (some : 0 < spare) where
     abbrev new : Link
     new = link free item
 
@@ -399,7 +402,7 @@ module _ (slots : List (Option Node)) (firsts lasts counts : List ℕ) (free spa
     pub pushed_first : get_or counts bucket 0 ≡ 0 → IsLinked S₁ F₁ L₁ C₁ behind (spare - 1) mark nodes × IsPushed (lists_from slots firsts counts) bucket item (lists_from S₁ F₁ C₁)
     pushed_first none =
         let empty : k.chain bucket ≡ [] = nil_from_length (k.chain bucket) (k.counted bucket ∙ none) in
-        let begins : Chain S₁ (get_or F₁ bucket 0) (new ∷ []) = (sym (get_or-set_same firsts bucket free 0 lt), (0, ap (λ p. node_at S₁ p) (get_or-set_same firsts bucket free 0 lt) ∙ written slots free item 0 inside, tt)) in
+        let begins : Chain S₁ (get_or F₁ bucket 0) (new ∷ []) = (sym (get_or-set_same firsts bucket free 0 lt), (0, ap (λ p. node_at S₁ p) (get_or-set_same firsts bucket free 0 lt) ∙ written slots free item 0 spare_is.inside, tt)) in
         let here : Chain S₁ (get_or F₁ bucket 0) (k.chain bucket ++ new ∷ []) = subst (λ xs. Chain S₁ (get_or F₁ bucket 0) (xs ++ new ∷ [])) (sym empty) begins in
         let there : (x : ℕ) → x ≢ bucket → Chain S₁ (get_or F₁ x 0) (k.chain x) = λ x ne. subst (λ p. Chain S₁ p (k.chain x)) (sym (get_or-set_other firsts bucket x free 0 ne))
         (chain_set slots free (Some (node item 0)) (get_or firsts x 0) (k.chain x) (spare_is.apart x) (k.linked x)) in
@@ -432,7 +435,7 @@ module _ (slots : List (Option Node)) (firsts lasts counts : List ℕ) (free spa
               (chain_set slots free value (get_or firsts bucket 0) (k.chain bucket) (spare_is.apart bucket) (k.linked bucket)) in
               let here : Chain S₂ (get_or firsts bucket 0) (k.chain bucket ++ new ∷ []) = subst (λ xs. Chain S₂ (get_or firsts bucket 0) (xs ++ new ∷ [])) (sym is)
               (chain_push S₁ (get_or firsts bucket 0) E free item 0 w m ms before (subst Once is (k.once bucket)) ends
-              (subst (IsFree free) is (spare_is.apart bucket)) (written slots free item 0 inside) at_end) in
+              (subst (IsFree free) is (spare_is.apart bucket)) (written slots free item 0 spare_is.inside) at_end) in
               let there : (x : ℕ) → x ≢ bucket → Chain S₂ (get_or firsts x 0) (k.chain x) = λ x ne.
               chain_set S₁ E then (get_or firsts x 0) (k.chain x) (free_of k.owner (suc x) E (k.chain x) (k.owned x) (λ e. ne (omega (arith, e, owner_end))))
               (chain_set slots free value (get_or firsts x 0) (k.chain x) (spare_is.apart x) (k.linked x)) in
