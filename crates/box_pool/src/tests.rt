@@ -86,6 +86,7 @@ fn two_nodes(rt: HostRuntime) -> Result<(), NoMemory> {
 
 /// The fields of the process's pages: all that it has, and those that it wrote or read.
 const ALL: usize = 0;
+
 const RESIDENT: usize = 1;
 
 /// How many pages of memory the process has.
