@@ -25,6 +25,7 @@ chain_set slots q x p [] free c = tt
 chain_set slots q x p (l ∷ ls) free c =
     (c.0, (c.1.0, get_or-set_other slots q p x None (λ e. free.0 (sym e ∙ sym c.0)) ∙ c.1.1, chain_set slots q x c.1.0 ls free.1 c.1.2))
 
+-- the same of the spare nodes
 pub spares_set : (slots : List (Option Node)) (q : ℕ) (x : Option Node) (p : ℕ) (ls : List Link) (end : ℕ) → IsFree q ls → ChainTo slots p ls end → ChainTo (set slots q x) p ls end
 spares_set slots q x p [] end free c = c
 spares_set slots q x p (l ∷ ls) end free c =
@@ -169,7 +170,7 @@ used_below slots used p n unused e = elim (cases_lt p used) [
   | inr le ↦ absurd (some_none n (sym e ∙ unused p le))
 ]
 
--- The spare node at the place is in no list. The others begin behind it, and so many of them are left.
+-- the spare node at the place is in no list, and the other spare ones begin behind it
 pub record IsSpare (slots : List (Option Node)) (chain : ℕ → List Link) (owner : ℕ → ℕ) (place behind left mark nodes : ℕ) : Type 0 where
   pub inside : place < length slots
   pub apart : (bucket : ℕ) → IsFree place (chain bucket)

@@ -75,8 +75,8 @@ lists_from slots (first ∷ firsts) (count ∷ counts) =
     items_from slots count first ∷ lists_from slots firsts counts
 
 -- The nodes are linked into lists, and those that were given back into one of spare nodes. It leads
--- to the node `used`, and from there on all are spare and hold nothing. That no node is in two lists
--- is said by its one owner: 0 where it is spare, else the number of its list plus one.
+-- to the node `used`, and from there on all are spare and hold nothing. That no node is in two
+-- lists is said by its one owner: 0 where it is spare, else the number of its list plus one.
 pub record IsLinked (slots : List (Option Node)) (firsts lasts counts : List ℕ)
     (free spare used nodes : ℕ) : Type 0 where
   pub chain : ℕ → List Link

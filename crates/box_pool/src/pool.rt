@@ -30,6 +30,7 @@ pub struct Pool {
     nodes: u32,
     spare: u32,
     free: u32,
+    // No node from this one on was written yet.
     used: u32,
     mask: u64,
     firsts: [u32; QUEUES],
