@@ -1,13 +1,13 @@
 -- Nodes that are linked into lists: what a push and a pop change.
-use Rattle.std.proofs.Common.{◌≡◌, ◌≢◌, ℕ, zero, suc, ◌+◌, ◌-◌, ◌<◌, ◌≤◌, List, [], ◌∷◌, ◌++◌, length, get_or, set, replicate, map, Option, Some, None, Bool, cond, nat_eq, arith, inl, inr, refl, sym, ap, subst, ◌∙◌}
+use Rattle.std.proofs.Common.{◌≡◌, ◌≢◌, ℕ, zero, suc, ◌+◌, ◌-◌, ◌<◌, ◌≤◌, max, List, [], ◌∷◌, ◌++◌, length, get_or, set, replicate, map, Option, Some, None, Bool, cond, nat_eq, arith, inl, inr, refl, sym, ap, subst, ◌∙◌}
 use Rattle.std.proofs.lemmas.List.Sums.{sum_by-set}
 use Rattle.std.proofs.Math.ListN.{length-set}
 use Rattle.std.proofs.lemmas.List.{get_or-set_same, get_or-set_other, nil_from_length}
-use Rattle.std.proofs.lemmas.Bool.{cases_eq, eq-eqb, ne_eqb}
+use Rattle.std.proofs.lemmas.Bool.{cases_eq, cases_lt, eq-eqb, ne_eqb}
 use Rattle.box_pool.specs.declared.item.Item.{Item}
 use Rattle.box_pool.specs.declared.item.Node.{Node}
 use Rattle.box_pool.specs.Places.{IsFilled}
-use Rattle.box_pool.specs.Chains.{Link, node, node_at, Chain, IsFree, Once, Belong, EndsAt, next_of, item_before, items_from, lists_from, IsLinked}
+use Rattle.box_pool.specs.Chains.{Link, node, node_at, Chain, ChainTo, spare_behind, IsFree, Once, Belong, EndsAt, next_of, item_before, items_from, lists_from, IsLinked}
 use Rattle.box_pool.specs.Lists.{list_at, IsPushed, IsPopped}
 
 abbrev pub link : ℕ → Item → Link
@@ -16,11 +16,26 @@ link place item = record { place = place; item = item }
 abbrev pub items_of : List Link → List Item
 items_of = map (λ l. l.item)
 
+some_none : (n : Node) → Some n ≡ None → ⊥
+some_none n e = cc
+
 -- a write to a place that is in no link
 pub chain_set : (slots : List (Option Node)) (q : ℕ) (x : Option Node) (p : ℕ) (ls : List Link) → IsFree q ls → Chain slots p ls → Chain (set slots q x) p ls
 chain_set slots q x p [] free c = tt
 chain_set slots q x p (l ∷ ls) free c =
     (c.0, (c.1.0, get_or-set_other slots q p x None (λ e. free.0 (sym e ∙ sym c.0)) ∙ c.1.1, chain_set slots q x c.1.0 ls free.1 c.1.2))
+
+-- the same of the spare nodes
+pub spares_set : (slots : List (Option Node)) (q : ℕ) (x : Option Node) (p : ℕ) (ls : List Link) (end : ℕ) → IsFree q ls → ChainTo slots p ls end → ChainTo (set slots q x) p ls end
+spares_set slots q x p [] end free c = c
+spares_set slots q x p (l ∷ ls) end free c =
+    (c.0, (c.1.0, get_or-set_other slots q p x None (λ e. free.0 (sym e ∙ sym c.0)) ∙ c.1.1, spares_set slots q x c.1.0 ls end free.1 c.1.2))
+
+-- an unused place is that of no link
+unused_free : (slots : List (Option Node)) (q p : ℕ) (ls : List Link) → node_at slots q ≡ None → Chain slots p ls → IsFree q ls
+unused_free slots q p [] none c = tt
+unused_free slots q p (l ∷ ls) none c =
+    ((λ e. some_none (node l.item c.1.0) (sym c.1.1 ∙ ap (λ i. node_at slots i) (sym c.0 ∙ sym e) ∙ none)), unused_free slots q c.1.0 ls none c.1.2)
 
 pub items_are : (slots : List (Option Node)) (p : ℕ) (ls : List Link) → Chain slots p ls → items_from slots (length ls) p ≡ items_of ls
 unfolding items_from
@@ -145,23 +160,79 @@ chain_push slots p last q item next w l (m ∷ ls) c once e free at_q at_last =
 abbrev pub write : List (Option Node) → ℕ → Item → ℕ → List (Option Node)
 write slots p item next = set slots p (Some (node item next))
 
-pub written : (slots : List (Option Node)) (p : ℕ) (n : Node) (item : Item) (next : ℕ) → node_at slots p ≡ Some n → node_at (write slots p item next) p ≡ Some (node item next)
-written slots p n item next e = get_or-set_same slots p (Some (node item next)) None (within slots p n e)
+pub written : (slots : List (Option Node)) (p : ℕ) (item : Item) (next : ℕ) → p < length slots → node_at (write slots p item next) p ≡ Some (node item next)
+written slots p item next lt = get_or-set_same slots p (Some (node item next)) None lt
 
-module _ (slots : List (Option Node)) (firsts lasts counts : List ℕ) (free spare : ℕ) (k : IsLinked slots firsts lasts counts free spare) (same : length firsts ≡ length counts) where
+-- a node that is used is below the unused ones
+used_below : (slots : List (Option Node)) (used p : ℕ) (n : Node) → ((i : ℕ) → used ≤ i → node_at slots i ≡ None) → node_at slots p ≡ Some n → p < used
+used_below slots used p n unused e = elim (cases_lt p used) [
+  | inl lt ↦ lt
+  | inr le ↦ absurd (some_none n (sym e ∙ unused p le))
+]
+
+-- the spare node at the place is in no list, and the other spare ones begin behind it
+pub record IsSpare (slots : List (Option Node)) (chain : ℕ → List Link) (owner : ℕ → ℕ) (place behind left mark nodes : ℕ) : Type 0 where
+  pub inside : place < length slots
+  pub apart : (bucket : ℕ) → IsFree place (chain bucket)
+  pub others : List Link
+  pub linked : ChainTo slots behind others mark
+  pub counted : length others + nodes ≡ left + mark
+  pub owned : Belong owner 0 others
+  pub once : Once others
+  pub besides : IsFree place others
+  pub below : place < mark
+  pub unused : (i : ℕ) → mark ≤ i → node_at slots i ≡ None
+
+module _ (slots : List (Option Node)) (firsts lasts counts : List ℕ) (free spare used nodes : ℕ) (k : IsLinked slots firsts lasts counts free spare used nodes) (same : length firsts ≡ length counts) where
   pub lists_are : (bucket : ℕ) → list_at (lists_from slots firsts counts) bucket ≡ items_of (k.chain bucket)
   lists_are bucket =
       list_is slots firsts counts bucket same
       ∙ ap (λ n. items_from slots n (get_or firsts bucket 0)) (sym (k.counted bucket))
       ∙ items_are slots (get_or firsts bucket 0) (k.chain bucket) (k.linked bucket)
 
-  -- there is a spare node
-  pub spare_filled : 0 < spare → IsFilled slots free
-  spare_filled some = go k.spares k.spares_linked k.spares_counted
+  -- the first spare node
+  pub first_spare : 0 < spare → length slots ≡ nodes → (free < length slots) × (free < used → IsFilled slots free)
+  first_spare some long = go k.spares k.spares_linked k.spares_counted
     where
-      go : (ls : List Link) → Chain slots free ls → length ls ≡ spare → IsFilled slots free
-      go [] c e = absurd (omega (arith, e, some))
-      go (l ∷ ls) c e = (node l.item c.1.0, c.1.1)
+      go : (ls : List Link) → ChainTo slots free ls used → length ls + nodes ≡ spare + used → (free < length slots) × (free < used → IsFilled slots free)
+      go [] c e = (omega (arith, c, e, long, some), (λ lt. absurd (omega (arith, c, lt))))
+      go (l ∷ ls) c e = (within slots free (node l.item c.1.0) c.1.1, (λ lt. (node l.item c.1.0, c.1.1)))
+
+  -- it leaves the spare ones
+  pub spare_there : (behind mark : ℕ) → 0 < spare → length slots ≡ nodes → behind ≡ spare_behind (node_at slots free) free → mark ≡ max used (free + 1)
+      → IsSpare slots k.chain k.owner free behind (spare - 1) mark nodes
+  spare_there behind mark some long is marked = go k.spares k.spares_linked k.spares_counted k.spares_owned k.spares_once
+    where
+      go : (ls : List Link) → ChainTo slots free ls used → length ls + nodes ≡ spare + used → Belong k.owner 0 ls → Once ls → IsSpare slots k.chain k.owner free behind (spare - 1) mark nodes
+      go [] c n own once =
+          let none : node_at slots free ≡ None = k.unused free (omega (arith, c)) in let up : mark ≡ used + 1 = omega (arith, c, marked) in
+          record {
+            inside = (first_spare some long).0;
+            apart = λ x. unused_free slots free (get_or firsts x 0) (k.chain x) none (k.linked x);
+            others = [];
+            linked = is ∙ ap (λ o. spare_behind o free) none ∙ omega (arith, c, up);
+            counted = omega (arith, n, some, up);
+            owned = tt;
+            once = tt;
+            besides = tt;
+            below = omega (arith, c, up);
+            unused = λ i le. k.unused i (omega (arith, up, le));
+          }
+      go (l ∷ ls) c n own once =
+          let lt = used_below slots used free (node l.item c.1.0) k.unused c.1.1 in let same : mark ≡ used = omega (arith, lt, marked) in
+          let owner_free : k.owner free ≡ 0 = ap k.owner (sym c.0) ∙ own.0 in
+          record {
+            inside = within slots free (node l.item c.1.0) c.1.1;
+            apart = λ x. free_of k.owner (suc x) free (k.chain x) (k.owned x) (λ e. absurd (omega (arith, e, owner_free)));
+            others = ls;
+            linked = subst (λ p. ChainTo slots p ls mark) (sym (is ∙ ap (λ o. spare_behind o free) c.1.1)) (subst (λ m. ChainTo slots c.1.0 ls m) (sym same) c.1.2);
+            counted = omega (arith, n, same, some);
+            owned = own.1;
+            once = once.1;
+            besides = subst (λ p. IsFree p ls) c.0 once.0;
+            below = omega (arith, lt, same);
+            unused = λ i le. k.unused i (omega (arith, same, le));
+          }
 
   -- a list that has a node begins with one and ends with one
   pub first_filled : (bucket : ℕ) → get_or counts bucket 0 ≢ 0 → IsFilled slots (get_or firsts bucket 0)
@@ -178,7 +249,7 @@ module _ (slots : List (Option Node)) (firsts lasts counts : List ℕ) (free spa
       go [] c e ends = absurd (some (sym e))
       go (l ∷ ls) c e ends = last_filled slots (get_or lasts bucket 0) (get_or firsts bucket 0) l ls ends c
 
-module _ (slots : List (Option Node)) (firsts lasts counts : List ℕ) (free spare : ℕ) (k : IsLinked slots firsts lasts counts free spare) (same : length firsts ≡ length counts)
+module _ (slots : List (Option Node)) (firsts lasts counts : List ℕ) (free spare used nodes : ℕ) (k : IsLinked slots firsts lasts counts free spare used nodes) (same : length firsts ≡ length counts)
     (bucket : ℕ) (lt : bucket < length firsts) where
   -- the first node of the list goes to the spare ones
   module _ (was : Node) (at_first : node_at slots (get_or firsts bucket 0) ≡ Some was) where
@@ -214,7 +285,7 @@ module _ (slots : List (Option Node)) (firsts lasts counts : List ℕ) (free spa
       item_is : was.item ≡ l.item
       item_is = (same_node was (node l.item c.1.0) (sym at_first ∙ c.1.1)).0
 
-      kept : IsLinked S' F' lasts C' F (spare + 1)
+      kept : IsLinked S' F' lasts C' F (spare + 1) used nodes
       kept = record {
         chain = at bucket ls k.chain;
         owner = at F 0 k.owner;
@@ -230,10 +301,12 @@ module _ (slots : List (Option Node)) (firsts lasts counts : List ℕ) (free spa
             (λ x ne. belong_at k.owner (suc x) F 0 (k.chain x) (elsewhere x ne) (k.owned x));
         once = everywhere (λ x xs. Once xs) bucket ls k.chain once.1 (λ x ne. k.once x);
         spares = link F was.item ∷ k.spares;
-        spares_linked = (refl, (free, written slots F was was.item free at_first, chain_set slots F (Some (node was.item free)) free k.spares in_spares k.spares_linked));
+        spares_linked =
+            (refl, (free, written slots F was.item free (within slots F was at_first), spares_set slots F (Some (node was.item free)) free k.spares used in_spares k.spares_linked));
         spares_counted = omega (arith, k.spares_counted);
         spares_owned = (at_same F 0 k.owner F refl, belong_at k.owner 0 F 0 k.spares in_spares k.spares_owned);
         spares_once = (in_spares, k.spares_once);
+        unused = λ i le. get_or-set_other slots F i (Some (node was.item free)) None (λ e. some_none was (sym at_first ∙ ap (λ j. node_at slots j) (sym e) ∙ k.unused i le)) ∙ k.unused i le;
         all = let all = sum_by-set (λ x. x) counts bucket (get_or counts bucket 0 - 1) 0 (omega (arith, same, lt)) in omega (arith, all, k.all, n);
       }
 
@@ -244,24 +317,24 @@ module _ (slots : List (Option Node)) (firsts lasts counts : List ℕ) (free spa
       unfolding kept
       taken is = record {
         taken =
-            lists_are slots firsts lasts counts free spare k same bucket ∙ ap items_of is
+            lists_are slots firsts lasts counts free spare used nodes k same bucket ∙ ap items_of is
             ∙ ap (λ i. i ∷ items_of ls) (sym item_is)
-            ∙ ap (λ xs. was.item ∷ xs) (sym (lists_are S' F' lasts C' F (spare + 1) kept kept_same bucket ∙ ap items_of (at_same bucket ls k.chain bucket refl)));
+            ∙ ap (λ xs. was.item ∷ xs) (sym (lists_are S' F' lasts C' F (spare + 1) used nodes kept kept_same bucket ∙ ap items_of (at_same bucket ls k.chain bucket refl)));
         others = λ x ne.
-            lists_are S' F' lasts C' F (spare + 1) kept kept_same x ∙ ap items_of (at_other bucket ls k.chain x ne)
-            ∙ sym (lists_are slots firsts lasts counts free spare k same x);
+            lists_are S' F' lasts C' F (spare + 1) used nodes kept kept_same x ∙ ap items_of (at_other bucket ls k.chain x ne)
+            ∙ sym (lists_are slots firsts lasts counts free spare used nodes k same x);
       }
 
-    pub popped : get_or counts bucket 0 ≢ 0 → IsLinked S' F' lasts C' F (spare + 1) × IsPopped (lists_from slots firsts counts) bucket was.item (lists_from S' F' C')
+    pub popped : get_or counts bucket 0 ≢ 0 → IsLinked S' F' lasts C' F (spare + 1) used nodes × IsPopped (lists_from slots firsts counts) bucket was.item (lists_from S' F' C')
     popped some = go (k.chain bucket) (k.linked bucket) (k.counted bucket) (k.ended bucket) (k.owned bucket) (k.once bucket) refl
       where
         go : (ls : List Link) → Chain slots F ls → length ls ≡ get_or counts bucket 0 → EndsAt (get_or lasts bucket 0) ls → Belong k.owner (suc bucket) ls → Once ls → k.chain bucket ≡ ls
-            → IsLinked S' F' lasts C' F (spare + 1) × IsPopped (lists_from slots firsts counts) bucket was.item (lists_from S' F' C')
+            → IsLinked S' F' lasts C' F (spare + 1) used nodes × IsPopped (lists_from slots firsts counts) bucket was.item (lists_from S' F' C')
         go [] c n ends own once e = absurd (some (sym n))
         go (l ∷ ls) c n ends own once e = (kept l ls c n ends own once, taken l ls c n ends own once e)
 
   -- the first spare node goes to the end of the list
-  module _ (was : Node) (at_free : node_at slots free ≡ Some was) (item : Item) (long_lasts : length lasts ≡ length firsts) where
+  module _ (item : Item) (long_lasts : length lasts ≡ length firsts) (behind mark : ℕ) (spare_is : IsSpare slots k.chain k.owner free behind (spare - 1) mark nodes) (some : 0 < spare) where
     abbrev new : Link
     new = link free item
 
@@ -274,80 +347,68 @@ module _ (slots : List (Option Node)) (firsts lasts counts : List ℕ) (free spa
     abbrev S₁ : List (Option Node)
     S₁ = write slots free item 0
 
-    module _ (l : Link) (ls : List Link) (c : Chain slots free (l ∷ ls)) (n : length (l ∷ ls) ≡ spare) (own : Belong k.owner 0 (l ∷ ls)) (once : Once (l ∷ ls)) where
-      owner_free : k.owner free ≡ 0
-      owner_free = ap k.owner (sym c.0) ∙ own.0
+    abbrev others : List Link
+    others = spare_is.others
 
-      apart : (x : ℕ) → IsFree free (k.chain x)
-      apart x = free_of k.owner (suc x) free (k.chain x) (k.owned x) (λ e. absurd (omega (arith, e, owner_free)))
+    unused_1 : (i : ℕ) → mark ≤ i → node_at S₁ i ≡ None
+    unused_1 i le = get_or-set_other slots free i (Some (node item 0)) None (λ e. absurd (omega (arith, e, le, spare_is.below))) ∙ spare_is.unused i le
 
-      rest_free : IsFree free ls
-      rest_free = subst (λ p. IsFree p ls) c.0 once.0
+    module _ (T : List (Option Node)) (F₁ : List ℕ) (long : length F₁ ≡ length firsts) (here : Chain T (get_or F₁ bucket 0) (k.chain bucket ++ new ∷ []))
+        (there : (x : ℕ) → x ≢ bucket → Chain T (get_or F₁ x 0) (k.chain x)) (rest : ChainTo T behind others mark) (unused : (i : ℕ) → mark ≤ i → node_at T i ≡ None) where
+      after_push : IsLinked T F₁ L₁ C₁ behind (spare - 1) mark nodes
+      after_push = record {
+        chain = at bucket (k.chain bucket ++ new ∷ []) k.chain;
+        owner = at free (suc bucket) k.owner;
+        linked = everywhere (λ x xs. Chain T (get_or F₁ x 0) xs) bucket (k.chain bucket ++ new ∷ []) k.chain here there;
+        counted = everywhere (λ x xs. length xs ≡ get_or C₁ x 0) bucket (k.chain bucket ++ new ∷ []) k.chain
+            (let now = get_or-set_same counts bucket (get_or counts bucket 0 + 1) 0 (omega (arith, same, lt)) in
+            omega (arith, now, length_push (k.chain bucket) new, k.counted bucket))
+            (λ x ne. k.counted x ∙ sym (get_or-set_other counts bucket x (get_or counts bucket 0 + 1) 0 ne));
+        ended = everywhere (λ x xs. EndsAt (get_or L₁ x 0) xs) bucket (k.chain bucket ++ new ∷ []) k.chain
+            (subst (λ p. EndsAt p (k.chain bucket ++ new ∷ [])) (sym (get_or-set_same lasts bucket free 0 (omega (arith, long_lasts, lt)))) (ends_push (k.chain bucket) new))
+            (λ x ne. subst (λ p. EndsAt p (k.chain x)) (sym (get_or-set_other lasts bucket x free 0 ne)) (k.ended x));
+        owned = everywhere (λ x xs. Belong (at free (suc bucket) k.owner) (suc x) xs) bucket (k.chain bucket ++ new ∷ []) k.chain
+            (belong_push (at free (suc bucket) k.owner) (suc bucket) (k.chain bucket) new
+            (belong_at k.owner (suc bucket) free (suc bucket) (k.chain bucket) (spare_is.apart bucket) (k.owned bucket)) (at_same free (suc bucket) k.owner free refl))
+            (λ x ne. belong_at k.owner (suc x) free (suc bucket) (k.chain x) (spare_is.apart x) (k.owned x));
+        once = everywhere (λ x xs. Once xs) bucket (k.chain bucket ++ new ∷ []) k.chain (once_push (k.chain bucket) new (k.once bucket) (spare_is.apart bucket)) (λ x ne. k.once x);
+        spares = others;
+        spares_linked = rest;
+        spares_counted = spare_is.counted;
+        spares_owned = belong_at k.owner 0 free (suc bucket) others spare_is.besides spare_is.owned;
+        spares_once = spare_is.once;
+        unused = unused;
+        all = let all = sum_by-set (λ x. x) counts bucket (get_or counts bucket 0 + 1) 0 (omega (arith, same, lt)) in omega (arith, all, k.all, some);
+      }
 
-      then_is : was.next ≡ c.1.0
-      then_is = (same_node was (node l.item c.1.0) (sym at_free ∙ c.1.1)).1
+      pushed_same : length F₁ ≡ length C₁
+      pushed_same = long ∙ same ∙ sym (length-set counts bucket (get_or counts bucket 0 + 1))
 
-      module _ (T : List (Option Node)) (F₁ : List ℕ) (long : length F₁ ≡ length firsts) (here : Chain T (get_or F₁ bucket 0) (k.chain bucket ++ new ∷ []))
-          (there : (x : ℕ) → x ≢ bucket → Chain T (get_or F₁ x 0) (k.chain x)) (rest : Chain T c.1.0 ls) where
-        after_push : IsLinked T F₁ L₁ C₁ was.next (spare - 1)
-        after_push = record {
-          chain = at bucket (k.chain bucket ++ new ∷ []) k.chain;
-          owner = at free (suc bucket) k.owner;
-          linked = everywhere (λ x xs. Chain T (get_or F₁ x 0) xs) bucket (k.chain bucket ++ new ∷ []) k.chain here there;
-          counted = everywhere (λ x xs. length xs ≡ get_or C₁ x 0) bucket (k.chain bucket ++ new ∷ []) k.chain
-              (let now = get_or-set_same counts bucket (get_or counts bucket 0 + 1) 0 (omega (arith, same, lt)) in
-              omega (arith, now, length_push (k.chain bucket) new, k.counted bucket))
-              (λ x ne. k.counted x ∙ sym (get_or-set_other counts bucket x (get_or counts bucket 0 + 1) 0 ne));
-          ended = everywhere (λ x xs. EndsAt (get_or L₁ x 0) xs) bucket (k.chain bucket ++ new ∷ []) k.chain
-              (subst (λ p. EndsAt p (k.chain bucket ++ new ∷ [])) (sym (get_or-set_same lasts bucket free 0 (omega (arith, long_lasts, lt)))) (ends_push (k.chain bucket) new))
-              (λ x ne. subst (λ p. EndsAt p (k.chain x)) (sym (get_or-set_other lasts bucket x free 0 ne)) (k.ended x));
-          owned = everywhere (λ x xs. Belong (at free (suc bucket) k.owner) (suc x) xs) bucket (k.chain bucket ++ new ∷ []) k.chain
-              (belong_push (at free (suc bucket) k.owner) (suc bucket) (k.chain bucket) new
-              (belong_at k.owner (suc bucket) free (suc bucket) (k.chain bucket) (apart bucket) (k.owned bucket)) (at_same free (suc bucket) k.owner free refl))
-              (λ x ne. belong_at k.owner (suc x) free (suc bucket) (k.chain x) (apart x) (k.owned x));
-          once = everywhere (λ x xs. Once xs) bucket (k.chain bucket ++ new ∷ []) k.chain (once_push (k.chain bucket) new (k.once bucket) (apart bucket)) (λ x ne. k.once x);
-          spares = ls;
-          spares_linked = subst (λ p. Chain T p ls) (sym then_is) rest;
-          spares_counted = omega (arith, n);
-          spares_owned = belong_at k.owner 0 free (suc bucket) ls rest_free own.1;
-          spares_once = once.1;
-          all = let all = sum_by-set (λ x. x) counts bucket (get_or counts bucket 0 + 1) 0 (omega (arith, same, lt)) in omega (arith, all, k.all, n);
-        }
-
-        pushed_same : length F₁ ≡ length C₁
-        pushed_same = long ∙ same ∙ sym (length-set counts bucket (get_or counts bucket 0 + 1))
-
-        put_last : IsPushed (lists_from slots firsts counts) bucket item (lists_from T F₁ C₁)
-        unfolding after_push
-        put_last = record {
-          added =
-              lists_are T F₁ L₁ C₁ was.next (spare - 1) after_push pushed_same bucket ∙ ap items_of (at_same bucket (k.chain bucket ++ new ∷ []) k.chain bucket refl)
-              ∙ items_push (k.chain bucket) new
-              ∙ ap (λ xs. xs ++ item ∷ []) (sym (lists_are slots firsts lasts counts free spare k same bucket));
-          others = λ x ne.
-              lists_are T F₁ L₁ C₁ was.next (spare - 1) after_push pushed_same x ∙ ap items_of (at_other bucket (k.chain bucket ++ new ∷ []) k.chain x ne)
-              ∙ sym (lists_are slots firsts lasts counts free spare k same x);
-        }
+      put_last : IsPushed (lists_from slots firsts counts) bucket item (lists_from T F₁ C₁)
+      unfolding after_push
+      put_last = record {
+        added =
+            lists_are T F₁ L₁ C₁ behind (spare - 1) mark nodes after_push pushed_same bucket ∙ ap items_of (at_same bucket (k.chain bucket ++ new ∷ []) k.chain bucket refl)
+            ∙ items_push (k.chain bucket) new
+            ∙ ap (λ xs. xs ++ item ∷ []) (sym (lists_are slots firsts lasts counts free spare used nodes k same bucket));
+        others = λ x ne.
+            lists_are T F₁ L₁ C₁ behind (spare - 1) mark nodes after_push pushed_same x ∙ ap items_of (at_other bucket (k.chain bucket ++ new ∷ []) k.chain x ne)
+            ∙ sym (lists_are slots firsts lasts counts free spare used nodes k same x);
+      }
 
     abbrev F₁ : List ℕ
     F₁ = set firsts bucket free
 
     -- into an empty list
-    pub pushed_first : 0 < spare → get_or counts bucket 0 ≡ 0
-        → IsLinked S₁ F₁ L₁ C₁ was.next (spare - 1) × IsPushed (lists_from slots firsts counts) bucket item (lists_from S₁ F₁ C₁)
-    pushed_first some none = go k.spares k.spares_linked k.spares_counted k.spares_owned k.spares_once
-      where
-        go : (ls : List Link) → Chain slots free ls → length ls ≡ spare → Belong k.owner 0 ls → Once ls
-            → IsLinked S₁ F₁ L₁ C₁ was.next (spare - 1) × IsPushed (lists_from slots firsts counts) bucket item (lists_from S₁ F₁ C₁)
-        go [] c n own once = absurd (omega (arith, n, some))
-        go (l ∷ ls) c n own once =
-            let empty : k.chain bucket ≡ [] = nil_from_length (k.chain bucket) (k.counted bucket ∙ none) in
-            let begins : Chain S₁ (get_or F₁ bucket 0) (new ∷ []) = (sym (get_or-set_same firsts bucket free 0 lt), (0, ap (λ p. node_at S₁ p) (get_or-set_same firsts bucket free 0 lt) ∙ written slots free was item 0 at_free, tt)) in
-            let here : Chain S₁ (get_or F₁ bucket 0) (k.chain bucket ++ new ∷ []) = subst (λ xs. Chain S₁ (get_or F₁ bucket 0) (xs ++ new ∷ [])) (sym empty) begins in
-            let there : (x : ℕ) → x ≢ bucket → Chain S₁ (get_or F₁ x 0) (k.chain x) = λ x ne. subst (λ p. Chain S₁ p (k.chain x)) (sym (get_or-set_other firsts bucket x free 0 ne))
-            (chain_set slots free (Some (node item 0)) (get_or firsts x 0) (k.chain x) (apart l ls c n own once x) (k.linked x)) in
-            let rest : Chain S₁ c.1.0 ls = chain_set slots free (Some (node item 0)) c.1.0 ls (rest_free l ls c n own once) c.1.2 in
-            (after_push l ls c n own once S₁ F₁ (length-set firsts bucket free) here there rest, put_last l ls c n own once S₁ F₁ (length-set firsts bucket free) here there rest)
+    pub pushed_first : get_or counts bucket 0 ≡ 0 → IsLinked S₁ F₁ L₁ C₁ behind (spare - 1) mark nodes × IsPushed (lists_from slots firsts counts) bucket item (lists_from S₁ F₁ C₁)
+    pushed_first none =
+        let empty : k.chain bucket ≡ [] = nil_from_length (k.chain bucket) (k.counted bucket ∙ none) in
+        let begins : Chain S₁ (get_or F₁ bucket 0) (new ∷ []) = (sym (get_or-set_same firsts bucket free 0 lt), (0, ap (λ p. node_at S₁ p) (get_or-set_same firsts bucket free 0 lt) ∙ written slots free item 0 spare_is.inside, tt)) in
+        let here : Chain S₁ (get_or F₁ bucket 0) (k.chain bucket ++ new ∷ []) = subst (λ xs. Chain S₁ (get_or F₁ bucket 0) (xs ++ new ∷ [])) (sym empty) begins in
+        let there : (x : ℕ) → x ≢ bucket → Chain S₁ (get_or F₁ x 0) (k.chain x) = λ x ne. subst (λ p. Chain S₁ p (k.chain x)) (sym (get_or-set_other firsts bucket x free 0 ne))
+        (chain_set slots free (Some (node item 0)) (get_or firsts x 0) (k.chain x) (spare_is.apart x) (k.linked x)) in
+        let rest : ChainTo S₁ behind others mark = spares_set slots free (Some (node item 0)) behind others mark spare_is.besides spare_is.linked in
+        (after_push S₁ F₁ (length-set firsts bucket free) here there rest unused_1, put_last S₁ F₁ (length-set firsts bucket free) here there rest unused_1)
 
     abbrev E : ℕ
     E = get_or lasts bucket 0
@@ -357,35 +418,36 @@ module _ (slots : List (Option Node)) (firsts lasts counts : List ℕ) (free spa
       abbrev S₂ : List (Option Node)
       S₂ = set S₁ E (Some (node w.item free))
 
-      pub pushed_behind : 0 < spare → get_or counts bucket 0 ≢ 0
-          → IsLinked S₂ firsts L₁ C₁ was.next (spare - 1) × IsPushed (lists_from slots firsts counts) bucket item (lists_from S₂ firsts C₁)
-      pushed_behind some more = go k.spares k.spares_linked k.spares_counted k.spares_owned k.spares_once (k.chain bucket) refl (k.ended bucket) (k.owned bucket)
+      unused_2 : (i : ℕ) → mark ≤ i → node_at S₂ i ≡ None
+      unused_2 i le =
+          get_or-set_other S₁ E i (Some (node w.item free)) None (λ e. some_none w (sym at_end ∙ ap (λ j. node_at S₁ j) (sym e) ∙ unused_1 i le)) ∙ unused_1 i le
+
+      pub pushed_behind : get_or counts bucket 0 ≢ 0 → IsLinked S₂ firsts L₁ C₁ behind (spare - 1) mark nodes × IsPushed (lists_from slots firsts counts) bucket item (lists_from S₂ firsts C₁)
+      pushed_behind more = go (k.chain bucket) refl (k.ended bucket) (k.owned bucket)
         where
-          go : (ls : List Link) → Chain slots free ls → length ls ≡ spare → Belong k.owner 0 ls → Once ls
-              → (ms : List Link) → k.chain bucket ≡ ms → EndsAt E ms → Belong k.owner (suc bucket) ms
-              → IsLinked S₂ firsts L₁ C₁ was.next (spare - 1) × IsPushed (lists_from slots firsts counts) bucket item (lists_from S₂ firsts C₁)
-          go [] c n own once ms is ends belongs = absurd (omega (arith, n, some))
-          go (l ∷ ls) c n own once [] is ends belongs = absurd (more (sym (k.counted bucket) ∙ ap length is))
-          go (l ∷ ls) c n own once (m ∷ ms) is ends belongs =
+          go : (ms : List Link) → k.chain bucket ≡ ms → EndsAt E ms → Belong k.owner (suc bucket) ms
+              → IsLinked S₂ firsts L₁ C₁ behind (spare - 1) mark nodes × IsPushed (lists_from slots firsts counts) bucket item (lists_from S₂ firsts C₁)
+          go [] is ends belongs = absurd (more (sym (k.counted bucket) ∙ ap length is))
+          go (m ∷ ms) is ends belongs =
               let owner_end : k.owner E ≡ suc bucket = ends_owned k.owner (suc bucket) E m ms ends belongs in
               let value : Option Node = Some (node item 0) in
               let then : Option Node = Some (node w.item free) in
               let before : Chain S₁ (get_or firsts bucket 0) (m ∷ ms) = subst (λ xs. Chain S₁ (get_or firsts bucket 0) xs) is
-              (chain_set slots free value (get_or firsts bucket 0) (k.chain bucket) (apart l ls c n own once bucket) (k.linked bucket)) in
+              (chain_set slots free value (get_or firsts bucket 0) (k.chain bucket) (spare_is.apart bucket) (k.linked bucket)) in
               let here : Chain S₂ (get_or firsts bucket 0) (k.chain bucket ++ new ∷ []) = subst (λ xs. Chain S₂ (get_or firsts bucket 0) (xs ++ new ∷ [])) (sym is)
               (chain_push S₁ (get_or firsts bucket 0) E free item 0 w m ms before (subst Once is (k.once bucket)) ends
-              (subst (IsFree free) is (apart l ls c n own once bucket)) (written slots free was item 0 at_free) at_end) in
+              (subst (IsFree free) is (spare_is.apart bucket)) (written slots free item 0 spare_is.inside) at_end) in
               let there : (x : ℕ) → x ≢ bucket → Chain S₂ (get_or firsts x 0) (k.chain x) = λ x ne.
               chain_set S₁ E then (get_or firsts x 0) (k.chain x) (free_of k.owner (suc x) E (k.chain x) (k.owned x) (λ e. ne (omega (arith, e, owner_end))))
-              (chain_set slots free value (get_or firsts x 0) (k.chain x) (apart l ls c n own once x) (k.linked x)) in
-              let rest : Chain S₂ c.1.0 ls = chain_set S₁ E then c.1.0 ls (free_of k.owner 0 E ls own.1 (λ e. absurd (omega (arith, e, owner_end))))
-              (chain_set slots free value c.1.0 ls (rest_free l ls c n own once) c.1.2) in
-              (after_push l ls c n own once S₂ firsts refl here there rest, put_last l ls c n own once S₂ firsts refl here there rest)
+              (chain_set slots free value (get_or firsts x 0) (k.chain x) (spare_is.apart x) (k.linked x)) in
+              let rest : ChainTo S₂ behind others mark = spares_set S₁ E then behind others mark (free_of k.owner 0 E others spare_is.owned (λ e. absurd (omega (arith, e, owner_end))))
+              (spares_set slots free value behind others mark spare_is.besides spare_is.linked) in
+              (after_push S₂ firsts refl here there rest unused_2, put_last S₂ firsts refl here there rest unused_2)
 
--- a place keeps being filled where a node is put into a filled place
-pub filled_set : (slots : List (Option Node)) (q : ℕ) (n : Node) (p : ℕ) → IsFilled slots q → IsFilled slots p → IsFilled (set slots q (Some n)) p
-filled_set slots q n p at_q at_p = elim (cases_eq p q) [
-  | inl e ↦ (n, ap (λ k. node_at (set slots q (Some n)) k) e ∙ get_or-set_same slots q (Some n) None (within slots q at_q.0 at_q.1))
+-- a place keeps being filled where a node is put into a place
+pub filled_set : (slots : List (Option Node)) (q : ℕ) (n : Node) (p : ℕ) → q < length slots → IsFilled slots p → IsFilled (set slots q (Some n)) p
+filled_set slots q n p lt at_p = elim (cases_eq p q) [
+  | inl e ↦ (n, ap (λ k. node_at (set slots q (Some n)) k) e ∙ get_or-set_same slots q (Some n) None lt)
   | inr ne ↦ (at_p.0, get_or-set_other slots q p (Some n) None ne ∙ at_p.1)
 ]
 
@@ -393,54 +455,23 @@ no_items : (ls : List Link) → items_of ls ≡ [] → length ls ≡ 0
 no_items [] e = refl
 no_items (l ∷ ls) e = cc
 
-module _ (slots : List (Option Node)) (firsts lasts counts : List ℕ) (free spare : ℕ) (k : IsLinked slots firsts lasts counts free spare) (same : length firsts ≡ length counts) where
+module _ (slots : List (Option Node)) (firsts lasts counts : List ℕ) (free spare used nodes : ℕ) (k : IsLinked slots firsts lasts counts free spare used nodes) (same : length firsts ≡ length counts) where
   pub empty_at : (bucket : ℕ) → get_or counts bucket 0 ≡ 0 → list_at (lists_from slots firsts counts) bucket ≡ []
   empty_at bucket none =
-      lists_are slots firsts lasts counts free spare k same bucket ∙ ap items_of (nil_from_length (k.chain bucket) (k.counted bucket ∙ none))
+      lists_are slots firsts lasts counts free spare used nodes k same bucket ∙ ap items_of (nil_from_length (k.chain bucket) (k.counted bucket ∙ none))
 
   pub some_at : (bucket : ℕ) → get_or counts bucket 0 ≢ 0 → list_at (lists_from slots firsts counts) bucket ≢ []
   some_at bucket some e =
-      some (sym (k.counted bucket) ∙ no_items (k.chain bucket) (sym (lists_are slots firsts lasts counts free spare k same bucket) ∙ e))
-
--- so many nodes from the place on, one behind the other
-pub row : Item → ℕ → ℕ → List Link
-row item p zero = []
-row item p (suc n) = link p item ∷ row item (p + 1) n
-
-row_free : (item : Item) (q p n : ℕ) → q < p → IsFree q (row item p n)
-unfolding row
-row_free item q p zero lt = tt
-row_free item q p (suc n) lt = ((λ e. absurd (omega (arith, e, lt))), row_free item q (p + 1) n (omega (arith, lt)))
-
-row_once : (item : Item) (p n : ℕ) → Once (row item p n)
-unfolding row
-row_once item p zero = tt
-row_once item p (suc n) = (row_free item p (p + 1) n (omega arith), row_once item (p + 1) n)
-
-row_length : (item : Item) (p n : ℕ) → length (row item p n) ≡ n
-unfolding row
-row_length item p zero = refl
-row_length item p (suc n) = omega (arith, row_length item (p + 1) n)
-
-row_owned : (item : Item) (p n : ℕ) → Belong (λ q. 0) 0 (row item p n)
-unfolding row
-row_owned item p zero = tt
-row_owned item p (suc n) = (refl, row_owned item (p + 1) n)
-
-row_linked : (slots : List (Option Node)) (item : Item) (p n : ℕ) → ((i : ℕ) → i < p + n → node_at slots i ≡ Some (node item (i + 1))) → Chain slots p (row item p n)
-unfolding row
-row_linked slots item p zero at_all = tt
-row_linked slots item p (suc n) at_all = (refl, (p + 1, at_all p (omega arith), row_linked slots item (p + 1) n (λ i lt. at_all i (omega (arith, lt)))))
+      some (sym (k.counted bucket) ∙ no_items (k.chain bucket) (sym (lists_are slots firsts lasts counts free spare used nodes k same bucket) ∙ e))
 
 pub none_at : (bucket n : ℕ) → get_or {A = ℕ} (replicate n 0) bucket 0 ≡ 0
 none_at bucket zero = refl
 none_at zero (suc n) = refl
 none_at (suc bucket) (suc n) = none_at bucket n
 
--- all nodes are spare
-pub all_spare : (slots : List (Option Node)) (item : Item) (n : ℕ) → n ≤ 200001 → ((i : ℕ) → i < n → node_at slots i ≡ Some (node item (i + 1)))
-    → IsLinked slots (replicate 48 0) (replicate 48 0) (replicate 48 0) 0 n
-all_spare slots item n few at_all = record {
+-- no node is used
+pub all_spare : (slots : List (Option Node)) (n : ℕ) → ((i : ℕ) → node_at slots i ≡ None) → IsLinked slots (replicate 48 0) (replicate 48 0) (replicate 48 0) 0 n 0 n
+all_spare slots n unused = record {
   chain = λ bucket. [];
   owner = λ q. 0;
   linked = λ bucket. tt;
@@ -448,12 +479,13 @@ all_spare slots item n few at_all = record {
   ended = λ bucket. tt;
   owned = λ bucket. tt;
   once = λ bucket. tt;
-  spares = row item 0 n;
-  spares_linked = row_linked slots item 0 n (λ i lt. at_all i (omega (arith, lt)));
-  spares_counted = row_length item 0 n;
-  spares_owned = row_owned item 0 n;
-  spares_once = row_once item 0 n;
-  all = omega (arith, few);
+  spares = [];
+  spares_linked = refl;
+  spares_counted = omega arith;
+  spares_owned = tt;
+  spares_once = tt;
+  unused = λ i le. unused i;
+  all = omega arith;
 }
 
 pub lists_long : (slots : List (Option Node)) (firsts counts : List ℕ) → length firsts ≡ length counts → length (lists_from slots firsts counts) ≡ length counts

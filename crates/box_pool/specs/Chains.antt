@@ -21,6 +21,17 @@ Chain slots place [] = Unit {0}
 Chain slots place (l ∷ ls) = (l.place ≡ place)
     × ((next : ℕ) × (node_at slots place ≡ Some (node l.item next)) × Chain slots next ls)
 
+-- the same, and the last node is linked to the end
+abbrev pub ChainTo : List (Option Node) → ℕ → List Link → ℕ → Type 0
+ChainTo slots place [] end = place ≡ end
+ChainTo slots place (l ∷ ls) end = (l.place ≡ place)
+    × ((next : ℕ) × (node_at slots place ≡ Some (node l.item next)) × ChainTo slots next ls end)
+
+-- the place of the spare node behind a spare one: behind an unused node stands the next one
+abbrev pub spare_behind : Option Node → ℕ → ℕ
+spare_behind None place = place + 1
+spare_behind (Some n) place = n.next
+
 -- the place is that of no link
 abbrev pub IsFree : ℕ → List Link → Type 0
 IsFree place [] = Unit {0}
@@ -63,10 +74,11 @@ lists_from slots (first ∷ firsts) [] = []
 lists_from slots (first ∷ firsts) (count ∷ counts) =
     items_from slots count first ∷ lists_from slots firsts counts
 
--- The nodes are linked into lists, and the others into the list of spare nodes. That no node is in
--- two lists is said by its one owner: 0 where it is spare, else the number of its list plus one.
+-- The nodes are linked into lists, and those that were given back into one of spare nodes. It leads
+-- to the node `used`, and from there on all are spare and hold nothing. That no node is in two
+-- lists is said by its one owner: 0 where it is spare, else the number of its list plus one.
 pub record IsLinked (slots : List (Option Node)) (firsts lasts counts : List ℕ)
-    (free spare : ℕ) : Type 0 where
+    (free spare used nodes : ℕ) : Type 0 where
   pub chain : ℕ → List Link
   pub owner : ℕ → ℕ
   pub linked : (bucket : ℕ) → Chain slots (get_or firsts bucket 0) (chain bucket)
@@ -75,8 +87,9 @@ pub record IsLinked (slots : List (Option Node)) (firsts lasts counts : List ℕ
   pub owned : (bucket : ℕ) → Belong owner (suc bucket) (chain bucket)
   pub once : (bucket : ℕ) → Once (chain bucket)
   pub spares : List Link
-  pub spares_linked : Chain slots free spares
-  pub spares_counted : length spares ≡ spare
+  pub spares_linked : ChainTo slots free spares used
+  pub spares_counted : length spares + nodes ≡ spare + used
   pub spares_owned : Belong owner 0 spares
   pub spares_once : Once spares
-  pub all : sum counts + spare ≤ 200001
+  pub unused : (place : ℕ) → used ≤ place → node_at slots place ≡ None
+  pub all : sum counts + spare ≡ nodes

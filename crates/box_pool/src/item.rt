@@ -1,26 +1,12 @@
 //! A box that waits, and the node that holds it.
 
-use sat_model::{Box3, Pos};
+use sat_model::Box3;
 
 /// A box that was opened and not taken up yet, with its number in the log.
 #[derive(Clone, Copy, Debug, PartialEq, Eq)]
 pub struct Item {
     pub id: u32,
     pub part: Box3,
-}
-
-impl Item {
-    /// What a spare node holds: the box of the origin alone.
-    pub(crate) fn blank() -> Item {
-        let origin = Pos { x: 0, y: 0, z: 0 };
-        Item {
-            id: 0,
-            part: Box3 {
-                lo: origin,
-                hi: origin,
-            },
-        }
-    }
 }
 
 /// An item, and the place in the block of the node behind it in its queue. The last node of a queue

@@ -8,7 +8,7 @@ ghost use Rattle.box_pool.specs.Hulls.{IsHullOf, IsHullOfAll};
 use crate::block::{Base, Cells, Deed, allocate, deallocate};
 use crate::hulls::around;
 use crate::item::{Item, Node};
-use crate::links::{relink, replace};
+use crate::links::{fill, relink};
 use crate::mask::without;
 use sat_model::{Box3, NoMemory};
 use std::alloc::Global;
@@ -30,6 +30,8 @@ pub struct Pool {
     nodes: u32,
     spare: u32,
     free: u32,
+    // No node from this one on was written yet.
+    used: u32,
     mask: u64,
     firsts: [u32; QUEUES],
     lasts: [u32; QUEUES],
@@ -51,12 +53,13 @@ impl Model for Pool {
     } };
 
     ghost invariant = { λ p. IsBlock p.base p.cells p.deed p.alloc p.nodes
-        × IsLinked p.cells.slots p.firsts p.lasts p.counts p.free p.spare
+        × IsLinked p.cells.slots p.firsts p.lasts p.counts p.free p.spare p.used p.nodes
         × (p.mask ≡ mask_of p.counts) × ((length p.firsts ≡ 48) × (length p.counts ≡ 48)) };
 }
 
 impl Pool {
-    /// A pool without items, with room for so many. All its memory is taken here.
+    /// A pool without items, with room for so many. All its memory is taken here, and none of it is
+    /// written: a node is when an item first comes into it.
     pub fn with_nodes(alloc: Global, n: u32) -> Result<Pool, NoMemory>
         requires some { 1 ≤ n }
         requires few { n ≤ MAX_NODES }
@@ -66,12 +69,7 @@ impl Pool {
         if !may_hold::<Node>(n as usize) {
             return Err(NoMemory);
         }
-        let (base, mut cells, deed) = allocate::<Node, Global>(&alloc, n as usize)?;
-        let item = Item::blank();
-        for place in 0..n {
-            let next = place + 1;
-            cells.write(base, place as usize, Node { item, next });
-        }
+        let (base, cells, deed) = allocate::<Node, Global>(&alloc, n as usize)?;
         Ok(Pool {
             base,
             cells,
@@ -80,6 +78,7 @@ impl Pool {
             nodes: n,
             spare: n,
             free: 0,
+            used: 0,
             mask: 0,
             firsts: [0; QUEUES],
             lasts: [0; QUEUES],
@@ -96,8 +95,8 @@ impl Pool {
     {
         let queue = bucket as usize;
         let place = self.free;
-        let was = replace(&mut self.cells, self.base, place, Node { item, next: 0 });
-        self.free = was.next;
+        self.free = fill(&mut self.cells, self.base, place, self.used, item);
+        self.used = self.used.max(place + 1);
         self.spare -= 1;
         let count = self.counts[queue];
         let last = self.lasts[queue];
@@ -196,6 +195,7 @@ impl Drop for Pool {
             nodes,
             spare: _,
             free: _,
+            used: _,
             mask: _,
             firsts: _,
             lasts: _,

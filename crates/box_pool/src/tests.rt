@@ -41,6 +41,10 @@ fn two_nodes(rt: HostRuntime) -> Result<(), NoMemory> {
     let calls = [
         Call::Greatest(None),
         Call::Hull(None),
+        // The first node is given back, and used again before the second one is.
+        Call::Push(0, B),
+        Call::Pop(0, Some(B)),
+        Call::Spare(2),
         Call::Push(5, A),
         Call::Push(9, B),
         Call::Spare(0),
@@ -80,25 +84,44 @@ fn two_nodes(rt: HostRuntime) -> Result<(), NoMemory> {
     Ok(())
 }
 
+/// The fields of the process's pages: all that it has, and those that it wrote or read.
+const ALL: usize = 0;
+
+const RESIDENT: usize = 1;
+
 /// How many pages of memory the process has.
-fn pages(rt: HostRuntime) -> Option<u64> {
+fn pages(rt: HostRuntime, field: usize) -> Option<u64> {
     let text = fs::read_to_string(&rt, "/proc/self/statm").ok()?;
-    text.split(' ').nth(1)?.parse::<u64>().ok()
+    text.split(' ').nth(field)?.parse::<u64>().ok()
 }
 
 /// A block that stayed would be 3,000 pages and more.
 #[test]
 fn the_block_is_given_back(rt: HostRuntime) -> Result<(), NoMemory> {
     let _first = Pool::with_nodes(rt.alloc(), MAX_NODES)?;
-    let before = pages(rt);
+    let before = pages(rt, ALL);
     for _ in 0..20 {
         let mut pool = Pool::with_nodes(rt.alloc(), MAX_NODES)?;
         pool.push(37, A);
     }
-    let after = pages(rt);
+    let after = pages(rt, ALL);
     assert!(rt; before.is_some() && after.is_some());
     if let (Some(before), Some(after)) = (before, after) {
         assert!(rt; after.saturating_sub(before) < 10_000, "{before} {after}");
+    }
+    Ok(())
+}
+
+/// The nodes of a pool, all written, would be 3,000 pages and more.
+#[test]
+fn unused_nodes_stay_unwritten(rt: HostRuntime) -> Result<(), NoMemory> {
+    let before = pages(rt, RESIDENT);
+    let mut pool = Pool::with_nodes(rt.alloc(), MAX_NODES)?;
+    pool.push(37, A);
+    let after = pages(rt, RESIDENT);
+    assert!(rt; before.is_some() && after.is_some());
+    if let (Some(before), Some(after)) = (before, after) {
+        assert!(rt; after.saturating_sub(before) < 500, "{before} {after}");
     }
     Ok(())
 }

@@ -12,7 +12,7 @@ pub returns-then-self-eq0-clause-greatest : goal.returns-then-self-eq0-clause-gr
 returns-then-self-eq0-clause-greatest c = λ bucket.
     let p = c.self.inside in let k = c.self.invariant in
     ap (λ v. list_at v.lists bucket) (sym c.self.view_is)
-    ∙ empty_at p.cells.slots p.firsts p.lasts p.counts p.free p.spare k.1 (k.3.0 ∙ sym k.3.1) bucket
+    ∙ empty_at p.cells.slots p.firsts p.lasts p.counts p.free p.spare p.used p.nodes k.1 (k.3.0 ∙ sym k.3.1) bucket
     (mask_zero p.counts bucket (sym k.2 ∙ c.if-self-eq0.true))
 
 pub returns-clause-greatest : goal.returns-clause-greatest
@@ -21,8 +21,8 @@ returns-clause-greatest c =
     let top = mask_top p.counts j (omega (arith, k.2, c.ilog2.ensures.power_le)) (omega (arith, k.2, c.ilog2.ensures.next_power_gt, pow-succ' 2 j)) in
     let lists : lists_from p.cells.slots p.firsts p.counts ≡ c.args.self.now.lists = ap (λ v. v.lists) c.self.view_is in
     let found : IsGreatest (lists_from p.cells.slots p.firsts p.counts) j = record {
-      filled = some_at p.cells.slots p.firsts p.lasts p.counts p.free p.spare k.1 even j top.0;
-      none_greater = λ greater lt. empty_at p.cells.slots p.firsts p.lasts p.counts p.free p.spare k.1 even greater (top.1 greater lt);
+      filled = some_at p.cells.slots p.firsts p.lasts p.counts p.free p.spare p.used p.nodes k.1 even j top.0;
+      none_greater = λ greater lt. empty_at p.cells.slots p.firsts p.lasts p.counts p.free p.spare p.used p.nodes k.1 even greater (top.1 greater lt);
     } in
     rw (← lists) found
 

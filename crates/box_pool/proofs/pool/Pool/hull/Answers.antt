@@ -11,7 +11,7 @@ pub returns-then-self-eq0 : goal.returns-then-self-eq0
 returns-then-self-eq0 c = λ bucket.
     let p = c.self.inside in let k = c.self.invariant in
     ap (λ v. list_at v.lists bucket) (sym c.self.view_is)
-    ∙ empty_at p.cells.slots p.firsts p.lasts p.counts p.free p.spare k.1 (k.3.0 ∙ sym k.3.1) bucket
+    ∙ empty_at p.cells.slots p.firsts p.lasts p.counts p.free p.spare p.used p.nodes k.1 (k.3.0 ∙ sym k.3.1) bucket
     (mask_zero p.counts bucket (sym k.2 ∙ c.if-self-eq0.true))
 
 pub loop-bucket-init : goal.loop-bucket-init

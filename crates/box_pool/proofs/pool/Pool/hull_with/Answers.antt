@@ -8,7 +8,7 @@ pub loop-init : goal.loop-init
 loop-init c =
     let p = c.self.inside in let k = c.self.invariant in let bucket = c.args.bucket in
     begins p.cells.slots (get_or p.firsts bucket 0) (get_or p.counts bucket 0) (list_at c.args.self.now.lists bucket) c.args.known (k.1.chain bucket) (k.1.linked bucket) (k.1.counted bucket)
-    (sym (lists_are p.cells.slots p.firsts p.lasts p.counts p.free p.spare k.1 (k.3.0 ∙ sym k.3.1) bucket) ∙ ap (λ v. list_at v.lists bucket) c.self.view_is)
+    (sym (lists_are p.cells.slots p.firsts p.lasts p.counts p.free p.spare p.used p.nodes k.1 (k.3.0 ∙ sym k.3.1) bucket) ∙ ap (λ v. list_at v.lists bucket) c.self.view_is)
 
 pub get-node-requires : goal.get-node-requires
 get-node-requires c =
