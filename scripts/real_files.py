@@ -25,7 +25,7 @@ import made_files
 
 TOP = Path(__file__).resolve().parent.parent
 EXAMPLES = TOP / "examples"
-# The files of a receiver with settings of 40 splits, and their log.
+# The files of a receiver with settings of 12 splits, and their log.
 DATA = TOP / "crates/gpscover/data"
 SOLVED = (DATA / "receiver.log").read_bytes()
 PAVED = (EXAMPLES / "recorded-epoch.log").read_bytes()
@@ -192,12 +192,26 @@ class RealFiles(unittest.TestCase):
 
     # ---- 0 and 1
 
+    def test_an_eccentric_orbit_is_used_up_to_its_bound(self):
+        observed = DAY["day.obs"].partition(b"> ")[0]
+        self.write("one.obs", observed + b"> 2024 01 07 00 00  0.0700000  0  2\nG01  20985472.060\nG02\n")
+        self.write("day.toml", DAY["day.toml"])
+        header = DAY["day.nav"].partition(b"G01")[0]
+        zero, head = b" 0.000000000000D+00", b"gpscover 1\nrules 1 4096 1000000\nfew 1 1388620800070000000000 "
+        for eccentricity, usable in ((b"0.000000000000D+00", 1), (b"1.000000000000D-01", 1), (b"2.100000000000D-01", 0)):
+            record = (RECORD % 1).replace(zero + zero + zero + b" 5.2", zero + b" " + eccentricity + zero + b" 5.2")
+            self.write("one.nav", header + record)
+            skipped = b"" if usable else b"skip G01 6 8\n"
+            said = b"epoch 1 gps 1388620800.070000000000 few %d\n" % usable
+            self.expect(["solve", "one.obs", "one.nav", "day.toml", "one.log"], 0, said)
+            self.assertEqual(self.read("one.log"), head + b"%d\n" % usable + skipped + b"skip G02 1\n")
+
     def test_solve_writes_the_log_and_the_report(self):
         ran = self.run_words("solve", *FILES, "new.log")
         self.assertEqual((ran.returncode, ran.stderr), (0, b""))
         self.assertEqual(self.read("new.log"), SOLVED)
         kinds = (b"epoch", b"out", b"in", b"edge")
-        self.assertEqual(closings(ran.stdout)(*kinds), closings(SOLVED)(*kinds))
+        self.assertEqual(closings(ran.stdout)(*kinds), closings(SOLVED)(*kinds, b"cut"))
         self.assertEqual(closings(ran.stdout)(b"total"), closings(SOLVED)(b"done"))
 
     def test_pave_writes_the_log_and_the_report(self):
