@@ -508,9 +508,10 @@ def checked_rules(files):
     """61 and 62 by `check`, whose rules are those of the settings: the settings are changed with them."""
     side = files.number(files.root, 4) - files.number(files.root, 1)
     splits = [at for at, line in enumerate(files.lines, 1) if line.startswith("split ")]
+    less = files.number(2, 2) - 1  # than the first epoch has
     for key, value, place, rule, answer in (
         ("width", side // 1000, 3, side, f"no 61 BadSplit line {splits[0]}"),
-        ("bisections", 39, 2, 39, f"no 62 OverBudget line {splits[39]}"),
+        ("bisections", less, 2, less, f"no 62 OverBudget line {splits[less]}"),
         ("bisections", 0, 2, 0, f"no 62 OverBudget line {splits[0]}"),
     ):
         settings = re.sub(rf"(?m)^{key} = .*$", f"{key} = {value}", files.settings)

@@ -36,8 +36,8 @@ def verdict_cases(folder):
     page = (TOP / "docs/LOG.md").read_text()
     worked = re.search(r"```\n(gpscover 1\nrules [0-9].*?)```", page, re.DOTALL).group(1)
     return (
-        ((*FILES, LOG), (0, "yes 128\n")),
-        ((LOG,), (0, "yes 128\n")),
+        ((*FILES, LOG), (0, "yes 48\n")),
+        ((LOG,), (0, "yes 48\n")),
         ((TOP / "examples/recorded-epoch.log",), (0, "yes 12\n")),
         ((TOP / "examples/one-edge-box.log",), (0, "yes 1\n")),
         ((written(folder, "worked.log", worked),), (0, "yes 2\n")),
@@ -59,7 +59,7 @@ def selection_cases(folder):
         ((*middle, "--from", "2"), (1, f"no 51 EpochDiffers line {behind}\n")),
         ((*middle, "--to", "3"), (1, "no 51 EpochDiffers line 3\n")),
         ((*middle, "--from", "3", "--to", "3"), (1, "no 51 EpochDiffers line 3\n")),
-        ((*FILES, LOG, "--from", "1", "--to", "200000"), (0, "yes 128\n")),
+        ((*FILES, LOG, "--from", "1", "--to", "200000"), (0, "yes 48\n")),
         ((*none, "--from", "3", "--to", "2"), (0, "yes 0\n")),
         ((*none, "--from", "5"), (0, "yes 0\n")),
         ((*none, "--from", "4"), (1, "no 51 EpochDiffers line 3\n")),
