@@ -11,6 +11,8 @@ mod meet;
 #[cfg(test)]
 mod pavings;
 #[cfg(test)]
+mod pool;
+#[cfg(test)]
 mod report;
 #[cfg(test)]
 mod rows;

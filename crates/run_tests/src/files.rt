@@ -92,7 +92,8 @@ ionosphere = [0, 20000]
 troposphere = [2000, 25000]
 ";
 
-const LOG: &str = "gpscover 1\nrules 1 4096 1000000\nfew 1 1388620800070000000000 1\nskip G02 1\n";
+pub const LOG: &str =
+    "gpscover 1\nrules 1 4096 1000000\nfew 1 1388620800070000000000 1\nskip G02 1\n";
 
 // A run over a shelf with the files `a.obs`, `a.nav`, `a.toml` and `a.log`.
 #[derive(Clone, Copy)]

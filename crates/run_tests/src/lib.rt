@@ -7,6 +7,8 @@ mod commands;
 #[cfg(test)]
 mod epochs;
 #[cfg(test)]
+mod faults;
+#[cfg(test)]
 mod files;
 #[cfg(test)]
 mod made;
