@@ -27,13 +27,11 @@ from pathlib import Path
 from bounds import ionosphere_mapping, troposphere_mapping
 from coverlog import UM_PER_M, epochs
 from largest_sizes import FILES, Folder, Sizes, kept_boxes, navigation_parts, observation_parts, settings_with
+from orbits import EPOCH, LIGHT, Record, turned
 from wgs84 import elevation
 
-LIGHT, LENGTH_L1 = 299792458.0, 299792458.0 / 1575.42e6
-# IS-GPS-200, tables 20-IV and 20.3.3.3.3.1: of the earth's mass and turn, and of a clock on an ellipse.
-MASS, TURN, RELATIVITY = 3.986005e14, 7.2921151467e-5, -4.442807633e-10
-WEEK, MAX_AGE = 604800, 7200
-EPOCH = datetime.datetime(1980, 1, 6)
+LENGTH_L1 = LIGHT / 1575.42e6
+MAX_AGE = 7200
 # The place of the example's receiver by another program, in m.
 PLACE = (-3869310.32, 3436566.11, 3717366.55)
 MASK, MOST = math.radians(5), 12
@@ -47,59 +45,14 @@ BOUNDS = {
 }
 
 
-def number(text):
-    """A number of a navigation file."""
-    return float(text.replace("D", "E")) if text.strip() else 0.0
-
-
-class Record:
-    """A broadcast ephemeris in m, s and rad. Its times are seconds of GPS time."""
-
-    def __init__(self, text):
-        first, *rest = text.splitlines()
-        date = datetime.datetime(*map(int, first[4:23].split()))
-        self.satellite, self.toc = first[:3], int((date - EPOCH).total_seconds())
-        self.clock = [number(first[at : at + 19]) for at in (23, 42, 61)]
-        lines = [[number(line[at : at + 19]) for at in (4, 23, 42, 61)] for line in rest]
-        (_, crs, motion, self.mean), (cuc, self.ratio, cus, self.root), (toe, cic, node, cis) = lines[:3]
-        (self.tilt, crc, self.perigee, node_rate), (self.tilt_rate, *_), (_, health, self.delay, _) = lines[3:6]
-        # The amounts that go with the sine and the cosine of twice the angle from the node.
-        self.waves = (cus, cuc), (crs, crc), (cis, cic)
-        self.axis, self.healthy = self.root**2, health == 0
-        self.motion = math.sqrt(MASS / self.axis**3) + motion
-        self.node, self.node_rate = node - TURN * toe, node_rate - TURN
-        # The week of the time of ephemeris is the one that is nearest to that of the clock.
-        self.toe = self.toc + (toe - self.toc + WEEK / 2) % WEEK - WEEK / 2
-
-    def at(self, time):
-        """The place in the frame that turns with the earth, and how far the clock is ahead."""
-        since = time - self.toe
-        mean = self.mean + self.motion * since
-        anomaly = mean
-        for _ in range(8):
-            anomaly = mean + self.ratio * math.sin(anomaly)
-        sine, cosine = math.sin(anomaly), math.cos(anomaly)
-        angle = math.atan2(math.sqrt(1 - self.ratio**2) * sine, cosine - self.ratio) + self.perigee
-        waves = math.sin(2 * angle), math.cos(2 * angle)
-        along, outward, tilted = (a * waves[0] + b * waves[1] for a, b in self.waves)
-        angle, radius = angle + along, self.axis * (1 - self.ratio * cosine) + outward
-        tilt, node = self.tilt + tilted + self.tilt_rate * since, self.node + self.node_rate * since
-        x, y = radius * math.cos(angle), radius * math.sin(angle)
-        flat, z = y * math.cos(tilt), y * math.sin(tilt)
-        place = (x * math.cos(node) - flat * math.sin(node), x * math.sin(node) + flat * math.cos(node), z)
-        since = time - self.toc
-        drift = self.clock[0] + (self.clock[1] + self.clock[2] * since) * since
-        return place, drift + RELATIVITY * self.ratio * self.root * sine - self.delay
-
-    def signal(self, time):
-        """Whence the signal comes that arrives at a time, in the frame of the arrival, and its pseudorange in vacuo."""
-        flight = 0.075
-        for _ in range(3):
-            (x, y, z), clock = self.at(time - flight)
-            sine, cosine = math.sin(TURN * flight), math.cos(TURN * flight)
-            place = (x * cosine + y * sine, y * cosine - x * sine, z)
-            flight = math.dist(place, PLACE) / LIGHT
-        return place, LIGHT * (flight - clock)
+def signal(record, time):
+    """Whence the signal comes that arrives at a time, in the frame of the arrival, and its pseudorange in vacuo."""
+    flight = 0.075
+    for _ in range(3):
+        sent, clock = record.at(time - flight)
+        place = turned(sent, flight)
+        flight = math.dist(place, PLACE) / LIGHT
+    return place, LIGHT * (flight - clock)
 
 
 class Sky:
@@ -121,7 +74,7 @@ class Sky:
         seen = []
         for satellite in self.records:
             if record := self.record(satellite, time):
-                angle = elevation(PLACE, record.signal(time)[0])
+                angle = elevation(PLACE, signal(record, time)[0])
                 if angle > MASK:
                     air = TROPOSPHERE * troposphere_mapping(angle) + IONOSPHERE * ionosphere_mapping(angle, SHELL_KM)
                     seen.append((angle, satellite, air))
@@ -137,7 +90,7 @@ def epoch_texts(sky, count):
         lines = []
         for satellite, air in sight:
             if record := sky.record(satellite, time):
-                code = record.signal(time)[1] + air + draw.uniform(-NOISE, NOISE)
+                code = signal(record, time)[1] + air + draw.uniform(-NOISE, NOISE)
                 lines.append(f"{satellite}{code:14.3f}  {code / LENGTH_L1:14.3f}  {0:14.3f}  {45:14.3f}  \n")
         date = EPOCH + datetime.timedelta(seconds=time)
         yield f"> {date:%Y %m %d %H %M}{date.second:11.7f}  0{len(lines):3}\n" + "".join(lines)

@@ -21,11 +21,7 @@ import tempfile
 from pathlib import Path
 
 from coverlog import UM_PER_M, LogError, epochs, run_tool
-
-LIGHT = 299792458.0  # m/s
-MU = 3.986005e14  # m^3/s^2
-EARTH_RATE = 7.2921151467e-5  # rad/s
-RELATIVITY = -4.442807633e-10  # s/m^(1/2)
+from orbits import LIGHT, Record, turned
 
 # What is the same in all made records, in s, m^(1/2) and rad. Their satellites' axes, planes and clocks follow.
 TOE, ROOT_AXIS, INCLINATION, PERIGEE, NODE_RATE, GROUP_DELAY = 7200.0, 5153.6, 0.96, 0.5, -8e-9, -1e-8
@@ -76,50 +72,21 @@ def draws(state):
 # ---- a satellite
 
 class Satellite:
-    """A made satellite: its record, and what the user algorithm gives for it."""
+    """A made satellite: the eight lines of its record, and what the user algorithm gives for it."""
 
     def __init__(self, number, drawn):
-        self.number, self.mean_thousandths = number, 700 * number + drawn
-        self.mean, self.eccentricity = self.mean_thousandths / 1000, number / 1000
-        self.node, self.offset = float(number % 6), number * 1e-5
-        self.axis = ROOT_AXIS**2
-
-    def anomaly(self, time):
-        """The eccentric anomaly at a time in s from the ephemeris time."""
-        mean = self.mean + math.sqrt(MU / self.axis**3) * time
-        anomaly = mean
-        for _ in range(50):
-            anomaly = mean + self.eccentricity * math.sin(anomaly)
-        return anomaly
-
-    def clock(self, time):
-        """How much the satellite's clock is ahead for a user of one code, in s."""
-        periodic = RELATIVITY * self.eccentricity * ROOT_AXIS * math.sin(self.anomaly(time))
-        return self.offset - GROUP_DELAY + periodic
-
-    def place(self, time):
-        """The place in the earth-fixed frame of that time, in m."""
-        anomaly, e = self.anomaly(time), self.eccentricity
-        true = math.atan2(math.sqrt(1 - e * e) * math.sin(anomaly), math.cos(anomaly) - e)
-        radius, latitude = self.axis * (1 - e * math.cos(anomaly)), true + PERIGEE
-        x, y = radius * math.cos(latitude), radius * math.sin(latitude)
-        node = self.node + (NODE_RATE - EARTH_RATE) * time - EARTH_RATE * TOE
-        return (
-            x * math.cos(node) - y * math.cos(INCLINATION) * math.sin(node),
-            x * math.sin(node) + y * math.cos(INCLINATION) * math.cos(node),
-            y * math.sin(INCLINATION),
-        )
+        self.number, self.record = number, record_lines(number, (700 * number + drawn) / 1000)
+        self.ephemeris = Record("\n".join(self.record))
 
     def residual(self, receiver, tag, code):
         """The corrected pseudorange less the range in m, for a code in m at a time in s of the week."""
         sent = tag - TOE - code / LIGHT
-        ahead = self.clock(sent - self.clock(sent))
-        x, y, z = self.place(sent - ahead)
-        distance = math.dist(receiver, (x, y, z))
+        _, ahead = self.ephemeris.after(sent)
+        _, ahead = self.ephemeris.after(sent - ahead)
+        place, _ = self.ephemeris.after(sent - ahead)
+        distance = math.dist(receiver, place)
         for _ in range(2):
-            angle = EARTH_RATE * distance / LIGHT
-            turned = x * math.cos(angle) + y * math.sin(angle), y * math.cos(angle) - x * math.sin(angle), z
-            distance = math.dist(receiver, turned)
+            distance = math.dist(receiver, turned(place, distance / LIGHT))
         return code + LIGHT * ahead - distance
 
     def code(self, receiver, tag, noise_mm):
@@ -133,22 +100,23 @@ class Satellite:
                 high = middle
         return low
 
-    def record(self):
-        """The eight lines of its navigation record."""
-        clock = f"G{self.number:02} 2024 01 07 02 00 00" + "".join(map(number, (self.offset, 0, 0)))
-        rows = [
-            (0, 0, 0, self.mean_thousandths / 1000),
-            (0, self.eccentricity, 0, ROOT_AXIS),
-            (TOE, 0, self.node, 0),
-            (INCLINATION, 0, PERIGEE, NODE_RATE),
-            (0, 0, 0, 0),
-            (0, 0, GROUP_DELAY, 0),
-            (0, 0, 0, 0),
-        ]
-        return [clock, *("    " + "".join(map(number, row)) for row in rows)]
+
+def record_lines(number, mean):
+    """The lines of a satellite's navigation record, with its mean anomaly at the ephemeris time."""
+    clock = f"G{number:02} 2024 01 07 02 00 00" + "".join(map(field, (number * 1e-5, 0, 0)))
+    rows = [
+        (0, 0, 0, mean),
+        (0, number / 1000, 0, ROOT_AXIS),
+        (TOE, 0, number % 6, 0),
+        (INCLINATION, 0, PERIGEE, NODE_RATE),
+        (0, 0, 0, 0),
+        (0, 0, GROUP_DELAY, 0),
+        (0, 0, 0, 0),
+    ]
+    return [clock, *("    " + "".join(map(field, row)) for row in rows)]
 
 
-def number(value):
+def field(value):
     """A number in the 19 columns of a navigation field."""
     return f"{value:19.12E}".replace("E", "D")
 
@@ -176,7 +144,7 @@ def made(seed, count):
     satellites = [Satellite(number, draw(100)) for number in SATELLITES]
     head = {kind: [text.ljust(60) + label for text, label in lines] for kind, lines in LABELS.items()}
     obs = [line for index in range(count) for line in epoch_lines(index, receiver, satellites, draw)]
-    nav = [line for satellite in satellites for line in satellite.record()]
+    nav = [line for satellite in satellites for line in satellite.record]
     centre = [1000 * (axis + aside) for axis, aside in zip(receiver, (7, -5, 3))]
     texts = {
         "obs": "".join(line + "\n" for line in head["obs"] + obs),

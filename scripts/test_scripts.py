@@ -21,6 +21,7 @@ import exact_extents
 import headline
 import largest_sizes
 import long_day
+import orbits
 import outline
 import picture
 import region
@@ -490,12 +491,12 @@ class Pictures(unittest.TestCase):
 
 class LongDay(unittest.TestCase):
     def test_its_ranges_are_the_recorded_ones_but_for_the_clock_and_the_air(self):
-        sky = long_day.Sky([long_day.Record(text) for text in largest_sizes.navigation_parts()[1]])
+        sky = long_day.Sky([orbits.Record(text) for text in largest_sizes.navigation_parts()[1]])
         first, *lines = largest_sizes.observation_parts()[1][0].splitlines()
         self.assertEqual(first[:29], "> 2008 05 26 05 59 29.9990000")
         time = 895816769.999
         seen = [(line[:3], float(line[3:17])) for line in lines if line[0] == "G"]
-        left = [code - sky.record(satellite, time).signal(time)[1] for satellite, code in seen]
+        left = [code - long_day.signal(sky.record(satellite, time), time)[1] for satellite, code in seen]
         self.assertEqual(len(left), 9)
         self.assertLess(max(left) - min(left), 20)
 
