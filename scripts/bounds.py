@@ -17,8 +17,10 @@ A bound in metres at the elevation E is the sum of
   receiver     noise and multipath of a code; in dual mode 4.09 times that, since P = 2.546 P1 - 1.546 P2;
                it grows from the elevation --rise down to --horizon times as much at the horizon
   orbit_clock  the error of the broadcast orbit and clock
-The parts that don't depend on the elevation are printed in [bounds], the rest in [satellite]. Each number is an
-option, and is the engineer's own declaration: the region holds the receiver only while they hold.
+The parts that don't depend on the elevation are printed in [bounds], the rest in [satellite]. With --zenith the
+troposphere isn't mapped here: its delay at the zenith, with the part for the mapping, is printed in [bounds] as
+`zenith`, and gpscover maps it by the elevation at each point of the search box and at each epoch's time. Each number
+is an option, and is the engineer's own declaration: the region holds the receiver only while they hold.
 
 Exit status: 0; 1 where LOG can't be read, isn't a whole log, or has no satellites; 2 for a wrong command line.
 """
@@ -30,6 +32,7 @@ from wgs84 import elevation
 
 EARTH_KM = 6371.0
 OPENED_M = (-1000.0, 1000.0)
+ZENITH_MM = 10_000  # the greatest amount of a bound at the zenith that the settings take
 DUAL_FACTOR = (77**2 + 60**2) / (77**2 - 60**2)  # the sum of the amounts of the combination's two coefficients
 
 
@@ -55,11 +58,14 @@ def receiver_bound(args):
     return args.receiver * (DUAL_FACTOR if args.mode == "dual" else 1.0)
 
 
+def troposphere(mapped, args):
+    """The (low, high) in metres of the troposphere's delay, mapped by this factor, which is 1 at the zenith."""
+    return args.troposphere[0] * mapped * (1 - args.mapping), args.troposphere[1] * mapped * (1 + args.mapping)
+
+
 def varying(angle, args):
-    """The (low, high) in metres of what depends on the elevation."""
-    mapped = troposphere_mapping(angle)
-    low = args.troposphere[0] * mapped * (1 - args.mapping)
-    high = args.troposphere[1] * mapped * (1 + args.mapping)
+    """The (low, high) in metres of what depends on the elevation and is mapped here."""
+    low, high = (0.0, 0.0) if args.zenith else troposphere(troposphere_mapping(angle), args)
     if args.mode == "single":
         oblique = ionosphere_mapping(angle, args.shell)
         low, high = low + args.ionosphere[0] * oblique, high + args.ionosphere[1] * oblique
@@ -89,9 +95,14 @@ def elevations(path, place):
     return seen
 
 
+def whole_millimetres(bound):
+    """A bound in metres in mm, rounded outward."""
+    return [math.floor(bound[0] * 1000), math.ceil(bound[1] * 1000)]
+
+
 def millimetres(bound):
     """A bound in metres as `[low, high]` in mm, rounded outward."""
-    return f"[{math.floor(bound[0] * 1000)}, {math.ceil(bound[1] * 1000)}]"
+    return str(whole_millimetres(bound))
 
 
 def common_lines(args):
@@ -107,18 +118,29 @@ def common_lines(args):
     yield f"orbit_clock = {millimetres((-args.orbit, args.orbit))}"
     yield f"# {'What the combination leaves of the ionosphere.' if args.mode == 'dual' else 'By elevation below.'}"
     yield f"ionosphere = {millimetres(left)}"
-    yield "# By elevation below."
+    if not args.zenith:
+        yield "# By elevation below."
+        yield "troposphere = [0, 0]"
+        return
+    low, high = args.troposphere
+    yield f"# Mapped by elevation: {low:g} to {high:g} m at the zenith, {args.mapping:.0%} for the mapping."
     yield "troposphere = [0, 0]"
+    yield f"zenith = {millimetres(troposphere(1.0, args))}"
 
 
 def reason_lines(args):
     """What the bounds of the satellites are made of."""
-    low, high = args.troposphere
-    yield f"# Added to the bounds above: zenith troposphere {low:g} to {high:g} m, mapped, {args.mapping:.0%} for the mapping;"
+    parts = []
+    if not args.zenith:
+        low, high = args.troposphere
+        parts.append(f"zenith troposphere {low:g} to {high:g} m, mapped, {args.mapping:.0%} for the mapping")
     if args.mode == "single":
         low, high = args.ionosphere
-        yield f"# zenith ionosphere {low:g} to {high:g} m on L1, by a thin shell at {args.shell:g} km;"
-    yield f"# noise that grows below {args.rise:g} degrees, to {args.horizon:g} times as much at the horizon."
+        parts.append(f"zenith ionosphere {low:g} to {high:g} m on L1, by a thin shell at {args.shell:g} km")
+    parts.append(f"noise that grows below {args.rise:g} degrees, to {args.horizon:g} times as much at the horizon")
+    first, *more = (";\n".join(parts) + ".").split("\n")
+    yield f"# Added to the bounds above: {first}"
+    yield from (f"# {line}" for line in more)
 
 
 def satellite_lines(seen, args):
@@ -159,7 +181,12 @@ def arguments():
         ("mask", 4.0, "the least elevation at which the delays are mapped, degrees"),
     ):
         parser.add_argument(f"--{name}", type=float, default=default, help=f"{meaning} ({default:g})", metavar="N")
-    return parser.parse_args()
+    parser.add_argument("--zenith", action="store_true",
+                        help="print the troposphere's delay at the zenith, which gpscover maps by elevation itself")
+    args = parser.parse_args()
+    if args.zenith and max(map(abs, whole_millimetres(troposphere(1.0, args)))) > ZENITH_MM:
+        parser.error(f"with --zenith the troposphere's delay at the zenith is within {ZENITH_MM / 1000:g} m")
+    return args
 
 
 def main():

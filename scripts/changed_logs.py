@@ -23,7 +23,8 @@ FIELDS = {
     "rules": ["outliers", "bisections", "width"],
     "few": ["index", "time", "number"],
     "epoch": ["index", "time", "number"],
-    "sat": ["satellite", "x lo", "x hi", "y lo", "y hi", "z lo", "z hi", "range lo", "range hi", "error lo", "error hi"],
+    "sat": ["satellite", "x lo", "x hi", "y lo", "y hi", "z lo", "z hi", "range lo", "range hi", "error lo",
+            "error hi", "sure lo", "sure hi"],  # the last two only where the troposphere is mapped by elevation
     "skip": ["satellite", "test"],
     "root": ["a coordinate"] * 6,
     "cut": ["box", "face", "bound"],
@@ -84,7 +85,7 @@ def number_changes(lines):
     """Each number of each line up and down: the kind of the line, the field, the way, and the changed lines."""
     for at, line in changed_lines(lines):
         kind, *words = line.split(" ")
-        for place, name in enumerate(FIELDS[kind]):
+        for place, (name, _) in enumerate(zip(FIELDS[kind], words)):
             for way, by in (("up", 1), ("down", -1)):
                 changed = [kind, *words]
                 changed[place + 1] = stepped(words[place], by)
@@ -180,7 +181,8 @@ def main():
             for ((counted, kind, field, way), _), answer in zip(changes, answers):
                 counted[kind, field, way][answer] += 1
             count += len(changes)
-    rows = dict.fromkeys((kind, field) for kind, fields in FIELDS.items() for field in fields)
+    rows = dict.fromkeys((kind, field) for kind, fields in FIELDS.items() for field in fields
+                         if (kind, field, "up") in numbers or not field.startswith("sure"))
     print(f"{count} changed logs\n")
     print(table(["line", "number", "up", "down"],
                 [[f"`{kind}`", field, *(cell(numbers[kind, field, way]) for way in ("up", "down"))] for kind, field in rows]))

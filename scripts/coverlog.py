@@ -19,6 +19,7 @@ SKIPS = {
     "4": "none of its ephemerides is healthy",
     "5": "none of its ephemerides is near enough in time",
     "6": "its ephemeris is out of bounds",
+    "7": "the search box comes too near to the earth's centre",
 }
 
 
@@ -33,7 +34,8 @@ class Row:
     satellite: str
     place: tuple  # ((low, high) of x, of y, of z)
     range: tuple
-    error: tuple
+    error: tuple  # the widest one that is declared at a point of the search box
+    sure: tuple  # what is declared at every point: from the greatest low end to the least high end, which may be less
 
 
 @dataclass
@@ -107,12 +109,12 @@ def fold_steps(epoch, lines):
 
 
 def row_of(words):
-    """The row of a `sat` line."""
+    """The row of a `sat` line. On one without a last pair the error is the same at every point."""
     ends = [int(word) for word in words[2:]]
     pairs = list(zip(ends[::2], ends[1::2], strict=True))
-    if len(pairs) != 5:
+    if len(pairs) not in (5, 6):
         raise ValueError
-    return Row(words[1], tuple(pairs[:3]), pairs[3], pairs[4])
+    return Row(words[1], tuple(pairs[:3]), pairs[3], pairs[4], pairs[-1])
 
 
 def read_block(words, outliers, lines):

@@ -1,14 +1,15 @@
 #!/usr/bin/env python3
 """Compares rows of `gpscover solve` with numbers that the equations allow, for drawn ephemerides.
 
-usage: drawn_orbits.py [--program PATH] [--records N] [--seed N]
+usage: drawn_orbits.py [--program PATH] [--records N] [--seed N] [--zenith]
 
 Each file has twelve satellites, whose records are drawn from the whole range of every field, often from its ends, and a
 search box of up to 200 km on each side. For each row one choice of numbers is made as the equations of
 docs/EQUATIONS.md leave it, at a drawn point of the box, in exact fractions (`allowed` of second/sample.py). It has to
 lie in the row with W taken off at both ends, which has to be at most W wide, and a place between 19,900 and 52,300 km
-from the origin. The last line tells how many rows were compared, the greatest width beside W, and how far out and how
-eccentric their orbits were. It isn't part of the gate.
+from the origin. With --zenith the settings have a drawn `bounds.zenith`, and lo and hi have to lie in the row's spans
+of them with G taken off, which have to be at most G wide. The last line tells how many rows were compared, the
+greatest width beside W (and G), and how far out and how eccentric their orbits were. It isn't part of the gate.
 
 Exit status: 0; 1 where a number lies outside or a span is too wide, of which a line tells, or a file isn't solved.
 """
@@ -34,15 +35,18 @@ NAMES = ("drawn.obs", "drawn.nav", "drawn.toml")
 class Drawn:
     """The rows that were compared, and what was found of them."""
 
-    def __init__(self, program, folder, seed):
-        self.program, self.folder = program, Path(folder)
+    def __init__(self, program, folder, seed, zenith):
+        self.program, self.folder, self.zenith = program, Path(folder), zenith
         self.chance = random.Random(seed)
         self.rows = self.outside = self.unsolved = 0
-        self.distances, self.eccentricities, self.widths = [], [], []
+        self.distances, self.eccentricities, self.widths, self.bound_widths = [], [], [], []
 
     def solve(self):
         """Draws files and solves them; the files as the second checker reads them, and the lines of the log."""
-        for name, content in zip(NAMES, compare.random_files(self.chance)):
+        obs, nav, settings = compare.random_files(self.chance)
+        if self.zenith:
+            settings = compare.random_zenith(self.chance, settings)
+        for name, content in zip(NAMES, (obs, nav, settings)):
             (self.folder / name).write_bytes(content)
         paths = [str(self.folder / name) for name in NAMES]
         log = str(self.folder / "drawn.log")
@@ -57,22 +61,26 @@ class Drawn:
         """One choice of numbers that the equations allow at a point of the box."""
         draw = sample.Drawer(self.chance.choice(("low", "high", "any", "mixed")), self.chance.random())
         point = [draw.of(files.box[axis], files.box[axis + 3]) for axis in range(3)]
-        return sample.allowed(draw, record, epoch.time, dict(epoch.satellites)[satellite], files.settings.dual, point)
+        codes, settings = dict(epoch.satellites)[satellite], files.settings
+        return sample.allowed(draw, record, epoch.time, codes, settings.dual, point, settings.zenith,
+                              settings.bounds_of(satellite))
 
     def compare(self, files, epoch, values, record):
         """Compares a row with one choice."""
         self.rows += 1
-        numbers = self.choose(files, epoch, values[0], record)
-        for axis, number in enumerate(numbers):
-            low, high = values[2 * axis + 1] + files.room, values[2 * axis + 2] - files.room
-            self.widths.append(((high - low) / files.room, high - low, files.room))
-            if not low <= number <= high or high - low > files.room:
+        satellite, *row = values
+        numbers = self.choose(files, epoch, satellite, record)
+        for name, number, (low, high), room in zip(sample.NAMES, numbers, recheck.row_spans(row), files.rooms):
+            low, high = low + room, high - room
+            widths = self.bound_widths if name in ("lo", "hi") else self.widths
+            widths.append(((high - low) / room, high - low, room))
+            if not low <= number <= high or high - low > room:
                 self.outside += 1
-                print("outside or too wide:", values[0], "xyzP"[axis], number, low, high, files.room, record.values)
+                print("outside or too wide:", satellite, name, number, low, high, room, record.values)
         distance = isqrt(sum(number**2 for number in numbers[:3]))
         if not LEAST <= distance <= GREATEST:
             self.outside += 1
-            print("distance:", values[0], distance, record.values)
+            print("distance:", satellite, distance, record.values)
         self.distances.append(distance)
         self.eccentricities.append(record.values["e"])
 
@@ -94,16 +102,19 @@ def main():
     parser.add_argument("--program", default=str(ROOT / "gpscover"))
     parser.add_argument("--records", type=int, default=10_000)
     parser.add_argument("--seed", type=int, default=1)
+    parser.add_argument("--zenith", action="store_true", help="map the troposphere by elevation")
     arguments = parser.parse_args()
     with tempfile.TemporaryDirectory() as folder:
-        drawn = Drawn(arguments.program, folder, arguments.seed)
+        drawn = Drawn(arguments.program, folder, arguments.seed, arguments.zenith)
         while drawn.rows < arguments.records and drawn.unsolved < 10:
             drawn.run()
     if drawn.rows:
         _, width, room = max(drawn.widths)
+        bound = max(drawn.bound_widths, default=None)
+        mapped = f", of a bound {bound[1]} um of G {bound[2]} um" if bound else ""
         print(f"rows {drawn.rows}, numbers outside {drawn.outside}, files not solved {drawn.unsolved}; the greatest width"
-              f" {width} um of W {room} um, distances from {min(drawn.distances) // 10**9} to {max(drawn.distances) // 10**9} km, eccentricities up to"
-              f" {float(max(drawn.eccentricities))}")
+              f" {width} um of W {room} um{mapped}, distances from {min(drawn.distances) // 10**9} to"
+              f" {max(drawn.distances) // 10**9} km, eccentricities up to {float(max(drawn.eccentricities))}")
     sys.exit(1 if drawn.outside or drawn.unsolved or not drawn.rows else 0)
 
 

@@ -115,6 +115,10 @@ def one_box_logs():
         (HALVES, 10, ["edge 1 -1400000 499999"], "no 60 ClockNarrow line 10"),
     ):
         yield f"line {number} {new}", "judge", text(put(lines, number, *new)), answer
+    # What is sure doesn't change the clock spans; its ends may cross.
+    for sure in ("-400000 400000", "-500000 499999", "-499999 500000", "500000 -500000",
+                 "1000000000000 -1000000000000"):
+        yield f"sure {sure}", "judge", text(put(ONE_BOX, 4, f"{ONE_BOX[3]} {sure}")), "yes 1"
     # The range of G01 is 10 m longer: its offsets are from 8.5 m to 11.5 m, those of G02 and G03 within 1.4 m.
     far = ONE_BOX[3].replace(" 20000000000000 20000000000000 -", " 20000010000000 20000010000000 -")
     yield "nothing fits", "judge", text(changed(ONE_BOX, {4: far, 9: "out 0"})), "yes 0"
@@ -180,6 +184,17 @@ VERDICTS = (
     ({22: "edge 5 -1900000 1900000"}, "yes 3"),
     ({20: "edge 4 2500000 3000000"}, "no 60 ClockNarrow line 20"),
     ({23: "edge 6 -3000000 1500000"}, "no 60 ClockNarrow line 23"),
+    # G01 is needed at the clock 0 of box 5, which is within a metre along x: all of its error has to be sure.
+    ({7: WITH_ALL[6] + " -1000000 999999"}, "no 59 InNotShown line 22"),
+    ({7: WITH_ALL[6] + " -999999 1000000"}, "no 59 InNotShown line 22"),
+    ({7: WITH_ALL[6] + " 1000000 -1000000", 22: "edge 5 -1900000 1900000"}, "yes 3"),
+    # G04 isn't needed there; of G02, 0.9 m are enough, give or take 0.1 mm.
+    ({11: WITH_ALL[10] + " 0 0"}, "yes 3"),
+    ({9: WITH_ALL[8] + " -901000 901000"}, "yes 3"),
+    ({9: WITH_ALL[8] + " -899000 901000"}, "no 59 InNotShown line 22"),
+    ({9: WITH_ALL[8] + " -901000 899000"}, "no 59 InNotShown line 22"),
+    # A satellite that is skipped since the search box comes too near to the origin.
+    ({4: "skip G03 7", 8: "skip G09 7", 12: "skip G32 7"}, "yes 3"),
     # A hull that is none is held by any span.
     ({17: "edge 2 5 5"}, "yes 4"),
     # 61 and 62: both fail where the third split is no longer allowed for either reason.
@@ -243,13 +258,18 @@ WRONG_WORDS = {
 # Lines whose first word can stand at their place, and whose fields can't.
 WRONG_FIELDS = {
     3: ("few 0 0 2", "few 200001 0 2", "few 1 4000000000000000000000 2", "few 1 -1 2", "few 1 0 65", "few 1 0", "few"),
-    4: ("skip G03", "skip G03 0", "skip G03 7", "skip G03 6", "skip G03 6 0", "skip G03 6 21", "skip G03 5 1",
-        "skip G03 3 0", "skip G3 3", "skip G00 3", "skip G100 3", "skip R03 3", "skip g03 3", "skip 03 3",
+    4: ("skip G03", "skip G03 0", "skip G03 8", "skip G03 6", "skip G03 6 0", "skip G03 6 21", "skip G03 5 1",
+        "skip G03 7 0", "skip G03 7 1", "skip G03 07", "skip G03 3 0",
+        "skip G3 3", "skip G00 3", "skip G100 3", "skip R03 3", "skip g03 3", "skip 03 3",
         "skip  G03 3", "skip G03 3 ", "skip G03 03", "skip G03 3\r", "skip G03\t3", "skip G03 -3", "skip"),
     6: ("epoch 200001 2000000000000 5", "epoch 4 2000000000000", "epoch 4 2000000000000 05", "epoch 4 0 65"),
     7: (WITH_ALL[6].replace("20000000000000 20000000000000 0 0 0 0", "20000000000001 20000000000000 0 0 0 0"),
         WITH_ALL[6].replace(" 1000000", " 1000000000001"), WITH_ALL[6].replace(" 1000000", " -1000001"),
-        WITH_ALL[6].replace(" 0 0 0 0 ", " 0 0 0 60000000000001 "), WITH_ALL[6] + " 0", "sat G01"),
+        WITH_ALL[6].replace(" 0 0 0 0 ", " 0 0 0 60000000000001 "), WITH_ALL[6] + " 0", "sat G01",
+        # What is sure: as the error itself, beyond it, out of range, and another number or spelling of its ends.
+        *(f"{WITH_ALL[6]} {sure}" for sure in (
+            "-1000000 1000000", "-1000001 1000000", "-1000001 0", "0 1000001", "1000000000001 0", "0 -1000000000001",
+            "0", "0 0 0", "0 0 ", " 0 0", "-0 0", "0 +1", "00 0", "0 0\r"))),
     14: ("root -1000000 -900000 -900000 -1000001 900000 900000", "root 0 0 0 10000000000001 0 0", "root 0 0 0 0 0"),
     15: ("cut", "cut 0", "cut 0 1", "cut 0 1 15000000 0", "cut 0 1 15000000 ", "cut  0 1 15000000", "cut 0  1 15000000",
          "cut 0 6 15000000", "cut 0 -1 15000000", "cut -1 1 15000000", "cut 400001 1 15000000",
@@ -342,7 +362,10 @@ def refused_rows():
         ({1: "gpscover 2"}, "line 1 kind 1"),
         ({2: "rules 9 3 1000000"}, "line 2 kind 1"),
         ({8: "cut 0 1 15000000"}, "line 8 kind 2"),
-        ({8: "skip G09 7"}, "line 8 kind 3"),
+        ({8: "skip G09 8"}, "line 8 kind 3"),
+        ({8: "skip G09 7 1"}, "line 8 kind 3"),
+        ({7: rows[6] + " -1000000 1000000"}, "line 7 kind 3"),
+        ({7: rows[6] + " -1000000"}, "line 7 kind 3"),
     ):
         yield f"{changes}", "pave", text(changed(rows, changes)), f"rows 40 BadLog {answer}"
     for step in WITH_ALL[ROOT:]:
@@ -481,6 +504,11 @@ def row_logs(files):
         for place in 10, 11:
             for by in 1, -1:
                 yield "other bounds", files.stepped(line, place, by), f"no 54 BoundDiffers line {line}"
+        # Without `zenith` all that is declared is sure.
+        low, high = files.number(line, 10), files.number(line, 11)
+        for sure in (low + 1, high), (low, high - 1), (high, low), (0, 0):
+            with_sure = put(files.lines, line, " ".join([files.lines[line - 1], *map(str, sure)]))
+            yield "less that is sure", with_sure, f"no 54 BoundDiffers line {line}"
 
 
 def step_logs(files, lines):

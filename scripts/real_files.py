@@ -257,6 +257,46 @@ class RealFiles(unittest.TestCase):
         self.assertEqual(self.read("none.log"), b"gpscover 1\nrules 1 4096 1000000\n")
         self.expect(["check", *DAY, "none.log", "--from", "3", "--to", "2"], 0, b"yes 0\n")
 
+    def test_bounds_are_mapped_by_elevation(self):
+        mapped = DAY["day.toml"].replace(b"[2000, 25000]", b"[0, 0]\nzenith = [1800, 3000]")
+        for name, data in (DAY | {"day.toml": mapped}).items():
+            self.write(name, data)
+        part = ["--from", "1", "--to", "4"]
+        ran = self.run_words("solve", *DAY, "part.log", *part)
+        self.assertEqual((ran.returncode, ran.stderr), (0, b""))
+        log = self.read("part.log")
+        rows = [line.split() for line in log.splitlines() if line.startswith(b"sat ")]
+        self.assertEqual({len(row) for row in rows}, {14})
+        # From the zenith to the horizon the delay of at most 3 m becomes 3 to 67.2 m.
+        for lo, hi, sure_lo, sure_hi in (map(int, row[10:]) for row in rows):
+            self.assertTrue(lo < sure_lo and sure_hi < hi and hi <= 26_000_000 + 67_200_000, (lo, hi, sure_lo, sure_hi))
+        boxes = closings(log)(b"in", b"edge")
+        self.expect(["check", *DAY, "part.log", *part], 0, b"yes %d\n" % boxes)
+        self.expect(["judge", "part.log"], 0, b"yes %d\n" % boxes)
+        # A search box around the earth's centre.
+        self.write("day.toml", mapped.replace(b"[6378137000, 0, 0]", b"[0, 0, 0]"))
+        self.expect(["solve", *DAY, "part.log", "--to", "1"], 0, b"epoch 1 gps 1388620800.000000000000 few 0\n")
+        skips = b"".join(b"skip G%02d 7\n" % number for number in range(1, 7))
+        few = b"gpscover 1\nrules 1 4096 1000000\nfew 1 1388620800000000000000 0\n" + skips
+        self.assertEqual(self.read("part.log"), few)
+        self.expect(["check", *DAY, "part.log", "--to", "1"], 0, b"yes 0\n")
+
+    def test_rows_of_which_less_is_sure(self):
+        log = (EXAMPLES / "one-edge-box.log").read_bytes().replace(b" -500000 500000\n", b" -500000 500000 -400000 400000\n", 1)
+        self.write("sure.log", log)
+        self.expect(["judge", "sure.log"], 0, b"yes 1\n")
+        self.write("sure.log", log.replace(b" -400000 400000", b" -500000 500000"))
+        self.expect(["judge", "sure.log"], 3, b"", b"log 40 BadLog line 4 kind 3\n")
+        # All but G04 fit everywhere at clock offset 0, G01 only where its error may be 1 m.
+        inner = log.replace(b" -400000 400000", b"").replace(b" -500000 500000\n", b" -1000000 1000000\n")
+        below = b"sat G05 0 0 0 0 -20000000000000 -20000000000000 20000000000000 20000000000000 -1000000 1000000\n"
+        inner = inner.replace(b"rules 0 ", b"rules 1 ").replace(b"000000 4\n", b"000000 5\n").replace(b"root ", below + b"root ")
+        inner = inner.replace(b"edge 0 -1400000 1400000", b"in 0 0 -1900000 1900000")
+        self.write("sure.log", inner)
+        self.expect(["judge", "sure.log"], 0, b"yes 1\n")
+        self.write("sure.log", inner.replace(b" -1000000 1000000\n", b" -1000000 1000000 -999999 999999\n", 1))
+        self.expect(["judge", "sure.log"], 1, b"no 59 InNotShown line 10\n")
+
     def test_make_touches_no_file(self):
         before = self.files()
         said = [self.run_words("make", "7", "3") for _ in range(2)]

@@ -36,6 +36,8 @@ COLUMNS = (
     "epoch gps_time gps_seconds mark satellites in edge out splits east_m north_m up_m clock_low_m clock_high_m"
     " volume_m3 latitude_deg longitude_deg height_m x_m y_m z_m faces"
 ).split()
+OTHER_DAY = "; is the navigation file of another day?"
+HINTS = {"3": OTHER_DAY, "5": OTHER_DAY, "7": "; is the position in the header zero?"}  # by the reasons of SKIPS
 EARTH_M = (6_300_000, 6_500_000)
 UM_PER_MM = 1000
 
@@ -137,8 +139,7 @@ class Totals:
         if not self.skips:
             return "the file has few GPS satellites"
         number, count = self.skips.most_common(1)[0]
-        hint = "; is the navigation file of another day?" if number in "35" else ""
-        return f"{count} times a satellite isn't used since {SKIPS[number]}{hint}"
+        return f"{count} times a satellite isn't used since {SKIPS[number]}{HINTS.get(number, '')}"
 
     def why_empty(self):
         """Where the search box is, if it isn't at the earth's surface."""

@@ -16,6 +16,7 @@ from pathlib import Path
 from unittest import mock
 
 import bounds
+import changed_logs
 import coverlog
 import exact_extents
 import headline
@@ -106,8 +107,20 @@ class Logs(unittest.TestCase):
             with self.assertRaisesRegex(coverlog.LogError, "ends within an epoch"):
                 epochs_of(cut[len(HEAD) :])
 
+    def test_a_row_with_what_is_surely_declared(self):
+        place = "sat G01 1 2 3 4 5 6 7 8 -90 100"
+        plain, mapped = (
+            epoch_of(f"epoch 1 0 5\n{row}\nroot 0 0 0 1 1 1\nedge 0 0 0\ndone 0\n").rows[0]
+            for row in (place, place + " -80 70")
+        )
+        for row in plain, mapped:
+            self.assertEqual((row.place, row.range, row.error), (((1, 2), (3, 4), (5, 6)), (7, 8), (-90, 100)))
+        self.assertEqual((plain.sure, mapped.sure), ((-90, 100), (-80, 70)))
+
     def test_what_is_no_log_is_refused_at_its_line(self):
         wrong = {
+            "epoch 1 0 5\nsat G01 0 0 0 0 0 0 0 0 0 0 0\nroot 0 0 0 1 1 1\nedge 0 0 0\ndone 0\n": 4,
+            "epoch 1 0 5\nsat G01 0 0 0 0 0 0 0 0 0 0 0 0 0 0\nroot 0 0 0 1 1 1\nedge 0 0 0\ndone 0\n": 4,
             "epoch 1 0 5\nroot 0 0 0 1 1 1\nedge 7 0 0\ndone 0\n": 5,
             "epoch 1 0 5\nroot 0 0 0 1 1 1\nedge 0 0 x\ndone 0\n": 5,
             "epoch 1 0 5\nroot 0 0 0 1 1 1\npaint 0\ndone 0\n": 5,
@@ -186,7 +199,8 @@ class ExactExtents(unittest.TestCase):
         far = 20_000_000_000_000
         ends = [[far * (axis == k) * sign for k in range(3)] for axis in range(3) for sign in (1, -1)]
         rows = [
-            coverlog.Row("G01", tuple((end, end) for end in place), (far, far), (-1_000_000, 1_000_000)) for place in ends
+            coverlog.Row("G01", tuple((end, end) for end in place), (far, far), *[(-1_000_000, 1_000_000)] * 2)
+            for place in ends
         ]
         axes = ((1, 0, 0), (0, 1, 0), (0, 0, 1))
         found = exact_extents.exact_extents(rows, outliers, (0, 0, 0), axes)
@@ -200,7 +214,7 @@ class ExactExtents(unittest.TestCase):
         self.assertEqual(self.extents(1), [(-2, 2)] * 3 + [(-1, 1)])
 
     def test_an_empty_region(self):
-        row = coverlog.Row("G01", ((0, 0),) * 3, (0, 0), (0, 0))
+        row = coverlog.Row("G01", ((0, 0),) * 3, (0, 0), (0, 0), (0, 0))
         self.assertIsNone(exact_extents.exact_extents([row], 0, (1, 0, 0), ((1, 0, 0),) * 3))
 
 
@@ -211,6 +225,16 @@ class Marks(unittest.TestCase):
         self.assertIn("2 few, 0 empty", lines[0])
         self.assertIn("every epoch has too few usable satellites; 2 times", lines[1])
         self.assertIn("is the navigation file of another day?", lines[1])
+
+    def test_few_near_the_centre_of_the_earth(self):
+        _, lines = totals_of("few 1 0 0\nskip G01 7\nskip G02 7\nskip G03 6 2\n")
+        self.assertIn("2 times a satellite isn't used since the search box comes too near to the earth", lines[1])
+        self.assertIn("is the position in the header zero?", lines[1])
+
+    def test_every_reason_of_a_skip_has_words(self):
+        for reason in ("1", "2", "3", "4", "5", "6 20", "7"):
+            _, lines = totals_of(f"few 1 0 0\nskip G01 {reason}\n")
+            self.assertIn("1 times a satellite isn't used since ", lines[1])
 
     def test_empty(self):
         marks, lines = totals_of("epoch 1 0 5\n" + ROOT + "out 0\ndone 0\n")
@@ -306,6 +330,40 @@ class Bounds(unittest.TestCase):
         line = next(line for line in lines if line.startswith("G05"))
         self.assertEqual(line, "G05 = [-1000000, 1000000]  # 1.7 to 11.5 degrees, below the mask: opened")
 
+    def test_the_zenith_in_the_place_of_each_satellite_s_troposphere(self):
+        for mode, own in (("single", "[0, 6000]"), ("dual", "[0, 0]")):
+            args, plain = self.table(mode, "--zenith"), self.table(mode)
+            lines = list(bounds.common_lines(args))
+            # 0.98 * 1.95 and 1.02 * 2.65; the lines above are the same
+            self.assertEqual(lines[-2:], ["troposphere = [0, 0]", "zenith = [1911, 2703]"])
+            self.assertEqual(lines[:-3], list(bounds.common_lines(plain))[:-2])
+            # overhead there is no more noise, and what is left is the ionosphere
+            self.assertEqual(bounds.millimetres(bounds.bound_between(math.pi / 2, math.pi / 2, args)), own)
+            self.assertFalse([line for line in bounds.satellite_lines({}, args) if "troposphere" in line])
+        # at 30 degrees 6 * 1.75121
+        low, high = bounds.bound_between(math.pi / 6, math.pi / 6, self.table("single", "--zenith"))
+        self.assertEqual(low, 0.0)
+        self.assertAlmostEqual(high, 6 * 1.75121, places=3)
+
+    def test_without_the_zenith_its_lines_are_those_of_before(self):
+        self.assertEqual(list(bounds.common_lines(self.table("single"))), [
+            "[bounds]", "# Noise and multipath high up: 3 m on each code.", "receiver = [-3000, 3000]",
+            "# The broadcast orbit and clock: 3 m.", "orbit_clock = [-3000, 3000]", "# By elevation below.",
+            "ionosphere = [0, 0]", "# By elevation below.", "troposphere = [0, 0]"])
+        self.assertEqual(list(bounds.reason_lines(self.table("single"))), [
+            "# Added to the bounds above: zenith troposphere 1.95 to 2.65 m, mapped, 2% for the mapping;",
+            "# zenith ionosphere 0 to 6 m on L1, by a thin shell at 350 km;",
+            "# noise that grows below 30 degrees, to 2 times as much at the horizon."])
+
+    def test_a_zenith_that_the_settings_would_refuse(self):
+        self.assertIn("zenith = [-10000, 10000]", list(bounds.common_lines(
+            self.table("dual", "--zenith", "--troposphere", "-10", "10", "--mapping", "0"))))
+        for words in (("2", "9.9"), ("-10.3", "2"), ("2", "10.0001")):
+            with self.assertRaises(SystemExit) as ended, contextlib.redirect_stderr(io.StringIO()):
+                self.table("dual", "--zenith", "--troposphere", *words)
+            self.assertEqual(ended.exception.code, 2)
+            self.table("dual", "--troposphere", *words)
+
     def test_the_elevation_of_a_satellite(self):
         place = wgs84.earth_fixed(0.6, 2.4, 100.0)
         east, north, up = wgs84.local_axes(0.6, 2.4)
@@ -351,6 +409,15 @@ class Suspects(unittest.TestCase):
         box = (-1000000, -900000, -900000, 1000000, 900000, 900000)
         self.assertEqual(suspect.clock_span(row, box), (-1500000, 1500000))
 
+    def test_what_is_surely_declared_names_no_satellite(self):
+        # The five satellites all keep the widest of their bounds, whatever less is declared at other points.
+        right = FAULTY.replace(str(2 * 10**13 + 10**9), str(2 * 10**13)).replace("500000\n", "500000 0 0\n")
+        epoch = epoch_of(right + "edge 0 -1500000 1500000\ndone 0\n")
+        self.assertEqual([row.sure for row in epoch.rows], [(0, 0)] * 5)
+        self.assertEqual(suspect.surely_broken(epoch), [])
+        faulty = FAULTY.replace("500000\n", "500000 500000 -500000\n")
+        self.assertEqual(suspect.surely_broken(epoch_of(faulty + "edge 0 -1500000 1500000\ndone 0\n")), ["G05"])
+
     def test_an_empty_epoch_says_so(self):
         self.assertIn("empty: more than 1 satellites", suspect.log_line(epoch_of(FAULTY + "out 0\ndone 0\n")))
 
@@ -369,6 +436,22 @@ class Suspects(unittest.TestCase):
         self.assertEqual(len(lines), 2)
         self.assertRegex(lines[0], "^epoch 1 .* opening G03$")
         self.assertEqual(lines[1], "epochs 2, of which 1 are empty at outliers = 0")
+
+
+class ChangedLogs(unittest.TestCase):
+    ROW = "sat G09 1 2 3 4 5 6 7 8 -9 10"
+
+    def test_each_number_of_a_row_goes_up_and_down(self):
+        for row, count in ((self.ROW, 11), (self.ROW + " -8 9", 13)):
+            changes = list(changed_logs.number_changes([row]))
+            self.assertEqual(len(changes), 2 * count)
+            self.assertEqual(len({(field, way) for _, field, way, _ in changes}), 2 * count)
+        self.assertEqual(changes[-2:], [("sat", "sure hi", "up", [self.ROW + " -8 10"]),
+                                        ("sat", "sure hi", "down", [self.ROW + " -8 8"])])
+
+    def test_a_skip_with_a_field_has_its_reason_changed(self):
+        self.assertEqual([lines for *_, lines in changed_logs.number_changes(["skip G09 6 2"])],
+                         [["skip G10 6 2"], ["skip G08 6 2"], ["skip G09 7 2"], ["skip G09 5 2"]])
 
 
 def pairs():

@@ -264,6 +264,12 @@ BOUNDS = {1: b"1D-2", 2: b"1D-8", 3: b"1D-13", 4: b"5000", 5: b"1D-7", 6: b"7", 
                   19: b"1D-7", 20: b"1D-5"}
 
 
+def with_one_record(nav):
+    """The navigation file with no more than the first record of G18, which begins it."""
+    header, *records = re.split(rb"(?m)^(?=G)", nav)
+    return header + records[0] + b"".join(record for record in records[1:] if not record.startswith(b"G18"))
+
+
 def navigation_cases(nav):
     """Changes of the navigation file. Its first record begins in line 6."""
     header = nav[:nav.index(b"G18")]
@@ -271,9 +277,7 @@ def navigation_cases(nav):
     lines = nav.split(b"\n")
     first, second = b"\n".join(lines[5:13]) + b"\n", b"\n".join(lines[13:21]) + b"\n"
     rest = records[len(first):]
-    single = header + first + b"".join(
-        b"\n".join(rest.split(b"\n")[at:at + 8]) + b"\n" for at in range(0, rest.count(b"\n"), 8)
-        if not rest.split(b"\n")[at].startswith(b"G18"))
+    single = with_one_record(nav)
     yield "one record of G18", single
     for number, bound in BOUNDS.items():
         mantissa, _, power = bound.partition(b"D")
@@ -420,6 +424,7 @@ def settings_cases(settings):
             new = plain.replace(key + b" = " + value, key + b" = " + kind)
             if new != plain:
                 yield f"{key} = {kind}", new
+    yield from zenith_settings(plain, kinds)
     for key, texts in ((b"half", (b"100000000", b"100000001", b"[1, 1, 100000000]", b"[1, 0, 1]", b"[2, 30000, 4]")),
             (b"outliers", (b"8", b"9")),
                        (b"bisections", (b"200001",)), (b"width", (b"10000000", b"10000001")),
@@ -511,9 +516,52 @@ def settings_cases(settings):
                 rb"\[%s\]\n(\w+ = .*\n)*" % word, b"", plain)
 
 
+def mapped(settings, value=b"[2000, 2500]"):
+    """The settings with a `zenith` behind their `troposphere`."""
+    return re.sub(rb"(?m)^troposphere = .*\n", lambda line: line.group() + b"zenith = " + value + b"\n", settings)
+
+
+def zenith_settings(plain, kinds):
+    """Changes of the settings with the key `zenith`, which may be absent."""
+    yield "zenith absent, but for a comment", mapped(plain).replace(b"zenith", b"# zenith")
+    for value in (*kinds, b"[2000, 2500]", b"[0, 0]", b"[-2500, -2000]", b"[-10000, 10000]", b"[10000, 10000]",
+                  b"[-10000, -10000]", b"[10000, 10001]", b"[-10001, 0]", b"[-10001, 10001]", b"[10001, 10000]",
+                  b"[2500, 2000]", b"[2500, 2499]", b"[2000]", b"[2000, 2500, 3000]", b"[2000.0, 2500]",
+                  b"[2000, 2500.5]", b"[2000, true]", b'["2000", 2500]', b"[[2000, 2500]]", b"[2_000, +2_500]",
+                  b"[9223372036854775807, 0]", b"{ lo = 2000, hi = 2500 }"):
+        yield f"zenith = {value}", mapped(plain, value)
+    yield "zenith in front of the others", plain.replace(b"[bounds]", b"[bounds]\nzenith = [2000, 2500]")
+    yield "zenith in quotes", mapped(plain).replace(b"zenith", b"'zenith'")
+    yield "zenith twice", mapped(mapped(plain))
+    for name in (b"Zenith", b"zenith2", b"zenit", b"zenith.lo", b"'zenith '"):
+        yield f"{name} in the place of zenith", mapped(plain).replace(b"zenith", name)
+    for table in (b"search", b"signal", b"satellite"):
+        yield f"zenith in {table}", plain.replace(b"[%s]" % table, b"[%s]\nzenith = [2000, 2500]" % table)
+    yield "zenith in the root", b"zenith = [2000, 2500]\n" + plain
+    yield "bounds.zenith as a table", plain + b"[bounds.zenith]\n"
+    yield "bounds.zenith as tables", plain + b"[[bounds.zenith]]\n"
+    # Of two faults the one of the key that comes first in the order is told.
+    for value in (b"1", b"[2500, 2000]", b"[10001, 10001]", b"[1]"):
+        wrong = mapped(plain, value)
+        for key in (b"receiver", b"troposphere"):
+            of_key = rb"(?m)^%s = .*$" % key
+            for other in (b"true", b"[2, 1]", b"[1000001, 1000001]"):
+                yield f"zenith = {value}, {key} = {other}", re.sub(of_key, key + b" = " + other, wrong)
+            yield f"zenith = {value}, no {key}", re.sub(of_key + rb"\n", b"", wrong)
+        yield f"zenith = {value}, and a satellite's bound outside", wrong + b"G01 = [2, 1]\n"
+        yield f"zenith = {value}, and a satellite's bound of another kind", wrong + b"G01 = 1\n"
+        yield f"zenith = {value}, and an unknown name", b"a = 1\n" + wrong
+    for name in (b"receiver", b"troposphere"):
+        yield f"zenith, no {name}", re.sub(rb"(?m)^%s = .*\n" % name, b"", mapped(plain))
+    # A satellite's own bound, and the four summed ones, keep their range.
+    yield "zenith, and a satellite's bound of 1 km", mapped(plain) + b"G01 = [-1000000, 1000000]\n"
+    yield "zenith, and a satellite's bound of more", mapped(plain) + b"G01 = [-1000001, 1000000]\n"
+
+
 def mixed_cases(contents):
     """Changes of more than one file."""
     obs, nav, settings = contents
+    yield from low_places(contents)
     dual = settings.replace(b'"single"', b'"dual"').replace(b'["C1C"]', b'["C1C", "C2W"]')
     lines = obs.replace(b"G    4 C1C L1C D1C S1C", b"G    4 C1C C2W D1C S1C").split(b"\n")
     for name, second in (("equal codes", None), ("codes 3 m apart", 3000), ("4 numbers below 15,000 km", "low"),
@@ -555,3 +603,44 @@ def mixed_cases(contents):
     for centre in (b"[8500000000, 8500000000, 8500000000]", b"[-8500000000, 8500000000, -8500000000]", b"[0, 0, 0]"):
         yield f"centre = {centre}", [obs, nav, settings.replace(b'"header"', centre).replace(b"half = 200000",
                 b"half = 100000000")]
+
+
+def low_places(contents):
+    """Search boxes near the origin and at 6,000 km from it, where a satellite is skipped for 7 or isn't."""
+    obs, nav, settings = contents
+    half = 200_000  # mm, of the example
+    at = 6_000_000_000  # mm
+    centres = [("the origin", (0, 0, 0)), ("a face at the origin", (half, 0, 0)), ("400 km up", (400_000_000, 0, 0))]
+    for inner in (0, 1, -1):
+        by = f"{inner} mm nearer than 6,000 km"
+        for axis in range(3):
+            for sign in (1, -1):
+                centre = [0, 0, 0]
+                centre[axis] = sign * (at + half - inner)
+                centres.append((f"axis {axis}, sign {sign}, {by}", centre))
+        # The nearest points are a corner with the parts 0.6 and 0.8, and one with 2/3, 1/3 and 2/3.
+        centres.append((f"an edge, {by}", (at * 3 // 5 + half - inner, -(at * 4 // 5 + half), 0)))
+        centres.append((f"a corner, {by}", (at * 2 // 3 + half, -(at // 3 + half), at * 2 // 3 + half - inner)))
+        # A side that holds zero, if only at its end, adds nothing.
+        centres.append((f"zero at an end, {by}", (half, at + half - inner, -half)))
+        centres.append((f"zero a mm beyond an end, {by}", (half + 1, at + half - inner, -half)))
+    for name, centre in centres:
+        there = settings.replace(b'"header"', str(list(centre)).encode())
+        yield f"zenith, {name}", [obs, nav, mapped(there)]
+        if max(map(abs, centre)) < at // 2:
+            yield f"zenith [0, 0], {name}", [obs, nav, mapped(there, b"[0, 0]")]
+            yield f"no zenith, {name}", [obs, nav, there]
+    # The tests of a satellite that come before this one.
+    there = mapped(settings.replace(b'"header"', b"[0, 0, 0]"))
+    single = with_one_record(nav)
+    for name, files in (("no code", [obs.replace(b"G18  20374092.016", b"G18              "), nav, there]),
+                        ("a range outside", [obs.replace(b"G18  20374092.016", b"G18  14374092.016"), nav, there]),
+                        ("no record", [obs, nav.replace(b"G18 2008", b"G19 2008"), there]),
+                        ("an ill record", [obs, field_of(single, 21, b"1"), there]),
+                        ("old records", [obs, nav, there.replace(b"max_age = 7200", b"max_age = 1")]),
+                        ("a field outside", [obs, field_of(single, 4, b"9D9"), there])):
+        yield f"zenith, the origin, {name}", files
+    header = settings.replace(b"half = 200000", b"half = 100000000")
+    for value in (b"[2000, 2500]", b"[-10000, 10000]", b"[-10000, -10000]", b"[0, 0]"):
+        yield f"zenith = {value}, half = 100 km", [obs, nav, mapped(header, value)]
+        yield f"zenith = {value}, half = 1 mm", [obs, nav, mapped(header.replace(b"100000000", b"1"), value)]

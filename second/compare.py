@@ -4,10 +4,10 @@
     compare.py --program PATH --data DIRECTORY [--draws NUMBER] [--seed NUMBER] [PART ..]
 
 The parts are recorded, records, rows, page, logs, cuts, selections, cases and drawn; without one all are run. An
-answer is the exit status with all that is printed. Two answers agree where they are the same. Where both say 53 on the
-same line, the four printed spans may differ, as each is of a program's own: then both own spans have to be at most W
-wide and to share a number. Where one alone says 53, the log's span has to lie so near to both own spans that it holds
-the one and not the other. Every other difference is printed whole.
+answer is the exit status with all that is printed. Two answers agree where they are the same. Where both say 53 on
+the same line, the printed spans may differ, as each is of a program's own: then both own spans have to be at most W
+wide, or G where they are of the bounds, and to share a number. Where one alone says 53, the log's span has to lie so
+near to both own spans that it holds the one and not the other. Every other difference is printed whole.
 """
 
 import argparse
@@ -63,7 +63,7 @@ class Tracing(recheck.Judge):
         self.own_rows = {}
 
     def own(self, row, satellite, used):
-        self.own_rows[self.number] = self.files.row(self.own_epoch, used), row
+        self.own_rows[self.number] = self.files.row(self.own_epoch, satellite, used), row
         super().own(row, satellite, used)
 
 
@@ -130,20 +130,26 @@ class Pair:
                    for answer, place in zip((theirs, own), places)]
         if line not in walker.own_rows:
             return "different", "recheck didn't come to that line"
-        row, fields = walker.own_rows[line]
-        logged = [tuple(fields[place:place + 2]) for place in (0, 2, 4, 6)]
+        own_spans, row = walker.own_rows[line]
+        logged = [tuple(span) for span, _ in zip(recheck.row_spans(row), own_spans)]
         notes = []
         for low, high, their_low, their_high in filter(None, numbers):
             if (low, high) not in logged:
                 return "different", "what 53 calls theirs isn't a span of the line"
-            mine = row[logged.index((low, high))]
-            share = max(mine[0], their_low) <= min(mine[1], their_high)
-            if not share or max(mine[1] - mine[0], their_high - their_low) > self.files.room:
-                return "different", f"own spans {mine} and {(their_low, their_high)}, W {self.files.room}"
+            place = logged.index((low, high))
+            mine, room = own_spans[place], self.files.rooms[place]
+            if not fits_own(mine, (their_low, their_high), room):
+                return "different", f"own spans {mine} and {(their_low, their_high)}, {'WG'[place > 3]} {room}"
             notes.append(f"log {low} {high} own {mine} printed {(their_low, their_high)}")
         if all(places) and places[0].group(1) == places[1].group(1):
             return "53 with other spans", ""
         return "53 of one alone", "; ".join(notes)
+
+
+def fits_own(mine, theirs, room):
+    """Whether two own spans share a number and are at most so wide."""
+    share = max(mine[0], theirs[0]) <= min(mine[1], theirs[1])
+    return share and max(mine[1] - mine[0], theirs[1] - theirs[0]) <= room
 
 
 def recorded(arguments, directory):
@@ -189,24 +195,29 @@ def own_rows(pair, log):
             used = dict(pair.files.satellites(epoch))
         elif word == b"sat":
             start = time.time()
-            row = pair.files.row(epoch, used[values[0]])
+            satellite, *logged = values
+            row = pair.files.row(epoch, satellite, used[satellite])
             spent += time.time() - start
             rows += 1
-            room = pair.files.room
-            for place, (low, high) in enumerate(row):
-                their_low, their_high = values[1 + 2 * place] + room, values[2 + 2 * place] - room
-                if max(low, their_low) > min(high, their_high) or max(high - low, their_high - their_low) > room:
-                    print(f"  different: own spans of epoch {epoch.index} satellite {values[0]}: {low} {high} and "
-                          f"{their_low} {their_high}, W {room}")
+            for place, (mine, (low, high)) in enumerate(zip(row, recheck.row_spans(logged))):
+                room = pair.files.rooms[place]
+                theirs = low + room, high - room
+                if not fits_own(mine, theirs, room):
+                    print(f"  different: own spans of epoch {epoch.index} satellite {satellite}: {mine} and "
+                          f"{theirs}, {'WG'[place > 3]} {room}")
     return rows, spent or 1.0
 
 
 NUMBER = re.compile(rb"-?[0-9]+")
 
 
-def log_changes(log, room, words=None):
-    """Systematic small changes of a log: (name, changed log). With `words` only of the lines with these first words."""
+def log_changes(log, rooms, words=None):
+    """Systematic small changes of a log: (name, changed log). With `words` only of the lines with these first words.
+
+    The steps of its numbers are 1, and each of `rooms` (W, and G where it isn't 0) and one more.
+    """
     lines = log.split(b"\n")[:-1]
+    steps = [1, -1] + [sign * (room + more) for room in filter(None, rooms) for more in (0, 1) for sign in (1, -1)]
 
     def joined(changed):
         return b"".join(line + b"\n" for line in changed)
@@ -240,7 +251,7 @@ def log_changes(log, room, words=None):
                 yield name + f"the word {word.decode()}", joined(before + [word + b" " + rest] + after)
         for match in NUMBER.finditer(line):
             value = int(match.group())
-            for step in (1, -1, room, -room, room + 1, -room - 1):
+            for step in steps:
                 new = line[:match.start()] + b"%d" % (value + step) + line[match.end():]
                 if line[match.start() - 1:match.start()] == b"G":
                     new = line[:match.start()] + b"%02d" % (value + step) + line[match.end():]
@@ -267,7 +278,8 @@ def logs(arguments, directory):
     inner = inner.replace(b"half = 200000", b"half = 20000")
     for name, contents in (("log of the example", (obs, nav, settings)),
                            ("log with `few` and `skip`", (mixed, nav, settings)),
-                           ("log with `in`", (mixed, nav, inner))):
+                           ("log with `in`", (mixed, nav, inner)),
+                           ("log with `zenith`", (obs, nav, with_zenith(settings)))):
         tally = Tally(f"changed: {name}")
         pair = Pair(arguments.program, directory)
         pair.write(contents)
@@ -276,7 +288,7 @@ def logs(arguments, directory):
             print("  different: no log of", name, answer)
             continue
         pair.own_answer(log)
-        for change, changed in log_changes(log, pair.files.room):
+        for change, changed in log_changes(log, (pair.files.room, pair.files.bound_room)):
             pair.compare(changed, tally, change)
             pair.compare(changed, tally, change, judge=True)
         tallies.append(tally)
@@ -320,11 +332,12 @@ def cuts(arguments, directory):
     pair.write(small_files(2))
     paving, _ = log_with_cuts(chance, pair.solve()[1])
     pair.own_answer(paving)
-    for change, changed in log_changes(paving, pair.files.room, (b"root", b"cut", b"split", b"out", b"edge", b"done")):
+    words = (b"root", b"cut", b"split", b"out", b"edge", b"done")
+    for change, changed in log_changes(paving, (pair.files.room,), words):
         for judge in (False, True):
             pair.compare(changed, small, f"paving of small files, {change}", judge)
     print("log of four satellites with `cut`: recheck says", pair.own_answer(cut_log(), True)[0])
-    for change, changed in log_changes(cut_log(), 10_000):
+    for change, changed in log_changes(cut_log(), (10_000,)):
         pair.compare(changed, small, change, judge=True)
     for path in sorted((arguments.data / "rows").glob("*.rows")):
         pair.run("pave", path, pair.log)
@@ -407,6 +420,11 @@ def small_files(bisections, epochs=1):
     return first_epochs(obs, epochs), nav, settings
 
 
+def with_zenith(settings, low=1900, high=2700):
+    """The settings with the troposphere mapped by elevation."""
+    return re.sub(rb"(?m)^troposphere = .*$", b"troposphere = [0, 0]\nzenith = [%d, %d]" % (low, high), settings)
+
+
 def bases(data):
     """The files that are changed: small pairs cut from the recorded ones."""
     rinex, two = data / "rinex", b"bisections = 8\n"
@@ -422,6 +440,7 @@ def bases(data):
          settings("cres_2008_single.toml")],
         [first_epochs((rinex / "javad_2011_crlf.obs").read_bytes(), 1), (rinex / "javad_2011_crlf.nav").read_bytes(),
          settings("javad_2011_single.toml")],
+        [*small_files(8)[:2], with_zenith(small_files(8)[2])],
     ]
 
 
@@ -519,6 +538,16 @@ def drawn(arguments, directory):
     return tallies
 
 
+def random_sure(chance, low, high):
+    """SLO and SHI of an error from low to high, as a list of one pair; of none where they aren't written."""
+    if chance.random() < 0.5:
+        return []
+    most = chance.choice((1, 1000, high - low, 2 * (high - low), 10**12))
+    sure = (min(10**12, low + chance.choice((0, chance.randint(0, most)))),
+            max(-10**12, high - chance.choice((0, chance.randint(0, most)))))
+    return [sure] if sure != (low, high) else []
+
+
 def random_rows(chance):
     """A rows text of one epoch: rows that nearly meet in a point of the box, with all sorts of widths."""
     outliers = chance.choice((0, 0, 1, 1, 2, 3, 8))
@@ -545,8 +574,9 @@ def random_rows(chance):
                  for middle in place + [measured]]
         ends = sorted((chance.randint(-bounds, bounds), chance.choice((bounds, 0, chance.randint(-bounds, bounds)))))
         ends = (-bounds, bounds) if symmetric else ends
-        lines.append(f"sat G{satellite:02d} " + " ".join(f"{a} {b}" for a, b in spans + [tuple(min(max(
-            end, -10**12), 10**12) for end in ends)]))
+        error = tuple(min(max(end, -10**12), 10**12) for end in ends)
+        sure = random_sure(chance, *error)
+        lines.append(f"sat G{satellite:02d} " + " ".join(f"{a} {b}" for a, b in spans + [error] + sure))
     lines.append("root " + " ".join(map(str, low + high)))
     return ("\n".join(lines) + "\n").encode()
 
@@ -670,6 +700,12 @@ troposphere = [0, 0]
     return obs, nav, settings.encode()
 
 
+def random_zenith(chance, settings):
+    """Settings of `random_files` with a span of the delay at the zenith, often at the ends of what is accepted."""
+    low, high = sorted(chance.choice((-10_000, 0, 10_000, chance.randint(-10_000, 10_000))) for _ in range(2))
+    return with_zenith(settings, low, high)
+
+
 def records(arguments, directory):
     """Records drawn from the whole range of each field, places and boxes from the whole range of the settings."""
     chance = random.Random(arguments.seed)
@@ -677,14 +713,16 @@ def records(arguments, directory):
     pair = Pair(arguments.program, directory)
     rows = 0
     for number in range(arguments.draws // 5):
-        pair.write(random_files(chance))
+        obs, nav, settings = random_files(chance)
+        pair.write((obs, nav, random_zenith(chance, settings) if number % 2 else settings))
         answer, log = pair.solve()
         if log is None:
             print("  different: no log of drawn records", number, answer, pair.own_answer(b"")[0])
             continue
         pair.compare(log, tally, f"drawn records {number}")
         rows += own_rows(pair, log)[0]
-    print("drawn records:", rows, "rows; own ones share numbers and are at most W wide but for what is printed above")
+    print("drawn records:", rows, "rows; own ones share numbers and are at most W or G wide but for what is printed "
+          "above")
     return tally
 
 

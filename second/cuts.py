@@ -69,7 +69,7 @@ def log_with_cuts(chance, log):
         if not paved:
             made.append(text)
         if word == b"sat":
-            rows.append([int(field) for field in fields[1:]])
+            rows.append(recheck.log_values(word, fields)[1:])
         if word == b"root":
             made += cut_paving(chance, rows, [int(field) for field in fields], rules)
             paved = True

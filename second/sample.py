@@ -5,7 +5,8 @@
 
 The equations are followed as they are printed, with whole numbers; where they leave a choice, one is drawn at random,
 or the least or the greatest is taken all the time. Each result has to lie in the own row of recheck.py, and in the
-own row of the program that made the log (its spans with W taken off at both ends).
+own row of the program that made the log (its spans with W taken off at both ends, those of the bounds with G). Where
+the settings have `bounds.zenith`, lo and hi are drawn too.
 """
 
 import random
@@ -19,6 +20,8 @@ U = 10**16
 H = 157079632679489661923
 EARTH = 729211514670000000
 LIGHT = 299792458
+RAISED = 100673949674228  # 1 / (1 - f)^2 of WGS 84, in 10^-14
+NAMES = ("x", "y", "z", "P", "lo", "hi")
 UNITS = {"af0": 10**16, "af1": 10**22, "af2": 10**28, "crs": 10**6, "dn": 10**22, "m0": U, "cuc": U, "e": U, "cus": U,
          "root_a": 10**12, "toe": 10**12, "cic": U, "om0": U, "cis": U, "i0": U, "crc": 10**6, "omega": U,
          "omdot": 10**22, "idot": 10**22, "tgd": 10**16}
@@ -91,8 +94,21 @@ class Drawer:
         return self.of(min(found), max(found))
 
 
-def allowed(draw, record, time, values, dual, point):
-    """One choice of X2, Y2, Z and P that the equations allow at a grid point."""
+def mapped(draw, place, point):
+    """One choice of mp that the equations allow of a turned place at a grid point."""
+    x, y, z = point
+    raised = draw.near(z * RAISED, 10**14)
+    length = isqrt(x * x + y * y + raised * raised)
+    up = [draw.near(part * U, length) for part in (x, y, raised)]
+    way = isqrt(sum((there - here) ** 2 for there, here in zip(place, point)))
+    line = [draw.near((there - here) * U, way) for there, here in zip(place, point)]
+    sine = draw.near(sum(a * b for a, b in zip(up, line)), U)
+    slant = isqrt(2001 * 10**26 + sine * sine)
+    return draw.near(1001 * U * U, 1000 * slant)
+
+
+def allowed(draw, record, time, values, dual, point, zenith=None, declared=(0, 0)):
+    """One choice of X2, Y2, Z and P that the equations allow at a grid point, and with a zenith span of lo and hi."""
     codes = [draw.of(*recheck.numbers_of(value, 10**6)) for value in values]
     measured = draw.near(5929 * codes[0] - 3600 * codes[1], 2329) if dual else codes[0]
     f = draw.fields(record.values)
@@ -141,7 +157,10 @@ def allowed(draw, record, time, values, dual, point):
         th = draw.near(EARTH * way, LIGHT * 10**12)
         ct, st = draw.cosine(th), draw.sine(th)
         seen = [draw.near(place[0] * ct + place[1] * st, U), draw.near(place[1] * ct - place[0] * st, U), place[2]]
-    return seen + [corrected]
+    if not zenith:
+        return seen + [corrected]
+    factor = mapped(draw, seen, point)
+    return seen + [corrected] + [end + draw.near(delay * factor, U) for end, delay in zip(declared, zenith)]
 
 
 def main():
@@ -158,18 +177,20 @@ def main():
             found.append((epoch, values, used[values[0]]))
     choose = random.Random(1)
     outside = [0, 0]
-    least, greatest = [0] * 4, [0] * 4
-    for epoch, values, (_, record, measured) in choose.sample(found, min(int(rows), len(found))):
-        row = files.row(epoch, ("sat", record, measured))
-        theirs = [(values[place] + files.room, values[place + 1] - files.room) for place in (1, 3, 5, 7)]
-        codes = dict(epoch.satellites)[values[0]]
+    names = NAMES if files.settings.zenith else NAMES[:4]
+    least, greatest = [0] * len(names), [0] * len(names)
+    for epoch, (satellite, *logged), used in choose.sample(found, min(int(rows), len(found))):
+        row = files.row(epoch, satellite, used)
+        theirs = [(low + room, high - room) for (low, high), room in zip(recheck.row_spans(logged), files.rooms)]
+        codes = dict(epoch.satellites)[satellite]
         for number in range(int(draws)):
             ways = ("low", "high", "any", "mixed")
             draw = Drawer(ways[number] if number < 4 else choose.choice(ways[2:]), number)
             side = choose.randrange(3)
             point = [draw.of(files.box[axis], files.box[axis + 3]) if side else
                      choose.choice((files.box[axis], files.box[axis + 3])) for axis in range(3)]
-            result = allowed(draw, record, epoch.time, codes, files.settings.dual, point)
+            result = allowed(draw, used[1], epoch.time, codes, files.settings.dual, point, files.settings.zenith,
+                             files.settings.bounds_of(satellite))
             for axis, value in enumerate(result):
                 middle = sum(row[axis])
                 least[axis] = min(least[axis], (2 * value - middle) // 2)
@@ -178,9 +199,9 @@ def main():
                     if not low <= value <= high:
                         outside[number_of] += 1
                         whose = ("own", "the program's")[number_of]
-                        print("outside of", whose, "row:", epoch.index, values[0], "xyzP"[axis], value, low, high)
+                        print("outside of", whose, "row:", epoch.index, satellite, names[axis], value, low, high)
     print("draws outside of own rows", outside[0], "of the program's", outside[1])
-    print("least and greatest distance of a draw from the own row's middle, um: x y z P", least, greatest)
+    print("least and greatest distance of a draw from the own row's middle, um:", *names, least, greatest)
 
 
 if __name__ == "__main__":

@@ -11,7 +11,7 @@ use Rattle.sat_model.specs.Boxes.{Side, GridBox, grid_box}
 use Rattle.sat_model.specs.ClockSpans.{clock_spans, IsClockHull}
 use Rattle.sat_model.specs.Contractors.{LiesIn}
 use Rattle.sat_model.specs.Fold.{ShownStep}
-use Rattle.sat_model.specs.Paved.{WaitingBox, IsUndecided, Closes}
+use Rattle.sat_model.specs.Waiting.{WaitingBox, IsUndecided, Closes}
 use Rattle.sat_model.specs.RowTrees.{row_tree}
 use Rattle.sat_model.specs.Trees.{TreeValue}
 use Rattle.sat_model.proofs.RelaxedExists.{relaxed_hull}

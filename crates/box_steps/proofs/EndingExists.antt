@@ -1,5 +1,5 @@
 -- Each box has a step that splits or closes it.
-use Rattle.std.proofs.Common.{◌≡◌, ℕ, zero, suc, ◌-◌, ◌<◌, ◌≤◌, arith, List, length, ◌⊎◌, inl, inr, refl, subst}
+use Rattle.std.proofs.Common.{◌≡◌, ℕ, zero, suc, ◌-◌, ◌<◌, arith, List, length, ◌⊎◌, inl, inr, refl, subst}
 use Rattle.std.specs.Prelude.{pos}
 use Rattle.std.proofs.lemmas.Int.{ints}
 use Rattle.std.proofs.lemmas.Bool.{cases_Bool, cases_lt}
@@ -11,7 +11,7 @@ use Rattle.sat_model.specs.declared.steps.Step.TheVariants.{Split, Outside, Insi
 use Rattle.sat_model.specs.Boxes.{GridBox, side_at}
 use Rattle.sat_model.specs.ClockSpans.{clock_spans, inner_spans}
 use Rattle.sat_model.specs.Lengths.{side_length, longest_length, IsLongestAxis}
-use Rattle.sat_model.specs.Paved.{IsUndecided, MaySplit, MayNotSplit, Closes}
+use Rattle.sat_model.specs.Waiting.{IsUndecided, MaySplit, MayNotSplit, Closes}
 use Rattle.sat_model.proofs.RelaxedExists.{least_relaxed, relaxed_hull}
 
 below_two : (P : ℕ → Type 0) → P 0 → P 1 → (k : ℕ) → k < 2 → P k

@@ -10,7 +10,7 @@ use Rattle.sat_model.specs.Boxes.{Side, GridBox, side_at, with_side}
 use Rattle.sat_model.specs.Contractors.{LiesIn}
 use Rattle.sat_model.specs.Fold.{ShownStep, axis_of, is_low, IsProperBound, side_left}
 use Rattle.sat_model.specs.Lengths.{side_length}
-use Rattle.sat_model.specs.Paved.{joined}
+use Rattle.sat_model.specs.Waiting.{joined}
 use Rattle.sat_model.specs.Sizes.{IsBoxSize}
 use Rattle.sat_model.proofs.SquareLemmas.{one_part}
 use Rattle.range_contractor.proofs.BoxLemmas.{lies_through}

@@ -5,7 +5,7 @@ use Rattle.sat_model.specs.declared.satellites.Row.{Row}
 use Rattle.sat_model.specs.declared.steps.Step.{Step}
 use Rattle.sat_model.specs.Boxes.{GridBox}
 use Rattle.sat_model.specs.Fold.{ShownStep}
-use Rattle.sat_model.specs.Paved.{joined}
+use Rattle.sat_model.specs.Waiting.{joined}
 use Rattle.box_steps.specs.Taken.{TookAll}
 use Rattle.box_steps.specs.declared.steps.StepFault.{StepFault}
 use Rattle.range_contractor.proofs.TreeExists.{IsGridPart}

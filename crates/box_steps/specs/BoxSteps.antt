@@ -6,7 +6,7 @@ use Rattle.sat_model.specs.declared.steps.Step.{Step}
 use Rattle.sat_model.specs.Boxes.{Side, GridBox}
 use Rattle.sat_model.specs.ClockSpans.{IsClockHull}
 use Rattle.sat_model.specs.Fold.{ShownStep}
-use Rattle.sat_model.specs.Paved.{WaitingBox, IsUndecided, Closes}
+use Rattle.sat_model.specs.Waiting.{WaitingBox, IsUndecided, Closes}
 use Rattle.sat_model.specs.Proposals.{IsProposal}
 use Rattle.sat_model.specs.RowTrees.{row_tree}
 use Rattle.sat_model.specs.Trees.{TreeValue}

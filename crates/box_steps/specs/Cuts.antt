@@ -9,7 +9,7 @@ use Rattle.sat_model.specs.Boxes.{Side, GridBox, side_at}
 use Rattle.sat_model.specs.ClockSpans.{IsShownEmpty}
 use Rattle.sat_model.specs.Fold.{ShownStep, axis_of, is_low, IsProperCut, left_by_cut, slab_of_cut}
 use Rattle.sat_model.specs.Lengths.{side_length}
-use Rattle.sat_model.specs.Paved.{joined}
+use Rattle.sat_model.specs.Waiting.{joined}
 use Rattle.sat_model.specs.TightFaces.{face_at}
 
 -- ---- bounds

@@ -3,7 +3,7 @@
 ghost use Rattle.std.specs.Prelude.{◌≡◌, List};
 ghost use Rattle.sat_model.specs.Boxes.{grid_box};
 ghost use Rattle.sat_model.specs.ClockSpans.{IsClockHull};
-ghost use Rattle.sat_model.specs.Paved.{Closes, IsUndecided};
+ghost use Rattle.sat_model.specs.Waiting.{Closes, IsUndecided};
 ghost use Rattle.sat_model.specs.declared.satellites.Row.{Row};
 ghost use Rattle.relaxed_meet.specs.BoxStates.{IsBoxState};
 

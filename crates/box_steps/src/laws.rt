@@ -4,7 +4,7 @@ ghost use Rattle.std.specs.Prelude.{ℕ, ◌<◌, ◌≤◌, ℤ, pos, ◌*ℤ�
 ghost use Rattle.sat_model.specs.Boxes.{GridBox, grid_box};
 ghost use Rattle.sat_model.specs.Contractors.{LiesIn};
 ghost use Rattle.sat_model.specs.Fold.{ShownStep};
-ghost use Rattle.sat_model.specs.Paved.{IsUndecided};
+ghost use Rattle.sat_model.specs.Waiting.{IsUndecided};
 ghost use Rattle.sat_model.specs.declared.boxes.Box3.{Box3};
 ghost use Rattle.sat_model.specs.declared.rules.Rules.{Rules};
 ghost use Rattle.sat_model.specs.declared.satellites.Row.{Row};

@@ -3,7 +3,7 @@
 ghost use Rattle.std.specs.Prelude.{◌≡◌, ◌<◌, ◌≤◌, length, IfOk, IfErr, Err};
 ghost use Rattle.sat_model.specs.Boxes.{grid_box};
 ghost use Rattle.sat_model.specs.ClockSpans.{IsClockHull};
-ghost use Rattle.sat_model.specs.Paved.{IsUndecided};
+ghost use Rattle.sat_model.specs.Waiting.{IsUndecided};
 ghost use Rattle.sat_model.specs.RowTrees.{row_tree};
 ghost use Rattle.range_contractor.specs.Views.{tree_value};
 ghost use Rattle.box_steps.specs.Taken.{Rose};

@@ -108,6 +108,12 @@ chain_distance el n t x y z o =
     let r = any_radius el n t x y z o in
     distance_by (o.radius *ℤ o.radius) ((x *ℤ x) +ℤ (y *ℤ y) +ℤ (z *ℤ z)) (product_between least_radius greatest_radius least_radius greatest_radius o.radius o.radius r r) (chain_keeps_radius el n t x y z o)
 
+wider_distance : (v : ℤ) → Between (pos space_low) (pos space_high) v → Between (pos (least_distance * least_distance)) (pos (greatest_distance * greatest_distance)) v
+wider_distance v b = record { from = omega (arith, ints, b.from); to = omega (arith, ints, b.to) }
+
+pub orbit_distance : (el : Elements) (n t x y z : ℤ) → OrbitChain el n t x y z → IsOrbitDistance x y z
+orbit_distance el n t x y z o = wider_distance ((x *ℤ x) +ℤ (y *ℤ y) +ℤ (z *ℤ z)) (chain_distance el n t x y z o)
+
 -- ---- what is near
 
 abbrev side : ℕ

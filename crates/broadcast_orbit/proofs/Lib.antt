@@ -5,3 +5,5 @@ pub mod PairLemmas
 pub mod TrueSquares
 pub mod Distances
 pub mod ChainDistance
+pub mod TurnKeeps
+pub mod FarPlaces

@@ -7,6 +7,8 @@ use Rattle.range_contractor.proofs.TreeExists.{IsGridPart}
 use Rattle.rinex_obs.specs.declared.obs.ObsEpoch.{ObsEpoch}
 use Rattle.sat_model.specs.Boxes.{GridBox, grid_box}
 use Rattle.sat_model.specs.Lengths.{spare_of}
+use Rattle.sat_model.specs.SearchBoxes.{IsSearchBox}
+use Rattle.sat_model.specs.Zenith.{err_spare_of}
 use Rattle.sat_model.specs.Logs.{Block}
 use Rattle.sat_model.specs.declared.boxes.Box3.{Box3}
 use Rattle.sat_model.specs.declared.rules.Rules.{Rules}
@@ -21,12 +23,12 @@ use Rattle.log_writer.specs.Texts.{IsWhole}
 use Rattle.log_writer.specs.Pavings.{HasRun, BodyPaves, AllPave}
 use Rattle.clear_boxes.proofs.RunLemmas.{run_clear}
 
-module _ (m : Meaning) (sound : IsSound m) (rules : Rules) (root : GridBox) (grid : IsGridPart root) where
-  run_of_block : (epoch : ObsEpoch) (own : List SatLine) (block : Block) → AreLinesOf m root epoch own → AreGrownLines (pos (spare_of root)) own block.sats → (paved : HasRun rules root block)
+module _ (m : Meaning) (sound : IsSound m) (rules : Rules) (root : GridBox) (box : IsSearchBox root) (grid : IsGridPart root) where
+  run_of_block : (epoch : ObsEpoch) (own : List SatLine) (block : Block) → AreLinesOf m root epoch own → AreGrownLines (pos (spare_of root)) (pos (err_spare_of root m.zenith)) own block.sats → (paved : HasRun rules root block)
       → NothingClearLeft m rules (search_in root epoch) block.done paved.shown
-  run_of_block epoch own block are grown paved = rw paved.done (run_clear m sound rules epoch root grid own block.sats are grown paved.shown paved.run)
+  run_of_block epoch own block are grown paved = rw paved.done (run_clear m sound rules epoch root box grid own block.sats are grown paved.shown paved.run)
 
-  body_clear : (epoch : ObsEpoch) (few : Bool) (own : List SatLine) (given block : Block) (theirs : Option GridBox) → AreLinesOf m root epoch own → HasBody few root own given → given.root ≡ theirs
+  body_clear : (epoch : ObsEpoch) (few : Bool) (own : List SatLine) (given block : Block) (theirs : Option GridBox) → AreLinesOf m root epoch own → HasBody m.zenith few root own given → given.root ≡ theirs
       → block.sats ≡ given.sats → BodyPaves rules block theirs → BodyLeavesNothingClear m rules (search_in root epoch) block theirs
   body_clear epoch few own given block None are body is sats paves = tt
   body_clear epoch true own given block (Some theirs) are body is sats paves = absurd (let none = sym is ∙ body.1 in cc)
@@ -48,8 +50,8 @@ module _ (m : Meaning) (sound : IsSound m) (rules : Rules) (root : GridBox) (gri
   )
 
 -- the whole log of a source of epochs
-pub whole_clear : (m : Meaning) (sound : IsSound m) (rules : Rules) (root : Box3) (epochs : List ObsEpoch) (limit : ℕ) (bytes said : List ℕ)
+pub whole_clear : (m : Meaning) (sound : IsSound m) (rules : Rules) (root : Box3) (box : IsSearchBox (grid_box root)) (epochs : List ObsEpoch) (limit : ℕ) (bytes said : List ℕ)
     (w : IsWhole (of_epochs m rules.outliers) rules (left_in (grid_box root) epochs) limit bytes said) → BlocksLeaveNothingClear m rules (searches_in (grid_box root) epochs) w.log.blocks
-whole_clear m sound rules root epochs limit bytes said w =
+whole_clear m sound rules root box epochs limit bytes said w =
     let (given, grown, pave) = whole_of m rules.outliers rules (left_in (grid_box root) epochs) w.log.blocks w.behind w.came w.no_more in
-    log_clear m sound rules (grid_box root) (grid_part root) epochs given w.log.blocks grown pave
+    log_clear m sound rules (grid_box root) box (grid_part root) epochs given w.log.blocks grown pave

@@ -17,8 +17,10 @@ use Rattle.sat_model.specs.ClockSpans.{IsShownEmpty}
 use Rattle.sat_model.specs.Contractors.{SideLiesIn, LiesIn}
 use Rattle.sat_model.specs.Fold.{ShownStep, axis_of, is_low, IsProperBound, IsProperCut, side_cut, left_by_cut, slab_of_cut}
 use Rattle.sat_model.specs.Lengths.{spare_of}
+use Rattle.sat_model.specs.SearchBoxes.{IsSearchBox}
+use Rattle.sat_model.specs.Zenith.{err_spare_of}
 use Rattle.sat_model.specs.Logs.{rows_of}
-use Rattle.sat_model.specs.Paved.{WaitingBox, Paving, first_paving, IsNext, IsUndecided, Closes, opened_by, splits_after, beyond_all, joined}
+use Rattle.sat_model.specs.Waiting.{WaitingBox, Paving, first_paving, IsNext, IsUndecided, Closes, opened_by, splits_after, beyond_all, joined}
 use Rattle.sat_model.specs.declared.rules.Rules.{Rules}
 use Rattle.sat_model.specs.declared.satellites.Row.{Row}
 use Rattle.sat_model.specs.declared.satellites.SatEntry.{SatEntry}
@@ -104,19 +106,19 @@ opened_lie root rows rules splits id part (Outside n) closes lies = tt
 opened_lie root rows rules splits id part (Inside n clock lo hi) closes lies = tt
 opened_lie root rows rules splits id part (Edge n lo hi) closes lies = tt
 
--- ---- the rows of a source, wider by W, over a root of the grid
+-- ---- the rows of a source, wider by W and G, over a root of the grid
 
-module _ (m : Meaning) (sound : IsSound m) (rules : Rules) (epoch : ObsEpoch) (root : GridBox) (grid : IsGridPart root)
-    (own_lines : List SatLine) (entries : List SatEntry) (are : AreLinesOf m root epoch own_lines) (grown : AreGrownLines (pos (spare_of root)) own_lines entries) where
+module _ (m : Meaning) (sound : IsSound m) (rules : Rules) (epoch : ObsEpoch) (root : GridBox) (search : IsSearchBox root) (grid : IsGridPart root)
+    (own_lines : List SatLine) (entries : List SatEntry) (are : AreLinesOf m root epoch own_lines) (grown : AreGrownLines (pos (spare_of root)) (pos (err_spare_of root m.zenith)) own_lines entries) where
   -- where a box isn't shown empty it isn't clearly so
   not_clearly_empty : (part : GridBox) → LiesIn part root → (IsShownEmpty (rows_of entries) part rules.outliers → ⊥) → IsClearlyEmpty m rules.outliers (search_in root epoch) part → ⊥
-  not_clearly_empty part lies not clear = not (empty_shown m sound epoch root part lies (margin_over root) (omega arith) rules.outliers own_lines entries are grown clear)
+  not_clearly_empty part lies not clear = not (empty_shown m sound epoch root search part lies (margin_over root m.zenith) (omega arith) rules.outliers own_lines entries are grown clear)
 
   unclear : (grain slack : ℤ) (box : WaitingBox) (cuts : List ShownStep) (left : GridBox) → AreCutsOf grain slack (rows_of entries) rules box cuts left → LiesIn left root
       → IsUndecided (rows_of entries) rules left → IsUnclear m rules (search_in root epoch) left
   unclear grain slack box cuts left are_cuts lies undecided = record {
     not_empty = not_clearly_empty left lies undecided.not_empty;
-    not_inner = λ clear. undecided.not_inner clear.offset (inner_shown m sound epoch root left lies (margin_over root) (omega arith) rules.outliers own_lines entries are grown clear);
+    not_inner = λ clear. undecided.not_inner clear.offset (inner_shown m sound epoch root search left lies (margin_over root m.zenith) (omega arith) rules.outliers own_lines entries are grown clear);
     no_eighth = λ face le some.
         let own = own_box left root lies in
         let proper = eighth_proper (is_low face) (side_at (axis_of face) left) (own (axis_of face)).ordered some in

@@ -1,7 +1,7 @@
 -- Boxes of which the true ranges make clear that nothing in them fits, or that all of it does: by a
 -- margin, since the rows that a paving works with are wider than what a source allows.
 use Rattle.std.specs.Prelude.{ℕ, zero, suc, ◌*◌, ◌≡◌, ◌⊎◌, ℤ, pos, ◌+ℤ◌, ◌-ℤ◌, ◌≤ℤ◌}
-use Rattle.std.specs.Prelude.{true, List, [], ◌∷◌, Some}
+use Rattle.std.specs.Prelude.{◌+◌, true, List, [], ◌∷◌, Option, Some}
 use Rattle.epoch_selection.specs.Searches.{Search}
 use Rattle.rinex_obs.specs.declared.obs.ObsEpoch.{ObsEpoch}
 use Rattle.rinex_obs.specs.declared.obs.SatObs.{SatObs}
@@ -9,16 +9,18 @@ use Rattle.sat_model.specs.Boxes.{Side, GridBox, box_holds}
 use Rattle.sat_model.specs.Intervals.{Between}
 use Rattle.sat_model.specs.Lengths.{spare_of}
 use Rattle.sat_model.specs.Trees.{IsIn}
+use Rattle.sat_model.specs.Zenith.{err_spare_of}
 use Rattle.sat_model.specs.declared.boxes.Pos.{Pos}
 use Rattle.sat_model.specs.declared.satellites.Skip.{Skip}
+use Rattle.sat_model.specs.declared.spans.Span.{Span}
 use Rattle.sat_rows.specs.Chains.{Chain}
 use Rattle.sat_rows.specs.Meanings.{Meaning}
 
--- for what a source says of the satellites of an epoch
-module _ (m : Meaning) (epoch : ObsEpoch) where
+-- for what a source says of the satellites of an epoch that is searched in a box
+module _ (m : Meaning) (root : GridBox) (epoch : ObsEpoch) where
   -- the satellite isn't usable, or the fact holds of it
   abbrev pub IfUsable : (SatObs → Type 0) → SatObs → Type 0
-  IfUsable Meets seen = ((skip : Skip) × m.judged epoch.tag seen (Some skip)) ⊎ Meets seen
+  IfUsable Meets seen = ((skip : Skip) × m.judged root epoch.tag seen (Some skip)) ⊎ Meets seen
 
   -- the fact holds of all usable satellites but at most q
   abbrev pub UsableBut : ℕ → (SatObs → Type 0) → List SatObs → Type 0
@@ -35,8 +37,8 @@ module _ (m : Meaning) (epoch : ObsEpoch) where
       pub holds : (p : Pos) (values : Chain) → box_holds part p ≡ true
           → m.allows epoch.tag seen p values → IsIn range (pos values.range)
 
-    -- some allowed pseudorange and one of these numbers as its range leave an error past the
-    -- declared bounds by no more than the margin
+    -- some allowed pseudorange and one of these numbers as its range leave an error past the ends
+    -- that are allowed with it by no more than the margin
     pub record IsNearlyConsistent (range : Side) (b : ℤ) (seen : SatObs) : Type 0 where
       pub at : Pos
       pub inside : box_holds part at ≡ true
@@ -44,14 +46,14 @@ module _ (m : Meaning) (epoch : ObsEpoch) where
       pub are : m.allows epoch.tag seen at values
       pub distance : ℤ
       pub in_range : IsIn range distance
-      pub within : Between ((m.declared seen.sat).0 -ℤ pos margin)
-          ((m.declared seen.sat).1 +ℤ pos margin) (values.corrected -ℤ distance -ℤ b)
+      pub within : Between (values.lo -ℤ pos margin) (values.hi +ℤ pos margin)
+          (values.corrected -ℤ distance -ℤ b)
 
-    -- whatever is allowed leaves an error within the declared bounds, off both by the margin
+    -- whatever is allowed leaves an error between its ends, off both by the margin
     abbrev pub IsSafelyConsistent : ℤ → SatObs → Type 0
     IsSafelyConsistent b seen = (p : Pos) (values : Chain) → box_holds part p ≡ true
         → m.allows epoch.tag seen p values
-        → Between ((m.declared seen.sat).0 +ℤ pos margin) ((m.declared seen.sat).1 -ℤ pos margin)
+        → Between (values.lo +ℤ pos margin) (values.hi -ℤ pos margin)
         (values.corrected -ℤ pos values.range -ℤ b)
 
     -- no clock offset has all usable satellites but at most q nearly consistent, for some ranges of
@@ -67,14 +69,16 @@ module _ (m : Meaning) (epoch : ObsEpoch) where
       pub offset : ℤ
       pub inside : UsableBut q (IsSafelyConsistent offset) epoch.sats.items
 
--- the margin over a search box: 12 W
-abbrev pub margin_over : GridBox → ℕ
-margin_over root = 12 * spare_of root
+-- the margin over a search box: 12 W and 4 G
+abbrev pub margin_over : GridBox → Option Span → ℕ
+margin_over root zenith = 12 * spare_of root + 4 * err_spare_of root zenith
 
 -- in a search, where up to q usable satellites may be inconsistent
 module _ (m : Meaning) (q : ℕ) (search : Search) where
   abbrev pub IsClearlyEmpty : GridBox → Type 0
-  IsClearlyEmpty part = IsEmptyBy m search.epoch part (margin_over search.root) q
+  IsClearlyEmpty part =
+      IsEmptyBy m search.root search.epoch part (margin_over search.root m.zenith) q
 
   abbrev pub IsClearlyInner : GridBox → Type 0
-  IsClearlyInner part = IsInnerBy m search.epoch part (margin_over search.root) q
+  IsClearlyInner part =
+      IsInnerBy m search.root search.epoch part (margin_over search.root m.zenith) q

@@ -1,6 +1,6 @@
 //! Laws of clear boxes.
 
-ghost use Rattle.std.specs.Prelude.{◌≡◌, ◌*◌, ◌≤◌, ℕ, List, pos};
+ghost use Rattle.std.specs.Prelude.{◌≡◌, ◌+◌, ◌*◌, ◌≤◌, ℕ, List, pos};
 ghost use Rattle.clear_boxes.specs.Clear.{IsEmptyBy, IsInnerBy};
 ghost use Rattle.clear_boxes.specs.Left.{BlocksLeaveNothingClear, NothingClearLeft};
 ghost use Rattle.epoch_rows.specs.Grown.{AreGrown, AreGrownLines};
@@ -14,6 +14,8 @@ ghost use Rattle.sat_model.specs.Contractors.{LiesIn};
 ghost use Rattle.sat_model.specs.Fold.{ShownStep};
 ghost use Rattle.sat_model.specs.Lengths.{spare_of};
 ghost use Rattle.sat_model.specs.Logs.{Block, rows_of};
+ghost use Rattle.sat_model.specs.SearchBoxes.{IsSearchBox};
+ghost use Rattle.sat_model.specs.Zenith.{err_spare_of};
 ghost use Rattle.sat_model.specs.declared.boxes.Box3.{Box3};
 ghost use Rattle.sat_model.specs.declared.rules.Rules.{Rules};
 ghost use Rattle.sat_model.specs.declared.satellites.SatEntry.{SatEntry};
@@ -22,20 +24,25 @@ ghost use Rattle.sat_rows.specs.declared.lines.SatLine.{SatLine};
 
 use sat_rows::RowSource;
 
-/// The law: the own rows of a source, wider by W at both ends, show a box empty or inner where the
-/// true ranges make it clear by 6 W. The box lies in the root. The call does nothing.
+/// The law: the own rows of a source, wider by W and G at both ends, show a box empty or inner where
+/// the true ranges and bounds make it clear by 6 W and 2 G. The box lies in the root. The call does
+/// nothing.
 pub fn clear_boxes_are_shown<S: RowSource>()
     ensures empty { (source : S) (epoch : ObsEpoch) (root part : GridBox) (margin q : ℕ)
         (own : List SatLine) (sats : List SatEntry)
-        → AreLinesOf (S.meaning source) root epoch own
-        → AreGrownLines (pos (spare_of root)) own sats → LiesIn part root
-        → 6 * spare_of root ≤ margin → IsEmptyBy (S.meaning source) epoch part margin q
+        → IsSearchBox root → AreLinesOf (S.meaning source) root epoch own
+        → AreGrownLines (pos (spare_of root)) (pos (err_spare_of root (S.meaning source).zenith))
+        own sats → LiesIn part root
+        → 6 * spare_of root + 2 * err_spare_of root (S.meaning source).zenith ≤ margin
+        → IsEmptyBy (S.meaning source) root epoch part margin q
         → IsShownEmpty (rows_of sats) part q }
     ensures inner { (source : S) (epoch : ObsEpoch) (root part : GridBox) (margin q : ℕ)
         (own : List SatLine) (sats : List SatEntry)
-        → AreLinesOf (S.meaning source) root epoch own
-        → AreGrownLines (pos (spare_of root)) own sats → LiesIn part root
-        → 6 * spare_of root ≤ margin → (clear : IsInnerBy (S.meaning source) epoch part margin q)
+        → IsSearchBox root → AreLinesOf (S.meaning source) root epoch own
+        → AreGrownLines (pos (spare_of root)) (pos (err_spare_of root (S.meaning source).zenith))
+        own sats → LiesIn part root
+        → 6 * spare_of root + 2 * err_spare_of root (S.meaning source).zenith ≤ margin
+        → (clear : IsInnerBy (S.meaning source) root epoch part margin q)
         → IsShownInner (rows_of sats) part q clear.offset }
 {}
 
@@ -44,8 +51,9 @@ pub fn clear_boxes_are_shown<S: RowSource>()
 pub fn runs_leave_nothing_clear<S: RowSource>()
     ensures { (source : S) (rules : Rules) (epoch : ObsEpoch) (root : Box3)
         (own : List SatLine) (sats : List SatEntry) (steps : List ShownStep)
-        → AreLinesOf (S.meaning source) (grid_box root) epoch own
-        → AreGrownLines (pos (spare_of (grid_box root))) own sats
+        → IsSearchBox (grid_box root) → AreLinesOf (S.meaning source) (grid_box root) epoch own
+        → AreGrownLines (pos (spare_of (grid_box root)))
+        (pos (err_spare_of (grid_box root) (S.meaning source).zenith)) own sats
         → (run : Paved (rows_of sats) rules (grid_box root) steps)
         → NothingClearLeft (S.meaning source) rules (search_in (grid_box root) epoch)
         run.last.splits steps }
@@ -56,6 +64,7 @@ pub fn runs_leave_nothing_clear<S: RowSource>()
 pub fn logs_leave_nothing_clear<S: RowSource>()
     ensures { (source : S) (rules : Rules) (root : Box3) (epochs : List ObsEpoch)
         (given blocks : List Block)
+        → IsSearchBox (grid_box root)
         → AreGrown (S.meaning source) rules.outliers (searches_in (grid_box root) epochs) given
         → AllPave rules given blocks
         → BlocksLeaveNothingClear (S.meaning source) rules (searches_in (grid_box root) epochs)

@@ -13,7 +13,7 @@ use Rattle.sat_model.proofs.RootLemmas.{square-mono}
 use Rattle.sat_model.proofs.ProductLemmas.{square_of_amount}
 use Rattle.code_search.specs.SearchSizes.{IsNearPoint, farthest_range, greatest_offset}
 use Rattle.code_search.proofs.SquareLemmas.{side_most, range_most}
-use Rattle.code_search.proofs.TurnKeeps.{turned_low, turned_high}
+use Rattle.broadcast_orbit.proofs.TurnKeeps.{turned_low, turned_high}
 
 pub corrected_most : (p dt v : ℤ) → IsWithin correction_size dt → IsCorrected p dt v → v ≤ℤ (p +ℤ pos greatest_offset)
 corrected_most p dt v k near = omega (arith, ints, k.high, near.below, near.above)

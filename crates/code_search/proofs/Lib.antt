@@ -1,5 +1,4 @@
 pub mod SquareLemmas
-pub mod TurnKeeps
 pub mod EndLemmas
 pub mod ResidualExists
 pub mod ResidualLemmas

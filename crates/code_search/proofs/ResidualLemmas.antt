@@ -4,7 +4,7 @@ use Rattle.std.specs.Prelude.{ℤ, pos, ◌+ℤ◌, ◌-ℤ◌, ◌≤ℤ◌}
 use Rattle.std.proofs.lemmas.Int.{ints}
 use Rattle.broadcast_orbit.specs.OrbitSizes.{greatest_distance, IsOrbitDistance}
 use Rattle.broadcast_orbit.proofs.PairLemmas.{square_natural, side_within}
-use Rattle.earth_rotation.specs.Places.{PlaceEnds}
+use Rattle.fix_interval.specs.Places.{PlaceEnds}
 use Rattle.earth_rotation.specs.RoundSizes.{turned_reach, range_amount, range_width}
 use Rattle.earth_rotation.specs.TurnSizes.{near_reach, narrow_width, reach_after}
 use Rattle.fix_interval.specs.declared.place.Place.{Place}

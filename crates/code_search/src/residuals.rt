@@ -2,7 +2,7 @@
 
 ghost use Rattle.std.specs.Prelude.{ℕ, ◌≡◌, ◌+◌, ◌*◌, ◌^◌, ◌≤◌, ℤ, pos, ◌+ℤ◌, ◌-ℤ◌, ◌≤ℤ◌, ◌<ℤ◌, true};
 ghost use Rattle.broadcast_orbit.specs.OrbitSizes.{time_width, IsOrbitDistance};
-ghost use Rattle.earth_rotation.specs.Places.{HoldsPlace, PlaceEnds, PlaceAmount};
+ghost use Rattle.fix_interval.specs.Places.{HoldsPlace, PlaceEnds, PlaceAmount};
 ghost use Rattle.earth_rotation.specs.RoundSizes.{turned_reach, range_amount};
 ghost use Rattle.earth_rotation.specs.TurnSizes.{near_reach, narrow_width, reach_after};
 ghost use Rattle.fix_interval.specs.Factors.{Holds, HasEnds};

@@ -3,6 +3,8 @@ use Rattle.std.proofs.Common.{◌≡◌, ℕ, List, Option, None, Some, sym, sub
 use Rattle.epoch_selection.specs.Searches.{searches_in}
 use Rattle.epoch_selection.specs.declared.selection.Selection.{Selection}
 use Rattle.error_bounds.specs.Reading.{IsRoot}
+use Rattle.input_files.specs.Inputs.{inputs_value}
+use Rattle.input_files.specs.declared.inputs.Inputs.{Inputs}
 use Rattle.paving_log.proofs.LogLemmas.{one_spelled, log_spelling}
 use Rattle.paving_log.specs.Text.{IsLogText}
 use Rattle.paving_log.specs.declared.line.Form.TheVariants as form
@@ -13,9 +15,7 @@ use Rattle.sat_model.specs.Logs.{LogValue}
 use Rattle.sat_model.specs.declared.boxes.Pos.{Pos}
 use Rattle.cover_run.proofs.SameInputs.{root_there, own_there, admits_there}
 use Rattle.cover_run.specs.Checking.{Refuses}
-use Rattle.cover_run.specs.Inputs.{inputs_value}
 use Rattle.cover_run.specs.Solving.{IsSolved, epochs_of, meaning_of}
-use Rattle.cover_run.specs.declared.inputs.Inputs.{Inputs}
 
 -- the search box is one
 one_root : (centre : Option Pos) (half : Pos) (a b : GridBox)
@@ -42,8 +42,10 @@ not_refused chosen i j limit bytes said log fault same solved text refused =
     let here = admits_there i j same solved.root chosen r.owns whole.log admits in
     r.refused (subst
     (λ (l : LogValue).
-    Admits (searches_in refused.root (epochs_of chosen j)) r.owns j.settings.rules l) is_log
+    Admits j.settings.zenith (searches_in refused.root (epochs_of chosen j)) r.owns
+    j.settings.rules l) is_log
     (subst
     (λ (root : GridBox).
-    Admits (searches_in root (epochs_of chosen j)) r.owns j.settings.rules whole.log)
+    Admits j.settings.zenith (searches_in root (epochs_of chosen j)) r.owns j.settings.rules
+    whole.log)
     (sym box) here))

@@ -6,6 +6,18 @@ use Rattle.std.specs.Prelude.{◌≢◌}
 use Rattle.std.specs.FinMap as map
 use Rattle.std.specs.Option.{option_map}
 use Rattle.command_words.specs.Commands as words
+use Rattle.input_files.proofs.GrammarLemmas.{no_first}
+use Rattle.input_files.specs.Inputs.{InputsValue, ReadsInputs, inputs_value, nav_text, obs_text}
+use Rattle.input_files.specs.Inputs.{settings_text, wants_position}
+use Rattle.input_files.specs.Logs.{log_text}
+use Rattle.input_files.specs.Reading.{IsBrokenOff, MayBreak, NeverBreaks, ReadsFile, Settles, Text}
+use Rattle.input_files.specs.Reading.{file_in, limit_of, valued}
+use Rattle.input_files.specs.Statuses.{status_of}
+use Rattle.input_files.specs.declared.inputs.Inputs.{Inputs}
+use Rattle.input_files.specs.declared.limits.Limits.{Limits}
+use Rattle.input_files.specs.declared.notice.Notice.{Notice}
+use Rattle.input_files.specs.declared.status.Status.{Status}
+use Rattle.input_files.specs.declared.status.Status.TheVariants as status
 use Rattle.log_writer.specs.Writing.{Trust}
 use Rattle.outer_io.proofs.Covering.{get-other, get-log}
 use Rattle.outer_io.specs.Told.{Files, files_of}
@@ -17,30 +29,18 @@ use Rattle.paving_log.specs.Values.{log_value}
 use Rattle.paving_log_check.specs.declared.verdict.Fault.{Fault}
 use Rattle.sat_model.specs.Logs.{LogValue}
 use Rattle.cover_run.proofs.AcceptLemmas.{not_refused}
-use Rattle.cover_run.proofs.GrammarLemmas.{no_first}
 use Rattle.cover_run.proofs.RunLemmas.{stopped_not_done}
 use Rattle.cover_run.proofs.TaskLemmas.{checked_fair}
 use Rattle.cover_run.specs.Accepting.{AreApart, SolvesThenChecks}
 use Rattle.cover_run.specs.Chosen.{chosen_in}
 use Rattle.cover_run.specs.Checking.{CheckedValue, ReadsChecked, Refuses, SaysAccepted}
 use Rattle.cover_run.specs.Checking.{SaysRefused, checked_value}
-use Rattle.cover_run.specs.Inputs.{InputsValue, ReadsInputs, inputs_value, nav_text, obs_text}
-use Rattle.cover_run.specs.Inputs.{settings_text, wants_position}
-use Rattle.cover_run.specs.Logs.{log_text}
-use Rattle.cover_run.specs.Reading.{IsBrokenOff, MayBreak, NeverBreaks, ReadsFile, Settles, Text}
-use Rattle.cover_run.specs.Reading.{file_in, limit_of, valued}
 use Rattle.cover_run.specs.Runs.{Ends, checking, solving}
 use Rattle.cover_run.specs.Solving.{IsSolved, IsSolution, Solves}
-use Rattle.cover_run.specs.Statuses.{status_of}
 use Rattle.cover_run.specs.Telling.{Tells, sinks}
 use Rattle.cover_run.specs.Worlds.{World}
 use Rattle.cover_run.specs.Writing.{Answer, status_of_writing}
 use Rattle.cover_run.specs.declared.checked.Checked.{Checked}
-use Rattle.cover_run.specs.declared.inputs.Inputs.{Inputs}
-use Rattle.cover_run.specs.declared.limits.Limits.{Limits}
-use Rattle.cover_run.specs.declared.notice.Notice.{Notice}
-use Rattle.cover_run.specs.declared.status.Status.{Status}
-use Rattle.cover_run.specs.declared.status.Status.TheVariants as status
 use Rattle.log_writer.specs.declared.fault.WriteFault.TheVariants as why
 
 -- ---- the files behind the log

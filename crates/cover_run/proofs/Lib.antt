@@ -1,8 +1,3 @@
-pub mod ShownLemmas
-pub mod PositionLemmas
-pub mod FileReads
-pub mod ReadingLemmas
-pub mod GrammarLemmas
 pub mod RunLemmas
 pub mod TellingLemmas
 pub mod WritingLemmas

@@ -6,6 +6,13 @@ use Rattle.std.proofs.lemmas.List.{length-map}
 use Rattle.error_bounds.specs.Reading.{value_of_settings}
 use Rattle.error_bounds.specs.Texts.{SettingsValue}
 use Rattle.error_bounds.specs.declared.settings.Settings.{Settings}
+use Rattle.input_files.specs.Inputs.{wants_position}
+use Rattle.input_files.specs.Reading.{Text, Gives, GivesOrEnds, IsBrokenOff, Settles, valued}
+use Rattle.input_files.specs.Statuses.{status_of}
+use Rattle.input_files.specs.declared.notice.Notice.{Notice}
+use Rattle.input_files.specs.declared.notice.Notice.TheVariants as notice
+use Rattle.input_files.specs.declared.status.Status.{Status}
+use Rattle.input_files.specs.declared.status.Status.TheVariants as status
 use Rattle.made_input.proofs.EpochLemmas.{all_can_be_written}
 use Rattle.made_input.specs.MadeCodes.{centre_x, centre_y, centre_z}
 use Rattle.made_input.specs.MadeInput.{IsMade}
@@ -19,13 +26,6 @@ use Rattle.made_texts.specs.SettingsText.{settings_of}
 use Rattle.rinex_obs.specs.Files.{IsObsFile, Observations}
 use Rattle.sat_model.specs.declared.satellites.Signal.{Signal}
 use Rattle.sat_model.specs.declared.satellites.Signal.TheVariants.{Single}
-use Rattle.cover_run.specs.Inputs.{wants_position}
-use Rattle.cover_run.specs.Reading.{Text, Gives, GivesOrEnds, IsBrokenOff, Settles, valued}
-use Rattle.cover_run.specs.Statuses.{status_of}
-use Rattle.cover_run.specs.declared.notice.Notice.{Notice}
-use Rattle.cover_run.specs.declared.notice.Notice.TheVariants as notice
-use Rattle.cover_run.specs.declared.status.Status.{Status}
-use Rattle.cover_run.specs.declared.status.Status.TheVariants as status
 
 -- ---- a text without a fault
 

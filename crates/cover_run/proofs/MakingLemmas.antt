@@ -5,6 +5,11 @@ use Rattle.std.specs.Prelude.{◌≢◌, Result, IfOk, IfErr, None, [], unwrap_o
 use Rattle.std.specs.FinMap as map
 use Rattle.std.specs.Option.{option_map}
 use Rattle.epoch_selection.specs.Selections.{all_epochs}
+use Rattle.input_files.specs.Statuses.{status_of}
+use Rattle.input_files.specs.declared.inputs.Inputs.{Inputs}
+use Rattle.input_files.specs.declared.notice.Notice.{Notice}
+use Rattle.input_files.specs.declared.status.Status.{Status}
+use Rattle.input_files.specs.declared.status.Status.TheVariants as status
 use Rattle.log_writer.specs.Sizes.{HasRoom, most_bytes}
 use Rattle.log_writer.specs.Writing.{Trust}
 use Rattle.log_writer.specs.declared.fault.WriteFault.TheVariants as why
@@ -17,14 +22,9 @@ use Rattle.sat_model.specs.Verdicts.{Judged}
 use Rattle.cover_run.specs.Making.{AreMade, FillsMade, IsCutOff, IsFull, IsSolvedAs, Makes}
 use Rattle.cover_run.specs.Making.{SolvesMade, made_text}
 use Rattle.cover_run.specs.Solving.{IsSolution, IsSolved, Solution, epochs_of}
-use Rattle.cover_run.specs.Statuses.{status_of}
 use Rattle.cover_run.specs.Telling.{Sinks, TellsLine}
 use Rattle.cover_run.specs.Worlds.{World, Says}
 use Rattle.cover_run.specs.Writing.{Answer, status_of_writing}
-use Rattle.cover_run.specs.declared.inputs.Inputs.{Inputs}
-use Rattle.cover_run.specs.declared.notice.Notice.{Notice}
-use Rattle.cover_run.specs.declared.status.Status.{Status}
-use Rattle.cover_run.specs.declared.status.Status.TheVariants as status
 
 -- ---- the log in memory
 

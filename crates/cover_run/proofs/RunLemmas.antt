@@ -1,15 +1,15 @@
 -- How a run ends, by what was read.
 use Rattle.std.proofs.Common.{◌≡◌, ◌⊎◌, Result, Ok, Err, inl, inr, sym, subst, ◌∙◌}
 use Rattle.std.specs.Prelude.{◌≢◌}
+use Rattle.input_files.specs.Reading.{IsBrokenOff, Found, IsOfReading, OnlyReads}
+use Rattle.input_files.specs.Reading.{Settles}
+use Rattle.input_files.specs.Statuses.{status_of}
+use Rattle.input_files.specs.declared.notice.Notice.{Notice}
+use Rattle.input_files.specs.declared.status.Status.{Status}
+use Rattle.input_files.specs.declared.status.Status.TheVariants as status
 use Rattle.log_writer.specs.Writing.{Trust}
-use Rattle.cover_run.specs.Reading.{IsBrokenOff, Found, IsOfReading, OnlyReads}
-use Rattle.cover_run.specs.Reading.{Settles}
 use Rattle.cover_run.specs.Runs.{Task, RunOf, Fits}
-use Rattle.cover_run.specs.Statuses.{status_of}
 use Rattle.cover_run.specs.Worlds.{World, Says}
-use Rattle.cover_run.specs.declared.notice.Notice.{Notice}
-use Rattle.cover_run.specs.declared.status.Status.{Status}
-use Rattle.cover_run.specs.declared.status.Status.TheVariants as status
 
 not_broken : (s : Status) → IsBrokenOff s → s ≢ status.Usage
 not_broken s (inl e) usage = cc

@@ -4,6 +4,7 @@ use Rattle.std.proofs.Common.{refl, sym, ap, subst, ◌∙◌}
 use Rattle.std.proofs.lemmas.Bool.{cases_Bool}
 use Rattle.std.specs.Prelude.{ℤ, pos, ◌≤ℤ◌, ◌<ℤ◌, nat_le, ◌&&◌}
 use Rattle.std.specs.List.{filter}
+use Rattle.std.specs.Option.{option_map}
 use Rattle.std.proofs.Math.Dec.{T_prop}
 use mathlib.Core.HLevel.{is_prop→PathP}
 use Rattle.epoch_selection.specs.Searches.{searches_in}
@@ -11,6 +12,8 @@ use Rattle.epoch_selection.specs.Selections.{is_selected, selected}
 use Rattle.epoch_selection.specs.declared.selection.Selection.{Selection}
 use Rattle.error_bounds.specs.Reading.{bound_for, centre_with, IsRoot, value_of_settings}
 use Rattle.error_bounds.specs.Texts.{SettingsValue}
+use Rattle.input_files.specs.Inputs.{InputsValue, inputs_value}
+use Rattle.input_files.specs.declared.inputs.Inputs.{Inputs}
 use Rattle.paving_log.proofs.ValueLemmas.{same_rules}
 use Rattle.paving_log_check.specs.Admissible.{Admits, AdmitsFrom, AreOwn, IsDue, IsOf}
 use Rattle.rinex_nav.specs.Reading.{plain_record, records_of}
@@ -22,15 +25,15 @@ use Rattle.rinex_obs.specs.declared.obs.ObsEpoch.{ObsEpoch}
 use Rattle.rinex_obs.specs.declared.obs.SatObs.{SatObs}
 use Rattle.sat_model.specs.Boxes.{GridBox}
 use Rattle.sat_model.specs.Logs.{Block, LogValue}
+use Rattle.sat_model.specs.Relaxed.{ends}
 use Rattle.sat_model.specs.declared.rules.Rules.{Rules}
+use Rattle.sat_model.specs.declared.spans.Span.{Span}
 use Rattle.sat_rows.specs.Chains.{IsChainAt}
 use Rattle.sat_rows.specs.Meanings.{Meaning}
 use Rattle.sat_rows.specs.OwnRows.{AreOwnLines}
 use Rattle.sat_rows.specs.declared.lines.SatLine.{SatLine}
 use Rattle.usable_sats.specs.Usability.{Sighting, IsJudged}
-use Rattle.cover_run.specs.Inputs.{InputsValue, inputs_value}
 use Rattle.cover_run.specs.Solving.{IsRootOf, epochs_of, meaning_of}
-use Rattle.cover_run.specs.declared.inputs.Inputs.{Inputs}
 
 -- ---- values with proofs in them
 
@@ -68,6 +71,23 @@ same_records (a ∷ xs) (b ∷ ys) e =
     let both = cons (plain_record a) (plain_record b) (records_of xs) (records_of ys) e in
     ap (λ (r : NavRecord). r ∷ xs) (same_record a b both.head)
     ∙ ap (λ (rs : List NavRecord). b ∷ rs) (same_records xs ys both.tail)
+
+same_span : (a b : Span) → ends a ≡ ends b → a ≡ b
+same_span a b e =
+    let lo : a.lo ≡ b.lo = ap (λ (p : ℤ × ℤ). p.0) e in
+    let hi : a.hi ≡ b.hi = ap (λ (p : ℤ × ℤ). p.1) e in λ i. record {
+      lo = lo i;
+      hi = hi i;
+      ordered = is_prop→PathP (λ j. lo j ≤ℤ hi j) (λ j. from_prop (lo j) (hi j)) a.ordered
+          b.ordered i;
+    }
+
+same_spans : (a b : Option Span) → option_map ends a ≡ option_map ends b → a ≡ b
+same_spans None None e = refl
+same_spans None (Some b) e = cc
+same_spans (Some a) None e = cc
+same_spans (Some a) (Some b) e =
+    let both : ends a ≡ ends b = cc in ap (λ (s : Span). Some s) (same_span a b both)
 
 -- ---- epochs
 
@@ -129,19 +149,20 @@ module _ (root : GridBox) where
   due_same rules before (a ∷ xs) (b ∷ ys) (block ∷ blocks) e due =
       of_same rules before a b block (heads a b xs ys e).head due
 
-  admits_same : (rules : Rules) (before : Option ℕ) (owns : List (List SatLine))
-      (xs ys : List ObsEpoch) (blocks : List Block) → plain_epochs xs ≡ plain_epochs ys
-      → AdmitsFrom rules before owns (searches_in root xs) blocks
-      → AdmitsFrom rules before owns (searches_in root ys) blocks
-  admits_same rules before [] xs ys blocks e admits = due_same rules before xs ys blocks e admits
-  admits_same rules before (own ∷ owns) [] ys blocks e admits = absurd admits
-  admits_same rules before (own ∷ owns) (a ∷ xs) [] blocks e admits = cc
-  admits_same rules before (own ∷ owns) (a ∷ xs) (b ∷ ys) [] e admits = absurd admits
-  admits_same rules before (own ∷ owns) (a ∷ xs) (b ∷ ys) (block ∷ blocks) e admits =
+  admits_same : (zenith : Option Span) (rules : Rules) (before : Option ℕ)
+      (owns : List (List SatLine)) (xs ys : List ObsEpoch) (blocks : List Block)
+      → plain_epochs xs ≡ plain_epochs ys
+      → AdmitsFrom zenith rules before owns (searches_in root xs) blocks
+      → AdmitsFrom zenith rules before owns (searches_in root ys) blocks
+  admits_same zenith rules before [] xs ys blocks e admits = due_same rules before xs ys blocks e admits
+  admits_same zenith rules before (own ∷ owns) [] ys blocks e admits = absurd admits
+  admits_same zenith rules before (own ∷ owns) (a ∷ xs) [] blocks e admits = cc
+  admits_same zenith rules before (own ∷ owns) (a ∷ xs) (b ∷ ys) [] e admits = absurd admits
+  admits_same zenith rules before (own ∷ owns) (a ∷ xs) (b ∷ ys) (block ∷ blocks) e admits =
       let both = heads a b xs ys e in (
         of_same rules before a b block both.head admits.0,
         admits.1,
-        admits_same rules (Some block.index) owns xs ys blocks both.tail admits.2,
+        admits_same zenith rules (Some block.index) owns xs ys blocks both.tail admits.2,
       )
 
 -- ---- inputs
@@ -156,16 +177,21 @@ sighting_by records v tag seen = record {
   seen = seen;
 }
 
-abbrev meaning_by : List NavRecord → SettingsValue → Meaning
-meaning_by records v = record {
-  judged = λ tag seen. IsJudged (sighting_by records v tag seen);
-  allows = λ tag seen. IsChainAt (sighting_by records v tag seen);
+abbrev meaning_by : List NavRecord → SettingsValue → Option Span → Meaning
+meaning_by records v zenith = record {
+  judged = λ root tag seen. IsJudged zenith root (sighting_by records v tag seen);
+  allows = λ tag seen. IsChainAt (sighting_by records v tag seen) zenith (bound_for seen.sat v);
   declared = λ sat. bound_for sat v;
+  zenith = zenith;
 }
 
 module _ (i j : Inputs) (same : inputs_value i ≡ inputs_value j) (root : GridBox) where
   settings_same : value_of_settings i.settings ≡ value_of_settings j.settings
   settings_same = ap (λ (v : InputsValue). v.settings) same
+
+  zenith_same : i.settings.zenith ≡ j.settings.zenith
+  zenith_same = same_spans i.settings.zenith j.settings.zenith
+      (ap (λ (v : SettingsValue). v.zenith) settings_same)
 
   epochs_same : (chosen : Selection)
       → plain_epochs (epochs_of chosen i) ≡ plain_epochs (epochs_of chosen j)
@@ -177,8 +203,10 @@ module _ (i j : Inputs) (same : inputs_value i ≡ inputs_value j) (root : GridB
       (λ (v : InputsValue).
       IsRoot (centre_with v.obs.position v.settings.centre) v.settings.half root) (sym same) is
 
-  abbrev OwnBy : List NavRecord → SettingsValue → List ObsEpoch → List (List SatLine) → Type 0
-  OwnBy records v epochs owns = AreOwn (meaning_by records v) (searches_in root epochs) owns
+  abbrev OwnBy : List NavRecord → SettingsValue → Option Span → List ObsEpoch
+      → List (List SatLine) → Type 0
+  OwnBy records v zenith epochs owns =
+      AreOwn (meaning_by records v zenith) (searches_in root epochs) owns
 
   pub own_there : (chosen : Selection) (owns : List (List SatLine))
       → AreOwn (meaning_of j) (searches_in root (epochs_of chosen j)) owns
@@ -186,22 +214,30 @@ module _ (i j : Inputs) (same : inputs_value i ≡ inputs_value j) (root : GridB
   own_there chosen owns are =
       let epochs = epochs_of chosen j in
       let w = value_of_settings j.settings in
+      let above = j.settings.zenith in
       let nav = same_records i.nav j.nav (ap (λ (v : InputsValue). v.nav) same) in
-      let here = subst (λ (records : List NavRecord). OwnBy records w epochs owns) (sym nav) are in
-      let by = subst (λ (v : SettingsValue). OwnBy i.nav v epochs owns) (sym settings_same) here in
-      own_same root (meaning_of i) epochs (epochs_of chosen i) owns (sym (epochs_same chosen)) by
+      let here = subst (λ (records : List NavRecord). OwnBy records w above epochs owns) (sym nav)
+      are in
+      let by = subst (λ (v : SettingsValue). OwnBy i.nav v above epochs owns) (sym settings_same)
+      here in
+      let under = subst (λ (z : Option Span).
+      OwnBy i.nav (value_of_settings i.settings) z epochs owns) (sym zenith_same) by in
+      own_same root (meaning_of i) epochs (epochs_of chosen i) owns (sym (epochs_same chosen)) under
 
   pub admits_there : (chosen : Selection) (owns : List (List SatLine)) (log : LogValue)
-      → Admits (searches_in root (epochs_of chosen i)) owns i.settings.rules log
-      → Admits (searches_in root (epochs_of chosen j)) owns j.settings.rules log
+      → Admits i.settings.zenith (searches_in root (epochs_of chosen i)) owns i.settings.rules log
+      → Admits j.settings.zenith (searches_in root (epochs_of chosen j)) owns j.settings.rules log
   admits_there chosen owns log admits =
       let rules = same_rules i.settings.rules j.settings.rules
       (ap (λ (v : SettingsValue). v.outliers) settings_same)
       (ap (λ (v : SettingsValue). v.bisections) settings_same)
       (ap (λ (v : SettingsValue). v.width) settings_same) in
       subst (λ (r : Rules).
-      Admits (searches_in root (epochs_of chosen j)) owns r log) rules (record {
+      Admits j.settings.zenith (searches_in root (epochs_of chosen j)) owns r log) rules
+      (subst (λ (z : Option Span).
+      Admits z (searches_in root (epochs_of chosen j)) owns i.settings.rules log) zenith_same
+      (record {
         same_rules = admits.same_rules;
-        blocks = admits_same root i.settings.rules None owns (epochs_of chosen i)
+        blocks = admits_same root i.settings.zenith i.settings.rules None owns (epochs_of chosen i)
             (epochs_of chosen j) log.blocks (epochs_same chosen) admits.blocks;
-      })
+      }))

@@ -1,13 +1,13 @@
 -- How a verdict that was printed is told.
 use Rattle.std.proofs.Common.{◌⊎◌, ℕ, List, inl, inr, refl, sym, subst}
 use Rattle.std.specs.Prelude.{◌≢◌}
+use Rattle.input_files.specs.Reading.{IsBrokenOff}
+use Rattle.input_files.specs.declared.status.Status.{Status}
+use Rattle.input_files.specs.declared.status.Status.TheVariants as status
 use Rattle.sat_model.specs.Logs.{LogValue}
-use Rattle.cover_run.specs.Logs.{IsJudgedAs, SaysJudged, SaysFault}
-use Rattle.cover_run.specs.Reading.{IsBrokenOff}
+use Rattle.cover_run.specs.Judging.{IsJudgedAs, SaysJudged, SaysFault}
 use Rattle.cover_run.specs.Runs.{IsVerdict}
 use Rattle.cover_run.specs.Telling.{Sinks, Tells, TellsLine}
-use Rattle.cover_run.specs.declared.status.Status.{Status}
-use Rattle.cover_run.specs.declared.status.Status.TheVariants as status
 
 module _ (Yes No : List ℕ → Type 0) (before after : Sinks) (reliable : Type 0) where
   abbrev Told : Status → Type 0

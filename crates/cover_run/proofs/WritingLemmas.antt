@@ -5,6 +5,10 @@ use Rattle.std.proofs.Common.{subst, ◌∙◌, arith}
 use Rattle.std.specs.Prelude.{◌≢◌}
 use Rattle.std.specs.FinMap as map
 use Rattle.std.specs.Option.{option_map}
+use Rattle.input_files.specs.Reading.{IsBrokenOff, LeavesFiles, OnlyReads}
+use Rattle.input_files.specs.declared.notice.Notice.TheVariants as notice
+use Rattle.input_files.specs.declared.status.Status.{Status}
+use Rattle.input_files.specs.declared.status.Status.TheVariants as status
 use Rattle.log_writer.specs.Writing.{Counts, Sent, Trust, Trusts, devices}
 use Rattle.log_writer.specs.Sizes.{HasRoom}
 use Rattle.log_writer.specs.declared.fault.WriteFault.{WriteFault}
@@ -18,16 +22,12 @@ use Rattle.outer_io.specs.declared.shelf.Phase.{Phase}
 use Rattle.outer_io.specs.declared.slots.Slot.{Slot}
 use Rattle.outer_io.specs.declared.slots.Slot.TheVariants.{Log}
 use Rattle.outer_io.specs.declared.slots.Slots.{Slots}
-use Rattle.cover_run.specs.Reading.{IsBrokenOff, LeavesFiles, OnlyReads}
 use Rattle.cover_run.specs.Runs.{IsWritten}
-use Rattle.cover_run.specs.Statuses.{notice_of_fault}
+use Rattle.cover_run.specs.Writing.{notice_of_fault}
 use Rattle.cover_run.specs.Worlds.{World, Says, Rewrites}
 use Rattle.cover_run.specs.Writing.{Answer, IsCause, OpensLog, SaysEnd, Writes}
 use Rattle.cover_run.specs.Writing.{WritesLog}
 use Rattle.cover_run.specs.Writing.{status_of_writing}
-use Rattle.cover_run.specs.declared.notice.Notice.TheVariants as notice
-use Rattle.cover_run.specs.declared.status.Status.{Status}
-use Rattle.cover_run.specs.declared.status.Status.TheVariants as status
 
 -- ---- the file
 

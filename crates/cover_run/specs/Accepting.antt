@@ -1,13 +1,13 @@
 -- A run of `check` behind one of `solve`, on the same files and epochs.
 use Rattle.std.specs.Prelude.{◌≡◌, ◌≢◌, Some}
 use Rattle.command_words.specs.Commands as words
+use Rattle.input_files.specs.declared.limits.Limits.{Limits}
+use Rattle.input_files.specs.declared.status.Status.{Status}
+use Rattle.input_files.specs.declared.status.Status.TheVariants as status
 use Rattle.log_writer.specs.Writing.{Trust}
 use Rattle.outer_io.specs.Told.{Files, files_of}
 use Rattle.cover_run.specs.Runs.{RunOf, checking, solving}
 use Rattle.cover_run.specs.Worlds.{World}
-use Rattle.cover_run.specs.declared.limits.Limits.{Limits}
-use Rattle.cover_run.specs.declared.status.Status.{Status}
-use Rattle.cover_run.specs.declared.status.Status.TheVariants as status
 
 -- none of the files is the log
 pub record AreApart (names : words.Files) : Type 0 where

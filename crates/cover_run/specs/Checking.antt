@@ -2,6 +2,11 @@
 use Rattle.std.specs.Prelude.{◌≡◌, ℕ, List, [], ◌∷◌}
 use Rattle.command_words.specs.Commands.{Files}
 use Rattle.epoch_selection.specs.declared.selection.Selection.{Selection}
+use Rattle.input_files.specs.Inputs.{InputsValue, ReadsInputs, AreEnough, inputs_value}
+use Rattle.input_files.specs.Logs.{log_text}
+use Rattle.input_files.specs.Reading.{Reading, Named, Then, Returns}
+use Rattle.input_files.specs.declared.inputs.Inputs.{Inputs}
+use Rattle.input_files.specs.declared.limits.Limits.{Limits}
 use Rattle.outer_io.specs.declared.slots.Slot.{Slot}
 use Rattle.outer_io.specs.declared.slots.Slot.TheVariants as slot
 use Rattle.paving_log.specs.Values.{log_value}
@@ -11,13 +16,8 @@ use Rattle.paving_log_check.specs.declared.verdict.Verdict.{Verdict}
 use Rattle.paving_log_check.specs.declared.verdict.Verdict.TheVariants as verdict
 use Rattle.sat_model.specs.Logs.{LogValue, IsNumbered}
 use Rattle.cover_run.specs.CheckTexts.{fault_text}
-use Rattle.cover_run.specs.Inputs.{InputsValue, ReadsInputs, AreEnough, inputs_value}
-use Rattle.cover_run.specs.Logs.{log_text}
-use Rattle.cover_run.specs.Reading.{Reading, Named, Then, Returns}
 use Rattle.cover_run.specs.Texts.{yes_text}
 use Rattle.cover_run.specs.declared.checked.Checked.{Checked}
-use Rattle.cover_run.specs.declared.inputs.Inputs.{Inputs}
-use Rattle.cover_run.specs.declared.limits.Limits.{Limits}
 
 -- ---- what is read
 

@@ -1,15 +1,10 @@
 pub mod Chosen
-pub mod Statuses
-pub mod InputTexts
 pub mod Texts
 pub mod CheckTexts
-pub mod Reading
-pub mod Unread
 pub mod Worlds
 pub mod Telling
 pub mod Writing
-pub mod Logs
-pub mod Inputs
+pub mod Judging
 pub mod Checking
 pub mod Solving
 pub mod Paving

@@ -6,6 +6,12 @@ use Rattle.epoch_report.specs.declared.counts.Counts4.{Counts4}
 use Rattle.epoch_selection.specs.Selections.{all_epochs}
 use Rattle.error_bounds.specs.Reading.{value_of_settings}
 use Rattle.error_bounds.specs.Texts.{IsSettings}
+use Rattle.input_files.specs.Inputs.{wants_position}
+use Rattle.input_files.specs.declared.inputs.Inputs.{Inputs}
+use Rattle.input_files.specs.declared.notice.Notice.{Notice}
+use Rattle.input_files.specs.declared.notice.Notice.TheVariants as notice
+use Rattle.input_files.specs.declared.status.Status.{Status}
+use Rattle.input_files.specs.declared.status.Status.TheVariants as status
 use Rattle.log_writer.specs.Sizes.{most_bytes}
 use Rattle.log_writer.specs.declared.fault.WriteFault.TheVariants as why
 use Rattle.made_input.specs.MadeInput.{IsMade}
@@ -18,15 +24,9 @@ use Rattle.sat_model.specs.Boxes.{GridBox}
 use Rattle.sat_model.specs.Logs.{Block, LogValue}
 use Rattle.sat_model.specs.StepKinds.{is_inside, is_edge, is_outside, is_split}
 use Rattle.sat_model.specs.declared.steps.Step.{Step}
-use Rattle.cover_run.specs.Inputs.{wants_position}
 use Rattle.cover_run.specs.Solving.{IsSolved, IsSolvedTo, epochs_of}
 use Rattle.cover_run.specs.Telling.{Sinks, Breaks, Prints}
 use Rattle.cover_run.specs.Worlds.{Says}
-use Rattle.cover_run.specs.declared.inputs.Inputs.{Inputs}
-use Rattle.cover_run.specs.declared.notice.Notice.{Notice}
-use Rattle.cover_run.specs.declared.notice.Notice.TheVariants as notice
-use Rattle.cover_run.specs.declared.status.Status.{Status}
-use Rattle.cover_run.specs.declared.status.Status.TheVariants as status
 use Rattle.cover_run.specs.declared.totals.Kind.{Kind}
 use Rattle.cover_run.specs.declared.totals.Kind.TheVariants.{Inside, Edge, Outside, Splits}
 

@@ -1,5 +1,6 @@
 -- What `pave` reads and does.
 use Rattle.std.specs.Prelude.{ℕ, List, [], ◌∷◌, length}
+use Rattle.input_files.specs.declared.status.Status.{Status}
 use Rattle.log_writer.specs.RowsFrom.{of_rows}
 use Rattle.log_writer.specs.Sizes.{most_bytes}
 use Rattle.log_writer.specs.Texts.{IsText}
@@ -8,7 +9,6 @@ use Rattle.outer_io.specs.declared.slots.Slot.TheVariants as slot
 use Rattle.sat_model.specs.Logs.{LogValue}
 use Rattle.cover_run.specs.Worlds.{World}
 use Rattle.cover_run.specs.Writing.{Answer, Writes}
-use Rattle.cover_run.specs.declared.status.Status.{Status}
 
 -- the text and report of a log that paves all rows, or first ones of it
 abbrev pub IsPaved : LogValue → ℕ → Answer → (bytes said : List ℕ) → Type 0

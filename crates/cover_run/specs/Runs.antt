@@ -3,6 +3,17 @@ use Rattle.std.specs.Prelude.{◌≡◌, ◌≢◌, ◌⊎◌, ℕ, true, false,
 use Rattle.std.specs.Prelude.{Result, Ok, Err}
 use Rattle.command_words.specs.Commands as words
 use Rattle.command_words.specs.Commands.{Command, Judge, Pave, Solve, Check, Make}
+use Rattle.input_files.specs.Inputs.{InputsValue, ReadsInputs, inputs_value, input_slots}
+use Rattle.input_files.specs.Logs.{log_text, rows_text}
+use Rattle.input_files.specs.Reading.{IsBrokenOff, Found, IsOfReading, Named, NeverBreaks, Reading}
+use Rattle.input_files.specs.Reading.{Untouched, valued}
+use Rattle.input_files.specs.Statuses.{status_of}
+use Rattle.input_files.specs.declared.inputs.Inputs.{Inputs}
+use Rattle.input_files.specs.declared.limits.Limits.{Limits}
+use Rattle.input_files.specs.declared.notice.Notice.{Notice}
+use Rattle.input_files.specs.declared.notice.Notice.TheVariants as notice
+use Rattle.input_files.specs.declared.status.Status.{Status}
+use Rattle.input_files.specs.declared.status.Status.TheVariants as status
 use Rattle.log_writer.specs.Writing.{Trust}
 use Rattle.outer_io.specs.Told.{Files, files_of}
 use Rattle.outer_io.specs.declared.slots.Slot.{Slot}
@@ -13,23 +24,13 @@ use Rattle.sat_model.specs.Logs.{LogValue}
 use Rattle.cover_run.specs.Checking.{CheckedValue, ReadsChecked, checked_value, checked_slots}
 use Rattle.cover_run.specs.Checking.{SaysAccepted, SaysRefused}
 use Rattle.cover_run.specs.Chosen.{chosen_in}
-use Rattle.cover_run.specs.Inputs.{InputsValue, ReadsInputs, inputs_value, input_slots}
-use Rattle.cover_run.specs.Logs.{log_text, rows_text, SaysJudged, SaysFault, IsJudgedAs}
+use Rattle.cover_run.specs.Judging.{SaysJudged, SaysFault, IsJudgedAs}
 use Rattle.cover_run.specs.Making.{Makes}
 use Rattle.cover_run.specs.Paving.{Paves}
-use Rattle.cover_run.specs.Reading.{IsBrokenOff, Found, IsOfReading, Named, NeverBreaks, Reading}
-use Rattle.cover_run.specs.Reading.{Untouched, valued}
 use Rattle.cover_run.specs.Solving.{Solves}
-use Rattle.cover_run.specs.Statuses.{status_of}
 use Rattle.cover_run.specs.Telling.{Tells, sinks}
 use Rattle.cover_run.specs.Worlds.{World, Says}
 use Rattle.cover_run.specs.declared.checked.Checked.{Checked}
-use Rattle.cover_run.specs.declared.inputs.Inputs.{Inputs}
-use Rattle.cover_run.specs.declared.limits.Limits.{Limits}
-use Rattle.cover_run.specs.declared.notice.Notice.{Notice}
-use Rattle.cover_run.specs.declared.notice.Notice.TheVariants as notice
-use Rattle.cover_run.specs.declared.status.Status.{Status}
-use Rattle.cover_run.specs.declared.status.Status.TheVariants as status
 
 -- ---- a command
 

@@ -6,6 +6,9 @@ use Rattle.epoch_selection.specs.Searches.{searches_in}
 use Rattle.epoch_selection.specs.Selections.{selected}
 use Rattle.epoch_selection.specs.declared.selection.Selection.{Selection}
 use Rattle.error_bounds.specs.Reading.{centre_with, IsRoot}
+use Rattle.input_files.specs.Inputs.{input_slots}
+use Rattle.input_files.specs.declared.inputs.Inputs.{Inputs}
+use Rattle.input_files.specs.declared.status.Status.{Status}
 use Rattle.log_writer.specs.Sizes.{most_bytes}
 use Rattle.log_writer.specs.Sources.{Gives}
 use Rattle.log_writer.specs.Texts.{IsWhole, IsBegun}
@@ -19,11 +22,8 @@ use Rattle.sat_model.specs.Boxes.{GridBox}
 use Rattle.sat_rows.specs.Meanings.{Meaning}
 use Rattle.sat_rows.specs.Sources.{gps_meaning}
 use Rattle.sat_rows.specs.declared.lines.SatLine.{SatLine}
-use Rattle.cover_run.specs.Inputs.{input_slots}
 use Rattle.cover_run.specs.Worlds.{World}
 use Rattle.cover_run.specs.Writing.{Answer, Writes}
-use Rattle.cover_run.specs.declared.inputs.Inputs.{Inputs}
-use Rattle.cover_run.specs.declared.status.Status.{Status}
 
 -- the chosen epochs of the file
 abbrev pub epochs_of : Selection → Inputs → List ObsEpoch
@@ -44,11 +44,11 @@ module _ (i : Inputs) where
 
 module _ (chosen : Selection) (i : Inputs) where
   -- The text of one log and its report, within the limit: each epoch's block has own lines, whose
-  -- rows are wider by W at both ends, over the search box of the settings, and is formed when the
-  -- one before is paved. All own lines of the epochs admit it, also those of the first epochs
-  -- alone; and in each epoch that it gives as paved, what fits is covered, and each in box fits. No
-  -- box is split, or left at the edge, of which the true ranges make clear that nothing in it fits,
-  -- or that all of it does.
+  -- rows are wider by W at both ends, and by G at those of the ends of the error, over the search
+  -- box of the settings, and is formed when the one before is paved. All own lines of the epochs
+  -- admit it, also those of the first epochs alone; and in each epoch that it gives as paved, what
+  -- fits is covered, and each in box fits. No box is split, or left at the edge, of which the true
+  -- ranges and bounds make clear that nothing in it fits, or that all of it does.
   pub record IsSolved (limit : ℕ) (bytes said : List ℕ) : Type 0 where
     pub root : GridBox
     pub is_root : IsRootOf i root
@@ -56,7 +56,8 @@ module _ (chosen : Selection) (i : Inputs) where
         bytes said
     pub admits : (owns : List (List SatLine))
         → AreOwn (meaning_of i) (searches_in root (epochs_of chosen i)) owns
-        → Admits (searches_in root (epochs_of chosen i)) owns i.settings.rules whole.log
+        → Admits i.settings.zenith (searches_in root (epochs_of chosen i)) owns i.settings.rules
+        whole.log
     pub cover : FileCover (meaning_of i) i.settings.rules.outliers
         (searches_in root (epochs_of chosen i)) whole.log
     pub nothing_clear : BlocksLeaveNothingClear (meaning_of i) i.settings.rules

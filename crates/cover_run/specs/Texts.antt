@@ -1,12 +1,5 @@
--- The lines that the program prints.
+-- The lines of a verdict.
 use Rattle.std.specs.Prelude.{ℕ, ◌++◌, List, codes, decimal, nat_eq, if◌then◌else◌}
-use Rattle.outer_io.specs.declared.slots.Slot.{Slot}
-use Rattle.outer_io.specs.declared.slots.Slot.TheVariants as slot
-use Rattle.cover_run.specs.InputTexts.{input_fault_text}
-use Rattle.cover_run.specs.declared.notice.Notice.{Notice}
-use Rattle.cover_run.specs.declared.notice.Notice.TheVariants as notice
-
--- ---- on standard output
 
 -- a log is right, and has so many in and edge boxes
 abbrev pub yes_text : ℕ → List ℕ
@@ -35,27 +28,3 @@ test_name number =
 abbrev pub no_text : ℕ → ℕ → List ℕ
 no_text number line = codes "no " ++ decimal number ++ codes " " ++ test_name number
     ++ codes " line " ++ decimal line ++ codes "\n"
-
--- ---- on standard error
-
--- what a file is read or written for
-abbrev pub role_text : Slot → List ℕ
-role_text slot.Settings = codes "settings"
-role_text slot.Nav = codes "nav"
-role_text slot.Obs = codes "obs"
-role_text slot.Rows = codes "rows"
-role_text slot.Log = codes "log"
-
-abbrev pub notice_text : Notice → List ℕ
-notice_text notice.Usage = codes "usage: gpscover judge LOG, pave ROWS LOG, "
-    ++ codes "solve or check OBS NAV SETTINGS LOG, make SEED EPOCHS\n"
-notice_text (notice.TooLong slot limit) =
-    role_text slot ++ codes " 29 TooLong " ++ decimal limit ++ codes "\n"
-notice_text (notice.BadLog slot line kind) = role_text slot ++ codes " 40 BadLog line "
-    ++ decimal line ++ codes " kind " ++ decimal kind ++ codes "\n"
-notice_text (notice.BadInput fault) = input_fault_text fault
-notice_text (notice.ReadFault slot) = role_text slot ++ codes " fault\n"
-notice_text notice.LogFault = codes "log fault\n"
-notice_text notice.OutFault = codes "out fault\n"
-notice_text notice.NoMemory = codes "no memory\n"
-notice_text (notice.LogFull limit) = codes "log full " ++ decimal limit ++ codes "\n"

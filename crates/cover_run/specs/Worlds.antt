@@ -2,11 +2,11 @@
 use Rattle.std.specs.Prelude.{◌≡◌, ◌⊎◌, ℕ, ◌+◌, List, length}
 use Rattle.std.specs.Option.{option_map}
 use Rattle.std.specs.FinMap as map
+use Rattle.input_files.specs.NoticeTexts.{notice_text}
+use Rattle.input_files.specs.declared.notice.Notice.{Notice}
 use Rattle.outer_io.specs.Causes.{Rose}
 use Rattle.outer_io.specs.Taken.{SinkState, TakenBy, TakenPrefix}
 use Rattle.outer_io.specs.Told.{ShelfState, files_of, written_of, terms_of}
-use Rattle.cover_run.specs.Texts.{notice_text}
-use Rattle.cover_run.specs.declared.notice.Notice.{Notice}
 
 -- the shelf and both sinks
 pub record World : Type 0 where

@@ -1,5 +1,11 @@
 -- How a log is written and its report printed.
 use Rattle.std.specs.Prelude.{◌≡◌, ◌⊎◌, ℕ, true, List, Some, Result, Ok, Err}
+use Rattle.input_files.specs.Reading.{LeavesFiles, Opens}
+use Rattle.input_files.specs.Statuses.{status_of}
+use Rattle.input_files.specs.declared.notice.Notice.{Notice}
+use Rattle.input_files.specs.declared.notice.Notice.TheVariants as notice
+use Rattle.input_files.specs.declared.status.Status.{Status}
+use Rattle.input_files.specs.declared.status.Status.TheVariants as status
 use Rattle.log_writer.specs.Sizes.{HasRoom}
 use Rattle.log_writer.specs.declared.fault.WriteFault.{WriteFault}
 use Rattle.log_writer.specs.declared.fault.WriteFault.TheVariants as why
@@ -11,12 +17,14 @@ use Rattle.outer_io.specs.declared.shelf.Phase.{Phase}
 use Rattle.outer_io.specs.declared.slots.Slot.{Slot}
 use Rattle.outer_io.specs.declared.slots.Slot.TheVariants as slot
 use Rattle.outer_io.specs.declared.slots.Slots.{Slots}
-use Rattle.cover_run.specs.Reading.{LeavesFiles, Opens}
-use Rattle.cover_run.specs.Statuses.{status_of, notice_of_fault}
 use Rattle.cover_run.specs.Worlds.{World, Says, Rewrites}
-use Rattle.cover_run.specs.declared.notice.Notice.TheVariants as notice
-use Rattle.cover_run.specs.declared.status.Status.{Status}
-use Rattle.cover_run.specs.declared.status.Status.TheVariants as status
+
+-- why LOG and the report weren't written to their end; the log's limit was this
+abbrev pub notice_of_fault : ℕ → WriteFault → Notice
+notice_of_fault limit why.Log = notice.LogFault
+notice_of_fault limit why.Out = notice.OutFault
+notice_of_fault limit why.Full = notice.LogFull limit
+notice_of_fault limit why.NoMemory = notice.NoMemory
 
 -- the writer's answer
 abbrev pub Answer : Type 0

@@ -3,14 +3,10 @@
 ghost use Rattle.std.specs.Prelude.{IfOk};
 ghost use Rattle.command_words.specs.Seen.{files_asked};
 ghost use Rattle.cover_run.specs.Checking.{AreReady, ReadsChecked, checked_slots, checked_value};
-ghost use Rattle.cover_run.specs.Reading.{Found, OnlyReads, valued};
+ghost use Rattle.input_files.specs.Reading.{Found, OnlyReads, valued};
 
-use crate::Limits;
-use crate::inputs::{Inputs, read_inputs};
-use crate::log_grammars::LogText;
-use crate::named::read_named;
-use crate::notice::Notice;
 use command_words::Files;
+use input_files::{Inputs, Limits, LogText, Notice, read_inputs, read_named};
 use outer_io::Shelf;
 use paving_log::Log;
 use std::alloc::Global;

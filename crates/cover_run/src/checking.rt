@@ -7,15 +7,15 @@ ghost use Rattle.cover_run.specs.Telling.{Tells, sinks};
 ghost use Rattle.cover_run.specs.Worlds.{world};
 ghost use Rattle.log_writer.specs.Writing.{trust_of};
 
+use crate::Verdict;
 use crate::check_texts::fault_line;
 use crate::checked::{Checked, read_checked};
 use crate::chosen::chosen_in;
-use crate::notice::Notice;
 use crate::telling::{say, tell};
 use crate::texts::yes_line;
-use crate::{Limits, Status, Verdict};
 use command_words::Files;
 use epoch_selection::Selection;
+use input_files::{Limits, Notice, Status};
 use outer_io::{Shelf, Sink};
 use paving_log_check::check;
 use sat_model::NoMemory;

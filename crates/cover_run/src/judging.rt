@@ -1,6 +1,6 @@
 //! The command `judge LOG`.
 
-ghost use Rattle.cover_run.specs.Logs.{SaysFault, SaysJudged};
+ghost use Rattle.cover_run.specs.Judging.{SaysFault, SaysJudged};
 ghost use Rattle.cover_run.specs.Runs.{RunOf, judging};
 ghost use Rattle.cover_run.specs.Telling.{Tells, sinks};
 ghost use Rattle.cover_run.specs.Worlds.{world};
@@ -8,12 +8,10 @@ ghost use Rattle.log_writer.specs.Writing.{trust_of};
 ghost use Rattle.paving_log.specs.Values.{log_value};
 ghost use Rattle.sat_model.specs.Logs.{IsNumbered};
 
-use crate::log_grammars::LogText;
-use crate::named::read_named;
-use crate::notice::Notice;
 use crate::telling::{say, tell};
 use crate::texts::{no_line, yes_line};
-use crate::{Limits, Status, Verdict, judge};
+use crate::{Verdict, judge};
+use input_files::{Limits, LogText, Notice, Status, read_named};
 use outer_io::{Shelf, Sink};
 use paving_log::Log;
 use sat_model::NoMemory;

@@ -1,31 +1,28 @@
 //! The command `make SEED EPOCHS`.
 
 ghost use Rattle.std.specs.Prelude.{◌≡◌, ◌≤◌, ◌⊎◌, [], Some, IfOk, IfErr, length};
-ghost use Rattle.cover_run.specs.Inputs.{AreEnough};
 ghost use Rattle.cover_run.specs.Making.{AreMade, FillsMade, IsCutOff, IsFull, IsSolvedAs, Makes};
 ghost use Rattle.cover_run.specs.Making.{SolvesMade};
 ghost use Rattle.cover_run.specs.Telling.{sinks};
-ghost use Rattle.cover_run.specs.declared.notice.Notice.{Notice};
 ghost use Rattle.error_bounds.specs.Reading.{value_of_settings};
 ghost use Rattle.error_bounds.specs.Texts.{IsSettings, SettingsValue};
+ghost use Rattle.input_files.specs.Inputs.{AreEnough};
+ghost use Rattle.input_files.specs.declared.notice.Notice.{Notice};
 ghost use Rattle.outer_io.specs.Sizes.{longest_file};
 ghost use Rattle.outer_io.specs.Store.{listed};
 ghost use Rattle.outer_io.specs.Told.{files_of};
 ghost use Rattle.paving_log.specs.Values.{log_value};
 ghost use Rattle.sat_model.specs.Logs.{IsNumbered};
 
-use crate::grammar::Grammar;
-use crate::input_grammars::{NavText, ObsText};
-use crate::inputs::{Inputs, wants_position};
-use crate::log_grammars::LogText;
 use crate::making_texts::made_lines;
-use crate::notice::Notice;
 use crate::solving::write_solution;
 use crate::telling::{say, tell};
 use crate::unseen::Unseen;
-use crate::{Limits, Status};
 use epoch_selection::Selection;
 use error_bounds::{Settings, SettingsError, read_settings};
+use input_files::{
+    Grammar, Inputs, Limits, LogText, NavText, Notice, ObsText, Status, wants_position,
+};
 use made_input::make;
 use outer_io::{MemoryShelf, Shelf, Sink};
 use paving_log::Log;

@@ -4,11 +4,9 @@ ghost use Rattle.cover_run.specs.Runs.{RunOf, paving};
 ghost use Rattle.cover_run.specs.Worlds.{world};
 ghost use Rattle.log_writer.specs.Writing.{trust_of};
 
-use crate::log_grammars::RowsText;
-use crate::named::read_named;
 use crate::telling::say;
 use crate::writing::write_named;
-use crate::{Limits, Status};
+use input_files::{Limits, RowsText, Status, read_named};
 use log_writer::LogBlocks;
 use outer_io::{Shelf, Sink};
 use std::alloc::Global;

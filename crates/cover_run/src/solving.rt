@@ -1,20 +1,19 @@
 //! The command `solve OBS NAV SETTINGS LOG`.
 
 ghost use Rattle.command_words.specs.Seen.{files_asked};
-ghost use Rattle.cover_run.specs.Inputs.{AreEnough};
 ghost use Rattle.cover_run.specs.Runs.{RunOf, solving};
 ghost use Rattle.cover_run.specs.Solving.{Solution};
 ghost use Rattle.cover_run.specs.Worlds.{world};
+ghost use Rattle.input_files.specs.Inputs.{AreEnough};
 ghost use Rattle.log_writer.specs.Writing.{trust_of};
 
 use crate::chosen::chosen_in;
-use crate::inputs::{Inputs, read_inputs};
 use crate::telling::say;
 use crate::writing::write_named;
-use crate::{Limits, Status};
 use command_words::Files;
 use epoch_rows::ObsBlocks;
 use epoch_selection::Selection;
+use input_files::{Inputs, Limits, Status, read_inputs};
 use outer_io::{Shelf, Sink};
 use sat_rows::GpsRows;
 use std::alloc::Global;

@@ -1,13 +1,11 @@
 //! What is said, and what is printed of a verdict.
 
 ghost use Rattle.std.specs.Prelude.{◌≡◌};
-ghost use Rattle.cover_run.specs.Statuses.{status_of};
 ghost use Rattle.cover_run.specs.Telling.{TellsLine, sinks};
 ghost use Rattle.cover_run.specs.Worlds.{Says};
+ghost use Rattle.input_files.specs.Statuses.{status_of};
 
-use crate::Status;
-use crate::notice::Notice;
-use crate::texts::notice_line;
+use input_files::{Notice, Status, notice_line};
 use outer_io::{Sink, write_sink};
 
 /// Says the notice on standard error, whatever becomes of it there, and how the run ends.

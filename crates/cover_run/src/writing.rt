@@ -2,18 +2,29 @@
 
 ghost use Rattle.std.specs.Prelude.{◌≡◌, None, []};
 ghost use Rattle.cover_run.specs.Worlds.{world};
-ghost use Rattle.cover_run.specs.Writing.{Writes};
+ghost use Rattle.cover_run.specs.Writing.{Writes, notice_of_fault};
 ghost use Rattle.log_writer.specs.Sizes.{most_bytes};
 ghost use Rattle.log_writer.specs.Texts.{IsText};
 ghost use Rattle.log_writer.specs.Writing.{trust_of};
 
-use crate::notice::Notice;
 use crate::telling::say;
-use crate::{Limits, Status};
-use log_writer::{Blocks, write_log};
+use input_files::{Limits, Notice, Status};
+use log_writer::{Blocks, WriteFault, write_log};
 use outer_io::{Shelf, Sink, Slot};
 use sat_model::Rules;
 use std::alloc::Global;
+
+/// Why the log and its report weren't written to their end. This is the log's limit.
+fn notice_of_fault(limit: u64, fault: WriteFault) -> Notice
+    ensures { result ≡ notice_of_fault limit fault }
+{
+    match fault {
+        WriteFault::Log => Notice::LogFault,
+        WriteFault::Out => Notice::OutFault,
+        WriteFault::Full => Notice::LogFull { limit },
+        WriteFault::NoMemory => Notice::NoMemory,
+    }
+}
 
 /// Creates the named log, writes it for the blocks of this source and prints its report.
 pub fn write_named<H: Shelf, O: Sink, E: Sink, B: Blocks>(
@@ -42,6 +53,6 @@ pub fn write_named<H: Shelf, O: Sink, E: Sink, B: Blocks>(
     }
     match write_log(alloc, shelf, out, limits.log, rules, blocks) {
         Ok(()) => Status::Done,
-        Err(fault) => say(err, &Notice::of_writing(limits.log, fault)),
+        Err(fault) => say(err, &notice_of_fault(limits.log, fault)),
     }
 }

@@ -2,7 +2,7 @@
 use Rattle.std.proofs.Common.{ℕ, ◌≤◌}
 use Rattle.sat_model.proofs.EndsLemmas.{wider_ends}
 use Rattle.fix_interval.specs.declared.place.Place.{Place}
-use Rattle.earth_rotation.specs.Places.{PlaceEnds}
+use Rattle.fix_interval.specs.Places.{PlaceEnds}
 
 pub wider_place : (m n v w : ℕ) (a : Place) → m ≤ n → v ≤ w → PlaceEnds m v a → PlaceEnds n w a
 wider_place m n v w a h k e = record {

@@ -6,7 +6,7 @@ ghost use Rattle.sat_model.specs.Fitting.{range_to};
 ghost use Rattle.sat_model.specs.Sizes.{IsBoxSize};
 ghost use Rattle.sat_model.specs.declared.boxes.Pos.{Pos};
 ghost use Rattle.fix_interval.specs.Factors.{Holds, HasEnds, HasAmount};
-ghost use Rattle.earth_rotation.specs.Places.{HoldsPlace, PlaceEnds, PlaceAmount};
+ghost use Rattle.fix_interval.specs.Places.{HoldsPlace, PlaceEnds, PlaceAmount};
 ghost use Rattle.earth_rotation.specs.RoundSizes.{turned_reach, range_amount, range_width};
 
 use fix_interval::{Exact, ExactArea, Interval, Place, squared_distance};

@@ -6,7 +6,7 @@ ghost use Rattle.sat_model.specs.Lengths.{spare_of};
 ghost use Rattle.sat_model.specs.Turn.{Turn, IsTurnedOver};
 ghost use Rattle.sat_model.specs.declared.boxes.Pos.{Pos};
 ghost use Rattle.fix_interval.specs.Factors.{Holds, HasEnds, HasAmount};
-ghost use Rattle.earth_rotation.specs.Places.{HoldsPlace, PlaceEnds, PlaceAmount};
+ghost use Rattle.fix_interval.specs.Places.{HoldsPlace, PlaceEnds, PlaceAmount};
 ghost use Rattle.earth_rotation.specs.TurnSizes.{turn_reach, reach_after, near_reach, narrow_width};
 ghost use Rattle.earth_rotation.specs.RoundSizes.{range_amount, turned_width};
 

@@ -11,7 +11,8 @@ use Rattle.sat_model.specs.Rounding.{IsTightQuotient}
 use Rattle.sat_model.proofs.EndsLemmas.{quotient_ends, wider_ends}
 use Rattle.fix_interval.proofs.ProductEnds.{amount_of}
 use Rattle.fix_interval.specs.declared.place.Place.{Place}
-use Rattle.elevation_mapping.specs.Places.{PlaceAmount, least_sum, greatest_sum}
+use Rattle.fix_interval.specs.Places.{PlaceAmount}
+use Rattle.elevation_mapping.specs.Places.{least_sum, greatest_sum}
 use Rattle.elevation_mapping.specs.SineSizes.{up_amount, offset_amount, inner_amount, length_amount, height_amount, sine_amount, least_up, least_range}
 use Rattle.elevation_mapping.proofs.Lengths.{root_at_least, length_ends, wider_place}
 

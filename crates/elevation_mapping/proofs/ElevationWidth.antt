@@ -16,7 +16,8 @@ use Rattle.fix_interval.specs.declared.exact.Exact.{Exact}
 use Rattle.fix_interval.specs.declared.place.Place.{Place}
 use Rattle.fix_interval.specs.Factors.{HasEnds}
 use Rattle.fix_interval.proofs.NearLemmas.{held_fraction}
-use Rattle.elevation_mapping.specs.Places.{PlaceEnds, least_sum, greatest_sum}
+use Rattle.fix_interval.specs.Places.{PlaceEnds}
+use Rattle.elevation_mapping.specs.Places.{least_sum, greatest_sum}
 use Rattle.elevation_mapping.specs.SineSizes.{up_amount, offset_amount, length_amount, least_up, least_range, sine_slope}
 use Rattle.elevation_mapping.proofs.Lengths.{root_at_least, length_ends, lengths_apart, lengths_order, amounts_small, wider_place, own_ends}
 use Rattle.elevation_mapping.proofs.Quotients.{ends_amount, up_scaled, down_scaled, quotient_apart}

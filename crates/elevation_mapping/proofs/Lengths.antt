@@ -12,7 +12,8 @@ use Rattle.sat_model.proofs.EndsLemmas.{wider_ends}
 use Rattle.sat_model.proofs.RootLemmas.{square-mono, root_is}
 use Rattle.sat_model.proofs.SquareLemmas.{one_part, least_le_greatest_end, greatest_square_le}
 use Rattle.fix_interval.specs.declared.place.Place.{Place}
-use Rattle.elevation_mapping.specs.Places.{PlaceEnds, least_sum, greatest_sum}
+use Rattle.fix_interval.specs.Places.{PlaceEnds}
+use Rattle.elevation_mapping.specs.Places.{least_sum, greatest_sum}
 use Rattle.elevation_mapping.specs.SineSizes.{offset_amount, length_amount}
 
 -- both ends are small enough to be squared

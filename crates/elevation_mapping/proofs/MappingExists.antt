@@ -10,7 +10,7 @@ use Rattle.sat_model.specs.Squares.{sum_of_squares}
 use Rattle.sat_model.specs.declared.boxes.Pos.{Pos}
 use Rattle.sat_model.proofs.RootLemmas.{square-mono}
 use Rattle.fix_interval.proofs.NearLemmas.{near_exists}
-use Rattle.elevation_mapping.specs.Mapping.{Mapping, IsRaised, up_scale, slant_floor, slant_of}
+use Rattle.sat_model.specs.Mapping.{Mapping, IsRaised, up_scale, slant_floor, slant_of}
 use Rattle.elevation_mapping.proofs.Lengths.{root_at_least}
 
 -- zu is hardly less than z in amount

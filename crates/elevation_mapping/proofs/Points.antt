@@ -17,7 +17,9 @@ use Rattle.sat_model.proofs.FittingLemmas.{in_box, le_to}
 use Rattle.sat_model.proofs.RootLemmas.{square-mono}
 use Rattle.sat_model.proofs.SquareLemmas.{one_part}
 use Rattle.fix_interval.specs.declared.place.Place.{Place}
-use Rattle.elevation_mapping.specs.Places.{HoldsPlace, PlaceEnds, IsFarFromOrigin, IsFarFromPlace, least_sum}
+use Rattle.fix_interval.specs.Places.{HoldsPlace, PlaceEnds}
+use Rattle.sat_model.specs.SearchBoxes.{IsFarFromOrigin}
+use Rattle.elevation_mapping.specs.Places.{IsFarFromPlace, least_sum}
 use Rattle.elevation_mapping.specs.MappingSizes.{turned_reach}
 use Rattle.elevation_mapping.specs.SineSizes.{up_amount, offset_amount, least_up}
 

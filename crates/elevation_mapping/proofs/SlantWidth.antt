@@ -16,7 +16,7 @@ use Rattle.sat_model.proofs.ClockLemmas.{root_mono}
 use Rattle.sat_model.proofs.ProductLemmas.{mul_mono}
 use Rattle.sat_model.proofs.RootLemmas.{square-mono, root_is}
 use Rattle.sat_model.proofs.SquareLemmas.{one_part, square_between, least_le_greatest_end, greatest_square_le}
-use Rattle.elevation_mapping.specs.Mapping.{slant_floor, slant_of}
+use Rattle.sat_model.specs.Mapping.{slant_floor, slant_of}
 use Rattle.elevation_mapping.specs.SineSizes.{sine_amount, sine_slope, least_slant, slant_amount}
 use Rattle.elevation_mapping.proofs.Lengths.{root_at_least, two_products}
 use Rattle.elevation_mapping.proofs.SineWidth.{cancel}

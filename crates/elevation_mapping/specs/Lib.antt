@@ -1,4 +1,3 @@
 pub mod Places
-pub mod Mapping
 pub mod MappingSizes
 pub mod SineSizes

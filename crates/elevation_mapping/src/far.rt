@@ -2,7 +2,7 @@
 
 ghost use Rattle.std.specs.Prelude.{◌↔◌, ◌*◌, ◌^◌, IsTrue};
 ghost use Rattle.sat_model.specs.Boxes.{grid_box};
-ghost use Rattle.elevation_mapping.specs.Places.{IsFarFromOrigin};
+ghost use Rattle.sat_model.specs.SearchBoxes.{IsFarFromOrigin};
 
 use crate::lines::{place_of, squares_of};
 use sat_model::Box3;

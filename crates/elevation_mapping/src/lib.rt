@@ -3,9 +3,8 @@
 //! (1984) as RTCA DO-229 prints it in appendix A.4.2.4, enclosed over the points of a box.
 //!
 //! `lines` has the up direction and the line of sight, `elevation` the sine of the elevation,
-//! `slants` the root below the line, `mapping` the whole. The first three definitions of
-//! `specs/Places`, `side` and `place_of`, and lemmas on the roots of sums of squares stand in
-//! `earth_rotation` too, under the same names: they wait for a place in a crate below both.
+//! `slants` the root below the line, `mapping` the whole. `specs/Mapping` of `sat_model`
+//! has the equations.
 #![tactic(auto)]
 
 mod delays;
@@ -15,7 +14,6 @@ mod far;
 mod lines;
 mod mapping;
 mod slants;
-mod spare;
 #[cfg(test)]
 mod tests;
 #[cfg(test)]
@@ -25,4 +23,3 @@ pub use delays::mapped_delay;
 pub use existence::mapping_exists;
 pub use far::is_far_from_origin;
 pub use mapping::mapped;
-pub use spare::err_spare;

@@ -6,8 +6,9 @@ ghost use Rattle.sat_model.specs.Intervals.{Ends};
 ghost use Rattle.sat_model.specs.Roots.{root};
 ghost use Rattle.sat_model.specs.Squares.{sum_of_squares, least_end};
 ghost use Rattle.fix_interval.specs.Factors.{Holds, HasEnds, HasAmount};
-ghost use Rattle.elevation_mapping.specs.Places.{HoldsPlace, PlaceEnds, PlaceAmount, least_sum, greatest_sum};
-ghost use Rattle.elevation_mapping.specs.Mapping.{IsRaised};
+ghost use Rattle.fix_interval.specs.Places.{HoldsPlace, PlaceEnds, PlaceAmount};
+ghost use Rattle.elevation_mapping.specs.Places.{least_sum, greatest_sum};
+ghost use Rattle.sat_model.specs.Mapping.{IsRaised};
 ghost use Rattle.elevation_mapping.specs.MappingSizes.{turned_reach};
 ghost use Rattle.elevation_mapping.specs.SineSizes.{up_amount, offset_amount};
 

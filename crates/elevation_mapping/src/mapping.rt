@@ -8,8 +8,10 @@ ghost use Rattle.sat_model.specs.Lengths.{longest_length, spare_of};
 ghost use Rattle.sat_model.specs.Rounding.{IsTightQuotient};
 ghost use Rattle.sat_model.specs.declared.boxes.Pos.{Pos};
 ghost use Rattle.fix_interval.specs.Factors.{Holds, HasAmount};
-ghost use Rattle.elevation_mapping.specs.Places.{HoldsPlace, PlaceEnds, IsFarFromOrigin, IsFarFromPlace};
-ghost use Rattle.elevation_mapping.specs.Mapping.{Mapping, IsMapped};
+ghost use Rattle.fix_interval.specs.Places.{HoldsPlace, PlaceEnds};
+ghost use Rattle.sat_model.specs.SearchBoxes.{IsFarFromOrigin};
+ghost use Rattle.elevation_mapping.specs.Places.{IsFarFromPlace};
+ghost use Rattle.sat_model.specs.Mapping.{Mapping, IsMapped};
 ghost use Rattle.elevation_mapping.specs.MappingSizes.{turned_reach, mapped_amount, mapped_width};
 ghost use Rattle.elevation_mapping.specs.SineSizes.{least_slant, slant_amount};
 

@@ -3,14 +3,15 @@ ghost use Rattle.sat_model.specs.Boxes.{grid_box};
 ghost use Rattle.sat_model.specs.Lengths.{longest_length, spare_of};
 ghost use Rattle.sat_model.specs.Sizes.{IsBoxSize};
 ghost use Rattle.fix_interval.specs.Factors.{HasEnds};
-ghost use Rattle.elevation_mapping.specs.Places.{PlaceEnds, PlaceAmount, IsFarFromPlace};
+ghost use Rattle.fix_interval.specs.Places.{PlaceEnds, PlaceAmount};
+ghost use Rattle.elevation_mapping.specs.Places.{IsFarFromPlace};
 ghost use Rattle.elevation_mapping.specs.MappingSizes.{turned_reach};
 
 use crate::lines::{offsets, place_of, squares_of};
 use crate::vectors::VECTORS;
-use crate::{err_spare, is_far_from_origin, mapped, mapped_delay};
+use crate::{is_far_from_origin, mapped, mapped_delay};
 use fix_interval::{Exact, Place};
-use sat_model::{Box3, Pos, Span, spare};
+use sat_model::{Box3, Pos, Span, err_spare, spare};
 use std::process::Abort;
 
 const FARTHEST_CORNER: i64 = 9_000_000_000_000;

@@ -1,72 +1,140 @@
 -- Two own lines of a satellite: a grown one holds the other.
-use Rattle.std.proofs.Common.{◌≡◌, List, [], ◌∷◌, true, refl, sym, ◌∙◌, arith}
-use Rattle.std.specs.Prelude.{ℤ, pos, None, Some}
+use Rattle.std.proofs.Common.{◌≡◌, ℕ, List, [], ◌∷◌, true, refl, sym, ap, ◌∙◌, arith}
+use Rattle.std.specs.Prelude.{ℤ, pos, ◌+ℤ◌, ◌-ℤ◌, ◌≤ℤ◌, Option, None, Some}
 use Rattle.std.proofs.lemmas.Int.{ints}
 use Rattle.epoch_rows.specs.Grown.{IsGrownRow, IsGrownLine, AreGrownLines, skips_of}
-use Rattle.paving_log_check.specs.Lines.{skipped_in, IsSameLine, HoldsSpan, HoldsOwn, RowPasses}
+use Rattle.paving_log_check.specs.Lines.{skipped_in, IsSameLine, HoldsSide, bounds_compared, HoldEach, HoldsOwn, HasBound, RowPasses}
 use Rattle.rinex_obs.specs.declared.obs.SatObs.{SatObs}
-use Rattle.sat_model.specs.Boxes.{GridBox, box_holds}
+use Rattle.sat_model.specs.Boxes.{Side, GridBox, box_holds}
+use Rattle.sat_model.specs.Fitting.{low_bounds, high_bounds}
 use Rattle.sat_model.specs.Intervals.{Between}
 use Rattle.sat_model.specs.Lengths.{spare_of}
+use Rattle.sat_model.specs.Relaxed.{ends}
+use Rattle.sat_model.specs.SearchBoxes.{IsSearchBox}
+use Rattle.sat_model.specs.Trees.{span_side}
+use Rattle.sat_model.specs.Zenith.{err_spare_of}
 use Rattle.sat_model.specs.declared.boxes.Pos.{Pos}
 use Rattle.sat_model.specs.declared.satellites.Row.{Row}
 use Rattle.sat_model.specs.declared.satellites.SatEntry.{SatEntry}
 use Rattle.sat_model.specs.declared.satellites.SatEntry.TheVariants as entry
 use Rattle.sat_model.specs.declared.satellites.Skip.{Skip}
 use Rattle.sat_model.specs.declared.spans.Span.{Span}
-use Rattle.sat_rows.specs.Growth.{IsGrown}
+use Rattle.sat_rows.specs.Chains.{Chain}
+use Rattle.sat_rows.specs.Growth.{IsGrown, AreBoundsGrown}
 use Rattle.sat_rows.specs.Meanings.{Meaning, IsSound}
-use Rattle.sat_rows.specs.OwnRows.{IsTight, IsOwnRow, IsOwnLine, AreOwnLines, usable_in}
+use Rattle.sat_rows.specs.OwnRows.{HoldsChain, IsTight, AreBoundsTight, HasBounds, IsOwnRow, IsOwnLine, AreOwnLines, usable_in}
 use Rattle.sat_rows.specs.declared.lines.SatLine.{SatLine}
 use Rattle.sat_rows.specs.declared.lines.SatLine.TheVariants.{Usable, Skipped}
 
--- spans at most W wide that hold one number: the one with W more at both ends holds the other
-holds_span : (root : GridBox) (own wide other : Span) (n : ℤ) → IsGrown (pos (spare_of root)) own wide → Between own.lo own.hi n → Between other.lo other.hi n → IsTight root own → IsTight root other → HoldsSpan wide other
-holds_span root own wide other n grown here there tight also = record {
-  lo = omega (arith, ints, grown.low, here.from, there.to, also);
-  hi = omega (arith, ints, grown.high, here.to, there.from, also);
+-- a side with so much more at both ends holds another that is at most so wide, where both hold one number
+holds_side : (spare : ℕ) (own wide other : Side) (n : ℤ) → wide.lo ≡ own.lo -ℤ pos spare → wide.hi ≡ own.hi +ℤ pos spare → Between own.lo own.hi n → Between other.lo other.hi n
+    → (other.hi -ℤ other.lo) ≤ℤ pos spare → HoldsSide wide other
+holds_side spare own wide other n low high here there tight = record {
+  lo = omega (arith, ints, low, here.from, there.to, tight);
+  hi = omega (arith, ints, high, here.to, there.from, tight);
 }
 
-holds_each : (row ours : Row) → HoldsSpan row.x ours.x → HoldsSpan row.y ours.y → HoldsSpan row.z ours.z → HoldsSpan row.range ours.range → HoldsOwn row ours
-holds_each row ours x y z range = (x, (y, (z, (range, tt))))
+holds_span : (root : GridBox) (own wide other : Span) (n : ℤ) → IsGrown (pos (spare_of root)) own wide → Between own.lo own.hi n → Between other.lo other.hi n → IsTight root other
+    → HoldsSide (span_side wide) (span_side other)
+holds_span root own wide other n grown here there tight =
+    holds_side (spare_of root) (span_side own) (span_side wide) (span_side other) n grown.low grown.high here there tight
 
--- the line is the expected one, and passes
-pub record LineAgrees (theirs : SatEntry) (ours : SatLine) : Type 0 where
-  pub same : IsSameLine theirs ours
-  pub passes : RowPasses theirs ours
+holds_each : (zenith : Option Span) (row ours : Row) → HoldsSide (span_side row.x) (span_side ours.x) → HoldsSide (span_side row.y) (span_side ours.y)
+    → HoldsSide (span_side row.z) (span_side ours.z) → HoldsSide (span_side row.range) (span_side ours.range) → HoldEach (bounds_compared zenith row ours) → HoldsOwn zenith row ours
+holds_each zenith row ours x y z range bounds = (x, (y, (z, (range, bounds))))
 
-abbrev pub AllAgree : List SatEntry → List SatLine → Type 0
-AllAgree [] [] = Unit {0}
-AllAgree [] (line ∷ lines) = ⊥
-AllAgree (e ∷ entries) [] = ⊥
-AllAgree (e ∷ entries) (line ∷ lines) = LineAgrees e line × AllAgree entries lines
+-- ---- the ends of the error
 
--- over a root with a point in it
-module _ (m : Meaning) (sound : IsSound m) (root : GridBox) (tag : ℤ) (p : Pos) (inside : box_holds root p ≡ true) where
-  rows_agree : (seen : SatObs) (own other wide : Row) → m.judged tag seen None → IsOwnRow m root tag seen own → IsOwnRow m root tag seen other
-      → own.sat ≡ seen.sat → other.sat ≡ seen.sat → IsGrownRow (pos (spare_of root)) own wide → LineAgrees (entry.Row wide) (Usable other)
+same_pair : (a b c d : ℤ) → a ≡ c → b ≡ d → ◌≡◌ {A = ℤ × ℤ} (a, b) (c, d)
+same_pair a b c d e f = cc
+
+first_is : (a b c d : ℤ) → ◌≡◌ {A = ℤ × ℤ} (a, b) (c, d) → a ≡ c
+first_is a b c d e = ap (λ (x : ℤ × ℤ). x.0) e
+
+second_is : (a b c d : ℤ) → ◌≡◌ {A = ℤ × ℤ} (a, b) (c, d) → b ≡ d
+second_is a b c d e = ap (λ (x : ℤ × ℤ). x.1) e
+
+-- where nothing is added they are the declared ones in all three rows
+same_bounds : (own other wide : Row) (d : ℤ × ℤ) → AreBoundsGrown (pos 0) own wide → HasBounds own d → HasBounds other d → HasBounds wide (ends other.err)
+same_bounds own other wide d grown here there =
+    let err = here.err ∙ sym there.err in
+    let sure = here.sure ∙ sym there.err in
+    let lo = first_is own.err.lo own.err.hi other.err.lo other.err.hi err in
+    let hi = second_is own.err.lo own.err.hi other.err.lo other.err.hi err in
+    let sure_lo = first_is own.sure_lo own.sure_hi other.err.lo other.err.hi sure in
+    let sure_hi = second_is own.sure_lo own.sure_hi other.err.lo other.err.hi sure in
+    record {
+      err = same_pair wide.err.lo wide.err.hi other.err.lo other.err.hi (omega (arith, ints, grown.least_lo, lo)) (omega (arith, ints, grown.greatest_hi, hi));
+      sure = same_pair wide.sure_lo wide.sure_hi other.err.lo other.err.hi (omega (arith, ints, grown.greatest_lo, sure_lo)) (omega (arith, ints, grown.least_hi, sure_hi));
+    }
+
+-- the grown ones hold the other ones, or both are the declared ones
+record BoundsAgree (zenith : Option Span) (wide other : Row) : Type 0 where
+  pub held : HoldEach (bounds_compared zenith wide other)
+  pub same : HasBound zenith wide other
+
+bounds_agree : (root : GridBox) (zenith : Option Span) (own other wide : Row) (c : Chain) (d : ℤ × ℤ) → AreBoundsGrown (pos (err_spare_of root zenith)) own wide
+    → HoldsChain own c → HoldsChain other c → AreBoundsTight root zenith other → (zenith ≡ None → HasBounds own d) → (zenith ≡ None → HasBounds other d)
+    → BoundsAgree zenith wide other
+bounds_agree root None own other wide c d grown here there tight plain also =
+    record { held = tt; same = same_bounds own other wide d grown (plain refl) (also refl) }
+bounds_agree root (Some zenith) own other wide c d grown here there tight plain also =
+    let spare = err_spare_of root (Some zenith) in
+    let low = holds_side spare (low_bounds own) (low_bounds wide) (low_bounds other) c.lo grown.least_lo grown.greatest_lo here.lo there.lo tight.low in
+    let high = holds_side spare (high_bounds own) (high_bounds wide) (high_bounds other) c.hi grown.least_hi grown.greatest_hi here.hi there.hi tight.high in
+    record { held = (low, (high, tt)); same = tt }
+
+-- ---- lines
+
+-- by the delay at the zenith that is mapped
+module _ (zenith : Option Span) where
+  -- the line is the expected one, and passes
+  pub record LineAgrees (theirs : SatEntry) (ours : SatLine) : Type 0 where
+    pub same : IsSameLine theirs ours
+    pub passes : RowPasses zenith theirs ours
+
+  abbrev pub AllAgree : List SatEntry → List SatLine → Type 0
+  AllAgree [] [] = Unit {0}
+  AllAgree [] (line ∷ lines) = ⊥
+  AllAgree (e ∷ entries) [] = ⊥
+  AllAgree (e ∷ entries) (line ∷ lines) = LineAgrees e line × AllAgree entries lines
+
+-- a search box with a point in it
+pub record HasPoint (root : GridBox) : Type 0 where
+  pub box : IsSearchBox root
+  pub point : Pos
+  pub inside : box_holds root point ≡ true
+
+module _ (m : Meaning) (sound : IsSound m) (root : GridBox) (tag : ℤ) (has : HasPoint root) where
+  abbrev Grown : SatLine → SatEntry → Type 0
+  Grown own e = IsGrownLine (pos (spare_of root)) (pos (err_spare_of root m.zenith)) own e
+
+  rows_agree : (seen : SatObs) (own other wide : Row) → m.judged root tag seen None → IsOwnRow m root tag seen own → IsOwnRow m root tag seen other
+      → own.sat ≡ seen.sat → other.sat ≡ seen.sat → IsGrownRow (pos (spare_of root)) (pos (err_spare_of root m.zenith)) own wide → LineAgrees m.zenith (entry.Row wide) (Usable other)
   rows_agree seen own other wide usable a b named also g =
-      let (c, allowed) = sound.allowed_exists tag seen p usable in
-      let here = a.holds p c inside allowed in
-      let there = b.holds p c inside allowed in
+      let (c, allowed) = sound.allowed_exists root tag seen has.point has.box has.inside usable in
+      let here = a.holds has.point c has.inside allowed in
+      let there = b.holds has.point c has.inside allowed in
+      let bounds = bounds_agree root m.zenith own other wide c (m.declared seen.sat) g.bounds here there b.bounds a.plain b.plain in
       record {
         same = g.sat ∙ (named ∙ sym also);
         passes = (
-          holds_each wide other (holds_span root own.x wide.x other.x c.x g.x here.x there.x a.x b.x)
-              (holds_span root own.y wide.y other.y c.y g.y here.y there.y a.y b.y)
-              (holds_span root own.z wide.z other.z c.z g.z here.z there.z a.z b.z)
-              (holds_span root own.range wide.range other.range c.corrected g.range here.corrected there.corrected a.range b.range),
-          g.err ∙ (a.err ∙ sym b.err),
+          holds_each m.zenith wide other (holds_span root own.x wide.x other.x c.x g.x here.x there.x b.x)
+              (holds_span root own.y wide.y other.y c.y g.y here.y there.y b.y)
+              (holds_span root own.z wide.z other.z c.z g.z here.z there.z b.z)
+              (holds_span root own.range wide.range other.range c.corrected g.range here.corrected there.corrected b.range)
+              bounds.held,
+          bounds.same,
         );
       }
 
-  not_both : (seen : SatObs) (skip : Skip) → m.judged tag seen None → m.judged tag seen (Some skip) → ⊥
-  not_both seen skip usable skipped = let same = sound.one_judgement tag seen None (Some skip) usable skipped in cc
+  not_both : (seen : SatObs) (skip : Skip) → m.judged root tag seen None → m.judged root tag seen (Some skip) → ⊥
+  not_both seen skip usable skipped = let same = sound.one_judgement root tag seen None (Some skip) usable skipped in cc
 
-  same_skip : (seen : SatObs) (skip other : Skip) → m.judged tag seen (Some skip) → m.judged tag seen (Some other) → skip ≡ other
-  same_skip seen skip other a b = let same = sound.one_judgement tag seen (Some skip) (Some other) a b in cc
+  same_skip : (seen : SatObs) (skip other : Skip) → m.judged root tag seen (Some skip) → m.judged root tag seen (Some other) → skip ≡ other
+  same_skip seen skip other a b = let same = sound.one_judgement root tag seen (Some skip) (Some other) a b in cc
 
-  line_agrees : (seen : SatObs) (own other : SatLine) (e : SatEntry) → IsOwnLine m root tag seen own → IsOwnLine m root tag seen other → IsGrownLine (pos (spare_of root)) own e → LineAgrees e other
+  line_agrees : (seen : SatObs) (own other : SatLine) (e : SatEntry) → IsOwnLine m root tag seen own → IsOwnLine m root tag seen other → Grown own e → LineAgrees m.zenith e other
   line_agrees seen (Usable own) (Usable other) (entry.Row wide) a b g = rows_agree seen own other wide a.1 a.2 b.2 a.0 b.0 g
   line_agrees seen (Usable own) (Skipped sat skip) (entry.Row wide) a b g = absurd (not_both seen skip a.1 b.1)
   line_agrees seen (Usable own) other (entry.Skipped sat skip) a b g = absurd g
@@ -77,7 +145,7 @@ module _ (m : Meaning) (sound : IsSound m) (root : GridBox) (tag : ℤ) (p : Pos
 
   -- each grown line of one reading passes against the other
   pub lines_agree : (sats : List SatObs) (own other : List SatLine) (entries : List SatEntry) → AreOwnLines m root tag sats own → AreOwnLines m root tag sats other
-      → AreGrownLines (pos (spare_of root)) own entries → AllAgree entries other
+      → AreGrownLines (pos (spare_of root)) (pos (err_spare_of root m.zenith)) own entries → AllAgree m.zenith entries other
   lines_agree [] [] [] [] a b g = tt
   lines_agree [] [] [] (e ∷ entries) a b g = absurd g
   lines_agree [] [] (line ∷ other) entries a b g = absurd b
@@ -87,7 +155,7 @@ module _ (m : Meaning) (sound : IsSound m) (root : GridBox) (tag : ℤ) (p : Pos
   lines_agree (seen ∷ sats) (line ∷ own) (ours ∷ other) [] a b g = absurd g
   lines_agree (seen ∷ sats) (line ∷ own) (ours ∷ other) (e ∷ entries) a b g = (line_agrees seen line ours e a.0 b.0 g.0, lines_agree sats own other entries a.1 b.1 g.1)
 
-  pub skips_agree : (sats : List SatObs) (own other : List SatLine) → AreOwnLines m root tag sats own → AreOwnLines m root tag sats other → AllAgree (skips_of own) (skipped_in other)
+  pub skips_agree : (sats : List SatObs) (own other : List SatLine) → AreOwnLines m root tag sats own → AreOwnLines m root tag sats other → AllAgree m.zenith (skips_of own) (skipped_in other)
   skips_agree [] [] [] a b = tt
   skips_agree [] [] (line ∷ other) a b = absurd b
   skips_agree [] (line ∷ own) other a b = absurd a

@@ -49,13 +49,13 @@ module _ (m : Meaning) (root : GridBox) (seen : ObsEpoch) (own given : List SatL
   pub skips_skipped : (items : List SatEntry) → items ≡ skips_of given → AllByRecursion IsSkipped items
   skips_skipped items is = rw (is, same) (all_skipped own)
 
-  pub few_grown : (by : ℤ) (items : List SatEntry) → AreGrownLines by given items → length items ≤ 64
-  few_grown by items grown =
-      omega (arith, grown_count by given items grown, ap length same, own_count m root seen.tag seen.sats.items own are, seen.few)
+  pub few_grown : (by err_by : ℤ) (items : List SatEntry) → AreGrownLines by err_by given items → length items ≤ 64
+  few_grown by err_by items grown =
+      omega (arith, grown_count by err_by given items grown, ap length same, own_count m root seen.tag seen.sats.items own are, seen.few)
 
   module _ (skips : SkipsFit m) (gps : AreGpsSats seen.sats.items) where
     pub skip_entries : (items : List SatEntry) → items ≡ skips_of given → AllByRecursion EntryFits items
     skip_entries items is = rw (is, same) (skips_fit m root seen.tag skips seen.sats.items own gps are)
 
-    pub grown_entries : (by : ℤ) (items : List SatEntry) → AreGrownLines by given items → AllByRecursion EntryFits items
-    grown_entries by items grown = lines_fit m root seen.tag skips by seen.sats.items own items gps are (rw same at grown)
+    pub grown_entries : (by err_by : ℤ) (items : List SatEntry) → AreGrownLines by err_by given items → AllByRecursion EntryFits items
+    grown_entries by err_by items grown = lines_fit m root seen.tag skips by err_by seen.sats.items own items gps are (rw same at grown)

@@ -12,12 +12,13 @@ use Rattle.paving_log_check.specs.FileCover.{FileCover}
 use Rattle.paving_log_check.proofs.FitLemmas.{fit_all}
 use Rattle.sat_model.specs.Boxes.{GridBox, box_holds}
 use Rattle.sat_model.specs.Logs.{Block}
+use Rattle.sat_model.specs.SearchBoxes.{IsSearchBox}
 use Rattle.sat_model.specs.declared.boxes.Pos.{Pos}
 use Rattle.sat_model.specs.declared.rules.Rules.{Rules}
 use Rattle.sat_rows.specs.Meanings.{Meaning, IsSound}
 use Rattle.sat_rows.specs.declared.lines.SatLine.{SatLine}
 use Rattle.rinex_obs.specs.declared.obs.ObsEpoch.{ObsEpoch}
-use Rattle.epoch_rows.proofs.AdmitLemmas.{HavePoints, admits_from, owns_of, few_roots}
+use Rattle.epoch_rows.proofs.AdmitLemmas.{HavePoints, boxes_of, admits_from, owns_of, few_roots}
 
 -- the epochs that are left, each with the box in which it is searched
 abbrev pub all_left : EpochsLeft → List Search
@@ -57,15 +58,15 @@ module _ (m : Meaning) (q : ℕ) (rules : Rules) where
       let of = came_of left None blocks behind came in
       (of.given, subst (AreGrown m q (all_left left)) (append-nil of.given) (of.grown [] (none_left behind ended)), of.pave)
 
--- the whole log over a root with a point in it
-module _ (m : Meaning) (sound : IsSound m) (rules : Rules) (left : EpochsLeft) (p : Pos) (inside : box_holds left.root p ≡ true)
+-- the whole log over a search box with a point in it
+module _ (m : Meaning) (sound : IsSound m) (rules : Rules) (left : EpochsLeft) (box : IsSearchBox left.root) (p : Pos) (inside : box_holds left.root p ≡ true)
     (limit : ℕ) (bytes said : List ℕ) (w : IsWhole (of_epochs m rules.outliers) rules left limit bytes said) where
   have_points : (epochs : List ObsEpoch) → HavePoints (searches_in left.root epochs)
   have_points [] = tt
-  have_points (epoch ∷ more) = ((p, inside), have_points more)
+  have_points (epoch ∷ more) = (record { box = box; point = p; inside = inside }, have_points more)
 
   -- all own lines admit it, also those of the first epochs alone
-  pub whole_admits : (owns : List (List SatLine)) → AreOwn m (all_left left) owns → Admits (all_left left) owns rules w.log
+  pub whole_admits : (owns : List (List SatLine)) → AreOwn m (all_left left) owns → Admits m.zenith (all_left left) owns rules w.log
   whole_admits owns are =
       let (given, grown, pave) = whole_of m rules.outliers rules left w.log.blocks w.behind w.came w.no_more in
       record {
@@ -78,4 +79,4 @@ module _ (m : Meaning) (sound : IsSound m) (rules : Rules) (left : EpochsLeft) (
   whole_covers =
       let (given, grown, pave) = whole_of m rules.outliers rules left w.log.blocks w.behind w.came w.no_more in
       let (owns, are, each) = owns_of m sound rules (all_left left) given grown in
-      fit_all m sound rules None owns (all_left left) w.log.blocks (few_roots m sound rules (all_left left) given w.log.blocks grown pave) (whole_admits owns are).blocks are each
+      fit_all m sound rules None owns (all_left left) w.log.blocks (boxes_of (all_left left) (have_points left.epochs)) (few_roots m sound rules (all_left left) given w.log.blocks grown pave) (whole_admits owns are).blocks are each

@@ -4,7 +4,7 @@ use Rattle.std.specs.Prelude.{◌*◌, ◌^◌, ℤ, pos}
 use Rattle.std.specs.List.{AllByRecursion}
 use Rattle.std.proofs.lemmas.Grind.{common_steps}
 use Rattle.std.proofs.lemmas.Int.{ints}
-use Rattle.epoch_rows.specs.Grown.{IsGrownLine, AreGrownLines, greatest_spare, skips_of}
+use Rattle.epoch_rows.specs.Grown.{IsGrownLine, AreGrownLines, greatest_spare, greatest_err_spare, skips_of}
 use Rattle.epoch_rows.specs.Ready.{SkipsFit}
 use Rattle.log_words.specs.Fields.{IsGps, SkipFits}
 use Rattle.paving_log.specs.Rows.{EntryFits}
@@ -13,13 +13,12 @@ use Rattle.rinex_obs.specs.Facts.{IsGpsSat, AreGpsSats, AreDistinct}
 use Rattle.rinex_obs.specs.declared.obs.SatObs.{SatObs}
 use Rattle.sat_model.specs.Boxes.{GridBox}
 use Rattle.sat_model.specs.Logs.{sat_of, rows_of}
-use Rattle.sat_model.specs.Relaxed.{ends}
 use Rattle.sat_model.specs.declared.satellites.Row.{Row}
 use Rattle.sat_model.specs.declared.satellites.Sat.{Sat}
 use Rattle.sat_model.specs.declared.satellites.SatEntry.{SatEntry}
 use Rattle.sat_model.specs.declared.satellites.SatEntry.TheVariants as entry
 use Rattle.sat_model.specs.declared.spans.Span.{Span}
-use Rattle.sat_rows.specs.Growth.{GrowsWithin, IsGrown}
+use Rattle.sat_rows.specs.Growth.{GrowsWithin, IsGrown, BoundsGrowWithin, AreBoundsGrown}
 use Rattle.sat_rows.specs.Meanings.{Meaning}
 use Rattle.sat_rows.specs.OwnRows.{IsOwnLine, AreOwnLines, usable_in, IsSmall, IsSmallRow, IsSmallLine}
 use Rattle.sat_rows.specs.declared.lines.SatLine.{SatLine}
@@ -38,14 +37,14 @@ skips_le [] = omega arith
 skips_le (Usable row ∷ own) = omega (arith, skips_le own)
 skips_le (Skipped sat skip ∷ own) = omega (arith, skips_le own)
 
-module _ (by : ℤ) where
-  pub grown_count : (own : List SatLine) (entries : List SatEntry) → AreGrownLines by own entries → length entries ≡ length own
+module _ (by err_by : ℤ) where
+  pub grown_count : (own : List SatLine) (entries : List SatEntry) → AreGrownLines by err_by own entries → length entries ≡ length own
   grown_count [] [] grown = refl
   grown_count [] (e ∷ entries) grown = absurd grown
   grown_count (line ∷ own) [] grown = absurd grown
   grown_count (line ∷ own) (e ∷ entries) grown = omega (arith, grown_count own entries grown.1)
 
-  pub grown_rows : (own : List SatLine) (entries : List SatEntry) → AreGrownLines by own entries → length (rows_of entries) ≡ usable_in own
+  pub grown_rows : (own : List SatLine) (entries : List SatEntry) → AreGrownLines by err_by own entries → length (rows_of entries) ≡ usable_in own
   grown_rows [] [] grown = refl
   grown_rows [] (e ∷ entries) grown = absurd grown
   grown_rows (line ∷ own) [] grown = absurd grown
@@ -57,13 +56,13 @@ module _ (by : ℤ) where
 -- ---- one line behind another
 
 -- grown lines of those that are left make them all
-abbrev pub GrowOn : ℤ → List SatLine → ℕ → List SatEntry → Type 0
-GrowOn by lines i entries = (rest : List SatEntry) → AreGrownLines by (drop i lines) rest → AreGrownLines by lines (entries ++ rest)
+abbrev pub GrowOn : ℤ → ℤ → List SatLine → ℕ → List SatEntry → Type 0
+GrowOn by err_by lines i entries = (rest : List SatEntry) → AreGrownLines by err_by (drop i lines) rest → AreGrownLines by err_by lines (entries ++ rest)
 
-pub grow_done : (by : ℤ) (lines : List SatLine) (i : ℕ) (entries : List SatEntry) → length lines ≤ i → GrowOn by lines i entries → AreGrownLines by lines entries
-grow_done by lines i entries ended on =
+pub grow_done : (by err_by : ℤ) (lines : List SatLine) (i : ℕ) (entries : List SatEntry) → length lines ≤ i → GrowOn by err_by lines i entries → AreGrownLines by err_by lines entries
+grow_done by err_by lines i entries ended on =
     let none : drop i lines ≡ [] = grind (arith, common_steps) in
-    subst (λ (l : List SatEntry). AreGrownLines by lines l) (append-nil entries) (on [] (rw none tt))
+    subst (λ (l : List SatEntry). AreGrownLines by err_by lines l) (append-nil entries) (on [] (rw none tt))
 
 pub all_skipped : (own : List SatLine) → AllByRecursion IsSkipped (skips_of own)
 all_skipped [] = tt
@@ -78,14 +77,22 @@ room by b span same n is few small = record {
   high = record { low = omega (arith, ints, small.hi.low); high = omega (arith, ints, small.hi.high) };
 }
 
+pub err_room : (by b : ℤ) (row : Row) → b ≡ by → (n : ℕ) → by ≡ pos n → n ≤ greatest_err_spare → IsSmallRow row → BoundsGrowWithin b row
+err_room by b row same n is few small = record {
+  least_lo = record { low = omega (arith, ints, small.err.lo.low); high = omega (arith, ints, small.err.lo.high) };
+  greatest_lo = record { low = omega (arith, ints, small.sure_lo.low); high = omega (arith, ints, small.sure_lo.high) };
+  least_hi = record { low = omega (arith, ints, small.sure_hi.low); high = omega (arith, ints, small.sure_hi.high) };
+  greatest_hi = record { low = omega (arith, ints, small.err.hi.low); high = omega (arith, ints, small.err.hi.high) };
+}
+
 pub is_small : (line : SatLine) (row : Row) → line ≡ Usable row → IsSmallLine line → IsSmallRow row
 is_small line row e small = rw e at small
 
-pub row_grown : (by b n : ℤ) (line : SatLine) (own row : Row) → b ≡ n → n ≡ by → line ≡ Usable own → row.sat ≡ own.sat → ends row.err ≡ ends own.err
-    → IsGrown b own.x row.x → IsGrown b own.y row.y → IsGrown b own.z row.z → IsGrown b own.range row.range → IsGrownLine by line (entry.Row row)
-row_grown by b n line own row same is e sat err x y z range =
-    let all : b ≡ by = same ∙ is in
-    rw e (record { sat = sat; x = rw all at x; y = rw all at y; z = rw all at z; range = rw all at range; err = err })
+-- the numbers by which a row was grown are these
+pub row_grown : (by b err_by err_b : ℤ) (line : SatLine) (own row : Row) → b ≡ by → err_b ≡ err_by → line ≡ Usable own → row.sat ≡ own.sat → AreBoundsGrown err_b own row
+    → IsGrown b own.x row.x → IsGrown b own.y row.y → IsGrown b own.z row.z → IsGrown b own.range row.range → IsGrownLine by err_by line (entry.Row row)
+row_grown by b err_by err_b line own row same err_same e sat bounds x y z range =
+    rw e (record { sat = sat; x = rw same at x; y = rw same at y; z = rw same at z; range = rw same at range; bounds = rw err_same at bounds })
 
 -- ---- the satellites that they name
 
@@ -105,21 +112,21 @@ module _ (m : Meaning) (root : GridBox) (tag : ℤ) where
     skips_fit [] (line ∷ own) gps are = absurd are
     skips_fit (seen ∷ sats) [] gps are = absurd are
     skips_fit (seen ∷ sats) (Usable row ∷ own) gps are = skips_fit sats own gps.1 are.1
-    skips_fit (seen ∷ sats) (Skipped sat skip ∷ own) gps are = ((gps_fits seen sat gps.0 are.0.0, skips tag seen skip are.0.1), skips_fit sats own gps.1 are.1)
+    skips_fit (seen ∷ sats) (Skipped sat skip ∷ own) gps are = ((gps_fits seen sat gps.0 are.0.0, skips root tag seen skip are.0.1), skips_fit sats own gps.1 are.1)
 
-    line_fits : (by : ℤ) (seen : SatObs) (line : SatLine) (e : SatEntry) → IsGpsSat seen → IsOwnLine m root tag seen line → IsGrownLine by line e → EntryFits e
-    line_fits by seen (Usable row) (entry.Row wide) gps is grown = gps_fits seen wide.sat gps (grown.sat ∙ is.0)
-    line_fits by seen (Usable row) (entry.Skipped sat skip) gps is grown = absurd grown
-    line_fits by seen (Skipped sat skip) (entry.Row wide) gps is grown = absurd grown
-    line_fits by seen (Skipped sat skip) (entry.Skipped same why) gps is grown = (gps_fits seen same gps (grown.0 ∙ is.0), subst SkipFits (sym grown.1) (skips tag seen skip is.1))
+    line_fits : (by err_by : ℤ) (seen : SatObs) (line : SatLine) (e : SatEntry) → IsGpsSat seen → IsOwnLine m root tag seen line → IsGrownLine by err_by line e → EntryFits e
+    line_fits by err_by seen (Usable row) (entry.Row wide) gps is grown = gps_fits seen wide.sat gps (grown.sat ∙ is.0)
+    line_fits by err_by seen (Usable row) (entry.Skipped sat skip) gps is grown = absurd grown
+    line_fits by err_by seen (Skipped sat skip) (entry.Row wide) gps is grown = absurd grown
+    line_fits by err_by seen (Skipped sat skip) (entry.Skipped same why) gps is grown = (gps_fits seen same gps (grown.0 ∙ is.0), subst SkipFits (sym grown.1) (skips root tag seen skip is.1))
 
-    pub lines_fit : (by : ℤ) (sats : List SatObs) (own : List SatLine) (entries : List SatEntry) → AreGpsSats sats → AreOwnLines m root tag sats own → AreGrownLines by own entries → AllByRecursion EntryFits entries
-    lines_fit by [] [] [] gps are grown = tt
-    lines_fit by [] [] (e ∷ entries) gps are grown = absurd grown
-    lines_fit by [] (line ∷ own) entries gps are grown = absurd are
-    lines_fit by (seen ∷ sats) [] entries gps are grown = absurd are
-    lines_fit by (seen ∷ sats) (line ∷ own) [] gps are grown = absurd grown
-    lines_fit by (seen ∷ sats) (line ∷ own) (e ∷ entries) gps are grown = (line_fits by seen line e gps.0 are.0 grown.0, lines_fit by sats own entries gps.1 are.1 grown.1)
+    pub lines_fit : (by err_by : ℤ) (sats : List SatObs) (own : List SatLine) (entries : List SatEntry) → AreGpsSats sats → AreOwnLines m root tag sats own → AreGrownLines by err_by own entries → AllByRecursion EntryFits entries
+    lines_fit by err_by [] [] [] gps are grown = tt
+    lines_fit by err_by [] [] (e ∷ entries) gps are grown = absurd grown
+    lines_fit by err_by [] (line ∷ own) entries gps are grown = absurd are
+    lines_fit by err_by (seen ∷ sats) [] entries gps are grown = absurd are
+    lines_fit by err_by (seen ∷ sats) (line ∷ own) [] gps are grown = absurd grown
+    lines_fit by err_by (seen ∷ sats) (line ∷ own) (e ∷ entries) gps are grown = (line_fits by err_by seen line e gps.0 are.0 grown.0, lines_fit by err_by sats own entries gps.1 are.1 grown.1)
 
   -- ---- no satellite is named twice
 
@@ -141,26 +148,26 @@ module _ (m : Meaning) (root : GridBox) (tag : ℤ) where
   skips_apart (seen ∷ sats) (Skipped sat skip ∷ own) distinct are =
       (no_skip_names sat sats own (subst (λ (s : Sat). Other s sats) (sym are.0.0) distinct.0) are.1, skips_apart sats own distinct.1 are.1)
 
-  line_names : (by : ℤ) (seen : SatObs) (line : SatLine) (e : SatEntry) → IsOwnLine m root tag seen line → IsGrownLine by line e → sat_of e ≡ seen.sat
-  line_names by seen (Usable row) (entry.Row wide) is grown = grown.sat ∙ is.0
-  line_names by seen (Usable row) (entry.Skipped sat skip) is grown = absurd grown
-  line_names by seen (Skipped sat skip) (entry.Row wide) is grown = absurd grown
-  line_names by seen (Skipped sat skip) (entry.Skipped same why) is grown = grown.0 ∙ is.0
+  line_names : (by err_by : ℤ) (seen : SatObs) (line : SatLine) (e : SatEntry) → IsOwnLine m root tag seen line → IsGrownLine by err_by line e → sat_of e ≡ seen.sat
+  line_names by err_by seen (Usable row) (entry.Row wide) is grown = grown.sat ∙ is.0
+  line_names by err_by seen (Usable row) (entry.Skipped sat skip) is grown = absurd grown
+  line_names by err_by seen (Skipped sat skip) (entry.Row wide) is grown = absurd grown
+  line_names by err_by seen (Skipped sat skip) (entry.Skipped same why) is grown = grown.0 ∙ is.0
 
-  none_names : (by : ℤ) (sat : Sat) (sats : List SatObs) (own : List SatLine) (entries : List SatEntry) → Other sat sats → AreOwnLines m root tag sats own → AreGrownLines by own entries → NoneNames sat entries
-  none_names by sat [] [] [] other are grown = tt
-  none_names by sat [] [] (e ∷ entries) other are grown = absurd grown
-  none_names by sat [] (line ∷ own) entries other are grown = absurd are
-  none_names by sat (seen ∷ sats) [] entries other are grown = absurd are
-  none_names by sat (seen ∷ sats) (line ∷ own) [] other are grown = absurd grown
-  none_names by sat (seen ∷ sats) (line ∷ own) (e ∷ entries) other are grown =
-      ((λ same. other.0 (sym (line_names by seen line e are.0 grown.0) ∙ same)), none_names by sat sats own entries other.1 are.1 grown.1)
+  none_names : (by err_by : ℤ) (sat : Sat) (sats : List SatObs) (own : List SatLine) (entries : List SatEntry) → Other sat sats → AreOwnLines m root tag sats own → AreGrownLines by err_by own entries → NoneNames sat entries
+  none_names by err_by sat [] [] [] other are grown = tt
+  none_names by err_by sat [] [] (e ∷ entries) other are grown = absurd grown
+  none_names by err_by sat [] (line ∷ own) entries other are grown = absurd are
+  none_names by err_by sat (seen ∷ sats) [] entries other are grown = absurd are
+  none_names by err_by sat (seen ∷ sats) (line ∷ own) [] other are grown = absurd grown
+  none_names by err_by sat (seen ∷ sats) (line ∷ own) (e ∷ entries) other are grown =
+      ((λ same. other.0 (sym (line_names by err_by seen line e are.0 grown.0) ∙ same)), none_names by err_by sat sats own entries other.1 are.1 grown.1)
 
-  pub lines_apart : (by : ℤ) (sats : List SatObs) (own : List SatLine) (entries : List SatEntry) → AreDistinct sats → AreOwnLines m root tag sats own → AreGrownLines by own entries → AreApart entries
-  lines_apart by [] [] [] distinct are grown = tt
-  lines_apart by [] [] (e ∷ entries) distinct are grown = absurd grown
-  lines_apart by [] (line ∷ own) entries distinct are grown = absurd are
-  lines_apart by (seen ∷ sats) [] entries distinct are grown = absurd are
-  lines_apart by (seen ∷ sats) (line ∷ own) [] distinct are grown = absurd grown
-  lines_apart by (seen ∷ sats) (line ∷ own) (e ∷ entries) distinct are grown =
-      (none_names by (sat_of e) sats own entries (subst (λ (s : Sat). Other s sats) (sym (line_names by seen line e are.0 grown.0)) distinct.0) are.1 grown.1, lines_apart by sats own entries distinct.1 are.1 grown.1)
+  pub lines_apart : (by err_by : ℤ) (sats : List SatObs) (own : List SatLine) (entries : List SatEntry) → AreDistinct sats → AreOwnLines m root tag sats own → AreGrownLines by err_by own entries → AreApart entries
+  lines_apart by err_by [] [] [] distinct are grown = tt
+  lines_apart by err_by [] [] (e ∷ entries) distinct are grown = absurd grown
+  lines_apart by err_by [] (line ∷ own) entries distinct are grown = absurd are
+  lines_apart by err_by (seen ∷ sats) [] entries distinct are grown = absurd are
+  lines_apart by err_by (seen ∷ sats) (line ∷ own) [] distinct are grown = absurd grown
+  lines_apart by err_by (seen ∷ sats) (line ∷ own) (e ∷ entries) distinct are grown =
+      (none_names by err_by (sat_of e) sats own entries (subst (λ (s : Sat). Other s sats) (sym (line_names by err_by seen line e are.0 grown.0)) distinct.0) are.1 grown.1, lines_apart by err_by sats own entries distinct.1 are.1 grown.1)

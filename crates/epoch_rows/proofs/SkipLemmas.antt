@@ -1,18 +1,20 @@
 -- Each reason not to use a GPS satellite can stand in a log.
 use Rattle.std.proofs.Common.{◌≡◌, ℕ, ◌≤◌, List, inl, inr, arith}
-use Rattle.std.specs.Prelude.{Some}
+use Rattle.std.specs.Prelude.{Option, Some}
 use Rattle.log_words.specs.Fields.{SkipFits}
+use Rattle.sat_model.specs.Boxes.{GridBox}
 use Rattle.sat_model.specs.declared.satellites.Skip.{Skip}
+use Rattle.sat_model.specs.declared.spans.Span.{Span}
 use Rattle.epoch_rows.specs.Ready.{SkipsFit}
 use Rattle.error_bounds.specs.declared.settings.Settings.{Settings}
 use Rattle.rinex_nav.specs.declared.record.NavRecord.{NavRecord}
 use Rattle.sat_rows.specs.Sources.{gps_meaning}
-use Rattle.usable_sats.specs.Usability.{Sighting, sighting, IsJudged}
+use Rattle.usable_sats.specs.Usability.{Sighting, sighting, IsSkip, IsJudged}
 
 alone : (skip : Skip) (number : ℕ) → skip.number ≡ number → skip.field ≡ 0 → 1 ≤ number → number ≤ 5 → SkipFits skip
-alone skip number is none from to = inl ((omega arith, omega arith), none)
+alone skip number is none from to = inl (inl (omega arith, omega arith), none)
 
-skip_fits : (a : Sighting) (skip : Skip) → IsJudged a (Some skip) → SkipFits skip
+skip_fits : (a : Sighting) (skip : Skip) → IsSkip a skip → SkipFits skip
 skip_fits a skip (inl (is, none, lacks)) = alone skip 1 is none (omega arith) (omega arith)
 skip_fits a skip (inr (inl (is, none, out))) = alone skip 2 is none (omega arith) (omega arith)
 skip_fits a skip (inr (inr (inl (is, none, lacks)))) = alone skip 3 is none (omega arith) (omega arith)
@@ -20,5 +22,9 @@ skip_fits a skip (inr (inr (inr (inl (is, none, lacks))))) = alone skip 4 is non
 skip_fits a skip (inr (inr (inr (inr (inl (is, none, lacks)))))) = alone skip 5 is none (omega arith) (omega arith)
 skip_fits a skip (inr (inr (inr (inr (inr (is, lacks)))))) = inr (is, (lacks.first.from, lacks.first.to))
 
+judged_fits : (zenith : Option Span) (root : GridBox) (a : Sighting) (skip : Skip) → IsJudged zenith root a (Some skip) → SkipFits skip
+judged_fits zenith root a skip (inl own) = skip_fits a skip own
+judged_fits zenith root a skip (inr low) = inl (inr low.number, low.field)
+
 pub gps_skips_fit : (records : List NavRecord) (settings : Settings) → SkipsFit (gps_meaning records settings)
-gps_skips_fit records settings tag seen skip judged = skip_fits (sighting records settings tag seen) skip judged
+gps_skips_fit records settings root tag seen skip judged = judged_fits settings.zenith root (sighting records settings tag seen) skip judged

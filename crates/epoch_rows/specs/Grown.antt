@@ -1,14 +1,15 @@
 -- Own rows with room at their ends, as the blocks of a log that has no steps yet.
-use Rattle.std.specs.Prelude.{ℕ, ◌≡◌, ◌+◌, ◌*◌, ◌/◌, ◌^◌, ℤ, pos, Bool, true, false, nat_lt, List, [], ◌∷◌, None, Some}
+use Rattle.std.specs.Prelude.{ℕ, ◌≡◌, ◌+◌, ◌*◌, ◌/◌, ◌^◌, ℤ, pos, Bool, true, false, nat_lt, List, [], ◌∷◌, Option, None, Some}
 use Rattle.epoch_selection.specs.Searches.{Search}
 use Rattle.sat_model.specs.Boxes.{GridBox}
 use Rattle.sat_model.specs.Lengths.{spare_of}
 use Rattle.sat_model.specs.Logs.{Block}
-use Rattle.sat_model.specs.Relaxed.{ends}
+use Rattle.sat_model.specs.Zenith.{spare_over, err_spare_of}
 use Rattle.sat_model.specs.declared.satellites.Row.{Row}
 use Rattle.sat_model.specs.declared.satellites.SatEntry.{SatEntry}
 use Rattle.sat_model.specs.declared.satellites.SatEntry.TheVariants as entry
-use Rattle.sat_rows.specs.Growth.{IsGrown}
+use Rattle.sat_model.specs.declared.spans.Span.{Span}
+use Rattle.sat_rows.specs.Growth.{IsGrown, AreBoundsGrown}
 use Rattle.sat_rows.specs.Meanings.{Meaning}
 use Rattle.sat_rows.specs.OwnRows.{AreLinesOf, usable_in}
 use Rattle.sat_rows.specs.declared.lines.SatLine.{SatLine}
@@ -18,29 +19,35 @@ use Rattle.sat_rows.specs.declared.lines.SatLine.TheVariants.{Usable, Skipped}
 abbrev pub greatest_spare : ℕ
 greatest_spare = 2000 + (2 * 10 ^ 13) / 40000
 
+-- the greatest G: a delay at the zenith is within 10 m
+abbrev pub greatest_err_spare : ℕ
+greatest_err_spare = spare_over (10 ^ 7) (2 * 10 ^ 13)
+
 -- ---- satellite lines
 
--- the place and the range of the own row, so much wider at both ends, and its error
-pub record IsGrownRow (by : ℤ) (own row : Row) : Type 0 where
+-- the own row's spans of the place and of the range are so much wider at both ends, and those of
+-- the low and of the high ends of the error by this
+pub record IsGrownRow (by err_by : ℤ) (own row : Row) : Type 0 where
   pub sat : row.sat ≡ own.sat
   pub x : IsGrown by own.x row.x
   pub y : IsGrown by own.y row.y
   pub z : IsGrown by own.z row.z
   pub range : IsGrown by own.range row.range
-  pub err : ends row.err ≡ ends own.err
+  pub bounds : AreBoundsGrown err_by own row
 
 -- the line with a grown row, or the same reason not to use the satellite
-abbrev pub IsGrownLine : ℤ → SatLine → SatEntry → Type 0
-IsGrownLine by (Usable own) (entry.Row row) = IsGrownRow by own row
-IsGrownLine by (Usable own) (entry.Skipped sat skip) = ⊥
-IsGrownLine by (Skipped sat skip) (entry.Row row) = ⊥
-IsGrownLine by (Skipped sat skip) (entry.Skipped same why) = (same ≡ sat) × (why ≡ skip)
+abbrev pub IsGrownLine : ℤ → ℤ → SatLine → SatEntry → Type 0
+IsGrownLine by err_by (Usable own) (entry.Row row) = IsGrownRow by err_by own row
+IsGrownLine by err_by (Usable own) (entry.Skipped sat skip) = ⊥
+IsGrownLine by err_by (Skipped sat skip) (entry.Row row) = ⊥
+IsGrownLine by err_by (Skipped sat skip) (entry.Skipped same why) = (same ≡ sat) × (why ≡ skip)
 
-abbrev pub AreGrownLines : ℤ → List SatLine → List SatEntry → Type 0
-AreGrownLines by [] [] = Unit {0}
-AreGrownLines by [] (sat ∷ sats) = ⊥
-AreGrownLines by (line ∷ lines) [] = ⊥
-AreGrownLines by (line ∷ lines) (sat ∷ sats) = IsGrownLine by line sat × AreGrownLines by lines sats
+abbrev pub AreGrownLines : ℤ → ℤ → List SatLine → List SatEntry → Type 0
+AreGrownLines by err_by [] [] = Unit {0}
+AreGrownLines by err_by [] (sat ∷ sats) = ⊥
+AreGrownLines by err_by (line ∷ lines) [] = ⊥
+AreGrownLines by err_by (line ∷ lines) (sat ∷ sats) =
+    IsGrownLine by err_by line sat × AreGrownLines by err_by lines sats
 
 -- the lines of the satellites that aren't usable
 abbrev pub skips_of : List SatLine → List SatEntry
@@ -51,11 +58,12 @@ skips_of (Skipped sat skip ∷ lines) = entry.Skipped sat skip ∷ skips_of line
 -- ---- blocks
 
 -- Where too few satellites are usable a block has the skip lines alone. Else it has all lines,
--- whose rows are wider by W at both ends, and the root.
-abbrev pub HasBody : Bool → GridBox → List SatLine → Block → Type 0
-HasBody true root own block = (block.sats ≡ skips_of own) × (block.root ≡ None)
-HasBody false root own block =
-    AreGrownLines (pos (spare_of root)) own block.sats × (block.root ≡ Some root)
+-- whose rows are wider by W at both ends, those of the ends of the error by G, and the root.
+abbrev pub HasBody : Option Span → Bool → GridBox → List SatLine → Block → Type 0
+HasBody zenith true root own block = (block.sats ≡ skips_of own) × (block.root ≡ None)
+HasBody zenith false root own block =
+    AreGrownLines (pos (spare_of root)) (pos (err_spare_of root zenith)) own block.sats
+    × (block.root ≡ Some root)
 
 -- by what a source says of satellites, where so many of them may be inconsistent
 module _ (m : Meaning) (q : ℕ) where
@@ -67,7 +75,7 @@ module _ (m : Meaning) (q : ℕ) where
     pub ps : block.ps ≡ search.epoch.tag
     pub n : block.n ≡ usable_in own
     pub few : block.few ≡ nat_lt (usable_in own) (q + 4)
-    pub body : HasBody block.few search.root own block
+    pub body : HasBody m.zenith block.few search.root own block
 
   -- one for each search, in order
   abbrev pub AreGrown : List Search → List Block → Type 0

@@ -5,13 +5,15 @@ use Rattle.log_words.specs.Fields.{IsCountFromTo, SkipFits}
 use Rattle.rinex_obs.specs.Facts.{AreDistinct, AreGpsSats}
 use Rattle.rinex_obs.specs.declared.obs.ObsEpoch.{ObsEpoch}
 use Rattle.rinex_obs.specs.declared.obs.SatObs.{SatObs}
+use Rattle.sat_model.specs.Boxes.{GridBox}
 use Rattle.sat_model.specs.Verdicts.{IsLater}
 use Rattle.sat_model.specs.declared.satellites.Skip.{Skip}
 use Rattle.sat_rows.specs.Meanings.{Meaning}
 
 -- each reason not to use a satellite can stand in a log
 abbrev pub SkipsFit : Meaning → Type 0
-SkipsFit m = (tag : ℤ) (seen : SatObs) (skip : Skip) → m.judged tag seen (Some skip) → SkipFits skip
+SkipsFit m = (root : GridBox) (tag : ℤ) (seen : SatObs) (skip : Skip)
+    → m.judged root tag seen (Some skip) → SkipFits skip
 
 -- its number is one of an epoch, and it has GPS satellites, none of them twice
 pub record IsWritable (epoch : ObsEpoch) : Type 0 where

@@ -11,6 +11,7 @@ ghost use Rattle.paving_log.specs.Text.{BlockFits};
 ghost use Rattle.paving_log.specs.Values.{block_of};
 ghost use Rattle.rinex_obs.specs.Facts.{AreGpsSats};
 ghost use Rattle.sat_model.specs.Boxes.{grid_box};
+ghost use Rattle.sat_model.specs.SearchBoxes.{IsSearchBox};
 
 use crate::lines::{grown_lines, skip_lines};
 use paving_log::LogEpoch;
@@ -19,8 +20,9 @@ use sat_model::{Box3, NoMemory, Rules};
 use sat_rows::RowSource;
 use std::alloc::Global;
 
-/// The block of an epoch: the rows of its satellites, each span wider by W at both ends, the skips,
-/// and the root; where fewer than q + 4 satellites are usable the skips alone. No line is numbered.
+/// The block of an epoch: the rows of its satellites, wider at both ends, by W in place and range
+/// and by G in the ends of the error, the skips, and the root; where fewer than q + 4 satellites
+/// are usable the skips alone. No line is numbered.
 pub fn block<S: RowSource>(
     alloc: Global,
     source: &S,
@@ -31,6 +33,7 @@ pub fn block<S: RowSource>(
     requires index { IsCountFromTo first_epoch last_epoch epoch.now.index }
     requires gps { AreGpsSats epoch.now.sats.items }
     requires skips { SkipsFit (S.meaning source.now) }
+    requires root { IsSearchBox (grid_box root.now) }
     ensures grown { IfOk result (λ block. IsGrownBlock (S.meaning source.now) rules.now.outliers
         (search_in (grid_box root.now) epoch.now) (block_of block)) }
     ensures fits { IfOk result (λ block. BlockFits form.Rows (block_of block)) }
@@ -56,7 +59,7 @@ pub fn block<S: RowSource>(
         ps: epoch.tag,
         n,
         few: false,
-        sats: grown_lines(alloc, &own.lines, root)?,
+        sats: grown_lines(alloc, &own.lines, root, source.zenith())?,
         root: Some(*root),
         steps: Vec::new(alloc),
         done: 0,

@@ -1,12 +1,13 @@
 //! The satellite lines of a block.
 
 ghost use Rattle.std.specs.Prelude.{◌≡◌, ◌≤◌, pos, IfOk};
-ghost use Rattle.epoch_rows.specs.Grown.{IsGrownLine, AreGrownLines, greatest_spare, skips_of};
+ghost use Rattle.epoch_rows.specs.Grown.{IsGrownLine, AreGrownLines, greatest_spare, greatest_err_spare, skips_of};
 ghost use Rattle.sat_model.specs.Boxes.{grid_box};
 ghost use Rattle.sat_model.specs.Lengths.{spare_of};
+ghost use Rattle.sat_model.specs.Zenith.{IsZenith, err_spare_of};
 ghost use Rattle.sat_rows.specs.OwnRows.{IsSmallLine, AreSmall};
 
-use sat_model::{Box3, NoMemory, SatEntry, spare};
+use sat_model::{Box3, NoMemory, SatEntry, Span, err_spare, spare};
 use sat_rows::{SatLine, grown};
 use std::alloc::Global;
 
@@ -19,13 +20,26 @@ fn room_over(root: &Box3) -> i64
     spare(root)
 }
 
+/// The same of the spans of its low and of its high ends of the error.
+fn err_room_over(root: &Box3, zenith: Option<Span>) -> i64
+    requires { IsZenith zenith }
+    ensures value { result ≡ pos (err_spare_of (grid_box root.now) zenith) }
+    ensures most { err_spare_of (grid_box root.now) zenith ≤ greatest_err_spare }
+{
+    err_spare(root, zenith)
+}
+
 /// The line, whose row is wider by this at both ends.
-fn grown_line(line: &SatLine, root: &Box3) -> SatEntry
-    requires { IsSmallLine line.now }
-    ensures { IsGrownLine (pos (spare_of (grid_box root.now))) line.now result }
+fn grown_line(line: &SatLine, root: &Box3, zenith: Option<Span>) -> SatEntry
+    requires small { IsSmallLine line.now }
+    requires zenith { IsZenith zenith }
+    ensures { IsGrownLine (pos (spare_of (grid_box root.now)))
+        (pos (err_spare_of (grid_box root.now) zenith)) line.now result }
 {
     match line {
-        SatLine::Usable(row) => SatEntry::Row(grown(row, room_over(root))),
+        SatLine::Usable(row) => {
+            SatEntry::Row(grown(row, room_over(root), err_room_over(root, zenith)))
+        }
         SatLine::Skipped { sat, skip } => SatEntry::Skipped {
             sat: *sat,
             skip: *skip,
@@ -34,14 +48,20 @@ fn grown_line(line: &SatLine, root: &Box3) -> SatEntry
 }
 
 /// All lines, their rows wider in this way.
-pub fn grown_lines(alloc: Global, lines: &[SatLine], root: &Box3) -> Result<Vec<SatEntry>, NoMemory>
-    requires { AreSmall lines.now }
-    ensures { IfOk result
-        (λ sats. AreGrownLines (pos (spare_of (grid_box root.now))) lines.now sats.items) }
+pub fn grown_lines(
+    alloc: Global,
+    lines: &[SatLine],
+    root: &Box3,
+    zenith: Option<Span>,
+) -> Result<Vec<SatEntry>, NoMemory>
+    requires small { AreSmall lines.now }
+    requires zenith { IsZenith zenith }
+    ensures { IfOk result (λ sats. AreGrownLines (pos (spare_of (grid_box root.now)))
+        (pos (err_spare_of (grid_box root.now) zenith)) lines.now sats.items) }
 {
     let mut sats = Vec::new(alloc);
     for line in lines {
-        sats.push(grown_line(line, root))?;
+        sats.push(grown_line(line, root, zenith))?;
     }
     Ok(sats)
 }

@@ -8,6 +8,7 @@ ghost use Rattle.epoch_selection.specs.Selections.{selected};
 ghost use Rattle.rinex_obs.specs.Facts.{AreNumbered, AreDistinct, AreGpsSats, InEach};
 ghost use Rattle.rinex_obs.specs.Reading.{observations_of};
 ghost use Rattle.sat_model.specs.Boxes.{grid_box};
+ghost use Rattle.sat_model.specs.SearchBoxes.{IsSearchBox};
 
 use crate::blocks::block;
 use epoch_selection::{Searches, Selection};
@@ -42,6 +43,7 @@ impl<'a, S: RowSource> ObsBlocks<'a, S> {
         requires distinct { InEach AreDistinct (observations_of obs.now).epochs }
         requires gps { InEach AreGpsSats (observations_of obs.now).epochs }
         requires skips { SkipsFit (S.meaning source.now) }
+        requires root { IsSearchBox (grid_box root.now) }
         ensures source { result.source.now ≡ source.now }
         ensures left { left_of result.searches
             ≡ left_in (grid_box root.now) (selected selection obs.now.epochs.items) }

@@ -1,15 +1,20 @@
 //! Epochs with the box in which each is searched.
 
+ghost use Rattle.sat_model.specs.Boxes.{grid_box};
+ghost use Rattle.sat_model.specs.SearchBoxes.{IsSearchBox};
+
 use crate::selection::Selection;
 use rinex_obs::ObsEpoch;
 use sat_model::Box3;
 
-/// The selected ones among the epochs that are left of a file, each to be searched in the same box.
+/// The selected ones among the epochs that are left of a file, each to be searched in the same box,
+/// which lies within 8,600 km on each axis and has no side of more than 200 km.
 #[derive(Clone, Copy)]
 pub struct Searches<'a> {
     pub left: &'a [ObsEpoch],
     pub selection: Selection,
     pub root: Box3,
+    pub ghost search_box: { IsSearchBox (grid_box root) },
 }
 
 impl<'a> Searches<'a> {

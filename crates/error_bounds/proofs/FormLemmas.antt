@@ -1,5 +1,5 @@
 -- The forms over values as the code holds them.
-use Rattle.std.proofs.Common.{◌≡◌, ℕ, ℤ, pos, negsuc, ◌≤ℤ◌, ◌*ℤ◌, Bool, true, false, List, [], ◌∷◌, length, get_or, is_some, suc, Option, Some, None, option_map, option_and_then, Result, Err, refl, sym, ap, ◌∙◌, ◌≢◌, arith}
+use Rattle.std.proofs.Common.{◌≡◌, ℕ, ℤ, pos, negsuc, ◌≤ℤ◌, ◌*ℤ◌, Bool, true, List, [], ◌∷◌, length, get_or, is_some, suc, Option, Some, None, option_map, option_and_then, Result, Err, refl, sym, ap, ◌∙◌, ◌≢◌, arith}
 use Rattle.std.proofs.lemmas.Bool.{and_parts, false≢true}
 use Rattle.std.proofs.lemmas.Int.{ints}
 use Rattle.sat_model.specs.Sizes.{IsWithin}
@@ -47,11 +47,11 @@ others_outside {V} {W} kind form n vs outside other there = by_members (all_memb
     by_members None long there = absurd (false≢true (sym there))
     by_members (Some ns) long there = sym (outside ns (λ e. other (sym (long ns refl) ∙ e)))
 
-pub not_two : (ns : List ℤ) → (length ns ≢ 2) → ends_of ns ≡ Err Outside
-not_two [] other = refl
-not_two (x ∷ []) other = refl
-not_two (x ∷ y ∷ []) other = absurd (other refl)
-not_two (x ∷ y ∷ z ∷ ns) other = refl
+pub not_two : (most : ℕ) (ns : List ℤ) → (length ns ≢ 2) → ends_of most ns ≡ Err Outside
+not_two most [] other = refl
+not_two most (x ∷ []) other = refl
+not_two most (x ∷ y ∷ []) other = absurd (other refl)
+not_two most (x ∷ y ∷ z ∷ ns) other = refl
 
 pub not_three : (passes : ℤ → Bool) (ns : List ℤ) → (length ns ≢ 3) → three passes ns ≡ Err Outside
 not_three passes [] other = refl

@@ -16,7 +16,7 @@ use Rattle.error_bounds.specs.declared.fault.SettingsError.{SettingsError}
 use Rattle.error_bounds.specs.declared.fault.SettingsError.TheVariants.{Refused, NoMemory}
 
 -- what is read at a key of `bounds`
-pub bound_value : (name : List ℕ) (tree : Members) (s : Span) → Answers (λ d r. ends_in r ≡ errors d) (codes "bounds") name tree (Ok s) → value_of (bound name) tree ≡ Ok (ends s)
+pub bound_value : (name : List ℕ) (tree : Members) (s : Span) → Answers (λ d r. ends_in r ≡ errors 1000000 d) (codes "bounds") name tree (Ok s) → value_of (bound name) tree ≡ Ok (ends s)
 bound_value name tree s answer = rw (answer.1) (sym answer.2)
 
 -- ---- tests one behind another

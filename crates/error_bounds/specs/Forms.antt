@@ -61,13 +61,13 @@ count lo hi d = of_kind (as_integer d) (λ n. right (is_from (pos lo) (pos hi) n
 abbrev pub length_from : ℕ → ℕ → Data → Result ℤ Fault
 length_from lo hi d = of_kind (as_integer d) (λ n. right (is_from (pos lo) (pos hi) n) (um n))
 
--- `[lo, hi]`, amounts of at most 1 km
-abbrev pub ends_of : List ℤ → Result (ℤ × ℤ) Fault
-ends_of (lo ∷ hi ∷ []) = right ((is_within 1000000 lo && is_within 1000000 hi) && le_z lo hi) (um lo, um hi)
-ends_of _ = Err Outside
+-- `[lo, hi]`, amounts of at most so many mm
+abbrev pub ends_of : ℕ → List ℤ → Result (ℤ × ℤ) Fault
+ends_of most (lo ∷ hi ∷ []) = right ((is_within most lo && is_within most hi) && le_z lo hi) (um lo, um hi)
+ends_of most _ = Err Outside
 
-abbrev pub errors : Data → Result (ℤ × ℤ) Fault
-errors d = of_kind (as_list_of as_integer d) ends_of
+abbrev pub errors : ℕ → Data → Result (ℤ × ℤ) Fault
+errors most d = of_kind (as_list_of as_integer d) (ends_of most)
 
 -- three lengths that pass one test
 abbrev pub three : (ℤ → Bool) → List ℤ → Result Pos Fault

@@ -73,8 +73,9 @@ signal_mode = record { table = codes "signal"; name = codes "mode"; form = mode_
 abbrev pub signal_codes : Mode → Key Signal
 signal_codes mode = record { table = codes "signal"; name = codes "codes"; form = code_list mode }
 
+-- amounts of at most 1 km
 abbrev pub bound : List ℕ → Key (ℤ × ℤ)
-bound name = record { table = codes "bounds"; name = name; form = errors }
+bound name = record { table = codes "bounds"; name = name; form = errors 1000000 }
 
 abbrev pub receiver : Key (ℤ × ℤ)
 receiver = bound (codes "receiver")
@@ -88,12 +89,16 @@ ionosphere = bound (codes "ionosphere")
 abbrev pub troposphere : Key (ℤ × ℤ)
 troposphere = bound (codes "troposphere")
 
+-- of the troposphere's delay at the zenith: amounts of at most 10 m, and it may be absent
+abbrev pub zenith : Key (ℤ × ℤ)
+zenith = record { table = codes "bounds"; name = codes "zenith"; form = errors 10000 }
+
 -- `G01` to `G99`
 abbrev pub satellite_name : ℕ → List ℕ
 satellite_name number = 71 ∷ (48 + number / 10) ∷ (48 + number % 10) ∷ []
 
 abbrev pub satellite : ℕ → Key (ℤ × ℤ)
-satellite number = record { table = codes "satellite"; name = satellite_name number; form = errors }
+satellite number = record { table = codes "satellite"; name = satellite_name number; form = errors 1000000 }
 
 -- the numbers from one up to 99
 unfoldable pub numbers_from : ℕ → List ℕ
@@ -132,9 +137,6 @@ search_tests tree =
 abbrev pub signal_tests : Members → List Test
 signal_tests tree = test signal_mode tree ∷ test (codes_key tree) tree ∷ []
 
-abbrev pub bounds_tests : Members → List Test
-bounds_tests tree = test receiver tree ∷ test orbit_clock tree ∷ test ionosphere tree ∷ test troposphere tree ∷ []
-
 -- what is read at a key that may be absent from its table
 abbrev pub some_of : {V : Type 0} → Result V Fault → Result (Option V) Fault
 some_of (Ok v) = Ok (Some v)
@@ -149,6 +151,27 @@ optional key members = optional_in key (get_member key.name members)
 
 abbrev pub test_optional : {V : Type 0} → Members → Key V → Test
 test_optional members key = record { key = printed key; fault = fault_in (optional key members) }
+
+-- what stands in a tree at a key that may be absent, with its table or without
+abbrev pub if_there : Result Data Fault → Result (Option Data) Fault
+if_there (Ok d) = Ok (Some d)
+if_there (Err Missing) = Ok None
+if_there (Err fault) = Err fault
+
+abbrev pub optional_from : {V : Type 0} → Key V → Result (Option Data) Fault → Result (Option V) Fault
+optional_from key (Ok found) = optional_in key found
+optional_from key (Err fault) = Err fault
+
+-- what is read at it
+abbrev pub optional_at : {V : Type 0} → Key V → Members → Result (Option V) Fault
+optional_at key tree = optional_from key (if_there (data_at key.table key.name tree))
+
+abbrev pub test_optional_at : {V : Type 0} → Key V → Members → Test
+test_optional_at key tree = record { key = printed key; fault = fault_in (optional_at key tree) }
+
+abbrev pub bounds_tests : Members → List Test
+bounds_tests tree =
+    test receiver tree ∷ test orbit_clock tree ∷ test ionosphere tree ∷ test troposphere tree ∷ test_optional_at zenith tree ∷ []
 
 -- the table of the satellites may be absent too
 abbrev pub satellites_in : Option Data → Result Members Fault

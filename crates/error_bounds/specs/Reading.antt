@@ -1,5 +1,5 @@
 -- What a reader of settings texts answers.
-use Rattle.std.specs.Prelude.{◌≡◌, ◌⊎◌, ◌<◌, ℤ, map, ◌+ℤ◌, ◌-ℤ◌, ℕ, List, [], ◌∷◌, Bool, ◌&&◌, ◌==◌, if◌then◌else◌, pos, Option, None, Some, Result, Ok, Err}
+use Rattle.std.specs.Prelude.{◌≡◌, ◌⊎◌, ◌<◌, ℤ, map, ◌+ℤ◌, ◌-ℤ◌, ℕ, List, [], ◌∷◌, Bool, ◌&&◌, ◌==◌, if◌then◌else◌, pos, Option, None, Some, option_map, Result, Ok, Err}
 use Rattle.std.specs.Borrow.{Bor}
 use Rattle.sat_model.specs.Boxes.{GridBox}
 use Rattle.sat_model.specs.Relaxed.{ends}
@@ -7,7 +7,7 @@ use Rattle.sat_model.specs.declared.boxes.Pos.{Pos}
 use Rattle.sat_model.specs.declared.satellites.Sat.{Sat}
 use Rattle.sat_model.specs.declared.spans.Span.{Span}
 use Rattle.error_bounds.specs.Faults.{Found, IsCut, number_of}
-use Rattle.error_bounds.specs.Keys.{Test, data_at, dotted, first_found}
+use Rattle.error_bounds.specs.Keys.{Test, data_at, dotted, if_there, first_found}
 use Rattle.error_bounds.specs.Keys as key
 use Rattle.error_bounds.specs.Names.{unknown, IsFirstName}
 use Rattle.std.specs.List.{All}
@@ -43,6 +43,7 @@ value_of_settings s = record {
   signal = s.signal;
   common = ends s.common;
   extra = with_ends s.extra.items;
+  zenith = option_map ends s.zenith;
 }
 
 -- a refusal tells of a fault
@@ -55,6 +56,11 @@ abbrev pub data_of : Result (Bor Value) Fault → Result Data Fault
 data_of (Ok value) = Ok (view value.now)
 data_of (Err fault) = Err fault
 
+-- the same where there may be none
+abbrev pub optional_data_of : Result (Option (Bor Value)) Fault → Result (Option Data) Fault
+optional_data_of (Ok found) = Ok (option_map (λ value. view value.now) found)
+optional_data_of (Err fault) = Err fault
+
 -- three whole numbers, or why there are none
 abbrev pub AreThree : Data → Result (ℤ × ℤ × ℤ) Fault → Type 0
 AreThree d (Ok n) = as_list_of as_integer d ≡ Some (n.0 ∷ n.1 ∷ n.2 ∷ [])
@@ -66,6 +72,14 @@ Answers reads table name tree (Ok v) = (d : Data) × (data_at table name tree �
 Answers reads table name tree (Err told) =
     (fault : Fault) × Tells (record { fault = fault; key = dotted table name }) told
     × ((data_at table name tree ≡ Err fault) ⊎ ((d : Data) × (data_at table name tree ≡ Ok d) × reads d (Err fault)))
+
+-- the same at a key that may be absent
+abbrev pub AnswersOptional : {V : Type 0} → (Data → Result V Fault → Type 0) → List ℕ → List ℕ → Members → Result (Option V) SettingsFault → Type 0
+AnswersOptional reads table name tree (Ok None) = if_there (data_at table name tree) ≡ Ok None
+AnswersOptional reads table name tree (Ok (Some v)) = (d : Data) × (if_there (data_at table name tree) ≡ Ok (Some d)) × reads d (Ok v)
+AnswersOptional reads table name tree (Err told) =
+    (fault : Fault) × Tells (record { fault = fault; key = dotted table name }) told
+    × ((if_there (data_at table name tree) ≡ Err fault) ⊎ ((d : Data) × (if_there (data_at table name tree) ≡ Ok (Some d)) × reads d (Err fault)))
 
 -- the span that is read, as its ends
 abbrev pub ends_in : Result Span Fault → Result (ℤ × ℤ) Fault

@@ -12,7 +12,7 @@ knows scope.Search name =
     list_any (is_text name) (codes "centre" ∷ codes "half" ∷ codes "outliers" ∷ codes "bisections" ∷ codes "width" ∷ codes "max_age" ∷ [])
 knows scope.Signal name = list_any (is_text name) (codes "mode" ∷ codes "codes" ∷ [])
 knows scope.Bounds name =
-    list_any (is_text name) (codes "receiver" ∷ codes "orbit_clock" ∷ codes "ionosphere" ∷ codes "troposphere" ∷ [])
+    list_any (is_text name) (codes "receiver" ∷ codes "orbit_clock" ∷ codes "ionosphere" ∷ codes "troposphere" ∷ codes "zenith" ∷ [])
 knows scope.Satellite name = is_satellite name
 
 abbrev pub prefix_of : Scope → List ℕ

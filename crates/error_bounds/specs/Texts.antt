@@ -24,6 +24,7 @@ pub record SettingsValue : Type 0 where
   pub signal : Signal
   pub common : ℤ × ℤ
   pub extra : List (Sat × (ℤ × ℤ))
+  pub zenith : Option (ℤ × ℤ)
 
 abbrev pub gps : ℕ → Sat
 gps number = record { system = 71; number = number }
@@ -61,6 +62,7 @@ pub record IsValue (tree : Members) (v : SettingsValue) : Type 0 where
   pub is_troposphere : key.value_of key.troposphere tree ≡ Ok troposphere
   pub common : v.common ≡ add (add (add receiver orbit_clock) ionosphere) troposphere
   pub extra : v.extra ≡ extra_in (key.satellites tree)
+  pub zenith : key.optional_at key.zenith tree ≡ Ok v.zenith
 
 -- the first fault of a tree: the first key with one, and behind all keys the first unknown name
 abbrev pub IsFound : Members → Found → Type 0

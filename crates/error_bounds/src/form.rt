@@ -1,19 +1,16 @@
 //! What a value has to be. Lengths stand in mm in the text, and are read in um.
 
-ghost use Rattle.std.specs.Prelude.{◌≡◌, ◌≤◌, Result, IfOk, is_some, pos, [], ◌∷◌, ◌≤ℤ◌, ◌-ℤ◌};
+ghost use Rattle.std.specs.Prelude.{◌≡◌, ◌≤◌, Result, IfOk, is_some, pos, [], ◌∷◌, ◌≤ℤ◌, ◌*◌};
 ghost use Rattle.toml.specs.Data.{Data, as_integer};
 ghost use Rattle.toml.specs.View.{view, items_view};
-ghost use Rattle.error_bounds.specs.Forms.{all_members, count, length_from, errors, ends_of, is_from, um};
-ghost use Rattle.error_bounds.specs.Sizes.{IsDeclared};
+ghost use Rattle.error_bounds.specs.Forms.{all_members, count, length_from, errors, ends_of, is_within, um};
+ghost use Rattle.error_bounds.specs.Sizes.{IsSpanWithin};
 ghost use Rattle.error_bounds.specs.Reading.{ends_in};
 ghost use Rattle.error_bounds.specs.declared.fault.Fault.{Fault};
 
 use crate::fault::Fault;
 use sat_model::Span;
 use toml::Value;
-
-/// The greatest amount of a declared error, in mm.
-const MAX_ERROR: i64 = 1_000_000;
 
 /// What a value has to be, and what is read from it.
 pub trait Form {
@@ -44,9 +41,14 @@ pub struct Length {
     pub hi: u32,
 }
 
-/// A span of errors, `[lo, hi]` in mm, read in um.
+/// A span of errors, `[lo, hi]` in mm with amounts of at most `most`, read in um.
 #[derive(Clone, Copy)]
-pub struct Errors;
+pub struct Errors {
+    pub most: u32,
+}
+
+/// What is declared of one kind of error, or of one satellite's: within 1 km.
+pub const DECLARED: Errors = Errors { most: 1_000_000 };
 
 impl Form for Count {
     type Output = u32;
@@ -89,9 +91,9 @@ impl Form for Length {
 impl Form for Errors {
     type Output = Span;
 
-    ghost reads = { λ form d r. ends_in r ≡ errors d };
+    ghost reads = { λ form d r. ends_in r ≡ errors form.most d };
 
-    ghost allows = { λ form s. IsDeclared s };
+    ghost allows = { λ form s. IsSpanWithin (1000 * form.most) s };
 
     fn read(&self, value: &Value) -> Result<Span, Fault> {
         let Some(items) = value.as_array() else {
@@ -104,18 +106,18 @@ impl Form for Errors {
             return Err(Fault::Outside);
         };
         match (lo.as_integer(), hi.as_integer()) {
-            (Some(lo), Some(hi)) => span_of(lo, hi),
+            (Some(lo), Some(hi)) => span_of(self.most, lo, hi),
             _ => Err(Fault::WrongKind),
         }
     }
 }
 
-/// The span of errors with these ends in mm.
-fn span_of(lo: i64, hi: i64) -> Result<Span, Fault>
-    ensures value { ends_in result ≡ ends_of (lo ∷ hi ∷ []) }
-    ensures within { IfOk result IsDeclared }
+/// The span of errors with these ends in mm, amounts of at most `most`.
+fn span_of(most: u32, lo: i64, hi: i64) -> Result<Span, Fault>
+    ensures value { ends_in result ≡ ends_of most (lo ∷ hi ∷ []) }
+    ensures within { IfOk result (IsSpanWithin (1000 * most)) }
 {
-    if is_within(MAX_ERROR, lo) && is_within(MAX_ERROR, hi) && lo <= hi {
+    if is_within(most as u64, lo) && is_within(most as u64, hi) && lo <= hi {
         Ok(Span {
             lo: lo * 1_000,
             hi: hi * 1_000,
@@ -126,11 +128,10 @@ fn span_of(lo: i64, hi: i64) -> Result<Span, Fault>
 }
 
 /// Whether a number is at most `most` in amount.
-pub fn is_within(most: i64, n: i64) -> bool
-    requires { pos 0 ≤ℤ most }
-    ensures { result ≡ is_from (pos 0 -ℤ most) most n }
+pub fn is_within(most: u64, n: i64) -> bool
+    ensures { result ≡ is_within most n }
 {
-    -most <= n && n <= most
+    n.unsigned_abs() <= most
 }
 
 /// Whether each member is a whole number.

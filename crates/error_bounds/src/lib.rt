@@ -2,6 +2,7 @@
 //! declared bounds of the errors.
 #![tactic(auto)]
 
+mod bounds;
 mod fault;
 mod form;
 mod key;

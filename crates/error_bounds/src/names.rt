@@ -76,7 +76,11 @@ fn is_search_key(name: &str) -> bool
 fn is_bound(name: &str) -> bool
     ensures { result ≡ knows Scope.Bounds name.now }
 {
-    name == "receiver" || name == "orbit_clock" || name == "ionosphere" || name == "troposphere"
+    name == "receiver"
+        || name == "orbit_clock"
+        || name == "ionosphere"
+        || name == "troposphere"
+        || name == "zenith"
 }
 
 /// Whether a name is one of G01 to G99.

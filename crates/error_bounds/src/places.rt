@@ -14,7 +14,7 @@ use sat_model::Pos;
 use toml::Value;
 
 /// The greatest amount of a coordinate, in mm.
-const MAX_COORDINATE: i64 = 8_500_000_000;
+const MAX_COORDINATE: u64 = 8_500_000_000;
 
 /// The greatest half side, in mm.
 const MAX_HALF: i64 = 100_000_000;

@@ -21,7 +21,7 @@ fn read_tree(alloc: Global, tree: &Table) -> Result<Settings, SettingsError>
 {
     let search = read_search(tree)?;
     let signal = read_signal(tree)?;
-    let common = read_bounds(tree)?;
+    let bounds = read_bounds(tree)?;
     let extra = read_satellites(alloc, tree)?;
     check_names(alloc, tree)?;
     Ok(Settings {
@@ -30,8 +30,9 @@ fn read_tree(alloc: Global, tree: &Table) -> Result<Settings, SettingsError>
         rules: search.rules,
         max_age: search.max_age,
         signal,
-        common,
+        common: bounds.common,
         extra,
+        zenith: bounds.zenith,
     })
 }
 
@@ -58,7 +59,7 @@ fn read_text(alloc: Global, bytes: &[u8]) -> Result<Settings, SettingsError>
 /// Reads a settings text. A fault is refused with its number and its key:
 ///
 /// - 30: the bytes aren't UTF-8, or the text is no TOML
-/// - 31: a key is absent, or the table that should hold it
+/// - 31: a key that has to be there is absent, or the table that should hold it
 /// - 32: a value is of another kind, or what should hold a key is no table
 /// - 33: a value is another text, has another number of members, or is out of order or range
 /// - 34: a name is that of no key

@@ -10,7 +10,7 @@ ghost use Rattle.error_bounds.specs.Sizes.{IsDeclared};
 ghost use Rattle.error_bounds.specs.Texts.{extra_in, extra_of};
 
 use crate::fault::{Fault, SettingsError, SettingsFault};
-use crate::form::{Errors, Form};
+use crate::form::{DECLARED, Form};
 use crate::key::fault_at;
 use arrayvec::ArrayString;
 use sat_model::{Sat, Span};
@@ -40,7 +40,7 @@ fn own_span(members: &Table, number: u8) -> Result<Option<Span>, SettingsFault>
     let Some(value) = members.get(name.as_str()) else {
         return Ok(None);
     };
-    match Errors.read(value) {
+    match DECLARED.read(value) {
         Ok(span) => Ok(Some(span)),
         Err(fault) => Err(fault_at(fault, "satellite", name.as_str())),
     }

@@ -2,6 +2,7 @@
 
 ghost use Rattle.std.specs.Prelude.{◌≡◌, ◌+ℤ◌, ◌-ℤ◌, ◌≤ℤ◌};
 ghost use Rattle.sat_model.specs.Boxes.{grid_box};
+ghost use Rattle.sat_model.specs.SearchBoxes.{IsSearchBox};
 ghost use Rattle.sat_model.specs.Sizes.{IsWithin, IsBoxSize};
 ghost use Rattle.error_bounds.specs.Reading.{box_around};
 ghost use Rattle.error_bounds.specs.Sizes.{IsNearEarth, IsHalfSide, AreHalfSides};
@@ -25,7 +26,8 @@ fn side_around(centre: i64, half: i64) -> (i64, i64)
 pub fn box_around(centre: Pos, half: Pos) -> Box3
     requires near { IsNearEarth centre }
     requires half_within { AreHalfSides half }
-    ensures { grid_box result ≡ box_around centre half }
+    ensures value { grid_box result ≡ box_around centre half }
+    ensures search_box { IsSearchBox (grid_box result) }
 {
     let x = side_around(centre.x, half.x);
     let y = side_around(centre.y, half.y);

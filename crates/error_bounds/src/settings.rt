@@ -1,6 +1,7 @@
 //! The settings of a run.
 
 ghost use Rattle.std.specs.Prelude.{◌≡◌, ◌≤◌, true};
+ghost use Rattle.sat_model.specs.Zenith.{IsZenith};
 ghost use Rattle.error_bounds.specs.Sizes.{IsCentre, AreHalfSides, IsSumOfFour, IsDeclared, IsAscending, are_codes, AreDeclared};
 
 use crate::search_box::box_around;
@@ -30,6 +31,9 @@ pub struct Settings {
     pub common: Span,
     /// What is declared for one satellite beyond that, within 1 km, in the order of their numbers.
     pub extra: Vec<(Sat, Span)>,
+    /// What is declared of the troposphere's delay at the zenith, within 10 m: mapped by elevation it
+    /// is added to the sum.
+    pub zenith: Option<Span>,
     pub ghost centre_within: { IsCentre centre },
     pub ghost half_within: { AreHalfSides half },
     pub ghost some_age: { 1 ≤ max_age },
@@ -38,11 +42,13 @@ pub struct Settings {
     pub ghost common_within: { IsSumOfFour common },
     pub ghost extra_within: { AreDeclared extra.items },
     pub ghost extra_once: { IsAscending extra.items },
+    pub ghost zenith_within: { IsZenith zenith },
 }
 
 impl Settings {
     ghost use Rattle.sat_model.specs.Boxes.{grid_box};
     ghost use Rattle.sat_model.specs.Relaxed.{ends};
+    ghost use Rattle.sat_model.specs.SearchBoxes.{IsSearchBox};
     ghost use Rattle.error_bounds.specs.Reading.{value_of_settings, with_ends, bound_for, extra_for, centre_with, IsEnough, IsRoot};
 
     /// The sum of all spans that are declared for the satellite, in um.
@@ -73,7 +79,9 @@ impl Settings {
     /// header, `header` has to be there, within 8,500 km of the origin on each axis.
     pub fn root(&self, header: Option<Pos>) -> Box3
         requires { IsEnough self.now.centre header }
-        ensures { IsRoot (centre_with header self.now.centre) self.now.half (grid_box result) }
+        ensures value { IsRoot (centre_with header self.now.centre) self.now.half (grid_box result) }
+        // Within 8,600 km of the origin on each axis, and no side is longer than 200 km.
+        ensures search_box { IsSearchBox (grid_box result) }
     {
         match self.centre {
             Centre::At(point) => box_around(point, self.half),

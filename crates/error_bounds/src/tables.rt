@@ -1,16 +1,17 @@
 //! The tables whose keys have to be there.
 
-ghost use Rattle.std.specs.Prelude.{◌≡◌, ℕ, ◌+◌, ◌≤◌, true, None, Ok, IfOk, IfErr, OnOk};
+ghost use Rattle.std.specs.Prelude.{◌≡◌, ℕ, ◌+◌, ◌≤◌, true, None, Ok, option_map, IfOk, IfErr, OnOk};
 ghost use Rattle.sat_model.specs.Relaxed.{ends};
 ghost use Rattle.toml.specs.View.{table_view};
-ghost use Rattle.error_bounds.specs.Keys.{value_of, codes_key, search_tests, signal_tests, bounds_tests, first_found};
+ghost use Rattle.error_bounds.specs.Keys.{value_of, codes_key, optional_at, zenith, search_tests, signal_tests, bounds_tests, first_found};
 ghost use Rattle.error_bounds.specs.Reading.{IsSearch, IsCommon, TellsFirst};
-ghost use Rattle.error_bounds.specs.Sizes.{IsDeclared, IsSpanWithin, IsSumOfFour, are_codes};
+ghost use Rattle.error_bounds.specs.Sizes.{IsDeclared, IsSpanWithin, are_codes};
 ghost use Rattle.error_bounds.specs.Texts.{add};
 
+use crate::bounds::Bounds;
 use crate::fault::SettingsFault;
-use crate::form::{Count, Errors, Length};
-use crate::key::required;
+use crate::form::{Count, DECLARED, Errors, Length};
+use crate::key::{optional, required};
 use crate::places::{HalfSides, Place};
 use crate::search::Search;
 use crate::signals::{Codes, ModeWord};
@@ -61,20 +62,23 @@ pub fn read_signal(tree: &Table) -> Result<Signal, SettingsFault>
     required(tree, "signal", "codes", &Codes { mode })
 }
 
-/// The keys of `bounds`: the sum of the four spans that are declared for every satellite.
-pub fn read_bounds(tree: &Table) -> Result<Span, SettingsFault>
+/// The keys of `bounds`.
+pub fn read_bounds(tree: &Table) -> Result<Bounds, SettingsFault>
     ensures none { OnOk result (first_found (bounds_tests (table_view tree.now)) ≡ None) }
-    ensures value { IfOk result (λ common. IsCommon (table_view tree.now) (ends common)) }
-    ensures within { IfOk result IsSumOfFour }
+    ensures common { IfOk result (λ bounds. IsCommon (table_view tree.now) (ends bounds.common)) }
+    ensures zenith { IfOk result (λ bounds.
+        optional_at zenith (table_view tree.now) ≡ Ok (option_map ends bounds.zenith)) }
     ensures fault { IfErr result (TellsFirst (bounds_tests (table_view tree.now))) }
 {
-    let receiver = required(tree, "bounds", "receiver", &Errors)?;
-    let orbit_clock = required(tree, "bounds", "orbit_clock", &Errors)?;
-    let ionosphere = required(tree, "bounds", "ionosphere", &Errors)?;
-    let troposphere = required(tree, "bounds", "troposphere", &Errors)?;
+    let receiver = required(tree, "bounds", "receiver", &DECLARED)?;
+    let orbit_clock = required(tree, "bounds", "orbit_clock", &DECLARED)?;
+    let ionosphere = required(tree, "bounds", "ionosphere", &DECLARED)?;
+    let troposphere = required(tree, "bounds", "troposphere", &DECLARED)?;
+    let zenith = optional(tree, "bounds", "zenith", &Errors { most: 10_000 })?;
     let common = sum(receiver, orbit_clock);
     let common = sum(common, ionosphere);
-    Ok(sum(common, troposphere))
+    let common = sum(common, troposphere);
+    Ok(Bounds { common, zenith })
 }
 
 /// The sum of two spans.

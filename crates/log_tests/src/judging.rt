@@ -4,7 +4,7 @@ ghost use Rattle.std.specs.Prelude.{◌≡◌, ◌≤◌, length};
 ghost use Rattle.sat_model.specs.Logs.{lines_in};
 ghost use Rattle.paving_log.specs.Values.{block_of};
 
-use crate::small_rows::{FAR, cuboid, edge, five_rows, four_rows, row, rules, split, up_to};
+use crate::small_rows::{FAR, cuboid, edge, five_rows, four_rows, metre_row, row, rules, split, up_to};
 use paving_log::{Log, LogEpoch};
 use paving_log_check::{Fault, Verdict, judge};
 use sat_model::{Box3, NoMemory, Pos, Row, Rules, SatEntry, Span, Step};
@@ -130,6 +130,38 @@ fn judges_an_empty_cover(rt: HostRuntime) -> Result<(), Fail> {
         0,
     )?;
     assert_eq!(rt; found, yes(0));
+    Ok(())
+}
+
+/// Less is sure of the first satellite than that its error is allowed. A box at the edge goes by what
+/// is allowed, an inner one by what is sure.
+#[test]
+fn judges_unsure_rows(rt: HostRuntime) -> Result<(), Fail> {
+    let [_, second, third, fourth] = four_rows(FAR, up_to(500_000));
+    let rows = [metre_row(-400_000, 400_000), second, third, fourth];
+    let steps = [edge(0, -1_400_000, 1_400_000)];
+    let found = judged(
+        rt.alloc(),
+        rules(0, 0, 1_000_000),
+        &rows,
+        cuboid(),
+        &steps,
+        0,
+    )?;
+    assert_eq!(rt; found, yes(1));
+    let [_, second, third, fourth, fifth] = five_rows(up_to(1_000_000));
+    let first = metre_row(-999_999, 999_999);
+    let rows = [first, second, third, fourth, fifth];
+    let steps = [inside(0, 0, -1_900_000, 1_900_000)];
+    let found = judged(
+        rt.alloc(),
+        rules(1, 0, 1_000_000),
+        &rows,
+        cuboid(),
+        &steps,
+        0,
+    )?;
+    assert_eq!(rt; found, no(59, 10));
     Ok(())
 }
 

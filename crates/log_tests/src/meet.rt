@@ -1,4 +1,4 @@
-use crate::small_rows::only;
+use crate::small_rows::{cuboid, metre_row, only};
 use relaxed_meet::{
     clock_hull, clock_span, inner_span, near_far, relaxed, shown_empty, shown_inner,
 };
@@ -44,6 +44,8 @@ fn a_row_overhead_shows_its_box(rt: HostRuntime) -> Result<(), Fail> {
         z: only(far),
         range: only(far),
         err: only(0),
+        sure_lo: 0,
+        sure_hi: 0,
     };
     let column = Box3 {
         lo: Pos {
@@ -84,5 +86,38 @@ fn a_row_overhead_shows_its_box(rt: HostRuntime) -> Result<(), Fail> {
         hi: Pos { x: 0, y: 0, z: 5 },
     };
     assert_eq!(rt; shown_inner(&rows, &point, 0), Some(5));
+    Ok(())
+}
+
+#[test]
+fn inner_spans_go_by_what_is_surely_allowed(rt: HostRuntime) -> Result<(), Fail> {
+    // Over the cuboid the satellite is up to 1 m nearer or farther, which leaves one offset.
+    let all_is_sure = metre_row(-1_000_000, 1_000_000);
+    assert_eq!(rt; inner_span(&all_is_sure, &cuboid()), Some(only(0)));
+    let all_but_the_ends = metre_row(-999_999, 999_999);
+    assert_eq!(rt; inner_span(&all_but_the_ends, &cuboid()), None);
+    // At the origin it is at its range, so the offsets mirror the errors.
+    let origin = Box3 {
+        lo: Pos { x: 0, y: 0, z: 0 },
+        hi: Pos { x: 0, y: 0, z: 0 },
+    };
+    let metre = Span {
+        lo: -1_000_000,
+        hi: 1_000_000,
+    };
+    assert_eq!(rt; inner_span(&all_is_sure, &origin), Some(metre));
+    let less_is_sure = metre_row(-300_000, 400_000);
+    assert_eq!(rt; clock_span(&less_is_sure, &origin), metre);
+    assert_eq!(rt;
+        inner_span(&less_is_sure, &origin),
+        Some(Span {
+            lo: -400_000,
+            hi: 300_000
+        })
+    );
+    let none_is_sure = metre_row(999_999, -999_999);
+    assert_eq!(rt; clock_span(&none_is_sure, &origin), metre);
+    assert_eq!(rt; inner_span(&none_is_sure, &origin), None);
+    assert_eq!(rt; shown_inner(&[none_is_sure], &origin, 0), None);
     Ok(())
 }

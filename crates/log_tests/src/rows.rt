@@ -79,7 +79,10 @@ fn nav_of(alloc: Global) -> Result<Nav, Fail> {
     Ok(nav)
 }
 
-/// A box with sides of 2 m.
+/// A header's position, which settings with a centre of their own don't ask for.
+const ORIGIN: Pos = Pos { x: 0, y: 0, z: 0 };
+
+/// The search box of the settings, with sides of 2 m.
 fn root() -> Box3 {
     Box3 {
         lo: Pos {
@@ -114,7 +117,8 @@ fn blocks_of(alloc: Global, selection: Selection) -> Result<Vec<LogEpoch>, Fail>
         nav: &nav,
         settings: &settings,
     };
-    let mut left = ObsBlocks::of_file(&source, &obs, selection, &root(), &settings.rules);
+    let root = settings.root(Some(ORIGIN));
+    let mut left = ObsBlocks::of_file(&source, &obs, selection, &root, &settings.rules);
     let mut blocks = Vec::new(alloc);
     for _ in 0..3 {
         match left.next(alloc, None) {

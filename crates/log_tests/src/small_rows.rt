@@ -1,6 +1,6 @@
 //! Rows of a few satellites and small boxes, whose clock spans are easily worked out by hand.
 
-ghost use Rattle.std.specs.Prelude.{◌≡◌, ◌≤◌, ◌≤ℤ◌, pos, length};
+ghost use Rattle.std.specs.Prelude.{◌≡◌, ◌≤◌, ◌≤ℤ◌, negsuc, pos, length};
 ghost use Rattle.sat_model.specs.Sizes.{IsPlaceSize, IsErrorSize};
 
 use sat_model::{Box3, Pos, Row, Rules, Sat, Span, Step};
@@ -46,6 +46,32 @@ pub fn row(number: u8, place: Pos, range: i64, err: Span) -> Row
         z: only(place.z),
         range: only(range),
         err,
+        sure_lo: err.lo,
+        sure_hi: err.hi,
+    }
+}
+
+/// The row of a satellite on the x axis, 20,000 km from the origin and at that range, whose error is
+/// at most 1 m; from `sure_lo` to `sure_hi` it is surely allowed.
+pub fn metre_row(sure_lo: i64, sure_hi: i64) -> Row
+    requires low { (negsuc 999999 ≤ℤ sure_lo) × (sure_lo ≤ℤ pos 1000000) }
+    requires high { (negsuc 999999 ≤ℤ sure_hi) × (sure_hi ≤ℤ pos 1000000) }
+{
+    Row {
+        sat: Sat {
+            system: b'G',
+            number: 1,
+        },
+        x: only(FAR),
+        y: only(0),
+        z: only(0),
+        range: only(FAR),
+        err: Span {
+            lo: -1_000_000,
+            hi: 1_000_000,
+        },
+        sure_lo,
+        sure_hi,
     }
 }
 

@@ -63,7 +63,9 @@ fn satellites_and_why_one_is_skipped(rt: HostRuntime) -> Result<(), Fail> {
         ("6", None),
         ("6 21", None),
         ("6 1 1", None),
-        ("7", None),
+        ("7", Some((7, 0))),
+        ("7 1", None),
+        ("8", None),
     ] {
         let read = skip(Some(line.as_bytes()));
         assert_eq!(rt;

@@ -54,6 +54,11 @@ optional_words (suc n) = decimal (suc n) ∷ []
 abbrev pub skip_words : Skip → List (List ℕ)
 skip_words s = decimal s.number ∷ optional_words s.field
 
--- one of the tests 1 to 5, or test 6 with one of the fields 1 to 20
+-- one of the tests 1 to 5, or test 7: no field is told of these
+abbrev pub IsPlainTest : ℕ → Type 0
+IsPlainTest n = IsCountFromTo 1 5 n ⊎ (n ≡ 7)
+
+-- one of them alone, or test 6 with one of the fields 1 to 20
 abbrev pub SkipFits : Skip → Type 0
-SkipFits s = (IsCountFromTo 1 5 s.number × (s.field ≡ 0)) ⊎ ((s.number ≡ 6) × IsCountFromTo 1 20 s.field)
+SkipFits s =
+    (IsPlainTest s.number × (s.field ≡ 0)) ⊎ ((s.number ≡ 6) × IsCountFromTo 1 20 s.field)

@@ -2,7 +2,7 @@
 
 ghost use Rattle.std.specs.Prelude.{◌≡◌, ℕ, ℤ, ◌<◌, ◌^◌, ◌≤ℤ◌, List, [], ◌∷◌, pos, neg_ℤ};
 ghost use Rattle.log_words.specs.Words.{words_left, Reads, ReadsFront};
-ghost use Rattle.log_words.specs.Fields.{number_words, IsFromTo, span_words, IsSpanWithin, pos_words, IsPosWithin, sat_words, IsGps, skip_words, SkipFits, count_words, IsCountFromTo, IsTime};
+ghost use Rattle.log_words.specs.Fields.{number_words, IsFromTo, span_words, IsSpanWithin, pos_words, IsPosWithin, sat_words, IsGps, skip_words, IsPlainTest, SkipFits, count_words, IsCountFromTo, IsTime};
 
 use crate::words::{Rest, is_ended, number, time_of, word};
 use sat_model::{Pos, Sat, Skip, Span};
@@ -79,11 +79,14 @@ pub fn satellite(rest: Rest<'_>) -> Option<(Sat, Rest<'_>)>
     ))
 }
 
-/// The number of one of the tests 1 to 5, which has no field.
+/// The number of one of the tests 1 to 5, or 7, which have no field.
 fn plain_skip(rest: Rest<'_>) -> Option<Skip>
-    ensures { Reads (λ skip. IsCountFromTo 1 5 skip.number × (skip.field ≡ 0)) skip_words (words_left rest.entry) result }
+    ensures { Reads (λ skip. IsPlainTest skip.number × (skip.field ≡ 0)) skip_words (words_left rest.entry) result }
 {
-    let (number, rest) = count(rest, 1, 5)?;
+    let (number, rest) = count(rest, 1, 7)?;
+    if number == 6 {
+        return None;
+    }
     if !is_ended(rest) {
         return None;
     }

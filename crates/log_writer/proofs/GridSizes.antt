@@ -11,7 +11,7 @@ use Rattle.sat_model.specs.declared.steps.Step.TheVariants.{Cut, Split, Outside,
 use Rattle.sat_model.specs.Boxes.{GridBox, Side, side_at, with_side, low_half, high_half, grid_box}
 use Rattle.sat_model.specs.Fold.{ShownStep, axis_of, is_low, IsProperBound, IsProperCut, side_left, side_cut, left_by_cut}
 use Rattle.sat_model.specs.Lengths.{side_length}
-use Rattle.sat_model.specs.Paved.{WaitingBox, joined}
+use Rattle.sat_model.specs.Waiting.{WaitingBox, joined}
 use Rattle.sat_model.specs.Sizes.{IsBoxSize}
 use Rattle.sat_model.proofs.AmountLemmas.{above_is}
 use Rattle.box_steps.specs.BoxSteps.{AreCutsOf}

@@ -6,7 +6,7 @@ use Rattle.sat_model.specs.declared.satellites.Row.{Row}
 use Rattle.sat_model.specs.Boxes.{GridBox}
 use Rattle.sat_model.specs.Fold.{first_stage, ShownStep}
 use Rattle.sat_model.specs.Logs.{Block}
-use Rattle.sat_model.specs.Paved.{steps_of}
+use Rattle.sat_model.specs.Waiting.{steps_of}
 use Rattle.paving.specs.Paved.{Paved}
 use Rattle.log_words.specs.Fields.{IsCountFromTo}
 use Rattle.paving_log.specs.declared.line.Form.TheVariants as form

@@ -1,6 +1,6 @@
 -- A made satellite that isn't the outlier of its epoch is usable and consistent with the place at clock offset 0.
 use Rattle.std.proofs.Common.{◌≡◌, ℕ, zero, suc, ◌+◌, ◌-◌, ◌*◌, ◌/◌, ◌%◌, ◌^◌, ◌<◌, ◌≤◌, List, [], ◌∷◌, length, map, refl, sym, ap, subst, ◌∙◌, arith, lit≤, inl, inr, true, false, None, Some}
-use Rattle.std.specs.Prelude.{ℤ, pos, negsuc, neg_ℤ, ◌+ℤ◌, ◌-ℤ◌, ◌*ℤ◌, ◌≤ℤ◌, ◌<ℤ◌, ◌==◌, slice_get, unsigned_abs}
+use Rattle.std.specs.Prelude.{ℤ, pos, negsuc, neg_ℤ, ◌+ℤ◌, ◌-ℤ◌, ◌*ℤ◌, ◌≤ℤ◌, ◌<ℤ◌, ◌==◌, slice_get, unsigned_abs, Option, option_map}
 use Rattle.std.specs.List.{AllByRecursion}
 use Rattle.std.proofs.lemmas.Bool.{cases_Bool}
 use Rattle.std.proofs.lemmas.Int.{ints}
@@ -20,6 +20,7 @@ use Rattle.rinex_nav.specs.Weeks.{IsNearestWeek, IsAge}
 use Rattle.rinex_nav.specs.declared.record.NavRecord.{NavRecord}
 use Rattle.rinex_obs.specs.declared.obs.SatObs.{SatObs}
 use Rattle.rinex_text.specs.Dates.{gps_time}
+use Rattle.sat_model.specs.Boxes.{GridBox}
 use Rattle.sat_model.specs.Intervals.{Between}
 use Rattle.sat_model.specs.Pseudorange.{Codes}
 use Rattle.sat_model.specs.Rounding.{IsFloor}
@@ -27,6 +28,8 @@ use Rattle.sat_model.specs.Sizes.{IsWithin}
 use Rattle.sat_model.specs.declared.boxes.Pos.{Pos}
 use Rattle.sat_model.specs.declared.satellites.Sat.{Sat}
 use Rattle.sat_model.specs.declared.satellites.Signal.TheVariants.{Single}
+use Rattle.sat_model.specs.Relaxed.{ends}
+use Rattle.sat_model.specs.declared.spans.Span.{Span}
 use Rattle.sat_model.specs.declared.spans.Wide.{Wide}
 use Rattle.sat_rows.specs.Chains.{Chain, IsChainAt}
 use Rattle.sat_rows.specs.Fitting.{Agrees, Fits}
@@ -229,31 +232,34 @@ is_usable seed j k records s known =
 -- ---- consistent
 
 chain_of : (seed j k : ℕ) (records : List NavRecord) (s : SatCode) → IsKnown seed j k records s → Chain
-chain_of seed j k records s known = let c = known.code.some.1 in record { x = c.x; y = c.y; z = c.z; corrected = c.corrected; range = c.range }
+chain_of seed j k records s known = let c = known.code.some.1 in record { x = c.x; y = c.y; z = c.z; corrected = c.corrected; range = c.range; lo = neg_ℤ (pos 2500000); hi = pos 2500000 }
 
-is_chain : (seed j k : ℕ) (records : List NavRecord) (s : SatCode) (known : IsKnown seed j k records s) → IsChainAt (sighting_of records j s) (place_of seed) (chain_of seed j k records s known)
+is_chain : (seed j k : ℕ) (records : List NavRecord) (s : SatCode) (known : IsKnown seed j k records s) → IsChainAt (sighting_of records j s) None (neg_ℤ (pos 2500000), pos 2500000) (place_of seed) (chain_of seed j k records s known)
 unfolding sighting_of chain_of is_usable is_measured its_codes wide_of
 is_chain seed j k records s known =
     let c = known.code.some.1 in
     record {
       usable = is_usable seed j k records s known;
-      value = record {
-        pr = s.code *ℤ pos 1000;
-        pr_is = record { from = same_le (s.code *ℤ pos 1000); to = same_le (s.code *ℤ pos 1000) };
-        tsv = c.tsv;
-        tsv_is = c.tsv_is;
-        n = c.n;
-        n_is = c.n_is;
-        dt = c.dt;
-        t = c.t;
-        clock = c.clock;
-        one_root = c.one_root;
-        corrected_is = c.corrected_is;
-        sent_x = c.sent_x;
-        sent_y = c.sent_y;
-        orbit = c.orbit;
-        turn = c.turn;
-      };
+      are = (
+        record {
+          pr = s.code *ℤ pos 1000;
+          pr_is = record { from = same_le (s.code *ℤ pos 1000); to = same_le (s.code *ℤ pos 1000) };
+          tsv = c.tsv;
+          tsv_is = c.tsv_is;
+          n = c.n;
+          n_is = c.n_is;
+          dt = c.dt;
+          t = c.t;
+          clock = c.clock;
+          one_root = c.one_root;
+          corrected_is = c.corrected_is;
+          sent_x = c.sent_x;
+          sent_y = c.sent_y;
+          orbit = c.orbit;
+          turn = c.turn;
+        },
+        refl,
+      );
     }
 
 -- without the outlier's 500 m
@@ -271,18 +277,23 @@ error_within goal v corrected range g b is = record { from = omega (arith, ints,
 sight : List NavRecord → SettingsValue → ℤ → SatObs → Sighting
 sight records v tag seen = record { records = records; signal = v.signal; max_age = v.max_age; tag = tag; seen = seen }
 
-abbrev meaning_by : List NavRecord → SettingsValue → Meaning
-meaning_by records v = record {
-  judged = λ tag seen. IsJudged (sight records v tag seen);
-  allows = λ tag seen. IsChainAt (sight records v tag seen);
+abbrev meaning_by : List NavRecord → SettingsValue → Option Span → Meaning
+meaning_by records v zenith = record {
+  judged = λ root tag seen. IsJudged zenith root (sight records v tag seen);
+  allows = λ tag seen. IsChainAt (sight records v tag seen) zenith (bound_for seen.sat v);
   declared = λ sat. bound_for sat v;
+  zenith = zenith;
 }
 
-abbrev AgreesBy : List NavRecord → SettingsValue → ℤ → Pos → SatObs → Type 0
-AgreesBy records v tag p = Agrees (meaning_by records v) tag p (pos 0)
+abbrev AgreesBy : List NavRecord → SettingsValue → GridBox → ℤ → Pos → SatObs → Type 0
+AgreesBy records v root tag p = Agrees (meaning_by records v None) root tag p (pos 0)
 
-abbrev FitsBy : List NavRecord → SettingsValue → ℤ → ℕ → Pos → List SatObs → Type 0
-FitsBy records v tag q p = Fits (meaning_by records v) tag q p (pos 0)
+abbrev FitsBy : List NavRecord → SettingsValue → Option Span → GridBox → ℤ → ℕ → Pos → List SatObs → Type 0
+FitsBy records v zenith root tag q p = Fits (meaning_by records v zenith) root tag q p (pos 0)
+
+no_zenith : (zenith : Option Span) → option_map ends zenith ≡ None → zenith ≡ None
+no_zenith None e = refl
+no_zenith (Some s) e = absurd (let no = e in cc)
 
 behind_other : (k n : ℕ) → n < k → (k == n) ≡ false
 behind_other k n h = grind (arith, h)
@@ -293,8 +304,8 @@ is_there k n h = grind (arith, h)
 is_before : (k n : ℕ) → (k == n) ≡ false → k ≤ n → k < n
 is_before k n h l = grind (arith, h, l)
 
-module _ (seed j : ℕ) (records : List NavRecord) (x y z : ℤ) (records_are : records_of records ≡ made_records seed) (epoch : j < 240) where
-  agrees : (k : ℕ) (s : SatCode) → IsKnown seed j k records s → (k == 1 + j % 8) ≡ false → AgreesBy records (settings_of x y z) (tag_of j) (place_of seed) (sat_of s)
+module _ (seed j : ℕ) (records : List NavRecord) (x y z : ℤ) (root : GridBox) (records_are : records_of records ≡ made_records seed) (epoch : j < 240) where
+  agrees : (k : ℕ) (s : SatCode) → IsKnown seed j k records s → (k == 1 + j % 8) ≡ false → AgreesBy records (settings_of x y z) root (tag_of j) (place_of seed) (sat_of s)
   unfolding sight sighting_of chain_of
   agrees k s known other =
       let c = known.code.some in
@@ -305,14 +316,14 @@ module _ (seed j : ℕ) (records : List NavRecord) (x y z : ℤ) (records_are : 
       })
 
   -- behind the outlier
-  fits_all : (k : ℕ) (sats : List SatCode) → AreMadeSats seed j k sats → 1 + j % 8 < k → k + length sats ≤ 9 → FitsBy records (settings_of x y z) (tag_of j) 0 (place_of seed) (map sat_of sats)
+  fits_all : (k : ℕ) (sats : List SatCode) → AreMadeSats seed j k sats → 1 + j % 8 < k → k + length sats ≤ 9 → FitsBy records (settings_of x y z) None root (tag_of j) 0 (place_of seed) (map sat_of sats)
   fits_all k [] made behind few = tt
   fits_all k (s ∷ sats) made behind few =
       let other : (k == 1 + j % 8) ≡ false = behind_other k (1 + j % 8) behind in
       let known : IsKnown seed j k records s = record { records_are = records_are; number = made.0; code = made.1; epoch = epoch; from = omega (arith, behind); to = omega (arith, few) } in
       (agrees k s known other, fits_all (k + 1) sats made.2 (omega (arith, behind)) (omega (arith, few)))
 
-  fits_but_one : (k : ℕ) (sats : List SatCode) → AreMadeSats seed j k sats → 1 ≤ k → k ≤ 1 + j % 8 → k + length sats ≤ 9 → FitsBy records (settings_of x y z) (tag_of j) 1 (place_of seed) (map sat_of sats)
+  fits_but_one : (k : ℕ) (sats : List SatCode) → AreMadeSats seed j k sats → 1 ≤ k → k ≤ 1 + j % 8 → k + length sats ≤ 9 → FitsBy records (settings_of x y z) None root (tag_of j) 1 (place_of seed) (map sat_of sats)
   fits_but_one k [] made from before few = tt
   fits_but_one k (s ∷ sats) made from before few = elim (cases_Bool (k == 1 + j % 8)) [
     | inl here ↦
@@ -338,8 +349,11 @@ fits_in_each seed records settings read value index j [] made few = tt
 fits_in_each seed records settings read value index j (e ∷ epochs) made few =
     let epoch : j < 240 = omega (arith, few) in
     let time = epoch_time seed j e made.0 epoch in
-    let fits = fits_but_one seed j records (centre_x seed) (centre_y seed) (centre_z seed) read epoch 1 e.sats.items made.0.sats (lit≤ tt) (omega arith) (omega (arith, made.0.eight)) in
-    let timed = subst (λ (tag : ℤ). FitsBy records (settings_of (centre_x seed) (centre_y seed) (centre_z seed)) tag 1 (place_of seed) (map sat_of e.sats.items)) (sym time) fits in (
-      subst (λ (v : SettingsValue). FitsBy records v (pos (gps_time 2024 1 7 e.hour e.minute (e.second * 10000000))) v.outliers (place_of seed) (map sat_of e.sats.items)) (sym value) timed,
+    let none = no_zenith settings.zenith (ap (λ (v : SettingsValue). v.zenith) value) in
+    let fits = λ (root : GridBox). fits_but_one seed j records (centre_x seed) (centre_y seed) (centre_z seed) root read epoch 1 e.sats.items made.0.sats (lit≤ tt) (omega arith) (omega (arith, made.0.eight)) in
+    let timed = λ (root : GridBox). subst (λ (tag : ℤ). FitsBy records (settings_of (centre_x seed) (centre_y seed) (centre_z seed)) None root tag 1 (place_of seed) (map sat_of e.sats.items)) (sym time) (fits root) in
+    let plain = λ (root : GridBox). subst (λ (zenith : Option Span). FitsBy records (settings_of (centre_x seed) (centre_y seed) (centre_z seed)) zenith root (pos (gps_time 2024 1 7 e.hour e.minute (e.second * 10000000))) 1 (place_of seed) (map sat_of e.sats.items))
+    (sym none) (timed root) in (
+      λ root. subst (λ (v : SettingsValue). FitsBy records v settings.zenith root (pos (gps_time 2024 1 7 e.hour e.minute (e.second * 10000000))) v.outliers (place_of seed) (map sat_of e.sats.items)) (sym value) (plain root),
       fits_in_each seed records settings read value (index + 1) (j + 1) epochs made.1 (omega (arith, few)),
     )

@@ -1,6 +1,6 @@
 -- How far a made satellite is from the earth's centre: from 26,298 to 26,802 km.
-use Rattle.std.proofs.Common.{◌≡◌, ℕ, ◌+◌, ◌*◌, ◌^◌, ◌≤◌, List, ap, subst, arith, lit≤}
-use Rattle.std.specs.Prelude.{ℤ, pos, neg_ℤ, ◌+ℤ◌, ◌*ℤ◌, ◌≤ℤ◌, ◌<ℤ◌}
+use Rattle.std.proofs.Common.{◌≡◌, ℕ, ◌*◌, ◌^◌, ◌≤◌, List, ap, subst, arith, lit≤}
+use Rattle.std.specs.Prelude.{ℤ, pos, ◌+ℤ◌, ◌*ℤ◌, ◌≤ℤ◌, ◌<ℤ◌}
 use Rattle.std.proofs.lemmas.Int.{ints}
 use Rattle.exact_decimal.specs.declared.decimal.Decimal.{Decimal}
 use Rattle.exact_decimal.specs.declared.unit.Unit.TheVariants.{Ratio, RootA}
@@ -19,7 +19,7 @@ use Rattle.sat_model.specs.Turn.{Turn}
 use Rattle.sat_model.specs.declared.boxes.Pos.{Pos}
 use Rattle.sat_model.specs.declared.elements.Elements.{Elements}
 use Rattle.sat_model.specs.declared.spans.Wide.{Wide}
-use Rattle.code_search.proofs.TurnKeeps.{IsTurnBound, turn_keeps}
+use Rattle.broadcast_orbit.proofs.TurnKeeps.{IsTurnBound, turn_keeps}
 use Rattle.made_input.specs.MadeRecords.{made_broadcast}
 
 -- ---- the fields

@@ -65,6 +65,7 @@ settings_read text x y z near utf8 parsed = record {
     is_troposphere = refl;
     common = refl;
     extra = sym (no_extra satellite_numbers);
+    zenith = refl;
   };
 }
 

@@ -1,5 +1,5 @@
 -- The table of a settings text, and the settings that it has.
-use Rattle.std.specs.Prelude.{ℕ, ℤ, pos, neg_ℤ, List, [], ◌∷◌, codes}
+use Rattle.std.specs.Prelude.{ℕ, ℤ, pos, neg_ℤ, List, [], ◌∷◌, None, codes}
 use Rattle.sat_model.specs.Sizes.{IsWithin}
 use Rattle.sat_model.specs.declared.satellites.Signal.TheVariants.{Single}
 use Rattle.std.specs.Ordering.{nat_cmp, match_ordering}
@@ -60,6 +60,7 @@ settings_of x y z = record {
   signal = Single (codes "C1C");
   common = (neg_ℤ (pos 2500000), pos 2500000);
   extra = [];
+  zenith = None;
 }
 
 abbrev pub AreNear : ℤ → ℤ → ℤ → Type 0

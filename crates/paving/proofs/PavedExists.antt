@@ -13,7 +13,7 @@ use Rattle.sat_model.specs.Boxes.{Side, GridBox, grid_box, side_at, with_side, l
 use Rattle.sat_model.specs.Contractors.{SideLiesIn}
 use Rattle.sat_model.specs.Fold.{ShownStep}
 use Rattle.sat_model.specs.Lengths.{side_length, longest_length}
-use Rattle.sat_model.specs.Paved.{WaitingBox, bits_of, Paving, first_paving, IsNext, Closes, opened_by, beyond, beyond_all, joined}
+use Rattle.sat_model.specs.Waiting.{WaitingBox, bits_of, Paving, first_paving, IsNext, Closes, opened_by, beyond, beyond_all, joined}
 use Rattle.sat_model.proofs.AmountLemmas.{above_is}
 use Rattle.range_contractor.proofs.TreeExists.{IsGridPart, inside_part}
 use Rattle.box_steps.proofs.BoxLemmas.{grid_part, box_steps_exist, cuts_inside}

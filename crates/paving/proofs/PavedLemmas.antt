@@ -13,7 +13,7 @@ use Rattle.sat_model.specs.Boxes.{GridBox, side_at, with_side, low_half, high_ha
 use Rattle.sat_model.specs.Cover.{EpochCover}
 use Rattle.sat_model.specs.Fold.{Stage, first_stage, live_box, left_by_cut, halves, after, ShownStep, pieces}
 use Rattle.sat_model.specs.Verdicts.{StepPasses, StepsPass}
-use Rattle.sat_model.specs.Paved.{WaitingBox, Paving, first_paving, IsNext, Closes, halves_from, beyond, beyond_all, joined, steps_of}
+use Rattle.sat_model.specs.Waiting.{WaitingBox, Paving, first_paving, IsNext, Closes, halves_from, beyond, beyond_all, joined, steps_of}
 use Rattle.box_steps.specs.Cuts.{Bounds, proposed, eighths, all_faces, MayCut, cut_shown, IsFaceCut, AreFacesCut, AreProposalCuts, AreRounds}
 use Rattle.box_steps.specs.BoxSteps.{AreCutsOf}
 use Rattle.paving.specs.Paved.{AreStepsOf, PavesTo, Paved}

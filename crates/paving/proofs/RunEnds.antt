@@ -7,7 +7,7 @@ use Rattle.sat_model.specs.declared.satellites.Row.{Row}
 use Rattle.sat_model.specs.declared.steps.Step.{Step}
 use Rattle.sat_model.specs.Boxes.{GridBox, grid_box}
 use Rattle.sat_model.specs.Fold.{first_stage}
-use Rattle.sat_model.specs.Paved.{joined, steps_of}
+use Rattle.sat_model.specs.Waiting.{joined, steps_of}
 use Rattle.sat_model.specs.Verdicts.{StepsPass}
 use Rattle.box_steps.specs.Taking.{BrokeOff}
 use Rattle.box_steps.specs.declared.steps.StepFault.{StepFault}

@@ -13,7 +13,7 @@ use Rattle.sat_model.specs.Boxes.{GridBox, grid_box, side_at}
 use Rattle.sat_model.proofs.AmountLemmas.{above_is}
 use Rattle.sat_model.specs.Fold.{ShownStep}
 use Rattle.sat_model.specs.StepKinds.{is_inside, is_edge, is_outside, is_split}
-use Rattle.sat_model.specs.Paved.{WaitingBox, Paving, first_paving, IsNext, Closes, opened_by, splits_after, beyond, beyond_all, joined}
+use Rattle.sat_model.specs.Waiting.{WaitingBox, Paving, first_paving, IsNext, Closes, opened_by, splits_after, beyond, beyond_all, joined}
 use Rattle.box_steps.specs.Taken.{TookAll}
 use Rattle.box_steps.specs.Ends.{last_of, TookBox}
 use Rattle.box_steps.specs.declared.work.Ended.{Ended}

@@ -5,7 +5,7 @@ use Rattle.sat_model.specs.declared.satellites.Row.{Row}
 use Rattle.sat_model.specs.Boxes.{GridBox}
 use Rattle.sat_model.specs.Fold.{ShownStep}
 use Rattle.sat_model.specs.Lengths.{longest_length}
-use Rattle.sat_model.specs.Paved.{WaitingBox, Paving, first_paving, IsNext, beyond_all, joined}
+use Rattle.sat_model.specs.Waiting.{WaitingBox, Paving, first_paving, IsNext, beyond_all, joined}
 use Rattle.box_steps.specs.BoxSteps.{AreBoxSteps}
 
 -- a side of over 16 m makes a box long

@@ -6,7 +6,7 @@ use Rattle.box_pool.specs.Lists.{list_at}
 use Rattle.sat_model.specs.declared.steps.Step.{Step}
 use Rattle.sat_model.specs.declared.steps.Step.TheVariants.{Cut, Split, Outside, Inside, Edge}
 use Rattle.sat_model.specs.Boxes.{GridBox, grid_box, side_at}
-use Rattle.sat_model.specs.Paved.{WaitingBox, bits_of, IsNext}
+use Rattle.sat_model.specs.Waiting.{WaitingBox, bits_of, IsNext}
 
 abbrev pub box_of : Item → WaitingBox
 box_of item = record { id = item.id; part = grid_box item.part }

@@ -6,7 +6,7 @@ use Rattle.sat_model.specs.declared.steps.Step.{Step}
 use Rattle.sat_model.specs.Boxes.{GridBox}
 use Rattle.sat_model.specs.Cover.{EpochCover}
 use Rattle.sat_model.specs.Fold.{first_stage, ShownStep, pieces}
-use Rattle.sat_model.specs.Paved.{steps_of}
+use Rattle.sat_model.specs.Waiting.{steps_of}
 use Rattle.paving.specs.Paved.{Paved, PavedFirst}
 use Rattle.sat_model.specs.Verdicts.{StepsPass}
 use Rattle.paving.specs.declared.counts.Counts.{Counts}

@@ -3,7 +3,7 @@
 ghost use Rattle.std.specs.Prelude.{◌≡◌, ◌<◌, ◌≤◌, ◌+◌, ◌∷◌, [], ◌++◌, MatchOption};
 ghost use Rattle.box_pool.specs.Lists.{AllEmpty};
 ghost use Rattle.sat_model.specs.Boxes.{grid_box};
-ghost use Rattle.sat_model.specs.Paved.{first_paving, opened_by};
+ghost use Rattle.sat_model.specs.Waiting.{first_paving, opened_by};
 
 use crate::bits::bits_of;
 use box_pool::{Item, Pool};

@@ -3,6 +3,7 @@ pub mod BlockLemmas
 pub mod FitLemmas
 pub mod NumberingLemmas
 pub mod SpellingLemmas
+pub mod SureLemmas
 pub mod FaultLemmas
 pub mod LeadLemmas
 pub mod ValueLemmas

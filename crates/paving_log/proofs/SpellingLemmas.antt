@@ -1,6 +1,6 @@
 -- A spelled line holds no LF, and its words are those that it was joined of.
 use Rattle.std.proofs.Common.{◌≡◌, ◌≢◌, ℕ, zero, suc, ◌<◌, ◌≤◌, ◌^◌, ℤ, pos, negsuc, Bool, true, false, List, [], ◌∷◌, ◌++◌, refl, sym, ap, subst, ◌∙◌, lit<, arith, inl, inr}
-use Rattle.std.specs.Prelude.{nat_eq}
+use Rattle.std.specs.Prelude.{nat_eq, if◌then◌else◌}
 use Rattle.std.specs.List.{AllByRecursion}
 use Rattle.std.specs.Fmt.{decimal, signed_decimal}
 use Rattle.std.specs.Str.Parse.{AllDigits}
@@ -8,7 +8,7 @@ use Rattle.std.proofs.lemmas.Fmt.{decimal_is_IsNumeral_wide}
 use Rattle.std.proofs.lemmas.Str.Parse.{digit_from_value}
 use Rattle.std.proofs.lemmas.Int.{ints}
 use Rattle.std.proofs.lemmas.Bool.{eqb-true}
-use Rattle.sat_model.specs.Sizes.{IsWithin, IsClockSize}
+use Rattle.sat_model.specs.Sizes.{IsWithin, IsErrorSize, IsClockSize}
 use Rattle.sat_model.specs.declared.rules.Rules.{Rules}
 use Rattle.sat_model.specs.declared.boxes.Pos.{Pos}
 use Rattle.sat_model.specs.declared.spans.Span.{Span}
@@ -26,7 +26,7 @@ use Rattle.paving_log.specs.declared.line.LogLine.{LogLine}
 use Rattle.paving_log.specs.declared.line.LogLine.TheVariants as line
 use Rattle.log_words.specs.Words.{words, joined}
 use Rattle.log_words.specs.Fields.{optional_words, span_words, IsSpanWithin, pos_words, IsPosWithin, sat_words, IsGps, skip_words, SkipFits, IsTime}
-use Rattle.paving_log.specs.Rows.{row_words, RowFits, entry_words, EntryFits}
+use Rattle.paving_log.specs.Rows.{are_ends, sure_words, error_words, row_words, RowFits, entry_words, EntryFits}
 use Rattle.paving_log.specs.Lines.{spelled, name_of, fields, rules_words, header_words, HeaderFits, step_words, IsId, StepFits, LineFits, line_words, line_text}
 use Rattle.log_words.proofs.TimeLemmas.{time_count}
 use Rattle.log_words.proofs.JoinedLemmas.{HasNoBlank, words-joined}
@@ -81,21 +81,28 @@ rules_are r = (count_word 8 r.outliers (lit< tt) r.few_outliers, (count_word 200
 header_are : (h : Header) → HeaderFits h → AreWords (header_words h)
 header_are h fits = (count_word 200000 h.index (lit< tt) fits.index.1, (time_word h.ps fits.ps, (count_word 64 h.n (lit< tt) fits.n.1, tt)))
 
+-- two words, or none
+told_are : (none : Bool) (lo hi : ℤ) → IsErrorSize lo × IsErrorSize hi → AreWords (if none then [] else (signed_decimal lo ∷ signed_decimal hi ∷ []))
+told_are true lo hi within = tt
+told_are false lo hi within = (within_word 1000000000000 lo (lit< tt) within.0, (within_word 1000000000000 hi (lit< tt) within.1, tt))
+
 row_are : (r : Row) → RowFits r → AreWords (row_words r)
 row_are r gps =
-    let err = span_are 1000000000000 r.err (lit< tt) r.err_within in
-    let range = words-on (span_words r.range) (span_words r.err) (span_are 60000000000000 r.range (lit< tt) r.range_within) err in
-    let z = words-on (span_words r.z) (span_words r.range ++ span_words r.err) (span_are 60000000000000 r.z (lit< tt) r.z_within) range in
-    let y = words-on (span_words r.y) (span_words r.z ++ (span_words r.range ++ span_words r.err)) (span_are 60000000000000 r.y (lit< tt) r.y_within) z in
-    let x = words-on (span_words r.x) (span_words r.y ++ (span_words r.z ++ (span_words r.range ++ span_words r.err))) (span_are 60000000000000 r.x (lit< tt) r.x_within) y in
-    words-on (sat_words r.sat) (span_words r.x ++ (span_words r.y ++ (span_words r.z ++ (span_words r.range ++ span_words r.err)))) (sat_are r.sat gps) x
+    let sure = told_are (are_ends r.err r.sure_lo r.sure_hi) r.sure_lo r.sure_hi r.sure_within in
+    let err = words-on (span_words r.err) (sure_words r.err r.sure_lo r.sure_hi) (span_are 1000000000000 r.err (lit< tt) r.err_within) sure in
+    let range = words-on (span_words r.range) (error_words r) (span_are 60000000000000 r.range (lit< tt) r.range_within) err in
+    let z = words-on (span_words r.z) (span_words r.range ++ error_words r) (span_are 60000000000000 r.z (lit< tt) r.z_within) range in
+    let y = words-on (span_words r.y) (span_words r.z ++ (span_words r.range ++ error_words r)) (span_are 60000000000000 r.y (lit< tt) r.y_within) z in
+    let x = words-on (span_words r.x) (span_words r.y ++ (span_words r.z ++ (span_words r.range ++ error_words r))) (span_are 60000000000000 r.x (lit< tt) r.x_within) y in
+    words-on (sat_words r.sat) (span_words r.x ++ (span_words r.y ++ (span_words r.z ++ (span_words r.range ++ error_words r)))) (sat_are r.sat gps) x
 
 optional_are : (n : ℕ) → n ≤ 20 → AreWords (optional_words n)
 optional_are zero le = tt
 optional_are (suc n) le = (count_word 20 (suc n) (lit< tt) le, tt)
 
 skip_are : (s : Skip) → SkipFits s → AreWords (skip_words s)
-skip_are s (inl plain) = (count_word 5 s.number (lit< tt) plain.0.1, optional_are s.field (omega (arith, plain.1)))
+skip_are s (inl (inl few, none)) = (count_word 5 s.number (lit< tt) few.1, optional_are s.field (omega (arith, none)))
+skip_are s (inl (inr seven, none)) = (count_word 7 s.number (lit< tt) (omega (arith, seven)), optional_are s.field (omega (arith, none)))
 skip_are s (inr field) = (count_word 6 s.number (lit< tt) (omega (arith, field.0)), optional_are s.field field.1.1)
 
 entry_are : (e : SatEntry) → EntryFits e → AreWords (entry_words e)

@@ -35,6 +35,7 @@ use Rattle.paving_log.specs.Faults.{head_of}
 use Rattle.std.specs.List.{AllByRecursion}
 use Rattle.paving_log.proofs.SpellingLemmas.{same_line}
 use Rattle.paving_log.proofs.FaultLemmas.{same_name, line_some}
+use Rattle.paving_log.proofs.SureLemmas.{ends_from}
 use Rattle.log_words.proofs.NumberLemmas.{one_number}
 use Rattle.log_words.proofs.TimeLemmas.{time_count}
 
@@ -46,8 +47,8 @@ int_prop a b = hlevel T_prop
 place_prop : (s : Span) (p q : IsPlaceSize s.lo × IsPlaceSize s.hi) → p ≡ q
 place_prop s = hlevel T_prop
 
-error_prop : (s : Span) (p q : IsErrorSize s.lo × IsErrorSize s.hi) → p ≡ q
-error_prop s = hlevel T_prop
+error_prop : (lo hi : ℤ) (p q : IsErrorSize lo × IsErrorSize hi) → p ≡ q
+error_prop lo hi = hlevel T_prop
 
 -- ---- values
 
@@ -65,19 +66,24 @@ same_rules a b p q r = λ i. record {
   narrow = is_prop→PathP (λ j. r j ≤ℤ pos 10000000000) (λ j. int_prop (r j) (pos 10000000000)) a.narrow b.narrow i;
 }
 
-same_row : (a b : Row) → a.sat ≡ b.sat → a.x ≡ b.x → a.y ≡ b.y → a.z ≡ b.z → a.range ≡ b.range → a.err ≡ b.err → a ≡ b
-same_row a b s x y z range err = λ i. record {
+same_row : (a b : Row) → a.sat ≡ b.sat → a.x ≡ b.x → a.y ≡ b.y → a.z ≡ b.z → a.range ≡ b.range → a.err ≡ b.err → a.sure_lo ≡ b.sure_lo → a.sure_hi ≡ b.sure_hi → a ≡ b
+same_row a b s x y z range err lo hi = λ i. record {
   sat = s i;
   x = x i;
   y = y i;
   z = z i;
   range = range i;
   err = err i;
+  sure_lo = lo i;
+  sure_hi = hi i;
   x_within = is_prop→PathP (λ j. IsPlaceSize (x j).lo × IsPlaceSize (x j).hi) (λ j. place_prop (x j)) a.x_within b.x_within i;
   y_within = is_prop→PathP (λ j. IsPlaceSize (y j).lo × IsPlaceSize (y j).hi) (λ j. place_prop (y j)) a.y_within b.y_within i;
   z_within = is_prop→PathP (λ j. IsPlaceSize (z j).lo × IsPlaceSize (z j).hi) (λ j. place_prop (z j)) a.z_within b.z_within i;
   range_within = is_prop→PathP (λ j. IsPlaceSize (range j).lo × IsPlaceSize (range j).hi) (λ j. place_prop (range j)) a.range_within b.range_within i;
-  err_within = is_prop→PathP (λ j. IsErrorSize (err j).lo × IsErrorSize (err j).hi) (λ j. error_prop (err j)) a.err_within b.err_within i;
+  err_within = is_prop→PathP (λ j. IsErrorSize (err j).lo × IsErrorSize (err j).hi) (λ j. error_prop (err j).lo (err j).hi) a.err_within b.err_within i;
+  sure_within = is_prop→PathP (λ j. IsErrorSize (lo j) × IsErrorSize (hi j)) (λ j. error_prop (lo j) (hi j)) a.sure_within b.sure_within i;
+  low_ordered = is_prop→PathP (λ j. (err j).lo ≤ℤ lo j) (λ j. int_prop (err j).lo (lo j)) a.low_ordered b.low_ordered i;
+  high_ordered = is_prop→PathP (λ j. hi j ≤ℤ (err j).hi) (λ j. int_prop (hi j) (err j).hi) a.high_ordered b.high_ordered i;
 }
 
 same_sat : (a b : Sat) → a.system ≡ b.system → a.number ≡ b.number → a ≡ b
@@ -128,12 +134,14 @@ sat_from a b f g e =
 row_from : (a b : Row) → RowFits a → RowFits b → row_words a ≡ row_words b → a ≡ b
 row_from a b f g e =
     let w : (k : ℕ) → get_or (row_words a) k [] ≡ get_or (row_words b) k [] = λ k. at_index k (row_words a) (row_words b) e in
+    let err = span_from 1000000000000 a.err b.err (lit< tt) a.err_within b.err_within (w 9) (w 10) in
+    let sure = ends_from a.err b.err a.sure_lo a.sure_hi b.sure_lo b.sure_hi err a.sure_within b.sure_within (ap (drop 11) e) in
     same_row a b (sat_from a.sat b.sat f g (w 0))
     (span_from 60000000000000 a.x b.x (lit< tt) a.x_within b.x_within (w 1) (w 2))
     (span_from 60000000000000 a.y b.y (lit< tt) a.y_within b.y_within (w 3) (w 4))
     (span_from 60000000000000 a.z b.z (lit< tt) a.z_within b.z_within (w 5) (w 6))
     (span_from 60000000000000 a.range b.range (lit< tt) a.range_within b.range_within (w 7) (w 8))
-    (span_from 1000000000000 a.err b.err (lit< tt) a.err_within b.err_within (w 9) (w 10))
+    err sure.lo_same sure.hi_same
 
 optional_from : (m n : ℕ) → m ≤ 20 → n ≤ 20 → optional_words m ≡ optional_words n → m ≡ n
 optional_from zero zero f g e = refl
@@ -141,8 +149,9 @@ optional_from zero (suc n) f g e = cc
 optional_from (suc m) zero f g e = cc
 optional_from (suc m) (suc n) f g e = count_same 20 (suc m) (suc n) (lit< tt) f g (at_index 0 _ _ e)
 
-skip_bounds : (s : Skip) → SkipFits s → (s.number ≤ 6) × (s.field ≤ 20)
-skip_bounds s (inl plain) = (omega (arith, plain.0.1), omega (arith, plain.1))
+skip_bounds : (s : Skip) → SkipFits s → (s.number ≤ 7) × (s.field ≤ 20)
+skip_bounds s (inl (inl few, none)) = (omega (arith, few.1), omega (arith, none))
+skip_bounds s (inl (inr seven, none)) = (omega (arith, seven), omega (arith, none))
 skip_bounds s (inr field) = (omega (arith, field.0), field.1.1)
 
 skip_from : (a b : Skip) → SkipFits a → SkipFits b → skip_words a ≡ skip_words b → a ≡ b
@@ -150,7 +159,7 @@ skip_from a b f g e =
     let x = skip_bounds a f in
     let y = skip_bounds b g in
     let rest : optional_words a.field ≡ optional_words b.field = cc in
-    same_skip a b (count_same 6 a.number b.number (lit< tt) x.0 y.0 (at_index 0 _ _ e)) (optional_from a.field b.field x.1 y.1 rest)
+    same_skip a b (count_same 7 a.number b.number (lit< tt) x.0 y.0 (at_index 0 _ _ e)) (optional_from a.field b.field x.1 y.1 rest)
 
 entry_from : (a b : SatEntry) → EntryFits a → EntryFits b → entry_name a ≡ entry_name b → entry_words a ≡ entry_words b → a ≡ b
 entry_from (entry.Row r) (entry.Row s) f g name e = ap entry.Row (row_from r s f g e)

@@ -1,5 +1,9 @@
 -- The words of a satellite's line and of a root behind the first word, and which values fit there.
-use Rattle.std.specs.Prelude.{ℕ, ◌≤ℤ◌, List, ◌++◌}
+use Rattle.std.specs.Prelude.{ℕ, Bool, ◌&&◌, if◌then◌else◌, ℤ, ◌≤ℤ◌, List, [], ◌∷◌, ◌++◌}
+use Rattle.std.specs.Fmt.{signed_decimal}
+use Rattle.std.specs.Ordering.{int_eq}
+use Rattle.sat_model.specs.Sizes.{IsErrorSize}
+use Rattle.sat_model.specs.declared.spans.Span.{Span}
 use Rattle.sat_model.specs.declared.satellites.Row.{Row}
 use Rattle.sat_model.specs.declared.satellites.SatEntry.{SatEntry}
 use Rattle.sat_model.specs.declared.satellites.SatEntry.TheVariants as entry
@@ -7,9 +11,32 @@ use Rattle.sat_model.specs.Boxes.{GridBox}
 use Rattle.paving_log.specs.declared.line.Corners.{Corners}
 use Rattle.log_words.specs.Fields.{span_words, pos_words, IsPosWithin, sat_words, IsGps, skip_words, SkipFits}
 
+-- lo and hi are the ends of the span
+abbrev pub are_ends : Span → ℤ → ℤ → Bool
+are_ends s lo hi = int_eq lo s.lo && int_eq hi s.hi
+
+-- the greatest low and the least high end of what is allowed of an error: nothing where they are
+-- the least and the greatest one, the ends of `err`
+abbrev pub sure_words : Span → ℤ → ℤ → List (List ℕ)
+sure_words err lo hi =
+    if are_ends err lo hi then [] else (signed_decimal lo ∷ signed_decimal hi ∷ [])
+
+-- both are within 10^12 um, none further out than its end of the error
+pub record AreSure (err : Span) (lo hi : ℤ) : Type 0 where
+  pub lo_within : IsErrorSize lo
+  pub hi_within : IsErrorSize hi
+  pub low_ordered : err.lo ≤ℤ lo
+  pub high_ordered : hi ≤ℤ err.hi
+
+-- the error's span, and what is surely allowed of it
+abbrev pub error_words : Row → List (List ℕ)
+error_words r = span_words r.err ++ sure_words r.err r.sure_lo r.sure_hi
+
 -- the satellite, and the spans of its place, of the range and of the error
 abbrev pub row_words : Row → List (List ℕ)
-row_words r = sat_words r.sat ++ (span_words r.x ++ (span_words r.y ++ (span_words r.z ++ (span_words r.range ++ span_words r.err))))
+row_words r =
+    sat_words r.sat ++ (span_words r.x ++ (span_words r.y ++ (span_words r.z
+    ++ (span_words r.range ++ error_words r))))
 
 -- all else that is asked of a row is kept by its type
 abbrev pub RowFits : Row → Type 0

@@ -5,19 +5,22 @@ ghost use Rattle.std.specs.Fmt.{decimal, signed_decimal};
 ghost use Rattle.sat_model.specs.declared.steps.Step.TheVariants as steps;
 ghost use Rattle.sat_model.specs.Boxes.{grid_box};
 ghost use Rattle.sat_model.specs.Logs.{sat_of};
+ghost use Rattle.sat_model.specs.Sizes.{IsErrorSize};
 ghost use Rattle.paving_log.specs.declared.line.LogLine.TheVariants as line;
 ghost use Rattle.sat_model.specs.declared.satellites.SatEntry.TheVariants as entry;
 ghost use Rattle.log_words.specs.Words.{joined};
 ghost use Rattle.log_words.specs.Fields.{span_words};
-ghost use Rattle.paving_log.specs.Rows.{corners_of};
+ghost use Rattle.paving_log.specs.Rows.{corners_of, error_words};
 ghost use Rattle.paving_log.specs.Lines.{line_text, text_of};
 ghost use Rattle.paving_log.specs.Text.{first_line};
 
+use crate::rows::has_ends;
 use arrayvec::ArrayString;
 use itoa::Buffer;
 use sat_model::{Box3, Pos, Row, Rules, Sat, SatEntry, Skip, Span, Step};
 
-/// A line of a log. The longest, that of a row, has at most 218 bytes.
+/// A line of a log. The longest, that of a row with the ends of what is surely allowed, has at most
+/// 196 bytes.
 pub type Line = ArrayString<256>;
 
 /// A blank and a number.
@@ -234,6 +237,30 @@ fn push_place(line: &mut Line, row: &Row)
     push_span(line, row.z);
 }
 
+/// Two numbers of at most 10^12 in amount, each behind a blank.
+fn push_errors(line: &mut Line, low: i64, high: i64)
+    requires room { length line.old.bytes ≤ 214 }
+    requires low { IsErrorSize low }
+    requires high { IsErrorSize high }
+    ensures pushed { line.new.bytes ≡ line.old.bytes ++ 32 ∷ (signed_decimal low ++ 32 ∷ signed_decimal high) }
+    ensures length { length line.new.bytes ≤ length line.old.bytes + 30 }
+{
+    push_numbers(line, low, high);
+}
+
+/// The span of a row's error, and what is surely allowed of it, where these are other ends.
+fn push_bounds(line: &mut Line, row: &Row)
+    requires { length line.old.bytes ≤ 184 }
+    ensures pushed { line.new.bytes ≡ line.old.bytes ++ 32 ∷ joined (error_words row.now) }
+    ensures length { length line.new.bytes ≤ length line.old.bytes + 60 }
+{
+    push_errors(line, row.err.lo, row.err.hi);
+    if has_ends(&row.err, row.sure_lo, row.sure_hi) {
+        return;
+    }
+    push_errors(line, row.sure_lo, row.sure_hi);
+}
+
 fn row_line(row: &Row) -> Line
     ensures { row.now.sat.system < 128 → result.bytes ≡ line_text (line.Sat (entry.Row row.now)) ++ 10 ∷ [] }
 {
@@ -242,7 +269,7 @@ fn row_line(row: &Row) -> Line
     push_sat(&mut line, row.sat);
     push_place(&mut line, row);
     push_span(&mut line, row.range);
-    push_span(&mut line, row.err);
+    push_bounds(&mut line, row);
     line.push_str("\n");
     line
 }

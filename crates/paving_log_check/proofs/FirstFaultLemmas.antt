@@ -1,12 +1,13 @@
 -- A log that is admitted has no fault, and for given own lines a first fault is the only one.
 use Rattle.std.proofs.Common.{◌≡◌, ℕ, ◌+◌, arith, true, List, [], ◌∷◌, length, inl, inr, refl, sym, ap, subst, ◌∙◌, Option, None, Some}
-use Rattle.std.specs.Prelude.{pos, slice_get}
+use Rattle.std.specs.Prelude.{ℤ, pos, slice_get}
 use Rattle.std.proofs.lemmas.Bool.{cases_order}
 use Rattle.epoch_selection.specs.Searches.{Search}
-use Rattle.sat_model.specs.Boxes.{GridBox}
+use Rattle.sat_model.specs.Boxes.{Side, GridBox}
 use Rattle.sat_model.specs.Fold.{first_stage}
 use Rattle.sat_model.specs.Logs.{Block, LogValue, rows_of, lines_in}
 use Rattle.sat_model.specs.Relaxed.{ends}
+use Rattle.sat_model.specs.Trees.{span_side}
 use Rattle.sat_model.specs.Verdicts.{NoneRepeats, HeadPasses, StepsPass, StepsFail}
 use Rattle.sat_model.specs.declared.rules.Rules.{Rules}
 use Rattle.sat_model.specs.declared.satellites.SatEntry.{SatEntry}
@@ -25,12 +26,12 @@ use Rattle.paving_log_check.specs.declared.verdict.Fault.{Fault}
 
 -- ---- rows
 
-narrow_not_held : (pairs : List (Span × Span)) (theirs ours : Span) → HoldEach pairs → IsFirstNarrow pairs theirs ours → ⊥
+narrow_not_held : (pairs : List (Side × Side)) (theirs ours : Side) → HoldEach pairs → IsFirstNarrow pairs theirs ours → ⊥
 narrow_not_held [] theirs ours h f = f
 narrow_not_held (pair ∷ more) theirs ours h (inl f) = f.0 h.0
 narrow_not_held (pair ∷ more) theirs ours h (inr f) = narrow_not_held more theirs ours h.1 f.1
 
-one_narrow : (pairs : List (Span × Span)) (t o u v : Span) → IsFirstNarrow pairs t o → IsFirstNarrow pairs u v → (t ≡ u) × (o ≡ v)
+one_narrow : (pairs : List (Side × Side)) (t o u v : Side) → IsFirstNarrow pairs t o → IsFirstNarrow pairs u v → (t ≡ u) × (o ≡ v)
 one_narrow [] t o u v f g = absurd f
 one_narrow (pair ∷ more) t o u v (inl f) (inl g) = (f.1 ∙ sym g.1, f.2 ∙ sym g.2)
 one_narrow (pair ∷ more) t o u v (inl f) (inr g) = absurd (f.0 g.0)
@@ -52,25 +53,14 @@ on_line a b line alike = record { line = line; number = alike.number; theirs = a
 same_plain : (a b : Fault) → a.line ≡ b.line → a.number ≡ b.number → ShowsNoSpans a → ShowsNoSpans b → AreSameFault a b
 same_plain a b line number one other = on_line a b line (both_plain a b number one other)
 
-row_not_both : (theirs : SatEntry) (ours : SatLine) (fault : Fault) → RowPasses theirs ours → RowFails theirs ours fault → ⊥
-row_not_both (entry.Row row) (Usable ours) fault h (inl f) = narrow_not_held (compared row ours) fault.theirs fault.ours h.0 f.0
-row_not_both (entry.Row row) (Usable ours) fault h (inr f) = f.1 h.1
-row_not_both (entry.Row row) (Skipped sat skip) fault h f = f
-row_not_both (entry.Skipped sat skip) (Usable ours) fault h f = f
-row_not_both (entry.Skipped sat skip) (Skipped other why) fault h f = f
+abbrev side_ends : Side → ℤ × ℤ
+side_ends s = (s.lo, s.hi)
 
-one_in_row : (theirs : SatEntry) (ours : SatLine) (a b : Fault) → RowFails theirs ours a → RowFails theirs ours b → AreAlike a b
-one_in_row (entry.Row row) (Usable ours) a b (inl f) (inl g) =
-    let same = one_narrow (compared row ours) a.theirs a.ours b.theirs b.ours f.0 g.0 in
-    record { number = f.1 ∙ sym g.1; theirs = ap ends same.0; ours = ap ends same.1 }
-one_in_row (entry.Row row) (Usable ours) a b (inl f) (inr g) = absurd (narrow_not_held (compared row ours) a.theirs a.ours g.0 f.0)
-one_in_row (entry.Row row) (Usable ours) a b (inr f) (inl g) = absurd (narrow_not_held (compared row ours) b.theirs b.ours f.0 g.0)
-one_in_row (entry.Row row) (Usable ours) a b (inr f) (inr g) = both_plain a b (f.2 ∙ sym g.2) f.3 g.3
-one_in_row (entry.Row row) (Skipped sat skip) a b f g = absurd f
-one_in_row (entry.Skipped sat skip) (Usable ours) a b f g = absurd f
-one_in_row (entry.Skipped sat skip) (Skipped other why) a b f g = absurd f
+-- ---- the place of a block, and which line is expected
 
--- ---- satellite lines
+one_due : {rules : Rules} {next : ℕ} {before : Option ℕ} {searches : List Search} {blocks : List Block} (a b : Fault)
+    → DueFails rules next before searches blocks a → DueFails rules next before searches blocks b → AreSameFault a b
+one_due a b f g = same_plain a b (f.line ∙ sym g.line) (f.number ∙ sym g.number) f.no_spans g.no_spans
 
 same_some : {X : Type 0} (o : Option X) (x y : X) → o ≡ Some x → o ≡ Some y → x ≡ y
 same_some o x y e f = cc
@@ -81,33 +71,6 @@ row_at : {sats : List SatEntry} {lines : List SatLine} {k : ℕ} (Meets : SatEnt
 row_at {sats = sats} {lines = lines} {k = k} Meets e f h =
     subst (λ t. Meets t f.ours) (same_some (slice_get sats k) e.theirs f.theirs e.theirs_at f.theirs_at)
     (subst (λ o. Meets e.theirs o) (same_some (slice_get lines k) e.ours f.ours e.ours_at f.ours_at) h)
-
-line_not_both : {sats : List SatEntry} {lines : List SatLine} {k : ℕ} (fault : Fault) → LinePasses sats lines k → LineFails sats lines k fault → ⊥
-line_not_both fault h (inl f) = f.0 h.is_expected
-line_not_both fault h (inr f) =
-    row_not_both f.is_expected.theirs f.is_expected.ours fault (row_at RowPasses h.is_expected f.is_expected h.passes) f.fails
-
-one_in_line : {sats : List SatEntry} {lines : List SatLine} {k : ℕ} (a b : Fault) → LineFails sats lines k a → LineFails sats lines k b → AreAlike a b
-one_in_line a b (inl f) (inl g) = both_plain a b (f.1 ∙ sym g.1) f.2 g.2
-one_in_line a b (inl f) (inr g) = absurd (f.0 g.is_expected)
-one_in_line a b (inr f) (inl g) = absurd (g.0 f.is_expected)
-one_in_line a b (inr f) (inr g) =
-    one_in_row f.is_expected.theirs f.is_expected.ours a b f.fails (row_at (λ t o. RowFails t o b) g.is_expected f.is_expected g.fails)
-
-sats_not_both : {sats : List SatEntry} {lines : List SatLine} (k : ℕ) (fault : Fault) → SatsPass sats lines → SatsFail sats lines k fault → ⊥
-sats_not_both k fault h f = line_not_both fault (h k f.is_line) f.here
-
-one_in_sats : {sats : List SatEntry} {lines : List SatLine} (j k : ℕ) (a b : Fault) → SatsFail sats lines j a → SatsFail sats lines k b → (j ≡ k) × AreAlike a b
-one_in_sats {sats = sats} {lines = lines} j k a b f g = elim (cases_order j k) [
-  | inl same ↦ (same, one_in_line a b f.here (subst (λ i. LineFails sats lines i b) (sym same) g.here))
-  | inr other ↦ elim other [
-    | inl less ↦ absurd (line_not_both a (g.before j less) f.here)
-    | inr more ↦ absurd (line_not_both b (f.before k more) g.here)
-  ]
-]
-
-none_repeats : (sats : List SatEntry) (lines : List SatLine) → SatsPass sats lines → NoneRepeats sats
-none_repeats sats lines h k r = (h k r.is_line).is_expected.once r
 
 -- ---- steps: those of a block that has nothing else to fail
 
@@ -134,119 +97,166 @@ one_in_steps rules root block j n k m none f g =
     (inl (inr (inr (head, none, (root, j, refl, f, refl))))) (inl (inr (inr (head, none, (root, k, refl, g, refl))))) in
     (omega (arith, same.0), same.1)
 
--- ---- a block
+-- by the delay at the zenith that is mapped
+module _ (zenith : Option Span) where
+  -- ---- rows
 
-pub epoch_not_both : (rules : Rules) (root : GridBox) (own : List SatLine) (block : Block) (fault : Fault)
-    → EpochPasses rules root own block → EpochFails rules root own block fault → ⊥
-epoch_not_both rules root own block fault h (inl head) = head.differs h.counts
-epoch_not_both rules root own block fault h (inr (inl sats)) = sats_not_both sats.k fault h.sats sats.fails
-epoch_not_both rules root own block fault h (inr (inr (inl missing))) = absurd (omega (arith, missing.missing, h.whole))
-epoch_not_both rules root own block fault h (inr (inr (inr body))) =
-    let at = rw body.is_root at h.body in
-    elim body.fails [
-      | inl differs ↦ differs.differs at.0
-      | inr step ↦ steps_not_both rules root block step.k fault.number (none_repeats block.sats (expected block.few own) h.sats) at.1 step.fails
+  row_not_both : (theirs : SatEntry) (ours : SatLine) (fault : Fault) → RowPasses zenith theirs ours → RowFails zenith theirs ours fault → ⊥
+  row_not_both (entry.Row row) (Usable ours) fault h (inl f) = narrow_not_held (compared zenith row ours) (span_side fault.theirs) (span_side fault.ours) h.0 f.0
+  row_not_both (entry.Row row) (Usable ours) fault h (inr f) = f.1 h.1
+  row_not_both (entry.Row row) (Skipped sat skip) fault h f = f
+  row_not_both (entry.Skipped sat skip) (Usable ours) fault h f = f
+  row_not_both (entry.Skipped sat skip) (Skipped other why) fault h f = f
+
+  one_in_row : (theirs : SatEntry) (ours : SatLine) (a b : Fault) → RowFails zenith theirs ours a → RowFails zenith theirs ours b → AreAlike a b
+  one_in_row (entry.Row row) (Usable ours) a b (inl f) (inl g) =
+      let same = one_narrow (compared zenith row ours) (span_side a.theirs) (span_side a.ours) (span_side b.theirs) (span_side b.ours) f.0 g.0 in
+      record { number = f.1 ∙ sym g.1; theirs = ap side_ends same.0; ours = ap side_ends same.1 }
+  one_in_row (entry.Row row) (Usable ours) a b (inl f) (inr g) = absurd (narrow_not_held (compared zenith row ours) (span_side a.theirs) (span_side a.ours) g.0 f.0)
+  one_in_row (entry.Row row) (Usable ours) a b (inr f) (inl g) = absurd (narrow_not_held (compared zenith row ours) (span_side b.theirs) (span_side b.ours) f.0 g.0)
+  one_in_row (entry.Row row) (Usable ours) a b (inr f) (inr g) = both_plain a b (f.2 ∙ sym g.2) f.3 g.3
+  one_in_row (entry.Row row) (Skipped sat skip) a b f g = absurd f
+  one_in_row (entry.Skipped sat skip) (Usable ours) a b f g = absurd f
+  one_in_row (entry.Skipped sat skip) (Skipped other why) a b f g = absurd f
+
+  -- ---- satellite lines
+
+  line_not_both : {sats : List SatEntry} {lines : List SatLine} {k : ℕ} (fault : Fault) → LinePasses zenith sats lines k → LineFails zenith sats lines k fault → ⊥
+  line_not_both fault h (inl f) = f.0 h.is_expected
+  line_not_both fault h (inr f) =
+      row_not_both f.is_expected.theirs f.is_expected.ours fault (row_at (RowPasses zenith) h.is_expected f.is_expected h.passes) f.fails
+
+  one_in_line : {sats : List SatEntry} {lines : List SatLine} {k : ℕ} (a b : Fault) → LineFails zenith sats lines k a → LineFails zenith sats lines k b → AreAlike a b
+  one_in_line a b (inl f) (inl g) = both_plain a b (f.1 ∙ sym g.1) f.2 g.2
+  one_in_line a b (inl f) (inr g) = absurd (f.0 g.is_expected)
+  one_in_line a b (inr f) (inl g) = absurd (g.0 f.is_expected)
+  one_in_line a b (inr f) (inr g) =
+      one_in_row f.is_expected.theirs f.is_expected.ours a b f.fails (row_at (λ t o. RowFails zenith t o b) g.is_expected f.is_expected g.fails)
+
+  sats_not_both : {sats : List SatEntry} {lines : List SatLine} (k : ℕ) (fault : Fault) → SatsPass zenith sats lines → SatsFail zenith sats lines k fault → ⊥
+  sats_not_both k fault h f = line_not_both fault (h k f.is_line) f.here
+
+  one_in_sats : {sats : List SatEntry} {lines : List SatLine} (j k : ℕ) (a b : Fault) → SatsFail zenith sats lines j a → SatsFail zenith sats lines k b → (j ≡ k) × AreAlike a b
+  one_in_sats {sats = sats} {lines = lines} j k a b f g = elim (cases_order j k) [
+    | inl same ↦ (same, one_in_line a b f.here (subst (λ i. LineFails zenith sats lines i b) (sym same) g.here))
+    | inr other ↦ elim other [
+      | inl less ↦ absurd (line_not_both a (g.before j less) f.here)
+      | inr more ↦ absurd (line_not_both b (f.before k more) g.here)
     ]
+  ]
 
-one_in_body : (rules : Rules) (root : GridBox) (own : List SatLine) (block : Block) (a b : Fault)
-    → BodyDiffers rules root own block a → BodyDiffers rules root own block b → AreSameFault a b
-one_in_body rules root own block a b f g =
-    let same = same_some block.root g.theirs f.theirs g.is_root f.is_root in
-    one_at rules root block f.theirs a b (none_repeats block.sats (expected block.few own) f.sats) f.fails
-    (subst (λ t. BodyFailsAt rules root block t b) same g.fails)
-  where
-    one_at : (rules : Rules) (root : GridBox) (block : Block) (theirs : GridBox) (a b : Fault) → NoneRepeats block.sats
-        → BodyFailsAt rules root block theirs a → BodyFailsAt rules root block theirs b → AreSameFault a b
-    one_at rules root block theirs a b none (inl f) (inl g) = same_plain a b (f.line ∙ sym g.line) (f.number ∙ sym g.number) f.no_spans g.no_spans
-    one_at rules root block theirs a b none (inl f) (inr g) = absurd (f.differs g.same)
-    one_at rules root block theirs a b none (inr f) (inl g) = absurd (g.differs f.same)
-    one_at rules root block theirs a b none (inr f) (inr g) =
-        let same = one_in_steps rules root block f.k a.number g.k b.number none f.fails g.fails in
-        same_plain a b (omega (arith, f.line, g.line, same.0)) same.1 f.no_spans g.no_spans
+  none_repeats : (sats : List SatEntry) (lines : List SatLine) → SatsPass zenith sats lines → NoneRepeats sats
+  none_repeats sats lines h k r = (h k r.is_line).is_expected.once r
 
-pub one_in_epoch : (rules : Rules) (root : GridBox) (own : List SatLine) (block : Block) (a b : Fault)
-    → EpochFails rules root own block a → EpochFails rules root own block b → AreSameFault a b
-one_in_epoch rules root own block a b (inl f) (inl g) = same_plain a b (f.line ∙ sym g.line) (f.number ∙ sym g.number) f.no_spans g.no_spans
-one_in_epoch rules root own block a b (inl f) (inr (inl g)) = absurd (f.differs g.counts)
-one_in_epoch rules root own block a b (inl f) (inr (inr (inl g))) = absurd (f.differs g.counts)
-one_in_epoch rules root own block a b (inl f) (inr (inr (inr g))) = absurd (f.differs g.counts)
-one_in_epoch rules root own block a b (inr (inl f)) (inl g) = absurd (g.differs f.counts)
-one_in_epoch rules root own block a b (inr (inl f)) (inr (inl g)) =
-    let same = one_in_sats f.k g.k a b f.fails g.fails in
-    on_line a b (omega (arith, f.line, g.line, same.0)) same.1
-one_in_epoch rules root own block a b (inr (inl f)) (inr (inr (inl g))) = absurd (sats_not_both f.k a g.sats f.fails)
-one_in_epoch rules root own block a b (inr (inl f)) (inr (inr (inr g))) = absurd (sats_not_both f.k a g.sats f.fails)
-one_in_epoch rules root own block a b (inr (inr (inl f))) (inl g) = absurd (g.differs f.counts)
-one_in_epoch rules root own block a b (inr (inr (inl f))) (inr (inl g)) = absurd (sats_not_both g.k b f.sats g.fails)
-one_in_epoch rules root own block a b (inr (inr (inl f))) (inr (inr (inl g))) = same_plain a b (f.line ∙ sym g.line) (f.number ∙ sym g.number) f.no_spans g.no_spans
-one_in_epoch rules root own block a b (inr (inr (inl f))) (inr (inr (inr g))) = absurd (omega (arith, f.missing, g.whole))
-one_in_epoch rules root own block a b (inr (inr (inr f))) (inl g) = absurd (g.differs f.counts)
-one_in_epoch rules root own block a b (inr (inr (inr f))) (inr (inl g)) = absurd (sats_not_both g.k b f.sats g.fails)
-one_in_epoch rules root own block a b (inr (inr (inr f))) (inr (inr (inl g))) = absurd (omega (arith, g.missing, f.whole))
-one_in_epoch rules root own block a b (inr (inr (inr f))) (inr (inr (inr g))) = one_in_body rules root own block a b f g
+  -- ---- a block
 
--- ---- the blocks
+  pub epoch_not_both : (rules : Rules) (root : GridBox) (own : List SatLine) (block : Block) (fault : Fault)
+      → EpochPasses zenith rules root own block → EpochFails zenith rules root own block fault → ⊥
+  epoch_not_both rules root own block fault h (inl head) = head.differs h.counts
+  epoch_not_both rules root own block fault h (inr (inl sats)) = sats_not_both sats.k fault h.sats sats.fails
+  epoch_not_both rules root own block fault h (inr (inr (inl missing))) = absurd (omega (arith, missing.missing, h.whole))
+  epoch_not_both rules root own block fault h (inr (inr (inr body))) =
+      let at = rw body.is_root at h.body in
+      elim body.fails [
+        | inl differs ↦ differs.differs at.0
+        | inr step ↦ steps_not_both rules root block step.k fault.number (none_repeats block.sats (expected block.few own) h.sats) at.1 step.fails
+      ]
 
-one_due : {rules : Rules} {next : ℕ} {before : Option ℕ} {searches : List Search} {blocks : List Block} (a b : Fault)
-    → DueFails rules next before searches blocks a → DueFails rules next before searches blocks b → AreSameFault a b
-one_due a b f g = same_plain a b (f.line ∙ sym g.line) (f.number ∙ sym g.number) f.no_spans g.no_spans
+  one_in_body : (rules : Rules) (root : GridBox) (own : List SatLine) (block : Block) (a b : Fault)
+      → BodyDiffers zenith rules root own block a → BodyDiffers zenith rules root own block b → AreSameFault a b
+  one_in_body rules root own block a b f g =
+      let same = same_some block.root g.theirs f.theirs g.is_root f.is_root in
+      one_at rules root block f.theirs a b (none_repeats block.sats (expected block.few own) f.sats) f.fails
+      (subst (λ t. BodyFailsAt rules root block t b) same g.fails)
+    where
+      one_at : (rules : Rules) (root : GridBox) (block : Block) (theirs : GridBox) (a b : Fault) → NoneRepeats block.sats
+          → BodyFailsAt rules root block theirs a → BodyFailsAt rules root block theirs b → AreSameFault a b
+      one_at rules root block theirs a b none (inl f) (inl g) = same_plain a b (f.line ∙ sym g.line) (f.number ∙ sym g.number) f.no_spans g.no_spans
+      one_at rules root block theirs a b none (inl f) (inr g) = absurd (f.differs g.same)
+      one_at rules root block theirs a b none (inr f) (inl g) = absurd (g.differs f.same)
+      one_at rules root block theirs a b none (inr f) (inr g) =
+          let same = one_in_steps rules root block f.k a.number g.k b.number none f.fails g.fails in
+          same_plain a b (omega (arith, f.line, g.line, same.0)) same.1 f.no_spans g.no_spans
 
-block_fault_not : (rules : Rules) (behind : ℕ) (own : List SatLine) (search : Search) (rest : List Search) (block : Block) (more : List Block) (fault : Fault)
-    → EpochPasses rules search.root own block → BlockFault rules behind own search rest block more fault → ⊥
-block_fault_not rules behind own search rest block more fault h (inl f) = epoch_not_both rules search.root own block fault h f.0
-block_fault_not rules behind own search rest block more fault h (inr (due, (other, fails, line))) = epoch_not_both rules search.root own block other h fails
+  pub one_in_epoch : (rules : Rules) (root : GridBox) (own : List SatLine) (block : Block) (a b : Fault)
+      → EpochFails zenith rules root own block a → EpochFails zenith rules root own block b → AreSameFault a b
+  one_in_epoch rules root own block a b (inl f) (inl g) = same_plain a b (f.line ∙ sym g.line) (f.number ∙ sym g.number) f.no_spans g.no_spans
+  one_in_epoch rules root own block a b (inl f) (inr (inl g)) = absurd (f.differs g.counts)
+  one_in_epoch rules root own block a b (inl f) (inr (inr (inl g))) = absurd (f.differs g.counts)
+  one_in_epoch rules root own block a b (inl f) (inr (inr (inr g))) = absurd (f.differs g.counts)
+  one_in_epoch rules root own block a b (inr (inl f)) (inl g) = absurd (g.differs f.counts)
+  one_in_epoch rules root own block a b (inr (inl f)) (inr (inl g)) =
+      let same = one_in_sats f.k g.k a b f.fails g.fails in
+      on_line a b (omega (arith, f.line, g.line, same.0)) same.1
+  one_in_epoch rules root own block a b (inr (inl f)) (inr (inr (inl g))) = absurd (sats_not_both f.k a g.sats f.fails)
+  one_in_epoch rules root own block a b (inr (inl f)) (inr (inr (inr g))) = absurd (sats_not_both f.k a g.sats f.fails)
+  one_in_epoch rules root own block a b (inr (inr (inl f))) (inl g) = absurd (g.differs f.counts)
+  one_in_epoch rules root own block a b (inr (inr (inl f))) (inr (inl g)) = absurd (sats_not_both g.k b f.sats g.fails)
+  one_in_epoch rules root own block a b (inr (inr (inl f))) (inr (inr (inl g))) = same_plain a b (f.line ∙ sym g.line) (f.number ∙ sym g.number) f.no_spans g.no_spans
+  one_in_epoch rules root own block a b (inr (inr (inl f))) (inr (inr (inr g))) = absurd (omega (arith, f.missing, g.whole))
+  one_in_epoch rules root own block a b (inr (inr (inr f))) (inl g) = absurd (g.differs f.counts)
+  one_in_epoch rules root own block a b (inr (inr (inr f))) (inr (inl g)) = absurd (sats_not_both g.k b f.sats g.fails)
+  one_in_epoch rules root own block a b (inr (inr (inr f))) (inr (inr (inl g))) = absurd (omega (arith, g.missing, f.whole))
+  one_in_epoch rules root own block a b (inr (inr (inr f))) (inr (inr (inr g))) = one_in_body rules root own block a b f g
 
-one_block_fault : (rules : Rules) (behind : ℕ) (own : List SatLine) (search : Search) (rest : List Search) (block : Block) (more : List Block) (a b : Fault)
-    → BlockFault rules behind own search rest block more a → BlockFault rules behind own search rest block more b → AreSameFault a b
-one_block_fault rules behind own search rest block more a b (inl f) (inl g) = one_in_epoch rules search.root own block a b f.0 g.0
-one_block_fault rules behind own search rest block more a b (inl f) (inr (due, (other, fails, line))) =
-    absurd (due.fails (f.1 ((one_in_epoch rules search.root own block a other f.0 fails).line ∙ line)))
-one_block_fault rules behind own search rest block more a b (inr (due, (other, fails, line))) (inl g) =
-    absurd (due.fails (g.1 ((one_in_epoch rules search.root own block b other g.0 fails).line ∙ line)))
-one_block_fault rules behind own search rest block more a b (inr (due, f)) (inr (again, g)) = one_due a b due again
+  -- ---- the blocks
 
-pub from_not_both : (rules : Rules) (next : ℕ) (before : Option ℕ) (owns : List (List SatLine)) (searches : List Search) (blocks : List Block) (fault : Fault)
-    → AdmitsFrom rules before owns searches blocks → FailsFrom rules next before owns searches blocks fault → ⊥
-from_not_both rules next before [] searches blocks fault h f = f.fails h
-from_not_both rules next before (own ∷ owns) [] blocks fault h f = h
-from_not_both rules next before (own ∷ owns) (search ∷ rest) [] fault h f = h
-from_not_both rules next before (own ∷ owns) (search ∷ rest) (block ∷ more) fault h (inl f) = f.fails h.0
-from_not_both rules next before (own ∷ owns) (search ∷ rest) (block ∷ more) fault h (inr (inl f)) =
-    block_fault_not rules (next + lines_in block) own search rest block more fault h.1 f.1
-from_not_both rules next before (own ∷ owns) (search ∷ rest) (block ∷ more) fault h (inr (inr f)) =
-    from_not_both rules (next + lines_in block) (Some block.index) owns rest more fault h.2 f.2
+  block_fault_not : (rules : Rules) (behind : ℕ) (own : List SatLine) (search : Search) (rest : List Search) (block : Block) (more : List Block) (fault : Fault)
+      → EpochPasses zenith rules search.root own block → BlockFault zenith rules behind own search rest block more fault → ⊥
+  block_fault_not rules behind own search rest block more fault h (inl f) = epoch_not_both rules search.root own block fault h f.0
+  block_fault_not rules behind own search rest block more fault h (inr (due, (other, fails, line))) = epoch_not_both rules search.root own block other h fails
 
-one_from : (rules : Rules) (next : ℕ) (before : Option ℕ) (owns : List (List SatLine)) (searches : List Search) (blocks : List Block) (a b : Fault)
-    → FailsFrom rules next before owns searches blocks a → FailsFrom rules next before owns searches blocks b → AreSameFault a b
-one_from rules next before [] searches blocks a b f g = one_due a b f g
-one_from rules next before (own ∷ owns) [] blocks a b f g = one_due a b f g
-one_from rules next before (own ∷ owns) (search ∷ rest) [] a b f g = one_due a b f g
-one_from rules next before (own ∷ owns) (search ∷ rest) (block ∷ more) a b (inl f) (inl g) = one_due a b f g
-one_from rules next before (own ∷ owns) (search ∷ rest) (block ∷ more) a b (inl f) (inr (inl g)) = absurd (f.fails g.0)
-one_from rules next before (own ∷ owns) (search ∷ rest) (block ∷ more) a b (inl f) (inr (inr g)) = absurd (f.fails g.0)
-one_from rules next before (own ∷ owns) (search ∷ rest) (block ∷ more) a b (inr (inl f)) (inl g) = absurd (g.fails f.0)
-one_from rules next before (own ∷ owns) (search ∷ rest) (block ∷ more) a b (inr (inl f)) (inr (inl g)) =
-    one_block_fault rules (next + lines_in block) own search rest block more a b f.1 g.1
-one_from rules next before (own ∷ owns) (search ∷ rest) (block ∷ more) a b (inr (inl f)) (inr (inr g)) =
-    absurd (block_fault_not rules (next + lines_in block) own search rest block more a g.1 f.1)
-one_from rules next before (own ∷ owns) (search ∷ rest) (block ∷ more) a b (inr (inr f)) (inl g) = absurd (g.fails f.0)
-one_from rules next before (own ∷ owns) (search ∷ rest) (block ∷ more) a b (inr (inr f)) (inr (inl g)) =
-    absurd (block_fault_not rules (next + lines_in block) own search rest block more b f.1 g.1)
-one_from rules next before (own ∷ owns) (search ∷ rest) (block ∷ more) a b (inr (inr f)) (inr (inr g)) =
-    one_from rules (next + lines_in block) (Some block.index) owns rest more a b f.2 g.2
+  one_block_fault : (rules : Rules) (behind : ℕ) (own : List SatLine) (search : Search) (rest : List Search) (block : Block) (more : List Block) (a b : Fault)
+      → BlockFault zenith rules behind own search rest block more a → BlockFault zenith rules behind own search rest block more b → AreSameFault a b
+  one_block_fault rules behind own search rest block more a b (inl f) (inl g) = one_in_epoch rules search.root own block a b f.0 g.0
+  one_block_fault rules behind own search rest block more a b (inl f) (inr (due, (other, fails, line))) =
+      absurd (due.fails (f.1 ((one_in_epoch rules search.root own block a other f.0 fails).line ∙ line)))
+  one_block_fault rules behind own search rest block more a b (inr (due, (other, fails, line))) (inl g) =
+      absurd (due.fails (g.1 ((one_in_epoch rules search.root own block b other g.0 fails).line ∙ line)))
+  one_block_fault rules behind own search rest block more a b (inr (due, f)) (inr (again, g)) = one_due a b due again
 
--- ---- the log
+  pub from_not_both : (rules : Rules) (next : ℕ) (before : Option ℕ) (owns : List (List SatLine)) (searches : List Search) (blocks : List Block) (fault : Fault)
+      → AdmitsFrom zenith rules before owns searches blocks → FailsFrom zenith rules next before owns searches blocks fault → ⊥
+  from_not_both rules next before [] searches blocks fault h f = f.fails h
+  from_not_both rules next before (own ∷ owns) [] blocks fault h f = h
+  from_not_both rules next before (own ∷ owns) (search ∷ rest) [] fault h f = h
+  from_not_both rules next before (own ∷ owns) (search ∷ rest) (block ∷ more) fault h (inl f) = f.fails h.0
+  from_not_both rules next before (own ∷ owns) (search ∷ rest) (block ∷ more) fault h (inr (inl f)) =
+      block_fault_not rules (next + lines_in block) own search rest block more fault h.1 f.1
+  from_not_both rules next before (own ∷ owns) (search ∷ rest) (block ∷ more) fault h (inr (inr f)) =
+      from_not_both rules (next + lines_in block) (Some block.index) owns rest more fault h.2 f.2
 
--- a log that is admitted by own lines has no fault for them
-pub not_both : (searches : List Search) (owns : List (List SatLine)) (rules : Rules) (log : LogValue) (fault : Fault)
-    → FailsFirst searches owns rules log fault → Admits searches owns rules log → ⊥
-not_both searches owns rules log fault (inl f) h = f.differ h.same_rules
-not_both searches owns rules log fault (inr f) h = from_not_both rules 3 None owns searches log.blocks fault h.blocks f.1
+  one_from : (rules : Rules) (next : ℕ) (before : Option ℕ) (owns : List (List SatLine)) (searches : List Search) (blocks : List Block) (a b : Fault)
+      → FailsFrom zenith rules next before owns searches blocks a → FailsFrom zenith rules next before owns searches blocks b → AreSameFault a b
+  one_from rules next before [] searches blocks a b f g = one_due a b f g
+  one_from rules next before (own ∷ owns) [] blocks a b f g = one_due a b f g
+  one_from rules next before (own ∷ owns) (search ∷ rest) [] a b f g = one_due a b f g
+  one_from rules next before (own ∷ owns) (search ∷ rest) (block ∷ more) a b (inl f) (inl g) = one_due a b f g
+  one_from rules next before (own ∷ owns) (search ∷ rest) (block ∷ more) a b (inl f) (inr (inl g)) = absurd (f.fails g.0)
+  one_from rules next before (own ∷ owns) (search ∷ rest) (block ∷ more) a b (inl f) (inr (inr g)) = absurd (f.fails g.0)
+  one_from rules next before (own ∷ owns) (search ∷ rest) (block ∷ more) a b (inr (inl f)) (inl g) = absurd (g.fails f.0)
+  one_from rules next before (own ∷ owns) (search ∷ rest) (block ∷ more) a b (inr (inl f)) (inr (inl g)) =
+      one_block_fault rules (next + lines_in block) own search rest block more a b f.1 g.1
+  one_from rules next before (own ∷ owns) (search ∷ rest) (block ∷ more) a b (inr (inl f)) (inr (inr g)) =
+      absurd (block_fault_not rules (next + lines_in block) own search rest block more a g.1 f.1)
+  one_from rules next before (own ∷ owns) (search ∷ rest) (block ∷ more) a b (inr (inr f)) (inl g) = absurd (g.fails f.0)
+  one_from rules next before (own ∷ owns) (search ∷ rest) (block ∷ more) a b (inr (inr f)) (inr (inl g)) =
+      absurd (block_fault_not rules (next + lines_in block) own search rest block more b f.1 g.1)
+  one_from rules next before (own ∷ owns) (search ∷ rest) (block ∷ more) a b (inr (inr f)) (inr (inr g)) =
+      one_from rules (next + lines_in block) (Some block.index) owns rest more a b f.2 g.2
 
--- a first fault is the only one
-pub one_fault : (searches : List Search) (owns : List (List SatLine)) (rules : Rules) (log : LogValue) (a b : Fault)
-    → FailsFirst searches owns rules log a → FailsFirst searches owns rules log b → AreSameFault a b
-one_fault searches owns rules log a b (inl f) (inl g) = same_plain a b (f.line ∙ sym g.line) (f.number ∙ sym g.number) f.no_spans g.no_spans
-one_fault searches owns rules log a b (inl f) (inr g) = absurd (f.differ g.0)
-one_fault searches owns rules log a b (inr f) (inl g) = absurd (g.differ f.0)
-one_fault searches owns rules log a b (inr f) (inr g) = one_from rules 3 None owns searches log.blocks a b f.1 g.1
+  -- ---- the log
+
+  -- a log that is admitted by own lines has no fault for them
+  pub not_both : (searches : List Search) (owns : List (List SatLine)) (rules : Rules) (log : LogValue) (fault : Fault)
+      → FailsFirst zenith searches owns rules log fault → Admits zenith searches owns rules log → ⊥
+  not_both searches owns rules log fault (inl f) h = f.differ h.same_rules
+  not_both searches owns rules log fault (inr f) h = from_not_both rules 3 None owns searches log.blocks fault h.blocks f.1
+
+  -- a first fault is the only one
+  pub one_fault : (searches : List Search) (owns : List (List SatLine)) (rules : Rules) (log : LogValue) (a b : Fault)
+      → FailsFirst zenith searches owns rules log a → FailsFirst zenith searches owns rules log b → AreSameFault a b
+  one_fault searches owns rules log a b (inl f) (inl g) = same_plain a b (f.line ∙ sym g.line) (f.number ∙ sym g.number) f.no_spans g.no_spans
+  one_fault searches owns rules log a b (inl f) (inr g) = absurd (f.differ g.0)
+  one_fault searches owns rules log a b (inr f) (inl g) = absurd (g.differ f.0)
+  one_fault searches owns rules log a b (inr f) (inr g) = one_from rules 3 None owns searches log.blocks a b f.1 g.1

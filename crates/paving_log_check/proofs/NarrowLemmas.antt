@@ -1,14 +1,18 @@
 -- A fault with number 53 is that of a row which is too narrow.
 use Rattle.std.proofs.Common.{◌≡◌, ℕ, zero, suc, ◌+◌, arith, Bool, true, false, List, [], ◌∷◌, inl, inr, refl, sym, ap, Option, None, Some, Result, Ok, Err, ◌∙◌}
-use Rattle.std.specs.Prelude.{ℤ, Contains, slice_get, IfOk, MatchOption}
+use Rattle.std.specs.Prelude.{ℤ, pos, ◌-ℤ◌, ◌≤ℤ◌, Contains, slice_get, IfOk, MatchOption}
 use Rattle.std.proofs.lemmas.Int.{ints}
 use Rattle.epoch_selection.specs.Searches.{Search}
 use Rattle.rinex_obs.specs.declared.obs.SatObs.{SatObs}
-use Rattle.sat_model.specs.Boxes.{GridBox}
+use Rattle.sat_model.specs.Boxes.{Side, GridBox}
+use Rattle.sat_model.specs.Fitting.{low_bounds, high_bounds}
 use Rattle.sat_model.specs.Fold.{Stage, first_stage, after}
 use Rattle.sat_model.specs.Intervals.{Between}
 use Rattle.sat_model.specs.Logs.{Block, lines_in}
+use Rattle.sat_model.specs.Lengths.{spare_of}
+use Rattle.sat_model.specs.Trees.{span_side}
 use Rattle.sat_model.specs.Verdicts.{StepFails, StepsFail}
+use Rattle.sat_model.specs.Zenith.{err_spare_of}
 use Rattle.sat_model.specs.declared.memory.NoMemory.{NoMemory}
 use Rattle.sat_model.specs.declared.rules.Rules.{Rules}
 use Rattle.sat_model.specs.declared.satellites.Row.{Row}
@@ -19,78 +23,103 @@ use Rattle.sat_model.specs.declared.steps.Step.{Step}
 use Rattle.sat_model.specs.declared.steps.Step.TheVariants.{Cut, Split, Outside, Inside, Edge}
 use Rattle.sat_rows.specs.Chains.{Chain}
 use Rattle.sat_rows.specs.Meanings.{Meaning}
-use Rattle.sat_rows.specs.OwnRows.{HoldsChain, IsTight, IsOwnRow, AreOwnLines, AreLinesOf}
+use Rattle.sat_rows.specs.OwnRows.{HoldsChain, AreBoundsTight, IsOwnRow, AreOwnLines, AreLinesOf}
 use Rattle.sat_rows.specs.declared.lines.SatLine.{SatLine}
 use Rattle.sat_rows.specs.declared.lines.SatLine.TheVariants.{Usable, Skipped}
 use Rattle.paving_log_check.specs.Admissible.{FailsFrom, AreOwn}
 use Rattle.paving_log_check.specs.Checked.{EpochAccepted, EpochRefused}
 use Rattle.paving_log_check.specs.Epochs.{EpochPasses, EpochFails}
-use Rattle.paving_log_check.specs.Lines.{skipped_in, expected, HoldsSpan, compared, IsFirstNarrow, IsSameLine, RowFails}
+use Rattle.paving_log_check.specs.Lines.{skipped_in, expected, HoldsSide, bounds_compared, compared, IsFirstNarrow, IsSameLine, RowFails}
 use Rattle.paving_log_check.specs.Narrow.{values, HoldsAround, IsTooNarrow, HasNarrowRow, HasNarrowBlock}
 use Rattle.paving_log_check.specs.declared.verdict.Fault.{Fault}
 
--- ---- a span
+-- ---- a side
 
--- an own span with a value in it lies within W of the value
-around_holds : (root : GridBox) (theirs ours : Span) (n : ℤ) → IsTight root ours → Between ours.lo ours.hi n → HoldsAround root theirs n → HoldsSpan theirs ours
-around_holds root theirs ours n tight held around = record {
-  lo = omega (arith, ints, tight, held.to, around.lo);
-  hi = omega (arith, ints, tight, held.from, around.hi);
+-- it is at most so wide, and holds the number
+record IsTightRound (spare : ℕ) (side : Side) (n : ℤ) : Type 0 where
+  pub tight : (side.hi -ℤ side.lo) ≤ℤ pos spare
+  pub held : Between side.lo side.hi n
+
+-- so it lies within as much of the number
+around_holds : (theirs ours : Side) (n : ℤ) (spare : ℕ) → IsTightRound spare ours n → HoldsAround spare theirs n → HoldsSide theirs ours
+around_holds theirs ours n spare round around = record {
+  lo = omega (arith, ints, round.tight, round.held.to, around.lo);
+  hi = omega (arith, ints, round.tight, round.held.from, around.hi);
 }
 
-record NarrowAt (pairs : List (Span × Span)) (theirs ours : Span) : Type 0 where
+record NarrowAt (pairs : List (Side × Side)) (theirs ours : Side) : Type 0 where
   pub place : ℕ
   pub shown : slice_get pairs place ≡ Some (theirs, ours)
-  pub narrow : HoldsSpan theirs ours → ⊥
+  pub narrow : HoldsSide theirs ours → ⊥
 
-narrow_at : (pairs : List (Span × Span)) (theirs ours : Span) → IsFirstNarrow pairs theirs ours → NarrowAt pairs theirs ours
+narrow_at : (pairs : List (Side × Side)) (theirs ours : Side) → IsFirstNarrow pairs theirs ours → NarrowAt pairs theirs ours
 narrow_at [] theirs ours f = absurd f
 narrow_at (pair ∷ more) theirs ours (inl f) = rw (f.1, f.2) (record { place = 0; shown = refl; narrow = f.0 })
 narrow_at (pair ∷ more) theirs ours (inr f) =
     let later = narrow_at more theirs ours f.1 in
     record { place = suc later.place; shown = later.shown; narrow = later.narrow }
 
-same_pair : (x y : Span × Span) → Some x ≡ Some y → x ≡ y
-same_pair x y e = cc
+same_item : {X : Type 0} (x y : X) → Some x ≡ Some y → x ≡ y
+same_item x y e = cc
 
-same_ours : (a b c d : Span) → ◌≡◌ {A = Option (Span × Span)} (Some (a, b)) (Some (c, d)) → b ≡ d
-same_ours a b c d e = ap (λ (x : Span × Span). x.1) (same_pair (a, b) (c, d) e)
+-- what stands in a place is the side there, and the value there with its spare
+abbrev IsShown : Side → Side → Side → Side → Type 0
+IsShown a b theirs ours = ◌≡◌ {A = Option (Side × Side)} (Some (a, b)) (Some (theirs, ours))
 
-same_value : (m n : ℤ) → Some m ≡ Some n → m ≡ n
-same_value m n e = cc
+abbrev IsKnown : ℤ → ℕ → ℤ → ℕ → Type 0
+IsKnown value width n spare = ◌≡◌ {A = Option (ℤ × ℕ)} (Some (value, width)) (Some (n, spare))
 
--- one of the four own spans is tight and holds the value in the same place
-record IsTightRound (root : GridBox) (ours : Span) (n : ℤ) : Type 0 where
-  pub tight : IsTight root ours
-  pub held : Between ours.lo ours.hi n
+tight_round : (a b theirs ours : Side) (value n : ℤ) (width spare : ℕ) → IsTightRound width b value → IsShown a b theirs ours → IsKnown value width n spare → IsTightRound spare ours n
+tight_round a b theirs ours value n width spare round shown known =
+    let pair = same_item (a, b) (theirs, ours) shown in
+    let both = same_item (value, width) (n, spare) known in
+    let same : b ≡ ours = ap (λ (x : Side × Side). x.1) pair in
+    let is : value ≡ n = ap (λ (x : ℤ × ℕ). x.0) both in
+    let wide : width ≡ spare = ap (λ (x : ℤ × ℕ). x.1) both in
+    rw (sym same, sym is, sym wide) round
 
-tight_round : (root : GridBox) (a b : Span) (m n : ℤ) → IsTight root a → Between a.lo a.hi m → a ≡ b → m ≡ n → IsTightRound root b n
-tight_round root a b m n tight held e f = rw (sym e, sym f) (record { tight = tight; held = held })
+abbrev bound_values : GridBox → Option Span → Chain → List (ℤ × ℕ)
+bound_values root zenith c = (c.lo, err_spare_of root zenith) ∷ (c.hi, err_spare_of root zenith) ∷ []
 
+-- the ends of the error, where they are compared
+bounds_at : (root : GridBox) (zenith : Option Span) (row ours : Row) (theirs own : Side) (c : Chain) (n : ℤ) (spare place : ℕ) → AreBoundsTight root zenith ours → HoldsChain ours c
+    → slice_get (bounds_compared zenith row ours) place ≡ Some (theirs, own)
+    → slice_get (bound_values root zenith c) place ≡ Some (n, spare) → IsTightRound spare own n
+bounds_at root None row ours theirs own c n spare place tight holds shown value = absurd cc
+bounds_at root (Some zenith) row ours theirs own c n spare zero tight holds shown value =
+    tight_round (low_bounds row) (low_bounds ours) theirs own c.lo n (err_spare_of root (Some zenith)) spare (record { tight = tight.low; held = holds.lo }) shown value
+bounds_at root (Some zenith) row ours theirs own c n spare (suc zero) tight holds shown value =
+    tight_round (high_bounds row) (high_bounds ours) theirs own c.hi n (err_spare_of root (Some zenith)) spare (record { tight = tight.high; held = holds.hi }) shown value
+bounds_at root (Some zenith) row ours theirs own c n spare (suc (suc place)) tight holds shown value = absurd cc
+
+-- the own side in a place is tight round the value in the same place
 module _ (m : Meaning) (root : GridBox) (tag : ℤ) (sat : SatObs) where
-  held_at : (row ours : Row) (theirs own : Span) (c : Chain) (n : ℤ) (place : ℕ) → IsOwnRow m root tag sat ours → HoldsChain ours c
-      → slice_get (compared row ours) place ≡ Some (theirs, own) → slice_get (values c) place ≡ Some n → IsTightRound root own n
-  held_at row ours theirs own c n zero is holds shown value =
-      tight_round root ours.x own c.x n is.x holds.x (same_ours row.x ours.x theirs own shown) (same_value c.x n value)
-  held_at row ours theirs own c n (suc zero) is holds shown value =
-      tight_round root ours.y own c.y n is.y holds.y (same_ours row.y ours.y theirs own shown) (same_value c.y n value)
-  held_at row ours theirs own c n (suc (suc zero)) is holds shown value =
-      tight_round root ours.z own c.z n is.z holds.z (same_ours row.z ours.z theirs own shown) (same_value c.z n value)
-  held_at row ours theirs own c n (suc (suc (suc zero))) is holds shown value =
-      tight_round root ours.range own c.corrected n is.range holds.corrected (same_ours row.range ours.range theirs own shown) (same_value c.corrected n value)
-  held_at row ours theirs own c n (suc (suc (suc (suc place)))) is holds shown value = absurd cc
+  held_at : (row ours : Row) (theirs own : Side) (c : Chain) (n : ℤ) (spare place : ℕ) → IsOwnRow m root tag sat ours → HoldsChain ours c
+      → slice_get (compared m.zenith row ours) place ≡ Some (theirs, own) → slice_get (values root m.zenith c) place ≡ Some (n, spare) → IsTightRound spare own n
+  held_at row ours theirs own c n spare zero is holds shown value =
+      tight_round (span_side row.x) (span_side ours.x) theirs own c.x n (spare_of root) spare (record { tight = is.x; held = holds.x }) shown value
+  held_at row ours theirs own c n spare (suc zero) is holds shown value =
+      tight_round (span_side row.y) (span_side ours.y) theirs own c.y n (spare_of root) spare (record { tight = is.y; held = holds.y }) shown value
+  held_at row ours theirs own c n spare (suc (suc zero)) is holds shown value =
+      tight_round (span_side row.z) (span_side ours.z) theirs own c.z n (spare_of root) spare (record { tight = is.z; held = holds.z }) shown value
+  held_at row ours theirs own c n spare (suc (suc (suc zero))) is holds shown value =
+      tight_round (span_side row.range) (span_side ours.range) theirs own c.corrected n (spare_of root) spare (record { tight = is.range; held = holds.corrected }) shown value
+  held_at row ours theirs own c n spare (suc (suc (suc (suc place)))) is holds shown value =
+      bounds_at root m.zenith row ours theirs own c n spare place is.bounds holds shown value
 
 too_narrow : (m : Meaning) (search : Search) (sat : SatObs) (row ours : Row) (fault : Fault) → IsOwnRow m search.root search.epoch.tag sat ours
-    → IsFirstNarrow (compared row ours) fault.theirs fault.ours → IsTooNarrow m search sat row ours fault
+    → IsFirstNarrow (compared m.zenith row ours) (span_side fault.theirs) (span_side fault.ours) → IsTooNarrow m search sat row ours fault
 too_narrow m search sat row ours fault is first =
-    let at = narrow_at (compared row ours) fault.theirs fault.ours first in
+    let theirs = span_side fault.theirs in
+    let own = span_side fault.ours in
+    let at = narrow_at (compared m.zenith row ours) theirs own first in
     record {
       place = at.place;
       shown = at.shown;
       narrow = at.narrow;
-      around = λ p c n inside allowed value around.
-          let round = held_at m search.root search.epoch.tag sat row ours fault.theirs fault.ours c n at.place is (is.holds p c inside allowed) at.shown value in
-          at.narrow (around_holds search.root fault.theirs fault.ours n round.tight round.held around);
+      around = λ p c n spare inside allowed value around.
+          at.narrow (around_holds theirs own n spare
+          (held_at m search.root search.epoch.tag sat row ours theirs own c n spare at.place is (is.holds p c inside allowed) at.shown value) around);
     }
 
 -- ---- the number of another fault
@@ -147,7 +176,7 @@ module _ (m : Meaning) where
     pub sat : SatObs
     pub is_seen : Contains sats sat
     pub same_sat : ours.sat ≡ sat.sat
-    pub usable : m.judged tag sat None
+    pub usable : m.judged root tag sat None
     pub is_own : IsOwnRow m root tag sat ours
 
   own_at : (root : GridBox) (tag : ℤ) (sats : List SatObs) (own : List SatLine) (k : ℕ) (ours : Row) → AreOwnLines m root tag sats own
@@ -165,7 +194,7 @@ module _ (m : Meaning) where
 
   narrow_row : (search : Search) (own : List SatLine) (block : Block) (k : ℕ) (theirs : SatEntry) (line : SatLine) (fault : Fault)
       → AreLinesOf m search.root search.epoch own
-      → slice_get block.sats k ≡ Some theirs → slice_get (expected block.few own) k ≡ Some line → IsSameLine theirs line → RowFails theirs line fault
+      → slice_get block.sats k ≡ Some theirs → slice_get (expected block.few own) k ≡ Some line → IsSameLine theirs line → RowFails m.zenith theirs line fault
       → fault.number ≡ 53 → HasNarrowRow m search block fault
   narrow_row search own block k (entry.Row row) (Usable ours) fault are at other same (inl f) e =
       let has = own_at search.root search.epoch.tag search.epoch.sats.items own k ours are (usable_at block.few own k ours other) in
@@ -186,7 +215,7 @@ module _ (m : Meaning) where
   narrow_row search own block k (entry.Skipped sat skip) (Skipped name why) fault are at other same f e = absurd f
 
   pub epoch_narrow : (rules : Rules) (search : Search) (own : List SatLine) (block : Block) (fault : Fault)
-      → AreLinesOf m search.root search.epoch own → EpochFails rules search.root own block fault
+      → AreLinesOf m search.root search.epoch own → EpochFails m.zenith rules search.root own block fault
       → fault.number ≡ 53 → HasNarrowRow m search block fault
   epoch_narrow rules search own block fault are (inl head) e = absurd (omega (arith, head.number))
   epoch_narrow rules search own block fault are (inr (inl differs)) e = elim differs.fails.here [
@@ -203,7 +232,7 @@ module _ (m : Meaning) where
   -- what the tests of a block against own lines find is found against the files
   pub epoch_answered : (rules : Rules) (search : Search) (own : List SatLine) (block : Block) (result : Result (Option Fault) NoMemory)
       → AreLinesOf m search.root search.epoch own
-      → IfOk result (λ found. MatchOption found (EpochPasses rules search.root own block) (λ fault. EpochFails rules search.root own block fault))
+      → IfOk result (λ found. MatchOption found (EpochPasses m.zenith rules search.root own block) (λ fault. EpochFails m.zenith rules search.root own block fault))
       → IfOk result (λ found. MatchOption found (EpochAccepted m rules search block)
       (λ fault. EpochRefused m rules search block fault))
   epoch_answered rules search own block (Ok None) are h = record { own = own; are_own = are; passes = h }
@@ -229,7 +258,7 @@ module _ (m : Meaning) where
   }
 
   pub log_narrow : (rules : Rules) (next : ℕ) (before : Option ℕ) (owns : List (List SatLine)) (searches : List Search) (blocks : List Block) (fault : Fault)
-      → AreOwn m searches owns → FailsFrom rules next before owns searches blocks fault
+      → AreOwn m searches owns → FailsFrom m.zenith rules next before owns searches blocks fault
       → fault.number ≡ 53 → HasNarrowBlock m searches blocks fault
   log_narrow rules next before [] searches blocks fault are f e = absurd (omega (arith, f.number))
   log_narrow rules next before (own ∷ owns) [] blocks fault are f e = absurd (omega (arith, f.number))

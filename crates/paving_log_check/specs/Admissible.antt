@@ -6,6 +6,7 @@ use Rattle.rinex_obs.specs.declared.obs.ObsEpoch.{ObsEpoch}
 use Rattle.sat_model.specs.Logs.{Block, LogValue, lines_in}
 use Rattle.sat_model.specs.Verdicts.{IsLater, SuitsNumber}
 use Rattle.sat_model.specs.declared.rules.Rules.{Rules}
+use Rattle.sat_model.specs.declared.spans.Span.{Span}
 use Rattle.sat_rows.specs.Meanings.{Meaning}
 use Rattle.sat_rows.specs.OwnRows.{AreLinesOf}
 use Rattle.sat_rows.specs.declared.lines.SatLine.{SatLine}
@@ -44,57 +45,6 @@ pub record DueFails (rules : Rules) (next : ℕ) (before : Option ℕ) (searches
   pub number : fault.number ≡ 51
   pub no_spans : ShowsNoSpans fault
 
--- ---- the blocks
-
--- no test fails up to the last search of which own lines are given, and none of the place behind it
-abbrev pub AdmitsFrom : Rules → Option ℕ → List (List SatLine) → List Search → List Block → Type 0
-AdmitsFrom rules before [] searches blocks = IsDue rules before searches blocks
-AdmitsFrom rules before (own ∷ owns) [] blocks = ⊥
-AdmitsFrom rules before (own ∷ owns) (search ∷ rest) [] = ⊥
-AdmitsFrom rules before (own ∷ owns) (search ∷ rest) (block ∷ more) =
-    IsOf rules before search.epoch block × EpochPasses rules search.root own block
-    × AdmitsFrom rules (Some block.index) owns rest more
-
--- the first fault of a block. Where a line is missing at its end, the place of the next block is
--- tested before that is told.
-abbrev pub BlockFault : Rules → ℕ → List SatLine → Search → List Search → Block → List Block → Fault
-    → Type 0
-BlockFault rules behind own search rest block more fault =
-    (EpochFails rules search.root own block fault
-    × (fault.line ≡ behind → IsDue rules (Some block.index) rest more))
-    ⊎ (DueFails rules behind (Some block.index) rest more fault
-    × ((other : Fault) × EpochFails rules search.root own block other × (other.line ≡ behind)))
-
--- the first line that fails a test, the least number of one on it, and the spans that are shown
-abbrev pub FailsFrom : Rules → ℕ → Option ℕ → List (List SatLine) → List Search → List Block → Fault
-    → Type 0
-FailsFrom rules next before [] searches blocks fault =
-    DueFails rules next before searches blocks fault
-FailsFrom rules next before (own ∷ owns) [] blocks fault =
-    DueFails rules next before [] blocks fault
-FailsFrom rules next before (own ∷ owns) (search ∷ rest) [] fault =
-    DueFails rules next before (search ∷ rest) [] fault
-FailsFrom rules next before (own ∷ owns) (search ∷ rest) (block ∷ more) fault =
-    DueFails rules next before (search ∷ rest) (block ∷ more) fault
-    ⊎ ((IsOf rules before search.epoch block
-    × BlockFault rules (next + lines_in block) own search rest block more fault)
-    ⊎ (IsOf rules before search.epoch block × EpochPasses rules search.root own block
-    × FailsFrom rules (next + lines_in block) (Some block.index) owns rest more fault))
-
--- ---- the log
-
--- no test fails, as far as own lines are given
-pub record Admits (searches : List Search) (owns : List (List SatLine)) (rules : Rules)
-    (log : LogValue) : Type 0 where
-  pub same_rules : AreSameRules rules log.rules
-  pub blocks : AdmitsFrom rules None owns searches log.blocks
-
--- and they are given for each search
-pub record Admissible (searches : List Search) (owns : List (List SatLine)) (rules : Rules)
-    (log : LogValue) : Type 0 where
-  pub each : length owns ≡ length searches
-  pub admits : Admits searches owns rules log
-
 -- the rules differ (50)
 pub record RulesDiffer (rules other : Rules) (fault : Fault) : Type 0 where
   pub differ : AreSameRules rules other → ⊥
@@ -102,11 +52,66 @@ pub record RulesDiffer (rules other : Rules) (fault : Fault) : Type 0 where
   pub number : fault.number ≡ 50
   pub no_spans : ShowsNoSpans fault
 
--- the first fault, as far as own lines are given
-abbrev pub FailsFirst : List Search → List (List SatLine) → Rules → LogValue → Fault → Type 0
-FailsFirst searches owns rules log fault =
-    RulesDiffer rules log.rules fault
-    ⊎ (AreSameRules rules log.rules × FailsFrom rules 3 None owns searches log.blocks fault)
+-- by the delay at the zenith that is mapped
+module _ (zenith : Option Span) where
+  -- ---- the blocks
+
+  -- no test fails up to the last search of which own lines are given, and none of the place behind
+  -- it
+  abbrev pub AdmitsFrom : Rules → Option ℕ → List (List SatLine) → List Search → List Block → Type 0
+  AdmitsFrom rules before [] searches blocks = IsDue rules before searches blocks
+  AdmitsFrom rules before (own ∷ owns) [] blocks = ⊥
+  AdmitsFrom rules before (own ∷ owns) (search ∷ rest) [] = ⊥
+  AdmitsFrom rules before (own ∷ owns) (search ∷ rest) (block ∷ more) =
+      IsOf rules before search.epoch block × EpochPasses zenith rules search.root own block
+      × AdmitsFrom rules (Some block.index) owns rest more
+
+  -- the first fault of a block. Where a line is missing at its end, the place of the next block is
+  -- tested before that is told.
+  abbrev pub BlockFault : Rules → ℕ → List SatLine → Search → List Search → Block → List Block
+      → Fault → Type 0
+  BlockFault rules behind own search rest block more fault =
+      (EpochFails zenith rules search.root own block fault
+      × (fault.line ≡ behind → IsDue rules (Some block.index) rest more))
+      ⊎ (DueFails rules behind (Some block.index) rest more fault
+      × ((other : Fault) × EpochFails zenith rules search.root own block other
+      × (other.line ≡ behind)))
+
+  -- the first line that fails a test, the least number of one on it, and the spans that are shown
+  abbrev pub FailsFrom : Rules → ℕ → Option ℕ → List (List SatLine) → List Search → List Block
+      → Fault → Type 0
+  FailsFrom rules next before [] searches blocks fault =
+      DueFails rules next before searches blocks fault
+  FailsFrom rules next before (own ∷ owns) [] blocks fault =
+      DueFails rules next before [] blocks fault
+  FailsFrom rules next before (own ∷ owns) (search ∷ rest) [] fault =
+      DueFails rules next before (search ∷ rest) [] fault
+  FailsFrom rules next before (own ∷ owns) (search ∷ rest) (block ∷ more) fault =
+      DueFails rules next before (search ∷ rest) (block ∷ more) fault
+      ⊎ ((IsOf rules before search.epoch block
+      × BlockFault rules (next + lines_in block) own search rest block more fault)
+      ⊎ (IsOf rules before search.epoch block × EpochPasses zenith rules search.root own block
+      × FailsFrom rules (next + lines_in block) (Some block.index) owns rest more fault))
+
+  -- ---- the log
+
+  -- no test fails, as far as own lines are given
+  pub record Admits (searches : List Search) (owns : List (List SatLine)) (rules : Rules)
+      (log : LogValue) : Type 0 where
+    pub same_rules : AreSameRules rules log.rules
+    pub blocks : AdmitsFrom rules None owns searches log.blocks
+
+  -- and they are given for each search
+  pub record Admissible (searches : List Search) (owns : List (List SatLine)) (rules : Rules)
+      (log : LogValue) : Type 0 where
+    pub each : length owns ≡ length searches
+    pub admits : Admits searches owns rules log
+
+  -- the first fault, as far as own lines are given
+  abbrev pub FailsFirst : List Search → List (List SatLine) → Rules → LogValue → Fault → Type 0
+  FailsFirst searches owns rules log fault =
+      RulesDiffer rules log.rules fault
+      ⊎ (AreSameRules rules log.rules × FailsFrom rules 3 None owns searches log.blocks fault)
 
 -- ---- whose lines they are
 

@@ -6,6 +6,7 @@ use Rattle.sat_model.specs.Fold.{first_stage}
 use Rattle.sat_model.specs.Logs.{Block, rows_of}
 use Rattle.sat_model.specs.Verdicts.{CountsRows, StepsPass, StepsFail}
 use Rattle.sat_model.specs.declared.rules.Rules.{Rules}
+use Rattle.sat_model.specs.declared.spans.Span.{Span}
 use Rattle.sat_rows.specs.OwnRows.{usable_in}
 use Rattle.sat_rows.specs.declared.lines.SatLine.{SatLine}
 use Rattle.paving_log_check.specs.Answers.{ShowsNoSpans}
@@ -28,34 +29,11 @@ BodyPassesAt rules root block None = Unit {0}
 BodyPassesAt rules root block (Some theirs) =
     (theirs ≡ root) × StepsPass (rows_of block.sats) rules block.done (first_stage root) block.steps
 
--- no test fails
-pub record EpochPasses (rules : Rules) (root : GridBox) (own : List SatLine)
-    (block : Block) : Type 0 where
-  pub counts : Counts own block
-  pub sats : SatsPass block.sats (expected block.few own)
-  pub whole : IsWhole own block
-  pub body : BodyPassesAt rules root block block.root
-
--- ---- what fails, each part behind those that pass
+-- ---- what fails in the first line, and behind the satellites
 
 pub record HeadDiffers (own : List SatLine) (block : Block) (fault : Fault) : Type 0 where
   pub differs : Counts own block → ⊥
   pub line : fault.line ≡ block.line
-  pub number : fault.number ≡ 52
-  pub no_spans : ShowsNoSpans fault
-
-pub record LineDiffers (own : List SatLine) (block : Block) (fault : Fault) : Type 0 where
-  pub counts : Counts own block
-  pub k : ℕ
-  pub fails : SatsFail block.sats (expected block.few own) k fault
-  pub line : fault.line ≡ block.line + 1 + k
-
--- a line is missing: that is told at the line that stands in its place
-pub record LineMissing (own : List SatLine) (block : Block) (fault : Fault) : Type 0 where
-  pub counts : Counts own block
-  pub sats : SatsPass block.sats (expected block.few own)
-  pub missing : length block.sats < length (expected block.few own)
-  pub line : fault.line ≡ block.line + 1 + length block.sats
   pub number : fault.number ≡ 52
   pub no_spans : ShowsNoSpans fault
 
@@ -81,18 +59,47 @@ abbrev pub BodyFailsAt : Rules → GridBox → Block → GridBox → Fault → T
 BodyFailsAt rules root block theirs fault =
     RootDiffers root block theirs fault ⊎ StepDiffers rules root block theirs fault
 
-pub record BodyDiffers (rules : Rules) (root : GridBox) (own : List SatLine) (block : Block)
-    (fault : Fault) : Type 0 where
-  pub counts : Counts own block
-  pub sats : SatsPass block.sats (expected block.few own)
-  pub whole : IsWhole own block
-  pub theirs : GridBox
-  pub is_root : block.root ≡ Some theirs
-  pub fails : BodyFailsAt rules root block theirs fault
+-- ---- the whole block
 
--- the first line that fails a test, and the least number of one on it
-abbrev pub EpochFails : Rules → GridBox → List SatLine → Block → Fault → Type 0
-EpochFails rules root own block fault =
-    HeadDiffers own block fault
-    ⊎ (LineDiffers own block fault
-    ⊎ (LineMissing own block fault ⊎ BodyDiffers rules root own block fault))
+-- by the delay at the zenith that is mapped
+module _ (zenith : Option Span) where
+  -- no test fails
+  pub record EpochPasses (rules : Rules) (root : GridBox) (own : List SatLine)
+      (block : Block) : Type 0 where
+    pub counts : Counts own block
+    pub sats : SatsPass zenith block.sats (expected block.few own)
+    pub whole : IsWhole own block
+    pub body : BodyPassesAt rules root block block.root
+
+  -- ---- what fails, each part behind those that pass
+
+  pub record LineDiffers (own : List SatLine) (block : Block) (fault : Fault) : Type 0 where
+    pub counts : Counts own block
+    pub k : ℕ
+    pub fails : SatsFail zenith block.sats (expected block.few own) k fault
+    pub line : fault.line ≡ block.line + 1 + k
+
+  -- a line is missing: that is told at the line that stands in its place
+  pub record LineMissing (own : List SatLine) (block : Block) (fault : Fault) : Type 0 where
+    pub counts : Counts own block
+    pub sats : SatsPass zenith block.sats (expected block.few own)
+    pub missing : length block.sats < length (expected block.few own)
+    pub line : fault.line ≡ block.line + 1 + length block.sats
+    pub number : fault.number ≡ 52
+    pub no_spans : ShowsNoSpans fault
+
+  pub record BodyDiffers (rules : Rules) (root : GridBox) (own : List SatLine) (block : Block)
+      (fault : Fault) : Type 0 where
+    pub counts : Counts own block
+    pub sats : SatsPass zenith block.sats (expected block.few own)
+    pub whole : IsWhole own block
+    pub theirs : GridBox
+    pub is_root : block.root ≡ Some theirs
+    pub fails : BodyFailsAt rules root block theirs fault
+
+  -- the first line that fails a test, and the least number of one on it
+  abbrev pub EpochFails : Rules → GridBox → List SatLine → Block → Fault → Type 0
+  EpochFails rules root own block fault =
+      HeadDiffers own block fault
+      ⊎ (LineDiffers own block fault
+      ⊎ (LineMissing own block fault ⊎ BodyDiffers rules root own block fault))

@@ -45,7 +45,7 @@ BlocksFitCover m q [] [] = Unit {0}
 BlocksFitCover m q [] (block ∷ more) = ⊥
 BlocksFitCover m q (search ∷ rest) [] = ⊥
 BlocksFitCover m q (search ∷ rest) (block ∷ more) =
-    FitBlockCover (FitsEpoch m q search.epoch) search.root block block.root
+    FitBlockCover (FitsEpoch m q search.root search.epoch) search.root block block.root
     × BlocksFitCover m q rest more
 
 -- in every paved epoch of the log

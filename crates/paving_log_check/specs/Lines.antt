@@ -1,11 +1,15 @@
 -- A log's satellite lines against the lines of the epoch's satellites that the files give.
-use Rattle.std.specs.Prelude.{◌≡◌, ℕ, ◌<◌, ◌⊎◌, ◌≤ℤ◌, Bool, true, false, List, [], ◌∷◌, length, Some, slice_get}
+use Rattle.std.specs.Prelude.{◌≡◌, ℕ, ◌<◌, ◌⊎◌, ◌≤ℤ◌, Bool, true, false, List, [], ◌∷◌, length, Option, None, Some, slice_get}
+use Rattle.sat_model.specs.Boxes.{Side}
+use Rattle.sat_model.specs.Fitting.{low_bounds, high_bounds}
 use Rattle.sat_model.specs.Relaxed.{ends}
+use Rattle.sat_model.specs.Trees.{span_side}
 use Rattle.sat_model.specs.Verdicts.{IsRepeat}
 use Rattle.sat_model.specs.declared.satellites.Row.{Row}
 use Rattle.sat_model.specs.declared.satellites.SatEntry.{SatEntry}
 use Rattle.sat_model.specs.declared.satellites.SatEntry.TheVariants as entry
 use Rattle.sat_model.specs.declared.spans.Span.{Span}
+use Rattle.sat_rows.specs.OwnRows.{HasBounds}
 use Rattle.sat_rows.specs.declared.lines.SatLine.{SatLine}
 use Rattle.sat_rows.specs.declared.lines.SatLine.TheVariants.{Usable, Skipped}
 use Rattle.paving_log_check.specs.Answers.{ShowsNoSpans}
@@ -24,7 +28,7 @@ abbrev pub expected : Bool → List SatLine → List SatLine
 expected true own = skipped_in own
 expected false own = own
 
--- ---- one line
+-- ---- which line is the expected one
 
 -- the same word, satellite and skip
 abbrev pub IsSameLine : SatEntry → SatLine → Type 0
@@ -42,79 +46,98 @@ pub record IsExpected (sats : List SatEntry) (lines : List SatLine) (k : ℕ) : 
   pub same : IsSameLine theirs ours
   pub once : IsRepeat sats k → ⊥
 
--- a span holds another
-pub record HoldsSpan (theirs ours : Span) : Type 0 where
-  pub lo : theirs.lo ≤ℤ ours.lo
-  pub hi : ours.hi ≤ℤ theirs.hi
-
--- the spans that are compared, in this order: x, y, z and the range
-abbrev pub compared : Row → Row → List (Span × Span)
-compared row ours =
-    (row.x, ours.x) ∷ (row.y, ours.y) ∷ (row.z, ours.z) ∷ (row.range, ours.range) ∷ []
-
-abbrev pub HoldEach : List (Span × Span) → Type 0
-HoldEach [] = Unit {0}
-HoldEach (pair ∷ more) = HoldsSpan pair.0 pair.1 × HoldEach more
-
--- the first span that doesn't hold the other, and that other
-abbrev pub IsFirstNarrow : List (Span × Span) → Span → Span → Type 0
-IsFirstNarrow [] theirs ours = ⊥
-IsFirstNarrow (pair ∷ more) theirs ours =
-    ((HoldsSpan pair.0 pair.1 → ⊥) × (theirs ≡ pair.0) × (ours ≡ pair.1))
-    ⊎ (HoldsSpan pair.0 pair.1 × IsFirstNarrow more theirs ours)
-
--- the row's spans hold those of the own row
-abbrev pub HoldsOwn : Row → Row → Type 0
-HoldsOwn row ours = HoldEach (compared row ours)
-
--- the row's error is the declared one
-abbrev pub HasBound : Row → Row → Type 0
-HasBound row ours = ends row.err ≡ ends ours.err
-
--- no test of the rows fails, where both lines have one
-abbrev pub RowPasses : SatEntry → SatLine → Type 0
-RowPasses (entry.Row row) (Usable ours) = HoldsOwn row ours × HasBound row ours
-RowPasses (entry.Row row) (Skipped sat skip) = Unit {0}
-RowPasses (entry.Skipped sat skip) (Usable ours) = Unit {0}
-RowPasses (entry.Skipped sat skip) (Skipped other why) = Unit {0}
-
--- the row is too narrow, and both spans are shown; or else its error isn't the declared one
-abbrev pub RowFails : SatEntry → SatLine → Fault → Type 0
-RowFails (entry.Row row) (Usable ours) fault =
-    (IsFirstNarrow (compared row ours) fault.theirs fault.ours × (fault.number ≡ 53))
-    ⊎ (HoldsOwn row ours × (HasBound row ours → ⊥) × (fault.number ≡ 54) × ShowsNoSpans fault)
-RowFails (entry.Row row) (Skipped sat skip) fault = ⊥
-RowFails (entry.Skipped sat skip) (Usable ours) fault = ⊥
-RowFails (entry.Skipped sat skip) (Skipped other why) fault = ⊥
-
--- no test of satellite line k fails
-pub record LinePasses (sats : List SatEntry) (lines : List SatLine) (k : ℕ) : Type 0 where
-  pub is_expected : IsExpected sats lines k
-  pub passes : RowPasses is_expected.theirs is_expected.ours
-
--- it isn't the expected one
+-- it isn't
 abbrev pub IsOther : List SatEntry → List SatLine → ℕ → Fault → Type 0
 IsOther sats lines k fault =
     (IsExpected sats lines k → ⊥) × (fault.number ≡ 52) × ShowsNoSpans fault
 
--- it is, but its row fails
-pub record HasOtherRow (sats : List SatEntry) (lines : List SatLine) (k : ℕ)
-    (fault : Fault) : Type 0 where
-  pub is_expected : IsExpected sats lines k
-  pub fails : RowFails is_expected.theirs is_expected.ours fault
+-- ---- two rows
 
--- the least test of satellite line k that fails
-abbrev pub LineFails : List SatEntry → List SatLine → ℕ → Fault → Type 0
-LineFails sats lines k fault = IsOther sats lines k fault ⊎ HasOtherRow sats lines k fault
+-- a side holds another
+pub record HoldsSide (theirs ours : Side) : Type 0 where
+  pub lo : theirs.lo ≤ℤ ours.lo
+  pub hi : ours.hi ≤ℤ theirs.hi
 
--- ---- all lines
+-- those of the low and of the high ends of the error are compared where a delay at the zenith is
+-- mapped
+abbrev pub bounds_compared : Option Span → Row → Row → List (Side × Side)
+bounds_compared None row ours = []
+bounds_compared (Some zenith) row ours =
+    (low_bounds row, low_bounds ours) ∷ (high_bounds row, high_bounds ours) ∷ []
 
-abbrev pub SatsPass : List SatEntry → List SatLine → Type 0
-SatsPass sats lines = (k : ℕ) → k < length sats → LinePasses sats lines k
+-- what is compared, in this order: x, y, z and the range, and then the ends of the error
+abbrev pub compared : Option Span → Row → Row → List (Side × Side)
+compared zenith row ours =
+    (span_side row.x, span_side ours.x) ∷ (span_side row.y, span_side ours.y)
+    ∷ (span_side row.z, span_side ours.z) ∷ (span_side row.range, span_side ours.range)
+    ∷ bounds_compared zenith row ours
 
--- line k is the first that fails a test
-pub record SatsFail (sats : List SatEntry) (lines : List SatLine) (k : ℕ)
-    (fault : Fault) : Type 0 where
-  pub is_line : k < length sats
-  pub before : (j : ℕ) → j < k → LinePasses sats lines j
-  pub here : LineFails sats lines k fault
+abbrev pub HoldEach : List (Side × Side) → Type 0
+HoldEach [] = Unit {0}
+HoldEach (pair ∷ more) = HoldsSide pair.0 pair.1 × HoldEach more
+
+-- the first side that doesn't hold the other, and that other
+abbrev pub IsFirstNarrow : List (Side × Side) → Side → Side → Type 0
+IsFirstNarrow [] theirs ours = ⊥
+IsFirstNarrow (pair ∷ more) theirs ours =
+    ((HoldsSide pair.0 pair.1 → ⊥) × (theirs ≡ pair.0) × (ours ≡ pair.1))
+    ⊎ (HoldsSide pair.0 pair.1 × IsFirstNarrow more theirs ours)
+
+-- where no delay at the zenith is mapped, the ends of the error are the declared ones alone, as
+-- they are in the own row
+abbrev pub HasBound : Option Span → Row → Row → Type 0
+HasBound None row ours = HasBounds row (ends ours.err)
+HasBound (Some zenith) row ours = Unit {0}
+
+-- by the delay at the zenith that is mapped
+module _ (zenith : Option Span) where
+  -- the row's spans hold those of the own row
+  abbrev pub HoldsOwn : Row → Row → Type 0
+  HoldsOwn row ours = HoldEach (compared zenith row ours)
+
+  -- no test of the rows fails, where both lines have one
+  abbrev pub RowPasses : SatEntry → SatLine → Type 0
+  RowPasses (entry.Row row) (Usable ours) = HoldsOwn row ours × HasBound zenith row ours
+  RowPasses (entry.Row row) (Skipped sat skip) = Unit {0}
+  RowPasses (entry.Skipped sat skip) (Usable ours) = Unit {0}
+  RowPasses (entry.Skipped sat skip) (Skipped other why) = Unit {0}
+
+  -- the row is too narrow, and both spans are shown; or else its error isn't the declared one
+  abbrev pub RowFails : SatEntry → SatLine → Fault → Type 0
+  RowFails (entry.Row row) (Usable ours) fault =
+      (IsFirstNarrow (compared zenith row ours) (span_side fault.theirs) (span_side fault.ours)
+      × (fault.number ≡ 53))
+      ⊎ (HoldsOwn row ours × (HasBound zenith row ours → ⊥) × (fault.number ≡ 54)
+      × ShowsNoSpans fault)
+  RowFails (entry.Row row) (Skipped sat skip) fault = ⊥
+  RowFails (entry.Skipped sat skip) (Usable ours) fault = ⊥
+  RowFails (entry.Skipped sat skip) (Skipped other why) fault = ⊥
+
+  -- ---- one line
+
+  -- no test of satellite line k fails
+  pub record LinePasses (sats : List SatEntry) (lines : List SatLine) (k : ℕ) : Type 0 where
+    pub is_expected : IsExpected sats lines k
+    pub passes : RowPasses is_expected.theirs is_expected.ours
+
+  -- it is the expected one, but its row fails
+  pub record HasOtherRow (sats : List SatEntry) (lines : List SatLine) (k : ℕ)
+      (fault : Fault) : Type 0 where
+    pub is_expected : IsExpected sats lines k
+    pub fails : RowFails is_expected.theirs is_expected.ours fault
+
+  -- the least test of satellite line k that fails
+  abbrev pub LineFails : List SatEntry → List SatLine → ℕ → Fault → Type 0
+  LineFails sats lines k fault = IsOther sats lines k fault ⊎ HasOtherRow sats lines k fault
+
+  -- ---- all lines
+
+  abbrev pub SatsPass : List SatEntry → List SatLine → Type 0
+  SatsPass sats lines = (k : ℕ) → k < length sats → LinePasses sats lines k
+
+  -- line k is the first that fails a test
+  pub record SatsFail (sats : List SatEntry) (lines : List SatLine) (k : ℕ)
+      (fault : Fault) : Type 0 where
+    pub is_line : k < length sats
+    pub before : (j : ℕ) → j < k → LinePasses sats lines j
+    pub here : LineFails sats lines k fault

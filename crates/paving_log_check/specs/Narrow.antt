@@ -1,11 +1,14 @@
 -- Why a row is too narrow (53): one of its spans doesn't hold that of an own row. So it isn't wide
--- enough to hold all numbers within W of a value that the equations allow, whichever this is.
-use Rattle.std.specs.Prelude.{◌≡◌, ℕ, ℤ, pos, ◌+ℤ◌, ◌-ℤ◌, ◌≤ℤ◌, true, List, [], ◌∷◌, None, Some, Contains, slice_get}
+-- enough to hold all numbers within W of a value that the equations allow, whichever this is; and a
+-- span of the ends of the error those within G of such an end.
+use Rattle.std.specs.Prelude.{◌≡◌, ℕ, ℤ, pos, ◌+ℤ◌, ◌-ℤ◌, ◌≤ℤ◌, true, List, [], ◌∷◌, Option, None, Some, Contains, slice_get}
 use Rattle.epoch_selection.specs.Searches.{Search}
 use Rattle.rinex_obs.specs.declared.obs.SatObs.{SatObs}
-use Rattle.sat_model.specs.Boxes.{GridBox, box_holds}
+use Rattle.sat_model.specs.Boxes.{Side, GridBox, box_holds}
 use Rattle.sat_model.specs.Lengths.{spare_of}
 use Rattle.sat_model.specs.Logs.{Block}
+use Rattle.sat_model.specs.Trees.{span_side}
+use Rattle.sat_model.specs.Zenith.{err_spare_of}
 use Rattle.sat_model.specs.declared.boxes.Pos.{Pos}
 use Rattle.sat_model.specs.declared.satellites.Row.{Row}
 use Rattle.sat_model.specs.declared.satellites.SatEntry.TheVariants as entry
@@ -13,17 +16,21 @@ use Rattle.sat_model.specs.declared.spans.Span.{Span}
 use Rattle.sat_rows.specs.Chains.{Chain}
 use Rattle.sat_rows.specs.Meanings.{Meaning}
 use Rattle.sat_rows.specs.OwnRows.{IsOwnRow}
-use Rattle.paving_log_check.specs.Lines.{HoldsSpan, compared}
+use Rattle.paving_log_check.specs.Lines.{HoldsSide, compared}
 use Rattle.paving_log_check.specs.declared.verdict.Fault.{Fault}
 
--- the values that the spans of a row are for, in the order in which these are compared
-abbrev pub values : Chain → List ℤ
-values c = c.x ∷ c.y ∷ c.z ∷ c.corrected ∷ []
+-- the values that the spans of a row are for, in the order in which these are compared, each with
+-- how wide its span may be over a search box
+abbrev pub values : GridBox → Option Span → Chain → List (ℤ × ℕ)
+values root zenith c =
+    (c.x, spare_of root) ∷ (c.y, spare_of root) ∷ (c.z, spare_of root)
+    ∷ (c.corrected, spare_of root)
+    ∷ (c.lo, err_spare_of root zenith) ∷ (c.hi, err_spare_of root zenith) ∷ []
 
--- the span holds all numbers from W below this one to W above it
-pub record HoldsAround (root : GridBox) (span : Span) (n : ℤ) : Type 0 where
-  pub lo : span.lo ≤ℤ (n -ℤ pos (spare_of root))
-  pub hi : (n +ℤ pos (spare_of root)) ≤ℤ span.hi
+-- the side holds all numbers from so much below this one to as much above it
+pub record HoldsAround (spare : ℕ) (side : Side) (n : ℤ) : Type 0 where
+  pub lo : side.lo ≤ℤ (n -ℤ pos spare)
+  pub hi : (n +ℤ pos spare) ≤ℤ side.hi
 
 -- by what a source says of satellites
 module _ (m : Meaning) where
@@ -31,17 +38,19 @@ module _ (m : Meaning) where
   pub record IsTooNarrow (search : Search) (sat : SatObs) (row ours : Row)
       (fault : Fault) : Type 0 where
     pub place : ℕ
-    pub shown : slice_get (compared row ours) place ≡ Some (fault.theirs, fault.ours)
-    pub narrow : HoldsSpan fault.theirs fault.ours → ⊥
-    pub around : (p : Pos) (c : Chain) (n : ℤ) → box_holds search.root p ≡ true
+    pub shown : slice_get (compared m.zenith row ours) place
+        ≡ Some (span_side fault.theirs, span_side fault.ours)
+    pub narrow : HoldsSide (span_side fault.theirs) (span_side fault.ours) → ⊥
+    pub around : (p : Pos) (c : Chain) (n : ℤ) (spare : ℕ) → box_holds search.root p ≡ true
         → m.allows search.epoch.tag sat p c
-        → slice_get (values c) place ≡ Some n → HoldsAround search.root fault.theirs n → ⊥
+        → slice_get (values search.root m.zenith c) place ≡ Some (n, spare)
+        → HoldsAround spare (span_side fault.theirs) n → ⊥
 
   -- it is the row of a usable satellite of this epoch
   pub record HasNarrowRow (search : Search) (block : Block) (fault : Fault) : Type 0 where
     pub sat : SatObs
     pub is_seen : Contains search.epoch.sats.items sat
-    pub usable : m.judged search.epoch.tag sat None
+    pub usable : m.judged search.root search.epoch.tag sat None
     pub ours : Row
     pub is_own : IsOwnRow m search.root search.epoch.tag sat ours
     pub row : Row

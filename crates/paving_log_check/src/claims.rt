@@ -7,7 +7,7 @@ ghost use Rattle.sat_model.specs.Relaxed.{holds};
 ghost use Rattle.sat_model.specs.Verdicts.{CutsEmptySlab, HoldsHull, IsLong};
 
 use live_boxes::{is_proper_cut, slab_of};
-use relaxed_meet::{clock_hull, inner_span, shown_empty};
+use relaxed_meet::{Deciding, clock_hull, inner_span};
 use sat_model::{Box3, Row, Rules};
 
 /// Whether the side on the axis is longer than the width.
@@ -30,11 +30,18 @@ pub(crate) fn holds_hull(rows: &[Row], q: u8, part: &Box3, lo: i64, hi: i64) -> 
 }
 
 /// Whether the cut takes off a slab that is shown empty.
-pub(crate) fn cuts_empty_slab(rows: &[Row], q: u8, face: u8, bound: i64, part: &Box3) -> bool
+pub(crate) fn cuts_empty_slab(
+    rows: &[Row],
+    q: u8,
+    face: u8,
+    bound: i64,
+    part: &Box3,
+    deciding: &mut Deciding,
+) -> bool
     requires { (q < length rows.now) × (length rows.now ≤ 64) }
     ensures { IsTrue result ↔ CutsEmptySlab rows.now q face bound (grid_box part.now) }
 {
-    is_proper_cut(part, face, bound) && shown_empty(rows, &slab_of(part, face, bound), q)
+    is_proper_cut(part, face, bound) && deciding.shown_empty(rows, &slab_of(part, face, bound), q)
 }
 
 /// Whether the row fits everywhere in the box at this clock offset.

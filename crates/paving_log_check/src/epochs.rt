@@ -4,6 +4,7 @@ ghost use Rattle.std.specs.Prelude.{◌≡◌, ◌+◌, ◌<◌, ◌≤◌, ◌^
 ghost use Rattle.epoch_selection.specs.Searches.{search_in};
 ghost use Rattle.sat_model.specs.Boxes.{grid_box};
 ghost use Rattle.sat_model.specs.Logs.{rows_of, lines_in};
+ghost use Rattle.sat_model.specs.SearchBoxes.{IsSearchBox};
 ghost use Rattle.sat_model.specs.Verdicts.{SuitsNumber};
 ghost use Rattle.sat_rows.specs.OwnRows.{usable_in};
 ghost use Rattle.paving_log.specs.Values.{block_of};
@@ -16,7 +17,7 @@ use crate::steps::steps_fault;
 use crate::verdict::Fault;
 use paving_log::{LogEpoch, SATELLITE_DIFFERS, rows_among, rows_in};
 use rinex_obs::ObsEpoch;
-use sat_model::{Box3, NoMemory, Rules};
+use sat_model::{Box3, NoMemory, Rules, Span};
 use sat_rows::{EpochRows, RowSource};
 use std::alloc::Global;
 
@@ -77,6 +78,7 @@ fn body_fault(
 fn epoch_fault(
     alloc: Global,
     own: &EpochRows,
+    zenith: Option<Span>,
     rules: &Rules,
     root: &Box3,
     epoch: &LogEpoch,
@@ -85,15 +87,16 @@ fn epoch_fault(
     requires numbered { epoch.now.line + lines_in (block_of epoch.now) ≤ 4000000001 }
     requires suits { SuitsNumber epoch.now.few rules.now.outliers epoch.now.n }
     ensures { IfOk result (λ found. MatchOption found
-        (EpochPasses rules.now (grid_box root.now) own.now.lines.items (block_of epoch.now))
-        (λ fault. EpochFails rules.now (grid_box root.now) own.now.lines.items
+        (EpochPasses zenith rules.now (grid_box root.now) own.now.lines.items
+        (block_of epoch.now))
+        (λ fault. EpochFails zenith rules.now (grid_box root.now) own.now.lines.items
         (block_of epoch.now) fault)) }
 {
     if !has_counts(own, epoch) {
         return Ok(Some(plain_fault(epoch.line, SATELLITE_DIFFERS)));
     }
     let lines = expected_lines(alloc, epoch.few, &own.lines)?;
-    if let Some(fault) = sats_fault(epoch.line + 1, &epoch.sats, &lines) {
+    if let Some(fault) = sats_fault(epoch.line + 1, zenith, &epoch.sats, &lines) {
         return Ok(Some(fault));
     }
     if epoch.sats.len() < lines.len() {
@@ -119,6 +122,7 @@ pub fn check_epoch<S: RowSource>(
 ) -> Result<Option<Fault>, NoMemory>
     requires numbered { epoch.now.line + lines_in (block_of epoch.now) ≤ 4000000001 }
     requires suits { SuitsNumber epoch.now.few rules.now.outliers epoch.now.n }
+    requires root { IsSearchBox (grid_box root.now) }
     ensures { IfOk result (λ found. MatchOption found
         (EpochAccepted (S.meaning source.now) rules.now (search_in (grid_box root.now) seen.now)
         (block_of epoch.now))
@@ -127,5 +131,5 @@ pub fn check_epoch<S: RowSource>(
         (block_of epoch.now) fault)) }
 {
     let own = source.lines(alloc, seen, root)?;
-    epoch_fault(alloc, &own, rules, root, epoch)
+    epoch_fault(alloc, &own, source.zenith(), rules, root, epoch)
 }

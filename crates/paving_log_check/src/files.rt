@@ -4,6 +4,7 @@ ghost use Rattle.std.specs.Prelude.{◌≡◌, ◌+◌, ◌<◌, ◌≤◌, ◌^
 ghost use Rattle.epoch_selection.specs.Searches.{Search, searches_left};
 ghost use Rattle.sat_model.specs.Logs.{Block, lines_in, IsNumbered};
 ghost use Rattle.sat_model.specs.declared.rules.Rules.{Rules};
+ghost use Rattle.sat_model.specs.declared.spans.Span.{Span};
 ghost use Rattle.sat_rows.specs.declared.lines.SatLine.{SatLine};
 ghost use Rattle.paving_log.specs.Values.{block_of, log_value};
 ghost use Rattle.paving_log_check.specs.Answers.{IfYes, IfNo};
@@ -93,11 +94,11 @@ fn lines_of(epoch: &LogEpoch) -> u32
 /// The first fault of a block that has this one of its own: where that is told at the line behind
 /// the block, the place of the next block is tested before.
 fn first_of(own_fault: Fault, behind: u32, due: bool) -> Fault
-    ensures { (rules : Rules) (own : List SatLine) (search : Search) (rest : List Search)
-        (block : Block) (more : List Block)
-        → EpochFails rules search.root own block own_fault
+    ensures { (zenith : Option Span) (rules : Rules) (own : List SatLine) (search : Search)
+        (rest : List Search) (block : Block) (more : List Block)
+        → EpochFails zenith rules search.root own block own_fault
         → (IsTrue due ↔ IsDue rules (Some block.index) rest more)
-        → BlockFault rules behind own search rest block more result }
+        → BlockFault zenith rules behind own search rest block more result }
 {
     if own_fault.line == behind && !due {
         plain_fault(behind, EPOCH_DIFFERS)

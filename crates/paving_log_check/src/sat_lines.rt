@@ -1,10 +1,13 @@
 //! The satellite lines of a block against those that the files give.
 
 ghost use Rattle.std.specs.Prelude.{◌≡◌, ◌+◌, ◌<◌, ◌^◌, ◌↔◌, ℕ, length, IsTrue, IfOk, MatchOption, Some};
+ghost use Rattle.sat_model.specs.Relaxed.{ends};
+ghost use Rattle.sat_model.specs.Trees.{span_side};
 ghost use Rattle.sat_model.specs.Verdicts.{IsRepeat};
 ghost use Rattle.sat_model.specs.declared.satellites.SatEntry.TheVariants as entry;
+ghost use Rattle.sat_rows.specs.OwnRows.{HasBounds};
 ghost use Rattle.sat_rows.specs.declared.lines.SatLine.TheVariants.{Usable};
-ghost use Rattle.paving_log_check.specs.Lines.{skipped_in, expected, IsSameLine, HoldsSpan, compared, IsFirstNarrow, HoldsOwn, HasBound, RowPasses, RowFails, LinePasses, LineFails, SatsPass, SatsFail};
+ghost use Rattle.paving_log_check.specs.Lines.{skipped_in, expected, IsSameLine, HoldsSide, bounds_compared, compared, HoldEach, IsFirstNarrow, HoldsOwn, HasBound, RowPasses, RowFails, LinePasses, LineFails, SatsPass, SatsFail};
 
 use crate::faults::{BOUND_DIFFERS, ROW_NARROW, plain_fault};
 use crate::verdict::Fault;
@@ -44,15 +47,39 @@ pub(crate) fn expected_lines(
 
 /// Whether a span holds another.
 fn holds_span(theirs: &Span, ours: &Span) -> bool
-    ensures { IsTrue result ↔ HoldsSpan theirs.now ours.now }
+    ensures { IsTrue result ↔ HoldsSide (span_side theirs.now) (span_side ours.now) }
 {
     theirs.lo <= ours.lo && ours.hi <= theirs.hi
 }
 
-/// The first span of the row that doesn't hold that of the own row, and the latter.
-fn first_narrow(row: &Row, ours: &Row) -> Option<(Span, Span)>
-    ensures { MatchOption result (HoldsOwn row.now ours.now)
-        (λ spans. IsFirstNarrow (compared row.now ours.now) spans.0 spans.1) }
+/// Of the spans of the ends of the error, which are compared where a delay at the zenith is mapped,
+/// the first of the row that doesn't hold that of the own row, and the latter.
+fn first_narrow_bounds(zenith: Option<Span>, row: &Row, ours: &Row) -> Option<(Span, Span)>
+    ensures { MatchOption result (HoldEach (bounds_compared zenith row.now ours.now))
+        (λ spans. IsFirstNarrow (bounds_compared zenith row.now ours.now)
+        (span_side spans.0) (span_side spans.1)) }
+{
+    if zenith.is_none() {
+        return None;
+    }
+    let low = row.low_bounds();
+    let own_low = ours.low_bounds();
+    if !holds_span(&low, &own_low) {
+        return Some((low, own_low));
+    }
+    let high = row.high_bounds();
+    let own_high = ours.high_bounds();
+    if !holds_span(&high, &own_high) {
+        return Some((high, own_high));
+    }
+    None
+}
+
+/// The first of all spans of the row that doesn't hold that of the own row, and the latter.
+fn first_narrow(zenith: Option<Span>, row: &Row, ours: &Row) -> Option<(Span, Span)>
+    ensures { MatchOption result (HoldsOwn zenith row.now ours.now)
+        (λ spans. IsFirstNarrow (compared zenith row.now ours.now)
+        (span_side spans.0) (span_side spans.1)) }
 {
     if !holds_span(&row.x, &ours.x) {
         return Some((row.x, ours.x));
@@ -66,14 +93,28 @@ fn first_narrow(row: &Row, ours: &Row) -> Option<(Span, Span)>
     if !holds_span(&row.range, &ours.range) {
         return Some((row.range, ours.range));
     }
-    None
+    first_narrow_bounds(zenith, row, ours)
 }
 
-/// Whether the errors of both rows are the same.
-fn has_bound(row: &Row, ours: &Row) -> bool
-    ensures { IsTrue result ↔ HasBound row.now ours.now }
+/// Whether the ends of the row's error are those of this span alone.
+fn has_ends(row: &Row, declared: &Span) -> bool
+    ensures { IsTrue result ↔ HasBounds row.now (ends declared.now) }
 {
-    row.err.lo == ours.err.lo && row.err.hi == ours.err.hi
+    row.err.lo == declared.lo
+        && row.err.hi == declared.hi
+        && row.sure_lo == declared.lo
+        && row.sure_hi == declared.hi
+}
+
+/// Whether the ends of the row's error are the declared ones, as they are in the own row. Where a
+/// delay at the zenith is mapped they may be others.
+fn has_bound(zenith: Option<Span>, row: &Row, ours: &Row) -> bool
+    ensures { IsTrue result ↔ HasBound zenith row.now ours.now }
+{
+    match zenith {
+        Some(_) => true,
+        None => has_ends(row, &ours.err),
+    }
 }
 
 /// Whether both lines have the same word, satellite and skip.
@@ -96,11 +137,13 @@ fn is_same_line(theirs: &SatEntry, ours: &SatLine) -> bool
 }
 
 /// The least test that a row fails against the own one.
-fn rows_fault(line: u32, row: &Row, ours: &Row) -> Option<Fault>
-    ensures { MatchOption result (HoldsOwn row.now ours.now × HasBound row.now ours.now)
-        (λ fault. RowFails (entry.Row row.now) (Usable ours.now) fault × (fault.line ≡ line)) }
+fn rows_fault(line: u32, zenith: Option<Span>, row: &Row, ours: &Row) -> Option<Fault>
+    ensures { MatchOption result
+        (HoldsOwn zenith row.now ours.now × HasBound zenith row.now ours.now)
+        (λ fault. RowFails zenith (entry.Row row.now) (Usable ours.now) fault
+        × (fault.line ≡ line)) }
 {
-    if let Some((theirs, own)) = first_narrow(row, ours) {
+    if let Some((theirs, own)) = first_narrow(zenith, row, ours) {
         return Some(Fault {
             number: ROW_NARROW,
             line,
@@ -108,20 +151,20 @@ fn rows_fault(line: u32, row: &Row, ours: &Row) -> Option<Fault>
             ours: own,
         });
     }
-    if !has_bound(row, ours) {
+    if !has_bound(zenith, row, ours) {
         return Some(plain_fault(line, BOUND_DIFFERS));
     }
     None
 }
 
 /// The least test that the rows of both lines fail, where both have one.
-fn row_fault(line: u32, theirs: &SatEntry, ours: &SatLine) -> Option<Fault>
-    ensures { MatchOption result (RowPasses theirs.now ours.now)
-        (λ fault. RowFails theirs.now ours.now fault × (fault.line ≡ line)) }
+fn row_fault(line: u32, zenith: Option<Span>, theirs: &SatEntry, ours: &SatLine) -> Option<Fault>
+    ensures { MatchOption result (RowPasses zenith theirs.now ours.now)
+        (λ fault. RowFails zenith theirs.now ours.now fault × (fault.line ≡ line)) }
 {
     match theirs {
         SatEntry::Row(row) => match ours {
-            SatLine::Usable(own) => rows_fault(line, row, own),
+            SatLine::Usable(own) => rows_fault(line, zenith, row, own),
             SatLine::Skipped { .. } => None,
         },
         SatEntry::Skipped { .. } => None,
@@ -131,6 +174,7 @@ fn row_fault(line: u32, theirs: &SatEntry, ours: &SatLine) -> Option<Fault>
 /// The least test that satellite line `k` fails, whose number is `line`.
 fn line_fault(
     line: u32,
+    zenith: Option<Span>,
     sats: &[SatEntry],
     lines: &[SatLine],
     k: usize,
@@ -138,13 +182,13 @@ fn line_fault(
 ) -> Option<Fault>
     requires is_line { k < length sats.now }
     requires repeats { IsTrue repeats ↔ IsRepeat sats.now k }
-    ensures { MatchOption result (LinePasses sats.now lines.now k)
-        (λ fault. LineFails sats.now lines.now k fault × (fault.line ≡ line)) }
+    ensures { MatchOption result (LinePasses zenith sats.now lines.now k)
+        (λ fault. LineFails zenith sats.now lines.now k fault × (fault.line ≡ line)) }
 {
     if repeats || lines.len() <= k || !is_same_line(&sats[k], &lines[k]) {
         return Some(plain_fault(line, SATELLITE_DIFFERS));
     }
-    row_fault(line, &sats[k], &lines[k])
+    row_fault(line, zenith, &sats[k], &lines[k])
 }
 
 /// Whether the place that was found is this one.
@@ -159,14 +203,21 @@ fn is_at(found: Option<usize>, k: usize) -> bool
 
 /// The first satellite line that fails a test, and the least one, where `line` is the number of the
 /// first of them.
-pub(crate) fn sats_fault(line: u32, sats: &[SatEntry], lines: &[SatLine]) -> Option<Fault>
+pub(crate) fn sats_fault(
+    line: u32,
+    zenith: Option<Span>,
+    sats: &[SatEntry],
+    lines: &[SatLine],
+) -> Option<Fault>
     requires { line + length sats.now < 2 ^ 32 }
-    ensures { MatchOption result (SatsPass sats.now lines.now)
-        (λ fault. (k : ℕ) × SatsFail sats.now lines.now k fault × (fault.line ≡ line + k)) }
+    ensures { MatchOption result (SatsPass zenith sats.now lines.now)
+        (λ fault. (k : ℕ) × SatsFail zenith sats.now lines.now k fault
+        × (fault.line ≡ line + k)) }
 {
     let first = first_repeat(sats);
     for k in 0..sats.len() {
-        if let Some(fault) = line_fault(line + k as u32, sats, lines, k, is_at(first, k)) {
+        let repeats = is_at(first, k);
+        if let Some(fault) = line_fault(line + k as u32, zenith, sats, lines, k, repeats) {
             return Some(fault);
         }
     }

@@ -15,7 +15,7 @@ use crate::faults::{
 };
 use live_boxes::Live;
 use paving_log::LineFault;
-use relaxed_meet::shown_empty;
+use relaxed_meet::Deciding;
 use sat_model::{Box3, NoMemory, Row, Rules, Step};
 use std::alloc::Global;
 
@@ -28,16 +28,31 @@ struct Judge<'a> {
     ghost at_most: { length rows.now ≤ 64 },
 }
 
+/// For each face, and for whole boxes, the rows that decided the last test whether something is
+/// empty.
+#[derive(Clone, Copy, Default)]
+struct Decided {
+    slabs: [Deciding; 8],
+    boxes: Deciding,
+}
+
 /// Each gives the least number of a test of the step that fails.
 impl<'a> Judge<'a> {
-    fn cut_fault(&self, live: &Live, id: u32, face: u8, bound: i64) -> Option<u8>
+    fn cut_fault(
+        &self,
+        live: &Live,
+        id: u32,
+        face: u8,
+        bound: i64,
+        deciding: &mut Deciding,
+    ) -> Option<u8>
         ensures { IsStepFault self.now.rows.now self.now.rules.now (stage_of live.now)
             (Cut id face bound) result }
     {
         let Some(part) = live.box_of(id) else {
             return Some(NOT_LIVE);
         };
-        if !cuts_empty_slab(self.rows, self.rules.outliers, face, bound, &part) {
+        if !cuts_empty_slab(self.rows, self.rules.outliers, face, bound, &part, deciding) {
             return Some(CUT_NOT_SHOWN);
         }
         None
@@ -59,14 +74,14 @@ impl<'a> Judge<'a> {
         None
     }
 
-    fn outside_fault(&self, live: &Live, id: u32) -> Option<u8>
+    fn outside_fault(&self, live: &Live, id: u32, deciding: &mut Deciding) -> Option<u8>
         ensures { IsStepFault self.now.rows.now self.now.rules.now (stage_of live.now)
             (Outside id) result }
     {
         let Some(part) = live.box_of(id) else {
             return Some(NOT_LIVE);
         };
-        if !shown_empty(self.rows, &part, self.rules.outliers) {
+        if !deciding.shown_empty(self.rows, &part, self.rules.outliers) {
             return Some(OUT_NOT_SHOWN);
         }
         None
@@ -102,14 +117,17 @@ impl<'a> Judge<'a> {
     }
 
     /// Of a step of any kind.
-    fn step_fault(&self, live: &Live, step: &Step) -> Option<u8>
+    fn step_fault(&self, live: &Live, step: &Step, decided: &mut Decided) -> Option<u8>
         ensures { IsStepFault self.now.rows.now self.now.rules.now
             (stage_of live.now) step.now result }
     {
         match step {
-            Step::Cut { id, face, bound } => self.cut_fault(live, *id, *face, *bound),
+            Step::Cut { id, face, bound } => {
+                let slabs = &mut decided.slabs[usize::from(*face % 8)];
+                self.cut_fault(live, *id, *face, *bound, slabs)
+            }
             Step::Split { id, axis } => self.split_fault(live, *id, *axis),
-            Step::Outside { id } => self.outside_fault(live, *id),
+            Step::Outside { id } => self.outside_fault(live, *id, &mut decided.boxes),
             Step::Inside { id, clock, lo, hi } => self.inside_fault(live, *id, *clock, *lo, *hi),
             Step::Edge { id, lo, hi } => self.edge_fault(live, *id, *lo, *hi),
         }
@@ -133,8 +151,9 @@ pub(crate) fn steps_fault(
 {
     let judge = Judge { rows, rules };
     let mut live = Live::of_root(alloc, root)?;
+    let mut decided = Decided::default();
     for (k, step) in steps.iter().enumerate() {
-        if let Some(number) = judge.step_fault(&live, step) {
+        if let Some(number) = judge.step_fault(&live, step, &mut decided) {
             return Ok(Some(LineFault { offset: k, number }));
         }
         live.take(step)?;

@@ -58,6 +58,8 @@ fn row(number: u8, place: Pos, err: Span) -> Row
         z: only(place.z),
         range: only(FAR),
         err,
+        sure_lo: err.lo,
+        sure_hi: err.hi,
     }
 }
 

@@ -73,6 +73,20 @@ const CHANGES: &str = "0||half|half
 32|bounds.receiver|[-3000, 3000]|[1.0, 2]
 33|bounds.receiver|[-3000, 3000]|[1, 0]
 33|bounds.receiver|[-3000, 3000]|[-1000001, 0]
+32|bounds.zenith|25000]|25000]@zenith = \"2000\"
+32|bounds.zenith|25000]|25000]@zenith = 2000
+32|bounds.zenith|25000]|25000]@zenith = [2000, \"2500\", 3000]
+33|bounds.zenith|25000]|25000]@zenith = [2, 1]
+33|bounds.zenith|25000]|25000]@zenith = [0, 10001]
+33|bounds.zenith|25000]|25000]@zenith = [-10001, 0]
+33|bounds.zenith|25000]|25000]@zenith = []
+33|bounds.zenith|25000]|25000]@zenith = [1, 2, 3]
+33|bounds.troposphere|troposphere = [2000, 25000]|zenith = 1@troposphere = [2000, 1999]
+31|bounds.troposphere|troposphere|zenith
+33|bounds.zenith|25000]|25000]@zenith = [2, 1]@[satellite]@G05 = [1]
+33|bounds.zenith|25000]|25000]@alpha = 1@zenith = [2, 1]
+34|bounds.zenit|25000]|25000]@zenit = [1800, 3000]
+34|search.zenith|[signal]|zenith = [1800, 3000]@[signal]
 32|satellite|[search]|satellite = 1@[search]
 33|satellite.G05|[2000, 25000]|[0, 1]@[satellite]@G05 = [1]
 34|satellite.G00|[2000, 25000]|[0, 1]@[satellite]@G00 = [0, 1]
@@ -80,6 +94,14 @@ const CHANGES: &str = "0||half|half
 31|search.half|half = 200000|zeal = 1
 34|a\u{7}b|[search]|\"a\\u0007b\" = 1@[search]
 34|abcdefghijklmnopqrstuvwxyzabcdefghijklmnopqrstuvwxyzabcdefghijk|[search]|\"abcdefghijklmnopqrstuvwxyzabcdefghijklmnopqrstuvwxyzabcdefghijk\u{e9}z\" = 1@[search]";
+
+/// What is declared of the delay at the zenith, in mm, and the ends that are read, in um.
+const ZENITHS: &str = "[1800, 3000]|1800000|3000000
+[2000, 2500]|2000000|2500000
+[0, 0]|0|0
+[-10000, 10000]|-10000000|10000000
+[10000, 10000]|10000000|10000000
+[-10000, -10000]|-10000000|-10000000";
 
 /// Settings with two codes and one satellite's own span.
 const DUAL: &str = "[search]
@@ -160,6 +182,7 @@ fn reads_lengths_in_um(rt: HostRuntime) -> Result<(), Fail> {
     let code = *b"C1C";
     assert!(rt; settings.signal == Signal::Single { code });
     assert_eq!(rt; bound_of(&settings, 5), (-4_000_000, 51_000_000));
+    assert!(rt; settings.zenith.is_none());
     let centre = Pos {
         x: 6_378_137_000_000,
         y: 0,
@@ -179,6 +202,23 @@ fn reads_lengths_in_um(rt: HostRuntime) -> Result<(), Fail> {
     };
     assert_eq!(rt; root.lo, lo);
     assert_eq!(rt; root.hi, hi);
+    Ok(())
+}
+
+#[test]
+fn reads_a_delay_at_the_zenith(rt: HostRuntime) -> Result<(), Fail> {
+    for row in ZENITHS.lines() {
+        let mut fields = row.split('|');
+        let declared = fields.next().expect(&rt, "a span");
+        let key = changed(rt.alloc(), "25000]@zenith = SPAN", "SPAN", declared)?;
+        let text = changed(rt.alloc(), FILE, "25000]", key.as_str())?;
+        let settings = settings(rt.alloc(), text.as_str())?;
+        let zenith = settings.zenith.expect(&rt, "a span");
+        assert_eq!(rt; zenith.lo, number(&rt, fields.next()), "{row}");
+        assert_eq!(rt; zenith.hi, number(&rt, fields.next()), "{row}");
+        // The four spans are counted as without it.
+        assert_eq!(rt; bound_of(&settings, 5), (-4_000_000, 51_000_000), "{row}");
+    }
     Ok(())
 }
 

@@ -1,5 +1,9 @@
 //! Rows beside rows of another program.
 
+ghost use Rattle.std.specs.Prelude.{IfSome};
+ghost use Rattle.sat_model.specs.Boxes.{grid_box};
+ghost use Rattle.sat_model.specs.SearchBoxes.{IsSearchBox};
+
 use crate::inputs::Inputs;
 use arrayvec::ArrayString;
 use error_bounds::{Centre, Settings};
@@ -113,7 +117,9 @@ fn epoch_of(obs: &Obs, index: u32) -> Option<&ObsEpoch> {
 }
 
 /// The search box of settings with a point as its centre.
-fn root_of(settings: &Settings) -> Option<Box3> {
+fn root_of(settings: &Settings) -> Option<Box3>
+    ensures { IfSome result (λ root. IsSearchBox (grid_box root)) }
+{
     match settings.centre {
         Centre::At(_) => Some(settings.root(None)),
         Centre::Header => None,

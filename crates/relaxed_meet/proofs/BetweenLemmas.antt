@@ -1,5 +1,5 @@
 -- The numbers that lie in enough spans are those between a low end and the high end that goes with it.
-use Rattle.std.proofs.Common.{◌≡◌, ℕ, ◌+◌, ◌-◌, ◌<◌, ◌≤◌, min, count_by, List, [], ◌∷◌, ◌++◌, length, map, take, get_or, cond, ◌&&◌, arith, refl, sym, ap, subst, inl, inr, Option, None, Some, IsNone, ◌↔◌}
+use Rattle.std.proofs.Common.{◌≡◌, ℕ, ◌+◌, ◌-◌, ◌<◌, ◌≤◌, min, count_by, List, [], ◌∷◌, ◌++◌, length, map, take, get_or, cond, ◌&&◌, arith, refl, sym, ap, subst, ◌∙◌, inl, inr, Option, None, Some, IsNone, ◌↔◌, Bool, true, false, not, is_some, IsTrue}
 use Rattle.std.specs.Prelude.{ℤ, pos, ◌≤ℤ◌, ◌<ℤ◌}
 use Rattle.std.proofs.lemmas.Int.{ints}
 use Rattle.std.proofs.lemmas.Bool.{cases_lt, cases_eq}
@@ -165,6 +165,14 @@ pub none_relaxed : (spans : List Span) (need : ℕ) (lows highs : List ℤ) → 
     → (b : ℤ) → LiesInRelaxed (map ends spans) need b → ⊥
 none_relaxed spans need lows highs e none b h = none b (between spans need lows highs b e h)
 
+pub none_or_some : (spans : List Span) (need : ℕ) (lows highs : List ℤ) (r : Option ℤ) → AreExtremes spans need lows highs → IsLeastIn (LiesBetween lows highs) r
+    → IsNone r ↔ IsRelaxedEmpty (map ends spans) need
+none_or_some spans need lows highs r e least = by_cases r (least_in_relaxed spans need lows highs r e least)
+  where
+    by_cases : {Lies : ℤ → Type 0} (r : Option ℤ) → IsLeastIn Lies r → IsNone r ↔ ((b : ℤ) → Lies b → ⊥)
+    by_cases None none = (λ is. none, λ empty. refl)
+    by_cases (Some x) least = (λ is. absurd cc, λ empty. absurd (empty x least.0))
+
 -- ---- spans that were read one after another, of which only the extremes are kept
 
 pub record AreRead (most : ℕ) (lows highs : List ℤ) (all : List (ℤ × ℤ)) : Type 0 where
@@ -182,6 +190,22 @@ none_read most = record {
 }
 
 -- one more is read
+pub read_next : (all : List (ℤ × ℤ)) (s : Span) (most : ℕ) (lows highs new_lows new_highs : List ℤ) (lo hi : ℤ) → lo ≡ s.lo → hi ≡ mirrored s.hi → AreRead most lows highs all
+    → IsFalling new_lows → length new_lows ≡ min (length lows + 1) most → ((b : ℤ) → above b new_lows ≡ min (above b (lows ++ lo ∷ [])) most)
+    → IsFalling new_highs → length new_highs ≡ min (length highs + 1) most → ((b : ℤ) → above b new_highs ≡ min (above b (highs ++ hi ∷ [])) most)
+    → AreRead most new_lows new_highs (all ++ ends s ∷ [])
+read_next all s most lows highs new_lows new_highs lo hi lo_is hi_is read low_falls low_count low_same high_falls high_count high_same =
+    let m = map-append ends read.spans (s ∷ []) in
+    let l = map-append (λ t. t.lo) read.spans (s ∷ []) in
+    let h = map-append (λ t. mirrored t.hi) read.spans (s ∷ []) in
+    record {
+      spans = read.spans ++ s ∷ [];
+      are = m ∙ ap (λ (had : List (ℤ × ℤ)). had ++ ends s ∷ []) read.are;
+      keeps_lows = rw l (kept_more most lows new_lows (lows_of read.spans) lo s.lo read.keeps_lows low_falls low_count low_same lo_is);
+      keeps_highs = rw h (kept_more most highs new_highs (highs_of read.spans) hi (mirrored s.hi) read.keeps_highs high_falls high_count high_same hi_is);
+    }
+
+-- the next one of a list is
 pub read_more : {X : Type 0} (f : X → ℤ × ℤ) (xs : List X) (i : ℕ) (x : X) (s : Span) (most : ℕ) (lows highs new_lows new_highs : List ℤ) (lo hi : ℤ)
     → i < length xs → x ≡ get_or xs i x → ends s ≡ f x → lo ≡ s.lo → hi ≡ mirrored s.hi → AreRead most lows highs (map f (take i xs))
     → IsFalling new_lows → length new_lows ≡ min (length lows + 1) most → ((b : ℤ) → above b new_lows ≡ min (above b (lows ++ lo ∷ [])) most)
@@ -189,15 +213,8 @@ pub read_more : {X : Type 0} (f : X → ℤ × ℤ) (xs : List X) (i : ℕ) (x :
     → AreRead most new_lows new_highs (map f (take (i + 1) xs))
 read_more f xs i x s most lows highs new_lows new_highs lo hi within reads is lo_is hi_is read low_falls low_count low_same high_falls high_count high_same =
     let e = map_more f xs i x within in
-    let m = map-append ends read.spans (s ∷ []) in
-    let l = map-append (λ t. t.lo) read.spans (s ∷ []) in
-    let h = map-append (λ t. mirrored t.hi) read.spans (s ∷ []) in
-    record {
-      spans = read.spans ++ s ∷ [];
-      are = let had = read.are in cc;
-      keeps_lows = rw l (kept_more most lows new_lows (lows_of read.spans) lo s.lo read.keeps_lows low_falls low_count low_same lo_is);
-      keeps_highs = rw h (kept_more most highs new_highs (highs_of read.spans) hi (mirrored s.hi) read.keeps_highs high_falls high_count high_same hi_is);
-    }
+    let next = read_next (map f (take i xs)) s most lows highs new_lows new_highs lo hi lo_is hi_is read low_falls low_count low_same high_falls high_count high_same in
+    subst (AreRead most new_lows new_highs) (let all : map f (take i xs) ++ ends s ∷ [] ≡ map f (take (i + 1) xs) = cc in all) next
 
 -- whether the search finds a number tells whether one lies in enough of the spans that were read
 pub found_or_empty : (all : List (ℤ × ℤ)) (q len : ℕ) (lows highs : List ℤ) (r : Option ℤ) → q < len → length all ≡ len → AreRead (q + 1) lows highs all
@@ -211,8 +228,15 @@ found_or_empty all q len lows highs r less count read least =
       keeps_lows = rw most read.keeps_lows;
       keeps_highs = rw most read.keeps_highs;
     } in
-    rw (sym read.are) (by_cases r (least_in_relaxed read.spans (len - q) lows highs r e least))
-  where
-    by_cases : {Lies : ℤ → Type 0} (r : Option ℤ) → IsLeastIn Lies r → IsNone r ↔ ((b : ℤ) → Lies b → ⊥)
-    by_cases None none = (λ is. none, λ empty. refl)
-    by_cases (Some x) least = (λ is. absurd cc, λ empty. absurd (empty x least.0))
+    rw (sym read.are) (none_or_some read.spans (len - q) lows highs r e least)
+
+true_from : (a b : Bool) → a ≡ not b → a ≡ false → b ≡ true
+true_from a true e f = refl
+true_from a false e f = cc
+
+false_from : (a b : Bool) → a ≡ not b → b ≡ true → a ≡ false
+false_from a b e f = rw (e, f) refl
+
+-- the same of a test for none
+pub tested_none : {X Empty : Type 0} (r : Option X) (b : Bool) → is_some r ≡ not b → IsNone r ↔ Empty → IsTrue b ↔ Empty
+tested_none r b e found = (λ t. found.0 (false_from (is_some r) b e t), λ empty. true_from (is_some r) b e (found.1 empty))

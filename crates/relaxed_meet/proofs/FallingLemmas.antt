@@ -1,5 +1,5 @@
 -- Lists in falling order, and how many of their numbers are greater than one.
-use Rattle.std.proofs.Common.{◌≡◌, refl, ℕ, ◌+◌, ◌<◌, ◌≤◌, min, List, [], ◌∷◌, ◌++◌, length, take, map, get_or, set, true, false, arith, sym, ap, ◌∙◌, ◌⊎◌, inl, inr}
+use Rattle.std.proofs.Common.{◌≡◌, refl, ℕ, ◌+◌, ◌-◌, ◌<◌, ◌≤◌, min, List, [], ◌∷◌, ◌++◌, length, take, map, get_or, set, true, false, arith, sym, ap, ◌∙◌, ◌⊎◌, inl, inr}
 use Rattle.std.specs.Prelude.{ℤ, pos, ◌≤ℤ◌, ◌<ℤ◌}
 use Rattle.std.proofs.lemmas.Int.{ints}
 use Rattle.std.proofs.lemmas.Bool.{cases_Bool, cases_eq}
@@ -131,6 +131,16 @@ pub above_kept : (xs old : List ℤ) (c n m : ℤ) (most : ℕ) (b : ℤ) → Is
     → above b xs ≡ min (above b (old ++ m ∷ [])) most
 above_kept xs old c n m most b k full is =
     rw is (omega (arith, full, k.count, k.same_above b, above_push old n b, above_full xs c b (λ j within. k.least j (omega (arith, k.count)))))
+
+-- a full list whose last number is at least this one has no place for it
+pub above_past : (xs : List ℤ) (c b : ℤ) (most : ℕ) → IsFalling xs → 0 < most → length xs ≡ most → c ≤ℤ get_or xs (most - 1) (pos 0)
+    → above b xs ≡ min (above b (xs ++ c ∷ [])) most
+above_past xs c b most falling some full last =
+    omega (
+      arith,
+      above_push xs c b,
+      above_full xs c b (λ j within. at_least _ _ _ last (falling.falls j (most - 1) (omega (arith, some, full)) (omega (arith, some, full)))),
+    )
 
 pub none_kept : (most : ℕ) → Keeps most [] []
 none_kept most = record { falling = record { falls = λ i j le inside. absurd (omega arith) }; count = omega arith; same_above = λ b. omega arith }

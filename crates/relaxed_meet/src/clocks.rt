@@ -51,11 +51,11 @@ fn clock_at(row: &Row, near: u64, far: u64) -> Span
 fn inner_at(row: &Row, near: u64, far: u64) -> Option<Span>
     requires order { near ≤ far }
     requires bound { far ≤ 200000000000000 }
-    ensures some { IfSome result (λ s. ends s ≡ (row.now.range.hi -ℤ pos near -ℤ row.now.err.hi, row.now.range.lo -ℤ pos far -ℤ row.now.err.lo)) }
-    ensures none { IsNone result → (row.now.range.lo -ℤ pos far -ℤ row.now.err.lo) <ℤ (row.now.range.hi -ℤ pos near -ℤ row.now.err.hi) }
+    ensures some { IfSome result (λ s. ends s ≡ (row.now.range.hi -ℤ pos near -ℤ row.now.sure_hi, row.now.range.lo -ℤ pos far -ℤ row.now.sure_lo)) }
+    ensures none { IsNone result → (row.now.range.lo -ℤ pos far -ℤ row.now.sure_lo) <ℤ (row.now.range.hi -ℤ pos near -ℤ row.now.sure_hi) }
 {
-    let lo = row.range.hi - near as i64 - row.err.hi;
-    let hi = row.range.lo - far as i64 - row.err.lo;
+    let lo = row.range.hi - near as i64 - row.sure_hi;
+    let hi = row.range.lo - far as i64 - row.sure_lo;
     if lo <= hi {
         Some(Span { lo, hi })
     } else {

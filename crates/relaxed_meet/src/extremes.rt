@@ -1,6 +1,6 @@
 //! The greatest numbers of a list.
 
-ghost use Rattle.std.specs.Prelude.{◌≡◌, ◌+◌, ◌≤◌, ◌++◌, ◌∷◌, [], length, map, min, ℤ};
+ghost use Rattle.std.specs.Prelude.{◌≡◌, ◌+◌, ◌≤◌, ◌++◌, ◌∷◌, [], length, map, min, ℤ, IsTrue};
 ghost use Rattle.relaxed_meet.specs.Kept.{above, IsFalling, IsKeptUpTo, Keeps, mirrored};
 
 use arrayvec::ArrayVec;
@@ -25,8 +25,21 @@ fn carry_past(kept: &mut [i64], number: i64) -> i64
     carried
 }
 
-/// Puts a number among the greatest, `most` of them at most.
-pub(crate) fn keep(kept: &mut Falling, number: i64, most: usize)
+/// Whether `most` numbers are kept and none is less than this one, which then has no place there.
+fn is_past(kept: &[i64], number: i64, most: usize) -> bool
+    requires falling { IsFalling kept.now }
+    requires room { length kept.now ≤ most }
+    ensures full { IsTrue result → length kept.now ≡ most }
+    ensures same_above { IsTrue result → (b : ℤ) → above b kept.now ≡ min (above b (kept.now ++ number ∷ [])) most }
+{
+    if most == 0 {
+        return false;
+    }
+    kept.len() == most && number <= kept[most - 1]
+}
+
+/// Puts a number among these, and leaves the least out where there would be more than `most`.
+fn put_in(kept: &mut Falling, number: i64, most: usize)
     requires falling { IsFalling kept.old.items }
     requires room { (length kept.old.items ≤ most) × (most ≤ 64) }
     ensures falling { IsFalling kept.new.items }
@@ -37,6 +50,20 @@ pub(crate) fn keep(kept: &mut Falling, number: i64, most: usize)
     if kept.len() < most {
         kept.push(least);
     }
+}
+
+/// Puts a number among the greatest, `most` of them at most.
+pub(crate) fn keep(kept: &mut Falling, number: i64, most: usize)
+    requires falling { IsFalling kept.old.items }
+    requires room { (length kept.old.items ≤ most) × (most ≤ 64) }
+    ensures falling { IsFalling kept.new.items }
+    ensures count { length kept.new.items ≡ min (length kept.old.items + 1) most }
+    ensures same_above { (b : ℤ) → above b kept.new.items ≡ min (above b (kept.old.items ++ number ∷ [])) most }
+{
+    if is_past(kept, number, most) {
+        return;
+    }
+    put_in(kept, number, most);
 }
 
 /// Puts the greatest low ends of the spans into `lows` and the least high ends, mirrored, into

@@ -3,12 +3,14 @@
 #![tactic(auto)]
 
 mod clocks;
+mod deciding;
 mod distance;
 mod extremes;
 mod hull;
 mod shown;
 
 pub use clocks::{clock_span, inner_span};
+pub use deciding::Deciding;
 pub use distance::near_far;
 pub use hull::relaxed;
 pub use shown::{BoxState, box_state, clock_hull, shown_empty, shown_inner};

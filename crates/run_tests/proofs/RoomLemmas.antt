@@ -7,6 +7,17 @@ use Rattle.std.proofs.lemmas.List.{length-take}
 use Rattle.command_words.specs.Commands as words
 use Rattle.command_words.specs.Commands.{Command, Judge, Pave, Solve, Check, Make}
 use Rattle.epoch_selection.specs.declared.selection.Selection.{Selection}
+use Rattle.input_files.specs.Inputs.{InputsValue, ReadsInputs, ReadsNav, ReadsObs, settings_text, nav_text, obs_text, wants_position}
+use Rattle.input_files.specs.Logs.{log_text, rows_text}
+use Rattle.input_files.specs.Reading as reading
+use Rattle.input_files.specs.Reading.{Text, Breaks, MayBreak, IsCounted, Reading, Found, valued, Named, Then, Returns, ReadsFile, limit_of, file_in, LeavesFiles, Untouched}
+use Rattle.input_files.specs.Statuses.{status_of}
+use Rattle.input_files.specs.declared.inputs.Inputs.{Inputs}
+use Rattle.input_files.specs.declared.limits.Limits.{Limits}
+use Rattle.input_files.specs.declared.notice.Notice.{Notice}
+use Rattle.input_files.specs.declared.notice.Notice.TheVariants as notice
+use Rattle.input_files.specs.declared.status.Status.{Status}
+use Rattle.input_files.specs.declared.status.Status.TheVariants as status
 use Rattle.log_writer.specs.Breaks.{BrokeOff, Leaves, LogBreaks, IsFrontOf}
 use Rattle.log_writer.specs.Pieces.{Piece, log_bytes, report_bytes}
 use Rattle.log_writer.specs.RowsFrom.{of_rows}
@@ -25,26 +36,15 @@ use Rattle.sat_model.specs.declared.rules.Rules.{Rules}
 use Rattle.rinex_obs.specs.Files.{Observations}
 use Rattle.sat_model.specs.Logs.{LogValue}
 use Rattle.cover_run.specs.Checking.{CheckedValue, ReadsChecked, ReadsLog}
-use Rattle.cover_run.specs.Inputs.{InputsValue, ReadsInputs, ReadsNav, ReadsObs, settings_text, nav_text, obs_text, wants_position}
-use Rattle.cover_run.specs.Logs.{log_text, rows_text}
 use Rattle.cover_run.specs.Making.{Makes, made_text}
 use Rattle.cover_run.specs.Paving.{IsPaved}
-use Rattle.cover_run.specs.Reading as reading
-use Rattle.cover_run.specs.Reading.{Text, Breaks, MayBreak, IsCounted, Reading, Found, valued, Named, Then, Returns, ReadsFile, limit_of, file_in, LeavesFiles, Untouched}
 use Rattle.cover_run.specs.Chosen.{chosen_in}
 use Rattle.cover_run.specs.Runs.{Task, RunOf, Ends, Stops, OnlySays, Obeys, Runs, TellsAlone, judging, paving, solving, checking}
 use Rattle.cover_run.specs.Solving.{IsSolution}
-use Rattle.cover_run.specs.Statuses.{status_of}
 use Rattle.cover_run.specs.Telling as telling
 use Rattle.cover_run.specs.Telling.{Tells, sinks}
 use Rattle.cover_run.specs.Worlds.{World, Rewrites}
 use Rattle.cover_run.specs.Writing.{Answer, Writes, SaysEnd, status_of_writing}
-use Rattle.cover_run.specs.declared.inputs.Inputs.{Inputs}
-use Rattle.cover_run.specs.declared.limits.Limits.{Limits}
-use Rattle.cover_run.specs.declared.notice.Notice.{Notice}
-use Rattle.cover_run.specs.declared.notice.Notice.TheVariants as notice
-use Rattle.cover_run.specs.declared.status.Status.{Status}
-use Rattle.cover_run.specs.declared.status.Status.TheVariants as status
 use Rattle.run_tests.specs.Roomy.{IsThere, AreThere, written_by, IsRoomy, HasRoomLeft, IsFault}
 
 -- ---- files that are read

@@ -1,12 +1,12 @@
 -- Runs over objects in memory that have room for all that is written.
 use Rattle.std.specs.Prelude.{◌≡◌, ◌<◌, ◌⊎◌, ℕ, ◌+◌, List, [], length, Option, None, Some, IfSome, is_some, true}
 use Rattle.std.specs.FinMap as map
+use Rattle.input_files.specs.declared.limits.Limits.{Limits}
+use Rattle.input_files.specs.declared.status.Status.{Status}
+use Rattle.input_files.specs.declared.status.Status.TheVariants as status
 use Rattle.outer_io.specs.Taken.{SinkState, SinkTold}
 use Rattle.outer_io.specs.Told.{Files, ShelfState, Told}
 use Rattle.command_words.specs.Commands.{Command, Judge, Pave, Solve, Check, Make}
-use Rattle.cover_run.specs.declared.limits.Limits.{Limits}
-use Rattle.cover_run.specs.declared.status.Status.{Status}
-use Rattle.cover_run.specs.declared.status.Status.TheVariants as status
 
 abbrev pub IsThere : Files → List ℕ → Type 0
 IsThere files name = is_some (map.get files name) ≡ true

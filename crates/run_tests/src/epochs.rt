@@ -10,24 +10,13 @@ use paving_log::LogEpoch;
 use paving_log_check::{Fault, check_epoch};
 use rinex_nav::{Nav, read_nav};
 use rinex_obs::{Obs, read_obs};
-use sat_model::{Box3, Pos, Rules, Sat, SatEntry, Skip, Span};
+use sat_model::{Pos, Rules, Sat, SatEntry, Skip, Span};
 use sat_rows::GpsRows;
 use std::alloc::{AllocError, Global};
 use std::test::Fail;
 
-/// The search box of the settings.
-const ROOT: Box3 = Box3 {
-    lo: Pos {
-        x: 6_377_937_000_000,
-        y: -200_000_000,
-        z: -200_000_000,
-    },
-    hi: Pos {
-        x: 6_378_337_000_000,
-        y: 200_000_000,
-        z: 200_000_000,
-    },
-};
+/// A header's position, which settings with a centre of their own don't ask for.
+const ORIGIN: Pos = Pos { x: 0, y: 0, z: 0 };
 
 /// The skip of a GPS satellite.
 fn skip(number: u8, test: u8) -> SatEntry {
@@ -92,6 +81,7 @@ fn a_block_of_few_is_checked_against_its_epoch(rt: HostRuntime) -> Result<(), Fa
         nav: &nav,
         settings: &settings,
     };
+    let root = settings.root(Some(ORIGIN));
     let seen = obs.epochs.first().ok_or("no epoch")?;
     let rules = Rules {
         outliers: 1,
@@ -108,7 +98,7 @@ fn a_block_of_few_is_checked_against_its_epoch(rt: HostRuntime) -> Result<(), Fa
     ] {
         assert!(rt; n < 5 && skips.len() <= 2);
         let block = block(alloc, n, skips)?;
-        let found = check_epoch(alloc, &source, seen, &rules, &ROOT, &block)?;
+        let found = check_epoch(alloc, &source, seen, &rules, &root, &block)?;
         let want = at.map(|line| Fault {
             number: 52,
             line,

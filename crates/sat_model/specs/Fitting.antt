@@ -3,6 +3,7 @@ use Rattle.std.specs.Prelude.{ℕ, zero, suc, ◌+◌, ◌⊎◌, ℤ, pos, ◌-
 use Rattle.sat_model.specs.declared.satellites.Row.{Row}
 use Rattle.sat_model.specs.declared.boxes.Pos.{Pos}
 use Rattle.sat_model.specs.Amounts.{square}
+use Rattle.sat_model.specs.Boxes.{Side}
 use Rattle.sat_model.specs.Roots.{root}
 
 -- the range: the whole-number root of the squared distance
@@ -24,17 +25,30 @@ pub record RowValue (row : Row) : Type 0 where
 abbrev pub error_of : (row : Row) → RowValue row → Pos → ℤ → ℤ
 error_of row v p b = v.measured -ℤ pos (range_to v.x v.y v.z p) -ℤ b
 
+-- from the least to the greatest low end of what is allowed of the error, and the same of the high
+-- end
+abbrev pub low_bounds : Row → Side
+low_bounds row = record { lo = row.err.lo; hi = row.sure_lo }
+
+abbrev pub high_bounds : Row → Side
+high_bounds row = record { lo = row.sure_hi; hi = row.err.hi }
+
+-- by some of these ends
 abbrev pub IsAllowed : Row → ℤ → Type 0
 IsAllowed row error = (row.err.lo ≤ℤ error) × (error ≤ℤ row.err.hi)
+
+-- by all of them
+abbrev pub IsSurelyAllowed : Row → ℤ → Type 0
+IsSurelyAllowed row error = (row.sure_lo ≤ℤ error) × (error ≤ℤ row.sure_hi)
 
 -- some values of the row's spans leave an allowed error
 pub record IsPossible (p : Pos) (b : ℤ) (row : Row) : Type 0 where
   pub value : RowValue row
   pub allowed : IsAllowed row (error_of row value p b)
 
--- all values of the row's spans leave an allowed error
+-- all values of the row's spans leave an error that is surely allowed
 abbrev pub IsSure : Pos → ℤ → Row → Type 0
-IsSure p b row = (value : RowValue row) → IsAllowed row (error_of row value p b)
+IsSure p b row = (value : RowValue row) → IsSurelyAllowed row (error_of row value p b)
 
 -- all rows but at most q meet the fact
 abbrev pub AllBut : ℕ → (Row → Type 0) → List Row → Type 0

@@ -3,6 +3,7 @@ pub mod Roots
 pub mod Amounts
 pub mod Boxes
 pub mod Lengths
+pub mod Zenith
 pub mod Relaxed
 pub mod ClockSpans
 pub mod Fitting
@@ -13,7 +14,7 @@ pub mod TightFaces
 pub mod Proposals
 pub mod Fold
 pub mod Logs
-pub mod Paved
+pub mod Waiting
 pub mod Verdicts
 pub mod StepKinds
 pub mod Cover
@@ -21,6 +22,7 @@ pub mod Intervals
 pub mod Rounding
 pub mod Products
 pub mod Squares
+pub mod SearchBoxes
 pub mod Angles
 pub mod Taylor
 pub mod Sines
@@ -32,4 +34,5 @@ pub mod ClockChain
 pub mod OrbitChain
 pub mod Pseudorange
 pub mod Turn
+pub mod Mapping
 pub mod ChainValues

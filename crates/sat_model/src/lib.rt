@@ -13,6 +13,7 @@ mod roots;
 mod rules;
 mod satellites;
 mod spans;
+mod spares;
 mod steps;
 
 pub use boxes::{Box3, Pos};
@@ -23,8 +24,9 @@ pub use record_bounds::{
     AGEING_BOUND, ANGLE_BOUND, ANGLE_SWING_BOUND, DELAY_BOUND, DRIFT_BOUND, ECCENTRICITY_BOUND,
     GREATEST_ROOT_A, LEAST_ROOT_A, OFFSET_BOUND, RADIUS_SWING_BOUND, RATE_BOUND, WEEK,
 };
-pub use roots::{root_u64, root_u128, spare};
+pub use roots::{root_u64, root_u128};
 pub use rules::Rules;
 pub use satellites::{Row, Sat, SatEntry, Signal, Skip};
 pub use spans::{Span, Wide};
+pub use spares::{err_spare, spare};
 pub use steps::Step;

@@ -1,11 +1,7 @@
-//! Whole-number roots, and how much wider a row may be than the values it holds.
+//! Whole-number roots.
 
-ghost use Rattle.std.specs.Prelude.{◌≡◌, ◌↔◌, ◌<◌, IsTrue, pos};
-ghost use Rattle.sat_model.specs.Boxes.{grid_box};
-ghost use Rattle.sat_model.specs.Lengths.{spare_of};
+ghost use Rattle.std.specs.Prelude.{◌↔◌, IsTrue};
 ghost use Rattle.sat_model.specs.Roots.{IsRoot};
-
-use crate::boxes::Box3;
 
 /// The whole-number root of `a`: the `v` with `v^2 <= a < (v + 1)^2`.
 ///
@@ -94,13 +90,4 @@ fn guess_u64(a: u64) -> u64 {
     let spare = a.leading_zeros() & 62;
     let front = a << spare;
     newton(front, root_of_front(front)) >> (spare / 2)
-}
-
-/// How wide, in um, the spans of a row of this search box may be: 2,000 and a 40,000th of the
-/// longest side.
-pub fn spare(root: &Box3) -> i64
-    ensures { result ≡ pos (spare_of (grid_box root.now)) }
-{
-    let (_, longest) = root.longest_axis();
-    (2_000 + longest / 40_000) as i64
 }

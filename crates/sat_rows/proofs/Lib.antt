@@ -1,2 +1,3 @@
 pub mod SpanLemmas
+pub mod DelayLemmas
 pub mod RowLemmas

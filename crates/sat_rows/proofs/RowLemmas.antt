@@ -1,6 +1,6 @@
 -- What a usable satellite's row is made of, and the lines of an epoch.
 use Rattle.std.proofs.Common.{◌≡◌, ℕ, ◌+◌, ◌*◌, ◌^◌, ◌≤◌, arith, refl, sym, ap, subst, ◌∙◌, List, [], ◌∷◌, ◌++◌, length, cond, true, false, drop, get_or, add-one, drop-cons, drop_of_length-le, append_assoc, append-nil, ◌<◌}
-use Rattle.std.specs.Prelude.{ℤ, pos, ◌+ℤ◌, ◌-ℤ◌, ◌≤ℤ◌, ◌<ℤ◌, unsigned_abs}
+use Rattle.std.specs.Prelude.{ℤ, Option, pos, ◌+ℤ◌, ◌-ℤ◌, ◌≤ℤ◌, ◌<ℤ◌, unsigned_abs}
 use Rattle.std.specs.List.{AllByRecursion}
 use Rattle.std.proofs.lemmas.Int.{ints}
 use Rattle.std.proofs.lemmas.List.Elements.{recursion_from_All}
@@ -34,7 +34,7 @@ use Rattle.sat_model.specs.declared.satellites.Signal.TheVariants.{Single, Dual}
 use Rattle.sat_model.specs.declared.spans.Span.{Span}
 use Rattle.usable_sats.proofs.JudgementLemmas.{codes_one, elements_one}
 use Rattle.usable_sats.specs.Judgements.{IsKnownBy}
-use Rattle.sat_rows.specs.Chains.{observed, IsChainOf, IsChainAt}
+use Rattle.sat_rows.specs.Chains.{observed, AreValues, IsChainAt}
 use Rattle.sat_rows.specs.Meanings.{Meaning}
 use Rattle.sat_rows.specs.OwnRows.{HoldsAllowed, IsOwnLine, AreOwnLines, IsSmall, IsSmallLine, AreSmall, usable_line, usable_in}
 use Rattle.sat_rows.specs.RowSizes.{AreNarrowWith, AreNarrow, IsNearEpoch}
@@ -105,8 +105,9 @@ module _ (a : Sighting) (codes : Codes) (el : Elements) (known : IsKnownBy a cod
       let e = elements_one a u known.usable ∙ known.el_is in
       λ i. record { tag = a.tag; codes = c i; el = e i }
 
-  pub known_holds : (root : GridBox) (row : Row) → HoldsAllowed (IsChainOf (record { tag = a.tag; codes = codes; el = el })) root row → HoldsAllowed (IsChainAt a) root row
-  known_holds root row holds p c inside chain = holds p c inside (subst (λ (seen : Observed). IsChainOf seen p c) (known_observed chain.usable) chain.value)
+  pub known_holds : (zenith : Option Span) (declared : ℤ × ℤ) (root : GridBox) (row : Row) → HoldsAllowed (AreValues zenith declared (record { tag = a.tag; codes = codes; el = el })) root row
+      → HoldsAllowed (IsChainAt a zenith declared) root row
+  known_holds zenith declared root row holds p c inside chain = holds p c inside (subst (λ (seen : Observed). AreValues zenith declared seen p c) (known_observed chain.usable) chain.are)
 
 -- ---- the declared error
 
@@ -119,12 +120,12 @@ extra_small sat (e ∷ more) f =
       | false ↦ extra_small sat more f.1
     ]
 
-within_sum : (sum a b : ℤ) → sum ≡ a +ℤ b → IsWithin 4000000000 a → IsWithin 1000000000 b → IsWithin (10 ^ 10) sum
+within_sum : (sum a b : ℤ) → sum ≡ a +ℤ b → IsWithin 4000000000 a → IsWithin 1000000000 b → IsWithin (5 * 10 ^ 9) sum
 within_sum sum a b e f g =
-    let bounds : IsWithin 10000000000 sum = record { low = omega (arith, ints, e, f.low, g.low); high = omega (arith, ints, e, f.high, g.high) } in
+    let bounds : IsWithin 5000000000 sum = record { low = omega (arith, ints, e, f.low, g.low); high = omega (arith, ints, e, f.high, g.high) } in
     bounds
 
-pub error_small : (settings : Settings) (sat : Sat) (err : Span) → ends err ≡ bound_for sat (value_of_settings settings) → IsSmall (10 ^ 10) err
+pub error_small : (settings : Settings) (sat : Sat) (err : Span) → ends err ≡ bound_for sat (value_of_settings settings) → IsSmall (5 * 10 ^ 9) err
 error_small settings sat err e =
     let low : err.lo ≡ settings.common.lo +ℤ (extra_for sat (with_ends settings.extra.items)).0 = ap (λ (p : ℤ × ℤ). p.0) e in
     let high : err.hi ≡ settings.common.hi +ℤ (extra_for sat (with_ends settings.extra.items)).1 = ap (λ (p : ℤ × ℤ). p.1) e in

@@ -1,19 +1,23 @@
 -- Ends of the numbers on the way from codes to a row.
-use Rattle.std.proofs.Common.{◌≡◌, ℕ, ◌+◌, ◌*◌, ◌^◌, ◌≤◌, arith}
+use Rattle.std.proofs.Common.{◌≡◌, ◌∙◌, ap, lit≤, ℕ, ◌+◌, ◌*◌, ◌^◌, ◌≤◌, arith}
 use Rattle.std.specs.Prelude.{ℤ, pos, ◌+ℤ◌, ◌-ℤ◌, ◌*ℤ◌, ◌≤ℤ◌, Some}
 use Rattle.std.proofs.lemmas.Int.{ints}
 use Rattle.broadcast_orbit.specs.OrbitSizes.{greatest_distance, IsOrbitDistance}
 use Rattle.broadcast_orbit.proofs.PairLemmas.{square_natural, side_within}
-use Rattle.earth_rotation.specs.Places.{PlaceEnds}
+use Rattle.fix_interval.specs.Places.{PlaceEnds}
 use Rattle.earth_rotation.specs.TurnSizes.{near_reach, narrow_width}
 use Rattle.fix_interval.specs.declared.place.Place.{Place}
 use Rattle.fix_interval.specs.declared.exact.Exact.{Exact}
 use Rattle.fix_interval.specs.Factors.{Holds, HasEnds}
 use Rattle.fix_interval.proofs.NearLemmas.{near_exists}
 use Rattle.pseudorange_prep.specs.Ranges.{IsNarrow}
+use Rattle.sat_model.specs.Boxes.{Side}
 use Rattle.sat_model.specs.Intervals.{Between, Ends}
 use Rattle.sat_model.specs.Pseudorange.{IsRangeWith, IsIonosphereFree}
-use Rattle.sat_model.specs.Sizes.{IsWithin, IsPlaceSize}
+use Rattle.sat_model.specs.Relaxed.{ends}
+use Rattle.sat_model.specs.Sizes.{IsWithin, IsPlaceSize, IsErrorSize}
+use Rattle.sat_model.specs.Trees.{span_side}
+use Rattle.sat_model.specs.declared.satellites.Row.{Row}
 use Rattle.sat_model.specs.declared.spans.Span.{Span}
 use Rattle.sat_model.specs.declared.spans.Wide.{Wide}
 use Rattle.sat_model.proofs.IntervalLemmas.{low_member, high_member}
@@ -83,3 +87,32 @@ span_small m n w x span e f k h = record { lo = rw e (larger m n x.lo k h.low); 
 
 pub grown_within : (by : ℤ) (span grown : Span) → GrowsWithin by span → grown.lo ≡ span.lo -ℤ by → grown.hi ≡ span.hi +ℤ by → IsPlaceSize grown.lo × IsPlaceSize grown.hi
 grown_within by span grown g e f = (rw e g.low, rw f g.high)
+
+pub same_le : (n : ℤ) → n ≤ℤ n
+same_le n = omega (arith, ints)
+
+-- ---- the ends of the error
+
+pub grown_lo : (by : ℤ) (side : Side) (span grown : Span) → span_side span ≡ side → grown.lo ≡ span.lo -ℤ by → grown.lo ≡ side.lo -ℤ by
+grown_lo by side span grown e f = f ∙ ap (λ (s : Side). s.lo -ℤ by) e
+
+pub grown_hi : (by : ℤ) (side : Side) (span grown : Span) → span_side span ≡ side → grown.hi ≡ span.hi +ℤ by → grown.hi ≡ side.hi +ℤ by
+grown_hi by side span grown e f = f ∙ ap (λ (s : Side). s.hi +ℤ by) e
+
+pub error_place : (z : ℤ) → IsErrorSize z → IsPlaceSize z
+error_place z e = larger 1000000000000 60000000000000 z (lit≤ tt) e
+
+pub side_place : (by : ℤ) (side : Side) (span : Span) → span_side span ≡ side → IsErrorSize (side.lo -ℤ by) → IsErrorSize (side.hi +ℤ by) → IsPlaceSize (span.lo -ℤ by) × IsPlaceSize (span.hi +ℤ by)
+side_place by side span e low high =
+    let lo : span.lo ≡ side.lo = ap (λ (s : Side). s.lo) e in
+    let hi : span.hi ≡ side.hi = ap (λ (s : Side). s.hi) e in
+    (rw lo (error_place _ low), rw hi (error_place _ high))
+
+pub error_size : (z : ℤ) → IsWithin (10 ^ 10) z → IsErrorSize z
+error_size z w = larger 10000000000 1000000000000 z (lit≤ tt) w
+
+pub paired : (a b : ℤ) (span : Span) → a ≡ span.lo → b ≡ span.hi → ◌≡◌ {A = ℤ × ℤ} (a, b) (ends span)
+paired a b span e f = λ i. (e i, f i)
+
+pub err_ordered : (row : Row) (by lo hi : ℤ) → pos 0 ≤ℤ by → lo ≡ row.err.lo -ℤ by → hi ≡ row.err.hi +ℤ by → lo ≤ℤ hi
+err_ordered row by lo hi k e f = let o = row.err.ordered in omega (arith, ints)

@@ -1,17 +1,23 @@
--- Something is allowed of each satellite that was observed, as seen from each point.
-use Rattle.std.proofs.Common.{◌^◌}
+-- Something is allowed of each satellite that was observed, as seen from each point of a search box.
+use Rattle.std.proofs.Common.{◌≡◌, ℕ, ◌^◌, true}
 use Rattle.std.specs.Prelude.{ℤ, pos, ◌+ℤ◌, ◌-ℤ◌, ◌*ℤ◌, Option, None, Some}
-use Rattle.sat_model.specs.ChainValues.{Observed}
+use Rattle.sat_model.specs.Boxes.{GridBox, box_holds}
+use Rattle.sat_model.specs.ChainValues.{Observed, ChainValue}
 use Rattle.sat_model.specs.EarthModel.{light_speed}
 use Rattle.sat_model.specs.Pseudorange.{is_single, IsRangeWith}
+use Rattle.sat_model.specs.SearchBoxes.{IsSearchBox}
 use Rattle.sat_model.specs.declared.boxes.Pos.{Pos}
+use Rattle.sat_model.specs.declared.spans.Span.{Span}
 use Rattle.sat_model.specs.declared.spans.Wide.{Wide}
 use Rattle.sat_model.proofs.IntervalLemmas.{low_member}
 use Rattle.fix_interval.proofs.NearLemmas.{near_exists}
 use Rattle.sat_clock.proofs.ClockExists.{clock_exists}
 use Rattle.broadcast_orbit.proofs.ChainExists.{orbit_exists}
+use Rattle.broadcast_orbit.proofs.FarPlaces.{chain_is_far, far_from_points}
 use Rattle.earth_rotation.proofs.TurnExists.{turn_exists}
-use Rattle.sat_rows.specs.Chains.{Chain, IsChainOf}
+use Rattle.sat_rows.specs.BoundLemmas.{bound_exists}
+use Rattle.sat_rows.specs.Chains.{Chain, AreValues}
+use Rattle.usable_sats.specs.Usability.{IsHigh}
 
 range_exists : (first : Wide) (second : Option Wide) → (pr : ℤ) × IsRangeWith first second pr
 range_exists first None = (first.lo, low_member _ _ first.ordered)
@@ -22,8 +28,8 @@ range_exists first (Some second) =
       (first.lo, second.lo, low_member _ _ first.ordered, low_member _ _ second.ordered, free.1),
     )
 
-pub chain_exists : (seen : Observed) (p : Pos) → (c : Chain) × IsChainOf seen p c
-chain_exists seen p =
+values_exist : (seen : Observed) (p : Pos) → (x : ℤ) × (y : ℤ) × (z : ℤ) × (corrected : ℤ) × (range : ℕ) × ChainValue seen p x y z corrected range
+values_exist seen p =
     let pr = range_exists seen.codes.first seen.codes.second in
     let tsv = near_exists ((seen.tag *ℤ pos light_speed) -ℤ (pr.0 *ℤ pos (10 ^ 6)))
     (pos light_speed) (record { lt = tt }) in
@@ -32,7 +38,11 @@ chain_exists seen p =
     (pos (10 ^ 10)) (record { lt = tt }) in
     let orbit = orbit_exists seen.el clock.0 clock.3 in
     let turn = turn_exists p orbit.0 orbit.1 orbit.2 in (
-      record { x = turn.0; y = turn.1; z = orbit.2; corrected = corrected.0; range = turn.2 },
+      turn.0,
+      turn.1,
+      orbit.2,
+      corrected.0,
+      turn.2,
       record {
         pr = pr.0;
         pr_is = pr.1;
@@ -50,4 +60,14 @@ chain_exists seen p =
         orbit = orbit.3;
         turn = turn.3;
       },
+    )
+
+pub chain_exists : (seen : Observed) (p : Pos) (zenith : Option Span) (declared : ℤ × ℤ) (root : GridBox) → IsSearchBox root → box_holds root p ≡ true → IsHigh zenith root
+    → (c : Chain) × AreValues zenith declared seen p c
+chain_exists seen p zenith declared root box inside high =
+    let (x, y, z, corrected, range, value) = values_exist seen p in
+    let far = far_from_points x y z root p (chain_is_far seen.el value.n value.t value.sent_x value.sent_y z p x y range value.orbit value.turn) box inside in
+    let bound = bound_exists zenith declared root p x y z corrected range high inside far value.turn.range_is in (
+      record { x = x; y = y; z = z; corrected = corrected; range = range; lo = bound.0; hi = bound.1 },
+      (value, bound.2),
     )

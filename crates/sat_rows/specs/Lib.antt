@@ -3,6 +3,7 @@ pub mod Meanings
 pub mod OwnRows
 pub mod Fitting
 pub mod Sources
+pub mod BoundLemmas
 pub mod ChainLemmas
 pub mod Laws
 pub mod RowSizes

@@ -1,5 +1,5 @@
 -- Rows that hold what a source allows of the usable satellites.
-use Rattle.std.specs.Prelude.{ℕ, ◌+◌, ◌*◌, ◌^◌, ◌≡◌, ℤ, pos, ◌-ℤ◌, ◌≤ℤ◌, true, List, [], ◌∷◌, None, Some}
+use Rattle.std.specs.Prelude.{ℕ, ◌+◌, ◌*◌, ◌^◌, ◌≡◌, ℤ, pos, ◌-ℤ◌, ◌≤ℤ◌, true, List, [], ◌∷◌, Option, None, Some}
 use Rattle.rinex_obs.specs.declared.obs.ObsEpoch.{ObsEpoch}
 use Rattle.rinex_obs.specs.declared.obs.SatObs.{SatObs}
 use Rattle.sat_model.specs.Boxes.{GridBox, box_holds}
@@ -7,6 +7,7 @@ use Rattle.sat_model.specs.Intervals.{Between}
 use Rattle.sat_model.specs.Lengths.{spare_of}
 use Rattle.sat_model.specs.Relaxed.{ends}
 use Rattle.sat_model.specs.Sizes.{IsWithin}
+use Rattle.sat_model.specs.Zenith.{err_spare_of}
 use Rattle.sat_model.specs.declared.boxes.Pos.{Pos}
 use Rattle.sat_model.specs.declared.satellites.Row.{Row}
 use Rattle.sat_model.specs.declared.spans.Span.{Span}
@@ -15,38 +16,57 @@ use Rattle.sat_rows.specs.Meanings.{Meaning}
 use Rattle.sat_rows.specs.declared.lines.SatLine.{SatLine}
 use Rattle.sat_rows.specs.declared.lines.SatLine.TheVariants.{Usable, Skipped}
 
--- the row's spans hold the values
+-- the row's spans hold the values, and those of its ends of the error hold the ends
 pub record HoldsChain (row : Row) (c : Chain) : Type 0 where
   pub x : Between row.x.lo row.x.hi c.x
   pub y : Between row.y.lo row.y.hi c.y
   pub z : Between row.z.lo row.z.hi c.z
   pub corrected : Between row.range.lo row.range.hi c.corrected
+  pub lo : Between row.err.lo row.sure_lo c.lo
+  pub hi : Between row.sure_hi row.err.hi c.hi
 
 -- ... of whatever is allowed at the grid points of the root
 abbrev pub HoldsAllowed : (Pos → Chain → Type 0) → GridBox → Row → Type 0
 HoldsAllowed Allows root row =
     (p : Pos) (c : Chain) → box_holds root p ≡ true → Allows p c → HoldsChain row c
 
+-- the spans hold the ends of the error
+pub record HoldEnds (low high : Span) (c : Chain) : Type 0 where
+  pub lo : Between low.lo low.hi c.lo
+  pub hi : Between high.lo high.hi c.hi
+
 -- a span is at most W wide
 abbrev pub IsTight : GridBox → Span → Type 0
 IsTight root span = (span.hi -ℤ span.lo) ≤ℤ pos (spare_of root)
 
--- for what a source says of the satellites that were observed at a time
+-- the span of a row's low ends of the error, and that of its high ends, are at most G wide
+pub record AreBoundsTight (root : GridBox) (zenith : Option Span) (row : Row) : Type 0 where
+  pub low : (row.sure_lo -ℤ row.err.lo) ≤ℤ pos (err_spare_of root zenith)
+  pub high : (row.err.hi -ℤ row.sure_hi) ≤ℤ pos (err_spare_of root zenith)
+
+-- the ends of the error are these alone
+pub record HasBounds (row : Row) (declared : ℤ × ℤ) : Type 0 where
+  pub err : ends row.err ≡ declared
+  pub sure : (row.sure_lo, row.sure_hi) ≡ declared
+
+-- for what a source says of the satellites that were observed at a time, in a search box
 module _ (m : Meaning) (root : GridBox) (tag : ℤ) where
-  -- a row of a usable satellite over a root: it holds what is allowed, each span is at most W wide,
-  -- and the error is the declared one
+  -- a row of a usable satellite: it holds what is allowed, each span is at most W wide, those of the
+  -- ends of the error are at most G wide, and these are the declared ones where no delay at the
+  -- zenith is mapped
   pub record IsOwnRow (seen : SatObs) (row : Row) : Type 0 where
     pub holds : HoldsAllowed (m.allows tag seen) root row
     pub x : IsTight root row.x
     pub y : IsTight root row.y
     pub z : IsTight root row.z
     pub range : IsTight root row.range
-    pub err : ends row.err ≡ m.declared seen.sat
+    pub bounds : AreBoundsTight root m.zenith row
+    pub plain : m.zenith ≡ None → HasBounds row (m.declared seen.sat)
 
   -- the line of a satellite: an own row where it is usable, else why it isn't
   abbrev pub IsOwnLine : SatObs → SatLine → Type 0
-  IsOwnLine seen (Usable row) = (row.sat ≡ seen.sat) × m.judged tag seen None × IsOwnRow seen row
-  IsOwnLine seen (Skipped sat skip) = (sat ≡ seen.sat) × m.judged tag seen (Some skip)
+  IsOwnLine seen (Usable row) = (row.sat ≡ seen.sat) × m.judged root tag seen None × IsOwnRow seen row
+  IsOwnLine seen (Skipped sat skip) = (sat ≡ seen.sat) × m.judged root tag seen (Some skip)
 
   -- one for each satellite, in order
   abbrev pub AreOwnLines : List SatObs → List SatLine → Type 0
@@ -81,6 +101,8 @@ pub record IsSmallRow (row : Row) : Type 0 where
   pub z : IsSmall (56 * 10 ^ 12) row.z
   pub range : IsSmall (56 * 10 ^ 12) row.range
   pub err : IsSmall (10 ^ 10) row.err
+  pub sure_lo : IsWithin (10 ^ 10) row.sure_lo
+  pub sure_hi : IsWithin (10 ^ 10) row.sure_hi
 
 abbrev pub IsSmallLine : SatLine → Type 0
 IsSmallLine (Usable row) = IsSmallRow row

@@ -7,11 +7,13 @@ use Rattle.sat_rows.specs.Chains.{IsChainAt}
 use Rattle.sat_rows.specs.Meanings.{Meaning}
 use Rattle.usable_sats.specs.Usability.{sighting, IsJudged}
 
--- a satellite is usable by the six tests, the equations allow values of it, and the settings
--- declare its error
+-- a satellite is usable by the seven tests, the equations allow values of it, and the settings
+-- declare its error and the delay at the zenith
 abbrev pub gps_meaning : List NavRecord → Settings → Meaning
 gps_meaning records settings = record {
-  judged = λ tag seen. IsJudged (sighting records settings tag seen);
-  allows = λ tag seen. IsChainAt (sighting records settings tag seen);
+  judged = λ root tag seen. IsJudged settings.zenith root (sighting records settings tag seen);
+  allows = λ tag seen. IsChainAt (sighting records settings tag seen) settings.zenith
+      (bound_for seen.sat (value_of_settings settings));
   declared = λ sat. bound_for sat (value_of_settings settings);
+  zenith = settings.zenith;
 }

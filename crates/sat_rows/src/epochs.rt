@@ -2,6 +2,7 @@
 
 ghost use Rattle.std.specs.Prelude.{◌≡◌, IfOk};
 ghost use Rattle.sat_model.specs.Boxes.{grid_box};
+ghost use Rattle.sat_model.specs.SearchBoxes.{IsSearchBox};
 ghost use Rattle.sat_rows.specs.OwnRows.{IsOwnLine, IsSmallLine, AreLinesOf, AreSmall, usable_in, usable_line};
 ghost use Rattle.sat_rows.specs.Sources.{gps_meaning};
 
@@ -23,6 +24,7 @@ pub fn rows(
     settings: &Settings,
     root: &Box3,
 ) -> Result<EpochRows, NoMemory>
+    requires root { IsSearchBox (grid_box root.now) }
     ensures lines { IfOk result (λ rows.
         AreLinesOf (gps_meaning nav.now settings.now) (grid_box root.now) epoch.now
         rows.lines.items) }
@@ -41,14 +43,19 @@ pub fn rows(
 
 /// The line of a satellite of the epoch.
 fn line_of(seen: &SatObs, epoch: &ObsEpoch, nav: &Nav, settings: &Settings, root: &Box3) -> SatLine
+    requires root { IsSearchBox (grid_box root.now) }
     ensures own { IsOwnLine (gps_meaning nav.now settings.now)
         (grid_box root.now) epoch.now.tag seen.now result }
     ensures small { IsSmallLine result }
 {
-    match judge_satellite(seen, epoch, nav, settings) {
+    match judge_satellite(seen, epoch, nav, settings, root) {
         Judgement::Usable { codes, elements } => {
-            let err = settings.bound_of(seen.sat);
-            SatLine::Usable(row_of(seen.sat, epoch.tag, &codes, &elements, err, root))
+            let declared = settings.bound_of(seen.sat);
+            let zenith = settings.zenith;
+            let row = row_of(
+                seen.sat, epoch.tag, &codes, &elements, declared, zenith, root,
+            );
+            SatLine::Usable(row)
         }
         Judgement::Skipped(skip) => SatLine::Skipped {
             sat: seen.sat,

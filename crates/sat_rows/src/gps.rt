@@ -6,7 +6,7 @@ use crate::source::RowSource;
 use error_bounds::Settings;
 use rinex_nav::Nav;
 use rinex_obs::ObsEpoch;
-use sat_model::{Box3, NoMemory};
+use sat_model::{Box3, NoMemory, Span};
 use std::alloc::Global;
 
 /// The rows that a navigation file and settings give.
@@ -24,6 +24,10 @@ impl<'a> RowSource for GpsRows<'a> {
 
     fn lines(&self, alloc: Global, epoch: &ObsEpoch, root: &Box3) -> Result<EpochRows, NoMemory> {
         rows(alloc, epoch, self.nav, self.settings, root)
+    }
+
+    fn zenith(&self) -> Option<Span> {
+        self.settings.zenith
     }
 
     ghost sound = { λ source. gps_sound source.nav.now source.settings.now };

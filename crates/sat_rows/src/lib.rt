@@ -2,6 +2,7 @@
 //! a satellite at every grid point of the search box, or why the satellite isn't used.
 #![tactic(auto)]
 
+mod bounds;
 mod epochs;
 mod gps;
 mod growth;
@@ -13,6 +14,7 @@ mod source;
 mod span_tests;
 mod spans;
 
+pub use elevation_mapping::mapped;
 pub use epochs::rows;
 pub use gps::GpsRows;
 pub use growth::grown;

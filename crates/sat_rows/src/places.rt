@@ -1,14 +1,16 @@
 //! The satellite's place when it sent, and as seen from a box.
 
-ghost use Rattle.std.specs.Prelude.{ℕ, ◌≡◌, ℤ, pos, ◌-ℤ◌, ◌≤ℤ◌, true};
+ghost use Rattle.std.specs.Prelude.{ℕ, ◌≡◌, ◌*◌, ◌^◌, ℤ, pos, ◌-ℤ◌, ◌≤ℤ◌, true};
 ghost use Rattle.broadcast_orbit.specs.OrbitSizes.{time_width};
-ghost use Rattle.earth_rotation.specs.Places.{HoldsPlace, PlaceEnds};
+ghost use Rattle.elevation_mapping.specs.Places.{IsFarFromPlace};
+ghost use Rattle.fix_interval.specs.Places.{HoldsPlace, PlaceEnds};
 ghost use Rattle.earth_rotation.specs.TurnSizes.{near_reach, narrow_width, reach_after};
 ghost use Rattle.fix_interval.specs.Factors.{Holds};
 ghost use Rattle.sat_model.specs.Boxes.{grid_box, box_holds};
 ghost use Rattle.sat_model.specs.Lengths.{spare_of};
 ghost use Rattle.sat_model.specs.MeanMotion.{MeanMotion};
 ghost use Rattle.sat_model.specs.OrbitChain.{OrbitChain};
+ghost use Rattle.sat_model.specs.SearchBoxes.{IsSearchBox};
 ghost use Rattle.sat_model.specs.Turn.{Turn};
 ghost use Rattle.sat_model.specs.declared.boxes.Pos.{Pos};
 ghost use Rattle.sat_rows.specs.RowSizes.{IsNearOrbit};
@@ -30,14 +32,16 @@ fn sent_place(el: &Elements, t: Exact) -> Place
     place(el, mean_motion(el), t)
 }
 
-/// The same as seen from the points of the box.
+/// The same as seen from the points of the box, which are at least 5,000 km away.
 pub(crate) fn seen_place(el: &Elements, t: Exact, root: &Box3) -> Place
     requires near { IsNearOrbit el.now t.lo t.hi }
     requires width { (t.hi -ℤ t.lo) ≤ℤ pos time_width }
+    requires root { IsSearchBox (grid_box root.now) }
     ensures holds { (p : Pos) (n time x y z tx ty : ℤ) (r : ℕ)
         → box_holds (grid_box root.now) p ≡ true → MeanMotion el.now n → Holds t time
         → OrbitChain el.now n time x y z → Turn p x y z tx ty r → HoldsPlace result tx ty z }
     ensures ends { PlaceEnds (reach_after near_reach) (spare_of (grid_box root.now)) result }
+    ensures far { IsFarFromPlace (5 * 10 ^ 12) result (grid_box root.now) }
 {
     let unturned = sent_place(el, t);
     turned(unturned, root)

@@ -2,12 +2,14 @@
 
 ghost use Rattle.std.specs.Prelude.{◌≡◌, IfOk};
 ghost use Rattle.sat_model.specs.Boxes.{grid_box};
+ghost use Rattle.sat_model.specs.SearchBoxes.{IsSearchBox};
+ghost use Rattle.sat_model.specs.Zenith.{IsZenith};
 ghost use Rattle.sat_rows.specs.Meanings.{Meaning, IsSound};
 ghost use Rattle.sat_rows.specs.OwnRows.{AreLinesOf, AreSmall, usable_in};
 
 use crate::lines::EpochRows;
 use rinex_obs::ObsEpoch;
-use sat_model::{Box3, NoMemory};
+use sat_model::{Box3, NoMemory, Span};
 use std::alloc::Global;
 
 /// Says of the satellites of an epoch which are usable and what is allowed of them, and gives rows
@@ -19,10 +21,17 @@ pub trait RowSource {
     /// One line for each satellite, in order: a row that is its own over the root, or why it isn't
     /// usable.
     fn lines(&self, alloc: Global, epoch: &ObsEpoch, root: &Box3) -> Result<EpochRows, NoMemory>
+        requires root { IsSearchBox (grid_box root.now) }
         ensures lines { IfOk result (λ rows.
             AreLinesOf (meaning self.now) (grid_box root.now) epoch.now rows.lines.items) }
         ensures small { IfOk result (λ rows. AreSmall rows.lines.items) }
         ensures usable { IfOk result (λ rows. rows.usable ≡ usable_in rows.lines.items) };
+
+    /// The span of the troposphere's delay at the zenith, in um, by which it maps the bounds of the
+    /// error.
+    fn zenith(&self) -> Option<Span>
+        ensures value { result ≡ (meaning self.now).zenith }
+        ensures within { IsZenith result };
 
     /// That judges each satellite in one way, and allows something of a usable one.
     ghost sound: { (source : Self) → IsSound (meaning source) };

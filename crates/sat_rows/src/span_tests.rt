@@ -1,12 +1,18 @@
-ghost use Rattle.std.specs.Prelude.{◌≡◌, pos, ◌+ℤ◌};
+ghost use Rattle.std.specs.Prelude.{◌≡◌, ◌^◌, pos, ◌+ℤ◌};
+ghost use Rattle.sat_model.specs.Boxes.{grid_box};
+ghost use Rattle.sat_model.specs.SearchBoxes.{IsSearchBox};
+ghost use Rattle.sat_model.specs.Sizes.{IsWithin};
 ghost use Rattle.usable_sats.specs.Measured.{codes_of};
 ghost use Rattle.sat_rows.specs.OwnRows.{IsSmallRow};
 ghost use Rattle.sat_rows.specs.RowSizes.{AreNarrow};
 ghost use Rattle.usable_sats.specs.Usability.{ArePlausible};
 
-use crate::grown;
 use crate::spans::row_of;
+use crate::{grown, mapped};
+use elevation_mapping::is_far_from_origin;
+use fix_interval::{Exact, Place};
 use sat_model::{Box3, Elements, Pos, Row, Sat, Span, Wide};
+use std::process::Abort;
 use usable_sats::Measured;
 
 /// 2024-01-07 00:00:00, a Sunday, in ps.
@@ -62,14 +68,11 @@ fn circle() -> Elements
     }
 }
 
-/// What was received 0.07 s after the ephemeris time, over a cube of 2 m round a point of the
-/// equator.
-fn seen_by(codes: &Measured) -> Row
-    requires plausible { ArePlausible (codes_of codes.now) }
-    requires narrow { AreNarrow (codes_of codes.now) }
-    ensures { IsSmallRow result }
+/// A cube of 2 m round a point of the equator.
+fn around() -> Box3
+    ensures { IsSearchBox (grid_box result) }
 {
-    let root = Box3 {
+    Box3 {
         lo: Pos {
             x: 6_378_136_000_000,
             y: -1_000_000,
@@ -80,19 +83,25 @@ fn seen_by(codes: &Measured) -> Row
             y: 1_000_000,
             z: 1_000_000,
         },
-    };
-    let sat = Sat {
-        system: b'G',
-        number: 1,
-    };
-    row_of(
-        sat,
-        WEEK_START + 70_000_000_000,
-        codes,
-        &circle(),
-        ERROR,
-        &root,
-    )
+    }
+}
+
+/// A satellite overhead.
+const SAT: Sat = Sat {
+    system: b'G',
+    number: 1,
+};
+
+/// When it was received: 0.07 s after the ephemeris time.
+const TAG: i128 = WEEK_START + 70_000_000_000;
+
+/// What was received over the cube.
+fn seen_by(codes: &Measured) -> Row
+    requires plausible { ArePlausible (codes_of codes.now) }
+    requires narrow { AreNarrow (codes_of codes.now) }
+    ensures { IsSmallRow result }
+{
+    row_of(SAT, TAG, codes, &circle(), ERROR, None, &around())
 }
 
 fn holds(span: Span, n: i64) -> bool {
@@ -118,13 +127,75 @@ fn a_satellite_overhead_with_one_code_and_with_two(rt: HostRuntime) {
         assert!(rt; row.y.hi <= -135_894_000, "no less far");
         assert!(rt; holds(row.z, 0), "over the equator");
         assert_eq!(rt; row.err, ERROR, "the error");
+        assert_eq!(rt;
+            (row.sure_lo, row.sure_hi),
+            (ERROR.lo, ERROR.hi),
+            "its ends"
+        );
     }
+}
+
+/// A row by a delay at the zenith alone.
+fn seen_through(rt: &impl Abort, zenith: Span) -> Row
+    requires low { IsWithin (10 ^ 7) zenith.lo }
+    requires high { IsWithin (10 ^ 7) zenith.hi }
+{
+    let root = around();
+    assert!(rt; is_far_from_origin(&root), "high enough");
+    let codes = Measured::Single(exact(RANGE));
+    let none = Span { lo: 0, hi: 0 };
+    row_of(SAT, TAG, &codes, &circle(), none, Some(zenith), &root)
+}
+
+#[test]
+fn delays_of_a_satellite_overhead(rt: HostRuntime) {
+    // The sine of its elevation is 2 * 10^-11 less than 1, and so a delay is hardly more.
+    let zenith = Span {
+        lo: 2_000_000,
+        hi: 2_500_000,
+    };
+    let row = seen_through(&rt, zenith);
+    for delay in [2_000_000, 2_000_001] {
+        assert!(rt; holds(row.low_bounds(), delay), "a low end");
+    }
+    for delay in [2_500_000, 2_500_001] {
+        assert!(rt; holds(row.high_bounds(), delay), "a high end");
+    }
+    assert!(rt; row.err.lo >= 1_998_000, "no less than that");
+    assert!(rt; row.err.hi <= 2_502_000, "and no more");
+}
+
+#[test]
+fn the_mapping_of_a_satellite_on_the_horizon(rt: HostRuntime) {
+    let place = Place {
+        x: Exact {
+            lo: 6_378_137_000_000,
+            hi: 6_378_137_000_000,
+        },
+        y: Exact {
+            lo: 20_000_000_000_000,
+            hi: 20_000_000_000_000,
+        },
+        z: Exact { lo: 0, hi: 0 },
+    };
+    let point = Pos {
+        x: 6_378_137_000_000,
+        y: 0,
+        z: 0,
+    };
+    let part = Box3 {
+        lo: point,
+        hi: point,
+    };
+    let found = mapped(place, &part);
+    assert!(rt; 223_773_000_000_000_000 <= found.lo, "no less");
+    assert!(rt; found.hi <= 223_776_000_000_000_000, "no more");
 }
 
 #[test]
 fn growth_is_at_both_ends(rt: HostRuntime) {
     let row = seen_by(&Measured::Single(exact(RANGE)));
-    let wide = grown(&row, 3);
+    let wide = grown(&row, 3, 2);
     for (span, more) in [
         (row.x, wide.x),
         (row.y, wide.y),
@@ -134,6 +205,12 @@ fn growth_is_at_both_ends(rt: HostRuntime) {
         assert_eq!(rt; more.lo.checked_add(3), Some(span.lo));
         assert_eq!(rt; span.hi.checked_add(3), Some(more.hi));
     }
-    assert_eq!(rt; wide.err, row.err, "the same error");
+    for (span, more) in [
+        (row.low_bounds(), wide.low_bounds()),
+        (row.high_bounds(), wide.high_bounds()),
+    ] {
+        assert_eq!(rt; more.lo.checked_add(2), Some(span.lo));
+        assert_eq!(rt; span.hi.checked_add(2), Some(more.hi));
+    }
     assert_eq!(rt; wide.sat, row.sat, "the same satellite");
 }

@@ -1,16 +1,20 @@
-//! The row of a satellite: spans of its place and of its corrected pseudorange over a search box.
+//! The row of a satellite: spans of its place, of its corrected pseudorange and of the ends of its
+//! error over a search box.
 
-ghost use Rattle.std.specs.Prelude.{◌≡◌, ◌*◌, ◌^◌, pos, ◌≤ℤ◌, ◌<ℤ◌};
+ghost use Rattle.std.specs.Prelude.{◌≡◌, None, ◌*◌, ◌^◌, pos, ◌≤ℤ◌, ◌<ℤ◌};
 ghost use Rattle.sat_model.specs.Boxes.{grid_box};
 ghost use Rattle.sat_model.specs.RecordBounds.{time_bound};
 ghost use Rattle.sat_model.specs.Relaxed.{ends};
+ghost use Rattle.sat_model.specs.SearchBoxes.{IsSearchBox};
 ghost use Rattle.sat_model.specs.Sizes.{IsPlaceSize};
-ghost use Rattle.sat_rows.specs.Chains.{IsChainOf};
+ghost use Rattle.sat_model.specs.Zenith.{IsZenith};
+ghost use Rattle.sat_rows.specs.Chains.{AreValues};
 ghost use Rattle.usable_sats.specs.Measured.{codes_of};
-ghost use Rattle.sat_rows.specs.OwnRows.{HoldsAllowed, IsTight, IsSmall, IsSmallRow};
+ghost use Rattle.sat_rows.specs.OwnRows.{HoldsAllowed, HasBounds, AreBoundsTight, IsTight, IsSmall, IsSmallRow};
 ghost use Rattle.sat_rows.specs.RowSizes.{AreNarrow, IsNearEpoch};
-ghost use Rattle.usable_sats.specs.Usability.{ArePlausible};
+ghost use Rattle.usable_sats.specs.Usability.{ArePlausible, IsHigh};
 
+use crate::bounds::bounds_over;
 use crate::places::seen_place;
 use crate::signals::{clock, corrected_range, of_one_code, pseudorange};
 use fix_interval::Exact;
@@ -32,13 +36,16 @@ fn span_of(x: Exact) -> Span
 
 /// The row of a satellite whose signal came at `tag` by the receiver's clock, in ps since
 /// 1980-01-06 00:00:00 GPS time and within 14,401 s of the ephemeris time: it holds whatever the
-/// equations allow as seen from the points of the box.
+/// equations allow as seen from the points of the box. `declared`, in um, is the sum of the spans
+/// that are declared for its error, and `zenith` the span of the troposphere's delay at the zenith,
+/// where one is mapped and added.
 pub(crate) fn row_of(
     sat: Sat,
     tag: i128,
     codes: &Measured,
     el: &Elements,
-    err: Span,
+    declared: Span,
+    zenith: Option<Span>,
     root: &Box3,
 ) -> Row
     requires tag_from { pos 0 ≤ℤ tag }
@@ -46,29 +53,40 @@ pub(crate) fn row_of(
     requires plausible { ArePlausible (codes_of codes.now) }
     requires narrow { AreNarrow (codes_of codes.now) }
     requires near { IsNearEpoch el.now tag }
-    requires small_err { IsSmall (10 ^ 10) err }
+    requires small { IsSmall (5 * 10 ^ 9) declared }
+    requires zenith { IsZenith zenith }
+    requires root { IsSearchBox (grid_box root.now) }
+    requires high { IsHigh zenith (grid_box root.now) }
     ensures sat { result.sat ≡ sat }
-    ensures err { ends result.err ≡ ends err }
-    ensures holds { HoldsAllowed
-        (IsChainOf (record { tag = tag; codes = codes_of codes.now; el = el.now }))
-        (grid_box root.now) result }
+    ensures holds { HoldsAllowed (AreValues zenith (ends declared)
+        (record { tag = tag; codes = codes_of codes.now; el = el.now })) (grid_box root.now) result }
 
     // Each span is at most 2,000 um and a 40,000th of the longest side of the box wide.
     ensures x_tight { IsTight (grid_box root.now) result.x }
     ensures y_tight { IsTight (grid_box root.now) result.y }
     ensures z_tight { IsTight (grid_box root.now) result.z }
     ensures range_tight { IsTight (grid_box root.now) result.range }
+
+    // The spans of the ends of the error are at most as wide as the delay at the zenith spreads.
+    ensures bounds_tight { AreBoundsTight (grid_box root.now) zenith result }
+    ensures plain { zenith ≡ None → HasBounds result (ends declared) }
     ensures small { IsSmallRow result }
 {
     let range = pseudorange(codes);
     let sending = clock(tag, range, el, of_one_code(codes));
     let place = seen_place(el, sending.t, root);
+    let bounds = bounds_over(declared, zenith, place, root);
     Row {
         sat,
         x: span_of(place.x),
         y: span_of(place.y),
         z: span_of(place.z),
         range: span_of(corrected_range(range, sending.dt)),
-        err,
+        err: Span {
+            lo: bounds.low.lo,
+            hi: bounds.high.hi,
+        },
+        sure_lo: bounds.low.hi,
+        sure_hi: bounds.high.lo,
     }
 }

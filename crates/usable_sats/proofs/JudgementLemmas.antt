@@ -10,10 +10,12 @@ use Rattle.rinex_nav.specs.ElementsOf.{IsRounded, AreElements}
 use Rattle.rinex_nav.specs.FieldBounds.{IsFirstOutside}
 use Rattle.rinex_nav.specs.declared.record.NavRecord.{NavRecord}
 use Rattle.rinex_obs.specs.declared.obs.SatObs.{SatObs}
+use Rattle.sat_model.specs.Boxes.{GridBox}
 use Rattle.sat_model.specs.Pseudorange.{Codes}
 use Rattle.sat_model.specs.declared.satellites.Signal.{Signal}
 use Rattle.sat_model.specs.declared.satellites.Signal.TheVariants.{Single, Dual}
 use Rattle.sat_model.specs.declared.satellites.Skip.{Skip}
+use Rattle.sat_model.specs.declared.spans.Span.{Span}
 use Rattle.sat_model.specs.declared.spans.Wide.{Wide}
 use Rattle.usable_sats.proofs.ElementLemmas.{one_rounded, same_elements}
 use Rattle.usable_sats.specs.Usability.{Sighting, AreThere, HaveValue, IsMeasured, IsItsRecord, IsHealthy, IsFresh, IsFit, IsNearest, IsUsable, LacksFit, IsSkip, IsJudged}
@@ -165,8 +167,21 @@ module _ (a : Sighting) where
       ] in
       λ i. record { number = number i; field = field i }
 
-  pub judgement_one : (x y : Option Skip) → IsJudged a x → IsJudged a y → x ≡ y
-  judgement_one None None f g = refl
-  judgement_one None (Some t) f g = absurd (not_usable t g f)
-  judgement_one (Some s) None f g = absurd (not_usable s f g)
-  judgement_one (Some s) (Some t) f g = ap (λ (k : Skip). Some k) (one_skip s t f g)
+  not_both : (zenith : Option Span) (root : GridBox) (s : Skip) → IsJudged zenith root a (Some s) → IsJudged zenith root a None → ⊥
+  not_both zenith root s (inl f) (usable, high) = not_usable s f usable
+  not_both zenith root s (inr f) (usable, high) = f.low high
+
+  one_reason : (zenith : Option Span) (root : GridBox) (s t : Skip) → IsJudged zenith root a (Some s) → IsJudged zenith root a (Some t) → s ≡ t
+  one_reason zenith root s t (inl f) (inl g) = one_skip s t f g
+  one_reason zenith root s t (inl f) (inr g) = absurd (not_usable s f g.usable)
+  one_reason zenith root s t (inr f) (inl g) = absurd (not_usable t g f.usable)
+  one_reason zenith root s t (inr f) (inr g) =
+      let number = f.number ∙ sym g.number in
+      let field = f.field ∙ sym g.field in
+      λ i. record { number = number i; field = field i }
+
+  pub judgement_one : (zenith : Option Span) (root : GridBox) (x y : Option Skip) → IsJudged zenith root a x → IsJudged zenith root a y → x ≡ y
+  judgement_one zenith root None None f g = refl
+  judgement_one zenith root None (Some t) f g = absurd (not_both zenith root t g f)
+  judgement_one zenith root (Some s) None f g = absurd (not_both zenith root s f g)
+  judgement_one zenith root (Some s) (Some t) f g = ap (λ (k : Skip). Some k) (one_reason zenith root s t f g)

@@ -1,9 +1,11 @@
 -- What a satellite is judged to be.
-use Rattle.std.specs.Prelude.{◌≡◌}
+use Rattle.std.specs.Prelude.{◌≡◌, Option, Some}
+use Rattle.sat_model.specs.Boxes.{GridBox}
 use Rattle.sat_model.specs.Pseudorange.{Codes}
 use Rattle.sat_model.specs.declared.elements.Elements.{Elements}
+use Rattle.sat_model.specs.declared.spans.Span.{Span}
 use Rattle.usable_sats.specs.Measured.{codes_of}
-use Rattle.usable_sats.specs.Usability.{Sighting, IsUsable, IsSkip}
+use Rattle.usable_sats.specs.Usability.{Sighting, IsUsable, IsSkip, IsHigh, IsJudged}
 use Rattle.usable_sats.specs.declared.judging.Judgement.{Judgement}
 use Rattle.usable_sats.specs.declared.judging.Judgement.TheVariants.{Usable, Skipped}
 
@@ -13,6 +15,12 @@ pub record IsKnownBy (a : Sighting) (codes : Codes) (el : Elements) : Type 0 whe
   pub codes_are : usable.measured.codes ≡ codes
   pub el_is : usable.el ≡ el
 
-abbrev pub IsJudgement : Sighting → Judgement → Type 0
-IsJudgement a (Usable codes el) = IsKnownBy a (codes_of codes) el
-IsJudgement a (Skipped skip) = IsSkip a skip
+-- by the tests of the satellite itself
+abbrev pub IsOwnJudgement : Sighting → Judgement → Type 0
+IsOwnJudgement a (Usable codes el) = IsKnownBy a (codes_of codes) el
+IsOwnJudgement a (Skipped skip) = IsSkip a skip
+
+-- and by that of the search box, for the delay at the zenith that is declared
+abbrev pub IsJudgement : Option Span → GridBox → Sighting → Judgement → Type 0
+IsJudgement zenith root a (Usable codes el) = IsKnownBy a (codes_of codes) el × IsHigh zenith root
+IsJudgement zenith root a (Skipped skip) = IsJudged zenith root a (Some skip)

@@ -1,5 +1,5 @@
--- Which satellites of an epoch are used, and by which record: six tests in their order. The choice
--- is made from the whole list of records.
+-- Which satellites of an epoch are used, and by which record: seven tests in their order, six of the
+-- satellite itself and one of the search box. The choice is made from the whole list of records.
 use Rattle.std.specs.Prelude.{ℕ, ◌*◌, ◌^◌, ◌≤◌, ◌≡◌, ◌⊎◌, ℤ, pos, ◌-ℤ◌, ◌*ℤ◌, ◌≤ℤ◌, true, List, Option, None, Some, slice_get}
 use Rattle.error_bounds.specs.declared.settings.Settings.{Settings}
 use Rattle.exact_decimal.specs.declared.decimal.Decimal.{Decimal}
@@ -9,11 +9,14 @@ use Rattle.rinex_nav.specs.FieldBounds.{AreInside, IsFirstOutside}
 use Rattle.rinex_nav.specs.Weeks.{IsAge}
 use Rattle.rinex_nav.specs.declared.record.NavRecord.{NavRecord}
 use Rattle.rinex_obs.specs.declared.obs.SatObs.{SatObs}
+use Rattle.sat_model.specs.Boxes.{GridBox}
 use Rattle.sat_model.specs.Pseudorange.{Codes}
+use Rattle.sat_model.specs.SearchBoxes.{IsFarFromOrigin}
 use Rattle.sat_model.specs.declared.elements.Elements.{Elements}
 use Rattle.sat_model.specs.declared.satellites.Signal.{Signal}
 use Rattle.sat_model.specs.declared.satellites.Signal.TheVariants.{Single, Dual}
 use Rattle.sat_model.specs.declared.satellites.Skip.{Skip}
+use Rattle.sat_model.specs.declared.spans.Span.{Span}
 use Rattle.sat_model.specs.declared.spans.Wide.{Wide}
 
 -- what was observed of a satellite at a time, by the receiver's clock in ps, and what it is judged
@@ -117,7 +120,7 @@ pub record IsNearest (Meets : ℕ → NavRecord → ℤ → Type 0) (i : ℕ) (r
 
 -- ---- usable satellites
 
--- no test fails, and this is what the satellite is known by
+-- no test of the satellite itself fails, and this is what it is known by
 pub record IsUsable (a : Sighting) : Type 0 where
   pub measured : IsMeasured a
   pub i : ℕ
@@ -176,7 +179,25 @@ IsSkip a skip =
     ⊎ (((skip.number ≡ 5) × (skip.field ≡ 0) × LacksFresh a)
     ⊎ ((skip.number ≡ 6) × LacksFit a skip.field)))))
 
--- the satellite is usable, or this is why it isn't
-abbrev pub IsJudged : Sighting → Option Skip → Type 0
-IsJudged a None = IsUsable a
-IsJudged a (Some skip) = IsSkip a skip
+-- ---- the search box
+
+-- a bound can be mapped by elevation at points that are at least 6,000 km from the origin, in um;
+-- without a delay at the zenith none is mapped
+abbrev pub IsHigh : Option Span → GridBox → Type 0
+IsHigh None root = Unit {0}
+IsHigh (Some zenith) root = IsFarFromOrigin (6 * 10 ^ 12) root
+
+-- 7: nothing else is wrong, but the search box comes too near to the origin
+pub record IsTooLow (zenith : Option Span) (root : GridBox) (a : Sighting)
+    (skip : Skip) : Type 0 where
+  pub usable : IsUsable a
+  pub low : IsHigh zenith root → ⊥
+  pub number : skip.number ≡ 7
+  pub field : skip.field ≡ 0
+
+-- ---- the judgement
+
+-- the satellite is usable in the search box, or this is why it isn't
+abbrev pub IsJudged : Option Span → GridBox → Sighting → Option Skip → Type 0
+IsJudged zenith root a None = IsUsable a × IsHigh zenith root
+IsJudged zenith root a (Some skip) = IsSkip a skip ⊎ IsTooLow zenith root a skip

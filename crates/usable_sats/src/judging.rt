@@ -1,16 +1,18 @@
 //! The judgement of a satellite.
 
-ghost use Rattle.std.specs.Prelude.{◌≡◌};
-ghost use Rattle.usable_sats.specs.Judgements.{IsJudgement};
-ghost use Rattle.usable_sats.specs.Usability.{sighting};
+ghost use Rattle.std.specs.Prelude.{◌≡◌, ◌↔◌, IsTrue};
+ghost use Rattle.sat_model.specs.Boxes.{grid_box};
+ghost use Rattle.usable_sats.specs.Judgements.{IsOwnJudgement, IsJudgement};
+ghost use Rattle.usable_sats.specs.Usability.{IsHigh, sighting};
 ghost use Rattle.usable_sats.specs.declared.judging.Judgement.TheVariants.{Skipped};
 
 use crate::choice::{Choice, choose};
 use crate::codes::{Measured, Reading, read_codes};
+use elevation_mapping::is_far_from_origin;
 use error_bounds::Settings;
 use rinex_nav::Nav;
 use rinex_obs::{ObsEpoch, SatObs};
-use sat_model::{Elements, Skip};
+use sat_model::{Box3, Elements, Skip};
 
 /// The number of the first test of a satellite: the wanted codes are there.
 const CODE_MISSING: u8 = 1;
@@ -30,6 +32,10 @@ const NONE_FRESH: u8 = 5;
 /// ... and one of these with all fields within their bounds.
 const NONE_FIT: u8 = 6;
 
+/// The number of the last test: where the bound of the troposphere is mapped by elevation, the
+/// search box is far enough from the origin.
+const LOW_PLACE: u8 = 7;
+
 /// What is known of a satellite that is usable, or why it isn't used.
 #[derive(Clone, Copy, Debug, PartialEq, Eq)]
 pub enum Judgement {
@@ -37,9 +43,9 @@ pub enum Judgement {
     Skipped(Skip),
 }
 
-/// Judges a satellite of the epoch by the records and the settings.
-pub fn judge_satellite(seen: &SatObs, epoch: &ObsEpoch, nav: &Nav, settings: &Settings) -> Judgement
-    ensures { IsJudgement (sighting nav.now settings.now epoch.now.tag seen.now) result }
+/// Judges a satellite of the epoch by the records and the settings, wherever the receiver is.
+fn judge_itself(seen: &SatObs, epoch: &ObsEpoch, nav: &Nav, settings: &Settings) -> Judgement
+    ensures { IsOwnJudgement (sighting nav.now settings.now epoch.now.tag seen.now) result }
 {
     let codes = match read_codes(seen, &settings.signal) {
         Reading::Missing => return skipped(CODE_MISSING),
@@ -55,6 +61,40 @@ pub fn judge_satellite(seen: &SatObs, epoch: &ObsEpoch, nav: &Nav, settings: &Se
             field,
         }),
         Choice::Fit { elements, .. } => Judgement::Usable { codes, elements },
+    }
+}
+
+/// Whether a bound that the settings map by elevation can be mapped at all points of the search box.
+fn is_high(settings: &Settings, root: &Box3) -> bool
+    ensures { IsTrue result ↔ IsHigh settings.now.zenith (grid_box root.now) }
+{
+    match settings.zenith {
+        Some(_) => is_far_from_origin(root),
+        None => true,
+    }
+}
+
+/// Judges a satellite of the epoch by the records and the settings, for a receiver in the search
+/// box.
+pub fn judge_satellite(
+    seen: &SatObs,
+    epoch: &ObsEpoch,
+    nav: &Nav,
+    settings: &Settings,
+    root: &Box3,
+) -> Judgement
+    ensures { IsJudgement settings.now.zenith (grid_box root.now)
+        (sighting nav.now settings.now epoch.now.tag seen.now) result }
+{
+    match judge_itself(seen, epoch, nav, settings) {
+        Judgement::Skipped(skip) => Judgement::Skipped(skip),
+        Judgement::Usable { codes, elements } => {
+            if is_high(settings, root) {
+                Judgement::Usable { codes, elements }
+            } else {
+                skipped(LOW_PLACE)
+            }
+        }
     }
 }
 

@@ -3,7 +3,7 @@ use error_bounds::read_settings;
 use exact_decimal::Decimal;
 use rinex_nav::{Nav, read_nav};
 use rinex_obs::{ObsEpoch, SatObs};
-use sat_model::{Sat, Skip, Wide};
+use sat_model::{Box3, Pos, Sat, Skip, Wide};
 use std::alloc::{AllocError, Global};
 use std::test::Fail;
 
@@ -104,10 +104,68 @@ ionosphere = [0, 0]
 troposphere = [0, 0]
 ";
 
+/// The same with a delay at the zenith.
+const MAPPED: &str = "[search]
+centre = \"header\"
+half = 1000
+outliers = 1
+bisections = 0
+width = 1000
+max_age = 7200
+[signal]
+mode = \"single\"
+codes = [\"C1C\"]
+[bounds]
+receiver = [0, 0]
+orbit_clock = [0, 0]
+ionosphere = [0, 0]
+troposphere = [0, 0]
+zenith = [1800, 3000]
+";
+
+/// Two points on the x axis.
+const HIGH: Box3 = Box3 {
+    lo: Pos {
+        x: 6_000_000_000_000,
+        y: 0,
+        z: 0,
+    },
+    hi: Pos {
+        x: 6_000_000_000_001,
+        y: 0,
+        z: 0,
+    },
+};
+
+/// The lower of them, and the one below.
+const LOW: Box3 = Box3 {
+    lo: Pos {
+        x: 5_999_999_999_999,
+        y: 0,
+        z: 0,
+    },
+    hi: Pos {
+        x: 6_000_000_000_000,
+        y: 0,
+        z: 0,
+    },
+};
+
 /// What G01 is judged to be where it was observed with this code, in mm.
 fn judged(alloc: Global, code: Option<i64>, records: &[Ephemeris]) -> Result<Judgement, Fail> {
+    judged_in(alloc, code, records, SETTINGS, &LOW)
+}
+
+/// The same by these settings and in this search box.
+fn judged_in(
+    alloc: Global,
+    code: Option<i64>,
+    records: &[Ephemeris],
+    settings: &str,
+    root: &Box3,
+) -> Result<Judgement, Fail> {
     let nav = nav_of(alloc, records)?;
-    let settings = read_settings(alloc, SETTINGS.as_bytes())
+    let settings = read_settings(alloc, settings.as_bytes())
         .ok()
         .ok_or("settings")?;
     let seen = SatObs {
@@ -123,7 +181,7 @@ fn judged(alloc: Global, code: Option<i64>, records: &[Ephemeris]) -> Result<Jud
         tag: TAG,
         sats: Vec::new(alloc),
     };
-    Ok(judge_satellite(&seen, &epoch, &nav, &settings))
+    Ok(judge_satellite(&seen, &epoch, &nav, &settings, root))
 }
 
 #[test]
@@ -143,6 +201,35 @@ fn the_first_test_that_fails(rt: HostRuntime) -> Result<(), Fail> {
     ] {
         assert_eq!(rt; told, Judgement::Skipped(Skip { number, field }));
     }
+    Ok(())
+}
+
+#[test]
+fn a_bound_is_mapped_from_high_places_alone(rt: HostRuntime) -> Result<(), Fail> {
+    let alloc = rt.alloc();
+    let code = Some(15_000_000_000);
+    let low = judged_in(alloc, code, &[FRESH], MAPPED, &LOW)?;
+    assert_eq!(rt;
+        low,
+        Judgement::Skipped(Skip {
+            number: 7,
+            field: 0
+        })
+    );
+    for usable in [
+        judged_in(alloc, code, &[FRESH], MAPPED, &HIGH)?,
+        judged_in(alloc, code, &[FRESH], SETTINGS, &LOW)?,
+    ] {
+        assert!(rt; matches!(usable, Judgement::Usable { .. }), "usable");
+    }
+    let old = judged_in(alloc, code, &[OLD], MAPPED, &LOW)?;
+    assert_eq!(rt;
+        old,
+        Judgement::Skipped(Skip {
+            number: 5,
+            field: 0
+        })
+    );
     Ok(())
 }
 

@@ -1,7 +1,7 @@
 use Rattle.std.proofs.Common.{◌≡◌, List, arith, inl, refl}
 use Rattle.std.proofs.lemmas.Result.{err_from_is_err_and}
 use Rattle.sat_model.specs.Boxes.{GridBox, grid_box}
-use Rattle.sat_model.specs.Paved.{IsUndecided}
+use Rattle.sat_model.specs.Waiting.{IsUndecided}
 use Rattle.sat_model.specs.declared.rules.Rules.{Rules}
 use Rattle.sat_model.specs.declared.satellites.Row.{Row}
 use Rattle.sat_model.specs.declared.spans.Span.{Span}

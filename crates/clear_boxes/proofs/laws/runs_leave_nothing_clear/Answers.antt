@@ -4,5 +4,5 @@ use Rattle.clear_boxes.proofs.RunLemmas.{run_clear}
 use Rattle.clear_boxes.proofs.laws.runs_leave_nothing_clear.Goals as goal
 
 pub returns : goal.returns
-returns g c = λ source rules epoch root own sats steps are grown run.
-    run_clear (g.S.RowSource.meaning source) (g.met.S.RowSource.sound source) rules epoch (grid_box root) (grid_part root) own sats are grown steps run
+returns g c = λ source rules epoch root own sats steps box are grown run.
+    run_clear (g.S.RowSource.meaning source) (g.met.S.RowSource.sound source) rules epoch (grid_box root) box (grid_part root) own sats are grown steps run

@@ -4,7 +4,7 @@ use Rattle.fix_interval.specs.Factors.{Holds}
 use Rattle.earth_rotation.specs.RoundSizes.{turned_reach}
 use Rattle.sat_model.specs.Boxes.{grid_box}
 use Rattle.code_search.proofs.EndLemmas.{far_range}
-use Rattle.code_search.proofs.TurnKeeps.{turned_distance}
+use Rattle.broadcast_orbit.proofs.TurnKeeps.{turned_distance}
 use Rattle.code_search.specs.SearchSizes.{farthest_range}
 use Rattle.code_search.proofs.ResidualLemmas.{wider_place, from_point, point_range}
 use Rattle.code_search.proofs.residuals.seen_range.Goals as goal

@@ -1,14 +1,15 @@
 use Rattle.std.proofs.Common.{[], ◌∷◌}
 use Rattle.std.proofs.lemmas.Result.{err_from_is_err_and}
 use Rattle.command_words.specs.Seen.{files_asked}
+use Rattle.input_files.proofs.InputLemmas.{inputs_fair}
+use Rattle.input_files.proofs.ReadingLemmas.{found_err, found_then, found_return, named_fair}
+use Rattle.input_files.proofs.ReadingLemmas.{only_as, only_err, only_then}
+use Rattle.input_files.proofs.ReadingLemmas.{return_fair}
+use Rattle.input_files.specs.Inputs.{input_slots, inputs_value}
+use Rattle.input_files.specs.Logs.{log_text}
 use Rattle.outer_io.specs.declared.slots.Slot.TheVariants as slot
 use Rattle.paving_log.specs.Values.{log_value}
-use Rattle.cover_run.proofs.ReadingLemmas.{found_err, found_then, found_return, named_fair}
-use Rattle.cover_run.proofs.ReadingLemmas.{return_fair}
-use Rattle.cover_run.proofs.ReadingLemmas.{only_as, only_err, only_then}
-use Rattle.cover_run.proofs.TaskLemmas.{inputs_fair, log_fair}
-use Rattle.cover_run.specs.Inputs.{input_slots, inputs_value}
-use Rattle.cover_run.specs.Logs.{log_text}
+use Rattle.cover_run.proofs.TaskLemmas.{log_fair}
 use Rattle.cover_run.specs.declared.checked.Checked.{Checked}
 use Rattle.cover_run.proofs.checked.read_checked.Goals as goal
 

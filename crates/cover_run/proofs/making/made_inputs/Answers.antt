@@ -1,7 +1,7 @@
+use Rattle.input_files.proofs.PositionLemmas.{enough}
 use Rattle.made_input.specs.MadeCodes.{centre_x, centre_y, centre_z}
 use Rattle.made_texts.specs.SettingsText.{settings_of}
 use Rattle.cover_run.proofs.MadeLemmas.{nav_short, obs_for, obs_short, seen}
-use Rattle.cover_run.proofs.PositionLemmas.{enough}
 use Rattle.cover_run.proofs.making.made_inputs.Goals as goal
 
 pub faultless_settings-requires : goal.faultless_settings-requires

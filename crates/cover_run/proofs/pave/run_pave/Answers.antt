@@ -1,5 +1,7 @@
 use Rattle.std.proofs.Common.{ℕ, [], ◌∷◌, List, length, map, refl, ap, subst}
 use Rattle.std.specs.Vec.Iter.{into_iter_items}
+use Rattle.input_files.proofs.ReadingLemmas.{found_value, named_fair}
+use Rattle.input_files.specs.Logs.{rows_text}
 use Rattle.log_writer.proofs.MapLemmas.{text_map}
 use Rattle.log_writer.specs.RowsFrom.{of_rows}
 use Rattle.log_writer.specs.Sizes.{most_bytes}
@@ -8,10 +10,8 @@ use Rattle.log_writer.specs.declared.blocks.LogBlocks.{LogBlocks}
 use Rattle.outer_io.specs.declared.slots.Slot.TheVariants as slot
 use Rattle.paving_log.specs.Values.{block_of, log_value}
 use Rattle.sat_model.specs.Logs.{Block}
-use Rattle.cover_run.proofs.ReadingLemmas.{found_value, named_fair}
 use Rattle.cover_run.proofs.RunLemmas.{run_ok}
 use Rattle.cover_run.proofs.WritingLemmas.{writes_as, writes_behind, writes_suits, written_known}
-use Rattle.cover_run.specs.Logs.{rows_text}
 use Rattle.cover_run.specs.Paving.{IsPaved}
 use Rattle.cover_run.specs.Writing.{Answer}
 use Rattle.cover_run.proofs.pave.run_pave.Goals as goal

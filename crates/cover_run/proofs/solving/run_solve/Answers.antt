@@ -1,11 +1,11 @@
 use Rattle.std.proofs.Common.{refl}
 use Rattle.command_words.specs.Seen.{files_asked}
-use Rattle.cover_run.proofs.ReadingLemmas.{found_value}
+use Rattle.input_files.proofs.InputLemmas.{inputs_fair}
+use Rattle.input_files.proofs.ReadingLemmas.{found_value}
+use Rattle.input_files.specs.Inputs.{input_slots}
 use Rattle.cover_run.proofs.RunLemmas.{run_ok, run_err}
-use Rattle.cover_run.proofs.TaskLemmas.{inputs_fair}
 use Rattle.cover_run.proofs.WritingLemmas.{writes_behind, writes_suits, written_known}
 use Rattle.cover_run.specs.Chosen.{chosen_in}
-use Rattle.cover_run.specs.Inputs.{input_slots}
 use Rattle.cover_run.specs.Solving.{IsSolution}
 use Rattle.cover_run.proofs.solving.run_solve.Goals as goal
 

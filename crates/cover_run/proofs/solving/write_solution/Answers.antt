@@ -31,7 +31,7 @@ returns g c =
     (λ (left : EpochsLeft). IsText (gives_of i) rules left limit answer bytes said) left_is in
     writes_as [] _ _ _ _ limit _ _ _ (IsSolution chosen i limit)
     (λ answer bytes said text. solution_of chosen i c.root-root.result limit answer bytes said
-    c.root-root.ensures
+    c.root-root.ensures.value c.root-root.ensures.search_box
     (by_left answer bytes said
     (by_rules answer bytes said (by_source answer bytes said (text_of_epochs
     (λ x. x.source.now) (λ x. x.rules) (λ x. x.searches)

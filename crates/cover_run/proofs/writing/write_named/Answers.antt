@@ -1,7 +1,7 @@
 use Rattle.std.proofs.Common.{refl, ap, ◌∙◌}
+use Rattle.input_files.specs.Statuses.{status_of}
 use Rattle.outer_io.specs.declared.shelf.Phase.TheVariants.{Writing}
 use Rattle.cover_run.proofs.WritingLemmas.{wrote_all, wrote_first}
-use Rattle.cover_run.specs.Statuses.{status_of}
 use Rattle.cover_run.proofs.writing.write_named.Goals as goal
 
 pub returns-in-Ok-write_log : goal.returns-in-Ok-write_log
@@ -20,4 +20,4 @@ returns-in-Err-write_log g c =
     wrote_first c.args.name.now _ _ _ (g.H.Shelf.state c.create.new.self)
     (record { told = made.created; phases = (Writing, made.phase); later = made.cause.later })
     _ _ _ _ _ c.in-Err-write_log.fault w.text w.room w.counts w.trust
-    (say.status ∙ ap status_of c.of_writing.ensures) (rw c.of_writing.ensures at say.line)
+    (say.status ∙ ap status_of c.notice_of_fault.ensures) (rw c.notice_of_fault.ensures at say.line)

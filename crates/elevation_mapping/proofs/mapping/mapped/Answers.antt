@@ -11,7 +11,7 @@ use Rattle.sat_model.specs.Roots.{root}
 use Rattle.sat_model.proofs.RootLemmas.{root_is}
 use Rattle.sat_model.proofs.SquareLemmas.{greatest_square_le}
 use Rattle.sat_model.proofs.FittingLemmas.{in_box}
-use Rattle.elevation_mapping.specs.Mapping.{slant_floor, slant_of}
+use Rattle.sat_model.specs.Mapping.{slant_floor, slant_of}
 use Rattle.elevation_mapping.specs.SineSizes.{up_amount, offset_amount, sine_amount}
 use Rattle.elevation_mapping.proofs.Points.{ArePoints, AreOffsets, axis_held, offset_held, same_number, place_ends, offsets_ends, up_ends, up_far, line_far}
 use Rattle.elevation_mapping.proofs.SlantWidth.{mapped_spread, slant_at_least, slant_fits}

@@ -5,7 +5,7 @@ use Rattle.error_bounds.proofs.read.read_tree.Goals as goal
 
 pub returns-clause-settings : goal.returns-clause-settings
 returns-clause-settings c = record {
-  faultless = all_none (table_view c.args.tree.now) c.in_ok-search.ensures.none c.in_ok-signal.ensures.none c.in_ok-common.ensures.none c.in_ok-extra.ensures.none;
+  faultless = all_none (table_view c.args.tree.now) c.in_ok-search.ensures.none c.in_ok-signal.ensures.none c.in_ok-bounds.ensures.none c.in_ok-extra.ensures.none;
   known = c.in_ok-check_names.ensures.known;
   value = record {
     centre = c.in_ok-search.ensures.value.centre;
@@ -15,16 +15,17 @@ returns-clause-settings c = record {
     width = c.in_ok-search.ensures.value.width;
     max_age = c.in_ok-search.ensures.value.max_age;
     signal = c.in_ok-signal.ensures.value;
-    receiver = c.in_ok-common.ensures.value.receiver;
-    is_receiver = c.in_ok-common.ensures.value.is_receiver;
-    orbit_clock = c.in_ok-common.ensures.value.orbit_clock;
-    is_orbit_clock = c.in_ok-common.ensures.value.is_orbit_clock;
-    ionosphere = c.in_ok-common.ensures.value.ionosphere;
-    is_ionosphere = c.in_ok-common.ensures.value.is_ionosphere;
-    troposphere = c.in_ok-common.ensures.value.troposphere;
-    is_troposphere = c.in_ok-common.ensures.value.is_troposphere;
-    common = c.in_ok-common.ensures.value.sum;
+    receiver = c.in_ok-bounds.ensures.common.receiver;
+    is_receiver = c.in_ok-bounds.ensures.common.is_receiver;
+    orbit_clock = c.in_ok-bounds.ensures.common.orbit_clock;
+    is_orbit_clock = c.in_ok-bounds.ensures.common.is_orbit_clock;
+    ionosphere = c.in_ok-bounds.ensures.common.ionosphere;
+    is_ionosphere = c.in_ok-bounds.ensures.common.is_ionosphere;
+    troposphere = c.in_ok-bounds.ensures.common.troposphere;
+    is_troposphere = c.in_ok-bounds.ensures.common.is_troposphere;
+    common = c.in_ok-bounds.ensures.common.sum;
     extra = c.in_ok-extra.ensures.extra;
+    zenith = c.in_ok-bounds.ensures.zenith;
   };
 }
 
@@ -38,18 +39,18 @@ returns-in_err-signal-clause-fault c =
     let p = err_from_is_err_and c.from_residual-in_err-signal.result c.from_residual-in_err-signal.ensures.1 in
     rw (p.1, p.2) (from_signal (table_view c.args.tree.now) c.in_err-signal.field-0.0 c.in_ok-search.ensures.none c.in_err-signal.ensures.fault)
 
-pub returns-in_err-common-clause-fault : goal.returns-in_err-common-clause-fault
-returns-in_err-common-clause-fault c =
-    let p = err_from_is_err_and c.from_residual-in_err-common.result c.from_residual-in_err-common.ensures.1 in
-    rw (p.1, p.2) (from_bounds (table_view c.args.tree.now) c.in_err-common.field-0.0 c.in_ok-search.ensures.none c.in_ok-signal.ensures.none c.in_err-common.ensures.fault)
+pub returns-in_err-bounds-clause-fault : goal.returns-in_err-bounds-clause-fault
+returns-in_err-bounds-clause-fault c =
+    let p = err_from_is_err_and c.from_residual-in_err-bounds.result c.from_residual-in_err-bounds.ensures.1 in
+    rw (p.1, p.2) (from_bounds (table_view c.args.tree.now) c.in_err-bounds.field-0.0 c.in_ok-search.ensures.none c.in_ok-signal.ensures.none c.in_err-bounds.ensures.fault)
 
 pub returns-in_err-extra-clause-fault : goal.returns-in_err-extra-clause-fault
 returns-in_err-extra-clause-fault c =
     let p = err_from_is_err_and c.from_residual-in_err-extra.result c.from_residual-in_err-extra.ensures.1 in
-    rw (p.1, p.2) (from_satellites (table_view c.args.tree.now) c.in_err-extra.field-0.0 c.in_ok-search.ensures.none c.in_ok-signal.ensures.none c.in_ok-common.ensures.none c.in_err-extra.ensures.fault)
+    rw (p.1, p.2) (from_satellites (table_view c.args.tree.now) c.in_err-extra.field-0.0 c.in_ok-search.ensures.none c.in_ok-signal.ensures.none c.in_ok-bounds.ensures.none c.in_err-extra.ensures.fault)
 
 pub returns-in_err-check_names-clause-fault : goal.returns-in_err-check_names-clause-fault
 returns-in_err-check_names-clause-fault c =
     let p = err_from_is_err_and c.from_residual-in_err-check_names.result c.from_residual-in_err-check_names.ensures.1 in
     rw (p.1, p.2) (from_names (table_view c.args.tree.now) c.in_err-check_names.field-0.0
-    (all_none (table_view c.args.tree.now) c.in_ok-search.ensures.none c.in_ok-signal.ensures.none c.in_ok-common.ensures.none c.in_ok-extra.ensures.none) c.in_err-check_names.ensures.fault)
+    (all_none (table_view c.args.tree.now) c.in_ok-search.ensures.none c.in_ok-signal.ensures.none c.in_ok-bounds.ensures.none c.in_ok-extra.ensures.none) c.in_err-check_names.ensures.fault)

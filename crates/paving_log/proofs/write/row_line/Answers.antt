@@ -1,5 +1,7 @@
 use Rattle.std.proofs.Common.{◌≡◌, ℕ, ◌+◌, ◌/◌, ◌%◌, List, [], ◌∷◌, ◌++◌, append_assoc}
 use Rattle.std.specs.Fmt.{signed_decimal}
+use Rattle.log_words.specs.Words.{joined}
+use Rattle.paving_log.specs.Rows.{error_words}
 use Rattle.paving_log.proofs.write.row_line.Goals as goal
 
 -- the words of a satellite, its place and its range
@@ -8,10 +10,10 @@ front : (start one two three sat a b c d e f g h : List ℕ) → one ≡ start +
 front start one two three sat a b c d e f g h p q r = rw (r, q, p) (simp append_assoc)
 
 -- the words of a row, and LF
-row_spelled : (start three four end sat a b c d e f g h i j : List ℕ) → three ≡ start ++ 32 ∷ (sat ++ 32 ∷ (a ++ 32 ∷ (b ++ 32 ∷ (c ++ 32 ∷ (d ++ 32 ∷ (e ++ 32 ∷ (f ++ 32 ∷ (g ++ 32 ∷ h))))))))
-    → four ≡ three ++ 32 ∷ (i ++ 32 ∷ j) → end ≡ four ++ 10 ∷ []
-    → end ≡ start ++ 32 ∷ (sat ++ 32 ∷ ((a ++ 32 ∷ (b ++ 32 ∷ (c ++ 32 ∷ (d ++ 32 ∷ (e ++ 32 ∷ (f ++ 32 ∷ (g ++ 32 ∷ (h ++ 32 ∷ (i ++ 32 ∷ j))))))))) ++ 10 ∷ []))
-row_spelled start three four end sat a b c d e f g h i j r s t = rw (t, s, r) (simp append_assoc)
+row_spelled : (start three four end sat a b c d e f g h bounds : List ℕ) → three ≡ start ++ 32 ∷ (sat ++ 32 ∷ (a ++ 32 ∷ (b ++ 32 ∷ (c ++ 32 ∷ (d ++ 32 ∷ (e ++ 32 ∷ (f ++ 32 ∷ (g ++ 32 ∷ h))))))))
+    → four ≡ three ++ 32 ∷ bounds → end ≡ four ++ 10 ∷ []
+    → end ≡ start ++ 32 ∷ (sat ++ 32 ∷ ((a ++ 32 ∷ (b ++ 32 ∷ (c ++ 32 ∷ (d ++ 32 ∷ (e ++ 32 ∷ (f ++ 32 ∷ (g ++ 32 ∷ (h ++ 32 ∷ bounds)))))))) ++ 10 ∷ []))
+row_spelled start three four end sat a b c d e f g h bounds r s t = rw (t, s, r) (simp append_assoc)
 
 pub returns : goal.returns
 returns c = λ ascii.
@@ -22,6 +24,6 @@ returns c = λ ascii.
     let three = front (115 ∷ 97 ∷ 116 ∷ []) c.push_sat.new.line.bytes c.push_place.new.line.bytes c.push_span.new.line.bytes sat
     (signed_decimal row.x.lo) (signed_decimal row.x.hi) (signed_decimal row.y.lo) (signed_decimal row.y.hi) (signed_decimal row.z.lo) (signed_decimal row.z.hi)
     (signed_decimal row.range.lo) (signed_decimal row.range.hi) one c.push_place.ensures.pushed c.push_span.ensures.pushed in
-    row_spelled (115 ∷ 97 ∷ 116 ∷ []) c.push_span.new.line.bytes c.push_span-2.new.line.bytes c.push_str-2.new.self.bytes sat
+    row_spelled (115 ∷ 97 ∷ 116 ∷ []) c.push_span.new.line.bytes c.push_bounds.new.line.bytes c.push_str-2.new.self.bytes sat
     (signed_decimal row.x.lo) (signed_decimal row.x.hi) (signed_decimal row.y.lo) (signed_decimal row.y.hi) (signed_decimal row.z.lo) (signed_decimal row.z.hi)
-    (signed_decimal row.range.lo) (signed_decimal row.range.hi) (signed_decimal row.err.lo) (signed_decimal row.err.hi) three c.push_span-2.ensures.pushed c.push_str-2.ensures.bytes
+    (signed_decimal row.range.lo) (signed_decimal row.range.hi) (joined (error_words row)) three c.push_bounds.ensures.pushed c.push_str-2.ensures.bytes

@@ -1,10 +1,11 @@
 use Rattle.std.proofs.Common.{◌+◌, arith, sym, drop, ◌∙◌}
 use Rattle.std.proofs.lemmas.Bool.{false≢true}
-use Rattle.epoch_selection.specs.Searches.{search_in, searches_left}
+use Rattle.epoch_selection.specs.Searches.{search_in, epochs_left, searches_left}
 use Rattle.epoch_selection.proofs.SelectionLemmas.{taken_search}
 use Rattle.sat_model.specs.Boxes.{grid_box}
 use Rattle.paving_log.specs.Values.{block_of, log_value}
 use Rattle.paving_log_check.proofs.CheckLemmas.{underway_first, underway_more, block_numbered, body_passes, rules_refused, due_refused, block_refused, all_accepted}
+use Rattle.paving_log_check.proofs.FitLemmas.{all_in_box}
 use Rattle.paving_log_check.proofs.PlaceLemmas.{block_left, blocks_ended}
 use Rattle.paving_log_check.proofs.files.check_with.Goals as goal
 
@@ -45,7 +46,7 @@ returns-in-Some-2-clause-no g c =
     block_refused (g.S.RowSource.meaning c.args.source.now) (search_in (grid_box c.loop-k.left.root) seen) (searches_left new)
     (block_of c.index-epoch.result.now) (drop (c.loop-k.k + 1) (log_value c.args.log.now).blocks) c.in-Some-2.fault c.first_of.result
     c.loop-k.invariant (c.are_same_rules.ensures.0 c.if-not-are_same_rules.false) here first c.in-Some.ensures.is_of refused
-    (λ own fails. rw c.lines_of-next.ensures at (c.first_of.ensures c.args.rules.now own (search_in (grid_box c.loop-k.left.root) seen)
+    (λ own fails. rw c.lines_of-next.ensures at (c.first_of.ensures (g.S.RowSource.meaning c.args.source.now).zenith c.args.rules.now own (search_in (grid_box c.loop-k.left.root) seen)
     (searches_left new) (block_of c.index-epoch.result.now) (drop (c.loop-k.k + 1) (log_value c.args.log.now).blocks) fails due))
 
 pub returns-in_default-clause-no : goal.returns-in_default-clause-no
@@ -84,4 +85,5 @@ returns-clause-yes g c =
     let none = blocks_ended c.args.log.now.epochs.items c.len.result (omega (arith, c.len.ensures, c.args.log.now.epochs.ok)) in
     let due = rw none at (rw c.deref-2.ensures.value at c.is_due.ensures) in
     all_accepted (g.S.RowSource.meaning c.args.source.now) c.args.log.now (g.met.S.RowSource.sound c.args.source.now)
+    (all_in_box (grid_box c.args.searches.now.root) (epochs_left c.args.searches.now) c.args.searches.now.search_box)
     c.loop-k.invariant (c.are_same_rules.ensures.0 c.if-not-are_same_rules.false) ended (due.0 c.if-not-is_due.false)

@@ -1,18 +1,11 @@
-use Rattle.std.proofs.Common.{◌≡◌, arith, refl, Bool, true, false, not, length, take}
+use Rattle.std.proofs.Common.{◌≡◌, arith, length, take}
 use Rattle.std.proofs.lemmas.Int.{ints}
 use Rattle.std.proofs.lemmas.List.{length-map}
 use Rattle.std.proofs.lemmas.Grind.{common_steps}
 use Rattle.sat_model.specs.Boxes.{grid_box}
 use Rattle.sat_model.specs.ClockSpans.{clock_ends}
-use Rattle.relaxed_meet.proofs.BetweenLemmas.{read_more, found_or_empty}
+use Rattle.relaxed_meet.proofs.BetweenLemmas.{read_more, found_or_empty, tested_none}
 use Rattle.relaxed_meet.proofs.shown.shown_empty.Goals as goal
-
-true_from : (a b : Bool) → a ≡ not b → a ≡ false → b ≡ true
-true_from a true e f = refl
-true_from a false e f = cc
-
-false_from : (a b : Bool) → a ≡ not b → b ≡ true → a ≡ false
-false_from a b e f = rw (e, f) refl
 
 pub loop-row-preserved : goal.loop-row-preserved
 loop-row-preserved c = record {
@@ -31,4 +24,4 @@ returns c =
     let read = rw (all, most) at c.loop-row.invariant.read in
     let found = found_or_empty _ c.args.q (length rows) _ _ c.least_between.result c.requires.0 (length-map rows (clock_ends (grid_box c.args.part.now))) read
     (rw (c.deref.ensures.0, c.deref-2.ensures.0) at c.least_between.ensures) in
-    (λ t. found.0 (false_from _ _ c.is_none.ensures t), λ e. true_from _ _ c.is_none.ensures (found.1 e))
+    tested_none c.least_between.result c.is_none.result c.is_none.ensures found

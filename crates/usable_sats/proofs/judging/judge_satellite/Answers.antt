@@ -1,28 +1,9 @@
-use Rattle.std.proofs.Common.{refl, inl, inr}
+use Rattle.std.proofs.Common.{refl, inr}
+use Rattle.sat_model.specs.Boxes.{grid_box}
+use Rattle.usable_sats.specs.Usability.{IsHigh}
 use Rattle.usable_sats.proofs.judging.judge_satellite.Goals as goal
 
-pub returns-in-NoRecord : goal.returns-in-NoRecord
-returns-in-NoRecord c =
-    rw c.skipped-in-NoRecord.ensures (inr (inr (inl (refl, refl, record { measured = record { codes = _; values = c.in-Within.ensures.0; plausible = c.in-Within.ensures.1 }; none = c.in-NoRecord.ensures }))))
-
-pub returns-in-Unhealthy : goal.returns-in-Unhealthy
-returns-in-Unhealthy c =
-    rw c.skipped-in-Unhealthy.ensures (inr (inr (inr (inl (refl, refl, record { measured = record { codes = _; values = c.in-Within.ensures.0; plausible = c.in-Within.ensures.1 }; some = c.in-Unhealthy.ensures.0; none = c.in-Unhealthy.ensures.1 })))))
-
-pub returns-in-Old : goal.returns-in-Old
-returns-in-Old c =
-    rw c.skipped-in-Old.ensures (inr (inr (inr (inr (inl (refl, refl, record { measured = record { codes = _; values = c.in-Within.ensures.0; plausible = c.in-Within.ensures.1 }; some = c.in-Old.ensures.0; none = c.in-Old.ensures.1 }))))))
-
-pub returns-in-Unfit : goal.returns-in-Unfit
-returns-in-Unfit c =
-    let f = c.in-Unfit.ensures in
-    inr (inr (inr (inr (inr (refl, record { measured = record { codes = _; values = c.in-Within.ensures.0; plausible = c.in-Within.ensures.1 }; none = f.none; i = f.i; r = f.r; age = c.in-Unfit.age; nearest = f.nearest; first = f.first })))))
-
-pub returns-in-Fit : goal.returns-in-Fit
-returns-in-Fit c =
-    let f = c.in-Fit.ensures in
-    record {
-      usable = record { measured = record { codes = _; values = c.in-Within.ensures.0; plausible = c.in-Within.ensures.1 }; i = f.i; r = f.r; age = c.in-Fit.age; used = f.nearest; el = c.in-Fit.elements; elements = f.elements };
-      codes_are = refl;
-      el_is = refl;
-    }
+pub returns-else-is_high : goal.returns-else-is_high
+returns-else-is_high c =
+    let low : IsHigh c.args.settings.now.zenith (grid_box c.args.root.now) → ⊥ = λ high. let e = c.is_high.ensures.1 high in let f = c.if-is_high.false in cc in
+    rw c.skipped.ensures (inr (record { usable = c.in-Usable.ensures.usable; low = low; number = refl; field = refl }))

@@ -11,14 +11,14 @@ returns-in_default-as_slice-clause-value c =
     let kinds : true ≡ is_some (all_members as_integer (items_view c.in-Some.items.now.items)) =
     sym c.if-not-are_integers.false ∙ (rw c.deref.ensures.value at c.are_integers.ensures) in
     rw (← rw c.in-Some.is at c.as_array.ensures)
-    (others_outside as_integer ends_of 2 _ not_two (λ e. omega (arith, e, c.as_slice.ensures.len, c.in_default-as_slice.len_below)) kinds)
+    (others_outside as_integer (ends_of c.args.self.now.most) 2 _ (not_two c.args.self.now.most) (λ e. omega (arith, e, c.as_slice.ensures.len, c.in_default-as_slice.len_below)) kinds)
 
 pub returns-in_default-as_slice-2-clause-value : goal.returns-in_default-as_slice-2-clause-value
 returns-in_default-as_slice-2-clause-value c =
     let kinds : true ≡ is_some (all_members as_integer (items_view c.in-Some.items.now.items)) =
     sym c.if-not-are_integers.false ∙ (rw c.deref.ensures.value at c.are_integers.ensures) in
     rw (← rw c.in-Some.is at c.as_array.ensures)
-    (others_outside as_integer ends_of 2 _ not_two (λ e. omega (arith, e, c.as_slice.ensures.len, c.in_default-as_slice.len_at_least)) kinds)
+    (others_outside as_integer (ends_of c.args.self.now.most) 2 _ (not_two c.args.self.now.most) (λ e. omega (arith, e, c.as_slice.ensures.len, c.in_default-as_slice.len_at_least)) kinds)
 
 pub returns-in-Some-Some-clause-value : goal.returns-in-Some-Some-clause-value
 returns-in-Some-Some-clause-value c =

@@ -1,0 +1,6 @@
+pub mod ShownLemmas
+pub mod PositionLemmas
+pub mod FileReads
+pub mod ReadingLemmas
+pub mod GrammarLemmas
+pub mod InputLemmas

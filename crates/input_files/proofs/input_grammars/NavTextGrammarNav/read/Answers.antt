@@ -1,0 +1,22 @@
+use Rattle.std.proofs.Common.{sym, subst}
+use Rattle.rinex_nav.specs.Reading.{records_of}
+use Rattle.input_files.proofs.GrammarLemmas.{SettlesErr, file_settles, nav_gives, no_nav_fault}
+use Rattle.input_files.proofs.GrammarLemmas.{read_settles}
+use Rattle.input_files.specs.Inputs.{nav_text}
+use Rattle.input_files.specs.declared.input_fault.InputFault.TheVariants as input
+use Rattle.input_files.proofs.input_grammars.NavTextGrammarNav.read.Goals as goal
+
+pub returns-in-Ok-clause-same : goal.returns-in-Ok-clause-same
+returns-in-Ok-clause-same c =
+    read_settles nav_text c.args.bytes.now (records_of c.in-Ok.nav) c.in-Ok.ensures.exact
+    (no_nav_fault c.args.bytes.now c.in-Ok.ensures.first)
+
+pub returns-in-Err-clause-gives : goal.returns-in-Err-clause-gives
+returns-in-Err-clause-gives c =
+    rw c.of_nav.ensures (nav_gives c.args.bytes.now c.in-Err.error c.in-Err.ensures.fault)
+
+pub returns-in-Err-clause-same : goal.returns-in-Err-clause-same
+returns-in-Err-clause-same c =
+    subst (SettlesErr nav_text c.args.bytes.now) (sym c.of_nav.ensures)
+    (file_settles nav_text c.args.bytes.now (λ r. input.Nav r) c.in-Err.error
+    c.in-Err.ensures.exact)

@@ -1,0 +1,128 @@
+-- What is read from the three files of a receiver, in one order: the settings, the navigation file,
+-- the observation file.
+use Rattle.std.specs.Prelude.{◌≡◌, ℕ, Bool, true, false, List, [], ◌∷◌}
+use Rattle.command_words.specs.Commands.{Files}
+use Rattle.error_bounds.specs.Faults.{Found}
+use Rattle.error_bounds.specs.Reading.{value_of_settings, Tells, IsKnown, IsEnough}
+use Rattle.error_bounds.specs.Texts as settings
+use Rattle.error_bounds.specs.declared.settings.Centre.{Centre}
+use Rattle.error_bounds.specs.declared.settings.Centre.TheVariants.{Header, At}
+use Rattle.error_bounds.specs.declared.settings.Settings.{Settings}
+use Rattle.outer_io.specs.declared.slots.Slot.{Slot}
+use Rattle.outer_io.specs.declared.slots.Slot.TheVariants as slot
+use Rattle.rinex_nav.specs.Files as nav
+use Rattle.rinex_nav.specs.Reading.{records_of}
+use Rattle.rinex_nav.specs.Records.{Broadcast}
+use Rattle.rinex_nav.specs.declared.record.NavRecord.{NavRecord}
+use Rattle.rinex_obs.specs.Facts.{AreNumbered, AreDistinct, AreGpsSats, InEach}
+use Rattle.rinex_obs.specs.Files as obs
+use Rattle.rinex_obs.specs.Reading.{observations_of}
+use Rattle.rinex_obs.specs.declared.obs.Obs.{Obs}
+use Rattle.sat_model.specs.declared.satellites.Signal.{Signal}
+use Rattle.input_files.specs.Reading.{Text, Reading, Named, Then, Returns}
+use Rattle.input_files.specs.declared.input_fault.InputFault.TheVariants as fault
+use Rattle.input_files.specs.declared.inputs.Inputs.{Inputs}
+use Rattle.input_files.specs.declared.limits.Limits.{Limits}
+use Rattle.input_files.specs.declared.notice.Notice.{Notice}
+use Rattle.input_files.specs.declared.notice.Notice.TheVariants as notice
+
+-- ---- the settings
+
+abbrev pub NamesSettingsFault : List ℕ → Notice → Type 0
+NamesSettingsFault bytes (notice.BadInput (fault.Settings told)) =
+    (found : Found) × settings.IsFirstFault bytes found × Tells found told
+NamesSettingsFault bytes _ = ⊥
+
+abbrev pub settings_text : Text Settings
+settings_text = record {
+  slot = slot.Settings;
+  Value = settings.SettingsValue;
+  value = value_of_settings;
+  Spells = settings.IsSettings;
+  Names = NamesSettingsFault;
+  Usual = λ s. Unit {0};
+}
+
+-- ---- the navigation file
+
+abbrev pub NamesNavFault : List ℕ → Notice → Type 0
+NamesNavFault bytes (notice.BadInput (fault.Nav refusal)) = nav.IsFirstFault bytes refusal
+NamesNavFault bytes _ = ⊥
+
+abbrev pub nav_text : Text (List NavRecord)
+nav_text = record {
+  slot = slot.Nav;
+  Value = List Broadcast;
+  value = records_of;
+  Spells = nav.IsNavFile;
+  Names = NamesNavFault;
+  Usual = λ records. Unit {0};
+}
+
+-- ---- the observation file
+
+-- the position of its header is wanted where it is the centre of the search box
+abbrev pub wants_position : Centre → Bool
+wants_position Header = true
+wants_position (At p) = false
+
+abbrev pub NamesObsFault : Signal → Bool → List ℕ → Notice → Type 0
+NamesObsFault signal position bytes (notice.BadInput (fault.Obs refusal)) =
+    obs.IsFirstFault signal position bytes refusal
+NamesObsFault signal position bytes _ = ⊥
+
+-- The epochs are numbered, and the satellites of each are GPS satellites, none of them twice.
+pub record AreUsual (o : Obs) : Type 0 where
+  pub numbered : AreNumbered (observations_of o).epochs
+  pub distinct : InEach AreDistinct (observations_of o).epochs
+  pub gps : InEach AreGpsSats (observations_of o).epochs
+
+pub record AreObserved (position : Bool) (o : Obs) : Type 0 where
+  pub usual : AreUsual o
+  pub known : position ≡ true → IsKnown o.position
+
+-- with the wanted codes
+abbrev pub obs_text : Signal → Bool → Text Obs
+obs_text signal position = record {
+  slot = slot.Obs;
+  Value = obs.Observations;
+  value = observations_of;
+  Spells = obs.IsObsFile signal position;
+  Names = NamesObsFault signal position;
+  Usual = AreObserved position;
+}
+
+-- ---- all of them
+
+-- what their texts stand for
+pub record InputsValue : Type 0 where
+  pub settings : settings.SettingsValue
+  pub nav : List Broadcast
+  pub obs : obs.Observations
+
+abbrev pub inputs_value : Inputs → InputsValue
+inputs_value i = record {
+  settings = value_of_settings i.settings;
+  nav = records_of i.nav;
+  obs = observations_of i.obs;
+}
+
+abbrev pub input_slots : List Slot
+input_slots = slot.Settings ∷ slot.Nav ∷ slot.Obs ∷ []
+
+abbrev pub ReadsObs : Limits → Files → settings.SettingsValue → List Broadcast → Reading InputsValue
+ReadsObs limits names s records =
+    Then (Named limits (obs_text s.signal (wants_position s.centre)) names.obs)
+    (λ o. Returns (record { settings = s; nav = records; obs = o }))
+
+abbrev pub ReadsNav : Limits → Files → settings.SettingsValue → Reading InputsValue
+ReadsNav limits names s = Then (Named limits nav_text names.nav) (ReadsObs limits names s)
+
+abbrev pub ReadsInputs : Limits → Files → Reading InputsValue
+ReadsInputs limits names =
+    Then (Named limits settings_text names.settings) (ReadsNav limits names)
+
+-- the position of the header is known where it is the centre
+pub record AreEnough (i : Inputs) : Type 0 where
+  pub centre : IsEnough i.settings.centre i.obs.position
+  pub usual : AreUsual i.obs

@@ -1,0 +1,61 @@
+//! The three files of a receiver.
+
+ghost use Rattle.std.specs.Prelude.{◌≡◌, IfOk};
+ghost use Rattle.command_words.specs.Seen.{files_asked};
+ghost use Rattle.input_files.specs.Inputs.{AreEnough, ReadsInputs, input_slots, inputs_value};
+ghost use Rattle.input_files.specs.Inputs.{wants_position};
+ghost use Rattle.input_files.specs.Reading.{Found, OnlyReads, valued};
+
+use crate::input_grammars::{NavText, ObsText, SettingsText};
+use crate::limits::Limits;
+use crate::named::read_named;
+use crate::notice::Notice;
+use command_words::Files;
+use error_bounds::{Centre, Settings};
+use outer_io::Shelf;
+use rinex_nav::Nav;
+use rinex_obs::Obs;
+use std::alloc::Global;
+
+/// What is read from the files of a receiver.
+#[derive(Drop)]
+pub struct Inputs {
+    pub settings: Settings,
+    pub nav: Nav,
+    pub obs: Obs,
+}
+
+/// Whether the search box stands round the position of the header.
+pub fn wants_position(centre: Centre) -> bool
+    ensures { result ≡ wants_position centre }
+{
+    match centre {
+        Centre::Header => true,
+        Centre::At(_) => false,
+    }
+}
+
+/// Reads the settings, the navigation file and the observation file, each whole. Each is accepted
+/// or refused before the next is begun.
+pub fn read_inputs<H: Shelf>(
+    alloc: Global,
+    limits: &Limits,
+    words: &Files<'_>,
+    shelf: &mut H,
+) -> Result<Inputs, Notice>
+    ensures found { Found (ReadsInputs limits.now (files_asked words.now))
+        (H.state shelf.old) (H.state shelf.new) (H.reliable shelf.new)
+        (valued inputs_value result) }
+    ensures only { OnlyReads input_slots (H.state shelf.old) (H.state shelf.new) result }
+    ensures enough { IfOk result AreEnough }
+{
+    let settings = read_named(alloc, limits, words.settings, &SettingsText, shelf)?;
+    let nav = read_named(alloc, limits, words.nav, &NavText, shelf)?;
+    let position = wants_position(settings.centre);
+    let text = ObsText {
+        signal: &settings.signal,
+        position,
+    };
+    let obs = read_named(alloc, limits, words.obs, &text, shelf)?;
+    Ok(Inputs { settings, nav, obs })
+}

@@ -1,0 +1,26 @@
+//! The files that a run reads: each by what its texts stand for, one behind another, and in one
+//! line what is wrong with the first that isn't accepted.
+#![tactic(auto)]
+
+mod grammar;
+mod input_fault;
+mod input_grammars;
+mod input_texts;
+mod inputs;
+mod limits;
+mod log_grammars;
+mod named;
+mod notice;
+mod notice_texts;
+mod status;
+
+pub use grammar::Grammar;
+pub use input_fault::InputFault;
+pub use input_grammars::{NavText, ObsText, SettingsText};
+pub use inputs::{Inputs, read_inputs, wants_position};
+pub use limits::Limits;
+pub use log_grammars::{LogText, RowsText};
+pub use named::read_named;
+pub use notice::Notice;
+pub use notice_texts::notice_line;
+pub use status::Status;

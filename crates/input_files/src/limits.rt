@@ -1,0 +1,34 @@
+//! The most bytes that files may have.
+
+ghost use Rattle.std.specs.Prelude.{◌≡◌, ◌≤◌};
+ghost use Rattle.outer_io.specs.Sizes.{longest_file};
+
+use outer_io::Slot;
+
+/// The most bytes that a file may have: an observation, navigation or rows file, the settings, and
+/// a log, which is read or written. No file may have more than 4 * 10^9.
+#[derive(Clone, Copy, Debug, PartialEq, Eq)]
+pub struct Limits {
+    pub file: u64,
+    pub settings: u64,
+    pub log: u64,
+    pub ghost file_within: { file ≤ longest_file },
+    pub ghost settings_within: { settings ≤ longest_file },
+    pub ghost log_within: { log ≤ longest_file },
+}
+
+impl Limits {
+    ghost use Rattle.input_files.specs.Reading.{limit_of};
+
+    /// The most bytes of the slot's file.
+    pub fn of(&self, slot: Slot) -> u64
+        ensures limit { result ≡ limit_of self.now slot }
+        ensures within { result ≤ longest_file }
+    {
+        match slot {
+            Slot::Settings => self.settings,
+            Slot::Nav | Slot::Obs | Slot::Rows => self.file,
+            Slot::Log => self.log,
+        }
+    }
+}

@@ -1,0 +1,49 @@
+//! The texts of logs and of rows.
+
+use crate::grammar::Grammar;
+use crate::notice::Notice;
+use outer_io::Slot;
+use paving_log::{Log, read_log, read_rows};
+use std::alloc::Global;
+
+/// The texts of logs.
+#[derive(Clone, Copy)]
+pub struct LogText;
+
+impl Grammar<Log> for LogText {
+    ghost use Rattle.input_files.specs.Logs.{log_text};
+
+    ghost text = { λ _. log_text };
+
+    fn slot(&self) -> Slot {
+        Slot::Log
+    }
+
+    fn read(&self, alloc: Global, bytes: &[u8]) -> Result<Log, Notice> {
+        match read_log(alloc, bytes) {
+            Ok(log) => Ok(log),
+            Err(error) => Err(Notice::of_text(Slot::Log, error)),
+        }
+    }
+}
+
+/// The texts of rows.
+#[derive(Clone, Copy)]
+pub struct RowsText;
+
+impl Grammar<Log> for RowsText {
+    ghost use Rattle.input_files.specs.Logs.{rows_text};
+
+    ghost text = { λ _. rows_text };
+
+    fn slot(&self) -> Slot {
+        Slot::Rows
+    }
+
+    fn read(&self, alloc: Global, bytes: &[u8]) -> Result<Log, Notice> {
+        match read_rows(alloc, bytes) {
+            Ok(rows) => Ok(rows),
+            Err(error) => Err(Notice::of_text(Slot::Rows, error)),
+        }
+    }
+}
