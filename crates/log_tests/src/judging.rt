@@ -4,7 +4,9 @@ ghost use Rattle.std.specs.Prelude.{◌≡◌, ◌≤◌, length};
 ghost use Rattle.sat_model.specs.Logs.{lines_in};
 ghost use Rattle.paving_log.specs.Values.{block_of};
 
-use crate::small_rows::{FAR, cuboid, edge, five_rows, four_rows, metre_row, row, rules, split, up_to};
+use crate::small_rows::{
+    FAR, cuboid, edge, five_rows, four_rows, metre_row, row, rules, split, up_to,
+};
 use paving_log::{Log, LogEpoch};
 use paving_log_check::{Fault, Verdict, judge};
 use sat_model::{Box3, NoMemory, Pos, Row, Rules, SatEntry, Span, Step};
