@@ -35,6 +35,22 @@ impl Deciding {
     }
 }
 
+/// For each face of a box, what decided the last test of a slab there.
+#[derive(Clone, Copy, Debug, Default, PartialEq, Eq)]
+pub struct SlabTests {
+    faces: [Deciding; 6],
+}
+
+impl SlabTests {
+    /// Whether the rows show a slab at this face empty, as the function `shown_empty` says.
+    pub fn shown_empty(&mut self, face: u8, rows: &[Row], slab: &Box3, q: u8) -> bool
+        requires { (q < length rows.now) × (length rows.now ≤ 64) }
+        ensures { IsTrue result ↔ IsShownEmpty rows.now (grid_box slab.now) q }
+    {
+        self.faces[usize::from(face % 6)].shown_empty(rows, slab, q)
+    }
+}
+
 /// Whether those of the rows that have a bit show the box empty.
 fn some_show_empty(rows: &[Row], part: &Box3, q: u8, which: u64) -> bool
     requires { (q < length rows.now) × (length rows.now ≤ 64) }

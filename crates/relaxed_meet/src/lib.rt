@@ -10,7 +10,7 @@ mod hull;
 mod shown;
 
 pub use clocks::{clock_span, inner_span};
-pub use deciding::Deciding;
+pub use deciding::{Deciding, SlabTests};
 pub use distance::near_far;
 pub use hull::relaxed;
 pub use shown::{BoxState, box_state, clock_hull, shown_empty, shown_inner};
