@@ -1,4 +1,4 @@
-//! A test for empty boxes that asks first the rows which decided the test before.
+//! A test for empty boxes that asks first what decided the tests before.
 
 ghost use Rattle.std.specs.Prelude.{◌≡◌, ◌-◌, ◌<◌, ◌≤◌, ◌↔◌, length, map, IsTrue};
 ghost use Rattle.sat_model.specs.Boxes.{grid_box};
@@ -8,15 +8,20 @@ ghost use Rattle.sat_model.specs.Relaxed.{IsRelaxedEmpty, ends};
 use crate::clocks::clock_span;
 use crate::extremes::{Falling, extremes, keep};
 use crate::hull::least_between;
+use crate::offsets::{bounded, lies_in_most};
+use crate::separation::{Separation, middle};
 use arrayvec::ArrayVec;
 use sat_model::{Box3, Row, Span};
 
-/// The rows that decided a test: a bit for each, the lowest for the first. A box next to one that is
-/// shown empty is mostly shown so by the same few rows, so most tests take few roots. Which rows are
-/// told doesn't matter for an answer: where they don't show a box empty all are asked.
+/// What decided the last tests whether a box is empty. A box next to one that is shown empty is mostly
+/// shown so by the same few rows, and a clock offset at which one isn't does for others too. So most
+/// tests take no root. What is remembered doesn't matter for an answer: where it decides nothing all
+/// rows are asked.
 #[derive(Clone, Copy, Debug, Default, PartialEq, Eq)]
 pub struct Deciding {
-    rows: u64,
+    separation: Separation,
+    /// A clock offset in um that lay in the clock spans of enough rows.
+    common: i64,
 }
 
 impl Deciding {
@@ -25,13 +30,66 @@ impl Deciding {
         requires { (q < length rows.now) × (length rows.now ≤ 64) }
         ensures { IsTrue result ↔ IsShownEmpty rows.now (grid_box part.now) q }
     {
-        if some_show_empty(rows, part, q, self.rows) {
+        if self.separation.shows_empty(rows, part, q) {
+            return true;
+        }
+        if lies_in_most(rows, part, q, bounded(self.common)) {
+            return false;
+        }
+        if self.some_show_empty(rows, part, q) {
             return true;
         }
         let spans = spans_over(rows, part);
-        let (is_empty, decided) = tested(&spans, rows.len() - usize::from(q));
-        self.rows = decided;
+        self.test(&spans, rows.len() - usize::from(q))
+    }
+
+    /// Whether the rows of the separation show the box empty, which then gets new offsets.
+    fn some_show_empty(&mut self, rows: &[Row], part: &Box3, q: u8) -> bool
+        requires { (q < length rows.now) × (length rows.now ≤ 64) }
+        ensures { IsTrue result → IsShownEmpty rows.now (grid_box part.now) q }
+    {
+        let most = usize::from(q) + 1;
+        let mut lows = Falling::new();
+        let mut highs = Falling::new();
+        let mut left = self.separation.rows();
+        for row in rows {
+            if left & 1 == 1 {
+                let span = clock_span(row, part);
+                keep(&mut lows, span.lo, most);
+                keep(&mut highs, -1 - span.hi, most);
+            }
+            left >>= 1;
+        }
+        if lows.len() != most {
+            return false;
+        }
+        if least_between(&lows, &highs).is_some() {
+            return false;
+        }
+        self.separation = self.separation.moved(&lows, &highs);
+        true
+    }
+
+    /// Whether no number lies in at least `need` of the spans. What decided it is remembered.
+    fn test(&mut self, spans: &[Span], need: usize) -> bool
+        requires { (1 ≤ need) × (need ≤ length spans.now) × (length spans.now ≤ 64) }
+        ensures { IsTrue result ↔ IsRelaxedEmpty (map ends spans.now) need }
+    {
+        let mut lows = Falling::new();
+        let mut highs = Falling::new();
+        extremes(spans, spans.len() - need + 1, &mut lows, &mut highs);
+        let is_empty = least_between(&lows, &highs).is_none();
+        self.remember(is_empty, spans, &lows, &highs);
         is_empty
+    }
+
+    /// Takes what decided a test from the ends that it kept.
+    fn remember(&mut self, is_empty: bool, spans: &[Span], lows: &[i64], highs: &[i64]) {
+        if is_empty {
+            self.separation = Separation::of_ends(spans, lows, highs);
+        } else {
+            self.common = between(lows, highs);
+        }
     }
 }
 
@@ -51,26 +109,6 @@ impl SlabTests {
     }
 }
 
-/// Whether those of the rows that have a bit show the box empty.
-fn some_show_empty(rows: &[Row], part: &Box3, q: u8, which: u64) -> bool
-    requires { (q < length rows.now) × (length rows.now ≤ 64) }
-    ensures { IsTrue result → IsShownEmpty rows.now (grid_box part.now) q }
-{
-    let most = usize::from(q) + 1;
-    let mut lows = Falling::new();
-    let mut highs = Falling::new();
-    let mut left = which;
-    for row in rows {
-        if left & 1 == 1 {
-            let span = clock_span(row, part);
-            keep(&mut lows, span.lo, most);
-            keep(&mut highs, -1 - span.hi, most);
-        }
-        left >>= 1;
-    }
-    lows.len() == most && least_between(&lows, &highs).is_none()
-}
-
 /// The clock spans of the rows over the box.
 fn spans_over(rows: &[Row], part: &Box3) -> ArrayVec<Span, 64>
     requires { length rows.now ≤ 64 }
@@ -83,31 +121,17 @@ fn spans_over(rows: &[Row], part: &Box3) -> ArrayVec<Span, 64>
     spans
 }
 
-/// Whether no number lies in at least `need` of the spans, and which spans decided it.
-fn tested(spans: &[Span], need: usize) -> (bool, u64)
-    requires { (1 ≤ need) × (need ≤ length spans.now) × (length spans.now ≤ 64) }
-    ensures { IsTrue result.0 ↔ IsRelaxedEmpty (map ends spans.now) need }
-{
-    let mut lows = Falling::new();
-    let mut highs = Falling::new();
-    extremes(spans, spans.len() - need + 1, &mut lows, &mut highs);
-    let decided = decided_by(spans, lows.last(), highs.last());
-    (least_between(&lows, &highs).is_none(), decided)
-}
-
-/// A bit for each span with an end that is kept: a low one from the first on, or a high one whose
-/// mirror image is from the second on.
-fn decided_by(spans: &[Span], low: Option<&i64>, high: Option<&i64>) -> u64 {
-    let (Some(low), Some(high)) = (low, high) else {
-        return 0;
-    };
-    let mut decided = 0;
-    let mut bit: u64 = 1;
-    for span in spans {
-        if *low <= span.lo || *high <= -1 - span.hi {
-            decided |= bit;
+/// About the middle between the first low end that lies up to the high end that goes with it, and
+/// that high end.
+fn between(lows: &[i64], highs: &[i64]) -> i64 {
+    for (passed, mirrored) in highs.iter().enumerate() {
+        if passed < lows.len() {
+            let low = lows[lows.len() - 1 - passed];
+            let high = -1 - *mirrored;
+            if low <= high {
+                return middle(low, high);
+            }
         }
-        bit <<= 1;
     }
-    decided
+    0
 }

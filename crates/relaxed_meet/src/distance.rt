@@ -5,7 +5,7 @@ ghost use Rattle.relaxed_meet.specs.SmallEnds.{SmallEnds};
 ghost use Rattle.sat_model.specs.Roots.{root};
 ghost use Rattle.sat_model.specs.Amounts.{least_amount, greatest_amount, square};
 ghost use Rattle.sat_model.specs.Boxes.{grid_box};
-ghost use Rattle.sat_model.specs.ClockSpans.{near_of, far_of};
+ghost use Rattle.sat_model.specs.ClockSpans.{near_of, far_of, near_square, far_square};
 
 use sat_model::{Box3, Row, root_u128};
 
@@ -33,6 +33,15 @@ fn greatest(a: i64, b: i64, c: i64, d: i64) -> u64
     (b - c).max(d - a) as u64
 }
 
+/// Three squares, added.
+fn sum_of_squares(x: u64, y: u64, z: u64) -> u128
+    requires { (x ≤ 80000000000000) × (y ≤ 80000000000000) × (z ≤ 80000000000000) }
+    ensures { result ≡ square x + square y + square z }
+{
+    let (x, y, z) = (u128::from(x), u128::from(y), u128::from(z));
+    x * x + y * y + z * z
+}
+
 /// The whole-number root of three squares, added.
 fn root_of_squares(x: u64, y: u64, z: u64) -> u64
     requires { (x ≤ 80000000000000) × (y ≤ 80000000000000) × (z ≤ 80000000000000) }
@@ -41,6 +50,29 @@ fn root_of_squares(x: u64, y: u64, z: u64) -> u64
 {
     let (x, y, z) = (u128::from(x), u128::from(y), u128::from(z));
     root_u128(x * x + y * y + z * z)
+}
+
+/// The least squared distance in um^2 between a place of the row and a point of the box, each axis
+/// taken for itself.
+pub(crate) fn near_square(row: &Row, part: &Box3) -> u128
+    ensures { result ≡ near_square row.now (grid_box part.now) }
+{
+    sum_of_squares(
+        least(row.x.lo, row.x.hi, part.lo.x, part.hi.x),
+        least(row.y.lo, row.y.hi, part.lo.y, part.hi.y),
+        least(row.z.lo, row.z.hi, part.lo.z, part.hi.z),
+    )
+}
+
+/// The greatest such squared distance in um^2.
+pub(crate) fn far_square(row: &Row, part: &Box3) -> u128
+    ensures { result ≡ far_square row.now (grid_box part.now) }
+{
+    sum_of_squares(
+        greatest(row.x.lo, row.x.hi, part.lo.x, part.hi.x),
+        greatest(row.y.lo, row.y.hi, part.lo.y, part.hi.y),
+        greatest(row.z.lo, row.z.hi, part.lo.z, part.hi.z),
+    )
 }
 
 /// The whole-number roots of the least and of the greatest squared distance in um between a place

@@ -7,6 +7,8 @@ mod deciding;
 mod distance;
 mod extremes;
 mod hull;
+mod offsets;
+mod separation;
 mod shown;
 
 pub use clocks::{clock_span, inner_span};

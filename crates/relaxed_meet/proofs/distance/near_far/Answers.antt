@@ -1,13 +1,10 @@
-use Rattle.std.proofs.Common.{◌≡◌, ℕ, arith}
-use Rattle.std.specs.Prelude.{ℤ}
+use Rattle.std.proofs.Common.{arith}
 use Rattle.std.proofs.lemmas.Int.{ints}
 use Rattle.sat_model.specs.Amounts.{least_amount, greatest_amount}
 use Rattle.sat_model.specs.ClockSpans.{near_of, far_of}
 use Rattle.sat_model.proofs.ClockLemmas.{root_same, near_le_far}
+use Rattle.relaxed_meet.proofs.SquareLemmas.{at_ends}
 use Rattle.relaxed_meet.proofs.distance.near_far.Goals as goal
-
-at_ends : (f : ℤ → ℤ → ℤ → ℤ → ℕ) (r : ℕ) (a b c d a' b' c' d' : ℤ) → r ≡ f a b c d → a ≡ a' → b ≡ b' → c ≡ c' → d ≡ d' → r ≡ f a' b' c' d'
-at_ends f r a b c d a' b' c' d' e ea eb ec ed = cc
 
 pub returns-clause-near : goal.returns-clause-near
 unfolding near_of

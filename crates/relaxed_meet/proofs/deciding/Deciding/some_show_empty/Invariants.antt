@@ -2,7 +2,7 @@ use Rattle.std.proofs.Common.{◌≡◌, ◌+◌, take}
 use Rattle.sat_model.specs.Boxes.{grid_box}
 use Rattle.sat_model.specs.ClockSpans.{clock_spans}
 use Rattle.relaxed_meet.proofs.SomeLemmas.{AreSomeRead}
-use Rattle.relaxed_meet.proofs.deciding.some_show_empty.Given as goal
+use Rattle.relaxed_meet.proofs.deciding.Deciding.some_show_empty.Given as goal
 
 abbrev pub invariant-loop-row : goal.invariant-loop-row
 invariant-loop-row l = record {

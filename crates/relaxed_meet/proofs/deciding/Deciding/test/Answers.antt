@@ -1,5 +1,5 @@
 use Rattle.relaxed_meet.proofs.BetweenLemmas.{AreExtremes, none_or_some, tested_none}
-use Rattle.relaxed_meet.proofs.deciding.tested.Goals as goal
+use Rattle.relaxed_meet.proofs.deciding.Deciding.test.Goals as goal
 
 pub returns : goal.returns
 returns c =
@@ -9,5 +9,5 @@ returns c =
       keeps_lows = c.extremes.ensures.lows;
       keeps_highs = c.extremes.ensures.highs;
     } in
-    let found = none_or_some c.args.spans.now c.args.need _ _ c.least_between.result e (rw (c.deref-3.ensures.0, c.deref-4.ensures.0) at c.least_between.ensures) in
-    tested_none c.least_between.result c.is_none.result c.is_none.ensures found
+    let found = none_or_some c.args.spans.now c.args.need _ _ c.least_between.result e (rw (c.deref.ensures.0, c.deref-2.ensures.0) at c.least_between.ensures) in
+    tested_none c.least_between.result c.is_none-is_empty.result c.is_none-is_empty.ensures found

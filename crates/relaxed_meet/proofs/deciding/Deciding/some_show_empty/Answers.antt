@@ -1,12 +1,18 @@
-use Rattle.std.proofs.Common.{◌≡◌, arith, refl, Bool, true, false, not, Option, None, Some, is_some, ◌+◌, length, take}
+use Rattle.std.proofs.Common.{◌≡◌, arith, refl, Bool, true, false, Option, None, Some, is_some, ◌+◌, length, take}
 use Rattle.std.proofs.lemmas.Int.{ints}
 use Rattle.std.proofs.lemmas.List.{length-map}
 use Rattle.std.proofs.lemmas.Grind.{common_steps}
 use Rattle.sat_model.specs.Boxes.{grid_box}
 use Rattle.sat_model.specs.ClockSpans.{clock_ends, clock_spans}
-use Rattle.relaxed_meet.proofs.SomeLemmas.{pass_item, take_item, empty_by_some}
-use Rattle.relaxed_meet.proofs.deciding.some_show_empty.Goals.{then-left-eq1, else-left-eq1}
-use Rattle.relaxed_meet.proofs.deciding.some_show_empty.Goals as goal
+use Rattle.relaxed_meet.proofs.SomeLemmas.{none_of_some, pass_item, take_item, empty_by_some}
+use Rattle.relaxed_meet.proofs.deciding.Deciding.some_show_empty.Goals.{then-left-eq1, else-left-eq1}
+use Rattle.relaxed_meet.proofs.deciding.Deciding.some_show_empty.Goals as goal
+
+pub loop-row-init : goal.loop-row-init
+loop-row-init c = record {
+  most = omega (arith, c.from-most.ensures);
+  read = rw (c.new-lows.ensures, c.new-highs.ensures) (none_of_some (c.from-most.result + 1));
+}
 
 pub loop-row-preserved : goal.loop-row-preserved
 loop-row-preserved c = record {
@@ -22,19 +28,19 @@ loop-row-preserved c = record {
   ];
 }
 
-none_if : {X : Type 0} (r : Option X) (b : Bool) → is_some r ≡ not b → b ≡ true → r ≡ None
-none_if None b e t = refl
-none_if (Some x) true e t = absurd (let no = e in cc)
-none_if (Some x) false e t = absurd (let no = t in cc)
+some_not : {X : Type 0} (r : Option X) (b : Bool) → b ≡ is_some r → b ≡ false → r ≡ None
+some_not None b e t = refl
+some_not (Some x) true e t = absurd (let no = t in cc)
+some_not (Some x) false e t = absurd (let no = e in cc)
 
-pub returns-then-len-most : goal.returns-then-len-most
-returns-then-len-most c t =
+pub returns : goal.returns
+returns c t =
     let rows = c.args.rows.now in
     let all : take c.loop-row.row-index rows ≡ rows = grind (arith, common_steps, c.loop-row-test.false) in
     let most = c.loop-row.invariant.most in
     let read = rw (all, most) at c.loop-row.invariant.read in
-    let none = none_if c.least_between.result c.is_none.result c.is_none.ensures t in
-    let least = rw (c.deref.ensures.0, c.deref-then-len-most.ensures.0, none) at c.least_between.ensures in
-    let full : length c.loop-row.lows.items ≡ c.args.q + 1 = omega (arith, c.if-len-most.true, c.len.ensures.value, most) in
+    let none = some_not c.least_between.result c.is_some.result c.is_some.ensures c.if-is_some.false in
+    let least = rw (c.deref.ensures.0, c.deref-2.ensures.0, none) at c.least_between.ensures in
+    let full : length c.loop-row.lows.items ≡ c.args.q + 1 = omega (arith, c.if-len-most.false, c.len.ensures.value, most) in
     let same : length (clock_spans (grid_box c.args.part.now) rows) ≡ length rows = length-map rows (clock_ends (grid_box c.args.part.now)) in
     rw same at (empty_by_some (clock_spans (grid_box c.args.part.now) rows) c.args.q _ _ full read least)

@@ -1,0 +1,99 @@
+-- Offsets that part the clock spans show that no number lies in enough of them.
+use Rattle.std.proofs.Common.{◌≡◌, ℕ, ◌+◌, ◌-◌, ◌≤◌, arith, List, [], ◌∷◌, length, count_by, cond, Bool, true, false, ◌&&◌, refl}
+use Rattle.std.specs.Prelude.{ℤ, pos, ◌-ℤ◌, ◌≤ℤ◌, ◌<ℤ◌}
+use Rattle.std.proofs.lemmas.Int.{ints, by_lt_z}
+use Rattle.std.proofs.lemmas.List.{length-map}
+use Rattle.std.proofs.lemmas.List.Sums.{sum_by-cons}
+use lib.Signed.{le_z, lt_z}
+use Rattle.sat_model.specs.declared.satellites.Row.{Row}
+use Rattle.sat_model.specs.declared.boxes.Box3.{Box3}
+use Rattle.sat_model.specs.Boxes.{grid_box}
+use Rattle.sat_model.specs.ClockSpans.{clock_spans, clock_ends, IsShownEmpty}
+use Rattle.sat_model.specs.Relaxed.{holds, IsRelaxedEmpty}
+use Rattle.sat_model.proofs.ClockLemmas.{near_le_far}
+use Rattle.relaxed_meet.specs.Separated.{lows_above, highs_to}
+
+abbrev pub AreOrdered : List (ℤ × ℤ) → Type 0
+AreOrdered [] = Unit {0}
+AreOrdered (t ∷ spans) = (t.0 ≤ℤ t.1) × AreOrdered spans
+
+-- one span holds b, lies above it or lies below it, and only one of these
+one_of : (a b c : Bool) → (a ≡ true → b ≡ true → ⊥) → (a ≡ true → c ≡ true → ⊥) → (b ≡ true → c ≡ true → ⊥) → cond a 1 0 + cond b 1 0 + cond c 1 0 ≤ 1
+one_of true true c f g h = absurd (f refl refl)
+one_of true false true f g h = absurd (g refl refl)
+one_of true false false f g h = omega arith
+one_of false true true f g h = absurd (h refl refl)
+one_of false true false f g h = omega arith
+one_of false false true f g h = omega arith
+one_of false false false f g h = omega arith
+
+both : (a b : Bool) → (a && b) ≡ true → (a ≡ true) × (b ≡ true)
+both true b e = (refl, e)
+both false b e = absurd cc
+
+le_of : (a b : ℤ) → le_z a b ≡ true → a ≤ℤ b
+le_of a b h = omega (arith, ints)
+
+lt_of : (a b : ℤ) → lt_z a b ≡ true → a <ℤ b
+lt_of a b h = omega (arith, ints)
+
+missed : (b low high : ℤ) (spans : List (ℤ × ℤ)) → low <ℤ b → b ≤ℤ high → AreOrdered spans → count_by (λ t. holds t b) spans + lows_above high spans + highs_to low spans ≤ length spans
+missed b low high [] h k o = omega arith
+missed b low high (t ∷ spans) h k o =
+    omega (
+      arith,
+      sum_by-cons (λ t. cond (holds t b) 1 0) t spans,
+      sum_by-cons (λ t. cond (lt_z high t.0) 1 0) t spans,
+      sum_by-cons (λ t. cond (le_z t.1 low) 1 0) t spans,
+      one_of (holds t b) (lt_z high t.0) (le_z t.1 low)
+          (λ e f. let x = le_of t.0 b (both (le_z t.0 b) (le_z b t.1) e).0 in let y = lt_of high t.0 f in omega (arith, ints))
+          (λ e f. let x = le_of b t.1 (both (le_z t.0 b) (le_z b t.1) e).1 in let y = le_of t.1 low f in omega (arith, ints))
+          (λ e f. let x = lt_of high t.0 e in let y = le_of t.1 low f in let z = o.0 in omega (arith, ints)),
+      missed b low high spans h k o.1,
+    )
+
+-- each offset has enough low ends above it and enough high ends to it, for ranks from j on
+abbrev pub AreSeparated : ℕ → ℕ → List ℤ → List (ℤ × ℤ) → Type 0
+AreSeparated q j [] spans = q + 1 ≤ j
+AreSeparated q j (s ∷ more) spans = (q + 1 ≤ lows_above s spans + j) × (j + 1 ≤ highs_to s spans) × AreSeparated q (j + 1) more spans
+
+too_many_missed : (q j : ℕ) (b low : ℤ) (offsets : List ℤ) (spans : List (ℤ × ℤ)) → AreOrdered spans → low <ℤ b → j ≤ highs_to low spans → AreSeparated q j offsets spans
+    → count_by (λ t. holds t b) spans + q + 1 ≤ length spans
+too_many_missed q j b low [] spans o h k are = omega (arith, missed b low b spans h (omega (arith, ints)) o)
+too_many_missed q j b low (s ∷ more) spans o h k are = by_lt_z s b
+    (λ less. too_many_missed q (j + 1) b s more spans o less are.1 are.2)
+    (λ not_less. omega (arith, missed b low s spans h not_less o, are.0))
+
+-- so no number lies in all but q of the spans
+pub separated_empty : (q : ℕ) (offsets : List ℤ) (spans : List (ℤ × ℤ)) → AreOrdered spans → AreSeparated q 0 offsets spans → IsRelaxedEmpty spans (length spans - q)
+separated_empty q offsets spans o are b lies = omega (arith, too_many_missed q 0 b (b -ℤ pos 1) offsets spans o (omega (arith, ints)) (omega arith) are)
+
+-- ---- the offsets of the greatest ranks, which are found first
+
+pub record ArePartedFrom (q passed : ℕ) (spans : List (ℤ × ℤ)) : Type 0 where
+  pub offsets : List ℤ
+  pub are : AreSeparated q (q + 1 - passed) offsets spans
+
+pub none_parted : (q : ℕ) (spans : List (ℤ × ℤ)) → ArePartedFrom q 0 spans
+none_parted q spans = record { offsets = []; are = omega arith }
+
+pub one_parted : (q passed rank : ℕ) (s : ℤ) (spans : List (ℤ × ℤ)) → passed ≤ q → rank ≡ q - passed → passed + 1 ≤ lows_above s spans → rank + 1 ≤ highs_to s spans
+    → ArePartedFrom q passed spans → ArePartedFrom q (passed + 1) spans
+one_parted q passed rank s spans h r above up_to had = record {
+  offsets = s ∷ had.offsets;
+  are =
+      let now : q + 1 - (passed + 1) ≡ rank = omega (arith, r, h) in
+      let before : q + 1 - passed ≡ rank + 1 = omega (arith, r, h) in
+      rw now (omega (arith, r, h, above), up_to, rw before at had.are);
+}
+
+ordered : (part : Box3) (rows : List Row) → AreOrdered (clock_spans (grid_box part) rows)
+ordered part [] = record {}
+ordered part (row ∷ rows) = (omega (arith, ints, near_le_far row part, row.range.ordered, row.err.ordered), ordered part rows)
+
+pub parted_empty : (q : ℕ) (part : Box3) (rows : List Row) → ArePartedFrom q (q + 1) (clock_spans (grid_box part) rows) → IsShownEmpty rows (grid_box part) q
+parted_empty q part rows had =
+    let spans = clock_spans (grid_box part) rows in
+    let same : length spans ≡ length rows = length-map rows (clock_ends (grid_box part)) in
+    let none : q + 1 - (q + 1) ≡ 0 = omega arith in
+    rw same at (separated_empty q had.offsets spans (ordered part rows) (rw none at had.are))

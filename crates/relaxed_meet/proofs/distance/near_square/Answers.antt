@@ -1,0 +1,12 @@
+use Rattle.std.proofs.Common.{arith}
+use Rattle.std.proofs.lemmas.Int.{ints}
+use Rattle.sat_model.specs.Amounts.{least_amount}
+use Rattle.relaxed_meet.proofs.SquareLemmas.{at_ends, sum_same}
+use Rattle.relaxed_meet.proofs.distance.near_square.Goals as goal
+
+pub returns : goal.returns
+returns c =
+    sum_same _ _ _ _ _ _ _ c.sum_of_squares.ensures
+    (at_ends least_amount _ _ _ _ _ _ _ _ _ c.least.ensures.value (omega (arith, ints)) (omega (arith, ints)) (omega (arith, ints)) (omega (arith, ints)))
+    (at_ends least_amount _ _ _ _ _ _ _ _ _ c.least-2.ensures.value (omega (arith, ints)) (omega (arith, ints)) (omega (arith, ints)) (omega (arith, ints)))
+    (at_ends least_amount _ _ _ _ _ _ _ _ _ c.least-3.ensures.value (omega (arith, ints)) (omega (arith, ints)) (omega (arith, ints)) (omega (arith, ints)))

@@ -1,0 +1,11 @@
+use Rattle.std.proofs.Common.{◌≡◌}
+use Rattle.sat_model.specs.Boxes.{grid_box}
+use Rattle.sat_model.specs.ClockSpans.{clock_spans}
+use Rattle.relaxed_meet.proofs.SeparatedLemmas.{ArePartedFrom}
+use Rattle.relaxed_meet.proofs.separation.Separation.shows_empty.Given as goal
+
+abbrev pub invariant-loop-passed : goal.invariant-loop-passed
+invariant-loop-passed l = record {
+  last : l.last ≡ l.fn.q;
+  parted : ArePartedFrom l.last l.passed (clock_spans (grid_box l.part) l.rows);
+}
