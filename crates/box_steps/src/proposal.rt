@@ -13,16 +13,19 @@ use crate::steps::{StepFault, Steps};
 use crate::target::Target;
 use fix_interval::Interval;
 use range_contractor::{Tree, contract};
+use relaxed_meet::SlabTests;
 use sat_model::{Box3, Row, Span};
 
 /// Cuts the box at each face in turn where the tree's proposal for it and the clock span lies
-/// inside, and answers how many cuts that made. A fault is that of the step that wasn't taken.
+/// inside, and answers how many cuts that made. A fault is that of the step that wasn't taken. What
+/// decided the tests of slabs before changes no answer, but how soon it comes.
 pub fn cut_by_tree<I: Interval, L: Steps>(
     rows: &[Row],
     q: u8,
     tree: &Tree<I>,
     clock: Span,
     id: u32,
+    tests: &mut SlabTests,
     part: &mut Box3,
     log: &mut L,
 ) -> Result<u32, StepFault>
@@ -39,7 +42,7 @@ pub fn cut_by_tree<I: Interval, L: Steps>(
     ensures counted { L.faults log.old ≤ L.faults log.new }
 {
     match contract(tree, part, clock) {
-        Some(proposed) => cut_faces(rows, q, id, &Target::Proposal(proposed), part, log),
+        Some(proposed) => cut_faces(rows, q, id, &Target::Proposal(proposed), tests, part, log),
         None => Ok(0),
     }
 }

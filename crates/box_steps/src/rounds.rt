@@ -9,14 +9,17 @@ ghost use Rattle.box_steps.specs.Taking.{TookCuts, BrokeOff, LeaveSome};
 use crate::faces::cut_faces;
 use crate::steps::{StepFault, Steps};
 use crate::target::Target;
+use relaxed_meet::SlabTests;
 use sat_model::{Box3, Row};
 
 /// Cuts eighths off the box, round by round over its faces, until a round makes no cut, and answers
-/// how many cuts that made. A fault is that of the step that wasn't taken.
+/// how many cuts that made. A fault is that of the step that wasn't taken. What decided the tests of
+/// slabs before changes no answer, but how soon it comes.
 pub fn cut_eighths<L: Steps>(
     rows: &[Row],
     q: u8,
     id: u32,
+    tests: &mut SlabTests,
     part: &mut Box3,
     log: &mut L,
 ) -> Result<u32, StepFault>
@@ -31,7 +34,7 @@ pub fn cut_eighths<L: Steps>(
 {
     let mut cuts = 0;
     'rounds: loop {
-        let made = cut_faces(rows, q, id, &Target::Eighths, part, log)?;
+        let made = cut_faces(rows, q, id, &Target::Eighths, tests, part, log)?;
         if made == 0 {
             return Ok(cuts);
         }

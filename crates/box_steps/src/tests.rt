@@ -5,6 +5,7 @@ use super::*;
 use fix_interval::Exact;
 use paving_log::step_line;
 use range_contractor::relaxed_tree;
+use relaxed_meet::SlabTests;
 use sat_model::{Box3, Pos, Row, Rules, Sat, Span, Step};
 use std::alloc::Global;
 use std::test::Fail;
@@ -136,7 +137,10 @@ fn worked_on(
     requires { (0 < length rows.now) × (length rows.now ≤ 64) }
 {
     match relaxed_tree::<Exact>(alloc, rows, 0) {
-        Ok(tree) => work_on(rows, &NO_SPLITS, &tree, 0, 0, part, log),
+        Ok(tree) => {
+            let mut tests = SlabTests::default();
+            work_on(rows, &NO_SPLITS, &tree, 0, 0, &mut tests, part, log)
+        }
         Err(_) => Err(StepFault::Failed),
     }
 }

@@ -17,7 +17,7 @@ use crate::rounds::cut_eighths;
 use crate::steps::{StepFault, Steps};
 use fix_interval::Interval;
 use range_contractor::Tree;
-use relaxed_meet::{BoxState, box_state};
+use relaxed_meet::{BoxState, SlabTests, box_state};
 use sat_model::{Box3, Row, Rules, Span, Step};
 
 /// How a box ended: the step that split or closed it, what was left of it by then, in um, and how
@@ -32,13 +32,15 @@ pub struct Ended {
 /// Works on a box of a paving that is taken up after so many splits, and hands each step to the log
 /// with the slab that it cuts off or the box as it is then. The box is cut where its rows show slabs
 /// at its faces empty: up to what their tree proposes, and by eighths. Then it is split or closed.
-/// A fault is that of the step that wasn't taken. At most 1,800 cuts are made.
+/// A fault is that of the step that wasn't taken. At most 1,800 cuts are made. What decided the tests
+/// of slabs before, of this box or another with these rows, changes no step, but how soon it comes.
 pub fn work_on<I: Interval, L: Steps>(
     rows: &[Row],
     rules: &Rules,
     tree: &Tree<I>,
     splits: u32,
     id: u32,
+    tests: &mut SlabTests,
     part: &Box3,
     log: &mut L,
 ) -> Result<Ended, StepFault>
@@ -65,7 +67,7 @@ pub fn work_on<I: Interval, L: Steps>(
         });
     };
     let mut left = *part;
-    let cuts = cut_down(rows, rules, tree, hull, id, &mut left, log)?;
+    let cuts = cut_down(rows, rules, tree, hull, id, tests, &mut left, log)?;
     let state = box_state(rows, &left, rules.outliers);
     let step = closing_step(rules, splits, id, &left, &state);
     log.step(&step, &left)?;
@@ -80,6 +82,7 @@ fn cut_down<I: Interval, L: Steps>(
     tree: &Tree<I>,
     hull: Span,
     id: u32,
+    tests: &mut SlabTests,
     part: &mut Box3,
     log: &mut L,
 ) -> Result<u32, StepFault>
@@ -98,7 +101,7 @@ fn cut_down<I: Interval, L: Steps>(
     ensures failed { result ≡ Err StepFault.Failed → Rose (L.faults log.old) (L.faults log.new) }
     ensures counted { L.faults log.old ≤ L.faults log.new }
 {
-    let by_tree = cut_by_tree(rows, rules.outliers, tree, hull, id, part, log)?;
-    let by_eighths = cut_eighths(rows, rules.outliers, id, part, log)?;
+    let by_tree = cut_by_tree(rows, rules.outliers, tree, hull, id, tests, part, log)?;
+    let by_eighths = cut_eighths(rows, rules.outliers, id, tests, part, log)?;
     Ok(by_tree + by_eighths)
 }

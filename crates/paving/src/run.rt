@@ -13,6 +13,7 @@ use crate::queues::Queues;
 use crate::trees::Trees;
 use box_pool::Pool;
 use box_steps::{StepFault, Steps};
+use relaxed_meet::SlabTests;
 use sat_model::{Box3, Row, Rules};
 
 /// Paves the root of the plan, box by box, and hands each step to the log. Ends with the counts of
@@ -58,10 +59,11 @@ fn pave_box<L: Steps>(
     ensures counted { L.faults log.old ≤ L.faults log.new }
     ensures budget { IfOk result (λ counts. counts.bisections ≤ rules.now.bisections) }
 {
+    let mut tests = SlabTests::default();
     let mut counts = Counts::default();
     let mut queues = Queues::of_root(pool, root);
     while let Some(next) = queues.take_next() {
-        let ended = trees.work_on_box(rows, rules, counts.bisections, &next, log)?;
+        let ended = trees.work_on_box(rows, rules, counts.bisections, &mut tests, &next, log)?;
         queues.open(&ended.step, &ended.left, counts.bisections);
         counts.add_cuts(ended.cuts);
         counts.add(&ended.step);

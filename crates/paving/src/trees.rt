@@ -12,6 +12,7 @@ use box_pool::Item;
 use box_steps::{Ended, StepFault, Steps, work_on};
 use fix_interval::{Coarse, Exact};
 use range_contractor::{Tree, relaxed_tree};
+use relaxed_meet::SlabTests;
 use sat_model::{NoMemory, Row, Rules};
 use std::alloc::Global;
 
@@ -40,12 +41,13 @@ impl Trees {
 
     /// Works on a box that is taken up after so many splits, with the tree for its longest side, and
     /// hands each step to the log. A fault is that of the step that wasn't taken. At most 1,800 cuts
-    /// are made.
+    /// are made. What decided the tests of slabs before changes no step, but how soon it comes.
     pub fn work_on_box<L: Steps>(
         &self,
         rows: &[Row],
         rules: &Rules,
         splits: u32,
+        tests: &mut SlabTests,
         next: &Item,
         log: &mut L,
     ) -> Result<Ended, StepFault>
@@ -60,11 +62,12 @@ impl Trees {
             → Rose (L.faults log.old) (L.faults log.new) }
         ensures counted { L.faults log.old ≤ L.faults log.new }
     {
-        let (_, longest) = next.part.longest_axis();
+        let part = &next.part;
+        let (_, longest) = part.longest_axis();
         if longest > LONG_SIDE {
-            work_on(rows, rules, &self.coarse, splits, next.id, &next.part, log)
+            work_on(rows, rules, &self.coarse, splits, next.id, tests, part, log)
         } else {
-            work_on(rows, rules, &self.exact, splits, next.id, &next.part, log)
+            work_on(rows, rules, &self.exact, splits, next.id, tests, part, log)
         }
     }
 }

@@ -7,7 +7,7 @@ ghost use Rattle.sat_model.specs.Relaxed.{holds};
 ghost use Rattle.sat_model.specs.Verdicts.{CutsEmptySlab, HoldsHull, IsLong};
 
 use live_boxes::{is_proper_cut, slab_of};
-use relaxed_meet::{Deciding, clock_hull, inner_span};
+use relaxed_meet::{SlabTests, clock_hull, inner_span};
 use sat_model::{Box3, Row, Rules};
 
 /// Whether the side on the axis is longer than the width.
@@ -35,13 +35,14 @@ pub(crate) fn cuts_empty_slab(
     q: u8,
     face: u8,
     bound: i64,
+    tests: &mut SlabTests,
     part: &Box3,
-    deciding: &mut Deciding,
 ) -> bool
     requires { (q < length rows.now) × (length rows.now ≤ 64) }
     ensures { IsTrue result ↔ CutsEmptySlab rows.now q face bound (grid_box part.now) }
 {
-    is_proper_cut(part, face, bound) && deciding.shown_empty(rows, &slab_of(part, face, bound), q)
+    is_proper_cut(part, face, bound)
+        && tests.shown_empty(face, rows, &slab_of(part, face, bound), q)
 }
 
 /// Whether the row fits everywhere in the box at this clock offset.

@@ -15,7 +15,7 @@ use crate::faults::{
 };
 use live_boxes::Live;
 use paving_log::LineFault;
-use relaxed_meet::Deciding;
+use relaxed_meet::{Deciding, SlabTests};
 use sat_model::{Box3, NoMemory, Row, Rules, Step};
 use std::alloc::Global;
 
@@ -28,11 +28,10 @@ struct Judge<'a> {
     ghost at_most: { length rows.now ≤ 64 },
 }
 
-/// For each face, and for whole boxes, the rows that decided the last test whether something is
-/// empty.
+/// What decided the last test whether something is empty, of a slab at each face and of a whole box.
 #[derive(Clone, Copy, Default)]
 struct Decided {
-    slabs: [Deciding; 8],
+    slabs: SlabTests,
     boxes: Deciding,
 }
 
@@ -44,7 +43,7 @@ impl<'a> Judge<'a> {
         id: u32,
         face: u8,
         bound: i64,
-        deciding: &mut Deciding,
+        tests: &mut SlabTests,
     ) -> Option<u8>
         ensures { IsStepFault self.now.rows.now self.now.rules.now (stage_of live.now)
             (Cut id face bound) result }
@@ -52,7 +51,7 @@ impl<'a> Judge<'a> {
         let Some(part) = live.box_of(id) else {
             return Some(NOT_LIVE);
         };
-        if !cuts_empty_slab(self.rows, self.rules.outliers, face, bound, &part, deciding) {
+        if !cuts_empty_slab(self.rows, self.rules.outliers, face, bound, tests, &part) {
             return Some(CUT_NOT_SHOWN);
         }
         None
@@ -123,8 +122,7 @@ impl<'a> Judge<'a> {
     {
         match step {
             Step::Cut { id, face, bound } => {
-                let slabs = &mut decided.slabs[usize::from(*face % 8)];
-                self.cut_fault(live, *id, *face, *bound, slabs)
+                self.cut_fault(live, *id, *face, *bound, &mut decided.slabs)
             }
             Step::Split { id, axis } => self.split_fault(live, *id, *axis),
             Step::Outside { id } => self.outside_fault(live, *id, &mut decided.boxes),
