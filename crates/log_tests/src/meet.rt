@@ -1,7 +1,5 @@
 use crate::small_rows::{cuboid, metre_row, only};
-use relaxed_meet::{
-    clock_hull, clock_span, inner_span, near_far, relaxed, shown_empty, shown_inner,
-};
+use relaxed_meet::{Deciding, clock_hull, clock_span, inner_span, near_far, relaxed, shown_inner};
 use sat_model::{Box3, Pos, Row, Sat, Span};
 use std::test::Fail;
 
@@ -79,7 +77,7 @@ fn a_row_overhead_shows_its_box(rt: HostRuntime) -> Result<(), Fail> {
             hi: 1_000_000
         })
     );
-    assert!(rt; !shown_empty(&rows, &column, 0));
+    assert!(rt; !Deciding::default().shown_empty(&rows, &column, 0));
     assert_eq!(rt; shown_inner(&rows, &column, 0), None);
     let point = Box3 {
         lo: Pos { x: 0, y: 0, z: 5 },

@@ -205,17 +205,6 @@ read_next all s most lows highs new_lows new_highs lo hi lo_is hi_is read low_fa
       keeps_highs = rw h (kept_more most highs new_highs (highs_of read.spans) hi (mirrored s.hi) read.keeps_highs high_falls high_count high_same hi_is);
     }
 
--- the next one of a list is
-pub read_more : {X : Type 0} (f : X → ℤ × ℤ) (xs : List X) (i : ℕ) (x : X) (s : Span) (most : ℕ) (lows highs new_lows new_highs : List ℤ) (lo hi : ℤ)
-    → i < length xs → x ≡ get_or xs i x → ends s ≡ f x → lo ≡ s.lo → hi ≡ mirrored s.hi → AreRead most lows highs (map f (take i xs))
-    → IsFalling new_lows → length new_lows ≡ min (length lows + 1) most → ((b : ℤ) → above b new_lows ≡ min (above b (lows ++ lo ∷ [])) most)
-    → IsFalling new_highs → length new_highs ≡ min (length highs + 1) most → ((b : ℤ) → above b new_highs ≡ min (above b (highs ++ hi ∷ [])) most)
-    → AreRead most new_lows new_highs (map f (take (i + 1) xs))
-read_more f xs i x s most lows highs new_lows new_highs lo hi within reads is lo_is hi_is read low_falls low_count low_same high_falls high_count high_same =
-    let e = map_more f xs i x within in
-    let next = read_next (map f (take i xs)) s most lows highs new_lows new_highs lo hi lo_is hi_is read low_falls low_count low_same high_falls high_count high_same in
-    subst (AreRead most new_lows new_highs) (let all : map f (take i xs) ++ ends s ∷ [] ≡ map f (take (i + 1) xs) = cc in all) next
-
 -- whether the search finds a number tells whether one lies in enough of the spans that were read
 pub found_or_empty : (all : List (ℤ × ℤ)) (q len : ℕ) (lows highs : List ℤ) (r : Option ℤ) → q < len → length all ≡ len → AreRead (q + 1) lows highs all
     → IsLeastIn (LiesBetween lows highs) r → IsNone r ↔ IsRelaxedEmpty all (len - q)

@@ -25,7 +25,8 @@ pub struct Deciding {
 }
 
 impl Deciding {
-    /// Whether the rows show the box empty, as the function `shown_empty` says.
+    /// Whether no clock offset lies in the clock spans of all but at most `q` rows over the box: then
+    /// no point of the box fits.
     pub fn shown_empty(&mut self, rows: &[Row], part: &Box3, q: u8) -> bool
         requires { (q < length rows.now) × (length rows.now ≤ 64) }
         ensures { IsTrue result ↔ IsShownEmpty rows.now (grid_box part.now) q }
@@ -100,7 +101,7 @@ pub struct SlabTests {
 }
 
 impl SlabTests {
-    /// Whether the rows show a slab at this face empty, as the function `shown_empty` says.
+    /// Whether the rows show a slab at this face empty, as `Deciding::shown_empty` does.
     pub fn shown_empty(&mut self, face: u8, rows: &[Row], slab: &Box3, q: u8) -> bool
         requires { (q < length rows.now) × (length rows.now ≤ 64) }
         ensures { IsTrue result ↔ IsShownEmpty rows.now (grid_box slab.now) q }

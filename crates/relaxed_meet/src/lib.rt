@@ -15,4 +15,4 @@ pub use clocks::{clock_span, inner_span};
 pub use deciding::{Deciding, SlabTests};
 pub use distance::near_far;
 pub use hull::relaxed;
-pub use shown::{BoxState, box_state, clock_hull, shown_empty, shown_inner};
+pub use shown::{BoxState, box_state, clock_hull, shown_inner};

@@ -1,13 +1,12 @@
 //! What the rows show of a box.
 
-ghost use Rattle.std.specs.Prelude.{◌≡◌, ◌-◌, ◌<◌, ◌≤◌, ◌↔◌, length, IsTrue, IfSome, IsNone};
+ghost use Rattle.std.specs.Prelude.{◌≡◌, ◌-◌, ◌<◌, ◌≤◌, ◌↔◌, length, IfSome, IsNone};
 ghost use Rattle.sat_model.specs.Boxes.{grid_box};
 ghost use Rattle.relaxed_meet.specs.BoxStates.{IsBoxState};
 ghost use Rattle.sat_model.specs.ClockSpans.{IsClockHull, IsShownEmpty, NoneIsShownInner, IsLeastShownInner};
 
 use crate::clocks::{clock_span, clock_spans, inner_span};
-use crate::extremes::{Falling, keep};
-use crate::hull::{least_between, least_number, relaxed};
+use crate::hull::{least_number, relaxed};
 use arrayvec::ArrayVec;
 use sat_model::{Box3, Row, Span};
 
@@ -23,23 +22,6 @@ pub fn clock_hull(rows: &[Row], part: &Box3, q: u8) -> Option<Span>
         spans.push(clock_span(row, part));
     }
     relaxed(&spans, rows.len() as u8 - q)
-}
-
-/// Whether no clock offset lies in the clock spans of all but at most `q` rows over the box: then no
-/// point of the box fits.
-pub fn shown_empty(rows: &[Row], part: &Box3, q: u8) -> bool
-    requires { (q < length rows.now) × (length rows.now ≤ 64) }
-    ensures { IsTrue result ↔ IsShownEmpty rows.now (grid_box part.now) q }
-{
-    let most = usize::from(q) + 1;
-    let mut lows = Falling::new();
-    let mut highs = Falling::new();
-    for row in rows {
-        let span = clock_span(row, part);
-        keep(&mut lows, span.lo, most);
-        keep(&mut highs, -1 - span.hi, most);
-    }
-    least_between(&lows, &highs).is_none()
 }
 
 /// The least clock offset in um that lies in the inner spans of all but at most `q` rows over the
