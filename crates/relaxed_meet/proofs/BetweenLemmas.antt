@@ -1,9 +1,9 @@
 -- The numbers that lie in enough spans are those between a low end and the high end that goes with it.
-use Rattle.std.proofs.Common.{◌≡◌, ℕ, ◌+◌, ◌-◌, ◌<◌, ◌≤◌, min, count_by, List, [], ◌∷◌, ◌++◌, length, map, take, get_or, cond, ◌&&◌, arith, refl, sym, ap, subst, ◌∙◌, inl, inr, Option, None, Some, IsNone, ◌↔◌, Bool, true, false, not, is_some, IsTrue}
+use Rattle.std.proofs.Common.{◌≡◌, ℕ, ◌+◌, ◌-◌, ◌<◌, ◌≤◌, min, count_by, List, [], ◌∷◌, ◌++◌, length, map, get_or, cond, ◌&&◌, arith, refl, sym, ap, subst, ◌∙◌, inl, inr, Option, None, Some, IsNone, ◌↔◌, Bool, true, false, not, is_some, IsTrue}
 use Rattle.std.specs.Prelude.{ℤ, pos, ◌≤ℤ◌, ◌<ℤ◌}
 use Rattle.std.proofs.lemmas.Int.{ints}
 use Rattle.std.proofs.lemmas.Bool.{cases_lt, cases_eq}
-use Rattle.std.proofs.lemmas.List.{length-map, map-append, map_more}
+use Rattle.std.proofs.lemmas.List.{length-map, map-append}
 use Rattle.std.proofs.lemmas.List.Sums.{sum_by-cons}
 use lib.Signed.{le_z}
 use Rattle.sat_model.specs.declared.spans.Span.{Span}
