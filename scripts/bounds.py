@@ -60,7 +60,10 @@ def receiver_bound(args):
 
 def troposphere(mapped, args):
     """The (low, high) in metres of the troposphere's delay, mapped by this factor, which is 1 at the zenith."""
-    return args.troposphere[0] * mapped * (1 - args.mapping), args.troposphere[1] * mapped * (1 + args.mapping)
+    low, high = args.troposphere
+    # Outward for either sign.
+    return (low * mapped * (1 - math.copysign(args.mapping, low)),
+            high * mapped * (1 + math.copysign(args.mapping, high)))
 
 
 def varying(angle, args):

@@ -306,6 +306,13 @@ class Bounds(unittest.TestCase):
         self.assertAlmostEqual(low, 1.911 * 1.99404, places=3)
         self.assertAlmostEqual(high, 2.703 * 1.99404 + 6 * 1.75121, places=3)
 
+    def test_the_part_for_the_mapping_widens_either_sign(self):
+        # what differences leave: 1.02 * -0.5 and 1.02 * 0.5, and of -0.3 m 0.98
+        args = self.table("dual", "--troposphere", "-0.5", "0.5")
+        self.assertEqual(bounds.millimetres(bounds.troposphere(1.0, args)), "[-510, 510]")
+        args = self.table("dual", "--troposphere", "-0.5", "-0.3")
+        self.assertEqual(bounds.millimetres(bounds.troposphere(1.0, args)), "[-510, -294]")
+
     def test_the_noise_grows_to_the_horizon(self):
         args = self.table("single", "--horizon", "3")
         self.assertAlmostEqual(bounds.extra_noise(math.radians(15), args), 3.0)
