@@ -2,11 +2,13 @@
 
 ghost use Rattle.std.specs.Prelude.{◌≡◌, ◌≤◌, ◌*◌, count_by};
 ghost use Rattle.cover_run.specs.Making.{counted_in, is_of, summed, usable_in};
+ghost use Rattle.logged_steps.specs.Steps.{steps_of};
 ghost use Rattle.paving_log.specs.Values.{block_of, log_value};
 ghost use Rattle.sat_model.specs.Logs.{IsNumbered, lines_in};
 ghost use Rattle.sat_model.specs.Verdicts.{BodyPasses, Judged};
 ghost use Rattle.sat_model.specs.declared.rules.Rules.{Rules};
 
+use logged_steps::LoggedSteps;
 use paving_log::{Log, LogEpoch};
 use sat_model::Step;
 
@@ -32,10 +34,17 @@ fn is_of(kind: Kind, step: &Step) -> bool
 }
 
 /// How many steps are.
-fn counted_steps(kind: Kind, steps: &[Step]) -> usize
-    ensures { result ≡ count_by (is_of kind) steps.now }
+fn counted_steps(kind: Kind, steps: &LoggedSteps) -> usize
+    ensures { result ≡ count_by (is_of kind) (steps_of steps.now) }
 {
-    steps.iter().filter(|step| is_of(kind, step)).count()
+    let mut counted = 0;
+    let mut ahead = steps.ahead();
+    'steps: while let Some(step) = ahead.next() {
+        if is_of(kind, &step) {
+            counted += 1;
+        }
+    }
+    counted
 }
 
 /// One of the numbers of an epoch's total, 0 where it has none.

@@ -14,6 +14,7 @@ ghost use Rattle.sat_model.specs.Boxes.{grid_box};
 ghost use Rattle.sat_model.specs.SearchBoxes.{IsSearchBox};
 
 use crate::lines::{grown_lines, skip_lines};
+use logged_steps::LoggedSteps;
 use paving_log::LogEpoch;
 use rinex_obs::ObsEpoch;
 use sat_model::{Box3, NoMemory, Rules};
@@ -49,7 +50,7 @@ pub fn block<S: RowSource>(
             few: true,
             sats: skip_lines(alloc, &own.lines)?,
             root: None,
-            steps: Vec::new(alloc),
+            steps: LoggedSteps::new(alloc),
             done: 0,
         });
     }
@@ -61,7 +62,7 @@ pub fn block<S: RowSource>(
         few: false,
         sats: grown_lines(alloc, &own.lines, root, source.zenith())?,
         root: Some(*root),
-        steps: Vec::new(alloc),
+        steps: LoggedSteps::new(alloc),
         done: 0,
     })
 }

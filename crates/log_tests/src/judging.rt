@@ -7,6 +7,7 @@ ghost use Rattle.paving_log.specs.Values.{block_of};
 use crate::small_rows::{
     FAR, cuboid, edge, five_rows, four_rows, metre_row, row, rules, split, up_to,
 };
+use logged_steps::LoggedSteps;
 use paving_log::{Log, LogEpoch};
 use paving_log_check::{Fault, Verdict, judge};
 use sat_model::{Box3, NoMemory, Pos, Row, Rules, SatEntry, Span, Step};
@@ -41,8 +42,6 @@ fn judged(
     for row in rows {
         sats.push(SatEntry::Row(*row))?;
     }
-    let mut taken = Vec::new(alloc);
-    taken.extend_from_slice(steps)?;
     let mut epochs = Vec::new(alloc);
     epochs.push(LogEpoch {
         line: 3,
@@ -52,7 +51,7 @@ fn judged(
         few: false,
         sats,
         root: Some(root),
-        steps: taken,
+        steps: LoggedSteps::from_slice(alloc, steps)?,
         done,
     })?;
     judge(alloc, &Log { rules, epochs })
@@ -274,7 +273,7 @@ fn few(alloc: Global, line: u32, index: u32) -> LogEpoch
         few: true,
         sats: Vec::new(alloc),
         root: None,
-        steps: Vec::new(alloc),
+        steps: LoggedSteps::new(alloc),
         done: 0,
     }
 }

@@ -6,6 +6,7 @@ ghost use Rattle.sat_model.specs.Logs.{IsNumbered};
 ghost use Rattle.paving_log.specs.Values.{log_value};
 
 use crate::small_rows::cuboid;
+use logged_steps::LoggedSteps;
 use paving_log::{
     Log, LogEpoch, LogError, cover_boxes, done_line, epoch_line, head_lines, read_log, read_rows,
     root_line, sat_line, step_line,
@@ -239,8 +240,9 @@ fn written(alloc: Global, log: &Log) -> Result<String, AllocError> {
         }
         if let Some(root) = &epoch.root {
             text.push_str(&root_line(root))?;
-            for step in &epoch.steps {
-                text.push_str(&step_line(step))?;
+            let mut ahead = epoch.steps.ahead();
+            while let Some(step) = ahead.next() {
+                text.push_str(&step_line(&step))?;
             }
             text.push_str(&done_line(epoch.done))?;
         }
@@ -300,7 +302,7 @@ fn cover(alloc: Global, root: Option<Box3>, steps: &[Step]) -> Result<Vec<Box3>,
         few: root.is_none(),
         sats: Vec::new(alloc),
         root,
-        steps: Vec::from_slice(alloc, steps)?,
+        steps: LoggedSteps::from_slice(alloc, steps)?,
         done: 0,
     };
     cover_boxes(alloc, &epoch)

@@ -1,5 +1,5 @@
 -- One more step behind steps in columns, and how many they are.
-use Rattle.std.proofs.Common.{◌≡◌, ◌∙◌, ℕ, zero, suc, ◌+◌, arith, List, [], ◌∷◌, ◌++◌, length, append-nil, ap, refl, ℤ, Option, None, Some}
+use Rattle.std.proofs.Common.{◌≡◌, ◌∙◌, ℕ, zero, suc, ◌+◌, ◌≤◌, arith, List, [], ◌∷◌, ◌++◌, length, length-append, append-nil, ap, refl, ℤ, Option, None, Some}
 use Rattle.sat_model.specs.declared.steps.Step.{Step}
 use Rattle.sat_model.specs.declared.steps.Step.TheVariants.{Cut}
 use Rattle.logged_steps.specs.Columns.{box_in}
@@ -13,6 +13,10 @@ cuts_with [] turn = omega arith
 cuts_with (first ∷ turns) turn = omega (arith, cuts_with turns turn)
 
 -- ---- how many steps
+
+pub at_most_one_more : (turns : List Turn) (last : Option Turn) → length (with_last turns last) ≤ length turns + 1
+at_most_one_more turns None = omega (arith, length-append turns [])
+at_most_one_more turns (Some turn) = omega (arith, length-append turns (turn ∷ []))
 
 pub counted : (id cuts : ℕ) (turns : List Turn) (faces : List ℕ) (bounds : List ℤ)
     → cuts + cuts_in turns ≡ length faces → cuts + cuts_in turns ≡ length bounds

@@ -1,6 +1,6 @@
 //! The steps, and one more behind them.
 
-ghost use Rattle.std.specs.Prelude.{◌≡◌, ◌<◌, ◌^◌, [], ◌∷◌, ◌++◌, length, None, Some, OnOk, OnErr};
+ghost use Rattle.std.specs.Prelude.{◌≡◌, ◌<◌, ◌^◌, [], ◌∷◌, ◌++◌, length, None, Some, IfOk, OnOk, OnErr};
 ghost use Rattle.logged_steps.specs.Columns.{box_in};
 ghost use Rattle.logged_steps.specs.Turns.{with_last, cuts_in};
 
@@ -36,6 +36,17 @@ impl LoggedSteps {
             faces: Vec::new(alloc),
             bounds: Vec::new(alloc),
         }
+    }
+
+    /// These steps.
+    pub fn from_slice(alloc: Global, steps: &[Step]) -> Result<LoggedSteps, AllocError>
+        ensures { IfOk result (λ logged. steps_of logged ≡ steps.now) }
+    {
+        let mut logged = LoggedSteps::new(alloc);
+        for step in steps {
+            logged.push(*step)?;
+        }
+        Ok(logged)
     }
 
     /// How many steps there are.

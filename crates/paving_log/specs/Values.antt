@@ -2,6 +2,7 @@
 use Rattle.std.specs.Prelude.{map}
 use Rattle.sat_model.specs.Logs.{Block, LogValue}
 use Rattle.live_boxes.specs.Stages.{box_option}
+use Rattle.logged_steps.specs.Steps.{steps_of}
 use Rattle.paving_log.specs.declared.log.Log.{Log}
 use Rattle.paving_log.specs.declared.log.LogEpoch.{LogEpoch}
 
@@ -14,7 +15,7 @@ block_of epoch = record {
   few = epoch.few;
   sats = epoch.sats.items;
   root = box_option epoch.root;
-  steps = epoch.steps.items;
+  steps = steps_of epoch.steps;
   done = epoch.done;
 }
 

@@ -5,11 +5,13 @@ ghost use Rattle.sat_model.specs.Boxes.{grid_box};
 ghost use Rattle.sat_model.specs.Fold.{first_stage, taken_by, pieces};
 ghost use Rattle.live_boxes.specs.Folding.{StepsFold};
 ghost use Rattle.live_boxes.specs.Stages.{box_option, stage_of};
+ghost use Rattle.logged_steps.specs.Steps.{steps_of};
 ghost use Rattle.paving_log.specs.CoverBoxes.{BlockFolds, kept_parts, cover_of};
 ghost use Rattle.paving_log.specs.Values.{block_of};
 
 use crate::log::LogEpoch;
 use live_boxes::Live;
+use logged_steps::LoggedSteps;
 use sat_model::{Box3, NoMemory, Step};
 use std::alloc::{AllocError, Global};
 
@@ -24,17 +26,22 @@ fn kept_by(live: &Live, step: &Step) -> Option<Box3>
 }
 
 /// The boxes that the steps close inside or at the edge, in order of closing.
-fn boxes_kept(alloc: Global, root: &Box3, steps: &[Step]) -> Result<Vec<Box3>, AllocError>
-    requires { StepsFold (first_stage (grid_box root.now)) steps.now }
-    ensures { IfOk result (λ boxes. map grid_box boxes.items ≡ kept_parts (pieces (grid_box root.now) steps.now)) }
+fn boxes_kept(
+    alloc: Global,
+    root: &Box3,
+    steps: &LoggedSteps,
+) -> Result<Vec<Box3>, AllocError>
+    requires { StepsFold (first_stage (grid_box root.now)) (steps_of steps.now) }
+    ensures { IfOk result (λ boxes. map grid_box boxes.items ≡ kept_parts (pieces (grid_box root.now) (steps_of steps.now))) }
 {
     let mut live = Live::of_root(alloc, root)?;
     let mut boxes = Vec::new(alloc);
-    for step in steps {
-        if let Some(part) = kept_by(&live, step) {
+    let mut ahead = steps.ahead();
+    'steps: while let Some(step) = ahead.next() {
+        if let Some(part) = kept_by(&live, &step) {
             boxes.push(part)?;
         }
-        live.take(step)?;
+        live.take(&step)?;
     }
     Ok(boxes)
 }

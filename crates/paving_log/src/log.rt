@@ -3,7 +3,8 @@
 ghost use Rattle.std.specs.Prelude.{◌≡◌, ◌≤◌, length, true, is_none};
 ghost use Rattle.paving_log.specs.declared.log.LogError.TheVariants.{NoMemory};
 
-use sat_model::{Box3, Rules, SatEntry, Step};
+use logged_steps::LoggedSteps;
+use sat_model::{Box3, Rules, SatEntry};
 use std::alloc::{AllocError, AllocFailed};
 
 /// What a log says of one epoch.
@@ -22,7 +23,7 @@ pub struct LogEpoch {
     pub sats: Vec<SatEntry>,
     /// The search box, none where there are too few satellites.
     pub root: Option<Box3>,
-    pub steps: Vec<Step>,
+    pub steps: LoggedSteps,
     /// The number of splits.
     pub done: u32,
     pub ghost at_most: { length sats.items ≤ 64 },

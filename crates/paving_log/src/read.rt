@@ -5,6 +5,7 @@ ghost use Rattle.sat_model.specs.Boxes.{grid_box};
 ghost use Rattle.paving_log.specs.declared.line.Form.TheVariants as forms;
 ghost use Rattle.paving_log.specs.declared.line.LogLine.TheVariants as line;
 ghost use Rattle.paving_log.specs.declared.line.Place.TheVariants as place;
+ghost use Rattle.logged_steps.specs.Steps.{steps_of};
 ghost use Rattle.paving_log.specs.Lines.{HeaderFits};
 ghost use Rattle.paving_log.specs.Order.{place_behind_root};
 ghost use Rattle.paving_log.specs.Rows.{CornersFit, corners_of};
@@ -16,7 +17,8 @@ use crate::line::{Corners, Form, LogLine, Place};
 use crate::lines::{Lines, Opening};
 use crate::log::{LogEpoch, LogError};
 use crate::take::take_line;
-use sat_model::{Box3, Rules, SatEntry, Step};
+use logged_steps::LoggedSteps;
+use sat_model::{Box3, Rules, SatEntry};
 use std::alloc::Global;
 
 /// The first two lines.
@@ -78,12 +80,12 @@ fn satellites(
 }
 
 /// The steps of an epoch, and the number of splits behind them.
-fn steps(alloc: Global, lines: Lines<'_>) -> Result<(Vec<Step>, u32, Lines<'_>), LogError>
-    ensures taken { IfOk result (λ t. Takes place.Steps lines.entry (map line.Step t.0.items ++ line.Done t.1 ∷ []) (place.Between forms.Log) t.2) }
-    ensures fits { IfOk result (λ t. ClosingFits forms.Log t.0.items t.1) }
+fn steps(alloc: Global, lines: Lines<'_>) -> Result<(LoggedSteps, u32, Lines<'_>), LogError>
+    ensures taken { IfOk result (λ t. Takes place.Steps lines.entry (map line.Step (steps_of t.0) ++ line.Done t.1 ∷ []) (place.Between forms.Log) t.2) }
+    ensures fits { IfOk result (λ t. ClosingFits forms.Log (steps_of t.0) t.1) }
     ensures refused { IfErr result (Refuses place.Steps lines.entry) }
 {
-    let mut steps = Vec::new(alloc);
+    let mut steps = LoggedSteps::new(alloc);
     let mut left = lines;
     'steps: loop {
         let (line, _, behind) = take_line(left, Place::Steps)?;
@@ -101,14 +103,14 @@ fn closing(
     alloc: Global,
     form: Form,
     lines: Lines<'_>,
-) -> Result<(Vec<Step>, u32, Lines<'_>), LogError>
-    ensures taken { IfOk result (λ t. Takes (place_behind_root form) lines.entry (closing_lines form t.0.items t.1) (place.Between form) t.2) }
-    ensures fits { IfOk result (λ t. ClosingFits form t.0.items t.1) }
+) -> Result<(LoggedSteps, u32, Lines<'_>), LogError>
+    ensures taken { IfOk result (λ t. Takes (place_behind_root form) lines.entry (closing_lines form (steps_of t.0) t.1) (place.Between form) t.2) }
+    ensures fits { IfOk result (λ t. ClosingFits form (steps_of t.0) t.1) }
     ensures refused { IfErr result (Refuses (place_behind_root form) lines.entry) }
 {
     match form {
         Form::Log => steps(alloc, lines),
-        Form::Rows => Ok((Vec::new(alloc), 0, lines)),
+        Form::Rows => Ok((LoggedSteps::new(alloc), 0, lines)),
     }
 }
 
@@ -218,7 +220,7 @@ fn few_block(
         few: true,
         sats,
         root: None,
-        steps: Vec::new(alloc),
+        steps: LoggedSteps::new(alloc),
         done: 0,
     };
     Ok((epoch, next, left))

@@ -6,9 +6,11 @@ ghost use Rattle.sat_model.specs.Cover.{kept_in};
 ghost use Rattle.sat_model.specs.Logs.{rows_of, lines_in};
 ghost use Rattle.sat_model.specs.StepKinds.{is_kept_step};
 ghost use Rattle.sat_model.specs.Verdicts.{IsLater, SuitsNumber, HeadPasses, HeadFails, BodyPasses, BlockPasses, BlockFails};
+ghost use Rattle.logged_steps.specs.Steps.{steps_of};
 ghost use Rattle.paving_log.specs.Values.{block_of};
 
 use crate::steps::steps_fault;
+use logged_steps::LoggedSteps;
 use paving_log::{LineFault, LogEpoch, own_fault, rows_among};
 use sat_model::{NoMemory, Row, Rules, Step};
 use std::alloc::Global;
@@ -55,10 +57,17 @@ fn is_kept(step: &Step) -> bool
 }
 
 /// How many steps do.
-fn kept_steps(steps: &[Step]) -> usize
-    ensures { result ≡ count_by is_kept_step steps.now }
+fn kept_steps(steps: &LoggedSteps) -> usize
+    ensures { result ≡ count_by is_kept_step (steps_of steps.now) }
 {
-    steps.iter().filter(|step| is_kept(step)).count()
+    let mut kept = 0;
+    let mut ahead = steps.ahead();
+    'steps: while let Some(step) = ahead.next() {
+        if is_kept(&step) {
+            kept += 1;
+        }
+    }
+    kept
 }
 
 /// How many boxes the steps of a block close inside or at the edge.

@@ -7,6 +7,7 @@ ghost use Rattle.sat_model.specs.Logs.{rows_of, lines_in};
 ghost use Rattle.sat_model.specs.SearchBoxes.{IsSearchBox};
 ghost use Rattle.sat_model.specs.Verdicts.{SuitsNumber};
 ghost use Rattle.sat_rows.specs.OwnRows.{usable_in};
+ghost use Rattle.logged_steps.specs.Steps.{steps_of};
 ghost use Rattle.paving_log.specs.Values.{block_of};
 ghost use Rattle.paving_log_check.specs.Epochs.{Counts, BodyPassesAt, BodyFailsAt, EpochPasses, EpochFails};
 ghost use Rattle.paving_log_check.specs.Checked.{EpochAccepted, EpochRefused};
@@ -51,7 +52,7 @@ fn body_fault(
     theirs: &Box3,
 ) -> Result<Option<Fault>, NoMemory>
     requires numbered { epoch.now.line + 2 + length epoch.now.sats.items
-        + length epoch.now.steps.items < 2 ^ 32 }
+        + length (steps_of epoch.now.steps) < 2 ^ 32 }
     requires rows { (rules.now.outliers < length (rows_of epoch.now.sats.items))
         × (length (rows_of epoch.now.sats.items) ≤ 64) }
     ensures { IfOk result (λ found. MatchOption found

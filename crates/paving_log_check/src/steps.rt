@@ -6,6 +6,7 @@ ghost use Rattle.sat_model.specs.Boxes.{grid_box};
 ghost use Rattle.sat_model.specs.Fold.{first_stage};
 ghost use Rattle.sat_model.specs.Verdicts.{StepsPass, StepsFail};
 ghost use Rattle.live_boxes.specs.Stages.{stage_of};
+ghost use Rattle.logged_steps.specs.Steps.{steps_of};
 ghost use Rattle.paving_log_check.specs.Steps.{IsStepFault};
 
 use crate::claims::{cuts_empty_slab, holds_hull, is_long, is_shown_inner};
@@ -14,6 +15,7 @@ use crate::faults::{
     OUT_NOT_SHOWN, OVER_BUDGET,
 };
 use live_boxes::Live;
+use logged_steps::LoggedSteps;
 use paving_log::LineFault;
 use relaxed_meet::{Deciding, SlabTests};
 use sat_model::{Box3, NoMemory, Row, Rules, Step};
@@ -139,24 +141,26 @@ pub(crate) fn steps_fault(
     rules: &Rules,
     done: u32,
     root: &Box3,
-    steps: &[Step],
+    steps: &LoggedSteps,
 ) -> Result<Option<LineFault>, NoMemory>
     requires { (rules.now.outliers < length rows.now) × (length rows.now ≤ 64) }
     ensures { IfOk result (λ found. MatchOption found
-        (StepsPass rows.now rules.now done (first_stage (grid_box root.now)) steps.now)
+        (StepsPass rows.now rules.now done (first_stage (grid_box root.now)) (steps_of steps.now))
         (λ fault. StepsFail rows.now rules.now done
-        (first_stage (grid_box root.now)) steps.now fault.offset fault.number)) }
+        (first_stage (grid_box root.now)) (steps_of steps.now) fault.offset fault.number)) }
 {
     let judge = Judge { rows, rules };
     let mut live = Live::of_root(alloc, root)?;
     let mut decided = Decided::default();
-    for (k, step) in steps.iter().enumerate() {
-        if let Some(number) = judge.step_fault(&live, step, &mut decided) {
-            return Ok(Some(LineFault { offset: k, number }));
+    let mut ahead = steps.ahead();
+    let mut offset = 0;
+    'steps: while let Some(step) = ahead.next() {
+        if let Some(number) = judge.step_fault(&live, &step, &mut decided) {
+            return Ok(Some(LineFault { offset, number }));
         }
-        live.take(step)?;
+        live.take(&step)?;
+        offset += 1;
     }
-    let offset = steps.len();
     if !live.is_none_live() {
         return Ok(Some(LineFault {
             offset,

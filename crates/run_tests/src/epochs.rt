@@ -6,6 +6,7 @@ ghost use Rattle.paving_log.specs.Values.{block_of};
 
 use crate::files::{NAV, OBS, SETTINGS};
 use error_bounds::{Settings, read_settings};
+use logged_steps::LoggedSteps;
 use paving_log::LogEpoch;
 use paving_log_check::{Fault, check_epoch};
 use rinex_nav::{Nav, read_nav};
@@ -50,7 +51,7 @@ fn block(alloc: Global, n: u32, skips: &[SatEntry]) -> Result<LogEpoch, AllocErr
         few: true,
         sats,
         root: None,
-        steps: Vec::new(alloc),
+        steps: LoggedSteps::new(alloc),
         done: 0,
     })
 }

@@ -15,5 +15,5 @@ returns-clause-fits c =
       header = record { index = c.requires.header.index; ps = subst IsTime (sym same) time; n = c.requires.header.n };
       sats = sats.0;
       at_most = c.in_ok-sats.ensures.at_most;
-      body = (refl, sats.1, c.new.ensures.items, refl);
+      body = (refl, sats.1, c.new.ensures, refl);
     }

@@ -7,6 +7,7 @@ use Rattle.paving_log.specs.declared.line.Place.TheVariants as place
 use Rattle.log_words.specs.Fields.{IsTime}
 use Rattle.paving_log.specs.Order.{place_behind_root}
 use Rattle.paving_log.specs.Rows.{CornersFit}
+use Rattle.logged_steps.specs.Steps.{steps_of}
 use Rattle.paving_log.proofs.LineLemmas.{refuses_behind}
 use Rattle.paving_log.proofs.BlockLemmas.{paved_taken}
 use Rattle.paving_log.proofs.FitLemmas.{sat_parts}
@@ -22,7 +23,7 @@ root_box-requires c = (sat_parts c.args.form 0 c.in_ok-sats.sats.items (line.Roo
 
 pub returns-clause-taken : goal.returns-clause-taken
 returns-clause-taken c =
-    paved_taken c.args.form c.args.lines c.in_ok-sats.left c.in_ok-steps.left c.in_ok-sats.sats.items c.in_ok-sats.corners _ c.in_ok-steps.steps.items c.in_ok-steps.done c.root_box.ensures c.in_ok-sats.ensures.taken c.in_ok-steps.ensures.taken
+    paved_taken c.args.form c.args.lines c.in_ok-sats.left c.in_ok-steps.left c.in_ok-sats.sats.items c.in_ok-sats.corners _ (steps_of c.in_ok-steps.steps) c.in_ok-steps.done c.root_box.ensures c.in_ok-sats.ensures.taken c.in_ok-steps.ensures.taken
 
 pub returns-clause-fits : goal.returns-clause-fits
 returns-clause-fits c =
