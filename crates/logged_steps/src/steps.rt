@@ -63,7 +63,7 @@ impl LoggedSteps {
     /// The steps from the first one on.
     pub fn ahead(&self) -> StepsAhead<'_>
         ensures all { steps_left result ≡ steps_of self.now }
-        ensures fits { length (steps_of self.now) < 2 ^ 64 }
+        ensures few { length (steps_of self.now) < 2 ^ 61 }
     {
         StepsAhead {
             id: 0,

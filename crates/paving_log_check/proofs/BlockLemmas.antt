@@ -12,6 +12,7 @@ use Rattle.sat_model.specs.Logs.{Block, LogValue, rows_of, lines_with, lines_in,
 use Rattle.sat_model.specs.Verdicts.{StepsPass, StepsFail, SuitsNumber, CountsRows, BlockPasses, BlockFails, BlocksPass, BlocksFail, Judged, FirstFault}
 use Rattle.paving_log.specs.RowsText.{OwnPasses}
 use Rattle.live_boxes.specs.Stages.{box_option}
+use Rattle.logged_steps.specs.Steps.{steps_of}
 use Rattle.paving_log.specs.Values.{block_of}
 use Rattle.paving_log.specs.declared.log.LogEpoch.{LogEpoch}
 use Rattle.paving_log.proofs.OwnLemmas.{rows_le_lines, IsBlockAt}
@@ -27,7 +28,7 @@ enough_rows false q n sats is suits counts most = (omega arith, omega (arith, ro
 -- ---- a paved block, its steps judged
 
 pub paved_passes : (rules : Rules) (before : Option ℕ) (epoch : LogEpoch) (root : Box3) (rows : List Row) (steps : List Step)
-    → epoch.root ≡ Some root → rows ≡ rows_of epoch.sats.items → steps ≡ epoch.steps.items
+    → epoch.root ≡ Some root → rows ≡ rows_of epoch.sats.items → steps ≡ steps_of epoch.steps
     → OwnPasses rules before (block_of epoch)
     → StepsPass rows rules epoch.done (first_stage (grid_box root)) steps → BlockPasses rules before (block_of epoch)
 paved_passes rules before epoch root rows steps paved same_rows same_steps own passes = record {
@@ -37,7 +38,7 @@ paved_passes rules before epoch root rows steps paved same_rows same_steps own p
 }
 
 pub paved_fails : (rules : Rules) (before : Option ℕ) (epoch : LogEpoch) (root : Box3) (k number line : ℕ) (rows : List Row) (steps : List Step)
-    → epoch.root ≡ Some root → rows ≡ rows_of epoch.sats.items → steps ≡ epoch.steps.items
+    → epoch.root ≡ Some root → rows ≡ rows_of epoch.sats.items → steps ≡ steps_of epoch.steps
     → OwnPasses rules before (block_of epoch)
     → StepsFail rows rules epoch.done (first_stage (grid_box root)) steps k number
     → line ≡ epoch.line + 2 + length epoch.sats.items + k → BlockFails rules before (block_of epoch) line number

@@ -1,6 +1,6 @@
 //! The steps of an epoch, in one pass over its live boxes.
 
-ghost use Rattle.std.specs.Prelude.{◌<◌, ◌≤◌, length, IfOk, MatchOption};
+ghost use Rattle.std.specs.Prelude.{◌<◌, ◌≤◌, ◌^◌, length, IfOk, MatchOption};
 ghost use Rattle.sat_model.specs.declared.steps.Step.TheVariants.{Cut, Split, Outside, Inside, Edge};
 ghost use Rattle.sat_model.specs.Boxes.{grid_box};
 ghost use Rattle.sat_model.specs.Fold.{first_stage};
@@ -144,10 +144,11 @@ pub(crate) fn steps_fault(
     steps: &LoggedSteps,
 ) -> Result<Option<LineFault>, NoMemory>
     requires { (rules.now.outliers < length rows.now) × (length rows.now ≤ 64) }
-    ensures { IfOk result (λ found. MatchOption found
+    ensures found { IfOk result (λ found. MatchOption found
         (StepsPass rows.now rules.now done (first_stage (grid_box root.now)) (steps_of steps.now))
         (λ fault. StepsFail rows.now rules.now done
         (first_stage (grid_box root.now)) (steps_of steps.now) fault.offset fault.number)) }
+    ensures few { IfOk result (λ found. length (steps_of steps.now) < 2 ^ 61) }
 {
     let judge = Judge { rows, rules };
     let mut live = Live::of_root(alloc, root)?;

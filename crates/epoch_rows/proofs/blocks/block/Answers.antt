@@ -34,7 +34,7 @@ returns-then-n-from-clause-fits g c =
           (few_usable (s.meaning source) root seen own own h.lines refl _ h.usable);
       sats = skip_entries (s.meaning source) root seen own _ h.lines c.deref.ensures.value c.requires.skips c.requires.gps items c.in_ok-skip_lines.ensures;
       at_most = few_skips (s.meaning source) root seen own _ h.lines c.deref.ensures.value items c.in_ok-skip_lines.ensures;
-      body = (refl, skips_skipped (s.meaning source) root seen own _ h.lines c.deref.ensures.value items c.in_ok-skip_lines.ensures, c.new.ensures.items, refl);
+      body = (refl, skips_skipped (s.meaning source) root seen own _ h.lines c.deref.ensures.value items c.in_ok-skip_lines.ensures, c.new.ensures, refl);
     }
 
 pub invariant_of-result-2 : goal.invariant_of-result-2

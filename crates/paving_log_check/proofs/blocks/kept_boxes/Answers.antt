@@ -6,25 +6,24 @@ use Rattle.sat_model.specs.Fold.{first_stage}
 use Rattle.sat_model.specs.Logs.{rows_of, lines_with}
 use Rattle.sat_model.proofs.KeptLemmas.{kept_of_steps}
 use Rattle.live_boxes.specs.Stages.{box_option}
+use Rattle.logged_steps.specs.Steps.{steps_of}
 use Rattle.paving_log.specs.Values.{block_of}
 use Rattle.paving_log_check.proofs.blocks.kept_boxes.Goals as goal
 
 pub returns-in-Some-clause-value : goal.returns-in-Some-clause-value
 returns-in-Some-clause-value c rules h =
     let passes = rw c.in-Some.is at h in
-    let counted = rw c.deref.ensures.value at c.kept_steps.ensures in
     rw c.in-Some.is (omega (
       arith,
-      counted,
-      kept_of_steps (rows_of c.args.epoch.now.sats.items) rules c.args.epoch.now.done (first_stage (grid_box c.in-Some.field-0)) c.args.epoch.now.steps.items passes,
+      c.kept_steps.ensures,
+      kept_of_steps (rows_of c.args.epoch.now.sats.items) rules c.args.epoch.now.done (first_stage (grid_box c.in-Some.field-0)) (steps_of c.args.epoch.now.steps) passes,
     ))
 
 pub returns-in-Some-clause-bound : goal.returns-in-Some-clause-bound
 returns-in-Some-clause-bound c =
-    let counted = rw c.deref.ensures.value at c.kept_steps.ensures in
     omega (
       arith,
-      counted,
-      count_by-le-length is_kept_step c.args.epoch.now.steps.items,
+      c.kept_steps.ensures,
+      count_by-le-length is_kept_step (steps_of c.args.epoch.now.steps),
       ap (λ o. lines_with (block_of c.args.epoch.now) (box_option o)) c.in-Some.is,
     )

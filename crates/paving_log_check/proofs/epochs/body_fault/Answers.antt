@@ -1,26 +1,25 @@
 use Rattle.std.proofs.Common.{arith, ap, length}
 use Rattle.sat_model.specs.Boxes.{grid_box}
 use Rattle.sat_model.specs.Fold.{first_stage}
+use Rattle.logged_steps.specs.Steps.{steps_of}
 use Rattle.paving_log_check.proofs.BlockLemmas.{steps_within}
 use Rattle.paving_log_check.proofs.epochs.body_fault.Goals as goal
 
 pub overflow_cast-line-in-Some-2 : goal.overflow_cast-line-in-Some-2
 overflow_cast-line-in-Some-2 c =
-    let fails = rw c.in-Some.is at c.in_ok-fault.ensures in
+    let fails = rw c.in-Some.is at c.in_ok-fault.ensures.found in
     omega (
       arith,
-      steps_within c.deref-2.result.now c.args.rules.now c.args.epoch.now.done (first_stage (grid_box c.args.root.now)) c.deref-3.result.now c.in-Some.fault.offset c.in-Some.fault.number fails,
-      ap length c.deref-3.ensures.value,
+      steps_within c.deref-2.result.now c.args.rules.now c.args.epoch.now.done (first_stage (grid_box c.args.root.now)) (steps_of c.args.epoch.now.steps) c.in-Some.fault.offset c.in-Some.fault.number fails,
       c.requires.numbered,
     )
 
 pub overflow_add-line-in-Some-3 : goal.overflow_add-line-in-Some-3
 overflow_add-line-in-Some-3 c =
-    let fails = rw c.in-Some.is at c.in_ok-fault.ensures in
+    let fails = rw c.in-Some.is at c.in_ok-fault.ensures.found in
     omega (
       arith,
-      steps_within c.deref-2.result.now c.args.rules.now c.args.epoch.now.done (first_stage (grid_box c.args.root.now)) c.deref-3.result.now c.in-Some.fault.offset c.in-Some.fault.number fails,
-      ap length c.deref-3.ensures.value,
+      steps_within c.deref-2.result.now c.args.rules.now c.args.epoch.now.done (first_stage (grid_box c.args.root.now)) (steps_of c.args.epoch.now.steps) c.in-Some.fault.offset c.in-Some.fault.number fails,
       c.len-in-Some.ensures,
       c.requires.numbered,
     )

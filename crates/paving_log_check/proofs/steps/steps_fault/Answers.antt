@@ -1,0 +1,30 @@
+use Rattle.std.proofs.Common.{arith, inl, inr, length, refl, ap}
+use Rattle.live_boxes.specs.Stages.{stage_of}
+use Rattle.logged_steps.specs.Steps.{steps_of, steps_left}
+use Rattle.paving_log_check.proofs.StepLemmas.{fails_here, passes_more, fails_more, passes_end, fails_end}
+use Rattle.paving_log_check.proofs.steps.steps_fault.Goals as goal
+
+pub returns-in-Some-step_fault-clause-found : goal.returns-in-Some-step_fault-clause-found
+returns-in-Some-step_fault-clause-found c =
+    fails_here c.args.rows.now c.args.rules.now c.args.done (stage_of c.steps.live) _ (steps_of c.args.steps.now) (steps_left c.steps.ahead) _ c.in-Some.step
+    c.steps.offset c.in-Some-step_fault.number c.steps.invariant.fail c.in-Some.ensures c.in-Some-step_fault.ensures
+
+pub steps-preserved : goal.steps-preserved
+steps-preserved c = record {
+  pass = passes_more c.args.rows.now c.args.rules.now c.args.done (stage_of c.steps.live) _ _ (steps_of c.args.steps.now) (steps_left c.steps.ahead) _ c.in-Some.step
+      c.steps.invariant.pass c.in-Some.ensures c.in_default-step_fault.ensures c.in_ok-take.ensures.ok;
+  fail = fails_more c.args.rows.now c.args.rules.now c.args.done (stage_of c.steps.live) _ _ (steps_of c.args.steps.now) (steps_left c.steps.ahead) _ c.in-Some.step
+      c.steps.offset c.steps.invariant.fail c.in-Some.ensures c.in_default-step_fault.ensures c.in_ok-take.ensures.ok;
+  counted = omega (arith, c.steps.invariant.counted, ap length c.in-Some.ensures);
+}
+
+pub returns-then-not-is_none_live-clause-found : goal.returns-then-not-is_none_live-clause-found
+returns-then-not-is_none_live-clause-found c =
+    fails_end c.args.rows.now c.args.rules.now c.args.done (stage_of c.steps.live) _ (steps_of c.args.steps.now) (steps_left c.steps.ahead) c.steps.offset 63
+    c.steps.invariant.fail c.in_default.ensures (inl (c.is_none_live.ensures.no c.if-not-is_none_live.true, refl))
+
+pub returns-then-splits-done-clause-found : goal.returns-then-splits-done-clause-found
+returns-then-splits-done-clause-found c =
+    fails_end c.args.rows.now c.args.rules.now c.args.done (stage_of c.steps.live) _ (steps_of c.args.steps.now) (steps_left c.steps.ahead) c.steps.offset 64
+    c.steps.invariant.fail c.in_default.ensures
+    (inr (c.is_none_live.ensures.yes c.if-not-is_none_live.false, omega (arith, c.splits.ensures), refl))
