@@ -5,7 +5,7 @@ ghost use Rattle.sat_model.specs.Logs.{lines_in};
 ghost use Rattle.paving_log.specs.Values.{block_of};
 
 use crate::small_rows::{
-    FAR, cuboid, edge, five_rows, four_rows, metre_row, row, rules, split, up_to,
+    FAR, cuboid, cut_of, edge, five_rows, four_rows, metre_row, row, rules, split, up_to,
 };
 use logged_steps::LoggedSteps;
 use paving_log::{Log, LogEpoch};
@@ -59,10 +59,6 @@ fn judged(
 
 fn inside(id: u32, clock: i64, lo: i64, hi: i64) -> Step {
     Step::Inside { id, clock, lo, hi }
-}
-
-fn cut(id: u32, face: u8, bound: i64) -> Step {
-    Step::Cut { id, face, bound }
 }
 
 #[test]
@@ -215,14 +211,14 @@ fn judges_cuts(rt: HostRuntime) -> Result<(), Fail> {
             z: 1_000_000,
         },
     };
-    let high = cut(0, 1, 6_250_000);
+    let high = cut_of(0, 1, 6_250_000);
     let closing = edge(0, -11_000_000, 11_000_000);
     let table = [
-        (cut(0, 0, -6_000_000), yes(1)),
-        (cut(0, 0, -4_000_000), no(57, 9)),
-        (cut(0, 0, -8_000_000), no(57, 9)),
-        (cut(0, 0, 8_000_001), no(57, 9)),
-        (cut(1, 0, -6_000_000), no(56, 9)),
+        (cut_of(0, 0, -6_000_000), yes(1)),
+        (cut_of(0, 0, -4_000_000), no(57, 9)),
+        (cut_of(0, 0, -8_000_000), no(57, 9)),
+        (cut_of(0, 0, 8_000_001), no(57, 9)),
+        (cut_of(1, 0, -6_000_000), no(56, 9)),
     ];
     for (low, want) in table {
         let steps = [low, high, closing];

@@ -5,6 +5,8 @@
 #[cfg(test)]
 mod judging;
 #[cfg(test)]
+mod logged;
+#[cfg(test)]
 mod logs;
 #[cfg(test)]
 mod meet;

@@ -150,5 +150,9 @@ pub fn split(id: u32) -> Step {
 
 /// A cut of box 0.
 pub fn cut(face: u8, bound: i64) -> Step {
-    Step::Cut { id: 0, face, bound }
+    cut_of(0, face, bound)
+}
+
+pub fn cut_of(id: u32, face: u8, bound: i64) -> Step {
+    Step::Cut { id, face, bound }
 }

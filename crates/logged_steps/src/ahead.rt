@@ -20,10 +20,7 @@ pub struct StepsAhead<'a> {
 }
 
 /// The first turn, and what is left behind it.
-fn first_turn<'a>(
-    turns: &'a [Turn],
-    last: Option<Turn>,
-) -> Option<(Turn, &'a [Turn], Option<Turn>)>
+fn first_turn<'a>(turns: &'a [Turn], last: Option<Turn>) -> Option<(Turn, &'a [Turn], Option<Turn>)>
     ensures { MatchOption result (with_last turns.now last ≡ [])
         (λ found. with_last turns.now last ≡ found.0 ∷ with_last found.1.now found.2) }
 {

@@ -26,11 +26,7 @@ fn kept_by(live: &Live, step: &Step) -> Option<Box3>
 }
 
 /// The boxes that the steps close inside or at the edge, in order of closing.
-fn boxes_kept(
-    alloc: Global,
-    root: &Box3,
-    steps: &LoggedSteps,
-) -> Result<Vec<Box3>, AllocError>
+fn boxes_kept(alloc: Global, root: &Box3, steps: &LoggedSteps) -> Result<Vec<Box3>, AllocError>
     requires { StepsFold (first_stage (grid_box root.now)) (steps_of steps.now) }
     ensures { IfOk result (λ boxes. map grid_box boxes.items ≡ kept_parts (pieces (grid_box root.now) (steps_of steps.now))) }
 {

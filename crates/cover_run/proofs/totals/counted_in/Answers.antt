@@ -2,6 +2,7 @@ use Rattle.std.proofs.Common.{arith}
 use Rattle.std.proofs.lemmas.List.Sums.{count_by-le-length}
 use Rattle.sat_model.specs.Boxes.{grid_box}
 use Rattle.sat_model.specs.Logs.{rows_of}
+use Rattle.logged_steps.specs.Steps.{steps_of}
 use Rattle.cover_run.proofs.TotalLemmas.{count_is}
 use Rattle.cover_run.specs.Making.{is_of}
 use Rattle.cover_run.proofs.totals.counted_in.Goals as goal
@@ -10,19 +11,17 @@ pub returns-in-Some-clause-value : goal.returns-in-Some-clause-value
 returns-in-Some-clause-value c rules h =
     let epoch = c.args.epoch.now in
     let passes = rw c.in-Some.is at h in
-    let counted = rw c.deref.ensures.value at c.counted_steps.ensures in
     rw c.in-Some.is (omega (
       arith,
-      counted,
+      c.counted_steps.ensures,
       count_is c.args.kind (rows_of epoch.sats.items) rules
-          epoch.done (grid_box c.in-Some.field-0) epoch.steps.items passes,
+          epoch.done (grid_box c.in-Some.field-0) (steps_of epoch.steps) passes,
     ))
 
 pub returns-in-Some-clause-bound : goal.returns-in-Some-clause-bound
 returns-in-Some-clause-bound c =
-    let counted = rw c.deref.ensures.value at c.counted_steps.ensures in
     rw c.in-Some.is (omega (
       arith,
-      counted,
-      count_by-le-length (is_of c.args.kind) c.args.epoch.now.steps.items,
+      c.counted_steps.ensures,
+      count_by-le-length (is_of c.args.kind) (steps_of c.args.epoch.now.steps),
     ))

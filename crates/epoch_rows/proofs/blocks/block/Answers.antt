@@ -64,5 +64,5 @@ returns-clause-fits g c =
           (few_usable (s.meaning source) root seen own own h.lines refl _ h.usable);
       sats = grown_entries (s.meaning source) root seen own _ h.lines c.deref-2.ensures.value c.requires.skips c.requires.gps (pos (spare_of root)) (pos (err_spare_of root c.zenith.result)) items c.in_ok-grown_lines.ensures;
       at_most = few_grown (s.meaning source) root seen own _ h.lines c.deref-2.ensures.value (pos (spare_of root)) (pos (err_spare_of root c.zenith.result)) items c.in_ok-grown_lines.ensures;
-      body = (refl, root_fits c.args.root.now, (c.new-2.ensures.items, refl));
+      body = (refl, root_fits c.args.root.now, (c.new-2.ensures, refl));
     }

@@ -1,4 +1,4 @@
-use Rattle.std.proofs.Common.{arith, ap, length}
+use Rattle.std.proofs.Common.{arith}
 use Rattle.sat_model.specs.Boxes.{grid_box}
 use Rattle.sat_model.specs.Fold.{first_stage}
 use Rattle.logged_steps.specs.Steps.{steps_of}

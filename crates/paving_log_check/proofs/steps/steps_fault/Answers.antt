@@ -1,7 +1,7 @@
 use Rattle.std.proofs.Common.{arith, inl, inr, length, refl, ap}
 use Rattle.live_boxes.specs.Stages.{stage_of}
 use Rattle.logged_steps.specs.Steps.{steps_of, steps_left}
-use Rattle.paving_log_check.proofs.StepLemmas.{fails_here, passes_more, fails_more, passes_end, fails_end}
+use Rattle.paving_log_check.proofs.StepLemmas.{fails_here, passes_more, fails_more, fails_end}
 use Rattle.paving_log_check.proofs.steps.steps_fault.Goals as goal
 
 pub returns-in-Some-step_fault-clause-found : goal.returns-in-Some-step_fault-clause-found

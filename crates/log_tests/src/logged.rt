@@ -1,0 +1,54 @@
+//! Steps that are kept in columns come out as they were put in.
+
+use crate::small_rows::{cut_of, edge, split};
+use logged_steps::LoggedSteps;
+use sat_model::Step;
+use std::alloc::{AllocError, Global};
+use std::test::Fail;
+
+/// The steps that come out, one after another.
+fn taken(alloc: Global, logged: &LoggedSteps) -> Result<Vec<Step>, AllocError> {
+    let mut all = Vec::new(alloc);
+    let mut ahead = logged.ahead();
+    while let Some(step) = ahead.next() {
+        all.push(step)?;
+    }
+    Ok(all)
+}
+
+#[test]
+fn steps_come_out_as_they_were_put_in(rt: HostRuntime) -> Result<(), Fail> {
+    let out = Step::Outside { id: 2 };
+    let inside = Step::Inside {
+        id: 1,
+        clock: -7,
+        lo: -9,
+        hi: i64::MAX,
+    };
+    let cases: [&[Step]; 6] = [
+        &[],
+        &[edge(0, 1, 2)],
+        // Cuts behind any step of their box.
+        &[split(0), cut_of(0, 5, -1), cut_of(0, 0, i64::MIN), out],
+        // Cuts of two boxes in turn, and of one at the end.
+        &[
+            cut_of(1, 0, 3),
+            cut_of(1, 1, 9),
+            cut_of(2, 2, 4),
+            cut_of(1, 3, 8),
+            inside,
+            cut_of(2, 4, 5),
+            out,
+            cut_of(7, 5, 6),
+            cut_of(7, 0, 7),
+        ],
+        &[inside, inside, out, out, split(1), edge(3, -4, 4)],
+        &[cut_of(4, 1, 2), cut_of(4, 1, 2), cut_of(4, 1, 1)],
+    ];
+    for steps in cases {
+        let logged = LoggedSteps::from_slice(rt.alloc(), steps)?;
+        assert_eq!(rt; logged.len(), steps.len());
+        assert_eq!(rt; taken(rt.alloc(), &logged)?.as_slice(), steps);
+    }
+    Ok(())
+}
