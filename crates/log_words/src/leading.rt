@@ -7,7 +7,7 @@ ghost use Rattle.sat_model.specs.Sizes.{IsWithin};
 
 use core::dec2flt::read_digits;
 
-/// How many bytes are looked at. So many are read as two words of eight bytes, and a number of fewer
+/// How many bytes are looked at. So many are read as two words of eight bytes, and a number of as many
 /// digits fits 64 bits.
 const LOOKED_AT: usize = 16;
 
@@ -61,15 +61,24 @@ pub fn leading_digit(text: &[u8], end: u8, most: u8) -> Option<(u8, &[u8])>
     Some((digit, behind))
 }
 
-/// A number of at most `most` without a sign in front of `end`, and what stands behind `end`.
+/// A number of at most `most` without a sign in front of `end`, and what stands behind `end`. It is
+/// read digit by digit, which takes less than a word of eight bytes where there are few.
 pub fn leading_count(text: &[u8], end: u8, most: u32) -> Option<(u32, &[u8])>
     ensures { IfSome result (λ found. (found.0 ≤ most) × (text.now ≡ decimal found.0 ++ end ∷ found.1.now)) }
 {
-    let (number, behind) = leading_number(text, end)?;
-    if number > u64::from(most) {
-        return None;
+    let front = &text[..text.len().min(LOOKED_AT)];
+    let mut number = 0;
+    for (count, byte) in front.iter().enumerate() {
+        let digit = byte.wrapping_sub(b'0');
+        if digit > 9 {
+            if *byte != end || number > u64::from(most) || !is_plain(&front[..count]) {
+                return None;
+            }
+            return Some((number as u32, &text[count + 1..]));
+        }
+        number = number * 10 + u64::from(digit);
     }
-    Some((number as u32, behind))
+    None
 }
 
 /// A number of at most `bound` in amount in front of `end`, and what stands behind `end`.
