@@ -3,3 +3,4 @@ pub mod NumberLemmas
 pub mod TimeLemmas
 pub mod JoinedLemmas
 pub mod DigitLemmas
+pub mod LeadingLemmas

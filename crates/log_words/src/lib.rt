@@ -3,7 +3,9 @@
 #![tactic(auto)]
 
 mod fields;
+mod leading;
 mod words;
 
 pub use fields::{amount, count, place, satellite, skip, span, time};
+pub use leading::{leading_amount, leading_count, leading_digit};
 pub use words::{Rest, is_ended, number, word};

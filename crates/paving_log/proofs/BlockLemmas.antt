@@ -138,6 +138,19 @@ step_taken start old new steps pushed s l to before is taken push =
     subst (λ (ls : List LogLine). Takes place.Steps start ls place.Steps new) mapped
     (subst (λ (p : Place). Takes place.Steps start (map line.Step steps ++ line.Step s ∷ []) p new) behind (takes_on _ _ _ start old new (map line.Step steps) (line.Step s ∷ []) before one))
 
+-- the line of a step that was taken, and the last line of a block
+pub one_step : (old new : Lines) (s : Step) (l : LogLine) (to : Place) → l ≡ line.Step s → Takes place.Steps old (l ∷ []) to new → Takes place.Steps old (line.Step s ∷ []) place.Steps new
+one_step old new s l to is taken =
+    let one : Takes place.Steps old (line.Step s ∷ []) to new = takes_one _ _ old l (line.Step s) to to new refl is refl taken in
+    takes_one _ _ old (line.Step s) (line.Step s) to place.Steps new refl refl (behind_step s to (leads_to _ old _ to new one)) one
+
+pub one_done : (old new : Lines) (n : ℕ) (l : LogLine) (to : Place) → l ≡ line.Done n → Takes place.Steps old (l ∷ []) to new → Takes place.Steps old (line.Done n ∷ []) (place.Between form.Log) new
+one_done old new n l to is taken =
+    let one : Takes place.Steps old (line.Done n ∷ []) to new = takes_one _ _ old l (line.Done n) to to new refl is refl taken in
+    let behind : Some to ≡ Some (place.Between form.Log) = sym (leads_to _ old _ to new one) in
+    let between : to ≡ (place.Between form.Log) = cc in
+    takes_one _ _ old (line.Done n) (line.Done n) to (place.Between form.Log) new refl refl between one
+
 pub done_taken : (start old new : Lines) (steps : List Step) (n : ℕ) (l : LogLine) (to : Place)
     → Takes place.Steps start (map line.Step steps) place.Steps old → l ≡ line.Done n → Takes place.Steps old (l ∷ []) to new
     → Takes place.Steps start (map line.Step steps ++ line.Done n ∷ []) (place.Between form.Log) new

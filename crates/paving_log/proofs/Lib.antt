@@ -11,3 +11,4 @@ pub mod LogLemmas
 pub mod SatelliteLemmas
 pub mod OwnLemmas
 pub mod RowsLemmas
+pub mod LeadingLemmas

@@ -1,5 +1,5 @@
 -- The first line of a text, and lines one behind another.
-use Rattle.std.proofs.Common.{◌≡◌, ◌≢◌, ℕ, zero, suc, ◌+◌, ◌<◌, Bool, true, false, List, [], ◌∷◌, ◌++◌, length, get_or, take, drop, refl, sym, ap, subst, ◌∙◌, append_assoc, arith, inl, inr, ◌⊎◌}
+use Rattle.std.proofs.Common.{◌≡◌, ◌≢◌, ℕ, suc, ◌+◌, ◌<◌, Bool, true, false, List, [], ◌∷◌, ◌++◌, length, get_or, take, drop, refl, sym, ap, subst, ◌∙◌, append_assoc, arith, inl, inr, ◌⊎◌}
 use Rattle.std.proofs.lemmas.List.{append-nil, get_or-take, length-take, length-append}
 use Rattle.std.proofs.lemmas.Bool.{eqb-true, eq-eqb}
 use Rattle.std.specs.Prelude.{nat_eq}
@@ -14,12 +14,7 @@ use Rattle.log_words.specs.Words.{joined}
 use Rattle.paving_log.specs.Faults.{FitsAt, FirstLine, LineFails, FaultFrom}
 use Rattle.paving_log.specs.Taking.{Refuses, Takes}
 use Rattle.log_words.proofs.WordLemmas.{joined-words}
-
--- a text is what stands before a byte, the byte, and what stands behind it
-pub cut_at : (text : List ℕ) (end byte : ℕ) → end < length text → get_or text end 0 ≡ byte → text ≡ take end text ++ byte ∷ drop (suc end) text
-cut_at [] end byte lt is = absurd (omega arith)
-cut_at (first ∷ more) zero byte lt is = ap (λ (b : ℕ). b ∷ more) is
-cut_at (first ∷ more) (suc end) byte lt is = ap (λ (later : List ℕ). first ∷ later) (cut_at more end byte (omega arith) is)
+use Rattle.log_words.proofs.LeadingLemmas.{cut_at}
 
 -- what stands before the first LF is the first line
 pub ended_line : (text : List ℕ) (end : ℕ) → ((k : ℕ) → k < end → nat_eq (get_or text k 0) 10 ≡ true → ⊥) → end < length text → nat_eq (get_or text end 0) 10 ≡ true

@@ -1,8 +1,12 @@
 -- Lines that were taken from the front of a text.
 use Rattle.std.specs.Prelude.{ℕ, ◌≡◌, ◌+◌, Bool, true, false, List, [], ◌∷◌, ◌++◌, length, Option, None, Some}
 use Rattle.sat_model.specs.Logs.{Block}
+use Rattle.paving_log.specs.declared.line.ClosingLine.{ClosingLine}
+use Rattle.paving_log.specs.declared.line.ClosingLine.TheVariants as closing
 use Rattle.paving_log.specs.declared.line.Form.{Form}
+use Rattle.paving_log.specs.declared.line.Form.TheVariants as form
 use Rattle.paving_log.specs.declared.line.LogLine.{LogLine}
+use Rattle.paving_log.specs.declared.line.LogLine.TheVariants as line
 use Rattle.paving_log.specs.declared.line.Place.{Place}
 use Rattle.paving_log.specs.declared.line.Place.TheVariants as place
 use Rattle.paving_log.specs.declared.lines.Lines.{Lines}
@@ -25,6 +29,15 @@ pub record Takes (at : Place) (old : Lines) (lines : List LogLine) (to : Place) 
   pub leads : Leads at lines to
   pub parts : old.rest.now ≡ text_of lines ++ new.rest.now
   pub number : new.number ≡ old.number + length lines
+
+-- a line behind the root of a log, and the place behind it
+abbrev pub closing_line : ClosingLine → LogLine
+closing_line (closing.Step s) = line.Step s
+closing_line (closing.Done n) = line.Done n
+
+abbrev pub behind_closing : ClosingLine → Place
+behind_closing (closing.Step s) = place.Steps
+behind_closing (closing.Done n) = place.Between form.Log
 
 -- the place behind the first line of a block
 abbrev pub block_place : Form → Bool → Place

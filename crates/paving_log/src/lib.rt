@@ -4,6 +4,7 @@
 mod cover;
 mod entries;
 mod header;
+mod leading_steps;
 mod line;
 mod lines;
 mod log;

@@ -30,6 +30,14 @@ pub enum LogLine {
     Done(u32),
 }
 
+/// A line behind the root of a log.
+#[derive(Clone, Copy, Debug, PartialEq, Eq)]
+pub enum ClosingLine {
+    Step(Step),
+    /// The number of splits.
+    Done(u32),
+}
+
 /// The first word of a line.
 #[derive(Clone, Copy, Debug, PartialEq, Eq)]
 pub enum LineName {

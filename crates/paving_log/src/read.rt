@@ -13,10 +13,10 @@ ghost use Rattle.paving_log.specs.Taking.{Takes, TakesTo, Refuses, block_place, 
 ghost use Rattle.paving_log.specs.Text.{closing_lines, body_lines, ClosingFits, BlockFits};
 ghost use Rattle.paving_log.specs.Values.{block_of};
 
-use crate::line::{Corners, Form, LogLine, Place};
+use crate::line::{ClosingLine, Corners, Form, LogLine, Place};
 use crate::lines::{Lines, Opening};
 use crate::log::{LogEpoch, LogError};
-use crate::take::take_line;
+use crate::take::{take_line, take_step};
 use logged_steps::LoggedSteps;
 use sat_model::{Box3, Rules, SatEntry};
 use std::alloc::Global;
@@ -88,12 +88,11 @@ fn steps(alloc: Global, lines: Lines<'_>) -> Result<(LoggedSteps, u32, Lines<'_>
     let mut steps = LoggedSteps::new(alloc);
     let mut left = lines;
     'steps: loop {
-        let (line, _, behind) = take_line(left, Place::Steps)?;
+        let (line, behind) = take_step(left)?;
         left = behind;
         match line {
-            LogLine::Step(step) => steps.push(step)?,
-            LogLine::Done(bisections) => return Ok((steps, bisections, left)),
-            _ => unreachable!(),
+            ClosingLine::Step(step) => steps.push(step)?,
+            ClosingLine::Done(bisections) => return Ok((steps, bisections, left)),
         }
     }
 }

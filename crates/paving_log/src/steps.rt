@@ -9,11 +9,11 @@ use log_words::{Rest, amount, count, is_ended, span};
 use sat_model::Step;
 
 /// The greatest number of a box.
-const LAST_ID: u32 = 400_000;
+pub const LAST_ID: u32 = 400_000;
 /// The greatest amount of a bound, in um.
-const GREATEST_BOUND: u64 = 10_000_000_000_000;
+pub const GREATEST_BOUND: u64 = 10_000_000_000_000;
 /// The greatest amount of a clock offset, in um.
-const GREATEST_CLOCK: u64 = 200_000_000_000_000;
+pub const GREATEST_CLOCK: u64 = 200_000_000_000_000;
 
 /// A box from which the slab between a face and a bound is cut.
 pub fn cut(rest: Rest<'_>) -> Option<Step>

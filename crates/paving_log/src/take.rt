@@ -1,11 +1,13 @@
 //! One line after another.
 
 ghost use Rattle.std.specs.Prelude.{◌≡◌, ◌<◌, true, length, IfOk, IfErr, [], ◌∷◌};
+ghost use Rattle.paving_log.specs.declared.line.Place.TheVariants as place;
 ghost use Rattle.paving_log.specs.Order.{may_end};
 ghost use Rattle.paving_log.specs.Faults.{LineFails, refusal, is_head};
-ghost use Rattle.paving_log.specs.Taking.{Takes};
+ghost use Rattle.paving_log.specs.Taking.{Takes, closing_line, behind_closing};
 
-use crate::line::{Fault, LogLine, Place};
+use crate::leading_steps::leading_step;
+use crate::line::{ClosingLine, Fault, LogLine, Place};
 use crate::lines::Lines;
 use crate::log::LogError;
 use crate::reading::line_at;
@@ -62,4 +64,32 @@ pub fn take_line(lines: Lines<'_>, place: Place) -> Result<(LogLine, Place, Line
             Err(fault) => Err(refused(place, lines.number, fault)),
         },
     }
+}
+
+/// The next line behind the root of a log, word by word, and what is left.
+fn take_closing(lines: Lines<'_>) -> Result<(ClosingLine, Lines<'_>), LogError>
+    ensures taken { IfOk result (λ t. Takes place.Steps lines.entry (closing_line t.0 ∷ []) (behind_closing t.0) t.1) }
+    ensures fails { IfErr result (LineFails place.Steps lines.entry.rest.now lines.entry.number) }
+{
+    let (line, _, left) = take_line(lines, Place::Steps)?;
+    match line {
+        LogLine::Step(step) => Ok((ClosingLine::Step(step), left)),
+        LogLine::Done(bisections) => Ok((ClosingLine::Done(bisections), left)),
+        _ => unreachable!(),
+    }
+}
+
+/// The next line behind the root of a log, which has to fit there, and what is left.
+pub fn take_step(lines: Lines<'_>) -> Result<(ClosingLine, Lines<'_>), LogError>
+    ensures taken { IfOk result (λ t. Takes place.Steps lines.entry (closing_line t.0 ∷ []) (behind_closing t.0) t.1) }
+    ensures fails { IfErr result (LineFails place.Steps lines.entry.rest.now lines.entry.number) }
+{
+    let Some((step, rest)) = leading_step(lines.rest) else {
+        return take_closing(lines);
+    };
+    let left = Lines {
+        rest,
+        number: lines.number + 1,
+    };
+    Ok((ClosingLine::Step(step), left))
 }
