@@ -101,6 +101,14 @@ pub struct SlabTests {
 }
 
 impl SlabTests {
+    /// Takes an offset that is asked first, at each face: one that does for a box mostly does for the
+    /// slabs that aren't empty.
+    pub fn ask_first(&mut self, offset: i64) {
+        for face in &mut self.faces {
+            face.common = offset;
+        }
+    }
+
     /// Whether the rows show a slab at this face empty, as `Deciding::shown_empty` does.
     pub fn shown_empty(&mut self, face: u8, rows: &[Row], slab: &Box3, q: u8) -> bool
         requires { (q < length rows.now) × (length rows.now ≤ 64) }
