@@ -81,7 +81,7 @@ most_leave_all-loop-kid-preserved g t c =
     let answer = option_map grid_box c.contraction.result in
     let sound = (sound_from (tree_value I.low I.high) c.args.kids.now c.loop-kid.kid-index c.kid-item.result c.loop-kid-test.true c.kid-item.is i.sound).1 in
     let tied = tied_more (tree_value I.low I.high) c.args.kids.now c.loop-kid.kid-index c.kid-item.result I.GRAIN I.SLACK (span_side c.args.clock.now) part i.answers answer
-        c.loop-kid-test.true c.kid-item.is i.tied c.contraction.ensures in
+    c.loop-kid-test.true c.kid-item.is i.tied c.contraction.ensures in
     elim c.if-not-is_all.branch [
       | most_leave_all-then-not-is_all+else-smaller-q w ↦
           record {
