@@ -1,5 +1,5 @@
 use Rattle.std.proofs.Common.{sym, subst, ◌∙◌}
-use Rattle.sat_model.specs.Boxes.{GridBox, grid_box}
+use Rattle.sat_model.specs.Boxes.{GridBox}
 use Rattle.relaxed_meet.specs.BoxStates.{IsBoxState}
 use Rattle.range_contractor.proofs.BoxLemmas.{same_coordinates}
 use Rattle.box_steps.proofs.work.state_of_rest.Goals as goal
