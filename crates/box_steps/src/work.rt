@@ -6,6 +6,7 @@ ghost use Rattle.sat_model.specs.ClockSpans.{IsClockHull};
 ghost use Rattle.sat_model.specs.Waiting.{IsUndecided};
 ghost use Rattle.sat_model.specs.RowTrees.{row_tree};
 ghost use Rattle.range_contractor.specs.Views.{tree_value};
+ghost use Rattle.relaxed_meet.specs.BoxStates.{IsBoxState};
 ghost use Rattle.box_steps.specs.Taken.{Rose};
 ghost use Rattle.box_steps.specs.BoxSteps.{AreBoxSteps, IsCutDown};
 ghost use Rattle.box_steps.specs.Taking.{TookCuts, BrokeOff, LeaveSome};
@@ -56,7 +57,7 @@ pub fn work_on<I: Interval, L: Steps>(
     ensures failed { result ≡ Err StepFault.Failed → Rose (L.faults log.old) (L.faults log.new) }
     ensures counted { L.faults log.old ≤ L.faults log.new }
 {
-    let state = box_state(rows, part, rules.outliers);
+    let state = box_state(rows, part, rules.outliers, tests);
     let BoxState::Undecided { hull } = state else {
         let step = closing_step(rules, splits, id, part, &state);
         log.step(&step, part)?;
@@ -68,7 +69,7 @@ pub fn work_on<I: Interval, L: Steps>(
     };
     let mut left = *part;
     let cuts = cut_down(rows, rules, tree, hull, id, tests, &mut left, log)?;
-    let state = box_state(rows, &left, rules.outliers);
+    let state = state_of_rest(rows, rules.outliers, part, &state, &left, tests);
     let step = closing_step(rules, splits, id, &left, &state);
     log.step(&step, &left)?;
     Ok(Ended { step, left, cuts })
@@ -104,4 +105,25 @@ fn cut_down<I: Interval, L: Steps>(
     let by_tree = cut_by_tree(rows, rules.outliers, tree, hull, id, tests, part, log)?;
     let by_eighths = cut_eighths(rows, rules.outliers, id, tests, part, log)?;
     Ok(by_tree + by_eighths)
+}
+
+/// What the rows show of what cuts left of a box, of which they showed `state` before. Where nothing
+/// was cut off it is the same.
+fn state_of_rest(
+    rows: &[Row],
+    q: u8,
+    part: &Box3,
+    state: &BoxState,
+    left: &Box3,
+    tests: &mut SlabTests,
+) -> BoxState
+    requires few { (q < length rows.now) × (length rows.now ≤ 64) }
+    requires before { IsBoxState rows.now (grid_box part.now) q state.now }
+    ensures { IsBoxState rows.now (grid_box left.now) q result }
+{
+    if *left == *part {
+        *state
+    } else {
+        box_state(rows, left, q, tests)
+    }
 }

@@ -1,11 +1,13 @@
 -- Kids of a tree one after the other.
-use Rattle.std.proofs.Common.{◌≡◌, ℕ, zero, suc, ◌+◌, ◌-◌, ◌≤◌, ◌<◌, arith, List, [], ◌∷◌, ◌++◌, length, map, take, drop, get_or, Option, None, Some, refl, sym, ap, subst, ◌∙◌, inl, inr}
+use Rattle.std.proofs.Common.{◌≡◌, ℕ, zero, suc, ◌+◌, ◌-◌, ◌≤◌, ◌<◌, arith, List, [], ◌∷◌, ◌++◌, length, map, take, drop, get_or, Option, None, Some, refl, sym, ap, subst, ◌∙◌, inl, inr, count_by, cond}
 use Rattle.std.specs.Prelude.{ℤ, ◌≤ℤ◌}
 use Rattle.std.proofs.lemmas.Int.{ints}
+use Rattle.std.proofs.lemmas.List.Sums.{sum_by-append}
+use Rattle.sat_model.proofs.FittingLemmas.{count_here, holds_from}
 use Rattle.std.proofs.lemmas.List.{take_more, at_drop_more, at_drop_all, map-append, length-map}
 use Rattle.sat_model.specs.Boxes.{Side, GridBox, side_at}
-use Rattle.sat_model.specs.Relaxed.{IsRelaxedHull}
-use Rattle.sat_model.specs.Trees.{TreeValue, TreeList, no_trees, tree, HasSoundNodes, HaveSoundNodes, count_trees, trees_of}
+use Rattle.sat_model.specs.Relaxed.{holds, IsRelaxedHull}
+use Rattle.sat_model.specs.Trees.{IsIn, TreeValue, TreeList, no_trees, tree, HasSoundNodes, HaveSoundNodes, count_trees, trees_of}
 use Rattle.sat_model.specs.Contractors.{Contractor, Repeats, sides_of, IsRelaxedBox, LiesIn}
 use Rattle.sat_model.specs.Proposals.{IsTied, InTurn, AreTied}
 use Rattle.range_contractor.specs.Hulls.{AreInside, IsBoxOfHulls}
@@ -115,6 +117,14 @@ repeat_done rounds round Run part current h on =
     none_left : (rounds round : ℕ) → rounds ≤ round → rounds - round ≡ 0
     none_left rounds round h = omega arith
 
+-- a round that leaves all of the box does so again
+repeats_same : (n : ℕ) (Run : Contractor) (current : GridBox) → Run current (Some current) → Repeats n Run current (Some current)
+repeats_same zero Run current ran = refl
+repeats_same (suc n) Run current ran = (Some current, ran, repeats_same n Run current ran)
+
+pub repeat_same : (rounds round : ℕ) (Run : Contractor) (part current : GridBox) → Run current (Some current) → GoesOn rounds Run part (rounds - round) current → Repeats rounds Run part (Some current)
+repeat_same rounds round Run part current ran on = on (Some current) (repeats_same (rounds - round) Run current ran)
+
 -- ---- one after the other
 
 module _ {X : Type 0} (view : X → TreeValue) (xs : List X) (grain slack : ℤ) (clock : Side) (part : GridBox) where
@@ -148,3 +158,41 @@ answers_inside axis (tree t more) grain slack clock part (Some a ∷ answers) li
     let k = keeps t grain slack clock part (Some a) lies h.0 in
     let u = k.0 axis in
     (u.low, u.high, answers_inside axis more grain slack clock part answers lies h.1)
+
+-- ---- answers that are the whole box
+
+-- each number of the box's sides lies in that of each kid but for so many
+abbrev pub HoldMost : List (Option GridBox) → ℕ → ℕ → GridBox → Type 0
+HoldMost answers kids smaller part =
+    (axis : ℕ) (b : ℤ) → IsIn (side_at axis part) b → kids ≤ count_by (λ s. holds s b) (sides_of axis answers) + smaller
+
+count_append : (b : ℤ) (xs ys : List (ℤ × ℤ)) → count_by (λ s. holds s b) (xs ++ ys) ≡ count_by (λ s. holds s b) xs + count_by (λ s. holds s b) ys
+count_append b xs ys = sum_by-append (λ s. cond (holds s b) 1 0) xs ys
+
+count_more : (axis : ℕ) (b : ℤ) (answers : List (Option GridBox)) (answer : Option GridBox)
+    → count_by (λ s. holds s b) (sides_of axis (answers ++ answer ∷ [])) ≡ count_by (λ s. holds s b) (sides_of axis answers) + count_by (λ s. holds s b) (sides_of axis (answer ∷ []))
+count_more axis b answers answer = rw (sides_append axis answers (answer ∷ [])) (count_append b (sides_of axis answers) (sides_of axis (answer ∷ [])))
+
+pub whole_more : (answers : List (Option GridBox)) (answer : Option GridBox) (kids smaller : ℕ) (part : GridBox) → answer ≡ Some part → HoldMost answers kids smaller part
+    → HoldMost (answers ++ answer ∷ []) (kids + 1) smaller part
+whole_more answers answer kids smaller part is most axis b within =
+    let one = count_here b ((side_at axis part).lo, (side_at axis part).hi) [] (holds_from _ _ b within.0 within.1) in
+    let here : count_by (λ s. holds s b) (sides_of axis (answer ∷ [])) ≡ 1 + 0 = rw is one in
+    omega (arith, most axis b within, count_more axis b answers answer, here)
+
+pub smaller_more : (answers : List (Option GridBox)) (answer : Option GridBox) (kids smaller : ℕ) (part : GridBox) → HoldMost answers kids smaller part
+    → HoldMost (answers ++ answer ∷ []) (kids + 1) (smaller + 1) part
+smaller_more answers answer kids smaller part most axis b within = omega (arith, most axis b within, count_more axis b answers answer)
+
+pub whole_hulls : (answers : List (Option GridBox)) (need kids smaller : ℕ) (part : GridBox) → LiesIn part part → 1 ≤ need → need + smaller ≤ kids
+    → ((axis : ℕ) → AreInside (side_at axis part) (sides_of axis answers)) → HoldMost answers kids smaller part → IsRelaxedBox answers need (Some part)
+whole_hulls answers need kids smaller part lies some enough inside most axis =
+    let u = lies axis in
+    record {
+      lo_lies = omega (arith, most axis (side_at axis part).lo (u.low, u.ordered));
+      hi_lies = omega (arith, most axis (side_at axis part).hi (u.ordered, u.high));
+      within = λ b h.
+          let (s, m, l, r) = some_holds b (sides_of axis answers) (omega (arith, h)) in
+          let x = inside_of (side_at axis part) (sides_of axis answers) s (inside axis) m in
+          (omega (arith, ints, x.0), omega (arith, ints, x.1));
+    }

@@ -224,7 +224,7 @@ near_square leaf part = square (least_between leaf.x part.x) + square (least_bet
 abbrev far_square : LeafValue → GridBox → ℕ
 far_square leaf part = square (greatest_between leaf.x part.x) + square (greatest_between leaf.y part.y) + square (greatest_between leaf.z part.z)
 
-squares_le : (leaf : LeafValue) (part : GridBox) → leaf.x.lo ≤ℤ leaf.x.hi → part.x.lo ≤ℤ part.x.hi → leaf.y.lo ≤ℤ leaf.y.hi → part.y.lo ≤ℤ part.y.hi → leaf.z.lo ≤ℤ leaf.z.hi → part.z.lo ≤ℤ part.z.hi
+pub squares_le : (leaf : LeafValue) (part : GridBox) → leaf.x.lo ≤ℤ leaf.x.hi → part.x.lo ≤ℤ part.x.hi → leaf.y.lo ≤ℤ leaf.y.hi → part.y.lo ≤ℤ part.y.hi → leaf.z.lo ≤ℤ leaf.z.hi → part.z.lo ≤ℤ part.z.hi
     → near_square leaf part ≤ far_square leaf part
 squares_le leaf part a b c d e f = sum_mono _ _ _ _ _ _ (least_le_greatest _ _ _ _ a b) (least_le_greatest _ _ _ _ c d) (least_le_greatest _ _ _ _ e f)
 

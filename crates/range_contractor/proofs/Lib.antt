@@ -7,6 +7,7 @@ pub mod AmountLemmas
 pub mod SquareLemmas
 pub mod TightLemmas
 pub mod LeafLemmas
+pub mod WantedLemmas
 pub mod KidLemmas
 pub mod ViewLemmas
 pub mod RowLemmas

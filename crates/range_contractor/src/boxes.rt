@@ -1,6 +1,6 @@
 //! Boxes by their sides.
 
-ghost use Rattle.std.specs.Prelude.{◌≡◌};
+ghost use Rattle.std.specs.Prelude.{◌≡◌, option_map, Some, IsTrue};
 ghost use Rattle.sat_model.specs.Boxes.{grid_box, side_at};
 ghost use Rattle.sat_model.specs.Sizes.{IsBoxSize};
 ghost use Rattle.sat_model.specs.Trees.{span_side};
@@ -39,5 +39,15 @@ pub(crate) fn box_of(x: &Span, y: &Span, z: &Span) -> Box3
             y: y.hi,
             z: z.hi,
         },
+    }
+}
+
+/// Whether all of the box is kept.
+pub(crate) fn is_all(kept: &Option<Box3>, part: &Box3) -> bool
+    ensures { IsTrue result → option_map grid_box kept.now ≡ Some (grid_box part.now) }
+{
+    match kept {
+        Some(left) => *left == *part,
+        None => false,
     }
 }

@@ -1,13 +1,13 @@
 //! Contracting a box by a tree.
 
-ghost use Rattle.std.specs.Prelude.{option_map};
+ghost use Rattle.std.specs.Prelude.{◌≡◌, option_map, Some, IsTrue};
 ghost use Rattle.sat_model.specs.Boxes.{grid_box};
 ghost use Rattle.sat_model.specs.Trees.{IsWellFormed, HasSoundNodes, HaveSoundNodes, Relaxed, Again, span_side};
 ghost use Rattle.sat_model.specs.Contractors.{IsMeet};
 ghost use Rattle.sat_model.specs.Proposals.{IsTied, InTurn, IsProposal};
 ghost use Rattle.range_contractor.specs.Views.{tree_value, tree_values};
 
-use crate::boxes::{box_of, side_of};
+use crate::boxes::{box_of, is_all, side_of};
 use crate::hulls::{Hulls, hull_box};
 use crate::leaf::leaf_part;
 use crate::meets::meet;
@@ -48,7 +48,8 @@ fn in_turn<I: Interval>(kids: &[Tree<I>], part: &Box3, clock: &Span) -> Option<B
     Some(left)
 }
 
-/// What is left of the box when the tree contracts it so many times.
+/// What is left of the box when the tree contracts it so many times. A round that leaves all of it
+/// is the last one that can do anything.
 #[cycle(contraction)]
 fn again<I: Interval>(rounds: u8, kid: &Tree<I>, part: &Box3, clock: &Span) -> Option<Box3>
     requires { HasSoundNodes (tree_value I.low I.high kid.now) }
@@ -57,21 +58,47 @@ fn again<I: Interval>(rounds: u8, kid: &Tree<I>, part: &Box3, clock: &Span) -> O
 {
     let mut left = *part;
     for round in 0..rounds {
-        match contraction(kid, &left, clock) {
-            Some(kept) => left = kept,
-            None => return None,
+        let Some(kept) = contraction(kid, &left, clock) else {
+            return None;
+        };
+        if kept == left {
+            return Some(left);
         }
+        left = kept;
     }
     Some(left)
 }
 
-/// The hull, on each axis, of what all but at most `q` of the trees leave of the box's side.
+/// Whether all but at most `q` of the trees leave all of the box.
+#[cycle(contraction)]
+fn most_leave_all<I: Interval>(q: u8, kids: &[Tree<I>], part: &Box3, clock: &Span) -> bool
+    requires { HasSoundNodes (Relaxed q (tree_values I.low I.high kids.now)) }
+    ensures { IsTrue result → IsTied (Relaxed q (tree_values I.low I.high kids.now)) I.GRAIN
+        I.SLACK (span_side clock.now) (grid_box part.now) (Some (grid_box part.now)) }
+{
+    let mut smaller: u8 = 0;
+    for kid in kids {
+        if !is_all(&contraction(kid, part, clock), part) {
+            if smaller == q {
+                return false;
+            }
+            smaller += 1;
+        }
+    }
+    true
+}
+
+/// The hull, on each axis, of what all but at most `q` of the trees leave of the box's side. Most
+/// often that is the whole side, which takes no hull to see.
 #[cycle(contraction)]
 fn relaxed_part<I: Interval>(q: u8, kids: &[Tree<I>], part: &Box3, clock: &Span) -> Option<Box3>
     requires { HasSoundNodes (Relaxed q (tree_values I.low I.high kids.now)) }
     ensures { IsTied (Relaxed q (tree_values I.low I.high kids.now)) I.GRAIN I.SLACK
         (span_side clock.now) (grid_box part.now) (option_map grid_box result) }
 {
+    if most_leave_all(q, kids, part, clock) {
+        return Some(*part);
+    }
     let mut hulls = Hulls::new();
     for kid in kids {
         hulls.add(contraction(kid, part, clock));

@@ -1,22 +1,26 @@
 //! What one satellite leaves of a box.
 
-ghost use Rattle.std.specs.Prelude.{option_map};
+ghost use Rattle.std.specs.Prelude.{IsTrue, option_map, pos, ◌≤ℤ◌};
 ghost use Rattle.sat_model.specs.Boxes.{grid_box};
 ghost use Rattle.sat_model.specs.Trees.{Sat, IsLeafSized, span_side};
 ghost use Rattle.sat_model.specs.Proposals.{IsTied};
+ghost use Rattle.sat_model.specs.TightFaces.{near_leaf, far_leaf};
+ghost use Rattle.range_contractor.specs.Ranges.{greatest_possible};
 ghost use Rattle.range_contractor.specs.Views.{leaf_value};
 
 use crate::boxes::{box_of, side_of};
 use crate::ranges::wanted;
 use crate::sides::side_kept;
-use crate::squares::{difference_squares, range_squares};
+use crate::squares::{difference_squares, ends_of, range_squares};
 use crate::tree::Leaf;
 use fix_interval::Interval;
+use relaxed_meet::{far_square_of, near_square_of};
 use sat_model::{Box3, Span};
 
 /// The least box that holds each point of the box that the satellite allows with some offset of the
 /// clock span, but for the slack at the faces. Each axis is contracted by the given sides of the
-/// two others, so that each face is tight across the given box.
+/// two others, so that each face is tight across the given box. Where all ranges to the box are
+/// wanted it is left as it is.
 pub(crate) fn leaf_part<I: Interval>(leaf: &Leaf<I>, part: &Box3, clock: &Span) -> Option<Box3>
     requires { IsLeafSized (leaf_value I.low I.high leaf.now) }
     ensures { IsTied (Sat (leaf_value I.low I.high leaf.now)) I.GRAIN I.SLACK
@@ -25,6 +29,9 @@ pub(crate) fn leaf_part<I: Interval>(leaf: &Leaf<I>, part: &Box3, clock: &Span) 
     let Some(ranges) = wanted(&leaf.range, &leaf.err, clock) else {
         return None;
     };
+    if are_all_wanted(leaf, part, &ranges) {
+        return Some(*part);
+    }
     let squares = range_squares::<I>(&ranges);
     let x = side_of(part, 0);
     let y = side_of(part, 1);
@@ -42,4 +49,25 @@ pub(crate) fn leaf_part<I: Interval>(leaf: &Leaf<I>, part: &Box3, clock: &Span) 
         return None;
     };
     Some(box_of(&x_kept, &y_kept, &z_kept))
+}
+
+/// Whether all ranges from a place of the leaf to a point of the box are wanted, told without a root.
+fn are_all_wanted<I: Interval>(leaf: &Leaf<I>, part: &Box3, ranges: &Span) -> bool
+    requires leaf { IsLeafSized (leaf_value I.low I.high leaf.now) }
+    requires natural { pos 0 ≤ℤ ranges.now.lo }
+    requires possible { ranges.now.hi ≤ℤ pos greatest_possible }
+    ensures low { IsTrue result
+        → ranges.now.lo ≤ℤ pos (near_leaf (leaf_value I.low I.high leaf.now) (grid_box part.now)) }
+    ensures high { IsTrue result
+        → pos (far_leaf (leaf_value I.low I.high leaf.now) (grid_box part.now)) ≤ℤ ranges.now.hi }
+{
+    let x = ends_of(leaf.x);
+    let y = ends_of(leaf.y);
+    let z = ends_of(leaf.z);
+    let most = u128::from(ranges.hi as u64);
+    if far_square_of(&x, &y, &z, part) > most * most {
+        return false;
+    }
+    let least = u128::from(ranges.lo as u64);
+    least * least <= near_square_of(&x, &y, &z, part)
 }

@@ -7,9 +7,9 @@ ghost use Rattle.sat_model.specs.Relaxed.{IsRelaxedEmpty, ends};
 
 use crate::clocks::clock_span;
 use crate::extremes::{Falling, extremes, keep};
-use crate::hull::least_between;
+use crate::hull::{least_between, widest_middle};
 use crate::offsets::{bounded, lies_in_most};
-use crate::separation::{Separation, middle};
+use crate::separation::Separation;
 use arrayvec::ArrayVec;
 use sat_model::{Box3, Row, Span};
 
@@ -22,12 +22,41 @@ pub struct Deciding {
     separation: Separation,
     /// A clock offset in um that lay in the clock spans of enough rows.
     common: i64,
+    /// Whether the last test showed a box empty. The next one mostly ends as it did.
+    was_empty: bool,
 }
 
 impl Deciding {
     /// Whether no clock offset lies in the clock spans of all but at most `q` rows over the box: then
     /// no point of the box fits.
     pub fn shown_empty(&mut self, rows: &[Row], part: &Box3, q: u8) -> bool
+        requires { (q < length rows.now) × (length rows.now ≤ 64) }
+        ensures { IsTrue result ↔ IsShownEmpty rows.now (grid_box part.now) q }
+    {
+        let is_empty = self.decide(rows, part, q);
+        self.was_empty = is_empty;
+        is_empty
+    }
+
+    /// The same, without taking note of the answer.
+    fn decide(&mut self, rows: &[Row], part: &Box3, q: u8) -> bool
+        requires { (q < length rows.now) × (length rows.now ≤ 64) }
+        ensures { IsTrue result ↔ IsShownEmpty rows.now (grid_box part.now) q }
+    {
+        if self.was_empty {
+            return self.decide_behind_empty(rows, part, q);
+        }
+        if lies_in_most(rows, part, q, bounded(self.common)) {
+            return false;
+        }
+        if self.separation.shows_empty(rows, part, q) {
+            return true;
+        }
+        self.ask_all(rows, part, q)
+    }
+
+    /// The same behind a box that was shown empty.
+    fn decide_behind_empty(&mut self, rows: &[Row], part: &Box3, q: u8) -> bool
         requires { (q < length rows.now) × (length rows.now ≤ 64) }
         ensures { IsTrue result ↔ IsShownEmpty rows.now (grid_box part.now) q }
     {
@@ -40,6 +69,14 @@ impl Deciding {
         if self.some_show_empty(rows, part, q) {
             return true;
         }
+        self.ask_all(rows, part, q)
+    }
+
+    /// The same by the clock spans of all rows.
+    fn ask_all(&mut self, rows: &[Row], part: &Box3, q: u8) -> bool
+        requires { (q < length rows.now) × (length rows.now ≤ 64) }
+        ensures { IsTrue result ↔ IsShownEmpty rows.now (grid_box part.now) q }
+    {
         let spans = spans_over(rows, part);
         self.test(&spans, rows.len() - usize::from(q))
     }
@@ -89,7 +126,7 @@ impl Deciding {
         if is_empty {
             self.separation = Separation::of_ends(spans, lows, highs);
         } else {
-            self.common = between(lows, highs);
+            self.common = widest_middle(lows, highs);
         }
     }
 }
@@ -101,6 +138,14 @@ pub struct SlabTests {
 }
 
 impl SlabTests {
+    /// Takes an offset that is asked first at each face: one that lies in the clock spans of enough
+    /// rows over a box mostly does over its slabs.
+    pub(crate) fn ask_first(&mut self, offset: i64) {
+        for face in &mut self.faces {
+            face.common = offset;
+        }
+    }
+
     /// Whether the rows show a slab at this face empty, as `Deciding::shown_empty` does.
     pub fn shown_empty(&mut self, face: u8, rows: &[Row], slab: &Box3, q: u8) -> bool
         requires { (q < length rows.now) × (length rows.now ≤ 64) }
@@ -120,19 +165,4 @@ fn spans_over(rows: &[Row], part: &Box3) -> ArrayVec<Span, 64>
         spans.push(clock_span(row, part));
     }
     spans
-}
-
-/// About the middle between the first low end that lies up to the high end that goes with it, and
-/// that high end.
-fn between(lows: &[i64], highs: &[i64]) -> i64 {
-    for (passed, mirrored) in highs.iter().enumerate() {
-        if passed < lows.len() {
-            let low = lows[lows.len() - 1 - passed];
-            let high = -1 - *mirrored;
-            if low <= high {
-                return middle(low, high);
-            }
-        }
-    }
-    0
 }

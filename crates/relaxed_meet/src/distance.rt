@@ -3,11 +3,12 @@
 ghost use Rattle.std.specs.Prelude.{◌≡◌, ◌+◌, ◌≤◌};
 ghost use Rattle.relaxed_meet.specs.SmallEnds.{SmallEnds};
 ghost use Rattle.sat_model.specs.Roots.{root};
+ghost use Rattle.sat_model.specs.Sizes.{IsWithin};
 ghost use Rattle.sat_model.specs.Amounts.{least_amount, greatest_amount, square};
 ghost use Rattle.sat_model.specs.Boxes.{grid_box};
 ghost use Rattle.sat_model.specs.ClockSpans.{near_of, far_of, near_square, far_square};
 
-use sat_model::{Box3, Row, root_u128};
+use sat_model::{Box3, Row, Span, root_u128};
 
 /// The least amount of a difference between a number from `a` to `b` and one from `c` to `d`.
 fn least(a: i64, b: i64, c: i64, d: i64) -> u64
@@ -52,27 +53,51 @@ fn root_of_squares(x: u64, y: u64, z: u64) -> u64
     root_u128(x * x + y * y + z * z)
 }
 
-/// The least squared distance in um^2 between a place of the row and a point of the box, each axis
-/// taken for itself.
+/// The least squared distance in um^2 between a place in three spans and a point of the box, each
+/// axis taken for itself.
+pub fn near_square_of(x: &Span, y: &Span, z: &Span, part: &Box3) -> u128
+    requires x { IsWithin 70000000000000 x.now.lo × IsWithin 70000000000000 x.now.hi }
+    requires y { IsWithin 70000000000000 y.now.lo × IsWithin 70000000000000 y.now.hi }
+    requires z { IsWithin 70000000000000 z.now.lo × IsWithin 70000000000000 z.now.hi }
+    ensures { result ≡ square (least_amount x.now.lo x.now.hi part.now.lo.x part.now.hi.x)
+        + square (least_amount y.now.lo y.now.hi part.now.lo.y part.now.hi.y)
+        + square (least_amount z.now.lo z.now.hi part.now.lo.z part.now.hi.z) }
+{
+    sum_of_squares(
+        least(x.lo, x.hi, part.lo.x, part.hi.x),
+        least(y.lo, y.hi, part.lo.y, part.hi.y),
+        least(z.lo, z.hi, part.lo.z, part.hi.z),
+    )
+}
+
+/// The greatest such squared distance in um^2.
+pub fn far_square_of(x: &Span, y: &Span, z: &Span, part: &Box3) -> u128
+    requires x { IsWithin 70000000000000 x.now.lo × IsWithin 70000000000000 x.now.hi }
+    requires y { IsWithin 70000000000000 y.now.lo × IsWithin 70000000000000 y.now.hi }
+    requires z { IsWithin 70000000000000 z.now.lo × IsWithin 70000000000000 z.now.hi }
+    ensures { result ≡ square (greatest_amount x.now.lo x.now.hi part.now.lo.x part.now.hi.x)
+        + square (greatest_amount y.now.lo y.now.hi part.now.lo.y part.now.hi.y)
+        + square (greatest_amount z.now.lo z.now.hi part.now.lo.z part.now.hi.z) }
+{
+    sum_of_squares(
+        greatest(x.lo, x.hi, part.lo.x, part.hi.x),
+        greatest(y.lo, y.hi, part.lo.y, part.hi.y),
+        greatest(z.lo, z.hi, part.lo.z, part.hi.z),
+    )
+}
+
+/// The least squared distance in um^2 between a place of the row and a point of the box.
 pub(crate) fn near_square(row: &Row, part: &Box3) -> u128
     ensures { result ≡ near_square row.now (grid_box part.now) }
 {
-    sum_of_squares(
-        least(row.x.lo, row.x.hi, part.lo.x, part.hi.x),
-        least(row.y.lo, row.y.hi, part.lo.y, part.hi.y),
-        least(row.z.lo, row.z.hi, part.lo.z, part.hi.z),
-    )
+    near_square_of(&row.x, &row.y, &row.z, part)
 }
 
 /// The greatest such squared distance in um^2.
 pub(crate) fn far_square(row: &Row, part: &Box3) -> u128
     ensures { result ≡ far_square row.now (grid_box part.now) }
 {
-    sum_of_squares(
-        greatest(row.x.lo, row.x.hi, part.lo.x, part.hi.x),
-        greatest(row.y.lo, row.y.hi, part.lo.y, part.hi.y),
-        greatest(row.z.lo, row.z.hi, part.lo.z, part.hi.z),
-    )
+    far_square_of(&row.x, &row.y, &row.z, part)
 }
 
 /// The whole-number roots of the least and of the greatest squared distance in um between a place

@@ -6,6 +6,7 @@ ghost use Rattle.relaxed_meet.specs.Kept.{LiesBetween, IsFalling, IsLeastIn, IsG
 ghost use Rattle.sat_model.specs.Relaxed.{IsRelaxedHull, LiesInRelaxed, IsRelaxedEmpty, ends};
 
 use crate::extremes::{Falling, extremes};
+use crate::separation::middle;
 use sat_model::Span;
 
 /// The least number that lies between a low end and the high end that goes with it.
@@ -56,15 +57,46 @@ pub fn relaxed(spans: &[Span], need: u8) -> Option<Span>
     ensures none { IsNone result ↔ IsRelaxedEmpty (map ends spans.now) need }
     ensures some { IfSome result (λ h. IsRelaxedHull (map ends spans.now) need h.lo h.hi) }
 {
+    let (hull, _) = relaxed_with_middle(spans, need);
+    hull
+}
+
+/// The same hull, and about the middle of the widest span whose numbers all lie in enough of them.
+pub(crate) fn relaxed_with_middle(spans: &[Span], need: u8) -> (Option<Span>, i64)
+    requires { (1 ≤ need) × (need ≤ length spans.now) × (length spans.now ≤ 64) }
+    ensures none { IsNone result.0 ↔ IsRelaxedEmpty (map ends spans.now) need }
+    ensures some { IfSome result.0 (λ h. IsRelaxedHull (map ends spans.now) need h.lo h.hi) }
+{
     let mut lows = Falling::new();
     let mut highs = Falling::new();
     let most = spans.len() - usize::from(need) + 1;
     extremes(spans, most, &mut lows, &mut highs);
+    let middle = widest_middle(&lows, &highs);
     match (
         least_between(&lows, &highs),
         greatest_between(&lows, &highs),
     ) {
-        (Some(lo), Some(hi)) => Some(Span { lo, hi }),
-        _ => None,
+        (Some(lo), Some(hi)) => (Some(Span { lo, hi }), middle),
+        _ => (None, middle),
     }
+}
+
+/// About the middle of the widest span from a low end to the high end that goes with it. The numbers
+/// between two such ends lie in enough of the spans, and one in the middle does for spans near to
+/// these too.
+pub(crate) fn widest_middle(lows: &[i64], highs: &[i64]) -> i64 {
+    let mut widest = 0;
+    let mut found = 0;
+    for (passed, mirrored) in highs.iter().enumerate() {
+        if passed < lows.len() {
+            let low = lows[lows.len() - 1 - passed];
+            let high = -1 - *mirrored;
+            let half = high / 2 - low / 2;
+            if half >= widest {
+                widest = half;
+                found = middle(low, high);
+            }
+        }
+    }
+    found
 }

@@ -13,6 +13,6 @@ mod shown;
 
 pub use clocks::{clock_span, inner_span};
 pub use deciding::{Deciding, SlabTests};
-pub use distance::near_far;
+pub use distance::{far_square_of, near_far, near_square_of};
 pub use hull::relaxed;
 pub use shown::{BoxState, box_state, clock_hull, shown_inner};

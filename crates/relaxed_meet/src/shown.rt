@@ -6,7 +6,8 @@ ghost use Rattle.relaxed_meet.specs.BoxStates.{IsBoxState};
 ghost use Rattle.sat_model.specs.ClockSpans.{IsClockHull, IsShownEmpty, NoneIsShownInner, IsLeastShownInner};
 
 use crate::clocks::{clock_span, clock_spans, inner_span};
-use crate::hull::{least_number, relaxed};
+use crate::deciding::SlabTests;
+use crate::hull::{least_number, relaxed, relaxed_with_middle};
 use arrayvec::ArrayVec;
 use sat_model::{Box3, Row, Span};
 
@@ -53,8 +54,9 @@ pub enum BoxState {
 }
 
 /// What the rows show of a box where up to `q` of them may be inconsistent: `clock_hull` and
-/// `shown_inner` at once, from one pair of ranges a row.
-pub fn box_state(rows: &[Row], part: &Box3, q: u8) -> BoxState
+/// `shown_inner` at once, from one pair of ranges a row. The tests of the box's slabs get an offset to
+/// ask first.
+pub fn box_state(rows: &[Row], part: &Box3, q: u8, tests: &mut SlabTests) -> BoxState
     requires { (q < length rows.now) × (length rows.now ≤ 64) }
     ensures { IsBoxState rows.now (grid_box part.now) q result }
 {
@@ -68,9 +70,11 @@ pub fn box_state(rows: &[Row], part: &Box3, q: u8) -> BoxState
             None => {}
         }
     }
-    let Some(hull) = relaxed(&clocks, rows.len() as u8 - q) else {
+    let (hull, middle) = relaxed_with_middle(&clocks, rows.len() as u8 - q);
+    let Some(hull) = hull else {
         return BoxState::Empty;
     };
+    tests.ask_first(middle);
     match least_number(&inner, rows.len() - usize::from(q)) {
         Some(clock) => BoxState::Inner { clock, hull },
         None => BoxState::Undecided { hull },

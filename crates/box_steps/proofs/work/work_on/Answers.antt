@@ -64,11 +64,11 @@ returns-in_err-step-2-clause-broken g c =
     (last_broke g.L.Steps.took g.L.Steps.broke g.L.Steps.room fault g.I.Interval.GRAIN g.I.Interval.SLACK c.args.rows.now c.args.rules.now c.args.splits
     (record { id = c.args.id; part = grid_box c.args.part.now }) c.args.log.now c.cut_down.new.log c.step-2.new.self c.in_ok-cuts.cuts (grid_box c.cut_down.new.part) c.closing_step-step-2.result
     (took_as g.L.Steps.took _ _ c.args.log.now c.in_ok-cuts.cuts (grid_box c.cut_down.new.part) c.cut_down.new.log (λ steps down. inl down) c.in_ok-cuts.ensures.cut)
-    (c.closing_step-step-2.ensures c.args.rows.now c.box_state-state-2.ensures) c.in_err-step-2.ensures.broke (same_fault fault Full _ c.in_err-step-2.ensures.full))
+    (c.closing_step-step-2.ensures c.args.rows.now c.state_of_rest-state.ensures) c.in_err-step-2.ensures.broke (same_fault fault Full _ c.in_err-step-2.ensures.full))
 
 pub returns-clause-took : goal.returns-clause-took
 returns-clause-took g c =
     box_took g.L.Steps.took g.I.Interval.GRAIN g.I.Interval.SLACK c.args.rows.now c.args.rules.now c.args.splits
     (record { id = c.args.id; part = grid_box c.args.part.now }) c.args.log.now c.cut_down.new.log c.step-2.new.self (record { step = c.closing_step-step-2.result; left = c.cut_down.new.part; cuts = c.in_ok-cuts.cuts })
     (took_as g.L.Steps.took _ _ c.args.log.now c.in_ok-cuts.cuts (grid_box c.cut_down.new.part) c.cut_down.new.log (λ steps down. inl down) c.in_ok-cuts.ensures.cut)
-    (c.closing_step-step-2.ensures c.args.rows.now c.box_state-state-2.ensures) c.in_ok-step-2.ensures.took
+    (c.closing_step-step-2.ensures c.args.rows.now c.state_of_rest-state.ensures) c.in_ok-step-2.ensures.took

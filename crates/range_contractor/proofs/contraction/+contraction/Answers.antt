@@ -1,4 +1,4 @@
-use Rattle.std.proofs.Common.{◌≡◌, ℕ, ◌-◌, arith, sym, subst, [], ◌∷◌, ◌++◌, option_map, ap, ◌∙◌, take, length}
+use Rattle.std.proofs.Common.{◌≡◌, ℕ, ◌-◌, arith, sym, subst, refl, [], ◌∷◌, ◌++◌, option_map, ap, ◌∙◌, take, length}
 use Rattle.std.proofs.lemmas.List.{take_all}
 use Rattle.sat_model.specs.Boxes.{grid_box, side_at}
 use Rattle.sat_model.specs.Trees.{TreeValue, Relaxed, count_trees, span_side}
@@ -6,16 +6,24 @@ use Rattle.sat_model.specs.Contractors.{Contractor, sides_of}
 use Rattle.sat_model.specs.Proposals.{IsTied}
 use Rattle.range_contractor.specs.Hulls.{AreInside}
 use Rattle.range_contractor.specs.Views.{tree_value, tree_values}
-use Rattle.range_contractor.proofs.KidLemmas.{repeat_more, repeat_none, repeat_done, turn_more, turn_none, sound_from, count_kids, tied_more, sides_append, answers_inside, relaxed_answer}
+use Rattle.range_contractor.proofs.KidLemmas.{repeat_more, repeat_same, repeat_none, repeat_done, turn_more, turn_none, sound_from, count_kids, whole_hulls, whole_more, smaller_more, tied_more, sides_append, answers_inside, relaxed_answer}
 use Rattle.range_contractor.proofs.ViewLemmas.{view_relaxed}
-use Rattle.range_contractor.proofs.BoxLemmas.{box_lies}
+use Rattle.range_contractor.proofs.BoxLemmas.{box_lies, same_coordinates}
 use Rattle.range_contractor.proofs.contraction.+contraction.Goals as goal
+use Rattle.range_contractor.proofs.contraction.+contraction.Goals.{most_leave_all-then-not-is_all+else-smaller-q, most_leave_all-else-not-is_all}
 
-pub again-returns-in-None : goal.again-returns-in-None
-again-returns-in-None g t c =
+pub again-returns-in_default : goal.again-returns-in_default
+again-returns-in_default g t c =
     let I = g.I.Interval in
     let Run : Contractor = λ b a. IsTied (tree_value I.low I.high c.args.kid.now) I.GRAIN I.SLACK (span_side c.args.clock.now) b a in
-    repeat_none c.args.rounds c.loop-round.round Run (grid_box c.args.part.now) (grid_box c.loop-round.left) c.loop-round-test.true c.in-None.ensures c.loop-round.invariant
+    repeat_none c.args.rounds c.loop-round.round Run (grid_box c.args.part.now) (grid_box c.loop-round.left) c.loop-round-test.true (c.in_default.ensures) c.loop-round.invariant
+
+pub again-returns-then-eq : goal.again-returns-then-eq
+again-returns-then-eq g t c =
+    let I = g.I.Interval in
+    let Run : Contractor = λ b a. IsTied (tree_value I.low I.high c.args.kid.now) I.GRAIN I.SLACK (span_side c.args.clock.now) b a in
+    let same : grid_box c.in-Some.kept ≡ grid_box c.loop-round.left = same_coordinates c.in-Some.kept c.loop-round.left (sym c.eq.ensures ∙ c.if-eq.true) in
+    repeat_same c.args.rounds c.loop-round.round Run (grid_box c.args.part.now) (grid_box c.loop-round.left) (rw same at c.in-Some.ensures) c.loop-round.invariant
 
 pub again-loop-round-preserved : goal.again-loop-round-preserved
 again-loop-round-preserved g t c =
@@ -49,6 +57,49 @@ contraction-returns-in-Relaxed g t c =
     let I = g.I.Interval in
     let e = ap (λ T. tree_value I.low I.high T) c.in-Relaxed.is ∙ view_relaxed I.low I.high c.in-Relaxed.q c.in-Relaxed.kids ∙ ap (λ l. Relaxed c.in-Relaxed.q (tree_values I.low I.high l)) (sym c.deref-in-Relaxed.ensures.value) in
     subst (λ (v : TreeValue). IsTied v I.GRAIN I.SLACK (span_side c.args.clock.now) (grid_box c.args.part.now) (option_map grid_box c.relaxed_part.result)) (sym e) c.relaxed_part.ensures
+
+pub most_leave_all-returns : goal.most_leave_all-returns
+most_leave_all-returns g t c = λ yes.
+    let I = g.I.Interval in
+    let i = c.loop-kid.invariant in
+    let part = grid_box c.args.part.now in
+    let n = count_kids (tree_value I.low I.high) c.args.kids.now in
+    let lies = box_lies c.args.part.now in
+    let all : take c.loop-kid.kid-index c.args.kids.now ≡ c.args.kids.now = take_all c.loop-kid.kid-index c.args.kids.now c.loop-kid-test.false in
+    let inside : (axis : ℕ) → AreInside (side_at axis part) (sides_of axis i.answers) = λ axis.
+    answers_inside axis (tree_values I.low I.high (take c.loop-kid.kid-index c.args.kids.now)) I.GRAIN I.SLACK (span_side c.args.clock.now) part i.answers lies i.tied in
+    let q = c.requires.0 in
+    let done = c.loop-kid-test.false in
+    let few = i.few in
+    (i.answers, rw all at i.tied, whole_hulls i.answers (count_trees (tree_values I.low I.high c.args.kids.now) - c.args.q) c.loop-kid.kid-index c.loop-kid.smaller part lies (omega arith) (omega arith) inside i.most)
+
+pub most_leave_all-loop-kid-preserved : goal.most_leave_all-loop-kid-preserved
+most_leave_all-loop-kid-preserved g t c =
+    let I = g.I.Interval in
+    let i = c.loop-kid.invariant in
+    let part = grid_box c.args.part.now in
+    let answer = option_map grid_box c.contraction.result in
+    let sound = (sound_from (tree_value I.low I.high) c.args.kids.now c.loop-kid.kid-index c.kid-item.result c.loop-kid-test.true c.kid-item.is i.sound).1 in
+    let tied = tied_more (tree_value I.low I.high) c.args.kids.now c.loop-kid.kid-index c.kid-item.result I.GRAIN I.SLACK (span_side c.args.clock.now) part i.answers answer
+    c.loop-kid-test.true c.kid-item.is i.tied c.contraction.ensures in
+    elim c.if-not-is_all.branch [
+      | most_leave_all-then-not-is_all+else-smaller-q w ↦
+          record {
+            sound = sound;
+            few = omega (arith, i.few, w.smaller-is, w.if-smaller-q.false);
+            answers = i.answers ++ answer ∷ [];
+            tied = tied;
+            most = rw w.smaller-is (smaller_more i.answers answer c.loop-kid.kid-index c.loop-kid.smaller part i.most);
+          }
+      | most_leave_all-else-not-is_all w ↦
+          record {
+            sound = sound;
+            few = omega (arith, i.few, w.smaller-is);
+            answers = i.answers ++ answer ∷ [];
+            tied = tied;
+            most = rw w.smaller-is (whole_more i.answers answer c.loop-kid.kid-index c.loop-kid.smaller part (w.if-not-is_all.ensures refl) i.most);
+          }
+    ]
 
 pub relaxed_part-add-requires : goal.relaxed_part-add-requires
 relaxed_part-add-requires g t c =

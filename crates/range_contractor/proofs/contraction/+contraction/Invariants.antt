@@ -5,6 +5,7 @@ use Rattle.sat_model.specs.Trees.{HaveSoundNodes, span_side}
 use Rattle.sat_model.specs.Contractors.{Repeats, sides_of}
 use Rattle.sat_model.specs.Proposals.{InTurn, AreTied, IsTied}
 use Rattle.range_contractor.specs.Views.{tree_value, tree_values}
+use Rattle.range_contractor.proofs.KidLemmas.{HoldMost}
 use Rattle.range_contractor.proofs.contraction.+contraction.Given as goal
 
 abbrev pub invariant-in_turn-loop-kid : goal.invariant-in_turn-loop-kid
@@ -33,4 +34,15 @@ invariant-relaxed_part-loop-kid g l =
       x : map ends l.hulls.x.items ≡ sides_of 0 answers;
       y : map ends l.hulls.y.items ≡ sides_of 1 answers;
       z : map ends l.hulls.z.items ≡ sides_of 2 answers;
+    }
+
+abbrev pub invariant-most_leave_all-loop-kid : goal.invariant-most_leave_all-loop-kid
+invariant-most_leave_all-loop-kid g l =
+    let I = g.I.Interval in
+    record {
+      sound : HaveSoundNodes (tree_values I.low I.high (drop l.kid-index l.kids));
+      few : l.smaller ≤ l.q;
+      answers : List (Option GridBox);
+      tied : AreTied (tree_values I.low I.high (take l.kid-index l.kids)) I.GRAIN I.SLACK (span_side l.clock) (grid_box l.part) answers;
+      most : HoldMost answers l.kid-index l.smaller (grid_box l.part);
     }

@@ -6,12 +6,29 @@ use Rattle.sat_model.specs.Proposals.{Keeps}
 use Rattle.range_contractor.specs.Sides.{IsKept}
 use Rattle.range_contractor.specs.Views.{leaf_value}
 use Rattle.range_contractor.proofs.LeafLemmas.{Measures, measures, measured, box_sizes, IsOrderedLeaf, none_wanted, none_on_x, none_on_y, none_on_z, leaf_keeps, leaf_answer}
+use Rattle.range_contractor.proofs.BoxLemmas.{box_lies}
+use Rattle.range_contractor.proofs.WantedLemmas.{whole_box}
 use Rattle.range_contractor.proofs.leaf.leaf_part.Goals as goal
 
 pub returns-in_default : goal.returns-in_default
 returns-in_default g c =
     let I = g.I.Interval in
     (none_wanted (leaf_value I.low I.high c.args.leaf.now) (span_side c.args.clock.now) (grid_box c.args.part.now) c.requires (box_sizes c.args.part.now) (c.in_default.ensures.none refl), tt)
+
+pub returns-then-are_all_wanted : goal.returns-then-are_all_wanted
+returns-then-are_all_wanted g c =
+    let I = g.I.Interval in
+    let leaf = leaf_value I.low I.high c.args.leaf.now in
+    let ordered : IsOrderedLeaf leaf (grid_box c.args.part.now) = record {
+      x = g.met.I.Interval.ordered c.args.leaf.now.x;
+      y = g.met.I.Interval.ordered c.args.leaf.now.y;
+      z = g.met.I.Interval.ordered c.args.leaf.now.z;
+      part_x = c.args.part.now.x_ordered;
+      part_y = c.args.part.now.y_ordered;
+      part_z = c.args.part.now.z_ordered;
+    } in
+    whole_box I.GRAIN I.SLACK leaf (span_side c.args.clock.now) (grid_box c.args.part.now) c.in-Some.ranges.lo c.in-Some.ranges.hi g.met.I.Interval.grain_low g.met.I.Interval.slack ordered
+    c.in-Some.ensures.some (c.are_all_wanted.ensures.low c.if-are_all_wanted.true) (c.are_all_wanted.ensures.high c.if-are_all_wanted.true) (box_lies c.args.part.now)
 
 pub returns-in_default-side_kept : goal.returns-in_default-side_kept
 returns-in_default-side_kept g c =

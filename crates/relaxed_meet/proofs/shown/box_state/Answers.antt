@@ -35,7 +35,7 @@ pub returns-in_default : goal.returns-in_default
 returns-in_default c =
     let all : map ends c.deref.result.now ≡ clock_spans (grid_box c.args.part.now) c.args.rows.now =
     rw c.deref.ensures.0 (all_ends (clock_ends (grid_box c.args.part.now)) _ _ _ c.loop-row-test.false c.loop-row.invariant.spans) in
-    rw all at (c.relaxed.ensures.none.0 (rw c.in_default.is refl))
+    rw all at (c.relaxed_with_middle-hull.ensures.none.0 (rw c.in_default.is refl))
 
 pub returns-in-Some-least_number : goal.returns-in-Some-least_number
 returns-in-Some-least_number c =
@@ -44,7 +44,7 @@ returns-in-Some-least_number c =
     let inside : (b : ℤ) → held b (map ends c.deref-2.result.now) ≡ held b (inner_spans (grid_box c.args.part.now) c.args.rows.now) =
     rw c.deref-2.ensures.0 (held_all (inner_ends (grid_box c.args.part.now)) c.args.rows.now c.loop-row.row-index c.loop-row.inner.items c.loop-row-test.false c.loop-row.invariant.held) in
     let same : to_z w64 (of_z w64 c.in-Some-least_number.clock) ≡ c.in-Some-least_number.clock = omega (arith, ints) in
-    let hull = rw all at c.in-Some-relaxed.ensures in
+    let hull = rw (all, c.in-Some-hull.is) at c.relaxed_with_middle-hull.ensures in
     let least = least_inner c.args.rows.now (grid_box c.args.part.now) c.args.q _ c.deref-2.result.now c.least_number.result (omega (arith, c.from.ensures)) inside c.least_number.ensures in
     (λ e. let no = hull.none.1 e in absurd cc, rw same (rw c.in-Some-least_number.is at least), hull.some)
 
@@ -54,7 +54,7 @@ returns-in-None-least_number c =
     rw c.deref.ensures.0 (all_ends (clock_ends (grid_box c.args.part.now)) _ _ _ c.loop-row-test.false c.loop-row.invariant.spans) in
     let inside : (b : ℤ) → held b (map ends c.deref-2.result.now) ≡ held b (inner_spans (grid_box c.args.part.now) c.args.rows.now) =
     rw c.deref-2.ensures.0 (held_all (inner_ends (grid_box c.args.part.now)) c.args.rows.now c.loop-row.row-index c.loop-row.inner.items c.loop-row-test.false c.loop-row.invariant.held) in
-    let hull = rw all at c.in-Some-relaxed.ensures in (
+    let hull = rw (all, c.in-Some-hull.is) at c.relaxed_with_middle-hull.ensures in (
       λ e. let no = hull.none.1 e in absurd cc,
       none_inner c.args.rows.now (grid_box c.args.part.now) c.args.q _ c.deref-2.result.now c.least_number.result (omega (arith, c.from.ensures)) inside c.least_number.ensures
           (rw c.in-None-least_number.is refl),

@@ -2,7 +2,7 @@ use Rattle.std.proofs.Common.{arith}
 use Rattle.std.proofs.lemmas.Int.{ints}
 use Rattle.sat_model.specs.Amounts.{greatest_amount}
 use Rattle.relaxed_meet.proofs.SquareLemmas.{at_ends, sum_same}
-use Rattle.relaxed_meet.proofs.distance.far_square.Goals as goal
+use Rattle.relaxed_meet.proofs.distance.far_square_of.Goals as goal
 
 pub returns : goal.returns
 returns c =
