@@ -30,10 +30,11 @@ pub fn read_exp(field: &[u8]) -> Result<Option<Decimal>, BadNumber>
 fn fixed(field: &[u8]) -> Result<Option<Decimal>, BadNumber>
     ensures { result ≡ fixed_of field.now }
 {
-    if is_blank_text(field) {
+    let text = behind_blanks(field);
+    if text.is_empty() {
         return Ok(None);
     }
-    let mantissa = Mantissa::at_front(behind_blanks(field));
+    let mantissa = Mantissa::at_front(text);
     if mantissa.has_digits() && is_blank_text(mantissa.rest) {
         Ok(Some(Decimal {
             digits: mantissa.digits(),
@@ -48,10 +49,11 @@ fn fixed(field: &[u8]) -> Result<Option<Decimal>, BadNumber>
 fn floating(field: &[u8]) -> Result<Option<Decimal>, BadNumber>
     ensures { result ≡ floating_of field.now }
 {
-    if is_blank_text(field) {
+    let text = behind_blanks(field);
+    if text.is_empty() {
         return Ok(None);
     }
-    let mantissa = Mantissa::at_front(behind_blanks(field));
+    let mantissa = Mantissa::at_front(text);
     if !mantissa.has_digits() {
         return Err(BadNumber);
     }
