@@ -1,28 +1,28 @@
 -- The first of the places that an iterator of `memchr` gives is the first that passes.
-use Rattle.std.proofs.Common.{◌≡◌, ℕ, zero, suc, ◌+◌, ◌-◌, ◌<◌, ◌≤◌, Bool, true, false, List, [], ◌∷◌, length, get_or, Option, None, Some, sym, ap, subst, ◌∙◌, arith, inl, inr}
+use Rattle.std.proofs.Common.{◌≡◌, ℕ, zero, suc, ◌+◌, ◌-◌, Bool, true, false, List, [], ◌∷◌, length, get_or, Option, None, Some, ap, subst, arith, inl, inr}
 use Rattle.std.specs.Prelude.{slice_index}
 use Rattle.std.proofs.lemmas.Bool.{cases_Bool, cases_lt}
 use Rattle.memchr.specs.Find.{IsFirstByte, TakesFirst, Passes, Nowhere, NoneBefore, places_from, places}
 
 module _ (test : ℕ → Bool) (hay : List ℕ) where
   fails : (i k : ℕ) → test (slice_index hay i) ≡ false → k ≡ i → ¬ Passes test hay k
-  fails i k no same passes = absurd (let yes : test (slice_index hay i) ≡ true = rw same at passes in cc)
+  fails i k misses same passes = absurd (let hits : test (slice_index hay i) ≡ true = rw same at passes in cc)
 
-  -- where the byte at a place doesn't pass, none does from it on
+  -- where the byte at a place doesn't pass and none behind it does, none does from it on
   from_next : (i j : ℕ) → test (slice_index hay i) ≡ false → Nowhere (Passes test hay) (i + 1) j → Nowhere (Passes test hay) i j
-  from_next i j no none k low high passes = elim (cases_lt i k) [
+  from_next i j misses none k low high passes = elim (cases_lt i k) [
     | inl behind ↦ none k (omega arith) high passes
-    | inr here ↦ fails i k no (omega arith) passes
+    | inr here ↦ fails i k misses (omega arith) passes
   ]
 
   none_from : (i n : ℕ) → places_from test hay i n ≡ [] → Nowhere (Passes test hay) i (i + n)
   unfolding places_from
-  none_from i zero e k low high passes = absurd (omega arith)
+  none_from i zero e = λ k low high passes. absurd (omega arith)
   none_from i (suc n) e = elim (cases_Bool (test (slice_index hay i))) [
-    | inl yes ↦ absurd (let some : i ∷ places_from test hay (i + 1) n ≡ [] = rw yes at e in cc)
-    | inr no ↦
+    | inl hits ↦ absurd (let some : i ∷ places_from test hay (i + 1) n ≡ [] = rw hits at e in cc)
+    | inr misses ↦
         let end : i + 1 + n ≡ i + suc n = omega arith in
-        from_next i (i + suc n) no (subst (Nowhere (Passes test hay) (i + 1)) end (none_from (i + 1) n (rw no at e)))
+        from_next i (i + suc n) misses (subst (Nowhere (Passes test hay) (i + 1)) end (none_from (i + 1) n (rw misses at e)))
   ]
 
   -- a place that leads the list of those from i on
@@ -34,20 +34,20 @@ module _ (test : ℕ → Bool) (hay : List ℕ) where
   unfolding places_from
   leads_from i zero place rest e = absurd cc
   leads_from i (suc n) place rest e = elim (cases_Bool (test (slice_index hay i))) [
-    | inl yes ↦
-        let found : i ∷ places_from test hay (i + 1) n ≡ place ∷ rest = rw yes at e in
+    | inl hits ↦
+        let found : i ∷ places_from test hay (i + 1) n ≡ place ∷ rest = rw hits at e in
         let here : i ≡ place = ap (λ (l : List ℕ). get_or l 0 0) found in
         record {
           first = record { low = omega arith; high = omega arith; before = λ k low high passes. absurd (omega arith) };
-          passes = subst (Passes test hay) here yes;
+          passes = subst (Passes test hay) here hits;
         }
-    | inr no ↦
-        let next = leads_from (i + 1) n place rest (rw no at e) in
+    | inr misses ↦
+        let next = leads_from (i + 1) n place rest (rw misses at e) in
         record {
           first = record {
             low = omega (arith, next.first.low);
             high = omega (arith, next.first.high);
-            before = from_next i place no next.first.before;
+            before = from_next i place misses next.first.before;
           };
           passes = next.passes;
         }
