@@ -1,12 +1,11 @@
 -- The numbers that digits write.
-use Rattle.std.proofs.Common.{◌≡◌, ℕ, zero, suc, ◌+◌, ◌-◌, ◌*◌, ◌%◌, ◌^◌, ◌<◌, ◌≤◌, true, false, List, [], ◌∷◌, ◌++◌, length, take, get_or, arith, add-one, add-zero, subst, sym, ap, ◌∙◌, refl, length-append}
-use Rattle.std.proofs.Math.Nat.{pow-suc, pow-le-pow_right, mod-eq_of_lt}
-use Rattle.std.proofs.lemmas.List.{length-take-le}
-use Rattle.std.proofs.lemmas.Nat.{mul-mod_first}
+use Rattle.std.proofs.Common.{◌≡◌, ℕ, suc, ◌+◌, ◌-◌, ◌*◌, ◌^◌, ◌<◌, ◌≤◌, true, false, List, [], ◌∷◌, ◌++◌, length, drop, get_or, arith, add-one, add-zero, subst, sym, ap, ◌∙◌, refl}
+use Rattle.std.proofs.Math.Nat.{pow-suc, pow-le-pow_right, one-le-pow}
+use Rattle.std.proofs.Math.Seq.{drop-cons}
 use Rattle.std.specs.Char.{is_ascii_digit, digit_value}
-use Rattle.std.specs.Prelude.{Bool, slice_range}
+use Rattle.std.specs.Prelude.{Bool}
 use Rattle.std.proofs.lemmas.Int.{ints}
-use Rattle.std.specs.Str.Parse.{digits_value, digits_value_after}
+use Rattle.std.specs.Str.Parse.{digits_value_after}
 use Rattle.sat_model.specs.Sizes.{IsWithin}
 use Rattle.exact_decimal.specs.NumberFields.{AreDigits, signed}
 use Rattle.exact_decimal.specs.Parts.{has_digits}
@@ -24,6 +23,32 @@ digit_at digits i all within = digit_byte (get_or digits i 0) (all i 0 within)
 
 ten_times : (k : ℕ) → 10 ^ (k + 1) ≡ 10 ^ k * 10
 ten_times k = rw (add-one k) (omega (arith, pow-suc 10 k))
+
+-- one more digit, where so many are to come
+pub room_more : (number digit len i : ℕ) → number < 10 ^ (18 - (len - i)) → i < len → len ≤ 18 → digit ≤ 9
+    → number * 10 + digit < 10 ^ (18 - (len - (i + 1)))
+room_more number digit len i h within short small =
+    let next : 18 - (len - (i + 1)) ≡ 18 - (len - i) + 1 = omega arith in
+    rw next (omega (arith, ten_times (18 - (len - i))))
+
+pub within_18 : (number len i : ℕ) → number < 10 ^ (18 - (len - i)) → number < 10 ^ 18
+within_18 number len i h = let more : 18 - (len - i) ≤ 18 = omega arith in omega (arith, h, pow-le-pow_right {n = 10} (omega arith) more)
+
+pub value_more : (digits : List ℕ) (number next i total : ℕ) → AreDigits digits → i < length digits
+    → digits_value_after 10 number (drop i digits) ≡ total → next ≡ number * 10 + (get_or digits i 0 - 48)
+    → digits_value_after 10 next (drop (i + 1) digits) ≡ total
+value_more digits number next i total all within h e =
+    let is = digit_at digits i all within in
+    let cut : drop i digits ≡ get_or digits i 0 ∷ drop (i + 1) digits = rw (add-one i) (drop-cons digits i 0 within) in
+    let same : number * 10 + digit_value (get_or digits i 0) ≡ next = omega (arith, is.value) in
+    ap (λ n. digits_value_after 10 n (drop (i + 1) digits)) (sym same) ∙ (sym (ap (λ ds. digits_value_after 10 number ds) cut) ∙ h)
+
+-- number * 10 has one digit more at most, of those that fit 18
+pub fits_more : (number digit len i : ℕ) → number < 10 ^ (18 - (len - i)) → i < len → len ≤ 18 → digit ≤ 9 → number * 10 + digit < 10 ^ 18
+fits_more number digit len i h within short small = within_18 (number * 10 + digit) len (i + 1) (room_more number digit len i h within short small)
+
+pub ten_power : (k : ℕ) → 0 < 10 ^ k
+ten_power k = omega (arith, one-le-pow k 10 (omega arith))
 
 tail_digits : (c : ℕ) (cs : List ℕ) → AreDigits (c ∷ cs) → AreDigits cs
 tail_digits c cs all k d within = all (suc k) d (omega arith)
@@ -50,65 +75,18 @@ are_few whole fraction h = record { some = grind arith; at_most = grind arith }
 pub has_few : (whole fraction : List ℕ) → AreFew whole fraction → has_digits whole fraction ≡ true
 has_few whole fraction few = grind (arith, few.some, few.at_most)
 
+-- the digits behind the point have room behind those before it
+pub room_behind : (number : ℕ) (whole fraction : List ℕ) → AreDigits whole → AreFew whole fraction
+    → number ≡ digits_value_after 10 0 whole → number < 10 ^ (18 - length fraction)
+room_behind number whole fraction all few e =
+    let most : 0 + length whole ≤ 18 - length fraction = omega (arith, few.at_most) in
+    omega (arith, e, after_below 0 0 whole all (omega arith), pow-le-pow_right {n = 10} (omega arith) most)
+
 pub signed_size : (negative : Bool) (amount bound : ℕ) → amount ≤ bound → IsWithin bound (signed negative amount)
 signed_size true amount bound h = record { low = omega (arith, ints); high = omega (arith, ints) }
 signed_size false amount bound h = record { low = omega (arith, ints); high = omega (arith, ints) }
 
-pub digit_append : (xs ys : List ℕ) → AreDigits xs → AreDigits ys → AreDigits (xs ++ ys)
-digit_append [] ys all more k d within = more k d within
-digit_append (c ∷ cs) ys all more zero d within = all 0 d (omega arith)
-digit_append (c ∷ cs) ys all more (suc k) d within = digit_append cs ys (tail_digits c cs all) more k d (omega arith)
-
--- ---- numbers that are wrapped to 64 bits
-
-after_is : (n : ℕ) (digits : List ℕ) → digits_value_after 10 n digits ≡ n * 10 ^ length digits + digits_value 10 digits
-after_is n [] = omega arith
-after_is n (c ∷ cs) =
-    let a = after_is (n * 10 + digit_value c) cs in
-    let b = after_is (0 * 10 + digit_value c) cs in
-    omega (arith, ap (λ x. n * x) (pow-suc 10 (length cs)))
-
--- the number that a reader of digits gives, of the first bytes
-pub read_number : (text : List ℕ) (before end number : ℕ) → end ≤ length text
-    → number ≡ (before * 10 ^ (end - 0) + digits_value 10 (slice_range text 0 end)) % 2 ^ 64
-    → number ≡ digits_value_after 10 before (take end text) % 2 ^ 64
-read_number text before end number within e =
-    let whole : end - 0 ≡ end = omega arith in
-    let long : length (take end text) ≡ end = length-take-le end text within in
-    e ∙ rw (whole, after_is before (take end text), long) refl
-
--- wrapping along the way gives what wrapping at the end gives
-wrapped_after : (n : ℕ) (digits : List ℕ) → digits_value_after 10 (n % 2 ^ 64) digits % 2 ^ 64 ≡ digits_value_after 10 n digits % 2 ^ 64
-wrapped_after n digits =
-    rw (after_is (n % 2 ^ 64) digits, after_is n digits) (omega (arith, mul-mod_first n (10 ^ length digits) (2 ^ 64)))
-
-pub joined_number : (whole fraction : List ℕ) (before number : ℕ) → before ≡ digits_value_after 10 0 whole % 2 ^ 64
-    → number ≡ digits_value_after 10 before fraction % 2 ^ 64 → number ≡ digits_value 10 (whole ++ fraction) % 2 ^ 64
-joined_number whole fraction before number e f =
-    f ∙ (ap (λ n. digits_value_after 10 n fraction % 2 ^ 64) e ∙ (wrapped_after (digits_value_after 10 0 whole) fraction
-    ∙ ap (λ n. n % 2 ^ 64) (sym (after-append 0 whole fraction))))
-
--- up to 18 digits write a number that isn't wrapped
-pub record IsUnwrapped (digits : List ℕ) (number : ℕ) : Type 0 where
-  pub same : number ≡ digits_value 10 digits
-  pub below : number < 10 ^ length digits
-  pub fits : number < 10 ^ 18
-
-pub unwrapped : (digits : List ℕ) (number : ℕ) → AreDigits digits → length digits ≤ 18 → number ≡ digits_value 10 digits % 2 ^ 64
-    → IsUnwrapped digits number
-unwrapped digits number all few e =
-    let below : digits_value 10 digits < 10 ^ (0 + length digits) = after_below 0 0 digits all (omega arith) in
-    let long : 0 + length digits ≡ length digits = omega arith in
-    let least : digits_value 10 digits < 10 ^ length digits = rw long at below in
-    let most : 10 ^ length digits ≤ 10 ^ 18 = pow-le-pow_right {n = 10} (omega arith) few in
-    let same : number ≡ digits_value 10 digits = e ∙ mod-eq_of_lt (omega (arith, least, most)) in
-    record { same = same; below = omega (arith, same, least); fits = omega (arith, same, least, most) }
-
-pub mantissa_number : (whole fraction : List ℕ) (number : ℕ) → AreDigits whole → AreDigits fraction → has_digits whole fraction ≡ true
-    → number ≡ digits_value 10 (whole ++ fraction) % 2 ^ 64 → IsUnwrapped (whole ++ fraction) number
-mantissa_number whole fraction number whole_all fraction_all has e =
-    let few = are_few whole fraction has in
-    unwrapped (whole ++ fraction) number (digit_append whole fraction whole_all fraction_all) (omega (arith, few.at_most, length-append whole fraction)) e
-
-pub two_digits : (digits : List ℕ) (number : ℕ) → length digits ≤ 2 → IsUnwrapped digits number → number ≤ 99
-two_digits digits number short is = omega (arith, is.below, pow-le-pow_right {n = 10} (omega arith) short)
+pub two_digits : (amount : ℕ) (digits : List ℕ) → AreDigits digits → length digits ≤ 2 → amount ≡ digits_value_after 10 0 digits → amount ≤ 99
+two_digits amount digits all short e =
+    let few : 0 + length digits ≤ 2 = omega arith in
+    omega (arith, e, after_below 0 0 digits all (omega arith), pow-le-pow_right {n = 10} (omega arith) few)

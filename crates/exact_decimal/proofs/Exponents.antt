@@ -103,14 +103,6 @@ digits_no_sign (byte ∷ bytes) after all some = digit_is_no_sign byte (head_pas
 count_passes : (digits : List ℕ) → 0 < length digits → length digits ≤ 2 → nat_lt 0 (length digits) && nat_le (length digits) 2 ≡ true
 count_passes digits h k = grind arith
 
--- what is cut off behind a letter, where it has one or two digits
-pub exponent_found : (text digits rest : List ℕ) (negative : Bool) (number : ℕ) (exponent : ℤ) → negative ≡ is_negative text → digits ≡ front is_ascii_digit (behind_sign text)
-    → rest ≡ behind is_ascii_digit (behind_sign text) → number ≡ digits_value 10 digits → 0 < length digits → length digits ≤ 2 → exponent ≡ signed negative number
-    → found exponent rest ≡ exponent_behind text
-exponent_found text digits rest negative number exponent n d r v some few e =
-    let passes = rw d at (count_passes digits some few) in
-    rw (e, v, n, r, d, passes) refl
-
 behind_letter : (sign digits after : List ℕ) (negative : Bool) → IsSign sign negative → AreDigits digits → 0 < length digits → length digits ≤ 2 → AreBlanks after
     → exponent_behind ((sign ++ digits) ++ after) ≡ found (signed negative (digits_value 10 digits)) (after)
 behind_letter sign digits after negative is_sign are_digits some at_most blanks =

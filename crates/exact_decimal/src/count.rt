@@ -4,7 +4,7 @@ ghost use Rattle.std.specs.Prelude.{◌≡◌, ◌↔◌, ◌≤◌, ◌<◌, �
 ghost use Rattle.exact_decimal.specs.Counts.{IsCount};
 ghost use Rattle.exact_decimal.specs.Parts.{count_of};
 
-use crate::parts::{behind_blanks, is_blank_text, split_digits};
+use crate::parts::{behind_blanks, is_blank_text, number_after, split_digits};
 
 /// The number of a count field: blanks, digits, blanks. None where the field isn't one; a blank
 /// field isn't one.
@@ -21,12 +21,12 @@ fn count(field: &[u8]) -> Option<u64>
     requires { length field.now ≤ 18 }
     ensures { result ≡ count_of field.now }
 {
-    let (digits, rest, number) = split_digits(behind_blanks(field), 0);
+    let (digits, rest) = split_digits(behind_blanks(field));
     if digits.is_empty() {
         return None;
     }
     if !is_blank_text(rest) {
         return None;
     }
-    Some(number)
+    Some(number_after(0, digits))
 }

@@ -1,6 +1,6 @@
 //! The parts of a number field, from left to right.
 
-ghost use Rattle.std.specs.Prelude.{◌≡◌, ◌<◌, ◌≤◌, ◌%◌, ◌^◌, ◌++◌, length, true, pos, ◌≤ℤ◌, IfSome, option_map};
+ghost use Rattle.std.specs.Prelude.{◌≡◌, ◌<◌, ◌≤◌, ◌+◌, ◌-◌, ◌^◌, ◌++◌, length, true, pos, ◌≤ℤ◌, IfSome, option_map};
 ghost use Rattle.std.specs.Char.{is_ascii_digit};
 ghost use Rattle.std.specs.List.{prefix_len};
 ghost use Rattle.std.specs.Str.Parse.{digits_value_after, digits_value};
@@ -8,7 +8,18 @@ ghost use Rattle.exact_decimal.specs.NumberFields.{is_blank, is_exponent_letter,
 ghost use Rattle.exact_decimal.specs.Parts.{front, behind, is_negative, behind_sign, fraction_of, behind_fraction, whole_at, fraction_at, behind_mantissa, has_digits, exponent_of, exponent_behind, is_blank_text};
 ghost use Rattle.sat_model.specs.Sizes.{IsWithin};
 
-use core::dec2flt::read_digits;
+/// How many digits stand at the front.
+fn digits_in_front(text: &[u8]) -> usize
+    ensures count { result ≡ prefix_len is_ascii_digit text.now }
+    ensures within { result ≤ length text.now }
+{
+    for (count, byte) in text.iter().enumerate() {
+        if !byte.is_ascii_digit() {
+            return count;
+        }
+    }
+    text.len()
+}
 
 /// How many blanks stand at the front.
 fn blanks_in_front(text: &[u8]) -> usize
@@ -23,18 +34,13 @@ fn blanks_in_front(text: &[u8]) -> usize
     text.len()
 }
 
-/// The digits at the front, the rest, and the number that the digits write behind those of `before`,
-/// wrapped to 64 bits.
-#[inline]
-pub fn split_digits(text: &[u8], before: u64) -> (&[u8], &[u8], u64)
+/// The digits at the front, and the rest.
+pub fn split_digits(text: &[u8]) -> (&[u8], &[u8])
     ensures digits { result.0.now ≡ front is_ascii_digit text.now }
     ensures rest { result.1.now ≡ behind is_ascii_digit text.now }
     ensures are_digits { AreDigits result.0.now }
-    ensures number { result.2 ≡ digits_value_after 10 before result.0.now % 2 ^ 64 }
 {
-    let (end, number) = read_digits(text, 0, before);
-    let (digits, rest) = text.split_at(end);
-    (digits, rest, number)
+    text.split_at(digits_in_front(text))
 }
 
 /// What stands behind the blanks at the front.
@@ -63,22 +69,35 @@ fn split_sign(text: &[u8]) -> (bool, &[u8])
     }
 }
 
-/// The digits behind a point at the front, the rest, and the number that the digits write behind
-/// those of `before`, wrapped to 64 bits.
-fn split_fraction(text: &[u8], before: u64) -> (&[u8], &[u8], u64)
+/// The digits behind a point at the front, and the rest.
+fn split_fraction(text: &[u8]) -> (&[u8], &[u8])
     ensures digits { result.0.now ≡ fraction_of text.now }
     ensures rest { result.1.now ≡ behind_fraction text.now }
     ensures are_digits { AreDigits result.0.now }
-    ensures number { result.2 ≡ digits_value_after 10 before result.0.now % 2 ^ 64 }
 {
     match text {
-        [b'.', rest @ ..] => split_digits(rest, before),
-        _ => (&[], text, before),
+        [b'.', rest @ ..] => split_digits(rest),
+        _ => (&[], text),
     }
 }
 
+/// The number that the digits write when they follow those of `front`.
+pub fn number_after(front: u64, digits: &[u8]) -> u64
+    requires digits { AreDigits digits.now }
+    requires short { length digits.now ≤ 18 }
+    requires room { front < 10 ^ (18 - length digits.now) }
+    ensures value { result ≡ digits_value_after 10 front digits.now }
+    ensures bound { result < 10 ^ 18 }
+{
+    let mut number = front;
+    for digit in digits {
+        number = number * 10 + u64::from(digit - b'0');
+    }
+    number
+}
+
 /// The amount with a sign.
-fn signed_by(negative: bool, amount: u64) -> i64
+pub fn signed_by(negative: bool, amount: u64) -> i64
     requires { amount < 10 ^ 18 }
     ensures { result ≡ signed negative amount }
 {
@@ -94,8 +113,6 @@ pub struct Mantissa<'a> {
     pub fraction: &'a [u8],
     /// What stands behind them.
     pub rest: &'a [u8],
-    /// The number that the digits write without the point, wrapped to 64 bits.
-    pub number: u64,
 }
 
 impl<'a> Mantissa<'a> {
@@ -107,17 +124,15 @@ impl<'a> Mantissa<'a> {
         ensures rest { result.rest.now ≡ behind_mantissa text.now }
         ensures whole_digits { AreDigits result.whole.now }
         ensures fraction_digits { AreDigits result.fraction.now }
-        ensures number { result.number ≡ digits_value 10 (result.whole.now ++ result.fraction.now) % 2 ^ 64 }
     {
         let (negative, text) = split_sign(text);
-        let (whole, text, number) = split_digits(text, 0);
-        let (fraction, rest, number) = split_fraction(text, number);
+        let (whole, text) = split_digits(text);
+        let (fraction, rest) = split_fraction(text);
         Mantissa {
             negative,
             whole,
             fraction,
             rest,
-            number,
         }
     }
 
@@ -134,10 +149,10 @@ impl<'a> Mantissa<'a> {
         requires whole { AreDigits self.now.whole.now }
         requires fraction { AreDigits self.now.fraction.now }
         requires some { has_digits self.now.whole.now self.now.fraction.now ≡ true }
-        requires number { self.now.number ≡ digits_value 10 (self.now.whole.now ++ self.now.fraction.now) % 2 ^ 64 }
         ensures { result ≡ signed self.now.negative (digits_value 10 (self.now.whole.now ++ self.now.fraction.now)) }
     {
-        signed_by(self.negative, self.number)
+        let whole = number_after(0, self.whole);
+        signed_by(self.negative, number_after(whole, self.fraction))
     }
 
     /// How many digits stand behind the point.
@@ -163,7 +178,7 @@ pub fn split_exponent(text: &[u8]) -> Option<(i8, &[u8])>
 }
 
 /// The same number in fewer bits.
-fn small(number: i64) -> i8
+pub fn small(number: i64) -> i8
     requires { IsWithin 99 number }
     ensures same { result ≡ number }
     ensures within { IsWithin 99 result }
@@ -177,10 +192,10 @@ fn exponent_behind(text: &[u8]) -> Option<(i8, &[u8])>
     ensures bound { IfSome result (λ found. IsWithin 99 found.0) }
 {
     let (negative, text) = split_sign(text);
-    let (digits, rest, number) = split_digits(text, 0);
+    let (digits, rest) = split_digits(text);
     if digits.is_empty() || digits.len() > 2 {
         return None;
     }
-    let exponent = small(signed_by(negative, number));
+    let exponent = small(signed_by(negative, number_after(0, digits)));
     Some((exponent, rest))
 }
