@@ -45,8 +45,8 @@ fn without_cr(line: &[u8]) -> &[u8]
     }
 }
 
-/// Where the first LF is. The iterator looks at the next few bytes first, where `memchr` itself reads
-/// far past the end of a line of 80 bytes.
+/// Where the first LF is. The iterator looks at the next few bytes first, where `memchr` itself
+/// reads far past the end of a line of 80 bytes.
 #[inline]
 fn first_lf(text: &[u8]) -> Option<usize>
     ensures { IsFirstByte (is_byte 10) text.now result }
