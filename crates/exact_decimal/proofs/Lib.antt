@@ -7,3 +7,4 @@ pub mod Answers
 pub mod Counts
 pub mod Units
 pub mod Limits
+pub mod UsualNumbers

@@ -1,5 +1,5 @@
 -- How a reader cuts a number field, from left to right. No public clause cites this.
-use Rattle.std.specs.Prelude.{ℕ, ◌+◌, ℤ, pos, neg_ℤ, ◌-ℤ◌, Bool, false, ◌||◌, ◌&&◌, ◌==◌, nat_lt, nat_le, cond, List, [], ◌∷◌, ◌++◌, length, take, drop, Option, None, Some, Result, Ok, Err}
+use Rattle.std.specs.Prelude.{◌≡◌, ℕ, ◌+◌, ℤ, pos, neg_ℤ, ◌-ℤ◌, Bool, true, false, ◌||◌, ◌&&◌, ◌==◌, nat_lt, nat_le, cond, List, [], ◌∷◌, ◌++◌, length, take, drop, Option, None, Some, Result, Ok, Err}
 use Rattle.std.specs.Char.{is_ascii_digit}
 use Rattle.std.specs.List.{prefix_len}
 use Rattle.std.specs.Str.Parse.{digits_value}
@@ -59,6 +59,11 @@ exponent_behind text = exponent_with (is_negative text) (front is_ascii_digit (b
 abbrev pub exponent_of : List ℕ → Option (ℤ × List ℕ)
 exponent_of [] = Some (signed false 0, [])
 exponent_of (byte ∷ bytes) = cond (is_exponent_letter byte) (exponent_behind bytes) (Some (signed false 0, byte ∷ bytes))
+
+-- what a number of the usual form begins with: a blank, or a minus sign
+abbrev pub Begins : Bool → ℕ → Type 0
+Begins false byte = byte ≡ 32
+Begins true byte = byte ≡ 45
 
 -- ---- the answers
 

@@ -8,6 +8,7 @@ mod decimal;
 mod parts;
 mod read;
 mod unit;
+mod usual;
 
 pub use between::to_unit_between;
 pub use convert::to_unit;

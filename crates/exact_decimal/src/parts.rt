@@ -97,7 +97,7 @@ pub fn number_after(front: u64, digits: &[u8]) -> u64
 }
 
 /// The amount with a sign.
-fn signed_by(negative: bool, amount: u64) -> i64
+pub fn signed_by(negative: bool, amount: u64) -> i64
     requires { amount < 10 ^ 18 }
     ensures { result ≡ signed negative amount }
 {
@@ -178,7 +178,7 @@ pub fn split_exponent(text: &[u8]) -> Option<(i8, &[u8])>
 }
 
 /// The same number in fewer bits.
-fn small(number: i64) -> i8
+pub fn small(number: i64) -> i8
     requires { IsWithin 99 number }
     ensures same { result ≡ number }
     ensures within { IsWithin 99 result }

@@ -7,6 +7,7 @@ ghost use Rattle.exact_decimal.specs.Reading.{Reads};
 
 use crate::decimal::{BadNumber, Decimal};
 use crate::parts::{Mantissa, behind_blanks, is_blank_text, split_exponent};
+use crate::usual::usual_number;
 
 /// The number of a fixed field: blanks, a sign, 1 to 18 digits with at most one point, blanks.
 /// A blank field has none.
@@ -44,10 +45,13 @@ fn fixed(field: &[u8]) -> Result<Option<Decimal>, BadNumber>
     }
 }
 
-/// The exponent field, cut from left to right.
+/// The exponent field, cut from left to right unless it has the usual form.
 fn floating(field: &[u8]) -> Result<Option<Decimal>, BadNumber>
     ensures { result ≡ floating_of field.now }
 {
+    if let Some(number) = usual_number(field) {
+        return Ok(Some(number));
+    }
     if is_blank_text(field) {
         return Ok(None);
     }

@@ -6,3 +6,4 @@ pub mod HeaderLemmas
 pub mod TakeLemmas
 pub mod OnlyLemmas
 pub mod SettledLemmas
+pub mod PlaceLemmas

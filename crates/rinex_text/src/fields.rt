@@ -62,18 +62,29 @@ pub fn is_labelled(line: &[u8], text: &[u8]) -> bool
     label(line) == text
 }
 
-/// Whether the text has blanks alone.
+/// Whether the text has blanks alone. Its last byte is asked first, since most lines end with one
+/// that isn't blank.
 pub fn is_blank_text(text: &[u8]) -> bool
     ensures { result ≡ list_all is_blank text.now }
 {
+    if let Some(last) = text.last() {
+        if !is_blank_byte(*last) {
+            return false;
+        }
+    }
     text.iter().all(|byte| is_blank_byte(*byte))
 }
 
-/// Whether each byte is printable ASCII, from 32 to 126.
+/// Whether each byte is printable ASCII, from 32 to 126. No byte ends the walk, so that the
+/// processor takes many at once.
 pub fn is_printable_text(text: &[u8]) -> bool
     ensures { result ≡ list_all is_printable text.now }
 {
-    text.iter().all(|byte| is_printable_byte(*byte))
+    let mut printable = true;
+    for byte in text {
+        printable = is_printable_byte(*byte) & printable;
+    }
+    printable
 }
 
 /// Whether the byte is printable ASCII.

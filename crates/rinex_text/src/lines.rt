@@ -3,8 +3,9 @@
 ghost use Rattle.std.specs.Prelude.{◌≡◌, ◌≤◌, ◌<◌, ◌+◌, ◌∷◌, [], length, IfSome, IfNone};
 ghost use Rattle.rinex_text.specs.Lines.{lines_of};
 ghost use Rattle.rinex_text.specs.LineEnds.{ends_with_cr, without_cr};
+ghost use Rattle.memchr.specs.Find.{IsFirstByte, is_byte};
 
-use memchr::memchr;
+use memchr::memchr_iter;
 
 /// A line.
 #[derive(Clone, Copy)]
@@ -44,6 +45,15 @@ fn without_cr(line: &[u8]) -> &[u8]
     }
 }
 
+/// Where the first LF is. The iterator looks at the next few bytes first, where `memchr` itself
+/// reads far past the end of a line of 80 bytes.
+#[inline]
+fn first_lf(text: &[u8]) -> Option<usize>
+    ensures { IsFirstByte (is_byte 10) text.now result }
+{
+    memchr_iter(b'\n', text).next()
+}
+
 impl<'a> Lines<'a> {
     ghost use Rattle.rinex_text.specs.Reading.{plain_line, lines_left, IsNextLine};
 
@@ -70,7 +80,7 @@ impl<'a> Lines<'a> {
             return None;
         }
         let number = self.number + 1;
-        match memchr(b'\n', self.rest) {
+        match first_lf(self.rest) {
             Some(end) => {
                 let line = Line {
                     text: without_cr(&self.rest[..end]),
