@@ -7,7 +7,7 @@ ghost use Rattle.sat_model.specs.Relaxed.{holds};
 ghost use Rattle.sat_model.specs.Verdicts.{CutsEmptySlab, HoldsHull, IsLong};
 
 use live_boxes::{is_proper_cut, slab_of};
-use relaxed_meet::{SlabTests, clock_hull, inner_span};
+use relaxed_meet::{SlabTests, bounds_offsets, clock_hull, inner_span};
 use sat_model::{Box3, Row, Rules};
 
 /// Whether the side on the axis is longer than the width.
@@ -18,11 +18,15 @@ pub(crate) fn is_long(rules: &Rules, axis: u8, part: &Box3) -> bool
     rules.width < hi - lo
 }
 
-/// Whether the offsets from `lo` to `hi` hold the clock hull of the rows over the box.
+/// Whether the offsets from `lo` to `hi` hold the clock hull of the rows over the box, which mostly
+/// takes no root to see.
 pub(crate) fn holds_hull(rows: &[Row], q: u8, part: &Box3, lo: i64, hi: i64) -> bool
     requires { (q < length rows.now) × (length rows.now ≤ 64) }
     ensures { IsTrue result ↔ HoldsHull rows.now q (grid_box part.now) lo hi }
 {
+    if bounds_offsets(rows, part, q, lo, hi) {
+        return true;
+    }
     match clock_hull(rows, part, q) {
         Some(hull) => lo <= hull.lo && hull.hi <= hi,
         None => true,

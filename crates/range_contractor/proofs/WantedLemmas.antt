@@ -1,6 +1,6 @@
 -- A box to which all ranges of a leaf are wanted stays as it is.
 use Rattle.std.proofs.Common.{◌≡◌, ℕ, zero, suc, ◌+◌, ◌*◌, ◌≤◌, arith, Bool, true, false, inl, refl, Some}
-use Rattle.std.specs.Prelude.{ℤ, pos, ◌+ℤ◌, ◌-ℤ◌, ◌*ℤ◌, ◌≤ℤ◌}
+use Rattle.std.specs.Prelude.{ℤ, pos, ◌*ℤ◌, ◌≤ℤ◌}
 use Rattle.std.proofs.lemmas.Int.{ints}
 use Rattle.sat_model.specs.Amounts.{least_amount, greatest_amount, square}
 use Rattle.sat_model.specs.Boxes.{Side, GridBox, side_at}

@@ -1,5 +1,5 @@
 -- Offsets that part the clock spans show that no number lies in enough of them.
-use Rattle.std.proofs.Common.{◌≡◌, ℕ, ◌+◌, ◌-◌, ◌≤◌, arith, List, [], ◌∷◌, length, count_by, cond, Bool, true, false, ◌&&◌, refl}
+use Rattle.std.proofs.Common.{◌≡◌, ℕ, ◌+◌, ◌-◌, ◌≤◌, arith, List, [], ◌∷◌, length, count_by, cond, Bool, true, false, refl}
 use Rattle.std.specs.Prelude.{ℤ, pos, ◌-ℤ◌, ◌≤ℤ◌, ◌<ℤ◌}
 use Rattle.std.proofs.lemmas.Int.{ints, by_lt_z}
 use Rattle.std.proofs.lemmas.List.{length-map}
@@ -9,8 +9,9 @@ use Rattle.sat_model.specs.declared.satellites.Row.{Row}
 use Rattle.sat_model.specs.declared.boxes.Box3.{Box3}
 use Rattle.sat_model.specs.Boxes.{grid_box}
 use Rattle.sat_model.specs.ClockSpans.{clock_spans, clock_ends, IsShownEmpty}
-use Rattle.sat_model.specs.Relaxed.{holds, IsRelaxedEmpty}
+use Rattle.sat_model.specs.Relaxed.{holds, LiesInRelaxed, IsRelaxedEmpty}
 use Rattle.sat_model.proofs.ClockLemmas.{near_le_far}
+use Rattle.sat_model.proofs.FittingLemmas.{both, le_from}
 use Rattle.relaxed_meet.specs.Separated.{lows_above, highs_to}
 
 abbrev pub AreOrdered : List (ℤ × ℤ) → Type 0
@@ -27,13 +28,6 @@ one_of false true false f g h = omega arith
 one_of false false true f g h = omega arith
 one_of false false false f g h = omega arith
 
-both : (a b : Bool) → (a && b) ≡ true → (a ≡ true) × (b ≡ true)
-both true b e = (refl, e)
-both false b e = absurd cc
-
-le_of : (a b : ℤ) → le_z a b ≡ true → a ≤ℤ b
-le_of a b h = omega (arith, ints)
-
 lt_of : (a b : ℤ) → lt_z a b ≡ true → a <ℤ b
 lt_of a b h = omega (arith, ints)
 
@@ -46,9 +40,9 @@ missed b low high (t ∷ spans) h k o =
       sum_by-cons (λ t. cond (lt_z high t.0) 1 0) t spans,
       sum_by-cons (λ t. cond (le_z t.1 low) 1 0) t spans,
       one_of (holds t b) (lt_z high t.0) (le_z t.1 low)
-          (λ e f. let x = le_of t.0 b (both (le_z t.0 b) (le_z b t.1) e).0 in let y = lt_of high t.0 f in omega (arith, ints))
-          (λ e f. let x = le_of b t.1 (both (le_z t.0 b) (le_z b t.1) e).1 in let y = le_of t.1 low f in omega (arith, ints))
-          (λ e f. let x = lt_of high t.0 e in let y = le_of t.1 low f in let z = o.0 in omega (arith, ints)),
+          (λ e f. let x = le_from t.0 b (both (le_z t.0 b) (le_z b t.1) e).0 in let y = lt_of high t.0 f in omega (arith, ints))
+          (λ e f. let x = le_from b t.1 (both (le_z t.0 b) (le_z b t.1) e).1 in let y = le_from t.1 low f in omega (arith, ints))
+          (λ e f. let x = lt_of high t.0 e in let y = le_from t.1 low f in let z = o.0 in omega (arith, ints)),
       missed b low high spans h k o.1,
     )
 
@@ -97,3 +91,23 @@ parted_empty q part rows had =
     let same : length spans ≡ length rows = length-map rows (clock_ends (grid_box part)) in
     let none : q + 1 - (q + 1) ≡ 0 = omega arith in
     rw same at (separated_empty q had.offsets spans (ordered part rows) (rw none at had.are))
+
+-- ---- offsets at one side of spans
+
+pub none_below : (q : ℕ) (s : ℤ) (part : Box3) (rows : List Row) → q + 1 ≤ lows_above s (clock_spans (grid_box part) rows)
+    → (b : ℤ) → LiesInRelaxed (clock_spans (grid_box part) rows) (length rows - q) b → s <ℤ b
+none_below q s part rows h b lies =
+    let spans = clock_spans (grid_box part) rows in
+    let same : length spans ≡ length rows = length-map rows (clock_ends (grid_box part)) in
+    by_lt_z s b
+    (λ less. less)
+    (λ not_less. absurd (omega (arith, missed b (b -ℤ pos 1) s spans (omega (arith, ints)) not_less (ordered part rows), same, h, lies)))
+
+pub none_above : (q : ℕ) (s : ℤ) (part : Box3) (rows : List Row) → q + 1 ≤ highs_to s (clock_spans (grid_box part) rows)
+    → (b : ℤ) → LiesInRelaxed (clock_spans (grid_box part) rows) (length rows - q) b → b ≤ℤ s
+none_above q s part rows h b lies =
+    let spans = clock_spans (grid_box part) rows in
+    let same : length spans ≡ length rows = length-map rows (clock_ends (grid_box part)) in
+    by_lt_z s b
+    (λ less. absurd (omega (arith, missed b s b spans less (omega (arith, ints)) (ordered part rows), same, h, lies)))
+    (λ not_less. not_less)

@@ -1,9 +1,6 @@
 -- Squared distances, and roots against numbers by their squares.
 use Rattle.std.proofs.Common.{◌≡◌, ℕ, ◌+◌, ◌*◌, ◌<◌, ◌≤◌, arith}
-use Rattle.std.specs.Prelude.{ℤ, ◌≤ℤ◌}
-use Rattle.std.proofs.lemmas.Int.{ints}
-use Rattle.sat_model.specs.Sizes.{IsBoxSize, IsPlaceSize}
-use Rattle.relaxed_meet.specs.SmallEnds.{SmallEnds}
+use Rattle.std.specs.Prelude.{ℤ}
 use Rattle.sat_model.specs.Amounts.{square}
 use Rattle.sat_model.specs.Roots.{IsRoot, root}
 use Rattle.sat_model.proofs.RootLemmas.{root_is, square-mono}
@@ -36,13 +33,6 @@ square_up_to a n h =
     let r : IsRoot a (root a) = root_is a in
     omega (arith, square-mono n (root a) h, r.square_le)
 
--- ends of a row's span and of a box's side
-pub small_ends : (a b c d a' b' c' d' : ℤ) → a' ≡ a → b' ≡ b → c' ≡ c → d' ≡ d → a ≤ℤ b → c ≤ℤ d → IsPlaceSize a × IsPlaceSize b → IsBoxSize c → IsBoxSize d → SmallEnds a' b' c' d'
-small_ends a b c d a' b' c' d' ea eb ec ed h k p r t = record {
-  place = omega (arith, ints, ea, eb, h);
-  side = omega (arith, ints, ec, ed, k);
-  a_within = record { low = omega (arith, ints, ea, p.0.low); high = omega (arith, ints, ea, p.0.high) };
-  b_within = record { low = omega (arith, ints, eb, p.1.low); high = omega (arith, ints, eb, p.1.high) };
-  c_within = record { low = omega (arith, ints, ec, r.low); high = omega (arith, ints, ec, r.high) };
-  d_within = record { low = omega (arith, ints, ed, t.low); high = omega (arith, ints, ed, t.high) };
-}
+-- a root of a sum of three squares of distances
+pub root_small : (a v : ℕ) → IsRoot a v → a ≤ 19200000000000000000000000000 → v ≤ 200000000000000
+root_small a v r h = grind (arith, square-mono 200000000000001 v, r.square_le)

@@ -15,4 +15,5 @@ pub use clocks::{clock_span, inner_span};
 pub use deciding::{Deciding, SlabTests};
 pub use distance::{far_square_of, near_far, near_square_of};
 pub use hull::relaxed;
+pub use separation::bounds_offsets;
 pub use shown::{BoxState, box_state, clock_hull, shown_inner};

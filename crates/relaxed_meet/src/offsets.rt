@@ -71,3 +71,10 @@ pub(crate) fn bounded(offset: i64) -> i64
 {
     offset.min(FARTHEST).max(-FARTHEST)
 }
+
+/// Whether the offset can be compared with spans.
+pub(crate) fn is_bounded(offset: i64) -> bool
+    ensures { IsTrue result → IsWithin 900000000000000 offset }
+{
+    -FARTHEST <= offset && offset <= FARTHEST
+}

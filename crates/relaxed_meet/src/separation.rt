@@ -1,21 +1,23 @@
 //! Offsets that part the clock spans: what shows a box empty without a root.
 
-ghost use Rattle.std.specs.Prelude.{◌<◌, ◌≤◌, length, IsTrue};
+ghost use Rattle.std.specs.Prelude.{◌-◌, ◌<◌, ◌≤◌, length, IsTrue, ℤ, ◌≤ℤ◌};
 ghost use Rattle.sat_model.specs.Boxes.{grid_box};
 ghost use Rattle.sat_model.specs.ClockSpans.{IsShownEmpty, clock_spans};
+ghost use Rattle.sat_model.specs.Relaxed.{LiesInRelaxed};
 ghost use Rattle.sat_model.specs.Sizes.{IsWithin};
 ghost use Rattle.relaxed_meet.specs.Separated.{lows_above, highs_to};
 
-use crate::offsets::{bounded, is_above, is_up_to};
+use crate::offsets::{bounded, is_above, is_bounded, is_up_to};
 use sat_model::{Box3, Row, Span};
 
 /// How many offsets are remembered: enough where up to 8 rows may be inconsistent.
 const MOST_OFFSETS: usize = 9;
 
-/// Rows and clock offsets in um that may show a box empty where up to q rows may be inconsistent.
-/// For each rank from 0 to q, one clock span more than the rank lies up to its offset, and of the
-/// others so many above it that `q + 1` miss each number that is no less than one offset and no
-/// greater than the next. What they are doesn't matter for an answer: they are tested anew.
+/// Rows and clock offsets in um that may show a box empty where up to q rows may be inconsistent. Up
+/// to the offset of rank r, from 0 to q, lie the clock spans of r + 1 rows, and above it those of
+/// q + 1 - r. So each number is missed by q + 1 rows: one behind the offset of rank r - 1, up to that of
+/// rank r, by r rows below it and by q + 1 - r above it. What rows and offsets these are doesn't matter
+/// for an answer: they are tested anew.
 #[derive(Clone, Copy, Debug, Default, PartialEq, Eq)]
 pub(crate) struct Separation {
     /// A bit for each row that may be above, the lowest for the first row.
@@ -70,6 +72,27 @@ impl Separation {
         }
         true
     }
+}
+
+/// Whether the clock spans of more than `q` rows over the box lie from `lo` on, and those of more than
+/// `q` up to `hi`: then no other offset lies in those of all but at most `q`.
+pub fn bounds_offsets(rows: &[Row], part: &Box3, q: u8, lo: i64, hi: i64) -> bool
+    requires { (q < length rows.now) × (length rows.now ≤ 64) }
+    ensures low { IsTrue result → (b : ℤ)
+        → LiesInRelaxed (clock_spans (grid_box part.now) rows.now) (length rows.now - q) b
+        → lo ≤ℤ b }
+    ensures high { IsTrue result → (b : ℤ)
+        → LiesInRelaxed (clock_spans (grid_box part.now) rows.now) (length rows.now - q) b
+        → b ≤ℤ hi }
+{
+    if !is_bounded(lo) || !is_bounded(hi) {
+        return false;
+    }
+    let wanted = usize::from(q) + 1;
+    if !are_above(rows, part, u64::MAX, lo - 1, wanted) {
+        return false;
+    }
+    are_up_to(rows, part, u64::MAX, hi, wanted)
 }
 
 /// Whether so many of the rows that have a bit have clock spans above the offset.

@@ -1,7 +1,15 @@
-use Rattle.std.proofs.Common.{arith, refl, to_z, of_z, w64}
+use Rattle.std.proofs.Common.{◌≡◌, arith, refl, to_z, of_z, w64}
 use Rattle.std.proofs.lemmas.Int.{ints}
 use Rattle.paving_log_check.proofs.SpanLemmas.{le_true}
 use Rattle.paving_log_check.proofs.claims.holds_hull.Goals as goal
+
+pub returns-then-bounds_offsets : goal.returns-then-bounds_offsets
+returns-then-bounds_offsets c =
+    let lo : to_z w64 (of_z w64 c.args.lo) ≡ c.args.lo = omega (arith, ints) in
+    let hi : to_z w64 (of_z w64 c.args.hi) ≡ c.args.hi = omega (arith, ints) in
+    let low = rw lo at (c.if-bounds_offsets.ensures.low refl) in
+    let high = rw hi at (c.if-bounds_offsets.ensures.high refl) in
+    (λ yes b lies. (low b lies, high b lies), λ holds. refl)
 
 pub returns-then-lo-hull : goal.returns-then-lo-hull
 returns-then-lo-hull c = (

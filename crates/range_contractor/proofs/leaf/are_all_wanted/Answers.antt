@@ -11,12 +11,12 @@ pub returns-clause-low : goal.returns-clause-low
 returns-clause-low g c = λ yes.
     let I = g.I.Interval in
     let near = near_from (leaf_value I.low I.high c.args.leaf.now) (grid_box c.args.part.now) (span_side c.ends_of-x.result) (span_side c.ends_of-y.result) (span_side c.ends_of-z.result)
-    c.from-least.result c.near_square_of.result c.ends_of-x.ensures c.ends_of-y.ensures c.ends_of-z.ensures c.near_square_of.ensures (leb-true _ _ yes) in
+    c.from-least.result c.near_square_of.result c.ends_of-x.ensures c.ends_of-y.ensures c.ends_of-z.ensures c.near_square_of.ensures.value (leb-true _ _ yes) in
     omega (arith, ints, near, c.from-least.ensures, c.requires.natural)
 
 pub returns-clause-high : goal.returns-clause-high
 returns-clause-high g c = λ yes.
     let I = g.I.Interval in
     let far = far_to (leaf_value I.low I.high c.args.leaf.now) (grid_box c.args.part.now) (span_side c.ends_of-x.result) (span_side c.ends_of-y.result) (span_side c.ends_of-z.result)
-    c.from-most.result c.far_square_of.result c.ends_of-x.ensures c.ends_of-y.ensures c.ends_of-z.ensures c.far_square_of.ensures (omega (arith, c.if-far_square_of-most.false)) in
+    c.from-most.result c.far_square_of.result c.ends_of-x.ensures c.ends_of-y.ensures c.ends_of-z.ensures c.far_square_of.ensures.value (omega (arith, c.if-far_square_of-most.false)) in
     omega (arith, ints, far, c.from-most.ensures, c.requires.natural, c.args.ranges.now.ordered)

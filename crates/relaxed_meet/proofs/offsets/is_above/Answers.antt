@@ -12,7 +12,7 @@ unfolding far_of
 returns c =
     let far = far_square c.args.row.now (grid_box c.args.part.now) in
     let reach = c.from-reach.result in
-    let same : c.far_square.result ≡ far = c.far_square.ensures in (
+    let same : c.far_square.result ≡ far = c.far_square.ensures.value in (
       λ t. let less : c.far_square.result < reach * reach = ltb-true _ _ t in let below : root far < reach = root_below far reach (omega (arith, less, same)) in omega (arith, ints, below, c.from-reach.ensures),
       λ h. let above : far < reach * reach = square_above far reach (omega (arith, ints, h, c.from-reach.ensures)) in lt-ltb _ _ (omega (arith, above, same)),
     )

@@ -12,7 +12,7 @@ unfolding near_of
 returns c =
     let near = near_square c.args.row.now (grid_box c.args.part.now) in
     let reach = c.from-reach.result in
-    let same : c.near_square.result ≡ near = c.near_square.ensures in (
+    let same : c.near_square.result ≡ near = c.near_square.ensures.value in (
       λ t. let most : reach * reach ≤ c.near_square.result = leb-true _ _ t in let from : reach ≤ root near = root_from near reach (omega (arith, most, same)) in omega (arith, ints, from, c.from-reach.ensures),
       λ h. let to : reach * reach ≤ near = square_up_to near reach (omega (arith, ints, h, c.from-reach.ensures)) in le-leb _ _ (omega (arith, to, same)),
     )
