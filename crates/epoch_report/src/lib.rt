@@ -7,6 +7,6 @@ mod lengths;
 mod lines;
 
 pub use counts::Counts4;
-pub use lengths::metres;
+pub use lengths::push_metres;
 pub use lines::{epoch_text, step_text, total_text};
 pub use paving_log::Line;

@@ -9,7 +9,7 @@ ghost use Rattle.epoch_report.specs.Metres.{metres_text};
 ghost use Rattle.epoch_report.specs.ReportLines.{counted_name, box_words, in_words, edge_words, out_words, line_of, epoch_text_of, step_text_of, total_text_of};
 
 use crate::counts::Counts4;
-use crate::lengths::{metres, seconds};
+use crate::lengths::{push_metres, push_seconds};
 use itoa::Buffer;
 use paving_log::Line;
 use sat_model::{Box3, Step};
@@ -23,16 +23,6 @@ fn push_count(line: &mut Line, count: u32)
     let mut buffer = Buffer::new();
     line.push_str(" ");
     line.push_str(buffer.format(count));
-}
-
-/// A blank and a length in um, as metres.
-fn push_metres(line: &mut Line, um: i64)
-    requires { length line.old.bytes ≤ 230 }
-    ensures pushed { line.new.bytes ≡ line.old.bytes ++ 32 ∷ metres_text um }
-    ensures length { length line.new.bytes ≤ length line.old.bytes + 25 }
-{
-    line.push_str(" ");
-    line.push_str(&metres(um));
 }
 
 /// Two lengths, each behind a blank.
@@ -118,8 +108,8 @@ pub fn epoch_text(few: bool, index: u32, ps: i128, n: u32) -> Line
     let mut line = Line::new();
     line.push_str("epoch");
     push_count(&mut line, index);
-    line.push_str(" gps ");
-    line.push_str(&seconds(ps));
+    line.push_str(" gps");
+    push_seconds(&mut line, ps);
     line.push_str(" ");
     line.push_str(counted(few));
     push_count(&mut line, n);
