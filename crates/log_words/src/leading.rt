@@ -1,5 +1,5 @@
-//! Numbers at the front of a text, each with the byte that ends it. Where none is read nothing is said
-//! of the text, so that a reader may go on to the words.
+//! Numbers at the front of a text, each with the byte that ends it. Where none is read nothing is
+//! said of the text, so that a reader may go on to the words.
 
 ghost use Rattle.std.specs.Prelude.{ℕ, ◌≡◌, ◌<◌, ◌≤◌, ◌^◌, ◌++◌, ◌∷◌, length, slice_index, IsTrue, IfSome};
 ghost use Rattle.std.specs.Fmt.{decimal, signed_decimal};
@@ -7,8 +7,8 @@ ghost use Rattle.sat_model.specs.Sizes.{IsWithin};
 
 use core::dec2flt::read_digits;
 
-/// How many bytes are looked at. So many are read as two words of eight bytes, and a number of as many
-/// digits fits 64 bits.
+/// How many bytes are looked at. So many are read as two words of eight bytes, and a number of as
+/// many digits fits 64 bits.
 const LOOKED_AT: usize = 16;
 
 /// Whether there are digits, and no zero in front of others.
