@@ -7,10 +7,10 @@ use std::alloc::{AllocError, Global};
 use std::test::Fail;
 
 /// The steps that come out, one after another.
-fn taken(alloc: Global, logged: &LoggedSteps) -> Result<Vec<Step>, AllocError> {
+pub fn taken(alloc: Global, logged: &LoggedSteps) -> Result<Vec<Step>, AllocError> {
     let mut all = Vec::new(alloc);
     let mut ahead = logged.ahead();
-    while let Some(step) = ahead.next() {
+    'steps: while let Some(step) = ahead.next() {
         all.push(step)?;
     }
     Ok(all)
