@@ -1,3 +1,3 @@
-pub mod Columns
+pub mod Boxes
+pub mod Heads
 pub mod Steps
-pub mod Turns

@@ -1,33 +1,21 @@
 //! The steps that are left, taken one after another.
 
-ghost use Rattle.std.specs.Prelude.{◌≡◌, ◌+◌, [], ◌∷◌, length, MatchOption};
-ghost use Rattle.logged_steps.specs.Turns.{with_last, cuts_in};
+ghost use Rattle.std.specs.Prelude.{◌≡◌, [], ◌∷◌, length, MatchOption};
+ghost use Rattle.logged_steps.specs.Heads.{ids_in, numbers_in};
 
-use crate::turn::{Turn, box_in};
+use crate::columns::{first_box, first_step};
+use crate::head::Head;
 use sat_model::Step;
 
-/// So many cuts of a box, and the turns behind them.
+/// Steps behind one of the box `last`.
 #[derive(Clone, Copy)]
 pub struct StepsAhead<'a> {
-    pub(crate) id: u32,
-    pub(crate) cuts: usize,
-    pub(crate) turns: &'a [Turn],
-    pub(crate) last: Option<Turn>,
-    pub(crate) faces: &'a [u8],
-    pub(crate) bounds: &'a [i64],
-    ghost faces_are: { cuts + cuts_in (with_last turns.now last) ≡ length faces.now },
-    ghost bounds_are: { cuts + cuts_in (with_last turns.now last) ≡ length bounds.now },
-}
-
-/// The first turn, and what is left behind it.
-fn first_turn<'a>(turns: &'a [Turn], last: Option<Turn>) -> Option<(Turn, &'a [Turn], Option<Turn>)>
-    ensures { MatchOption result (with_last turns.now last ≡ [])
-        (λ found. with_last turns.now last ≡ found.0 ∷ with_last found.1.now found.2) }
-{
-    match turns.split_first() {
-        Some((turn, left)) => Some((*turn, left, last)),
-        None => Some((last?, turns, None)),
-    }
+    pub(crate) last: u32,
+    pub(crate) heads: &'a [Head],
+    pub(crate) ids: &'a [u32],
+    pub(crate) numbers: &'a [i64],
+    ghost ids_are: { ids_in heads.now ≡ length ids.now },
+    ghost numbers_are: { numbers_in heads.now ≡ length numbers.now },
 }
 
 impl<'a> StepsAhead<'a> {
@@ -38,22 +26,13 @@ impl<'a> StepsAhead<'a> {
         ensures { MatchOption result (steps_left self.old ≡ [])
             (λ step. steps_left self.old ≡ step ∷ steps_left self.new) }
     {
-        if self.cuts > 0 {
-            let (face, bound) = (self.faces[0], self.bounds[0]);
-            self.cuts -= 1;
-            self.faces = &self.faces[1..];
-            self.bounds = &self.bounds[1..];
-            return Some(Step::Cut {
-                id: self.id,
-                face,
-                bound,
-            });
-        }
-        let (turn, turns, last) = first_turn(self.turns, self.last)?;
-        self.id = box_in(&turn.first);
-        self.cuts = turn.cuts;
-        self.turns = turns;
-        self.last = last;
-        Some(turn.first)
+        let (head, heads) = self.heads.split_first()?;
+        let (id, ids) = first_box(head.of, self.last, self.ids);
+        let (step, numbers) = first_step(head.kind, id, self.numbers);
+        self.last = id;
+        self.heads = heads;
+        self.ids = ids;
+        self.numbers = numbers;
+        Some(step)
     }
 }

@@ -1,9 +1,10 @@
-//! The steps of an epoch as a log has them: a list in columns, in which a cut takes nine bytes.
+//! The steps of an epoch as a log has them: a list in columns, in which a step takes half of its line's bytes or less.
 #![tactic(auto)]
 
 mod ahead;
+mod columns;
+mod head;
 mod steps;
-mod turn;
 
 pub use ahead::StepsAhead;
 pub use steps::LoggedSteps;

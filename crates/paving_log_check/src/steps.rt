@@ -148,7 +148,7 @@ pub(crate) fn steps_fault(
         (StepsPass rows.now rules.now done (first_stage (grid_box root.now)) (steps_of steps.now))
         (λ fault. StepsFail rows.now rules.now done
         (first_stage (grid_box root.now)) (steps_of steps.now) fault.offset fault.number)) }
-    ensures few { IfOk result (λ found. length (steps_of steps.now) < 2 ^ 61) }
+    ensures few { IfOk result (λ found. length (steps_of steps.now) < 2 ^ 62) }
 {
     let judge = Judge { rows, rules };
     let mut live = Live::of_root(alloc, root)?;
