@@ -8,7 +8,7 @@ ghost use Rattle.sat_model.specs.Proposals.{IsTied, InTurn, IsProposal};
 ghost use Rattle.range_contractor.specs.Views.{tree_value, tree_values};
 
 use crate::boxes::{box_of, is_all, side_of};
-use crate::hulls::{Hulls, hull_box};
+use crate::hulls::{Sides, add_sides, hull_box};
 use crate::leaf::leaf_part;
 use crate::meets::meet;
 use crate::tree::Tree;
@@ -99,11 +99,13 @@ fn relaxed_part<I: Interval>(q: u8, kids: &[Tree<I>], part: &Box3, clock: &Span)
     if most_leave_all(q, kids, part, clock) {
         return Some(*part);
     }
-    let mut hulls = Hulls::new();
+    let mut x = Sides::new();
+    let mut y = Sides::new();
+    let mut z = Sides::new();
     for kid in kids {
-        hulls.add(contraction(kid, part, clock));
+        add_sides(contraction(kid, part, clock), &mut x, &mut y, &mut z);
     }
-    hull_box(&hulls, part, kids.len() as u8 - q)
+    hull_box(&x, &y, &z, part, kids.len() as u8 - q)
 }
 
 /// What is left of the box.

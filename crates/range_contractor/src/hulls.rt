@@ -11,49 +11,29 @@ use arrayvec::ArrayVec;
 use relaxed_meet::relaxed;
 use sat_model::{Box3, Span};
 
-/// The sides of boxes, axis by axis.
-#[derive(Drop)]
-pub(crate) struct Hulls {
-    x: ArrayVec<Span, 64>,
-    y: ArrayVec<Span, 64>,
-    z: ArrayVec<Span, 64>,
-}
+/// The sides of boxes on one axis.
+pub(crate) type Sides = ArrayVec<Span, 64>;
 
-impl Hulls {
-    /// No sides.
-    pub(crate) fn new() -> Hulls
-        ensures { (result.x.items ≡ []) × (result.y.items ≡ []) × (result.z.items ≡ []) }
-    {
-        Hulls {
-            x: ArrayVec::new(),
-            y: ArrayVec::new(),
-            z: ArrayVec::new(),
+/// Adds the sides of one more box, if there is one. Three lists for themselves are cleared sooner than three in one.
+pub(crate) fn add_sides(kept: Option<Box3>, x: &mut Sides, y: &mut Sides, z: &mut Sides)
+    requires { (length x.old.items ≤ 63) × (length y.old.items ≤ 63) × (length z.old.items ≤ 63) }
+    ensures x { map ends x.new.items
+        ≡ map ends x.old.items ++ sides_of 0 (option_map grid_box kept ∷ []) }
+    ensures y { map ends y.new.items
+        ≡ map ends y.old.items ++ sides_of 1 (option_map grid_box kept ∷ []) }
+    ensures z { map ends z.new.items
+        ≡ map ends z.old.items ++ sides_of 2 (option_map grid_box kept ∷ []) }
+    ensures few { (length x.new.items ≤ length x.old.items + 1)
+        × (length y.new.items ≤ length y.old.items + 1)
+        × (length z.new.items ≤ length z.old.items + 1) }
+{
+    match kept {
+        Some(part) => {
+            x.push(side_of(&part, 0));
+            y.push(side_of(&part, 1));
+            z.push(side_of(&part, 2));
         }
-    }
-
-    /// The sides of one more box, if there is one.
-    pub(crate) fn add(&mut self, kept: Option<Box3>)
-        requires { (length self.old.x.items ≤ 63)
-            × (length self.old.y.items ≤ 63)
-            × (length self.old.z.items ≤ 63) }
-        ensures x { map ends self.new.x.items
-            ≡ map ends self.old.x.items ++ sides_of 0 (option_map grid_box kept ∷ []) }
-        ensures y { map ends self.new.y.items
-            ≡ map ends self.old.y.items ++ sides_of 1 (option_map grid_box kept ∷ []) }
-        ensures z { map ends self.new.z.items
-            ≡ map ends self.old.z.items ++ sides_of 2 (option_map grid_box kept ∷ []) }
-        ensures few { (length self.new.x.items ≤ length self.old.x.items + 1)
-            × (length self.new.y.items ≤ length self.old.y.items + 1)
-            × (length self.new.z.items ≤ length self.old.z.items + 1) }
-    {
-        match kept {
-            Some(part) => {
-                self.x.push(side_of(&part, 0));
-                self.y.push(side_of(&part, 1));
-                self.z.push(side_of(&part, 2));
-            }
-            None => {}
-        }
+        None => {}
     }
 }
 
@@ -71,24 +51,24 @@ fn hull_on(spans: &[Span], need: u8) -> Option<Span>
 }
 
 /// The box of the hulls on the three axes, each of which lies in the side of `part`.
-pub(crate) fn hull_box(hulls: &Hulls, part: &Box3, need: u8) -> Option<Box3>
+pub(crate) fn hull_box(x: &Sides, y: &Sides, z: &Sides, part: &Box3, need: u8) -> Option<Box3>
     requires need { 1 ≤ need }
-    requires few { (length hulls.now.x.items ≤ 64)
-        × (length hulls.now.y.items ≤ 64)
-        × (length hulls.now.z.items ≤ 64) }
-    requires x_inside { AreInside (side_at 0 (grid_box part.now)) (map ends hulls.now.x.items) }
-    requires y_inside { AreInside (side_at 1 (grid_box part.now)) (map ends hulls.now.y.items) }
-    requires z_inside { AreInside (side_at 2 (grid_box part.now)) (map ends hulls.now.z.items) }
-    ensures { IsBoxOfHulls (map ends hulls.now.x.items) (map ends hulls.now.y.items)
-        (map ends hulls.now.z.items) need (option_map grid_box result) }
+    requires few { (length x.now.items ≤ 64)
+        × (length y.now.items ≤ 64)
+        × (length z.now.items ≤ 64) }
+    requires x_inside { AreInside (side_at 0 (grid_box part.now)) (map ends x.now.items) }
+    requires y_inside { AreInside (side_at 1 (grid_box part.now)) (map ends y.now.items) }
+    requires z_inside { AreInside (side_at 2 (grid_box part.now)) (map ends z.now.items) }
+    ensures { IsBoxOfHulls (map ends x.now.items) (map ends y.now.items)
+        (map ends z.now.items) need (option_map grid_box result) }
 {
-    let Some(x) = hull_on(&hulls.x, need) else {
+    let Some(x) = hull_on(x, need) else {
         return None;
     };
-    let Some(y) = hull_on(&hulls.y, need) else {
+    let Some(y) = hull_on(y, need) else {
         return None;
     };
-    let Some(z) = hull_on(&hulls.z, need) else {
+    let Some(z) = hull_on(z, need) else {
         return None;
     };
     Some(box_of(&x, &y, &z))

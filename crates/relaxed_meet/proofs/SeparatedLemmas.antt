@@ -8,11 +8,11 @@ use lib.Signed.{le_z, lt_z}
 use Rattle.sat_model.specs.declared.satellites.Row.{Row}
 use Rattle.sat_model.specs.declared.boxes.Box3.{Box3}
 use Rattle.sat_model.specs.Boxes.{grid_box}
-use Rattle.sat_model.specs.ClockSpans.{clock_spans, clock_ends, IsShownEmpty}
-use Rattle.sat_model.specs.Relaxed.{holds, LiesInRelaxed, IsRelaxedEmpty}
+use Rattle.sat_model.specs.ClockSpans.{clock_spans, clock_ends}
+use Rattle.sat_model.specs.Relaxed.{holds, LiesInRelaxed}
 use Rattle.sat_model.proofs.ClockLemmas.{near_le_far}
 use Rattle.sat_model.proofs.FittingLemmas.{both, le_from}
-use Rattle.relaxed_meet.specs.Separated.{lows_above, highs_to}
+use Rattle.relaxed_meet.specs.Separated.{lows_above, highs_to, NoneLiesBetween}
 
 abbrev pub AreOrdered : List (ℤ × ℤ) → Type 0
 AreOrdered [] = Unit {0}
@@ -46,34 +46,31 @@ missed b low high (t ∷ spans) h k o =
       missed b low high spans h k o.1,
     )
 
--- each offset has enough low ends above it and enough high ends to it, for ranks from j on
-abbrev pub AreSeparated : ℕ → ℕ → List ℤ → List (ℤ × ℤ) → Type 0
-AreSeparated q j [] spans = q + 1 ≤ j
-AreSeparated q j (s ∷ more) spans = (q + 1 ≤ lows_above s spans + j) × (j + 1 ≤ highs_to s spans) × AreSeparated q (j + 1) more spans
+-- each offset has enough low ends above it and enough high ends to it, for ranks from j on; enough low ends are above
+-- the last number too
+abbrev pub AreSeparated : ℕ → ℤ → ℕ → List ℤ → List (ℤ × ℤ) → Type 0
+AreSeparated q high j [] spans = q + 1 ≤ lows_above high spans + j
+AreSeparated q high j (s ∷ more) spans = (q + 1 ≤ lows_above s spans + j) × (j + 1 ≤ highs_to s spans) × AreSeparated q high (j + 1) more spans
 
-too_many_missed : (q j : ℕ) (b low : ℤ) (offsets : List ℤ) (spans : List (ℤ × ℤ)) → AreOrdered spans → low <ℤ b → j ≤ highs_to low spans → AreSeparated q j offsets spans
-    → count_by (λ t. holds t b) spans + q + 1 ≤ length spans
-too_many_missed q j b low [] spans o h k are = omega (arith, missed b low b spans h (omega (arith, ints)) o)
-too_many_missed q j b low (s ∷ more) spans o h k are = by_lt_z s b
-    (λ less. too_many_missed q (j + 1) b s more spans o less are.1 are.2)
-    (λ not_less. omega (arith, missed b low s spans h not_less o, are.0))
-
--- so no number lies in all but q of the spans
-pub separated_empty : (q : ℕ) (offsets : List ℤ) (spans : List (ℤ × ℤ)) → AreOrdered spans → AreSeparated q 0 offsets spans → IsRelaxedEmpty spans (length spans - q)
-separated_empty q offsets spans o are b lies = omega (arith, too_many_missed q 0 b (b -ℤ pos 1) offsets spans o (omega (arith, ints)) (omega arith) are)
+too_many_missed : (q j : ℕ) (high b low : ℤ) (offsets : List ℤ) (spans : List (ℤ × ℤ)) → AreOrdered spans → low <ℤ b → b ≤ℤ high → j ≤ highs_to low spans
+    → AreSeparated q high j offsets spans → count_by (λ t. holds t b) spans + q + 1 ≤ length spans
+too_many_missed q j high b low [] spans o h t k are = omega (arith, missed b low high spans h t o, are, k)
+too_many_missed q j high b low (s ∷ more) spans o h t k are = by_lt_z s b
+    (λ less. too_many_missed q (j + 1) high b s more spans o less t are.1 are.2)
+    (λ not_less. omega (arith, missed b low s spans h not_less o, are.0, k))
 
 -- ---- the offsets of the greatest ranks, which are found first
 
-pub record ArePartedFrom (q passed : ℕ) (spans : List (ℤ × ℤ)) : Type 0 where
+pub record ArePartedFrom (q passed : ℕ) (high : ℤ) (spans : List (ℤ × ℤ)) : Type 0 where
   pub offsets : List ℤ
-  pub are : AreSeparated q (q + 1 - passed) offsets spans
+  pub are : AreSeparated q high (q + 1 - passed) offsets spans
 
-pub none_parted : (q : ℕ) (spans : List (ℤ × ℤ)) → ArePartedFrom q 0 spans
-none_parted q spans = record { offsets = []; are = omega arith }
+pub none_parted : (q passed : ℕ) (high : ℤ) (spans : List (ℤ × ℤ)) → passed ≤ lows_above high spans → ArePartedFrom q passed high spans
+none_parted q passed high spans h = record { offsets = []; are = omega (arith, h) }
 
-pub one_parted : (q passed rank : ℕ) (s : ℤ) (spans : List (ℤ × ℤ)) → passed ≤ q → rank ≡ q - passed → passed + 1 ≤ lows_above s spans → rank + 1 ≤ highs_to s spans
-    → ArePartedFrom q passed spans → ArePartedFrom q (passed + 1) spans
-one_parted q passed rank s spans h r above up_to had = record {
+pub one_parted : (q passed rank : ℕ) (s high : ℤ) (spans : List (ℤ × ℤ)) → passed ≤ q → rank ≡ q - passed → passed + 1 ≤ lows_above s spans → rank + 1 ≤ highs_to s spans
+    → ArePartedFrom q passed high spans → ArePartedFrom q (passed + 1) high spans
+one_parted q passed rank s high spans h r above up_to had = record {
   offsets = s ∷ had.offsets;
   are =
       let now : q + 1 - (passed + 1) ≡ rank = omega (arith, r, h) in
@@ -85,12 +82,14 @@ ordered : (part : Box3) (rows : List Row) → AreOrdered (clock_spans (grid_box 
 ordered part [] = record {}
 ordered part (row ∷ rows) = (omega (arith, ints, near_le_far row part, row.range.ordered, row.err.ordered), ordered part rows)
 
-pub parted_empty : (q : ℕ) (part : Box3) (rows : List Row) → ArePartedFrom q (q + 1) (clock_spans (grid_box part) rows) → IsShownEmpty rows (grid_box part) q
-parted_empty q part rows had =
+pub parted_none : (q passed below above : ℕ) (part : Box3) (rows : List Row) → q + 1 ≤ passed + below
+    → ((high : ℤ) → above ≤ lows_above high (clock_spans (grid_box part) rows) → ArePartedFrom q passed high (clock_spans (grid_box part) rows))
+    → NoneLiesBetween rows (grid_box part) q below above
+parted_none q passed below above part rows whole parted low high b k a h t lies =
     let spans = clock_spans (grid_box part) rows in
     let same : length spans ≡ length rows = length-map rows (clock_ends (grid_box part)) in
-    let none : q + 1 - (q + 1) ≡ 0 = omega arith in
-    rw same at (separated_empty q had.offsets spans (ordered part rows) (rw none at had.are))
+    let had = parted high a in
+    omega (arith, too_many_missed q (q + 1 - passed) high b low had.offsets spans (ordered part rows) h t (omega (arith, whole, k)) had.are, same, lies)
 
 -- ---- offsets at one side of spans
 

@@ -2,7 +2,9 @@
 //! q-relaxed intersection of these spans (Drevelle and Bonnifait, 2011).
 #![tactic(auto)]
 
+mod bounds;
 mod clocks;
+mod counts;
 mod deciding;
 mod distance;
 mod extremes;
@@ -11,9 +13,9 @@ mod offsets;
 mod separation;
 mod shown;
 
+pub use bounds::bounds_offsets;
 pub use clocks::{clock_span, inner_span};
 pub use deciding::{Deciding, SlabTests};
 pub use distance::{far_square_of, near_far, near_square_of};
 pub use hull::relaxed;
-pub use separation::bounds_offsets;
 pub use shown::{BoxState, box_state, clock_hull, shown_inner};

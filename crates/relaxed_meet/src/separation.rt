@@ -1,13 +1,12 @@
 //! Offsets that part the clock spans: what shows a box empty without a root.
 
-ghost use Rattle.std.specs.Prelude.{◌-◌, ◌<◌, ◌≤◌, length, IsTrue, ℤ, ◌≤ℤ◌};
+ghost use Rattle.std.specs.Prelude.{◌<◌, ◌≤◌, length, IsTrue};
 ghost use Rattle.sat_model.specs.Boxes.{grid_box};
-ghost use Rattle.sat_model.specs.ClockSpans.{IsShownEmpty, clock_spans};
-ghost use Rattle.sat_model.specs.Relaxed.{LiesInRelaxed};
-ghost use Rattle.sat_model.specs.Sizes.{IsWithin};
-ghost use Rattle.relaxed_meet.specs.Separated.{lows_above, highs_to};
+ghost use Rattle.sat_model.specs.ClockSpans.{IsShownEmpty};
+ghost use Rattle.relaxed_meet.specs.Separated.{NoneLiesBetween};
 
-use crate::offsets::{bounded, is_above, is_bounded, is_up_to};
+use crate::counts::{count_above, count_up_to};
+use crate::offsets::bounded;
 use sat_model::{Box3, Row, Span};
 
 /// How many offsets are remembered: enough where up to 8 rows may be inconsistent.
@@ -51,88 +50,74 @@ impl Separation {
         self.above | self.below
     }
 
+    /// Any rows below these above, and offsets before the low ends of these, in falling order.
+    pub(crate) fn before(above: u64, lows: &[i64], q: u8) -> Separation {
+        let last = usize::from(q);
+        let mut offsets = [0; MOST_OFFSETS];
+        for (rank, offset) in offsets.iter_mut().enumerate() {
+            if rank <= last && last - rank < lows.len() {
+                *offset = lows[last - rank].wrapping_sub(1);
+            }
+        }
+        Separation {
+            above,
+            below: u64::MAX,
+            offsets,
+        }
+    }
+
+    /// Any rows above these below, and the high ends of these, mirrored and in falling order.
+    pub(crate) fn behind(below: u64, highs: &[i64]) -> Separation {
+        let mut offsets = [0; MOST_OFFSETS];
+        for (rank, offset) in offsets.iter_mut().enumerate() {
+            if rank < highs.len() {
+                *offset = -1 - highs[rank];
+            }
+        }
+        Separation {
+            above: u64::MAX,
+            below,
+            offsets,
+        }
+    }
+
     /// Whether these rows and offsets show the box empty.
     pub(crate) fn shows_empty(&self, rows: &[Row], part: &Box3, q: u8) -> bool
         requires { (q < length rows.now) × (length rows.now ≤ 64) }
         ensures { IsTrue result → IsShownEmpty rows.now (grid_box part.now) q }
     {
+        self.shows_none(rows, part, q, 0, 0)
+    }
+
+    /// Whether they show that no offset lies in the clock spans of all but at most `q` rows, of those above one that
+    /// `below` spans lie up to, and up to one that `above` spans lie above.
+    pub(crate) fn shows_none(
+        &self,
+        rows: &[Row],
+        part: &Box3,
+        q: u8,
+        below: usize,
+        above: usize,
+    ) -> bool
+        requires { (q < length rows.now) × (length rows.now ≤ 64) }
+        ensures { IsTrue result → NoneLiesBetween rows.now (grid_box part.now) q below above }
+    {
         let last = usize::from(q);
         if last >= MOST_OFFSETS {
             return false;
         }
-        for passed in 0..last + 1 {
+        for passed in above..(last + 1).saturating_sub(below) {
             let rank = last - passed;
             let offset = bounded(self.offsets[rank]);
-            if !are_up_to(rows, part, self.below, offset, rank + 1) {
+            if count_up_to(rows, part, self.below, offset, rank + 1) <= rank {
                 return false;
             }
-            if !are_above(rows, part, self.above, offset, passed + 1) {
+            if count_above(rows, part, self.above, offset, passed + 1) <= passed {
                 return false;
             }
         }
         true
     }
-}
-
-/// Whether the clock spans of more than `q` rows over the box lie from `lo` on, and those of more than
-/// `q` up to `hi`: then no other offset lies in those of all but at most `q`.
-pub fn bounds_offsets(rows: &[Row], part: &Box3, q: u8, lo: i64, hi: i64) -> bool
-    requires { (q < length rows.now) × (length rows.now ≤ 64) }
-    ensures low { IsTrue result → (b : ℤ)
-        → LiesInRelaxed (clock_spans (grid_box part.now) rows.now) (length rows.now - q) b
-        → lo ≤ℤ b }
-    ensures high { IsTrue result → (b : ℤ)
-        → LiesInRelaxed (clock_spans (grid_box part.now) rows.now) (length rows.now - q) b
-        → b ≤ℤ hi }
-{
-    if !is_bounded(lo) || !is_bounded(hi) {
-        return false;
-    }
-    let wanted = usize::from(q) + 1;
-    if !are_above(rows, part, u64::MAX, lo - 1, wanted) {
-        return false;
-    }
-    are_up_to(rows, part, u64::MAX, hi, wanted)
-}
-
-/// Whether so many of the rows that have a bit have clock spans above the offset.
-fn are_above(rows: &[Row], part: &Box3, which: u64, offset: i64, wanted: usize) -> bool
-    requires { IsWithin 1000000000000000 offset }
-    ensures { IsTrue result → wanted ≤ lows_above offset (clock_spans (grid_box part.now) rows.now) }
-{
-    let mut count = 0;
-    let mut left = which;
-    for row in rows {
-        if count >= wanted {
-            return true;
-        }
-        let is_asked = left & 1 == 1;
-        if is_asked && is_above(row, part, offset) {
-            count += 1;
-        }
-        left >>= 1;
-    }
-    count >= wanted
-}
-
-/// Whether so many of them have clock spans up to it.
-fn are_up_to(rows: &[Row], part: &Box3, which: u64, offset: i64, wanted: usize) -> bool
-    requires { IsWithin 1000000000000000 offset }
-    ensures { IsTrue result → wanted ≤ highs_to offset (clock_spans (grid_box part.now) rows.now) }
-{
-    let mut count = 0;
-    let mut left = which;
-    for row in rows {
-        if count >= wanted {
-            return true;
-        }
-        let is_asked = left & 1 == 1;
-        if is_asked && is_up_to(row, part, offset) {
-            count += 1;
-        }
-        left >>= 1;
-    }
-    count >= wanted
 }
 
 /// A bit for each span whose low end is kept.

@@ -101,8 +101,8 @@ most_leave_all-loop-kid-preserved g t c =
           }
     ]
 
-pub relaxed_part-add-requires : goal.relaxed_part-add-requires
-relaxed_part-add-requires g t c =
+pub relaxed_part-add_sides-requires : goal.relaxed_part-add_sides-requires
+relaxed_part-add_sides-requires g t c =
     let I = g.I.Interval in
     let n = count_kids (tree_value I.low I.high) c.args.kids.now in
     let few = c.requires.1 in
@@ -150,13 +150,13 @@ relaxed_part-loop-kid-preserved g t c =
     let answer = option_map grid_box c.contraction.result in
     record {
       sound = (sound_from (tree_value I.low I.high) c.args.kids.now c.loop-kid.kid-index c.kid-item.result c.loop-kid-test.true c.kid-item.is i.sound).1;
-      few = (omega (arith, i.few.0, c.add.ensures.few.0), omega (arith, i.few.1, c.add.ensures.few.1), omega (arith, i.few.2, c.add.ensures.few.2));
+      few = (omega (arith, i.few.0, c.add_sides.ensures.few.0), omega (arith, i.few.1, c.add_sides.ensures.few.1), omega (arith, i.few.2, c.add_sides.ensures.few.2));
       answers = i.answers ++ answer ∷ [];
       tied = tied_more (tree_value I.low I.high) c.args.kids.now c.loop-kid.kid-index c.kid-item.result I.GRAIN I.SLACK (span_side c.args.clock.now) (grid_box c.args.part.now) i.answers answer
           c.loop-kid-test.true c.kid-item.is i.tied c.contraction.ensures;
-      x = c.add.ensures.x ∙ ap (λ l. l ++ sides_of 0 (answer ∷ [])) i.x ∙ sym (sides_append 0 i.answers (answer ∷ []));
-      y = c.add.ensures.y ∙ ap (λ l. l ++ sides_of 1 (answer ∷ [])) i.y ∙ sym (sides_append 1 i.answers (answer ∷ []));
-      z = c.add.ensures.z ∙ ap (λ l. l ++ sides_of 2 (answer ∷ [])) i.z ∙ sym (sides_append 2 i.answers (answer ∷ []));
+      x = c.add_sides.ensures.x ∙ ap (λ l. l ++ sides_of 0 (answer ∷ [])) i.x ∙ sym (sides_append 0 i.answers (answer ∷ []));
+      y = c.add_sides.ensures.y ∙ ap (λ l. l ++ sides_of 1 (answer ∷ [])) i.y ∙ sym (sides_append 1 i.answers (answer ∷ []));
+      z = c.add_sides.ensures.z ∙ ap (λ l. l ++ sides_of 2 (answer ∷ [])) i.z ∙ sym (sides_append 2 i.answers (answer ∷ []));
     }
 
 pub relaxed_part-returns : goal.relaxed_part-returns

@@ -28,12 +28,12 @@ invariant-relaxed_part-loop-kid g l =
     let I = g.I.Interval in
     record {
       sound : HaveSoundNodes (tree_values I.low I.high (drop l.kid-index l.kids));
-      few : (length l.hulls.x.items ≤ l.kid-index) × (length l.hulls.y.items ≤ l.kid-index) × (length l.hulls.z.items ≤ l.kid-index);
+      few : (length l.x.items ≤ l.kid-index) × (length l.y.items ≤ l.kid-index) × (length l.z.items ≤ l.kid-index);
       answers : List (Option GridBox);
       tied : AreTied (tree_values I.low I.high (take l.kid-index l.kids)) I.GRAIN I.SLACK (span_side l.clock) (grid_box l.part) answers;
-      x : map ends l.hulls.x.items ≡ sides_of 0 answers;
-      y : map ends l.hulls.y.items ≡ sides_of 1 answers;
-      z : map ends l.hulls.z.items ≡ sides_of 2 answers;
+      x : map ends l.x.items ≡ sides_of 0 answers;
+      y : map ends l.y.items ≡ sides_of 1 answers;
+      z : map ends l.z.items ≡ sides_of 2 answers;
     }
 
 abbrev pub invariant-most_leave_all-loop-kid : goal.invariant-most_leave_all-loop-kid

@@ -1,19 +1,18 @@
 use Rattle.std.proofs.Common.{◌≡◌, arith, take, true, to_z, of_z, w64}
-use Rattle.std.proofs.lemmas.Bool.{leb-true}
 use Rattle.std.proofs.lemmas.Int.{ints}
 use Rattle.std.proofs.lemmas.Grind.{common_steps}
 use lib.Signed.{lt_z}
 use Rattle.sat_model.specs.Boxes.{grid_box}
 use Rattle.sat_model.specs.ClockSpans.{clock_ends}
 use Rattle.relaxed_meet.proofs.OffsetLemmas.{one_more, in_front}
-use Rattle.relaxed_meet.proofs.separation.are_above.Goals.{then-is_asked+then-is_above, else-is_asked}
-use Rattle.relaxed_meet.proofs.separation.are_above.Goals as goal
+use Rattle.relaxed_meet.proofs.counts.count_above.Goals.{then-is_asked+then-is_above, else-is_asked}
+use Rattle.relaxed_meet.proofs.counts.count_above.Goals as goal
 
-pub returns-then-count-wanted : goal.returns-then-count-wanted
-returns-then-count-wanted c t =
+pub returns-then-count-most : goal.returns-then-count-most
+returns-then-count-most c =
     let e : to_z w64 (of_z w64 c.args.offset) ≡ c.args.offset = omega (arith, ints) in
     let front = in_front (clock_ends (grid_box c.args.part.now)) (λ t. lt_z c.args.offset t.0) c.args.rows.now c.loop-row.row-index in
-    omega (arith, rw e at c.loop-row.invariant.counted, front, c.if-count-wanted.true)
+    omega (arith, rw e at c.loop-row.invariant.counted, front)
 
 pub loop-row-preserved : goal.loop-row-preserved
 loop-row-preserved c =
@@ -28,9 +27,9 @@ loop-row-preserved c =
     ]
 
 pub returns : goal.returns
-returns c t =
+returns c =
     let e : to_z w64 (of_z w64 c.args.offset) ≡ c.args.offset = omega (arith, ints) in
     let rows = c.args.rows.now in
     let all : take c.loop-row.row-index rows ≡ rows = grind (arith, common_steps, c.loop-row-test.false) in
     let counted = rw (all, e) at c.loop-row.invariant.counted in
-    omega (arith, counted, leb-true _ _ t)
+    counted

@@ -2,7 +2,7 @@ use Rattle.std.proofs.Common.{◌≤◌, take}
 use Rattle.sat_model.specs.Boxes.{grid_box}
 use Rattle.sat_model.specs.ClockSpans.{clock_spans}
 use Rattle.relaxed_meet.specs.Separated.{lows_above}
-use Rattle.relaxed_meet.proofs.separation.are_above.Given as goal
+use Rattle.relaxed_meet.proofs.counts.count_above.Given as goal
 
 abbrev pub invariant-loop-row : goal.invariant-loop-row
 invariant-loop-row l = record {
