@@ -37,14 +37,7 @@ fn is_of(kind: Kind, step: &Step) -> bool
 fn counted_steps(kind: Kind, steps: &LoggedSteps) -> usize
     ensures { result ≡ count_by (is_of kind) (steps_of steps.now) }
 {
-    let mut counted = 0;
-    let mut ahead = steps.ahead();
-    'steps: while let Some(step) = ahead.next() {
-        if is_of(kind, &step) {
-            counted += 1;
-        }
-    }
-    counted
+    steps.ahead().filter(|step| is_of(kind, step)).count()
 }
 
 /// One of the numbers of an epoch's total, 0 where it has none.

@@ -3,18 +3,7 @@
 use crate::small_rows::{cut_of, edge, split};
 use logged_steps::LoggedSteps;
 use sat_model::Step;
-use std::alloc::{AllocError, Global};
 use std::test::Fail;
-
-/// The steps that come out, one after another.
-pub fn taken(alloc: Global, logged: &LoggedSteps) -> Result<Vec<Step>, AllocError> {
-    let mut all = Vec::new(alloc);
-    let mut ahead = logged.ahead();
-    'steps: while let Some(step) = ahead.next() {
-        all.push(step)?;
-    }
-    Ok(all)
-}
 
 #[test]
 fn steps_come_out_as_they_were_put_in(rt: HostRuntime) -> Result<(), Fail> {
@@ -25,7 +14,7 @@ fn steps_come_out_as_they_were_put_in(rt: HostRuntime) -> Result<(), Fail> {
         lo: -9,
         hi: i64::MAX,
     };
-    let cases: [&[Step]; 6] = [
+    let cases: [&[Step]; 7] = [
         &[],
         &[edge(0, 1, 2)],
         // Cuts behind any step of their box.
@@ -44,11 +33,22 @@ fn steps_come_out_as_they_were_put_in(rt: HostRuntime) -> Result<(), Fail> {
         ],
         &[inside, inside, out, out, split(1), edge(3, -4, 4)],
         &[cut_of(4, 1, 2), cut_of(4, 1, 2), cut_of(4, 1, 1)],
+        // Boxes by all three ways to tell them, and the first behind the last.
+        &[
+            out,
+            inside,
+            split(2),
+            split(3),
+            split(3),
+            split(u32::MAX),
+            split(0),
+        ],
     ];
     for steps in cases {
         let logged = LoggedSteps::from_slice(rt.alloc(), steps)?;
         assert_eq!(rt; logged.len(), steps.len());
-        assert_eq!(rt; taken(rt.alloc(), &logged)?.as_slice(), steps);
+        let taken = logged.ahead().collect(rt.alloc())?;
+        assert_eq!(rt; taken.as_slice(), steps);
     }
     Ok(())
 }

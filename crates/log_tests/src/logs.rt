@@ -5,7 +5,6 @@ ghost use Rattle.sat_model.specs.Fold.{first_stage};
 ghost use Rattle.sat_model.specs.Logs.{IsNumbered};
 ghost use Rattle.paving_log.specs.Values.{log_value};
 
-use crate::logged::taken;
 use crate::small_rows::cuboid;
 use logged_steps::LoggedSteps;
 use paving_log::{
@@ -241,8 +240,8 @@ fn written(alloc: Global, log: &Log) -> Result<String, AllocError> {
         }
         if let Some(root) = &epoch.root {
             text.push_str(&root_line(root))?;
-            for step in &taken(alloc, &epoch.steps)? {
-                text.push_str(&step_line(step))?;
+            for step in epoch.steps.ahead() {
+                text.push_str(&step_line(&step))?;
             }
             text.push_str(&done_line(epoch.done))?;
         }

@@ -1,13 +1,14 @@
 //! The steps that are left, taken one after another.
 
-ghost use Rattle.std.specs.Prelude.{◌≡◌, [], ◌∷◌, length, MatchOption};
+ghost use Rattle.std.specs.Prelude.{◌≡◌, length};
+ghost use Rattle.std.specs.Iterator.{YieldsFirst, item_count};
 ghost use Rattle.logged_steps.specs.Heads.{ids_in, numbers_in};
 
 use crate::columns::{first_box, first_step};
 use crate::head::Head;
 use sat_model::Step;
 
-/// Steps behind one of the box `last`.
+/// The steps behind one of the box `last`, one after another.
 #[derive(Clone, Copy)]
 pub struct StepsAhead<'a> {
     pub(crate) last: u32,
@@ -18,14 +19,16 @@ pub struct StepsAhead<'a> {
     ghost numbers_are: { numbers_in heads.now ≡ length numbers.now },
 }
 
-impl<'a> StepsAhead<'a> {
+impl<'a> Iterator for StepsAhead<'a> {
     ghost use Rattle.logged_steps.specs.Steps.{steps_left};
 
-    /// Takes the next step; none is left where it answers none.
-    pub fn next(&mut self) -> Option<Step>
-        ensures { MatchOption result (steps_left self.old ≡ [])
-            (λ step. steps_left self.old ≡ step ∷ steps_left self.new) }
-    {
+    type Item = Step;
+
+    ghost next_gives = { YieldsFirst steps_left };
+
+    ghost remaining = { item_count steps_left };
+
+    fn next(&mut self) -> Option<Step> {
         let (head, heads) = self.heads.split_first()?;
         let (id, ids) = first_box(head.of, self.last, self.ids);
         let (step, numbers) = first_step(head.kind, id, self.numbers);

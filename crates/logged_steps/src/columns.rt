@@ -7,7 +7,8 @@ use crate::head::{BoxOf, Kind};
 use sat_model::Step;
 use std::alloc::AllocError;
 
-/// Puts the number of a box behind the others, where it stands beside. Where memory runs out they are as they were.
+/// Puts the number of a box behind the others, where it stands beside. Where memory runs out they
+/// are as they were.
 pub fn push_box(ids: &mut Vec<u32>, of: BoxOf, id: u32) -> Result<(), AllocError>
     ensures ok { OnOk result (ids.new.items ≡ ids.old.items ++ ids_of of id) }
     ensures err { OnErr result (ids.new.items ≡ ids.old.items) }

@@ -1,4 +1,5 @@
-//! The steps of an epoch as a log has them: a list in columns, in which a step takes half of its line's bytes or less.
+//! The steps of an epoch as a log has them: a list in columns, in which a step takes about half the
+//! bytes of its line or less.
 #![tactic(auto)]
 
 mod ahead;

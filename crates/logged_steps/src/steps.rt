@@ -9,8 +9,8 @@ use crate::head::{Head, box_in, box_of, kind_of};
 use sat_model::Step;
 use std::alloc::{AllocError, Global};
 
-/// Steps in their order. A step takes three bytes, eight for each of its numbers in um, and four for that of its box
-/// where this is neither the box of the step before nor the next one.
+/// Steps in their order. A step takes three bytes, eight for each of its numbers in um, and four for
+/// that of its box where this is neither the box of the step before nor the next one.
 #[derive(Debug, Drop)]
 pub struct LoggedSteps {
     heads: Vec<Head>,

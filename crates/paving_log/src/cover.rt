@@ -32,8 +32,7 @@ fn boxes_kept(alloc: Global, root: &Box3, steps: &LoggedSteps) -> Result<Vec<Box
 {
     let mut live = Live::of_root(alloc, root)?;
     let mut boxes = Vec::new(alloc);
-    let mut ahead = steps.ahead();
-    'steps: while let Some(step) = ahead.next() {
+    for step in steps.ahead() {
         if let Some(part) = kept_by(&live, &step) {
             boxes.push(part)?;
         }

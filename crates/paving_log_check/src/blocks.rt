@@ -60,14 +60,7 @@ fn is_kept(step: &Step) -> bool
 fn kept_steps(steps: &LoggedSteps) -> usize
     ensures { result ≡ count_by is_kept_step (steps_of steps.now) }
 {
-    let mut kept = 0;
-    let mut ahead = steps.ahead();
-    'steps: while let Some(step) = ahead.next() {
-        if is_kept(&step) {
-            kept += 1;
-        }
-    }
-    kept
+    steps.ahead().filter(|step| is_kept(step)).count()
 }
 
 /// How many boxes the steps of a block close inside or at the edge.

@@ -153,9 +153,8 @@ pub(crate) fn steps_fault(
     let judge = Judge { rows, rules };
     let mut live = Live::of_root(alloc, root)?;
     let mut decided = Decided::default();
-    let mut ahead = steps.ahead();
     let mut offset = 0;
-    'steps: while let Some(step) = ahead.next() {
+    for step in steps.ahead() {
         if let Some(number) = judge.step_fault(&live, &step, &mut decided) {
             return Ok(Some(LineFault { offset, number }));
         }

@@ -14,7 +14,8 @@ use sat_model::{Box3, Span};
 /// The sides of boxes on one axis.
 pub(crate) type Sides = ArrayVec<Span, 64>;
 
-/// Adds the sides of one more box, if there is one. Three lists for themselves are cleared sooner than three in one.
+/// Adds the sides of one more box, if there is one, each to its list. Three lists for themselves are
+/// cleared sooner than one value with all three.
 pub(crate) fn add_sides(kept: Option<Box3>, x: &mut Sides, y: &mut Sides, z: &mut Sides)
     requires { (length x.old.items ≤ 63) × (length y.old.items ≤ 63) × (length z.old.items ≤ 63) }
     ensures x { map ends x.new.items

@@ -1,5 +1,5 @@
-//! Whether offsets bound those that lie in enough clock spans over a box, from few roots: of the spans that lie
-//! beyond them alone.
+//! Whether two clock offsets bound those that lie in enough clock spans over a box. It takes the
+//! roots of the rows alone whose spans lie beyond one of them.
 
 ghost use Rattle.std.specs.Prelude.{◌-◌, ◌<◌, ◌≤◌, length, IsTrue, ℤ, ◌≤ℤ◌};
 ghost use Rattle.sat_model.specs.Boxes.{grid_box};
@@ -14,8 +14,8 @@ use crate::offsets::{is_above, is_bounded, is_up_to};
 use crate::separation::Separation;
 use sat_model::{Box3, Row};
 
-/// Whether each offset that lies in the clock spans over the box of all but at most `q` rows is seen to lie from `lo`
-/// to `hi`.
+/// Whether each offset that lies in the clock spans over the box of all but at most `q` rows is seen
+/// to lie from `lo` to `hi`.
 pub fn bounds_offsets(rows: &[Row], part: &Box3, q: u8, lo: i64, hi: i64) -> bool
     requires { (q < length rows.now) × (length rows.now ≤ 64) }
     ensures low { IsTrue result → (b : ℤ)

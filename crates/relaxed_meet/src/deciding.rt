@@ -135,15 +135,20 @@ impl Deciding {
 #[derive(Clone, Copy, Debug, Default, PartialEq, Eq)]
 pub struct SlabTests {
     faces: [Deciding; 6],
+    /// The offset of the last box, from which those of the slabs at a face lie about as far as from
+    /// that of the next box.
+    middle: i64,
 }
 
 impl SlabTests {
-    /// Takes an offset that is asked first at each face: one that lies in the clock spans of enough
-    /// rows over a box mostly does over its slabs.
-    pub(crate) fn ask_first(&mut self, offset: i64) {
+    /// Takes an offset that lies in the clock spans of enough rows over a box, about in their middle.
+    /// What is asked first of the slabs moves along with it.
+    pub(crate) fn ask_about(&mut self, offset: i64) {
+        let moved = offset.wrapping_sub(self.middle);
         for face in &mut self.faces {
-            face.common = offset;
+            face.common = face.common.wrapping_add(moved);
         }
+        self.middle = offset;
     }
 
     /// Whether the rows show a slab at this face empty, as `Deciding::shown_empty` does.

@@ -89,8 +89,8 @@ impl Separation {
         self.shows_none(rows, part, q, 0, 0)
     }
 
-    /// Whether they show that no offset lies in the clock spans of all but at most `q` rows, of those above one that
-    /// `below` spans lie up to, and up to one that `above` spans lie above.
+    /// Whether they show that no offset lies in the clock spans of all but at most `q` rows, of the
+    /// offsets above one that `below` spans lie up to, and up to one that `above` spans lie above.
     pub(crate) fn shows_none(
         &self,
         rows: &[Row],

@@ -54,8 +54,8 @@ pub enum BoxState {
 }
 
 /// What the rows show of a box where up to `q` of them may be inconsistent: `clock_hull` and
-/// `shown_inner` at once, from one pair of ranges a row. The tests of the box's slabs get an offset to
-/// ask first.
+/// `shown_inner` at once, from one pair of ranges a row. The tests of the box's slabs get the
+/// middle of the hull's widest part to ask about.
 pub fn box_state(rows: &[Row], part: &Box3, q: u8, tests: &mut SlabTests) -> BoxState
     requires { (q < length rows.now) × (length rows.now ≤ 64) }
     ensures { IsBoxState rows.now (grid_box part.now) q result }
@@ -74,7 +74,7 @@ pub fn box_state(rows: &[Row], part: &Box3, q: u8, tests: &mut SlabTests) -> Box
     let Some(hull) = hull else {
         return BoxState::Empty;
     };
-    tests.ask_first(middle);
+    tests.ask_about(middle);
     match least_number(&inner, rows.len() - usize::from(q)) {
         Some(clock) => BoxState::Inner { clock, hull },
         None => BoxState::Undecided { hull },

@@ -1,4 +1,4 @@
-use Rattle.std.proofs.Common.{◌≡◌, ◌++◌, length, map}
+use Rattle.std.proofs.Common.{◌≡◌, ◌++◌, map}
 use Rattle.sat_model.specs.Boxes.{grid_box}
 use Rattle.sat_model.specs.Fold.{pieces, pieces_from}
 use Rattle.live_boxes.specs.Folding.{StepsFold}
@@ -8,12 +8,9 @@ use Rattle.paving_log.specs.CoverBoxes.{kept_parts}
 use Rattle.paving_log.proofs.cover.boxes_kept.Given as goal
 
 -- the boxes kept so far, and those that the steps left keep from this stage on, are all
-abbrev pub invariant-steps : goal.invariant-steps
-invariant-steps l = record {
-  folds : StepsFold (stage_of l.live) (steps_left l.ahead);
-  kept : map grid_box l.boxes.items ++ kept_parts (pieces_from (stage_of l.live) (steps_left l.ahead))
+abbrev pub invariant-loop-step : goal.invariant-loop-step
+invariant-loop-step l = record {
+  folds : StepsFold (stage_of l.live) (steps_left l.step-iterator);
+  kept : map grid_box l.boxes.items ++ kept_parts (pieces_from (stage_of l.live) (steps_left l.step-iterator))
       ≡ kept_parts (pieces (grid_box l.fn.root) (steps_of l.fn.steps));
 }
-
-abbrev pub decreases-steps : goal.decreases-steps
-decreases-steps l = length (steps_left l.ahead)

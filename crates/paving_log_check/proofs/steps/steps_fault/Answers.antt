@@ -6,25 +6,25 @@ use Rattle.paving_log_check.proofs.steps.steps_fault.Goals as goal
 
 pub returns-in-Some-step_fault-clause-found : goal.returns-in-Some-step_fault-clause-found
 returns-in-Some-step_fault-clause-found c =
-    fails_here c.args.rows.now c.args.rules.now c.args.done (stage_of c.steps.live) _ (steps_of c.args.steps.now) (steps_left c.steps.ahead) _ c.in-Some.step
-    c.steps.offset c.in-Some-step_fault.number c.steps.invariant.fail c.in-Some.ensures c.in-Some-step_fault.ensures
+    fails_here c.args.rows.now c.args.rules.now c.args.done (stage_of c.loop-step.live) _ (steps_of c.args.steps.now) (steps_left c.loop-step.step-iterator) _ c.in-Some.step
+    c.loop-step.offset c.in-Some-step_fault.number c.loop-step.invariant.fail c.in-Some.ensures.steps c.in-Some-step_fault.ensures
 
-pub steps-preserved : goal.steps-preserved
-steps-preserved c = record {
-  pass = passes_more c.args.rows.now c.args.rules.now c.args.done (stage_of c.steps.live) _ _ (steps_of c.args.steps.now) (steps_left c.steps.ahead) _ c.in-Some.step
-      c.steps.invariant.pass c.in-Some.ensures c.in_default-step_fault.ensures c.in_ok-take.ensures.ok;
-  fail = fails_more c.args.rows.now c.args.rules.now c.args.done (stage_of c.steps.live) _ _ (steps_of c.args.steps.now) (steps_left c.steps.ahead) _ c.in-Some.step
-      c.steps.offset c.steps.invariant.fail c.in-Some.ensures c.in_default-step_fault.ensures c.in_ok-take.ensures.ok;
-  counted = omega (arith, c.steps.invariant.counted, ap length c.in-Some.ensures);
+pub loop-step-preserved : goal.loop-step-preserved
+loop-step-preserved c = record {
+  pass = passes_more c.args.rows.now c.args.rules.now c.args.done (stage_of c.loop-step.live) _ _ (steps_of c.args.steps.now) (steps_left c.loop-step.step-iterator) _ c.in-Some.step
+      c.loop-step.invariant.pass c.in-Some.ensures.steps c.in_default.ensures c.in_ok-take.ensures.ok;
+  fail = fails_more c.args.rows.now c.args.rules.now c.args.done (stage_of c.loop-step.live) _ _ (steps_of c.args.steps.now) (steps_left c.loop-step.step-iterator) _ c.in-Some.step
+      c.loop-step.offset c.loop-step.invariant.fail c.in-Some.ensures.steps c.in_default.ensures c.in_ok-take.ensures.ok;
+  counted = omega (arith, c.loop-step.invariant.counted, ap length c.in-Some.ensures.steps);
 }
 
 pub returns-then-not-is_none_live-clause-found : goal.returns-then-not-is_none_live-clause-found
 returns-then-not-is_none_live-clause-found c =
-    fails_end c.args.rows.now c.args.rules.now c.args.done (stage_of c.steps.live) _ (steps_of c.args.steps.now) (steps_left c.steps.ahead) c.steps.offset 63
-    c.steps.invariant.fail c.in_default.ensures (inl (c.is_none_live.ensures.no c.if-not-is_none_live.true, refl))
+    fails_end c.args.rows.now c.args.rules.now c.args.done (stage_of c.loop-step.live) _ (steps_of c.args.steps.now) (steps_left c.loop-step.step-iterator) c.loop-step.offset 63
+    c.loop-step.invariant.fail c.in-None.ensures.steps.0 (inl (c.is_none_live.ensures.no c.if-not-is_none_live.true, refl))
 
 pub returns-then-splits-done-clause-found : goal.returns-then-splits-done-clause-found
 returns-then-splits-done-clause-found c =
-    fails_end c.args.rows.now c.args.rules.now c.args.done (stage_of c.steps.live) _ (steps_of c.args.steps.now) (steps_left c.steps.ahead) c.steps.offset 64
-    c.steps.invariant.fail c.in_default.ensures
+    fails_end c.args.rows.now c.args.rules.now c.args.done (stage_of c.loop-step.live) _ (steps_of c.args.steps.now) (steps_left c.loop-step.step-iterator) c.loop-step.offset 64
+    c.loop-step.invariant.fail c.in-None.ensures.steps.0
     (inr (c.is_none_live.ensures.yes c.if-not-is_none_live.false, omega (arith, c.splits.ensures), refl))

@@ -6,12 +6,9 @@ use Rattle.logged_steps.specs.Steps.{steps_of, steps_left}
 use Rattle.paving_log_check.proofs.StepLemmas.{PassesOn, FailsOn}
 use Rattle.paving_log_check.proofs.steps.steps_fault.Given as goal
 
-abbrev pub invariant-steps : goal.invariant-steps
-invariant-steps l = record {
-  pass : PassesOn l.rows l.rules l.done (stage_of l.live) (first_stage (grid_box l.root)) (steps_of l.fn.steps) (steps_left l.ahead);
-  fail : FailsOn l.rows l.rules l.done (stage_of l.live) (first_stage (grid_box l.root)) (steps_of l.fn.steps) (steps_left l.ahead) l.offset;
-  counted : l.offset + length (steps_left l.ahead) ≡ length (steps_of l.fn.steps);
+abbrev pub invariant-loop-step : goal.invariant-loop-step
+invariant-loop-step l = record {
+  pass : PassesOn l.rows l.rules l.done (stage_of l.live) (first_stage (grid_box l.root)) (steps_of l.fn.steps) (steps_left l.step-iterator);
+  fail : FailsOn l.rows l.rules l.done (stage_of l.live) (first_stage (grid_box l.root)) (steps_of l.fn.steps) (steps_left l.step-iterator) l.offset;
+  counted : l.offset + length (steps_left l.step-iterator) ≡ length (steps_of l.fn.steps);
 }
-
-abbrev pub decreases-steps : goal.decreases-steps
-decreases-steps l = length (steps_left l.ahead)
