@@ -69,6 +69,15 @@ impl LoggedSteps {
         }
     }
 
+    /// Gives back the memory in which more steps would stand.
+    pub fn shrink_to_fit(&mut self)
+        ensures { steps_of self.new ≡ steps_of self.old }
+    {
+        self.heads.shrink_to_fit();
+        self.ids.shrink_to_fit();
+        self.numbers.shrink_to_fit();
+    }
+
     /// Puts a step behind the others. Where memory runs out they are as they were.
     pub fn push(&mut self, step: Step) -> Result<(), AllocError>
         ensures ok { OnOk result (steps_of self.new ≡ steps_of self.old ++ step ∷ []) }

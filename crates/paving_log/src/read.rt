@@ -179,8 +179,10 @@ fn paved_block(
     ensures fits { IfOk result (λ t. BlockFits form (block_of t.0)) }
     ensures refused { IfErr result (Refuses (place.Satellites form 0) lines.entry) }
 {
-    let (sats, corners, left) = satellites(alloc, form, lines)?;
-    let (steps, done, left) = closing(alloc, form, left)?;
+    let (mut sats, corners, left) = satellites(alloc, form, lines)?;
+    let (mut steps, done, left) = closing(alloc, form, left)?;
+    sats.shrink_to_fit();
+    steps.shrink_to_fit();
     let epoch = LogEpoch {
         line: opening.line,
         index: opening.header.index,

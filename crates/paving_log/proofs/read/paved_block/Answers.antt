@@ -23,7 +23,8 @@ root_box-requires c = (sat_parts c.args.form 0 c.in_ok-sats.sats.items (line.Roo
 
 pub returns-clause-taken : goal.returns-clause-taken
 returns-clause-taken c =
-    paved_taken c.args.form c.args.lines c.in_ok-sats.left c.in_ok-steps.left c.in_ok-sats.sats.items c.in_ok-sats.corners _ (steps_of c.in_ok-steps.steps) c.in_ok-steps.done c.root_box.ensures c.in_ok-sats.ensures.taken c.in_ok-steps.ensures.taken
+    rw (c.shrink_to_fit.ensures.items, c.shrink_to_fit-2.ensures)
+    (paved_taken c.args.form c.args.lines c.in_ok-sats.left c.in_ok-steps.left c.in_ok-sats.sats.items c.in_ok-sats.corners _ (steps_of c.in_ok-steps.steps) c.in_ok-steps.done c.root_box.ensures c.in_ok-sats.ensures.taken c.in_ok-steps.ensures.taken)
 
 pub returns-clause-fits : goal.returns-clause-fits
 returns-clause-fits c =
@@ -33,7 +34,7 @@ returns-clause-fits c =
     let sats = sat_parts c.args.form 0 c.in_ok-sats.sats.items (line.Root c.in_ok-sats.corners ∷ []) (place_behind_root c.args.form) (omega arith) c.in_ok-sats.ensures.taken.leads in
     record {
       header = record { index = c.requires.header.index; ps = subst IsTime (sym same) time; n = c.requires.header.n };
-      sats = sats.fit;
-      at_most = c.in_ok-sats.ensures.at_most;
-      body = (refl, subst CornersFit (sym c.root_box.ensures) sats.rest.0, c.in_ok-steps.ensures.fits);
+      sats = rw c.shrink_to_fit.ensures.items sats.fit;
+      at_most = rw c.shrink_to_fit.ensures.items c.in_ok-sats.ensures.at_most;
+      body = (refl, subst CornersFit (sym c.root_box.ensures) sats.rest.0, rw c.shrink_to_fit-2.ensures c.in_ok-steps.ensures.fits);
     }
