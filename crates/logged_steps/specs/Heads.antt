@@ -1,6 +1,6 @@
 -- Steps in columns: heads, each with what a step is and of which box, and beside them the numbers of boxes and the
 -- numbers in um that the heads leave open.
-use Rattle.std.specs.Prelude.{ℕ, ◌+◌, ◌%◌, ◌^◌, ℤ, List, [], ◌∷◌}
+use Rattle.std.specs.Prelude.{ℕ, ◌+◌, ◌%◌, ◌^◌, ℤ, if◌then◌else◌, nat_eq, List, [], ◌∷◌}
 use Rattle.sat_model.specs.declared.steps.Step.{Step}
 use Rattle.sat_model.specs.declared.steps.Step.TheVariants as step
 use Rattle.logged_steps.specs.declared.head.BoxOf.{BoxOf}
@@ -10,6 +10,11 @@ use Rattle.logged_steps.specs.declared.head.Kind.TheVariants as kind
 use Rattle.logged_steps.specs.declared.head.Head.{Head}
 
 -- ---- the box of a step behind one of the box `last`
+
+-- how it is told: as the same box, as the next one, or by its number
+abbrev pub box_of : (last id : ℕ) → BoxOf
+box_of last id =
+    if nat_eq id last then Same else (if nat_eq id ((last + 1) % 2 ^ 32) then Next else Other)
 
 abbrev pub box_by : BoxOf → (last : ℕ) → (ids : List ℕ) → ℕ
 box_by Same last ids = last

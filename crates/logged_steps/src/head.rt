@@ -2,7 +2,7 @@
 
 ghost use Rattle.std.specs.Prelude.{◌≡◌};
 ghost use Rattle.logged_steps.specs.Boxes.{box_in};
-ghost use Rattle.logged_steps.specs.Heads.{box_by, ids_of, kind_of};
+ghost use Rattle.logged_steps.specs.Heads.{box_by, box_of, ids_of, kind_of};
 
 use sat_model::Step;
 
@@ -52,7 +52,8 @@ pub fn box_in(step: &Step) -> u32
 
 /// How this box is told behind a step of the box `last`.
 pub fn box_of(last: u32, id: u32) -> BoxOf
-    ensures { box_by result last (ids_of result id) ≡ id }
+    ensures told { result ≡ box_of last id }
+    ensures exact { box_by result last (ids_of result id) ≡ id }
 {
     if id == last {
         BoxOf::Same

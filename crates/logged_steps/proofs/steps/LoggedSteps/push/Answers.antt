@@ -16,7 +16,7 @@ invariant_of-self-2 c =
       numbers_are = rw (c.in_default-push.ensures.items, c.in_ok-push_numbers.ensures.ok, length-append)
           (omega (arith, numbers_with s.heads.items head, ap numbers_for c.kind_of-kind.ensures, as_many_numbers c.args.step, s.numbers_are));
       last_is = rw (c.in_default-push.ensures.items, c.in_default.ensures.ok, box_with 0 s.heads.items head s.ids.items (ids_of of id) s.ids_are, sym s.last_is)
-          (sym c.box_of-of.ensures);
+          (sym c.box_of-of.ensures.exact);
     }
 
 pub returns-clause-ok : goal.returns-clause-ok
@@ -31,7 +31,7 @@ returns-clause-ok c =
       c.in_ok-push_numbers.ensures.ok,
       steps_with 0 s.heads.items head s.ids.items ids s.numbers.items (numbers_of c.args.step) s.ids_are s.numbers_are,
       sym s.last_is,
-      c.box_of-of.ensures,
+      c.box_of-of.ensures.exact,
       c.kind_of-kind.ensures,
       c.box_in-id.ensures,
       whole c.args.step,
