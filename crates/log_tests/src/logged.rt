@@ -47,7 +47,7 @@ fn steps_come_out_as_they_were_put_in(rt: HostRuntime) -> Result<(), Fail> {
     for steps in cases {
         let logged = LoggedSteps::from_slice(rt.alloc(), steps)?;
         assert_eq!(rt; logged.len(), steps.len());
-        let taken = logged.ahead().collect(rt.alloc())?;
+        let taken: Vec<Step> = logged.ahead().collect(rt.alloc())?;
         assert_eq!(rt; taken.as_slice(), steps);
     }
     Ok(())

@@ -1,5 +1,9 @@
-use crate::small_rows::{cuboid, metre_row, only};
-use relaxed_meet::{Deciding, clock_hull, clock_span, inner_span, near_far, relaxed, shown_inner};
+ghost use Rattle.sat_model.specs.Sizes.{IsErrorSize};
+
+use crate::small_rows::{FAR, cuboid, metre_row, only, row};
+use relaxed_meet::{
+    Deciding, bounds_offsets, clock_hull, clock_span, inner_span, near_far, relaxed, shown_inner,
+};
 use sat_model::{Box3, Pos, Row, Sat, Span};
 use std::test::Fail;
 
@@ -117,5 +121,53 @@ fn inner_spans_go_by_what_is_surely_allowed(rt: HostRuntime) -> Result<(), Fail>
     assert_eq!(rt; clock_span(&none_is_sure, &origin), metre);
     assert_eq!(rt; inner_span(&none_is_sure, &origin), None);
     assert_eq!(rt; shown_inner(&[none_is_sure], &origin, 0), None);
+    Ok(())
+}
+
+/// The row of a satellite on the x axis whose error lies between these, at its range from the origin.
+fn with_error(lo: i64, hi: i64) -> Row
+    requires { IsErrorSize lo × IsErrorSize hi }
+{
+    let place = Pos { x: FAR, y: 0, z: 0 };
+    row(1, place, FAR, Span { lo, hi })
+}
+
+#[test]
+fn hulls_are_bounded_where_spans_part(rt: HostRuntime) -> Result<(), Fail> {
+    let origin = Box3 {
+        lo: Pos { x: 0, y: 0, z: 0 },
+        hi: Pos { x: 0, y: 0, z: 0 },
+    };
+    // Offsets from 0 to 10, 5 to 15, 12 to 20 and 14 to 30, and their mirror images.
+    let rows = [
+        with_error(-10, 0),
+        with_error(-15, -5),
+        with_error(-20, -12),
+        with_error(-30, -14),
+    ];
+    let mirrored = [
+        with_error(0, 10),
+        with_error(5, 15),
+        with_error(12, 20),
+        with_error(14, 30),
+    ];
+    // Three hold 14 to 15, two 5 to 20; all hold none, so that nothing lies beyond any bounds.
+    let cases: [(u8, i64, i64, bool); 8] = [
+        (1, 14, 15, true),
+        (1, 15, 15, false),
+        (1, 14, 14, false),
+        (2, 5, 20, true),
+        (2, 6, 20, false),
+        (2, 5, 19, false),
+        (3, 0, 30, true),
+        (0, 100, -100, true),
+    ];
+    for (q, lo, hi, bounded) in cases {
+        assert_eq!(rt; bounds_offsets(&rows, &origin, q % 4, lo, hi), bounded);
+        assert_eq!(rt;
+            bounds_offsets(&mirrored, &origin, q % 4, -hi, -lo),
+            bounded
+        );
+    }
     Ok(())
 }
