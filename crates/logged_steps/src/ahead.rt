@@ -29,13 +29,17 @@ impl<'a> Iterator for StepsAhead<'a> {
     ghost remaining = { item_count steps_left };
 
     fn next(&mut self) -> Option<Step> {
-        let (head, heads) = self.heads.split_first()?;
-        let (id, ids) = first_box(head.of, self.last, self.ids);
-        let (step, numbers) = first_step(head.kind, id, self.numbers);
-        self.last = id;
-        self.heads = heads;
-        self.ids = ids;
-        self.numbers = numbers;
-        Some(step)
+        'heads: loop {
+            let (head, heads) = self.heads.split_first()?;
+            let (id, ids) = first_box(*head, self.last, self.ids);
+            let (step, numbers) = first_step(*head, id, self.numbers);
+            self.last = id;
+            self.heads = heads;
+            self.ids = ids;
+            self.numbers = numbers;
+            if step.is_some() {
+                return step;
+            }
+        }
     }
 }

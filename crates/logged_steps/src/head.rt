@@ -1,8 +1,8 @@
-//! A step without its numbers.
+//! Steps without their numbers.
 
 ghost use Rattle.std.specs.Prelude.{◌≡◌};
 ghost use Rattle.logged_steps.specs.Boxes.{box_in};
-ghost use Rattle.logged_steps.specs.Heads.{box_by, box_of, ids_of, kind_of};
+ghost use Rattle.logged_steps.specs.Heads.{box_behind, box_of, head_of, heads_of, ids_of};
 
 use sat_model::Step;
 
@@ -13,13 +13,16 @@ pub enum BoxOf {
     Same,
     /// The one numbered next behind that.
     Next,
-    /// Another, whose number stands beside.
     Other,
 }
 
-/// What a step does with its box.
+/// A step without its numbers, or which box the steps from there on speak of: two bytes.
 #[derive(Clone, Copy, Debug)]
-pub enum Kind {
+pub enum Head {
+    /// The one numbered next.
+    Next,
+    /// The one whose number stands beside.
+    Other,
     /// Its bound stands beside.
     Cut { face: u8 },
     Split { axis: u8 },
@@ -28,13 +31,6 @@ pub enum Kind {
     Inside,
     /// Its two offsets stand beside.
     Edge,
-}
-
-/// A step without its numbers: three bytes.
-#[derive(Clone, Copy, Debug)]
-pub struct Head {
-    pub of: BoxOf,
-    pub kind: Kind,
 }
 
 /// The number of the box that a step speaks of.
@@ -50,10 +46,10 @@ pub fn box_in(step: &Step) -> u32
     }
 }
 
-/// How this box is told behind a step of the box `last`.
+/// How this box is told where it was the box `last` before.
 pub fn box_of(last: u32, id: u32) -> BoxOf
     ensures told { result ≡ box_of last id }
-    ensures exact { box_by result last (ids_of result id) ≡ id }
+    ensures exact { box_behind last (heads_of result) (ids_of result id) ≡ id }
 {
     if id == last {
         BoxOf::Same
@@ -64,15 +60,15 @@ pub fn box_of(last: u32, id: u32) -> BoxOf
     }
 }
 
-/// What a step does with its box.
-pub fn kind_of(step: &Step) -> Kind
-    ensures { result ≡ kind_of step.now }
+/// The step without its numbers.
+pub fn head_of(step: &Step) -> Head
+    ensures { result ≡ head_of step.now }
 {
     match step {
-        Step::Cut { face, .. } => Kind::Cut { face: *face },
-        Step::Split { axis, .. } => Kind::Split { axis: *axis },
-        Step::Outside { .. } => Kind::Outside,
-        Step::Inside { .. } => Kind::Inside,
-        Step::Edge { .. } => Kind::Edge,
+        Step::Cut { face, .. } => Head::Cut { face: *face },
+        Step::Split { axis, .. } => Head::Split { axis: *axis },
+        Step::Outside { .. } => Head::Outside,
+        Step::Inside { .. } => Head::Inside,
+        Step::Edge { .. } => Head::Edge,
     }
 }

@@ -1,16 +1,16 @@
 //! The steps, and one more behind them.
 
 ghost use Rattle.std.specs.Prelude.{◌≡◌, ◌<◌, ◌^◌, [], ◌∷◌, ◌++◌, length, IfOk, OnOk, OnErr};
-ghost use Rattle.logged_steps.specs.Heads.{ids_in, numbers_in, box_behind};
+ghost use Rattle.logged_steps.specs.Heads.{ids_in, numbers_in, box_behind, steps_in};
 
 use crate::ahead::StepsAhead;
-use crate::columns::{push_box, push_numbers};
-use crate::head::{Head, box_in, box_of, kind_of};
+use crate::columns::{push_box, push_heads, push_numbers};
+use crate::head::{Head, box_in, box_of, head_of};
 use sat_model::Step;
 use std::alloc::{AllocError, Global};
 
-/// Steps in their order. A step takes three bytes, eight for each of its numbers in um, and four for
-/// that of its box where this is neither the box of the step before nor the next one.
+/// Steps in their order. A step takes two bytes, eight for each of its numbers in um, two where its
+/// box isn't that of the step before, and four where it isn't the next one either.
 #[derive(Debug, Drop)]
 pub struct LoggedSteps {
     heads: Vec<Head>,
@@ -18,9 +18,11 @@ pub struct LoggedSteps {
     numbers: Vec<i64>,
     /// The box of the last step.
     last: u32,
+    count: usize,
     ghost ids_are: { ids_in heads.items ≡ length ids.items },
     ghost numbers_are: { numbers_in heads.items ≡ length numbers.items },
     ghost last_is: { last ≡ box_behind 0 heads.items ids.items },
+    ghost count_is: { count ≡ length (steps_in 0 heads.items ids.items numbers.items) },
 }
 
 impl LoggedSteps {
@@ -35,6 +37,7 @@ impl LoggedSteps {
             ids: Vec::new(alloc),
             numbers: Vec::new(alloc),
             last: 0,
+            count: 0,
         }
     }
 
@@ -53,7 +56,7 @@ impl LoggedSteps {
     pub fn len(&self) -> usize
         ensures { result ≡ length (steps_of self.now) }
     {
-        self.heads.len()
+        self.count
     }
 
     /// The steps from the first one on.
@@ -85,19 +88,19 @@ impl LoggedSteps {
     {
         let id = box_in(&step);
         let of = box_of(self.last, id);
-        let kind = kind_of(&step);
         let (ids, numbers) = (self.ids.len(), self.numbers.len());
         push_numbers(&mut self.numbers, &step)?;
         if let Err(error) = push_box(&mut self.ids, of, id) {
             self.numbers.truncate(numbers);
             return Err(error);
         }
-        if let Err(error) = self.heads.push(Head { of, kind }) {
+        if let Err(error) = push_heads(&mut self.heads, of, head_of(&step)) {
             self.ids.truncate(ids);
             self.numbers.truncate(numbers);
-            return Err(error.into());
+            return Err(error);
         }
         self.last = id;
+        self.count += 1;
         Ok(())
     }
 }
