@@ -1,3 +1,4 @@
+ghost use Rattle.std.specs.Prelude.{◌≤ℤ◌};
 ghost use Rattle.sat_model.specs.Sizes.{IsErrorSize};
 
 use crate::small_rows::{FAR, cuboid, metre_row, only, row};
@@ -126,7 +127,8 @@ fn inner_spans_go_by_what_is_surely_allowed(rt: HostRuntime) -> Result<(), Fail>
 
 /// The row of a satellite on the x axis whose error lies between these, at its range from the origin.
 fn with_error(lo: i64, hi: i64) -> Row
-    requires { IsErrorSize lo × IsErrorSize hi }
+    requires ordered { lo ≤ℤ hi }
+    requires sizes { IsErrorSize lo × IsErrorSize hi }
 {
     let place = Pos { x: FAR, y: 0, z: 0 };
     row(1, place, FAR, Span { lo, hi })
