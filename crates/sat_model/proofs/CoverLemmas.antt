@@ -3,18 +3,21 @@
 use Rattle.std.proofs.Common.{◌≡◌, ◌⊎◌, ℕ, ◌<◌, arith, List, [], ◌∷◌, ◌++◌, true, Option, None, Some, inl, inr, refl, ◌∙◌}
 use Rattle.std.specs.Prelude.{ℤ}
 use Rattle.std.proofs.lemmas.Bool.{cases_Bool}
-use Rattle.sat_model.specs.declared.boxes.Pos.{Pos}
+use Rattle.grid_model.specs.declared.boxes.Pos.{Pos}
 use Rattle.sat_model.specs.declared.rules.Rules.{Rules}
-use Rattle.sat_model.specs.declared.satellites.Row.{Row}
+use Rattle.sat_model.specs.declared.rows.Row.{Row}
 use Rattle.sat_model.specs.declared.steps.Step.{Step}
 use Rattle.sat_model.specs.declared.steps.Step.TheVariants.{Cut, Split, Outside, Inside, Edge}
-use Rattle.sat_model.specs.Boxes.{GridBox, box_holds}
+use Rattle.grid_model.specs.Boxes.{GridBox, box_holds}
+use Rattle.sat_model.specs.BoxTests.{test_of}
 use Rattle.sat_model.specs.Cover.{KeepsClock, SomeKeeps, Covers, AreSureInside, EpochCover, BlockCover, BlocksCover, RowCover}
 use Rattle.sat_model.specs.Fitting.{IsPossible, AllBut}
 use Rattle.sat_model.specs.Fold.{Stage, first_stage, slab_of_cut, after, ShownStep, taken_by, pieces_from, pieces}
 use Rattle.sat_model.specs.Logs.{Block, LogValue, rows_of}
 use Rattle.sat_model.specs.Verdicts.{StepPasses, StepsPass, BodyPasses, BlocksPass, Judged}
-use Rattle.sat_model.proofs.FittingLemmas.{in_box, relaxed_of_possible, sure_of_inner}
+use Rattle.grid_model.proofs.PointLemmas.{in_box}
+use Rattle.sat_model.proofs.BoxTestLemmas.{nothing_fits}
+use Rattle.sat_model.proofs.FittingLemmas.{relaxed_of_possible, sure_of_inner}
 use Rattle.sat_model.proofs.FoldLemmas.{weight, held_by, one_held, conserved, nothing_live, root_weight, partitions}
 
 -- ---- what may fit
@@ -43,10 +46,10 @@ keeps_or_misses : (rows : List Row) (rules : Rules) (stage : Stage) (step : Step
     → StepPasses rows rules stage step → AllBut rules.outliers (IsPossible p b) rows → KeepsOrMisses p b (taken_by stage step)
 keeps_or_misses rows rules stage (Cut id face bound) p b (part, is, (proper, empty)) all = rw is
     (missed p b (Cut id face bound) (slab_of_cut face bound part)
-    (λ e. empty b (relaxed_of_possible rules.outliers (slab_of_cut face bound part) p b rows (in_box (slab_of_cut face bound part) p e) all)))
+    (λ e. nothing_fits (test_of rules rows) (slab_of_cut face bound part) empty p b e all))
 keeps_or_misses rows rules stage (Split id axis) p b h all = inr refl
 keeps_or_misses rows rules stage (Outside id) p b (part, is, empty) all = rw is
-    (missed p b (Outside id) part (λ e. empty b (relaxed_of_possible rules.outliers part p b rows (in_box part p e) all)))
+    (missed p b (Outside id) part (λ e. nothing_fits (test_of rules rows) part empty p b e all))
 keeps_or_misses rows rules stage (Inside id clock lo hi) p b (part, is, inner, hull) all = rw is
     (closed p b (Inside id clock lo hi) part (λ e. hull b (relaxed_of_possible rules.outliers part p b rows (in_box part p e) all)))
 keeps_or_misses rows rules stage (Edge id lo hi) p b (part, is, hull) all = rw is

@@ -3,15 +3,15 @@ use Rattle.std.proofs.Common.{◌≡◌, ◌⊎◌, ℕ, zero, suc, arith, List,
 use Rattle.std.specs.Prelude.{ℤ}
 use Rattle.std.proofs.lemmas.Bool.{cases_lt}
 use Rattle.sat_model.specs.declared.rules.Rules.{Rules}
-use Rattle.sat_model.specs.declared.satellites.Row.{Row}
-use Rattle.sat_model.specs.declared.satellites.SatEntry.{SatEntry}
+use Rattle.sat_model.specs.declared.rows.Row.{Row}
+use Rattle.sat_model.specs.declared.rows.SatEntry.{SatEntry}
 use Rattle.sat_model.specs.declared.steps.Step.{Step}
 use Rattle.sat_model.specs.declared.steps.Step.TheVariants.{Cut, Split, Outside, Inside, Edge}
-use Rattle.sat_model.specs.Boxes.{GridBox}
-use Rattle.sat_model.specs.ClockSpans.{IsShownEmpty, IsShownInner}
+use Rattle.grid_model.specs.Boxes.{GridBox}
+use Rattle.sat_model.specs.BoxTests.{test_of, IsEmpty, IsInner, HoldsHull}
 use Rattle.sat_model.specs.Fold.{Stage, first_stage, IsLive, after}
 use Rattle.sat_model.specs.Logs.{Block, LogValue, rows_of}
-use Rattle.sat_model.specs.Verdicts.{IsLong, HoldsHull, CutsEmptySlab, LiveFails, NotLive, StepFails, StepsFail, HeadFails, IsFirstRepeat, BlockFails, BlocksFail, FirstFault}
+use Rattle.sat_model.specs.Verdicts.{IsLong, CutsEmptySlab, LiveFails, NotLive, StepFails, StepsFail, HeadFails, IsFirstRepeat, BlockFails, BlocksFail, FirstFault}
 use Rattle.sat_model.proofs.VerdictLemmas.{not_gone, not_failing, step_not_both, head_not_both, block_not_both}
 
 -- ---- a step
@@ -49,20 +49,20 @@ later_split rules stage id axis n rows (inr (inr (part, is, long, full, e))) = i
 
 one_number : (rows : List Row) (rules : Rules) (stage : Stage) (step : Step) (n m : ℕ)
     → StepFails rows rules stage step n → StepFails rows rules stage step m → n ≡ m
-one_number rows rules stage (Cut id face bound) n m f g = one_of_two stage id 57 n m (CutsEmptySlab rows rules.outliers face bound) f g
+one_number rows rules stage (Cut id face bound) n m f g = one_of_two stage id 57 n m (CutsEmptySlab (test_of rules rows) face bound) f g
 one_number rows rules stage (Split id axis) n m f g = one_of_three stage id 61 62 n m (IsLong rules axis) (later_split rules stage id axis n rows f) (later_split rules stage id axis m rows g)
-one_number rows rules stage (Outside id) n m f g = one_of_two stage id 58 n m (λ part. IsShownEmpty rows part rules.outliers) f g
+one_number rows rules stage (Outside id) n m f g = one_of_two stage id 58 n m (λ part. IsEmpty (test_of rules rows) part) f g
 one_number rows rules stage (Inside id clock lo hi) n m f g =
-    one_of_three stage id 59 60 n m (λ part. IsShownInner rows part rules.outliers clock)
+    one_of_three stage id 59 60 n m (λ part. IsInner (test_of rules rows) part clock)
     (later_inside rows rules stage id n clock lo hi f) (later_inside rows rules stage id m clock lo hi g)
   where
     later_inside : (rows : List Row) (rules : Rules) (stage : Stage) (id n : ℕ) (clock lo hi : ℤ) → StepFails rows rules stage (Inside id clock lo hi) n
         → NotLive stage id n
-        ⊎ (LiveFails stage id (λ part. IsShownInner rows part rules.outliers clock) 59 n ⊎ LaterFails stage id (λ part. IsShownInner rows part rules.outliers clock) 60 n)
+        ⊎ (LiveFails stage id (λ part. IsInner (test_of rules rows) part clock) 59 n ⊎ LaterFails stage id (λ part. IsInner (test_of rules rows) part clock) 60 n)
     later_inside rows rules stage id n clock lo hi (inl gone) = inl gone
     later_inside rows rules stage id n clock lo hi (inr (inl out)) = inr (inl out)
     later_inside rows rules stage id n clock lo hi (inr (inr (part, is, inner, narrow, e))) = inr (inr (part, is, inner, e))
-one_number rows rules stage (Edge id lo hi) n m f g = one_of_two stage id 60 n m (λ part. HoldsHull rows rules.outliers part lo hi) f g
+one_number rows rules stage (Edge id lo hi) n m f g = one_of_two stage id 60 n m (λ part. HoldsHull (test_of rules rows) part lo hi) f g
 
 -- the same line, the same number
 abbrev IsOne : ℕ → ℕ → ℕ → ℕ → Type 0

@@ -1,44 +1,20 @@
 -- A row that may fit at a point of a box has the offset in its clock span over the box; a row with
 -- the offset in its inner span surely fits at each point of the box.
-use Rattle.std.proofs.Common.{◌≡◌, ℕ, zero, suc, ◌+◌, ◌-◌, ◌≤◌, arith, List, [], ◌∷◌, length, count_by, Bool, true, false, cond, ◌&&◌, inl, inr, refl, ◌∙◌}
+use Rattle.std.proofs.Common.{◌≡◌, ℕ, zero, suc, ◌+◌, ◌-◌, ◌≤◌, arith, List, [], ◌∷◌, length, count_by, Bool, true, false, cond, inl, inr, refl, ◌∙◌}
 use Rattle.std.specs.Prelude.{ℤ, ◌≤ℤ◌}
 use Rattle.std.proofs.lemmas.Int.{ints}
 use Rattle.std.proofs.lemmas.Bool.{cases_Bool}
 use Rattle.std.proofs.lemmas.List.Sums.{sum_by-cons}
-use lib.Signed.{le_z}
-use Rattle.sat_model.specs.declared.boxes.Pos.{Pos}
-use Rattle.sat_model.specs.declared.satellites.Row.{Row}
-use Rattle.sat_model.specs.Boxes.{GridBox, Side, side_holds, box_holds}
+use Rattle.grid_model.specs.declared.boxes.Pos.{Pos}
+use Rattle.sat_model.specs.declared.rows.Row.{Row}
+use Rattle.grid_model.specs.Boxes.{GridBox}
 use Rattle.sat_model.specs.ClockSpans.{near_square, far_square, near_of, far_of, clock_ends, clock_spans, inner_ends, inner_spans, IsShownInner}
-use Rattle.sat_model.specs.Fitting.{range_to, RowValue, IsPossible, IsSure, AllBut}
+use Rattle.grid_model.specs.Ranges.{range_to}
+use Rattle.sat_model.specs.Fitting.{RowValue, IsPossible, IsSure, AllBut}
 use Rattle.sat_model.specs.Relaxed.{holds, LiesInRelaxed}
-use Rattle.sat_model.proofs.RootLemmas.{root_is}
-use Rattle.sat_model.proofs.AmountLemmas.{least_amount_le, greatest_amount_ge}
-use Rattle.sat_model.proofs.ClockLemmas.{root_mono, sum_mono}
-
-pub record IsInBox (part : GridBox) (p : Pos) : Type 0 where
-  pub x : (part.x.lo ≤ℤ p.x) × (p.x ≤ℤ part.x.hi)
-  pub y : (part.y.lo ≤ℤ p.y) × (p.y ≤ℤ part.y.hi)
-  pub z : (part.z.lo ≤ℤ p.z) × (p.z ≤ℤ part.z.hi)
-
-pub both : (a b : Bool) → (a && b) ≡ true → (a ≡ true) × (b ≡ true)
-both true b e = (refl, e)
-both false b e = absurd cc
-
-pub le_from : (a b : ℤ) → le_z a b ≡ true → a ≤ℤ b
-le_from a b h = omega (arith, ints)
-
-pub le_to : (a b : ℤ) → a ≤ℤ b → le_z a b ≡ true
-le_to a b h = grind (arith, ints)
-
-pub side_in : (s : Side) (n : ℤ) → side_holds s n ≡ true → (s.lo ≤ℤ n) × (n ≤ℤ s.hi)
-side_in s n h = let (l, u) = both _ _ h in (le_from s.lo n l, le_from n s.hi u)
-
-pub in_box : (part : GridBox) (p : Pos) → box_holds part p ≡ true → IsInBox part p
-in_box part p h =
-    let (hx, hyz) = both _ _ h in
-    let (hy, hz) = both _ _ hyz in
-    record { x = side_in part.x p.x hx; y = side_in part.y p.y hy; z = side_in part.z p.z hz }
+use Rattle.grid_model.proofs.RootLemmas.{root_is, root_mono, sum_mono}
+use Rattle.grid_model.proofs.AmountLemmas.{least_amount_le, greatest_amount_ge}
+use Rattle.grid_model.proofs.PointLemmas.{IsInBox, both, le_from, le_to}
 
 -- ---- one row
 

@@ -4,16 +4,16 @@ use Rattle.std.specs.Prelude.{ℤ, pos, ◌≤ℤ◌, ◌<ℤ◌, ◌-ℤ◌, �
 use Rattle.std.proofs.lemmas.Int.{ints}
 use Rattle.std.proofs.lemmas.List.Sums.{sum_by-cons, sum_by-append, sum_by-set}
 use lib.Signed.{le_z}
-use Rattle.sat_model.specs.declared.boxes.Pos.{Pos}
+use Rattle.grid_model.specs.declared.boxes.Pos.{Pos}
 use Rattle.sat_model.specs.declared.rules.Rules.{Rules}
-use Rattle.sat_model.specs.declared.satellites.Row.{Row}
+use Rattle.sat_model.specs.declared.rows.Row.{Row}
 use Rattle.sat_model.specs.declared.steps.Step.{Step}
 use Rattle.sat_model.specs.declared.steps.Step.TheVariants.{Cut, Split, Outside, Inside, Edge}
-use Rattle.sat_model.specs.Boxes.{GridBox, Side, side_holds, box_holds, middle, low_half, high_half, side_at, with_side}
+use Rattle.grid_model.specs.Boxes.{GridBox, Side, side_holds, box_holds, middle, low_half, high_half, side_at, with_side}
 use Rattle.sat_model.specs.Cover.{Partitions}
 use Rattle.sat_model.specs.Fold.{Stage, first_stage, axis_of, is_low, side_left, side_cut, IsProperBound, left_by_cut, slab_of_cut, halves, after, ShownStep, shown, taken_by, pieces_from, pieces}
 use Rattle.sat_model.specs.Verdicts.{StepPasses, StepsPass}
-use Rattle.sat_model.proofs.AmountLemmas.{above_is}
+use Rattle.grid_model.proofs.AmountLemmas.{above_is}
 
 abbrev pub bit : Bool → ℕ
 bit b = cond b 1 0

@@ -1,12 +1,4 @@
-pub mod RootLemmas
-pub mod AmountLemmas
 pub mod ClockLemmas
-pub mod LengthLemmas
-pub mod ProductLemmas
-pub mod IntervalLemmas
-pub mod RoundingLemmas
-pub mod SpreadLemmas
-pub mod SquareLemmas
 pub mod FittingLemmas
 pub mod FoldLemmas
 pub mod CoverLemmas
@@ -14,4 +6,9 @@ pub mod VerdictLemmas
 pub mod RelaxedExists
 pub mod KeptLemmas
 pub mod FaultLemmas
-pub mod EndsLemmas
+pub mod PairAxisLemmas
+pub mod CauchyLemmas
+pub mod PairBoundLemmas
+pub mod PairFormLemmas
+pub mod PairLemmas
+pub mod BoxTestLemmas

@@ -6,7 +6,7 @@ use Rattle.std.proofs.lemmas.Bool.{cases_Bool, leb-true}
 use Rattle.std.proofs.lemmas.List.Sums.{sum_by-cons}
 use lib.Signed.{le_z}
 use Rattle.sat_model.specs.Relaxed.{holds, LiesInRelaxed, IsRelaxedEmpty, IsRelaxedHull}
-use Rattle.sat_model.specs.Sizes.{IsWithin}
+use Rattle.grid_model.specs.Sizes.{IsWithin}
 
 -- ---- a test of whole numbers that fails outside a stretch
 

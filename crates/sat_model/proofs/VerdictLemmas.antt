@@ -1,14 +1,14 @@
 -- A log whose lines pass has no first fault, and a first fault is the only one.
 use Rattle.std.proofs.Common.{◌≡◌, ℕ, zero, suc, arith, List, [], ◌∷◌, subst, inl, inr, refl, Option, None, Some}
 use Rattle.sat_model.specs.declared.rules.Rules.{Rules}
-use Rattle.sat_model.specs.declared.satellites.Row.{Row}
+use Rattle.sat_model.specs.declared.rows.Row.{Row}
 use Rattle.sat_model.specs.declared.steps.Step.{Step}
 use Rattle.sat_model.specs.declared.steps.Step.TheVariants.{Cut, Split, Outside, Inside, Edge}
-use Rattle.sat_model.specs.Boxes.{GridBox}
-use Rattle.sat_model.specs.ClockSpans.{IsShownEmpty, IsShownInner}
+use Rattle.grid_model.specs.Boxes.{GridBox}
+use Rattle.sat_model.specs.BoxTests.{test_of, IsEmpty, IsInner, HoldsHull}
 use Rattle.sat_model.specs.Fold.{Stage, first_stage, live_box, IsLive, after}
 use Rattle.sat_model.specs.Logs.{Block, LogValue, rows_of}
-use Rattle.sat_model.specs.Verdicts.{IsLong, HoldsHull, CutsEmptySlab, StepPasses, LiveFails, NotLive, StepFails, StepsPass, StepsFail, HeadPasses, HeadFails, BlockPasses, BlockFails, BlocksPass, BlocksFail, Judged, FirstFault}
+use Rattle.sat_model.specs.Verdicts.{IsLong, CutsEmptySlab, StepPasses, LiveFails, NotLive, StepFails, StepsPass, StepsFail, HeadPasses, HeadFails, BlockPasses, BlockFails, BlocksPass, BlocksFail, Judged, FirstFault}
 
 -- ---- a step
 
@@ -27,7 +27,7 @@ pub step_not_both : (rows : List Row) (rules : Rules) (stage : Stage) (step : St
     → StepPasses rows rules stage step → StepFails rows rules stage step number → ⊥
 step_not_both rows rules stage (Cut id face bound) number (part, is, cuts) f = elim f [
   | inl gone ↦ not_gone stage id number part is gone
-  | inr fails ↦ not_failing stage id 57 number (CutsEmptySlab rows rules.outliers face bound) part is cuts fails
+  | inr fails ↦ not_failing stage id 57 number (CutsEmptySlab (test_of rules rows) face bound) part is cuts fails
 ]
 step_not_both rows rules stage (Split id axis) number (part, is, long, left) f = elim f [
   | inl gone ↦ not_gone stage id number part is gone
@@ -38,19 +38,19 @@ step_not_both rows rules stage (Split id axis) number (part, is, long, left) f =
 ]
 step_not_both rows rules stage (Outside id) number (part, is, empty) f = elim f [
   | inl gone ↦ not_gone stage id number part is gone
-  | inr fails ↦ not_failing stage id 58 number (λ c. IsShownEmpty rows c rules.outliers) part is empty fails
+  | inr fails ↦ not_failing stage id 58 number (λ c. IsEmpty (test_of rules rows) c) part is empty fails
 ]
 step_not_both rows rules stage (Inside id clock lo hi) number (part, is, inner, hull) f = elim f [
   | inl gone ↦ not_gone stage id number part is gone
   | inr g ↦ elim g [
-    | inl fails ↦ not_failing stage id 59 number (λ c. IsShownInner rows c rules.outliers clock) part is inner fails
+    | inl fails ↦ not_failing stage id 59 number (λ c. IsInner (test_of rules rows) c clock) part is inner fails
     | inr (other, live, shown, narrow, n) ↦
-        not_failing stage id 60 60 (λ c. HoldsHull rows rules.outliers c lo hi) part is hull (other, live, narrow, refl)
+        not_failing stage id 60 60 (λ c. HoldsHull (test_of rules rows) c lo hi) part is hull (other, live, narrow, refl)
   ]
 ]
 step_not_both rows rules stage (Edge id lo hi) number (part, is, hull) f = elim f [
   | inl gone ↦ not_gone stage id number part is gone
-  | inr fails ↦ not_failing stage id 60 number (λ c. HoldsHull rows rules.outliers c lo hi) part is hull fails
+  | inr fails ↦ not_failing stage id 60 number (λ c. HoldsHull (test_of rules rows) c lo hi) part is hull fails
 ]
 
 steps_not_both : (rows : List Row) (rules : Rules) (done : ℕ) (stage : Stage) (steps : List Step) (k number : ℕ)

@@ -1,9 +1,9 @@
 -- The clock span of a row over a box.
 use Rattle.std.specs.Prelude.{ℕ, ◌+◌, ◌-◌, ℤ, pos, ◌-ℤ◌, ◌≤ℤ◌, List, map, length}
-use Rattle.sat_model.specs.declared.satellites.Row.{Row}
-use Rattle.sat_model.specs.Boxes.{GridBox}
-use Rattle.sat_model.specs.Amounts.{least_amount, greatest_amount, square}
-use Rattle.sat_model.specs.Roots.{root}
+use Rattle.sat_model.specs.declared.rows.Row.{Row}
+use Rattle.grid_model.specs.Boxes.{GridBox}
+use Rattle.grid_model.specs.Amounts.{least_amount, greatest_amount, square}
+use Rattle.grid_model.specs.Roots.{root}
 use Rattle.sat_model.specs.Relaxed.{LiesInRelaxed, IsRelaxedEmpty, IsRelaxedHull}
 
 -- the squares of the least and of the greatest amounts over the axes, added

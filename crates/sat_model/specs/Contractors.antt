@@ -2,10 +2,9 @@
 -- 2009): what an answer keeps, and contractors made of others.
 use Rattle.std.specs.Prelude.{◌≡◌, ℕ, zero, suc, ℤ, ◌≤ℤ◌, List, [], ◌∷◌, Option, None, Some, true}
 use Rattle.std.specs.Int.{int_min, int_max}
-use Rattle.sat_model.specs.declared.boxes.Pos.{Pos}
-use Rattle.sat_model.specs.Boxes.{Side, GridBox, box_holds, side_at}
+use Rattle.grid_model.specs.declared.boxes.Pos.{Pos}
+use Rattle.grid_model.specs.Boxes.{Side, GridBox, box_holds, side_at, IsIn}
 use Rattle.sat_model.specs.Relaxed.{IsRelaxedEmpty, IsRelaxedHull}
-use Rattle.sat_model.specs.Trees.{IsIn}
 
 -- which answers may be given for a box: a box, or none
 abbrev pub Contractor : Type 1

@@ -1,11 +1,11 @@
 -- What a log claims of its epochs: its pieces partition the root, and its in and edge boxes cover
 -- what fits.
 use Rattle.std.specs.Prelude.{◌≡◌, ℕ, ◌+◌, ◌⊎◌, ℤ, ◌≤ℤ◌, Bool, true, cond, List, [], ◌∷◌, Option, None, Some, count_by}
-use Rattle.sat_model.specs.declared.boxes.Pos.{Pos}
-use Rattle.sat_model.specs.declared.satellites.Row.{Row}
+use Rattle.grid_model.specs.declared.boxes.Pos.{Pos}
+use Rattle.sat_model.specs.declared.rows.Row.{Row}
 use Rattle.sat_model.specs.declared.steps.Step.{Step}
 use Rattle.sat_model.specs.declared.steps.Step.TheVariants.{Cut, Split, Outside, Inside, Edge}
-use Rattle.sat_model.specs.Boxes.{GridBox, box_holds}
+use Rattle.grid_model.specs.Boxes.{GridBox, box_holds}
 use Rattle.sat_model.specs.Fitting.{IsPossible, IsSure, AllBut}
 use Rattle.sat_model.specs.Fold.{ShownStep, pieces}
 use Rattle.sat_model.specs.Logs.{Block, LogValue, rows_of}

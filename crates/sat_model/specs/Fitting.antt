@@ -1,14 +1,9 @@
 -- Where a row may fit, where it surely fits, and where all but at most q rows do.
-use Rattle.std.specs.Prelude.{ℕ, zero, suc, ◌+◌, ◌⊎◌, ℤ, pos, ◌-ℤ◌, ◌≤ℤ◌, List, [], ◌∷◌, unsigned_abs}
-use Rattle.sat_model.specs.declared.satellites.Row.{Row}
-use Rattle.sat_model.specs.declared.boxes.Pos.{Pos}
-use Rattle.sat_model.specs.Amounts.{square}
-use Rattle.sat_model.specs.Boxes.{Side}
-use Rattle.sat_model.specs.Roots.{root}
-
--- the range: the whole-number root of the squared distance
-unfoldable pub range_to : ℤ → ℤ → ℤ → Pos → ℕ
-range_to x y z p = root (square (unsigned_abs (x -ℤ p.x)) + square (unsigned_abs (y -ℤ p.y)) + square (unsigned_abs (z -ℤ p.z)))
+use Rattle.std.specs.Prelude.{ℕ, zero, suc, ◌⊎◌, ℤ, pos, ◌-ℤ◌, ◌≤ℤ◌, List, [], ◌∷◌}
+use Rattle.sat_model.specs.declared.rows.Row.{Row}
+use Rattle.grid_model.specs.declared.boxes.Pos.{Pos}
+use Rattle.grid_model.specs.Boxes.{Side}
+use Rattle.grid_model.specs.Ranges.{range_to}
 
 -- a satellite's place and corrected pseudorange within the spans of a row
 pub record RowValue (row : Row) : Type 0 where

@@ -2,7 +2,7 @@
 use Rattle.std.specs.Prelude.{◌≡◌, ℕ, ◌+◌, ◌/◌, ◌%◌, ℤ, pos, ◌+ℤ◌, ◌-ℤ◌, ◌≤ℤ◌, ◌<ℤ◌, Bool, true, false, nat_eq, List, [], ◌∷◌, ◌++◌, Option, None, Some, slice_index_or, slice_set}
 use Rattle.sat_model.specs.declared.steps.Step.{Step}
 use Rattle.sat_model.specs.declared.steps.Step.TheVariants.{Cut, Split, Outside, Inside, Edge}
-use Rattle.sat_model.specs.Boxes.{GridBox, Side, side_at, with_side, low_half, high_half}
+use Rattle.grid_model.specs.Boxes.{GridBox, Side, side_at, with_side, low_half, high_half}
 
 -- the box of each number that was given, where it is live, and how many splits were made
 pub record Stage : Type 0 where

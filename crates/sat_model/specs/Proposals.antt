@@ -1,7 +1,7 @@
 -- A proposal: an answer that a tree of contractors may give for a box and a clock span. It keeps
 -- what the tree allows, and the kind of each tree ties it from the other side.
 use Rattle.std.specs.Prelude.{◌≡◌, ℕ, ◌-◌, ◌⊎◌, ℤ, List, [], ◌∷◌, Option, None, Some, Bool}
-use Rattle.sat_model.specs.Boxes.{Side, GridBox}
+use Rattle.grid_model.specs.Boxes.{Side, GridBox}
 use Rattle.sat_model.specs.Contractors.{Contractor, KeepsAllowed, IsMeet, IsRelaxedBox, Then, Repeats}
 use Rattle.sat_model.specs.TightFaces.{IsTightAnswer, face_at, IsFaceOf}
 use Rattle.sat_model.specs.Trees.{TreeValue, Sat, All, Relaxed, Again, Within, TreeList, no_trees, tree, Allows, count_trees}

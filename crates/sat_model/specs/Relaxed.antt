@@ -1,7 +1,7 @@
 -- The q-relaxed intersection of spans (Drevelle and Bonnifait, 2011): the numbers that lie in
 -- enough of them. A span is a pair of ends; one whose first end is greater holds no number.
 use Rattle.std.specs.Prelude.{ℕ, ◌≤◌, ℤ, ◌≤ℤ◌, Bool, ◌&&◌, List, count_by}
-use Rattle.sat_model.specs.declared.spans.Span.{Span}
+use Rattle.grid_model.specs.declared.spans.Span.{Span}
 use lib.Signed.{le_z}
 
 abbrev pub ends : Span → ℤ × ℤ

@@ -1,11 +1,11 @@
 -- The tree of an epoch's rows: two rounds of the q-relaxed intersection (Drevelle and Bonnifait,
 -- 2011) of what each row leaves.
 use Rattle.std.specs.Prelude.{ℕ, ℤ, List, map}
-use Rattle.sat_model.specs.declared.satellites.Row.{Row}
-use Rattle.sat_model.specs.declared.spans.Span.{Span}
-use Rattle.sat_model.specs.Boxes.{Side}
-use Rattle.sat_model.specs.Rounding.{grain_floor, grain_ceil}
-use Rattle.sat_model.specs.Trees.{LeafValue, TreeValue, Sat, Relaxed, Again, trees_of, span_side}
+use Rattle.sat_model.specs.declared.rows.Row.{Row}
+use Rattle.grid_model.specs.declared.spans.Span.{Span}
+use Rattle.grid_model.specs.Boxes.{Side, span_side}
+use Rattle.grid_model.specs.Rounding.{grain_floor, grain_ceil}
+use Rattle.sat_model.specs.Trees.{LeafValue, TreeValue, Sat, Relaxed, Again, trees_of}
 
 -- the least side between multiples of the grain that holds the span
 abbrev pub rounded_side : ℤ → Span → Side

@@ -1,11 +1,11 @@
 -- How far one satellite has to contract a box: the box's layer at each face of the answer is tight,
 -- that is, some range to it is one that the satellite allows, but for a slack.
 use Rattle.std.specs.Prelude.{◌≡◌, ℕ, ◌+◌, ◌⊎◌, ℤ, pos, ◌+ℤ◌, ◌-ℤ◌, None, Some, Bool, true, false}
-use Rattle.sat_model.specs.Boxes.{Side, GridBox, side_at, with_side}
-use Rattle.sat_model.specs.Amounts.{least_amount, greatest_amount, square}
-use Rattle.sat_model.specs.Intervals.{Between}
-use Rattle.sat_model.specs.Roots.{root}
-use Rattle.sat_model.specs.Rounding.{IsMultipleOf}
+use Rattle.grid_model.specs.Boxes.{Side, GridBox, side_at, with_side}
+use Rattle.grid_model.specs.Amounts.{least_amount, greatest_amount, square}
+use Rattle.grid_model.specs.Intervals.{Between}
+use Rattle.grid_model.specs.Roots.{root}
+use Rattle.grid_model.specs.Rounding.{IsMultipleOf}
 use Rattle.sat_model.specs.Contractors.{Contractor}
 use Rattle.sat_model.specs.Trees.{LeafValue}
 

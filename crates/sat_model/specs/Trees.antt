@@ -1,11 +1,10 @@
 -- Trees of contractors (Chabert and Jaulin, 'Contractor programming', 2009) over satellites, as
 -- plain values: which points of space, with which clock offsets, a tree allows.
-use Rattle.std.specs.Prelude.{◌≡◌, ℕ, zero, suc, ◌+◌, ◌<◌, ◌≤◌, ◌⊎◌, ℤ, pos, ◌-ℤ◌, ◌≤ℤ◌, List, [], ◌∷◌, true, max}
-use Rattle.sat_model.specs.declared.boxes.Pos.{Pos}
-use Rattle.sat_model.specs.declared.spans.Span.{Span}
-use Rattle.sat_model.specs.Boxes.{Side, GridBox, box_holds}
-use Rattle.sat_model.specs.Fitting.{range_to}
-use Rattle.sat_model.specs.Sizes.{IsWithin, IsPlaceSize, IsErrorSize}
+use Rattle.std.specs.Prelude.{◌≡◌, ℕ, zero, suc, ◌+◌, ◌<◌, ◌≤◌, ◌⊎◌, ℤ, pos, ◌-ℤ◌, List, [], ◌∷◌, true, max}
+use Rattle.grid_model.specs.declared.boxes.Pos.{Pos}
+use Rattle.grid_model.specs.Boxes.{Side, GridBox, IsIn, box_holds}
+use Rattle.grid_model.specs.Ranges.{range_to}
+use Rattle.grid_model.specs.Sizes.{IsWithin, IsPlaceSize, IsErrorSize}
 
 -- what one satellite says: spans of its place, of its corrected pseudorange and of the error, in um
 pub record LeafValue : Type 0 where
@@ -37,14 +36,7 @@ abbrev pub count_trees : TreeList → ℕ
 count_trees no_trees = zero
 count_trees (tree t more) = suc (count_trees more)
 
-abbrev pub span_side : Span → Side
-span_side s = record { lo = s.lo; hi = s.hi }
-
 -- ---- what a tree allows
-
--- n is one of the numbers of the side
-abbrev pub IsIn : Side → ℤ → Type 0
-IsIn s n = (s.lo ≤ℤ n) × (n ≤ℤ s.hi)
 
 -- some place and some pseudorange of the spans leave an allowed error at point p and offset b
 pub record LeafAllows (leaf : LeafValue) (p : Pos) (b : ℤ) : Type 0 where

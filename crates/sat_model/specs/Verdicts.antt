@@ -1,15 +1,14 @@
 -- The tests that a log passes with its rows taken as given, and the first that fails.
-use Rattle.std.specs.Prelude.{◌≡◌, ◌≢◌, ℕ, zero, suc, ◌+◌, ◌-◌, ◌<◌, ◌≤◌, ◌⊎◌, ℤ, ◌-ℤ◌, ◌≤ℤ◌, ◌<ℤ◌, Bool, true, false, List, [], ◌∷◌, length, map, Option, None, Some, slice_get}
+use Rattle.std.specs.Prelude.{◌≡◌, ◌≢◌, ℕ, zero, suc, ◌+◌, ◌<◌, ◌≤◌, ◌⊎◌, ℤ, ◌-ℤ◌, ◌<ℤ◌, Bool, true, false, List, [], ◌∷◌, length, map, Option, None, Some, slice_get}
 use Rattle.sat_model.specs.declared.rules.Rules.{Rules}
-use Rattle.sat_model.specs.declared.satellites.Row.{Row}
-use Rattle.sat_model.specs.declared.satellites.SatEntry.{SatEntry}
+use Rattle.sat_model.specs.declared.rows.Row.{Row}
+use Rattle.sat_model.specs.declared.rows.SatEntry.{SatEntry}
 use Rattle.sat_model.specs.declared.steps.Step.{Step}
 use Rattle.sat_model.specs.declared.steps.Step.TheVariants.{Cut, Split, Outside, Inside, Edge}
-use Rattle.sat_model.specs.Boxes.{GridBox, side_at}
-use Rattle.sat_model.specs.ClockSpans.{clock_spans, IsShownEmpty, IsShownInner}
+use Rattle.grid_model.specs.Boxes.{GridBox, side_at}
+use Rattle.sat_model.specs.BoxTests.{BoxTest, test_of, IsEmpty, IsInner, HoldsHull}
 use Rattle.sat_model.specs.Fold.{Stage, first_stage, live_box, IsLive, NoneLive, IsProperCut, slab_of_cut, after}
 use Rattle.sat_model.specs.Logs.{Block, LogValue, sat_of, rows_of}
-use Rattle.sat_model.specs.Relaxed.{LiesInRelaxed}
 
 -- ---- the lines of steps
 
@@ -17,22 +16,18 @@ use Rattle.sat_model.specs.Relaxed.{LiesInRelaxed}
 abbrev pub IsLong : Rules → ℕ → GridBox → Type 0
 IsLong rules axis part = rules.width <ℤ ((side_at axis part).hi -ℤ (side_at axis part).lo)
 
--- each number of the relaxed intersection of the box's clock spans lies from lo to hi
-abbrev pub HoldsHull : List Row → ℕ → GridBox → ℤ → ℤ → Type 0
-HoldsHull rows q part lo hi = (b : ℤ) → LiesInRelaxed (clock_spans part rows) (length rows - q) b → (lo ≤ℤ b) × (b ≤ℤ hi)
-
 -- the cut takes off a slab that is shown empty
-abbrev pub CutsEmptySlab : List Row → ℕ → ℕ → ℤ → GridBox → Type 0
-CutsEmptySlab rows q face bound part = IsProperCut face bound part × IsShownEmpty rows (slab_of_cut face bound part) q
+abbrev pub CutsEmptySlab : BoxTest → ℕ → ℤ → GridBox → Type 0
+CutsEmptySlab test face bound part = IsProperCut face bound part × IsEmpty test (slab_of_cut face bound part)
 
 -- no test of the step fails, at this stage
 abbrev pub StepPasses : List Row → Rules → Stage → Step → Type 0
-StepPasses rows rules stage (Cut id face bound) = (part : GridBox) × IsLive stage id part × CutsEmptySlab rows rules.outliers face bound part
+StepPasses rows rules stage (Cut id face bound) = (part : GridBox) × IsLive stage id part × CutsEmptySlab (test_of rules rows) face bound part
 StepPasses rows rules stage (Split id axis) = (part : GridBox) × IsLive stage id part × IsLong rules axis part × (stage.splits < rules.bisections)
-StepPasses rows rules stage (Outside id) = (part : GridBox) × IsLive stage id part × IsShownEmpty rows part rules.outliers
+StepPasses rows rules stage (Outside id) = (part : GridBox) × IsLive stage id part × IsEmpty (test_of rules rows) part
 StepPasses rows rules stage (Inside id clock lo hi) =
-    (part : GridBox) × IsLive stage id part × IsShownInner rows part rules.outliers clock × HoldsHull rows rules.outliers part lo hi
-StepPasses rows rules stage (Edge id lo hi) = (part : GridBox) × IsLive stage id part × HoldsHull rows rules.outliers part lo hi
+    (part : GridBox) × IsLive stage id part × IsInner (test_of rules rows) part clock × HoldsHull (test_of rules rows) part lo hi
+StepPasses rows rules stage (Edge id lo hi) = (part : GridBox) × IsLive stage id part × HoldsHull (test_of rules rows) part lo hi
 
 -- a live box fails the fact, under a test of this number
 abbrev pub LiveFails : Stage → ℕ → (GridBox → Type 0) → ℕ → ℕ → Type 0
@@ -44,20 +39,20 @@ NotLive stage id number = (live_box stage id ≡ None) × (number ≡ 56)
 -- the least number of a test of the step that fails
 abbrev pub StepFails : List Row → Rules → Stage → Step → ℕ → Type 0
 StepFails rows rules stage (Cut id face bound) number =
-    NotLive stage id number ⊎ LiveFails stage id (CutsEmptySlab rows rules.outliers face bound) 57 number
+    NotLive stage id number ⊎ LiveFails stage id (CutsEmptySlab (test_of rules rows) face bound) 57 number
 StepFails rows rules stage (Split id axis) number =
     NotLive stage id number
     ⊎ (LiveFails stage id (IsLong rules axis) 61 number
     ⊎ ((part : GridBox) × IsLive stage id part × IsLong rules axis part × (rules.bisections ≤ stage.splits) × (number ≡ 62)))
 StepFails rows rules stage (Outside id) number =
-    NotLive stage id number ⊎ LiveFails stage id (λ part. IsShownEmpty rows part rules.outliers) 58 number
+    NotLive stage id number ⊎ LiveFails stage id (λ part. IsEmpty (test_of rules rows) part) 58 number
 StepFails rows rules stage (Inside id clock lo hi) number =
     NotLive stage id number
-    ⊎ (LiveFails stage id (λ part. IsShownInner rows part rules.outliers clock) 59 number
-    ⊎ ((part : GridBox) × IsLive stage id part × IsShownInner rows part rules.outliers clock
-    × (HoldsHull rows rules.outliers part lo hi → ⊥) × (number ≡ 60)))
+    ⊎ (LiveFails stage id (λ part. IsInner (test_of rules rows) part clock) 59 number
+    ⊎ ((part : GridBox) × IsLive stage id part × IsInner (test_of rules rows) part clock
+    × (HoldsHull (test_of rules rows) part lo hi → ⊥) × (number ≡ 60)))
 StepFails rows rules stage (Edge id lo hi) number =
-    NotLive stage id number ⊎ LiveFails stage id (λ part. HoldsHull rows rules.outliers part lo hi) 60 number
+    NotLive stage id number ⊎ LiveFails stage id (λ part. HoldsHull (test_of rules rows) part lo hi) 60 number
 
 -- the steps from this stage on and the line of the splits behind them fail no test
 abbrev pub StepsPass : List Row → Rules → ℕ → Stage → List Step → Type 0

@@ -1,13 +1,13 @@
 -- Boxes that wait in a paving: which of them comes next, what closes it, and what its steps open.
 use Rattle.std.specs.Prelude.{◌≡◌, ℕ, ◌+◌, ◌*◌, ◌<◌, ◌≤◌, ◌⊎◌, pos, ◌<ℤ◌, ◌≤ℤ◌, List, [], ◌∷◌, ◌++◌, map, All}
 use Rattle.sat_model.specs.declared.rules.Rules.{Rules}
-use Rattle.sat_model.specs.declared.satellites.Row.{Row}
+use Rattle.sat_model.specs.declared.rows.Row.{Row}
 use Rattle.sat_model.specs.declared.steps.Step.{Step}
 use Rattle.sat_model.specs.declared.steps.Step.TheVariants.{Cut, Split, Outside, Inside, Edge}
-use Rattle.sat_model.specs.Boxes.{GridBox, side_at, with_side, low_half, high_half}
-use Rattle.sat_model.specs.ClockSpans.{IsShownEmpty, NoneIsShownInner, IsLeastShownInner, IsClockHull}
+use Rattle.grid_model.specs.Boxes.{GridBox, side_at, with_side, low_half, high_half}
+use Rattle.sat_model.specs.BoxTests.{test_of, IsEmpty, NoneIsInner, IsLeastInner, IsHull}
 use Rattle.sat_model.specs.Fold.{ShownStep}
-use Rattle.sat_model.specs.Lengths.{longest_length, IsLongestAxis, bit_length}
+use Rattle.grid_model.specs.Lengths.{longest_length, IsLongestAxis, bit_length}
 
 -- ---- the boxes that wait
 
@@ -42,8 +42,8 @@ pub record IsNext (waiting : List WaitingBox) (next : WaitingBox) (rest : List W
 
 -- the box is neither shown empty nor shown inner
 pub record IsUndecided (rows : List Row) (rules : Rules) (part : GridBox) : Type 0 where
-  pub not_empty : IsShownEmpty rows part rules.outliers → ⊥
-  pub not_inner : NoneIsShownInner rows part rules.outliers
+  pub not_empty : IsEmpty (test_of rules rows) part → ⊥
+  pub not_inner : NoneIsInner (test_of rules rows) part
 
 -- the box may be split: it is longer than the width, and splits are left
 abbrev pub MaySplit : Rules → ℕ → GridBox → Type 0
@@ -54,13 +54,13 @@ MayNotSplit rules splits part = (pos (longest_length part) ≤ℤ rules.width) �
 
 -- the step that splits or closes a box, after so many splits
 abbrev pub Closes : List Row → Rules → ℕ → ℕ → GridBox → Step → Type 0
-Closes rows rules splits id part (Outside n) = (n ≡ id) × IsShownEmpty rows part rules.outliers
+Closes rows rules splits id part (Outside n) = (n ≡ id) × IsEmpty (test_of rules rows) part
 Closes rows rules splits id part (Inside n clock lo hi) =
-    (n ≡ id) × IsLeastShownInner rows part rules.outliers clock × IsClockHull rows part rules.outliers lo hi
+    (n ≡ id) × IsLeastInner (test_of rules rows) part clock × IsHull (test_of rules rows) part lo hi
 Closes rows rules splits id part (Split n axis) =
     (n ≡ id) × IsUndecided rows rules part × MaySplit rules splits part × IsLongestAxis part axis
 Closes rows rules splits id part (Edge n lo hi) =
-    (n ≡ id) × IsUndecided rows rules part × MayNotSplit rules splits part × IsClockHull rows part rules.outliers lo hi
+    (n ≡ id) × IsUndecided rows rules part × MayNotSplit rules splits part × IsHull (test_of rules rows) part lo hi
 Closes rows rules splits id part (Cut n face bound) = ⊥
 
 -- ---- from box to box

@@ -1,32 +1,21 @@
-//! The data of gpscover (grid points, boxes, spans, satellite rows, rules, steps) and, in
-//! `specs/`, the definitions that the contracts of all crates cite.
+//! What a log speaks of (satellite rows, rules, steps), and, in `specs/`, what a log means: which
+//! points fit, what the rows show of a box, when a log passes, and what it then covers.
 //!
-//! Lengths and clock offsets are whole numbers of micrometres (um), times are picoseconds (ps).
+//! It stands on `grid_model` (boxes, spans and whole numbers) and `gnss_model` (satellites and their
+//! equations), and gives their types on. Lengths and clock offsets are whole numbers of micrometres
+//! (um), times are picoseconds (ps).
 #![tactic(auto)]
 
-mod boxes;
-mod earth_model;
-mod elements;
-mod memory;
-mod record_bounds;
-mod roots;
+mod rows;
 mod rules;
-mod satellites;
-mod spans;
-mod spares;
 mod steps;
 
-pub use boxes::{Box3, Pos};
-pub use earth_model::EARTH_RATE;
-pub use elements::Elements;
-pub use memory::NoMemory;
-pub use record_bounds::{
-    AGEING_BOUND, ANGLE_BOUND, ANGLE_SWING_BOUND, DELAY_BOUND, DRIFT_BOUND, ECCENTRICITY_BOUND,
-    GREATEST_ROOT_A, LEAST_ROOT_A, OFFSET_BOUND, RADIUS_SWING_BOUND, RATE_BOUND, WEEK,
+pub use gnss_model::{
+    AGEING_BOUND, ANGLE_BOUND, ANGLE_SWING_BOUND, DELAY_BOUND, DRIFT_BOUND, EARTH_RATE,
+    ECCENTRICITY_BOUND, Elements, GREATEST_ROOT_A, LEAST_ROOT_A, OFFSET_BOUND, RADIUS_SWING_BOUND,
+    RATE_BOUND, Sat, Signal, Skip, System, WEEK, err_spare, spare,
 };
-pub use roots::{root_u64, root_u128};
+pub use grid_model::{Box3, NoMemory, Pos, Span, Wide, root_u64, root_u128};
+pub use rows::{Row, SatEntry};
 pub use rules::Rules;
-pub use satellites::{Row, Sat, SatEntry, Signal, Skip};
-pub use spans::{Span, Wide};
-pub use spares::{err_spare, spare};
 pub use steps::Step;

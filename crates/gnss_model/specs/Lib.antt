@@ -1,0 +1,12 @@
+pub mod Zenith
+pub mod Kepler
+pub mod RecordBounds
+pub mod EarthModel
+pub mod Systems
+pub mod MeanMotion
+pub mod ClockChain
+pub mod OrbitChain
+pub mod Pseudorange
+pub mod Turn
+pub mod Mapping
+pub mod ChainValues

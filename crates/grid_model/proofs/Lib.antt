@@ -1,0 +1,10 @@
+pub mod RootLemmas
+pub mod AmountLemmas
+pub mod PointLemmas
+pub mod LengthLemmas
+pub mod ProductLemmas
+pub mod IntervalLemmas
+pub mod RoundingLemmas
+pub mod SpreadLemmas
+pub mod SquareLemmas
+pub mod EndsLemmas

@@ -1,0 +1,31 @@
+-- A point that a box holds lies between the ends of each side.
+use Rattle.std.proofs.Common.{◌≡◌, arith, Bool, true, false, ◌&&◌, refl}
+use Rattle.std.specs.Prelude.{ℤ, ◌≤ℤ◌}
+use Rattle.std.proofs.lemmas.Int.{ints}
+use lib.Signed.{le_z}
+use Rattle.grid_model.specs.declared.boxes.Pos.{Pos}
+use Rattle.grid_model.specs.Boxes.{GridBox, Side, side_holds, box_holds}
+
+pub record IsInBox (part : GridBox) (p : Pos) : Type 0 where
+  pub x : (part.x.lo ≤ℤ p.x) × (p.x ≤ℤ part.x.hi)
+  pub y : (part.y.lo ≤ℤ p.y) × (p.y ≤ℤ part.y.hi)
+  pub z : (part.z.lo ≤ℤ p.z) × (p.z ≤ℤ part.z.hi)
+
+pub both : (a b : Bool) → (a && b) ≡ true → (a ≡ true) × (b ≡ true)
+both true b e = (refl, e)
+both false b e = absurd cc
+
+pub le_from : (a b : ℤ) → le_z a b ≡ true → a ≤ℤ b
+le_from a b h = omega (arith, ints)
+
+pub le_to : (a b : ℤ) → a ≤ℤ b → le_z a b ≡ true
+le_to a b h = grind (arith, ints)
+
+pub side_in : (s : Side) (n : ℤ) → side_holds s n ≡ true → (s.lo ≤ℤ n) × (n ≤ℤ s.hi)
+side_in s n h = let (l, u) = both _ _ h in (le_from s.lo n l, le_from n s.hi u)
+
+pub in_box : (part : GridBox) (p : Pos) → box_holds part p ≡ true → IsInBox part p
+in_box part p h =
+    let (hx, hyz) = both _ _ h in
+    let (hy, hz) = both _ _ hyz in
+    record { x = side_in part.x p.x hx; y = side_in part.y p.y hy; z = side_in part.z p.z hz }

@@ -1,0 +1,14 @@
+pub mod Sizes
+pub mod Roots
+pub mod Amounts
+pub mod Boxes
+pub mod Ranges
+pub mod Lengths
+pub mod Intervals
+pub mod Rounding
+pub mod Products
+pub mod Squares
+pub mod SearchBoxes
+pub mod Angles
+pub mod Taylor
+pub mod Sines

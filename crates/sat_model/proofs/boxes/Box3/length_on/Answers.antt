@@ -1,9 +1,0 @@
-use Rattle.std.proofs.Common.{arith}
-use Rattle.std.proofs.lemmas.Int.{ints}
-use Rattle.sat_model.specs.Boxes.{grid_box, side_at}
-use Rattle.sat_model.proofs.AmountLemmas.{above_is}
-use Rattle.sat_model.proofs.boxes.Box3.length_on.Goals as goal
-
-pub returns-clause-value : goal.returns-clause-value
-returns-clause-value c =
-    omega (arith, ints, above_is (side_at c.args.axis (grid_box c.args.self.now)).hi (side_at c.args.axis (grid_box c.args.self.now)).lo)

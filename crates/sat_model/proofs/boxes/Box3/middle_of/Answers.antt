@@ -1,7 +1,0 @@
-use Rattle.std.proofs.Common.{arith}
-use Rattle.std.proofs.lemmas.Int.{ints}
-use Rattle.sat_model.proofs.AmountLemmas.{above_is}
-use Rattle.sat_model.proofs.boxes.Box3.middle_of.Goals as goal
-
-pub returns-clause-value : goal.returns-clause-value
-returns-clause-value c = omega (arith, ints, above_is c.args.hi c.args.lo)
