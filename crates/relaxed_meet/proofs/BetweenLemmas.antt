@@ -6,7 +6,7 @@ use Rattle.std.proofs.lemmas.Bool.{cases_lt, cases_eq}
 use Rattle.std.proofs.lemmas.List.{length-map, map-append}
 use Rattle.std.proofs.lemmas.List.Sums.{sum_by-cons}
 use lib.Signed.{le_z}
-use Rattle.sat_model.specs.declared.spans.Span.{Span}
+use Rattle.grid_model.specs.declared.spans.Span.{Span}
 use Rattle.sat_model.specs.Relaxed.{holds, ends, LiesInRelaxed, IsRelaxedEmpty, IsRelaxedHull}
 use Rattle.relaxed_meet.specs.Kept.{above, bit, IsFalling, Keeps, mirrored, LiesBetween, IsLeastIn, IsGreatestIn}
 use Rattle.relaxed_meet.proofs.FallingLemmas.{above_le, at_rank, none_kept, kept_more}

@@ -5,9 +5,9 @@ use Rattle.std.proofs.lemmas.Int.{ints}
 use Rattle.std.proofs.lemmas.List.{map_more, map-append}
 use Rattle.std.proofs.lemmas.List.Sums.{sum_by-append, sum_by-cons}
 use Rattle.std.proofs.lemmas.Grind.{common_steps}
-use Rattle.sat_model.specs.declared.satellites.Row.{Row}
-use Rattle.sat_model.specs.declared.spans.Span.{Span}
-use Rattle.sat_model.specs.Boxes.{GridBox}
+use Rattle.sat_model.specs.declared.rows.Row.{Row}
+use Rattle.grid_model.specs.declared.spans.Span.{Span}
+use Rattle.grid_model.specs.Boxes.{GridBox}
 use Rattle.sat_model.specs.ClockSpans.{inner_spans, NoneIsShownInner, IsLeastShownInner}
 use Rattle.sat_model.specs.Relaxed.{holds, ends, LiesInRelaxed}
 use Rattle.relaxed_meet.specs.Kept.{IsLeastIn}

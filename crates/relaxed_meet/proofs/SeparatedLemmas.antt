@@ -5,13 +5,13 @@ use Rattle.std.proofs.lemmas.Int.{ints, by_lt_z}
 use Rattle.std.proofs.lemmas.List.{length-map}
 use Rattle.std.proofs.lemmas.List.Sums.{sum_by-cons}
 use lib.Signed.{le_z, lt_z}
-use Rattle.sat_model.specs.declared.satellites.Row.{Row}
-use Rattle.sat_model.specs.declared.boxes.Box3.{Box3}
-use Rattle.sat_model.specs.Boxes.{grid_box}
+use Rattle.sat_model.specs.declared.rows.Row.{Row}
+use Rattle.grid_model.specs.declared.boxes.Box3.{Box3}
+use Rattle.grid_model.specs.Boxes.{grid_box}
 use Rattle.sat_model.specs.ClockSpans.{clock_spans, clock_ends}
 use Rattle.sat_model.specs.Relaxed.{holds, LiesInRelaxed}
 use Rattle.sat_model.proofs.ClockLemmas.{near_le_far}
-use Rattle.sat_model.proofs.FittingLemmas.{both, le_from}
+use Rattle.grid_model.proofs.PointLemmas.{both, le_from}
 use Rattle.relaxed_meet.specs.Separated.{lows_above, highs_to, NoneLiesBetween}
 
 abbrev pub AreOrdered : List (ℤ × ℤ) → Type 0

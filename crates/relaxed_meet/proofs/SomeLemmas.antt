@@ -4,7 +4,7 @@ use Rattle.std.specs.Prelude.{ℤ, None}
 use Rattle.std.proofs.lemmas.List.{length-map, length-append, map_more}
 use Rattle.std.proofs.lemmas.List.Sums.{sum_by-append, sum_by-cons}
 use Rattle.sat_model.specs.Relaxed.{holds, ends, IsRelaxedEmpty}
-use Rattle.sat_model.specs.declared.spans.Span.{Span}
+use Rattle.grid_model.specs.declared.spans.Span.{Span}
 use Rattle.relaxed_meet.specs.Kept.{LiesBetween, IsFalling, IsLeastIn, above, mirrored}
 use Rattle.relaxed_meet.proofs.BetweenLemmas.{AreRead, none_read, read_next, found_or_empty}
 

@@ -1,9 +1,9 @@
 -- Squared distances, and roots against numbers by their squares.
 use Rattle.std.proofs.Common.{◌≡◌, ℕ, ◌+◌, ◌*◌, ◌<◌, ◌≤◌, arith}
 use Rattle.std.specs.Prelude.{ℤ}
-use Rattle.sat_model.specs.Amounts.{square}
-use Rattle.sat_model.specs.Roots.{IsRoot, root}
-use Rattle.sat_model.proofs.RootLemmas.{root_is, square-mono}
+use Rattle.grid_model.specs.Amounts.{square}
+use Rattle.grid_model.specs.Roots.{IsRoot, root}
+use Rattle.grid_model.proofs.RootLemmas.{root_is, square-mono}
 
 pub at_ends : (f : ℤ → ℤ → ℤ → ℤ → ℕ) (r : ℕ) (a b c d a' b' c' d' : ℤ) → r ≡ f a b c d → a ≡ a' → b ≡ b' → c ≡ c' → d ≡ d' → r ≡ f a' b' c' d'
 at_ends f r a b c d a' b' c' d' e ea eb ec ed = cc

@@ -1,8 +1,8 @@
 -- Ends of spans on either side of a number, and what they show of numbers between.
 use Rattle.std.specs.Prelude.{ℕ, ◌-◌, ◌≤◌, ℤ, ◌≤ℤ◌, ◌<ℤ◌, List, length, count_by}
 use lib.Signed.{le_z, lt_z}
-use Rattle.sat_model.specs.declared.satellites.Row.{Row}
-use Rattle.sat_model.specs.Boxes.{GridBox}
+use Rattle.sat_model.specs.declared.rows.Row.{Row}
+use Rattle.grid_model.specs.Boxes.{GridBox}
 use Rattle.sat_model.specs.ClockSpans.{clock_spans}
 use Rattle.sat_model.specs.Relaxed.{LiesInRelaxed}
 

@@ -2,17 +2,18 @@
 //! roots of the rows alone whose spans lie beyond one of them.
 
 ghost use Rattle.std.specs.Prelude.{◌-◌, ◌<◌, ◌≤◌, length, IsTrue, ℤ, ◌≤ℤ◌};
-ghost use Rattle.sat_model.specs.Boxes.{grid_box};
+ghost use Rattle.grid_model.specs.Boxes.{grid_box};
 ghost use Rattle.sat_model.specs.ClockSpans.{clock_spans};
 ghost use Rattle.sat_model.specs.Relaxed.{LiesInRelaxed};
-ghost use Rattle.sat_model.specs.Sizes.{IsWithin};
+ghost use Rattle.grid_model.specs.Sizes.{IsWithin};
 
 use crate::clocks::clock_span;
 use crate::counts::{count_above, count_up_to};
 use crate::extremes::{Falling, keep};
 use crate::offsets::{is_above, is_bounded, is_up_to};
 use crate::separation::Separation;
-use sat_model::{Box3, Row};
+use grid_model::Box3;
+use sat_model::Row;
 
 /// Whether each offset that lies in the clock spans over the box of all but at most `q` rows is seen
 /// to lie from `lo` to `hi`.

@@ -1,12 +1,13 @@
 //! The clock offsets at which a row fits somewhere, or everywhere, in a box.
 
 ghost use Rattle.std.specs.Prelude.{◌≡◌, ◌≤◌, IfSome, IsNone, pos, ◌-ℤ◌, ◌<ℤ◌};
-ghost use Rattle.sat_model.specs.Boxes.{grid_box};
+ghost use Rattle.grid_model.specs.Boxes.{grid_box};
 ghost use Rattle.sat_model.specs.ClockSpans.{clock_ends, inner_ends};
 ghost use Rattle.sat_model.specs.Relaxed.{ends};
 
 use crate::distance::near_far;
-use sat_model::{Box3, Row, Span};
+use grid_model::{Box3, Span};
+use sat_model::Row;
 
 /// The clock offsets in um at which the row may fit somewhere in the box.
 pub fn clock_span(row: &Row, part: &Box3) -> Span

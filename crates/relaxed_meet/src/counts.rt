@@ -1,13 +1,14 @@
 //! How many clock spans over a box lie on one side of an offset.
 
 ghost use Rattle.std.specs.Prelude.{◌≤◌};
-ghost use Rattle.sat_model.specs.Boxes.{grid_box};
+ghost use Rattle.grid_model.specs.Boxes.{grid_box};
 ghost use Rattle.sat_model.specs.ClockSpans.{clock_spans};
-ghost use Rattle.sat_model.specs.Sizes.{IsWithin};
+ghost use Rattle.grid_model.specs.Sizes.{IsWithin};
 ghost use Rattle.relaxed_meet.specs.Separated.{lows_above, highs_to};
 
 use crate::offsets::{is_above, is_up_to};
-use sat_model::{Box3, Row};
+use grid_model::Box3;
+use sat_model::Row;
 
 /// How many of the rows that have a bit have clock spans above the offset, counted up to `most`.
 pub(crate) fn count_above(rows: &[Row], part: &Box3, which: u64, offset: i64, most: usize) -> usize

@@ -1,7 +1,7 @@
 //! A test for empty boxes that asks first what decided the tests before.
 
 ghost use Rattle.std.specs.Prelude.{◌≡◌, ◌-◌, ◌<◌, ◌≤◌, ◌↔◌, length, map, IsTrue};
-ghost use Rattle.sat_model.specs.Boxes.{grid_box};
+ghost use Rattle.grid_model.specs.Boxes.{grid_box};
 ghost use Rattle.sat_model.specs.ClockSpans.{IsShownEmpty, clock_spans};
 ghost use Rattle.sat_model.specs.Relaxed.{IsRelaxedEmpty, ends};
 
@@ -11,7 +11,8 @@ use crate::hull::{least_between, widest_middle};
 use crate::offsets::{bounded, lies_in_most};
 use crate::separation::Separation;
 use arrayvec::ArrayVec;
-use sat_model::{Box3, Row, Span};
+use grid_model::{Box3, Span};
+use sat_model::Row;
 
 /// What decided the last tests whether a box is empty. A box next to one that is shown empty is mostly
 /// shown so by the same few rows, and a clock offset at which one isn't does for others too. So most

@@ -2,13 +2,14 @@
 
 ghost use Rattle.std.specs.Prelude.{◌≡◌, ◌+◌, ◌≤◌, ◌↔◌, IsTrue};
 ghost use Rattle.relaxed_meet.specs.SmallEnds.{SmallEnds};
-ghost use Rattle.sat_model.specs.Roots.{IsRoot};
-ghost use Rattle.sat_model.specs.Sizes.{IsWithin};
-ghost use Rattle.sat_model.specs.Amounts.{least_amount, greatest_amount, square};
-ghost use Rattle.sat_model.specs.Boxes.{grid_box};
+ghost use Rattle.grid_model.specs.Roots.{IsRoot};
+ghost use Rattle.grid_model.specs.Sizes.{IsWithin};
+ghost use Rattle.grid_model.specs.Amounts.{least_amount, greatest_amount, square};
+ghost use Rattle.grid_model.specs.Boxes.{grid_box};
 ghost use Rattle.sat_model.specs.ClockSpans.{near_of, far_of, near_square, far_square};
 
-use sat_model::{Box3, Row, Span, root_u128};
+use grid_model::{Box3, Span, root_u128};
+use sat_model::Row;
 
 /// The least amount of a difference between a number from `a` to `b` and one from `c` to `d`.
 fn least(a: i64, b: i64, c: i64, d: i64) -> u64

@@ -4,7 +4,7 @@ ghost use Rattle.std.specs.Prelude.{◌≡◌, ◌+◌, ◌≤◌, ◌++◌, ◌
 ghost use Rattle.relaxed_meet.specs.Kept.{above, IsFalling, IsKeptUpTo, Keeps, mirrored};
 
 use arrayvec::ArrayVec;
-use sat_model::Span;
+use grid_model::Span;
 
 /// Numbers in falling order.
 pub(crate) type Falling = ArrayVec<i64, 64>;

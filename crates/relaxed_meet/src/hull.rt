@@ -7,7 +7,7 @@ ghost use Rattle.sat_model.specs.Relaxed.{IsRelaxedHull, LiesInRelaxed, IsRelaxe
 
 use crate::extremes::{Falling, extremes};
 use crate::separation::middle;
-use sat_model::Span;
+use grid_model::Span;
 
 /// The least number that lies between a low end and the high end that goes with it.
 pub(crate) fn least_between(lows: &[i64], highs: &[i64]) -> Option<i64>

@@ -2,13 +2,14 @@
 //! of a number is less than another one exactly where the number is less than its square.
 
 ghost use Rattle.std.specs.Prelude.{◌≡◌, ◌-◌, ◌↔◌, ◌≤ℤ◌, ◌<ℤ◌, length, IsTrue};
-ghost use Rattle.sat_model.specs.Boxes.{grid_box};
+ghost use Rattle.grid_model.specs.Boxes.{grid_box};
 ghost use Rattle.sat_model.specs.ClockSpans.{clock_ends, clock_spans};
 ghost use Rattle.sat_model.specs.Relaxed.{holds, LiesInRelaxed};
-ghost use Rattle.sat_model.specs.Sizes.{IsWithin};
+ghost use Rattle.grid_model.specs.Sizes.{IsWithin};
 
 use crate::distance::{far_square, near_square};
-use sat_model::{Box3, Row};
+use grid_model::Box3;
+use sat_model::Row;
 
 /// The amount up to which an offset is compared with a clock span, in um. No span reaches as far.
 const FARTHEST: i64 = 900_000_000_000_000;

@@ -1,13 +1,14 @@
 //! Offsets that part the clock spans: what shows a box empty without a root.
 
 ghost use Rattle.std.specs.Prelude.{◌<◌, ◌≤◌, length, IsTrue};
-ghost use Rattle.sat_model.specs.Boxes.{grid_box};
+ghost use Rattle.grid_model.specs.Boxes.{grid_box};
 ghost use Rattle.sat_model.specs.ClockSpans.{IsShownEmpty};
 ghost use Rattle.relaxed_meet.specs.Separated.{NoneLiesBetween};
 
 use crate::counts::{count_above, count_up_to};
 use crate::offsets::bounded;
-use sat_model::{Box3, Row, Span};
+use grid_model::{Box3, Span};
+use sat_model::Row;
 
 /// How many offsets are remembered: enough where up to 8 rows may be inconsistent.
 const MOST_OFFSETS: usize = 9;

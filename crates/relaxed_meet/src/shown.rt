@@ -1,15 +1,16 @@
 //! What the rows show of a box.
 
 ghost use Rattle.std.specs.Prelude.{◌≡◌, ◌-◌, ◌<◌, ◌≤◌, ◌↔◌, length, IfSome, IsNone};
-ghost use Rattle.sat_model.specs.Boxes.{grid_box};
-ghost use Rattle.relaxed_meet.specs.BoxStates.{IsBoxState};
+ghost use Rattle.grid_model.specs.Boxes.{grid_box};
+ghost use Rattle.relaxed_meet.specs.BoxStates.{IsBoxState, span_test};
 ghost use Rattle.sat_model.specs.ClockSpans.{IsClockHull, IsShownEmpty, NoneIsShownInner, IsLeastShownInner};
 
 use crate::clocks::{clock_span, clock_spans, inner_span};
 use crate::deciding::SlabTests;
 use crate::hull::{least_number, relaxed, relaxed_with_middle};
 use arrayvec::ArrayVec;
-use sat_model::{Box3, Row, Span};
+use grid_model::{Box3, Span};
+use sat_model::Row;
 
 /// The hull of the clock offsets in um that lie in the clock spans of all but at most `q` rows over
 /// the box, none where there are none.
@@ -58,7 +59,7 @@ pub enum BoxState {
 /// middle of the hull's widest part to ask about.
 pub fn box_state(rows: &[Row], part: &Box3, q: u8, tests: &mut SlabTests) -> BoxState
     requires { (q < length rows.now) × (length rows.now ≤ 64) }
-    ensures { IsBoxState rows.now (grid_box part.now) q result }
+    ensures { IsBoxState (span_test rows.now q) (grid_box part.now) result }
 {
     let mut clocks: ArrayVec<Span, 64> = ArrayVec::new();
     let mut inner: ArrayVec<Span, 64> = ArrayVec::new();

@@ -1,6 +1,6 @@
 use Rattle.std.proofs.Common.{◌≡◌, ◌≤◌, arith, to_z, of_z, w64}
 use Rattle.std.proofs.lemmas.Int.{ints, by_lt_z}
-use Rattle.sat_model.specs.Boxes.{grid_box}
+use Rattle.grid_model.specs.Boxes.{grid_box}
 use Rattle.sat_model.specs.ClockSpans.{clock_spans}
 use Rattle.relaxed_meet.specs.Separated.{highs_to}
 use Rattle.relaxed_meet.proofs.SeparatedLemmas.{none_above}

@@ -2,7 +2,7 @@ use Rattle.std.proofs.Common.{◌≡◌, arith, take, true, to_z, of_z, w64}
 use Rattle.std.proofs.lemmas.Int.{ints}
 use Rattle.std.proofs.lemmas.Grind.{common_steps}
 use lib.Signed.{lt_z}
-use Rattle.sat_model.specs.Boxes.{grid_box}
+use Rattle.grid_model.specs.Boxes.{grid_box}
 use Rattle.sat_model.specs.ClockSpans.{clock_ends}
 use Rattle.relaxed_meet.proofs.OffsetLemmas.{one_more, in_front}
 use Rattle.relaxed_meet.proofs.counts.count_above.Goals.{then-is_asked+then-is_above, else-is_asked}

@@ -1,6 +1,6 @@
 use Rattle.std.proofs.Common.{arith}
 use Rattle.std.proofs.lemmas.Int.{ints, clamps}
-use Rattle.sat_model.proofs.AmountLemmas.{above_is}
+use Rattle.grid_model.proofs.AmountLemmas.{above_is}
 use Rattle.relaxed_meet.proofs.distance.greatest.Goals as goal
 
 pub returns-clause-value : goal.returns-clause-value

@@ -1,6 +1,6 @@
 use Rattle.std.proofs.Common.{arith}
 use Rattle.std.proofs.lemmas.Int.{ints}
-use Rattle.sat_model.proofs.AmountLemmas.{above_is}
+use Rattle.grid_model.proofs.AmountLemmas.{above_is}
 use Rattle.relaxed_meet.proofs.distance.least.Goals as goal
 
 pub returns-then-a-d-clause-value : goal.returns-then-a-d-clause-value

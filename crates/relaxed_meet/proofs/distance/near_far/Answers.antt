@@ -1,7 +1,7 @@
 use Rattle.std.proofs.Common.{arith, ap, ◌∙◌}
-use Rattle.sat_model.specs.Roots.{root}
+use Rattle.grid_model.specs.Roots.{root}
 use Rattle.sat_model.specs.ClockSpans.{near_of, far_of}
-use Rattle.sat_model.proofs.RootLemmas.{root_from}
+use Rattle.grid_model.proofs.RootLemmas.{root_from}
 use Rattle.sat_model.proofs.ClockLemmas.{near_le_far}
 use Rattle.relaxed_meet.proofs.SquareLemmas.{root_small}
 use Rattle.relaxed_meet.proofs.distance.near_far.Goals as goal

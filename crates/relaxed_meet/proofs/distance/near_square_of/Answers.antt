@@ -1,6 +1,6 @@
 use Rattle.std.proofs.Common.{arith}
 use Rattle.std.proofs.lemmas.Int.{ints}
-use Rattle.sat_model.specs.Amounts.{least_amount}
+use Rattle.grid_model.specs.Amounts.{least_amount}
 use Rattle.relaxed_meet.proofs.SquareLemmas.{at_ends, sum_same}
 use Rattle.relaxed_meet.proofs.distance.near_square_of.Goals as goal
 

@@ -1,8 +1,8 @@
 use Rattle.std.proofs.Common.{◌≡◌, ◌*◌, ◌<◌, arith}
 use Rattle.std.proofs.lemmas.Int.{ints}
 use Rattle.std.proofs.lemmas.Bool.{ltb-true, lt-ltb}
-use Rattle.sat_model.specs.Roots.{root}
-use Rattle.sat_model.specs.Boxes.{grid_box}
+use Rattle.grid_model.specs.Roots.{root}
+use Rattle.grid_model.specs.Boxes.{grid_box}
 use Rattle.sat_model.specs.ClockSpans.{far_square, far_of}
 use Rattle.relaxed_meet.proofs.SquareLemmas.{root_below, square_above}
 use Rattle.relaxed_meet.proofs.offsets.is_above.Goals as goal

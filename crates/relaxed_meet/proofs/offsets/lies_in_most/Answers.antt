@@ -1,6 +1,6 @@
 use Rattle.std.proofs.Common.{◌≡◌, arith, take, true, false}
 use Rattle.std.proofs.lemmas.Grind.{common_steps}
-use Rattle.sat_model.specs.Boxes.{grid_box}
+use Rattle.grid_model.specs.Boxes.{grid_box}
 use Rattle.sat_model.specs.Relaxed.{holds}
 use Rattle.sat_model.specs.ClockSpans.{clock_ends}
 use Rattle.std.proofs.lemmas.Int.{ints}

@@ -1,7 +1,7 @@
 use Rattle.std.proofs.Common.{◌≡◌, ◌++◌, ◌∷◌, [], arith, ap, map, length, refl, to_z, of_z, w64}
 use Rattle.std.proofs.lemmas.Int.{ints}
 use Rattle.std.specs.Prelude.{ℤ}
-use Rattle.sat_model.specs.Boxes.{grid_box}
+use Rattle.grid_model.specs.Boxes.{grid_box}
 use Rattle.sat_model.specs.ClockSpans.{clock_ends, clock_spans, inner_ends, inner_spans}
 use Rattle.sat_model.specs.Relaxed.{ends}
 use Rattle.relaxed_meet.proofs.InnerLemmas.{held, held_pushed, held_skipped, held_all, none_inner, least_inner}

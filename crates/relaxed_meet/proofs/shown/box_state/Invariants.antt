@@ -1,4 +1,4 @@
-use Rattle.sat_model.specs.Boxes.{grid_box}
+use Rattle.grid_model.specs.Boxes.{grid_box}
 use Rattle.std.proofs.Common.{◌≡◌, ◌≤◌, map, take, length, count_by}
 use Rattle.std.specs.Prelude.{ℤ}
 use Rattle.sat_model.specs.Relaxed.{ends, holds}

@@ -1,4 +1,4 @@
-use Rattle.sat_model.specs.Boxes.{grid_box}
+use Rattle.grid_model.specs.Boxes.{grid_box}
 use Rattle.std.proofs.Common.{◌≡◌, arith, map}
 use Rattle.sat_model.specs.Relaxed.{ends}
 use Rattle.sat_model.specs.ClockSpans.{clock_spans, clock_ends}

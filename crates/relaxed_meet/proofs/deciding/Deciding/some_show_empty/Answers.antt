@@ -2,7 +2,7 @@ use Rattle.std.proofs.Common.{◌≡◌, arith, refl, Bool, true, false, Option,
 use Rattle.std.proofs.lemmas.Int.{ints}
 use Rattle.std.proofs.lemmas.List.{length-map}
 use Rattle.std.proofs.lemmas.Grind.{common_steps}
-use Rattle.sat_model.specs.Boxes.{grid_box}
+use Rattle.grid_model.specs.Boxes.{grid_box}
 use Rattle.sat_model.specs.ClockSpans.{clock_ends, clock_spans}
 use Rattle.relaxed_meet.proofs.SomeLemmas.{none_of_some, pass_item, take_item, empty_by_some}
 use Rattle.relaxed_meet.proofs.deciding.Deciding.some_show_empty.Goals.{then-left-eq1, else-left-eq1}

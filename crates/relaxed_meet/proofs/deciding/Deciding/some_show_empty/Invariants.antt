@@ -1,5 +1,5 @@
 use Rattle.std.proofs.Common.{◌≡◌, ◌+◌, take}
-use Rattle.sat_model.specs.Boxes.{grid_box}
+use Rattle.grid_model.specs.Boxes.{grid_box}
 use Rattle.sat_model.specs.ClockSpans.{clock_spans}
 use Rattle.relaxed_meet.proofs.SomeLemmas.{AreSomeRead}
 use Rattle.relaxed_meet.proofs.deciding.Deciding.some_show_empty.Given as goal

@@ -1,6 +1,6 @@
 use Rattle.std.proofs.Common.{◌≡◌, ◌+◌, ◌≤◌, arith, refl, to_z, of_z, w64}
 use Rattle.std.proofs.lemmas.Int.{ints}
-use Rattle.sat_model.specs.Boxes.{grid_box}
+use Rattle.grid_model.specs.Boxes.{grid_box}
 use Rattle.sat_model.specs.ClockSpans.{clock_spans}
 use Rattle.relaxed_meet.proofs.SeparatedLemmas.{none_parted, one_parted, parted_none}
 use Rattle.relaxed_meet.proofs.separation.Separation.shows_none.Goals as goal

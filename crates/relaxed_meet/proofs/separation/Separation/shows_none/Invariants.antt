@@ -1,5 +1,5 @@
 use Rattle.std.proofs.Common.{◌≡◌, ◌≤◌, ℤ}
-use Rattle.sat_model.specs.Boxes.{grid_box}
+use Rattle.grid_model.specs.Boxes.{grid_box}
 use Rattle.sat_model.specs.ClockSpans.{clock_spans}
 use Rattle.relaxed_meet.specs.Separated.{lows_above}
 use Rattle.relaxed_meet.proofs.SeparatedLemmas.{ArePartedFrom}

@@ -1,0 +1,24 @@
+use Rattle.std.proofs.Common.{arith, rules, FitsSigned}
+use Rattle.std.specs.Prelude.{◌-ℤ◌}
+use Rattle.std.specs.Int.{w128}
+use Rattle.std.proofs.lemmas.Int.{ints, to_z-of_z}
+use Rattle.grid_model.specs.Boxes.{grid_box}
+use Rattle.row_pairs.specs.FormValues.{form_value}
+use Rattle.row_pairs.proofs.LeastLemmas.{below_from, below_to, lt_from, lt_to}
+use Rattle.row_pairs.proofs.conflicts.is_below.Goals as goal
+
+pub returns : goal.returns
+returns c =
+    let part = grid_box c.args.part.now in
+    let f = form_value c.args.f.now in
+    let g = form_value c.args.g.now in
+    let u = c.args.f.now.upper_within in
+    let l = c.args.g.now.lower_within in
+    let i : FitsSigned w128 c.args.f.now.upper = omega (arith, ints, u.low, u.high) in
+    let j : FitsSigned w128 c.args.g.now.lower = omega (arith, ints, l.low, l.high) in
+    let k : FitsSigned w128 (c.args.f.now.upper -ℤ c.args.g.now.lower) = omega (arith, ints, u.low, u.high, l.low, l.high) in
+    let m : FitsSigned w128 c.least_lead.result = search rules in
+    simp to_z-of_z (
+      λ t. below_from part f g c.least_lead.result c.least_lead.ensures.least (lt_from _ _ t),
+      λ h. lt_to _ _ (below_to part f g c.least_lead.result c.least_lead.ensures.least h),
+    )

@@ -1,0 +1,4 @@
+pub mod FormValues
+pub mod Leasts
+pub mod KeptForms
+pub mod PairsSoFar
