@@ -1,21 +1,23 @@
 -- All steps of one box: there are such, with at most 1,014 cuts.
-use Rattle.std.proofs.Common.{◌≡◌, ℕ, ◌+◌, ◌-◌, ◌<◌, ◌≤◌, arith, List, [], ◌∷◌, ◌++◌, length, inl, inr, refl, ap, subst, ◌∙◌, ◌↔◌}
+use Rattle.std.proofs.Common.{◌≡◌, ℕ, ◌+◌, ◌-◌, ◌<◌, ◌≤◌, arith, List, [], ◌∷◌, ◌++◌, length, inl, inr, refl, sym, ap, subst, ◌∙◌, ◌↔◌, Bool, true, false}
 use Rattle.std.specs.Prelude.{ℤ, pos, ◌*ℤ◌, ◌≤ℤ◌}
 use Rattle.std.proofs.lemmas.List.{append-nil, length-append}
-use Rattle.sat_model.specs.declared.boxes.Box3.{Box3}
+use Rattle.grid_model.specs.declared.boxes.Box3.{Box3}
 use Rattle.sat_model.specs.declared.rules.Rules.{Rules}
-use Rattle.sat_model.specs.declared.satellites.Row.{Row}
+use Rattle.sat_model.specs.declared.rows.Row.{Row}
 use Rattle.sat_model.specs.declared.steps.Step.{Step}
 use Rattle.sat_model.specs.declared.steps.Step.TheVariants.{Cut, Split, Outside, Inside, Edge}
-use Rattle.sat_model.specs.Boxes.{Side, GridBox, grid_box}
-use Rattle.sat_model.specs.ClockSpans.{clock_spans, IsClockHull}
+use Rattle.grid_model.specs.Boxes.{Side, GridBox, grid_box}
+use Rattle.sat_model.specs.BoxTests.{BoxTest, test_of, IsEmpty, IsHull}
+use Rattle.sat_model.specs.ClockSpans.{clock_spans}
 use Rattle.sat_model.specs.Contractors.{LiesIn}
 use Rattle.sat_model.specs.Fold.{ShownStep}
 use Rattle.sat_model.specs.Waiting.{WaitingBox, IsUndecided, Closes}
 use Rattle.sat_model.specs.RowTrees.{row_tree}
 use Rattle.sat_model.specs.Trees.{TreeValue}
 use Rattle.sat_model.proofs.RelaxedExists.{relaxed_hull}
-use Rattle.range_contractor.proofs.BoxLemmas.{box_lies, lies_through}
+use Rattle.relaxed_meet.proofs.TestLemmas.{empty_by_spans}
+use Rattle.range_contractor.proofs.BoxLemmas.{box_lies}
 use Rattle.range_contractor.proofs.FaceLemmas.{proposal}
 use Rattle.range_contractor.proofs.LeafLemmas.{box_sizes}
 use Rattle.range_contractor.proofs.RowLemmas.{count_rows}
@@ -24,43 +26,93 @@ use Rattle.range_contractor.proofs.TreeExists.{IsGridPart, inside_part, tied_exi
 use Rattle.box_steps.specs.Taken.{TookAll, step_bytes}
 use Rattle.box_steps.specs.declared.steps.StepFault.{StepFault}
 use Rattle.box_steps.specs.declared.steps.StepFault.TheVariants.{Full}
-use Rattle.box_steps.specs.Cuts.{all_faces, NoneMayCut, AreEighthCuts}
-use Rattle.box_steps.specs.BoxSteps.{AreCutsByTree, IsCutDown, AreCutsOf, AreBoxSteps}
+use Rattle.box_steps.specs.Cuts.{all_faces, eighths, NoneMayCut, AreEighthCuts, AreDeepCuts, AreFacesDone, AreRoundCuts, IsCutTo, IsFaceDone}
+use Rattle.box_steps.specs.BoxSteps.{AreCutsByTree, IsCutDown, IsCutBy, IsCut, AreCutsOf, AreBoxSteps}
 use Rattle.box_steps.specs.Ends.{last_of, TookBox}
 use Rattle.box_steps.specs.declared.work.Ended.{Ended}
 use Rattle.box_steps.specs.Taking.{TookCuts, BrokeOff, LeaveSome}
+use Rattle.box_steps.specs.declared.target.Target.TheVariants.{Eighths, Deep}
 use Rattle.box_steps.proofs.EndingExists.{ending_exists}
-use Rattle.box_steps.proofs.FaceLemmas.{proposal_cuts_exist, proposal_cuts_few, proposal_inside, own_box}
-use Rattle.box_steps.proofs.RoundLemmas.{eighths_exist, eighths_few, eighths_inside, eighths_leave}
+use Rattle.box_steps.proofs.FaceLemmas.{IsSomeCut, AreFaces, both_faces, proposal_cuts_exist, proposal_some, faces_few, faces_inside, faces_as, faces_both, done_some, eighth_done}
+use Rattle.box_steps.proofs.RoundLemmas.{target_rule, rounds_exist, rounds_few, round_cuts_as, round_cuts_faces, round_cuts_leave}
 use Rattle.box_steps.proofs.TakingLemmas.{took_both, broke_in, one_broke}
 
 pub grid_part : (part : Box3) → IsGridPart (grid_box part)
 grid_part part = record { lies = box_lies part; sizes = box_sizes part }
 
-by_tree_inside : (g slack : ℤ) (t : TreeValue) (clock : Side) (rows : List Row) (q id : ℕ) (part : GridBox) (cuts : List ShownStep) (left : GridBox) → IsGridPart part → AreCutsByTree g slack t clock rows q id part cuts left → LiesIn left part
-by_tree_inside g slack t clock rows q id part cuts left grid by = proposal_inside rows q id by.answer part cuts left grid.lies by.are
+eighths_exist : (test : BoxTest) (id : ℕ) (part : GridBox) → test.q < length test.rows → IsGridPart part → (steps : List ShownStep) × ((left : GridBox) × AreEighthCuts test id part steps left)
+eighths_exist test id part few grid = rounds_exist test id (IsCutTo test id eighths) part (target_rule test id Eighths few tt) grid
 
-by_tree_grid : (g slack : ℤ) (t : TreeValue) (clock : Side) (rows : List Row) (q id : ℕ) (part : GridBox) (cuts : List ShownStep) (left : GridBox) → IsGridPart part → AreCutsByTree g slack t clock rows q id part cuts left → IsGridPart left
-by_tree_grid g slack t clock rows q id part cuts left grid by = inside_part left part (by_tree_inside g slack t clock rows q id part cuts left grid by) grid
+deep_exist : (test : BoxTest) (id : ℕ) (part : GridBox) → test.q < length test.rows → IsGridPart part → (steps : List ShownStep) × ((left : GridBox) × AreDeepCuts test id part steps left)
+deep_exist test id part few grid = rounds_exist test id (IsFaceDone test id) part (target_rule test id Deep few tt) grid
+
+-- ---- cuts at some faces
+
+by_tree_some : (g slack : ℤ) (t : TreeValue) (clock : Side) (test : BoxTest) (id : ℕ) (part : GridBox) (cuts : List ShownStep) (left : GridBox) → AreCutsByTree g slack t clock test id part cuts left
+    → (faces : List ℕ) × ((length faces ≤ 6) × (AreFaces faces × AreFacesDone (IsSomeCut test id) faces part cuts left))
+by_tree_some g slack t clock test id part cuts left by = proposal_some test id by.answer part cuts left by.are
+
+by_tree_inside : (g slack : ℤ) (t : TreeValue) (clock : Side) (test : BoxTest) (id : ℕ) (part : GridBox) (cuts : List ShownStep) (left : GridBox) → IsGridPart part → AreCutsByTree g slack t clock test id part cuts left → LiesIn left part
+by_tree_inside g slack t clock test id part cuts left grid by =
+    let (faces, (few, (named, are))) = by_tree_some g slack t clock test id part cuts left by in
+    faces_inside test id faces part cuts left grid.lies are
+
+by_tree_few : (g slack : ℤ) (t : TreeValue) (clock : Side) (test : BoxTest) (id : ℕ) (part : GridBox) (cuts : List ShownStep) (left : GridBox) → AreCutsByTree g slack t clock test id part cuts left → length cuts ≤ 6
+by_tree_few g slack t clock test id part cuts left by =
+    let (faces, (few, (named, are))) = by_tree_some g slack t clock test id part cuts left by in
+    omega (arith, few, faces_few test id faces part cuts left are)
+
+by_tree_grid : (g slack : ℤ) (t : TreeValue) (clock : Side) (test : BoxTest) (id : ℕ) (part : GridBox) (cuts : List ShownStep) (left : GridBox) → IsGridPart part → AreCutsByTree g slack t clock test id part cuts left → IsGridPart left
+by_tree_grid g slack t clock test id part cuts left grid by = inside_part left part (by_tree_inside g slack t clock test id part cuts left grid by) grid
+
+round_some : (test : BoxTest) (id : ℕ) (part : GridBox) (cuts : List ShownStep) (left : GridBox) → AreRoundCuts (IsFaceDone test id) part cuts left
+    → (faces : List ℕ) × (AreFaces faces × AreFacesDone (IsSomeCut test id) faces part cuts left)
+round_some test id part cuts left are =
+    let (faces, (named, all)) = round_cuts_faces (IsFaceDone test id) part cuts left are in
+    (faces, (named, faces_as (IsFaceDone test id) (IsSomeCut test id) faces part cuts left (done_some test id) all))
+
+eighths_done : (test : BoxTest) (id : ℕ) (part : GridBox) (cuts : List ShownStep) (left : GridBox) → AreEighthCuts test id part cuts left → AreRoundCuts (IsFaceDone test id) part cuts left
+eighths_done test id part cuts left are = round_cuts_as (IsCutTo test id eighths) (IsFaceDone test id) part cuts left (eighth_done test id) are
+
+cut_some : (g slack : ℤ) (asked : Bool) (test : BoxTest) (id : ℕ) (part : GridBox) (cuts : List ShownStep) (left : GridBox) → IsCutBy g slack test asked id part cuts left
+    → (faces : List ℕ) × (AreFaces faces × AreFacesDone (IsSomeCut test id) faces part cuts left)
+cut_some g slack false test id part cuts left down =
+    let (xs, (few, (these, first))) = by_tree_some g slack (row_tree g test.rows test.q) down.clock test id part down.by_tree down.middle down.tree_cuts in
+    let (ys, (those, second)) = round_some test id down.middle down.by_eighths left (eighths_done test id down.middle down.by_eighths left down.eighth_cuts) in (
+      xs ++ ys,
+      (
+        both_faces xs ys these those,
+        subst (λ (s : List ShownStep). AreFacesDone (IsSomeCut test id) (xs ++ ys) part s left) (sym down.all_cuts)
+            (faces_both (IsSomeCut test id) xs ys part down.middle left down.by_tree down.by_eighths first second),
+      ),
+    )
+cut_some g slack true test id part cuts left deep = round_some test id part cuts left deep
+
+-- the cuts of a box are at some faces, one after another
+pub cuts_some : (g slack : ℤ) (rows : List Row) (rules : Rules) (box : WaitingBox) (cuts : List ShownStep) (left : GridBox) → AreCutsOf g slack rows rules box cuts left
+    → (faces : List ℕ) × (AreFaces faces × AreFacesDone (IsSomeCut (test_of rules rows) box.id) faces box.part cuts left)
+cuts_some g slack rows rules box cuts left are = elim are [
+  | inl (undecided, cut) ↦ cut_some g slack rules.pairs (test_of rules rows) box.id box.part cuts left cut
+  | inr (decided, none, same) ↦ ([], (tt, (none, same)))
+]
 
 -- ---- what the log took
 
-pub down_took : {L : Type 0} (took : L → Step → GridBox → L → Type 0) (g slack : ℤ) (rows : List Row) (rules : Rules) (clock : Side) (id : ℕ) (part middle left : GridBox) (first then last : L) (by_tree by_eighths : ℕ)
-    → IsUndecided rows rules part → IsClockHull rows part rules.outliers clock.lo clock.hi
-    → TookCuts took (AreCutsByTree g slack (row_tree g rows rules.outliers) clock rows rules.outliers id part) first by_tree middle then
-    → TookCuts took (AreEighthCuts rows rules.outliers id middle) then by_eighths left last
-    → TookCuts took (IsCutDown g slack rows rules (record { id = id; part = part })) first (by_tree + by_eighths) left last
-down_took took g slack rows rules clock id part middle left first then last by_tree by_eighths undecided hull a b = record {
+pub down_took : {L : Type 0} (took : L → Step → GridBox → L → Type 0) (g slack : ℤ) (test then_test : BoxTest) (t : TreeValue) (clock : Side) (id : ℕ) (part middle left : GridBox) (first then last : L) (by_tree by_eighths : ℕ)
+    → t ≡ row_tree g test.rows test.q → then_test ≡ test → IsHull test part clock.lo clock.hi
+    → TookCuts took (AreCutsByTree g slack t clock test id part) first by_tree middle then
+    → TookCuts took (AreEighthCuts then_test id middle) then by_eighths left last
+    → TookCuts took (IsCutDown g slack test id part) first (by_tree + by_eighths) left last
+down_took took g slack test then_test t clock id part middle left first then last by_tree by_eighths e f hull a b = record {
   steps = a.steps ++ b.steps;
   are = record {
-    undecided = undecided;
     clock = clock;
     hull = hull;
     by_tree = a.steps;
     middle = middle;
-    tree_cuts = a.are;
+    tree_cuts = subst (λ (u : TreeValue). AreCutsByTree g slack u clock test id part a.steps middle) e a.are;
     by_eighths = b.steps;
-    eighth_cuts = b.are;
+    eighth_cuts = subst (λ (u : BoxTest). AreEighthCuts u id middle b.steps left) f b.are;
     all_cuts = refl;
   };
   taken = took_both took a.steps b.steps first then last a.taken b.taken;
@@ -68,28 +120,43 @@ down_took took g slack rows rules clock id part middle left first then last by_t
 }
 
 -- the tree's cuts broke off
-pub tree_broke : {L : Type 0} (took broke : L → Step → GridBox → L → Type 0) (room : L → ℕ) (fault : StepFault) (g slack : ℤ) (rows : List Row) (rules : Rules) (clock : Side) (id : ℕ) (part : GridBox) (first last : L)
-    → rules.outliers < length rows → IsGridPart part → IsUndecided rows rules part → IsClockHull rows part rules.outliers clock.lo clock.hi
-    → BrokeOff took broke room fault (LeaveSome (AreCutsByTree g slack (row_tree g rows rules.outliers) clock rows rules.outliers id part)) first last
-    → BrokeOff took broke room fault (LeaveSome (IsCutDown g slack rows rules (record { id = id; part = part }))) first last
-tree_broke took broke room fault g slack rows rules clock id part first last few grid undecided hull b =
-    broke_in took broke room fault (LeaveSome (AreCutsByTree g slack (row_tree g rows rules.outliers) clock rows rules.outliers id part)) (LeaveSome (IsCutDown g slack rows rules (record { id = id; part = part }))) [] first first last refl b
+pub tree_broke : {L : Type 0} (took broke : L → Step → GridBox → L → Type 0) (room : L → ℕ) (fault : StepFault) (g slack : ℤ) (test : BoxTest) (t : TreeValue) (clock : Side) (id : ℕ) (part : GridBox) (first last : L)
+    → test.q < length test.rows → IsGridPart part → t ≡ row_tree g test.rows test.q → IsHull test part clock.lo clock.hi
+    → BrokeOff took broke room fault (LeaveSome (AreCutsByTree g slack t clock test id part)) first last
+    → BrokeOff took broke room fault (LeaveSome (IsCutDown g slack test id part)) first last
+tree_broke took broke room fault g slack test t clock id part first last few grid e hull b =
+    broke_in took broke room fault (LeaveSome (AreCutsByTree g slack t clock test id part)) (LeaveSome (IsCutDown g slack test id part)) [] first first last refl b
     (λ steps some.
     let (middle, by) = some in
-    let (more, (left, eighths)) = eighths_exist rows rules.outliers id middle few (by_tree_grid g slack (row_tree g rows rules.outliers) clock rows rules.outliers id part steps middle grid by) in
-    (more, (left, record { undecided = undecided; clock = clock; hull = hull; by_tree = steps; middle = middle; tree_cuts = by; by_eighths = more; eighth_cuts = eighths; all_cuts = refl })))
+    let own : AreCutsByTree g slack (row_tree g test.rows test.q) clock test id part steps middle = subst (λ (u : TreeValue). AreCutsByTree g slack u clock test id part steps middle) e by in
+    let (more, (left, eighths)) = eighths_exist test id middle few (by_tree_grid g slack (row_tree g test.rows test.q) clock test id part steps middle grid own) in
+    (more, (left, record { clock = clock; hull = hull; by_tree = steps; middle = middle; tree_cuts = own; by_eighths = more; eighth_cuts = eighths; all_cuts = refl })))
 
 -- the eighths broke off
-pub eighths_broke : {L : Type 0} (took broke : L → Step → GridBox → L → Type 0) (room : L → ℕ) (fault : StepFault) (g slack : ℤ) (rows : List Row) (rules : Rules) (clock : Side) (id : ℕ) (part middle : GridBox) (first then last : L) (by_tree : ℕ)
-    → IsUndecided rows rules part → IsClockHull rows part rules.outliers clock.lo clock.hi
-    → TookCuts took (AreCutsByTree g slack (row_tree g rows rules.outliers) clock rows rules.outliers id part) first by_tree middle then
-    → BrokeOff took broke room fault (LeaveSome (AreEighthCuts rows rules.outliers id middle)) then last
-    → BrokeOff took broke room fault (LeaveSome (IsCutDown g slack rows rules (record { id = id; part = part }))) first last
-eighths_broke took broke room fault g slack rows rules clock id part middle first then last by_tree undecided hull a b =
-    broke_in took broke room fault (LeaveSome (AreEighthCuts rows rules.outliers id middle)) (LeaveSome (IsCutDown g slack rows rules (record { id = id; part = part }))) a.steps first then last a.taken b
+pub eighths_broke : {L : Type 0} (took broke : L → Step → GridBox → L → Type 0) (room : L → ℕ) (fault : StepFault) (g slack : ℤ) (test then_test : BoxTest) (t : TreeValue) (clock : Side) (id : ℕ) (part middle : GridBox) (first then last : L) (by_tree : ℕ)
+    → t ≡ row_tree g test.rows test.q → then_test ≡ test → IsHull test part clock.lo clock.hi
+    → TookCuts took (AreCutsByTree g slack t clock test id part) first by_tree middle then
+    → BrokeOff took broke room fault (LeaveSome (AreEighthCuts then_test id middle)) then last
+    → BrokeOff took broke room fault (LeaveSome (IsCutDown g slack test id part)) first last
+eighths_broke took broke room fault g slack test then_test t clock id part middle first then last by_tree e f hull a b =
+    broke_in took broke room fault (LeaveSome (AreEighthCuts then_test id middle)) (LeaveSome (IsCutDown g slack test id part)) a.steps first then last a.taken b
     (λ steps some.
-    let (left, are) = some in
-    ([], (left, record { undecided = undecided; clock = clock; hull = hull; by_tree = a.steps; middle = middle; tree_cuts = a.are; by_eighths = steps; eighth_cuts = are; all_cuts = ap (λ l. a.steps ++ l) (append-nil steps) })))
+    let (left, are) = some in (
+      [],
+      (
+        left,
+        record {
+          clock = clock;
+          hull = hull;
+          by_tree = a.steps;
+          middle = middle;
+          tree_cuts = subst (λ (u : TreeValue). AreCutsByTree g slack u clock test id part a.steps middle) e a.are;
+          by_eighths = steps;
+          eighth_cuts = subst (λ (u : BoxTest). AreEighthCuts u id middle steps left) f are;
+          all_cuts = ap (λ l. a.steps ++ l) (append-nil steps);
+        },
+      ),
+    ))
 
 took_one : {L : Type 0} (took : L → Step → GridBox → L → Type 0) (step : Step) (part : GridBox) (now last : L) → took now step part last → TookAll took now ((record { step = step; part = part }) ∷ []) last
 took_one took step part now last t = (last, t, refl)
@@ -116,14 +183,14 @@ last_broke took broke room fault g slack rows rules splits box first then last c
 
 -- the cuts broke off
 pub cuts_broke : {L : Type 0} (took broke : L → Step → GridBox → L → Type 0) (room : L → ℕ) (fault : StepFault) (g slack : ℤ) (rows : List Row) (rules : Rules) (splits : ℕ) (box : WaitingBox) (first last : L) → rules.outliers < length rows
-    → BrokeOff took broke room fault (LeaveSome (IsCutDown g slack rows rules box)) first last
+    → IsUndecided rows rules box.part → BrokeOff took broke room fault (LeaveSome (IsCut g slack (test_of rules rows) box.id box.part)) first last
     → BrokeOff took broke room fault (AreBoxSteps g slack rows rules splits box) first last
-cuts_broke took broke room fault g slack rows rules splits box first last few b =
-    broke_in took broke room fault (LeaveSome (IsCutDown g slack rows rules box)) (AreBoxSteps g slack rows rules splits box) [] first first last refl b
+cuts_broke took broke room fault g slack rows rules splits box first last few undecided b =
+    broke_in took broke room fault (LeaveSome (IsCut g slack (test_of rules rows) box.id box.part)) (AreBoxSteps g slack rows rules splits box) [] first first last refl b
     (λ steps some.
-    let (left, down) = some in
+    let (left, cut) = some in
     let (step, closes) = ending_exists rows rules splits box.id left few in
-    ((record { step = step; part = left }) ∷ [], record { cuts = steps; left = left; are_cuts = inl down; last = step; closes = closes; all_steps = refl }))
+    ((record { step = step; part = left }) ∷ [], record { cuts = steps; left = left; are_cuts = inl (undecided, cut); last = step; closes = closes; all_steps = refl }))
 
 -- no cut of a box that isn't undecided
 pub no_cuts_taken : {L : Type 0} (took : L → Step → GridBox → L → Type 0) (g slack : ℤ) (rows : List Row) (rules : Rules) (box : WaitingBox) (log : L) → (IsUndecided rows rules box.part → ⊥)
@@ -132,24 +199,21 @@ no_cuts_taken took g slack rows rules box log decided = record { steps = []; are
 
 -- ---- each box of the grid has steps
 
-cut_down_exists : (g : ℤ) (rows : List Row) (rules : Rules) (box : WaitingBox) → pos 1 ≤ℤ g → g ≤ℤ pos 1048576 → rules.outliers < length rows → IsGridPart box.part → IsUndecided rows rules box.part
-    → (cuts : List ShownStep) × ((left : GridBox) × IsCutDown g (pos 16 *ℤ g) rows rules box cuts left)
-cut_down_exists g rows rules box one most few grid undecided =
-    let q = rules.outliers in
-    elim (relaxed_hull (clock_spans box.part rows) (length rows - q) (omega arith)) [
-      | inl none ↦ absurd (undecided.not_empty none)
+cut_exists : (g : ℤ) (asked : Bool) (test : BoxTest) (id : ℕ) (part : GridBox) → pos 1 ≤ℤ g → g ≤ℤ pos 1048576 → test.q < length test.rows → IsGridPart part → (IsEmpty test part → ⊥)
+    → (cuts : List ShownStep) × ((left : GridBox) × IsCutBy g (pos 16 *ℤ g) test asked id part cuts left)
+cut_exists g false test id part one most few grid not_empty =
+    elim (relaxed_hull (clock_spans part test.rows) (length test.rows - test.q) (omega arith)) [
+      | inl none ↦ absurd (not_empty (empty_by_spans test part none))
       | inr (lo, hi, hull) ↦
+          let tree = row_tree g test.rows test.q in
           let clock : Side = record { lo = lo; hi = hi } in
-          let (answer, tied) = tied_exists (row_tree g rows q) g (pos 16 *ℤ g) clock box.part one most refl (omega (arith, count_rows g rows), rows_grain g rows one most) grid in
-          let (by_tree, (middle, are)) = proposal_cuts_exist rows q box.id answer box.part few in
-          let by : AreCutsByTree g (pos 16 *ℤ g) (row_tree g rows q) clock rows q box.id box.part by_tree middle = record {
-            answer = answer;
-            proposal = proposal (row_tree g rows q) g (pos 16 *ℤ g) clock box.part answer grid.lies tied;
-            are = are;
-          } in
-          let (by_eighths, (left, eighths)) = eighths_exist rows q box.id middle few (by_tree_grid g (pos 16 *ℤ g) (row_tree g rows q) clock rows q box.id box.part by_tree middle grid by) in
-          (by_tree ++ by_eighths, (left, record { undecided = undecided; clock = clock; hull = hull; by_tree = by_tree; middle = middle; tree_cuts = by; by_eighths = by_eighths; eighth_cuts = eighths; all_cuts = refl }))
+          let (answer, tied) = tied_exists tree g (pos 16 *ℤ g) clock part one most refl (omega (arith, count_rows g test.rows), rows_grain g test.rows one most) grid in
+          let (by_tree, (middle, are)) = proposal_cuts_exist test id answer part few in
+          let by : AreCutsByTree g (pos 16 *ℤ g) tree clock test id part by_tree middle = record { answer = answer; proposal = proposal tree g (pos 16 *ℤ g) clock part answer grid.lies tied; are = are } in
+          let (by_eighths, (left, eighths)) = eighths_exist test id middle few (by_tree_grid g (pos 16 *ℤ g) tree clock test id part by_tree middle grid by) in
+          (by_tree ++ by_eighths, (left, record { clock = clock; hull = hull; by_tree = by_tree; middle = middle; tree_cuts = by; by_eighths = by_eighths; eighth_cuts = eighths; all_cuts = refl }))
     ]
+cut_exists g true test id part one most few grid not_empty = deep_exist test id part few grid
 
 pub box_steps_exist : (g : ℤ) (rows : List Row) (rules : Rules) (splits : ℕ) (box : WaitingBox) → pos 1 ≤ℤ g → g ≤ℤ pos 1048576 → rules.outliers < length rows → IsGridPart box.part
     → (steps : List ShownStep) × AreBoxSteps g (pos 16 *ℤ g) rows rules splits box steps
@@ -158,9 +222,9 @@ box_steps_exist g rows rules splits box one most few grid =
   where
     cut_down : IsUndecided rows rules box.part → (steps : List ShownStep) × AreBoxSteps g (pos 16 *ℤ g) rows rules splits box steps
     cut_down undecided =
-        let (cuts, (left, down)) = cut_down_exists g rows rules box one most few grid undecided in
+        let (cuts, (left, cut)) = cut_exists g rules.pairs (test_of rules rows) box.id box.part one most few grid undecided.not_empty in
         let (step, closes) = ending_exists rows rules splits box.id left few in
-        (cuts ++ (record { step = step; part = left }) ∷ [], record { cuts = cuts; left = left; are_cuts = inl down; last = step; closes = closes; all_steps = refl })
+        (cuts ++ (record { step = step; part = left }) ∷ [], record { cuts = cuts; left = left; are_cuts = inl (undecided, cut); last = step; closes = closes; all_steps = refl })
 
     decided : (step : Step) → Closes rows rules splits box.id box.part step → (IsUndecided rows rules box.part → ⊥) → (steps : List ShownStep) × AreBoxSteps g (pos 16 *ℤ g) rows rules splits box steps
     decided step closes not =
@@ -176,30 +240,36 @@ box_steps_exist g rows rules splits box one most few grid =
 -- ---- what the cuts of a box are
 
 pub cuts_inside : (g slack : ℤ) (rows : List Row) (rules : Rules) (box : WaitingBox) (cuts : List ShownStep) (left : GridBox) → IsGridPart box.part → AreCutsOf g slack rows rules box cuts left → LiesIn left box.part
-cuts_inside g slack rows rules box cuts left grid are = elim are [
-  | inr (decided, none, same) ↦ rw same grid.lies
-  | inl down ↦
-      let here = by_tree_inside g slack (row_tree g rows rules.outliers) down.clock rows rules.outliers box.id box.part down.by_tree down.middle grid down.tree_cuts in
-      lies_through left down.middle box.part (eighths_inside rows rules.outliers box.id down.middle down.by_eighths left (own_box down.middle box.part here) down.eighth_cuts) here
-]
+cuts_inside g slack rows rules box cuts left grid are =
+    let (faces, (named, some)) = cuts_some g slack rows rules box cuts left are in
+    faces_inside (test_of rules rows) box.id faces box.part cuts left grid.lies some
+
+cut_few : (g slack : ℤ) (asked : Bool) (test : BoxTest) (id : ℕ) (part : GridBox) (cuts : List ShownStep) (left : GridBox) → IsGridPart part → IsCutBy g slack test asked id part cuts left → length cuts ≤ 1014
+cut_few g slack false test id part cuts left grid down =
+    let tree = row_tree g test.rows test.q in
+    let middle = by_tree_grid g slack tree down.clock test id part down.by_tree down.middle grid down.tree_cuts in
+    omega (
+      arith,
+      ap length down.all_cuts,
+      length-append down.by_tree down.by_eighths,
+      by_tree_few g slack tree down.clock test id part down.by_tree down.middle down.tree_cuts,
+      rounds_few test id down.middle down.by_eighths left middle (eighths_done test id down.middle down.by_eighths left down.eighth_cuts),
+    )
+cut_few g slack true test id part cuts left grid deep = omega (arith, rounds_few test id part cuts left grid deep)
 
 pub cuts_few : (g slack : ℤ) (rows : List Row) (rules : Rules) (box : WaitingBox) (cuts : List ShownStep) (left : GridBox) → IsGridPart box.part → AreCutsOf g slack rows rules box cuts left → length cuts ≤ 1014
 cuts_few g slack rows rules box cuts left grid are = elim are [
   | inr (decided, none, same) ↦ omega (arith, ap length none)
-  | inl down ↦
-      let middle = by_tree_grid g slack (row_tree g rows rules.outliers) down.clock rows rules.outliers box.id box.part down.by_tree down.middle grid down.tree_cuts in
-      omega (
-        arith,
-        ap length down.all_cuts,
-        length-append down.by_tree down.by_eighths,
-        proposal_cuts_few rows rules.outliers box.id down.tree_cuts.answer box.part down.by_tree down.middle down.tree_cuts.are,
-        eighths_few rows rules.outliers box.id down.middle down.by_eighths left middle down.eighth_cuts,
-      )
+  | inl (undecided, cut) ↦ cut_few g slack rules.pairs (test_of rules rows) box.id box.part cuts left grid cut
 ]
 
+cut_leaves : (g slack : ℤ) (asked : Bool) (test : BoxTest) (id : ℕ) (part : GridBox) (cuts : List ShownStep) (left : GridBox) → IsCutBy g slack test asked id part cuts left → NoneMayCut test all_faces left
+cut_leaves g slack false test id part cuts left down = round_cuts_leave test id down.middle down.by_eighths left (eighths_done test id down.middle down.by_eighths left down.eighth_cuts)
+cut_leaves g slack true test id part cuts left deep = round_cuts_leave test id part cuts left deep
+
 -- where a box is split or closed at the edge, no slab of an eighth is shown empty
-pub none_left : (g slack : ℤ) (rows : List Row) (rules : Rules) (box : WaitingBox) (cuts : List ShownStep) (left : GridBox) → IsUndecided rows rules left → AreCutsOf g slack rows rules box cuts left → NoneMayCut rows rules.outliers all_faces left
+pub none_left : (g slack : ℤ) (rows : List Row) (rules : Rules) (box : WaitingBox) (cuts : List ShownStep) (left : GridBox) → IsUndecided rows rules left → AreCutsOf g slack rows rules box cuts left → NoneMayCut (test_of rules rows) all_faces left
 none_left g slack rows rules box cuts left undecided are = elim are [
   | inr (decided, none, same) ↦ absurd (decided (subst (λ (c : GridBox). IsUndecided rows rules c) same undecided))
-  | inl down ↦ eighths_leave rows rules.outliers box.id down.middle down.by_eighths left down.eighth_cuts
+  | inl (was, cut) ↦ cut_leaves g slack rules.pairs (test_of rules rows) box.id box.part cuts left cut
 ]

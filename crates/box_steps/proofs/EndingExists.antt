@@ -5,13 +5,16 @@ use Rattle.std.proofs.lemmas.Int.{ints}
 use Rattle.std.proofs.lemmas.Bool.{cases_Bool, cases_lt}
 use lib.Signed.{lt_z}
 use Rattle.sat_model.specs.declared.rules.Rules.{Rules}
-use Rattle.sat_model.specs.declared.satellites.Row.{Row}
+use Rattle.sat_model.specs.declared.rows.Row.{Row}
 use Rattle.sat_model.specs.declared.steps.Step.{Step}
 use Rattle.sat_model.specs.declared.steps.Step.TheVariants.{Split, Outside, Inside, Edge}
-use Rattle.sat_model.specs.Boxes.{GridBox, side_at}
+use Rattle.grid_model.specs.Boxes.{GridBox, side_at}
+use Rattle.sat_model.specs.BoxTests.{test_of}
 use Rattle.sat_model.specs.ClockSpans.{clock_spans, inner_spans}
-use Rattle.sat_model.specs.Lengths.{side_length, longest_length, IsLongestAxis}
+use Rattle.grid_model.specs.Lengths.{side_length, longest_length, IsLongestAxis}
 use Rattle.sat_model.specs.Waiting.{IsUndecided, MaySplit, MayNotSplit, Closes}
+use Rattle.row_pairs.proofs.TestLemmas.{empty_or_not}
+use Rattle.relaxed_meet.proofs.TestLemmas.{empty_by_spans}
 use Rattle.sat_model.proofs.RelaxedExists.{least_relaxed, relaxed_hull}
 
 below_two : (P : ℕ → Type 0) → P 0 → P 1 → (k : ℕ) → k < 2 → P k
@@ -50,15 +53,18 @@ may_split rules splits part = elim (cases_Bool (lt_z rules.width (pos (longest_l
 pub ending_exists : (rows : List Row) (rules : Rules) (splits id : ℕ) (part : GridBox) → rules.outliers < length rows → (step : Step) × Closes rows rules splits id part step
 ending_exists rows rules splits id part enough =
     let some : 0 < length rows - rules.outliers = omega arith in
-    elim (relaxed_hull (clock_spans part rows) (length rows - rules.outliers) some) [
-      | inl none ↦ (Outside id, (refl, none))
-      | inr (lo, hi, hull) ↦ elim (least_relaxed (inner_spans part rows) (length rows - rules.outliers) some) [
-        | inr (clock, least) ↦ (Inside id clock lo hi, (refl, record { shown = least.lies; least = least.least }, hull))
-        | inl not_inner ↦
-            let undecided : IsUndecided rows rules part = record { not_empty = λ none. none lo hull.lo_lies; not_inner = not_inner } in
-            elim (may_split rules splits part) [
-              | inl may ↦ let (axis, longest) = longest_axis_exists part in (Split id axis, (refl, undecided, may, longest))
-              | inr may_not ↦ (Edge id lo hi, (refl, undecided, may_not, hull))
-            ]
+    elim (empty_or_not (test_of rules rows) part enough) [
+      | inl empty ↦ (Outside id, (refl, empty))
+      | inr not_empty ↦ elim (relaxed_hull (clock_spans part rows) (length rows - rules.outliers) some) [
+        | inl none ↦ absurd (not_empty (empty_by_spans (test_of rules rows) part none))
+        | inr (lo, hi, hull) ↦ elim (least_relaxed (inner_spans part rows) (length rows - rules.outliers) some) [
+          | inr (clock, least) ↦ (Inside id clock lo hi, (refl, record { shown = least.lies; least = least.least }, hull))
+          | inl not_inner ↦
+              let undecided : IsUndecided rows rules part = record { not_empty = not_empty; not_inner = not_inner } in
+              elim (may_split rules splits part) [
+                | inl may ↦ let (axis, longest) = longest_axis_exists part in (Split id axis, (refl, undecided, may, longest))
+                | inr may_not ↦ (Edge id lo hi, (refl, undecided, may_not, hull))
+              ]
+        ]
       ]
     ]

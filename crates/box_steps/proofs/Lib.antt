@@ -1,6 +1,7 @@
 pub mod TakingLemmas
 pub mod EighthLemmas
 pub mod FaceLemmas
+pub mod TargetLemmas
 pub mod RoundLemmas
 pub mod FacesUnderway
 pub mod RoundsUnderway

@@ -1,7 +1,7 @@
 -- Steps that a log took, one after another, and those that broke off.
 use Rattle.std.proofs.Common.{◌≡◌, ℕ, ◌<◌, List, [], ◌∷◌, ◌++◌, length, refl, sym, ap, subst, ◌∙◌, append_assoc, ◌↔◌, Result, Err}
 use Rattle.sat_model.specs.declared.steps.Step.{Step}
-use Rattle.sat_model.specs.Boxes.{GridBox}
+use Rattle.grid_model.specs.Boxes.{GridBox}
 use Rattle.sat_model.specs.Fold.{ShownStep}
 use Rattle.box_steps.specs.Taken.{TookAll, step_bytes}
 use Rattle.box_steps.specs.declared.steps.StepFault.{StepFault}

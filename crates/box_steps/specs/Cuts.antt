@@ -1,14 +1,13 @@
 -- Cuts of a box: slabs at its faces in which no point fits are taken off before it is split. A face
 -- may be moved to where a contractor proposes it (Chabert and Jaulin, 'Contractor programming', 2009),
 -- or a slab is tried and refuted (Lhomme, 'Consistency techniques for numeric CSPs', 1993).
-use Rattle.std.specs.Prelude.{◌≡◌, ◌≢◌, ℕ, ◌+◌, ◌/◌, ◌⊎◌, ℤ, pos, ◌+ℤ◌, ◌-ℤ◌, List, [], ◌∷◌, ◌++◌}
-use Rattle.std.specs.Prelude.{Option, None, Some, Bool, true, false}
-use Rattle.sat_model.specs.declared.satellites.Row.{Row}
+use Rattle.std.specs.Prelude.{◌≡◌, ◌≢◌, ℕ, ◌+◌, ◌/◌, ◌⊎◌, ℤ, pos, ◌+ℤ◌, ◌-ℤ◌, ◌≤ℤ◌}
+use Rattle.std.specs.Prelude.{List, [], ◌∷◌, ◌++◌, Option, None, Some, Bool, true, false}
 use Rattle.sat_model.specs.declared.steps.Step.TheVariants.{Cut}
-use Rattle.sat_model.specs.Boxes.{Side, GridBox, side_at}
-use Rattle.sat_model.specs.ClockSpans.{IsShownEmpty}
+use Rattle.grid_model.specs.Boxes.{Side, GridBox, side_at}
+use Rattle.sat_model.specs.BoxTests.{BoxTest, IsEmpty}
 use Rattle.sat_model.specs.Fold.{ShownStep, axis_of, is_low, IsProperCut, left_by_cut, slab_of_cut}
-use Rattle.sat_model.specs.Lengths.{side_length}
+use Rattle.grid_model.specs.Lengths.{side_length}
 use Rattle.sat_model.specs.Waiting.{joined}
 use Rattle.sat_model.specs.TightFaces.{face_at}
 
@@ -27,45 +26,94 @@ abbrev pub eighth_of : Side → ℕ
 eighth_of s = (side_length s + 1) / 8
 
 -- past so many points at a low or at a high face
+abbrev pub past : Bool → Side → ℕ → ℤ
+past true s points = s.lo +ℤ pos points
+past false s points = s.hi -ℤ pos points
+
 abbrev pub past_eighth : Bool → Side → ℤ
-past_eighth true s = s.lo +ℤ pos (eighth_of s)
-past_eighth false s = s.hi -ℤ pos (eighth_of s)
+past_eighth low s = past low s (eighth_of s)
 
 abbrev pub eighths : Bounds
 eighths face part = past_eighth (is_low face) (side_at (axis_of face) part)
+
+-- a bound is at least as deep as another, at a low or at a high face
+abbrev pub IsAsDeep : Bool → ℤ → ℤ → Type 0
+IsAsDeep true least bound = least ≤ℤ bound
+IsAsDeep false least bound = bound ≤ℤ least
 
 -- the faces: low and high of x, of y and of z
 abbrev pub all_faces : List ℕ
 all_faces = 0 ∷ 1 ∷ 2 ∷ 3 ∷ 4 ∷ 5 ∷ []
 
--- ---- cuts, for rows of which up to q may be inconsistent
+-- ---- the cut of a face
 
 -- the bound lies inside the face, and the slab beyond it is shown empty
-abbrev pub MayCut : List Row → ℕ → ℕ → ℤ → GridBox → Type 0
-MayCut rows q face bound part =
-    IsProperCut face bound part × IsShownEmpty rows (slab_of_cut face bound part) q
+abbrev pub MayCut : BoxTest → ℕ → ℤ → GridBox → Type 0
+MayCut test face bound part =
+    IsProperCut face bound part × IsEmpty test (slab_of_cut face bound part)
 
 -- a cut of the box of a number, with its slab
 abbrev pub cut_shown : ℕ → ℕ → ℤ → GridBox → ShownStep
 cut_shown id face bound part =
     record { step = Cut id face bound; part = slab_of_cut face bound part }
 
-module _ (rows : List Row) (q id : ℕ) where
-  -- a face is cut exactly where it may be
+module _ (test : BoxTest) (id : ℕ) where
+  -- a face is cut at a bound exactly where it may be
   abbrev pub IsFaceCut : ℕ → ℤ → GridBox → List ShownStep → GridBox → Type 0
   IsFaceCut face bound part steps left =
-      (MayCut rows q face bound part × (steps ≡ cut_shown id face bound part ∷ [])
+      (MayCut test face bound part × (steps ≡ cut_shown id face bound part ∷ [])
       × (left ≡ left_by_cut face bound part))
-      ⊎ ((MayCut rows q face bound part → ⊥) × (steps ≡ []) × (left ≡ part))
+      ⊎ ((MayCut test face bound part → ⊥) × (steps ≡ []) × (left ≡ part))
 
+  -- a cut of an eighth or more, where the eighth may be cut off too
+  pub record IsDeepCut (face : ℕ) (part : GridBox) (steps : List ShownStep) (left : GridBox)
+      : Type 0 where
+    pub eighth : MayCut test face (eighths face part) part
+    pub bound : ℤ
+    pub deep : IsAsDeep (is_low face) (eighths face part) bound
+    pub may : MayCut test face bound part
+    pub cut : steps ≡ cut_shown id face bound part ∷ []
+    pub rest : left ≡ left_by_cut face bound part
+
+  -- a face is cut exactly where its eighth may be, there or deeper
+  abbrev pub IsFaceDone : ℕ → GridBox → List ShownStep → GridBox → Type 0
+  IsFaceDone face part steps left =
+      IsDeepCut face part steps left
+      ⊎ ((MayCut test face (eighths face part) part → ⊥) × (steps ≡ []) × (left ≡ part))
+
+-- ---- the cuts of all faces
+
+-- what is done at a face of a box: its cuts, and what they leave
+module _ (Done : ℕ → GridBox → List ShownStep → GridBox → Type 0) where
   -- one face after the other, each of the box as cut so far
-  abbrev pub AreFacesCut : Bounds → List ℕ → GridBox → List ShownStep → GridBox → Type 0
-  AreFacesCut bounds [] part steps left = (steps ≡ []) × (left ≡ part)
-  AreFacesCut bounds (face ∷ faces) part steps left =
+  abbrev pub AreFacesDone : List ℕ → GridBox → List ShownStep → GridBox → Type 0
+  AreFacesDone [] part steps left = (steps ≡ []) × (left ≡ part)
+  AreFacesDone (face ∷ faces) part steps left =
       (own : List ShownStep) × (middle : GridBox) × (more : List ShownStep)
-      × IsFaceCut face (bounds face part) part own middle
-      × AreFacesCut bounds faces middle more left
+      × Done face part own middle
+      × AreFacesDone faces middle more left
       × (steps ≡ own ++ more)
+
+  -- rounds over all faces, of which the last one alone makes no cut
+  abbrev pub AreRounds : GridBox → List (List ShownStep) → GridBox → Type 0
+  AreRounds part [] left = ⊥
+  AreRounds part (round ∷ []) left = AreFacesDone all_faces part round left × (round ≡ [])
+  AreRounds part (round ∷ second ∷ more) left =
+      (middle : GridBox) × AreFacesDone all_faces part round middle
+      × (round ≢ []) × AreRounds middle (second ∷ more) left
+
+  -- the cuts of such rounds
+  abbrev pub AreRoundCuts : GridBox → List ShownStep → GridBox → Type 0
+  AreRoundCuts part steps left =
+      (rounds : List (List ShownStep)) × AreRounds part rounds left × (steps ≡ joined rounds)
+
+module _ (test : BoxTest) (id : ℕ) where
+  -- each face is cut at its bound exactly where it may be
+  abbrev pub IsCutTo : Bounds → ℕ → GridBox → List ShownStep → GridBox → Type 0
+  IsCutTo bounds face part = IsFaceCut test id face (bounds face part) part
+
+  abbrev pub AreFacesCut : Bounds → List ℕ → GridBox → List ShownStep → GridBox → Type 0
+  AreFacesCut bounds = AreFacesDone (IsCutTo bounds)
 
   -- the cuts by an answer of a contractor; none proposes no cut
   abbrev pub AreProposalCuts : Option GridBox → GridBox → List ShownStep → GridBox → Type 0
@@ -73,22 +121,16 @@ module _ (rows : List Row) (q id : ℕ) where
   AreProposalCuts (Some a) part steps left =
       AreFacesCut (proposed a) all_faces part steps left
 
-  -- rounds of eighths over all faces, of which the last one alone makes no cut
-  abbrev pub AreRounds : GridBox → List (List ShownStep) → GridBox → Type 0
-  AreRounds part [] left = ⊥
-  AreRounds part (round ∷ []) left =
-      AreFacesCut eighths all_faces part round left × (round ≡ [])
-  AreRounds part (round ∷ second ∷ more) left =
-      (middle : GridBox) × AreFacesCut eighths all_faces part round middle
-      × (round ≢ []) × AreRounds middle (second ∷ more) left
-
-  -- the cuts of such rounds
+  -- rounds of eighths
   abbrev pub AreEighthCuts : GridBox → List ShownStep → GridBox → Type 0
-  AreEighthCuts part steps left =
-      (rounds : List (List ShownStep)) × AreRounds part rounds left × (steps ≡ joined rounds)
+  AreEighthCuts = AreRoundCuts (IsCutTo eighths)
+
+  -- rounds of cuts of an eighth or more
+  abbrev pub AreDeepCuts : GridBox → List ShownStep → GridBox → Type 0
+  AreDeepCuts = AreRoundCuts (IsFaceDone test id)
 
 -- at none of these faces an eighth may be cut off
-abbrev pub NoneMayCut : List Row → ℕ → List ℕ → GridBox → Type 0
-NoneMayCut rows q [] part = Unit {0}
-NoneMayCut rows q (face ∷ faces) part =
-    (MayCut rows q face (eighths face part) part → ⊥) × NoneMayCut rows q faces part
+abbrev pub NoneMayCut : BoxTest → List ℕ → GridBox → Type 0
+NoneMayCut test [] part = Unit {0}
+NoneMayCut test (face ∷ faces) part =
+    (MayCut test face (eighths face part) part → ⊥) × NoneMayCut test faces part

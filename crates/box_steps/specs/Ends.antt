@@ -1,7 +1,7 @@
 -- How a box ended, and what the log took of it.
 use Rattle.std.specs.Prelude.{◌≡◌, List, [], ◌∷◌, ◌++◌, length}
 use Rattle.sat_model.specs.declared.steps.Step.{Step}
-use Rattle.sat_model.specs.Boxes.{GridBox, grid_box}
+use Rattle.grid_model.specs.Boxes.{GridBox, grid_box}
 use Rattle.sat_model.specs.Fold.{ShownStep}
 use Rattle.box_steps.specs.Taken.{TookAll}
 use Rattle.box_steps.specs.declared.work.Ended.{Ended}

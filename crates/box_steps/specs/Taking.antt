@@ -1,7 +1,7 @@
 -- What working on a box did to the log that its steps go to.
 use Rattle.std.specs.Prelude.{◌≡◌, ℕ, ◌<◌, ◌↔◌, List, ◌∷◌, ◌++◌, length}
 use Rattle.sat_model.specs.declared.steps.Step.{Step}
-use Rattle.sat_model.specs.Boxes.{GridBox}
+use Rattle.grid_model.specs.Boxes.{GridBox}
 use Rattle.sat_model.specs.Fold.{ShownStep}
 use Rattle.box_steps.specs.Taken.{TookAll, step_bytes}
 use Rattle.box_steps.specs.declared.steps.StepFault.{StepFault}

@@ -1,20 +1,21 @@
 //! The step that splits or closes a box.
 
 ghost use Rattle.std.specs.Prelude.{◌≡◌, List};
-ghost use Rattle.sat_model.specs.Boxes.{grid_box};
-ghost use Rattle.sat_model.specs.ClockSpans.{IsClockHull};
+ghost use Rattle.grid_model.specs.Boxes.{grid_box};
+ghost use Rattle.sat_model.specs.BoxTests.{test_of, IsHull};
 ghost use Rattle.sat_model.specs.Waiting.{Closes, IsUndecided};
-ghost use Rattle.sat_model.specs.declared.satellites.Row.{Row};
+ghost use Rattle.sat_model.specs.declared.rows.Row.{Row};
 ghost use Rattle.relaxed_meet.specs.BoxStates.{IsBoxState};
 
+use grid_model::{Box3, Span};
 use relaxed_meet::BoxState;
-use sat_model::{Box3, Rules, Span, Step};
+use sat_model::{Rules, Step};
 
-/// What is done with a box of which the rows show this, after so many splits: it is closed outside
+/// What is done with a box of which a test shows this, after so many splits: it is closed outside
 /// where it is shown empty, and inside where it is shown inner. Else it is split on its longest
 /// axis, or closed at the edge where it is short enough or no split is left.
 pub fn closing_step(rules: &Rules, splits: u32, id: u32, part: &Box3, state: &BoxState) -> Step
-    ensures { (rows : List Row) → IsBoxState rows (grid_box part.now) rules.now.outliers state.now
+    ensures { (rows : List Row) → IsBoxState (test_of rules.now rows) (grid_box part.now) state.now
         → Closes rows rules.now splits id (grid_box part.now) result }
 {
     match *state {
@@ -32,7 +33,7 @@ pub fn closing_step(rules: &Rules, splits: u32, id: u32, part: &Box3, state: &Bo
 /// The step for a box that is shown neither empty nor inner, with its clock hull.
 fn undecided_step(rules: &Rules, splits: u32, id: u32, part: &Box3, hull: Span) -> Step
     ensures { (rows : List Row) → IsUndecided rows rules.now (grid_box part.now)
-        → IsClockHull rows (grid_box part.now) rules.now.outliers hull.lo hull.hi
+        → IsHull (test_of rules.now rows) (grid_box part.now) hull.lo hull.hi
         → Closes rows rules.now splits id (grid_box part.now) result }
 {
     let (axis, longest) = part.longest_axis();

@@ -1,13 +1,14 @@
 //! Laws of the steps of one box.
 
 ghost use Rattle.std.specs.Prelude.{ℕ, ◌<◌, ◌≤◌, ℤ, pos, ◌*ℤ◌, ◌≤ℤ◌, List, length};
-ghost use Rattle.sat_model.specs.Boxes.{GridBox, grid_box};
+ghost use Rattle.grid_model.specs.Boxes.{GridBox, grid_box};
+ghost use Rattle.sat_model.specs.BoxTests.{test_of};
 ghost use Rattle.sat_model.specs.Contractors.{LiesIn};
 ghost use Rattle.sat_model.specs.Fold.{ShownStep};
 ghost use Rattle.sat_model.specs.Waiting.{IsUndecided};
-ghost use Rattle.sat_model.specs.declared.boxes.Box3.{Box3};
+ghost use Rattle.grid_model.specs.declared.boxes.Box3.{Box3};
 ghost use Rattle.sat_model.specs.declared.rules.Rules.{Rules};
-ghost use Rattle.sat_model.specs.declared.satellites.Row.{Row};
+ghost use Rattle.sat_model.specs.declared.rows.Row.{Row};
 ghost use Rattle.box_steps.specs.BoxSteps.{AreBoxSteps, AreCutsOf};
 ghost use Rattle.box_steps.specs.Cuts.{NoneMayCut, all_faces};
 
@@ -20,9 +21,9 @@ pub fn box_steps_exist()
         (record { id = id; part = grid_box part }) steps }
 {}
 
-/// The law: a box has at most 1,014 cuts, 6 by a proposal and 1,008 by eighths, and they leave a part
-/// of it. If the rows don't decide that part, no eighth at its faces is shown empty. The call does
-/// nothing.
+/// The law: a box has at most 1,014 cuts, 6 by a proposal and 1,008 by eighths or more, and they
+/// leave a part of it. If the rows don't decide that part, no eighth at its faces is shown empty. The
+/// call does nothing.
 pub fn cuts_leave_no_eighth()
     ensures few { (grain : ℤ) → (slack : ℤ) → (rows : List Row) → (rules : Rules) → (id : ℕ)
         → (part : Box3) → (cuts : List ShownStep) → (left : GridBox)
@@ -36,5 +37,5 @@ pub fn cuts_leave_no_eighth()
         → (id : ℕ) → (part : Box3) → (cuts : List ShownStep) → (left : GridBox)
         → AreCutsOf grain slack rows rules (record { id = id; part = grid_box part }) cuts left
         → IsUndecided rows rules left
-        → NoneMayCut rows rules.outliers all_faces left }
+        → NoneMayCut (test_of rules rows) all_faces left }
 {}

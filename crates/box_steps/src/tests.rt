@@ -1,12 +1,14 @@
 ghost use Rattle.std.specs.Prelude.{◌≡◌, ◌<◌, ◌≤◌, ◌∷◌, [], ◌++◌, length, ◌≤ℤ◌};
-ghost use Rattle.sat_model.specs.Sizes.{IsBoxSize, IsErrorSize, IsPlaceSize};
+ghost use Rattle.grid_model.specs.Sizes.{IsBoxSize, IsErrorSize, IsPlaceSize};
 
 use super::*;
 use fix_interval::Exact;
+use gnss_model::Sat;
+use grid_model::{Box3, Pos, Span};
 use paving_log::step_line;
 use range_contractor::relaxed_tree;
-use relaxed_meet::SlabTests;
-use sat_model::{Box3, Pos, Row, Rules, Sat, Span, Step};
+use relaxed_meet::BoxTest;
+use sat_model::{Row, Rules, Step};
 use std::alloc::Global;
 use std::test::Fail;
 
@@ -125,6 +127,7 @@ const NO_SPLITS: Rules = Rules {
     outliers: 0,
     bisections: 0,
     width: 1_000_000,
+    pairs: false,
 };
 
 /// Works on box 0 with these rows, and gives how it ended.
@@ -138,12 +141,20 @@ fn worked_on(
 {
     match relaxed_tree::<Exact>(alloc, rows, 0) {
         Ok(tree) => {
-            let mut tests = SlabTests::default();
-            work_on(rows, &NO_SPLITS, &tree, 0, 0, &mut tests, part, log)
+            let mut test = BoxTest::new(rows, &NO_SPLITS);
+            work_on(&mut test, &NO_SPLITS, Some(&tree), 0, 0, part, log)
         }
         Err(_) => Err(StepFault::Failed),
     }
 }
+
+/// The same with pairs of rows asked.
+const BY_PAIRS: Rules = Rules {
+    outliers: 0,
+    bisections: 0,
+    width: 1_000_000,
+    pairs: true,
+};
 
 fn list(alloc: Global, sound: u64) -> StepList {
     StepList {
@@ -197,6 +208,42 @@ fn eighths_are_cut_until_a_round_cuts_none(rt: HostRuntime) -> Result<(), Fail> 
         id: 0,
         face: 1,
         bound: 6_250_000,
+    };
+    assert_eq!(rt; log.steps.as_slice(), [low, high, edge].as_slice());
+    Ok(())
+}
+
+/// Of the satellites on the x axis the one leaves offsets from x - 5 m to x + 5 m, the other from
+/// -x - 5 m to -x + 5 m, so x is from -5 m to 5 m. Halving eight times from an eighth and the whole
+/// of 18,000,001 points finds 3,972,656 of them, and of the 14,027,345 left it finds 3,958,888.
+#[test]
+fn slabs_are_cut_off_as_deep_as_pairs_show_them(rt: HostRuntime) -> Result<(), Fail> {
+    let mut log = list(rt.alloc(), 9);
+    let rows = two_on_x();
+    let mut test = BoxTest::new(&rows, &BY_PAIRS);
+    let edge = Step::Edge {
+        id: 0,
+        lo: -10_027_344,
+        hi: 10_027_344,
+    };
+    let part = slab(-9_000_000, 9_000_000);
+    assert_eq!(rt;
+        work_on::<Exact, StepList>(&mut test, &BY_PAIRS, None, 0, 0, &part, &mut log),
+        Ok(Ended {
+            step: edge,
+            left: slab(-5_027_344, 5_041_112),
+            cuts: 2,
+        })
+    );
+    let low = Step::Cut {
+        id: 0,
+        face: 0,
+        bound: -5_027_344,
+    };
+    let high = Step::Cut {
+        id: 0,
+        face: 1,
+        bound: 5_041_112,
     };
     assert_eq!(rt; log.steps.as_slice(), [low, high, edge].as_slice());
     Ok(())

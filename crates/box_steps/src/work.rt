@@ -1,25 +1,27 @@
 //! All steps of one box.
 
-ghost use Rattle.std.specs.Prelude.{◌≡◌, ◌<◌, ◌≤◌, length, IfOk, IfErr, Err};
-ghost use Rattle.sat_model.specs.Boxes.{grid_box};
-ghost use Rattle.sat_model.specs.ClockSpans.{IsClockHull};
-ghost use Rattle.sat_model.specs.Waiting.{IsUndecided};
+ghost use Rattle.std.specs.Prelude.{◌≡◌, ◌≤◌, true, false, IfOk, IfErr, Err, MatchOption};
+ghost use Rattle.grid_model.specs.Boxes.{grid_box};
+ghost use Rattle.sat_model.specs.BoxTests.{test_of, IsHull};
 ghost use Rattle.sat_model.specs.RowTrees.{row_tree};
 ghost use Rattle.range_contractor.specs.Views.{tree_value};
 ghost use Rattle.relaxed_meet.specs.BoxStates.{IsBoxState};
+ghost use Rattle.relaxed_meet.specs.TestValues.{test_value};
 ghost use Rattle.box_steps.specs.Taken.{Rose};
-ghost use Rattle.box_steps.specs.BoxSteps.{AreBoxSteps, IsCutDown};
+ghost use Rattle.box_steps.specs.BoxSteps.{AreBoxSteps, IsCut, IsCutDown};
 ghost use Rattle.box_steps.specs.Taking.{TookCuts, BrokeOff, LeaveSome};
 ghost use Rattle.box_steps.specs.Ends.{TookBox};
 
 use crate::closing::closing_step;
 use crate::proposal::cut_by_tree;
-use crate::rounds::cut_eighths;
+use crate::rounds::cut_rounds;
 use crate::steps::{StepFault, Steps};
+use crate::target::Target;
 use fix_interval::Interval;
+use grid_model::{Box3, Span};
 use range_contractor::Tree;
-use relaxed_meet::{BoxState, SlabTests, box_state};
-use sat_model::{Box3, Row, Rules, Span, Step};
+use relaxed_meet::{BoxState, BoxTest};
+use sat_model::{Rules, Step};
 
 /// How a box ended: the step that split or closed it, what was left of it by then, in um, and how
 /// many cuts were made before.
@@ -31,33 +33,37 @@ pub struct Ended {
 }
 
 /// Works on a box of a paving that is taken up after so many splits, and hands each step to the log
-/// with the slab that it cuts off or the box as it is then. The box is cut where its rows show slabs
-/// at its faces empty: up to what their tree proposes, and by eighths. Then it is split or closed.
-/// A fault is that of the step that wasn't taken. At most 1,800 cuts are made. What decided the tests
-/// of slabs before, of this box or another with these rows, changes no step, but how soon it comes.
+/// with the slab that it cuts off or the box as it is then. The box is cut where the test shows
+/// slabs at its faces empty, and then it is split or closed. The tree is that of the rows: slabs are
+/// cut off up to what it proposes, and by eighths. Where the rules ask pairs of rows there is none, and
+/// slabs of an eighth or more are cut off. A fault is that of the step that wasn't taken. At most
+/// 1,800 cuts are made. What decided the tests before, of this box or another, changes no step, but
+/// how soon it comes.
 pub fn work_on<I: Interval, L: Steps>(
-    rows: &[Row],
+    test: &mut BoxTest,
     rules: &Rules,
-    tree: &Tree<I>,
+    tree: Option<&Tree<I>>,
     splits: u32,
     id: u32,
-    tests: &mut SlabTests,
     part: &Box3,
     log: &mut L,
 ) -> Result<Ended, StepFault>
-    requires few { (rules.now.outliers < length rows.now) × (length rows.now ≤ 64) }
-    requires tree { tree_value I.low I.high tree.now
-        ≡ row_tree I.GRAIN rows.now rules.now.outliers }
-    ensures took { IfOk result (λ ended. TookBox L.took (AreBoxSteps I.GRAIN I.SLACK rows.now
-        rules.now splits (record { id = id; part = grid_box part.now })) log.old ended log.new) }
+    requires test { test_value test.old ≡ test_of rules.now (test_value test.old).rows }
+    requires tree { MatchOption tree ((test_value test.old).pairs ≡ true)
+        (λ t. ((test_value test.old).pairs ≡ false) × (tree_value I.low I.high t.now
+        ≡ row_tree I.GRAIN (test_value test.old).rows (test_value test.old).q)) }
+    ensures took { IfOk result (λ ended. TookBox L.took (AreBoxSteps I.GRAIN I.SLACK
+        (test_value test.old).rows rules.now splits
+        (record { id = id; part = grid_box part.now })) log.old ended log.new) }
     ensures broken { IfErr result (λ fault. BrokeOff L.took L.broke L.room fault
-        (AreBoxSteps I.GRAIN I.SLACK rows.now rules.now splits
+        (AreBoxSteps I.GRAIN I.SLACK (test_value test.old).rows rules.now splits
         (record { id = id; part = grid_box part.now })) log.old log.new) }
     ensures few { IfOk result (λ ended. ended.cuts ≤ 1800) }
     ensures failed { result ≡ Err StepFault.Failed → Rose (L.faults log.old) (L.faults log.new) }
     ensures counted { L.faults log.old ≤ L.faults log.new }
+    ensures same { test_value test.new ≡ test_value test.old }
 {
-    let state = box_state(rows, part, rules.outliers, tests);
+    let state = test.state(part);
     let BoxState::Undecided { hull } = state else {
         let step = closing_step(rules, splits, id, part, &state);
         log.step(&step, part)?;
@@ -68,8 +74,8 @@ pub fn work_on<I: Interval, L: Steps>(
         });
     };
     let mut left = *part;
-    let cuts = cut_down(rows, rules, tree, hull, id, tests, &mut left, log)?;
-    let state = state_of_rest(rows, rules.outliers, part, &state, &left, tests);
+    let cuts = cut_box(test, tree, hull, id, &mut left, log)?;
+    let state = state_of_rest(test, part, &state, &left);
     let step = closing_step(rules, splits, id, &left, &state);
     log.step(&step, &left)?;
     Ok(Ended { step, left, cuts })
@@ -77,53 +83,70 @@ pub fn work_on<I: Interval, L: Steps>(
 
 /// Cuts a box that is shown neither empty nor inner, with its clock hull, and answers how many cuts
 /// that made.
-fn cut_down<I: Interval, L: Steps>(
-    rows: &[Row],
-    rules: &Rules,
-    tree: &Tree<I>,
+fn cut_box<I: Interval, L: Steps>(
+    test: &mut BoxTest,
+    tree: Option<&Tree<I>>,
     hull: Span,
     id: u32,
-    tests: &mut SlabTests,
     part: &mut Box3,
     log: &mut L,
 ) -> Result<u32, StepFault>
-    requires few { (rules.now.outliers < length rows.now) × (length rows.now ≤ 64) }
-    requires tree { tree_value I.low I.high tree.now
-        ≡ row_tree I.GRAIN rows.now rules.now.outliers }
-    requires undecided { IsUndecided rows.now rules.now (grid_box part.old) }
-    requires hull { IsClockHull rows.now (grid_box part.old) rules.now.outliers hull.lo hull.hi }
-    ensures cut { IfOk result (λ cuts. TookCuts L.took (IsCutDown I.GRAIN I.SLACK rows.now
-        rules.now (record { id = id; part = grid_box part.old })) log.old cuts
-        (grid_box part.new) log.new) }
+    requires tree { MatchOption tree ((test_value test.old).pairs ≡ true)
+        (λ t. ((test_value test.old).pairs ≡ false) × (tree_value I.low I.high t.now
+        ≡ row_tree I.GRAIN (test_value test.old).rows (test_value test.old).q)) }
+    requires hull { IsHull (test_value test.old) (grid_box part.old) hull.lo hull.hi }
+    ensures cut { IfOk result (λ cuts. TookCuts L.took (IsCut I.GRAIN I.SLACK
+        (test_value test.old) id (grid_box part.old)) log.old cuts (grid_box part.new) log.new) }
     ensures broken { IfErr result (λ fault. BrokeOff L.took L.broke L.room fault (LeaveSome
-        (IsCutDown I.GRAIN I.SLACK rows.now rules.now
-        (record { id = id; part = grid_box part.old }))) log.old log.new) }
+        (IsCut I.GRAIN I.SLACK (test_value test.old) id (grid_box part.old))) log.old log.new) }
     ensures few { IfOk result (λ cuts. cuts ≤ 1014) }
     ensures failed { result ≡ Err StepFault.Failed → Rose (L.faults log.old) (L.faults log.new) }
     ensures counted { L.faults log.old ≤ L.faults log.new }
+    ensures same { test_value test.new ≡ test_value test.old }
 {
-    let by_tree = cut_by_tree(rows, rules.outliers, tree, hull, id, tests, part, log)?;
-    let by_eighths = cut_eighths(rows, rules.outliers, id, tests, part, log)?;
+    match tree {
+        Some(tree) => cut_down(test, tree, hull, id, part, log),
+        None => cut_rounds(test, &Target::Deep, id, part, log),
+    }
+}
+
+/// The same by what the tree of the rows proposes, and then by eighths.
+fn cut_down<I: Interval, L: Steps>(
+    test: &mut BoxTest,
+    tree: &Tree<I>,
+    hull: Span,
+    id: u32,
+    part: &mut Box3,
+    log: &mut L,
+) -> Result<u32, StepFault>
+    requires tree { tree_value I.low I.high tree.now
+        ≡ row_tree I.GRAIN (test_value test.old).rows (test_value test.old).q }
+    requires hull { IsHull (test_value test.old) (grid_box part.old) hull.lo hull.hi }
+    ensures cut { IfOk result (λ cuts. TookCuts L.took (IsCutDown I.GRAIN I.SLACK
+        (test_value test.old) id (grid_box part.old)) log.old cuts (grid_box part.new) log.new) }
+    ensures broken { IfErr result (λ fault. BrokeOff L.took L.broke L.room fault (LeaveSome
+        (IsCutDown I.GRAIN I.SLACK (test_value test.old) id (grid_box part.old)))
+        log.old log.new) }
+    ensures few { IfOk result (λ cuts. cuts ≤ 1014) }
+    ensures failed { result ≡ Err StepFault.Failed → Rose (L.faults log.old) (L.faults log.new) }
+    ensures counted { L.faults log.old ≤ L.faults log.new }
+    ensures same { test_value test.new ≡ test_value test.old }
+{
+    let by_tree = cut_by_tree(test, tree, hull, id, part, log)?;
+    let by_eighths = cut_rounds(test, &Target::Eighths, id, part, log)?;
     Ok(by_tree + by_eighths)
 }
 
-/// What the rows show of what cuts left of a box, of which they showed `state` before. Where nothing
+/// What the test shows of what cuts left of a box, of which it showed `state` before. Where nothing
 /// was cut off it is the same.
-fn state_of_rest(
-    rows: &[Row],
-    q: u8,
-    part: &Box3,
-    state: &BoxState,
-    left: &Box3,
-    tests: &mut SlabTests,
-) -> BoxState
-    requires few { (q < length rows.now) × (length rows.now ≤ 64) }
-    requires before { IsBoxState rows.now (grid_box part.now) q state.now }
-    ensures { IsBoxState rows.now (grid_box left.now) q result }
+fn state_of_rest(test: &mut BoxTest, part: &Box3, state: &BoxState, left: &Box3) -> BoxState
+    requires before { IsBoxState (test_value test.old) (grid_box part.now) state.now }
+    ensures state { IsBoxState (test_value test.old) (grid_box left.now) result }
+    ensures same { test_value test.new ≡ test_value test.old }
 {
     if *left == *part {
         *state
     } else {
-        box_state(rows, left, q, tests)
+        test.state(left)
     }
 }

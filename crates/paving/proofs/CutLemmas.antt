@@ -4,8 +4,9 @@ use Rattle.std.specs.Prelude.{ℤ, Bool, cond, count_by}
 use Rattle.std.proofs.lemmas.List.{length-append}
 use Rattle.std.proofs.lemmas.List.Sums.{sum_by-append, sum_by-cons}
 use Rattle.sat_model.specs.declared.rules.Rules.{Rules}
-use Rattle.sat_model.specs.declared.satellites.Row.{Row}
-use Rattle.sat_model.specs.Boxes.{GridBox}
+use Rattle.sat_model.specs.declared.rows.Row.{Row}
+use Rattle.grid_model.specs.Boxes.{GridBox}
+use Rattle.sat_model.specs.BoxTests.{BoxTest, test_of}
 use Rattle.sat_model.specs.Fold.{ShownStep, left_by_cut}
 use Rattle.sat_model.specs.StepKinds.{is_inside, is_edge, is_outside, is_split}
 use Rattle.sat_model.specs.Waiting.{WaitingBox, Paving, Closes, beyond, beyond_all}
@@ -26,13 +27,13 @@ ends_same (a ∷ xs) (b ∷ ys) x y e =
 
 -- the last step ends what the cuts before it left
 pub ends_by_last : (grain slack : ℤ) (rows : List Row) (rules : Rules) (splits : ℕ) (box : WaitingBox) (cuts : List ShownStep) (last : ShownStep) → AreBoxSteps grain slack rows rules splits box (cuts ++ last ∷ [])
-    → Closes rows rules splits box.id last.part last.step × AreCutsInTurn rows rules.outliers box.id box.part cuts last.part
+    → Closes rows rules splits box.id last.part last.step × AreCutsInTurn (test_of rules rows) box.id box.part cuts last.part
 ends_by_last grain slack rows rules splits box cuts last are =
     let (same, last_is) = ends_same cuts are.cuts last (record { step = are.last; part = are.left }) are.all_steps in
     let in_turn = cuts_in_turn grain slack rows rules box are.cuts are.left are.are_cuts in (
       subst (λ (s : ShownStep). Closes rows rules splits box.id s.part s.step) (sym last_is) are.closes,
-      subst (λ (s : ShownStep). AreCutsInTurn rows rules.outliers box.id box.part cuts s.part) (sym last_is)
-          (subst (λ (l : List ShownStep). AreCutsInTurn rows rules.outliers box.id box.part l are.left) (sym same) in_turn),
+      subst (λ (s : ShownStep). AreCutsInTurn (test_of rules rows) box.id box.part cuts s.part) (sym last_is)
+          (subst (λ (l : List ShownStep). AreCutsInTurn (test_of rules rows) box.id box.part l are.left) (sym same) in_turn),
     )
 
 -- so it alone opens boxes
@@ -48,10 +49,10 @@ record AreCountsOfCuts (cuts : List ShownStep) : Type 0 where
   pub outside : count_by (λ shown. is_outside shown.step) cuts ≡ length cuts
   pub bisections : count_by (λ shown. is_split shown.step) cuts ≡ 0
 
-counts_of_cuts : (rows : List Row) (q id : ℕ) (part : GridBox) (cuts : List ShownStep) (left : GridBox) → AreCutsInTurn rows q id part cuts left → AreCountsOfCuts cuts
-counts_of_cuts rows q id part [] left same = record { inside = refl; edge = refl; outside = refl; bisections = refl }
-counts_of_cuts rows q id part (shown ∷ cuts) left (face, bound, may, is, later) =
-    let rest = counts_of_cuts rows q id (left_by_cut face bound part) cuts left later in record {
+counts_of_cuts : (test : BoxTest) (id : ℕ) (part : GridBox) (cuts : List ShownStep) (left : GridBox) → AreCutsInTurn test id part cuts left → AreCountsOfCuts cuts
+counts_of_cuts test id part [] left same = record { inside = refl; edge = refl; outside = refl; bisections = refl }
+counts_of_cuts test id part (shown ∷ cuts) left (face, bound, may, is, later) =
+    let rest = counts_of_cuts test id (left_by_cut face bound part) cuts left later in record {
       inside = omega (arith, rest.inside, sum_by-cons (λ s. cond (is_inside s.step) 1 0) shown cuts, ap {B = ℕ} (λ (s : ShownStep). cond (is_inside s.step) 1 0) is);
       edge = omega (arith, rest.edge, sum_by-cons (λ s. cond (is_edge s.step) 1 0) shown cuts, ap {B = ℕ} (λ (s : ShownStep). cond (is_edge s.step) 1 0) is);
       outside = omega (arith, rest.outside, sum_by-cons (λ s. cond (is_outside s.step) 1 0) shown cuts, ap {B = ℕ} (λ (s : ShownStep). cond (is_outside s.step) 1 0) is);
@@ -61,10 +62,10 @@ counts_of_cuts rows q id part (shown ∷ cuts) left (face, bound, may, is, later
 count_both : (p : ShownStep → Bool) (steps cuts : List ShownStep) (n more : ℕ) → n ≡ count_by p steps → count_by p cuts ≡ more → n + more ≡ count_by p (steps ++ cuts)
 count_both p steps cuts n more e f = omega (arith, e, f, sum_by-append (λ s. cond (p s) 1 0) steps cuts)
 
-pub counted_cuts : (rows : List Row) (q id : ℕ) (part left : GridBox) (counts : Counts) (steps cuts : List ShownStep) → AreCutsInTurn rows q id part cuts left → IsCountOf counts steps
+pub counted_cuts : (test : BoxTest) (id : ℕ) (part left : GridBox) (counts : Counts) (steps cuts : List ShownStep) → AreCutsInTurn test id part cuts left → IsCountOf counts steps
     → IsCountOf (counts_with_cuts counts (length cuts)) (steps ++ cuts)
-counted_cuts rows q id part left counts steps cuts in_turn c =
-    let k = counts_of_cuts rows q id part cuts left in_turn in record {
+counted_cuts test id part left counts steps cuts in_turn c =
+    let k = counts_of_cuts test id part cuts left in_turn in record {
       inside = omega (arith, count_both (λ s. is_inside s.step) steps cuts counts.inside 0 c.inside k.inside);
       edge = omega (arith, count_both (λ s. is_edge s.step) steps cuts counts.edge 0 c.edge k.edge);
       outside = count_both (λ s. is_outside s.step) steps cuts counts.outside (length cuts) c.outside k.outside;

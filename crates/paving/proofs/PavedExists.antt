@@ -4,17 +4,17 @@ use Rattle.std.specs.Prelude.{pos, ◌≤ℤ◌, nat_lt, All}
 use Rattle.std.proofs.lemmas.Int.{ints}
 use Rattle.std.proofs.lemmas.Bool.{cases_Bool, cases_lt}
 use Rattle.std.proofs.lemmas.List.{length-append, append-nil}
-use Rattle.sat_model.specs.declared.boxes.Box3.{Box3}
-use Rattle.sat_model.specs.declared.satellites.Row.{Row}
+use Rattle.grid_model.specs.declared.boxes.Box3.{Box3}
+use Rattle.sat_model.specs.declared.rows.Row.{Row}
 use Rattle.sat_model.specs.declared.rules.Rules.{Rules}
 use Rattle.sat_model.specs.declared.steps.Step.{Step}
 use Rattle.sat_model.specs.declared.steps.Step.TheVariants.{Cut, Split, Outside, Inside, Edge}
-use Rattle.sat_model.specs.Boxes.{Side, GridBox, grid_box, side_at, with_side, low_half, high_half}
+use Rattle.grid_model.specs.Boxes.{Side, GridBox, grid_box, side_at, with_side, low_half, high_half}
 use Rattle.sat_model.specs.Contractors.{SideLiesIn}
 use Rattle.sat_model.specs.Fold.{ShownStep}
-use Rattle.sat_model.specs.Lengths.{side_length, longest_length}
+use Rattle.grid_model.specs.Lengths.{side_length, longest_length}
 use Rattle.sat_model.specs.Waiting.{WaitingBox, bits_of, Paving, first_paving, IsNext, Closes, opened_by, beyond, beyond_all, joined}
-use Rattle.sat_model.proofs.AmountLemmas.{above_is}
+use Rattle.grid_model.proofs.AmountLemmas.{above_is}
 use Rattle.range_contractor.proofs.TreeExists.{IsGridPart, inside_part}
 use Rattle.box_steps.proofs.BoxLemmas.{grid_part, box_steps_exist, cuts_inside}
 use Rattle.box_steps.proofs.FaceLemmas.{with_inside}

@@ -5,88 +5,70 @@ use Rattle.std.proofs.lemmas.Int.{ints}
 use Rattle.std.proofs.lemmas.Bool.{cases_lt, cases_eq, ne_eqb}
 use Rattle.std.proofs.lemmas.List.{get_or-set_same, get_or-set_other, get_or_append_left, get_or_past, get_or_push, length-append, append-nil}
 use Rattle.std.proofs.Math.ListN.{length-set}
-use Rattle.sat_model.specs.declared.satellites.Row.{Row}
+use Rattle.sat_model.specs.declared.rows.Row.{Row}
 use Rattle.sat_model.specs.declared.rules.Rules.{Rules}
 use Rattle.sat_model.specs.declared.steps.Step.{Step}
 use Rattle.sat_model.specs.declared.steps.Step.TheVariants.{Cut, Split, Outside, Inside, Edge}
-use Rattle.sat_model.specs.Boxes.{GridBox, side_at, with_side, low_half, high_half}
+use Rattle.grid_model.specs.Boxes.{GridBox, side_at, with_side, low_half, high_half}
 use Rattle.sat_model.specs.Cover.{EpochCover}
 use Rattle.sat_model.specs.Fold.{Stage, first_stage, live_box, left_by_cut, halves, after, ShownStep, pieces}
 use Rattle.sat_model.specs.Verdicts.{StepPasses, StepsPass}
 use Rattle.sat_model.specs.Waiting.{WaitingBox, Paving, first_paving, IsNext, Closes, halves_from, beyond, beyond_all, joined, steps_of}
-use Rattle.box_steps.specs.Cuts.{Bounds, proposed, eighths, all_faces, MayCut, cut_shown, IsFaceCut, AreFacesCut, AreProposalCuts, AreRounds}
+use Rattle.box_steps.specs.Cuts.{MayCut, cut_shown, AreFacesDone}
 use Rattle.box_steps.specs.BoxSteps.{AreCutsOf}
+use Rattle.box_steps.proofs.BoxLemmas.{cuts_some}
+use Rattle.box_steps.proofs.FaceLemmas.{IsSomeCut}
+use Rattle.sat_model.specs.BoxTests.{BoxTest, test_of}
 use Rattle.paving.specs.Paved.{AreStepsOf, PavesTo, Paved}
-use Rattle.sat_model.proofs.AmountLemmas.{above_is}
+use Rattle.grid_model.proofs.AmountLemmas.{above_is}
 use Rattle.sat_model.proofs.CoverLemmas.{epoch_cover}
 
 -- ---- cuts, one after another
 
 -- each step cuts off a slab that is shown empty of what the cuts before it left
-abbrev pub AreCutsInTurn : List Row → ℕ → ℕ → GridBox → List ShownStep → GridBox → Type 0
-AreCutsInTurn rows q id part [] left = left ≡ part
-AreCutsInTurn rows q id part (shown ∷ more) left =
-    (face : ℕ) × (bound : ℤ) × MayCut rows q face bound part × (shown ≡ cut_shown id face bound part)
-    × AreCutsInTurn rows q id (left_by_cut face bound part) more left
+abbrev pub AreCutsInTurn : BoxTest → ℕ → GridBox → List ShownStep → GridBox → Type 0
+AreCutsInTurn test id part [] left = left ≡ part
+AreCutsInTurn test id part (shown ∷ more) left =
+    (face : ℕ) × (bound : ℤ) × MayCut test face bound part × (shown ≡ cut_shown id face bound part)
+    × AreCutsInTurn test id (left_by_cut face bound part) more left
 
-cuts_both : (rows : List Row) (q id : ℕ) (part : GridBox) (xs ys : List ShownStep) (middle left : GridBox) → AreCutsInTurn rows q id part xs middle → AreCutsInTurn rows q id middle ys left
-    → AreCutsInTurn rows q id part (xs ++ ys) left
-cuts_both rows q id part [] ys middle left same later = subst (λ (c : GridBox). AreCutsInTurn rows q id c ys left) same later
-cuts_both rows q id part (x ∷ xs) ys middle left (face, bound, may, is, more) later =
-    (face, bound, may, is, cuts_both rows q id (left_by_cut face bound part) xs ys middle left more later)
+cuts_both : (test : BoxTest) (id : ℕ) (part : GridBox) (xs ys : List ShownStep) (middle left : GridBox) → AreCutsInTurn test id part xs middle → AreCutsInTurn test id middle ys left
+    → AreCutsInTurn test id part (xs ++ ys) left
+cuts_both test id part [] ys middle left same later = subst (λ (c : GridBox). AreCutsInTurn test id c ys left) same later
+cuts_both test id part (x ∷ xs) ys middle left (face, bound, may, is, more) later =
+    (face, bound, may, is, cuts_both test id (left_by_cut face bound part) xs ys middle left more later)
 
-no_cuts : (rows : List Row) (q id : ℕ) (part : GridBox) (steps : List ShownStep) (left : GridBox) → steps ≡ [] → left ≡ part → AreCutsInTurn rows q id part steps left
-no_cuts rows q id part steps left none same = rw none same
+no_cuts : (test : BoxTest) (id : ℕ) (part : GridBox) (steps : List ShownStep) (left : GridBox) → steps ≡ [] → left ≡ part → AreCutsInTurn test id part steps left
+no_cuts test id part steps left none same = rw none same
 
-pub face_in_turn : (rows : List Row) (q id face : ℕ) (bound : ℤ) (part : GridBox) (steps : List ShownStep) (left : GridBox) → IsFaceCut rows q id face bound part steps left
-    → AreCutsInTurn rows q id part steps left
-face_in_turn rows q id face bound part steps left is = elim is [
-  | inl (may, one, cut) ↦ rw one (face, bound, may, refl, cut)
-  | inr (not, none, same) ↦ no_cuts rows q id part steps left none same
+face_in_turn : (test : BoxTest) (id face : ℕ) (part : GridBox) (steps : List ShownStep) (left : GridBox) → IsSomeCut test id face part steps left → AreCutsInTurn test id part steps left
+face_in_turn test id face part steps left is = elim is [
+  | inl (bound, may, one, cut) ↦ rw one (face, bound, may, refl, cut)
+  | inr (none, same) ↦ no_cuts test id part steps left none same
 ]
 
-faces_in_turn : (rows : List Row) (q id : ℕ) (bounds : Bounds) (faces : List ℕ) (part : GridBox) (steps : List ShownStep) (left : GridBox) → AreFacesCut rows q id bounds faces part steps left
-    → AreCutsInTurn rows q id part steps left
-faces_in_turn rows q id bounds [] part steps left (none, same) = no_cuts rows q id part steps left none same
-faces_in_turn rows q id bounds (face ∷ faces) part steps left (own, middle, more, is, others, join) =
-    rw join (cuts_both rows q id part own more middle left (face_in_turn rows q id face (bounds face part) part own middle is) (faces_in_turn rows q id bounds faces middle more left others))
-
-proposal_in_turn : (rows : List Row) (q id : ℕ) (answer : Option GridBox) (part : GridBox) (steps : List ShownStep) (left : GridBox) → AreProposalCuts rows q id answer part steps left
-    → AreCutsInTurn rows q id part steps left
-proposal_in_turn rows q id None part steps left (none, same) = no_cuts rows q id part steps left none same
-proposal_in_turn rows q id (Some a) part steps left are = faces_in_turn rows q id (proposed a) all_faces part steps left are
-
-rounds_in_turn : (rows : List Row) (q id : ℕ) (part : GridBox) (rounds : List (List ShownStep)) (left : GridBox) → AreRounds rows q id part rounds left
-    → AreCutsInTurn rows q id part (joined rounds) left
-rounds_in_turn rows q id part [] left are = absurd are
-rounds_in_turn rows q id part (round ∷ []) left (cut, none) =
-    subst (λ (l : List ShownStep). AreCutsInTurn rows q id part l left) (sym (append-nil round)) (faces_in_turn rows q id eighths all_faces part round left cut)
-rounds_in_turn rows q id part (round ∷ (second ∷ more)) left (middle, cut, some, later) =
-    cuts_both rows q id part round (joined (second ∷ more)) middle left (faces_in_turn rows q id eighths all_faces part round middle cut)
-    (rounds_in_turn rows q id middle (second ∷ more) left later)
+faces_in_turn : (test : BoxTest) (id : ℕ) (faces : List ℕ) (part : GridBox) (steps : List ShownStep) (left : GridBox) → AreFacesDone (IsSomeCut test id) faces part steps left
+    → AreCutsInTurn test id part steps left
+faces_in_turn test id [] part steps left (none, same) = no_cuts test id part steps left none same
+faces_in_turn test id (face ∷ faces) part steps left (own, middle, more, is, others, join) =
+    rw join (cuts_both test id part own more middle left (face_in_turn test id face part own middle is) (faces_in_turn test id faces middle more left others))
 
 -- so are all cuts of a box
 pub cuts_in_turn : (grain slack : ℤ) (rows : List Row) (rules : Rules) (box : WaitingBox) (cuts : List ShownStep) (left : GridBox) → AreCutsOf grain slack rows rules box cuts left
-    → AreCutsInTurn rows rules.outliers box.id box.part cuts left
-cuts_in_turn grain slack rows rules box cuts left are = elim are [
-  | inr (decided, none, same) ↦ no_cuts rows rules.outliers box.id box.part cuts left none same
-  | inl down ↦
-      let (rounds, are_rounds, join) = down.eighth_cuts in
-      rw (down.all_cuts, join)
-      (cuts_both rows rules.outliers box.id box.part down.by_tree (joined rounds) down.middle left
-      (proposal_in_turn rows rules.outliers box.id down.tree_cuts.answer box.part down.by_tree down.middle down.tree_cuts.are)
-      (rounds_in_turn rows rules.outliers box.id down.middle rounds left are_rounds))
-]
+    → AreCutsInTurn (test_of rules rows) box.id box.part cuts left
+cuts_in_turn grain slack rows rules box cuts left are =
+    let (faces, (named, some)) = cuts_some grain slack rows rules box cuts left are in
+    faces_in_turn (test_of rules rows) box.id faces box.part cuts left some
 
 abbrev waits : ℕ → List WaitingBox → Paving
 waits splits waiting = record { waiting = waiting; splits = splits }
 
 -- cuts open no box
-pub cuts_open_none : (rows : List Row) (q id : ℕ) (part : GridBox) (cuts more : List ShownStep) (left : GridBox) (paving : Paving) → AreCutsInTurn rows q id part cuts left
+pub cuts_open_none : (test : BoxTest) (id : ℕ) (part : GridBox) (cuts more : List ShownStep) (left : GridBox) (paving : Paving) → AreCutsInTurn test id part cuts left
     → beyond_all paving (cuts ++ more) ≡ beyond_all paving more
-cuts_open_none rows q id part [] more left paving same = refl
-cuts_open_none rows q id part (shown ∷ cuts) more left paving (face, bound, may, is, later) =
-    cuts_open_none rows q id (left_by_cut face bound part) cuts more left (beyond paving shown) later
+cuts_open_none test id part [] more left paving same = refl
+cuts_open_none test id part (shown ∷ cuts) more left paving (face, bound, may, is, later) =
+    cuts_open_none test id (left_by_cut face bound part) cuts more left (beyond paving shown) later
     ∙ ap (λ (p : Paving). beyond_all p more) (ap (beyond paving) is ∙ ap (waits paving.splits) (append-nil paving.waiting))
 
 -- so only the last step of a box does
@@ -94,7 +76,7 @@ pub box_opens : (rows : List Row) (rules : Rules) (splits : ℕ) (box : WaitingB
     → beyond_all paving own ≡ beyond paving (record { step = are.last; part = are.left })
 box_opens rows rules splits box own paving are =
     ap (beyond_all paving) are.all_steps
-    ∙ cuts_open_none rows rules.outliers box.id box.part are.cuts ((record { step = are.last; part = are.left }) ∷ []) are.left paving
+    ∙ cuts_open_none (test_of rules rows) box.id box.part are.cuts ((record { step = are.last; part = are.left }) ∷ []) are.left paving
     (cuts_in_turn _ _ rows rules box are.cuts are.left are.are_cuts)
 
 -- ---- the boxes that wait, and the live ones
@@ -222,18 +204,18 @@ cut_in_work id face bound part rest splits st w =
     })
 
 in_turn_go_on : (rows : List Row) (rules : Rules) (id : ℕ) (part : GridBox) (steps : List ShownStep) (left : GridBox) (rest : List WaitingBox) (splits : ℕ) (st : Stage)
-    → AreCutsInTurn rows rules.outliers id part steps left → IsInWork id part rest splits st → StaysInWork rows rules id left rest splits st steps
+    → AreCutsInTurn (test_of rules rows) id part steps left → IsInWork id part rest splits st → StaysInWork rows rules id left rest splits st steps
 in_turn_go_on rows rules id part [] left rest splits st same w = record { pass = tt; in_work = rw same w }
 in_turn_go_on rows rules id part (shown ∷ steps) left rest splits st (face, bound, may, is, later) w =
     let w2 = cut_in_work id face bound part rest splits st w in
     let r = in_turn_go_on rows rules id (left_by_cut face bound part) steps left rest splits (after st (Cut id face bound)) later w2 in
     rw is (record { pass = ((part, w.is_live, may), r.pass); in_work = r.in_work })
 
--- a face is cut, or isn't
-pub face_cut_goes_on : (rows : List Row) (rules : Rules) (id face : ℕ) (bound : ℤ) (part : GridBox) (steps : List ShownStep) (left : GridBox) (rest : List WaitingBox) (splits : ℕ) (st : Stage)
-    → IsFaceCut rows rules.outliers id face bound part steps left → IsInWork id part rest splits st → StaysInWork rows rules id left rest splits st steps
-face_cut_goes_on rows rules id face bound part steps left rest splits st is w =
-    in_turn_go_on rows rules id part steps left rest splits st (face_in_turn rows rules.outliers id face bound part steps left is) w
+-- a face is cut
+pub cut_goes_on : (rows : List Row) (rules : Rules) (id face : ℕ) (bound : ℤ) (part : GridBox) (rest : List WaitingBox) (splits : ℕ) (st : Stage)
+    → MayCut (test_of rules rows) face bound part → IsInWork id part rest splits st → StaysInWork rows rules id (left_by_cut face bound part) rest splits st (cut_shown id face bound part ∷ [])
+cut_goes_on rows rules id face bound part rest splits st may w =
+    in_turn_go_on rows rules id part (cut_shown id face bound part ∷ []) (left_by_cut face bound part) rest splits st (face, bound, may, refl, refl) w
 
 -- all cuts of a box
 pub cuts_go_on : (grain slack : ℤ) (rows : List Row) (rules : Rules) (box : WaitingBox) (cuts : List ShownStep) (left : GridBox) (rest : List WaitingBox) (splits : ℕ) (st : Stage)

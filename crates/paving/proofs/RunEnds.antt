@@ -1,11 +1,11 @@
 -- How a run ends: whole, or broken off.
 use Rattle.std.proofs.Common.{ℕ, ◌<◌, List, ◌∷◌, ◌++◌, length, refl, sym, subst, None, Some}
 use Rattle.box_pool.specs.declared.item.Item.{Item}
-use Rattle.sat_model.specs.declared.boxes.Box3.{Box3}
+use Rattle.grid_model.specs.declared.boxes.Box3.{Box3}
 use Rattle.sat_model.specs.declared.rules.Rules.{Rules}
-use Rattle.sat_model.specs.declared.satellites.Row.{Row}
+use Rattle.sat_model.specs.declared.rows.Row.{Row}
 use Rattle.sat_model.specs.declared.steps.Step.{Step}
-use Rattle.sat_model.specs.Boxes.{GridBox, grid_box}
+use Rattle.grid_model.specs.Boxes.{GridBox, grid_box}
 use Rattle.sat_model.specs.Fold.{first_stage}
 use Rattle.sat_model.specs.Waiting.{joined, steps_of}
 use Rattle.sat_model.specs.Verdicts.{StepsPass}

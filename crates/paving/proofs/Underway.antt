@@ -4,13 +4,14 @@ use Rattle.std.specs.Prelude.{Bool, true, false, cond, count_by}
 use Rattle.std.proofs.lemmas.List.{append-nil, length-append}
 use Rattle.std.proofs.lemmas.List.Sums.{sum_by-append, sum_by-cons}
 use Rattle.std.proofs.lemmas.Int.{ints}
-use Rattle.sat_model.specs.declared.satellites.Row.{Row}
+use Rattle.sat_model.specs.declared.rows.Row.{Row}
 use Rattle.sat_model.specs.declared.steps.Step.TheVariants.{Cut, Split, Outside, Inside, Edge}
 use Rattle.box_pool.specs.declared.item.Item.{Item}
 use Rattle.sat_model.specs.declared.rules.Rules.{Rules}
 use Rattle.sat_model.specs.declared.steps.Step.{Step}
-use Rattle.sat_model.specs.Boxes.{GridBox, grid_box, side_at}
-use Rattle.sat_model.proofs.AmountLemmas.{above_is}
+use Rattle.grid_model.specs.Boxes.{GridBox, grid_box, side_at}
+use Rattle.grid_model.proofs.AmountLemmas.{above_is}
+use Rattle.sat_model.specs.BoxTests.{BoxTest, test_of}
 use Rattle.sat_model.specs.Fold.{ShownStep}
 use Rattle.sat_model.specs.StepKinds.{is_inside, is_edge, is_outside, is_split}
 use Rattle.sat_model.specs.Waiting.{WaitingBox, Paving, first_paving, IsNext, Closes, opened_by, splits_after, beyond, beyond_all, joined}
@@ -112,13 +113,13 @@ counted_more counts steps (Split id axis) part c = record {
 }
 
 -- the steps of a box are counted
-pub counted_box : (rows : List Row) (q id : ℕ) (part : GridBox) (counts : Counts) (ended : Ended) (steps cuts : List ShownStep) → ended.cuts ≡ length cuts
-    → AreCutsInTurn rows q id part cuts (grid_box ended.left) → IsCountOf counts steps
+pub counted_box : (test : BoxTest) (id : ℕ) (part : GridBox) (counts : Counts) (ended : Ended) (steps cuts : List ShownStep) → ended.cuts ≡ length cuts
+    → AreCutsInTurn test id part cuts (grid_box ended.left) → IsCountOf counts steps
     → IsCountOf (counts_after (counts_with_cuts counts ended.cuts) ended.step) (steps ++ (cuts ++ last_of ended ∷ []))
-counted_box rows q id part counts ended steps cuts many in_turn c =
+counted_box test id part counts ended steps cuts many in_turn c =
     subst (λ (l : List ShownStep). IsCountOf (counts_after (counts_with_cuts counts ended.cuts) ended.step) l) (append_assoc steps cuts (last_of ended ∷ []))
     (counted_more (counts_with_cuts counts ended.cuts) (steps ++ cuts) ended.step (grid_box ended.left)
-    (subst (λ (n : ℕ). IsCountOf (counts_with_cuts counts n) (steps ++ cuts)) (sym many) (counted_cuts rows q id part (grid_box ended.left) counts steps cuts in_turn c)))
+    (subst (λ (n : ℕ). IsCountOf (counts_with_cuts counts n) (steps ++ cuts)) (sym many) (counted_cuts test id part (grid_box ended.left) counts steps cuts in_turn c)))
 
 one_less : (waiting : List WaitingBox) (next : WaitingBox) (rest : List WaitingBox) → IsNext waiting next rest → length waiting ≡ length rest + 1
 one_less waiting next rest n = omega (arith, ap length n.all_waiting, ap length n.others, length-append n.before (next ∷ n.behind), length-append n.before n.behind)
@@ -139,7 +140,7 @@ in_hand waiting old new next queued takes =
 -- the step that ends the box closes it, and the others are cuts
 pub ends_box : {L : Type 0} (took : L → Step → GridBox → L → Type 0) (rows : List Row) (rules : Rules) (splits : ℕ) (next : Item) (now last : L) (ended : Ended)
     → (t : TookBox took (AreStepsOf rows rules splits (box_of next)) now ended last)
-    → Closes rows rules splits next.id (grid_box ended.left) ended.step × AreCutsInTurn rows rules.outliers next.id (grid_box next.part) t.cuts (grid_box ended.left)
+    → Closes rows rules splits next.id (grid_box ended.left) ended.step × AreCutsInTurn (test_of rules rows) next.id (grid_box next.part) t.cuts (grid_box ended.left)
 ends_box took rows rules splits next now last ended t = ends_by_last (grain_for (grid_box next.part)) _ rows rules splits (box_of next) t.cuts (last_of ended) t.are
 
 -- ---- how the numbers go on
@@ -236,7 +237,7 @@ module _ {L : Type 0} (took : L → Step → GridBox → L → Type 0) (rows : L
         taken = subst (λ (l : List ShownStep). TookAll took first l last) (sym steps) (took_both took (joined u.boxes) own first now last u.taken t.taken);
         queued = subst (λ (s : ℕ). IsQueued (h.rest ++ opened_by s ended.step (grid_box ended.left)) new) (sym u.splits_is) (opened h.rest h.queued);
         counted = subst (λ (l : List ShownStep). IsCountOf (counts_with_box counts ended) l) (sym steps)
-            (counted_box rows rules.outliers next.id (grid_box next.part) counts ended (joined u.boxes) t.cuts t.counted in_turn u.counted);
+            (counted_box (test_of rules rows) next.id (grid_box next.part) counts ended (joined u.boxes) t.cuts t.counted in_turn u.counted);
         few = subst (λ (n : ℕ). AreFew (counts_with_box counts ended) n) (sym (length-append u.boxes (own ∷ []))) on.few;
         splits_is = on.splits_is;
         opened = omega (arith, on.opened, length-append u.boxes (own ∷ []));

@@ -9,7 +9,7 @@ use Rattle.box_pool.specs.declared.item.Item.{Item}
 use Rattle.box_pool.specs.Lists.{list_at, AllEmpty, IsPushed, IsPopped, IsGreatest}
 use Rattle.paving.specs.Queues.{box_of, boxes_at, IsQueued, Takes}
 use Rattle.sat_model.specs.Waiting.{WaitingBox, bits_of, IsNext, halves_from}
-use Rattle.sat_model.specs.Boxes.{GridBox, with_side, side_at, low_half, high_half}
+use Rattle.grid_model.specs.Boxes.{GridBox, with_side, side_at, low_half, high_half}
 
 abbrev pub has_bits : ℕ → WaitingBox → Bool
 has_bits bits box = nat_eq (bits_of box) bits

@@ -1,10 +1,10 @@
 -- The runs of a paving: the boxes that are taken up, each with its steps.
 use Rattle.std.specs.Prelude.{◌≡◌, cond, nat_lt, ℕ, ℤ, pos, ◌*ℤ◌, List, [], ◌∷◌, ◌++◌}
 use Rattle.sat_model.specs.declared.rules.Rules.{Rules}
-use Rattle.sat_model.specs.declared.satellites.Row.{Row}
-use Rattle.sat_model.specs.Boxes.{GridBox}
+use Rattle.sat_model.specs.declared.rows.Row.{Row}
+use Rattle.grid_model.specs.Boxes.{GridBox}
 use Rattle.sat_model.specs.Fold.{ShownStep}
-use Rattle.sat_model.specs.Lengths.{longest_length}
+use Rattle.grid_model.specs.Lengths.{longest_length}
 use Rattle.sat_model.specs.Waiting.{WaitingBox, Paving, first_paving, IsNext, beyond_all, joined}
 use Rattle.box_steps.specs.BoxSteps.{AreBoxSteps}
 

@@ -1,9 +1,9 @@
 -- What a paving did to its log.
 use Rattle.std.specs.Prelude.{◌≡◌, ℕ, ◌<◌, ◌↔◌, List, [], ◌∷◌, ◌++◌, length}
 use Rattle.sat_model.specs.declared.rules.Rules.{Rules}
-use Rattle.sat_model.specs.declared.satellites.Row.{Row}
+use Rattle.sat_model.specs.declared.rows.Row.{Row}
 use Rattle.sat_model.specs.declared.steps.Step.{Step}
-use Rattle.sat_model.specs.Boxes.{GridBox}
+use Rattle.grid_model.specs.Boxes.{GridBox}
 use Rattle.sat_model.specs.Cover.{EpochCover}
 use Rattle.sat_model.specs.Fold.{first_stage, ShownStep, pieces}
 use Rattle.sat_model.specs.Waiting.{steps_of}

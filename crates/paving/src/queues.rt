@@ -2,12 +2,13 @@
 
 ghost use Rattle.std.specs.Prelude.{◌≡◌, ◌<◌, ◌≤◌, ◌+◌, ◌∷◌, [], ◌++◌, MatchOption};
 ghost use Rattle.box_pool.specs.Lists.{AllEmpty};
-ghost use Rattle.sat_model.specs.Boxes.{grid_box};
+ghost use Rattle.grid_model.specs.Boxes.{grid_box};
 ghost use Rattle.sat_model.specs.Waiting.{first_paving, opened_by};
 
 use crate::bits::bits_of;
 use box_pool::{Item, Pool};
-use sat_model::{Box3, Step};
+use grid_model::Box3;
+use sat_model::Step;
 use std::marker::Model;
 
 /// The boxes that wait. To open one and to take one up costs the same, however many wait, and takes

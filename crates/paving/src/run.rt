@@ -2,19 +2,21 @@
 
 ghost use Rattle.std.specs.Prelude.{◌≡◌, ◌<◌, ◌≤◌, ◌+◌, length, IfOk, IfErr, Err};
 ghost use Rattle.box_pool.specs.Lists.{AllEmpty};
-ghost use Rattle.sat_model.specs.Boxes.{grid_box};
+ghost use Rattle.grid_model.specs.Boxes.{grid_box};
 ghost use Rattle.box_steps.specs.Taken.{Rose};
 ghost use Rattle.paving.specs.Runs.{IsRun, IsBroken};
-ghost use Rattle.paving.specs.Trees.{AreTreesOf};
+ghost use Rattle.paving.specs.Trees.{AreTreesFor};
+ghost use Rattle.sat_model.specs.BoxTests.{test_of};
 
 use crate::counts::Counts;
 use crate::plan::Plan;
 use crate::queues::Queues;
-use crate::trees::Trees;
+use crate::trees::{Trees, work_on_box};
 use box_pool::Pool;
 use box_steps::{StepFault, Steps};
-use relaxed_meet::SlabTests;
-use sat_model::{Box3, Row, Rules};
+use grid_model::Box3;
+use relaxed_meet::BoxTest;
+use sat_model::{Row, Rules};
 
 /// Paves the root of the plan, box by box, and hands each step to the log. Ends with the counts of
 /// the steps, or with the first fault of the log. It takes no memory: that of the plan is enough.
@@ -37,18 +39,18 @@ pub fn pave<L: Steps>(plan: Plan, log: &mut L) -> Result<Counts, StepFault>
     pave_box(&rows, &rules, &root, &trees, pool, log)
 }
 
-/// Paves a box by these rows and rules and the trees of these rows, in a pool with a node for each
+/// Paves a box by these rows and rules and the trees for these rows, in a pool with a node for each
 /// split and one more.
 fn pave_box<L: Steps>(
     rows: &[Row],
     rules: &Rules,
     root: &Box3,
-    trees: &Trees,
+    trees: &Option<Trees>,
     pool: Pool,
     log: &mut L,
 ) -> Result<Counts, StepFault>
     requires rows { (rules.now.outliers < length rows.now) × (length rows.now ≤ 64) }
-    requires trees { AreTreesOf trees.now rows.now rules.now.outliers }
+    requires trees { AreTreesFor (test_of rules.now rows.now) trees.now }
     requires empty { AllEmpty pool.lists }
     requires room { pool.spare ≡ rules.now.bisections + 1 }
     ensures run { IfOk result (λ counts. IsRun L.took rows.now rules.now (grid_box root.now)
@@ -59,11 +61,11 @@ fn pave_box<L: Steps>(
     ensures counted { L.faults log.old ≤ L.faults log.new }
     ensures budget { IfOk result (λ counts. counts.bisections ≤ rules.now.bisections) }
 {
-    let mut tests = SlabTests::default();
+    let mut test = BoxTest::new(rows, rules);
     let mut counts = Counts::default();
     let mut queues = Queues::of_root(pool, root);
     while let Some(next) = queues.take_next() {
-        let ended = trees.work_on_box(rows, rules, counts.bisections, &mut tests, &next, log)?;
+        let ended = work_on_box(&mut test, rules, trees, counts.bisections, &next, log)?;
         queues.open(&ended.step, &ended.left, counts.bisections);
         counts.add_cuts(ended.cuts);
         counts.add(&ended.step);

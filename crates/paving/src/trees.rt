@@ -1,19 +1,26 @@
 //! The contractor trees of an epoch's rows, one for long boxes and one for the others.
 
-ghost use Rattle.std.specs.Prelude.{◌≡◌, ◌<◌, ◌≤◌, length, IfOk, IfErr, Err};
+ghost use Rattle.std.specs.Prelude.{◌≡◌, ◌<◌, ◌≤◌, pos, true, false, length};
+ghost use Rattle.std.specs.Prelude.{IfOk, IfErr, Err, MatchOption};
+ghost use Rattle.sat_model.specs.BoxTests.{BoxTest as TestValue, test_of};
+ghost use Rattle.sat_model.specs.RowTrees.{row_tree};
+ghost use Rattle.fix_interval.specs.Grains.{coarse_low, coarse_high};
+ghost use Rattle.range_contractor.specs.Views.{tree_value};
+ghost use Rattle.relaxed_meet.specs.TestValues.{test_value};
 ghost use Rattle.box_steps.specs.Ends.{TookBox};
 ghost use Rattle.box_steps.specs.Taken.{Rose};
 ghost use Rattle.box_steps.specs.Taking.{BrokeOff};
 ghost use Rattle.paving.specs.Paved.{AreStepsOf, long_side};
 ghost use Rattle.paving.specs.Queues.{box_of};
-ghost use Rattle.paving.specs.Trees.{AreTreesOf};
+ghost use Rattle.paving.specs.Trees.{AreTreesOf, AreTreesFor};
 
 use box_pool::Item;
 use box_steps::{Ended, StepFault, Steps, work_on};
 use fix_interval::{Coarse, Exact};
+use grid_model::NoMemory;
 use range_contractor::{Tree, relaxed_tree};
-use relaxed_meet::SlabTests;
-use sat_model::{NoMemory, Row, Rules};
+use relaxed_meet::BoxTest;
+use sat_model::{Row, Rules};
 use std::alloc::Global;
 
 /// How long a side in um may be before its box is contracted by coarse intervals.
@@ -38,36 +45,73 @@ impl Trees {
             exact: relaxed_tree(alloc, rows, q)?,
         })
     }
+}
 
-    /// Works on a box that is taken up after so many splits, with the tree for its longest side, and
-    /// hands each step to the log. A fault is that of the step that wasn't taken. At most 1,800 cuts
-    /// are made. What decided the tests of slabs before changes no step, but how soon it comes.
-    pub fn work_on_box<L: Steps>(
-        &self,
-        rows: &[Row],
-        rules: &Rules,
-        splits: u32,
-        tests: &mut SlabTests,
-        next: &Item,
-        log: &mut L,
-    ) -> Result<Ended, StepFault>
-        requires few { (rules.now.outliers < length rows.now) × (length rows.now ≤ 64) }
-        requires trees { AreTreesOf self.now rows.now rules.now.outliers }
-        ensures took { IfOk result (λ ended. TookBox L.took (AreStepsOf rows.now rules.now splits
-            (box_of next.now)) log.old ended log.new) }
-        ensures broken { IfErr result (λ fault. BrokeOff L.took L.broke L.room fault
-            (AreStepsOf rows.now rules.now splits (box_of next.now)) log.old log.new) }
-        ensures few { IfOk result (λ ended. ended.cuts ≤ 1800) }
-        ensures failed { result ≡ Err StepFault.Failed
-            → Rose (L.faults log.old) (L.faults log.new) }
-        ensures counted { L.faults log.old ≤ L.faults log.new }
-    {
-        let part = &next.part;
-        let (_, longest) = part.longest_axis();
-        if longest > LONG_SIDE {
-            work_on(rows, rules, &self.coarse, splits, next.id, tests, part, log)
-        } else {
-            work_on(rows, rules, &self.exact, splits, next.id, tests, part, log)
-        }
+/// The trees for the rows under these rules, and none where they ask pairs of rows.
+pub fn trees_for(alloc: Global, rows: &[Row], rules: &Rules) -> Result<Option<Trees>, NoMemory>
+    requires { (rules.now.outliers < length rows.now) × (length rows.now ≤ 64) }
+    ensures { IfOk result (λ trees. AreTreesFor (test_of rules.now rows.now) trees) }
+{
+    if rules.pairs {
+        return Ok(None);
+    }
+    let trees = Trees::of_rows(alloc, rows, rules.outliers)?;
+    Ok(Some(trees))
+}
+
+/// The tree over coarse intervals, where there are trees.
+fn coarse_of(trees: &Option<Trees>) -> Option<&Tree<Coarse>>
+    ensures { (test : TestValue) → AreTreesFor test trees.now
+        → MatchOption result (test.pairs ≡ true) (λ t. (test.pairs ≡ false)
+        × (tree_value coarse_low coarse_high t.now ≡ row_tree (pos 65536) test.rows test.q)) }
+{
+    match trees {
+        Some(trees) => Some(&trees.coarse),
+        None => None,
+    }
+}
+
+/// The tree over exact intervals, where there are trees.
+fn exact_of(trees: &Option<Trees>) -> Option<&Tree<Exact>>
+    ensures { (test : TestValue) → AreTreesFor test trees.now
+        → MatchOption result (test.pairs ≡ true) (λ t. (test.pairs ≡ false)
+        × (tree_value (λ x. x.lo) (λ x. x.hi) t.now ≡ row_tree (pos 1) test.rows test.q)) }
+{
+    match trees {
+        Some(trees) => Some(&trees.exact),
+        None => None,
+    }
+}
+
+/// Works on a box that is taken up after so many splits, with the tree for its longest side, and
+/// hands each step to the log. There are no trees where the rules ask pairs of rows. A fault is
+/// that of the step that wasn't taken. At most 1,800 cuts are made. What decided the tests before
+/// changes no step, but how soon it comes.
+pub fn work_on_box<L: Steps>(
+    test: &mut BoxTest,
+    rules: &Rules,
+    trees: &Option<Trees>,
+    splits: u32,
+    next: &Item,
+    log: &mut L,
+) -> Result<Ended, StepFault>
+    requires test { test_value test.old ≡ test_of rules.now (test_value test.old).rows }
+    requires trees { AreTreesFor (test_value test.old) trees.now }
+    ensures took { IfOk result (λ ended. TookBox L.took (AreStepsOf (test_value test.old).rows
+        rules.now splits (box_of next.now)) log.old ended log.new) }
+    ensures broken { IfErr result (λ fault. BrokeOff L.took L.broke L.room fault
+        (AreStepsOf (test_value test.old).rows rules.now splits (box_of next.now))
+        log.old log.new) }
+    ensures few { IfOk result (λ ended. ended.cuts ≤ 1800) }
+    ensures failed { result ≡ Err StepFault.Failed → Rose (L.faults log.old) (L.faults log.new) }
+    ensures counted { L.faults log.old ≤ L.faults log.new }
+    ensures same { test_value test.new ≡ test_value test.old }
+{
+    let part = &next.part;
+    let (_, longest) = part.longest_axis();
+    if longest > LONG_SIDE {
+        work_on(test, rules, coarse_of(trees), splits, next.id, part, log)
+    } else {
+        work_on(test, rules, exact_of(trees), splits, next.id, part, log)
     }
 }

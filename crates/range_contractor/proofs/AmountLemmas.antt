@@ -4,16 +4,15 @@ use Rattle.std.specs.Prelude.{ℤ, pos, negsuc, ◌+ℤ◌, ◌-ℤ◌, neg_ℤ,
 use Rattle.std.specs.Int.{int_div_euclid}
 use Rattle.std.proofs.lemmas.Int.{ints}
 use borrow.Author.Differences.{up}
-use Rattle.sat_model.specs.Boxes.{Side}
-use Rattle.sat_model.specs.Amounts.{above, least_amount, greatest_amount}
-use Rattle.sat_model.specs.Intervals.{Between}
-use Rattle.sat_model.specs.Roots.{IsRoot, root}
-use Rattle.sat_model.specs.Rounding.{IsFloor, grain_floor, grain_ceil}
-use Rattle.sat_model.proofs.ProductLemmas.{add_mul, neg_mul}
-use Rattle.sat_model.proofs.RootLemmas.{root_is, square-mono}
-use Rattle.sat_model.proofs.RoundingLemmas.{floor_is}
-use Rattle.sat_model.proofs.SquareLemmas.{root_between, one_part}
-use Rattle.sat_model.specs.Rounding.{IsMultipleOf}
+use Rattle.grid_model.specs.Boxes.{Side}
+use Rattle.grid_model.specs.Amounts.{above, least_amount, greatest_amount}
+use Rattle.grid_model.specs.Intervals.{Between}
+use Rattle.grid_model.specs.Roots.{IsRoot, root}
+use Rattle.grid_model.specs.Rounding.{IsFloor, grain_floor, grain_ceil, IsMultipleOf}
+use Rattle.grid_model.proofs.ProductLemmas.{add_mul, neg_mul}
+use Rattle.grid_model.proofs.RootLemmas.{root_is, square-mono}
+use Rattle.grid_model.proofs.RoundingLemmas.{floor_is}
+use Rattle.grid_model.proofs.SquareLemmas.{root_between, one_part}
 use Rattle.range_contractor.specs.Sides.{IsReached, IsNearlyReached, IsKept, NoneIsKept, IsHullOfMeets, IsInOneOf, NoneMeets, IsEndOf, IsBelow, IsAbove}
 use Rattle.range_contractor.specs.Squares.{AreAmounts, AreWhole, IsAmount}
 

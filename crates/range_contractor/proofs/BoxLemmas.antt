@@ -2,11 +2,10 @@
 use Rattle.std.proofs.Common.{◌≡◌, ℕ, zero, suc, arith, Bool, true, ◌&&◌, int_eq, refl}
 use Rattle.std.specs.Prelude.{ℤ}
 use Rattle.std.proofs.lemmas.Int.{ints}
-use Rattle.sat_model.specs.declared.boxes.Pos.{Pos}
-use Rattle.sat_model.specs.Boxes.{Side, GridBox, side_holds, box_holds, side_at, grid_box}
-use Rattle.sat_model.specs.declared.boxes.Box3.{Box3}
-use Rattle.sat_model.proofs.FittingLemmas.{both, le_to, side_in}
-use Rattle.sat_model.specs.Trees.{IsIn}
+use Rattle.grid_model.specs.declared.boxes.Pos.{Pos}
+use Rattle.grid_model.specs.Boxes.{Side, GridBox, side_holds, box_holds, side_at, grid_box, IsIn}
+use Rattle.grid_model.specs.declared.boxes.Box3.{Box3}
+use Rattle.grid_model.proofs.PointLemmas.{both, le_to, side_in}
 use Rattle.sat_model.specs.Contractors.{LiesIn}
 
 pub both_from : (a b : Bool) → a ≡ true → b ≡ true → (a && b) ≡ true

@@ -2,7 +2,7 @@
 -- the grain.
 use Rattle.std.proofs.Common.{◌≡◌, ℕ, zero, suc, ◌-◌, List, [], ◌∷◌, Bool, true, false, ◌⊎◌, inl, inr, refl, Option, None, Some, sym, subst, ◌∙◌}
 use Rattle.std.specs.Prelude.{ℤ}
-use Rattle.sat_model.specs.Boxes.{Side, GridBox, side_at}
+use Rattle.grid_model.specs.Boxes.{Side, GridBox, side_at}
 use Rattle.sat_model.specs.Relaxed.{IsRelaxedHull}
 use Rattle.sat_model.specs.Trees.{TreeValue, Sat, All, Relaxed, Again, Within, TreeList, no_trees, tree, count_trees, LeafValue}
 use Rattle.sat_model.specs.Contractors.{sides_of, IsRelaxedBox, IsMeet, meet_side, Contractor, Then, Repeats, LiesIn}

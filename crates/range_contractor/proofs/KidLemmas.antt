@@ -5,9 +5,9 @@ use Rattle.std.proofs.lemmas.Int.{ints}
 use Rattle.std.proofs.lemmas.List.Sums.{sum_by-append}
 use Rattle.sat_model.proofs.FittingLemmas.{count_here, holds_from}
 use Rattle.std.proofs.lemmas.List.{take_more, at_drop_more, at_drop_all, map-append, length-map}
-use Rattle.sat_model.specs.Boxes.{Side, GridBox, side_at}
+use Rattle.grid_model.specs.Boxes.{Side, GridBox, side_at, IsIn}
 use Rattle.sat_model.specs.Relaxed.{holds, IsRelaxedHull}
-use Rattle.sat_model.specs.Trees.{IsIn, TreeValue, TreeList, no_trees, tree, HasSoundNodes, HaveSoundNodes, count_trees, trees_of}
+use Rattle.sat_model.specs.Trees.{TreeValue, TreeList, no_trees, tree, HasSoundNodes, HaveSoundNodes, count_trees, trees_of}
 use Rattle.sat_model.specs.Contractors.{Contractor, Repeats, sides_of, IsRelaxedBox, LiesIn}
 use Rattle.sat_model.specs.Proposals.{IsTied, InTurn, AreTied}
 use Rattle.range_contractor.specs.Hulls.{AreInside, IsBoxOfHulls}

@@ -4,13 +4,12 @@ use Rattle.std.specs.Prelude.{ℤ, pos, negsuc, ◌+ℤ◌, ◌-ℤ◌, ◌*ℤ�
 use Rattle.std.specs.Int.{int_min, int_max, int_div_euclid}
 use Rattle.std.proofs.lemmas.Int.{ints, clamps, by_lt_z}
 use Rattle.std.proofs.lemmas.Bool.{cases_lt}
-use Rattle.sat_model.specs.Boxes.{Side, GridBox}
-use Rattle.sat_model.specs.Sizes.{IsWithin, IsBoxSize}
-use Rattle.sat_model.specs.Roots.{root}
-use Rattle.sat_model.specs.Rounding.{grain_floor, grain_ceil}
-use Rattle.sat_model.specs.Squares.{least_square, greatest_square}
-use Rattle.sat_model.proofs.ProductLemmas.{neg_mul}
-use Rattle.sat_model.specs.Rounding.{IsMultipleOf}
+use Rattle.grid_model.specs.Boxes.{Side, GridBox}
+use Rattle.grid_model.specs.Sizes.{IsWithin, IsBoxSize}
+use Rattle.grid_model.specs.Roots.{root}
+use Rattle.grid_model.specs.Rounding.{grain_floor, grain_ceil, IsMultipleOf}
+use Rattle.grid_model.specs.Squares.{least_square, greatest_square}
+use Rattle.grid_model.proofs.ProductLemmas.{neg_mul}
 use Rattle.sat_model.specs.Trees.{LeafValue, Sat, IsLeafSized}
 use Rattle.sat_model.specs.TightFaces.{least_range, greatest_range}
 use Rattle.sat_model.specs.Proposals.{IsTied}

@@ -2,18 +2,18 @@
 use Rattle.std.proofs.Common.{◌≡◌, ℕ, zero, suc, ◌+◌, ◌*◌, ◌<◌, ◌≤◌, arith, Bool, true, false, refl, sym, None, Some}
 use Rattle.std.specs.Prelude.{ℤ, pos, negsuc, ◌+ℤ◌, ◌-ℤ◌, ◌*ℤ◌, neg_ℤ, ◌≤ℤ◌, unsigned_abs}
 use Rattle.std.proofs.lemmas.Int.{ints}
-use Rattle.sat_model.specs.declared.boxes.Pos.{Pos}
-use Rattle.sat_model.specs.declared.boxes.Box3.{Box3}
-use Rattle.sat_model.specs.declared.spans.Span.{Span}
-use Rattle.sat_model.specs.Boxes.{Side, GridBox, box_holds, side_at, grid_box}
-use Rattle.sat_model.specs.Sizes.{IsWithin, IsBoxSize}
-use Rattle.sat_model.specs.Amounts.{square}
-use Rattle.sat_model.specs.Intervals.{Between}
-use Rattle.sat_model.specs.Roots.{IsRoot, root}
-use Rattle.sat_model.specs.Fitting.{range_to}
-use Rattle.sat_model.proofs.RootLemmas.{root_is, square-mono}
-use Rattle.sat_model.proofs.ClockLemmas.{sum_mono, least_le_greatest}
-use Rattle.sat_model.specs.Trees.{LeafValue, Sat, IsIn, LeafAllows, Allows, IsLeafSized}
+use Rattle.grid_model.specs.declared.boxes.Pos.{Pos}
+use Rattle.grid_model.specs.declared.boxes.Box3.{Box3}
+use Rattle.grid_model.specs.declared.spans.Span.{Span}
+use Rattle.grid_model.specs.Boxes.{Side, GridBox, box_holds, side_at, grid_box, IsIn}
+use Rattle.grid_model.specs.Sizes.{IsWithin, IsBoxSize}
+use Rattle.grid_model.specs.Amounts.{square}
+use Rattle.grid_model.specs.Intervals.{Between}
+use Rattle.grid_model.specs.Roots.{IsRoot, root}
+use Rattle.grid_model.specs.Ranges.{range_to}
+use Rattle.grid_model.proofs.RootLemmas.{root_is, square-mono, sum_mono}
+use Rattle.grid_model.proofs.AmountLemmas.{least_le_greatest}
+use Rattle.sat_model.specs.Trees.{LeafValue, Sat, LeafAllows, Allows, IsLeafSized}
 use Rattle.sat_model.specs.Contractors.{IsAllowedIn, SideLiesIn}
 use Rattle.sat_model.specs.TightFaces.{layer, least_between, greatest_between, near_leaf, far_leaf, least_range, greatest_range, IsTight, face_at, IsFaceOf, IsTightAnswer}
 use Rattle.sat_model.specs.Proposals.{Keeps}

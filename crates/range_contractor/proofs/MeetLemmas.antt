@@ -3,8 +3,7 @@ use Rattle.std.proofs.Common.{◌≡◌, arith, ◌⊎◌, inl, inr, ◌∙◌, 
 use Rattle.std.specs.Prelude.{ℤ, ◌≤ℤ◌, ◌<ℤ◌}
 use Rattle.std.specs.Int.{int_min, int_max}
 use Rattle.std.proofs.lemmas.Int.{ints, clamps}
-use Rattle.sat_model.specs.Boxes.{Side}
-use Rattle.sat_model.specs.Trees.{IsIn}
+use Rattle.grid_model.specs.Boxes.{Side, IsIn}
 use Rattle.sat_model.specs.Contractors.{meet_side}
 use Rattle.range_contractor.specs.Sides.{IsMeetOf, DontMeet, IsHullOf, IsHullOfMeets, IsInOneOf, NoneMeets}
 

@@ -2,9 +2,9 @@
 use Rattle.std.proofs.Common.{◌≡◌, ℕ, ◌<◌, ◌≤◌, arith, List, [], ◌∷◌, length, map, refl}
 use Rattle.std.specs.Prelude.{ℤ, pos, ◌≤ℤ◌}
 use Rattle.std.proofs.lemmas.Int.{ints}
-use Rattle.sat_model.specs.declared.satellites.Row.{Row}
-use Rattle.sat_model.specs.declared.spans.Span.{Span}
-use Rattle.sat_model.specs.Sizes.{IsWithin, IsPlaceSize}
+use Rattle.sat_model.specs.declared.rows.Row.{Row}
+use Rattle.grid_model.specs.declared.spans.Span.{Span}
+use Rattle.grid_model.specs.Sizes.{IsWithin, IsPlaceSize}
 use Rattle.sat_model.specs.Trees.{Sat, TreeList, IsLeafSized, HaveSoundNodes, count_trees, depth_of_all, IsWellFormed, trees_of}
 use Rattle.sat_model.specs.RowTrees.{rounded_side, row_leaf, row_tree}
 use Rattle.range_contractor.proofs.AmountLemmas.{floor_near, ceil_near}

@@ -2,10 +2,10 @@
 use Rattle.std.proofs.Common.{ℕ, ◌<◌, arith, List, [], ◌∷◌, length, Option, refl}
 use Rattle.std.specs.Prelude.{ℤ, pos, ◌*ℤ◌, ◌≤ℤ◌}
 use Rattle.std.proofs.lemmas.Int.{ints}
-use Rattle.sat_model.specs.declared.boxes.Box3.{Box3}
-use Rattle.sat_model.specs.declared.satellites.Row.{Row}
-use Rattle.sat_model.specs.declared.spans.Span.{Span}
-use Rattle.sat_model.specs.Boxes.{Side, GridBox, grid_box}
+use Rattle.grid_model.specs.declared.boxes.Box3.{Box3}
+use Rattle.sat_model.specs.declared.rows.Row.{Row}
+use Rattle.grid_model.specs.declared.spans.Span.{Span}
+use Rattle.grid_model.specs.Boxes.{Side, GridBox, grid_box}
 use Rattle.sat_model.specs.RowTrees.{rounded_side, row_leaf, row_tree}
 use Rattle.sat_model.specs.Proposals.{IsProposal}
 use Rattle.range_contractor.specs.Squares.{AreWhole}

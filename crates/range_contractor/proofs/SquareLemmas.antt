@@ -2,13 +2,13 @@
 use Rattle.std.proofs.Common.{◌≡◌, ℕ, ◌≤◌, arith}
 use Rattle.std.specs.Prelude.{ℤ, pos, negsuc, ◌+ℤ◌, ◌-ℤ◌, ◌≤ℤ◌}
 use Rattle.std.proofs.lemmas.Int.{ints}
-use Rattle.sat_model.specs.Boxes.{Side}
-use Rattle.sat_model.specs.Sizes.{IsWithin, IsBoxSize}
-use Rattle.sat_model.specs.Intervals.{Between}
-use Rattle.sat_model.specs.Rounding.{grain_floor, grain_ceil}
-use Rattle.sat_model.specs.Squares.{least_end, greatest_end, least_square, greatest_square}
-use Rattle.sat_model.proofs.SquareLemmas.{one_part, square_between}
-use Rattle.sat_model.proofs.RootLemmas.{square-mono}
+use Rattle.grid_model.specs.Boxes.{Side}
+use Rattle.grid_model.specs.Sizes.{IsWithin, IsBoxSize}
+use Rattle.grid_model.specs.Intervals.{Between}
+use Rattle.grid_model.specs.Rounding.{grain_floor, grain_ceil}
+use Rattle.grid_model.specs.Squares.{least_end, greatest_end, least_square, greatest_square}
+use Rattle.grid_model.proofs.SquareLemmas.{one_part, square_between}
+use Rattle.grid_model.proofs.RootLemmas.{square-mono}
 use Rattle.range_contractor.specs.Squares.{AreDifferenceSquares, AreRangeSquares}
 use Rattle.range_contractor.proofs.AmountLemmas.{floor_near, ceil_near, floor_natural, above_is_up}
 

@@ -3,12 +3,11 @@ use Rattle.std.proofs.Common.{◌≡◌, ℕ, ◌+◌, ◌*◌, ◌<◌, ◌≤�
 use Rattle.std.specs.Prelude.{ℤ, pos, ◌+ℤ◌, ◌-ℤ◌, ◌*ℤ◌, ◌≤ℤ◌}
 use Rattle.std.proofs.lemmas.Int.{ints, by_lt_z}
 use Rattle.std.proofs.lemmas.Nat.{mul-le}
-use Rattle.sat_model.specs.Boxes.{Side}
-use Rattle.sat_model.specs.Amounts.{least_amount, greatest_amount, square}
-use Rattle.sat_model.specs.Intervals.{Between}
-use Rattle.sat_model.specs.Roots.{IsRoot, root}
-use Rattle.sat_model.proofs.RootLemmas.{root_is, square-mono}
-use Rattle.sat_model.proofs.ClockLemmas.{root_mono}
+use Rattle.grid_model.specs.Boxes.{Side}
+use Rattle.grid_model.specs.Amounts.{least_amount, greatest_amount, square}
+use Rattle.grid_model.specs.Intervals.{Between}
+use Rattle.grid_model.specs.Roots.{IsRoot, root}
+use Rattle.grid_model.proofs.RootLemmas.{root_is, square-mono, root_mono}
 use Rattle.range_contractor.proofs.AmountLemmas.{root_le}
 use Rattle.range_contractor.specs.Ranges.{IsWanted}
 use Rattle.range_contractor.specs.Sides.{IsNearlyReached}

@@ -2,8 +2,8 @@
 use Rattle.std.proofs.Common.{◌≡◌, ℕ, zero, suc, ◌-◌, ◌<◌, arith, List, [], ◌∷◌, inl, inr, refl, subst, Option, None, Some}
 use Rattle.std.specs.Prelude.{ℤ, pos, ◌*ℤ◌, ◌≤ℤ◌}
 use Rattle.std.proofs.lemmas.Int.{ints}
-use Rattle.sat_model.specs.Boxes.{Side, GridBox, side_at}
-use Rattle.sat_model.specs.Sizes.{IsBoxSize}
+use Rattle.grid_model.specs.Boxes.{Side, GridBox, side_at}
+use Rattle.grid_model.specs.Sizes.{IsBoxSize}
 use Rattle.sat_model.proofs.RelaxedExists.{relaxed_hull}
 use Rattle.sat_model.specs.Trees.{LeafValue, TreeValue, Sat, All, Relaxed, Again, Within, TreeList, no_trees, tree, count_trees, IsLeafSized}
 use Rattle.sat_model.specs.Contractors.{SideLiesIn, LiesIn, IsMeet, meet_side, Contractor, Then, Repeats, sides_of, IsRelaxedBox}

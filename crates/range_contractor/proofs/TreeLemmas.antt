@@ -3,10 +3,10 @@
 use Rattle.std.proofs.Common.{◌≡◌, ℕ, zero, suc, ◌+◌, ◌-◌, ◌≤◌, arith, List, [], ◌∷◌, count_by, true, inl, inr, refl, Option, None, Some}
 use Rattle.std.specs.Prelude.{ℤ, pos, ◌≤ℤ◌, ◌+ℤ◌}
 use Rattle.std.proofs.lemmas.Int.{ints, clamps}
-use Rattle.sat_model.specs.declared.boxes.Pos.{Pos}
-use Rattle.sat_model.specs.Boxes.{Side, GridBox, box_holds, side_at}
+use Rattle.grid_model.specs.declared.boxes.Pos.{Pos}
+use Rattle.grid_model.specs.Boxes.{Side, GridBox, box_holds, side_at, IsIn}
 use Rattle.sat_model.specs.Relaxed.{holds, IsRelaxedHull}
-use Rattle.sat_model.specs.Trees.{TreeValue, Sat, All, Relaxed, Again, Within, TreeList, no_trees, tree, IsIn, Allows, AllButAllow, count_trees}
+use Rattle.sat_model.specs.Trees.{TreeValue, Sat, All, Relaxed, Again, Within, TreeList, no_trees, tree, Allows, AllButAllow, count_trees}
 use Rattle.sat_model.specs.Contractors.{IsAllowedIn, SideLiesIn, LiesIn, KeepsAllowed, sides_of, IsRelaxedBox, IsMeet, meet_side, meet_box, Contractor, Then, Repeats}
 use Rattle.sat_model.specs.Proposals.{Keeps, IsTied, InTurn, AreTied}
 use Rattle.range_contractor.proofs.BoxLemmas.{along, holds_at, holds_all, lies_through}

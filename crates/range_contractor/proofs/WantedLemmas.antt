@@ -2,12 +2,11 @@
 use Rattle.std.proofs.Common.{◌≡◌, ℕ, zero, suc, ◌+◌, ◌*◌, ◌≤◌, arith, Bool, true, false, inl, refl, Some}
 use Rattle.std.specs.Prelude.{ℤ, pos, ◌*ℤ◌, ◌≤ℤ◌}
 use Rattle.std.proofs.lemmas.Int.{ints}
-use Rattle.sat_model.specs.Amounts.{least_amount, greatest_amount, square}
-use Rattle.sat_model.specs.Boxes.{Side, GridBox, side_at}
-use Rattle.sat_model.proofs.AmountLemmas.{above_is}
-use Rattle.sat_model.proofs.ClockLemmas.{root_mono, sum_mono}
-use Rattle.sat_model.proofs.RootLemmas.{root_is}
-use Rattle.sat_model.specs.Trees.{LeafValue, Sat, IsIn}
+use Rattle.grid_model.specs.Amounts.{least_amount, greatest_amount, square}
+use Rattle.grid_model.specs.Boxes.{Side, GridBox, side_at, IsIn}
+use Rattle.grid_model.proofs.AmountLemmas.{above_is}
+use Rattle.grid_model.proofs.RootLemmas.{root_mono, sum_mono, root_is}
+use Rattle.sat_model.specs.Trees.{LeafValue, Sat}
 use Rattle.sat_model.specs.Contractors.{LiesIn}
 use Rattle.sat_model.specs.Proposals.{Keeps}
 use Rattle.sat_model.specs.TightFaces.{layer, least_between, greatest_between, near_leaf, far_leaf, least_range, greatest_range, IsTight, IsTightAnswer, face_at}

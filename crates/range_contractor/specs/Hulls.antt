@@ -1,6 +1,6 @@
 -- Hulls of the numbers that lie in enough sides, axis by axis.
 use Rattle.std.specs.Prelude.{ℕ, ◌⊎◌, ℤ, ◌≤ℤ◌, List, [], ◌∷◌, Option, None, Some}
-use Rattle.sat_model.specs.Boxes.{Side, GridBox}
+use Rattle.grid_model.specs.Boxes.{Side, GridBox}
 use Rattle.sat_model.specs.Relaxed.{IsRelaxedEmpty, IsRelaxedHull}
 
 -- each span lies in the side

@@ -1,7 +1,7 @@
 -- The ranges that are wanted: those that a satellite allows with an offset of the clock span, as
 -- far as they are possible.
 use Rattle.std.specs.Prelude.{ℕ, ◌≤◌, ℤ, pos, ◌≤ℤ◌}
-use Rattle.sat_model.specs.Intervals.{Between}
+use Rattle.grid_model.specs.Intervals.{Between}
 
 -- no range from a satellite to a point of a box is greater, in um
 abbrev pub greatest_possible : ℕ

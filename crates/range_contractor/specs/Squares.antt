@@ -1,12 +1,11 @@
 -- Squares of differences and of ranges, rounded outward by less than a grain in the root. `low` and
 -- `high` are the ends of an area of squares.
 use Rattle.std.specs.Prelude.{◌≡◌, ℕ, ◌-◌, ◌≤◌, ℤ, pos, ◌+ℤ◌, ◌-ℤ◌, ◌≤ℤ◌, unsigned_abs}
-use Rattle.sat_model.specs.Amounts.{least_amount, greatest_amount, square}
-use Rattle.sat_model.specs.Boxes.{Side}
-use Rattle.sat_model.specs.Roots.{root}
-use Rattle.sat_model.specs.Rounding.{grain_floor, grain_ceil, IsMultipleOf}
-use Rattle.sat_model.specs.Sizes.{IsWithin}
-use Rattle.sat_model.specs.Trees.{IsIn}
+use Rattle.grid_model.specs.Amounts.{least_amount, greatest_amount, square}
+use Rattle.grid_model.specs.Boxes.{Side, IsIn}
+use Rattle.grid_model.specs.Roots.{root}
+use Rattle.grid_model.specs.Rounding.{grain_floor, grain_ceil, IsMultipleOf}
+use Rattle.grid_model.specs.Sizes.{IsWithin}
 
 -- low and high enclose the squares of the differences of a number of the place and one of the side,
 -- and pass the least and the greatest of them by less than a grain in the root

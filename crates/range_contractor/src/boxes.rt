@@ -1,11 +1,10 @@
 //! Boxes by their sides.
 
 ghost use Rattle.std.specs.Prelude.{◌≡◌, option_map, Some, IsTrue};
-ghost use Rattle.sat_model.specs.Boxes.{grid_box, side_at};
-ghost use Rattle.sat_model.specs.Sizes.{IsBoxSize};
-ghost use Rattle.sat_model.specs.Trees.{span_side};
+ghost use Rattle.grid_model.specs.Boxes.{grid_box, side_at, span_side};
+ghost use Rattle.grid_model.specs.Sizes.{IsBoxSize};
 
-use sat_model::{Box3, Pos, Span};
+use grid_model::{Box3, Pos, Span};
 
 /// The side of a box on an axis: 0 for x, 1 for y, and z for each other number.
 pub(crate) fn side_of(part: &Box3, axis: u8) -> Span

@@ -1,8 +1,8 @@
 //! Contracting a box by a tree.
 
 ghost use Rattle.std.specs.Prelude.{◌≡◌, option_map, Some, IsTrue};
-ghost use Rattle.sat_model.specs.Boxes.{grid_box};
-ghost use Rattle.sat_model.specs.Trees.{IsWellFormed, HasSoundNodes, HaveSoundNodes, Relaxed, Again, span_side};
+ghost use Rattle.grid_model.specs.Boxes.{grid_box, span_side};
+ghost use Rattle.sat_model.specs.Trees.{IsWellFormed, HasSoundNodes, HaveSoundNodes, Relaxed, Again};
 ghost use Rattle.sat_model.specs.Contractors.{IsMeet};
 ghost use Rattle.sat_model.specs.Proposals.{IsTied, InTurn, IsProposal};
 ghost use Rattle.range_contractor.specs.Views.{tree_value, tree_values};
@@ -13,7 +13,7 @@ use crate::leaf::leaf_part;
 use crate::meets::meet;
 use crate::tree::Tree;
 use fix_interval::Interval;
-use sat_model::{Box3, Span};
+use grid_model::{Box3, Span};
 
 /// The numbers that both boxes have.
 fn meet_of(part: &Box3, other: &Box3) -> Option<Box3>

@@ -1,15 +1,15 @@
 //! The q-relaxed hulls of sides.
 
 ghost use Rattle.std.specs.Prelude.{◌≡◌, ◌+◌, ◌≤◌, ◌++◌, ◌∷◌, [], length, map, IfSome, IsNone, option_map};
-ghost use Rattle.sat_model.specs.Boxes.{grid_box, side_at};
+ghost use Rattle.grid_model.specs.Boxes.{grid_box, side_at};
 ghost use Rattle.sat_model.specs.Relaxed.{ends, IsRelaxedEmpty, IsRelaxedHull};
 ghost use Rattle.sat_model.specs.Contractors.{sides_of};
 ghost use Rattle.range_contractor.specs.Hulls.{AreInside, IsBoxOfHulls};
 
 use crate::boxes::{box_of, side_of};
 use arrayvec::ArrayVec;
+use grid_model::{Box3, Span};
 use relaxed_meet::relaxed;
-use sat_model::{Box3, Span};
 
 /// The sides of boxes on one axis.
 pub(crate) type Sides = ArrayVec<Span, 64>;

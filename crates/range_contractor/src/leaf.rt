@@ -1,8 +1,8 @@
 //! What one satellite leaves of a box.
 
 ghost use Rattle.std.specs.Prelude.{IsTrue, option_map, pos, ◌≤ℤ◌};
-ghost use Rattle.sat_model.specs.Boxes.{grid_box};
-ghost use Rattle.sat_model.specs.Trees.{Sat, IsLeafSized, span_side};
+ghost use Rattle.grid_model.specs.Boxes.{grid_box, span_side};
+ghost use Rattle.sat_model.specs.Trees.{Sat, IsLeafSized};
 ghost use Rattle.sat_model.specs.Proposals.{IsTied};
 ghost use Rattle.sat_model.specs.TightFaces.{near_leaf, far_leaf};
 ghost use Rattle.range_contractor.specs.Ranges.{greatest_possible};
@@ -14,8 +14,8 @@ use crate::sides::side_kept;
 use crate::squares::{difference_squares, ends_of, range_squares};
 use crate::tree::Leaf;
 use fix_interval::Interval;
+use grid_model::{Box3, Span};
 use relaxed_meet::{far_square_of, near_square_of};
-use sat_model::{Box3, Span};
 
 /// The least box that holds each point of the box that the satellite allows with some offset of the
 /// clock span, but for the slack at the faces. Each axis is contracted by the given sides of the

@@ -1,10 +1,10 @@
 //! Meets and hulls of spans.
 
 ghost use Rattle.std.specs.Prelude.{IfSome, IsNone};
-ghost use Rattle.sat_model.specs.Trees.{span_side};
+ghost use Rattle.grid_model.specs.Boxes.{span_side};
 ghost use Rattle.range_contractor.specs.Sides.{IsMeetOf, DontMeet, IsHullOf, IsHullOfMeets, NoneMeets};
 
-use sat_model::Span;
+use grid_model::Span;
 
 /// The numbers that both spans have.
 pub(crate) fn meet(a: &Span, b: &Span) -> Option<Span>

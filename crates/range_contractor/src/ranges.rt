@@ -1,10 +1,10 @@
 //! The ranges that a satellite allows with the offsets of a clock span.
 
 ghost use Rattle.std.specs.Prelude.{IfSome, IsNone, ◌-ℤ◌};
-ghost use Rattle.sat_model.specs.Sizes.{IsPlaceSize, IsErrorSize};
+ghost use Rattle.grid_model.specs.Sizes.{IsPlaceSize, IsErrorSize};
 ghost use Rattle.range_contractor.specs.Ranges.{IsLeastWanted, IsMostWanted, IsWanted, NoneIsWanted};
 
-use sat_model::Span;
+use grid_model::Span;
 
 /// No range from a leaf's place to a point of a box is greater, in um.
 const GREATEST_POSSIBLE: i64 = 139_999_999_999_999;

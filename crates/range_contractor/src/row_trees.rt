@@ -1,15 +1,16 @@
 //! The tree of an epoch's rows.
 
 ghost use Rattle.std.specs.Prelude.{◌≡◌, ◌<◌, ◌≤◌, length, IfOk};
-ghost use Rattle.sat_model.specs.Rounding.{grain_floor, grain_ceil};
-ghost use Rattle.sat_model.specs.Sizes.{IsPlaceSize};
+ghost use Rattle.grid_model.specs.Rounding.{grain_floor, grain_ceil};
+ghost use Rattle.grid_model.specs.Sizes.{IsPlaceSize};
 ghost use Rattle.sat_model.specs.Trees.{IsWellFormed};
 ghost use Rattle.sat_model.specs.RowTrees.{row_leaf, row_tree};
 ghost use Rattle.range_contractor.specs.Views.{leaf_value, tree_value};
 
 use crate::tree::{Leaf, Tree};
 use fix_interval::Interval;
-use sat_model::{NoMemory, Row, Span};
+use grid_model::{NoMemory, Span};
+use sat_model::Row;
 use std::alloc::Global;
 
 /// The least interval that holds a span.

@@ -1,15 +1,15 @@
 //! What one satellite leaves of one side of a box.
 
 ghost use Rattle.std.specs.Prelude.{IfSome, IsNone, IsTrue, ◌+◌, ◌^◌, ◌≤◌};
-ghost use Rattle.sat_model.specs.Sizes.{IsWithin, IsBoxSize};
-ghost use Rattle.sat_model.specs.Trees.{span_side};
+ghost use Rattle.grid_model.specs.Sizes.{IsWithin, IsBoxSize};
+ghost use Rattle.grid_model.specs.Boxes.{span_side};
 ghost use Rattle.range_contractor.specs.Sides.{IsNearlyReached, IsBelow, IsAbove, IsKept, NoneIsKept};
 ghost use Rattle.range_contractor.specs.Views.{interval_side};
 
 use crate::meets::hull_of_meets;
 use crate::squares::{amount_left, difference_squares, ends_of};
 use fix_interval::Interval;
-use sat_model::Span;
+use grid_model::Span;
 
 /// The numbers below the place by a number of the amount.
 fn below(place: &Span, amount: &Span) -> Span

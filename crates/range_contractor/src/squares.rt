@@ -2,14 +2,14 @@
 //! other.
 
 ghost use Rattle.std.specs.Prelude.{◌^◌, ◌<◌, ◌≤◌, pos, ◌≤ℤ◌, ◌≡◌, IfSome, IsNone};
-ghost use Rattle.sat_model.specs.Sizes.{IsWithin, IsBoxSize};
-ghost use Rattle.sat_model.specs.Trees.{span_side};
+ghost use Rattle.grid_model.specs.Sizes.{IsWithin, IsBoxSize};
+ghost use Rattle.grid_model.specs.Boxes.{span_side};
 ghost use Rattle.range_contractor.specs.Ranges.{greatest_possible};
 ghost use Rattle.range_contractor.specs.Squares.{AreDifferenceSquares, AreRangeSquares, IsAmount};
 ghost use Rattle.range_contractor.specs.Views.{interval_side};
 
 use fix_interval::Interval;
-use sat_model::Span;
+use grid_model::Span;
 
 /// The squares of the differences of a place and the numbers of a side.
 pub(crate) fn difference_squares<I: Interval>(place: I, side: &Span) -> I::Area

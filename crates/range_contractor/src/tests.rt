@@ -1,11 +1,13 @@
 ghost use Rattle.std.specs.Prelude.{◌≡◌, pos, ◌≤ℤ◌, IfOk};
-ghost use Rattle.sat_model.specs.Sizes.{IsBoxSize, IsErrorSize, IsPlaceSize};
+ghost use Rattle.grid_model.specs.Sizes.{IsBoxSize, IsErrorSize, IsPlaceSize};
 ghost use Rattle.sat_model.specs.Trees.{IsWellFormed};
 ghost use Rattle.range_contractor.specs.Views.{tree_value};
 
 use super::*;
 use fix_interval::{Coarse, Exact, Interval};
-use sat_model::{Box3, NoMemory, Pos, Row, Sat, Span};
+use gnss_model::Sat;
+use grid_model::{Box3, NoMemory, Pos, Span};
+use sat_model::Row;
 use std::alloc::Global;
 
 /// The distance of the satellites from the origin, in um.

@@ -1,7 +1,7 @@
 //! Trees of contractors.
 
 use fix_interval::Interval;
-use sat_model::{Box3, Span};
+use grid_model::{Box3, Span};
 
 /// What one satellite says: spans of its place, of its corrected pseudorange and of the error, in
 /// um. The ends of `x`, `y` and `z` are within 7 * 10^13 um in amount, the others have the sizes of

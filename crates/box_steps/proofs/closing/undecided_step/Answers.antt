@@ -1,16 +1,15 @@
-use Rattle.std.proofs.Common.{◌≡◌, ℕ, List, arith, refl, inl, inr}
+use Rattle.std.proofs.Common.{◌≡◌, arith, refl, inl, inr}
 use Rattle.std.specs.Prelude.{ℤ}
 use Rattle.std.proofs.lemmas.Int.{ints}
-use Rattle.sat_model.specs.Boxes.{GridBox, grid_box}
-use Rattle.sat_model.specs.declared.satellites.Row.{Row}
-use Rattle.sat_model.specs.ClockSpans.{IsClockHull}
+use Rattle.grid_model.specs.Boxes.{GridBox, grid_box}
+use Rattle.sat_model.specs.BoxTests.{BoxTest, test_of, IsHull}
 use Rattle.box_steps.proofs.closing.undecided_step.Goals as goal
 use Rattle.box_steps.proofs.closing.undecided_step.Goals.{else-longest-rules-via-then-longest-rules+else-splits-rules, else-longest-rules-via-else-longest-rules}
 
 -- the ends are read back from the step
-hull_same : (rows : List Row) (part : GridBox) (q : ℕ) (lo hi lo' hi' : ℤ) → lo ≡ lo' → hi ≡ hi'
-    → IsClockHull rows part q lo hi → IsClockHull rows part q lo' hi'
-hull_same rows part q lo hi lo' hi' e f h = rw (← e, ← f) h
+hull_same : (test : BoxTest) (part : GridBox) (lo hi lo' hi' : ℤ) → lo ≡ lo' → hi ≡ hi'
+    → IsHull test part lo hi → IsHull test part lo' hi'
+hull_same test part lo hi lo' hi' e f h = rw (← e, ← f) h
 
 pub returns-else-longest-rules : goal.returns-else-longest-rules
 returns-else-longest-rules c = λ rows undecided hull. (
@@ -20,5 +19,5 @@ returns-else-longest-rules c = λ rows undecided hull. (
     | else-longest-rules-via-then-longest-rules+else-splits-rules w ↦ inr w.if-splits-rules.false
     | else-longest-rules-via-else-longest-rules w ↦ inl (omega (arith, ints))
   ],
-  hull_same rows (grid_box c.args.part.now) c.args.rules.now.outliers c.args.hull.lo c.args.hull.hi _ _ (omega (arith, ints)) (omega (arith, ints)) hull,
+  hull_same (test_of c.args.rules.now rows) (grid_box c.args.part.now) c.args.hull.lo c.args.hull.hi _ _ (omega (arith, ints)) (omega (arith, ints)) hull,
 )

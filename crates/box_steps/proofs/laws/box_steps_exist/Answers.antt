@@ -1,4 +1,4 @@
-use Rattle.sat_model.specs.Boxes.{grid_box}
+use Rattle.grid_model.specs.Boxes.{grid_box}
 use Rattle.box_steps.proofs.BoxLemmas.{grid_part, box_steps_exist}
 use Rattle.box_steps.proofs.laws.box_steps_exist.Goals as goal
 

@@ -1,4 +1,4 @@
-use Rattle.sat_model.specs.Boxes.{grid_box}
+use Rattle.grid_model.specs.Boxes.{grid_box}
 use Rattle.box_steps.proofs.BoxLemmas.{grid_part, cuts_few, cuts_inside, none_left}
 use Rattle.box_steps.proofs.laws.cuts_leave_no_eighth.Goals as goal
 

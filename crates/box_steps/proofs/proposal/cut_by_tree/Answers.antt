@@ -1,6 +1,6 @@
 use Rattle.std.proofs.Common.{Some}
 use Rattle.std.proofs.lemmas.Result.{IfErr-weaker}
-use Rattle.sat_model.specs.Boxes.{grid_box}
+use Rattle.grid_model.specs.Boxes.{grid_box}
 use Rattle.box_steps.proofs.TakingLemmas.{broke_as}
 use Rattle.box_steps.proofs.proposal.cut_by_tree.Goals as goal
 

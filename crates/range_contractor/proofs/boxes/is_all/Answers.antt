@@ -1,5 +1,5 @@
 use Rattle.std.proofs.Common.{sym, ◌∙◌, ap, option_map, Some}
-use Rattle.sat_model.specs.Boxes.{grid_box}
+use Rattle.grid_model.specs.Boxes.{grid_box}
 use Rattle.range_contractor.proofs.BoxLemmas.{same_coordinates}
 use Rattle.range_contractor.proofs.boxes.is_all.Goals as goal
 

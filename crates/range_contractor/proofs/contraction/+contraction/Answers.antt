@@ -1,7 +1,7 @@
 use Rattle.std.proofs.Common.{◌≡◌, ℕ, ◌-◌, arith, sym, subst, refl, [], ◌∷◌, ◌++◌, option_map, ap, ◌∙◌, take, length}
 use Rattle.std.proofs.lemmas.List.{take_all}
-use Rattle.sat_model.specs.Boxes.{grid_box, side_at}
-use Rattle.sat_model.specs.Trees.{TreeValue, Relaxed, count_trees, span_side}
+use Rattle.grid_model.specs.Boxes.{grid_box, side_at, span_side}
+use Rattle.sat_model.specs.Trees.{TreeValue, Relaxed, count_trees}
 use Rattle.sat_model.specs.Contractors.{Contractor, sides_of}
 use Rattle.sat_model.specs.Proposals.{IsTied}
 use Rattle.range_contractor.specs.Hulls.{AreInside}

@@ -1,7 +1,7 @@
 use Rattle.std.proofs.Common.{◌≡◌, ◌-◌, ◌≤◌, List, Option, map, take, drop, length}
-use Rattle.sat_model.specs.Boxes.{GridBox, grid_box}
+use Rattle.grid_model.specs.Boxes.{GridBox, grid_box, span_side}
 use Rattle.sat_model.specs.Relaxed.{ends}
-use Rattle.sat_model.specs.Trees.{HaveSoundNodes, span_side}
+use Rattle.sat_model.specs.Trees.{HaveSoundNodes}
 use Rattle.sat_model.specs.Contractors.{Repeats, sides_of}
 use Rattle.sat_model.specs.Proposals.{InTurn, AreTied, IsTied}
 use Rattle.range_contractor.specs.Views.{tree_value, tree_values}

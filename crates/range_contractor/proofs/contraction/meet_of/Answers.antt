@@ -1,7 +1,7 @@
 use Rattle.std.proofs.Common.{◌≡◌, ℕ, zero, suc, arith, refl, subst, ◌∙◌}
 use Rattle.std.specs.Prelude.{◌≤ℤ◌}
 use Rattle.std.proofs.lemmas.Int.{ints}
-use Rattle.sat_model.specs.Boxes.{Side, GridBox, grid_box, side_at}
+use Rattle.grid_model.specs.Boxes.{Side, GridBox, grid_box, side_at}
 use Rattle.sat_model.specs.Contractors.{SideLiesIn, meet_side}
 use Rattle.range_contractor.specs.Sides.{IsMeetOf, DontMeet}
 use Rattle.range_contractor.proofs.BoxLemmas.{holds_at}

@@ -1,8 +1,7 @@
 use Rattle.std.proofs.Common.{arith}
 use Rattle.std.proofs.lemmas.Int.{ints}
 use Rattle.std.proofs.lemmas.Bool.{leb-true}
-use Rattle.sat_model.specs.Boxes.{grid_box}
-use Rattle.sat_model.specs.Trees.{span_side}
+use Rattle.grid_model.specs.Boxes.{grid_box, span_side}
 use Rattle.range_contractor.specs.Views.{leaf_value}
 use Rattle.range_contractor.proofs.WantedLemmas.{near_from, far_to}
 use Rattle.range_contractor.proofs.leaf.are_all_wanted.Goals as goal

@@ -1,6 +1,6 @@
 use Rattle.std.proofs.Common.{◌+◌, refl, sym, subst, Some}
-use Rattle.sat_model.specs.Boxes.{Side, GridBox, grid_box}
-use Rattle.sat_model.specs.Trees.{Sat, span_side}
+use Rattle.grid_model.specs.Boxes.{Side, GridBox, grid_box, span_side}
+use Rattle.sat_model.specs.Trees.{Sat}
 use Rattle.sat_model.specs.TightFaces.{IsTightAnswer}
 use Rattle.sat_model.specs.Proposals.{Keeps}
 use Rattle.range_contractor.specs.Sides.{IsKept}

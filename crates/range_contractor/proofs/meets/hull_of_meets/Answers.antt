@@ -1,5 +1,5 @@
 use Rattle.range_contractor.proofs.MeetLemmas.{both_meet, first_meets, second_meets, none_meets}
-use Rattle.sat_model.specs.Trees.{span_side}
+use Rattle.grid_model.specs.Boxes.{span_side}
 use Rattle.std.proofs.Common.{refl}
 use Rattle.range_contractor.proofs.meets.hull_of_meets.Goals as goal
 

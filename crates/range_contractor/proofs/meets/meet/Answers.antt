@@ -1,7 +1,7 @@
 use Rattle.std.proofs.Common.{◌≡◌, arith, to_z, of_z, w64, ◌∙◌, sym}
 use Rattle.std.proofs.lemmas.Int.{ints}
 use Rattle.range_contractor.proofs.MeetLemmas.{is_meet, dont_meet}
-use Rattle.sat_model.specs.Trees.{span_side}
+use Rattle.grid_model.specs.Boxes.{span_side}
 use Rattle.range_contractor.proofs.meets.meet.Goals as goal
 
 pub returns-then-lo-hi-clause-some : goal.returns-then-lo-hi-clause-some

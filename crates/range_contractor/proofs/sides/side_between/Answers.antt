@@ -1,8 +1,7 @@
 use Rattle.std.proofs.Common.{None, Some, Option}
 use Rattle.std.specs.Prelude.{IfSome}
-use Rattle.sat_model.specs.Boxes.{Side}
-use Rattle.sat_model.specs.declared.spans.Span.{Span}
-use Rattle.sat_model.specs.Trees.{span_side}
+use Rattle.grid_model.specs.Boxes.{Side, span_side}
+use Rattle.grid_model.specs.declared.spans.Span.{Span}
 use Rattle.range_contractor.specs.Sides.{IsKept, IsHullOfMeets, IsBelow, IsAbove}
 use Rattle.range_contractor.specs.Squares.{AreWhole}
 use Rattle.range_contractor.proofs.AmountLemmas.{is_kept, none_is_kept}

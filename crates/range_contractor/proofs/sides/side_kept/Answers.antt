@@ -1,10 +1,9 @@
 use Rattle.std.proofs.Common.{ℕ, arith, None, Some, Option}
 use Rattle.std.specs.Prelude.{ℤ, IfSome}
 use Rattle.std.proofs.lemmas.Int.{ints}
-use Rattle.sat_model.specs.Boxes.{Side}
-use Rattle.sat_model.specs.Sizes.{IsBoxSize}
-use Rattle.sat_model.specs.declared.spans.Span.{Span}
-use Rattle.sat_model.specs.Trees.{span_side}
+use Rattle.grid_model.specs.Boxes.{Side, span_side}
+use Rattle.grid_model.specs.Sizes.{IsBoxSize}
+use Rattle.grid_model.specs.declared.spans.Span.{Span}
 use Rattle.range_contractor.specs.Sides.{IsKept}
 use Rattle.range_contractor.proofs.sides.side_kept.Goals as goal
 

@@ -1,8 +1,8 @@
 use Rattle.std.proofs.Common.{ℕ, arith, ap, ◌∙◌}
 use Rattle.std.specs.Prelude.{pos}
 use Rattle.std.proofs.lemmas.Int.{ints}
-use Rattle.sat_model.specs.Roots.{root}
-use Rattle.sat_model.specs.Rounding.{grain_floor, grain_ceil}
+use Rattle.grid_model.specs.Roots.{root}
+use Rattle.grid_model.specs.Rounding.{grain_floor, grain_ceil}
 use Rattle.range_contractor.specs.Squares.{AreAmounts}
 use Rattle.range_contractor.proofs.AmountLemmas.{is_amount}
 use Rattle.range_contractor.proofs.squares.amount_left.Goals as goal

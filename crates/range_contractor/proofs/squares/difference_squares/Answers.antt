@@ -1,7 +1,7 @@
 use Rattle.std.proofs.Common.{◌≡◌, arith, to_z, of_z, w64, ap, ◌∙◌}
 use Rattle.std.specs.Prelude.{ℤ, ◌-ℤ◌}
 use Rattle.std.proofs.lemmas.Int.{ints}
-use Rattle.sat_model.specs.Trees.{span_side}
+use Rattle.grid_model.specs.Boxes.{span_side}
 use Rattle.range_contractor.proofs.SquareLemmas.{difference_sizes, are_difference_squares, difference_squares_small}
 use Rattle.range_contractor.proofs.squares.difference_squares.Goals as goal
 

@@ -1,7 +1,7 @@
 use Rattle.std.proofs.Common.{◌≡◌, Vec, Global, rules, arith, [], ◌∷◌, ◌++◌, ap, ◌∙◌, sym, subst, refl}
 use Rattle.std.specs.Prelude.{ℤ}
-use Rattle.sat_model.specs.declared.boxes.Box3.{Box3}
-use Rattle.sat_model.specs.Boxes.{grid_box}
+use Rattle.grid_model.specs.declared.boxes.Box3.{Box3}
+use Rattle.grid_model.specs.Boxes.{grid_box}
 use Rattle.sat_model.specs.Trees.{TreeValue, All, Within, no_trees, tree, HaveSoundNodes, IsWellFormed}
 use Rattle.range_contractor.specs.declared.tree.Tree.{Tree, All as CodeAll, Within as CodeWithin, the_lemmas}
 use Rattle.range_contractor.specs.Views.{tree_value, tree_values}
