@@ -3,15 +3,15 @@ use Rattle.std.proofs.Common.{◌≡◌, ℕ, ◌+◌, ◌-◌, ◌*◌, ◌^◌
 use Rattle.std.specs.Prelude.{ℤ, pos, neg_ℤ, ◌+ℤ◌, ◌-ℤ◌, ◌*ℤ◌, ◌≤ℤ◌}
 use Rattle.std.proofs.lemmas.Int.{ints}
 use lib.IntN.{*ℤ_comm}
-use Rattle.sat_model.specs.Angles.{unit}
-use Rattle.sat_model.specs.Intervals.{Between, Close, Ends}
-use Rattle.sat_model.specs.OrbitChain.{OrbitChain}
-use Rattle.sat_model.specs.RecordBounds.{LiesFrom, IsValue, eccentricity_bound, least_root_a, greatest_root_a, radius_swing_bound}
-use Rattle.sat_model.specs.Rounding.{Near}
-use Rattle.sat_model.specs.Sizes.{IsWithin}
-use Rattle.sat_model.specs.declared.elements.Elements.{Elements}
-use Rattle.sat_model.specs.declared.spans.Wide.{Wide}
-use Rattle.sat_model.proofs.ProductLemmas.{add_mul}
+use Rattle.grid_model.specs.Angles.{unit}
+use Rattle.grid_model.specs.Intervals.{Between, Close, Ends}
+use Rattle.gnss_model.specs.OrbitChain.{OrbitChain}
+use Rattle.gnss_model.specs.RecordBounds.{LiesFrom, IsValue, eccentricity_bound, least_root_a, greatest_root_a, radius_swing_bound}
+use Rattle.grid_model.specs.Rounding.{Near}
+use Rattle.grid_model.specs.Sizes.{IsWithin}
+use Rattle.gnss_model.specs.declared.elements.Elements.{Elements}
+use Rattle.grid_model.specs.declared.spans.Wide.{Wide}
+use Rattle.grid_model.proofs.ProductLemmas.{add_mul}
 use Rattle.interval_trig.proofs.CircleLaw.{sine_and_cosine}
 use Rattle.interval_trig.proofs.Smoothness.{sine_value_small, cosine_value_small}
 use Rattle.broadcast_orbit.specs.OrbitSizes.{eccentricity_amount, place_amount, place_width, coordinate_amount, least_distance, greatest_distance, IsOrbitDistance}

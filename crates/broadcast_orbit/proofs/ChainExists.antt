@@ -2,18 +2,18 @@
 use Rattle.std.proofs.Common.{ℕ, ◌+◌, ◌-◌, ◌*◌, ◌^◌, ◌≤◌, arith, refl}
 use Rattle.std.specs.Prelude.{ℤ, pos, negsuc, ◌+ℤ◌, ◌-ℤ◌, ◌*ℤ◌, ◌≤ℤ◌, ◌<ℤ◌}
 use Rattle.std.proofs.lemmas.Int.{ints}
-use Rattle.sat_model.specs.Angles.{unit}
-use Rattle.sat_model.specs.EarthModel.{earth_rate, rate_scale}
-use Rattle.sat_model.specs.OrbitChain.{OrbitFields, AreOrbitFields, Anomaly, Latitude, InPlane, EarthFixed, OrbitChain}
-use Rattle.sat_model.specs.RecordBounds.{IsValue}
-use Rattle.sat_model.specs.Roots.{IsRoot, root}
-use Rattle.sat_model.specs.Rounding.{Near}
-use Rattle.sat_model.specs.Sizes.{IsWithin}
-use Rattle.sat_model.specs.declared.elements.Elements.{Elements}
-use Rattle.sat_model.specs.declared.spans.Wide.{Wide}
-use Rattle.sat_model.proofs.IntervalLemmas.{low_member}
-use Rattle.sat_model.proofs.ProductLemmas.{product_within}
-use Rattle.sat_model.proofs.RootLemmas.{root_is, square-mono}
+use Rattle.grid_model.specs.Angles.{unit}
+use Rattle.gnss_model.specs.EarthModel.{earth_rate, rate_scale}
+use Rattle.gnss_model.specs.OrbitChain.{OrbitFields, AreOrbitFields, Anomaly, Latitude, InPlane, EarthFixed, OrbitChain}
+use Rattle.gnss_model.specs.RecordBounds.{IsValue}
+use Rattle.grid_model.specs.Roots.{IsRoot, root}
+use Rattle.grid_model.specs.Rounding.{Near}
+use Rattle.grid_model.specs.Sizes.{IsWithin}
+use Rattle.gnss_model.specs.declared.elements.Elements.{Elements}
+use Rattle.grid_model.specs.declared.spans.Wide.{Wide}
+use Rattle.grid_model.proofs.IntervalLemmas.{low_member}
+use Rattle.grid_model.proofs.ProductLemmas.{product_within}
+use Rattle.grid_model.proofs.RootLemmas.{root_is, square-mono}
 use Rattle.fix_interval.proofs.NearLemmas.{near_exists, near_low}
 use Rattle.interval_trig.proofs.Existence.{sine_exists, cosine_exists}
 use Rattle.interval_trig.proofs.Smoothness.{cosine_value_small}

@@ -2,13 +2,13 @@
 use Rattle.std.proofs.Common.{◌≡◌, ℕ, ◌+◌, ◌*◌, ◌≤◌, arith}
 use Rattle.std.specs.Prelude.{ℤ, pos, neg_ℤ, ◌+ℤ◌, ◌-ℤ◌, ◌≤ℤ◌}
 use Rattle.std.proofs.lemmas.Int.{ints}
-use Rattle.sat_model.specs.Angles.{unit}
-use Rattle.sat_model.specs.Sizes.{IsWithin}
-use Rattle.sat_model.specs.Intervals.{Between, Ends}
-use Rattle.sat_model.specs.RecordBounds.{LiesFrom, IsField, IsValue}
-use Rattle.sat_model.specs.Rounding.{Near}
-use Rattle.sat_model.specs.declared.spans.Wide.{Wide}
-use Rattle.sat_model.proofs.EndsLemmas.{sum_ends, difference_ends, wider_ends}
+use Rattle.grid_model.specs.Angles.{unit}
+use Rattle.grid_model.specs.Sizes.{IsWithin}
+use Rattle.grid_model.specs.Intervals.{Between, Ends}
+use Rattle.gnss_model.specs.RecordBounds.{LiesFrom, IsField, IsValue}
+use Rattle.grid_model.specs.Rounding.{Near}
+use Rattle.grid_model.specs.declared.spans.Wide.{Wide}
+use Rattle.grid_model.proofs.EndsLemmas.{sum_ends, difference_ends, wider_ends}
 use Rattle.fix_interval.specs.declared.exact.Exact.{Exact}
 use Rattle.fix_interval.specs.Factors.{Holds, HasEnds}
 use Rattle.fix_interval.proofs.ProductEnds.{amount_of, spread}

@@ -3,13 +3,13 @@ use Rattle.std.proofs.Common.{◌≡◌, ℕ, ◌+◌, ◌-◌, ◌*◌, ◌^◌
 use Rattle.std.specs.Prelude.{ℤ, pos, ◌+ℤ◌, ◌-ℤ◌, ◌*ℤ◌, ◌≤ℤ◌}
 use Rattle.std.proofs.lemmas.Int.{ints}
 use lib.IntN.{*ℤ_comm}
-use Rattle.sat_model.specs.Angles.{unit}
-use Rattle.sat_model.specs.Intervals.{Between, Close}
-use Rattle.sat_model.specs.RecordBounds.{eccentricity_bound, least_root_a, greatest_root_a, radius_swing_bound}
-use Rattle.sat_model.specs.Rounding.{Near}
-use Rattle.sat_model.specs.Sines.{NearCircle}
-use Rattle.sat_model.specs.Sizes.{IsWithin}
-use Rattle.sat_model.proofs.ProductLemmas.{mul_mono, distrib, mul_assoc, product_within}
+use Rattle.grid_model.specs.Angles.{unit}
+use Rattle.grid_model.specs.Intervals.{Between, Close}
+use Rattle.gnss_model.specs.RecordBounds.{eccentricity_bound, least_root_a, greatest_root_a, radius_swing_bound}
+use Rattle.grid_model.specs.Rounding.{Near}
+use Rattle.grid_model.specs.Sines.{NearCircle}
+use Rattle.grid_model.specs.Sizes.{IsWithin}
+use Rattle.grid_model.proofs.ProductLemmas.{mul_mono, distrib, mul_assoc, product_within}
 use Rattle.broadcast_orbit.proofs.Chains.{one_within}
 use Rattle.broadcast_orbit.proofs.PairLemmas.{swap4, pair_squares, near_squares, times_near, square_natural, first_within, second_within, product_between, Squares}
 

@@ -2,17 +2,17 @@
 use Rattle.std.proofs.Common.{◌≡◌, ℕ, ◌+◌, ◌*◌, ◌^◌, ◌≤◌, arith, true}
 use Rattle.std.specs.Prelude.{ℤ, pos, ◌+ℤ◌, ◌-ℤ◌, ◌*ℤ◌, ◌≤ℤ◌}
 use Rattle.std.proofs.lemmas.Int.{ints}
-use Rattle.sat_model.specs.Amounts.{square}
-use Rattle.sat_model.specs.Boxes.{Side, GridBox, box_holds}
-use Rattle.sat_model.specs.OrbitChain.{OrbitChain}
-use Rattle.sat_model.specs.SearchBoxes.{IsSearchSide, IsSearchBox}
-use Rattle.sat_model.specs.Sizes.{IsWithin}
-use Rattle.sat_model.specs.Squares.{sum_of_squares}
-use Rattle.sat_model.specs.Turn.{Turn}
-use Rattle.sat_model.specs.declared.boxes.Pos.{Pos}
-use Rattle.sat_model.specs.declared.elements.Elements.{Elements}
-use Rattle.sat_model.proofs.FittingLemmas.{in_box}
-use Rattle.sat_model.proofs.ProductLemmas.{product_le, square_of_amount}
+use Rattle.grid_model.specs.Amounts.{square}
+use Rattle.grid_model.specs.Boxes.{Side, GridBox, box_holds}
+use Rattle.gnss_model.specs.OrbitChain.{OrbitChain}
+use Rattle.grid_model.specs.SearchBoxes.{IsSearchSide, IsSearchBox}
+use Rattle.grid_model.specs.Sizes.{IsWithin}
+use Rattle.grid_model.specs.Squares.{sum_of_squares}
+use Rattle.gnss_model.specs.Turn.{Turn}
+use Rattle.grid_model.specs.declared.boxes.Pos.{Pos}
+use Rattle.gnss_model.specs.declared.elements.Elements.{Elements}
+use Rattle.grid_model.proofs.PointLemmas.{in_box}
+use Rattle.grid_model.proofs.ProductLemmas.{product_le, square_of_amount}
 use Rattle.broadcast_orbit.proofs.ChainDistance.{orbit_distance}
 use Rattle.broadcast_orbit.proofs.PairLemmas.{swap4, square_of_difference, near_squares, square_natural, side_within}
 use Rattle.broadcast_orbit.proofs.TurnKeeps.{turned_low, turned_high, turned_distance}

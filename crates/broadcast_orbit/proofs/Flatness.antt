@@ -2,10 +2,10 @@
 use Rattle.std.proofs.Common.{◌≡◌, ℕ, ◌+◌, ◌-◌, ◌*◌, ◌≤◌, ◌<◌, arith, lit≤, subst}
 use Rattle.std.specs.Prelude.{ℤ, pos, nat_abs, ◌+ℤ◌, ◌-ℤ◌, ◌*ℤ◌, ◌≤ℤ◌, ◌<ℤ◌}
 use Rattle.std.proofs.lemmas.Int.{ints}
-use Rattle.sat_model.specs.Angles.{unit}
-use Rattle.sat_model.specs.Intervals.{Between, Ends}
-use Rattle.sat_model.specs.Roots.{IsRoot}
-use Rattle.sat_model.proofs.RootLemmas.{square-mono}
+use Rattle.grid_model.specs.Angles.{unit}
+use Rattle.grid_model.specs.Intervals.{Between, Ends}
+use Rattle.grid_model.specs.Roots.{IsRoot}
+use Rattle.grid_model.proofs.RootLemmas.{square-mono}
 use Rattle.broadcast_orbit.specs.OrbitSizes.{eccentricity_amount}
 
 -- a number whose square is at most n is at most a number whose successor's square is above n

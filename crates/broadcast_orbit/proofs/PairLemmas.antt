@@ -3,12 +3,12 @@ use Rattle.std.proofs.Common.{◌≡◌, ℕ, ◌+◌, ◌*◌, ◌≤◌, arith
 use Rattle.std.specs.Prelude.{ℤ, pos, nat_abs, ◌+ℤ◌, ◌-ℤ◌, ◌*ℤ◌, ◌≤ℤ◌}
 use Rattle.std.proofs.lemmas.Int.{ints}
 use lib.IntN.{*ℤ_comm}
-use Rattle.sat_model.specs.Angles.{unit}
-use Rattle.sat_model.specs.Intervals.{Between}
-use Rattle.sat_model.specs.Rounding.{Near}
-use Rattle.sat_model.specs.Sizes.{IsWithin}
-use Rattle.sat_model.proofs.ProductLemmas.{mul_mono, add_mul, distrib, distrib_less, mul_assoc, product_within, square_of_amount}
-use Rattle.sat_model.proofs.RootLemmas.{square-mono}
+use Rattle.grid_model.specs.Angles.{unit}
+use Rattle.grid_model.specs.Intervals.{Between}
+use Rattle.grid_model.specs.Rounding.{Near}
+use Rattle.grid_model.specs.Sizes.{IsWithin}
+use Rattle.grid_model.proofs.ProductLemmas.{mul_mono, add_mul, distrib, distrib_less, mul_assoc, product_within, square_of_amount}
+use Rattle.grid_model.proofs.RootLemmas.{square-mono}
 use Rattle.fix_interval.proofs.InsideLemmas.{less_mul}
 
 -- the middle factors change places

@@ -4,15 +4,15 @@ use Rattle.std.proofs.Common.{◌≡◌, ℕ, ◌+◌, ◌-◌, ◌*◌, ◌^◌
 use Rattle.std.specs.Prelude.{ℤ, pos, ◌+ℤ◌, ◌-ℤ◌, ◌*ℤ◌, ◌≤ℤ◌, ◌<ℤ◌}
 use Rattle.std.proofs.lemmas.Int.{ints}
 use lib.IntN.{*ℤ_comm}
-use Rattle.sat_model.specs.Angles.{unit}
-use Rattle.sat_model.specs.Intervals.{Between}
-use Rattle.sat_model.specs.Rounding.{Near}
-use Rattle.sat_model.specs.Sines.{NearCircle}
-use Rattle.sat_model.specs.Sizes.{IsWithin}
-use Rattle.sat_model.proofs.ProductLemmas.{mul_mono, mul_le_back, add_mul, distrib, distrib_less, product_within}
+use Rattle.grid_model.specs.Angles.{unit}
+use Rattle.grid_model.specs.Intervals.{Between}
+use Rattle.grid_model.specs.Rounding.{Near}
+use Rattle.grid_model.specs.Sines.{NearCircle}
+use Rattle.grid_model.specs.Sizes.{IsWithin}
+use Rattle.grid_model.proofs.ProductLemmas.{mul_mono, mul_le_back, add_mul, distrib, distrib_less, product_within}
 use Rattle.broadcast_orbit.specs.OrbitSizes.{eccentricity_amount}
 use Rattle.broadcast_orbit.proofs.PairLemmas.{swap4, square_of_difference, near_squares, times_near, square_natural, Squares}
-use Rattle.sat_model.proofs.RootLemmas.{square-mono}
+use Rattle.grid_model.proofs.RootLemmas.{square-mono}
 use Rattle.fix_interval.proofs.InsideLemmas.{less_mul}
 use Rattle.broadcast_orbit.proofs.Chains.{one_within}
 

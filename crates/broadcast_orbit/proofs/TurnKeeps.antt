@@ -5,14 +5,14 @@ use Rattle.std.specs.Prelude.{ℤ, pos, ◌+ℤ◌, ◌-ℤ◌, ◌*ℤ◌, ◌�
 use Rattle.std.proofs.lemmas.Int.{ints}
 use lib.IntN.{*ℤ_comm}
 use Rattle.interval_trig.proofs.CircleLaw.{sine_and_cosine}
-use Rattle.sat_model.specs.Angles.{unit}
-use Rattle.sat_model.specs.Intervals.{Between, Close}
-use Rattle.sat_model.specs.OrbitChain.{IsSumOf, IsDifferenceOf}
-use Rattle.sat_model.specs.Sines.{NearCircle}
-use Rattle.sat_model.specs.Sizes.{IsWithin}
-use Rattle.sat_model.specs.Turn.{IsTurnedOver, Turn}
-use Rattle.sat_model.specs.declared.boxes.Pos.{Pos}
-use Rattle.sat_model.proofs.ProductLemmas.{mul_mono}
+use Rattle.grid_model.specs.Angles.{unit}
+use Rattle.grid_model.specs.Intervals.{Between, Close}
+use Rattle.gnss_model.specs.OrbitChain.{IsSumOf, IsDifferenceOf}
+use Rattle.grid_model.specs.Sines.{NearCircle}
+use Rattle.grid_model.specs.Sizes.{IsWithin}
+use Rattle.gnss_model.specs.Turn.{IsTurnedOver, Turn}
+use Rattle.grid_model.specs.declared.boxes.Pos.{Pos}
+use Rattle.grid_model.proofs.ProductLemmas.{mul_mono}
 use Rattle.broadcast_orbit.specs.OrbitSizes.{least_distance, greatest_distance, IsOrbitDistance}
 use Rattle.broadcast_orbit.proofs.PairLemmas.{swap4, pair_squares, near_squares, times_near, square_natural, first_within, second_within, product_between, Squares}
 

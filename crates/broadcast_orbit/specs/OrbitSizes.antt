@@ -3,8 +3,8 @@
 -- 20-IV, with four units more for each product, for eccentricities up to 0.2 and roots of the
 -- semi-major axis up to 6,600 m^(1/2). Amounts are crude: no law on sines and cosines is used.
 use Rattle.std.specs.Prelude.{ℕ, ◌+◌, ◌*◌, ◌^◌, ℤ, pos, ◌+ℤ◌, ◌*ℤ◌}
-use Rattle.sat_model.specs.Angles.{unit}
-use Rattle.sat_model.specs.Intervals.{Between}
+use Rattle.grid_model.specs.Angles.{unit}
+use Rattle.grid_model.specs.Intervals.{Between}
 
 -- how far a time may be from the ephemeris time: 14,501 s in ps
 abbrev pub orbit_reach : ℕ

@@ -1,9 +1,9 @@
 //! Angles that are kept as the intervals of their cosine and sine.
 
 ghost use Rattle.std.specs.Prelude.{ℕ, ◌+◌, ◌*◌, ◌≤◌, ℤ, pos, ◌*ℤ◌};
-ghost use Rattle.sat_model.specs.Angles.{unit};
-ghost use Rattle.sat_model.specs.OrbitChain.{IsProduct, IsSumOf, IsDifferenceOf};
-ghost use Rattle.sat_model.specs.Sines.{Sine, Cosine};
+ghost use Rattle.grid_model.specs.Angles.{unit};
+ghost use Rattle.gnss_model.specs.OrbitChain.{IsProduct, IsSumOf, IsDifferenceOf};
+ghost use Rattle.grid_model.specs.Sines.{Sine, Cosine};
 ghost use Rattle.fix_interval.specs.Factors.{Holds, HasEnds, HasAmount};
 ghost use Rattle.broadcast_orbit.specs.Directions.{HoldsDirection, DirectionEnds, DirectionAmount, DirectionSpread};
 ghost use Rattle.broadcast_orbit.specs.OrbitSizes.{value_amount, phi_amount, phi_width, twice_amount, twice_width};

@@ -1,22 +1,23 @@
 //! Where the satellite is on the ellipse of its orbit.
 
 ghost use Rattle.std.specs.Prelude.{ℕ, ◌≡◌, ◌+◌, ◌-◌, ◌*◌, ◌≤◌, ℤ, pos, ◌+ℤ◌, ◌-ℤ◌, ◌*ℤ◌, ◌≤ℤ◌, ◌<ℤ◌};
-ghost use Rattle.sat_model.specs.Angles.{unit};
-ghost use Rattle.sat_model.specs.ClockChain.{IsAdvanced};
-ghost use Rattle.sat_model.specs.Kepler.{Kepler};
-ghost use Rattle.sat_model.specs.OrbitChain.{OrbitFields, AreOrbitFields, Anomaly};
-ghost use Rattle.sat_model.specs.RecordBounds.{IsValue};
-ghost use Rattle.sat_model.specs.Roots.{IsRoot};
-ghost use Rattle.sat_model.specs.Rounding.{Near};
-ghost use Rattle.sat_model.specs.Sines.{Sine, Cosine};
+ghost use Rattle.grid_model.specs.Angles.{unit};
+ghost use Rattle.gnss_model.specs.ClockChain.{IsAdvanced};
+ghost use Rattle.gnss_model.specs.Kepler.{Kepler};
+ghost use Rattle.gnss_model.specs.OrbitChain.{OrbitFields, AreOrbitFields, Anomaly};
+ghost use Rattle.gnss_model.specs.RecordBounds.{IsValue};
+ghost use Rattle.grid_model.specs.Roots.{IsRoot};
+ghost use Rattle.grid_model.specs.Rounding.{Near};
+ghost use Rattle.grid_model.specs.Sines.{Sine, Cosine};
 ghost use Rattle.fix_interval.specs.Factors.{Holds, HasEnds, HasAmount};
 ghost use Rattle.broadcast_orbit.specs.Directions.{HoldsDirection, DirectionEnds, DirectionAmount};
 ghost use Rattle.broadcast_orbit.specs.OrbitSizes.{orbit_reach, motion_amount, motion_width, after_width, eccentricity_amount, mean_amount, mean_width, value_amount, eccentric_value_width, ratio_amount, ratio_width, least_ratio, true_amount, true_width};
 
 use crate::directions::{Direction, direction_of};
 use fix_interval::{Exact, UNIT, advanced, product};
+use gnss_model::Elements;
+use grid_model::root_u128;
 use kepler_enclosure::eccentric;
-use sat_model::{Elements, root_u128};
 
 /// The square of one, in 10^-32.
 const SQUARE_OF_ONE: u128 = 100_000_000_000_000_000_000_000_000_000_000;

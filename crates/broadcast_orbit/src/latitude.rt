@@ -1,16 +1,16 @@
 //! The argument of latitude, and the corrections of it, of the radius and of the inclination.
 
 ghost use Rattle.std.specs.Prelude.{ℤ};
-ghost use Rattle.sat_model.specs.OrbitChain.{OrbitFields, AreOrbitFields, IsSumOf, IsDifferenceOf, Swings, Latitude};
-ghost use Rattle.sat_model.specs.RecordBounds.{IsValue};
-ghost use Rattle.sat_model.specs.Sines.{Sine, Cosine};
+ghost use Rattle.gnss_model.specs.OrbitChain.{OrbitFields, AreOrbitFields, IsSumOf, IsDifferenceOf, Swings, Latitude};
+ghost use Rattle.gnss_model.specs.RecordBounds.{IsValue};
+ghost use Rattle.grid_model.specs.Sines.{Sine, Cosine};
 ghost use Rattle.fix_interval.specs.Factors.{Holds, HasEnds, HasAmount};
 ghost use Rattle.broadcast_orbit.specs.Directions.{HoldsDirection, DirectionEnds, DirectionAmount};
 ghost use Rattle.broadcast_orbit.specs.OrbitSizes.{true_amount, true_width, phi_amount, phi_width, twice_amount, twice_width, angle_swing_amount, angle_swing_width, radius_swing_amount, radius_swing_width, latitude_amount, latitude_width};
 
 use crate::directions::{Direction, direction_of, doubled, joined};
 use fix_interval::{Exact, sum_of_products};
-use sat_model::Elements;
+use gnss_model::Elements;
 
 /// The corrections by twice the argument of latitude.
 #[derive(Clone, Copy, Debug, PartialEq, Eq)]

@@ -1,8 +1,8 @@
 //! The satellite's place at a time.
 
 ghost use Rattle.std.specs.Prelude.{ℤ, pos, neg_ℤ, ◌+ℤ◌, ◌-ℤ◌, ◌≤ℤ◌};
-ghost use Rattle.sat_model.specs.OrbitChain.{OrbitChain};
-ghost use Rattle.sat_model.specs.RecordBounds.{IsValue};
+ghost use Rattle.gnss_model.specs.OrbitChain.{OrbitChain};
+ghost use Rattle.gnss_model.specs.RecordBounds.{IsValue};
 ghost use Rattle.fix_interval.specs.Factors.{Holds, HasEnds, HasAmount};
 ghost use Rattle.broadcast_orbit.specs.OrbitSizes.{orbit_reach, motion_amount, motion_width, time_width, after_width, coordinate_amount, place_amount, IsOrbitDistance};
 
@@ -11,7 +11,7 @@ use crate::latitude::corrected;
 use crate::plane::in_plane;
 use crate::space::earth_fixed;
 use fix_interval::{Exact, Place};
-use sat_model::Elements;
+use gnss_model::Elements;
 
 /// t_k = t - t_oe
 fn after(el: &Elements, t: Exact) -> Exact

@@ -1,17 +1,17 @@
 //! The place in the plane of the orbit.
 
 ghost use Rattle.std.specs.Prelude.{ℤ, pos, ◌*ℤ◌, ◌^◌};
-ghost use Rattle.sat_model.specs.Angles.{unit};
-ghost use Rattle.sat_model.specs.OrbitChain.{OrbitFields, AreOrbitFields, IsSumOf, InPlane};
-ghost use Rattle.sat_model.specs.RecordBounds.{IsValue};
-ghost use Rattle.sat_model.specs.Rounding.{Near};
+ghost use Rattle.grid_model.specs.Angles.{unit};
+ghost use Rattle.gnss_model.specs.OrbitChain.{OrbitFields, AreOrbitFields, IsSumOf, InPlane};
+ghost use Rattle.gnss_model.specs.RecordBounds.{IsValue};
+ghost use Rattle.grid_model.specs.Rounding.{Near};
 ghost use Rattle.fix_interval.specs.Factors.{Holds, HasEnds, HasAmount};
 ghost use Rattle.broadcast_orbit.specs.Directions.{HoldsDirection, DirectionEnds, DirectionAmount};
 ghost use Rattle.broadcast_orbit.specs.OrbitSizes.{ratio_amount, ratio_width, radius_swing_amount, radius_swing_width, latitude_amount, latitude_width, axis_amount, axis_width, radius_amount, radius_width, plane_amount, plane_width};
 
 use crate::directions::Direction;
 use fix_interval::{Exact, product};
-use sat_model::Elements;
+use gnss_model::Elements;
 
 /// A square of a root of a length is in 10^-24 m; there are so many in one um.
 const AXIS_SCALE: i128 = 1_000_000_000_000_000_000;

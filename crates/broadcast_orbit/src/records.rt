@@ -1,9 +1,10 @@
 //! Records for the tests.
 
 ghost use Rattle.std.specs.Prelude.{◌≡◌, ◌^◌, pos, ◌+ℤ◌};
-ghost use Rattle.sat_model.specs.Sizes.{IsWithin};
+ghost use Rattle.grid_model.specs.Sizes.{IsWithin};
 
-use sat_model::{Elements, Wide};
+use gnss_model::Elements;
+use grid_model::Wide;
 
 /// 2011-01-09 00:00:00, the start of week 1618, in ps.
 const WEEK_START: i128 = 978_566_400_000_000_000_000;

@@ -1,12 +1,12 @@
 //! From the plane of the orbit to the earth-fixed frame.
 
 ghost use Rattle.std.specs.Prelude.{◌*◌, ℤ, pos, ◌+ℤ◌, ◌-ℤ◌, ◌*ℤ◌};
-ghost use Rattle.sat_model.specs.Angles.{unit};
-ghost use Rattle.sat_model.specs.ClockChain.{IsAdvanced};
-ghost use Rattle.sat_model.specs.EarthModel.{earth_rate, rate_scale};
-ghost use Rattle.sat_model.specs.OrbitChain.{OrbitFields, AreOrbitFields, EarthFixed};
-ghost use Rattle.sat_model.specs.RecordBounds.{IsValue};
-ghost use Rattle.sat_model.specs.Rounding.{Near};
+ghost use Rattle.grid_model.specs.Angles.{unit};
+ghost use Rattle.gnss_model.specs.ClockChain.{IsAdvanced};
+ghost use Rattle.gnss_model.specs.EarthModel.{earth_rate, rate_scale};
+ghost use Rattle.gnss_model.specs.OrbitChain.{OrbitFields, AreOrbitFields, EarthFixed};
+ghost use Rattle.gnss_model.specs.RecordBounds.{IsValue};
+ghost use Rattle.grid_model.specs.Rounding.{Near};
 ghost use Rattle.fix_interval.specs.Factors.{Holds, HasEnds, HasAmount};
 ghost use Rattle.broadcast_orbit.specs.Directions.{HoldsDirection, DirectionEnds, DirectionAmount};
 ghost use Rattle.broadcast_orbit.specs.OrbitSizes.{orbit_reach, after_width, value_amount, angle_swing_amount, angle_swing_width, plane_amount, plane_width, inclination_amount, inclination_width, inclination_value_width, node_amount, node_width, node_value_width, place_amount, place_width};
@@ -16,7 +16,7 @@ use crate::plane::PlanePoint;
 use fix_interval::{
     Exact, Place, RATE_SCALE, advanced, difference_of_products, product, sum_of_products,
 };
-use sat_model::{EARTH_RATE, Elements};
+use gnss_model::{EARTH_RATE, Elements};
 
 /// i_k = i_0 + di_k + IDOT t_k
 fn inclination(el: &Elements, correction: Exact, after: Exact) -> Exact

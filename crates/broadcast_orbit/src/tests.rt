@@ -5,7 +5,7 @@ use crate::place;
 use crate::records::{circle, ellipse, far_ellipse, recorded};
 use crate::vectors::VECTORS;
 use fix_interval::{Exact, Place};
-use sat_model::Elements;
+use gnss_model::Elements;
 use std::process::Abort;
 
 /// Later than the ephemerides of the tests, in ps since the start of GPS time.

@@ -4,13 +4,13 @@ use Rattle.std.specs.Prelude.{ℤ, pos, ◌+ℤ◌, ◌-ℤ◌, ◌*ℤ◌, ◌�
 use Rattle.std.proofs.lemmas.Int.{ints}
 use Rattle.sat_clock.specs.ClockSizes.{correction_size}
 use Rattle.code_search.specs.Residuals.{um_of}
-use Rattle.sat_model.specs.Intervals.{Between, Ends}
-use Rattle.sat_model.specs.Fitting.{range_to}
-use Rattle.sat_model.specs.Pseudorange.{IsCorrected}
-use Rattle.sat_model.specs.Sizes.{IsWithin}
-use Rattle.sat_model.specs.declared.boxes.Pos.{Pos}
-use Rattle.sat_model.proofs.RootLemmas.{square-mono}
-use Rattle.sat_model.proofs.ProductLemmas.{square_of_amount}
+use Rattle.grid_model.specs.Intervals.{Between, Ends}
+use Rattle.grid_model.specs.Ranges.{range_to}
+use Rattle.gnss_model.specs.Pseudorange.{IsCorrected}
+use Rattle.grid_model.specs.Sizes.{IsWithin}
+use Rattle.grid_model.specs.declared.boxes.Pos.{Pos}
+use Rattle.grid_model.proofs.RootLemmas.{square-mono}
+use Rattle.grid_model.proofs.ProductLemmas.{square_of_amount}
 use Rattle.code_search.specs.SearchSizes.{IsNearPoint, farthest_range, greatest_offset}
 use Rattle.code_search.proofs.SquareLemmas.{side_most, range_most}
 use Rattle.broadcast_orbit.proofs.TurnKeeps.{turned_low, turned_high}

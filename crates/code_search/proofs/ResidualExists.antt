@@ -1,9 +1,9 @@
 -- The equations leave something of every pseudorange at every point.
 use Rattle.std.proofs.Common.{refl}
 use Rattle.std.specs.Prelude.{◌^◌, ℤ, pos, ◌+ℤ◌, ◌-ℤ◌, ◌*ℤ◌, true}
-use Rattle.sat_model.specs.EarthModel.{light_speed}
-use Rattle.sat_model.specs.declared.boxes.Pos.{Pos}
-use Rattle.sat_model.specs.declared.elements.Elements.{Elements}
+use Rattle.gnss_model.specs.EarthModel.{light_speed}
+use Rattle.grid_model.specs.declared.boxes.Pos.{Pos}
+use Rattle.gnss_model.specs.declared.elements.Elements.{Elements}
 use Rattle.fix_interval.proofs.NearLemmas.{near_exists}
 use Rattle.sat_clock.proofs.ClockExists.{clock_exists}
 use Rattle.broadcast_orbit.proofs.ChainExists.{orbit_exists}

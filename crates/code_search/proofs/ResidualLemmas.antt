@@ -13,14 +13,14 @@ use Rattle.fix_interval.specs.Factors.{Holds, HasEnds}
 use Rattle.pseudorange_prep.specs.Ranges.{IsNarrow}
 use Rattle.code_search.specs.SearchSizes.{code_amount}
 use Rattle.code_search.specs.Residuals.{um_of}
-use Rattle.sat_model.specs.Amounts.{above}
-use Rattle.sat_model.specs.Boxes.{GridBox}
-use Rattle.sat_model.specs.Intervals.{Between, Ends}
-use Rattle.sat_model.specs.Lengths.{longest_length, spare_of}
-use Rattle.sat_model.specs.Sizes.{IsWithin}
-use Rattle.sat_model.proofs.AmountLemmas.{above_is}
-use Rattle.sat_model.proofs.EndsLemmas.{wider_ends}
-use Rattle.sat_model.proofs.IntervalLemmas.{low_member, high_member}
+use Rattle.grid_model.specs.Amounts.{above}
+use Rattle.grid_model.specs.Boxes.{GridBox}
+use Rattle.grid_model.specs.Intervals.{Between, Ends}
+use Rattle.grid_model.specs.Lengths.{longest_length, spare_of}
+use Rattle.grid_model.specs.Sizes.{IsWithin}
+use Rattle.grid_model.proofs.AmountLemmas.{above_is}
+use Rattle.grid_model.proofs.EndsLemmas.{wider_ends}
+use Rattle.grid_model.proofs.IntervalLemmas.{low_member, high_member}
 
 x_within : (x y z : ℤ) → IsOrbitDistance x y z → IsWithin near_reach x
 x_within x y z d = side_within greatest_distance x (omega (arith, ints, d.to, square_natural y, square_natural z))

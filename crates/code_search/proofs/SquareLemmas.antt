@@ -5,11 +5,11 @@ use Rattle.std.proofs.lemmas.Bool.{cases_lt}
 use Rattle.std.proofs.lemmas.Int.{ints}
 use lib.IntN.{*ℤ_comm}
 use Rattle.broadcast_orbit.proofs.PairLemmas.{swap4, square_natural, square_of_difference}
-use Rattle.sat_model.specs.Fitting.{range_to}
-use Rattle.sat_model.specs.Roots.{root}
-use Rattle.sat_model.specs.declared.boxes.Pos.{Pos}
-use Rattle.sat_model.proofs.ProductLemmas.{add_mul, distrib, mul_assoc, square_of_amount}
-use Rattle.sat_model.proofs.RootLemmas.{square-mono, root_is}
+use Rattle.grid_model.specs.Ranges.{range_to}
+use Rattle.grid_model.specs.Roots.{root}
+use Rattle.grid_model.specs.declared.boxes.Pos.{Pos}
+use Rattle.grid_model.proofs.ProductLemmas.{add_mul, distrib, mul_assoc, square_of_amount}
+use Rattle.grid_model.proofs.RootLemmas.{square-mono, root_is}
 
 square_of_sum : (a b : ℤ) → (a +ℤ b) *ℤ (a +ℤ b) ≡ (a *ℤ a) +ℤ (a *ℤ b) +ℤ ((a *ℤ b) +ℤ (b *ℤ b))
 square_of_sum a b = add_mul a b (a +ℤ b) ∙ (let p = distrib a a b in let q = distrib b a b in let r = *ℤ_comm b a in omega (arith, ints))

@@ -1,13 +1,13 @@
 -- Residuals: what the equations leave of a pseudorange by one code at a point, the corrected
 -- pseudorange less the range.
 use Rattle.std.specs.Prelude.{ℕ, ◌≡◌, ℤ, pos, ◌-ℤ◌, ◌*ℤ◌, ◌≤ℤ◌, true}
-use Rattle.sat_model.specs.ClockChain.{ClockChain}
-use Rattle.sat_model.specs.MeanMotion.{MeanMotion}
-use Rattle.sat_model.specs.OrbitChain.{OrbitChain}
-use Rattle.sat_model.specs.Pseudorange.{IsSent, IsCorrected}
-use Rattle.sat_model.specs.Turn.{Turn}
-use Rattle.sat_model.specs.declared.boxes.Pos.{Pos}
-use Rattle.sat_model.specs.declared.elements.Elements.{Elements}
+use Rattle.gnss_model.specs.ClockChain.{ClockChain}
+use Rattle.gnss_model.specs.MeanMotion.{MeanMotion}
+use Rattle.gnss_model.specs.OrbitChain.{OrbitChain}
+use Rattle.gnss_model.specs.Pseudorange.{IsSent, IsCorrected}
+use Rattle.gnss_model.specs.Turn.{Turn}
+use Rattle.grid_model.specs.declared.boxes.Pos.{Pos}
+use Rattle.gnss_model.specs.declared.elements.Elements.{Elements}
 
 -- v is a residual at p of the pseudorange pr, in um, of a signal that came at tag: one whole number
 -- for each printed equation from the pseudorange on

@@ -2,9 +2,9 @@
 -- ps.
 use Rattle.std.specs.Prelude.{ℕ, ◌*◌, ◌^◌, ℤ, pos, neg_ℤ, ◌+ℤ◌, ◌-ℤ◌, ◌≤ℤ◌}
 use Rattle.broadcast_orbit.specs.OrbitSizes.{orbit_reach}
-use Rattle.sat_model.specs.Sizes.{IsWithin}
-use Rattle.sat_model.specs.declared.boxes.Pos.{Pos}
-use Rattle.sat_model.specs.declared.elements.Elements.{Elements}
+use Rattle.grid_model.specs.Sizes.{IsWithin}
+use Rattle.grid_model.specs.declared.boxes.Pos.{Pos}
+use Rattle.gnss_model.specs.declared.elements.Elements.{Elements}
 
 -- how far the ephemeris time may be from the time of the epoch: 14,401 s in ps
 abbrev pub epoch_reach : ℕ

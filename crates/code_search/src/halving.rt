@@ -2,16 +2,17 @@
 
 ghost use Rattle.std.specs.Prelude.{ℕ, ◌≡◌, ◌+◌, ◌*◌, ◌^◌, ◌≤◌, ℤ, pos, neg_ℤ, ◌+ℤ◌, ◌-ℤ◌, ◌*ℤ◌, ◌≤ℤ◌, ◌<ℤ◌, true, false};
 ghost use Rattle.fix_interval.specs.Factors.{Holds};
-ghost use Rattle.sat_model.specs.RecordBounds.{time_bound};
-ghost use Rattle.sat_model.specs.Sizes.{IsBoxSize, IsWithin};
-ghost use Rattle.sat_model.specs.declared.boxes.Pos.{Pos};
-ghost use Rattle.sat_model.specs.declared.elements.Elements.{Elements};
+ghost use Rattle.gnss_model.specs.RecordBounds.{time_bound};
+ghost use Rattle.grid_model.specs.Sizes.{IsBoxSize, IsWithin};
+ghost use Rattle.grid_model.specs.declared.boxes.Pos.{Pos};
+ghost use Rattle.gnss_model.specs.declared.elements.Elements.{Elements};
 ghost use Rattle.code_search.specs.SearchSizes.{IsNearEpoch, IsNearPoint, farthest_range, greatest_offset, last_code, one_width, pair_width};
 ghost use Rattle.code_search.specs.Residuals.{Residual, ResidualsAtMost, ResidualsAtLeast, um_of};
 
 use crate::residuals::residual;
 use fix_interval::Exact;
-use sat_model::{Elements, Pos};
+use gnss_model::Elements;
+use grid_model::Pos;
 
 /// Every pseudorange has a residual at every point, so that what `code_for` says of residuals says
 /// something. The call does nothing.

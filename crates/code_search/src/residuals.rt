@@ -7,25 +7,26 @@ ghost use Rattle.earth_rotation.specs.RoundSizes.{turned_reach, range_amount};
 ghost use Rattle.earth_rotation.specs.TurnSizes.{near_reach, narrow_width, reach_after};
 ghost use Rattle.fix_interval.specs.Factors.{Holds, HasEnds};
 ghost use Rattle.sat_clock.specs.ClockSizes.{correction_size};
-ghost use Rattle.sat_model.specs.Boxes.{grid_box, box_holds};
-ghost use Rattle.sat_model.specs.ClockChain.{ClockChain};
-ghost use Rattle.sat_model.specs.Lengths.{longest_length};
-ghost use Rattle.sat_model.specs.MeanMotion.{MeanMotion};
-ghost use Rattle.sat_model.specs.OrbitChain.{OrbitChain};
-ghost use Rattle.sat_model.specs.Pseudorange.{IsSent, IsCorrected};
-ghost use Rattle.sat_model.specs.RecordBounds.{time_bound};
-ghost use Rattle.sat_model.specs.Sizes.{IsBoxSize, IsWithin};
-ghost use Rattle.sat_model.specs.Turn.{Turn};
-ghost use Rattle.sat_model.specs.declared.boxes.Pos.{Pos};
+ghost use Rattle.grid_model.specs.Boxes.{grid_box, box_holds};
+ghost use Rattle.gnss_model.specs.ClockChain.{ClockChain};
+ghost use Rattle.grid_model.specs.Lengths.{longest_length};
+ghost use Rattle.gnss_model.specs.MeanMotion.{MeanMotion};
+ghost use Rattle.gnss_model.specs.OrbitChain.{OrbitChain};
+ghost use Rattle.gnss_model.specs.Pseudorange.{IsSent, IsCorrected};
+ghost use Rattle.gnss_model.specs.RecordBounds.{time_bound};
+ghost use Rattle.grid_model.specs.Sizes.{IsBoxSize, IsWithin};
+ghost use Rattle.gnss_model.specs.Turn.{Turn};
+ghost use Rattle.grid_model.specs.declared.boxes.Pos.{Pos};
 ghost use Rattle.code_search.specs.SearchSizes.{IsNearEpoch, IsNearOrbit, IsNearPoint, code_amount, code_width, corrected_amount, farthest_range, greatest_offset, one_width};
 ghost use Rattle.code_search.specs.Residuals.{Residual};
 
 use broadcast_orbit::place;
 use earth_rotation::{range, turned};
 use fix_interval::{Exact, Place};
+use gnss_model::Elements;
+use grid_model::{Box3, Pos};
 use pseudorange_prep::{corrected, sent_at};
 use sat_clock::{Clock, correction, mean_motion};
-use sat_model::{Box3, Elements, Pos};
 
 /// Every clock offset and every time of sending of a signal that came at `tag` over the code.
 fn clock(tag: i128, code: Exact, el: &Elements) -> Clock

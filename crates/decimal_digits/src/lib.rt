@@ -4,7 +4,7 @@
 ghost use Rattle.std.specs.Prelude.{◌≡◌, ◌≤◌, ◌++◌, IfOk};
 ghost use Rattle.decimal_digits.specs.Digits.{last_digits};
 
-use sat_model::NoMemory;
+use grid_model::NoMemory;
 
 /// Appends the last `count` digits of the number.
 pub fn push_digits(text: &mut Vec<u8>, count: u32, number: u64) -> Result<(), NoMemory>

@@ -1,6 +1,6 @@
 -- Bounds on places.
 use Rattle.std.proofs.Common.{ℕ, ◌≤◌}
-use Rattle.sat_model.proofs.EndsLemmas.{wider_ends}
+use Rattle.grid_model.proofs.EndsLemmas.{wider_ends}
 use Rattle.fix_interval.specs.declared.place.Place.{Place}
 use Rattle.fix_interval.specs.Places.{PlaceEnds}
 

@@ -3,18 +3,17 @@ use Rattle.std.proofs.Common.{◌≡◌, ℕ, ◌+◌, ◌-◌, ◌*◌, ◌/◌
 use Rattle.std.specs.Prelude.{ℤ, pos, nat_abs, ◌≤ℤ◌}
 use Rattle.std.proofs.lemmas.Int.{ints}
 use Rattle.std.proofs.lemmas.Nat.{mul-le}
-use Rattle.sat_model.specs.Amounts.{square}
-use Rattle.sat_model.specs.Angles.{unit}
-use Rattle.sat_model.specs.Intervals.{Between, Ends}
-use Rattle.sat_model.specs.Roots.{IsRoot, root}
-use Rattle.sat_model.specs.Rounding.{grain_floor, grain_ceil}
-use Rattle.sat_model.specs.Sines.{NearCircle}
-use Rattle.sat_model.specs.Squares.{least_end, greatest_end, least_square, greatest_square}
-use Rattle.sat_model.proofs.ClockLemmas.{root_mono}
-use Rattle.sat_model.proofs.ProductLemmas.{square_of_amount}
-use Rattle.sat_model.proofs.RootLemmas.{square-mono, root_is}
-use Rattle.sat_model.proofs.RoundingLemmas.{grain_floor_one, grain_ceil_one}
-use Rattle.sat_model.proofs.SquareLemmas.{one_part, square_between, least_le_greatest_end, root_between}
+use Rattle.grid_model.specs.Amounts.{square}
+use Rattle.grid_model.specs.Angles.{unit}
+use Rattle.grid_model.specs.Intervals.{Between, Ends}
+use Rattle.grid_model.specs.Roots.{IsRoot, root}
+use Rattle.grid_model.specs.Rounding.{grain_floor, grain_ceil}
+use Rattle.grid_model.specs.Sines.{NearCircle}
+use Rattle.grid_model.specs.Squares.{least_end, greatest_end, least_square, greatest_square}
+use Rattle.grid_model.proofs.RootLemmas.{root_mono, square-mono, root_is}
+use Rattle.grid_model.proofs.ProductLemmas.{square_of_amount}
+use Rattle.grid_model.proofs.RoundingLemmas.{grain_floor_one, grain_ceil_one}
+use Rattle.grid_model.proofs.SquareLemmas.{one_part, square_between, least_le_greatest_end, root_between}
 use Rattle.earth_rotation.specs.RoundSizes.{sine_amount, cosine_amount, cosine_width}
 use Rattle.earth_rotation.proofs.Offsets.{ends_apart}
 

@@ -2,18 +2,17 @@
 use Rattle.std.proofs.Common.{◌≡◌, ℕ, ◌+◌, ◌*◌, ◌/◌, ◌^◌, ◌≤◌, arith, lit≤}
 use Rattle.std.specs.Prelude.{ℤ, pos, ◌-ℤ◌, ◌≤ℤ◌}
 use Rattle.std.proofs.lemmas.Int.{ints}
-use Rattle.sat_model.specs.Amounts.{above}
-use Rattle.sat_model.specs.Sizes.{IsWithin, IsBoxSize}
-use Rattle.sat_model.specs.Intervals.{Between, Ends}
-use Rattle.sat_model.specs.Roots.{IsRoot, root}
-use Rattle.sat_model.specs.Rounding.{grain_floor, grain_ceil}
-use Rattle.sat_model.specs.Squares.{least_end, greatest_end, least_square, greatest_square}
-use Rattle.sat_model.proofs.AmountLemmas.{above_is}
-use Rattle.sat_model.proofs.ClockLemmas.{root_mono}
-use Rattle.sat_model.proofs.EndsLemmas.{difference_ends, wider_ends}
-use Rattle.sat_model.proofs.RootLemmas.{square-mono, root_is}
-use Rattle.sat_model.proofs.RoundingLemmas.{grain_floor_one, grain_ceil_one}
-use Rattle.sat_model.proofs.SquareLemmas.{one_part, least_le_greatest_end, greatest_square_le}
+use Rattle.grid_model.specs.Amounts.{above}
+use Rattle.grid_model.specs.Sizes.{IsWithin, IsBoxSize}
+use Rattle.grid_model.specs.Intervals.{Between, Ends}
+use Rattle.grid_model.specs.Roots.{IsRoot, root}
+use Rattle.grid_model.specs.Rounding.{grain_floor, grain_ceil}
+use Rattle.grid_model.specs.Squares.{least_end, greatest_end, least_square, greatest_square}
+use Rattle.grid_model.proofs.AmountLemmas.{above_is}
+use Rattle.grid_model.proofs.RootLemmas.{root_mono, square-mono, root_is}
+use Rattle.grid_model.proofs.EndsLemmas.{difference_ends, wider_ends}
+use Rattle.grid_model.proofs.RoundingLemmas.{grain_floor_one, grain_ceil_one}
+use Rattle.grid_model.proofs.SquareLemmas.{one_part, least_le_greatest_end, greatest_square_le}
 use Rattle.earth_rotation.specs.RoundSizes.{turned_reach, range_amount}
 use Rattle.earth_rotation.proofs.SquareSpread.{root_spread}
 

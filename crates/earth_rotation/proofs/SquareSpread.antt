@@ -1,7 +1,7 @@
 -- How far the roots of sums of squares are apart.
 use Rattle.std.proofs.Common.{◌≡◌, ℕ, ◌+◌, ◌-◌, ◌*◌, ◌/◌, ◌≤◌, ◌<◌, arith}
 use Rattle.std.proofs.lemmas.Nat.{mul-le}
-use Rattle.sat_model.proofs.RootLemmas.{square-mono}
+use Rattle.grid_model.proofs.RootLemmas.{square-mono}
 
 product_by : (a k : ℕ) → 2 * (a * (a + k)) ≤ a * a + (a + k) * (a + k)
 product_by a k = omega arith

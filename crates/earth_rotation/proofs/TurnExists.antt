@@ -1,11 +1,11 @@
 -- Every place has a turned place.
 use Rattle.std.proofs.Common.{ℕ, ◌*◌, ◌^◌, refl}
 use Rattle.std.specs.Prelude.{ℤ, pos, ◌+ℤ◌, ◌-ℤ◌, ◌*ℤ◌}
-use Rattle.sat_model.specs.Angles.{unit}
-use Rattle.sat_model.specs.EarthModel.{earth_rate, light_speed}
-use Rattle.sat_model.specs.Fitting.{range_to}
-use Rattle.sat_model.specs.Turn.{Turn, IsTurnedOver}
-use Rattle.sat_model.specs.declared.boxes.Pos.{Pos}
+use Rattle.grid_model.specs.Angles.{unit}
+use Rattle.gnss_model.specs.EarthModel.{earth_rate, light_speed}
+use Rattle.grid_model.specs.Ranges.{range_to}
+use Rattle.gnss_model.specs.Turn.{Turn, IsTurnedOver}
+use Rattle.grid_model.specs.declared.boxes.Pos.{Pos}
 use Rattle.fix_interval.proofs.NearLemmas.{near_exists}
 use Rattle.interval_trig.proofs.Existence.{sine_exists, cosine_exists}
 

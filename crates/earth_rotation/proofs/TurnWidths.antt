@@ -2,8 +2,8 @@
 use Rattle.std.proofs.Common.{ℕ, ◌+◌, ◌*◌, ◌/◌, ◌^◌, ◌≤◌, arith}
 use Rattle.std.specs.Prelude.{pos, ◌*ℤ◌, ◌≤ℤ◌}
 use Rattle.std.proofs.lemmas.Int.{ints}
-use Rattle.sat_model.specs.Angles.{unit}
-use Rattle.sat_model.specs.EarthModel.{earth_rate, light_speed}
+use Rattle.grid_model.specs.Angles.{unit}
+use Rattle.gnss_model.specs.EarthModel.{earth_rate, light_speed}
 use Rattle.earth_rotation.specs.TurnSizes.{near_reach, narrow_width, turn_reach, reach_after}
 use Rattle.earth_rotation.specs.RoundSizes.{range_amount, sine_amount, cosine_amount, sine_width, cosine_width, turned_width}
 

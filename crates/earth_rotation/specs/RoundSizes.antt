@@ -2,9 +2,9 @@
 -- of `range` cite how large a turned place and a range are, and how wide a range is. Lengths are in
 -- um; angles, sines and cosines in 10^-16.
 use Rattle.std.specs.Prelude.{ℕ, ◌+◌, ◌*◌, ◌/◌, ◌^◌}
-use Rattle.sat_model.specs.Angles.{unit}
-use Rattle.sat_model.specs.Boxes.{GridBox}
-use Rattle.sat_model.specs.Lengths.{longest_length}
+use Rattle.grid_model.specs.Angles.{unit}
+use Rattle.grid_model.specs.Boxes.{GridBox}
+use Rattle.grid_model.specs.Lengths.{longest_length}
 
 -- a coordinate after a turn
 abbrev pub turned_reach : ℕ

@@ -1,14 +1,14 @@
 //! The angle by which the earth turns while light goes a range, and its sine and cosine.
 
 ghost use Rattle.std.specs.Prelude.{ℕ, ◌+◌, ◌*◌, ◌≤◌, ℤ, pos, ◌≤ℤ◌};
-ghost use Rattle.sat_model.specs.Sines.{Sine, NearCircle};
-ghost use Rattle.sat_model.specs.Turn.{IsEarthAngle};
+ghost use Rattle.grid_model.specs.Sines.{Sine, NearCircle};
+ghost use Rattle.gnss_model.specs.Turn.{IsEarthAngle};
 ghost use Rattle.fix_interval.specs.Factors.{Holds, HasEnds, HasAmount};
 ghost use Rattle.earth_rotation.specs.RoundSizes.{range_amount, angle_amount, sine_amount, cosine_amount, angle_width, cosine_width};
 
 use fix_interval::{Exact, ExactArea, Interval};
+use gnss_model::EARTH_RATE;
 use interval_trig::sine;
-use sat_model::EARTH_RATE;
 
 /// The speed of light, in m/s, times 10^12: a rate in 10^-22 rad/s times a range in um over it is an
 /// angle in 10^-16 rad.

@@ -1,16 +1,16 @@
 //! The ranges between a place and the points of a box.
 
 ghost use Rattle.std.specs.Prelude.{ℕ, ◌≡◌, ℤ, pos, ◌-ℤ◌, ◌≤ℤ◌, true};
-ghost use Rattle.sat_model.specs.Boxes.{grid_box, box_holds};
-ghost use Rattle.sat_model.specs.Fitting.{range_to};
-ghost use Rattle.sat_model.specs.Sizes.{IsBoxSize};
-ghost use Rattle.sat_model.specs.declared.boxes.Pos.{Pos};
+ghost use Rattle.grid_model.specs.Boxes.{grid_box, box_holds};
+ghost use Rattle.grid_model.specs.Ranges.{range_to};
+ghost use Rattle.grid_model.specs.Sizes.{IsBoxSize};
+ghost use Rattle.grid_model.specs.declared.boxes.Pos.{Pos};
 ghost use Rattle.fix_interval.specs.Factors.{Holds, HasEnds, HasAmount};
 ghost use Rattle.fix_interval.specs.Places.{HoldsPlace, PlaceEnds, PlaceAmount};
 ghost use Rattle.earth_rotation.specs.RoundSizes.{turned_reach, range_amount, range_width};
 
 use fix_interval::{Exact, ExactArea, Interval, Place, squared_distance};
-use sat_model::Box3;
+use grid_model::Box3;
 
 /// The numbers of a side, as an interval.
 fn side(lo: i64, hi: i64) -> Exact

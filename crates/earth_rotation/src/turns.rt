@@ -1,10 +1,10 @@
 //! The place, turned in two rounds.
 
 ghost use Rattle.std.specs.Prelude.{ℕ, ◌≡◌, ◌≤◌, ℤ, pos, true};
-ghost use Rattle.sat_model.specs.Boxes.{grid_box, box_holds};
-ghost use Rattle.sat_model.specs.Lengths.{spare_of};
-ghost use Rattle.sat_model.specs.Turn.{Turn, IsTurnedOver};
-ghost use Rattle.sat_model.specs.declared.boxes.Pos.{Pos};
+ghost use Rattle.grid_model.specs.Boxes.{grid_box, box_holds};
+ghost use Rattle.grid_model.specs.Lengths.{spare_of};
+ghost use Rattle.gnss_model.specs.Turn.{Turn, IsTurnedOver};
+ghost use Rattle.grid_model.specs.declared.boxes.Pos.{Pos};
 ghost use Rattle.fix_interval.specs.Factors.{Holds, HasEnds, HasAmount};
 ghost use Rattle.fix_interval.specs.Places.{HoldsPlace, PlaceEnds, PlaceAmount};
 ghost use Rattle.earth_rotation.specs.TurnSizes.{turn_reach, reach_after, near_reach, narrow_width};
@@ -13,7 +13,7 @@ ghost use Rattle.earth_rotation.specs.RoundSizes.{range_amount, turned_width};
 use crate::angles::{cosine_beside, earth_angle, small_sine};
 use crate::ranges::range;
 use fix_interval::{Exact, Place, difference_of_products, sum_of_products};
-use sat_model::Box3;
+use grid_model::Box3;
 
 /// The place, turned about the axis of the earth by the flight time over a range.
 fn turned_over(place: Place, range: Exact) -> Place

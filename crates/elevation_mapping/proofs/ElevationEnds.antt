@@ -2,13 +2,13 @@
 use Rattle.std.proofs.Common.{◌≡◌, ℕ, ◌+◌, ◌-◌, ◌*◌, ◌^◌, ◌≤◌, arith, lit≤}
 use Rattle.std.specs.Prelude.{ℤ, pos, neg_ℤ, ◌+ℤ◌, ◌≤ℤ◌}
 use Rattle.std.proofs.lemmas.Int.{ints}
-use Rattle.sat_model.specs.Amounts.{square}
-use Rattle.sat_model.specs.Angles.{unit}
-use Rattle.sat_model.specs.Sizes.{IsWithin}
-use Rattle.sat_model.specs.Intervals.{Ends}
-use Rattle.sat_model.specs.Roots.{root}
-use Rattle.sat_model.specs.Rounding.{IsTightQuotient}
-use Rattle.sat_model.proofs.EndsLemmas.{quotient_ends, wider_ends}
+use Rattle.grid_model.specs.Amounts.{square}
+use Rattle.grid_model.specs.Angles.{unit}
+use Rattle.grid_model.specs.Sizes.{IsWithin}
+use Rattle.grid_model.specs.Intervals.{Ends}
+use Rattle.grid_model.specs.Roots.{root}
+use Rattle.grid_model.specs.Rounding.{IsTightQuotient}
+use Rattle.grid_model.proofs.EndsLemmas.{quotient_ends, wider_ends}
 use Rattle.fix_interval.proofs.ProductEnds.{amount_of}
 use Rattle.fix_interval.specs.declared.place.Place.{Place}
 use Rattle.fix_interval.specs.Places.{PlaceAmount}

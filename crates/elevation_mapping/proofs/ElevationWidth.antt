@@ -4,14 +4,14 @@ use Rattle.std.specs.Prelude.{ℤ, pos, neg_ℤ, ◌+ℤ◌, ◌-ℤ◌, ◌*ℤ
 use Rattle.std.proofs.lemmas.Int.{ints}
 use borrow.Author.Differences.{up, down}
 use Rattle.std.proofs.lemmas.Nat.{mul-le}
-use Rattle.sat_model.specs.Amounts.{square}
-use Rattle.sat_model.specs.Angles.{unit}
-use Rattle.sat_model.specs.Intervals.{Between, Ends}
-use Rattle.sat_model.specs.Roots.{root}
-use Rattle.sat_model.specs.Rounding.{Near, IsTightQuotient}
-use Rattle.sat_model.specs.Squares.{least_end, greatest_end}
-use Rattle.sat_model.proofs.IntervalLemmas.{low_member, high_member}
-use Rattle.sat_model.proofs.SquareLemmas.{one_part}
+use Rattle.grid_model.specs.Amounts.{square}
+use Rattle.grid_model.specs.Angles.{unit}
+use Rattle.grid_model.specs.Intervals.{Between, Ends}
+use Rattle.grid_model.specs.Roots.{root}
+use Rattle.grid_model.specs.Rounding.{Near, IsTightQuotient}
+use Rattle.grid_model.specs.Squares.{least_end, greatest_end}
+use Rattle.grid_model.proofs.IntervalLemmas.{low_member, high_member}
+use Rattle.grid_model.proofs.SquareLemmas.{one_part}
 use Rattle.fix_interval.specs.declared.exact.Exact.{Exact}
 use Rattle.fix_interval.specs.declared.place.Place.{Place}
 use Rattle.fix_interval.specs.Factors.{HasEnds}

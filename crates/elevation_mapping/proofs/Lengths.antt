@@ -3,14 +3,13 @@ use Rattle.std.proofs.Common.{◌≡◌, ℕ, ◌+◌, ◌-◌, ◌*◌, ◌^◌
 use Rattle.std.specs.Prelude.{ℤ, pos}
 use Rattle.std.proofs.lemmas.Int.{ints}
 use Rattle.std.proofs.lemmas.Nat.{mul-le}
-use Rattle.sat_model.specs.Sizes.{IsWithin}
-use Rattle.sat_model.specs.Intervals.{Ends}
-use Rattle.sat_model.specs.Roots.{IsRoot, root}
-use Rattle.sat_model.specs.Squares.{least_end, greatest_end, greatest_square}
-use Rattle.sat_model.proofs.ClockLemmas.{root_mono}
-use Rattle.sat_model.proofs.EndsLemmas.{wider_ends}
-use Rattle.sat_model.proofs.RootLemmas.{square-mono, root_is}
-use Rattle.sat_model.proofs.SquareLemmas.{one_part, least_le_greatest_end, greatest_square_le}
+use Rattle.grid_model.specs.Sizes.{IsWithin}
+use Rattle.grid_model.specs.Intervals.{Ends}
+use Rattle.grid_model.specs.Roots.{IsRoot, root}
+use Rattle.grid_model.specs.Squares.{least_end, greatest_end, greatest_square}
+use Rattle.grid_model.proofs.RootLemmas.{root_mono, square-mono, root_is}
+use Rattle.grid_model.proofs.EndsLemmas.{wider_ends}
+use Rattle.grid_model.proofs.SquareLemmas.{one_part, least_le_greatest_end, greatest_square_le}
 use Rattle.fix_interval.specs.declared.place.Place.{Place}
 use Rattle.fix_interval.specs.Places.{PlaceEnds}
 use Rattle.elevation_mapping.specs.Places.{least_sum, greatest_sum}

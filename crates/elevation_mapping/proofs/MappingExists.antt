@@ -2,15 +2,15 @@
 use Rattle.std.proofs.Common.{ℕ, ◌+◌, ◌*◌, ◌^◌, ◌≤◌, arith, refl}
 use Rattle.std.specs.Prelude.{ℤ, pos, nat_abs, ◌+ℤ◌, ◌-ℤ◌, ◌*ℤ◌, ◌<ℤ◌}
 use Rattle.std.proofs.lemmas.Int.{ints}
-use Rattle.sat_model.specs.Amounts.{square}
-use Rattle.sat_model.specs.Angles.{unit}
-use Rattle.sat_model.specs.Fitting.{range_to}
-use Rattle.sat_model.specs.Roots.{root}
-use Rattle.sat_model.specs.Squares.{sum_of_squares}
-use Rattle.sat_model.specs.declared.boxes.Pos.{Pos}
-use Rattle.sat_model.proofs.RootLemmas.{square-mono}
+use Rattle.grid_model.specs.Amounts.{square}
+use Rattle.grid_model.specs.Angles.{unit}
+use Rattle.grid_model.specs.Ranges.{range_to}
+use Rattle.grid_model.specs.Roots.{root}
+use Rattle.grid_model.specs.Squares.{sum_of_squares}
+use Rattle.grid_model.specs.declared.boxes.Pos.{Pos}
+use Rattle.grid_model.proofs.RootLemmas.{square-mono}
 use Rattle.fix_interval.proofs.NearLemmas.{near_exists}
-use Rattle.sat_model.specs.Mapping.{Mapping, IsRaised, up_scale, slant_floor, slant_of}
+use Rattle.gnss_model.specs.Mapping.{Mapping, IsRaised, up_scale, slant_floor, slant_of}
 use Rattle.elevation_mapping.proofs.Lengths.{root_at_least}
 
 -- zu is hardly less than z in amount

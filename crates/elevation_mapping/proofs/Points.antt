@@ -3,22 +3,22 @@
 use Rattle.std.proofs.Common.{◌≡◌, ℕ, ◌+◌, ◌*◌, ◌/◌, ◌^◌, ◌≤◌, arith, lit≤, sym, refl, Bool, true, ◌&&◌}
 use Rattle.std.specs.Prelude.{IsTrue, nat_le, ℤ, pos, nat_abs, ◌+ℤ◌, ◌-ℤ◌, ◌≤ℤ◌}
 use Rattle.std.proofs.lemmas.Int.{ints, by_lt_z}
-use Rattle.sat_model.specs.Amounts.{square, above}
-use Rattle.sat_model.specs.Boxes.{GridBox, Side, grid_box, side_holds, box_holds}
-use Rattle.sat_model.specs.Lengths.{longest_length}
-use Rattle.sat_model.specs.Sizes.{IsBoxSize}
-use Rattle.sat_model.specs.Intervals.{Between, Ends}
-use Rattle.sat_model.specs.Squares.{least_end, sum_of_squares}
-use Rattle.sat_model.specs.declared.boxes.Box3.{Box3}
-use Rattle.sat_model.specs.declared.boxes.Pos.{Pos}
-use Rattle.sat_model.proofs.AmountLemmas.{above_is}
-use Rattle.sat_model.proofs.EndsLemmas.{difference_ends, wider_ends}
-use Rattle.sat_model.proofs.FittingLemmas.{in_box, le_to}
-use Rattle.sat_model.proofs.RootLemmas.{square-mono}
-use Rattle.sat_model.proofs.SquareLemmas.{one_part}
+use Rattle.grid_model.specs.Amounts.{square, above}
+use Rattle.grid_model.specs.Boxes.{GridBox, Side, grid_box, side_holds, box_holds}
+use Rattle.grid_model.specs.Lengths.{longest_length}
+use Rattle.grid_model.specs.Sizes.{IsBoxSize}
+use Rattle.grid_model.specs.Intervals.{Between, Ends}
+use Rattle.grid_model.specs.Squares.{least_end, sum_of_squares}
+use Rattle.grid_model.specs.declared.boxes.Box3.{Box3}
+use Rattle.grid_model.specs.declared.boxes.Pos.{Pos}
+use Rattle.grid_model.proofs.AmountLemmas.{above_is}
+use Rattle.grid_model.proofs.EndsLemmas.{difference_ends, wider_ends}
+use Rattle.grid_model.proofs.PointLemmas.{in_box, le_to}
+use Rattle.grid_model.proofs.RootLemmas.{square-mono}
+use Rattle.grid_model.proofs.SquareLemmas.{one_part}
 use Rattle.fix_interval.specs.declared.place.Place.{Place}
 use Rattle.fix_interval.specs.Places.{HoldsPlace, PlaceEnds}
-use Rattle.sat_model.specs.SearchBoxes.{IsFarFromOrigin}
+use Rattle.grid_model.specs.SearchBoxes.{IsFarFromOrigin}
 use Rattle.elevation_mapping.specs.Places.{IsFarFromPlace, least_sum}
 use Rattle.elevation_mapping.specs.MappingSizes.{turned_reach}
 use Rattle.elevation_mapping.specs.SineSizes.{up_amount, offset_amount, least_up}

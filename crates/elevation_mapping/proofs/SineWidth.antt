@@ -2,7 +2,7 @@
 use Rattle.std.proofs.Common.{◌≡◌, ℕ, ◌+◌, ◌*◌, ◌/◌, ◌^◌, ◌≤◌, arith, inl, inr}
 use Rattle.std.proofs.lemmas.Bool.{cases_lt}
 use Rattle.std.proofs.lemmas.Nat.{mul-le}
-use Rattle.sat_model.specs.Angles.{unit}
+use Rattle.grid_model.specs.Angles.{unit}
 use Rattle.elevation_mapping.specs.SineSizes.{sine_slope, least_up, least_range}
 
 pub cancel : (a b v : ℕ) → 1 ≤ v → a * v ≤ b * v → a ≤ b

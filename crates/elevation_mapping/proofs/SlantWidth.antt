@@ -6,17 +6,16 @@ use Rattle.std.proofs.lemmas.Int.{ints}
 use Rattle.std.proofs.lemmas.Nat.{mul-le}
 use borrow.Author.Differences.{up}
 use lib.IntN.{*ℤ_comm}
-use Rattle.sat_model.specs.Amounts.{square}
-use Rattle.sat_model.specs.Angles.{unit}
-use Rattle.sat_model.specs.Intervals.{Between, Ends}
-use Rattle.sat_model.specs.Roots.{IsRoot, root}
-use Rattle.sat_model.specs.Rounding.{IsTightQuotient}
-use Rattle.sat_model.specs.Squares.{least_end, greatest_end, least_square, greatest_square}
-use Rattle.sat_model.proofs.ClockLemmas.{root_mono}
-use Rattle.sat_model.proofs.ProductLemmas.{mul_mono}
-use Rattle.sat_model.proofs.RootLemmas.{square-mono, root_is}
-use Rattle.sat_model.proofs.SquareLemmas.{one_part, square_between, least_le_greatest_end, greatest_square_le}
-use Rattle.sat_model.specs.Mapping.{slant_floor, slant_of}
+use Rattle.grid_model.specs.Amounts.{square}
+use Rattle.grid_model.specs.Angles.{unit}
+use Rattle.grid_model.specs.Intervals.{Between, Ends}
+use Rattle.grid_model.specs.Roots.{IsRoot, root}
+use Rattle.grid_model.specs.Rounding.{IsTightQuotient}
+use Rattle.grid_model.specs.Squares.{least_end, greatest_end, least_square, greatest_square}
+use Rattle.grid_model.proofs.RootLemmas.{root_mono, square-mono, root_is}
+use Rattle.grid_model.proofs.ProductLemmas.{mul_mono}
+use Rattle.grid_model.proofs.SquareLemmas.{one_part, square_between, least_le_greatest_end, greatest_square_le}
+use Rattle.gnss_model.specs.Mapping.{slant_floor, slant_of}
 use Rattle.elevation_mapping.specs.SineSizes.{sine_amount, sine_slope, least_slant, slant_amount}
 use Rattle.elevation_mapping.proofs.Lengths.{root_at_least, two_products}
 use Rattle.elevation_mapping.proofs.SineWidth.{cancel}

@@ -3,10 +3,10 @@ use Rattle.std.proofs.Common.{◌≡◌, ℕ, ◌+◌, ◌*◌, ◌/◌, ◌^◌
 use Rattle.std.specs.Prelude.{ℤ, pos, negsuc, ◌*ℤ◌, ◌≤ℤ◌}
 use Rattle.std.proofs.lemmas.Int.{ints}
 use Rattle.std.proofs.lemmas.Nat.{mul-le}
-use Rattle.sat_model.specs.Angles.{unit}
-use Rattle.sat_model.specs.Intervals.{Ends}
-use Rattle.sat_model.specs.Rounding.{Near}
-use Rattle.sat_model.specs.Mapping.{up_scale, IsMapped}
+use Rattle.grid_model.specs.Angles.{unit}
+use Rattle.grid_model.specs.Intervals.{Ends}
+use Rattle.grid_model.specs.Rounding.{Near}
+use Rattle.gnss_model.specs.Mapping.{up_scale, IsMapped}
 
 pub scale_spread : (w : ℕ) → pos (10 ^ 13 * 0 + up_scale * w) ≤ℤ (pos (w + w / 148 + 1) *ℤ pos (10 ^ 14))
 scale_spread w = omega (arith, ints)

@@ -1,7 +1,7 @@
 -- How large and how wide a mapping may be over a box. Lengths are in um, mappings in 10^-16.
 use Rattle.std.specs.Prelude.{ℕ, ◌+◌, ◌*◌, ◌/◌, ◌^◌}
-use Rattle.sat_model.specs.Boxes.{GridBox}
-use Rattle.sat_model.specs.Lengths.{longest_length}
+use Rattle.grid_model.specs.Boxes.{GridBox}
+use Rattle.grid_model.specs.Lengths.{longest_length}
 
 -- a coordinate of a turned place
 abbrev pub turned_reach : ℕ

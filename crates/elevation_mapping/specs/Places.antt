@@ -1,9 +1,9 @@
 -- The squared lengths of the vectors that a place holds, and how far a box is from a place.
 use Rattle.std.specs.Prelude.{ℕ, ◌≡◌, ◌+◌, ◌≤◌, ℤ, ◌-ℤ◌, true}
-use Rattle.sat_model.specs.Amounts.{square}
-use Rattle.sat_model.specs.Boxes.{GridBox, box_holds}
-use Rattle.sat_model.specs.Squares.{least_square, greatest_square, sum_of_squares}
-use Rattle.sat_model.specs.declared.boxes.Pos.{Pos}
+use Rattle.grid_model.specs.Amounts.{square}
+use Rattle.grid_model.specs.Boxes.{GridBox, box_holds}
+use Rattle.grid_model.specs.Squares.{least_square, greatest_square, sum_of_squares}
+use Rattle.grid_model.specs.declared.boxes.Pos.{Pos}
 use Rattle.fix_interval.specs.Places.{HoldsPlace}
 use Rattle.fix_interval.specs.declared.place.Place.{Place}
 

@@ -1,7 +1,7 @@
 -- How large the numbers are from which the sine of an elevation and a slant are made, and how far
 -- the sine is spread over a box. Lengths are in um, sines and slants in 10^-16.
 use Rattle.std.specs.Prelude.{ℕ, ◌+◌, ◌*◌, ◌^◌}
-use Rattle.sat_model.specs.Angles.{unit}
+use Rattle.grid_model.specs.Angles.{unit}
 
 -- a part of the up direction: a coordinate of a point, z raised
 abbrev pub up_amount : ℕ

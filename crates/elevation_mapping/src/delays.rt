@@ -1,11 +1,11 @@
 //! Delays at the zenith, mapped.
 
 ghost use Rattle.std.specs.Prelude.{ℕ, ◌≡◌, ◌^◌, ℤ, pos, nat_abs, ◌-ℤ◌, ◌≤ℤ◌};
-ghost use Rattle.sat_model.specs.Sizes.{IsWithin};
+ghost use Rattle.grid_model.specs.Sizes.{IsWithin};
 ghost use Rattle.fix_interval.specs.Factors.{Holds, HasAmount};
-ghost use Rattle.sat_model.specs.Mapping.{IsMappedDelay};
+ghost use Rattle.gnss_model.specs.Mapping.{IsMappedDelay};
 ghost use Rattle.elevation_mapping.specs.MappingSizes.{mapped_amount, delay_amount, width_over};
-ghost use Rattle.sat_model.specs.Zenith.{spare_over};
+ghost use Rattle.gnss_model.specs.Zenith.{spare_over};
 
 use fix_interval::{Exact, product};
 

@@ -1,15 +1,15 @@
 //! The sine of the elevation: the inner product of two directions.
 
 ghost use Rattle.std.specs.Prelude.{ℕ, ◌≡◌, ◌+◌, ◌*◌, ◌/◌, ◌^◌, ◌≤◌, ℤ, pos, ◌+ℤ◌, ◌*ℤ◌};
-ghost use Rattle.sat_model.specs.Amounts.{square};
-ghost use Rattle.sat_model.specs.Angles.{unit};
-ghost use Rattle.sat_model.specs.Roots.{root};
-ghost use Rattle.sat_model.specs.Rounding.{Near};
-ghost use Rattle.sat_model.specs.Squares.{sum_of_squares, least_end, greatest_end};
+ghost use Rattle.grid_model.specs.Amounts.{square};
+ghost use Rattle.grid_model.specs.Angles.{unit};
+ghost use Rattle.grid_model.specs.Roots.{root};
+ghost use Rattle.grid_model.specs.Rounding.{Near};
+ghost use Rattle.grid_model.specs.Squares.{sum_of_squares, least_end, greatest_end};
 ghost use Rattle.fix_interval.specs.Factors.{Holds, HasEnds, HasAmount, factor_bound};
 ghost use Rattle.fix_interval.specs.Places.{HoldsPlace, PlaceEnds, PlaceAmount};
 ghost use Rattle.elevation_mapping.specs.Places.{least_sum};
-ghost use Rattle.sat_model.specs.Mapping.{IsRatio};
+ghost use Rattle.gnss_model.specs.Mapping.{IsRatio};
 ghost use Rattle.elevation_mapping.specs.SineSizes.{up_amount, offset_amount, inner_amount, sine_amount, least_up, least_range, sine_spread};
 
 use crate::lines::length_of;

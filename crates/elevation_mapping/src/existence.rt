@@ -1,11 +1,11 @@
 //! Every place that is far enough has a mapping.
 
 ghost use Rattle.std.specs.Prelude.{ℕ, ◌*◌, ◌^◌, ◌≤◌, ℤ, ◌-ℤ◌};
-ghost use Rattle.sat_model.specs.Amounts.{square};
-ghost use Rattle.sat_model.specs.Fitting.{range_to};
-ghost use Rattle.sat_model.specs.Squares.{sum_of_squares};
-ghost use Rattle.sat_model.specs.declared.boxes.Pos.{Pos};
-ghost use Rattle.sat_model.specs.Mapping.{Mapping};
+ghost use Rattle.grid_model.specs.Amounts.{square};
+ghost use Rattle.grid_model.specs.Ranges.{range_to};
+ghost use Rattle.grid_model.specs.Squares.{sum_of_squares};
+ghost use Rattle.grid_model.specs.declared.boxes.Pos.{Pos};
+ghost use Rattle.gnss_model.specs.Mapping.{Mapping};
 
 /// At every point that is at least 6,000 km from the origin and 5,000 km from a place the equations
 /// allow a mapping, so that what `mapped` holds isn't empty. The call does nothing.

@@ -1,11 +1,11 @@
 //! Which boxes are far enough from the origin.
 
 ghost use Rattle.std.specs.Prelude.{◌↔◌, ◌*◌, ◌^◌, IsTrue};
-ghost use Rattle.sat_model.specs.Boxes.{grid_box};
-ghost use Rattle.sat_model.specs.SearchBoxes.{IsFarFromOrigin};
+ghost use Rattle.grid_model.specs.Boxes.{grid_box};
+ghost use Rattle.grid_model.specs.SearchBoxes.{IsFarFromOrigin};
 
 use crate::lines::{place_of, squares_of};
-use sat_model::Box3;
+use grid_model::Box3;
 
 /// The square of 6,000 km, in um^2.
 const LEAST_SQUARE: u128 = 36_000_000_000_000_000_000_000_000;

@@ -3,7 +3,7 @@
 //! (1984) as RTCA DO-229 prints it in appendix A.4.2.4, enclosed over the points of a box.
 //!
 //! `lines` has the up direction and the line of sight, `elevation` the sine of the elevation,
-//! `slants` the root below the line, `mapping` the whole. `specs/Mapping` of `sat_model`
+//! `slants` the root below the line, `mapping` the whole. `specs/Mapping` of `gnss_model`
 //! has the equations.
 #![tactic(auto)]
 

@@ -1,19 +1,19 @@
 //! The up direction of the points of a box and the lines from them to a place.
 
 ghost use Rattle.std.specs.Prelude.{ℕ, ◌≡◌, ◌+◌, ◌*◌, ◌/◌, ◌^◌, ◌≤◌, ℤ, pos, ◌-ℤ◌, ◌≤ℤ◌};
-ghost use Rattle.sat_model.specs.Boxes.{grid_box};
-ghost use Rattle.sat_model.specs.Intervals.{Ends};
-ghost use Rattle.sat_model.specs.Roots.{root};
-ghost use Rattle.sat_model.specs.Squares.{sum_of_squares, least_end};
+ghost use Rattle.grid_model.specs.Boxes.{grid_box};
+ghost use Rattle.grid_model.specs.Intervals.{Ends};
+ghost use Rattle.grid_model.specs.Roots.{root};
+ghost use Rattle.grid_model.specs.Squares.{sum_of_squares, least_end};
 ghost use Rattle.fix_interval.specs.Factors.{Holds, HasEnds, HasAmount};
 ghost use Rattle.fix_interval.specs.Places.{HoldsPlace, PlaceEnds, PlaceAmount};
 ghost use Rattle.elevation_mapping.specs.Places.{least_sum, greatest_sum};
-ghost use Rattle.sat_model.specs.Mapping.{IsRaised};
+ghost use Rattle.gnss_model.specs.Mapping.{IsRaised};
 ghost use Rattle.elevation_mapping.specs.MappingSizes.{turned_reach};
 ghost use Rattle.elevation_mapping.specs.SineSizes.{up_amount, offset_amount};
 
 use fix_interval::{Exact, ExactArea, Interval, Place, squared_distance};
-use sat_model::Box3;
+use grid_model::Box3;
 
 /// 1 / (1 - f)^2 for the flattening f of WGS 84, times 10^14.
 const UP_SCALE: i128 = 100_673_949_674_228;

@@ -1,17 +1,17 @@
 //! The mapping over a box.
 
 ghost use Rattle.std.specs.Prelude.{ℕ, ◌≡◌, ◌+◌, ◌*◌, ◌^◌, ◌≤◌, ℤ, pos, ◌-ℤ◌, ◌*ℤ◌, ◌≤ℤ◌, true};
-ghost use Rattle.sat_model.specs.Angles.{unit};
-ghost use Rattle.sat_model.specs.Boxes.{grid_box, box_holds};
-ghost use Rattle.sat_model.specs.Fitting.{range_to};
-ghost use Rattle.sat_model.specs.Lengths.{longest_length, spare_of};
-ghost use Rattle.sat_model.specs.Rounding.{IsTightQuotient};
-ghost use Rattle.sat_model.specs.declared.boxes.Pos.{Pos};
+ghost use Rattle.grid_model.specs.Angles.{unit};
+ghost use Rattle.grid_model.specs.Boxes.{grid_box, box_holds};
+ghost use Rattle.grid_model.specs.Ranges.{range_to};
+ghost use Rattle.grid_model.specs.Lengths.{longest_length, spare_of};
+ghost use Rattle.grid_model.specs.Rounding.{IsTightQuotient};
+ghost use Rattle.grid_model.specs.declared.boxes.Pos.{Pos};
 ghost use Rattle.fix_interval.specs.Factors.{Holds, HasAmount};
 ghost use Rattle.fix_interval.specs.Places.{HoldsPlace, PlaceEnds};
-ghost use Rattle.sat_model.specs.SearchBoxes.{IsFarFromOrigin};
+ghost use Rattle.grid_model.specs.SearchBoxes.{IsFarFromOrigin};
 ghost use Rattle.elevation_mapping.specs.Places.{IsFarFromPlace};
-ghost use Rattle.sat_model.specs.Mapping.{Mapping, IsMapped};
+ghost use Rattle.gnss_model.specs.Mapping.{Mapping, IsMapped};
 ghost use Rattle.elevation_mapping.specs.MappingSizes.{turned_reach, mapped_amount, mapped_width};
 ghost use Rattle.elevation_mapping.specs.SineSizes.{least_slant, slant_amount};
 
@@ -19,7 +19,7 @@ use crate::elevation::elevation_sine;
 use crate::lines::{offsets, place_of, raised};
 use crate::slants::slants;
 use fix_interval::{Exact, Place, UNIT};
-use sat_model::Box3;
+use grid_model::Box3;
 
 /// 1.001, times 10^16.
 const MAPPED_SCALE: i128 = 10_010_000_000_000_000;

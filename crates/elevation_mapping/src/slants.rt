@@ -1,10 +1,10 @@
 //! Slants: the roots of 0.002001 and the square of a sine.
 
 ghost use Rattle.std.specs.Prelude.{◌≡◌, ◌+◌, ℤ, pos};
-ghost use Rattle.sat_model.specs.Roots.{root};
-ghost use Rattle.sat_model.specs.Squares.{least_end, greatest_end, least_square, greatest_square};
+ghost use Rattle.grid_model.specs.Roots.{root};
+ghost use Rattle.grid_model.specs.Squares.{least_end, greatest_end, least_square, greatest_square};
 ghost use Rattle.fix_interval.specs.Factors.{Holds, HasAmount};
-ghost use Rattle.sat_model.specs.Mapping.{slant_floor, slant_of};
+ghost use Rattle.gnss_model.specs.Mapping.{slant_floor, slant_of};
 ghost use Rattle.elevation_mapping.specs.SineSizes.{sine_amount};
 
 use fix_interval::{Exact, ExactArea, Interval};

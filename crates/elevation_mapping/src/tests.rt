@@ -1,7 +1,7 @@
 ghost use Rattle.std.specs.Prelude.{◌*◌, ◌+◌, ◌^◌, ◌≤◌, ◌≤ℤ◌, IsTrue};
-ghost use Rattle.sat_model.specs.Boxes.{grid_box};
-ghost use Rattle.sat_model.specs.Lengths.{longest_length, spare_of};
-ghost use Rattle.sat_model.specs.Sizes.{IsBoxSize};
+ghost use Rattle.grid_model.specs.Boxes.{grid_box};
+ghost use Rattle.grid_model.specs.Lengths.{longest_length, spare_of};
+ghost use Rattle.grid_model.specs.Sizes.{IsBoxSize};
 ghost use Rattle.fix_interval.specs.Factors.{HasEnds};
 ghost use Rattle.fix_interval.specs.Places.{PlaceEnds, PlaceAmount};
 ghost use Rattle.elevation_mapping.specs.Places.{IsFarFromPlace};
@@ -11,7 +11,8 @@ use crate::lines::{offsets, place_of, squares_of};
 use crate::vectors::VECTORS;
 use crate::{is_far_from_origin, mapped, mapped_delay};
 use fix_interval::{Exact, Place};
-use sat_model::{Box3, Pos, Span, err_spare, spare};
+use gnss_model::{err_spare, spare};
+use grid_model::{Box3, Pos, Span};
 use std::process::Abort;
 
 const FARTHEST_CORNER: i64 = 9_000_000_000_000;

@@ -6,7 +6,7 @@ use Rattle.std.specs.Char.{is_ascii_digit, digit_value}
 use Rattle.std.specs.Prelude.{Bool}
 use Rattle.std.proofs.lemmas.Int.{ints}
 use Rattle.std.specs.Str.Parse.{digits_value_after}
-use Rattle.sat_model.specs.Sizes.{IsWithin}
+use Rattle.grid_model.specs.Sizes.{IsWithin}
 use Rattle.exact_decimal.specs.NumberFields.{AreDigits, signed}
 use Rattle.exact_decimal.specs.Parts.{has_digits}
 

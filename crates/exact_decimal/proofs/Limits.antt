@@ -2,10 +2,10 @@
 use Rattle.std.proofs.Common.{◌≡◌, ℕ, ◌*◌, ◌≤◌, arith, refl}
 use Rattle.std.specs.Prelude.{ℤ, pos, neg_ℤ, ◌+ℤ◌, ◌*ℤ◌, ◌≤ℤ◌, ◌<ℤ◌, ◌↔◌, unsigned_abs}
 use Rattle.std.proofs.lemmas.Int.{ints}
-use Rattle.sat_model.specs.Rounding.{IsFloor, IsCeiling}
-use Rattle.sat_model.specs.Sizes.{IsWithin}
-use Rattle.sat_model.proofs.IntervalLemmas.{le_z_trans}
-use Rattle.sat_model.proofs.ProductLemmas.{mul_mono, add_mul, neg_mul, mul_lt_back}
+use Rattle.grid_model.specs.Rounding.{IsFloor, IsCeiling}
+use Rattle.grid_model.specs.Sizes.{IsWithin}
+use Rattle.grid_model.proofs.IntervalLemmas.{le_z_trans}
+use Rattle.grid_model.proofs.ProductLemmas.{mul_mono, add_mul, neg_mul, mul_lt_back}
 use Rattle.exact_decimal.specs.declared.unit.Unit.{Unit}
 use borrow.Author.Differences.{down}
 use Rattle.exact_decimal.specs.Units.{bound_of, shift_of, numerator, denominator, PassesBound, LiesBetween}

@@ -5,8 +5,8 @@ use Rattle.std.proofs.lemmas.Int.{ints}
 use Rattle.std.proofs.lemmas.Nat.{mul-le}
 use Rattle.std.proofs.Math.Nat.{pow-le-pow_right, one-le-pow}
 use lib.Signed.{lt_z}
-use Rattle.sat_model.proofs.ProductLemmas.{neg_mul}
-use Rattle.sat_model.specs.Rounding.{IsFloor, IsCeiling}
+use Rattle.grid_model.proofs.ProductLemmas.{neg_mul}
+use Rattle.grid_model.specs.Rounding.{IsFloor, IsCeiling}
 use Rattle.exact_decimal.specs.Signing.{low_of, high_of}
 use Rattle.exact_decimal.specs.Units.{IsRounded}
 

@@ -1,14 +1,14 @@
 //! Decimals that lie between two whole numbers of units.
 
 ghost use Rattle.std.specs.Prelude.{◌≡◌, ◌↔◌, ◌≤ℤ◌, pos, IsSome, IfSome};
-ghost use Rattle.sat_model.specs.Rounding.{IsFloor, IsCeiling};
-ghost use Rattle.sat_model.specs.Sizes.{IsWithin};
+ghost use Rattle.grid_model.specs.Rounding.{IsFloor, IsCeiling};
+ghost use Rattle.grid_model.specs.Sizes.{IsWithin};
 ghost use Rattle.exact_decimal.specs.Units.{bound_of, numerator, denominator, LiesBetween};
 
 use crate::convert::to_unit;
 use crate::decimal::Decimal;
 use crate::unit::Unit;
-use sat_model::Wide;
+use grid_model::Wide;
 
 /// The floor and the ceiling of the decimal in the unit, where it lies from `low` to `high` units.
 pub fn to_unit_between(decimal: Decimal, unit: Unit, low: i128, high: i128) -> Option<Wide>

@@ -2,13 +2,13 @@
 
 ghost use Rattle.std.specs.Prelude.{◌≡◌, ◌≤◌, ◌<◌, ◌*◌, ◌^◌, pos, IfOk, IsErr, unsigned_abs, ◌↔◌};
 ghost use borrow.Author.Differences.{up, down};
-ghost use Rattle.sat_model.specs.Rounding.{IsFloor, IsCeiling};
+ghost use Rattle.grid_model.specs.Rounding.{IsFloor, IsCeiling};
 ghost use Rattle.exact_decimal.specs.Signing.{low_of, high_of};
 ghost use Rattle.exact_decimal.specs.Units.{bound_of, shift_of, numerator, denominator, PassesBound, IsRounded, RoundsWithin};
 
 use crate::decimal::Decimal;
 use crate::unit::{Range, Unit};
-use sat_model::Wide;
+use grid_model::Wide;
 
 /// The floor and the ceiling of the decimal in the unit. `Range` comes exactly where its amount
 /// passes the unit's bound.

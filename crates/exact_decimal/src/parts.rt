@@ -6,7 +6,7 @@ ghost use Rattle.std.specs.List.{prefix_len};
 ghost use Rattle.std.specs.Str.Parse.{digits_value_after, digits_value};
 ghost use Rattle.exact_decimal.specs.NumberFields.{is_blank, is_exponent_letter, AreDigits, signed};
 ghost use Rattle.exact_decimal.specs.Parts.{front, behind, is_negative, behind_sign, fraction_of, behind_fraction, whole_at, fraction_at, behind_mantissa, has_digits, exponent_of, exponent_behind, is_blank_text};
-ghost use Rattle.sat_model.specs.Sizes.{IsWithin};
+ghost use Rattle.grid_model.specs.Sizes.{IsWithin};
 
 /// How many digits stand at the front.
 fn digits_in_front(text: &[u8]) -> usize

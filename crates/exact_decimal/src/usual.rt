@@ -3,7 +3,7 @@
 ghost use Rattle.std.specs.Prelude.{◌≡◌, ◌<◌, ◌≤◌, ◌^◌, ◌-◌, length, true, [], ◌∷◌, IfSome};
 ghost use Rattle.std.specs.Char.{is_ascii_digit};
 ghost use Rattle.std.specs.Str.Parse.{digits_value_after};
-ghost use Rattle.sat_model.specs.Sizes.{IsWithin};
+ghost use Rattle.grid_model.specs.Sizes.{IsWithin};
 ghost use Rattle.exact_decimal.specs.NumberFields.{is_exponent_letter, AreDigits, IsSign, IsExponent, IsFloating};
 ghost use Rattle.exact_decimal.specs.Parts.{Begins};
 

@@ -2,13 +2,13 @@
 use Rattle.std.proofs.Common.{◌≡◌, ℕ, ◌+◌, ◌-◌, ◌*◌, ◌^◌, ◌<◌, ◌≤◌, arith, ◌∙◌}
 use Rattle.std.specs.Prelude.{ℤ, pos, ◌+ℤ◌, ◌*ℤ◌, neg_ℤ, ◌≤ℤ◌, ◌<ℤ◌}
 use Rattle.std.proofs.lemmas.Int.{ints}
-use Rattle.sat_model.specs.Amounts.{square}
-use Rattle.sat_model.specs.Roots.{IsRoot, root}
-use Rattle.sat_model.specs.Rounding.{grain_floor, grain_ceil}
-use Rattle.sat_model.specs.Squares.{least_end, greatest_end, least_square, greatest_square}
-use Rattle.sat_model.proofs.RootLemmas.{square-mono, root_is}
-use Rattle.sat_model.proofs.RoundingLemmas.{floor_is}
-use Rattle.sat_model.proofs.SquareLemmas.{one_part}
+use Rattle.grid_model.specs.Amounts.{square}
+use Rattle.grid_model.specs.Roots.{IsRoot, root}
+use Rattle.grid_model.specs.Rounding.{grain_floor, grain_ceil}
+use Rattle.grid_model.specs.Squares.{least_end, greatest_end, least_square, greatest_square}
+use Rattle.grid_model.proofs.RootLemmas.{square-mono, root_is}
+use Rattle.grid_model.proofs.RoundingLemmas.{floor_is}
+use Rattle.grid_model.proofs.SquareLemmas.{one_part}
 
 -- ---- squares
 

@@ -5,10 +5,10 @@ use Rattle.std.specs.Prelude.{ℤ, pos, neg_ℤ, ◌+ℤ◌, ◌-ℤ◌, ◌*ℤ
 use Rattle.std.specs.Int.{int_div_euclid}
 use Rattle.std.proofs.lemmas.Int.{ints, by_lt_z}
 use lib.IntN.{*ℤ_comm}
-use Rattle.sat_model.specs.Intervals.{Between}
-use Rattle.sat_model.specs.Rounding.{Near, IsFloor}
-use Rattle.sat_model.proofs.ProductLemmas.{mul_mono, mul_anti, mul_lt_back, add_mul, neg_mul, mul_neg, mul_assoc}
-use Rattle.sat_model.proofs.RoundingLemmas.{floor_is}
+use Rattle.grid_model.specs.Intervals.{Between}
+use Rattle.grid_model.specs.Rounding.{Near, IsFloor}
+use Rattle.grid_model.proofs.ProductLemmas.{mul_mono, mul_anti, mul_lt_back, add_mul, neg_mul, mul_neg, mul_assoc}
+use Rattle.grid_model.proofs.RoundingLemmas.{floor_is}
 
 -- num / den lies strictly between lo and hi
 pub record Inside (num den lo hi : ℤ) : Type 0 where

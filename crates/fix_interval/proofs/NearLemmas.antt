@@ -5,15 +5,15 @@ use Rattle.std.specs.Prelude.{ℤ, pos, ◌+ℤ◌, ◌-ℤ◌, ◌*ℤ◌, neg_
 use Rattle.std.specs.Int.{int_div_euclid}
 use Rattle.std.proofs.lemmas.Int.{ints, by_lt_z}
 use lib.IntN.{*ℤ_comm}
-use Rattle.sat_model.specs.Sizes.{IsWithin}
-use Rattle.sat_model.specs.Intervals.{Between, Ends}
-use Rattle.sat_model.specs.Products.{ProductsWithin, least_product, greatest_product}
-use Rattle.sat_model.specs.Rounding.{Near, IsTightRound}
-use Rattle.sat_model.proofs.ProductLemmas.{mul_mono, mul_anti, mul_le_back, mul_lt_back, add_mul, neg_mul, mul_assoc}
-use Rattle.sat_model.proofs.IntervalLemmas.{low_member, high_member}
-use Rattle.sat_model.proofs.RoundingLemmas.{floor_is, floor_near}
-use Rattle.sat_model.proofs.SpreadLemmas.{least_has, greatest_has}
-use Rattle.sat_model.proofs.EndsLemmas.{rounded_ends}
+use Rattle.grid_model.specs.Sizes.{IsWithin}
+use Rattle.grid_model.specs.Intervals.{Between, Ends}
+use Rattle.grid_model.specs.Products.{ProductsWithin, least_product, greatest_product}
+use Rattle.grid_model.specs.Rounding.{Near, IsTightRound}
+use Rattle.grid_model.proofs.ProductLemmas.{mul_mono, mul_anti, mul_le_back, mul_lt_back, add_mul, neg_mul, mul_assoc}
+use Rattle.grid_model.proofs.IntervalLemmas.{low_member, high_member}
+use Rattle.grid_model.proofs.RoundingLemmas.{floor_is, floor_near}
+use Rattle.grid_model.proofs.SpreadLemmas.{least_has, greatest_has}
+use Rattle.grid_model.proofs.EndsLemmas.{rounded_ends}
 
 pub near_exists : (num den : ℤ) → pos 0 <ℤ den → (v : ℤ) × Near num den v
 near_exists num den p = (int_div_euclid num den, floor_near num den _ p (floor_is num den p))

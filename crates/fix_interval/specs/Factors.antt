@@ -1,7 +1,7 @@
 -- Intervals as factors: what they hold, and how their products spread. One is 10^16 units.
 use Rattle.std.specs.Prelude.{ℕ, ◌+◌, ◌*◌, ◌^◌, ◌≤◌, ℤ}
-use Rattle.sat_model.specs.Angles.{unit}
-use Rattle.sat_model.specs.Intervals.{Between, Ends}
+use Rattle.grid_model.specs.Angles.{unit}
+use Rattle.grid_model.specs.Intervals.{Between, Ends}
 use Rattle.fix_interval.specs.declared.exact.Exact.{Exact}
 
 -- x is a member

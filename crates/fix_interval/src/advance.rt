@@ -1,11 +1,11 @@
 //! A value moved on by its rate over a time, as the printed equations of clock and orbit do it.
 
 ghost use Rattle.std.specs.Prelude.{ℕ, ◌+◌, ◌*◌, ◌^◌, ◌≤◌, ℤ};
-ghost use Rattle.sat_model.specs.Sizes.{IsWithin};
-ghost use Rattle.sat_model.specs.ClockChain.{IsAdvanced};
-ghost use Rattle.sat_model.specs.EarthModel.{rate_scale};
-ghost use Rattle.sat_model.specs.Intervals.{Between, Ends};
-ghost use Rattle.sat_model.specs.Products.{ProductsWithin};
+ghost use Rattle.grid_model.specs.Sizes.{IsWithin};
+ghost use Rattle.gnss_model.specs.ClockChain.{IsAdvanced};
+ghost use Rattle.gnss_model.specs.EarthModel.{rate_scale};
+ghost use Rattle.grid_model.specs.Intervals.{Between, Ends};
+ghost use Rattle.grid_model.specs.Products.{ProductsWithin};
 
 use crate::exact::Exact;
 

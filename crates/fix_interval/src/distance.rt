@@ -1,9 +1,9 @@
 //! Squared distances over any kind of interval.
 
 ghost use Rattle.std.specs.Prelude.{◌≡◌, ◌+◌, ◌^◌, ◌≤◌, ℤ};
-ghost use Rattle.sat_model.specs.Sizes.{IsWithin};
-ghost use Rattle.sat_model.specs.Intervals.{Between};
-ghost use Rattle.sat_model.specs.Squares.{least_square, greatest_square, sum_of_squares};
+ghost use Rattle.grid_model.specs.Sizes.{IsWithin};
+ghost use Rattle.grid_model.specs.Intervals.{Between};
+ghost use Rattle.grid_model.specs.Squares.{least_square, greatest_square, sum_of_squares};
 
 use crate::interval::Interval;
 

@@ -1,11 +1,11 @@
 //! The ends of rounded products and quotients.
 
 ghost use Rattle.std.specs.Prelude.{◌≡◌, ◌^◌, ℤ, pos, ◌+ℤ◌, ◌-ℤ◌, ◌*ℤ◌, ◌≤ℤ◌, ◌<ℤ◌};
-ghost use Rattle.sat_model.specs.Sizes.{IsWithin};
-ghost use Rattle.sat_model.specs.Intervals.{Between};
-ghost use Rattle.sat_model.specs.Rounding.{IsFloor};
-ghost use Rattle.sat_model.specs.Products.{ProductsWithin, least_product, greatest_product};
-ghost use Rattle.sat_model.specs.Squares.{least_end, greatest_end};
+ghost use Rattle.grid_model.specs.Sizes.{IsWithin};
+ghost use Rattle.grid_model.specs.Intervals.{Between};
+ghost use Rattle.grid_model.specs.Rounding.{IsFloor};
+ghost use Rattle.grid_model.specs.Products.{ProductsWithin, least_product, greatest_product};
+ghost use Rattle.grid_model.specs.Squares.{least_end, greatest_end};
 
 use crate::exact::Exact;
 

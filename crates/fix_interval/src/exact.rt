@@ -1,15 +1,15 @@
 //! Intervals with whole-number ends, and the products and quotients of printed equations.
 
 ghost use Rattle.std.specs.Prelude.{◌≡◌, ◌^◌, ℤ, pos, ◌+ℤ◌, ◌-ℤ◌, ◌*ℤ◌, ◌≤ℤ◌, ◌<ℤ◌};
-ghost use Rattle.sat_model.specs.Sizes.{IsWithin};
-ghost use Rattle.sat_model.specs.Intervals.{Between};
-ghost use Rattle.sat_model.specs.Rounding.{Near, IsTightRound, IsTightQuotient};
-ghost use Rattle.sat_model.specs.Products.{ProductsWithin, least_product, greatest_product};
+ghost use Rattle.grid_model.specs.Sizes.{IsWithin};
+ghost use Rattle.grid_model.specs.Intervals.{Between};
+ghost use Rattle.grid_model.specs.Rounding.{Near, IsTightRound, IsTightQuotient};
+ghost use Rattle.grid_model.specs.Products.{ProductsWithin, least_product, greatest_product};
 
 use crate::ends::{
     greatest_of_products, high_end, high_end_over, least_of_products, low_end, low_end_over,
 };
-use sat_model::Wide;
+use grid_model::Wide;
 
 /// The whole numbers from `lo` to `hi`, in whatever unit.
 #[derive(Clone, Copy, Debug, PartialEq, Eq)]

@@ -1,12 +1,12 @@
 //! `Exact` as an interval whose grain is 1 um.
 
 ghost use Rattle.std.specs.Prelude.{◌≤◌, pos, refl};
-ghost use Rattle.sat_model.proofs.RoundingLemmas.{multiple_of_one};
+ghost use Rattle.grid_model.proofs.RoundingLemmas.{multiple_of_one};
 
 use crate::ends::{greatest_amount, least_amount};
 use crate::exact::Exact;
 use crate::interval::Interval;
-use sat_model::root_u128;
+use grid_model::root_u128;
 
 /// The whole numbers of square um from `lo` to `hi`.
 #[derive(Clone, Copy, Debug, PartialEq, Eq)]

@@ -1,12 +1,12 @@
 //! Ends, amounts and roots that are counted in grains of 65,536 um, or in squares of a grain.
 
 ghost use Rattle.std.specs.Prelude.{◌≡◌, ◌*◌, ◌^◌, ◌≤◌, pos, ◌*ℤ◌};
-ghost use Rattle.sat_model.specs.Sizes.{IsWithin};
-ghost use Rattle.sat_model.specs.Squares.{least_end, greatest_end};
-ghost use Rattle.sat_model.specs.Roots.{root};
-ghost use Rattle.sat_model.specs.Rounding.{grain_floor, grain_ceil};
+ghost use Rattle.grid_model.specs.Sizes.{IsWithin};
+ghost use Rattle.grid_model.specs.Squares.{least_end, greatest_end};
+ghost use Rattle.grid_model.specs.Roots.{root};
+ghost use Rattle.grid_model.specs.Rounding.{grain_floor, grain_ceil};
 
-use sat_model::root_u64;
+use grid_model::root_u64;
 
 /// One grain, in um.
 pub(crate) const GRAIN: i64 = 65_536;

@@ -2,10 +2,10 @@
 
 ghost use Rattle.std.specs.Prelude.{◌≡◌, ℕ, ◌+◌, ◌-◌, ◌^◌, ◌<◌, ◌≤◌, ℤ, pos, ◌+ℤ◌, ◌-ℤ◌, ◌*ℤ◌, ◌≤ℤ◌, ◌<ℤ◌, MatchOption};
 ghost use Rattle.std.specs.Int.{int_min, int_max};
-ghost use Rattle.sat_model.specs.Sizes.{IsWithin};
-ghost use Rattle.sat_model.specs.Roots.{root};
-ghost use Rattle.sat_model.specs.Rounding.{grain_floor, grain_ceil, IsMultipleOf};
-ghost use Rattle.sat_model.specs.Squares.{least_square, greatest_square};
+ghost use Rattle.grid_model.specs.Sizes.{IsWithin};
+ghost use Rattle.grid_model.specs.Roots.{root};
+ghost use Rattle.grid_model.specs.Rounding.{grain_floor, grain_ceil, IsMultipleOf};
+ghost use Rattle.grid_model.specs.Squares.{least_square, greatest_square};
 
 /// The whole numbers of um between two multiples of `GRAIN`, ends included.
 ///

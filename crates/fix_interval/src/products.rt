@@ -2,7 +2,7 @@
 //! results of printed equations that are rounded once.
 
 ghost use Rattle.std.specs.Prelude.{ℕ, ◌+◌, ℤ};
-ghost use Rattle.sat_model.specs.OrbitChain.{IsProduct, IsSumOf, IsDifferenceOf};
+ghost use Rattle.gnss_model.specs.OrbitChain.{IsProduct, IsSumOf, IsDifferenceOf};
 ghost use Rattle.fix_interval.specs.Factors.{Holds, HasEnds, HasAmount, Spread, factor_bound};
 
 use crate::exact::Exact;

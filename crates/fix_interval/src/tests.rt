@@ -1,6 +1,6 @@
 use super::*;
 use crate::grains::GRAIN;
-use sat_model::Wide;
+use grid_model::Wide;
 
 #[test]
 fn meets_and_hulls(rt: HostRuntime) {

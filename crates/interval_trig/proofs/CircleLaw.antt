@@ -1,15 +1,15 @@
 -- The values of the sine and the cosine at one angle: the law on their squares.
-use Rattle.sat_model.proofs.ProductLemmas.{square_of_amount}
+use Rattle.grid_model.proofs.ProductLemmas.{square_of_amount}
 use Rattle.std.proofs.Common.{◌≡◌, ℕ, zero, suc, ◌+◌, ◌-◌, ◌*◌, ◌≤◌, ◌<◌, arith, refl, ap, ◌∙◌, subst, lit≤, ⊎_elim, ◌⊎◌, inl, inr}
 use Rattle.std.specs.Prelude.{ℤ, pos, negsuc, neg_ℤ, nat_abs, ◌+ℤ◌}
 use Rattle.std.proofs.lemmas.Int.{ints}
 use Rattle.std.proofs.lemmas.Bool.{cases_lt}
 use Rattle.std.proofs.lemmas.Nat.{mul-le}
 use Rattle.std.proofs.Math.Nat.{mul-le-mul_left, le_trans}
-use Rattle.sat_model.specs.Angles.{unit, quarter, IsRest}
-use Rattle.sat_model.specs.Intervals.{Close}
-use Rattle.sat_model.specs.Sines.{by_quarter, Sine, Cosine, NearCircle, modulo_4}
-use Rattle.sat_model.specs.Sizes.{IsWithin}
+use Rattle.grid_model.specs.Angles.{unit, quarter, IsRest}
+use Rattle.grid_model.specs.Intervals.{Close}
+use Rattle.grid_model.specs.Sines.{by_quarter, Sine, Cosine, NearCircle, modulo_4}
+use Rattle.grid_model.specs.Sizes.{IsWithin}
 use Rattle.interval_trig.specs.NestedSums.{greatest_rest}
 use Rattle.interval_trig.proofs.WholeSums.{sine_whole, cosine_whole, sine_small, cosine_small}
 use Rattle.interval_trig.proofs.SquareSums.{WholeSquares, whole_squares}

@@ -3,11 +3,11 @@ use Rattle.std.proofs.Common.{◌≡◌, ℕ, zero, suc, ◌+◌, ◌*◌, ◌/�
 use Rattle.std.specs.Prelude.{ℤ, pos, negsuc, neg_ℤ, ◌+ℤ◌, ◌-ℤ◌, ◌*ℤ◌}
 use Rattle.std.specs.Int.{int_div_euclid}
 use Rattle.std.proofs.lemmas.Int.{ints}
-use Rattle.sat_model.specs.Sizes.{IsWithin}
-use Rattle.sat_model.specs.Angles.{unit, quarter, quarter_turn, IsRest}
-use Rattle.sat_model.specs.Taylor.{SineAt, CosineAt}
-use Rattle.sat_model.specs.Sines.{by_quarter, modulo_4, Sine, Cosine}
-use Rattle.sat_model.proofs.RoundingLemmas.{floor_is}
+use Rattle.grid_model.specs.Sizes.{IsWithin}
+use Rattle.grid_model.specs.Angles.{unit, quarter, quarter_turn, IsRest}
+use Rattle.grid_model.specs.Taylor.{SineAt, CosineAt}
+use Rattle.grid_model.specs.Sines.{by_quarter, modulo_4, Sine, Cosine}
+use Rattle.grid_model.proofs.RoundingLemmas.{floor_is}
 use Rattle.interval_trig.specs.NestedSums.{greatest_rest, plain_num, nested_den, sine_15, sine_17, cosine_16, cosine_18, NestedBetween, NestedSine, NestedCosine}
 use Rattle.interval_trig.proofs.HornerSteps.{above_quotient, below_quotient, nested_is_plain}
 use Rattle.interval_trig.proofs.PointValues.{at_most_of, square_small}

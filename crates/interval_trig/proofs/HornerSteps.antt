@@ -5,7 +5,7 @@ use Rattle.std.proofs.lemmas.Int.{ints}
 use Rattle.std.proofs.lemmas.Nat.{mul-le}
 use Rattle.std.proofs.Math.Nat.{mul-le-mul_right, mul-le-mul_left, div-add-mod', mod-lt, div-mul-le_self, le_of_mul-le-mul_left, le_trans, mul-pos}
 use Rattle.std.proofs.lemmas.Nat.{le-div}
-use Rattle.sat_model.specs.Angles.{unit}
+use Rattle.grid_model.specs.Angles.{unit}
 use Rattle.interval_trig.specs.NestedSums.{fine, Holds, nested_num, nested_den, plain_num}
 
 -- u stands for `fine`, and g u for the square of `unit`: the new ends lie round (d g u e - y f) / (d g u e)

@@ -3,9 +3,9 @@ use Rattle.std.proofs.Common.{◌≡◌, ℕ, suc, ◌-◌, ◌*◌, ◌^◌, �
 use Rattle.std.specs.Prelude.{ℤ, pos, nat_abs, ◌-ℤ◌, ◌+ℤ◌, ◌*ℤ◌, ◌≤ℤ◌}
 use Rattle.std.proofs.lemmas.Int.{ints}
 use lib.IntN.{*ℤ_comm}
-use Rattle.sat_model.proofs.ProductLemmas.{distrib_less, mul_assoc, square_of_amount}
-use Rattle.sat_model.specs.Angles.{unit}
-use Rattle.sat_model.specs.Taylor.{factorial, power, term, taylor_sum, taylor_den, odd_to_15, odd_to_17, even_to_16, even_to_18, AtLeast, AtMost, BetweenSums, SineAt, CosineAt}
+use Rattle.grid_model.proofs.ProductLemmas.{distrib_less, mul_assoc, square_of_amount}
+use Rattle.grid_model.specs.Angles.{unit}
+use Rattle.grid_model.specs.Taylor.{factorial, power, term, taylor_sum, taylor_den, odd_to_15, odd_to_17, even_to_16, even_to_18, AtLeast, AtMost, BetweenSums, SineAt, CosineAt}
 use Rattle.interval_trig.specs.NestedSums.{nested_num, nested_den, sine_15, sine_17, cosine_16, cosine_18, NestedAtLeast, NestedAtMost, NestedBetween, NestedSine, NestedCosine}
 
 -- the degrees rise by two, and the denominators of the nested sums are those of the terms

@@ -2,9 +2,9 @@
 use Rattle.std.proofs.Common.{◌≡◌, ℕ, zero, suc, ◌+◌, ◌*◌, arith, sym, ap, ◌∙◌, List, [], ◌∷◌}
 use Rattle.std.specs.Prelude.{ℤ, pos, negsuc, neg_ℤ, ◌-ℤ◌, ◌+ℤ◌, ◌*ℤ◌}
 use Rattle.std.proofs.lemmas.Int.{ints}
-use Rattle.sat_model.proofs.ProductLemmas.{distrib, add_mul, mul_neg, mul_assoc}
-use Rattle.sat_model.specs.Angles.{unit}
-use Rattle.sat_model.specs.Sizes.{IsWithin}
+use Rattle.grid_model.proofs.ProductLemmas.{distrib, add_mul, mul_neg, mul_assoc}
+use Rattle.grid_model.specs.Angles.{unit}
+use Rattle.grid_model.specs.Sizes.{IsWithin}
 use Rattle.interval_trig.specs.NestedSums.{nested_num, nested_den}
 use lib.IntN.{*ℤ_comm}
 use Rattle.std.specs.Prelude.{nat_abs}

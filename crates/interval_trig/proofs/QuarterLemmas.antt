@@ -1,13 +1,13 @@
 -- The number of a quarter modulo 4, and the rests of near angles.
-use Rattle.sat_model.specs.Sines.{modulo_4}
+use Rattle.grid_model.specs.Sines.{modulo_4}
 use Rattle.std.proofs.Common.{◌≡◌, ℕ, zero, suc, ◌+◌, ◌*◌, ◌/◌, ◌%◌, ◌≤◌, ◌<◌, arith, sym, refl, ap, ◌∙◌, subst, lit≤, ◌⊎◌, inl, inr}
 use Rattle.std.specs.Prelude.{ℤ, pos, nat_abs, ◌-ℤ◌, ◌+ℤ◌, ◌*ℤ◌, ◌≤ℤ◌, ◌<ℤ◌}
 use Rattle.std.proofs.lemmas.Int.{ints, int_rem_euclid_is, by_lt_z}
-use Rattle.sat_model.proofs.RoundingLemmas.{floor_is}
-use Rattle.sat_model.specs.Angles.{unit, quarter, quarter_turn, IsRest}
-use Rattle.sat_model.specs.Intervals.{Close}
-use Rattle.sat_model.specs.Rounding.{IsFloor}
-use Rattle.sat_model.specs.Sizes.{IsWithin}
+use Rattle.grid_model.proofs.RoundingLemmas.{floor_is}
+use Rattle.grid_model.specs.Angles.{unit, quarter, quarter_turn, IsRest}
+use Rattle.grid_model.specs.Intervals.{Close}
+use Rattle.grid_model.specs.Rounding.{IsFloor}
+use Rattle.grid_model.specs.Sizes.{IsWithin}
 use Rattle.interval_trig.specs.NestedSums.{greatest_rest}
 use Rattle.interval_trig.proofs.WholeSums.{seam}
 

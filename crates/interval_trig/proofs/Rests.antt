@@ -2,12 +2,12 @@
 use Rattle.std.proofs.Common.{◌≡◌, ℕ, ◌*◌, arith, sym, ap, ◌∙◌, subst}
 use Rattle.std.specs.Prelude.{ℤ, pos, neg_ℤ, ◌-ℤ◌, ◌+ℤ◌, ◌*ℤ◌}
 use Rattle.std.proofs.lemmas.Int.{ints}
-use Rattle.sat_model.proofs.RoundingLemmas.{floor_is}
-use Rattle.sat_model.specs.Angles.{quarter, quarter_turn, IsRest}
-use Rattle.sat_model.specs.Rounding.{IsFloor}
-use Rattle.sat_model.specs.Sines.{by_quarter, modulo_4, Sine, Cosine}
-use Rattle.sat_model.specs.Sizes.{IsWithin}
-use Rattle.sat_model.specs.Taylor.{SineAt, CosineAt}
+use Rattle.grid_model.proofs.RoundingLemmas.{floor_is}
+use Rattle.grid_model.specs.Angles.{quarter, quarter_turn, IsRest}
+use Rattle.grid_model.specs.Rounding.{IsFloor}
+use Rattle.grid_model.specs.Sines.{by_quarter, modulo_4, Sine, Cosine}
+use Rattle.grid_model.specs.Sizes.{IsWithin}
+use Rattle.grid_model.specs.Taylor.{SineAt, CosineAt}
 
 pub left_within : (x k : ℤ) → k ≡ quarter x → IsWithin 78539816339744830962 ((pos 10000 *ℤ x) -ℤ (k *ℤ pos quarter_turn))
 left_within x k e =

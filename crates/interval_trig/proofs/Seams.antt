@@ -1,10 +1,10 @@
 -- The whole sums on both sides of a seam of two quarters.
-use Rattle.sat_model.proofs.IntervalLemmas.{both_neg, neg_left}
+use Rattle.grid_model.proofs.IntervalLemmas.{both_neg, neg_left}
 use Rattle.std.proofs.Common.{ℕ, zero, suc, ◌+◌, ◌≤◌, arith}
 use Rattle.std.specs.Prelude.{ℤ, pos, neg_ℤ, nat_abs, ◌-ℤ◌, ◌+ℤ◌}
 use Rattle.std.proofs.lemmas.Int.{ints}
-use Rattle.sat_model.specs.Intervals.{Close}
-use Rattle.sat_model.specs.Sizes.{IsWithin}
+use Rattle.grid_model.specs.Intervals.{Close}
+use Rattle.grid_model.specs.Sizes.{IsWithin}
 use Rattle.interval_trig.specs.NestedSums.{greatest_rest}
 use Rattle.interval_trig.proofs.WholeSums.{sine_whole, cosine_whole, seam, seam_below, seam_above}
 use Rattle.interval_trig.proofs.QuarterLemmas.{next}

@@ -1,15 +1,15 @@
 -- The whole sums at rests of either sign: values are near them, and they move no faster than the rest.
-use Rattle.sat_model.proofs.ProductLemmas.{neg_within}
-use Rattle.sat_model.proofs.IntervalLemmas.{neg_right, both_neg}
+use Rattle.grid_model.proofs.ProductLemmas.{neg_within}
+use Rattle.grid_model.proofs.IntervalLemmas.{neg_right, both_neg}
 use Rattle.std.proofs.Common.{ℕ, zero, suc, ◌+◌, ◌≤◌, ◌<◌, arith, ⊎_elim}
 use Rattle.std.specs.Prelude.{ℤ, pos, negsuc, neg_ℤ, ◌-ℤ◌, ◌+ℤ◌, ◌≤ℤ◌}
 use Rattle.std.proofs.lemmas.Int.{ints, by_lt_z}
 use Rattle.std.proofs.lemmas.Bool.{cases_lt}
-use Rattle.sat_model.specs.Angles.{unit}
-use Rattle.sat_model.specs.Intervals.{Close}
-use Rattle.sat_model.specs.Sines.{by_quarter}
-use Rattle.sat_model.specs.Sizes.{IsWithin}
-use Rattle.sat_model.specs.Taylor.{SineAt, CosineAt}
+use Rattle.grid_model.specs.Angles.{unit}
+use Rattle.grid_model.specs.Intervals.{Close}
+use Rattle.grid_model.specs.Sines.{by_quarter}
+use Rattle.grid_model.specs.Sizes.{IsWithin}
+use Rattle.grid_model.specs.Taylor.{SineAt, CosineAt}
 use Rattle.interval_trig.specs.NestedSums.{greatest_rest}
 use Rattle.interval_trig.proofs.Symmetry.{flip, cosine_even}
 use Rattle.interval_trig.proofs.WholeSums.{sine_whole, cosine_whole, sine_rises, cosine_falls, sine_small, cosine_small}

@@ -2,12 +2,12 @@
 use Rattle.std.proofs.Common.{ℕ, ◌+◌, ◌≤◌, arith, inl}
 use Rattle.std.specs.Prelude.{ℤ, pos, ◌+ℤ◌, ◌-ℤ◌, ◌≤ℤ◌}
 use Rattle.std.proofs.lemmas.Int.{ints}
-use Rattle.sat_model.specs.Angles.{unit}
-use Rattle.sat_model.specs.Sizes.{IsWithin}
-use Rattle.sat_model.specs.Intervals.{Between, Close, Ends}
-use Rattle.sat_model.specs.Sines.{Sine, Cosine}
-use Rattle.sat_model.specs.Taylor.{SineAt, CosineAt}
-use Rattle.sat_model.proofs.IntervalLemmas.{low_member}
+use Rattle.grid_model.specs.Angles.{unit}
+use Rattle.grid_model.specs.Sizes.{IsWithin}
+use Rattle.grid_model.specs.Intervals.{Between, Close, Ends}
+use Rattle.grid_model.specs.Sines.{Sine, Cosine}
+use Rattle.grid_model.specs.Taylor.{SineAt, CosineAt}
+use Rattle.grid_model.proofs.IntervalLemmas.{low_member}
 use Rattle.interval_trig.proofs.Existence.{sine_exists}
 use Rattle.interval_trig.proofs.Smoothness.{sine_smooth, cosine_smooth}
 

@@ -1,12 +1,12 @@
 -- The values at near angles are near, and no value is much more than one.
-use Rattle.sat_model.proofs.IntervalLemmas.{wider, chain, flipped}
+use Rattle.grid_model.proofs.IntervalLemmas.{wider, chain, flipped}
 use Rattle.std.proofs.Common.{◌≡◌, ℕ, ◌+◌, ◌≤◌, arith, sym, ap, ◌∙◌, subst, ⊎_elim}
 use Rattle.std.specs.Prelude.{ℤ, pos, nat_abs, ◌-ℤ◌, ◌+ℤ◌, ◌≤ℤ◌}
 use Rattle.std.proofs.lemmas.Int.{ints, by_lt_z}
-use Rattle.sat_model.specs.Angles.{unit, quarter, IsRest}
-use Rattle.sat_model.specs.Intervals.{Close, Between}
-use Rattle.sat_model.specs.Sines.{by_quarter, Sine, Cosine, modulo_4}
-use Rattle.sat_model.specs.Sizes.{IsWithin}
+use Rattle.grid_model.specs.Angles.{unit, quarter, IsRest}
+use Rattle.grid_model.specs.Intervals.{Close, Between}
+use Rattle.grid_model.specs.Sines.{by_quarter, Sine, Cosine, modulo_4}
+use Rattle.grid_model.specs.Sizes.{IsWithin}
 use Rattle.interval_trig.proofs.WholeSums.{seam}
 use Rattle.interval_trig.proofs.QuarterLemmas.{next, turn_next, quarter_next, rest_small, rests_in_quarter, rests_at_seam}
 use Rattle.interval_trig.proofs.SignedSums.{whole_by, value_near_whole, inside, whole_small}

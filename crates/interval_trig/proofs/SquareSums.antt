@@ -4,8 +4,8 @@ use Rattle.std.specs.Prelude.{ℤ, pos, ◌+ℤ◌, ◌*ℤ◌}
 use Rattle.std.proofs.lemmas.Int.{ints}
 use Rattle.std.proofs.lemmas.Nat.{mul-le}
 use Rattle.std.proofs.Math.Nat.{mul-le-mul_left, le_of_mul-le-mul_left}
-use Rattle.sat_model.specs.Angles.{unit}
-use Rattle.sat_model.specs.Sizes.{IsWithin}
+use Rattle.grid_model.specs.Angles.{unit}
+use Rattle.grid_model.specs.Sizes.{IsWithin}
 use Rattle.interval_trig.specs.NestedSums.{greatest_rest, plain_num, nested_den, sine_15, cosine_16}
 use Rattle.interval_trig.proofs.HornerSteps.{below_quotient, nested_is_plain}
 use Rattle.interval_trig.proofs.PointValues.{square_small}

@@ -4,10 +4,10 @@ use Rattle.std.specs.Prelude.{ℤ, pos, ◌-ℤ◌, ◌+ℤ◌, ◌*ℤ◌, ◌�
 use Rattle.std.proofs.lemmas.Int.{ints}
 use Rattle.std.proofs.lemmas.Nat.{mul-le, div-add-mod'}
 use Rattle.std.proofs.Math.Nat.{mul-lt-mul_of_pos_left, mod-lt, mul-le-mul_right, mul-le-mul_left, le_trans}
-use Rattle.sat_model.proofs.ProductLemmas.{mul_lt_back, add_mul, mul_le_back}
-use Rattle.sat_model.specs.Angles.{unit}
-use Rattle.sat_model.specs.Intervals.{Close}
-use Rattle.sat_model.specs.Taylor.{SineAt, CosineAt}
+use Rattle.grid_model.proofs.ProductLemmas.{mul_lt_back, add_mul, mul_le_back}
+use Rattle.grid_model.specs.Angles.{unit}
+use Rattle.grid_model.specs.Intervals.{Close}
+use Rattle.grid_model.specs.Taylor.{SineAt, CosineAt}
 use Rattle.interval_trig.specs.NestedSums.{greatest_rest, NestedSine, NestedCosine, plain_num, nested_num, nested_den, sine_15, sine_17, cosine_16, cosine_18, NestedBetween, NestedAtLeast, NestedAtMost}
 use Rattle.interval_trig.proofs.HornerSteps.{below_quotient, plain_le_den, AllPositive, small_step, nested_is_plain}
 use Rattle.interval_trig.proofs.PointValues.{square_small}

@@ -2,8 +2,8 @@
 use Rattle.std.proofs.Common.{◌≡◌, ℕ, zero, suc, ◌*◌, arith, sym, refl, ap, ◌∙◌, subst, ⊎_elim, inl, inr}
 use Rattle.std.specs.Prelude.{ℤ, pos, negsuc, neg_ℤ, nat_abs, ◌-ℤ◌, ◌+ℤ◌, ◌*ℤ◌, ◌≤ℤ◌}
 use Rattle.std.proofs.lemmas.Int.{ints}
-use Rattle.sat_model.proofs.ProductLemmas.{neg_mul}
-use Rattle.sat_model.specs.Taylor.{SineAt, CosineAt}
+use Rattle.grid_model.proofs.ProductLemmas.{neg_mul}
+use Rattle.grid_model.specs.Taylor.{SineAt, CosineAt}
 use Rattle.interval_trig.specs.NestedSums.{NestedSine, NestedCosine, NestedBetween, NestedAtLeast, NestedAtMost, nested_num, nested_den, sine_15, sine_17}
 use Rattle.interval_trig.proofs.NestedSums.{sine_in, sine_out, cosine_in, cosine_out}
 

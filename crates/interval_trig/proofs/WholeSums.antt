@@ -2,7 +2,7 @@
 use Rattle.std.proofs.Common.{◌≡◌, ℕ, ◌+◌, ◌-◌, ◌*◌, ◌^◌, ◌/◌, ◌≤◌, ◌<◌, arith, refl, ap, subst, lit≤, [], ◌∷◌}
 use Rattle.std.proofs.lemmas.Nat.{mul-le}
 use Rattle.std.proofs.Math.Nat.{mul-le-mul_right, mul-le-mul_left, le_of_mul-le-mul_left, le_trans, add-mul-div_right}
-use Rattle.sat_model.specs.Angles.{unit}
+use Rattle.grid_model.specs.Angles.{unit}
 use Rattle.interval_trig.specs.NestedSums.{greatest_rest, plain_num, nested_den, sine_15, cosine_16}
 use Rattle.interval_trig.proofs.HornerSteps.{div_mono}
 use Rattle.interval_trig.proofs.Monotone.{Falls, falls_all, rises, slope_by}

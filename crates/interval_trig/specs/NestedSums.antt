@@ -1,6 +1,6 @@
 -- The Taylor sums in nested form, as the code computes them.
 use Rattle.std.specs.Prelude.{ℕ, ◌-◌, ◌*◌, ◌^◌, ◌≤◌, List, [], ◌∷◌, ◌⊎◌, ℤ, pos, ◌+ℤ◌, ◌-ℤ◌, ◌*ℤ◌, ◌≤ℤ◌, nat_abs}
-use Rattle.sat_model.specs.Angles.{unit}
+use Rattle.grid_model.specs.Angles.{unit}
 
 -- a little over half a quarter turn: no rest is more in amount
 abbrev pub greatest_rest : ℕ

@@ -1,9 +1,9 @@
 //! A law on sine and cosine together.
 
 ghost use Rattle.std.specs.Prelude.{◌*◌, ℤ};
-ghost use Rattle.sat_model.specs.Sizes.{IsWithin};
-ghost use Rattle.sat_model.specs.Angles.{unit};
-ghost use Rattle.sat_model.specs.Sines.{Sine, Cosine, NearCircle};
+ghost use Rattle.grid_model.specs.Sizes.{IsWithin};
+ghost use Rattle.grid_model.specs.Angles.{unit};
+ghost use Rattle.grid_model.specs.Sines.{Sine, Cosine, NearCircle};
 
 /// The law: `s^2 + c^2` is within 16 units of one, for every value `s` of the sine and `c` of the
 /// cosine of an angle within 64 rad. The call does nothing.

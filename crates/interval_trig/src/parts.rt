@@ -1,7 +1,7 @@
 //! The Taylor sums in nested form (Horner's scheme), in whole numbers of 10^-18.
 
 ghost use Rattle.std.specs.Prelude.{ℕ, ◌+◌, ◌-◌, ◌*◌, ◌^◌, ◌≤◌};
-ghost use Rattle.sat_model.specs.Angles.{unit};
+ghost use Rattle.grid_model.specs.Angles.{unit};
 ghost use Rattle.interval_trig.specs.NestedSums.{greatest_rest, Holds, HoldsSquare, plain_num, nested_den, sine_15, cosine_16};
 
 /// One, in units of 10^-18.

@@ -1,10 +1,10 @@
 //! A value of the sine and of the cosine at one angle.
 
 ghost use Rattle.std.specs.Prelude.{◌*◌, ◌<◌, ◌≤◌, pos};
-ghost use Rattle.sat_model.specs.Sizes.{IsWithin};
-ghost use Rattle.sat_model.specs.Angles.{unit};
-ghost use Rattle.sat_model.specs.Taylor.{SineAt, CosineAt};
-ghost use Rattle.sat_model.specs.Sines.{by_quarter, Sine, Cosine};
+ghost use Rattle.grid_model.specs.Sizes.{IsWithin};
+ghost use Rattle.grid_model.specs.Angles.{unit};
+ghost use Rattle.grid_model.specs.Taylor.{SineAt, CosineAt};
+ghost use Rattle.grid_model.specs.Sines.{by_quarter, Sine, Cosine};
 ghost use Rattle.interval_trig.specs.NestedSums.{greatest_rest};
 
 use crate::parts::{FINE, cosine_part, sine_part, square_of};

@@ -1,10 +1,10 @@
 //! The quarter of a turn that is nearest to an angle, and what is left.
 
 ghost use Rattle.std.specs.Prelude.{◌≡◌, ◌*◌, ◌<◌, ℤ, pos, ◌-ℤ◌, ◌*ℤ◌};
-ghost use Rattle.sat_model.specs.Sizes.{IsWithin};
-ghost use Rattle.sat_model.specs.Angles.{unit, quarter, quarter_turn};
-ghost use Rattle.sat_model.specs.Rounding.{IsFloor};
-ghost use Rattle.sat_model.specs.Sines.{modulo_4};
+ghost use Rattle.grid_model.specs.Sizes.{IsWithin};
+ghost use Rattle.grid_model.specs.Angles.{unit, quarter, quarter_turn};
+ghost use Rattle.grid_model.specs.Rounding.{IsFloor};
+ghost use Rattle.grid_model.specs.Sines.{modulo_4};
 ghost use Rattle.interval_trig.specs.NestedSums.{greatest_rest};
 
 /// In units of 10^-20 rad.

@@ -2,10 +2,10 @@
 //! half width, since neither function moves faster than its angle.
 
 ghost use Rattle.std.specs.Prelude.{◌+◌, ◌*◌, ℤ, pos, ◌≤ℤ◌, ◌+ℤ◌, ◌-ℤ◌};
-ghost use Rattle.sat_model.specs.Sizes.{IsWithin};
-ghost use Rattle.sat_model.specs.Intervals.{Between};
-ghost use Rattle.sat_model.specs.Angles.{unit};
-ghost use Rattle.sat_model.specs.Sines.{Sine, Cosine};
+ghost use Rattle.grid_model.specs.Sizes.{IsWithin};
+ghost use Rattle.grid_model.specs.Intervals.{Between};
+ghost use Rattle.grid_model.specs.Angles.{unit};
+ghost use Rattle.grid_model.specs.Sines.{Sine, Cosine};
 
 use crate::points::{cosine_point, sine_point};
 use fix_interval::{Exact, UNIT};

@@ -3,10 +3,10 @@ use Rattle.std.proofs.Common.{◌≡◌, ℕ, zero, suc, ◌+◌, ◌*◌, arith
 use Rattle.std.specs.Prelude.{ℤ, pos, neg_ℤ, nat_abs, ◌+ℤ◌, ◌-ℤ◌, ◌*ℤ◌, ◌≤ℤ◌}
 use Rattle.std.proofs.lemmas.Int.{ints, by_lt_z}
 use lib.IntN.{*ℤ_comm}
-use Rattle.sat_model.specs.Sizes.{IsWithin}
-use Rattle.sat_model.specs.Angles.{unit}
-use Rattle.sat_model.specs.Kepler.{Kepler}
-use Rattle.sat_model.proofs.ProductLemmas.{mul_mono, neg_mul}
+use Rattle.grid_model.specs.Sizes.{IsWithin}
+use Rattle.grid_model.specs.Angles.{unit}
+use Rattle.gnss_model.specs.Kepler.{Kepler}
+use Rattle.grid_model.proofs.ProductLemmas.{mul_mono, neg_mul}
 use Rattle.interval_trig.proofs.Existence.{sine_exists}
 use Rattle.interval_trig.proofs.Smoothness.{sine_value_small}
 

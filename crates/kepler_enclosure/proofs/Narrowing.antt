@@ -4,15 +4,15 @@ use Rattle.std.specs.Prelude.{ℤ, pos, neg_ℤ, nat_abs, ◌-ℤ◌, ◌+ℤ◌
 use Rattle.std.specs.Int.{int_div_euclid}
 use Rattle.std.proofs.lemmas.Int.{ints}
 use lib.IntN.{*ℤ_comm}
-use Rattle.sat_model.specs.Sizes.{IsWithin}
-use Rattle.sat_model.specs.Intervals.{Between, Ends}
-use Rattle.sat_model.specs.Rounding.{Near, IsFloor, IsTightRound}
-use Rattle.sat_model.specs.Products.{least_product, greatest_product}
-use Rattle.sat_model.specs.Angles.{unit}
-use Rattle.sat_model.specs.Kepler.{Kepler}
-use Rattle.sat_model.proofs.ProductLemmas.{mul_neg, mul_mono}
-use Rattle.sat_model.proofs.RoundingLemmas.{floor_is, floor_near}
-use Rattle.sat_model.proofs.EndsLemmas.{product_ends}
+use Rattle.grid_model.specs.Sizes.{IsWithin}
+use Rattle.grid_model.specs.Intervals.{Between, Ends}
+use Rattle.grid_model.specs.Rounding.{Near, IsFloor, IsTightRound}
+use Rattle.grid_model.specs.Products.{least_product, greatest_product}
+use Rattle.grid_model.specs.Angles.{unit}
+use Rattle.gnss_model.specs.Kepler.{Kepler}
+use Rattle.grid_model.proofs.ProductLemmas.{mul_neg, mul_mono}
+use Rattle.grid_model.proofs.RoundingLemmas.{floor_is, floor_near}
+use Rattle.grid_model.proofs.EndsLemmas.{product_ends}
 use Rattle.interval_trig.proofs.Smoothness.{sine_value_small}
 
 -- the greatest eccentricity, a fifth

@@ -1,12 +1,12 @@
 //! Eccentric anomalies, narrowed round by round from an interval that holds them all.
 
 ghost use Rattle.std.specs.Prelude.{◌≡◌, ◌+◌, ◌*◌, ◌^◌, ℤ, pos, ◌≤ℤ◌, ◌+ℤ◌, ◌-ℤ◌, ◌*ℤ◌};
-ghost use Rattle.sat_model.specs.Sizes.{IsWithin};
-ghost use Rattle.sat_model.specs.Intervals.{Between};
-ghost use Rattle.sat_model.specs.Rounding.{Near};
-ghost use Rattle.sat_model.specs.Angles.{unit};
-ghost use Rattle.sat_model.specs.Sines.{Sine};
-ghost use Rattle.sat_model.specs.Kepler.{Kepler};
+ghost use Rattle.grid_model.specs.Sizes.{IsWithin};
+ghost use Rattle.grid_model.specs.Intervals.{Between};
+ghost use Rattle.grid_model.specs.Rounding.{Near};
+ghost use Rattle.grid_model.specs.Angles.{unit};
+ghost use Rattle.grid_model.specs.Sines.{Sine};
+ghost use Rattle.gnss_model.specs.Kepler.{Kepler};
 
 use fix_interval::{Exact, UNIT};
 use interval_trig::sine;

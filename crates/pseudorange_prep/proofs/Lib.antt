@@ -1,1 +1,1 @@
-mod WidthLemmas
+pub mod WidthLemmas

@@ -5,7 +5,7 @@
 mod ranges;
 mod times;
 
-pub use ranges::{dual, single};
+pub use ranges::{combination, dual, dual_of, single};
 pub use times::{corrected, sent_at};
 
 #[cfg(test)]

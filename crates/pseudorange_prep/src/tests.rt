@@ -2,7 +2,7 @@ ghost use Rattle.std.specs.Prelude.{◌≡◌};
 
 use super::*;
 use fix_interval::Exact;
-use sat_model::Wide;
+use grid_model::Wide;
 use std::test::Fail;
 
 #[test]

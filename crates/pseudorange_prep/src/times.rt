@@ -3,11 +3,11 @@
 ghost use Rattle.std.specs.Prelude.{ℕ, ◌+◌, ◌*◌, ◌^◌, ◌≤◌, ℤ, pos, ◌-ℤ◌, ◌*ℤ◌, ◌≤ℤ◌, ◌<ℤ◌};
 ghost use Rattle.fix_interval.specs.Factors.{Holds, HasEnds};
 ghost use Rattle.pseudorange_prep.specs.Ranges.{IsNarrow};
-ghost use Rattle.sat_model.specs.EarthModel.{light_speed};
-ghost use Rattle.sat_model.specs.Pseudorange.{IsSent, IsCorrected};
-ghost use Rattle.sat_model.specs.RecordBounds.{time_bound};
-ghost use Rattle.sat_model.specs.Rounding.{Near};
-ghost use Rattle.sat_model.specs.Sizes.{IsWithin};
+ghost use Rattle.gnss_model.specs.EarthModel.{light_speed};
+ghost use Rattle.gnss_model.specs.Pseudorange.{IsSent, IsCorrected};
+ghost use Rattle.gnss_model.specs.RecordBounds.{time_bound};
+ghost use Rattle.grid_model.specs.Rounding.{Near};
+ghost use Rattle.grid_model.specs.Sizes.{IsWithin};
 
 use fix_interval::Exact;
 

@@ -2,26 +2,29 @@
 use Rattle.std.proofs.Common.{◌≡◌, ◌^◌, arith, refl}
 use Rattle.std.specs.Prelude.{Bool, ℤ, pos, neg_ℤ, ◌+ℤ◌, ◌-ℤ◌, ◌*ℤ◌}
 use Rattle.std.proofs.lemmas.Int.{ints}
-use Rattle.sat_model.specs.EarthModel.{relativity, rate_scale}
-use Rattle.sat_model.specs.ClockChain.{ClockFields, AreClockFields, ClockChain, less_delay}
-use Rattle.sat_model.specs.MeanMotion.{MeanMotion}
-use Rattle.sat_model.specs.declared.elements.Elements.{Elements}
-use Rattle.sat_model.proofs.IntervalLemmas.{low_member}
+use Rattle.gnss_model.specs.EarthModel.{rate_scale}
+use Rattle.gnss_model.specs.ClockChain.{ClockFields, AreClockFields, ClockChain, ClockChainOf, less_delay}
+use Rattle.gnss_model.specs.MeanMotion.{MeanMotion, MeanMotionOf}
+use Rattle.gnss_model.specs.Systems.{relativity_of}
+use Rattle.gnss_model.specs.declared.elements.Elements.{Elements}
+use Rattle.gnss_model.specs.declared.systems.System.{System}
+use Rattle.gnss_model.specs.declared.systems.System.TheVariants.{Gps}
+use Rattle.grid_model.proofs.IntervalLemmas.{low_member}
 use Rattle.fix_interval.proofs.NearLemmas.{near_exists}
 use Rattle.interval_trig.proofs.Existence.{sine_exists}
 use Rattle.kepler_enclosure.proofs.Existence.{kepler_exists}
 use Rattle.sat_clock.proofs.MotionLemmas.{root_has_motion}
 
-motion_exists : (el : Elements) → (n : ℤ) × MeanMotion el n
-motion_exists el =
-    let n = root_has_motion el.root_a.lo (omega (arith, ints, el.root_a_within.from)) in
+motion_exists : (y : System) (el : Elements) → (n : ℤ) × MeanMotionOf y el n
+motion_exists y el =
+    let n = root_has_motion y el.root_a.lo (omega (arith, ints, el.root_a_within.from)) in
     (pos n.0 +ℤ el.dn.lo, record { root_a = el.root_a.lo; dn = el.dn.lo; root_a_is = low_member _ _ el.root_a.ordered; dn_is = low_member _ _ el.dn.ordered; n0 = n.0; n0_is = n.1; n_is = refl })
 
-pub clock_exists : (el : Elements) (single : Bool) (tsv : ℤ)
-    → (n : ℤ) × (motion : MeanMotion el n) × (dt : ℤ) × (t : ℤ) × (clock : ClockChain el single n tsv dt t) × (clock.f.root_a ≡ motion.root_a)
+pub system_clock_exists : (y : System) (el : Elements) (single : Bool) (tsv : ℤ)
+    → (n : ℤ) × (motion : MeanMotionOf y el n) × (dt : ℤ) × (t : ℤ) × (clock : ClockChainOf y el single n tsv dt t) × (clock.f.root_a ≡ motion.root_a)
 unfolding motion_exists
-clock_exists el single tsv =
-    let motion = motion_exists el in
+system_clock_exists y el single tsv =
+    let motion = motion_exists y el in
     let n = motion.0 in
     let f : ClockFields = record { af0 = el.af0.lo; af1 = el.af1.lo; af2 = el.af2.lo; tgd = el.tgd.lo; root_a = el.root_a.lo; e = el.e.lo; m0 = el.m0.lo; toe_week = el.toe_week.lo } in
     let fields : AreClockFields el f = record {
@@ -41,7 +44,7 @@ clock_exists el single tsv =
     let mean = near_exists ((f.m0 *ℤ pos rate_scale) +ℤ (n *ℤ (about.0 -ℤ (el.week_start +ℤ f.toe_week)))) (pos rate_scale) (record { lt = tt }) in
     let eccentric = kepler_exists mean.0 f.e el.e_within.from in
     let sine = sine_exists eccentric.0 in
-    let relative = near_exists (neg_ℤ (((pos relativity *ℤ f.e) *ℤ f.root_a) *ℤ sine.0)) (pos (10 ^ 47)) (record { lt = tt }) in
+    let relative = near_exists (neg_ℤ (((pos (relativity_of y) *ℤ f.e) *ℤ f.root_a) *ℤ sine.0)) (pos (10 ^ 47)) (record { lt = tt }) in
     let dt = base +ℤ relative.0 in
     let t = near_exists ((tsv *ℤ pos (10 ^ 4)) -ℤ dt) (pos (10 ^ 4)) (record { lt = tt }) in (
       n,
@@ -72,3 +75,7 @@ clock_exists el single tsv =
       },
       refl,
     )
+
+pub clock_exists : (el : Elements) (single : Bool) (tsv : ℤ)
+    → (n : ℤ) × (motion : MeanMotion el n) × (dt : ℤ) × (t : ℤ) × (clock : ClockChain el single n tsv dt t) × (clock.f.root_a ≡ motion.root_a)
+clock_exists el single tsv = system_clock_exists Gps el single tsv

@@ -2,13 +2,13 @@
 use Rattle.std.proofs.Common.{◌≡◌, ℕ, ◌+◌, ◌*◌, ◌≤◌, arith}
 use Rattle.std.specs.Prelude.{ℤ, pos, neg_ℤ, ◌+ℤ◌, ◌-ℤ◌, ◌*ℤ◌, ◌≤ℤ◌}
 use Rattle.std.proofs.lemmas.Int.{ints}
-use Rattle.sat_model.specs.Angles.{unit}
-use Rattle.sat_model.specs.ClockChain.{IsEarlier}
-use Rattle.sat_model.specs.Intervals.{Between, Ends}
-use Rattle.sat_model.specs.Sizes.{IsWithin}
-use Rattle.sat_model.specs.RecordBounds.{IsField, LiesFrom}
-use Rattle.sat_model.specs.declared.elements.Elements.{Elements}
-use Rattle.sat_model.specs.declared.spans.Wide.{Wide}
+use Rattle.grid_model.specs.Angles.{unit}
+use Rattle.gnss_model.specs.ClockChain.{IsEarlier}
+use Rattle.grid_model.specs.Intervals.{Between, Ends}
+use Rattle.grid_model.specs.Sizes.{IsWithin}
+use Rattle.gnss_model.specs.RecordBounds.{IsField, LiesFrom}
+use Rattle.gnss_model.specs.declared.elements.Elements.{Elements}
+use Rattle.grid_model.specs.declared.spans.Wide.{Wide}
 use Rattle.sat_clock.specs.ClockSizes.{IsNearEphemeris, ephemeris_reach, since_size, sent_size, motion_size, motion_width, width}
 
 -- a field's numbers

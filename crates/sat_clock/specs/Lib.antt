@@ -1,1 +1,2 @@
 pub mod ClockSizes
+pub mod GravityRoots

@@ -1,15 +1,15 @@
 //! The clock's offset by its polynomial, and what a user of one frequency takes off.
 
 ghost use Rattle.std.specs.Prelude.{◌≡◌, ◌+◌, ℤ, ◌-ℤ◌};
-ghost use Rattle.sat_model.specs.ClockChain.{ClockFields, AreClockFields, IsAdvanced, less_delay};
-ghost use Rattle.sat_model.specs.Intervals.{Between, Ends};
-ghost use Rattle.sat_model.specs.RecordBounds.{IsValue};
-ghost use Rattle.sat_model.specs.Sizes.{IsWithin};
+ghost use Rattle.gnss_model.specs.ClockChain.{ClockFields, AreClockFields, IsAdvanced, less_delay};
+ghost use Rattle.grid_model.specs.Intervals.{Between, Ends};
+ghost use Rattle.gnss_model.specs.RecordBounds.{IsValue};
+ghost use Rattle.grid_model.specs.Sizes.{IsWithin};
 ghost use Rattle.sat_clock.specs.ClockSizes.{IsNearEphemeris, since_size, drift_size, offset_size, base_size, width};
 
 use crate::times::since_clock;
 use fix_interval::{Exact, advanced};
-use sat_model::Elements;
+use gnss_model::Elements;
 
 /// af1 + af2 (tsv - toc).
 fn drift(el: &Elements, since: Exact) -> Exact

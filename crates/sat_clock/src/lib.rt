@@ -14,6 +14,6 @@ mod relativity;
 mod tests;
 mod times;
 
-pub use clock::{Clock, correction};
-pub use existence::clock_exists;
-pub use motion::mean_motion;
+pub use clock::{Clock, correction, correction_of};
+pub use existence::{clock_exists, system_clock_exists};
+pub use motion::{mean_motion, motion_of};

@@ -1,12 +1,13 @@
 //! Records for the tests.
 
 ghost use Rattle.std.specs.Prelude.{◌≡◌, ◌^◌, pos, ◌-ℤ◌};
-ghost use Rattle.sat_model.specs.Sizes.{IsWithin};
+ghost use Rattle.grid_model.specs.Sizes.{IsWithin};
 
-use sat_model::{
+use gnss_model::{
     AGEING_BOUND, ANGLE_BOUND, DELAY_BOUND, DRIFT_BOUND, ECCENTRICITY_BOUND, Elements,
-    GREATEST_ROOT_A, LEAST_ROOT_A, OFFSET_BOUND, RATE_BOUND, Wide,
+    GREATEST_ROOT_A, LEAST_ROOT_A, OFFSET_BOUND, RATE_BOUND,
 };
+use grid_model::Wide;
 
 /// 2024-01-07 00:00:00, a Sunday, in ps.
 const WEEK_START: i128 = 1_388_620_800_000_000_000_000;

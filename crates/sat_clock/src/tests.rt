@@ -4,7 +4,7 @@ ghost use Rattle.sat_clock.specs.ClockSizes.{ephemeris_reach};
 use super::*;
 use crate::records::{circle, greatest, least, usual};
 use fix_interval::Exact;
-use sat_model::Elements;
+use gnss_model::Elements;
 use std::process::Abort;
 
 /// How far a signal may be sent from the ephemeris time, in ps.

@@ -1,14 +1,14 @@
 //! Times on a record's scale: from its clock time, from its ephemeris time, and by GPS time.
 
 ghost use Rattle.std.specs.Prelude.{ℕ, ◌+◌, ◌*◌, ◌^◌, ◌≤◌, ℤ, pos, ◌+ℤ◌, ◌-ℤ◌, ◌≤ℤ◌};
-ghost use Rattle.sat_model.specs.ClockChain.{IsEarlier};
-ghost use Rattle.sat_model.specs.Intervals.{Between, Ends};
-ghost use Rattle.sat_model.specs.RecordBounds.{IsValue};
-ghost use Rattle.sat_model.specs.Sizes.{IsWithin};
+ghost use Rattle.gnss_model.specs.ClockChain.{IsEarlier};
+ghost use Rattle.grid_model.specs.Intervals.{Between, Ends};
+ghost use Rattle.gnss_model.specs.RecordBounds.{IsValue};
+ghost use Rattle.grid_model.specs.Sizes.{IsWithin};
 ghost use Rattle.sat_clock.specs.ClockSizes.{IsNearEphemeris, ephemeris_reach, since_size, base_size, after_size, width};
 
 use fix_interval::Exact;
-use sat_model::Elements;
+use gnss_model::Elements;
 
 /// A ps in the unit of clock offsets, 10^-16 s.
 const PS: i128 = 10_000;

@@ -2,7 +2,7 @@ use Rattle.std.proofs.Common.{◌*◌, lit≤}
 use Rattle.std.specs.Prelude.{ℤ, pos, ◌≡◌, ◌+ℤ◌, ◌*ℤ◌}
 use Rattle.std.proofs.Common.{arith, subst}
 use Rattle.std.proofs.lemmas.Int.{ints}
-use Rattle.sat_model.proofs.EndsLemmas.{wider_ends}
+use Rattle.grid_model.proofs.EndsLemmas.{wider_ends}
 use Rattle.fix_interval.specs.Factors.{Holds}
 use Rattle.fix_interval.proofs.ProductEnds.{spread_by, amount_of, spread}
 use Rattle.broadcast_orbit.specs.OrbitSizes.{phi_amount, phi_width, twice_amount, twice_width}

@@ -1,7 +1,7 @@
 use Rattle.std.proofs.Common.{◌*◌, arith}
 use Rattle.std.proofs.lemmas.Int.{ints}
-use Rattle.sat_model.specs.Angles.{unit}
-use Rattle.sat_model.specs.Intervals.{Ends}
+use Rattle.grid_model.specs.Angles.{unit}
+use Rattle.grid_model.specs.Intervals.{Ends}
 use Rattle.broadcast_orbit.specs.OrbitSizes.{eccentric_width}
 use Rattle.broadcast_orbit.proofs.ellipse.eccentric_direction.Goals as goal
 

@@ -1,6 +1,6 @@
 use Rattle.std.proofs.Common.{lit≤, ◌^◌}
-use Rattle.sat_model.specs.RecordBounds.{angle_bound}
-use Rattle.sat_model.proofs.SpreadLemmas.{products_fit}
+use Rattle.gnss_model.specs.RecordBounds.{angle_bound}
+use Rattle.grid_model.proofs.SpreadLemmas.{products_fit}
 use Rattle.fix_interval.proofs.ProductEnds.{amount_of}
 use Rattle.broadcast_orbit.specs.OrbitSizes.{orbit_reach, motion_amount, motion_width, after_width}
 use Rattle.broadcast_orbit.proofs.Chains.{field_ends}

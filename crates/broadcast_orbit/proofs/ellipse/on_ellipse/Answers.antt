@@ -1,7 +1,7 @@
 use Rattle.std.proofs.Common.{lit≤}
 use Rattle.std.specs.Prelude.{pos}
-use Rattle.sat_model.specs.RecordBounds.{eccentricity_bound}
-use Rattle.sat_model.proofs.EndsLemmas.{wider_ends}
+use Rattle.gnss_model.specs.RecordBounds.{eccentricity_bound}
+use Rattle.grid_model.proofs.EndsLemmas.{wider_ends}
 use Rattle.broadcast_orbit.specs.OrbitSizes.{eccentricity_amount}
 use Rattle.broadcast_orbit.proofs.Chains.{range_ends, value_held}
 use Rattle.broadcast_orbit.proofs.ellipse.on_ellipse.Goals as goal

@@ -1,7 +1,7 @@
 use Rattle.std.proofs.Common.{◌*◌, arith, lit≤}
 use Rattle.std.specs.Prelude.{pos, ◌-ℤ◌, ◌*ℤ◌}
 use Rattle.std.proofs.lemmas.Int.{ints}
-use Rattle.sat_model.specs.Angles.{unit}
+use Rattle.grid_model.specs.Angles.{unit}
 use Rattle.fix_interval.proofs.ProductEnds.{amount_of, spread}
 use Rattle.broadcast_orbit.specs.OrbitSizes.{eccentricity_amount, value_amount, eccentric_value_width}
 use Rattle.broadcast_orbit.proofs.Chains.{less_ends, less_held, near_less}

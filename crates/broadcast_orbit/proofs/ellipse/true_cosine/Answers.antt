@@ -1,8 +1,8 @@
 use Rattle.std.proofs.Common.{◌*◌, ◌^◌, arith, lit≤}
 use Rattle.std.specs.Prelude.{pos, ◌-ℤ◌, ◌<ℤ◌}
 use Rattle.std.proofs.lemmas.Int.{ints}
-use Rattle.sat_model.specs.Angles.{unit}
-use Rattle.sat_model.proofs.EndsLemmas.{quotient_ends}
+use Rattle.grid_model.specs.Angles.{unit}
+use Rattle.grid_model.proofs.EndsLemmas.{quotient_ends}
 use Rattle.fix_interval.proofs.ProductEnds.{amount_of}
 use Rattle.broadcast_orbit.specs.OrbitSizes.{eccentricity_amount, value_amount, eccentric_value_width, ratio_amount, ratio_width, least_ratio}
 use Rattle.broadcast_orbit.proofs.Chains.{difference_has, difference_held, one_within}

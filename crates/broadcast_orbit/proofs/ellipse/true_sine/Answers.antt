@@ -1,13 +1,13 @@
 use Rattle.std.proofs.Common.{◌≡◌, ◌*◌, ◌^◌, arith, lit≤, subst, ◌+◌}
 use Rattle.std.specs.Prelude.{ℤ, pos, ◌*ℤ◌, ◌≤ℤ◌, ◌<ℤ◌}
 use Rattle.std.proofs.lemmas.Int.{ints}
-use Rattle.sat_model.specs.Angles.{unit}
-use Rattle.sat_model.specs.Intervals.{Ends}
-use Rattle.sat_model.specs.Rounding.{Near, IsTightRound}
-use Rattle.sat_model.specs.Products.{least_product, greatest_product}
-use Rattle.sat_model.specs.Sizes.{IsWithin}
-use Rattle.sat_model.proofs.EndsLemmas.{product_ends, quotient_ends, wider_ends}
-use Rattle.sat_model.proofs.SpreadLemmas.{products_fit}
+use Rattle.grid_model.specs.Angles.{unit}
+use Rattle.grid_model.specs.Intervals.{Ends}
+use Rattle.grid_model.specs.Rounding.{Near, IsTightRound}
+use Rattle.grid_model.specs.Products.{least_product, greatest_product}
+use Rattle.grid_model.specs.Sizes.{IsWithin}
+use Rattle.grid_model.proofs.EndsLemmas.{product_ends, quotient_ends, wider_ends}
+use Rattle.grid_model.proofs.SpreadLemmas.{products_fit}
 use Rattle.fix_interval.proofs.ProductEnds.{amount_of}
 use Rattle.broadcast_orbit.specs.OrbitSizes.{height_amount, height_width, value_amount, eccentric_value_width, ratio_amount, ratio_width, least_ratio, true_width}
 use Rattle.broadcast_orbit.proofs.ellipse.true_sine.Goals as goal

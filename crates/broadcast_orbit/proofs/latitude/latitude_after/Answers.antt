@@ -1,6 +1,6 @@
 use Rattle.std.proofs.Common.{◌*◌, ◌+◌, lit≤}
-use Rattle.sat_model.specs.Angles.{unit}
-use Rattle.sat_model.proofs.EndsLemmas.{wider_ends}
+use Rattle.grid_model.specs.Angles.{unit}
+use Rattle.grid_model.proofs.EndsLemmas.{wider_ends}
 use Rattle.broadcast_orbit.specs.OrbitSizes.{value_amount, phi_amount, phi_width, angle_swing_amount, angle_swing_width, swing_value_width, swing_sine_amount}
 use Rattle.broadcast_orbit.proofs.Chains.{wider_directions, direction_amount, direction_spread}
 use Rattle.broadcast_orbit.proofs.latitude.latitude_after.Goals as goal

@@ -1,6 +1,6 @@
 use Rattle.std.proofs.Common.{◌*◌, lit≤}
-use Rattle.sat_model.specs.Angles.{unit}
-use Rattle.sat_model.specs.RecordBounds.{angle_bound}
+use Rattle.grid_model.specs.Angles.{unit}
+use Rattle.gnss_model.specs.RecordBounds.{angle_bound}
 use Rattle.broadcast_orbit.specs.OrbitSizes.{value_amount, true_amount, true_width, perigee_width}
 use Rattle.broadcast_orbit.proofs.Chains.{field_ends, value_held, wider_directions, direction_amount, direction_spread}
 use Rattle.broadcast_orbit.proofs.latitude.latitude_before.Goals as goal

@@ -1,6 +1,6 @@
 use Rattle.std.proofs.Common.{◌*◌, lit≤}
-use Rattle.sat_model.specs.Angles.{unit}
-use Rattle.sat_model.specs.RecordBounds.{angle_swing_bound, radius_swing_bound}
+use Rattle.grid_model.specs.Angles.{unit}
+use Rattle.gnss_model.specs.RecordBounds.{angle_swing_bound, radius_swing_bound}
 use Rattle.fix_interval.proofs.ProductEnds.{amount_of, spread}
 use Rattle.broadcast_orbit.specs.OrbitSizes.{twice_amount, twice_width}
 use Rattle.broadcast_orbit.proofs.Chains.{field_ends}

@@ -1,6 +1,6 @@
 use Rattle.std.proofs.Common.{subst, sym}
 use Rattle.std.specs.Prelude.{ℤ}
-use Rattle.sat_model.proofs.IntervalLemmas.{low_member}
+use Rattle.grid_model.proofs.IntervalLemmas.{low_member}
 use Rattle.fix_interval.specs.Factors.{Holds}
 use Rattle.broadcast_orbit.proofs.ChainExists.{orbit_exists}
 use Rattle.broadcast_orbit.proofs.ChainDistance.{near_distance, near_sizes}

@@ -1,7 +1,7 @@
 use Rattle.std.proofs.Common.{◌^◌, lit≤}
-use Rattle.sat_model.specs.RecordBounds.{least_root_a, greatest_root_a}
-use Rattle.sat_model.proofs.EndsLemmas.{wider_ends, product_ends}
-use Rattle.sat_model.proofs.SpreadLemmas.{products_fit}
+use Rattle.gnss_model.specs.RecordBounds.{least_root_a, greatest_root_a}
+use Rattle.grid_model.proofs.EndsLemmas.{wider_ends, product_ends}
+use Rattle.grid_model.proofs.SpreadLemmas.{products_fit}
 use Rattle.std.specs.Prelude.{pos}
 use Rattle.broadcast_orbit.specs.OrbitSizes.{root_a_amount}
 use Rattle.broadcast_orbit.proofs.Chains.{range_ends, value_held}

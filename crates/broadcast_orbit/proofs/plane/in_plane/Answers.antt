@@ -1,5 +1,5 @@
 use Rattle.std.proofs.Common.{lit≤}
-use Rattle.sat_model.proofs.EndsLemmas.{wider_ends}
+use Rattle.grid_model.proofs.EndsLemmas.{wider_ends}
 use Rattle.fix_interval.proofs.ProductEnds.{spread_by, amount_of, spread}
 use Rattle.broadcast_orbit.specs.OrbitSizes.{radius_amount, radius_width, latitude_amount, latitude_width}
 use Rattle.broadcast_orbit.proofs.plane.in_plane.Goals as goal

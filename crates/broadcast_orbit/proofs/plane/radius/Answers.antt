@@ -1,7 +1,7 @@
 use Rattle.std.proofs.Common.{◌+◌, ◌*◌, arith, lit≤}
 use Rattle.std.specs.Prelude.{pos, ◌*ℤ◌}
 use Rattle.std.proofs.lemmas.Int.{ints}
-use Rattle.sat_model.specs.Angles.{unit}
+use Rattle.grid_model.specs.Angles.{unit}
 use Rattle.fix_interval.proofs.InsideLemmas.{held, inside_of, moved_inside}
 use Rattle.fix_interval.proofs.ProductEnds.{amount_of, spread}
 use Rattle.broadcast_orbit.specs.OrbitSizes.{axis_amount, axis_width, ratio_amount, ratio_width, radius_swing_amount, radius_swing_width}

@@ -1,8 +1,8 @@
 use Rattle.std.proofs.Common.{◌*◌, ◌^◌, arith, lit≤}
 use Rattle.std.specs.Prelude.{◌+ℤ◌}
 use Rattle.std.proofs.lemmas.Int.{ints}
-use Rattle.sat_model.specs.RecordBounds.{angle_bound, rate_bound}
-use Rattle.sat_model.proofs.SpreadLemmas.{products_fit}
+use Rattle.gnss_model.specs.RecordBounds.{angle_bound, rate_bound}
+use Rattle.grid_model.proofs.SpreadLemmas.{products_fit}
 use Rattle.fix_interval.proofs.ProductEnds.{amount_of}
 use Rattle.broadcast_orbit.specs.OrbitSizes.{orbit_reach, after_width, angle_swing_amount, angle_swing_width}
 use Rattle.broadcast_orbit.proofs.Chains.{field_ends, value_held, sum_has, sum_held}

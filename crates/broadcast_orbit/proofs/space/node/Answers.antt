@@ -1,10 +1,10 @@
 use Rattle.std.proofs.Common.{◌*◌, ◌^◌, arith, lit≤}
 use Rattle.std.specs.Prelude.{pos, ◌+ℤ◌, ◌-ℤ◌, ◌*ℤ◌}
 use Rattle.std.proofs.lemmas.Int.{ints}
-use Rattle.sat_model.specs.EarthModel.{earth_rate, rate_scale}
-use Rattle.sat_model.specs.RecordBounds.{angle_bound, rate_bound, week}
-use Rattle.sat_model.proofs.EndsLemmas.{product_ends}
-use Rattle.sat_model.proofs.SpreadLemmas.{products_fit}
+use Rattle.gnss_model.specs.EarthModel.{earth_rate, rate_scale}
+use Rattle.gnss_model.specs.RecordBounds.{angle_bound, rate_bound, week}
+use Rattle.grid_model.proofs.EndsLemmas.{product_ends}
+use Rattle.grid_model.proofs.SpreadLemmas.{products_fit}
 use Rattle.fix_interval.proofs.InsideLemmas.{held, inside_of, difference_inside}
 use Rattle.fix_interval.proofs.ProductEnds.{amount_of}
 use Rattle.broadcast_orbit.specs.OrbitSizes.{orbit_reach, after_width}

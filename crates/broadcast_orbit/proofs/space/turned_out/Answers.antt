@@ -1,8 +1,8 @@
 use Rattle.std.proofs.Common.{◌*◌, lit≤}
 use Rattle.std.specs.Prelude.{ℤ, pos, ◌+ℤ◌, ◌-ℤ◌, ◌*ℤ◌}
-use Rattle.sat_model.specs.Angles.{unit}
-use Rattle.sat_model.proofs.EndsLemmas.{wider_ends}
-use Rattle.sat_model.proofs.IntervalLemmas.{low_member, high_member}
+use Rattle.grid_model.specs.Angles.{unit}
+use Rattle.grid_model.proofs.EndsLemmas.{wider_ends}
+use Rattle.grid_model.proofs.IntervalLemmas.{low_member, high_member}
 use Rattle.fix_interval.specs.Factors.{Holds}
 use Rattle.fix_interval.proofs.InsideLemmas.{Inside, held, inside_of, mixed_sum, mixed_difference}
 use Rattle.fix_interval.proofs.ProductEnds.{spread_by, amount_of, spread}

@@ -4,7 +4,7 @@ use Rattle.std.proofs.Math.Dec.{T}
 use Rattle.std.specs.Prelude.{ℤ, ◌≤ℤ◌}
 use Rattle.std.specs.Int.{w64, w128}
 use Rattle.std.proofs.lemmas.Int.{ints, to_z-of_z}
-use Rattle.sat_model.specs.Sizes.{IsWithin}
+use Rattle.grid_model.specs.Sizes.{IsWithin}
 use Rattle.code_search.proofs.ResidualLemmas.{at_most, at_least}
 use Rattle.code_search.proofs.halving.is_low.Goals as goal
 

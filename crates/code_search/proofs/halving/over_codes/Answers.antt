@@ -1,7 +1,7 @@
 use Rattle.std.proofs.Common.{FitsSigned, lit≤, arith}
 use Rattle.std.specs.Int.{w128}
 use Rattle.std.proofs.lemmas.Int.{to_z-of_z}
-use Rattle.sat_model.proofs.EndsLemmas.{wider_ends}
+use Rattle.grid_model.proofs.EndsLemmas.{wider_ends}
 use Rattle.code_search.specs.SearchSizes.{code_amount, code_width}
 use Rattle.code_search.specs.Residuals.{um_of}
 use Rattle.code_search.proofs.ResidualLemmas.{code_ends, low_held, high_held}

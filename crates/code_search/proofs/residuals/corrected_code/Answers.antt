@@ -1,5 +1,5 @@
 use Rattle.std.proofs.Common.{◌*◌, ◌^◌, ◌+◌, lit≤, arith}
-use Rattle.sat_model.proofs.EndsLemmas.{wider_ends}
+use Rattle.grid_model.proofs.EndsLemmas.{wider_ends}
 use Rattle.sat_clock.specs.ClockSizes.{correction_size}
 use Rattle.code_search.specs.SearchSizes.{code_amount, corrected_amount}
 use Rattle.code_search.proofs.residuals.corrected_code.Goals as goal

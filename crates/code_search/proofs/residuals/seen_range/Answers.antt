@@ -2,7 +2,7 @@ use Rattle.std.proofs.Common.{◌*◌, ◌≤◌, ℕ, lit≤, subst, sym}
 use Rattle.std.specs.Prelude.{pos}
 use Rattle.fix_interval.specs.Factors.{Holds}
 use Rattle.earth_rotation.specs.RoundSizes.{turned_reach}
-use Rattle.sat_model.specs.Boxes.{grid_box}
+use Rattle.grid_model.specs.Boxes.{grid_box}
 use Rattle.code_search.proofs.EndLemmas.{far_range}
 use Rattle.broadcast_orbit.proofs.TurnKeeps.{turned_distance}
 use Rattle.code_search.specs.SearchSizes.{farthest_range}

@@ -1,5 +1,5 @@
 use Rattle.std.proofs.Common.{arith, ◌*◌}
-use Rattle.sat_model.proofs.SquareLemmas.{greatest_square_le}
+use Rattle.grid_model.proofs.SquareLemmas.{greatest_square_le}
 use Rattle.fix_interval.proofs.ProductEnds.{amount_of}
 use Rattle.earth_rotation.specs.RoundSizes.{sine_amount}
 use Rattle.earth_rotation.proofs.CircleRoots.{circle_held, circle_ends}

@@ -1,9 +1,9 @@
 use Rattle.std.proofs.Common.{◌*◌, ◌+◌, ◌/◌, ◌^◌, arith, lit≤}
 use Rattle.std.specs.Prelude.{pos}
-use Rattle.sat_model.specs.EarthModel.{earth_rate, light_speed}
-use Rattle.sat_model.specs.Intervals.{Ends}
-use Rattle.sat_model.proofs.EndsLemmas.{wider_ends, product_ends}
-use Rattle.sat_model.proofs.IntervalLemmas.{low_member}
+use Rattle.gnss_model.specs.EarthModel.{earth_rate, light_speed}
+use Rattle.grid_model.specs.Intervals.{Ends}
+use Rattle.grid_model.proofs.EndsLemmas.{wider_ends, product_ends}
+use Rattle.grid_model.proofs.IntervalLemmas.{low_member}
 use Rattle.fix_interval.proofs.ProductEnds.{amount_of}
 use Rattle.earth_rotation.specs.RoundSizes.{range_amount, angle_amount, angle_width}
 use Rattle.earth_rotation.proofs.TurnWidths.{rate_spread}

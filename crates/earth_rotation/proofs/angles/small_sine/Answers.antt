@@ -1,6 +1,6 @@
 use Rattle.std.proofs.Common.{◌+◌, ◌*◌, arith, lit≤}
 use Rattle.std.proofs.lemmas.Int.{ints}
-use Rattle.sat_model.proofs.EndsLemmas.{wider_ends}
+use Rattle.grid_model.proofs.EndsLemmas.{wider_ends}
 use Rattle.fix_interval.proofs.ProductEnds.{amount_of}
 use Rattle.interval_trig.proofs.SmallAngles.{small_ends}
 use Rattle.earth_rotation.specs.RoundSizes.{angle_amount, sine_amount}

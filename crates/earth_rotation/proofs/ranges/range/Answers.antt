@@ -1,12 +1,12 @@
 use Rattle.std.proofs.Common.{◌+◌, ◌*◌, arith, lit≤}
 use Rattle.std.specs.Prelude.{pos, ◌-ℤ◌}
-use Rattle.sat_model.specs.Boxes.{grid_box}
-use Rattle.sat_model.specs.Fitting.{range_to}
-use Rattle.sat_model.specs.Lengths.{longest_length}
-use Rattle.sat_model.proofs.EndsLemmas.{wider_ends}
-use Rattle.sat_model.proofs.FittingLemmas.{in_box}
-use Rattle.sat_model.proofs.RootLemmas.{root_is}
-use Rattle.sat_model.proofs.SquareLemmas.{root_between}
+use Rattle.grid_model.specs.Boxes.{grid_box}
+use Rattle.grid_model.specs.Ranges.{range_to}
+use Rattle.grid_model.specs.Lengths.{longest_length}
+use Rattle.grid_model.proofs.EndsLemmas.{wider_ends}
+use Rattle.grid_model.proofs.PointLemmas.{in_box}
+use Rattle.grid_model.proofs.RootLemmas.{root_is}
+use Rattle.grid_model.proofs.SquareLemmas.{root_between}
 use Rattle.fix_interval.proofs.ProductEnds.{amount_of}
 use Rattle.earth_rotation.proofs.Offsets.{offset_amount, offset_fits, offset_ends, offset_held, squares_fit, range_ends}
 use Rattle.earth_rotation.proofs.ranges.range.Goals as goal

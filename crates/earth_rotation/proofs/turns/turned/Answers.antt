@@ -1,7 +1,7 @@
 use Rattle.std.proofs.Common.{arith, lit≤}
-use Rattle.sat_model.specs.Boxes.{grid_box}
-use Rattle.sat_model.specs.Fitting.{range_to}
-use Rattle.sat_model.specs.Lengths.{longest_length, spare_of}
+use Rattle.grid_model.specs.Boxes.{grid_box}
+use Rattle.grid_model.specs.Ranges.{range_to}
+use Rattle.grid_model.specs.Lengths.{longest_length, spare_of}
 use Rattle.earth_rotation.specs.TurnSizes.{turn_reach, reach_after, near_reach, narrow_width}
 use Rattle.earth_rotation.specs.RoundSizes.{turned_reach, range_width, turned_width}
 use Rattle.earth_rotation.proofs.Bounds.{wider_place}

@@ -1,6 +1,6 @@
 use Rattle.std.proofs.Common.{◌+◌, ◌*◌, ◌/◌, arith, lit≤}
-use Rattle.sat_model.proofs.EndsLemmas.{wider_ends}
-use Rattle.sat_model.proofs.IntervalLemmas.{member_within}
+use Rattle.grid_model.proofs.EndsLemmas.{wider_ends}
+use Rattle.grid_model.proofs.IntervalLemmas.{member_within}
 use Rattle.fix_interval.specs.Factors.{factor_bound}
 use Rattle.fix_interval.proofs.ProductEnds.{spread_by, amount_of, spread}
 use Rattle.interval_trig.proofs.CircleLaw.{sine_and_cosine}

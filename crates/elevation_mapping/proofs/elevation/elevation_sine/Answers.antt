@@ -1,9 +1,9 @@
 use Rattle.std.proofs.Common.{arith}
 use Rattle.std.specs.Prelude.{pos, ◌+ℤ◌, ◌*ℤ◌, ◌<ℤ◌}
 use Rattle.std.proofs.lemmas.Int.{ints}
-use Rattle.sat_model.specs.Roots.{root}
-use Rattle.sat_model.specs.Squares.{sum_of_squares}
-use Rattle.sat_model.proofs.IntervalLemmas.{low_member}
+use Rattle.grid_model.specs.Roots.{root}
+use Rattle.grid_model.specs.Squares.{sum_of_squares}
+use Rattle.grid_model.proofs.IntervalLemmas.{low_member}
 use Rattle.elevation_mapping.specs.Places.{least_sum}
 use Rattle.elevation_mapping.specs.SineSizes.{least_up, least_range}
 use Rattle.elevation_mapping.proofs.Lengths.{root_at_least}

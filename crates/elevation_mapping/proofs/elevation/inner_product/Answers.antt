@@ -1,6 +1,6 @@
 use Rattle.std.proofs.Common.{◌+◌, ◌*◌, arith, lit≤}
 use Rattle.std.proofs.lemmas.Int.{ints}
-use Rattle.sat_model.proofs.EndsLemmas.{sum_ends, wider_ends}
+use Rattle.grid_model.proofs.EndsLemmas.{sum_ends, wider_ends}
 use Rattle.fix_interval.proofs.ProductEnds.{amount_of}
 use Rattle.elevation_mapping.specs.SineSizes.{up_amount, offset_amount, inner_amount}
 use Rattle.elevation_mapping.proofs.elevation.inner_product.Goals as goal

@@ -1,7 +1,7 @@
 use Rattle.std.proofs.Common.{◌+◌, ◌*◌, lit≤}
 use Rattle.std.specs.Prelude.{pos, ◌*ℤ◌}
-use Rattle.sat_model.proofs.EndsLemmas.{product_ends}
-use Rattle.sat_model.proofs.SpreadLemmas.{products_fit}
+use Rattle.grid_model.proofs.EndsLemmas.{product_ends}
+use Rattle.grid_model.proofs.SpreadLemmas.{products_fit}
 use Rattle.elevation_mapping.proofs.Spreads.{near_itself, one_times}
 use Rattle.elevation_mapping.proofs.elevation.product.Goals as goal
 

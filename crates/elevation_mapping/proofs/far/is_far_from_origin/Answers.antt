@@ -1,6 +1,6 @@
 use Rattle.std.proofs.Common.{◌≡◌, ◌*◌, ◌^◌}
-use Rattle.sat_model.specs.Amounts.{square}
-use Rattle.sat_model.specs.Squares.{sum_of_squares}
+use Rattle.grid_model.specs.Amounts.{square}
+use Rattle.grid_model.specs.Squares.{sum_of_squares}
 use Rattle.elevation_mapping.specs.Places.{least_sum}
 use Rattle.elevation_mapping.proofs.Points.{ArePoints, true_le, le_true, through, place_holds, place_far}
 use Rattle.elevation_mapping.proofs.far.is_far_from_origin.Goals as goal

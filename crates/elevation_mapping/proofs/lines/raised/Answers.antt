@@ -1,8 +1,8 @@
 use Rattle.std.proofs.Common.{◌+◌, ◌*◌, ◌/◌, ◌^◌, arith, lit≤}
 use Rattle.std.specs.Prelude.{pos}
-use Rattle.sat_model.proofs.EndsLemmas.{wider_ends, product_ends}
+use Rattle.grid_model.proofs.EndsLemmas.{wider_ends, product_ends}
 use Rattle.fix_interval.proofs.ProductEnds.{amount_of}
-use Rattle.sat_model.specs.Mapping.{up_scale}
+use Rattle.gnss_model.specs.Mapping.{up_scale}
 use Rattle.elevation_mapping.specs.SineSizes.{up_amount}
 use Rattle.elevation_mapping.proofs.Spreads.{scale_spread, scale_ends}
 use Rattle.elevation_mapping.proofs.lines.raised.Goals as goal

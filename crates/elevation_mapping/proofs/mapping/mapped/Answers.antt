@@ -1,17 +1,17 @@
 use Rattle.std.proofs.Common.{◌+◌, ◌*◌, ◌^◌, arith, refl, sym, lit≤}
 use Rattle.std.specs.Prelude.{◌-ℤ◌}
 use Rattle.std.proofs.lemmas.Int.{ints}
-use Rattle.sat_model.specs.Boxes.{grid_box}
-use Rattle.sat_model.specs.Fitting.{range_to}
-use Rattle.sat_model.specs.Lengths.{longest_length}
-use Rattle.sat_model.specs.Squares.{least_square, greatest_square}
-use Rattle.sat_model.proofs.EndsLemmas.{wider_ends}
+use Rattle.grid_model.specs.Boxes.{grid_box}
+use Rattle.grid_model.specs.Ranges.{range_to}
+use Rattle.grid_model.specs.Lengths.{longest_length}
+use Rattle.grid_model.specs.Squares.{least_square, greatest_square}
+use Rattle.grid_model.proofs.EndsLemmas.{wider_ends}
 use Rattle.fix_interval.proofs.ProductEnds.{amount_of}
-use Rattle.sat_model.specs.Roots.{root}
-use Rattle.sat_model.proofs.RootLemmas.{root_is}
-use Rattle.sat_model.proofs.SquareLemmas.{greatest_square_le}
-use Rattle.sat_model.proofs.FittingLemmas.{in_box}
-use Rattle.sat_model.specs.Mapping.{slant_floor, slant_of}
+use Rattle.grid_model.specs.Roots.{root}
+use Rattle.grid_model.proofs.RootLemmas.{root_is}
+use Rattle.grid_model.proofs.SquareLemmas.{greatest_square_le}
+use Rattle.grid_model.proofs.PointLemmas.{in_box}
+use Rattle.gnss_model.specs.Mapping.{slant_floor, slant_of}
 use Rattle.elevation_mapping.specs.SineSizes.{up_amount, offset_amount, sine_amount}
 use Rattle.elevation_mapping.proofs.Points.{ArePoints, AreOffsets, axis_held, offset_held, same_number, place_ends, offsets_ends, up_ends, up_far, line_far}
 use Rattle.elevation_mapping.proofs.SlantWidth.{mapped_spread, slant_at_least, slant_fits}

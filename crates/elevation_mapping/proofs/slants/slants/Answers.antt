@@ -1,6 +1,6 @@
 use Rattle.std.proofs.Common.{arith}
-use Rattle.sat_model.proofs.RoundingLemmas.{grain_floor_one, grain_ceil_one}
-use Rattle.sat_model.proofs.SquareLemmas.{greatest_square_le}
+use Rattle.grid_model.proofs.RoundingLemmas.{grain_floor_one, grain_ceil_one}
+use Rattle.grid_model.proofs.SquareLemmas.{greatest_square_le}
 use Rattle.elevation_mapping.specs.SineSizes.{sine_amount}
 use Rattle.elevation_mapping.proofs.SlantWidth.{slant_held}
 use Rattle.elevation_mapping.proofs.slants.slants.Goals as goal

@@ -1,7 +1,7 @@
 use Rattle.std.proofs.Common.{◌*◌, ◌^◌}
 use Rattle.std.specs.Prelude.{◌-ℤ◌}
-use Rattle.sat_model.specs.Amounts.{square}
-use Rattle.sat_model.specs.Squares.{sum_of_squares}
+use Rattle.grid_model.specs.Amounts.{square}
+use Rattle.grid_model.specs.Squares.{sum_of_squares}
 use Rattle.elevation_mapping.proofs.Points.{ArePoints, AreOffsets, true_le, through, place_holds, offsets_hold}
 use Rattle.elevation_mapping.proofs.tests.is_far_from_place.Goals as goal
 

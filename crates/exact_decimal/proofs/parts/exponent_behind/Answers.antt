@@ -1,5 +1,5 @@
 use Rattle.std.proofs.Common.{sym, subst, to_z-of_z, FitsSigned, w64, rules}
-use Rattle.sat_model.specs.Sizes.{IsWithin}
+use Rattle.grid_model.specs.Sizes.{IsWithin}
 use Rattle.exact_decimal.proofs.Digits.{two_digits, signed_size}
 use Rattle.exact_decimal.proofs.parts.exponent_behind.Goals as goal
 

@@ -1,5 +1,5 @@
 use Rattle.std.proofs.Common.{get_or, ◌≡◌, ◌≤◌, ◌∙◌, true, arith, refl, sym, subst, to_z, of_z, to_z-of_z, FitsSigned, w8, w64, rules}
-use Rattle.sat_model.specs.Sizes.{IsWithin}
+use Rattle.grid_model.specs.Sizes.{IsWithin}
 use Rattle.exact_decimal.specs.NumberFields.{is_exponent_letter}
 use Rattle.exact_decimal.proofs.Digits.{signed_size}
 use Rattle.exact_decimal.proofs.UsualNumbers.{exponent_is}

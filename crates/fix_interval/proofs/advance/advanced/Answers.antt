@@ -1,12 +1,12 @@
 use Rattle.std.proofs.Common.{◌≡◌, ◌+◌, ◌^◌, arith}
 use Rattle.std.specs.Prelude.{ℤ, pos, ◌+ℤ◌, ◌-ℤ◌, ◌*ℤ◌, ◌≤ℤ◌}
 use Rattle.std.proofs.lemmas.Int.{ints}
-use Rattle.sat_model.specs.EarthModel.{rate_scale}
-use Rattle.sat_model.specs.Intervals.{Between, Ends}
-use Rattle.sat_model.specs.Products.{ProductsWithin, least_product, greatest_product}
-use Rattle.sat_model.specs.Rounding.{IsTightRound}
-use Rattle.sat_model.specs.Sizes.{IsWithin}
-use Rattle.sat_model.proofs.EndsLemmas.{product_ends, sum_ends}
+use Rattle.gnss_model.specs.EarthModel.{rate_scale}
+use Rattle.grid_model.specs.Intervals.{Between, Ends}
+use Rattle.grid_model.specs.Products.{ProductsWithin, least_product, greatest_product}
+use Rattle.grid_model.specs.Rounding.{IsTightRound}
+use Rattle.grid_model.specs.Sizes.{IsWithin}
+use Rattle.grid_model.proofs.EndsLemmas.{product_ends, sum_ends}
 use Rattle.fix_interval.proofs.NearLemmas.{near_without, any_product_ends}
 use Rattle.fix_interval.proofs.advance.advanced.Goals as goal
 

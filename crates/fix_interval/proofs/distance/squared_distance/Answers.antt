@@ -1,5 +1,5 @@
 use Rattle.std.proofs.Common.{arith}
-use Rattle.sat_model.proofs.SquareLemmas.{square_between}
+use Rattle.grid_model.proofs.SquareLemmas.{square_between}
 use Rattle.fix_interval.proofs.distance.squared_distance.Goals as goal
 
 pub returns-clause-from : goal.returns-clause-from

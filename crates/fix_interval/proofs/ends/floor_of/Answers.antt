@@ -1,7 +1,7 @@
 use Rattle.std.proofs.Common.{rules, FitsSigned}
 use Rattle.std.specs.Int.{w128}
 use Rattle.std.proofs.lemmas.Int.{to_z-of_z}
-use Rattle.sat_model.proofs.RoundingLemmas.{floor_is, floor_within}
+use Rattle.grid_model.proofs.RoundingLemmas.{floor_is, floor_within}
 use Rattle.fix_interval.proofs.ends.floor_of.Goals as goal
 
 pub returns-clause-floor : goal.returns-clause-floor

@@ -1,6 +1,6 @@
 use Rattle.std.proofs.Common.{arith}
 use Rattle.std.proofs.lemmas.Int.{ints, clamps}
-use Rattle.sat_model.proofs.SquareLemmas.{one_part}
+use Rattle.grid_model.proofs.SquareLemmas.{one_part}
 use Rattle.fix_interval.proofs.ends.greatest_amount.Goals as goal
 
 pub returns : goal.returns

@@ -2,7 +2,7 @@ use Rattle.std.proofs.Common.{arith, rules, FitsSigned, refl}
 use Rattle.std.specs.Prelude.{◌+ℤ◌, pos}
 use Rattle.std.specs.Int.{w128}
 use Rattle.std.proofs.lemmas.Int.{ints, to_z-of_z}
-use Rattle.sat_model.proofs.RoundingLemmas.{high_end_holds, high_end_tight}
+use Rattle.grid_model.proofs.RoundingLemmas.{high_end_holds, high_end_tight}
 use Rattle.fix_interval.proofs.ends.high_end.Goals as goal
 
 pub returns-clause-holds : goal.returns-clause-holds

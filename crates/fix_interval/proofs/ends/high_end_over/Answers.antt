@@ -2,8 +2,8 @@ use Rattle.std.proofs.Common.{arith, rules, FitsSigned}
 use Rattle.std.specs.Prelude.{pos, ◌≤ℤ◌}
 use Rattle.std.specs.Int.{w128}
 use Rattle.std.proofs.lemmas.Int.{ints, to_z-of_z}
-use Rattle.sat_model.proofs.RoundingLemmas.{negative_high, natural_high}
-use Rattle.sat_model.proofs.IntervalLemmas.{high_member}
+use Rattle.grid_model.proofs.RoundingLemmas.{negative_high, natural_high}
+use Rattle.grid_model.proofs.IntervalLemmas.{high_member}
 use Rattle.fix_interval.proofs.ends.high_end_over.Goals as goal
 
 pub returns-then-num-lt0-clause-holds : goal.returns-then-num-lt0-clause-holds

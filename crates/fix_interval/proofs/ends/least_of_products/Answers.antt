@@ -1,7 +1,7 @@
 use Rattle.std.proofs.Common.{arith, rules, FitsSigned}
 use Rattle.std.specs.Int.{w128}
 use Rattle.std.proofs.lemmas.Int.{to_z-of_z}
-use Rattle.sat_model.proofs.IntervalLemmas.{min_within}
+use Rattle.grid_model.proofs.IntervalLemmas.{min_within}
 use Rattle.fix_interval.proofs.ends.least_of_products.Goals as goal
 
 pub returns-clause-value : goal.returns-clause-value

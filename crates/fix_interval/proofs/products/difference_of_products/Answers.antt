@@ -1,7 +1,7 @@
 use Rattle.std.proofs.Common.{arith}
 use Rattle.std.specs.Prelude.{◌*ℤ◌}
 use Rattle.std.proofs.lemmas.Int.{ints}
-use Rattle.sat_model.proofs.EndsLemmas.{difference_ends}
+use Rattle.grid_model.proofs.EndsLemmas.{difference_ends}
 use Rattle.fix_interval.proofs.ProductEnds.{factors_spread, difference_held}
 use Rattle.fix_interval.proofs.products.difference_of_products.Goals as goal
 

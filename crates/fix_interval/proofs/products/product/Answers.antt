@@ -1,8 +1,8 @@
 use Rattle.std.proofs.Common.{◌+◌, ◌*◌, lit≤}
 use Rattle.std.specs.Prelude.{pos}
-use Rattle.sat_model.specs.Angles.{unit}
-use Rattle.sat_model.proofs.EndsLemmas.{product_ends}
-use Rattle.sat_model.proofs.SpreadLemmas.{products_fit}
+use Rattle.grid_model.specs.Angles.{unit}
+use Rattle.grid_model.proofs.EndsLemmas.{product_ends}
+use Rattle.grid_model.proofs.SpreadLemmas.{products_fit}
 use Rattle.fix_interval.proofs.ProductEnds.{over_one}
 use Rattle.fix_interval.proofs.products.product.Goals as goal
 

@@ -1,6 +1,6 @@
 use Rattle.std.proofs.Common.{arith, ◌≡◌, ◌*◌, lit≤}
 use Rattle.std.specs.Prelude.{pos}
-use Rattle.sat_model.specs.Angles.{unit}
+use Rattle.grid_model.specs.Angles.{unit}
 use Rattle.interval_trig.specs.NestedSums.{NestedCosine, fine, plain_num, nested_num, nested_den, cosine_16, cosine_18}
 use Rattle.interval_trig.proofs.HornerSteps.{nested_is_plain}
 use Rattle.interval_trig.proofs.NestedSums.{cosine_out}

@@ -2,8 +2,8 @@ use Rattle.std.proofs.Common.{arith, rules, FitsSigned, ◌≡◌}
 use Rattle.std.specs.Prelude.{pos, ◌+ℤ◌, ◌-ℤ◌, ◌*ℤ◌}
 use Rattle.std.specs.Int.{w128}
 use Rattle.std.proofs.lemmas.Int.{ints, to_z-of_z}
-use Rattle.sat_model.specs.Angles.{quarter, quarter_turn}
-use Rattle.sat_model.specs.Sines.{by_quarter, modulo_4}
+use Rattle.grid_model.specs.Angles.{quarter, quarter_turn}
+use Rattle.grid_model.specs.Sines.{by_quarter, modulo_4}
 use Rattle.interval_trig.proofs.Rests.{cosine_from_turn}
 use Rattle.interval_trig.proofs.points.cosine_point.Goals as goal
 

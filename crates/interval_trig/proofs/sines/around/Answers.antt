@@ -1,7 +1,7 @@
 use Rattle.std.proofs.Common.{arith}
 use Rattle.std.specs.Prelude.{pos, ◌≤ℤ◌}
 use Rattle.std.proofs.lemmas.Int.{ints, clamps}
-use Rattle.sat_model.specs.Angles.{unit}
+use Rattle.grid_model.specs.Angles.{unit}
 use Rattle.interval_trig.proofs.sines.around.Goals as goal
 
 pub invariant_of-result-2 : goal.invariant_of-result-2

@@ -2,7 +2,7 @@ use Rattle.std.proofs.Common.{arith, rules, FitsSigned}
 use Rattle.std.specs.Prelude.{◌-ℤ◌, nat_abs}
 use Rattle.std.specs.Int.{w128}
 use Rattle.std.proofs.lemmas.Int.{ints, to_z-of_z}
-use Rattle.sat_model.specs.Sines.{Cosine}
+use Rattle.grid_model.specs.Sines.{Cosine}
 use Rattle.interval_trig.proofs.Smoothness.{cosine_smooth, cosine_value_small, to_middle, within_reach, small_half}
 use Rattle.interval_trig.proofs.sines.cosine.Goals as goal
 

@@ -1,7 +1,7 @@
 use Rattle.std.proofs.Common.{arith, ◌≡◌}
 use Rattle.std.specs.Prelude.{pos, ◌+ℤ◌, ◌-ℤ◌}
 use Rattle.std.proofs.lemmas.Int.{ints}
-use Rattle.sat_model.specs.Intervals.{Between}
+use Rattle.grid_model.specs.Intervals.{Between}
 use Rattle.kepler_enclosure.proofs.Narrowing.{narrow_holds, round_width, moved_low, moved_high}
 use Rattle.kepler_enclosure.proofs.anomalies.narrowed.Goals as goal
 

@@ -1,13 +1,13 @@
 use Rattle.std.proofs.Common.{◌≤◌, ◌+◌, ◌/◌, arith, lit≤}
 use Rattle.std.specs.Prelude.{ℤ, pos, ◌≤ℤ◌, ◌-ℤ◌, nat_abs}
 use Rattle.std.proofs.lemmas.Int.{ints}
-use Rattle.sat_model.specs.Angles.{unit}
-use Rattle.sat_model.specs.Intervals.{Between, Ends}
-use Rattle.sat_model.specs.Sizes.{IsWithin}
-use Rattle.sat_model.specs.Rounding.{IsTightRound}
-use Rattle.sat_model.specs.Products.{least_product, greatest_product}
-use Rattle.sat_model.proofs.IntervalLemmas.{ends_of}
-use Rattle.sat_model.proofs.SpreadLemmas.{products_fit}
+use Rattle.grid_model.specs.Angles.{unit}
+use Rattle.grid_model.specs.Intervals.{Between, Ends}
+use Rattle.grid_model.specs.Sizes.{IsWithin}
+use Rattle.grid_model.specs.Rounding.{IsTightRound}
+use Rattle.grid_model.specs.Products.{least_product, greatest_product}
+use Rattle.grid_model.proofs.IntervalLemmas.{ends_of}
+use Rattle.grid_model.proofs.SpreadLemmas.{products_fit}
 use Rattle.kepler_enclosure.proofs.Narrowing.{fifth, swing_ends, swing_width}
 use Rattle.kepler_enclosure.proofs.anomalies.swing.Goals as goal
 

@@ -1,7 +1,7 @@
 use Rattle.std.proofs.Common.{lit≤, ◌^◌, ◌*◌, ◌+◌}
 use Rattle.std.specs.Prelude.{pos, ◌-ℤ◌, ◌*ℤ◌}
-use Rattle.sat_model.proofs.EndsLemmas.{sum_ends}
-use Rattle.sat_model.specs.EarthModel.{light_speed}
+use Rattle.grid_model.proofs.EndsLemmas.{sum_ends}
+use Rattle.gnss_model.specs.EarthModel.{light_speed}
 use Rattle.fix_interval.proofs.NearLemmas.{near_without}
 use Rattle.pseudorange_prep.proofs.WidthLemmas.{amount_ends, narrow_ends, plus_size, sum_member, near_light, sum_width}
 use Rattle.pseudorange_prep.proofs.times.corrected.Goals as goal

@@ -1,5 +1,5 @@
 use Rattle.std.proofs.Common.{lit≤, ◌^◌, ◌*◌, ◌-◌}
-use Rattle.sat_model.specs.EarthModel.{light_speed}
+use Rattle.gnss_model.specs.EarthModel.{light_speed}
 use Rattle.pseudorange_prep.proofs.WidthLemmas.{times_one_number, amount_ends, narrow_ends}
 use Rattle.pseudorange_prep.proofs.times.over_light.Goals as goal
 

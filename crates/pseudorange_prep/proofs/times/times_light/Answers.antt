@@ -1,5 +1,5 @@
 use Rattle.std.proofs.Common.{◌^◌, ◌*◌}
-use Rattle.sat_model.specs.EarthModel.{light_speed}
+use Rattle.gnss_model.specs.EarthModel.{light_speed}
 use Rattle.pseudorange_prep.proofs.WidthLemmas.{times_one_number, turned_factors}
 use Rattle.pseudorange_prep.proofs.times.times_light.Goals as goal
 

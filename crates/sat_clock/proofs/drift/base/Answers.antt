@@ -1,5 +1,5 @@
 use Rattle.std.proofs.Common.{◌≤◌, ◌+◌, arith, lit≤}
-use Rattle.sat_model.proofs.EndsLemmas.{wider_ends}
+use Rattle.grid_model.proofs.EndsLemmas.{wider_ends}
 use Rattle.sat_clock.specs.ClockSizes.{width}
 use Rattle.sat_clock.proofs.ClockLemmas.{ends_width}
 use Rattle.sat_clock.proofs.drift.base.Goals as goal

@@ -1,9 +1,9 @@
 use Rattle.std.proofs.Common.{◌+◌, ◌*◌, ◌/◌, arith, lit≤}
-use Rattle.sat_model.specs.EarthModel.{rate_scale}
-use Rattle.sat_model.specs.RecordBounds.{drift_bound, ageing_bound}
-use Rattle.sat_model.proofs.IntervalLemmas.{ends_of}
-use Rattle.sat_model.proofs.SpreadLemmas.{products_fit}
-use Rattle.sat_model.proofs.EndsLemmas.{wider_ends}
+use Rattle.gnss_model.specs.EarthModel.{rate_scale}
+use Rattle.gnss_model.specs.RecordBounds.{drift_bound, ageing_bound}
+use Rattle.grid_model.proofs.IntervalLemmas.{ends_of}
+use Rattle.grid_model.proofs.SpreadLemmas.{products_fit}
+use Rattle.grid_model.proofs.EndsLemmas.{wider_ends}
 use Rattle.sat_clock.specs.ClockSizes.{since_size, width}
 use Rattle.sat_clock.proofs.ClockLemmas.{field_ends}
 use Rattle.sat_clock.proofs.drift.drift.Goals as goal

@@ -1,8 +1,8 @@
 use Rattle.std.proofs.Common.{arith}
 use Rattle.std.proofs.lemmas.Int.{ints}
-use Rattle.sat_model.specs.RecordBounds.{delay_bound}
-use Rattle.sat_model.proofs.EndsLemmas.{difference_ends}
-use Rattle.sat_model.proofs.IntervalLemmas.{ends_of}
+use Rattle.gnss_model.specs.RecordBounds.{delay_bound}
+use Rattle.grid_model.proofs.EndsLemmas.{difference_ends}
+use Rattle.grid_model.proofs.IntervalLemmas.{ends_of}
 use Rattle.sat_clock.specs.ClockSizes.{offset_size}
 use Rattle.sat_clock.proofs.ClockLemmas.{field_ends}
 use Rattle.sat_clock.proofs.drift.less_group_delay.Goals as goal

@@ -1,4 +1,4 @@
-use Rattle.sat_model.specs.Intervals.{Between}
+use Rattle.grid_model.specs.Intervals.{Between}
 use Rattle.sat_clock.proofs.ClockLemmas.{sine_ends}
 use Rattle.sat_clock.proofs.relativity.sine_of_eccentric.Goals as goal
 

@@ -1,7 +1,7 @@
 use Rattle.std.proofs.Common.{◌+◌, ◌*◌, ◌/◌, ◌^◌, arith, lit≤}
 use Rattle.std.specs.Prelude.{◌+ℤ◌, ◌-ℤ◌}
-use Rattle.sat_model.proofs.IntervalLemmas.{ends_of}
-use Rattle.sat_model.proofs.EndsLemmas.{wider_ends}
+use Rattle.grid_model.proofs.IntervalLemmas.{ends_of}
+use Rattle.grid_model.proofs.EndsLemmas.{wider_ends}
 use Rattle.sat_clock.specs.ClockSizes.{ephemeris_reach, base_size, width}
 use Rattle.sat_clock.proofs.ClockLemmas.{earlier_from}
 use Rattle.sat_clock.proofs.times.after.Goals as goal

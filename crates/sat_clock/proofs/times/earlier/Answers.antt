@@ -1,12 +1,12 @@
 use Rattle.std.proofs.Common.{◌≡◌, ℕ, ◌^◌, ◌+◌, ◌*◌, ◌≤◌, arith}
 use Rattle.std.specs.Prelude.{ℤ, pos, ◌+ℤ◌, ◌-ℤ◌, ◌*ℤ◌, ◌≤ℤ◌}
 use Rattle.std.proofs.lemmas.Int.{ints}
-use Rattle.sat_model.specs.ClockChain.{IsEarlier}
-use Rattle.sat_model.specs.Intervals.{Between, Ends}
-use Rattle.sat_model.specs.Products.{least_product, greatest_product}
-use Rattle.sat_model.specs.Rounding.{Near, IsTightRound}
-use Rattle.sat_model.specs.Sizes.{IsWithin}
-use Rattle.sat_model.proofs.EndsLemmas.{product_ends, difference_ends}
+use Rattle.gnss_model.specs.ClockChain.{IsEarlier}
+use Rattle.grid_model.specs.Intervals.{Between, Ends}
+use Rattle.grid_model.specs.Products.{least_product, greatest_product}
+use Rattle.grid_model.specs.Rounding.{Near, IsTightRound}
+use Rattle.grid_model.specs.Sizes.{IsWithin}
+use Rattle.grid_model.proofs.EndsLemmas.{product_ends, difference_ends}
 use Rattle.sat_clock.proofs.times.earlier.Goals as goal
 
 one_ends : Ends 1 0 (pos 1) (pos 1)

@@ -1,7 +1,7 @@
 use Rattle.std.proofs.Common.{rules, FitsSigned, lit≤}
 use Rattle.std.specs.Int.{w128}
 use Rattle.std.proofs.lemmas.Int.{to_z-of_z}
-use Rattle.sat_model.proofs.ProductLemmas.{larger}
+use Rattle.grid_model.proofs.ProductLemmas.{larger}
 use Rattle.sat_clock.proofs.ClockLemmas.{since_ends}
 use Rattle.sat_clock.proofs.times.since_clock.Goals as goal
 

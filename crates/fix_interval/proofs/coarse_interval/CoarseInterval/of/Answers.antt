@@ -1,7 +1,7 @@
 use Rattle.std.proofs.Common.{◌≡◌, arith, to_z, of_z, w64}
 use Rattle.std.specs.Prelude.{pos, ◌-ℤ◌, neg_ℤ}
 use Rattle.std.proofs.lemmas.Int.{ints}
-use Rattle.sat_model.proofs.RoundingLemmas.{grain_between}
+use Rattle.grid_model.proofs.RoundingLemmas.{grain_between}
 use Rattle.fix_interval.proofs.coarse_interval.CoarseInterval.of.Goals as goal
 
 pub invariant_of-result : goal.invariant_of-result

@@ -1,9 +1,9 @@
 use Rattle.std.proofs.Common.{◌*◌, arith}
 use Rattle.std.specs.Prelude.{pos}
 use Rattle.std.proofs.lemmas.Int.{ints}
-use Rattle.sat_model.specs.Roots.{root}
-use Rattle.sat_model.proofs.RootLemmas.{root_is}
-use Rattle.sat_model.proofs.SquareLemmas.{root_between}
+use Rattle.grid_model.specs.Roots.{root}
+use Rattle.grid_model.proofs.RootLemmas.{root_is}
+use Rattle.grid_model.proofs.SquareLemmas.{root_between}
 use Rattle.fix_interval.proofs.coarse_interval.CoarseInterval.root.Goals as goal
 
 pub invariant_of-result : goal.invariant_of-result

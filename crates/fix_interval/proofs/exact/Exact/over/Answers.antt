@@ -2,12 +2,12 @@ use Rattle.std.proofs.Common.{arith, ◌≡◌, rules, FitsSigned}
 use Rattle.std.specs.Prelude.{ℤ, ◌*ℤ◌, ◌≤ℤ◌}
 use Rattle.std.specs.Int.{w128, int_div_euclid}
 use Rattle.std.proofs.lemmas.Int.{ints, to_z-of_z}
-use Rattle.sat_model.specs.Products.{least_product, greatest_product}
-use Rattle.sat_model.specs.Intervals.{Between}
-use Rattle.sat_model.specs.Rounding.{IsFloor}
-use Rattle.sat_model.proofs.IntervalLemmas.{le_z_trans, low_member}
-use Rattle.sat_model.proofs.RoundingLemmas.{floor_is}
-use Rattle.sat_model.proofs.SpreadLemmas.{least_le_product, product_le_greatest, least_le_greatest, least_multiple, greatest_multiple}
+use Rattle.grid_model.specs.Products.{least_product, greatest_product}
+use Rattle.grid_model.specs.Intervals.{Between}
+use Rattle.grid_model.specs.Rounding.{IsFloor}
+use Rattle.grid_model.proofs.IntervalLemmas.{le_z_trans, low_member}
+use Rattle.grid_model.proofs.RoundingLemmas.{floor_is}
+use Rattle.grid_model.proofs.SpreadLemmas.{least_le_product, product_le_greatest, least_le_greatest, least_multiple, greatest_multiple}
 use Rattle.fix_interval.proofs.exact.Exact.over.Goals as goal
 
 pub returns-clause-holds : goal.returns-clause-holds

@@ -1,9 +1,9 @@
 use Rattle.std.proofs.Common.{arith}
 use Rattle.std.specs.Prelude.{pos}
 use Rattle.std.proofs.lemmas.Int.{ints}
-use Rattle.sat_model.specs.Roots.{root}
-use Rattle.sat_model.proofs.RootLemmas.{root_from}
-use Rattle.sat_model.proofs.RoundingLemmas.{grain_floor_one, grain_ceil_one}
+use Rattle.grid_model.specs.Roots.{root}
+use Rattle.grid_model.proofs.RootLemmas.{root_from}
+use Rattle.grid_model.proofs.RoundingLemmas.{grain_floor_one, grain_ceil_one}
 use Rattle.fix_interval.proofs.exact_interval.ExactInterval.root.Goals as goal
 
 pub returns-clause-low : goal.returns-clause-low

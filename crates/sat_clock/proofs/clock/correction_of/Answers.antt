@@ -1,12 +1,12 @@
 use Rattle.std.proofs.Common.{◌≡◌, ℕ, ◌≤◌, ◌+◌, ◌/◌, ◌^◌, arith, lit≤}
 use Rattle.std.specs.Prelude.{ℤ, pos, ◌+ℤ◌, ◌-ℤ◌, ◌≤ℤ◌}
 use Rattle.std.proofs.lemmas.Int.{ints}
-use Rattle.sat_model.specs.Intervals.{Between, Ends}
-use Rattle.sat_model.proofs.EndsLemmas.{sum_ends}
-use Rattle.sat_model.proofs.ProductLemmas.{larger}
+use Rattle.grid_model.specs.Intervals.{Between, Ends}
+use Rattle.grid_model.proofs.EndsLemmas.{sum_ends}
+use Rattle.grid_model.proofs.ProductLemmas.{larger}
 use Rattle.sat_clock.specs.ClockSizes.{base_size, relative_size, sent_reach, sent_size, width}
 use Rattle.sat_clock.proofs.ClockLemmas.{sent_ends, ends_width}
-use Rattle.sat_clock.proofs.clock.correction.Goals as goal
+use Rattle.sat_clock.proofs.clock.correction_of.Goals as goal
 
 pub earlier-t-requires-clause-low_size : goal.earlier-t-requires-clause-low_size
 earlier-t-requires-clause-low_size c =

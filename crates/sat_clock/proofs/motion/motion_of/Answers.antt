@@ -1,8 +1,8 @@
 use Rattle.std.proofs.Common.{arith}
 use Rattle.std.proofs.lemmas.Int.{ints}
-use Rattle.sat_model.specs.Intervals.{Between}
+use Rattle.grid_model.specs.Intervals.{Between}
 use Rattle.std.specs.Prelude.{pos}
-use Rattle.sat_clock.proofs.motion.mean_motion.Goals as goal
+use Rattle.sat_clock.proofs.motion.motion_of.Goals as goal
 
 pub returns-clause-holds : goal.returns-clause-holds
 returns-clause-holds c n m =
