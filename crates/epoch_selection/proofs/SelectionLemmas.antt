@@ -6,7 +6,7 @@ use Rattle.std.proofs.Math.Seq.{drop-cons}
 use Rattle.std.proofs.lemmas.Grind.{common_steps}
 use Rattle.std.proofs.lemmas.Option.{slice_get_read, slice_get_within}
 use Rattle.rinex_obs.specs.declared.obs.ObsEpoch.{ObsEpoch}
-use Rattle.sat_model.specs.Boxes.{grid_box}
+use Rattle.grid_model.specs.Boxes.{grid_box}
 use Rattle.epoch_selection.specs.Searches.{search_in, searches_in, searches_left, IsTaken}
 use Rattle.epoch_selection.specs.Selections.{is_selected, selected, IsFirstSelected}
 use Rattle.epoch_selection.specs.declared.searches.Searches.{Searches}

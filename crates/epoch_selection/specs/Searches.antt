@@ -1,7 +1,7 @@
 -- Epochs with the box in which each is searched.
 use Rattle.std.specs.Prelude.{◌≡◌, List, ◌∷◌, map}
 use Rattle.rinex_obs.specs.declared.obs.ObsEpoch.{ObsEpoch}
-use Rattle.sat_model.specs.Boxes.{GridBox, grid_box}
+use Rattle.grid_model.specs.Boxes.{GridBox, grid_box}
 use Rattle.epoch_selection.specs.Selections.{selected}
 use Rattle.epoch_selection.specs.declared.searches.Searches.{Searches}
 

@@ -1,11 +1,11 @@
 //! Epochs with the box in which each is searched.
 
-ghost use Rattle.sat_model.specs.Boxes.{grid_box};
-ghost use Rattle.sat_model.specs.SearchBoxes.{IsSearchBox};
+ghost use Rattle.grid_model.specs.Boxes.{grid_box};
+ghost use Rattle.grid_model.specs.SearchBoxes.{IsSearchBox};
 
 use crate::selection::Selection;
+use grid_model::Box3;
 use rinex_obs::ObsEpoch;
-use sat_model::Box3;
 
 /// The selected ones among the epochs that are left of a file, each to be searched in the same box,
 /// which lies within 8,600 km on each axis and has no side of more than 200 km.

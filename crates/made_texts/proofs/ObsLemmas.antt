@@ -15,11 +15,12 @@ use Rattle.rinex_text.specs.Dates.{gps_time}
 use Rattle.rinex_text.specs.Headers.{version_line}
 use Rattle.rinex_text.specs.Lines.{TextLine}
 use Rattle.rinex_text.specs.declared.fault.Refusal.{Refusal}
-use Rattle.sat_model.specs.declared.satellites.Signal.TheVariants.{Single}
+use Rattle.gnss_model.specs.declared.satellites.Sat.{Sat}
+use Rattle.gnss_model.specs.declared.satellites.Signal.TheVariants.{Single}
 use Rattle.rinex_obs.specs.Types.{Types}
 use Rattle.rinex_obs.specs.Header.{Header, Wanted, header_line, header_end, header_lines}
-use Rattle.rinex_obs.specs.Epochs.{flag_of, IsTag, head_line, has_number, satellite_line, satellites_from, Observed, Block, epochs_from}
-use Rattle.rinex_obs.specs.Files.{unread, obs_file, IsObsFile}
+use Rattle.rinex_obs.specs.Epochs.{flag_of, IsTag, head_line, has_sat, sat_on, satellite_line, satellites_from, Observed, Block, epochs_from}
+use Rattle.rinex_obs.specs.Files.{unread, alone, obs_file, IsObsFile}
 use Rattle.rinex_obs.specs.declared.head.Head.TheVariants as head
 use Rattle.rinex_obs.specs.declared.obs.SatObs.{SatObs}
 use Rattle.decimal_digits.specs.Digits.{last_digits}
@@ -59,16 +60,16 @@ unfolding satellite_text
 of_gps seen = refl
 
 wanted : Wanted
-wanted = record { first = 0; second = None }
+wanted = record { gps = record { first = 0; second = None }; galileo = None }
 
 abbrev AreBelow : ℕ → List SatObs → Type 0
 AreBelow n sats = AllByRecursion (λ (s : SatObs). s.sat.number < n) sats
 
-none_has : (n : ℕ) (sats : List SatObs) → AreBelow n sats → list_any (has_number n) sats ≡ false
-none_has n [] below = refl
-none_has n (s ∷ sats) below =
-    let other : (s.sat.number == n) ≡ false = grind (arith, below.0) in
-    rw other (none_has n sats below.1)
+none_has : (sat : Sat) (sats : List SatObs) → AreBelow sat.number sats → list_any (has_sat sat) sats ≡ false
+none_has sat [] below = refl
+none_has sat (s ∷ sats) below =
+    let other : (s.sat.number == sat.number) ≡ false = grind (arith, below.0) in
+    rw other (none_has sat sats below.1)
 
 below_next : (m n : ℕ) (sats : List SatObs) (s : SatObs) → AreBelow m sats → m ≤ n → s.sat.number ≡ n → AreBelow (n + 1) (sats ++ s ∷ [])
 below_next m n [] s below le is = (omega (arith, is), tt)
@@ -87,15 +88,16 @@ satellite_read before seen below room from to small =
         inl (
           cell.printable,
           inl (
-            of_gps seen,
+            wanted.gps,
+            inl (of_gps seen, refl),
             inl (
               seen.number,
               number_in seen from to,
               inl (
-                none_has seen.number before below,
+                none_has (sat_on (plain (satellite_text seen)) seen.number) before below,
                 inl (
                   room,
-                  inl (observed_of seen.code, rw (code_at seen small) first, inl (None, tt, refl)),
+                  inl (observed_of seen.code, rw (code_at seen small) first, inl (None, tt, rw (of_gps seen) refl)),
                 ),
               ),
             ),
@@ -267,7 +269,7 @@ types : Types
 types = record { count = 1; codes = code_c1c ∷ [] }
 
 known : Header
-known = record { types = Some types; position = None }
+known = record { gps = Some types; galileo = None; position = None }
 
 one_read : IsCount (codes "  1") 1
 one_read = record {
@@ -282,17 +284,17 @@ one_read = record {
   value = refl;
 }
 
-types_read : header_line false unread (plain types_text) (Ok known)
+types_read : header_line false false unread (plain types_text) (Ok known)
 unfolding types_text types known
-types_read = inl (refl, inl (Some types, inl (refl, inl (types, inl (1, one_read, inl (omega arith, inl (code_c1c ∷ [], inl (refl, refl), refl))), refl)), refl))
+types_read = inl (refl, inl (Some types, inl (refl, inl (types, inl (1, one_read, inl (omega arith, inl (code_c1c ∷ [], inl (refl, refl), refl))), refl)), inl (None, refl, refl)))
 
-time_read : header_line false known (plain time_text) (Ok known)
+time_read : header_line false false known (plain time_text) (Ok known)
 unfolding time_text
 time_read = inr (first_apart _ _ refl, inl (refl, inl (inl refl, refl)))
 
-end_read : header_end (Single code_c1c) false known (Ok (wanted, None))
+end_read : header_end (alone (Single code_c1c)) false known (Ok (wanted, None))
 unfolding known types wanted
-end_read = inl (omega arith, inl (wanted, (refl, refl), inl (None, tt, refl)))
+end_read = inl ((omega arith, tt), inl (wanted, record { of_gps = (refl, refl); of_galileo = refl }, inl (None, tt, refl)))
 
 version_text : List ℕ
 version_text = codes "     3.05           OBSERVATION DATA    G                   RINEX VERSION / TYPE"
@@ -302,7 +304,7 @@ unfolding version_text
 version_read = inl (omega arith, inl (refl, inl (version_is, inl (refl, inl (inl refl, refl)))))
 
 header_read : (lines : List TextLine)
-    → header_lines (Single code_c1c) false unread 2 (plain types_text ∷ plain time_text ∷ plain end_text ∷ lines) (Ok (record { wanted = wanted; position = None; behind = record { number = 5; lines = lines } }))
+    → header_lines (alone (Single code_c1c)) false unread 2 (plain types_text ∷ plain time_text ∷ plain end_text ∷ lines) (Ok (record { wanted = wanted; position = None; behind = record { number = 5; lines = lines } }))
 unfolding types_text time_text end_text
 header_read lines =
     inl (

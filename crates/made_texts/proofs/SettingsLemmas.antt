@@ -4,7 +4,7 @@ use Rattle.std.specs.Prelude.{ℤ, pos, neg_ℤ, IsUtf8}
 use Rattle.std.specs.List.{filter_map}
 use Rattle.std.proofs.lemmas.Int.{ints}
 use Rattle.std.proofs.lemmas.List.{take_more}
-use Rattle.sat_model.specs.Sizes.{IsWithin}
+use Rattle.grid_model.specs.Sizes.{IsWithin}
 use Rattle.toml.specs.Data.{no_members, item, integer, push_item}
 use Rattle.toml.specs.Parse.{parse_document}
 use Rattle.error_bounds.specs.Forms.{is_coordinate, um}
@@ -54,6 +54,7 @@ settings_read text x y z near utf8 parsed = record {
     bisections = refl;
     width = refl;
     max_age = refl;
+    pairs = refl;
     signal = refl;
     receiver = (neg_ℤ (pos 2500000), pos 2500000);
     is_receiver = refl;

@@ -1,7 +1,7 @@
 -- The table of a settings text, and the settings that it has.
-use Rattle.std.specs.Prelude.{ℕ, ℤ, pos, neg_ℤ, List, [], ◌∷◌, None, codes}
-use Rattle.sat_model.specs.Sizes.{IsWithin}
-use Rattle.sat_model.specs.declared.satellites.Signal.TheVariants.{Single}
+use Rattle.std.specs.Prelude.{ℕ, ℤ, pos, neg_ℤ, false, List, [], ◌∷◌, None, codes}
+use Rattle.grid_model.specs.Sizes.{IsWithin}
+use Rattle.gnss_model.specs.declared.satellites.Signal.TheVariants.{Single}
 use Rattle.std.specs.Ordering.{nat_cmp, match_ordering}
 use Rattle.std.specs.Cmp.Lexicographic.{slice_cmp}
 use Rattle.toml.specs.Data.{Data, string, integer, array, table, Items, no_items, item, Members, no_members, member}
@@ -57,6 +57,7 @@ settings_of x y z = record {
   bisections = 64;
   width = pos 1000000;
   max_age = 7200;
+  pairs = false;
   signal = Single (codes "C1C");
   common = (neg_ℤ (pos 2500000), pos 2500000);
   extra = [];

@@ -5,7 +5,7 @@ ghost use Rattle.made_texts.specs.Fields.{minus_or, field_text};
 
 use crate::field_number::FieldNumber;
 use decimal_digits::push_digits;
-use sat_model::NoMemory;
+use grid_model::NoMemory;
 
 /// The last digit of a number.
 fn push_digit(text: &mut Vec<u8>, number: u64) -> Result<(), NoMemory>

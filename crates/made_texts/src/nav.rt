@@ -12,7 +12,7 @@ use crate::ephemeris::Ephemeris;
 use crate::field_number::{FieldNumber, ZERO};
 use crate::fields::push_field;
 use decimal_digits::push_digits;
-use sat_model::NoMemory;
+use grid_model::NoMemory;
 use std::alloc::Global;
 
 /// The text of a file with these records is accepted with these records.

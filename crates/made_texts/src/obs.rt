@@ -7,12 +7,12 @@ ghost use Rattle.made_texts.specs.TextLines.{text_of};
 ghost use Rattle.made_texts.specs.ObsText.{right, metres_text, two_wide, satellite_text, head_text, satellites_text, epoch_text, obs_lines, AreEpochs, observed_from, code_c1c};
 ghost use Rattle.made_texts.specs.declared.sat_codes.EpochCodes.{EpochCodes};
 ghost use Rattle.rinex_obs.specs.Files.{IsObsFile};
-ghost use Rattle.sat_model.specs.declared.satellites.Signal.TheVariants.{Single};
+ghost use Rattle.gnss_model.specs.declared.satellites.Signal.TheVariants.{Single};
 
 use crate::sat_codes::{EpochCodes, SatCode};
 use decimal_digits::push_digits;
+use grid_model::NoMemory;
 use itoa::Buffer;
-use sat_model::NoMemory;
 use std::alloc::Global;
 
 /// The text of a file with these epochs is accepted with these epochs.

@@ -8,7 +8,7 @@ ghost use Rattle.toml.specs.View.{view, table_view};
 ghost use Rattle.error_bounds.specs.Texts.{IsSettings};
 ghost use Rattle.made_texts.specs.SettingsText.{integers, span, put_member, bounds_table, search_table, signal_table, settings_table, settings_of, AreNear};
 
-use sat_model::NoMemory;
+use grid_model::NoMemory;
 use std::alloc::Global;
 use toml::{Table, Value};
 

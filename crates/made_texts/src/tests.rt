@@ -2,9 +2,9 @@
 
 use crate::{Ephemeris, EpochCodes, FieldNumber, SatCode, ZERO, nav_text, obs_text, settings_text};
 use error_bounds::read_settings;
+use gnss_model::Signal;
 use rinex_nav::read_nav;
 use rinex_obs::read_obs;
-use sat_model::Signal;
 use std::test::Fail;
 
 const NAV: &str = "     3.05           N: GNSS NAV DATA    G                   RINEX VERSION / TYPE

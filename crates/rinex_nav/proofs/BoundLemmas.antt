@@ -8,10 +8,10 @@ use Rattle.exact_decimal.specs.declared.decimal.Decimal.{Decimal}
 use Rattle.exact_decimal.specs.declared.unit.Unit.{Unit}
 use Rattle.exact_decimal.specs.declared.unit.Unit.TheVariants.{Time}
 use Rattle.exact_decimal.proofs.Limits.{below_floor, some_parts}
-use Rattle.sat_model.specs.RecordBounds.{LiesFrom}
-use Rattle.sat_model.specs.Rounding.{IsFloor, IsCeiling}
-use Rattle.sat_model.specs.declared.spans.Wide.{Wide}
-use Rattle.sat_model.proofs.ProductLemmas.{add_mul, mul_lt_back}
+use Rattle.gnss_model.specs.RecordBounds.{LiesFrom}
+use Rattle.grid_model.specs.Rounding.{IsFloor, IsCeiling}
+use Rattle.grid_model.specs.declared.spans.Wide.{Wide}
+use Rattle.grid_model.proofs.ProductLemmas.{add_mul, mul_lt_back}
 use Rattle.rinex_nav.specs.FieldBounds.{Between, field_bounds, field_of, IsInside, AreInsideBefore}
 use Rattle.rinex_nav.specs.ElementsOf.{IsRounded, Holds}
 

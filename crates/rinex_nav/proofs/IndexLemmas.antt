@@ -4,7 +4,7 @@ use Rattle.std.specs.Prelude.{Vec}
 use Rattle.std.proofs.lemmas.Bool.{eqb-true, eq-eqb, false≢true}
 use Rattle.std.proofs.lemmas.List.{append-nil}
 use Rattle.indexmap.specs.IndexMap.{IndexMap, get_by}
-use Rattle.sat_model.specs.declared.satellites.Sat.{Sat}
+use Rattle.gnss_model.specs.declared.satellites.Sat.{Sat}
 use Rattle.rinex_nav.specs.Index.{listed, IsIndex}
 use Rattle.rinex_nav.specs.Places.{is_same, places_from}
 use Rattle.rinex_nav.specs.declared.record.NavRecord.{NavRecord}

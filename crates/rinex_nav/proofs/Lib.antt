@@ -1,5 +1,6 @@
 pub mod FieldLemmas
 pub mod TakeLemmas
+pub mod SourceLemmas
 pub mod RecordLemmas
 pub mod OnlyLemmas
 pub mod WeekLemmas

@@ -5,10 +5,10 @@ use Rattle.std.specs.Int.{w128}
 use Rattle.std.proofs.lemmas.Int.{ints}
 use Rattle.exact_decimal.specs.declared.unit.Unit.TheVariants.{Time}
 use Rattle.exact_decimal.proofs.Limits.{below_floor, some_parts}
-use Rattle.sat_model.specs.RecordBounds.{week, LiesFrom, IsNearTime}
-use Rattle.sat_model.specs.Sizes.{IsWithin}
-use Rattle.sat_model.specs.declared.spans.Wide.{Wide}
-use Rattle.sat_model.specs.Rounding.{IsFloor}
+use Rattle.gnss_model.specs.RecordBounds.{week, LiesFrom, IsNearTime}
+use Rattle.grid_model.specs.Sizes.{IsWithin}
+use Rattle.grid_model.specs.declared.spans.Wide.{Wide}
+use Rattle.grid_model.specs.Rounding.{IsFloor}
 use Rattle.rinex_nav.specs.Weeks.{IsNearestWeek, IsEphemerisTime, IsAge}
 use Rattle.rinex_nav.specs.FieldBounds.{field_of}
 use Rattle.rinex_nav.specs.declared.record.NavRecord.{NavRecord}

@@ -4,10 +4,10 @@ use Rattle.exact_decimal.specs.Units.{numerator, denominator}
 use Rattle.exact_decimal.specs.declared.decimal.Decimal.{Decimal}
 use Rattle.exact_decimal.specs.declared.unit.Unit.{Unit}
 use Rattle.exact_decimal.specs.declared.unit.Unit.TheVariants.{Length, Ratio, Rate, Drift, Time, Clock, RootA}
-use Rattle.sat_model.specs.RecordBounds.{LiesFrom}
-use Rattle.sat_model.specs.Rounding.{IsFloor, IsCeiling}
-use Rattle.sat_model.specs.declared.elements.Elements.{Elements}
-use Rattle.sat_model.specs.declared.spans.Wide.{Wide}
+use Rattle.gnss_model.specs.RecordBounds.{LiesFrom}
+use Rattle.grid_model.specs.Rounding.{IsFloor, IsCeiling}
+use Rattle.gnss_model.specs.declared.elements.Elements.{Elements}
+use Rattle.grid_model.specs.declared.spans.Wide.{Wide}
 use Rattle.rinex_nav.specs.FieldBounds.{FieldBound, Between, Under, field_bounds, field_of}
 use Rattle.rinex_nav.specs.Weeks.{IsNearestWeek}
 use Rattle.rinex_nav.specs.declared.record.NavRecord.{NavRecord}

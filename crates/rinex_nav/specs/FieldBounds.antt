@@ -5,7 +5,7 @@ use Rattle.exact_decimal.specs.Units.{numerator, denominator, LiesBetween}
 use Rattle.exact_decimal.specs.declared.decimal.Decimal.{Decimal}
 use Rattle.exact_decimal.specs.declared.unit.Unit.{Unit}
 use Rattle.exact_decimal.specs.declared.unit.Unit.TheVariants.{Length, Ratio, Rate, Drift, Time, Clock, RootA}
-use Rattle.sat_model.specs.RecordBounds.{offset_bound, drift_bound, ageing_bound, delay_bound, angle_bound, rate_bound, angle_swing_bound, radius_swing_bound, eccentricity_bound, least_root_a, greatest_root_a, week}
+use Rattle.gnss_model.specs.RecordBounds.{offset_bound, drift_bound, ageing_bound, delay_bound, angle_bound, rate_bound, angle_swing_bound, radius_swing_bound, eccentricity_bound, least_root_a, greatest_root_a, week}
 use Rattle.rinex_nav.specs.Fields.{zero_decimal}
 
 -- ---- the table

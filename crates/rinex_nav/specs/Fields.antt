@@ -36,6 +36,13 @@ MiddleFields text numbers = FieldAt text 24 numbers.0 × FieldAt text 43 numbers
 abbrev pub LastFields : List ℕ → Three → Type 0
 LastFields text numbers = FieldAt text 24 numbers.0 × FieldAt text 43 numbers.1 × FieldAt text 62 numbers.2
 
+-- a Galileo record tells behind its first field what its data come from; else zero stands for it
+abbrev pub IsSource : ℕ → List ℕ → Decimal → Type 0
+IsSource system text source = ((system ≡ 69) × FieldAt text 24 source) ⊎ ((system ≡ 69 → ⊥) × (source ≡ zero_decimal))
+
+abbrev pub SourceFields : ℕ → List ℕ → Two → Type 0
+SourceFields system text numbers = FieldAt text 5 numbers.0 × IsSource system text numbers.1
+
 abbrev pub AllFields : List ℕ → Four → Type 0
 AllFields text numbers = FieldAt text 5 numbers.0 × FieldAt text 24 numbers.1 × FieldAt text 43 numbers.2 × FieldAt text 62 numbers.3
 

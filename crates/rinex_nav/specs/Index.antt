@@ -1,7 +1,7 @@
 -- The index of the records by satellite, as a map from satellites to places.
 use Rattle.std.specs.Prelude.{ℕ, ◌≡◌, List, [], option_map, unwrap_or, Vec}
 use Rattle.indexmap.specs.IndexMap.{IndexMap, get_by}
-use Rattle.sat_model.specs.declared.satellites.Sat.{Sat}
+use Rattle.gnss_model.specs.declared.satellites.Sat.{Sat}
 use Rattle.rinex_nav.specs.Places.{is_same, places_of}
 use Rattle.rinex_nav.specs.declared.record.NavRecord.{NavRecord}
 

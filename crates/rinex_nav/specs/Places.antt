@@ -1,6 +1,6 @@
 -- The places of a satellite's records, by satellite.
 use Rattle.std.specs.Prelude.{ℕ, ◌+◌, ◌&&◌, Bool, List, [], ◌∷◌, nat_eq, if◌then◌else◌}
-use Rattle.sat_model.specs.declared.satellites.Sat.{Sat}
+use Rattle.gnss_model.specs.declared.satellites.Sat.{Sat}
 use Rattle.rinex_nav.specs.declared.record.NavRecord.{NavRecord}
 
 abbrev pub is_same : Sat → Sat → Bool

@@ -1,5 +1,5 @@
 -- What a reader of navigation files has read.
-use Rattle.std.specs.Prelude.{◌≡◌, List, ◌++◌, Result, Ok, Err, map}
+use Rattle.std.specs.Prelude.{◌≡◌, List, [], ◌∷◌, ◌++◌, Option, None, Some, Result, Ok, Err, map}
 use Rattle.rinex_text.specs.declared.fault.ReadError.{ReadError}
 use Rattle.rinex_text.specs.declared.fault.ReadError.TheVariants.{NoMemory}
 use Rattle.rinex_text.specs.declared.fault.Refusal.{Refusal}
@@ -11,6 +11,11 @@ plain_record r = record { sat = r.sat; toc = r.toc; healthy = r.healthy; fields 
 
 abbrev pub records_of : List NavRecord → List Broadcast
 records_of records = map plain_record records
+
+-- a record or none, as a list
+abbrev pub listed_of : Option NavRecord → List NavRecord
+listed_of None = []
+listed_of (Some r) = r ∷ []
 
 -- records before those that come later
 abbrev pub with_all : List Broadcast → Result (List Broadcast) Refusal → Result (List Broadcast) Refusal

@@ -1,25 +1,30 @@
 -- The eight lines of a navigation record.
-use Rattle.std.specs.Prelude.{ℕ, ◌≡◌, ◌⊎◌, ◌<◌, ℤ, Bool, true, List, [], ◌∷◌, Result}
+use Rattle.std.specs.Prelude.{ℕ, ◌≡◌, ◌⊎◌, ◌<◌, ◌==◌, ◌&&◌, ◌||◌, ℤ, Bool, true, List, [], ◌∷◌, Option, None, Some, Result}
 use Rattle.std.specs.List.{list_all}
 use Rattle.exact_decimal.specs.NumberFields.{is_blank}
 use Rattle.exact_decimal.specs.declared.decimal.Decimal.{Decimal}
 use Rattle.rinex_text.specs.Bodies.{is_printable, needs}
 use Rattle.rinex_text.specs.Columns.{column_of}
 use Rattle.rinex_text.specs.Counts.{IsNumber}
-use Rattle.rinex_text.specs.Faults.{gives, test, read, then}
+use Rattle.rinex_text.specs.Faults.{gives, test, read, where_holds, then}
 use Rattle.rinex_text.specs.Headers.{IsShort, Behind}
 use Rattle.rinex_text.specs.Lines.{TextLine}
 use Rattle.rinex_text.specs.declared.fault.Fault.{Fault}
 use Rattle.rinex_text.specs.declared.fault.Fault.TheVariants as fault
 use Rattle.rinex_text.specs.declared.fault.Refusal.{Refusal}
-use Rattle.sat_model.specs.declared.satellites.Sat.{Sat}
-use Rattle.rinex_nav.specs.Fields.{Two, Three, Four, FirstField, MiddleFields, LastFields, AllFields, IsClockTime, is_zero}
+use Rattle.gnss_model.specs.declared.satellites.Sat.{Sat}
+use Rattle.rinex_nav.specs.Fields.{Two, Three, Four, SourceFields, MiddleFields, LastFields, AllFields, IsClockTime, is_zero}
+use Rattle.rinex_nav.specs.Sources.{IsKept}
 
 -- ---- its lines
 
--- what the first line gives: the number of the satellite, the clock time, and af0, af1 and af2
+-- `G`, or one of `G` and `E` where the records of both systems are read
+abbrev pub is_read : Bool → ℕ → Bool
+is_read both byte = byte == 71 || (both && byte == 69)
+
+-- what the first line gives: the satellite, the clock time, and af0, af1 and af2
 abbrev pub Clock : Type 0
-Clock = ℕ × ℤ × Three
+Clock = Sat × ℤ × Three
 
 -- the first line, behind so many records
 abbrev pub clock_line : ℕ → TextLine → Result Clock Fault → Type 0
@@ -30,25 +35,25 @@ clock_line count line =
     test (count < 200000) fault.TooMany
     (read (IsClockTime line.text) fault.BadEpoch (λ toc.
     read (LastFields line.text) fault.BadNumber (λ clock.
-    gives (number, toc, clock)))))))
+    gives (record { system = column_of line.text 1; number = number }, toc, clock)))))))
 
-abbrev pub MayFollow : ℕ → Type 0
-MayFollow byte = (is_blank byte ≡ true) ⊎ (byte ≡ 71)
+abbrev pub MayFollow : Bool → ℕ → Type 0
+MayFollow both byte = (is_blank byte ≡ true) ⊎ (is_read both byte ≡ true)
 
--- A further line has a blank first column. What begins another record is a fault; `G` begins a line
--- that is read, and so its bytes are tested before.
-abbrev pub further_text : TextLine → Result (Unit {0}) Fault → Type 0
-further_text line =
+-- A further line has a blank first column. What begins another record is a fault; where that is one that
+-- is read, its bytes are tested before.
+abbrev pub further_text : Bool → TextLine → Result (Unit {0}) Fault → Type 0
+further_text both line =
     test (IsShort line) fault.LongLine
-    (test (MayFollow (column_of line.text 1)) fault.Truncated
+    (test (MayFollow both (column_of line.text 1)) fault.Truncated
     (test (list_all is_printable line.text ≡ true) fault.NotAscii
     (test (is_blank (column_of line.text 1) ≡ true) fault.Truncated
     (gives tt))))
 
 -- its fields
-abbrev pub further_line : {V : Type 0} → (List ℕ → V → Type 0) → TextLine → Result V Fault → Type 0
-further_line AreFields line =
-    then (further_text line) (λ passed.
+abbrev pub further_line : {V : Type 0} → Bool → (List ℕ → V → Type 0) → TextLine → Result V Fault → Type 0
+further_line both AreFields line =
+    then (further_text both line) (λ passed.
     read (AreFields line.text) fault.BadNumber gives)
 
 -- ---- the lines one behind another
@@ -63,22 +68,24 @@ pub record Broadcast : Type 0 where
 -- a record from what its lines give
 abbrev pub broadcast : Clock → Three → Four → Four → Four → Decimal → Two → Broadcast
 broadcast clock a b c d idot health = record {
-  sat = record { system = 71; number = clock.0 };
+  sat = clock.0;
   toc = clock.1;
   healthy = is_zero health.0.digits;
   fields =
       clock.2.0 ∷ clock.2.1 ∷ clock.2.2 ∷ a.0 ∷ a.1 ∷ a.2 ∷ b.0 ∷ b.1 ∷ b.2 ∷ b.3 ∷ c.0 ∷ c.1 ∷ c.2 ∷ c.3 ∷ d.0 ∷ d.1 ∷ d.2 ∷ d.3 ∷ idot ∷ health.1 ∷ [];
 }
 
--- a GPS record behind so many others
-abbrev pub record_from : ℕ → Behind → Result Broadcast Refusal → Type 0
-record_from count from =
+-- A record behind so many others: none where it isn't kept.
+abbrev pub record_from : Bool → ℕ → Behind → Result (Option Broadcast) Refusal → Type 0
+record_from both count from =
     needs (clock_line count) from (λ clock l1.
-    needs (further_line LastFields) l1 (λ a l2.
-    needs (further_line AllFields) l2 (λ b l3.
-    needs (further_line AllFields) l3 (λ c l4.
-    needs (further_line AllFields) l4 (λ d l5.
-    needs (further_line FirstField) l5 (λ idot l6.
-    needs (further_line MiddleFields) l6 (λ health l7.
-    needs further_text l7 (λ none l8.
-    gives (broadcast clock a b c d idot health)))))))))
+    needs (further_line both LastFields) l1 (λ a l2.
+    needs (further_line both AllFields) l2 (λ b l3.
+    needs (further_line both AllFields) l3 (λ c l4.
+    needs (further_line both AllFields) l4 (λ d l5.
+    needs (further_line both (SourceFields clock.0.system)) l5 (λ source l6.
+    needs (further_line both MiddleFields) l6 (λ health l7.
+    needs (further_text both) l7 (λ none l8.
+    where_holds (IsKept clock.0 source.1)
+    (gives (Some (broadcast clock a b c d source.0 health)))
+    (gives None)))))))))

@@ -3,8 +3,8 @@
 use Rattle.std.specs.Prelude.{ℕ, ◌*◌, ◌^◌, ◌≡◌, ℤ, pos, neg_ℤ, ◌+ℤ◌, ◌-ℤ◌, ◌*ℤ◌, ◌≤ℤ◌, ◌<ℤ◌, unsigned_abs}
 use Rattle.exact_decimal.specs.Units.{numerator, denominator}
 use Rattle.exact_decimal.specs.declared.unit.Unit.TheVariants.{Time}
-use Rattle.sat_model.specs.RecordBounds.{week}
-use Rattle.sat_model.specs.Rounding.{IsFloor}
+use Rattle.gnss_model.specs.RecordBounds.{week}
+use Rattle.grid_model.specs.Rounding.{IsFloor}
 use Rattle.rinex_nav.specs.FieldBounds.{field_of, IsInside}
 use Rattle.rinex_nav.specs.declared.record.NavRecord.{NavRecord}
 

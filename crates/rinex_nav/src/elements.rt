@@ -2,8 +2,8 @@
 
 ghost use Rattle.std.specs.Prelude.{◌≡◌, ◌≤◌, ◌+◌, ◌-◌, ◌^◌, ◌↔◌, ◌≤ℤ◌, ◌<ℤ◌, pos, neg_ℤ, ℕ, ℤ, IsOk, IfOk, IfErr, IfSome, IfNone, OnSome, OnOk, slice_get};
 ghost use Rattle.exact_decimal.specs.Units.{bound_of};
-ghost use Rattle.sat_model.specs.RecordBounds.{time_bound};
-ghost use Rattle.sat_model.specs.Sizes.{IsWithin};
+ghost use Rattle.gnss_model.specs.RecordBounds.{time_bound};
+ghost use Rattle.grid_model.specs.Sizes.{IsWithin};
 ghost use Rattle.rinex_nav.specs.FieldBounds.{Between, field_bounds, field_of, IsInside, AreInsideBefore, AreInside, IsFirstOutside};
 ghost use Rattle.rinex_nav.specs.ElementsOf.{Holds, AreElements};
 ghost use Rattle.rinex_nav.specs.Weeks.{IsEphemerisTime, IsAge};
@@ -11,11 +11,11 @@ ghost use Rattle.rinex_nav.specs.Weeks.{IsEphemerisTime, IsAge};
 use crate::record::NavRecord;
 use crate::week::nearest_week;
 use exact_decimal::{Decimal, Unit, to_unit_between};
-use sat_model::{
+use gnss_model::{
     AGEING_BOUND, ANGLE_BOUND, ANGLE_SWING_BOUND, DELAY_BOUND, DRIFT_BOUND, ECCENTRICITY_BOUND,
     Elements, GREATEST_ROOT_A, LEAST_ROOT_A, OFFSET_BOUND, RADIUS_SWING_BOUND, RATE_BOUND, WEEK,
-    Wide,
 };
+use grid_model::Wide;
 
 /// The fields of a line of broadcast orbit, or the number of the first outside its bounds.
 type OrbitLine = Result<(Wide, Wide, Wide, Wide), u8>;

@@ -2,7 +2,7 @@
 
 ghost use Rattle.std.specs.Prelude.{◌≡◌, ◌≤◌, ℤ, pos, ◌<ℤ◌, ◌≤ℤ◌, IfSome, IfNone};
 ghost use Rattle.exact_decimal.specs.declared.decimal.Decimal.{Decimal};
-ghost use Rattle.rinex_nav.specs.Fields.{Two, Three, Four, FieldAt, MiddleFields, LastFields, AllFields, IsClockTime, is_zero};
+ghost use Rattle.rinex_nav.specs.Fields.{Two, Three, Four, FieldAt, SourceFields, MiddleFields, LastFields, AllFields, IsClockTime, is_zero};
 
 use exact_decimal::{Decimal, read_exp};
 use rinex_text::{columns, four_digits, gps_ps, two_digits};
@@ -19,6 +19,19 @@ pub fn field(text: &[u8], first: u16) -> Option<Decimal>
         Ok(None) => Some(Decimal { digits: 0, ten: 0 }),
         Err(_) => None,
     }
+}
+
+/// The first field of a line, and the second where the record is one of Galileo; else zero.
+pub fn source_fields(text: &[u8], system: u8) -> Option<(Decimal, Decimal)>
+    ensures numbers { IfSome result (SourceFields system text.now) }
+    ensures none { IfNone result ((numbers : Two) → SourceFields system text.now numbers → ⊥) }
+{
+    let idot = field(text, 5)?;
+    if system != b'E' {
+        return Some((idot, Decimal { digits: 0, ten: 0 }));
+    }
+    let source = field(text, 24)?;
+    Some((idot, source))
 }
 
 /// The second and the third field of a line.

@@ -1,5 +1,5 @@
-//! Navigation files of RINEX 3: the broadcast ephemerides of GPS satellites, with their numbers as
-//! exact decimals.
+//! Navigation files of RINEX 3: the broadcast ephemerides of GPS satellites, or of those and of
+//! Galileo satellites, with their numbers as exact decimals.
 #![tactic(auto)]
 
 mod elements;
@@ -9,9 +9,10 @@ mod nav;
 mod places;
 mod read;
 mod record;
+mod source;
 mod take;
 mod week;
 
 pub use nav::Nav;
-pub use read::read_nav;
+pub use read::{read_nav, read_nav_both, read_nav_of};
 pub use record::NavRecord;

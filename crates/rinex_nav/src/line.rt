@@ -2,11 +2,12 @@
 
 ghost use Rattle.std.specs.Prelude.{◌≡◌, ◌↔◌, ◌<◌, ◌<ℤ◌, ◌≤ℤ◌, pos, IfOk, OnOk, IsTrue};
 ghost use Rattle.rinex_text.specs.Reading.{plain_line};
-ghost use Rattle.rinex_nav.specs.Fields.{FirstField, MiddleFields, LastFields, AllFields};
-ghost use Rattle.rinex_nav.specs.Records.{MayFollow, clock_line, further_text, further_line};
+ghost use Rattle.rinex_nav.specs.Fields.{SourceFields, MiddleFields, LastFields, AllFields};
+ghost use Rattle.rinex_nav.specs.Records.{is_read, MayFollow, clock_line, further_text, further_line};
 
-use crate::field::{all_fields, clock_time, field, last_fields, middle_fields};
+use crate::field::{all_fields, clock_time, last_fields, middle_fields, source_fields};
 use exact_decimal::Decimal;
+use gnss_model::Sat;
 use rinex_text::{
     Fault, Line, column, is_blank_byte, is_printable_text, is_short, satellite_number,
 };
@@ -14,12 +15,12 @@ use rinex_text::{
 /// The most records of a file.
 const MOST_RECORDS: usize = 200_000;
 
-/// The satellite's number, the clock time and the clock's coefficients on the first line of a
+/// The satellite, the clock time and the clock's coefficients on the first line of a
 /// record, behind so many records.
 pub fn clock_line(
     line: Line<'_>,
     count: usize,
-) -> Result<(u8, i128, (Decimal, Decimal, Decimal)), Fault>
+) -> Result<(Sat, i128, (Decimal, Decimal, Decimal)), Fault>
     ensures line { clock_line count (plain_line line.entry) result }
     ensures from { IfOk result (λ clock. pos 0 ≤ℤ clock.1) }
     ensures under { IfOk result (λ clock. clock.1 <ℤ pos 4000000000000000000000) }
@@ -43,24 +44,35 @@ pub fn clock_line(
     let Some(clock) = last_fields(line.text) else {
         return Err(Fault::BadNumber);
     };
-    Ok((number, toc, clock))
+    let sat = Sat {
+        system: column(line.text, 1),
+        number,
+    };
+    Ok((sat, toc, clock))
 }
 
-/// Whether the byte is a blank or `G`.
-fn may_follow(byte: u8) -> bool
-    ensures { IsTrue result ↔ MayFollow byte }
+/// Whether the letter begins a record that is read: `G`, or one of `G` and `E`.
+pub fn is_read(letter: u8, both: bool) -> bool
+    ensures { result ≡ is_read both letter }
 {
-    is_blank_byte(byte) || byte == b'G'
+    letter == b'G' || (both && letter == b'E')
+}
+
+/// Whether the byte is a blank or begins a record that is read.
+fn may_follow(byte: u8, both: bool) -> bool
+    ensures { IsTrue result ↔ MayFollow both byte }
+{
+    is_blank_byte(byte) || is_read(byte, both)
 }
 
 /// The tests of a further line of a record, before its fields.
-pub fn further_text(line: Line<'_>) -> Result<(), Fault>
-    ensures { further_text (plain_line line.entry) result }
+pub fn further_text(line: Line<'_>, both: bool) -> Result<(), Fault>
+    ensures { further_text both (plain_line line.entry) result }
 {
     if !is_short(line) {
         return Err(Fault::LongLine);
     }
-    if !may_follow(column(line.text, 1)) {
+    if !may_follow(column(line.text, 1), both) {
         return Err(Fault::Truncated);
     }
     if !is_printable_text(line.text) {
@@ -72,12 +84,12 @@ pub fn further_text(line: Line<'_>) -> Result<(), Fault>
     Ok(())
 }
 
-/// The first field of a further line.
-pub fn first_line(line: Line<'_>) -> Result<Decimal, Fault>
-    ensures { further_line FirstField (plain_line line.entry) result }
+/// The first field of a further line, and the second where the record is one of Galileo.
+pub fn source_line(line: Line<'_>, both: bool, system: u8) -> Result<(Decimal, Decimal), Fault>
+    ensures { further_line both (SourceFields system) (plain_line line.entry) result }
 {
-    match further_text(line) {
-        Ok(()) => match field(line.text, 5) {
+    match further_text(line, both) {
+        Ok(()) => match source_fields(line.text, system) {
             Some(read) => Ok(read),
             None => Err(Fault::BadNumber),
         },
@@ -86,10 +98,10 @@ pub fn first_line(line: Line<'_>) -> Result<Decimal, Fault>
 }
 
 /// The second and the third field of a further line.
-pub fn middle_line(line: Line<'_>) -> Result<(Decimal, Decimal), Fault>
-    ensures { further_line MiddleFields (plain_line line.entry) result }
+pub fn middle_line(line: Line<'_>, both: bool) -> Result<(Decimal, Decimal), Fault>
+    ensures { further_line both MiddleFields (plain_line line.entry) result }
 {
-    match further_text(line) {
+    match further_text(line, both) {
         Ok(()) => match middle_fields(line.text) {
             Some(read) => Ok(read),
             None => Err(Fault::BadNumber),
@@ -99,10 +111,10 @@ pub fn middle_line(line: Line<'_>) -> Result<(Decimal, Decimal), Fault>
 }
 
 /// The last three fields of a further line.
-pub fn last_line(line: Line<'_>) -> Result<(Decimal, Decimal, Decimal), Fault>
-    ensures { further_line LastFields (plain_line line.entry) result }
+pub fn last_line(line: Line<'_>, both: bool) -> Result<(Decimal, Decimal, Decimal), Fault>
+    ensures { further_line both LastFields (plain_line line.entry) result }
 {
-    match further_text(line) {
+    match further_text(line, both) {
         Ok(()) => match last_fields(line.text) {
             Some(read) => Ok(read),
             None => Err(Fault::BadNumber),
@@ -112,10 +124,10 @@ pub fn last_line(line: Line<'_>) -> Result<(Decimal, Decimal, Decimal), Fault>
 }
 
 /// The four fields of a further line.
-pub fn whole_line(line: Line<'_>) -> Result<(Decimal, Decimal, Decimal, Decimal), Fault>
-    ensures { further_line AllFields (plain_line line.entry) result }
+pub fn whole_line(line: Line<'_>, both: bool) -> Result<(Decimal, Decimal, Decimal, Decimal), Fault>
+    ensures { further_line both AllFields (plain_line line.entry) result }
 {
-    match further_text(line) {
+    match further_text(line, both) {
         Ok(()) => match all_fields(line.text) {
             Some(read) => Ok(read),
             None => Err(Fault::BadNumber),

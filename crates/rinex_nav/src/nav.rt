@@ -2,7 +2,7 @@
 
 use crate::places::{Places, places_of};
 use crate::record::NavRecord;
-use sat_model::Sat;
+use gnss_model::Sat;
 use std::marker::Model;
 
 /// The GPS records of a navigation file, in file order. Contracts see it as their list.

@@ -1,14 +1,14 @@
 //! The places of each satellite's records.
 
 ghost use Rattle.std.specs.Prelude.{◌≡◌, ◌++◌, [], ◌∷◌, OnOk, IfErr, if◌then◌else◌};
-ghost use Rattle.sat_model.specs.declared.satellites.Sat.{Sat};
+ghost use Rattle.gnss_model.specs.declared.satellites.Sat.{Sat};
 ghost use Rattle.rinex_text.specs.declared.fault.ReadError.TheVariants.{NoMemory};
 ghost use Rattle.rinex_nav.specs.Index.{listed};
 ghost use Rattle.rinex_nav.specs.Places.{is_same};
 
+use gnss_model::Sat;
 use indexmap::IndexMap;
 use rinex_text::ReadError;
-use sat_model::Sat;
 use std::alloc::Global;
 
 /// The places of each satellite's records, in rising order.

@@ -1,47 +1,63 @@
 //! Navigation files.
 
-ghost use Rattle.std.specs.Prelude.{◌≡◌, ◌≤◌, ◌<◌, ◌+◌, List, IfOk, IfErr, OnOk, Ok, Err, drop, length, map};
+ghost use Rattle.std.specs.Prelude.{◌≡◌, ◌≤◌, ◌<◌, ◌+◌, true, List, IfOk, IfErr, OnOk, Some, None, Ok, Err, drop, length, map, option_map, ◌++◌, ◌⊎◌};
 ghost use Rattle.rinex_text.specs.Lines.{lines_of};
 ghost use Rattle.rinex_text.specs.declared.fault.Refusal.{Refusal};
 ghost use Rattle.rinex_text.specs.Reading.{body_left, body_behind, Leaves, Refuses, GivesRefusal};
 ghost use Rattle.rinex_text.specs.Whole.{IsSettled};
-ghost use Rattle.rinex_nav.specs.Files.{records_from, nav_file, IsNavFile, IsFirstFault};
-ghost use Rattle.rinex_nav.specs.Reading.{plain_record, records_of, GivesRecords};
-ghost use Rattle.rinex_nav.specs.Whole.{IsWhole};
+ghost use Rattle.rinex_nav.specs.Files.{records_from, nav_file, nav_file_of, IsNavFile, IsNavFileOf, IsFirstFault, IsFirstFaultOf};
+ghost use Rattle.rinex_nav.specs.Index.{IsIndex};
+ghost use Rattle.rinex_nav.specs.Reading.{plain_record, records_of, listed_of, GivesRecords};
+ghost use Rattle.rinex_text.specs.declared.fault.ReadError.TheVariants.{NoMemory};
+ghost use Rattle.rinex_nav.specs.Whole.{IsWhole, IsWholeOf};
 ghost use Rattle.rinex_nav.specs.Records.{Broadcast, record_from};
+ghost use Rattle.rinex_nav.specs.Sources.{IsKept};
 
 use crate::field::is_zero;
+use crate::line::is_read;
 use crate::nav::Nav;
-use crate::places::add_place;
+use crate::places::{Places, add_place};
 use crate::record::NavRecord;
-use crate::take::{take_clock, take_first, take_last, take_middle, take_unread, take_whole};
+use crate::source::is_kept;
+use crate::take::{take_clock, take_last, take_middle, take_source, take_unread, take_whole};
+use exact_decimal::Decimal;
 use indexmap::IndexMap;
 use rinex_text::{
-    Body, Fault, ReadError, Refusal, behind_header, behind_version, column, is_short,
+    Body, Fault, ReadError, Refusal, behind_header, behind_version_of, column, is_short,
 };
-use sat_model::Sat;
 use std::alloc::Global;
 
-/// The record that begins with the next line, behind so many records.
-fn read_record(body: Body<'_>, count: usize) -> Result<(NavRecord, Body<'_>), Refusal>
-    ensures record { IfOk result (λ t. record_from count (body_behind body.entry) (Ok (plain_record t.0))) }
+/// The record, where it is kept.
+fn kept(one: NavRecord, source: &Decimal) -> Option<NavRecord>
+    ensures { (IsKept one.sat source.now × (option_map plain_record result ≡ Some (plain_record one))) ⊎ ((IsKept one.sat source.now → ⊥) × (result ≡ None)) }
+{
+    if is_kept(one.sat, source) {
+        return Some(one);
+    }
+    None
+}
+
+/// The record that begins with the next line, behind so many records: none where it isn't kept.
+fn read_record(
+    body: Body<'_>,
+    both: bool,
+    count: usize,
+) -> Result<(Option<NavRecord>, Body<'_>), Refusal>
+    ensures record { IfOk result (λ t. record_from both count (body_behind body.entry) (Ok (option_map plain_record t.0))) }
     ensures left { IfOk result (λ t. Leaves body.entry 8 t.1) }
     ensures few { OnOk result (count < 200000) }
-    ensures fault { IfErr result (λ e. record_from count (body_behind body.entry) (Err e)) }
+    ensures fault { IfErr result (λ e. record_from both count (body_behind body.entry) (Err e)) }
 {
-    let ((number, toc, (af0, af1, af2)), left) = take_clock(body, count)?;
-    let ((crs, dn, m0), left) = take_last(left)?;
-    let ((cuc, e, cus, root_a), left) = take_whole(left)?;
-    let ((toe, cic, om0, cis), left) = take_whole(left)?;
-    let ((i0, crc, omega, om_dot), left) = take_whole(left)?;
-    let (idot, left) = take_first(left)?;
-    let ((health, tgd), left) = take_middle(left)?;
-    let ((), left) = take_unread(left)?;
+    let ((sat, toc, (af0, af1, af2)), left) = take_clock(body, count)?;
+    let ((crs, dn, m0), left) = take_last(left, both)?;
+    let ((cuc, e, cus, root_a), left) = take_whole(left, both)?;
+    let ((toe, cic, om0, cis), left) = take_whole(left, both)?;
+    let ((i0, crc, omega, om_dot), left) = take_whole(left, both)?;
+    let ((idot, source), left) = take_source(left, both, sat.system)?;
+    let ((health, tgd), left) = take_middle(left, both)?;
+    let ((), left) = take_unread(left, both)?;
     let record = NavRecord {
-        sat: Sat {
-            system: b'G',
-            number,
-        },
+        sat,
         toc,
         healthy: is_zero(&health),
         fields: [
@@ -49,22 +65,42 @@ fn read_record(body: Body<'_>, count: usize) -> Result<(NavRecord, Body<'_>), Re
             om_dot, idot, tgd,
         ],
     };
-    Ok((record, left))
+    Ok((kept(record, &source), left))
+}
+
+/// Keeps the record behind those before, where there is one.
+fn keep(
+    alloc: Global,
+    records: &mut Vec<NavRecord>,
+    places: &mut Places,
+    found: Option<NavRecord>,
+) -> Result<(), ReadError>
+    requires { length records.old.items < 200000 }
+    ensures items { OnOk result (records.new.items ≡ records.old.items ++ listed_of found) }
+    ensures index { OnOk result (IsIndex places.old records.old.items → IsIndex places.new records.new.items) }
+    ensures memory { IfErr result (λ e. e ≡ NoMemory) }
+{
+    if let Some(record) = found {
+        add_place(alloc, places, record.sat, records.len() as u32)?;
+        records.push(record)?;
+    }
+    Ok(())
 }
 
 /// The records of a body.
-fn read_records(alloc: Global, body: Body<'_>) -> Result<Nav, ReadError>
-    ensures records { IfOk result (λ nav. records_from 0 body.entry.lines.number 0 (body_left body.entry) (Ok (records_of nav))) }
-    ensures fault { IfErr result (Refuses (records_from 0 body.entry.lines.number 0 (body_left body.entry))) }
+fn read_records(alloc: Global, body: Body<'_>, both: bool) -> Result<Nav, ReadError>
+    ensures records { IfOk result (λ nav. records_from both 0 body.entry.lines.number 0 (body_left body.entry) (Ok (records_of nav))) }
+    ensures fault { IfErr result (Refuses (records_from both 0 body.entry.lines.number 0 (body_left body.entry))) }
 {
     let mut records = Vec::new(alloc);
     let mut places = IndexMap::new(alloc);
     let mut left = body;
+    let mut count = 0;
     'lines: while let Some((line, behind)) = left.split_first() {
-        if column(line.text, 1) == b'G' {
-            let (record, after) = read_record(left, records.len())?;
-            add_place(alloc, &mut places, record.sat, records.len() as u32)?;
-            records.push(record)?;
+        if is_read(column(line.text, 1), both) {
+            let (found, after) = read_record(left, both, count)?;
+            keep(alloc, &mut records, &mut places, found)?;
+            count += 1;
             left = after;
         } else {
             if !is_short(line) {
@@ -78,12 +114,12 @@ fn read_records(alloc: Global, body: Body<'_>) -> Result<Nav, ReadError>
 }
 
 /// The records of a navigation file, or its first fault.
-fn read_text(alloc: Global, bytes: &[u8]) -> Result<Nav, ReadError>
+fn read_text(alloc: Global, bytes: &[u8], both: bool) -> Result<Nav, ReadError>
     requires { length bytes.now ≤ 4000000000 }
-    ensures records { IfOk result (λ nav. IsNavFile bytes.now (records_of nav)) }
-    ensures fault { IfErr result (Refuses (nav_file (lines_of bytes.now))) }
+    ensures records { IfOk result (λ nav. IsNavFileOf both bytes.now (records_of nav)) }
+    ensures fault { IfErr result (Refuses (nav_file_of both (lines_of bytes.now))) }
 {
-    let header = match behind_version(bytes, b'N') {
+    let header = match behind_version_of(bytes, b'N', both) {
         Ok(lines) => lines,
         Err(refusal) => return Err(ReadError::Refused(refusal)),
     };
@@ -91,11 +127,31 @@ fn read_text(alloc: Global, bytes: &[u8]) -> Result<Nav, ReadError>
         Ok(lines) => lines,
         Err(refusal) => return Err(ReadError::Refused(refusal)),
     };
-    read_records(alloc, Body::new(lines))
+    read_records(alloc, Body::new(lines), both)
 }
 
-/// Reads a navigation file of at most 4 * 10^9 bytes: its GPS records in file order. The header is
-/// read line by line, then the lines behind it are counted and read once; no line is copied.
+/// Reads a navigation file of at most 4 * 10^9 bytes: its GPS records in file order, or those of
+/// `both` GPS and Galileo, of which the latter are kept where they are of F/NAV. The header is read
+/// line by line, then the lines behind it are counted and read once; no line is copied.
+pub fn read_nav_of(alloc: Global, bytes: &[u8], both: bool) -> Result<Nav, ReadError>
+    requires { length bytes.now ≤ 4000000000 }
+    // What is read are the records of a navigation file with this text.
+    ensures records { IfOk result (λ nav. IsNavFileOf both bytes.now (records_of nav)) }
+    // What isn't read has this first fault, unless memory ran out.
+    ensures fault { IfErr result (Refuses (nav_file_of both (lines_of bytes.now))) }
+    // A navigation file is read as its records, unless memory runs out.
+    ensures exact { (records : List Broadcast) → IsNavFileOf both bytes.now records → GivesRecords records result }
+    // A text with a fault is refused with its first, unless memory runs out.
+    ensures first { (refusal : Refusal) → IsFirstFaultOf both bytes.now refusal → GivesRefusal refusal result }
+    // What is behind the line of the fault matters only where that is blank: then, whether all is.
+    ensures settled { IfErr result (IsSettled (nav_file_of both) bytes.now) }
+    // How its lines are shared out, and which records come of them.
+    ensures whole { IfOk result (λ nav. IsWholeOf both (lines_of bytes.now) (records_of nav)) }
+{
+    read_text(alloc, bytes, both)
+}
+
+/// Reads a navigation file of at most 4 * 10^9 bytes: its GPS records in file order.
 pub fn read_nav(alloc: Global, bytes: &[u8]) -> Result<Nav, ReadError>
     requires { length bytes.now ≤ 4000000000 }
     // What is read are the records of a navigation file with this text.
@@ -111,5 +167,25 @@ pub fn read_nav(alloc: Global, bytes: &[u8]) -> Result<Nav, ReadError>
     // How its lines are shared out, and which records come of them.
     ensures whole { IfOk result (λ nav. IsWhole (lines_of bytes.now) (records_of nav)) }
 {
-    read_text(alloc, bytes)
+    read_nav_of(alloc, bytes, false)
+}
+
+/// Reads a navigation file of at most 4 * 10^9 bytes: its GPS records, and those Galileo records that
+/// are of F/NAV, in file order.
+pub fn read_nav_both(alloc: Global, bytes: &[u8]) -> Result<Nav, ReadError>
+    requires { length bytes.now ≤ 4000000000 }
+    // What is read are the records of a navigation file with this text.
+    ensures records { IfOk result (λ nav. IsNavFileOf true bytes.now (records_of nav)) }
+    // What isn't read has this first fault, unless memory ran out.
+    ensures fault { IfErr result (Refuses (nav_file_of true (lines_of bytes.now))) }
+    // A navigation file is read as its records, unless memory runs out.
+    ensures exact { (records : List Broadcast) → IsNavFileOf true bytes.now records → GivesRecords records result }
+    // A text with a fault is refused with its first, unless memory runs out.
+    ensures first { (refusal : Refusal) → IsFirstFaultOf true bytes.now refusal → GivesRefusal refusal result }
+    // What is behind the line of the fault matters only where that is blank: then, whether all is.
+    ensures settled { IfErr result (IsSettled (nav_file_of true) bytes.now) }
+    // How its lines are shared out, and which records come of them.
+    ensures whole { IfOk result (λ nav. IsWholeOf true (lines_of bytes.now) (records_of nav)) }
+{
+    read_nav_of(alloc, bytes, true)
 }

@@ -3,7 +3,7 @@
 ghost use Rattle.std.specs.Prelude.{pos, ◌≤ℤ◌, ◌<ℤ◌};
 
 use exact_decimal::Decimal;
-use sat_model::Sat;
+use gnss_model::Sat;
 
 /// The broadcast ephemeris of a GPS satellite, as its record in a navigation file gives it.
 #[derive(Clone, Copy, Debug, PartialEq, Eq)]

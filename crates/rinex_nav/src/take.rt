@@ -1,16 +1,17 @@
 //! The lines of a navigation record, one behind another.
 
 ghost use Rattle.std.specs.Prelude.{◌<◌, ◌≤ℤ◌, ◌<ℤ◌, pos, IfOk, IfErr, OnOk};
-ghost use Rattle.rinex_nav.specs.Fields.{FirstField, MiddleFields, LastFields, AllFields};
+ghost use Rattle.rinex_nav.specs.Fields.{SourceFields, MiddleFields, LastFields, AllFields};
 ghost use Rattle.rinex_nav.specs.Records.{clock_line, further_text, further_line};
 ghost use Rattle.rinex_text.specs.Reading.{Takes, Fails};
 
-use crate::line::{clock_line, first_line, further_text, last_line, middle_line, whole_line};
+use crate::line::{clock_line, further_text, last_line, middle_line, source_line, whole_line};
 use exact_decimal::Decimal;
+use gnss_model::Sat;
 use rinex_text::{Body, Fault, Refusal};
 
-/// What the first line of a record gives: the satellite's number, the clock time, and af0, af1, af2.
-type Clock = (u8, i128, (Decimal, Decimal, Decimal));
+/// What the first line of a record gives: the satellite, the clock time, and af0, af1, af2.
+type Clock = (Sat, i128, (Decimal, Decimal, Decimal));
 
 /// The first line of a record, behind so many records.
 pub fn take_clock(body: Body<'_>, count: usize) -> Result<(Clock, Body<'_>), Refusal>
@@ -30,14 +31,17 @@ pub fn take_clock(body: Body<'_>, count: usize) -> Result<(Clock, Body<'_>), Ref
 }
 
 /// The last three fields of the next line.
-pub fn take_last(body: Body<'_>) -> Result<((Decimal, Decimal, Decimal), Body<'_>), Refusal>
-    ensures took { IfOk result (λ t. Takes (further_line LastFields) body.entry t.0 t.1) }
-    ensures failed { IfErr result (Fails (further_line LastFields) body.entry) }
+pub fn take_last(
+    body: Body<'_>,
+    both: bool,
+) -> Result<((Decimal, Decimal, Decimal), Body<'_>), Refusal>
+    ensures took { IfOk result (λ t. Takes (further_line both LastFields) body.entry t.0 t.1) }
+    ensures failed { IfErr result (Fails (further_line both LastFields) body.entry) }
 {
     let Some((line, behind)) = body.split_first() else {
         return Err(Refusal::new(Fault::Truncated, body.lines.number));
     };
-    match last_line(line) {
+    match last_line(line, both) {
         Ok(read) => Ok((read, behind)),
         Err(fault) => Err(Refusal::new(fault, body.lines.number)),
     }
@@ -46,56 +50,61 @@ pub fn take_last(body: Body<'_>) -> Result<((Decimal, Decimal, Decimal), Body<'_
 /// The four fields of the next line.
 pub fn take_whole(
     body: Body<'_>,
+    both: bool,
 ) -> Result<((Decimal, Decimal, Decimal, Decimal), Body<'_>), Refusal>
-    ensures took { IfOk result (λ t. Takes (further_line AllFields) body.entry t.0 t.1) }
-    ensures failed { IfErr result (Fails (further_line AllFields) body.entry) }
+    ensures took { IfOk result (λ t. Takes (further_line both AllFields) body.entry t.0 t.1) }
+    ensures failed { IfErr result (Fails (further_line both AllFields) body.entry) }
 {
     let Some((line, behind)) = body.split_first() else {
         return Err(Refusal::new(Fault::Truncated, body.lines.number));
     };
-    match whole_line(line) {
+    match whole_line(line, both) {
         Ok(read) => Ok((read, behind)),
         Err(fault) => Err(Refusal::new(fault, body.lines.number)),
     }
 }
 
-/// The first field of the next line.
-pub fn take_first(body: Body<'_>) -> Result<(Decimal, Body<'_>), Refusal>
-    ensures took { IfOk result (λ t. Takes (further_line FirstField) body.entry t.0 t.1) }
-    ensures failed { IfErr result (Fails (further_line FirstField) body.entry) }
+/// The first field of the next line, and the second where the record is one of Galileo.
+pub fn take_source(
+    body: Body<'_>,
+    both: bool,
+    system: u8,
+) -> Result<((Decimal, Decimal), Body<'_>), Refusal>
+    ensures took { IfOk result (λ t. Takes (further_line both (SourceFields system)) body.entry t.0 t.1) }
+    ensures failed { IfErr result (Fails (further_line both (SourceFields system)) body.entry) }
 {
     let Some((line, behind)) = body.split_first() else {
         return Err(Refusal::new(Fault::Truncated, body.lines.number));
     };
-    match first_line(line) {
+    match source_line(line, both, system) {
         Ok(read) => Ok((read, behind)),
         Err(fault) => Err(Refusal::new(fault, body.lines.number)),
     }
 }
 
 /// The second and the third field of the next line.
-pub fn take_middle(body: Body<'_>) -> Result<((Decimal, Decimal), Body<'_>), Refusal>
-    ensures took { IfOk result (λ t. Takes (further_line MiddleFields) body.entry t.0 t.1) }
-    ensures failed { IfErr result (Fails (further_line MiddleFields) body.entry) }
+pub fn take_middle(body: Body<'_>, both: bool) -> Result<((Decimal, Decimal), Body<'_>), Refusal>
+    ensures took { IfOk result (λ t. Takes (further_line both MiddleFields) body.entry t.0 t.1) }
+    ensures failed { IfErr result (Fails (further_line both MiddleFields) body.entry) }
 {
     let Some((line, behind)) = body.split_first() else {
         return Err(Refusal::new(Fault::Truncated, body.lines.number));
     };
-    match middle_line(line) {
+    match middle_line(line, both) {
         Ok(read) => Ok((read, behind)),
         Err(fault) => Err(Refusal::new(fault, body.lines.number)),
     }
 }
 
 /// The next line, of which no field is read.
-pub fn take_unread(body: Body<'_>) -> Result<((), Body<'_>), Refusal>
-    ensures took { IfOk result (λ t. Takes further_text body.entry t.0 t.1) }
-    ensures failed { IfErr result (Fails further_text body.entry) }
+pub fn take_unread(body: Body<'_>, both: bool) -> Result<((), Body<'_>), Refusal>
+    ensures took { IfOk result (λ t. Takes (further_text both) body.entry t.0 t.1) }
+    ensures failed { IfErr result (Fails (further_text both) body.entry) }
 {
     let Some((line, behind)) = body.split_first() else {
         return Err(Refusal::new(Fault::Truncated, body.lines.number));
     };
-    match further_text(line) {
+    match further_text(line, both) {
         Ok(read) => Ok((read, behind)),
         Err(fault) => Err(Refusal::new(fault, body.lines.number)),
     }

@@ -1,10 +1,10 @@
 //! Weeks.
 
 ghost use Rattle.std.specs.Prelude.{pos, ◌≤ℤ◌, ◌<ℤ◌};
-ghost use Rattle.sat_model.specs.RecordBounds.{week, time_bound};
+ghost use Rattle.gnss_model.specs.RecordBounds.{week, time_bound};
 ghost use Rattle.rinex_nav.specs.Weeks.{IsNearestWeek};
 
-use sat_model::WEEK;
+use gnss_model::WEEK;
 
 /// Half a week, in ps.
 const HALF_WEEK: i128 = WEEK / 2;

@@ -26,5 +26,5 @@ module _ (read : Result (Option Decimal) BadNumber) (field there : List ℕ) (sa
   ]
   not_observed e is blank (Some number) of = not_fixed e is number.digits number.ten of.0
 
-pub not_other : (tested : Bool) (letter byte : ℕ) → IsTrue tested ↔ IsOtherSystem letter → letter ≡ byte → tested ≡ false → IsOtherSystem byte → ⊥
-not_other tested letter byte is same fails other = both_ways tested (is.1 (subst (λ (l : ℕ). IsOtherSystem l) (sym same) other)) fails
+pub not_other : (tested both again : Bool) (letter byte : ℕ) → IsTrue tested ↔ IsOtherSystem both letter → letter ≡ byte → both ≡ again → tested ≡ false → IsOtherSystem again byte → ⊥
+not_other tested both again letter byte is same read fails other = both_ways tested (is.1 (rw (same, read) other)) fails

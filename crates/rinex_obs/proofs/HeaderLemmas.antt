@@ -7,22 +7,23 @@ use Rattle.rinex_text.specs.Lines.{TextLine}
 use Rattle.rinex_text.specs.declared.fault.Fault.{Fault}
 use Rattle.rinex_text.specs.declared.fault.Fault.TheVariants.{NoPosition}
 use Rattle.rinex_text.specs.declared.fault.Refusal.{Refusal}
-use Rattle.sat_model.specs.declared.boxes.Pos.{Pos}
-use Rattle.sat_model.specs.declared.satellites.Signal.{Signal}
+use Rattle.grid_model.specs.declared.boxes.Pos.{Pos}
+use Rattle.gnss_model.specs.declared.satellites.Signal.{Signal}
+use Rattle.rinex_obs.specs.declared.sought.Sought.{Sought}
 use Rattle.rinex_obs.specs.Types.{Types}
-use Rattle.rinex_obs.specs.Header.{Coordinates, IsPosition, Header, header_line, Wanted, AreWanted, header_end, Start, header_lines}
-use Rattle.rinex_obs.specs.Reading.{IsFound, MayBeFound}
+use Rattle.rinex_obs.specs.Header.{Coordinates, IsPosition, Header, header_line, CodePlaces, ArePlaces, MayBePlaces, are_both, Wanted, AreWanted, header_end, Start, header_lines}
+use Rattle.rinex_obs.specs.Reading.{IsFound, MayBeFound, AreFoundOf, IsHeader}
 use Rattle.rinex_obs.specs.declared.found.Found.{Found}
 
-module _ (signal : Signal) (position : Bool) (known : Header) (n : ℕ) (lines more : List TextLine) (line : TextLine) (e : lines ≡ line ∷ more) where
-  pub line_step : (next : Header) (m : ℕ) (answer : Result Start Refusal) → m ≡ n + 1 → IsShort line → (IsHeaderEnd line → ⊥) → header_line position known line (Ok next)
-      → header_lines signal position next m more answer → header_lines signal position known n lines answer
+module _ (sought : Sought) (position : Bool) (known : Header) (n : ℕ) (lines more : List TextLine) (line : TextLine) (e : lines ≡ line ∷ more) where
+  pub line_step : (next : Header) (m : ℕ) (answer : Result Start Refusal) → m ≡ n + 1 → IsShort line → (IsHeaderEnd line → ⊥) → header_line (are_both sought) position known line (Ok next)
+      → header_lines sought position next m more answer → header_lines sought position known n lines answer
   line_step next m answer f short other is h = rw e (inl (short, inr (other, inl (next, is, rw f at h))))
 
-  pub line_fault : (f : Fault) → IsShort line → (IsHeaderEnd line → ⊥) → header_line position known line (Err f) → header_lines signal position known n lines (Err (refusal f n))
+  pub line_fault : (f : Fault) → IsShort line → (IsHeaderEnd line → ⊥) → header_line (are_both sought) position known line (Err f) → header_lines sought position known n lines (Err (refusal f n))
   line_fault f short other is = rw e (inl (short, inr (other, inr (f, is, refl))))
 
-  pub end_fault : (f : Fault) → IsShort line → IsHeaderEnd line → header_end signal position known (Err f) → header_lines signal position known n lines (Err (refusal f n))
+  pub end_fault : (f : Fault) → IsShort line → IsHeaderEnd line → header_end sought position known (Err f) → header_lines sought position known n lines (Err (refusal f n))
   end_fault f short end is = rw e (inl (short, inl (end, inr (f, is, refl))))
 
 -- ---- what its end gives
@@ -33,14 +34,12 @@ types_of signal None (Some kept) found e m = absurd m
 types_of signal (Some types) None found e m = absurd m
 types_of signal (Some types) (Some kept) found e m = (types, refl, subst (IsFound signal types) (same_Some kept found e) m)
 
-module _ (signal : Signal) (position : Bool) (types : Option Types) (kept coordinates : Option Coordinates) (t : Types) (found : Found) (e : types ≡ Some t) (is : IsFound signal t found) (all : found.count ≤ found.seen) (same : kept ≡ coordinates) where
-  complete : t.count ≤ length t.codes
-  complete = omega (arith, all, is.count, is.seen)
+-- as for a system whose codes are wanted, where those of Galileo may not be
+pub as_found : (signal : Signal) (galileo : Option Signal) (types : Option Types) (found : Option Found) → AreFoundOf galileo types found → (some : Signal) × MayBeFound some types found
+as_found signal None types found m = (signal, rw (m.0, m.1) tt)
+as_found signal (Some galileo) types found m = (galileo, m)
 
-  pub end_gives : (wanted : Wanted) (point : Option Pos) → AreWanted signal t.codes wanted → IsPosition position kept point
-      → header_end signal position (record { types = types; position = coordinates }) (Ok (wanted, point))
-  end_gives wanted point are there = rw e (inl (complete, inl (wanted, are, inl (point, (rw same at there), refl))))
-
-  pub end_without : (wanted : Wanted) → AreWanted signal t.codes wanted → ((point : Option Pos) → IsPosition position kept point → ⊥)
-      → header_end signal position (record { types = types; position = coordinates }) (Err NoPosition)
-  end_without wanted are none = rw e (inl (complete, inl (wanted, are, inr ((rw same at none), refl))))
+-- before the first line
+pub none_known : (galileo : Option Signal) → AreFoundOf galileo None None
+none_known None = (refl, refl)
+none_known (Some signal) = tt

@@ -6,6 +6,7 @@ pub mod SecondsLemmas
 pub mod LineLemmas
 pub mod OnlyLemmas
 pub mod HeadLemmas
+pub mod SatelliteLemmas
 pub mod BlockLemmas
 pub mod FactLemmas
 pub mod JoinedLemmas

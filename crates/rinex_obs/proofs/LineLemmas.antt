@@ -21,13 +21,13 @@ pub satellite_fault : (wanted : Wanted) (missing rest : ℕ) (sats given : List 
     → given ≡ sats → Fails (satellite_line wanted given) old refused → satellites_from wanted missing sats (body_behind old) (Err refused)
 satellite_fault wanted missing rest sats given old refused e f t = rw e (needs_failed _ old refused _ _ (rw f at t) refl)
 
-pub event_step : (labelled : Bool) (missing rest : ℕ) (old new : Body) (none : Unit {0}) (answer : Result (Unit {0}) Refusal) → missing ≡ suc rest
-    → Takes (event_line labelled) old none new → event_from labelled rest (body_behind new) answer → event_from labelled missing (body_behind old) answer
-event_step labelled missing rest old new none answer e t h = rw e (needs_took _ old none new _ answer t h)
+pub event_step : (both labelled : Bool) (missing rest : ℕ) (old new : Body) (none : Unit {0}) (answer : Result (Unit {0}) Refusal) → missing ≡ suc rest
+    → Takes (event_line both labelled) old none new → event_from both labelled rest (body_behind new) answer → event_from both labelled missing (body_behind old) answer
+event_step both labelled missing rest old new none answer e t h = rw e (needs_took _ old none new _ answer t h)
 
-pub event_fault : (labelled : Bool) (missing rest : ℕ) (old : Body) (refused : Refusal) → missing ≡ suc rest
-    → Fails (event_line labelled) old refused → event_from labelled missing (body_behind old) (Err refused)
-event_fault labelled missing rest old refused e f = rw e (needs_failed _ old refused _ _ f refl)
+pub event_fault : (both labelled : Bool) (missing rest : ℕ) (old : Body) (refused : Refusal) → missing ≡ suc rest
+    → Fails (event_line both labelled) old refused → event_from both labelled missing (body_behind old) (Err refused)
+event_fault both labelled missing rest old refused e f = rw e (needs_failed _ old refused _ _ f refl)
 
 pub leaves_more : {V : Type 0} (first : Body) (k next : ℕ) (line : TextLine → Result V Fault → Type 0) (old : Body) (v : V) (new : Body) → next ≡ k + 1 → Leaves first k old → Takes line old v new → Leaves first next new
 leaves_more first k next line old v new e l t = rw e (leaves_next first k line old v new l t)

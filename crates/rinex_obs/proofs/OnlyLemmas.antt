@@ -9,11 +9,12 @@ use Rattle.exact_decimal.specs.declared.decimal.Decimal.{Decimal}
 use Rattle.exact_decimal.specs.declared.unit.Unit.TheVariants.{Length}
 use Rattle.exact_decimal.proofs.Answers.{fixed_answer, fixed_blank}
 use Rattle.exact_decimal.proofs.Units.{power_some}
-use Rattle.sat_model.specs.Rounding.{IsFloor}
-use Rattle.sat_model.specs.declared.boxes.Pos.{Pos}
-use Rattle.sat_model.specs.declared.satellites.Signal.{Signal}
-use Rattle.sat_model.specs.declared.satellites.Signal.TheVariants.{Single, Dual}
-use Rattle.sat_model.proofs.ProductLemmas.{add_mul, mul_lt_back}
+use Rattle.grid_model.specs.Rounding.{IsFloor}
+use Rattle.grid_model.specs.declared.boxes.Pos.{Pos}
+use Rattle.gnss_model.specs.declared.satellites.Signal.{Signal}
+use Rattle.rinex_obs.specs.declared.sought.Sought.{Sought}
+use Rattle.gnss_model.specs.declared.satellites.Signal.TheVariants.{Single, Dual}
+use Rattle.grid_model.proofs.ProductLemmas.{add_mul, mul_lt_back}
 use Rattle.rinex_text.specs.Bodies.{counted}
 use Rattle.rinex_text.specs.Headers.{Behind}
 use Rattle.rinex_text.specs.Lines.{TextLine, lines_of}
@@ -22,11 +23,11 @@ use Rattle.rinex_text.specs.declared.fault.ReadError.{ReadError}
 use Rattle.rinex_text.specs.declared.fault.ReadError.TheVariants.{Refused, NoMemory}
 use Rattle.rinex_text.specs.declared.fault.Refusal.{Refusal}
 use Rattle.rinex_text.proofs.FieldLemmas.{same_count}
-use Rattle.rinex_text.proofs.OnlyLemmas.{IsOnly, test_only, where_only, read_only, ok_same, err_same, not_both, then_only, gives_only, line_only, number_only, first_only, version_only}
-use Rattle.rinex_obs.specs.Types.{Code, Types, codes_from, more_codes, types_line}
-use Rattle.rinex_obs.specs.Header.{IsFixedField, Coordinates, position_line, IsCoordinate, IsPoint, IsPosition, Header, header_line, Wanted, AreWanted, header_end, header_lines}
-use Rattle.rinex_obs.specs.Epochs.{IsSeconds, IsTag, IsLineCount, head_line, IsObserved, IsSecond, satellite_line, satellites_from, event_line, event_from, Observed, block_from, epochs_from}
-use Rattle.rinex_obs.specs.Files.{Observations, obs_file, IsObsFile, IsFirstFault}
+use Rattle.rinex_text.proofs.OnlyLemmas.{IsOnly, test_only, where_only, read_only, ok_same, err_same, not_both, then_only, gives_only, line_only, number_only, first_only, version_by_only}
+use Rattle.rinex_obs.specs.Types.{Code, Types, codes_from, more_codes, types_line, galileo_line}
+use Rattle.rinex_obs.specs.Header.{IsFixedField, Coordinates, position_line, IsCoordinate, IsPoint, IsPosition, Header, types_behind, header_line, CodePlaces, ArePlaces, MayBePlaces, Wanted, AreWanted, header_end, header_lines, are_both, have_both}
+use Rattle.rinex_obs.specs.Epochs.{IsSeconds, IsTag, IsLineCount, head_line, IsObserved, IsSecond, ArePlacesOf, satellite_line, satellites_from, event_line, event_from, Observed, block_from, epochs_from}
+use Rattle.rinex_obs.specs.Files.{Observations, obs_file_of, IsObsFileOf, IsFirstFaultOf}
 use Rattle.rinex_obs.specs.Reading.{observations_of, GivesObservations}
 use Rattle.rinex_obs.specs.declared.head.Head.{Head}
 use Rattle.rinex_obs.specs.declared.head.Head.TheVariants.{Epoch, Event}
@@ -42,15 +43,19 @@ codes_only text place (suc left) codes x y a b = test_only _ _ _ (codes_only tex
 more_only : (text : List ℕ) (types : Types) → IsOnly (more_codes text types)
 more_only text types = then_only _ _ (codes_only text 0 _ types.codes) (λ codes. gives_only _)
 
-types_only : (types : Option Types) (text : List ℕ) → IsOnly (types_line types text)
-types_only None text =
+types_only : (letter : ℕ) (types : Option Types) (text : List ℕ) → IsOnly (types_line letter types text)
+types_only letter None text =
     where_only _ _ _
     (then_only _ _ (read_only _ _ _ (same_count _) (λ count. test_only _ _ _ (more_only text (record { count = count; codes = [] })))) (λ types. gives_only _))
     (gives_only _)
-types_only (Some types) text =
+types_only letter (Some types) text =
     where_only _ _ _
     (test_only _ _ _ (then_only _ _ (more_only text types) (λ more. gives_only _)))
     (test_only _ _ _ (gives_only _))
+
+galileo_only : (both : Bool) (types : Option Types) (text : List ℕ) → IsOnly (galileo_line both types text)
+galileo_only false types text = gives_only types
+galileo_only true types text = types_only 69 types text
 
 -- ---- fields
 
@@ -121,35 +126,52 @@ position_only true (Some coordinates) None y a b = absurd a
 position_only true (Some coordinates) (Some p) None a b = absurd b
 position_only true (Some coordinates) (Some p) (Some q) a b = ap (λ (point : Pos). Some point) (point_only coordinates p q a b)
 
-same_wanted : (m n : ℕ) (p q : Option ℕ) → m ≡ n → p ≡ q → ◌≡◌ {A = Wanted} (record { first = m; second = p }) (record { first = n; second = q })
+same_places : (m n : ℕ) (p q : Option ℕ) → m ≡ n → p ≡ q → ◌≡◌ {A = CodePlaces} (record { first = m; second = p }) (record { first = n; second = q })
+same_places m n p q e f = rw (e, f) refl
+
+places_only : (signal : Signal) (codes : List Code) → IsOnly (ArePlaces signal codes)
+places_only (Single code) codes x y a b = same_places _ _ _ _ (same_Some x.first y.first (sym a.0 ∙ b.0)) (a.1 ∙ sym b.1)
+places_only (Dual first second) codes x y a b = same_places _ _ _ _ (same_Some x.first y.first (sym a.0 ∙ b.0)) (sym a.1 ∙ b.1)
+
+may_be_only : (signal : Option Signal) (codes : List Code) → IsOnly (MayBePlaces signal codes)
+may_be_only None codes x y a b = a ∙ sym b
+may_be_only (Some signal) codes None y a b = absurd a
+may_be_only (Some signal) codes (Some x) None a b = absurd b
+may_be_only (Some signal) codes (Some x) (Some y) a b = ap (λ (p : CodePlaces). Some p) (places_only signal codes x y a b)
+
+same_wanted : (m n : CodePlaces) (p q : Option CodePlaces) → m ≡ n → p ≡ q → ◌≡◌ {A = Wanted} (record { gps = m; galileo = p }) (record { gps = n; galileo = q })
 same_wanted m n p q e f = rw (e, f) refl
 
-wanted_only : (signal : Signal) (codes : List Code) → IsOnly (AreWanted signal codes)
-wanted_only (Single code) codes x y a b = same_wanted _ _ _ _ (same_Some x.first y.first (sym a.0 ∙ b.0)) (a.1 ∙ sym b.1)
-wanted_only (Dual first second) codes x y a b = same_wanted _ _ _ _ (same_Some x.first y.first (sym a.0 ∙ b.0)) (sym a.1 ∙ b.1)
+wanted_only : (sought : Sought) (gps galileo : List Code) → IsOnly (AreWanted sought gps galileo)
+wanted_only sought gps galileo x y a b =
+    same_wanted _ _ _ _ (places_only sought.gps gps x.gps y.gps a.of_gps b.of_gps) (may_be_only sought.galileo galileo x.galileo y.galileo a.of_galileo b.of_galileo)
 
 position_line_only : (text : List ℕ) → IsOnly (position_line text)
 position_line_only text =
     read_only _ _ _ (fixed_only _) (λ x. read_only _ _ _ (fixed_only _) (λ y. read_only _ _ _ (fixed_only _) (λ z. gives_only _)))
 
-header_line_only : (position : Bool) (header : Header) (line : TextLine) → IsOnly (header_line position header line)
-header_line_only position header line =
-    where_only _ _ _ (then_only _ _ (types_only header.types line.text) (λ types. gives_only _))
+behind_only : (both : Bool) (header : Header) (text : List ℕ) → IsOnly (types_behind both header text)
+behind_only both header text =
+    then_only _ _ (types_only 71 header.gps text) (λ gps. then_only _ _ (galileo_only both header.galileo text) (λ galileo. gives_only _))
+
+header_line_only : (both position : Bool) (header : Header) (line : TextLine) → IsOnly (header_line both position header line)
+header_line_only both position header line =
+    where_only _ _ _ (behind_only both header line.text)
     (where_only _ _ _ (test_only _ _ _ (gives_only _))
     (where_only _ _ _ (test_only _ _ _ (gives_only _))
     (where_only _ _ _ (then_only _ _ (position_line_only line.text) (λ coordinates. gives_only _)) (gives_only _))))
 
-header_end_only : (signal : Signal) (position : Bool) (header : Header) → IsOnly (header_end signal position header)
-header_end_only signal position header =
-    test_only _ _ _ (read_only _ _ _ (wanted_only signal _) (λ wanted. read_only _ _ _ (position_only position header.position) (λ point. gives_only _)))
+header_end_only : (sought : Sought) (position : Bool) (header : Header) → IsOnly (header_end sought position header)
+header_end_only sought position header =
+    test_only _ _ _ (read_only _ _ _ (wanted_only sought _ _) (λ wanted. read_only _ _ _ (position_only position header.position) (λ point. gives_only _)))
 
-header_lines_only : (signal : Signal) (position : Bool) (header : Header) (number : ℕ) (lines : List TextLine) → IsOnly (header_lines signal position header number lines)
-header_lines_only signal position header number [] x y a b = a ∙ sym b
-header_lines_only signal position header number (line ∷ more) x y a b =
+header_lines_only : (sought : Sought) (position : Bool) (header : Header) (number : ℕ) (lines : List TextLine) → IsOnly (header_lines sought position header number lines)
+header_lines_only sought position header number [] x y a b = a ∙ sym b
+header_lines_only sought position header number (line ∷ more) x y a b =
     test_only _ _ _
     (where_only _ _ _
-    (line_only _ _ _ (header_end_only signal position header) (λ end. gives_only _))
-    (line_only _ _ _ (header_line_only position header line) (λ next. header_lines_only signal position next (number + 1) more)))
+    (line_only _ _ _ (header_end_only sought position header) (λ end. gives_only _))
+    (line_only _ _ _ (header_line_only (are_both sought) position header line) (λ next. header_lines_only sought position next (number + 1) more)))
     x y a b
 
 -- ---- epochs
@@ -188,9 +210,15 @@ head_only count line =
     test_only _ _ _ (test_only _ _ _ (test_only _ _ _ (test_only _ _ _ (read_only _ _ _ (lines_only _) (λ lines.
     where_only _ _ _ (read_only _ _ _ (tag_only line.text) (λ tag. test_only _ _ _ (gives_only _))) (gives_only _))))))
 
+places_of_only : (wanted : Wanted) (letter : ℕ) → IsOnly (ArePlacesOf wanted letter)
+places_of_only wanted letter x y (inl (g, a)) (inl (h, b)) = a ∙ sym b
+places_of_only wanted letter x y (inl (g, a)) (inr (h, b)) = absurd (omega (arith, g, h))
+places_of_only wanted letter x y (inr (g, a)) (inl (h, b)) = absurd (omega (arith, g, h))
+places_of_only wanted letter x y (inr (g, a)) (inr (h, b)) = same_Some x y (sym a ∙ b)
+
 satellite_only : (wanted : Wanted) (sats : List SatObs) (line : TextLine) → IsOnly (satellite_line wanted sats line)
 satellite_only wanted sats line =
-    test_only _ _ _ (where_only _ _ _ (gives_only _) (test_only _ _ _ (test_only _ _ _ (read_only _ _ _ (number_only line.text) (λ number.
+    test_only _ _ _ (where_only _ _ _ (gives_only _) (test_only _ _ _ (read_only _ _ _ (places_of_only wanted _) (λ places. read_only _ _ _ (number_only line.text) (λ number.
     test_only _ _ _ (test_only _ _ _ (read_only _ _ _ (observed_only _) (λ first. read_only _ _ _ (second_only line.text _) (λ second. gives_only _)))))))))
 
 satellites_only : (wanted : Wanted) (left : ℕ) (sats : List SatObs) (from : Behind) → IsOnly (satellites_from wanted left sats from)
@@ -198,16 +226,16 @@ satellites_only wanted zero sats from x y a b = a ∙ sym b
 satellites_only wanted (suc left) sats from x y a b =
     first_only _ _ (satellite_only wanted sats) (λ more next. satellites_only wanted left more next) from.number from.lines x y a b
 
-event_line_only : (labelled : Bool) (line : TextLine) → IsOnly (event_line labelled line)
-event_line_only labelled line = test_only _ _ _ (where_only _ _ _ (test_only _ _ _ (test_only _ _ _ (gives_only tt))) (gives_only tt))
+event_line_only : (both labelled : Bool) (line : TextLine) → IsOnly (event_line both labelled line)
+event_line_only both labelled line = test_only _ _ _ (where_only _ _ _ (test_only _ _ _ (test_only _ _ _ (gives_only tt))) (gives_only tt))
 
-event_only : (labelled : Bool) (left : ℕ) (from : Behind) → IsOnly (event_from labelled left from)
-event_only labelled zero from x y a b = a ∙ sym b
-event_only labelled (suc left) from x y a b = first_only _ _ (event_line_only labelled) (λ none next. event_only labelled left next) from.number from.lines x y a b
+event_only : (both labelled : Bool) (left : ℕ) (from : Behind) → IsOnly (event_from both labelled left from)
+event_only both labelled zero from x y a b = a ∙ sym b
+event_only both labelled (suc left) from x y a b = first_only _ _ (event_line_only both labelled) (λ none next. event_only both labelled left next) from.number from.lines x y a b
 
 block_only : (wanted : Wanted) (count : ℕ) (head : Head) (from : Behind) → IsOnly (block_from wanted count head from)
 block_only wanted count (Epoch tag lines) from = then_only _ _ (satellites_only wanted lines [] from) (λ sats. gives_only _)
-block_only wanted count (Event labelled lines) from = then_only _ _ (event_only labelled lines from) (λ none. gives_only _)
+block_only wanted count (Event labelled lines) from = then_only _ _ (event_only (have_both wanted) labelled lines from) (λ none. gives_only _)
 
 epochs_only : (wanted : Wanted) (epochs : List Observed) (number skip : ℕ) (lines : List TextLine) → IsOnly (epochs_from wanted epochs number skip lines)
 epochs_only wanted epochs number skip [] x y a b = a ∙ sym b
@@ -217,22 +245,22 @@ epochs_only wanted epochs number zero (line ∷ more) x y a b =
 
 -- ---- files
 
-pub file_only : (signal : Signal) (position : Bool) (lines : List TextLine) → IsOnly (obs_file signal position lines)
-file_only signal position lines =
-    then_only _ _ (version_only 79 lines) (λ version.
-    then_only _ _ (header_lines_only signal position _ version.number version.lines) (λ start.
+pub file_only : (sought : Sought) (position : Bool) (lines : List TextLine) → IsOnly (obs_file_of sought position lines)
+file_only sought position lines =
+    then_only _ _ (version_by_only (are_both sought) 79 lines) (λ version.
+    then_only _ _ (header_lines_only sought position _ version.number version.lines) (λ start.
     then_only _ _ (epochs_only start.wanted [] start.behind.number 0 (counted start.behind.lines)) (λ epochs. gives_only _)))
 
-pub gives_observations : (signal : Signal) (position : Bool) (text : List ℕ) (observations : Observations) (given : Result Obs ReadError)
-    → IfOk given (λ obs. IsObsFile signal position text (observations_of obs)) → IfErr given (Refuses (obs_file signal position (lines_of text)))
-    → IsObsFile signal position text observations → GivesObservations observations given
-gives_observations signal position text observations (Ok obs) is fault file = ok_same _ _ (file_only signal position (lines_of text) _ _ is file)
-gives_observations signal position text observations (Err (Refused r)) is fault file = absurd (not_both _ _ (file_only signal position (lines_of text) _ _ file fault))
-gives_observations signal position text observations (Err NoMemory) is fault file = refl
+pub gives_observations : (sought : Sought) (position : Bool) (text : List ℕ) (observations : Observations) (given : Result Obs ReadError)
+    → IfOk given (λ obs. IsObsFileOf sought position text (observations_of obs)) → IfErr given (Refuses (obs_file_of sought position (lines_of text)))
+    → IsObsFileOf sought position text observations → GivesObservations observations given
+gives_observations sought position text observations (Ok obs) is fault file = ok_same _ _ (file_only sought position (lines_of text) _ _ is file)
+gives_observations sought position text observations (Err (Refused r)) is fault file = absurd (not_both _ _ (file_only sought position (lines_of text) _ _ file fault))
+gives_observations sought position text observations (Err NoMemory) is fault file = refl
 
-pub gives_refusal : (signal : Signal) (position : Bool) (text : List ℕ) (r : Refusal) (given : Result Obs ReadError)
-    → IfOk given (λ obs. IsObsFile signal position text (observations_of obs)) → IfErr given (Refuses (obs_file signal position (lines_of text)))
-    → IsFirstFault signal position text r → GivesRefusal r given
-gives_refusal signal position text r (Ok obs) is fault first = not_both _ _ (file_only signal position (lines_of text) _ _ is first)
-gives_refusal signal position text r (Err (Refused other)) is fault first = inl (ap (λ u. Refused u) (err_same _ _ (file_only signal position (lines_of text) _ _ fault first)))
-gives_refusal signal position text r (Err NoMemory) is fault first = inr refl
+pub gives_refusal : (sought : Sought) (position : Bool) (text : List ℕ) (r : Refusal) (given : Result Obs ReadError)
+    → IfOk given (λ obs. IsObsFileOf sought position text (observations_of obs)) → IfErr given (Refuses (obs_file_of sought position (lines_of text)))
+    → IsFirstFaultOf sought position text r → GivesRefusal r given
+gives_refusal sought position text r (Ok obs) is fault first = not_both _ _ (file_only sought position (lines_of text) _ _ is first)
+gives_refusal sought position text r (Err (Refused other)) is fault first = inl (ap (λ u. Refused u) (err_same _ _ (file_only sought position (lines_of text) _ _ fault first)))
+gives_refusal sought position text r (Err NoMemory) is fault first = inr refl

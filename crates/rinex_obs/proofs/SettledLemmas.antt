@@ -9,11 +9,11 @@ use Rattle.rinex_text.specs.declared.fault.ReadError.{ReadError}
 use Rattle.rinex_text.specs.declared.fault.ReadError.TheVariants.{Refused, NoMemory}
 use Rattle.rinex_text.specs.declared.fault.Refusal.{Refusal}
 use Rattle.rinex_text.proofs.OnlyLemmas.{err_same, ok_same, not_both}
-use Rattle.rinex_text.proofs.SettledLemmas.{alike_less, Settles, AreSettled, IsReadOf, IsFront, settled_here, settled_at_end, settled_later, first_settled, first_read, version_settled, version_passed, in_header, in_body}
-use Rattle.sat_model.specs.declared.satellites.Signal.{Signal}
-use Rattle.rinex_obs.specs.Header.{Header, Wanted, header_lines, Start}
+use Rattle.rinex_text.proofs.SettledLemmas.{alike_less, Settles, AreSettled, IsReadOf, IsFront, settled_here, settled_at_end, settled_later, first_settled, first_read, version_by_settled, version_by_passed, in_header, in_body}
+use Rattle.rinex_obs.specs.declared.sought.Sought.{Sought}
+use Rattle.rinex_obs.specs.Header.{Header, are_both, Wanted, have_both, header_lines, Start}
 use Rattle.rinex_obs.specs.Epochs.{Observed, Block, satellite_line, satellites_from, event_line, event_from, block_from, epochs_from}
-use Rattle.rinex_obs.specs.Files.{unread, obs_file}
+use Rattle.rinex_obs.specs.Files.{unread, obs_file_of}
 use Rattle.rinex_obs.specs.declared.head.Head.{Head}
 use Rattle.rinex_obs.specs.declared.head.Head.TheVariants.{Epoch, Event}
 use Rattle.rinex_obs.specs.declared.obs.SatObs.{SatObs}
@@ -31,15 +31,15 @@ satellites_read wanted zero sats number lines x e others same = e
 satellites_read wanted (suc left) sats number lines x h others same =
     first_read (satellite_line wanted sats) number (λ more next. satellites_from wanted left more next) left (λ more. satellites_read wanted left more (number + 1)) lines x h others same
 
-event_settled : (labelled : Bool) (left number : ℕ) → AreSettled number (λ lines. event_from labelled left (record { number = number; lines = lines }))
-event_settled labelled zero number lines r e = absurd (not_both tt r (sym e))
-event_settled labelled (suc left) number lines r h =
-    first_settled (event_line labelled) number (λ none next. event_from labelled left next) (λ none. event_settled labelled left (number + 1)) lines r h
+event_settled : (both labelled : Bool) (left number : ℕ) → AreSettled number (λ lines. event_from both labelled left (record { number = number; lines = lines }))
+event_settled both labelled zero number lines r e = absurd (not_both tt r (sym e))
+event_settled both labelled (suc left) number lines r h =
+    first_settled (event_line both labelled) number (λ none next. event_from both labelled left next) (λ none. event_settled both labelled left (number + 1)) lines r h
 
-event_read : (labelled : Bool) (left number : ℕ) → IsReadOf left (λ lines. event_from labelled left (record { number = number; lines = lines }))
-event_read labelled zero number lines x e others same = e
-event_read labelled (suc left) number lines x h others same =
-    first_read (event_line labelled) number (λ none next. event_from labelled left next) left (λ none. event_read labelled left (number + 1)) lines x h others same
+event_read : (both labelled : Bool) (left number : ℕ) → IsReadOf left (λ lines. event_from both labelled left (record { number = number; lines = lines }))
+event_read both labelled zero number lines x e others same = e
+event_read both labelled (suc left) number lines x h others same =
+    first_read (event_line both labelled) number (λ none next. event_from both labelled left next) left (λ none. event_read both labelled left (number + 1)) lines x h others same
 
 block_settled : (wanted : Wanted) (count : ℕ) (head : Head) (number : ℕ) → AreSettled number (λ lines. block_from wanted count head (record { number = number; lines = lines }))
 block_settled wanted count (Epoch tag left) number lines r (inl (sats, is, e)) = absurd (not_both _ r (sym e))
@@ -50,7 +50,7 @@ block_settled wanted count (Epoch tag left) number lines r (inr (f, is, e)) =
 block_settled wanted count (Event labelled left) number lines r (inl (none, is, e)) = absurd (not_both _ r (sym e))
 block_settled wanted count (Event labelled left) number lines r (inr (f, is, e)) =
     let same : r ≡ f = err_same r f e in
-    let s = event_settled labelled left number lines f is in
+    let s = event_settled (have_both wanted) labelled left number lines f is in
     record { behind = s.behind; line_is = ap (λ (q : Refusal). q.line) same ∙ s.line_is; moves = λ others alike. inr (f, s.moves others alike, e) }
 
 -- what is read of a block comes of the lines that belong to it
@@ -62,7 +62,7 @@ block_read wanted count (Epoch tag left) number lines others block (inl (sats, i
 block_read wanted count (Epoch tag left) number lines others block (inr (f, is, e)) same = absurd (not_both block f e)
 block_read wanted count (Event labelled left) number lines others block (inl (none, is, e)) same =
     let many : block.lines ≡ left = ap (λ (b : Block). b.lines) (ok_same block _ e) in
-    inl (none, event_read labelled left number lines none is others (subst (λ (k : ℕ). take k lines ≡ take k others) many same), e)
+    inl (none, event_read (have_both wanted) labelled left number lines none is others (subst (λ (k : ℕ). take k lines ≡ take k others) many same), e)
 block_read wanted count (Event labelled left) number lines others block (inr (f, is, e)) same = absurd (not_both block f e)
 
 -- ---- the body
@@ -104,28 +104,28 @@ epochs_settled wanted epochs number zero (line ∷ more) r (inr (f, is, e)) =
 
 -- ---- the header
 
-header_settled : (signal : Signal) (position : Bool) (known : Header) (number : ℕ) → AreSettled number (header_lines signal position known number)
-header_settled signal position known number [] r e = settled_at_end number (header_lines signal position known number) r NoEndOfHeader e e
-header_settled signal position known number (line ∷ more) r (inl (short, inl (is, inl (end, l, e)))) = absurd (not_both _ r (sym e))
-header_settled signal position known number (line ∷ more) r (inl (short, inl (is, inr (f, l, e)))) =
-    settled_here number (header_lines signal position known number) line more r f e (λ rest. inl (short, inl (is, inr (f, l, e))))
-header_settled signal position known number (line ∷ more) r (inl (short, inr (other, inl (next, l, h)))) =
-    let s = header_settled signal position next (number + 1) more r h in
-    settled_later number (header_lines signal position known number) (header_lines signal position next (number + 1)) line more r s
+header_settled : (sought : Sought) (position : Bool) (known : Header) (number : ℕ) → AreSettled number (header_lines sought position known number)
+header_settled sought position known number [] r e = settled_at_end number (header_lines sought position known number) r NoEndOfHeader e e
+header_settled sought position known number (line ∷ more) r (inl (short, inl (is, inl (end, l, e)))) = absurd (not_both _ r (sym e))
+header_settled sought position known number (line ∷ more) r (inl (short, inl (is, inr (f, l, e)))) =
+    settled_here number (header_lines sought position known number) line more r f e (λ rest. inl (short, inl (is, inr (f, l, e))))
+header_settled sought position known number (line ∷ more) r (inl (short, inr (other, inl (next, l, h)))) =
+    let s = header_settled sought position next (number + 1) more r h in
+    settled_later number (header_lines sought position known number) (header_lines sought position next (number + 1)) line more r s
     (λ rest same. inl (short, inr (other, inl (next, l, s.moves rest same))))
-header_settled signal position known number (line ∷ more) r (inl (short, inr (other, inr (f, l, e)))) =
-    settled_here number (header_lines signal position known number) line more r f e (λ rest. inl (short, inr (other, inr (f, l, e))))
-header_settled signal position known number (line ∷ more) r (inr (long, e)) =
-    settled_here number (header_lines signal position known number) line more r LongLine e (λ rest. inr (long, e))
+header_settled sought position known number (line ∷ more) r (inl (short, inr (other, inr (f, l, e)))) =
+    settled_here number (header_lines sought position known number) line more r f e (λ rest. inl (short, inr (other, inr (f, l, e))))
+header_settled sought position known number (line ∷ more) r (inr (long, e)) =
+    settled_here number (header_lines sought position known number) line more r LongLine e (λ rest. inr (long, e))
 
 -- the start of a file with these lines behind its header
 abbrev with_behind : Start → List TextLine → Start
 with_behind start rest = record { wanted = start.wanted; position = start.position; behind = record { number = start.behind.number; lines = rest } }
 
-header_front : (signal : Signal) (position : Bool) (known : Header) (number : ℕ) (lines : List TextLine) (start : Start) → header_lines signal position known number lines (Ok start)
-    → IsFront number (header_lines signal position known number) lines start.behind (with_behind start)
-header_front signal position known number [] start e = absurd (not_both _ _ e)
-header_front signal position known number (line ∷ more) start (inl (short, inl (is, inl (end, l, e)))) =
+header_front : (sought : Sought) (position : Bool) (known : Header) (number : ℕ) (lines : List TextLine) (start : Start) → header_lines sought position known number lines (Ok start)
+    → IsFront number (header_lines sought position known number) lines start.behind (with_behind start)
+header_front sought position known number [] start e = absurd (not_both _ _ e)
+header_front sought position known number (line ∷ more) start (inl (short, inl (is, inl (end, l, e)))) =
     let same = ok_same start _ e in
     let next : start.behind.number ≡ number + 1 = ap (λ (s : Start). s.behind.number) same in
     record {
@@ -134,65 +134,65 @@ header_front signal position known number (line ∷ more) start (inl (short, inl
       number_is = next;
       stands = λ rest. inl (short, inl (is, inl (end, l, ap (λ (s : Start). Ok (with_behind s rest)) same)));
     }
-header_front signal position known number (line ∷ more) start (inl (short, inl (is, inr (f, l, e)))) = absurd (not_both _ _ e)
-header_front signal position known number (line ∷ more) start (inl (short, inr (other, inl (next, l, h)))) =
-    let f = header_front signal position next (number + 1) more start h in
+header_front sought position known number (line ∷ more) start (inl (short, inl (is, inr (f, l, e)))) = absurd (not_both _ _ e)
+header_front sought position known number (line ∷ more) start (inl (short, inr (other, inl (next, l, h)))) =
+    let f = header_front sought position next (number + 1) more start h in
     record {
       front = line ∷ f.front;
       spelled = ap (λ (l : List TextLine). line ∷ l) f.spelled;
       number_is = omega (arith, f.number_is);
       stands = λ rest. inl (short, inr (other, inl (next, l, f.stands rest)));
     }
-header_front signal position known number (line ∷ more) start (inl (short, inr (other, inr (f, l, e)))) = absurd (not_both _ _ e)
-header_front signal position known number (line ∷ more) start (inr (long, e)) = absurd (not_both _ _ e)
+header_front sought position known number (line ∷ more) start (inl (short, inr (other, inr (f, l, e)))) = absurd (not_both _ _ e)
+header_front sought position known number (line ∷ more) start (inr (long, e)) = absurd (not_both _ _ e)
 
 -- ---- files
 
-abbrev Moves : Signal → Bool → List TextLine → List TextLine → Refusal → Type 0
-Moves signal position lines others r = AgreeTo r.line lines others → obs_file signal position others (Err r)
+abbrev Moves : Sought → Bool → List TextLine → List TextLine → Refusal → Type 0
+Moves sought position lines others r = AgreeTo r.line lines others → obs_file_of sought position others (Err r)
 
-settled_file : (signal : Signal) (position : Bool) (lines others : List TextLine) (r : Refusal) → obs_file signal position lines (Err r) → Moves signal position lines others r
-settled_file signal position lines others r (inr (f, v, e)) agree =
+settled_file : (sought : Sought) (position : Bool) (lines others : List TextLine) (r : Refusal) → obs_file_of sought position lines (Err r) → Moves sought position lines others r
+settled_file sought position lines others r (inr (f, v, e)) agree =
     let same : r ≡ f = err_same r f e in
-    let s = version_settled 79 lines f v in
+    let s = version_by_settled (are_both sought) 79 lines f v in
     let up_to : r.line ≡ suc s.behind = omega (arith, ap (λ (q : Refusal). q.line) same, s.line_is) in
     inr (f, s.moves others (subst (λ (k : ℕ). take k lines ≡ take k others) up_to agree.same), e)
-settled_file signal position [] others r (inl (version, v, h)) agree = absurd (not_both _ _ v)
-settled_file signal position (line ∷ more) others r (inl (version, v, inr (f, s, e))) agree =
+settled_file sought position [] others r (inl (version, v, h)) agree = absurd (not_both _ _ v)
+settled_file sought position (line ∷ more) others r (inl (version, v, inr (f, s, e))) agree =
     let same : r ≡ f = err_same r f e in
-    let top = version_passed 79 line more more version v in
-    let s = header_settled signal position unread version.number version.lines f s in
+    let top = version_by_passed (are_both sought) 79 line more more version v in
+    let s = header_settled sought position unread version.number version.lines f s in
     let here = in_header s.behind r.line line more others (omega (arith, ap (λ (q : Refusal). q.line) same, s.line_is, top.1)) agree in
     let alike : take (suc s.behind) version.lines ≡ take (suc s.behind) here.rest = ap (take (suc s.behind)) top.0 ∙ here.alike in
     let moved = s.moves here.rest alike in
-    subst (λ (l : List TextLine). obs_file signal position l (Err r)) (sym here.spelled)
+    subst (λ (l : List TextLine). obs_file_of sought position l (Err r)) (sym here.spelled)
     (inl (
       record { number = 2; lines = here.rest },
-      (version_passed 79 line more here.rest version v).2,
-      inr (f, subst (λ (n : ℕ). header_lines signal position unread n here.rest (Err f)) top.1 moved, e),
+      (version_by_passed (are_both sought) 79 line more here.rest version v).2,
+      inr (f, subst (λ (n : ℕ). header_lines sought position unread n here.rest (Err f)) top.1 moved, e),
     ))
-settled_file signal position (line ∷ more) others r (inl (version, v, inl (start, s, inr (f, b, e)))) agree =
+settled_file sought position (line ∷ more) others r (inl (version, v, inl (start, s, inr (f, b, e)))) agree =
     let same : r ≡ f = err_same r f e in
-    let top = version_passed 79 line more more version v in
-    let front = header_front signal position unread version.number version.lines start s in
+    let top = version_by_passed (are_both sought) 79 line more more version v in
+    let front = header_front sought position unread version.number version.lines start s in
     let body = (epochs_settled start.wanted [] start.behind.number 0 (counted start.behind.lines) f b).settled in
     let spelled : more ≡ front.front ++ start.behind.lines = sym top.0 ∙ front.spelled in
     let here = in_body body.behind r.line line front.front start.behind.lines others (omega (arith, ap (λ (q : Refusal). q.line) same, body.line_is, front.number_is, top.1))
     (subst (λ (l : List TextLine). AgreeTo r.line (line ∷ l) others) spelled agree) in
-    subst (λ (l : List TextLine). obs_file signal position l (Err r)) (sym here.spelled)
+    subst (λ (l : List TextLine). obs_file_of sought position l (Err r)) (sym here.spelled)
     (inl (
       record { number = 2; lines = front.front ++ here.rest },
-      (version_passed 79 line more (front.front ++ here.rest) version v).2,
+      (version_by_passed (are_both sought) 79 line more (front.front ++ here.rest) version v).2,
       inl (
         with_behind start here.rest,
-        subst (λ (n : ℕ). header_lines signal position unread n (front.front ++ here.rest) (Ok (with_behind start here.rest))) top.1 (front.stands here.rest),
+        subst (λ (n : ℕ). header_lines sought position unread n (front.front ++ here.rest) (Ok (with_behind start here.rest))) top.1 (front.stands here.rest),
         inr (f, body.moves (counted here.rest) here.alike, e),
       ),
     ))
-settled_file signal position (line ∷ more) others r (inl (version, v, inl (start, s, inl (epochs, b, e)))) agree = absurd (not_both _ _ (sym e))
+settled_file sought position (line ∷ more) others r (inl (version, v, inl (start, s, inl (epochs, b, e)))) agree = absurd (not_both _ _ (sym e))
 
-pub settled_read : (signal : Signal) (position : Bool) (text : List ℕ) (read : Result Obs ReadError) → IfErr read (Refuses (obs_file signal position (lines_of text)))
-    → IfErr read (IsSettled (obs_file signal position) text)
-settled_read signal position text (Ok obs) h = tt
-settled_read signal position text (Err NoMemory) h = tt
-settled_read signal position text (Err (Refused r)) h = λ other agree. settled_file signal position (lines_of text) (lines_of other) r h agree
+pub settled_read : (sought : Sought) (position : Bool) (text : List ℕ) (read : Result Obs ReadError) → IfErr read (Refuses (obs_file_of sought position (lines_of text)))
+    → IfErr read (IsSettled (obs_file_of sought position) text)
+settled_read sought position text (Ok obs) h = tt
+settled_read sought position text (Err NoMemory) h = tt
+settled_read sought position text (Err (Refused r)) h = λ other agree. settled_file sought position (lines_of text) (lines_of other) r h agree

@@ -2,9 +2,9 @@
 use Rattle.std.proofs.Common.{◌≡◌, ℕ, suc, ◌+◌, ◌-◌, ◌<◌, min, List, [], ◌∷◌, ◌++◌, length, refl, inl, inr, Option, None, Some, Result, Ok, Err, arith}
 use Rattle.rinex_text.specs.declared.fault.Fault.{Fault}
 use Rattle.rinex_text.specs.declared.fault.Fault.TheVariants.{BadCount}
-use Rattle.sat_model.specs.declared.satellites.Signal.{Signal}
-use Rattle.sat_model.specs.declared.satellites.Signal.TheVariants.{Single, Dual}
-use Rattle.rinex_obs.specs.Types.{Code, Types, IsSolid, code_at, codes_from, more_codes, first_codes, IsOfGps, GoesOn, types_line}
+use Rattle.gnss_model.specs.declared.satellites.Signal.{Signal}
+use Rattle.gnss_model.specs.declared.satellites.Signal.TheVariants.{Single, Dual}
+use Rattle.rinex_obs.specs.Types.{Code, Types, IsSolid, code_at, codes_from, more_codes, first_codes, IsOf, GoesOn, types_line}
 use Rattle.rinex_obs.specs.Reading.{Stands, second_place, IsFound, MayBeFound}
 use Rattle.rinex_obs.specs.declared.found.Found.{Found}
 
@@ -31,19 +31,19 @@ pub none_second : (signal : Signal) → None ≡ second_place signal []
 none_second (Single code) = refl
 none_second (Dual first second) = refl
 
-pub line_first : (signal : Signal) (text : List ℕ) (types : Option Types) (known : Option Found) (first : Found) → known ≡ None → MayBeFound signal types known → IsOfGps text
-    → Stands {E = Fault} (IsFound signal) (first_codes text) (Ok first) → Stands {E = Fault} (MayBeFound signal) (types_line types text) (Ok (Some first))
-line_first signal text None None first none m gps s = (Some s.0, inl (gps, inl (s.0, s.1, refl)), s.2)
-line_first signal text (Some types) None first none m gps s = absurd m
-line_first signal text types (Some known) first none m gps s = absurd cc
+pub line_first : (letter : ℕ) (signal : Signal) (text : List ℕ) (types : Option Types) (known : Option Found) (first : Found) → known ≡ None → MayBeFound signal types known → IsOf letter text
+    → Stands {E = Fault} (IsFound signal) (first_codes text) (Ok first) → Stands {E = Fault} (MayBeFound signal) (types_line letter types text) (Ok (Some first))
+line_first letter signal text None None first none m gps s = (Some s.0, inl (gps, inl (s.0, s.1, refl)), s.2)
+line_first letter signal text (Some types) None first none m gps s = absurd m
+line_first letter signal text types (Some known) first none m gps s = absurd cc
 
-on_line : (signal : Signal) (text : List ℕ) (types : Option Types) (found more : Found) → MayBeFound signal types (Some found) → found.seen < found.count → GoesOn text
-    → ((t : Types) → IsFound signal t found → Stands {E = Fault} (IsFound signal) (more_codes text t) (Ok more)) → Stands {E = Fault} (MayBeFound signal) (types_line types text) (Ok (Some more))
-on_line signal text None found more m few on s = absurd m
-on_line signal text (Some types) found more m few on s =
+on_line : (letter : ℕ) (signal : Signal) (text : List ℕ) (types : Option Types) (found more : Found) → MayBeFound signal types (Some found) → found.seen < found.count → GoesOn text
+    → ((t : Types) → IsFound signal t found → Stands {E = Fault} (IsFound signal) (more_codes text t) (Ok more)) → Stands {E = Fault} (MayBeFound signal) (types_line letter types text) (Ok (Some more))
+on_line letter signal text None found more m few on s = absurd m
+on_line letter signal text (Some types) found more m few on s =
     let t = s types m in
     (Some t.0, inl (omega (arith, few, m.seen, m.count), inl (on, inl (t.0, t.1, refl))), t.2)
 
-pub line_more : (signal : Signal) (text : List ℕ) (types : Option Types) (known : Option Found) (found more : Found) → known ≡ Some found → MayBeFound signal types known → found.seen < found.count → GoesOn text
-    → ((t : Types) → IsFound signal t found → Stands {E = Fault} (IsFound signal) (more_codes text t) (Ok more)) → Stands {E = Fault} (MayBeFound signal) (types_line types text) (Ok (Some more))
-line_more signal text types known found more e m few on s = on_line signal text types found more (rw e at m) few on s
+pub line_more : (letter : ℕ) (signal : Signal) (text : List ℕ) (types : Option Types) (known : Option Found) (found more : Found) → known ≡ Some found → MayBeFound signal types known → found.seen < found.count → GoesOn text
+    → ((t : Types) → IsFound signal t found → Stands {E = Fault} (IsFound signal) (more_codes text t) (Ok more)) → Stands {E = Fault} (MayBeFound signal) (types_line letter types text) (Ok (Some more))
+line_more letter signal text types known found more e m few on s = on_line letter signal text types found more (rw e at m) few on s

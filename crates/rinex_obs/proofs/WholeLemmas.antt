@@ -1,5 +1,5 @@
 -- How the lines of an observation file that is read are shared out.
-use Rattle.std.proofs.Common.{◌≡◌, ℕ, zero, suc, ◌+◌, ◌≤◌, ◌∙◌, Bool, true, false, cond, List, [], ◌∷◌, ◌++◌, length, get_or, take, drop, append_assoc, refl, ap, sym, subst, inl, inr, arith, Option, None, Some, Result, Ok, Err, IfOk, ◌⊎◌}
+use Rattle.std.proofs.Common.{◌≡◌, ℕ, zero, suc, ◌+◌, ◌≤◌, ◌∙◌, Bool, true, false, cond, List, [], ◌∷◌, ◌++◌, length, get_or, take, drop, append_assoc, refl, ap, sym, subst, inl, inr, arith, Option, None, Some, is_some, Result, Ok, Err, IfOk, ◌⊎◌}
 use Rattle.std.specs.Prelude.{◌==◌, nat_le, codes}
 use Rattle.std.specs.List.{AllByRecursion, filter, list_all}
 use Rattle.std.specs.Str.{bytes_eq}
@@ -9,24 +9,26 @@ use Rattle.std.proofs.lemmas.List.{append-nil, take-append-drop, length-take-le}
 use Rattle.rinex_text.specs.Bodies.{counted, is_printable}
 use Rattle.rinex_text.specs.Columns.{column_of, columns_of, label_of}
 use Rattle.rinex_text.specs.Counts.{IsNumber}
-use Rattle.rinex_text.specs.Headers.{Behind, IsShort, IsHeaderEnd, version_line, version_of}
+use Rattle.rinex_text.specs.Headers.{Behind, IsShort, IsHeaderEnd, version_line_of, version_by}
 use Rattle.rinex_text.specs.Lines.{TextLine, lines_of}
 use Rattle.rinex_text.specs.Whole.{OneForOne}
+use Rattle.rinex_text.proofs.OnlyLemmas.{ok_same}
 use Rattle.rinex_text.specs.declared.fault.ReadError.{ReadError}
-use Rattle.sat_model.specs.declared.boxes.Pos.{Pos}
-use Rattle.sat_model.specs.declared.satellites.Signal.{Signal}
-use Rattle.sat_model.specs.declared.satellites.Signal.TheVariants.{Single, Dual}
-use Rattle.rinex_obs.specs.Types.{Code, Types, types_line, AreComplete, codes_of}
-use Rattle.rinex_obs.specs.Header.{Coordinates, position_line, IsPosition, Header, header_line, Wanted, AreWanted, header_end, Start, header_lines}
-use Rattle.rinex_obs.specs.Epochs.{IsTag, flag_of, IsFlag, IsLineCount, satellite_line, satellites_from, event_line, event_from, head_line, Observed, Block, block_from, epochs_from}
-use Rattle.rinex_obs.specs.Files.{Observations, unread, IsObsFile}
+use Rattle.grid_model.specs.declared.boxes.Pos.{Pos}
+use Rattle.gnss_model.specs.declared.satellites.Signal.{Signal}
+use Rattle.rinex_obs.specs.declared.sought.Sought.{Sought}
+use Rattle.gnss_model.specs.declared.satellites.Signal.TheVariants.{Single, Dual}
+use Rattle.rinex_obs.specs.Types.{Code, Types, IsRead, is_read, types_line, galileo_line, AreComplete, codes_of}
+use Rattle.rinex_obs.specs.Header.{Coordinates, position_line, IsPosition, Header, types_behind, header_line, CodePlaces, ArePlaces, MayBePlaces, are_both, Wanted, have_both, AreWanted, header_end, Start, header_lines}
+use Rattle.rinex_obs.specs.Epochs.{IsTag, flag_of, IsFlag, IsLineCount, ArePlacesOf, sat_on, satellite_line, satellites_from, event_line, event_from, head_line, Observed, Block, block_from, epochs_from}
+use Rattle.rinex_obs.specs.Files.{Observations, unread, IsObsFileOf}
 use Rattle.rinex_obs.specs.Reading.{observations_of}
-use Rattle.rinex_obs.specs.Whole.{is_types_line, AreJoined, IsPositionLine, IsPositionOf, IsFineInHeader, IsFineInEvent, Part, lines_of_parts, IsPart, begins_epoch, is_of_gps, IsSeenOn, IsEpochOf, IsWhole}
+use Rattle.rinex_obs.specs.Whole.{is_types_line, AreTypes, AreGalileoTypes, IsPositionLine, IsPositionOf, IsFineInHeader, IsFineInEvent, Part, lines_of_parts, IsPart, begins_epoch, is_of_read, IsSeenOn, IsEpochOf, IsWholeOf}
 use Rattle.rinex_obs.specs.declared.head.Head.{Head}
 use Rattle.rinex_obs.specs.declared.head.Head.TheVariants.{Epoch, Event}
 use Rattle.rinex_obs.specs.declared.obs.Obs.{Obs}
 use Rattle.rinex_obs.specs.declared.obs.SatObs.{SatObs}
-use Rattle.rinex_obs.proofs.FactLemmas.{Give, given, on_test, on_where, on_either, on_read, on_then, on_line, on_more}
+use Rattle.rinex_obs.proofs.FactLemmas.{Give, given, on_test, on_where, on_either, on_read, on_then, on_line, on_more, has_places}
 use Rattle.rinex_obs.proofs.JoinedLemmas.{Walks, AreTypesBehind, walks_first, joined, AreSolid, solid_walk}
 
 -- ---- one for one
@@ -54,11 +56,17 @@ kept F b x y e is = subst (λ (t : Bool). OneForOne F (cond t (x ∷ []) []) (y 
 left_out : {X Y : Type 0} (F : X → Y → Type 0) (b : Bool) (x : X) → b ≡ false → OneForOne {X = X} {Y = Y} F (cond b (x ∷ []) []) []
 left_out {X} {Y} F b x e = subst (λ (t : Bool). OneForOne {X = X} {Y = Y} F (cond t (x ∷ []) []) []) (sym e) tt
 
-is_gps : (byte : ℕ) → byte ≡ 71 → (byte == 71) ≡ true
-is_gps byte h = grind (arith, nat_tests)
+is_letter : (both : Bool) (letter : ℕ) → IsRead both letter → is_read both letter ≡ true
+is_letter false letter h = grind (arith, nat_tests)
+is_letter true letter (inl h) = grind (arith, nat_tests)
+is_letter true letter (inr h) = grind (arith, nat_tests)
 
-not_gps : (byte : ℕ) → (byte ≡ 71 → ⊥) → (byte == 71) ≡ false
-not_gps byte h = grind (arith, nat_tests)
+no_letter : (both : Bool) (letter : ℕ) → (IsRead both letter → ⊥) → is_read both letter ≡ false
+no_letter false letter h = grind (arith, nat_tests)
+no_letter true letter h =
+    let gps : letter ≡ 71 → ⊥ = λ e. h (inl e) in
+    let galileo : letter ≡ 69 → ⊥ = λ e. h (inr e) in
+    grind (arith, nat_tests)
 
 low_flag : (flag : ℕ) → flag ≤ 49 → nat_le flag 49 ≡ true
 low_flag flag h = grind (arith, nat_tests)
@@ -73,21 +81,22 @@ record AddsOn (wanted : Wanted) (line : TextLine) (sats after : List SatObs) : T
   short : IsShort line
   new : List SatObs
   after_is : after ≡ sats ++ new
-  seen : OneForOne (IsSeenOn wanted) (filter is_of_gps (line ∷ [])) new
+  seen : OneForOne (IsSeenOn wanted) (filter (is_of_read (have_both wanted)) (line ∷ [])) new
 
 adds_on : (wanted : Wanted) (sats : List SatObs) (line : TextLine) → Give (AddsOn wanted line sats) (satellite_line wanted sats line)
 adds_on wanted sats line =
     let Meets : List SatObs → Type 0 = AddsOn wanted line sats in
     on_test Meets _ _ _ (λ short. on_where Meets _ _ _
-    (λ other. given Meets sats (record { short = short; new = []; after_is = sym (append-nil sats); seen = left_out (IsSeenOn wanted) _ line (not_gps (column_of line.text 1) other.2) }))
-    (on_test Meets _ _ _ (λ ascii. on_test Meets _ _ _ (λ gps. on_read Meets _ _ _ (λ number (is : IsNumber line.text number).
+    (λ other. given Meets sats (record { short = short; new = []; after_is = sym (append-nil sats); seen = left_out (IsSeenOn wanted) _ line (no_letter (have_both wanted) (column_of line.text 1) other.2) }))
+    (on_test Meets _ _ _ (λ ascii. on_read Meets _ _ _ (λ places (own : ArePlacesOf wanted (column_of line.text 1) places). on_read Meets _ _ _ (λ number (is : IsNumber line.text number).
     on_test Meets _ _ _ (λ new. on_test Meets _ _ _ (λ room. on_read Meets _ _ _ (λ first a. on_read Meets _ _ _ (λ second b.
-    let seen : SatObs = record { sat = record { system = 71; number = number }; first = first; second = second } in
+    let seen : SatObs = record { sat = sat_on line number; first = first; second = second } in
+    let letter = is_letter (have_both wanted) (column_of line.text 1) (has_places wanted.gps wanted.galileo (column_of line.text 1) places own) in
     given Meets (sats ++ seen ∷ []) (record {
       short = short;
       new = seen ∷ [];
       after_is = refl;
-      seen = kept (IsSeenOn wanted) _ line seen (is_gps (column_of line.text 1) gps) (record { printable = ascii; number = is; first = a; second = b });
+      seen = kept (IsSeenOn wanted) _ line seen letter (record { printable = ascii; number = is; sat_is = refl; places = places; places_are = own; first = a; second = b });
     }))))))))))
 
 -- those of so many lines
@@ -96,7 +105,7 @@ record AddAll (wanted : Wanted) (left : ℕ) (lines : List TextLine) (sats after
   short : AllByRecursion IsShort (take left lines)
   new : List SatObs
   after_is : after ≡ sats ++ new
-  seen : OneForOne (IsSeenOn wanted) (filter is_of_gps (take left lines)) new
+  seen : OneForOne (IsSeenOn wanted) (filter (is_of_read (have_both wanted)) (take left lines)) new
 
 add_first : (wanted : Wanted) (left : ℕ) (line : TextLine) (more : List TextLine) (sats next after : List SatObs) → AddsOn wanted line sats next → AddAll wanted left more next after
     → AddAll wanted (suc left) (line ∷ more) sats after
@@ -105,7 +114,7 @@ add_first wanted left line more sats next after a t = record {
   short = (a.short, t.short);
   new = a.new ++ t.new;
   after_is = t.after_is ∙ (ap (λ (s : List SatObs). s ++ t.new) a.after_is ∙ append_assoc sats a.new t.new);
-  seen = one_first (IsSeenOn wanted) is_of_gps line (take left more) a.new t.new a.seen t.seen;
+  seen = one_first (IsSeenOn wanted) (is_of_read (have_both wanted)) line (take left more) a.new t.new a.seen t.seen;
 }
 
 add_all : (wanted : Wanted) (left : ℕ) (sats : List SatObs) (number : ℕ) (lines : List TextLine) → Give (AddAll wanted left lines sats) (satellites_from wanted left sats (record { number = number; lines = lines }))
@@ -119,31 +128,31 @@ add_all wanted (suc left) sats number (line ∷ more) =
 
 -- ---- events
 
-record Passes (labelled : Bool) (left : ℕ) (lines : List TextLine) : Type 0 where
+record Passes (both labelled : Bool) (left : ℕ) (lines : List TextLine) : Type 0 where
   enough : left ≤ length lines
   short : AllByRecursion IsShort (take left lines)
-  fine : labelled ≡ true → AllByRecursion IsFineInEvent (take left lines)
+  fine : labelled ≡ true → AllByRecursion (IsFineInEvent both) (take left lines)
 
-event_fine : (labelled : Bool) (line : TextLine) → Give (λ (none : Unit {0}). labelled ≡ true → IsFineInEvent line) (event_line labelled line)
-event_fine labelled line =
-    let Meets : Unit {0} → Type 0 = λ none. labelled ≡ true → IsFineInEvent line in
+event_fine : (both labelled : Bool) (line : TextLine) → Give (λ (none : Unit {0}). labelled ≡ true → IsFineInEvent both line) (event_line both labelled line)
+event_fine both labelled line =
+    let Meets : Unit {0} → Type 0 = λ none. labelled ≡ true → IsFineInEvent both line in
     on_test Meets _ _ _ (λ short. on_either Meets _ _ _
     (λ looked. on_test Meets _ _ _ (λ scale. on_test Meets _ _ _ (λ types. given Meets tt (λ e. record { scale = λ label gps. scale (label, gps); types = types }))))
     (λ other. given Meets tt (λ e. absurd (other e))))
 
-event_short : (labelled : Bool) (line : TextLine) → Give (λ (none : Unit {0}). IsShort line) (event_line labelled line)
-event_short labelled line =
+event_short : (both labelled : Bool) (line : TextLine) → Give (λ (none : Unit {0}). IsShort line) (event_line both labelled line)
+event_short both labelled line =
     let Meets : Unit {0} → Type 0 = λ none. IsShort line in
     on_test Meets _ _ _ (λ short. on_where Meets _ _ _ (λ looked. on_test Meets _ _ _ (λ scale. on_test Meets _ _ _ (λ types. given Meets tt short))) (given Meets tt short))
 
-passes_all : (labelled : Bool) (left number : ℕ) (lines : List TextLine) → Give (λ (none : Unit {0}). Passes labelled left lines) (event_from labelled left (record { number = number; lines = lines }))
-passes_all labelled zero number lines = given (λ (none : Unit {0}). Passes labelled zero lines) tt (record { enough = omega arith; short = tt; fine = λ e. tt })
-passes_all labelled (suc left) number [] = λ r. λ e. rw e tt
-passes_all labelled (suc left) number (line ∷ more) =
-    on_line (λ (none : Unit {0}). Passes labelled (suc left) (line ∷ more)) (event_line labelled line) number (λ none. event_from labelled left (record { number = number + 1; lines = more }))
-    (λ none is. on_more (λ (none : Unit {0}). Passes labelled left more) (λ (none : Unit {0}). Passes labelled (suc left) (line ∷ more)) _
-    (λ other t. record { enough = omega (arith, t.enough); short = (event_short labelled line (Ok none) is, t.short); fine = λ e. (event_fine labelled line (Ok none) is e, t.fine e) })
-    (passes_all labelled left (number + 1) more))
+passes_all : (both labelled : Bool) (left number : ℕ) (lines : List TextLine) → Give (λ (none : Unit {0}). Passes both labelled left lines) (event_from both labelled left (record { number = number; lines = lines }))
+passes_all both labelled zero number lines = given (λ (none : Unit {0}). Passes both labelled zero lines) tt (record { enough = omega arith; short = tt; fine = λ e. tt })
+passes_all both labelled (suc left) number [] = λ r. λ e. rw e tt
+passes_all both labelled (suc left) number (line ∷ more) =
+    on_line (λ (none : Unit {0}). Passes both labelled (suc left) (line ∷ more)) (event_line both labelled line) number (λ none. event_from both labelled left (record { number = number + 1; lines = more }))
+    (λ none is. on_more (λ (none : Unit {0}). Passes both labelled left more) (λ (none : Unit {0}). Passes both labelled (suc left) (line ∷ more)) _
+    (λ other t. record { enough = omega (arith, t.enough); short = (event_short both labelled line (Ok none) is, t.short); fine = λ e. (event_fine both labelled line (Ok none) is e, t.fine e) })
+    (passes_all both labelled left (number + 1) more))
 
 -- ---- the first line of a part
 
@@ -170,12 +179,12 @@ head_of count line =
 -- ---- parts
 
 record IsBlockOf (wanted : Wanted) (line : TextLine) (more : List TextLine) (block : Block) : Type 0 where
-  part : IsPart (record { head = line; lines = take block.lines more })
+  part : IsPart (have_both wanted) (record { head = line; lines = take block.lines more })
   epochs : OneForOne (IsEpochOf wanted) (filter begins_epoch (record { head = line; lines = take block.lines more } ∷ [])) block.epochs
 
-is_part : (line : TextLine) (lines : ℕ) (more : List TextLine) → IsOpening line lines → lines ≤ length more → AllByRecursion IsShort (take lines more)
-    → (nat_le (flag_of line.text) 49 ≡ false → nat_le (flag_of line.text) 53 ≡ true → AllByRecursion IsFineInEvent (take lines more)) → IsPart (record { head = line; lines = take lines more })
-is_part line lines more opening enough short event = record {
+is_part : (both : Bool) (line : TextLine) (lines : ℕ) (more : List TextLine) → IsOpening line lines → lines ≤ length more → AllByRecursion IsShort (take lines more)
+    → (nat_le (flag_of line.text) 49 ≡ false → nat_le (flag_of line.text) 53 ≡ true → AllByRecursion (IsFineInEvent both) (take lines more)) → IsPart both (record { head = line; lines = take lines more })
+is_part both line lines more opening enough short event = record {
   marked = opening.marked;
   flag = opening.flag;
   count = subst (IsLineCount (columns_of line.text 33 35)) (sym (length-take-le lines more enough)) opening.count;
@@ -194,15 +203,15 @@ block_of wanted count line (Epoch tag lines) number more is =
     let all = add_all wanted lines [] number more (Ok sats) l in
     let epoch : Observed = record { index = count + 1; tag = tag; sats = sats } in
     given (IsBlockOf wanted line more) (record { epochs = epoch ∷ []; lines = lines }) (record {
-      part = is_part line lines more is.0 all.enough all.short (λ high looked. absurd (no_epoch _ is.1 high));
+      part = is_part (have_both wanted) line lines more is.0 all.enough all.short (λ high looked. absurd (no_epoch _ is.1 high));
       epochs = kept (IsEpochOf wanted) _ (record { head = line; lines = take lines more }) epoch is.1
-          (record { tag = is.2; sats = subst (OneForOne (IsSeenOn wanted) (filter is_of_gps (take lines more))) (sym all.after_is) all.seen });
+          (record { tag = is.2; sats = subst (OneForOne (IsSeenOn wanted) (filter (is_of_read (have_both wanted)) (take lines more))) (sym all.after_is) all.seen });
     }))
 block_of wanted count line (Event labelled lines) number more is =
-    on_then (IsBlockOf wanted line more) (event_from labelled lines (record { number = number; lines = more })) _ (λ none l.
-    let all = passes_all labelled lines number more (Ok none) l in
+    on_then (IsBlockOf wanted line more) (event_from (have_both wanted) labelled lines (record { number = number; lines = more })) _ (λ none l.
+    let all = passes_all (have_both wanted) labelled lines number more (Ok none) l in
     given (IsBlockOf wanted line more) (record { epochs = []; lines = lines }) (record {
-      part = is_part line lines more is.0 all.enough all.short (λ high looked. all.fine (is.2 ∙ looked));
+      part = is_part (have_both wanted) line lines more is.0 all.enough all.short (λ high looked. all.fine (is.2 ∙ looked));
       epochs = left_out (IsEpochOf wanted) _ (record { head = line; lines = take lines more }) is.1;
     }))
 
@@ -210,7 +219,7 @@ block_of wanted count line (Event labelled lines) number more is =
 record AreShared (wanted : Wanted) (skip : ℕ) (lines : List TextLine) (epochs after : List Observed) : Type 0 where
   parts : List Part
   spelled : drop skip lines ≡ lines_of_parts parts
-  are_parts : AllByRecursion IsPart parts
+  are_parts : AllByRecursion (IsPart (have_both wanted)) parts
   new : List Observed
   after_is : after ≡ epochs ++ new
   epochs_are : OneForOne (IsEpochOf wanted) (filter begins_epoch parts) new
@@ -274,11 +283,12 @@ known_first line header before next after b (inr k) =
 other_label : (label some : List ℕ) → (get_or some 0 0 ≡ 65 → ⊥) → label ≡ some → label ≡ codes "APPROX POSITION XYZ" → ⊥
 other_label label some apart a b = apart (ap (λ (l : List ℕ). get_or l 0 0) (sym a ∙ b))
 
-known_behind : (header : Header) (line : TextLine) → Give (λ (next : Header). IsKnownBehind line header.position next.position) (header_line true header line)
-known_behind header line =
+known_behind : (both : Bool) (header : Header) (line : TextLine) → Give (λ (next : Header). IsKnownBehind line header.position next.position) (header_line both true header line)
+known_behind both header line =
     let Meets : Header → Type 0 = λ next. IsKnownBehind line header.position next.position in
     on_where Meets _ _ _
-    (λ types. on_then Meets (types_line header.types line.text) _ (λ listed l. given Meets _ (inl (other_label _ (codes "SYS / # / OBS TYPES") (λ e. absurd (omega (arith, e))) types, refl))))
+    (λ types. on_then Meets (types_line 71 header.gps line.text) _ (λ gps l. on_then Meets (galileo_line both header.galileo line.text) _ (λ galileo m.
+    given Meets _ (inl (other_label _ (codes "SYS / # / OBS TYPES") (λ e. absurd (omega (arith, e))) types, refl)))))
     (on_where Meets _ _ _ (λ time. on_test Meets _ _ _ (λ system. given Meets header (inl (other_label _ (codes "TIME OF FIRST OBS") (λ e. absurd (omega (arith, e))) time, refl))))
     (on_where Meets _ _ _ (λ scale. on_test Meets _ _ _ (λ free. given Meets header (inl (other_label _ (codes "SYS / SCALE FACTOR") (λ e. absurd (omega (arith, e))) scale, refl))))
     (on_either Meets _ _ _
@@ -296,31 +306,69 @@ no_types_label label other = elim (bytes_eq label (codes "SYS / # / OBS TYPES"))
   | false ↦ λ is. refl
 ] ((bytes_eq-Decides label (codes "SYS / # / OBS TYPES")).0)
 
-types_behind : (position : Bool) (header : Header) (line : TextLine) → Give (λ (next : Header). AreTypesBehind line header.types next.types) (header_line position header line)
-types_behind position header line =
-    let Meets : Header → Type 0 = λ next. AreTypesBehind line header.types next.types in
+-- what is listed of Galileo behind a line of the header
+abbrev AreGalileoBehind : Bool → TextLine → Option Types → Option Types → Type 0
+AreGalileoBehind false line before after = after ≡ before
+AreGalileoBehind true line before after = AreTypesBehind 69 line before after
+
+galileo_types : (both : Bool) (line : TextLine) (before after : Option Types) → is_types_line line ≡ true → galileo_line both before line.text (Ok after) → AreGalileoBehind both line before after
+galileo_types false line before after is e = ok_same after before e
+galileo_types true line before after is l = inl (is, l)
+
+galileo_kept : (both : Bool) (line : TextLine) (before : Option Types) → is_types_line line ≡ false → AreGalileoBehind both line before before
+galileo_kept false line before other = refl
+galileo_kept true line before other = inr (other, refl)
+
+-- ... behind some lines
+abbrev WalksGalileo : Bool → Option Types → List TextLine → Option Types → Type 0
+WalksGalileo false before lines after = after ≡ before
+WalksGalileo true before lines after = Walks 69 before lines after
+
+galileo_end : (both : Bool) (before : Option Types) → WalksGalileo both before [] before
+galileo_end false before = refl
+galileo_end true before = refl
+
+galileo_first : (both : Bool) (line : TextLine) (header : List TextLine) (before next after : Option Types) → AreGalileoBehind both line before next → WalksGalileo both next (filter is_types_line header) after
+    → WalksGalileo both before (filter is_types_line (line ∷ header)) after
+galileo_first false line header before next after e f = f ∙ e
+galileo_first true line header before next after l w = walks_first 69 line header before next after l w
+
+-- what is listed behind a line of the header
+record AreListed (both : Bool) (line : TextLine) (before after : Header) : Type 0 where
+  gps : AreTypesBehind 71 line before.gps after.gps
+  galileo : AreGalileoBehind both line before.galileo after.galileo
+
+none_listed : (both : Bool) (header : Header) (line : TextLine) (coordinates : Option Coordinates) → is_types_line line ≡ false
+    → AreListed both line header (record { gps = header.gps; galileo = header.galileo; position = coordinates })
+none_listed both header line coordinates other = record { gps = inr (other, refl); galileo = galileo_kept both line header.galileo other }
+
+listed : (both position : Bool) (header : Header) (line : TextLine) → Give (AreListed both line header) (header_line both position header line)
+listed both position header line =
+    let Meets : Header → Type 0 = AreListed both line header in
     on_either Meets _ _ _
-    (λ is. on_then Meets (types_line header.types line.text) _ (λ types l. given Meets _ (inl (types_label _ is, l))))
+    (λ is. let labelled = types_label (label_of line.text) is in
+    on_then Meets (types_line 71 header.gps line.text) _ (λ gps l. on_then Meets (galileo_line both header.galileo line.text) _ (λ galileo m.
+    given Meets _ (record { gps = inl (labelled, l); galileo = galileo_types both line header.galileo galileo labelled m }))))
     (λ other. let apart = no_types_label (label_of line.text) other in
-    on_where Meets _ _ _ (λ time. on_test Meets _ _ _ (λ system. given Meets header (inr (apart, refl))))
-    (on_where Meets _ _ _ (λ scale. on_test Meets _ _ _ (λ free. given Meets header (inr (apart, refl))))
-    (on_where Meets _ _ _ (λ at. on_then Meets (position_line line.text) _ (λ coordinates l. given Meets _ (inr (apart, refl))))
-    (given Meets header (inr (apart, refl))))))
+    on_where Meets _ _ _ (λ time. on_test Meets _ _ _ (λ system. given Meets header (none_listed both header line header.position apart)))
+    (on_where Meets _ _ _ (λ scale. on_test Meets _ _ _ (λ free. given Meets header (none_listed both header line header.position apart)))
+    (on_where Meets _ _ _ (λ at. on_then Meets (position_line line.text) _ (λ coordinates l. given Meets _ (none_listed both header line coordinates apart)))
+    (given Meets header (none_listed both header line header.position apart)))))
 
 -- ---- the header
 
 labels_apart : (label a b : List ℕ) (k : ℕ) → (get_or a k 0 ≡ get_or b k 0 → ⊥) → label ≡ a → label ≡ b → ⊥
 labels_apart label a b k apart e f = apart (ap (λ (l : List ℕ). get_or l k 0) (sym e ∙ f))
 
-is_fine : (position : Bool) (header : Header) (line : TextLine) → Give (λ (next : Header). IsFineInHeader position line) (header_line position header line)
-is_fine position header line =
-    let Meets : Header → Type 0 = λ next. IsFineInHeader position line in
+is_fine : (both position : Bool) (header : Header) (line : TextLine) → Give (λ (next : Header). IsFineInHeader both position line) (header_line both position header line)
+is_fine both position header line =
+    let Meets : Header → Type 0 = λ next. IsFineInHeader both position line in
     on_either Meets _ _ _
-    (λ is. on_then Meets (types_line header.types line.text) _ (λ types l. given Meets _ (record {
+    (λ is. on_then Meets (types_line 71 header.gps line.text) _ (λ gps l. on_then Meets (galileo_line both header.galileo line.text) _ (λ galileo m. given Meets _ (record {
       time = λ label. absurd (labels_apart _ (codes "SYS / # / OBS TYPES") (codes "TIME OF FIRST OBS") 0 (λ e. absurd (omega (arith, e))) is label);
       scale = λ label. absurd (labels_apart _ (codes "SYS / # / OBS TYPES") (codes "SYS / SCALE FACTOR") 6 (λ e. absurd (omega (arith, e))) is label);
       place = λ wanted label. absurd (labels_apart _ (codes "SYS / # / OBS TYPES") (codes "APPROX POSITION XYZ") 0 (λ e. absurd (omega (arith, e))) is label);
-    })))
+    }))))
     (λ other. on_either Meets _ _ _
     (λ is. on_test Meets _ _ _ (λ system. given Meets header (record {
       time = λ label. system;
@@ -337,37 +385,39 @@ is_fine position header line =
     (λ is. on_then Meets (position_line line.text) _ (λ coordinates l. given Meets _ (record { time = λ label. absurd (no_time label); scale = λ label. absurd (no_scale label); place = λ wanted label. (coordinates, l) })))
     (λ none. given Meets header (record { time = λ label. absurd (no_time label); scale = λ label. absurd (no_scale label); place = λ wanted label. absurd (none (label, wanted)) })))))
 
-record IsStart (signal : Signal) (position : Bool) (known : Header) (lines : List TextLine) (start : Start) : Type 0 where
+record IsStart (sought : Sought) (position : Bool) (known : Header) (lines : List TextLine) (start : Start) : Type 0 where
   header : List TextLine
   end : TextLine
   spelled : lines ≡ header ++ end ∷ start.behind.lines
   ends : IsHeaderEnd end
   none_before : AllByRecursion (λ line. IsHeaderEnd line → ⊥) header
   short : AllByRecursion IsShort (header ++ end ∷ [])
-  fine : AllByRecursion (IsFineInHeader position) header
+  fine : AllByRecursion (IsFineInHeader (are_both sought) position) header
   after : Option Coordinates
   known_is : position ≡ true → IsKnown header known.position after
   position_is : IsPosition position after start.position
-  types : Option Types
-  types_are : Walks known.types (filter is_types_line header) types
-  complete : AreComplete types
-  wanted_is : AreWanted signal (codes_of types) start.wanted
+  gps : Option Types
+  gps_are : Walks 71 known.gps (filter is_types_line header) gps
+  galileo : Option Types
+  galileo_are : WalksGalileo (are_both sought) known.galileo (filter is_types_line header) galileo
+  complete : AreComplete gps × AreComplete galileo
+  wanted_is : AreWanted sought (codes_of gps) (codes_of galileo) start.wanted
 
-record IsEnd (signal : Signal) (position : Bool) (known : Header) (end : Wanted × Option Pos) : Type 0 where
-  complete : AreComplete known.types
-  wanted : AreWanted signal (codes_of known.types) end.0
+record IsEnd (sought : Sought) (position : Bool) (known : Header) (end : Wanted × Option Pos) : Type 0 where
+  complete : AreComplete known.gps × AreComplete known.galileo
+  wanted : AreWanted sought (codes_of known.gps) (codes_of known.galileo) end.0
   position_is : IsPosition position known.position end.1
 
-end_gives : (signal : Signal) (position : Bool) (known : Header) → Give (IsEnd signal position known) (header_end signal position known)
-end_gives signal position known =
-    let Meets : Wanted × Option Pos → Type 0 = IsEnd signal position known in
-    on_test Meets _ _ _ (λ complete. on_read Meets _ _ _ (λ wanted (is : AreWanted signal (codes_of known.types) wanted). on_read Meets _ _ _ (λ point (at : IsPosition position known.position point).
+end_gives : (sought : Sought) (position : Bool) (known : Header) → Give (IsEnd sought position known) (header_end sought position known)
+end_gives sought position known =
+    let Meets : Wanted × Option Pos → Type 0 = IsEnd sought position known in
+    on_test Meets _ _ _ (λ complete. on_read Meets _ _ _ (λ wanted (is : AreWanted sought (codes_of known.gps) (codes_of known.galileo) wanted). on_read Meets _ _ _ (λ point (at : IsPosition position known.position point).
     given Meets (wanted, point) (record { complete = complete; wanted = is; position_is = at }))))
 
-start_first : (signal : Signal) (position : Bool) (known next : Header) (line : TextLine) (more : List TextLine) (start : Start) → IsShort line → (IsHeaderEnd line → ⊥)
-    → (position ≡ true → IsKnownBehind line known.position next.position) → AreTypesBehind line known.types next.types → IsFineInHeader position line
-    → IsStart signal position next more start → IsStart signal position known (line ∷ more) start
-start_first signal position known next line more start short other says lists fine s = record {
+start_first : (sought : Sought) (position : Bool) (known next : Header) (line : TextLine) (more : List TextLine) (start : Start) → IsShort line → (IsHeaderEnd line → ⊥)
+    → (position ≡ true → IsKnownBehind line known.position next.position) → AreListed (are_both sought) line known next → IsFineInHeader (are_both sought) position line
+    → IsStart sought position next more start → IsStart sought position known (line ∷ more) start
+start_first sought position known next line more start short other says lists fine s = record {
   header = line ∷ s.header;
   end = s.end;
   spelled = ap (λ (l : List TextLine). line ∷ l) s.spelled;
@@ -378,19 +428,21 @@ start_first signal position known next line more start short other says lists fi
   after = s.after;
   known_is = λ e. known_first line s.header known.position next.position s.after (says e) (s.known_is e);
   position_is = s.position_is;
-  types = s.types;
-  types_are = walks_first line s.header known.types next.types s.types lists s.types_are;
+  gps = s.gps;
+  gps_are = walks_first 71 line s.header known.gps next.gps s.gps lists.gps s.gps_are;
+  galileo = s.galileo;
+  galileo_are = galileo_first (are_both sought) line s.header known.galileo next.galileo s.galileo lists.galileo s.galileo_are;
   complete = s.complete;
   wanted_is = s.wanted_is;
 }
 
-starts : (signal : Signal) (position : Bool) (known : Header) (number : ℕ) (lines : List TextLine) → Give (IsStart signal position known lines) (header_lines signal position known number lines)
-starts signal position known number [] = λ r. λ e. rw e tt
-starts signal position known number (line ∷ more) =
-    let Meets : Start → Type 0 = IsStart signal position known (line ∷ more) in
+starts : (sought : Sought) (position : Bool) (known : Header) (number : ℕ) (lines : List TextLine) → Give (IsStart sought position known lines) (header_lines sought position known number lines)
+starts sought position known number [] = λ r. λ e. rw e tt
+starts sought position known number (line ∷ more) =
+    let Meets : Start → Type 0 = IsStart sought position known (line ∷ more) in
     on_test Meets _ _ _ (λ short. on_either Meets _ _ _
-    (λ is. on_line Meets (header_end signal position known) number _ (λ pair l.
-    let end = end_gives signal position known (Ok pair) l in
+    (λ is. on_line Meets (header_end sought position known) number _ (λ pair l.
+    let end = end_gives sought position known (Ok pair) l in
     given Meets _ (record {
       header = [];
       end = line;
@@ -402,30 +454,34 @@ starts signal position known number (line ∷ more) =
       after = known.position;
       known_is = λ e. inl (tt, refl);
       position_is = end.position_is;
-      types = known.types;
-      types_are = refl;
+      gps = known.gps;
+      gps_are = refl;
+      galileo = known.galileo;
+      galileo_are = galileo_end (are_both sought) known.galileo;
       complete = end.complete;
       wanted_is = end.wanted;
     })))
-    (λ other. on_line Meets (header_line position known line) number _ (λ next l. on_more (IsStart signal position next more) Meets _
-    (λ start s. start_first signal position known next line more start short other (λ e. known_behind known line (Ok next) (subst (λ (p : Bool). header_line p known line (Ok next)) e l)) (types_behind position known line (Ok next) l) (is_fine position known line (Ok next) l) s)
-    (starts signal position next (number + 1) more))))
+    (λ other. on_line Meets (header_line (are_both sought) position known line) number _ (λ next l. on_more (IsStart sought position next more) Meets _
+    (λ start s. start_first sought position known next line more start short other (λ e. known_behind (are_both sought) known line (Ok next) (subst (λ (p : Bool). header_line (are_both sought) p known line (Ok next)) e l))
+    (listed (are_both sought) position known line (Ok next) l) (is_fine (are_both sought) position known line (Ok next) l) s)
+    (starts sought position next (number + 1) more))))
 
 -- wanted codes are listed
-no_wanted : (signal : Signal) (wanted : Wanted) → AreWanted signal [] wanted → ⊥
-no_wanted (Single code) wanted is = absurd cc
-no_wanted (Dual first second) wanted is = absurd cc
+no_places : (signal : Signal) (places : CodePlaces) → ArePlaces signal [] places → ⊥
+no_places (Single code) places is = absurd cc
+no_places (Dual first second) places is = absurd cc
 
--- the types of the header
-record HasTypes (signal : Signal) (typed : List TextLine) (wanted : Wanted) : Type 0 where
-  types : List Code
-  types_are : AreJoined typed types
-  solid : AreSolid types
-  wanted_is : AreWanted signal types wanted
+-- the types of a system whose codes are wanted
+has_types : (letter : ℕ) (signal : Signal) (typed : List TextLine) (places : CodePlaces) (types : Option Types) → Walks letter None typed types → AreComplete types → ArePlaces signal (codes_of types) places
+    → AreTypes letter typed (codes_of types)
+has_types letter signal typed places None w complete is = absurd (no_places signal places is)
+has_types letter signal typed places (Some types) w complete is = record { joined = joined letter typed types complete w; solid = solid_walk letter None typed (Some types) w tt }
 
-has_types : (signal : Signal) (typed : List TextLine) (wanted : Wanted) (types : Option Types) → Walks None typed types → AreComplete types → AreWanted signal (codes_of types) wanted → HasTypes signal typed wanted
-has_types signal typed wanted None w complete is = absurd (no_wanted signal wanted is)
-has_types signal typed wanted (Some types) w complete is = record { types = types.codes; types_are = joined typed types complete w; solid = solid_walk None typed (Some types) w tt; wanted_is = is }
+has_galileo : (galileo : Option Signal) (typed : List TextLine) (places : Option CodePlaces) (types : Option Types) → WalksGalileo (is_some galileo) None typed types → AreComplete types → MayBePlaces galileo (codes_of types) places
+    → AreGalileoTypes (is_some galileo) typed (codes_of types)
+has_galileo None typed places types e complete is = ap codes_of e
+has_galileo (Some signal) typed None types w complete is = absurd is
+has_galileo (Some signal) typed (Some places) types w complete is = has_types 69 signal typed places types w complete is
 
 -- ---- files
 
@@ -439,26 +495,28 @@ point_of true header (Some coordinates) (Some point) known is = elim (known refl
   | inr k ↦ record { before = k.before; line = k.line; behind = k.behind; spelled = k.spelled; labelled = k.labelled; last = k.last; coordinates = coordinates; are = k.are; point_is = is }
 ]
 
-version_short : (line : TextLine) → Give (λ (passed : Unit {0}). IsShort line) (version_line 79 line)
-version_short line =
+version_short : (both : Bool) (line : TextLine) → Give (λ (passed : Unit {0}). IsShort line) (version_line_of both 79 line)
+version_short both line =
     let Meets : Unit {0} → Type 0 = λ passed. IsShort line in
     on_test Meets _ _ _ (λ short. on_test Meets _ _ _ (λ label. on_test Meets _ _ _ (λ version. on_test Meets _ _ _ (λ kind. on_test Meets _ _ _ (λ system. given Meets tt short)))))
 
 -- the lines behind the version line
-behind_version : (lines : List TextLine) → Give (λ (version : Behind). (line : TextLine) × (lines ≡ line ∷ version.lines) × IsShort line) (version_of 79 lines)
-behind_version [] = λ r. λ e. rw e tt
-behind_version (line ∷ more) =
+behind_version : (both : Bool) (lines : List TextLine) → Give (λ (version : Behind). (line : TextLine) × (lines ≡ line ∷ version.lines) × IsShort line) (version_by both 79 lines)
+behind_version both [] = λ r. λ e. rw e tt
+behind_version both (line ∷ more) =
     let Meets : Behind → Type 0 = λ version. (first : TextLine) × (line ∷ more ≡ first ∷ version.lines) × IsShort first in
-    on_line Meets (version_line 79 line) 1 _ (λ passed l. given Meets _ (line, refl, version_short line (Ok passed) l))
+    on_line Meets (version_line_of both 79 line) 1 _ (λ passed l. given Meets _ (line, refl, version_short both line (Ok passed) l))
 
-whole : (signal : Signal) (position : Bool) (text : List ℕ) (observations : Observations) → IsObsFile signal position text observations → IsWhole signal position (lines_of text) observations
-whole signal position text observations file =
-    let Meets : Observations → Type 0 = IsWhole signal position (lines_of text) in
-    on_then Meets (version_of 79 (lines_of text)) _ (λ version v. on_then Meets (header_lines signal position unread version.number version.lines) _ (λ start s.
+whole : (sought : Sought) (position : Bool) (text : List ℕ) (observations : Observations) → IsObsFileOf sought position text observations → IsWholeOf sought position (lines_of text) observations
+whole sought position text observations file =
+    let Meets : Observations → Type 0 = IsWholeOf sought position (lines_of text) in
+    on_then Meets (version_by (are_both sought) 79 (lines_of text)) _ (λ version v. on_then Meets (header_lines sought position unread version.number version.lines) _ (λ start s.
     on_then Meets (epochs_from start.wanted [] start.behind.number 0 (counted start.behind.lines)) _ (λ epochs e.
-    let first = behind_version (lines_of text) (Ok version) v in
-    let top = starts signal position unread version.number version.lines (Ok start) s in
-    let typed = has_types signal (filter is_types_line top.header) start.wanted top.types top.types_are top.complete top.wanted_is in
+    let first = behind_version (are_both sought) (lines_of text) (Ok version) v in
+    let top = starts sought position unread version.number version.lines (Ok start) s in
+    let typed = filter is_types_line top.header in
+    let gps = has_types 71 sought.gps typed start.wanted.gps top.gps top.gps_are top.complete.0 top.wanted_is.of_gps in
+    let galileo = has_galileo sought.galileo typed start.wanted.galileo top.galileo top.galileo_are top.complete.1 top.wanted_is.of_galileo in
     let body = shared start.wanted [] start.behind.number 0 (counted start.behind.lines) (Ok epochs) e in
     given Meets (record { position = start.position; epochs = epochs }) (record {
       header = top.header;
@@ -466,15 +524,16 @@ whole signal position text observations file =
       parted = record { version = first.0; end = top.end; spelled = first.1 ∙ ap (λ (l : List TextLine). first.0 ∷ l) top.spelled; ends = top.ends; none_before = top.none_before; short = (first.2, top.short) };
       fine = top.fine;
       position_is = point_of position top.header top.after start.position top.known_is top.position_is;
-      types = typed.types;
-      types_are = typed.types_are;
-      solid = typed.solid;
+      gps = codes_of top.gps;
+      gps_are = gps;
+      galileo = codes_of top.galileo;
+      galileo_are = galileo;
       wanted = start.wanted;
-      wanted_is = typed.wanted_is;
+      wanted_is = top.wanted_is;
       epochs_are = record { parts = body.parts; spelled = body.spelled; are_parts = body.are_parts; epochs_are = subst (OneForOne (IsEpochOf start.wanted) (filter begins_epoch body.parts)) (sym body.after_is) body.epochs_are };
     })))) (Ok observations) file
 
-pub whole_read : (signal : Signal) (position : Bool) (text : List ℕ) (read : Result Obs ReadError) → IfOk read (λ obs. IsObsFile signal position text (observations_of obs))
-    → IfOk read (λ obs. IsWhole signal position (lines_of text) (observations_of obs))
-whole_read signal position text (Ok obs) file = whole signal position text (observations_of obs) file
-whole_read signal position text (Err e) file = tt
+pub whole_read : (sought : Sought) (position : Bool) (text : List ℕ) (read : Result Obs ReadError) → IfOk read (λ obs. IsObsFileOf sought position text (observations_of obs))
+    → IfOk read (λ obs. IsWholeOf sought position (lines_of text) (observations_of obs))
+whole_read sought position text (Ok obs) file = whole sought position text (observations_of obs) file
+whole_read sought position text (Err e) file = tt

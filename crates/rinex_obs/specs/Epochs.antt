@@ -1,6 +1,6 @@
 -- The epochs of an observation file (RINEX 3.05, table A3): epoch lines with their satellite lines, and
 -- events with the lines that belong to them.
-use Rattle.std.specs.Prelude.{ℕ, zero, suc, ◌≡◌, ◌⊎◌, ◌+◌, ◌-◌, ◌*◌, ◌^◌, ◌≤◌, ◌<◌, ℤ, pos, neg_ℤ, Bool, true, false, cond, ◌==◌, nat_le, List, [], ◌∷◌, ◌++◌, length, Option, None, Some, Result, Ok, codes}
+use Rattle.std.specs.Prelude.{ℕ, zero, suc, ◌≡◌, ◌⊎◌, ◌+◌, ◌-◌, ◌*◌, ◌^◌, ◌≤◌, ◌<◌, ℤ, pos, neg_ℤ, Bool, true, false, cond, ◌==◌, ◌&&◌, nat_le, List, [], ◌∷◌, ◌++◌, length, Option, None, Some, Result, Ok, codes}
 use Rattle.std.specs.List.{list_all, list_any}
 use Rattle.exact_decimal.specs.Counts.{IsCount}
 use Rattle.exact_decimal.specs.NumberFields.{is_blank, AreBlanks, IsFixed}
@@ -15,11 +15,12 @@ use Rattle.rinex_text.specs.Lines.{TextLine}
 use Rattle.rinex_text.specs.declared.fault.Fault.{Fault}
 use Rattle.rinex_text.specs.declared.fault.Fault.TheVariants as fault
 use Rattle.rinex_text.specs.declared.fault.Refusal.{Refusal}
-use Rattle.rinex_obs.specs.Types.{IsOfGps}
-use Rattle.rinex_obs.specs.Header.{Wanted, IsLabelled}
+use Rattle.rinex_obs.specs.Types.{IsRead, IsOfRead}
+use Rattle.rinex_obs.specs.Header.{CodePlaces, Wanted, have_both, IsLabelled}
 use Rattle.rinex_obs.specs.declared.head.Head.{Head}
 use Rattle.rinex_obs.specs.declared.head.Head.TheVariants.{Epoch, Event}
 use Rattle.rinex_obs.specs.declared.obs.SatObs.{SatObs}
+use Rattle.gnss_model.specs.declared.satellites.Sat.{Sat}
 
 -- ---- the first line of an epoch or an event
 
@@ -93,26 +94,34 @@ IsSecond text None None = Unit {0}
 IsSecond text None (Some number) = ⊥
 IsSecond text (Some place) value = IsObserved (field_at text place) value
 
--- a capital letter other than `G`
-abbrev pub IsOtherSystem : ℕ → Type 0
-IsOtherSystem byte = (65 ≤ byte) × (byte ≤ 90) × (byte ≡ 71 → ⊥)
+-- a capital letter that isn't one of a system that is read
+abbrev pub IsOtherSystem : Bool → ℕ → Type 0
+IsOtherSystem both byte = (65 ≤ byte) × (byte ≤ 90) × (IsRead both byte → ⊥)
 
-abbrev pub has_number : ℕ → SatObs → Bool
-has_number number obs = obs.sat.number == number
+-- the places of the wanted codes of the system with this letter
+abbrev pub ArePlacesOf : Wanted → ℕ → CodePlaces → Type 0
+ArePlacesOf wanted letter places = ((letter ≡ 71) × (places ≡ wanted.gps)) ⊎ ((letter ≡ 69) × (wanted.galileo ≡ Some places))
 
--- a satellite line, and the GPS satellites with that of the line behind those before
+abbrev pub has_sat : Sat → SatObs → Bool
+has_sat sat obs = obs.sat.number == sat.number && obs.sat.system == sat.system
+
+-- with the letter of the line
+abbrev pub sat_on : TextLine → ℕ → Sat
+sat_on line number = record { system = column_of line.text 1; number = number }
+
+-- a satellite line, and the satellites that are read with that of the line behind those before
 abbrev pub satellite_line : Wanted → List SatObs → TextLine → Result (List SatObs) Fault → Type 0
 satellite_line wanted sats line =
     test (IsShort line) fault.LongLine
-    (where_holds (IsOtherSystem (column_of line.text 1)) (gives sats)
+    (where_holds (IsOtherSystem (have_both wanted) (column_of line.text 1)) (gives sats)
     (test (list_all is_printable line.text ≡ true) fault.NotAscii
-    (test (IsOfGps line.text) fault.BadSatellite
-    (read (IsNumber line.text) fault.BadSatellite (λ number.
-    test (list_any (has_number number) sats ≡ false) fault.RepeatSatellite
+    (read (ArePlacesOf wanted (column_of line.text 1)) fault.BadSatellite (λ places.
+    read (IsNumber line.text) fault.BadSatellite (λ number.
+    test (list_any (has_sat (sat_on line number)) sats ≡ false) fault.RepeatSatellite
     (test (length sats < 64) fault.TooMany
-    (read (IsObserved (field_at line.text wanted.first)) fault.BadNumber (λ first.
-    read (IsSecond line.text wanted.second) fault.BadNumber (λ second.
-    gives (sats ++ record { sat = record { system = 71; number = number }; first = first; second = second } ∷ []))))))))))
+    (read (IsObserved (field_at line.text places.first)) fault.BadNumber (λ first.
+    read (IsSecond line.text places.second) fault.BadNumber (λ second.
+    gives (sats ++ record { sat = sat_on line number; first = first; second = second } ∷ []))))))))))
 
 -- so many satellite lines, behind satellites of the same epoch
 abbrev pub satellites_from : Wanted → ℕ → List SatObs → Behind → Result (List SatObs) Refusal → Type 0
@@ -121,19 +130,19 @@ satellites_from wanted (suc left) sats from answer = needs (satellite_line wante
 
 -- ---- the lines of an event
 
-abbrev pub event_line : Bool → TextLine → Result (Unit {0}) Fault → Type 0
-event_line labelled line =
+abbrev pub event_line : Bool → Bool → TextLine → Result (Unit {0}) Fault → Type 0
+event_line both labelled line =
     test (IsShort line) fault.LongLine
     (where_holds (labelled ≡ true)
-    (test (IsLabelled (codes "SYS / SCALE FACTOR") line × IsOfGps line.text → ⊥) fault.ScaleFactor
+    (test (IsLabelled (codes "SYS / SCALE FACTOR") line × IsOfRead both line.text → ⊥) fault.ScaleFactor
     (test (IsLabelled (codes "SYS / # / OBS TYPES") line → ⊥) fault.HeaderChange
     (gives tt)))
     (gives tt))
 
 -- so many of them
-abbrev pub event_from : Bool → ℕ → Behind → Result (Unit {0}) Refusal → Type 0
-event_from labelled zero from answer = answer ≡ Ok tt
-event_from labelled (suc left) from answer = needs (event_line labelled) from (λ none next. event_from labelled left next) answer
+abbrev pub event_from : Bool → Bool → ℕ → Behind → Result (Unit {0}) Refusal → Type 0
+event_from both labelled zero from answer = answer ≡ Ok tt
+event_from both labelled (suc left) from answer = needs (event_line both labelled) from (λ none next. event_from both labelled left next) answer
 
 -- ---- epochs and events one behind another
 
@@ -154,7 +163,7 @@ block_from wanted count (Epoch tag lines) from =
     then (satellites_from wanted lines [] from) (λ sats.
     gives (record { epochs = record { index = count + 1; tag = tag; sats = sats } ∷ []; lines = lines }))
 block_from wanted count (Event labelled lines) from =
-    then (event_from labelled lines from) (λ none.
+    then (event_from (have_both wanted) labelled lines from) (λ none.
     gives (record { epochs = []; lines = lines }))
 
 -- The epochs in the lines of a body, behind those before, from a line number on. So many of the first

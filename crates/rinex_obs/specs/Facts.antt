@@ -1,6 +1,7 @@
 -- What holds of the epochs of every observation file: how they are numbered, and which satellites they name.
-use Rattle.std.specs.Prelude.{ℕ, ◌≡◌, ◌≢◌, ◌+◌, ◌≤◌, List, [], ◌∷◌, length}
+use Rattle.std.specs.Prelude.{ℕ, ◌≡◌, ◌≢◌, ◌+◌, ◌≤◌, Bool, true, false, List, [], ◌∷◌, length}
 use Rattle.std.specs.List.{AllByRecursion}
+use Rattle.rinex_obs.specs.Types.{IsRead}
 use Rattle.rinex_obs.specs.Epochs.{Observed}
 use Rattle.rinex_obs.specs.declared.obs.SatObs.{SatObs}
 
@@ -18,14 +19,24 @@ pub record AreNumbered (epochs : List Observed) : Type 0 where
 
 -- ---- the satellites of an epoch
 
--- a satellite from G01 to G99
-pub record IsGpsSat (seen : SatObs) : Type 0 where
-  pub system : seen.sat.system ≡ 71
+-- a satellite from G01 to G99, or where both systems are read also one from E01 to E99
+pub record IsSatOf (both : Bool) (seen : SatObs) : Type 0 where
+  pub system : IsRead both seen.sat.system
   pub from : 1 ≤ seen.sat.number
   pub to : seen.sat.number ≤ 99
 
+abbrev pub AreSatsOf : Bool → List SatObs → Type 0
+AreSatsOf both sats = AllByRecursion (IsSatOf both) sats
+
+abbrev pub IsGpsSat : SatObs → Type 0
+IsGpsSat seen = IsSatOf false seen
+
 abbrev pub AreGpsSats : List SatObs → Type 0
-AreGpsSats sats = AllByRecursion IsGpsSat sats
+AreGpsSats sats = AreSatsOf false sats
+
+-- of one of the two systems
+abbrev pub AreNamedSats : List SatObs → Type 0
+AreNamedSats sats = AreSatsOf true sats
 
 -- none stands twice
 abbrev pub AreDistinct : List SatObs → Type 0

@@ -1,20 +1,22 @@
 -- What a reader of observation files has read.
-use Rattle.std.specs.Prelude.{ℕ, ◌≡◌, ◌-◌, ◌*◌, ◌^◌, ◌≤◌, ◌<◌, ◌≤ℤ◌, ◌<ℤ◌, pos, neg_ℤ, List, [], ◌∷◌, ◌++◌, length, Option, None, Some, map, Result, Ok, Err}
+use Rattle.std.specs.Prelude.{ℕ, ◌≡◌, ◌-◌, ◌*◌, ◌^◌, ◌≤◌, ◌<◌, ◌≤ℤ◌, ◌<ℤ◌, pos, neg_ℤ, List, [], ◌∷◌, ◌++◌, length, Option, None, Some, map, option_map, Result, Ok, Err}
 use Rattle.exact_decimal.specs.declared.decimal.Decimal.{Decimal}
 use Rattle.rinex_text.specs.Reading.{behind_of}
 use Rattle.rinex_text.specs.declared.fault.Fault.{Fault}
 use Rattle.rinex_text.specs.declared.fault.ReadError.{ReadError}
 use Rattle.rinex_text.specs.declared.fault.ReadError.TheVariants.{NoMemory}
 use Rattle.rinex_text.specs.declared.lines.Lines.{Lines}
-use Rattle.sat_model.specs.declared.boxes.Pos.{Pos}
-use Rattle.sat_model.specs.declared.satellites.Signal.{Signal}
-use Rattle.sat_model.specs.declared.satellites.Signal.TheVariants.{Single, Dual}
+use Rattle.grid_model.specs.declared.boxes.Pos.{Pos}
+use Rattle.gnss_model.specs.declared.satellites.Signal.{Signal}
+use Rattle.gnss_model.specs.declared.satellites.Signal.TheVariants.{Single, Dual}
 use Rattle.rinex_obs.specs.Types.{Code, Types, place_of}
-use Rattle.rinex_obs.specs.Header.{Header as Known, Wanted, Start}
+use Rattle.rinex_obs.specs.Header.{Header as Known, CodePlaces, Wanted, Start}
 use Rattle.rinex_obs.specs.Epochs.{Observed, Block}
 use Rattle.rinex_obs.specs.Files.{Observations}
 use Rattle.rinex_obs.specs.declared.found.Found.{Found}
 use Rattle.rinex_obs.specs.declared.found.Places.{Places}
+use Rattle.rinex_obs.specs.declared.found.WantedPlaces.{WantedPlaces}
+use Rattle.rinex_obs.specs.declared.sought.Sought.{Sought}
 use Rattle.rinex_obs.specs.declared.head.Head.{Head}
 use Rattle.rinex_obs.specs.declared.head.Head.TheVariants.{Epoch, Event}
 use Rattle.rinex_obs.specs.declared.header.Header.{Header}
@@ -51,19 +53,28 @@ MayBeFound signal None (Some found) = ⊥
 MayBeFound signal (Some types) None = ⊥
 MayBeFound signal (Some types) (Some found) = IsFound signal types found
 
-pub record IsHeader (signal : Signal) (known : Known) (kept : Header) : Type 0 where
-  pub types : MayBeFound signal known.types kept.types
+-- nothing is known of the types of a system whose codes aren't wanted
+abbrev pub AreFoundOf : Option Signal → Option Types → Option Found → Type 0
+AreFoundOf None types found = (types ≡ None) × (found ≡ None)
+AreFoundOf (Some signal) types found = MayBeFound signal types found
+
+pub record IsHeader (sought : Sought) (known : Known) (kept : Header) : Type 0 where
+  pub gps : MayBeFound sought.gps known.gps kept.gps
+  pub galileo : AreFoundOf sought.galileo known.galileo kept.galileo
   pub position : kept.position ≡ known.position
 
-abbrev pub wanted_of : Places → Wanted
-wanted_of places = record { first = places.first; second = places.second }
+abbrev pub code_places : Places → CodePlaces
+code_places places = record { first = places.first; second = places.second }
 
-abbrev pub end_of : Result (Places × Option Pos) Fault → Result (Wanted × Option Pos) Fault
+abbrev pub wanted_of : WantedPlaces → Wanted
+wanted_of places = record { gps = code_places places.gps; galileo = option_map code_places places.galileo }
+
+abbrev pub end_of : Result (WantedPlaces × Option Pos) Fault → Result (Wanted × Option Pos) Fault
 end_of (Ok (places, position)) = Ok (wanted_of places, position)
 end_of (Err f) = Err f
 
 -- what the reader has read of a header
-abbrev pub start_of : Places → Option Pos → Lines → Start
+abbrev pub start_of : WantedPlaces → Option Pos → Lines → Start
 start_of places position lines = record { wanted = wanted_of places; position = position; behind = behind_of lines }
 
 -- ---- the epochs

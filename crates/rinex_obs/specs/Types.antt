@@ -1,5 +1,5 @@
--- The observation types of GPS that a header lists (RINEX 3.05, table A2, `SYS / # / OBS TYPES`).
-use Rattle.std.specs.Prelude.{ℕ, zero, suc, ◌≡◌, ◌+◌, ◌-◌, ◌*◌, ◌≤◌, ◌<◌, min, true, false, cond, List, [], ◌∷◌, ◌++◌, length, Option, None, Some, Result}
+-- The observation types of a system that a header lists (RINEX 3.05, table A2, `SYS / # / OBS TYPES`).
+use Rattle.std.specs.Prelude.{ℕ, zero, suc, ◌≡◌, ◌+◌, ◌-◌, ◌*◌, ◌≤◌, ◌<◌, min, Bool, true, false, cond, ◌==◌, ◌&&◌, ◌||◌, ◌⊎◌, List, [], ◌∷◌, ◌++◌, length, Option, None, Some, Result}
 use Rattle.std.specs.Option.{option_map}
 use Rattle.std.specs.List.{list_all}
 use Rattle.std.specs.Str.{bytes_eq}
@@ -47,25 +47,43 @@ first_codes text =
     test (0 < count) BadCount
     (more_codes text (record { count = count; codes = [] })))
 
--- a line belongs to GPS
-abbrev pub IsOfGps : List ℕ → Type 0
-IsOfGps text = column_of text 1 ≡ 71
+-- the letter of GPS, and where both systems are read also that of Galileo
+abbrev pub IsRead : Bool → ℕ → Type 0
+IsRead false letter = letter ≡ 71
+IsRead true letter = (letter ≡ 71) ⊎ (letter ≡ 69)
+
+abbrev pub is_read : Bool → ℕ → Bool
+is_read both letter = letter == 71 || (both && letter == 69)
+
+-- a line belongs to the system with this letter
+abbrev pub IsOf : ℕ → List ℕ → Type 0
+IsOf letter text = column_of text 1 ≡ letter
+
+-- ... to one that is read
+abbrev pub IsOfRead : Bool → List ℕ → Type 0
+IsOfRead both text = IsRead both (column_of text 1)
 
 -- a line goes on with the types of the line before
 abbrev pub GoesOn : List ℕ → Type 0
 GoesOn text = list_all is_blank (columns_of text 1 6) ≡ true
 
--- A line of types. Where some are missing it has to go on with them; where there are all, it may not
--- be another line of GPS. What is left belongs to other systems.
-abbrev pub types_line : Option Types → List ℕ → Result (Option Types) Fault → Type 0
-types_line None text =
-    where_holds (IsOfGps text)
+-- A line of types, as it is for the system with this letter. Where some of its types are missing the line
+-- has to go on with them; where there are all, it may not be another line of the system. What is left belongs
+-- to other systems.
+abbrev pub types_line : ℕ → Option Types → List ℕ → Result (Option Types) Fault → Type 0
+types_line letter None text =
+    where_holds (IsOf letter text)
     (then (first_codes text) (λ types. gives (Some types)))
     (gives None)
-types_line (Some types) text =
+types_line letter (Some types) text =
     where_holds (length types.codes < types.count)
     (test (GoesOn text) BadCount (then (more_codes text types) (λ more. gives (Some more))))
-    (test (IsOfGps text → ⊥) BadCount (gives (Some types)))
+    (test (IsOf letter text → ⊥) BadCount (gives (Some types)))
+
+-- ... as it is for Galileo, where both systems are read
+abbrev pub galileo_line : Bool → Option Types → List ℕ → Result (Option Types) Fault → Type 0
+galileo_line false known text = gives known
+galileo_line true known text = types_line 69 known text
 
 -- ---- the list
 

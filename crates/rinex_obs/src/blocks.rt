@@ -6,7 +6,7 @@ ghost use Rattle.rinex_obs.specs.Epochs.{block_from, epochs_from};
 ghost use Rattle.rinex_obs.specs.Reading.{IsHeadBehind, wanted_of, block_of, plain_epochs};
 
 use crate::event::take_event;
-use crate::found::Places;
+use crate::found::WantedPlaces;
 use crate::head::{Head, head_line};
 use crate::obs::ObsEpoch;
 use crate::satellites::take_satellites;
@@ -17,7 +17,7 @@ use std::alloc::Global;
 fn read_block<'a>(
     alloc: Global,
     body: Body<'a>,
-    places: &Places,
+    places: &WantedPlaces,
     head: Head,
     count: usize,
 ) -> Result<(Option<ObsEpoch>, Body<'a>), ReadError>
@@ -36,7 +36,7 @@ fn read_block<'a>(
             Ok((Some(epoch), left))
         }
         Head::Event { labelled, lines } => {
-            let left = take_event(body, labelled, lines)?;
+            let left = take_event(body, places.galileo.is_some(), labelled, lines)?;
             Ok((None, left))
         }
     }
@@ -46,7 +46,7 @@ fn read_block<'a>(
 pub fn read_epochs(
     alloc: Global,
     body: Body<'_>,
-    places: &Places,
+    places: &WantedPlaces,
 ) -> Result<Vec<ObsEpoch>, ReadError>
     ensures epochs { IfOk result (λ epochs. epochs_from (wanted_of places.now) [] body.entry.lines.number 0 (body_left body.entry) (Ok (plain_epochs epochs.items))) }
     ensures fault { IfErr result (Refuses (epochs_from (wanted_of places.now) [] body.entry.lines.number 0 (body_left body.entry))) }

@@ -1,11 +1,11 @@
-//! Where the wanted codes stand among the observation types of GPS.
+//! Where the wanted codes stand among the observation types of a system.
 
 ghost use Rattle.std.specs.Prelude.{◌≡◌, ◌≤◌, ◌<◌, ◌+◌, ◌++◌, ◌∷◌, [], List, length, IfSome, IfNone};
 ghost use Rattle.std.specs.Option.{ForSome};
 ghost use Rattle.rinex_obs.specs.Types.{Code, Types, place_of};
-ghost use Rattle.rinex_obs.specs.Header.{Wanted, AreWanted};
+ghost use Rattle.rinex_obs.specs.Header.{CodePlaces, ArePlaces};
 
-use sat_model::Signal;
+use gnss_model::Signal;
 
 /// The places of the wanted codes among the types, from 0.
 #[derive(Clone, Copy)]
@@ -14,6 +14,13 @@ pub struct Places {
     pub second: Option<u16>,
     pub ghost first_in: { first < 999 },
     pub ghost second_in: { ForSome second (λ place. place < 999) },
+}
+
+/// The places of the wanted codes of each system.
+#[derive(Clone, Copy)]
+pub struct WantedPlaces {
+    pub gps: Places,
+    pub galileo: Option<Places>,
 }
 
 /// So many of the types were seen, and the wanted codes found at these places.
@@ -46,7 +53,7 @@ fn place_with(found: Option<u16>, seen: u16, code: &[u8], wanted: &[u8]) -> Opti
 }
 
 impl Found {
-    ghost use Rattle.rinex_obs.specs.Reading.{IsFound, wanted_of};
+    ghost use Rattle.rinex_obs.specs.Reading.{IsFound, code_places};
 
     /// Behind the next type, which has this code.
     pub fn with(self, code: &[u8], signal: &Signal) -> Found
@@ -74,8 +81,8 @@ impl Found {
 
     /// The places of the wanted codes, where they were all found.
     pub fn places(self, signal: &Signal) -> Option<Places>
-        ensures places { (types : Types) → IsFound signal.now types self → IfSome result (λ places. AreWanted signal.now types.codes (wanted_of places)) }
-        ensures none { (types : Types) → IsFound signal.now types self → IfNone result ((wanted : Wanted) → AreWanted signal.now types.codes wanted → ⊥) }
+        ensures places { (types : Types) → IsFound signal.now types self → IfSome result (λ places. ArePlaces signal.now types.codes (code_places places)) }
+        ensures none { (types : Types) → IsFound signal.now types self → IfNone result ((places : CodePlaces) → ArePlaces signal.now types.codes places → ⊥) }
     {
         let first = self.first?;
         match signal {

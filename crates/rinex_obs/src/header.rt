@@ -1,23 +1,29 @@
 //! The header of an observation file.
 
-ghost use Rattle.std.specs.Prelude.{◌≡◌, ◌↔◌, IsTrue, IfOk, IfErr, Ok, Err, true, codes};
+ghost use Rattle.std.specs.Prelude.{◌≡◌, ◌↔◌, ◌<◌, IsTrue, IfOk, IfErr, IfSome, IfNone, Ok, Err, Option, option_map, OnSome, true, codes};
 ghost use Rattle.rinex_text.specs.Columns.{label_of};
 ghost use Rattle.rinex_text.specs.Reading.{plain_line, lines_left};
 ghost use Rattle.rinex_text.specs.declared.lines.Lines.{Lines};
-ghost use Rattle.rinex_obs.specs.Header.{Header as Known, IsTimeSystem, header_line, header_end, header_lines};
+ghost use Rattle.rinex_obs.specs.Header.{Header as Known, IsTimeSystem, CodePlaces, ArePlaces, MayBePlaces, Wanted, are_both, AreWanted, types_behind, header_line, header_end, header_lines};
+ghost use Rattle.rinex_obs.specs.Types.{Types, AreComplete, codes_of};
 ghost use Rattle.rinex_obs.specs.Files.{unread};
-ghost use Rattle.rinex_obs.specs.Reading.{Stands, IsHeader, end_of, start_of};
+ghost use Rattle.rinex_obs.specs.Reading.{Stands, MayBeFound, AreFoundOf, IsHeader, code_places, wanted_of, end_of, start_of};
 
-use crate::found::{Found, Places};
+use crate::found::{Found, Places, WantedPlaces};
 use crate::position::{Coordinates, position, position_line};
-use crate::types::{is_of_gps, types_line};
-use rinex_text::{Fault, Line, Lines, Refusal, columns, is_blank_text, is_labelled, is_short};
-use sat_model::{Pos, Signal};
+use crate::sought::Sought;
+use crate::types::{galileo_line, is_read, types_line};
+use gnss_model::Signal;
+use grid_model::Pos;
+use rinex_text::{
+    Fault, Line, Lines, Refusal, column, columns, is_blank_text, is_labelled, is_short,
+};
 
 /// What is known behind some of the lines.
 #[derive(Clone, Copy)]
 pub struct Header {
-    pub types: Option<Found>,
+    pub gps: Option<Found>,
+    pub galileo: Option<Found>,
     pub position: Option<Coordinates>,
 }
 
@@ -35,24 +41,36 @@ fn is_wanted_position(text: &[u8], wanted: bool) -> bool
     wanted && is_labelled(text, b"APPROX POSITION XYZ")
 }
 
+/// What is known behind a line of types.
+fn types_behind(header: Header, text: &[u8], sought: &Sought) -> Result<Header, Fault>
+    ensures { (known : Known) → IsHeader sought.now known header → Stands (IsHeader sought.now) (types_behind (are_both sought.now) known text.now) result }
+{
+    let gps = match types_line(header.gps, text, &sought.gps, b'G') {
+        Ok(gps) => gps,
+        Err(fault) => return Err(fault),
+    };
+    match galileo_line(header.galileo, text, &sought.galileo) {
+        Ok(galileo) => Ok(Header {
+            gps,
+            galileo,
+            position: header.position,
+        }),
+        Err(fault) => Err(fault),
+    }
+}
+
 /// What is known behind a line that doesn't end the header.
 fn header_line(
     header: Header,
     line: Line<'_>,
-    signal: &Signal,
+    sought: &Sought,
     position: bool,
 ) -> Result<Header, Fault>
-    ensures { (known : Known) → IsHeader signal.now known header → Stands (IsHeader signal.now) (header_line position known (plain_line line.entry)) result }
+    ensures { (known : Known) → IsHeader sought.now known header → Stands (IsHeader sought.now) (header_line (are_both sought.now) position known (plain_line line.entry)) result }
 {
     let text = line.text;
     if is_labelled(text, b"SYS / # / OBS TYPES") {
-        return match types_line(header.types, text, signal) {
-            Ok(types) => Ok(Header {
-                types,
-                position: header.position,
-            }),
-            Err(fault) => Err(fault),
-        };
+        return types_behind(header, text, sought);
     }
     if is_labelled(text, b"TIME OF FIRST OBS") {
         if !is_time_system(columns(text, 49, 51)) {
@@ -61,7 +79,7 @@ fn header_line(
         return Ok(header);
     }
     if is_labelled(text, b"SYS / SCALE FACTOR") {
-        if is_of_gps(text) {
+        if is_read(column(text, 1), sought.are_both()) {
             return Err(Fault::ScaleFactor);
         }
         return Ok(header);
@@ -69,7 +87,8 @@ fn header_line(
     if is_wanted_position(text, position) {
         return match position_line(text) {
             Ok(coordinates) => Ok(Header {
-                types: header.types,
+                gps: header.gps,
+                galileo: header.galileo,
                 position: coordinates,
             }),
             Err(fault) => Err(fault),
@@ -78,17 +97,73 @@ fn header_line(
     Ok(header)
 }
 
-/// What the end of the header gives.
-fn header_end(header: Header, signal: &Signal, wanted: bool) -> Result<(Places, Option<Pos>), Fault>
-    ensures { (known : Known) → IsHeader signal.now known header → header_end signal.now wanted known (end_of result) }
+/// Whether no type is missing.
+fn are_complete(found: Option<Found>) -> bool
+    ensures { (signal : Signal) → (types : Option Types) → MayBeFound signal types found → (IsTrue result ↔ AreComplete types) }
 {
-    let Some(found) = header.types else {
-        return Err(Fault::CodeAbsent);
-    };
-    if found.seen < found.count {
+    match found {
+        Some(found) => found.count <= found.seen,
+        None => true,
+    }
+}
+
+/// Whether no type of the systems that are read is missing.
+fn are_all_complete(header: Header, sought: &Sought) -> bool
+    ensures { (known : Known) → IsHeader sought.now known header → (IsTrue result ↔ (AreComplete known.gps × AreComplete known.galileo)) }
+{
+    if !are_complete(header.gps) {
+        return false;
+    }
+    are_complete(header.galileo)
+}
+
+/// The places of the wanted codes of a system, where they were all found.
+fn places_in(found: Option<Found>, signal: &Signal) -> Option<Places>
+    ensures places { (types : Option Types) → MayBeFound signal.now types found → IfSome result (λ own. ArePlaces signal.now (codes_of types) (code_places own)) }
+    ensures none { (types : Option Types) → MayBeFound signal.now types found → IfNone result ((own : CodePlaces) → ArePlaces signal.now (codes_of types) own → ⊥) }
+{
+    match found {
+        Some(found) => found.places(signal),
+        None => None,
+    }
+}
+
+/// The places of those of Galileo, where its codes are wanted.
+fn galileo_places(found: Option<Found>, galileo: &Option<Signal>) -> Option<Option<Places>>
+    ensures places { (types : Option Types) → AreFoundOf galileo.now types found → IfSome result (λ own. MayBePlaces galileo.now (codes_of types) (option_map code_places own)) }
+    ensures none { (types : Option Types) → AreFoundOf galileo.now types found → IfNone result ((own : Option CodePlaces) → MayBePlaces galileo.now (codes_of types) own → ⊥) }
+{
+    match galileo {
+        Some(signal) => match places_in(found, signal) {
+            Some(own) => Some(Some(own)),
+            None => None,
+        },
+        None => Some(None),
+    }
+}
+
+/// The places of the wanted codes of each system, where they were all found.
+fn wanted_places(header: Header, sought: &Sought) -> Option<WantedPlaces>
+    ensures places { (known : Known) → IsHeader sought.now known header → IfSome result (λ places. AreWanted sought.now (codes_of known.gps) (codes_of known.galileo) (wanted_of places)) }
+    ensures none { (known : Known) → IsHeader sought.now known header → IfNone result ((wanted : Wanted) → AreWanted sought.now (codes_of known.gps) (codes_of known.galileo) wanted → ⊥) }
+{
+    let gps = places_in(header.gps, &sought.gps)?;
+    let galileo = galileo_places(header.galileo, &sought.galileo)?;
+    Some(WantedPlaces { gps, galileo })
+}
+
+/// What the end of the header gives.
+fn header_end(
+    header: Header,
+    sought: &Sought,
+    wanted: bool,
+) -> Result<(WantedPlaces, Option<Pos>), Fault>
+    ensures { (known : Known) → IsHeader sought.now known header → header_end sought.now wanted known (end_of result) }
+{
+    if !are_all_complete(header, sought) {
         return Err(Fault::BadCount);
     }
-    let Some(places) = found.places(signal) else {
+    let Some(places) = wanted_places(header, sought) else {
         return Err(Fault::CodeAbsent);
     };
     let Some(point) = position(wanted, header.position) else {
@@ -101,14 +176,15 @@ fn header_end(header: Header, signal: &Signal, wanted: bool) -> Result<(Places, 
 /// wanted, and the lines behind.
 pub fn read_header<'a>(
     lines: Lines<'a>,
-    signal: &Signal,
+    sought: &Sought,
     position: bool,
-) -> Result<(Places, Option<Pos>, Lines<'a>), Refusal>
-    ensures start { IfOk result (λ t. header_lines signal.now position unread lines.entry.number (lines_left lines.entry) (Ok (start_of t.0 t.1 t.2))) }
-    ensures fault { IfErr result (λ e. header_lines signal.now position unread lines.entry.number (lines_left lines.entry) (Err e)) }
+) -> Result<(WantedPlaces, Option<Pos>, Lines<'a>), Refusal>
+    ensures start { IfOk result (λ t. header_lines sought.now position unread lines.entry.number (lines_left lines.entry) (Ok (start_of t.0 t.1 t.2))) }
+    ensures fault { IfErr result (λ e. header_lines sought.now position unread lines.entry.number (lines_left lines.entry) (Err e)) }
 {
     let mut header = Header {
-        types: None,
+        gps: None,
+        galileo: None,
         position: None,
     };
     let mut left = lines;
@@ -118,12 +194,12 @@ pub fn read_header<'a>(
             return Err(Refusal::new(Fault::LongLine, number));
         }
         if is_labelled(line.text, b"END OF HEADER") {
-            return match header_end(header, signal, position) {
+            return match header_end(header, sought, position) {
                 Ok((places, point)) => Ok((places, point, behind)),
                 Err(fault) => Err(Refusal::new(fault, number)),
             };
         }
-        match header_line(header, line, signal, position) {
+        match header_line(header, line, sought, position) {
             Ok(known) => header = known,
             Err(fault) => return Err(Refusal::new(fault, number)),
         }

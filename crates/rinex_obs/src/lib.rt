@@ -1,5 +1,5 @@
-//! Observation files of RINEX 3: the epochs with the wanted observations of GPS satellites as exact
-//! decimals, and the approximate position of the header.
+//! Observation files of RINEX 3: the epochs with the wanted observations of GPS satellites, or of GPS and
+//! Galileo satellites, as exact decimals, and the approximate position of the header.
 #![tactic(auto)]
 
 mod blocks;
@@ -12,7 +12,9 @@ mod position;
 mod read;
 mod satellite;
 mod satellites;
+mod sought;
 mod types;
 
 pub use obs::{Obs, ObsEpoch, SatObs};
-pub use read::read_obs;
+pub use read::{read_obs, read_obs_both, read_obs_of};
+pub use sought::Sought;

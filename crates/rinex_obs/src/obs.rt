@@ -3,9 +3,10 @@
 ghost use Rattle.std.specs.Prelude.{pos, ◌≤ℤ◌, ◌<ℤ◌, ◌≤◌, length};
 
 use exact_decimal::Decimal;
-use sat_model::{Pos, Sat};
+use gnss_model::Sat;
+use grid_model::Pos;
 
-/// What was observed of a GPS satellite: the values of the wanted codes as the file writes them, none
+/// What was observed of a satellite: the values of its system's wanted codes as the file writes them, none
 /// where the field is blank or zero. `second` is none where one code is wanted.
 #[derive(Clone, Copy, Debug, PartialEq, Eq)]
 pub struct SatObs {
@@ -14,7 +15,7 @@ pub struct SatObs {
     pub second: Option<Decimal>,
 }
 
-/// An epoch with its GPS satellites in file order, at most 64.
+/// An epoch with its satellites of the systems that are read, in file order, at most 64.
 #[derive(Debug, Drop)]
 pub struct ObsEpoch {
     /// The number of the epoch in the file, from 1; events don't count.

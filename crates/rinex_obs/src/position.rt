@@ -3,12 +3,12 @@
 ghost use Rattle.std.specs.Prelude.{◌≡◌, ◌≤◌, ℤ, Option, IfOk, IfErr, IfSome, IfNone};
 ghost use Rattle.exact_decimal.specs.declared.decimal.Decimal.{Decimal};
 ghost use Rattle.rinex_text.specs.Columns.{columns_of};
-ghost use Rattle.sat_model.specs.declared.boxes.Pos.{Pos};
+ghost use Rattle.grid_model.specs.declared.boxes.Pos.{Pos};
 ghost use Rattle.rinex_obs.specs.Header.{IsFixedField, all_three, position_line, IsCoordinate, IsPoint, IsPosition};
 
 use exact_decimal::{Decimal, Unit, read_fixed, to_unit_between};
+use grid_model::Pos;
 use rinex_text::{Fault, columns};
-use sat_model::Pos;
 
 /// The most that a coordinate may be off zero, in um.
 const MOST_UM: i128 = 8_500_000_000_000;

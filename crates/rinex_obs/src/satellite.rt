@@ -4,17 +4,18 @@ ghost use Rattle.std.specs.Prelude.{◌≡◌, ◌↔◌, ◌<◌, Option, IsTru
 ghost use Rattle.std.specs.List.{list_any};
 ghost use Rattle.exact_decimal.specs.declared.decimal.Decimal.{Decimal};
 ghost use Rattle.rinex_text.specs.Reading.{plain_line};
-ghost use Rattle.rinex_obs.specs.Epochs.{IsObserved, IsSecond, IsOtherSystem, field_at, has_number, satellite_line};
-ghost use Rattle.rinex_obs.specs.Reading.{wanted_of, with_line};
+ghost use Rattle.rinex_obs.specs.Epochs.{IsObserved, IsSecond, IsOtherSystem, ArePlacesOf, field_at, has_sat, satellite_line};
+ghost use Rattle.rinex_obs.specs.Header.{CodePlaces};
+ghost use Rattle.rinex_obs.specs.Reading.{code_places, wanted_of, with_line};
 
-use crate::found::Places;
+use crate::found::{Places, WantedPlaces};
 use crate::obs::SatObs;
-use crate::types::is_of_gps;
+use crate::types::is_read;
 use exact_decimal::{Decimal, read_fixed};
+use gnss_model::Sat;
 use rinex_text::{Fault, Line, column, columns, is_printable_text, is_short, satellite_number};
-use sat_model::Sat;
 
-/// The most GPS satellites of an epoch.
+/// The most satellites of an epoch.
 const MOST_SATELLITES: usize = 64;
 
 /// The value of the type at a place, none where its field is blank or zero. None where the field
@@ -48,24 +49,38 @@ fn second_observed(text: &[u8], place: Option<u16>) -> Option<Option<Decimal>>
     }
 }
 
-/// Whether the byte is a capital letter other than `G`.
-fn is_other_system(letter: u8) -> bool
-    ensures { IsTrue result ↔ IsOtherSystem letter }
+/// Whether the byte is a capital letter, and not that of a system that is read.
+fn is_other_system(letter: u8, both: bool) -> bool
+    ensures { IsTrue result ↔ IsOtherSystem both letter }
 {
-    b'A' <= letter && letter <= b'Z' && letter != b'G'
+    b'A' <= letter && letter <= b'Z' && !is_read(letter, both)
 }
 
-/// Whether a satellite has this number.
-fn have_number(sats: &[SatObs], number: u8) -> bool
-    ensures { result ≡ list_any (has_number number) sats.now }
+/// The places of the wanted codes of the system with this letter, where it is read.
+fn places_of(places: &WantedPlaces, letter: u8) -> Option<Places>
+    ensures places { IfSome result (λ own. ArePlacesOf (wanted_of places.now) letter (code_places own)) }
+    ensures none { IfNone result ((own : CodePlaces) → ArePlacesOf (wanted_of places.now) letter own → ⊥) }
 {
-    sats.iter().any(|obs| obs.sat.number == number)
+    if letter == b'G' {
+        return Some(places.gps);
+    }
+    if letter == b'E' {
+        return places.galileo;
+    }
+    None
 }
 
-/// The GPS satellite of a line, behind those before. None for other systems.
+/// Whether the satellite is among these.
+fn have_sat(sats: &[SatObs], sat: Sat) -> bool
+    ensures { result ≡ list_any (has_sat sat) sats.now }
+{
+    sats.iter().any(|obs| obs.sat.number == sat.number && obs.sat.system == sat.system)
+}
+
+/// The satellite of a line, behind those before. None for systems that aren't read.
 pub fn satellite_line(
     line: Line<'_>,
-    places: &Places,
+    places: &WantedPlaces,
     sats: &[SatObs],
 ) -> Result<Option<SatObs>, Fault>
     ensures line { satellite_line (wanted_of places.now) sats.now (plain_line line.entry) (with_line sats.now result) }
@@ -74,33 +89,31 @@ pub fn satellite_line(
     if !is_short(line) {
         return Err(Fault::LongLine);
     }
-    if is_other_system(column(line.text, 1)) {
+    let system = column(line.text, 1);
+    if is_other_system(system, places.galileo.is_some()) {
         return Ok(None);
     }
     if !is_printable_text(line.text) {
         return Err(Fault::NotAscii);
     }
-    if !is_of_gps(line.text) {
+    let Some(own) = places_of(places, system) else {
         return Err(Fault::BadSatellite);
-    }
+    };
     let Some(number) = satellite_number(line.text) else {
         return Err(Fault::BadSatellite);
     };
-    if have_number(sats, number) {
+    let sat = Sat { system, number };
+    if have_sat(sats, sat) {
         return Err(Fault::RepeatSatellite);
     }
     if sats.len() >= MOST_SATELLITES {
         return Err(Fault::TooMany);
     }
-    let Some(first) = observed(line.text, places.first) else {
+    let Some(first) = observed(line.text, own.first) else {
         return Err(Fault::BadNumber);
     };
-    let Some(second) = second_observed(line.text, places.second) else {
+    let Some(second) = second_observed(line.text, own.second) else {
         return Err(Fault::BadNumber);
-    };
-    let sat = Sat {
-        system: b'G',
-        number,
     };
     Ok(Some(SatObs { sat, first, second }))
 }

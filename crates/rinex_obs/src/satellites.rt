@@ -5,16 +5,16 @@ ghost use Rattle.rinex_text.specs.Reading.{body_behind, Takes, Fails, Leaves, Re
 ghost use Rattle.rinex_obs.specs.Epochs.{satellite_line, satellites_from};
 ghost use Rattle.rinex_obs.specs.Reading.{wanted_of, with_found};
 
-use crate::found::Places;
+use crate::found::WantedPlaces;
 use crate::obs::SatObs;
 use crate::satellite::satellite_line;
 use rinex_text::{Body, Fault, ReadError, Refusal};
 use std::alloc::Global;
 
-/// The GPS satellite of the next line, behind those before.
+/// The satellite of the next line, behind those before.
 fn take_satellite<'a>(
     body: Body<'a>,
-    places: &Places,
+    places: &WantedPlaces,
     sats: &[SatObs],
 ) -> Result<(Option<SatObs>, Body<'a>), Refusal>
     ensures took { IfOk result (λ t. Takes (satellite_line (wanted_of places.now) sats.now) body.entry (with_found sats.now t.0) t.1) }
@@ -30,11 +30,11 @@ fn take_satellite<'a>(
     }
 }
 
-/// The GPS satellites of so many lines.
+/// The satellites of so many lines.
 pub fn take_satellites<'a>(
     alloc: Global,
     body: Body<'a>,
-    places: &Places,
+    places: &WantedPlaces,
     lines: u16,
 ) -> Result<(Vec<SatObs>, Body<'a>), ReadError>
     ensures sats { IfOk result (λ t. satellites_from (wanted_of places.now) lines [] (body_behind body.entry) (Ok t.0.items)) }

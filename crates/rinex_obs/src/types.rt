@@ -1,12 +1,12 @@
-//! The header lines with the observation types of GPS.
+//! The header lines with the observation types of the systems.
 
-ghost use Rattle.std.specs.Prelude.{◌≡◌, ◌<◌, ◌↔◌, IsTrue, List, Option};
-ghost use Rattle.rinex_obs.specs.Types.{Types, code_at, more_codes, first_codes, IsOfGps, GoesOn, types_line};
-ghost use Rattle.rinex_obs.specs.Reading.{Stands, IsFound, MayBeFound};
+ghost use Rattle.std.specs.Prelude.{◌≡◌, ◌<◌, ◌↔◌, IsTrue, List, Option, is_some};
+ghost use Rattle.rinex_obs.specs.Types.{Types, code_at, more_codes, first_codes, IsOf, IsRead, is_read, GoesOn, types_line, galileo_line};
+ghost use Rattle.rinex_obs.specs.Reading.{Stands, IsFound, MayBeFound, AreFoundOf};
 
 use crate::found::Found;
+use gnss_model::Signal;
 use rinex_text::{Fault, column, columns, is_blank_text, three_digits};
-use sat_model::Signal;
 
 /// The most types on a line.
 const MOST_ON_LINE: u16 = 13;
@@ -39,7 +39,7 @@ fn more_codes(text: &[u8], found: Found, signal: &Signal) -> Result<Found, Fault
     Ok(more)
 }
 
-/// The types of the first line of GPS.
+/// The types of the first line of a system.
 fn first_codes(text: &[u8], signal: &Signal) -> Result<Found, Fault>
     ensures { Stands (IsFound signal.now) (first_codes text.now) result }
 {
@@ -58,11 +58,19 @@ fn first_codes(text: &[u8], signal: &Signal) -> Result<Found, Fault>
     more_codes(text, none, signal)
 }
 
-/// Whether the line belongs to GPS.
-pub fn is_of_gps(text: &[u8]) -> bool
-    ensures { IsTrue result ↔ IsOfGps text.now }
+/// Whether the line belongs to the system with this letter.
+fn is_of(text: &[u8], letter: u8) -> bool
+    ensures { IsTrue result ↔ IsOf letter text.now }
 {
-    column(text, 1) == b'G'
+    column(text, 1) == letter
+}
+
+/// Whether the letter is that of a system that is read.
+pub fn is_read(letter: u8, both: bool) -> bool
+    ensures test { IsTrue result ↔ IsRead both letter }
+    ensures value { result ≡ is_read both letter }
+{
+    letter == b'G' || (both && letter == b'E')
 }
 
 /// Whether the line goes on with the types of the line before.
@@ -72,16 +80,17 @@ fn goes_on(text: &[u8]) -> bool
     is_blank_text(columns(text, 1, 6))
 }
 
-/// The types of GPS behind a line of types.
+/// The types of the system with this letter behind a line of types.
 pub fn types_line(
     known: Option<Found>,
     text: &[u8],
     signal: &Signal,
+    letter: u8,
 ) -> Result<Option<Found>, Fault>
-    ensures { (types : Option Types) → MayBeFound signal.now types known → Stands (MayBeFound signal.now) (types_line types text.now) result }
+    ensures { (types : Option Types) → MayBeFound signal.now types known → Stands (MayBeFound signal.now) (types_line letter types text.now) result }
 {
     let Some(found) = known else {
-        if !is_of_gps(text) {
+        if !is_of(text, letter) {
             return Ok(None);
         }
         return match first_codes(text, signal) {
@@ -98,8 +107,22 @@ pub fn types_line(
             Err(fault) => Err(fault),
         };
     }
-    if is_of_gps(text) {
+    if is_of(text, letter) {
         return Err(Fault::BadCount);
     }
     Ok(known)
+}
+
+/// Those of Galileo, where its codes are wanted.
+pub fn galileo_line(
+    known: Option<Found>,
+    text: &[u8],
+    galileo: &Option<Signal>,
+) -> Result<Option<Found>, Fault>
+    ensures { (types : Option Types) → AreFoundOf galileo.now types known → Stands (AreFoundOf galileo.now) (galileo_line (is_some galileo.now) types text.now) result }
+{
+    match galileo {
+        Some(signal) => types_line(known, text, signal, b'E'),
+        None => Ok(known),
+    }
 }

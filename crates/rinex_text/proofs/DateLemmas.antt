@@ -3,7 +3,7 @@ use Rattle.std.proofs.Common.{◌≡◌, ℕ, arith, refl}
 use Rattle.std.specs.Prelude.{ℤ, pos, ◌-ℤ◌, ◌≤ℤ◌, ◌<ℤ◌}
 use Rattle.std.proofs.lemmas.Int.{ints}
 use Rattle.jiff_core.specs.Calendar.{IsDate, days_of_years, days_of_months, day_count, days_from_civil}
-use Rattle.sat_model.proofs.AmountLemmas.{above_is}
+use Rattle.grid_model.proofs.AmountLemmas.{above_is}
 use Rattle.rinex_text.specs.Dates.{first_day, last_day, IsGpsDate, days_behind_first}
 
 pub first_day_is : first_day ≡ pos 3657

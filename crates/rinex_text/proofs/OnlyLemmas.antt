@@ -1,9 +1,9 @@
 -- Readers with one answer only.
-use Rattle.std.proofs.Common.{◌≡◌, ℕ, ◌+◌, List, [], ◌∷◌, sym, ap, subst, ◌⊎◌, inl, inr, ◌∙◌, Result, Ok, Err}
+use Rattle.std.proofs.Common.{Bool, false, ◌≡◌, ℕ, ◌+◌, List, [], ◌∷◌, sym, ap, subst, ◌⊎◌, inl, inr, ◌∙◌, Result, Ok, Err}
 use Rattle.rinex_text.specs.Bodies.{first_of}
 use Rattle.rinex_text.specs.Counts.{IsNumber}
 use Rattle.rinex_text.specs.Faults.{refusal, test, where_holds, read, then, line_gives}
-use Rattle.rinex_text.specs.Headers.{Behind, version_line, version_of, header_from}
+use Rattle.rinex_text.specs.Headers.{Behind, version_line_of, version_of, version_by, header_from}
 use Rattle.rinex_text.specs.Lines.{TextLine}
 use Rattle.rinex_text.specs.declared.fault.Fault.{Fault}
 use Rattle.rinex_text.specs.declared.fault.Refusal.{Refusal}
@@ -110,9 +110,12 @@ pub header_only : (number : ℕ) (lines : List TextLine) → IsOnly (header_from
 header_only number [] x y a b = a ∙ sym b
 header_only number (line ∷ more) x y a b = test_only _ _ _ (ended_only _ _ _ (header_only (number + 1) more)) x y a b
 
-pub version_line_only : (kind : ℕ) (line : TextLine) → IsOnly (version_line kind line)
-version_line_only kind line = test_only _ _ _ (test_only _ _ _ (test_only _ _ _ (test_only _ _ _ (test_only _ _ _ (gives_only tt)))))
+pub version_line_only : (both : Bool) (kind : ℕ) (line : TextLine) → IsOnly (version_line_of both kind line)
+version_line_only both kind line = test_only _ _ _ (test_only _ _ _ (test_only _ _ _ (test_only _ _ _ (test_only _ _ _ (gives_only tt)))))
+
+pub version_by_only : (both : Bool) (kind : ℕ) (lines : List TextLine) → IsOnly (version_by both kind lines)
+version_by_only both kind [] x y a b = a ∙ sym b
+version_by_only both kind (line ∷ more) x y a b = line_only _ _ _ (version_line_only both kind line) (λ passed. gives_only _) x y a b
 
 pub version_only : (kind : ℕ) (lines : List TextLine) → IsOnly (version_of kind lines)
-version_only kind [] x y a b = a ∙ sym b
-version_only kind (line ∷ more) x y a b = line_only _ _ _ (version_line_only kind line) (λ passed. gives_only _) x y a b
+version_only kind lines = version_by_only false kind lines

@@ -5,7 +5,7 @@ use Rattle.std.specs.List.{list_all}
 use Rattle.std.proofs.lemmas.Bool.{cases_Bool}
 use Rattle.rinex_text.specs.Bodies.{is_blank_line, counted_with, counted, first_of}
 use Rattle.rinex_text.specs.Faults.{refusal}
-use Rattle.rinex_text.specs.Headers.{Behind, version_of, header_from}
+use Rattle.rinex_text.specs.Headers.{Behind, version_of, version_by, header_from}
 use Rattle.rinex_text.specs.Lines.{TextLine}
 use Rattle.rinex_text.specs.Whole.{AgreeTo}
 use Rattle.rinex_text.specs.declared.fault.Fault.{Fault}
@@ -184,18 +184,26 @@ module _ {V X : Type 0} (reader : TextLine → Result V Fault → Type 0) (numbe
 
 -- ---- headers
 
-pub version_settled : (kind : ℕ) → AreSettled 1 (version_of kind)
-version_settled kind [] r e = settled_at_end 1 (version_of kind) r NotRinex e e
-version_settled kind (line ∷ more) r (inl (v, is, e)) = absurd (not_both _ r (sym e))
-version_settled kind (line ∷ more) r (inr (f, is, e)) = settled_here 1 (version_of kind) line more r f e (λ rest. inr (f, is, e))
+pub version_by_settled : (both : Bool) (kind : ℕ) → AreSettled 1 (version_by both kind)
+version_by_settled both kind [] r e = settled_at_end 1 (version_by both kind) r NotRinex e e
+version_by_settled both kind (line ∷ more) r (inl (v, is, e)) = absurd (not_both _ r (sym e))
+version_by_settled both kind (line ∷ more) r (inr (f, is, e)) = settled_here 1 (version_by both kind) line more r f e (λ rest. inr (f, is, e))
 
 -- a version line that is passed, with other lines behind it
-pub version_passed : (kind : ℕ) (line : TextLine) (more rest : List TextLine) (version : Behind) → version_of kind (line ∷ more) (Ok version)
-    → (version.lines ≡ more) × (version.number ≡ 2) × version_of kind (line ∷ rest) (Ok (record { number = 2; lines = rest }))
-version_passed kind line more rest version (inl (v, is, e)) =
+pub version_by_passed : (both : Bool) (kind : ℕ) (line : TextLine) (more rest : List TextLine) (version : Behind) → version_by both kind (line ∷ more) (Ok version)
+    → (version.lines ≡ more) × (version.number ≡ 2) × version_by both kind (line ∷ rest) (Ok (record { number = 2; lines = rest }))
+version_by_passed both kind line more rest version (inl (v, is, e)) =
     let same = ok_same version _ e in
     (ap (λ (b : Behind). b.lines) same, ap (λ (b : Behind). b.number) same, inl (v, is, refl))
-version_passed kind line more rest version (inr (f, is, e)) = absurd (not_both _ _ e)
+version_by_passed both kind line more rest version (inr (f, is, e)) = absurd (not_both _ _ e)
+
+-- where the satellites of GPS are read
+pub version_settled : (kind : ℕ) → AreSettled 1 (version_of kind)
+version_settled kind = version_by_settled false kind
+
+pub version_passed : (kind : ℕ) (line : TextLine) (more rest : List TextLine) (version : Behind) → version_of kind (line ∷ more) (Ok version)
+    → (version.lines ≡ more) × (version.number ≡ 2) × version_of kind (line ∷ rest) (Ok (record { number = 2; lines = rest }))
+version_passed kind line more rest version h = version_by_passed false kind line more rest version h
 
 pub header_settled : (number : ℕ) → AreSettled number (header_from number)
 header_settled number [] r e = settled_at_end number (header_from number) r NoEndOfHeader e e

@@ -1,7 +1,7 @@
 -- Times in picoseconds since 1980-01-06 00:00:00 of GPS time, in which no second is left out or added.
 use Rattle.std.specs.Prelude.{ℕ, ◌+◌, ◌*◌, ◌≤◌, ◌<◌, ℤ, pos, ◌≤ℤ◌}
 use Rattle.jiff_core.specs.Calendar.{IsDate, days_from_civil}
-use Rattle.sat_model.specs.Amounts.{above}
+use Rattle.grid_model.specs.Amounts.{above}
 
 -- the day numbers of 1980-01-06, on which GPS time begins, and of 2099-12-31
 abbrev pub first_day : ℤ

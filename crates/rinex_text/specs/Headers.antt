@@ -1,5 +1,5 @@
 -- The header of a file: the version line, and the lines up to END OF HEADER.
-use Rattle.std.specs.Prelude.{ℕ, ◌≡◌, ◌≤◌, ◌+◌, ◌⊎◌, ℤ, pos, List, [], ◌∷◌, Result, Ok, Err, codes}
+use Rattle.std.specs.Prelude.{ℕ, ◌≡◌, ◌≤◌, ◌+◌, ◌⊎◌, ℤ, pos, Bool, true, false, List, [], ◌∷◌, Result, Ok, Err, codes}
 use Rattle.exact_decimal.specs.NumberFields.{IsFixed}
 use Rattle.exact_decimal.specs.Units.{LiesBetween}
 use Rattle.exact_decimal.specs.declared.unit.Unit.TheVariants.{Ratio}
@@ -25,14 +25,19 @@ pub record IsVersion (field : List ℕ) : Type 0 where
 abbrev pub IsSystem : ℕ → Type 0
 IsSystem byte = (byte ≡ 71) ⊎ ((byte ≡ 77) ⊎ ((byte ≡ 32) ⊎ (byte ≡ 9)))
 
+-- the same, and where both systems are read also Galileo
+abbrev pub IsSystemOf : Bool → ℕ → Type 0
+IsSystemOf false byte = IsSystem byte
+IsSystemOf true byte = IsSystem byte ⊎ (byte ≡ 69)
+
 -- the tests of the version line of a file of a kind, `N` or `O`
-abbrev pub version_line : ℕ → TextLine → Result (Unit {0}) Fault → Type 0
-version_line kind line =
+abbrev pub version_line_of : Bool → ℕ → TextLine → Result (Unit {0}) Fault → Type 0
+version_line_of both kind line =
     test (IsShort line) fault.LongLine
     (test (label_of line.text ≡ codes "RINEX VERSION / TYPE") fault.NotRinex
     (test (IsVersion (columns_of line.text 1 9)) fault.Version
     (test (column_of line.text 21 ≡ kind) fault.Kind
-    (test (IsSystem (column_of line.text 41)) fault.System
+    (test (IsSystemOf both (column_of line.text 41)) fault.System
     (gives tt)))))
 
 abbrev pub IsHeaderEnd : TextLine → Type 0
@@ -52,6 +57,13 @@ header_from number (line ∷ more) answer =
     answer
 
 -- the version line of a file, and the lines behind it
+abbrev pub version_by : Bool → ℕ → List TextLine → Result Behind Refusal → Type 0
+version_by both kind [] answer = answer ≡ Err (refusal fault.NotRinex 1)
+version_by both kind (line ∷ more) answer = line_gives (version_line_of both kind line) 1 (λ passed. gives (record { number = 2; lines = more })) answer
+
+-- where the satellites of GPS are read
+abbrev pub version_line : ℕ → TextLine → Result (Unit {0}) Fault → Type 0
+version_line kind line answer = version_line_of false kind line answer
+
 abbrev pub version_of : ℕ → List TextLine → Result Behind Refusal → Type 0
-version_of kind [] answer = answer ≡ Err (refusal fault.NotRinex 1)
-version_of kind (line ∷ more) answer = line_gives (version_line kind line) 1 (λ passed. gives (record { number = 2; lines = more })) answer
+version_of kind lines answer = version_by false kind lines answer

@@ -2,7 +2,7 @@
 
 ghost use Rattle.std.specs.Prelude.{◌≡◌, ◌≤◌, ◌↔◌, IsTrue, length};
 ghost use Rattle.rinex_text.specs.Lines.{lines_of};
-ghost use Rattle.rinex_text.specs.Headers.{IsVersion, IsSystem, IsShort, version_line, version_of, header_from};
+ghost use Rattle.rinex_text.specs.Headers.{IsVersion, IsSystemOf, IsShort, version_line_of, version_of, version_by, header_from};
 ghost use Rattle.rinex_text.specs.Reading.{plain_line, lines_left, left_of};
 
 use crate::fault::{Fault, Refusal};
@@ -28,11 +28,12 @@ fn is_version(field: &[u8]) -> bool
     to_unit_between(number, Unit::Ratio, FIRST_VERSION, LAST_VERSION).is_some()
 }
 
-/// Whether the letter stands for GPS or for mixed files, or is blank.
-fn is_system(letter: u8) -> bool
-    ensures { IsTrue result ↔ IsSystem letter }
+/// Whether the letter stands for GPS or for mixed files, or is blank; where both systems are read it
+/// may stand for Galileo.
+fn is_system(letter: u8, both: bool) -> bool
+    ensures { IsTrue result ↔ IsSystemOf both letter }
 {
-    matches!(letter, b'G' | b'M' | b' ' | b'\t')
+    matches!(letter, b'G' | b'M' | b' ' | b'\t') || (both && letter == b'E')
 }
 
 /// Whether the line has at most 4,096 bytes.
@@ -43,8 +44,8 @@ pub fn is_short(line: Line<'_>) -> bool
 }
 
 /// The tests of the version line of a file of this kind, `b'N'` or `b'O'`.
-fn version_line(line: Line<'_>, kind: u8) -> Result<(), Fault>
-    ensures { version_line kind (plain_line line.entry) result }
+fn version_line(line: Line<'_>, kind: u8, both: bool) -> Result<(), Fault>
+    ensures { version_line_of both kind (plain_line line.entry) result }
 {
     if !is_short(line) {
         return Err(Fault::LongLine);
@@ -58,24 +59,33 @@ fn version_line(line: Line<'_>, kind: u8) -> Result<(), Fault>
     if column(line.text, 21) != kind {
         return Err(Fault::Kind);
     }
-    if !is_system(column(line.text, 41)) {
+    if !is_system(column(line.text, 41), both) {
         return Err(Fault::System);
     }
     Ok(())
 }
 
-/// The lines behind the version line of a file of this kind, `b'N'` or `b'O'`.
-pub fn behind_version(bytes: &[u8], kind: u8) -> Result<Lines<'_>, Refusal>
+/// The lines behind the version line of a file of this kind, `b'N'` or `b'O'`, of which the satellites
+/// of GPS are read, or those of `both` systems.
+pub fn behind_version_of(bytes: &[u8], kind: u8, both: bool) -> Result<Lines<'_>, Refusal>
     requires { length bytes.now ≤ 4000000000 }
-    ensures { version_of kind (lines_of bytes.now) (left_of result) }
+    ensures { version_by both kind (lines_of bytes.now) (left_of result) }
 {
     let Some((line, behind)) = Lines::new(bytes).split_first() else {
         return Err(Refusal::new(Fault::NotRinex, 1));
     };
-    match version_line(line, kind) {
+    match version_line(line, kind, both) {
         Ok(()) => Ok(behind),
         Err(fault) => Err(Refusal::new(fault, 1)),
     }
+}
+
+/// Where the satellites of GPS are read.
+pub fn behind_version(bytes: &[u8], kind: u8) -> Result<Lines<'_>, Refusal>
+    requires { length bytes.now ≤ 4000000000 }
+    ensures { version_of kind (lines_of bytes.now) (left_of result) }
+{
+    behind_version_of(bytes, kind, false)
 }
 
 /// The lines behind `END OF HEADER`. Nothing else of these header lines is read.

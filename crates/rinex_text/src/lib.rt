@@ -17,5 +17,5 @@ pub use fault::{Fault, ReadError, Refusal};
 pub use fields::{
     column, columns, is_blank_byte, is_blank_text, is_labelled, is_printable_text, label,
 };
-pub use header::{behind_header, behind_version, is_short};
+pub use header::{behind_header, behind_version, behind_version_of, is_short};
 pub use lines::{Line, Lines};

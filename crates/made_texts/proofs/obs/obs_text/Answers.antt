@@ -1,6 +1,6 @@
 use Rattle.std.proofs.Common.{◌≡◌, List, ℕ, None, sym, subst, arith, false, ap, get_or, ◌++◌, ◌∙◌}
 use Rattle.rinex_obs.specs.Files.{IsObsFile}
-use Rattle.sat_model.specs.declared.satellites.Signal.TheVariants.{Single}
+use Rattle.gnss_model.specs.declared.satellites.Signal.TheVariants.{Single}
 use Rattle.made_texts.specs.ObsText.{code_c1c, observed_from, epoch_text}
 use Rattle.made_texts.specs.declared.sat_codes.EpochCodes.{EpochCodes}
 use Rattle.made_texts.proofs.ObsWriting.{epochs_next, epochs_end}

@@ -1,40 +1,38 @@
-use Rattle.std.proofs.Common.{◌≡◌, ℕ, ◌+◌, length, [], ◌∷◌, ap, ◌∙◌, arith, subst, Err}
+use Rattle.std.proofs.Common.{◌≡◌, ◌+◌, length, sym, ap, ◌∙◌, true, false, arith}
 use Rattle.std.proofs.lemmas.List.{length-append}
 use Rattle.std.proofs.lemmas.Result.{err_from_is_err_and}
-use Rattle.rinex_text.specs.Reading.{plain_line, body_left}
-use Rattle.rinex_nav.specs.Files.{BeginsRecord, records_from}
-use Rattle.rinex_nav.proofs.IndexLemmas.{index_more}
+use Rattle.rinex_text.specs.Reading.{plain_line}
 use Rattle.rinex_text.proofs.FieldLemmas.{both_ways}
-use Rattle.rinex_nav.proofs.RecordLemmas.{record_fault, record_on, long_fault, all_read}
+use Rattle.rinex_nav.specs.Files.{BeginsRecord}
+use Rattle.rinex_nav.specs.Reading.{listed_of}
+use Rattle.rinex_nav.proofs.RecordLemmas.{record_fault, record_on, long_fault, all_read, listed_one}
 use Rattle.rinex_nav.proofs.read.read_records.Goals as goal
 
-pub returns-in_err-record-clause-fault : goal.returns-in_err-record-clause-fault
-returns-in_err-record-clause-fault c =
+pub returns-in_err-found-clause-fault : goal.returns-in_err-found-clause-fault
+returns-in_err-found-clause-fault c =
     let p = err_from_is_err_and c.from_residual.result c.from_residual.ensures.1 in
-    let begins : BeginsRecord (plain_line c.in-Some.line) = omega (arith, c.column.ensures, c.if-column-eq71.true) in
-    let fault = record_fault _ _ _ _ _ _ c.in-Some.ensures.line begins c.in_err-record.ensures.fault in
-    rw (p.1, p.2) (c.lines.invariant.reads _ (subst (λ (k : ℕ). records_from k c.lines.left.lines.number 0 (body_left c.lines.left) (Err c.in_err-record.field-0.0)) c.len.ensures fault))
+    let begins : BeginsRecord c.args.both (plain_line c.in-Some.line) = rw c.column.ensures at (sym c.is_read.ensures ∙ c.if-is_read.true) in
+    rw (p.1, p.2) (c.lines.invariant.reads _ (record_fault c.args.both _ _ _ _ _ _ c.in-Some.ensures.line begins c.in_err-found.ensures.fault))
 
-pub lines-preserved-then-column-eq71 : goal.lines-preserved-then-column-eq71
-lines-preserved-then-column-eq71 c =
-    let begins : BeginsRecord (plain_line c.in-Some.line) = omega (arith, c.column.ensures, c.if-column-eq71.true) in
-    let left = c.in_ok-record.ensures.left in
-    let more : length c.push.new.self.items ≡ length c.lines.records.items + 1 = ap length c.in_ok-push.ensures.items ∙ length-append c.lines.records.items (c.in_ok-record.record ∷ []) in
-    let count : c.len.result ≡ length c.lines.records.items = c.len.ensures ∙ c.lines.records.ok.0 in
-    let place : c.len-then-column-eq71.result ≡ length c.lines.records.items = c.len-then-column-eq71.ensures ∙ c.lines.records.ok.0 in
+pub lines-preserved-then-is_read : goal.lines-preserved-then-is_read
+lines-preserved-then-is_read c =
+    let begins : BeginsRecord c.args.both (plain_line c.in-Some.line) = rw c.column.ensures at (sym c.is_read.ensures ∙ c.if-is_read.true) in
+    let left = c.in_ok-found.ensures.left in
+    let items = c.in_ok-keep.ensures.items in
+    let more : length c.keep.new.records.items ≡ length c.lines.records.items + length (listed_of c.in_ok-found.found) = ap length items ∙ length-append c.lines.records.items (listed_of c.in_ok-found.found) in
     record {
-      reads = λ answer h.
-          record_on _ _ c.in_ok-record.record _ _ _ _ _ _ _ _ _ _ _ answer c.len.ensures c.in_ok-push.ensures.len c.in_ok-push.ensures.items c.in-Some.ensures.line begins c.in_ok-record.ensures.record
-          left.enough left.number left.lines c.lines.invariant.reads h;
-      few = omega (arith, more, count, c.in_ok-record.ensures.few);
-      index = index_more c.lines.places c.add_place.new.places _ _ c.in_ok-record.record _ c.lines.invariant.index place c.in_ok-push.ensures.items c.in_ok-add_place.ensures.listed;
+      reads = λ answer h. record_on c.args.both _ _ c.in_ok-found.found _ _ _ _ _ _ _ _ _ answer items c.in-Some.ensures.line begins c.in_ok-found.ensures.record left.enough left.number left.lines c.lines.invariant.reads h;
+      few = omega (arith, c.in_ok-found.ensures.few);
+      kept = omega (arith, more, listed_one c.in_ok-found.found, c.lines.invariant.kept);
+      index = c.in_ok-keep.ensures.index c.lines.invariant.index;
     }
 
 pub returns-then-not-is_short-clause-fault : goal.returns-then-not-is_short-clause-fault
 returns-then-not-is_short-clause-fault c =
     rw c.new-refusal.ensures
-    (c.lines.invariant.reads _ (long_fault _ _ _ _ _ c.in-Some.ensures.line (λ b. absurd (omega (arith, b, c.column.ensures, c.if-column-eq71.false)))
+    (c.lines.invariant.reads _ (long_fault c.args.both _ _ _ _ _ c.in-Some.ensures.line
+    (λ b. let e : c.is_read.result ≡ true = c.is_read.ensures ∙ rw c.column.ensures b in let f : c.is_read.result ≡ false = c.if-is_read.false in absurd cc)
     (λ s. both_ways _ (c.is_short.ensures.1 s) c.if-not-is_short.true)))
 
 pub returns-clause-records : goal.returns-clause-records
-returns-clause-records c = all_read _ _ _ _ _ _ c.in_default.ensures.end c.lines.invariant.reads
+returns-clause-records c = all_read c.args.both _ _ _ _ _ _ c.in_default.ensures.end c.lines.invariant.reads

@@ -1,4 +1,4 @@
-use Rattle.std.proofs.Common.{List, vec_len, map, Result, length, ◌≤◌}
+use Rattle.std.proofs.Common.{List, map, Result, length, ◌≤◌}
 use Rattle.rinex_text.specs.Reading.{body_left}
 use Rattle.rinex_text.specs.declared.fault.Refusal.{Refusal}
 use Rattle.rinex_nav.specs.Files.{records_from}
@@ -10,9 +10,10 @@ use Rattle.rinex_nav.proofs.read.read_records.Given as goal
 -- what the lines that are left give, behind the records so far, is what all give
 abbrev pub invariant-lines : goal.invariant-lines
 invariant-lines l = record {
-  reads : (answer : Result (List Broadcast) Refusal) → records_from (vec_len l.records) l.left.lines.number 0 (body_left l.left) answer
-      → records_from 0 l.fn.body.lines.number 0 (body_left l.fn.body) (with_all (map plain_record l.records.items) answer);
-  few : length l.records.items ≤ 200000;
+  reads : (answer : Result (List Broadcast) Refusal) → records_from l.both l.count l.left.lines.number 0 (body_left l.left) answer
+      → records_from l.both 0 l.fn.body.lines.number 0 (body_left l.fn.body) (with_all (map plain_record l.records.items) answer);
+  few : l.count ≤ 200000;
+  kept : length l.records.items ≤ l.count;
   index : IsIndex l.places l.records.items;
 }
 

@@ -1,7 +1,7 @@
 use Rattle.std.proofs.Common.{inl}
 use Rattle.rinex_text.specs.Lines.{lines_of}
 use Rattle.rinex_text.specs.Reading.{behind_of, body_left}
-use Rattle.rinex_nav.specs.Files.{nav_file, records_from}
+use Rattle.rinex_nav.specs.Files.{nav_file_of, records_from}
 use Rattle.rinex_text.specs.Reading.{Refuses}
 use Rattle.rinex_text.proofs.TakeLemmas.{refuses_on}
 use Rattle.rinex_nav.proofs.RecordLemmas.{in_body, err_on}
@@ -9,8 +9,8 @@ use Rattle.rinex_nav.proofs.read.read_text.Goals as goal
 
 pub returns-clause-fault : goal.returns-clause-fault
 returns-clause-fault c =
-    err_on (Refuses (records_from 0 c.new.result.lines.number 0 (body_left c.new.result))) (Refuses (nav_file (lines_of c.args.bytes.now))) c.read_records.result
-    (refuses_on (records_from 0 c.new.result.lines.number 0 (body_left c.new.result)) (nav_file (lines_of c.args.bytes.now))
+    err_on (Refuses (records_from c.args.both 0 c.new.result.lines.number 0 (body_left c.new.result))) (Refuses (nav_file_of c.args.both (lines_of c.args.bytes.now))) c.read_records.result
+    (refuses_on (records_from c.args.both 0 c.new.result.lines.number 0 (body_left c.new.result)) (nav_file_of c.args.both (lines_of c.args.bytes.now))
     (λ refused h.
     inl (
       behind_of c.in-Ok.lines,
@@ -18,7 +18,7 @@ returns-clause-fault c =
       inl (
         behind_of c.in-Ok-behind_header.lines,
         c.in-Ok-behind_header.ensures,
-        in_body _ _ _ _ _ c.new.ensures.number c.new.ensures.lines h,
+        in_body c.args.both _ _ _ _ _ c.new.ensures.number c.new.ensures.lines h,
       ),
     )))
     c.read_records.ensures.fault

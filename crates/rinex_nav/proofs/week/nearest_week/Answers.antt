@@ -2,8 +2,8 @@ use Rattle.std.proofs.Common.{rules, refl, arith, FitsSigned}
 use Rattle.std.specs.Prelude.{pos, ◌+ℤ◌, ◌-ℤ◌, ◌*ℤ◌}
 use Rattle.std.specs.Int.{w128}
 use Rattle.std.proofs.lemmas.Int.{to_z-of_z, ints}
-use Rattle.sat_model.specs.Rounding.{IsFloor}
-use Rattle.sat_model.proofs.RoundingLemmas.{floor_is}
+use Rattle.grid_model.specs.Rounding.{IsFloor}
+use Rattle.grid_model.proofs.RoundingLemmas.{floor_is}
 use Rattle.rinex_nav.proofs.WeekLemmas.{nearest_is, time_size}
 use Rattle.rinex_nav.proofs.week.nearest_week.Goals as goal
 

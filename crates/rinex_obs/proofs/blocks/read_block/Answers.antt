@@ -1,4 +1,4 @@
-use Rattle.std.proofs.Common.{◌≡◌, [], refl, inl, inr, arith, to_z-of_z, to_z, of_z, FitsSigned, rules}
+use Rattle.std.proofs.Common.{◌≡◌, [], refl, ◌∙◌, inl, inr, arith, to_z-of_z, to_z, of_z, FitsSigned, rules}
 use Rattle.std.proofs.lemmas.Result.{err_from_is_err_and}
 use mir.Syntax.{w128}
 use Rattle.rinex_text.specs.Reading.{body_behind}
@@ -7,6 +7,7 @@ use Rattle.rinex_obs.specs.Epochs.{satellites_from, block_from}
 use Rattle.rinex_obs.specs.Reading.{wanted_of}
 use Rattle.rinex_obs.specs.declared.head.Head.TheVariants.{Epoch}
 use Rattle.rinex_obs.proofs.BlockLemmas.{behind_epoch, epoch_is}
+use Rattle.rinex_obs.proofs.SatelliteLemmas.{same_both}
 use Rattle.rinex_obs.proofs.blocks.read_block.Goals as goal
 
 pub returns-in_err-sats-in-Epoch-clause-fault : goal.returns-in_err-sats-in-Epoch-clause-fault
@@ -32,7 +33,8 @@ invariant_of-epoch c =
 pub returns-in_err-left-in-Event-clause-fault : goal.returns-in_err-left-in-Event-clause-fault
 returns-in_err-left-in-Event-clause-fault c =
     let p = err_from_is_err_and c.from_residual-in_err-left-in-Event.result c.from_residual-in_err-left-in-Event.ensures.1 in
-    rw (p.1, p.2, c.in-Event.is) (inr (_, c.in_err-left-in-Event.ensures.fault, refl))
+    let same = c.is_some.ensures ∙ same_both c.args.places.now.galileo in
+    rw (p.1, p.2, c.in-Event.is) (inr (_, rw same at c.in_err-left-in-Event.ensures.fault, refl))
 
 pub returns-in_ok-sats-in-Epoch-clause-block : goal.returns-in_ok-sats-in-Epoch-clause-block
 returns-in_ok-sats-in-Epoch-clause-block c =
@@ -41,4 +43,6 @@ returns-in_ok-sats-in-Epoch-clause-block c =
     (c.in-Epoch.lines, rw c.in-Epoch.is (inl (c.in_ok-sats-in-Epoch.sats.items, c.in_ok-sats-in-Epoch.ensures.sats, epoch_is _ _ _ _ _ same)), c.in_ok-sats-in-Epoch.ensures.left)
 
 pub returns-in_ok-left-in-Event-clause-block : goal.returns-in_ok-left-in-Event-clause-block
-returns-in_ok-left-in-Event-clause-block c = (c.in-Event.lines, rw c.in-Event.is (inl (tt, c.in_ok-left-in-Event.ensures.event, refl)), c.in_ok-left-in-Event.ensures.left)
+returns-in_ok-left-in-Event-clause-block c =
+    let same = c.is_some.ensures ∙ same_both c.args.places.now.galileo in
+    (c.in-Event.lines, rw c.in-Event.is (inl (tt, rw same at c.in_ok-left-in-Event.ensures.event, refl)), c.in_ok-left-in-Event.ensures.left)

@@ -9,7 +9,7 @@ use Rattle.rinex_obs.proofs.header.read_header.Given as goal
 -- what the lines that are left give, behind what is known, is what all give
 abbrev pub invariant-header : goal.invariant-header
 invariant-header l =
-    (known : Header) × IsHeader l.signal known l.header × ((answer : Result Start Refusal) → header_lines l.signal l.position known l.left.number (lines_left l.left) answer → header_lines l.signal l.position unread l.fn.lines.number (lines_left l.fn.lines) answer)
+    (known : Header) × IsHeader l.sought known l.header × ((answer : Result Start Refusal) → header_lines l.sought l.position known l.left.number (lines_left l.left) answer → header_lines l.sought l.position unread l.fn.lines.number (lines_left l.fn.lines) answer)
 
 abbrev pub decreases-header : goal.decreases-header
 decreases-header l = length l.left.rest.now

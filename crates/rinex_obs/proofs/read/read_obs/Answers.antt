@@ -1,26 +1,28 @@
-use Rattle.rinex_obs.proofs.FactLemmas.{numbered_read, distinct_read, gps_read}
-use Rattle.rinex_obs.proofs.OnlyLemmas.{gives_observations, gives_refusal}
-use Rattle.rinex_obs.proofs.WholeLemmas.{whole_read}
-use Rattle.rinex_obs.proofs.SettledLemmas.{settled_read}
 use Rattle.rinex_obs.proofs.read.read_obs.Goals as goal
 
+pub returns-clause-records : goal.returns-clause-records
+returns-clause-records c = c.read_obs_of.ensures.records
+
+pub returns-clause-fault : goal.returns-clause-fault
+returns-clause-fault c = c.read_obs_of.ensures.fault
+
 pub returns-clause-exact : goal.returns-clause-exact
-returns-clause-exact c = λ observations. gives_observations c.args.signal.now c.args.position c.args.bytes.now observations c.read_text.result c.read_text.ensures.observations c.read_text.ensures.fault
+returns-clause-exact c = c.read_obs_of.ensures.exact
 
 pub returns-clause-first : goal.returns-clause-first
-returns-clause-first c = λ r. gives_refusal c.args.signal.now c.args.position c.args.bytes.now r c.read_text.result c.read_text.ensures.observations c.read_text.ensures.fault
-
-pub returns-clause-numbered : goal.returns-clause-numbered
-returns-clause-numbered c = numbered_read c.args.signal.now c.args.position c.args.bytes.now c.read_text.result c.read_text.ensures.observations
-
-pub returns-clause-distinct : goal.returns-clause-distinct
-returns-clause-distinct c = distinct_read c.args.signal.now c.args.position c.args.bytes.now c.read_text.result c.read_text.ensures.observations
-
-pub returns-clause-gps : goal.returns-clause-gps
-returns-clause-gps c = gps_read c.args.signal.now c.args.position c.args.bytes.now c.read_text.result c.read_text.ensures.observations
-
-pub returns-clause-whole : goal.returns-clause-whole
-returns-clause-whole c = whole_read c.args.signal.now c.args.position c.args.bytes.now c.read_text.result c.read_text.ensures.observations
+returns-clause-first c = c.read_obs_of.ensures.first
 
 pub returns-clause-settled : goal.returns-clause-settled
-returns-clause-settled c = settled_read c.args.signal.now c.args.position c.args.bytes.now c.read_text.result c.read_text.ensures.fault
+returns-clause-settled c = c.read_obs_of.ensures.settled
+
+pub returns-clause-whole : goal.returns-clause-whole
+returns-clause-whole c = c.read_obs_of.ensures.whole
+
+pub returns-clause-numbered : goal.returns-clause-numbered
+returns-clause-numbered c = c.read_obs_of.ensures.numbered
+
+pub returns-clause-distinct : goal.returns-clause-distinct
+returns-clause-distinct c = c.read_obs_of.ensures.distinct
+
+pub returns-clause-gps : goal.returns-clause-gps
+returns-clause-gps c = c.read_obs_of.ensures.named

@@ -4,21 +4,28 @@ use Rattle.rinex_text.specs.Lines.{lines_of}
 use Rattle.rinex_text.specs.Reading.{behind_of, body_left}
 use Rattle.rinex_text.proofs.TakeLemmas.{refuses_on}
 use Rattle.rinex_obs.specs.Epochs.{epochs_from}
-use Rattle.rinex_obs.specs.Files.{obs_file}
+use Rattle.rinex_obs.specs.Files.{obs_file_of}
 use Rattle.rinex_obs.specs.Reading.{wanted_of, start_of, plain_epochs}
 use Rattle.rinex_obs.proofs.BlockLemmas.{in_body}
 use Rattle.rinex_obs.proofs.read.read_text.Goals as goal
+
+pub returns-in-Err-clause-fault : goal.returns-in-Err-clause-fault
+returns-in-Err-clause-fault c = inr (c.in-Err.refusal, rw c.are_both.ensures at c.in-Err.ensures, refl)
+
+pub returns-in-Err-read_header-clause-fault : goal.returns-in-Err-read_header-clause-fault
+returns-in-Err-read_header-clause-fault c =
+    inl (behind_of c.in-Ok.lines, rw c.are_both.ensures at c.in-Ok.ensures, inr (c.in-Err-read_header.refusal, c.in-Err-read_header.ensures.fault, refl))
 
 pub returns-in_err-epochs-clause-fault : goal.returns-in_err-epochs-clause-fault
 returns-in_err-epochs-clause-fault c =
     let p = err_from_is_err_and c.from_residual.result c.from_residual.ensures.1 in
     let start = c.in-Ok-read_header.start in
     rw (p.1, p.2)
-    (refuses_on (epochs_from (wanted_of start.0) [] c.new.result.lines.number 0 (body_left c.new.result)) (obs_file c.args.signal.now c.args.position (lines_of c.args.bytes.now))
+    (refuses_on (epochs_from (wanted_of start.0) [] c.new.result.lines.number 0 (body_left c.new.result)) (obs_file_of c.args.sought.now c.args.position (lines_of c.args.bytes.now))
     (λ refused h.
     inl (
       behind_of c.in-Ok.lines,
-      c.in-Ok.ensures,
+      (rw c.are_both.ensures at c.in-Ok.ensures),
       inl (
         start_of start.0 start.1 start.2,
         c.in-Ok-read_header.ensures.start,
@@ -32,7 +39,7 @@ returns-clause-observations c =
     let start = c.in-Ok-read_header.start in
     inl (
       behind_of c.in-Ok.lines,
-      c.in-Ok.ensures,
+      (rw c.are_both.ensures at c.in-Ok.ensures),
       inl (
         start_of start.0 start.1 start.2,
         c.in-Ok-read_header.ensures.start,

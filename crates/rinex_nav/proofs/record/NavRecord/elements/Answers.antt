@@ -2,7 +2,7 @@ use Rattle.std.proofs.Common.{rules, refl, arith, FitsSigned}
 use Rattle.std.specs.Prelude.{pos, ◌≤ℤ◌}
 use Rattle.std.specs.Int.{w128}
 use Rattle.std.proofs.lemmas.Int.{to_z-of_z, ints}
-use Rattle.sat_model.specs.RecordBounds.{IsNearTime}
+use Rattle.gnss_model.specs.RecordBounds.{IsNearTime}
 use Rattle.rinex_nav.specs.Weeks.{IsNearestWeek}
 use Rattle.rinex_nav.proofs.WeekLemmas.{is_near}
 use Rattle.rinex_nav.proofs.record.NavRecord.elements.Goals as goal
