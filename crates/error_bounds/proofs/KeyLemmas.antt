@@ -3,8 +3,8 @@ use Rattle.std.proofs.Common.{◌≡◌, ℕ, suc, ◌+◌, ◌-◌, ◌<◌, �
 use Rattle.std.proofs.lemmas.Option.{none-some}
 use Rattle.std.specs.List.{filter_map, cons_option}
 use Rattle.sat_model.specs.Relaxed.{ends}
-use Rattle.sat_model.specs.declared.satellites.Sat.{Sat}
-use Rattle.sat_model.specs.declared.spans.Span.{Span}
+use Rattle.gnss_model.specs.declared.satellites.Sat.{Sat}
+use Rattle.grid_model.specs.declared.spans.Span.{Span}
 use Rattle.toml.specs.Data.{Members, no_members}
 use Rattle.error_bounds.specs.Faults.{Found}
 use Rattle.error_bounds.specs.Forms.{errors}

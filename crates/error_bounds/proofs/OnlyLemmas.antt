@@ -1,5 +1,5 @@
 -- A text has one value or one first fault.
-use Rattle.std.proofs.Common.{◌≡◌, ℕ, ℤ, List, [], Option, Result, Ok, Err, IfOk, IfErr, length, false, Ordering, Less, Equal, Greater, nat_cmp, is_eq, refl, sym, ap, ◌∙◌, inl, inr, arith}
+use Rattle.std.proofs.Common.{◌≡◌, Bool, ℕ, ℤ, List, [], Option, Result, Ok, Err, IfOk, IfErr, length, false, Ordering, Less, Equal, Greater, nat_cmp, is_eq, refl, sym, ap, ◌∙◌, inl, inr, arith}
 use Rattle.std.proofs.lemmas.Bool.{false≢true}
 use Rattle.std.proofs.lemmas.Cmp.{nat_list_cmp_total}
 use Rattle.std.proofs.lemmas.Map.Text.{is_eq-slice_cmp}
@@ -7,9 +7,9 @@ use Rattle.std.specs.Cmp.Lexicographic.{slice_cmp, bytes_decides}
 use Rattle.std.specs.Ordering.{is_lt, ordering_reverse}
 use Rattle.std.proofs.lemmas.Option.{same_Some, none-some}
 use Rattle.std.specs.Result.{result_unwrap_or}
-use Rattle.sat_model.specs.declared.boxes.Pos.{Pos}
-use Rattle.sat_model.specs.declared.satellites.Sat.{Sat}
-use Rattle.sat_model.specs.declared.satellites.Signal.{Signal}
+use Rattle.grid_model.specs.declared.boxes.Pos.{Pos}
+use Rattle.gnss_model.specs.declared.satellites.Sat.{Sat}
+use Rattle.gnss_model.specs.declared.satellites.Signal.{Signal}
 use Rattle.toml.specs.Data.{Members}
 use Rattle.error_bounds.specs.Texts.{SettingsValue, IsValue, IsTree, IsSettings, IsFound, IsFirstFault, add}
 use Rattle.error_bounds.specs.Faults.{Found}
@@ -27,17 +27,17 @@ same_read a b r e f = ap (λ x. result_unwrap_or x a) (sym e ∙ f)
 same_sum : (a b c d a' b' c' d' : ℤ × ℤ) → a ≡ a' → b ≡ b' → c ≡ c' → d ≡ d' → add (add (add a b) c) d ≡ add (add (add a' b') c') d'
 same_sum a b c d a' b' c' d' ea eb ec ed = rw (ea, eb, ec, ed) refl
 
-same_fields : (c c' : Centre) (h h' : Pos) (o o' b b' : ℕ) (w w' : ℤ) (m m' : ℕ) (s s' : Signal) (k k' : ℤ × ℤ) (x x' : List (Sat × (ℤ × ℤ))) (z z' : Option (ℤ × ℤ))
-    → c ≡ c' → h ≡ h' → o ≡ o' → b ≡ b' → w ≡ w' → m ≡ m' → s ≡ s' → k ≡ k' → x ≡ x' → z ≡ z'
-    → ◌≡◌ {A = SettingsValue} (record { centre = c; half = h; outliers = o; bisections = b; width = w; max_age = m; signal = s; common = k; extra = x; zenith = z })
-    (record { centre = c'; half = h'; outliers = o'; bisections = b'; width = w'; max_age = m'; signal = s'; common = k'; extra = x'; zenith = z' })
-same_fields c c' h h' o o' b b' w w' m m' s s' k k' x x' z z' ec eh eo eb ew em es ek ex ez = cc
+same_fields : (c c' : Centre) (h h' : Pos) (o o' b b' : ℕ) (w w' : ℤ) (m m' : ℕ) (d d' : Bool) (s s' : Signal) (k k' : ℤ × ℤ) (x x' : List (Sat × (ℤ × ℤ))) (z z' : Option (ℤ × ℤ))
+    → c ≡ c' → h ≡ h' → o ≡ o' → b ≡ b' → w ≡ w' → m ≡ m' → d ≡ d' → s ≡ s' → k ≡ k' → x ≡ x' → z ≡ z'
+    → ◌≡◌ {A = SettingsValue} (record { centre = c; half = h; outliers = o; bisections = b; width = w; max_age = m; pairs = d; signal = s; common = k; extra = x; zenith = z })
+    (record { centre = c'; half = h'; outliers = o'; bisections = b'; width = w'; max_age = m'; pairs = d'; signal = s'; common = k'; extra = x'; zenith = z' })
+same_fields c c' h h' o o' b b' w w' m m' d d' s s' k k' x x' z z' ec eh eo eb ew em ed es ek ex ez = cc
 
 pub one_value : (tree : Members) (v w : SettingsValue) → IsValue tree v → IsValue tree w → v ≡ w
 one_value tree v w p q =
-    same_fields v.centre w.centre v.half w.half v.outliers w.outliers v.bisections w.bisections v.width w.width v.max_age w.max_age v.signal w.signal v.common w.common v.extra w.extra v.zenith w.zenith
+    same_fields v.centre w.centre v.half w.half v.outliers w.outliers v.bisections w.bisections v.width w.width v.max_age w.max_age v.pairs w.pairs v.signal w.signal v.common w.common v.extra w.extra v.zenith w.zenith
     (same_read _ _ _ p.centre q.centre) (same_read _ _ _ p.half q.half) (same_read _ _ _ p.outliers q.outliers) (same_read _ _ _ p.bisections q.bisections)
-    (same_read _ _ _ p.width q.width) (same_read _ _ _ p.max_age q.max_age) (same_read _ _ _ p.signal q.signal)
+    (same_read _ _ _ p.width q.width) (same_read _ _ _ p.max_age q.max_age) (same_read _ _ _ p.pairs q.pairs) (same_read _ _ _ p.signal q.signal)
     (p.common ∙ (same_sum _ _ _ _ _ _ _ _ (same_read _ _ _ p.is_receiver q.is_receiver) (same_read _ _ _ p.is_orbit_clock q.is_orbit_clock)
     (same_read _ _ _ p.is_ionosphere q.is_ionosphere) (same_read _ _ _ p.is_troposphere q.is_troposphere) ∙ sym q.common))
     (p.extra ∙ sym q.extra) (same_read _ _ _ p.zenith q.zenith)

@@ -2,12 +2,12 @@
 use Rattle.std.proofs.Common.{◌≡◌, ◌*◌, ◌^◌, ◌≤◌, ℤ, ◌+ℤ◌, ◌-ℤ◌, Option, Some, None, refl, arith}
 use Rattle.std.proofs.lemmas.Int.{ints}
 use Rattle.std.proofs.lemmas.Option.{same_Some}
-use Rattle.sat_model.specs.Boxes.{GridBox, Side}
-use Rattle.sat_model.specs.Lengths.{side_length}
-use Rattle.sat_model.specs.SearchBoxes.{IsSearchSide, IsSearchBox}
-use Rattle.sat_model.specs.Sizes.{IsWithin}
-use Rattle.sat_model.specs.declared.boxes.Pos.{Pos}
-use Rattle.sat_model.proofs.AmountLemmas.{above_is}
+use Rattle.grid_model.specs.Boxes.{GridBox, Side}
+use Rattle.grid_model.specs.Lengths.{side_length}
+use Rattle.grid_model.specs.SearchBoxes.{IsSearchSide, IsSearchBox}
+use Rattle.grid_model.specs.Sizes.{IsWithin}
+use Rattle.grid_model.specs.declared.boxes.Pos.{Pos}
+use Rattle.grid_model.proofs.AmountLemmas.{above_is}
 use Rattle.error_bounds.specs.Reading.{box_around, centre_with, IsKnown, IsEnough, IsRoot}
 use Rattle.error_bounds.specs.Sizes.{IsNearEarth, IsCentre, IsHalfSide, AreHalfSides}
 use Rattle.error_bounds.specs.declared.settings.Centre.{Centre}

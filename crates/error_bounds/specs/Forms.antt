@@ -3,10 +3,10 @@
 use Rattle.std.specs.Prelude.{ℕ, ℤ, pos, neg_ℤ, ◌*ℤ◌, unsigned_abs, nat_eq, Bool, true, false, ◌&&◌, if◌then◌else◌, codes, List, [], ◌∷◌, Option, None, Some, option_map, option_and_then, Result, Ok, Err}
 use lib.Pointwise.{pointwise}
 use lib.Signed.{le_z}
-use Rattle.sat_model.specs.declared.boxes.Pos.{Pos}
-use Rattle.sat_model.specs.declared.satellites.Signal.{Signal}
-use Rattle.sat_model.specs.declared.satellites.Signal.TheVariants as signal
-use Rattle.toml.specs.Data.{Data, Items, no_items, item, as_str, as_integer, as_array}
+use Rattle.grid_model.specs.declared.boxes.Pos.{Pos}
+use Rattle.gnss_model.specs.declared.satellites.Signal.{Signal}
+use Rattle.gnss_model.specs.declared.satellites.Signal.TheVariants as signal
+use Rattle.toml.specs.Data.{Data, Items, no_items, item, as_str, as_integer, as_bool, as_array}
 use Rattle.error_bounds.specs.Sizes.{is_code}
 use Rattle.error_bounds.specs.declared.fault.Fault.{Fault}
 use Rattle.error_bounds.specs.declared.fault.Fault.TheVariants.{WrongKind, Outside}
@@ -60,6 +60,10 @@ count lo hi d = of_kind (as_integer d) (λ n. right (is_from (pos lo) (pos hi) n
 -- a length from `lo` to `hi` mm
 abbrev pub length_from : ℕ → ℕ → Data → Result ℤ Fault
 length_from lo hi d = of_kind (as_integer d) (λ n. right (is_from (pos lo) (pos hi) n) (um n))
+
+-- a truth value
+abbrev pub truth : Data → Result Bool Fault
+truth d = of_kind (as_bool d) (λ b. Ok b)
 
 -- `[lo, hi]`, amounts of at most so many mm
 abbrev pub ends_of : ℕ → List ℤ → Result (ℤ × ℤ) Fault

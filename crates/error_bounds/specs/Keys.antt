@@ -1,11 +1,11 @@
 -- The keys of the settings, in the order in which they are tested.
-use Rattle.std.specs.Prelude.{ℕ, ◌+◌, ◌-◌, ◌/◌, ◌%◌, ℤ, codes, List, [], ◌∷◌, ◌++◌, map, Option, None, Some, ok_or, Result, Ok, Err}
+use Rattle.std.specs.Prelude.{ℕ, Bool, false, ◌+◌, ◌-◌, ◌/◌, ◌%◌, ℤ, codes, List, [], ◌∷◌, ◌++◌, map, Option, None, Some, ok_or, Result, Ok, Err}
 use Rattle.std.specs.List.{range_with_len}
-use Rattle.sat_model.specs.declared.boxes.Pos.{Pos}
-use Rattle.sat_model.specs.declared.satellites.Signal.{Signal}
+use Rattle.grid_model.specs.declared.boxes.Pos.{Pos}
+use Rattle.gnss_model.specs.declared.satellites.Signal.{Signal}
 use Rattle.toml.specs.Data.{Data, Members, no_members, get_member, as_table}
 use Rattle.error_bounds.specs.Faults.{Found}
-use Rattle.error_bounds.specs.Forms.{count, length_from, errors, place, half_sides, mode_word, code_list}
+use Rattle.error_bounds.specs.Forms.{count, length_from, truth, errors, place, half_sides, mode_word, code_list}
 use Rattle.error_bounds.specs.declared.fault.Fault.{Fault}
 use Rattle.error_bounds.specs.declared.fault.Fault.TheVariants.{Missing, WrongKind}
 use Rattle.error_bounds.specs.declared.signals.Mode.{Mode}
@@ -66,6 +66,10 @@ width = record { table = codes "search"; name = codes "width"; form = length_fro
 
 abbrev pub max_age : Key ℕ
 max_age = record { table = codes "search"; name = codes "max_age"; form = count 1 14400 }
+
+-- whether pairs of rows show boxes empty too; it may be absent
+abbrev pub pairs : Key Bool
+pairs = record { table = codes "search"; name = codes "pairs"; form = truth }
 
 abbrev pub signal_mode : Key Mode
 signal_mode = record { table = codes "signal"; name = codes "mode"; form = mode_word }
@@ -130,10 +134,6 @@ mode_or_single (Err fault) = Single
 abbrev pub codes_key : Members → Key Signal
 codes_key tree = signal_codes (mode_or_single (value_of signal_mode tree))
 
-abbrev pub search_tests : Members → List Test
-search_tests tree =
-    test centre tree ∷ test half tree ∷ test outliers tree ∷ test bisections tree ∷ test width tree ∷ test max_age tree ∷ []
-
 abbrev pub signal_tests : Members → List Test
 signal_tests tree = test signal_mode tree ∷ test (codes_key tree) tree ∷ []
 
@@ -168,6 +168,20 @@ optional_at key tree = optional_from key (if_there (data_at key.table key.name t
 
 abbrev pub test_optional_at : {V : Type 0} → Key V → Members → Test
 test_optional_at key tree = record { key = printed key; fault = fault_in (optional_at key tree) }
+
+abbrev pub search_tests : Members → List Test
+search_tests tree =
+    test centre tree ∷ test half tree ∷ test outliers tree ∷ test bisections tree ∷ test width tree ∷ test max_age tree
+    ∷ test_optional_at pairs tree ∷ []
+
+-- a truth value, false where its key is absent
+abbrev pub or_false : Result (Option Bool) Fault → Result Bool Fault
+or_false (Ok None) = Ok false
+or_false (Ok (Some b)) = Ok b
+or_false (Err fault) = Err fault
+
+abbrev pub truth_at : Key Bool → Members → Result Bool Fault
+truth_at key tree = or_false (optional_at key tree)
 
 abbrev pub bounds_tests : Members → List Test
 bounds_tests tree =

@@ -1,11 +1,11 @@
 -- What a reader of settings texts answers.
 use Rattle.std.specs.Prelude.{◌≡◌, ◌⊎◌, ◌<◌, ℤ, map, ◌+ℤ◌, ◌-ℤ◌, ℕ, List, [], ◌∷◌, Bool, ◌&&◌, ◌==◌, if◌then◌else◌, pos, Option, None, Some, option_map, Result, Ok, Err}
 use Rattle.std.specs.Borrow.{Bor}
-use Rattle.sat_model.specs.Boxes.{GridBox}
+use Rattle.grid_model.specs.Boxes.{GridBox}
 use Rattle.sat_model.specs.Relaxed.{ends}
-use Rattle.sat_model.specs.declared.boxes.Pos.{Pos}
-use Rattle.sat_model.specs.declared.satellites.Sat.{Sat}
-use Rattle.sat_model.specs.declared.spans.Span.{Span}
+use Rattle.grid_model.specs.declared.boxes.Pos.{Pos}
+use Rattle.gnss_model.specs.declared.satellites.Sat.{Sat}
+use Rattle.grid_model.specs.declared.spans.Span.{Span}
 use Rattle.error_bounds.specs.Faults.{Found, IsCut, number_of}
 use Rattle.error_bounds.specs.Keys.{Test, data_at, dotted, if_there, first_found}
 use Rattle.error_bounds.specs.Keys as key
@@ -40,6 +40,7 @@ value_of_settings s = record {
   bisections = s.rules.bisections;
   width = s.rules.width;
   max_age = s.max_age;
+  pairs = s.rules.pairs;
   signal = s.signal;
   common = ends s.common;
   extra = with_ends s.extra.items;
@@ -138,6 +139,7 @@ pub record IsSearch (tree : Members) (s : Search) : Type 0 where
   pub bisections : key.value_of key.bisections tree ≡ Ok s.rules.bisections
   pub width : key.value_of key.width tree ≡ Ok s.rules.width
   pub max_age : key.value_of key.max_age tree ≡ Ok s.max_age
+  pub pairs : key.truth_at key.pairs tree ≡ Ok s.rules.pairs
 
 pub record IsCommon (tree : Members) (common : ℤ × ℤ) : Type 0 where
   pub receiver : ℤ × ℤ

@@ -9,7 +9,7 @@ use Rattle.error_bounds.specs.declared.names.Scope.TheVariants as scope
 abbrev pub knows : Scope → List ℕ → Bool
 knows scope.Root name = is_table name
 knows scope.Search name =
-    list_any (is_text name) (codes "centre" ∷ codes "half" ∷ codes "outliers" ∷ codes "bisections" ∷ codes "width" ∷ codes "max_age" ∷ [])
+    list_any (is_text name) (codes "centre" ∷ codes "half" ∷ codes "outliers" ∷ codes "bisections" ∷ codes "width" ∷ codes "max_age" ∷ codes "pairs" ∷ [])
 knows scope.Signal name = list_any (is_text name) (codes "mode" ∷ codes "codes" ∷ [])
 knows scope.Bounds name =
     list_any (is_text name) (codes "receiver" ∷ codes "orbit_clock" ∷ codes "ionosphere" ∷ codes "troposphere" ∷ codes "zenith" ∷ [])

@@ -1,12 +1,12 @@
 -- What each value of the settings keeps to. Lengths are in um.
 use Rattle.std.specs.Prelude.{◌≡◌, ℕ, ◌<◌, ℤ, pos, Bool, false, ◌&&◌, ◌==◌, nat_le, List, [], ◌∷◌, length, ◌≤ℤ◌, slice_index_or}
 use Rattle.std.specs.List.{All}
-use Rattle.sat_model.specs.Sizes.{IsWithin}
-use Rattle.sat_model.specs.declared.boxes.Pos.{Pos}
-use Rattle.sat_model.specs.declared.satellites.Sat.{Sat}
-use Rattle.sat_model.specs.declared.satellites.Signal.{Signal}
-use Rattle.sat_model.specs.declared.satellites.Signal.TheVariants.{Single, Dual}
-use Rattle.sat_model.specs.declared.spans.Span.{Span}
+use Rattle.grid_model.specs.Sizes.{IsWithin}
+use Rattle.grid_model.specs.declared.boxes.Pos.{Pos}
+use Rattle.gnss_model.specs.declared.satellites.Sat.{Sat}
+use Rattle.gnss_model.specs.declared.satellites.Signal.{Signal}
+use Rattle.gnss_model.specs.declared.satellites.Signal.TheVariants.{Single, Dual}
+use Rattle.grid_model.specs.declared.spans.Span.{Span}
 use Rattle.error_bounds.specs.declared.settings.Centre.{Centre}
 use Rattle.error_bounds.specs.declared.settings.Centre.TheVariants.{At}
 

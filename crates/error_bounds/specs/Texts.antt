@@ -1,9 +1,9 @@
 -- Settings texts: the value of one, or its first fault.
-use Rattle.std.specs.Prelude.{◌≡◌, ◌⊎◌, ℕ, ℤ, ◌+ℤ◌, List, [], Option, None, Some, Result, Ok, Err, IsUtf8}
+use Rattle.std.specs.Prelude.{◌≡◌, ◌⊎◌, Bool, ℕ, ℤ, ◌+ℤ◌, List, [], Option, None, Some, Result, Ok, Err, IsUtf8}
 use Rattle.std.specs.List.{filter_map}
-use Rattle.sat_model.specs.declared.boxes.Pos.{Pos}
-use Rattle.sat_model.specs.declared.satellites.Sat.{Sat}
-use Rattle.sat_model.specs.declared.satellites.Signal.{Signal}
+use Rattle.grid_model.specs.declared.boxes.Pos.{Pos}
+use Rattle.gnss_model.specs.declared.satellites.Sat.{Sat}
+use Rattle.gnss_model.specs.declared.satellites.Signal.{Signal}
 use Rattle.toml.specs.Data.{Members}
 use Rattle.toml.specs.Parse.{parse_document}
 use Rattle.error_bounds.specs.Faults.{Found}
@@ -21,6 +21,7 @@ pub record SettingsValue : Type 0 where
   pub bisections : ℕ
   pub width : ℤ
   pub max_age : ℕ
+  pub pairs : Bool
   pub signal : Signal
   pub common : ℤ × ℤ
   pub extra : List (Sat × (ℤ × ℤ))
@@ -51,6 +52,7 @@ pub record IsValue (tree : Members) (v : SettingsValue) : Type 0 where
   pub bisections : key.value_of key.bisections tree ≡ Ok v.bisections
   pub width : key.value_of key.width tree ≡ Ok v.width
   pub max_age : key.value_of key.max_age tree ≡ Ok v.max_age
+  pub pairs : key.truth_at key.pairs tree ≡ Ok v.pairs
   pub signal : key.value_of (key.codes_key tree) tree ≡ Ok v.signal
   pub receiver : ℤ × ℤ
   pub is_receiver : key.value_of key.receiver tree ≡ Ok receiver

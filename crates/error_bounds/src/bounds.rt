@@ -1,9 +1,9 @@
 //! The bounds that are declared for every satellite.
 
-ghost use Rattle.sat_model.specs.Zenith.{IsZenith};
+ghost use Rattle.gnss_model.specs.Zenith.{IsZenith};
 ghost use Rattle.error_bounds.specs.Sizes.{IsSumOfFour};
 
-use sat_model::Span;
+use grid_model::Span;
 
 /// What the keys of `bounds` give.
 #[derive(Clone, Copy)]

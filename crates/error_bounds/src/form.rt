@@ -3,13 +3,13 @@
 ghost use Rattle.std.specs.Prelude.{◌≡◌, ◌≤◌, Result, IfOk, is_some, pos, [], ◌∷◌, ◌≤ℤ◌, ◌*◌};
 ghost use Rattle.toml.specs.Data.{Data, as_integer};
 ghost use Rattle.toml.specs.View.{view, items_view};
-ghost use Rattle.error_bounds.specs.Forms.{all_members, count, length_from, errors, ends_of, is_within, um};
+ghost use Rattle.error_bounds.specs.Forms.{all_members, count, length_from, truth, errors, ends_of, is_within, um};
 ghost use Rattle.error_bounds.specs.Sizes.{IsSpanWithin};
 ghost use Rattle.error_bounds.specs.Reading.{ends_in};
 ghost use Rattle.error_bounds.specs.declared.fault.Fault.{Fault};
 
 use crate::fault::Fault;
-use sat_model::Span;
+use grid_model::Span;
 use toml::Value;
 
 /// What a value has to be, and what is read from it.
@@ -40,6 +40,10 @@ pub struct Length {
     pub lo: u32,
     pub hi: u32,
 }
+
+/// A truth value.
+#[derive(Clone, Copy)]
+pub struct Truth;
 
 /// A span of errors, `[lo, hi]` in mm with amounts of at most `most`, read in um.
 #[derive(Clone, Copy)]
@@ -84,6 +88,21 @@ impl Form for Length {
             Ok(n * 1_000)
         } else {
             Err(Fault::Outside)
+        }
+    }
+}
+
+impl Form for Truth {
+    type Output = bool;
+
+    ghost reads = { λ form d r. r ≡ truth d };
+
+    ghost allows = { λ form b. Unit {0} };
+
+    fn read(&self, value: &Value) -> Result<bool, Fault> {
+        match value.as_bool() {
+            Some(b) => Ok(b),
+            None => Err(Fault::WrongKind),
         }
     }
 }

@@ -70,6 +70,7 @@ fn is_search_key(name: &str) -> bool
         || name == "bisections"
         || name == "width"
         || name == "max_age"
+        || name == "pairs"
 }
 
 /// Whether a name is that of a key of `bounds`.

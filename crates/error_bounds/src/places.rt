@@ -1,7 +1,7 @@
 //! The centre of the search box and its half sides.
 
 ghost use Rattle.std.specs.Prelude.{◌≡◌, [], ◌∷◌, codes, IfOk};
-ghost use Rattle.sat_model.specs.Sizes.{IsWithin};
+ghost use Rattle.grid_model.specs.Sizes.{IsWithin};
 ghost use Rattle.toml.specs.View.{view};
 ghost use Rattle.error_bounds.specs.Forms.{place, half_sides, three, um, is_half, is_coordinate, is_text, right};
 ghost use Rattle.error_bounds.specs.Reading.{AreThree};
@@ -10,7 +10,7 @@ ghost use Rattle.error_bounds.specs.Sizes.{IsNearEarth, IsCentre, AreHalfSides};
 use crate::fault::Fault;
 use crate::form::{Form, are_integers, is_within};
 use crate::settings::Centre;
-use sat_model::Pos;
+use grid_model::Pos;
 use toml::Value;
 
 /// The greatest amount of a coordinate, in mm.

@@ -13,7 +13,8 @@ use crate::fault::{Fault, SettingsError, SettingsFault};
 use crate::form::{DECLARED, Form};
 use crate::key::fault_at;
 use arrayvec::ArrayString;
-use sat_model::{Sat, Span};
+use gnss_model::Sat;
+use grid_model::Span;
 use std::alloc::Global;
 use toml::Table;
 

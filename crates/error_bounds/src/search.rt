@@ -4,7 +4,8 @@ ghost use Rattle.std.specs.Prelude.{◌≤◌};
 ghost use Rattle.error_bounds.specs.Sizes.{IsCentre, AreHalfSides};
 
 use crate::settings::Centre;
-use sat_model::{Pos, Rules};
+use grid_model::Pos;
+use sat_model::Rules;
 
 /// What the keys of `search` give.
 #[derive(Clone, Copy)]

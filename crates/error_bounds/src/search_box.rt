@@ -1,13 +1,13 @@
 //! The search box.
 
 ghost use Rattle.std.specs.Prelude.{◌≡◌, ◌+ℤ◌, ◌-ℤ◌, ◌≤ℤ◌};
-ghost use Rattle.sat_model.specs.Boxes.{grid_box};
-ghost use Rattle.sat_model.specs.SearchBoxes.{IsSearchBox};
-ghost use Rattle.sat_model.specs.Sizes.{IsWithin, IsBoxSize};
+ghost use Rattle.grid_model.specs.Boxes.{grid_box};
+ghost use Rattle.grid_model.specs.SearchBoxes.{IsSearchBox};
+ghost use Rattle.grid_model.specs.Sizes.{IsWithin, IsBoxSize};
 ghost use Rattle.error_bounds.specs.Reading.{box_around};
 ghost use Rattle.error_bounds.specs.Sizes.{IsNearEarth, IsHalfSide, AreHalfSides};
 
-use sat_model::{Box3, Pos};
+use grid_model::{Box3, Pos};
 
 /// The ends of a side around a coordinate.
 fn side_around(centre: i64, half: i64) -> (i64, i64)

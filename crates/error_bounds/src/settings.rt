@@ -1,11 +1,13 @@
 //! The settings of a run.
 
 ghost use Rattle.std.specs.Prelude.{◌≡◌, ◌≤◌, true};
-ghost use Rattle.sat_model.specs.Zenith.{IsZenith};
+ghost use Rattle.gnss_model.specs.Zenith.{IsZenith};
 ghost use Rattle.error_bounds.specs.Sizes.{IsCentre, AreHalfSides, IsSumOfFour, IsDeclared, IsAscending, are_codes, AreDeclared};
 
 use crate::search_box::box_around;
-use sat_model::{Box3, Pos, Rules, Sat, Signal, Span};
+use gnss_model::{Sat, Signal};
+use grid_model::{Box3, Pos, Span};
+use sat_model::Rules;
 
 /// Where the middle of the search box is.
 #[derive(Clone, Copy, Debug, PartialEq, Eq)]
@@ -46,9 +48,9 @@ pub struct Settings {
 }
 
 impl Settings {
-    ghost use Rattle.sat_model.specs.Boxes.{grid_box};
+    ghost use Rattle.grid_model.specs.Boxes.{grid_box};
     ghost use Rattle.sat_model.specs.Relaxed.{ends};
-    ghost use Rattle.sat_model.specs.SearchBoxes.{IsSearchBox};
+    ghost use Rattle.grid_model.specs.SearchBoxes.{IsSearchBox};
     ghost use Rattle.error_bounds.specs.Reading.{value_of_settings, with_ends, bound_for, extra_for, centre_with, IsEnough, IsRoot};
 
     /// The sum of all spans that are declared for the satellite, in um.

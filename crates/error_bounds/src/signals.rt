@@ -8,7 +8,7 @@ ghost use Rattle.error_bounds.specs.Sizes.{is_code, is_capital, are_codes};
 
 use crate::fault::Fault;
 use crate::form::Form;
-use sat_model::Signal;
+use gnss_model::Signal;
 use toml::Value;
 
 /// Whether one code is used, or two.

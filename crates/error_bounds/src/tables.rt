@@ -10,12 +10,14 @@ ghost use Rattle.error_bounds.specs.Texts.{add};
 
 use crate::bounds::Bounds;
 use crate::fault::SettingsFault;
-use crate::form::{Count, DECLARED, Errors, Length};
+use crate::form::{Count, DECLARED, Errors, Length, Truth};
 use crate::key::{optional, required};
 use crate::places::{HalfSides, Place};
 use crate::search::Search;
 use crate::signals::{Codes, ModeWord};
-use sat_model::{Rules, Signal, Span};
+use gnss_model::Signal;
+use grid_model::Span;
+use sat_model::Rules;
 use toml::Table;
 
 /// The keys of `search`.
@@ -38,10 +40,12 @@ pub fn read_search(tree: &Table) -> Result<Search, SettingsFault>
         },
     )?;
     let max_age = required(tree, "search", "max_age", &Count { lo: 1, hi: 14_400 })?;
+    let pairs = optional(tree, "search", "pairs", &Truth)?;
     let rules = Rules {
         outliers: outliers as u8,
         bisections,
         width,
+        pairs: pairs.unwrap_or(false),
     };
     Ok(Search {
         centre,

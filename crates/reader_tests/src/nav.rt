@@ -4,9 +4,10 @@ ghost use Rattle.std.specs.Prelude.{pos, ◌≤ℤ◌, ◌<ℤ◌, ◌<◌};
 
 use crate::words::{changed, number};
 use exact_decimal::Decimal;
+use gnss_model::{Elements, Sat};
+use grid_model::Wide;
 use rinex_nav::{Nav, NavRecord, read_nav};
 use rinex_text::ReadError;
-use sat_model::{Elements, Sat, Wide};
 use std::alloc::Global;
 use std::process::Abort;
 use std::test::Fail;

@@ -2,9 +2,10 @@
 
 use crate::words::{changed, number};
 use exact_decimal::Decimal;
+use gnss_model::Signal;
+use grid_model::Pos;
 use rinex_obs::{Obs, read_obs};
 use rinex_text::ReadError;
-use sat_model::{Pos, Signal};
 use std::alloc::Global;
 use std::process::Abort;
 use std::test::Fail;

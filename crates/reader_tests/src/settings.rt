@@ -2,7 +2,8 @@
 
 use crate::words::{changed, number};
 use error_bounds::{Centre, Settings, SettingsError, read_settings};
-use sat_model::{Pos, Sat, Signal};
+use gnss_model::{Sat, Signal};
+use grid_model::Pos;
 use std::alloc::Global;
 use std::test::Fail;
 
@@ -38,6 +39,9 @@ const CHANGES: &str = "0||half|half
 0||width = 1000|width = 10000000
 0||7200|1
 0||7200|14400
+0||7200|7200@pairs = true
+0||7200|7200@pairs = false
+0||[search]|[search]@pairs = true
 0||[-3000, 3000]|[1000000, 1000000]
 0||[2000, 25000]|[0, 1]@[satellite]@G01 = [0, 0]@G99 = [-1, 2]
 0||[2000, 25000]|[0, 1]@[satellite]
@@ -60,6 +64,17 @@ const CHANGES: &str = "0||half|half
 33|search.width|width = 1000|width = 10000001
 33|search.max_age|7200|0
 33|search.max_age|7200|14401
+32|search.pairs|7200|7200@pairs = 1
+32|search.pairs|7200|7200@pairs = \"true\"
+32|search.pairs|7200|7200@pairs = [true]
+32|search.pairs|7200|7200@[search.pairs]
+32|search.pairs|[signal]|pairs = 0@[signals]
+33|search.max_age|7200|0@pairs = 1
+31|search.max_age|max_age = 7200|pairs = true
+34|search.pair|7200|7200@pair = true
+34|signal.pairs|[bounds]|pairs = true@[bounds]
+34|pairs|[search]|pairs = true@[search]
+30||7200|7200@pairs = True
 32|signal.mode|\"single\"|1
 33|signal.mode|single|triple
 33|signal.codes|single|dual
@@ -202,6 +217,20 @@ fn reads_lengths_in_um(rt: HostRuntime) -> Result<(), Fail> {
     };
     assert_eq!(rt; root.lo, lo);
     assert_eq!(rt; root.hi, hi);
+    Ok(())
+}
+
+#[test]
+fn reads_whether_pairs_are_tested(rt: HostRuntime) -> Result<(), Fail> {
+    for (age, pairs) in [
+        ("7200", false),
+        ("7200@pairs = false", false),
+        ("7200@pairs = true", true),
+    ] {
+        let text = changed(rt.alloc(), FILE, "7200", age)?;
+        let settings = settings(rt.alloc(), text.as_str())?;
+        assert_eq!(rt; settings.rules.pairs, pairs, "{age}");
+    }
     Ok(())
 }
 

@@ -1,5 +1,5 @@
 use Rattle.std.proofs.Common.{sym, ap, ◌∙◌, to_z, of_z, w64}
-use Rattle.sat_model.specs.declared.boxes.Pos.{Pos}
+use Rattle.grid_model.specs.declared.boxes.Pos.{Pos}
 use Rattle.error_bounds.proofs.FormLemmas.{coordinate_of}
 use Rattle.error_bounds.proofs.places.point.Goals as goal
 
