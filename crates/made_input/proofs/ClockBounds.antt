@@ -10,15 +10,15 @@ use Rattle.rinex_nav.specs.FieldBounds.{field_of}
 use Rattle.rinex_nav.specs.Reading.{plain_record}
 use Rattle.rinex_nav.specs.Records.{Broadcast}
 use Rattle.rinex_nav.specs.declared.record.NavRecord.{NavRecord}
-use Rattle.sat_model.specs.Angles.{unit}
-use Rattle.sat_model.specs.ClockChain.{ClockChain, IsAdvanced}
-use Rattle.sat_model.specs.EarthModel.{relativity, rate_scale}
-use Rattle.sat_model.specs.RecordBounds.{LiesFrom, IsValue, eccentricity_bound, least_root_a, greatest_root_a}
-use Rattle.sat_model.specs.Rounding.{Near}
-use Rattle.sat_model.specs.Sizes.{IsWithin}
-use Rattle.sat_model.specs.declared.elements.Elements.{Elements}
-use Rattle.sat_model.specs.declared.spans.Wide.{Wide}
-use Rattle.sat_model.proofs.ProductLemmas.{product_within}
+use Rattle.grid_model.specs.Angles.{unit}
+use Rattle.gnss_model.specs.ClockChain.{ClockChain, IsAdvanced}
+use Rattle.gnss_model.specs.EarthModel.{relativity, rate_scale}
+use Rattle.gnss_model.specs.RecordBounds.{LiesFrom, IsValue, eccentricity_bound, least_root_a, greatest_root_a}
+use Rattle.grid_model.specs.Rounding.{Near}
+use Rattle.grid_model.specs.Sizes.{IsWithin}
+use Rattle.gnss_model.specs.declared.elements.Elements.{Elements}
+use Rattle.grid_model.specs.declared.spans.Wide.{Wide}
+use Rattle.grid_model.proofs.ProductLemmas.{product_within}
 use Rattle.made_input.specs.MadeRecords.{made_broadcast}
 
 -- ---- the fields

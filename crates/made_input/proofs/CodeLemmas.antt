@@ -2,7 +2,7 @@
 use Rattle.std.proofs.Common.{◌≡◌, ℕ, ◌+◌, ◌*◌, ◌≤◌, subst, arith}
 use Rattle.std.specs.Prelude.{ℤ, pos, ◌+ℤ◌, ◌-ℤ◌, ◌*ℤ◌, ◌≤ℤ◌}
 use Rattle.std.proofs.lemmas.Int.{ints}
-use Rattle.sat_model.specs.declared.elements.Elements.{Elements}
+use Rattle.gnss_model.specs.declared.elements.Elements.{Elements}
 use Rattle.code_search.specs.Residuals.{Residual, ResidualsAtMost, ResidualsAtLeast, um_of}
 use Rattle.code_search.specs.SearchSizes.{last_code, one_width, pair_width}
 use Rattle.code_search.proofs.ResidualExists.{residual_exists}

@@ -20,17 +20,18 @@ use Rattle.rinex_nav.specs.Weeks.{IsNearestWeek, IsAge}
 use Rattle.rinex_nav.specs.declared.record.NavRecord.{NavRecord}
 use Rattle.rinex_obs.specs.declared.obs.SatObs.{SatObs}
 use Rattle.rinex_text.specs.Dates.{gps_time}
-use Rattle.sat_model.specs.Boxes.{GridBox}
-use Rattle.sat_model.specs.Intervals.{Between}
-use Rattle.sat_model.specs.Pseudorange.{Codes}
-use Rattle.sat_model.specs.Rounding.{IsFloor}
-use Rattle.sat_model.specs.Sizes.{IsWithin}
-use Rattle.sat_model.specs.declared.boxes.Pos.{Pos}
-use Rattle.sat_model.specs.declared.satellites.Sat.{Sat}
-use Rattle.sat_model.specs.declared.satellites.Signal.TheVariants.{Single}
+use Rattle.grid_model.specs.Boxes.{GridBox}
+use Rattle.grid_model.specs.Intervals.{Between}
+use Rattle.gnss_model.specs.Pseudorange.{Codes}
+use Rattle.grid_model.specs.Rounding.{IsFloor}
+use Rattle.grid_model.specs.Sizes.{IsWithin}
+use Rattle.grid_model.specs.declared.boxes.Pos.{Pos}
+use Rattle.gnss_model.specs.declared.satellites.Sat.{Sat}
+use Rattle.gnss_model.specs.declared.satellites.Signal.TheVariants.{Single}
+use Rattle.gnss_model.specs.declared.systems.System.TheVariants.{Gps}
 use Rattle.sat_model.specs.Relaxed.{ends}
-use Rattle.sat_model.specs.declared.spans.Span.{Span}
-use Rattle.sat_model.specs.declared.spans.Wide.{Wide}
+use Rattle.grid_model.specs.declared.spans.Span.{Span}
+use Rattle.grid_model.specs.declared.spans.Wide.{Wide}
 use Rattle.sat_rows.specs.Chains.{Chain, IsChainAt}
 use Rattle.sat_rows.specs.Fitting.{Agrees, Fits}
 use Rattle.sat_rows.specs.Meanings.{Meaning}
@@ -124,7 +125,7 @@ rounded code = record { floor = record { le = omega (arith, ints); gt = omega (a
 -- ---- usable
 
 sighting_of : List NavRecord → ℕ → SatCode → Sighting
-sighting_of records j s = record { records = records; signal = Single code_c1c; max_age = 7200; tag = tag_of j; seen = sat_of s }
+sighting_of records j s = record { records = records; system = Gps; signal = Single code_c1c; max_age = 7200; tag = tag_of j; seen = sat_of s }
 
 age_of : ℕ → ℤ
 age_of j = pos (unsigned_abs (tag_of j -ℤ pos 1388628000000000000000))
@@ -275,7 +276,7 @@ error_within goal v corrected range g b is = record { from = omega (arith, ints,
 -- ---- an epoch fits
 
 sight : List NavRecord → SettingsValue → ℤ → SatObs → Sighting
-sight records v tag seen = record { records = records; signal = v.signal; max_age = v.max_age; tag = tag; seen = seen }
+sight records v tag seen = record { records = records; system = Gps; signal = v.signal; max_age = v.max_age; tag = tag; seen = seen }
 
 abbrev meaning_by : List NavRecord → SettingsValue → Option Span → Meaning
 meaning_by records v zenith = record {

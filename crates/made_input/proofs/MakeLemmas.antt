@@ -5,7 +5,7 @@ use Rattle.std.specs.Int.{w64}
 use Rattle.std.proofs.lemmas.Int.{ints}
 use Rattle.toml.specs.Text.{IsDocumentText}
 use Rattle.error_bounds.specs.Texts.{IsSettings}
-use Rattle.sat_model.specs.declared.boxes.Pos.{Pos}
+use Rattle.grid_model.specs.declared.boxes.Pos.{Pos}
 use Rattle.made_texts.specs.SettingsText.{settings_table, settings_of}
 use Rattle.made_input.specs.MadeCodes.{place_of, place_x, place_y, place_z}
 

@@ -12,13 +12,13 @@ use Rattle.rinex_nav.specs.FieldBounds.{field_of}
 use Rattle.rinex_nav.specs.Reading.{plain_record}
 use Rattle.rinex_nav.specs.Records.{Broadcast}
 use Rattle.rinex_nav.specs.declared.record.NavRecord.{NavRecord}
-use Rattle.sat_model.specs.Intervals.{Between, Close}
-use Rattle.sat_model.specs.OrbitChain.{OrbitChain}
-use Rattle.sat_model.specs.RecordBounds.{IsValue}
-use Rattle.sat_model.specs.Turn.{Turn}
-use Rattle.sat_model.specs.declared.boxes.Pos.{Pos}
-use Rattle.sat_model.specs.declared.elements.Elements.{Elements}
-use Rattle.sat_model.specs.declared.spans.Wide.{Wide}
+use Rattle.grid_model.specs.Intervals.{Between, Close}
+use Rattle.gnss_model.specs.OrbitChain.{OrbitChain}
+use Rattle.gnss_model.specs.RecordBounds.{IsValue}
+use Rattle.gnss_model.specs.Turn.{Turn}
+use Rattle.grid_model.specs.declared.boxes.Pos.{Pos}
+use Rattle.gnss_model.specs.declared.elements.Elements.{Elements}
+use Rattle.grid_model.specs.declared.spans.Wide.{Wide}
 use Rattle.broadcast_orbit.proofs.TurnKeeps.{IsTurnBound, turn_keeps}
 use Rattle.made_input.specs.MadeRecords.{made_broadcast}
 

@@ -3,13 +3,13 @@ use Rattle.std.proofs.Common.{◌≡◌, ℕ, ◌+◌, ◌*◌, ◌%◌, ◌^◌
 use Rattle.std.specs.Prelude.{ℤ, pos, neg_ℤ, ◌+ℤ◌, ◌-ℤ◌, ◌*ℤ◌, ◌≤ℤ◌, ◌==◌}
 use Rattle.std.proofs.lemmas.Bool.{cases_Bool}
 use Rattle.std.proofs.lemmas.Int.{ints}
-use Rattle.sat_model.specs.Fitting.{range_to}
-use Rattle.sat_model.specs.Intervals.{Between}
-use Rattle.sat_model.specs.Pseudorange.{IsSent, IsCorrected}
-use Rattle.sat_model.specs.Sizes.{IsWithin}
-use Rattle.sat_model.specs.declared.boxes.Pos.{Pos}
-use Rattle.sat_model.specs.declared.elements.Elements.{Elements}
-use Rattle.sat_model.proofs.RootLemmas.{square-mono}
+use Rattle.grid_model.specs.Ranges.{range_to}
+use Rattle.grid_model.specs.Intervals.{Between}
+use Rattle.gnss_model.specs.Pseudorange.{IsSent, IsCorrected}
+use Rattle.grid_model.specs.Sizes.{IsWithin}
+use Rattle.grid_model.specs.declared.boxes.Pos.{Pos}
+use Rattle.gnss_model.specs.declared.elements.Elements.{Elements}
+use Rattle.grid_model.proofs.RootLemmas.{square-mono}
 use Rattle.code_search.specs.Residuals.{Residual}
 use Rattle.code_search.specs.SearchSizes.{IsNearPoint}
 use Rattle.code_search.proofs.SquareLemmas.{side_most, side_least, range_most, range_least}

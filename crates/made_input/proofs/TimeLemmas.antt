@@ -12,8 +12,8 @@ use Rattle.rinex_nav.specs.Weeks.{IsNearestWeek}
 use Rattle.rinex_nav.specs.declared.record.NavRecord.{NavRecord}
 use Rattle.jiff_core.specs.Calendar.{days_of_years, days_of_months, day_count, days_from_civil}
 use Rattle.rinex_text.specs.Dates.{gps_time}
-use Rattle.sat_model.specs.Amounts.{above}
-use Rattle.sat_model.specs.declared.elements.Elements.{Elements}
+use Rattle.grid_model.specs.Amounts.{above}
+use Rattle.gnss_model.specs.declared.elements.Elements.{Elements}
 use Rattle.code_search.specs.SearchSizes.{IsNearEpoch}
 use Rattle.made_input.specs.MadeCodes.{tag_of}
 use Rattle.made_input.specs.MadeRecords.{made_broadcast}

@@ -5,9 +5,9 @@ use Rattle.rinex_nav.specs.Reading.{plain_record}
 use Rattle.rinex_nav.specs.Records.{Broadcast}
 use Rattle.rinex_nav.specs.declared.record.NavRecord.{NavRecord}
 use Rattle.rinex_text.specs.Dates.{gps_time}
-use Rattle.sat_model.specs.Intervals.{Between}
-use Rattle.sat_model.specs.declared.boxes.Pos.{Pos}
-use Rattle.sat_model.specs.declared.elements.Elements.{Elements}
+use Rattle.grid_model.specs.Intervals.{Between}
+use Rattle.grid_model.specs.declared.boxes.Pos.{Pos}
+use Rattle.gnss_model.specs.declared.elements.Elements.{Elements}
 use Rattle.made_texts.specs.declared.sat_codes.SatCode.{SatCode}
 use Rattle.made_texts.specs.declared.sat_codes.EpochCodes.{EpochCodes}
 use Rattle.code_search.specs.Residuals.{Residual}

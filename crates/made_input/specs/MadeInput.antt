@@ -5,7 +5,7 @@ use Rattle.toml.specs.Text.{IsDocumentText}
 use Rattle.rinex_nav.specs.Files.{IsNavFile}
 use Rattle.rinex_obs.specs.Files.{IsObsFile}
 use Rattle.error_bounds.specs.Texts.{IsSettings}
-use Rattle.sat_model.specs.declared.satellites.Signal.TheVariants.{Single}
+use Rattle.gnss_model.specs.declared.satellites.Signal.TheVariants.{Single}
 use Rattle.made_texts.specs.TextLines.{text_of}
 use Rattle.made_texts.specs.NavText.{nav_lines, broadcast_of}
 use Rattle.made_texts.specs.ObsText.{obs_lines, observed_from, code_c1c}

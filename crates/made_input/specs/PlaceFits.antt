@@ -4,8 +4,8 @@ use Rattle.std.specs.List.{AllByRecursion}
 use Rattle.error_bounds.specs.declared.settings.Settings.{Settings}
 use Rattle.rinex_nav.specs.declared.record.NavRecord.{NavRecord}
 use Rattle.rinex_obs.specs.Epochs.{Observed}
-use Rattle.sat_model.specs.Boxes.{GridBox}
-use Rattle.sat_model.specs.declared.boxes.Pos.{Pos}
+use Rattle.grid_model.specs.Boxes.{GridBox}
+use Rattle.grid_model.specs.declared.boxes.Pos.{Pos}
 use Rattle.sat_rows.specs.Fitting.{Fits}
 use Rattle.sat_rows.specs.Sources.{gps_meaning}
 use Rattle.made_texts.specs.ObsText.{observed_from}

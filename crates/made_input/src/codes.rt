@@ -8,8 +8,9 @@ ghost use Rattle.made_input.specs.MadeRecords.{made_broadcast, mean_draw};
 use crate::generator::Generator;
 use crate::receiver::Receiver;
 use code_search::code_for;
+use gnss_model::Elements;
+use grid_model::NoMemory;
 use made_texts::SatCode;
-use sat_model::{Elements, NoMemory};
 use std::alloc::Global;
 
 /// 2024-01-07 01:00:00 GPS time, in ps since 1980-01-06 00:00:00.

@@ -6,8 +6,8 @@ ghost use Rattle.made_input.specs.MadeCodes.{AreMadeEpochs, IsMadeEpoch};
 use crate::codes::epoch_codes;
 use crate::generator::Generator;
 use crate::receiver::Receiver;
+use grid_model::NoMemory;
 use made_texts::EpochCodes;
-use sat_model::NoMemory;
 use std::alloc::Global;
 
 /// Epoch `j`, which is 30 j s behind 01:00:00.

@@ -9,8 +9,8 @@ use crate::generator::Generator;
 use crate::made::Made;
 use crate::receiver::Receiver;
 use crate::record_list::{made_records, read_back};
+use grid_model::{NoMemory, Pos};
 use made_texts::{obs_text, settings_text};
-use sat_model::{NoMemory, Pos};
 use std::alloc::Global;
 
 /// A place, in m.

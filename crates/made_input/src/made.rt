@@ -1,6 +1,6 @@
 //! What is made.
 
-use sat_model::Pos;
+use grid_model::Pos;
 
 /// An observation file, a navigation file and settings, as texts, and the place of their receiver,
 /// in um.

@@ -5,8 +5,8 @@ ghost use Rattle.made_input.specs.MadeCodes.{place_of};
 ghost use Rattle.made_input.specs.MadeRecords.{made_records};
 ghost use Rattle.rinex_nav.specs.Reading.{records_of};
 
+use grid_model::Pos;
 use rinex_nav::Nav;
-use sat_model::Pos;
 
 /// The receiver of a seed: its place, and the records that its navigation file reads as.
 #[derive(Drop)]

@@ -8,10 +8,10 @@ ghost use Rattle.rinex_nav.specs.Reading.{records_of};
 
 use crate::generator::Generator;
 use crate::records::made_record;
+use grid_model::NoMemory;
 use made_texts::{Ephemeris, nav_text};
 use rinex_nav::{Nav, read_nav};
 use rinex_text::ReadError;
-use sat_model::NoMemory;
 use std::alloc::Global;
 
 /// The records of the eight satellites, by a draw each behind those of the place.

@@ -3,8 +3,9 @@
 
 use crate::generator::Generator;
 use crate::make;
+use gnss_model::Signal;
+use grid_model::Pos;
 use rinex_obs::read_obs;
-use sat_model::{Pos, Signal};
 use std::test::Fail;
 
 const NAV_BEGINS: &str =

@@ -1,16 +1,18 @@
 //! Rows beside rows of another program.
 
 ghost use Rattle.std.specs.Prelude.{IfSome};
-ghost use Rattle.sat_model.specs.Boxes.{grid_box};
-ghost use Rattle.sat_model.specs.SearchBoxes.{IsSearchBox};
+ghost use Rattle.grid_model.specs.Boxes.{grid_box};
+ghost use Rattle.grid_model.specs.SearchBoxes.{IsSearchBox};
 
 use crate::inputs::Inputs;
 use arrayvec::ArrayString;
 use error_bounds::{Centre, Settings};
+use gnss_model::spare;
+use grid_model::{Box3, NoMemory, Span};
 use itoa::Buffer;
 use paving_log::LogEpoch;
 use rinex_obs::{Obs, ObsEpoch};
-use sat_model::{Box3, NoMemory, Row, SatEntry, Span, spare};
+use sat_model::{Row, SatEntry};
 use sat_rows::{EpochRows, SatLine, rows};
 use std::alloc::Global;
 

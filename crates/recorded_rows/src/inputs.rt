@@ -3,11 +3,11 @@
 ghost use Rattle.std.specs.Prelude.{◌≤◌, length, IfOk};
 
 use error_bounds::{Centre, Settings, read_settings};
+use grid_model::Pos;
 use outer_io::{Shelf, Slot, read_all};
 use paving_log::{Log, read_rows};
 use rinex_nav::{Nav, read_nav};
 use rinex_obs::{Obs, read_obs};
-use sat_model::Pos;
 use std::alloc::Global;
 
 /// A file may have so many bytes.

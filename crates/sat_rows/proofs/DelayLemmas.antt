@@ -9,21 +9,21 @@ use Rattle.broadcast_orbit.proofs.ChainExists.{orbit_exists}
 use Rattle.elevation_mapping.specs.Places.{IsFarFromPlace}
 use Rattle.fix_interval.specs.Places.{HoldsPlace, PlaceEnds}
 use Rattle.fix_interval.specs.declared.place.Place.{Place}
-use Rattle.sat_model.specs.Boxes.{GridBox, grid_box, side_holds, box_holds}
-use Rattle.sat_model.specs.Intervals.{Between, Ends}
-use Rattle.sat_model.specs.Lengths.{longest_length, spare_of}
-use Rattle.sat_model.specs.OrbitChain.{OrbitChain}
-use Rattle.sat_model.specs.SearchBoxes.{IsSearchBox}
-use Rattle.sat_model.specs.Sizes.{IsWithin}
-use Rattle.sat_model.specs.Turn.{Turn}
-use Rattle.sat_model.specs.Zenith.{span_amount, spare_over}
-use Rattle.sat_model.specs.declared.boxes.Box3.{Box3}
-use Rattle.sat_model.specs.declared.boxes.Pos.{Pos}
-use Rattle.sat_model.specs.declared.elements.Elements.{Elements}
-use Rattle.sat_model.specs.declared.spans.Span.{Span}
-use Rattle.sat_model.proofs.FittingLemmas.{le_to}
-use Rattle.sat_model.proofs.IntervalLemmas.{members_within}
-use Rattle.sat_model.proofs.ProductLemmas.{larger}
+use Rattle.grid_model.specs.Boxes.{GridBox, grid_box, side_holds, box_holds}
+use Rattle.grid_model.specs.Intervals.{Between, Ends}
+use Rattle.grid_model.specs.Lengths.{longest_length, spare_of}
+use Rattle.gnss_model.specs.OrbitChain.{OrbitChain}
+use Rattle.grid_model.specs.SearchBoxes.{IsSearchBox}
+use Rattle.grid_model.specs.Sizes.{IsWithin}
+use Rattle.gnss_model.specs.Turn.{Turn}
+use Rattle.gnss_model.specs.Zenith.{span_amount, spare_over}
+use Rattle.grid_model.specs.declared.boxes.Box3.{Box3}
+use Rattle.grid_model.specs.declared.boxes.Pos.{Pos}
+use Rattle.gnss_model.specs.declared.elements.Elements.{Elements}
+use Rattle.grid_model.specs.declared.spans.Span.{Span}
+use Rattle.grid_model.proofs.PointLemmas.{le_to}
+use Rattle.grid_model.proofs.IntervalLemmas.{members_within}
+use Rattle.grid_model.proofs.ProductLemmas.{larger}
 
 -- ---- an end d with delays from l to h
 

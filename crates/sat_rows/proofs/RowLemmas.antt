@@ -18,20 +18,21 @@ use Rattle.exact_decimal.specs.declared.unit.Unit.{Unit}
 use Rattle.exact_decimal.specs.declared.unit.Unit.TheVariants.{Length, Time}
 use Rattle.exact_decimal.proofs.Limits.{some_parts}
 use Rattle.pseudorange_prep.specs.Ranges.{IsNarrow}
-use Rattle.sat_model.proofs.ProductLemmas.{add_mul, mul_lt_back}
-use Rattle.sat_model.specs.declared.spans.Wide.{Wide}
+use Rattle.grid_model.proofs.ProductLemmas.{add_mul, mul_lt_back}
+use Rattle.grid_model.specs.declared.spans.Wide.{Wide}
 use Rattle.rinex_nav.specs.FieldBounds.{field_of}
-use Rattle.sat_model.specs.Boxes.{GridBox}
-use Rattle.sat_model.specs.ChainValues.{Observed}
-use Rattle.sat_model.specs.Pseudorange.{Codes}
+use Rattle.grid_model.specs.Boxes.{GridBox}
+use Rattle.gnss_model.specs.ChainValues.{Observed}
+use Rattle.gnss_model.specs.Pseudorange.{Codes}
 use Rattle.sat_model.specs.Relaxed.{ends}
-use Rattle.sat_model.specs.Sizes.{IsWithin}
-use Rattle.sat_model.specs.declared.elements.Elements.{Elements}
-use Rattle.sat_model.specs.declared.satellites.Row.{Row}
-use Rattle.sat_model.specs.declared.satellites.Sat.{Sat}
-use Rattle.sat_model.specs.declared.satellites.Signal.{Signal}
-use Rattle.sat_model.specs.declared.satellites.Signal.TheVariants.{Single, Dual}
-use Rattle.sat_model.specs.declared.spans.Span.{Span}
+use Rattle.grid_model.specs.Sizes.{IsWithin}
+use Rattle.gnss_model.specs.declared.elements.Elements.{Elements}
+use Rattle.sat_model.specs.declared.rows.Row.{Row}
+use Rattle.gnss_model.specs.declared.satellites.Sat.{Sat}
+use Rattle.gnss_model.specs.declared.satellites.Signal.{Signal}
+use Rattle.gnss_model.specs.declared.satellites.Signal.TheVariants.{Single, Dual}
+use Rattle.grid_model.specs.declared.spans.Span.{Span}
+use Rattle.gnss_model.specs.declared.systems.System.{System}
 use Rattle.usable_sats.proofs.JudgementLemmas.{codes_one, elements_one}
 use Rattle.usable_sats.specs.Judgements.{IsKnownBy}
 use Rattle.sat_rows.specs.Chains.{observed, AreValues, IsChainAt}
@@ -87,8 +88,8 @@ near_elements r el tag age max a fresh short f =
 -- ---- what a usable satellite is known by
 
 module _ (a : Sighting) (codes : Codes) (el : Elements) (known : IsKnownBy a codes el) where
-  pub known_plausible : ArePlausible codes
-  known_plausible = subst ArePlausible known.codes_are known.usable.measured.plausible
+  pub known_plausible : ArePlausible a.system codes
+  known_plausible = subst (ArePlausible a.system) known.codes_are known.usable.measured.plausible
 
   pub known_narrow : AreNarrow codes
   known_narrow = subst AreNarrow known.codes_are (narrow_codes a.signal a.seen known.usable.measured.codes known.usable.measured.values)
@@ -99,13 +100,13 @@ module _ (a : Sighting) (codes : Codes) (el : Elements) (known : IsKnownBy a cod
       let near = near_elements known.usable.r known.usable.el a.tag known.usable.age a.max_age fresh.age_is fresh.fresh short known.usable.elements in
       subst (λ (e : Elements). IsNearEpoch e a.tag) known.el_is near
 
-  known_observed : (u : IsUsable a) → observed a u ≡ record { tag = a.tag; codes = codes; el = el }
+  known_observed : (u : IsUsable a) → observed a u ≡ record { system = a.system; tag = a.tag; codes = codes; el = el }
   known_observed u =
       let c = codes_one a u known.usable ∙ known.codes_are in
       let e = elements_one a u known.usable ∙ known.el_is in
-      λ i. record { tag = a.tag; codes = c i; el = e i }
+      λ i. record { system = a.system; tag = a.tag; codes = c i; el = e i }
 
-  pub known_holds : (zenith : Option Span) (declared : ℤ × ℤ) (root : GridBox) (row : Row) → HoldsAllowed (AreValues zenith declared (record { tag = a.tag; codes = codes; el = el })) root row
+  pub known_holds : (zenith : Option Span) (declared : ℤ × ℤ) (root : GridBox) (row : Row) → HoldsAllowed (AreValues zenith declared (record { system = a.system; tag = a.tag; codes = codes; el = el })) root row
       → HoldsAllowed (IsChainAt a zenith declared) root row
   known_holds zenith declared root row holds p c inside chain = holds p c inside (subst (λ (seen : Observed). AreValues zenith declared seen p c) (known_observed chain.usable) chain.are)
 

@@ -11,17 +11,20 @@ use Rattle.fix_interval.specs.declared.exact.Exact.{Exact}
 use Rattle.fix_interval.specs.Factors.{Holds, HasEnds}
 use Rattle.fix_interval.proofs.NearLemmas.{near_exists}
 use Rattle.pseudorange_prep.specs.Ranges.{IsNarrow}
-use Rattle.sat_model.specs.Boxes.{Side}
-use Rattle.sat_model.specs.Intervals.{Between, Ends}
-use Rattle.sat_model.specs.Pseudorange.{IsRangeWith, IsIonosphereFree}
+use Rattle.grid_model.specs.Boxes.{Side, span_side}
+use Rattle.grid_model.specs.Intervals.{Between, Ends}
+use Rattle.gnss_model.specs.Pseudorange.{IsRangeWith, IsFreeOf}
 use Rattle.sat_model.specs.Relaxed.{ends}
-use Rattle.sat_model.specs.Sizes.{IsWithin, IsPlaceSize, IsErrorSize}
-use Rattle.sat_model.specs.Trees.{span_side}
-use Rattle.sat_model.specs.declared.satellites.Row.{Row}
-use Rattle.sat_model.specs.declared.spans.Span.{Span}
-use Rattle.sat_model.specs.declared.spans.Wide.{Wide}
-use Rattle.sat_model.proofs.IntervalLemmas.{low_member, high_member}
-use Rattle.sat_model.proofs.ProductLemmas.{larger}
+use Rattle.grid_model.specs.Sizes.{IsWithin, IsPlaceSize, IsErrorSize}
+use Rattle.gnss_model.specs.Systems.{first_square, second_square, squares_apart}
+use Rattle.sat_model.specs.declared.rows.Row.{Row}
+use Rattle.grid_model.specs.declared.spans.Span.{Span}
+use Rattle.grid_model.specs.declared.spans.Wide.{Wide}
+use Rattle.gnss_model.specs.declared.systems.System.{System}
+use Rattle.gnss_model.specs.declared.systems.System.TheVariants.{Gps, Galileo}
+use Rattle.pseudorange_prep.proofs.WidthLemmas.{apart_positive}
+use Rattle.grid_model.proofs.IntervalLemmas.{low_member, high_member}
+use Rattle.grid_model.proofs.ProductLemmas.{larger}
 use Rattle.sat_rows.specs.Growth.{GrowsWithin}
 use Rattle.sat_rows.specs.OwnRows.{IsSmall}
 use Rattle.sat_rows.specs.RowSizes.{pseudorange_amount}
@@ -30,9 +33,10 @@ use Rattle.usable_sats.specs.Usability.{IsPlausible}
 -- ---- pseudoranges
 
 -- a combination of plausible codes
-free_within : (a b c d v : ℤ) → a ≤ℤ b → c ≤ℤ d → IsPlausible ((pos 5929 *ℤ a) -ℤ (pos 3600 *ℤ d)) ((pos 5929 *ℤ b) -ℤ (pos 3600 *ℤ c)) 2329
-    → IsIonosphereFree a d v → Between (pos 0) (pos (40 * 10 ^ 12 + 1)) v
-free_within a b c d v o q p n = record { from = omega (arith, ints, p.from, n.above); to = omega (arith, ints, p.to, n.below) }
+free_within : (y : System) (a b c d v : ℤ) → a ≤ℤ b → c ≤ℤ d → IsPlausible ((pos (first_square y) *ℤ a) -ℤ (pos (second_square y) *ℤ d)) ((pos (first_square y) *ℤ b) -ℤ (pos (second_square y) *ℤ c)) (squares_apart y)
+    → IsFreeOf y a d v → Between (pos 0) (pos (40 * 10 ^ 12 + 1)) v
+free_within Gps a b c d v o q p n = record { from = omega (arith, ints, p.from, n.above); to = omega (arith, ints, p.to, n.below) }
+free_within Galileo a b c d v o q p n = record { from = omega (arith, ints, p.from, n.above); to = omega (arith, ints, p.to, n.below) }
 
 around : (lo hi v : ℤ) → Between lo hi v → IsNarrow 8 lo hi → Between (pos 0) (pos (40 * 10 ^ 12 + 1)) v → Ends pseudorange_amount 8 lo hi
 around lo hi v b n f = record {
@@ -42,12 +46,12 @@ around lo hi v b n f = record {
   width = n.width;
 }
 
-pub dual_ends : (first second : Wide) (lo hi : ℤ) → IsPlausible ((pos 5929 *ℤ first.lo) -ℤ (pos 3600 *ℤ second.hi)) ((pos 5929 *ℤ first.hi) -ℤ (pos 3600 *ℤ second.lo)) 2329
-    → ((x : ℤ) → IsRangeWith first (Some second) x → Between lo hi x) → IsNarrow 8 lo hi → Ends pseudorange_amount 8 lo hi
-dual_ends first second lo hi p h n =
-    let v = near_exists ((pos 5929 *ℤ first.lo) -ℤ (pos 3600 *ℤ second.hi)) (pos 2329) (record { lt = tt }) in
+pub dual_ends : (y : System) (first second : Wide) (lo hi : ℤ) → IsPlausible ((pos (first_square y) *ℤ first.lo) -ℤ (pos (second_square y) *ℤ second.hi)) ((pos (first_square y) *ℤ first.hi) -ℤ (pos (second_square y) *ℤ second.lo)) (squares_apart y)
+    → ((x : ℤ) → IsRangeWith y first (Some second) x → Between lo hi x) → IsNarrow 8 lo hi → Ends pseudorange_amount 8 lo hi
+dual_ends y first second lo hi p h n =
+    let v = near_exists ((pos (first_square y) *ℤ first.lo) -ℤ (pos (second_square y) *ℤ second.hi)) (pos (squares_apart y)) (apart_positive y) in
     around lo hi v.0 (h v.0 (first.lo, second.hi, low_member _ _ first.ordered, high_member _ _ second.ordered, v.1)) n
-    (free_within first.lo first.hi second.lo second.hi v.0 first.ordered second.ordered p v.1)
+    (free_within y first.lo first.hi second.lo second.hi v.0 first.ordered second.ordered p v.1)
 
 -- ---- places
 

@@ -3,16 +3,16 @@ use Rattle.std.proofs.Common.{◌≡◌, ℕ, ◌*◌, ◌^◌, ◌≤◌, arith
 use Rattle.std.specs.Prelude.{ℤ, pos, neg_ℤ, ◌+ℤ◌, ◌-ℤ◌, ◌*ℤ◌, ◌≤ℤ◌}
 use Rattle.std.specs.Int.{int_div_euclid}
 use Rattle.std.proofs.lemmas.Int.{ints, by_lt_z}
-use Rattle.sat_model.specs.Amounts.{square}
-use Rattle.sat_model.specs.Angles.{unit}
-use Rattle.sat_model.specs.Boxes.{GridBox, box_holds}
-use Rattle.sat_model.specs.Fitting.{range_to}
-use Rattle.sat_model.specs.Mapping.{Mapping, IsMapped, IsMappedDelay}
-use Rattle.sat_model.specs.Squares.{sum_of_squares}
-use Rattle.sat_model.specs.declared.boxes.Pos.{Pos}
-use Rattle.sat_model.specs.declared.spans.Span.{Span}
-use Rattle.sat_model.proofs.ProductLemmas.{mul_mono}
-use Rattle.sat_model.proofs.RoundingLemmas.{floor_is, floor_near}
+use Rattle.grid_model.specs.Amounts.{square}
+use Rattle.grid_model.specs.Angles.{unit}
+use Rattle.grid_model.specs.Boxes.{GridBox, box_holds}
+use Rattle.grid_model.specs.Ranges.{range_to}
+use Rattle.gnss_model.specs.Mapping.{Mapping, IsMapped, IsMappedDelay}
+use Rattle.grid_model.specs.Squares.{sum_of_squares}
+use Rattle.grid_model.specs.declared.boxes.Pos.{Pos}
+use Rattle.grid_model.specs.declared.spans.Span.{Span}
+use Rattle.grid_model.proofs.ProductLemmas.{mul_mono}
+use Rattle.grid_model.proofs.RoundingLemmas.{floor_is, floor_near}
 use Rattle.elevation_mapping.proofs.MappingExists.{mapping_exists}
 use Rattle.sat_rows.specs.Chains.{IsBound}
 use Rattle.usable_sats.specs.Usability.{IsHigh}

@@ -2,10 +2,10 @@
 -- pseudorange, one clock chain, one orbit chain at the time of sending, one turn of the earth, and
 -- one mapping of what is declared of the troposphere at the zenith.
 use Rattle.std.specs.Prelude.{ℕ, ◌≡◌, ℤ, ◌+ℤ◌, Option, None, Some}
-use Rattle.sat_model.specs.ChainValues.{Observed, ChainValue}
-use Rattle.sat_model.specs.Mapping.{Mapping, IsMappedDelay}
-use Rattle.sat_model.specs.declared.boxes.Pos.{Pos}
-use Rattle.sat_model.specs.declared.spans.Span.{Span}
+use Rattle.gnss_model.specs.ChainValues.{Observed, ChainValue}
+use Rattle.gnss_model.specs.Mapping.{Mapping, IsMappedDelay}
+use Rattle.grid_model.specs.declared.boxes.Pos.{Pos}
+use Rattle.grid_model.specs.declared.spans.Span.{Span}
 use Rattle.usable_sats.specs.Usability.{Sighting, IsUsable}
 
 -- the turned place, the corrected pseudorange, the range, and the ends between which the error is
@@ -21,7 +21,7 @@ pub record Chain : Type 0 where
 
 -- what a usable satellite is known by
 abbrev pub observed : (a : Sighting) → IsUsable a → Observed
-observed a usable = record { tag = a.tag; codes = usable.measured.codes; el = usable.el }
+observed a usable = record { system = a.system; tag = a.tag; codes = usable.measured.codes; el = usable.el }
 
 -- the equations allow these values of what was observed, as seen from p
 abbrev pub IsChainOf : Observed → Pos → Chain → Type 0

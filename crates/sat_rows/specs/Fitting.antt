@@ -3,10 +3,10 @@
 use Rattle.std.specs.Prelude.{ℕ, zero, suc, ◌⊎◌, ℤ, pos, ◌-ℤ◌, List, [], ◌∷◌, Some}
 use Rattle.rinex_obs.specs.declared.obs.ObsEpoch.{ObsEpoch}
 use Rattle.rinex_obs.specs.declared.obs.SatObs.{SatObs}
-use Rattle.sat_model.specs.Boxes.{GridBox}
-use Rattle.sat_model.specs.Intervals.{Between}
-use Rattle.sat_model.specs.declared.boxes.Pos.{Pos}
-use Rattle.sat_model.specs.declared.satellites.Skip.{Skip}
+use Rattle.grid_model.specs.Boxes.{GridBox}
+use Rattle.grid_model.specs.Intervals.{Between}
+use Rattle.grid_model.specs.declared.boxes.Pos.{Pos}
+use Rattle.gnss_model.specs.declared.satellites.Skip.{Skip}
 use Rattle.sat_rows.specs.Chains.{Chain}
 use Rattle.sat_rows.specs.Meanings.{Meaning}
 

@@ -1,8 +1,8 @@
 -- Rows with room at the ends of their spans.
 use Rattle.std.specs.Prelude.{◌≡◌, ℤ, ◌+ℤ◌, ◌-ℤ◌}
-use Rattle.sat_model.specs.Sizes.{IsPlaceSize, IsErrorSize}
-use Rattle.sat_model.specs.declared.satellites.Row.{Row}
-use Rattle.sat_model.specs.declared.spans.Span.{Span}
+use Rattle.grid_model.specs.Sizes.{IsPlaceSize, IsErrorSize}
+use Rattle.sat_model.specs.declared.rows.Row.{Row}
+use Rattle.grid_model.specs.declared.spans.Span.{Span}
 
 -- the second span's ends are so much farther out
 pub record IsGrown (by : ℤ) (span grown : Span) : Type 0 where

@@ -1,14 +1,14 @@
 -- What a source of rows says of satellites.
 use Rattle.std.specs.Prelude.{◌≡◌, ℤ, true, Option, None}
 use Rattle.rinex_obs.specs.declared.obs.SatObs.{SatObs}
-use Rattle.sat_model.specs.Boxes.{GridBox, box_holds}
-use Rattle.sat_model.specs.Fitting.{range_to}
-use Rattle.sat_model.specs.SearchBoxes.{IsSearchBox}
-use Rattle.sat_model.specs.Zenith.{IsZenith}
-use Rattle.sat_model.specs.declared.boxes.Pos.{Pos}
-use Rattle.sat_model.specs.declared.satellites.Sat.{Sat}
-use Rattle.sat_model.specs.declared.satellites.Skip.{Skip}
-use Rattle.sat_model.specs.declared.spans.Span.{Span}
+use Rattle.grid_model.specs.Boxes.{GridBox, box_holds}
+use Rattle.grid_model.specs.Ranges.{range_to}
+use Rattle.grid_model.specs.SearchBoxes.{IsSearchBox}
+use Rattle.gnss_model.specs.Zenith.{IsZenith}
+use Rattle.grid_model.specs.declared.boxes.Pos.{Pos}
+use Rattle.gnss_model.specs.declared.satellites.Sat.{Sat}
+use Rattle.gnss_model.specs.declared.satellites.Skip.{Skip}
+use Rattle.grid_model.specs.declared.spans.Span.{Span}
 use Rattle.sat_rows.specs.Chains.{Chain}
 
 -- Of a satellite that was observed at a time, in ps: whether it is usable in a search box (None) or

@@ -2,10 +2,10 @@
 use Rattle.std.specs.Prelude.{ℕ, ◌+◌, ◌*◌, ◌^◌, ℤ, pos, neg_ℤ, ◌+ℤ◌, ◌-ℤ◌, ◌≤ℤ◌, Option, None, Some}
 use Rattle.broadcast_orbit.specs.OrbitSizes.{orbit_reach}
 use Rattle.pseudorange_prep.specs.Ranges.{IsNarrow}
-use Rattle.sat_model.specs.Pseudorange.{Codes}
-use Rattle.sat_model.specs.Sizes.{IsWithin}
-use Rattle.sat_model.specs.declared.elements.Elements.{Elements}
-use Rattle.sat_model.specs.declared.spans.Wide.{Wide}
+use Rattle.gnss_model.specs.Pseudorange.{Codes}
+use Rattle.grid_model.specs.Sizes.{IsWithin}
+use Rattle.gnss_model.specs.declared.elements.Elements.{Elements}
+use Rattle.grid_model.specs.declared.spans.Wide.{Wide}
 
 -- each code is known to one um
 abbrev pub AreNarrowWith : Wide → Option Wide → Type 0

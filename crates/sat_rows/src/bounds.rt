@@ -7,21 +7,21 @@ ghost use Rattle.elevation_mapping.specs.Places.{IsFarFromPlace};
 ghost use Rattle.fix_interval.specs.Factors.{HasAmount};
 ghost use Rattle.fix_interval.specs.Places.{HoldsPlace, PlaceEnds};
 ghost use Rattle.earth_rotation.specs.TurnSizes.{near_reach, reach_after};
-ghost use Rattle.sat_model.specs.Boxes.{grid_box, box_holds};
-ghost use Rattle.sat_model.specs.Fitting.{range_to};
-ghost use Rattle.sat_model.specs.Lengths.{spare_of};
+ghost use Rattle.grid_model.specs.Boxes.{grid_box, box_holds};
+ghost use Rattle.grid_model.specs.Ranges.{range_to};
+ghost use Rattle.grid_model.specs.Lengths.{spare_of};
 ghost use Rattle.sat_model.specs.Relaxed.{ends};
-ghost use Rattle.sat_model.specs.SearchBoxes.{IsSearchBox};
-ghost use Rattle.sat_model.specs.Sizes.{IsWithin};
-ghost use Rattle.sat_model.specs.Zenith.{IsZenith, err_spare_of};
-ghost use Rattle.sat_model.specs.declared.boxes.Pos.{Pos};
+ghost use Rattle.grid_model.specs.SearchBoxes.{IsSearchBox};
+ghost use Rattle.grid_model.specs.Sizes.{IsWithin};
+ghost use Rattle.gnss_model.specs.Zenith.{IsZenith, err_spare_of};
+ghost use Rattle.grid_model.specs.declared.boxes.Pos.{Pos};
 ghost use Rattle.sat_rows.specs.Chains.{Chain, IsBound};
 ghost use Rattle.sat_rows.specs.OwnRows.{HoldEnds, IsSmall};
 ghost use Rattle.usable_sats.specs.Usability.{IsHigh};
 
 use elevation_mapping::{mapped, mapped_delay};
 use fix_interval::{Exact, Place};
-use sat_model::{Box3, Span};
+use grid_model::{Box3, Span};
 
 /// From the least to the greatest low end of what is allowed of the error, and the same of the high
 /// end, in um.

@@ -1,22 +1,50 @@
 //! The rows of an epoch.
 
 ghost use Rattle.std.specs.Prelude.{◌≡◌, IfOk};
-ghost use Rattle.sat_model.specs.Boxes.{grid_box};
-ghost use Rattle.sat_model.specs.SearchBoxes.{IsSearchBox};
+ghost use Rattle.grid_model.specs.Boxes.{grid_box};
+ghost use Rattle.grid_model.specs.SearchBoxes.{IsSearchBox};
 ghost use Rattle.sat_rows.specs.OwnRows.{IsOwnLine, IsSmallLine, AreLinesOf, AreSmall, usable_in, usable_line};
-ghost use Rattle.sat_rows.specs.Sources.{gps_meaning};
+ghost use Rattle.sat_rows.specs.Sources.{gps_meaning, meaning_by};
 
 use crate::lines::{EpochRows, SatLine};
 use crate::spans::row_of;
 use error_bounds::Settings;
+use gnss_model::Signal;
+use grid_model::{Box3, NoMemory};
 use rinex_nav::Nav;
 use rinex_obs::{ObsEpoch, SatObs};
-use sat_model::{Box3, NoMemory};
 use std::alloc::Global;
-use usable_sats::{Judgement, judge_satellite};
+use usable_sats::{Judgement, judge_satellite, use_of};
 
 /// One line for each satellite of the epoch, in order: a row that holds whatever the equations
-/// allow of it at the points of the root, or why it isn't usable.
+/// allow of it at the points of the root, or why it isn't usable. The satellites of Galileo are used
+/// where its codes are given.
+pub fn rows_by(
+    alloc: Global,
+    epoch: &ObsEpoch,
+    nav: &Nav,
+    settings: &Settings,
+    root: &Box3,
+    galileo: &Option<Signal>,
+) -> Result<EpochRows, NoMemory>
+    requires root { IsSearchBox (grid_box root.now) }
+    ensures lines { IfOk result (λ rows.
+        AreLinesOf (meaning_by galileo.now nav.now settings.now) (grid_box root.now) epoch.now
+        rows.lines.items) }
+    ensures small { IfOk result (λ rows. AreSmall rows.lines.items) }
+    ensures usable { IfOk result (λ rows. rows.usable ≡ usable_in rows.lines.items) }
+{
+    let mut lines = Vec::new(alloc);
+    let mut usable = 0;
+    for seen in &epoch.sats {
+        let line = line_of(seen, epoch, nav, settings, root, galileo);
+        usable += count(&line);
+        lines.push(line)?;
+    }
+    Ok(EpochRows { lines, usable })
+}
+
+/// The same with the satellites of GPS alone.
 pub fn rows(
     alloc: Global,
     epoch: &ObsEpoch,
@@ -31,29 +59,30 @@ pub fn rows(
     ensures small { IfOk result (λ rows. AreSmall rows.lines.items) }
     ensures usable { IfOk result (λ rows. rows.usable ≡ usable_in rows.lines.items) }
 {
-    let mut lines = Vec::new(alloc);
-    let mut usable = 0;
-    for seen in &epoch.sats {
-        let line = line_of(seen, epoch, nav, settings, root);
-        usable += count(&line);
-        lines.push(line)?;
-    }
-    Ok(EpochRows { lines, usable })
+    rows_by(alloc, epoch, nav, settings, root, &None)
 }
 
 /// The line of a satellite of the epoch.
-fn line_of(seen: &SatObs, epoch: &ObsEpoch, nav: &Nav, settings: &Settings, root: &Box3) -> SatLine
+fn line_of(
+    seen: &SatObs,
+    epoch: &ObsEpoch,
+    nav: &Nav,
+    settings: &Settings,
+    root: &Box3,
+    galileo: &Option<Signal>,
+) -> SatLine
     requires root { IsSearchBox (grid_box root.now) }
-    ensures own { IsOwnLine (gps_meaning nav.now settings.now)
+    ensures own { IsOwnLine (meaning_by galileo.now nav.now settings.now)
         (grid_box root.now) epoch.now.tag seen.now result }
     ensures small { IsSmallLine result }
 {
-    match judge_satellite(seen, epoch, nav, settings, root) {
+    match judge_satellite(seen, epoch, nav, settings, galileo, root) {
         Judgement::Usable { codes, elements } => {
             let declared = settings.bound_of(seen.sat);
             let zenith = settings.zenith;
+            let (system, _) = use_of(seen.sat, settings, galileo);
             let row = row_of(
-                seen.sat, epoch.tag, &codes, &elements, declared, zenith, root,
+                system, seen.sat, epoch.tag, &codes, &elements, declared, zenith, root,
             );
             SatLine::Usable(row)
         }

@@ -4,9 +4,9 @@ use crate::epochs::rows;
 use crate::lines::EpochRows;
 use crate::source::RowSource;
 use error_bounds::Settings;
+use grid_model::{Box3, NoMemory, Span};
 use rinex_nav::Nav;
 use rinex_obs::ObsEpoch;
-use sat_model::{Box3, NoMemory, Span};
 use std::alloc::Global;
 
 /// The rows that a navigation file and settings give.

@@ -1,10 +1,11 @@
 //! Rows with room at their ends.
 
 ghost use Rattle.std.specs.Prelude.{◌≡◌, pos, ◌+ℤ◌, ◌-ℤ◌, ◌≤ℤ◌};
-ghost use Rattle.sat_model.specs.Sizes.{IsPlaceSize};
+ghost use Rattle.grid_model.specs.Sizes.{IsPlaceSize};
 ghost use Rattle.sat_rows.specs.Growth.{GrowsWithin, IsGrown, BoundsGrowWithin, AreBoundsGrown};
 
-use sat_model::{Row, Span};
+use grid_model::Span;
+use sat_model::Row;
 
 /// A span, wider by so much at both ends.
 fn wider(span: Span, by: i64) -> Span

@@ -15,7 +15,7 @@ mod span_tests;
 mod spans;
 
 pub use elevation_mapping::mapped;
-pub use epochs::rows;
+pub use epochs::{rows, rows_by};
 pub use gps::GpsRows;
 pub use growth::grown;
 pub use lines::{EpochRows, SatLine};

@@ -1,6 +1,7 @@
 //! What becomes of the satellites of an epoch.
 
-use sat_model::{Row, Sat, Skip};
+use gnss_model::{Sat, Skip};
+use sat_model::Row;
 
 /// A satellite's row, or why it isn't used.
 #[derive(Clone, Copy, Debug, PartialEq, Eq)]

@@ -1,15 +1,15 @@
 //! Where the rows of an epoch come from.
 
 ghost use Rattle.std.specs.Prelude.{◌≡◌, IfOk};
-ghost use Rattle.sat_model.specs.Boxes.{grid_box};
-ghost use Rattle.sat_model.specs.SearchBoxes.{IsSearchBox};
-ghost use Rattle.sat_model.specs.Zenith.{IsZenith};
+ghost use Rattle.grid_model.specs.Boxes.{grid_box};
+ghost use Rattle.grid_model.specs.SearchBoxes.{IsSearchBox};
+ghost use Rattle.gnss_model.specs.Zenith.{IsZenith};
 ghost use Rattle.sat_rows.specs.Meanings.{Meaning, IsSound};
 ghost use Rattle.sat_rows.specs.OwnRows.{AreLinesOf, AreSmall, usable_in};
 
 use crate::lines::EpochRows;
+use grid_model::{Box3, NoMemory, Span};
 use rinex_obs::ObsEpoch;
-use sat_model::{Box3, NoMemory, Span};
 use std::alloc::Global;
 
 /// Says of the satellites of an epoch which are usable and what is allowed of them, and gives rows

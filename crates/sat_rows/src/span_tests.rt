@@ -1,7 +1,8 @@
 ghost use Rattle.std.specs.Prelude.{◌≡◌, ◌^◌, pos, ◌+ℤ◌};
-ghost use Rattle.sat_model.specs.Boxes.{grid_box};
-ghost use Rattle.sat_model.specs.SearchBoxes.{IsSearchBox};
-ghost use Rattle.sat_model.specs.Sizes.{IsWithin};
+ghost use Rattle.grid_model.specs.Boxes.{grid_box};
+ghost use Rattle.grid_model.specs.SearchBoxes.{IsSearchBox};
+ghost use Rattle.grid_model.specs.Sizes.{IsWithin};
+ghost use Rattle.gnss_model.specs.declared.systems.System.TheVariants.{Gps};
 ghost use Rattle.usable_sats.specs.Measured.{codes_of};
 ghost use Rattle.sat_rows.specs.OwnRows.{IsSmallRow};
 ghost use Rattle.sat_rows.specs.RowSizes.{AreNarrow};
@@ -11,7 +12,9 @@ use crate::spans::row_of;
 use crate::{grown, mapped};
 use elevation_mapping::is_far_from_origin;
 use fix_interval::{Exact, Place};
-use sat_model::{Box3, Elements, Pos, Row, Sat, Span, Wide};
+use gnss_model::{Elements, Sat, System};
+use grid_model::{Box3, Pos, Span, Wide};
+use sat_model::Row;
 use std::process::Abort;
 use usable_sats::Measured;
 
@@ -97,11 +100,20 @@ const TAG: i128 = WEEK_START + 70_000_000_000;
 
 /// What was received over the cube.
 fn seen_by(codes: &Measured) -> Row
-    requires plausible { ArePlausible (codes_of codes.now) }
+    requires plausible { ArePlausible Gps (codes_of codes.now) }
     requires narrow { AreNarrow (codes_of codes.now) }
     ensures { IsSmallRow result }
 {
-    row_of(SAT, TAG, codes, &circle(), ERROR, None, &around())
+    row_of(
+        System::Gps,
+        SAT,
+        TAG,
+        codes,
+        &circle(),
+        ERROR,
+        None,
+        &around(),
+    )
 }
 
 fn holds(span: Span, n: i64) -> bool {
@@ -144,7 +156,16 @@ fn seen_through(rt: &impl Abort, zenith: Span) -> Row
     assert!(rt; is_far_from_origin(&root), "high enough");
     let codes = Measured::Single(exact(RANGE));
     let none = Span { lo: 0, hi: 0 };
-    row_of(SAT, TAG, &codes, &circle(), none, Some(zenith), &root)
+    row_of(
+        System::Gps,
+        SAT,
+        TAG,
+        &codes,
+        &circle(),
+        none,
+        Some(zenith),
+        &root,
+    )
 }
 
 #[test]

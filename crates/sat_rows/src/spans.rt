@@ -2,12 +2,12 @@
 //! error over a search box.
 
 ghost use Rattle.std.specs.Prelude.{◌≡◌, None, ◌*◌, ◌^◌, pos, ◌≤ℤ◌, ◌<ℤ◌};
-ghost use Rattle.sat_model.specs.Boxes.{grid_box};
-ghost use Rattle.sat_model.specs.RecordBounds.{time_bound};
+ghost use Rattle.grid_model.specs.Boxes.{grid_box};
+ghost use Rattle.gnss_model.specs.RecordBounds.{time_bound};
 ghost use Rattle.sat_model.specs.Relaxed.{ends};
-ghost use Rattle.sat_model.specs.SearchBoxes.{IsSearchBox};
-ghost use Rattle.sat_model.specs.Sizes.{IsPlaceSize};
-ghost use Rattle.sat_model.specs.Zenith.{IsZenith};
+ghost use Rattle.grid_model.specs.SearchBoxes.{IsSearchBox};
+ghost use Rattle.grid_model.specs.Sizes.{IsPlaceSize};
+ghost use Rattle.gnss_model.specs.Zenith.{IsZenith};
 ghost use Rattle.sat_rows.specs.Chains.{AreValues};
 ghost use Rattle.usable_sats.specs.Measured.{codes_of};
 ghost use Rattle.sat_rows.specs.OwnRows.{HoldsAllowed, HasBounds, AreBoundsTight, IsTight, IsSmall, IsSmallRow};
@@ -18,7 +18,9 @@ use crate::bounds::bounds_over;
 use crate::places::seen_place;
 use crate::signals::{clock, corrected_range, of_one_code, pseudorange};
 use fix_interval::Exact;
-use sat_model::{Box3, Elements, Row, Sat, Span};
+use gnss_model::{Elements, Sat, System};
+use grid_model::{Box3, Span};
+use sat_model::Row;
 use usable_sats::Measured;
 
 /// The same numbers in 64 bits.
@@ -34,12 +36,13 @@ fn span_of(x: Exact) -> Span
     }
 }
 
-/// The row of a satellite whose signal came at `tag` by the receiver's clock, in ps since
+/// The row of a system's satellite whose signal came at `tag` by the receiver's clock, in ps since
 /// 1980-01-06 00:00:00 GPS time and within 14,401 s of the ephemeris time: it holds whatever the
 /// equations allow as seen from the points of the box. `declared`, in um, is the sum of the spans
 /// that are declared for its error, and `zenith` the span of the troposphere's delay at the zenith,
 /// where one is mapped and added.
 pub(crate) fn row_of(
+    system: System,
     sat: Sat,
     tag: i128,
     codes: &Measured,
@@ -50,7 +53,7 @@ pub(crate) fn row_of(
 ) -> Row
     requires tag_from { pos 0 ≤ℤ tag }
     requires tag_under { tag <ℤ pos time_bound }
-    requires plausible { ArePlausible (codes_of codes.now) }
+    requires plausible { ArePlausible system (codes_of codes.now) }
     requires narrow { AreNarrow (codes_of codes.now) }
     requires near { IsNearEpoch el.now tag }
     requires small { IsSmall (5 * 10 ^ 9) declared }
@@ -59,7 +62,7 @@ pub(crate) fn row_of(
     requires high { IsHigh zenith (grid_box root.now) }
     ensures sat { result.sat ≡ sat }
     ensures holds { HoldsAllowed (AreValues zenith (ends declared)
-        (record { tag = tag; codes = codes_of codes.now; el = el.now })) (grid_box root.now) result }
+        (record { system = system; tag = tag; codes = codes_of codes.now; el = el.now })) (grid_box root.now) result }
 
     // Each span is at most 2,000 um and a 40,000th of the longest side of the box wide.
     ensures x_tight { IsTight (grid_box root.now) result.x }
@@ -72,9 +75,9 @@ pub(crate) fn row_of(
     ensures plain { zenith ≡ None → HasBounds result (ends declared) }
     ensures small { IsSmallRow result }
 {
-    let range = pseudorange(codes);
-    let sending = clock(tag, range, el, of_one_code(codes));
-    let place = seen_place(el, sending.t, root);
+    let range = pseudorange(codes, system);
+    let sending = clock(tag, range, el, of_one_code(codes), system);
+    let place = seen_place(el, sending.t, root, system);
     let bounds = bounds_over(declared, zenith, place, root);
     Row {
         sat,

@@ -1,16 +1,17 @@
 -- What the records give of a satellite with one more: what they gave before where that is better, else what
 -- the last gives alone.
 use Rattle.std.proofs.Common.{◌≡◌, ℕ, ◌<◌, ◌≤◌, arith, sym, subst, Bool, true, false, List, length, refl, inl, inr}
-use Rattle.std.specs.Prelude.{ℤ, pos, ◌≤ℤ◌, ◌<ℤ◌}
+use Rattle.std.specs.Prelude.{Option, ℤ, pos, ◌≤ℤ◌, ◌<ℤ◌}
 use Rattle.std.proofs.lemmas.Int.{ints, by_lt_z}
 use Rattle.std.proofs.lemmas.Option.{slice_get_within}
 use Rattle.error_bounds.specs.declared.settings.Settings.{Settings}
+use Rattle.gnss_model.specs.declared.satellites.Signal.{Signal}
 use Rattle.exact_decimal.specs.declared.decimal.Decimal.{Decimal}
 use Rattle.rinex_nav.proofs.WeekLemmas.{age_only}
 use Rattle.rinex_nav.specs.FieldBounds.{AreInside, IsFirstOutside}
 use Rattle.rinex_nav.specs.declared.record.NavRecord.{NavRecord}
 use Rattle.rinex_obs.specs.declared.obs.SatObs.{SatObs}
-use Rattle.sat_model.specs.declared.elements.Elements.{Elements}
+use Rattle.gnss_model.specs.declared.elements.Elements.{Elements}
 use Rattle.usable_sats.proofs.RecordLemmas.{before, after, its_kept, healthy_kept, fresh_kept, fit_kept, its_split, healthy_split, fresh_split, fit_split, its_last, fresh_last, is_recent, nearest_kept, nearest_last}
 use Rattle.usable_sats.specs.Answers.{IsChoice, IsRecent, IsAlone, passed_by, age_of, IsBetter}
 use Rattle.usable_sats.specs.Usability.{Sighting, IsItsRecord, IsHealthy, IsFresh, IsFit}
@@ -105,7 +106,7 @@ module _ (a : Sighting) where
 
 -- ---- one more record
 
-module _ (settings : Settings) (tag : ℤ) (seen : SatObs) (records : List NavRecord) (r : NavRecord) where
+module _ (galileo : Option Signal) (settings : Settings) (tag : ℤ) (seen : SatObs) (records : List NavRecord) (r : NavRecord) where
   farther : (age : ℤ) (field : ℕ) (t : Choice) → IsAlone settings.max_age tag r t → IsBetter (Unfit age field) t → (b : ℤ) → IsRecent settings.max_age tag r b → age <ℤ b
   farther age field t g (inl less) b recent = absurd (old settings.max_age tag r t g (omega arith) b recent)
   farther age field t g (inr same) b recent = omega (arith, ints, same.1, one_age settings.max_age tag r t g (omega (arith, same.0)) b recent)
@@ -115,40 +116,40 @@ module _ (settings : Settings) (tag : ℤ) (seen : SatObs) (records : List NavRe
   farther_fit age el t g (inr same) b recent inside = omega (arith, ints, same.1, one_age settings.max_age tag r t g (omega (arith, same.0)) b recent)
 
   -- a better choice stays
-  pub stays : (s t : Choice) → IsChoice (before settings tag seen records r) s → IsAlone settings.max_age tag r t → IsBetter s t → IsChoice (after settings tag seen records r) s
+  pub stays : (s t : Choice) → IsChoice (before galileo settings tag seen records r) s → IsAlone settings.max_age tag r t → IsBetter s t → IsChoice (after galileo settings tag seen records r) s
   stays NoRecord t f g (inl less) = absurd (omega arith)
   stays NoRecord t f g (inr same) = absurd (omega (arith, some_passed settings.max_age tag r t g, same.0))
   stays Unhealthy t f g (inl less) = absurd (omega (arith, some_passed settings.max_age tag r t g))
   stays Unhealthy t f g (inr same) = absurd (omega (arith, ints, no_age t (omega (arith, same.0)), same.1))
   stays Old t f g (inl less) = (
-    (f.0.0, f.0.1, healthy_kept settings tag seen records r f.0.0 f.0.1 f.0.2),
-    λ i q age p. elim (fresh_split settings tag seen records r i q age p) [
+    (f.0.0, f.0.1, healthy_kept galileo settings tag seen records r f.0.0 f.0.1 f.0.2),
+    λ i q age p. elim (fresh_split galileo settings tag seen records r i q age p) [
       | inl front ↦ f.1 i q age front
-      | inr last ↦ old settings.max_age tag r t g (omega arith) age (is_recent settings tag seen records r i q age p last.1)
+      | inr last ↦ old settings.max_age tag r t g (omega arith) age (is_recent galileo settings tag seen records r i q age p last.1)
     ],
   )
   stays Old t f g (inr same) = absurd (omega (arith, ints, no_age t (omega (arith, same.0)), same.1))
   stays (Unfit age field) t f g better = record {
-    none = λ i q b p. elim (fit_split settings tag seen records r i q b p) [
+    none = λ i q b p. elim (fit_split galileo settings tag seen records r i q b p) [
       | inl front ↦ f.none i q b front
-      | inr last ↦ unfit settings.max_age tag r t g (omega (arith, better)) b (is_recent settings tag seen records r i q b p.fresh last.1) (subst (λ (s : NavRecord). AreInside s.fields) last.1 p.inside)
+      | inr last ↦ unfit settings.max_age tag r t g (omega (arith, better)) b (is_recent galileo settings tag seen records r i q b p.fresh last.1) (subst (λ (s : NavRecord). AreInside s.fields) last.1 p.inside)
     ];
     i = f.i;
     r = f.r;
-    nearest = nearest_kept (IsFresh (before settings tag seen records r)) (IsFresh (after settings tag seen records r)) f.i f.r age f.nearest (fresh_kept settings tag seen records r)
-        (λ i q b p. elim (fresh_split settings tag seen records r i q b p) [
+    nearest = nearest_kept (IsFresh (before galileo settings tag seen records r)) (IsFresh (after galileo settings tag seen records r)) f.i f.r age f.nearest (fresh_kept galileo settings tag seen records r)
+        (λ i q b p. elim (fresh_split galileo settings tag seen records r i q b p) [
           | inl front ↦ inl front
-          | inr last ↦ inr (farther age field t g better b (is_recent settings tag seen records r i q b p last.1))
+          | inr last ↦ inr (farther age field t g better b (is_recent galileo settings tag seen records r i q b p last.1))
         ]);
     first = f.first;
   }
   stays (Fit age el) t f g better = record {
     i = f.i;
     r = f.r;
-    nearest = nearest_kept (IsFit (before settings tag seen records r)) (IsFit (after settings tag seen records r)) f.i f.r age f.nearest (fit_kept settings tag seen records r)
-        (λ i q b p. elim (fit_split settings tag seen records r i q b p) [
+    nearest = nearest_kept (IsFit (before galileo settings tag seen records r)) (IsFit (after galileo settings tag seen records r)) f.i f.r age f.nearest (fit_kept galileo settings tag seen records r)
+        (λ i q b p. elim (fit_split galileo settings tag seen records r i q b p) [
           | inl front ↦ inl front
-          | inr last ↦ inr (farther_fit age el t g better b (is_recent settings tag seen records r i q b p.fresh last.1) (subst (λ (s : NavRecord). AreInside s.fields) last.1 p.inside))
+          | inr last ↦ inr (farther_fit age el t g better b (is_recent galileo settings tag seen records r i q b p.fresh last.1) (subst (λ (s : NavRecord). AreInside s.fields) last.1 p.inside))
         ]);
     elements = f.elements;
   }
@@ -162,81 +163,81 @@ module _ (settings : Settings) (tag : ℤ) (seen : SatObs) (records : List NavRe
   no_farther s t worse same = by_lt_z (age_of s) (age_of t) (λ (less : age_of s <ℤ age_of t). absurd (worse (inr (sym same, less)))) (λ not. not)
 
   -- else the last counts
-  pub yields : (s t : Choice) → r.sat ≡ seen.sat → IsChoice (before settings tag seen records r) s → IsAlone settings.max_age tag r t → (IsBetter s t → ⊥) → IsChoice (after settings tag seen records r) t
+  pub yields : (s t : Choice) → r.sat ≡ seen.sat → IsChoice (before galileo settings tag seen records r) s → IsAlone settings.max_age tag r t → (IsBetter s t → ⊥) → IsChoice (after galileo settings tag seen records r) t
   yields s NoRecord own f g worse = absurd g
   yields s Unhealthy own f g worse = (
-    (length records, r, its_last settings tag seen records r own),
-    λ i q p. elim (healthy_split settings tag seen records r i q p) [
-      | inl front ↦ none_healthy (before settings tag seen records r) s f (no_more s Unhealthy worse) i q front
+    (length records, r, its_last galileo settings tag seen records r own),
+    λ i q p. elim (healthy_split galileo settings tag seen records r i q p) [
+      | inl front ↦ none_healthy (before galileo settings tag seen records r) s f (no_more s Unhealthy worse) i q front
       | inr last ↦ true_false r.healthy (subst (λ (s : NavRecord). s.healthy ≡ true) last.1 p.healthy) g
     ],
   )
   yields s Old own f g worse = (
-    (length records, r, record { its = its_last settings tag seen records r own; healthy = g.0 }),
-    λ i q age p. elim (fresh_split settings tag seen records r i q age p) [
-      | inl front ↦ none_fresh (before settings tag seen records r) s f (no_more s Old worse) i q age front
-      | inr last ↦ g.1 age (is_recent settings tag seen records r i q age p last.1)
+    (length records, r, record { its = its_last galileo settings tag seen records r own; healthy = g.0 }),
+    λ i q age p. elim (fresh_split galileo settings tag seen records r i q age p) [
+      | inl front ↦ none_fresh (before galileo settings tag seen records r) s f (no_more s Old worse) i q age front
+      | inr last ↦ g.1 age (is_recent galileo settings tag seen records r i q age p last.1)
     ],
   )
   yields s (Unfit age field) own f g worse = record {
-    none = λ i q b p. elim (fit_split settings tag seen records r i q b p) [
-      | inl front ↦ none_fit (before settings tag seen records r) s f (no_more s (Unfit age field) worse) i q b front
+    none = λ i q b p. elim (fit_split galileo settings tag seen records r i q b p) [
+      | inl front ↦ none_fit (before galileo settings tag seen records r) s f (no_more s (Unfit age field) worse) i q b front
       | inr last ↦ not_both r.fields field (subst (λ (s : NavRecord). AreInside s.fields) last.1 p.inside) g.1
     ];
     i = length records;
     r = r;
-    nearest = nearest_last (IsFresh (before settings tag seen records r)) (IsFresh (after settings tag seen records r)) (length records) r age (fresh_last settings tag seen records r age own g.0)
-        (λ j q b p. (least_fresh (before settings tag seen records r) s f (no_more s (Unfit age field) worse) age (no_farther s (Unfit age field) worse) j q b p, slice_get_within records j q p.healthy.its.at))
-        (λ j q b p. elim (fresh_split settings tag seen records r j q b p) [
+    nearest = nearest_last (IsFresh (before galileo settings tag seen records r)) (IsFresh (after galileo settings tag seen records r)) (length records) r age (fresh_last galileo settings tag seen records r age own g.0)
+        (λ j q b p. (least_fresh (before galileo settings tag seen records r) s f (no_more s (Unfit age field) worse) age (no_farther s (Unfit age field) worse) j q b p, slice_get_within records j q p.healthy.its.at))
+        (λ j q b p. elim (fresh_split galileo settings tag seen records r j q b p) [
           | inl front ↦ inl front
-          | inr last ↦ inr (last.0, age_only r tag b age (is_recent settings tag seen records r j q b p last.1).age_is g.0.age_is)
+          | inr last ↦ inr (last.0, age_only r tag b age (is_recent galileo settings tag seen records r j q b p last.1).age_is g.0.age_is)
         ]);
     first = g.1;
   }
   yields s (Fit age el) own f g worse = record {
     i = length records;
     r = r;
-    nearest = nearest_last (IsFit (before settings tag seen records r)) (IsFit (after settings tag seen records r)) (length records) r age (record { fresh = fresh_last settings tag seen records r age own g.0; inside = g.1 })
-        (λ j q b p. (least_fit (before settings tag seen records r) s f age (no_farther s (Fit age el) worse) j q b p, slice_get_within records j q p.fresh.healthy.its.at))
-        (λ j q b p. elim (fit_split settings tag seen records r j q b p) [
+    nearest = nearest_last (IsFit (before galileo settings tag seen records r)) (IsFit (after galileo settings tag seen records r)) (length records) r age (record { fresh = fresh_last galileo settings tag seen records r age own g.0; inside = g.1 })
+        (λ j q b p. (least_fit (before galileo settings tag seen records r) s f age (no_farther s (Fit age el) worse) j q b p, slice_get_within records j q p.fresh.healthy.its.at))
+        (λ j q b p. elim (fit_split galileo settings tag seen records r j q b p) [
           | inl front ↦ inl front
-          | inr last ↦ inr (last.0, age_only r tag b age (is_recent settings tag seen records r j q b p.fresh last.1).age_is g.0.age_is)
+          | inr last ↦ inr (last.0, age_only r tag b age (is_recent galileo settings tag seen records r j q b p.fresh last.1).age_is g.0.age_is)
         ]);
     elements = g.2;
   }
 
-  no_last : (r.sat ≡ seen.sat → ⊥) → (i : ℕ) (s : NavRecord) → IsItsRecord (after settings tag seen records r) i s → s ≡ r → ⊥
+  no_last : (r.sat ≡ seen.sat → ⊥) → (i : ℕ) (s : NavRecord) → IsItsRecord (after galileo settings tag seen records r) i s → s ≡ r → ⊥
   no_last other i s p last = other (subst (λ (q : NavRecord). q.sat ≡ seen.sat) last p.sat)
 
   -- a record of another satellite changes nothing
-  pub passes_over : (s : Choice) → (r.sat ≡ seen.sat → ⊥) → IsChoice (before settings tag seen records r) s → IsChoice (after settings tag seen records r) s
-  passes_over NoRecord other f = λ i q p. elim (its_split settings tag seen records r i q p) [
+  pub passes_over : (s : Choice) → (r.sat ≡ seen.sat → ⊥) → IsChoice (before galileo settings tag seen records r) s → IsChoice (after galileo settings tag seen records r) s
+  passes_over NoRecord other f = λ i q p. elim (its_split galileo settings tag seen records r i q p) [
     | inl front ↦ f i q front
     | inr last ↦ no_last other i q p last.1
   ]
   passes_over Unhealthy other f = (
-    (f.0.0, f.0.1, its_kept settings tag seen records r f.0.0 f.0.1 f.0.2),
-    λ i q p. elim (healthy_split settings tag seen records r i q p) [
+    (f.0.0, f.0.1, its_kept galileo settings tag seen records r f.0.0 f.0.1 f.0.2),
+    λ i q p. elim (healthy_split galileo settings tag seen records r i q p) [
       | inl front ↦ f.1 i q front
       | inr last ↦ no_last other i q p.its last.1
     ],
   )
   passes_over Old other f = (
-    (f.0.0, f.0.1, healthy_kept settings tag seen records r f.0.0 f.0.1 f.0.2),
-    λ i q age p. elim (fresh_split settings tag seen records r i q age p) [
+    (f.0.0, f.0.1, healthy_kept galileo settings tag seen records r f.0.0 f.0.1 f.0.2),
+    λ i q age p. elim (fresh_split galileo settings tag seen records r i q age p) [
       | inl front ↦ f.1 i q age front
       | inr last ↦ no_last other i q p.healthy.its last.1
     ],
   )
   passes_over (Unfit age field) other f = record {
-    none = λ i q b p. elim (fit_split settings tag seen records r i q b p) [
+    none = λ i q b p. elim (fit_split galileo settings tag seen records r i q b p) [
       | inl front ↦ f.none i q b front
       | inr last ↦ no_last other i q p.fresh.healthy.its last.1
     ];
     i = f.i;
     r = f.r;
-    nearest = nearest_kept (IsFresh (before settings tag seen records r)) (IsFresh (after settings tag seen records r)) f.i f.r age f.nearest (fresh_kept settings tag seen records r)
-        (λ i q b p. elim (fresh_split settings tag seen records r i q b p) [
+    nearest = nearest_kept (IsFresh (before galileo settings tag seen records r)) (IsFresh (after galileo settings tag seen records r)) f.i f.r age f.nearest (fresh_kept galileo settings tag seen records r)
+        (λ i q b p. elim (fresh_split galileo settings tag seen records r i q b p) [
           | inl front ↦ inl front
           | inr last ↦ absurd (no_last other i q p.healthy.its last.1)
         ]);
@@ -245,8 +246,8 @@ module _ (settings : Settings) (tag : ℤ) (seen : SatObs) (records : List NavRe
   passes_over (Fit age el) other f = record {
     i = f.i;
     r = f.r;
-    nearest = nearest_kept (IsFit (before settings tag seen records r)) (IsFit (after settings tag seen records r)) f.i f.r age f.nearest (fit_kept settings tag seen records r)
-        (λ i q b p. elim (fit_split settings tag seen records r i q b p) [
+    nearest = nearest_kept (IsFit (before galileo settings tag seen records r)) (IsFit (after galileo settings tag seen records r)) f.i f.r age f.nearest (fit_kept galileo settings tag seen records r)
+        (λ i q b p. elim (fit_split galileo settings tag seen records r i q b p) [
           | inl front ↦ inl front
           | inr last ↦ absurd (no_last other i q p.fresh.healthy.its last.1)
         ]);

@@ -10,9 +10,11 @@ use Rattle.exact_decimal.specs.declared.unit.Unit.TheVariants.{Length}
 use Rattle.exact_decimal.proofs.Limits.{below_floor, above_ceiling, some_parts}
 use Rattle.rinex_nav.specs.ElementsOf.{IsRounded}
 use Rattle.rinex_obs.specs.declared.obs.SatObs.{SatObs}
-use Rattle.sat_model.specs.Pseudorange.{Codes}
-use Rattle.sat_model.specs.declared.satellites.Signal.TheVariants.{Dual}
-use Rattle.sat_model.specs.declared.spans.Wide.{Wide}
+use Rattle.gnss_model.specs.Pseudorange.{Codes}
+use Rattle.gnss_model.specs.declared.satellites.Signal.TheVariants.{Dual}
+use Rattle.grid_model.specs.declared.spans.Wide.{Wide}
+use Rattle.gnss_model.specs.declared.systems.System.{System}
+use Rattle.pseudorange_prep.specs.Ranges.{IsCode}
 use Rattle.usable_sats.proofs.ElementLemmas.{one_rounded}
 use Rattle.usable_sats.specs.Usability.{HaveValue, IsPlausible, IsCombinationPlausible, ArePlausibleWith, ArePlausible}
 
@@ -27,50 +29,22 @@ not_none None n s = absurd cc
 not_none (Some w) n s = absurd cc
 
 -- where the combination is out of range no value of the codes is within
-pub pair_out : (seen : SatObs) (a b : List ℕ) (d e : Decimal) (v w : Wide) → seen.first ≡ Some d → seen.second ≡ Some e → IsRounded v d Length → IsRounded w e Length
-    → (IsCombinationPlausible v w → ⊥) → (codes : Codes) → HaveValue (Dual a b) seen codes → ArePlausible codes → ⊥
-pair_out seen a b d e v w first second r s out codes values plausible =
+pub pair_out : (system : System) (seen : SatObs) (a b : List ℕ) (d e : Decimal) (v w : Wide) → seen.first ≡ Some d → seen.second ≡ Some e → IsRounded v d Length → IsRounded w e Length
+    → (IsCombinationPlausible system v w → ⊥) → (codes : Codes) → HaveValue (Dual a b) seen codes → ArePlausible system codes → ⊥
+pair_out system seen a b d e v w first second r s out codes values plausible =
     let one = values.0 in
     let two = values.1 in
     let d_is = same_Some one.0 d (sym one.1 ∙ first) in
     let e_is = same_Some two.0 e (sym two.2 ∙ second) in
     let v_is = one_rounded d Length codes.first v (subst (λ (q : Decimal). IsRounded codes.first q Length) d_is one.2) r in
     let w_is = one_rounded e Length two.1 w (subst (λ (q : Decimal). IsRounded two.1 q Length) e_is two.4) s in
-    let firsts = subst (λ (q : Wide). ArePlausibleWith q codes.second) v_is plausible in
-    let both = subst (ArePlausibleWith v) (two.3 ∙ ap (λ (q : Wide). Some q) w_is) firsts in
+    let firsts = subst (λ (q : Wide). ArePlausibleWith system q codes.second) v_is plausible in
+    let both = subst (ArePlausibleWith system v) (two.3 ∙ ap (λ (q : Wide). Some q) w_is) firsts in
     out both.2
 
--- ---- the combination in 128 bits
-
--- an end of a code, in um
-pub record IsEnd (z : ℤ) : Type 0 where
-  pub from : pos 15000000000000 ≤ℤ z
-  pub to : z ≤ℤ pos 40000000000000
-
-pub low_end : (w : Wide) → IsPlausible w.lo w.hi 1 → IsEnd w.lo
-low_end w p =
+-- a code that is in range may be combined
+pub code_fits : (w : Wide) → IsPlausible w.lo w.hi 1 → IsCode w.lo w.hi
+code_fits w p =
     let from : pos 15000000000000 ≤ℤ w.lo = p.from in
     let to : w.hi ≤ℤ pos 40000000000000 = p.to in
-    record { from = from; to = omega (arith, ints, to, w.ordered) }
-
-pub high_end : (w : Wide) → IsPlausible w.lo w.hi 1 → IsEnd w.hi
-high_end w p =
-    let from : pos 15000000000000 ≤ℤ w.lo = p.from in
-    let to : w.hi ≤ℤ pos 40000000000000 = p.to in
-    record { from = omega (arith, ints, from, w.ordered); to = to }
-
-fits : (z : ℤ) → neg_ℤ (pos 1000000000000000000) ≤ℤ z → z ≤ℤ pos 1000000000000000000 → FitsSigned w128 z
-fits z low high = search rules
-
-pub combined_is : (a b : ℤ) → IsEnd a → IsEnd b
-    → to_z w128 (of_z w128 (to_z w128 (of_z w128 (pos 5929 *ℤ to_z w128 (of_z w128 a))) -ℤ to_z w128 (of_z w128 (pos 3600 *ℤ to_z w128 (of_z w128 b))))) ≡ (pos 5929 *ℤ a) -ℤ (pos 3600 *ℤ b)
-combined_is a b f g =
-    let f1 = fits a (omega (arith, ints, f.from)) (omega (arith, ints, f.to)) in
-    let f2 = fits b (omega (arith, ints, g.from)) (omega (arith, ints, g.to)) in
-    let f3 = fits (pos 5929 *ℤ a) (omega (arith, ints, f.from)) (omega (arith, ints, f.to)) in
-    let f4 = fits (pos 3600 *ℤ b) (omega (arith, ints, g.from)) (omega (arith, ints, g.to)) in
-    let f5 = fits ((pos 5929 *ℤ a) -ℤ (pos 3600 *ℤ b)) (omega (arith, ints, f.from, g.to)) (omega (arith, ints, f.to, g.from)) in
-    simp to_z-of_z refl
-
-pub combined_ordered : (v w : Wide) → ((pos 5929 *ℤ v.lo) -ℤ (pos 3600 *ℤ w.hi)) ≤ℤ ((pos 5929 *ℤ v.hi) -ℤ (pos 3600 *ℤ w.lo))
-combined_ordered v w = omega (arith, ints, v.ordered, w.ordered)
+    record { from = omega (arith, ints, from); to = to }

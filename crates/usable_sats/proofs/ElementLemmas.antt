@@ -11,11 +11,11 @@ use Rattle.exact_decimal.proofs.Limits.{some_parts}
 use Rattle.rinex_nav.specs.ElementsOf.{IsRounded, AreElements}
 use Rattle.rinex_nav.specs.Weeks.{IsNearestWeek}
 use Rattle.rinex_nav.specs.declared.record.NavRecord.{NavRecord}
-use Rattle.sat_model.specs.RecordBounds.{LiesFrom, IsNearTime, offset_bound, drift_bound, ageing_bound, delay_bound, angle_bound, rate_bound, angle_swing_bound, radius_swing_bound, eccentricity_bound, least_root_a, greatest_root_a, week, time_bound}
-use Rattle.sat_model.specs.Rounding.{IsFloor, IsCeiling}
-use Rattle.sat_model.specs.declared.elements.Elements.{Elements}
-use Rattle.sat_model.specs.declared.spans.Wide.{Wide}
-use Rattle.sat_model.proofs.ProductLemmas.{add_mul, mul_lt_back}
+use Rattle.gnss_model.specs.RecordBounds.{LiesFrom, IsNearTime, offset_bound, drift_bound, ageing_bound, delay_bound, angle_bound, rate_bound, angle_swing_bound, radius_swing_bound, eccentricity_bound, least_root_a, greatest_root_a, week, time_bound}
+use Rattle.grid_model.specs.Rounding.{IsFloor, IsCeiling}
+use Rattle.gnss_model.specs.declared.elements.Elements.{Elements}
+use Rattle.grid_model.specs.declared.spans.Wide.{Wide}
+use Rattle.grid_model.proofs.ProductLemmas.{add_mul, mul_lt_back}
 
 -- ---- numbers
 

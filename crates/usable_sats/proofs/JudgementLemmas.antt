@@ -10,13 +10,13 @@ use Rattle.rinex_nav.specs.ElementsOf.{IsRounded, AreElements}
 use Rattle.rinex_nav.specs.FieldBounds.{IsFirstOutside}
 use Rattle.rinex_nav.specs.declared.record.NavRecord.{NavRecord}
 use Rattle.rinex_obs.specs.declared.obs.SatObs.{SatObs}
-use Rattle.sat_model.specs.Boxes.{GridBox}
-use Rattle.sat_model.specs.Pseudorange.{Codes}
-use Rattle.sat_model.specs.declared.satellites.Signal.{Signal}
-use Rattle.sat_model.specs.declared.satellites.Signal.TheVariants.{Single, Dual}
-use Rattle.sat_model.specs.declared.satellites.Skip.{Skip}
-use Rattle.sat_model.specs.declared.spans.Span.{Span}
-use Rattle.sat_model.specs.declared.spans.Wide.{Wide}
+use Rattle.grid_model.specs.Boxes.{GridBox}
+use Rattle.gnss_model.specs.Pseudorange.{Codes}
+use Rattle.gnss_model.specs.declared.satellites.Signal.{Signal}
+use Rattle.gnss_model.specs.declared.satellites.Signal.TheVariants.{Single, Dual}
+use Rattle.gnss_model.specs.declared.satellites.Skip.{Skip}
+use Rattle.grid_model.specs.declared.spans.Span.{Span}
+use Rattle.grid_model.specs.declared.spans.Wide.{Wide}
 use Rattle.usable_sats.proofs.ElementLemmas.{one_rounded, same_elements}
 use Rattle.usable_sats.specs.Usability.{Sighting, AreThere, HaveValue, IsMeasured, IsItsRecord, IsHealthy, IsFresh, IsFit, IsNearest, IsUsable, LacksFit, IsSkip, IsJudged}
 

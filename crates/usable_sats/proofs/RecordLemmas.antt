@@ -1,12 +1,13 @@
 -- What records meet of a list with one more record at its end, and the nearest of them.
 use Rattle.std.proofs.Common.{◌≡◌, ℕ, zero, suc, ◌<◌, arith, refl, ap, subst, List, [], ◌∷◌, ◌++◌, length, Some, slice_get, inl, inr, ◌⊎◌}
-use Rattle.std.specs.Prelude.{ℤ, ◌≤ℤ◌, ◌<ℤ◌}
+use Rattle.std.specs.Prelude.{Option, ℤ, ◌≤ℤ◌, ◌<ℤ◌}
 use Rattle.std.proofs.lemmas.Int.{ints}
 use Rattle.error_bounds.specs.declared.settings.Settings.{Settings}
+use Rattle.gnss_model.specs.declared.satellites.Signal.{Signal}
 use Rattle.rinex_nav.specs.declared.record.NavRecord.{NavRecord}
 use Rattle.rinex_obs.specs.declared.obs.SatObs.{SatObs}
 use Rattle.usable_sats.specs.Answers.{IsRecent}
-use Rattle.usable_sats.specs.Usability.{sighting}
+use Rattle.usable_sats.specs.Usability.{sighting_by}
 use Rattle.usable_sats.specs.Usability.{Sighting, IsItsRecord, IsHealthy, IsFresh, IsFit, IsNearest}
 
 -- ---- lists
@@ -31,12 +32,12 @@ get_split (z ∷ xs) y (suc i) x e = elim (get_split xs y i x e) [
 
 -- ---- records
 
-module _ (settings : Settings) (tag : ℤ) (seen : SatObs) (records : List NavRecord) (r : NavRecord) where
+module _ (galileo : Option Signal) (settings : Settings) (tag : ℤ) (seen : SatObs) (records : List NavRecord) (r : NavRecord) where
   abbrev pub before : Sighting
-  before = sighting records settings tag seen
+  before = sighting_by galileo records settings tag seen
 
   abbrev pub after : Sighting
-  after = sighting (records ++ r ∷ []) settings tag seen
+  after = sighting_by galileo (records ++ r ∷ []) settings tag seen
 
   -- the record at a place is the last
   abbrev pub IsLast : ℕ → NavRecord → Type 0

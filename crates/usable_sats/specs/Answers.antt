@@ -5,9 +5,10 @@ use Rattle.rinex_nav.specs.FieldBounds.{AreInside, IsFirstOutside}
 use Rattle.rinex_nav.specs.Weeks.{IsAge}
 use Rattle.rinex_nav.specs.declared.record.NavRecord.{NavRecord}
 use Rattle.rinex_obs.specs.declared.obs.SatObs.{SatObs}
-use Rattle.sat_model.specs.Pseudorange.{Codes}
-use Rattle.sat_model.specs.declared.elements.Elements.{Elements}
-use Rattle.sat_model.specs.declared.satellites.Signal.{Signal}
+use Rattle.gnss_model.specs.Pseudorange.{Codes}
+use Rattle.gnss_model.specs.declared.elements.Elements.{Elements}
+use Rattle.gnss_model.specs.declared.satellites.Signal.{Signal}
+use Rattle.gnss_model.specs.declared.systems.System.{System}
 use Rattle.usable_sats.specs.Measured.{codes_of}
 use Rattle.usable_sats.specs.Usability.{Sighting, AreThere, HaveValue, ArePlausible, IsItsRecord, IsHealthy, IsFresh, IsFit, IsNearest}
 use Rattle.usable_sats.specs.declared.choice.Choice.{Choice}
@@ -16,12 +17,12 @@ use Rattle.usable_sats.specs.declared.codes.Reading.{Reading}
 use Rattle.usable_sats.specs.declared.codes.Reading.TheVariants.{Missing, OutOfRange, Within}
 
 -- what the wanted codes of a satellite are
-abbrev pub IsReading : Signal → SatObs → Reading → Type 0
-IsReading signal seen Missing = AreThere signal seen → ⊥
-IsReading signal seen OutOfRange =
-    AreThere signal seen × ((codes : Codes) → HaveValue signal seen codes → ArePlausible codes → ⊥)
-IsReading signal seen (Within measured) =
-    HaveValue signal seen (codes_of measured) × ArePlausible (codes_of measured)
+abbrev pub IsReading : System → Signal → SatObs → Reading → Type 0
+IsReading system signal seen Missing = AreThere signal seen → ⊥
+IsReading system signal seen OutOfRange =
+    AreThere signal seen × ((codes : Codes) → HaveValue signal seen codes → ArePlausible system codes → ⊥)
+IsReading system signal seen (Within measured) =
+    HaveValue signal seen (codes_of measured) × ArePlausible system (codes_of measured)
 
 -- ---- the choice of a record
 

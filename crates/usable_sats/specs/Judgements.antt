@@ -1,9 +1,9 @@
 -- What a satellite is judged to be.
 use Rattle.std.specs.Prelude.{◌≡◌, Option, Some}
-use Rattle.sat_model.specs.Boxes.{GridBox}
-use Rattle.sat_model.specs.Pseudorange.{Codes}
-use Rattle.sat_model.specs.declared.elements.Elements.{Elements}
-use Rattle.sat_model.specs.declared.spans.Span.{Span}
+use Rattle.grid_model.specs.Boxes.{GridBox}
+use Rattle.gnss_model.specs.Pseudorange.{Codes}
+use Rattle.gnss_model.specs.declared.elements.Elements.{Elements}
+use Rattle.grid_model.specs.declared.spans.Span.{Span}
 use Rattle.usable_sats.specs.Measured.{codes_of}
 use Rattle.usable_sats.specs.Usability.{Sighting, IsUsable, IsSkip, IsHigh, IsJudged}
 use Rattle.usable_sats.specs.declared.judging.Judgement.{Judgement}

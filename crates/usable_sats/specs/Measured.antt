@@ -1,6 +1,6 @@
 -- The codes of a satellite as the code keeps them.
 use Rattle.std.specs.Prelude.{None, Some}
-use Rattle.sat_model.specs.Pseudorange.{Codes}
+use Rattle.gnss_model.specs.Pseudorange.{Codes}
 use Rattle.usable_sats.specs.declared.codes.Measured.{Measured}
 use Rattle.usable_sats.specs.declared.codes.Measured.TheVariants.{Single, Dual}
 

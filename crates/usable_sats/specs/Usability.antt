@@ -1,6 +1,6 @@
 -- Which satellites of an epoch are used, and by which record: seven tests in their order, six of the
 -- satellite itself and one of the search box. The choice is made from the whole list of records.
-use Rattle.std.specs.Prelude.{ℕ, ◌*◌, ◌^◌, ◌≤◌, ◌≡◌, ◌⊎◌, ℤ, pos, ◌-ℤ◌, ◌*ℤ◌, ◌≤ℤ◌, true, List, Option, None, Some, slice_get}
+use Rattle.std.specs.Prelude.{ℕ, ◌*◌, ◌^◌, ◌≤◌, ◌≡◌, ◌⊎◌, ℤ, pos, ◌-ℤ◌, ◌*ℤ◌, ◌≤ℤ◌, true, List, Option, None, Some, slice_get, nat_eq, if◌then◌else◌}
 use Rattle.error_bounds.specs.declared.settings.Settings.{Settings}
 use Rattle.exact_decimal.specs.declared.decimal.Decimal.{Decimal}
 use Rattle.exact_decimal.specs.declared.unit.Unit.TheVariants.{Length}
@@ -9,35 +9,51 @@ use Rattle.rinex_nav.specs.FieldBounds.{AreInside, IsFirstOutside}
 use Rattle.rinex_nav.specs.Weeks.{IsAge}
 use Rattle.rinex_nav.specs.declared.record.NavRecord.{NavRecord}
 use Rattle.rinex_obs.specs.declared.obs.SatObs.{SatObs}
-use Rattle.sat_model.specs.Boxes.{GridBox}
-use Rattle.sat_model.specs.Pseudorange.{Codes}
-use Rattle.sat_model.specs.SearchBoxes.{IsFarFromOrigin}
-use Rattle.sat_model.specs.declared.elements.Elements.{Elements}
-use Rattle.sat_model.specs.declared.satellites.Signal.{Signal}
-use Rattle.sat_model.specs.declared.satellites.Signal.TheVariants.{Single, Dual}
-use Rattle.sat_model.specs.declared.satellites.Skip.{Skip}
-use Rattle.sat_model.specs.declared.spans.Span.{Span}
-use Rattle.sat_model.specs.declared.spans.Wide.{Wide}
+use Rattle.grid_model.specs.Boxes.{GridBox}
+use Rattle.gnss_model.specs.Pseudorange.{Codes}
+use Rattle.grid_model.specs.SearchBoxes.{IsFarFromOrigin}
+use Rattle.gnss_model.specs.Systems.{first_square, second_square, squares_apart}
+use Rattle.gnss_model.specs.declared.elements.Elements.{Elements}
+use Rattle.gnss_model.specs.declared.satellites.Sat.{Sat}
+use Rattle.gnss_model.specs.declared.satellites.Signal.{Signal}
+use Rattle.gnss_model.specs.declared.satellites.Signal.TheVariants.{Single, Dual}
+use Rattle.gnss_model.specs.declared.satellites.Skip.{Skip}
+use Rattle.grid_model.specs.declared.spans.Span.{Span}
+use Rattle.grid_model.specs.declared.spans.Wide.{Wide}
+use Rattle.gnss_model.specs.declared.systems.System.{System}
+use Rattle.gnss_model.specs.declared.systems.System.TheVariants.{Gps, Galileo}
 
 -- what was observed of a satellite at a time, by the receiver's clock in ps, and what it is judged
--- by: the records of a navigation file, the wanted codes, and how far in s an ephemeris time may be
--- from that time
+-- by: the records of a navigation file, its system, the wanted codes, and how far in s an ephemeris
+-- time may be from that time
 pub record Sighting : Type 0 where
   pub records : List NavRecord
+  pub system : System
   pub signal : Signal
   pub max_age : ℕ
   pub tag : ℤ
   pub seen : SatObs
 
--- of a file's records, by its settings
-abbrev pub sighting : List NavRecord → Settings → ℤ → SatObs → Sighting
-sighting records settings tag seen = record {
+-- The system as which a satellite is used, and its wanted codes. By the codes of GPS alone every
+-- satellite is one of GPS; where there are codes of Galileo too, `E` is the letter of its satellites.
+abbrev pub use_of : Signal → Option Signal → Sat → System × Signal
+use_of gps None sat = (Gps, gps)
+use_of gps (Some galileo) sat = if nat_eq sat.system 69 then (Galileo, galileo) else (Gps, gps)
+
+-- of a file's records, by its settings, with the codes of Galileo where these satellites are used
+abbrev pub sighting_by : Option Signal → List NavRecord → Settings → ℤ → SatObs → Sighting
+sighting_by galileo records settings tag seen = record {
   records = records;
-  signal = settings.signal;
+  system = (use_of settings.signal galileo seen.sat).0;
+  signal = (use_of settings.signal galileo seen.sat).1;
   max_age = settings.max_age;
   tag = tag;
   seen = seen;
 }
+
+-- of GPS
+abbrev pub sighting : List NavRecord → Settings → ℤ → SatObs → Sighting
+sighting records settings tag seen = sighting_by None records settings tag seen
 
 -- ---- the codes
 
@@ -68,25 +84,25 @@ pub record IsPlausible (lo hi : ℤ) (scale : ℕ) : Type 0 where
   pub to : hi ≤ℤ pos (scale * greatest_range)
 
 -- the least and the greatest ionosphere-free combination of two codes (IS-GPS-200, 20.3.3.3.3.3),
--- times 2329
-abbrev pub IsCombinationPlausible : Wide → Wide → Type 0
-IsCombinationPlausible first second =
-    IsPlausible ((pos 5929 *ℤ first.lo) -ℤ (pos 3600 *ℤ second.hi))
-    ((pos 5929 *ℤ first.hi) -ℤ (pos 3600 *ℤ second.lo)) 2329
+-- times the difference of the squares of their frequencies
+abbrev pub IsCombinationPlausible : System → Wide → Wide → Type 0
+IsCombinationPlausible system first second =
+    IsPlausible ((pos (first_square system) *ℤ first.lo) -ℤ (pos (second_square system) *ℤ second.hi))
+    ((pos (first_square system) *ℤ first.hi) -ℤ (pos (second_square system) *ℤ second.lo)) (squares_apart system)
 
-abbrev pub ArePlausibleWith : Wide → Option Wide → Type 0
-ArePlausibleWith first None = IsPlausible first.lo first.hi 1
-ArePlausibleWith first (Some second) =
+abbrev pub ArePlausibleWith : System → Wide → Option Wide → Type 0
+ArePlausibleWith system first None = IsPlausible first.lo first.hi 1
+ArePlausibleWith system first (Some second) =
     IsPlausible first.lo first.hi 1 × IsPlausible second.lo second.hi 1
-    × IsCombinationPlausible first second
+    × IsCombinationPlausible system first second
 
-abbrev pub ArePlausible : Codes → Type 0
-ArePlausible codes = ArePlausibleWith codes.first codes.second
+abbrev pub ArePlausible : System → Codes → Type 0
+ArePlausible system codes = ArePlausibleWith system codes.first codes.second
 
 pub record IsMeasured (a : Sighting) : Type 0 where
   pub codes : Codes
   pub values : HaveValue a.signal a.seen codes
-  pub plausible : ArePlausible codes
+  pub plausible : ArePlausible a.system codes
 
 -- ---- the records
 

@@ -1,14 +1,15 @@
 //! The choice of a satellite's record.
 
-ghost use Rattle.std.specs.Prelude.{◌≡◌, ◌∷◌, [], ◌++◌, List};
+ghost use Rattle.std.specs.Prelude.{◌≡◌, ◌∷◌, [], ◌++◌, List, Option};
 ghost use Rattle.rinex_nav.specs.declared.record.NavRecord.{NavRecord};
 ghost use Rattle.usable_sats.specs.Answers.{IsAlone, IsChoice};
-ghost use Rattle.usable_sats.specs.Usability.{sighting};
+ghost use Rattle.gnss_model.specs.declared.satellites.Signal.{Signal};
+ghost use Rattle.usable_sats.specs.Usability.{sighting_by};
 
 use error_bounds::Settings;
+use gnss_model::Elements;
 use rinex_nav::{Nav, NavRecord};
 use rinex_obs::{ObsEpoch, SatObs};
-use sat_model::Elements;
 
 /// The ps in a second.
 const PS_PER_S: i128 = 1_000_000_000_000;
@@ -93,9 +94,9 @@ fn with_record(
     settings: &Settings,
 ) -> Choice
     requires { one.now.sat ≡ seen.now.sat }
-    ensures { (records : List NavRecord)
-        → IsChoice (sighting records settings.now epoch.now.tag seen.now) so_far
-        → IsChoice (sighting (records ++ one.now ∷ []) settings.now epoch.now.tag seen.now) result }
+    ensures { (galileo : Option Signal) → (records : List NavRecord)
+        → IsChoice (sighting_by galileo records settings.now epoch.now.tag seen.now) so_far
+        → IsChoice (sighting_by galileo (records ++ one.now ∷ []) settings.now epoch.now.tag seen.now) result }
 {
     let later = alone(one, epoch, settings);
     if so_far.is_better(&later) {
@@ -107,7 +108,7 @@ fn with_record(
 
 /// What the records give of the satellite: one pass over those that are its own.
 pub(crate) fn choose(seen: &SatObs, epoch: &ObsEpoch, nav: &Nav, settings: &Settings) -> Choice
-    ensures { IsChoice (sighting nav.now settings.now epoch.now.tag seen.now) result }
+    ensures { (galileo : Option Signal) → IsChoice (sighting_by galileo nav.now settings.now epoch.now.tag seen.now) result }
 {
     let mut choice = Choice::NoRecord;
     for place in nav.places(seen.sat) {

@@ -1,28 +1,26 @@
 //! The codes of a satellite.
 
-ghost use Rattle.std.specs.Prelude.{ℕ, ◌≡◌, ◌↔◌, pos, ◌-ℤ◌, ◌*ℤ◌, List, IsTrue, IsNone, IfSome};
+ghost use Rattle.std.specs.Prelude.{ℕ, ◌*◌, ◌≡◌, ◌↔◌, pos, List, IsTrue, IsNone, IfSome};
 ghost use Rattle.exact_decimal.specs.declared.unit.Unit.TheVariants.{Length};
 ghost use Rattle.rinex_nav.specs.ElementsOf.{IsRounded};
-ghost use Rattle.sat_model.specs.declared.satellites.Signal.TheVariants.{Single, Dual};
-ghost use Rattle.sat_model.specs.declared.spans.Wide.{Wide};
+ghost use Rattle.gnss_model.specs.Systems.{squares_apart};
+ghost use Rattle.gnss_model.specs.declared.satellites.Signal.TheVariants.{Single, Dual};
+ghost use Rattle.grid_model.specs.declared.spans.Wide.{Wide};
+ghost use Rattle.gnss_model.specs.declared.systems.System.{System};
 ghost use Rattle.usable_sats.specs.Answers.{IsReading};
-ghost use Rattle.usable_sats.specs.Usability.{IsPlausible, IsCombinationPlausible};
+ghost use Rattle.usable_sats.specs.Usability.{IsPlausible, IsCombinationPlausible, least_range, greatest_range};
 
 use exact_decimal::{Decimal, Unit, to_unit_between};
+use gnss_model::{Signal, System};
+use grid_model::Wide;
+use pseudorange_prep::combination;
 use rinex_obs::SatObs;
-use sat_model::{Signal, Wide};
 
 /// The least range that a signal of a GPS satellite is under way, in um.
 const LEAST_RANGE: i128 = 15_000_000_000_000;
 
 /// The greatest.
 const GREATEST_RANGE: i128 = 40_000_000_000_000;
-
-/// The least ionosphere-free combination of two codes, times 2329.
-const LEAST_COMBINATION: i128 = 2329 * LEAST_RANGE;
-
-/// The greatest.
-const GREATEST_COMBINATION: i128 = 2329 * GREATEST_RANGE;
 
 /// The codes of a satellite in whole um: one, or one on each of two frequencies.
 #[derive(Clone, Copy, Debug, PartialEq, Eq)]
@@ -40,18 +38,18 @@ pub(crate) enum Reading {
 }
 
 /// The wanted codes of the satellite, where they are there and in range.
-pub(crate) fn read_codes(seen: &SatObs, signal: &Signal) -> Reading
-    ensures { IsReading signal.now seen.now result }
+pub(crate) fn read_codes(seen: &SatObs, signal: &Signal, system: System) -> Reading
+    ensures { IsReading system signal.now seen.now result }
 {
     match signal {
         Signal::Single { .. } => read_single(seen),
-        Signal::Dual { .. } => read_dual(seen),
+        Signal::Dual { .. } => read_dual(seen, system),
     }
 }
 
 /// One code.
 fn read_single(seen: &SatObs) -> Reading
-    ensures { (code : List ℕ) → IsReading (Single code) seen.now result }
+    ensures { (system : System) → (code : List ℕ) → IsReading system (Single code) seen.now result }
 {
     let Some(code) = seen.first else {
         return Reading::Missing;
@@ -63,8 +61,8 @@ fn read_single(seen: &SatObs) -> Reading
 }
 
 /// Two codes on two frequencies.
-fn read_dual(seen: &SatObs) -> Reading
-    ensures { (first second : List ℕ) → IsReading (Dual first second) seen.now result }
+fn read_dual(seen: &SatObs, system: System) -> Reading
+    ensures { (first second : List ℕ) → IsReading system (Dual first second) seen.now result }
 {
     let (Some(first), Some(second)) = (seen.first, seen.second) else {
         return Reading::Missing;
@@ -72,7 +70,7 @@ fn read_dual(seen: &SatObs) -> Reading
     let (Some(first), Some(second)) = (in_um(first), in_um(second)) else {
         return Reading::OutOfRange;
     };
-    if is_combination_in_range(&first, &second) {
+    if is_combination_in_range(&first, &second, system) {
         Reading::Within(Measured::Dual(first, second))
     } else {
         Reading::OutOfRange
@@ -89,24 +87,32 @@ fn in_um(code: Decimal) -> Option<Wide>
 }
 
 /// Whether the ionosphere-free combination of two codes is in range.
-fn is_combination_in_range(first: &Wide, second: &Wide) -> bool
+fn is_combination_in_range(first: &Wide, second: &Wide, system: System) -> bool
     requires first { IsPlausible first.now.lo first.now.hi 1 }
     requires second { IsPlausible second.now.lo second.now.hi 1 }
-    ensures { IsTrue result ↔ IsCombinationPlausible first.now second.now }
+    ensures { IsTrue result ↔ IsCombinationPlausible system first.now second.now }
 {
-    let sum = combination(first, second);
-    LEAST_COMBINATION <= sum.lo && sum.hi <= GREATEST_COMBINATION
+    let sum = combination(*first, *second, system);
+    least_combination(system) <= sum.lo && sum.hi <= greatest_combination(system)
 }
 
-/// The least and the greatest ionosphere-free combination of two codes, in um, times 2329.
-fn combination(first: &Wide, second: &Wide) -> Wide
-    requires first { IsPlausible first.now.lo first.now.hi 1 }
-    requires second { IsPlausible second.now.lo second.now.hi 1 }
-    ensures least { result.lo ≡ (pos 5929 *ℤ first.now.lo) -ℤ (pos 3600 *ℤ second.now.hi) }
-    ensures greatest { result.hi ≡ (pos 5929 *ℤ first.now.hi) -ℤ (pos 3600 *ℤ second.now.lo) }
+/// The least ionosphere-free combination of two codes, times the difference of the squares of their
+/// frequencies.
+fn least_combination(system: System) -> i128
+    ensures { result ≡ pos (squares_apart system * least_range) }
 {
-    Wide {
-        lo: 5929 * first.lo - 3600 * second.hi,
-        hi: 5929 * first.hi - 3600 * second.lo,
+    match system {
+        System::Gps => 2_329 * LEAST_RANGE,
+        System::Galileo => 10_491 * LEAST_RANGE,
+    }
+}
+
+/// The greatest.
+fn greatest_combination(system: System) -> i128
+    ensures { result ≡ pos (squares_apart system * greatest_range) }
+{
+    match system {
+        System::Gps => 2_329 * GREATEST_RANGE,
+        System::Galileo => 10_491 * GREATEST_RANGE,
     }
 }

@@ -1,18 +1,20 @@
 //! The judgement of a satellite.
 
 ghost use Rattle.std.specs.Prelude.{◌≡◌, ◌↔◌, IsTrue};
-ghost use Rattle.sat_model.specs.Boxes.{grid_box};
+ghost use Rattle.grid_model.specs.Boxes.{grid_box};
+ghost use Rattle.usable_sats.specs.Answers.{IsReading};
 ghost use Rattle.usable_sats.specs.Judgements.{IsOwnJudgement, IsJudgement};
-ghost use Rattle.usable_sats.specs.Usability.{IsHigh, sighting};
+ghost use Rattle.usable_sats.specs.Usability.{IsHigh, sighting_by, use_of};
 ghost use Rattle.usable_sats.specs.declared.judging.Judgement.TheVariants.{Skipped};
 
 use crate::choice::{Choice, choose};
 use crate::codes::{Measured, Reading, read_codes};
 use elevation_mapping::is_far_from_origin;
 use error_bounds::Settings;
+use gnss_model::{Elements, Sat, Signal, Skip, System};
+use grid_model::Box3;
 use rinex_nav::Nav;
 use rinex_obs::{ObsEpoch, SatObs};
-use sat_model::{Box3, Elements, Skip};
 
 /// The number of the first test of a satellite: the wanted codes are there.
 const CODE_MISSING: u8 = 1;
@@ -43,11 +45,38 @@ pub enum Judgement {
     Skipped(Skip),
 }
 
-/// Judges a satellite of the epoch by the records and the settings, wherever the receiver is.
-fn judge_itself(seen: &SatObs, epoch: &ObsEpoch, nav: &Nav, settings: &Settings) -> Judgement
-    ensures { IsOwnJudgement (sighting nav.now settings.now epoch.now.tag seen.now) result }
+/// The system as which a satellite is used, and its wanted codes.
+pub fn use_of(sat: Sat, settings: &Settings, galileo: &Option<Signal>) -> (System, Signal)
+    ensures { result ≡ use_of settings.now.signal galileo.now sat }
 {
-    let codes = match read_codes(seen, &settings.signal) {
+    if sat.system == b'E' {
+        if let Some(signal) = galileo {
+            return (System::Galileo, *signal);
+        }
+    }
+    (System::Gps, settings.signal)
+}
+
+/// The wanted codes of a satellite, where they are there and in range.
+fn wanted_codes(seen: &SatObs, settings: &Settings, galileo: &Option<Signal>) -> Reading
+    ensures { IsReading (use_of settings.now.signal galileo.now seen.now.sat).0
+        (use_of settings.now.signal galileo.now seen.now.sat).1 seen.now result }
+{
+    let (system, signal) = use_of(seen.sat, settings, galileo);
+    read_codes(seen, &signal, system)
+}
+
+/// Judges a satellite of the epoch by the records and the settings, wherever the receiver is.
+fn judge_itself(
+    seen: &SatObs,
+    epoch: &ObsEpoch,
+    nav: &Nav,
+    settings: &Settings,
+    galileo: &Option<Signal>,
+) -> Judgement
+    ensures { IsOwnJudgement (sighting_by galileo.now nav.now settings.now epoch.now.tag seen.now) result }
+{
+    let codes = match wanted_codes(seen, settings, galileo) {
         Reading::Missing => return skipped(CODE_MISSING),
         Reading::OutOfRange => return skipped(CODE_OUT_OF_RANGE),
         Reading::Within(codes) => codes,
@@ -75,18 +104,19 @@ fn is_high(settings: &Settings, root: &Box3) -> bool
 }
 
 /// Judges a satellite of the epoch by the records and the settings, for a receiver in the search
-/// box.
+/// box. Where there are codes of `galileo`, its satellites are used by these.
 pub fn judge_satellite(
     seen: &SatObs,
     epoch: &ObsEpoch,
     nav: &Nav,
     settings: &Settings,
+    galileo: &Option<Signal>,
     root: &Box3,
 ) -> Judgement
     ensures { IsJudgement settings.now.zenith (grid_box root.now)
-        (sighting nav.now settings.now epoch.now.tag seen.now) result }
+        (sighting_by galileo.now nav.now settings.now epoch.now.tag seen.now) result }
 {
-    match judge_itself(seen, epoch, nav, settings) {
+    match judge_itself(seen, epoch, nav, settings, galileo) {
         Judgement::Skipped(skip) => Judgement::Skipped(skip),
         Judgement::Usable { codes, elements } => {
             if is_high(settings, root) {

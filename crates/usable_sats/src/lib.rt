@@ -7,7 +7,7 @@ mod codes;
 mod judging;
 
 pub use codes::Measured;
-pub use judging::{Judgement, judge_satellite};
+pub use judging::{Judgement, judge_satellite, use_of};
 
 #[cfg(test)]
 mod tests;

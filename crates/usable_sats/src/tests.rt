@@ -1,9 +1,10 @@
 use super::*;
 use error_bounds::read_settings;
 use exact_decimal::Decimal;
+use gnss_model::{Sat, Skip};
+use grid_model::{Box3, Pos, Wide};
 use rinex_nav::{Nav, read_nav};
 use rinex_obs::{ObsEpoch, SatObs};
-use sat_model::{Box3, Pos, Sat, Skip, Wide};
 use std::alloc::{AllocError, Global};
 use std::test::Fail;
 
@@ -181,7 +182,7 @@ fn judged_in(
         tag: TAG,
         sats: Vec::new(alloc),
     };
-    Ok(judge_satellite(&seen, &epoch, &nav, &settings, root))
+    Ok(judge_satellite(&seen, &epoch, &nav, &settings, &None, root))
 }
 
 #[test]

@@ -1,6 +1,6 @@
 use Rattle.std.proofs.Common.{sym, subst, arith}
 use Rattle.std.specs.List.{AllByRecursion}
-use Rattle.sat_model.specs.declared.boxes.Pos.{Pos}
+use Rattle.grid_model.specs.declared.boxes.Pos.{Pos}
 use Rattle.made_texts.specs.ObsText.{observed_from}
 use Rattle.made_input.specs.PlaceFits.{FitsAt}
 use Rattle.made_input.proofs.FitLemmas.{fits_in_each}

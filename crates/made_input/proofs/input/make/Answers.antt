@@ -3,7 +3,7 @@ use Rattle.std.proofs.lemmas.Int.{ints}
 use Rattle.rinex_nav.specs.Files.{IsNavFile}
 use Rattle.rinex_nav.specs.Records.{Broadcast}
 use Rattle.rinex_obs.specs.Files.{IsObsFile}
-use Rattle.sat_model.specs.declared.satellites.Signal.TheVariants.{Single}
+use Rattle.gnss_model.specs.declared.satellites.Signal.TheVariants.{Single}
 use Rattle.made_texts.specs.NavText.{nav_lines, broadcast_of}
 use Rattle.made_texts.specs.ObsText.{AreEpochs, obs_lines, observed_from, code_c1c}
 use Rattle.made_texts.specs.TextLines.{text_of}

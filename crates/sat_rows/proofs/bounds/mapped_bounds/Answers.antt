@@ -3,11 +3,11 @@ use Rattle.std.specs.Int.{w64}
 use Rattle.std.specs.Prelude.{nat_abs}
 use Rattle.std.proofs.lemmas.Int.{to_z-of_z}
 use Rattle.fix_interval.specs.Places.{HoldsPlace}
-use Rattle.sat_model.specs.Boxes.{grid_box}
-use Rattle.sat_model.specs.Lengths.{longest_length}
-use Rattle.sat_model.specs.Mapping.{Mapping}
-use Rattle.sat_model.specs.Zenith.{span_amount, spare_over}
-use Rattle.sat_model.proofs.IntervalLemmas.{low_member}
+use Rattle.grid_model.specs.Boxes.{grid_box}
+use Rattle.grid_model.specs.Lengths.{longest_length}
+use Rattle.gnss_model.specs.Mapping.{Mapping}
+use Rattle.gnss_model.specs.Zenith.{span_amount, spare_over}
+use Rattle.grid_model.proofs.IntervalLemmas.{low_member}
 use Rattle.sat_rows.specs.BoundLemmas.{delays_exist}
 use Rattle.sat_rows.proofs.DelayLemmas.{moved_holds, moved_width, moved_order, low_spare, high_spare, low_corner}
 use Rattle.sat_rows.proofs.bounds.mapped_bounds.Goals as goal

@@ -3,7 +3,7 @@ use Rattle.sat_rows.proofs.places.sent_place.Goals as goal
 
 pub returns-clause-holds : goal.returns-clause-holds
 returns-clause-holds c n time x y z motion at orbit =
-    let h = c.place.ensures.holds n time x y z (c.mean_motion.ensures.holds n motion) at orbit in
+    let h = c.place.ensures.holds n time x y z (c.motion_of.ensures.holds n motion) at orbit in
     record { x_held = h.0; y_held = h.1; z_held = h.2 }
 
 pub returns-clause-ends : goal.returns-clause-ends

@@ -1,5 +1,5 @@
 use Rattle.std.proofs.Common.{◌*◌, ◌^◌, ◌+◌, lit≤}
-use Rattle.sat_model.proofs.EndsLemmas.{wider_ends}
+use Rattle.grid_model.proofs.EndsLemmas.{wider_ends}
 use Rattle.sat_clock.specs.ClockSizes.{correction_size}
 use Rattle.sat_rows.specs.RowSizes.{pseudorange_amount}
 use Rattle.sat_rows.proofs.signals.corrected_range.Goals as goal

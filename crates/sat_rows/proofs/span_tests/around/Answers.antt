@@ -1,6 +1,6 @@
 use Rattle.std.proofs.Common.{arith, lit≤}
 use Rattle.std.proofs.lemmas.Int.{ints}
-use Rattle.sat_model.specs.Amounts.{above}
+use Rattle.grid_model.specs.Amounts.{above}
 use Rattle.sat_rows.proofs.span_tests.around.Goals as goal
 
 pub returns : goal.returns

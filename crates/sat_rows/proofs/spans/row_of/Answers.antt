@@ -3,8 +3,8 @@ use Rattle.std.specs.Int.{w64, w128}
 use Rattle.std.specs.Prelude.{Bool}
 use Rattle.std.proofs.lemmas.Int.{to_z-of_z}
 use Rattle.earth_rotation.specs.TurnSizes.{near_reach, reach_after}
-use Rattle.sat_model.specs.ClockChain.{ClockChain}
-use Rattle.sat_model.proofs.ProductLemmas.{larger}
+use Rattle.gnss_model.specs.ClockChain.{ClockChainOf}
+use Rattle.grid_model.proofs.ProductLemmas.{larger}
 use Rattle.sat_rows.proofs.SpanLemmas.{span_holds, span_small, error_size, paired}
 use Rattle.sat_rows.proofs.spans.row_of.Goals as goal
 
@@ -56,7 +56,7 @@ returns-clause-holds c p chain inside (value, bound) =
     let el = c.args.el.now in
     let tag : FitsSigned w128 c.args.tag = c.ranges.tag in
     let pr = c.pseudorange-range.ensures.holds value.pr value.pr_is in
-    let clock = subst (λ (one : Bool). ClockChain el one value.n value.tsv value.dt value.t) (sym c.of_one_code.ensures) value.clock in
+    let clock = subst (λ (one : Bool). ClockChainOf c.args.system el one value.n value.tsv value.dt value.t) (sym c.of_one_code.ensures) value.clock in
     let sent = c.clock-sending.ensures.holds value.pr value.tsv value.n value.dt value.t pr (simp to_z-of_z value.tsv_is) value.n_is clock in
     let at = c.seen_place-place.ensures.holds p value.n value.t value.sent_x value.sent_y chain.z chain.x chain.y chain.range inside value.n_is sent.1 value.orbit value.turn in
     let range = c.corrected_range.ensures.holds value.pr value.dt chain.corrected pr sent.0 value.corrected_is in

@@ -1,20 +1,21 @@
+use Rattle.std.proofs.Common.{None}
 use Rattle.usable_sats.proofs.WalkLemmas.{walk_begins, place_within, place_own, walk_step, walk_ends}
 use Rattle.usable_sats.proofs.choice.choose.Goals as goal
 
 pub loop-place-init : goal.loop-place-init
-loop-place-init c = walk_begins c.args.nav.now c.args.settings.now c.args.epoch.now.tag c.args.seen.now _ c.places-place-items.ensures
+loop-place-init c = λ galileo. walk_begins c.args.nav.now galileo c.args.settings.now c.args.epoch.now.tag c.args.seen.now _ c.places-place-items.ensures
 
 pub at-requires : goal.at-requires
-at-requires c = place_within c.args.nav.now c.args.settings.now c.args.epoch.now.tag c.args.seen.now c.places-place-items.result.now c.loop-place.place-index _ c.loop-place.invariant c.loop-place-test.true
+at-requires c = place_within c.args.nav.now None c.args.settings.now c.args.epoch.now.tag c.args.seen.now c.places-place-items.result.now c.loop-place.place-index _ (c.loop-place.invariant None) c.loop-place-test.true
 
 pub with_record-choice-requires : goal.with_record-choice-requires
 with_record-choice-requires c =
-    place_own c.args.nav.now c.args.settings.now c.args.epoch.now.tag c.args.seen.now c.places-place-items.result.now c.loop-place.place-index _ _ c.loop-place.invariant c.loop-place-test.true c.at.ensures
+    place_own c.args.nav.now None c.args.settings.now c.args.epoch.now.tag c.args.seen.now c.places-place-items.result.now c.loop-place.place-index _ _ (c.loop-place.invariant None) c.loop-place-test.true c.at.ensures
 
 pub loop-place-preserved : goal.loop-place-preserved
 loop-place-preserved c =
-    walk_step c.args.nav.now c.args.settings.now c.args.epoch.now.tag c.args.seen.now c.places-place-items.result.now c.loop-place.place-index _ _ _ c.loop-place.invariant c.loop-place-test.true c.at.ensures
-    c.with_record-choice.ensures
+    λ galileo. walk_step c.args.nav.now galileo c.args.settings.now c.args.epoch.now.tag c.args.seen.now c.places-place-items.result.now c.loop-place.place-index _ _ _ (c.loop-place.invariant galileo) c.loop-place-test.true c.at.ensures
+    (c.with_record-choice.ensures galileo)
 
 pub returns : goal.returns
-returns c = walk_ends c.args.nav.now c.args.settings.now c.args.epoch.now.tag c.args.seen.now c.places-place-items.result.now c.loop-place.place-index _ c.loop-place.invariant c.loop-place-test.false
+returns c = λ galileo. walk_ends c.args.nav.now galileo c.args.settings.now c.args.epoch.now.tag c.args.seen.now c.places-place-items.result.now c.loop-place.place-index _ (c.loop-place.invariant galileo) c.loop-place-test.false

@@ -18,6 +18,6 @@ pub returns-else-is_combination_in_range : goal.returns-else-is_combination_in_r
 returns-else-is_combination_in_range c = λ a b.
     let rounded = rw c.in-Some-Some-2.is-0 at c.in_um.ensures.rounded in (
       ((c.in-Some-Some.first, c.in-Some-Some.is-0), (c.in-Some-Some.second, c.in-Some-Some.is-1)),
-      pair_out c.args.seen.now a b c.in-Some-Some.first c.in-Some-Some.second c.in-Some-Some-2.first c.in-Some-Some-2.second c.in-Some-Some.is-0 c.in-Some-Some.is-1 rounded c.in-Some-Some-2.ensures.rounded
+      pair_out c.args.system c.args.seen.now a b c.in-Some-Some.first c.in-Some-Some.second c.in-Some-Some-2.first c.in-Some-Some-2.second c.in-Some-Some.is-0 c.in-Some-Some.is-1 rounded c.in-Some-Some-2.ensures.rounded
           (λ p. true_false c.is_combination_in_range.result (c.is_combination_in_range.ensures.1 p) c.if-is_combination_in_range.false),
     )

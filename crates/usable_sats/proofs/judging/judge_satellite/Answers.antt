@@ -1,5 +1,5 @@
 use Rattle.std.proofs.Common.{refl, inr}
-use Rattle.sat_model.specs.Boxes.{grid_box}
+use Rattle.grid_model.specs.Boxes.{grid_box}
 use Rattle.usable_sats.specs.Usability.{IsHigh}
 use Rattle.usable_sats.proofs.judging.judge_satellite.Goals as goal
 

@@ -1,6 +1,6 @@
 use Rattle.std.proofs.Common.{◌+◌, ◌<◌, arith, rules, refl, ap, length}
 use Rattle.sat_rows.proofs.RowLemmas.{so_far_none, so_far_more, so_far_all, small_more, usable_more, usable_one}
-use Rattle.sat_rows.proofs.epochs.rows.Goals as goal
+use Rattle.sat_rows.proofs.epochs.rows_by.Goals as goal
 
 pub loop-seen-init : goal.loop-seen-init
 loop-seen-init c = rw (c.new-lines.ensures.items, c.deref-seen-items.ensures.value) (record { lines = so_far_none _ _ _ c.args.epoch.now.sats.items; small = tt; usable = refl; few = omega arith })
