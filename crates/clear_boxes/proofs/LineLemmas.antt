@@ -5,18 +5,19 @@ use Rattle.std.proofs.lemmas.Bool.{cases_Bool}
 use Rattle.std.proofs.lemmas.List.Sums.{sum_by-cons}
 use Rattle.rinex_obs.specs.declared.obs.ObsEpoch.{ObsEpoch}
 use Rattle.rinex_obs.specs.declared.obs.SatObs.{SatObs}
-use Rattle.sat_model.specs.Boxes.{Side, GridBox}
+use Rattle.grid_model.specs.Boxes.{Side, GridBox}
 use Rattle.sat_model.specs.ClockSpans.{clock_ends, clock_spans, inner_ends, inner_spans, IsShownEmpty, IsShownInner}
 use Rattle.sat_model.specs.Contractors.{LiesIn}
-use Rattle.sat_model.specs.Lengths.{spare_of}
+use Rattle.grid_model.specs.Lengths.{spare_of}
 use Rattle.sat_model.specs.Logs.{rows_of}
 use Rattle.sat_model.specs.Relaxed.{holds}
-use Rattle.sat_model.specs.SearchBoxes.{IsSearchBox}
-use Rattle.sat_model.specs.Zenith.{err_spare_of}
-use Rattle.sat_model.specs.declared.satellites.Row.{Row}
-use Rattle.sat_model.specs.declared.satellites.SatEntry.{SatEntry}
-use Rattle.sat_model.specs.declared.satellites.SatEntry.TheVariants as entry
-use Rattle.sat_model.proofs.FittingLemmas.{both, le_from, holds_from, count_here, count_not_here, count_any}
+use Rattle.grid_model.specs.SearchBoxes.{IsSearchBox}
+use Rattle.gnss_model.specs.Zenith.{err_spare_of}
+use Rattle.sat_model.specs.declared.rows.Row.{Row}
+use Rattle.sat_model.specs.declared.rows.SatEntry.{SatEntry}
+use Rattle.sat_model.specs.declared.rows.SatEntry.TheVariants as entry
+use Rattle.grid_model.proofs.PointLemmas.{both, le_from}
+use Rattle.sat_model.proofs.FittingLemmas.{holds_from, count_here, count_not_here, count_any}
 use Rattle.sat_rows.specs.Meanings.{Meaning, IsSound}
 use Rattle.sat_rows.specs.OwnRows.{IsOwnRow, AreOwnLines}
 use Rattle.sat_rows.specs.declared.lines.SatLine.{SatLine}

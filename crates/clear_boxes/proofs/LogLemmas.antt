@@ -1,22 +1,27 @@
 -- A log that paves the grown rows of searches leaves nothing clear.
-use Rattle.std.specs.Prelude.{pos}
-use Rattle.std.proofs.Common.{◌≡◌, ℕ, Bool, true, false, List, [], ◌∷◌, refl, sym, ◌∙◌, Option, None, Some}
+use Rattle.std.specs.Prelude.{ℤ, ◌≤ℤ◌, pos}
+use Rattle.std.proofs.Common.{◌≡◌, ℕ, Bool, true, false, List, [], ◌∷◌, refl, sym, ◌∙◌, arith, Option, None, Some}
 use Rattle.box_steps.proofs.BoxLemmas.{grid_part}
-use Rattle.epoch_selection.specs.Searches.{search_in, searches_in}
+use Rattle.std.proofs.lemmas.Int.{ints}
+use Rattle.epoch_rows.proofs.AdmitLemmas.{HavePoints}
+use Rattle.epoch_rows.proofs.AgreeLemmas.{HasPoint}
+use Rattle.range_contractor.proofs.BoxLemmas.{along, holds_at}
+use Rattle.grid_model.specs.Sizes.{IsBoxSize}
+use Rattle.grid_model.specs.Boxes.{IsIn, Side, GridBox, grid_box, side_at}
+use Rattle.epoch_selection.specs.Searches.{Search, search_in, searches_in}
 use Rattle.range_contractor.proofs.TreeExists.{IsGridPart}
 use Rattle.rinex_obs.specs.declared.obs.ObsEpoch.{ObsEpoch}
-use Rattle.sat_model.specs.Boxes.{GridBox, grid_box}
-use Rattle.sat_model.specs.Lengths.{spare_of}
-use Rattle.sat_model.specs.SearchBoxes.{IsSearchBox}
-use Rattle.sat_model.specs.Zenith.{err_spare_of}
+use Rattle.grid_model.specs.Lengths.{spare_of}
+use Rattle.grid_model.specs.SearchBoxes.{IsSearchSide, IsSearchBox}
+use Rattle.gnss_model.specs.Zenith.{err_spare_of}
 use Rattle.sat_model.specs.Logs.{Block}
-use Rattle.sat_model.specs.declared.boxes.Box3.{Box3}
+use Rattle.grid_model.specs.declared.boxes.Box3.{Box3}
 use Rattle.sat_model.specs.declared.rules.Rules.{Rules}
 use Rattle.sat_rows.specs.Meanings.{Meaning, IsSound}
 use Rattle.sat_rows.specs.OwnRows.{AreLinesOf}
 use Rattle.sat_rows.specs.declared.lines.SatLine.{SatLine}
 use Rattle.epoch_rows.proofs.CameLemmas.{whole_of}
-use Rattle.epoch_rows.specs.EpochsLeft.{left_in, of_epochs}
+use Rattle.epoch_rows.specs.EpochsLeft.{EpochsLeft, left_in, of_epochs}
 use Rattle.epoch_rows.specs.Grown.{HasBody, AreGrown, AreGrownLines}
 use Rattle.clear_boxes.specs.Left.{NothingClearLeft, BodyLeavesNothingClear, BlocksLeaveNothingClear}
 use Rattle.log_writer.specs.Texts.{IsWhole}
@@ -28,7 +33,7 @@ module _ (m : Meaning) (sound : IsSound m) (rules : Rules) (root : GridBox) (box
       → NothingClearLeft m rules (search_in root epoch) block.done paved.shown
   run_of_block epoch own block are grown paved = rw paved.done (run_clear m sound rules epoch root box grid own block.sats are grown paved.shown paved.run)
 
-  body_clear : (epoch : ObsEpoch) (few : Bool) (own : List SatLine) (given block : Block) (theirs : Option GridBox) → AreLinesOf m root epoch own → HasBody m.zenith few root own given → given.root ≡ theirs
+  pub body_clear : (epoch : ObsEpoch) (few : Bool) (own : List SatLine) (given block : Block) (theirs : Option GridBox) → AreLinesOf m root epoch own → HasBody m.zenith few root own given → given.root ≡ theirs
       → block.sats ≡ given.sats → BodyPaves rules block theirs → BodyLeavesNothingClear m rules (search_in root epoch) block theirs
   body_clear epoch few own given block None are body is sats paves = tt
   body_clear epoch true own given block (Some theirs) are body is sats paves = absurd (let none = sym is ∙ body.1 in cc)
@@ -49,9 +54,40 @@ module _ (m : Meaning) (sound : IsSound m) (rules : Rules) (root : GridBox) (box
     log_clear epochs given blocks grown.1 pave.1,
   )
 
+-- ---- each search in a box of its own
+
+sized : (s : Side) → IsSearchSide s → IsBoxSize s.lo × IsBoxSize s.hi
+sized s is = (
+  record { low = omega (arith, ints, is.low.low); high = omega (arith, ints, is.low.high) },
+  record { low = omega (arith, ints, is.high.low); high = omega (arith, ints, is.high.high) },
+)
+
+ordered : (s : Side) (n : ℤ) → IsIn s n → s.lo ≤ℤ s.hi
+ordered s n (low, high) = omega (arith, ints, low, high)
+
+-- a search box with a point is a box of the grid, not empty
+point_grid : (root : GridBox) → HasPoint root → IsGridPart root
+point_grid root has = record {
+  lies = λ axis. record { low = omega (arith, ints); ordered = ordered (side_at axis root) (along axis has.point) (holds_at root has.point has.inside axis); high = omega (arith, ints) };
+  sizes = record { x = sized root.x has.box.x; y = sized root.y has.box.y; z = sized root.z has.box.z };
+}
+
+module _ (m : Meaning) (sound : IsSound m) (rules : Rules) where
+  pub searches_clear : (searches : List Search) (given blocks : List Block) → HavePoints searches → AreGrown m rules.outliers searches given → AllPave rules given blocks
+      → BlocksLeaveNothingClear m rules searches blocks
+  searches_clear [] [] [] points grown pave = tt
+  searches_clear [] [] (block ∷ blocks) points grown pave = absurd pave
+  searches_clear [] (g ∷ given) blocks points grown pave = absurd grown
+  searches_clear (search ∷ searches) [] blocks points grown pave = absurd grown
+  searches_clear (search ∷ searches) (g ∷ given) [] points grown pave = absurd pave
+  searches_clear (search ∷ searches) (g ∷ given) (block ∷ blocks) points grown pave = (
+    body_clear m sound rules search.root points.0.box (point_grid search.root points.0) search.epoch g.few grown.0.own g block block.root grown.0.are_own grown.0.body (sym pave.0.root) pave.0.sats pave.0.body,
+    searches_clear searches given blocks points.1 grown.1 pave.1,
+  )
+
 -- the whole log of a source of epochs
-pub whole_clear : (m : Meaning) (sound : IsSound m) (rules : Rules) (root : Box3) (box : IsSearchBox (grid_box root)) (epochs : List ObsEpoch) (limit : ℕ) (bytes said : List ℕ)
-    (w : IsWhole (of_epochs m rules.outliers) rules (left_in (grid_box root) epochs) limit bytes said) → BlocksLeaveNothingClear m rules (searches_in (grid_box root) epochs) w.log.blocks
-whole_clear m sound rules root box epochs limit bytes said w =
+pub whole_clear : (m : Meaning) (sound : IsSound m) (rules : Rules) (root : Box3) (box : IsSearchBox (grid_box root)) (epochs : List ObsEpoch) (last : EpochsLeft) (limit : ℕ) (bytes said : List ℕ)
+    (w : IsWhole (of_epochs m rules.outliers) rules (left_in (grid_box root) epochs) last limit bytes said) → BlocksLeaveNothingClear m rules (searches_in (grid_box root) epochs) w.log.blocks
+whole_clear m sound rules root box epochs last limit bytes said w =
     let (given, grown, pave) = whole_of m rules.outliers rules (left_in (grid_box root) epochs) w.log.blocks w.behind w.came w.no_more in
     log_clear m sound rules (grid_box root) box (grid_part root) epochs given w.log.blocks grown pave

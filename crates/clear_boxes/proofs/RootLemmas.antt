@@ -3,12 +3,11 @@ use Rattle.std.proofs.Common.{◌≡◌, ℕ, ◌+◌, ◌-◌, ◌*◌, ◌<◌
 use Rattle.std.specs.Prelude.{ℤ, pos, negsuc, ◌+ℤ◌, ◌-ℤ◌, ◌≤ℤ◌, unsigned_abs}
 use Rattle.std.proofs.lemmas.Int.{ints, by_lt_z}
 use Rattle.std.proofs.lemmas.Nat.{mul-le}
-use Rattle.sat_model.specs.Amounts.{least_amount, greatest_amount, square}
-use Rattle.sat_model.specs.Boxes.{Side}
-use Rattle.sat_model.specs.Roots.{IsRoot, root}
-use Rattle.sat_model.specs.Trees.{IsIn}
-use Rattle.sat_model.proofs.RootLemmas.{root_is, square-mono}
-use Rattle.sat_model.proofs.SquareLemmas.{one_part}
+use Rattle.grid_model.specs.Amounts.{least_amount, greatest_amount, square}
+use Rattle.grid_model.specs.Boxes.{Side, IsIn}
+use Rattle.grid_model.specs.Roots.{IsRoot, root}
+use Rattle.grid_model.proofs.RootLemmas.{root_is, square-mono}
+use Rattle.grid_model.proofs.SquareLemmas.{one_part}
 use Rattle.range_contractor.proofs.AmountLemmas.{above_is_up}
 use borrow.Author.Differences.{up, down}
 

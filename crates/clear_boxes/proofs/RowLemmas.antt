@@ -4,16 +4,15 @@ use Rattle.std.specs.Prelude.{ℤ, pos, ◌+ℤ◌, ◌-ℤ◌, ◌≤ℤ◌, No
 use Rattle.std.proofs.lemmas.Int.{ints, by_lt_z}
 use Rattle.rinex_obs.specs.declared.obs.ObsEpoch.{ObsEpoch}
 use Rattle.rinex_obs.specs.declared.obs.SatObs.{SatObs}
-use Rattle.sat_model.specs.Boxes.{Side, GridBox, side_at, box_holds}
+use Rattle.grid_model.specs.Boxes.{Side, GridBox, side_at, box_holds, IsIn}
 use Rattle.sat_model.specs.ClockSpans.{near_of, far_of, clock_ends, inner_ends}
 use Rattle.sat_model.specs.Contractors.{LiesIn}
-use Rattle.sat_model.specs.Fitting.{range_to}
-use Rattle.sat_model.specs.Lengths.{spare_of}
-use Rattle.sat_model.specs.SearchBoxes.{IsSearchBox}
-use Rattle.sat_model.specs.Trees.{IsIn}
-use Rattle.sat_model.specs.Zenith.{err_spare_of}
-use Rattle.sat_model.specs.declared.boxes.Pos.{Pos}
-use Rattle.sat_model.specs.declared.satellites.Row.{Row}
+use Rattle.grid_model.specs.Ranges.{range_to}
+use Rattle.grid_model.specs.Lengths.{spare_of}
+use Rattle.grid_model.specs.SearchBoxes.{IsSearchBox}
+use Rattle.gnss_model.specs.Zenith.{err_spare_of}
+use Rattle.grid_model.specs.declared.boxes.Pos.{Pos}
+use Rattle.sat_model.specs.declared.rows.Row.{Row}
 use Rattle.range_contractor.proofs.BoxLemmas.{along, holds_all, holds_at}
 use Rattle.sat_rows.specs.Chains.{Chain}
 use Rattle.sat_rows.specs.Meanings.{Meaning, IsSound}

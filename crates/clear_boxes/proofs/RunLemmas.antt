@@ -4,6 +4,7 @@ use Rattle.std.specs.List.{AllByRecursion}
 use Rattle.std.specs.Prelude.{ℤ, pos, ◌-ℤ◌, ◌≤ℤ◌}
 use Rattle.std.proofs.lemmas.Int.{ints}
 use Rattle.box_steps.proofs.BoxLemmas.{cuts_inside, none_left}
+use Rattle.relaxed_meet.proofs.TestLemmas.{empty_by_spans}
 use Rattle.box_steps.proofs.FaceLemmas.{own_box, with_inside}
 use Rattle.box_steps.specs.BoxSteps.{AreCutsOf}
 use Rattle.box_steps.specs.Cuts.{eighth_of, past_eighth, eighths, all_faces, MayCut, NoneMayCut}
@@ -12,21 +13,21 @@ use Rattle.range_contractor.proofs.AmountLemmas.{above_is_up}
 use Rattle.range_contractor.proofs.BoxLemmas.{lies_through}
 use Rattle.range_contractor.proofs.TreeExists.{IsGridPart, inside_part}
 use Rattle.rinex_obs.specs.declared.obs.ObsEpoch.{ObsEpoch}
-use Rattle.sat_model.specs.Boxes.{Side, GridBox, side_at, low_half, high_half}
-use Rattle.sat_model.specs.ClockSpans.{IsShownEmpty}
+use Rattle.grid_model.specs.Boxes.{Side, GridBox, side_at, low_half, high_half}
+use Rattle.sat_model.specs.BoxTests.{BoxTest, test_of, IsEmpty}
 use Rattle.sat_model.specs.Contractors.{SideLiesIn, LiesIn}
 use Rattle.sat_model.specs.Fold.{ShownStep, axis_of, is_low, IsProperBound, IsProperCut, side_cut, left_by_cut, slab_of_cut}
-use Rattle.sat_model.specs.Lengths.{spare_of}
-use Rattle.sat_model.specs.SearchBoxes.{IsSearchBox}
-use Rattle.sat_model.specs.Zenith.{err_spare_of}
+use Rattle.grid_model.specs.Lengths.{spare_of}
+use Rattle.grid_model.specs.SearchBoxes.{IsSearchBox}
+use Rattle.gnss_model.specs.Zenith.{err_spare_of}
 use Rattle.sat_model.specs.Logs.{rows_of}
 use Rattle.sat_model.specs.Waiting.{WaitingBox, Paving, first_paving, IsNext, IsUndecided, Closes, opened_by, splits_after, beyond_all, joined}
 use Rattle.sat_model.specs.declared.rules.Rules.{Rules}
-use Rattle.sat_model.specs.declared.satellites.Row.{Row}
-use Rattle.sat_model.specs.declared.satellites.SatEntry.{SatEntry}
+use Rattle.sat_model.specs.declared.rows.Row.{Row}
+use Rattle.sat_model.specs.declared.rows.SatEntry.{SatEntry}
 use Rattle.sat_model.specs.declared.steps.Step.{Step}
 use Rattle.sat_model.specs.declared.steps.Step.TheVariants.{Cut, Split, Outside, Inside, Edge}
-use Rattle.sat_model.proofs.SquareLemmas.{one_part}
+use Rattle.grid_model.proofs.SquareLemmas.{one_part}
 use Rattle.sat_rows.specs.Meanings.{Meaning, IsSound}
 use Rattle.sat_rows.specs.OwnRows.{AreLinesOf}
 use Rattle.sat_rows.specs.declared.lines.SatLine.{SatLine}
@@ -53,14 +54,14 @@ slab_inside : (face : ℕ) (bound : ℤ) (part : GridBox) → LiesIn part part �
 slab_inside face bound part lies proper =
     with_inside (axis_of face) part (side_cut (is_low face) (side_at (axis_of face) part) bound) lies (slab_side_inside (is_low face) (side_at (axis_of face) part) bound proper)
 
-none_at : (rows : List Row) (q face : ℕ) (part : GridBox) → face ≤ 5 → NoneMayCut rows q all_faces part → MayCut rows q face (eighths face part) part → ⊥
-none_at rows q zero part le none = none.0
-none_at rows q (suc zero) part le none = none.1.0
-none_at rows q (suc (suc zero)) part le none = none.1.1.0
-none_at rows q (suc (suc (suc zero))) part le none = none.1.1.1.0
-none_at rows q (suc (suc (suc (suc zero)))) part le none = none.1.1.1.1.0
-none_at rows q (suc (suc (suc (suc (suc zero))))) part le none = none.1.1.1.1.1.0
-none_at rows q (suc (suc (suc (suc (suc (suc n)))))) part le none = absurd (omega arith)
+none_at : (test : BoxTest) (face : ℕ) (part : GridBox) → face ≤ 5 → NoneMayCut test all_faces part → MayCut test face (eighths face part) part → ⊥
+none_at test zero part le none = none.0
+none_at test (suc zero) part le none = none.1.0
+none_at test (suc (suc zero)) part le none = none.1.1.0
+none_at test (suc (suc (suc zero))) part le none = none.1.1.1.0
+none_at test (suc (suc (suc (suc zero)))) part le none = none.1.1.1.1.0
+none_at test (suc (suc (suc (suc (suc zero))))) part le none = none.1.1.1.1.1.0
+none_at test (suc (suc (suc (suc (suc (suc n)))))) part le none = absurd (omega arith)
 
 -- ---- splits: they rise, up to the number that is allowed
 
@@ -111,8 +112,9 @@ opened_lie root rows rules splits id part (Edge n lo hi) closes lies = tt
 module _ (m : Meaning) (sound : IsSound m) (rules : Rules) (epoch : ObsEpoch) (root : GridBox) (search : IsSearchBox root) (grid : IsGridPart root)
     (own_lines : List SatLine) (entries : List SatEntry) (are : AreLinesOf m root epoch own_lines) (grown : AreGrownLines (pos (spare_of root)) (pos (err_spare_of root m.zenith)) own_lines entries) where
   -- where a box isn't shown empty it isn't clearly so
-  not_clearly_empty : (part : GridBox) → LiesIn part root → (IsShownEmpty (rows_of entries) part rules.outliers → ⊥) → IsClearlyEmpty m rules.outliers (search_in root epoch) part → ⊥
-  not_clearly_empty part lies not clear = not (empty_shown m sound epoch root search part lies (margin_over root m.zenith) (omega arith) rules.outliers own_lines entries are grown clear)
+  not_clearly_empty : (part : GridBox) → LiesIn part root → (IsEmpty (test_of rules (rows_of entries)) part → ⊥) → IsClearlyEmpty m rules.outliers (search_in root epoch) part → ⊥
+  not_clearly_empty part lies not clear =
+      not (empty_by_spans (test_of rules (rows_of entries)) part (empty_shown m sound epoch root search part lies (margin_over root m.zenith) (omega arith) rules.outliers own_lines entries are grown clear))
 
   unclear : (grain slack : ℤ) (box : WaitingBox) (cuts : List ShownStep) (left : GridBox) → AreCutsOf grain slack (rows_of entries) rules box cuts left → LiesIn left root
       → IsUndecided (rows_of entries) rules left → IsUnclear m rules (search_in root epoch) left
@@ -123,7 +125,7 @@ module _ (m : Meaning) (sound : IsSound m) (rules : Rules) (epoch : ObsEpoch) (r
         let own = own_box left root lies in
         let proper = eighth_proper (is_low face) (side_at (axis_of face) left) (own (axis_of face)).ordered some in
         not_clearly_empty (slab_of_cut face (eighths face left) left) (lies_through _ left root (slab_inside face (eighths face left) left own proper) lies)
-        (λ empty. none_at (rows_of entries) rules.outliers face left le (none_left grain slack (rows_of entries) rules box cuts left undecided are_cuts) (proper, empty));
+        (λ empty. none_at (test_of rules (rows_of entries)) face left le (none_left grain slack (rows_of entries) rules box cuts left undecided are_cuts) (proper, empty));
   }
 
   -- the step that splits or closes a box
@@ -142,10 +144,10 @@ module _ (m : Meaning) (sound : IsSound m) (rules : Rules) (epoch : ObsEpoch) (r
   )
 
   -- nothing is asked of cuts
-  cuts_clear : (q id done : ℕ) (part : GridBox) (cuts : List ShownStep) (left : GridBox) → AreCutsInTurn (rows_of entries) q id part cuts left → NothingClearLeft m rules (search_in root epoch) done cuts
-  cuts_clear q id done part [] left same = tt
-  cuts_clear q id done part (shown ∷ cuts) left (face, bound, may, is, later) =
-      (subst (λ (s : ShownStep). LeavesNothingClear m rules (search_in root epoch) done s.step s.part) (sym is) tt, cuts_clear q id done (left_by_cut face bound part) cuts left later)
+  cuts_clear : (test : BoxTest) (id done : ℕ) (part : GridBox) (cuts : List ShownStep) (left : GridBox) → AreCutsInTurn test id part cuts left → NothingClearLeft m rules (search_in root epoch) done cuts
+  cuts_clear test id done part [] left same = tt
+  cuts_clear test id done part (shown ∷ cuts) left (face, bound, may, is, later) =
+      (subst (λ (s : ShownStep). LeavesNothingClear m rules (search_in root epoch) done s.step s.part) (sym is) tt, cuts_clear test id done (left_by_cut face bound part) cuts left later)
 
   boxes_clear : (paving last : Paving) (boxes : List (List ShownStep)) → PavesTo (rows_of entries) rules paving boxes last → Lie root paving.waiting → last.splits ≤ rules.bisections
       → NothingClearLeft m rules (search_in root epoch) last.splits (joined boxes)
@@ -161,7 +163,7 @@ module _ (m : Meaning) (sound : IsSound m) (rules : Rules) (epoch : ObsEpoch) (r
       let last_one = last_clear paving.splits next.id last.splits steps.left steps.last steps.closes (unclear _ _ next steps.cuts steps.left steps.are_cuts left_lies)
       (omega (arith, risen.0, more.0, ap (λ (p : Paving). p.splits) opens)) most in
       let own_clear = all_append P steps.cuts ((record { step = steps.last; part = steps.left }) ∷ [])
-      (cuts_clear rules.outliers next.id last.splits next.part steps.cuts steps.left (cuts_in_turn _ _ (rows_of entries) rules next steps.cuts steps.left steps.are_cuts)) (last_one, tt) in
+      (cuts_clear (test_of rules (rows_of entries)) next.id last.splits next.part steps.cuts steps.left (cuts_in_turn _ _ (rows_of entries) rules next steps.cuts steps.left steps.are_cuts)) (last_one, tt) in
       let opened : Lie root (beyond_all rested own).waiting = subst (λ (p : Paving). Lie root p.waiting) (sym opens)
       (all_append (λ (box : WaitingBox). LiesIn box.part root) rest _ others (opened_lie root (rows_of entries) rules paving.splits next.id steps.left steps.last steps.closes left_lies)) in
       all_append P own (joined boxes) (subst (NothingClearLeft m rules (search_in root epoch) last.splits) (sym steps.all_steps) own_clear)

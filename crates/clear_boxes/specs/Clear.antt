@@ -5,14 +5,13 @@ use Rattle.std.specs.Prelude.{◌+◌, true, List, [], ◌∷◌, Option, Some}
 use Rattle.epoch_selection.specs.Searches.{Search}
 use Rattle.rinex_obs.specs.declared.obs.ObsEpoch.{ObsEpoch}
 use Rattle.rinex_obs.specs.declared.obs.SatObs.{SatObs}
-use Rattle.sat_model.specs.Boxes.{Side, GridBox, box_holds}
-use Rattle.sat_model.specs.Intervals.{Between}
-use Rattle.sat_model.specs.Lengths.{spare_of}
-use Rattle.sat_model.specs.Trees.{IsIn}
-use Rattle.sat_model.specs.Zenith.{err_spare_of}
-use Rattle.sat_model.specs.declared.boxes.Pos.{Pos}
-use Rattle.sat_model.specs.declared.satellites.Skip.{Skip}
-use Rattle.sat_model.specs.declared.spans.Span.{Span}
+use Rattle.grid_model.specs.Boxes.{Side, GridBox, box_holds, IsIn}
+use Rattle.grid_model.specs.Intervals.{Between}
+use Rattle.grid_model.specs.Lengths.{spare_of}
+use Rattle.gnss_model.specs.Zenith.{err_spare_of}
+use Rattle.grid_model.specs.declared.boxes.Pos.{Pos}
+use Rattle.gnss_model.specs.declared.satellites.Skip.{Skip}
+use Rattle.grid_model.specs.declared.spans.Span.{Span}
 use Rattle.sat_rows.specs.Chains.{Chain}
 use Rattle.sat_rows.specs.Meanings.{Meaning}
 

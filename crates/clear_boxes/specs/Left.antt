@@ -4,9 +4,9 @@ use Rattle.std.specs.Prelude.{◌≡◌, ℕ, ◌≤◌, pos, ◌<ℤ◌, List, 
 use Rattle.std.specs.List.{AllByRecursion}
 use Rattle.box_steps.specs.Cuts.{eighth_of, eighths}
 use Rattle.epoch_selection.specs.Searches.{Search}
-use Rattle.sat_model.specs.Boxes.{GridBox, side_at}
+use Rattle.grid_model.specs.Boxes.{GridBox, side_at}
 use Rattle.sat_model.specs.Fold.{ShownStep, axis_of, slab_of_cut}
-use Rattle.sat_model.specs.Lengths.{longest_length}
+use Rattle.grid_model.specs.Lengths.{longest_length}
 use Rattle.sat_model.specs.Logs.{Block}
 use Rattle.sat_model.specs.declared.rules.Rules.{Rules}
 use Rattle.sat_model.specs.declared.steps.Step.{Step}

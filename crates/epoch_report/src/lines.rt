@@ -3,16 +3,17 @@
 ghost use Rattle.std.specs.Prelude.{◌≡◌, ◌↔◌, ◌+◌, ◌≤◌, ◌∷◌, ◌++◌, length, IfSome, true};
 ghost use Rattle.std.specs.Fmt.{decimal};
 ghost use Rattle.log_words.specs.Words.{joined};
-ghost use Rattle.sat_model.specs.Boxes.{grid_box};
+ghost use Rattle.grid_model.specs.Boxes.{grid_box};
 ghost use Rattle.sat_model.specs.StepKinds.{is_split};
 ghost use Rattle.epoch_report.specs.Metres.{metres_text};
 ghost use Rattle.epoch_report.specs.ReportLines.{counted_name, box_words, in_words, edge_words, out_words, line_of, epoch_text_of, step_text_of, total_text_of};
 
 use crate::counts::Counts4;
 use crate::lengths::{push_metres, push_seconds};
+use grid_model::Box3;
 use itoa::Buffer;
 use paving_log::Line;
-use sat_model::{Box3, Step};
+use sat_model::Step;
 
 /// A blank and a count.
 fn push_count(line: &mut Line, count: u32)

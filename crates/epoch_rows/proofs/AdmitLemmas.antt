@@ -10,13 +10,13 @@ use Rattle.log_writer.specs.Pavings.{Paves, AllPave}
 use Rattle.paving_log_check.specs.Admissible.{IsOf, AdmitsFrom, AreOwn}
 use Rattle.paving_log_check.specs.Epochs.{BodyPassesAt, EpochPasses}
 use Rattle.paving_log_check.specs.Lines.{expected, SatsPass}
-use Rattle.sat_model.specs.Boxes.{GridBox, grid_box, box_holds}
+use Rattle.grid_model.specs.Boxes.{GridBox, grid_box, box_holds}
 use Rattle.sat_model.specs.Logs.{Block}
 use Rattle.sat_model.specs.Verdicts.{BodyPasses, BlockPasses, BlocksPass, NoneRepeats}
-use Rattle.sat_model.specs.declared.boxes.Box3.{Box3}
+use Rattle.grid_model.specs.declared.boxes.Box3.{Box3}
 use Rattle.sat_model.specs.declared.rules.Rules.{Rules}
-use Rattle.sat_model.specs.declared.satellites.SatEntry.{SatEntry}
-use Rattle.sat_model.specs.declared.spans.Span.{Span}
+use Rattle.sat_model.specs.declared.rows.SatEntry.{SatEntry}
+use Rattle.grid_model.specs.declared.spans.Span.{Span}
 use Rattle.paving_log_check.proofs.FitLemmas.{HasFewRoot, AreInBoxes}
 use Rattle.sat_rows.specs.Meanings.{Meaning, IsSound}
 use Rattle.sat_rows.specs.OwnRows.{AreLinesOf}

@@ -5,20 +5,19 @@ use Rattle.std.proofs.lemmas.Int.{ints}
 use Rattle.epoch_rows.specs.Grown.{IsGrownRow, IsGrownLine, AreGrownLines, skips_of}
 use Rattle.paving_log_check.specs.Lines.{skipped_in, IsSameLine, HoldsSide, bounds_compared, HoldEach, HoldsOwn, HasBound, RowPasses}
 use Rattle.rinex_obs.specs.declared.obs.SatObs.{SatObs}
-use Rattle.sat_model.specs.Boxes.{Side, GridBox, box_holds}
+use Rattle.grid_model.specs.Boxes.{Side, GridBox, box_holds, span_side}
 use Rattle.sat_model.specs.Fitting.{low_bounds, high_bounds}
-use Rattle.sat_model.specs.Intervals.{Between}
-use Rattle.sat_model.specs.Lengths.{spare_of}
+use Rattle.grid_model.specs.Intervals.{Between}
+use Rattle.grid_model.specs.Lengths.{spare_of}
 use Rattle.sat_model.specs.Relaxed.{ends}
-use Rattle.sat_model.specs.SearchBoxes.{IsSearchBox}
-use Rattle.sat_model.specs.Trees.{span_side}
-use Rattle.sat_model.specs.Zenith.{err_spare_of}
-use Rattle.sat_model.specs.declared.boxes.Pos.{Pos}
-use Rattle.sat_model.specs.declared.satellites.Row.{Row}
-use Rattle.sat_model.specs.declared.satellites.SatEntry.{SatEntry}
-use Rattle.sat_model.specs.declared.satellites.SatEntry.TheVariants as entry
-use Rattle.sat_model.specs.declared.satellites.Skip.{Skip}
-use Rattle.sat_model.specs.declared.spans.Span.{Span}
+use Rattle.grid_model.specs.SearchBoxes.{IsSearchBox}
+use Rattle.gnss_model.specs.Zenith.{err_spare_of}
+use Rattle.grid_model.specs.declared.boxes.Pos.{Pos}
+use Rattle.sat_model.specs.declared.rows.Row.{Row}
+use Rattle.sat_model.specs.declared.rows.SatEntry.{SatEntry}
+use Rattle.sat_model.specs.declared.rows.SatEntry.TheVariants as entry
+use Rattle.gnss_model.specs.declared.satellites.Skip.{Skip}
+use Rattle.grid_model.specs.declared.spans.Span.{Span}
 use Rattle.sat_rows.specs.Chains.{Chain}
 use Rattle.sat_rows.specs.Growth.{IsGrown, AreBoundsGrown}
 use Rattle.sat_rows.specs.Meanings.{Meaning, IsSound}

@@ -5,8 +5,8 @@ use Rattle.std.specs.List.{AllByRecursion}
 use Rattle.std.proofs.lemmas.Option.{same_Some}
 use Rattle.sat_model.specs.Logs.{sat_of}
 use Rattle.sat_model.specs.Verdicts.{NoneRepeats}
-use Rattle.sat_model.specs.declared.satellites.Sat.{Sat}
-use Rattle.sat_model.specs.declared.satellites.SatEntry.{SatEntry}
+use Rattle.gnss_model.specs.declared.satellites.Sat.{Sat}
+use Rattle.sat_model.specs.declared.rows.SatEntry.{SatEntry}
 
 -- none of the lines names the satellite
 abbrev pub NoneNames : Sat → List SatEntry → Type 0

@@ -12,9 +12,9 @@ use Rattle.paving_log.specs.Rows.{CornersFit, corners_of, EntryFits}
 use Rattle.paving_log.specs.Text.{IsSkipped}
 use Rattle.rinex_obs.specs.Facts.{AreGpsSats}
 use Rattle.rinex_obs.specs.declared.obs.ObsEpoch.{ObsEpoch}
-use Rattle.sat_model.specs.Boxes.{GridBox, grid_box}
-use Rattle.sat_model.specs.declared.boxes.Box3.{Box3}
-use Rattle.sat_model.specs.declared.satellites.SatEntry.{SatEntry}
+use Rattle.grid_model.specs.Boxes.{GridBox, grid_box}
+use Rattle.grid_model.specs.declared.boxes.Box3.{Box3}
+use Rattle.sat_model.specs.declared.rows.SatEntry.{SatEntry}
 use Rattle.sat_rows.specs.Meanings.{Meaning}
 use Rattle.sat_rows.specs.OwnRows.{AreLinesOf, usable_in}
 use Rattle.sat_rows.specs.declared.lines.SatLine.{SatLine}

@@ -10,10 +10,10 @@ use Rattle.log_writer.specs.Texts.{IsWhole}
 use Rattle.paving_log_check.specs.Admissible.{Admits, AreOwn}
 use Rattle.paving_log_check.specs.FileCover.{FileCover}
 use Rattle.paving_log_check.proofs.FitLemmas.{fit_all}
-use Rattle.sat_model.specs.Boxes.{GridBox, box_holds}
+use Rattle.grid_model.specs.Boxes.{GridBox, box_holds}
 use Rattle.sat_model.specs.Logs.{Block}
-use Rattle.sat_model.specs.SearchBoxes.{IsSearchBox}
-use Rattle.sat_model.specs.declared.boxes.Pos.{Pos}
+use Rattle.grid_model.specs.SearchBoxes.{IsSearchBox}
+use Rattle.grid_model.specs.declared.boxes.Pos.{Pos}
 use Rattle.sat_model.specs.declared.rules.Rules.{Rules}
 use Rattle.sat_rows.specs.Meanings.{Meaning, IsSound}
 use Rattle.sat_rows.specs.declared.lines.SatLine.{SatLine}
@@ -59,8 +59,8 @@ module _ (m : Meaning) (q : ℕ) (rules : Rules) where
       (of.given, subst (AreGrown m q (all_left left)) (append-nil of.given) (of.grown [] (none_left behind ended)), of.pave)
 
 -- the whole log over a search box with a point in it
-module _ (m : Meaning) (sound : IsSound m) (rules : Rules) (left : EpochsLeft) (box : IsSearchBox left.root) (p : Pos) (inside : box_holds left.root p ≡ true)
-    (limit : ℕ) (bytes said : List ℕ) (w : IsWhole (of_epochs m rules.outliers) rules left limit bytes said) where
+module _ (m : Meaning) (sound : IsSound m) (rules : Rules) (left last : EpochsLeft) (box : IsSearchBox left.root) (p : Pos) (inside : box_holds left.root p ≡ true)
+    (limit : ℕ) (bytes said : List ℕ) (w : IsWhole (of_epochs m rules.outliers) rules left last limit bytes said) where
   have_points : (epochs : List ObsEpoch) → HavePoints (searches_in left.root epochs)
   have_points [] = tt
   have_points (epoch ∷ more) = (record { box = box; point = p; inside = inside }, have_points more)
@@ -70,7 +70,7 @@ module _ (m : Meaning) (sound : IsSound m) (rules : Rules) (left : EpochsLeft) (
   whole_admits owns are =
       let (given, grown, pave) = whole_of m rules.outliers rules left w.log.blocks w.behind w.came w.no_more in
       record {
-        same_rules = rw w.same_rules (record { outliers = refl; bisections = refl; width = refl });
+        same_rules = rw w.same_rules (record { outliers = refl; bisections = refl; width = refl; pairs = refl });
         blocks = admits_from m sound rules None (all_left left) given w.log.blocks (have_points left.epochs) grown pave (rw w.same_rules at w.judged) owns are;
       }
 

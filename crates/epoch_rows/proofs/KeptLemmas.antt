@@ -6,7 +6,7 @@ use Rattle.log_writer.specs.Kept.{hull_kept, hull_of_last}
 use Rattle.log_writer.specs.Sources.{Gives, Came}
 use Rattle.log_writer.specs.Texts.{IsText}
 use Rattle.log_writer.specs.declared.fault.WriteFault.{WriteFault}
-use Rattle.sat_model.specs.Boxes.{GridBox}
+use Rattle.grid_model.specs.Boxes.{GridBox}
 use Rattle.sat_model.specs.Logs.{Block}
 use Rattle.sat_model.specs.declared.rules.Rules.{Rules}
 use Rattle.sat_rows.specs.Meanings.{Meaning}
@@ -21,24 +21,23 @@ module _ {B C : Type 0} (gives : Gives B) (others : Gives C) (value : B → C) (
       let more = came_kept next last (hull_kept block.steps block.root) blocks (keep first hull given next keeps gave) later in
       ((given, value next, each first hull (Some given) next keeps gave, paves, more.0), more.1)
 
-  pub text_kept : {T : Type 0} (first : B) (limit : ℕ) (r : Result T WriteFault) (bytes said : List ℕ) → Keeps first
-      → IsText gives rules first limit r bytes said → IsText others rules (value first) limit r bytes said
-  text_kept first limit (Ok done) bytes said keeps w =
+  pub text_kept : {T : Type 0} (first last : B) (limit : ℕ) (r : Result T WriteFault) (bytes said : List ℕ) → Keeps first
+      → IsText gives rules first last limit r bytes said → IsText others rules (value first) (value last) limit r bytes said
+  text_kept first last limit (Ok done) bytes said keeps w =
       let came = came_kept first w.behind None w.log.blocks keeps w.came in
       record {
         log = w.log;
         same_rules = w.same_rules;
         behind = value w.behind;
-        last = value w.last;
         came = came.0;
-        no_more = each w.behind (hull_of_last None w.log.blocks) None w.last came.1 w.no_more;
+        no_more = each w.behind (hull_of_last None w.log.blocks) None last came.1 w.no_more;
         text = w.text;
         report = w.report;
         judged = w.judged;
         cover = w.cover;
         fits = w.fits;
       }
-  text_kept first limit (Err fault) bytes said keeps w = record {
+  text_kept first last limit (Err fault) bytes said keeps w = record {
     blocks = w.blocks;
     behind = value w.behind;
     came = (came_kept first w.behind None w.blocks keeps w.came).0;
@@ -65,8 +64,8 @@ module _ {B S : Type 0} (source_of : B → S) (rules_of : B → Rules) (searches
     still_same : (old : B) (hull : Option GridBox) (block : Block) (new : B) → IsSame old → gives_epochs old hull (Some block) new → IsSame new
     still_same old hull block new same gave = (gave.0 ∙ same.0, gave.1 ∙ same.1)
 
-    pub text_of_epochs : {T : Type 0} (rules : Rules) (limit : ℕ) (r : Result T WriteFault) (bytes said : List ℕ) → IsText gives_epochs rules first limit r bytes said
-        → IsText (of_epochs (meaning (source_of first)) (rules_of first).outliers) rules (left_of (searches_of first)) limit r bytes said
-    text_of_epochs rules limit r bytes said text =
+    pub text_of_epochs : {T : Type 0} (last : B) (rules : Rules) (limit : ℕ) (r : Result T WriteFault) (bytes said : List ℕ) → IsText gives_epochs rules first last limit r bytes said
+        → IsText (of_epochs (meaning (source_of first)) (rules_of first).outliers) rules (left_of (searches_of first)) (left_of (searches_of last)) limit r bytes said
+    text_of_epochs last rules limit r bytes said text =
         text_kept gives_epochs (of_epochs (meaning (source_of first)) (rules_of first).outliers) (λ b. left_of (searches_of b)) IsSame given_here still_same
-        rules first limit r bytes said (refl, refl) text
+        rules first last limit r bytes said (refl, refl) text

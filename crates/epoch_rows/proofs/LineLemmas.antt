@@ -11,13 +11,13 @@ use Rattle.paving_log.specs.Rows.{EntryFits}
 use Rattle.paving_log.specs.Text.{IsSkipped}
 use Rattle.rinex_obs.specs.Facts.{IsGpsSat, AreGpsSats, AreDistinct}
 use Rattle.rinex_obs.specs.declared.obs.SatObs.{SatObs}
-use Rattle.sat_model.specs.Boxes.{GridBox}
+use Rattle.grid_model.specs.Boxes.{GridBox}
 use Rattle.sat_model.specs.Logs.{sat_of, rows_of}
-use Rattle.sat_model.specs.declared.satellites.Row.{Row}
-use Rattle.sat_model.specs.declared.satellites.Sat.{Sat}
-use Rattle.sat_model.specs.declared.satellites.SatEntry.{SatEntry}
-use Rattle.sat_model.specs.declared.satellites.SatEntry.TheVariants as entry
-use Rattle.sat_model.specs.declared.spans.Span.{Span}
+use Rattle.sat_model.specs.declared.rows.Row.{Row}
+use Rattle.gnss_model.specs.declared.satellites.Sat.{Sat}
+use Rattle.sat_model.specs.declared.rows.SatEntry.{SatEntry}
+use Rattle.sat_model.specs.declared.rows.SatEntry.TheVariants as entry
+use Rattle.grid_model.specs.declared.spans.Span.{Span}
 use Rattle.sat_rows.specs.Growth.{GrowsWithin, IsGrown, BoundsGrowWithin, AreBoundsGrown}
 use Rattle.sat_rows.specs.Meanings.{Meaning}
 use Rattle.sat_rows.specs.OwnRows.{IsOwnLine, AreOwnLines, usable_in, IsSmall, IsSmallRow, IsSmallLine}

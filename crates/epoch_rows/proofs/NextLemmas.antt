@@ -10,10 +10,10 @@ use Rattle.log_writer.specs.Sources.{Follows}
 use Rattle.paving_log.specs.declared.line.Form.TheVariants as form
 use Rattle.paving_log.specs.Text.{BlockFits}
 use Rattle.rinex_obs.specs.declared.obs.ObsEpoch.{ObsEpoch}
-use Rattle.sat_model.specs.Boxes.{grid_box}
+use Rattle.grid_model.specs.Boxes.{grid_box}
 use Rattle.sat_model.specs.Logs.{Block}
 use Rattle.sat_model.specs.Verdicts.{IsLater}
-use Rattle.sat_model.specs.declared.boxes.Box3.{Box3}
+use Rattle.grid_model.specs.declared.boxes.Box3.{Box3}
 use Rattle.sat_model.specs.declared.rules.Rules.{Rules}
 use Rattle.sat_rows.specs.Meanings.{Meaning}
 use Rattle.epoch_rows.proofs.PassLemmas.{grown_passes}

@@ -7,13 +7,13 @@ use Rattle.epoch_selection.specs.Searches.{Search}
 use Rattle.paving_log.specs.RowsText.{OwnPasses}
 use Rattle.rinex_obs.specs.Facts.{AreDistinct}
 use Rattle.rinex_obs.specs.declared.obs.ObsEpoch.{ObsEpoch}
-use Rattle.sat_model.specs.Boxes.{GridBox}
-use Rattle.sat_model.specs.Lengths.{spare_of}
+use Rattle.grid_model.specs.Boxes.{GridBox}
+use Rattle.grid_model.specs.Lengths.{spare_of}
 use Rattle.sat_model.specs.Logs.{Block}
-use Rattle.sat_model.specs.Zenith.{err_spare_of}
+use Rattle.gnss_model.specs.Zenith.{err_spare_of}
 use Rattle.sat_model.specs.Verdicts.{IsLater, SuitsNumber, CountsRows, NoneRepeats}
 use Rattle.sat_model.specs.declared.rules.Rules.{Rules}
-use Rattle.sat_model.specs.declared.spans.Span.{Span}
+use Rattle.grid_model.specs.declared.spans.Span.{Span}
 use Rattle.sat_rows.specs.Meanings.{Meaning}
 use Rattle.sat_rows.specs.OwnRows.{AreLinesOf, usable_in}
 use Rattle.sat_rows.specs.declared.lines.SatLine.{SatLine}

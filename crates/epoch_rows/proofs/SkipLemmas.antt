@@ -2,9 +2,9 @@
 use Rattle.std.proofs.Common.{◌≡◌, ℕ, ◌≤◌, List, inl, inr, arith}
 use Rattle.std.specs.Prelude.{Option, Some}
 use Rattle.log_words.specs.Fields.{SkipFits}
-use Rattle.sat_model.specs.Boxes.{GridBox}
-use Rattle.sat_model.specs.declared.satellites.Skip.{Skip}
-use Rattle.sat_model.specs.declared.spans.Span.{Span}
+use Rattle.grid_model.specs.Boxes.{GridBox}
+use Rattle.gnss_model.specs.declared.satellites.Skip.{Skip}
+use Rattle.grid_model.specs.declared.spans.Span.{Span}
 use Rattle.epoch_rows.specs.Ready.{SkipsFit}
 use Rattle.error_bounds.specs.declared.settings.Settings.{Settings}
 use Rattle.rinex_nav.specs.declared.record.NavRecord.{NavRecord}

@@ -4,14 +4,14 @@ use Rattle.std.specs.Prelude.{ℤ, ◌≤ℤ◌, nat_abs, Option, None, Some}
 use Rattle.std.proofs.Math.Nat.{mul-le-mul_right}
 use Rattle.std.proofs.lemmas.Int.{ints}
 use Rattle.epoch_rows.specs.Grown.{greatest_spare, greatest_err_spare}
-use Rattle.sat_model.specs.Amounts.{above}
-use Rattle.sat_model.specs.Boxes.{grid_box}
-use Rattle.sat_model.specs.Lengths.{longest_length, spare_of}
-use Rattle.sat_model.specs.Sizes.{IsBoxSize, IsWithin}
-use Rattle.sat_model.specs.Zenith.{IsZenith, span_amount, spare_over, err_spare_of}
-use Rattle.sat_model.specs.declared.boxes.Box3.{Box3}
-use Rattle.sat_model.specs.declared.spans.Span.{Span}
-use Rattle.sat_model.proofs.AmountLemmas.{above_is}
+use Rattle.grid_model.specs.Amounts.{above}
+use Rattle.grid_model.specs.Boxes.{grid_box}
+use Rattle.grid_model.specs.Lengths.{longest_length, spare_of}
+use Rattle.grid_model.specs.Sizes.{IsBoxSize, IsWithin}
+use Rattle.gnss_model.specs.Zenith.{IsZenith, span_amount, spare_over, err_spare_of}
+use Rattle.grid_model.specs.declared.boxes.Box3.{Box3}
+use Rattle.grid_model.specs.declared.spans.Span.{Span}
+use Rattle.grid_model.proofs.AmountLemmas.{above_is}
 
 side_le : (lo hi : ℤ) → lo ≤ℤ hi → IsBoxSize lo → IsBoxSize hi → above hi lo ≤ 20000000000000
 side_le lo hi ordered low high = omega (arith, ints, above_is hi lo, low.low, high.high)

@@ -5,7 +5,7 @@ use Rattle.epoch_selection.specs.Searches.{search_in, epochs_left}
 use Rattle.epoch_selection.specs.declared.searches.Searches.{Searches}
 use Rattle.log_writer.specs.Sources.{Gives}
 use Rattle.rinex_obs.specs.declared.obs.ObsEpoch.{ObsEpoch}
-use Rattle.sat_model.specs.Boxes.{GridBox, grid_box}
+use Rattle.grid_model.specs.Boxes.{GridBox, grid_box}
 use Rattle.sat_model.specs.Logs.{Block}
 use Rattle.sat_rows.specs.Meanings.{Meaning}
 use Rattle.epoch_rows.specs.Grown.{IsGrownBlock}

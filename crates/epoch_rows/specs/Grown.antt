@@ -1,14 +1,14 @@
 -- Own rows with room at their ends, as the blocks of a log that has no steps yet.
 use Rattle.std.specs.Prelude.{ℕ, ◌≡◌, ◌+◌, ◌*◌, ◌/◌, ◌^◌, ℤ, pos, Bool, true, false, nat_lt, List, [], ◌∷◌, Option, None, Some}
 use Rattle.epoch_selection.specs.Searches.{Search}
-use Rattle.sat_model.specs.Boxes.{GridBox}
-use Rattle.sat_model.specs.Lengths.{spare_of}
+use Rattle.grid_model.specs.Boxes.{GridBox}
+use Rattle.grid_model.specs.Lengths.{spare_of}
 use Rattle.sat_model.specs.Logs.{Block}
-use Rattle.sat_model.specs.Zenith.{spare_over, err_spare_of}
-use Rattle.sat_model.specs.declared.satellites.Row.{Row}
-use Rattle.sat_model.specs.declared.satellites.SatEntry.{SatEntry}
-use Rattle.sat_model.specs.declared.satellites.SatEntry.TheVariants as entry
-use Rattle.sat_model.specs.declared.spans.Span.{Span}
+use Rattle.gnss_model.specs.Zenith.{spare_over, err_spare_of}
+use Rattle.sat_model.specs.declared.rows.Row.{Row}
+use Rattle.sat_model.specs.declared.rows.SatEntry.{SatEntry}
+use Rattle.sat_model.specs.declared.rows.SatEntry.TheVariants as entry
+use Rattle.grid_model.specs.declared.spans.Span.{Span}
 use Rattle.sat_rows.specs.Growth.{IsGrown, AreBoundsGrown}
 use Rattle.sat_rows.specs.Meanings.{Meaning}
 use Rattle.sat_rows.specs.OwnRows.{AreLinesOf, usable_in}

@@ -5,9 +5,9 @@ use Rattle.log_words.specs.Fields.{IsCountFromTo, SkipFits}
 use Rattle.rinex_obs.specs.Facts.{AreDistinct, AreGpsSats}
 use Rattle.rinex_obs.specs.declared.obs.ObsEpoch.{ObsEpoch}
 use Rattle.rinex_obs.specs.declared.obs.SatObs.{SatObs}
-use Rattle.sat_model.specs.Boxes.{GridBox}
+use Rattle.grid_model.specs.Boxes.{GridBox}
 use Rattle.sat_model.specs.Verdicts.{IsLater}
-use Rattle.sat_model.specs.declared.satellites.Skip.{Skip}
+use Rattle.gnss_model.specs.declared.satellites.Skip.{Skip}
 use Rattle.sat_rows.specs.Meanings.{Meaning}
 
 -- each reason not to use a satellite can stand in a log

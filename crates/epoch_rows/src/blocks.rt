@@ -10,14 +10,15 @@ ghost use Rattle.paving_log.specs.declared.line.Form.TheVariants as form;
 ghost use Rattle.paving_log.specs.Text.{BlockFits};
 ghost use Rattle.paving_log.specs.Values.{block_of};
 ghost use Rattle.rinex_obs.specs.Facts.{AreGpsSats};
-ghost use Rattle.sat_model.specs.Boxes.{grid_box};
-ghost use Rattle.sat_model.specs.SearchBoxes.{IsSearchBox};
+ghost use Rattle.grid_model.specs.Boxes.{grid_box};
+ghost use Rattle.grid_model.specs.SearchBoxes.{IsSearchBox};
 
 use crate::lines::{grown_lines, skip_lines};
+use grid_model::{Box3, NoMemory};
 use logged_steps::LoggedSteps;
 use paving_log::LogEpoch;
 use rinex_obs::ObsEpoch;
-use sat_model::{Box3, NoMemory, Rules};
+use sat_model::Rules;
 use sat_rows::RowSource;
 use std::alloc::Global;
 

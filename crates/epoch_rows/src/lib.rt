@@ -6,4 +6,5 @@ mod blocks;
 mod lines;
 mod source;
 
+pub use blocks::block;
 pub use source::ObsBlocks;

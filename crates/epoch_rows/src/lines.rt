@@ -2,12 +2,14 @@
 
 ghost use Rattle.std.specs.Prelude.{◌≡◌, ◌≤◌, pos, IfOk};
 ghost use Rattle.epoch_rows.specs.Grown.{IsGrownLine, AreGrownLines, greatest_spare, greatest_err_spare, skips_of};
-ghost use Rattle.sat_model.specs.Boxes.{grid_box};
-ghost use Rattle.sat_model.specs.Lengths.{spare_of};
-ghost use Rattle.sat_model.specs.Zenith.{IsZenith, err_spare_of};
+ghost use Rattle.grid_model.specs.Boxes.{grid_box};
+ghost use Rattle.grid_model.specs.Lengths.{spare_of};
+ghost use Rattle.gnss_model.specs.Zenith.{IsZenith, err_spare_of};
 ghost use Rattle.sat_rows.specs.OwnRows.{IsSmallLine, AreSmall};
 
-use sat_model::{Box3, NoMemory, SatEntry, Span, err_spare, spare};
+use gnss_model::{err_spare, spare};
+use grid_model::{Box3, NoMemory, Span};
+use sat_model::SatEntry;
 use sat_rows::{SatLine, grown};
 use std::alloc::Global;
 

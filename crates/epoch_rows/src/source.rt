@@ -7,15 +7,16 @@ ghost use Rattle.epoch_selection.specs.Searches.{epochs_left};
 ghost use Rattle.epoch_selection.specs.Selections.{selected};
 ghost use Rattle.rinex_obs.specs.Facts.{AreNumbered, AreDistinct, AreGpsSats, InEach};
 ghost use Rattle.rinex_obs.specs.Reading.{observations_of};
-ghost use Rattle.sat_model.specs.Boxes.{grid_box};
-ghost use Rattle.sat_model.specs.SearchBoxes.{IsSearchBox};
+ghost use Rattle.grid_model.specs.Boxes.{grid_box};
+ghost use Rattle.grid_model.specs.SearchBoxes.{IsSearchBox};
 
 use crate::blocks::block;
 use epoch_selection::{Searches, Selection};
+use grid_model::{Box3, NoMemory};
 use log_writer::Blocks;
 use paving_log::LogEpoch;
 use rinex_obs::Obs;
-use sat_model::{Box3, NoMemory, Rules};
+use sat_model::Rules;
 use sat_rows::RowSource;
 use std::alloc::Global;
 

@@ -2,10 +2,10 @@
 use Rattle.std.proofs.Common.{◌≡◌, ◌≢◌, ℕ, zero, suc, ◌/◌, ◌%◌, true, false, arith}
 use Rattle.std.specs.Prelude.{ℤ, pos, ◌≤ℤ◌, ◌<ℤ◌, ◌-ℤ◌, ◌+ℤ◌}
 use Rattle.std.proofs.lemmas.Bool.Decides.{nat_tests}
-use Rattle.sat_model.specs.declared.boxes.Box3.{Box3}
-use Rattle.sat_model.specs.Boxes.{GridBox, grid_box, side_at, with_side}
+use Rattle.grid_model.specs.declared.boxes.Box3.{Box3}
+use Rattle.grid_model.specs.Boxes.{GridBox, grid_box, side_at, with_side}
 use Rattle.sat_model.specs.Fold.{is_low, IsProperCut, left_by_cut, slab_of_cut}
-use Rattle.sat_model.specs.Sizes.{IsBoxSize}
+use Rattle.grid_model.specs.Sizes.{IsBoxSize}
 
 low_face : (face : ℕ) → face % 2 ≡ 0 → is_low face ≡ true
 low_face face e = grind (arith, nat_tests)

@@ -2,10 +2,10 @@
 use Rattle.std.proofs.Common.{ℕ, arith, List, [], ◌∷◌}
 use Rattle.std.proofs.lemmas.Int.{ints}
 use Rattle.sat_model.specs.declared.rules.Rules.{Rules}
-use Rattle.sat_model.specs.declared.satellites.Row.{Row}
+use Rattle.sat_model.specs.declared.rows.Row.{Row}
 use Rattle.sat_model.specs.declared.steps.Step.{Step}
 use Rattle.sat_model.specs.declared.steps.Step.TheVariants.{Cut, Split, Outside, Inside, Edge}
-use Rattle.sat_model.specs.Boxes.{GridBox}
+use Rattle.grid_model.specs.Boxes.{GridBox}
 use Rattle.sat_model.specs.Fold.{Stage, after}
 use Rattle.sat_model.specs.Verdicts.{IsLong, StepPasses, StepsPass}
 use Rattle.live_boxes.specs.Folding.{IsDivisible, StepFolds, StepsFold}

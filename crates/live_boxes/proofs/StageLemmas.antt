@@ -3,8 +3,8 @@ use Rattle.std.proofs.Common.{◌≡◌, ℕ, ◌+◌, ◌/◌, ◌<◌, ◌≤�
 use Rattle.std.specs.Prelude.{ℤ}
 use Rattle.std.proofs.lemmas.Bool.{cases_lt}
 use Rattle.std.proofs.lemmas.List.{map-append, map-set, get_or_past, length-map, length-set, set-append_left}
-use Rattle.sat_model.specs.declared.boxes.Box3.{Box3}
-use Rattle.sat_model.specs.Boxes.{GridBox, side_at, grid_box, with_side, low_half, high_half}
+use Rattle.grid_model.specs.declared.boxes.Box3.{Box3}
+use Rattle.grid_model.specs.Boxes.{GridBox, side_at, grid_box, with_side, low_half, high_half}
 use Rattle.sat_model.specs.Fold.{Stage, left_by_cut, cut_box, halves}
 use Rattle.live_boxes.specs.Stages.{box_option}
 use Rattle.sat_model.proofs.FoldLemmas.{there}

@@ -2,7 +2,7 @@
 use Rattle.std.specs.Prelude.{ℕ, ◌<ℤ◌, List, [], ◌∷◌}
 use Rattle.sat_model.specs.declared.steps.Step.{Step}
 use Rattle.sat_model.specs.declared.steps.Step.TheVariants.{Cut, Split, Outside, Inside, Edge}
-use Rattle.sat_model.specs.Boxes.{GridBox, side_at}
+use Rattle.grid_model.specs.Boxes.{GridBox, side_at}
 use Rattle.sat_model.specs.Fold.{Stage, IsLive, IsProperCut, after}
 
 -- a live box has the number

@@ -1,7 +1,7 @@
 -- The stage that live boxes stand for.
 use Rattle.std.specs.Prelude.{◌/◌, length, map, Option, None, Some}
-use Rattle.sat_model.specs.declared.boxes.Box3.{Box3}
-use Rattle.sat_model.specs.Boxes.{GridBox, grid_box}
+use Rattle.grid_model.specs.declared.boxes.Box3.{Box3}
+use Rattle.grid_model.specs.Boxes.{GridBox, grid_box}
 use Rattle.sat_model.specs.Fold.{Stage}
 use Rattle.live_boxes.specs.declared.live.Live.{Live}
 

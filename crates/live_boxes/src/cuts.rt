@@ -1,10 +1,10 @@
 //! Cuts: what a box loses at a face, and what it keeps.
 
 ghost use Rattle.std.specs.Prelude.{◌≡◌, ◌↔◌, IsTrue};
-ghost use Rattle.sat_model.specs.Boxes.{grid_box};
+ghost use Rattle.grid_model.specs.Boxes.{grid_box};
 ghost use Rattle.sat_model.specs.Fold.{IsProperCut, left_by_cut, slab_of_cut};
 
-use sat_model::Box3;
+use grid_model::Box3;
 
 /// Whether a cut takes something off the box, and leaves something.
 pub fn is_proper_cut(part: &Box3, face: u8, bound: i64) -> bool

@@ -2,11 +2,12 @@
 
 ghost use Rattle.std.specs.Prelude.{◌≡◌, ◌≢◌, ◌%◌, ℕ, length, Some, None, false, IfOk, OnOk, OnErr, IsTrue};
 ghost use Rattle.sat_model.specs.declared.steps.Step.TheVariants.{Cut, Split, Outside};
-ghost use Rattle.sat_model.specs.Boxes.{grid_box};
+ghost use Rattle.grid_model.specs.Boxes.{grid_box};
 ghost use Rattle.sat_model.specs.Fold.{first_stage, live_box, NoneLive, after};
 
 use crate::cuts::left_by;
-use sat_model::{Box3, Step};
+use grid_model::Box3;
+use sat_model::Step;
 use std::alloc::{AllocError, Global};
 
 /// The boxes by their numbers, none in place of a closed one. The root has number 0, and each split

@@ -7,10 +7,11 @@ ghost use Rattle.paving_log.specs.Values.{block_of};
 use crate::small_rows::{
     FAR, cuboid, cut_of, edge, five_rows, four_rows, metre_row, row, rules, split, up_to,
 };
+use grid_model::{Box3, NoMemory, Pos, Span};
 use logged_steps::LoggedSteps;
 use paving_log::{Log, LogEpoch};
 use paving_log_check::{Fault, Verdict, judge};
-use sat_model::{Box3, NoMemory, Pos, Row, Rules, SatEntry, Span, Step};
+use sat_model::{Row, Rules, SatEntry, Step};
 use std::alloc::Global;
 use std::test::Fail;
 

@@ -11,6 +11,8 @@ mod logs;
 #[cfg(test)]
 mod meet;
 #[cfg(test)]
+mod pairs;
+#[cfg(test)]
 mod pavings;
 #[cfg(test)]
 mod pool;

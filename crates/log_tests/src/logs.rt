@@ -1,18 +1,19 @@
 ghost use Rattle.std.specs.Prelude.{IfSome};
 ghost use Rattle.live_boxes.specs.Folding.{StepsFold};
-ghost use Rattle.sat_model.specs.Boxes.{grid_box};
+ghost use Rattle.grid_model.specs.Boxes.{grid_box};
 ghost use Rattle.sat_model.specs.Fold.{first_stage};
 ghost use Rattle.sat_model.specs.Logs.{IsNumbered};
 ghost use Rattle.paving_log.specs.Values.{log_value};
 
 use crate::small_rows::cuboid;
+use grid_model::{Box3, NoMemory, Pos};
 use logged_steps::LoggedSteps;
 use paving_log::{
     Log, LogEpoch, LogError, cover_boxes, done_line, epoch_line, head_lines, read_log, read_rows,
     root_line, sat_line, step_line,
 };
 use paving_log_check::{Verdict, judge, judged_folds};
-use sat_model::{Box3, NoMemory, Pos, Step};
+use sat_model::Step;
 use std::alloc::{AllocError, Global};
 use std::test::Fail;
 
@@ -73,7 +74,11 @@ fn each_changed_log_is_refused_at_its_first_fault(rt: HostRuntime) -> Result<(),
         ("done 0", "done 0", 0, 0),
         (edge, "out 0\nin 0 0 -1 1\nsplit 400000 2", 0, 0),
         ("sat G01", "skip G01 6 20\nsat G01", 0, 0),
+        ("gpscover 1", "gpscover 3", 0, 0),
         ("gpscover 1", "gpscover 2", 1, 1),
+        ("gpscover 1", "gpscover 03", 1, 1),
+        ("gpscover 1", "gpscover 3 ", 1, 1),
+        ("gpscover 1", "gpscover 1 3", 1, 1),
         ("gpscover 1", "gpscover 1\r", 1, 1),
         ("rules 0", "rules 9", 2, 1),
         ("1000000", "999", 2, 1),
@@ -285,6 +290,25 @@ fn a_log_that_was_read_is_written_as_it_was(rt: HostRuntime) -> Result<(), Fail>
     match read_log(rt.alloc(), text.as_bytes()) {
         Ok(log) => assert_eq!(rt; written(rt.alloc(), &log)?, text),
         Err(error) => assert!(rt; false, "refused: {error:?}"),
+    }
+    Ok(())
+}
+
+#[test]
+fn the_first_line_tells_whether_pairs_are_tested(rt: HostRuntime) -> Result<(), Fail> {
+    for (first, pairs) in [("gpscover 1", false), ("gpscover 3", true)] {
+        let text = changed(rt.alloc(), LOG, "gpscover 1", first)?;
+        let rows = changed(rt.alloc(), rows_of_log(), "gpscover 1", first)?;
+        if text.len() > 4_000_000_000 || rows.len() > 4_000_000_000 {
+            return Ok(());
+        }
+        let log = read_log(rt.alloc(), text.as_bytes()).ok().ok_or("refused")?;
+        assert_eq!(rt; log.rules.pairs, pairs);
+        assert_eq!(rt; written(rt.alloc(), &log)?, text);
+        let log = read_rows(rt.alloc(), rows.as_bytes())
+            .ok()
+            .ok_or("refused")?;
+        assert_eq!(rt; log.rules.pairs, pairs);
     }
     Ok(())
 }

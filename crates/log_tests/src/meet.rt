@@ -1,11 +1,13 @@
 ghost use Rattle.std.specs.Prelude.{◌≤ℤ◌};
-ghost use Rattle.sat_model.specs.Sizes.{IsErrorSize};
+ghost use Rattle.grid_model.specs.Sizes.{IsErrorSize};
 
 use crate::small_rows::{FAR, cuboid, metre_row, only, row};
+use gnss_model::Sat;
+use grid_model::{Box3, Pos, Span};
 use relaxed_meet::{
     Deciding, bounds_offsets, clock_hull, clock_span, inner_span, near_far, relaxed, shown_inner,
 };
-use sat_model::{Box3, Pos, Row, Sat, Span};
+use sat_model::Row;
 use std::test::Fail;
 
 #[test]

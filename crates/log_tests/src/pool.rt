@@ -1,7 +1,7 @@
 //! A pool of as many boxes as may wait.
 
 use box_pool::{Item, MAX_NODES, Pool};
-use sat_model::{Box3, NoMemory, Pos};
+use grid_model::{Box3, NoMemory, Pos};
 
 const ORIGIN: Pos = Pos { x: 0, y: 0, z: 0 };
 

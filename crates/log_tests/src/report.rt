@@ -1,6 +1,7 @@
 use crate::small_rows::cuboid;
 use epoch_report::{Counts4, Line, epoch_text, push_metres, step_text, total_text};
-use sat_model::{Box3, Pos, Step};
+use grid_model::{Box3, Pos};
+use sat_model::Step;
 use std::test::Fail;
 
 #[test]

@@ -1,11 +1,13 @@
 use epoch_rows::ObsBlocks;
 use epoch_selection::{LAST_EPOCH, Selection};
 use error_bounds::read_settings;
+use gnss_model::{Sat, Signal, Skip};
+use grid_model::{Box3, Pos};
 use log_writer::Blocks;
 use paving_log::LogEpoch;
 use rinex_nav::{Nav, read_nav};
 use rinex_obs::read_obs;
-use sat_model::{Box3, Pos, Sat, SatEntry, Signal, Skip};
+use sat_model::SatEntry;
 use sat_rows::GpsRows;
 use std::alloc::{AllocError, Global};
 use std::test::Fail;

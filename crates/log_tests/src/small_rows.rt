@@ -1,9 +1,11 @@
 //! Rows of a few satellites and small boxes, whose clock spans are easily worked out by hand.
 
 ghost use Rattle.std.specs.Prelude.{◌≡◌, ◌≤◌, ◌≤ℤ◌, negsuc, pos, length};
-ghost use Rattle.sat_model.specs.Sizes.{IsPlaceSize, IsErrorSize};
+ghost use Rattle.grid_model.specs.Sizes.{IsPlaceSize, IsErrorSize};
 
-use sat_model::{Box3, Pos, Row, Rules, Sat, Span, Step};
+use gnss_model::Sat;
+use grid_model::{Box3, Pos, Span};
+use sat_model::{Row, Rules, Step};
 
 /// The distance of the satellites from the origin.
 pub const FAR: i64 = 20_000_000_000_000;
@@ -137,6 +139,7 @@ pub fn rules(outliers: u8, bisections: u32, width: i64) -> Rules
         outliers,
         bisections,
         width,
+        pairs: false,
     }
 }
 

@@ -7,10 +7,11 @@ ghost use Rattle.paving_log.specs.Text.{LogFits};
 ghost use Rattle.paving_log.specs.Values.{log_value};
 ghost use Rattle.paving_log.specs.declared.line.Form.TheVariants as form;
 
+use grid_model::{Box3, NoMemory};
 use log_writer::{Blocks, LogBlocks, WriteFault, write_log};
 use outer_io::{MemoryShelf, MemorySink, Shelf, Slot};
 use paving_log::{Log, LogEpoch, read_rows};
-use sat_model::{Box3, NoMemory, Rules};
+use sat_model::Rules;
 use std::alloc::{AllocError, Global};
 use std::test::Fail;
 

@@ -4,8 +4,8 @@ use Rattle.std.specs.Fmt.{signed_decimal}
 use Rattle.std.proofs.lemmas.Int.{ints}
 use Rattle.std.proofs.lemmas.Fmt.{signed_decimal_injective}
 use lib.Signed.{mag}
-use Rattle.sat_model.specs.Sizes.{IsWithin}
-use Rattle.sat_model.specs.declared.boxes.Pos.{Pos}
+use Rattle.grid_model.specs.Sizes.{IsWithin}
+use Rattle.grid_model.specs.declared.boxes.Pos.{Pos}
 use Rattle.log_words.specs.Fields.{pos_words, IsPosWithin}
 
 -- what is within a bound fits 64 bits

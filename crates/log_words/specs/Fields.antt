@@ -1,11 +1,11 @@
 -- The words of the values in a line, and which values fit there.
 use Rattle.std.specs.Prelude.{ℕ, zero, suc, ◌≡◌, ◌⊎◌, ◌+◌, ◌/◌, ◌%◌, ◌≤◌, ℤ, pos, ◌≤ℤ◌, List, [], ◌∷◌}
 use Rattle.std.specs.Fmt.{decimal, signed_decimal}
-use Rattle.sat_model.specs.Sizes.{IsWithin}
-use Rattle.sat_model.specs.declared.spans.Span.{Span}
-use Rattle.sat_model.specs.declared.boxes.Pos.{Pos}
-use Rattle.sat_model.specs.declared.satellites.Sat.{Sat}
-use Rattle.sat_model.specs.declared.satellites.Skip.{Skip}
+use Rattle.grid_model.specs.Sizes.{IsWithin}
+use Rattle.grid_model.specs.declared.spans.Span.{Span}
+use Rattle.grid_model.specs.declared.boxes.Pos.{Pos}
+use Rattle.gnss_model.specs.declared.satellites.Sat.{Sat}
+use Rattle.gnss_model.specs.declared.satellites.Skip.{Skip}
 
 abbrev pub number_words : ℤ → List (List ℕ)
 number_words n = signed_decimal n ∷ []

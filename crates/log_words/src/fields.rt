@@ -5,7 +5,8 @@ ghost use Rattle.log_words.specs.Words.{words_left, Reads, ReadsFront};
 ghost use Rattle.log_words.specs.Fields.{number_words, IsFromTo, span_words, IsSpanWithin, pos_words, IsPosWithin, sat_words, IsGps, skip_words, IsPlainTest, SkipFits, count_words, IsCountFromTo, IsTime};
 
 use crate::words::{Rest, is_ended, number, time_of, word};
-use sat_model::{Pos, Sat, Skip, Span};
+use gnss_model::{Sat, Skip};
+use grid_model::{Pos, Span};
 
 /// A number of at most `bound` in amount.
 pub fn amount(rest: Rest<'_>, bound: u64) -> Option<(i64, Rest<'_>)>

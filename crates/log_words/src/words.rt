@@ -2,7 +2,7 @@
 
 ghost use Rattle.std.specs.Prelude.{◌≡◌, ℕ, ◌≤◌, ℤ, ◌≤ℤ◌, List, [], ◌∷◌, IfSome, IfNone, Some, IsTrue, ◌↔◌};
 ghost use Rattle.std.specs.Fmt.{decimal, signed_decimal};
-ghost use Rattle.sat_model.specs.Sizes.{IsWithin};
+ghost use Rattle.grid_model.specs.Sizes.{IsWithin};
 ghost use Rattle.log_words.specs.Words.{words, words_left, ReadsFront};
 ghost use Rattle.log_words.specs.Fields.{number_words, IsFromTo, IsTime};
 

@@ -3,19 +3,22 @@ use Rattle.std.proofs.Common.{◌≡◌, ℕ, zero, suc, ◌<◌, ◌≤◌, Lis
 use Rattle.std.specs.Prelude.{ℤ, ◌≤ℤ◌}
 use Rattle.std.specs.List.{AllByRecursion}
 use Rattle.std.proofs.lemmas.Int.{ints}
-use Rattle.sat_model.specs.declared.boxes.Box3.{Box3}
+use Rattle.grid_model.specs.declared.boxes.Box3.{Box3}
 use Rattle.sat_model.specs.declared.rules.Rules.{Rules}
-use Rattle.sat_model.specs.declared.satellites.Row.{Row}
+use Rattle.sat_model.specs.declared.rows.Row.{Row}
 use Rattle.sat_model.specs.declared.steps.Step.{Step}
 use Rattle.sat_model.specs.declared.steps.Step.TheVariants.{Cut, Split, Outside, Inside, Edge}
-use Rattle.sat_model.specs.Boxes.{GridBox, Side, side_at, with_side, low_half, high_half, grid_box}
+use Rattle.grid_model.specs.Boxes.{GridBox, Side, side_at, with_side, low_half, high_half, grid_box}
+use Rattle.sat_model.specs.BoxTests.{BoxTest, test_of}
 use Rattle.sat_model.specs.Fold.{ShownStep, axis_of, is_low, IsProperBound, IsProperCut, side_left, side_cut, left_by_cut}
-use Rattle.sat_model.specs.Lengths.{side_length}
-use Rattle.sat_model.specs.Waiting.{WaitingBox, joined}
-use Rattle.sat_model.specs.Sizes.{IsBoxSize}
-use Rattle.sat_model.proofs.AmountLemmas.{above_is}
+use Rattle.grid_model.specs.Lengths.{side_length}
+use Rattle.sat_model.specs.Waiting.{WaitingBox}
+use Rattle.grid_model.specs.Sizes.{IsBoxSize}
+use Rattle.grid_model.proofs.AmountLemmas.{above_is}
 use Rattle.box_steps.specs.BoxSteps.{AreCutsOf}
-use Rattle.box_steps.specs.Cuts.{Bounds, proposed, eighths, all_faces, IsFaceCut, AreFacesCut, AreProposalCuts, AreRounds}
+use Rattle.box_steps.specs.Cuts.{AreFacesDone}
+use Rattle.box_steps.proofs.BoxLemmas.{cuts_some}
+use Rattle.box_steps.proofs.FaceLemmas.{IsSomeCut, AreFaces}
 use Rattle.paving.proofs.PavedLemmas.{AreCutsInTurn}
 use Rattle.paving_log.specs.Lines.{StepFits}
 use Rattle.paving_log.specs.Rows.{CornersFit, corners_of}
@@ -152,11 +155,11 @@ abbrev pub HasGridBox : ShownStep → Type 0
 HasGridBox shown = CornersFit (corners_of shown.part)
 
 -- a box lies in the grid where its slabs and what its cuts leave do
-pub whole_fits : (rows : List Row) (q id : ℕ) (cuts : List ShownStep) (part left : GridBox) → AreCutsInTurn rows q id part cuts left → AllByRecursion HasGridBox cuts → CornersFit (corners_of left)
+pub whole_fits : (test : BoxTest) (id : ℕ) (cuts : List ShownStep) (part left : GridBox) → AreCutsInTurn test id part cuts left → AllByRecursion HasGridBox cuts → CornersFit (corners_of left)
     → CornersFit (corners_of part)
-whole_fits rows q id [] part left same grid fit = subst (λ (g : GridBox). CornersFit (corners_of g)) same fit
-whole_fits rows q id (shown ∷ cuts) part left (face, bound, may, is, later) grid fit =
-    part_fits (axis_of face) (is_low face) part bound (whole_fits rows q id cuts (left_by_cut face bound part) left later grid.1 fit) (subst HasGridBox is grid.0) may.0
+whole_fits test id [] part left same grid fit = subst (λ (g : GridBox). CornersFit (corners_of g)) same fit
+whole_fits test id (shown ∷ cuts) part left (face, bound, may, is, later) grid fit =
+    part_fits (axis_of face) (is_low face) part bound (whole_fits test id cuts (left_by_cut face bound part) left later grid.1 fit) (subst HasGridBox is grid.0) may.0
 
 -- ---- the faces of cuts
 
@@ -176,41 +179,22 @@ HaveFaces cuts = AllByRecursion (λ (s : ShownStep). HasFace s.step) cuts
 both_have : (xs ys : List ShownStep) → HaveFaces xs → HaveFaces ys → HaveFaces (xs ++ ys)
 both_have xs ys f g = all_append (λ (s : ShownStep). HasFace s.step) xs ys f g
 
-face_has : (rows : List Row) (q id face : ℕ) (bound : ℤ) (part : GridBox) (steps : List ShownStep) (left : GridBox) → IsFace face → IsFaceCut rows q id face bound part steps left → HaveFaces steps
-face_has rows q id face bound part steps left named is = elim is [
-  | inl (may, one, cut) ↦ subst HaveFaces (sym one) (named, tt)
-  | inr (not, none, same) ↦ subst HaveFaces (sym none) tt
+face_has : (test : BoxTest) (id face : ℕ) (part : GridBox) (steps : List ShownStep) (left : GridBox) → IsFace face → IsSomeCut test id face part steps left → HaveFaces steps
+face_has test id face part steps left named is = elim is [
+  | inl (bound, may, one, cut) ↦ subst HaveFaces (sym one) (named, tt)
+  | inr (none, same) ↦ subst HaveFaces (sym none) tt
 ]
 
-faces_have : (rows : List Row) (q id : ℕ) (bounds : Bounds) (faces : List ℕ) (part : GridBox) (steps : List ShownStep) (left : GridBox) → AllByRecursion IsFace faces
-    → AreFacesCut rows q id bounds faces part steps left → HaveFaces steps
-faces_have rows q id bounds [] part steps left named (none, same) = subst HaveFaces (sym none) tt
-faces_have rows q id bounds (face ∷ faces) part steps left named (own, middle, more, is, rest, join) =
-    subst HaveFaces (sym join) (both_have own more (face_has rows q id face (bounds face part) part own middle named.0 is) (faces_have rows q id bounds faces middle more left named.1 rest))
-
-all_named : AllByRecursion IsFace all_faces
-all_named = (omega arith, (omega arith, (omega arith, (omega arith, (omega arith, (omega arith, tt))))))
-
-proposal_has : (rows : List Row) (q id : ℕ) (answer : Option GridBox) (part : GridBox) (steps : List ShownStep) (left : GridBox) → AreProposalCuts rows q id answer part steps left → HaveFaces steps
-proposal_has rows q id None part steps left (none, same) = subst HaveFaces (sym none) tt
-proposal_has rows q id (Some a) part steps left are = faces_have rows q id (proposed a) all_faces part steps left all_named are
-
-rounds_have : (rows : List Row) (q id : ℕ) (part : GridBox) (rounds : List (List ShownStep)) (left : GridBox) → AreRounds rows q id part rounds left → HaveFaces (joined rounds)
-rounds_have rows q id part [] left are = absurd are
-rounds_have rows q id part (round ∷ []) left (cut, none) = both_have round [] (faces_have rows q id eighths all_faces part round left all_named cut) tt
-rounds_have rows q id part (round ∷ (second ∷ more)) left (middle, cut, some, rest) =
-    both_have round (joined (second ∷ more)) (faces_have rows q id eighths all_faces part round middle all_named cut) (rounds_have rows q id middle (second ∷ more) left rest)
+faces_have : (test : BoxTest) (id : ℕ) (faces : List ℕ) (part : GridBox) (steps : List ShownStep) (left : GridBox) → AreFaces faces → AreFacesDone (IsSomeCut test id) faces part steps left → HaveFaces steps
+faces_have test id [] part steps left named (none, same) = subst HaveFaces (sym none) tt
+faces_have test id (face ∷ faces) part steps left named (own, middle, more, is, rest, join) =
+    subst HaveFaces (sym join) (both_have own more (face_has test id face part own middle named.0 is) (faces_have test id faces middle more left named.1 rest))
 
 -- each cut of a box names one of the six faces
 pub cuts_have : (grain slack : ℤ) (rows : List Row) (rules : Rules) (box : WaitingBox) (cuts : List ShownStep) (left : GridBox) → AreCutsOf grain slack rows rules box cuts left → HaveFaces cuts
-cuts_have grain slack rows rules box cuts left are = elim are [
-  | inr (decided, none, same) ↦ subst HaveFaces (sym none) tt
-  | inl down ↦
-      let (rounds, are_rounds, join) = down.eighth_cuts in
-      subst HaveFaces (sym (down.all_cuts ∙ ap (λ (s : List ShownStep). down.by_tree ++ s) join))
-      (both_have down.by_tree (joined rounds) (proposal_has rows rules.outliers box.id down.tree_cuts.answer box.part down.by_tree down.middle down.tree_cuts.are)
-      (rounds_have rows rules.outliers box.id down.middle rounds left are_rounds))
-]
+cuts_have grain slack rows rules box cuts left are =
+    let (faces, (named, some)) = cuts_some grain slack rows rules box cuts left are in
+    faces_have (test_of rules rows) box.id faces box.part cuts left named some
 
 -- ---- the cuts of a box
 
@@ -222,11 +206,11 @@ pub record CutsFit (cuts : List ShownStep) (left : GridBox) : Type 0 where
   pub fit : AllByRecursion IsSpelled cuts
   pub in_grid : CornersFit (corners_of left)
 
-pub cuts_fit : (rows : List Row) (q id : ℕ) (cuts : List ShownStep) (part left : GridBox) → id ≤ 400000 → CornersFit (corners_of part) → HaveFaces cuts
-    → AreCutsInTurn rows q id part cuts left → CutsFit cuts left
-cuts_fit rows q id [] part left le fit named same = record { fit = tt; in_grid = subst (λ (g : GridBox). CornersFit (corners_of g)) (sym same) fit }
-cuts_fit rows q id (shown ∷ cuts) part left le fit named (face, bound, may, is, later) =
+pub cuts_fit : (test : BoxTest) (id : ℕ) (cuts : List ShownStep) (part left : GridBox) → id ≤ 400000 → CornersFit (corners_of part) → HaveFaces cuts
+    → AreCutsInTurn test id part cuts left → CutsFit cuts left
+cuts_fit test id [] part left le fit named same = record { fit = tt; in_grid = subst (λ (g : GridBox). CornersFit (corners_of g)) (sym same) fit }
+cuts_fit test id (shown ∷ cuts) part left le fit named (face, bound, may, is, later) =
     let (within, fits) = cut_fits face bound part fit may.0 in
-    let more = cuts_fit rows q id cuts (left_by_cut face bound part) left le fits named.1 later in
+    let more = cuts_fit test id cuts (left_by_cut face bound part) left le fits named.1 later in
     let named_face : face ≤ 5 = subst (λ (s : ShownStep). HasFace s.step) is named.0 in
     record { fit = (subst IsSpelled (sym is) ((omega arith, le), (omega arith, named_face), within), more.fit); in_grid = more.in_grid }

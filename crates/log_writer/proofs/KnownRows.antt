@@ -3,7 +3,7 @@ use Rattle.std.proofs.Common.{◌≡◌, ℕ, List, [], ◌∷◌, ◌++◌, Opt
 use Rattle.std.specs.List.{flat_map}
 use Rattle.std.proofs.lemmas.List.Concat.{flat_map-append}
 use Rattle.sat_model.specs.declared.rules.Rules.{Rules}
-use Rattle.sat_model.specs.Boxes.{GridBox}
+use Rattle.grid_model.specs.Boxes.{GridBox}
 use Rattle.sat_model.specs.Logs.{Block, LogValue}
 use Rattle.log_writer.specs.declared.fault.WriteFault.{WriteFault}
 use Rattle.log_writer.specs.declared.fault.WriteFault.TheVariants as why
@@ -35,14 +35,14 @@ came_on rules left (b ∷ blocks) behind hull can (given, later, gave, paves, ca
     let (more, all) = came_on rules later blocks behind (hull_kept b.steps b.root) rest.1 came in
     (more, subst (λ (l : List Block). AllPave rules l (b ∷ (blocks ++ more))) (sym gave) (paves, all))
 
-leaves_on : (limit : ℕ) (text more later : List Piece) (fault : WriteFault) (log report : List ℕ)
+pub leaves_on : (limit : ℕ) (text more later : List Piece) (fault : WriteFault) (log report : List ℕ)
     → Leaves limit text more fault log report → Leaves limit text (more ++ later) fault log report
 leaves_on limit text more later why.Log log report l = l
 leaves_on limit text more later why.Out log report l = l
 leaves_on limit text more later why.Full log report l = (l.0, l.1, longer_before limit text more later l.2)
 leaves_on limit text more later why.NoMemory log report l = l
 
-broke_on : (limit : ℕ) (pieces later : List Piece) (fault : WriteFault) (log report : List ℕ)
+pub broke_on : (limit : ℕ) (pieces later : List Piece) (fault : WriteFault) (log report : List ℕ)
     → BrokeOff limit pieces fault log report → BrokeOff limit (pieces ++ later) fault log report
 broke_on limit pieces later fault log report b = record {
   text = b.text;
@@ -70,10 +70,10 @@ begun_on rows fault limit bytes said can b =
           (broke_on limit (log_pieces (log_of rows.rules b.blocks)) (flat_map block_pieces more) fault bytes said b.broke);
     }
 
-whole_of : (rows : LogValue) (limit : ℕ) (bytes said : List ℕ) → IsWhole of_rows rows.rules rows.blocks limit bytes said → IsWholeOf rows limit bytes said
-whole_of rows limit bytes said w = record {
+whole_of : (rows : LogValue) (last : List Block) (limit : ℕ) (bytes said : List ℕ) → IsWhole of_rows rows.rules rows.blocks last limit bytes said → IsWholeOf rows limit bytes said
+whole_of rows last limit bytes said w = record {
   log = w.log;
-  paving = record { rules = w.same_rules; blocks = came_all rows.rules rows.blocks w.log.blocks w.behind w.last None w.came w.no_more };
+  paving = record { rules = w.same_rules; blocks = came_all rows.rules rows.blocks w.log.blocks w.behind last None w.came w.no_more };
   text = w.text;
   report = w.report;
   judged = w.judged;
@@ -82,5 +82,5 @@ whole_of rows limit bytes said w = record {
 }
 
 pub goes_on : (rows : LogValue) → CanBePaved rows → GoesOn rows
-goes_on rows can limit (Ok done) bytes said w = whole_of rows limit bytes said w
-goes_on rows can limit (Err fault) bytes said b = begun_on rows fault limit bytes said (can_all_pave rows.rules None rows.blocks can.fit can.own) b
+goes_on rows can last limit (Ok done) bytes said w = whole_of rows last limit bytes said w
+goes_on rows can last limit (Err fault) bytes said b = begun_on rows fault limit bytes said (can_all_pave rows.rules None rows.blocks can.fit can.own) b

@@ -4,8 +4,8 @@ use Rattle.std.specs.Prelude.{true, false}
 use Rattle.std.specs.List.{flat_map}
 use Rattle.std.proofs.lemmas.List.Concat.{flat_map-append}
 use Rattle.sat_model.specs.declared.rules.Rules.{Rules}
-use Rattle.sat_model.specs.declared.boxes.Box3.{Box3}
-use Rattle.sat_model.specs.Boxes.{GridBox}
+use Rattle.grid_model.specs.declared.boxes.Box3.{Box3}
+use Rattle.grid_model.specs.Boxes.{GridBox}
 use Rattle.sat_model.specs.Logs.{Block, LogValue}
 use Rattle.sat_model.specs.Verdicts.{Judged}
 use Rattle.sat_model.proofs.CoverLemmas.{row_cover}
@@ -47,9 +47,9 @@ gave_most gives rules first few many given blocks behind le g =
     record { came = g.came; pave = g.pave; fit = g.fit; own = g.own; at_most = omega (arith, le, g.at_most) }
 
 -- the head ended early
-pub head_ended : {B T : Type 0} (gives : Gives B) (rules : Rules) (first : B) (most : ℕ) (a c : Seen) (fault : WriteFault)
-    → Ended a (head_pieces rules) fault c → WroteLog {T = T} gives rules first most a (Err fault) c
-head_ended gives rules first most a c fault ended = record {
+pub head_ended : {B T : Type 0} (gives : Gives B) (rules : Rules) (first last : B) (most : ℕ) (a c : Seen) (fault : WriteFault)
+    → Ended a (head_pieces rules) fault c → WroteLog {T = T} gives rules first last most a (Err fault) c
+head_ended gives rules first last most a c fault ended = record {
   given = [];
   blocks = [];
   behind = first;
@@ -142,9 +142,9 @@ module _ {B : Type 0} (gives : Gives B) (standing : B → Standing) (rules : Rul
   }
 
   -- there was no memory for the next block
-  pub next_ended : {T : Type 0} (a : Seen) (behind : B) (hull : Option GridBox) (now : Seen)
-      → IsUnderway a behind hull now → WroteLog {T = T} gives rules first (standing first).most a (Err why.NoMemory) now
-  next_ended a behind hull now u = record {
+  pub next_ended : {T : Type 0} (last : B) (a : Seen) (behind : B) (hull : Option GridBox) (now : Seen)
+      → IsUnderway a behind hull now → WroteLog {T = T} gives rules first last (standing first).most a (Err why.NoMemory) now
+  next_ended last a behind hull now u = record {
     given = u.given;
     blocks = u.blocks;
     behind = behind;
@@ -154,10 +154,10 @@ module _ {B : Type 0} (gives : Gives B) (standing : B → Standing) (rules : Rul
   }
 
   -- a block ended early
-  pub block_ended : {T : Type 0} (a : Seen) (behind next : B) (hull : Option GridBox) (now later : Seen) (g : Block) (fault : WriteFault)
+  pub block_ended : {T : Type 0} (last : B) (a : Seen) (behind next : B) (hull : Option GridBox) (now later : Seen) (g : Block) (fault : WriteFault)
       → IsUnderway a behind hull now → gives behind hull (Some g) next → Follows (standing behind) g (standing next)
-      → WroteBlock rules g now (Err fault) later → WroteLog {T = T} gives rules first (standing first).most a (Err fault) later
-  block_ended a behind next hull now later g fault u gave f w = record {
+      → WroteBlock rules g now (Err fault) later → WroteLog {T = T} gives rules first last (standing first).most a (Err fault) later
+  block_ended last a behind next hull now later g fault u gave f w = record {
     given = u.given ++ g ∷ [];
     blocks = u.blocks ++ w.block ∷ [];
     behind = next;
@@ -170,20 +170,20 @@ module _ {B : Type 0} (gives : Gives B) (standing : B → Standing) (rules : Rul
 
   -- the source had no more
   pub log_done : {T : Type 0} (a : Seen) (behind last : B) (hull : Option GridBox) (now : Seen) (done : T)
-      → IsUnderway a behind hull now → gives behind hull None last → WroteLog {T = T} gives rules first (standing first).most a (Ok done) now
+      → IsUnderway a behind hull now → gives behind hull None last → WroteLog {T = T} gives rules first last (standing first).most a (Ok done) now
   log_done a behind last hull now done u ended = record {
     given = u.given;
     blocks = u.blocks;
     behind = behind;
     gave = gave_most gives rules first u.most (standing first).most u.given u.blocks behind (omega (arith, u.left)) u.gave;
     written = u.went;
-    no_more = (last, subst (λ (h : Option GridBox). gives behind h None last) u.kept ended);
+    no_more = subst (λ (h : Option GridBox). gives behind h None last) u.kept ended;
   }
 
-module _ {B : Type 0} (gives : Gives B) (rules : Rules) (first : B) (most : ℕ) where
+module _ {B : Type 0} (gives : Gives B) (rules : Rules) (first last : B) (most : ℕ) where
   -- ---- a log that is full
 
-  pub full_room : {T : Type 0} (a c : Seen) → Put a [] a → WroteLog {T = T} gives rules first most a (Err why.Full) c
+  pub full_room : {T : Type 0} (a c : Seen) → Put a [] a → WroteLog {T = T} gives rules first last most a (Err why.Full) c
       → a.left < most_bytes most rules.bisections
   full_room a c start w =
       let s = w.written a [] start in
@@ -201,7 +201,7 @@ module _ {B : Type 0} (gives : Gives B) (rules : Rules) (first : B) (most : ℕ)
 
   -- a device failed while a text was on its way
   lost_finishes : {T : Type 0} (behind : B) (given blocks : List Block) (a c : Seen) (fault : WriteFault) (text more : List Piece)
-      → Gave gives rules first most given blocks behind → log_pieces (log_of rules blocks) ≡ text ++ more → Lost a text fault c → Finishes {T = T} gives rules first most a (Err fault) c
+      → Gave gives rules first most given blocks behind → log_pieces (log_of rules blocks) ≡ text ++ more → Lost a text fault c → Finishes {T = T} gives rules first last most a (Err fault) c
   lost_finishes behind given blocks a c why.Log text more g all l = record {
     bytes = l.log;
     said = l.report;
@@ -228,7 +228,7 @@ module _ {B : Type 0} (gives : Gives B) (rules : Rules) (first : B) (most : ℕ)
   -- a text went out, behind which the writing stopped
   stop_finishes : {T : Type 0} (behind : B) (given blocks : List Block) (a c : Seen) (fault : WriteFault) (text more : List Piece)
       → Gave gives rules first most given blocks behind → log_pieces (log_of rules blocks) ≡ text ++ more → Put a text c → Sent a.at (log_bytes text) (report_bytes text) c.at
-      → Leaves a.left text more fault (log_bytes text) (report_bytes text) → Counts {T = T} a.at (Err fault) c.at → HasRoom {T = T} a.left (most_bytes most rules.bisections) (Err fault) → Finishes {T = T} gives rules first most a (Err fault) c
+      → Leaves a.left text more fault (log_bytes text) (report_bytes text) → Counts {T = T} a.at (Err fault) c.at → HasRoom {T = T} a.left (most_bytes most rules.bisections) (Err fault) → Finishes {T = T} gives rules first last most a (Err fault) c
   stop_finishes behind given blocks a c fault text more g all put sent leaves counts room = record {
     bytes = log_bytes text;
     said = report_bytes text;
@@ -241,27 +241,27 @@ module _ {B : Type 0} (gives : Gives B) (rules : Rules) (first : B) (most : ℕ)
   }
 
   -- a device was at fault already
-  pub finish_log : {T : Type 0} (a c : Seen) → WroteLog {T = T} gives rules first most a (Err why.Log) c
-      → Finished {T = T} gives rules first most a (Err why.Log) c
+  pub finish_log : {T : Type 0} (a c : Seen) → WroteLog {T = T} gives rules first last most a (Err why.Log) c
+      → Finished {T = T} gives rules first last most a (Err why.Log) c
   finish_log a c w = λ start.
       let s = w.written a [] start in lost_finishes w.behind w.given w.blocks a c why.Log s.text s.more w.gave s.all s.stops
 
-  pub finish_out : {T : Type 0} (a c : Seen) → WroteLog {T = T} gives rules first most a (Err why.Out) c
-      → Finished {T = T} gives rules first most a (Err why.Out) c
+  pub finish_out : {T : Type 0} (a c : Seen) → WroteLog {T = T} gives rules first last most a (Err why.Out) c
+      → Finished {T = T} gives rules first last most a (Err why.Out) c
   finish_out a c w = λ start.
       let s = w.written a [] start in lost_finishes w.behind w.given w.blocks a c why.Out s.text s.more w.gave s.all s.stops
 
   -- the log is full
-  pub finish_full : {S T : Type 0} (a b c : Seen) (done : S) → WroteLog {T = T} gives rules first most a (Err why.Full) b
-      → Flushed {T = S} b (Ok done) c → Finished {T = T} gives rules first most a (Err why.Full) c
+  pub finish_full : {S T : Type 0} (a b c : Seen) (done : S) → WroteLog {T = T} gives rules first last most a (Err why.Full) b
+      → Flushed {T = S} b (Ok done) c → Finished {T = T} gives rules first last most a (Err why.Full) c
   finish_full a b c done w flushed = λ start.
       let s = w.written a [] start in
       let (put, sent) = flushed a s.text s.stops.0 in
       stop_finishes w.behind w.given w.blocks a c why.Full s.text s.more w.gave s.all put sent (refl, refl, s.stops.1) tt (full_room a b start w)
 
   -- memory ended
-  pub finish_memory : {S T : Type 0} (a b c : Seen) (done : S) → WroteLog {T = T} gives rules first most a (Err why.NoMemory) b
-      → Flushed {T = S} b (Ok done) c → Finished {T = T} gives rules first most a (Err why.NoMemory) c
+  pub finish_memory : {S T : Type 0} (a b c : Seen) (done : S) → WroteLog {T = T} gives rules first last most a (Err why.NoMemory) b
+      → Flushed {T = S} b (Ok done) c → Finished {T = T} gives rules first last most a (Err why.NoMemory) c
   finish_memory a b c done w flushed = λ start.
       let s = w.written a [] start in
       let (put, sent) = flushed a s.text s.stops in
@@ -269,7 +269,7 @@ module _ {B : Type 0} (gives : Gives B) (rules : Rules) (first : B) (most : ℕ)
 
   -- the last bytes were lost
   pub finish_lost : {T U : Type 0} (S : Type 0) (a b c : Seen) (r : Result T WriteFault) (fault : WriteFault)
-      → ((r ≡ Err why.Log) → ⊥) → ((r ≡ Err why.Out) → ⊥) → WroteLog {T = T} gives rules first most a r b → Flushed {T = S} b (Err fault) c → Finished {T = U} gives rules first most a (Err fault) c
+      → ((r ≡ Err why.Log) → ⊥) → ((r ≡ Err why.Out) → ⊥) → WroteLog {T = T} gives rules first last most a r b → Flushed {T = S} b (Err fault) c → Finished {T = U} gives rules first last most a (Err fault) c
   finish_lost S a b c (Ok done) fault no_log no_out w flushed = λ start.
       lost_finishes w.behind w.given w.blocks a c fault (log_pieces (log_of rules w.blocks)) [] w.gave (sym (append-nil (log_pieces (log_of rules w.blocks))))
       (flushed a (log_pieces (log_of rules w.blocks)) (w.written a [] start))
@@ -282,7 +282,7 @@ module _ {B : Type 0} (gives : Gives B) (rules : Rules) (first : B) (most : ℕ)
 
   -- all of it went out
   pub finish_done : {S T : Type 0} (a b c : Seen) (done : T) (all_out : S) → a.left ≤ longest_file
-      → WroteLog {T = T} gives rules first most a (Ok done) b → Flushed {T = S} b (Ok all_out) c → Finished {T = T} gives rules first most a (Ok done) c
+      → WroteLog {T = T} gives rules first last most a (Ok done) b → Flushed {T = S} b (Ok all_out) c → Finished {T = T} gives rules first last most a (Ok done) c
   finish_done a b c done all_out room w flushed = λ start.
       let log : LogValue = log_of rules (numbered 3 w.blocks) in
       let pieces = log_pieces (log_of rules w.blocks) in
@@ -304,9 +304,8 @@ module _ {B : Type 0} (gives : Gives B) (rules : Rules) (first : B) (most : ℕ)
           log = log;
           same_rules = refl;
           behind = w.behind;
-          last = w.no_more.0;
           came = came_numbered gives rules 3 first w.behind None w.blocks w.gave.came;
-          no_more = subst (λ (h : Option GridBox). gives w.behind h None w.no_more.0) (sym (last_numbered 3 None w.blocks)) w.no_more.1;
+          no_more = subst (λ (h : Option GridBox). gives w.behind h None last) (sym (last_numbered 3 None w.blocks)) w.no_more;
           text = log_text_from log (log_bytes pieces) (record { fits = fits_numbered 3 w.blocks (blocks_fit rules w.given w.blocks can w.gave.pave); numbered = are_numbered 3 w.blocks count; spelled = ap log_bytes same ∙ text });
           report = ap report_bytes same ∙ pieces_report log;
           judged = judged;
@@ -320,25 +319,25 @@ module _ {B : Type 0} (gives : Gives B) (rules : Rules) (first : B) (most : ℕ)
   -- ---- by how it ended
 
   pub finish_ok : {T : Type 0} (a b c : Seen) (done : T) (r : Result T WriteFault) → a.left ≤ longest_file
-      → WroteLog {T = T} gives rules first most a (Ok done) b → Flushed b r c → Finished gives rules first most a r c
+      → WroteLog {T = T} gives rules first last most a (Ok done) b → Flushed b r c → Finished gives rules first last most a r c
   finish_ok {T = T} a b c done (Ok all_out) room w flushed = finish_done a b c all_out all_out room (record { given = w.given; blocks = w.blocks; behind = w.behind; gave = w.gave; written = w.written; no_more = w.no_more }) flushed
   finish_ok {T = T} a b c done (Err fault) room w flushed = finish_lost T a b c (Ok done) fault (λ e. cc) (λ e. cc) w flushed
 
   pub finish_device : {T : Type 0} (a c : Seen) (fault : WriteFault) → of_device fault ≡ true
-      → WroteLog {T = T} gives rules first most a (Err fault) c → Finished {T = T} gives rules first most a (Err fault) c
+      → WroteLog {T = T} gives rules first last most a (Err fault) c → Finished {T = T} gives rules first last most a (Err fault) c
   finish_device a c why.Log is w = finish_log a c w
   finish_device a c why.Out is w = finish_out a c w
   finish_device a c why.Full is w = absurd cc
   finish_device a c why.NoMemory is w = absurd cc
 
   pub finish_stop : {S T : Type 0} (a b c : Seen) (fault : WriteFault) (done : S) → of_device fault ≡ false
-      → WroteLog {T = T} gives rules first most a (Err fault) b → Flushed {T = S} b (Ok done) c → Finished {T = T} gives rules first most a (Err fault) c
+      → WroteLog {T = T} gives rules first last most a (Err fault) b → Flushed {T = S} b (Ok done) c → Finished {T = T} gives rules first last most a (Err fault) c
   finish_stop a b c why.Log done is w flushed = absurd cc
   finish_stop a b c why.Out done is w flushed = absurd cc
   finish_stop a b c why.Full done is w flushed = finish_full a b c done w flushed
   finish_stop a b c why.NoMemory done is w flushed = finish_memory a b c done w flushed
 
   pub finish_stop_lost : {T U : Type 0} (S : Type 0) (a b c : Seen) (fault lost : WriteFault) → of_device fault ≡ false
-      → WroteLog {T = T} gives rules first most a (Err fault) b → Flushed {T = S} b (Err lost) c → Finished {T = U} gives rules first most a (Err lost) c
+      → WroteLog {T = T} gives rules first last most a (Err fault) b → Flushed {T = S} b (Err lost) c → Finished {T = U} gives rules first last most a (Err lost) c
   finish_stop_lost S a b c fault lost is w flushed =
       finish_lost S a b c (Err fault) lost (λ e. cc) (λ e. cc) w flushed

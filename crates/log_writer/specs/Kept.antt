@@ -1,7 +1,7 @@
 -- The hull of the boxes that a block keeps.
 use Rattle.std.specs.Prelude.{ℤ, List, [], ◌∷◌, Option, None, Some, cond}
 use Rattle.sat_model.specs.declared.steps.Step.{Step}
-use Rattle.sat_model.specs.Boxes.{Side, GridBox}
+use Rattle.grid_model.specs.Boxes.{Side, GridBox}
 use Rattle.sat_model.specs.Fold.{ShownStep, pieces}
 use Rattle.sat_model.specs.Logs.{Block}
 use Rattle.sat_model.specs.StepKinds.{is_kept_step}

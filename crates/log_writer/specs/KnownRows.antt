@@ -2,7 +2,7 @@
 use Rattle.std.specs.Prelude.{◌≡◌, ℕ, ◌≤◌, List, length, None, Result, Ok, Err}
 use Rattle.std.specs.List.{AllByRecursion}
 use Rattle.sat_model.specs.Cover.{RowCover}
-use Rattle.sat_model.specs.Logs.{LogValue}
+use Rattle.sat_model.specs.Logs.{Block, LogValue}
 use Rattle.sat_model.specs.Verdicts.{Judged}
 use Rattle.epoch_report.specs.Reports.{report_text}
 use Rattle.paving_log.specs.declared.line.Form.TheVariants as form
@@ -51,6 +51,6 @@ pub record CanBePaved (rows : LogValue) : Type 0 where
 
 -- what is written of these rows, block by block, is of one log of them all
 abbrev pub GoesOn : (rows : LogValue) → Type 0
-GoesOn rows = (limit : ℕ) (result : Result (Unit {0}) WriteFault) (bytes said : List ℕ)
-    → IsText of_rows rows.rules rows.blocks limit result bytes said
+GoesOn rows = (last : List Block) (limit : ℕ) (result : Result (Unit {0}) WriteFault)
+    (bytes said : List ℕ) → IsText of_rows rows.rules rows.blocks last limit result bytes said
     → IsTextOf rows limit result bytes said

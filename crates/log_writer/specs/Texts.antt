@@ -14,13 +14,13 @@ use Rattle.log_writer.specs.Pieces.{log_pieces}
 use Rattle.log_writer.specs.Sources.{Gives, Came}
 
 -- The text and the report of one log. Its blocks are all that the source gave, each one paved
--- before the next was given. It passes all tests, and its cover by the rows holds.
-pub record IsWhole {B : Type 0} (gives : Gives B) (rules : Rules) (first : B) (limit : ℕ)
+-- before the next was given; then it had no more, and stood so. The log passes all tests, and its
+-- cover by the rows holds.
+pub record IsWhole {B : Type 0} (gives : Gives B) (rules : Rules) (first last : B) (limit : ℕ)
     (bytes said : List ℕ) : Type 0 where
   pub log : LogValue
   pub same_rules : log.rules ≡ rules
   pub behind : B
-  pub last : B
   pub came : Came gives rules first None log.blocks behind
   pub no_more : gives behind (hull_of_last None log.blocks) None last
   pub text : IsLogText log bytes
@@ -40,10 +40,10 @@ pub record IsBegun {B : Type 0} (fault : WriteFault) (gives : Gives B) (rules : 
   pub broke : BrokeOff limit (log_pieces (record { rules = rules; blocks = blocks }))
       fault bytes said
 
--- by how the writing ended
-abbrev pub IsText : {B T : Type 0} → Gives B → Rules → B → ℕ → Result T WriteFault
+-- by how the writing ended, of the source before and behind it
+abbrev pub IsText : {B T : Type 0} → Gives B → Rules → (first last : B) → ℕ → Result T WriteFault
     → (bytes said : List ℕ) → Type 0
-IsText gives rules first limit (Ok done) bytes said =
-    IsWhole gives rules first limit bytes said
-IsText gives rules first limit (Err fault) bytes said =
+IsText gives rules first last limit (Ok done) bytes said =
+    IsWhole gives rules first last limit bytes said
+IsText gives rules first last limit (Err fault) bytes said =
     IsBegun fault gives rules first limit bytes said

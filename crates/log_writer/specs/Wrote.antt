@@ -2,8 +2,8 @@
 use Rattle.std.specs.Prelude.{◌≡◌, ℕ, ◌≤◌, List, [], length, Option, None, Some, Result, OnOk, IfOk}
 use Rattle.std.specs.List.{AllByRecursion}
 use Rattle.sat_model.specs.declared.rules.Rules.{Rules}
-use Rattle.sat_model.specs.declared.satellites.Row.{Row}
-use Rattle.sat_model.specs.Boxes.{GridBox}
+use Rattle.sat_model.specs.declared.rows.Row.{Row}
+use Rattle.grid_model.specs.Boxes.{GridBox}
 use Rattle.sat_model.specs.Fold.{first_stage, ShownStep}
 use Rattle.sat_model.specs.Logs.{Block}
 use Rattle.sat_model.specs.Waiting.{steps_of}
@@ -16,7 +16,7 @@ use Rattle.paving_log.specs.Text.{BlockFits}
 use Rattle.live_boxes.specs.Stages.{box_option}
 use Rattle.log_writer.specs.Kept.{hull_kept, hull_of_last}
 use Rattle.log_writer.specs.declared.epochs.Outcome.{Outcome}
-use Rattle.sat_model.specs.declared.boxes.Box3.{Box3}
+use Rattle.grid_model.specs.declared.boxes.Box3.{Box3}
 use Rattle.epoch_report.specs.Reports.{counts_of}
 use Rattle.log_writer.specs.declared.fault.WriteFault.{WriteFault}
 use Rattle.log_writer.specs.Pavings.{Paves, AllPave}
@@ -68,28 +68,28 @@ pub record Gave {B : Type 0} (gives : Gives B) (rules : Rules) (first : B) (most
   pub at_most : length given ≤ most
 
 -- the head and the blocks; where all of it was written the source had no more
-pub record WroteLog {B T : Type 0} (gives : Gives B) (rules : Rules) (first : B) (most : ℕ)
+pub record WroteLog {B T : Type 0} (gives : Gives B) (rules : Rules) (first last : B) (most : ℕ)
     (before : Seen) (result : Result T WriteFault) (after : Seen) : Type 0 where
   pub given : List Block
   pub blocks : List Block
   pub behind : B
   pub gave : Gave gives rules first most given blocks behind
   pub written : Written before (log_pieces (record { rules = rules; blocks = blocks })) result after
-  pub no_more : OnOk result ((last : B) × gives behind (hull_of_last None blocks) None last)
+  pub no_more : OnOk result (gives behind (hull_of_last None blocks) None last)
 
 -- what went to the devices, where nothing waited before
-pub record Finishes {B T : Type 0} (gives : Gives B) (rules : Rules) (first : B) (most : ℕ)
+pub record Finishes {B T : Type 0} (gives : Gives B) (rules : Rules) (first last : B) (most : ℕ)
     (before : Seen) (result : Result T WriteFault) (after : Seen) : Type 0 where
   pub bytes : List ℕ
   pub said : List ℕ
   pub sent : Sent before.at bytes said after.at
   pub same_shelf : after.shelf ≡ before.shelf
   pub same_out : after.out ≡ before.out
-  pub is_text : IsText gives rules first before.left result bytes said
+  pub is_text : IsText gives rules first last before.left result bytes said
   pub counts : Counts before.at result after.at
   pub room : HasRoom before.left (most_bytes most rules.bisections) result
 
 abbrev pub Finished : {B T : Type 0}
-    → Gives B → Rules → B → ℕ → Seen → Result T WriteFault → Seen → Type 0
-Finished gives rules first most before result after =
-    Put before [] before → Finishes gives rules first most before result after
+    → Gives B → Rules → (first last : B) → ℕ → Seen → Result T WriteFault → Seen → Type 0
+Finished gives rules first last most before result after =
+    Put before [] before → Finishes gives rules first last most before result after

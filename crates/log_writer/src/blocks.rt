@@ -8,13 +8,14 @@ ghost use Rattle.paving_log.specs.RowsText.{AllOwnPass};
 ghost use Rattle.paving_log.specs.Text.{BlockFits};
 ghost use Rattle.paving_log.specs.Values.{block_of, log_value};
 ghost use Rattle.live_boxes.specs.Stages.{box_option};
-ghost use Rattle.sat_model.specs.Boxes.{GridBox};
+ghost use Rattle.grid_model.specs.Boxes.{GridBox};
 ghost use Rattle.sat_model.specs.Logs.{Block};
 ghost use Rattle.std.specs.List.{AllByRecursion};
 ghost use Rattle.std.specs.Vec.Iter.{into_iter_items};
 
+use grid_model::{Box3, NoMemory};
 use paving_log::{Log, LogEpoch};
-use sat_model::{Box3, NoMemory, Rules};
+use sat_model::Rules;
 use std::alloc::Global;
 use std::vec::IntoIter;
 

@@ -13,7 +13,7 @@ ghost use Rattle.paving_log.specs.declared.line.LogLine.TheVariants as line;
 ghost use Rattle.paving_log.specs.Rows.{EntryFits};
 ghost use Rattle.paving_log.specs.Text.{BlockFits};
 ghost use Rattle.paving_log.specs.Values.{block_of};
-ghost use Rattle.sat_model.specs.Boxes.{grid_box};
+ghost use Rattle.grid_model.specs.Boxes.{grid_box};
 ghost use Rattle.sat_model.specs.Logs.{rows_of};
 
 use crate::blocks::Blocks;
@@ -22,11 +22,12 @@ use crate::pen::Pen;
 use crate::steps::Track;
 use box_steps::StepFault;
 use epoch_report::{Counts4, epoch_text, total_text};
+use grid_model::{Box3, NoMemory};
 use paving::{Plan, pave};
 use paving_log::{
     LogEpoch, SatEntry, done_line, epoch_line, head_lines, root_line, rows_among, sat_line,
 };
-use sat_model::{Box3, NoMemory, Rules};
+use sat_model::Rules;
 use std::alloc::Global;
 
 /// The bytes of the first line of a head.
@@ -173,7 +174,8 @@ fn put_blocks<P: Pen, B: Blocks>(
     requires rules { (B.standing blocks.old).rules ≡ rules.now }
     requires first { (B.standing blocks.old).before ≡ None }
     requires ready { B.ready blocks.old }
-    ensures written { WroteLog B.gives rules.now blocks.old (B.standing blocks.old).most
+    ensures written { WroteLog B.gives rules.now blocks.old blocks.new
+        (B.standing blocks.old).most
         (P.seen pen.old) result (P.seen pen.new) }
     ensures trust { Trusts (P.trust pen.old) result (P.trust pen.new) }
 {
@@ -196,7 +198,8 @@ pub(crate) fn put_whole<P: Pen, B: Blocks>(
     requires first { (B.standing blocks.old).before ≡ None }
     requires ready { B.ready blocks.old }
     requires room { (P.seen pen.old).left ≤ longest_file }
-    ensures finished { Finished B.gives rules.now blocks.old (B.standing blocks.old).most
+    ensures finished { Finished B.gives rules.now blocks.old blocks.new
+        (B.standing blocks.old).most
         (P.seen pen.old) result (P.seen pen.new) }
     ensures trust { Trusts (P.trust pen.old) result (P.trust pen.new) }
 {

@@ -3,10 +3,11 @@
 ghost use Rattle.std.specs.Prelude.{◌≡◌, ◌≤ℤ◌};
 ghost use Rattle.live_boxes.specs.Stages.{box_option};
 ghost use Rattle.log_writer.specs.Kept.{lesser, greater, joined_box, hull_after};
-ghost use Rattle.sat_model.specs.Boxes.{grid_box};
-ghost use Rattle.sat_model.specs.Sizes.{IsBoxSize};
+ghost use Rattle.grid_model.specs.Boxes.{grid_box};
+ghost use Rattle.grid_model.specs.Sizes.{IsBoxSize};
 
-use sat_model::{Box3, Pos, Step};
+use grid_model::{Box3, Pos};
+use sat_model::Step;
 
 /// The lesser of two.
 fn less(a: i64, b: i64) -> i64

@@ -7,15 +7,16 @@ ghost use Rattle.log_writer.specs.Steps.{step_piece};
 ghost use Rattle.log_writer.specs.Writing.{Went, Ended, Written, Trusts, done, failed};
 ghost use Rattle.box_steps.specs.Taken.{step_bytes};
 ghost use Rattle.paving_log.specs.Rows.{CornersFit, corners_of};
-ghost use Rattle.sat_model.specs.Boxes.{grid_box};
+ghost use Rattle.grid_model.specs.Boxes.{grid_box};
 
 use crate::fault::WriteFault;
 use crate::kept::hull_with_step;
 use crate::pen::Pen;
 use box_steps::{StepFault, Steps};
 use epoch_report::step_text;
+use grid_model::Box3;
 use paving_log::step_line;
-use sat_model::{Box3, Step};
+use sat_model::Step;
 
 /// Writes a step with the box or slab that it speaks of.
 fn put_step<P: Pen>(pen: &mut P, step: &Step, part: &Box3) -> Result<(), WriteFault>

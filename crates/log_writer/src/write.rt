@@ -36,7 +36,7 @@ pub fn write_log<H: Shelf, O: Sink, B: Blocks>(
     requires first { (B.standing blocks.old).before ≡ None }
     requires ready { B.ready blocks.old }
     ensures text { (bytes said : List ℕ)
-        × IsText B.gives rules.now blocks.old limit result bytes said
+        × IsText B.gives rules.now blocks.old blocks.new limit result bytes said
         × Sent (devices (H.state shelf.old) (O.state out.old)) bytes said
         (devices (H.state shelf.new) (O.state out.new)) }
     ensures room { HasRoom limit

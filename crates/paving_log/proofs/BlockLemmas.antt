@@ -3,8 +3,8 @@ use Rattle.std.proofs.Common.{◌≡◌, ℕ, ◌+◌, ◌<◌, ◌≤◌, Bool,
 use Rattle.std.specs.Prelude.{nat_lt, if◌then◌else◌, Option}
 use Rattle.std.proofs.lemmas.List.{map-append, length-append, append-nil}
 use Rattle.std.proofs.lemmas.Bool.{ltb-true}
-use Rattle.sat_model.specs.declared.satellites.SatEntry.{SatEntry}
-use Rattle.sat_model.specs.declared.satellites.SatEntry.TheVariants as entry
+use Rattle.sat_model.specs.declared.rows.SatEntry.{SatEntry}
+use Rattle.sat_model.specs.declared.rows.SatEntry.TheVariants as entry
 use Rattle.sat_model.specs.declared.steps.Step.{Step}
 use Rattle.sat_model.specs.declared.steps.Step.TheVariants.{Cut, Split, Outside, Inside, Edge}
 use Rattle.paving_log.specs.declared.line.Corners.{Corners}
@@ -31,8 +31,8 @@ behind_step (Outside id) to e = cc
 behind_step (Inside id clock lo hi) to e = cc
 behind_step (Edge id lo hi) to e = cc
 
-pub behind_first : (f : Form) (l : LogLine) (to : Place) → next (place.First f) (name_of l) ≡ Some to → (l ≡ line.Version) × (to ≡ place.Second f)
-behind_first f line.Version to e = (refl, cc)
+pub behind_first : (f : Form) (l : LogLine) (to : Place) → next (place.First f) (name_of l) ≡ Some to → ((pairs : Bool) × (l ≡ line.Version pairs)) × (to ≡ place.Second f)
+behind_first f (line.Version pairs) to e = ((pairs, refl), cc)
 behind_first f (line.Sat (entry.Row r)) to e = cc
 behind_first f (line.Sat (entry.Skipped sat skip)) to e = cc
 behind_first f (line.Step (Cut id face bound)) to e = cc

@@ -2,7 +2,7 @@
 use Rattle.std.proofs.Common.{◌≡◌, ℕ, ◌≤◌, ℤ, ◌≤ℤ◌, arith, List, ◌∷◌, ◌++◌, refl, sym, ap, ◌∙◌, append_assoc}
 use Rattle.sat_model.specs.declared.steps.Step.TheVariants.{Inside}
 use Rattle.std.specs.Fmt.{decimal, signed_decimal}
-use Rattle.sat_model.specs.Sizes.{IsClockSize}
+use Rattle.grid_model.specs.Sizes.{IsClockSize}
 use Rattle.paving_log.specs.declared.line.LineName.TheVariants as name
 use Rattle.paving_log.specs.Leading.{HasFields}
 

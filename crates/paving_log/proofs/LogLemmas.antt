@@ -3,9 +3,9 @@ use Rattle.std.proofs.Common.{◌≡◌, ℕ, ◌+◌, Bool, true, false, List, 
 use Rattle.std.proofs.lemmas.List.{length-append, length-map}
 use Rattle.std.specs.Prelude.{Option, Result, Ok, Err, IfOk, IfErr, ◌⊎◌}
 use Rattle.std.specs.List.{flat_map, AllByRecursion}
-use Rattle.sat_model.specs.declared.satellites.SatEntry.{SatEntry}
+use Rattle.sat_model.specs.declared.rows.SatEntry.{SatEntry}
 use Rattle.sat_model.specs.declared.steps.Step.{Step}
-use Rattle.sat_model.specs.Boxes.{GridBox}
+use Rattle.grid_model.specs.Boxes.{GridBox}
 use Rattle.sat_model.specs.Logs.{Block, LogValue, lines_with, lines_in, IsNumberedFrom}
 use Rattle.paving_log.specs.declared.line.Corners.{Corners}
 use Rattle.paving_log.specs.declared.line.Form.{Form}
@@ -16,6 +16,7 @@ use Rattle.paving_log.specs.declared.line.LogLine.TheVariants as line
 use Rattle.paving_log.specs.declared.line.Place.TheVariants as place
 use Rattle.paving_log.specs.declared.log.LogError.{LogError}
 use Rattle.paving_log.specs.Rows.{corners_of}
+use Rattle.paving_log.specs.Lines.{limits_of}
 use Rattle.paving_log.specs.Text.{first_line, header_of, closing_lines, paved_lines, block_lines, log_lines, ClosingFits, BodyFits, BlockFits, IsLogText}
 use Rattle.paving_log.specs.RowsText.{IsNumberedIn, IsSpelling}
 use Rattle.paving_log.specs.Faults.{FaultFrom, FirstFault}
@@ -25,7 +26,7 @@ use Rattle.paving_log.specs.Values.{log_value}
 use Rattle.paving_log.specs.Answers.{GivesLog, GivesFault}
 use Rattle.paving_log.proofs.FaultLemmas.{no_fault, one_fault}
 use Rattle.paving_log.proofs.LeadLemmas.{log_leads}
-use Rattle.paving_log.proofs.ValueLemmas.{all_fit, same_lines}
+use Rattle.paving_log.proofs.ValueLemmas.{rules_from, all_fit, same_lines}
 
 -- the first of the lines is no satellite line
 abbrev IsNoSat : LogLine → Type 0
@@ -179,7 +180,9 @@ one_spelled f log other text x y =
     let first = log_leads f log x.fits in
     let second = log_leads f other y.fits in
     let lines = same_lines (log_lines f log) (log_lines f other) (all_fit (place.First f) first.to (log_lines f log) first.leads) (all_fit (place.First f) second.to (log_lines f other) second.leads) (sym x.spelled ∙ y.spelled) in
-    let rules : log.rules ≡ other.rules = cc in
+    let pairs : log.rules.pairs ≡ other.rules.pairs = cc in
+    let limits : limits_of log.rules ≡ limits_of other.rules = cc in
+    let rules = rules_from log.rules other.rules pairs limits in
     let blocks = same_blocks f log.blocks other.blocks 3 x.fits y.fits x.numbered y.numbered cc in
     λ i. record { rules = rules i; blocks = blocks i }
 

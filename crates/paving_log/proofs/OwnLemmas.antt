@@ -9,9 +9,9 @@ use Rattle.std.proofs.lemmas.Grind.{common_steps}
 use Rattle.std.proofs.lemmas.List.{length-append, length-map}
 use Rattle.std.proofs.lemmas.List.Sums.{sum_by-cons}
 use Rattle.sat_model.specs.declared.rules.Rules.{Rules}
-use Rattle.sat_model.specs.declared.satellites.SatEntry.{SatEntry}
-use Rattle.sat_model.specs.declared.satellites.SatEntry.TheVariants as entry
-use Rattle.sat_model.specs.Boxes.{GridBox}
+use Rattle.sat_model.specs.declared.rows.SatEntry.{SatEntry}
+use Rattle.sat_model.specs.declared.rows.SatEntry.TheVariants as entry
+use Rattle.grid_model.specs.Boxes.{GridBox}
 use Rattle.sat_model.specs.Logs.{Block, LogValue, rows_of}
 use Rattle.sat_model.specs.Verdicts.{SuitsNumber, CountsRows, IsFirstRepeat}
 use Rattle.sat_model.proofs.VerdictLemmas.{head_not_both}

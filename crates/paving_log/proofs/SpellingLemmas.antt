@@ -8,17 +8,17 @@ use Rattle.std.proofs.lemmas.Fmt.{decimal_is_IsNumeral_wide}
 use Rattle.std.proofs.lemmas.Str.Parse.{digit_from_value}
 use Rattle.std.proofs.lemmas.Int.{ints}
 use Rattle.std.proofs.lemmas.Bool.{eqb-true}
-use Rattle.sat_model.specs.Sizes.{IsWithin, IsErrorSize, IsClockSize}
-use Rattle.sat_model.specs.declared.rules.Rules.{Rules}
-use Rattle.sat_model.specs.declared.boxes.Pos.{Pos}
-use Rattle.sat_model.specs.declared.spans.Span.{Span}
-use Rattle.sat_model.specs.declared.satellites.Row.{Row}
-use Rattle.sat_model.specs.declared.satellites.Sat.{Sat}
-use Rattle.sat_model.specs.declared.satellites.Skip.{Skip}
-use Rattle.sat_model.specs.declared.satellites.SatEntry.{SatEntry}
-use Rattle.sat_model.specs.declared.satellites.SatEntry.TheVariants as entry
+use Rattle.grid_model.specs.Sizes.{IsWithin, IsErrorSize, IsClockSize}
+use Rattle.grid_model.specs.declared.boxes.Pos.{Pos}
+use Rattle.grid_model.specs.declared.spans.Span.{Span}
+use Rattle.sat_model.specs.declared.rows.Row.{Row}
+use Rattle.gnss_model.specs.declared.satellites.Sat.{Sat}
+use Rattle.gnss_model.specs.declared.satellites.Skip.{Skip}
+use Rattle.sat_model.specs.declared.rows.SatEntry.{SatEntry}
+use Rattle.sat_model.specs.declared.rows.SatEntry.TheVariants as entry
 use Rattle.sat_model.specs.declared.steps.Step.{Step}
 use Rattle.sat_model.specs.declared.steps.Step.TheVariants.{Cut, Split, Outside, Inside, Edge}
+use Rattle.paving_log.specs.declared.limits.Limits.{Limits}
 use Rattle.paving_log.specs.declared.line.Header.{Header}
 use Rattle.paving_log.specs.declared.line.LineName.{LineName}
 use Rattle.paving_log.specs.declared.line.LineName.TheVariants as name
@@ -27,7 +27,7 @@ use Rattle.paving_log.specs.declared.line.LogLine.TheVariants as line
 use Rattle.log_words.specs.Words.{words, joined}
 use Rattle.log_words.specs.Fields.{optional_words, span_words, IsSpanWithin, pos_words, IsPosWithin, sat_words, IsGps, skip_words, SkipFits, IsTime}
 use Rattle.paving_log.specs.Rows.{are_ends, sure_words, error_words, row_words, RowFits, entry_words, EntryFits}
-use Rattle.paving_log.specs.Lines.{spelled, name_of, fields, rules_words, header_words, HeaderFits, step_words, IsId, StepFits, LineFits, line_words, line_text}
+use Rattle.paving_log.specs.Lines.{spelled, name_of, fields, limits_words, header_words, HeaderFits, step_words, IsId, StepFits, LineFits, line_words, line_text}
 use Rattle.log_words.proofs.TimeLemmas.{time_count}
 use Rattle.log_words.proofs.JoinedLemmas.{HasNoBlank, words-joined}
 
@@ -75,8 +75,8 @@ pos_are bound p small within = (within_word bound p.x small within.0, (within_wo
 sat_are : (s : Sat) → IsGps s → AreWords (sat_words s)
 sat_are s gps = ((omega (arith, gps.0), (omega arith, (omega arith, tt))), tt)
 
-rules_are : (r : Rules) → AreWords (rules_words r)
-rules_are r = (count_word 8 r.outliers (lit< tt) r.few_outliers, (count_word 200000 r.bisections (lit< tt) r.few_bisections, (within_word 10000000000 r.width (lit< tt) (record { low = omega (arith, ints, r.wide); high = r.narrow }), tt)))
+limits_are : (r : Limits) → AreWords (limits_words r)
+limits_are r = (count_word 8 r.outliers (lit< tt) r.few_outliers, (count_word 200000 r.bisections (lit< tt) r.few_bisections, (within_word 10000000000 r.width (lit< tt) (record { low = omega (arith, ints, r.wide); high = r.narrow }), tt)))
 
 header_are : (h : Header) → HeaderFits h → AreWords (header_words h)
 header_are h fits = (count_word 200000 h.index (lit< tt) fits.index.1, (time_word h.ps fits.ps, (count_word 64 h.n (lit< tt) fits.n.1, tt)))
@@ -123,8 +123,9 @@ step_are (Inside id clock lo hi) fits = (id_word id fits.0, (clock_word clock fi
 step_are (Edge id lo hi) fits = (id_word id fits.0, (clock_word lo fits.1, (clock_word hi fits.2, tt)))
 
 fields_are : (l : LogLine) → LineFits l → AreWords (fields l)
-fields_are line.Version fits = ((lit< tt, tt), tt)
-fields_are (line.Rules r) fits = rules_are r
+fields_are (line.Version false) fits = ((lit< tt, tt), tt)
+fields_are (line.Version true) fits = ((lit< tt, tt), tt)
+fields_are (line.Rules r) fits = limits_are r
 fields_are (line.Few h) fits = header_are h fits
 fields_are (line.Epoch h) fits = header_are h fits
 fields_are (line.Sat e) fits = entry_are e fits

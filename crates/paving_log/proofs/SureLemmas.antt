@@ -8,8 +8,8 @@ use Rattle.log_words.specs.Fields.{number_words, span_words, IsSpanWithin}
 use Rattle.log_words.proofs.WordLemmas.{same_rest}
 use Rattle.log_words.proofs.NumberLemmas.{one_number}
 use Rattle.paving_log.specs.Rows.{are_ends, sure_words, AreSure}
-use Rattle.sat_model.specs.Sizes.{IsErrorSize}
-use Rattle.sat_model.specs.declared.spans.Span.{Span}
+use Rattle.grid_model.specs.Sizes.{IsErrorSize}
+use Rattle.grid_model.specs.declared.spans.Span.{Span}
 
 -- the test tells whether the numbers are the ends
 pub ends_decide : (s : Span) (lo hi : ℤ) → Decides (are_ends s lo hi) ((lo ≡ s.lo) × (hi ≡ s.hi))

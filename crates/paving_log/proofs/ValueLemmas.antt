@@ -1,5 +1,5 @@
 -- Values that are spelled alike are one value.
-use Rattle.std.proofs.Common.{◌≡◌, ℕ, zero, suc, ◌+◌, ◌/◌, ◌%◌, ◌<◌, ◌≤◌, ◌^◌, ℤ, pos, List, [], ◌∷◌, drop, refl, sym, ap, ◌∙◌, lit<, arith, inl, inr}
+use Rattle.std.proofs.Common.{◌≡◌, Bool, true, false, ℕ, zero, suc, ◌+◌, ◌/◌, ◌%◌, ◌<◌, ◌≤◌, ◌^◌, ℤ, pos, List, [], ◌∷◌, drop, refl, sym, ap, ◌∙◌, lit<, arith, inl, inr}
 use Rattle.std.specs.Prelude.{◌≤ℤ◌}
 use Rattle.std.specs.Fmt.{decimal, signed_decimal}
 use Rattle.std.specs.Str.Parse.{digits_value}
@@ -9,17 +9,18 @@ use Rattle.std.proofs.Math.Dec.{T_prop}
 use Rattle.std.proofs.Math.Bridge.{le_prop}
 use Rattle.std.proofs.Math.ListN.{get_or}
 use mathlib.Core.HLevel.{is_prop→PathP}
-use Rattle.sat_model.specs.Sizes.{IsBoxSize, IsPlaceSize, IsErrorSize, IsClockSize}
+use Rattle.grid_model.specs.Sizes.{IsBoxSize, IsPlaceSize, IsErrorSize, IsClockSize}
 use Rattle.sat_model.specs.declared.rules.Rules.{Rules}
-use Rattle.sat_model.specs.declared.boxes.Pos.{Pos}
-use Rattle.sat_model.specs.declared.spans.Span.{Span}
-use Rattle.sat_model.specs.declared.satellites.Row.{Row}
-use Rattle.sat_model.specs.declared.satellites.Sat.{Sat}
-use Rattle.sat_model.specs.declared.satellites.Skip.{Skip}
-use Rattle.sat_model.specs.declared.satellites.SatEntry.{SatEntry}
-use Rattle.sat_model.specs.declared.satellites.SatEntry.TheVariants as entry
+use Rattle.grid_model.specs.declared.boxes.Pos.{Pos}
+use Rattle.grid_model.specs.declared.spans.Span.{Span}
+use Rattle.sat_model.specs.declared.rows.Row.{Row}
+use Rattle.gnss_model.specs.declared.satellites.Sat.{Sat}
+use Rattle.gnss_model.specs.declared.satellites.Skip.{Skip}
+use Rattle.sat_model.specs.declared.rows.SatEntry.{SatEntry}
+use Rattle.sat_model.specs.declared.rows.SatEntry.TheVariants as entry
 use Rattle.sat_model.specs.declared.steps.Step.{Step}
 use Rattle.sat_model.specs.declared.steps.Step.TheVariants.{Cut, Split, Outside, Inside, Edge}
+use Rattle.paving_log.specs.declared.limits.Limits.{Limits}
 use Rattle.paving_log.specs.declared.line.Corners.{Corners}
 use Rattle.paving_log.specs.declared.line.Header.{Header}
 use Rattle.paving_log.specs.declared.line.LineName.{LineName}
@@ -29,7 +30,7 @@ use Rattle.paving_log.specs.declared.line.LogLine.TheVariants as line
 use Rattle.paving_log.specs.declared.line.Place.{Place}
 use Rattle.log_words.specs.Fields.{IsSpanWithin, IsPosWithin, IsTime, sat_words, IsGps, optional_words, skip_words, SkipFits}
 use Rattle.paving_log.specs.Rows.{row_words, RowFits, entry_words, EntryFits, root_words, CornersFit}
-use Rattle.paving_log.specs.Lines.{rules_words, header_words, HeaderFits, step_words, step_name, IsId, StepFits, entry_name, name_of, fields, LineFits, line_words, text_of}
+use Rattle.paving_log.specs.Lines.{version_word, limits_of, limits_words, header_words, HeaderFits, step_words, step_name, IsId, StepFits, entry_name, name_of, fields, LineFits, line_words, text_of}
 use Rattle.paving_log.specs.Order.{Leads}
 use Rattle.paving_log.specs.Faults.{head_of}
 use Rattle.std.specs.List.{AllByRecursion}
@@ -55,8 +56,24 @@ error_prop lo hi = hlevel T_prop
 same_span : (a b : Span) → a.lo ≡ b.lo → a.hi ≡ b.hi → a ≡ b
 same_span a b p q = λ i. record { lo = p i; hi = q i; ordered = is_prop→PathP (λ j. p j ≤ℤ q j) (λ j. int_prop (p j) (q j)) a.ordered b.ordered i }
 
-pub same_rules : (a b : Rules) → a.outliers ≡ b.outliers → a.bisections ≡ b.bisections → a.width ≡ b.width → a ≡ b
-same_rules a b p q r = λ i. record {
+pub same_rules : (a b : Rules) → a.outliers ≡ b.outliers → a.bisections ≡ b.bisections → a.width ≡ b.width → a.pairs ≡ b.pairs → a ≡ b
+same_rules a b p q r s = λ i. record {
+  outliers = p i;
+  bisections = q i;
+  width = r i;
+  pairs = s i;
+  few_outliers = is_prop→PathP (λ j. p j ≤ 8) (λ j. le_prop) a.few_outliers b.few_outliers i;
+  few_bisections = is_prop→PathP (λ j. q j ≤ 200000) (λ j. le_prop) a.few_bisections b.few_bisections i;
+  wide = is_prop→PathP (λ j. pos 1000 ≤ℤ r j) (λ j. int_prop (pos 1000) (r j)) a.wide b.wide i;
+  narrow = is_prop→PathP (λ j. r j ≤ℤ pos 10000000000) (λ j. int_prop (r j) (pos 10000000000)) a.narrow b.narrow i;
+}
+
+-- rules are one where both lines of the head are
+pub rules_from : (a b : Rules) → a.pairs ≡ b.pairs → limits_of a ≡ limits_of b → a ≡ b
+rules_from a b same e = same_rules a b (ap (λ (l : Limits). l.outliers) e) (ap (λ (l : Limits). l.bisections) e) (ap (λ (l : Limits). l.width) e) same
+
+same_limits : (a b : Limits) → a.outliers ≡ b.outliers → a.bisections ≡ b.bisections → a.width ≡ b.width → a ≡ b
+same_limits a b p q r = λ i. record {
   outliers = p i;
   bisections = q i;
   width = r i;
@@ -171,11 +188,18 @@ entry_from (entry.Skipped sat skip) (entry.Skipped other why) f g name e =
     let same = skip_from skip why f.1 g.1 rest in
     cc
 
-rules_from : (a b : Rules) → rules_words a ≡ rules_words b → a ≡ b
-rules_from a b e =
-    same_rules a b (count_same 8 a.outliers b.outliers (lit< tt) a.few_outliers b.few_outliers (at_index 0 _ _ e))
+limits_from : (a b : Limits) → limits_words a ≡ limits_words b → a ≡ b
+limits_from a b e =
+    same_limits a b (count_same 8 a.outliers b.outliers (lit< tt) a.few_outliers b.few_outliers (at_index 0 _ _ e))
     (count_same 200000 a.bisections b.bisections (lit< tt) a.few_bisections b.few_bisections (at_index 1 _ _ e))
     (one_number 10000000000 a.width b.width (lit< tt) (record { low = omega (arith, ints, a.wide); high = a.narrow }) (record { low = omega (arith, ints, b.wide); high = b.narrow }) (at_index 2 _ _ e))
+
+-- the words of the two versions differ
+version_from : (a b : Bool) → version_word a ≡ version_word b → a ≡ b
+version_from true true e = refl
+version_from false false e = refl
+version_from true false e = absurd (omega (arith, ap (λ (w : List ℕ). get_or w 0 0) e))
+version_from false true e = absurd (omega (arith, ap (λ (w : List ℕ). get_or w 0 0) e))
 
 header_from : (a b : Header) → HeaderFits a → HeaderFits b → header_words a ≡ header_words b → a ≡ b
 header_from a b f g e =
@@ -239,7 +263,7 @@ kind name.Edge = 6
 kind name.Done = 7
 
 abbrev kind_of : LogLine → ℕ
-kind_of line.Version = 0
+kind_of (line.Version pairs) = 0
 kind_of (line.Rules r) = 1
 kind_of (line.Few h) = 2
 kind_of (line.Epoch h) = 3
@@ -249,7 +273,7 @@ kind_of (line.Step s) = 6
 kind_of (line.Done n) = 7
 
 kind_named : (l : LogLine) → kind (name_of l) ≡ kind_of l
-kind_named line.Version = refl
+kind_named (line.Version pairs) = refl
 kind_named (line.Rules r) = refl
 kind_named (line.Few h) = refl
 kind_named (line.Epoch h) = refl
@@ -267,8 +291,8 @@ same_kind : (l m : LogLine) → name_of l ≡ name_of m → kind_of l ≡ kind_o
 same_kind l m name = sym (kind_named l) ∙ ap kind name ∙ kind_named m
 
 line_from : (l m : LogLine) → LineFits l → LineFits m → name_of l ≡ name_of m → fields l ≡ fields m → l ≡ m
-line_from line.Version line.Version f g name e = refl
-line_from (line.Rules r) (line.Rules s) f g name e = ap line.Rules (rules_from r s e)
+line_from (line.Version p) (line.Version q) f g name e = ap line.Version (version_from p q (at_index 0 _ _ e))
+line_from (line.Rules r) (line.Rules s) f g name e = ap line.Rules (limits_from r s e)
 line_from (line.Few h) (line.Few k) f g name e = ap line.Few (header_from h k f g e)
 line_from (line.Epoch h) (line.Epoch k) f g name e = ap line.Epoch (header_from h k f g e)
 line_from (line.Sat x) (line.Sat y) f g name e = ap line.Sat (entry_from x y f g name e)

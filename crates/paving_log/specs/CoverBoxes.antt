@@ -1,6 +1,6 @@
 -- The cover of a block: the boxes that its steps close inside or at the edge.
 use Rattle.std.specs.Prelude.{List, [], map, filter, Option, None, Some}
-use Rattle.sat_model.specs.Boxes.{GridBox}
+use Rattle.grid_model.specs.Boxes.{GridBox}
 use Rattle.sat_model.specs.Cover.{is_kept}
 use Rattle.sat_model.specs.Fold.{first_stage, ShownStep, pieces}
 use Rattle.sat_model.specs.Logs.{Block}

@@ -1,12 +1,13 @@
 -- The lines of a log: the words of each, and which values fit in it.
-use Rattle.std.specs.Prelude.{ℕ, ◌≤ℤ◌, List, [], ◌∷◌, ◌++◌, codes}
+use Rattle.std.specs.Prelude.{ℕ, Bool, true, false, ◌≤ℤ◌, List, [], ◌∷◌, ◌++◌, codes}
 use Rattle.std.specs.Fmt.{decimal, signed_decimal}
-use Rattle.sat_model.specs.Sizes.{IsBoxSize, IsClockSize}
+use Rattle.grid_model.specs.Sizes.{IsBoxSize, IsClockSize}
 use Rattle.sat_model.specs.declared.rules.Rules.{Rules}
-use Rattle.sat_model.specs.declared.satellites.SatEntry.{SatEntry}
-use Rattle.sat_model.specs.declared.satellites.SatEntry.TheVariants as entry
+use Rattle.sat_model.specs.declared.rows.SatEntry.{SatEntry}
+use Rattle.sat_model.specs.declared.rows.SatEntry.TheVariants as entry
 use Rattle.sat_model.specs.declared.steps.Step.{Step}
 use Rattle.sat_model.specs.declared.steps.Step.TheVariants.{Cut, Split, Outside, Inside, Edge}
+use Rattle.paving_log.specs.declared.limits.Limits.{Limits}
 use Rattle.paving_log.specs.declared.line.Header.{Header}
 use Rattle.paving_log.specs.declared.line.LineName.{LineName}
 use Rattle.paving_log.specs.declared.line.LineName.TheVariants as name
@@ -18,12 +19,29 @@ use Rattle.paving_log.specs.Rows.{entry_words, EntryFits, root_words, CornersFit
 
 -- ---- the fields behind the first word
 
-abbrev pub rules_words : Rules → List (List ℕ)
-rules_words r = decimal r.outliers ∷ decimal r.bisections ∷ signed_decimal r.width ∷ []
+-- the version of a log, by whether pairs of rows show boxes empty
+abbrev pub version_word : Bool → List ℕ
+version_word false = codes "1"
+version_word true = codes "3"
 
--- all that is asked of rules is kept by their type
-abbrev pub RulesFit : Rules → Type 0
-RulesFit r = Unit {0}
+-- the numbers of rules
+abbrev pub limits_of : Rules → Limits
+limits_of r = record {
+  outliers = r.outliers;
+  bisections = r.bisections;
+  width = r.width;
+  few_outliers = r.few_outliers;
+  few_bisections = r.few_bisections;
+  wide = r.wide;
+  narrow = r.narrow;
+}
+
+abbrev pub limits_words : Limits → List (List ℕ)
+limits_words l = decimal l.outliers ∷ decimal l.bisections ∷ signed_decimal l.width ∷ []
+
+-- all that is asked of these numbers is kept by their type
+abbrev pub LimitsFit : Limits → Type 0
+LimitsFit l = Unit {0}
 
 abbrev pub header_words : Header → List (List ℕ)
 header_words h = decimal h.index ∷ signed_decimal h.ps ∷ decimal h.n ∷ []
@@ -80,8 +98,8 @@ step_name (Inside id clock lo hi) = name.In
 step_name (Edge id lo hi) = name.Edge
 
 abbrev pub name_of : LogLine → LineName
-name_of line.Version = name.Gpscover
-name_of (line.Rules r) = name.Rules
+name_of (line.Version pairs) = name.Gpscover
+name_of (line.Rules l) = name.Rules
 name_of (line.Few h) = name.Few
 name_of (line.Epoch h) = name.Epoch
 name_of (line.Sat e) = entry_name e
@@ -90,8 +108,8 @@ name_of (line.Step s) = step_name s
 name_of (line.Done n) = name.Done
 
 abbrev pub fields : LogLine → List (List ℕ)
-fields line.Version = codes "1" ∷ []
-fields (line.Rules r) = rules_words r
+fields (line.Version pairs) = version_word pairs ∷ []
+fields (line.Rules l) = limits_words l
 fields (line.Few h) = header_words h
 fields (line.Epoch h) = header_words h
 fields (line.Sat e) = entry_words e
@@ -100,8 +118,8 @@ fields (line.Step s) = step_words s
 fields (line.Done n) = decimal n ∷ []
 
 abbrev pub LineFits : LogLine → Type 0
-LineFits line.Version = Unit {0}
-LineFits (line.Rules r) = RulesFit r
+LineFits (line.Version pairs) = Unit {0}
+LineFits (line.Rules l) = LimitsFit l
 LineFits (line.Few h) = HeaderFits h
 LineFits (line.Epoch h) = HeaderFits h
 LineFits (line.Sat e) = EntryFits e

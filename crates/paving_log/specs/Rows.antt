@@ -2,12 +2,12 @@
 use Rattle.std.specs.Prelude.{ℕ, Bool, ◌&&◌, if◌then◌else◌, ℤ, ◌≤ℤ◌, List, [], ◌∷◌, ◌++◌}
 use Rattle.std.specs.Fmt.{signed_decimal}
 use Rattle.std.specs.Ordering.{int_eq}
-use Rattle.sat_model.specs.Sizes.{IsErrorSize}
-use Rattle.sat_model.specs.declared.spans.Span.{Span}
-use Rattle.sat_model.specs.declared.satellites.Row.{Row}
-use Rattle.sat_model.specs.declared.satellites.SatEntry.{SatEntry}
-use Rattle.sat_model.specs.declared.satellites.SatEntry.TheVariants as entry
-use Rattle.sat_model.specs.Boxes.{GridBox}
+use Rattle.grid_model.specs.Sizes.{IsErrorSize}
+use Rattle.grid_model.specs.declared.spans.Span.{Span}
+use Rattle.sat_model.specs.declared.rows.Row.{Row}
+use Rattle.sat_model.specs.declared.rows.SatEntry.{SatEntry}
+use Rattle.sat_model.specs.declared.rows.SatEntry.TheVariants as entry
+use Rattle.grid_model.specs.Boxes.{GridBox}
 use Rattle.paving_log.specs.declared.line.Corners.{Corners}
 use Rattle.log_words.specs.Fields.{span_words, pos_words, IsPosWithin, sat_words, IsGps, skip_words, SkipFits}
 

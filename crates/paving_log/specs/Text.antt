@@ -1,10 +1,11 @@
 -- The text of a log: the one spelling of its value, for values that fit.
 use Rattle.std.specs.Prelude.{ℕ, ◌≡◌, ◌≤◌, Bool, true, false, List, [], ◌∷◌, ◌++◌, length, map, Option, None, Some}
 use Rattle.std.specs.List.{flat_map, AllByRecursion}
-use Rattle.sat_model.specs.declared.satellites.SatEntry.{SatEntry}
-use Rattle.sat_model.specs.declared.satellites.SatEntry.TheVariants as entry
+use Rattle.sat_model.specs.declared.rules.Rules.{Rules}
+use Rattle.sat_model.specs.declared.rows.SatEntry.{SatEntry}
+use Rattle.sat_model.specs.declared.rows.SatEntry.TheVariants as entry
 use Rattle.sat_model.specs.declared.steps.Step.{Step}
-use Rattle.sat_model.specs.Boxes.{GridBox}
+use Rattle.grid_model.specs.Boxes.{GridBox}
 use Rattle.sat_model.specs.Logs.{Block, LogValue, IsNumbered}
 use Rattle.paving_log.specs.declared.line.Form.{Form}
 use Rattle.paving_log.specs.declared.line.Form.TheVariants as form
@@ -13,7 +14,7 @@ use Rattle.paving_log.specs.declared.line.LogLine.{LogLine}
 use Rattle.paving_log.specs.declared.line.LogLine.TheVariants as line
 use Rattle.log_words.specs.Fields.{IsCountFromTo}
 use Rattle.paving_log.specs.Rows.{EntryFits, CornersFit, corners_of}
-use Rattle.paving_log.specs.Lines.{HeaderFits, StepFits, text_of}
+use Rattle.paving_log.specs.Lines.{limits_of, HeaderFits, StepFits, text_of}
 
 -- ---- the lines
 
@@ -41,9 +42,13 @@ body_lines f b = map line.Sat b.sats ++ paved_lines f b.root b.steps b.done
 abbrev pub block_lines : Form → Block → List LogLine
 block_lines f b = first_line b.few (header_of b) ∷ body_lines f b
 
--- the two lines of the head, and the blocks
+-- the two lines of the head
+abbrev pub head_lines : Rules → List LogLine
+head_lines r = line.Version r.pairs ∷ line.Rules (limits_of r) ∷ []
+
+-- the head, and the blocks
 abbrev pub log_lines : Form → LogValue → List LogLine
-log_lines f log = line.Version ∷ line.Rules log.rules ∷ flat_map (block_lines f) log.blocks
+log_lines f log = head_lines log.rules ++ flat_map (block_lines f) log.blocks
 
 abbrev pub log_text : Form → LogValue → List ℕ
 log_text f log = text_of (log_lines f log)

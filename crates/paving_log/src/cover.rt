@@ -1,7 +1,7 @@
 //! The boxes that are left of a search box.
 
 ghost use Rattle.std.specs.Prelude.{◌≡◌, map, option_to_list, IfOk};
-ghost use Rattle.sat_model.specs.Boxes.{grid_box};
+ghost use Rattle.grid_model.specs.Boxes.{grid_box};
 ghost use Rattle.sat_model.specs.Fold.{first_stage, taken_by, pieces};
 ghost use Rattle.live_boxes.specs.Folding.{StepsFold};
 ghost use Rattle.live_boxes.specs.Stages.{box_option, stage_of};
@@ -10,9 +10,10 @@ ghost use Rattle.paving_log.specs.CoverBoxes.{BlockFolds, kept_parts, cover_of};
 ghost use Rattle.paving_log.specs.Values.{block_of};
 
 use crate::log::LogEpoch;
+use grid_model::{Box3, NoMemory};
 use live_boxes::Live;
 use logged_steps::LoggedSteps;
-use sat_model::{Box3, NoMemory, Step};
+use sat_model::Step;
 use std::alloc::{AllocError, Global};
 
 /// The box that the step closes inside or at the edge.

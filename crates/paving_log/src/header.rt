@@ -1,15 +1,17 @@
-//! The rules, and the first line of a block.
+//! The numbers of the rules, and the first line of a block.
 
+ghost use Rattle.std.specs.Prelude.{◌≡◌};
 ghost use Rattle.log_words.specs.Words.{words_left, Reads};
-ghost use Rattle.paving_log.specs.Lines.{rules_words, RulesFit, header_words, HeaderFits};
+ghost use Rattle.paving_log.specs.Lines.{limits_words, LimitsFit, limits_of, header_words, HeaderFits};
 
+use crate::limits::Limits;
 use crate::line::Header;
 use log_words::{Rest, count, is_ended, number, time};
 use sat_model::Rules;
 
-/// The rules of a log.
-pub fn rules(rest: Rest<'_>) -> Option<Rules>
-    ensures { Reads RulesFit rules_words (words_left rest.entry) result }
+/// The numbers of the rules of a log.
+pub fn limits(rest: Rest<'_>) -> Option<Limits>
+    ensures { Reads LimitsFit limits_words (words_left rest.entry) result }
 {
     let (outliers, rest) = count(rest, 0, 8)?;
     let (bisections, rest) = count(rest, 0, 200_000)?;
@@ -17,11 +19,24 @@ pub fn rules(rest: Rest<'_>) -> Option<Rules>
     if !is_ended(rest) {
         return None;
     }
-    Some(Rules {
+    Some(Limits {
         outliers: outliers as u8,
         bisections,
         width,
     })
+}
+
+/// The rules that the first two lines give.
+pub fn rules(pairs: bool, limits: Limits) -> Rules
+    ensures pairs { result.pairs ≡ pairs }
+    ensures limits { limits_of result ≡ limits }
+{
+    Rules {
+        outliers: limits.outliers,
+        bisections: limits.bisections,
+        width: limits.width,
+        pairs,
+    }
 }
 
 /// The index, the time and the number of satellites of an epoch.

@@ -5,6 +5,7 @@ mod cover;
 mod entries;
 mod header;
 mod leading_steps;
+mod limits;
 mod line;
 mod lines;
 mod log;

@@ -1,6 +1,8 @@
 //! The lines of a log, and where each may come.
 
-use sat_model::{Pos, Rules, SatEntry, Step};
+use crate::limits::Limits;
+use grid_model::Pos;
+use sat_model::{SatEntry, Step};
 
 /// The fields of the first line of a block.
 #[derive(Clone, Copy, Debug, PartialEq, Eq)]
@@ -20,8 +22,9 @@ pub struct Corners {
 /// A line.
 #[derive(Clone, Copy, Debug, PartialEq, Eq)]
 pub enum LogLine {
-    Version,
-    Rules(Rules),
+    /// The version, which tells whether pairs of rows show boxes empty.
+    Version { pairs: bool },
+    Rules(Limits),
     Few(Header),
     Epoch(Header),
     Sat(SatEntry),

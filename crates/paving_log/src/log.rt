@@ -3,8 +3,9 @@
 ghost use Rattle.std.specs.Prelude.{◌≡◌, ◌≤◌, length, true, is_none};
 ghost use Rattle.paving_log.specs.declared.log.LogError.TheVariants.{NoMemory};
 
+use grid_model::Box3;
 use logged_steps::LoggedSteps;
-use sat_model::{Box3, Rules, SatEntry};
+use sat_model::{Rules, SatEntry};
 use std::alloc::{AllocError, AllocFailed};
 
 /// What a log says of one epoch.

@@ -8,7 +8,8 @@ ghost use Rattle.paving_log.specs.declared.line.Form.TheVariants as form;
 ghost use Rattle.paving_log.specs.Values.{block_of, log_value};
 
 use crate::log::{Log, LogEpoch};
-use sat_model::{Rules, Sat, SatEntry};
+use gnss_model::Sat;
+use sat_model::{Rules, SatEntry};
 
 /// An epoch's index isn't greater than the one before, or its number of satellites doesn't suit it.
 pub const EPOCH_DIFFERS: u8 = 51;

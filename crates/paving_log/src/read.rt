@@ -1,7 +1,7 @@
 //! The parts of a text, from left to right.
 
 ghost use Rattle.std.specs.Prelude.{◌≡◌, true, false, ◌≤◌, ◌++◌, [], ◌∷◌, map, length, IfOk, IfErr};
-ghost use Rattle.sat_model.specs.Boxes.{grid_box};
+ghost use Rattle.grid_model.specs.Boxes.{grid_box};
 ghost use Rattle.paving_log.specs.declared.line.Form.TheVariants as forms;
 ghost use Rattle.paving_log.specs.declared.line.LogLine.TheVariants as line;
 ghost use Rattle.paving_log.specs.declared.line.Place.TheVariants as place;
@@ -10,26 +10,28 @@ ghost use Rattle.paving_log.specs.Lines.{HeaderFits};
 ghost use Rattle.paving_log.specs.Order.{place_behind_root};
 ghost use Rattle.paving_log.specs.Rows.{CornersFit, corners_of};
 ghost use Rattle.paving_log.specs.Taking.{Takes, TakesTo, Refuses, block_place, IsOpened, TakesBlocks};
-ghost use Rattle.paving_log.specs.Text.{closing_lines, body_lines, ClosingFits, BlockFits};
+ghost use Rattle.paving_log.specs.Text.{head_lines, closing_lines, body_lines, ClosingFits, BlockFits};
 ghost use Rattle.paving_log.specs.Values.{block_of};
 
+use crate::header::rules;
 use crate::line::{ClosingLine, Corners, Form, LogLine, Place};
 use crate::lines::{Lines, Opening};
 use crate::log::{LogEpoch, LogError};
 use crate::take::{take_line, take_step};
+use grid_model::Box3;
 use logged_steps::LoggedSteps;
-use sat_model::{Box3, Rules, SatEntry};
+use sat_model::{Rules, SatEntry};
 use std::alloc::Global;
 
 /// The first two lines.
 pub fn head(form: Form, lines: Lines<'_>) -> Result<(Rules, Lines<'_>), LogError>
-    ensures taken { IfOk result (λ t. Takes (place.First form) lines.entry (line.Version ∷ line.Rules t.0 ∷ []) (place.Between form) t.1) }
+    ensures taken { IfOk result (λ t. Takes (place.First form) lines.entry (head_lines t.0) (place.Between form) t.1) }
     ensures refused { IfErr result (Refuses (place.First form) lines.entry) }
 {
-    let (_, _, lines) = take_line(lines, Place::First(form))?;
+    let (version, _, lines) = take_line(lines, Place::First(form))?;
     let (line, _, lines) = take_line(lines, Place::Second(form))?;
-    match line {
-        LogLine::Rules(rules) => Ok((rules, lines)),
+    match (version, line) {
+        (LogLine::Version { pairs }, LogLine::Rules(limits)) => Ok((rules(pairs, limits), lines)),
         _ => unreachable!(),
     }
 }

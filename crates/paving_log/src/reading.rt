@@ -5,7 +5,7 @@ ghost use Rattle.log_words.specs.Words.{words_left, Reads};
 ghost use Rattle.paving_log.specs.Lines.{LineFits, name_of, fields};
 ghost use Rattle.paving_log.specs.Faults.{FitsAt, Misfit};
 
-use crate::header::{header, rules};
+use crate::header::{header, limits};
 use crate::line::{Fault, LineName, LogLine, Place};
 use crate::order::{name_from, place_behind};
 use crate::rows::{root, row, skipped};
@@ -18,10 +18,13 @@ fn version(rest: Rest<'_>) -> Option<LogLine>
     ensures { Reads (λ l. LineFits l × (name_of l ≡ LineName.Gpscover)) fields (words_left rest.entry) result }
 {
     let (version, rest) = word(rest)?;
-    if version == b"1".as_slice() && is_ended(rest) {
-        Some(LogLine::Version)
-    } else {
-        None
+    if !is_ended(rest) {
+        return None;
+    }
+    match version {
+        b"1" => Some(LogLine::Version { pairs: false }),
+        b"3" => Some(LogLine::Version { pairs: true }),
+        _ => None,
     }
 }
 
@@ -42,7 +45,7 @@ fn fields_of(name: LineName, rest: Rest<'_>) -> Option<LogLine>
 {
     match name {
         LineName::Gpscover => version(rest),
-        LineName::Rules => Some(LogLine::Rules(rules(rest)?)),
+        LineName::Rules => Some(LogLine::Rules(limits(rest)?)),
         LineName::Few => Some(LogLine::Few(header(rest)?)),
         LineName::Epoch => Some(LogLine::Epoch(header(rest)?)),
         LineName::Sat => Some(LogLine::Sat(SatEntry::Row(row(rest)?))),

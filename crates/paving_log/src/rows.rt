@@ -1,16 +1,17 @@
 //! The satellite lines and the roots of a log.
 
 ghost use Rattle.std.specs.Prelude.{◌≡◌, false};
-ghost use Rattle.sat_model.specs.Sizes.{IsErrorSize};
-ghost use Rattle.sat_model.specs.declared.satellites.Skip.{Skip};
+ghost use Rattle.grid_model.specs.Sizes.{IsErrorSize};
+ghost use Rattle.gnss_model.specs.declared.satellites.Skip.{Skip};
 ghost use Rattle.paving_log.specs.declared.line.LineName.TheVariants as names;
 ghost use Rattle.log_words.specs.Words.{words_left, Reads};
 ghost use Rattle.paving_log.specs.Rows.{are_ends, sure_words, AreSure, row_words, RowFits, entry_words, EntryFits, root_words, CornersFit};
 ghost use Rattle.paving_log.specs.Lines.{entry_name};
 
 use crate::line::Corners;
+use grid_model::Span;
 use log_words::{Rest, amount, is_ended, place, satellite, skip, span};
-use sat_model::{Row, SatEntry, Span};
+use sat_model::{Row, SatEntry};
 
 /// The greatest amount of a satellite's coordinate and of a range, in um.
 const GREATEST_PLACE: u64 = 60_000_000_000_000;

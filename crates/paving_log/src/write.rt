@@ -3,21 +3,23 @@
 ghost use Rattle.std.specs.Prelude.{◌≡◌, ◌+◌, ◌<◌, ◌≤◌, ◌/◌, ◌%◌, [], ◌∷◌, ◌++◌, length};
 ghost use Rattle.std.specs.Fmt.{decimal, signed_decimal};
 ghost use Rattle.sat_model.specs.declared.steps.Step.TheVariants as steps;
-ghost use Rattle.sat_model.specs.Boxes.{grid_box};
+ghost use Rattle.grid_model.specs.Boxes.{grid_box};
 ghost use Rattle.sat_model.specs.Logs.{sat_of};
-ghost use Rattle.sat_model.specs.Sizes.{IsErrorSize};
+ghost use Rattle.grid_model.specs.Sizes.{IsErrorSize};
 ghost use Rattle.paving_log.specs.declared.line.LogLine.TheVariants as line;
-ghost use Rattle.sat_model.specs.declared.satellites.SatEntry.TheVariants as entry;
+ghost use Rattle.sat_model.specs.declared.rows.SatEntry.TheVariants as entry;
 ghost use Rattle.log_words.specs.Words.{joined};
 ghost use Rattle.log_words.specs.Fields.{span_words};
 ghost use Rattle.paving_log.specs.Rows.{corners_of, error_words};
-ghost use Rattle.paving_log.specs.Lines.{line_text, text_of};
-ghost use Rattle.paving_log.specs.Text.{first_line};
+ghost use Rattle.paving_log.specs.Lines.{version_word, line_text, text_of};
+ghost use Rattle.paving_log.specs.Text.{first_line, head_lines};
 
 use crate::rows::has_ends;
 use arrayvec::ArrayString;
+use gnss_model::{Sat, Skip};
+use grid_model::{Box3, Pos, Span};
 use itoa::Buffer;
-use sat_model::{Box3, Pos, Row, Rules, Sat, SatEntry, Skip, Span, Step};
+use sat_model::{Row, Rules, SatEntry, Step};
 
 /// A line of a log. The longest, that of a row with the ends of what is surely allowed, has at most
 /// 196 bytes.
@@ -131,12 +133,22 @@ pub fn step_line(step: &Step) -> Line
     }
 }
 
+/// The version of a log, by whether pairs of rows show boxes empty.
+fn version_word(pairs: bool) -> &'static str
+    ensures word { result.now ≡ version_word pairs }
+    ensures length { length result.now ≡ 1 }
+{
+    if pairs { "3" } else { "1" }
+}
+
 /// The two lines of the head.
 pub fn head_lines(rules: &Rules) -> Line
-    ensures { result.bytes ≡ text_of (line.Version ∷ line.Rules rules.now ∷ []) }
+    ensures { result.bytes ≡ text_of (head_lines rules.now) }
 {
     let mut line = Line::new();
-    line.push_str("gpscover 1\nrules");
+    line.push_str("gpscover ");
+    line.push_str(version_word(rules.pairs));
+    line.push_str("\nrules");
     push_numbers(
         &mut line,
         i64::from(rules.outliers),

@@ -1,11 +1,11 @@
 -- The lines of a block, and a log judged block by block.
 use Rattle.std.proofs.Common.{◌≡◌, ℕ, zero, suc, ◌+◌, ◌<◌, ◌≤◌, arith, Bool, true, false, List, [], ◌∷◌, length, drop, ap, Option, None, Some, inl, inr}
 use Rattle.sat_model.specs.declared.rules.Rules.{Rules}
-use Rattle.sat_model.specs.declared.satellites.Row.{Row}
-use Rattle.sat_model.specs.declared.satellites.SatEntry.{SatEntry}
+use Rattle.sat_model.specs.declared.rows.Row.{Row}
+use Rattle.sat_model.specs.declared.rows.SatEntry.{SatEntry}
 use Rattle.sat_model.specs.declared.steps.Step.{Step}
-use Rattle.sat_model.specs.declared.boxes.Box3.{Box3}
-use Rattle.sat_model.specs.Boxes.{GridBox, grid_box}
+use Rattle.grid_model.specs.declared.boxes.Box3.{Box3}
+use Rattle.grid_model.specs.Boxes.{GridBox, grid_box}
 use Rattle.sat_model.specs.Cover.{kept_in, kept_boxes_in, kept_boxes}
 use Rattle.sat_model.specs.Fold.{Stage, first_stage, after}
 use Rattle.sat_model.specs.Logs.{Block, LogValue, rows_of, lines_with, lines_in, IsNumberedFrom}

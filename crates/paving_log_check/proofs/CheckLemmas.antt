@@ -1,7 +1,7 @@
 -- The blocks of a log, checked one by one against the searches.
 use Rattle.std.proofs.Common.{◌≡◌, ℕ, ◌+◌, ◌≤◌, arith, List, [], ◌∷◌, length, inl, inr, refl, sym, ap, Option, None, Some}
 use Rattle.epoch_selection.specs.Searches.{Search}
-use Rattle.sat_model.specs.Boxes.{GridBox}
+use Rattle.grid_model.specs.Boxes.{GridBox}
 use Rattle.sat_model.specs.Cover.{kept_in, kept_boxes_in, kept_boxes}
 use Rattle.sat_model.specs.Logs.{Block, LogValue, lines_in, IsNumberedFrom, IsNumbered}
 use Rattle.sat_model.specs.Verdicts.{BodyPasses}

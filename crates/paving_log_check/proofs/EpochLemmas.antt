@@ -1,11 +1,11 @@
 -- A block whose own lines pass is decided by its body.
 use Rattle.std.proofs.Common.{◌≡◌, List, inr, Option, None, Some, Result, Ok, Err}
 use Rattle.std.specs.Prelude.{IfOk, MatchOption}
-use Rattle.sat_model.specs.Boxes.{GridBox}
+use Rattle.grid_model.specs.Boxes.{GridBox}
 use Rattle.sat_model.specs.Logs.{Block}
-use Rattle.sat_model.specs.declared.memory.NoMemory.{NoMemory}
+use Rattle.grid_model.specs.declared.memory.NoMemory.{NoMemory}
 use Rattle.sat_model.specs.declared.rules.Rules.{Rules}
-use Rattle.sat_model.specs.declared.spans.Span.{Span}
+use Rattle.grid_model.specs.declared.spans.Span.{Span}
 use Rattle.sat_rows.specs.declared.lines.SatLine.{SatLine}
 use Rattle.paving_log_check.specs.Epochs.{Counts, IsWhole, BodyPassesAt, BodyFailsAt, EpochPasses, EpochFails}
 use Rattle.paving_log_check.specs.Lines.{expected, SatsPass}

@@ -3,16 +3,15 @@ use Rattle.std.proofs.Common.{◌≡◌, ℕ, ◌+◌, arith, true, List, [], �
 use Rattle.std.specs.Prelude.{ℤ, pos, slice_get}
 use Rattle.std.proofs.lemmas.Bool.{cases_order}
 use Rattle.epoch_selection.specs.Searches.{Search}
-use Rattle.sat_model.specs.Boxes.{Side, GridBox}
+use Rattle.grid_model.specs.Boxes.{Side, GridBox, span_side}
 use Rattle.sat_model.specs.Fold.{first_stage}
 use Rattle.sat_model.specs.Logs.{Block, LogValue, rows_of, lines_in}
 use Rattle.sat_model.specs.Relaxed.{ends}
-use Rattle.sat_model.specs.Trees.{span_side}
 use Rattle.sat_model.specs.Verdicts.{NoneRepeats, HeadPasses, StepsPass, StepsFail}
 use Rattle.sat_model.specs.declared.rules.Rules.{Rules}
-use Rattle.sat_model.specs.declared.satellites.SatEntry.{SatEntry}
-use Rattle.sat_model.specs.declared.satellites.SatEntry.TheVariants as entry
-use Rattle.sat_model.specs.declared.spans.Span.{Span}
+use Rattle.sat_model.specs.declared.rows.SatEntry.{SatEntry}
+use Rattle.sat_model.specs.declared.rows.SatEntry.TheVariants as entry
+use Rattle.grid_model.specs.declared.spans.Span.{Span}
 use Rattle.sat_model.proofs.FaultLemmas.{one_first_fault}
 use Rattle.sat_model.proofs.VerdictLemmas.{block_not_both}
 use Rattle.sat_rows.specs.declared.lines.SatLine.{SatLine}

@@ -7,22 +7,22 @@ use Rattle.std.proofs.lemmas.List.Sums.{sum_by-cons}
 use Rattle.epoch_selection.specs.Searches.{Search, searches_in}
 use Rattle.rinex_obs.specs.declared.obs.ObsEpoch.{ObsEpoch}
 use Rattle.rinex_obs.specs.declared.obs.SatObs.{SatObs}
-use Rattle.sat_model.specs.Boxes.{Side, GridBox, box_holds}
-use Rattle.sat_model.specs.declared.boxes.Box3.{Box3}
+use Rattle.grid_model.specs.Boxes.{Side, GridBox, box_holds, span_side}
+use Rattle.grid_model.specs.declared.boxes.Box3.{Box3}
 use Rattle.sat_model.specs.Cover.{IsSureInside, AreSureInside, EpochCover}
-use Rattle.sat_model.specs.Fitting.{range_to, RowValue, low_bounds, high_bounds, IsAllowed, IsSurelyAllowed, IsPossible, IsSure, AllBut}
+use Rattle.grid_model.specs.Ranges.{range_to}
+use Rattle.sat_model.specs.Fitting.{RowValue, low_bounds, high_bounds, IsAllowed, IsSurelyAllowed, IsPossible, IsSure, AllBut}
 use Rattle.sat_model.specs.Fold.{ShownStep, pieces}
-use Rattle.sat_model.specs.Intervals.{Between}
+use Rattle.grid_model.specs.Intervals.{Between}
 use Rattle.sat_model.specs.Logs.{Block, rows_of}
 use Rattle.sat_model.specs.Relaxed.{ends}
-use Rattle.sat_model.specs.SearchBoxes.{IsSearchBox}
-use Rattle.sat_model.specs.Trees.{span_side}
-use Rattle.sat_model.specs.declared.boxes.Pos.{Pos}
+use Rattle.grid_model.specs.SearchBoxes.{IsSearchBox}
+use Rattle.grid_model.specs.declared.boxes.Pos.{Pos}
 use Rattle.sat_model.specs.declared.rules.Rules.{Rules}
-use Rattle.sat_model.specs.declared.satellites.Row.{Row}
-use Rattle.sat_model.specs.declared.satellites.SatEntry.{SatEntry}
-use Rattle.sat_model.specs.declared.satellites.SatEntry.TheVariants as entry
-use Rattle.sat_model.specs.declared.spans.Span.{Span}
+use Rattle.sat_model.specs.declared.rows.Row.{Row}
+use Rattle.sat_model.specs.declared.rows.SatEntry.{SatEntry}
+use Rattle.sat_model.specs.declared.rows.SatEntry.TheVariants as entry
+use Rattle.grid_model.specs.declared.spans.Span.{Span}
 use Rattle.sat_model.specs.declared.steps.Step.{Step}
 use Rattle.sat_model.specs.declared.steps.Step.TheVariants.{Cut, Split, Outside, Inside, Edge}
 use Rattle.sat_model.proofs.CoverLemmas.{epoch_cover}

@@ -1,4 +1,3 @@
-pub mod SpanLemmas
 pub mod StepLemmas
 pub mod BlockLemmas
 pub mod SatLineLemmas

@@ -4,21 +4,20 @@ use Rattle.std.specs.Prelude.{ℤ, pos, ◌-ℤ◌, ◌≤ℤ◌, Contains, slic
 use Rattle.std.proofs.lemmas.Int.{ints}
 use Rattle.epoch_selection.specs.Searches.{Search}
 use Rattle.rinex_obs.specs.declared.obs.SatObs.{SatObs}
-use Rattle.sat_model.specs.Boxes.{Side, GridBox}
+use Rattle.grid_model.specs.Boxes.{Side, GridBox, span_side}
 use Rattle.sat_model.specs.Fitting.{low_bounds, high_bounds}
 use Rattle.sat_model.specs.Fold.{Stage, first_stage, after}
-use Rattle.sat_model.specs.Intervals.{Between}
+use Rattle.grid_model.specs.Intervals.{Between}
 use Rattle.sat_model.specs.Logs.{Block, lines_in}
-use Rattle.sat_model.specs.Lengths.{spare_of}
-use Rattle.sat_model.specs.Trees.{span_side}
+use Rattle.grid_model.specs.Lengths.{spare_of}
 use Rattle.sat_model.specs.Verdicts.{StepFails, StepsFail}
-use Rattle.sat_model.specs.Zenith.{err_spare_of}
-use Rattle.sat_model.specs.declared.memory.NoMemory.{NoMemory}
+use Rattle.gnss_model.specs.Zenith.{err_spare_of}
+use Rattle.grid_model.specs.declared.memory.NoMemory.{NoMemory}
 use Rattle.sat_model.specs.declared.rules.Rules.{Rules}
-use Rattle.sat_model.specs.declared.satellites.Row.{Row}
-use Rattle.sat_model.specs.declared.satellites.SatEntry.{SatEntry}
-use Rattle.sat_model.specs.declared.satellites.SatEntry.TheVariants as entry
-use Rattle.sat_model.specs.declared.spans.Span.{Span}
+use Rattle.sat_model.specs.declared.rows.Row.{Row}
+use Rattle.sat_model.specs.declared.rows.SatEntry.{SatEntry}
+use Rattle.sat_model.specs.declared.rows.SatEntry.TheVariants as entry
+use Rattle.grid_model.specs.declared.spans.Span.{Span}
 use Rattle.sat_model.specs.declared.steps.Step.{Step}
 use Rattle.sat_model.specs.declared.steps.Step.TheVariants.{Cut, Split, Outside, Inside, Edge}
 use Rattle.sat_rows.specs.Chains.{Chain}

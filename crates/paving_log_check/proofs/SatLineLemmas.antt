@@ -3,12 +3,12 @@ use Rattle.std.proofs.Common.{◌≡◌, ℕ, ◌<◌, Bool, true, List, length,
 use Rattle.std.specs.Prelude.{IsTrue, ◌↔◌, MatchOption, slice_get, is_some}
 use Rattle.std.proofs.lemmas.Bool.{cases_order}
 use Rattle.std.proofs.lemmas.Option.{slice_get_read}
-use Rattle.sat_model.specs.Boxes.{Side}
+use Rattle.grid_model.specs.Boxes.{Side}
 use Rattle.sat_model.specs.Fitting.{low_bounds, high_bounds}
 use Rattle.sat_model.specs.Verdicts.{IsRepeat, NoneRepeats, IsFirstRepeat}
-use Rattle.sat_model.specs.declared.satellites.Row.{Row}
-use Rattle.sat_model.specs.declared.satellites.SatEntry.{SatEntry}
-use Rattle.sat_model.specs.declared.spans.Span.{Span}
+use Rattle.sat_model.specs.declared.rows.Row.{Row}
+use Rattle.sat_model.specs.declared.rows.SatEntry.{SatEntry}
+use Rattle.grid_model.specs.declared.spans.Span.{Span}
 use Rattle.sat_rows.specs.declared.lines.SatLine.{SatLine}
 use Rattle.paving_log_check.specs.Lines.{HoldsSide, bounds_compared, HoldEach, IsFirstNarrow, IsSameLine, IsExpected, RowPasses, RowFails, LinePasses, LineFails}
 use Rattle.paving_log_check.specs.declared.verdict.Fault.{Fault}

@@ -1,7 +1,7 @@
 -- What the rest of the steps shows is shown of all of them.
 use Rattle.std.proofs.Common.{◌≡◌, ◌≢◌, ◌⊎◌, ℕ, suc, ◌+◌, arith, List, [], ◌∷◌, refl, subst, None, add-one}
 use Rattle.sat_model.specs.declared.rules.Rules.{Rules}
-use Rattle.sat_model.specs.declared.satellites.Row.{Row}
+use Rattle.sat_model.specs.declared.rows.Row.{Row}
 use Rattle.sat_model.specs.declared.steps.Step.{Step}
 use Rattle.sat_model.specs.Fold.{Stage, live_box, NoneLive, after}
 use Rattle.sat_model.specs.Verdicts.{StepPasses, StepFails, StepsPass, StepsFail}

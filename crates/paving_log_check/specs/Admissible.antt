@@ -6,7 +6,7 @@ use Rattle.rinex_obs.specs.declared.obs.ObsEpoch.{ObsEpoch}
 use Rattle.sat_model.specs.Logs.{Block, LogValue, lines_in}
 use Rattle.sat_model.specs.Verdicts.{IsLater, SuitsNumber}
 use Rattle.sat_model.specs.declared.rules.Rules.{Rules}
-use Rattle.sat_model.specs.declared.spans.Span.{Span}
+use Rattle.grid_model.specs.declared.spans.Span.{Span}
 use Rattle.sat_rows.specs.Meanings.{Meaning}
 use Rattle.sat_rows.specs.OwnRows.{AreLinesOf}
 use Rattle.sat_rows.specs.declared.lines.SatLine.{SatLine}
@@ -20,6 +20,7 @@ pub record AreSameRules (a b : Rules) : Type 0 where
   pub outliers : a.outliers ≡ b.outliers
   pub bisections : a.bisections ≡ b.bisections
   pub width : a.width ≡ b.width
+  pub pairs : a.pairs ≡ b.pairs
 
 -- ---- the place of a block among the epochs (51)
 

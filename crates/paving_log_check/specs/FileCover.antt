@@ -2,11 +2,11 @@
 -- fits, and each in box fits at its clock.
 use Rattle.std.specs.Prelude.{◌≡◌, ℕ, ℤ, true, List, [], ◌∷◌, Option, None, Some}
 use Rattle.epoch_selection.specs.Searches.{Search}
-use Rattle.sat_model.specs.Boxes.{GridBox, box_holds}
+use Rattle.grid_model.specs.Boxes.{GridBox, box_holds}
 use Rattle.sat_model.specs.Cover.{Partitions, SomeKeeps}
 use Rattle.sat_model.specs.Fold.{ShownStep, pieces}
 use Rattle.sat_model.specs.Logs.{Block, LogValue}
-use Rattle.sat_model.specs.declared.boxes.Pos.{Pos}
+use Rattle.grid_model.specs.declared.boxes.Pos.{Pos}
 use Rattle.sat_model.specs.declared.steps.Step.{Step}
 use Rattle.sat_model.specs.declared.steps.Step.TheVariants.{Cut, Split, Outside, Inside, Edge}
 use Rattle.sat_rows.specs.Fitting.{FitsEpoch}

@@ -8,7 +8,7 @@ use Rattle.error_bounds.specs.Reading.{centre_with, IsRoot}
 use Rattle.error_bounds.specs.declared.settings.Settings.{Settings}
 use Rattle.rinex_nav.specs.declared.record.NavRecord.{NavRecord}
 use Rattle.rinex_obs.specs.declared.obs.Obs.{Obs}
-use Rattle.sat_model.specs.Boxes.{GridBox}
+use Rattle.grid_model.specs.Boxes.{GridBox}
 use Rattle.sat_model.specs.Logs.{LogValue}
 use Rattle.sat_rows.specs.Sources.{gps_meaning}
 use Rattle.paving_log_check.specs.Checked.{IsAccepted, IsRefused}

@@ -1,14 +1,13 @@
 -- A log's satellite lines against the lines of the epoch's satellites that the files give.
 use Rattle.std.specs.Prelude.{◌≡◌, ℕ, ◌<◌, ◌⊎◌, ◌≤ℤ◌, Bool, true, false, List, [], ◌∷◌, length, Option, None, Some, slice_get}
-use Rattle.sat_model.specs.Boxes.{Side}
+use Rattle.grid_model.specs.Boxes.{Side, span_side}
 use Rattle.sat_model.specs.Fitting.{low_bounds, high_bounds}
 use Rattle.sat_model.specs.Relaxed.{ends}
-use Rattle.sat_model.specs.Trees.{span_side}
 use Rattle.sat_model.specs.Verdicts.{IsRepeat}
-use Rattle.sat_model.specs.declared.satellites.Row.{Row}
-use Rattle.sat_model.specs.declared.satellites.SatEntry.{SatEntry}
-use Rattle.sat_model.specs.declared.satellites.SatEntry.TheVariants as entry
-use Rattle.sat_model.specs.declared.spans.Span.{Span}
+use Rattle.sat_model.specs.declared.rows.Row.{Row}
+use Rattle.sat_model.specs.declared.rows.SatEntry.{SatEntry}
+use Rattle.sat_model.specs.declared.rows.SatEntry.TheVariants as entry
+use Rattle.grid_model.specs.declared.spans.Span.{Span}
 use Rattle.sat_rows.specs.OwnRows.{HasBounds}
 use Rattle.sat_rows.specs.declared.lines.SatLine.{SatLine}
 use Rattle.sat_rows.specs.declared.lines.SatLine.TheVariants.{Usable, Skipped}

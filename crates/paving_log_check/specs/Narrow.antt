@@ -4,15 +4,14 @@
 use Rattle.std.specs.Prelude.{◌≡◌, ℕ, ℤ, pos, ◌+ℤ◌, ◌-ℤ◌, ◌≤ℤ◌, true, List, [], ◌∷◌, Option, None, Some, Contains, slice_get}
 use Rattle.epoch_selection.specs.Searches.{Search}
 use Rattle.rinex_obs.specs.declared.obs.SatObs.{SatObs}
-use Rattle.sat_model.specs.Boxes.{Side, GridBox, box_holds}
-use Rattle.sat_model.specs.Lengths.{spare_of}
+use Rattle.grid_model.specs.Boxes.{Side, GridBox, box_holds, span_side}
+use Rattle.grid_model.specs.Lengths.{spare_of}
 use Rattle.sat_model.specs.Logs.{Block}
-use Rattle.sat_model.specs.Trees.{span_side}
-use Rattle.sat_model.specs.Zenith.{err_spare_of}
-use Rattle.sat_model.specs.declared.boxes.Pos.{Pos}
-use Rattle.sat_model.specs.declared.satellites.Row.{Row}
-use Rattle.sat_model.specs.declared.satellites.SatEntry.TheVariants as entry
-use Rattle.sat_model.specs.declared.spans.Span.{Span}
+use Rattle.gnss_model.specs.Zenith.{err_spare_of}
+use Rattle.grid_model.specs.declared.boxes.Pos.{Pos}
+use Rattle.sat_model.specs.declared.rows.Row.{Row}
+use Rattle.sat_model.specs.declared.rows.SatEntry.TheVariants as entry
+use Rattle.grid_model.specs.declared.spans.Span.{Span}
 use Rattle.sat_rows.specs.Chains.{Chain}
 use Rattle.sat_rows.specs.Meanings.{Meaning}
 use Rattle.sat_rows.specs.OwnRows.{IsOwnRow}

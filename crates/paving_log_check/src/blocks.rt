@@ -10,9 +10,10 @@ ghost use Rattle.logged_steps.specs.Steps.{steps_of};
 ghost use Rattle.paving_log.specs.Values.{block_of};
 
 use crate::steps::steps_fault;
+use grid_model::NoMemory;
 use logged_steps::LoggedSteps;
 use paving_log::{LineFault, LogEpoch, own_fault, rows_among};
-use sat_model::{NoMemory, Row, Rules, Step};
+use sat_model::{Row, Rules, Step};
 use std::alloc::Global;
 
 /// The first line of the block that fails a test.
@@ -64,7 +65,7 @@ fn kept_steps(steps: &LoggedSteps) -> usize
 }
 
 /// How many boxes the steps of a block close inside or at the edge.
-pub(crate) fn kept_boxes(epoch: &LogEpoch) -> u64
+pub fn kept_boxes(epoch: &LogEpoch) -> u64
     ensures value { (rules : Rules)
         → BodyPasses rules (block_of epoch.now) (block_of epoch.now).root
         → result ≡ kept_in (block_of epoch.now) (block_of epoch.now).root }

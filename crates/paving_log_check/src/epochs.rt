@@ -2,9 +2,9 @@
 
 ghost use Rattle.std.specs.Prelude.{◌≡◌, ◌+◌, ◌<◌, ◌≤◌, ◌^◌, ◌↔◌, length, IsTrue, IfOk, MatchOption, Some};
 ghost use Rattle.epoch_selection.specs.Searches.{search_in};
-ghost use Rattle.sat_model.specs.Boxes.{grid_box};
+ghost use Rattle.grid_model.specs.Boxes.{grid_box};
 ghost use Rattle.sat_model.specs.Logs.{rows_of, lines_in};
-ghost use Rattle.sat_model.specs.SearchBoxes.{IsSearchBox};
+ghost use Rattle.grid_model.specs.SearchBoxes.{IsSearchBox};
 ghost use Rattle.sat_model.specs.Verdicts.{SuitsNumber};
 ghost use Rattle.sat_rows.specs.OwnRows.{usable_in};
 ghost use Rattle.logged_steps.specs.Steps.{steps_of};
@@ -16,9 +16,10 @@ use crate::faults::{ROOT_DIFFERS, plain_fault};
 use crate::sat_lines::{expected_lines, sats_fault};
 use crate::steps::steps_fault;
 use crate::verdict::Fault;
+use grid_model::{Box3, NoMemory, Span};
 use paving_log::{LogEpoch, SATELLITE_DIFFERS, rows_among, rows_in};
 use rinex_obs::ObsEpoch;
-use sat_model::{Box3, NoMemory, Rules, Span};
+use sat_model::Rules;
 use sat_rows::{EpochRows, RowSource};
 use std::alloc::Global;
 

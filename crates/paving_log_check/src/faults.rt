@@ -4,7 +4,7 @@ ghost use Rattle.std.specs.Prelude.{◌≡◌};
 ghost use Rattle.paving_log_check.specs.Answers.{ShowsNoSpans};
 
 use crate::verdict::Fault;
-use sat_model::Span;
+use grid_model::Span;
 
 /// A log's rules aren't those of the settings.
 pub const RULES_DIFFER: u8 = 50;
@@ -34,7 +34,7 @@ pub const NOT_CLOSED: u8 = 63;
 pub const COUNT_DIFFERS: u8 = 64;
 
 /// A fault that shows no spans.
-pub(crate) fn plain_fault(line: u32, number: u8) -> Fault
+pub fn plain_fault(line: u32, number: u8) -> Fault
     ensures line { result.line ≡ line }
     ensures number { result.number ≡ number }
     ensures no_spans { ShowsNoSpans result }

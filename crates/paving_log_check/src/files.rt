@@ -4,7 +4,7 @@ ghost use Rattle.std.specs.Prelude.{◌≡◌, ◌+◌, ◌<◌, ◌≤◌, ◌^
 ghost use Rattle.epoch_selection.specs.Searches.{Search, searches_left};
 ghost use Rattle.sat_model.specs.Logs.{Block, lines_in, IsNumbered};
 ghost use Rattle.sat_model.specs.declared.rules.Rules.{Rules};
-ghost use Rattle.sat_model.specs.declared.spans.Span.{Span};
+ghost use Rattle.grid_model.specs.declared.spans.Span.{Span};
 ghost use Rattle.sat_rows.specs.declared.lines.SatLine.{SatLine};
 ghost use Rattle.paving_log.specs.Values.{block_of, log_value};
 ghost use Rattle.paving_log_check.specs.Answers.{IfYes, IfNo};
@@ -18,21 +18,25 @@ use crate::epochs::check_epoch;
 use crate::faults::{RULES_DIFFER, plain_fault};
 use crate::verdict::{Fault, Verdict};
 use epoch_selection::Searches;
+use grid_model::NoMemory;
 use paving_log::{EPOCH_DIFFERS, Log, LogEpoch, is_later, suits};
 use rinex_obs::ObsEpoch;
-use sat_model::{NoMemory, Rules};
+use sat_model::Rules;
 use sat_rows::RowSource;
 use std::alloc::Global;
 
-/// Whether two rules have the same numbers.
-fn are_same_rules(a: &Rules, b: &Rules) -> bool
+/// Whether two rules are the same.
+pub fn are_same_rules(a: &Rules, b: &Rules) -> bool
     ensures { IsTrue result ↔ AreSameRules a.now b.now }
 {
-    a.outliers == b.outliers && a.bisections == b.bisections && a.width == b.width
+    a.outliers == b.outliers
+        && a.bisections == b.bisections
+        && a.width == b.width
+        && a.pairs == b.pairs
 }
 
 /// Whether a block is that of an epoch, behind a block of the index `before`.
-fn is_of(rules: &Rules, before: Option<u32>, seen: &ObsEpoch, epoch: &LogEpoch) -> bool
+pub fn is_of(rules: &Rules, before: Option<u32>, seen: &ObsEpoch, epoch: &LogEpoch) -> bool
     ensures { IsTrue result ↔ IsOf rules.now before seen.now (block_of epoch.now) }
 {
     is_later(before, epoch.index)
@@ -81,7 +85,7 @@ fn is_due(
 }
 
 /// How many lines a block has.
-fn lines_of(epoch: &LogEpoch) -> u32
+pub fn lines_of(epoch: &LogEpoch) -> u32
     requires { lines_in (block_of epoch.now) ≤ 4000000001 }
     ensures { result ≡ lines_in (block_of epoch.now) }
 {
@@ -93,7 +97,7 @@ fn lines_of(epoch: &LogEpoch) -> u32
 
 /// The first fault of a block that has this one of its own: where that is told at the line behind
 /// the block, the place of the next block is tested before.
-fn first_of(own_fault: Fault, behind: u32, due: bool) -> Fault
+pub fn first_of(own_fault: Fault, behind: u32, due: bool) -> Fault
     ensures { (zenith : Option Span) (rules : Rules) (own : List SatLine) (search : Search)
         (rest : List Search) (block : Block) (more : List Block)
         → EpochFails zenith rules search.root own block own_fault

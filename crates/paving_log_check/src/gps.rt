@@ -11,10 +11,10 @@ use crate::files::check_with;
 use crate::verdict::Verdict;
 use epoch_selection::{Searches, Selection};
 use error_bounds::Settings;
+use grid_model::NoMemory;
 use paving_log::Log;
 use rinex_nav::Nav;
 use rinex_obs::Obs;
-use sat_model::NoMemory;
 use sat_rows::GpsRows;
 use std::alloc::Global;
 

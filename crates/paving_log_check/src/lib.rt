@@ -14,8 +14,10 @@ mod sat_lines;
 mod steps;
 mod verdict;
 
+pub use blocks::kept_boxes;
 pub use epochs::check_epoch;
-pub use files::check_with;
+pub use faults::{RULES_DIFFER, plain_fault};
+pub use files::{are_same_rules, check_with, first_of, is_of, lines_of};
 pub use folds::judged_folds;
 pub use gps::check;
 pub use logs::judge;

@@ -9,8 +9,8 @@ ghost use Rattle.paving_log_check.specs.Answers.{IfYes, IfNo, IsOnlyFault, Shows
 
 use crate::blocks::{block_fault, kept_boxes};
 use crate::verdict::{Fault, Verdict};
+use grid_model::{NoMemory, Span};
 use paving_log::{LineFault, Log};
-use sat_model::{NoMemory, Span};
 use std::alloc::Global;
 
 /// The fault of the line so far behind this one.

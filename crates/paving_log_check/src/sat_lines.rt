@@ -2,17 +2,18 @@
 
 ghost use Rattle.std.specs.Prelude.{◌≡◌, ◌+◌, ◌<◌, ◌^◌, ◌↔◌, ℕ, length, IsTrue, IfOk, MatchOption, Some};
 ghost use Rattle.sat_model.specs.Relaxed.{ends};
-ghost use Rattle.sat_model.specs.Trees.{span_side};
+ghost use Rattle.grid_model.specs.Boxes.{span_side};
 ghost use Rattle.sat_model.specs.Verdicts.{IsRepeat};
-ghost use Rattle.sat_model.specs.declared.satellites.SatEntry.TheVariants as entry;
+ghost use Rattle.sat_model.specs.declared.rows.SatEntry.TheVariants as entry;
 ghost use Rattle.sat_rows.specs.OwnRows.{HasBounds};
 ghost use Rattle.sat_rows.specs.declared.lines.SatLine.TheVariants.{Usable};
 ghost use Rattle.paving_log_check.specs.Lines.{skipped_in, expected, IsSameLine, HoldsSide, bounds_compared, compared, HoldEach, IsFirstNarrow, HoldsOwn, HasBound, RowPasses, RowFails, LinePasses, LineFails, SatsPass, SatsFail};
 
 use crate::faults::{BOUND_DIFFERS, ROW_NARROW, plain_fault};
 use crate::verdict::Fault;
+use grid_model::Span;
 use paving_log::{SATELLITE_DIFFERS, first_repeat};
-use sat_model::{Row, SatEntry, Span};
+use sat_model::{Row, SatEntry};
 use sat_rows::SatLine;
 use std::alloc::{AllocError, Global};
 

@@ -1,136 +1,121 @@
 //! The steps of an epoch, in one pass over its live boxes.
 
-ghost use Rattle.std.specs.Prelude.{◌<◌, ◌≤◌, ◌^◌, length, IfOk, MatchOption};
+ghost use Rattle.std.specs.Prelude.{◌≡◌, ◌<◌, ◌≤◌, ◌^◌, List, length, IfOk, MatchOption};
+ghost use Rattle.sat_model.specs.declared.rows.Row.{Row};
+ghost use Rattle.sat_model.specs.declared.rules.Rules.{Rules};
 ghost use Rattle.sat_model.specs.declared.steps.Step.TheVariants.{Cut, Split, Outside, Inside, Edge};
-ghost use Rattle.sat_model.specs.Boxes.{grid_box};
+ghost use Rattle.grid_model.specs.Boxes.{grid_box};
+ghost use Rattle.sat_model.specs.BoxTests.{test_of};
 ghost use Rattle.sat_model.specs.Fold.{first_stage};
 ghost use Rattle.sat_model.specs.Verdicts.{StepsPass, StepsFail};
 ghost use Rattle.live_boxes.specs.Stages.{stage_of};
 ghost use Rattle.logged_steps.specs.Steps.{steps_of};
+ghost use Rattle.relaxed_meet.specs.TestValues.{test_value};
 ghost use Rattle.paving_log_check.specs.Steps.{IsStepFault};
 
-use crate::claims::{cuts_empty_slab, holds_hull, is_long, is_shown_inner};
+use crate::claims::{cuts_empty_slab, is_long};
 use crate::faults::{
     BAD_SPLIT, CLOCK_NARROW, COUNT_DIFFERS, CUT_NOT_SHOWN, IN_NOT_SHOWN, NOT_CLOSED, NOT_LIVE,
     OUT_NOT_SHOWN, OVER_BUDGET,
 };
+use grid_model::{Box3, NoMemory};
 use live_boxes::Live;
 use logged_steps::LoggedSteps;
 use paving_log::LineFault;
-use relaxed_meet::{Deciding, SlabTests};
-use sat_model::{Box3, NoMemory, Row, Rules, Step};
+use relaxed_meet::BoxTest;
+use sat_model::{Row, Rules, Step};
 use std::alloc::Global;
 
-/// The rows and the rules by which steps are judged.
-#[derive(Clone, Copy)]
-struct Judge<'a> {
-    rows: &'a [Row],
-    rules: &'a Rules,
-    ghost enough: { rules.now.outliers < length rows.now },
-    ghost at_most: { length rows.now ≤ 64 },
+/// The least number of a test of a cut that fails.
+fn cut_fault(test: &mut BoxTest, live: &Live, id: u32, face: u8, bound: i64) -> Option<u8>
+    ensures fault { (rows : List Row) (rules : Rules) → test_value test.old ≡ test_of rules rows
+        → IsStepFault rows rules (stage_of live.now) (Cut id face bound) result }
+    ensures same { test_value test.new ≡ test_value test.old }
+{
+    let Some(part) = live.box_of(id) else {
+        return Some(NOT_LIVE);
+    };
+    if !cuts_empty_slab(test, face, bound, &part) {
+        return Some(CUT_NOT_SHOWN);
+    }
+    None
 }
 
-/// What decided the last test whether something is empty, of a slab at each face and of a whole box.
-#[derive(Clone, Copy, Default)]
-struct Decided {
-    slabs: SlabTests,
-    boxes: Deciding,
+/// The same of a split.
+fn split_fault(rules: &Rules, live: &Live, id: u32, axis: u8) -> Option<u8>
+    ensures { (rows : List Row)
+        → IsStepFault rows rules.now (stage_of live.now) (Split id axis) result }
+{
+    let Some(part) = live.box_of(id) else {
+        return Some(NOT_LIVE);
+    };
+    if !is_long(rules, axis, &part) {
+        return Some(BAD_SPLIT);
+    }
+    if live.splits() >= rules.bisections as usize {
+        return Some(OVER_BUDGET);
+    }
+    None
 }
 
-/// Each gives the least number of a test of the step that fails.
-impl<'a> Judge<'a> {
-    fn cut_fault(
-        &self,
-        live: &Live,
-        id: u32,
-        face: u8,
-        bound: i64,
-        tests: &mut SlabTests,
-    ) -> Option<u8>
-        ensures { IsStepFault self.now.rows.now self.now.rules.now (stage_of live.now)
-            (Cut id face bound) result }
-    {
-        let Some(part) = live.box_of(id) else {
-            return Some(NOT_LIVE);
-        };
-        if !cuts_empty_slab(self.rows, self.rules.outliers, face, bound, tests, &part) {
-            return Some(CUT_NOT_SHOWN);
-        }
-        None
+/// The same of a box that is closed as outside.
+fn outside_fault(test: &mut BoxTest, live: &Live, id: u32) -> Option<u8>
+    ensures fault { (rows : List Row) (rules : Rules) → test_value test.old ≡ test_of rules rows
+        → IsStepFault rows rules (stage_of live.now) (Outside id) result }
+    ensures same { test_value test.new ≡ test_value test.old }
+{
+    let Some(part) = live.box_of(id) else {
+        return Some(NOT_LIVE);
+    };
+    if !test.is_empty(&part) {
+        return Some(OUT_NOT_SHOWN);
     }
+    None
+}
 
-    fn split_fault(&self, live: &Live, id: u32, axis: u8) -> Option<u8>
-        ensures { IsStepFault self.now.rows.now self.now.rules.now (stage_of live.now)
-            (Split id axis) result }
-    {
-        let Some(part) = live.box_of(id) else {
-            return Some(NOT_LIVE);
-        };
-        if !is_long(self.rules, axis, &part) {
-            return Some(BAD_SPLIT);
-        }
-        if live.splits() >= self.rules.bisections as usize {
-            return Some(OVER_BUDGET);
-        }
-        None
+/// The same of one that is closed as inside.
+fn inside_fault(test: &BoxTest, live: &Live, id: u32, clock: i64, lo: i64, hi: i64) -> Option<u8>
+    ensures { (rows : List Row) (rules : Rules) → test_value test.now ≡ test_of rules rows
+        → IsStepFault rows rules (stage_of live.now) (Inside id clock lo hi) result }
+{
+    let Some(part) = live.box_of(id) else {
+        return Some(NOT_LIVE);
+    };
+    if !test.is_inner(&part, clock) {
+        return Some(IN_NOT_SHOWN);
     }
-
-    fn outside_fault(&self, live: &Live, id: u32, deciding: &mut Deciding) -> Option<u8>
-        ensures { IsStepFault self.now.rows.now self.now.rules.now (stage_of live.now)
-            (Outside id) result }
-    {
-        let Some(part) = live.box_of(id) else {
-            return Some(NOT_LIVE);
-        };
-        if !deciding.shown_empty(self.rows, &part, self.rules.outliers) {
-            return Some(OUT_NOT_SHOWN);
-        }
-        None
+    if !test.holds_hull(&part, lo, hi) {
+        return Some(CLOCK_NARROW);
     }
+    None
+}
 
-    fn inside_fault(&self, live: &Live, id: u32, clock: i64, lo: i64, hi: i64) -> Option<u8>
-        ensures { IsStepFault self.now.rows.now self.now.rules.now (stage_of live.now)
-            (Inside id clock lo hi) result }
-    {
-        let Some(part) = live.box_of(id) else {
-            return Some(NOT_LIVE);
-        };
-        if !is_shown_inner(self.rows, self.rules.outliers, &part, clock) {
-            return Some(IN_NOT_SHOWN);
-        }
-        if !holds_hull(self.rows, self.rules.outliers, &part, lo, hi) {
-            return Some(CLOCK_NARROW);
-        }
-        None
+/// The same of one that is closed as undecided.
+fn edge_fault(test: &BoxTest, live: &Live, id: u32, lo: i64, hi: i64) -> Option<u8>
+    ensures { (rows : List Row) (rules : Rules) → test_value test.now ≡ test_of rules rows
+        → IsStepFault rows rules (stage_of live.now) (Edge id lo hi) result }
+{
+    let Some(part) = live.box_of(id) else {
+        return Some(NOT_LIVE);
+    };
+    if !test.holds_hull(&part, lo, hi) {
+        return Some(CLOCK_NARROW);
     }
+    None
+}
 
-    fn edge_fault(&self, live: &Live, id: u32, lo: i64, hi: i64) -> Option<u8>
-        ensures { IsStepFault self.now.rows.now self.now.rules.now (stage_of live.now)
-            (Edge id lo hi) result }
-    {
-        let Some(part) = live.box_of(id) else {
-            return Some(NOT_LIVE);
-        };
-        if !holds_hull(self.rows, self.rules.outliers, &part, lo, hi) {
-            return Some(CLOCK_NARROW);
-        }
-        None
-    }
-
-    /// Of a step of any kind.
-    fn step_fault(&self, live: &Live, step: &Step, decided: &mut Decided) -> Option<u8>
-        ensures { IsStepFault self.now.rows.now self.now.rules.now
-            (stage_of live.now) step.now result }
-    {
-        match step {
-            Step::Cut { id, face, bound } => {
-                self.cut_fault(live, *id, *face, *bound, &mut decided.slabs)
-            }
-            Step::Split { id, axis } => self.split_fault(live, *id, *axis),
-            Step::Outside { id } => self.outside_fault(live, *id, &mut decided.boxes),
-            Step::Inside { id, clock, lo, hi } => self.inside_fault(live, *id, *clock, *lo, *hi),
-            Step::Edge { id, lo, hi } => self.edge_fault(live, *id, *lo, *hi),
-        }
+/// The same of a step of any kind.
+fn step_fault(test: &mut BoxTest, rules: &Rules, live: &Live, step: &Step) -> Option<u8>
+    ensures fault { (rows : List Row) → test_value test.old ≡ test_of rules.now rows
+        → IsStepFault rows rules.now (stage_of live.now) step.now result }
+    ensures same { test_value test.new ≡ test_value test.old }
+{
+    match step {
+        Step::Cut { id, face, bound } => cut_fault(test, live, *id, *face, *bound),
+        Step::Split { id, axis } => split_fault(rules, live, *id, *axis),
+        Step::Outside { id } => outside_fault(test, live, *id),
+        Step::Inside { id, clock, lo, hi } => inside_fault(test, live, *id, *clock, *lo, *hi),
+        Step::Edge { id, lo, hi } => edge_fault(test, live, *id, *lo, *hi),
     }
 }
 
@@ -150,12 +135,11 @@ pub(crate) fn steps_fault(
         (first_stage (grid_box root.now)) (steps_of steps.now) fault.offset fault.number)) }
     ensures few { IfOk result (λ found. length (steps_of steps.now) < 2 ^ 62) }
 {
-    let judge = Judge { rows, rules };
+    let mut test = BoxTest::new(rows, rules);
     let mut live = Live::of_root(alloc, root)?;
-    let mut decided = Decided::default();
     let mut offset = 0;
     for step in steps.ahead() {
-        if let Some(number) = judge.step_fault(&live, &step, &mut decided) {
+        if let Some(number) = step_fault(&mut test, rules, &live, &step) {
             return Ok(Some(LineFault { offset, number }));
         }
         live.take(&step)?;

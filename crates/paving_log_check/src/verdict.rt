@@ -1,6 +1,6 @@
 //! What the judge says of a log.
 
-use sat_model::Span;
+use grid_model::Span;
 
 /// A log is right, with so many boxes closed inside or at the edge, or has a fault.
 #[derive(Clone, Copy, Debug, PartialEq, Eq)]

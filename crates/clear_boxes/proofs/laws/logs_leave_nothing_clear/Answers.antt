@@ -1,4 +1,4 @@
-use Rattle.sat_model.specs.Boxes.{grid_box}
+use Rattle.grid_model.specs.Boxes.{grid_box}
 use Rattle.box_steps.proofs.BoxLemmas.{grid_part}
 use Rattle.clear_boxes.proofs.LogLemmas.{log_clear}
 use Rattle.clear_boxes.proofs.laws.logs_leave_nothing_clear.Goals as goal

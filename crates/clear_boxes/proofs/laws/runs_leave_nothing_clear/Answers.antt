@@ -1,4 +1,4 @@
-use Rattle.sat_model.specs.Boxes.{grid_box}
+use Rattle.grid_model.specs.Boxes.{grid_box}
 use Rattle.box_steps.proofs.BoxLemmas.{grid_part}
 use Rattle.clear_boxes.proofs.RunLemmas.{run_clear}
 use Rattle.clear_boxes.proofs.laws.runs_leave_nothing_clear.Goals as goal

@@ -1,7 +1,7 @@
 use Rattle.std.proofs.Common.{◌≡◌, ℤ, append_assoc, arith, to_z, of_z}
 use Rattle.std.specs.Int.{w64}
 use Rattle.std.proofs.lemmas.Int.{ints}
-use Rattle.sat_model.specs.Sizes.{IsBoxSize}
+use Rattle.grid_model.specs.Sizes.{IsBoxSize}
 use Rattle.epoch_report.proofs.lines.push_box.Goals as goal
 
 -- a coordinate fits 64 bits

@@ -1,9 +1,9 @@
 use Rattle.std.proofs.Common.{◌≡◌, refl, to_z-of_z, to_z, of_z, FitsSigned, rules}
 use mir.Syntax.{w128}
 use Rattle.std.specs.Prelude.{pos}
-use Rattle.sat_model.specs.Boxes.{grid_box}
-use Rattle.sat_model.specs.Lengths.{spare_of}
-use Rattle.sat_model.specs.Zenith.{err_spare_of}
+use Rattle.grid_model.specs.Boxes.{grid_box}
+use Rattle.grid_model.specs.Lengths.{spare_of}
+use Rattle.gnss_model.specs.Zenith.{err_spare_of}
 use Rattle.epoch_rows.proofs.BlockLemmas.{root_fits, header_fits, few_usable, few_skips, skips_skipped, few_grown, skip_entries, grown_entries}
 use Rattle.epoch_rows.proofs.blocks.block.Goals as goal
 

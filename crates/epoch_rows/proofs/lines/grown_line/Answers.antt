@@ -1,8 +1,8 @@
 use Rattle.std.proofs.Common.{◌≡◌, ◌∙◌, refl, to_z-of_z, to_z, of_z, FitsSigned, rules}
 use mir.Syntax.{w64}
-use Rattle.sat_model.specs.Boxes.{grid_box}
-use Rattle.sat_model.specs.Lengths.{spare_of}
-use Rattle.sat_model.specs.Zenith.{err_spare_of}
+use Rattle.grid_model.specs.Boxes.{grid_box}
+use Rattle.grid_model.specs.Lengths.{spare_of}
+use Rattle.gnss_model.specs.Zenith.{err_spare_of}
 use Rattle.epoch_rows.proofs.LineLemmas.{room, err_room, is_small, row_grown}
 use Rattle.epoch_rows.proofs.lines.grown_line.Goals as goal
 

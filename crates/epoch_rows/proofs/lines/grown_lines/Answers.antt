@@ -1,7 +1,7 @@
 use Rattle.std.specs.Prelude.{pos}
-use Rattle.sat_model.specs.Boxes.{grid_box}
-use Rattle.sat_model.specs.Lengths.{spare_of}
-use Rattle.sat_model.specs.Zenith.{err_spare_of}
+use Rattle.grid_model.specs.Boxes.{grid_box}
+use Rattle.grid_model.specs.Lengths.{spare_of}
+use Rattle.gnss_model.specs.Zenith.{err_spare_of}
 use Rattle.epoch_rows.proofs.LineLemmas.{grow_done}
 use Rattle.epoch_rows.proofs.lines.grown_lines.Goals as goal
 

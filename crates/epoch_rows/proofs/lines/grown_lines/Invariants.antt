@@ -1,8 +1,8 @@
 use Rattle.std.proofs.Common.{drop}
 use Rattle.std.specs.Prelude.{pos}
-use Rattle.sat_model.specs.Boxes.{grid_box}
-use Rattle.sat_model.specs.Lengths.{spare_of}
-use Rattle.sat_model.specs.Zenith.{err_spare_of}
+use Rattle.grid_model.specs.Boxes.{grid_box}
+use Rattle.grid_model.specs.Lengths.{spare_of}
+use Rattle.gnss_model.specs.Zenith.{err_spare_of}
 use Rattle.sat_rows.specs.OwnRows.{AreSmall}
 use Rattle.epoch_rows.proofs.LineLemmas.{GrowOn}
 use Rattle.epoch_rows.proofs.lines.grown_lines.Given as goal

@@ -1,6 +1,6 @@
 use Rattle.std.proofs.Common.{w64}
 use Rattle.std.proofs.lemmas.Int.{to_z-of_z}
-use Rattle.sat_model.specs.Boxes.{grid_box}
+use Rattle.grid_model.specs.Boxes.{grid_box}
 use Rattle.live_boxes.proofs.CutLemmas.{left_high}
 use Rattle.live_boxes.proofs.cuts.left_by.Goals as goal
 

@@ -1,7 +1,7 @@
 use Rattle.std.proofs.Common.{arith, to_z, of_z, w64}
 use Rattle.std.specs.Prelude.{pos, ◌+ℤ◌, ◌-ℤ◌}
 use Rattle.std.proofs.lemmas.Int.{ints}
-use Rattle.sat_model.specs.Boxes.{grid_box}
+use Rattle.grid_model.specs.Boxes.{grid_box}
 use Rattle.live_boxes.proofs.CutLemmas.{proper_low, proper_high, slab_low, slab_high}
 use Rattle.live_boxes.proofs.cuts.slab_of.Goals as goal
 

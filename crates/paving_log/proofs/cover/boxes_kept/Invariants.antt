@@ -1,5 +1,5 @@
 use Rattle.std.proofs.Common.{◌≡◌, ◌++◌, map}
-use Rattle.sat_model.specs.Boxes.{grid_box}
+use Rattle.grid_model.specs.Boxes.{grid_box}
 use Rattle.sat_model.specs.Fold.{pieces, pieces_from}
 use Rattle.live_boxes.specs.Folding.{StepsFold}
 use Rattle.live_boxes.specs.Stages.{stage_of}

@@ -1,6 +1,6 @@
 use Rattle.std.proofs.Common.{◌≡◌, ℕ, ℤ, pos, neg_ℤ, List, [], ◌∷◌, ◌++◌}
 use Rattle.std.specs.Fmt.{signed_decimal}
-use Rattle.sat_model.specs.declared.spans.Span.{Span}
+use Rattle.grid_model.specs.declared.spans.Span.{Span}
 use Rattle.sat_model.specs.declared.steps.Step.{Step}
 use Rattle.sat_model.specs.declared.steps.Step.TheVariants.{Inside}
 use Rattle.paving_log.specs.declared.line.LineName.TheVariants as names

@@ -1,11 +1,10 @@
-use Rattle.std.proofs.Common.{◌≡◌, ◌∙◌, ℕ, ◌+◌, ◌≤◌, List, [], ◌∷◌, ◌++◌, map, length, ap, subst, sym, arith}
+use Rattle.std.proofs.Common.{◌≡◌, ◌∙◌, ℕ, ◌+◌, ◌≤◌, List, ◌++◌, map, length, ap, subst, sym, arith}
 use Rattle.std.specs.List.{flat_map}
 use Rattle.std.proofs.lemmas.Result.{err_from_is_err_and}
-use Rattle.paving_log.specs.declared.line.LogLine.TheVariants as line
 use Rattle.paving_log.specs.declared.line.Place.TheVariants as place
 use Rattle.paving_log.specs.Lines.{text_of}
 use Rattle.paving_log.specs.RowsText.{IsNumberedIn}
-use Rattle.paving_log.specs.Text.{block_lines}
+use Rattle.paving_log.specs.Text.{head_lines, block_lines}
 use Rattle.paving_log.specs.Values.{block_of}
 use Rattle.paving_log.proofs.LineLemmas.{refusal_behind, text_of-append}
 use Rattle.paving_log.proofs.NumberingLemmas.{length-text_of, numbered_up_to}
@@ -14,13 +13,13 @@ use Rattle.paving_log.proofs.texts.read_text.Goals as goal
 pub returns-in_err-epochs-clause-fault : goal.returns-in_err-epochs-clause-fault
 returns-in_err-epochs-clause-fault c =
     let p = err_from_is_err_and c.from_residual-in_err-epochs.result c.from_residual-in_err-epochs.ensures.1 in
-    rw (p.1, p.2) (refusal_behind (place.First c.args.form) (place.Between c.args.form) _ c.in_ok-rules.left (line.Version ∷ line.Rules c.in_ok-rules.rules ∷ []) _ c.in_ok-rules.ensures.taken c.in_err-epochs.ensures.refused)
+    rw (p.1, p.2) (refusal_behind (place.First c.args.form) (place.Between c.args.form) _ c.in_ok-rules.left (head_lines c.in_ok-rules.rules) _ c.in_ok-rules.ensures.taken c.in_err-epochs.ensures.refused)
 
 pub returns-clause-value : goal.returns-clause-value
 returns-clause-value c =
     let head = c.in_ok-rules.ensures.taken in
     let blocks = c.in_ok-epochs.ensures.taken in
-    let heads = line.Version ∷ line.Rules c.in_ok-rules.rules ∷ [] in
+    let heads = head_lines c.in_ok-rules.rules in
     let lines = flat_map (block_lines c.args.form) (map block_of c.in_ok-epochs.epochs.items) in
     let third : c.in_ok-rules.left.number ≡ 3 = omega (arith, head.number) in
     let last : c.in_ok-rules.left.number + length lines ≤ 4000000001 = omega (arith, c.in_ok-rules.left.room, ap length blocks.parts, length-text_of lines) in

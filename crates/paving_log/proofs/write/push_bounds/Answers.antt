@@ -5,8 +5,8 @@ use Rattle.std.proofs.lemmas.Int.{ints}
 use Rattle.log_words.specs.Words.{joined}
 use Rattle.paving_log.specs.Rows.{are_ends, error_words}
 use Rattle.paving_log.proofs.write.push_bounds.Goals as goal
-use Rattle.sat_model.specs.Sizes.{IsErrorSize}
-use Rattle.sat_model.specs.declared.satellites.Row.{Row}
+use Rattle.grid_model.specs.Sizes.{IsErrorSize}
+use Rattle.sat_model.specs.declared.rows.Row.{Row}
 
 -- the words of an error alone, and with what is surely allowed of it
 untold : (row : Row) (start end : List ℕ) → are_ends row.err row.sure_lo row.sure_hi ≡ true

@@ -4,7 +4,7 @@ use Rattle.std.specs.Fmt.{signed_decimal}
 use Rattle.std.proofs.lemmas.Fmt.{length_signed_le}
 use Rattle.std.proofs.lemmas.Int.{ints}
 use lib.Signed.{mag}
-use Rattle.sat_model.specs.Sizes.{IsErrorSize}
+use Rattle.grid_model.specs.Sizes.{IsErrorSize}
 use Rattle.paving_log.proofs.write.push_errors.Goals as goal
 
 error_mag : (z : ℤ) → IsErrorSize z → mag z ≤ 1000000000000

@@ -1,5 +1,5 @@
 use Rattle.std.proofs.Common.{arith}
-use Rattle.sat_model.specs.Boxes.{grid_box}
+use Rattle.grid_model.specs.Boxes.{grid_box}
 use Rattle.sat_model.specs.Fold.{first_stage}
 use Rattle.logged_steps.specs.Steps.{steps_of}
 use Rattle.paving_log_check.proofs.BlockLemmas.{steps_within}

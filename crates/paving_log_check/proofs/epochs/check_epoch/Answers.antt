@@ -1,5 +1,5 @@
 use Rattle.epoch_selection.specs.Searches.{search_in}
-use Rattle.sat_model.specs.Boxes.{grid_box}
+use Rattle.grid_model.specs.Boxes.{grid_box}
 use Rattle.paving_log.specs.Values.{block_of}
 use Rattle.paving_log_check.proofs.NarrowLemmas.{epoch_answered}
 use Rattle.paving_log_check.proofs.epochs.check_epoch.Goals as goal

@@ -1,6 +1,6 @@
 use Rattle.std.proofs.Common.{arith, ap, sym, length, ◌∙◌}
 use Rattle.std.specs.Prelude.{is_none}
-use Rattle.sat_model.specs.Boxes.{grid_box}
+use Rattle.grid_model.specs.Boxes.{grid_box}
 use Rattle.live_boxes.specs.Stages.{box_option}
 use Rattle.paving_log.specs.Values.{block_of}
 use Rattle.paving_log_check.proofs.BlockLemmas.{enough_rows}

@@ -2,7 +2,7 @@ use Rattle.std.proofs.Common.{◌+◌, arith, sym, drop, ◌∙◌}
 use Rattle.std.proofs.lemmas.Bool.{false≢true}
 use Rattle.epoch_selection.specs.Searches.{search_in, epochs_left, searches_left}
 use Rattle.epoch_selection.proofs.SelectionLemmas.{taken_search}
-use Rattle.sat_model.specs.Boxes.{grid_box}
+use Rattle.grid_model.specs.Boxes.{grid_box}
 use Rattle.paving_log.specs.Values.{block_of, log_value}
 use Rattle.paving_log_check.proofs.CheckLemmas.{underway_first, underway_more, block_numbered, body_passes, rules_refused, due_refused, block_refused, all_accepted}
 use Rattle.paving_log_check.proofs.FitLemmas.{all_in_box}

@@ -1,6 +1,6 @@
 use Rattle.std.proofs.Common.{Option, None, Some}
 use Rattle.sat_model.specs.declared.rules.Rules.{Rules}
-use Rattle.sat_model.specs.Boxes.{GridBox}
+use Rattle.grid_model.specs.Boxes.{GridBox}
 use Rattle.sat_model.specs.Fold.{first_stage}
 use Rattle.sat_model.specs.Logs.{Block, rows_of}
 use Rattle.sat_model.specs.Verdicts.{BodyPasses}

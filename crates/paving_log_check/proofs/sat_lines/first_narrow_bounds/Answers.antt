@@ -1,6 +1,6 @@
 use Rattle.std.proofs.Common.{sym, ◌∙◌}
 use Rattle.std.proofs.lemmas.Bool.{false≢true}
-use Rattle.sat_model.specs.Trees.{span_side}
+use Rattle.grid_model.specs.Boxes.{span_side}
 use Rattle.paving_log_check.proofs.SatLineLemmas.{bounds_held, high_narrow}
 use Rattle.paving_log_check.proofs.sat_lines.first_narrow_bounds.Goals as goal
 

@@ -1,6 +1,6 @@
 use Rattle.std.specs.Fmt.{signed_decimal}
 use Rattle.std.proofs.Common.{◌∷◌, [], arith}
-use Rattle.paving_log.proofs.header.rules.Goals as goal
+use Rattle.paving_log.proofs.header.limits.Goals as goal
 
 pub returns-in_err-bisections : goal.returns-in_err-bisections
 returns-in_err-bisections c = rw c.from_residual-in_err-bisections.ensures (λ r fits line.
