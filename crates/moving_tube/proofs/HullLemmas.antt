@@ -1,0 +1,106 @@
+-- What a hull holds, and where it lies.
+use Rattle.std.proofs.Common.{◌≡◌, ℕ, zero, suc, ◌+◌, ◌<◌, arith, Bool, true, false, cond, List, [], ◌∷◌, map, inl, inr, refl, sym, ap, subst, ◌∙◌, Option, None, Some, count_by}
+use Rattle.std.specs.Prelude.{ℤ, ◌≤ℤ◌}
+use Rattle.std.specs.List.{AllByRecursion}
+use Rattle.std.proofs.lemmas.Int.{ints, clamps}
+use Rattle.std.proofs.lemmas.List.Sums.{sum_by-cons}
+use Rattle.range_contractor.proofs.BoxLemmas.{along, holds_at, holds_all}
+use Rattle.grid_model.specs.Boxes.{Side, GridBox, grid_box, box_holds, side_at, IsIn}
+use Rattle.sat_model.specs.Contractors.{SideLiesIn, LiesIn}
+use Rattle.sat_model.specs.Cover.{KeepsClock, Keeps, SomeKeeps, Partitions, is_kept}
+use Rattle.sat_model.specs.Fold.{ShownStep}
+use Rattle.sat_model.specs.StepKinds.{is_kept_step}
+use Rattle.grid_model.specs.declared.boxes.Box3.{Box3}
+use Rattle.grid_model.specs.declared.boxes.Pos.{Pos}
+use Rattle.sat_model.specs.declared.steps.Step.{Step}
+use Rattle.sat_model.specs.declared.steps.Step.TheVariants.{Cut, Split, Outside, Inside, Edge}
+use Rattle.paving_log.specs.CoverBoxes.{kept_parts}
+use Rattle.moving_tube.specs.Hulls.{joined_side, joined_box, hull_with, hull_behind, HullLies}
+use Rattle.moving_tube.proofs.HoldLemmas.{holds_first, holds_second}
+
+-- ---- what it holds
+
+-- there is a hull, and it holds the point
+abbrev pub HullHolds : Option GridBox → Pos → Type 0
+HullHolds None p = ⊥
+HullHolds (Some hull) p = box_holds hull p ≡ true
+
+held_with : (hull : Option GridBox) (part : GridBox) (p : Pos) → HullHolds hull p → HullHolds (hull_with hull part) p
+held_with None part p h = absurd h
+held_with (Some hull) part p h = holds_first hull part p h
+
+held_new : (hull : Option GridBox) (part : GridBox) (p : Pos) → box_holds part p ≡ true → HullHolds (hull_with hull part) p
+held_new None part p h = h
+held_new (Some hull) part p h = holds_second hull part p h
+
+held_behind : (hull : Option GridBox) (parts : List GridBox) (p : Pos) → HullHolds hull p → HullHolds (hull_behind hull parts) p
+held_behind hull [] p h = h
+held_behind hull (part ∷ more) p h = held_behind (hull_with hull part) more p (held_with hull part p h)
+
+kept_step : (step : Step) (b : ℤ) → KeepsClock step b → is_kept_step step ≡ true
+kept_step (Cut id face bound) b h = absurd h
+kept_step (Split id axis) b h = absurd h
+kept_step (Outside id) b h = absurd h
+kept_step (Inside id clock lo hi) b h = refl
+kept_step (Edge id lo hi) b h = refl
+
+pub kept_here : (piece : ShownStep) (more : List ShownStep) → is_kept piece ≡ true → kept_parts (piece ∷ more) ≡ piece.part ∷ kept_parts more
+kept_here piece more e = rw e refl
+
+pub kept_later : (piece : ShownStep) (more : List ShownStep) → is_kept piece ≡ false → kept_parts (piece ∷ more) ≡ kept_parts more
+kept_later piece more e = rw e refl
+
+-- what the hull of the later ones holds, whatever stands before them
+later_held : (hull : Option GridBox) (piece : ShownStep) (more : List ShownStep) (p : Pos) (kept : Bool) → is_kept piece ≡ kept
+    → ((h : Option GridBox) → HullHolds (hull_behind h (kept_parts more)) p) → HullHolds (hull_behind hull (kept_parts (piece ∷ more))) p
+later_held hull piece more p true e later = rw (kept_here piece more e) (later (hull_with hull piece.part))
+later_held hull piece more p false e later = rw (kept_later piece more e) (later hull)
+
+-- the hull of the kept boxes holds what one of them keeps
+pub kept_held : (hull : Option GridBox) (parts : List ShownStep) (p : Pos) (b : ℤ) → SomeKeeps p b parts → HullHolds (hull_behind hull (kept_parts parts)) p
+kept_held hull [] p b some = absurd some
+kept_held hull (piece ∷ more) p b (inl here) =
+    rw (kept_here piece more (kept_step piece.step b here.1)) (held_behind (hull_with hull piece.part) (kept_parts more) p (held_new hull piece.part p here.0))
+kept_held hull (piece ∷ more) p b (inr later) =
+    later_held hull piece more p (is_kept piece) refl (λ h. kept_held h more p b later)
+
+-- ---- where it lies
+
+joined_lies_on : (a b s : Side) → SideLiesIn a s → SideLiesIn b s → SideLiesIn (joined_side a b) s
+joined_lies_on a b s h k = record {
+  low = omega (arith, ints, clamps, h.low, k.low);
+  ordered = omega (arith, ints, clamps, h.ordered, k.ordered);
+  high = omega (arith, ints, clamps, h.high, k.high);
+}
+
+joined_lies : (a b box : GridBox) → LiesIn a box → LiesIn b box → LiesIn (joined_box a b) box
+joined_lies a b box h k zero = joined_lies_on a.x b.x box.x (h 0) (k 0)
+joined_lies a b box h k (suc zero) = joined_lies_on a.y b.y box.y (h 1) (k 1)
+joined_lies a b box h k (suc (suc n)) = joined_lies_on a.z b.z box.z (h 2) (k 2)
+
+lies_with : (hull : Option GridBox) (part box : GridBox) → HullLies hull box → LiesIn part box → HullLies (hull_with hull part) box
+lies_with None part box h k = k
+lies_with (Some hull) part box h k = joined_lies hull part box h k
+
+pub hull_lies : (hull : Option GridBox) (parts : List GridBox) (box : GridBox) → HullLies hull box → AllByRecursion (λ part. LiesIn part box) parts
+    → HullLies (hull_behind hull parts) box
+hull_lies hull [] box h all = h
+hull_lies hull (part ∷ more) box h all = hull_lies (hull_with hull part) more box (lies_with hull part box h all.0) all.1
+
+-- ---- a box of the grid has points in its corners
+
+low_corner : (b : Box3) (axis : ℕ) → IsIn (side_at axis (grid_box b)) (along axis b.lo)
+low_corner b zero = (omega (arith, ints), b.x_ordered)
+low_corner b (suc zero) = (omega (arith, ints), b.y_ordered)
+low_corner b (suc (suc n)) = (omega (arith, ints), b.z_ordered)
+
+high_corner : (b : Box3) (axis : ℕ) → IsIn (side_at axis (grid_box b)) (along axis b.hi)
+high_corner b zero = (b.x_ordered, omega (arith, ints))
+high_corner b (suc zero) = (b.y_ordered, omega (arith, ints))
+high_corner b (suc (suc n)) = (b.z_ordered, omega (arith, ints))
+
+pub holds_low : (b : Box3) → box_holds (grid_box b) b.lo ≡ true
+holds_low b = holds_all (grid_box b) b.lo (low_corner b)
+
+pub holds_high : (b : Box3) → box_holds (grid_box b) b.hi ≡ true
+holds_high b = holds_all (grid_box b) b.hi (high_corner b)

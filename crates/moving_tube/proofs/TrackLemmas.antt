@@ -1,0 +1,80 @@
+-- A receiver that fits in each paved epoch, and comes no farther than its reach, is found in each epoch.
+use Rattle.std.proofs.Common.{◌≡◌, ℕ, Bool, true, false, List, [], ◌∷◌, map, refl, sym, ap, subst, ◌∙◌, Option, None, Some}
+use Rattle.std.specs.Prelude.{ℤ}
+use Rattle.std.specs.List.{AllByRecursion}
+use Rattle.grid_model.specs.Boxes.{GridBox, box_holds}
+use Rattle.sat_model.specs.Cover.{SomeKeeps}
+use Rattle.sat_model.specs.Fold.{pieces}
+use Rattle.sat_model.specs.Logs.{Block}
+use Rattle.grid_model.specs.declared.boxes.Pos.{Pos}
+use Rattle.paving_log.specs.CoverBoxes.{kept_parts, cover_of}
+use Rattle.moving_tube.specs.Hulls.{hull_of}
+use Rattle.moving_tube.specs.Reach.{reach_of}
+use Rattle.moving_tube.specs.Roots.{kept_with, kept_of, Before, root_after, root_for, reached_box}
+use Rattle.moving_tube.specs.Tracks.{Stay, Left, IsReached, GoesOn, IsTrajectory, Visit, behind, AreRooted, root_with, IsKeptWith, AreKept, IsFoundWith, AreFound}
+use Rattle.moving_tube.proofs.HoldLemmas.{holds_reached}
+use Rattle.moving_tube.proofs.HullLemmas.{HullHolds, kept_held}
+
+-- the receiver was in what the epoch before kept
+abbrev IsHeld : Option Before → Option Left → Type 0
+IsHeld None None = Unit {0}
+IsHeld None (Some left) = ⊥
+IsHeld (Some before) None = ⊥
+IsHeld (Some before) (Some left) = (before.tag ≡ left.tag) × HullHolds before.kept left.at
+
+-- so it is in the root
+in_root_after : (speed : ℕ) (search : GridBox) (from to : ℤ) (kept : Option GridBox) (root : GridBox) (p q : Pos) → HullHolds kept p
+    → box_holds search q ≡ true → IsReached speed (Some (record { tag = from; at = p })) to q → root_after speed search from kept to ≡ Some root
+    → box_holds root q ≡ true
+in_root_after speed search from to None root p q held inside near e = absurd held
+in_root_after speed search from to (Some kept) root p q held inside near e =
+    let same : reached_box (reach_of speed from to) kept search ≡ root = cc in
+    subst (λ (r : GridBox). box_holds r q ≡ true) same (holds_reached (reach_of speed from to) kept search p q held near inside)
+
+in_root : (speed : ℕ) (search : GridBox) (before : Option Before) (left : Option Left) (tag : ℤ) (root : GridBox) (q : Pos) → IsHeld before left
+    → box_holds search q ≡ true → IsReached speed left tag q → root_for speed search before tag ≡ Some root → box_holds root q ≡ true
+in_root speed search None None tag root q held inside near e =
+    let same : search ≡ root = cc in
+    subst (λ (r : GridBox). box_holds r q ≡ true) same inside
+in_root speed search None (Some left) tag root q held inside near e = absurd held
+in_root speed search (Some before) None tag root q held inside near e = absurd held
+in_root speed search (Some before) (Some left) tag root q held inside near e =
+    in_root_after speed search before.tag tag before.kept root left.at q held.1 inside
+    (subst (λ (t : ℤ). IsReached speed (Some (record { tag = t; at = left.at })) tag q) (sym held.0) near) e
+
+-- and found there
+found_with : (few : Bool) (v : Visit) (stay : Stay) → box_holds v.root stay.at ≡ true → IsKeptWith few v stay → IsFoundWith few v stay
+found_with true v stay inside kept = inside
+found_with false v stay inside kept = kept inside
+
+held_with : (few : Bool) (v : Visit) (stay : Stay) → v.block.root ≡ root_with few v.root → IsFoundWith few v stay → HullHolds (kept_with few v.root v.block) stay.at
+held_with true v stay is found = found
+held_with false v stay is found = rw is (kept_held None (pieces v.root v.block.steps) stay.at stay.offset found)
+
+module _ (speed : ℕ) (search : GridBox) where
+  -- each visit has its root in its block
+  abbrev pub HaveRoots : List Visit → Type 0
+  HaveRoots visits = AllByRecursion (λ v. v.block.root ≡ root_with v.block.few v.root) visits
+
+  -- the visits are at the first of these times
+  abbrev pub AreTimed : List Visit → List ℤ → Type 0
+  AreTimed [] tags = Unit {0}
+  AreTimed (v ∷ more) [] = ⊥
+  AreTimed (v ∷ more) (tag ∷ tags) = (v.tag ≡ tag) × AreTimed more tags
+
+  found_from : (before : Option Before) (left : Option Left) (visits : List Visit) (tags : List ℤ) (path : List Stay) → IsHeld before left
+      → AreRooted speed search before visits → AreTimed visits tags → HaveRoots visits → GoesOn speed search left tags path → AreKept visits path
+      → AreFound visits path
+  found_from before left [] tags path held rooted timed roots goes kept = tt
+  found_from before left (v ∷ more) [] path held rooted timed roots goes kept = absurd timed
+  found_from before left (v ∷ more) (tag ∷ tags) [] held rooted timed roots goes kept = absurd kept
+  found_from before left (v ∷ more) (tag ∷ tags) (stay ∷ path) held rooted timed roots goes kept =
+      let inside = in_root speed search before left v.tag v.root stay.at held goes.0 (subst (λ (t : ℤ). IsReached speed left t stay.at) (sym timed.0) goes.1) rooted.0 in
+      let found = found_with v.block.few v stay inside kept.0 in
+      let held = held_with v.block.few v stay roots.0 found in
+      (found, found_from (behind v) (Some (record { tag = tag; at = stay.at })) more tags path (timed.0, held) rooted.1 timed.1 roots.1 goes.2 kept.1)
+
+  -- A trajectory that each paved epoch keeps, where it is in its root, is found in each epoch.
+  pub track_found : (visits : List Visit) (tags : List ℤ) (path : List Stay) → AreRooted speed search None visits → AreTimed visits tags
+      → HaveRoots visits → IsTrajectory speed search tags path → AreKept visits path → AreFound visits path
+  track_found visits tags path rooted timed roots goes kept = found_from None None visits tags path tt rooted timed roots goes kept

@@ -1,0 +1,85 @@
+-- Trajectories of a moving receiver, and the boxes in which it is found.
+use Rattle.std.specs.Prelude.{◌≡◌, ℕ, ℤ, Bool, true, false, List, [], ◌∷◌, Option, None, Some}
+use Rattle.grid_model.specs.Boxes.{GridBox, box_holds}
+use Rattle.sat_model.specs.Cover.{SomeKeeps}
+use Rattle.sat_model.specs.Fold.{pieces}
+use Rattle.sat_model.specs.Logs.{Block}
+use Rattle.grid_model.specs.declared.boxes.Pos.{Pos}
+use Rattle.moving_tube.specs.Reach.{reach_of, IsWithinReach}
+use Rattle.moving_tube.specs.Roots.{Before, kept_of, root_for}
+
+-- ---- a trajectory
+
+-- where a receiver is in an epoch, and its clock offset
+pub record Stay : Type 0 where
+  pub at : Pos
+  pub offset : ℤ
+
+-- where it was in the epoch before, and when
+pub record Left : Type 0 where
+  pub tag : ℤ
+  pub at : Pos
+
+abbrev pub IsReached : ℕ → Option Left → ℤ → Pos → Type 0
+IsReached speed None tag p = Unit {0}
+IsReached speed (Some left) tag p = IsWithinReach (reach_of speed left.tag tag) left.at p
+
+-- From there on one stay in the search box for each of these times, each within reach of the one
+-- before.
+abbrev pub GoesOn : ℕ → GridBox → Option Left → List ℤ → List Stay → Type 0
+GoesOn speed search left [] [] = Unit {0}
+GoesOn speed search left [] (stay ∷ path) = ⊥
+GoesOn speed search left (tag ∷ tags) [] = ⊥
+GoesOn speed search left (tag ∷ tags) (stay ∷ path) =
+    (box_holds search stay.at ≡ true) × IsReached speed left tag stay.at
+    × GoesOn speed search (Some (record { tag = tag; at = stay.at })) tags path
+
+abbrev pub IsTrajectory : ℕ → GridBox → List ℤ → List Stay → Type 0
+IsTrajectory speed search tags path = GoesOn speed search None tags path
+
+-- ---- the epochs of a track
+
+-- the time of an epoch, the box in which it was searched, and what was written of it
+pub record Visit : Type 0 where
+  pub tag : ℤ
+  pub root : GridBox
+  pub block : Block
+
+abbrev pub behind : Visit → Option Before
+behind v = Some (record { tag = v.tag; kept = kept_of v.root v.block })
+
+-- each is searched in the root that the one before leaves
+abbrev pub AreRooted : ℕ → GridBox → Option Before → List Visit → Type 0
+AreRooted speed search before [] = Unit {0}
+AreRooted speed search before (v ∷ more) =
+    (root_for speed search before v.tag ≡ Some v.root) × AreRooted speed search (behind v) more
+
+-- a block of few satellites has no root, and each other one that of its epoch
+abbrev pub root_with : Bool → GridBox → Option GridBox
+root_with true root = None
+root_with false root = Some root
+
+-- who is in its root is kept there, where the epoch is paved
+abbrev pub IsKeptWith : Bool → Visit → Stay → Type 0
+IsKeptWith true v stay = Unit {0}
+IsKeptWith false v stay = box_holds v.root stay.at ≡ true
+    → SomeKeeps stay.at stay.offset (pieces v.root v.block.steps)
+
+-- so it is in each of these epochs, of which there is a stay
+abbrev pub AreKept : List Visit → List Stay → Type 0
+AreKept [] path = Unit {0}
+AreKept (v ∷ more) [] = ⊥
+AreKept (v ∷ more) (stay ∷ path) = IsKeptWith v.block.few v stay × AreKept more path
+
+-- ---- where a receiver is found
+
+-- in an in or edge box whose clock span has its offset; in a block of few satellites in the root
+abbrev pub IsFoundWith : Bool → Visit → Stay → Type 0
+IsFoundWith true v stay = box_holds v.root stay.at ≡ true
+IsFoundWith false v stay = SomeKeeps stay.at stay.offset (pieces v.root v.block.steps)
+
+-- in each of these epochs, and maybe in more
+abbrev pub AreFound : List Visit → List Stay → Type 0
+AreFound [] path = Unit {0}
+AreFound (v ∷ more) [] = ⊥
+AreFound (v ∷ more) (stay ∷ path) = IsFoundWith v.block.few v stay × AreFound more path

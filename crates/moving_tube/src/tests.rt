@@ -1,0 +1,80 @@
+ghost use Rattle.std.specs.Prelude.{◌≤ℤ◌, pos};
+ghost use Rattle.grid_model.specs.Sizes.{IsBoxSize};
+
+use super::*;
+use grid_model::{Box3, Pos};
+use std::alloc::Global;
+use std::test::Fail;
+
+/// Epoch 0 of 2024 in ps.
+const THEN: i128 = 1_388_102_400_000_000_000_000;
+
+/// The box with these half sides round the origin.
+fn round_origin(x: i64, y: i64, z: i64) -> Box3
+    requires some { (pos 0 ≤ℤ x) × (pos 0 ≤ℤ y) × (pos 0 ≤ℤ z) }
+    requires sizes { IsBoxSize x × IsBoxSize y × IsBoxSize z }
+{
+    Box3 {
+        lo: Pos {
+            x: -x,
+            y: -y,
+            z: -z,
+        },
+        hi: Pos { x, y, z },
+    }
+}
+
+#[test]
+fn a_reach_is_rounded_up_and_no_more_than_400_km(rt: HostRuntime) -> Result<(), Fail> {
+    assert_eq!(rt; reach(1_000, THEN, THEN + 30_000_000_000_000), 30_000_000);
+    assert_eq!(rt; reach(1_000, THEN + 30_000_000_000_000, THEN), 30_000_000);
+    assert_eq!(rt; reach(1, THEN, THEN + 1), 1);
+    assert_eq!(rt; reach(1, THEN, THEN), 0);
+    assert_eq!(rt; reach(0, THEN, THEN + 1), 0);
+    assert_eq!(rt; reach(1_000_000, 0, 399_999_999_999_000), 399_999_999_999);
+    assert_eq!(rt; reach(1_000_000, 0, 400_000_000_000_001), 400_000_000_000);
+    assert_eq!(rt;
+        reach(1_000_000, 0, 3_999_999_999_999_999_999_999),
+        400_000_000_000
+    );
+    Ok(())
+}
+
+#[test]
+fn the_next_root_is_grown_and_met_with_the_search_box(rt: HostRuntime) -> Result<(), Fail> {
+    let cover = round_origin(1_000_000, 900_000, 900_000);
+    let search = round_origin(50_000_000, 50_000_000, 50_000_000);
+    let grown = round_origin(31_000_000, 30_900_000, 30_900_000);
+    assert_eq!(rt; next_root(&cover, 30_000_000, &search), Some(grown));
+    assert_eq!(rt; next_root(&cover, 0, &search), Some(cover));
+    assert_eq!(rt; next_root(&cover, 400_000_000_000, &search), Some(search));
+    let far = Box3 {
+        lo: Pos {
+            x: 50_000_003,
+            y: 0,
+            z: 0,
+        },
+        hi: Pos {
+            x: 50_000_003,
+            y: 0,
+            z: 0,
+        },
+    };
+    assert_eq!(rt; next_root(&far, 2, &search), None);
+    let touching = Box3 {
+        lo: Pos {
+            x: 50_000_000,
+            y: -3,
+            z: -3,
+        },
+        hi: Pos {
+            x: 50_000_000,
+            y: 3,
+            z: 3,
+        },
+    };
+    assert_eq!(rt; next_root(&far, 3, &search), Some(touching));
+    let end = round_origin(10_000_000_000_000, 0, 0);
+    assert_eq!(rt; next_root(&end, 1, &end), Some(end));
+    Ok(())
+}

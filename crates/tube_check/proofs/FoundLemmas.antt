@@ -1,0 +1,133 @@
+-- By an accepted log a moving receiver is found.
+use Rattle.std.proofs.Common.{◌≡◌, ℕ, Bool, true, false, List, [], ◌∷◌, length, map, refl, sym, ap, subst, ◌∙◌, arith, Option, None, Some}
+use Rattle.std.specs.Prelude.{is_none}
+use Rattle.std.specs.List.{AllByRecursion}
+use Rattle.epoch_selection.specs.Searches.{Search}
+use Rattle.live_boxes.specs.Stages.{box_option}
+use Rattle.moving_tube.specs.Roots.{Before, kept_of, root_for}
+use Rattle.moving_tube.specs.Tracks.{Stay, AreRooted, root_with, IsKeptWith, AreKept}
+use Rattle.moving_tube.proofs.TrackLemmas.{HaveRoots, AreTimed, track_found}
+use Rattle.paving_log.specs.Values.{block_of}
+use Rattle.paving_log.specs.declared.log.LogEpoch.{LogEpoch}
+use Rattle.paving_log_check.proofs.FitLemmas.{HasFewRoot}
+use Rattle.grid_model.specs.declared.boxes.Box3.{Box3}
+use Rattle.paving_log_check.specs.Admissible.{AdmitsFrom}
+use Rattle.paving_log_check.specs.Checked.{IsAccepted}
+use Rattle.paving_log_check.specs.Epochs.{BodyPassesAt}
+use Rattle.paving_log_check.specs.FileCover.{FitBlockCover, BlocksFitCover}
+use Rattle.rinex_obs.specs.declared.obs.ObsEpoch.{ObsEpoch}
+use Rattle.grid_model.specs.Boxes.{GridBox}
+use Rattle.sat_model.specs.Logs.{Block, LogValue}
+use Rattle.sat_model.specs.declared.rules.Rules.{Rules}
+use Rattle.grid_model.specs.declared.spans.Span.{Span}
+use Rattle.sat_rows.specs.Fitting.{FitsEpoch}
+use Rattle.sat_rows.specs.Meanings.{Meaning}
+use Rattle.sat_rows.specs.declared.lines.SatLine.{SatLine}
+use Rattle.tube_searches.specs.Tubes.{TubeValue, from_root, searches_from, tube_searches}
+use Rattle.tube_check.specs.Found.{visits_of, IsPath, StayFits, PathFits, IsFoundIn}
+
+-- ---- a block of few satellites, and no other, has no root
+
+none_of : (root : Option Box3) → is_none (box_option root) ≡ is_none root
+none_of None = refl
+none_of (Some root) = refl
+
+pub few_is : (epoch : LogEpoch) → epoch.few ≡ is_none (box_option epoch.root)
+few_is epoch = sym epoch.paved ∙ sym (none_of epoch.root)
+
+pub all_few : (epochs : List LogEpoch) → AllByRecursion HasFewRoot (map block_of epochs)
+all_few [] = tt
+all_few (epoch ∷ epochs) = (few_is epoch, all_few epochs)
+
+-- ---- the visits of a tube's searches
+
+module _ (speed : ℕ) (search : GridBox) where
+  abbrev later : ObsEpoch → List ObsEpoch → Block → List Block → GridBox → List Search
+  later epoch more block blocks root = searches_from speed search (Some (record { tag = epoch.tag; kept = kept_of root block })) more blocks
+
+  -- an epoch's root, where there is one, and what holds of the later visits
+  rooted_here : (before : Option Before) (epoch : ObsEpoch) (more : List ObsEpoch) (block : Block) (blocks : List Block) (o : Option GridBox) → root_for speed search before epoch.tag ≡ o
+      → ((root : GridBox) → AreRooted speed search (Some (record { tag = epoch.tag; kept = kept_of root block })) (visits_of (later epoch more block blocks root) blocks))
+      → AreRooted speed search before (visits_of (from_root o epoch (later epoch more block blocks)) (block ∷ blocks))
+  rooted_here before epoch more block blocks None e rest = tt
+  rooted_here before epoch more block blocks (Some root) e rest = (e, rest root)
+
+  rooted_last : (before : Option Before) (epoch : ObsEpoch) (o : Option GridBox) → AreRooted speed search before (visits_of (from_root o epoch (λ root. [])) [])
+  rooted_last before epoch None = tt
+  rooted_last before epoch (Some root) = tt
+
+  pub rooted : (before : Option Before) (epochs : List ObsEpoch) (blocks : List Block) → AreRooted speed search before (visits_of (searches_from speed search before epochs blocks) blocks)
+  rooted before [] blocks = tt
+  rooted before (epoch ∷ more) [] = rooted_last before epoch (root_for speed search before epoch.tag)
+  rooted before (epoch ∷ more) (block ∷ blocks) =
+      rooted_here before epoch more block blocks (root_for speed search before epoch.tag) refl
+      (λ root. rooted (Some (record { tag = epoch.tag; kept = kept_of root block })) more blocks)
+
+  timed_here : (epoch : ObsEpoch) (more : List ObsEpoch) (block : Block) (blocks : List Block) (o : Option GridBox)
+      → ((root : GridBox) → AreTimed speed search (visits_of (later epoch more block blocks root) blocks) (map (λ e. e.tag) more))
+      → AreTimed speed search (visits_of (from_root o epoch (later epoch more block blocks)) (block ∷ blocks)) (map (λ e. e.tag) (epoch ∷ more))
+  timed_here epoch more block blocks None rest = tt
+  timed_here epoch more block blocks (Some root) rest = (refl, rest root)
+
+  timed_last : (epoch : ObsEpoch) (more : List ObsEpoch) (o : Option GridBox) → AreTimed speed search (visits_of (from_root o epoch (λ root. [])) []) (map (λ e. e.tag) (epoch ∷ more))
+  timed_last epoch more None = tt
+  timed_last epoch more (Some root) = tt
+
+  pub timed : (before : Option Before) (epochs : List ObsEpoch) (blocks : List Block)
+      → AreTimed speed search (visits_of (searches_from speed search before epochs blocks) blocks) (map (λ e. e.tag) epochs)
+  timed before [] blocks = tt
+  timed before (epoch ∷ more) [] = timed_last epoch more (root_for speed search before epoch.tag)
+  timed before (epoch ∷ more) (block ∷ blocks) =
+      timed_here epoch more block blocks (root_for speed search before epoch.tag)
+      (λ root. timed (Some (record { tag = epoch.tag; kept = kept_of root block })) more blocks)
+
+-- ---- roots and covers of an accepted log
+
+root_of : (rules : Rules) (root : GridBox) (block : Block) (few : Bool) (theirs : Option GridBox) → few ≡ is_none theirs → BodyPassesAt rules root block theirs → theirs ≡ root_with few root
+root_of rules root block true None e body = refl
+root_of rules root block false None e body = absurd cc
+root_of rules root block true (Some theirs) e body = absurd cc
+root_of rules root block false (Some theirs) e body = ap Some body.0
+
+pub have_roots : (zenith : Option Span) (rules : Rules) (speed : ℕ) (search : GridBox) (before : Option ℕ) (owns : List (List SatLine)) (searches : List Search) (blocks : List Block)
+    → AllByRecursion HasFewRoot blocks → length owns ≡ length searches → AdmitsFrom zenith rules before owns searches blocks → HaveRoots speed search (visits_of searches blocks)
+have_roots zenith rules speed search before [] [] blocks few each admits = tt
+have_roots zenith rules speed search before [] (s ∷ rest) blocks few each admits = absurd (omega (arith, each))
+have_roots zenith rules speed search before (own ∷ owns) [] blocks few each admits = absurd (omega (arith, each))
+have_roots zenith rules speed search before (own ∷ owns) (s ∷ rest) [] few each admits = tt
+have_roots zenith rules speed search before (own ∷ owns) (s ∷ rest) (block ∷ more) few each admits = (
+  root_of rules s.root block block.few block.root few.0 admits.1.body,
+  have_roots zenith rules speed search (Some block.index) owns rest more few.1 (omega (arith, each)) admits.2,
+)
+
+module _ (m : Meaning) (q : ℕ) where
+  kept_here : (few : Bool) (s : Search) (block : Block) (stay : Stay) (theirs : Option GridBox) → few ≡ is_none theirs → FitBlockCover (FitsEpoch m q s.root s.epoch) s.root block theirs
+      → StayFits few (FitsEpoch m q s.root s.epoch) stay → IsKeptWith few (record { tag = s.epoch.tag; root = s.root; block = block }) stay
+  kept_here true s block stay theirs e cover fits = tt
+  kept_here false s block stay None e cover fits = absurd cc
+  kept_here false s block stay (Some theirs) e cover fits = λ inside. cover.covers stay.at stay.offset inside fits
+
+  pub are_kept : (searches : List Search) (blocks : List Block) (path : List Stay) → AllByRecursion HasFewRoot blocks → BlocksFitCover m q searches blocks → PathFits m q searches blocks path
+      → AreKept (visits_of searches blocks) path
+  are_kept [] blocks path few cover fits = tt
+  are_kept (s ∷ rest) [] path few cover fits = tt
+  are_kept (s ∷ rest) (block ∷ more) [] few cover fits = absurd fits
+  are_kept (s ∷ rest) (block ∷ more) (stay ∷ path) few cover fits = (
+    kept_here block.few s block stay block.root few.0 cover.0 fits.0,
+    are_kept rest more path few.1 cover.1 fits.1,
+  )
+
+-- ---- by an accepted log
+
+pub found_by : (m : Meaning) (t : TubeValue) (rules : Rules) (log : LogValue) (boxes : ℕ) (path : List Stay) → t.before ≡ None → AllByRecursion HasFewRoot log.blocks
+    → IsAccepted m (tube_searches t log.blocks) rules log boxes → IsPath t.speed t.search t.epochs path → PathFits m rules.outliers (tube_searches t log.blocks) log.blocks path
+    → IsFoundIn (tube_searches t log.blocks) log.blocks path
+found_by m t rules log boxes path first few accepted goes fits =
+    let blocks = log.blocks in
+    let searches = tube_searches t blocks in
+    track_found t.speed t.search (visits_of searches blocks) _ path
+    (subst (λ (b : Option Before). AreRooted t.speed t.search b (visits_of searches blocks)) first (rooted t.speed t.search t.before t.epochs blocks))
+    (timed t.speed t.search t.before t.epochs blocks)
+    (have_roots m.zenith rules t.speed t.search None accepted.owns searches blocks few accepted.admissible.each accepted.admissible.admits.blocks)
+    goes
+    (are_kept m rules.outliers searches blocks path few accepted.cover fits)

@@ -1,0 +1,108 @@
+use Rattle.std.proofs.Common.{◌+◌, arith, sym, ap, subst, drop, ◌∙◌, Option, Some}
+use Rattle.std.specs.Prelude.{IsTrue, ◌↔◌}
+use Rattle.std.proofs.lemmas.Bool.{false≢true}
+use Rattle.epoch_selection.specs.Searches.{search_in}
+use Rattle.moving_tube.specs.Roots.{kept_of}
+use Rattle.paving_log.specs.Values.{block_of, log_value}
+use Rattle.paving_log_check.proofs.CheckLemmas.{block_numbered, body_passes, rules_refused, due_refused, block_refused}
+use Rattle.paving_log_check.proofs.PlaceLemmas.{block_left, blocks_ended}
+use Rattle.paving_log_check.specs.Admissible.{IsDue}
+use Rattle.grid_model.specs.Boxes.{GridBox, grid_box}
+use Rattle.sat_model.specs.Logs.{lines_in}
+use Rattle.tube_searches.specs.Tubes.{TubeValue, tube_value, with_kept, tube_searches}
+use Rattle.tube_check.proofs.FaultLemmas.{same_fault}
+use Rattle.tube_check.proofs.FoundLemmas.{few_is}
+use Rattle.tube_check.proofs.TubeLemmas.{IsOnWay, body_folds, way_first, next_search, way_more, way_ended}
+use Rattle.tube_check.proofs.check.check_tube.Goals as goal
+
+pub returns-then-not-are_same_rules-clause-no : goal.returns-then-not-are_same_rules-clause-no
+returns-then-not-are_same_rules-clause-no g c =
+    rules_refused (g.S.RowSource.meaning c.args.source.now) c.args.rules.now (tube_searches (tube_value c.args.tube.now) (log_value c.args.log.now).blocks) (log_value c.args.log.now) c.plain_fault.result
+    (λ is. false≢true (sym c.if-not-are_same_rules.true ∙ c.are_same_rules.ensures.1 is)) c.plain_fault.ensures.line c.plain_fault.ensures.number c.plain_fault.ensures.no_spans
+
+pub loop-k-init : goal.loop-k-init
+loop-k-init g c = way_first (g.S.RowSource.meaning c.args.source.now) c.args.rules.now (tube_value c.args.tube.now) (log_value c.args.log.now) c.requires.numbered c.requires.inside
+
+pub lines_of-requires : goal.lines_of-requires
+lines_of-requires g c =
+    let first = block_left c.args.log.now.epochs.items c.loop-k.k c.index-epoch.result.now (omega (arith, c.loop-k-test.true, c.len-k-end.ensures, c.args.log.now.epochs.ok)) c.index-epoch.ensures in
+    let numbered = block_numbered (g.S.RowSource.meaning c.args.source.now) (block_of c.index-epoch.result.now) (drop (c.loop-k.k + 1) (log_value c.args.log.now).blocks) c.loop-k.invariant.underway first in
+    omega (arith, numbered.1)
+
+pub overflow_add-next : goal.overflow_add-next
+overflow_add-next g c =
+    let first = block_left c.args.log.now.epochs.items c.loop-k.k c.index-epoch.result.now (omega (arith, c.loop-k-test.true, c.len-k-end.ensures, c.args.log.now.epochs.ok)) c.index-epoch.ensures in
+    let numbered = block_numbered (g.S.RowSource.meaning c.args.source.now) (block_of c.index-epoch.result.now) (drop (c.loop-k.k + 1) (log_value c.args.log.now).blocks) c.loop-k.invariant.underway first in
+    omega (arith, numbered.1, c.lines_of.ensures)
+
+pub check_epoch-requires-clause-numbered : goal.check_epoch-requires-clause-numbered
+check_epoch-requires-clause-numbered g c =
+    let first = block_left c.args.log.now.epochs.items c.loop-k.k c.index-epoch.result.now (omega (arith, c.loop-k-test.true, c.len-k-end.ensures, c.args.log.now.epochs.ok)) c.index-epoch.ensures in
+    let numbered = block_numbered (g.S.RowSource.meaning c.args.source.now) (block_of c.index-epoch.result.now) (drop (c.loop-k.k + 1) (log_value c.args.log.now).blocks) c.loop-k.invariant.underway first in
+    omega (arith, numbered.0, numbered.1)
+
+pub returns-in_default-clause-no : goal.returns-in_default-clause-no
+returns-in_default-clause-no g c =
+    let first = block_left c.args.log.now.epochs.items c.loop-k.k c.index-epoch.result.now (omega (arith, c.loop-k-test.true, c.len-k-end.ensures, c.args.log.now.epochs.ok)) c.index-epoch.ensures in
+    due_refused (g.S.RowSource.meaning c.args.source.now) c.plain_fault-in_default.result c.loop-k.invariant.underway (c.are_same_rules.ensures.0 c.if-not-are_same_rules.false)
+    (λ due. c.in_default.ensures (drop (c.loop-k.k + 1) (log_value c.args.log.now).blocks) (rw first at due))
+    c.plain_fault-in_default.ensures.line c.plain_fault-in_default.ensures.number c.plain_fault-in_default.ensures.no_spans
+
+pub returns-in-Some-2-clause-no : goal.returns-in-Some-2-clause-no
+returns-in-Some-2-clause-no g c =
+    let m = g.S.RowSource.meaning c.args.source.now in
+    let first = block_left c.args.log.now.epochs.items c.loop-k.k c.index-epoch.result.now (omega (arith, c.loop-k-test.true, c.len-k-end.ensures, c.args.log.now.epochs.ok)) c.index-epoch.ensures in
+    let block = block_of c.index-epoch.result.now in
+    let behind = drop (c.loop-k.k + 1) (log_value c.args.log.now).blocks in
+    let new = tube_value c.take_due.new.left in
+    let seen = c.in-Some.seen.now in
+    let root = grid_box c.in-Some.root in
+    let here = next_search m c.args.rules.now (tube_value c.args.tube.now) (log_value c.args.log.now) c.loop-k.invariant seen root new block behind c.in-Some.ensures.taken first in
+    let numbered = block_numbered m block behind c.loop-k.invariant.underway first in
+    let refused = rw c.in-Some-2.is at c.in_ok-fault.ensures in
+    let told = rw c.deref.ensures.value at c.is_due-due.ensures in
+    let due = subst (λ (t : TubeValue). IsTrue c.is_due-due.result ↔ IsDue c.args.rules.now (Some block.index) (tube_searches t behind) behind) c.go_on.ensures told in
+    block_refused m (search_in root seen) (tube_searches (with_kept new seen.tag (kept_of root block)) behind) block behind c.in-Some-2.fault c.first_of.result
+    c.loop-k.invariant.underway (c.are_same_rules.ensures.0 c.if-not-are_same_rules.false) here first c.in-Some.ensures.is_of refused
+    (λ own fails.
+    same_fault m.zenith c.args.rules.now (c.loop-k.next + lines_in block) own (search_in root seen) new block.few block behind c.first_of.result (few_is c.index-epoch.result.now) (omega (arith, numbered.0))
+    (rw c.lines_of.ensures at (c.first_of.ensures m.zenith c.args.rules.now own (search_in root seen) (tube_searches (with_kept new seen.tag (Some root)) behind) block behind fails due)))
+
+pub kept_in-requires : goal.kept_in-requires
+kept_in-requires g c =
+    let passes = rw c.in_default-2.is at c.in_ok-fault.ensures in
+    body_folds c.args.rules.now (grid_box c.in-Some.root) (block_of c.index-epoch.result.now) (block_of c.index-epoch.result.now).root passes.passes.body
+
+pub loop-k-preserved : goal.loop-k-preserved
+loop-k-preserved g c =
+    let m = g.S.RowSource.meaning c.args.source.now in
+    let first = block_left c.args.log.now.epochs.items c.loop-k.k c.index-epoch.result.now (omega (arith, c.loop-k-test.true, c.len-k-end.ensures, c.args.log.now.epochs.ok)) c.index-epoch.ensures in
+    let block = block_of c.index-epoch.result.now in
+    let behind = drop (c.loop-k.k + 1) (log_value c.args.log.now).blocks in
+    let new = tube_value c.take_due.new.left in
+    let seen = c.in-Some.seen.now in
+    let root = grid_box c.in-Some.root in
+    let passes = rw c.in_default-2.is at c.in_ok-fault.ensures in
+    let kept = c.go_on-in-loop-k.ensures ∙ ap (λ (k : Option GridBox). with_kept new seen.tag k) c.in_ok-kept_in.ensures in
+    subst (λ (t : TubeValue). IsOnWay m c.args.rules.now (tube_value c.args.tube.now) (log_value c.args.log.now) (Some block.index) (c.loop-k.next + c.lines_of.result) (c.loop-k.boxes + c.kept_boxes.result) t behind) (sym kept)
+    (rw c.lines_of.ensures (way_more m c.args.rules.now (tube_value c.args.tube.now) (log_value c.args.log.now) c.loop-k.invariant
+    seen root new block behind c.in-Some.ensures.taken first c.kept_boxes.result c.in-Some.ensures.is_of passes
+    (c.kept_boxes.ensures.value c.args.rules.now (body_passes c.args.rules.now root block block.root passes.passes.body))
+    c.kept_boxes.ensures.bound))
+
+pub returns-then-not-is_due-clause-no : goal.returns-then-not-is_due-clause-no
+returns-then-not-is_due-clause-no g c =
+    let ended = blocks_ended c.args.log.now.epochs.items c.loop-k.k (omega (arith, c.loop-k-test.false, c.len-k-end.ensures, c.args.log.now.epochs.ok)) in
+    let none = blocks_ended c.args.log.now.epochs.items c.len.result (omega (arith, c.len.ensures, c.args.log.now.epochs.ok)) in
+    let due = rw none at (rw c.deref-2.ensures.value at c.is_due.ensures) in
+    due_refused (g.S.RowSource.meaning c.args.source.now) c.plain_fault-then-not-is_due.result c.loop-k.invariant.underway (c.are_same_rules.ensures.0 c.if-not-are_same_rules.false)
+    (λ is. false≢true (sym c.if-not-is_due.true ∙ due.1 (rw ended at is)))
+    c.plain_fault-then-not-is_due.ensures.line c.plain_fault-then-not-is_due.ensures.number c.plain_fault-then-not-is_due.ensures.no_spans
+
+pub returns-clause-yes : goal.returns-clause-yes
+returns-clause-yes g c =
+    let ended = blocks_ended c.args.log.now.epochs.items c.loop-k.k (omega (arith, c.loop-k-test.false, c.len-k-end.ensures, c.args.log.now.epochs.ok)) in
+    let none = blocks_ended c.args.log.now.epochs.items c.len.result (omega (arith, c.len.ensures, c.args.log.now.epochs.ok)) in
+    let due = rw none at (rw c.deref-2.ensures.value at c.is_due.ensures) in
+    way_ended (g.S.RowSource.meaning c.args.source.now) c.args.rules.now (tube_value c.args.tube.now) c.args.log.now (g.met.S.RowSource.sound c.args.source.now)
+    c.loop-k.invariant (c.are_same_rules.ensures.0 c.if-not-are_same_rules.false) ended (due.0 c.if-not-is_due.false)

@@ -1,0 +1,39 @@
+-- Where a moving receiver is found by an accepted log.
+use Rattle.std.specs.Prelude.{ℕ, ℤ, Bool, true, false, List, [], ◌∷◌, map}
+use Rattle.epoch_selection.specs.Searches.{Search}
+use Rattle.moving_tube.specs.Tracks.{Stay, IsTrajectory, Visit, AreFound}
+use Rattle.rinex_obs.specs.declared.obs.ObsEpoch.{ObsEpoch}
+use Rattle.grid_model.specs.Boxes.{GridBox}
+use Rattle.sat_model.specs.Logs.{Block}
+use Rattle.grid_model.specs.declared.boxes.Pos.{Pos}
+use Rattle.sat_rows.specs.Fitting.{FitsEpoch}
+use Rattle.sat_rows.specs.Meanings.{Meaning}
+
+-- the searches with their blocks
+abbrev pub visits_of : List Search → List Block → List Visit
+visits_of [] blocks = []
+visits_of (search ∷ rest) [] = []
+visits_of (search ∷ rest) (block ∷ more) =
+    (record { tag = search.epoch.tag; root = search.root; block = block }) ∷ visits_of rest more
+
+-- One stay for each selected epoch, each in the search box and each later one within reach of the one
+-- before.
+abbrev pub IsPath : ℕ → GridBox → List ObsEpoch → List Stay → Type 0
+IsPath speed search epochs path = IsTrajectory speed search (map (λ epoch. epoch.tag) epochs) path
+
+abbrev pub StayFits : Bool → (Pos → ℤ → Type 0) → Stay → Type 0
+StayFits true FitsAt stay = Unit {0}
+StayFits false FitsAt stay = FitsAt stay.at stay.offset
+
+-- each stay fits in its epoch where the block is paved
+abbrev pub PathFits : Meaning → ℕ → List Search → List Block → List Stay → Type 0
+PathFits m q [] blocks path = Unit {0}
+PathFits m q (search ∷ rest) [] path = Unit {0}
+PathFits m q (search ∷ rest) (block ∷ more) [] = ⊥
+PathFits m q (search ∷ rest) (block ∷ more) (stay ∷ path) =
+    StayFits block.few (FitsEpoch m q search.root search.epoch) stay × PathFits m q rest more path
+
+-- each position lies in an in or edge box of its epoch whose clock span has its offset, and in a
+-- block of few satellites in the root
+abbrev pub IsFoundIn : List Search → List Block → List Stay → Type 0
+IsFoundIn searches blocks path = AreFound (visits_of searches blocks) path
