@@ -1,8 +1,8 @@
 -- The corners of the hull of two boxes.
 use Rattle.std.proofs.Common.{ℤ}
 use Rattle.std.specs.Prelude.{◌≤ℤ◌, pos, neg_ℤ}
-use Rattle.sat_model.specs.Sizes.{IsBoxSize}
-use Rattle.sat_model.proofs.IntervalLemmas.{le_z_trans}
+use Rattle.grid_model.specs.Sizes.{IsBoxSize}
+use Rattle.grid_model.proofs.IntervalLemmas.{le_z_trans}
 use Rattle.box_pool.specs.Corners.{IsLesser, IsGreater}
 
 pub lesser_sized : (one other lesser : ℤ) → IsBoxSize one → IsBoxSize other → IsLesser one other lesser → IsBoxSize lesser

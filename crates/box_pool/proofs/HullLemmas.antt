@@ -1,13 +1,13 @@
 -- The least box round items.
 use Rattle.std.proofs.Common.{◌≡◌, ◌≢◌, ℕ, zero, suc, ◌+◌, List, [], ◌∷◌, ◌++◌, take, Option, Some, None, arith, append_assoc, refl, sym, ap, subst, ◌∙◌}
-use Rattle.sat_model.specs.Boxes.{GridBox, grid_box}
-use Rattle.sat_model.specs.declared.boxes.Box3.{Box3}
+use Rattle.grid_model.specs.Boxes.{GridBox, grid_box}
+use Rattle.grid_model.specs.declared.boxes.Box3.{Box3}
 use Rattle.box_pool.specs.declared.item.Item.{Item}
 use Rattle.box_pool.specs.Lists.{list_at, AllEmpty}
 use Rattle.box_pool.specs.Hulls.{LiesIn, AllLieIn, IsHull, IsHullOf, IsHullOfAll}
 use Rattle.std.specs.Int.Signed.{≤ℤ_refl}
 use Rattle.std.specs.Prelude.{MatchOption}
-use Rattle.sat_model.proofs.IntervalLemmas.{le_z_trans}
+use Rattle.grid_model.proofs.IntervalLemmas.{le_z_trans}
 
 pub lies_trans : (a b c : GridBox) → LiesIn a b → LiesIn b c → LiesIn a c
 lies_trans a b c p q = (

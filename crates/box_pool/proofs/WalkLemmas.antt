@@ -1,6 +1,6 @@
 -- The items of a list are gone through one by one.
 use Rattle.std.proofs.Common.{◌≡◌, ℕ, ◌+◌, ◌<◌, ◌≤◌, ◌++◌, List, [], ◌∷◌, Option, Some, length, append_assoc, arith, refl, subst, sym, ap, ◌∙◌}
-use Rattle.sat_model.specs.declared.boxes.Box3.{Box3}
+use Rattle.grid_model.specs.declared.boxes.Box3.{Box3}
 use Rattle.box_pool.specs.declared.item.Item.{Item}
 use Rattle.box_pool.specs.declared.item.Node.{Node}
 use Rattle.box_pool.specs.Chains.{Link, Chain, node, node_at}

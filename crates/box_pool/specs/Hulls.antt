@@ -1,7 +1,7 @@
 -- The hull of items: the least box round the boxes of all of them.
 use Rattle.std.specs.Prelude.{◌≡◌, ◌≢◌, ℕ, ◌≤ℤ◌, List, [], ◌∷◌, Option, Some, None}
-use Rattle.sat_model.specs.Boxes.{Side, GridBox, grid_box}
-use Rattle.sat_model.specs.declared.boxes.Box3.{Box3}
+use Rattle.grid_model.specs.Boxes.{Side, GridBox, grid_box}
+use Rattle.grid_model.specs.declared.boxes.Box3.{Box3}
 use Rattle.box_pool.specs.declared.item.Item.{Item}
 use Rattle.box_pool.specs.Lists.{list_at, AllEmpty}
 

@@ -1,12 +1,12 @@
 //! The hull of boxes: the least box round them.
 
 ghost use Rattle.std.specs.Prelude.{◌≡◌, List, [], ◌∷◌, ◌++◌, Some};
-ghost use Rattle.sat_model.specs.Boxes.{GridBox, grid_box};
+ghost use Rattle.grid_model.specs.Boxes.{GridBox, grid_box};
 ghost use Rattle.box_pool.specs.Hulls.{IsHullOf, LiesIn};
 ghost use Rattle.box_pool.specs.Corners.{IsLesser, IsGreater};
 
 use crate::item::Item;
-use sat_model::{Box3, Pos};
+use grid_model::{Box3, Pos};
 
 /// The lesser one of the coordinates of two points, on each axis.
 fn lesser(one: &Pos, other: &Pos) -> Pos

@@ -1,6 +1,6 @@
 //! A box that waits, and the node that holds it.
 
-use sat_model::Box3;
+use grid_model::Box3;
 
 /// A box that was opened and not taken up yet, with its number in the log.
 #[derive(Clone, Copy, Debug, PartialEq, Eq)]

@@ -1,7 +1,7 @@
 //! The pool.
 
 ghost use Rattle.std.specs.Prelude.{◌≡◌, ◌<◌, ◌≤◌, ◌+◌, List, [], ◌++◌, IfOk, IfSome, MatchOption};
-ghost use Rattle.sat_model.specs.Boxes.{grid_box};
+ghost use Rattle.grid_model.specs.Boxes.{grid_box};
 ghost use Rattle.box_pool.specs.Lists.{list_at, AllEmpty, IsPushed, IsPopped, IsGreatest};
 ghost use Rattle.box_pool.specs.Hulls.{IsHullOf, IsHullOfAll};
 
@@ -10,7 +10,7 @@ use crate::hulls::around;
 use crate::item::{Item, Node};
 use crate::links::{fill, relink};
 use crate::mask::without;
-use sat_model::{Box3, NoMemory};
+use grid_model::{Box3, NoMemory};
 use std::alloc::Global;
 use std::marker::Model;
 use std_alloc::room::may_hold;

@@ -1,7 +1,7 @@
 //! The pool's calls in turn, and the memory that it gives back.
 
 use crate::{Item, MAX_NODES, Pool};
-use sat_model::{Box3, NoMemory, Pos};
+use grid_model::{Box3, NoMemory, Pos};
 use std::fs;
 
 /// A call of the pool, and its answer.

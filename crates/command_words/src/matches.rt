@@ -17,7 +17,7 @@ use crate::numbers::number_in;
 use crate::program::program;
 use clap::error::ErrorKind;
 use clap::{ArgMatches, Error};
-use sat_model::NoMemory;
+use grid_model::NoMemory;
 use std::alloc::Global;
 
 /// The greatest number that an epoch can have.

@@ -10,9 +10,9 @@ use Rattle.paving_log.specs.Text.{IsLogText}
 use Rattle.paving_log.specs.declared.line.Form.TheVariants as form
 use Rattle.paving_log_check.specs.Admissible.{Admits, AreOwn}
 use Rattle.paving_log_check.specs.declared.verdict.Fault.{Fault}
-use Rattle.sat_model.specs.Boxes.{GridBox}
+use Rattle.grid_model.specs.Boxes.{GridBox}
 use Rattle.sat_model.specs.Logs.{LogValue}
-use Rattle.sat_model.specs.declared.boxes.Pos.{Pos}
+use Rattle.grid_model.specs.declared.boxes.Pos.{Pos}
 use Rattle.cover_run.proofs.SameInputs.{root_there, own_there, admits_there}
 use Rattle.cover_run.specs.Checking.{Refuses}
 use Rattle.cover_run.specs.Solving.{IsSolved, epochs_of, meaning_of}

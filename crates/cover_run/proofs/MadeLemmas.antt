@@ -24,8 +24,8 @@ use Rattle.made_texts.specs.NavText.{broadcast_of}
 use Rattle.made_texts.specs.ObsText.{code_c1c, observed_from}
 use Rattle.made_texts.specs.SettingsText.{settings_of}
 use Rattle.rinex_obs.specs.Files.{IsObsFile, Observations}
-use Rattle.sat_model.specs.declared.satellites.Signal.{Signal}
-use Rattle.sat_model.specs.declared.satellites.Signal.TheVariants.{Single}
+use Rattle.gnss_model.specs.declared.satellites.Signal.{Signal}
+use Rattle.gnss_model.specs.declared.satellites.Signal.TheVariants.{Single}
 
 -- ---- a text without a fault
 

@@ -23,11 +23,12 @@ use Rattle.rinex_obs.specs.Epochs.{Observed}
 use Rattle.rinex_obs.specs.Reading.{plain_epoch, plain_epochs}
 use Rattle.rinex_obs.specs.declared.obs.ObsEpoch.{ObsEpoch}
 use Rattle.rinex_obs.specs.declared.obs.SatObs.{SatObs}
-use Rattle.sat_model.specs.Boxes.{GridBox}
+use Rattle.grid_model.specs.Boxes.{GridBox}
 use Rattle.sat_model.specs.Logs.{Block, LogValue}
 use Rattle.sat_model.specs.Relaxed.{ends}
 use Rattle.sat_model.specs.declared.rules.Rules.{Rules}
-use Rattle.sat_model.specs.declared.spans.Span.{Span}
+use Rattle.grid_model.specs.declared.spans.Span.{Span}
+use Rattle.gnss_model.specs.declared.systems.System.TheVariants.{Gps}
 use Rattle.sat_rows.specs.Chains.{IsChainAt}
 use Rattle.sat_rows.specs.Meanings.{Meaning}
 use Rattle.sat_rows.specs.OwnRows.{AreOwnLines}
@@ -171,6 +172,7 @@ module _ (root : GridBox) where
 abbrev sighting_by : List NavRecord → SettingsValue → ℤ → SatObs → Sighting
 sighting_by records v tag seen = record {
   records = records;
+  system = Gps;
   signal = v.signal;
   max_age = v.max_age;
   tag = tag;
@@ -231,7 +233,8 @@ module _ (i j : Inputs) (same : inputs_value i ≡ inputs_value j) (root : GridB
       let rules = same_rules i.settings.rules j.settings.rules
       (ap (λ (v : SettingsValue). v.outliers) settings_same)
       (ap (λ (v : SettingsValue). v.bisections) settings_same)
-      (ap (λ (v : SettingsValue). v.width) settings_same) in
+      (ap (λ (v : SettingsValue). v.width) settings_same)
+      (ap (λ (v : SettingsValue). v.pairs) settings_same) in
       subst (λ (r : Rules).
       Admits j.settings.zenith (searches_in root (epochs_of chosen j)) owns r log) rules
       (subst (λ (z : Option Span).

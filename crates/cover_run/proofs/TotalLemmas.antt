@@ -4,14 +4,13 @@ use Rattle.std.proofs.Common.{count_by, drop, Option, None, Some, refl}
 use Rattle.std.proofs.lemmas.List.Sums.{sum_by-cons, sum_by-append}
 use Rattle.epoch_report.specs.Reports.{counts_of}
 use Rattle.paving_log.proofs.OwnLemmas.{IsBlockAt}
-use Rattle.sat_model.specs.Boxes.{GridBox}
-use Rattle.sat_model.specs.Fold.{ShownStep, Stage, after, first_stage, pieces_from}
-use Rattle.sat_model.specs.Fold.{slab_of_cut, taken_by}
+use Rattle.grid_model.specs.Boxes.{GridBox}
+use Rattle.sat_model.specs.Fold.{ShownStep, Stage, after, first_stage, pieces_from, slab_of_cut, taken_by}
 use Rattle.sat_model.specs.Logs.{Block, LogValue, IsNumbered, IsNumberedFrom, lines_in, lines_with}
 use Rattle.sat_model.specs.StepKinds.{is_inside, is_edge, is_outside}
 use Rattle.sat_model.specs.Verdicts.{BlocksPass, BodyPasses, Judged, StepPasses, StepsPass}
 use Rattle.sat_model.specs.declared.rules.Rules.{Rules}
-use Rattle.sat_model.specs.declared.satellites.Row.{Row}
+use Rattle.sat_model.specs.declared.rows.Row.{Row}
 use Rattle.sat_model.specs.declared.steps.Step.{Step}
 use Rattle.sat_model.specs.declared.steps.Step.TheVariants.{Cut, Split, Outside, Inside, Edge}
 use Rattle.cover_run.specs.Making.{count_of, is_of, summed}

@@ -20,7 +20,7 @@ use Rattle.rinex_nav.specs.Files.{IsNavFile}
 use Rattle.rinex_nav.specs.Reading.{records_of}
 use Rattle.rinex_obs.specs.Files.{IsObsFile}
 use Rattle.rinex_obs.specs.Reading.{observations_of}
-use Rattle.sat_model.specs.Boxes.{GridBox}
+use Rattle.grid_model.specs.Boxes.{GridBox}
 use Rattle.sat_model.specs.Logs.{Block, LogValue}
 use Rattle.sat_model.specs.StepKinds.{is_inside, is_edge, is_outside, is_split}
 use Rattle.sat_model.specs.declared.steps.Step.{Step}

@@ -6,14 +6,14 @@ use Rattle.log_writer.specs.Sizes.{most_bytes}
 use Rattle.log_writer.specs.Texts.{IsText}
 use Rattle.log_writer.specs.Writing.{Trust}
 use Rattle.outer_io.specs.declared.slots.Slot.TheVariants as slot
-use Rattle.sat_model.specs.Logs.{LogValue}
+use Rattle.sat_model.specs.Logs.{Block, LogValue}
 use Rattle.cover_run.specs.Worlds.{World}
 use Rattle.cover_run.specs.Writing.{Answer, Writes}
 
 -- the text and report of a log that paves all rows, or first ones of it
 abbrev pub IsPaved : LogValue → ℕ → Answer → (bytes said : List ℕ) → Type 0
 IsPaved rows limit answer bytes said =
-    IsText of_rows rows.rules rows.blocks limit answer bytes said
+    (last : List Block) × IsText of_rows rows.rules rows.blocks last limit answer bytes said
 
 -- the log of the rows was written, and its report printed, or it couldn't be created
 abbrev pub Paves : ℕ → List ℕ → LogValue → World → World → Trust → Status → Type 0

@@ -18,7 +18,7 @@ use Rattle.outer_io.specs.declared.slots.Slot.{Slot}
 use Rattle.paving_log_check.specs.Admissible.{Admits, AreOwn}
 use Rattle.paving_log_check.specs.FileCover.{FileCover}
 use Rattle.rinex_obs.specs.declared.obs.ObsEpoch.{ObsEpoch}
-use Rattle.sat_model.specs.Boxes.{GridBox}
+use Rattle.grid_model.specs.Boxes.{GridBox}
 use Rattle.sat_rows.specs.Meanings.{Meaning}
 use Rattle.sat_rows.specs.Sources.{gps_meaning}
 use Rattle.sat_rows.specs.declared.lines.SatLine.{SatLine}
@@ -52,8 +52,9 @@ module _ (chosen : Selection) (i : Inputs) where
   pub record IsSolved (limit : ℕ) (bytes said : List ℕ) : Type 0 where
     pub root : GridBox
     pub is_root : IsRootOf i root
-    pub whole : IsWhole (gives_of i) i.settings.rules (left_in root (epochs_of chosen i)) limit
-        bytes said
+    pub last : EpochsLeft
+    pub whole : IsWhole (gives_of i) i.settings.rules (left_in root (epochs_of chosen i)) last
+        limit bytes said
     pub admits : (owns : List (List SatLine))
         → AreOwn (meaning_of i) (searches_in root (epochs_of chosen i)) owns
         → Admits i.settings.zenith (searches_in root (epochs_of chosen i)) owns i.settings.rules

@@ -6,8 +6,8 @@ ghost use Rattle.cover_run.specs.CheckTexts.{span_text, spans_text, fault_text};
 use crate::Fault;
 use crate::texts::name_of_test;
 use arrayvec::ArrayString;
+use grid_model::Span;
 use itoa::Buffer;
-use sat_model::Span;
 
 /// A line with its LF and two spans.
 pub type FaultLine = ArrayString<192>;

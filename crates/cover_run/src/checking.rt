@@ -15,10 +15,10 @@ use crate::telling::{say, tell};
 use crate::texts::yes_line;
 use command_words::Files;
 use epoch_selection::Selection;
+use grid_model::NoMemory;
 use input_files::{Limits, Notice, Status};
 use outer_io::{Shelf, Sink};
 use paving_log_check::check;
-use sat_model::NoMemory;
 use std::alloc::Global;
 
 /// Checks the log against these epochs of the files and prints the verdict.

@@ -11,10 +11,10 @@ ghost use Rattle.sat_model.specs.Logs.{IsNumbered};
 use crate::telling::{say, tell};
 use crate::texts::{no_line, yes_line};
 use crate::{Verdict, judge};
+use grid_model::NoMemory;
 use input_files::{Limits, LogText, Notice, Status, read_named};
 use outer_io::{Shelf, Sink};
 use paving_log::Log;
-use sat_model::NoMemory;
 use std::alloc::Global;
 
 /// Judges the log and prints the verdict.

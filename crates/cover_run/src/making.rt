@@ -20,13 +20,13 @@ use crate::telling::{say, tell};
 use crate::unseen::Unseen;
 use epoch_selection::Selection;
 use error_bounds::{Settings, SettingsError, read_settings};
+use grid_model::NoMemory;
 use input_files::{
     Grammar, Inputs, Limits, LogText, NavText, Notice, ObsText, Status, wants_position,
 };
 use made_input::make;
 use outer_io::{MemoryShelf, Shelf, Sink};
 use paving_log::Log;
-use sat_model::NoMemory;
 use std::alloc::Global;
 
 /// The name of the log in memory.

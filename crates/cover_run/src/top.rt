@@ -15,9 +15,9 @@ use crate::pave::run_pave;
 use crate::solving::run_solve;
 use crate::telling::say;
 use command_words::{Command, command_of};
+use grid_model::NoMemory;
 use input_files::{Limits, Notice, Status};
 use outer_io::{Shelf, Sink};
-use sat_model::NoMemory;
 use std::alloc::Global;
 
 /// Does what the words after the program's name ask for, which are read with `clap`. `judge LOG`

@@ -45,7 +45,7 @@ pub fn write_named<H: Shelf, O: Sink, E: Sink, B: Blocks>(
         (trust_of (H.reliable shelf.new) (O.reliable out.new)) [] limits.now.log
         (most_bytes (B.standing blocks.old).most rules.now.bisections)
         (λ answer bytes said.
-        IsText B.gives rules.now blocks.old limits.now.log answer bytes said) result }
+        IsText B.gives rules.now blocks.old blocks.new limits.now.log answer bytes said) result }
 {
     match shelf.create(name, Slot::Log) {
         Ok(()) => {}

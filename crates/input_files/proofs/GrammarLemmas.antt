@@ -11,7 +11,7 @@ use Rattle.rinex_text.specs.declared.fault.ReadError.{ReadError}
 use Rattle.rinex_text.specs.declared.fault.ReadError.TheVariants.{Refused, NoMemory}
 use Rattle.rinex_text.specs.declared.fault.Refusal.{Refusal}
 use Rattle.sat_model.specs.Logs.{LogValue}
-use Rattle.sat_model.specs.declared.satellites.Signal.{Signal}
+use Rattle.gnss_model.specs.declared.satellites.Signal.{Signal}
 use Rattle.input_files.specs.Inputs.{NamesNavFault, NamesObsFault, nav_text, obs_text}
 use Rattle.input_files.specs.Logs.{NamesFirst}
 use Rattle.input_files.specs.Reading.{Text, Gives, GivesOrEnds, Settles}

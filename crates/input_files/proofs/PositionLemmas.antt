@@ -11,15 +11,16 @@ use Rattle.exact_decimal.proofs.Units.{power_some}
 use Rattle.exact_decimal.specs.Units.{denominator, shift_of}
 use Rattle.exact_decimal.specs.declared.decimal.Decimal.{Decimal}
 use Rattle.exact_decimal.specs.declared.unit.Unit.TheVariants.{Length}
-use Rattle.rinex_obs.specs.Files.{Observations, obs_file, IsObsFile}
+use Rattle.rinex_obs.specs.Files.{Observations, alone, obs_file_of, IsObsFile}
 use Rattle.rinex_obs.specs.Header.{Coordinates, IsCoordinate, IsPosition, Header, Wanted}
 use Rattle.rinex_obs.specs.Header.{header_end, Start, header_lines}
+use Rattle.rinex_obs.specs.declared.sought.Sought.{Sought}
 use Rattle.rinex_text.proofs.OnlyLemmas.{ok_same}
 use Rattle.rinex_text.specs.Lines.{TextLine, lines_of}
-use Rattle.sat_model.proofs.ProductLemmas.{add_mul, mul_lt_back, mul_le_back}
-use Rattle.sat_model.specs.Sizes.{IsWithin}
-use Rattle.sat_model.specs.declared.boxes.Pos.{Pos}
-use Rattle.sat_model.specs.declared.satellites.Signal.{Signal}
+use Rattle.grid_model.proofs.ProductLemmas.{add_mul, mul_lt_back, mul_le_back}
+use Rattle.grid_model.specs.Sizes.{IsWithin}
+use Rattle.grid_model.specs.declared.boxes.Pos.{Pos}
+use Rattle.gnss_model.specs.declared.satellites.Signal.{Signal}
 use Rattle.input_files.specs.Inputs.{wants_position}
 
 -- a floor lies between the bounds of its number
@@ -54,46 +55,46 @@ position_known (Some coordinates) (Some point) is =
           within coordinates.2 point.z is.z;
     }
 
-end_known : (signal : Signal) (header : Header) (end : Wanted × Option Pos)
-    → header_end signal true header (Ok end) → IsKnown end.1
-end_known signal header end (inl (complete, inl (wanted, are, inl (point, is, e)))) =
+end_known : (sought : Sought) (header : Header) (end : Wanted × Option Pos)
+    → header_end sought true header (Ok end) → IsKnown end.1
+end_known sought header end (inl (complete, inl (wanted, are, inl (point, is, e)))) =
     subst IsKnown (sym (ap (λ (w : Wanted × Option Pos). w.1) (ok_same end (wanted, point) e)))
     (position_known header.position point is)
-end_known signal header end (inl (complete, inl (wanted, are, inr (none, e)))) = cc
-end_known signal header end (inl (complete, inr (none, e))) = cc
-end_known signal header end (inr (incomplete, e)) = cc
+end_known sought header end (inl (complete, inl (wanted, are, inr (none, e)))) = cc
+end_known sought header end (inl (complete, inr (none, e))) = cc
+end_known sought header end (inr (incomplete, e)) = cc
 
-lines_known : (signal : Signal) (header : Header) (number : ℕ) (lines : List TextLine)
-    (start : Start) → header_lines signal true header number lines (Ok start)
+lines_known : (sought : Sought) (header : Header) (number : ℕ) (lines : List TextLine)
+    (start : Start) → header_lines sought true header number lines (Ok start)
     → IsKnown start.position
-lines_known signal header number [] start e = cc
-lines_known signal header number (line ∷ more) start (inl (short, inl (is_end, inl (end, is, e)))) =
+lines_known sought header number [] start e = cc
+lines_known sought header number (line ∷ more) start (inl (short, inl (is_end, inl (end, is, e)))) =
     subst IsKnown (sym (ap (λ (s : Start). s.position) (ok_same start _ e)))
-    (end_known signal header end is)
-lines_known signal header number (line ∷ more) start (inl (short, inl (is_end, inr (f, is, e)))) =
+    (end_known sought header end is)
+lines_known sought header number (line ∷ more) start (inl (short, inl (is_end, inr (f, is, e)))) =
     cc
-lines_known signal header number (line ∷ more) start
+lines_known sought header number (line ∷ more) start
     (inl (short, inr (goes_on, inl (next, is, rest)))) =
-    lines_known signal next (number + 1) more start rest
-lines_known signal header number (line ∷ more) start (inl (short, inr (goes_on, inr (f, is, e)))) =
+    lines_known sought next (number + 1) more start rest
+lines_known sought header number (line ∷ more) start (inl (short, inr (goes_on, inr (f, is, e)))) =
     cc
-lines_known signal header number (line ∷ more) start (inr (long, e)) = cc
+lines_known sought header number (line ∷ more) start (inr (long, e)) = cc
 
-file_known : (signal : Signal) (lines : List TextLine) (o : Observations)
-    → obs_file signal true lines (Ok o) → IsKnown o.position
-file_known signal lines o (inl (version, is, inl (start, starts, inl (epochs, are, e)))) =
+file_known : (sought : Sought) (lines : List TextLine) (o : Observations)
+    → obs_file_of sought true lines (Ok o) → IsKnown o.position
+file_known sought lines o (inl (version, is, inl (start, starts, inl (epochs, are, e)))) =
     subst IsKnown (sym (ap (λ (p : Observations). p.position) (ok_same o _ e)))
-    (lines_known signal _ version.number version.lines start starts)
-file_known signal lines o (inl (version, is, inl (start, starts, inr (f, are, e)))) = cc
-file_known signal lines o (inl (version, is, inr (f, starts, e))) = cc
-file_known signal lines o (inr (f, is, e)) = cc
+    (lines_known sought _ version.number version.lines start starts)
+file_known sought lines o (inl (version, is, inl (start, starts, inr (f, are, e)))) = cc
+file_known sought lines o (inl (version, is, inr (f, starts, e))) = cc
+file_known sought lines o (inr (f, is, e)) = cc
 
 -- where the position is wanted, it is there
 pub known : (signal : Signal) (position : Bool) (bytes : List ℕ) (o : Observations)
     → IsObsFile signal position bytes o → position ≡ true → IsKnown o.position
 known signal position bytes o is wanted =
-    file_known signal (lines_of bytes) o
-    (subst (λ (p : Bool). obs_file signal p (lines_of bytes) (Ok o)) wanted is)
+    file_known (alone signal) (lines_of bytes) o
+    (subst (λ (p : Bool). obs_file_of (alone signal) p (lines_of bytes) (Ok o)) wanted is)
 
 pub enough : (centre : Centre) (point : Option Pos) → (wants_position centre ≡ true → IsKnown point)
     → IsEnough centre point

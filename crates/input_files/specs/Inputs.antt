@@ -18,7 +18,7 @@ use Rattle.rinex_obs.specs.Facts.{AreNumbered, AreDistinct, AreGpsSats, InEach}
 use Rattle.rinex_obs.specs.Files as obs
 use Rattle.rinex_obs.specs.Reading.{observations_of}
 use Rattle.rinex_obs.specs.declared.obs.Obs.{Obs}
-use Rattle.sat_model.specs.declared.satellites.Signal.{Signal}
+use Rattle.gnss_model.specs.declared.satellites.Signal.{Signal}
 use Rattle.input_files.specs.Reading.{Text, Reading, Named, Then, Returns}
 use Rattle.input_files.specs.declared.input_fault.InputFault.TheVariants as fault
 use Rattle.input_files.specs.declared.inputs.Inputs.{Inputs}

@@ -3,10 +3,10 @@
 use crate::grammar::Grammar;
 use crate::notice::Notice;
 use error_bounds::{Settings, read_settings};
+use gnss_model::Signal;
 use outer_io::Slot;
 use rinex_nav::{Nav, read_nav};
 use rinex_obs::{Obs, read_obs};
-use sat_model::Signal;
 use std::alloc::Global;
 
 /// The texts of settings.

@@ -14,7 +14,7 @@ use crate::marks::Mark;
 use crate::memory_files::{FileId, MemoryFiles};
 use crate::pieces::{copy, part};
 use crate::{Failed, Phase, Shelf, Slot, Slots};
-use sat_model::NoMemory;
+use grid_model::NoMemory;
 use std::alloc::Global;
 
 /// A shelf in memory, which tells everything. It takes no memory after `make`. It fails only

@@ -6,7 +6,7 @@ ghost use Rattle.outer_io.specs.Taken.{SinkTold, taken_of};
 use crate::failing_calls::FailingCalls;
 use crate::pieces::part;
 use crate::{Failed, Sink};
-use sat_model::NoMemory;
+use grid_model::NoMemory;
 use std::alloc::Global;
 
 /// A sink in memory, which tells what it has taken. It takes no memory after `make`, and fails

@@ -97,9 +97,9 @@ broke_fits limit pieces why.Out log report b = omega (arith, b.fits, ap length b
 broke_fits limit pieces why.Full log report b = omega (arith, b.fits, ap length b.leaves.0)
 broke_fits limit pieces why.NoMemory log report b = omega (arith, b.fits, ap length b.leaves.0)
 
-text_fits : {B : Type 0} (gives : Gives B) (rules : Rules) (first : B) (limit : ℕ) (answer : Answer) (bytes said : List ℕ) → IsText gives rules first limit answer bytes said → length bytes ≤ limit
-text_fits gives rules first limit (Ok done) bytes said whole = whole.fits
-text_fits gives rules first limit (Err fault) bytes said begun = broke_fits limit _ fault bytes said begun.broke
+text_fits : {B : Type 0} (gives : Gives B) (rules : Rules) (first last : B) (limit : ℕ) (answer : Answer) (bytes said : List ℕ) → IsText gives rules first last limit answer bytes said → length bytes ≤ limit
+text_fits gives rules first last limit (Ok done) bytes said whole = whole.fits
+text_fits gives rules first last limit (Err fault) bytes said begun = broke_fits limit _ fault bytes said begun.broke
 
 solution_fits : (chosen : Selection) (i : Inputs) (limit : ℕ) (answer : Answer) (bytes said : List ℕ) → IsSolution chosen i limit answer bytes said → length bytes ≤ limit
 solution_fits chosen i limit (Ok done) bytes said solved = solved.whole.fits
@@ -327,7 +327,7 @@ module _ (limits : Limits) (told : Told) (before after : World) (trust : Trust) 
   obeys_safe (Pave rows log) s tells there r =
       task_safe (paving limits rows log) limits.log (Some log) told before after trust s tells
       (λ sure. named_sound before.shelf after.shelf trust.log sure limits told.files rows_text rows there)
-      (λ v does. write_safe log _ limits.log _ (IsPaved (log_value v) limits.log) told before after trust s tells (text_fits of_rows v.rules (log_value v).blocks limits.log) does) r
+      (λ v does. write_safe log _ limits.log _ (IsPaved (log_value v) limits.log) told before after trust s tells (λ answer bytes said t. text_fits of_rows v.rules (log_value v).blocks t.0 limits.log answer bytes said t.1) does) r
   obeys_safe (Solve names) s tells there r =
       task_safe (solving limits names) limits.log (Some names.log) told before after trust s tells (inputs_sound names there)
       (λ v does. write_safe names.log _ limits.log _ (IsSolution (chosen_in names) v limits.log) told before after trust s tells (solution_fits (chosen_in names) v limits.log) does) r

@@ -6,12 +6,14 @@ ghost use Rattle.paving_log.specs.Values.{block_of};
 
 use crate::files::{NAV, OBS, SETTINGS};
 use error_bounds::{Settings, read_settings};
+use gnss_model::{Sat, Skip};
+use grid_model::{Pos, Span};
 use logged_steps::LoggedSteps;
 use paving_log::LogEpoch;
 use paving_log_check::{Fault, check_epoch};
 use rinex_nav::{Nav, read_nav};
 use rinex_obs::{Obs, read_obs};
-use sat_model::{Pos, Rules, Sat, SatEntry, Skip, Span};
+use sat_model::{Rules, SatEntry};
 use sat_rows::GpsRows;
 use std::alloc::{AllocError, Global};
 use std::test::Fail;
@@ -88,6 +90,7 @@ fn a_block_of_few_is_checked_against_its_epoch(rt: HostRuntime) -> Result<(), Fa
         outliers: 1,
         bisections: 4_096,
         width: 1_000_000,
+        pairs: false,
     };
     for (n, skips, at) in [
         (1, &[skip(2, 1)][..], None),

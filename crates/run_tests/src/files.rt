@@ -92,6 +92,29 @@ ionosphere = [0, 20000]
 troposphere = [2000, 25000]
 ";
 
+// The same where pairs of rows show boxes empty too.
+const PAIRS_SETTINGS: &str = "\
+[search]
+centre = [6378137000, 0, 0]
+half = 200000
+outliers = 1
+bisections = 4096
+width = 1000
+max_age = 7200
+pairs = true
+[signal]
+mode = \"single\"
+codes = [\"C1C\"]
+[bounds]
+receiver = [-3000, 3000]
+orbit_clock = [-3000, 3000]
+ionosphere = [0, 20000]
+troposphere = [2000, 25000]
+";
+
+const PAIRS_LOG: &str =
+    "gpscover 3\nrules 1 4096 1000000\nfew 1 1388620800070000000000 1\nskip G02 1\n";
+
 pub const LOG: &str =
     "gpscover 1\nrules 1 4096 1000000\nfew 1 1388620800070000000000 1\nskip G02 1\n";
 
@@ -176,6 +199,25 @@ fn a_log_is_checked_against_files(rt: HostRuntime) -> Result<(), Fail> {
     ];
     for (log, text) in table {
         expect(&rt, &Case { log, ..CHECK }, Status::No, text, "")?;
+    }
+    Ok(())
+}
+
+// The first line of a log is that of the settings.
+#[test]
+fn the_version_is_checked_against_settings(rt: HostRuntime) -> Result<(), Fail> {
+    let differ = "no 50 RulesDiffer line 2\n";
+    for (settings, log, status, text) in [
+        (SETTINGS, PAIRS_LOG, Status::No, differ),
+        (PAIRS_SETTINGS, LOG, Status::No, differ),
+        (PAIRS_SETTINGS, PAIRS_LOG, Status::Done, "yes 0\n"),
+    ] {
+        let case = Case {
+            settings,
+            log,
+            ..CHECK
+        };
+        expect(&rt, &case, status, text, "")?;
     }
     Ok(())
 }

@@ -1,7 +1,7 @@
 use Rattle.std.proofs.Common.{Option, subst}
-use Rattle.sat_model.specs.declared.boxes.Box3.{Box3}
+use Rattle.grid_model.specs.declared.boxes.Box3.{Box3}
 use Rattle.box_pool.specs.Hulls.{IsHullOf}
-use Rattle.sat_model.specs.Boxes.{grid_box}
+use Rattle.grid_model.specs.Boxes.{grid_box}
 use Rattle.box_pool.proofs.HullLemmas.{hull_one, hull_more}
 use Rattle.box_pool.proofs.hulls.around.Goals as goal
 

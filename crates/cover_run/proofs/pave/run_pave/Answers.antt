@@ -24,13 +24,17 @@ returns g c =
     let blocks_of = λ (blocks : LogBlocks). map block_of (into_iter_items blocks.rest) in
     let s = c.write_named.result in
     let fair = named_fair limits rows_text c.args.rows.now in
+    let last = c.write_named.new.blocks in
     let text_of = λ (answer : Answer) (bytes said : List ℕ). subst
-    (λ (blocks : List Block). IsText of_rows rows.rules blocks limits.log answer bytes said)
-    made.rest in
+    (λ (blocks : List Block). IsText of_rows rows.rules blocks (blocks_of last) limits.log answer
+    bytes said) made.rest in
     let wrote = writes_as [] _ _ _ _ limits.log _ _ _ (IsPaved (log_value rows) limits.log)
-    (λ answer bytes said text. text_of answer bytes said (text_map _ of_rows blocks_of
-    (λ old hull next new gave. gave) rows.rules c.of_log-blocks.result limits.log answer bytes
-    said text))
+    (λ answer bytes said text. (
+      blocks_of last,
+      text_of answer bytes said (text_map _ of_rows
+          blocks_of (λ old hull next new gave. gave) rows.rules c.of_log-blocks.result last limits.log
+          answer bytes said text),
+    ))
     (ap (λ (blocks : List Block). most_bytes (length blocks) rows.rules.bisections) made.rest)
     s c.write_named.ensures in
     let does = writes_behind (slot.Rows ∷ []) _ _ _ _ _ rows c.in-Ok.ensures.only refl refl

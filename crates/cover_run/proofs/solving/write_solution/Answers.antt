@@ -20,22 +20,24 @@ returns g c =
     let made = c.of_file-blocks.ensures in
     let b = c.of_file-blocks.result in
     let chosen = c.args.chosen in
+    let last = c.write_named.new.blocks in
     let left_is = made.left in
     let by_source = λ (answer : Answer) (bytes said : List ℕ). subst
     (λ (s : GpsRows). IsText (of_epochs (gps_meaning s.nav.now s.settings.now) b.rules.outliers)
-    rules (left_of b.searches) limit answer bytes said) made.source in
+    rules (left_of b.searches) (left_of last.searches) limit answer bytes said) made.source in
     let by_rules = λ (answer : Answer) (bytes said : List ℕ). subst
     (λ (r : Rules). IsText (of_epochs (meaning_of i) r.outliers) rules (left_of b.searches)
-    limit answer bytes said) made.rules in
+    (left_of last.searches) limit answer bytes said) made.rules in
     let by_left = λ (answer : Answer) (bytes said : List ℕ). subst
-    (λ (left : EpochsLeft). IsText (gives_of i) rules left limit answer bytes said) left_is in
+    (λ (left : EpochsLeft). IsText (gives_of i) rules left (left_of last.searches) limit answer bytes said)
+    left_is in
     writes_as [] _ _ _ _ limit _ _ _ (IsSolution chosen i limit)
-    (λ answer bytes said text. solution_of chosen i c.root-root.result limit answer bytes said
+    (λ answer bytes said text. solution_of chosen i c.root-root.result (left_of last.searches) limit answer bytes said
     c.root-root.ensures.value c.root-root.ensures.search_box
     (by_left answer bytes said
     (by_rules answer bytes said (by_source answer bytes said (text_of_epochs
     (λ x. x.source.now) (λ x. x.rules) (λ x. x.searches)
-    (λ (s : GpsRows). gps_meaning s.nav.now s.settings.now) b rules limit answer bytes said
+    (λ (s : GpsRows). gps_meaning s.nav.now s.settings.now) b last rules limit answer bytes said
     text)))))
     (ap (λ (left : EpochsLeft). most_bytes (length left.epochs) rules.bisections) left_is)
     c.write_named.result c.write_named.ensures

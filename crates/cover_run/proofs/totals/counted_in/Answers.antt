@@ -1,6 +1,6 @@
 use Rattle.std.proofs.Common.{arith}
 use Rattle.std.proofs.lemmas.List.Sums.{count_by-le-length}
-use Rattle.sat_model.specs.Boxes.{grid_box}
+use Rattle.grid_model.specs.Boxes.{grid_box}
 use Rattle.sat_model.specs.Logs.{rows_of}
 use Rattle.logged_steps.specs.Steps.{steps_of}
 use Rattle.cover_run.proofs.TotalLemmas.{count_is}
