@@ -424,6 +424,8 @@ def settings_cases(settings):
             new = plain.replace(key + b" = " + value, key + b" = " + kind)
             if new != plain:
                 yield f"{key} = {kind}", new
+    for kind in (*kinds, b"false", b"True", b"[true]"):
+        yield f"pairs = {kind}", plain.replace(b"[search]", b"[search]\npairs = " + kind)
     yield from zenith_settings(plain, kinds)
     for key, texts in ((b"half", (b"100000000", b"100000001", b"[1, 1, 100000000]", b"[1, 0, 1]", b"[2, 30000, 4]")),
             (b"outliers", (b"8", b"9")),

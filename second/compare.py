@@ -354,7 +354,8 @@ def shortened(log, epochs, splits):
     """The first epochs of a log, with at most so many splits in its rules; their steps no longer fit."""
     head, *blocks = re.split(rb"(?m)^(?=epoch|few)", log)
     most = min(splits, int(head.split()[4]))
-    return b"gpscover 1\nrules %s %d %s\n" % (head.split()[3], most, head.split()[5]) + b"".join(blocks[:epochs])
+    first, outliers, width = head.splitlines()[0], head.split()[3], head.split()[5]
+    return b"%s\nrules %s %d %s\n" % (first, outliers, most, width) + b"".join(blocks[:epochs])
 
 
 def selections(arguments, directory):

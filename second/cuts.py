@@ -31,7 +31,7 @@ def widest_cut(rows, box, needed, face, tries=46):
 
 def cut_paving(chance, rows, root, rules):
     """The steps of a paving of a root that cuts each box at drawn faces before it closes or splits it."""
-    outliers, budget, width = rules
+    outliers, budget, width, _ = rules
     needed = len(rows) - outliers
     steps, boxes, next_id, splits = [], deque([(0, root)]), 1, 0
     while boxes:

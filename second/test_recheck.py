@@ -356,9 +356,96 @@ def value_cases(folder):
     yield "G of a wide box", recheck.Files(*zenith_paths(folder, wide, "wide")).bound_room, 666_668_666
 
 
+# Places 20,000 km off on the axes and in a plane of two of them; rows in order of their places and ranges, with errors
+# of 0.1 m. Along x the box reaches a metre to both sides.
+AXES = {"x": "20000000000000 20000000000000 0 0 0 0", "y": "0 0 20000000000000 20000000000000 0 0",
+        "z": "0 0 0 0 20000000000000 20000000000000", "-y": "0 0 -20000000000000 -20000000000000 0 0",
+        "xy": "12000000000000 12000000000000 16000000000000 16000000000000 0 0"}
+
+
+def pair_log(outliers, rows, steps, version=3):
+    """A log of one epoch whose rows are (place, what the range is more than 20,000 km)."""
+    lines = [f"gpscover {version}", f"rules {outliers} 0 1000000", f"epoch 1 0 {len(rows)}"]
+    for number, (place, more) in enumerate(rows, 1):
+        length = 20000000000000 + more
+        lines.append(f"sat G{number:02d} {AXES[place]} {length} {length} -100000 100000")
+    return "\n".join([*lines, "root -1000000 -900000 -900000 1000000 900000 900000", *steps, "done 0", ""])
+
+
+def pair_cases(folder):
+    """(words, status and line) of boxes that pairs of rows show empty.
+
+    At each point the offsets of two rows of one place are as far apart as their ranges, give or take 0.2 m. Over the
+    box each clock span is 1.1 m from its middle to both sides, or 1 m on y and z, so spans half a metre apart meet.
+    """
+    out, cut = ["out 0"], ["cut 0 1 0", "out 0"]
+    apart = [("x", 0), ("x", 500_000)]
+    also = [("y", 0), ("y", 500_000)]
+    three = [*apart, ("x", -500_000)]
+    rest = [("z", 0), ("-y", 0), ("xy", 0)]
+    yes = 0, "yes 0\n"
+    for number, (outliers, rows, steps, wanted, plain) in enumerate((
+            (0, apart + rest, out, yes, "no 58 OutNotShown line 10"),
+            (0, apart + rest, cut, yes, "no 57 CutNotShown line 10"),
+            (0, apart + rest, ["edge 0 -200000000000000 200000000000000"], (0, "yes 1\n"), "yes 1"),
+            # U is at 100002.67 um: A is a um more than the length of v, and 1 um stands beside the range. L of the other
+            # is 0.73 um less than its range less the error: 0.07 for the spread, 0.67 for the sum of h, as in U.
+            (0, [("x", 0), ("x", 200_003)] + rest, out, "no 58 OutNotShown line 10", None),
+            (0, [("x", 0), ("x", 200_004)] + rest, out, yes, None),
+            # One row of one pair may be left out, and not one of each of two pairs.
+            (1, apart + rest, out, "no 58 OutNotShown line 10", None),
+            (1, apart + rest, cut, "no 57 CutNotShown line 10", None),
+            (1, apart + also + rest, out, yes, "no 58 OutNotShown line 12"),
+            (2, apart + also + rest, out, "no 58 OutNotShown line 12", None),
+            # Of three rows each two of which are in conflict two have to be left out.
+            (1, three + rest, out, yes, "no 58 OutNotShown line 11"),
+            (2, three + rest, out, "no 58 OutNotShown line 11", None))):
+        for version, told in ((3, wanted), (1, plain)):
+            if told:
+                log = written(folder, f"pairs{number}.{version}.log", pair_log(outliers, rows, steps, version))
+                yield (log,), told if isinstance(told, tuple) else (int(told[:2] == "no"), told)
+    few = "gpscover 3\nrules 1 0 1000000\nfew 1 0 0\n"
+    for number, head in enumerate(("gpscover 2", "gpscover 03", "gpscover 3 ", "gpscover 13", "gpscover")):
+        refused = 3, "log 40 BadLog line 1 kind 1\n"
+        yield (written(folder, f"head{number}.log", few.replace("gpscover 3", head)),), refused
+    yield (written(folder, "head.log", few),), yes
+
+
+def pair_settings_cases(folder):
+    """(words, status and line) of the key `search.pairs`, against the first line of a log."""
+    plain = "gpscover 1\nrules 1 4096 1000000\nfew 1 1388620800070000000000 1\nskip G02 1\n"
+    logs = {version: written(folder, f"first{version}.log", plain.replace("gpscover 1", f"gpscover {version}"))
+            for version in (1, 3)}
+    differs, yes = (1, "no 50 RulesDiffer line 2\n"), YES_0
+    for number, (line, version, wanted) in enumerate((
+            ("", 1, yes), ("", 3, differs), ("pairs = false", 1, yes), ("pairs = false", 3, differs),
+            ("pairs = true", 1, differs), ("pairs = true", 3, yes),
+            ("pairs = 1", 1, "32 WrongKind search.pairs"), ('pairs = "true"', 1, "32 WrongKind search.pairs"),
+            ("pairs = [true]", 1, "32 WrongKind search.pairs"), ("pair = true", 1, "34 Unknown search.pair"))):
+        settings = SETTINGS.replace("max_age = 7200\n", f"max_age = 7200\n{line}\n")
+        if isinstance(wanted, str):
+            wanted = 3, f"settings {wanted}\n"
+        yield (*zenith_paths(folder, settings, f"pairs{number}"), logs[version]), wanted
+    # A key is tested behind `max_age` and before the signal.
+    for number, (old, new, wanted) in enumerate((
+            ("max_age = 7200\n", "pairs = 1\n", "31 Missing search.max_age"),
+            ('mode = "single"\n', "", "32 WrongKind search.pairs"))):
+        settings = SETTINGS.replace("max_age = 7200\n", "max_age = 7200\npairs = 1\n" if number else "max_age = 7200\n")
+        settings = settings.replace(old, new)
+        yield (*zenith_paths(folder, settings, f"order{number}"), logs[1]), (3, f"settings {wanted}\n")
+    # What clock spans show is shown in a log of the other version too.
+    settings = re.sub(r"(?m)^(max_age = .*)$", r"\1\npairs = true", FILES[2].read_text())
+    paths = [*FILES[:2], written(folder, "receiver.toml", settings)]
+    other = written(folder, "receiver.log", LOG.read_text().replace("gpscover 1", "gpscover 3", 1))
+    yield (*paths, other), (0, "yes 48\n")
+    yield (*paths, LOG), differs
+    yield (*FILES, other), differs
+
+
 def main():
     with tempfile.TemporaryDirectory() as folder:
         cases = [*verdict_cases(folder), *sure_cases(folder), *zenith_cases(folder), *mapped_cases(folder),
+                 *pair_cases(folder), *pair_settings_cases(folder),
                  *selection_cases(folder), *wrong_word_cases()]
         values = [*value_cases(folder), *drawn_cases(folder)]
         failed = 0
