@@ -1,0 +1,195 @@
+"""The table of stations: which files each day has, how a day is cut into parts, and what stands where.
+
+A configuration (config.yaml says what each key means) is read once and refused with a line that names the key.
+Names of files in it are patterns, which Python's `str.format` fills: `{station}`, and the dates `{day}`,
+`{before}` and `{after}` in any form of `strftime`, as `{day:%Y%j}`.
+"""
+import datetime
+import os
+import re
+from dataclasses import dataclass
+
+STATION = "[A-Za-z0-9_]+"
+DAY = r"\d{4}-\d{2}-\d{2}"
+PART = r"\d+"
+MOST_EPOCHS = 200_000  # of a file
+# How many minutes and MB a job of each step may take, where the configuration's `costs` says nothing else. By
+# docs/MEASURED.md a run on an observation file of 60 MB takes 135 MB, and `check` of a log of 251 MB 498 MB.
+COSTS = {
+    "settings": (10, 500),
+    "unpack": (5, 200),
+    "solve": (30, 500),
+    "check": (20, 1500),
+    "compress": (5, 200),
+    "rows": (20, 300),
+    "day": (5, 200),
+    "database": (60, 500),
+    "page": (60, 1000),
+}
+
+
+class ConfigError(Exception):
+    """A configuration that can't be used; its text is one line for the user."""
+
+
+@dataclass(frozen=True)
+class Station:
+    """A receiver: its name, what its files are called, where it is in mm, and the words for its bounds."""
+
+    name: str
+    days: tuple
+    observations: str
+    navigation: tuple
+    settings: str
+    place: tuple  # x, y, z in mm, or None
+    bounds: str  # words of scripts/bounds.py behind the place, or an empty text
+
+
+def date_of(value, key):
+    """A date of the configuration."""
+    try:
+        return value if isinstance(value, datetime.date) else datetime.date.fromisoformat(str(value))
+    except ValueError:
+        raise ConfigError(f"{key}: {value!r} is no date, as 2024-01-31") from None
+
+
+def days_of(value, key):
+    """The days of a list of dates, or of a range `from` .. `to`, both counted."""
+    if isinstance(value, dict):
+        if set(value) != {"from", "to"}:
+            raise ConfigError(f"{key}: a list of dates, or from: and to:")
+        first, last = date_of(value["from"], key), date_of(value["to"], key)
+        return tuple(first + datetime.timedelta(days=k) for k in range((last - first).days + 1))
+    if not isinstance(value, list) or not value:
+        raise ConfigError(f"{key}: a list of dates, or from: and to:")
+    return tuple(sorted({date_of(day, key) for day in value}))
+
+
+def count_of(config, key, most):
+    """A whole number from 1 to `most`."""
+    value = config.get(key)
+    if not isinstance(value, int) or isinstance(value, bool) or not 1 <= value <= most:
+        raise ConfigError(f"{key}: a whole number from 1 to {most} is needed, not {value!r}")
+    return value
+
+
+def one_of(config, key, choices):
+    """One of some words; the first where the key isn't there."""
+    value = config.get(key, choices[0])
+    if value not in choices:
+        raise ConfigError(f"{key}: {' or '.join(choices)} is needed, not {value!r}")
+    return value
+
+
+def place_of(value, key):
+    """A place in metres as whole mm, or None where there is none."""
+    if value is None:
+        return None
+    if not isinstance(value, list) or len(value) != 3 or not all(isinstance(at, (int, float)) for at in value):
+        raise ConfigError(f"{key}: [x, y, z] in metres is needed, not {value!r}")
+    return tuple(round(at * 1000) for at in value)
+
+
+def station_of(name, own, common):
+    """A station: what it has of its own comes before what all have."""
+    if not re.fullmatch(STATION, name):
+        raise ConfigError(f"stations: {name!r}: a name has letters, digits and _ alone")
+    value = {**common, **(own or {})}
+    for key in ("days", "observations", "navigation", "settings"):
+        if key not in value:
+            raise ConfigError(f"stations: {name} has no {key}")
+    navigation = value["navigation"]
+    return Station(
+        name,
+        days_of(value["days"], f"{name}: days"),
+        value["observations"],
+        (navigation,) if isinstance(navigation, str) else tuple(navigation),
+        value["settings"],
+        place_of(value.get("place"), f"{name}: place"),
+        value.get("bounds", ""),
+    )
+
+
+class Network:
+    """A configuration: its stations, days, parts and names."""
+
+    def __init__(self, config):
+        if not isinstance(config.get("stations"), dict) or not config["stations"]:
+            raise ConfigError("stations: a table of them is needed")
+        common = {key: value for key, value in config.items() if key in Station.__dataclass_fields__}
+        names = sorted(config["stations"])
+        self.stations = {name: station_of(name, config["stations"][name], common) for name in names}
+        self.out = str(config.get("out", "network"))
+        self.epochs = count_of(config, "epochs", MOST_EPOCHS)
+        self.part = min(count_of(config, "part", MOST_EPOCHS), self.epochs)
+        self.keeps_log = one_of(config, "keep", ("log", "checksum")) == "log"
+        self.leaves_absent = one_of(config, "absent", ("fail", "leave")) == "leave"
+        self.costs = {**COSTS, **(config.get("costs") or {})}
+        self.parts = range(1, -(-self.epochs // self.part) + 1)
+        for name, station in self.stations.items():
+            for pattern in (station.observations, *station.navigation, station.settings):
+                self.named(pattern, name, f"{station.days[0]}")
+
+    def named(self, pattern, station, day):
+        """A file's name for a day (an ISO date)."""
+        date, step = datetime.date.fromisoformat(day), datetime.timedelta(days=1)
+        try:
+            return pattern.format(station=station, day=date, before=date - step, after=date + step)
+        except (KeyError, IndexError, ValueError) as error:
+            raise ConfigError(f"{station}: the pattern {pattern!r} can't be filled: {error}") from None
+
+    def observations(self, station, day):
+        """The name of the day's observation file."""
+        return self.named(self.stations[station].observations, station, day)
+
+    def navigation(self, station, day):
+        """The names of the day's navigation files; the header of the first is taken."""
+        return [self.named(pattern, station, day) for pattern in self.stations[station].navigation]
+
+    def settings(self, station, day):
+        """The name of the day's settings, or of their template."""
+        return self.named(self.stations[station].settings, station, day)
+
+    def there(self, station, day):
+        """Which of the day's files are there: a change of one is seen, a missing one fails its jobs alone."""
+        names = [self.observations(station, day), *self.navigation(station, day)]
+        return [name for name in names if os.path.exists(name)]
+
+    def station_days(self):
+        """The pairs of station and day that are worked on."""
+        for station in self.stations.values():
+            for day in station.days:
+                if not self.leaves_absent or os.path.exists(self.observations(station.name, f"{day}")):
+                    yield station.name, f"{day}"
+
+    def absent(self):
+        """The pairs that are left out, since they have no observation file."""
+        wanted = [(station.name, f"{day}") for station in self.stations.values() for day in station.days]
+        return [pair for pair in wanted if pair not in set(self.station_days())] if self.leaves_absent else []
+
+    def options(self, part):
+        """The options of `solve` and `check` for a part. The last part has no end, so that no epoch is left out."""
+        first = (part - 1) * self.part + 1
+        last = "" if part == self.parts[-1] else f" --to {part * self.part}"
+        return f"--from {first}{last}"
+
+
+def told(station, day, part=None):
+    """How a line for the user names a part, a day, or the whole run."""
+    return " ".join(filter(None, [station or "run", day, part and f"part {part}"]))
+
+
+def open_notes(out):
+    """A line for each job that didn't end well, by the notes that they left."""
+    for folder, _, names in sorted(os.walk(os.path.join(out, "notes"))):
+        for name in sorted(names):
+            with open(os.path.join(folder, name), encoding="utf-8", errors="replace") as file:
+                said = file.read().strip()
+            yield said or f"{noted(os.path.relpath(folder, out), name)}: it didn't end: killed, or no room for a note?"
+
+
+def noted(folder, name):
+    """Of what a note speaks, by where it stands: STATION/DAY/PART.STEP, or `run` and `day` in their place."""
+    part, step = name.split(".")
+    station, day = (*folder.split(os.sep)[1:], "")[:2]
+    return f"{told(station, day, '' if part == 'day' else part)}: {step}"

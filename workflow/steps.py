@@ -1,0 +1,414 @@
+#!/usr/bin/env python3
+"""One step of the work on a part, on a day or on the whole run, as the rules of the Snakefile call it.
+
+usage: steps.py STEP --out OUT [--station S --day D [--part N]] [--program P] [--name KEY=FILE ..] [WORD ..]
+
+A step writes to a name in OUT/tmp of its own, and renames what it wrote when it is whole and on the disk. So a
+file that is there under its own name is whole, whatever ended the step. While a step runs, a note of it stands
+in OUT/notes; it goes with a good end, and holds the line for the user after a bad one.
+
+Exit status: 0; 1 with one line, which names station, day and part, on standard error.
+"""
+import argparse
+import contextlib
+import csv
+import hashlib
+import json
+import os
+import resource
+import shutil
+import socket
+import subprocess
+import sys
+import time
+from pathlib import Path
+from string import Template
+
+HERE = Path(__file__).resolve().parent
+ROOT = HERE.parent
+sys.path.insert(0, str(ROOT / "scripts"))
+
+import summary  # noqa: E402 - of scripts/
+from coverlog import LogError  # noqa: E402
+from network import COSTS, told  # noqa: E402
+
+PIECE = 1 << 20
+GZIP, COMPRESS = b"\x1f\x8b", b"\x1f\x9d"  # what .gz and .Z begin with
+HATANAKA = b"CRINEX VERS   / TYPE"  # columns 61 to 80 of the first line
+BOUNDS_HEAD = "[bounds]"
+ROW_HEAD = ["station", "day", "part", *summary.COLUMNS]
+
+
+class StepError(Exception):
+    """What ended a step; its text is the end of one line for the user."""
+
+
+# ---- files
+
+def digest(path):
+    """Size and checksum of a file."""
+    sums, size = hashlib.sha256(), 0
+    with open(path, "rb") as file:
+        while piece := file.read(PIECE):
+            sums.update(piece)
+            size += len(piece)
+    return {"bytes": size, "sha256": sums.hexdigest()}
+
+
+def settle(path, target):
+    """Gives a whole file its own name, once it is on the disk."""
+    with open(path, "rb+") as file:
+        os.fsync(file.fileno())
+    os.makedirs(os.path.dirname(target) or ".", exist_ok=True)
+    os.replace(path, target)
+
+
+def write_json(path, value):
+    """Writes a value with sorted keys, so that equal values are equal bytes."""
+    Path(path).write_text(json.dumps(value, indent=1, sort_keys=True) + "\n", encoding="utf-8")
+
+
+def read_json(path):
+    """A value from a file."""
+    return json.loads(Path(path).read_text(encoding="utf-8"))
+
+
+def last_line(text):
+    """The last line of what a program said, or what to say where it said nothing."""
+    lines = [line.strip() for line in text.splitlines() if line.strip()]
+    return lines[-1] if lines else "without a word"
+
+
+def run(words, what, **streams):
+    """Runs a program to its end. StepError with its own last word where the status isn't 0."""
+    try:
+        ended = subprocess.run(words, stderr=subprocess.PIPE, **streams)
+    except FileNotFoundError:
+        raise StepError(f"{what}: there is no {words[0]}") from None
+    if ended.returncode != 0:
+        status = ended.returncode
+        how = f"status {status}" if status > 0 else f"killed by signal {-status}"
+        raise StepError(f"{what}: {how}, {last_line(ended.stderr.decode(errors='replace'))}")
+    return ended
+
+
+# ---- unpack
+
+def unpack_one(source, target):
+    """Writes a file to `target` as it was before gzip (or compress) and Hatanaka's compression."""
+    if not os.path.exists(source):
+        raise StepError(f"{source} isn't there")
+    with open(source, "rb") as file:
+        packed = file.read(2) in (GZIP, COMPRESS)
+    if packed:
+        with open(target, "wb") as file:
+            run(["gzip", "-dc", source], source, stdout=file)
+    else:
+        shutil.copyfile(source, target)
+    with open(target, "rb") as file:
+        is_hatanaka = file.readline(PIECE)[60:80] == HATANAKA
+    if is_hatanaka:
+        undo_hatanaka(source, target)
+
+
+def undo_hatanaka(source, target):
+    """Undoes Hatanaka's compression by the program that its authors give away."""
+    program = shutil.which("crx2rnx") or shutil.which("CRX2RNX")
+    if program is None:
+        raise StepError(
+            f"{source} has Hatanaka's compression, and crx2rnx isn't on the path:"
+            " it is in RNXCMP of the Geospatial Information Authority of Japan"
+        )
+    packed = f"{target}.crx"
+    os.replace(target, packed)
+    with open(packed, "rb") as given, open(target, "wb") as file:
+        run([program], source, stdin=given, stdout=file)
+    os.remove(packed)
+
+
+def join_navigation(paths, target):
+    """Writes the first file, and behind it the records of the others."""
+    with open(target, "wb") as whole:
+        for number, path in enumerate(paths):
+            is_record = number == 0
+            with open(path, "rb") as file:
+                for line in file:
+                    if is_record:
+                        whole.write(line)
+                    is_record = is_record or line[60:73] == b"END OF HEADER"
+
+
+def unpack_all(observations, navigation, room):
+    """The observation and the navigation file as the program reads them, in `room`."""
+    obs, nav = f"{room}/obs", f"{room}/nav"
+    unpack_one(observations, obs)
+    unpacked = []
+    for number, source in enumerate(navigation):
+        unpacked.append(f"{room}/nav{number}")
+        unpack_one(source, unpacked[-1])
+    join_navigation(unpacked, nav)
+    return obs, nav
+
+
+def unpack(args, room):
+    """Unpacks the files of a part, and notes what they were made of."""
+    obs, nav = unpack_all(args.file["observations"], args.words, room)
+    names = [("observations", args.file["observations"]), *(("navigation", name) for name in args.words)]
+    write_json(f"{room}/sources", [{"role": role, "name": name, **digest(name)} for role, name in names])
+    settle(obs, args.file["obs"])
+    settle(nav, args.file["nav"])
+    settle(f"{room}/sources", args.file["sources"])
+
+
+# ---- settings
+
+def filled(path, place):
+    """The settings of a template: `$centre` is the station's place in mm."""
+    text = Path(path).read_text(encoding="utf-8")
+    try:
+        return Template(text).substitute({"centre": list(place)} if place else {})
+    except (KeyError, ValueError) as error:
+        raise StepError(f"{path}: {error} can't be filled: does the station have a place?") from None
+
+
+def by_elevation(args, text, place, room):
+    """Settings whose tables of bounds are made by scripts/bounds.py of a first look without splits."""
+    head, found, _ = text.partition(BOUNDS_HEAD)
+    if not found or place is None:
+        raise StepError("bounds: the template needs a line [bounds], and the station a place")
+    first = "\n".join("bisections = 0" if it.startswith("bisections") else it for it in text.splitlines())
+    Path(f"{room}/first").write_text(first + "\n", encoding="utf-8")
+    obs, nav = unpack_all(args.file["observations"], args.words, room)
+    words = [args.program, "solve", obs, nav, f"{room}/first", f"{room}/log"]
+    run(words, "a first look", stdout=subprocess.DEVNULL)
+    metres = [f"{at / 1000:.3f}" for at in place]
+    words = [sys.executable, ROOT / "scripts/bounds.py", f"{room}/log", *metres, *args.bounds.split()]
+    tables = run(words, "bounds", stdout=subprocess.PIPE).stdout.decode()
+    return head + tables
+
+
+def settings(args, room):
+    """The settings of a day: those of the station, or a template with its place and its bounds by elevation."""
+    if not os.path.exists(args.file["template"]):
+        raise StepError(f"{args.file['template']} isn't there")
+    place = tuple(map(int, args.place.split(","))) if args.place else None
+    text = filled(args.file["template"], place)
+    if args.bounds:
+        text = by_elevation(args, text, place, room)
+    Path(f"{room}/settings").write_text(text, encoding="utf-8")
+    settle(f"{room}/settings", args.file["settings"])
+
+
+# ---- solve, check, compress
+
+def program_of(args):
+    """The program, where it is built."""
+    if not os.access(args.program, os.X_OK):
+        raise StepError(f"{args.program} isn't built: run ./gpscover make 1 1 once, or name another program")
+    return args.program
+
+
+def solve(args, room):
+    """Solves the epochs of a part. The report is left out: the log has all of it."""
+    files = [args.file[key] for key in ("obs", "nav", "settings")]
+    words = [program_of(args), "solve", *files, f"{room}/log", *args.words]
+    run(words, "solve", stdout=subprocess.DEVNULL)
+    settle(f"{room}/log", args.file["log"])
+
+
+def commit():
+    """The commit of the repository, or an empty text."""
+    words = ["git", "-C", str(ROOT), "rev-parse", "HEAD"]
+    with contextlib.suppress(OSError):
+        return subprocess.run(words, capture_output=True, text=True).stdout.strip()
+    return ""
+
+
+def put_aside(args, verdict):
+    """Keeps a log that wasn't accepted, with what was said of it, where no later step looks."""
+    name = os.path.basename(args.file["log"])
+    target = f"{args.out}/refused/{args.station}/{args.day}/{name}"
+    os.makedirs(os.path.dirname(target), exist_ok=True)
+    os.replace(args.file["log"], target)
+    Path(f"{target}.verdict").write_text(verdict + "\n", encoding="utf-8")
+    raise StepError(f"the log isn't accepted: {verdict}; it is kept as {target}")
+
+
+def check(args, room):
+    """Checks a log with the options that it was solved with, and notes verdict and checksums."""
+    keys = ("obs", "nav", "settings", "log")
+    files = {key: digest(args.file[key]) for key in keys}
+    words = [program_of(args), "check", *(args.file[key] for key in keys), *args.words]
+    ended = subprocess.run(words, capture_output=True, text=True)
+    said = last_line(ended.stdout or ended.stderr)
+    if ended.returncode == 1 or ended.returncode == 3 and said.startswith("log "):
+        put_aside(args, said)
+    if ended.returncode != 0 or not said.startswith("yes "):
+        raise StepError(f"check: status {ended.returncode}, {said}")
+    if files != {key: digest(args.file[key]) for key in keys}:
+        put_aside(args, "a file has changed while it was checked")
+    value = {"station": args.station, "day": args.day, "part": int(args.part), "options": " ".join(args.words)}
+    program = {"sha256": digest(args.program)["sha256"], "commit": commit()}
+    sources = read_json(args.file["sources"])
+    write_json(f"{room}/verdict", {**value, "verdict": said, "files": files, "sources": sources, "program": program})
+    settle(f"{room}/verdict", args.file["verdict"])
+
+
+def compress(args, room):
+    """Compresses a log, which has to be the one that the verdict is of."""
+    wanted = read_json(args.file["verdict"])["files"]["log"]
+    with open(f"{room}/zst", "wb") as file:
+        run(["zstd", "-q", "-c", "-T1", args.file["log"]], "zstd", stdout=file)
+    if unpacked(f"{room}/zst", f"{room}/log") != wanted:
+        put_aside(args, "it isn't the one that was checked")
+    settle(f"{room}/zst", args.file["zst"])
+
+
+def unpacked(path, target):
+    """Writes the log of a compressed one to `target`. Its size and checksum."""
+    with open(target, "wb") as file:
+        run(["zstd", "-q", "-dc", path], path, stdout=file)
+    return digest(target)
+
+
+# ---- tables
+
+def rows(args, room):
+    """A line an epoch of a checked log. A log that isn't the checked one is put aside, so that it is made again."""
+    args.file["log"] = args.file["zst"]
+    try:
+        is_checked = unpacked(args.file["zst"], f"{room}/log") == read_json(args.file["verdict"])["files"]["log"]
+    except StepError as error:
+        put_aside(args, f"{error}")
+    if not is_checked:
+        put_aside(args, "it isn't the one that was checked")
+    with open(f"{room}/csv", "w", encoding="utf-8", newline="") as file:
+        table = csv.writer(file, lineterminator="\n")
+        table.writerow(ROW_HEAD)
+        head = [args.station, args.day, args.part]
+        summary.summarize(f"{room}/log", lambda *epoch: table.writerow(head + summary.csv_line(*epoch[:3])))
+    settle(f"{room}/csv", args.file["csv"])
+
+
+def day(args, room):
+    """One table of a day of a station: the rows of its parts in order, all of the same files."""
+    paths = args.words
+    verdicts, tables = paths[: len(paths) // 2], paths[len(paths) // 2 :]
+    found = [read_json(path)["files"] for path in verdicts]
+    for key in ("obs", "nav", "settings"):
+        if len({files[key]["sha256"] for files in found}) != 1:
+            raise StepError(f"the parts were made of different files ({key})")
+    last = 0
+    with open(f"{room}/csv", "w", encoding="utf-8", newline="") as whole:
+        for number, path in enumerate(tables):
+            with open(path, encoding="utf-8", newline="") as file:
+                head = file.readline()
+                whole.write(head if number == 0 else "")
+                for line in file:
+                    epoch, before = int(line.split(",", 4)[3]), last
+                    if epoch <= before:
+                        raise StepError(f"epoch {epoch} stands behind {before}")
+                    last = epoch
+                    whole.write(line)
+    settle(f"{room}/csv", args.file["csv"])
+
+
+def database(args, room):
+    """The database of the run."""
+    import tables
+
+    tables.make_database(args, f"{room}/sqlite")
+    settle(f"{room}/sqlite", args.file["sqlite"])
+
+
+def page(args, room):
+    """The page of the run."""
+    import tables
+
+    Path(f"{room}/html").write_text(tables.page(args.file["sqlite"], args.epochs), encoding="utf-8")
+    settle(f"{room}/html", args.file["html"])
+
+
+# ---- the frame of a step
+
+def note_of(args):
+    """The note of a step."""
+    return Path(args.out, "notes", args.station or "run", args.day or "", f"{args.part or 'day'}.{args.step}")
+
+
+def own_peak():
+    """The peak of this process in KiB. `getrusage` would say that of the one that began it, if it had more."""
+    with open("/proc/self/status", encoding="ascii", errors="replace") as file:
+        return next((int(line.split()[1]) for line in file if line.startswith("VmHWM:")), 0)
+
+
+def costs(args, began):
+    """Notes in OUT/costs what the step took, itself and the programs that it called. No table has it."""
+    child, own = (resource.getrusage(who) for who in (resource.RUSAGE_CHILDREN, resource.RUSAGE_SELF))
+    line = {
+        "step": args.step,
+        "wall_s": round(time.time() - began, 3),
+        "program_s": round(child.ru_utime + child.ru_stime, 3),
+        "own_s": round(own.ru_utime + own.ru_stime, 3),
+        "program_mb": round(child.ru_maxrss / 1024, 1),
+        "own_mb": round(own_peak() / 1024, 1),
+        "bytes": {key: os.path.getsize(path) for key, path in args.file.items() if os.path.isfile(path)},
+    }
+    path = Path(args.out, "costs", args.station or "run", args.day or "", f"{args.part or 'day'}.{args.step}.json")
+    path.parent.mkdir(parents=True, exist_ok=True)
+    write_json(path, line)
+
+
+def arguments():
+    """The words of the command line."""
+    parser = argparse.ArgumentParser(description="One step of the workflow.")
+    parser.add_argument("step", choices=COSTS)
+    parser.add_argument("--out", required=True)
+    parser.add_argument("--station", default="")
+    parser.add_argument("--day", default="")
+    parser.add_argument("--part", default="")
+    parser.add_argument("--program", default="")
+    parser.add_argument("--place", default="")
+    parser.add_argument("--bounds", default="")
+    parser.add_argument("--epochs", type=int, default=0)
+    parser.add_argument("--name", nargs="+", default=[], metavar="KEY=FILE")
+    args, args.words = parser.parse_known_args()
+    if args.words[:1] == ["--"]:
+        del args.words[0]
+    args.file = dict(name.split("=", 1) for name in args.name)
+    return args
+
+
+def perform(args):
+    """Does the step in a folder of its own, which goes with it."""
+    name = f"{args.station}.{args.day}.{args.part}.{args.step}.{socket.gethostname()}.{os.getpid()}"
+    room = Path(args.out, "tmp", name)
+    room.mkdir(parents=True)
+    try:
+        globals()[args.step](args, str(room))
+    finally:
+        shutil.rmtree(room, ignore_errors=True)
+
+
+def main():
+    args, began = arguments(), time.time()
+    note, name = note_of(args), told(args.station, args.day, args.part)
+    with contextlib.suppress(OSError):  # a full disk has no room for a note either; the step says so by itself
+        note.parent.mkdir(parents=True, exist_ok=True)
+        note.write_text("")
+    try:
+        perform(args)
+    except (StepError, LogError, OSError) as error:
+        line = f"{name}: {args.step}: {error}"
+        print(f"gpscover: {line}", file=sys.stderr)
+        with contextlib.suppress(OSError):
+            note.write_text(line + "\n", encoding="utf-8")
+        return 1
+    with contextlib.suppress(OSError):
+        note.unlink()
+        costs(args, began)
+    return 0
+
+
+if __name__ == "__main__":
+    sys.exit(main())

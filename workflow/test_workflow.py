@@ -1,0 +1,527 @@
+#!/usr/bin/env python3
+"""Tests of the workflow: python3 workflow/test_workflow.py PROGRAM [--slurm]. The last line is
+`workflow: N passed, M failed`, and how many were left out. Exit status: 0, or 1 where one failed.
+
+Two recorded stations with a day of two parts each are solved, checked and tabled on four jobs; then jobs are
+killed, files changed or taken away, and a disk filled. Each time the run has to end with a line that names
+station, day and part, the other parts have to be done, and the next run has to make the same tables to the
+byte. With --slurm the same is run on a Slurm, with a node that is drained and one that is lost:
+scripts/slurm_here.sh --nodes 2 -- python3 workflow/test_workflow.py PROGRAM --slurm.
+"""
+import gzip
+import os
+import re
+import shutil
+import signal
+import sqlite3
+import subprocess
+import sys
+import tempfile
+import time
+import unittest
+from pathlib import Path
+
+import made_network
+from made_network import coverlog
+
+HERE = Path(__file__).resolve().parent
+ROOT = HERE.parent
+TABLES = ("network.sqlite", "network.html", "days/GEON/2005-04-02.csv", "days/UBX0/2008-05-26.csv")
+PARTS = ("GEON/2005-04-02/1", "GEON/2005-04-02/2", "UBX0/2008-05-26/1", "UBX0/2008-05-26/2")
+LATEST = 120  # seconds that a run may take
+
+SETTINGS = """\
+[search]
+centre = $centre
+half = 1000000
+outliers = 1
+bisections = 16
+width = 1000
+max_age = 7200
+[signal]
+mode = "{}"
+codes = {}
+[bounds]
+receiver = [-5000, 5000]
+orbit_clock = [-4000, 4000]
+ionosphere = {}
+troposphere = [2000, 25000]
+"""
+CONFIG = """\
+program: {program}
+out: out
+epochs: 4
+part: 2
+observations: data/{{station}}{{day:%Y%j}}.obs.gz
+navigation: data/brdc{{day:%Y%j}}.nav
+stations:
+  UBX0: {{days: [2008-05-26], settings: data/single.toml, place: [-3869310.0, 3436566.0, 3717366.0]}}
+  GEON: {{days: [2005-04-02], settings: data/dual.toml, place: [-3976219.0, 3382372.0, 3652511.0]}}
+"""
+# A program that waits before it solves the part that the file `hold` names, while it does, and writes its
+# number to `held`.
+HELD = """\
+#!/bin/sh
+room=$(dirname "$0")
+if [ "$1" = solve ] && [ -e "$room/hold" ]; then
+    case $2 in
+        *"$(cat "$room/hold")".obs)
+            echo $$ >"$room/held.next"
+            mv "$room/held.next" "$room/held"
+            while [ -e "$room/hold" ]; do sleep 0.1; done
+            ;;
+    esac
+fi
+exec '{program}' "$@"
+"""
+
+
+class Room:
+    """A folder with the files of two stations, in which the workflow is run."""
+
+    program = None
+
+    def __init__(self):
+        self.path = Path(tempfile.mkdtemp(prefix="workflow-"))
+        self.out = self.path / "out"
+        data = self.path / "data"
+        data.mkdir()
+        for name, obs, nav in (
+            ("UBX02008147", ROOT / "examples/receiver.obs", ROOT / "examples/receiver.nav"),
+            ("GEON2005092", HERE / "recorded/station.obs", HERE / "recorded/station.nav"),
+        ):
+            (data / f"{name}.obs.gz").write_bytes(gzip.compress(obs.read_bytes(), mtime=0))
+            shutil.copy(nav, data / f"brdc{name[4:]}.nav")
+        (data / "single.toml").write_text(SETTINGS.format("single", '["C1C"]', "[0, 25000]"))
+        (data / "dual.toml").write_text(SETTINGS.format("dual", '["C1C", "C2W"]', "[-500, 500]"))
+        held = self.path / "program"
+        held.write_text(HELD.format(program=self.program))
+        held.chmod(0o755)
+        self.configure(CONFIG.format(program=held))
+
+    def configuration(self):
+        """The configuration."""
+        return (self.path / "config.yaml").read_text()
+
+    def configure(self, text):
+        """Writes the configuration."""
+        (self.path / "config.yaml").write_text(text)
+
+    def words(self, *more, jobs=4, profile="local"):
+        """The words of a run."""
+        head = ["snakemake", "-s", HERE / "Snakefile", "--configfile", "config.yaml"]
+        return [*map(str, head), "--profile", str(HERE / profile), "--jobs", f"{jobs}", *more]
+
+    def begin(self, *more, **ways):
+        """Begins a run, whose words go to the file `said`."""
+        with open(self.path / "said", "wb") as said:
+            return subprocess.Popen(
+                self.words(*more, **ways),
+                cwd=self.path,
+                stdout=said,
+                stderr=subprocess.STDOUT,
+                start_new_session=True,
+            )
+
+    def said(self):
+        """What the last run said."""
+        return (self.path / "said").read_text(errors="replace")
+
+    def lines(self):
+        """What the last run said of jobs that weren't done."""
+        return sorted(re.findall(r"^gpscover: not done: (.*)$", self.said(), re.MULTILINE))
+
+    def run(self, *more, **ways):
+        """Runs the workflow to its end. The status."""
+        process = self.begin(*more, **ways)
+        try:
+            return process.wait(LATEST)
+        except subprocess.TimeoutExpired:
+            os.killpg(process.pid, signal.SIGKILL)
+            raise
+
+    def hold(self, part):
+        """Has the program wait before it solves a part."""
+        (self.path / "hold").write_text(part)
+
+    def held(self):
+        """The number of the program that waits, once it does."""
+        return int(self.wait_for(self.path / "held").read_text())
+
+    def wait_for(self, path):
+        """A file, once it is there."""
+        end = time.time() + LATEST
+        while not path.exists():
+            if time.time() > end:
+                raise AssertionError(f"{path} doesn't come: {self.said()[-2000:]}")
+            time.sleep(0.05)
+        return path
+
+    def free(self):
+        """Lets the program go on."""
+        for name in "hold", "held":
+            (self.path / name).unlink(missing_ok=True)
+
+    def tables(self):
+        """The bytes of the tables, or None where one isn't there."""
+        return {name: (self.out / name).read_bytes() if (self.out / name).exists() else None for name in TABLES}
+
+    def verdicts(self):
+        """The parts that have a verdict."""
+        found = (self.out / "verdicts").glob("*/*/*.json")
+        return sorted(str(path.relative_to(self.out / "verdicts"))[: -len(".json")] for path in found)
+
+    def remove(self):
+        """Removes the folder."""
+        shutil.rmtree(self.path, ignore_errors=True)
+
+
+def parent(pid):
+    """The number of a process's parent."""
+    return int(Path(f"/proc/{pid}/stat").read_text().rsplit(")", 1)[1].split()[1])
+
+
+def is_alive(pid):
+    """Whether a process runs: one that has ended may wait for who began it."""
+    try:
+        return Path(f"/proc/{pid}/stat").read_text().rsplit(")", 1)[1].split()[0] != "Z"
+    except OSError:
+        return False
+
+
+def steps_of(said):
+    """How often each rule was run."""
+    return sorted(re.findall(r"^(?:local)?rule (\w+):", said, re.MULTILINE))
+
+
+class Base(unittest.TestCase):
+    """A room for each test, and the tables that an undisturbed run on four jobs makes."""
+
+    whole = None
+
+    def setUp(self):
+        self.room = Room()
+        self.addCleanup(self.room.remove)
+        if Base.whole is None:
+            self.assertEqual(self.room.run(), 0, self.room.said())
+            Base.whole = self.room.tables()
+            self.assertNotIn(None, Base.whole.values())
+            shutil.rmtree(self.room.out)
+            shutil.rmtree(self.room.path / ".snakemake")
+
+    def is_repaired(self, **ways):
+        """The next run ends well and makes the tables of the undisturbed one; the run behind it has nothing to do."""
+        self.assertEqual(self.room.run(**ways), 0, self.room.said())
+        self.assertEqual(self.room.tables(), Base.whole)
+        self.assertEqual(list((self.room.out / "notes").glob("*/*/*.*")), [])
+        self.assertEqual(list((self.room.out / "tmp").glob("*")), [])
+
+    def has_nothing_to_do(self):
+        """The next run does nothing."""
+        self.assertEqual(self.room.run(), 0, self.room.said())
+        self.assertIn("Nothing to be done", self.room.said())
+
+
+class Whole(Base):
+    def test_one_job_and_four_make_the_same_tables_and_a_second_run_does_nothing(self):
+        self.is_repaired(jobs=1)
+        self.has_nothing_to_do()
+        (self.room.out / "logs/UBX0/2008-05-26/2.log.zst").unlink()
+        self.is_repaired()
+        steps = ["all", "check", "compress", "database", "day", "page", "rows", "solve", "unpack"]
+        self.assertEqual(steps_of(self.room.said()), steps)
+
+    def test_tables_have_what_the_logs_have(self):
+        with tempfile.NamedTemporaryFile() as file:
+            Path(file.name).write_bytes(Base.whole["network.sqlite"])
+            base = sqlite3.connect(file.name)
+            epochs = base.execute("SELECT station, part, epoch, satellites, mark FROM epochs").fetchall()
+            # Two parts of two epochs each; the satellites of the first are 8 and 9, as the files have them.
+            wanted = [(station, (k + 1) // 2, k) for station in ("GEON", "UBX0") for k in range(1, 5)]
+            self.assertEqual([row[:3] for row in epochs], wanted)
+            self.assertEqual({row[:1] + row[3:4] for row in epochs if row[2] == 1}, {("GEON", 8), ("UBX0", 9)})
+            said = base.execute("SELECT name, verdict LIKE 'yes %' FROM files WHERE role = 'log'").fetchall()
+            self.assertEqual(said, [("--from 1 --to 2", 1), ("--from 3", 1)] * 2)
+            base.close()
+
+    def test_other_ways_of_a_configuration(self):
+        config = self.room.configuration().replace("[2008-05-26]", "[2008-05-26, 2008-05-27]")
+        config = config.replace("settings: data/single.toml", 'settings: data/single.toml, bounds: "single --zenith"')
+        self.room.configure(config + "absent: leave\nkeep: checksum\n")
+        self.assertEqual(self.room.run(), 0, self.room.said())
+        self.assertIn("gpscover: UBX0 2008-05-27: no observation file, left out", self.room.said())
+        base = sqlite3.connect(self.room.out / "network.sqlite")
+        self.assertEqual(base.execute("SELECT * FROM absent").fetchall(), [("UBX0", "2008-05-27")])
+        base.close()
+        self.assertEqual(list((self.room.out / "logs").rglob("*.zst")), [])
+        self.has_nothing_to_do()
+        text = (self.room.out / "settings/UBX0/2008-05-26.toml").read_text()
+        self.assertIn("centre = [-3869310000, 3436566000, 3717366000]\n", text)
+        self.assertIn("zenith = [1911, 2703]\n", text)
+        # G26 stands 5.2 to 5.3 degrees high, as the example's settings say; all else of its bounds is by
+        # elevation.
+        self.assertRegex(text, r"G26 = \[.*\]  # 5\.\d to 5\.\d degrees")
+        self.assertEqual(text.count("[bounds]"), 1)
+
+    def test_a_wrong_configuration(self):
+        config = self.room.configuration()
+        for wrong, said in (
+            (config.replace("part: 2", "part: 0"), "part: a whole number from 1 to 200000 is needed, not 0"),
+            (config.replace("{day:%Y%j}.nav", "{date}.nav"), "the pattern 'data/brdc{date}.nav' can't be filled"),
+            (config.replace("[2008-05-26]", "[26.5.2008]"), "UBX0: days: '26.5.2008' is no date"),
+            (config.replace("settings: data/single.toml, ", ""), "stations: UBX0 has no settings"),
+        ):
+            self.room.configure(wrong)
+            self.assertNotEqual(self.room.run(), 0)
+            self.assertIn(said, self.room.said())
+
+
+class Killed(Base):
+    def test_a_program_a_step_and_an_engine_that_are_killed(self):
+        self.room.hold(PARTS[1])
+        process = self.room.begin()
+        os.kill(self.room.held(), signal.SIGKILL)
+        self.assertEqual(process.wait(LATEST), 1)
+        self.is_told("GEON 2005-04-02 part 2: solve: solve: killed by signal 9, without a word")
+
+        process = self.room.begin()
+        program = self.room.held()
+        os.kill(parent(program), signal.SIGKILL)
+        os.kill(program, signal.SIGKILL)
+        self.assertEqual(process.wait(LATEST), 1)
+        self.is_told("GEON 2005-04-02 part 2: solve: it didn't end: killed, or no room for a note?")
+
+        process = self.room.begin()
+        program = self.room.held()
+        os.killpg(process.pid, signal.SIGKILL)
+        process.wait()
+        if is_alive(program):
+            os.kill(program, signal.SIGKILL)
+        self.room.free()
+        self.assertEqual(self.room.run("--unlock"), 0, self.room.said())
+        self.is_repaired()
+        self.assertEqual(steps_of(self.room.said()).count("solve"), 1)
+
+    def is_told(self, wanted):
+        """One line is of the part, the other parts have verdicts, and the table of the other day is there."""
+        self.assertEqual(self.room.lines(), [wanted])
+        self.assertEqual(self.room.verdicts(), [part for part in PARTS if part != PARTS[1]])
+        self.assertEqual([name for name, table in self.room.tables().items() if table is not None], [TABLES[3]])
+        (self.room.path / "held").unlink()
+
+
+class Changed(Base):
+    def test_a_log_and_an_observation_that_are_changed(self):
+        self.assertEqual(self.room.run("--until", "solve", "--notemp"), 0, self.room.said())
+        log = self.room.out / f"solved/{PARTS[1]}.log"
+        text = log.read_text()
+        place = text.index("\nroot ") + 6
+        log.write_text(f"{text[:place]}1{text[place + 1:]}")  # the low end of x had a minus there
+        self.is_refused(PARTS[1], r"check: the log isn't accepted: .*")
+        self.assertEqual(self.room.verdicts(), [part for part in PARTS if part != PARTS[1]])
+        self.is_repaired()
+
+        log = self.room.out / f"logs/{PARTS[2]}.log.zst"
+        packed = bytearray(log.read_bytes())
+        packed[len(packed) // 2] ^= 1
+        log.write_bytes(packed)
+        self.is_refused(PARTS[2], "rows: the log isn't accepted: .*", "log.zst")
+        self.is_repaired()
+        self.has_nothing_to_do()
+
+        path = self.room.path / "data/GEON2005092.obs.gz"
+        whole = path.read_bytes()
+        text = gzip.decompress(whole).decode()
+        path.write_bytes(gzip.compress(text.replace("G03  24767686.375", "G03  24767687.375").encode(), mtime=0))
+        self.assertEqual(self.room.run(), 0, self.room.said())
+        self.assertEqual(steps_of(self.room.said()).count("solve"), 2)
+        self.assertNotEqual(self.room.tables()["network.sqlite"], Base.whole["network.sqlite"])
+        path.write_bytes(whole)
+        self.is_repaired()
+
+    def is_refused(self, part, why, kind="log"):
+        """The next run fails; one line is of this part, and its log is kept aside."""
+        self.assertEqual(self.room.run(), 1)
+        (line,) = self.room.lines()
+        name = part.replace("/", " ", 1).replace("/", " part ")
+        self.assertRegex(line, f"^{name}: {why}; it is kept as out/refused/{part}.{kind}$")
+        self.assertTrue((self.room.out / f"refused/{part}.{kind}").exists())
+
+
+class Missing(Base):
+    def test_a_navigation_day_and_the_program_that_undoes_hatanaka(self):
+        path = self.room.path / "data/brdc2008147.nav"
+        whole = path.read_bytes()
+        path.unlink()
+        self.assertEqual(self.room.run(), 1)
+        lines = [f"UBX0 2008-05-26 part {part}: unpack: data/brdc2008147.nav isn't there" for part in (1, 2)]
+        self.assertEqual(self.room.lines(), lines)
+        self.assertEqual(self.room.tables()[TABLES[2]], Base.whole[TABLES[2]])
+        path.write_bytes(whole)
+
+        path = self.room.path / "data/GEON2005092.obs.gz"
+        whole = path.read_bytes()
+        head = b"1.0                 COMPACT RINEX FORMAT                    CRINEX VERS   / TYPE\n"
+        path.write_bytes(gzip.compress(head + gzip.decompress(whole), mtime=0))
+        if shutil.which("crx2rnx") is None and shutil.which("CRX2RNX") is None:
+            self.assertEqual(self.room.run(), 1)
+            why = "data/GEON2005092.obs.gz has Hatanaka's compression, and crx2rnx isn't on the path"
+            self.assertEqual([line.split(":")[1:3] for line in self.room.lines()], [[" unpack", f" {why}"]] * 2)
+        # In its place one that takes off the line above.
+        tools = self.room.path / "tools"
+        tools.mkdir()
+        (tools / "crx2rnx").write_text("#!/bin/sh\nexec tail -n +2\n")
+        (tools / "crx2rnx").chmod(0o755)
+        before = os.environ["PATH"]
+        os.environ["PATH"] = f"{tools}:{before}"
+        self.addCleanup(os.environ.__setitem__, "PATH", before)
+        self.assertEqual(self.room.run(), 0, self.room.said())
+        for name in TABLES[2:]:
+            self.assertEqual(self.room.tables()[name], Base.whole[name])
+        path.write_bytes(whole)
+        self.is_repaired()
+        path.unlink()  # it is put away when its day is done
+        self.has_nothing_to_do()
+
+
+class FullDisk(Base):
+    def test_a_full_disk(self):
+        disk = self.room.out
+        disk.mkdir()
+        words = ["mount", "-t", "tmpfs", "-o", "size=192k", "workflow", str(disk)]
+        if os.geteuid() != 0 or subprocess.run(words, capture_output=True).returncode != 0:
+            self.skipTest("only root can make a small disk")
+        self.addCleanup(subprocess.run, ["umount", str(disk)])
+        self.assertEqual(self.room.run(), 1)
+        name = r"\w{4} \d{4}-\d\d-\d\d part \d"
+        self.assertRegex(self.room.said(), f"gpscover: {name}: solve: solve: status 5, log fault")
+        for line in self.room.lines():
+            self.assertRegex(line, rf"^{name}: \w+: ")
+        self.assertLess(len(self.room.verdicts()), len(PARTS))
+        subprocess.run(["mount", "-o", "remount,size=16m", str(disk)], check=True)
+        self.is_repaired()
+
+
+class Made(unittest.TestCase):
+    def test_regions_of_a_made_network_hold_its_places(self):
+        with tempfile.TemporaryDirectory() as path:
+            folder = Path(path)
+            words = [sys.executable, HERE / "made_network.py", folder, "--epochs", "2"]
+            subprocess.run(words, check=True)
+            text = (folder / "settings.toml").read_text().replace("bisections = 128", "bisections = 16")
+            for packed in sorted(folder.glob("*.obs.gz")):
+                station, day = packed.name[:4], packed.name[4:11]
+                place = [round(at * 1000) for at in made_network.PLACES[station]]
+                (folder / "set.toml").write_text(text.replace("$centre", str(place)))
+                for source, name in (packed, "obs"), (folder / f"BRDC{day}.nav.gz", "nav"):
+                    (folder / name).write_bytes(gzip.decompress(source.read_bytes()))
+                files = [folder / name for name in ("obs", "nav", "set.toml", "log")]
+                subprocess.run([Room.program, "solve", *files], check=True, stdout=subprocess.DEVNULL)
+                found = list(coverlog.epochs(folder / "log"))
+                held = [self.holds(epoch, [at * 1000 for at in place]) for epoch in found]
+                self.assertEqual(held, [True, True], f"{station} {day}")
+
+    def holds(self, epoch, place):
+        """Whether a box of the epoch has the place in um."""
+        return any(all(it.box[k] <= place[k] <= it.box[k + 3] for k in range(3)) for it in epoch.kept)
+
+
+# ---- on a Slurm
+
+def variable(pid, name):
+    """The value of a variable in the environment of a process."""
+    pairs = Path(f"/proc/{pid}/environ").read_bytes().decode().split("\0")
+    return next(pair.split("=", 1)[1] for pair in pairs if pair.startswith(f"{name}="))
+
+
+class OnSlurm(Base):
+    def setUp(self):
+        super().setUp()
+        os.environ["CI"] = "true"  # Snakemake then asks once a second how jobs are, in place of every ten
+
+    def run_with(self, part, disturb):
+        """Begins a run on Slurm, disturbs it while a part's program waits, lets it go on, and waits for its end."""
+        self.room.hold(part)
+        process = self.room.begin(profile="slurm", jobs=8)
+        program = self.room.held()
+        disturb(program)
+        return process
+
+    def node_of(self, program):
+        """The node on which a program runs."""
+        return variable(program, "SLURMD_NODENAME")
+
+    def set_state(self, node, state):
+        """Has the node in another state. It may have gone back to work by itself."""
+        words = ["scontrol", "update", f"nodename={node}", f"state={state}", "reason=test"]
+        subprocess.run(words, check=state != "resume")
+
+    def test_the_same_tables(self):
+        self.is_repaired(profile="slurm", jobs=8)
+        self.has_nothing_to_do()
+
+    def test_a_node_that_is_drained_while_it_works(self):
+        nodes = []
+
+        def disturb(program):
+            nodes.append(self.node_of(program))
+            self.set_state(nodes[0], "drain")
+            for part in PARTS:
+                if part != PARTS[0]:
+                    self.room.wait_for(self.room.out / f"verdicts/{part}.json")
+            self.assertNotIn(PARTS[0], self.room.verdicts())
+            self.room.free()
+
+        # What works on the node ends there, and all else is done by the other one.
+        process = self.run_with(PARTS[0], disturb)
+        self.assertEqual(process.wait(3 * LATEST), 0, self.room.said())
+        self.assertEqual(self.room.tables(), Base.whole)
+        self.set_state(nodes[0], "resume")
+
+    def test_a_node_that_is_lost_while_it_works(self):
+        nodes = []
+
+        def disturb(program):
+            nodes.append(self.node_of(program))
+            self.room.free()
+            self.set_state(nodes[0], "down")
+
+        process = self.run_with(PARTS[1], disturb)
+        self.assertEqual(process.wait(3 * LATEST), 0, self.room.said())
+        self.assertEqual(self.room.tables(), Base.whole)
+        self.set_state(nodes[0], "resume")
+
+    def test_a_job_that_is_cancelled_twice(self):
+        self.room.hold(PARTS[3])
+        process = self.room.begin(profile="slurm", jobs=8)
+        for _ in range(2):
+            program = self.room.held()
+            (self.room.path / "held").unlink()
+            subprocess.run(["scancel", variable(program, "SLURM_JOB_ID")], check=True)
+        self.assertEqual(process.wait(3 * LATEST), 1)
+        (line,) = self.room.lines()
+        self.assertRegex(line, "^UBX0 2008-05-26 part 2: solve: ")
+        self.assertEqual(self.room.verdicts(), list(PARTS[:3]))
+        (self.room.path / "hold").unlink()
+        self.is_repaired(profile="slurm", jobs=8)
+
+
+def main(program, slurm):
+    Room.program = os.path.abspath(program)
+    loader = unittest.defaultTestLoader
+    classes = (OnSlurm,) if slurm else (Whole, Killed, Changed, Missing, FullDisk, Made)
+    tests = unittest.TestSuite(loader.loadTestsFromTestCase(it) for it in classes)
+    done = unittest.TextTestRunner(verbosity=2).run(tests)
+    failed = len(done.failures) + len(done.errors)
+    left_out = len(done.skipped)
+    for _, why in done.skipped:
+        print(f"left out: {why}")
+    note = f", {left_out} left out" if left_out else ""
+    print(f"workflow: {done.testsRun - failed - left_out} passed, {failed} failed{note}")
+    return 1 if failed else 0
+
+
+if __name__ == "__main__":
+    if len(sys.argv) not in (2, 3) or sys.argv[2:] not in ([], ["--slurm"]):
+        sys.exit(__doc__)
+    sys.exit(main(sys.argv[1], "--slurm" in sys.argv))
