@@ -1,21 +1,18 @@
 """The outline of boxes as seen along an axis: the convex hull of their corners in a plane of two local axes."""
-import itertools
-
 from coverlog import UM_PER_M
-
-
-def turn(a, b, c):
-    """Positive where the way from a by b to c turns left."""
-    return (b[0] - a[0]) * (c[1] - a[1]) - (b[1] - a[1]) * (c[0] - a[0])
 
 
 def half_hull(points):
     """The right-hand side of the convex hull of sorted points, without its last point."""
     hull = []
-    for point in points:
-        while len(hull) > 1 and turn(hull[-2], hull[-1], point) <= 0:
+    for x, y in points:
+        # the last corner goes where the way over it to this point doesn't turn left
+        while len(hull) > 1:
+            (a, b), (c, d) = hull[-2:]
+            if (c - a) * (y - b) > (d - b) * (x - a):
+                break
             hull.pop()
-        hull.append(point)
+        hull.append((x, y))
     return hull[:-1]
 
 
@@ -27,19 +24,35 @@ def convex_hull(points):
     return half_hull(ordered) + half_hull(ordered[::-1])
 
 
-def corners(box):
-    """The eight corners of a box."""
-    return itertools.product(*((box[k], box[k + 3]) for k in range(3)))
+def ends_along(points, axis):
+    """Of the points on each line along an axis the first and the last."""
+    lines = {}
+    for point in points:
+        line = point[:axis] + point[axis + 1 :]
+        low, high = lines.get(line, (point, point))
+        lines[line] = (point if point[axis] < low[axis] else low, point if point[axis] > high[axis] else high)
+    return {point for both in lines.values() for point in both}
+
+
+def outer_corners(boxes):
+    """Corners of the boxes, among which are those of their convex hull: of those on a line along an axis only two are."""
+    lines = {}
+    for a, b, c, d, e, f in boxes:
+        for line in ((b, c), (b, f), (e, c), (e, f)):
+            low, high = lines.get(line, (a, d))
+            lines[line] = (a if a < low else low, d if d > high else high)
+    points = {(x, y, z) for (y, z), both in lines.items() for x in both}
+    return ends_along(ends_along(points, 1), 2)
+
+
+def outline_of(points, origin, right, upward):
+    """The convex hull of points in um in the plane of two unit vectors, in m from an origin in m."""
+    p, q, r = (round(value * UM_PER_M) for value in origin)
+    (a, b, c), (d, e, f) = ([part / UM_PER_M for part in vector] for vector in (right, upward))
+    offsets = ((x - p, y - q, z - r) for x, y, z in points)
+    return convex_hull([(a * x + b * y + c * z, d * x + e * y + f * z) for x, y, z in offsets])
 
 
 def outline(boxes, origin, right, upward):
     """The convex hull of all corners in the plane of two unit vectors, in m from an origin in m."""
-    base = [round(value * UM_PER_M) for value in origin]
-    points = []
-    for box in boxes:
-        for corner in corners(box):
-            x, y, z = ((c - o) / UM_PER_M for c, o in zip(corner, base))
-            points.append(
-                (x * right[0] + y * right[1] + z * right[2], x * upward[0] + y * upward[1] + z * upward[2])
-            )
-    return convex_hull(points)
+    return outline_of(outer_corners(boxes), origin, right, upward)

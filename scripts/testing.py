@@ -1,0 +1,16 @@
+"""Runs the tests of a file, and says in one line how many passed, failed and were left out, and why."""
+import contextlib
+import io
+import sys
+import unittest
+
+
+def run(name, reasons=()):
+    """Runs the tests of the running file. 0, or 1 where one failed; the last line is `NAME: N passed, M failed`."""
+    tests = unittest.defaultTestLoader.loadTestsFromModule(sys.modules["__main__"])
+    with contextlib.redirect_stdout(io.StringIO()):
+        done = unittest.TextTestRunner(stream=sys.stderr, verbosity=1).run(tests)
+    failed, left_out = len(done.failures) + len(done.errors), len(done.skipped)
+    note = f", {left_out} left out since {' and '.join(reasons)}" if left_out else ""
+    print(f"{name}: {done.testsRun - failed - left_out} passed, {failed} failed{note}")
+    return 1 if failed else 0
