@@ -2,12 +2,14 @@
 """Prints error bounds by elevation as the tables [bounds] and [satellite] of the settings.
 
 usage: bounds.py LOG X Y Z single|dual [options]
+       bounds.py LOG X Y Z single|dual --every SECONDS --settings SETTINGS --files OBS NAV --folder FOLDER [options]
 
 LOG is what `gpscover solve` writes of the files with `bisections = 0`: its lines have the satellites' places. X Y Z is
-a rough place of the receiver in the earth-fixed frame in metres, good to some 10 km. Over all epochs of LOG each
-satellite gets the least and the greatest bound between the elevations at which it is seen. A satellite that LOG lacks
-gets those between --mask and the zenith, so that none is without a bound. One that is seen below --mask, where the
-mapping doesn't hold, is opened to 1 km, so that it limits nothing.
+a rough place of the receiver in the earth-fixed frame in metres, good to some 10 km. It lies in the search box of LOG;
+one outside is refused, since one of the two is wrong then. Over all epochs of LOG each satellite gets the least and the
+greatest bound between the elevations at which it is seen. A satellite that LOG lacks gets those between --mask and the
+zenith, so that none is without a bound. One that is seen below --mask, where the mapping doesn't hold, is opened to 1 km,
+so that it limits nothing.
 
 A bound in metres at the elevation E is the sum of
   troposphere  zenith delay times m(E) = 1.001 / sqrt(0.002001 + sin(E)^2), give or take a part of it for the mapping
@@ -22,17 +24,28 @@ troposphere isn't mapped here: its delay at the zenith, with the part for the ma
 `zenith`, and gpscover maps it by the elevation at each point of the search box and at each epoch's time. Each number
 is an option, and is the engineer's own declaration: the region holds the receiver only while they hold.
 
-Exit status: 0; 1 where LOG can't be read, isn't a whole log, or has no satellites; 2 for a wrong command line.
+A satellite rises and sets, so one table for a long file declares much for each. With --every there is one for each stretch
+of so many seconds: FOLDER gets part01.toml and so on, which are SETTINGS up to [bounds] with the tables of a stretch behind,
+and the lines are printed that solve the epochs of each part and check them.
+
+Exit status: 0; 1 where a file can't be read or written, or LOG isn't a whole log, has no satellites, or has another search
+box; 2 for a wrong command line.
 """
 import argparse
 import math
+import re
+import shlex
+from dataclasses import dataclass, field
+from pathlib import Path
 
 from coverlog import UM_PER_M, LogError, epochs, run_tool
+from integrity import in_um
 from wgs84 import elevation
 
 EARTH_KM = 6371.0
 OPENED_M = (-1000.0, 1000.0)
 ZENITH_MM = 10_000  # the greatest amount of a bound at the zenith that the settings take
+PS_PER_S = 10**12
 DUAL_FACTOR = (77**2 + 60**2) / (77**2 - 60**2)  # the sum of the amounts of the combination's two coefficients
 
 
@@ -84,18 +97,56 @@ def bound_between(lowest, highest, args):
     return min(lows), max(highs)
 
 
-def elevations(path, place):
-    """For each satellite of a log the least and the greatest elevation in radians at which it is seen."""
-    seen = {}
-    for epoch in epochs(path):
+def refuse_stranger(root, place):
+    """LogError where a rough place in m isn't in a search box in um."""
+    def beyond(point):
+        ends = zip(root[:3], in_um(point), root[3:])
+        return math.hypot(*(max(low - end, end - high, 0) for low, end, high in ends)) / UM_PER_M
+
+    if beyond(place) == 0:
+        return
+    if beyond([value / 1000 for value in place]) == 0:
+        raise LogError("the rough place is in millimetres: give it in metres")
+    middle = " ".join(f"{(low + high) / 2 / UM_PER_M:.0f}" for low, high in zip(root, root[3:]))
+    raise LogError(
+        f"the rough place is {beyond(place) / 1000:.3f} km outside the search box of the log, whose middle is {middle} m:"
+        " one of the two is wrong, or the box is too small (is the position in the header right?)"
+    )
+
+
+@dataclass
+class Stretch:
+    """Epochs of a log, one behind the other."""
+
+    number: int  # of the stretch by its time
+    first: int  # the epochs' numbers
+    last: int
+    seen: dict = field(default_factory=dict)  # each satellite's least and greatest elevation in radians
+
+    def add(self, epoch, place):
+        """Adds an epoch, with a rough place of the receiver."""
+        self.last = epoch.index
+        if epoch.root is not None:
+            refuse_stranger(epoch.root, place)
         for row in epoch.rows:
             middle = [(low + high) / 2 / UM_PER_M for low, high in row.place]
             angle = elevation(place, middle)
-            low, high = seen.get(row.satellite, (angle, angle))
-            seen[row.satellite] = min(low, angle), max(high, angle)
-    if not seen:
+            low, high = self.seen.get(row.satellite, (angle, angle))
+            self.seen[row.satellite] = min(low, angle), max(high, angle)
+
+
+def stretches(path, place, seconds):
+    """The stretches of a log, each of so many seconds from the first epoch on; one where `seconds` is None."""
+    found, start = [], None
+    for epoch in epochs(path):
+        start = epoch.time if start is None else start
+        number = 0 if seconds is None else int((epoch.time - start) // (seconds * PS_PER_S))
+        if not found or found[-1].number != number:
+            found.append(Stretch(number, epoch.index, epoch.index))
+        found[-1].add(epoch, place)
+    if not any(stretch.seen for stretch in found):
         raise LogError(f"{path} has no satellites: every epoch is few")
-    return seen
+    return found
 
 
 def whole_millimetres(bound):
@@ -163,6 +214,35 @@ def satellite_lines(seen, args):
         yield f"{name} = {millimetres(bound)}  # {where}"
 
 
+def tables(seen, args):
+    """Both tables, line by line."""
+    return [*common_lines(args), "", *satellite_lines(seen, args)]
+
+
+def up_to_bounds(path, mode):
+    """The settings up to [bounds]. LogError where another table comes behind, or they are of another mode."""
+    text = Path(path).read_text(encoding="utf-8")
+    head, mark, rest = re.split(r"(?m)^([ \t]*\[bounds\].*)$", text, maxsplit=1) if "[bounds]" in text else (text, "", "")
+    if not mark or set(re.findall(r"(?m)^[ \t]*\[(.*?)\]", rest)) - {"satellite"}:
+        raise LogError(f"{path}: the tables [bounds] and [satellite] aren't the last ones")
+    if not re.search(rf'(?m)^[ \t]*mode[ \t]*=[ \t]*["\']{mode}["\']', head):
+        raise LogError(f"{path} isn't of the mode {mode}")
+    return head
+
+
+def write_parts(found, args):
+    """Writes the settings of each stretch, and gives the lines that solve and check it."""
+    folder, head = Path(args.folder), up_to_bounds(args.settings, args.mode)
+    folder.mkdir(parents=True, exist_ok=True)
+    digits = max(2, len(str(len(found))))
+    for count, stretch in enumerate(found, 1):
+        toml, log = (folder / f"part{count:0{digits}}.{ending}" for ending in ("toml", "log"))
+        toml.write_text(head + "\n".join(tables(stretch.seen, args)) + "\n", encoding="utf-8", newline="\n")
+        words = shlex.join([*args.files, str(toml), str(log), "--from", str(stretch.first), "--to", str(stretch.last)])
+        yield f"{shlex.quote(args.program)} solve {words} > /dev/null"
+        yield f"{shlex.quote(args.program)} check {words}"
+
+
 def arguments():
     """The words of the command line."""
     parser = argparse.ArgumentParser(description="Error bounds by elevation, as tables of the settings.")
@@ -186,7 +266,17 @@ def arguments():
         parser.add_argument(f"--{name}", type=float, default=default, help=f"{meaning} ({default:g})", metavar="N")
     parser.add_argument("--zenith", action="store_true",
                         help="print the troposphere's delay at the zenith, which gpscover maps by elevation itself")
+    parser.add_argument("--every", type=float, metavar="SECONDS", help="a table for each stretch of so many seconds")
+    parser.add_argument("--settings", metavar="SETTINGS", help="with --every: the settings that get these tables")
+    parser.add_argument("--files", nargs=2, metavar=("OBS", "NAV"), help="with --every: the files that are solved")
+    parser.add_argument("--folder", help="with --every: where the settings and logs of the parts stand")
+    parser.add_argument("--program", default="./gpscover", help="with --every: the program (./gpscover)")
     args = parser.parse_args()
+    parts = [args.every, args.settings, args.files, args.folder]
+    if any(part is None for part in parts) and parts != [None] * 4:
+        parser.error("--every, --settings, --files and --folder go together")
+    if args.every is not None and not args.every >= 0.001:
+        parser.error("a stretch has at least 0.001 seconds")
     if args.zenith and max(map(abs, whole_millimetres(troposphere(1.0, args)))) > ZENITH_MM:
         parser.error(f"with --zenith the troposphere's delay at the zenith is within {ZENITH_MM / 1000:g} m")
     return args
@@ -194,10 +284,8 @@ def arguments():
 
 def main():
     args = arguments()
-    seen = elevations(args.log, (args.x, args.y, args.z))
-    print(*common_lines(args), sep="\n")
-    print()
-    print(*satellite_lines(seen, args), sep="\n")
+    found = stretches(args.log, (args.x, args.y, args.z), args.every)
+    print(*(tables(found[0].seen, args) if args.every is None else write_parts(found, args)), sep="\n")
     return 0
 
 

@@ -1,7 +1,18 @@
 """Reads a log of gpscover epoch by epoch and folds its steps into the boxes that they close.
 
+    from coverlog import calendar, epochs
+
+    for epoch in epochs("receiver.log"):
+        print(epoch.index, calendar(epoch.time), epoch.satellites, len(epoch.kept), "boxes")
+        for kept in epoch.kept:
+            low, high = kept.box[:3], kept.box[3:]      # corners in um
+            ...                                         # kept.inner, kept.clock
+
 Lengths are whole micrometres (um), as in the log. Times are picoseconds (ps) since 1980-01-06 00:00:00 GPS
-time. A box is a tuple (x, y, z of the low corner, x, y, z of the high corner) in the earth-fixed frame.
+time. A box is a tuple (x, y, z of the low corner, x, y, z of the high corner) in the earth-fixed frame, whose ends belong
+to it. `epochs` yields one Epoch after the other and keeps none, so a long log needs little memory. Metres along east,
+north and up are in region.py (`region_of(epoch)`), latitude, longitude and height in wgs84.py (`geodetic`), and known
+places in places.py and integrity.py.
 
 A log is read as it stands: whether it is right is what `gpscover check` says.
 """
@@ -9,9 +20,13 @@ import datetime
 import sys
 from dataclasses import dataclass, field
 
+__all__ = ["epochs", "rules_of", "calendar", "Epoch", "Row", "Kept", "LogError", "SKIPS", "UM_PER_M", "PS_PER_MS"]
+
 UM_PER_M = 1_000_000
 PS_PER_MS = 1_000_000_000
 
+# The first line of a log. By the second one, pairs of satellites may show a box empty too.
+HEADS = "gpscover 1", "gpscover 3"
 SKIPS = {
     "1": "a wanted code is missing",
     "2": "a code is out of range",
@@ -40,16 +55,29 @@ class Row:
 
 @dataclass
 class Kept:
-    """An `in` or `edge` box and its span of clock offsets in um."""
+    """An `in` or `edge` box and its span of clock offsets in um. Each point of an inner box fits, of others it may."""
 
     box: tuple
     inner: bool
-    clock: tuple
+    clock: tuple  # (low, high)
 
 
 @dataclass
 class Epoch:
-    """A block of a log. A few block has no rows, no root and no boxes."""
+    """A block of a log. A few block has no rows, no root and no boxes, one without kept boxes is empty.
+
+    index       the epoch's number in the observation file
+    time        its time of reception by the receiver's clock, in ps
+    satellites  how many are usable
+    few         whether these are too few, so that the epoch isn't paved
+    outliers    how many of them may break their bounds
+    rows        what the log has of each usable satellite, as Row
+    skips       what it has of the others, as text: (satellite, the reason's number, which is a key of SKIPS, the field's or "")
+    root        the search box, or None
+    kept        the boxes where a position may fit, as Kept
+    outs        how many `out` lines there are
+    splits      how many boxes were split
+    """
 
     index: int
     time: int
@@ -57,7 +85,7 @@ class Epoch:
     few: bool
     outliers: int
     rows: list = field(default_factory=list)
-    skips: list = field(default_factory=list)  # (satellite, number of the test as text)
+    skips: list = field(default_factory=list)
     root: tuple = None
     kept: list = field(default_factory=list)
     outs: int = 0
@@ -125,7 +153,7 @@ def read_block(words, outliers, lines):
         if words[0] == "sat" and not epoch.few:
             epoch.rows.append(row_of(words))
         elif words[0] == "skip":
-            epoch.skips.append((words[1], words[2]))
+            epoch.skips.append((words[1], words[2], words[3] if len(words) > 3 else ""))
         elif words[0] == "root" and not epoch.few:
             epoch.root = tuple(int(word) for word in words[1:7])
             fold_steps(epoch, lines)
@@ -141,7 +169,7 @@ def read_block(words, outliers, lines):
 
 def blocks(lines):
     """The epochs of a log's lines."""
-    if next(lines, None) != "gpscover 1":
+    if next(lines, None) not in HEADS:
         raise ValueError
     rules = next(lines, "").split(" ")
     if rules[0] != "rules":
@@ -182,6 +210,20 @@ def epochs(path):
             raise LogError(f"{path} ends within an epoch, at line {lines.count}: its run was ended early") from None
         except (ValueError, IndexError, KeyError):
             raise LogError(f"{path} line {lines.count}: this isn't a log of gpscover") from None
+
+
+def rules_of(path):
+    """The rules of a log: q, the most splits of an epoch, and the width in um."""
+    with open(path, encoding="ascii", errors="replace", newline="\n") as file:
+        head, words = file.readline(), file.readline().split()
+    is_head = head.endswith("\n") and head[:-1] in HEADS
+    try:
+        if not is_head or words[0] != "rules":
+            raise ValueError
+        return int(words[1]), int(words[2]), int(words[3])
+    except (ValueError, IndexError):
+        number = 2 if is_head else 1
+        raise LogError(f"{path} line {number}: this isn't a log of gpscover") from None
 
 
 def run_way(args):

@@ -214,6 +214,29 @@ VERDICTS = (
 )
 
 
+# Of the box of some two metres, G02 in the place of G01, with a range that is longer by so much. Its offsets at each
+# point are as much greater, give or take a metre. The clock spans over the box are 1.5 m to both sides of their middles.
+TWO_RANGES = (
+    (1_100_000, "out 0", "no 58 OutNotShown line 9", "yes 0"),
+    (900_000, "out 0", "no 58 OutNotShown line 9", "no 58 OutNotShown line 9"),
+    (1_100_000, "cut 0 1 0", "no 57 CutNotShown line 9", "no 63 NotClosed line 10"),
+    (900_000, "cut 0 1 0", "no 57 CutNotShown line 9", "no 57 CutNotShown line 9"),
+    (1_100_000, "edge 0 -1500000 2600000", "yes 1", "yes 1"),
+)
+
+
+def pair_logs():
+    """Logs of both versions with boxes that pairs of rows show empty, or don't."""
+    yield "with all, by pairs", "judge", text(changed(WITH_ALL, {1: "gpscover 3"})), "yes 3"
+    yield "no epochs, by pairs", "judge", text(["gpscover 3", WITH_ALL[1]]), "yes 0"
+    for more, step, *answers in TWO_RANGES:
+        length = 20000000000000 + more
+        row = ONE_BOX[3].replace("G01", "G02").replace(" 20000000000000 20000000000000 -", f" {length} {length} -")
+        for version, answer in zip((1, 3), answers):
+            lines = changed(ONE_BOX, {1: f"gpscover {version}", 5: row, 9: step})
+            yield f"version {version}, {more} um more, {step}", "judge", text(lines), answer
+
+
 def verdicts():
     """Verdicts on the log with all kinds of lines."""
     yield "with all, as it is", "judge", text(WITH_ALL), "yes 3"
@@ -240,7 +263,8 @@ def verdicts():
 # ---- refusals of the log with all kinds of lines
 
 WRONG_HEADS = {
-    1: ("gpscover 2", "gpscover 1 ", " gpscover 1", "gpscover  1", "gpscover 01", "gpscover", "Gpscover 1", ""),
+    1: ("gpscover 2", "gpscover 1 ", " gpscover 1", "gpscover  1", "gpscover 01", "gpscover", "Gpscover 1", "",
+        "gpscover 3 ", "gpscover 03", "gpscover 4", "gpscover 13", "gpscover 1 3", "gpscover -3"),
     2: ("rules 9 3 1000000", "rules 1 200001 1000000", "rules 1 3 999", "rules 1 3 10000000001", "rules 1 3",
         "rules 1 3 1000000 0", "rules -1 3 1000000", "rules 01 3 1000000", "rules 1 3 1000000 ", "rule 1 3 1000", ""),
 }
@@ -440,6 +464,7 @@ def checked_logs(files):
     for place in 1, 2, 3:
         for by in 1, -1:
             yield "other rules", files.stepped(2, place, by), "no 50 RulesDiffer line 2"
+    yield "another version", put(lines, 1, "gpscover 3"), "no 50 RulesDiffer line 2"
     for head in files.heads:
         for place in 1, 2:
             yield "another index or time", files.stepped(head, place, 1), f"no 51 EpochDiffers line {head}"
@@ -533,7 +558,10 @@ def step_logs(files, lines):
 
 
 def checked_rules(files):
-    """61 and 62 by `check`, whose rules are those of the settings: the settings are changed with them."""
+    """50, 61 and 62 by `check`, whose rules are those of the settings: the settings are changed with them."""
+    by_pairs = re.sub(r"(?m)^(max_age = .*)$", r"\1\npairs = true", files.settings)
+    yield by_pairs, files.lines, "no 50 RulesDiffer line 2"
+    yield by_pairs, put(files.lines, 1, "gpscover 3"), f"yes {files.boxes}"
     side = files.number(files.root, 4) - files.number(files.root, 1)
     splits = [at for at, line in enumerate(files.lines, 1) if line.startswith("split ")]
     less = files.number(2, 2) - 1  # than the first epoch has
@@ -599,7 +627,7 @@ def main(program):
     files = Files()
     with tempfile.TemporaryDirectory() as folder:
         runner = Runner(os.path.abspath(program), folder, files)
-        for table in one_box_logs(), verdicts(), refusals(), refused_rows():
+        for table in one_box_logs(), pair_logs(), verdicts(), refusals(), refused_rows():
             for row in table:
                 runner.expect(Forged(*row))
         for name, lines, answer in checked_logs(files):

@@ -3,8 +3,8 @@
 
 usage: guide.py [--write]
 
-Run it at the top of a fresh clone where ./gpscover is built and convbin and parallel are installed: the commands leave
-their files there. A block of commands is a frame `sh`; where a plain frame comes right behind it, that is its output,
+Run it at the top of a fresh clone where ./gpscover is built, and convbin, rnx2rtkp and parallel are installed, and
+matplotlib and pandas for the python3 of the path: the commands leave their files there. A block of commands is a frame `sh`; where a plain frame comes right behind it, that is its output,
 standard error included. A block that names receiver.ubx, a raw file of the user's, isn't run. With --write the page gets
 what was printed.
 

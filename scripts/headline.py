@@ -104,9 +104,9 @@ LINKS = (
     (
         "What the equations allow",
         "One whole number for each printed equation of IS-GPS-200, from the codes to the range. The equations themselves are"
-        " in `Pseudorange`, `ClockChain`, `MeanMotion`, `OrbitChain` and `Turn` of `crates/sat_model/specs`, and which"
+        " in `Pseudorange`, `ClockChain`, `MeanMotion`, `OrbitChain` and `Turn` of `crates/gnss_model/specs`, and which"
         " satellites are usable in `crates/usable_sats/specs/Usability.antt`.",
-        (("crates/sat_rows/specs/Chains.antt", "IsChainAt"), ("crates/sat_model/specs/ChainValues.antt", "ChainValue")),
+        (("crates/sat_rows/specs/Chains.antt", "IsChainAt"), ("crates/gnss_model/specs/ChainValues.antt", "ChainValue")),
     ),
     (
         "Every log that `solve` completes is one that `check` accepts",

@@ -8,16 +8,23 @@ satellite every 30 s, with noise of up to 2 m and one outlier of 500 m an epoch,
 computed anew with floating-point numbers, by the equations of IS-GPS-200 alone. GPSCOVER (./gpscover) solves them from
 FOLDER, or from a folder that is removed at the end, and checks its log. Then the place has to lie in a box that was kept
 of each epoch, at a clock span that holds 0. What is printed are the sums of the report's totals, in the form of `make`,
-and whether `make` prints the same. The program compares intervals and not numbers, so it may take the next mm for a code, and
-then the second line may differ; of a hundred seeds it differed in none.
+and whether `make` prints the same.
 
-Exit status: 0; 1 where a run fails, the place isn't held or the first line of `make` is another; 2 for a wrong command
-line.
+A code is the greatest in whole mm whose residual isn't above its noise. The program compares an interval, some um wide, and
+takes a code where the low end isn't above. So where the residual of the next mm is hardly above the noise it takes that
+one. Then a few boxes may differ, and the second line of `make` with them (so it is for seed 516 with 5 epochs, and for
+several of a hundred seeds with many epochs). Where no code has a next residual within 10 um above its noise, the second line
+has to be the same. Where some have, it is compared with the sums of the files in which the nearest of them is the next mm,
+the two nearest, and so on; where one alone has, it has to be one of the two.
+
+Exit status: 0; 1 where a run fails, the place isn't held, or a line of `make` is another that has to be the same; 2 for a
+wrong command line.
 """
 import argparse
 import math
 import subprocess
 import tempfile
+from dataclasses import dataclass
 from pathlib import Path
 
 from coverlog import UM_PER_M, LogError, epochs, run_tool
@@ -28,6 +35,7 @@ TOE, ROOT_AXIS, INCLINATION, PERIGEE, NODE_RATE, GROUP_DELAY = 7200.0, 5153.6, 0
 # The time of the first epoch in s of the week, and what is between two.
 START, STEP = 3600, 30
 SATELLITES, NOISE_MM, OUTLIER_MM = range(1, 9), 2000, 500_000
+NEAR_MM = 0.010  # a next residual that is less above the noise leaves two mm to choose from
 
 LABELS = {
     "obs": [
@@ -71,6 +79,20 @@ def draws(state):
 
 # ---- a satellite
 
+@dataclass
+class Code:
+    """A made code."""
+
+    epoch: int  # from 0
+    satellite: int
+    mm: int
+    above: float  # how far the residual of the next mm is above the noise, in mm
+
+    def words(self):
+        """Which code it is."""
+        return f"G{self.satellite:02} in epoch {self.epoch + 1}"
+
+
 class Satellite:
     """A made satellite: the eight lines of its record, and what the user algorithm gives for it."""
 
@@ -100,6 +122,12 @@ class Satellite:
                 high = middle
         return low
 
+    def code_of(self, receiver, index, noise_mm):
+        """The code of an epoch, counted from 0."""
+        tag = START + STEP * index
+        mm = self.code(receiver, tag, noise_mm)
+        return Code(index, self.number, mm, self.residual(receiver, tag, (mm + 1) / 1000) * 1000 - noise_mm)
+
 
 def record_lines(number, mean):
     """The lines of a satellite's navigation record, with its mean anomaly at the ephemeris time."""
@@ -123,35 +151,48 @@ def field(value):
 
 # ---- the files
 
-def epoch_lines(index, receiver, satellites, draw):
-    """The lines of an epoch, counted from 0."""
-    tag = START + STEP * index
-    minutes, second = divmod(tag, 60)
-    lines = [f"> 2024 01 07 {minutes // 60:02} {minutes % 60:02} {second:2}.0000000  0  8"]
+def epoch_codes(index, receiver, satellites, draw):
+    """The codes of an epoch, counted from 0."""
     for satellite in satellites:
         outlier = OUTLIER_MM if satellite.number == 1 + index % 8 else 0
-        noise = draw(2 * NOISE_MM + 1) - NOISE_MM + outlier
-        mm = satellite.code(receiver, tag, noise)
-        code = f"{mm // 1000}.{mm % 1000:03}"
-        lines.append(f"G{satellite.number:02}{code:>14}")
-    return lines
+        yield satellite.code_of(receiver, index, draw(2 * NOISE_MM + 1) - NOISE_MM + outlier)
 
 
-def made(seed, count):
-    """The texts of the three files by their ending, and the place in m."""
-    draw = draws(seed)
-    receiver = [least + draw(1000) for least in (4_000_000, 3_000_000, 3_900_000)]
-    satellites = [Satellite(number, draw(100)) for number in SATELLITES]
-    head = {kind: [text.ljust(60) + label for text, label in lines] for kind, lines in LABELS.items()}
-    obs = [line for index in range(count) for line in epoch_lines(index, receiver, satellites, draw)]
-    nav = [line for satellite in satellites for line in satellite.record]
-    centre = [1000 * (axis + aside) for axis, aside in zip(receiver, (7, -5, 3))]
-    texts = {
-        "obs": "".join(line + "\n" for line in head["obs"] + obs),
-        "nav": "".join(line + "\n" for line in head["nav"] + nav),
-        "toml": SETTINGS.format(*centre),
-    }
-    return texts, receiver
+def epoch_lines(index, codes, raised):
+    """The lines of an epoch, with the next mm of some codes."""
+    minutes, second = divmod(START + STEP * index, 60)
+    yield f"> 2024 01 07 {minutes // 60:02} {minutes % 60:02} {second:2}.0000000  0  8"
+    for code in codes:
+        mm = code.mm + (code in raised)
+        text = f"{mm // 1000}.{mm % 1000:03}"
+        yield f"G{code.satellite:02}{text:>14}"
+
+
+class Made:
+    """The receiver, its satellites and their codes."""
+
+    def __init__(self, seed, count):
+        draw = draws(seed)
+        self.receiver = [least + draw(1000) for least in (4_000_000, 3_000_000, 3_900_000)]
+        self.satellites = [Satellite(number, draw(100)) for number in SATELLITES]
+        self.epochs = [list(epoch_codes(index, self.receiver, self.satellites, draw)) for index in range(count)]
+
+    def doubtful(self):
+        """The codes of which the program may take the next mm, the most doubtful first."""
+        near = (code for codes in self.epochs for code in codes if code.above < NEAR_MM)
+        return sorted(near, key=lambda code: code.above)
+
+    def texts(self, raised=()):
+        """The texts of the three files by their ending, with the next mm of some codes."""
+        head = {kind: [text.ljust(60) + label for text, label in lines] for kind, lines in LABELS.items()}
+        obs = [line for index, codes in enumerate(self.epochs) for line in epoch_lines(index, codes, raised)]
+        nav = [line for satellite in self.satellites for line in satellite.record]
+        centre = [1000 * (axis + aside) for axis, aside in zip(self.receiver, (7, -5, 3))]
+        return {
+            "obs": "".join(line + "\n" for line in head["obs"] + obs),
+            "nav": "".join(line + "\n" for line in head["nav"] + nav),
+            "toml": SETTINGS.format(*centre),
+        }
 
 
 # ---- the runs
@@ -173,32 +214,51 @@ def is_held(epoch, receiver):
     )
 
 
-def sums(seed, count, usable, report):
-    """The two lines of `make`, from the totals of a report."""
+def sums(report):
+    """The second line of `make`, from the totals of a report."""
     totals = [line.split() for line in report.splitlines() if line.startswith("total ")]
     inside, edge, out, splits = (sum(int(words[k]) for words in totals) for k in (2, 4, 6, 8))
-    first = f"made seed {seed} epochs {count} satellites {usable}\n"
-    return first + f"boxes in {inside} edge {edge} out {out} bisections {splits}\n"
+    return f"boxes in {inside} edge {edge} out {out} bisections {splits}"
+
+
+def solve(program, folder, texts):
+    """Writes files into a folder and has them solved: the report, and the names with that of the log."""
+    for kind, text in texts.items():
+        (folder / f"made.{kind}").write_text(text, encoding="ascii", newline="\n")
+    files = [str(folder / f"made.{kind}") for kind in ("obs", "nav", "toml", "log")]
+    return run([program, "solve", *files]), files
+
+
+def compared(program, made, printed, own):
+    """Whether the second line of `make` is the own one, or that of files with the next mm of doubtful codes."""
+    if printed == own:
+        return "make prints the same"
+    doubtful = made.doubtful()
+    with tempfile.TemporaryDirectory() as room:
+        for count in range(1, len(doubtful) + 1):
+            report, _ = solve(program, Path(room), made.texts(doubtful[:count]))
+            if sums(report) == printed:
+                return f"make prints the sums with the next mm for {', '.join(code.words() for code in doubtful[:count])}"
+    if len(doubtful) < 2:
+        raise LogError(f"make prints {printed!r}, and {len(doubtful)} codes are doubtful")
+    return f"make prints another second line; {len(doubtful)} codes are doubtful"
 
 
 def solve_and_check(program, folder, seed, count):
     """Writes the files into a folder, runs the program on them, and gives the lines to print."""
-    texts, receiver = made(seed, count)
-    for kind, text in texts.items():
-        (folder / f"made.{kind}").write_text(text, encoding="ascii", newline="\n")
-    files = [str(folder / f"made.{kind}") for kind in ("obs", "nav", "toml", "log")]
-    report = run([program, "solve", *files])
+    made = Made(seed, count)
+    report, files = solve(program, folder, made.texts())
     verdict = run([program, "check", *files])
     found = list(epochs(files[-1]))
-    lost = [epoch.index for epoch in found if not is_held(epoch, receiver)]
+    lost = [epoch.index for epoch in found if not is_held(epoch, made.receiver)]
     if len(found) != count or lost:
         raise LogError(f"of {count} epochs {len(found)} are in the log, and these don't hold the place: {lost}")
-    lines = sums(seed, count, sum(epoch.satellites for epoch in found), report)
-    printed = run([program, "make", str(seed), str(count)])
-    if printed.splitlines()[0] != lines.splitlines()[0]:
-        raise LogError(f"make prints {printed.splitlines()[0]!r}")
-    same = "the same" if printed == lines else "another second line"
-    return f"{lines}{verdict}the place is held in each epoch; make prints {same}"
+    first = f"made seed {seed} epochs {count} satellites {sum(epoch.satellites for epoch in found)}"
+    printed = run([program, "make", str(seed), str(count)]).splitlines()
+    if printed[0] != first:
+        raise LogError(f"make prints {printed[0]!r}")
+    same = compared(program, made, printed[1], sums(report))
+    return f"{first}\n{sums(report)}\n{verdict}the place is held in each epoch; {same}"
 
 
 def arguments():

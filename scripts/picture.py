@@ -3,17 +3,22 @@
 
 usage: picture.py region LOG OUT [--epoch N] [--place X Y Z] [--places FILE] [--note TEXT]
        picture.py time LOG OUT [--places FILE] [--moving] [--note TEXT]
+       picture.py integrity LOG OUT --places FILE [--limit H V] [--note TEXT]
 
 `region` draws one epoch (1) from above, east and north, and from the side, east and up, at one scale: the kept boxes as
-they are, inner ones over those at the edge. A place in metres in the earth-fixed frame, or that of the epoch in a list
-of places, is a cross and the origin; without one the origin is the middle of the kept boxes.
+they are, inner ones over those at the edge. Those on a face of the search box, where the region may go on outside, have
+a colour of their own. A place in metres in the earth-fixed frame, or that of the epoch in a list of places, is a cross
+and the origin; without one the origin is the middle of the kept boxes. The title has the splits of the epoch.
 
-`time` draws how far the region reaches along east, north and up in each epoch, beside a list of places. The origin is
-the first place, with --moving the place of each epoch, and without a list the middle of the first region.
+`time` draws how far the region reaches along east, north and up in each epoch, beside a list of places. Epochs whose
+region reaches the search box, and those without a region, have colours of their own. The origin is the first place, with
+--moving the place of each epoch, and without a list the middle of the first region.
 
-FILE has a place on a line: GPS seconds, or date and time of day as 2008/05/26 05:59:30.000, and x, y, z in metres, as
-the solutions of RTKLIB in the earth-fixed frame have them; what follows isn't read, nor are lines that begin with % or #.
-A place belongs to the epoch within 0.1 s of it.
+`integrity` draws an epoch as a point, as the Stanford diagram does, along the ground and up: how far the region's middle
+is from the known place, and how far its farthest corner is from its middle, which is the protection. Below the diagonal
+the region is misleading. --limit has two alert limits in metres along the ground and up.
+
+FILE has a place on a line, as places.py says. One that shares no time with the log is refused.
 
 Needs matplotlib, which Debian installs by `apt-get install python3-matplotlib` for /usr/bin/python3.
 
@@ -21,16 +26,17 @@ Exit status: 0; 1 where a file can't be read or written, or matplotlib isn't the
 wrong command line.
 """
 import argparse
-import datetime
 import math
 import sys
 
 from coverlog import PS_PER_MS, UM_PER_M, LogError, calendar, epochs, run_tool, run_way
-from region import region_of, upward
+from integrity import Judge, Limits, alert_limit
+from places import Meetings, read_places
+from region import hull_of, region_of, touched_faces, upward
 from wgs84 import geodetic, local_axes
 
 EDGE_COLOUR, INNER_COLOUR, PLACE_COLOUR, BAND_COLOUR = "#f4b183", "#548235", "#c00000", "#9dc3e6"
-NEAR_PS = 100 * PS_PER_MS
+CUT_COLOUR, EMPTY_COLOUR, LIMIT_COLOUR = "#b36bd4", "#d9d9d9", "#404040"
 MANY_BOXES = 500  # in an SVG more than these are drawn as dots, so that the file stays small
 DIRECTIONS = (("east", "north"), ("east", "up"))
 LONGEST_IN = 6.5  # the longest side of what is drawn, in inches
@@ -48,43 +54,6 @@ def tools():
         raise LogError(f"{sys.executable} has no matplotlib; Debian: apt-get install python3-matplotlib, "
                        "then /usr/bin/python3 picture.py ..") from None
     return pyplot, collections
-
-
-def place_line(line):
-    """The time in ps and the point of a line of a list of places."""
-    words = line.split()
-    if "/" in words[0]:
-        when = datetime.datetime.strptime(f"{words[0]} {words[1]}", "%Y/%m/%d %H:%M:%S.%f")
-        ps = (when - datetime.datetime(1980, 1, 6)) // datetime.timedelta(microseconds=1) * UM_PER_M
-        words = words[1:]
-    else:
-        ps = round(float(words[0]) * 1000) * PS_PER_MS
-    return ps, tuple(float(word) for word in words[1:4])
-
-
-def read_places(path):
-    """The places of a file: (time in ps, (x, y, z) in m) in order of time."""
-    places = []
-    with open(path, encoding="utf-8", errors="replace") as file:
-        for number, line in enumerate(file, 1):
-            if line.strip() and line[0] not in "%#":
-                try:
-                    places.append(place_line(line))
-                    if len(places[-1][1]) != 3:
-                        raise ValueError
-                except (ValueError, IndexError):
-                    raise LogError(f"{path} line {number}: no time and place") from None
-    if not places:
-        raise LogError(f"{path} has no places")
-    return sorted(places)
-
-
-def place_at(places, time):
-    """The place within 0.1 s of a time in ps, or None."""
-    if not places:
-        return None
-    when, point = min(places, key=lambda place: abs(place[0] - time))
-    return point if abs(when - time) <= NEAR_PS else None
 
 
 def box_polygons(boxes, origin, first, second):
@@ -108,11 +77,21 @@ def box_polygons(boxes, origin, first, second):
     return numpy.concatenate([start[:, None], start[:, None] + numpy.cumsum(steps, axis=1)], axis=1)
 
 
+def box_kinds(epoch):
+    """The kept boxes by their colours: those on a face of the search box, the others at the edge, and inner ones."""
+    cut = {kept.box for kept in epoch.kept if touched_faces(kept.box, epoch.root)}
+    edge, inner = ([kept.box for kept in epoch.kept if kept.inner == it and kept.box not in cut] for it in (False, True))
+    return (
+        (sorted(cut), CUT_COLOUR, "boxes on a face of the search box"),
+        (edge, EDGE_COLOUR, "edge boxes"),
+        (inner, INNER_COLOUR, "in boxes"),
+    )
+
+
 def draw_boxes(axes, collections, epoch, region, pair, is_vector):
     """Draws the kept boxes of an epoch in the plane of two directions."""
     vectors = dict(zip(("east", "north", "up"), region.axes))
-    for inner, colour, name in ((False, EDGE_COLOUR, "edge boxes"), (True, INNER_COLOUR, "in boxes")):
-        boxes = [kept.box for kept in epoch.kept if kept.inner == inner]
+    for boxes, colour, name in box_kinds(epoch):
         if boxes:
             polygons = box_polygons(boxes, region.origin, vectors[pair[0]], vectors[pair[1]])
             axes.add_collection(collections.PolyCollection(
@@ -130,11 +109,13 @@ def limits_of(region, name, with_place):
 
 
 def region_title(epoch, region):
-    """Two lines: which epoch it is, and its extents, rounded up."""
+    """Two lines: which epoch it is and by which rules, and its extents, rounded up. A third where the box cuts it."""
     east, north, up = (upward(width) for width in region.widths())
+    cut = f"\nreaches the search box at {' '.join(region.faces)}: it may go on outside" if region.faces else ""
     return (
-        f"epoch {epoch.index}, {calendar(epoch.time)} GPS time, {epoch.satellites} satellites, q = {epoch.outliers}\n"
-        f"east {east:.1f} m, north {north:.1f} m, up {up:.1f} m"
+        f"epoch {epoch.index}, {calendar(epoch.time)} GPS time, {epoch.satellites} satellites, q = {epoch.outliers},"
+        f" {epoch.splits:,} splits\n"
+        f"east {east:.1f} m, north {north:.1f} m, up {up:.1f} m{cut}"
     )
 
 
@@ -194,9 +175,9 @@ def run_region(args):
     epoch = chosen_epoch(args.log, args.epoch)
     place = tuple(args.place) if args.place else None
     if args.places:
-        place = place_at(read_places(args.places), epoch.time)
-        if place is None:
-            raise LogError(f"{args.places} has no place within 0.1 s of {calendar(epoch.time)}")
+        meetings = Meetings(args.places, read_places(args.places))
+        place = meetings.at(epoch.time)
+        meetings.refuse_strangers(f"epoch {epoch.index}")
     draw_region(epoch, place, args.out, args.note)
 
 
@@ -209,10 +190,11 @@ def offset(origin, axes, point):
 class Course:
     """The extents of the epochs and the places, along the axes at an origin."""
 
-    def __init__(self, places, moving):
-        self.places, self.moving = places, moving
+    def __init__(self, meetings, moving):
+        self.meetings, self.moving = meetings, moving
         self.origin = None  # one for all epochs, in m
         self.times, self.extents, self.known = [], [], []
+        self.cut, self.empty = [], []  # whether the region reaches the search box, and whether no position fits
 
     def origin_for(self, epoch, place):
         """Where the axes of an epoch stand."""
@@ -224,32 +206,68 @@ class Course:
 
     def add(self, epoch):
         """Adds an epoch: a gap where it has no region, or where it moves and its place isn't known."""
-        place = place_at(self.places, epoch.time)
+        place = self.meetings.at(epoch.time)
         origin = self.origin_for(epoch, place) if epoch.kept else None
+        region = region_of(epoch, origin) if origin is not None else None
         self.times.append(epoch.time / 1e12)
-        self.extents.append(region_of(epoch, origin).extents if origin is not None else ((math.nan, math.nan),) * 3)
+        self.extents.append(region.extents if region is not None else ((math.nan, math.nan),) * 3)
+        self.cut.append(bool(epoch.kept) and bool(touched_faces(hull_of([kept.box for kept in epoch.kept]), epoch.root)))
+        self.empty.append(not epoch.few and not epoch.kept)
         known = (math.nan,) * 3
         if place is not None and origin is not None:
             known = offset(origin, local_axes(*geodetic(origin)[:2]), place)
         self.known.append(known)
+
+    def title(self):
+        """How many epochs there are, and how many have a colour of their own."""
+        return f"{len(self.times)} epochs; {sum(self.cut)} reach the search box, {sum(self.empty)} are empty"
+
+
+def edges_of(times):
+    """Where the band of each epoch begins and ends: half-way to its neighbours."""
+    if len(times) == 1:
+        return [(times[0] - 0.5, times[0] + 0.5)]
+    middles = [(a + b) / 2 for a, b in zip(times, times[1:])]
+    starts = [2 * times[0] - middles[0], *middles]
+    return list(zip(starts, [*middles, 2 * times[-1] - middles[-1]]))
+
+
+def bands(edges, spans, wanted):
+    """The corners of the wanted epochs' bands, with gaps between them where one isn't wanted: x, low, high."""
+    points = []
+    for (start, end), (low, high), is_wanted in zip(edges, spans, wanted):
+        points += [(start, low, high), (end, low, high)] if is_wanted else [(start, math.nan, math.nan)]
+    return list(zip(*points))
+
+
+def draw_bands(axes, course, edges, spans):
+    """Draws the extents along one axis, and where there are none."""
+    whole = [not cut for cut in course.cut]
+    axes.fill_between(*bands(edges, spans, whole), color=BAND_COLOUR, linewidth=0, label="the region's extents")
+    if any(course.cut):
+        axes.fill_between(*bands(edges, spans, course.cut), color=CUT_COLOUR, linewidth=0, label="cut by the search box")
+    if any(course.empty):
+        everywhere = bands(edges, [(0, 1)] * len(edges), course.empty)
+        axes.fill_between(*everywhere, color=EMPTY_COLOUR, linewidth=0, transform=axes.get_xaxis_transform(),
+                          label="no position fits")
 
 
 def draw_course(course, out, note):
     """Draws the extents over time: three panels, one below the other."""
     pyplot, _ = tools()
     times = [time - course.times[0] for time in course.times]
+    edges = edges_of(times)
     figure, panels = pyplot.subplots(3, 1, figsize=(9, 8), sharex=True)
     for k, (axes, name) in enumerate(zip(panels, ("east", "north", "up"))):
-        lows, highs = zip(*(extents[k] for extents in course.extents))
-        axes.fill_between(times, lows, highs, step="mid", color=BAND_COLOUR, label="the region's extents")
-        if course.places:
+        draw_bands(axes, course, edges, [extents[k] for extents in course.extents])
+        if course.meetings.places:
             axes.plot(times, [known[k] for known in course.known], color=PLACE_COLOUR, linewidth=1, label="known places")
         axes.set_ylabel(f"{name}, m")
         axes.grid(alpha=0.3)
     panels[-1].set_xlabel(f"s since {calendar(round(course.times[0] * 1000) * PS_PER_MS)} GPS time")
-    figure.suptitle(f"{len(times)} epochs" + (f"\n{note}" if note else ""), fontsize=11)
+    figure.suptitle(course.title() + (f"\n{note}" if note else ""), fontsize=11)
     handles, labels = panels[0].get_legend_handles_labels()
-    figure.legend(handles, labels, loc="lower center", ncol=2, fontsize=9, frameon=False)
+    figure.legend(handles, labels, loc="lower center", ncol=len(handles), fontsize=9, frameon=False)
     figure.tight_layout(rect=(0, 0.04, 1, 1))
     save(figure, out)
 
@@ -259,12 +277,85 @@ def run_time(args):
     places = read_places(args.places) if args.places else []
     if args.moving and not places:
         raise LogError("--moving needs --places")
-    course = Course(places, args.moving)
+    course = Course(Meetings(args.places, places), args.moving)
     for epoch in epochs(args.log):
         course.add(epoch)
+    course.meetings.refuse_strangers()
     if all(math.isnan(extents[0][0]) for extents in course.extents):
         raise LogError(f"{args.log} has no region to draw" + (" at a known place" if places else ""))
     draw_course(course, args.out, args.note)
+
+
+POINTS = (  # what a point of the diagram is, and its colour; the first that it is
+    ("the place isn't in the region", PLACE_COLOUR),
+    ("the search box cuts the region", CUT_COLOUR),
+    ("the region holds the place", INNER_COLOUR),
+)
+
+
+def point_kind(numbers, cut):
+    """Which of POINTS an epoch is."""
+    return POINTS[0] if not numbers.held else POINTS[1] if cut else POINTS[2]
+
+
+def diagram_end(points, limit, k):
+    """How far both axes of a panel reach."""
+    lengths = [length for numbers, _ in points for length in (numbers.error[k], numbers.reach[k])]
+    return 1.08 * max(lengths + ([limit] if limit is not None else []))
+
+
+def draw_diagram(axes, points, k, limit):
+    """Draws one panel: the error across and the protection up, with the diagonal and the limit."""
+    end = diagram_end(points, limit, k)
+    axes.fill_between([0, end], [0, end], color=PLACE_COLOUR, alpha=0.10, linewidth=0)
+    area = "misleading" if limit is None else "misleading; hazardous where dark"
+    axes.text(0.97 * end, 0.03 * end, area, ha="right", va="bottom", color=PLACE_COLOUR, fontsize=9)
+    for name, colour in POINTS:
+        shown = [it for it, cut in points if point_kind(it, cut) == (name, colour)]
+        if shown:
+            axes.scatter([it.error[k] for it in shown], [it.reach[k] for it in shown], s=14, color=colour, linewidths=0,
+                         label=f"{len(shown)}: {name}", zorder=3)
+    if limit is not None:
+        axes.axhline(limit, color=LIMIT_COLOUR, linewidth=1, linestyle="--")
+        axes.axvline(limit, color=LIMIT_COLOUR, linewidth=1, linestyle="--")
+        axes.fill_between([limit, end], [limit, limit], color=PLACE_COLOUR, alpha=0.25, linewidth=0)
+        axes.text(0.97 * end, limit, f"unavailable above {limit:g} m", ha="right", va="bottom", color=LIMIT_COLOUR, fontsize=9)
+    axes.set_xlim(0, end)
+    axes.set_ylim(0, end)
+    axes.set_aspect("equal")
+    axes.grid(alpha=0.3)
+
+
+def draw_integrity(judge, points, out, note):
+    """Draws the errors and the protections along the ground and up."""
+    pyplot, _ = tools()
+    figure, panels = pyplot.subplots(1, 2, figsize=(10, 6))
+    limits = (None, None) if judge.limits is None else (judge.limits.horizontal, judge.limits.vertical)
+    for k, (axes, name) in enumerate(zip(panels, ("along the ground", "up or down"))):
+        draw_diagram(axes, points, k, limits[k])
+        axes.set_xlabel(f"error of the region's middle {name}, m")
+        axes.set_ylabel(f"protection {name}, m")
+    title = [judge.held_line(), *judge.limit_lines(), "of declared bounds, not of a probability"] + ([note] if note else [])
+    figure.suptitle("\n".join(title), fontsize=10)
+    handles, labels = panels[0].get_legend_handles_labels()
+    figure.legend(handles, labels, loc="lower center", ncol=len(handles), fontsize=9, frameon=False)
+    figure.tight_layout(rect=(0, 0.07, 1, 1))
+    save(figure, out)
+
+
+def run_integrity(args):
+    """Draws errors against protection."""
+    limits = Limits(*args.limit) if args.limit else None
+    judge, points = Judge(Meetings(args.places, read_places(args.places)), limits=limits), []
+    for epoch in epochs(args.log):
+        region = region_of(epoch) if epoch.kept else None
+        numbers = judge.add(epoch, region)
+        if numbers is not None:
+            points.append((numbers, bool(region.faces)))
+    judge.meetings.refuse_strangers()
+    if not points:
+        raise LogError(f"{args.log} has no region at a known place")
+    draw_integrity(judge, points, args.out, args.note)
 
 
 def ends_well(name):
@@ -280,15 +371,18 @@ def arguments():
     ways = parser.add_subparsers(required=True)
     region = ways.add_parser("region", help="one epoch, from above and from the side")
     time = ways.add_parser("time", help="the extents over time")
-    for way, work in ((region, run_region), (time, run_time)):
+    integrity = ways.add_parser("integrity", help="the error against the protection at known places")
+    for way, work in ((region, run_region), (time, run_time), (integrity, run_integrity)):
         way.add_argument("log", metavar="LOG")
         way.add_argument("out", metavar="OUT", type=ends_well)
-        way.add_argument("--places", metavar="FILE", help="a list of known places")
+        way.add_argument("--places", metavar="FILE", required=way is integrity, help="a list of known places")
         way.add_argument("--note", metavar="TEXT", help="a further line of the title")
         way.set_defaults(work=work)
     region.add_argument("--epoch", type=int, default=1, metavar="N", help="the epoch's number in the log (1)")
     region.add_argument("--place", type=float, nargs=3, metavar=("X", "Y", "Z"), help="a known place, m")
     time.add_argument("--moving", action="store_true", help="round the place of each epoch")
+    integrity.add_argument("--limit", type=alert_limit, nargs=2, metavar=("H", "V"),
+                           help="alert limits along the ground and up, m")
     return parser.parse_args()
 
 

@@ -312,6 +312,10 @@ class RealFiles(unittest.TestCase):
             said = made_files.solve_and_check(self.program, self.folder, seed, count)
             self.assertTrue(said.startswith(f"made seed {seed} epochs {count} satellites {8 * count}\n"), said)
 
+    def test_a_made_code_that_meets_its_noise_may_be_the_next_mm(self):
+        said = made_files.solve_and_check(self.program, self.folder, 516, 5)
+        self.assertIn("make prints the sums with the next mm for G08 in epoch 4", said)
+
     # ---- 2
 
     def test_words_that_are_no_command(self):

@@ -1,7 +1,8 @@
 #!/usr/bin/env python3
 """Prints a line for each epoch of a log of gpscover, and what an empty or a cut region hides.
 
-usage: summary.py LOG [--csv | --box] [--kml FILE]
+usage: summary.py LOG [--csv | --box] [--kml FILE] [--strict]
+                  [--places FILE [--azimuth A | --along FILE] [--limit H V]]
 
 A line has the epoch's number, its time of reception by the receiver's clock as a GPS date, the usable satellites, the
 numbers of in and edge boxes, how far these boxes reach along local east, north and up (from their corners) and in the
@@ -10,12 +11,25 @@ ellipsoid (metres) of the middle. A mark behind it says
   few      too few usable satellites, so the epoch isn't paved
   empty    no position fits: more satellites than allowed broke their bounds, or the receiver was outside the box
   reaches  a kept box lies on the named faces of the search box, so the region may go on outside
+Epochs with a mark are warned of at the end.
 
---csv prints the same as comma-separated values. --box prints the least search box that holds the kept boxes of all
-epochs, as lines of the settings. --kml writes each region's outline for a map.
+--csv prints the same as comma-separated values, with the mark `ok` where there is none. --box prints the least search
+box that holds the kept boxes of all epochs, as lines of the settings. Both print the warnings on standard error. With
+--strict the status is 3 where there is a warning. --kml writes each epoch for a map: its time, its region's outline at
+the least and the greatest height, and a style by its mark (kml.py).
+
+--places names a list of known places (places.py says its form). A line says then whether the place is in a kept box, and
+has the farthest corner of the boxes from it along the ground (hpl_m) and up or down (vpl_m), and along and across a
+direction: --azimuth is one in degrees clockwise from north, --along a track, as a list of places. These are lengths of
+the declared bounds, not of a probability. With --limit, two lengths in metres along the ground and up, it counts as an
+integrity diagram does, with the region's middle as the reported position and the farthest corner from it as protection:
+  available   the protection is within both limits, and the region doesn't reach the search box
+  misleading  the region doesn't hold the known place
+  hazardous   it is available, and the middle is farther from the place than a limit
 The log is read as it stands: `gpscover check` says whether it is right.
 
-Exit status: 0; 1 where a file can't be read or written, or LOG is no whole log; 2 for a wrong command line.
+Exit status: 0; 1 where a file can't be read or written, or LOG is no whole log, or shares no time with the places; 2 for
+a wrong command line; 3 where --strict is given and there is a warning.
 """
 import argparse
 import csv
@@ -23,8 +37,10 @@ import math
 import sys
 from collections import Counter
 
+import kml
 from coverlog import PS_PER_MS, SKIPS, UM_PER_M, LogError, calendar, epochs, run_tool
-from outline import outline
+from integrity import Judge, Limits, alert_limit
+from places import Meetings, read_places
 from region import hull_of, region_of, upward
 from wgs84 import geodetic
 
@@ -32,14 +48,26 @@ HEAD = (
     f"{'epoch':>6}  {'GPS time':<23} {'sats':>4} {'in':>6} {'edge':>6} {'east m':>8} {'north m':>8} {'up m':>8}"
     f" {'clock m':>8} {'volume m3':>10} {'latitude':>12} {'longitude':>13} {'height m':>9}"
 )
+WIDTHS = (6, 6, 8, 8, 8, 8, 10, 12, 13, 9)  # of the columns from `in` on
 COLUMNS = (
     "epoch gps_time gps_seconds mark satellites in edge out splits east_m north_m up_m clock_low_m clock_high_m"
     " volume_m3 latitude_deg longitude_deg height_m x_m y_m z_m faces"
 ).split()
+PLACE_COLUMNS = (
+    "held hpl_m vpl_m horizontal_error_m vertical_error_m horizontal_reach_m vertical_reach_m"
+    " azimuth_deg along_m across_m available misleading hazardous"
+).split()
 OTHER_DAY = "; is the navigation file of another day?"
-HINTS = {"3": OTHER_DAY, "5": OTHER_DAY, "7": "; is the position in the header zero?"}  # by the reasons of SKIPS
+NO_CENTRE = "; is the position in the header zero, or search.centre in metres?"
+HINTS = {"3": OTHER_DAY, "5": OTHER_DAY, "7": NO_CENTRE}  # by the reasons of SKIPS
 EARTH_M = (6_300_000, 6_500_000)
 UM_PER_MM = 1000
+MOST_HALF_MM = 100_000_000  # the settings' limit
+LEFT = (
+    "or the receiver had left the search box; a box that a receiver leaves makes its regions small before they are empty,"
+    " so look at those before and behind too"
+)
+STRICT = 3  # the status of --strict where there is a warning
 
 
 def volume_text(volume):
@@ -56,27 +84,66 @@ def mark_of(epoch, region):
     return "reaches" if region.faces else ""
 
 
-def text_line(epoch, region, mark):
-    """The line of an epoch."""
+def text_cells(epoch, region):
+    """The values of an epoch as its line shows them, up to the mark; without a region the first three."""
+    cells = [str(epoch.index), calendar(epoch.time), str(epoch.satellites)]
+    if region is None:
+        return cells
     inner = sum(kept.inner for kept in epoch.kept)
-    head = f"{epoch.index:6}  {calendar(epoch.time):<23} {epoch.satellites:4}"
+    latitude, longitude, height = geodetic(region.middle())
+    cells += [str(inner), str(len(epoch.kept) - inner)]
+    cells += [f"{upward(width):.1f}" for width in (*region.widths(), region.clock[1] - region.clock[0])]
+    cells += [volume_text(region.volume), f"{math.degrees(latitude):.7f}", f"{math.degrees(longitude):.7f}"]
+    return cells + [f"{height:.1f}"]
+
+
+def place_head(judge):
+    """The columns that known places add."""
+    head = f" {'held':>4} {'hpl m':>8} {'vpl m':>8}"
+    return head + f" {'along m':>8} {'across m':>8}" if judge.has_direction else head
+
+
+def place_text(judge, found):
+    """What a line says of the known place."""
+    if found is None:
+        return " " * len(place_head(judge))
+    text = f" {'yes' if found.held else 'no':>4} {upward(found.hpl):8.1f} {upward(found.vpl):8.1f}"
+    if not judge.has_direction:
+        return text
+    pair = (found.along, found.across)
+    return text + "".join(" " * 9 if length is None else f" {upward(length):8.1f}" for length in pair)
+
+
+def text_line(epoch, region, mark, place=""):
+    """The line of an epoch, with what it says of a known place."""
+    number, time, satellites, *more = text_cells(epoch, region)
+    head = f"{number:>6}  {time:<23} {satellites:>4}"
     if region is None:
         return f"{head} {mark}"
-    latitude, longitude, height = geodetic(region.middle())
-    east, north, up = (upward(width) for width in region.widths())
-    clock = upward(region.clock[1] - region.clock[0])
-    return (
-        f"{head} {inner:6} {len(epoch.kept) - inner:6} {east:8.1f} {north:8.1f} {up:8.1f} {clock:8.1f}"
-        f" {volume_text(region.volume):>10} {math.degrees(latitude):12.7f} {math.degrees(longitude):13.7f} {height:9.1f}"
-        f" {mark} {' '.join(region.faces)}"
-    ).rstrip()
+    line = head + "".join(f" {cell:>{width}}" for cell, width in zip(more, WIDTHS))
+    return f"{line}{place} {mark} {' '.join(region.faces)}".rstrip()
+
+
+def place_values(judge, region, found):
+    """The values of an epoch in the order of PLACE_COLUMNS, empty where there is none."""
+    if found is None:
+        return [""] * len(PLACE_COLUMNS)
+    lengths = (found.hpl, found.vpl, *found.error, *found.reach)
+    line = [int(found.held)] + [f"{upward(length):.1f}" for length in lengths]
+    line += [""] * 3 if found.azimuth is None else [f"{math.degrees(found.azimuth) % 360:.3f}"] + [
+        f"{upward(length):.1f}" for length in (found.along, found.across)]
+    if judge.limits is None:
+        return line + ["", int(not found.held), ""]
+    cut = bool(region.faces)
+    available, hazardous = found.is_available(judge.limits, cut), found.is_hazardous(judge.limits, cut)
+    return line + [int(available), int(not found.held), int(hazardous)]
 
 
 def csv_line(epoch, region, mark):
     """The values of an epoch in the order of COLUMNS; those of a region are empty where there is none."""
     inner = sum(kept.inner for kept in epoch.kept)
     seconds, ms = divmod((epoch.time + PS_PER_MS // 2) // PS_PER_MS, 1000)
-    line = [epoch.index, calendar(epoch.time), f"{seconds}.{ms:03}", mark, epoch.satellites]
+    line = [epoch.index, calendar(epoch.time), f"{seconds}.{ms:03}", mark or "ok", epoch.satellites]
     line += [inner, len(epoch.kept) - inner, epoch.outs, epoch.splits]
     if region is None:
         return line + [""] * (len(COLUMNS) - len(line))
@@ -91,7 +158,8 @@ class Totals:
     """What the last lines say of all epochs."""
 
     def __init__(self):
-        self.epochs, self.marks, self.skips = 0, Counter(), Counter()
+        self.epochs, self.marks = 0, Counter()
+        self.skips = Counter()  # the reasons why satellites of few epochs aren't used
         self.hull = None  # of all kept boxes, in um
         self.half_side = self.from_centre = None  # of the last search box, in m
 
@@ -99,7 +167,8 @@ class Totals:
         """Counts an epoch."""
         self.epochs += 1
         self.marks[mark] += 1
-        self.skips.update(number for _, number in epoch.skips)
+        if epoch.few:
+            self.skips.update(number for _, number, _ in epoch.skips)
         if epoch.kept:
             self.hull = hull_of([kept.box for kept in epoch.kept] + ([self.hull] if self.hull else []))
         if epoch.root is not None:
@@ -107,32 +176,54 @@ class Totals:
             self.half_side = max(b - a for a, b in zip(low, high)) / 2 / UM_PER_M
             self.from_centre = math.hypot(*((a + b) / 2 for a, b in zip(low, high))) / UM_PER_M
 
-    def lines(self):
-        """The summing line, and a warning for what all epochs share."""
-        regions = self.marks[""] + self.marks["reaches"]
-        yield (
-            f"epochs {self.epochs}: {regions} with a region, of which {self.marks['reaches']} reach the search box;"
+    def line(self):
+        """The summing line."""
+        return (
+            f"epochs {self.epochs}: {self.regions} with a region, of which {self.marks['reaches']} reach the search box;"
             f" {self.marks['few']} few, {self.marks['empty']} empty"
         )
-        paved = self.epochs - self.marks["few"]
-        if self.epochs == 0:
-            yield "warning: the log has no epochs"
-        elif paved == 0:
-            yield f"warning: every epoch has too few usable satellites; {self.why_few()}"
-        elif self.marks["empty"] == paved:
-            yield f"warning: every paved epoch is empty; {self.why_empty()}"
-        elif self.marks["reaches"] == regions:
-            yield f"warning: every region reaches the search box; {self.why_reaches()}"
 
-    def box_lines(self):
-        """The least search box in whole mm that holds all kept boxes, as lines of the settings."""
+    @property
+    def regions(self):
+        """How many epochs have one."""
+        return self.marks[""] + self.marks["reaches"]
+
+    def warnings(self):
+        """What must not be passed over: each mark that there is, with its count."""
+        paved = self.epochs - self.marks["few"]
+        few, empty, reaches = (self.marks[mark] for mark in ("few", "empty", "reaches"))
+        if self.epochs == 0:
+            yield "the log has no epochs: is --from behind the last one of the file?"
+        if few and few == self.epochs:
+            yield f"every epoch has too few usable satellites; {self.why_few()}"
+        elif few:
+            yield f"{few} of {self.epochs} epochs have too few usable satellites; {self.why_few()}"
+        if empty and empty == paved:
+            yield f"every paved epoch is empty; {self.why_empty()}"
+        elif empty:
+            yield f"{empty} of {paved} paved epochs are empty: more satellites than allowed broke their bounds, {LEFT}"
+        if reaches and reaches == self.regions:
+            yield f"every region reaches the search box; {self.why_reaches()}"
+        elif reaches:
+            yield (
+                f"{reaches} of {self.regions} regions reach the search box, whose half side is {self.half_side:g} m:"
+                " they may go on outside, and look smaller than they are"
+            )
+
+    def box(self):
+        """The least search box that holds all kept boxes: its centre and its half sides in whole mm."""
         if self.hull is None:
             raise LogError("no epoch has a region")
         low = [end // UM_PER_MM for end in self.hull[:3]]
         high = [-(-end // UM_PER_MM) for end in self.hull[3:]]
         centre = [(a + b) // 2 for a, b in zip(low, high)]
+        return centre, [max(c - a, b - c) for a, b, c in zip(low, high, centre)]
+
+    def box_lines(self):
+        """That box as lines of the settings."""
+        centre, half = self.box()
         yield f"centre = {centre}"
-        yield f"half = {[max(c - a, b - c) for a, b, c in zip(low, high, centre)]}"
+        yield f"half = {half}"
 
     def why_few(self):
         """The most frequent reason why a satellite isn't used."""
@@ -143,6 +234,8 @@ class Totals:
 
     def why_empty(self):
         """Where the search box is, if it isn't at the earth's surface."""
+        if EARTH_M[0] < 1000 * self.from_centre < EARTH_M[1]:
+            return "is search.centre in metres, where millimetres are meant?"
         if not EARTH_M[0] < self.from_centre < EARTH_M[1]:
             return (
                 f"the search box is round a point {self.from_centre / 1000:.0f} km from the earth's centre:"
@@ -158,31 +251,18 @@ class Totals:
         return f"{box}: it is too small, or there are too few splits"
 
 
-KML_HEAD = '<?xml version="1.0" encoding="UTF-8"?>\n<kml xmlns="http://www.opengis.net/kml/2.2"><Document>\n'
-
-
-def placemark(epoch, region):
-    """The outline of a region on the ground, in KML."""
-    corners = outline([kept.box for kept in epoch.kept], region.origin, region.axes[0], region.axes[1])
-    ring = [geodetic(region.point((east, north, 0.0))) for east, north in corners + corners[:1]]
-    coordinates = " ".join(f"{math.degrees(lon):.9f},{math.degrees(lat):.9f}" for lat, lon, _ in ring)
-    return (
-        f"<Placemark><name>epoch {epoch.index}</name><description>{calendar(epoch.time)} GPS time</description>"
-        f"<Polygon><outerBoundaryIs><LinearRing><coordinates>{coordinates}</coordinates></LinearRing>"
-        "</outerBoundaryIs></Polygon></Placemark>\n"
-    )
-
-
-def summarize(path, write_line, kml=None):
+def summarize(path, write_line, outlines=None, judge=None):
     """Goes through a log once, and hands each epoch's line to `write_line`. What is to be said of all."""
     totals = Totals()
     for epoch in epochs(path):
         region = region_of(epoch) if epoch.kept else None
         mark = mark_of(epoch, region)
         totals.add(epoch, mark)
-        write_line(epoch, region, mark)
-        if kml is not None and region is not None:
-            kml.write(placemark(epoch, region))
+        write_line(epoch, region, mark, None if judge is None else judge.add(epoch, region))
+        if outlines is not None:
+            outlines.write(kml.placemark(epoch, region, mark))
+    if judge is not None:
+        judge.meetings.refuse_strangers()
     return totals
 
 
@@ -194,36 +274,84 @@ def arguments():
     form.add_argument("--csv", action="store_true", help="print comma-separated values, and the warnings on stderr")
     form.add_argument("--box", action="store_true", help="print the least search box round all kept boxes")
     parser.add_argument("--kml", metavar="FILE", help="write the outline of each region to FILE")
-    return parser.parse_args()
+    parser.add_argument("--strict", action="store_true", help=f"end with {STRICT} where there is a warning")
+    parser.add_argument("--places", metavar="FILE", help="a list of known places")
+    way = parser.add_mutually_exclusive_group()
+    way.add_argument("--azimuth", type=float, metavar="A", help="look along and across A degrees from north, clockwise")
+    way.add_argument("--along", metavar="FILE", help="look along and across a track, a list of places")
+    parser.add_argument("--limit", type=alert_limit, nargs=2, metavar=("H", "V"),
+                        help="alert limits along the ground and up, m")
+    args = parser.parse_args()
+    if args.places is None and (args.azimuth, args.along, args.limit) != (None, None, None):
+        parser.error("--azimuth, --along and --limit need --places")
+    return args
 
 
-def print_summary(args, kml):
-    """Prints the summary of the log in the wanted form."""
-    if args.box:
-        print(*summarize(args.log, lambda *epoch: None, kml).box_lines(), sep="\n")
-        return
-    if not args.csv:
-        print(HEAD)
-        totals = summarize(args.log, lambda *epoch: print(text_line(*epoch)), kml)
-        print(*totals.lines(), sep="\n")
-        return
+def judge_of(args):
+    """Who looks at known places, or None."""
+    if args.places is None:
+        return None
+    azimuth = None if args.azimuth is None else math.radians(args.azimuth)
+    track = None if args.along is None else read_places(args.along)
+    limits = None if args.limit is None else Limits(*args.limit)
+    return Judge(Meetings(args.places, read_places(args.places)), azimuth, track, limits)
+
+
+def print_text(args, outlines, judge):
+    """Prints the lines and what is to be said of all epochs. The warnings."""
+    print(HEAD + (place_head(judge) if judge else ""))
+
+    def write(epoch, region, mark, found):
+        print(text_line(epoch, region, mark, place_text(judge, found) if judge else ""))
+
+    totals = summarize(args.log, write, outlines, judge)
+    print(totals.line())
+    if judge:
+        print(*judge.lines(), sep="\n")
+    return totals
+
+
+def print_csv(args, outlines, judge):
+    """Prints the values of all epochs."""
     writer = csv.writer(sys.stdout, lineterminator="\n")
-    writer.writerow(COLUMNS)
-    totals = summarize(args.log, lambda *epoch: writer.writerow(csv_line(*epoch)), kml)
-    for warning in list(totals.lines())[1:]:
-        print(warning, file=sys.stderr)
+    writer.writerow(COLUMNS + (PLACE_COLUMNS if judge else []))
+
+    def write(epoch, region, mark, found):
+        writer.writerow(csv_line(epoch, region, mark) + (place_values(judge, region, found) if judge else []))
+
+    return summarize(args.log, write, outlines, judge)
+
+
+def print_box(args, outlines, judge):
+    """Prints the box round all kept boxes."""
+    totals = summarize(args.log, lambda *epoch: None, outlines, judge)
+    print(*totals.box_lines(), sep="\n")
+    if max(totals.box()[1]) > MOST_HALF_MM:
+        print("warning: half is more than the 100 km that settings allow", file=sys.stderr)
+    return totals
+
+
+def print_summary(args, outlines):
+    """Prints the summary of the log in the wanted form, and the warnings. Whether there are any."""
+    judge = judge_of(args)
+    form = print_box if args.box else print_csv if args.csv else print_text
+    totals = form(args, outlines, judge)
+    warnings = [*totals.warnings(), *(judge.warnings() if judge else ())]
+    for warning in warnings:
+        print(f"warning: {warning}", file=sys.stdout if form is print_text else sys.stderr)
+    return bool(warnings)
 
 
 def main():
     args = arguments()
     if args.kml is None:
-        print_summary(args, None)
-        return 0
-    with open(args.kml, "w", encoding="ascii") as kml:
-        kml.write(KML_HEAD)
-        print_summary(args, kml)
-        kml.write("</Document></kml>\n")
-    return 0
+        warned = print_summary(args, None)
+    else:
+        with open(args.kml, "w", encoding="utf-8") as outlines:
+            outlines.write(kml.head())
+            warned = print_summary(args, outlines)
+            outlines.write(kml.TAIL)
+    return STRICT if warned and args.strict else 0
 
 
 if __name__ == "__main__":

@@ -6,28 +6,35 @@ The recorded logs of `recorded/` are those of four receivers, and the places bes
 program (recorded/README.md). GPSCOVER_RECORDED names a folder with further pairs NAME.log and NAME.places.
 """
 import contextlib
+import datetime
 import io
 import math
 import os
+import shutil
+import subprocess
 import sys
 import tempfile
 import unittest
 from pathlib import Path
 from unittest import mock
+from xml.etree import ElementTree
 
 import bounds
 import changed_logs
 import coverlog
 import exact_extents
 import headline
+import kml
 import largest_sizes
 import long_day
 import orbits
 import outline
 import picture
+import places
 import region
 import summary
 import suspect
+import testing
 import wgs84
 
 HERE = Path(__file__).resolve().parent
@@ -46,6 +53,11 @@ STEPS = (
     "done 2\n"
 )
 PAVED = "epoch 1 895816769999000000000 5\n" + ROOT + STEPS
+# In the same search box one of 4 m up, 10 m east and 20 m north is kept, which no face of it touches.
+WITHIN = "epoch 1 895816769999000000000 5\n" + ROOT + "".join(
+    f"cut 0 {face} {end}\n" for face, end in enumerate(
+        (6378135000000, 6378139000000, 20000000, 30000000, -10000000, 10000000))
+) + "edge 0 0 0\ndone 0\n"
 
 
 def epoch_of(text):
@@ -54,11 +66,11 @@ def epoch_of(text):
     return epoch
 
 
-def epochs_of(text):
+def epochs_of(text, head=HEAD):
     """The epochs of a log with these lines behind its head."""
     with tempfile.TemporaryDirectory() as room:
         path = os.path.join(room, "made.log")
-        Path(path).write_text(HEAD + text, newline="\n")
+        Path(path).write_text(head + text, newline="\n")
         return list(coverlog.epochs(path))
 
 
@@ -74,8 +86,30 @@ def totals_of(text):
         path = os.path.join(room, "made.log")
         Path(path).write_text(HEAD + text, newline="\n")
         lines = []
-        totals = summary.summarize(path, lambda epoch, found, mark: lines.append(mark))
-        return lines, list(totals.lines())
+        totals = summary.summarize(path, lambda epoch, found, mark, numbers: lines.append(mark))
+        return lines, [totals.line(), *totals.warnings()]
+
+
+def ended_with(script, *words):
+    """The status of a script's `main` with these words, and what it prints on both streams."""
+    out, err = io.StringIO(), io.StringIO()
+    with mock.patch("sys.argv", [f"{script.__name__}.py", *map(str, words)]):
+        with contextlib.redirect_stdout(out), contextlib.redirect_stderr(err):
+            try:
+                status = script.main()
+            except SystemExit as ended:
+                status = ended.code
+    return status, out.getvalue(), err.getvalue()
+
+
+@contextlib.contextmanager
+def written(**texts):
+    """The paths of files with these texts, in their order, in a folder that is removed behind it."""
+    with tempfile.TemporaryDirectory() as room:
+        paths = [Path(room) / name for name in texts]
+        for path, text in zip(paths, texts.values()):
+            path.write_text(text, newline="\n")
+        yield paths
 
 
 class Logs(unittest.TestCase):
@@ -86,6 +120,12 @@ class Logs(unittest.TestCase):
         fourth = (6378137000001, 20000000, -100000000, 6378237000000, 100000000, 50000000)
         self.assertEqual(boxes, [(third, False, (-5000000, 7000000)), (fourth, True, (-9000000, 2000000))])
         self.assertEqual((epoch.outs, epoch.splits, epoch.outliers), (1, 2, 1))
+
+    def test_both_versions_are_read(self):
+        self.assertEqual(epochs_of(PAVED), epochs_of(PAVED, HEAD.replace("gpscover 1", "gpscover 3")))
+        for first in "gpscover 2", "gpscover 3 ", "gpscover 03", "gpscover":
+            with self.assertRaisesRegex(coverlog.LogError, "line 1: this isn't a log"):
+                epochs_of(PAVED, HEAD.replace("gpscover 1", first))
 
     def test_each_face_is_cut_at_its_own_end(self):
         ends = [(0, 11), (1, 89), (2, 12), (3, 88), (4, 13), (5, 87)]
@@ -229,7 +269,7 @@ class Marks(unittest.TestCase):
     def test_few_near_the_centre_of_the_earth(self):
         _, lines = totals_of("few 1 0 0\nskip G01 7\nskip G02 7\nskip G03 6 2\n")
         self.assertIn("2 times a satellite isn't used since the search box comes too near to the earth", lines[1])
-        self.assertIn("is the position in the header zero?", lines[1])
+        self.assertIn("is the position in the header zero, or search.centre in metres?", lines[1])
 
     def test_every_reason_of_a_skip_has_words(self):
         for reason in ("1", "2", "3", "4", "5", "6 20", "7"):
@@ -258,12 +298,42 @@ class Marks(unittest.TestCase):
         inner = "split 0 0\nout 1\nsplit 2 0\nout 4\n" + "".join(
             f"cut 3 {face} {end}\n" for face, end in ((2, -9), (3, 9), (4, -9), (5, 9))
         )
-        marks, lines = totals_of(f"epoch 1 0 5\n{ROOT}{inner}edge 3 0 0\ndone 2\n")
-        self.assertEqual((marks, len(lines)), ([""], 1))
+        marks, lines = totals_of(f"epoch 1 0 5\n{ROOT}{inner}edge 3 0 0\ndone 2\n" + WITHIN.replace("epoch 1", "epoch 2"))
+        self.assertEqual((marks, len(lines)), (["", ""], 1))
 
-    def test_one_epoch_among_others_has_no_warning(self):
-        _, lines = totals_of("few 1 0 3\n" + PAVED.replace("epoch 1", "epoch 2") + f"epoch 3 9 5\n{ROOT}out 0\ndone 0\n")
-        self.assertEqual(lines[0], "epochs 3: 1 with a region, of which 1 reach the search box; 1 few, 1 empty")
+    def test_each_mark_among_others_is_warned_of_with_its_count(self):
+        _, lines = totals_of(
+            "few 1 0 3\nskip G01 4\n" + PAVED.replace("epoch 1", "epoch 2") + f"epoch 3 9 5\n{ROOT}out 0\ndone 0\n"
+            + WITHIN.replace("epoch 1", "epoch 4"))
+        self.assertEqual(lines[0], "epochs 4: 2 with a region, of which 1 reach the search box; 1 few, 1 empty")
+        self.assertIn("1 of 4 epochs have too few usable satellites; 1 times a satellite isn't used since none", lines[1])
+        self.assertIn("1 of 3 paved epochs are empty: more satellites than allowed broke", lines[2])
+        self.assertIn("a box that a receiver leaves makes its regions small before they are empty", lines[2])
+        self.assertIn("1 of 2 regions reach the search box, whose half side is 100 m: they may go on outside", lines[3])
+        self.assertEqual(len(lines), 4)
+
+    def test_a_centre_in_metres(self):
+        # 6,378,137 mm from the earth's centre, where 6,378,137 m are meant
+        _, lines = totals_of("epoch 1 0 5\nroot 6378000000 -9 -9 6378274000 9 9\nout 0\ndone 0\n")
+        self.assertIn("is search.centre in metres, where millimetres are meant?", lines[1])
+
+    def test_a_log_of_no_epochs_asks_for_the_first_one(self):
+        self.assertIn("the log has no epochs: is --from behind the last one of the file?", totals_of("")[1][1])
+
+    def test_strict_ends_with_a_status_of_its_own(self):
+        with written(good=HEAD + WITHIN, cut=HEAD + PAVED, none=HEAD) as (good, cut, none):
+            for log, status in ((good, 0), (cut, 3), (none, 3)):
+                self.assertEqual(ended_with(summary, log, "--strict")[0], status)
+                self.assertEqual(ended_with(summary, log)[0], 0)
+            for form in ("--box", "--csv"):
+                status, out, err = ended_with(summary, cut, form, "--strict")
+                self.assertEqual((status, "warning" in out), (3, False))
+                self.assertIn("every region reaches the search box", err)
+
+    def test_the_mark_of_the_values_is_ok_where_there_is_none(self):
+        with written(good=HEAD + WITHIN, cut=HEAD + PAVED) as logs:
+            marks = [ended_with(summary, log, "--csv")[1].splitlines()[1].split(",")[3] for log in logs]
+        self.assertEqual(marks, ["ok", "reaches"])
 
     def test_the_box_round_all_kept_boxes(self):
         totals = summary.Totals()
@@ -271,6 +341,14 @@ class Marks(unittest.TestCase):
             totals.add(epoch_of(text), "")
         # x from 6377999.999 to 6378237, y from -100 to 100, z from -100 to 100, in mm
         self.assertEqual(list(totals.box_lines()), ["centre = [6378118499, 0, 0]", "half = [118501, 100000, 100000]"])
+
+    def test_a_box_that_the_settings_would_refuse(self):
+        wide = "epoch 1 0 5\nroot -100000000000 -9 -9 100000002000 9 9\nedge 0 0 0\ndone 0\n"
+        with written(wide=HEAD + wide, good=HEAD + WITHIN) as logs:
+            said = [ended_with(summary, log, "--box")[1:] for log in logs]
+        self.assertIn("half = [100000001, 1, 1]", said[0][0])
+        self.assertIn("half is more than the 100 km that settings allow", said[0][1])
+        self.assertEqual(said[1][1], "")
 
     def test_no_epochs(self):
         self.assertIn("no epochs", totals_of("")[1][1])
@@ -284,12 +362,32 @@ class Marks(unittest.TestCase):
         self.assertEqual((values["clock_low_m"], values["clock_high_m"]), ("-9.000", "7.000"))
         self.assertEqual((values["x_m"], values["faces"]), ("6378187.000", "-y -z +x +y +z"))
 
-    def test_an_outline_for_a_map(self):
-        mark = summary.placemark(epoch_of(PAVED), region.region_of(epoch_of(PAVED)))
-        corners = [tuple(map(float, pair.split(","))) for pair in mark.split("coordinates>")[1][:-2].split()]
-        # 100 m east and north at the equator are 1 / 6378137 and 1 / 6335439 rad a metre
-        self.assertAlmostEqual(max(lon for lon, _ in corners), math.degrees(100 / 6378137), places=7)
-        self.assertAlmostEqual(max(lat for _, lat in corners), math.degrees(100 / 6335439), places=7)
+    def test_regions_for_a_map(self):
+        text = HEAD + PAVED + WITHIN.replace("epoch 1", "epoch 2") + f"epoch 3 9 5\n{ROOT}out 0\ndone 0\nfew 4 10 2\n"
+        with written(log=text, map="") as (log, path):
+            self.assertEqual(ended_with(summary, log, "--kml", path)[0], 0)
+            document = ElementTree.parse(path).getroot()[0]
+        marks = document.findall("{*}Placemark")
+        self.assertEqual([mark.find("{*}styleUrl").text for mark in marks], ["#cut", "#whole", "#empty", "#few"])
+        self.assertLessEqual({mark.find("{*}styleUrl").text[1:] for mark in marks},
+                             {style.get("id") for style in document.findall("{*}Style")})
+        # GPS time was 14 s ahead of UTC in 2008
+        self.assertEqual(marks[0].find("{*}TimeStamp/{*}when").text, "2008-05-26T05:59:15.999Z")
+        rings = [[tuple(map(float, point.split(","))) for point in ring.text.split()]
+                 for ring in marks[0].iter("{http://www.opengis.net/kml/2.2}coordinates")]
+        # 100 m east and north at the equator are 1 / 6378137 and 1 / 6335439 rad a metre; the boxes are 0 to 100 m up
+        self.assertAlmostEqual(max(lon for lon, *_ in rings[0]), math.degrees(100 / 6378137), places=7)
+        self.assertAlmostEqual(max(lat for _, lat, _ in rings[0]), math.degrees(100 / 6335439), places=7)
+        self.assertEqual([{round(height, 2) for *_, height in ring} for ring in rings], [{0.0}, {100.0}])
+        self.assertIn("height 0.0 to 100.0 m, reaches the search box at -y", marks[0].find("{*}description").text)
+        self.assertEqual([mark.find("{*}MultiGeometry") is None for mark in marks], [False, False, True, True])
+
+    def test_utc_at_a_leap_second(self):
+        # 2016-12-31 23:59:59 UTC was 17 s behind GPS time; 2017-01-01 00:00:00 UTC is 18 s behind it.
+        for gps, utc in (("2017-01-01 00:00:16", "2016-12-31T23:59:59"), ("2017-01-01 00:00:18", "2017-01-01T00:00:00"),
+                         ("1980-01-07 00:00:00", "1980-01-07T00:00:00"), ("2026-11-28 00:00:00", "2026-11-27T23:59:42")):
+            since = datetime.datetime.fromisoformat(gps) - datetime.datetime(1980, 1, 6)
+            self.assertEqual(kml.utc(round(since.total_seconds()) * 10**12), utc + ".000Z")
 
 
 class Bounds(unittest.TestCase):
@@ -370,6 +468,51 @@ class Bounds(unittest.TestCase):
                 self.table("dual", "--zenith", "--troposphere", *words)
             self.assertEqual(ended.exception.code, 2)
             self.table("dual", "--troposphere", *words)
+
+    LATER = "".join(f"epoch {k} {seconds}000000000000 5\n{{sats}}{ROOT}out 0\ndone 0\n" for k, seconds in (
+        (7, 3), (8, 8), (9, 12), (10, 33)))
+    SETTINGS = '[search]\nhalf = 5\n[signal]\nmode = "single"\n\n[bounds]\nreceiver = [0, 0]\n[satellite]\nG01 = [0, 0]\n'
+
+    def test_stretches_of_a_long_log(self):
+        with written(log=HEAD + self.LATER.format(sats=FIVE)) as (log,):
+            for seconds, wanted in ((None, [(7, 10)]), (5, [(7, 7), (8, 9), (10, 10)]), (5.1, [(7, 8), (9, 9), (10, 10)]),
+                                    (30, [(7, 9), (10, 10)]), (31, [(7, 10)])):
+                found = bounds.stretches(log, (6378137, 0, 0), seconds)
+                self.assertEqual([(it.first, it.last) for it in found], wanted)
+                self.assertEqual([len(it.seen) for it in found], [5] * len(wanted))
+
+    def test_settings_and_lines_for_each_stretch(self):
+        with written(log=HEAD + self.LATER.format(sats=FIVE), settings=self.SETTINGS) as (log, settings):
+            folder = log.parent / "my parts"
+            status, out, _ = ended_with(bounds, log, 6378137, 0, 0, "single", "--every", 30, "--settings", settings,
+                                        "--files", "a b.obs", "c.nav", "--folder", folder, "--program", "gpscover")
+            lines, texts = out.splitlines(), [path.read_text() for path in sorted(folder.iterdir())]
+            whole = ended_with(bounds, log, 6378137, 0, 0, "single")[1]
+        self.assertEqual((status, len(lines), len(texts)), (0, 4, 2))
+        self.assertRegex(lines[0], "^gpscover solve 'a b.obs' c.nav '.*/part01.toml' '.*/part01.log' --from 7 --to 9 > /dev/")
+        self.assertRegex(lines[3], "^gpscover check 'a b.obs' c.nav '.*/part02.toml' '.*/part02.log' --from 10 --to 10$")
+        # The satellites stand still here, so each part has the table of the whole.
+        self.assertEqual(texts, [self.SETTINGS[: self.SETTINGS.index("[bounds]")] + whole] * 2)
+
+    def test_settings_that_do_not_end_with_the_bounds_are_refused(self):
+        other = self.SETTINGS.replace("[satellite]", "[signal.more]")
+        with written(none="[search]\n", other=other, dual=self.SETTINGS.replace("single", "dual")) as (none, other, dual):
+            for path, words in ((none, "aren't the last ones"), (other, "aren't the last ones"), (dual, "of the mode single")):
+                with self.assertRaisesRegex(coverlog.LogError, words):
+                    bounds.up_to_bounds(path, "single")
+
+    def test_options_of_stretches_go_together(self):
+        rest = ["--settings", "s", "--files", "o", "n", "--folder", "x"]
+        for words in (["--every", "5"], ["--folder", "x"], rest, ["--every", "0", *rest]):
+            self.assertEqual(ended_with(bounds, "x", 0, 0, 0, "single", *words)[0], 2)
+
+    def test_a_rough_place_outside_the_search_box_is_refused(self):
+        root = epoch_of(PAVED).root
+        bounds.refuse_stranger(root, (6378137, -100, 100))
+        for place, words in (((6378137, 0, 3100), "3.000 km outside the search box of the log, whose middle is 6378137 0 0"),
+                             ((6378137, 300.5, 0), "0.201 km outside"), ((6378137000, 500, -99000), "is in millimetres")):
+            with self.assertRaisesRegex(coverlog.LogError, words):
+                bounds.refuse_stranger(root, place)
 
     def test_the_elevation_of_a_satellite(self):
         place = wgs84.earth_fixed(0.6, 2.4, 100.0)
@@ -470,10 +613,10 @@ def pairs():
 class Recorded(unittest.TestCase):
     def test_the_extents_contain_the_known_place(self):
         for log in pairs():
-            places = picture.read_places(log.with_suffix(".places"))
+            known = places.read_places(log.with_suffix(".places"))
             tested = 0
             for epoch in coverlog.epochs(log):
-                place = None if epoch.few else picture.place_at(places, epoch.time)
+                place = None if epoch.few else places.place_at(known, epoch.time)
                 if place is None or not all(a <= p * 1e6 <= b for p, a, b in zip(place, epoch.root, epoch.root[3:])):
                     continue
                 tested += 1
@@ -493,13 +636,13 @@ class Places(unittest.TestCase):
         with tempfile.TemporaryDirectory() as room:
             path = os.path.join(room, "places")
             Path(path).write_text(text)
-            return picture.read_places(path)
+            return places.read_places(path)
 
     def test_both_forms(self):
         both = self.read("% a head\n2008/05/26 05:59:30.000 1.5 -2 3 5 8\n\n895816771.25 4 5 6\n")
         self.assertEqual(both, [(895816770 * 10**12, (1.5, -2.0, 3.0)), (895816771250 * 10**9, (4.0, 5.0, 6.0))])
-        self.assertEqual(picture.place_at(both, 895816769999 * 10**9), (1.5, -2.0, 3.0))
-        self.assertIsNone(picture.place_at(both, 895816769800 * 10**9))
+        self.assertEqual(places.place_at(both, 895816769999 * 10**9), (1.5, -2.0, 3.0))
+        self.assertIsNone(places.place_at(both, 895816769800 * 10**9))
 
     def test_what_is_no_place_is_refused(self):
         for text in ("1 2 3\n", "x 1 2 3\n", "2008/13/26 00:00:00.0 1 2 3\n", ""):
@@ -562,10 +705,11 @@ class Pictures(unittest.TestCase):
     def test_pictures_are_written(self):
         with tempfile.TemporaryDirectory() as room:
             log = str(RECORDED / "geonet0759_2005.log")
-            places = str(RECORDED / "geonet0759_2005.places")
-            for words, ending in ((["region", "--epoch", "2"], "png"), (["region"], "svg"), (["time"], "png")):
+            known = str(RECORDED / "geonet0759_2005.places")
+            for words, ending in ((["region", "--epoch", "2"], "png"), (["region"], "svg"), (["time"], "png"),
+                                  (["integrity", "--limit", "150", "200"], "png"), (["integrity"], "svg")):
                 out = os.path.join(room, f"out.{ending}")
-                words = ["picture.py", words[0], log, out, *words[1:], "--places", places]
+                words = ["picture.py", words[0], log, out, *words[1:], "--places", known]
                 with mock.patch("sys.argv", words):
                     self.assertEqual(picture.main(), 0)
                 self.assertIn(b"svg" if ending == "svg" else b"PNG", Path(out).read_bytes()[:200])
@@ -591,6 +735,37 @@ class LongDay(unittest.TestCase):
         self.assertLess(max(left) - min(left), 20)
 
 
+class Wrapper(unittest.TestCase):
+    """The words that ./gpscover answers itself. Neither builds anything."""
+
+    def said(self, word, path=os.environ.get("PATH", "")):
+        ran = subprocess.run([HERE.parent / "gpscover", word], capture_output=True, text=True, env={"PATH": path}, check=True)
+        self.assertEqual(ran.stderr, "")
+        return ran.stdout
+
+    def bare(self, room):
+        """A path with the tools that the words need, and neither man nor rt."""
+        for tool in ("sh", "sed", "dirname", "readlink", "head", "tr", "sort", "xargs", "echo", "cat"):
+            os.symlink(shutil.which(tool), os.path.join(room, tool))
+        return room
+
+    def test_help_is_the_page_of_the_manual(self):
+        with tempfile.TemporaryDirectory() as room:
+            for path in (os.environ["PATH"], self.bare(room)):
+                page = self.said("--help", path)
+                for words in ("gpscover solve", "EXIT STATUS", "yes BOXES", "after 2, 3 and 4 nothing was created"):
+                    self.assertIn(words.lower(), " ".join(page.split()).lower())
+                self.assertNotIn("\\f", page)
+
+    def test_version_is_that_of_the_project_its_logs_and_the_kit(self):
+        with tempfile.TemporaryDirectory() as room:
+            for path in (os.environ["PATH"], self.bare(room)):
+                project, logs, kit = self.said("--version", path).splitlines()
+                self.assertRegex(project, r"^gpscover (unreleased|[0-9.]+)")
+                self.assertEqual(logs, "logs of the versions 1, 3")
+                self.assertRegex(kit, r"^(built by|not built)")
+
+
 class Documents(unittest.TestCase):
     def test_the_links_from_the_headline_down_are_there(self):
         self.assertEqual((HERE.parent / "docs/HEADLINE.md").read_text(encoding="utf-8"), headline.page())
@@ -600,16 +775,5 @@ class Documents(unittest.TestCase):
             headline.definition("crates/sat_model/specs/Fold.antt", "NoSuchName")
 
 
-def main():
-    names = unittest.defaultTestLoader.loadTestsFromModule(sys.modules["__main__"])
-    with contextlib.redirect_stdout(io.StringIO()):
-        done = unittest.TextTestRunner(stream=sys.stderr, verbosity=1).run(names)
-    failed = len(done.failures) + len(done.errors)
-    left_out = len(done.skipped)
-    note = f", {left_out} left out since {sys.executable} has no matplotlib" if left_out else ""
-    print(f"scripts: {done.testsRun - failed - left_out} passed, {failed} failed{note}")
-    return 1 if failed else 0
-
-
 if __name__ == "__main__":
-    sys.exit(main())
+    sys.exit(testing.run("scripts", [f"{sys.executable} has no matplotlib"]))

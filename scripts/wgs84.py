@@ -56,3 +56,11 @@ def elevation(place, target):
     toward = [t - p for t, p in zip(target, place)]
     up = local_axes(latitude, longitude)[2]
     return math.asin(dot(toward, up) / math.hypot(*toward))
+
+
+def azimuth(place, target):
+    """The direction along the horizon of `place` in which `target` is seen: from north over east, 0 to 2 pi."""
+    latitude, longitude, _ = geodetic(place)
+    toward = [t - p for t, p in zip(target, place)]
+    east, north, _ = local_axes(latitude, longitude)
+    return math.atan2(dot(toward, east), dot(toward, north)) % (2 * math.pi)

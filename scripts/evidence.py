@@ -1,0 +1,222 @@
+#!/usr/bin/env python3
+"""Puts the evidence of a run together in one folder, and checks a bundle that somebody else made.
+
+usage: evidence.py make FOLDER OBS NAV SETTINGS LOG [--from N] [--to N] [--program GPSCOVER]
+       evidence.py check FOLDER [--sha256 HEX] [--other-program] [--program GPSCOVER]
+
+`make` copies the four files into a new FOLDER, has both checkers test the log, GPSCOVER (the built program) and
+second/recheck.py, and writes FOLDER/evidence.txt: the sizes and checksums of the files and of both checkers, the versions,
+the options, both verdicts, and how many epochs the observations have, and of these are in the log, paved, few, empty,
+reach the search box, or are lost, which are those that the log doesn't have. --from and --to are those that the log was
+solved with. Where not both checkers say yes, of as many boxes, there is no evidence: nothing is left, and the verdicts are
+printed. The checksum of evidence.txt, which is printed last, is what is signed or sent by another way.
+
+`check` makes all of this anew from the four files and tells each line of evidence.txt that is another, each file that is
+missing and each that doesn't belong there. --sha256 compares the checksum of evidence.txt too. Where the checkers or the
+versions here are others, that is told as well; with --other-program only what they say has to be the same.
+
+docs/CERTIFIER.md says what such a bundle shows and what it doesn't.
+
+Exit status: 0; 1 where a file can't be read or written, a verdict isn't yes, or the bundle differs; 2 for a wrong command
+line.
+"""
+import argparse
+import hashlib
+import shutil
+import subprocess
+import sys
+from collections import Counter
+from pathlib import Path
+
+from coverlog import LogError, epochs, run_tool, run_way
+from region import hull_of, touched_faces
+
+ROOT = Path(__file__).resolve().parent.parent
+PROGRAM = ROOT / "crates/gpscover/out/gpscover"
+SECOND = ROOT / "second/recheck.py"
+SHEET = "evidence.txt"
+FILES = {"obs": "receiver.obs", "nav": "receiver.nav", "settings": "settings.toml", "log": "receiver.log"}
+HEAD = "gpscover evidence 1"
+ITSELF = ("program", "second", "version")  # the lines that say who checked
+GREATEST = 200_000  # the greatest epoch number
+
+
+def checksum(path):
+    """The SHA-256 of a file, in hexadecimal digits."""
+    digest = hashlib.sha256()
+    with open(path, "rb") as file:
+        while part := file.read(1 << 20):
+            digest.update(part)
+    return digest.hexdigest()
+
+
+def identity(path):
+    """The size of a file in bytes and its checksum."""
+    try:
+        return f"{Path(path).stat().st_size} bytes sha256 {checksum(path)}"
+    except OSError as error:
+        return f"can't be read: {error.strerror}"
+
+
+def version(program):
+    """The lines of `./gpscover --version`, the last of which is of the program that is built here."""
+    ran = subprocess.run([str(ROOT / "gpscover"), "--version"], capture_output=True, text=True)
+    lines = ran.stdout.splitlines()
+    return ", ".join(lines if Path(program).resolve() == PROGRAM else [*lines[:2], "another program"])
+
+
+def verdict(words):
+    """What a checker says, or how it ended."""
+    try:
+        ran = subprocess.run(words, stdin=subprocess.DEVNULL, capture_output=True, text=True)
+    except OSError as error:
+        return f"can't be run: {error.strerror}"
+    said = " ".join((ran.stdout + ran.stderr).split("\n")).strip()
+    return said if ran.returncode in (0, 1) else f"status {ran.returncode}: {said}"
+
+
+def file_epochs(path):
+    """How many epochs a file of observations has: its lines that begin with > and have the flag 0 or 1."""
+    count = 0
+    with open(path, encoding="ascii", errors="replace") as file:
+        for line in file:
+            if line.startswith(">"):
+                count += line[31:32].strip() in ("", "0", "1")
+                for _ in range(int(line[32:35].strip() or 0)):
+                    next(file, None)
+    return count
+
+
+def counts(folder):
+    """What the log says of the epochs of the file, in one line."""
+    marks = Counter()
+    try:
+        total = file_epochs(folder / FILES["obs"])
+        for epoch in epochs(folder / FILES["log"]):
+            marks["few" if epoch.few else "paved"] += 1
+            marks["empty"] += not epoch.few and not epoch.kept
+            marks["reach"] += bool(epoch.kept) and bool(touched_faces(hull_of([it.box for it in epoch.kept]), epoch.root))
+    except (LogError, OSError, ValueError) as error:
+        return f"can't be counted: {error}".replace(str(folder) + "/", "")
+    there = marks["few"] + marks["paved"]
+    return (
+        f"{total} in the file, {there} in the log: {marks['paved']} paved, {marks['few']} few, {marks['empty']} empty,"
+        f" {marks['reach']} reach the search box; {total - there} lost"
+    )
+
+
+def made(folder, program, first, last):
+    """The lines of the evidence: (name, what is found) in order."""
+    files = [str(folder / name) for name in FILES.values()]
+    options = ["--from", str(first), "--to", str(last)]
+    yield from ((role, f"{name} {identity(folder / name)}") for role, name in FILES.items())
+    yield "program", identity(program)
+    yield "second", identity(SECOND)
+    yield "version", version(program)
+    yield "options", " ".join(options)
+    yield "check", verdict([str(program), "check", *files, *options])
+    yield "recheck", verdict([sys.executable, str(SECOND), *files, *options])
+    yield "epochs", counts(folder)
+
+
+def sheet(lines):
+    """The text of the evidence."""
+    return "".join(f"{line}\n" for line in [HEAD, *(f"{name} {found}" for name, found in lines)])
+
+
+def run_make(args):
+    """Makes a bundle."""
+    folder = Path(args.bundle)
+    folder.mkdir()
+    for path, name in zip((args.obs, args.nav, args.settings, args.log), FILES.values()):
+        shutil.copyfile(path, folder / name)
+    lines = list(made(folder, args.program, args.first, args.last))
+    said = dict(lines)
+    if not said["check"].startswith("yes ") or said["recheck"] != said["check"]:
+        shutil.rmtree(folder)
+        raise LogError(f"no evidence: check says {said['check']}, recheck says {said['recheck']}")
+    (folder / SHEET).write_text(sheet(lines), encoding="utf-8", newline="\n")
+    print(sheet(lines), end="")
+    print(f"{SHEET} sha256 {checksum(folder / SHEET)}")
+
+
+def read_sheet(folder):
+    """What evidence.txt says: (name, what was found) in order, and the two options."""
+    head, *lines = (folder / SHEET).read_text(encoding="utf-8", errors="replace").splitlines()
+    said = [tuple(line.partition(" ")[::2]) for line in lines]
+    try:
+        begin, first, end, last = dict(said)["options"].split(" ")
+        first, last = int(first), int(last)
+        if head != HEAD or (begin, end) != ("--from", "--to") or not 1 <= first <= GREATEST or not 1 <= last <= GREATEST:
+            raise ValueError
+    except (KeyError, ValueError):
+        raise LogError(f"{folder / SHEET}: this isn't evidence of gpscover, or it was changed") from None
+    return said, first, last
+
+
+def differences(said, found, is_other):
+    """What evidence.txt says otherwise than what is found, a line each."""
+    if [name for name, _ in said] != [name for name, _ in found]:
+        yield f"the lines of {SHEET} aren't those of evidence: {' '.join(name for name, _ in said)}"
+    was = dict(said)
+    for name, value in found:
+        if was.get(name) != value and not (is_other and name in ITSELF):
+            yield f"{name}: the bundle says {was.get(name, 'nothing')}; here it is {value}"
+
+
+def strangers(folder):
+    """The files of a bundle that are missing, and those that don't belong there."""
+    wanted, there = {*FILES.values(), SHEET}, {path.name for path in folder.iterdir()}
+    yield from (f"{name} is missing" for name in sorted(wanted - there))
+    yield from (f"{name} doesn't belong to the bundle" for name in sorted(there - wanted))
+
+
+def run_check(args):
+    """Checks a bundle."""
+    folder = Path(args.bundle)
+    said, first, last = read_sheet(folder)
+    found = list(made(folder, args.program, first, last))
+    told = [*strangers(folder), *differences(said, found, args.other_program)]
+    if args.sha256 not in (None, checksum(folder / SHEET)):
+        told.append(f"{SHEET} has the checksum {checksum(folder / SHEET)}")
+    now = dict(found)
+    if not now["check"].startswith("yes ") or now["recheck"] != now["check"]:
+        told.append(f"the checkers don't both say yes: check says {now['check']}, recheck says {now['recheck']}")
+    if told:
+        raise LogError("the bundle differs\n" + "\n".join(told))
+    print(f"the bundle is as it says: {now['check']} of both checkers; {now['epochs']}")
+
+
+def epoch_number(text):
+    """A number of an epoch among the words."""
+    if not text.isdecimal() or not 1 <= int(text) <= GREATEST:
+        raise argparse.ArgumentTypeError(f"{text} isn't a number from 1 to {GREATEST}")
+    return int(text)
+
+
+def arguments():
+    """The words of the command line."""
+    parser = argparse.ArgumentParser(description="Evidence of a run: makes a bundle, or checks one.")
+    ways = parser.add_subparsers(required=True)
+    make = ways.add_parser("make", help="copy the files, check the log twice, and write what was found")
+    check = ways.add_parser("check", help="find all of it anew and compare")
+    for way, work in ((make, run_make), (check, run_check)):
+        way.add_argument("bundle", metavar="FOLDER")
+        way.add_argument("--program", default=str(PROGRAM), help="the built program (crates/gpscover/out/gpscover)")
+        way.set_defaults(work=work)
+    for name in ("obs", "nav", "settings", "log"):
+        make.add_argument(name, metavar=name.upper())
+    make.add_argument("--from", dest="first", type=epoch_number, default=1, metavar="N", help="the log's first epoch (1)")
+    make.add_argument("--to", dest="last", type=epoch_number, default=GREATEST, metavar="N",
+                      help=f"its last one ({GREATEST})")
+    check.add_argument("--sha256", metavar="HEX", help=f"the checksum that {SHEET} has to have")
+    check.add_argument("--other-program", action="store_true", help="let the checkers and versions here be others")
+    return parser.parse_args()
+
+
+def main():
+    return run_way(arguments())
+
+
+if __name__ == "__main__":
+    run_tool(main)

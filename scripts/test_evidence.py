@@ -1,0 +1,160 @@
+#!/usr/bin/env python3
+"""Tests of evidence.py: python3 scripts/test_evidence.py GPSCOVER, the built program. The last line is
+`evidence: N passed, M failed`. Exit status: 0, or 1 where one failed.
+
+A bundle is made of one epoch of the example with eight splits. Then it is checked in another folder, and each of fifteen
+changes of it has to be told by the line that it concerns.
+"""
+import os
+import re
+import shutil
+import subprocess
+import sys
+import tempfile
+import unittest
+from pathlib import Path
+
+import coverlog
+import evidence
+import testing
+from test_scripts import ended_with
+
+EXAMPLES = Path(__file__).resolve().parent.parent / "examples"
+PROGRAM = str(evidence.PROGRAM)
+
+
+def edited(name, old, new):
+    """A change of a bundle: in a file the first `old` becomes `new`."""
+    def change(folder):
+        text = (folder / name).read_text(encoding="utf-8")
+        changed = re.sub(old, new, text, count=1)
+        if changed == text:
+            raise AssertionError(f"{old} isn't in {name}")
+        (folder / name).write_text(changed, encoding="utf-8", newline="\n")
+
+    return change
+
+
+def with_file(folder):
+    """One file more."""
+    (folder / "more.log").write_text("gpscover 1\n", encoding="utf-8")
+
+
+CHANGES = (
+    ("a pseudorange", edited("receiver.obs", r"(?m)^(G22 +\d+\.\d\d)\d", r"\g<1>9"), "obs: "),
+    ("an ephemeris", edited("receiver.nav", "D-09", "D-10"), "nav: "),
+    ("a declared bound", edited("settings.toml", r"receiver = \[-3000, 3000\]", "receiver = [-3000, 3001]"), "settings: "),
+    ("a comment of the settings", edited("settings.toml", "# Settings", "# settings"), "settings: "),
+    ("a span of clock offsets", edited("receiver.log", r"(?m)^(edge \d+ -\d+)\d", r"\g<1>"), "log: "),
+    ("the log's last line", edited("receiver.log", r"done \d+\n", ""), "epochs: "),
+    ("the number of boxes", edited("evidence.txt", r"(?m)^check yes \d+", "check yes 1"), "check: "),
+    ("the other number of boxes", edited("evidence.txt", r"(?m)^recheck yes \d+", "recheck yes 1"), "recheck: "),
+    ("the count of epochs", edited("evidence.txt", "0 empty", "1 empty"), "epochs: "),
+    ("the program's checksum", edited("evidence.txt", r"(?m)^(program .* sha256 )[0-9a-f]", r"\g<1>g"), "program: "),
+    ("the versions", edited("evidence.txt", r"logs of the versions \d+", "logs of the versions 0"), "version: "),
+    ("an option", edited("evidence.txt", "--to 1", "--to 2"), "check: "),
+    ("a line less", edited("evidence.txt", r"(?m)^recheck .*\n", ""), "the lines of evidence.txt aren't those"),
+    ("a file more", with_file, "more.log doesn't belong to the bundle"),
+    ("a file less", lambda folder: (folder / "receiver.nav").unlink(), "receiver.nav is missing"),
+)
+
+
+class Bundles(unittest.TestCase):
+    @classmethod
+    def setUpClass(cls):
+        cls.room = Path(tempfile.mkdtemp())
+        cls.files = [cls.room / name for name in ("my.obs", "my.nav", "my.toml", "my.log")]
+        for path, name in zip(cls.files, ("receiver.obs", "receiver.nav", "settings.toml")):
+            shutil.copyfile(EXAMPLES / name, path)
+        text = re.sub(r"(?m)^bisections = .*", "bisections = 8", cls.files[2].read_text(encoding="utf-8"))
+        cls.files[2].write_text(text, encoding="utf-8")
+        subprocess.run([PROGRAM, "solve", *cls.files, "--to", "1"], stdout=subprocess.DEVNULL, check=True)
+        cls.bundle = cls.room / "bundle"
+        cls.status, cls.said, _ = ended_with(evidence, "make", cls.bundle, *cls.files, "--to", 1, "--program", PROGRAM)
+
+    @classmethod
+    def tearDownClass(cls):
+        shutil.rmtree(cls.room)
+
+    def check(self, folder, *words):
+        """The status of `check`, and what it says."""
+        try:
+            status, out, _ = ended_with(evidence, "check", folder, "--program", PROGRAM, *words)
+        except (coverlog.LogError, OSError) as error:
+            return 1, str(error)
+        return status, out
+
+    def copy(self):
+        """A copy of the bundle in another place."""
+        folder = Path(tempfile.mkdtemp(dir=self.room)) / "theirs"
+        shutil.copytree(self.bundle, folder)
+        return folder
+
+    def test_it_says_what_was_counted_by_hand(self):
+        self.assertEqual(self.status, 0)
+        lines = dict(line.split(" ", 1) for line in self.said.splitlines())
+        boxes = sum(line.startswith(("in ", "edge ")) for line in self.files[3].read_text(encoding="ascii").splitlines())
+        self.assertEqual((lines["check"], lines["recheck"]), (f"yes {boxes}",) * 2)
+        self.assertRegex(lines["epochs"], "^4 in the file, 1 in the log: 1 paved, 0 few, 0 empty, [01] reach .*; 3 lost$")
+        self.assertEqual(lines["options"], "--from 1 --to 1")
+        size = os.path.getsize(self.files[0])
+        known = subprocess.run(["sha256sum", self.files[0]], capture_output=True, text=True, check=True).stdout.split()[0]
+        self.assertEqual(lines["obs"], f"receiver.obs {size} bytes sha256 {known}")
+
+    def test_it_is_right_in_another_place(self):
+        status, said = self.check(self.copy(), "--sha256", evidence.checksum(self.bundle / "evidence.txt"))
+        self.assertEqual(status, 0)
+        self.assertIn("the bundle is as it says: yes ", said)
+
+    def test_each_change_is_told(self):
+        for name, change, told in CHANGES:
+            with self.subTest(change=name):
+                folder = self.copy()
+                change(folder)
+                status, said = self.check(folder)
+                self.assertEqual(status, 1)
+                self.assertIn(f"\n{told}", said)
+
+    def test_a_bundle_that_is_consistent_but_another_is_told_by_its_checksum(self):
+        folder = self.copy()
+        with open(folder / "settings.toml", "a", encoding="utf-8") as file:
+            file.write("# another\n")
+        lines = list(evidence.made(folder, PROGRAM, 1, 1))
+        (folder / "evidence.txt").write_text(evidence.sheet(lines), encoding="utf-8", newline="\n")
+        self.assertEqual(self.check(folder)[0], 0)
+        status, said = self.check(folder, "--sha256", evidence.checksum(self.bundle / "evidence.txt"))
+        self.assertEqual(status, 1)
+        self.assertIn("evidence.txt has the checksum", said)
+
+    def test_other_checkers_are_told_unless_that_is_wanted(self):
+        folder = self.copy()
+        edited("evidence.txt", r"(?m)^(second .* sha256 )[0-9a-f]", r"\g<1>g")(folder)
+        self.assertEqual(self.check(folder)[0], 1)
+        self.assertEqual(self.check(folder, "--other-program")[0], 0)
+
+    def test_what_is_no_evidence_is_refused(self):
+        for old, new in (("gpscover evidence 1", "gpscover evidence 2"), ("--to 1", "--to 0"), ("options ", "option ")):
+            folder = self.copy()
+            edited("evidence.txt", old, new)(folder)
+            self.assertIn("this isn't evidence of gpscover, or it was changed", self.check(folder)[1])
+
+    def test_there_is_none_where_a_verdict_is_no(self):
+        other = self.room / "other.toml"
+        other.write_text(self.files[2].read_text(encoding="utf-8").replace("[-3000, 3000]", "[-3000, 3001]", 1),
+                         encoding="utf-8")
+        folder = self.room / "none"
+        with self.assertRaisesRegex(coverlog.LogError, "no evidence: check says no 54 BoundDiffers line 4, recheck says no 54"):
+            ended_with(evidence, "make", folder, *self.files[:2], other, self.files[3], "--to", 1, "--program", PROGRAM)
+        self.assertFalse(folder.exists())
+
+    def test_events_are_no_epochs(self):
+        path = self.room / "events.obs"
+        path.write_text("> 2008 05 26 05 59 29.9990000  0  1\nG01\n> " + " " * 29 + "4  2\n> comment\n> comment\n"
+                        "> 2008 05 26 05 59 30.9990000  1  0\n", encoding="ascii")
+        self.assertEqual(evidence.file_epochs(path), 2)
+
+
+if __name__ == "__main__":
+    if len(sys.argv) > 1:
+        PROGRAM = os.path.abspath(sys.argv[1])
+    sys.exit(testing.run("evidence"))
