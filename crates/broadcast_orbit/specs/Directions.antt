@@ -15,8 +15,8 @@ pub record DirectionEnds (n w : ℕ) (a : Direction) : Type 0 where
 abbrev pub DirectionAmount : ℕ → Direction → Type 0
 DirectionAmount n a = DirectionEnds n (2 * n) a
 
--- the products of the sum of two angles: those with the cosine of b are at most k, those with its sine
--- at most l
+-- the products of the sum of two angles: those with the cosine of b are at most k, those with its
+-- sine at most l
 pub record DirectionSpread (k j l i : ℕ) (a b : Direction) : Type 0 where
   pub cosines : Spread k j a.cosine b.cosine
   pub sines : Spread l i a.sine b.sine

@@ -1,6 +1,6 @@
 -- How large the numbers of the orbit's equations are, and how far the numbers of one result may be
--- apart where the time is one of at most 64 ps. They follow one from the other in the order of table
--- 20-IV, with four units more for each product, for eccentricities up to 0.2 and roots of the
+-- apart where the time is one of at most 64 ps. They follow one from the other in the order of
+-- table 20-IV, with four units more for each product, for eccentricities up to 0.2 and roots of the
 -- semi-major axis up to 6,600 m^(1/2). Amounts are crude: no law on sines and cosines is used.
 use Rattle.std.specs.Prelude.{ℕ, ◌+◌, ◌*◌, ◌^◌, ℤ, pos, ◌+ℤ◌, ◌*ℤ◌}
 use Rattle.grid_model.specs.Angles.{unit}
@@ -181,4 +181,5 @@ abbrev pub coordinate_amount : ℕ
 coordinate_amount = 54 * 10 ^ 12
 
 abbrev pub IsOrbitDistance : ℤ → ℤ → ℤ → Type 0
-IsOrbitDistance x y z = Between (pos (least_distance * least_distance)) (pos (greatest_distance * greatest_distance)) ((x *ℤ x) +ℤ (y *ℤ y) +ℤ (z *ℤ z))
+IsOrbitDistance x y z = Between (pos (least_distance * least_distance))
+    (pos (greatest_distance * greatest_distance)) ((x *ℤ x) +ℤ (y *ℤ y) +ℤ (z *ℤ z))

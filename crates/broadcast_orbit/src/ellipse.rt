@@ -1,6 +1,7 @@
 //! Where the satellite is on the ellipse of its orbit.
 
-ghost use Rattle.std.specs.Prelude.{ℕ, ◌≡◌, ◌+◌, ◌-◌, ◌*◌, ◌≤◌, ℤ, pos, ◌+ℤ◌, ◌-ℤ◌, ◌*ℤ◌, ◌≤ℤ◌, ◌<ℤ◌};
+ghost use Rattle.std.specs.Prelude.{ℕ, ◌≡◌, ◌+◌, ◌-◌, ◌*◌, ◌≤◌, ℤ, pos, ◌+ℤ◌, ◌-ℤ◌, ◌*ℤ◌, ◌≤ℤ◌};
+ghost use Rattle.std.specs.Prelude.{◌<ℤ◌};
 ghost use Rattle.grid_model.specs.Angles.{unit};
 ghost use Rattle.gnss_model.specs.ClockChain.{IsAdvanced};
 ghost use Rattle.gnss_model.specs.Kepler.{Kepler};
@@ -11,7 +12,11 @@ ghost use Rattle.grid_model.specs.Rounding.{Near};
 ghost use Rattle.grid_model.specs.Sines.{Sine, Cosine};
 ghost use Rattle.fix_interval.specs.Factors.{Holds, HasEnds, HasAmount};
 ghost use Rattle.broadcast_orbit.specs.Directions.{HoldsDirection, DirectionEnds, DirectionAmount};
-ghost use Rattle.broadcast_orbit.specs.OrbitSizes.{orbit_reach, motion_amount, motion_width, after_width, eccentricity_amount, mean_amount, mean_width, value_amount, eccentric_value_width, ratio_amount, ratio_width, least_ratio, true_amount, true_width};
+ghost use Rattle.broadcast_orbit.specs.OrbitSizes.{orbit_reach, motion_amount, motion_width};
+ghost use Rattle.broadcast_orbit.specs.OrbitSizes.{after_width, eccentricity_amount, mean_amount};
+ghost use Rattle.broadcast_orbit.specs.OrbitSizes.{mean_width, value_amount, eccentric_value_width};
+ghost use Rattle.broadcast_orbit.specs.OrbitSizes.{ratio_amount, ratio_width, least_ratio};
+ghost use Rattle.broadcast_orbit.specs.OrbitSizes.{true_amount, true_width};
 
 use crate::directions::{Direction, direction_of};
 use fix_interval::{Exact, UNIT, advanced, product};
@@ -35,7 +40,8 @@ pub(crate) struct Ellipse {
 fn mean_anomaly(el: &Elements, motion: Exact, after: Exact) -> Exact
     requires motion_ends { HasEnds motion_amount motion_width motion }
     requires after_size { HasAmount orbit_reach after }
-    ensures holds { (m0 n t m : ℤ) → IsValue el.now.m0 m0 → Holds motion n → Holds after t → IsAdvanced m0 n t m → Holds result m }
+    ensures holds { (m0 n t m : ℤ) → IsValue el.now.m0 m0 → Holds motion n → Holds after t →
+        IsAdvanced m0 n t m → Holds result m }
     ensures amount { HasAmount mean_amount result }
     ensures narrow { HasEnds orbit_reach after_width after → HasEnds mean_amount mean_width result }
 {
@@ -47,9 +53,11 @@ fn eccentric_direction(mean: Exact, e: Exact) -> Direction
     requires mean_size { HasAmount mean_amount mean }
     requires e_low { pos 0 ≤ℤ e.lo }
     requires e_ends { HasEnds eccentricity_amount 1 e }
-    ensures holds { (m x a c s : ℤ) → Holds mean m → Holds e x → Kepler m x a → Cosine a c → Sine a s → HoldsDirection result c s }
+    ensures holds { (m x a c s : ℤ) → Holds mean m → Holds e x → Kepler m x a → Cosine a c →
+        Sine a s → HoldsDirection result c s }
     ensures amount { DirectionAmount value_amount result }
-    ensures narrow { HasEnds mean_amount mean_width mean → DirectionEnds value_amount eccentric_value_width result }
+    ensures narrow { HasEnds mean_amount mean_width mean →
+        DirectionEnds value_amount eccentric_value_width result }
 {
     direction_of(eccentric(mean, e))
 }
@@ -58,10 +66,12 @@ fn eccentric_direction(mean: Exact, e: Exact) -> Direction
 fn ratio(e: Exact, cos_e: Exact) -> Exact
     requires e_ends { HasEnds eccentricity_amount 1 e }
     requires cos_size { HasAmount value_amount cos_e }
-    ensures holds { (x c r : ℤ) → Holds e x → Holds cos_e c → Near (pos (unit * unit) -ℤ (x *ℤ c)) (pos unit) r → Holds result r }
+    ensures holds { (x c r : ℤ) → Holds e x → Holds cos_e c →
+        Near (pos (unit * unit) -ℤ (x *ℤ c)) (pos unit) r → Holds result r }
     ensures least { pos least_ratio ≤ℤ result.lo }
     ensures amount { HasAmount ratio_amount result }
-    ensures narrow { HasEnds value_amount eccentric_value_width cos_e → HasEnds ratio_amount ratio_width result }
+    ensures narrow { HasEnds value_amount eccentric_value_width cos_e →
+        HasEnds ratio_amount ratio_width result }
 {
     let one = Exact { lo: UNIT, hi: UNIT };
     one.minus(product(e, cos_e))
@@ -87,7 +97,8 @@ fn flatness_of(e: u128) -> u64
 fn flatness(e: Exact) -> Exact
     requires e_low { pos 0 ≤ℤ e.lo }
     requires e_ends { HasEnds eccentricity_amount 1 e }
-    ensures holds { (x : ℤ) (w : ℕ) → Holds e x → (pos (w * w) +ℤ (x *ℤ x)) ≤ℤ pos (unit * unit) → pos (unit * unit) <ℤ (pos ((w + 1) * (w + 1)) +ℤ (x *ℤ x)) → Holds result (pos w) }
+    ensures holds { (x : ℤ) (w : ℕ) → Holds e x → (pos (w * w) +ℤ (x *ℤ x)) ≤ℤ pos (unit * unit) →
+        pos (unit * unit) <ℤ (pos ((w + 1) * (w + 1)) +ℤ (x *ℤ x)) → Holds result (pos w) }
     ensures ends { HasEnds unit 1 result }
 {
     Exact {
@@ -102,9 +113,11 @@ fn true_cosine(cos_e: Exact, e: Exact, ratio: Exact) -> Exact
     requires e_ends { HasEnds eccentricity_amount 1 e }
     requires least { pos least_ratio ≤ℤ ratio.lo }
     requires ratio_size { HasAmount ratio_amount ratio }
-    ensures holds { (c x r v : ℤ) → Holds cos_e c → Holds e x → Holds ratio r → Near ((c -ℤ x) *ℤ pos unit) r v → Holds result v }
+    ensures holds { (c x r v : ℤ) → Holds cos_e c → Holds e x → Holds ratio r →
+        Near ((c -ℤ x) *ℤ pos unit) r v → Holds result v }
     ensures amount { HasAmount true_amount result }
-    ensures narrow { HasEnds value_amount eccentric_value_width cos_e → HasEnds ratio_amount ratio_width ratio → HasEnds true_amount true_width result }
+    ensures narrow { HasEnds value_amount eccentric_value_width cos_e →
+        HasEnds ratio_amount ratio_width ratio → HasEnds true_amount true_width result }
 {
     cos_e.minus(e).over(ratio, UNIT)
 }
@@ -115,9 +128,11 @@ fn true_sine(flatness: Exact, sin_e: Exact, ratio: Exact) -> Exact
     requires sin_size { HasAmount value_amount sin_e }
     requires least { pos least_ratio ≤ℤ ratio.lo }
     requires ratio_size { HasAmount ratio_amount ratio }
-    ensures holds { (w s r v : ℤ) → Holds flatness w → Holds sin_e s → Holds ratio r → Near (w *ℤ s) r v → Holds result v }
+    ensures holds { (w s r v : ℤ) → Holds flatness w → Holds sin_e s → Holds ratio r →
+        Near (w *ℤ s) r v → Holds result v }
     ensures amount { HasAmount true_amount result }
-    ensures narrow { HasEnds value_amount eccentric_value_width sin_e → HasEnds ratio_amount ratio_width ratio → HasEnds true_amount true_width result }
+    ensures narrow { HasEnds value_amount eccentric_value_width sin_e →
+        HasEnds ratio_amount ratio_width ratio → HasEnds true_amount true_width result }
 {
     flatness.times_over(sin_e, 1).over(ratio, 1)
 }
@@ -126,10 +141,14 @@ fn true_sine(flatness: Exact, sin_e: Exact, ratio: Exact) -> Exact
 pub(crate) fn on_ellipse(el: &Elements, motion: Exact, after: Exact) -> Ellipse
     requires motion_ends { HasEnds motion_amount motion_width motion }
     requires after_size { HasAmount orbit_reach after }
-    ensures holds { (f : OrbitFields) (n t r c s : ℤ) → AreOrbitFields el.now f → Holds motion n → Holds after t → Anomaly f n t r c s → Holds result.ratio r × HoldsDirection result.direction c s }
+    ensures holds { (f : OrbitFields) (n t r c s : ℤ) → AreOrbitFields el.now f → Holds motion n →
+        Holds after t → Anomaly f n t r c s → Holds result.ratio r
+        × HoldsDirection result.direction c s }
     ensures ratio_amount { HasAmount ratio_amount result.ratio }
     ensures direction_amount { DirectionAmount true_amount result.direction }
-    ensures narrow { HasEnds orbit_reach after_width after → HasEnds ratio_amount ratio_width result.ratio × DirectionEnds true_amount true_width result.direction }
+    ensures narrow { HasEnds orbit_reach after_width after →
+        HasEnds ratio_amount ratio_width result.ratio
+        × DirectionEnds true_amount true_width result.direction }
 {
     let e = Exact::of_wide(el.e);
     let at = eccentric_direction(mean_anomaly(el, motion, after), e);

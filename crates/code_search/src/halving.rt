@@ -1,12 +1,14 @@
 //! A code with a given residual at a point, found by halving.
 
-ghost use Rattle.std.specs.Prelude.{ℕ, ◌≡◌, ◌+◌, ◌*◌, ◌^◌, ◌≤◌, ℤ, pos, neg_ℤ, ◌+ℤ◌, ◌-ℤ◌, ◌*ℤ◌, ◌≤ℤ◌, ◌<ℤ◌, true, false};
+ghost use Rattle.std.specs.Prelude.{ℕ, ◌≡◌, ◌+◌, ◌*◌, ◌^◌, ◌≤◌, ℤ, pos, neg_ℤ, ◌+ℤ◌, ◌-ℤ◌, ◌*ℤ◌};
+ghost use Rattle.std.specs.Prelude.{◌≤ℤ◌, ◌<ℤ◌, true, false};
 ghost use Rattle.fix_interval.specs.Factors.{Holds};
 ghost use Rattle.gnss_model.specs.RecordBounds.{time_bound};
 ghost use Rattle.grid_model.specs.Sizes.{IsBoxSize, IsWithin};
 ghost use Rattle.grid_model.specs.declared.boxes.Pos.{Pos};
 ghost use Rattle.gnss_model.specs.declared.elements.Elements.{Elements};
-ghost use Rattle.code_search.specs.SearchSizes.{IsNearEpoch, IsNearPoint, farthest_range, greatest_offset, last_code, one_width, pair_width};
+ghost use Rattle.code_search.specs.SearchSizes.{IsNearEpoch, IsNearPoint, farthest_range};
+ghost use Rattle.code_search.specs.SearchSizes.{greatest_offset, last_code, one_width, pair_width};
 ghost use Rattle.code_search.specs.Residuals.{Residual, ResidualsAtMost, ResidualsAtLeast, um_of};
 
 use crate::residuals::residual;

@@ -1,6 +1,7 @@
 //! The residuals of a code at a point, as an interval.
 
-ghost use Rattle.std.specs.Prelude.{ℕ, ◌≡◌, ◌+◌, ◌*◌, ◌^◌, ◌≤◌, ℤ, pos, ◌+ℤ◌, ◌-ℤ◌, ◌≤ℤ◌, ◌<ℤ◌, true};
+ghost use Rattle.std.specs.Prelude.{ℕ, ◌≡◌, ◌+◌, ◌*◌, ◌^◌, ◌≤◌, ℤ, pos, ◌+ℤ◌, ◌-ℤ◌, ◌≤ℤ◌, ◌<ℤ◌};
+ghost use Rattle.std.specs.Prelude.{true};
 ghost use Rattle.broadcast_orbit.specs.OrbitSizes.{time_width, IsOrbitDistance};
 ghost use Rattle.fix_interval.specs.Places.{HoldsPlace, PlaceEnds, PlaceAmount};
 ghost use Rattle.earth_rotation.specs.RoundSizes.{turned_reach, range_amount};
@@ -17,7 +18,9 @@ ghost use Rattle.gnss_model.specs.RecordBounds.{time_bound};
 ghost use Rattle.grid_model.specs.Sizes.{IsBoxSize, IsWithin};
 ghost use Rattle.gnss_model.specs.Turn.{Turn};
 ghost use Rattle.grid_model.specs.declared.boxes.Pos.{Pos};
-ghost use Rattle.code_search.specs.SearchSizes.{IsNearEpoch, IsNearOrbit, IsNearPoint, code_amount, code_width, corrected_amount, farthest_range, greatest_offset, one_width};
+ghost use Rattle.code_search.specs.SearchSizes.{IsNearEpoch, IsNearOrbit, IsNearPoint, code_amount};
+ghost use Rattle.code_search.specs.SearchSizes.{code_width, corrected_amount, farthest_range};
+ghost use Rattle.code_search.specs.SearchSizes.{greatest_offset, one_width};
 ghost use Rattle.code_search.specs.Residuals.{Residual};
 
 use broadcast_orbit::place;

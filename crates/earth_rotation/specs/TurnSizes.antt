@@ -1,4 +1,5 @@
--- How large the coordinates of a place may be that is turned, and how large they are afterwards, in um.
+-- How large the coordinates of a place may be that is turned, and how large they are afterwards, in
+-- um.
 use Rattle.std.specs.Prelude.{ℕ, ◌+◌, ◌*◌, ◌/◌, ◌^◌}
 
 -- a coordinate before the turn

@@ -4,14 +4,15 @@ ghost use Rattle.std.specs.Prelude.{ℕ, ◌+◌, ◌*◌, ◌≤◌, ℤ, pos, 
 ghost use Rattle.grid_model.specs.Sines.{Sine, NearCircle};
 ghost use Rattle.gnss_model.specs.Turn.{IsEarthAngle};
 ghost use Rattle.fix_interval.specs.Factors.{Holds, HasEnds, HasAmount};
-ghost use Rattle.earth_rotation.specs.RoundSizes.{range_amount, angle_amount, sine_amount, cosine_amount, angle_width, cosine_width};
+ghost use Rattle.earth_rotation.specs.RoundSizes.{range_amount, angle_amount, sine_amount};
+ghost use Rattle.earth_rotation.specs.RoundSizes.{cosine_amount, angle_width, cosine_width};
 
 use fix_interval::{Exact, ExactArea, Interval};
 use gnss_model::EARTH_RATE;
 use interval_trig::sine;
 
-/// The speed of light, in m/s, times 10^12: a rate in 10^-22 rad/s times a range in um over it is an
-/// angle in 10^-16 rad.
+/// The speed of light, in m/s, times 10^12: a rate in 10^-22 rad/s times a range in um over it is
+/// an angle in 10^-16 rad.
 const LIGHT_SCALE: i128 = 299_792_458_000_000_000_000;
 
 /// The square of one, 16 units of 10^-16 less and more, in 10^-32.
@@ -24,7 +25,8 @@ pub(crate) fn earth_angle(range: Exact) -> Exact
     requires { HasAmount range_amount range }
     ensures holds { (r : ℕ) (a : ℤ) → Holds range (pos r) → IsEarthAngle r a → Holds result a }
     ensures amount { HasAmount angle_amount result }
-    ensures narrow { (v : ℕ) → HasEnds range_amount v range → HasEnds angle_amount (angle_width v) result }
+    ensures narrow { (v : ℕ) → HasEnds range_amount v range →
+        HasEnds angle_amount (angle_width v) result }
 {
     let rate = Exact {
         lo: EARTH_RATE,
@@ -43,13 +45,14 @@ pub(crate) fn small_sine(angle: Exact) -> Exact
     sine(angle)
 }
 
-/// The cosine of an angle whose sine is small, by the law on their squares: it hardly moves with the
-/// angle, while `cosine` widens as the angle does.
+/// The cosine of an angle whose sine is small, by the law on their squares: it hardly moves with
+/// the angle, while `cosine` widens as the angle does.
 pub(crate) fn cosine_beside(sine: Exact) -> Exact
     requires { HasAmount sine_amount sine }
     ensures holds { (s c : ℤ) → Holds sine s → pos 0 ≤ℤ c → NearCircle s c → Holds result c }
     ensures amount { HasAmount cosine_amount result }
-    ensures narrow { (w : ℕ) → HasEnds sine_amount w sine → HasEnds cosine_amount (cosine_width w) result }
+    ensures narrow { (w : ℕ) → HasEnds sine_amount w sine →
+        HasEnds cosine_amount (cosine_width w) result }
 {
     let squares = sine.square();
     <Exact as Interval>::root(ExactArea {

@@ -51,13 +51,15 @@ fn offsets(x: Exact, side: Exact) -> Exact
     x.minus(side)
 }
 
-/// From the least to the greatest range, in um, from a point of the box to a point of the place, each
-/// axis taken for itself. The coordinates of the place are within 6.1 * 10^13 um.
+/// From the least to the greatest range, in um, from a point of the box to a point of the place,
+/// each axis taken for itself. The coordinates of the place are within 6.1 * 10^13 um.
 pub fn range(place: Place, part: &Box3) -> Exact
     requires { PlaceAmount turned_reach place }
-    ensures holds { (p : Pos) (x y z : ℤ) → box_holds (grid_box part.now) p ≡ true → HoldsPlace place x y z → Holds result (pos (range_to x y z p)) }
+    ensures holds { (p : Pos) (x y z : ℤ) → box_holds (grid_box part.now) p ≡ true →
+        HoldsPlace place x y z → Holds result (pos (range_to x y z p)) }
     ensures amount { HasAmount range_amount result }
-    ensures narrow { (w : ℕ) → PlaceEnds turned_reach w place → HasEnds range_amount (range_width (grid_box part.now) w) result }
+    ensures narrow { (w : ℕ) → PlaceEnds turned_reach w place →
+        HasEnds range_amount (range_width (grid_box part.now) w) result }
 {
     let points = place_of(part);
     let x = offsets(place.x, points.x);

@@ -19,10 +19,13 @@ use grid_model::Box3;
 fn turned_over(place: Place, range: Exact) -> Place
     requires size { PlaceAmount turn_reach place }
     requires range_size { HasAmount range_amount range }
-    ensures holds { (r : ℕ) (x y z tx ty : ℤ) → Holds range (pos r) → HoldsPlace place x y z → IsTurnedOver r x y tx ty → HoldsPlace result tx ty z }
+    ensures holds { (r : ℕ) (x y z tx ty : ℤ) → Holds range (pos r) → HoldsPlace place x y z →
+        IsTurnedOver r x y tx ty → HoldsPlace result tx ty z }
     ensures same_z { result.z ≡ place.z }
-    ensures sizes { (n : ℕ) → n ≤ turn_reach → PlaceAmount n place → PlaceAmount (reach_after n) result }
-    ensures narrow { (v : ℕ) → PlaceEnds near_reach narrow_width place → HasEnds range_amount v range → PlaceEnds (reach_after near_reach) (turned_width v) result }
+    ensures sizes { (n : ℕ) → n ≤ turn_reach → PlaceAmount n place →
+        PlaceAmount (reach_after n) result }
+    ensures narrow { (v : ℕ) → PlaceEnds near_reach narrow_width place →
+        HasEnds range_amount v range → PlaceEnds (reach_after near_reach) (turned_width v) result }
 {
     let sine = small_sine(earth_angle(range));
     let cosine = cosine_beside(sine);
@@ -35,16 +38,19 @@ fn turned_over(place: Place, range: Exact) -> Place
 
 /// Every place in um that a member of `unturned`, the place when the signal was sent, has in the
 /// earth-fixed frame of the time when it is received at a grid point of the box. The coordinates of
-/// `unturned` are within 6 * 10^13 um. For coordinates at most 1,000 um wide and within 52,300 km none
-/// becomes wider than 2,000 um and a 40,000th of the longest side of the box.
+/// `unturned` are within 6 * 10^13 um. For coordinates at most 1,000 um wide and within 52,300 km
+/// none becomes wider than 2,000 um and a 40,000th of the longest side of the box.
 pub fn turned(unturned: Place, part: &Box3) -> Place
     requires { PlaceAmount turn_reach unturned }
-    ensures holds { (p : Pos) (x y z tx ty : ℤ) (r : ℕ) → box_holds (grid_box part.now) p ≡ true → HoldsPlace unturned x y z → Turn p x y z tx ty r → HoldsPlace result tx ty z }
+    ensures holds { (p : Pos) (x y z tx ty : ℤ) (r : ℕ) → box_holds (grid_box part.now) p ≡ true →
+        HoldsPlace unturned x y z → Turn p x y z tx ty r → HoldsPlace result tx ty z }
     ensures same_z { result.z ≡ unturned.z }
 
     // The turn hardly changes the size of a coordinate.
-    ensures sizes { (n : ℕ) → n ≤ turn_reach → PlaceAmount n unturned → PlaceAmount (reach_after n) result }
-    ensures narrow { PlaceEnds near_reach narrow_width unturned → PlaceEnds (reach_after near_reach) (spare_of (grid_box part.now)) result }
+    ensures sizes { (n : ℕ) → n ≤ turn_reach → PlaceAmount n unturned →
+        PlaceAmount (reach_after n) result }
+    ensures narrow { PlaceEnds near_reach narrow_width unturned →
+        PlaceEnds (reach_after near_reach) (spare_of (grid_box part.now)) result }
 {
     let first = turned_over(unturned, range(unturned, part));
     turned_over(unturned, range(first, part))

@@ -27,11 +27,13 @@ fn one(n: i64) -> Exact
 pub fn mapped_delay(zenith: i64, mapping: Exact) -> Exact
     requires zenith_size { IsWithin (10 ^ 7) zenith }
     requires mapping_size { HasAmount mapped_amount mapping }
-    ensures holds { (factor delay : ℤ) → Holds mapping factor → IsMappedDelay zenith factor delay → Holds result delay }
+    ensures holds { (factor delay : ℤ) → Holds mapping factor → IsMappedDelay zenith factor delay →
+        Holds result delay }
     ensures amount { HasAmount delay_amount result }
 
     // Of a mapping as wide as that over a box whose longest side is d.
-    ensures narrow { (d : ℕ) → (mapping.hi -ℤ mapping.lo) ≤ℤ pos (width_over d) → (result.hi -ℤ result.lo) ≤ℤ pos (spare_over (nat_abs zenith) d) }
+    ensures narrow { (d : ℕ) → (mapping.hi -ℤ mapping.lo) ≤ℤ pos (width_over d) →
+        (result.hi -ℤ result.lo) ≤ℤ pos (spare_over (nat_abs zenith) d) }
 {
     product(one(zenith), mapping)
 }

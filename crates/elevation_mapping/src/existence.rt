@@ -10,5 +10,7 @@ ghost use Rattle.gnss_model.specs.Mapping.{Mapping};
 /// At every point that is at least 6,000 km from the origin and 5,000 km from a place the equations
 /// allow a mapping, so that what `mapped` holds isn't empty. The call does nothing.
 pub fn mapping_exists()
-    ensures { (p : Pos) (x y z : ℤ) → square (6 * 10 ^ 12) ≤ sum_of_squares p.x p.y p.z → square (5 * 10 ^ 12) ≤ sum_of_squares (x -ℤ p.x) (y -ℤ p.y) (z -ℤ p.z) → (factor : ℤ) × Mapping p x y z (range_to x y z p) factor }
+    ensures { (p : Pos) (x y z : ℤ) → square (6 * 10 ^ 12) ≤ sum_of_squares p.x p.y p.z →
+        square (5 * 10 ^ 12) ≤ sum_of_squares (x -ℤ p.x) (y -ℤ p.y) (z -ℤ p.z) → (factor : ℤ)
+        × Mapping p x y z (range_to x y z p) factor }
 {}

@@ -98,7 +98,8 @@ pub(crate) fn squares_of(a: Place) -> ExactArea
 /// itself.
 pub(crate) fn length_of(a: Place) -> Exact
     requires { PlaceAmount offset_amount a }
-    ensures holds { (x y z : ℤ) → HoldsPlace a x y z → Holds result (pos (root (sum_of_squares x y z))) }
+    ensures holds { (x y z : ℤ) → HoldsPlace a x y z →
+        Holds result (pos (root (sum_of_squares x y z))) }
     ensures low { result.lo ≡ pos (root (least_sum a)) }
     ensures high { result.hi ≡ pos (root (greatest_sum a)) }
 {

@@ -28,8 +28,10 @@ const MAPPED_SCALE: i128 = 10_010_000_000_000_000;
 fn over_slants(slants: Exact) -> Exact
     requires low_size { pos least_slant ≤ℤ slants.lo }
     requires high_size { slants.hi ≤ℤ pos slant_amount }
-    ensures holds { (slant : ℕ) (factor : ℤ) → Holds slants (pos slant) → IsMapped slant factor → Holds result factor }
-    ensures tight { IsTightQuotient (pos unit) (pos unit) slants.lo slants.hi (pos (1001 * 10 ^ 13)) result.lo result.hi }
+    ensures holds { (slant : ℕ) (factor : ℤ) → Holds slants (pos slant) → IsMapped slant factor →
+        Holds result factor }
+    ensures tight { IsTightQuotient (pos unit) (pos unit) slants.lo slants.hi
+        (pos (1001 * 10 ^ 13)) result.lo result.hi }
     ensures amount { HasAmount mapped_amount result }
 {
     let one = Exact { lo: UNIT, hi: UNIT };
@@ -49,7 +51,8 @@ pub fn mapped(turned: Place, part: &Box3) -> Exact
     requires from_place { IsFarFromPlace (5 * 10 ^ 12) turned (grid_box part.now) }
     requires place { PlaceEnds turned_reach (spare_of (grid_box part.now)) turned }
     requires short { longest_length (grid_box part.now) ≤ 2 * 10 ^ 11 }
-    ensures holds { (p : Pos) (x y z factor : ℤ) → box_holds (grid_box part.now) p ≡ true → HoldsPlace turned x y z → Mapping p x y z (range_to x y z p) factor → Holds result factor }
+    ensures holds { (p : Pos) (x y z factor : ℤ) → box_holds (grid_box part.now) p ≡ true →
+        HoldsPlace turned x y z → Mapping p x y z (range_to x y z p) factor → Holds result factor }
     ensures amount { HasAmount mapped_amount result }
     ensures width { (result.hi -ℤ result.lo) ≤ℤ pos (mapped_width (grid_box part.now)) }
 {

@@ -22,8 +22,8 @@ const LONGEST_SIDE: i64 = 200_000_000_000;
 /// The square of 5,000 km, in um^2.
 const LEAST_SQUARE: u128 = 25_000_000_000_000_000_000_000_000;
 
-/// By how much the equations may differ from the mapping, in 10^-16: they cut lengths off to whole um,
-/// and the vectors don't.
+/// By how much the equations may differ from the mapping, in 10^-16: they cut lengths off to whole
+/// um, and the vectors don't.
 const CUT_OFF: i128 = 10_000;
 
 fn number(rt: &impl Abort, field: Option<&str>) -> i128 {

@@ -1,5 +1,7 @@
 -- How a reader cuts a number field, from left to right. No public clause cites this.
-use Rattle.std.specs.Prelude.{◌≡◌, ℕ, ◌+◌, ℤ, pos, neg_ℤ, ◌-ℤ◌, Bool, true, false, ◌||◌, ◌&&◌, ◌==◌, nat_lt, nat_le, cond, List, [], ◌∷◌, ◌++◌, length, take, drop, Option, None, Some, Result, Ok, Err}
+use Rattle.std.specs.Prelude.{◌≡◌, ℕ, ◌+◌, ℤ, pos, neg_ℤ, ◌-ℤ◌, Bool, true, false, ◌||◌, ◌&&◌, ◌==◌}
+use Rattle.std.specs.Prelude.{nat_lt, nat_le, cond, List, [], ◌∷◌, ◌++◌, length, take, drop, Option}
+use Rattle.std.specs.Prelude.{None, Some, Result, Ok, Err}
 use Rattle.std.specs.Char.{is_ascii_digit}
 use Rattle.std.specs.List.{prefix_len}
 use Rattle.std.specs.Str.Parse.{digits_value}
@@ -42,7 +44,8 @@ behind_mantissa text = behind_fraction (behind is_ascii_digit (behind_sign text)
 
 -- 1 to 18 digits
 abbrev pub has_digits : List ℕ → List ℕ → Bool
-has_digits whole fraction = nat_lt 0 (length whole + length fraction) && nat_le (length whole + length fraction) 18
+has_digits whole fraction =
+    nat_lt 0 (length whole + length fraction) && nat_le (length whole + length fraction) 18
 
 abbrev pub digits_at : List ℕ → ℤ
 digits_at text = signed (is_negative text) (digits_value 10 (whole_at text ++ fraction_at text))
@@ -51,14 +54,17 @@ digits_at text = signed (is_negative text) (digits_value 10 (whole_at text ++ fr
 -- none where a letter has no exponent behind it
 abbrev pub exponent_with : Bool → List ℕ → List ℕ → Option (ℤ × List ℕ)
 exponent_with negative digits rest =
-    cond (nat_lt 0 (length digits) && nat_le (length digits) 2) (Some (signed negative (digits_value 10 digits), rest)) None
+    cond (nat_lt 0 (length digits) && nat_le (length digits) 2)
+    (Some (signed negative (digits_value 10 digits), rest)) None
 
 abbrev pub exponent_behind : List ℕ → Option (ℤ × List ℕ)
-exponent_behind text = exponent_with (is_negative text) (front is_ascii_digit (behind_sign text)) (behind is_ascii_digit (behind_sign text))
+exponent_behind text = exponent_with (is_negative text) (front is_ascii_digit (behind_sign text))
+    (behind is_ascii_digit (behind_sign text))
 
 abbrev pub exponent_of : List ℕ → Option (ℤ × List ℕ)
 exponent_of [] = Some (signed false 0, [])
-exponent_of (byte ∷ bytes) = cond (is_exponent_letter byte) (exponent_behind bytes) (Some (signed false 0, byte ∷ bytes))
+exponent_of (byte ∷ bytes) =
+    cond (is_exponent_letter byte) (exponent_behind bytes) (Some (signed false 0, byte ∷ bytes))
 
 -- what a number of the usual form begins with: a blank, or a minus sign
 abbrev pub Begins : Bool → ℕ → Type 0
@@ -84,11 +90,13 @@ fixed_of field = cond (is_blank_text field) (Ok None) (fixed_text (behind is_bla
 abbrev pub with_exponent : List ℕ → Option (ℤ × List ℕ) → Result (Option Decimal) BadNumber
 with_exponent text None = Err (record {})
 with_exponent text (Some (exponent, rest)) =
-    cond (is_blank_text rest) (number (digits_at text) (exponent -ℤ pos (length (fraction_at text)))) (Err (record {}))
+    cond (is_blank_text rest)
+    (number (digits_at text) (exponent -ℤ pos (length (fraction_at text)))) (Err (record {}))
 
 abbrev pub floating_text : List ℕ → Result (Option Decimal) BadNumber
 floating_text text =
-    cond (has_digits (whole_at text) (fraction_at text)) (with_exponent text (exponent_of (behind_mantissa text))) (Err (record {}))
+    cond (has_digits (whole_at text) (fraction_at text))
+    (with_exponent text (exponent_of (behind_mantissa text))) (Err (record {}))
 
 abbrev pub floating_of : List ℕ → Result (Option Decimal) BadNumber
 floating_of field = cond (is_blank_text field) (Ok None) (floating_text (behind is_blank field))
@@ -97,7 +105,9 @@ floating_of field = cond (is_blank_text field) (Ok None) (floating_text (behind 
 
 abbrev pub count_text : List ℕ → Option ℕ
 count_text text =
-    cond (nat_lt 0 (length (front is_ascii_digit text))) (cond (is_blank_text (behind is_ascii_digit text)) (Some (digits_value 10 (front is_ascii_digit text))) None) None
+    cond (nat_lt 0 (length (front is_ascii_digit text)))
+    (cond (is_blank_text (behind is_ascii_digit text))
+    (Some (digits_value 10 (front is_ascii_digit text))) None) None
 
 abbrev pub count_of : List ℕ → Option ℕ
 count_of field = count_text (behind is_blank field)

@@ -15,8 +15,12 @@ pub fn to_unit_between(decimal: Decimal, unit: Unit, low: i128, high: i128) -> O
     requires low_within { IsWithin (bound_of unit) low }
     requires high_within { IsWithin (bound_of unit) high }
     ensures lies { IsSome result ↔ LiesBetween decimal.digits decimal.ten unit low high }
-    ensures floor { IfSome result (λ held. IsFloor (numerator decimal.digits decimal.ten unit) (pos (denominator decimal.ten unit)) held.lo) }
-    ensures ceiling { IfSome result (λ held. IsCeiling (numerator decimal.digits decimal.ten unit) (pos (denominator decimal.ten unit)) held.hi) }
+    ensures floor { IfSome result
+        (λ held. IsFloor (numerator decimal.digits decimal.ten unit)
+        (pos (denominator decimal.ten unit)) held.lo) }
+    ensures ceiling { IfSome result
+        (λ held. IsCeiling (numerator decimal.digits decimal.ten unit)
+        (pos (denominator decimal.ten unit)) held.hi) }
     ensures from { IfSome result (λ held. low ≤ℤ held.lo) }
     ensures to { IfSome result (λ held. held.hi ≤ℤ high) }
 {

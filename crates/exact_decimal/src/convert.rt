@@ -4,7 +4,8 @@ ghost use Rattle.std.specs.Prelude.{◌≡◌, ◌≤◌, ◌<◌, ◌*◌, ◌^
 ghost use borrow.Author.Differences.{up, down};
 ghost use Rattle.grid_model.specs.Rounding.{IsFloor, IsCeiling};
 ghost use Rattle.exact_decimal.specs.Signing.{low_of, high_of};
-ghost use Rattle.exact_decimal.specs.Units.{bound_of, shift_of, numerator, denominator, PassesBound, IsRounded, RoundsWithin};
+ghost use Rattle.exact_decimal.specs.Units.{bound_of, shift_of, numerator, denominator};
+ghost use Rattle.exact_decimal.specs.Units.{PassesBound, IsRounded, RoundsWithin};
 
 use crate::decimal::Decimal;
 use crate::unit::{Range, Unit};
@@ -13,8 +14,12 @@ use grid_model::Wide;
 /// The floor and the ceiling of the decimal in the unit. `Range` comes exactly where its amount
 /// passes the unit's bound.
 pub fn to_unit(decimal: Decimal, unit: Unit) -> Result<Wide, Range>
-    ensures floor { IfOk result (λ held. IsFloor (numerator decimal.digits decimal.ten unit) (pos (denominator decimal.ten unit)) held.lo) }
-    ensures ceiling { IfOk result (λ held. IsCeiling (numerator decimal.digits decimal.ten unit) (pos (denominator decimal.ten unit)) held.hi) }
+    ensures floor { IfOk result
+        (λ held. IsFloor (numerator decimal.digits decimal.ten unit)
+        (pos (denominator decimal.ten unit)) held.lo) }
+    ensures ceiling { IfOk result
+        (λ held. IsCeiling (numerator decimal.digits decimal.ten unit)
+        (pos (denominator decimal.ten unit)) held.hi) }
     ensures range { IsErr result ↔ PassesBound decimal.digits decimal.ten unit }
 {
     match ends_of(&decimal, unit) {
@@ -25,7 +30,9 @@ pub fn to_unit(decimal: Decimal, unit: Unit) -> Result<Wide, Range>
 
 /// Floor and ceiling of the decimal's amount in the unit; none where it passes the unit's bound.
 fn ends_of(decimal: &Decimal, unit: Unit) -> Option<(u64, u64)>
-    ensures { RoundsWithin (unsigned_abs decimal.now.digits * 10 ^ up (shift_of decimal.now.ten unit)) (denominator decimal.now.ten unit) (bound_of unit) result }
+    ensures { RoundsWithin (unsigned_abs decimal.now.digits
+        * 10 ^ up (shift_of decimal.now.ten unit)) (denominator decimal.now.ten unit)
+        (bound_of unit) result }
 {
     shifted(decimal.amount(), decimal.shift_in(unit), unit.bound())
 }

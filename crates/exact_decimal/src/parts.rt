@@ -1,11 +1,15 @@
 //! The parts of a number field, from left to right.
 
-ghost use Rattle.std.specs.Prelude.{◌≡◌, ◌<◌, ◌≤◌, ◌+◌, ◌-◌, ◌^◌, ◌++◌, length, true, pos, ◌≤ℤ◌, IfSome, option_map};
+ghost use Rattle.std.specs.Prelude.{◌≡◌, ◌<◌, ◌≤◌, ◌+◌, ◌-◌, ◌^◌, ◌++◌, length, true, pos, ◌≤ℤ◌};
+ghost use Rattle.std.specs.Prelude.{IfSome, option_map};
 ghost use Rattle.std.specs.Char.{is_ascii_digit};
 ghost use Rattle.std.specs.List.{prefix_len};
 ghost use Rattle.std.specs.Str.Parse.{digits_value_after, digits_value};
 ghost use Rattle.exact_decimal.specs.NumberFields.{is_blank, is_exponent_letter, AreDigits, signed};
-ghost use Rattle.exact_decimal.specs.Parts.{front, behind, is_negative, behind_sign, fraction_of, behind_fraction, whole_at, fraction_at, behind_mantissa, has_digits, exponent_of, exponent_behind, is_blank_text};
+ghost use Rattle.exact_decimal.specs.Parts.{front, behind, is_negative, behind_sign, fraction_of};
+ghost use Rattle.exact_decimal.specs.Parts.{behind_fraction, whole_at, fraction_at};
+ghost use Rattle.exact_decimal.specs.Parts.{behind_mantissa, has_digits, exponent_of};
+ghost use Rattle.exact_decimal.specs.Parts.{exponent_behind, is_blank_text};
 ghost use Rattle.grid_model.specs.Sizes.{IsWithin};
 
 /// How many digits stand at the front.
@@ -149,7 +153,8 @@ impl<'a> Mantissa<'a> {
         requires whole { AreDigits self.now.whole.now }
         requires fraction { AreDigits self.now.fraction.now }
         requires some { has_digits self.now.whole.now self.now.fraction.now ≡ true }
-        ensures { result ≡ signed self.now.negative (digits_value 10 (self.now.whole.now ++ self.now.fraction.now)) }
+        ensures { result ≡ signed self.now.negative
+            (digits_value 10 (self.now.whole.now ++ self.now.fraction.now)) }
     {
         let whole = number_after(0, self.whole);
         signed_by(self.negative, number_after(whole, self.fraction))
@@ -188,7 +193,8 @@ pub fn small(number: i64) -> i8
 
 /// The sign and the digits of an exponent, and what stands behind them.
 fn exponent_behind(text: &[u8]) -> Option<(i8, &[u8])>
-    ensures exponent { option_map (λ found. (found.0, found.1.now)) result ≡ exponent_behind text.now }
+    ensures exponent { option_map (λ found. (found.0, found.1.now)) result
+        ≡ exponent_behind text.now }
     ensures bound { IfSome result (λ found. IsWithin 99 found.0) }
 {
     let (negative, text) = split_sign(text);

@@ -4,7 +4,8 @@ ghost use Rattle.std.specs.Prelude.{◌≡◌, ◌<◌, ◌≤◌, ◌^◌, ◌-
 ghost use Rattle.std.specs.Char.{is_ascii_digit};
 ghost use Rattle.std.specs.Str.Parse.{digits_value_after};
 ghost use Rattle.grid_model.specs.Sizes.{IsWithin};
-ghost use Rattle.exact_decimal.specs.NumberFields.{is_exponent_letter, AreDigits, IsSign, IsExponent, IsFloating};
+ghost use Rattle.exact_decimal.specs.NumberFields.{is_exponent_letter, AreDigits, IsSign};
+ghost use Rattle.exact_decimal.specs.NumberFields.{IsExponent, IsFloating};
 ghost use Rattle.exact_decimal.specs.Parts.{Begins};
 
 use crate::decimal::Decimal;

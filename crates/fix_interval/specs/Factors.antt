@@ -20,8 +20,8 @@ HasAmount n a = HasEnds n (2 * n) a
 abbrev pub factor_bound : ℕ
 factor_bound = 10 ^ 18
 
--- products of members, over one, are at most k in amount and at most j apart: by the amounts m and n
--- and the widths v and w of the factors
+-- products of members, over one, are at most k in amount and at most j apart: by the amounts m and
+-- n and the widths v and w of the factors
 pub record Spread (k j : ℕ) (a b : Exact) : Type 0 where
   pub m : ℕ
   pub v : ℕ

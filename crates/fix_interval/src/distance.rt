@@ -16,11 +16,17 @@ pub fn squared_distance<I: Interval>(dx: I, dy: I, dz: I) -> I::Area
     requires y_high { IsWithin (2 ^ 47) (I.high dy) }
     requires z_low { IsWithin (2 ^ 47) (I.low dz) }
     requires z_high { IsWithin (2 ^ 47) (I.high dz) }
-    requires sum_size { greatest_square (I.low dx) (I.high dx) + greatest_square (I.low dy) (I.high dy) + greatest_square (I.low dz) (I.high dz) ≤ 2 ^ 95 }
-    ensures low { I.area_low result ≡ least_square (I.low dx) (I.high dx) + least_square (I.low dy) (I.high dy) + least_square (I.low dz) (I.high dz) }
-    ensures high { I.area_high result ≡ greatest_square (I.low dx) (I.high dx) + greatest_square (I.low dy) (I.high dy) + greatest_square (I.low dz) (I.high dz) }
-    ensures from { (a b c : ℤ) → Between (I.low dx) (I.high dx) a → Between (I.low dy) (I.high dy) b → Between (I.low dz) (I.high dz) c → I.area_low result ≤ sum_of_squares a b c }
-    ensures to { (a b c : ℤ) → Between (I.low dx) (I.high dx) a → Between (I.low dy) (I.high dy) b → Between (I.low dz) (I.high dz) c → sum_of_squares a b c ≤ I.area_high result }
+    requires sum_size { greatest_square (I.low dx) (I.high dx)
+        + greatest_square (I.low dy) (I.high dy) + greatest_square (I.low dz) (I.high dz) ≤ 2 ^ 95 }
+    ensures low { I.area_low result ≡ least_square (I.low dx) (I.high dx)
+        + least_square (I.low dy) (I.high dy) + least_square (I.low dz) (I.high dz) }
+    ensures high { I.area_high result ≡ greatest_square (I.low dx) (I.high dx)
+        + greatest_square (I.low dy) (I.high dy) + greatest_square (I.low dz) (I.high dz) }
+    ensures from { (a b c : ℤ) → Between (I.low dx) (I.high dx) a →
+        Between (I.low dy) (I.high dy) b → Between (I.low dz) (I.high dz) c →
+        I.area_low result ≤ sum_of_squares a b c }
+    ensures to { (a b c : ℤ) → Between (I.low dx) (I.high dx) a → Between (I.low dy) (I.high dy) b →
+        Between (I.low dz) (I.high dz) c → sum_of_squares a b c ≤ I.area_high result }
 {
     I::area_sum(I::area_sum(dx.square(), dy.square()), dz.square())
 }

@@ -92,7 +92,8 @@ pub(crate) fn high_end(num: i128, den: i128) -> i128
 pub(crate) fn low_end_over(num: i128, divisor: Exact) -> i128
     requires positive { pos 0 <ℤ divisor.lo }
     requires num_size { IsWithin (10 ^ 38) num }
-    ensures holds { (d v : ℤ) → Between divisor.lo divisor.hi d → num ≤ℤ (v *ℤ d +ℤ d) → result ≤ℤ v }
+    ensures holds { (d v : ℤ) → Between divisor.lo divisor.hi d → num ≤ℤ (v *ℤ d +ℤ d) →
+        result ≤ℤ v }
     ensures tight { (d : ℤ) × Between divisor.lo divisor.hi d × (num ≤ℤ ((result +ℤ pos 2) *ℤ d)) }
 {
     if num < 0 {
@@ -106,7 +107,8 @@ pub(crate) fn low_end_over(num: i128, divisor: Exact) -> i128
 pub(crate) fn high_end_over(num: i128, divisor: Exact) -> i128
     requires positive { pos 0 <ℤ divisor.lo }
     requires num_size { IsWithin (10 ^ 38) num }
-    ensures holds { (d v : ℤ) → Between divisor.lo divisor.hi d → (v *ℤ d) ≤ℤ (num +ℤ d) → v ≤ℤ result }
+    ensures holds { (d v : ℤ) → Between divisor.lo divisor.hi d → (v *ℤ d) ≤ℤ (num +ℤ d) →
+        v ≤ℤ result }
     ensures tight { (d : ℤ) × Between divisor.lo divisor.hi d × (((result -ℤ pos 2) *ℤ d) ≤ℤ num) }
 {
     if num < 0 {

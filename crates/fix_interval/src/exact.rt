@@ -70,9 +70,13 @@ impl Exact {
     pub fn times_over(self, other: Exact, den: i128) -> Exact
         requires positive { pos 0 <ℤ den }
         requires sizes { ProductsWithin (10 ^ 38) self.lo self.hi other.lo other.hi }
-        ensures holds { (a b v : ℤ) → Between self.lo self.hi a → Between other.lo other.hi b → Near (a *ℤ b) den v → Between result.lo result.hi v }
-        ensures tight { IsTightRound (least_product self.lo self.hi other.lo other.hi) den (greatest_product self.lo self.hi other.lo other.hi) den result.lo result.hi }
-        ensures width { ((result.hi -ℤ result.lo) *ℤ den) ≤ℤ ((greatest_product self.lo self.hi other.lo other.hi -ℤ least_product self.lo self.hi other.lo other.hi) +ℤ (pos 4 *ℤ den)) }
+        ensures holds { (a b v : ℤ) → Between self.lo self.hi a → Between other.lo other.hi b →
+            Near (a *ℤ b) den v → Between result.lo result.hi v }
+        ensures tight { IsTightRound (least_product self.lo self.hi other.lo other.hi) den
+            (greatest_product self.lo self.hi other.lo other.hi) den result.lo result.hi }
+        ensures width { ((result.hi -ℤ result.lo) *ℤ den)
+            ≤ℤ ((greatest_product self.lo self.hi other.lo other.hi
+            -ℤ least_product self.lo self.hi other.lo other.hi) +ℤ (pos 4 *ℤ den)) }
     {
         let least = least_of_products(self.lo, self.hi, other.lo, other.hi);
         let greatest = greatest_of_products(self.lo, self.hi, other.lo, other.hi);
@@ -87,7 +91,8 @@ impl Exact {
         requires positive { pos 0 <ℤ other.lo }
         requires low_size { IsWithin (10 ^ 38) (self.lo *ℤ num) }
         requires high_size { IsWithin (10 ^ 38) (self.hi *ℤ num) }
-        ensures holds { (a b v : ℤ) → Between self.lo self.hi a → Between other.lo other.hi b → Near (a *ℤ num) b v → Between result.lo result.hi v }
+        ensures holds { (a b v : ℤ) → Between self.lo self.hi a → Between other.lo other.hi b →
+            Near (a *ℤ num) b v → Between result.lo result.hi v }
         ensures tight { IsTightQuotient self.lo self.hi other.lo other.hi num result.lo result.hi }
     {
         let least = least_of_products(self.lo, self.hi, num, num);

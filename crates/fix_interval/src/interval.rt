@@ -1,6 +1,7 @@
 //! What every kind of interval keeps to, so that code can be proved once for all of them.
 
-ghost use Rattle.std.specs.Prelude.{◌≡◌, ℕ, ◌+◌, ◌-◌, ◌^◌, ◌<◌, ◌≤◌, ℤ, pos, ◌+ℤ◌, ◌-ℤ◌, ◌*ℤ◌, ◌≤ℤ◌, ◌<ℤ◌, MatchOption};
+ghost use Rattle.std.specs.Prelude.{◌≡◌, ℕ, ◌+◌, ◌-◌, ◌^◌, ◌<◌, ◌≤◌, ℤ, pos, ◌+ℤ◌, ◌-ℤ◌, ◌*ℤ◌};
+ghost use Rattle.std.specs.Prelude.{◌≤ℤ◌, ◌<ℤ◌, MatchOption};
 ghost use Rattle.std.specs.Int.{int_min, int_max};
 ghost use Rattle.grid_model.specs.Sizes.{IsWithin};
 ghost use Rattle.grid_model.specs.Roots.{root};
@@ -53,7 +54,9 @@ pub trait Interval: Copy {
 
     /// The numbers that both hold, if there are any.
     fn meet(self, other: Self) -> Option<Self>
-        ensures { MatchOption result (int_min (high self) (high other) <ℤ int_max (low self) (low other)) (λ r. (low r ≡ int_max (low self) (low other)) × (high r ≡ int_min (high self) (high other))) };
+        ensures { MatchOption result (int_min (high self) (high other)
+            <ℤ int_max (low self) (low other)) (λ r. (low r ≡ int_max (low self) (low other))
+            × (high r ≡ int_min (high self) (high other))) };
 
     /// The least interval that holds what either holds.
     fn hull(self, other: Self) -> Self

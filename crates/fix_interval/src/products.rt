@@ -28,8 +28,10 @@ pub fn sum_of_products(a: Exact, b: Exact, c: Exact, d: Exact) -> Exact
     requires b_size { HasAmount factor_bound b }
     requires c_size { HasAmount factor_bound c }
     requires d_size { HasAmount factor_bound d }
-    ensures holds { (x y z w v : ℤ) → Holds a x → Holds b y → Holds c z → Holds d w → IsSumOf x y z w v → Holds result v }
-    ensures ends { (k j l i : ℕ) → Spread k j a b → Spread l i c d → HasEnds ((k + 2) + (l + 2)) ((j + 4) + (i + 4)) result }
+    ensures holds { (x y z w v : ℤ) → Holds a x → Holds b y → Holds c z → Holds d w →
+        IsSumOf x y z w v → Holds result v }
+    ensures ends { (k j l i : ℕ) → Spread k j a b → Spread l i c d →
+        HasEnds ((k + 2) + (l + 2)) ((j + 4) + (i + 4)) result }
 {
     product(a, b).plus(product(c, d))
 }
@@ -41,8 +43,10 @@ pub fn difference_of_products(a: Exact, b: Exact, c: Exact, d: Exact) -> Exact
     requires b_size { HasAmount factor_bound b }
     requires c_size { HasAmount factor_bound c }
     requires d_size { HasAmount factor_bound d }
-    ensures holds { (x y z w v : ℤ) → Holds a x → Holds b y → Holds c z → Holds d w → IsDifferenceOf x y z w v → Holds result v }
-    ensures ends { (k j l i : ℕ) → Spread k j a b → Spread l i c d → HasEnds ((k + 2) + (l + 2)) ((j + 4) + (i + 4)) result }
+    ensures holds { (x y z w v : ℤ) → Holds a x → Holds b y → Holds c z → Holds d w →
+        IsDifferenceOf x y z w v → Holds result v }
+    ensures ends { (k j l i : ℕ) → Spread k j a b → Spread l i c d →
+        HasEnds ((k + 2) + (l + 2)) ((j + 4) + (i + 4)) result }
 {
     product(a, b).minus(product(c, d))
 }

@@ -1,5 +1,5 @@
--- What the equations allow of one satellite: its place and range as seen from a point, and the corrected
--- pseudorange.
+-- What the equations allow of one satellite: its place and range as seen from a point, and the
+-- corrected pseudorange.
 use Rattle.std.specs.Prelude.{ℕ, ◌≡◌, ℤ}
 use Rattle.gnss_model.specs.ClockChain.{ClockChainOf}
 use Rattle.gnss_model.specs.MeanMotion.{MeanMotionOf}
@@ -10,16 +10,16 @@ use Rattle.grid_model.specs.declared.boxes.Pos.{Pos}
 use Rattle.gnss_model.specs.declared.elements.Elements.{Elements}
 use Rattle.gnss_model.specs.declared.systems.System.{System}
 
--- what is known of a satellite: its system, when its signal was received by the receiver's clock, in ps, the codes that
--- were measured, and its ephemeris
+-- what is known of a satellite: its system, when its signal was received by the receiver's clock,
+-- in ps, the codes that were measured, and its ephemeris
 pub record Observed : Type 0 where
   pub system : System
   pub tag : ℤ
   pub codes : Codes
   pub el : Elements
 
--- the place x, y, z, turned into the frame of the reception at p, the corrected pseudorange, and the range:
--- one whole number for each printed equation from the codes on
+-- the place x, y, z, turned into the frame of the reception at p, the corrected pseudorange, and
+-- the range: one whole number for each printed equation from the codes on
 pub record ChainValue (seen : Observed) (p : Pos) (x y z corrected : ℤ) (range : ℕ) : Type 0 where
   pub pr : ℤ
   pub pr_is : IsRangeOf seen.system seen.codes pr

@@ -1,6 +1,6 @@
--- The satellite's clock: how far it is off, and when a signal was sent (IS-GPS-200, 20.3.3.3.3.1 and
--- 20.3.3.3.3.2), with one whole number for each equation. The equations of the orbit in it are those of
--- table 20-IV.
+-- The satellite's clock: how far it is off, and when a signal was sent (IS-GPS-200, 20.3.3.3.3.1
+-- and 20.3.3.3.3.2), with one whole number for each equation. The equations of the orbit in it are
+-- those of table 20-IV.
 use Rattle.std.specs.Prelude.{◌≡◌, ◌^◌, ℤ, pos, neg_ℤ, ◌+ℤ◌, ◌-ℤ◌, ◌*ℤ◌, Bool, if◌then◌else◌}
 use Rattle.gnss_model.specs.EarthModel.{rate_scale}
 use Rattle.gnss_model.specs.Kepler.{Kepler}
@@ -45,9 +45,10 @@ pub record AreClockFields (el : Elements) (f : ClockFields) : Type 0 where
   pub m0_is : IsValue el.m0 f.m0
   pub toe_is : IsValue el.toe_week f.toe_week
 
--- dt is the clock's offset, in 10^-16 s, of a signal sent at tsv by the satellite's clock, and t is when
--- it was sent by GPS time, in ps. n is the mean motion.
-pub record ClockChainOf (system : System) (el : Elements) (single : Bool) (n tsv dt t : ℤ) : Type 0 where
+-- dt is the clock's offset, in 10^-16 s, of a signal sent at tsv by the satellite's clock, and t is
+-- when it was sent by GPS time, in ps. n is the mean motion.
+pub record ClockChainOf (system : System) (el : Elements) (single : Bool)
+    (n tsv dt t : ℤ) : Type 0 where
   pub f : ClockFields
   pub fields : AreClockFields el f
   -- af0 + af1 (tsv - toc) + af2 (tsv - toc)^2
@@ -71,7 +72,8 @@ pub record ClockChainOf (system : System) (el : Elements) (single : Bool) (n tsv
   pub sine_is : Sine eccentric sine
   -- dt_r = F e sqrt(A) sin E_k
   pub relative : ℤ
-  pub relative_is : Near (neg_ℤ (((pos (relativity_of system) *ℤ f.e) *ℤ f.root_a) *ℤ sine)) (pos (10 ^ 47)) relative
+  pub relative_is : Near (neg_ℤ (((pos (relativity_of system) *ℤ f.e) *ℤ f.root_a) *ℤ sine))
+      (pos (10 ^ 47)) relative
   pub dt_is : dt ≡ base +ℤ relative
   -- t = tsv - dt
   pub t_is : IsEarlier tsv dt t

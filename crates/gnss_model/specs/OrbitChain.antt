@@ -1,5 +1,6 @@
--- The satellite's place at a time (IS-GPS-200, table 20-IV), with one whole number for each equation.
--- Angles whose sines and cosines alone are wanted are kept as that pair, so no inverse tangent is taken.
+-- The satellite's place at a time (IS-GPS-200, table 20-IV), with one whole number for each
+-- equation. Angles whose sines and cosines alone are wanted are kept as that pair, so no inverse
+-- tangent is taken.
 use Rattle.std.specs.Prelude.{ℕ, ◌≡◌, ◌+◌, ◌*◌, ◌^◌, ℤ, pos, ◌+ℤ◌, ◌-ℤ◌, ◌*ℤ◌, ◌≤ℤ◌, ◌<ℤ◌}
 use Rattle.grid_model.specs.Angles.{unit}
 use Rattle.gnss_model.specs.ClockChain.{IsAdvanced}
@@ -47,7 +48,8 @@ pub record AreOrbitFields (el : Elements) (f : OrbitFields) : Type 0 where
 
 -- ---- the orbit's ellipse
 
--- a product of two ratios, or of a length and a ratio, and a sum or a difference of two such products
+-- a product of two ratios, or of a length and a ratio, and a sum or a difference of two such
+-- products
 abbrev pub IsProduct : ℤ → ℤ → ℤ → Type 0
 IsProduct a b v = Near (a *ℤ b) (pos unit) v
 
@@ -81,8 +83,8 @@ pub record Anomaly (f : OrbitFields) (n after ratio cos_v sin_v : ℤ) : Type 0 
   -- sin v_k = sqrt(1 - e^2) sin E_k / (1 - e cos E_k)
   pub sin_v_is : Near (pos flatness *ℤ sin_e) ratio sin_v
 
--- the corrections of the argument of latitude, the radius and the inclination, by the cosine and sine of
--- twice the argument of latitude
+-- the corrections of the argument of latitude, the radius and the inclination, by the cosine and
+-- sine of twice the argument of latitude
 pub record Swings (f : OrbitFields) (cos_twice sin_twice du dr di : ℤ) : Type 0 where
   -- du_k = C_us sin 2 phi_k + C_uc cos 2 phi_k
   pub du_is : IsSumOf f.cus sin_twice f.cuc cos_twice du
@@ -91,8 +93,8 @@ pub record Swings (f : OrbitFields) (cos_twice sin_twice du dr di : ℤ) : Type 
   -- di_k = C_is sin 2 phi_k + C_ic cos 2 phi_k
   pub di_is : IsSumOf f.cis sin_twice f.cic cos_twice di
 
--- the cosine and sine of the corrected argument of latitude u_k, and the corrections of the radius and
--- the inclination
+-- the cosine and sine of the corrected argument of latitude u_k, and the corrections of the radius
+-- and the inclination
 pub record Latitude (f : OrbitFields) (cos_v sin_v cos_u sin_u dr di : ℤ) : Type 0 where
   pub cos_omega : ℤ
   pub cos_omega_is : Cosine f.omega cos_omega
@@ -132,7 +134,8 @@ pub record InPlane (f : OrbitFields) (ratio dr cos_u sin_u radius x y : ℤ) : T
   pub y_is : IsProduct radius sin_u y
 
 -- the place in the earth-fixed frame from that in the orbital plane
-pub record EarthFixed (f : OrbitFields) (after di x y : ℤ) (place_x place_y place_z : ℤ) : Type 0 where
+pub record EarthFixed (f : OrbitFields) (after di x y : ℤ)
+    (place_x place_y place_z : ℤ) : Type 0 where
   -- i_k = i_0 + di_k + IDOT t_k
   pub inclination : ℤ
   pub inclination_is : IsAdvanced (f.i0 +ℤ di) f.idot after inclination
@@ -142,15 +145,18 @@ pub record EarthFixed (f : OrbitFields) (after di x y : ℤ) (place_x place_y pl
   pub sin_i_is : Sine inclination sin_i
   -- Om_k = Om_0 + (OmDot - Om_e) t_k - Om_e t_oe
   pub node : ℤ
-  pub node_is : Near (((f.om0 *ℤ pos rate_scale) +ℤ ((f.om_dot -ℤ pos earth_rate) *ℤ after)) -ℤ (pos earth_rate *ℤ f.toe_week)) (pos rate_scale) node
+  pub node_is : Near (((f.om0 *ℤ pos rate_scale) +ℤ ((f.om_dot -ℤ pos earth_rate) *ℤ after))
+      -ℤ (pos earth_rate *ℤ f.toe_week)) (pos rate_scale) node
   pub cos_node : ℤ
   pub cos_node_is : Cosine node cos_node
   pub sin_node : ℤ
   pub sin_node_is : Sine node sin_node
   -- x_k = x_k' cos Om_k - y_k' cos i_k sin Om_k
-  pub x_is : Near (((x *ℤ cos_node) *ℤ pos unit) -ℤ ((y *ℤ cos_i) *ℤ sin_node)) (pos (unit * unit)) place_x
+  pub x_is : Near (((x *ℤ cos_node) *ℤ pos unit) -ℤ ((y *ℤ cos_i) *ℤ sin_node))
+      (pos (unit * unit)) place_x
   -- y_k = x_k' sin Om_k + y_k' cos i_k cos Om_k
-  pub y_is : Near (((x *ℤ sin_node) *ℤ pos unit) +ℤ ((y *ℤ cos_i) *ℤ cos_node)) (pos (unit * unit)) place_y
+  pub y_is : Near (((x *ℤ sin_node) *ℤ pos unit) +ℤ ((y *ℤ cos_i) *ℤ cos_node))
+      (pos (unit * unit)) place_y
   -- z_k = y_k' sin i_k
   pub z_is : IsProduct y sin_i place_z
 

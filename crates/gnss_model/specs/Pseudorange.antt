@@ -1,5 +1,5 @@
--- The pseudorange of a satellite, when its signal was sent by the satellite's clock, and the pseudorange
--- less the clock's offset (IS-GPS-200, 20.3.3.3.3). Lengths are in um, times in ps.
+-- The pseudorange of a satellite, when its signal was sent by the satellite's clock, and the
+-- pseudorange less the clock's offset (IS-GPS-200, 20.3.3.3.3). Lengths are in um, times in ps.
 use Rattle.std.specs.Prelude.{◌^◌, ℤ, pos, ◌+ℤ◌, ◌-ℤ◌, ◌*ℤ◌, Bool, true, false, Option, None, Some}
 use Rattle.gnss_model.specs.EarthModel.{light_speed}
 use Rattle.gnss_model.specs.RecordBounds.{IsValue}
@@ -23,11 +23,13 @@ is_single codes = is_none codes.second
 
 -- The ionosphere-free combination (20.3.3.3.3.3), by the squares of a system's frequencies.
 abbrev pub IsFreeOf : System → ℤ → ℤ → ℤ → Type 0
-IsFreeOf system p1 p2 pr = Near ((pos (first_square system) *ℤ p1) -ℤ (pos (second_square system) *ℤ p2)) (pos (squares_apart system)) pr
+IsFreeOf system p1 p2 pr = Near ((pos (first_square system) *ℤ p1)
+    -ℤ (pos (second_square system) *ℤ p2)) (pos (squares_apart system)) pr
 
 abbrev pub IsRangeWith : System → Wide → Option Wide → ℤ → Type 0
 IsRangeWith system first None pr = IsValue first pr
-IsRangeWith system first (Some second) pr = (p1 : ℤ) × (p2 : ℤ) × IsValue first p1 × IsValue second p2 × IsFreeOf system p1 p2 pr
+IsRangeWith system first (Some second) pr =
+    (p1 : ℤ) × (p2 : ℤ) × IsValue first p1 × IsValue second p2 × IsFreeOf system p1 p2 pr
 
 -- pr is a pseudorange by the codes
 abbrev pub IsRangeOf : System → Codes → ℤ → Type 0
@@ -43,4 +45,5 @@ IsSent tag pr tsv = Near ((tag *ℤ pos light_speed) -ℤ (pr *ℤ pos (10 ^ 6))
 
 -- the pseudorange less the clock's offset dt: pr + c dt
 abbrev pub IsCorrected : ℤ → ℤ → ℤ → Type 0
-IsCorrected pr dt corrected = Near ((pr *ℤ pos (10 ^ 10)) +ℤ (pos light_speed *ℤ dt)) (pos (10 ^ 10)) corrected
+IsCorrected pr dt corrected =
+    Near ((pr *ℤ pos (10 ^ 10)) +ℤ (pos light_speed *ℤ dt)) (pos (10 ^ 10)) corrected

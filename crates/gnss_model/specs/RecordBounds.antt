@@ -1,5 +1,5 @@
--- The bounds of the numbers of a broadcast ephemeris, in the units of its fields. IS-GPS-200 (tables 20-I
--- and 20-III) gives the fields; the bounds are wide of what GPS satellites send.
+-- The bounds of the numbers of a broadcast ephemeris, in the units of its fields. IS-GPS-200
+-- (tables 20-I and 20-III) gives the fields; the bounds are wide of what GPS satellites send.
 use Rattle.std.specs.Prelude.{ℕ, ◌*◌, ◌^◌, ℤ, pos, neg_ℤ, ◌+ℤ◌, ◌-ℤ◌, ◌≤ℤ◌}
 use Rattle.grid_model.specs.Intervals.{Between}
 use Rattle.grid_model.specs.Sizes.{IsWithin}
@@ -7,7 +7,8 @@ use Rattle.grid_model.specs.declared.spans.Wide.{Wide}
 
 -- ---- the bounds
 
--- the coefficients of the clock: 10^-2 s in 10^-16 s, 10^-8 per s in 10^-22, 10^-13 per s^2 in 10^-28
+-- the coefficients of the clock: 10^-2 s in 10^-16 s, 10^-8 per s in 10^-22, 10^-13 per s^2 in
+-- 10^-28
 abbrev pub offset_bound : ℕ
 offset_bound = 10 ^ 14
 
@@ -61,8 +62,8 @@ clock_reach = 302401 * 10 ^ 12
 
 -- ---- what a field holds
 
--- The numbers of a field lie from low to high. They are the floor and the ceiling of one decimal, so
--- they are at most one unit apart.
+-- The numbers of a field lie from low to high. They are the floor and the ceiling of one decimal,
+-- so they are at most one unit apart.
 pub record LiesFrom (low high : ℤ) (field : Wide) : Type 0 where
   pub from : low ≤ℤ field.lo
   pub to : field.hi ≤ℤ high

@@ -1,6 +1,6 @@
--- In what the chains of the systems differ: two constants, and the frequencies of the codes. Those of GPS are
--- in `EarthModel` and in IS-GPS-200, 20.3.3.3.3.3; those of Galileo in its OS SIS ICD, sections on the frequency plan,
--- the ephemeris and the satellite time correction.
+-- In what the chains of the systems differ: two constants, and the frequencies of the codes. Those
+-- of GPS are in `EarthModel` and in IS-GPS-200, 20.3.3.3.3.3; those of Galileo in its OS SIS ICD,
+-- sections on the frequency plan, the ephemeris and the satellite time correction.
 use Rattle.std.specs.Prelude.{ℕ}
 use Rattle.gnss_model.specs.EarthModel.{gravity, relativity}
 use Rattle.gnss_model.specs.declared.systems.System.{System}
@@ -16,8 +16,8 @@ abbrev pub relativity_of : System → ℕ
 relativity_of Gps = relativity
 relativity_of Galileo = 4442807309
 
--- The squares of the frequencies of the first and the second code are as these, and how far these are
--- apart. L1, E1, L2 and E5a are 154, 154, 120 and 115 times 10.23 MHz.
+-- The squares of the frequencies of the first and the second code are as these, and how far these
+-- are apart. L1, E1, L2 and E5a are 154, 154, 120 and 115 times 10.23 MHz.
 abbrev pub first_square : System → ℕ
 first_square Gps = 5929
 first_square Galileo = 23716

@@ -1,6 +1,6 @@
--- The earth turns while the signal is under way, so the place that the satellite had when it sent is
--- turned into the frame of the time of reception (IS-GPS-200, 20.3.3.4.3.3.2 and 20.3.3.4.3.4). The flight time is found in
--- two rounds, each from the range of the round before.
+-- The earth turns while the signal is under way, so the place that the satellite had when it sent
+-- is turned into the frame of the time of reception (IS-GPS-200, 20.3.3.4.3.3.2 and 20.3.3.4.3.4).
+-- The flight time is found in two rounds, each from the range of the round before.
 use Rattle.std.specs.Prelude.{ℕ, ◌≡◌, ◌^◌, ◌*◌, ℤ, pos, ◌*ℤ◌}
 use Rattle.gnss_model.specs.EarthModel.{earth_rate, light_speed}
 use Rattle.grid_model.specs.Ranges.{range_to}
@@ -24,7 +24,8 @@ pub record IsTurnedOver (range : ℕ) (x y new_x new_y : ℤ) : Type 0 where
   pub x_is : IsSumOf x cos_angle y sin_angle new_x
   pub y_is : IsDifferenceOf y cos_angle x sin_angle new_y
 
--- x, y, z is the place when the signal was sent; seen from p it is turned_x, turned_y, z at this range
+-- x, y, z is the place when the signal was sent; seen from p it is turned_x, turned_y, z at this
+-- range
 pub record Turn (p : Pos) (x y z turned_x turned_y : ℤ) (range : ℕ) : Type 0 where
   pub first_x : ℤ
   pub first_y : ℤ

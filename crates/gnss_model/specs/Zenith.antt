@@ -1,5 +1,5 @@
--- The troposphere's delay at the zenith, where a span is declared of it, and how wide the bounds may
--- be that are mapped from it (`Mapping`). Lengths are in um.
+-- The troposphere's delay at the zenith, where a span is declared of it, and how wide the bounds
+-- may be that are mapped from it (`Mapping`). Lengths are in um.
 use Rattle.std.specs.Prelude.{◌≡◌, ℕ, ◌+◌, ◌*◌, ◌/◌, ◌^◌, max, nat_abs, Option, None, Some}
 use Rattle.grid_model.specs.Boxes.{GridBox}
 use Rattle.grid_model.specs.Lengths.{longest_length}

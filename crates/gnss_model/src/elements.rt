@@ -1,7 +1,11 @@
 //! A broadcast ephemeris in whole numbers.
 
 ghost use Rattle.std.specs.Prelude.{◌≡◌, pos, ◌+ℤ◌, ◌≤ℤ◌, ◌<ℤ◌};
-ghost use Rattle.gnss_model.specs.RecordBounds.{LiesFrom, IsField, IsNearTime, offset_bound, drift_bound, ageing_bound, delay_bound, angle_bound, rate_bound, angle_swing_bound, radius_swing_bound, eccentricity_bound, least_root_a, greatest_root_a, week, time_bound};
+ghost use Rattle.gnss_model.specs.RecordBounds.{LiesFrom, IsField, IsNearTime, offset_bound};
+ghost use Rattle.gnss_model.specs.RecordBounds.{drift_bound, ageing_bound, delay_bound};
+ghost use Rattle.gnss_model.specs.RecordBounds.{angle_bound, rate_bound, angle_swing_bound};
+ghost use Rattle.gnss_model.specs.RecordBounds.{radius_swing_bound, eccentricity_bound};
+ghost use Rattle.gnss_model.specs.RecordBounds.{least_root_a, greatest_root_a, week, time_bound};
 
 use grid_model::Wide;
 

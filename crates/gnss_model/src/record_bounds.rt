@@ -1,5 +1,5 @@
-//! The bounds of the numbers of a broadcast ephemeris, in the units of its fields. They are those of
-//! `specs/RecordBounds.antt`.
+//! The bounds of the numbers of a broadcast ephemeris, in the units of its fields. They are those
+//! of `specs/RecordBounds.antt`.
 
 /// af0, in 10^-16 s: 10^-2 s.
 pub const OFFSET_BOUND: i128 = 100_000_000_000_000;

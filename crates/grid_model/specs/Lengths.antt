@@ -1,5 +1,6 @@
 -- The longest side of a box, and the number of binary digits of its length.
-use Rattle.std.specs.Prelude.{ℕ, zero, suc, ◌+◌, ◌/◌, ◌^◌, ◌≤◌, ◌<◌, ◌≡◌, max, nat_le, if◌then◌else◌}
+use Rattle.std.specs.Prelude.{ℕ, zero, suc, ◌+◌, ◌/◌, ◌^◌, ◌≤◌, ◌<◌, ◌≡◌, max, nat_le}
+use Rattle.std.specs.Prelude.{if◌then◌else◌}
 use Rattle.grid_model.specs.Amounts.{above}
 use Rattle.grid_model.specs.Boxes.{GridBox, Side, side_at}
 

@@ -1,4 +1,5 @@
--- The values of sine and cosine at an angle: those of the function that its quarter names, at a rest.
+-- The values of sine and cosine at an angle: those of the function that its quarter names, at a
+-- rest.
 use Rattle.std.specs.Prelude.{ℕ, zero, suc, ◌*◌, ℤ, pos, ◌+ℤ◌, ◌*ℤ◌, neg_ℤ, nat_abs}
 use Rattle.std.specs.Int.{int_rem_euclid}
 use Rattle.grid_model.specs.Intervals.{Close}

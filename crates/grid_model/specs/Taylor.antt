@@ -1,5 +1,6 @@
 -- The Taylor sums of sine and cosine as exact fractions, and the values between two of them.
-use Rattle.std.specs.Prelude.{ℕ, zero, suc, ◌-◌, ◌*◌, ◌^◌, ◌/◌, List, [], ◌∷◌, ◌⊎◌, ℤ, pos, ◌+ℤ◌, ◌-ℤ◌, ◌*ℤ◌, ◌≤ℤ◌}
+use Rattle.std.specs.Prelude.{ℕ, zero, suc, ◌-◌, ◌*◌, ◌^◌, ◌/◌, List, [], ◌∷◌, ◌⊎◌, ℤ, pos, ◌+ℤ◌}
+use Rattle.std.specs.Prelude.{◌-ℤ◌, ◌*ℤ◌, ◌≤ℤ◌}
 use Rattle.grid_model.specs.Angles.{unit}
 
 -- n (n - 1) .. 1
@@ -49,15 +50,18 @@ AtLeast num den s = (pos unit *ℤ num) ≤ℤ ((s +ℤ pos 1) *ℤ pos den)
 abbrev pub AtMost : ℤ → ℕ → ℤ → Type 0
 AtMost num den s = ((s -ℤ pos 1) *ℤ pos den) ≤ℤ (pos unit *ℤ num)
 
--- s / unit lies between the lesser of n / d and m / e and the greater, with one unit more on each side
+-- s / unit lies between the lesser of n / d and m / e and the greater, with one unit more on each
+-- side
 pub record BetweenSums (n m : ℤ) (d e : ℕ) (s : ℤ) : Type 0 where
   pub low : AtLeast n d s ⊎ AtLeast m e s
   pub high : AtMost n d s ⊎ AtMost m e s
 
 -- s is a value of the sine at r: between the sums of degree 15 and 17
 unfoldable pub SineAt : ℤ → ℤ → Type 0
-SineAt r s = BetweenSums (taylor_sum 15 r odd_to_15) (taylor_sum 17 r odd_to_17) (taylor_den 15) (taylor_den 17) s
+SineAt r s = BetweenSums (taylor_sum 15 r odd_to_15) (taylor_sum 17 r odd_to_17) (taylor_den 15)
+    (taylor_den 17) s
 
 -- s is a value of the cosine at r: between the sums of degree 16 and 18
 unfoldable pub CosineAt : ℤ → ℤ → Type 0
-CosineAt r s = BetweenSums (taylor_sum 16 r even_to_16) (taylor_sum 18 r even_to_18) (taylor_den 16) (taylor_den 18) s
+CosineAt r s = BetweenSums (taylor_sum 16 r even_to_16) (taylor_sum 18 r even_to_18) (taylor_den 16)
+    (taylor_den 18) s

@@ -24,7 +24,8 @@ pub struct Box3 {
 }
 
 impl Box3 {
-    ghost use Rattle.grid_model.specs.Boxes.{grid_box, side_at, with_side, low_half, high_half, middle};
+    ghost use Rattle.grid_model.specs.Boxes.{grid_box, side_at, with_side, low_half, high_half};
+    ghost use Rattle.grid_model.specs.Boxes.{middle};
     ghost use Rattle.grid_model.specs.Lengths.{side_length, longest_length, IsLongestAxis};
 
     /// The ends of the side on an axis: 0 for x, 1 for y, and z for each other number.
@@ -73,7 +74,8 @@ impl Box3 {
     pub fn up_to(&self, axis: u8, hi: i64) -> Box3
         requires low { (side_at axis (grid_box self.now)).lo ≤ℤ hi }
         requires high { hi ≤ℤ (side_at axis (grid_box self.now)).hi }
-        ensures { grid_box result ≡ with_side axis (grid_box self.now) (record { lo = (side_at axis (grid_box self.now)).lo; hi = hi }) }
+        ensures { grid_box result ≡ with_side axis (grid_box self.now)
+            (record { lo = (side_at axis (grid_box self.now)).lo; hi = hi }) }
     {
         let mut part = *self;
         match axis {
@@ -88,7 +90,8 @@ impl Box3 {
     pub fn from_on(&self, axis: u8, lo: i64) -> Box3
         requires low { (side_at axis (grid_box self.now)).lo ≤ℤ lo }
         requires high { lo ≤ℤ (side_at axis (grid_box self.now)).hi }
-        ensures { grid_box result ≡ with_side axis (grid_box self.now) (record { lo = lo; hi = (side_at axis (grid_box self.now)).hi }) }
+        ensures { grid_box result ≡ with_side axis (grid_box self.now)
+            (record { lo = lo; hi = (side_at axis (grid_box self.now)).hi }) }
     {
         let mut part = *self;
         match axis {
@@ -102,8 +105,10 @@ impl Box3 {
     /// The two halves on an axis, the lower first. The middle belongs to the lower.
     pub fn halves(&self, axis: u8) -> (Box3, Box3)
         requires { (side_at axis (grid_box self.now)).lo <ℤ (side_at axis (grid_box self.now)).hi }
-        ensures low { grid_box result.0 ≡ with_side axis (grid_box self.now) (low_half (side_at axis (grid_box self.now))) }
-        ensures high { grid_box result.1 ≡ with_side axis (grid_box self.now) (high_half (side_at axis (grid_box self.now))) }
+        ensures low { grid_box result.0 ≡ with_side axis (grid_box self.now)
+            (low_half (side_at axis (grid_box self.now))) }
+        ensures high { grid_box result.1 ≡ with_side axis (grid_box self.now)
+            (high_half (side_at axis (grid_box self.now))) }
     {
         let (lo, hi) = self.side(axis);
         let middle = Box3::middle_of(lo, hi);

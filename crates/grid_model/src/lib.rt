@@ -1,5 +1,5 @@
-//! The grid of gpscover and its whole numbers: points, boxes, spans and roots, and, in `specs/`, how
-//! the reals' roots, quotients and sines are read in whole numbers.
+//! The grid of gpscover and its whole numbers: points, boxes, spans and roots, and, in `specs/`,
+//! how the reals' roots, quotients and sines are read in whole numbers.
 //!
 //! Lengths are whole numbers of micrometres (um).
 #![tactic(auto)]

@@ -26,8 +26,8 @@ fn is_root(a: u128, v: u64) -> bool
     square <= a && a - square <= 2 * u128::from(v)
 }
 
-/// A guess of the root of a number from 2^64 to 2^96, which squared distances of satellites are, and
-/// which is seldom wrong; 0 for others. The 64 bits in front give 31 bits of the root, and one
+/// A guess of the root of a number from 2^64 to 2^96, which squared distances of satellites are,
+/// and which is seldom wrong; 0 for others. The 64 bits in front give 31 bits of the root, and one
 /// division of what is left over the rest.
 fn guess(a: u128) -> u64 {
     let high = low_bits(a >> 64);

@@ -1,5 +1,6 @@
 -- The Taylor sums in nested form, as the code computes them.
-use Rattle.std.specs.Prelude.{ℕ, ◌-◌, ◌*◌, ◌^◌, ◌≤◌, List, [], ◌∷◌, ◌⊎◌, ℤ, pos, ◌+ℤ◌, ◌-ℤ◌, ◌*ℤ◌, ◌≤ℤ◌, nat_abs}
+use Rattle.std.specs.Prelude.{ℕ, ◌-◌, ◌*◌, ◌^◌, ◌≤◌, List, [], ◌∷◌, ◌⊎◌, ℤ, pos, ◌+ℤ◌, ◌-ℤ◌, ◌*ℤ◌}
+use Rattle.std.specs.Prelude.{◌≤ℤ◌, nat_abs}
 use Rattle.grid_model.specs.Angles.{unit}
 
 -- a little over half a quarter turn: no rest is more in amount
@@ -50,10 +51,13 @@ pub record NestedBetween (n m : ℤ) (d e : ℕ) (s : ℤ) : Type 0 where
   pub high : NestedAtMost n d s ⊎ NestedAtMost m e s
 
 unfoldable pub NestedSine : ℤ → ℤ → Type 0
-NestedSine r s = NestedBetween (r *ℤ nested_num (nat_abs r * nat_abs r) sine_15) (r *ℤ nested_num (nat_abs r * nat_abs r) sine_17) (nested_den sine_15) (nested_den sine_17) s
+NestedSine r s = NestedBetween (r *ℤ nested_num (nat_abs r * nat_abs r) sine_15) (r
+    *ℤ nested_num (nat_abs r * nat_abs r) sine_17) (nested_den sine_15) (nested_den sine_17) s
 
 unfoldable pub NestedCosine : ℤ → ℤ → Type 0
-NestedCosine r s = NestedBetween (pos unit *ℤ nested_num (nat_abs r * nat_abs r) cosine_16) (pos unit *ℤ nested_num (nat_abs r * nat_abs r) cosine_18) (nested_den cosine_16) (nested_den cosine_18) s
+NestedCosine r s = NestedBetween (pos unit *ℤ nested_num (nat_abs r * nat_abs r) cosine_16)
+    (pos unit *ℤ nested_num (nat_abs r * nat_abs r) cosine_18) (nested_den cosine_16)
+    (nested_den cosine_18) s
 
 -- lo and hi, in fine units, hold num / den
 pub record Holds (lo hi num den : ℕ) : Type 0 where

@@ -2,7 +2,8 @@
 
 ghost use Rattle.std.specs.Prelude.{ℕ, ◌+◌, ◌-◌, ◌*◌, ◌^◌, ◌≤◌};
 ghost use Rattle.grid_model.specs.Angles.{unit};
-ghost use Rattle.interval_trig.specs.NestedSums.{greatest_rest, Holds, HoldsSquare, plain_num, nested_den, sine_15, cosine_16};
+ghost use Rattle.interval_trig.specs.NestedSums.{greatest_rest, Holds, HoldsSquare, plain_num};
+ghost use Rattle.interval_trig.specs.NestedSums.{nested_den, sine_15, cosine_16};
 
 /// One, in units of 10^-18.
 pub(crate) const FINE: u128 = 1_000_000_000_000_000_000;
@@ -21,9 +22,13 @@ fn step(part: Part, y: Part, d: u128) -> Part
     requires y_size { y.hi ≤ 10 ^ 18 }
     requires d_low { 2 ≤ d }
     requires d_high { d ≤ 306 }
-    ensures holds { (square num den : ℕ) → HoldsSquare y.lo y.hi square → Holds part.lo part.hi num den → Holds result.lo result.hi (d * (unit * unit) * den - square * num) (d * (unit * unit) * den) }
+    ensures holds { (square num den : ℕ) → HoldsSquare y.lo y.hi square →
+        Holds part.lo part.hi num den →
+        Holds result.lo result.hi (d * (unit * unit) * den - square * num) (d * (unit * unit)
+        * den) }
     ensures size { result.hi ≤ 10 ^ 18 }
-    ensures width { y.hi ≤ 62 * 10 ^ 16 → y.hi ≤ y.lo + 5 → 100 * d * (result.hi - result.lo) ≤ 62 * (part.hi - part.lo) + 200 * d + 500 }
+    ensures width { y.hi ≤ 62 * 10 ^ 16 → y.hi ≤ y.lo + 5 →
+        100 * d * (result.hi - result.lo) ≤ 62 * (part.hi - part.lo) + 200 * d + 500 }
 {
     let most = y.hi * part.hi / (d * FINE) + 1;
     let least = y.lo * part.lo / (d * FINE);
@@ -36,7 +41,8 @@ fn step(part: Part, y: Part, d: u128) -> Part
 /// The nested sum of the sine, of degree 15.
 pub(crate) fn sine_part(y: Part) -> Part
     requires y_size { y.hi ≤ 10 ^ 18 }
-    ensures holds { (square : ℕ) → HoldsSquare y.lo y.hi square → Holds result.lo result.hi (plain_num square sine_15) (nested_den sine_15) }
+    ensures holds { (square : ℕ) → HoldsSquare y.lo y.hi square →
+        Holds result.lo result.hi (plain_num square sine_15) (nested_den sine_15) }
     ensures size { result.hi ≤ 10 ^ 18 }
     ensures width { y.hi ≤ 62 * 10 ^ 16 → y.hi ≤ y.lo + 5 → result.hi ≤ result.lo + 4 }
 {
@@ -53,7 +59,8 @@ pub(crate) fn sine_part(y: Part) -> Part
 /// The nested sum of the cosine, of degree 16.
 pub(crate) fn cosine_part(y: Part) -> Part
     requires y_size { y.hi ≤ 10 ^ 18 }
-    ensures holds { (square : ℕ) → HoldsSquare y.lo y.hi square → Holds result.lo result.hi (plain_num square cosine_16) (nested_den cosine_16) }
+    ensures holds { (square : ℕ) → HoldsSquare y.lo y.hi square →
+        Holds result.lo result.hi (plain_num square cosine_16) (nested_den cosine_16) }
     ensures size { result.hi ≤ 10 ^ 18 }
     ensures width { y.hi ≤ 62 * 10 ^ 16 → y.hi ≤ y.lo + 5 → result.hi ≤ result.lo + 5 }
 {

@@ -31,7 +31,9 @@ fn around(value: i128, half: i128) -> Exact
     requires value_size { IsWithin unit value }
     requires half_low { pos 0 ≤ℤ half }
     requires half_high { half ≤ℤ pos (128 * unit) }
-    ensures holds { (s : ℤ) → IsWithin (unit + 8) s → (half ≤ℤ pos unit → Between (value -ℤ (half +ℤ pos 7)) (value +ℤ (half +ℤ pos 7)) s) → Between result.lo result.hi s }
+    ensures holds { (s : ℤ) → IsWithin (unit + 8) s →
+        (half ≤ℤ pos unit → Between (value -ℤ (half +ℤ pos 7)) (value +ℤ (half +ℤ pos 7)) s) →
+        Between result.lo result.hi s }
     ensures width { (result.hi -ℤ result.lo) ≤ℤ ((half +ℤ half) +ℤ pos 14) }
     ensures low_size { IsWithin (unit + 8) result.lo }
     ensures high_size { IsWithin (unit + 8) result.hi }

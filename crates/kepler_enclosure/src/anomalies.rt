@@ -21,7 +21,8 @@ fn start(m: Exact, e: Exact) -> Exact
     requires m_high { IsWithin (60 * unit) m.hi }
     requires e_low { pos 0 ≤ℤ e.lo }
     requires e_high { e.hi ≤ℤ GREATEST_ECCENTRICITY }
-    ensures holds { (a b x : ℤ) → Between m.lo m.hi a → Between e.lo e.hi b → Kepler a b x → Between result.lo result.hi x }
+    ensures holds { (a b x : ℤ) → Between m.lo m.hi a → Between e.lo e.hi b → Kepler a b x →
+        Between result.lo result.hi x }
     ensures width { (result.hi -ℤ result.lo) ≤ℤ ((m.hi -ℤ m.lo) +ℤ (e.hi +ℤ e.hi) +ℤ pos 8) }
     ensures low_size { IsWithin (61 * unit) result.lo }
     ensures high_size { IsWithin (61 * unit) result.hi }
@@ -52,8 +53,10 @@ fn swing(e: Exact, x: Exact) -> Exact
     requires e_high { e.hi ≤ℤ GREATEST_ECCENTRICITY }
     requires x_low { IsWithin (61 * unit) x.lo }
     requires x_high { IsWithin (61 * unit) x.hi }
-    ensures holds { (b y s v : ℤ) → Between e.lo e.hi b → Between x.lo (x.hi +ℤ pos 1) y → Sine y s → Near (b *ℤ s) (pos unit) v → Between result.lo result.hi v }
-    ensures width { (pos 5 *ℤ (result.hi -ℤ result.lo)) ≤ℤ ((x.hi -ℤ x.lo) +ℤ (pos 5 *ℤ (e.hi -ℤ e.lo)) +ℤ pos 55) }
+    ensures holds { (b y s v : ℤ) → Between e.lo e.hi b → Between x.lo (x.hi +ℤ pos 1) y →
+        Sine y s → Near (b *ℤ s) (pos unit) v → Between result.lo result.hi v }
+    ensures width { (pos 5 *ℤ (result.hi -ℤ result.lo))
+        ≤ℤ ((x.hi -ℤ x.lo) +ℤ (pos 5 *ℤ (e.hi -ℤ e.lo)) +ℤ pos 55) }
     ensures low_size { IsWithin (2 * 10 ^ 15 + 4) result.lo }
     ensures high_size { IsWithin (2 * 10 ^ 15 + 4) result.hi }
 {
@@ -83,8 +86,10 @@ fn narrowed(m: Exact, e: Exact, x: Exact) -> Exact
     requires e_high { e.hi ≤ℤ GREATEST_ECCENTRICITY }
     requires x_low { IsWithin (61 * unit) x.lo }
     requires x_high { IsWithin (61 * unit) x.hi }
-    ensures holds { (a b y : ℤ) → Between m.lo m.hi a → Between e.lo e.hi b → Between x.lo x.hi y → Kepler a b y → Between result.lo result.hi y }
-    ensures width { (pos 5 *ℤ (result.hi -ℤ result.lo)) ≤ℤ (pos 5 *ℤ (m.hi -ℤ m.lo) +ℤ (pos 5 *ℤ (e.hi -ℤ e.lo)) +ℤ (x.hi -ℤ x.lo) +ℤ pos 60) }
+    ensures holds { (a b y : ℤ) → Between m.lo m.hi a → Between e.lo e.hi b → Between x.lo x.hi y →
+        Kepler a b y → Between result.lo result.hi y }
+    ensures width { (pos 5 *ℤ (result.hi -ℤ result.lo))
+        ≤ℤ (pos 5 *ℤ (m.hi -ℤ m.lo) +ℤ (pos 5 *ℤ (e.hi -ℤ e.lo)) +ℤ (x.hi -ℤ x.lo) +ℤ pos 60) }
     ensures low_size { IsWithin (61 * unit) result.lo }
     ensures high_size { IsWithin (61 * unit) result.hi }
 {
@@ -108,8 +113,10 @@ pub fn eccentric(m: Exact, e: Exact) -> Exact
     requires m_high { IsWithin (60 * unit) m.hi }
     requires e_low { pos 0 ≤ℤ e.lo }
     requires e_high { e.hi ≤ℤ GREATEST_ECCENTRICITY }
-    ensures holds { (a b x : ℤ) → Between m.lo m.hi a → Between e.lo e.hi b → Kepler a b x → Between result.lo result.hi x }
-    ensures width { (result.hi -ℤ result.lo) ≤ℤ (pos 2 *ℤ ((m.hi -ℤ m.lo) +ℤ (e.hi -ℤ e.lo)) +ℤ pos 64) }
+    ensures holds { (a b x : ℤ) → Between m.lo m.hi a → Between e.lo e.hi b → Kepler a b x →
+        Between result.lo result.hi x }
+    ensures width { (result.hi -ℤ result.lo)
+        ≤ℤ (pos 2 *ℤ ((m.hi -ℤ m.lo) +ℤ (e.hi -ℤ e.lo)) +ℤ pos 64) }
 
     // Within the angles whose sine and cosine are taken.
     ensures low_size { IsWithin (61 * unit) result.lo }

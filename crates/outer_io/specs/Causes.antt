@@ -1,5 +1,6 @@
 -- When a call to the outside may fail, and when it does.
-use Rattle.std.specs.Prelude.{◌≡◌, ◌≤◌, ◌↔◌, ℕ, ◌+◌, ◌-◌, ◌^◌, min, Bool, true, false, Result, OnErr, is_ok}
+use Rattle.std.specs.Prelude.{◌≡◌, ◌≤◌, ◌↔◌, ℕ, ◌+◌, ◌-◌, ◌^◌, min, Bool, true, false, Result}
+use Rattle.std.specs.Prelude.{OnErr, is_ok}
 
 -- the count is greater, or stands at the last value of a real counter
 abbrev pub Rose : ℕ → ℕ → Type 0

@@ -1,5 +1,7 @@
 -- Files in memory: those that were handed over, and a log that takes the place of one of its name.
-use Rattle.std.specs.Prelude.{◌≡◌, ◌<◌, ℕ, nat_eq, ◌+◌, ◌-◌, List, [], ◌++◌, length, map, slice_get, Bool, true, false, Option, None, Some, unwrap_or, String, Vec, string_bytes}
+use Rattle.std.specs.Prelude.{◌≡◌, ◌<◌, ℕ, nat_eq, ◌+◌, ◌-◌, List, [], ◌++◌, length, map, slice_get}
+use Rattle.std.specs.Prelude.{Bool, true, false, Option, None, Some, unwrap_or, String, Vec}
+use Rattle.std.specs.Prelude.{string_bytes}
 use Rattle.std.specs.List.{IsDistinct}
 use lib.Pointwise.{pointwise}
 use Rattle.std.specs.Option.{option_map}

@@ -1,6 +1,7 @@
 //! A shelf in memory.
 
-ghost use Rattle.std.specs.Prelude.{◌≡◌, ◌<◌, ◌+◌, ◌^◌, ◌↔◌, ℕ, List, [], Contains, length, drop, string_bytes, Option, None, Some, IfOk};
+ghost use Rattle.std.specs.Prelude.{◌≡◌, ◌<◌, ◌+◌, ◌^◌, ◌↔◌, ℕ, List, [], Contains, length, drop};
+ghost use Rattle.std.specs.Prelude.{string_bytes, Option, None, Some, IfOk};
 ghost use Rattle.std.specs.FinMap as map;
 ghost use Rattle.std.specs.Option.{option_map};
 ghost use Rattle.outer_io.specs.declared.shelf.Phase.{Phase};

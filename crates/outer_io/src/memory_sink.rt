@@ -1,6 +1,7 @@
 //! A sink in memory.
 
-ghost use Rattle.std.specs.Prelude.{◌≡◌, ◌≤◌, ◌<◌, ◌+◌, ◌^◌, ◌↔◌, ℕ, [], vec_len, vec_capacity, length, Some, IfOk, Contains};
+ghost use Rattle.std.specs.Prelude.{◌≡◌, ◌≤◌, ◌<◌, ◌+◌, ◌^◌, ◌↔◌, ℕ, [], vec_len, vec_capacity};
+ghost use Rattle.std.specs.Prelude.{length, Some, IfOk, Contains};
 ghost use Rattle.outer_io.specs.Taken.{SinkTold, taken_of};
 
 use crate::failing_calls::FailingCalls;

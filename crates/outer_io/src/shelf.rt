@@ -1,12 +1,15 @@
 //! A shelf of named files, which are read and written through five slots.
 
-ghost use Rattle.std.specs.Prelude.{◌≡◌, ◌≤◌, ◌<◌, ℕ, List, length, Option, is_some, is_ok, IfOk, true, false, if◌then◌else◌};
+ghost use Rattle.std.specs.Prelude.{◌≡◌, ◌≤◌, ◌<◌, ℕ, List, length, Option, is_some, is_ok, IfOk};
+ghost use Rattle.std.specs.Prelude.{true, false, if◌then◌else◌};
 ghost use Rattle.std.specs.Io.{ReadsAtMost};
 ghost use Rattle.std.specs.Io.KnownBytes.{ReadConsumes};
-ghost use Rattle.outer_io.specs.Causes.{HasCause, HasCauseUnless, SucceedsWhile, SucceedsWhileAnd, CountsCall};
+ghost use Rattle.outer_io.specs.Causes.{HasCause, HasCauseUnless, SucceedsWhile, SucceedsWhileAnd};
+ghost use Rattle.outer_io.specs.Causes.{CountsCall};
 ghost use Rattle.outer_io.specs.declared.shelf.Phase.{Phase};
 ghost use Rattle.outer_io.specs.Slots.{at, put};
-ghost use Rattle.outer_io.specs.Told.{ShelfState, IsPiece, left_of, is_missing, Begins, Moves, Creates, Writes};
+ghost use Rattle.outer_io.specs.Told.{ShelfState, IsPiece, left_of, is_missing, Begins, Moves};
+ghost use Rattle.outer_io.specs.Told.{Creates, Writes};
 
 use crate::{Failed, Slot};
 

@@ -1,5 +1,6 @@
-//! Pseudoranges, when their signals were sent, and the pseudoranges less the clock's offset: intervals
-//! that hold every value which the printed equations allow. Lengths are in um, times in ps.
+//! Pseudoranges, when their signals were sent, and the pseudoranges less the clock's offset:
+//! intervals that hold every value which the printed equations allow. Lengths are in um, times in
+//! ps.
 #![tactic(auto)]
 
 mod ranges;

@@ -63,7 +63,8 @@ fn squares_apart(system: System) -> i128
 
 /// The pseudorange by one code, in um: the code itself.
 pub fn single(code: Wide) -> Exact
-    ensures holds { (x : ℤ) → IsPseudorange (record { first = code; second = None }) x → Holds result x }
+    ensures holds { (x : ℤ) → IsPseudorange (record { first = code; second = None }) x →
+        Holds result x }
     ensures low { result.lo ≡ code.lo }
     ensures high { result.hi ≡ code.hi }
 {
@@ -74,8 +75,10 @@ pub fn single(code: Wide) -> Exact
 pub fn dual_of(first: Wide, second: Wide, system: System) -> Exact
     requires first_code { IsCode first.lo first.hi }
     requires second_code { IsCode second.lo second.hi }
-    ensures holds { (x : ℤ) → IsRangeOf system (record { first = first; second = Some second }) x → Holds result x }
-    ensures width { IsNarrow 1 first.lo first.hi → IsNarrow 1 second.lo second.hi → IsNarrow 8 result.lo result.hi }
+    ensures holds { (x : ℤ) → IsRangeOf system (record { first = first; second = Some second }) x →
+        Holds result x }
+    ensures width { IsNarrow 1 first.lo first.hi → IsNarrow 1 second.lo second.hi →
+        IsNarrow 8 result.lo result.hi }
     ensures low_size { IsWithin (2 * 10 ^ 14) result.lo }
     ensures high_size { IsWithin (2 * 10 ^ 14) result.hi }
 {
@@ -87,8 +90,10 @@ pub fn dual_of(first: Wide, second: Wide, system: System) -> Exact
 pub fn dual(first: Wide, second: Wide) -> Exact
     requires first_code { IsCode first.lo first.hi }
     requires second_code { IsCode second.lo second.hi }
-    ensures holds { (x : ℤ) → IsPseudorange (record { first = first; second = Some second }) x → Holds result x }
-    ensures width { IsNarrow 1 first.lo first.hi → IsNarrow 1 second.lo second.hi → IsNarrow 8 result.lo result.hi }
+    ensures holds { (x : ℤ) → IsPseudorange (record { first = first; second = Some second }) x →
+        Holds result x }
+    ensures width { IsNarrow 1 first.lo first.hi → IsNarrow 1 second.lo second.hi →
+        IsNarrow 8 result.lo result.hi }
     ensures low_size { IsWithin (2 * 10 ^ 14) result.lo }
     ensures high_size { IsWithin (2 * 10 ^ 14) result.hi }
 {
@@ -99,8 +104,10 @@ pub fn dual(first: Wide, second: Wide) -> Exact
 pub fn combination(first: Wide, second: Wide, system: System) -> Exact
     requires first_code { IsCode first.lo first.hi }
     requires second_code { IsCode second.lo second.hi }
-    ensures low { result.lo ≡ (pos (first_square system) *ℤ first.lo) -ℤ (pos (second_square system) *ℤ second.hi) }
-    ensures high { result.hi ≡ (pos (first_square system) *ℤ first.hi) -ℤ (pos (second_square system) *ℤ second.lo) }
+    ensures low { result.lo ≡ (pos (first_square system) *ℤ first.lo)
+        -ℤ (pos (second_square system) *ℤ second.hi) }
+    ensures high { result.hi ≡ (pos (first_square system) *ℤ first.hi)
+        -ℤ (pos (second_square system) *ℤ second.lo) }
 {
     let one = first_times(first, system);
     let other = second_times(second, system);

@@ -44,7 +44,8 @@ pub fn sent_at(tag: i128, range: Exact) -> Exact
 fn over_light(length: Exact) -> Exact
     requires low_size { IsWithin (10 ^ 15) length.lo }
     requires high_size { IsWithin (10 ^ 15) length.hi }
-    ensures holds { (p v : ℤ) → Holds length p → Near (p *ℤ pos (10 ^ 6)) (pos light_speed) v → Holds result v }
+    ensures holds { (p v : ℤ) → Holds length p → Near (p *ℤ pos (10 ^ 6)) (pos light_speed) v →
+        Holds result v }
     ensures ends { HasEnds (4 * 10 ^ 12) (8 * 10 ^ 12) result }
     ensures width { IsNarrow 1008 length.lo length.hi → IsNarrow 8 result.lo result.hi }
 {
@@ -61,9 +62,13 @@ pub fn corrected(range: Exact, offset: Exact) -> Exact
     requires range_high { IsWithin (10 ^ 15) range.hi }
     requires offset_low { IsWithin (10 ^ 16) offset.lo }
     requires offset_high { IsWithin (10 ^ 16) offset.hi }
-    ensures holds { (p d v : ℤ) → Holds range p → Holds offset d → IsCorrected p d v → Holds result v }
-    ensures width { (w : ℕ) → IsNarrow w range.lo range.hi → IsNarrow 64 offset.lo offset.hi → IsNarrow (w + 24) result.lo result.hi }
-    ensures ends { (l u m v k j : ℕ) → HasEnds l u range → HasEnds m v offset → m * light_speed ≤ k * 10 ^ 10 → v * light_speed ≤ j * 10 ^ 10 → HasEnds (l + (k + 2)) (u + (j + 4)) result }
+    ensures holds { (p d v : ℤ) → Holds range p → Holds offset d → IsCorrected p d v →
+        Holds result v }
+    ensures width { (w : ℕ) → IsNarrow w range.lo range.hi → IsNarrow 64 offset.lo offset.hi →
+        IsNarrow (w + 24) result.lo result.hi }
+    ensures ends { (l u m v k j : ℕ) → HasEnds l u range → HasEnds m v offset →
+        m * light_speed ≤ k * 10 ^ 10 → v * light_speed ≤ j * 10 ^ 10 →
+        HasEnds (l + (k + 2)) (u + (j + 4)) result }
 {
     range.plus(times_light(offset))
 }
@@ -72,8 +77,10 @@ pub fn corrected(range: Exact, offset: Exact) -> Exact
 fn times_light(time: Exact) -> Exact
     requires low_size { IsWithin (10 ^ 16) time.lo }
     requires high_size { IsWithin (10 ^ 16) time.hi }
-    ensures holds { (d v : ℤ) → Holds time d → Near (d *ℤ pos light_speed) (pos (10 ^ 10)) v → Holds result v }
-    ensures ends { (m v k j : ℕ) → HasEnds m v time → m * light_speed ≤ k * 10 ^ 10 → v * light_speed ≤ j * 10 ^ 10 → HasEnds (k + 2) (j + 4) result }
+    ensures holds { (d v : ℤ) → Holds time d → Near (d *ℤ pos light_speed) (pos (10 ^ 10)) v →
+        Holds result v }
+    ensures ends { (m v k j : ℕ) → HasEnds m v time → m * light_speed ≤ k * 10 ^ 10 →
+        v * light_speed ≤ j * 10 ^ 10 → HasEnds (k + 2) (j + 4) result }
 {
     let light = Exact {
         lo: LIGHT_SPEED,

@@ -66,7 +66,8 @@ fn ephemeris_time(rt: &impl Abort, el: &Elements) -> Wide
 
 /// The time is so near to the ephemeris time that the clock and the place are told.
 fn is_near(rt: &impl Abort, el: &Elements, time: i128)
-    ensures from { neg_ℤ (pos ephemeris_reach) ≤ℤ (time -ℤ (el.now.week_start +ℤ el.now.toe_week.hi)) }
+    ensures from { neg_ℤ (pos ephemeris_reach)
+        ≤ℤ (time -ℤ (el.now.week_start +ℤ el.now.toe_week.hi)) }
     ensures to { (time -ℤ (el.now.week_start +ℤ el.now.toe_week.lo)) ≤ℤ pos ephemeris_reach }
 {
     let toe = ephemeris_time(rt, el);

@@ -1,9 +1,11 @@
--- How large the numbers of the clock chain are, line by line, by the bounds of the record's fields. Each
--- rounded line adds at most two units to what its factors give.
+-- How large the numbers of the clock chain are, line by line, by the bounds of the record's fields.
+-- Each rounded line adds at most two units to what its factors give.
 use Rattle.std.specs.Prelude.{ℕ, ◌+◌, ◌*◌, ◌/◌, ◌^◌, ℤ, pos, neg_ℤ, ◌+ℤ◌, ◌-ℤ◌, ◌≤ℤ◌, nat_abs}
 use Rattle.grid_model.specs.Angles.{unit}
 use Rattle.gnss_model.specs.EarthModel.{relativity, rate_scale}
-use Rattle.gnss_model.specs.RecordBounds.{offset_bound, drift_bound, ageing_bound, delay_bound, angle_bound, eccentricity_bound, greatest_root_a, clock_reach}
+use Rattle.gnss_model.specs.RecordBounds.{offset_bound, drift_bound, ageing_bound, delay_bound}
+use Rattle.gnss_model.specs.RecordBounds.{angle_bound, eccentricity_bound, greatest_root_a}
+use Rattle.gnss_model.specs.RecordBounds.{clock_reach}
 use Rattle.gnss_model.specs.declared.elements.Elements.{Elements}
 
 -- how far a signal may be sent from the ephemeris time: 14,500 s in ps

@@ -23,11 +23,13 @@ pub struct Clock {
 }
 
 /// Every clock offset and every GPS time of a signal that a system's satellite sent at `tsv` by its
-/// clock, in ps, within 14,500 s of the ephemeris time. A user of one frequency (`single`) takes off
-/// the group delay.
+/// clock, in ps, within 14,500 s of the ephemeris time. A user of one frequency (`single`) takes
+/// off the group delay.
 pub fn correction_of(el: &Elements, tsv: Exact, single: bool, system: System) -> Clock
     requires near { IsNearEphemeris el.now tsv.lo tsv.hi }
-    ensures holds { (n x dt t : ℤ) → MeanMotionOf system el.now n → Between tsv.lo tsv.hi x → ClockChainOf system el.now single n x dt t → Between result.dt.lo result.dt.hi dt × Between result.t.lo result.t.hi t }
+    ensures holds { (n x dt t : ℤ) → MeanMotionOf system el.now n → Between tsv.lo tsv.hi x →
+        ClockChainOf system el.now single n x dt t → Between result.dt.lo result.dt.hi dt
+        × Between result.t.lo result.t.hi t }
 
     // Within 0.05 s.
     ensures low_size { IsWithin correction_size result.dt.lo }
@@ -50,7 +52,9 @@ pub fn correction_of(el: &Elements, tsv: Exact, single: bool, system: System) ->
 /// Those of a GPS satellite.
 pub fn correction(el: &Elements, tsv: Exact, single: bool) -> Clock
     requires near { IsNearEphemeris el.now tsv.lo tsv.hi }
-    ensures holds { (n x dt t : ℤ) → MeanMotion el.now n → Between tsv.lo tsv.hi x → ClockChain el.now single n x dt t → Between result.dt.lo result.dt.hi dt × Between result.t.lo result.t.hi t }
+    ensures holds { (n x dt t : ℤ) → MeanMotion el.now n → Between tsv.lo tsv.hi x →
+        ClockChain el.now single n x dt t → Between result.dt.lo result.dt.hi dt
+        × Between result.t.lo result.t.hi t }
 
     // Within 0.05 s.
     ensures low_size { IsWithin correction_size result.dt.lo }

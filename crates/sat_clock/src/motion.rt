@@ -48,7 +48,8 @@ fn slowest(root_a: u128, system: System) -> u128
     requires low { least_root_a ≤ root_a }
     requires high { root_a ≤ root_limit }
     ensures holds { (s n : ℕ) → s ≤ root_a → IsMotionOf system (pos s) n → result ≤ n }
-    ensures tight { gravity_root system * 10 ^ 29 < (result + 1) * (root_a * root_a * root_a + 2 * 10 ^ 29) }
+    ensures tight { gravity_root system * 10 ^ 29 < (result + 1)
+        * (root_a * root_a * root_a + 2 * 10 ^ 29) }
     ensures low { 10 ^ 15 ≤ result }
     ensures high { result ≤ 17 * 10 ^ 17 }
 {
@@ -60,7 +61,8 @@ fn fastest(root_a: u128, system: System) -> u128
     requires low { least_root_a ≤ root_a }
     requires high { root_a ≤ root_limit }
     ensures holds { (s n : ℕ) → root_a ≤ s → IsMotionOf system (pos s) n → n ≤ result }
-    ensures tight { result * (root_a * root_a * root_a) ≤ gravity_root system * 10 ^ 29 + result * (2 * 10 ^ 29) }
+    ensures tight { result * (root_a * root_a * root_a) ≤ gravity_root system * 10 ^ 29 + result
+        * (2 * 10 ^ 29) }
     ensures high { result ≤ 17 * 10 ^ 17 }
 {
     gravity_root(system) / cube(root_a)
@@ -69,7 +71,8 @@ fn fastest(root_a: u128, system: System) -> u128
 /// Every mean motion of a root, before its correction.
 fn computed_motion(root_a: Wide, system: System) -> Exact
     requires { LiesFrom (pos least_root_a) (pos root_limit) root_a }
-    ensures holds { (s : ℤ) → (n : ℕ) → IsValue root_a s → IsMotionOf system s n → Between result.lo result.hi (pos n) }
+    ensures holds { (s : ℤ) → (n : ℕ) → IsValue root_a s → IsMotionOf system s n →
+        Between result.lo result.hi (pos n) }
     ensures width { (result.hi -ℤ result.lo) ≤ℤ pos 4095 }
     ensures low { pos (10 ^ 15) ≤ℤ result.lo }
     ensures high { result.hi ≤ℤ pos (17 * 10 ^ 17) }

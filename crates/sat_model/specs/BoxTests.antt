@@ -4,7 +4,8 @@ use Rattle.std.specs.Prelude.{ℕ, ◌-◌, ◌⊎◌, ℤ, ◌≤ℤ◌, List, 
 use Rattle.sat_model.specs.declared.rules.Rules.{Rules}
 use Rattle.sat_model.specs.declared.rows.Row.{Row}
 use Rattle.grid_model.specs.Boxes.{GridBox}
-use Rattle.sat_model.specs.ClockSpans.{clock_spans, IsShownEmpty, IsShownInner, NoneIsShownInner, IsLeastShownInner, IsClockHull}
+use Rattle.sat_model.specs.ClockSpans.{clock_spans, IsShownEmpty, IsShownInner, NoneIsShownInner}
+use Rattle.sat_model.specs.ClockSpans.{IsLeastShownInner, IsClockHull}
 use Rattle.sat_model.specs.Pairs.{IsShownEmptyByPairs}
 use Rattle.sat_model.specs.Relaxed.{LiesInRelaxed}
 

@@ -27,8 +27,10 @@ far_of row part = root (far_square row part)
 
 -- the ends of the clock span
 abbrev pub clock_ends : GridBox → Row → ℤ × ℤ
-clock_ends part row =
-    (row.range.lo -ℤ pos (far_of row part) -ℤ row.err.hi, row.range.hi -ℤ pos (near_of row part) -ℤ row.err.lo)
+clock_ends part row = (
+  row.range.lo -ℤ pos (far_of row part) -ℤ row.err.hi,
+  row.range.hi -ℤ pos (near_of row part) -ℤ row.err.lo,
+)
 
 abbrev pub clock_spans : GridBox → List Row → List (ℤ × ℤ)
 clock_spans part rows = map (clock_ends part) rows
@@ -39,8 +41,10 @@ IsShownEmpty rows part q = IsRelaxedEmpty (clock_spans part rows) (length rows -
 
 -- the ends of the inner span: where the first is greater, no number lies between them
 abbrev pub inner_ends : GridBox → Row → ℤ × ℤ
-inner_ends part row =
-    (row.range.hi -ℤ pos (near_of row part) -ℤ row.sure_hi, row.range.lo -ℤ pos (far_of row part) -ℤ row.sure_lo)
+inner_ends part row = (
+  row.range.hi -ℤ pos (near_of row part) -ℤ row.sure_hi,
+  row.range.lo -ℤ pos (far_of row part) -ℤ row.sure_lo,
+)
 
 abbrev pub inner_spans : GridBox → List Row → List (ℤ × ℤ)
 inner_spans part rows = map (inner_ends part) rows

@@ -20,8 +20,8 @@ pub record RowValue (row : Row) : Type 0 where
 abbrev pub error_of : (row : Row) → RowValue row → Pos → ℤ → ℤ
 error_of row v p b = v.measured -ℤ pos (range_to v.x v.y v.z p) -ℤ b
 
--- from the least to the greatest low end of what is allowed of the error, and the same of the high
--- end
+-- The error's lower bound lies in `low_bounds`, its upper bound in `high_bounds`; they are spans
+-- since the bounds depend on the point.
 abbrev pub low_bounds : Row → Side
 low_bounds row = record { lo = row.err.lo; hi = row.sure_lo }
 

@@ -1,5 +1,7 @@
 -- The steps of an epoch, folded over its live boxes.
-use Rattle.std.specs.Prelude.{◌≡◌, ℕ, ◌+◌, ◌/◌, ◌%◌, ℤ, pos, ◌+ℤ◌, ◌-ℤ◌, ◌≤ℤ◌, ◌<ℤ◌, Bool, true, false, nat_eq, List, [], ◌∷◌, ◌++◌, Option, None, Some, slice_index_or, slice_set}
+use Rattle.std.specs.Prelude.{◌≡◌, ℕ, ◌+◌, ◌/◌, ◌%◌, ℤ, pos, ◌+ℤ◌, ◌-ℤ◌, ◌≤ℤ◌, ◌<ℤ◌, Bool, true}
+use Rattle.std.specs.Prelude.{false, nat_eq, List, [], ◌∷◌, ◌++◌, Option, None, Some}
+use Rattle.std.specs.Prelude.{slice_index_or, slice_set}
 use Rattle.sat_model.specs.declared.steps.Step.{Step}
 use Rattle.sat_model.specs.declared.steps.Step.TheVariants.{Cut, Split, Outside, Inside, Edge}
 use Rattle.grid_model.specs.Boxes.{GridBox, Side, side_at, with_side, low_half, high_half}
@@ -49,16 +51,19 @@ abbrev pub IsProperCut : ℕ → ℤ → GridBox → Type 0
 IsProperCut face bound part = IsProperBound (is_low face) (side_at (axis_of face) part) bound
 
 abbrev pub left_by_cut : ℕ → ℤ → GridBox → GridBox
-left_by_cut face bound part = with_side (axis_of face) part (side_left (is_low face) (side_at (axis_of face) part) bound)
+left_by_cut face bound part =
+    with_side (axis_of face) part (side_left (is_low face) (side_at (axis_of face) part) bound)
 
 abbrev pub slab_of_cut : ℕ → ℤ → GridBox → GridBox
-slab_of_cut face bound part = with_side (axis_of face) part (side_cut (is_low face) (side_at (axis_of face) part) bound)
+slab_of_cut face bound part =
+    with_side (axis_of face) part (side_cut (is_low face) (side_at (axis_of face) part) bound)
 
 -- ---- the fold
 
 abbrev pub halves : ℕ → Option GridBox → List (Option GridBox)
 halves axis None = []
-halves axis (Some part) = Some (with_side axis part (low_half (side_at axis part))) ∷ Some (with_side axis part (high_half (side_at axis part))) ∷ []
+halves axis (Some part) = Some (with_side axis part (low_half (side_at axis part)))
+    ∷ Some (with_side axis part (high_half (side_at axis part))) ∷ []
 
 abbrev pub cut_box : ℕ → ℤ → Option GridBox → Option GridBox
 cut_box face bound None = None
@@ -66,10 +71,17 @@ cut_box face bound (Some part) = Some (left_by_cut face bound part)
 
 -- the stage behind a step
 abbrev pub after : Stage → Step → Stage
-after stage (Cut id face bound) = record { live = slice_set stage.live id (cut_box face bound (live_box stage id)); splits = stage.splits }
-after stage (Split id axis) = record { live = slice_set stage.live id None ++ halves axis (live_box stage id); splits = stage.splits + 1 }
+after stage (Cut id face bound) = record {
+  live = slice_set stage.live id (cut_box face bound (live_box stage id));
+  splits = stage.splits;
+}
+after stage (Split id axis) = record {
+  live = slice_set stage.live id None ++ halves axis (live_box stage id);
+  splits = stage.splits + 1;
+}
 after stage (Outside id) = record { live = slice_set stage.live id None; splits = stage.splits }
-after stage (Inside id clock lo hi) = record { live = slice_set stage.live id None; splits = stage.splits }
+after stage (Inside id clock lo hi) =
+    record { live = slice_set stage.live id None; splits = stage.splits }
 after stage (Edge id lo hi) = record { live = slice_set stage.live id None; splits = stage.splits }
 
 -- a step with the box or the slab that it speaks of
@@ -83,7 +95,8 @@ shown step (Some part) = (record { step = step; part = part }) ∷ []
 
 abbrev pub slab_shown : Step → ℕ → ℤ → Option GridBox → List ShownStep
 slab_shown step face bound None = []
-slab_shown step face bound (Some part) = (record { step = step; part = slab_of_cut face bound part }) ∷ []
+slab_shown step face bound (Some part) =
+    (record { step = step; part = slab_of_cut face bound part }) ∷ []
 
 -- the slab that a step cuts off, or the box that it closes
 abbrev pub taken_by : Stage → Step → List ShownStep

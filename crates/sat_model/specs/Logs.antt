@@ -49,7 +49,8 @@ lines_in block = lines_with block block.root
 -- each block begins where the one before ends, and all lines have numbers of at most 4 * 10^9
 abbrev pub IsNumberedFrom : ℕ → List Block → Type 0
 IsNumberedFrom next [] = next ≤ 4000000001
-IsNumberedFrom next (block ∷ more) = (block.line ≡ next) × IsNumberedFrom (next + lines_in block) more
+IsNumberedFrom next (block ∷ more) =
+    (block.line ≡ next) × IsNumberedFrom (next + lines_in block) more
 
 -- the first block begins behind the two lines of the head
 abbrev pub IsNumbered : LogValue → Type 0

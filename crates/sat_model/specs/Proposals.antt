@@ -2,9 +2,11 @@
 -- what the tree allows, and the kind of each tree ties it from the other side.
 use Rattle.std.specs.Prelude.{◌≡◌, ℕ, ◌-◌, ◌⊎◌, ℤ, List, [], ◌∷◌, Option, None, Some, Bool}
 use Rattle.grid_model.specs.Boxes.{Side, GridBox}
-use Rattle.sat_model.specs.Contractors.{Contractor, KeepsAllowed, IsMeet, IsRelaxedBox, Then, Repeats}
+use Rattle.sat_model.specs.Contractors.{Contractor, KeepsAllowed, IsMeet, IsRelaxedBox, Then}
+use Rattle.sat_model.specs.Contractors.{Repeats}
 use Rattle.sat_model.specs.TightFaces.{IsTightAnswer, face_at, IsFaceOf}
-use Rattle.sat_model.specs.Trees.{TreeValue, Sat, All, Relaxed, Again, Within, TreeList, no_trees, tree, Allows, count_trees}
+use Rattle.sat_model.specs.Trees.{TreeValue, Sat, All, Relaxed, Again, Within, TreeList, no_trees}
+use Rattle.sat_model.specs.Trees.{tree, Allows, count_trees}
 
 abbrev pub Keeps : TreeValue → Side → Contractor
 Keeps t clock part answer = KeepsAllowed (Allows t) clock part answer

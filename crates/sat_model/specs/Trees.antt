@@ -1,6 +1,7 @@
 -- Trees of contractors (Chabert and Jaulin, 'Contractor programming', 2009) over satellites, as
 -- plain values: which points of space, with which clock offsets, a tree allows.
-use Rattle.std.specs.Prelude.{◌≡◌, ℕ, zero, suc, ◌+◌, ◌<◌, ◌≤◌, ◌⊎◌, ℤ, pos, ◌-ℤ◌, List, [], ◌∷◌, true, max}
+use Rattle.std.specs.Prelude.{◌≡◌, ℕ, zero, suc, ◌+◌, ◌<◌, ◌≤◌, ◌⊎◌, ℤ, pos, ◌-ℤ◌, List, [], ◌∷◌}
+use Rattle.std.specs.Prelude.{true, max}
 use Rattle.grid_model.specs.declared.boxes.Pos.{Pos}
 use Rattle.grid_model.specs.Boxes.{Side, GridBox, IsIn, box_holds}
 use Rattle.grid_model.specs.Ranges.{range_to}

@@ -1,5 +1,6 @@
 -- Boxes that wait in a paving: which of them comes next, what closes it, and what its steps open.
-use Rattle.std.specs.Prelude.{◌≡◌, ℕ, ◌+◌, ◌*◌, ◌<◌, ◌≤◌, ◌⊎◌, pos, ◌<ℤ◌, ◌≤ℤ◌, List, [], ◌∷◌, ◌++◌, map, All}
+use Rattle.std.specs.Prelude.{◌≡◌, ℕ, ◌+◌, ◌*◌, ◌<◌, ◌≤◌, ◌⊎◌, pos, ◌<ℤ◌, ◌≤ℤ◌, List, [], ◌∷◌, ◌++◌}
+use Rattle.std.specs.Prelude.{map, All}
 use Rattle.sat_model.specs.declared.rules.Rules.{Rules}
 use Rattle.sat_model.specs.declared.rows.Row.{Row}
 use Rattle.sat_model.specs.declared.steps.Step.{Step}
@@ -30,7 +31,8 @@ abbrev pub first_paving : GridBox → Paving
 first_paving root = record { waiting = (record { id = 0; part = root }) ∷ []; splits = 0 }
 
 -- next is the oldest of the greatest bit length, and rest are the others
-pub record IsNext (waiting : List WaitingBox) (next : WaitingBox) (rest : List WaitingBox) : Type 0 where
+pub record IsNext (waiting : List WaitingBox) (next : WaitingBox)
+    (rest : List WaitingBox) : Type 0 where
   pub before : List WaitingBox
   pub behind : List WaitingBox
   pub all_waiting : waiting ≡ before ++ (next ∷ behind)
@@ -47,10 +49,12 @@ pub record IsUndecided (rows : List Row) (rules : Rules) (part : GridBox) : Type
 
 -- the box may be split: it is longer than the width, and splits are left
 abbrev pub MaySplit : Rules → ℕ → GridBox → Type 0
-MaySplit rules splits part = (rules.width <ℤ pos (longest_length part)) × (splits < rules.bisections)
+MaySplit rules splits part = (rules.width <ℤ pos (longest_length part))
+    × (splits < rules.bisections)
 
 abbrev pub MayNotSplit : Rules → ℕ → GridBox → Type 0
-MayNotSplit rules splits part = (pos (longest_length part) ≤ℤ rules.width) ⊎ (rules.bisections ≤ splits)
+MayNotSplit rules splits part =
+    (pos (longest_length part) ≤ℤ rules.width) ⊎ (rules.bisections ≤ splits)
 
 -- the step that splits or closes a box, after so many splits
 abbrev pub Closes : List Row → Rules → ℕ → ℕ → GridBox → Step → Type 0
@@ -60,7 +64,8 @@ Closes rows rules splits id part (Inside n clock lo hi) =
 Closes rows rules splits id part (Split n axis) =
     (n ≡ id) × IsUndecided rows rules part × MaySplit rules splits part × IsLongestAxis part axis
 Closes rows rules splits id part (Edge n lo hi) =
-    (n ≡ id) × IsUndecided rows rules part × MayNotSplit rules splits part × IsHull (test_of rules rows) part lo hi
+    (n ≡ id) × IsUndecided rows rules part × MayNotSplit rules splits part
+    × IsHull (test_of rules rows) part lo hi
 Closes rows rules splits id part (Cut n face bound) = ⊥
 
 -- ---- from box to box

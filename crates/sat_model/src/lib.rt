@@ -1,9 +1,9 @@
 //! What a log speaks of (satellite rows, rules, steps), and, in `specs/`, what a log means: which
 //! points fit, what the rows show of a box, when a log passes, and what it then covers.
 //!
-//! It stands on `grid_model` (boxes, spans and whole numbers) and `gnss_model` (satellites and their
-//! equations), and gives their types on. Lengths and clock offsets are whole numbers of micrometres
-//! (um), times are picoseconds (ps).
+//! It stands on `grid_model` (boxes, spans and whole numbers) and `gnss_model` (satellites and
+//! their equations), and gives their types on. Lengths and clock offsets are whole numbers of
+//! micrometres (um), times are picoseconds (ps).
 #![tactic(auto)]
 
 mod rows;

@@ -9,9 +9,8 @@ use grid_model::Span;
 /// What is known of one satellite: spans of its place, of its corrected pseudorange and of the
 /// error, all in um. Places and ranges are within 6 * 10^13 um, errors within 10^12 um.
 ///
-/// How far the error may go is a number itself, which may be known only to lie in a span. The error
-/// is never out of `err`; from `sure_lo` to `sure_hi`, where that isn't empty, it is allowed in any
-/// case.
+/// The error's bounds are known only as spans: no error outside `err` is allowed, and each from
+/// `sure_lo` to `sure_hi`, if there is one, is.
 #[derive(Clone, Copy, Debug, PartialEq, Eq)]
 pub struct Row {
     pub sat: Sat,
