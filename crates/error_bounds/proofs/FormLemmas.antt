@@ -8,7 +8,7 @@ use Rattle.toml.specs.Data.{Data}
 use Rattle.toml.specs.View.{view, items_view}
 use Rattle.toml.specs.declared.value.Value.{Value}
 use Rattle.std.proofs.lemmas.Option.{same_Some, none-some}
-use Rattle.error_bounds.specs.Forms.{all_members, of_kind, ends_of, three, codes_for, is_from}
+use Rattle.error_bounds.specs.Forms.{all_members, of_kind, ends_of, three, codes_for, dual_codes, is_from}
 use Rattle.error_bounds.specs.declared.fault.Fault.{Fault}
 use Rattle.error_bounds.specs.Sizes.{IsHalfSide}
 use Rattle.error_bounds.specs.declared.fault.Fault.TheVariants.{Outside}
@@ -65,11 +65,11 @@ not_one_code [] other = refl
 not_one_code (x ∷ []) other = absurd (other refl)
 not_one_code (x ∷ y ∷ ns) other = refl
 
-pub not_two_codes : (ns : List (List ℕ)) → (length ns ≢ 2) → codes_for mode.Dual ns ≡ Err Outside
-not_two_codes [] other = refl
-not_two_codes (x ∷ []) other = refl
-not_two_codes (x ∷ y ∷ []) other = absurd (other refl)
-not_two_codes (x ∷ y ∷ z ∷ ns) other = refl
+pub not_two_codes : (band : ℕ) (ns : List (List ℕ)) → (length ns ≢ 2) → dual_codes band ns ≡ Err Outside
+not_two_codes band [] other = refl
+not_two_codes band (x ∷ []) other = refl
+not_two_codes band (x ∷ y ∷ []) other = absurd (other refl)
+not_two_codes band (x ∷ y ∷ z ∷ ns) other = refl
 
 pub two_members : {V : Type 0} (kind : Data → Option V) (vs : List Value) (a b : Value) (x y : V) → length vs ≡ 2 → a ≡ get_or vs 0 a → b ≡ get_or vs 1 b
     → kind (view a) ≡ Some x → kind (view b) ≡ Some y → all_members kind (items_view vs) ≡ Some (x ∷ y ∷ [])

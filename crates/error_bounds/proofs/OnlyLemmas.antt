@@ -1,5 +1,5 @@
 -- A text has one value or one first fault.
-use Rattle.std.proofs.Common.{◌≡◌, Bool, ℕ, ℤ, List, [], Option, Result, Ok, Err, IfOk, IfErr, length, false, Ordering, Less, Equal, Greater, nat_cmp, is_eq, refl, sym, ap, ◌∙◌, inl, inr, arith}
+use Rattle.std.proofs.Common.{◌≡◌, Bool, ℕ, ℤ, List, [], Option, Result, Ok, Err, IfOk, IfErr, length, false, Ordering, Less, Equal, Greater, nat_cmp, is_eq, refl, sym, ap, ◌∙◌, inl, inr, arith, None, Some}
 use Rattle.std.proofs.lemmas.Bool.{false≢true}
 use Rattle.std.proofs.lemmas.Cmp.{nat_list_cmp_total}
 use Rattle.std.proofs.lemmas.Map.Text.{is_eq-slice_cmp}
@@ -10,11 +10,13 @@ use Rattle.std.specs.Result.{result_unwrap_or}
 use Rattle.grid_model.specs.declared.boxes.Pos.{Pos}
 use Rattle.gnss_model.specs.declared.satellites.Sat.{Sat}
 use Rattle.gnss_model.specs.declared.satellites.Signal.{Signal}
-use Rattle.toml.specs.Data.{Members}
-use Rattle.error_bounds.specs.Texts.{SettingsValue, IsValue, IsTree, IsSettings, IsFound, IsFirstFault, add}
+use Rattle.toml.specs.Data.{Members, get_member}
+use Rattle.error_bounds.specs.Keys.{Key, value_of, galileo_codes}
+use Rattle.error_bounds.specs.Texts.{GalileoValue, SettingsValue, IsGalileo, IsValue, IsTree, IsSettings, IsFound, IsFirstFault, add}
 use Rattle.error_bounds.specs.Faults.{Found}
 use Rattle.error_bounds.specs.Names.{unknown, IsFirstName}
 use Rattle.error_bounds.specs.declared.fault.Fault.{Fault}
+use Rattle.error_bounds.specs.declared.fault.Fault.TheVariants.{Missing}
 use Rattle.error_bounds.specs.declared.fault.SettingsError.TheVariants.{Refused, NoMemory}
 use Rattle.error_bounds.specs.Reading.{value_of_settings, GivesSettings, GivesFault, RefusesFirst}
 use Rattle.error_bounds.specs.declared.settings.Centre.{Centre}
@@ -27,20 +29,34 @@ same_read a b r e f = ap (λ x. result_unwrap_or x a) (sym e ∙ f)
 same_sum : (a b c d a' b' c' d' : ℤ × ℤ) → a ≡ a' → b ≡ b' → c ≡ c' → d ≡ d' → add (add (add a b) c) d ≡ add (add (add a' b') c') d'
 same_sum a b c d a' b' c' d' ea eb ec ed = rw (ea, eb, ec, ed) refl
 
-same_fields : (c c' : Centre) (h h' : Pos) (o o' b b' : ℕ) (w w' : ℤ) (m m' : ℕ) (d d' : Bool) (s s' : Signal) (k k' : ℤ × ℤ) (x x' : List (Sat × (ℤ × ℤ))) (z z' : Option (ℤ × ℤ))
-    → c ≡ c' → h ≡ h' → o ≡ o' → b ≡ b' → w ≡ w' → m ≡ m' → d ≡ d' → s ≡ s' → k ≡ k' → x ≡ x' → z ≡ z'
-    → ◌≡◌ {A = SettingsValue} (record { centre = c; half = h; outliers = o; bisections = b; width = w; max_age = m; pairs = d; signal = s; common = k; extra = x; zenith = z })
-    (record { centre = c'; half = h'; outliers = o'; bisections = b'; width = w'; max_age = m'; pairs = d'; signal = s'; common = k'; extra = x'; zenith = z' })
-same_fields c c' h h' o o' b b' w w' m m' d d' s s' k k' x x' z z' ec eh eo eb ew em ed es ek ex ez = cc
+same_fields : (c c' : Centre) (h h' : Pos) (o o' b b' : ℕ) (w w' : ℤ) (m m' : ℕ) (d d' : Bool) (s s' : Signal) (k k' : ℤ × ℤ) (x x' : List (Sat × (ℤ × ℤ))) (z z' : Option (ℤ × ℤ)) (g g' : Option GalileoValue) (v v' : Option ℕ)
+    → c ≡ c' → h ≡ h' → o ≡ o' → b ≡ b' → w ≡ w' → m ≡ m' → d ≡ d' → s ≡ s' → k ≡ k' → x ≡ x' → z ≡ z' → g ≡ g' → v ≡ v'
+    → ◌≡◌ {A = SettingsValue} (record { centre = c; half = h; outliers = o; bisections = b; width = w; max_age = m; pairs = d; signal = s; common = k; extra = x; zenith = z; galileo = g; speed = v })
+    (record { centre = c'; half = h'; outliers = o'; bisections = b'; width = w'; max_age = m'; pairs = d'; signal = s'; common = k'; extra = x'; zenith = z'; galileo = g'; speed = v' })
+same_fields c c' h h' o o' b b' w w' m m' d d' s s' k k' x x' z z' g g' v v' ec eh eo eb ew em ed es ek ex ez eg ev = cc
+
+none_read : {V : Type 0} (key : Key V) (tree : Members) (v : V) → get_member key.table tree ≡ None → value_of key tree ≡ Ok v → ⊥
+none_read key tree v none is =
+    let fault : value_of key tree ≡ Err Missing = rw none refl in
+    cc
+
+same_declared : (s t : Signal) (a b : ℤ × ℤ) → s ≡ t → a ≡ b → ◌≡◌ {A = Option GalileoValue} (Some (record { signal = s; offset = a })) (Some (record { signal = t; offset = b }))
+same_declared s t a b e f = rw (e, f) refl
+
+same_galileo : (tree : Members) (v w : Option GalileoValue) → IsGalileo tree v → IsGalileo tree w → v ≡ w
+same_galileo tree None None p q = refl
+same_galileo tree None (Some w) p q = absurd (none_read galileo_codes tree w.signal p q.0)
+same_galileo tree (Some v) None p q = absurd (none_read galileo_codes tree v.signal q p.0)
+same_galileo tree (Some v) (Some w) p q = same_declared _ _ _ _ (same_read _ _ _ p.0 q.0) (same_read _ _ _ p.1 q.1)
 
 pub one_value : (tree : Members) (v w : SettingsValue) → IsValue tree v → IsValue tree w → v ≡ w
 one_value tree v w p q =
-    same_fields v.centre w.centre v.half w.half v.outliers w.outliers v.bisections w.bisections v.width w.width v.max_age w.max_age v.pairs w.pairs v.signal w.signal v.common w.common v.extra w.extra v.zenith w.zenith
+    same_fields v.centre w.centre v.half w.half v.outliers w.outliers v.bisections w.bisections v.width w.width v.max_age w.max_age v.pairs w.pairs v.signal w.signal v.common w.common v.extra w.extra v.zenith w.zenith v.galileo w.galileo v.speed w.speed
     (same_read _ _ _ p.centre q.centre) (same_read _ _ _ p.half q.half) (same_read _ _ _ p.outliers q.outliers) (same_read _ _ _ p.bisections q.bisections)
     (same_read _ _ _ p.width q.width) (same_read _ _ _ p.max_age q.max_age) (same_read _ _ _ p.pairs q.pairs) (same_read _ _ _ p.signal q.signal)
     (p.common ∙ (same_sum _ _ _ _ _ _ _ _ (same_read _ _ _ p.is_receiver q.is_receiver) (same_read _ _ _ p.is_orbit_clock q.is_orbit_clock)
     (same_read _ _ _ p.is_ionosphere q.is_ionosphere) (same_read _ _ _ p.is_troposphere q.is_troposphere) ∙ sym q.common))
-    (p.extra ∙ sym q.extra) (same_read _ _ _ p.zenith q.zenith)
+    (p.extra ∙ sym q.extra) (same_read _ _ _ p.zenith q.zenith) (same_galileo tree v.galileo w.galileo p.galileo q.galileo) (same_read _ _ _ p.speed q.speed)
 
 one_tree : (text : List ℕ) (a b : Members) → IsTree text a → IsTree text b → a ≡ b
 one_tree text a b p q = same_Some a b (sym p.parsed ∙ q.parsed)

@@ -18,7 +18,8 @@ use Rattle.error_bounds.specs.declared.settings.Centre.TheVariants as centre
 -- ---- kinds and ranges
 
 -- a value of a kind, or another form
-abbrev pub or_form : {V W : Type 0} → Option V → (V → Result W Fault) → Result W Fault → Result W Fault
+abbrev pub or_form : {V W : Type 0} → Option V → (V → Result W Fault) → Result W Fault
+    → Result W Fault
 or_form None form other = other
 or_form (Some v) form other = form v
 
@@ -46,7 +47,8 @@ um mm = mm *ℤ pos 1000
 -- the members of a list, where all are of one kind
 abbrev pub all_members : {V : Type 0} → (Data → Option V) → Items → Option (List V)
 all_members kind no_items = Some []
-all_members kind (item d more) = option_and_then (λ v. option_map (λ vs. v ∷ vs) (all_members kind more)) (kind d)
+all_members kind (item d more) =
+    option_and_then (λ v. option_map (λ vs. v ∷ vs) (all_members kind more)) (kind d)
 
 abbrev pub as_list_of : {V : Type 0} → (Data → Option V) → Data → Option (List V)
 as_list_of kind d = option_and_then (all_members kind) (as_array d)
@@ -67,7 +69,8 @@ truth d = of_kind (as_bool d) (λ b. Ok b)
 
 -- `[lo, hi]`, amounts of at most so many mm
 abbrev pub ends_of : ℕ → List ℤ → Result (ℤ × ℤ) Fault
-ends_of most (lo ∷ hi ∷ []) = right ((is_within most lo && is_within most hi) && le_z lo hi) (um lo, um hi)
+ends_of most (lo ∷ hi ∷ []) =
+    right ((is_within most lo && is_within most hi) && le_z lo hi) (um lo, um hi)
 ends_of most _ = Err Outside
 
 abbrev pub errors : ℕ → Data → Result (ℤ × ℤ) Fault
@@ -75,7 +78,8 @@ errors most d = of_kind (as_list_of as_integer d) (ends_of most)
 
 -- three lengths that pass one test
 abbrev pub three : (ℤ → Bool) → List ℤ → Result Pos Fault
-three passes (x ∷ y ∷ z ∷ []) = right ((passes x && passes y) && passes z) (record { x = um x; y = um y; z = um z })
+three passes (x ∷ y ∷ z ∷ []) =
+    right ((passes x && passes y) && passes z) (record { x = um x; y = um y; z = um z })
 three passes _ = Err Outside
 
 abbrev pub is_coordinate : ℤ → Bool
@@ -107,11 +111,20 @@ mode_word d =
     if is_text text (codes "single") then Ok mode.Single
     else right (is_text text (codes "dual")) mode.Dual)
 
+-- a code on the first band, and one on another band
+abbrev pub dual_codes : ℕ → List (List ℕ) → Result Signal Fault
+dual_codes band (first ∷ second ∷ []) =
+    right (is_code 49 first && is_code band second) (signal.Dual first second)
+dual_codes band _ = Err Outside
+
 -- one code in single mode, and two in dual mode
 abbrev pub codes_for : Mode → List (List ℕ) → Result Signal Fault
 codes_for mode.Single (code ∷ []) = right (is_code 49 code) (signal.Single code)
-codes_for mode.Dual (first ∷ second ∷ []) = right (is_code 49 first && is_code 50 second) (signal.Dual first second)
-codes_for _ _ = Err Outside
+codes_for mode.Single _ = Err Outside
+codes_for mode.Dual codes = dual_codes 50 codes
 
 abbrev pub code_list : Mode → Data → Result Signal Fault
 code_list which d = of_kind (as_list_of as_str d) (codes_for which)
+
+abbrev pub two_codes : ℕ → Data → Result Signal Fault
+two_codes band d = of_kind (as_list_of as_str d) (dual_codes band)

@@ -1,15 +1,16 @@
 -- The keys of the settings, in the order in which they are tested.
-use Rattle.std.specs.Prelude.{ℕ, Bool, false, ◌+◌, ◌-◌, ◌/◌, ◌%◌, ℤ, codes, List, [], ◌∷◌, ◌++◌, map, Option, None, Some, ok_or, Result, Ok, Err}
+use Rattle.std.specs.Prelude.{ℕ, Bool, false, ◌+◌, ◌-◌, ◌/◌, ◌%◌, ℤ, codes, List, [], ◌∷◌, ◌++◌, map, Option, None, Some, ok_or, Result, Ok, Err, true, is_some}
 use Rattle.std.specs.List.{range_with_len}
 use Rattle.grid_model.specs.declared.boxes.Pos.{Pos}
+use Rattle.gnss_model.specs.declared.satellites.Sat.{Sat}
 use Rattle.gnss_model.specs.declared.satellites.Signal.{Signal}
 use Rattle.toml.specs.Data.{Data, Members, no_members, get_member, as_table}
 use Rattle.error_bounds.specs.Faults.{Found}
-use Rattle.error_bounds.specs.Forms.{count, length_from, truth, errors, place, half_sides, mode_word, code_list}
+use Rattle.error_bounds.specs.Forms.{count, length_from, truth, errors, place, half_sides, mode_word, code_list, two_codes}
 use Rattle.error_bounds.specs.declared.fault.Fault.{Fault}
-use Rattle.error_bounds.specs.declared.fault.Fault.TheVariants.{Missing, WrongKind}
+use Rattle.error_bounds.specs.declared.fault.Fault.TheVariants.{Missing, WrongKind, Outside}
 use Rattle.error_bounds.specs.declared.signals.Mode.{Mode}
-use Rattle.error_bounds.specs.declared.signals.Mode.TheVariants.{Single}
+use Rattle.error_bounds.specs.declared.signals.Mode.TheVariants.{Single, Dual}
 use Rattle.error_bounds.specs.declared.settings.Centre.{Centre}
 
 -- ---- what a key is
@@ -97,19 +98,38 @@ troposphere = bound (codes "troposphere")
 abbrev pub zenith : Key (ℤ × ℤ)
 zenith = record { table = codes "bounds"; name = codes "zenith"; form = errors 10000 }
 
--- `G01` to `G99`
-abbrev pub satellite_name : ℕ → List ℕ
-satellite_name number = 71 ∷ (48 + number / 10) ∷ (48 + number % 10) ∷ []
+-- two codes of Galileo satellites, on E1 and E5a
+abbrev pub galileo_codes : Key Signal
+galileo_codes = record { table = codes "galileo"; name = codes "codes"; form = two_codes 53 }
 
-abbrev pub satellite : ℕ → Key (ℤ × ℤ)
-satellite number = record { table = codes "satellite"; name = satellite_name number; form = errors 1000000 }
+-- c times the difference of the two system times: amounts of at most 1 km
+abbrev pub galileo_offset : Key (ℤ × ℤ)
+galileo_offset = record { table = codes "galileo"; name = codes "offset"; form = errors 1000000 }
 
--- the numbers from one up to 99
-unfoldable pub numbers_from : ℕ → List ℕ
-numbers_from number = range_with_len number (100 - number)
+-- the greatest speed of the receiver, in mm/s: up to 1 km/s, and it may be absent
+abbrev pub speed : Key ℕ
+speed = record { table = codes "motion"; name = codes "speed"; form = count 0 1000000 }
 
-abbrev pub satellite_numbers : List ℕ
-satellite_numbers = numbers_from 1
+-- the letter of the system and two digits
+abbrev pub satellite_name : Sat → List ℕ
+satellite_name sat = sat.system ∷ (48 + sat.number / 10) ∷ (48 + sat.number % 10) ∷ []
+
+abbrev pub satellite : Sat → Key (ℤ × ℤ)
+satellite sat =
+    record { table = codes "satellite"; name = satellite_name sat; form = errors 1000000 }
+
+-- those of a system, from a number up to 99
+unfoldable pub sats_from : ℕ → ℕ → List Sat
+sats_from system number =
+    map (λ n. record { system = system; number = n }) (range_with_len number (100 - number))
+
+-- `G01` to `G99`, and before them `E01` to `E99` where the table `galileo` is there
+abbrev pub galileo_sats : Bool → List Sat
+galileo_sats false = []
+galileo_sats true = sats_from 69 1
+
+abbrev pub listed_sats : Bool → List Sat
+listed_sats both = galileo_sats both ++ sats_from 71 1
 
 -- ---- their tests
 
@@ -131,8 +151,11 @@ abbrev pub mode_or_single : Result Mode Fault → Mode
 mode_or_single (Ok mode) = mode
 mode_or_single (Err fault) = Single
 
+abbrev pub mode_of : Members → Mode
+mode_of tree = mode_or_single (value_of signal_mode tree)
+
 abbrev pub codes_key : Members → Key Signal
-codes_key tree = signal_codes (mode_or_single (value_of signal_mode tree))
+codes_key tree = signal_codes (mode_of tree)
 
 abbrev pub signal_tests : Members → List Test
 signal_tests tree = test signal_mode tree ∷ test (codes_key tree) tree ∷ []
@@ -158,7 +181,8 @@ if_there (Ok d) = Ok (Some d)
 if_there (Err Missing) = Ok None
 if_there (Err fault) = Err fault
 
-abbrev pub optional_from : {V : Type 0} → Key V → Result (Option Data) Fault → Result (Option V) Fault
+abbrev pub optional_from : {V : Type 0} → Key V → Result (Option Data) Fault
+    → Result (Option V) Fault
 optional_from key (Ok found) = optional_in key found
 optional_from key (Err fault) = Err fault
 
@@ -171,8 +195,8 @@ test_optional_at key tree = record { key = printed key; fault = fault_in (option
 
 abbrev pub search_tests : Members → List Test
 search_tests tree =
-    test centre tree ∷ test half tree ∷ test outliers tree ∷ test bisections tree ∷ test width tree ∷ test max_age tree
-    ∷ test_optional_at pairs tree ∷ []
+    test centre tree ∷ test half tree ∷ test outliers tree ∷ test bisections tree ∷ test width tree
+    ∷ test max_age tree ∷ test_optional_at pairs tree ∷ []
 
 -- a truth value, false where its key is absent
 abbrev pub or_false : Result (Option Bool) Fault → Result Bool Fault
@@ -185,9 +209,38 @@ truth_at key tree = or_false (optional_at key tree)
 
 abbrev pub bounds_tests : Members → List Test
 bounds_tests tree =
-    test receiver tree ∷ test orbit_clock tree ∷ test ionosphere tree ∷ test troposphere tree ∷ test_optional_at zenith tree ∷ []
+    test receiver tree ∷ test orbit_clock tree ∷ test ionosphere tree ∷ test troposphere tree
+    ∷ test_optional_at zenith tree ∷ []
 
--- the table of the satellites may be absent too
+-- The table of Galileo may be absent. In single mode none is right.
+abbrev pub has_galileo : Members → Bool
+has_galileo tree = is_some (get_member (codes "galileo") tree)
+
+abbrev pub not_in_single : Option Members → Result Signal Fault
+not_in_single None = Err WrongKind
+not_in_single (Some _) = Err Outside
+
+-- the tests of its keys in dual mode
+abbrev pub galileo_keys : Members → List Test
+galileo_keys tree = test galileo_codes tree ∷ test galileo_offset tree ∷ []
+
+abbrev pub galileo_tests_by : Mode → Data → Members → List Test
+galileo_tests_by Single d tree =
+    record { key = printed galileo_codes; fault = fault_in (not_in_single (as_table d)) } ∷ []
+galileo_tests_by Dual d tree = galileo_keys tree
+
+abbrev pub galileo_tests_in : Option Data → Members → List Test
+galileo_tests_in None tree = []
+galileo_tests_in (Some d) tree = galileo_tests_by (mode_of tree) d tree
+
+abbrev pub galileo_tests : Members → List Test
+galileo_tests tree = galileo_tests_in (get_member (codes "galileo") tree) tree
+
+-- the table of the receiver's motion may be absent too
+abbrev pub motion_tests : Members → List Test
+motion_tests tree = test_optional_at speed tree ∷ []
+
+-- and so may that of the satellites
 abbrev pub satellites_in : Option Data → Result Members Fault
 satellites_in None = Ok no_members
 satellites_in (Some d) = ok_or (as_table d) WrongKind
@@ -195,16 +248,25 @@ satellites_in (Some d) = ok_or (as_table d) WrongKind
 abbrev pub satellites : Members → Result Members Fault
 satellites tree = satellites_in (get_member (codes "satellite") tree)
 
-abbrev pub satellite_tests_in : Result Members Fault → List Test
-satellite_tests_in (Ok members) = map (λ number. test_optional members (satellite number)) satellite_numbers
-satellite_tests_in (Err fault) = record { key = codes "satellite"; fault = Some fault } ∷ []
+abbrev pub own_tests : Members → List Sat → List Test
+own_tests members sats = map (λ sat. test_optional members (satellite sat)) sats
+
+abbrev pub satellite_tests_in : Bool → Result Members Fault → List Test
+satellite_tests_in both (Ok members) = own_tests members (listed_sats both)
+satellite_tests_in both (Err fault) = record { key = codes "satellite"; fault = Some fault } ∷ []
 
 abbrev pub satellite_tests : Members → List Test
-satellite_tests tree = satellite_tests_in (satellites tree)
+satellite_tests tree = satellite_tests_in (has_galileo tree) (satellites tree)
 
 -- all of them
 abbrev pub tests : Members → List Test
-tests tree = search_tests tree ++ (signal_tests tree ++ (bounds_tests tree ++ satellite_tests tree))
+tests tree =
+    search_tests tree
+    ++ (signal_tests tree
+    ++ (bounds_tests tree
+    ++ (galileo_tests tree
+    ++ (motion_tests tree
+    ++ satellite_tests tree))))
 
 -- the first of them that finds a fault
 abbrev pub first_or : Option Fault → List ℕ → Option Found → Option Found

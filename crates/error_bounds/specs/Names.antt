@@ -1,12 +1,12 @@
 -- The names in a tree that aren't those of keys. `Keys` has the keys.
-use Rattle.std.specs.Prelude.{◌≡◌, ℕ, Bool, false, ◌&&◌, ◌==◌, not, if◌then◌else◌, codes, List, [], ◌∷◌, ◌++◌, Option, None, Some}
+use Rattle.std.specs.Prelude.{◌≡◌, ℕ, Bool, false, ◌&&◌, ◌||◌, ◌==◌, not, if◌then◌else◌, codes, List, [], ◌∷◌, ◌++◌, Option, None, Some}
 use Rattle.std.specs.Char.{is_ascii_digit}
 use Rattle.std.specs.Cmp.Lexicographic.{slice_cmp}
 use Rattle.std.specs.List.{list_any, All, Contains}
 use Rattle.std.specs.Ordering.{nat_cmp, is_lt}
 use Rattle.toml.specs.Data.{Data, Members, no_members, member, get_member, as_table}
 use Rattle.error_bounds.specs.Forms.{is_text}
-use Rattle.error_bounds.specs.Keys.{Test, dotted, search_tests, signal_tests, bounds_tests}
+use Rattle.error_bounds.specs.Keys.{Test, dotted, has_galileo, galileo_keys, search_tests, signal_tests, bounds_tests, motion_tests}
 
 -- the members with a name that isn't known, each as its name is printed
 abbrev pub strangers : (List ℕ → Bool) → (List ℕ → List ℕ) → Members → List (List ℕ)
@@ -16,13 +16,17 @@ strangers known print (member name d more) =
 
 -- the tables
 abbrev pub is_table : List ℕ → Bool
-is_table name = list_any (is_text name) (codes "search" ∷ codes "signal" ∷ codes "bounds" ∷ codes "satellite" ∷ [])
+is_table name =
+    list_any (is_text name)
+    (codes "search" ∷ codes "signal" ∷ codes "bounds" ∷ codes "galileo" ∷ codes "motion"
+    ∷ codes "satellite" ∷ [])
 
--- `G01` to `G99`
-abbrev pub is_satellite : List ℕ → Bool
-is_satellite (system ∷ tens ∷ ones ∷ []) =
-    (system == 71 && (is_ascii_digit tens && is_ascii_digit ones)) && not (tens == 48 && ones == 48)
-is_satellite _ = false
+-- `G01` to `G99`, and where the table `galileo` is there also `E01` to `E99`
+abbrev pub is_satellite : Bool → List ℕ → Bool
+is_satellite both (system ∷ tens ∷ ones ∷ []) =
+    ((system == 71 || (both && system == 69)) && (is_ascii_digit tens && is_ascii_digit ones))
+    && not (tens == 48 && ones == 48)
+is_satellite both _ = false
 
 -- what a table holds
 abbrev pub table_or_none : Option Members → Members
@@ -44,7 +48,8 @@ abbrev pub strangers_at : List ℕ → (List ℕ → Bool) → Members → List 
 strangers_at table known tree = strangers known (dotted table) (members_at table tree)
 
 abbrev pub strangers_among : List ℕ → List Test → Members → List (List ℕ)
-strangers_among table tests tree = strangers_at table (λ name. is_key tests (dotted table name)) tree
+strangers_among table tests tree =
+    strangers_at table (λ name. is_key tests (dotted table name)) tree
 
 -- all names in a tree that aren't known
 abbrev pub unknown : Members → List (List ℕ)
@@ -53,7 +58,9 @@ unknown tree =
     ++ (strangers_among (codes "search") (search_tests tree) tree
     ++ (strangers_among (codes "signal") (signal_tests tree) tree
     ++ (strangers_among (codes "bounds") (bounds_tests tree) tree
-    ++ strangers_at (codes "satellite") is_satellite tree)))
+    ++ (strangers_among (codes "galileo") (galileo_keys tree) tree
+    ++ (strangers_among (codes "motion") (motion_tests tree) tree
+    ++ strangers_at (codes "satellite") (is_satellite (has_galileo tree)) tree)))))
 
 -- a name of a list that none of the others comes before in byte order
 pub record IsFirstName (names : List (List ℕ)) (name : List ℕ) : Type 0 where

@@ -1,18 +1,20 @@
 -- What a reader of settings texts answers.
-use Rattle.std.specs.Prelude.{◌≡◌, ◌⊎◌, ◌<◌, ℤ, map, ◌+ℤ◌, ◌-ℤ◌, ℕ, List, [], ◌∷◌, Bool, ◌&&◌, ◌==◌, if◌then◌else◌, pos, Option, None, Some, option_map, Result, Ok, Err}
+use Rattle.std.specs.Prelude.{◌≡◌, ◌⊎◌, ℤ, map, ◌+ℤ◌, ◌-ℤ◌, ℕ, List, [], ◌∷◌, Bool, ◌&&◌, ◌==◌, if◌then◌else◌, pos, Option, None, Some, option_map, Result, Ok, Err}
 use Rattle.std.specs.Borrow.{Bor}
 use Rattle.grid_model.specs.Boxes.{GridBox}
 use Rattle.sat_model.specs.Relaxed.{ends}
 use Rattle.grid_model.specs.declared.boxes.Pos.{Pos}
 use Rattle.gnss_model.specs.declared.satellites.Sat.{Sat}
+use Rattle.gnss_model.specs.declared.satellites.Signal.{Signal}
 use Rattle.grid_model.specs.declared.spans.Span.{Span}
 use Rattle.error_bounds.specs.Faults.{Found, IsCut, number_of}
 use Rattle.error_bounds.specs.Keys.{Test, data_at, dotted, if_there, first_found}
 use Rattle.error_bounds.specs.Keys as key
 use Rattle.error_bounds.specs.Names.{unknown, IsFirstName}
 use Rattle.std.specs.List.{All}
-use Rattle.error_bounds.specs.Sizes.{IsNearEarth, AreDeclared, IsAscending}
-use Rattle.error_bounds.specs.Texts.{SettingsValue, IsValue, IsFirstFault, IsFound, add}
+use Rattle.error_bounds.specs.Sizes.{IsNearEarth, AreDeclared, IsBefore, IsAscending}
+use Rattle.error_bounds.specs.declared.galileo.Galileo.{Galileo}
+use Rattle.error_bounds.specs.Texts.{GalileoValue, SettingsValue, IsValue, IsFirstFault, IsFound, add}
 use Rattle.error_bounds.specs.declared.fault.Fault.{Fault}
 use Rattle.error_bounds.specs.declared.fault.Fault.TheVariants.{Unknown}
 use Rattle.error_bounds.specs.declared.search.Search.{Search}
@@ -31,6 +33,15 @@ use Rattle.error_bounds.specs.declared.settings.Settings.{Settings}
 abbrev pub with_ends : List (Sat × Span) → List (Sat × (ℤ × ℤ))
 with_ends extra = map (λ e. (e.0, ends e.1)) extra
 
+-- what is declared for Galileo satellites, as a plain value
+abbrev pub galileo_value : Galileo → GalileoValue
+galileo_value g = record { signal = g.signal; offset = ends g.offset }
+
+-- the codes of Galileo that are declared
+abbrev pub signal_of : Option GalileoValue → Option Signal
+signal_of None = None
+signal_of (Some galileo) = Some galileo.signal
+
 -- settings as a plain value
 abbrev pub value_of_settings : Settings → SettingsValue
 value_of_settings s = record {
@@ -45,6 +56,8 @@ value_of_settings s = record {
   common = ends s.common;
   extra = with_ends s.extra.items;
   zenith = option_map ends s.zenith;
+  galileo = option_map galileo_value s.galileo;
+  speed = s.speed;
 }
 
 -- a refusal tells of a fault
@@ -65,22 +78,29 @@ optional_data_of (Err fault) = Err fault
 -- three whole numbers, or why there are none
 abbrev pub AreThree : Data → Result (ℤ × ℤ × ℤ) Fault → Type 0
 AreThree d (Ok n) = as_list_of as_integer d ≡ Some (n.0 ∷ n.1 ∷ n.2 ∷ [])
-AreThree d (Err fault) = (passes : ℤ → Bool) → of_kind (as_list_of as_integer d) (three passes) ≡ Err fault
+AreThree d (Err fault) =
+    (passes : ℤ → Bool) → of_kind (as_list_of as_integer d) (three passes) ≡ Err fault
 
 -- what is read at a key by a form, or the fault at it
-abbrev pub Answers : {V : Type 0} → (Data → Result V Fault → Type 0) → List ℕ → List ℕ → Members → Result V SettingsFault → Type 0
-Answers reads table name tree (Ok v) = (d : Data) × (data_at table name tree ≡ Ok d) × reads d (Ok v)
+abbrev pub Answers : {V : Type 0} → (Data → Result V Fault → Type 0) → List ℕ → List ℕ → Members
+    → Result V SettingsFault → Type 0
+Answers reads table name tree (Ok v) =
+    (d : Data) × (data_at table name tree ≡ Ok d) × reads d (Ok v)
 Answers reads table name tree (Err told) =
     (fault : Fault) × Tells (record { fault = fault; key = dotted table name }) told
-    × ((data_at table name tree ≡ Err fault) ⊎ ((d : Data) × (data_at table name tree ≡ Ok d) × reads d (Err fault)))
+    × ((data_at table name tree ≡ Err fault)
+    ⊎ ((d : Data) × (data_at table name tree ≡ Ok d) × reads d (Err fault)))
 
 -- the same at a key that may be absent
-abbrev pub AnswersOptional : {V : Type 0} → (Data → Result V Fault → Type 0) → List ℕ → List ℕ → Members → Result (Option V) SettingsFault → Type 0
+abbrev pub AnswersOptional : {V : Type 0} → (Data → Result V Fault → Type 0) → List ℕ → List ℕ
+    → Members → Result (Option V) SettingsFault → Type 0
 AnswersOptional reads table name tree (Ok None) = if_there (data_at table name tree) ≡ Ok None
-AnswersOptional reads table name tree (Ok (Some v)) = (d : Data) × (if_there (data_at table name tree) ≡ Ok (Some d)) × reads d (Ok v)
+AnswersOptional reads table name tree (Ok (Some v)) =
+    (d : Data) × (if_there (data_at table name tree) ≡ Ok (Some d)) × reads d (Ok v)
 AnswersOptional reads table name tree (Err told) =
     (fault : Fault) × Tells (record { fault = fault; key = dotted table name }) told
-    × ((if_there (data_at table name tree) ≡ Err fault) ⊎ ((d : Data) × (if_there (data_at table name tree) ≡ Ok (Some d)) × reads d (Err fault)))
+    × ((if_there (data_at table name tree) ≡ Err fault)
+    ⊎ ((d : Data) × (if_there (data_at table name tree) ≡ Ok (Some d)) × reads d (Err fault)))
 
 -- the span that is read, as its ends
 abbrev pub ends_in : Result Span Fault → Result (ℤ × ℤ) Fault
@@ -99,7 +119,8 @@ RefusesTests tests (Refused told) = TellsFirst tests told
 -- it tells of the first of the names, unless memory ran out
 abbrev pub RefusesName : List (List ℕ) → SettingsError → Type 0
 RefusesName names NoMemory = Unit {0}
-RefusesName names (Refused told) = (name : List ℕ) × IsFirstName names name × Tells (record { fault = Unknown; key = name }) told
+RefusesName names (Refused told) =
+    (name : List ℕ) × IsFirstName names name × Tells (record { fault = Unknown; key = name }) told
 
 abbrev pub RefusesTree : Members → SettingsError → Type 0
 RefusesTree tree NoMemory = Unit {0}
@@ -124,11 +145,11 @@ abbrev pub GivesFault : Found → Result Settings SettingsError → Type 0
 GivesFault found (Ok settings) = ⊥
 GivesFault found (Err e) = IsRefusalOf found e
 
--- satellites with numbers below one, in order, with declared spans
-pub record AreListed (number : ℕ) (extra : List (Sat × Span)) : Type 0 where
+-- satellites before one, in order, with declared spans
+pub record AreListed (sat : Sat) (extra : List (Sat × Span)) : Type 0 where
   pub declared : AreDeclared extra
   pub ascending : IsAscending extra
-  pub below : All (λ e. e.0.number < number) extra
+  pub below : All (λ e. IsBefore e.0 sat) extra
 
 -- ---- what the keys of a table give
 
@@ -168,9 +189,14 @@ abbrev pub extra_for : Sat → List (Sat × (ℤ × ℤ)) → ℤ × ℤ
 extra_for sat [] = (pos 0, pos 0)
 extra_for sat (e ∷ more) = if is_sat e.0 sat then e.1 else extra_for sat more
 
+-- the offset of the system times, for Galileo satellites
+abbrev pub offset_for : Sat → Option GalileoValue → ℤ × ℤ
+offset_for sat None = (pos 0, pos 0)
+offset_for sat (Some g) = if sat.system == 69 then g.offset else (pos 0, pos 0)
+
 -- the sum of all spans that are declared for a satellite
 abbrev pub bound_for : Sat → SettingsValue → ℤ × ℤ
-bound_for sat v = add v.common (extra_for sat v.extra)
+bound_for sat v = add (add v.common (extra_for sat v.extra)) (offset_for sat v.galileo)
 
 -- the box around a point
 abbrev pub box_around : Pos → Pos → GridBox

@@ -9,18 +9,26 @@ use Rattle.error_bounds.specs.declared.names.Scope.TheVariants as scope
 abbrev pub knows : Scope → List ℕ → Bool
 knows scope.Root name = is_table name
 knows scope.Search name =
-    list_any (is_text name) (codes "centre" ∷ codes "half" ∷ codes "outliers" ∷ codes "bisections" ∷ codes "width" ∷ codes "max_age" ∷ codes "pairs" ∷ [])
+    list_any (is_text name)
+    (codes "centre" ∷ codes "half" ∷ codes "outliers" ∷ codes "bisections" ∷ codes "width"
+    ∷ codes "max_age" ∷ codes "pairs" ∷ [])
 knows scope.Signal name = list_any (is_text name) (codes "mode" ∷ codes "codes" ∷ [])
 knows scope.Bounds name =
-    list_any (is_text name) (codes "receiver" ∷ codes "orbit_clock" ∷ codes "ionosphere" ∷ codes "troposphere" ∷ codes "zenith" ∷ [])
-knows scope.Satellite name = is_satellite name
+    list_any (is_text name)
+    (codes "receiver" ∷ codes "orbit_clock" ∷ codes "ionosphere" ∷ codes "troposphere"
+    ∷ codes "zenith" ∷ [])
+knows scope.Galileo name = list_any (is_text name) (codes "codes" ∷ codes "offset" ∷ [])
+knows scope.Motion name = list_any (is_text name) (codes "speed" ∷ [])
+knows (scope.Satellite both) name = is_satellite both name
 
 abbrev pub prefix_of : Scope → List ℕ
 prefix_of scope.Root = []
 prefix_of scope.Search = codes "search."
 prefix_of scope.Signal = codes "signal."
 prefix_of scope.Bounds = codes "bounds."
-prefix_of scope.Satellite = codes "satellite."
+prefix_of scope.Galileo = codes "galileo."
+prefix_of scope.Motion = codes "motion."
+prefix_of (scope.Satellite both) = codes "satellite."
 
 abbrev pub printed_in : Scope → List ℕ → List ℕ
 printed_in place name = prefix_of place ++ name

@@ -1,6 +1,7 @@
 -- What each value of the settings keeps to. Lengths are in um.
-use Rattle.std.specs.Prelude.{◌≡◌, ℕ, ◌<◌, ℤ, pos, Bool, false, ◌&&◌, ◌==◌, nat_le, List, [], ◌∷◌, length, ◌≤ℤ◌, slice_index_or}
+use Rattle.std.specs.Prelude.{◌≡◌, ℕ, ◌+◌, ◌*◌, ◌<◌, ◌≤◌, Option, ℤ, pos, Bool, false, ◌&&◌, ◌==◌, nat_le, List, [], ◌∷◌, length, ◌≤ℤ◌, slice_index_or}
 use Rattle.std.specs.List.{All}
+use Rattle.std.specs.Option.{ForSome}
 use Rattle.grid_model.specs.Sizes.{IsWithin}
 use Rattle.grid_model.specs.declared.boxes.Pos.{Pos}
 use Rattle.gnss_model.specs.declared.satellites.Sat.{Sat}
@@ -41,6 +42,10 @@ IsDeclared s = IsSpanWithin 1000000000 s
 abbrev pub IsSumOfFour : Span → Type 0
 IsSumOfFour s = IsSpanWithin 4000000000 s
 
+-- a speed, where one is declared, is up to 1 km/s, in mm/s
+abbrev pub IsSpeed : Option ℕ → Type 0
+IsSpeed speed = ForSome speed (λ declared. declared ≤ 1000000)
+
 -- the letters from A to Z
 abbrev pub is_capital : ℕ → Bool
 is_capital byte = nat_le 65 byte && nat_le byte 90
@@ -55,11 +60,21 @@ abbrev pub are_codes : Signal → Bool
 are_codes (Single code) = is_code 49 code
 are_codes (Dual first second) = is_code 49 first && is_code 50 second
 
+-- one of the first band and one of this one
+abbrev pub are_codes_on : ℕ → Signal → Bool
+are_codes_on band (Single code) = false
+are_codes_on band (Dual first second) = is_code 49 first && is_code band second
+
 -- each satellite's own span is a declared one
 abbrev pub AreDeclared : List (Sat × Span) → Type 0
 AreDeclared extra = All (λ e. IsDeclared e.1) extra
 
--- earlier satellites have lower numbers, and so none is listed twice
+-- by the letter of the system, and then by the number, which is a byte
+abbrev pub IsBefore : Sat → Sat → Type 0
+IsBefore a b = 256 * a.system + a.number < 256 * b.system + b.number
+
+-- satellites stand in this order, and so none is listed twice
 abbrev pub IsAscending : List (Sat × Span) → Type 0
 IsAscending extra =
-    (i j : ℕ) (e : Sat × Span) → i < j → j < length extra → (slice_index_or extra i e).0.number < (slice_index_or extra j e).0.number
+    (i j : ℕ) (e : Sat × Span) → i < j → j < length extra
+    → IsBefore (slice_index_or extra i e).0 (slice_index_or extra j e).0

@@ -1,10 +1,10 @@
 -- Settings texts: the value of one, or its first fault.
-use Rattle.std.specs.Prelude.{◌≡◌, ◌⊎◌, Bool, ℕ, ℤ, ◌+ℤ◌, List, [], Option, None, Some, Result, Ok, Err, IsUtf8}
+use Rattle.std.specs.Prelude.{◌≡◌, ◌⊎◌, Bool, ℕ, ℤ, ◌+ℤ◌, List, [], Option, None, Some, Result, Ok, Err, IsUtf8, codes}
 use Rattle.std.specs.List.{filter_map}
 use Rattle.grid_model.specs.declared.boxes.Pos.{Pos}
 use Rattle.gnss_model.specs.declared.satellites.Sat.{Sat}
 use Rattle.gnss_model.specs.declared.satellites.Signal.{Signal}
-use Rattle.toml.specs.Data.{Members}
+use Rattle.toml.specs.Data.{Members, get_member}
 use Rattle.toml.specs.Parse.{parse_document}
 use Rattle.error_bounds.specs.Faults.{Found}
 use Rattle.error_bounds.specs.Keys as key
@@ -12,6 +12,11 @@ use Rattle.error_bounds.specs.Names.{unknown, IsFirstName}
 use Rattle.error_bounds.specs.declared.fault.Fault.{Fault}
 use Rattle.error_bounds.specs.declared.fault.Fault.TheVariants.{NotToml, Unknown}
 use Rattle.error_bounds.specs.declared.settings.Centre.{Centre}
+
+-- what is declared for Galileo satellites
+pub record GalileoValue : Type 0 where
+  pub signal : Signal
+  pub offset : ℤ × ℤ
 
 -- settings as they stand in a text, with lengths in um
 pub record SettingsValue : Type 0 where
@@ -26,23 +31,33 @@ pub record SettingsValue : Type 0 where
   pub common : ℤ × ℤ
   pub extra : List (Sat × (ℤ × ℤ))
   pub zenith : Option (ℤ × ℤ)
-
-abbrev pub gps : ℕ → Sat
-gps number = record { system = 71; number = number }
+  pub galileo : Option GalileoValue
+  pub speed : Option ℕ
 
 -- the sum of two spans, each a pair of ends
 abbrev pub add : ℤ × ℤ → ℤ × ℤ → ℤ × ℤ
 add a b = (a.0 +ℤ b.0, a.1 +ℤ b.1)
 
 -- a satellite and its own span, where it has one
-abbrev pub extra_of : ℕ → Result (Option (ℤ × ℤ)) Fault → Option (Sat × (ℤ × ℤ))
-extra_of number (Ok None) = None
-extra_of number (Ok (Some span)) = Some (gps number, span)
-extra_of number (Err fault) = None
+abbrev pub extra_of : Sat → Result (Option (ℤ × ℤ)) Fault → Option (Sat × (ℤ × ℤ))
+extra_of sat (Ok None) = None
+extra_of sat (Ok (Some span)) = Some (sat, span)
+extra_of sat (Err fault) = None
 
-abbrev pub extra_in : Result Members Fault → List (Sat × (ℤ × ℤ))
-extra_in (Ok members) = filter_map (λ number. extra_of number (key.optional (key.satellite number) members)) key.satellite_numbers
-extra_in (Err fault) = []
+abbrev pub own_extra : Members → List Sat → List (Sat × (ℤ × ℤ))
+own_extra members sats =
+    filter_map (λ sat. extra_of sat (key.optional (key.satellite sat) members)) sats
+
+abbrev pub extra_in : Bool → Result Members Fault → List (Sat × (ℤ × ℤ))
+extra_in both (Ok members) = own_extra members (key.listed_sats both)
+extra_in both (Err fault) = []
+
+-- what the table of Galileo gives, where it is there
+abbrev pub IsGalileo : Members → Option GalileoValue → Type 0
+IsGalileo tree None = get_member (codes "galileo") tree ≡ None
+IsGalileo tree (Some g) =
+    (key.value_of key.galileo_codes tree ≡ Ok g.signal)
+    × (key.value_of key.galileo_offset tree ≡ Ok g.offset)
 
 -- the value that the keys of a tree give
 pub record IsValue (tree : Members) (v : SettingsValue) : Type 0 where
@@ -63,14 +78,17 @@ pub record IsValue (tree : Members) (v : SettingsValue) : Type 0 where
   pub troposphere : ℤ × ℤ
   pub is_troposphere : key.value_of key.troposphere tree ≡ Ok troposphere
   pub common : v.common ≡ add (add (add receiver orbit_clock) ionosphere) troposphere
-  pub extra : v.extra ≡ extra_in (key.satellites tree)
+  pub extra : v.extra ≡ extra_in (key.has_galileo tree) (key.satellites tree)
   pub zenith : key.optional_at key.zenith tree ≡ Ok v.zenith
+  pub galileo : IsGalileo tree v.galileo
+  pub speed : key.optional_at key.speed tree ≡ Ok v.speed
 
 -- the first fault of a tree: the first key with one, and behind all keys the first unknown name
 abbrev pub IsFound : Members → Found → Type 0
 IsFound tree found =
     (key.first_found (key.tests tree) ≡ Some found)
-    ⊎ ((key.first_found (key.tests tree) ≡ None) × (found.fault ≡ Unknown) × IsFirstName (unknown tree) found.key)
+    ⊎ ((key.first_found (key.tests tree) ≡ None) × (found.fault ≡ Unknown)
+    × IsFirstName (unknown tree) found.key)
 
 -- the tree that the bytes write
 pub record IsTree (text : List ℕ) (tree : Members) : Type 0 where

@@ -1,7 +1,10 @@
-//! The bounds that are declared for every satellite.
+//! The bounds that are declared for every satellite, and sums of bounds.
 
+ghost use Rattle.std.specs.Prelude.{◌≡◌, ℕ, ◌+◌};
 ghost use Rattle.gnss_model.specs.Zenith.{IsZenith};
-ghost use Rattle.error_bounds.specs.Sizes.{IsSumOfFour};
+ghost use Rattle.sat_model.specs.Relaxed.{ends};
+ghost use Rattle.error_bounds.specs.Sizes.{IsDeclared, IsSpanWithin, IsSumOfFour};
+ghost use Rattle.error_bounds.specs.Texts.{add};
 
 use grid_model::Span;
 
@@ -13,4 +16,17 @@ pub struct Bounds {
     pub zenith: Option<Span>,
     pub ghost common_within: { IsSumOfFour common },
     pub ghost zenith_within: { IsZenith zenith },
+}
+
+/// The sum of two spans: of up to five declared ones, and of one more.
+pub fn sum(a: Span, b: Span) -> Span
+    requires a_within { IsSpanWithin 5000000000 a }
+    requires b_within { IsDeclared b }
+    ensures value { ends result ≡ add (ends a) (ends b) }
+    ensures within { (n : ℕ) → IsSpanWithin n a → IsSpanWithin (n + 1000000000) result }
+{
+    Span {
+        lo: a.lo + b.lo,
+        hi: a.hi + b.hi,
+    }
 }

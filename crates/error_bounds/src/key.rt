@@ -38,7 +38,8 @@ pub fn optional<F: Form>(
     form: &F,
 ) -> Result<Option<F::Output>, SettingsFault>
     requires { length table.now + length name.now < 64 }
-    ensures value { AnswersOptional (F.reads form.now) table.now name.now (table_view tree.now) result }
+    ensures value { AnswersOptional (F.reads form.now) table.now name.now (table_view tree.now)
+        result }
     ensures allowed { IfOk result (λ read. IfSome read (F.allows form.now)) }
 {
     let value = match find_optional(tree, table, name) {
@@ -54,7 +55,8 @@ pub fn optional<F: Form>(
 
 /// What a table has at a name that may be absent, with the table or without.
 fn find_optional<'a>(tree: &'a Table, table: &str, name: &str) -> Result<Option<&'a Value>, Fault>
-    ensures { optional_data_of result ≡ if_there (data_at table.now name.now (table_view tree.now)) }
+    ensures { optional_data_of result
+        ≡ if_there (data_at table.now name.now (table_view tree.now)) }
 {
     match find(tree, table, name) {
         Ok(value) => Ok(Some(value)),

@@ -5,7 +5,10 @@
 mod bounds;
 mod fault;
 mod form;
+mod galileo;
+mod galileo_table;
 mod key;
+mod motion_table;
 mod names;
 mod places;
 mod read;
@@ -17,5 +20,6 @@ mod signals;
 mod tables;
 
 pub use fault::{Fault, KeyText, SettingsError, SettingsFault};
+pub use galileo::Galileo;
 pub use read::read_settings;
 pub use settings::{Centre, Settings};

@@ -10,6 +10,7 @@ ghost use Rattle.error_bounds.specs.Reading.{RefusesName};
 ghost use Rattle.error_bounds.specs.Scopes.{knows, prefix_of, printed_in};
 
 use crate::fault::{Fault, SettingsError, SettingsFault};
+use crate::galileo_table::has_galileo;
 use std::alloc::{AllocError, Global};
 use toml::Table;
 
@@ -20,7 +21,9 @@ enum Scope {
     Search,
     Signal,
     Bounds,
-    Satellite,
+    Galileo,
+    Motion,
+    Satellite { both: bool },
 }
 
 impl Scope {
@@ -35,7 +38,9 @@ impl Scope {
             Scope::Search => is_search_key(name),
             Scope::Signal => name == "mode" || name == "codes",
             Scope::Bounds => is_bound(name),
-            Scope::Satellite => is_satellite(name),
+            Scope::Galileo => name == "codes" || name == "offset",
+            Scope::Motion => name == "speed",
+            Scope::Satellite { both } => is_satellite(name, both),
         }
     }
 
@@ -48,7 +53,9 @@ impl Scope {
             Scope::Search => "search.",
             Scope::Signal => "signal.",
             Scope::Bounds => "bounds.",
-            Scope::Satellite => "satellite.",
+            Scope::Galileo => "galileo.",
+            Scope::Motion => "motion.",
+            Scope::Satellite { .. } => "satellite.",
         }
     }
 }
@@ -57,7 +64,12 @@ impl Scope {
 fn is_table(name: &str) -> bool
     ensures { result ≡ is_table name.now }
 {
-    name == "search" || name == "signal" || name == "bounds" || name == "satellite"
+    name == "search"
+        || name == "signal"
+        || name == "bounds"
+        || name == "galileo"
+        || name == "motion"
+        || name == "satellite"
 }
 
 /// Whether a name is that of a key of `search`.
@@ -84,14 +96,14 @@ fn is_bound(name: &str) -> bool
         || name == "zenith"
 }
 
-/// Whether a name is one of G01 to G99.
-fn is_satellite(name: &str) -> bool
-    ensures { result ≡ is_satellite name.now }
+/// Whether a name is one of G01 to G99, or where `both` systems are used of E01 to E99.
+fn is_satellite(name: &str, both: bool) -> bool
+    ensures { result ≡ is_satellite both name.now }
 {
     let [system, tens, ones] = name.as_bytes() else {
         return false;
     };
-    *system == b'G'
+    (*system == b'G' || (both && *system == b'E'))
         && tens.is_ascii_digit()
         && ones.is_ascii_digit()
         && !(*tens == b'0' && *ones == b'0')
@@ -113,7 +125,9 @@ fn add_unknown(
     scope: Scope,
     members: &Table,
 ) -> Result<(), AllocError>
-    ensures { OnOk result (map string_bytes names.new.items ≡ map string_bytes names.old.items ++ strangers (knows scope) (printed_in scope) (table_view members.now)) }
+    ensures { OnOk result (map string_bytes names.new.items
+        ≡ map string_bytes names.old.items
+        ++ strangers (knows scope) (printed_in scope) (table_view members.now)) }
 {
     for (name, _value) in members.iter() {
         if !scope.knows(name.as_str()) {
@@ -131,7 +145,10 @@ fn add_unknown_in(
     tree: &Table,
     table: &str,
 ) -> Result<(), AllocError>
-    ensures { OnOk result (map string_bytes names.new.items ≡ map string_bytes names.old.items ++ strangers (knows scope) (printed_in scope) (members_at table.now (table_view tree.now))) }
+    ensures { OnOk result (map string_bytes names.new.items
+        ≡ map string_bytes names.old.items
+        ++ strangers (knows scope) (printed_in scope)
+        (members_at table.now (table_view tree.now))) }
 {
     let Some(value) = tree.get(table) else {
         return Ok(());
@@ -151,13 +168,19 @@ fn unknown_names(alloc: Global, tree: &Table) -> Result<Vec<String>, AllocError>
     add_unknown_in(alloc, &mut names, Scope::Search, tree, "search")?;
     add_unknown_in(alloc, &mut names, Scope::Signal, tree, "signal")?;
     add_unknown_in(alloc, &mut names, Scope::Bounds, tree, "bounds")?;
-    add_unknown_in(alloc, &mut names, Scope::Satellite, tree, "satellite")?;
+    add_unknown_in(alloc, &mut names, Scope::Galileo, tree, "galileo")?;
+    add_unknown_in(alloc, &mut names, Scope::Motion, tree, "motion")?;
+    let satellite = Scope::Satellite {
+        both: has_galileo(tree),
+    };
+    add_unknown_in(alloc, &mut names, satellite, tree, "satellite")?;
     Ok(names)
 }
 
 /// The first of the names in byte order, where there is one.
 fn first_name(names: &[String]) -> Option<&String>
-    ensures { MatchOption result (names.now ≡ []) (λ name. Contains names.now name.now × All (λ other. is_lt (string_cmp other name.now) ≡ false) names.now) }
+    ensures { MatchOption result (names.now ≡ []) (λ name. Contains names.now name.now
+        × All (λ other. is_lt (string_cmp other name.now) ≡ false) names.now) }
 {
     names.iter().min()
 }

@@ -7,6 +7,8 @@ ghost use Rattle.error_bounds.specs.Reading.{value_of_settings, IsTreeOf, Refuse
 ghost use Rattle.error_bounds.specs.Texts.{SettingsValue, IsSettings, IsFirstFault};
 
 use crate::fault::{Fault, SettingsError, SettingsFault};
+use crate::galileo_table::read_galileo;
+use crate::motion_table::read_motion;
 use crate::names::check_names;
 use crate::satellites::read_satellites;
 use crate::settings::Settings;
@@ -20,8 +22,10 @@ fn read_tree(alloc: Global, tree: &Table) -> Result<Settings, SettingsError>
     ensures fault { IfErr result (RefusesTree (table_view tree.now)) }
 {
     let search = read_search(tree)?;
-    let signal = read_signal(tree)?;
+    let (mode, signal) = read_signal(tree)?;
     let bounds = read_bounds(tree)?;
+    let galileo = read_galileo(tree, mode)?;
+    let speed = read_motion(tree)?;
     let extra = read_satellites(alloc, tree)?;
     check_names(alloc, tree)?;
     Ok(Settings {
@@ -33,6 +37,8 @@ fn read_tree(alloc: Global, tree: &Table) -> Result<Settings, SettingsError>
         common: bounds.common,
         extra,
         zenith: bounds.zenith,
+        galileo,
+        speed,
     })
 }
 
@@ -71,7 +77,8 @@ pub fn read_settings(alloc: Global, bytes: &[u8]) -> Result<Settings, SettingsEr
     // A refusal tells of the first fault, unless memory ran out.
     ensures fault { IfErr result (RefusesFirst bytes.now) }
     // A text without a fault is read as its value, unless memory runs out.
-    ensures exact { (value : SettingsValue) → IsSettings bytes.now value → GivesSettings value result }
+    ensures exact { (value : SettingsValue)
+        → IsSettings bytes.now value → GivesSettings value result }
     // A text with a fault is refused for its first one, unless memory runs out.
     ensures first { (found : Found) → IsFirstFault bytes.now found → GivesFault found result }
 {

@@ -2,8 +2,10 @@
 
 ghost use Rattle.std.specs.Prelude.{◌≡◌, ◌≤◌, true};
 ghost use Rattle.gnss_model.specs.Zenith.{IsZenith};
-ghost use Rattle.error_bounds.specs.Sizes.{IsCentre, AreHalfSides, IsSumOfFour, IsDeclared, IsAscending, are_codes, AreDeclared};
+ghost use Rattle.error_bounds.specs.Sizes.{IsCentre, AreHalfSides, IsSumOfFour, IsDeclared, IsSpeed, IsAscending, are_codes, AreDeclared};
 
+use crate::bounds::sum;
+use crate::galileo::Galileo;
 use crate::search_box::box_around;
 use gnss_model::{Sat, Signal};
 use grid_model::{Box3, Pos, Span};
@@ -31,11 +33,16 @@ pub struct Settings {
     pub signal: Signal,
     /// The sum of the four spans declared for every satellite, each within 1 km.
     pub common: Span,
-    /// What is declared for one satellite beyond that, within 1 km, in the order of their numbers.
+    /// What is declared for one satellite beyond that, within 1 km, in the order of their names.
     pub extra: Vec<(Sat, Span)>,
-    /// What is declared of the troposphere's delay at the zenith, within 10 m: mapped by elevation it
-    /// is added to the sum.
+    /// What is declared of the troposphere's delay at the zenith, within 10 m: mapped by elevation
+    /// it is added to the sum.
     pub zenith: Option<Span>,
+    /// What is declared for Galileo satellites. Where it is none they aren't used.
+    pub galileo: Option<Galileo>,
+    /// The greatest speed of the receiver, in mm/s and up to 1 km/s, as the key `motion.speed`
+    /// declares it.
+    pub speed: Option<u32>,
     pub ghost centre_within: { IsCentre centre },
     pub ghost half_within: { AreHalfSides half },
     pub ghost some_age: { 1 ≤ max_age },
@@ -45,23 +52,31 @@ pub struct Settings {
     pub ghost extra_within: { AreDeclared extra.items },
     pub ghost extra_once: { IsAscending extra.items },
     pub ghost zenith_within: { IsZenith zenith },
+    pub ghost speed_within: { IsSpeed speed },
 }
 
 impl Settings {
     ghost use Rattle.grid_model.specs.Boxes.{grid_box};
     ghost use Rattle.sat_model.specs.Relaxed.{ends};
     ghost use Rattle.grid_model.specs.SearchBoxes.{IsSearchBox};
-    ghost use Rattle.error_bounds.specs.Reading.{value_of_settings, with_ends, bound_for, extra_for, centre_with, IsEnough, IsRoot};
+    ghost use Rattle.error_bounds.specs.Reading.{value_of_settings, signal_of, with_ends, bound_for, extra_for, offset_for, centre_with, IsEnough, IsRoot};
+
+    /// The codes of Galileo satellites, where these are used.
+    pub fn galileo_signal(&self) -> Option<Signal>
+        ensures { result ≡ signal_of (value_of_settings self.now).galileo }
+    {
+        match self.galileo {
+            Some(galileo) => Some(galileo.signal),
+            None => None,
+        }
+    }
 
     /// The sum of all spans that are declared for the satellite, in um.
     pub fn bound_of(&self, sat: Sat) -> Span
         ensures { ends result ≡ bound_for sat (value_of_settings self.now) }
     {
-        let extra = self.extra_of(sat);
-        Span {
-            lo: self.common.lo + extra.lo,
-            hi: self.common.hi + extra.hi,
-        }
+        let own = sum(self.common, self.extra_of(sat));
+        sum(own, self.offset_of(sat))
     }
 
     /// The satellite's own span, and that of 0 alone where it has none.
@@ -77,11 +92,26 @@ impl Settings {
         Span { lo: 0, hi: 0 }
     }
 
+    /// The offset of the system times for a Galileo satellite, and that of 0 alone for others.
+    fn offset_of(&self, sat: Sat) -> Span
+        ensures value { ends result ≡ offset_for sat (value_of_settings self.now).galileo }
+        ensures within { IsDeclared result }
+    {
+        let Some(galileo) = self.galileo else {
+            return Span { lo: 0, hi: 0 };
+        };
+        if sat.system == b'E' {
+            return galileo.offset;
+        }
+        Span { lo: 0, hi: 0 }
+    }
+
     /// The search box: the centre plus and minus the half sides. Where the centre is that of the
     /// header, `header` has to be there, within 8,500 km of the origin on each axis.
     pub fn root(&self, header: Option<Pos>) -> Box3
         requires { IsEnough self.now.centre header }
-        ensures value { IsRoot (centre_with header self.now.centre) self.now.half (grid_box result) }
+        ensures value { IsRoot (centre_with header self.now.centre) self.now.half
+            (grid_box result) }
         // Within 8,600 km of the origin on each axis, and no side is longer than 200 km.
         ensures search_box { IsSearchBox (grid_box result) }
     {

@@ -3,8 +3,8 @@
 ghost use Rattle.std.specs.Prelude.{◌≡◌, false, true, is_some, IfOk, IfNone, IfSome};
 ghost use Rattle.toml.specs.Data.{as_str};
 ghost use Rattle.toml.specs.View.{view, items_view};
-ghost use Rattle.error_bounds.specs.Forms.{all_members, of_kind, codes_for, mode_word, code_list};
-ghost use Rattle.error_bounds.specs.Sizes.{is_code, is_capital, are_codes};
+ghost use Rattle.error_bounds.specs.Forms.{all_members, of_kind, codes_for, dual_codes, mode_word, code_list, two_codes};
+ghost use Rattle.error_bounds.specs.Sizes.{is_code, is_capital, are_codes, are_codes_on};
 
 use crate::fault::Fault;
 use crate::form::Form;
@@ -26,6 +26,13 @@ pub struct ModeWord;
 #[derive(Clone, Copy)]
 pub struct Codes {
     pub mode: Mode,
+}
+
+/// A list of one code on the first band and one on another band.
+#[derive(Clone, Copy)]
+pub struct TwoCodes {
+    /// The digit of the other band.
+    pub band: u8,
 }
 
 impl Form for ModeWord {
@@ -65,15 +72,34 @@ impl Form for Codes {
         }
         match self.mode {
             Mode::Single => single(items),
-            Mode::Dual => dual(items),
+            Mode::Dual => dual(items, b'2'),
         }
+    }
+}
+
+impl Form for TwoCodes {
+    type Output = Signal;
+
+    ghost reads = { λ form d r. r ≡ two_codes form.band d };
+
+    ghost allows = { λ form signal. are_codes_on form.band signal ≡ true };
+
+    fn read(&self, value: &Value) -> Result<Signal, Fault> {
+        let Some(items) = value.as_array() else {
+            return Err(Fault::WrongKind);
+        };
+        if !are_texts(items) {
+            return Err(Fault::WrongKind);
+        }
+        dual(items, self.band)
     }
 }
 
 /// The signal of a list of one code.
 fn single(items: &[Value]) -> Result<Signal, Fault>
     requires { is_some (all_members as_str (items_view items.now)) ≡ true }
-    ensures value { result ≡ of_kind (all_members as_str (items_view items.now)) (codes_for Mode.Single) }
+    ensures value { result
+        ≡ of_kind (all_members as_str (items_view items.now)) (codes_for Mode.Single) }
     ensures codes { IfOk result (λ signal. are_codes signal ≡ true) }
 {
     let [item] = items else {
@@ -88,11 +114,11 @@ fn single(items: &[Value]) -> Result<Signal, Fault>
     }
 }
 
-/// The signal of a list of two codes.
-fn dual(items: &[Value]) -> Result<Signal, Fault>
+/// The signal of a list of two codes, of which the second is on this band.
+fn dual(items: &[Value], band: u8) -> Result<Signal, Fault>
     requires { is_some (all_members as_str (items_view items.now)) ≡ true }
-    ensures value { result ≡ of_kind (all_members as_str (items_view items.now)) (codes_for Mode.Dual) }
-    ensures codes { IfOk result (λ signal. are_codes signal ≡ true) }
+    ensures value { result ≡ of_kind (all_members as_str (items_view items.now)) (dual_codes band) }
+    ensures codes { IfOk result (λ signal. are_codes_on band signal ≡ true) }
 {
     let [first, second] = items else {
         return Err(Fault::Outside);
@@ -100,7 +126,7 @@ fn dual(items: &[Value]) -> Result<Signal, Fault>
     let (Some(first), Some(second)) = (first.as_str(), second.as_str()) else {
         return Err(Fault::WrongKind);
     };
-    match (code(first, b'1'), code(second, b'2')) {
+    match (code(first, b'1'), code(second, band)) {
         (Some(first), Some(second)) => Ok(Signal::Dual { first, second }),
         _ => Err(Fault::Outside),
     }

@@ -1,22 +1,20 @@
 //! The tables whose keys have to be there.
 
-ghost use Rattle.std.specs.Prelude.{◌≡◌, ℕ, ◌+◌, ◌≤◌, true, None, Ok, option_map, IfOk, IfErr, OnOk};
+ghost use Rattle.std.specs.Prelude.{◌≡◌, ◌≤◌, true, None, Ok, option_map, IfOk, IfErr, OnOk};
 ghost use Rattle.sat_model.specs.Relaxed.{ends};
 ghost use Rattle.toml.specs.View.{table_view};
-ghost use Rattle.error_bounds.specs.Keys.{value_of, codes_key, optional_at, zenith, search_tests, signal_tests, bounds_tests, first_found};
+ghost use Rattle.error_bounds.specs.Keys.{value_of, mode_of, codes_key, optional_at, zenith, search_tests, signal_tests, bounds_tests, first_found};
 ghost use Rattle.error_bounds.specs.Reading.{IsSearch, IsCommon, TellsFirst};
-ghost use Rattle.error_bounds.specs.Sizes.{IsDeclared, IsSpanWithin, are_codes};
-ghost use Rattle.error_bounds.specs.Texts.{add};
+ghost use Rattle.error_bounds.specs.Sizes.{are_codes};
 
-use crate::bounds::Bounds;
+use crate::bounds::{Bounds, sum};
 use crate::fault::SettingsFault;
 use crate::form::{Count, DECLARED, Errors, Length, Truth};
 use crate::key::{optional, required};
 use crate::places::{HalfSides, Place};
 use crate::search::Search;
-use crate::signals::{Codes, ModeWord};
+use crate::signals::{Codes, Mode, ModeWord};
 use gnss_model::Signal;
-use grid_model::Span;
 use sat_model::Rules;
 use toml::Table;
 
@@ -56,14 +54,17 @@ pub fn read_search(tree: &Table) -> Result<Search, SettingsFault>
 }
 
 /// The keys of `signal`.
-pub fn read_signal(tree: &Table) -> Result<Signal, SettingsFault>
+pub fn read_signal(tree: &Table) -> Result<(Mode, Signal), SettingsFault>
     ensures none { OnOk result (first_found (signal_tests (table_view tree.now)) ≡ None) }
-    ensures value { IfOk result (λ signal. value_of (codes_key (table_view tree.now)) (table_view tree.now) ≡ Ok signal) }
-    ensures codes { IfOk result (λ signal. are_codes signal ≡ true) }
+    ensures mode { IfOk result (λ t. mode_of (table_view tree.now) ≡ t.0) }
+    ensures value { IfOk result (λ t.
+        value_of (codes_key (table_view tree.now)) (table_view tree.now) ≡ Ok t.1) }
+    ensures codes { IfOk result (λ t. are_codes t.1 ≡ true) }
     ensures fault { IfErr result (TellsFirst (signal_tests (table_view tree.now))) }
 {
     let mode = required(tree, "signal", "mode", &ModeWord)?;
-    required(tree, "signal", "codes", &Codes { mode })
+    let signal = required(tree, "signal", "codes", &Codes { mode })?;
+    Ok((mode, signal))
 }
 
 /// The keys of `bounds`.
@@ -83,17 +84,4 @@ pub fn read_bounds(tree: &Table) -> Result<Bounds, SettingsFault>
     let common = sum(common, ionosphere);
     let common = sum(common, troposphere);
     Ok(Bounds { common, zenith })
-}
-
-/// The sum of two spans.
-fn sum(a: Span, b: Span) -> Span
-    requires a_within { IsSpanWithin 3000000000 a }
-    requires b_within { IsDeclared b }
-    ensures value { ends result ≡ add (ends a) (ends b) }
-    ensures within { (n : ℕ) → IsSpanWithin n a → IsSpanWithin (n + 1000000000) result }
-{
-    Span {
-        lo: a.lo + b.lo,
-        hi: a.hi + b.hi,
-    }
 }

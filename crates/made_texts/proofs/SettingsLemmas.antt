@@ -1,7 +1,7 @@
 -- A text that reads as the made table has the made settings.
-use Rattle.std.proofs.Common.{◌≡◌, ℕ, true, List, [], ◌∷◌, ◌++◌, map, length, take, get_or, ◌+◌, ◌<◌, refl, sym, ap, ◌∙◌, arith, None, Some, Ok}
+use Rattle.std.proofs.Common.{◌≡◌, ℕ, true, List, [], ◌∷◌, ◌++◌, length, take, get_or, ◌+◌, ◌<◌, refl, sym, ap, ◌∙◌, arith, None, Some, Ok}
 use Rattle.std.specs.Prelude.{ℤ, pos, neg_ℤ, IsUtf8}
-use Rattle.std.specs.List.{filter_map}
+use Rattle.gnss_model.specs.declared.satellites.Sat.{Sat}
 use Rattle.std.proofs.lemmas.Int.{ints}
 use Rattle.std.proofs.lemmas.List.{take_more}
 use Rattle.grid_model.specs.Sizes.{IsWithin}
@@ -9,8 +9,8 @@ use Rattle.toml.specs.Data.{no_members, item, integer, push_item}
 use Rattle.toml.specs.Parse.{parse_document}
 use Rattle.error_bounds.specs.Forms.{is_coordinate, um}
 use Rattle.error_bounds.specs.Keys as key
-use Rattle.error_bounds.specs.Keys.{Test, value_of, fault_in, first_found, tests, test_optional, satellite, optional, satellite_numbers}
-use Rattle.error_bounds.specs.Texts.{IsSettings, extra_of}
+use Rattle.error_bounds.specs.Keys.{Test, value_of, fault_in, first_found, tests, own_tests, sats_from}
+use Rattle.error_bounds.specs.Texts.{IsSettings, own_extra}
 use Rattle.error_bounds.specs.declared.settings.Centre.TheVariants.{At}
 use Rattle.std.proofs.Common.{String, Global, Ordering, Less, Equal, Greater, string_bytes}
 use Rattle.std.specs.BTreeMap.{insert_entry}
@@ -27,19 +27,19 @@ coordinate x h = grind (arith, ints, h.low, h.high)
 centre_is : (x y z : ℤ) → AreNear x y z → value_of key.centre (settings_table x y z) ≡ Ok (At (record { x = um x; y = um y; z = um z }))
 centre_is x y z near = rw (coordinate x near.0, coordinate y near.1, coordinate z near.2) refl
 
-none_of : (numbers : List ℕ) → first_found (map (λ number. test_optional no_members (satellite number)) numbers) ≡ None
+none_of : (sats : List Sat) → first_found (own_tests no_members sats) ≡ None
 none_of [] = refl
-none_of (n ∷ numbers) = none_of numbers
+none_of (sat ∷ sats) = none_of sats
 
-no_extra : (numbers : List ℕ) → filter_map (λ number. extra_of number (optional (satellite number) no_members)) numbers ≡ []
+no_extra : (sats : List Sat) → own_extra no_members sats ≡ []
 no_extra [] = refl
-no_extra (n ∷ numbers) = no_extra numbers
+no_extra (sat ∷ sats) = no_extra sats
 
 found_none : (t : Test) (more : List Test) → t.fault ≡ None → first_found more ≡ None → first_found (t ∷ more) ≡ None
 found_none t more none later = rw (none, later) refl
 
 faultless : (x y z : ℤ) → AreNear x y z → first_found (tests (settings_table x y z)) ≡ None
-faultless x y z near = found_none (key.test key.centre (settings_table x y z)) (map (λ number. test_optional no_members (satellite number)) satellite_numbers) (ap fault_in (centre_is x y z near)) (none_of satellite_numbers)
+faultless x y z near = found_none (key.test key.centre (settings_table x y z)) (own_tests no_members (sats_from 71 1)) (ap fault_in (centre_is x y z near)) (none_of (sats_from 71 1))
 
 pub settings_read : (text : List ℕ) (x y z : ℤ) → AreNear x y z → IsUtf8 text → parse_document text ≡ Some (settings_table x y z) → IsSettings text (settings_of x y z)
 settings_read text x y z near utf8 parsed = record {
@@ -65,8 +65,10 @@ settings_read text x y z near utf8 parsed = record {
     troposphere = (pos 0, pos 0);
     is_troposphere = refl;
     common = refl;
-    extra = sym (no_extra satellite_numbers);
+    extra = sym (no_extra (sats_from 71 1));
     zenith = refl;
+    galileo = refl;
+    speed = refl;
   };
 }
 

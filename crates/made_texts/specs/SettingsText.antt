@@ -4,7 +4,8 @@ use Rattle.grid_model.specs.Sizes.{IsWithin}
 use Rattle.gnss_model.specs.declared.satellites.Signal.TheVariants.{Single}
 use Rattle.std.specs.Ordering.{nat_cmp, match_ordering}
 use Rattle.std.specs.Cmp.Lexicographic.{slice_cmp}
-use Rattle.toml.specs.Data.{Data, string, integer, array, table, Items, no_items, item, Members, no_members, member}
+use Rattle.toml.specs.Data.{Data, string, integer, array, table, Items, no_items, item, Members}
+use Rattle.toml.specs.Data.{no_members, member}
 use Rattle.error_bounds.specs.Forms.{um}
 use Rattle.error_bounds.specs.Texts.{SettingsValue}
 use Rattle.error_bounds.specs.declared.settings.Centre.TheVariants.{At}
@@ -62,6 +63,8 @@ settings_of x y z = record {
   common = (neg_ℤ (pos 2500000), pos 2500000);
   extra = [];
   zenith = None;
+  galileo = None;
+  speed = None;
 }
 
 abbrev pub AreNear : ℤ → ℤ → ℤ → Type 0

@@ -1,10 +1,13 @@
 //! The text of an observation file.
 
-ghost use Rattle.std.specs.Prelude.{◌≡◌, ◌≤◌, ◌++◌, ◌+◌, ◌-◌, ◌/◌, ◌%◌, codes, cond, nat_lt, replicate, false, None, [], ◌∷◌, ℕ, IfOk, List, map, length};
+ghost use Rattle.std.specs.Prelude.{◌≡◌, ◌≤◌, ◌++◌, ◌+◌, ◌-◌, ◌/◌, ◌%◌, codes, cond, nat_lt};
+ghost use Rattle.std.specs.Prelude.{replicate, false, None, [], ◌∷◌, ℕ, IfOk, List, map, length};
 ghost use Rattle.std.specs.Fmt.{decimal, sign_text};
 ghost use Rattle.decimal_digits.specs.Digits.{last_digits};
 ghost use Rattle.made_texts.specs.TextLines.{text_of};
-ghost use Rattle.made_texts.specs.ObsText.{right, metres_text, two_wide, satellite_text, head_text, satellites_text, epoch_text, obs_lines, AreEpochs, observed_from, code_c1c};
+ghost use Rattle.made_texts.specs.ObsText.{right, metres_text, two_wide, satellite_text, head_text};
+ghost use Rattle.made_texts.specs.ObsText.{satellites_text, epoch_text, obs_lines, AreEpochs};
+ghost use Rattle.made_texts.specs.ObsText.{observed_from, code_c1c};
 ghost use Rattle.made_texts.specs.declared.sat_codes.EpochCodes.{EpochCodes};
 ghost use Rattle.rinex_obs.specs.Files.{IsObsFile};
 ghost use Rattle.gnss_model.specs.declared.satellites.Signal.TheVariants.{Single};

@@ -6,7 +6,9 @@ ghost use Rattle.toml.specs.Parse.{parse_document};
 ghost use Rattle.toml.specs.Text.{IsDocumentText};
 ghost use Rattle.toml.specs.View.{view, table_view};
 ghost use Rattle.error_bounds.specs.Texts.{IsSettings};
-ghost use Rattle.made_texts.specs.SettingsText.{integers, span, put_member, bounds_table, search_table, signal_table, settings_table, settings_of, AreNear};
+ghost use Rattle.made_texts.specs.SettingsText.{integers, span, put_member, bounds_table};
+ghost use Rattle.made_texts.specs.SettingsText.{search_table, signal_table, settings_table};
+ghost use Rattle.made_texts.specs.SettingsText.{settings_of, AreNear};
 
 use grid_model::NoMemory;
 use std::alloc::Global;

@@ -3,7 +3,11 @@
 #![tactic(auto)]
 
 #[cfg(test)]
+mod both;
+#[cfg(test)]
 mod nav;
+#[cfg(test)]
+mod nav_fields;
 #[cfg(test)]
 mod obs;
 #[cfg(test)]

@@ -27,8 +27,8 @@ G01  20985472.060
 G02
 ";
 
-/// Texts in place of one in that file, and what comes of it: the number and the line of the first fault, or
-/// twice 0. `@` ends a line.
+/// Texts in place of one in that file, and what comes of it: the number and the line of the first
+/// fault, or twice 0. `@` ends a line.
 const CHANGES: &str = "0|0|OBSERVATION|OBSERVATION
 10|1|VERSION / TYPE|VERSION /TYPE
 11|1|3.05|3.06
@@ -103,8 +103,8 @@ const DUAL_CHANGES: &str = "0|0|OBSERVATION|OBSERVATION
 22|7|G02|G01  20985472.060    2361909x
 24|7|G02|";
 
-/// Lines in place of line 3 of the file of one epoch, and what comes of it where the position is wanted: the
-/// number and the line of the first fault, or 0 and the first coordinate.
+/// Lines in place of line 3 of the file of one epoch, and what comes of it where the position is
+/// wanted: the number and the line of the first fault, or 0 and the first coordinate.
 const POSITIONS: &str =
     "0|6378137000000|  6378137.0000        0.0000       -0.1234                  APPROX POSITION XYZ
 0|-1000001|    -1.0000005        0.0000       -0.1234                  APPROX POSITION XYZ

@@ -25,8 +25,8 @@ ionosphere = [0, 20000]
 troposphere = [2000, 25000]
 ";
 
-/// Texts in place of one in those settings, and what comes of it: the number and the key of the first
-/// fault, or 0. `@` ends a line. The last key has a character of two bytes at its 64th.
+/// Texts in place of one in those settings, and what comes of it: the number and the key of the
+/// first fault, or 0. `@` ends a line. The last key has a character of two bytes at its 64th.
 const CHANGES: &str = "0||half|half
 0||[6378137000, 0, 0]|\"header\"
 0||[6378137000, 0, 0]|[-8500000000, 8500000000, 0]
@@ -102,11 +102,30 @@ const CHANGES: &str = "0||half|half
 33|bounds.zenith|25000]|25000]@alpha = 1@zenith = [2, 1]
 34|bounds.zenit|25000]|25000]@zenit = [1800, 3000]
 34|search.zenith|[signal]|zenith = [1800, 3000]@[signal]
+0||[search]|[motion]@[search]
+0||[search]|[motion]@speed = 0@[search]
+0||[search]|[motion]@speed = 1000000@[search]
+32|motion.speed|[search]|motion = 1@[search]
+32|motion.speed|[search]|[motion]@speed = 1.0@[search]
+32|motion.speed|[search]|[motion]@speed = \"1\"@[search]
+32|motion.speed|[search]|[motion]@speed = [1]@[search]
+33|motion.speed|[search]|[motion]@speed = -1@[search]
+33|motion.speed|[search]|[motion]@speed = 1000001@[search]
+33|motion.speed|[search]|[motion]@limit = 1@speed = -1@[search]
+33|galileo.codes|[search]|[galileo]@[motion]@speed = -1@[search]
+33|motion.speed|25000]|25000]@[motion]@speed = -1@[satellite]@G05 = [1]
+33|bounds.zenith|25000]|25000]@zenith = [2, 1]@[motion]@speed = -1
+34|motion.limit|[search]|[motion]@limit = 1@[search]
+34|search.speed|7200|7200@speed = 1
+34|speed|[search]|speed = 1@[search]
 32|satellite|[search]|satellite = 1@[search]
 33|satellite.G05|[2000, 25000]|[0, 1]@[satellite]@G05 = [1]
 34|satellite.G00|[2000, 25000]|[0, 1]@[satellite]@G00 = [0, 1]
 34|search.alpha|[search]|zeal = 1@[search]@alpha = 1
 31|search.half|half = 200000|zeal = 1
+33|galileo.codes|[search]|[galileo]@[search]
+32|galileo.codes|[search]|galileo = 1@[search]
+34|satellite.E11|[2000, 25000]|[0, 1]@[satellite]@E11 = [0, 1]
 34|a\u{7}b|[search]|\"a\\u0007b\" = 1@[search]
 34|abcdefghijklmnopqrstuvwxyzabcdefghijklmnopqrstuvwxyzabcdefghijk|[search]|\"abcdefghijklmnopqrstuvwxyzabcdefghijklmnopqrstuvwxyzabcdefghijk\u{e9}z\" = 1@[search]";
 
@@ -137,6 +156,57 @@ troposphere = [-4000, 0]
 [satellite]
 G05 = [-50000, 600000]
 ";
+
+/// Settings of both systems.
+const BOTH: &str = "[search]
+centre = \"header\"
+half = [1, 2, 3]
+outliers = 8
+bisections = 200000
+width = 1
+max_age = 14400
+[signal]
+mode = \"dual\"
+codes = [\"C1C\", \"C2W\"]
+[bounds]
+receiver = [-1, 1]
+orbit_clock = [-20, 20]
+ionosphere = [0, 300]
+troposphere = [-4000, 0]
+[satellite]
+E05 = [-50000, 600000]
+[galileo]
+codes = [\"C1X\", \"C5X\"]
+offset = [-20000, 35000]
+";
+
+/// Texts in place of one in those settings, and what comes of it: the number and the key of the
+/// first fault, or 0. `@` ends a line.
+const BOTH_CHANGES: &str = "0||half|half
+0||C1X\", \"C5X|C1C\", \"C5Q
+0||E05|G05
+0||E05|E99 = [0, 1]@G01 = [0, 1]@E01
+0||[-20000, 35000]|[-1000000, 1000000]
+31|galileo.codes|codes = [\"C1X\", \"C5X\"]|
+31|galileo.offset|offset = [-20000, 35000]|
+32|galileo.codes|[\"C1X\", \"C5X\"]|\"C1X\"
+32|galileo.codes|\"C5X\"]|5]
+33|galileo.codes|C5X|C2X
+33|galileo.codes|C1X|C5X
+33|galileo.codes|\"C1X\", |
+33|galileo.codes|\"C5X\"|\"C5X\", \"C5Q\"
+32|galileo.offset|[-20000, 35000]|1
+33|galileo.offset|[-20000, 35000]|[1, 0]
+33|galileo.offset|[-20000, 35000]|[-1000001, 0]
+33|galileo.offset|35000|1000001
+34|galileo.offsets|[galileo]|[galileo]@offsets = 1
+34|satellite.E00|E05|E00
+34|satellite.R05|E05|R05
+33|bounds.troposphere|[-4000, 0]@[satellite]@E05 = [-50000, 600000]@[galileo]@codes = [\"C1X\"|[1, 0]@[satellite]@E05 = [1]@[galileo]@codes = [1
+32|galileo.codes|E05 = [-50000, 600000]@[galileo]@codes = [\"C1X\"|E05 = [1]@[galileo]@codes = [1
+33|galileo.offset|[-20000, 35000]|[1, 0]@[motion]@speed = -1
+33|motion.speed|[-20000, 35000]|[0, 1]@[motion]@speed = -1
+33|satellite.E07|E05 = [-50000, 600000]|G05 = [1]@E07 = [2]";
 
 /// What is read from the text.
 fn settings(alloc: Global, text: &str) -> Result<Settings, Fail> {
@@ -178,13 +248,41 @@ fn first_faults(rt: HostRuntime) -> Result<(), Fail> {
     Ok(())
 }
 
+#[test]
+fn first_faults_with_both_systems(rt: HostRuntime) -> Result<(), Fail> {
+    for row in BOTH_CHANGES.lines() {
+        let mut fields = row.split('|');
+        let told = number(&rt, fields.next());
+        let key = fields.next().expect(&rt, "a key");
+        let old = fields.next().expect(&rt, "a text");
+        let new = fields.next().expect(&rt, "a text");
+        let text = changed(rt.alloc(), BOTH, old, new)?;
+        let is_told = has_fault(rt.alloc(), text.as_bytes(), told, key);
+        assert!(rt; is_told, "{row}");
+    }
+    Ok(())
+}
+
+/// The span declared for a satellite.
+fn bound_for(settings: &Settings, system: u8, number: u8) -> (i64, i64) {
+    let bound = settings.bound_of(Sat { system, number });
+    (bound.lo, bound.hi)
+}
+
 /// The span declared for a satellite of GPS.
 fn bound_of(settings: &Settings, number: u8) -> (i64, i64) {
-    let bound = settings.bound_of(Sat {
-        system: b'G',
-        number,
-    });
-    (bound.lo, bound.hi)
+    bound_for(settings, b'G', number)
+}
+
+#[test]
+fn reads_settings_of_both_systems(rt: HostRuntime) -> Result<(), Fail> {
+    let settings = settings(rt.alloc(), BOTH)?;
+    let (first, second) = (*b"C1X", *b"C5X");
+    assert!(rt; settings.galileo_signal() == Some(Signal::Dual { first, second }));
+    assert_eq!(rt; bound_for(&settings, b'G', 5), (-4_021_000, 321_000));
+    assert_eq!(rt; bound_for(&settings, b'E', 6), (-24_021_000, 35_321_000));
+    assert_eq!(rt; bound_for(&settings, b'E', 5), (-74_021_000, 635_321_000));
+    Ok(())
 }
 
 #[test]
@@ -230,6 +328,22 @@ fn reads_whether_pairs_are_tested(rt: HostRuntime) -> Result<(), Fail> {
         let text = changed(rt.alloc(), FILE, "7200", age)?;
         let settings = settings(rt.alloc(), text.as_str())?;
         assert_eq!(rt; settings.rules.pairs, pairs, "{age}");
+    }
+    Ok(())
+}
+
+#[test]
+fn reads_a_speed_in_mm_each_second(rt: HostRuntime) -> Result<(), Fail> {
+    for (table, speed) in [
+        ("[search]", None),
+        ("[motion]@[search]", None),
+        ("[motion]@speed = 0@[search]", Some(0)),
+        ("[motion]@speed = 27800@[search]", Some(27_800)),
+        ("[motion]@speed = 1000000@[search]", Some(1_000_000)),
+    ] {
+        let text = changed(rt.alloc(), FILE, "[search]", table)?;
+        let settings = settings(rt.alloc(), text.as_str())?;
+        assert_eq!(rt; settings.speed, speed, "{table}");
     }
     Ok(())
 }

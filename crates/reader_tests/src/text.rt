@@ -13,8 +13,8 @@ const HEADER: &str =
                                                             END OF HEADER
 ";
 
-/// Texts in place of one in that header, and what comes of it: the number and the line of the first fault,
-/// or 0 and the number of the first line behind the header. `@` ends a line.
+/// Texts in place of one in that header, and what comes of it: the number and the line of the first
+/// fault, or 0 and the number of the first line behind the header. `@` ends a line.
 const CHANGES: &str = "0|3|3.04|3.00
 0|3|3.04|3.05
 0|3|G: GPS|M: GPS
@@ -30,9 +30,9 @@ const CHANGES: &str = "0|3|3.04|3.00
 14|3|END OF HEADER|END OF HEAD
 14|3|END OF HEADER@|";
 
-/// Year, month, day, hour, minute and tenths of microseconds, and the time in ps, -1 for no date. A day has
-/// 86,400 s. From 1980-01-06 to 2000-02-29 there are 7,359 days, 16,066 to 2024-01-01, and 43,824 to
-/// 2099-12-31.
+/// Year, month, day, hour, minute and tenths of microseconds, and the time in ps, -1 for no date. A
+/// day has 86,400 s. From 1980-01-06 to 2000-02-29 there are 7,359 days, 16,066 to 2024-01-01, and
+/// 43,824 to 2099-12-31.
 const DATES: &str = "1980 1 6 0 0 0 0
 1980 1 7 0 0 1 86400000000100000
 2000 2 29 23 59 0 635903940000000000000
@@ -57,8 +57,8 @@ fn small(rt: &impl Abort, field: Option<&str>) -> u8 {
     field.expect(rt, "a number").parse().expect(rt, "a number")
 }
 
-/// The number of the first fault in the header of a navigation file, and that of its line. Without a
-/// fault 0, and the number of the first line behind the header.
+/// The number of the first fault in the header of a navigation file, and that of its line. Without
+/// a fault 0, and the number of the first line behind the header.
 fn fault(text: &str) -> (i128, i128) {
     let bytes = text.as_bytes();
     if bytes.len() > 4_000_000_000 {

@@ -3,7 +3,8 @@ use Rattle.std.specs.Prelude.{ℕ, ◌-◌, ◌≡◌, pos, ◌<ℤ◌, List, sl
 use Rattle.exact_decimal.specs.Units.{numerator, denominator}
 use Rattle.exact_decimal.specs.declared.decimal.Decimal.{Decimal}
 use Rattle.exact_decimal.specs.declared.unit.Unit.{Unit}
-use Rattle.exact_decimal.specs.declared.unit.Unit.TheVariants.{Length, Ratio, Rate, Drift, Time, Clock, RootA}
+use Rattle.exact_decimal.specs.declared.unit.Unit.TheVariants.{Length, Ratio, Rate, Drift, Time}
+use Rattle.exact_decimal.specs.declared.unit.Unit.TheVariants.{Clock, RootA}
 use Rattle.gnss_model.specs.RecordBounds.{LiesFrom}
 use Rattle.grid_model.specs.Rounding.{IsFloor, IsCeiling}
 use Rattle.gnss_model.specs.declared.elements.Elements.{Elements}
@@ -14,13 +15,16 @@ use Rattle.rinex_nav.specs.declared.record.NavRecord.{NavRecord}
 
 -- the field holds the floor and the ceiling of the number in the unit
 pub record IsRounded (field : Wide) (number : Decimal) (unit : Unit) : Type 0 where
-  pub floor : IsFloor (numerator number.digits number.ten unit) (pos (denominator number.ten unit)) field.lo
-  pub ceiling : IsCeiling (numerator number.digits number.ten unit) (pos (denominator number.ten unit)) field.hi
+  pub floor : IsFloor (numerator number.digits number.ten unit)
+      (pos (denominator number.ten unit)) field.lo
+  pub ceiling : IsCeiling (numerator number.digits number.ten unit)
+      (pos (denominator number.ten unit)) field.hi
 
 -- the field holds the number in its unit, within its bounds
 abbrev pub HoldsIn : Wide → Decimal → FieldBound → Type 0
 HoldsIn field number (Between unit low high) = IsRounded field number unit × LiesFrom low high field
-HoldsIn field number (Under unit high) = IsRounded field number unit × LiesFrom (pos 0) high field × (field.lo <ℤ high)
+HoldsIn field number (Under unit high) =
+    IsRounded field number unit × LiesFrom (pos 0) high field × (field.lo <ℤ high)
 
 abbrev pub Holds : List Decimal → ℕ → Wide → Type 0
 Holds fields k field = IfSome (slice_get field_bounds (k - 1)) (HoldsIn field (field_of fields k))

@@ -1,11 +1,16 @@
--- The twenty fields of a record that are used, with their units and bounds. IS-GPS-200 (tables 20-I and
--- 20-III) gives the fields; the bounds are wide of what GPS satellites send.
-use Rattle.std.specs.Prelude.{ℕ, ◌-◌, ◌<◌, ◌≤◌, ℤ, pos, neg_ℤ, ◌*ℤ◌, ◌≤ℤ◌, ◌<ℤ◌, List, [], ◌∷◌, slice_get, unwrap_or, IfSome}
+-- The twenty fields of a record that are used, with their units and bounds. IS-GPS-200 (tables 20-I
+-- and 20-III) gives the fields; the bounds are wide of what GPS satellites send.
+use Rattle.std.specs.Prelude.{ℕ, ◌-◌, ◌<◌, ◌≤◌, ℤ, pos, neg_ℤ, ◌*ℤ◌, ◌≤ℤ◌, ◌<ℤ◌, List, [], ◌∷◌}
+use Rattle.std.specs.Prelude.{slice_get, unwrap_or, IfSome}
 use Rattle.exact_decimal.specs.Units.{numerator, denominator, LiesBetween}
 use Rattle.exact_decimal.specs.declared.decimal.Decimal.{Decimal}
 use Rattle.exact_decimal.specs.declared.unit.Unit.{Unit}
-use Rattle.exact_decimal.specs.declared.unit.Unit.TheVariants.{Length, Ratio, Rate, Drift, Time, Clock, RootA}
-use Rattle.gnss_model.specs.RecordBounds.{offset_bound, drift_bound, ageing_bound, delay_bound, angle_bound, rate_bound, angle_swing_bound, radius_swing_bound, eccentricity_bound, least_root_a, greatest_root_a, week}
+use Rattle.exact_decimal.specs.declared.unit.Unit.TheVariants.{Length, Ratio, Rate, Drift, Time}
+use Rattle.exact_decimal.specs.declared.unit.Unit.TheVariants.{Clock, RootA}
+use Rattle.gnss_model.specs.RecordBounds.{offset_bound, drift_bound, ageing_bound, delay_bound}
+use Rattle.gnss_model.specs.RecordBounds.{angle_bound, rate_bound, angle_swing_bound}
+use Rattle.gnss_model.specs.RecordBounds.{radius_swing_bound, eccentricity_bound, least_root_a}
+use Rattle.gnss_model.specs.RecordBounds.{greatest_root_a, week}
 use Rattle.rinex_nav.specs.Fields.{zero_decimal}
 
 -- ---- the table
@@ -19,8 +24,8 @@ pub data FieldBound : Type 0 where
 abbrev pub within : Unit → ℕ → FieldBound
 within unit bound = Between unit (neg_ℤ (pos bound)) (pos bound)
 
--- the bounds of fields 1 to 20: af0, af1, af2; Crs, dn, M0; Cuc, e, Cus, sqrtA; toe, Cic, Om0, Cis; i0,
--- Crc, omega, OmDot; IDOT; TGD
+-- the bounds of fields 1 to 20: af0, af1, af2; Crs, dn, M0; Cuc, e, Cus, sqrtA; toe, Cic, Om0, Cis;
+-- i0, Crc, omega, OmDot; IDOT; TGD
 abbrev pub field_bounds : List FieldBound
 field_bounds =
     within Clock offset_bound

@@ -1,5 +1,6 @@
 -- The fields on the lines of a navigation record (RINEX 3.04, table A6).
-use Rattle.std.specs.Prelude.{ℕ, zero, suc, ◌≡◌, ◌⊎◌, ◌+◌, ◌*◌, ℤ, pos, negsuc, Bool, true, false, List}
+use Rattle.std.specs.Prelude.{ℕ, zero, suc, ◌≡◌, ◌⊎◌, ◌+◌, ◌*◌, ℤ, pos, negsuc, Bool, true, false}
+use Rattle.std.specs.Prelude.{List}
 use Rattle.exact_decimal.specs.Counts.{IsCount}
 use Rattle.exact_decimal.specs.NumberFields.{AreBlanks, IsFloating}
 use Rattle.exact_decimal.specs.declared.decimal.Decimal.{Decimal}
@@ -11,7 +12,8 @@ abbrev pub zero_decimal : Decimal
 zero_decimal = record { digits = pos 0; ten = pos 0 }
 
 abbrev pub IsField : List ℕ → Decimal → Type 0
-IsField field number = (AreBlanks field × (number ≡ zero_decimal)) ⊎ IsFloating field number.digits number.ten
+IsField field number = (AreBlanks field × (number ≡ zero_decimal))
+    ⊎ IsFloating field number.digits number.ten
 
 -- the field of 19 columns that begins in a column
 abbrev pub FieldAt : List ℕ → ℕ → Decimal → Type 0
@@ -34,17 +36,20 @@ abbrev pub MiddleFields : List ℕ → Two → Type 0
 MiddleFields text numbers = FieldAt text 24 numbers.0 × FieldAt text 43 numbers.1
 
 abbrev pub LastFields : List ℕ → Three → Type 0
-LastFields text numbers = FieldAt text 24 numbers.0 × FieldAt text 43 numbers.1 × FieldAt text 62 numbers.2
+LastFields text numbers = FieldAt text 24 numbers.0 × FieldAt text 43 numbers.1
+    × FieldAt text 62 numbers.2
 
 -- a Galileo record tells behind its first field what its data come from; else zero stands for it
 abbrev pub IsSource : ℕ → List ℕ → Decimal → Type 0
-IsSource system text source = ((system ≡ 69) × FieldAt text 24 source) ⊎ ((system ≡ 69 → ⊥) × (source ≡ zero_decimal))
+IsSource system text source = ((system ≡ 69) × FieldAt text 24 source)
+    ⊎ ((system ≡ 69 → ⊥) × (source ≡ zero_decimal))
 
 abbrev pub SourceFields : ℕ → List ℕ → Two → Type 0
 SourceFields system text numbers = FieldAt text 5 numbers.0 × IsSource system text numbers.1
 
 abbrev pub AllFields : List ℕ → Four → Type 0
-AllFields text numbers = FieldAt text 5 numbers.0 × FieldAt text 24 numbers.1 × FieldAt text 43 numbers.2 × FieldAt text 62 numbers.3
+AllFields text numbers = FieldAt text 5 numbers.0 × FieldAt text 24 numbers.1
+    × FieldAt text 43 numbers.2 × FieldAt text 62 numbers.3
 
 -- the clock time, from its year, month, day, hour, minute and second
 pub record IsClockTime (text : List ℕ) (toc : ℤ) : Type 0 where

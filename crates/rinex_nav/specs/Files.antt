@@ -1,5 +1,6 @@
 -- Navigation files: what is read from the lines of a file, its records or its first fault.
-use Rattle.std.specs.Prelude.{ℕ, zero, suc, ◌≡◌, ◌⊎◌, ◌+◌, Bool, true, false, List, [], ◌∷◌, Option, None, Some, Result, Ok, Err}
+use Rattle.std.specs.Prelude.{ℕ, zero, suc, ◌≡◌, ◌⊎◌, ◌+◌, Bool, true, false, List, [], ◌∷◌, Option}
+use Rattle.std.specs.Prelude.{None, Some, Result, Ok, Err}
 use Rattle.rinex_text.specs.Bodies.{counted}
 use Rattle.rinex_text.specs.Columns.{column_of}
 use Rattle.rinex_text.specs.Faults.{refusal, test, then}
@@ -18,22 +19,31 @@ abbrev pub with_kept : Option Broadcast → List Broadcast → List Broadcast
 with_kept None more = more
 with_kept (Some first) more = first ∷ more
 
-abbrev pub with_first : Option Broadcast → Result (List Broadcast) Refusal → Result (List Broadcast) Refusal
+abbrev pub with_first : Option Broadcast → Result (List Broadcast) Refusal →
+    Result (List Broadcast) Refusal
 with_first first (Ok more) = Ok (with_kept first more)
 with_first first (Err refusal) = Err refusal
 
-abbrev pub record_then : (Result (Option Broadcast) Refusal → Type 0) → (Result (List Broadcast) Refusal → Type 0) → Result (List Broadcast) Refusal → Type 0
+abbrev pub record_then : (Result (Option Broadcast) Refusal → Type 0) →
+    (Result (List Broadcast) Refusal → Type 0) → Result (List Broadcast) Refusal → Type 0
 record_then first later answer =
-    then first (λ r given. (more : Result (List Broadcast) Refusal) × later more × (given ≡ with_first r more)) answer
+    then first (λ r given. (more : Result (List Broadcast) Refusal) × later more
+    × (given ≡ with_first r more)) answer
 
--- The records in the lines of a body, behind so many records, from a line number on. So many of the
--- first lines belong to a record that was read. All lines but those of such records are passed over.
-abbrev pub records_from : Bool → ℕ → ℕ → ℕ → List TextLine → Result (List Broadcast) Refusal → Type 0
+-- The records of a body's lines from line `number` on, behind `count` records; the first `read`
+-- lines belong to the last of these. All lines but those of such records are passed over.
+abbrev pub records_from : Bool → ℕ → ℕ → ℕ → List TextLine → Result (List Broadcast) Refusal →
+    Type 0
 records_from both count number read [] answer = answer ≡ Ok []
-records_from both count number (suc read) (line ∷ more) answer = records_from both count (number + 1) read more answer
+records_from both count number (suc read) (line ∷ more) answer =
+    records_from both count (number + 1) read more answer
 records_from both count number zero (line ∷ more) answer =
-    (BeginsRecord both line × record_then (record_from both count (record { number = number; lines = line ∷ more })) (records_from both (count + 1) (number + 1) 7 more) answer)
-    ⊎ ((BeginsRecord both line → ⊥) × test (IsShort line) (refusal LongLine number) (records_from both count (number + 1) 0 more) answer)
+    (BeginsRecord both line
+    × record_then (record_from both count (record { number = number; lines = line ∷ more }))
+    (records_from both (count + 1) (number + 1) 7 more) answer)
+    ⊎ ((BeginsRecord both line → ⊥)
+    × test (IsShort line) (refusal LongLine number)
+    (records_from both count (number + 1) 0 more) answer)
 
 -- the records of a file, or its first fault: those of GPS, or those of both systems
 abbrev pub nav_file_of : Bool → List TextLine → Result (List Broadcast) Refusal → Type 0

@@ -10,7 +10,8 @@ is_same a b = nat_eq a.system b.system && nat_eq a.number b.number
 abbrev pub places_from : ℕ → Sat → List NavRecord → List ℕ
 places_from place sat [] = []
 places_from place sat (r ∷ records) =
-    if is_same sat r.sat then place ∷ places_from (place + 1) sat records else places_from (place + 1) sat records
+    if is_same sat r.sat then place ∷ places_from (place + 1) sat records
+    else places_from (place + 1) sat records
 
 -- every place with a record of the satellite, in rising order
 abbrev pub places_of : List NavRecord → Sat → List ℕ

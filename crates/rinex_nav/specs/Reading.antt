@@ -18,7 +18,8 @@ listed_of None = []
 listed_of (Some r) = r ∷ []
 
 -- records before those that come later
-abbrev pub with_all : List Broadcast → Result (List Broadcast) Refusal → Result (List Broadcast) Refusal
+abbrev pub with_all : List Broadcast → Result (List Broadcast) Refusal →
+    Result (List Broadcast) Refusal
 with_all records (Ok more) = Ok (records ++ more)
 with_all records (Err e) = Err e
 

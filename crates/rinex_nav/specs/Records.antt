@@ -1,5 +1,6 @@
 -- The eight lines of a navigation record.
-use Rattle.std.specs.Prelude.{ℕ, ◌≡◌, ◌⊎◌, ◌<◌, ◌==◌, ◌&&◌, ◌||◌, ℤ, Bool, true, List, [], ◌∷◌, Option, None, Some, Result}
+use Rattle.std.specs.Prelude.{ℕ, ◌≡◌, ◌⊎◌, ◌<◌, ◌==◌, ◌&&◌, ◌||◌, ℤ, Bool, true, List, [], ◌∷◌}
+use Rattle.std.specs.Prelude.{Option, None, Some, Result}
 use Rattle.std.specs.List.{list_all}
 use Rattle.exact_decimal.specs.NumberFields.{is_blank}
 use Rattle.exact_decimal.specs.declared.decimal.Decimal.{Decimal}
@@ -13,7 +14,8 @@ use Rattle.rinex_text.specs.declared.fault.Fault.{Fault}
 use Rattle.rinex_text.specs.declared.fault.Fault.TheVariants as fault
 use Rattle.rinex_text.specs.declared.fault.Refusal.{Refusal}
 use Rattle.gnss_model.specs.declared.satellites.Sat.{Sat}
-use Rattle.rinex_nav.specs.Fields.{Two, Three, Four, SourceFields, MiddleFields, LastFields, AllFields, IsClockTime, is_zero}
+use Rattle.rinex_nav.specs.Fields.{Two, Three, Four, SourceFields, MiddleFields, LastFields}
+use Rattle.rinex_nav.specs.Fields.{AllFields, IsClockTime, is_zero}
 use Rattle.rinex_nav.specs.Sources.{IsKept}
 
 -- ---- its lines
@@ -40,8 +42,8 @@ clock_line count line =
 abbrev pub MayFollow : Bool → ℕ → Type 0
 MayFollow both byte = (is_blank byte ≡ true) ⊎ (is_read both byte ≡ true)
 
--- A further line has a blank first column. What begins another record is a fault; where that is one that
--- is read, its bytes are tested before.
+-- A further line has a blank first column. What begins another record is a fault; where that is one
+-- that is read, its bytes are tested before.
 abbrev pub further_text : Bool → TextLine → Result (Unit {0}) Fault → Type 0
 further_text both line =
     test (IsShort line) fault.LongLine
@@ -51,7 +53,8 @@ further_text both line =
     (gives tt))))
 
 -- its fields
-abbrev pub further_line : {V : Type 0} → Bool → (List ℕ → V → Type 0) → TextLine → Result V Fault → Type 0
+abbrev pub further_line : {V : Type 0} → Bool → (List ℕ → V → Type 0) → TextLine → Result V Fault →
+    Type 0
 further_line both AreFields line =
     then (further_text both line) (λ passed.
     read (AreFields line.text) fault.BadNumber gives)
@@ -72,7 +75,8 @@ broadcast clock a b c d idot health = record {
   toc = clock.1;
   healthy = is_zero health.0.digits;
   fields =
-      clock.2.0 ∷ clock.2.1 ∷ clock.2.2 ∷ a.0 ∷ a.1 ∷ a.2 ∷ b.0 ∷ b.1 ∷ b.2 ∷ b.3 ∷ c.0 ∷ c.1 ∷ c.2 ∷ c.3 ∷ d.0 ∷ d.1 ∷ d.2 ∷ d.3 ∷ idot ∷ health.1 ∷ [];
+      clock.2.0 ∷ clock.2.1 ∷ clock.2.2 ∷ a.0 ∷ a.1 ∷ a.2 ∷ b.0 ∷ b.1 ∷ b.2 ∷ b.3 ∷ c.0 ∷ c.1 ∷ c.2
+      ∷ c.3 ∷ d.0 ∷ d.1 ∷ d.2 ∷ d.3 ∷ idot ∷ health.1 ∷ [];
 }
 
 -- A record behind so many others: none where it isn't kept.

@@ -1,5 +1,6 @@
--- What an accepted navigation file is as a whole (RINEX 3.05, tables A5, A6 and A8): there is a record for
--- each line that begins one, of it and the seven lines behind it. Those that are kept are given.
+-- What an accepted navigation file is as a whole (RINEX 3.05, tables A5, A6 and A8): there is a
+-- record for each line that begins one, of it and the seven lines behind it. Those that are kept
+-- are given.
 use Rattle.std.specs.Prelude.{ℕ, ◌≡◌, Bool, false, List, [], ◌∷◌, cond, Option, Ok}
 use Rattle.rinex_text.specs.Bodies.{counted}
 use Rattle.rinex_text.specs.Columns.{column_of}
@@ -14,10 +15,13 @@ begins_record both line = is_read both (column_of line.text 1)
 -- each line that begins a record, with all lines behind it
 abbrev pub from_first_lines : Bool → List TextLine → List (List TextLine)
 from_first_lines both [] = []
-from_first_lines both (line ∷ more) = cond (begins_record both line) ((line ∷ more) ∷ from_first_lines both more) (from_first_lines both more)
+from_first_lines both (line ∷ more) =
+    cond (begins_record both line) ((line ∷ more) ∷ from_first_lines both more)
+    (from_first_lines both more)
 
 -- the record that begins with the first of the lines, or none where it isn't kept
-pub record IsRecordOf (both : Bool) (lines : List TextLine) (record_is : Option Broadcast) : Type 0 where
+pub record IsRecordOf (both : Bool) (lines : List TextLine)
+    (record_is : Option Broadcast) : Type 0 where
   pub count : ℕ
   pub number : ℕ
   pub reads : record_from both count (record { number = number; lines = lines }) (Ok record_is)

@@ -1,10 +1,12 @@
 //! The numbers of a record in whole units.
 
-ghost use Rattle.std.specs.Prelude.{◌≡◌, ◌≤◌, ◌+◌, ◌-◌, ◌^◌, ◌↔◌, ◌≤ℤ◌, ◌<ℤ◌, pos, neg_ℤ, ℕ, ℤ, IsOk, IfOk, IfErr, IfSome, IfNone, OnSome, OnOk, slice_get};
+ghost use Rattle.std.specs.Prelude.{◌≡◌, ◌≤◌, ◌+◌, ◌-◌, ◌^◌, ◌↔◌, ◌≤ℤ◌, ◌<ℤ◌, pos, neg_ℤ, ℕ, ℤ};
+ghost use Rattle.std.specs.Prelude.{IsOk, IfOk, IfErr, IfSome, IfNone, OnSome, OnOk, slice_get};
 ghost use Rattle.exact_decimal.specs.Units.{bound_of};
 ghost use Rattle.gnss_model.specs.RecordBounds.{time_bound};
 ghost use Rattle.grid_model.specs.Sizes.{IsWithin};
-ghost use Rattle.rinex_nav.specs.FieldBounds.{Between, field_bounds, field_of, IsInside, AreInsideBefore, AreInside, IsFirstOutside};
+ghost use Rattle.rinex_nav.specs.FieldBounds.{Between, field_bounds, field_of, IsInside};
+ghost use Rattle.rinex_nav.specs.FieldBounds.{AreInsideBefore, AreInside, IsFirstOutside};
 ghost use Rattle.rinex_nav.specs.ElementsOf.{Holds, AreElements};
 ghost use Rattle.rinex_nav.specs.Weeks.{IsEphemerisTime, IsAge};
 
@@ -73,7 +75,8 @@ impl NavRecord {
         Some((tag - time).abs())
     }
 
-    /// The ephemeris time, rounded down to ps. None where its time in the week is outside its bounds.
+    /// The ephemeris time, rounded down to ps. None where its time in the week is outside its
+    /// bounds.
     fn ephemeris_time(&self) -> Option<i128>
         ensures time { IfSome result (IsEphemerisTime self.now) }
         ensures size { IfSome result (IsWithin (10 ^ 22)) }
@@ -86,7 +89,8 @@ impl NavRecord {
     /// af0, af1 and af2.
     fn clock(&self) -> Result<(Wide, Wide, Wide), u8>
         ensures before { OnOk result (AreInsideBefore self.now.fields 4) }
-        ensures fields { IfOk result (λ t. Holds self.now.fields 1 t.0 × Holds self.now.fields 2 t.1 × Holds self.now.fields 3 t.2) }
+        ensures fields { IfOk result (λ t. Holds self.now.fields 1 t.0 × Holds self.now.fields 2 t.1
+            × Holds self.now.fields 3 t.2) }
         ensures outside { IfErr result (IsFirstOutside self.now.fields) }
     {
         let af0 = self.amount(1, Unit::Clock, OFFSET_BOUND)?;
@@ -99,7 +103,8 @@ impl NavRecord {
     fn orbit_1(&self) -> Result<(Wide, Wide, Wide), u8>
         requires { AreInsideBefore self.now.fields 4 }
         ensures before { OnOk result (AreInsideBefore self.now.fields 7) }
-        ensures fields { IfOk result (λ t. Holds self.now.fields 4 t.0 × Holds self.now.fields 5 t.1 × Holds self.now.fields 6 t.2) }
+        ensures fields { IfOk result (λ t. Holds self.now.fields 4 t.0 × Holds self.now.fields 5 t.1
+            × Holds self.now.fields 6 t.2) }
         ensures outside { IfErr result (IsFirstOutside self.now.fields) }
     {
         let crs = self.amount(4, Unit::Length, RADIUS_SWING_BOUND)?;
@@ -112,7 +117,8 @@ impl NavRecord {
     fn orbit_2(&self) -> OrbitLine
         requires { AreInsideBefore self.now.fields 7 }
         ensures before { OnOk result (AreInsideBefore self.now.fields 11) }
-        ensures fields { IfOk result (λ t. Holds self.now.fields 7 t.0 × Holds self.now.fields 8 t.1 × Holds self.now.fields 9 t.2 × Holds self.now.fields 10 t.3) }
+        ensures fields { IfOk result (λ t. Holds self.now.fields 7 t.0 × Holds self.now.fields 8 t.1
+            × Holds self.now.fields 9 t.2 × Holds self.now.fields 10 t.3) }
         ensures outside { IfErr result (IsFirstOutside self.now.fields) }
     {
         let cuc = self.amount(7, Unit::Ratio, ANGLE_SWING_BOUND)?;
@@ -126,7 +132,9 @@ impl NavRecord {
     fn orbit_3(&self) -> OrbitLine
         requires { AreInsideBefore self.now.fields 11 }
         ensures before { OnOk result (AreInsideBefore self.now.fields 15) }
-        ensures fields { IfOk result (λ t. Holds self.now.fields 11 t.0 × Holds self.now.fields 12 t.1 × Holds self.now.fields 13 t.2 × Holds self.now.fields 14 t.3) }
+        ensures fields { IfOk result (λ t. Holds self.now.fields 11 t.0
+            × Holds self.now.fields 12 t.1 × Holds self.now.fields 13 t.2
+            × Holds self.now.fields 14 t.3) }
         ensures outside { IfErr result (IsFirstOutside self.now.fields) }
     {
         let Some(toe) = self.time_in_week() else {
@@ -142,7 +150,9 @@ impl NavRecord {
     fn orbit_4(&self) -> OrbitLine
         requires { AreInsideBefore self.now.fields 15 }
         ensures before { OnOk result (AreInsideBefore self.now.fields 19) }
-        ensures fields { IfOk result (λ t. Holds self.now.fields 15 t.0 × Holds self.now.fields 16 t.1 × Holds self.now.fields 17 t.2 × Holds self.now.fields 18 t.3) }
+        ensures fields { IfOk result (λ t. Holds self.now.fields 15 t.0
+            × Holds self.now.fields 16 t.1 × Holds self.now.fields 17 t.2
+            × Holds self.now.fields 18 t.3) }
         ensures outside { IfErr result (IsFirstOutside self.now.fields) }
     {
         let i0 = self.amount(15, Unit::Ratio, ANGLE_BOUND)?;
@@ -157,7 +167,8 @@ impl NavRecord {
         requires from { 1 ≤ number }
         requires to { number ≤ 20 }
         requires size { IsWithin (bound_of unit) bound }
-        requires row { slice_get field_bounds (number - 1) ≡ Some (Between unit (neg_ℤ bound) bound) }
+        requires row { slice_get field_bounds (number - 1)
+            ≡ Some (Between unit (neg_ℤ bound) bound) }
         requires before { AreInsideBefore self.now.fields number }
         ensures before { OnOk result (AreInsideBefore self.now.fields (number + 1)) }
         ensures field { IfOk result (Holds self.now.fields number) }

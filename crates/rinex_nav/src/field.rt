@@ -2,7 +2,8 @@
 
 ghost use Rattle.std.specs.Prelude.{◌≡◌, ◌≤◌, ℤ, pos, ◌<ℤ◌, ◌≤ℤ◌, IfSome, IfNone};
 ghost use Rattle.exact_decimal.specs.declared.decimal.Decimal.{Decimal};
-ghost use Rattle.rinex_nav.specs.Fields.{Two, Three, Four, FieldAt, SourceFields, MiddleFields, LastFields, AllFields, IsClockTime, is_zero};
+ghost use Rattle.rinex_nav.specs.Fields.{Two, Three, Four, FieldAt, SourceFields, MiddleFields};
+ghost use Rattle.rinex_nav.specs.Fields.{LastFields, AllFields, IsClockTime, is_zero};
 
 use exact_decimal::{Decimal, read_exp};
 use rinex_text::{columns, four_digits, gps_ps, two_digits};

@@ -3,7 +3,8 @@
 ghost use Rattle.std.specs.Prelude.{◌≡◌, ◌↔◌, ◌<◌, ◌<ℤ◌, ◌≤ℤ◌, pos, IfOk, OnOk, IsTrue};
 ghost use Rattle.rinex_text.specs.Reading.{plain_line};
 ghost use Rattle.rinex_nav.specs.Fields.{SourceFields, MiddleFields, LastFields, AllFields};
-ghost use Rattle.rinex_nav.specs.Records.{is_read, MayFollow, clock_line, further_text, further_line};
+ghost use Rattle.rinex_nav.specs.Records.{is_read, MayFollow, clock_line, further_text};
+ghost use Rattle.rinex_nav.specs.Records.{further_line};
 
 use crate::field::{all_fields, clock_time, last_fields, middle_fields, source_fields};
 use exact_decimal::Decimal;

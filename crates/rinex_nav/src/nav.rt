@@ -21,7 +21,8 @@ impl Model for Nav {
 
     ghost view = { λ nav. nav.records.items };
 
-    ghost invariant = { λ nav. (length nav.records.items ≤ 200000) × IsIndex nav.places nav.records.items };
+    ghost invariant = { λ nav. (length nav.records.items ≤ 200000)
+        × IsIndex nav.places nav.records.items };
 }
 
 impl Nav {

@@ -26,7 +26,8 @@ pub fn places_of(places: &Places, sat: Sat) -> &[u32]
 
 /// Notes one more place of the satellite.
 pub fn add_place(alloc: Global, places: &mut Places, sat: Sat, place: u32) -> Result<(), ReadError>
-    ensures listed { OnOk result ((other : Sat) → listed places.new other ≡ listed places.old other ++ (if is_same other sat then place ∷ [] else [])) }
+    ensures listed { OnOk result ((other : Sat) → listed places.new other ≡ listed places.old other
+        ++ (if is_same other sat then place ∷ [] else [])) }
     ensures memory { IfErr result (λ e. e ≡ NoMemory) }
 {
     if let Some(list) = places.get_mut(&sat) {

@@ -1,11 +1,13 @@
 //! Navigation files.
 
-ghost use Rattle.std.specs.Prelude.{◌≡◌, ◌≤◌, ◌<◌, ◌+◌, true, List, IfOk, IfErr, OnOk, Some, None, Ok, Err, drop, length, map, option_map, ◌++◌, ◌⊎◌};
+ghost use Rattle.std.specs.Prelude.{◌≡◌, ◌≤◌, ◌<◌, ◌+◌, true, List, IfOk, IfErr, OnOk, Some, None};
+ghost use Rattle.std.specs.Prelude.{Ok, Err, drop, length, map, option_map, ◌++◌, ◌⊎◌};
 ghost use Rattle.rinex_text.specs.Lines.{lines_of};
 ghost use Rattle.rinex_text.specs.declared.fault.Refusal.{Refusal};
 ghost use Rattle.rinex_text.specs.Reading.{body_left, body_behind, Leaves, Refuses, GivesRefusal};
 ghost use Rattle.rinex_text.specs.Whole.{IsSettled};
-ghost use Rattle.rinex_nav.specs.Files.{records_from, nav_file, nav_file_of, IsNavFile, IsNavFileOf, IsFirstFault, IsFirstFaultOf};
+ghost use Rattle.rinex_nav.specs.Files.{records_from, nav_file, nav_file_of, IsNavFile};
+ghost use Rattle.rinex_nav.specs.Files.{IsNavFileOf, IsFirstFault, IsFirstFaultOf};
 ghost use Rattle.rinex_nav.specs.Index.{IsIndex};
 ghost use Rattle.rinex_nav.specs.Reading.{plain_record, records_of, listed_of, GivesRecords};
 ghost use Rattle.rinex_text.specs.declared.fault.ReadError.TheVariants.{NoMemory};
@@ -29,7 +31,9 @@ use std::alloc::Global;
 
 /// The record, where it is kept.
 fn kept(one: NavRecord, source: &Decimal) -> Option<NavRecord>
-    ensures { (IsKept one.sat source.now × (option_map plain_record result ≡ Some (plain_record one))) ⊎ ((IsKept one.sat source.now → ⊥) × (result ≡ None)) }
+    ensures { (IsKept one.sat source.now
+        × (option_map plain_record result ≡ Some (plain_record one)))
+        ⊎ ((IsKept one.sat source.now → ⊥) × (result ≡ None)) }
 {
     if is_kept(one.sat, source) {
         return Some(one);
@@ -43,7 +47,8 @@ fn read_record(
     both: bool,
     count: usize,
 ) -> Result<(Option<NavRecord>, Body<'_>), Refusal>
-    ensures record { IfOk result (λ t. record_from both count (body_behind body.entry) (Ok (option_map plain_record t.0))) }
+    ensures record { IfOk result (λ t.
+        record_from both count (body_behind body.entry) (Ok (option_map plain_record t.0))) }
     ensures left { IfOk result (λ t. Leaves body.entry 8 t.1) }
     ensures few { OnOk result (count < 200000) }
     ensures fault { IfErr result (λ e. record_from both count (body_behind body.entry) (Err e)) }
@@ -77,7 +82,8 @@ fn keep(
 ) -> Result<(), ReadError>
     requires { length records.old.items < 200000 }
     ensures items { OnOk result (records.new.items ≡ records.old.items ++ listed_of found) }
-    ensures index { OnOk result (IsIndex places.old records.old.items → IsIndex places.new records.new.items) }
+    ensures index { OnOk result (IsIndex places.old records.old.items →
+        IsIndex places.new records.new.items) }
     ensures memory { IfErr result (λ e. e ≡ NoMemory) }
 {
     if let Some(record) = found {
@@ -89,8 +95,11 @@ fn keep(
 
 /// The records of a body.
 fn read_records(alloc: Global, body: Body<'_>, both: bool) -> Result<Nav, ReadError>
-    ensures records { IfOk result (λ nav. records_from both 0 body.entry.lines.number 0 (body_left body.entry) (Ok (records_of nav))) }
-    ensures fault { IfErr result (Refuses (records_from both 0 body.entry.lines.number 0 (body_left body.entry))) }
+    ensures records { IfOk result
+        (λ nav. records_from both 0 body.entry.lines.number 0 (body_left body.entry)
+        (Ok (records_of nav))) }
+    ensures fault { IfErr result
+        (Refuses (records_from both 0 body.entry.lines.number 0 (body_left body.entry))) }
 {
     let mut records = Vec::new(alloc);
     let mut places = IndexMap::new(alloc);
@@ -140,9 +149,11 @@ pub fn read_nav_of(alloc: Global, bytes: &[u8], both: bool) -> Result<Nav, ReadE
     // What isn't read has this first fault, unless memory ran out.
     ensures fault { IfErr result (Refuses (nav_file_of both (lines_of bytes.now))) }
     // A navigation file is read as its records, unless memory runs out.
-    ensures exact { (records : List Broadcast) → IsNavFileOf both bytes.now records → GivesRecords records result }
+    ensures exact { (records : List Broadcast) → IsNavFileOf both bytes.now records →
+        GivesRecords records result }
     // A text with a fault is refused with its first, unless memory runs out.
-    ensures first { (refusal : Refusal) → IsFirstFaultOf both bytes.now refusal → GivesRefusal refusal result }
+    ensures first { (refusal : Refusal) → IsFirstFaultOf both bytes.now refusal →
+        GivesRefusal refusal result }
     // What is behind the line of the fault matters only where that is blank: then, whether all is.
     ensures settled { IfErr result (IsSettled (nav_file_of both) bytes.now) }
     // How its lines are shared out, and which records come of them.
@@ -159,9 +170,11 @@ pub fn read_nav(alloc: Global, bytes: &[u8]) -> Result<Nav, ReadError>
     // What isn't read has this first fault, unless memory ran out.
     ensures fault { IfErr result (Refuses (nav_file (lines_of bytes.now))) }
     // A navigation file is read as its records, unless memory runs out.
-    ensures exact { (records : List Broadcast) → IsNavFile bytes.now records → GivesRecords records result }
+    ensures exact { (records : List Broadcast) → IsNavFile bytes.now records →
+        GivesRecords records result }
     // A text with a fault is refused with its first, unless memory runs out.
-    ensures first { (refusal : Refusal) → IsFirstFault bytes.now refusal → GivesRefusal refusal result }
+    ensures first { (refusal : Refusal) → IsFirstFault bytes.now refusal →
+        GivesRefusal refusal result }
     // What is behind the line of the fault matters only where that is blank: then, whether all is.
     ensures settled { IfErr result (IsSettled nav_file bytes.now) }
     // How its lines are shared out, and which records come of them.
@@ -170,8 +183,8 @@ pub fn read_nav(alloc: Global, bytes: &[u8]) -> Result<Nav, ReadError>
     read_nav_of(alloc, bytes, false)
 }
 
-/// Reads a navigation file of at most 4 * 10^9 bytes: its GPS records, and those Galileo records that
-/// are of F/NAV, in file order.
+/// Reads a navigation file of at most 4 * 10^9 bytes: its GPS records, and those Galileo records
+/// that are of F/NAV, in file order.
 pub fn read_nav_both(alloc: Global, bytes: &[u8]) -> Result<Nav, ReadError>
     requires { length bytes.now ≤ 4000000000 }
     // What is read are the records of a navigation file with this text.
@@ -179,9 +192,11 @@ pub fn read_nav_both(alloc: Global, bytes: &[u8]) -> Result<Nav, ReadError>
     // What isn't read has this first fault, unless memory ran out.
     ensures fault { IfErr result (Refuses (nav_file_of true (lines_of bytes.now))) }
     // A navigation file is read as its records, unless memory runs out.
-    ensures exact { (records : List Broadcast) → IsNavFileOf true bytes.now records → GivesRecords records result }
+    ensures exact { (records : List Broadcast) → IsNavFileOf true bytes.now records →
+        GivesRecords records result }
     // A text with a fault is refused with its first, unless memory runs out.
-    ensures first { (refusal : Refusal) → IsFirstFaultOf true bytes.now refusal → GivesRefusal refusal result }
+    ensures first { (refusal : Refusal) → IsFirstFaultOf true bytes.now refusal →
+        GivesRefusal refusal result }
     // What is behind the line of the fault matters only where that is blank: then, whether all is.
     ensures settled { IfErr result (IsSettled (nav_file_of true) bytes.now) }
     // How its lines are shared out, and which records come of them.

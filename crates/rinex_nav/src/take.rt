@@ -70,7 +70,8 @@ pub fn take_source(
     both: bool,
     system: u8,
 ) -> Result<((Decimal, Decimal), Body<'_>), Refusal>
-    ensures took { IfOk result (λ t. Takes (further_line both (SourceFields system)) body.entry t.0 t.1) }
+    ensures took { IfOk result
+        (λ t. Takes (further_line both (SourceFields system)) body.entry t.0 t.1) }
     ensures failed { IfErr result (Fails (further_line both (SourceFields system)) body.entry) }
 {
     let Some((line, behind)) = body.split_first() else {

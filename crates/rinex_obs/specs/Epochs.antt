@@ -1,6 +1,8 @@
--- The epochs of an observation file (RINEX 3.05, table A3): epoch lines with their satellite lines, and
--- events with the lines that belong to them.
-use Rattle.std.specs.Prelude.{ℕ, zero, suc, ◌≡◌, ◌⊎◌, ◌+◌, ◌-◌, ◌*◌, ◌^◌, ◌≤◌, ◌<◌, ℤ, pos, neg_ℤ, Bool, true, false, cond, ◌==◌, ◌&&◌, nat_le, List, [], ◌∷◌, ◌++◌, length, Option, None, Some, Result, Ok, codes}
+-- The epochs of an observation file (RINEX 3.05, table A3): epoch lines with their satellite lines,
+-- and events with the lines that belong to them.
+use Rattle.std.specs.Prelude.{ℕ, zero, suc, ◌≡◌, ◌⊎◌, ◌+◌, ◌-◌, ◌*◌, ◌^◌, ◌≤◌, ◌<◌, ℤ, pos, neg_ℤ}
+use Rattle.std.specs.Prelude.{Bool, true, false, cond, ◌==◌, ◌&&◌, nat_le, List, [], ◌∷◌, ◌++◌}
+use Rattle.std.specs.Prelude.{length, Option, None, Some, Result, Ok, codes}
 use Rattle.std.specs.List.{list_all, list_any}
 use Rattle.exact_decimal.specs.Counts.{IsCount}
 use Rattle.exact_decimal.specs.NumberFields.{is_blank, AreBlanks, IsFixed}
@@ -60,10 +62,11 @@ IsFlag byte = (48 ≤ byte) × (byte ≤ 54)
 
 -- the number of lines, which is zero where it is blank
 abbrev pub IsLineCount : List ℕ → ℕ → Type 0
-IsLineCount field lines = ((list_all is_blank field ≡ true) × (lines ≡ 0)) ⊎ ((list_all is_blank field ≡ true → ⊥) × IsCount field lines)
+IsLineCount field lines = ((list_all is_blank field ≡ true) × (lines ≡ 0))
+    ⊎ ((list_all is_blank field ≡ true → ⊥) × IsCount field lines)
 
--- Behind so many epochs. Flags 0 and 1 begin an epoch, 2 to 6 an event, and the labels of the lines of
--- an event are looked at unless its flag is 6.
+-- Behind so many epochs. Flags 0 and 1 begin an epoch, 2 to 6 an event, and the labels of the lines
+-- of an event are looked at unless its flag is 6.
 abbrev pub head_line : ℕ → TextLine → Result Head Fault → Type 0
 head_line count line =
     test (IsShort line) fault.LongLine
@@ -82,7 +85,8 @@ head_line count line =
 -- the value of a field: none where it is blank or zero
 abbrev pub IsObserved : List ℕ → Option Decimal → Type 0
 IsObserved field None = AreBlanks field ⊎ ((ten : ℤ) × IsFixed field (pos 0) ten)
-IsObserved field (Some number) = IsFixed field number.digits number.ten × (number.digits ≡ pos 0 → ⊥)
+IsObserved field (Some number) =
+    IsFixed field number.digits number.ten × (number.digits ≡ pos 0 → ⊥)
 
 -- the field of the type at a place: columns 4 to 17, 20 to 33, and so on
 abbrev pub field_at : List ℕ → ℕ → List ℕ
@@ -100,7 +104,8 @@ IsOtherSystem both byte = (65 ≤ byte) × (byte ≤ 90) × (IsRead both byte �
 
 -- the places of the wanted codes of the system with this letter
 abbrev pub ArePlacesOf : Wanted → ℕ → CodePlaces → Type 0
-ArePlacesOf wanted letter places = ((letter ≡ 71) × (places ≡ wanted.gps)) ⊎ ((letter ≡ 69) × (wanted.galileo ≡ Some places))
+ArePlacesOf wanted letter places =
+    ((letter ≡ 71) × (places ≡ wanted.gps)) ⊎ ((letter ≡ 69) × (wanted.galileo ≡ Some places))
 
 abbrev pub has_sat : Sat → SatObs → Bool
 has_sat sat obs = obs.sat.number == sat.number && obs.sat.system == sat.system
@@ -121,12 +126,15 @@ satellite_line wanted sats line =
     (test (length sats < 64) fault.TooMany
     (read (IsObserved (field_at line.text places.first)) fault.BadNumber (λ first.
     read (IsSecond line.text places.second) fault.BadNumber (λ second.
-    gives (sats ++ record { sat = sat_on line number; first = first; second = second } ∷ []))))))))))
+    gives
+    (sats ++ record { sat = sat_on line number; first = first; second = second } ∷ []))))))))))
 
--- so many satellite lines, behind satellites of the same epoch
-abbrev pub satellites_from : Wanted → ℕ → List SatObs → Behind → Result (List SatObs) Refusal → Type 0
+-- so many more satellite lines of an epoch that has `sats` so far
+abbrev pub satellites_from : Wanted → ℕ → List SatObs → Behind → Result (List SatObs) Refusal →
+    Type 0
 satellites_from wanted zero sats from answer = answer ≡ Ok sats
-satellites_from wanted (suc left) sats from answer = needs (satellite_line wanted sats) from (λ more next. satellites_from wanted left more next) answer
+satellites_from wanted (suc left) sats from answer = needs (satellite_line wanted sats) from
+    (λ more next. satellites_from wanted left more next) answer
 
 -- ---- the lines of an event
 
@@ -134,7 +142,8 @@ abbrev pub event_line : Bool → Bool → TextLine → Result (Unit {0}) Fault �
 event_line both labelled line =
     test (IsShort line) fault.LongLine
     (where_holds (labelled ≡ true)
-    (test (IsLabelled (codes "SYS / SCALE FACTOR") line × IsOfRead both line.text → ⊥) fault.ScaleFactor
+    (test
+    (IsLabelled (codes "SYS / SCALE FACTOR") line × IsOfRead both line.text → ⊥) fault.ScaleFactor
     (test (IsLabelled (codes "SYS / # / OBS TYPES") line → ⊥) fault.HeaderChange
     (gives tt)))
     (gives tt))
@@ -142,7 +151,8 @@ event_line both labelled line =
 -- so many of them
 abbrev pub event_from : Bool → Bool → ℕ → Behind → Result (Unit {0}) Refusal → Type 0
 event_from both labelled zero from answer = answer ≡ Ok tt
-event_from both labelled (suc left) from answer = needs (event_line both labelled) from (λ none next. event_from both labelled left next) answer
+event_from both labelled (suc left) from answer =
+    needs (event_line both labelled) from (λ none next. event_from both labelled left next) answer
 
 -- ---- epochs and events one behind another
 
@@ -161,18 +171,24 @@ pub record Block : Type 0 where
 abbrev pub block_from : Wanted → ℕ → Head → Behind → Result Block Refusal → Type 0
 block_from wanted count (Epoch tag lines) from =
     then (satellites_from wanted lines [] from) (λ sats.
-    gives (record { epochs = record { index = count + 1; tag = tag; sats = sats } ∷ []; lines = lines }))
+    gives (record {
+      epochs = record { index = count + 1; tag = tag; sats = sats } ∷ [];
+      lines = lines;
+    }))
 block_from wanted count (Event labelled lines) from =
     then (event_from (have_both wanted) labelled lines from) (λ none.
     gives (record { epochs = []; lines = lines }))
 
--- The epochs in the lines of a body, behind those before, from a line number on. So many of the first
--- lines belong to what was read.
-abbrev pub epochs_from : Wanted → List Observed → ℕ → ℕ → List TextLine → Result (List Observed) Refusal → Type 0
+-- The epochs in the lines of a body, behind those before, from a line number on. So many of the
+-- first lines belong to what was read.
+abbrev pub epochs_from : Wanted → List Observed → ℕ → ℕ → List TextLine →
+    Result (List Observed) Refusal → Type 0
 epochs_from wanted epochs number read [] answer = answer ≡ Ok epochs
-epochs_from wanted epochs number (suc read) (line ∷ more) answer = epochs_from wanted epochs (number + 1) read more answer
+epochs_from wanted epochs number (suc read) (line ∷ more) answer =
+    epochs_from wanted epochs (number + 1) read more answer
 epochs_from wanted epochs number zero (line ∷ more) answer =
     line_gives (head_line (length epochs) line) number (λ head.
-    then (block_from wanted (length epochs) head (record { number = number + 1; lines = more })) (λ block.
+    then (block_from wanted (length epochs) head (record { number = number + 1; lines = more }))
+    (λ block.
     epochs_from wanted (epochs ++ block.epochs) (number + 1) block.lines more))
     answer

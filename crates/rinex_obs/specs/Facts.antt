@@ -1,4 +1,5 @@
--- What holds of the epochs of every observation file: how they are numbered, and which satellites they name.
+-- What holds of the epochs of every observation file: how they are numbered, and which satellites
+-- they name.
 use Rattle.std.specs.Prelude.{ℕ, ◌≡◌, ◌≢◌, ◌+◌, ◌≤◌, Bool, true, false, List, [], ◌∷◌, length}
 use Rattle.std.specs.List.{AllByRecursion}
 use Rattle.rinex_obs.specs.Types.{IsRead}

@@ -30,11 +30,13 @@ obs_file_of sought position lines =
 
 -- the text is an observation file with these observations
 abbrev pub IsObsFileOf : Sought → Bool → List ℕ → Observations → Type 0
-IsObsFileOf sought position text observations = obs_file_of sought position (lines_of text) (Ok observations)
+IsObsFileOf sought position text observations =
+    obs_file_of sought position (lines_of text) (Ok observations)
 
 -- the text is none, and this is its first fault
 abbrev pub IsFirstFaultOf : Sought → Bool → List ℕ → Refusal → Type 0
-IsFirstFaultOf sought position text refusal = obs_file_of sought position (lines_of text) (Err refusal)
+IsFirstFaultOf sought position text refusal =
+    obs_file_of sought position (lines_of text) (Err refusal)
 
 -- ---- with the satellites of GPS
 

@@ -1,6 +1,8 @@
--- The header lines of an observation file that are read (RINEX 3.05, table A2), and what they are read
--- for: where the wanted codes of each system stand on a satellite's line, and the approximate position.
-use Rattle.std.specs.Prelude.{ℕ, ◌≡◌, ◌⊎◌, ◌+◌, ℤ, pos, neg_ℤ, Bool, true, false, List, [], ◌∷◌, Option, None, Some, is_some, IsSome, Result, Err, codes}
+-- The header lines of an observation file that are read (RINEX 3.05, table A2), and what they are
+-- read for: where the wanted codes of each system stand on a satellite's line, and the approximate
+-- position.
+use Rattle.std.specs.Prelude.{ℕ, ◌≡◌, ◌⊎◌, ◌+◌, ℤ, pos, neg_ℤ, Bool, true, false, List, [], ◌∷◌}
+use Rattle.std.specs.Prelude.{Option, None, Some, is_some, IsSome, Result, Err, codes}
 use Rattle.std.specs.List.{list_all}
 use Rattle.exact_decimal.specs.NumberFields.{is_blank, AreBlanks, IsFixed}
 use Rattle.exact_decimal.specs.Units.{numerator, denominator, LiesBetween}
@@ -17,7 +19,8 @@ use Rattle.grid_model.specs.Rounding.{IsFloor}
 use Rattle.grid_model.specs.declared.boxes.Pos.{Pos}
 use Rattle.gnss_model.specs.declared.satellites.Signal.{Signal}
 use Rattle.gnss_model.specs.declared.satellites.Signal.TheVariants.{Single, Dual}
-use Rattle.rinex_obs.specs.Types.{Code, Types, IsOfRead, types_line, galileo_line, AreComplete, codes_of, place_of}
+use Rattle.rinex_obs.specs.Types.{Code, Types, IsOfRead, types_line, galileo_line, AreComplete}
+use Rattle.rinex_obs.specs.Types.{codes_of, place_of}
 use Rattle.rinex_obs.specs.declared.sought.Sought.{Sought}
 
 -- ---- the position
@@ -48,8 +51,10 @@ position_line text =
 
 -- a coordinate within 8,500 km, rounded down to um
 pub record IsCoordinate (number : Decimal) (um : ℤ) : Type 0 where
-  pub within : LiesBetween number.digits number.ten Length (neg_ℤ (pos 8500000000000)) (pos 8500000000000)
-  pub floor : IsFloor (numerator number.digits number.ten Length) (pos (denominator number.ten Length)) um
+  pub within : LiesBetween number.digits number.ten Length (neg_ℤ (pos 8500000000000))
+      (pos 8500000000000)
+  pub floor : IsFloor (numerator number.digits number.ten Length)
+      (pos (denominator number.ten Length)) um
 
 -- the point with these coordinates
 pub record IsPoint (coordinates : Coordinates) (point : Pos) : Type 0 where
@@ -97,7 +102,9 @@ header_line both position header line =
     (where_holds (IsLabelled (codes "SYS / SCALE FACTOR") line)
     (test (IsOfRead both line.text → ⊥) fault.ScaleFactor (gives header))
     (where_holds (IsLabelled (codes "APPROX POSITION XYZ") line × (position ≡ true))
-    (then (position_line line.text) (λ coordinates. gives (record { gps = header.gps; galileo = header.galileo; position = coordinates })))
+    (then (position_line line.text)
+    (λ coordinates. gives
+    (record { gps = header.gps; galileo = header.galileo; position = coordinates })))
     (gives header))))
 
 -- both systems are read where there are codes of Galileo too
@@ -110,9 +117,11 @@ pub record CodePlaces : Type 0 where
   pub second : Option ℕ
 
 abbrev pub ArePlaces : Signal → List Code → CodePlaces → Type 0
-ArePlaces (Single code) codes places = (place_of code codes ≡ Some places.first) × (places.second ≡ None)
+ArePlaces (Single code) codes places =
+    (place_of code codes ≡ Some places.first) × (places.second ≡ None)
 ArePlaces (Dual first second) codes places =
-    (place_of first codes ≡ Some places.first) × (place_of second codes ≡ places.second) × IsSome places.second
+    (place_of first codes ≡ Some places.first) × (place_of second codes ≡ places.second)
+    × IsSome places.second
 
 -- there are some exactly where there are wanted codes
 abbrev pub MayBePlaces : Option Signal → List Code → Option CodePlaces → Type 0
@@ -137,7 +146,8 @@ pub record AreWanted (sought : Sought) (gps galileo : List Code) (wanted : Wante
 abbrev pub header_end : Sought → Bool → Header → Result (Wanted × Option Pos) Fault → Type 0
 header_end sought position header =
     test (AreComplete header.gps × AreComplete header.galileo) fault.BadCount
-    (read (AreWanted sought (codes_of header.gps) (codes_of header.galileo)) fault.CodeAbsent (λ wanted.
+    (read (AreWanted sought (codes_of header.gps) (codes_of header.galileo)) fault.CodeAbsent
+    (λ wanted.
     read (IsPosition position header.position) fault.NoPosition (λ point.
     gives (wanted, point))))
 
@@ -151,12 +161,17 @@ pub record Start : Type 0 where
 
 -- the lines from a number on, up to the first that ends the header
 abbrev pub header_lines : Sought → Bool → Header → ℕ → List TextLine → Result Start Refusal → Type 0
-header_lines sought position header number [] answer = answer ≡ Err (refusal fault.NoEndOfHeader number)
+header_lines sought position header number [] answer =
+    answer ≡ Err (refusal fault.NoEndOfHeader number)
 header_lines sought position header number (line ∷ more) answer =
     test (IsShort line) (refusal fault.LongLine number)
     (where_holds (IsHeaderEnd line)
     (line_gives (header_end sought position header) number (λ end.
-    gives (record { wanted = end.0; position = end.1; behind = record { number = number + 1; lines = more } })))
+    gives (record {
+      wanted = end.0;
+      position = end.1;
+      behind = record { number = number + 1; lines = more };
+    })))
     (line_gives (header_line (are_both sought) position header line) number (λ next.
     header_lines sought position next (number + 1) more)))
     answer

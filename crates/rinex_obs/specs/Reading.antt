@@ -1,5 +1,7 @@
 -- What a reader of observation files has read.
-use Rattle.std.specs.Prelude.{ℕ, ◌≡◌, ◌-◌, ◌*◌, ◌^◌, ◌≤◌, ◌<◌, ◌≤ℤ◌, ◌<ℤ◌, pos, neg_ℤ, List, [], ◌∷◌, ◌++◌, length, Option, None, Some, map, option_map, Result, Ok, Err}
+use Rattle.std.specs.Prelude.{ℕ, ◌≡◌, ◌-◌, ◌*◌, ◌^◌, ◌≤◌, ◌<◌, ◌≤ℤ◌, ◌<ℤ◌, pos, neg_ℤ, List, []}
+use Rattle.std.specs.Prelude.{◌∷◌, ◌++◌, length, Option, None, Some, map, option_map, Result, Ok}
+use Rattle.std.specs.Prelude.{Err}
 use Rattle.exact_decimal.specs.declared.decimal.Decimal.{Decimal}
 use Rattle.rinex_text.specs.Reading.{behind_of}
 use Rattle.rinex_text.specs.declared.fault.Fault.{Fault}
@@ -24,9 +26,9 @@ use Rattle.rinex_obs.specs.declared.obs.Obs.{Obs}
 use Rattle.rinex_obs.specs.declared.obs.ObsEpoch.{ObsEpoch}
 use Rattle.rinex_obs.specs.declared.obs.SatObs.{SatObs}
 
--- The reader keeps something else than the definitions speak of: what it keeps stands for the answer of
--- a definition, or it has its fault.
-abbrev pub Stands : {X Y E : Type 0} → (X → Y → Type 0) → (Result X E → Type 0) → Result Y E → Type 0
+-- What the reader keeps stands for the value of a definition, or both have the same fault.
+abbrev pub Stands : {X Y E : Type 0} → (X → Y → Type 0) → (Result X E → Type 0) → Result Y E →
+    Type 0
 Stands {X} For reader (Ok kept) = (x : X) × reader (Ok x) × For x kept
 Stands For reader (Err e) = reader (Err e)
 
@@ -67,7 +69,8 @@ abbrev pub code_places : Places → CodePlaces
 code_places places = record { first = places.first; second = places.second }
 
 abbrev pub wanted_of : WantedPlaces → Wanted
-wanted_of places = record { gps = code_places places.gps; galileo = option_map code_places places.galileo }
+wanted_of places =
+    record { gps = code_places places.gps; galileo = option_map code_places places.galileo }
 
 abbrev pub end_of : Result (WantedPlaces × Option Pos) Fault → Result (Wanted × Option Pos) Fault
 end_of (Ok (places, position)) = Ok (wanted_of places, position)
@@ -75,7 +78,8 @@ end_of (Err f) = Err f
 
 -- what the reader has read of a header
 abbrev pub start_of : WantedPlaces → Option Pos → Lines → Start
-start_of places position lines = record { wanted = wanted_of places; position = position; behind = behind_of lines }
+start_of places position lines =
+    record { wanted = wanted_of places; position = position; behind = behind_of lines }
 
 -- ---- the epochs
 
@@ -91,7 +95,8 @@ pub record AreTenths (number : Decimal) (tenths : ℕ) : Type 0 where
 
 -- the time of an epoch, which is one of so many
 abbrev pub IsHeadBehind : ℕ → Head → Type 0
-IsHeadBehind count (Epoch tag lines) = (pos 0 ≤ℤ tag) × (tag <ℤ pos 4000000000000000000000) × (count < 200000)
+IsHeadBehind count (Epoch tag lines) =
+    (pos 0 ≤ℤ tag) × (tag <ℤ pos 4000000000000000000000) × (count < 200000)
 IsHeadBehind count (Event labelled lines) = Unit {0}
 
 -- a satellite, or none, behind those before

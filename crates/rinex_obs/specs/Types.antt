@@ -1,5 +1,8 @@
--- The observation types of a system that a header lists (RINEX 3.05, table A2, `SYS / # / OBS TYPES`).
-use Rattle.std.specs.Prelude.{ℕ, zero, suc, ◌≡◌, ◌+◌, ◌-◌, ◌*◌, ◌≤◌, ◌<◌, min, Bool, true, false, cond, ◌==◌, ◌&&◌, ◌||◌, ◌⊎◌, List, [], ◌∷◌, ◌++◌, length, Option, None, Some, Result}
+-- The observation types of a system that a header lists (RINEX 3.05, table A2, `SYS / # / OBS
+-- TYPES`).
+use Rattle.std.specs.Prelude.{ℕ, zero, suc, ◌≡◌, ◌+◌, ◌-◌, ◌*◌, ◌≤◌, ◌<◌, min, Bool, true, false}
+use Rattle.std.specs.Prelude.{cond, ◌==◌, ◌&&◌, ◌||◌, ◌⊎◌, List, [], ◌∷◌, ◌++◌, length, Option}
+use Rattle.std.specs.Prelude.{None, Some, Result}
 use Rattle.std.specs.Option.{option_map}
 use Rattle.std.specs.List.{list_all}
 use Rattle.std.specs.Str.{bytes_eq}
@@ -23,7 +26,8 @@ pub record Types : Type 0 where
 
 -- The code at a place of a line, from 0: columns 8 to 10, 12 to 14, and so on up to place 12.
 abbrev pub code_at : List ℕ → ℕ → Code
-code_at text place = column_of text (8 + 4 * place) ∷ column_of text (9 + 4 * place) ∷ column_of text (10 + 4 * place) ∷ []
+code_at text place = column_of text (8 + 4 * place) ∷ column_of text (9 + 4 * place)
+    ∷ column_of text (10 + 4 * place) ∷ []
 
 abbrev pub IsSolid : Code → Type 0
 IsSolid code = list_all is_blank code ≡ false
@@ -32,7 +36,8 @@ IsSolid code = list_all is_blank code ≡ false
 abbrev pub codes_from : List ℕ → ℕ → ℕ → List Code → Result (List Code) Fault → Type 0
 codes_from text place zero codes answer = gives codes answer
 codes_from text place (suc left) codes answer =
-    test (IsSolid (code_at text place)) BadCount (codes_from text (place + 1) left (codes ++ code_at text place ∷ [])) answer
+    test (IsSolid (code_at text place)) BadCount
+    (codes_from text (place + 1) left (codes ++ code_at text place ∷ [])) answer
 
 -- the codes of a line: 13, or those that are missing
 abbrev pub more_codes : List ℕ → Types → Result Types Fault → Type 0
@@ -67,9 +72,9 @@ IsOfRead both text = IsRead both (column_of text 1)
 abbrev pub GoesOn : List ℕ → Type 0
 GoesOn text = list_all is_blank (columns_of text 1 6) ≡ true
 
--- A line of types, as it is for the system with this letter. Where some of its types are missing the line
--- has to go on with them; where there are all, it may not be another line of the system. What is left belongs
--- to other systems.
+-- A line of types, as it is for the system with this letter. Where some of its types are missing
+-- the line has to go on with them; where there are all, it may not be another line of the system.
+-- What is left belongs to other systems.
 abbrev pub types_line : ℕ → Option Types → List ℕ → Result (Option Types) Fault → Type 0
 types_line letter None text =
     where_holds (IsOf letter text)
@@ -99,4 +104,5 @@ codes_of (Some types) = types.codes
 -- the first place of a code in a list, from 0
 abbrev pub place_of : Code → List Code → Option ℕ
 place_of code [] = None
-place_of code (next ∷ codes) = cond (bytes_eq next code) (Some 0) (option_map suc (place_of code codes))
+place_of code (next ∷ codes) =
+    cond (bytes_eq next code) (Some 0) (option_map suc (place_of code codes))

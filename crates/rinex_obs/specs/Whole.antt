@@ -1,7 +1,8 @@
 -- What an accepted observation file is as a whole (RINEX 3.05, tables A2 and A3): how its lines are
 -- shared out, and which of them the types, the position, the epochs and their satellites come from.
 -- The readers' definitions go from line to line; these speak of the whole list of lines.
-use Rattle.std.specs.Prelude.{ℕ, zero, suc, ◌≡◌, ◌+◌, ◌-◌, min, Bool, true, false, ◌==◌, nat_le, List, [], ◌∷◌, ◌++◌, length, Option, None, Some, Ok, codes}
+use Rattle.std.specs.Prelude.{ℕ, zero, suc, ◌≡◌, ◌+◌, ◌-◌, min, Bool, true, false, ◌==◌, nat_le}
+use Rattle.std.specs.Prelude.{List, [], ◌∷◌, ◌++◌, length, Option, None, Some, Ok, codes}
 use Rattle.std.specs.List.{AllByRecursion, filter, list_all}
 use Rattle.std.specs.Str.{bytes_eq}
 use Rattle.exact_decimal.specs.Counts.{IsCount}
@@ -14,8 +15,10 @@ use Rattle.rinex_text.specs.Whole.{OneForOne, IsParted}
 use Rattle.grid_model.specs.declared.boxes.Pos.{Pos}
 use Rattle.gnss_model.specs.declared.satellites.Signal.{Signal}
 use Rattle.rinex_obs.specs.Types.{Code, code_at, IsSolid, IsOf, IsOfRead, is_read, GoesOn}
-use Rattle.rinex_obs.specs.Header.{Coordinates, position_line, IsPoint, IsLabelled, IsTimeSystem, are_both, CodePlaces, Wanted, have_both, AreWanted}
-use Rattle.rinex_obs.specs.Epochs.{IsTag, flag_of, IsFlag, IsLineCount, IsObserved, field_at, IsSecond, ArePlacesOf, sat_on, Observed}
+use Rattle.rinex_obs.specs.Header.{Coordinates, position_line, IsPoint, IsLabelled, IsTimeSystem}
+use Rattle.rinex_obs.specs.Header.{are_both, CodePlaces, Wanted, have_both, AreWanted}
+use Rattle.rinex_obs.specs.Epochs.{IsTag, flag_of, IsFlag, IsLineCount, IsObserved, field_at}
+use Rattle.rinex_obs.specs.Epochs.{IsSecond, ArePlacesOf, sat_on, Observed}
 use Rattle.rinex_obs.specs.Files.{Observations, alone}
 use Rattle.rinex_obs.specs.declared.sought.Sought.{Sought}
 use Rattle.rinex_obs.specs.declared.obs.SatObs.{SatObs}
@@ -34,10 +37,12 @@ codes_on text place (suc left) = code_at text place ∷ codes_on text (place + 1
 -- so many codes of some lines, 13 on each but the last
 abbrev pub codes_of_lines : ℕ → List TextLine → List Code
 codes_of_lines count [] = []
-codes_of_lines count (line ∷ more) = codes_on line.text 0 (min 13 count) ++ codes_of_lines (count - 13) more
+codes_of_lines count (line ∷ more) =
+    codes_on line.text 0 (min 13 count) ++ codes_of_lines (count - 13) more
 
--- The types of the system with this letter are those of all its lines, joined: of the line with the letter and
--- how many they are, and of those behind it that go on with them. No other line is of the system.
+-- The types of the system with this letter are those of all its lines, joined: of the line with the
+-- letter and how many they are, and of those behind it that go on with them. No other line is of
+-- the system.
 pub record AreJoined (letter : ℕ) (typed : List TextLine) (types : List Code) : Type 0 where
   pub before : List TextLine
   pub line : TextLine
@@ -86,7 +91,8 @@ IsPositionOf true header (Some point) = IsLastPosition header point
 pub record IsFineInHeader (both position : Bool) (line : TextLine) : Type 0 where
   pub time : IsLabelled (codes "TIME OF FIRST OBS") line → IsTimeSystem (columns_of line.text 49 51)
   pub scale : IsLabelled (codes "SYS / SCALE FACTOR") line → IsOfRead both line.text → ⊥
-  pub place : position ≡ true → IsPositionLine line → (at : Option Coordinates) × position_line line.text (Ok at)
+  pub place : position ≡ true → IsPositionLine line → (at : Option Coordinates)
+      × position_line line.text (Ok at)
 
 -- ---- the parts of the body
 
@@ -120,14 +126,16 @@ pub record IsPart (both : Bool) (part : Part) : Type 0 where
   pub count : IsLineCount (columns_of part.head.text 33 35) (length part.lines)
   pub printable : list_all is_printable part.head.text ≡ true
   pub short : AllByRecursion IsShort (part.head ∷ part.lines)
-  pub event : begins_epoch part ≡ false → is_looked_at part ≡ true → AllByRecursion (IsFineInEvent both) part.lines
+  pub event : begins_epoch part ≡ false → is_looked_at part ≡ true →
+      AllByRecursion (IsFineInEvent both) part.lines
 
 -- ---- the epochs
 
 abbrev pub is_of_read : Bool → TextLine → Bool
 is_of_read both line = is_read both (column_of line.text 1)
 
--- the satellite with the line's letter and number, and what the line has of the wanted codes of its system
+-- the satellite with the line's letter and number, and what the line has of the wanted codes of its
+-- system
 pub record IsSeenOn (wanted : Wanted) (line : TextLine) (seen : SatObs) : Type 0 where
   pub printable : list_all is_printable line.text ≡ true
   pub number : IsNumber line.text seen.sat.number
@@ -137,13 +145,16 @@ pub record IsSeenOn (wanted : Wanted) (line : TextLine) (seen : SatObs) : Type 0
   pub first : IsObserved (field_at line.text places.first) seen.first
   pub second : IsSecond line.text places.second seen.second
 
--- the time of the part's first line; the satellites are, one for one, its lines with a letter that is read
+-- the time of the part's first line; the satellites are, one for one, its lines with a letter that
+-- is read
 pub record IsEpochOf (wanted : Wanted) (part : Part) (epoch : Observed) : Type 0 where
   pub tag : IsTag part.head.text epoch.tag
-  pub sats : OneForOne (IsSeenOn wanted) (filter (is_of_read (have_both wanted)) part.lines) epoch.sats
+  pub sats : OneForOne (IsSeenOn wanted)
+      (filter (is_of_read (have_both wanted)) part.lines) epoch.sats
 
 -- the lines fall into parts; the epochs are, one for one, those with flag 0 or 1
-pub record AreInParts (wanted : Wanted) (lines : List TextLine) (epochs : List Observed) : Type 0 where
+pub record AreInParts (wanted : Wanted) (lines : List TextLine)
+    (epochs : List Observed) : Type 0 where
   pub parts : List Part
   pub spelled : lines ≡ lines_of_parts parts
   pub are_parts : AllByRecursion (IsPart (have_both wanted)) parts
@@ -151,7 +162,8 @@ pub record AreInParts (wanted : Wanted) (lines : List TextLine) (epochs : List O
 
 -- ---- the file
 
-pub record IsWholeOf (sought : Sought) (position : Bool) (lines : List TextLine) (observations : Observations) : Type 0 where
+pub record IsWholeOf (sought : Sought) (position : Bool) (lines : List TextLine)
+    (observations : Observations) : Type 0 where
   pub header : List TextLine
   pub behind : List TextLine
   pub parted : IsParted lines header behind

@@ -22,8 +22,11 @@ fn read_block<'a>(
     count: usize,
 ) -> Result<(Option<ObsEpoch>, Body<'a>), ReadError>
     requires { IsHeadBehind count head }
-    ensures block { IfOk result (λ t. (lines : ℕ) × block_from (wanted_of places.now) count head (body_behind body.entry) (Ok (block_of t.0 lines)) × Leaves body.entry lines t.1) }
-    ensures fault { IfErr result (Refuses (block_from (wanted_of places.now) count head (body_behind body.entry))) }
+    ensures block { IfOk result (λ t. (lines : ℕ)
+        × block_from (wanted_of places.now) count head (body_behind body.entry)
+        (Ok (block_of t.0 lines)) × Leaves body.entry lines t.1) }
+    ensures fault { IfErr result
+        (Refuses (block_from (wanted_of places.now) count head (body_behind body.entry))) }
 {
     match head {
         Head::Epoch { tag, lines } => {
@@ -48,8 +51,12 @@ pub fn read_epochs(
     body: Body<'_>,
     places: &WantedPlaces,
 ) -> Result<Vec<ObsEpoch>, ReadError>
-    ensures epochs { IfOk result (λ epochs. epochs_from (wanted_of places.now) [] body.entry.lines.number 0 (body_left body.entry) (Ok (plain_epochs epochs.items))) }
-    ensures fault { IfErr result (Refuses (epochs_from (wanted_of places.now) [] body.entry.lines.number 0 (body_left body.entry))) }
+    ensures epochs { IfOk result
+        (λ epochs. epochs_from (wanted_of places.now) [] body.entry.lines.number 0
+        (body_left body.entry) (Ok (plain_epochs epochs.items))) }
+    ensures fault { IfErr result
+        (Refuses (epochs_from (wanted_of places.now) [] body.entry.lines.number 0
+        (body_left body.entry))) }
 {
     let mut epochs = Vec::new(alloc);
     let mut left = body;

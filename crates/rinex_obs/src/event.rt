@@ -11,7 +11,8 @@ use rinex_text::{Body, Fault, Line, Refusal, column, is_labelled, is_short};
 
 /// Whether the line scales the observations of a system that is read.
 fn scales_read(text: &[u8], both: bool) -> bool
-    ensures { IsTrue result ↔ ((label_of text.now ≡ codes "SYS / SCALE FACTOR") × IsOfRead both text.now) }
+    ensures { IsTrue result ↔ ((label_of text.now ≡ codes "SYS / SCALE FACTOR")
+        × IsOfRead both text.now) }
 {
     is_labelled(text, b"SYS / SCALE FACTOR") && is_read(column(text, 1), both)
 }
@@ -56,9 +57,11 @@ pub fn take_event(
     labelled: bool,
     lines: u16,
 ) -> Result<Body<'_>, Refusal>
-    ensures event { IfOk result (λ t. event_from both labelled lines (body_behind body.entry) (Ok tt)) }
+    ensures event { IfOk result
+        (λ t. event_from both labelled lines (body_behind body.entry) (Ok tt)) }
     ensures left { IfOk result (Leaves body.entry lines) }
-    ensures fault { IfErr result (λ e. event_from both labelled lines (body_behind body.entry) (Err e)) }
+    ensures fault { IfErr result
+        (λ e. event_from both labelled lines (body_behind body.entry) (Err e)) }
 {
     let mut left = body;
     let mut missing = lines;

@@ -1,6 +1,7 @@
 //! Where the wanted codes stand among the observation types of a system.
 
-ghost use Rattle.std.specs.Prelude.{◌≡◌, ◌≤◌, ◌<◌, ◌+◌, ◌++◌, ◌∷◌, [], List, length, IfSome, IfNone};
+ghost use Rattle.std.specs.Prelude.{◌≡◌, ◌≤◌, ◌<◌, ◌+◌, ◌++◌, ◌∷◌, [], List, length, IfSome};
+ghost use Rattle.std.specs.Prelude.{IfNone};
 ghost use Rattle.std.specs.Option.{ForSome};
 ghost use Rattle.rinex_obs.specs.Types.{Code, Types, place_of};
 ghost use Rattle.rinex_obs.specs.Header.{CodePlaces, ArePlaces};
@@ -40,7 +41,8 @@ pub struct Found {
 /// Where a code is found first, behind so many that were seen.
 fn place_with(found: Option<u16>, seen: u16, code: &[u8], wanted: &[u8]) -> Option<u16>
     requires { ForSome found (λ place. place < seen) }
-    ensures place { (codes : List Code) → found ≡ place_of wanted.now codes → seen ≡ length codes → result ≡ place_of wanted.now (codes ++ code.now ∷ []) }
+    ensures place { (codes : List Code) → found ≡ place_of wanted.now codes → seen ≡ length codes →
+        result ≡ place_of wanted.now (codes ++ code.now ∷ []) }
     ensures within { ForSome result (λ place. place < seen + 1) }
 {
     if found.is_some() {
@@ -58,7 +60,9 @@ impl Found {
     /// Behind the next type, which has this code.
     pub fn with(self, code: &[u8], signal: &Signal) -> Found
         requires { self.seen < self.count }
-        ensures found { (types : Types) → IsFound signal.now types self → IsFound signal.now (record { count = types.count; codes = types.codes ++ code.now ∷ [] }) result }
+        ensures found { (types : Types) → IsFound signal.now types self →
+            IsFound signal.now
+            (record { count = types.count; codes = types.codes ++ code.now ∷ [] }) result }
         ensures seen { result.seen ≡ self.seen + 1 }
         ensures count { result.count ≡ self.count }
     {
@@ -81,8 +85,10 @@ impl Found {
 
     /// The places of the wanted codes, where they were all found.
     pub fn places(self, signal: &Signal) -> Option<Places>
-        ensures places { (types : Types) → IsFound signal.now types self → IfSome result (λ places. ArePlaces signal.now types.codes (code_places places)) }
-        ensures none { (types : Types) → IsFound signal.now types self → IfNone result ((places : CodePlaces) → ArePlaces signal.now types.codes places → ⊥) }
+        ensures places { (types : Types) → IsFound signal.now types self →
+            IfSome result (λ places. ArePlaces signal.now types.codes (code_places places)) }
+        ensures none { (types : Types) → IsFound signal.now types self →
+            IfNone result ((places : CodePlaces) → ArePlaces signal.now types.codes places → ⊥) }
     {
         let first = self.first?;
         match signal {

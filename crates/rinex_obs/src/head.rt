@@ -1,6 +1,7 @@
 //! The first line of an epoch or an event.
 
-ghost use Rattle.std.specs.Prelude.{◌≡◌, ◌↔◌, ◌^◌, ◌≤◌, ◌<◌, ◌≤ℤ◌, ◌<ℤ◌, ℕ, ℤ, pos, neg_ℤ, IsTrue, IfOk, IfSome, IfNone};
+ghost use Rattle.std.specs.Prelude.{◌≡◌, ◌↔◌, ◌^◌, ◌≤◌, ◌<◌, ◌≤ℤ◌, ◌<ℤ◌, ℕ, ℤ, pos, neg_ℤ, IsTrue};
+ghost use Rattle.std.specs.Prelude.{IfOk, IfSome, IfNone};
 ghost use Rattle.rinex_text.specs.Columns.{columns_of};
 ghost use Rattle.rinex_text.specs.Reading.{plain_line};
 ghost use Rattle.rinex_obs.specs.Epochs.{IsSeconds, IsTag, flag_of, IsFlag, IsLineCount, head_line};

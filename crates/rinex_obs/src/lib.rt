@@ -1,5 +1,5 @@
-//! Observation files of RINEX 3: the epochs with the wanted observations of GPS satellites, or of GPS and
-//! Galileo satellites, as exact decimals, and the approximate position of the header.
+//! Observation files of RINEX 3: the epochs with the wanted observations of GPS satellites, or of
+//! GPS and Galileo satellites, as exact decimals, and the approximate position of the header.
 #![tactic(auto)]
 
 mod blocks;

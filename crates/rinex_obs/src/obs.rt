@@ -6,8 +6,8 @@ use exact_decimal::Decimal;
 use gnss_model::Sat;
 use grid_model::Pos;
 
-/// What was observed of a satellite: the values of its system's wanted codes as the file writes them, none
-/// where the field is blank or zero. `second` is none where one code is wanted.
+/// What was observed of a satellite: the values of its system's wanted codes as the file writes
+/// them, none where the field is blank or zero. `second` is none where one code is wanted.
 #[derive(Clone, Copy, Debug, PartialEq, Eq)]
 pub struct SatObs {
     pub sat: Sat,

@@ -4,7 +4,8 @@ ghost use Rattle.std.specs.Prelude.{◌≡◌, ◌≤◌, ℤ, Option, IfOk, IfE
 ghost use Rattle.exact_decimal.specs.declared.decimal.Decimal.{Decimal};
 ghost use Rattle.rinex_text.specs.Columns.{columns_of};
 ghost use Rattle.grid_model.specs.declared.boxes.Pos.{Pos};
-ghost use Rattle.rinex_obs.specs.Header.{IsFixedField, all_three, position_line, IsCoordinate, IsPoint, IsPosition};
+ghost use Rattle.rinex_obs.specs.Header.{IsFixedField, all_three, position_line, IsCoordinate};
+ghost use Rattle.rinex_obs.specs.Header.{IsPoint, IsPosition};
 
 use exact_decimal::{Decimal, Unit, read_fixed, to_unit_between};
 use grid_model::Pos;
@@ -20,7 +21,8 @@ pub type Coordinates = (Decimal, Decimal, Decimal);
 fn fixed_field(text: &[u8], first: u16, last: u16) -> Result<Option<Decimal>, Fault>
     requires { last ≤ 4096 }
     ensures number { IfOk result (IsFixedField (columns_of text.now first last)) }
-    ensures none { IfErr result (λ f. (number : Option Decimal) → IsFixedField (columns_of text.now first last) number → ⊥) }
+    ensures none { IfErr result (λ f. (number : Option Decimal) →
+        IsFixedField (columns_of text.now first last) number → ⊥) }
 {
     match read_fixed(columns(text, first, last)) {
         Ok(number) => Ok(number),

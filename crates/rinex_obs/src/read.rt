@@ -5,9 +5,11 @@ ghost use Rattle.rinex_text.specs.Lines.{lines_of};
 ghost use Rattle.rinex_text.specs.Reading.{Refuses, GivesRefusal};
 ghost use Rattle.rinex_text.specs.Whole.{IsSettled};
 ghost use Rattle.rinex_text.specs.declared.fault.Refusal.{Refusal};
-ghost use Rattle.rinex_obs.specs.Facts.{AreNumbered, AreDistinct, AreGpsSats, AreNamedSats, AreSatsOf, InEach};
+ghost use Rattle.rinex_obs.specs.Facts.{AreNumbered, AreDistinct, AreGpsSats, AreNamedSats};
+ghost use Rattle.rinex_obs.specs.Facts.{AreSatsOf, InEach};
 ghost use Rattle.rinex_obs.specs.Header.{are_both};
-ghost use Rattle.rinex_obs.specs.Files.{Observations, obs_file, obs_file_of, IsObsFile, IsObsFileOf, IsFirstFault, IsFirstFaultOf, with_galileo};
+ghost use Rattle.rinex_obs.specs.Files.{Observations, obs_file, obs_file_of, IsObsFile};
+ghost use Rattle.rinex_obs.specs.Files.{IsObsFileOf, IsFirstFault, IsFirstFaultOf, with_galileo};
 ghost use Rattle.rinex_obs.specs.Reading.{observations_of, GivesObservations};
 ghost use Rattle.rinex_obs.specs.Whole.{IsWhole, IsWholeOf};
 
@@ -22,7 +24,8 @@ use std::alloc::Global;
 /// The observations of a file, or its first fault.
 fn read_text(alloc: Global, bytes: &[u8], sought: &Sought, position: bool) -> Result<Obs, ReadError>
     requires { length bytes.now ≤ 4000000000 }
-    ensures observations { IfOk result (λ obs. IsObsFileOf sought.now position bytes.now (observations_of obs)) }
+    ensures observations { IfOk result
+        (λ obs. IsObsFileOf sought.now position bytes.now (observations_of obs)) }
     ensures fault { IfErr result (Refuses (obs_file_of sought.now position (lines_of bytes.now))) }
 {
     let header = match behind_version_of(bytes, b'O', sought.are_both()) {
@@ -40,10 +43,11 @@ fn read_text(alloc: Global, bytes: &[u8], sought: &Sought, position: bool) -> Re
     })
 }
 
-/// Reads an observation file of at most 4 * 10^9 bytes: its epochs with flags 0 and 1, with the wanted
-/// codes of their GPS satellites, or of GPS and Galileo satellites where codes of both are sought, and
-/// the position of its header where it is wanted. The header is read line by line, then the lines
-/// behind it are counted and read once; no line is copied, and only what is given is kept.
+/// Reads an observation file of at most 4 * 10^9 bytes: its epochs with flags 0 and 1, with the
+/// wanted codes of their GPS satellites, or of GPS and Galileo satellites where codes of both are
+/// sought, and the position of its header where it is wanted. The header is read line by line, then
+/// the lines behind it are counted and read once; no line is copied, and only what is given is
+/// kept.
 pub fn read_obs_of(
     alloc: Global,
     bytes: &[u8],
@@ -52,27 +56,33 @@ pub fn read_obs_of(
 ) -> Result<Obs, ReadError>
     requires { length bytes.now ≤ 4000000000 }
     // What is read are the observations of an observation file with this text.
-    ensures records { IfOk result (λ obs. IsObsFileOf sought.now position bytes.now (observations_of obs)) }
+    ensures records { IfOk result
+        (λ obs. IsObsFileOf sought.now position bytes.now (observations_of obs)) }
     // What isn't read has this first fault, unless memory ran out.
     ensures fault { IfErr result (Refuses (obs_file_of sought.now position (lines_of bytes.now))) }
     // An observation file is read as its observations, unless memory runs out.
-    ensures exact { (observations : Observations) → IsObsFileOf sought.now position bytes.now observations → GivesObservations observations result }
+    ensures exact { (observations : Observations) →
+        IsObsFileOf sought.now position bytes.now observations →
+        GivesObservations observations result }
     // A text with a fault is refused with its first, unless memory runs out.
-    ensures first { (refusal : Refusal) → IsFirstFaultOf sought.now position bytes.now refusal → GivesRefusal refusal result }
+    ensures first { (refusal : Refusal) → IsFirstFaultOf sought.now position bytes.now refusal →
+        GivesRefusal refusal result }
     // What is behind the line of the fault matters only where that is blank: then, whether all is.
     ensures settled { IfErr result (IsSettled (obs_file_of sought.now position) bytes.now) }
     // How its lines are shared out, and what comes of which.
-    ensures whole { IfOk result (λ obs. IsWholeOf sought.now position (lines_of bytes.now) (observations_of obs)) }
+    ensures whole { IfOk result
+        (λ obs. IsWholeOf sought.now position (lines_of bytes.now) (observations_of obs)) }
     // Of the epochs of every file the same holds.
     ensures numbered { IfOk result (λ obs. AreNumbered (observations_of obs).epochs) }
     ensures distinct { IfOk result (λ obs. InEach AreDistinct (observations_of obs).epochs) }
-    ensures named { IfOk result (λ obs. InEach (AreSatsOf (are_both sought.now)) (observations_of obs).epochs) }
+    ensures named { IfOk result
+        (λ obs. InEach (AreSatsOf (are_both sought.now)) (observations_of obs).epochs) }
 {
     read_text(alloc, bytes, sought, position)
 }
 
-/// Reads an observation file of at most 4 * 10^9 bytes: its epochs with flags 0 and 1, with the wanted
-/// codes of their GPS satellites, and the position of its header where it is wanted.
+/// Reads an observation file of at most 4 * 10^9 bytes: its epochs with flags 0 and 1, with the
+/// wanted codes of their GPS satellites, and the position of its header where it is wanted.
 pub fn read_obs(
     alloc: Global,
     bytes: &[u8],
@@ -81,17 +91,22 @@ pub fn read_obs(
 ) -> Result<Obs, ReadError>
     requires { length bytes.now ≤ 4000000000 }
     // What is read are the observations of an observation file with this text.
-    ensures records { IfOk result (λ obs. IsObsFile signal.now position bytes.now (observations_of obs)) }
+    ensures records { IfOk result
+        (λ obs. IsObsFile signal.now position bytes.now (observations_of obs)) }
     // What isn't read has this first fault, unless memory ran out.
     ensures fault { IfErr result (Refuses (obs_file signal.now position (lines_of bytes.now))) }
     // An observation file is read as its observations, unless memory runs out.
-    ensures exact { (observations : Observations) → IsObsFile signal.now position bytes.now observations → GivesObservations observations result }
+    ensures exact { (observations : Observations) →
+        IsObsFile signal.now position bytes.now observations →
+        GivesObservations observations result }
     // A text with a fault is refused with its first, unless memory runs out.
-    ensures first { (refusal : Refusal) → IsFirstFault signal.now position bytes.now refusal → GivesRefusal refusal result }
+    ensures first { (refusal : Refusal) → IsFirstFault signal.now position bytes.now refusal →
+        GivesRefusal refusal result }
     // What is behind the line of the fault matters only where that is blank: then, whether all is.
     ensures settled { IfErr result (IsSettled (obs_file signal.now position) bytes.now) }
     // How its lines are shared out, and what comes of which.
-    ensures whole { IfOk result (λ obs. IsWhole signal.now position (lines_of bytes.now) (observations_of obs)) }
+    ensures whole { IfOk result
+        (λ obs. IsWhole signal.now position (lines_of bytes.now) (observations_of obs)) }
     // Of the epochs of every file the same holds.
     ensures numbered { IfOk result (λ obs. AreNumbered (observations_of obs).epochs) }
     ensures distinct { IfOk result (λ obs. InEach AreDistinct (observations_of obs).epochs) }
@@ -104,8 +119,9 @@ pub fn read_obs(
     read_obs_of(alloc, bytes, &sought, position)
 }
 
-/// Reads an observation file of at most 4 * 10^9 bytes: its epochs with flags 0 and 1, with the wanted
-/// codes of their GPS and Galileo satellites, and the position of its header where it is wanted.
+/// Reads an observation file of at most 4 * 10^9 bytes: its epochs with flags 0 and 1, with the
+/// wanted codes of their GPS and Galileo satellites, and the position of its header where it is
+/// wanted.
 pub fn read_obs_both(
     alloc: Global,
     bytes: &[u8],
@@ -115,17 +131,27 @@ pub fn read_obs_both(
 ) -> Result<Obs, ReadError>
     requires { length bytes.now ≤ 4000000000 }
     // What is read are the observations of an observation file with this text.
-    ensures records { IfOk result (λ obs. IsObsFileOf (with_galileo gps.now galileo.now) position bytes.now (observations_of obs)) }
+    ensures records { IfOk result
+        (λ obs. IsObsFileOf (with_galileo gps.now galileo.now) position bytes.now
+        (observations_of obs)) }
     // What isn't read has this first fault, unless memory ran out.
-    ensures fault { IfErr result (Refuses (obs_file_of (with_galileo gps.now galileo.now) position (lines_of bytes.now))) }
+    ensures fault { IfErr result
+        (Refuses (obs_file_of (with_galileo gps.now galileo.now) position (lines_of bytes.now))) }
     // An observation file is read as its observations, unless memory runs out.
-    ensures exact { (observations : Observations) → IsObsFileOf (with_galileo gps.now galileo.now) position bytes.now observations → GivesObservations observations result }
+    ensures exact { (observations : Observations) →
+        IsObsFileOf (with_galileo gps.now galileo.now) position bytes.now observations →
+        GivesObservations observations result }
     // A text with a fault is refused with its first, unless memory runs out.
-    ensures first { (refusal : Refusal) → IsFirstFaultOf (with_galileo gps.now galileo.now) position bytes.now refusal → GivesRefusal refusal result }
+    ensures first { (refusal : Refusal) →
+        IsFirstFaultOf (with_galileo gps.now galileo.now) position bytes.now refusal →
+        GivesRefusal refusal result }
     // What is behind the line of the fault matters only where that is blank: then, whether all is.
-    ensures settled { IfErr result (IsSettled (obs_file_of (with_galileo gps.now galileo.now) position) bytes.now) }
+    ensures settled { IfErr result
+        (IsSettled (obs_file_of (with_galileo gps.now galileo.now) position) bytes.now) }
     // How its lines are shared out, and what comes of which.
-    ensures whole { IfOk result (λ obs. IsWholeOf (with_galileo gps.now galileo.now) position (lines_of bytes.now) (observations_of obs)) }
+    ensures whole { IfOk result
+        (λ obs. IsWholeOf (with_galileo gps.now galileo.now) position (lines_of bytes.now)
+        (observations_of obs)) }
     // Of the epochs of every file the same holds.
     ensures numbered { IfOk result (λ obs. AreNumbered (observations_of obs).epochs) }
     ensures distinct { IfOk result (λ obs. InEach AreDistinct (observations_of obs).epochs) }

@@ -4,7 +4,8 @@ ghost use Rattle.std.specs.Prelude.{◌≡◌, ◌↔◌, ◌<◌, Option, IsTru
 ghost use Rattle.std.specs.List.{list_any};
 ghost use Rattle.exact_decimal.specs.declared.decimal.Decimal.{Decimal};
 ghost use Rattle.rinex_text.specs.Reading.{plain_line};
-ghost use Rattle.rinex_obs.specs.Epochs.{IsObserved, IsSecond, IsOtherSystem, ArePlacesOf, field_at, has_sat, satellite_line};
+ghost use Rattle.rinex_obs.specs.Epochs.{IsObserved, IsSecond, IsOtherSystem, ArePlacesOf};
+ghost use Rattle.rinex_obs.specs.Epochs.{field_at, has_sat, satellite_line};
 ghost use Rattle.rinex_obs.specs.Header.{CodePlaces};
 ghost use Rattle.rinex_obs.specs.Reading.{code_places, wanted_of, with_line};
 
@@ -23,7 +24,8 @@ const MOST_SATELLITES: usize = 64;
 fn observed(text: &[u8], place: u16) -> Option<Option<Decimal>>
     requires { place < 999 }
     ensures value { IfSome result (IsObserved (field_at text.now place)) }
-    ensures none { IfNone result ((value : Option Decimal) → IsObserved (field_at text.now place) value → ⊥) }
+    ensures none { IfNone result ((value : Option Decimal) →
+        IsObserved (field_at text.now place) value → ⊥) }
 {
     match read_fixed(columns(text, 4 + 16 * place, 17 + 16 * place)) {
         Ok(Some(number)) => {
@@ -58,8 +60,10 @@ fn is_other_system(letter: u8, both: bool) -> bool
 
 /// The places of the wanted codes of the system with this letter, where it is read.
 fn places_of(places: &WantedPlaces, letter: u8) -> Option<Places>
-    ensures places { IfSome result (λ own. ArePlacesOf (wanted_of places.now) letter (code_places own)) }
-    ensures none { IfNone result ((own : CodePlaces) → ArePlacesOf (wanted_of places.now) letter own → ⊥) }
+    ensures places { IfSome result
+        (λ own. ArePlacesOf (wanted_of places.now) letter (code_places own)) }
+    ensures none { IfNone result ((own : CodePlaces) →
+        ArePlacesOf (wanted_of places.now) letter own → ⊥) }
 {
     if letter == b'G' {
         return Some(places.gps);
@@ -83,7 +87,8 @@ pub fn satellite_line(
     places: &WantedPlaces,
     sats: &[SatObs],
 ) -> Result<Option<SatObs>, Fault>
-    ensures line { satellite_line (wanted_of places.now) sats.now (plain_line line.entry) (with_line sats.now result) }
+    ensures line { satellite_line (wanted_of places.now) sats.now (plain_line line.entry)
+        (with_line sats.now result) }
     ensures few { IfOk result (λ found. IfSome found (λ sat. length sats.now < 64)) }
 {
     if !is_short(line) {

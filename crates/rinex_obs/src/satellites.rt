@@ -17,9 +17,12 @@ fn take_satellite<'a>(
     places: &WantedPlaces,
     sats: &[SatObs],
 ) -> Result<(Option<SatObs>, Body<'a>), Refusal>
-    ensures took { IfOk result (λ t. Takes (satellite_line (wanted_of places.now) sats.now) body.entry (with_found sats.now t.0) t.1) }
+    ensures took { IfOk result
+        (λ t. Takes (satellite_line (wanted_of places.now) sats.now) body.entry
+        (with_found sats.now t.0) t.1) }
     ensures few { IfOk result (λ t. IfSome t.0 (λ sat. length sats.now < 64)) }
-    ensures failed { IfErr result (Fails (satellite_line (wanted_of places.now) sats.now) body.entry) }
+    ensures failed { IfErr result
+        (Fails (satellite_line (wanted_of places.now) sats.now) body.entry) }
 {
     let Some((line, behind)) = body.split_first() else {
         return Err(Refusal::new(Fault::Truncated, body.lines.number));
@@ -37,10 +40,12 @@ pub fn take_satellites<'a>(
     places: &WantedPlaces,
     lines: u16,
 ) -> Result<(Vec<SatObs>, Body<'a>), ReadError>
-    ensures sats { IfOk result (λ t. satellites_from (wanted_of places.now) lines [] (body_behind body.entry) (Ok t.0.items)) }
+    ensures sats { IfOk result (λ t. satellites_from
+        (wanted_of places.now) lines [] (body_behind body.entry) (Ok t.0.items)) }
     ensures few { IfOk result (λ t. length t.0.items ≤ 64) }
     ensures left { IfOk result (λ t. Leaves body.entry lines t.1) }
-    ensures fault { IfErr result (Refuses (satellites_from (wanted_of places.now) lines [] (body_behind body.entry))) }
+    ensures fault { IfErr result
+        (Refuses (satellites_from (wanted_of places.now) lines [] (body_behind body.entry))) }
 {
     let mut sats = Vec::new(alloc);
     let mut left = body;

@@ -1,7 +1,8 @@
 //! The header lines with the observation types of the systems.
 
 ghost use Rattle.std.specs.Prelude.{◌≡◌, ◌<◌, ◌↔◌, IsTrue, List, Option, is_some};
-ghost use Rattle.rinex_obs.specs.Types.{Types, code_at, more_codes, first_codes, IsOf, IsRead, is_read, GoesOn, types_line, galileo_line};
+ghost use Rattle.rinex_obs.specs.Types.{Types, code_at, more_codes, first_codes, IsOf, IsRead};
+ghost use Rattle.rinex_obs.specs.Types.{is_read, GoesOn, types_line, galileo_line};
 ghost use Rattle.rinex_obs.specs.Reading.{Stands, IsFound, MayBeFound, AreFoundOf};
 
 use crate::found::Found;
@@ -25,7 +26,8 @@ fn code_at(text: &[u8], place: u16) -> [u8; 3]
 
 /// The types of a line behind those before.
 fn more_codes(text: &[u8], found: Found, signal: &Signal) -> Result<Found, Fault>
-    ensures { (types : Types) → IsFound signal.now types found → Stands (IsFound signal.now) (more_codes text.now types) result }
+    ensures { (types : Types) → IsFound signal.now types found →
+        Stands (IsFound signal.now) (more_codes text.now types) result }
 {
     let missing = (found.count - found.seen).min(MOST_ON_LINE);
     let mut more = found;
@@ -87,7 +89,8 @@ pub fn types_line(
     signal: &Signal,
     letter: u8,
 ) -> Result<Option<Found>, Fault>
-    ensures { (types : Option Types) → MayBeFound signal.now types known → Stands (MayBeFound signal.now) (types_line letter types text.now) result }
+    ensures { (types : Option Types) → MayBeFound signal.now types known →
+        Stands (MayBeFound signal.now) (types_line letter types text.now) result }
 {
     let Some(found) = known else {
         if !is_of(text, letter) {
@@ -119,7 +122,8 @@ pub fn galileo_line(
     text: &[u8],
     galileo: &Option<Signal>,
 ) -> Result<Option<Found>, Fault>
-    ensures { (types : Option Types) → AreFoundOf galileo.now types known → Stands (AreFoundOf galileo.now) (galileo_line (is_some galileo.now) types text.now) result }
+    ensures { (types : Option Types) → AreFoundOf galileo.now types known →
+        Stands (AreFoundOf galileo.now) (galileo_line (is_some galileo.now) types text.now) result }
 {
     match galileo {
         Some(signal) => types_line(known, text, signal, b'E'),

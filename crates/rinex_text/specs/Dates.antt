@@ -1,4 +1,5 @@
--- Times in picoseconds since 1980-01-06 00:00:00 of GPS time, in which no second is left out or added.
+-- Times in picoseconds since 1980-01-06 00:00:00 of GPS time, in which no second is left out or
+-- added.
 use Rattle.std.specs.Prelude.{ℕ, ◌+◌, ◌*◌, ◌≤◌, ◌<◌, ℤ, pos, ◌≤ℤ◌}
 use Rattle.jiff_core.specs.Calendar.{IsDate, days_from_civil}
 use Rattle.grid_model.specs.Amounts.{above}
@@ -29,4 +30,5 @@ days_behind_first year month day = above (days_from_civil (pos year) month day) 
 -- a day has 86,400 s, a second 10^12 ps, and 10^-7 s are 10^5 ps
 abbrev pub gps_time : ℕ → ℕ → ℕ → ℕ → ℕ → ℕ → ℕ
 gps_time year month day hour minute tenths =
-    (days_behind_first year month day * 86400 + hour * 3600 + minute * 60) * 1000000000000 + tenths * 100000
+    (days_behind_first year month day * 86400 + hour * 3600 + minute * 60) * 1000000000000 + tenths
+    * 100000

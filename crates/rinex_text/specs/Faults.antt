@@ -39,18 +39,25 @@ abbrev pub test : {X E : Type 0} → Type 0 → E → (Result X E → Type 0) �
 test passed fault later answer = (passed × later answer) ⊎ ((passed → ⊥) × (answer ≡ Err fault))
 
 -- where this holds, the first; else the second
-abbrev pub where_holds : {X E : Type 0} → Type 0 → (Result X E → Type 0) → (Result X E → Type 0) → Result X E → Type 0
+abbrev pub where_holds : {X E : Type 0} → Type 0 → (Result X E → Type 0) → (Result X E → Type 0) →
+    Result X E → Type 0
 where_holds this first second answer = (this × first answer) ⊎ ((this → ⊥) × second answer)
 
 -- some value of this kind, and with it what comes later; where there is none its fault
-abbrev pub read : {V X E : Type 0} → (V → Type 0) → E → (V → Result X E → Type 0) → Result X E → Type 0
-read {V} IsValue fault later answer = ((v : V) × IsValue v × later v answer) ⊎ (((v : V) → IsValue v → ⊥) × (answer ≡ Err fault))
+abbrev pub read : {V X E : Type 0} → (V → Type 0) → E → (V → Result X E → Type 0) → Result X E →
+    Type 0
+read {V} IsValue fault later answer =
+    ((v : V) × IsValue v × later v answer) ⊎ (((v : V) → IsValue v → ⊥) × (answer ≡ Err fault))
 
 -- what one reader gives, and with it what comes later; or the reader's fault
-abbrev pub then : {V X E : Type 0} → (Result V E → Type 0) → (V → Result X E → Type 0) → Result X E → Type 0
-then {V} {X} {E} reader later answer = ((v : V) × reader (Ok v) × later v answer) ⊎ ((e : E) × reader (Err e) × (answer ≡ Err e))
+abbrev pub then : {V X E : Type 0} → (Result V E → Type 0) → (V → Result X E → Type 0) →
+    Result X E → Type 0
+then {V} {X} {E} reader later answer =
+    ((v : V) × reader (Ok v) × later v answer) ⊎ ((e : E) × reader (Err e) × (answer ≡ Err e))
 
 -- what a line gives, and what comes later; or the refusal of its first fault
-abbrev pub line_gives : {V X : Type 0} → (Result V Fault → Type 0) → ℕ → (V → Result X Refusal → Type 0) → Result X Refusal → Type 0
+abbrev pub line_gives : {V X : Type 0} → (Result V Fault → Type 0) → ℕ →
+    (V → Result X Refusal → Type 0) → Result X Refusal → Type 0
 line_gives {V} line number later answer =
-    ((v : V) × line (Ok v) × later v answer) ⊎ ((f : Fault) × line (Err f) × (answer ≡ Err (refusal f number)))
+    ((v : V) × line (Ok v) × later v answer)
+    ⊎ ((f : Fault) × line (Err f) × (answer ≡ Err (refusal f number)))

@@ -1,5 +1,6 @@
 -- The header of a file: the version line, and the lines up to END OF HEADER.
-use Rattle.std.specs.Prelude.{ℕ, ◌≡◌, ◌≤◌, ◌+◌, ◌⊎◌, ℤ, pos, Bool, true, false, List, [], ◌∷◌, Result, Ok, Err, codes}
+use Rattle.std.specs.Prelude.{ℕ, ◌≡◌, ◌≤◌, ◌+◌, ◌⊎◌, ℤ, pos, Bool, true, false, List, [], ◌∷◌}
+use Rattle.std.specs.Prelude.{Result, Ok, Err, codes}
 use Rattle.exact_decimal.specs.NumberFields.{IsFixed}
 use Rattle.exact_decimal.specs.Units.{LiesBetween}
 use Rattle.exact_decimal.specs.declared.unit.Unit.TheVariants.{Ratio}
@@ -53,13 +54,15 @@ abbrev pub header_from : ℕ → List TextLine → Result Behind Refusal → Typ
 header_from number [] answer = answer ≡ Err (refusal fault.NoEndOfHeader number)
 header_from number (line ∷ more) answer =
     test (IsShort line) (refusal fault.LongLine number)
-    (λ later. (IsHeaderEnd line × (later ≡ Ok (record { number = number + 1; lines = more }))) ⊎ ((IsHeaderEnd line → ⊥) × header_from (number + 1) more later))
+    (λ later. (IsHeaderEnd line × (later ≡ Ok (record { number = number + 1; lines = more })))
+    ⊎ ((IsHeaderEnd line → ⊥) × header_from (number + 1) more later))
     answer
 
 -- the version line of a file, and the lines behind it
 abbrev pub version_by : Bool → ℕ → List TextLine → Result Behind Refusal → Type 0
 version_by both kind [] answer = answer ≡ Err (refusal fault.NotRinex 1)
-version_by both kind (line ∷ more) answer = line_gives (version_line_of both kind line) 1 (λ passed. gives (record { number = 2; lines = more })) answer
+version_by both kind (line ∷ more) answer = line_gives (version_line_of both kind line) 1
+    (λ passed. gives (record { number = 2; lines = more })) answer
 
 -- where the satellites of GPS are read
 abbrev pub version_line : ℕ → TextLine → Result (Unit {0}) Fault → Type 0

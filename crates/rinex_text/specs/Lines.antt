@@ -15,7 +15,8 @@ longer byte (line ∷ more) = (byte ∷ line) ∷ more
 -- the lines of a text, each with its line end
 abbrev pub with_ends : List ℕ → List (List ℕ)
 with_ends [] = []
-with_ends (byte ∷ bytes) = cond (byte == 10) ((byte ∷ []) ∷ with_ends bytes) (longer byte (with_ends bytes))
+with_ends (byte ∷ bytes) =
+    cond (byte == 10) ((byte ∷ []) ∷ with_ends bytes) (longer byte (with_ends bytes))
 
 -- LF, or CR and LF
 abbrev pub is_line_end : List ℕ → Bool

@@ -1,5 +1,6 @@
 -- What the reader has left of a file.
-use Rattle.std.specs.Prelude.{ℕ, ◌≡◌, ◌⊎◌, ◌+◌, ◌≤◌, ◌<◌, List, [], ◌∷◌, length, take, drop, Result, Ok, Err}
+use Rattle.std.specs.Prelude.{ℕ, ◌≡◌, ◌⊎◌, ◌+◌, ◌≤◌, ◌<◌, List, [], ◌∷◌, length, take, drop, Result}
+use Rattle.std.specs.Prelude.{Ok, Err}
 use Rattle.rinex_text.specs.declared.lines.Line.{Line}
 use Rattle.rinex_text.specs.declared.lines.Lines.{Lines}
 use Rattle.rinex_text.specs.declared.body.Body.{Body}
@@ -41,7 +42,8 @@ abbrev pub body_behind : Body → Behind
 body_behind body = record { number = body.lines.number; lines = body_left body }
 
 -- the next line was read, and gave this
-pub record Takes {V : Type 0} (line : TextLine → Result V Fault → Type 0) (old : Body) (v : V) (new : Body) : Type 0 where
+pub record Takes {V : Type 0} (line : TextLine → Result V Fault → Type 0)
+    (old : Body) (v : V) (new : Body) : Type 0 where
   pub taken : TextLine
   pub lines : body_left old ≡ taken ∷ body_left new
   pub number : new.lines.number ≡ old.lines.number + 1
@@ -49,8 +51,11 @@ pub record Takes {V : Type 0} (line : TextLine → Result V Fault → Type 0) (o
   pub less : new.left < old.left
 
 -- the next line is missing, or has this first fault
-pub record Fails {V : Type 0} (line : TextLine → Result V Fault → Type 0) (old : Body) (e : Refusal) : Type 0 where
-  pub fails : ((body_left old ≡ []) × (e ≡ refusal Truncated old.lines.number)) ⊎ ((taken : TextLine) × (more : List TextLine) × (f : Fault) × (body_left old ≡ taken ∷ more) × line taken (Err f) × (e ≡ refusal f old.lines.number))
+pub record Fails {V : Type 0} (line : TextLine → Result V Fault → Type 0)
+    (old : Body) (e : Refusal) : Type 0 where
+  pub fails : ((body_left old ≡ []) × (e ≡ refusal Truncated old.lines.number))
+      ⊎ ((taken : TextLine) × (more : List TextLine) × (f : Fault) × (body_left old ≡ taken ∷ more)
+      × line taken (Err f) × (e ≡ refusal f old.lines.number))
 
 -- so many lines were taken
 pub record Leaves (old : Body) (taken : ℕ) (new : Body) : Type 0 where

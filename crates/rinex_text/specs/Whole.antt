@@ -15,8 +15,8 @@ OneForOne Belong [] (y ∷ ys) = ⊥
 OneForOne Belong (x ∷ xs) [] = ⊥
 OneForOne Belong (x ∷ xs) (y ∷ ys) = Belong x y × OneForOne Belong xs ys
 
--- A file is its version line, the header's lines, the first line that ends the header, and those behind
--- it. Up to that line none is longer than it may be.
+-- A file is its version line, the header's lines, the first line that ends the header, and those
+-- behind it. Up to that line none is longer than it may be.
 pub record IsParted (lines header behind : List TextLine) : Type 0 where
   pub version : TextLine
   pub end : TextLine

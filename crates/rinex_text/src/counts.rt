@@ -12,7 +12,8 @@ use exact_decimal::read_count;
 pub fn two_digits(text: &[u8], first: u16) -> Option<u8>
     requires { first ≤ 4000 }
     ensures number { IfSome result (IsCount (columns_of text.now first (first + 1))) }
-    ensures none { IfNone result ((number : ℕ) → IsCount (columns_of text.now first (first + 1)) number → ⊥) }
+    ensures none { IfNone result ((number : ℕ) →
+        IsCount (columns_of text.now first (first + 1)) number → ⊥) }
     ensures bound { IfSome result (λ number. number ≤ 99) }
 {
     match read_count(columns(text, first, first + 1)) {
@@ -25,7 +26,8 @@ pub fn two_digits(text: &[u8], first: u16) -> Option<u8>
 pub fn three_digits(text: &[u8], first: u16) -> Option<u16>
     requires { first ≤ 4000 }
     ensures number { IfSome result (IsCount (columns_of text.now first (first + 2))) }
-    ensures none { IfNone result ((number : ℕ) → IsCount (columns_of text.now first (first + 2)) number → ⊥) }
+    ensures none { IfNone result ((number : ℕ) →
+        IsCount (columns_of text.now first (first + 2)) number → ⊥) }
     ensures bound { IfSome result (λ number. number ≤ 999) }
 {
     match read_count(columns(text, first, first + 2)) {
@@ -38,7 +40,8 @@ pub fn three_digits(text: &[u8], first: u16) -> Option<u16>
 pub fn four_digits(text: &[u8], first: u16) -> Option<u16>
     requires { first ≤ 4000 }
     ensures number { IfSome result (IsCount (columns_of text.now first (first + 3))) }
-    ensures none { IfNone result ((number : ℕ) → IsCount (columns_of text.now first (first + 3)) number → ⊥) }
+    ensures none { IfNone result ((number : ℕ) →
+        IsCount (columns_of text.now first (first + 3)) number → ⊥) }
     ensures bound { IfSome result (λ number. number ≤ 9999) }
 {
     match read_count(columns(text, first, first + 3)) {

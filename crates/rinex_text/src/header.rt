@@ -2,7 +2,8 @@
 
 ghost use Rattle.std.specs.Prelude.{◌≡◌, ◌≤◌, ◌↔◌, IsTrue, length};
 ghost use Rattle.rinex_text.specs.Lines.{lines_of};
-ghost use Rattle.rinex_text.specs.Headers.{IsVersion, IsSystemOf, IsShort, version_line_of, version_of, version_by, header_from};
+ghost use Rattle.rinex_text.specs.Headers.{IsVersion, IsSystemOf, IsShort, version_line_of};
+ghost use Rattle.rinex_text.specs.Headers.{version_of, version_by, header_from};
 ghost use Rattle.rinex_text.specs.Reading.{plain_line, lines_left, left_of};
 
 use crate::fault::{Fault, Refusal};
@@ -28,8 +29,8 @@ fn is_version(field: &[u8]) -> bool
     to_unit_between(number, Unit::Ratio, FIRST_VERSION, LAST_VERSION).is_some()
 }
 
-/// Whether the letter stands for GPS or for mixed files, or is blank; where both systems are read it
-/// may stand for Galileo.
+/// Whether the letter stands for GPS or for mixed files, or is blank; where both systems are read
+/// it may stand for Galileo.
 fn is_system(letter: u8, both: bool) -> bool
     ensures { IsTrue result ↔ IsSystemOf both letter }
 {
@@ -65,8 +66,8 @@ fn version_line(line: Line<'_>, kind: u8, both: bool) -> Result<(), Fault>
     Ok(())
 }
 
-/// The lines behind the version line of a file of this kind, `b'N'` or `b'O'`, of which the satellites
-/// of GPS are read, or those of `both` systems.
+/// The lines behind the version line of a file of this kind, `b'N'` or `b'O'`, of which the
+/// satellites of GPS are read, or those of `both` systems.
 pub fn behind_version_of(bytes: &[u8], kind: u8, both: bool) -> Result<Lines<'_>, Refusal>
     requires { length bytes.now ≤ 4000000000 }
     ensures { version_by both kind (lines_of bytes.now) (left_of result) }

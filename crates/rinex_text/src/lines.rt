@@ -71,7 +71,8 @@ impl<'a> Lines<'a> {
 
     /// The next line and the lines behind it, none at the end.
     pub fn split_first(self) -> Option<(Line<'a>, Lines<'a>)>
-        ensures line { IfSome result (λ t. lines_left self.entry ≡ plain_line t.0 ∷ lines_left t.1) }
+        ensures line { IfSome result (λ t. lines_left self.entry ≡ plain_line t.0
+            ∷ lines_left t.1) }
         ensures number { IfSome result (λ t. t.1.number ≡ self.entry.number + 1) }
         ensures shorter { IfSome result (λ t. length t.1.rest.now < length self.entry.rest.now) }
         ensures end { IfNone result (lines_left self.entry ≡ []) }

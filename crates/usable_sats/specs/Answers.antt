@@ -10,9 +10,11 @@ use Rattle.gnss_model.specs.declared.elements.Elements.{Elements}
 use Rattle.gnss_model.specs.declared.satellites.Signal.{Signal}
 use Rattle.gnss_model.specs.declared.systems.System.{System}
 use Rattle.usable_sats.specs.Measured.{codes_of}
-use Rattle.usable_sats.specs.Usability.{Sighting, AreThere, HaveValue, ArePlausible, IsItsRecord, IsHealthy, IsFresh, IsFit, IsNearest}
+use Rattle.usable_sats.specs.Usability.{Sighting, AreThere, HaveValue, ArePlausible, IsItsRecord}
+use Rattle.usable_sats.specs.Usability.{IsHealthy, IsFresh, IsFit, IsNearest}
 use Rattle.usable_sats.specs.declared.choice.Choice.{Choice}
-use Rattle.usable_sats.specs.declared.choice.Choice.TheVariants.{NoRecord, Unhealthy, Old, Unfit, Fit}
+use Rattle.usable_sats.specs.declared.choice.Choice.TheVariants.{NoRecord, Unhealthy, Old, Unfit}
+use Rattle.usable_sats.specs.declared.choice.Choice.TheVariants.{Fit}
 use Rattle.usable_sats.specs.declared.codes.Reading.{Reading}
 use Rattle.usable_sats.specs.declared.codes.Reading.TheVariants.{Missing, OutOfRange, Within}
 
@@ -20,7 +22,8 @@ use Rattle.usable_sats.specs.declared.codes.Reading.TheVariants.{Missing, OutOfR
 abbrev pub IsReading : System → Signal → SatObs → Reading → Type 0
 IsReading system signal seen Missing = AreThere signal seen → ⊥
 IsReading system signal seen OutOfRange =
-    AreThere signal seen × ((codes : Codes) → HaveValue signal seen codes → ArePlausible system codes → ⊥)
+    AreThere signal seen
+    × ((codes : Codes) → HaveValue signal seen codes → ArePlausible system codes → ⊥)
 IsReading system signal seen (Within measured) =
     HaveValue signal seen (codes_of measured) × ArePlausible system (codes_of measured)
 

@@ -1,6 +1,8 @@
--- Which satellites of an epoch are used, and by which record: seven tests in their order, six of the
--- satellite itself and one of the search box. The choice is made from the whole list of records.
-use Rattle.std.specs.Prelude.{ℕ, ◌*◌, ◌^◌, ◌≤◌, ◌≡◌, ◌⊎◌, ℤ, pos, ◌-ℤ◌, ◌*ℤ◌, ◌≤ℤ◌, true, List, Option, None, Some, slice_get, nat_eq, if◌then◌else◌}
+-- Which satellites of an epoch are used, and by which record: seven tests in their order, six of
+-- the satellite itself and one of the search box. The choice is made from the whole list of
+-- records.
+use Rattle.std.specs.Prelude.{ℕ, ◌*◌, ◌^◌, ◌≤◌, ◌≡◌, ◌⊎◌, ℤ, pos, ◌-ℤ◌, ◌*ℤ◌, ◌≤ℤ◌, true, List}
+use Rattle.std.specs.Prelude.{Option, None, Some, slice_get, nat_eq, if◌then◌else◌}
 use Rattle.error_bounds.specs.declared.settings.Settings.{Settings}
 use Rattle.exact_decimal.specs.declared.decimal.Decimal.{Decimal}
 use Rattle.exact_decimal.specs.declared.unit.Unit.TheVariants.{Length}
@@ -35,7 +37,8 @@ pub record Sighting : Type 0 where
   pub seen : SatObs
 
 -- The system as which a satellite is used, and its wanted codes. By the codes of GPS alone every
--- satellite is one of GPS; where there are codes of Galileo too, `E` is the letter of its satellites.
+-- satellite is one of GPS; where there are codes of Galileo too, `E` is the letter of its
+-- satellites.
 abbrev pub use_of : Signal → Option Signal → Sat → System × Signal
 use_of gps None sat = (Gps, gps)
 use_of gps (Some galileo) sat = if nat_eq sat.system 69 then (Galileo, galileo) else (Gps, gps)
@@ -87,8 +90,10 @@ pub record IsPlausible (lo hi : ℤ) (scale : ℕ) : Type 0 where
 -- times the difference of the squares of their frequencies
 abbrev pub IsCombinationPlausible : System → Wide → Wide → Type 0
 IsCombinationPlausible system first second =
-    IsPlausible ((pos (first_square system) *ℤ first.lo) -ℤ (pos (second_square system) *ℤ second.hi))
-    ((pos (first_square system) *ℤ first.hi) -ℤ (pos (second_square system) *ℤ second.lo)) (squares_apart system)
+    IsPlausible ((pos (first_square system) *ℤ first.lo)
+    -ℤ (pos (second_square system) *ℤ second.hi))
+    ((pos (first_square system) *ℤ first.hi) -ℤ (pos (second_square system) *ℤ second.lo))
+    (squares_apart system)
 
 abbrev pub ArePlausibleWith : System → Wide → Option Wide → Type 0
 ArePlausibleWith system first None = IsPlausible first.lo first.hi 1

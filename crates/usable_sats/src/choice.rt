@@ -96,7 +96,8 @@ fn with_record(
     requires { one.now.sat ≡ seen.now.sat }
     ensures { (galileo : Option Signal) → (records : List NavRecord)
         → IsChoice (sighting_by galileo records settings.now epoch.now.tag seen.now) so_far
-        → IsChoice (sighting_by galileo (records ++ one.now ∷ []) settings.now epoch.now.tag seen.now) result }
+        → IsChoice (sighting_by galileo (records ++ one.now ∷ [])
+        settings.now epoch.now.tag seen.now) result }
 {
     let later = alone(one, epoch, settings);
     if so_far.is_better(&later) {
@@ -108,7 +109,8 @@ fn with_record(
 
 /// What the records give of the satellite: one pass over those that are its own.
 pub(crate) fn choose(seen: &SatObs, epoch: &ObsEpoch, nav: &Nav, settings: &Settings) -> Choice
-    ensures { (galileo : Option Signal) → IsChoice (sighting_by galileo nav.now settings.now epoch.now.tag seen.now) result }
+    ensures { (galileo : Option Signal) →
+        IsChoice (sighting_by galileo nav.now settings.now epoch.now.tag seen.now) result }
 {
     let mut choice = Choice::NoRecord;
     for place in nav.places(seen.sat) {

@@ -8,7 +8,8 @@ ghost use Rattle.gnss_model.specs.declared.satellites.Signal.TheVariants.{Single
 ghost use Rattle.grid_model.specs.declared.spans.Wide.{Wide};
 ghost use Rattle.gnss_model.specs.declared.systems.System.{System};
 ghost use Rattle.usable_sats.specs.Answers.{IsReading};
-ghost use Rattle.usable_sats.specs.Usability.{IsPlausible, IsCombinationPlausible, least_range, greatest_range};
+ghost use Rattle.usable_sats.specs.Usability.{IsPlausible, IsCombinationPlausible, least_range};
+ghost use Rattle.usable_sats.specs.Usability.{greatest_range};
 
 use exact_decimal::{Decimal, Unit, to_unit_between};
 use gnss_model::{Signal, System};

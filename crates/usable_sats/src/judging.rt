@@ -74,7 +74,8 @@ fn judge_itself(
     settings: &Settings,
     galileo: &Option<Signal>,
 ) -> Judgement
-    ensures { IsOwnJudgement (sighting_by galileo.now nav.now settings.now epoch.now.tag seen.now) result }
+    ensures { IsOwnJudgement (sighting_by galileo.now nav.now settings.now epoch.now.tag seen.now)
+        result }
 {
     let codes = match wanted_codes(seen, settings, galileo) {
         Reading::Missing => return skipped(CODE_MISSING),
@@ -93,7 +94,8 @@ fn judge_itself(
     }
 }
 
-/// Whether a bound that the settings map by elevation can be mapped at all points of the search box.
+/// Whether a bound that the settings map by elevation can be mapped at all points of the search
+/// box.
 fn is_high(settings: &Settings, root: &Box3) -> bool
     ensures { IsTrue result ↔ IsHigh settings.now.zenith (grid_box root.now) }
 {

@@ -1,5 +1,6 @@
 //! Which satellites of an epoch are usable, what such a satellite is known by, and by which record
-//! of the navigation file: seven tests in their order, and the choice from the whole list of records.
+//! of the navigation file: seven tests in their order, and the choice from the whole list of
+//! records.
 #![tactic(auto)]
 
 mod choice;

@@ -1,7 +1,7 @@
 use Rattle.std.proofs.Common.{arith}
 use Rattle.std.proofs.lemmas.Int.{ints}
 use Rattle.error_bounds.proofs.FormLemmas.{same_pair}
-use Rattle.error_bounds.proofs.tables.sum.Goals as goal
+use Rattle.error_bounds.proofs.bounds.sum.Goals as goal
 
 pub returns-clause-within : goal.returns-clause-within
 returns-clause-within c = λ n h. record {

@@ -1,0 +1,19 @@
+//! What is declared for Galileo satellites.
+
+ghost use Rattle.std.specs.Prelude.{◌≡◌, true};
+ghost use Rattle.error_bounds.specs.Sizes.{IsDeclared, are_codes_on};
+
+use gnss_model::Signal;
+use grid_model::Span;
+
+/// What the table `galileo` gives.
+#[derive(Clone, Copy, Debug, PartialEq, Eq)]
+pub struct Galileo {
+    /// The codes on E1 and E5a.
+    pub signal: Signal,
+    /// The speed of light times the declared difference of the two system times: within 1 km. It is
+    /// added to the bounds of each Galileo satellite.
+    pub offset: Span,
+    pub ghost codes: { are_codes_on 53 signal ≡ true },
+    pub ghost offset_within: { IsDeclared offset },
+}
