@@ -1,10 +1,11 @@
-//! The equations in which the chains of Galileo and of GPS differ: the mean motion, the relativistic correction of
-//! the clock, and the ionosphere-free pseudorange.
+//! The equations in which the chains of Galileo and of GPS differ: the mean motion, the
+//! relativistic correction of the clock, and the ionosphere-free pseudorange.
 
 ghost use Rattle.std.specs.Prelude.{false, Some, ◌*◌, ◌^◌, ℤ, pos, ◌+ℤ◌, ◌-ℤ◌, ◌≤ℤ◌};
 ghost use Rattle.fix_interval.specs.Factors.{Holds};
 ghost use Rattle.pseudorange_prep.specs.Ranges.{IsCode, IsNarrow};
-ghost use Rattle.sat_clock.specs.ClockSizes.{IsNearEphemeris, correction_size, motion_size, motion_width, sent_reach};
+ghost use Rattle.sat_clock.specs.ClockSizes.{IsNearEphemeris, correction_size, motion_size};
+ghost use Rattle.sat_clock.specs.ClockSizes.{motion_width, sent_reach};
 ghost use Rattle.gnss_model.specs.ClockChain.{ClockChainOf};
 ghost use Rattle.grid_model.specs.Intervals.{Between};
 ghost use Rattle.gnss_model.specs.MeanMotion.{MeanMotionOf};
@@ -34,7 +35,9 @@ pub fn gal_motion(el: &Elements) -> Exact
 /// group delay is taken off.
 pub fn gal_correction(el: &Elements, tsv: Exact) -> Clock
     requires near { IsNearEphemeris el.now tsv.lo tsv.hi }
-    ensures holds { (n x dt t : ℤ) → MeanMotionOf Galileo el.now n → Between tsv.lo tsv.hi x → ClockChainOf Galileo el.now false n x dt t → Between result.dt.lo result.dt.hi dt × Between result.t.lo result.t.hi t }
+    ensures holds { (n x dt t : ℤ) → MeanMotionOf Galileo el.now n → Between tsv.lo tsv.hi x →
+        ClockChainOf Galileo el.now false n x dt t → Between result.dt.lo result.dt.hi dt
+        × Between result.t.lo result.t.hi t }
 
     // Within 0.05 s.
     ensures low_size { IsWithin correction_size result.dt.lo }
@@ -55,8 +58,10 @@ pub fn gal_correction(el: &Elements, tsv: Exact) -> Clock
 pub fn gal_dual(p1: Wide, p5: Wide) -> Exact
     requires first_code { IsCode p1.lo p1.hi }
     requires second_code { IsCode p5.lo p5.hi }
-    ensures holds { (x : ℤ) → IsRangeOf Galileo (record { first = p1; second = Some p5 }) x → Holds result x }
-    ensures width { IsNarrow 1 p1.lo p1.hi → IsNarrow 1 p5.lo p5.hi → IsNarrow 8 result.lo result.hi }
+    ensures holds { (x : ℤ) → IsRangeOf Galileo (record { first = p1; second = Some p5 }) x →
+        Holds result x }
+    ensures width { IsNarrow 1 p1.lo p1.hi → IsNarrow 1 p5.lo p5.hi →
+        IsNarrow 8 result.lo result.hi }
     ensures low_size { IsWithin (2 * 10 ^ 14) result.lo }
     ensures high_size { IsWithin (2 * 10 ^ 14) result.hi }
 {

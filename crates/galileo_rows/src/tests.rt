@@ -53,8 +53,8 @@ fn holds(x: Exact, n: i128) -> bool {
 
 #[test]
 fn mean_motion_of_galileo(rt: HostRuntime) {
-    // The whole-number root of mu * 10^116 / S^6 by Python's `isqrt`, and the correction. By the mu of GPS it
-    // is 1239734045735644270, which isn't held.
+    // The whole-number root of mu * 10^116 / S^6 by Python's `isqrt`, and the correction. By the mu
+    // of GPS it is 1239734045735644270, which isn't held.
     let held = gal_motion(&usual());
     assert!(rt; holds(held, 1_239_733_955_228_326_673 + 45_000_000_000_000));
     assert!(rt; !holds(held, 1_239_734_045_735_644_270 + 45_000_000_000_000));

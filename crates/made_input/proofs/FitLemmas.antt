@@ -8,7 +8,7 @@ use Rattle.std.proofs.Math.Dec.{T_prop}
 use mathlib.Core.HLevel.{is_prop→PathP}
 use Rattle.error_bounds.specs.Reading.{bound_for, value_of_settings}
 use Rattle.error_bounds.specs.declared.settings.Settings.{Settings}
-use Rattle.error_bounds.specs.Texts.{SettingsValue, gps}
+use Rattle.error_bounds.specs.Texts.{SettingsValue}
 use Rattle.exact_decimal.specs.Units.{numerator, denominator}
 use Rattle.exact_decimal.specs.declared.decimal.Decimal.{Decimal}
 use Rattle.exact_decimal.specs.declared.unit.Unit.TheVariants.{Length, Time}
@@ -193,6 +193,9 @@ is_measured seed j k records s known =
       values = (record { digits = s.code; ten = neg_ℤ (pos 3) }, observed_some s.code (omega (arith, ints, range.from)), rounded s.code, refl);
       plausible = record { from = omega (arith, ints, range.from); to = omega (arith, ints, range.to) };
     }
+
+abbrev gps : ℕ → Sat
+gps number = record { system = 71; number = number }
 
 is_fit : (seed j k : ℕ) (records : List NavRecord) (s : SatCode) (known : IsKnown seed j k records s) → IsFit (sighting_of records j s) (k - 1) (its_record seed j k records s known).0 (age_of j)
 unfolding sighting_of age_of

@@ -1,5 +1,6 @@
 -- The place of a made receiver, and the codes that it measures.
-use Rattle.std.specs.Prelude.{ℕ, ◌+◌, ◌*◌, ◌/◌, ◌%◌, ◌^◌, ◌≡◌, ◌==◌, ℤ, pos, neg_ℤ, ◌+ℤ◌, ◌-ℤ◌, ◌*ℤ◌, ◌≤ℤ◌, List, [], ◌∷◌, length, if◌then◌else◌}
+use Rattle.std.specs.Prelude.{ℕ, ◌+◌, ◌*◌, ◌/◌, ◌%◌, ◌^◌, ◌≡◌, ◌==◌, ℤ, pos, neg_ℤ, ◌+ℤ◌, ◌-ℤ◌}
+use Rattle.std.specs.Prelude.{◌*ℤ◌, ◌≤ℤ◌, List, [], ◌∷◌, length, if◌then◌else◌}
 use Rattle.rinex_nav.specs.ElementsOf.{AreElements}
 use Rattle.rinex_nav.specs.Reading.{plain_record}
 use Rattle.rinex_nav.specs.Records.{Broadcast}

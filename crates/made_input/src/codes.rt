@@ -2,7 +2,8 @@
 
 ghost use Rattle.std.specs.Prelude.{◌≡◌, ◌≤◌, ◌<◌, ◌+◌, ◌*◌, ◌%◌, IfOk, length};
 ghost use Rattle.made_input.specs.Generator.{drawn};
-ghost use Rattle.made_input.specs.MadeCodes.{AreElementsOf, AreMadeSats, IsMadeCode, goal_by, tag_of};
+ghost use Rattle.made_input.specs.MadeCodes.{AreElementsOf, AreMadeSats, IsMadeCode, goal_by};
+ghost use Rattle.made_input.specs.MadeCodes.{tag_of};
 ghost use Rattle.made_input.specs.MadeRecords.{made_broadcast, mean_draw};
 
 use crate::generator::Generator;

@@ -3,7 +3,8 @@
 ghost use Rattle.std.specs.Prelude.{◌≡◌, ◌≤◌, ◌<◌, ◌+◌, ◌*◌, ◌^◌};
 ghost use Rattle.made_texts.specs.Fields.{number_of};
 ghost use Rattle.made_texts.specs.NavText.{broadcast_of, IsNamed};
-ghost use Rattle.made_input.specs.MadeRecords.{plain_number, thousandths, made_broadcast, IsWellWritten, AreWellWritten};
+ghost use Rattle.made_input.specs.MadeRecords.{plain_number, thousandths, made_broadcast};
+ghost use Rattle.made_input.specs.MadeRecords.{IsWellWritten, AreWellWritten};
 
 use made_texts::{Ephemeris, FieldNumber, ZERO};
 

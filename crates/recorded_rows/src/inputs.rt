@@ -13,7 +13,8 @@ use std::alloc::Global;
 /// A file may have so many bytes.
 const LIMIT: u64 = 268_435_456;
 
-/// A receiver's observations, the satellites' records, the settings, and the rows of another program.
+/// A receiver's observations, the satellites' records, the settings, and the rows of another
+/// program.
 #[derive(Drop)]
 pub struct Inputs {
     pub obs: Obs,

@@ -1,9 +1,9 @@
-//! Compares the rows of recorded satellites with rows of the same epochs that an independent program
-//! formed and widened: `recorded_rows OBS NAV SETTINGS ROWS`.
+//! Compares the rows of recorded satellites with rows of the same epochs that an independent
+//! program formed and widened: `recorded_rows OBS NAV SETTINGS ROWS`.
 //!
-//! Prints how many satellites were compared and how many of them differ: by another satellite or skip,
-//! a span that theirs doesn't hold, other error bounds, or a span wider than is allowed. Standard error
-//! gets the width of the widest span beside the allowed one, in um.
+//! Prints how many satellites were compared and how many of them differ: by another satellite or
+//! skip, a span that theirs doesn't hold, other error bounds, or a span wider than is allowed.
+//! Standard error gets the width of the widest span beside the allowed one, in um.
 #![tactic(auto)]
 
 mod compare;

@@ -1,11 +1,12 @@
 -- What a usable satellite's row is made of, and the lines of an epoch.
 use Rattle.std.proofs.Common.{◌≡◌, ℕ, ◌+◌, ◌*◌, ◌^◌, ◌≤◌, arith, refl, sym, ap, subst, ◌∙◌, List, [], ◌∷◌, ◌++◌, length, cond, true, false, drop, get_or, add-one, drop-cons, drop_of_length-le, append_assoc, append-nil, ◌<◌}
-use Rattle.std.specs.Prelude.{ℤ, Option, pos, ◌+ℤ◌, ◌-ℤ◌, ◌≤ℤ◌, ◌<ℤ◌, unsigned_abs}
+use Rattle.std.specs.Prelude.{ℤ, Option, None, Some, option_map, ◌==◌, pos, ◌+ℤ◌, ◌-ℤ◌, ◌≤ℤ◌, ◌<ℤ◌, unsigned_abs}
 use Rattle.std.specs.List.{AllByRecursion}
 use Rattle.std.proofs.lemmas.Int.{ints}
 use Rattle.std.proofs.lemmas.List.Elements.{recursion_from_All}
+use Rattle.error_bounds.specs.declared.galileo.Galileo.{Galileo}
 use Rattle.error_bounds.specs.declared.settings.Settings.{Settings}
-use Rattle.error_bounds.specs.Reading.{with_ends, is_sat, extra_for, bound_for, value_of_settings}
+use Rattle.error_bounds.specs.Reading.{with_ends, is_sat, extra_for, galileo_value, offset_for, bound_for, value_of_settings}
 use Rattle.error_bounds.specs.Sizes.{IsDeclared}
 use Rattle.rinex_nav.proofs.WeekLemmas.{time_only}
 use Rattle.rinex_nav.specs.ElementsOf.{IsRounded, AreElements}
@@ -121,18 +122,29 @@ extra_small sat (e ∷ more) f =
       | false ↦ extra_small sat more f.1
     ]
 
-within_sum : (sum a b : ℤ) → sum ≡ a +ℤ b → IsWithin 4000000000 a → IsWithin 1000000000 b → IsWithin (5 * 10 ^ 9) sum
-within_sum sum a b e f g =
-    let bounds : IsWithin 5000000000 sum = record { low = omega (arith, ints, e, f.low, g.low); high = omega (arith, ints, e, f.high, g.high) } in
+offset_small : (sat : Sat) (galileo : Option Galileo) → IsWithin 1000000000 (offset_for sat (option_map galileo_value galileo)).0 × IsWithin 1000000000 (offset_for sat (option_map galileo_value galileo)).1
+offset_small sat None = (record { low = omega (arith, ints); high = omega (arith, ints) }, record { low = omega (arith, ints); high = omega (arith, ints) })
+offset_small sat (Some g) =
+    elim (sat.system == 69) as (λ b. IsWithin 1000000000 (cond b (ends g.offset) (pos 0, pos 0)).0 × IsWithin 1000000000 (cond b (ends g.offset) (pos 0, pos 0)).1) [
+      | true ↦ (g.offset_within.lo, g.offset_within.hi)
+      | false ↦ (record { low = omega (arith, ints); high = omega (arith, ints) }, record { low = omega (arith, ints); high = omega (arith, ints) })
+    ]
+
+within_sum : (sum a b c : ℤ) → sum ≡ (a +ℤ b) +ℤ c → IsWithin 4000000000 a → IsWithin 1000000000 b → IsWithin 1000000000 c → IsWithin (6 * 10 ^ 9) sum
+within_sum sum a b c e f g h =
+    let bounds : IsWithin 6000000000 sum = record { low = omega (arith, ints, e, f.low, g.low, h.low); high = omega (arith, ints, e, f.high, g.high, h.high) } in
     bounds
 
-pub error_small : (settings : Settings) (sat : Sat) (err : Span) → ends err ≡ bound_for sat (value_of_settings settings) → IsSmall (5 * 10 ^ 9) err
+pub error_small : (settings : Settings) (sat : Sat) (err : Span) → ends err ≡ bound_for sat (value_of_settings settings) → IsSmall (6 * 10 ^ 9) err
 error_small settings sat err e =
-    let low : err.lo ≡ settings.common.lo +ℤ (extra_for sat (with_ends settings.extra.items)).0 = ap (λ (p : ℤ × ℤ). p.0) e in
-    let high : err.hi ≡ settings.common.hi +ℤ (extra_for sat (with_ends settings.extra.items)).1 = ap (λ (p : ℤ × ℤ). p.1) e in
+    let own = extra_for sat (with_ends settings.extra.items) in
+    let shift = offset_for sat (option_map galileo_value settings.galileo) in
+    let low : err.lo ≡ (settings.common.lo +ℤ own.0) +ℤ shift.0 = ap (λ (p : ℤ × ℤ). p.0) e in
+    let high : err.hi ≡ (settings.common.hi +ℤ own.1) +ℤ shift.1 = ap (λ (p : ℤ × ℤ). p.1) e in
+    let offset = offset_small sat settings.galileo in
     let extra = extra_small sat settings.extra.items (recursion_from_All _ settings.extra.items settings.extra_within) in
     let common = settings.common_within in
-    (record { lo = within_sum err.lo _ _ low common.lo extra.0; hi = within_sum err.hi _ _ high common.hi extra.1 })
+    (record { lo = within_sum err.lo _ _ _ low common.lo extra.0 offset.0; hi = within_sum err.hi _ _ _ high common.hi extra.1 offset.1 })
 
 -- ---- the lines of an epoch
 

@@ -21,7 +21,8 @@ pub record Chain : Type 0 where
 
 -- what a usable satellite is known by
 abbrev pub observed : (a : Sighting) → IsUsable a → Observed
-observed a usable = record { system = a.system; tag = a.tag; codes = usable.measured.codes; el = usable.el }
+observed a usable =
+    record { system = a.system; tag = a.tag; codes = usable.measured.codes; el = usable.el }
 
 -- the equations allow these values of what was observed, as seen from p
 abbrev pub IsChainOf : Observed → Pos → Chain → Type 0

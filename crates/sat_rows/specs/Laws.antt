@@ -1,14 +1,14 @@
 -- Satellites are judged in one way, something is allowed of each that is usable, and its range
 -- is that to its place.
 use Rattle.std.specs.Prelude.{List, Option, None}
-use Rattle.error_bounds.specs.Reading.{bound_for, value_of_settings}
+use Rattle.error_bounds.specs.Reading.{signal_of, bound_for, value_of_settings}
 use Rattle.error_bounds.specs.declared.settings.Settings.{Settings}
 use Rattle.rinex_nav.specs.declared.record.NavRecord.{NavRecord}
 use Rattle.gnss_model.specs.declared.satellites.Signal.{Signal}
 use Rattle.sat_rows.specs.ChainLemmas.{chain_exists}
 use Rattle.sat_rows.specs.Chains.{observed}
 use Rattle.sat_rows.specs.Meanings.{IsSound}
-use Rattle.sat_rows.specs.Sources.{meaning_by, gps_meaning}
+use Rattle.sat_rows.specs.Sources.{meaning_by, both_meaning, gps_meaning}
 use Rattle.usable_sats.specs.Usability.{sighting_by}
 use Rattle.usable_sats.proofs.JudgementLemmas.{judgement_one}
 
@@ -18,12 +18,18 @@ source_sound galileo records settings = record {
   one_judgement = λ root tag seen. judgement_one
       (sighting_by galileo records settings tag seen) settings.zenith root;
   allowed_exists = λ root tag seen p box inside judged.
-      let chain = chain_exists (observed (sighting_by galileo records settings tag seen) judged.0) p settings.zenith
+      let chain = chain_exists (observed (sighting_by galileo records settings tag seen) judged.0) p
+      settings.zenith
       (bound_for seen.sat (value_of_settings settings)) root box inside judged.1 in
       (chain.0, record { usable = judged.0; are = chain.1 });
   range_is = λ tag seen p c chain. chain.are.0.turn.range_is;
   zenith_within = settings.zenith_within;
 }
+
+pub both_sound : (records : List NavRecord) (settings : Settings)
+    → IsSound (both_meaning records settings)
+both_sound records settings =
+    source_sound (signal_of (value_of_settings settings).galileo) records settings
 
 pub gps_sound : (records : List NavRecord) (settings : Settings)
     → IsSound (gps_meaning records settings)

@@ -22,8 +22,8 @@ pub record Meaning : Type 1 where
   pub zenith : Option Span
 
 -- A satellite is judged in one way, something is allowed of a usable one at each point of a search
--- box, the range of what is allowed is that from the point to the place, and the delay at the zenith
--- is within 10 m.
+-- box, the range of what is allowed is that from the point to the place, and the delay at the
+-- zenith is within 10 m.
 pub record IsSound (m : Meaning) : Type 0 where
   pub one_judgement : (root : GridBox) (tag : ℤ) (seen : SatObs) (a b : Option Skip)
       → m.judged root tag seen a → m.judged root tag seen b → a ≡ b

@@ -1,5 +1,6 @@
 -- Rows that hold what a source allows of the usable satellites.
-use Rattle.std.specs.Prelude.{ℕ, ◌+◌, ◌*◌, ◌^◌, ◌≡◌, ℤ, pos, ◌-ℤ◌, ◌≤ℤ◌, true, List, [], ◌∷◌, Option, None, Some}
+use Rattle.std.specs.Prelude.{ℕ, ◌+◌, ◌*◌, ◌^◌, ◌≡◌, ℤ, pos, ◌-ℤ◌, ◌≤ℤ◌, true, List, [], ◌∷◌}
+use Rattle.std.specs.Prelude.{Option, None, Some}
 use Rattle.rinex_obs.specs.declared.obs.ObsEpoch.{ObsEpoch}
 use Rattle.rinex_obs.specs.declared.obs.SatObs.{SatObs}
 use Rattle.grid_model.specs.Boxes.{GridBox, box_holds}
@@ -51,9 +52,8 @@ pub record HasBounds (row : Row) (declared : ℤ × ℤ) : Type 0 where
 
 -- for what a source says of the satellites that were observed at a time, in a search box
 module _ (m : Meaning) (root : GridBox) (tag : ℤ) where
-  -- a row of a usable satellite: it holds what is allowed, each span is at most W wide, those of the
-  -- ends of the error are at most G wide, and these are the declared ones where no delay at the
-  -- zenith is mapped
+  -- The row of a usable satellite holds every value that is allowed over the box, within W, and
+  -- within G for the error bounds; without mapping these are the declared ones.
   pub record IsOwnRow (seen : SatObs) (row : Row) : Type 0 where
     pub holds : HoldsAllowed (m.allows tag seen) root row
     pub x : IsTight root row.x
@@ -65,7 +65,8 @@ module _ (m : Meaning) (root : GridBox) (tag : ℤ) where
 
   -- the line of a satellite: an own row where it is usable, else why it isn't
   abbrev pub IsOwnLine : SatObs → SatLine → Type 0
-  IsOwnLine seen (Usable row) = (row.sat ≡ seen.sat) × m.judged root tag seen None × IsOwnRow seen row
+  IsOwnLine seen (Usable row) =
+      (row.sat ≡ seen.sat) × m.judged root tag seen None × IsOwnRow seen row
   IsOwnLine seen (Skipped sat skip) = (sat ≡ seen.sat) × m.judged root tag seen (Some skip)
 
   -- one for each satellite, in order

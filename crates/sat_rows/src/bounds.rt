@@ -33,7 +33,7 @@ pub(crate) struct Bounds {
 
 /// The sums of a declared end and a delay.
 fn delayed(end: i64, delays: Exact) -> Span
-    requires end_size { IsWithin (5 * 10 ^ 9) end }
+    requires end_size { IsWithin (6 * 10 ^ 9) end }
     requires delays_size { HasAmount delay_amount delays }
     ensures low { result.lo ≡ end +ℤ delays.lo }
     ensures high { result.hi ≡ end +ℤ delays.hi }
@@ -49,7 +49,7 @@ fn delayed(end: i64, delays: Exact) -> Span
 fn mapped_bounds(declared: Span, zenith: Span, place: Place, root: &Box3) -> Bounds
     requires low_zenith { IsWithin (10 ^ 7) zenith.lo }
     requires high_zenith { IsWithin (10 ^ 7) zenith.hi }
-    requires small { IsSmall (5 * 10 ^ 9) declared }
+    requires small { IsSmall (6 * 10 ^ 9) declared }
     requires root { IsSearchBox (grid_box root.now) }
     requires high { IsHigh (Some zenith) (grid_box root.now) }
     requires far { IsFarFromPlace (5 * 10 ^ 12) place (grid_box root.now) }
@@ -85,7 +85,7 @@ fn one(n: i64) -> Span
 /// `sat_model` says, and without a delay at the zenith it is one declared end alone.
 pub(crate) fn bounds_over(declared: Span, zenith: Option<Span>, place: Place, root: &Box3) -> Bounds
     requires zenith { IsZenith zenith }
-    requires small { IsSmall (5 * 10 ^ 9) declared }
+    requires small { IsSmall (6 * 10 ^ 9) declared }
     requires root { IsSearchBox (grid_box root.now) }
     requires high { IsHigh zenith (grid_box root.now) }
     requires far { IsFarFromPlace (5 * 10 ^ 12) place (grid_box root.now) }

@@ -3,7 +3,8 @@
 ghost use Rattle.std.specs.Prelude.{◌≡◌, IfOk};
 ghost use Rattle.grid_model.specs.Boxes.{grid_box};
 ghost use Rattle.grid_model.specs.SearchBoxes.{IsSearchBox};
-ghost use Rattle.sat_rows.specs.OwnRows.{IsOwnLine, IsSmallLine, AreLinesOf, AreSmall, usable_in, usable_line};
+ghost use Rattle.sat_rows.specs.OwnRows.{IsOwnLine, IsSmallLine, AreLinesOf, AreSmall, usable_in};
+ghost use Rattle.sat_rows.specs.OwnRows.{usable_line};
 ghost use Rattle.sat_rows.specs.Sources.{gps_meaning, meaning_by};
 
 use crate::lines::{EpochRows, SatLine};
@@ -17,8 +18,8 @@ use std::alloc::Global;
 use usable_sats::{Judgement, judge_satellite, use_of};
 
 /// One line for each satellite of the epoch, in order: a row that holds whatever the equations
-/// allow of it at the points of the root, or why it isn't usable. The satellites of Galileo are used
-/// where its codes are given.
+/// allow of it at the points of the root, or why it isn't usable. The satellites of Galileo are
+/// used where its codes are given.
 pub fn rows_by(
     alloc: Global,
     epoch: &ObsEpoch,

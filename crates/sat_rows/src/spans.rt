@@ -10,7 +10,8 @@ ghost use Rattle.grid_model.specs.Sizes.{IsPlaceSize};
 ghost use Rattle.gnss_model.specs.Zenith.{IsZenith};
 ghost use Rattle.sat_rows.specs.Chains.{AreValues};
 ghost use Rattle.usable_sats.specs.Measured.{codes_of};
-ghost use Rattle.sat_rows.specs.OwnRows.{HoldsAllowed, HasBounds, AreBoundsTight, IsTight, IsSmall, IsSmallRow};
+ghost use Rattle.sat_rows.specs.OwnRows.{HoldsAllowed, HasBounds, AreBoundsTight, IsTight, IsSmall};
+ghost use Rattle.sat_rows.specs.OwnRows.{IsSmallRow};
 ghost use Rattle.sat_rows.specs.RowSizes.{AreNarrow, IsNearEpoch};
 ghost use Rattle.usable_sats.specs.Usability.{ArePlausible, IsHigh};
 
@@ -56,13 +57,14 @@ pub(crate) fn row_of(
     requires plausible { ArePlausible system (codes_of codes.now) }
     requires narrow { AreNarrow (codes_of codes.now) }
     requires near { IsNearEpoch el.now tag }
-    requires small { IsSmall (5 * 10 ^ 9) declared }
+    requires small { IsSmall (6 * 10 ^ 9) declared }
     requires zenith { IsZenith zenith }
     requires root { IsSearchBox (grid_box root.now) }
     requires high { IsHigh zenith (grid_box root.now) }
     ensures sat { result.sat ≡ sat }
     ensures holds { HoldsAllowed (AreValues zenith (ends declared)
-        (record { system = system; tag = tag; codes = codes_of codes.now; el = el.now })) (grid_box root.now) result }
+        (record { system = system; tag = tag; codes = codes_of codes.now; el = el.now }))
+        (grid_box root.now) result }
 
     // Each span is at most 2,000 um and a 40,000th of the longest side of the box wide.
     ensures x_tight { IsTight (grid_box root.now) result.x }
