@@ -1,6 +1,7 @@
 -- How the nodes of the block are linked into lists. No public clause cites it; the lists that a
 -- caller sees are what `lists_from` reads by following the links.
-use Rattle.std.specs.Prelude.{◌≡◌, ◌≢◌, ℕ, zero, suc, ◌+◌, ◌≤◌, List, [], ◌∷◌, length, sum, get_or, Option, Some, None}
+use Rattle.std.specs.Prelude.{◌≡◌, ◌≢◌, ℕ, zero, suc, ◌+◌, ◌≤◌, List, [], ◌∷◌, length, sum, get_or}
+use Rattle.std.specs.Prelude.{Option, Some, None}
 use Rattle.box_pool.specs.declared.item.Item.{Item}
 use Rattle.box_pool.specs.declared.item.Node.{Node}
 

@@ -1,6 +1,6 @@
 -- Cuts of a box: slabs at its faces in which no point fits are taken off before it is split. A face
--- may be moved to where a contractor proposes it (Chabert and Jaulin, 'Contractor programming', 2009),
--- or a slab is tried and refuted (Lhomme, 'Consistency techniques for numeric CSPs', 1993).
+-- may be moved to where a contractor proposes it (Chabert and Jaulin, 'Contractor programming',
+-- 2009), or a slab is tried and refuted (Lhomme, 'Consistency techniques for numeric CSPs', 1993).
 use Rattle.std.specs.Prelude.{◌≡◌, ◌≢◌, ℕ, ◌+◌, ◌/◌, ◌⊎◌, ℤ, pos, ◌+ℤ◌, ◌-ℤ◌, ◌≤ℤ◌}
 use Rattle.std.specs.Prelude.{List, [], ◌∷◌, ◌++◌, Option, None, Some, Bool, true, false}
 use Rattle.sat_model.specs.declared.steps.Step.TheVariants.{Cut}

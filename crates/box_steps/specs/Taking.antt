@@ -16,8 +16,8 @@ pub record TookCuts {L : Type 0} (took : L → Step → GridBox → L → Type 0
   pub taken : TookAll took first steps last
   pub counted : count ≡ length steps
 
--- the first ones of some steps were taken, and the next one broke: with this fault, which is that of
--- want of room exactly where the step's line is longer than the bytes that were left
+-- the first ones of some steps were taken, and the next one broke: with this fault, which is that
+-- of want of room exactly where the step's line is longer than the bytes that were left
 pub record BrokeOff {L : Type 0} (took broke : L → Step → GridBox → L → Type 0)
     (room : L → ℕ) (fault : StepFault) (Are : List ShownStep → Type 0)
     (first last : L) : Type 0 where

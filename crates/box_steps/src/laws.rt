@@ -22,8 +22,8 @@ pub fn box_steps_exist()
 {}
 
 /// The law: a box has at most 1,014 cuts, 6 by a proposal and 1,008 by eighths or more, and they
-/// leave a part of it. If the rows don't decide that part, no eighth at its faces is shown empty. The
-/// call does nothing.
+/// leave a part of it. If the rows don't decide that part, no eighth at its faces is shown empty.
+/// The call does nothing.
 pub fn cuts_leave_no_eighth()
     ensures few { (grain : ℤ) → (slack : ℤ) → (rows : List Row) → (rules : Rules) → (id : ℕ)
         → (part : Box3) → (cuts : List ShownStep) → (left : GridBox)

@@ -1,6 +1,6 @@
-//! The steps of one box of a paving: slabs at its faces in which no point fits are cut off, and what
-//! is left is split or closed. Where pairs of rows are asked, the slabs are eighths of the box or
-//! more. Else they are what a tree of contractors proposes, and then eighths.
+//! The steps of one box of a paving: slabs at its faces in which no point fits are cut off, and
+//! what is left is split or closed. Where pairs of rows are asked, the slabs are eighths of the box
+//! or more. Else they are what a tree of contractors proposes, and then eighths.
 #![tactic(auto)]
 
 mod closing;

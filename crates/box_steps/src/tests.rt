@@ -283,8 +283,8 @@ fn a_box_without_fitting_points_is_closed_at_once(rt: HostRuntime) -> Result<(),
     Ok(())
 }
 
-/// With errors of half a metre the satellites on y and z leave offsets up to 1.5 m, and so the others
-/// x up to 2 m: less than an eighth of the box would leave.
+/// With errors of half a metre the satellites on y and z leave offsets up to 1.5 m, and so the
+/// others x up to 2 m: less than an eighth of the box would leave.
 #[test]
 fn the_proposal_is_cut_to_first(rt: HostRuntime) -> Result<(), Fail> {
     let rows = [

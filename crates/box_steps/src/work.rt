@@ -34,11 +34,10 @@ pub struct Ended {
 
 /// Works on a box of a paving that is taken up after so many splits, and hands each step to the log
 /// with the slab that it cuts off or the box as it is then. The box is cut where the test shows
-/// slabs at its faces empty, and then it is split or closed. The tree is that of the rows: slabs are
-/// cut off up to what it proposes, and by eighths. Where the rules ask pairs of rows there is none, and
-/// slabs of an eighth or more are cut off. A fault is that of the step that wasn't taken. At most
-/// 1,800 cuts are made. What decided the tests before, of this box or another, changes no step, but
-/// how soon it comes.
+/// slabs at its faces empty, and then it is split or closed. The tree is that of the rows: slabs
+/// are cut off up to what it proposes, and by eighths. Where the rules ask pairs of rows there is
+/// none, and slabs of an eighth or more are cut off. A fault is that of the step that wasn't taken.
+/// At most 1,800 cuts are made. What the test remembers affects speed only.
 pub fn work_on<I: Interval, L: Steps>(
     test: &mut BoxTest,
     rules: &Rules,

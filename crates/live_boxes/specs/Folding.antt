@@ -16,7 +16,8 @@ IsDivisible axis part = (side_at axis part).lo <ℤ (side_at axis part).hi
 -- the step speaks of a live box; a cut takes something off it and leaves something, and a split has
 -- two grid points or more to divide
 abbrev pub StepFolds : Stage → Step → Type 0
-StepFolds stage (Cut id face bound) = (part : GridBox) × IsLive stage id part × IsProperCut face bound part
+StepFolds stage (Cut id face bound) =
+    (part : GridBox) × IsLive stage id part × IsProperCut face bound part
 StepFolds stage (Split id axis) = (part : GridBox) × IsLive stage id part × IsDivisible axis part
 StepFolds stage (Outside id) = HasLive stage id
 StepFolds stage (Inside id clock lo hi) = HasLive stage id

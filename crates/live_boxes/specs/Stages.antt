@@ -11,4 +11,5 @@ box_option (Some part) = Some (grid_box part)
 
 -- the root has a number, and each split gave two more
 abbrev pub stage_of : Live → Stage
-stage_of live = record { live = map box_option live.boxes.items; splits = length live.boxes.items / 2 }
+stage_of live =
+    record { live = map box_option live.boxes.items; splits = length live.boxes.items / 2 }

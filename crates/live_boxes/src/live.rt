@@ -1,6 +1,7 @@
 //! The boxes of an epoch that no step has closed yet.
 
-ghost use Rattle.std.specs.Prelude.{◌≡◌, ◌≢◌, ◌%◌, ℕ, length, Some, None, false, IfOk, OnOk, OnErr, IsTrue};
+ghost use Rattle.std.specs.Prelude.{◌≡◌, ◌≢◌, ◌%◌, ℕ, length, Some, None, false, IfOk, OnOk, OnErr};
+ghost use Rattle.std.specs.Prelude.{IsTrue};
 ghost use Rattle.sat_model.specs.declared.steps.Step.TheVariants.{Cut, Split, Outside};
 ghost use Rattle.grid_model.specs.Boxes.{grid_box};
 ghost use Rattle.sat_model.specs.Fold.{first_stage, live_box, NoneLive, after};
@@ -62,8 +63,9 @@ impl Live {
         true
     }
 
-    /// Takes a step: a cut leaves a part of its box, a split closes its box and opens the two halves, and
-    /// each other step closes its box. Where memory runs out the boxes are as they were.
+    /// Takes a step: a cut leaves a part of its box, a split closes its box and opens the two
+    /// halves, and each other step closes its box. Where memory runs out the boxes are as they
+    /// were.
     pub fn take(&mut self, step: &Step) -> Result<(), AllocError>
         requires { StepFolds (stage_of self.old) step.now }
         ensures ok { OnOk result (stage_of self.new ≡ after (stage_of self.old) step.now) }

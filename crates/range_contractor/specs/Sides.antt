@@ -1,6 +1,7 @@
 -- What is kept of one side of a box. `low` and `high` are the ends of the squares of wanted ranges,
 -- `others_low` and `others_high` those of what the two other axes add to a squared distance.
-use Rattle.std.specs.Prelude.{◌≡◌, ℕ, ◌+◌, ◌<◌, ◌≤◌, ◌⊎◌, ℤ, pos, ◌+ℤ◌, ◌-ℤ◌, ◌≤ℤ◌, ◌<ℤ◌, unsigned_abs}
+use Rattle.std.specs.Prelude.{◌≡◌, ℕ, ◌+◌, ◌<◌, ◌≤◌, ◌⊎◌, ℤ, pos, ◌+ℤ◌, ◌-ℤ◌, ◌≤ℤ◌, ◌<ℤ◌}
+use Rattle.std.specs.Prelude.{unsigned_abs}
 use Rattle.grid_model.specs.Amounts.{least_amount, greatest_amount, square}
 use Rattle.grid_model.specs.Boxes.{Side, IsIn}
 use Rattle.grid_model.specs.Rounding.{IsMultipleOf}

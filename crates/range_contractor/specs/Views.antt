@@ -1,7 +1,8 @@
 -- A tree over any kind of interval as a plain tree.
 use Rattle.std.specs.Prelude.{ℤ, List, map}
 use Rattle.grid_model.specs.Boxes.{Side, grid_box, span_side}
-use Rattle.sat_model.specs.Trees.{LeafValue, TreeValue, Sat, All, Relaxed, Again, Within, TreeList, trees_of}
+use Rattle.sat_model.specs.Trees.{LeafValue, TreeValue, Sat, All, Relaxed, Again, Within, TreeList}
+use Rattle.sat_model.specs.Trees.{trees_of}
 use Rattle.range_contractor.specs.declared.tree.Leaf.{Leaf}
 use Rattle.range_contractor.specs.declared.tree.Tree.{Tree, fold-Tree}
 use Rattle.range_contractor.specs.declared.tree.Tree.TheOpen.{Tree-F}

@@ -2,7 +2,8 @@
 
 ghost use Rattle.std.specs.Prelude.{◌≡◌, option_map, Some, IsTrue};
 ghost use Rattle.grid_model.specs.Boxes.{grid_box, span_side};
-ghost use Rattle.sat_model.specs.Trees.{IsWellFormed, HasSoundNodes, HaveSoundNodes, Relaxed, Again};
+ghost use Rattle.sat_model.specs.Trees.{IsWellFormed, HasSoundNodes, HaveSoundNodes, Relaxed};
+ghost use Rattle.sat_model.specs.Trees.{Again};
 ghost use Rattle.sat_model.specs.Contractors.{IsMeet};
 ghost use Rattle.sat_model.specs.Proposals.{IsTied, InTurn, IsProposal};
 ghost use Rattle.range_contractor.specs.Views.{tree_value, tree_values};

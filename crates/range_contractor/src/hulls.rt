@@ -1,6 +1,7 @@
 //! The q-relaxed hulls of sides.
 
-ghost use Rattle.std.specs.Prelude.{◌≡◌, ◌+◌, ◌≤◌, ◌++◌, ◌∷◌, [], length, map, IfSome, IsNone, option_map};
+ghost use Rattle.std.specs.Prelude.{◌≡◌, ◌+◌, ◌≤◌, ◌++◌, ◌∷◌, [], length, map, IfSome, IsNone};
+ghost use Rattle.std.specs.Prelude.{option_map};
 ghost use Rattle.grid_model.specs.Boxes.{grid_box, side_at};
 ghost use Rattle.sat_model.specs.Relaxed.{ends, IsRelaxedEmpty, IsRelaxedHull};
 ghost use Rattle.sat_model.specs.Contractors.{sides_of};
@@ -14,8 +15,8 @@ use relaxed_meet::relaxed;
 /// The sides of boxes on one axis.
 pub(crate) type Sides = ArrayVec<Span, 64>;
 
-/// Adds the sides of one more box, if there is one, each to its list. Three lists for themselves are
-/// cleared sooner than one value with all three.
+/// Adds the sides of one more box, if there is one, each to its list. Three lists for themselves
+/// are cleared sooner than one value with all three.
 pub(crate) fn add_sides(kept: Option<Box3>, x: &mut Sides, y: &mut Sides, z: &mut Sides)
     requires { (length x.old.items ≤ 63) × (length y.old.items ≤ 63) × (length z.old.items ≤ 63) }
     ensures x { map ends x.new.items

@@ -51,7 +51,8 @@ pub(crate) fn leaf_part<I: Interval>(leaf: &Leaf<I>, part: &Box3, clock: &Span) 
     Some(box_of(&x_kept, &y_kept, &z_kept))
 }
 
-/// Whether all ranges from a place of the leaf to a point of the box are wanted, told without a root.
+/// Whether all ranges from a place of the leaf to a point of the box are wanted, told without a
+/// root.
 fn are_all_wanted<I: Interval>(leaf: &Leaf<I>, part: &Box3, ranges: &Span) -> bool
     requires leaf { IsLeafSized (leaf_value I.low I.high leaf.now) }
     requires natural { pos 0 ≤ℤ ranges.now.lo }

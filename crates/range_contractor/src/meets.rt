@@ -2,7 +2,8 @@
 
 ghost use Rattle.std.specs.Prelude.{IfSome, IsNone};
 ghost use Rattle.grid_model.specs.Boxes.{span_side};
-ghost use Rattle.range_contractor.specs.Sides.{IsMeetOf, DontMeet, IsHullOf, IsHullOfMeets, NoneMeets};
+ghost use Rattle.range_contractor.specs.Sides.{IsMeetOf, DontMeet, IsHullOf, IsHullOfMeets};
+ghost use Rattle.range_contractor.specs.Sides.{NoneMeets};
 
 use grid_model::Span;
 

@@ -2,7 +2,8 @@
 
 ghost use Rattle.std.specs.Prelude.{IfSome, IsNone, ◌-ℤ◌};
 ghost use Rattle.grid_model.specs.Sizes.{IsPlaceSize, IsErrorSize};
-ghost use Rattle.range_contractor.specs.Ranges.{IsLeastWanted, IsMostWanted, IsWanted, NoneIsWanted};
+ghost use Rattle.range_contractor.specs.Ranges.{IsLeastWanted, IsMostWanted, IsWanted};
+ghost use Rattle.range_contractor.specs.Ranges.{NoneIsWanted};
 
 use grid_model::Span;
 

@@ -3,7 +3,8 @@
 ghost use Rattle.std.specs.Prelude.{IfSome, IsNone, IsTrue, ◌+◌, ◌^◌, ◌≤◌};
 ghost use Rattle.grid_model.specs.Sizes.{IsWithin, IsBoxSize};
 ghost use Rattle.grid_model.specs.Boxes.{span_side};
-ghost use Rattle.range_contractor.specs.Sides.{IsNearlyReached, IsBelow, IsAbove, IsKept, NoneIsKept};
+ghost use Rattle.range_contractor.specs.Sides.{IsNearlyReached, IsBelow, IsAbove, IsKept};
+ghost use Rattle.range_contractor.specs.Sides.{NoneIsKept};
 ghost use Rattle.range_contractor.specs.Views.{interval_side};
 
 use crate::meets::hull_of_meets;

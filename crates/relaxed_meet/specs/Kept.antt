@@ -1,5 +1,6 @@
 -- The greatest numbers of a list, as many as are kept of them.
-use Rattle.std.specs.Prelude.{◌≡◌, ℕ, ◌+◌, ◌-◌, ◌<◌, ◌≤◌, min, ℤ, pos, negsuc, ◌-ℤ◌, ◌≤ℤ◌, List, length, cond, count_by, slice_index_or, Option, None, Some}
+use Rattle.std.specs.Prelude.{◌≡◌, ℕ, ◌+◌, ◌-◌, ◌<◌, ◌≤◌, min, ℤ, pos, negsuc, ◌-ℤ◌, ◌≤ℤ◌, List}
+use Rattle.std.specs.Prelude.{length, cond, count_by, slice_index_or, Option, None, Some}
 use lib.Signed.{lt_z}
 
 -- how many are greater than b
@@ -12,7 +13,8 @@ bit b x = cond (lt_z b x) 1 0
 
 -- no number is greater than one before it
 pub record IsFalling (xs : List ℤ) : Type 0 where
-  pub falls : (i j : ℕ) → i ≤ j → j < length xs → slice_index_or xs j (pos 0) ≤ℤ slice_index_or xs i (pos 0)
+  pub falls : (i j : ℕ) → i ≤ j → j < length xs → slice_index_or xs j (pos 0)
+      ≤ℤ slice_index_or xs i (pos 0)
 
 -- the numbers of `old` and n are those of xs and c, of which c is the least up to place i
 pub record IsKeptUpTo (i : ℕ) (xs old : List ℤ) (c n : ℤ) : Type 0 where

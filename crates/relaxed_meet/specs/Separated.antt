@@ -14,8 +14,8 @@ lows_above s spans = count_by (λ t. lt_z s t.0) spans
 abbrev pub highs_to : ℤ → List (ℤ × ℤ) → ℕ
 highs_to s spans = count_by (λ t. le_z t.1 s) spans
 
--- no number lies in the clock spans of all but q rows, of those above one that so many spans lie up to, and up to one
--- that so many lie above
+-- Let `below` clock spans end at or below low, and `above` of them begin above high. Then no b with
+-- low < b <= high lies in those of all but q rows.
 abbrev pub NoneLiesBetween : List Row → GridBox → (q below above : ℕ) → Type 0
 NoneLiesBetween rows part q below above =
     (low high b : ℤ) → below ≤ highs_to low (clock_spans part rows)

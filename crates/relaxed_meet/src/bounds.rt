@@ -15,8 +15,8 @@ use crate::separation::Separation;
 use grid_model::Box3;
 use sat_model::Row;
 
-/// Whether each offset that lies in the clock spans over the box of all but at most `q` rows is seen
-/// to lie from `lo` to `hi`.
+/// Whether each offset that lies in the clock spans over the box of all but at most `q` rows is
+/// seen to lie from `lo` to `hi`.
 pub fn bounds_offsets(rows: &[Row], part: &Box3, q: u8, lo: i64, hi: i64) -> bool
     requires { (q < length rows.now) × (length rows.now ≤ 64) }
     ensures low { IsTrue result → (b : ℤ)

@@ -14,10 +14,10 @@ use arrayvec::ArrayVec;
 use grid_model::{Box3, Span};
 use sat_model::Row;
 
-/// What decided the last tests whether a box is empty. A box next to one that is shown empty is mostly
-/// shown so by the same few rows, and a clock offset at which one isn't does for others too. So most
-/// tests take no root. What is remembered doesn't matter for an answer: where it decides nothing all
-/// rows are asked.
+/// What decided the last tests whether a box is empty. A box next to one that is shown empty is
+/// mostly shown so by the same few rows, and a clock offset at which one isn't does for others too.
+/// So most tests take no root. What is remembered doesn't matter for an answer: where it decides
+/// nothing all rows are asked.
 #[derive(Clone, Copy, Debug, Default, PartialEq, Eq)]
 pub struct Deciding {
     separation: Separation,
@@ -28,8 +28,8 @@ pub struct Deciding {
 }
 
 impl Deciding {
-    /// Whether no clock offset lies in the clock spans of all but at most `q` rows over the box: then
-    /// no point of the box fits.
+    /// Whether no clock offset lies in the clock spans of all but at most `q` rows over the box:
+    /// then no point of the box fits.
     pub fn shown_empty(&mut self, rows: &[Row], part: &Box3, q: u8) -> bool
         requires { (q < length rows.now) × (length rows.now ≤ 64) }
         ensures { IsTrue result ↔ IsShownEmpty rows.now (grid_box part.now) q }
@@ -136,14 +136,13 @@ impl Deciding {
 #[derive(Clone, Copy, Debug, Default, PartialEq, Eq)]
 pub struct SlabTests {
     faces: [Deciding; 6],
-    /// The offset of the last box, from which those of the slabs at a face lie about as far as from
-    /// that of the next box.
+    /// The reference offset of the last box. The offsets kept for slabs move with it.
     middle: i64,
 }
 
 impl SlabTests {
-    /// Takes an offset that lies in the clock spans of enough rows over a box, about in their middle.
-    /// What is asked first of the slabs moves along with it.
+    /// Takes an offset that lies in the clock spans of enough rows over a box, about in their
+    /// middle. What is asked first of the slabs moves along with it.
     pub(crate) fn ask_about(&mut self, offset: i64) {
         let moved = offset.wrapping_sub(self.middle);
         for face in &mut self.faces {

@@ -9,7 +9,8 @@ use grid_model::Span;
 /// Numbers in falling order.
 pub(crate) type Falling = ArrayVec<i64, 64>;
 
-/// Puts a number into numbers in falling order, and gives the least of them all, which has no place.
+/// Puts a number into numbers in falling order, and gives the least of them all, which has no
+/// place.
 fn carry_past(kept: &mut [i64], number: i64) -> i64
     requires { IsFalling kept.old }
     ensures { IsKeptUpTo (length kept.old) kept.new kept.old result number }
@@ -30,7 +31,8 @@ fn is_past(kept: &[i64], number: i64, most: usize) -> bool
     requires falling { IsFalling kept.now }
     requires room { length kept.now ≤ most }
     ensures full { IsTrue result → length kept.now ≡ most }
-    ensures same_above { IsTrue result → (b : ℤ) → above b kept.now ≡ min (above b (kept.now ++ number ∷ [])) most }
+    ensures same_above { IsTrue result → (b : ℤ) → above b kept.now
+        ≡ min (above b (kept.now ++ number ∷ [])) most }
 {
     if most == 0 {
         return false;
@@ -44,7 +46,8 @@ fn put_in(kept: &mut Falling, number: i64, most: usize)
     requires room { (length kept.old.items ≤ most) × (most ≤ 64) }
     ensures falling { IsFalling kept.new.items }
     ensures count { length kept.new.items ≡ min (length kept.old.items + 1) most }
-    ensures same_above { (b : ℤ) → above b kept.new.items ≡ min (above b (kept.old.items ++ number ∷ [])) most }
+    ensures same_above { (b : ℤ) → above b kept.new.items
+        ≡ min (above b (kept.old.items ++ number ∷ [])) most }
 {
     let least = carry_past(kept, number);
     if kept.len() < most {
@@ -58,7 +61,8 @@ pub(crate) fn keep(kept: &mut Falling, number: i64, most: usize)
     requires room { (length kept.old.items ≤ most) × (most ≤ 64) }
     ensures falling { IsFalling kept.new.items }
     ensures count { length kept.new.items ≡ min (length kept.old.items + 1) most }
-    ensures same_above { (b : ℤ) → above b kept.new.items ≡ min (above b (kept.old.items ++ number ∷ [])) most }
+    ensures same_above { (b : ℤ) → above b kept.new.items
+        ≡ min (above b (kept.old.items ++ number ∷ [])) most }
 {
     if is_past(kept, number, most) {
         return;

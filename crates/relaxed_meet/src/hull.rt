@@ -81,9 +81,9 @@ pub(crate) fn relaxed_with_middle(spans: &[Span], need: u8) -> (Option<Span>, i6
     }
 }
 
-/// About the middle of the widest span from a low end to the high end that goes with it. The numbers
-/// between two such ends lie in enough of the spans, and one in the middle does for spans near to
-/// these too.
+/// About the middle of the widest span from a low end to the high end that goes with it. The
+/// numbers between two such ends lie in enough of the spans, and one in the middle does for spans
+/// near to these too.
 pub(crate) fn widest_middle(lows: &[i64], highs: &[i64]) -> i64 {
     let mut widest = 0;
     let mut found = 0;

@@ -1,5 +1,5 @@
-//! On which side of a clock offset the clock span of a row over a box lies, without a root: the root
-//! of a number is less than another one exactly where the number is less than its square.
+//! On which side of a clock offset the clock span of a row over a box lies, without a root: the
+//! root of a number is less than another one exactly where the number is less than its square.
 
 ghost use Rattle.std.specs.Prelude.{◌≡◌, ◌-◌, ◌↔◌, ◌≤ℤ◌, ◌<ℤ◌, length, IsTrue};
 ghost use Rattle.grid_model.specs.Boxes.{grid_box};

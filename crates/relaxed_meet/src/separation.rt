@@ -13,11 +13,10 @@ use sat_model::Row;
 /// How many offsets are remembered: enough where up to 8 rows may be inconsistent.
 const MOST_OFFSETS: usize = 9;
 
-/// Rows and clock offsets in um that may show a box empty where up to q rows may be inconsistent. Up
-/// to the offset of rank r, from 0 to q, lie the clock spans of r + 1 rows, and above it those of
-/// q + 1 - r. So each number is missed by q + 1 rows: one behind the offset of rank r - 1, up to that of
-/// rank r, by r rows below it and by q + 1 - r above it. What rows and offsets these are doesn't matter
-/// for an answer: they are tested anew.
+/// A certificate that a box is empty where up to q rows may be inconsistent: clock offsets o_0 to
+/// o_q in um such that r + 1 clock spans end at or below o_r and q + 1 - r begin above it. So each
+/// offset misses q + 1 spans: one above o_(r - 1) and up to o_r misses r that end below it and
+/// q + 1 - r that begin above it. It may come from another box, and is tested anew.
 #[derive(Clone, Copy, Debug, Default, PartialEq, Eq)]
 pub(crate) struct Separation {
     /// A bit for each row that may be above, the lowest for the first row.

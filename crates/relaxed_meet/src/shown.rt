@@ -3,7 +3,8 @@
 ghost use Rattle.std.specs.Prelude.{◌≡◌, ◌-◌, ◌<◌, ◌≤◌, ◌↔◌, length, IfSome, IsNone};
 ghost use Rattle.grid_model.specs.Boxes.{grid_box};
 ghost use Rattle.relaxed_meet.specs.BoxStates.{IsBoxState, span_test};
-ghost use Rattle.sat_model.specs.ClockSpans.{IsClockHull, IsShownEmpty, NoneIsShownInner, IsLeastShownInner};
+ghost use Rattle.sat_model.specs.ClockSpans.{IsClockHull, IsShownEmpty, NoneIsShownInner};
+ghost use Rattle.sat_model.specs.ClockSpans.{IsLeastShownInner};
 
 use crate::clocks::{clock_span, clock_spans, inner_span};
 use crate::deciding::SlabTests;

@@ -1,12 +1,13 @@
 -- The least of a linear function over a box, term by term.
-use Rattle.std.proofs.Common.{◌≡◌, arith, refl, ap, ◌∙◌, false, Bool, subst}
+use Rattle.std.proofs.Common.{◌≡◌, arith, refl, ap, ◌∙◌, false, true, Bool, subst}
 use Rattle.std.specs.Prelude.{ℤ, pos, ◌+ℤ◌, ◌-ℤ◌, ◌*ℤ◌, neg_ℤ, ◌≤ℤ◌, ◌<ℤ◌}
 use Rattle.std.proofs.lemmas.Int.{ints}
 use lib.IntN.{*ℤ_comm}
 use lib.Signed.{lt_z}
 use Rattle.std.specs.Prelude.{IsTrue}
 use Rattle.grid_model.specs.declared.boxes.Pos.{Pos}
-use Rattle.grid_model.specs.Boxes.{GridBox, middle}
+use Rattle.grid_model.specs.Boxes.{Side, GridBox, box_holds, middle}
+use Rattle.grid_model.proofs.AmountLemmas.{above_is}
 use Rattle.grid_model.proofs.PointLemmas.{in_box, le_to}
 use Rattle.grid_model.proofs.ProductLemmas.{add_mul, neg_mul, mul_mono, mul_anti}
 use Rattle.row_pairs.specs.Leasts.{IsLeastTerm, IsLeastLead}
@@ -65,6 +66,44 @@ lt_to a b h = grind (arith, ints)
 
 pub not_both : (b : Bool) → b ≡ false → IsTrue b → ⊥
 not_both b e t = absurd (grind arith)
+
+at_middle : GridBox → Pos
+at_middle part = record { x = middle part.x; y = middle part.y; z = middle part.z }
+
+from_low : (s : Side) → s.lo ≤ℤ s.hi → s.lo ≤ℤ middle s
+from_low s h = omega (arith, ints, above_is s.hi s.lo)
+
+to_high : (s : Side) → s.lo ≤ℤ s.hi → middle s ≤ℤ s.hi
+to_high s h = omega (arith, ints, above_is s.hi s.lo)
+
+holds_middle : (part : GridBox) → part.x.lo ≤ℤ part.x.hi → part.y.lo ≤ℤ part.y.hi → part.z.lo ≤ℤ part.z.hi → box_holds part (at_middle part) ≡ true
+unfolding at_middle
+holds_middle part x y z =
+    rw (le_to _ _ (from_low part.x x), le_to _ _ (to_high part.x x), le_to _ _ (from_low part.y y), le_to _ _ (to_high part.y y), le_to _ _ (from_low part.z z), le_to _ _ (to_high part.z z)) refl
+
+none_of : (n m : ℤ) → n *ℤ (m -ℤ m) ≡ pos 0
+none_of n m = ap (λ (z : ℤ). n *ℤ z) (itself m) ∙ *ℤ_comm n (pos 0) ∙ nothing n
+  where
+    nothing : (n : ℤ) → pos 0 *ℤ n ≡ pos 0
+    nothing n = omega (arith, ints)
+
+    itself : (m : ℤ) → m -ℤ m ≡ pos 0
+    itself m = omega (arith, ints)
+
+no_tilt : (f : FormValue) (part : GridBox) → tilt f part (at_middle part) ≡ pos 0
+unfolding at_middle
+no_tilt f part = sum (none_of f.x (middle part.x)) (none_of f.y (middle part.y)) (none_of f.z (middle part.z))
+  where
+    sum : {a b d : ℤ} → a ≡ pos 0 → b ≡ pos 0 → d ≡ pos 0 → a +ℤ b +ℤ d ≡ pos 0
+    sum e f g = rw (e, f, g) refl
+
+-- at the middle of the box neither function tilts
+pub below_at_middle : (part : GridBox) (f g : FormValue) → part.x.lo ≤ℤ part.x.hi → part.y.lo ≤ℤ part.y.hi → part.z.lo ≤ℤ part.z.hi → IsBelow part f g → (f.upper -ℤ g.lower) <ℤ pos 0
+below_at_middle part f g x y z k =
+    apart f.upper g.lower (tilt f part (at_middle part)) (tilt g part (at_middle part)) (no_tilt f part) (no_tilt g part) (k (at_middle part) (holds_middle part x y z))
+  where
+    apart : (u l t s : ℤ) → t ≡ pos 0 → s ≡ pos 0 → (u -ℤ t) <ℤ (l -ℤ s) → (u -ℤ l) <ℤ pos 0
+    apart u l t s e f h = omega (arith, ints)
 
 pub below_from : (part : GridBox) (f g : FormValue) (r : ℤ) → IsLeastLead part f g r → (f.upper -ℤ g.lower) <ℤ r → IsBelow part f g
 below_from part f g r h k p i = apart f.upper g.lower (tilt f part p) (tilt g part p) r k (h.least p i)

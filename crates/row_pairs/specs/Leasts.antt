@@ -9,7 +9,8 @@ pub record IsLeastTerm (slope lo hi r : ℤ) : Type 0 where
   pub from : lo ≤ℤ at
   pub to : at ≤ℤ hi
   pub is : slope *ℤ (at -ℤ middle (record { lo = lo; hi = hi })) ≡ r
-  pub least : (n : ℤ) → lo ≤ℤ n → n ≤ℤ hi → r ≤ℤ (slope *ℤ (n -ℤ middle (record { lo = lo; hi = hi })))
+  pub least : (n : ℤ) → lo ≤ℤ n → n ≤ℤ hi
+      → r ≤ℤ (slope *ℤ (n -ℤ middle (record { lo = lo; hi = hi })))
 
 -- of what the first function is above the second
 pub record IsLeastLead (part : GridBox) (f g : FormValue) (r : ℤ) : Type 0 where

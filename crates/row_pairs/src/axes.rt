@@ -7,8 +7,8 @@ ghost use Rattle.sat_model.specs.Pairs.{away, half};
 
 use grid_model::Span;
 
-/// The way from the middle of the place to that of the box, and how far the high ends are from these
-/// middles.
+/// The way from the middle of the place to that of the box, and how far the high ends are from
+/// these middles.
 #[derive(Clone, Copy)]
 pub(crate) struct Axis {
     pub away: i64,

@@ -60,11 +60,15 @@ fn least_lead(f: &Form, g: &Form, part: &Box3) -> i128
 }
 
 /// Whether at each point of the box what the first form leaves of S b ends below what the second
-/// does.
+/// does. At the middle of the box it is the bounds alone that tell.
 fn is_below(f: &Form, g: &Form, part: &Box3) -> bool
     ensures { IsTrue result ↔ IsBelow (grid_box part.now) (form_value f.now) (form_value g.now) }
 {
-    f.upper - g.lower < least_lead(f, g, part)
+    let end = f.upper - g.lower;
+    if 0 <= end {
+        return false;
+    }
+    end < least_lead(f, g, part)
 }
 
 /// Whether no offset at any point of the box suits both.

@@ -3,9 +3,9 @@
 ghost use Rattle.std.specs.Prelude.{◌≡◌};
 ghost use Rattle.grid_model.specs.Sizes.{IsWithin};
 
-/// What a row says of a point of a box and an offset b, in um: S b plus the slopes times the point's
-/// way from the middle of the box is from `lower` to `upper`. S is 2^22, and `x`, `y` and `z` are the
-/// slopes.
+/// What a row says of a point of a box and an offset b, in um: S b plus the slopes times the
+/// point's way from the middle of the box is from `lower` to `upper`. S is 2^22, and `x`, `y` and
+/// `z` are the slopes.
 #[derive(Clone, Copy)]
 pub struct Form {
     pub x: i64,
