@@ -33,7 +33,8 @@ module _ (m : Meaning) (rules : Rules) (search : Search) where
     abbrev pub IsSplitUp : GridBox → Type 0
     IsSplitUp part = rules.width <ℤ pos (longest_length part) → done ≡ rules.bisections
 
-    -- what is split, or left at the edge, isn't clear, and the latter is split up
+    -- No box that is split or left at the edge is clear, and one at the edge is short, or the
+    -- splits are used up.
     abbrev pub LeavesNothingClear : Step → GridBox → Type 0
     LeavesNothingClear (Cut id face bound) part = Unit {0}
     LeavesNothingClear (Split id axis) part = IsUnclear part

@@ -24,9 +24,9 @@ ghost use Rattle.sat_rows.specs.declared.lines.SatLine.{SatLine};
 
 use sat_rows::RowSource;
 
-/// The law: the own rows of a source, wider by W and G at both ends, show a box empty or inner where
-/// the true ranges and bounds make it clear by 6 W and 2 G. The box lies in the root. The call does
-/// nothing.
+/// The law: the own rows of a source, wider by W and G at both ends, show a box empty or inner
+/// where the true ranges and bounds make it clear by 6 W and 2 G. The box lies in the root. The
+/// call does nothing.
 pub fn clear_boxes_are_shown<S: RowSource>()
     ensures empty { (source : S) (epoch : ObsEpoch) (root part : GridBox) (margin q : ℕ)
         (own : List SatLine) (sats : List SatEntry)

@@ -21,7 +21,8 @@ counted_name false = codes "satellites"
 
 -- its index, its time in ps, and its number of satellites
 abbrev pub epoch_text_of : Bool → ℕ → ℤ → ℕ → List ℕ
-epoch_text_of few index ps n = line_of (codes "epoch" ∷ decimal index ∷ codes "gps" ∷ seconds_text ps ∷ counted_name few ∷ decimal n ∷ [])
+epoch_text_of few index ps n = line_of (codes "epoch" ∷ decimal index ∷ codes "gps"
+    ∷ seconds_text ps ∷ counted_name few ∷ decimal n ∷ [])
 
 -- ---- the line of a step
 
@@ -36,12 +37,14 @@ abbrev pub in_words : GridBox → ℤ → List (List ℕ)
 in_words part clock = codes "in" ∷ (box_words part ++ codes "clock" ∷ metres_text clock ∷ [])
 
 abbrev pub edge_words : GridBox → ℤ → ℤ → List (List ℕ)
-edge_words part lo hi = codes "edge" ∷ (box_words part ++ codes "clock" ∷ metres_text lo ∷ metres_text hi ∷ [])
+edge_words part lo hi =
+    codes "edge" ∷ (box_words part ++ codes "clock" ∷ metres_text lo ∷ metres_text hi ∷ [])
 
 abbrev pub out_words : GridBox → List (List ℕ)
 out_words part = codes "out" ∷ box_words part
 
--- A step has a line for the box that it closes, or for the slab that it cuts off, and a split has none.
+-- A step has a line for the box that it closes, or for the slab that it cuts off, and a split has
+-- none.
 abbrev pub step_text_of : Step → GridBox → List ℕ
 step_text_of (Cut id face bound) slab = line_of (out_words slab)
 step_text_of (Split id axis) part = []
@@ -53,4 +56,6 @@ step_text_of (Edge id lo hi) part = line_of (edge_words part lo hi)
 
 -- its lines `in`, `edge` and `out`, and its splits
 abbrev pub total_text_of : Counts4 → List ℕ
-total_text_of counts = line_of (codes "total" ∷ codes "in" ∷ decimal counts.inside ∷ codes "edge" ∷ decimal counts.edge ∷ codes "out" ∷ decimal counts.outside ∷ codes "bisections" ∷ decimal counts.bisections ∷ [])
+total_text_of counts = line_of (codes "total" ∷ codes "in" ∷ decimal counts.inside ∷ codes "edge"
+    ∷ decimal counts.edge ∷ codes "out" ∷ decimal counts.outside ∷ codes "bisections"
+    ∷ decimal counts.bisections ∷ [])

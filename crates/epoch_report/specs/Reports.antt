@@ -25,13 +25,16 @@ counts_of root steps = record {
 abbrev pub piece_text : ShownStep → List ℕ
 piece_text piece = step_text_of piece.step piece.part
 
--- behind an epoch's first line: where it has a root, a line for each slab and closed box, and the total
+-- behind an epoch's first line: where it has a root, a line for each slab and closed box, and the
+-- total
 abbrev pub paved_text : Option GridBox → List Step → List ℕ
 paved_text None steps = []
-paved_text (Some root) steps = flat_map piece_text (pieces root steps) ++ total_text_of (counts_of root steps)
+paved_text (Some root) steps =
+    flat_map piece_text (pieces root steps) ++ total_text_of (counts_of root steps)
 
 abbrev pub block_text : Block → List ℕ
-block_text block = epoch_text_of block.few block.index block.ps block.n ++ paved_text block.root block.steps
+block_text block = epoch_text_of block.few block.index block.ps block.n
+    ++ paved_text block.root block.steps
 
 -- the report of a log: epoch by epoch
 abbrev pub report_text : LogValue → List ℕ

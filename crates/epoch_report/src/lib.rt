@@ -1,5 +1,5 @@
-//! The lines of a report: the epochs of a paving, the boxes and slabs of each, and a total. They take
-//! no memory.
+//! The lines of a report: the epochs of a paving, the boxes and slabs of each, and a total. They
+//! take no memory.
 #![tactic(auto)]
 
 mod counts;
@@ -7,6 +7,6 @@ mod lengths;
 mod lines;
 
 pub use counts::Counts4;
-pub use lengths::push_metres;
+pub use lengths::metres;
 pub use lines::{epoch_text, step_text, total_text};
 pub use paving_log::Line;

@@ -6,7 +6,9 @@ ghost use Rattle.log_words.specs.Words.{joined};
 ghost use Rattle.grid_model.specs.Boxes.{grid_box};
 ghost use Rattle.sat_model.specs.StepKinds.{is_split};
 ghost use Rattle.epoch_report.specs.Metres.{metres_text};
-ghost use Rattle.epoch_report.specs.ReportLines.{counted_name, box_words, in_words, edge_words, out_words, line_of, epoch_text_of, step_text_of, total_text_of};
+ghost use Rattle.epoch_report.specs.ReportLines.{counted_name, box_words, in_words, edge_words};
+ghost use Rattle.epoch_report.specs.ReportLines.{out_words, line_of, epoch_text_of, step_text_of};
+ghost use Rattle.epoch_report.specs.ReportLines.{total_text_of};
 
 use crate::counts::Counts4;
 use crate::lengths::{push_metres, push_seconds};
@@ -29,7 +31,8 @@ fn push_count(line: &mut Line, count: u32)
 /// Two lengths, each behind a blank.
 fn push_two(line: &mut Line, lo: i64, hi: i64)
     requires { length line.old.bytes ≤ 205 }
-    ensures pushed { line.new.bytes ≡ line.old.bytes ++ 32 ∷ (metres_text lo ++ 32 ∷ metres_text hi) }
+    ensures pushed { line.new.bytes ≡ line.old.bytes ++ 32
+        ∷ (metres_text lo ++ 32 ∷ metres_text hi) }
     ensures length { length line.new.bytes ≤ length line.old.bytes + 50 }
 {
     push_metres(line, lo);
@@ -39,7 +42,8 @@ fn push_two(line: &mut Line, lo: i64, hi: i64)
 /// The ends of a box on each axis.
 fn push_box(line: &mut Line, part: &Box3)
     requires { length line.old.bytes ≤ 50 }
-    ensures pushed { line.new.bytes ≡ line.old.bytes ++ 32 ∷ joined (box_words (grid_box part.now)) }
+    ensures pushed { line.new.bytes ≡ line.old.bytes ++ 32
+        ∷ joined (box_words (grid_box part.now)) }
     ensures length { length line.new.bytes ≤ length line.old.bytes + 150 }
 {
     push_two(line, part.lo.x, part.hi.x);

@@ -10,7 +10,7 @@ use Rattle.log_words.specs.Fields.{IsCountFromTo}
 use Rattle.paving_log.specs.Lines.{HeaderFits}
 use Rattle.paving_log.specs.Rows.{CornersFit, corners_of, EntryFits}
 use Rattle.paving_log.specs.Text.{IsSkipped}
-use Rattle.rinex_obs.specs.Facts.{AreGpsSats}
+use Rattle.rinex_obs.specs.Facts.{AreNamedSats}
 use Rattle.rinex_obs.specs.declared.obs.ObsEpoch.{ObsEpoch}
 use Rattle.grid_model.specs.Boxes.{GridBox, grid_box}
 use Rattle.grid_model.specs.declared.boxes.Box3.{Box3}
@@ -53,9 +53,9 @@ module _ (m : Meaning) (root : GridBox) (seen : ObsEpoch) (own given : List SatL
   few_grown by err_by items grown =
       omega (arith, grown_count by err_by given items grown, ap length same, own_count m root seen.tag seen.sats.items own are, seen.few)
 
-  module _ (skips : SkipsFit m) (gps : AreGpsSats seen.sats.items) where
+  module _ (skips : SkipsFit m) (named : AreNamedSats seen.sats.items) where
     pub skip_entries : (items : List SatEntry) → items ≡ skips_of given → AllByRecursion EntryFits items
-    skip_entries items is = rw (is, same) (skips_fit m root seen.tag skips seen.sats.items own gps are)
+    skip_entries items is = rw (is, same) (skips_fit m root seen.tag skips seen.sats.items own named are)
 
     pub grown_entries : (by err_by : ℤ) (items : List SatEntry) → AreGrownLines by err_by given items → AllByRecursion EntryFits items
-    grown_entries by err_by items grown = lines_fit m root seen.tag skips by err_by seen.sats.items own items gps are (rw same at grown)
+    grown_entries by err_by items grown = lines_fit m root seen.tag skips by err_by seen.sats.items own items named are (rw same at grown)

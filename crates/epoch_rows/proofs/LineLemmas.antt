@@ -1,15 +1,15 @@
 -- The satellite lines that are made of own lines.
-use Rattle.std.proofs.Common.{◌≡◌, ◌≢◌, ℕ, ◌≤◌, List, [], ◌∷◌, ◌++◌, length, drop, sym, subst, ◌∙◌, refl, append-nil, arith}
+use Rattle.std.proofs.Common.{◌≡◌, ◌≢◌, ℕ, ◌≤◌, List, [], ◌∷◌, ◌++◌, length, drop, sym, subst, ◌∙◌, refl, append-nil, arith, true}
 use Rattle.std.specs.Prelude.{◌*◌, ◌^◌, ℤ, pos}
 use Rattle.std.specs.List.{AllByRecursion}
 use Rattle.std.proofs.lemmas.Grind.{common_steps}
 use Rattle.std.proofs.lemmas.Int.{ints}
 use Rattle.epoch_rows.specs.Grown.{IsGrownLine, AreGrownLines, greatest_spare, greatest_err_spare, skips_of}
 use Rattle.epoch_rows.specs.Ready.{SkipsFit}
-use Rattle.log_words.specs.Fields.{IsGps, SkipFits}
+use Rattle.log_words.specs.Fields.{IsNamed, SkipFits}
 use Rattle.paving_log.specs.Rows.{EntryFits}
 use Rattle.paving_log.specs.Text.{IsSkipped}
-use Rattle.rinex_obs.specs.Facts.{IsGpsSat, AreGpsSats, AreDistinct}
+use Rattle.rinex_obs.specs.Facts.{IsSatOf, AreNamedSats, AreDistinct}
 use Rattle.rinex_obs.specs.declared.obs.SatObs.{SatObs}
 use Rattle.grid_model.specs.Boxes.{GridBox}
 use Rattle.sat_model.specs.Logs.{sat_of, rows_of}
@@ -96,8 +96,8 @@ row_grown by b err_by err_b line own row same err_same e sat bounds x y z range 
 
 -- ---- the satellites that they name
 
-pub gps_fits : (seen : SatObs) (sat : Sat) → IsGpsSat seen → sat ≡ seen.sat → IsGps sat
-gps_fits seen sat gps same = subst IsGps (sym same) (gps.system, (gps.from, gps.to))
+pub named_fits : (seen : SatObs) (sat : Sat) → IsSatOf true seen → sat ≡ seen.sat → IsNamed sat
+named_fits seen sat named same = subst IsNamed (sym same) (named.system, (named.from, named.to))
 
 module _ (m : Meaning) (root : GridBox) (tag : ℤ) where
   pub own_count : (sats : List SatObs) (own : List SatLine) → AreOwnLines m root tag sats own → length own ≡ length sats
@@ -107,26 +107,26 @@ module _ (m : Meaning) (root : GridBox) (tag : ℤ) where
   own_count (seen ∷ sats) (line ∷ own) are = omega (arith, own_count sats own are.1)
 
   module _ (skips : SkipsFit m) where
-    pub skips_fit : (sats : List SatObs) (own : List SatLine) → AreGpsSats sats → AreOwnLines m root tag sats own → AllByRecursion EntryFits (skips_of own)
-    skips_fit [] [] gps are = tt
-    skips_fit [] (line ∷ own) gps are = absurd are
-    skips_fit (seen ∷ sats) [] gps are = absurd are
-    skips_fit (seen ∷ sats) (Usable row ∷ own) gps are = skips_fit sats own gps.1 are.1
-    skips_fit (seen ∷ sats) (Skipped sat skip ∷ own) gps are = ((gps_fits seen sat gps.0 are.0.0, skips root tag seen skip are.0.1), skips_fit sats own gps.1 are.1)
+    pub skips_fit : (sats : List SatObs) (own : List SatLine) → AreNamedSats sats → AreOwnLines m root tag sats own → AllByRecursion EntryFits (skips_of own)
+    skips_fit [] [] named are = tt
+    skips_fit [] (line ∷ own) named are = absurd are
+    skips_fit (seen ∷ sats) [] named are = absurd are
+    skips_fit (seen ∷ sats) (Usable row ∷ own) named are = skips_fit sats own named.1 are.1
+    skips_fit (seen ∷ sats) (Skipped sat skip ∷ own) named are = ((named_fits seen sat named.0 are.0.0, skips root tag seen skip are.0.1), skips_fit sats own named.1 are.1)
 
-    line_fits : (by err_by : ℤ) (seen : SatObs) (line : SatLine) (e : SatEntry) → IsGpsSat seen → IsOwnLine m root tag seen line → IsGrownLine by err_by line e → EntryFits e
-    line_fits by err_by seen (Usable row) (entry.Row wide) gps is grown = gps_fits seen wide.sat gps (grown.sat ∙ is.0)
-    line_fits by err_by seen (Usable row) (entry.Skipped sat skip) gps is grown = absurd grown
-    line_fits by err_by seen (Skipped sat skip) (entry.Row wide) gps is grown = absurd grown
-    line_fits by err_by seen (Skipped sat skip) (entry.Skipped same why) gps is grown = (gps_fits seen same gps (grown.0 ∙ is.0), subst SkipFits (sym grown.1) (skips root tag seen skip is.1))
+    line_fits : (by err_by : ℤ) (seen : SatObs) (line : SatLine) (e : SatEntry) → IsSatOf true seen → IsOwnLine m root tag seen line → IsGrownLine by err_by line e → EntryFits e
+    line_fits by err_by seen (Usable row) (entry.Row wide) named is grown = named_fits seen wide.sat named (grown.sat ∙ is.0)
+    line_fits by err_by seen (Usable row) (entry.Skipped sat skip) named is grown = absurd grown
+    line_fits by err_by seen (Skipped sat skip) (entry.Row wide) named is grown = absurd grown
+    line_fits by err_by seen (Skipped sat skip) (entry.Skipped same why) named is grown = (named_fits seen same named (grown.0 ∙ is.0), subst SkipFits (sym grown.1) (skips root tag seen skip is.1))
 
-    pub lines_fit : (by err_by : ℤ) (sats : List SatObs) (own : List SatLine) (entries : List SatEntry) → AreGpsSats sats → AreOwnLines m root tag sats own → AreGrownLines by err_by own entries → AllByRecursion EntryFits entries
-    lines_fit by err_by [] [] [] gps are grown = tt
-    lines_fit by err_by [] [] (e ∷ entries) gps are grown = absurd grown
-    lines_fit by err_by [] (line ∷ own) entries gps are grown = absurd are
-    lines_fit by err_by (seen ∷ sats) [] entries gps are grown = absurd are
-    lines_fit by err_by (seen ∷ sats) (line ∷ own) [] gps are grown = absurd grown
-    lines_fit by err_by (seen ∷ sats) (line ∷ own) (e ∷ entries) gps are grown = (line_fits by err_by seen line e gps.0 are.0 grown.0, lines_fit by err_by sats own entries gps.1 are.1 grown.1)
+    pub lines_fit : (by err_by : ℤ) (sats : List SatObs) (own : List SatLine) (entries : List SatEntry) → AreNamedSats sats → AreOwnLines m root tag sats own → AreGrownLines by err_by own entries → AllByRecursion EntryFits entries
+    lines_fit by err_by [] [] [] named are grown = tt
+    lines_fit by err_by [] [] (e ∷ entries) named are grown = absurd grown
+    lines_fit by err_by [] (line ∷ own) entries named are grown = absurd are
+    lines_fit by err_by (seen ∷ sats) [] entries named are grown = absurd are
+    lines_fit by err_by (seen ∷ sats) (line ∷ own) [] named are grown = absurd grown
+    lines_fit by err_by (seen ∷ sats) (line ∷ own) (e ∷ entries) named are grown = (line_fits by err_by seen line e named.0 are.0 grown.0, lines_fit by err_by sats own entries named.1 are.1 grown.1)
 
   -- ---- no satellite is named twice
 

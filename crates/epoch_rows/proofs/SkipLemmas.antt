@@ -1,6 +1,6 @@
--- Each reason not to use a GPS satellite can stand in a log.
+-- Each reason not to use a satellite can stand in a log.
 use Rattle.std.proofs.Common.{◌≡◌, ℕ, ◌≤◌, List, inl, inr, arith}
-use Rattle.std.specs.Prelude.{Option, Some}
+use Rattle.std.specs.Prelude.{Option, None, Some}
 use Rattle.log_words.specs.Fields.{SkipFits}
 use Rattle.grid_model.specs.Boxes.{GridBox}
 use Rattle.gnss_model.specs.declared.satellites.Skip.{Skip}
@@ -8,8 +8,10 @@ use Rattle.grid_model.specs.declared.spans.Span.{Span}
 use Rattle.epoch_rows.specs.Ready.{SkipsFit}
 use Rattle.error_bounds.specs.declared.settings.Settings.{Settings}
 use Rattle.rinex_nav.specs.declared.record.NavRecord.{NavRecord}
-use Rattle.sat_rows.specs.Sources.{gps_meaning}
-use Rattle.usable_sats.specs.Usability.{Sighting, sighting, IsSkip, IsJudged}
+use Rattle.gnss_model.specs.declared.satellites.Signal.{Signal}
+use Rattle.error_bounds.specs.Reading.{signal_of, value_of_settings}
+use Rattle.sat_rows.specs.Sources.{meaning_by, both_meaning, gps_meaning}
+use Rattle.usable_sats.specs.Usability.{Sighting, sighting_by, IsSkip, IsJudged}
 
 alone : (skip : Skip) (number : ℕ) → skip.number ≡ number → skip.field ≡ 0 → 1 ≤ number → number ≤ 5 → SkipFits skip
 alone skip number is none from to = inl (inl (omega arith, omega arith), none)
@@ -26,5 +28,11 @@ judged_fits : (zenith : Option Span) (root : GridBox) (a : Sighting) (skip : Ski
 judged_fits zenith root a skip (inl own) = skip_fits a skip own
 judged_fits zenith root a skip (inr low) = inl (inr low.number, low.field)
 
+pub skips_fit_by : (galileo : Option Signal) (records : List NavRecord) (settings : Settings) → SkipsFit (meaning_by galileo records settings)
+skips_fit_by galileo records settings root tag seen skip judged = judged_fits settings.zenith root (sighting_by galileo records settings tag seen) skip judged
+
+pub both_skips_fit : (records : List NavRecord) (settings : Settings) → SkipsFit (both_meaning records settings)
+both_skips_fit records settings = skips_fit_by (signal_of (value_of_settings settings).galileo) records settings
+
 pub gps_skips_fit : (records : List NavRecord) (settings : Settings) → SkipsFit (gps_meaning records settings)
-gps_skips_fit records settings root tag seen skip judged = judged_fits settings.zenith root (sighting records settings tag seen) skip judged
+gps_skips_fit records settings = skips_fit_by None records settings

@@ -1,5 +1,6 @@
 -- Own rows with room at their ends, as the blocks of a log that has no steps yet.
-use Rattle.std.specs.Prelude.{ℕ, ◌≡◌, ◌+◌, ◌*◌, ◌/◌, ◌^◌, ℤ, pos, Bool, true, false, nat_lt, List, [], ◌∷◌, Option, None, Some}
+use Rattle.std.specs.Prelude.{ℕ, ◌≡◌, ◌+◌, ◌*◌, ◌/◌, ◌^◌, ℤ, pos, Bool, true, false, nat_lt, List}
+use Rattle.std.specs.Prelude.{[], ◌∷◌, Option, None, Some}
 use Rattle.epoch_selection.specs.Searches.{Search}
 use Rattle.grid_model.specs.Boxes.{GridBox}
 use Rattle.grid_model.specs.Lengths.{spare_of}
@@ -25,8 +26,7 @@ greatest_err_spare = spare_over (10 ^ 7) (2 * 10 ^ 13)
 
 -- ---- satellite lines
 
--- the own row's spans of the place and of the range are so much wider at both ends, and those of
--- the low and of the high ends of the error by this
+-- `row` is `own` inflated: place and range by `by` at both ends, the error bounds by `err_by`.
 pub record IsGrownRow (by err_by : ℤ) (own row : Row) : Type 0 where
   pub sat : row.sat ≡ own.sat
   pub x : IsGrown by own.x row.x

@@ -2,7 +2,7 @@
 use Rattle.std.specs.Prelude.{ℕ, ℤ, List, [], ◌∷◌, Option, Some}
 use Rattle.epoch_selection.specs.Selections.{first_epoch, last_epoch}
 use Rattle.log_words.specs.Fields.{IsCountFromTo, SkipFits}
-use Rattle.rinex_obs.specs.Facts.{AreDistinct, AreGpsSats}
+use Rattle.rinex_obs.specs.Facts.{AreDistinct, AreNamedSats}
 use Rattle.rinex_obs.specs.declared.obs.ObsEpoch.{ObsEpoch}
 use Rattle.rinex_obs.specs.declared.obs.SatObs.{SatObs}
 use Rattle.grid_model.specs.Boxes.{GridBox}
@@ -19,7 +19,7 @@ SkipsFit m = (root : GridBox) (tag : ℤ) (seen : SatObs) (skip : Skip)
 pub record IsWritable (epoch : ObsEpoch) : Type 0 where
   pub index : IsCountFromTo first_epoch last_epoch epoch.index
   pub distinct : AreDistinct epoch.sats.items
-  pub gps : AreGpsSats epoch.sats.items
+  pub named : AreNamedSats epoch.sats.items
 
 -- each may stand in a log, behind the one before
 abbrev pub AreWritable : Option ℕ → List ObsEpoch → Type 0

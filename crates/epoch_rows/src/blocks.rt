@@ -9,7 +9,7 @@ ghost use Rattle.log_words.specs.Fields.{IsCountFromTo};
 ghost use Rattle.paving_log.specs.declared.line.Form.TheVariants as form;
 ghost use Rattle.paving_log.specs.Text.{BlockFits};
 ghost use Rattle.paving_log.specs.Values.{block_of};
-ghost use Rattle.rinex_obs.specs.Facts.{AreGpsSats};
+ghost use Rattle.rinex_obs.specs.Facts.{AreNamedSats};
 ghost use Rattle.grid_model.specs.Boxes.{grid_box};
 ghost use Rattle.grid_model.specs.SearchBoxes.{IsSearchBox};
 
@@ -33,7 +33,7 @@ pub fn block<S: RowSource>(
     root: &Box3,
 ) -> Result<LogEpoch, NoMemory>
     requires index { IsCountFromTo first_epoch last_epoch epoch.now.index }
-    requires gps { AreGpsSats epoch.now.sats.items }
+    requires named { AreNamedSats epoch.now.sats.items }
     requires skips { SkipsFit (S.meaning source.now) }
     requires root { IsSearchBox (grid_box root.now) }
     ensures grown { IfOk result (λ block. IsGrownBlock (S.meaning source.now) rules.now.outliers

@@ -1,7 +1,8 @@
 //! The satellite lines of a block.
 
 ghost use Rattle.std.specs.Prelude.{◌≡◌, ◌≤◌, pos, IfOk};
-ghost use Rattle.epoch_rows.specs.Grown.{IsGrownLine, AreGrownLines, greatest_spare, greatest_err_spare, skips_of};
+ghost use Rattle.epoch_rows.specs.Grown.{IsGrownLine, AreGrownLines, greatest_spare};
+ghost use Rattle.epoch_rows.specs.Grown.{greatest_err_spare, skips_of};
 ghost use Rattle.grid_model.specs.Boxes.{grid_box};
 ghost use Rattle.grid_model.specs.Lengths.{spare_of};
 ghost use Rattle.gnss_model.specs.Zenith.{IsZenith, err_spare_of};

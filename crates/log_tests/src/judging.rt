@@ -131,8 +131,8 @@ fn judges_an_empty_cover(rt: HostRuntime) -> Result<(), Fail> {
     Ok(())
 }
 
-/// Less is sure of the first satellite than that its error is allowed. A box at the edge goes by what
-/// is allowed, an inner one by what is sure.
+/// Less is sure of the first satellite than that its error is allowed. A box at the edge goes by
+/// what is allowed, an inner one by what is sure.
 #[test]
 fn judges_unsure_rows(rt: HostRuntime) -> Result<(), Fail> {
     let [_, second, third, fourth] = four_rows(FAR, up_to(500_000));

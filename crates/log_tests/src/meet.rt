@@ -127,7 +127,8 @@ fn inner_spans_go_by_what_is_surely_allowed(rt: HostRuntime) -> Result<(), Fail>
     Ok(())
 }
 
-/// The row of a satellite on the x axis whose error lies between these, at its range from the origin.
+/// The row of a satellite on the x axis whose error lies between these, at its range from the
+/// origin.
 fn with_error(lo: i64, hi: i64) -> Row
     requires ordered { lo ≤ℤ hi }
     requires sizes { IsErrorSize lo × IsErrorSize hi }

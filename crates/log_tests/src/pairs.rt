@@ -56,8 +56,8 @@ fn rows_at_the_ends_of_their_sizes(rt: HostRuntime) -> Result<(), Fail> {
     Ok(())
 }
 
-// At a satellite's place v is 0, so A is 1. A range R leaves S b up to (R + 1) S, and from R S - S / 2:
-// that of 1 um still meets that of 0, and that of 2 um doesn't.
+// At a satellite's place v is 0, so A is 1. A range R leaves S b up to (R + 1) S, and from R S - S
+// / 2: that of 1 um still meets that of 0, and that of 2 um doesn't.
 #[test]
 fn rows_of_a_satellite_in_the_box(rt: HostRuntime) -> Result<(), Fail> {
     let point = Box3 {

@@ -1,5 +1,5 @@
 use crate::small_rows::cuboid;
-use epoch_report::{Counts4, Line, epoch_text, push_metres, step_text, total_text};
+use epoch_report::{Counts4, Line, epoch_text, metres, step_text, total_text};
 use grid_model::{Box3, Pos};
 use sat_model::Step;
 use std::test::Fail;
@@ -7,18 +7,16 @@ use std::test::Fail;
 #[test]
 fn lengths_have_a_sign_where_negative_and_six_decimals(rt: HostRuntime) -> Result<(), Fail> {
     for (um, text) in [
-        (0, " 0.000000"),
-        (-1, " -0.000001"),
-        (1, " 0.000001"),
-        (-999_999, " -0.999999"),
-        (999_999, " 0.999999"),
-        (-1_000_000, " -1.000000"),
-        (12_500_000, " 12.500000"),
-        (i64::MIN, " -9223372036854.775808"),
+        (0, "0.000000"),
+        (-1, "-0.000001"),
+        (1, "0.000001"),
+        (-999_999, "-0.999999"),
+        (999_999, "0.999999"),
+        (-1_000_000, "-1.000000"),
+        (12_500_000, "12.500000"),
+        (i64::MIN, "-9223372036854.775808"),
     ] {
-        let mut line = Line::new();
-        push_metres(&mut line, um);
-        assert_eq!(rt; &*line, text);
+        assert_eq!(rt; &*metres(um), text);
     }
     Ok(())
 }

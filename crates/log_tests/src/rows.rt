@@ -6,7 +6,7 @@ use grid_model::{Box3, Pos};
 use log_writer::Blocks;
 use paving_log::LogEpoch;
 use rinex_nav::{Nav, read_nav};
-use rinex_obs::read_obs;
+use rinex_obs::read_obs_both;
 use sat_model::SatEntry;
 use sat_rows::GpsRows;
 use std::alloc::{AllocError, Global};
@@ -14,6 +14,7 @@ use std::test::Fail;
 
 const OBS: &str = "     3.05           OBSERVATION DATA    G                   RINEX VERSION / TYPE
 G    1 C1C                                                  SYS / # / OBS TYPES
+E    2 C1C C5Q                                              SYS / # / OBS TYPES
                                                             END OF HEADER
 > 2024 01 07 02 00  1.0000000  0  5
 G01  20000000.000
@@ -106,8 +107,12 @@ fn blocks_of(alloc: Global, selection: Selection) -> Result<Vec<LogEpoch>, Fail>
     if text.len() > 4_000 {
         return Err(Fail::from("long"));
     }
-    let signal = Signal::Single { code: *b"C1C" };
-    let obs = match read_obs(alloc, text, &signal, false) {
+    let gps = Signal::Single { code: *b"C1C" };
+    let galileo = Signal::Dual {
+        first: *b"C1C",
+        second: *b"C5Q",
+    };
+    let obs = match read_obs_both(alloc, text, &gps, &galileo, false) {
         Ok(obs) => obs,
         Err(_) => return Err(Fail::from("observations")),
     };

@@ -53,8 +53,8 @@ pub fn row(number: u8, place: Pos, range: i64, err: Span) -> Row
     }
 }
 
-/// The row of a satellite on the x axis, 20,000 km from the origin and at that range, whose error is
-/// at most 1 m; from `sure_lo` to `sure_hi` it is surely allowed.
+/// The row of a satellite on the x axis, 20,000 km from the origin and at that range, whose error
+/// is at most 1 m; from `sure_lo` to `sure_hi` it is surely allowed.
 pub fn metre_row(sure_lo: i64, sure_hi: i64) -> Row
     requires low { (negsuc 999999 ≤ℤ sure_lo) × (sure_lo ≤ℤ pos 1000000) }
     requires high { (negsuc 999999 ≤ℤ sure_hi) × (sure_hi ≤ℤ pos 1000000) }

@@ -43,16 +43,22 @@ fn spans_are_in_order_and_within_their_bound(rt: HostRuntime) -> Result<(), Fail
 #[test]
 fn satellites_and_why_one_is_skipped(rt: HostRuntime) -> Result<(), Fail> {
     for (line, value) in [
-        ("G01", Some(1)),
-        ("G99", Some(99)),
+        ("G01", Some((b'G', 1))),
+        ("G99", Some((b'G', 99))),
+        ("E01", Some((b'E', 1))),
+        ("E00", None),
         ("G00", None),
         ("G1", None),
         ("G001", None),
         ("g01", None),
-        ("E01", None),
+        ("R01", None),
     ] {
         let read = satellite(Some(line.as_bytes()));
-        assert_eq!(rt; read.map(|(sat, _)| sat.number), value, "at {line}");
+        assert_eq!(rt;
+            read.map(|(sat, _)| (sat.system, sat.number)),
+            value,
+            "at {line}"
+        );
     }
     for (line, value) in [
         ("1", Some((1, 0))),

@@ -47,6 +47,26 @@ const WHOLE: Devices = Devices {
     out_fails: 0,
 };
 
+/// Devices whose log fails at a call.
+fn failing_log(fails: u64) -> Devices {
+    Devices { fails, ..WHOLE }
+}
+
+/// Devices whose log has room for so many bytes.
+fn small_log(room: u64) -> Devices {
+    Devices { room, ..WHOLE }
+}
+
+/// Devices whose report fails at a call.
+fn failing_report(out_fails: u64) -> Devices {
+    Devices { out_fails, ..WHOLE }
+}
+
+/// Devices whose report has room for so many bytes.
+fn small_report(out_room: u64) -> Devices {
+    Devices { out_room, ..WHOLE }
+}
+
 /// What they hold in the end.
 #[derive(Drop)]
 struct Held {
@@ -119,8 +139,8 @@ fn both(alloc: Global, first: &str, second: &str) -> Result<String, AllocError> 
     Ok(text)
 }
 
-// What fits one piece goes out at the end, or at a full log in the middle of the epoch. A device that
-// is full keeps what it took.
+// What fits one piece goes out at the end, or at a full log in the middle of the epoch. A device
+// that is full keeps what it took.
 #[test]
 fn one_piece_goes_out_at_the_end(rt: HostRuntime) -> Result<(), Fail> {
     let alloc = rt.alloc();
@@ -139,34 +159,28 @@ fn one_piece_goes_out_at_the_end(rt: HostRuntime) -> Result<(), Fail> {
         (0, WHOLE, full, ("", ""), ("", "")),
         (
             all,
-            Devices { fails: 2, ..WHOLE },
+            failing_log(2),
             Err(WriteFault::Log),
             ("", ""),
             ("", ""),
         ),
         (
             100,
-            Devices { room: 20, ..WHOLE },
+            small_log(20),
             Err(WriteFault::Log),
             ("gpscover 1\nrules 0 0", ""),
             ("", ""),
         ),
         (
             all,
-            Devices {
-                out_fails: 1,
-                ..WHOLE
-            },
+            failing_report(1),
             Err(WriteFault::Out),
             (ROWS, STEPS),
             ("", ""),
         ),
         (
             100,
-            Devices {
-                out_room: 20,
-                ..WHOLE
-            },
+            small_report(20),
             Err(WriteFault::Out),
             (HEAD, ""),
             ("epoch 1 gps 13881024", ""),
@@ -184,7 +198,8 @@ fn one_piece_goes_out_at_the_end(rt: HostRuntime) -> Result<(), Fail> {
     Ok(())
 }
 
-/// A box that is cut at two faces before it is closed: its rows, its steps and what the report says of them.
+/// A box that is cut at two faces before it is closed: its rows, its steps and what the report says
+/// of them.
 const CUT_ROWS: &str = "\
 gpscover 1
 rules 0 0 1000000
@@ -238,8 +253,8 @@ fn long_rows(alloc: Global) -> Result<String, Fail> {
     Ok(text)
 }
 
-// The report fills the first piece, with the lines of 1,394 epochs: 65,518 of 65,536 bytes. The head
-// has 26 bytes.
+// The report fills the first piece, with the lines of 1,394 epochs: 65,518 of 65,536 bytes. The
+// head has 26 bytes.
 #[test]
 fn the_logs_piece_goes_out_before_the_reports(rt: HostRuntime) -> Result<(), Fail> {
     let alloc = rt.alloc();
@@ -247,56 +262,14 @@ fn the_logs_piece_goes_out_before_the_reports(rt: HostRuntime) -> Result<(), Fai
     let all = 100_000;
     let table = [
         (all, WHOLE, Ok(()), 72_026, 94_000),
+        (all, failing_log(2), Err(WriteFault::Log), 0, 0),
+        (all, failing_log(3), Err(WriteFault::Log), 50_210, 65_518),
+        (all, small_log(60_000), Err(WriteFault::Log), 60_000, 65_518),
+        (all, failing_report(1), Err(WriteFault::Out), 50_210, 0),
+        (all, failing_report(2), Err(WriteFault::Out), 72_026, 65_518),
         (
             all,
-            Devices { fails: 2, ..WHOLE },
-            Err(WriteFault::Log),
-            0,
-            0,
-        ),
-        (
-            all,
-            Devices { fails: 3, ..WHOLE },
-            Err(WriteFault::Log),
-            50_210,
-            65_518,
-        ),
-        (
-            all,
-            Devices {
-                room: 60_000,
-                ..WHOLE
-            },
-            Err(WriteFault::Log),
-            60_000,
-            65_518,
-        ),
-        (
-            all,
-            Devices {
-                out_fails: 1,
-                ..WHOLE
-            },
-            Err(WriteFault::Out),
-            50_210,
-            0,
-        ),
-        (
-            all,
-            Devices {
-                out_fails: 2,
-                ..WHOLE
-            },
-            Err(WriteFault::Out),
-            72_026,
-            65_518,
-        ),
-        (
-            all,
-            Devices {
-                out_room: 70_000,
-                ..WHOLE
-            },
+            small_report(70_000),
             Err(WriteFault::Out),
             72_026,
             70_000,
@@ -349,23 +322,8 @@ fn finished_epochs_go_out_where_memory_ends(rt: HostRuntime) -> Result<(), Fail>
     let table = [
         (0, WHOLE, WriteFault::NoMemory, 26, 0),
         (1_500, WHOLE, WriteFault::NoMemory, 54_026, 70_500),
-        (
-            1_500,
-            Devices { fails: 3, ..WHOLE },
-            WriteFault::Log,
-            50_210,
-            65_518,
-        ),
-        (
-            1_500,
-            Devices {
-                out_fails: 2,
-                ..WHOLE
-            },
-            WriteFault::Out,
-            54_026,
-            65_518,
-        ),
+        (1_500, failing_log(3), WriteFault::Log, 50_210, 65_518),
+        (1_500, failing_report(2), WriteFault::Out, 54_026, 65_518),
     ];
     for (left, devices, fault, log, report) in table {
         let rows = rows_in(alloc, &long_rows(alloc)?)?;

@@ -1,5 +1,6 @@
 -- The words of the values in a line, and which values fit there.
-use Rattle.std.specs.Prelude.{ℕ, zero, suc, ◌≡◌, ◌⊎◌, ◌+◌, ◌/◌, ◌%◌, ◌≤◌, ℤ, pos, ◌≤ℤ◌, List, [], ◌∷◌}
+use Rattle.std.specs.Prelude.{ℕ, zero, suc, ◌≡◌, ◌⊎◌, ◌+◌, ◌/◌, ◌%◌, ◌≤◌, ℤ, pos, ◌≤ℤ◌, List, []}
+use Rattle.std.specs.Prelude.{◌∷◌}
 use Rattle.std.specs.Fmt.{decimal, signed_decimal}
 use Rattle.grid_model.specs.Sizes.{IsWithin}
 use Rattle.grid_model.specs.declared.spans.Span.{Span}
@@ -41,9 +42,9 @@ IsPosWithin bound p = IsWithin bound p.x × IsWithin bound p.y × IsWithin bound
 abbrev pub sat_words : Sat → List (List ℕ)
 sat_words s = (s.system ∷ (48 + s.number / 10) ∷ (48 + s.number % 10) ∷ []) ∷ []
 
--- a satellite of the system G, numbered from 01 to 99
-abbrev pub IsGps : Sat → Type 0
-IsGps s = (s.system ≡ 71) × IsCountFromTo 1 99 s.number
+-- a satellite of the system G or E, numbered from 01 to 99
+abbrev pub IsNamed : Sat → Type 0
+IsNamed s = ((s.system ≡ 71) ⊎ (s.system ≡ 69)) × IsCountFromTo 1 99 s.number
 
 -- nothing for 0
 abbrev pub optional_words : ℕ → List (List ℕ)

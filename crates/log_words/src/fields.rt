@@ -2,7 +2,9 @@
 
 ghost use Rattle.std.specs.Prelude.{◌≡◌, ℕ, ℤ, ◌<◌, ◌^◌, ◌≤ℤ◌, List, [], ◌∷◌, pos, neg_ℤ};
 ghost use Rattle.log_words.specs.Words.{words_left, Reads, ReadsFront};
-ghost use Rattle.log_words.specs.Fields.{number_words, IsFromTo, span_words, IsSpanWithin, pos_words, IsPosWithin, sat_words, IsGps, skip_words, IsPlainTest, SkipFits, count_words, IsCountFromTo, IsTime};
+ghost use Rattle.log_words.specs.Fields.{number_words, IsFromTo, span_words, IsSpanWithin};
+ghost use Rattle.log_words.specs.Fields.{pos_words, IsPosWithin, sat_words, IsNamed, skip_words};
+ghost use Rattle.log_words.specs.Fields.{IsPlainTest, SkipFits, count_words, IsCountFromTo, IsTime};
 
 use crate::words::{Rest, is_ended, number, time_of, word};
 use gnss_model::{Sat, Skip};
@@ -11,7 +13,8 @@ use grid_model::{Pos, Span};
 /// A number of at most `bound` in amount.
 pub fn amount(rest: Rest<'_>, bound: u64) -> Option<(i64, Rest<'_>)>
     requires { bound < 2 ^ 63 }
-    ensures { ReadsFront (IsFromTo (neg_ℤ (pos bound)) (pos bound)) number_words (words_left rest.entry) result }
+    ensures { ReadsFront (IsFromTo (neg_ℤ (pos bound)) (pos bound)) number_words
+        (words_left rest.entry) result }
 {
     number(rest, -(bound as i64), bound as i64)
 }
@@ -58,31 +61,30 @@ pub fn place(rest: Rest<'_>, bound: u64) -> Option<(Pos, Rest<'_>)>
     Some((Pos { x, y, z }, rest))
 }
 
-/// The letter `G` and a number from 01 to 99.
+/// The letter `G` or `E` and a number from 01 to 99.
 pub fn satellite(rest: Rest<'_>) -> Option<(Sat, Rest<'_>)>
-    ensures { ReadsFront IsGps sat_words (words_left rest.entry) result }
+    ensures { ReadsFront IsNamed sat_words (words_left rest.entry) result }
 {
     let (word, rest) = word(rest)?;
-    let (tens, ones) = match word {
-        [b'G', tens @ b'0'..=b'9', ones @ b'0'..=b'9'] => (*tens, *ones),
+    let (system, tens, ones) = match word {
+        [
+            system @ (b'G' | b'E'),
+            tens @ b'0'..=b'9',
+            ones @ b'0'..=b'9',
+        ] => { (*system, *tens, *ones) }
         _ => return None,
     };
     let number = (tens - b'0') * 10 + (ones - b'0');
     if number == 0 {
         return None;
     }
-    Some((
-        Sat {
-            system: b'G',
-            number,
-        },
-        rest,
-    ))
+    Some((Sat { system, number }, rest))
 }
 
 /// The number of one of the tests 1 to 5, or 7, which have no field.
 fn plain_skip(rest: Rest<'_>) -> Option<Skip>
-    ensures { Reads (λ skip. IsPlainTest skip.number × (skip.field ≡ 0)) skip_words (words_left rest.entry) result }
+    ensures { Reads (λ skip. IsPlainTest skip.number
+        × (skip.field ≡ 0)) skip_words (words_left rest.entry) result }
 {
     let (number, rest) = count(rest, 1, 7)?;
     if number == 6 {
@@ -99,7 +101,8 @@ fn plain_skip(rest: Rest<'_>) -> Option<Skip>
 
 /// Test 6, and the number of the field.
 fn field_skip(rest: Rest<'_>) -> Option<Skip>
-    ensures { Reads (λ skip. (skip.number ≡ 6) × IsCountFromTo 1 20 skip.field) skip_words (words_left rest.entry) result }
+    ensures { Reads (λ skip. (skip.number ≡ 6) × IsCountFromTo 1 20 skip.field) skip_words
+        (words_left rest.entry) result }
 {
     let (number, rest) = count(rest, 6, 6)?;
     let (field, rest) = count(rest, 1, 20)?;

@@ -1,7 +1,8 @@
 //! Numbers at the front of a text, each with the byte that ends it. Where none is read nothing is
 //! said of the text, so that a reader may go on to the words.
 
-ghost use Rattle.std.specs.Prelude.{ℕ, ◌≡◌, ◌<◌, ◌≤◌, ◌^◌, ◌++◌, ◌∷◌, length, slice_index, IsTrue, IfSome};
+ghost use Rattle.std.specs.Prelude.{ℕ, ◌≡◌, ◌<◌, ◌≤◌, ◌^◌, ◌++◌, ◌∷◌, length, slice_index, IsTrue};
+ghost use Rattle.std.specs.Prelude.{IfSome};
 ghost use Rattle.std.specs.Fmt.{decimal, signed_decimal};
 ghost use Rattle.grid_model.specs.Sizes.{IsWithin};
 
@@ -46,7 +47,8 @@ fn leading_number(text: &[u8], end: u8) -> Option<(u64, &[u8])>
 /// A digit of at most `most` in front of `end`, and what stands behind `end`.
 pub fn leading_digit(text: &[u8], end: u8, most: u8) -> Option<(u8, &[u8])>
     requires { most ≤ 9 }
-    ensures { IfSome result (λ found. (found.0 ≤ most) × (text.now ≡ decimal found.0 ++ end ∷ found.1.now)) }
+    ensures { IfSome result (λ found. (found.0 ≤ most)
+        × (text.now ≡ decimal found.0 ++ end ∷ found.1.now)) }
 {
     let [byte, after, behind @ ..] = text else {
         return None;
@@ -64,7 +66,8 @@ pub fn leading_digit(text: &[u8], end: u8, most: u8) -> Option<(u8, &[u8])>
 /// A number of at most `most` without a sign in front of `end`, and what stands behind `end`. It is
 /// read digit by digit, which takes less than a word of eight bytes where there are few.
 pub fn leading_count(text: &[u8], end: u8, most: u32) -> Option<(u32, &[u8])>
-    ensures { IfSome result (λ found. (found.0 ≤ most) × (text.now ≡ decimal found.0 ++ end ∷ found.1.now)) }
+    ensures { IfSome result (λ found. (found.0 ≤ most)
+        × (text.now ≡ decimal found.0 ++ end ∷ found.1.now)) }
 {
     let front = &text[..text.len().min(LOOKED_AT)];
     let mut number = 0;
@@ -84,7 +87,8 @@ pub fn leading_count(text: &[u8], end: u8, most: u32) -> Option<(u32, &[u8])>
 /// A number of at most `bound` in amount in front of `end`, and what stands behind `end`.
 pub fn leading_amount(text: &[u8], end: u8, bound: u64) -> Option<(i64, &[u8])>
     requires { bound < 2 ^ 63 }
-    ensures { IfSome result (λ found. IsWithin bound found.0 × (text.now ≡ signed_decimal found.0 ++ end ∷ found.1.now)) }
+    ensures { IfSome result (λ found. IsWithin bound found.0
+        × (text.now ≡ signed_decimal found.0 ++ end ∷ found.1.now)) }
 {
     if let [b'-', digits @ ..] = text {
         let (amount, behind) = leading_number(digits, end)?;

@@ -1,5 +1,5 @@
-//! The words of a log's lines, and the numbers, spans, points and satellites that they spell, each in
-//! its one spelling.
+//! The words of a log's lines, and the numbers, spans, points and satellites that they spell, each
+//! in its one spelling.
 #![tactic(auto)]
 
 mod fields;

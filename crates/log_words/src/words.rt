@@ -1,6 +1,7 @@
 //! The words of a line, from left to right.
 
-ghost use Rattle.std.specs.Prelude.{◌≡◌, ℕ, ◌≤◌, ℤ, ◌≤ℤ◌, List, [], ◌∷◌, IfSome, IfNone, Some, IsTrue, ◌↔◌};
+ghost use Rattle.std.specs.Prelude.{◌≡◌, ℕ, ◌≤◌, ℤ, ◌≤ℤ◌, List, [], ◌∷◌, IfSome, IfNone, Some};
+ghost use Rattle.std.specs.Prelude.{IsTrue, ◌↔◌};
 ghost use Rattle.std.specs.Fmt.{decimal, signed_decimal};
 ghost use Rattle.grid_model.specs.Sizes.{IsWithin};
 ghost use Rattle.log_words.specs.Words.{words, words_left, ReadsFront};
@@ -20,7 +21,8 @@ pub type Rest<'a> = Option<&'a [u8]>;
 
 /// The first word, and what is left after it.
 pub fn word(rest: Rest<'_>) -> Option<(&[u8], Rest<'_>)>
-    ensures found { IfSome result (λ found. words_left rest.entry ≡ found.0.now ∷ words_left found.1) }
+    ensures found { IfSome result (λ found. words_left rest.entry ≡ found.0.now
+        ∷ words_left found.1) }
     ensures none { IfNone result (words_left rest.entry ≡ []) }
 {
     let bytes = rest?;
@@ -59,7 +61,8 @@ fn digits_number(digits: &[u8]) -> Option<u64>
 /// The number that the word spells, in the one spelling.
 fn signed_number(word: &[u8]) -> Option<i128>
     ensures found { IfSome result (λ n. word.now ≡ signed_decimal n) }
-    ensures none { IfNone result ((n : ℤ) → IsWithin 9999999999999999999 n → word.now ≡ signed_decimal n → ⊥) }
+    ensures none { IfNone result ((n : ℤ) → IsWithin 9999999999999999999 n →
+        word.now ≡ signed_decimal n → ⊥) }
 {
     if let [b'-', digits @ ..] = word {
         let amount = digits_number(digits)?;
@@ -75,7 +78,8 @@ fn signed_number(word: &[u8]) -> Option<i128>
 /// The number from `low` to `high` that the word spells, in the one spelling.
 pub fn number_of(word: &[u8], low: i64, high: i64) -> Option<i64>
     ensures found { IfSome result (λ n. (word.now ≡ signed_decimal n) × (low ≤ℤ n) × (n ≤ℤ high)) }
-    ensures none { IfNone result ((n : ℤ) → low ≤ℤ n → n ≤ℤ high → word.now ≡ signed_decimal n → ⊥) }
+    ensures none { IfNone result ((n : ℤ) → low ≤ℤ n → n ≤ℤ high → word.now ≡ signed_decimal n →
+        ⊥) }
 {
     let number = signed_number(word)?;
     if i128::from(low) <= number && number <= i128::from(high) {

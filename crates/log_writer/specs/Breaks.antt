@@ -24,9 +24,9 @@ abbrev pub IsLonger : ℕ → List Piece → List Piece → Type 0
 IsLonger limit text [] = ⊥
 IsLonger limit text (next ∷ more) = limit < length (log_bytes text) + length next.line
 
--- What the log and the report have of a text, which more would have followed: first bytes of it
--- where a device failed, the whole log where that was `out`; and all of it where the next line
--- didn't fit, or memory ended.
+-- What both files hold of a text after a fault, before which more would have followed. Log: first
+-- bytes of the log, and lines of the report that it has whole. Out: all of the log, first bytes of
+-- the report. Full and NoMemory: all of both.
 abbrev pub Leaves : ℕ → (text more : List Piece) → WriteFault → (log report : List ℕ) → Type 0
 Leaves limit text more why.Log log report = LogBreaks text log report
 Leaves limit text more why.Out log report =

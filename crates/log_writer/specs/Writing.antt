@@ -91,7 +91,7 @@ pub record Lost (start : Seen) (text : List Piece) (fault : WriteFault) (now : S
   pub fits : length (log_bytes text) ≤ start.left
   pub fails : Loses text fault start.at now.at log report
 
--- by the fault at which a text ended that more would have followed
+-- by the fault that stopped the text before `more`
 abbrev pub Stops : Seen → (text more : List Piece) → WriteFault → Seen → Type 0
 Stops start text more why.Log now = Lost start text why.Log now
 Stops start text more why.Out now = Lost start text why.Out now

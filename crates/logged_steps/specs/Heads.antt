@@ -1,12 +1,14 @@
--- Steps in columns: heads, each what a step is or which box the steps from there on speak of, and beside them the
--- numbers of boxes and the numbers in um that the heads leave open.
-use Rattle.std.specs.Prelude.{ℕ, ◌+◌, ◌%◌, ◌^◌, ℤ, if◌then◌else◌, nat_eq, List, [], ◌∷◌, ◌++◌, Option, None, Some, option_to_list}
+-- Steps in columns: heads, each what a step is or which box the steps from there on speak of, and
+-- beside them the numbers of boxes and the numbers in um that the heads leave open.
+use Rattle.std.specs.Prelude.{ℕ, ◌+◌, ◌%◌, ◌^◌, ℤ, if◌then◌else◌, nat_eq, List, [], ◌∷◌, ◌++◌}
+use Rattle.std.specs.Prelude.{Option, None, Some, option_to_list}
 use Rattle.sat_model.specs.declared.steps.Step.{Step}
 use Rattle.sat_model.specs.declared.steps.Step.TheVariants as step
 use Rattle.logged_steps.specs.declared.head.BoxOf.{BoxOf}
 use Rattle.logged_steps.specs.declared.head.BoxOf.TheVariants as of
 use Rattle.logged_steps.specs.declared.head.Head.{Head}
-use Rattle.logged_steps.specs.declared.head.Head.TheVariants.{Next, Other, Cut, Split, Outside, Inside, Edge}
+use Rattle.logged_steps.specs.declared.head.Head.TheVariants.{Next, Other, Cut, Split, Outside}
+use Rattle.logged_steps.specs.declared.head.Head.TheVariants.{Inside, Edge}
 
 -- ---- one head
 
@@ -85,10 +87,12 @@ numbers_of (step.Outside id) = []
 numbers_of (step.Inside id clock lo hi) = clock ∷ lo ∷ hi ∷ []
 numbers_of (step.Edge id lo hi) = lo ∷ hi ∷ []
 
--- how its box is told where it was the box `last` before: as the same, as the next one, or by its number
+-- how its box is told where it was the box `last` before: as the same, as the next one, or by its
+-- number
 abbrev pub box_of : (last id : ℕ) → BoxOf
 box_of last id =
-    if nat_eq id last then of.Same else (if nat_eq id ((last + 1) % 2 ^ 32) then of.Next else of.Other)
+    if nat_eq id last then of.Same else (if nat_eq id ((last + 1) % 2 ^ 32) then of.Next
+    else of.Other)
 
 -- the heads that tell it, and the number that stands beside
 abbrev pub heads_of : BoxOf → List Head

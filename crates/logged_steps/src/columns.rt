@@ -1,7 +1,8 @@
 //! What stands in the columns, put behind the others and taken from the front.
 
 ghost use Rattle.std.specs.Prelude.{◌≡◌, ◌≤◌, ◌++◌, ◌∷◌, [], length, OnOk, OnErr};
-ghost use Rattle.logged_steps.specs.Heads.{step_by, numbers_behind, numbers_for, numbers_of, box_by, ids_behind, ids_for, ids_of, heads_of};
+ghost use Rattle.logged_steps.specs.Heads.{step_by, numbers_behind, numbers_for, numbers_of};
+ghost use Rattle.logged_steps.specs.Heads.{box_by, ids_behind, ids_for, ids_of, heads_of};
 
 use crate::head::{BoxOf, Head};
 use sat_model::Step;
@@ -47,7 +48,8 @@ pub fn push_numbers(numbers: &mut Vec<i64>, step: &Step) -> Result<(), AllocErro
     }
 }
 
-/// The box behind a head where it was the box `last` before, and the numbers of boxes that are left.
+/// The box behind a head where it was the box `last` before, and the numbers of boxes that are
+/// left.
 pub fn first_box(head: Head, last: u32, ids: &[u32]) -> (u32, &[u32])
     requires { ids_for head ≤ length ids.now }
     ensures id { result.0 ≡ box_by head last ids.now }

@@ -16,7 +16,8 @@ pub enum BoxOf {
     Other,
 }
 
-/// A step without its numbers, or which box the steps from there on speak of: two bytes.
+/// An opcode of the columns: a kind of step, or a change of the box that those behind it speak of.
+/// It takes two bytes.
 #[derive(Clone, Copy, Debug)]
 pub enum Head {
     /// The one numbered next.

@@ -25,7 +25,7 @@ use Rattle.paving_log.specs.declared.line.LineName.TheVariants as name
 use Rattle.paving_log.specs.declared.line.LogLine.{LogLine}
 use Rattle.paving_log.specs.declared.line.LogLine.TheVariants as line
 use Rattle.log_words.specs.Words.{words, joined}
-use Rattle.log_words.specs.Fields.{optional_words, span_words, IsSpanWithin, pos_words, IsPosWithin, sat_words, IsGps, skip_words, SkipFits, IsTime}
+use Rattle.log_words.specs.Fields.{optional_words, span_words, IsSpanWithin, pos_words, IsPosWithin, sat_words, IsNamed, skip_words, SkipFits, IsTime}
 use Rattle.paving_log.specs.Rows.{are_ends, sure_words, error_words, row_words, RowFits, entry_words, EntryFits}
 use Rattle.paving_log.specs.Lines.{spelled, name_of, fields, limits_words, header_words, HeaderFits, step_words, IsId, StepFits, LineFits, line_words, line_text}
 use Rattle.log_words.proofs.TimeLemmas.{time_count}
@@ -72,8 +72,11 @@ span_are bound s small within = (within_word bound s.lo small within.0, (within_
 pos_are : (bound : ℕ) (p : Pos) → bound < 10 ^ 64 → IsPosWithin bound p → AreWords (pos_words p)
 pos_are bound p small within = (within_word bound p.x small within.0, (within_word bound p.y small within.1, (within_word bound p.z small within.2, tt)))
 
-sat_are : (s : Sat) → IsGps s → AreWords (sat_words s)
-sat_are s gps = ((omega (arith, gps.0), (omega arith, (omega arith, tt))), tt)
+sat_are : (s : Sat) → IsNamed s → AreWords (sat_words s)
+sat_are s named = elim named.0 [
+  | inl gps ↦ ((omega (arith, gps), (omega arith, (omega arith, tt))), tt)
+  | inr galileo ↦ ((omega (arith, galileo), (omega arith, (omega arith, tt))), tt)
+]
 
 limits_are : (r : Limits) → AreWords (limits_words r)
 limits_are r = (count_word 8 r.outliers (lit< tt) r.few_outliers, (count_word 200000 r.bisections (lit< tt) r.few_bisections, (within_word 10000000000 r.width (lit< tt) (record { low = omega (arith, ints, r.wide); high = r.narrow }), tt)))

@@ -28,7 +28,7 @@ use Rattle.paving_log.specs.declared.line.LineName.TheVariants as name
 use Rattle.paving_log.specs.declared.line.LogLine.{LogLine}
 use Rattle.paving_log.specs.declared.line.LogLine.TheVariants as line
 use Rattle.paving_log.specs.declared.line.Place.{Place}
-use Rattle.log_words.specs.Fields.{IsSpanWithin, IsPosWithin, IsTime, sat_words, IsGps, optional_words, skip_words, SkipFits}
+use Rattle.log_words.specs.Fields.{IsSpanWithin, IsPosWithin, IsTime, sat_words, IsNamed, optional_words, skip_words, SkipFits}
 use Rattle.paving_log.specs.Rows.{row_words, RowFits, entry_words, EntryFits, root_words, CornersFit}
 use Rattle.paving_log.specs.Lines.{version_word, limits_of, limits_words, header_words, HeaderFits, step_words, step_name, IsId, StepFits, entry_name, name_of, fields, LineFits, line_words, text_of}
 use Rattle.paving_log.specs.Order.{Leads}
@@ -142,11 +142,12 @@ span_from bound a b small f g p q = same_span a b (one_number bound a.lo b.lo sm
 pos_from : (bound : ℕ) (a b : Pos) → bound < 2 ^ 63 → IsPosWithin bound a → IsPosWithin bound b → signed_decimal a.x ≡ signed_decimal b.x → signed_decimal a.y ≡ signed_decimal b.y → signed_decimal a.z ≡ signed_decimal b.z → a ≡ b
 pos_from bound a b small f g p q r = same_pos a b (one_number bound a.x b.x small f.0 g.0 p) (one_number bound a.y b.y small f.1 g.1 q) (one_number bound a.z b.z small f.2 g.2 r)
 
-sat_from : (a b : Sat) → IsGps a → IsGps b → get_or (sat_words a) 0 [] ≡ get_or (sat_words b) 0 [] → a ≡ b
+sat_from : (a b : Sat) → IsNamed a → IsNamed b → get_or (sat_words a) 0 [] ≡ get_or (sat_words b) 0 [] → a ≡ b
 sat_from a b f g e =
     let tens : 48 + a.number / 10 ≡ 48 + b.number / 10 = ap (λ (w : List ℕ). get_or w 1 0) e in
     let ones : 48 + a.number % 10 ≡ 48 + b.number % 10 = ap (λ (w : List ℕ). get_or w 2 0) e in
-    same_sat a b (f.0 ∙ sym g.0) (omega arith)
+    let system : a.system ≡ b.system = ap (λ (w : List ℕ). get_or w 0 0) e in
+    same_sat a b system (omega arith)
 
 row_from : (a b : Row) → RowFits a → RowFits b → row_words a ≡ row_words b → a ≡ b
 row_from a b f g e =

@@ -1,5 +1,6 @@
 -- The first line of a text that doesn't fit in a log.
-use Rattle.std.specs.Prelude.{ℕ, ◌≡◌, ◌≢◌, ◌+◌, ◌<◌, ◌⊎◌, Bool, true, false, if◌then◌else◌, List, [], ◌∷◌, ◌++◌, length, Some, None, slice_index}
+use Rattle.std.specs.Prelude.{ℕ, ◌≡◌, ◌≢◌, ◌+◌, ◌<◌, ◌⊎◌, Bool, true, false, if◌then◌else◌, List}
+use Rattle.std.specs.Prelude.{[], ◌∷◌, ◌++◌, length, Some, None, slice_index}
 use Rattle.paving_log.specs.declared.line.Fault.{Fault}
 use Rattle.paving_log.specs.declared.line.Fault.TheVariants as fault
 use Rattle.paving_log.specs.declared.line.Form.TheVariants as form
@@ -39,7 +40,8 @@ abbrev pub Misfit : Place → List ℕ → Fault → Type 0
 -- no line that begins with the first word may come here
 Misfit at here fault.Word = (n : LineName) → Begins at here n → ⊥
 -- one may come here, and none that fits has these words
-Misfit at here fault.Fields = (n : LineName) × Begins at here n × ((l : LogLine) → LineFits l → words here ≡ line_words l → ⊥)
+Misfit at here fault.Fields = (n : LineName) × Begins at here n
+    × ((l : LogLine) → LineFits l → words here ≡ line_words l → ⊥)
 
 -- ---- the first line that doesn't fit
 
@@ -90,7 +92,8 @@ pub record IsUnended (at : Place) (text : List ℕ) (number : ℕ) (e : LogError
 
 -- the text begins with a line that doesn't fit at this place
 abbrev pub LineFails : Place → List ℕ → ℕ → LogError → Type 0
-LineFails at text number e = IsMissing at text number e ⊎ (IsMisfit at text number e ⊎ IsUnended at text number e)
+LineFails at text number e = IsMissing at text number e
+    ⊎ (IsMisfit at text number e ⊎ IsUnended at text number e)
 
 -- Some lines of the text fit one behind another, and the one behind them is the first that doesn't.
 pub record FaultFrom (at : Place) (text : List ℕ) (number : ℕ) (e : LogError) : Type 0 where

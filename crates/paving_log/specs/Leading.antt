@@ -6,7 +6,8 @@ use Rattle.paving_log.specs.declared.line.LogLine.TheVariants as line
 use Rattle.log_words.specs.Words.{joined}
 use Rattle.paving_log.specs.Lines.{StepFits, step_name, step_words, line_text}
 
--- the fields of a step of this name stand at the front up to the LF, and this is what stands behind it
+-- the fields of a step of this name stand at the front up to the LF, and this is what stands behind
+-- it
 pub record HasFields (n : LineName) (text : List ℕ) (s : Step) (behind : List ℕ) : Type 0 where
   pub fits : StepFits s
   pub name : step_name s ≡ n

@@ -55,7 +55,8 @@ abbrev pub step_words : Step → List (List ℕ)
 step_words (Cut id face bound) = decimal id ∷ decimal face ∷ signed_decimal bound ∷ []
 step_words (Split id axis) = decimal id ∷ decimal axis ∷ []
 step_words (Outside id) = decimal id ∷ []
-step_words (Inside id clock lo hi) = decimal id ∷ signed_decimal clock ∷ signed_decimal lo ∷ signed_decimal hi ∷ []
+step_words (Inside id clock lo hi) =
+    decimal id ∷ signed_decimal clock ∷ signed_decimal lo ∷ signed_decimal hi ∷ []
 step_words (Edge id lo hi) = decimal id ∷ signed_decimal lo ∷ signed_decimal hi ∷ []
 
 -- the number of a box
@@ -66,7 +67,8 @@ abbrev pub StepFits : Step → Type 0
 StepFits (Cut id face bound) = IsId id × IsCountFromTo 0 5 face × IsBoxSize bound
 StepFits (Split id axis) = IsId id × IsCountFromTo 0 2 axis
 StepFits (Outside id) = IsId id
-StepFits (Inside id clock lo hi) = IsId id × IsClockSize clock × IsClockSize lo × IsClockSize hi × (lo ≤ℤ hi)
+StepFits (Inside id clock lo hi) =
+    IsId id × IsClockSize clock × IsClockSize lo × IsClockSize hi × (lo ≤ℤ hi)
 StepFits (Edge id lo hi) = IsId id × IsClockSize lo × IsClockSize hi × (lo ≤ℤ hi)
 
 -- ---- the lines

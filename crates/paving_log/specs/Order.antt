@@ -1,5 +1,6 @@
 -- Which lines may follow one another.
-use Rattle.std.specs.Prelude.{ℕ, ◌≡◌, ◌+◌, Bool, true, false, if◌then◌else◌, nat_lt, List, [], ◌∷◌, Option, None, Some}
+use Rattle.std.specs.Prelude.{ℕ, ◌≡◌, ◌+◌, Bool, true, false, if◌then◌else◌, nat_lt, List, [], ◌∷◌}
+use Rattle.std.specs.Prelude.{Option, None, Some}
 use Rattle.paving_log.specs.declared.line.Form.{Form}
 use Rattle.paving_log.specs.declared.line.Form.TheVariants as form
 use Rattle.paving_log.specs.declared.line.LineName.{LineName}
@@ -47,4 +48,5 @@ may_end _ = false
 -- Each of the lines fits and may come behind the one before. They lead from one place to another.
 abbrev pub Leads : Place → List LogLine → Place → Type 0
 Leads at [] to = at ≡ to
-Leads at (l ∷ more) to = LineFits l × (behind : Place) × (next at (name_of l) ≡ Some behind) × Leads behind more to
+Leads at (l ∷ more) to = LineFits l × (behind : Place) × (next at (name_of l) ≡ Some behind)
+    × Leads behind more to

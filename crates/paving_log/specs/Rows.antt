@@ -9,7 +9,8 @@ use Rattle.sat_model.specs.declared.rows.SatEntry.{SatEntry}
 use Rattle.sat_model.specs.declared.rows.SatEntry.TheVariants as entry
 use Rattle.grid_model.specs.Boxes.{GridBox}
 use Rattle.paving_log.specs.declared.line.Corners.{Corners}
-use Rattle.log_words.specs.Fields.{span_words, pos_words, IsPosWithin, sat_words, IsGps, skip_words, SkipFits}
+use Rattle.log_words.specs.Fields.{span_words, pos_words, IsPosWithin, sat_words, IsNamed}
+use Rattle.log_words.specs.Fields.{skip_words, SkipFits}
 
 -- lo and hi are the ends of the span
 abbrev pub are_ends : Span → ℤ → ℤ → Bool
@@ -40,7 +41,7 @@ row_words r =
 
 -- all else that is asked of a row is kept by its type
 abbrev pub RowFits : Row → Type 0
-RowFits r = IsGps r.sat
+RowFits r = IsNamed r.sat
 
 -- a row, or the satellite and why it has none
 abbrev pub entry_words : SatEntry → List (List ℕ)
@@ -49,7 +50,7 @@ entry_words (entry.Skipped sat skip) = sat_words sat ++ skip_words skip
 
 abbrev pub EntryFits : SatEntry → Type 0
 EntryFits (entry.Row r) = RowFits r
-EntryFits (entry.Skipped sat skip) = IsGps sat × SkipFits skip
+EntryFits (entry.Skipped sat skip) = IsNamed sat × SkipFits skip
 
 -- the low corner and the high corner
 abbrev pub root_words : Corners → List (List ℕ)

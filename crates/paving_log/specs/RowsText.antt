@@ -1,5 +1,6 @@
 -- The text of rows: a log without its steps, whose blocks pass the tests of their own lines.
-use Rattle.std.specs.Prelude.{ℕ, ◌≡◌, ◌+◌, ◌≤◌, ◌⊎◌, Bool, true, false, List, [], ◌∷◌, length, Option, None, Some}
+use Rattle.std.specs.Prelude.{ℕ, ◌≡◌, ◌+◌, ◌≤◌, ◌⊎◌, Bool, true, false, List, [], ◌∷◌, length}
+use Rattle.std.specs.Prelude.{Option, None, Some}
 use Rattle.std.specs.List.{AllByRecursion}
 use Rattle.sat_model.specs.declared.rules.Rules.{Rules}
 use Rattle.sat_model.specs.declared.rows.SatEntry.{SatEntry}
@@ -17,10 +18,12 @@ use Rattle.paving_log.specs.Faults.{FaultFrom}
 
 -- ---- the spelling
 
--- each block begins where the lines of the one before end, and all lines have numbers of at most 4 * 10^9
+-- each block begins where the lines of the one before end, and all lines have numbers of at most 4
+-- * 10^9
 abbrev pub IsNumberedIn : Form → ℕ → List Block → Type 0
 IsNumberedIn f next [] = next ≤ 4000000001
-IsNumberedIn f next (b ∷ more) = (b.line ≡ next) × IsNumberedIn f (next + length (block_lines f b)) more
+IsNumberedIn f next (b ∷ more) =
+    (b.line ≡ next) × IsNumberedIn f (next + length (block_lines f b)) more
 
 -- The text is the one spelling of the value in this form. The blocks begin behind the two lines of
 -- the head, and have the numbers of their lines.
@@ -46,7 +49,8 @@ pub record OwnPasses (rules : Rules) (before : Option ℕ) (b : Block) : Type 0 
 abbrev pub OwnFails : Rules → Option ℕ → Block → ℕ → ℕ → Type 0
 OwnFails rules before b line number =
     (HeadFails rules before b number × (line ≡ b.line))
-    ⊎ (HeadPasses rules before b × ((k : ℕ) × IsFirstRepeat b.sats k × (line ≡ b.line + 1 + k)) × (number ≡ 52))
+    ⊎ (HeadPasses rules before b × ((k : ℕ) × IsFirstRepeat b.sats k × (line ≡ b.line + 1 + k))
+    × (number ≡ 52))
 
 abbrev pub AllOwnPass : Rules → Option ℕ → List Block → Type 0
 AllOwnPass rules before [] = Unit {0}
@@ -56,7 +60,8 @@ AllOwnPass rules before (b ∷ more) = OwnPasses rules before b × AllOwnPass ru
 abbrev pub FirstOwnFails : Rules → Option ℕ → List Block → ℕ → ℕ → Type 0
 FirstOwnFails rules before [] line number = ⊥
 FirstOwnFails rules before (b ∷ more) line number =
-    OwnFails rules before b line number ⊎ (OwnPasses rules before b × FirstOwnFails rules (Some b.index) more line number)
+    OwnFails rules before b line number ⊎ (OwnPasses rules before b
+    × FirstOwnFails rules (Some b.index) more line number)
 
 -- the first line of the value that fails one
 abbrev pub HasOwnFault : LogValue → ℕ → Type 0

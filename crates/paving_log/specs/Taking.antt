@@ -1,5 +1,6 @@
 -- Lines that were taken from the front of a text.
-use Rattle.std.specs.Prelude.{ℕ, ◌≡◌, ◌+◌, Bool, true, false, List, [], ◌∷◌, ◌++◌, length, Option, None, Some}
+use Rattle.std.specs.Prelude.{ℕ, ◌≡◌, ◌+◌, Bool, true, false, List, [], ◌∷◌, ◌++◌, length, Option}
+use Rattle.std.specs.Prelude.{None, Some}
 use Rattle.sat_model.specs.Logs.{Block}
 use Rattle.paving_log.specs.declared.line.ClosingLine.{ClosingLine}
 use Rattle.paving_log.specs.declared.line.ClosingLine.TheVariants as closing
@@ -25,7 +26,8 @@ Refuses at lines error.NoMemory = Unit {0}
 Refuses at lines e = FaultFrom at lines.rest.now lines.number e
 
 -- these lines were taken from the front of what was left
-pub record Takes (at : Place) (old : Lines) (lines : List LogLine) (to : Place) (new : Lines) : Type 0 where
+pub record Takes (at : Place) (old : Lines) (lines : List LogLine) (to : Place)
+    (new : Lines) : Type 0 where
   pub leads : Leads at lines to
   pub parts : old.rest.now ≡ text_of lines ++ new.rest.now
   pub number : new.number ≡ old.number + length lines
@@ -52,7 +54,8 @@ pub record TakesAll (at : Place) (old : Lines) (lines : List LogLine) (new : Lin
   pub ended : new.rest.now ≡ []
 
 -- these lines were taken, and behind them the first line of a block
-pub record TakesWith (f : Form) (at : Place) (old : Lines) (lines : List LogLine) (o : Opening) (new : Lines) : Type 0 where
+pub record TakesWith (f : Form) (at : Place) (old : Lines) (lines : List LogLine) (o : Opening)
+    (new : Lines) : Type 0 where
   pub taken : Takes at old (lines ++ first_line o.few o.header ∷ []) (block_place f o.few) new
   pub number : new.number ≡ o.line + 1
 
@@ -70,7 +73,8 @@ pub record IsOpened (o : Opening) (b : Block) : Type 0 where
 -- the blocks begin one behind the other, from one line number up to another
 abbrev pub AreNumbered : Form → ℕ → List Block → ℕ → Type 0
 AreNumbered f from [] to = from ≡ to
-AreNumbered f from (b ∷ more) to = (b.line ≡ from) × AreNumbered f (from + length (block_lines f b)) more to
+AreNumbered f from (b ∷ more) to =
+    (b.line ≡ from) × AreNumbered f (from + length (block_lines f b)) more to
 
 -- the blocks fit, were taken up to the end of the text, and are numbered
 pub record TakesBlocks (f : Form) (old : Lines) (blocks : List Block) : Type 0 where
@@ -79,4 +83,5 @@ pub record TakesBlocks (f : Form) (old : Lines) (blocks : List Block) : Type 0 w
   pub may_end : may_end to ≡ true
   pub parts : old.rest.now ≡ text_of (flat_map (block_lines f) blocks)
   pub fit : AllByRecursion (BlockFits f) blocks
-  pub numbered : AreNumbered f old.number blocks (old.number + length (flat_map (block_lines f) blocks))
+  pub numbered : AreNumbered f old.number blocks (old.number
+      + length (flat_map (block_lines f) blocks))

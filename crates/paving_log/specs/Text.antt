@@ -1,5 +1,6 @@
 -- The text of a log: the one spelling of its value, for values that fit.
-use Rattle.std.specs.Prelude.{ℕ, ◌≡◌, ◌≤◌, Bool, true, false, List, [], ◌∷◌, ◌++◌, length, map, Option, None, Some}
+use Rattle.std.specs.Prelude.{ℕ, ◌≡◌, ◌≤◌, Bool, true, false, List, [], ◌∷◌, ◌++◌, length, map}
+use Rattle.std.specs.Prelude.{Option, None, Some}
 use Rattle.std.specs.List.{flat_map, AllByRecursion}
 use Rattle.sat_model.specs.declared.rules.Rules.{Rules}
 use Rattle.sat_model.specs.declared.rows.SatEntry.{SatEntry}
@@ -68,7 +69,8 @@ ClosingFits form.Rows steps done = (steps ≡ []) × (done ≡ 0)
 -- splits. With a root it is none.
 abbrev pub BodyFits : Form → Block → Option GridBox → Type 0
 BodyFits f b None = (b.few ≡ true) × AllByRecursion IsSkipped b.sats × (b.steps ≡ []) × (b.done ≡ 0)
-BodyFits f b (Some root) = (b.few ≡ false) × CornersFit (corners_of root) × ClosingFits f b.steps b.done
+BodyFits f b (Some root) = (b.few ≡ false) × CornersFit (corners_of root)
+    × ClosingFits f b.steps b.done
 
 pub record BlockFits (f : Form) (b : Block) : Type 0 where
   pub header : HeaderFits (header_of b)

@@ -18,7 +18,8 @@ use std::alloc::{AllocError, Global};
 
 /// The box that the step closes inside or at the edge.
 fn kept_by(live: &Live, step: &Step) -> Option<Box3>
-    ensures { option_to_list (box_option result) ≡ kept_parts (taken_by (stage_of live.now) step.now) }
+    ensures { option_to_list (box_option result)
+        ≡ kept_parts (taken_by (stage_of live.now) step.now) }
 {
     match step {
         Step::Inside { id, .. } | Step::Edge { id, .. } => live.box_of(*id),
@@ -29,7 +30,8 @@ fn kept_by(live: &Live, step: &Step) -> Option<Box3>
 /// The boxes that the steps close inside or at the edge, in order of closing.
 fn boxes_kept(alloc: Global, root: &Box3, steps: &LoggedSteps) -> Result<Vec<Box3>, AllocError>
     requires { StepsFold (first_stage (grid_box root.now)) (steps_of steps.now) }
-    ensures { IfOk result (λ boxes. map grid_box boxes.items ≡ kept_parts (pieces (grid_box root.now) (steps_of steps.now))) }
+    ensures { IfOk result (λ boxes. map grid_box boxes.items
+        ≡ kept_parts (pieces (grid_box root.now) (steps_of steps.now))) }
 {
     let mut live = Live::of_root(alloc, root)?;
     let mut boxes = Vec::new(alloc);
@@ -43,12 +45,14 @@ fn boxes_kept(alloc: Global, root: &Box3, steps: &LoggedSteps) -> Result<Vec<Box
 }
 
 /// The boxes that the steps of an epoch close inside or at the edge, in order of closing, and none
-/// where the epoch has no search box. Each step is to speak of a box that is live when it comes, each cut
-/// is to take something off its box and to leave something, and each split is to divide two grid points or
-/// more: all this is so in a log that is judged to be right. Want of memory is the only error.
+/// where the epoch has no search box. Each step is to speak of a box that is live when it comes,
+/// each cut is to take something off its box and to leave something, and each split is to divide
+/// two grid points or more: all this is so in a log that is judged to be right. Want of memory is
+/// the only error.
 pub fn cover_boxes(alloc: Global, epoch: &LogEpoch) -> Result<Vec<Box3>, NoMemory>
     requires { BlockFolds (block_of epoch.now) (block_of epoch.now).root }
-    ensures { IfOk result (λ boxes. map grid_box boxes.items ≡ cover_of (block_of epoch.now) (block_of epoch.now).root) }
+    ensures { IfOk result (λ boxes. map grid_box boxes.items
+        ≡ cover_of (block_of epoch.now) (block_of epoch.now).root) }
 {
     match &epoch.root {
         Some(root) => Ok(boxes_kept(alloc, root, &epoch.steps)?),

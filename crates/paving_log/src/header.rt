@@ -2,7 +2,8 @@
 
 ghost use Rattle.std.specs.Prelude.{◌≡◌};
 ghost use Rattle.log_words.specs.Words.{words_left, Reads};
-ghost use Rattle.paving_log.specs.Lines.{limits_words, LimitsFit, limits_of, header_words, HeaderFits};
+ghost use Rattle.paving_log.specs.Lines.{limits_words, LimitsFit, limits_of, header_words};
+ghost use Rattle.paving_log.specs.Lines.{HeaderFits};
 
 use crate::limits::Limits;
 use crate::line::Header;

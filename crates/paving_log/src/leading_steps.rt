@@ -1,5 +1,5 @@
-//! The line of a step at the front of a text. Where none is read nothing is said of the text: what
-//! stands there is found word by word.
+//! A fast way to read the line of a step at the front of a text. `None` says nothing of the text:
+//! the exact reader decides.
 
 ghost use Rattle.std.specs.Prelude.{IfSome};
 ghost use Rattle.paving_log.specs.declared.line.LineName.TheVariants as names;

@@ -42,8 +42,8 @@ pub struct Log {
 #[derive(Clone, Copy, Debug, PartialEq, Eq)]
 pub enum LogError {
     /// The number of the first line that doesn't fit, and how: 1 in the two head lines, 2 by its
-    /// first word, 3 by its fields, 4 where the text ends too early or lacks its last LF. In the text
-    /// of rows, where all lines fit, the first that fails a test: 5.
+    /// first word, 3 by its fields, 4 where the text ends too early or lacks its last LF. In the
+    /// text of rows, where all lines fit, the first that fails a test: 5.
     BadLog { line: u32, kind: u8 },
     NoMemory,
 }

@@ -1,9 +1,12 @@
 //! The tests of a block's own lines: its first line, and its satellites.
 
-ghost use Rattle.std.specs.Prelude.{◌≡◌, ◌+◌, ◌≤◌, ◌↔◌, length, IsTrue, MatchOption, Contains, map, None};
+ghost use Rattle.std.specs.Prelude.{◌≡◌, ◌+◌, ◌≤◌, ◌↔◌, length, IsTrue, MatchOption, Contains, map};
+ghost use Rattle.std.specs.Prelude.{None};
 ghost use Rattle.sat_model.specs.Logs.{sat_of, rows_of};
-ghost use Rattle.sat_model.specs.Verdicts.{IsLater, SuitsNumber, HeadPasses, HeadFails, NoneRepeats, IsFirstRepeat};
-ghost use Rattle.paving_log.specs.RowsText.{IsNumberedIn, OwnPasses, OwnFails, AllOwnPass, HasOwnFault, has_row};
+ghost use Rattle.sat_model.specs.Verdicts.{IsLater, SuitsNumber, HeadPasses, HeadFails};
+ghost use Rattle.sat_model.specs.Verdicts.{NoneRepeats, IsFirstRepeat};
+ghost use Rattle.paving_log.specs.RowsText.{IsNumberedIn, OwnPasses, OwnFails, AllOwnPass};
+ghost use Rattle.paving_log.specs.RowsText.{HasOwnFault, has_row};
 ghost use Rattle.paving_log.specs.declared.line.Form.TheVariants as form;
 ghost use Rattle.paving_log.specs.Values.{block_of, log_value};
 
@@ -106,11 +109,12 @@ pub fn first_repeat(sats: &[SatEntry]) -> Option<usize>
 }
 
 /// The first line of the block that fails a test of its own lines, behind a block of the index
-/// `before`: the index isn't greater than that one, the number of satellites doesn't suit the kind of
-/// block or, in an epoch's block, isn't that of its rows, or a satellite is named twice.
+/// `before`: the index isn't greater than that one, the number of satellites doesn't suit the kind
+/// of block or, in an epoch's block, isn't that of its rows, or a satellite is named twice.
 pub fn own_fault(rules: &Rules, before: Option<u32>, epoch: &LogEpoch) -> Option<LineFault>
     ensures { MatchOption result (OwnPasses rules.now before (block_of epoch.now))
-        (λ fault. OwnFails rules.now before (block_of epoch.now) (epoch.now.line + fault.offset) fault.number) }
+        (λ fault. OwnFails rules.now before (block_of epoch.now) (epoch.now.line
+        + fault.offset) fault.number) }
 {
     if let Some(number) = head_fault(rules, before, epoch) {
         return Some(LineFault { offset: 0, number });

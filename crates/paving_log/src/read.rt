@@ -9,8 +9,10 @@ ghost use Rattle.logged_steps.specs.Steps.{steps_of};
 ghost use Rattle.paving_log.specs.Lines.{HeaderFits};
 ghost use Rattle.paving_log.specs.Order.{place_behind_root};
 ghost use Rattle.paving_log.specs.Rows.{CornersFit, corners_of};
-ghost use Rattle.paving_log.specs.Taking.{Takes, TakesTo, Refuses, block_place, IsOpened, TakesBlocks};
-ghost use Rattle.paving_log.specs.Text.{head_lines, closing_lines, body_lines, ClosingFits, BlockFits};
+ghost use Rattle.paving_log.specs.Taking.{Takes, TakesTo, Refuses, block_place, IsOpened};
+ghost use Rattle.paving_log.specs.Taking.{TakesBlocks};
+ghost use Rattle.paving_log.specs.Text.{head_lines, closing_lines, body_lines, ClosingFits};
+ghost use Rattle.paving_log.specs.Text.{BlockFits};
 ghost use Rattle.paving_log.specs.Values.{block_of};
 
 use crate::header::rules;
@@ -25,7 +27,8 @@ use std::alloc::Global;
 
 /// The first two lines.
 pub fn head(form: Form, lines: Lines<'_>) -> Result<(Rules, Lines<'_>), LogError>
-    ensures taken { IfOk result (λ t. Takes (place.First form) lines.entry (head_lines t.0) (place.Between form) t.1) }
+    ensures taken { IfOk result
+        (λ t. Takes (place.First form) lines.entry (head_lines t.0) (place.Between form) t.1) }
     ensures refused { IfErr result (Refuses (place.First form) lines.entry) }
 {
     let (version, _, lines) = take_line(lines, Place::First(form))?;
@@ -64,7 +67,9 @@ fn satellites(
     form: Form,
     lines: Lines<'_>,
 ) -> Result<(Vec<SatEntry>, Corners, Lines<'_>), LogError>
-    ensures taken { IfOk result (λ t. Takes (place.Satellites form 0) lines.entry (map line.Sat t.0.items ++ line.Root t.1 ∷ []) (place_behind_root form) t.2) }
+    ensures taken { IfOk result
+        (λ t. Takes (place.Satellites form 0) lines.entry (map line.Sat t.0.items ++ line.Root t.1
+        ∷ []) (place_behind_root form) t.2) }
     ensures at_most { IfOk result (λ t. length t.0.items ≤ 64) }
     ensures refused { IfErr result (Refuses (place.Satellites form 0) lines.entry) }
 {
@@ -83,7 +88,9 @@ fn satellites(
 
 /// The steps of an epoch, and the number of splits behind them.
 fn steps(alloc: Global, lines: Lines<'_>) -> Result<(LoggedSteps, u32, Lines<'_>), LogError>
-    ensures taken { IfOk result (λ t. Takes place.Steps lines.entry (map line.Step (steps_of t.0) ++ line.Done t.1 ∷ []) (place.Between forms.Log) t.2) }
+    ensures taken { IfOk result
+        (λ t. Takes place.Steps lines.entry (map line.Step (steps_of t.0) ++ line.Done t.1 ∷ [])
+        (place.Between forms.Log) t.2) }
     ensures fits { IfOk result (λ t. ClosingFits forms.Log (steps_of t.0) t.1) }
     ensures refused { IfErr result (Refuses place.Steps lines.entry) }
 {
@@ -105,7 +112,9 @@ fn closing(
     form: Form,
     lines: Lines<'_>,
 ) -> Result<(LoggedSteps, u32, Lines<'_>), LogError>
-    ensures taken { IfOk result (λ t. Takes (place_behind_root form) lines.entry (closing_lines form (steps_of t.0) t.1) (place.Between form) t.2) }
+    ensures taken { IfOk result
+        (λ t. Takes (place_behind_root form) lines.entry (closing_lines form (steps_of t.0) t.1)
+        (place.Between form) t.2) }
     ensures fits { IfOk result (λ t. ClosingFits form (steps_of t.0) t.1) }
     ensures refused { IfErr result (Refuses (place_behind_root form) lines.entry) }
 {
@@ -122,7 +131,8 @@ fn few_satellites(
     form: Form,
     lines: Lines<'_>,
 ) -> Result<(Vec<SatEntry>, Option<Opening>, Lines<'_>), LogError>
-    ensures taken { IfOk result (λ t. TakesTo form (place.Few form 0) lines.entry (map line.Sat t.0.items) t.1 t.2) }
+    ensures taken { IfOk result
+        (λ t. TakesTo form (place.Few form 0) lines.entry (map line.Sat t.0.items) t.1 t.2) }
     ensures at_most { IfOk result (λ t. length t.0.items ≤ 64) }
     ensures refused { IfErr result (Refuses (place.Few form 0) lines.entry) }
 {
@@ -176,7 +186,9 @@ fn paved_block(
 ) -> Result<(LogEpoch, Lines<'_>), LogError>
     requires paved { opening.few ≡ false }
     requires header { HeaderFits opening.header }
-    ensures taken { IfOk result (λ t. Takes (place.Satellites form 0) lines.entry (body_lines form (block_of t.0)) (place.Between form) t.1) }
+    ensures taken { IfOk result
+        (λ t. Takes (place.Satellites form 0) lines.entry (body_lines form (block_of t.0))
+        (place.Between form) t.1) }
     ensures opened { IfOk result (λ t. IsOpened opening (block_of t.0)) }
     ensures fits { IfOk result (λ t. BlockFits form (block_of t.0)) }
     ensures refused { IfErr result (Refuses (place.Satellites form 0) lines.entry) }
@@ -209,7 +221,9 @@ fn few_block(
 ) -> Result<(LogEpoch, Option<Opening>, Lines<'_>), LogError>
     requires few { opening.few ≡ true }
     requires header { HeaderFits opening.header }
-    ensures taken { IfOk result (λ t. TakesTo form (place.Few form 0) lines.entry (body_lines form (block_of t.0)) t.1 t.2) }
+    ensures taken { IfOk result
+        (λ t. TakesTo form (place.Few form 0) lines.entry
+        (body_lines form (block_of t.0)) t.1 t.2) }
     ensures opened { IfOk result (λ t. IsOpened opening (block_of t.0)) }
     ensures fits { IfOk result (λ t. BlockFits form (block_of t.0)) }
     ensures refused { IfErr result (Refuses (place.Few form 0) lines.entry) }
@@ -237,7 +251,9 @@ fn block(
     lines: Lines<'_>,
 ) -> Result<(LogEpoch, Option<Opening>, Lines<'_>), LogError>
     requires { HeaderFits opening.header }
-    ensures taken { IfOk result (λ t. TakesTo form (block_place form opening.few) lines.entry (body_lines form (block_of t.0)) t.1 t.2) }
+    ensures taken { IfOk result
+        (λ t. TakesTo form (block_place form opening.few) lines.entry
+        (body_lines form (block_of t.0)) t.1 t.2) }
     ensures opened { IfOk result (λ t. IsOpened opening (block_of t.0)) }
     ensures fits { IfOk result (λ t. BlockFits form (block_of t.0)) }
     ensures refused { IfErr result (Refuses (block_place form opening.few) lines.entry) }
@@ -252,7 +268,8 @@ fn block(
 
 /// All blocks, up to the end of the text.
 pub fn blocks(alloc: Global, form: Form, lines: Lines<'_>) -> Result<Vec<LogEpoch>, LogError>
-    ensures taken { IfOk result (λ epochs. TakesBlocks form lines.entry (map block_of epochs.items)) }
+    ensures taken { IfOk result
+        (λ epochs. TakesBlocks form lines.entry (map block_of epochs.items)) }
     ensures refused { IfErr result (Refuses (place.Between form) lines.entry) }
 {
     let mut epochs = Vec::new(alloc);

@@ -15,7 +15,8 @@ use sat_model::SatEntry;
 
 /// The one field of the first line.
 fn version(rest: Rest<'_>) -> Option<LogLine>
-    ensures { Reads (λ l. LineFits l × (name_of l ≡ LineName.Gpscover)) fields (words_left rest.entry) result }
+    ensures { Reads (λ l. LineFits l × (name_of l ≡ LineName.Gpscover)) fields
+        (words_left rest.entry) result }
 {
     let (version, rest) = word(rest)?;
     if !is_ended(rest) {
@@ -30,7 +31,8 @@ fn version(rest: Rest<'_>) -> Option<LogLine>
 
 /// The number of splits.
 fn done(rest: Rest<'_>) -> Option<LogLine>
-    ensures { Reads (λ l. LineFits l × (name_of l ≡ LineName.Done)) fields (words_left rest.entry) result }
+    ensures { Reads (λ l. LineFits l × (name_of l ≡ LineName.Done)) fields
+        (words_left rest.entry) result }
 {
     let (bisections, rest) = count(rest, 0, 200_000)?;
     if !is_ended(rest) {

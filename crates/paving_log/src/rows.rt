@@ -5,7 +5,8 @@ ghost use Rattle.grid_model.specs.Sizes.{IsErrorSize};
 ghost use Rattle.gnss_model.specs.declared.satellites.Skip.{Skip};
 ghost use Rattle.paving_log.specs.declared.line.LineName.TheVariants as names;
 ghost use Rattle.log_words.specs.Words.{words_left, Reads};
-ghost use Rattle.paving_log.specs.Rows.{are_ends, sure_words, AreSure, row_words, RowFits, entry_words, EntryFits, root_words, CornersFit};
+ghost use Rattle.paving_log.specs.Rows.{are_ends, sure_words, AreSure, row_words, RowFits};
+ghost use Rattle.paving_log.specs.Rows.{entry_words, EntryFits, root_words, CornersFit};
 ghost use Rattle.paving_log.specs.Lines.{entry_name};
 
 use crate::line::Corners;
@@ -30,7 +31,8 @@ pub fn has_ends(span: &Span, lo: i64, hi: i64) -> bool
 /// The greatest low and the least high end of what is allowed of an error, where they aren't the
 /// ends of `err` and so are written.
 fn told_ends(rest: Rest<'_>, err: &Span) -> Option<(i64, i64)>
-    ensures { Reads (λ ends. AreSure err.now ends.0 ends.1 × (are_ends err.now ends.0 ends.1 ≡ false))
+    ensures { Reads (λ ends. AreSure err.now ends.0 ends.1
+        × (are_ends err.now ends.0 ends.1 ≡ false))
         (λ ends. sure_words err.now ends.0 ends.1) (words_left rest.entry) result }
 {
     let (lo, rest) = amount(rest, GREATEST_ERROR)?;
@@ -84,7 +86,8 @@ pub fn row(rest: Rest<'_>) -> Option<Row>
 
 /// A satellite that isn't used, and why.
 pub fn skipped(rest: Rest<'_>) -> Option<SatEntry>
-    ensures { Reads (λ entry. EntryFits entry × (entry_name entry ≡ names.Skip)) entry_words (words_left rest.entry) result }
+    ensures { Reads (λ entry. EntryFits entry × (entry_name entry ≡ names.Skip)) entry_words
+        (words_left rest.entry) result }
 {
     let (sat, rest) = satellite(rest)?;
     let skip = skip(rest)?;

@@ -17,7 +17,8 @@ pub const GREATEST_CLOCK: u64 = 200_000_000_000_000;
 
 /// A box from which the slab between a face and a bound is cut.
 pub fn cut(rest: Rest<'_>) -> Option<Step>
-    ensures { Reads (λ step. StepFits step × (step_name step ≡ names.Cut)) step_words (words_left rest.entry) result }
+    ensures { Reads (λ step. StepFits step × (step_name step ≡ names.Cut)) step_words
+        (words_left rest.entry) result }
 {
     let (id, rest) = count(rest, 0, LAST_ID)?;
     let (face, rest) = count(rest, 0, 5)?;
@@ -34,7 +35,8 @@ pub fn cut(rest: Rest<'_>) -> Option<Step>
 
 /// A box that is split in halves.
 pub fn split(rest: Rest<'_>) -> Option<Step>
-    ensures { Reads (λ step. StepFits step × (step_name step ≡ names.Split)) step_words (words_left rest.entry) result }
+    ensures { Reads (λ step. StepFits step × (step_name step ≡ names.Split)) step_words
+        (words_left rest.entry) result }
 {
     let (id, rest) = count(rest, 0, LAST_ID)?;
     let (axis, rest) = count(rest, 0, 2)?;
@@ -49,7 +51,8 @@ pub fn split(rest: Rest<'_>) -> Option<Step>
 
 /// A box without a fitting point.
 pub fn out(rest: Rest<'_>) -> Option<Step>
-    ensures { Reads (λ step. StepFits step × (step_name step ≡ names.Out)) step_words (words_left rest.entry) result }
+    ensures { Reads (λ step. StepFits step × (step_name step ≡ names.Out)) step_words
+        (words_left rest.entry) result }
 {
     let (id, rest) = count(rest, 0, LAST_ID)?;
     if !is_ended(rest) {
@@ -60,7 +63,8 @@ pub fn out(rest: Rest<'_>) -> Option<Step>
 
 /// A box whose points all fit, with a clock offset of theirs and a span of clock offsets.
 pub fn inside(rest: Rest<'_>) -> Option<Step>
-    ensures { Reads (λ step. StepFits step × (step_name step ≡ names.In)) step_words (words_left rest.entry) result }
+    ensures { Reads (λ step. StepFits step × (step_name step ≡ names.In)) step_words
+        (words_left rest.entry) result }
 {
     let (id, rest) = count(rest, 0, LAST_ID)?;
     let (clock, rest) = amount(rest, GREATEST_CLOCK)?;
@@ -78,7 +82,8 @@ pub fn inside(rest: Rest<'_>) -> Option<Step>
 
 /// An undecided box with a span of clock offsets.
 pub fn edge(rest: Rest<'_>) -> Option<Step>
-    ensures { Reads (λ step. StepFits step × (step_name step ≡ names.Edge)) step_words (words_left rest.entry) result }
+    ensures { Reads (λ step. StepFits step × (step_name step ≡ names.Edge)) step_words
+        (words_left rest.entry) result }
 {
     let (id, rest) = count(rest, 0, LAST_ID)?;
     let (clock, rest) = span(rest, GREATEST_CLOCK)?;

@@ -68,7 +68,8 @@ pub fn take_line(lines: Lines<'_>, place: Place) -> Result<(LogLine, Place, Line
 
 /// The next line behind the root of a log, word by word, and what is left.
 fn take_closing(lines: Lines<'_>) -> Result<(ClosingLine, Lines<'_>), LogError>
-    ensures taken { IfOk result (λ t. Takes place.Steps lines.entry (closing_line t.0 ∷ []) (behind_closing t.0) t.1) }
+    ensures taken { IfOk result
+        (λ t. Takes place.Steps lines.entry (closing_line t.0 ∷ []) (behind_closing t.0) t.1) }
     ensures fails { IfErr result (LineFails place.Steps lines.entry.rest.now lines.entry.number) }
 {
     let (line, _, left) = take_line(lines, Place::Steps)?;
@@ -81,7 +82,8 @@ fn take_closing(lines: Lines<'_>) -> Result<(ClosingLine, Lines<'_>), LogError>
 
 /// The next line behind the root of a log, which has to fit there, and what is left.
 pub fn take_step(lines: Lines<'_>) -> Result<(ClosingLine, Lines<'_>), LogError>
-    ensures taken { IfOk result (λ t. Takes place.Steps lines.entry (closing_line t.0 ∷ []) (behind_closing t.0) t.1) }
+    ensures taken { IfOk result
+        (λ t. Takes place.Steps lines.entry (closing_line t.0 ∷ []) (behind_closing t.0) t.1) }
     ensures fails { IfErr result (LineFails place.Steps lines.entry.rest.now lines.entry.number) }
 {
     let Some((step, rest)) = leading_step(lines.rest) else {

@@ -22,7 +22,8 @@ use std::alloc::Global;
 fn read_text(alloc: Global, form: Form, bytes: &[u8]) -> Result<Log, LogError>
     requires { length bytes.now ≤ 4000000000 }
     ensures value { IfOk result (λ log. IsSpelling form (log_value log) bytes.now) }
-    ensures fault { IfErr result (λ e. (e ≡ error.NoMemory) ⊎ FaultFrom (place.First form) bytes.now 1 e) }
+    ensures fault { IfErr result (λ e. (e ≡ error.NoMemory)
+        ⊎ FaultFrom (place.First form) bytes.now 1 e) }
 {
     let lines = Lines {
         rest: bytes,

@@ -39,7 +39,8 @@ fn push_number(line: &mut Line, number: i64)
 /// Two numbers, each behind a blank.
 fn push_numbers(line: &mut Line, first: i64, second: i64)
     requires { length line.old.bytes ≤ 214 }
-    ensures pushed { line.new.bytes ≡ line.old.bytes ++ 32 ∷ (signed_decimal first ++ 32 ∷ signed_decimal second) }
+    ensures pushed { line.new.bytes ≡ line.old.bytes ++ 32
+        ∷ (signed_decimal first ++ 32 ∷ signed_decimal second) }
     ensures length { length line.new.bytes ≤ length line.old.bytes + 42 }
 {
     push_number(line, first);
@@ -49,7 +50,8 @@ fn push_numbers(line: &mut Line, first: i64, second: i64)
 /// Three numbers, each behind a blank.
 fn push_three(line: &mut Line, first: i64, second: i64, third: i64)
     requires { length line.old.bytes ≤ 193 }
-    ensures pushed { line.new.bytes ≡ line.old.bytes ++ 32 ∷ (signed_decimal first ++ 32 ∷ (signed_decimal second ++ 32 ∷ signed_decimal third)) }
+    ensures pushed { line.new.bytes ≡ line.old.bytes ++ 32
+        ∷ (signed_decimal first ++ 32 ∷ (signed_decimal second ++ 32 ∷ signed_decimal third)) }
     ensures length { length line.new.bytes ≤ length line.old.bytes + 63 }
 {
     push_numbers(line, first, second);
@@ -161,7 +163,8 @@ pub fn head_lines(rules: &Rules) -> Line
 
 /// The first line of a block: its index, its tag in ps, and the number of satellites that count.
 pub fn epoch_line(few: bool, index: u32, ps: i128, n: u32) -> Line
-    ensures { result.bytes ≡ line_text (first_line few (record { index = index; ps = ps; n = n })) ++ 10 ∷ [] }
+    ensures { result.bytes ≡ line_text (first_line few (record { index = index; ps = ps; n = n }))
+        ++ 10 ∷ [] }
 {
     let mut line = Line::new();
     if few {
@@ -177,7 +180,8 @@ pub fn epoch_line(few: bool, index: u32, ps: i128, n: u32) -> Line
 /// The three numbers of a block's first line.
 fn push_header(line: &mut Line, index: u32, ps: i128, n: u32)
     requires { length line.old.bytes ≤ 100 }
-    ensures pushed { line.new.bytes ≡ line.old.bytes ++ 32 ∷ (decimal index ++ 32 ∷ (signed_decimal ps ++ 32 ∷ decimal n)) }
+    ensures pushed { line.new.bytes ≡ line.old.bytes ++ 32
+        ∷ (decimal index ++ 32 ∷ (signed_decimal ps ++ 32 ∷ decimal n)) }
     ensures length { length line.new.bytes ≤ length line.old.bytes + 83 }
 {
     let mut buffer = Buffer::new();
@@ -190,7 +194,8 @@ fn push_header(line: &mut Line, index: u32, ps: i128, n: u32)
 /// The coordinates of a point.
 fn push_pos(line: &mut Line, point: Pos)
     requires { length line.old.bytes ≤ 193 }
-    ensures pushed { line.new.bytes ≡ line.old.bytes ++ 32 ∷ (signed_decimal point.x ++ 32 ∷ (signed_decimal point.y ++ 32 ∷ signed_decimal point.z)) }
+    ensures pushed { line.new.bytes ≡ line.old.bytes ++ 32
+        ∷ (signed_decimal point.x ++ 32 ∷ (signed_decimal point.y ++ 32 ∷ signed_decimal point.z)) }
     ensures length { length line.new.bytes ≤ length line.old.bytes + 63 }
 {
     push_three(line, point.x, point.y, point.z);
@@ -220,7 +225,8 @@ fn push_ascii(line: &mut Line, byte: u8)
 /// A blank and a satellite: the letter of its system, and its number in two digits.
 fn push_sat(line: &mut Line, sat: Sat)
     requires { length line.old.bytes ≤ 100 }
-    ensures pushed { sat.system < 128 → line.new.bytes ≡ line.old.bytes ++ 32 ∷ (sat.system ∷ (48 + sat.number / 10) ∷ (48 + sat.number % 10) ∷ []) }
+    ensures pushed { sat.system < 128 → line.new.bytes ≡ line.old.bytes ++ 32
+        ∷ (sat.system ∷ (48 + sat.number / 10) ∷ (48 + sat.number % 10) ∷ []) }
     ensures length { length line.new.bytes ≤ length line.old.bytes + 13 }
 {
     line.push_str(" ");
@@ -232,7 +238,8 @@ fn push_sat(line: &mut Line, sat: Sat)
 /// The two ends of a span.
 fn push_span(line: &mut Line, span: Span)
     requires { length line.old.bytes ≤ 214 }
-    ensures pushed { line.new.bytes ≡ line.old.bytes ++ 32 ∷ (signed_decimal span.lo ++ 32 ∷ signed_decimal span.hi) }
+    ensures pushed { line.new.bytes ≡ line.old.bytes ++ 32
+        ∷ (signed_decimal span.lo ++ 32 ∷ signed_decimal span.hi) }
     ensures length { length line.new.bytes ≤ length line.old.bytes + 42 }
 {
     push_numbers(line, span.lo, span.hi);
@@ -241,7 +248,8 @@ fn push_span(line: &mut Line, span: Span)
 /// The spans of a row's place.
 fn push_place(line: &mut Line, row: &Row)
     requires { length line.old.bytes ≤ 100 }
-    ensures pushed { line.new.bytes ≡ line.old.bytes ++ 32 ∷ joined (span_words row.now.x ++ (span_words row.now.y ++ span_words row.now.z)) }
+    ensures pushed { line.new.bytes ≡ line.old.bytes ++ 32
+        ∷ joined (span_words row.now.x ++ (span_words row.now.y ++ span_words row.now.z)) }
     ensures length { length line.new.bytes ≤ length line.old.bytes + 126 }
 {
     push_span(line, row.x);
@@ -254,7 +262,8 @@ fn push_errors(line: &mut Line, low: i64, high: i64)
     requires room { length line.old.bytes ≤ 214 }
     requires low { IsErrorSize low }
     requires high { IsErrorSize high }
-    ensures pushed { line.new.bytes ≡ line.old.bytes ++ 32 ∷ (signed_decimal low ++ 32 ∷ signed_decimal high) }
+    ensures pushed { line.new.bytes ≡ line.old.bytes ++ 32
+        ∷ (signed_decimal low ++ 32 ∷ signed_decimal high) }
     ensures length { length line.new.bytes ≤ length line.old.bytes + 30 }
 {
     push_numbers(line, low, high);
@@ -274,7 +283,8 @@ fn push_bounds(line: &mut Line, row: &Row)
 }
 
 fn row_line(row: &Row) -> Line
-    ensures { row.now.sat.system < 128 → result.bytes ≡ line_text (line.Sat (entry.Row row.now)) ++ 10 ∷ [] }
+    ensures { row.now.sat.system < 128 → result.bytes ≡ line_text (line.Sat (entry.Row row.now))
+        ++ 10 ∷ [] }
 {
     let mut line = Line::new();
     line.push_str("sat");
@@ -287,7 +297,8 @@ fn row_line(row: &Row) -> Line
 }
 
 fn skip_line(sat: Sat, skip: Skip) -> Line
-    ensures { sat.system < 128 → result.bytes ≡ line_text (line.Sat (entry.Skipped sat skip)) ++ 10 ∷ [] }
+    ensures { sat.system < 128 → result.bytes ≡ line_text (line.Sat (entry.Skipped sat skip)) ++ 10
+        ∷ [] }
 {
     let mut line = Line::new();
     line.push_str("skip");
@@ -302,7 +313,8 @@ fn skip_line(sat: Sat, skip: Skip) -> Line
 
 /// A satellite line, where the letter of the system is an ASCII character.
 pub fn sat_line(entry: &SatEntry) -> Line
-    ensures { (sat_of entry.now).system < 128 → result.bytes ≡ line_text (line.Sat entry.now) ++ 10 ∷ [] }
+    ensures { (sat_of entry.now).system < 128 → result.bytes ≡ line_text (line.Sat entry.now) ++ 10
+        ∷ [] }
 {
     match entry {
         SatEntry::Row(row) => row_line(row),

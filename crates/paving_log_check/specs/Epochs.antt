@@ -13,8 +13,7 @@ use Rattle.paving_log_check.specs.Answers.{ShowsNoSpans}
 use Rattle.paving_log_check.specs.Lines.{expected, SatsPass, SatsFail}
 use Rattle.paving_log_check.specs.declared.verdict.Fault.{Fault}
 
--- the number of the first line is that of the block's rows, unless it is a block of few, and that
--- of the satellites that are usable
+-- N is the number of usable satellites and, in a paved epoch, of `sat` lines.
 pub record Counts (own : List SatLine) (block : Block) : Type 0 where
   pub rows : CountsRows block.few block.n block.sats
   pub usable : block.n ≡ usable_in own

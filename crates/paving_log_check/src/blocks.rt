@@ -1,11 +1,13 @@
 //! The tests of one block of a log.
 
-ghost use Rattle.std.specs.Prelude.{◌≡◌, ◌+◌, ◌<◌, ◌≤◌, ◌↔◌, length, count_by, IsTrue, IfOk, MatchOption};
+ghost use Rattle.std.specs.Prelude.{◌≡◌, ◌+◌, ◌<◌, ◌≤◌, ◌↔◌, length, count_by, IsTrue, IfOk};
+ghost use Rattle.std.specs.Prelude.{MatchOption};
 ghost use Rattle.sat_model.specs.declared.rules.Rules.{Rules};
 ghost use Rattle.sat_model.specs.Cover.{kept_in};
 ghost use Rattle.sat_model.specs.Logs.{rows_of, lines_in};
 ghost use Rattle.sat_model.specs.StepKinds.{is_kept_step};
-ghost use Rattle.sat_model.specs.Verdicts.{IsLater, SuitsNumber, HeadPasses, HeadFails, BodyPasses, BlockPasses, BlockFails};
+ghost use Rattle.sat_model.specs.Verdicts.{IsLater, SuitsNumber, HeadPasses, HeadFails, BodyPasses};
+ghost use Rattle.sat_model.specs.Verdicts.{BlockPasses, BlockFails};
 ghost use Rattle.logged_steps.specs.Steps.{steps_of};
 ghost use Rattle.paving_log.specs.Values.{block_of};
 

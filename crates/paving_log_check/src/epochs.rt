@@ -1,6 +1,7 @@
 //! The tests of one block against what the files say of its epoch.
 
-ghost use Rattle.std.specs.Prelude.{◌≡◌, ◌+◌, ◌<◌, ◌≤◌, ◌^◌, ◌↔◌, length, IsTrue, IfOk, MatchOption, Some};
+ghost use Rattle.std.specs.Prelude.{◌≡◌, ◌+◌, ◌<◌, ◌≤◌, ◌^◌, ◌↔◌, length, IsTrue, IfOk};
+ghost use Rattle.std.specs.Prelude.{MatchOption, Some};
 ghost use Rattle.epoch_selection.specs.Searches.{search_in};
 ghost use Rattle.grid_model.specs.Boxes.{grid_box};
 ghost use Rattle.sat_model.specs.Logs.{rows_of, lines_in};
@@ -9,7 +10,8 @@ ghost use Rattle.sat_model.specs.Verdicts.{SuitsNumber};
 ghost use Rattle.sat_rows.specs.OwnRows.{usable_in};
 ghost use Rattle.logged_steps.specs.Steps.{steps_of};
 ghost use Rattle.paving_log.specs.Values.{block_of};
-ghost use Rattle.paving_log_check.specs.Epochs.{Counts, BodyPassesAt, BodyFailsAt, EpochPasses, EpochFails};
+ghost use Rattle.paving_log_check.specs.Epochs.{Counts, BodyPassesAt, BodyFailsAt, EpochPasses};
+ghost use Rattle.paving_log_check.specs.Epochs.{EpochFails};
 ghost use Rattle.paving_log_check.specs.Checked.{EpochAccepted, EpochRefused};
 
 use crate::faults::{ROOT_DIFFERS, plain_fault};

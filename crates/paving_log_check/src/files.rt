@@ -1,6 +1,7 @@
 //! The verdict on a log, checked against files.
 
-ghost use Rattle.std.specs.Prelude.{◌≡◌, ◌+◌, ◌<◌, ◌≤◌, ◌^◌, ◌↔◌, ℕ, List, [], ◌∷◌, map, IsTrue, IfOk, MatchOption, Option, Some, None, drop, length};
+ghost use Rattle.std.specs.Prelude.{◌≡◌, ◌+◌, ◌<◌, ◌≤◌, ◌^◌, ◌↔◌, ℕ, List, [], ◌∷◌, map, IsTrue};
+ghost use Rattle.std.specs.Prelude.{IfOk, MatchOption, Option, Some, None, drop, length};
 ghost use Rattle.epoch_selection.specs.Searches.{Search, searches_left};
 ghost use Rattle.sat_model.specs.Logs.{Block, lines_in, IsNumbered};
 ghost use Rattle.sat_model.specs.declared.rules.Rules.{Rules};
@@ -95,8 +96,8 @@ pub fn lines_of(epoch: &LogEpoch) -> u32
     }
 }
 
-/// The first fault of a block that has this one of its own: where that is told at the line behind
-/// the block, the place of the next block is tested before.
+/// The first fault of a block whose own one is `own_fault`: this one; but where that is told at the
+/// first line of the next block, and this block isn't due, 51 comes first.
 pub fn first_of(own_fault: Fault, behind: u32, due: bool) -> Fault
     ensures { (zenith : Option Span) (rules : Rules) (own : List SatLine) (search : Search)
         (rest : List Search) (block : Block) (more : List Block)

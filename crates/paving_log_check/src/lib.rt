@@ -19,6 +19,6 @@ pub use epochs::check_epoch;
 pub use faults::{RULES_DIFFER, plain_fault};
 pub use files::{are_same_rules, check_with, first_of, is_of, lines_of};
 pub use folds::judged_folds;
-pub use gps::check;
+pub use gps::{check, check_by};
 pub use logs::judge;
 pub use verdict::{Fault, Verdict};

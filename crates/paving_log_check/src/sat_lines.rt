@@ -1,13 +1,17 @@
 //! The satellite lines of a block against those that the files give.
 
-ghost use Rattle.std.specs.Prelude.{◌≡◌, ◌+◌, ◌<◌, ◌^◌, ◌↔◌, ℕ, length, IsTrue, IfOk, MatchOption, Some};
+ghost use Rattle.std.specs.Prelude.{◌≡◌, ◌+◌, ◌<◌, ◌^◌, ◌↔◌, ℕ, length, IsTrue, IfOk, MatchOption};
+ghost use Rattle.std.specs.Prelude.{Some};
 ghost use Rattle.sat_model.specs.Relaxed.{ends};
 ghost use Rattle.grid_model.specs.Boxes.{span_side};
 ghost use Rattle.sat_model.specs.Verdicts.{IsRepeat};
 ghost use Rattle.sat_model.specs.declared.rows.SatEntry.TheVariants as entry;
 ghost use Rattle.sat_rows.specs.OwnRows.{HasBounds};
 ghost use Rattle.sat_rows.specs.declared.lines.SatLine.TheVariants.{Usable};
-ghost use Rattle.paving_log_check.specs.Lines.{skipped_in, expected, IsSameLine, HoldsSide, bounds_compared, compared, HoldEach, IsFirstNarrow, HoldsOwn, HasBound, RowPasses, RowFails, LinePasses, LineFails, SatsPass, SatsFail};
+ghost use Rattle.paving_log_check.specs.Lines.{skipped_in, expected, IsSameLine, HoldsSide};
+ghost use Rattle.paving_log_check.specs.Lines.{bounds_compared, compared, HoldEach, IsFirstNarrow};
+ghost use Rattle.paving_log_check.specs.Lines.{HoldsOwn, HasBound, RowPasses, RowFails, LinePasses};
+ghost use Rattle.paving_log_check.specs.Lines.{LineFails, SatsPass, SatsFail};
 
 use crate::faults::{BOUND_DIFFERS, ROW_NARROW, plain_fault};
 use crate::verdict::Fault;
@@ -53,8 +57,8 @@ fn holds_span(theirs: &Span, ours: &Span) -> bool
     theirs.lo <= ours.lo && ours.hi <= theirs.hi
 }
 
-/// Of the spans of the ends of the error, which are compared where a delay at the zenith is mapped,
-/// the first of the row that doesn't hold that of the own row, and the latter.
+/// The first span of the row's error bounds that doesn't hold that of the own row, and the latter.
+/// They are compared only where a delay at the zenith is mapped.
 fn first_narrow_bounds(zenith: Option<Span>, row: &Row, ours: &Row) -> Option<(Span, Span)>
     ensures { MatchOption result (HoldEach (bounds_compared zenith row.now ours.now))
         (λ spans. IsFirstNarrow (bounds_compared zenith row.now ours.now)

@@ -3,7 +3,8 @@
 ghost use Rattle.std.specs.Prelude.{◌≡◌, ◌<◌, ◌≤◌, ◌^◌, List, length, IfOk, MatchOption};
 ghost use Rattle.sat_model.specs.declared.rows.Row.{Row};
 ghost use Rattle.sat_model.specs.declared.rules.Rules.{Rules};
-ghost use Rattle.sat_model.specs.declared.steps.Step.TheVariants.{Cut, Split, Outside, Inside, Edge};
+ghost use Rattle.sat_model.specs.declared.steps.Step.TheVariants.{Cut, Split, Outside, Inside};
+ghost use Rattle.sat_model.specs.declared.steps.Step.TheVariants.{Edge};
 ghost use Rattle.grid_model.specs.Boxes.{grid_box};
 ghost use Rattle.sat_model.specs.BoxTests.{test_of};
 ghost use Rattle.sat_model.specs.Fold.{first_stage};

@@ -32,7 +32,7 @@ returns-then-n-from-clause-fits g c =
     record {
       header = header_fits seen.index c.in_ok-own.own.usable _ seen.tag same c.requires.index seen.tag_from seen.tag_under
           (few_usable (s.meaning source) root seen own own h.lines refl _ h.usable);
-      sats = skip_entries (s.meaning source) root seen own _ h.lines c.deref.ensures.value c.requires.skips c.requires.gps items c.in_ok-skip_lines.ensures;
+      sats = skip_entries (s.meaning source) root seen own _ h.lines c.deref.ensures.value c.requires.skips c.requires.named items c.in_ok-skip_lines.ensures;
       at_most = few_skips (s.meaning source) root seen own _ h.lines c.deref.ensures.value items c.in_ok-skip_lines.ensures;
       body = (refl, skips_skipped (s.meaning source) root seen own _ h.lines c.deref.ensures.value items c.in_ok-skip_lines.ensures, c.new.ensures, refl);
     }
@@ -62,7 +62,7 @@ returns-clause-fits g c =
     record {
       header = header_fits seen.index c.in_ok-own.own.usable _ seen.tag same c.requires.index seen.tag_from seen.tag_under
           (few_usable (s.meaning source) root seen own own h.lines refl _ h.usable);
-      sats = grown_entries (s.meaning source) root seen own _ h.lines c.deref-2.ensures.value c.requires.skips c.requires.gps (pos (spare_of root)) (pos (err_spare_of root c.zenith.result)) items c.in_ok-grown_lines.ensures;
+      sats = grown_entries (s.meaning source) root seen own _ h.lines c.deref-2.ensures.value c.requires.skips c.requires.named (pos (spare_of root)) (pos (err_spare_of root c.zenith.result)) items c.in_ok-grown_lines.ensures;
       at_most = few_grown (s.meaning source) root seen own _ h.lines c.deref-2.ensures.value (pos (spare_of root)) (pos (err_spare_of root c.zenith.result)) items c.in_ok-grown_lines.ensures;
       body = (refl, root_fits c.args.root.now, (c.new-2.ensures, refl));
     }
