@@ -13,8 +13,8 @@ fastest = 1000000
 abbrev pub longest_reach : ℕ
 longest_reach = 4 * 10 ^ 11
 
--- so many um at this speed in mm/s between two times in ps, rounded up; the epochs of a file needn't
--- rise in time
+-- so many um at this speed in mm/s between two times in ps, rounded up; the epochs of a file
+-- needn't rise in time
 abbrev pub reach_of : ℕ → ℤ → ℤ → ℕ
 reach_of speed from to = div_ceil (1000 * speed * unsigned_abs (to -ℤ from)) (10 ^ 12)
 

@@ -84,7 +84,8 @@ pub fn next_root(cover: &Box3, reach: i64, search: &Box3) -> Option<Box3>
 }
 
 /// The root of an epoch behind one that kept a part of the search box, at the times of both and by
-/// the greatest speed in mm/s. It is there where the part lies in the search box, and lies there too.
+/// the greatest speed in mm/s. It is there where the part lies in the search box, and lies there
+/// too.
 pub fn root_behind(
     kept: &Box3,
     speed: u32,

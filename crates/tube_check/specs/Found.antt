@@ -16,8 +16,8 @@ visits_of (search ∷ rest) [] = []
 visits_of (search ∷ rest) (block ∷ more) =
     (record { tag = search.epoch.tag; root = search.root; block = block }) ∷ visits_of rest more
 
--- One stay for each selected epoch, each in the search box and each later one within reach of the one
--- before.
+-- One stay for each selected epoch, each in the search box and each later one within reach of the
+-- one before.
 abbrev pub IsPath : ℕ → GridBox → List ObsEpoch → List Stay → Type 0
 IsPath speed search epochs path = IsTrajectory speed search (map (λ epoch. epoch.tag) epochs) path
 

@@ -1,5 +1,5 @@
-//! Checks a log of a moving receiver against files: each epoch is searched where the boxes of the one
-//! before allow the receiver to have come.
+//! Checks a log of a moving receiver against files: each epoch is searched where the boxes of the
+//! one before allow the receiver to have come.
 #![tactic(auto)]
 
 mod check;

@@ -1,5 +1,5 @@
--- The epochs of a moving receiver as a source of blocks, each of which is formed when the one before
--- is finished, over the root that its boxes leave.
+-- The epochs of a moving receiver as a source of blocks, each of which is formed when the one
+-- before is finished, over the root that its boxes leave.
 use Rattle.std.specs.Prelude.{◌≡◌, ℕ, ℤ, Bool, true, false, List, ◌∷◌, Option, None, Some}
 use Rattle.epoch_rows.specs.Grown.{IsGrownBlock}
 use Rattle.epoch_selection.specs.Searches.{search_in, epochs_left}
@@ -92,8 +92,8 @@ pub record IsEnded (old : TubeLeft) (hull : Option GridBox) (new : TubeLeft) : T
 
 -- by what a source says of satellites, where so many of them may be inconsistent
 module _ (m : Meaning) (q : ℕ) where
-  -- The first epoch is taken, and the block is that of its rows over its root, where the hull of the
-  -- block before lies in the search box.
+  -- The first epoch is taken, and the block is that of its rows over its root, where the hull of
+  -- the block before lies in the search box.
   pub record GivesNext (old : TubeLeft) (hull : Option GridBox) (block : Block)
       (new : TubeLeft) : Type 0 where
     pub epoch : ObsEpoch

@@ -5,7 +5,7 @@ ghost use Rattle.epoch_rows.specs.Ready.{SkipsFit, CanGive};
 ghost use Rattle.epoch_selection.specs.Searches.{epochs_left};
 ghost use Rattle.epoch_selection.specs.Selections.{selected};
 ghost use Rattle.moving_tube.specs.Reach.{fastest};
-ghost use Rattle.rinex_obs.specs.Facts.{AreNumbered, AreDistinct, AreGpsSats, InEach};
+ghost use Rattle.rinex_obs.specs.Facts.{AreNumbered, AreDistinct, AreNamedSats, InEach};
 ghost use Rattle.rinex_obs.specs.Reading.{observations_of};
 ghost use Rattle.grid_model.specs.Boxes.{grid_box};
 ghost use Rattle.grid_model.specs.SearchBoxes.{IsSearchBox};
@@ -48,12 +48,13 @@ impl<'a, S: RowSource> TubeBlocks<'a, S> {
     ) -> TubeBlocks<'a, S>
         requires numbered { AreNumbered (observations_of obs.now).epochs }
         requires distinct { InEach AreDistinct (observations_of obs.now).epochs }
-        requires gps { InEach AreGpsSats (observations_of obs.now).epochs }
+        requires named { InEach AreNamedSats (observations_of obs.now).epochs }
         requires skips { SkipsFit (S.meaning source.now) }
         requires search { IsSearchBox (grid_box search.now) }
         requires fast { speed ≤ fastest }
         ensures source { result.source.now ≡ source.now }
-        ensures left { left_of result.tube result.given result.lost ≡ left_in (grid_box search.now) speed
+        ensures left { left_of result.tube result.given result.lost
+            ≡ left_in (grid_box search.now) speed
             (selected selection obs.now.epochs.items) }
         ensures rules { result.rules ≡ rules.now }
         ensures first { result.given ≡ None }

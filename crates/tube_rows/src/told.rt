@@ -10,8 +10,8 @@ use crate::given::Given;
 use grid_model::Box3;
 use tube_searches::Kept;
 
-/// Where the receiver was in a block, whose boxes have this hull: in all of its root, where it has few
-/// satellites.
+/// Where the receiver was in a block, whose boxes have this hull: in all of its root, where it has
+/// few satellites.
 fn part_of(given: &Given, kept: Option<Box3>) -> Option<Box3>
     ensures { box_option result
         ≡ kept_told given.now.few (grid_box given.now.root) (box_option kept) }

@@ -1,5 +1,5 @@
--- The searches of a moving receiver: its epochs, each with the root that the one before leaves, up to
--- the first in which it is lost. They go by the blocks of a log.
+-- The searches of a moving receiver: its epochs, each with the root that the one before leaves, up
+-- to the first in which it is lost. They go by the blocks of a log.
 use Rattle.std.specs.Prelude.{◌≡◌, ◌⊎◌, ℕ, ℤ, List, [], ◌∷◌, Option, None, Some}
 use Rattle.epoch_selection.specs.Searches.{Search, search_in, epochs_left}
 use Rattle.live_boxes.specs.Stages.{box_option}

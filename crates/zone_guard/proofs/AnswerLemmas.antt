@@ -21,17 +21,17 @@ use Rattle.zone_guard.specs.Ends.{AreMet, LiesWithin}
 
 -- ---- kept boxes
 
-kept_step : (step : Step) (b : ℤ) → KeepsClock step b → is_kept_step step ≡ true
+pub kept_step : (step : Step) (b : ℤ) → KeepsClock step b → is_kept_step step ≡ true
 kept_step (Cut id face bound) b h = absurd h
 kept_step (Split id axis) b h = absurd h
 kept_step (Outside id) b h = absurd h
 kept_step (Inside id clock lo hi) b h = refl
 kept_step (Edge id lo hi) b h = refl
 
-kept_here : (piece : ShownStep) (more : List ShownStep) → is_kept piece ≡ true → kept_parts (piece ∷ more) ≡ piece.part ∷ kept_parts more
+pub kept_here : (piece : ShownStep) (more : List ShownStep) → is_kept piece ≡ true → kept_parts (piece ∷ more) ≡ piece.part ∷ kept_parts more
 kept_here piece more e = rw e refl
 
-kept_later : (piece : ShownStep) (more : List ShownStep) → is_kept piece ≡ false → kept_parts (piece ∷ more) ≡ kept_parts more
+pub kept_later : (piece : ShownStep) (more : List ShownStep) → is_kept piece ≡ false → kept_parts (piece ∷ more) ≡ kept_parts more
 kept_later piece more e = rw e refl
 
 later_apart : (zone : GridBox) (piece : ShownStep) (more : List ShownStep) (kept : Bool) → is_kept piece ≡ kept → AreApart zone (kept_parts (piece ∷ more)) → AreApart zone (kept_parts more)
@@ -48,7 +48,7 @@ none_kept zone (piece ∷ more) p b apart inside (inr later) = none_kept zone mo
 and_true : (a b : Bool) → a ≡ true → b ≡ true → (a && b) ≡ true
 and_true a b e f = rw (e, f) refl
 
-holds_from : (c : GridBox) (p : Pos) → IsInBox c p → box_holds c p ≡ true
+pub holds_from : (c : GridBox) (p : Pos) → IsInBox c p → box_holds c p ≡ true
 holds_from c p i =
     and_true _ _ (and_true _ _ (le_to c.x.lo p.x i.x.0) (le_to p.x c.x.hi i.x.1))
     (and_true _ _ (and_true _ _ (le_to c.y.lo p.y i.y.0) (le_to p.y c.y.hi i.y.1)) (and_true _ _ (le_to c.z.lo p.z i.z.0) (le_to p.z c.z.hi i.z.1)))
@@ -88,7 +88,7 @@ is_part part zone w p h =
       z = (omega (arith, ints, w.z.low, i.z.0), omega (arith, ints, w.z.high, i.z.1));
     })
 
-low_in : (b : Box3) → IsInBox (grid_box b) b.lo
+pub low_in : (b : Box3) → IsInBox (grid_box b) b.lo
 low_in b = record { x = (omega (arith, ints), b.x_ordered); y = (omega (arith, ints), b.y_ordered); z = (omega (arith, ints), b.z_ordered) }
 
 high_in : (b : Box3) → IsInBox (grid_box b) b.hi

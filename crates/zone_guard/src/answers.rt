@@ -83,7 +83,7 @@ fn are_parts(zone: &Box3, boxes: &[Box3]) -> bool
 }
 
 /// What these boxes say of the zone.
-fn answer_of(zone: &Box3, boxes: &[Box3]) -> ZoneAnswer
+pub fn answer_of(zone: &Box3, boxes: &[Box3]) -> ZoneAnswer
     ensures { IsAnswer (grid_box zone.now) (map grid_box boxes.now) result }
 {
     if are_apart(zone, boxes) {

@@ -1,6 +1,7 @@
 //! One line of zones.
 
-ghost use Rattle.std.specs.Prelude.{◌≡◌, ◌+◌, ◌≤◌, [], ◌∷◌, ◌++◌, length, IfSome, IfNone, MatchOption};
+ghost use Rattle.std.specs.Prelude.{◌≡◌, ◌+◌, ◌≤◌, [], ◌∷◌, ◌++◌, length, IfSome, IfNone};
+ghost use Rattle.std.specs.Prelude.{MatchOption};
 ghost use Rattle.log_words.specs.Fields.{pos_words};
 ghost use Rattle.log_words.specs.Words.{words, words_left};
 ghost use Rattle.zone_guard.specs.Lines.{ZoneValue, ZoneFits, zone_value, zone_words};
@@ -29,7 +30,7 @@ pub fn line(text: &[u8]) -> Option<(&[u8], &[u8])>
 }
 
 /// The box whose corners are the rest of a line.
-fn box_of(rest: Rest<'_>) -> Option<Box3>
+pub fn box_of(rest: Rest<'_>) -> Option<Box3>
     ensures { MatchOption result
         ((c : ZoneValue) → CornersFit c → words_left rest.entry ≡ corner_words c → ⊥)
         (λ part. words_left rest.entry ≡ pos_words part.lo ++ pos_words part.hi) }
@@ -50,7 +51,8 @@ fn box_of(rest: Rest<'_>) -> Option<Box3>
 pub fn zone_of(here: &[u8]) -> Option<Zone>
     ensures found { IfSome result (λ z. ZoneFits (zone_value z)
         × (words here.now ≡ zone_words (zone_value z))) }
-    ensures none { IfNone result ((z : ZoneValue) → ZoneFits z → words here.now ≡ zone_words z → ⊥) }
+    ensures none { IfNone result ((z : ZoneValue) → ZoneFits z → words here.now ≡ zone_words z
+        → ⊥) }
 {
     let (first, rest) = word(Some(here))?;
     if first != b"zone".as_slice() {

@@ -1,0 +1,23 @@
+//! What a line with a name says.
+
+use crate::planes::Direction;
+use arrayvec::ArrayString;
+use grid_model::Box3;
+
+/// What stands behind the name.
+#[derive(Clone, Copy)]
+pub enum OpeningKind {
+    /// The corners of a box.
+    Box(Box3),
+    /// How many sides of a prism follow.
+    Prism(u32),
+    /// A direction.
+    Reach(Direction),
+}
+
+/// A line with a name.
+#[derive(Clone, Copy)]
+pub struct Opening {
+    pub name: ArrayString<16>,
+    pub kind: OpeningKind,
+}
