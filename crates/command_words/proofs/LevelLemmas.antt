@@ -28,12 +28,18 @@ solve_shape = built_sub 2
 abbrev pub check_shape : Shape
 check_shape = built_sub 3
 
--- `solve` and `check` differ in their name alone
+abbrev pub track_shape : Shape
+track_shape = built_sub 4
+
+abbrev pub retrack_shape : Shape
+retrack_shape = built_sub 5
+
+-- the commands on files differ in their names alone
 abbrev pub files_shape : Text → Shape
 files_shape name = get_or (built (with_subcommand bare (files_app name).top)).subs 0 (built program).top
 
 abbrev pub make_shape : Shape
-make_shape = built_sub 4
+make_shape = built_sub 6
 
 pub simple : is_simple program ≡ true
 unfolding clap_on_literals

@@ -13,7 +13,7 @@ use Rattle.clap.proofs.OnLiterals.{clap_on_literals}
 use Rattle.command_words.specs.Program.{program}
 use Rattle.command_words.specs.Stated.{HaveTexts, SaysCommand, TakenIsCommand, file_ids}
 use Rattle.command_words.proofs.FilledLemmas.{AllSet, Filled, both, walk_filled, finished_filled, given_text}
-use Rattle.command_words.proofs.LevelLemmas.{judge_shape, pave_shape, solve_shape, check_shape, make_shape}
+use Rattle.command_words.proofs.LevelLemmas.{judge_shape, pave_shape, solve_shape, check_shape, track_shape, retrack_shape, make_shape}
 
 -- of three tests the last, and the middle one, don't fail
 last_holds : (help sub arg : Bool) → check_kinds help sub arg ≡ [] → arg ≡ false
@@ -102,36 +102,48 @@ check_says : (words : List Text) → level_fault check_shape [] nothing_held wor
 unfolding clap_on_literals
 check_says words e = inr (inr (inr (inl (record { rows = rows_after check_shape.rules [] words; said_is = refl; texts = file_texts (rows_after check_shape.rules [] words) (texts_of check_shape words files_set e) }))))
 
+track_says : (words : List Text) → level_fault track_shape [] nothing_held words false [] ≡ [] → SaysCommand (Some (rows_at track_shape words))
+unfolding clap_on_literals
+track_says words e = inr (inr (inr (inr (inl (record { rows = rows_after track_shape.rules [] words; said_is = refl; texts = file_texts (rows_after track_shape.rules [] words) (texts_of track_shape words files_set e) })))))
+
+retrack_says : (words : List Text) → level_fault retrack_shape [] nothing_held words false [] ≡ [] → SaysCommand (Some (rows_at retrack_shape words))
+unfolding clap_on_literals
+retrack_says words e = inr (inr (inr (inr (inr (inl (record { rows = rows_after retrack_shape.rules [] words; said_is = refl; texts = file_texts (rows_after retrack_shape.rules [] words) (texts_of retrack_shape words files_set e) }))))))
+
 make_says : (words : List Text) → level_fault make_shape [] nothing_held words false [] ≡ [] → SaysCommand (Some (rows_at make_shape words))
 unfolding clap_on_literals
 make_says words e =
     let k = texts_of make_shape words (record { set = refl; some = refl }, (record { set = refl; some = refl }, tt)) e in
-    inr (inr (inr (inr (record { rows = rows_after make_shape.rules [] words; said_is = refl; texts = (k.0 refl, (k.1.0 refl, tt)) }))))
+    inr (inr (inr (inr (inr (inr (record { rows = rows_after make_shape.rules [] words; said_is = refl; texts = (k.0 refl, (k.1.0 refl, tt)) }))))))
 
--- the first of the five whose name the word is
-abbrev chosen : Bool → Bool → Bool → Bool → Bool → Option Shape
-chosen j p s c m =
-    cond j (Some judge_shape) (cond p (Some pave_shape) (cond s (Some solve_shape) (cond c (Some check_shape) (cond m (Some make_shape) None))))
+-- the first subcommand whose name the word is
+abbrev chosen : Bool → Bool → Bool → Bool → Bool → Bool → Bool → Option Shape
+chosen j p s c t r m =
+    cond j (Some judge_shape) (cond p (Some pave_shape) (cond s (Some solve_shape) (cond c (Some check_shape)
+    (cond t (Some track_shape) (cond r (Some retrack_shape) (cond m (Some make_shape) None))))))
 
-chosen_says : (words : List Text) (j p s c m : Bool)
-    → option_map_or (λ sub. level_fault sub [] nothing_held words false []) (chosen j p s c m) [] ≡ []
-    → is_some (option_map (λ sub. rows_at sub words) (chosen j p s c m)) ≡ true
-    → SaysCommand (option_map (λ sub. rows_at sub words) (chosen j p s c m))
-chosen_says words true p s c m faults some = judge_says words faults
-chosen_says words false true s c m faults some = pave_says words faults
-chosen_says words false false true c m faults some = solve_says words faults
-chosen_says words false false false true m faults some = check_says words faults
-chosen_says words false false false false true faults some = make_says words faults
-chosen_says words false false false false false faults some = cc
+chosen_says : (words : List Text) (j p s c t r m : Bool)
+    → option_map_or (λ sub. level_fault sub [] nothing_held words false []) (chosen j p s c t r m) [] ≡ []
+    → is_some (option_map (λ sub. rows_at sub words) (chosen j p s c t r m)) ≡ true
+    → SaysCommand (option_map (λ sub. rows_at sub words) (chosen j p s c t r m))
+chosen_says words true p s c t r m faults some = judge_says words faults
+chosen_says words false true s c t r m faults some = pave_says words faults
+chosen_says words false false true c t r m faults some = solve_says words faults
+chosen_says words false false false true t r m faults some = check_says words faults
+chosen_says words false false false false true r m faults some = track_says words faults
+chosen_says words false false false false false true m faults some = retrack_says words faults
+chosen_says words false false false false false false true faults some = make_says words faults
+chosen_says words false false false false false false false faults some = cc
 
--- the subcommand that was met is one of the five
+-- the subcommand that was met is one of the program's
 said : (stop : Option (Text × List Text)) → entered_fault (built program) stop ≡ [] → is_some (entered (built program) stop) ≡ true
     → SaysCommand (entered (built program) stop)
 unfolding clap_on_literals
 said None faults some = cc
 said (Some p) faults some =
     chosen_says p.1 (answers_to p.0 (label_of judge_shape)) (answers_to p.0 (label_of pave_shape)) (answers_to p.0 (label_of solve_shape))
-    (answers_to p.0 (label_of check_shape)) (answers_to p.0 (label_of make_shape)) faults some
+    (answers_to p.0 (label_of check_shape)) (answers_to p.0 (label_of track_shape)) (answers_to p.0 (label_of retrack_shape))
+    (answers_to p.0 (label_of make_shape)) faults some
 
 entered_is : (t : Bool) → (not t && true) ≡ false → t ≡ true
 entered_is true e = refl

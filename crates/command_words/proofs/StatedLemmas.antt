@@ -7,7 +7,7 @@ use Rattle.clap.specs.Simple.{Shape}
 use Rattle.clap.specs.Faults.{turn_fault}
 use Rattle.clap.proofs.OnLiterals.{clap_on_literals}
 use Rattle.command_words.specs.Numbers.{seed_number, count_number, epoch_number, last_epoch}
-use Rattle.command_words.specs.Commands.{Epochs, Files, Command, Judge, Pave, Solve, Check, files_by, files_of, epochs_of, epochs_by, command_by, command_of, make_of}
+use Rattle.command_words.specs.Commands.{Epochs, Files, Command, Judge, Pave, Solve, Check, Track, Retrack, files_by, files_of, epochs_of, epochs_by, command_by, command_of, make_of}
 use Rattle.command_words.specs.Stated.{begins_with_dash, IsName, AreNames, Options, Neither, From, To, FromTo, ToFrom, from_text, to_text, file_words, option_words, JudgeIsTaken, FilesAreTaken, MakeIsTaken}
 use Rattle.command_words.proofs.LevelLemmas.{judge_shape, pave_shape, files_shape, make_shape, Level, level, level_from, level_is, at, more, name_more, value_more, behind_value}
 use Rattle.command_words.proofs.NumberLemmas.{number_plain}
@@ -88,7 +88,7 @@ make_taken seed_text epochs_text seed epochs s e =
     make_is seed_text epochs_text (number_plain 0 4294967295 seed_text seed s) (number_plain 1 240 epochs_text epochs e)
     ∙ ap (λ n. make_of n (count_number epochs_text)) s ∙ ap (make_of (Some seed)) e
 
--- ---- `solve OBS NAV SETTINGS LOG` and `check` with the same words, and their options
+-- ---- `solve OBS NAV SETTINGS LOG`, the other commands on the same words, and their options
 
 -- the faults of a level on files, and the files that its matches hold
 abbrev FilesSeen : Type 0
@@ -271,6 +271,24 @@ check_said f (To to) = refl
 check_said f (FromTo from to) = refl
 check_said f (ToFrom to from) = refl
 
+track_said : (f : Files) (options : Options)
+    → command_of (codes "track" ∷ file_words f options) ≡ files_said Track (files_seen (level (files_shape (codes "track")) (file_words f options)))
+unfolding clap_on_literals
+track_said f Neither = refl
+track_said f (From from) = refl
+track_said f (To to) = refl
+track_said f (FromTo from to) = refl
+track_said f (ToFrom to from) = refl
+
+retrack_said : (f : Files) (options : Options)
+    → command_of (codes "retrack" ∷ file_words f options) ≡ files_said Retrack (files_seen (level (files_shape (codes "retrack")) (file_words f options)))
+unfolding clap_on_literals
+retrack_said f Neither = refl
+retrack_said f (From from) = refl
+retrack_said f (To to) = refl
+retrack_said f (FromTo from to) = refl
+retrack_said f (ToFrom to from) = refl
+
 pub solve_taken : FilesAreTaken (codes "solve") Solve
 solve_taken f options names e =
     solve_said f options ∙ ap (files_said Solve) (files_level (codes "solve") f names options (plain_options options f.epochs e) e)
@@ -278,3 +296,11 @@ solve_taken f options names e =
 pub check_taken : FilesAreTaken (codes "check") Check
 check_taken f options names e =
     check_said f options ∙ ap (files_said Check) (files_level (codes "check") f names options (plain_options options f.epochs e) e)
+
+pub track_taken : FilesAreTaken (codes "track") Track
+track_taken f options names e =
+    track_said f options ∙ ap (files_said Track) (files_level (codes "track") f names options (plain_options options f.epochs e) e)
+
+pub retrack_taken : FilesAreTaken (codes "retrack") Retrack
+retrack_taken f options names e =
+    retrack_said f options ∙ ap (files_said Retrack) (files_level (codes "retrack") f names options (plain_options options f.epochs e) e)

@@ -26,6 +26,8 @@ pub data Command : Type 0 where
   Pave : (rows log : Text) → Command
   Solve : Files → Command
   Check : Files → Command
+  Track : Files → Command
+  Retrack : Files → Command
   Make : (seed epochs : ℕ) → Command
 
 -- ---- a command from its texts. Where clap takes the words all of them are there
@@ -83,7 +85,9 @@ command_by name rows =
     else (if bytes_eq name (codes "pave") then pave_by rows
     else (if bytes_eq name (codes "solve") then option_map Solve (files_by rows)
     else (if bytes_eq name (codes "check") then option_map Check (files_by rows)
-    else (if bytes_eq name (codes "make") then make_by rows else None))))
+    else (if bytes_eq name (codes "track") then option_map Track (files_by rows)
+    else (if bytes_eq name (codes "retrack") then option_map Retrack (files_by rows)
+    else (if bytes_eq name (codes "make") then make_by rows else None))))))
 
 abbrev pub command_said : Option (Text × List Row) → Option Command
 command_said None = None

@@ -1,4 +1,4 @@
--- The command line of the program as clap sees it: one command with five subcommands, without help
+-- The command line of the program as clap sees it: one command with a subcommand each, without help
 -- or version words. This definition is what the words are judged by.
 use Rattle.std.specs.Prelude.{true, [], Some, codes}
 use Rattle.clap.specs.Walk.{Text}
@@ -20,7 +20,8 @@ judge_app = with_word (new_app (codes "judge")) (codes "log")
 abbrev pub pave_app : App
 pave_app = with_word (with_word (new_app (codes "pave")) (codes "rows")) (codes "log")
 
--- `solve OBS NAV SETTINGS LOG` and `check` with the same words, each with `--from N` and `--to N`
+-- `solve OBS NAV SETTINGS LOG`, and `check`, `track` and `retrack` with the same words, each with
+-- `--from N` and `--to N`
 abbrev pub files_app : Text → App
 files_app name =
     let receiver = with_word (with_word (new_app name) (codes "obs")) (codes "nav") in
@@ -51,5 +52,11 @@ with_files =
     with_subcommand (with_subcommand with_logs (files_app (codes "solve")).top)
     (files_app (codes "check")).top
 
+-- those of a receiver that moves
+abbrev pub with_tracks : App
+with_tracks =
+    with_subcommand (with_subcommand with_files (files_app (codes "track")).top)
+    (files_app (codes "retrack")).top
+
 abbrev pub program : App
-program = with_subcommand with_files make_app.top
+program = with_subcommand with_tracks make_app.top

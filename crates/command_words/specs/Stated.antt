@@ -1,5 +1,6 @@
 -- Words of the stated form, and that clap takes no others than a command's.
-use Rattle.std.specs.Prelude.{◌≡◌, ◌⊎◌, ◌==◌, ℕ, Bool, false, List, [], ◌∷◌, Option, Some, None, codes}
+use Rattle.std.specs.Prelude.{◌≡◌, ◌⊎◌, ◌==◌, ℕ, Bool, false, List, [], ◌∷◌, Option, Some, None}
+use Rattle.std.specs.Prelude.{codes}
 use Rattle.clap.specs.Walk.{Text, Row, first_of}
 use Rattle.clap.specs.Simple.{subcommand_of}
 use Rattle.clap.specs.Faults.{fault_of}
@@ -90,7 +91,9 @@ SaysCommand said =
     ⊎ (Says (codes "pave") (codes "rows" ∷ codes "log" ∷ []) said
     ⊎ (Says (codes "solve") file_ids said
     ⊎ (Says (codes "check") file_ids said
-    ⊎ Says (codes "make") (codes "seed" ∷ codes "epochs" ∷ []) said)))
+    ⊎ (Says (codes "track") file_ids said
+    ⊎ (Says (codes "retrack") file_ids said
+    ⊎ Says (codes "make") (codes "seed" ∷ codes "epochs" ∷ []) said)))))
 
 abbrev pub TakenIsCommand : Type 0
 TakenIsCommand = (words : List Text) → fault_of program words ≡ []

@@ -28,6 +28,10 @@ pub enum Command<'a> {
     Solve(Files<'a>),
     /// Check the log against the files.
     Check(Files<'a>),
+    /// Pave the epochs of these files as those of a moving receiver, and write the log.
+    Track(Files<'a>),
+    /// Check the log of a moving receiver against the files.
+    Retrack(Files<'a>),
     /// Make so many epochs of a known receiver, and solve them.
     Make { seed: u32, epochs: u32 },
 }

@@ -1,8 +1,9 @@
 //! Laws of the definitions.
 
 ghost use Rattle.std.specs.Prelude.{codes};
-ghost use Rattle.command_words.specs.Commands.{Solve, Check};
-ghost use Rattle.command_words.specs.Stated.{JudgeIsTaken, PaveIsTaken, FilesAreTaken, MakeIsTaken, TakenIsCommand};
+ghost use Rattle.command_words.specs.Commands.{Solve, Check, Track, Retrack};
+ghost use Rattle.command_words.specs.Stated.{JudgeIsTaken, PaveIsTaken, FilesAreTaken, MakeIsTaken};
+ghost use Rattle.command_words.specs.Stated.{TakenIsCommand};
 
 /// Words of the stated form ask for their command: its name, its words, of which none begins with a
 /// dash, and then its options, each at most once. Each number is decimal digits in its range.
@@ -11,10 +12,12 @@ pub fn stated_words_are_taken()
     ensures pave { PaveIsTaken }
     ensures solve { FilesAreTaken (codes "solve") Solve }
     ensures check { FilesAreTaken (codes "check") Check }
+    ensures track { FilesAreTaken (codes "track") Track }
+    ensures retrack { FilesAreTaken (codes "retrack") Retrack }
     ensures make { MakeIsTaken }
 {}
 
-/// Words that clap takes are those of one of the five commands, with a text for each of its words.
+/// Words that clap takes are those of one of the commands, with a text for each of its words.
 /// So none is asked for only where clap doesn't take the words, or by a number.
 pub fn taken_words_are_a_command()
     ensures { TakenIsCommand }

@@ -9,8 +9,10 @@ ghost use Rattle.clap.specs.Values.{kind_of};
 ghost use Rattle.clap.specs.Walk.{rows_of, first_of};
 ghost use Rattle.command_words.specs.Program.{program};
 ghost use Rattle.command_words.specs.Numbers.{epoch_or};
-ghost use Rattle.command_words.specs.Commands.{judge_by, pave_by, files_by, make_by, epochs_by, command_by, command_said, command_of};
-ghost use Rattle.command_words.specs.Seen.{texts, epochs_asked, files_asked, asked, IsSelection, HasRanges};
+ghost use Rattle.command_words.specs.Commands.{judge_by, pave_by, files_by, make_by, epochs_by};
+ghost use Rattle.command_words.specs.Commands.{command_by, command_said, command_of};
+ghost use Rattle.command_words.specs.Seen.{texts, epochs_asked, files_asked, asked, IsSelection};
+ghost use Rattle.command_words.specs.Seen.{HasRanges};
 
 use crate::command::{Command, Files, Selection};
 use crate::numbers::number_in;
@@ -24,7 +26,7 @@ use std::alloc::Global;
 const LAST_EPOCH: u32 = 200_000;
 
 /// The command that the words after the program's name ask for. None exactly where `clap` doesn't
-/// take the words as one of the five commands, or a number among them hasn't its form and range.
+/// take the words as one of the commands, or a number among them hasn't its form and range.
 pub fn command_of<'a>(alloc: Global, words: &'a [String]) -> Result<Option<Command<'a>>, NoMemory>
     ensures command { IfOk result (λ command.
         option_map asked command ≡ command_of (texts words.entry.now)) }
@@ -85,6 +87,10 @@ fn command_by<'a>(name: &str, found: &ArgMatches<'a>) -> Option<Command<'a>>
         Some(Command::Solve(files_by(found)?))
     } else if name == "check" {
         Some(Command::Check(files_by(found)?))
+    } else if name == "track" {
+        Some(Command::Track(files_by(found)?))
+    } else if name == "retrack" {
+        Some(Command::Retrack(files_by(found)?))
     } else if name == "make" {
         make_by(found)
     } else {

@@ -3,7 +3,9 @@
 ghost use Rattle.std.specs.Prelude.{◌≡◌, IfOk, false};
 ghost use Rattle.clap.specs.Simple.{app_of};
 ghost use Rattle.clap.specs.declared.builder.command.Command.TheViews.{out-Command};
-ghost use Rattle.command_words.specs.Program.{with_word, with_option, judge_app, pave_app, files_app, make_app, with_logs, with_files, program};
+ghost use Rattle.command_words.specs.Program.{with_word, with_option, judge_app, pave_app};
+ghost use Rattle.command_words.specs.Program.{files_app, make_app, with_logs, with_files};
+ghost use Rattle.command_words.specs.Program.{with_tracks, program};
 
 use clap::{Arg, Command};
 use std::alloc::{AllocError, Global};
@@ -55,7 +57,7 @@ fn pave<'a>(alloc: Global) -> Result<Command<'a>, AllocError>
     with_word(alloc, command, "log")
 }
 
-/// `solve` or `check` with `OBS NAV SETTINGS LOG`, `--from N` and `--to N`.
+/// `solve`, `check`, `track` or `retrack` with `OBS NAV SETTINGS LOG`, `--from N` and `--to N`.
 fn on_files<'a>(alloc: Global, name: &'a str) -> Result<Command<'a>, AllocError>
     ensures app { IfOk result (λ c. app_of c ≡ files_app name.entry.now) }
     ensures local { IfOk result (λ c. (out-Command c).has_globals ≡ false) }
@@ -106,11 +108,21 @@ fn with_files<'a>(alloc: Global) -> Result<Command<'a>, AllocError>
     command.subcommand(solve)?.subcommand(check)
 }
 
-/// The program with all five commands.
+/// The program with the commands on the files of a moving receiver too.
+fn with_tracks<'a>(alloc: Global) -> Result<Command<'a>, AllocError>
+    ensures app { IfOk result (λ c. app_of c ≡ with_tracks) }
+{
+    let command = with_files(alloc)?;
+    let track = on_files(alloc, "track")?;
+    let retrack = on_files(alloc, "retrack")?;
+    command.subcommand(track)?.subcommand(retrack)
+}
+
+/// The program with all commands.
 pub(crate) fn program<'a>(alloc: Global) -> Result<Command<'a>, AllocError>
     ensures app { IfOk result (λ c. app_of c ≡ program) }
 {
-    let command = with_files(alloc)?;
+    let command = with_tracks(alloc)?;
     let make = make(alloc)?;
     command.subcommand(make)
 }

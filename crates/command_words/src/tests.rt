@@ -11,6 +11,9 @@ fn owned(alloc: Global, words: &[&str]) -> Result<Vec<String>, AllocError> {
     Ok(all)
 }
 
+/// The last epoch that a file may have.
+const LAST: u32 = 200_000;
+
 /// The files `o`, `n` and `s`, a log, and the epochs that are taken.
 fn files(log: &str, from: u32, to: u32) -> Files<'_> {
     Files {
@@ -25,77 +28,65 @@ fn files(log: &str, from: u32, to: u32) -> Files<'_> {
 #[test]
 fn taken(rt: HostRuntime) -> Result<(), AllocError> {
     let judged = |log| Some(Command::Judge { log });
-    let rows: [(&[&str], Option<Command<'_>>); 20] = [
+    let solved = |log, from, to| Some(Command::Solve(files(log, from, to)));
+    let checked = |log, from, to| Some(Command::Check(files(log, from, to)));
+    let tracked = |log, from, to| Some(Command::Track(files(log, from, to)));
+    let retracked = |log, from, to| Some(Command::Retrack(files(log, from, to)));
+    let made = |seed, epochs| Some(Command::Make { seed, epochs });
+    let (rows, log) = ("r", "l");
+    let table: [(&[&str], Option<Command<'_>>); 23] = [
         (&["judge", "x"], judged("x")),
         (&["judge", ""], judged("")),
         (&["judge", "-"], judged("-")),
         (&["judge", "solve"], judged("solve")),
         (&["judge", "--", "-x"], judged("-x")),
         (&["judge", "--", "--"], judged("--")),
-        (
-            &["pave", "r", "l"],
-            Some(Command::Pave {
-                rows: "r",
-                log: "l",
-            }),
-        ),
-        (
-            &["solve", "o", "n", "s", "l"],
-            Some(Command::Solve(files("l", 1, 200_000))),
-        ),
-        (
-            &["check", "o", "n", "s", "l"],
-            Some(Command::Check(files("l", 1, 200_000))),
-        ),
+        (&["pave", "r", "l"], Some(Command::Pave { rows, log })),
+        (&["solve", "o", "n", "s", "l"], solved("l", 1, LAST)),
+        (&["check", "o", "n", "s", "l"], checked("l", 1, LAST)),
         (
             &["solve", "o", "n", "s", "l", "--from", "3"],
-            Some(Command::Solve(files("l", 3, 200_000))),
+            solved("l", 3, LAST),
         ),
         (
             &["check", "o", "n", "s", "l", "--to", "200000"],
-            Some(Command::Check(files("l", 1, 200_000))),
+            checked("l", 1, LAST),
         ),
         (
             &["solve", "o", "n", "s", "l", "--from", "3", "--to", "2"],
-            Some(Command::Solve(files("l", 3, 2))),
+            solved("l", 3, 2),
         ),
         (
             &["check", "o", "n", "s", "l", "--to", "20", "--from", "3"],
-            Some(Command::Check(files("l", 3, 20))),
+            checked("l", 3, 20),
         ),
         (
             &["solve", "o", "n", "s", "l", "--from=3"],
-            Some(Command::Solve(files("l", 3, 200_000))),
+            solved("l", 3, LAST),
         ),
         (
             &["check", "--to", "7", "o", "n", "s", "l"],
-            Some(Command::Check(files("l", 1, 7))),
+            checked("l", 1, 7),
         ),
         (
             &["solve", "o", "--to", "7", "n", "--from=2", "s", "l"],
-            Some(Command::Solve(files("l", 2, 7))),
+            solved("l", 2, 7),
+        ),
+        (&["solve", "o", "n", "s", "--", "-l"], solved("-l", 1, LAST)),
+        (&["track", "o", "n", "s", "l"], tracked("l", 1, LAST)),
+        (
+            &["track", "o", "n", "s", "l", "--from", "3", "--to", "20"],
+            tracked("l", 3, 20),
         ),
         (
-            &["solve", "o", "n", "s", "--", "-l"],
-            Some(Command::Solve(files("-l", 1, 200_000))),
+            &["retrack", "--to", "7", "o", "n", "s", "--from=2", "l"],
+            retracked("l", 2, 7),
         ),
-        (
-            &["make", "7", "3"],
-            Some(Command::Make { seed: 7, epochs: 3 }),
-        ),
-        (
-            &["make", "0", "1"],
-            Some(Command::Make { seed: 0, epochs: 1 }),
-        ),
-        (
-            &["make", "4294967295", "240"],
-            Some(Command::Make {
-                seed: 4_294_967_295,
-                epochs: 240,
-            }),
-        ),
+        (&["make", "7", "3"], made(7, 3)),
+        (&["make", "0", "1"], made(0, 1)),
+        (&["make", "4294967295", "240"], made(4_294_967_295, 240)),
     ];
-    for (words, wanted) in rows.iter() {
+    for (words, wanted) in table.iter() {
         let words = owned(rt.alloc(), *words)?;
         let command = command_of(rt.alloc(), words.as_slice());
         assert!(rt; command == Ok(*wanted), "{words:?}");
@@ -105,7 +96,7 @@ fn taken(rt: HostRuntime) -> Result<(), AllocError> {
 
 #[test]
 fn not_taken(rt: HostRuntime) -> Result<(), AllocError> {
-    let rows: [&[&str]; 40] = [
+    let rows: [&[&str]; 43] = [
         &[],
         &[""],
         &["judge"],
@@ -139,6 +130,9 @@ fn not_taken(rt: HostRuntime) -> Result<(), AllocError> {
         &["solve", "o", "n", "s", "l", "--from="],
         &["solve", "o", "n", "s", "l", "--from=-3"],
         &["check", "o", "n", "s", "l", "--to", "200001"],
+        &["track", "o", "n", "s"],
+        &["tracks", "o", "n", "s", "l"],
+        &["retrack", "o", "n", "s", "l", "--to", "0"],
         &["make", "7"],
         &["make", "7", "3", "9"],
         &["make", "-1", "3"],

@@ -1,5 +1,6 @@
--- A log that was solved is accepted where it is checked with the same files.
-use Rattle.std.proofs.Common.{◌≡◌, ◌⊎◌, ◌≤◌, ℕ, List, length, Option, None, Some, Result, Ok}
+-- A log that was written of files is accepted where it is checked with the same files: one that was
+-- solved, and a track.
+use Rattle.std.proofs.Common.{◌≡◌, ◌⊎◌, ◌≤◌, ℕ, Bool, true, false, List, length, Option, None, Some, Result, Ok}
 use Rattle.std.proofs.Common.{Err}
 use Rattle.std.proofs.Common.{inl, inr, refl, sym, ap, subst, ◌∙◌, arith}
 use Rattle.std.specs.Prelude.{◌≢◌}
@@ -7,7 +8,7 @@ use Rattle.std.specs.FinMap as map
 use Rattle.std.specs.Option.{option_map}
 use Rattle.command_words.specs.Commands as words
 use Rattle.input_files.proofs.GrammarLemmas.{no_first}
-use Rattle.input_files.specs.Inputs.{InputsValue, ReadsInputs, inputs_value, nav_text, obs_text}
+use Rattle.input_files.specs.Inputs.{InputsValue, ReadsFor, input_slots, inputs_value, nav_text, obs_text, read_both, sought_of}
 use Rattle.input_files.specs.Inputs.{settings_text, wants_position}
 use Rattle.input_files.specs.Logs.{log_text}
 use Rattle.input_files.specs.Reading.{IsBrokenOff, MayBreak, NeverBreaks, ReadsFile, Settles, Text}
@@ -18,6 +19,7 @@ use Rattle.input_files.specs.declared.limits.Limits.{Limits}
 use Rattle.input_files.specs.declared.notice.Notice.{Notice}
 use Rattle.input_files.specs.declared.status.Status.{Status}
 use Rattle.input_files.specs.declared.status.Status.TheVariants as status
+use Rattle.log_writer.specs.Sizes.{most_bytes}
 use Rattle.log_writer.specs.Writing.{Trust}
 use Rattle.outer_io.proofs.Covering.{get-other, get-log}
 use Rattle.outer_io.specs.Told.{Files, files_of}
@@ -26,26 +28,27 @@ use Rattle.outer_io.specs.declared.slots.Slot.TheVariants as slot
 use Rattle.paving_log.specs.Faults.{FirstFault}
 use Rattle.paving_log.specs.Text.{IsLogText}
 use Rattle.paving_log.specs.Values.{log_value}
-use Rattle.paving_log_check.specs.declared.verdict.Fault.{Fault}
 use Rattle.sat_model.specs.Logs.{LogValue}
-use Rattle.cover_run.proofs.AcceptLemmas.{not_refused}
+use Rattle.cover_run.proofs.AcceptLemmas.{not_refused, track_not_refused}
 use Rattle.cover_run.proofs.RunLemmas.{stopped_not_done}
 use Rattle.cover_run.proofs.TaskLemmas.{checked_fair}
-use Rattle.cover_run.specs.Accepting.{AreApart, SolvesThenChecks}
+use Rattle.cover_run.specs.Accepting.{AreApart, RunsThen, SolvesThenChecks, TracksThenRechecks}
 use Rattle.cover_run.specs.Chosen.{chosen_in}
-use Rattle.cover_run.specs.Checking.{CheckedValue, ReadsChecked, Refuses, SaysAccepted}
-use Rattle.cover_run.specs.Checking.{SaysRefused, checked_value}
-use Rattle.cover_run.specs.Runs.{Ends, checking, solving}
-use Rattle.cover_run.specs.Solving.{IsSolved, IsSolution, Solves}
+use Rattle.cover_run.specs.Checking.{CheckedValue, ReadsCheckedFor, SaysAccepted}
+use Rattle.cover_run.specs.Checking.{SaysRefused, checked_slots, checked_value}
+use Rattle.cover_run.specs.Rechecking.{SaysTracked, SaysUntracked}
+use Rattle.cover_run.specs.Runs.{Ends, IsVerdict, IsWritten, Task, TellsAlone}
+use Rattle.cover_run.specs.Solving.{IsSolution, epochs_of}
 use Rattle.cover_run.specs.Telling.{Tells, sinks}
+use Rattle.cover_run.specs.Tracking.{IsTrack}
 use Rattle.cover_run.specs.Worlds.{World}
-use Rattle.cover_run.specs.Writing.{Answer, status_of_writing}
+use Rattle.cover_run.specs.Writing.{Answer, Writes, status_of_writing}
 use Rattle.cover_run.specs.declared.checked.Checked.{Checked}
 use Rattle.log_writer.specs.declared.fault.WriteFault.TheVariants as why
 
 -- ---- the files behind the log
 
-module _ (limits : Limits) (names : words.Files) (bytes : List ℕ) (told : Files)
+module _ (moving : Bool) (limits : Limits) (names : words.Files) (bytes : List ℕ) (told : Files)
     (apart : AreApart names) where
   abbrev log : List ℕ
   log = names.log
@@ -62,37 +65,37 @@ module _ (limits : Limits) (names : words.Files) (bytes : List ℕ) (told : File
       (ap Some (get-other told log name (Some bytes) other)) reads
 
   inputs_before : (r : Result InputsValue Notice)
-      → ReadsInputs limits names NeverBreaks (Some later) r
-      → ReadsInputs limits names NeverBreaks (Some told) r
+      → ReadsFor moving limits names NeverBreaks (Some later) r
+      → ReadsFor moving limits names NeverBreaks (Some told) r
   inputs_before r (inr (n, is, e)) =
-      inr (n, still settings_text names.settings (Err n) apart.settings is, e)
+      inr (n, still (settings_text moving) names.settings (Err n) apart.settings is, e)
   inputs_before r (inl (s, is, inr (n, has, e))) = inl (
     s,
-    still settings_text names.settings (Ok s) apart.settings is,
-    inr (n, still nav_text names.nav (Err n) apart.nav has, e),
+    still (settings_text moving) names.settings (Ok s) apart.settings is,
+    inr (n, still (nav_text (read_both s)) names.nav (Err n) apart.nav has, e),
   )
   inputs_before r (inl (s, is, inl (records, has, inr (n, sees, e)))) = inl (
     s,
-    still settings_text names.settings (Ok s) apart.settings is,
+    still (settings_text moving) names.settings (Ok s) apart.settings is,
     inl (
       records,
-      still nav_text names.nav (Ok records) apart.nav has,
+      still (nav_text (read_both s)) names.nav (Ok records) apart.nav has,
       inr (
         n,
-        still (obs_text s.signal (wants_position s.centre)) names.obs (Err n) apart.obs sees,
+        still (obs_text (sought_of s) (wants_position s.centre)) names.obs (Err n) apart.obs sees,
         e,
       ),
     ),
   )
   inputs_before r (inl (s, is, inl (records, has, inl (o, sees, e)))) = inl (
     s,
-    still settings_text names.settings (Ok s) apart.settings is,
+    still (settings_text moving) names.settings (Ok s) apart.settings is,
     inl (
       records,
-      still nav_text names.nav (Ok records) apart.nav has,
+      still (nav_text (read_both s)) names.nav (Ok records) apart.nav has,
       inl (
         o,
-        still (obs_text s.signal (wants_position s.centre)) names.obs (Ok o) apart.obs sees,
+        still (obs_text (sought_of s) (wants_position s.centre)) names.obs (Ok o) apart.obs sees,
         e,
       ),
     ),
@@ -110,27 +113,26 @@ module _ (limits : Limits) (names : words.Files) (bytes : List ℕ) (told : File
   log_is value (inl (inr (long, e))) = cc
   log_is value (inr (n, e, there, breaks)) = absurd breaks
 
-  module _ (i : Inputs) (said : List ℕ)
-      (solved : IsSolved (chosen_in names) i limits.log bytes said)
+  module _ (i : Inputs) (written : LogValue) (is_text : IsLogText written bytes)
+      (fits : length bytes ≤ limits.log)
       (same : (other : Result InputsValue Notice)
-      → ReadsInputs limits names NeverBreaks (Some told) other
+      → ReadsFor moving limits names NeverBreaks (Some told) other
       → Settles (Ok (inputs_value i)) other) where
     log_read : (n : Notice)
         → ReadsFile log_text limits.log NeverBreaks (Some (Some bytes)) (Err n) → ⊥
     log_read n (inl (inl (within, refused))) =
-        no_first slot.Log IsLogText FirstFault bytes solved.whole.log solved.whole.text n refused.1
-    log_read n (inl (inr (long, e))) =
-        let fits : length bytes ≤ limits.log = solved.whole.fits in absurd (omega arith)
+        no_first slot.Log IsLogText FirstFault bytes written is_text n refused.1
+    log_read n (inl (inr (long, e))) = absurd (omega (arith, long, fits))
     log_read n (inr (k, e, there, breaks)) = breaks
 
-    same_inputs : (v : InputsValue) → ReadsInputs limits names NeverBreaks (Some later) (Ok v)
+    same_inputs : (v : InputsValue) → ReadsFor moving limits names NeverBreaks (Some later) (Ok v)
         → inputs_value i ≡ v
     same_inputs v reads = elim (same (Ok v) (inputs_before (Ok v) reads)) [
       | inl none ↦ absurd none
       | inr is ↦ is
     ]
 
-    inputs_read : (n : Notice) → ReadsInputs limits names NeverBreaks (Some later) (Err n) → ⊥
+    inputs_read : (n : Notice) → ReadsFor moving limits names NeverBreaks (Some later) (Err n) → ⊥
     inputs_read n reads = elim (same (Err n) (inputs_before (Err n) reads)) [
       | inl none ↦ none
       | inr none ↦ none
@@ -147,7 +149,7 @@ module _ (limits : Limits) (names : words.Files) (bytes : List ℕ) (told : File
     at_log r reads = subst (λ (f : Option (Option (List ℕ))).
         ReadsFile log_text limits.log NeverBreaks f r) log_there reads
 
-    read_again : (v : CheckedValue) → ReadsChecked limits names NeverBreaks (Some later) (Ok v)
+    read_again : (v : CheckedValue) → ReadsCheckedFor moving limits names NeverBreaks (Some later) (Ok v)
         → IsReadAgain v
     read_again v (inr (n, is, e)) = cc
     read_again v (inl (w, is, inr (n, has, e))) = cc
@@ -156,7 +158,7 @@ module _ (limits : Limits) (names : words.Files) (bytes : List ℕ) (told : File
         subst IsReadAgain (sym made)
         (record { inputs = same_inputs w is; text = log_is value (at_log (Ok value) has) })
 
-    read_ends : (n : Notice) → ReadsChecked limits names NeverBreaks (Some later) (Err n) → ⊥
+    read_ends : (n : Notice) → ReadsCheckedFor moving limits names NeverBreaks (Some later) (Err n) → ⊥
     read_ends n (inr (k, is, e)) = inputs_read k is
     read_ends n (inl (w, is, inr (k, has, e))) = log_read k (at_log (Err k) has)
     read_ends n (inl (w, is, inl (value, has, e))) = cc
@@ -167,119 +169,207 @@ module _ (limits : Limits) (names : words.Files) (bytes : List ℕ) (told : File
 abbrev IsLost : Trust → Status → Type 0
 IsLost trust s = (s ≡ status.NoMemory) ⊎ (IsBrokenOff s × (trust.log None → trust.out → ⊥))
 
-module _ (limits : Limits) (names : words.Files) (a b c d : World)
+-- What is written of inputs, and what is said of a log by them: what was written isn't refused.
+pub record Pair (names : words.Files) : Type 1 where
+  pub moving : Bool
+  pub Written : Inputs → ℕ → Answer → (bytes said : List ℕ) → Type 0
+  pub Accepted : Checked → List ℕ → Type 0
+  pub Refused : Checked → List ℕ → Type 0
+  pub log : (i : Inputs) (limit : ℕ) (bytes said : List ℕ) → Written i limit (Ok tt) bytes said
+      → LogValue
+  pub text : (i : Inputs) (limit : ℕ) (bytes said : List ℕ)
+      (w : Written i limit (Ok tt) bytes said) → IsLogText (log i limit bytes said w) bytes
+  pub fits : (i : Inputs) (limit : ℕ) (bytes said : List ℕ)
+      → Written i limit (Ok tt) bytes said → length bytes ≤ limit
+  pub not_refused : (i : Inputs) (limit : ℕ) (bytes said : List ℕ) (f : Checked)
+      (line : List ℕ) → inputs_value i ≡ inputs_value f.inputs
+      → Written i limit (Ok tt) bytes said → IsLogText (log_value f.log) bytes
+      → Refused f line → ⊥
+
+module _ (limits : Limits) (names : words.Files) (p : Pair names) where
+  abbrev pub writer : Task Inputs
+  writer = record {
+    Value = InputsValue;
+    value = inputs_value;
+    slots = input_slots;
+    reads = ReadsFor p.moving limits names;
+    Does = λ i before after trust. Writes names.log before after trust input_slots limits.log
+        (most_bytes (length (epochs_of (chosen_in names) i)) i.settings.rules.bisections)
+        (p.Written i limits.log);
+    Suits = λ i s. IsWritten s;
+  }
+
+  abbrev pub reader : Task Checked
+  reader = record {
+    Value = CheckedValue;
+    value = checked_value;
+    slots = checked_slots;
+    reads = ReadsCheckedFor p.moving limits names;
+    Does = λ read. TellsAlone (p.Accepted read) (p.Refused read) checked_slots;
+    Suits = λ found s. IsVerdict s;
+  }
+
+module _ (limits : Limits) (names : words.Files) (p : Pair names) (a b c d : World)
     (solver checker : Trust) (s : Status)
-    (runs : SolvesThenChecks limits names a b c d solver checker s) where
-  abbrev Breaking : Slot → Notice → Type 0
-  Breaking = MayBreak c.shelf d.shelf checker.log
+    (runs : RunsThen (writer limits names p) (reader limits names p) names a b c d solver checker s)
+  where
+    abbrev Breaking : Slot → Notice → Type 0
+    Breaking = MayBreak c.shelf d.shelf checker.log
 
-  of_break : (of : Slot) (n : Notice) → s ≡ status_of n → Breaking of n → IsLost checker s
-  of_break of n is (inl m) = inl (is ∙ ap status_of m)
-  of_break of n is (inr (m, counted)) =
-      inr (inl (is ∙ ap status_of m), λ reads prints. counted.unreliable None reads)
+    of_break : (of : Slot) (n : Notice) → s ≡ status_of n → Breaking of n → IsLost checker s
+    of_break of n is (inl m) = inl (is ∙ ap status_of m)
+    of_break of n is (inr (m, counted)) =
+        inr (inl (is ∙ ap status_of m), λ reads prints. counted.unreliable None reads)
 
-  module _ (i : Inputs) (bytes said : List ℕ)
-      (solved : IsSolved (chosen_in names) i limits.log bytes said)
-      (rewritten : files_of b.shelf
-      ≡ option_map (λ fs. map.insert fs names.log bytes) (files_of a.shelf))
-      (same : (other : Result InputsValue Notice)
-      → ReadsInputs limits names NeverBreaks (Some runs.told) other
-      → Settles (Ok (inputs_value i)) other) where
-    abbrev behind : Files
-    behind = map.insert runs.told names.log bytes
+    module _ (i : Inputs) (bytes said : List ℕ)
+        (solved : p.Written i limits.log (Ok tt) bytes said)
+        (rewritten : files_of b.shelf
+        ≡ option_map (λ fs. map.insert fs names.log bytes) (files_of a.shelf))
+        (same : (other : Result InputsValue Notice)
+        → ReadsFor p.moving limits names NeverBreaks (Some runs.told) other
+        → Settles (Ok (inputs_value i)) other) where
+      abbrev behind : Files
+      behind = map.insert runs.told names.log bytes
 
-    abbrev Read : Result CheckedValue Notice → Type 0
-    Read r = ReadsChecked limits names Breaking (Some behind) r
+      abbrev Read : Result CheckedValue Notice → Type 0
+      Read r = ReadsCheckedFor p.moving limits names Breaking (Some behind) r
 
-    read_behind : Read (valued checked_value runs.checks.read)
-    read_behind =
-        let files = runs.keeps ∙ rewritten
-        ∙ ap (option_map (λ fs. map.insert fs names.log bytes)) runs.are_told in
-        subst (λ (f : Option Files).
-        ReadsChecked limits names Breaking f (valued checked_value runs.checks.read)) files
-        runs.checks.found.reads
+      read_behind : Read (valued checked_value runs.checks.read)
+      read_behind =
+          let files = runs.keeps ∙ rewritten
+          ∙ ap (option_map (λ fs. map.insert fs names.log bytes)) runs.are_told in
+          subst (λ (f : Option Files).
+          ReadsCheckedFor p.moving limits names Breaking f (valued checked_value runs.checks.read)) files
+          runs.checks.found.reads
 
-    not_said : (f : Checked) (fault : Fault) → Read (Ok (checked_value f))
-        → Refuses (chosen_in names) f.inputs (log_value f.log) fault → ⊥
-    not_said f fault reads refused =
-        let given = (checked_fair limits names).value Breaking NeverBreaks (Some behind)
-        (checked_value f) reads in
-        let again = read_again limits names bytes runs.told runs.apart i said solved same
-        (checked_value f) given in
-        not_refused (chosen_in names) i f.inputs limits.log bytes said (log_value f.log) fault
-        again.inputs solved again.text refused
+      not_said : (f : Checked) (line : List ℕ) → Read (Ok (checked_value f)) → p.Refused f line → ⊥
+      not_said f line reads refused =
+          let given = (checked_fair limits names p.moving).value Breaking NeverBreaks (Some behind)
+          (checked_value f) reads in
+          let again = read_again p.moving limits names bytes runs.told runs.apart i
+          (p.log i limits.log bytes said solved) (p.text i limits.log bytes said solved)
+          (p.fits i limits.log bytes said solved) same (checked_value f) given in
+          p.not_refused i limits.log bytes said f line again.inputs solved again.text refused
 
-    told_is : (f : Checked) (t : Status) → Read (Ok (checked_value f))
-        → Tells (SaysAccepted (chosen_in names) f) (SaysRefused (chosen_in names) f)
-        (sinks c.out c.err) (sinks d.out d.err) checker.out t
-        → IsLost checker t ⊎ (t ≡ status.Done)
-    told_is f status.Done reads told = inr refl
-    told_is f status.No reads told = absurd (not_said f told.1.0 reads told.1.1)
-    told_is f status.WriteFault reads told =
-        inl (inr (inr (inl refl), λ reliable prints. told.2.unreliable prints))
-    told_is f status.NoMemory reads told = inl (inl refl)
-    told_is f status.Usage reads told = absurd told
-    told_is f status.Refused reads told = absurd told
-    told_is f status.ReadFault reads told = absurd told
-    told_is f status.LogFull reads told = absurd told
+      told_is : (f : Checked) (t : Status) → Read (Ok (checked_value f))
+          → Tells (p.Accepted f) (p.Refused f) (sinks c.out c.err) (sinks d.out d.err) checker.out t
+          → IsLost checker t ⊎ (t ≡ status.Done)
+      told_is f status.Done reads told = inr refl
+      told_is f status.No reads told = absurd (not_said f told.0 reads told.1)
+      told_is f status.WriteFault reads told =
+          inl (inr (inr (inl refl), λ reliable prints. told.2.unreliable prints))
+      told_is f status.NoMemory reads told = inl (inl refl)
+      told_is f status.Usage reads told = absurd told
+      told_is f status.Refused reads told = absurd told
+      told_is f status.ReadFault reads told = absurd told
+      told_is f status.LogFull reads told = absurd told
 
-    status_is : (read : Result Checked Notice) → Read (valued checked_value read)
-        → Ends (checking limits names) c d checker s read → IsLost checker s ⊎ (s ≡ status.Done)
-    status_is (Ok f) reads ends = told_is f s reads ends.told
-    status_is (Err n) reads ends =
-        elim ((checked_fair limits names).ends Breaking (Some behind) n reads) [
-          | inl given ↦ absurd (read_ends limits names bytes runs.told runs.apart i said solved
-              same n given)
-          | inr broken ↦ inl (of_break broken.0 n ends.status broken.1)
-        ]
+      status_is : (read : Result Checked Notice) → Read (valued checked_value read)
+          → Ends (reader limits names p) c d checker s read → IsLost checker s ⊎ (s ≡ status.Done)
+      status_is (Ok f) reads ends = told_is f s reads ends.told
+      status_is (Err n) reads ends =
+          elim ((checked_fair limits names p.moving).ends Breaking (Some behind) n reads) [
+            | inl given ↦ absurd (read_ends p.moving limits names bytes runs.told runs.apart i
+                (p.log i limits.log bytes said solved) (p.text i limits.log bytes said solved)
+                (p.fits i limits.log bytes said solved) same n given)
+            | inr broken ↦ inl (of_break broken.0 n ends.status broken.1)
+          ]
 
-    ends_so : IsLost checker s ⊎ (s ≡ status.Done)
-    ends_so = status_is runs.checks.read read_behind runs.checks.ends
+      ends_so : IsLost checker s ⊎ (s ≡ status.Done)
+      ends_so = status_is runs.checks.read read_behind runs.checks.ends
 
-  -- ---- what was solved
+    -- ---- what was solved
 
-  whole_of : (i : Inputs) (bytes said : List ℕ) (answer : Answer)
-      → status.Done ≡ status_of_writing limits.log answer
-      → IsSolution (chosen_in names) i limits.log answer bytes said
-      → IsSolved (chosen_in names) i limits.log bytes said
-  whole_of i bytes said (Ok done) e text = text
-  whole_of i bytes said (Err why.Log) e text = cc
-  whole_of i bytes said (Err why.Out) e text = cc
-  whole_of i bytes said (Err why.Full) e text = cc
-  whole_of i bytes said (Err why.NoMemory) e text = cc
+    whole_of : (i : Inputs) (bytes said : List ℕ) (answer : Answer)
+        → status.Done ≡ status_of_writing limits.log answer
+        → p.Written i limits.log answer bytes said → p.Written i limits.log (Ok tt) bytes said
+    whole_of i bytes said (Ok done) e text = text
+    whole_of i bytes said (Err why.Log) e text = cc
+    whole_of i bytes said (Err why.Out) e text = cc
+    whole_of i bytes said (Err why.Full) e text = cc
+    whole_of i bytes said (Err why.NoMemory) e text = cc
 
-  solved_so : (i : Inputs)
-      → ((other : Result InputsValue Notice)
-      → ReadsInputs limits names NeverBreaks (Some runs.told) other
-      → Settles (Ok (inputs_value i)) other)
-      → Solves limits.log names.log (chosen_in names) i a b solver status.Done
-      → IsLost checker s ⊎ (s ≡ status.Done)
-  solved_so i same (inl none) = let e : status.Done ≡ status.WriteFault = none.status in cc
-  solved_so i same (inr wrote) =
-      ends_so i wrote.bytes wrote.said
-      (whole_of i wrote.bytes wrote.said wrote.answer wrote.status wrote.text) wrote.log.files same
+    solved_so : (i : Inputs)
+        → ((other : Result InputsValue Notice)
+        → ReadsFor p.moving limits names NeverBreaks (Some runs.told) other
+        → Settles (Ok (inputs_value i)) other)
+        → (writer limits names p).Does i a b solver status.Done
+        → IsLost checker s ⊎ (s ≡ status.Done)
+    solved_so i same (inl none) = let e : status.Done ≡ status.WriteFault = none.status in cc
+    solved_so i same (inr wrote) =
+        ends_so i wrote.bytes wrote.said
+        (whole_of i wrote.bytes wrote.said wrote.answer wrote.status wrote.text) wrote.log.files same
 
-  read_so : (read : Result Inputs Notice)
-      → ((other : Result InputsValue Notice)
-      → ReadsInputs limits names NeverBreaks (Some runs.told) other
-      → Settles (valued inputs_value read) other)
-      → Ends (solving limits names) a b solver status.Done read
-      → IsLost checker s ⊎ (s ≡ status.Done)
-  read_so (Ok i) same ends = solved_so i same ends
-  read_so (Err n) same ends = absurd (stopped_not_done n ends.ends (sym ends.status))
+    read_so : (read : Result Inputs Notice)
+        → ((other : Result InputsValue Notice)
+        → ReadsFor p.moving limits names NeverBreaks (Some runs.told) other
+        → Settles (valued inputs_value read) other)
+        → Ends (writer limits names p) a b solver status.Done read
+        → IsLost checker s ⊎ (s ≡ status.Done)
+    read_so (Ok i) same ends = solved_so i same ends
+    read_so (Err n) same ends = absurd (stopped_not_done n ends.ends (sym ends.status))
 
-  is_so : IsLost checker s ⊎ (s ≡ status.Done)
-  is_so = read_so runs.solves.read
-      (λ other given. runs.solves.found.same runs.told other runs.are_told given) runs.solves.ends
+    is_so : IsLost checker s ⊎ (s ≡ status.Done)
+    is_so = read_so runs.solves.read
+        (λ other given. runs.solves.found.same runs.told other runs.are_told given) runs.solves.ends
 
-  pub accepted : IsBrokenOff s ⊎ (s ≡ status.Done)
-  accepted = elim is_so [
-    | inl lost ↦ elim lost [ inl m ↦ inl (inr (inr m)) | inr broken ↦ inl broken.0 ]
-    | inr done ↦ inr done
-  ]
+    pub accepted_by : IsBrokenOff s ⊎ (s ≡ status.Done)
+    accepted_by = elim is_so [
+      | inl lost ↦ elim lost [ inl m ↦ inl (inr (inr m)) | inr broken ↦ inl broken.0 ]
+      | inr done ↦ inr done
+    ]
 
-  pub certain : checker.log None → checker.out → (s ≡ status.NoMemory) ⊎ (s ≡ status.Done)
-  certain reads prints = elim is_so [
-    | inl lost ↦ elim lost [ inl m ↦ inl m | inr broken ↦ absurd (broken.1 reads prints) ]
-    | inr done ↦ inr done
-  ]
+    pub certain_by : checker.log None → checker.out → (s ≡ status.NoMemory) ⊎ (s ≡ status.Done)
+    certain_by reads prints = elim is_so [
+      | inl lost ↦ elim lost [ inl m ↦ inl m | inr broken ↦ absurd (broken.1 reads prints) ]
+      | inr done ↦ inr done
+    ]
+
+-- ---- both pairs
+
+module _ (names : words.Files) where
+  abbrev pub solve_and_check : Pair names
+  solve_and_check = record {
+    moving = false;
+    Written = IsSolution (chosen_in names);
+    Accepted = SaysAccepted (chosen_in names);
+    Refused = SaysRefused (chosen_in names);
+    log = λ i limit bytes said w. w.whole.log;
+    text = λ i limit bytes said w. w.whole.text;
+    fits = λ i limit bytes said w. w.whole.fits;
+    not_refused = λ i limit bytes said f line same w text refused.
+        not_refused (chosen_in names) i f.inputs limit bytes said (log_value f.log) refused.0 same w
+        text refused.1;
+  }
+
+  abbrev pub track_and_recheck : Pair names
+  track_and_recheck = record {
+    moving = true;
+    Written = IsTrack (chosen_in names);
+    Accepted = SaysTracked (chosen_in names);
+    Refused = SaysUntracked (chosen_in names);
+    log = λ i limit bytes said w. w.track.whole.log;
+    text = λ i limit bytes said w. w.track.whole.text;
+    fits = λ i limit bytes said w. w.track.whole.fits;
+    not_refused = λ i limit bytes said f line same w text refused.
+        track_not_refused (chosen_in names) i f.inputs limit bytes said (log_value f.log) refused.0
+        same w text refused.1;
+  }
+
+module _ (limits : Limits) (names : words.Files) (a b c d : World) (solver checker : Trust)
+    (s : Status) where
+  pub accepted : SolvesThenChecks limits names a b c d solver checker s
+      → IsBrokenOff s ⊎ (s ≡ status.Done)
+  accepted = accepted_by limits names (solve_and_check names) a b c d solver checker s
+
+  pub certain : SolvesThenChecks limits names a b c d solver checker s
+      → checker.log None → checker.out → (s ≡ status.NoMemory) ⊎ (s ≡ status.Done)
+  certain = certain_by limits names (solve_and_check names) a b c d solver checker s
+
+  pub track_accepted : TracksThenRechecks limits names a b c d solver checker s
+      → IsBrokenOff s ⊎ (s ≡ status.Done)
+  track_accepted = accepted_by limits names (track_and_recheck names) a b c d solver checker s
+
+  pub track_certain : TracksThenRechecks limits names a b c d solver checker s
+      → checker.log None → checker.out → (s ≡ status.NoMemory) ⊎ (s ≡ status.Done)
+  track_certain = certain_by limits names (track_and_recheck names) a b c d solver checker s

@@ -3,6 +3,8 @@ pub mod TellingLemmas
 pub mod WritingLemmas
 pub mod TaskLemmas
 pub mod SolvingLemmas
+pub mod TrackingLemmas
+pub mod RecheckingLemmas
 pub mod SameInputs
 pub mod AcceptLemmas
 pub mod Headline

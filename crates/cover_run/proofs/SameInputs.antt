@@ -7,15 +7,17 @@ use Rattle.std.specs.List.{filter}
 use Rattle.std.specs.Option.{option_map}
 use Rattle.std.proofs.Math.Dec.{T_prop}
 use mathlib.Core.HLevel.{is_prop→PathP}
-use Rattle.epoch_selection.specs.Searches.{searches_in}
+use Rattle.epoch_selection.specs.Searches.{Search, searches_in}
 use Rattle.epoch_selection.specs.Selections.{is_selected, selected}
 use Rattle.epoch_selection.specs.declared.selection.Selection.{Selection}
-use Rattle.error_bounds.specs.Reading.{bound_for, centre_with, IsRoot, value_of_settings}
+use Rattle.error_bounds.specs.Reading.{signal_of, bound_for, centre_with, IsRoot, value_of_settings}
 use Rattle.error_bounds.specs.Texts.{SettingsValue}
 use Rattle.input_files.specs.Inputs.{InputsValue, inputs_value}
 use Rattle.input_files.specs.declared.inputs.Inputs.{Inputs}
+use Rattle.moving_tube.specs.Roots.{Before, kept_of, root_for}
 use Rattle.paving_log.proofs.ValueLemmas.{same_rules}
 use Rattle.paving_log_check.specs.Admissible.{Admits, AdmitsFrom, AreOwn, IsDue, IsOf}
+use Rattle.paving_log_check.specs.Epochs.{EpochPasses}
 use Rattle.rinex_nav.specs.Reading.{plain_record, records_of}
 use Rattle.rinex_nav.specs.Records.{Broadcast}
 use Rattle.rinex_nav.specs.declared.record.NavRecord.{NavRecord}
@@ -28,12 +30,12 @@ use Rattle.sat_model.specs.Logs.{Block, LogValue}
 use Rattle.sat_model.specs.Relaxed.{ends}
 use Rattle.sat_model.specs.declared.rules.Rules.{Rules}
 use Rattle.grid_model.specs.declared.spans.Span.{Span}
-use Rattle.gnss_model.specs.declared.systems.System.TheVariants.{Gps}
 use Rattle.sat_rows.specs.Chains.{IsChainAt}
 use Rattle.sat_rows.specs.Meanings.{Meaning}
 use Rattle.sat_rows.specs.OwnRows.{AreOwnLines}
 use Rattle.sat_rows.specs.declared.lines.SatLine.{SatLine}
-use Rattle.usable_sats.specs.Usability.{Sighting, IsJudged}
+use Rattle.tube_searches.specs.Tubes.{from_root, searches_from}
+use Rattle.usable_sats.specs.Usability.{Sighting, use_of, IsJudged}
 use Rattle.cover_run.specs.Solving.{IsRootOf, epochs_of, meaning_of}
 
 -- ---- values with proofs in them
@@ -109,62 +111,118 @@ module _ (s : Selection) where
   same_selected xs ys e =
       chosen xs ∙ ap (λ (os : List Observed). filter is_chosen os) e ∙ sym (chosen ys)
 
-module _ (root : GridBox) where
-  heads : (a b : ObsEpoch) (xs ys : List ObsEpoch) → plain_epochs (a ∷ xs) ≡ plain_epochs (b ∷ ys)
-      → IsCons (plain_epoch a) (plain_epoch b) (plain_epochs xs) (plain_epochs ys)
-  heads a b xs ys e =
-      cons (plain_epoch a) (plain_epoch b) (plain_epochs xs) (plain_epochs ys) e
+heads : (a b : ObsEpoch) (xs ys : List ObsEpoch) → plain_epochs (a ∷ xs) ≡ plain_epochs (b ∷ ys)
+    → IsCons (plain_epoch a) (plain_epoch b) (plain_epochs xs) (plain_epochs ys)
+heads a b xs ys e = cons (plain_epoch a) (plain_epoch b) (plain_epochs xs) (plain_epochs ys) e
 
-  -- ---- own lines
+-- ---- searches
 
-  own_same : (m : Meaning) (xs ys : List ObsEpoch) (owns : List (List SatLine))
+-- in the same roots, of epochs that stand for the same
+abbrev pub AreSameSearches : List Search → List Search → Type 0
+AreSameSearches [] [] = Unit {0}
+AreSameSearches [] (b ∷ ys) = ⊥
+AreSameSearches (a ∷ xs) [] = ⊥
+AreSameSearches (a ∷ xs) (b ∷ ys) = (a.root ≡ b.root) × (plain_epoch a.epoch ≡ plain_epoch b.epoch)
+    × AreSameSearches xs ys
+
+pub searches_same : (root : GridBox) (xs ys : List ObsEpoch) → plain_epochs xs ≡ plain_epochs ys
+    → AreSameSearches (searches_in root xs) (searches_in root ys)
+searches_same root [] [] e = tt
+searches_same root [] (b ∷ ys) e = cc
+searches_same root (a ∷ xs) [] e = cc
+searches_same root (a ∷ xs) (b ∷ ys) e =
+    let both = heads a b xs ys e in (refl, both.head, searches_same root xs ys both.tail)
+
+-- those of a tube, up to a root that isn't there
+rooted_same : (o : Option GridBox) (a b : ObsEpoch) (xs ys : GridBox → List Search)
+    → plain_epoch a ≡ plain_epoch b → ((root : GridBox) → AreSameSearches (xs root) (ys root))
+    → AreSameSearches (from_root o a xs) (from_root o b ys)
+rooted_same None a b xs ys e later = tt
+rooted_same (Some root) a b xs ys e later = (refl, e, later root)
+
+module _ (speed : ℕ) (search : GridBox) where
+  -- at the time of the one or of the other
+  abbrev later_at : ℤ → List ObsEpoch → Block → List Block → GridBox → List Search
+  later_at tag more block blocks root =
+      searches_from speed search (Some (record { tag = tag; kept = kept_of root block })) more
+      blocks
+
+  pub tube_same : (before : Option Before) (xs ys : List ObsEpoch) (blocks : List Block)
       → plain_epochs xs ≡ plain_epochs ys
-      → AreOwn m (searches_in root xs) owns → AreOwn m (searches_in root ys) owns
-  own_same m xs ys [] e are = tt
-  own_same m [] [] (own ∷ owns) e are = are
-  own_same m [] (b ∷ ys) (own ∷ owns) e are = cc
-  own_same m (a ∷ xs) [] (own ∷ owns) e are = cc
-  own_same m (a ∷ xs) (b ∷ ys) (own ∷ owns) e are = let both = heads a b xs ys e in (
-    subst (λ (o : Observed). AreOwnLines m root o.tag o.sats own) both.head are.0,
-    own_same m xs ys owns both.tail are.1,
-  )
+      → AreSameSearches (searches_from speed search before xs blocks)
+      (searches_from speed search before ys blocks)
+  tube_same before [] [] blocks e = tt
+  tube_same before [] (b ∷ ys) blocks e = cc
+  tube_same before (a ∷ xs) [] blocks e = cc
+  tube_same before (a ∷ xs) (b ∷ ys) [] e =
+      let both = heads a b xs ys e in
+      subst (λ (tag : ℤ).
+      AreSameSearches (from_root (root_for speed search before a.tag) a (λ root. []))
+      (from_root (root_for speed search before tag) b (λ root. [])))
+      (ap (λ (o : Observed). o.tag) both.head)
+      (rooted_same (root_for speed search before a.tag) a b (λ root. []) (λ root. []) both.head
+      (λ root. tt))
+  tube_same before (a ∷ xs) (b ∷ ys) (block ∷ blocks) e =
+      let both = heads a b xs ys e in
+      subst (λ (tag : ℤ).
+      AreSameSearches
+      (from_root (root_for speed search before a.tag) a (later_at a.tag xs block blocks))
+      (from_root (root_for speed search before tag) b (later_at tag ys block blocks)))
+      (ap (λ (o : Observed). o.tag) both.head)
+      (rooted_same (root_for speed search before a.tag) a b (later_at a.tag xs block blocks)
+      (later_at a.tag ys block blocks) both.head
+      (λ root.
+      tube_same (Some (record { tag = a.tag; kept = kept_of root block })) xs ys blocks both.tail))
 
-  -- ---- the log
+-- ---- own lines
 
-  of_same : (rules : Rules) (before : Option ℕ) (a b : ObsEpoch) (block : Block)
-      → plain_epoch a ≡ plain_epoch b → IsOf rules before a block → IsOf rules before b block
-  of_same rules before a b block e is = record {
-    later = is.later;
-    suits = is.suits;
-    index = is.index ∙ ap (λ (o : Observed). o.index) e;
-    tag = is.tag ∙ ap (λ (o : Observed). o.tag) e;
-  }
+own_same : (m : Meaning) (xs ys : List Search) (owns : List (List SatLine))
+    → AreSameSearches xs ys → AreOwn m xs owns → AreOwn m ys owns
+own_same m xs ys [] same are = tt
+own_same m [] [] (own ∷ owns) same are = are
+own_same m [] (b ∷ ys) (own ∷ owns) same are = absurd same
+own_same m (a ∷ xs) [] (own ∷ owns) same are = absurd same
+own_same m (a ∷ xs) (b ∷ ys) (own ∷ owns) (root, epoch, more) are = (
+  subst (λ (r : GridBox). AreOwnLines m r b.epoch.tag b.epoch.sats.items own) root
+      (subst (λ (o : Observed). AreOwnLines m a.root o.tag o.sats own) epoch are.0),
+  own_same m xs ys owns more are.1,
+)
 
-  due_same : (rules : Rules) (before : Option ℕ) (xs ys : List ObsEpoch) (blocks : List Block)
-      → plain_epochs xs ≡ plain_epochs ys → IsDue rules before (searches_in root xs) blocks
-      → IsDue rules before (searches_in root ys) blocks
-  due_same rules before [] [] blocks e due = due
-  due_same rules before [] (b ∷ ys) blocks e due = cc
-  due_same rules before (a ∷ xs) [] blocks e due = cc
-  due_same rules before (a ∷ xs) (b ∷ ys) [] e due = absurd due
-  due_same rules before (a ∷ xs) (b ∷ ys) (block ∷ blocks) e due =
-      of_same rules before a b block (heads a b xs ys e).head due
+-- ---- the log
 
-  admits_same : (zenith : Option Span) (rules : Rules) (before : Option ℕ)
-      (owns : List (List SatLine)) (xs ys : List ObsEpoch) (blocks : List Block)
-      → plain_epochs xs ≡ plain_epochs ys
-      → AdmitsFrom zenith rules before owns (searches_in root xs) blocks
-      → AdmitsFrom zenith rules before owns (searches_in root ys) blocks
-  admits_same zenith rules before [] xs ys blocks e admits = due_same rules before xs ys blocks e admits
-  admits_same zenith rules before (own ∷ owns) [] ys blocks e admits = absurd admits
-  admits_same zenith rules before (own ∷ owns) (a ∷ xs) [] blocks e admits = cc
-  admits_same zenith rules before (own ∷ owns) (a ∷ xs) (b ∷ ys) [] e admits = absurd admits
-  admits_same zenith rules before (own ∷ owns) (a ∷ xs) (b ∷ ys) (block ∷ blocks) e admits =
-      let both = heads a b xs ys e in (
-        of_same rules before a b block both.head admits.0,
-        admits.1,
-        admits_same zenith rules (Some block.index) owns xs ys blocks both.tail admits.2,
-      )
+of_same : (rules : Rules) (before : Option ℕ) (a b : ObsEpoch) (block : Block)
+    → plain_epoch a ≡ plain_epoch b → IsOf rules before a block → IsOf rules before b block
+of_same rules before a b block e is = record {
+  later = is.later;
+  suits = is.suits;
+  index = is.index ∙ ap (λ (o : Observed). o.index) e;
+  tag = is.tag ∙ ap (λ (o : Observed). o.tag) e;
+}
+
+due_same : (rules : Rules) (before : Option ℕ) (xs ys : List Search) (blocks : List Block)
+    → AreSameSearches xs ys → IsDue rules before xs blocks → IsDue rules before ys blocks
+due_same rules before [] [] blocks same due = due
+due_same rules before [] (b ∷ ys) blocks same due = absurd same
+due_same rules before (a ∷ xs) [] blocks same due = absurd same
+due_same rules before (a ∷ xs) (b ∷ ys) [] same due = absurd due
+due_same rules before (a ∷ xs) (b ∷ ys) (block ∷ blocks) same due =
+    of_same rules before a.epoch b.epoch block same.1 due
+
+admits_same : (zenith : Option Span) (rules : Rules) (before : Option ℕ)
+    (owns : List (List SatLine)) (xs ys : List Search) (blocks : List Block)
+    → AreSameSearches xs ys → AdmitsFrom zenith rules before owns xs blocks
+    → AdmitsFrom zenith rules before owns ys blocks
+admits_same zenith rules before [] xs ys blocks same admits =
+    due_same rules before xs ys blocks same admits
+admits_same zenith rules before (own ∷ owns) [] ys blocks same admits = absurd admits
+admits_same zenith rules before (own ∷ owns) (a ∷ xs) [] blocks same admits = absurd same
+admits_same zenith rules before (own ∷ owns) (a ∷ xs) (b ∷ ys) [] same admits = absurd admits
+admits_same zenith rules before (own ∷ owns) (a ∷ xs) (b ∷ ys) (block ∷ blocks)
+    (root, epoch, more) admits = (
+      of_same rules before a.epoch b.epoch block epoch admits.0,
+      subst (λ (r : GridBox). EpochPasses zenith rules r own block) root admits.1,
+      admits_same zenith rules (Some block.index) owns xs ys blocks more admits.2,
+    )
 
 -- ---- inputs
 
@@ -172,8 +230,8 @@ module _ (root : GridBox) where
 abbrev sighting_by : List NavRecord → SettingsValue → ℤ → SatObs → Sighting
 sighting_by records v tag seen = record {
   records = records;
-  system = Gps;
-  signal = v.signal;
+  system = (use_of v.signal (signal_of v.galileo) seen.sat).0;
+  signal = (use_of v.signal (signal_of v.galileo) seen.sat).1;
   max_age = v.max_age;
   tag = tag;
   seen = seen;
@@ -187,7 +245,7 @@ meaning_by records v zenith = record {
   zenith = zenith;
 }
 
-module _ (i j : Inputs) (same : inputs_value i ≡ inputs_value j) (root : GridBox) where
+module _ (i j : Inputs) (same : inputs_value i ≡ inputs_value j) where
   settings_same : value_of_settings i.settings ≡ value_of_settings j.settings
   settings_same = ap (λ (v : InputsValue). v.settings) same
 
@@ -195,52 +253,47 @@ module _ (i j : Inputs) (same : inputs_value i ≡ inputs_value j) (root : GridB
   zenith_same = same_spans i.settings.zenith j.settings.zenith
       (ap (λ (v : SettingsValue). v.zenith) settings_same)
 
-  epochs_same : (chosen : Selection)
+  pub epochs_same : (chosen : Selection)
       → plain_epochs (epochs_of chosen i) ≡ plain_epochs (epochs_of chosen j)
   epochs_same chosen = same_selected chosen i.obs.epochs.items j.obs.epochs.items
       (ap (λ (v : InputsValue). v.obs.epochs) same)
 
-  pub root_there : IsRootOf j root → IsRootOf i root
-  root_there is = subst
+  pub root_there : (root : GridBox) → IsRootOf j root → IsRootOf i root
+  root_there root is = subst
       (λ (v : InputsValue).
       IsRoot (centre_with v.obs.position v.settings.centre) v.settings.half root) (sym same) is
 
-  abbrev OwnBy : List NavRecord → SettingsValue → Option Span → List ObsEpoch
+  abbrev OwnBy : List NavRecord → SettingsValue → Option Span → List Search
       → List (List SatLine) → Type 0
-  OwnBy records v zenith epochs owns =
-      AreOwn (meaning_by records v zenith) (searches_in root epochs) owns
+  OwnBy records v zenith searches owns = AreOwn (meaning_by records v zenith) searches owns
 
-  pub own_there : (chosen : Selection) (owns : List (List SatLine))
-      → AreOwn (meaning_of j) (searches_in root (epochs_of chosen j)) owns
-      → AreOwn (meaning_of i) (searches_in root (epochs_of chosen i)) owns
-  own_there chosen owns are =
-      let epochs = epochs_of chosen j in
+  pub own_there : (xs ys : List Search) (owns : List (List SatLine)) → AreSameSearches ys xs
+      → AreOwn (meaning_of j) ys owns → AreOwn (meaning_of i) xs owns
+  own_there xs ys owns alike are =
       let w = value_of_settings j.settings in
       let above = j.settings.zenith in
       let nav = same_records i.nav j.nav (ap (λ (v : InputsValue). v.nav) same) in
-      let here = subst (λ (records : List NavRecord). OwnBy records w above epochs owns) (sym nav)
+      let here = subst (λ (records : List NavRecord). OwnBy records w above ys owns) (sym nav)
       are in
-      let by = subst (λ (v : SettingsValue). OwnBy i.nav v above epochs owns) (sym settings_same)
+      let by = subst (λ (v : SettingsValue). OwnBy i.nav v above ys owns) (sym settings_same)
       here in
       let under = subst (λ (z : Option Span).
-      OwnBy i.nav (value_of_settings i.settings) z epochs owns) (sym zenith_same) by in
-      own_same root (meaning_of i) epochs (epochs_of chosen i) owns (sym (epochs_same chosen)) under
+      OwnBy i.nav (value_of_settings i.settings) z ys owns) (sym zenith_same) by in
+      own_same (meaning_of i) ys xs owns alike under
 
-  pub admits_there : (chosen : Selection) (owns : List (List SatLine)) (log : LogValue)
-      → Admits i.settings.zenith (searches_in root (epochs_of chosen i)) owns i.settings.rules log
-      → Admits j.settings.zenith (searches_in root (epochs_of chosen j)) owns j.settings.rules log
-  admits_there chosen owns log admits =
+  pub admits_there : (xs ys : List Search) (owns : List (List SatLine)) (log : LogValue)
+      → AreSameSearches xs ys → Admits i.settings.zenith xs owns i.settings.rules log
+      → Admits j.settings.zenith ys owns j.settings.rules log
+  admits_there xs ys owns log alike admits =
       let rules = same_rules i.settings.rules j.settings.rules
       (ap (λ (v : SettingsValue). v.outliers) settings_same)
       (ap (λ (v : SettingsValue). v.bisections) settings_same)
       (ap (λ (v : SettingsValue). v.width) settings_same)
       (ap (λ (v : SettingsValue). v.pairs) settings_same) in
-      subst (λ (r : Rules).
-      Admits j.settings.zenith (searches_in root (epochs_of chosen j)) owns r log) rules
-      (subst (λ (z : Option Span).
-      Admits z (searches_in root (epochs_of chosen j)) owns i.settings.rules log) zenith_same
+      subst (λ (r : Rules). Admits j.settings.zenith ys owns r log) rules
+      (subst (λ (z : Option Span). Admits z ys owns i.settings.rules log) zenith_same
       (record {
         same_rules = admits.same_rules;
-        blocks = admits_same root i.settings.zenith i.settings.rules None owns (epochs_of chosen i)
-            (epochs_of chosen j) log.blocks (epochs_same chosen) admits.blocks;
+        blocks = admits_same i.settings.zenith i.settings.rules None owns xs ys log.blocks alike
+            admits.blocks;
       }))

@@ -10,7 +10,7 @@ use Rattle.log_writer.specs.Texts.{IsText}
 use Rattle.grid_model.specs.Boxes.{grid_box}
 use Rattle.grid_model.specs.SearchBoxes.{IsSearchBox}
 use Rattle.grid_model.specs.declared.boxes.Box3.{Box3}
-use Rattle.sat_rows.specs.Laws.{gps_sound}
+use Rattle.sat_rows.specs.Laws.{both_sound}
 use Rattle.cover_run.specs.Solving.{IsRootOf, IsSolution, epochs_of, gives_of, meaning_of}
 use Rattle.cover_run.specs.Writing.{Answer}
 
@@ -24,7 +24,7 @@ pub solution_of : (chosen : Selection) (i : Inputs) (root : Box3) (last : Epochs
 solution_of chosen i root last limit (Ok done) bytes said is_root box text =
     let m = meaning_of i in
     let rules = i.settings.rules in
-    let sound = gps_sound i.nav i.settings in
+    let sound = both_sound i.nav i.settings in
     let left = left_in (grid_box root) (epochs_of chosen i) in
     let inside = has_corner root in
     record {

@@ -1,13 +1,20 @@
 -- How a verdict that was printed is told.
-use Rattle.std.proofs.Common.{◌⊎◌, ℕ, List, inl, inr, refl, sym, subst}
-use Rattle.std.specs.Prelude.{◌≢◌}
+use Rattle.std.proofs.Common.{◌≡◌, ◌⊎◌, ℕ, List, Result, inl, inr, refl, sym, subst}
+use Rattle.std.specs.Prelude.{◌≢◌, IfOk}
+use Rattle.grid_model.specs.declared.memory.NoMemory.{NoMemory}
 use Rattle.input_files.specs.Reading.{IsBrokenOff}
 use Rattle.input_files.specs.declared.status.Status.{Status}
 use Rattle.input_files.specs.declared.status.Status.TheVariants as status
+use Rattle.paving_log_check.specs.Answers.{IfYes, IfNo}
+use Rattle.paving_log_check.specs.declared.verdict.Fault.{Fault}
+use Rattle.paving_log_check.specs.declared.verdict.Verdict.{Verdict}
 use Rattle.sat_model.specs.Logs.{LogValue}
+use Rattle.cover_run.specs.CheckTexts.{fault_text}
+use Rattle.cover_run.specs.Checking.{SaysYes, SaysNo}
 use Rattle.cover_run.specs.Judging.{IsJudgedAs, SaysJudged, SaysFault}
 use Rattle.cover_run.specs.Runs.{IsVerdict}
 use Rattle.cover_run.specs.Telling.{Sinks, Tells, TellsLine}
+use Rattle.cover_run.specs.Texts.{yes_text}
 
 module _ (Yes No : List ℕ → Type 0) (before after : Sinks) (reliable : Type 0) where
   abbrev Told : Status → Type 0
@@ -53,3 +60,29 @@ verdict_known s (inr e) usage = cc
 pub judged_known : (log : LogValue) (s : Status) → IsJudgedAs log s → s ≢ status.Usage
 judged_known log s (inl (e, right)) usage = cc
 judged_known log s (inr (e, wrong)) usage = cc
+
+-- ---- a verdict of a checker
+
+module _ (Yes No Said Denied : List ℕ → Type 0) (before after : Sinks) (reliable : Type 0) (yes : (line : List ℕ) → Yes line → Said line) (no : (line : List ℕ) → No line → Denied line) where
+  pub tells_as : (s : Status) → Tells Yes No before after reliable s → Tells Said Denied before after reliable s
+  tells_as status.Done told = (told.0, yes told.0 told.1, told.2)
+  tells_as status.No told = (told.0, no told.0 told.1, told.2)
+  tells_as status.WriteFault (line, inl says, breaks) = (line, inl (yes line says), breaks)
+  tells_as status.WriteFault (line, inr says, breaks) = (line, inr (no line says), breaks)
+  tells_as status.NoMemory told = told
+  tells_as status.Usage told = told
+  tells_as status.Refused told = told
+  tells_as status.ReadFault told = told
+  tells_as status.LogFull told = told
+
+-- what holds of each yes and of each no, of the lines that say so
+module _ (verdict : Result Verdict NoMemory) where
+  pub said_yes : (Accepts : ℕ → Type 0) → IfOk verdict (λ v. IfYes v Accepts) → (line : List ℕ) → SaysYes verdict line
+      → (boxes : ℕ) × Accepts boxes × (line ≡ yes_text boxes)
+  said_yes Accepts holds line (boxes, is, e) =
+      (boxes, subst (λ (r : Result Verdict NoMemory). IfOk r (λ v. IfYes v Accepts)) is holds, e)
+
+  pub said_no : (Refuses : Fault → Type 0) → IfOk verdict (λ v. IfNo v Refuses) → (line : List ℕ) → SaysNo verdict line
+      → (fault : Fault) × Refuses fault × (line ≡ fault_text fault)
+  said_no Refuses holds line (fault, is, e) =
+      (fault, subst (λ (r : Result Verdict NoMemory). IfOk r (λ v. IfNo v Refuses)) is holds, e)

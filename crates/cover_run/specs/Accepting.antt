@@ -1,4 +1,5 @@
--- A run of `check` behind one of `solve`, on the same files and epochs.
+-- A run of `check` behind one of `solve`, on the same files and epochs; and one of `retrack` behind
+-- one of `track`.
 use Rattle.std.specs.Prelude.{◌≡◌, ◌≢◌, Some}
 use Rattle.command_words.specs.Commands as words
 use Rattle.input_files.specs.declared.limits.Limits.{Limits}
@@ -6,7 +7,7 @@ use Rattle.input_files.specs.declared.status.Status.{Status}
 use Rattle.input_files.specs.declared.status.Status.TheVariants as status
 use Rattle.log_writer.specs.Writing.{Trust}
 use Rattle.outer_io.specs.Told.{Files, files_of}
-use Rattle.cover_run.specs.Runs.{RunOf, checking, solving}
+use Rattle.cover_run.specs.Runs.{RunOf, Task, checking, rechecking, solving, tracking}
 use Rattle.cover_run.specs.Worlds.{World}
 
 -- none of the files is the log
@@ -15,14 +16,24 @@ pub record AreApart (names : words.Files) : Type 0 where
   pub nav : names.nav ≢ names.log
   pub settings : names.settings ≢ names.log
 
--- `solve` did its job to the end where the files were told, and `check` with the same words and
--- limits found the files as they were left, and ended so
-module _ (limits : Limits) (names : words.Files) where
-  pub record SolvesThenChecks (before solved kept after : World) (solver checker : Trust)
+-- the first did its job to the end where the files were told, and the second found the files as
+-- they were left, and ended so
+module _ {V W : Type 0} (first : Task V) (second : Task W) (names : words.Files) where
+  pub record RunsThen (before solved kept after : World) (solver checker : Trust)
       (s : Status) : Type 0 where
     pub told : Files
     pub are_told : files_of before.shelf ≡ Some told
     pub apart : AreApart names
-    pub solves : RunOf (solving limits names) before solved solver status.Done
+    pub solves : RunOf first before solved solver status.Done
     pub keeps : files_of kept.shelf ≡ files_of solved.shelf
-    pub checks : RunOf (checking limits names) kept after checker s
+    pub checks : RunOf second kept after checker s
+
+-- with the same words and limits
+module _ (limits : Limits) (names : words.Files) where
+  abbrev pub SolvesThenChecks : (before solved kept after : World) → (solver checker : Trust)
+      → Status → Type 0
+  SolvesThenChecks = RunsThen (solving limits names) (checking limits names) names
+
+  abbrev pub TracksThenRechecks : (before tracked kept after : World)
+      → (solver checker : Trust) → Status → Type 0
+  TracksThenRechecks = RunsThen (tracking limits names) (rechecking limits names) names

@@ -7,6 +7,8 @@ pub mod Writing
 pub mod Judging
 pub mod Checking
 pub mod Solving
+pub mod Tracking
+pub mod Rechecking
 pub mod Paving
 pub mod Making
 pub mod Runs

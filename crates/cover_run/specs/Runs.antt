@@ -2,8 +2,9 @@
 use Rattle.std.specs.Prelude.{◌≡◌, ◌≢◌, ◌⊎◌, ℕ, true, false, List, [], ◌∷◌, Option, None, Some}
 use Rattle.std.specs.Prelude.{Result, Ok, Err}
 use Rattle.command_words.specs.Commands as words
-use Rattle.command_words.specs.Commands.{Command, Judge, Pave, Solve, Check, Make}
-use Rattle.input_files.specs.Inputs.{InputsValue, ReadsInputs, inputs_value, input_slots}
+use Rattle.command_words.specs.Commands.{Command, Judge, Pave, Solve, Check, Track, Retrack, Make}
+use Rattle.input_files.specs.Inputs.{InputsValue, ReadsInputs, ReadsMoving, inputs_value}
+use Rattle.input_files.specs.Inputs.{input_slots}
 use Rattle.input_files.specs.Logs.{log_text, rows_text}
 use Rattle.input_files.specs.Reading.{IsBrokenOff, Found, IsOfReading, Named, NeverBreaks, Reading}
 use Rattle.input_files.specs.Reading.{Untouched, valued}
@@ -21,14 +22,16 @@ use Rattle.outer_io.specs.declared.slots.Slot.TheVariants as slot
 use Rattle.paving_log.specs.Values.{log_value}
 use Rattle.paving_log.specs.declared.log.Log.{Log}
 use Rattle.sat_model.specs.Logs.{LogValue}
-use Rattle.cover_run.specs.Checking.{CheckedValue, ReadsChecked, checked_value, checked_slots}
-use Rattle.cover_run.specs.Checking.{SaysAccepted, SaysRefused}
+use Rattle.cover_run.specs.Checking.{CheckedValue, ReadsChecked, ReadsTracked, checked_value}
+use Rattle.cover_run.specs.Checking.{SaysAccepted, SaysRefused, checked_slots}
 use Rattle.cover_run.specs.Chosen.{chosen_in}
 use Rattle.cover_run.specs.Judging.{SaysJudged, SaysFault, IsJudgedAs}
 use Rattle.cover_run.specs.Making.{Makes}
 use Rattle.cover_run.specs.Paving.{Paves}
+use Rattle.cover_run.specs.Rechecking.{SaysTracked, SaysUntracked}
 use Rattle.cover_run.specs.Solving.{Solves}
 use Rattle.cover_run.specs.Telling.{Tells, sinks}
+use Rattle.cover_run.specs.Tracking.{Tracks}
 use Rattle.cover_run.specs.Worlds.{World, Says}
 use Rattle.cover_run.specs.declared.checked.Checked.{Checked}
 
@@ -132,6 +135,28 @@ checking limits names = record {
   Suits = λ found s. IsVerdict s;
 }
 
+-- the same of a receiver that moves
+abbrev pub tracking : Limits → words.Files → Task Inputs
+tracking limits names = record {
+  Value = InputsValue;
+  value = inputs_value;
+  slots = input_slots;
+  reads = ReadsMoving limits names;
+  Does = Tracks limits.log names.log (chosen_in names);
+  Suits = λ i s. IsWritten s;
+}
+
+abbrev pub rechecking : Limits → words.Files → Task Checked
+rechecking limits names = record {
+  Value = CheckedValue;
+  value = checked_value;
+  slots = checked_slots;
+  reads = ReadsTracked limits names;
+  Does = λ read. TellsAlone (SaysTracked (chosen_in names) read)
+      (SaysUntracked (chosen_in names) read) checked_slots;
+  Suits = λ found s. IsVerdict s;
+}
+
 -- ---- the words
 
 -- this was said, and nothing else was done
@@ -150,6 +175,10 @@ Obeys limits (Some (Solve names)) before after trust s =
     RunOf (solving limits names) before after trust s
 Obeys limits (Some (Check names)) before after trust s =
     RunOf (checking limits names) before after trust s
+Obeys limits (Some (Track names)) before after trust s =
+    RunOf (tracking limits names) before after trust s
+Obeys limits (Some (Retrack names)) before after trust s =
+    RunOf (rechecking limits names) before after trust s
 -- this one reads and writes no file
 Obeys limits (Some (Make seed epochs)) before after trust s =
     Makes limits.log seed epochs (sinks before.out before.err) (sinks after.out after.err)

@@ -20,7 +20,7 @@ use Rattle.paving_log_check.specs.FileCover.{FileCover}
 use Rattle.rinex_obs.specs.declared.obs.ObsEpoch.{ObsEpoch}
 use Rattle.grid_model.specs.Boxes.{GridBox}
 use Rattle.sat_rows.specs.Meanings.{Meaning}
-use Rattle.sat_rows.specs.Sources.{gps_meaning}
+use Rattle.sat_rows.specs.Sources.{both_meaning}
 use Rattle.sat_rows.specs.declared.lines.SatLine.{SatLine}
 use Rattle.cover_run.specs.Worlds.{World}
 use Rattle.cover_run.specs.Writing.{Answer, Writes}
@@ -32,7 +32,7 @@ epochs_of chosen i = selected chosen i.obs.epochs.items
 module _ (i : Inputs) where
   -- what the files say of satellites
   abbrev pub meaning_of : Meaning
-  meaning_of = gps_meaning i.nav i.settings
+  meaning_of = both_meaning i.nav i.settings
 
   -- the epochs give their blocks in turn
   abbrev pub gives_of : Gives EpochsLeft

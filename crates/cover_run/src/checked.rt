@@ -2,7 +2,8 @@
 
 ghost use Rattle.std.specs.Prelude.{IfOk};
 ghost use Rattle.command_words.specs.Seen.{files_asked};
-ghost use Rattle.cover_run.specs.Checking.{AreReady, ReadsChecked, checked_slots, checked_value};
+ghost use Rattle.cover_run.specs.Checking.{AreReady, ReadsCheckedFor, checked_slots, checked_value};
+ghost use Rattle.input_files.specs.Motion.{HasMotion, speed_of};
 ghost use Rattle.input_files.specs.Reading.{Found, OnlyReads, valued};
 
 use command_words::Files;
@@ -18,20 +19,22 @@ pub struct Checked {
     pub log: Log,
 }
 
-/// Reads the three files of a receiver, and then the log.
+/// Reads the three files of a receiver, which may be one that moves, and then the log.
 pub fn read_checked<H: Shelf>(
     alloc: Global,
     limits: &Limits,
     words: &Files<'_>,
+    moving: bool,
     shelf: &mut H,
 ) -> Result<Checked, Notice>
-    ensures found { Found (ReadsChecked limits.now (files_asked words.now))
+    ensures found { Found (ReadsCheckedFor moving limits.now (files_asked words.now))
         (H.state shelf.old) (H.state shelf.new) (H.reliable shelf.new)
         (valued checked_value result) }
     ensures only { OnlyReads checked_slots (H.state shelf.old) (H.state shelf.new) result }
     ensures ready { IfOk result AreReady }
+    ensures motion { IfOk result (λ found. HasMotion moving (speed_of found.inputs.settings)) }
 {
-    let inputs = read_inputs(alloc, limits, words, shelf)?;
+    let inputs = read_inputs(alloc, limits, words, moving, shelf)?;
     let log = read_named(alloc, limits, words.log, &LogText, shelf)?;
     Ok(Checked { inputs, log })
 }

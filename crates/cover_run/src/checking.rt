@@ -7,18 +7,16 @@ ghost use Rattle.cover_run.specs.Telling.{Tells, sinks};
 ghost use Rattle.cover_run.specs.Worlds.{world};
 ghost use Rattle.log_writer.specs.Writing.{trust_of};
 
-use crate::Verdict;
-use crate::check_texts::fault_line;
 use crate::checked::{Checked, read_checked};
 use crate::chosen::chosen_in;
-use crate::telling::{say, tell};
-use crate::texts::yes_line;
+use crate::telling::say;
+use crate::verdicts::tell_verdict;
 use command_words::Files;
 use epoch_selection::Selection;
-use grid_model::NoMemory;
-use input_files::{Limits, Notice, Status};
+use galileo_rows::BothRows;
+use input_files::{Limits, Status};
 use outer_io::{Shelf, Sink};
-use paving_log_check::check;
+use paving_log_check::check_by;
 use std::alloc::Global;
 
 /// Checks the log against these epochs of the files and prints the verdict.
@@ -36,18 +34,12 @@ fn tell_checked<O: Sink, E: Sink>(
 {
     let inputs = &found.inputs;
     let settings = &inputs.settings;
-    match check(
-        alloc,
-        &inputs.obs,
-        &inputs.nav,
+    let source = BothRows {
+        nav: &inputs.nav,
         settings,
-        chosen,
-        &found.log,
-    ) {
-        Ok(Verdict::Yes { boxes }) => tell(Status::Done, yes_line(boxes).as_bytes(), out, err),
-        Ok(Verdict::No(fault)) => tell(Status::No, fault_line(&fault).as_bytes(), out, err),
-        Err(NoMemory) => say(err, &Notice::NoMemory),
-    }
+    };
+    let verdict = check_by(alloc, &source, &inputs.obs, settings, chosen, &found.log);
+    tell_verdict(&verdict, out, err)
 }
 
 /// Does what `check OBS NAV SETTINGS LOG` asks for.
@@ -64,7 +56,7 @@ pub fn run_check<H: Shelf, O: Sink, E: Sink>(
         (world (H.state shelf.new) (O.state out.new) (E.state err.new))
         (trust_of (H.reliable shelf.new) (O.reliable out.new)) result }
 {
-    match read_checked(alloc, limits, words, shelf) {
+    match read_checked(alloc, limits, words, false, shelf) {
         Ok(found) => tell_checked(alloc, &found, chosen_in(words), out, err),
         Err(notice) => say(err, &notice),
     }

@@ -27,6 +27,7 @@ use input_files::{
 use made_input::make;
 use outer_io::{MemoryShelf, Shelf, Sink};
 use paving_log::Log;
+use rinex_obs::Sought;
 use std::alloc::Global;
 
 /// The name of the log in memory.
@@ -71,10 +72,11 @@ fn made_inputs(alloc: Global, seed: u32, epochs: u32) -> Result<Inputs, Notice>
         return Err(Notice::NoMemory);
     };
     let settings = faultless_settings(alloc, &made.settings)?;
-    let nav = read_faultless(alloc, &made.nav, &NavText)?;
+    let nav = read_faultless(alloc, &made.nav, &NavText { both: false })?;
     let position = wants_position(settings.centre);
+    let sought = Sought::alone(settings.signal);
     let text = ObsText {
-        signal: &settings.signal,
+        sought: &sought,
         position,
     };
     let obs = read_faultless(alloc, &made.obs, &text)?;

@@ -13,9 +13,9 @@ use crate::writing::write_named;
 use command_words::Files;
 use epoch_rows::ObsBlocks;
 use epoch_selection::Selection;
+use galileo_rows::BothRows;
 use input_files::{Inputs, Limits, Status, read_inputs};
 use outer_io::{Shelf, Sink};
-use sat_rows::GpsRows;
 use std::alloc::Global;
 
 /// Writes the log of these epochs of the files and prints its report.
@@ -37,7 +37,7 @@ pub fn write_solution<H: Shelf, O: Sink, E: Sink>(
 {
     let settings = &inputs.settings;
     let root = settings.root(inputs.obs.position);
-    let source = GpsRows {
+    let source = BothRows {
         nav: &inputs.nav,
         settings,
     };
@@ -68,7 +68,7 @@ pub fn run_solve<H: Shelf, O: Sink, E: Sink>(
         (world (H.state shelf.new) (O.state out.new) (E.state err.new))
         (trust_of (H.reliable shelf.new) (O.reliable out.new)) result }
 {
-    match read_inputs(alloc, limits, words, shelf) {
+    match read_inputs(alloc, limits, words, false, shelf) {
         Ok(inputs) => write_solution(
             alloc,
             limits,

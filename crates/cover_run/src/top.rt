@@ -12,8 +12,10 @@ use crate::checking::run_check;
 use crate::judging::run_judge;
 use crate::making::run_make;
 use crate::pave::run_pave;
+use crate::rechecking::run_retrack;
 use crate::solving::run_solve;
 use crate::telling::say;
+use crate::tracking::run_track;
 use command_words::{Command, command_of};
 use grid_model::NoMemory;
 use input_files::{Limits, Notice, Status};
@@ -25,10 +27,12 @@ use std::alloc::Global;
 /// `out`. `solve OBS NAV SETTINGS LOG` reads the files of a receiver, paves their epochs, writes
 /// the log and prints its report on `out`. `check` with the same words reads them and the log, and
 /// prints the verdict of the files on it. Both take `--from N` and `--to N`, the first and the last
-/// epoch that is taken. `pave ROWS LOG` reads the rows, paves their epochs, writes the log and
-/// prints the report on `out`. `make SEED EPOCHS` makes the files of a receiver, solves them in
-/// memory and prints two lines on `out`. What stands in the way is said on `err`, where a fault
-/// changes nothing.
+/// epoch that is taken. `track` and `retrack` with these words are the same of a receiver that
+/// moves: each epoch is searched in the root that the one before leaves, and behind one in which
+/// the receiver is lost nothing more is. `pave ROWS LOG` reads the rows, paves their epochs, writes
+/// the log and prints the report on `out`. `make SEED EPOCHS` makes the files of a receiver, solves
+/// them in memory and prints two lines on `out`. What stands in the way is said on `err`, where a
+/// fault changes nothing.
 pub fn run<H: Shelf, O: Sink, E: Sink>(
     alloc: Global,
     limits: &Limits,
@@ -75,6 +79,8 @@ fn obey<H: Shelf, O: Sink, E: Sink>(
         Command::Pave { rows, log } => run_pave(alloc, limits, rows, log, shelf, out, err),
         Command::Solve(files) => run_solve(alloc, limits, files, shelf, out, err),
         Command::Check(files) => run_check(alloc, limits, files, shelf, out, err),
+        Command::Track(files) => run_track(alloc, limits, files, shelf, out, err),
+        Command::Retrack(files) => run_retrack(alloc, limits, files, shelf, out, err),
         Command::Make { seed, epochs } => run_make(alloc, limits, *seed, *epochs, out, err),
     }
 }

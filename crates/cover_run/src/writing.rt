@@ -1,6 +1,6 @@
 //! A log that is created and written.
 
-ghost use Rattle.std.specs.Prelude.{◌≡◌, None, []};
+ghost use Rattle.std.specs.Prelude.{◌≡◌, ◌≤◌, None, []};
 ghost use Rattle.cover_run.specs.Worlds.{world};
 ghost use Rattle.cover_run.specs.Writing.{Writes, notice_of_fault};
 ghost use Rattle.log_writer.specs.Sizes.{most_bytes};
@@ -40,12 +40,13 @@ pub fn write_named<H: Shelf, O: Sink, E: Sink, B: Blocks>(
     requires rules { (B.standing blocks.old).rules ≡ rules.now }
     requires first { (B.standing blocks.old).before ≡ None }
     requires ready { B.ready blocks.old }
-    ensures { Writes name.now (world (H.state shelf.old) (O.state out.old) (E.state err.old))
+    ensures log { Writes name.now (world (H.state shelf.old) (O.state out.old) (E.state err.old))
         (world (H.state shelf.new) (O.state out.new) (E.state err.new))
         (trust_of (H.reliable shelf.new) (O.reliable out.new)) [] limits.now.log
         (most_bytes (B.standing blocks.old).most rules.now.bisections)
         (λ answer bytes said.
         IsText B.gives rules.now blocks.old blocks.new limits.now.log answer bytes said) result }
+    ensures later { (O.state out.old).faults ≤ (O.state out.new).faults }
 {
     match shelf.create(name, Slot::Log) {
         Ok(()) => {}

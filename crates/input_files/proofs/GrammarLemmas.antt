@@ -1,5 +1,5 @@
 -- What a text that was read or refused settles.
-use Rattle.std.proofs.Common.{◌≡◌, ℕ, Bool, List, Result, Ok, Err, inl, inr, refl, ap, sym}
+use Rattle.std.proofs.Common.{◌≡◌, ℕ, Bool, true, false, List, [], ◌∷◌, Result, Ok, Err, inl, inr, refl, ap, sym}
 use Rattle.std.proofs.Common.{◌∙◌}
 use Rattle.outer_io.specs.declared.slots.Slot.{Slot}
 use Rattle.paving_log.specs.declared.log.LogError.{LogError}
@@ -11,7 +11,10 @@ use Rattle.rinex_text.specs.declared.fault.ReadError.{ReadError}
 use Rattle.rinex_text.specs.declared.fault.ReadError.TheVariants.{Refused, NoMemory}
 use Rattle.rinex_text.specs.declared.fault.Refusal.{Refusal}
 use Rattle.sat_model.specs.Logs.{LogValue}
-use Rattle.gnss_model.specs.declared.satellites.Signal.{Signal}
+use Rattle.rinex_obs.specs.Facts.{AreSatsOf, AreNamedSats, InEach, IsSatOf}
+use Rattle.rinex_obs.specs.Epochs.{Observed}
+use Rattle.rinex_obs.specs.declared.obs.SatObs.{SatObs}
+use Rattle.rinex_obs.specs.declared.sought.Sought.{Sought}
 use Rattle.input_files.specs.Inputs.{NamesNavFault, NamesObsFault, nav_text, obs_text}
 use Rattle.input_files.specs.Logs.{NamesFirst}
 use Rattle.input_files.specs.Reading.{Text, Gives, GivesOrEnds, Settles}
@@ -57,16 +60,17 @@ no_first of IsText First bytes log is _ names = names
 -- ---- files with lines
 
 -- what was read has no first fault
-pub no_nav_fault : (bytes : List ℕ) → ((r : Refusal) → nav.IsFirstFault bytes r → ⊥)
-    → (n : Notice) → NamesNavFault bytes n → ⊥
-no_nav_fault bytes none (notice.BadInput (input.Nav r)) is = none r is
-no_nav_fault bytes none _ is = is
+pub no_nav_fault : (both : Bool) (bytes : List ℕ)
+    → ((r : Refusal) → nav.IsFirstFaultOf both bytes r → ⊥) → (n : Notice)
+    → NamesNavFault both bytes n → ⊥
+no_nav_fault both bytes none (notice.BadInput (input.Nav r)) is = none r is
+no_nav_fault both bytes none _ is = is
 
-pub no_obs_fault : (signal : Signal) (position : Bool) (bytes : List ℕ)
-    → ((r : Refusal) → obs.IsFirstFault signal position bytes r → ⊥)
-    → (n : Notice) → NamesObsFault signal position bytes n → ⊥
-no_obs_fault signal position bytes none (notice.BadInput (input.Obs r)) is = none r is
-no_obs_fault signal position bytes none _ is = is
+pub no_obs_fault : (sought : Sought) (position : Bool) (bytes : List ℕ)
+    → ((r : Refusal) → obs.IsFirstFaultOf sought position bytes r → ⊥)
+    → (n : Notice) → NamesObsFault sought position bytes n → ⊥
+no_obs_fault sought position bytes none (notice.BadInput (input.Obs r)) is = none r is
+no_obs_fault sought position bytes none _ is = is
 
 -- a text ends so, whatever else it gives
 abbrev pub SettlesErr : {V : Type 0} → (text : Text V) → List ℕ → Notice → Type 0
@@ -83,13 +87,30 @@ file_settles text bytes input_of (Refused r) none =
 file_settles text bytes input_of NoMemory none =
     memory_settles text bytes notice.NoMemory refl
 
-pub nav_gives : (bytes : List ℕ) (e : ReadError) → Refuses (nav.nav_file (lines_of bytes)) e
-    → GivesOrEnds nav_text bytes (Err (notice_of_file (λ r. input.Nav r) e))
-nav_gives bytes (Refused r) refuses = inr (refl, refuses)
-nav_gives bytes NoMemory refuses = inl refl
+pub nav_gives : (both : Bool) (bytes : List ℕ) (e : ReadError)
+    → Refuses (nav.nav_file_of both (lines_of bytes)) e
+    → GivesOrEnds (nav_text both) bytes (Err (notice_of_file (λ r. input.Nav r) e))
+nav_gives both bytes (Refused r) refuses = inr (refl, refuses)
+nav_gives both bytes NoMemory refuses = inl refl
 
-pub obs_gives : (signal : Signal) (position : Bool) (bytes : List ℕ) (e : ReadError)
-    → Refuses (obs.obs_file signal position (lines_of bytes)) e
-    → GivesOrEnds (obs_text signal position) bytes (Err (notice_of_file (λ r. input.Obs r) e))
-obs_gives signal position bytes (Refused r) refuses = inr (refl, refuses)
-obs_gives signal position bytes NoMemory refuses = inl refl
+pub obs_gives : (sought : Sought) (position : Bool) (bytes : List ℕ) (e : ReadError)
+    → Refuses (obs.obs_file_of sought position (lines_of bytes)) e
+    → GivesOrEnds (obs_text sought position) bytes (Err (notice_of_file (λ r. input.Obs r) e))
+obs_gives sought position bytes (Refused r) refuses = inr (refl, refuses)
+obs_gives sought position bytes NoMemory refuses = inl refl
+
+-- ---- satellites that are named
+
+sat_named : (both : Bool) (seen : SatObs) → IsSatOf both seen → IsSatOf true seen
+sat_named false seen is = record { system = inl is.system; from = is.from; to = is.to }
+sat_named true seen is = is
+
+sats_named : (both : Bool) (sats : List SatObs) → AreSatsOf both sats → AreNamedSats sats
+sats_named both [] are = tt
+sats_named both (seen ∷ sats) are = (sat_named both seen are.0, sats_named both sats are.1)
+
+pub each_named : (both : Bool) (epochs : List Observed) → InEach (AreSatsOf both) epochs
+    → InEach AreNamedSats epochs
+each_named both [] are = tt
+each_named both (epoch ∷ epochs) are =
+    (sats_named both epoch.sats are.0, each_named both epochs are.1)

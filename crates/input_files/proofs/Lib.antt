@@ -3,4 +3,5 @@ pub mod PositionLemmas
 pub mod FileReads
 pub mod ReadingLemmas
 pub mod GrammarLemmas
+pub mod MotionLemmas
 pub mod InputLemmas

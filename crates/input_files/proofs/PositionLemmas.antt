@@ -11,7 +11,7 @@ use Rattle.exact_decimal.proofs.Units.{power_some}
 use Rattle.exact_decimal.specs.Units.{denominator, shift_of}
 use Rattle.exact_decimal.specs.declared.decimal.Decimal.{Decimal}
 use Rattle.exact_decimal.specs.declared.unit.Unit.TheVariants.{Length}
-use Rattle.rinex_obs.specs.Files.{Observations, alone, obs_file_of, IsObsFile}
+use Rattle.rinex_obs.specs.Files.{Observations, obs_file_of, IsObsFileOf}
 use Rattle.rinex_obs.specs.Header.{Coordinates, IsCoordinate, IsPosition, Header, Wanted}
 use Rattle.rinex_obs.specs.Header.{header_end, Start, header_lines}
 use Rattle.rinex_obs.specs.declared.sought.Sought.{Sought}
@@ -20,7 +20,6 @@ use Rattle.rinex_text.specs.Lines.{TextLine, lines_of}
 use Rattle.grid_model.proofs.ProductLemmas.{add_mul, mul_lt_back, mul_le_back}
 use Rattle.grid_model.specs.Sizes.{IsWithin}
 use Rattle.grid_model.specs.declared.boxes.Pos.{Pos}
-use Rattle.gnss_model.specs.declared.satellites.Signal.{Signal}
 use Rattle.input_files.specs.Inputs.{wants_position}
 
 -- a floor lies between the bounds of its number
@@ -90,11 +89,11 @@ file_known sought lines o (inl (version, is, inr (f, starts, e))) = cc
 file_known sought lines o (inr (f, is, e)) = cc
 
 -- where the position is wanted, it is there
-pub known : (signal : Signal) (position : Bool) (bytes : List ℕ) (o : Observations)
-    → IsObsFile signal position bytes o → position ≡ true → IsKnown o.position
-known signal position bytes o is wanted =
-    file_known (alone signal) (lines_of bytes) o
-    (subst (λ (p : Bool). obs_file_of (alone signal) p (lines_of bytes) (Ok o)) wanted is)
+pub known : (sought : Sought) (position : Bool) (bytes : List ℕ) (o : Observations)
+    → IsObsFileOf sought position bytes o → position ≡ true → IsKnown o.position
+known sought position bytes o is wanted =
+    file_known sought (lines_of bytes) o
+    (subst (λ (p : Bool). obs_file_of sought p (lines_of bytes) (Ok o)) wanted is)
 
 pub enough : (centre : Centre) (point : Option Pos) → (wants_position centre ≡ true → IsKnown point)
     → IsEnough centre point

@@ -36,7 +36,7 @@ next_shown cs n c h =
 pub has_room : (start line text : List ℕ) (n c : ℕ) → IsUtf8 text
     → (n < length (chars text)) × (c ≡ get_or (chars text) n c)
     → line ++ shown_chars (drop n (chars text)) ≡ start ++ shown_chars (chars text)
-    → length start + length text ≤ 128 → length line + length (encode_utf8 (shown_char c)) ≤ 128
+    → length start + length text ≤ 192 → length line + length (encode_utf8 (shown_char c)) ≤ 192
 has_room start line text n c utf8 at same room = omega (
   arith,
   ap length same,

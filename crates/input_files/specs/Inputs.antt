@@ -1,9 +1,8 @@
 -- What is read from the three files of a receiver, in one order: the settings, the navigation file,
 -- the observation file.
-use Rattle.std.specs.Prelude.{◌≡◌, ℕ, Bool, true, false, List, [], ◌∷◌}
+use Rattle.std.specs.Prelude.{◌≡◌, ℕ, Bool, true, false, List, [], ◌∷◌, is_some}
 use Rattle.command_words.specs.Commands.{Files}
-use Rattle.error_bounds.specs.Faults.{Found}
-use Rattle.error_bounds.specs.Reading.{value_of_settings, Tells, IsKnown, IsEnough}
+use Rattle.error_bounds.specs.Reading.{value_of_settings, signal_of, IsKnown, IsEnough}
 use Rattle.error_bounds.specs.Texts as settings
 use Rattle.error_bounds.specs.declared.settings.Centre.{Centre}
 use Rattle.error_bounds.specs.declared.settings.Centre.TheVariants.{Header, At}
@@ -14,11 +13,12 @@ use Rattle.rinex_nav.specs.Files as nav
 use Rattle.rinex_nav.specs.Reading.{records_of}
 use Rattle.rinex_nav.specs.Records.{Broadcast}
 use Rattle.rinex_nav.specs.declared.record.NavRecord.{NavRecord}
-use Rattle.rinex_obs.specs.Facts.{AreNumbered, AreDistinct, AreGpsSats, InEach}
+use Rattle.rinex_obs.specs.Facts.{AreNumbered, AreDistinct, AreNamedSats, InEach}
 use Rattle.rinex_obs.specs.Files as obs
 use Rattle.rinex_obs.specs.Reading.{observations_of}
 use Rattle.rinex_obs.specs.declared.obs.Obs.{Obs}
-use Rattle.gnss_model.specs.declared.satellites.Signal.{Signal}
+use Rattle.rinex_obs.specs.declared.sought.Sought.{Sought}
+use Rattle.input_files.specs.Motion.{HasMotion, IsSettingsFor, NamesFaultFor, speed_of}
 use Rattle.input_files.specs.Reading.{Text, Reading, Named, Then, Returns}
 use Rattle.input_files.specs.declared.input_fault.InputFault.TheVariants as fault
 use Rattle.input_files.specs.declared.inputs.Inputs.{Inputs}
@@ -28,34 +28,43 @@ use Rattle.input_files.specs.declared.notice.Notice.TheVariants as notice
 
 -- ---- the settings
 
-abbrev pub NamesSettingsFault : List ℕ → Notice → Type 0
-NamesSettingsFault bytes (notice.BadInput (fault.Settings told)) =
-    (found : Found) × settings.IsFirstFault bytes found × Tells found told
-NamesSettingsFault bytes _ = ⊥
+abbrev pub NamesSettingsFault : Bool → List ℕ → Notice → Type 0
+NamesSettingsFault moving bytes (notice.BadInput (fault.Settings told)) =
+    NamesFaultFor moving bytes told
+NamesSettingsFault moving bytes _ = ⊥
 
-abbrev pub settings_text : Text Settings
-settings_text = record {
+-- of a receiver that moves, or of one whose epochs stand each by itself
+abbrev pub settings_text : Bool → Text Settings
+settings_text moving = record {
   slot = slot.Settings;
   Value = settings.SettingsValue;
   value = value_of_settings;
-  Spells = settings.IsSettings;
-  Names = NamesSettingsFault;
-  Usual = λ s. Unit {0};
+  Spells = IsSettingsFor moving;
+  Names = NamesSettingsFault moving;
+  Usual = λ s. HasMotion moving (speed_of s);
 }
 
 -- ---- the navigation file
 
-abbrev pub NamesNavFault : List ℕ → Notice → Type 0
-NamesNavFault bytes (notice.BadInput (fault.Nav refusal)) = nav.IsFirstFault bytes refusal
-NamesNavFault bytes _ = ⊥
+-- where the settings have codes of Galileo, the satellites of both systems are read
+abbrev pub read_both : settings.SettingsValue → Bool
+read_both s = is_some (signal_of s.galileo)
 
-abbrev pub nav_text : Text (List NavRecord)
-nav_text = record {
+abbrev pub sought_of : settings.SettingsValue → Sought
+sought_of s = record { gps = s.signal; galileo = signal_of s.galileo }
+
+abbrev pub NamesNavFault : Bool → List ℕ → Notice → Type 0
+NamesNavFault both bytes (notice.BadInput (fault.Nav refusal)) =
+    nav.IsFirstFaultOf both bytes refusal
+NamesNavFault both bytes _ = ⊥
+
+abbrev pub nav_text : Bool → Text (List NavRecord)
+nav_text both = record {
   slot = slot.Nav;
   Value = List Broadcast;
   value = records_of;
-  Spells = nav.IsNavFile;
-  Names = NamesNavFault;
+  Spells = nav.IsNavFileOf both;
+  Names = NamesNavFault both;
   Usual = λ records. Unit {0};
 }
 
@@ -66,29 +75,29 @@ abbrev pub wants_position : Centre → Bool
 wants_position Header = true
 wants_position (At p) = false
 
-abbrev pub NamesObsFault : Signal → Bool → List ℕ → Notice → Type 0
-NamesObsFault signal position bytes (notice.BadInput (fault.Obs refusal)) =
-    obs.IsFirstFault signal position bytes refusal
-NamesObsFault signal position bytes _ = ⊥
+abbrev pub NamesObsFault : Sought → Bool → List ℕ → Notice → Type 0
+NamesObsFault sought position bytes (notice.BadInput (fault.Obs refusal)) =
+    obs.IsFirstFaultOf sought position bytes refusal
+NamesObsFault sought position bytes _ = ⊥
 
--- The epochs are numbered, and the satellites of each are GPS satellites, none of them twice.
+-- The epochs are numbered, and the satellites of each are of GPS or Galileo, none of them twice.
 pub record AreUsual (o : Obs) : Type 0 where
   pub numbered : AreNumbered (observations_of o).epochs
   pub distinct : InEach AreDistinct (observations_of o).epochs
-  pub gps : InEach AreGpsSats (observations_of o).epochs
+  pub named : InEach AreNamedSats (observations_of o).epochs
 
 pub record AreObserved (position : Bool) (o : Obs) : Type 0 where
   pub usual : AreUsual o
   pub known : position ≡ true → IsKnown o.position
 
 -- with the wanted codes
-abbrev pub obs_text : Signal → Bool → Text Obs
-obs_text signal position = record {
+abbrev pub obs_text : Sought → Bool → Text Obs
+obs_text sought position = record {
   slot = slot.Obs;
   Value = obs.Observations;
   value = observations_of;
-  Spells = obs.IsObsFile signal position;
-  Names = NamesObsFault signal position;
+  Spells = obs.IsObsFileOf sought position;
+  Names = NamesObsFault sought position;
   Usual = AreObserved position;
 }
 
@@ -112,15 +121,23 @@ input_slots = slot.Settings ∷ slot.Nav ∷ slot.Obs ∷ []
 
 abbrev pub ReadsObs : Limits → Files → settings.SettingsValue → List Broadcast → Reading InputsValue
 ReadsObs limits names s records =
-    Then (Named limits (obs_text s.signal (wants_position s.centre)) names.obs)
+    Then (Named limits (obs_text (sought_of s) (wants_position s.centre)) names.obs)
     (λ o. Returns (record { settings = s; nav = records; obs = o }))
 
 abbrev pub ReadsNav : Limits → Files → settings.SettingsValue → Reading InputsValue
-ReadsNav limits names s = Then (Named limits nav_text names.nav) (ReadsObs limits names s)
+ReadsNav limits names s =
+    Then (Named limits (nav_text (read_both s)) names.nav) (ReadsObs limits names s)
+
+abbrev pub ReadsFor : Bool → Limits → Files → Reading InputsValue
+ReadsFor moving limits names =
+    Then (Named limits (settings_text moving) names.settings) (ReadsNav limits names)
 
 abbrev pub ReadsInputs : Limits → Files → Reading InputsValue
-ReadsInputs limits names =
-    Then (Named limits settings_text names.settings) (ReadsNav limits names)
+ReadsInputs limits names = ReadsFor false limits names
+
+-- of a receiver that moves
+abbrev pub ReadsMoving : Limits → Files → Reading InputsValue
+ReadsMoving limits names = ReadsFor true limits names
 
 -- the position of the header is known where it is the centre
 pub record AreEnough (i : Inputs) : Type 0 where

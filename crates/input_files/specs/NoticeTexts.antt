@@ -16,7 +16,8 @@ role_text slot.Log = codes "log"
 
 abbrev pub notice_text : Notice → List ℕ
 notice_text notice.Usage = codes "usage: gpscover judge LOG, pave ROWS LOG, "
-    ++ codes "solve or check OBS NAV SETTINGS LOG, make SEED EPOCHS\n"
+    ++ codes "solve or check OBS NAV SETTINGS LOG, make SEED EPOCHS, "
+    ++ codes "track or retrack OBS NAV SETTINGS LOG\n"
 notice_text (notice.TooLong slot limit) =
     role_text slot ++ codes " 29 TooLong " ++ decimal limit ++ codes "\n"
 notice_text (notice.BadLog slot line kind) = role_text slot ++ codes " 40 BadLog line "

@@ -1,22 +1,24 @@
 //! The texts of a receiver's files.
 
 use crate::grammar::Grammar;
+use crate::motion::with_motion;
 use crate::notice::Notice;
 use error_bounds::{Settings, read_settings};
-use gnss_model::Signal;
 use outer_io::Slot;
-use rinex_nav::{Nav, read_nav};
-use rinex_obs::{Obs, read_obs};
+use rinex_nav::{Nav, read_nav_of};
+use rinex_obs::{Obs, Sought, read_obs_of};
 use std::alloc::Global;
 
-/// The texts of settings.
+/// The texts of settings; of a receiver that moves its greatest speed has to be there.
 #[derive(Clone, Copy)]
-pub struct SettingsText;
+pub struct SettingsText {
+    pub moving: bool,
+}
 
 impl Grammar<Settings> for SettingsText {
     ghost use Rattle.input_files.specs.Inputs.{settings_text};
 
-    ghost text = { λ _. settings_text };
+    ghost text = { λ t. settings_text t.moving };
 
     fn slot(&self) -> Slot {
         Slot::Settings
@@ -24,27 +26,29 @@ impl Grammar<Settings> for SettingsText {
 
     fn read(&self, alloc: Global, bytes: &[u8]) -> Result<Settings, Notice> {
         match read_settings(alloc, bytes) {
-            Ok(settings) => Ok(settings),
+            Ok(settings) => with_motion(settings, self.moving),
             Err(error) => Err(Notice::of_settings(error)),
         }
     }
 }
 
-/// The texts of navigation files.
+/// The texts of navigation files, of which the records of GPS are read or those of `both` systems.
 #[derive(Clone, Copy)]
-pub struct NavText;
+pub struct NavText {
+    pub both: bool,
+}
 
 impl Grammar<Nav> for NavText {
     ghost use Rattle.input_files.specs.Inputs.{nav_text};
 
-    ghost text = { λ _. nav_text };
+    ghost text = { λ t. nav_text t.both };
 
     fn slot(&self) -> Slot {
         Slot::Nav
     }
 
     fn read(&self, alloc: Global, bytes: &[u8]) -> Result<Nav, Notice> {
-        match read_nav(alloc, bytes) {
+        match read_nav_of(alloc, bytes, self.both) {
             Ok(nav) => Ok(nav),
             Err(error) => Err(Notice::of_nav(error)),
         }
@@ -55,21 +59,21 @@ impl Grammar<Nav> for NavText {
 /// wanted.
 #[derive(Clone, Copy)]
 pub struct ObsText<'a> {
-    pub signal: &'a Signal,
+    pub sought: &'a Sought,
     pub position: bool,
 }
 
 impl<'a> Grammar<Obs> for ObsText<'a> {
     ghost use Rattle.input_files.specs.Inputs.{obs_text};
 
-    ghost text = { λ t. obs_text t.signal.now t.position };
+    ghost text = { λ t. obs_text t.sought.now t.position };
 
     fn slot(&self) -> Slot {
         Slot::Obs
     }
 
     fn read(&self, alloc: Global, bytes: &[u8]) -> Result<Obs, Notice> {
-        match read_obs(alloc, bytes, self.signal, self.position) {
+        match read_obs_of(alloc, bytes, self.sought, self.position) {
             Ok(obs) => Ok(obs),
             Err(error) => Err(Notice::of_obs(error)),
         }

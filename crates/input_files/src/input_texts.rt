@@ -73,7 +73,7 @@ fn shown_of(c: char) -> char
 
 /// A text with `?` in place of each control character.
 fn push_shown(line: &mut Line, text: &str)
-    requires { length line.old.bytes + length text.now ≤ 128 }
+    requires { length line.old.bytes + length text.now ≤ 192 }
     ensures pushed { line.new.bytes ≡ line.old.bytes ++ shown text.now }
     ensures length { length line.new.bytes ≤ length line.old.bytes + length text.now }
 {

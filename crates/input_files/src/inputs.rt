@@ -2,8 +2,10 @@
 
 ghost use Rattle.std.specs.Prelude.{◌≡◌, IfOk};
 ghost use Rattle.command_words.specs.Seen.{files_asked};
-ghost use Rattle.input_files.specs.Inputs.{AreEnough, ReadsInputs, input_slots, inputs_value};
-ghost use Rattle.input_files.specs.Inputs.{wants_position};
+ghost use Rattle.error_bounds.specs.Reading.{value_of_settings};
+ghost use Rattle.input_files.specs.Inputs.{AreEnough, ReadsFor, input_slots, inputs_value};
+ghost use Rattle.input_files.specs.Inputs.{sought_of, wants_position};
+ghost use Rattle.input_files.specs.Motion.{HasMotion, speed_of};
 ghost use Rattle.input_files.specs.Reading.{Found, OnlyReads, valued};
 
 use crate::input_grammars::{NavText, ObsText, SettingsText};
@@ -14,7 +16,7 @@ use command_words::Files;
 use error_bounds::{Centre, Settings};
 use outer_io::Shelf;
 use rinex_nav::Nav;
-use rinex_obs::Obs;
+use rinex_obs::{Obs, Sought};
 use std::alloc::Global;
 
 /// What is read from the files of a receiver.
@@ -35,25 +37,43 @@ pub fn wants_position(centre: Centre) -> bool
     }
 }
 
+/// The codes that the settings want of the systems.
+pub fn sought_of(settings: &Settings) -> Sought
+    ensures { result ≡ sought_of (value_of_settings settings.now) }
+{
+    Sought {
+        gps: settings.signal,
+        galileo: settings.galileo_signal(),
+    }
+}
+
 /// Reads the settings, the navigation file and the observation file, each whole. Each is accepted
-/// or refused before the next is begun.
+/// or refused before the next is begun. The settings of a receiver that moves are refused where
+/// they lack its greatest speed.
 pub fn read_inputs<H: Shelf>(
     alloc: Global,
     limits: &Limits,
     words: &Files<'_>,
+    moving: bool,
     shelf: &mut H,
 ) -> Result<Inputs, Notice>
-    ensures found { Found (ReadsInputs limits.now (files_asked words.now))
+    ensures found { Found (ReadsFor moving limits.now (files_asked words.now))
         (H.state shelf.old) (H.state shelf.new) (H.reliable shelf.new)
         (valued inputs_value result) }
     ensures only { OnlyReads input_slots (H.state shelf.old) (H.state shelf.new) result }
     ensures enough { IfOk result AreEnough }
+    ensures motion { IfOk result (λ inputs. HasMotion moving (speed_of inputs.settings)) }
 {
-    let settings = read_named(alloc, limits, words.settings, &SettingsText, shelf)?;
-    let nav = read_named(alloc, limits, words.nav, &NavText, shelf)?;
+    let wanted = SettingsText { moving };
+    let settings = read_named(alloc, limits, words.settings, &wanted, shelf)?;
+    let sought = sought_of(&settings);
+    let text = NavText {
+        both: sought.are_both(),
+    };
+    let nav = read_named(alloc, limits, words.nav, &text, shelf)?;
     let position = wants_position(settings.centre);
     let text = ObsText {
-        signal: &settings.signal,
+        sought: &sought,
         position,
     };
     let obs = read_named(alloc, limits, words.obs, &text, shelf)?;

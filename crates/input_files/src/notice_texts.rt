@@ -10,7 +10,7 @@ use itoa::Buffer;
 use outer_io::Slot;
 
 /// A line with its LF.
-pub type Line = ArrayString<128>;
+pub type Line = ArrayString<192>;
 
 /// What a file is read or written for.
 fn role_of(slot: Slot) -> &'static str
@@ -45,7 +45,8 @@ pub fn notice_line(notice: &Notice) -> Line
     match *notice {
         Notice::Usage => {
             line.push_str("usage: gpscover judge LOG, pave ROWS LOG, ");
-            line.push_str("solve or check OBS NAV SETTINGS LOG, make SEED EPOCHS\n");
+            line.push_str("solve or check OBS NAV SETTINGS LOG, make SEED EPOCHS, ");
+            line.push_str("track or retrack OBS NAV SETTINGS LOG\n");
         }
         Notice::TooLong { slot, limit } => {
             line.push_str(role_of(slot));

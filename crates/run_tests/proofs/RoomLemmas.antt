@@ -5,9 +5,9 @@ use Rattle.std.specs.FinMap as map
 use Rattle.std.specs.Option.{option_map}
 use Rattle.std.proofs.lemmas.List.{length-take}
 use Rattle.command_words.specs.Commands as words
-use Rattle.command_words.specs.Commands.{Command, Judge, Pave, Solve, Check, Make}
+use Rattle.command_words.specs.Commands.{Command, Judge, Pave, Solve, Check, Track, Retrack, Make}
 use Rattle.epoch_selection.specs.declared.selection.Selection.{Selection}
-use Rattle.input_files.specs.Inputs.{InputsValue, ReadsInputs, ReadsNav, ReadsObs, settings_text, nav_text, obs_text, wants_position}
+use Rattle.input_files.specs.Inputs.{InputsValue, ReadsFor, ReadsNav, ReadsObs, settings_text, nav_text, obs_text, read_both, sought_of, wants_position}
 use Rattle.input_files.specs.Logs.{log_text, rows_text}
 use Rattle.input_files.specs.Reading as reading
 use Rattle.input_files.specs.Reading.{Text, Breaks, MayBreak, IsCounted, Reading, Found, valued, Named, Then, Returns, ReadsFile, limit_of, file_in, LeavesFiles, Untouched}
@@ -35,17 +35,18 @@ use Rattle.outer_io.specs.declared.slots.Slot.{Slot}
 use Rattle.sat_model.specs.declared.rules.Rules.{Rules}
 use Rattle.rinex_obs.specs.Files.{Observations}
 use Rattle.sat_model.specs.Logs.{LogValue}
-use Rattle.cover_run.specs.Checking.{CheckedValue, ReadsChecked, ReadsLog}
+use Rattle.cover_run.specs.Checking.{CheckedValue, ReadsCheckedFor, ReadsLog}
 use Rattle.cover_run.specs.Making.{Makes, made_text}
 use Rattle.cover_run.specs.Paving.{IsPaved}
 use Rattle.cover_run.specs.Chosen.{chosen_in}
-use Rattle.cover_run.specs.Runs.{Task, RunOf, Ends, Stops, OnlySays, Obeys, Runs, TellsAlone, judging, paving, solving, checking}
+use Rattle.cover_run.specs.Runs.{Task, RunOf, Ends, Stops, OnlySays, Obeys, Runs, TellsAlone, judging, paving, solving, checking, tracking, rechecking}
 use Rattle.cover_run.specs.Solving.{IsSolution}
+use Rattle.cover_run.specs.Tracking.{IsTrack}
 use Rattle.cover_run.specs.Telling as telling
 use Rattle.cover_run.specs.Telling.{Tells, sinks}
 use Rattle.cover_run.specs.Worlds.{World, Rewrites}
 use Rattle.cover_run.specs.Writing.{Answer, Writes, SaysEnd, status_of_writing}
-use Rattle.run_tests.specs.Roomy.{IsThere, AreThere, written_by, IsRoomy, HasRoomLeft, IsFault}
+use Rattle.run_tests.specs.Roomy.{AreInputsThere, IsThere, AreThere, written_by, IsRoomy, HasRoomLeft, IsFault}
 
 -- ---- files that are read
 
@@ -104,6 +105,10 @@ text_fits gives rules first last limit (Err fault) bytes said begun = broke_fits
 solution_fits : (chosen : Selection) (i : Inputs) (limit : ℕ) (answer : Answer) (bytes said : List ℕ) → IsSolution chosen i limit answer bytes said → length bytes ≤ limit
 solution_fits chosen i limit (Ok done) bytes said solved = solved.whole.fits
 solution_fits chosen i limit (Err fault) bytes said solved = broke_fits limit _ fault bytes said solved.begun.broke
+
+track_fits : (chosen : Selection) (i : Inputs) (limit : ℕ) (answer : Answer) (bytes said : List ℕ) → IsTrack chosen i limit answer bytes said → length bytes ≤ limit
+track_fits chosen i limit (Ok done) bytes said tracked = tracked.track.whole.fits
+track_fits chosen i limit (Err fault) bytes said tracked = broke_fits limit _ fault bytes said tracked.begun.broke
 
 -- ---- the shelf behind a run
 
@@ -298,21 +303,21 @@ module _ (limits : Limits) (told : Told) (before after : World) (trust : Trust) 
   abbrev Sound : {V : Type 0} → Reading V → Type 0
   Sound reads = trust.log None → NeverFails (MayBreak before.shelf after.shelf trust.log) told.files reads
 
-  inputs_sound : (names : words.Files) → IsThere told.files names.settings × IsThere told.files names.nav × IsThere told.files names.obs → Sound (ReadsInputs limits names)
-  inputs_sound names there = λ sure.
-      then_sound before.shelf after.shelf trust.log sure limits told.files (Named limits settings_text names.settings) (ReadsNav limits names)
-      (named_sound before.shelf after.shelf trust.log sure limits told.files settings_text names.settings there.0) (λ s.
-      then_sound before.shelf after.shelf trust.log sure limits told.files (Named limits nav_text names.nav) (ReadsObs limits names s)
-      (named_sound before.shelf after.shelf trust.log sure limits told.files nav_text names.nav there.1) (λ records.
-      let text = obs_text s.signal (wants_position s.centre) in
+  inputs_sound : (moving : Bool) (names : words.Files) → AreInputsThere told.files names → Sound (ReadsFor moving limits names)
+  inputs_sound moving names there = λ sure.
+      then_sound before.shelf after.shelf trust.log sure limits told.files (Named limits (settings_text moving) names.settings) (ReadsNav limits names)
+      (named_sound before.shelf after.shelf trust.log sure limits told.files (settings_text moving) names.settings there.0) (λ s.
+      then_sound before.shelf after.shelf trust.log sure limits told.files (Named limits (nav_text (read_both s)) names.nav) (ReadsObs limits names s)
+      (named_sound before.shelf after.shelf trust.log sure limits told.files (nav_text (read_both s)) names.nav there.1) (λ records.
+      let text = obs_text (sought_of s) (wants_position s.centre) in
       let value : Observations → InputsValue = λ o. record { settings = s; nav = records; obs = o } in
       then_sound before.shelf after.shelf trust.log sure limits told.files (Named limits text names.obs) (λ o. Returns (value o))
       (named_sound before.shelf after.shelf trust.log sure limits told.files text names.obs there.2)
       (λ o. returns_sound before.shelf after.shelf trust.log sure limits told.files (value o))))
 
-  check_sound : (names : words.Files) → AreThere told.files (Check names) → Sound (ReadsChecked limits names)
-  check_sound names there = λ sure.
-      then_sound before.shelf after.shelf trust.log sure limits told.files (ReadsInputs limits names) (ReadsLog limits names.log) (inputs_sound names there.0 sure) (λ i.
+  check_sound : (moving : Bool) (names : words.Files) → AreInputsThere told.files names × IsThere told.files names.log → Sound (ReadsCheckedFor moving limits names)
+  check_sound moving names there = λ sure.
+      then_sound before.shelf after.shelf trust.log sure limits told.files (ReadsFor moving limits names) (ReadsLog limits names.log) (inputs_sound moving names there.0 sure) (λ i.
       let value : LogValue → CheckedValue = λ l. record { inputs = i; log = l } in
       then_sound before.shelf after.shelf trust.log sure limits told.files (Named limits log_text names.log) (λ l. Returns (value l))
       (named_sound before.shelf after.shelf trust.log sure limits told.files log_text names.log there.1)
@@ -329,10 +334,16 @@ module _ (limits : Limits) (told : Told) (before after : World) (trust : Trust) 
       (λ sure. named_sound before.shelf after.shelf trust.log sure limits told.files rows_text rows there)
       (λ v does. write_safe log _ limits.log _ (IsPaved (log_value v) limits.log) told before after trust s tells (λ answer bytes said t. text_fits of_rows v.rules (log_value v).blocks t.0 limits.log answer bytes said t.1) does) r
   obeys_safe (Solve names) s tells there r =
-      task_safe (solving limits names) limits.log (Some names.log) told before after trust s tells (inputs_sound names there)
+      task_safe (solving limits names) limits.log (Some names.log) told before after trust s tells (inputs_sound false names there)
       (λ v does. write_safe names.log _ limits.log _ (IsSolution (chosen_in names) v limits.log) told before after trust s tells (solution_fits (chosen_in names) v limits.log) does) r
   obeys_safe (Check names) s tells there r =
-      task_safe (checking limits names) limits.log None told before after trust s tells (check_sound names there)
+      task_safe (checking limits names) limits.log None told before after trust s tells (check_sound false names there)
+      (λ v does. tell_safe _ _ _ limits.log told before after trust s tells does) r
+  obeys_safe (Track names) s tells there r =
+      task_safe (tracking limits names) limits.log (Some names.log) told before after trust s tells (inputs_sound true names there)
+      (λ v does. write_safe names.log _ limits.log _ (IsTrack (chosen_in names) v limits.log) told before after trust s tells (track_fits (chosen_in names) v limits.log) does) r
+  obeys_safe (Retrack names) s tells there r =
+      task_safe (rechecking limits names) limits.log None told before after trust s tells (check_sound true names there)
       (λ v does. tell_safe _ _ _ limits.log told before after trust s tells does) r
   obeys_safe (Make seed epochs) s tells there r =
       make_safe limits.log seed epochs None told before after trust s tells r.0 r.1

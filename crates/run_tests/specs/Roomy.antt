@@ -1,25 +1,31 @@
 -- Runs over objects in memory that have room for all that is written.
-use Rattle.std.specs.Prelude.{◌≡◌, ◌<◌, ◌⊎◌, ℕ, ◌+◌, List, [], length, Option, None, Some, IfSome, is_some, true}
+use Rattle.std.specs.Prelude.{◌≡◌, ◌<◌, ◌⊎◌, ℕ, ◌+◌, List, [], length, Option, None, Some, IfSome}
+use Rattle.std.specs.Prelude.{is_some, true}
 use Rattle.std.specs.FinMap as map
 use Rattle.input_files.specs.declared.limits.Limits.{Limits}
 use Rattle.input_files.specs.declared.status.Status.{Status}
 use Rattle.input_files.specs.declared.status.Status.TheVariants as status
 use Rattle.outer_io.specs.Taken.{SinkState, SinkTold}
 use Rattle.outer_io.specs.Told.{Files, ShelfState, Told}
-use Rattle.command_words.specs.Commands.{Command, Judge, Pave, Solve, Check, Make}
+use Rattle.command_words.specs.Commands as words
+use Rattle.command_words.specs.Commands.{Command, Judge, Pave, Solve, Check, Track, Retrack, Make}
 
 abbrev pub IsThere : Files → List ℕ → Type 0
 IsThere files name = is_some (map.get files name) ≡ true
+
+-- those of a receiver
+abbrev pub AreInputsThere : Files → words.Files → Type 0
+AreInputsThere files names =
+    IsThere files names.settings × IsThere files names.nav × IsThere files names.obs
 
 -- the files that are read are there
 abbrev pub AreThere : Files → Command → Type 0
 AreThere files (Judge log) = IsThere files log
 AreThere files (Pave rows log) = IsThere files rows
-AreThere files (Solve names) =
-    IsThere files names.settings × IsThere files names.nav × IsThere files names.obs
-AreThere files (Check names) =
-    (IsThere files names.settings × IsThere files names.nav × IsThere files names.obs)
-    × IsThere files names.log
+AreThere files (Solve names) = AreInputsThere files names
+AreThere files (Check names) = AreInputsThere files names × IsThere files names.log
+AreThere files (Track names) = AreInputsThere files names
+AreThere files (Retrack names) = AreInputsThere files names × IsThere files names.log
 AreThere files (Make seed epochs) = Unit {0}
 
 -- the file that is written
@@ -28,6 +34,8 @@ written_by (Judge log) = None
 written_by (Pave rows log) = Some log
 written_by (Solve names) = Some names.log
 written_by (Check names) = None
+written_by (Track names) = Some names.log
+written_by (Retrack names) = None
 written_by (Make seed epochs) = None
 
 -- The files are there, the one that is written can be created and has room for more than the limit,

@@ -1,5 +1,5 @@
-//! Tests alone: whole runs of the program over files and sinks in memory, these files and sinks themselves,
-//! and the checker's tests of one epoch and of one row.
+//! Tests alone: whole runs of the program over files and sinks in memory, these files and sinks
+//! themselves, and the checker's tests of one epoch and of one row.
 #![tactic(auto)]
 
 #[cfg(test)]
@@ -18,6 +18,10 @@ mod narrowing;
 mod outer;
 #[cfg(test)]
 mod parts;
+#[cfg(test)]
+mod pavings;
 pub mod roomy;
 #[cfg(test)]
 mod shelves;
+#[cfg(test)]
+mod tracks;

@@ -1,5 +1,6 @@
 //! A solved log with a narrower row: a span may lose the room that `solve` gave it, and no more.
-//! Where the bound of the troposphere is mapped by elevation, so may those of the ends of the error.
+//! Where the bound of the troposphere is mapped by elevation, so may those of the ends of the
+//! error.
 
 use crate::shelves::{four_files, words};
 use cover_run::{Limits, Status, run};
@@ -24,8 +25,8 @@ const NAV_HEADER: &str =
                                                             END OF HEADER
 ";
 
-// A record behind its satellite: a circle of 27,040 km over the equator, and on the x axis at its ephemeris
-// time.
+// A record behind its satellite: a circle of 27,040 km over the equator, and on the x axis at its
+// ephemeris time.
 const RECORD: &str = " 2024 01 07 00 00 00 0
 
                                                              5200
@@ -72,8 +73,8 @@ troposphere = [0, 0]
 zenith = [2000, 2500]
 ";
 
-// A place in a row: the numbers of its two ends, counted behind the satellite, what a solved log has more at
-// each end, in um, and two numbers that the own span holds.
+// A place in a row: the numbers of its two ends, counted behind the satellite, what a solved log
+// has more at each end, in um, and two numbers that the own span holds.
 #[derive(Clone, Copy)]
 struct Place {
     settings: &'static str,
@@ -83,8 +84,9 @@ struct Place {
     held: (i64, i64),
 }
 
-// The room is 2,000 and a 40,000th of the box's side of 2 m; of the ends of the error it is 2,000 and 2.5 m times
-// the side over 3 km. Along x the satellite is turned with the earth until its signal comes in.
+// The room is 2,000 and a 40,000th of the box's side of 2 m; of the ends of the error it is 2,000
+// and 2.5 m times the side over 3 km. Along x the satellite is turned with the earth until its
+// signal comes in.
 const PLACES: [Place; 4] = [
     Place {
         settings: SETTINGS,

@@ -43,7 +43,8 @@ skip G02 1
 const NONE: &str = "gpscover 1\nrules 1 4096 1000000\n";
 
 const USAGE: &str =
-    "usage: gpscover judge LOG, pave ROWS LOG, solve or check OBS NAV SETTINGS LOG, make SEED EPOCHS\n";
+    "usage: gpscover judge LOG, pave ROWS LOG, solve or check OBS NAV SETTINGS LOG, make SEED EPOCHS, \
+     track or retrack OBS NAV SETTINGS LOG\n";
 
 const LIMITS: Limits = Limits {
     file: 2_000,

@@ -1,4 +1,4 @@
-use Rattle.command_words.proofs.StatedLemmas.{judge_taken, pave_taken, solve_taken, check_taken, make_taken}
+use Rattle.command_words.proofs.StatedLemmas.{judge_taken, pave_taken, solve_taken, check_taken, track_taken, retrack_taken, make_taken}
 use Rattle.command_words.proofs.laws.stated_words_are_taken.Goals as goal
 
 pub returns-clause-judge : goal.returns-clause-judge
@@ -12,6 +12,12 @@ returns-clause-solve c = solve_taken
 
 pub returns-clause-check : goal.returns-clause-check
 returns-clause-check c = check_taken
+
+pub returns-clause-track : goal.returns-clause-track
+returns-clause-track c = track_taken
+
+pub returns-clause-retrack : goal.returns-clause-retrack
+returns-clause-retrack c = retrack_taken
 
 pub returns-clause-make : goal.returns-clause-make
 returns-clause-make c = make_taken

@@ -34,7 +34,7 @@ returns-in_err-log-clause-found g c =
     c.from_residual-in_err-log.ensures.1 in
     let limits = c.args.limits.now in
     let words = c.args.words.now in
-    rw (p.1, p.2) (found_then _ _ (inputs_fair limits (files_asked words))
+    rw (p.1, p.2) (found_then _ _ (inputs_fair limits (files_asked words) c.args.moving)
     (log_fair limits (files_asked words) words.log.now) input_slots _ _ _ _ _ _
     (inputs_value c.in_ok-inputs.inputs) _ c.in_ok-inputs.ensures.only c.in_ok-inputs.ensures.found
     (found_err _ _ _ _ _ c.in_err-log.field-0.0 c.in_err-log.ensures.found))
@@ -55,7 +55,7 @@ returns-clause-found g c =
     let words = c.args.words.now in
     let i = inputs_value c.in_ok-inputs.inputs in
     let log = log_value c.in_ok-log.log in
-    found_then _ _ (inputs_fair limits (files_asked words))
+    found_then _ _ (inputs_fair limits (files_asked words) c.args.moving)
     (log_fair limits (files_asked words) words.log.now) input_slots _ _ _ _ _ _ i _
     c.in_ok-inputs.ensures.only c.in_ok-inputs.ensures.found
     (found_then _ _ (named_fair limits log_text words.log.now)

@@ -1,12 +1,15 @@
-use Rattle.std.proofs.Common.{◌∙◌}
-use Rattle.cover_run.proofs.TellingLemmas.{tells_no}
+use Rattle.cover_run.proofs.TellingLemmas.{said_no, said_yes, tells_as}
+use Rattle.cover_run.specs.Checking.{Accepts, Refuses}
+use Rattle.paving_log.specs.Values.{log_value}
 use Rattle.cover_run.proofs.checking.tell_checked.Goals as goal
 
-pub returns-in-Ok-No : goal.returns-in-Ok-No
-returns-in-Ok-No g c =
-    let line = c.as_bytes-in-Ok-No.result.now in
-    let no = rw c.in-Ok-No.field-0-is at c.in-Ok-No.ensures.no in
-    let is =
-    c.as_bytes-in-Ok-No.ensures.value ∙ c.deref-in-Ok-No.ensures.0 ∙ c.fault_line.ensures in
-    tells_no _ _ _ _ _ line c.tell-in-Ok-No.result (c.in-Ok-No.fault, no, is)
-    c.tell-in-Ok-No.ensures
+pub returns : goal.returns
+returns g c =
+    let i = c.args.found.now.inputs in
+    let log = log_value c.args.found.now.log in
+    let verdict = c.check_by-verdict.result in
+    let told = c.check_by-verdict.ensures in
+    tells_as _ _ _ _ _ _ _
+    (said_yes verdict (λ boxes. Accepts c.args.chosen i log boxes) told.yes)
+    (said_no verdict (λ fault. Refuses c.args.chosen i log fault) told.no)
+    c.tell_verdict.result c.tell_verdict.ensures

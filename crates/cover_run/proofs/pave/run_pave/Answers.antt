@@ -36,7 +36,7 @@ returns g c =
           answer bytes said text),
     ))
     (ap (λ (blocks : List Block). most_bytes (length blocks) rows.rules.bisections) made.rest)
-    s c.write_named.ensures in
+    s c.write_named.ensures.log in
     let does = writes_behind (slot.Rows ∷ []) _ _ _ _ _ rows c.in-Ok.ensures.only refl refl
     limits.log _ (IsPaved (log_value rows) limits.log) s wrote in
     run_ok _ _ _ _ s rows (found_value _ _ _ _ _ _ _ fair c.in-Ok.ensures.found) does

@@ -1,4 +1,4 @@
-use Rattle.std.proofs.Common.{refl}
+use Rattle.std.proofs.Common.{refl, false}
 use Rattle.command_words.specs.Seen.{files_asked}
 use Rattle.input_files.proofs.InputLemmas.{inputs_fair}
 use Rattle.input_files.proofs.ReadingLemmas.{found_value}
@@ -14,7 +14,7 @@ returns-in-Ok g c =
     let i = c.in-Ok.inputs in
     let limits = c.args.limits.now in
     let names = files_asked c.args.words.now in
-    let fair = inputs_fair limits names in
+    let fair = inputs_fair limits names false in
     let s = c.write_solution.result in
     let does = writes_behind input_slots _ _ _ _ _ i c.in-Ok.ensures.only refl refl limits.log _
     (IsSolution (chosen_in names) i limits.log) s

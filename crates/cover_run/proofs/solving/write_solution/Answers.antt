@@ -4,8 +4,8 @@ use Rattle.epoch_rows.specs.EpochsLeft.{EpochsLeft, left_of, of_epochs}
 use Rattle.log_writer.specs.Sizes.{most_bytes}
 use Rattle.log_writer.specs.Texts.{IsText}
 use Rattle.sat_model.specs.declared.rules.Rules.{Rules}
-use Rattle.sat_rows.specs.Sources.{gps_meaning}
-use Rattle.sat_rows.specs.declared.gps.GpsRows.{GpsRows}
+use Rattle.sat_rows.specs.Sources.{both_meaning}
+use Rattle.galileo_rows.specs.declared.both.BothRows.{BothRows}
 use Rattle.cover_run.proofs.SolvingLemmas.{solution_of}
 use Rattle.cover_run.proofs.WritingLemmas.{writes_as}
 use Rattle.cover_run.specs.Solving.{IsSolution, gives_of, meaning_of}
@@ -23,7 +23,7 @@ returns g c =
     let last = c.write_named.new.blocks in
     let left_is = made.left in
     let by_source = λ (answer : Answer) (bytes said : List ℕ). subst
-    (λ (s : GpsRows). IsText (of_epochs (gps_meaning s.nav.now s.settings.now) b.rules.outliers)
+    (λ (s : BothRows). IsText (of_epochs (both_meaning s.nav.now s.settings.now) b.rules.outliers)
     rules (left_of b.searches) (left_of last.searches) limit answer bytes said) made.source in
     let by_rules = λ (answer : Answer) (bytes said : List ℕ). subst
     (λ (r : Rules). IsText (of_epochs (meaning_of i) r.outliers) rules (left_of b.searches)
@@ -37,7 +37,7 @@ returns g c =
     (by_left answer bytes said
     (by_rules answer bytes said (by_source answer bytes said (text_of_epochs
     (λ x. x.source.now) (λ x. x.rules) (λ x. x.searches)
-    (λ (s : GpsRows). gps_meaning s.nav.now s.settings.now) b last rules limit answer bytes said
+    (λ (s : BothRows). both_meaning s.nav.now s.settings.now) b last rules limit answer bytes said
     text)))))
     (ap (λ (left : EpochsLeft). most_bytes (length left.epochs) rules.bisections) left_is)
-    c.write_named.result c.write_named.ensures
+    c.write_named.result c.write_named.ensures.log

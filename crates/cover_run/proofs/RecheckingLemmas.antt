@@ -1,0 +1,71 @@
+-- What `retrack` says of a log, against the files.
+use Rattle.std.proofs.Common.{◌≡◌, ℕ, List, None, Result, refl}
+use Rattle.std.specs.Prelude.{IfOk}
+use Rattle.epoch_selection.specs.declared.selection.Selection.{Selection}
+use Rattle.grid_model.specs.Boxes.{GridBox}
+use Rattle.grid_model.specs.declared.memory.NoMemory.{NoMemory}
+use Rattle.input_files.specs.declared.inputs.Inputs.{Inputs}
+use Rattle.input_files.specs.declared.status.Status.{Status}
+use Rattle.paving_log.specs.Values.{log_value}
+use Rattle.paving_log.specs.declared.log.Log.{Log}
+use Rattle.paving_log_check.specs.Answers.{IfYes, IfNo}
+use Rattle.paving_log_check.specs.Checked.{IsAccepted, IsRefused}
+use Rattle.paving_log_check.specs.declared.verdict.Fault.{Fault}
+use Rattle.paving_log_check.specs.declared.verdict.Verdict.{Verdict}
+use Rattle.tube_check.proofs.FoundLemmas.{all_few, found_by}
+use Rattle.tube_searches.specs.Tubes.{tube_searches}
+use Rattle.cover_run.proofs.TellingLemmas.{said_no, said_yes, tells_as}
+use Rattle.cover_run.specs.Checking.{SaysNo, SaysYes}
+use Rattle.cover_run.specs.Rechecking.{AcceptsTrack, RefusesTrack, SaysTracked, SaysUntracked}
+use Rattle.cover_run.specs.Solving.{meaning_of}
+use Rattle.cover_run.specs.Telling.{Sinks, Tells}
+use Rattle.cover_run.specs.Tracking.{IsTubeOf, tube_of}
+use Rattle.cover_run.specs.declared.checked.Checked.{Checked}
+
+module _ (chosen : Selection) (f : Checked) (search : GridBox) (speed : ℕ)
+    (is_tube : IsTubeOf f.inputs search speed) where
+  abbrev i : Inputs
+  i = f.inputs
+
+  abbrev Accepted : ℕ → Type 0
+  Accepted boxes = IsAccepted (meaning_of i)
+      (tube_searches (tube_of chosen i search speed) (log_value f.log).blocks) i.settings.rules
+      (log_value f.log) boxes
+
+  abbrev Refused : Fault → Type 0
+  Refused fault = IsRefused (meaning_of i)
+      (tube_searches (tube_of chosen i search speed) (log_value f.log).blocks) i.settings.rules
+      (log_value f.log) fault
+
+  -- by an accepted log a receiver is found
+  accepts : (boxes : ℕ) → Accepted boxes → AcceptsTrack chosen i (log_value f.log) boxes
+  accepts boxes accepted = record {
+    search = search;
+    speed = speed;
+    is_tube = is_tube;
+    accepted = accepted;
+    found = λ path goes fits. found_by (meaning_of i) (tube_of chosen i search speed)
+        i.settings.rules (log_value f.log) boxes path refl (all_few f.log.epochs.items) accepted goes fits;
+  }
+
+  module _ (verdict : Result Verdict NoMemory)
+      (yes : IfOk verdict (λ v. IfYes v Accepted)) (no : IfOk verdict (λ v. IfNo v Refused)) where
+    says_yes : (line : List ℕ) → SaysYes verdict line → SaysTracked chosen f line
+    says_yes line says =
+        let (boxes, accepted, e) = said_yes verdict Accepted yes line says in
+        (boxes, accepts boxes accepted, e)
+
+    says_no : (line : List ℕ) → SaysNo verdict line → SaysUntracked chosen f line
+    says_no line says =
+        let (fault, refused, e) = said_no verdict Refused no line says in (
+          fault,
+          record { search = search; speed = speed; is_tube = is_tube; refused = refused },
+          e,
+        )
+
+    pub says_track : (before after : Sinks) (reliable : Type 0) (s : Status)
+        → Tells (SaysYes verdict) (SaysNo verdict) before after reliable s
+        → Tells (SaysTracked chosen f) (SaysUntracked chosen f) before after reliable s
+    says_track before after reliable s told =
+        tells_as (SaysYes verdict) (SaysNo verdict) (SaysTracked chosen f) (SaysUntracked chosen f)
+        before after reliable says_yes says_no s told

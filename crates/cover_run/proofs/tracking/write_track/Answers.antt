@@ -1,0 +1,77 @@
+use Rattle.std.proofs.Common.{◌≡◌, ◌≢◌, [], ap, length, refl, rules}
+use Rattle.grid_model.specs.Boxes.{grid_box}
+use Rattle.input_files.specs.declared.status.Status.TheVariants as status
+use Rattle.log_writer.specs.Sizes.{most_bytes}
+use Rattle.galileo_rows.specs.declared.both.BothRows.{BothRows}
+use Rattle.sat_rows.specs.Sources.{both_meaning}
+use Rattle.tube_rows.specs.TubeLeft.{TubeLeft, left_in, left_of}
+use Rattle.cover_run.proofs.TrackingLemmas.{broken_off, text_of_tube, told_lost, track_of}
+use Rattle.cover_run.proofs.WritingLemmas.{writes_as}
+use Rattle.cover_run.specs.Solving.{epochs_of, meaning_of}
+use Rattle.cover_run.specs.Tracking.{IsTrack, IsTubeOf}
+use Rattle.cover_run.proofs.tracking.write_track.Goals as goal
+
+pub returns-then-eq : goal.returns-then-eq
+returns-then-eq g c =
+    let i = c.args.inputs.now in
+    let given = i.settings.rules in
+    let limit = c.args.limits.now.log in
+    let chosen = c.args.chosen in
+    let made = c.of_file-blocks.ensures in
+    let b = c.of_file-blocks.result in
+    let last = c.write_named-status.new.blocks in
+    let box = grid_box c.root-search.result in
+    let speed = c.declared_speed-speed.result in
+    let here = left_in box speed (epochs_of chosen i) in
+    let behind = left_of last.tube last.given last.lost in
+    let is_tube : IsTubeOf i box speed = record {
+      search = c.root-search.ensures.value;
+      speed = c.declared_speed-speed.ensures.speed;
+    } in
+    let most = ap (λ (l : TubeLeft). most_bytes (length l.epochs) given.bisections) made.left in
+    let wrote = writes_as [] _ _ _ _ limit _ _ _ _
+    (λ answer bytes said text. text_of_tube (λ x. x.source.now) (λ x. x.rules)
+    (λ x. left_of x.tube x.given x.lost)
+    (λ (s : BothRows). both_meaning s.nav.now s.settings.now) b last (meaning_of i) given here
+    (ap (λ (s : BothRows). both_meaning s.nav.now s.settings.now) made.source) made.rules made.left
+    limit answer bytes said text) most c.write_named-status.result
+    c.write_named-status.ensures.log in
+    let is : c.write_named-status.result ≡ status.Done = search rules in
+    let told = told_lost (meaning_of i) given.outliers i here behind refl limit _ _ _ _ _
+    c.write_named-status.ensures.later _ _ _ _ _ is wrote
+    (rw c.lost.ensures at c.tell_lost.ensures) in
+    writes_as [] _ _ _ _ limit _ _ _ (IsTrack chosen i limit)
+    (λ answer bytes said text. track_of chosen i box speed behind limit answer bytes said is_tube
+    text) refl c.tell_lost.result told
+
+pub returns : goal.returns
+returns g c =
+    let i = c.args.inputs.now in
+    let given = i.settings.rules in
+    let limit = c.args.limits.now.log in
+    let chosen = c.args.chosen in
+    let made = c.of_file-blocks.ensures in
+    let b = c.of_file-blocks.result in
+    let last = c.write_named-status.new.blocks in
+    let box = grid_box c.root-search.result in
+    let speed = c.declared_speed-speed.result in
+    let here = left_in box speed (epochs_of chosen i) in
+    let behind = left_of last.tube last.given last.lost in
+    let is_tube : IsTubeOf i box speed = record {
+      search = c.root-search.ensures.value;
+      speed = c.declared_speed-speed.ensures.speed;
+    } in
+    let most = ap (λ (l : TubeLeft). most_bytes (length l.epochs) given.bisections) made.left in
+    let wrote = writes_as [] _ _ _ _ limit _ _ _ _
+    (λ answer bytes said text. text_of_tube (λ x. x.source.now) (λ x. x.rules)
+    (λ x. left_of x.tube x.given x.lost)
+    (λ (s : BothRows). both_meaning s.nav.now s.settings.now) b last (meaning_of i) given here
+    (ap (λ (s : BothRows). both_meaning s.nav.now s.settings.now) made.source) made.rules made.left
+    limit answer bytes said text) most c.write_named-status.result
+    c.write_named-status.ensures.log in
+    let other : c.write_named-status.result ≢ status.Done = search rules in
+    let told = broken_off (meaning_of i) given.outliers i here behind refl limit _ _ _ _ _
+    c.write_named-status.result other wrote in
+    writes_as [] _ _ _ _ limit _ _ _ (IsTrack chosen i limit)
+    (λ answer bytes said text. track_of chosen i box speed behind limit answer bytes said is_tube
+    text) refl c.write_named-status.result told

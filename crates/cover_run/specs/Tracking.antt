@@ -1,0 +1,167 @@
+-- What `track` writes: the log of a receiver that moves, each epoch over the root that the one
+-- before leaves.
+use Rattle.std.specs.Prelude.{◌≡◌, ℕ, ◌++◌, Bool, true, false, List, [], ◌∷◌, length, Option, None}
+use Rattle.std.specs.Prelude.{Some}
+use Rattle.std.specs.Prelude.{Ok, Err, codes, decimal}
+use Rattle.clear_boxes.specs.Left.{BlocksLeaveNothingClear}
+use Rattle.epoch_selection.specs.Searches.{Search}
+use Rattle.epoch_selection.specs.declared.selection.Selection.{Selection}
+use Rattle.grid_model.specs.Boxes.{GridBox}
+use Rattle.input_files.specs.Inputs.{input_slots}
+use Rattle.input_files.specs.Motion.{speed_of}
+use Rattle.input_files.specs.declared.inputs.Inputs.{Inputs}
+use Rattle.input_files.specs.declared.status.Status.{Status}
+use Rattle.input_files.specs.declared.status.Status.TheVariants as status
+use Rattle.log_writer.specs.Breaks.{BrokeOff}
+use Rattle.log_writer.specs.Pieces.{Piece, log_pieces, piece}
+use Rattle.log_writer.specs.Sizes.{most_bytes}
+use Rattle.log_writer.specs.Sources.{Gives, Came}
+use Rattle.log_writer.specs.Texts.{IsWhole}
+use Rattle.log_writer.specs.Writing.{Trust}
+use Rattle.log_writer.specs.declared.fault.WriteFault.{WriteFault}
+use Rattle.moving_tube.specs.Tracks.{Stay}
+use Rattle.outer_io.specs.declared.slots.Slot.{Slot}
+use Rattle.paving_log.specs.CoverBoxes.{cover_of}
+use Rattle.paving_log_check.specs.Admissible.{Admits, AreOwn}
+use Rattle.paving_log_check.specs.FileCover.{FileCover}
+use Rattle.sat_model.specs.Logs.{Block, LogValue}
+use Rattle.sat_rows.specs.declared.lines.SatLine.{SatLine}
+use Rattle.tube_check.specs.Found.{IsPath, PathFits, IsFoundIn}
+use Rattle.tube_rows.specs.TubeLeft.{TubeLeft, left_in, of_tube}
+use Rattle.tube_searches.specs.Tubes.{TubeValue, tube_searches}
+use Rattle.cover_run.specs.Solving.{IsRootOf, epochs_of, meaning_of}
+use Rattle.cover_run.specs.Telling.{Sinks, TellsLine}
+use Rattle.cover_run.specs.Worlds.{World}
+use Rattle.cover_run.specs.Writing.{Answer, Writes}
+
+-- ---- a receiver that is lost
+
+abbrev pub lost_line : ℕ → List ℕ
+lost_line index = codes "lost " ++ decimal index ++ codes "\n"
+
+-- it is, in an epoch that was searched and has no in or edge box; not in one of few satellites
+abbrev pub lost_with : Bool → List GridBox → ℕ → List ℕ
+lost_with true parts index = []
+lost_with false [] index = lost_line index
+lost_with false (part ∷ more) index = []
+
+abbrev pub lost_in : Block → List ℕ
+lost_in block = lost_with block.few (cover_of block block.root) block.index
+
+-- what is said of the last of these blocks
+abbrev pub lost_behind : List ℕ → List Block → List ℕ
+lost_behind line [] = line
+lost_behind line (block ∷ more) = lost_behind (lost_in block) more
+
+abbrev pub lost_text : List Block → List ℕ
+lost_text blocks = lost_behind [] blocks
+
+-- the lines of a log and its report, and behind them the line of a receiver that is lost
+abbrev pub track_pieces : LogValue → List Piece
+track_pieces log = log_pieces log ++ piece [] (lost_text log.blocks) ∷ []
+
+-- of a log that was written to its end it is told, where the receiver is lost
+abbrev pub TellsLost : Option ℕ → (before after : Sinks) → Type 0 → Status → Type 0
+TellsLost None before after reliable s = (s ≡ status.Done) × (after ≡ before)
+TellsLost (Some index) before after reliable s =
+    TellsLine status.Done (lost_line index) before after reliable s
+
+-- ---- the text of a track
+
+-- A log and its report, to which the line of a receiver that is lost belongs; or what a fault left
+-- of them. The source stood first here, and then there.
+module _ (gives : Gives TubeLeft) (i : Inputs) (first last : TubeLeft) where
+  pub record IsWholeTrack (limit : ℕ) (bytes said : List ℕ) : Type 0 where
+    pub report : List ℕ
+    pub whole : IsWhole gives i.settings.rules first last limit bytes report
+    pub all : said ≡ report ++ lost_text whole.log.blocks
+
+  pub record IsBegunTrack (fault : WriteFault) (limit : ℕ) (bytes said : List ℕ) : Type 0 where
+    pub blocks : List Block
+    pub behind : TubeLeft
+    pub came : Came gives i.settings.rules first None blocks behind
+    pub broke : BrokeOff limit
+        (track_pieces (record { rules = i.settings.rules; blocks = blocks })) fault bytes said
+
+  abbrev pub IsTrackText : ℕ → Answer → (bytes said : List ℕ) → Type 0
+  IsTrackText limit (Ok done) = IsWholeTrack limit
+  IsTrackText limit (Err fault) = IsBegunTrack fault limit
+
+-- ---- the track of the files
+
+-- the epochs give their blocks in turn, each over the root that the one before leaves
+abbrev pub gives_tube : Inputs → Gives TubeLeft
+gives_tube i = of_tube (meaning_of i) i.settings.rules.outliers
+
+-- the search box of the settings, and the greatest speed that they declare
+pub record IsTubeOf (i : Inputs) (root : GridBox) (fastest : ℕ) : Type 0 where
+  pub search : IsRootOf i root
+  pub speed : speed_of i.settings ≡ Some fastest
+
+-- the chosen epochs, the first in the search box
+abbrev pub tube_of : Selection → Inputs → GridBox → ℕ → TubeValue
+tube_of chosen i search speed =
+    record { epochs = epochs_of chosen i; search = search; speed = speed; before = None }
+
+module _ (chosen : Selection) (i : Inputs) where
+  -- By these searches of a log each trajectory of the declared speed that fits in each paved epoch
+  -- is found in each of its epochs.
+  abbrev pub FindsReceiver : GridBox → ℕ → LogValue → List Search → Type 0
+  FindsReceiver search speed log searches =
+      (path : List Stay) → IsPath speed search (epochs_of chosen i) path
+      → PathFits (meaning_of i) i.settings.rules.outliers searches log.blocks path
+      → IsFoundIn searches log.blocks path
+
+  -- The text of one log and its report, within the limit: each epoch's block has own lines, with
+  -- the room that `solve` gives them, over the root that the one before leaves; it ends behind an
+  -- epoch in which the receiver is lost. All own lines over these roots admit it, what fits is
+  -- covered, and nothing clear is left; and each trajectory that fits is found.
+  pub record IsTracked (limit : ℕ) (bytes said : List ℕ) : Type 0 where
+    pub search : GridBox
+    pub speed : ℕ
+    pub is_tube : IsTubeOf i search speed
+    pub last : TubeLeft
+    pub track : IsWholeTrack (gives_tube i) i (left_in search speed (epochs_of chosen i)) last
+        limit bytes said
+    pub admits : (owns : List (List SatLine))
+        → AreOwn (meaning_of i)
+        (tube_searches (tube_of chosen i search speed) track.whole.log.blocks) owns
+        → Admits i.settings.zenith
+        (tube_searches (tube_of chosen i search speed) track.whole.log.blocks) owns
+        i.settings.rules track.whole.log
+    pub cover : FileCover (meaning_of i) i.settings.rules.outliers
+        (tube_searches (tube_of chosen i search speed) track.whole.log.blocks) track.whole.log
+    pub nothing_clear : BlocksLeaveNothingClear (meaning_of i) i.settings.rules
+        (tube_searches (tube_of chosen i search speed) track.whole.log.blocks)
+        track.whole.log.blocks
+    pub found : FindsReceiver search speed track.whole.log
+        (tube_searches (tube_of chosen i search speed) track.whole.log.blocks)
+
+  -- what this fault left of both
+  pub record IsTrackedTo (fault : WriteFault) (limit : ℕ) (bytes said : List ℕ) : Type 0 where
+    pub search : GridBox
+    pub speed : ℕ
+    pub is_tube : IsTubeOf i search speed
+    pub last : TubeLeft
+    pub begun : IsBegunTrack (gives_tube i) i (left_in search speed (epochs_of chosen i)) last
+        fault limit bytes said
+
+  -- by how the writing ended
+  abbrev pub IsTrack : ℕ → Answer → (bytes said : List ℕ) → Type 0
+  IsTrack limit (Ok done) = IsTracked limit
+  IsTrack limit (Err fault) = IsTrackedTo fault limit
+
+-- The log of the track was written, and its report printed, or it couldn't be created.
+module _ (limit : ℕ) (log : List ℕ) (chosen : Selection) (i : Inputs) (before after : World)
+    (trust : Trust) where
+  -- behind the reading of files
+  abbrev pub TracksBehind : List Slot → Status → Type 0
+  TracksBehind slots = Writes log before after trust slots limit
+      (most_bytes (length (epochs_of chosen i)) i.settings.rules.bisections)
+      (IsTrack chosen i limit)
+
+  abbrev pub Track : Status → Type 0
+  Track = TracksBehind []
+
+  abbrev pub Tracks : Status → Type 0
+  Tracks = TracksBehind input_slots

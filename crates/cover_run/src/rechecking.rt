@@ -1,0 +1,79 @@
+//! The command `retrack OBS NAV SETTINGS LOG`.
+
+ghost use Rattle.std.specs.Prelude.{◌≡◌};
+ghost use Rattle.command_words.specs.Seen.{files_asked};
+ghost use Rattle.cover_run.specs.Checking.{AreReady};
+ghost use Rattle.cover_run.specs.Rechecking.{SaysTracked, SaysUntracked};
+ghost use Rattle.cover_run.specs.Runs.{RunOf, rechecking};
+ghost use Rattle.cover_run.specs.Telling.{Tells, sinks};
+ghost use Rattle.cover_run.specs.Worlds.{world};
+ghost use Rattle.input_files.specs.Motion.{HasSpeed, speed_of};
+ghost use Rattle.log_writer.specs.Writing.{trust_of};
+
+use crate::checked::{Checked, read_checked};
+use crate::chosen::chosen_in;
+use crate::telling::say;
+use crate::tracking::declared_speed;
+use crate::verdicts::tell_verdict;
+use command_words::Files;
+use epoch_selection::{Searches, Selection};
+use galileo_rows::BothRows;
+use input_files::{Limits, Status};
+use outer_io::{Shelf, Sink};
+use std::alloc::Global;
+use tube_check::check_tube;
+use tube_searches::Tube;
+
+/// Checks the log against these epochs of the files, each over the root that the one before leaves,
+/// and prints the verdict.
+fn tell_rechecked<O: Sink, E: Sink>(
+    alloc: Global,
+    found: &Checked,
+    chosen: Selection,
+    out: &mut O,
+    err: &mut E,
+) -> Status
+    requires ready { AreReady found.now }
+    requires moving { HasSpeed (speed_of found.now.inputs.settings) }
+    ensures { Tells (SaysTracked chosen found.now) (SaysUntracked chosen found.now)
+        (sinks (O.state out.old) (E.state err.old)) (sinks (O.state out.new) (E.state err.new))
+        (O.reliable out.new) result }
+{
+    let inputs = &found.inputs;
+    let settings = &inputs.settings;
+    let source = BothRows {
+        nav: &inputs.nav,
+        settings,
+    };
+    let tube = Tube {
+        searches: Searches {
+            left: &inputs.obs.epochs,
+            selection: chosen,
+            root: settings.root(inputs.obs.position),
+        },
+        speed: declared_speed(inputs),
+        before: None,
+    };
+    let verdict = check_tube(alloc, &source, &tube, &settings.rules, &found.log);
+    tell_verdict(&verdict, out, err)
+}
+
+/// Does what `retrack OBS NAV SETTINGS LOG` asks for.
+pub fn run_retrack<H: Shelf, O: Sink, E: Sink>(
+    alloc: Global,
+    limits: &Limits,
+    words: &Files<'_>,
+    shelf: &mut H,
+    out: &mut O,
+    err: &mut E,
+) -> Status
+    ensures { RunOf (rechecking limits.now (files_asked words.now))
+        (world (H.state shelf.old) (O.state out.old) (E.state err.old))
+        (world (H.state shelf.new) (O.state out.new) (E.state err.new))
+        (trust_of (H.reliable shelf.new) (O.reliable out.new)) result }
+{
+    match read_checked(alloc, limits, words, true, shelf) {
+        Ok(found) => tell_rechecked(alloc, &found, chosen_in(words), out, err),
+        Err(notice) => say(err, &notice),
+    }
+}

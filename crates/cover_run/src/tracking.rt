@@ -1,0 +1,124 @@
+//! The command `track OBS NAV SETTINGS LOG`.
+
+ghost use Rattle.std.specs.Prelude.{◌≡◌, ◌≤◌, Some};
+ghost use Rattle.command_words.specs.Seen.{files_asked};
+ghost use Rattle.cover_run.specs.Runs.{RunOf, tracking};
+ghost use Rattle.cover_run.specs.Tracking.{TellsLost, Track, lost_line};
+ghost use Rattle.cover_run.specs.Telling.{sinks};
+ghost use Rattle.cover_run.specs.Worlds.{world};
+ghost use Rattle.input_files.specs.Inputs.{AreEnough};
+ghost use Rattle.input_files.specs.Motion.{HasSpeed, speed_of};
+ghost use Rattle.log_writer.specs.Writing.{trust_of};
+ghost use Rattle.moving_tube.specs.Reach.{fastest};
+
+use crate::chosen::chosen_in;
+use crate::telling::{say, tell};
+use crate::texts::Line;
+use crate::writing::write_named;
+use command_words::Files;
+use epoch_selection::Selection;
+use galileo_rows::BothRows;
+use input_files::{Inputs, Limits, Status, read_inputs, speed_of};
+use itoa::Buffer;
+use outer_io::{Shelf, Sink};
+use std::alloc::Global;
+use tube_rows::TubeBlocks;
+
+/// `lost INDEX`: the receiver wasn't in any box of this epoch.
+fn lost_line(index: u32) -> Line
+    ensures { result.bytes ≡ lost_line index }
+{
+    let mut buffer = Buffer::new();
+    let mut line = Line::new();
+    line.push_str("lost ");
+    line.push_str(buffer.format(index));
+    line.push_str("\n");
+    line
+}
+
+/// The greatest speed of the receiver, in mm/s.
+pub fn declared_speed(inputs: &Inputs) -> u32
+    requires { HasSpeed (speed_of inputs.now.settings) }
+    ensures speed { speed_of inputs.now.settings ≡ Some result }
+    ensures fast { result ≤ fastest }
+{
+    match speed_of(&inputs.settings) {
+        Some(speed) => speed,
+        None => unreachable!(),
+    }
+}
+
+/// Says at which epoch the receiver was lost, behind a log that was written to its end.
+fn tell_lost<O: Sink, E: Sink>(lost: Option<u32>, out: &mut O, err: &mut E) -> Status
+    ensures { TellsLost lost (sinks (O.state out.old) (E.state err.old))
+        (sinks (O.state out.new) (E.state err.new)) (O.reliable out.new) result }
+{
+    match lost {
+        Some(index) => tell(Status::Done, lost_line(index).as_bytes(), out, err),
+        None => Status::Done,
+    }
+}
+
+/// Writes the log of these epochs of the files, each over the root that the one before leaves, and
+/// prints its report. Behind an epoch in which the receiver is lost it says so, and ends.
+fn write_track<H: Shelf, O: Sink, E: Sink>(
+    alloc: Global,
+    limits: &Limits,
+    inputs: &Inputs,
+    chosen: Selection,
+    log: &str,
+    shelf: &mut H,
+    out: &mut O,
+    err: &mut E,
+) -> Status
+    requires enough { AreEnough inputs.now }
+    requires moving { HasSpeed (speed_of inputs.now.settings) }
+    ensures { Track limits.now.log log.now chosen inputs.now
+        (world (H.state shelf.old) (O.state out.old) (E.state err.old))
+        (world (H.state shelf.new) (O.state out.new) (E.state err.new))
+        (trust_of (H.reliable shelf.new) (O.reliable out.new)) result }
+{
+    let settings = &inputs.settings;
+    let rules = &settings.rules;
+    let search = settings.root(inputs.obs.position);
+    let speed = declared_speed(inputs);
+    let source = BothRows {
+        nav: &inputs.nav,
+        settings,
+    };
+    let mut blocks = TubeBlocks::of_file(&source, &inputs.obs, chosen, &search, speed, rules);
+    let status = write_named(alloc, limits, log, rules, &mut blocks, shelf, out, err);
+    if status == Status::Done {
+        return tell_lost(blocks.lost(), out, err);
+    }
+    status
+}
+
+/// Does what `track OBS NAV SETTINGS LOG` asks for.
+pub fn run_track<H: Shelf, O: Sink, E: Sink>(
+    alloc: Global,
+    limits: &Limits,
+    words: &Files<'_>,
+    shelf: &mut H,
+    out: &mut O,
+    err: &mut E,
+) -> Status
+    ensures { RunOf (tracking limits.now (files_asked words.now))
+        (world (H.state shelf.old) (O.state out.old) (E.state err.old))
+        (world (H.state shelf.new) (O.state out.new) (E.state err.new))
+        (trust_of (H.reliable shelf.new) (O.reliable out.new)) result }
+{
+    match read_inputs(alloc, limits, words, true, shelf) {
+        Ok(inputs) => write_track(
+            alloc,
+            limits,
+            &inputs,
+            chosen_in(words),
+            words.log,
+            shelf,
+            out,
+            err,
+        ),
+        Err(notice) => say(err, &notice),
+    }
+}
