@@ -427,6 +427,7 @@ def settings_cases(settings):
     for kind in (*kinds, b"false", b"True", b"[true]"):
         yield f"pairs = {kind}", plain.replace(b"[search]", b"[search]\npairs = " + kind)
     yield from zenith_settings(plain, kinds)
+    yield from motion_settings(plain, kinds)
     for key, texts in ((b"half", (b"100000000", b"100000001", b"[1, 1, 100000000]", b"[1, 0, 1]", b"[2, 30000, 4]")),
             (b"outliers", (b"8", b"9")),
                        (b"bisections", (b"200001",)), (b"width", (b"10000000", b"10000001")),
@@ -558,6 +559,25 @@ def zenith_settings(plain, kinds):
     # A satellite's own bound, and the four summed ones, keep their range.
     yield "zenith, and a satellite's bound of 1 km", mapped(plain) + b"G01 = [-1000000, 1000000]\n"
     yield "zenith, and a satellite's bound of more", mapped(plain) + b"G01 = [-1000001, 1000000]\n"
+
+
+def motion_settings(plain, kinds):
+    """Changes of the settings with the table `motion`, which may be absent or without its key."""
+    yield "motion without a key", plain + b"[motion]\n"
+    for value in (*kinds, b"20000", b"1000000", b"1000001", b"-0", b"1_000", b"0x10", b"9223372036854775807", b"{}"):
+        yield f"speed = {value}", plain + b"[motion]\nspeed = " + value + b"\n"
+    for text in (b"motion = 20000", b"motion = []", b"motion = {}", b"motion = {speed = 20000}", b"speed = 20000",
+                 b"motion.speed = 20000", b"motion = 'speed'"):
+        yield f"{text} in the root", text + b"\n" + plain
+    for text in (b"[[motion]]\nspeed = 20000\n", b"[motion.speed]\n", b"[Motion]\nspeed = 20000\n",
+                 b"[motion]\nSpeed = 20000\n", b"[motion]\nspeed = 20000\nheight = 1\n", b"[motion]\n[motion]\n"):
+        yield f"{text} at the end", plain + text
+    # Of two faults the one of the key that comes first in the order is told.
+    wrong = plain + b"[motion]\nspeed = true\n"
+    yield "speed of another kind, zenith outside", mapped(wrong, b"[2500, 2000]")
+    yield "speed of another kind, no troposphere", re.sub(rb"(?m)^troposphere = .*\n", b"", wrong)
+    yield "speed of another kind, a satellite's bound of another kind", plain + b"G01 = 1\n[motion]\nspeed = 1.0\n"
+    yield "speed of another kind, an unknown name", b"a = 1\n" + wrong
 
 
 def mixed_cases(contents):

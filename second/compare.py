@@ -3,8 +3,8 @@
 
     compare.py --program PATH --data DIRECTORY [--draws NUMBER] [--seed NUMBER] [PART ..]
 
-The parts are recorded, records, rows, page, logs, cuts, selections, cases and drawn; without one all are run. An
-answer is the exit status with all that is printed. Two answers agree where they are the same. Where both say 53 on
+The parts are recorded, records, rows, page, logs, tracks, cuts, selections, cases and drawn; without one all are run.
+An answer is the exit status with all that is printed. Two answers agree where they are the same. Where both say 53 on
 the same line, the printed spans may differ, as each is of a program's own: then both own spans have to be at most W
 wide, or G where they are of the bounds, and to share a number. Where one alone says 53, the log's span has to lie so
 near to both own spans that it holds the one and not the other. Every other difference is printed whole.
@@ -27,9 +27,10 @@ from cuts import log_with_cuts, with_cuts
 TOP = Path(__file__).resolve().parent.parent
 sys.path.append(str(TOP / "scripts"))
 import changed_logs  # of scripts/, which makes the logs of docs/CHANGED_LOGS.md
+import made_two_systems  # which makes files of GPS and Galileo
 
 PLACE = 6 * 10**13  # um
-PARTS = ("recorded", "records", "rows", "page", "logs", "cuts", "selections", "cases", "drawn")
+PARTS = ("recorded", "records", "rows", "page", "logs", "tracks", "cuts", "selections", "cases", "drawn")
 
 
 class Tally:
@@ -63,15 +64,19 @@ class Tracing(recheck.Judge):
         self.own_rows = {}
 
     def own(self, row, satellite, used):
-        self.own_rows[self.number] = self.files.row(self.own_epoch, satellite, used), row
+        self.own_rows[self.number] = self.files.row(self.own_epoch, satellite, used), row, self.files.rooms
         super().own(row, satellite, used)
+
+
+class TracingTrack(Tracing, recheck.TrackJudge):
+    """The same of a track."""
 
 
 class Pair:
     """Both programs on the same observation, navigation and settings files."""
 
-    def __init__(self, program, directory, name="pair"):
-        self.program = program
+    def __init__(self, program, directory, name="pair", moving=False):
+        self.program, self.moving = program, moving
         self.paths = [Path(directory) / (name + end) for end in (".obs", ".nav", ".toml")]
         self.log = Path(directory) / (name + ".log")
         self.files = None
@@ -88,9 +93,9 @@ class Pair:
         return run.returncode, run.stdout.decode(errors="replace"), run.stderr.decode(errors="replace")
 
     def solve(self):
-        """The answer of `solve`, and the log it wrote (None where it wrote none)."""
+        """The answer of `solve`, or `track`, and the log it wrote (None where it wrote none)."""
         self.log.unlink(missing_ok=True)
-        answer = self.run("solve", *self.paths, self.log)
+        answer = self.run("track" if self.moving else "solve", *self.paths, self.log)
         return answer, self.log.read_bytes() if self.log.exists() else None
 
     def own_answer(self, log, judge=False):
@@ -98,9 +103,10 @@ class Pair:
         walker = None
         try:
             if not judge and self.files is None:
-                self.files = recheck.Files(*map(str, self.paths))
+                self.files = recheck.Files(*map(str, self.paths), moving=self.moving)
             lines = recheck.read_log(log)
-            walker = recheck.Judge(lines) if judge else Tracing(lines, self.files)
+            tracing = TracingTrack if self.moving else Tracing
+            walker = recheck.Judge(lines) if judge else tracing(lines, self.files)
             return (0, f"yes {walker.verdict()}\n", ""), walker
         except recheck.Ended as end:
             status, line = end.args
@@ -109,7 +115,8 @@ class Pair:
     def compare(self, log, tally, name, judge=False):
         """Compares both answers to a log (bytes)."""
         self.log.write_bytes(log)
-        theirs = self.run("judge", self.log) if judge else self.run("check", *self.paths, self.log)
+        command = "retrack" if self.moving else "check"
+        theirs = self.run("judge", self.log) if judge else self.run(command, *self.paths, self.log)
         own, walker = self.own_answer(log, judge)
         kind, note = self.kind(theirs, own, walker)
         tally.add(kind, theirs)
@@ -130,14 +137,14 @@ class Pair:
                    for answer, place in zip((theirs, own), places)]
         if line not in walker.own_rows:
             return "different", "recheck didn't come to that line"
-        own_spans, row = walker.own_rows[line]
+        own_spans, row, rooms = walker.own_rows[line]
         logged = [tuple(span) for span, _ in zip(recheck.row_spans(row), own_spans)]
         notes = []
         for low, high, their_low, their_high in filter(None, numbers):
             if (low, high) not in logged:
                 return "different", "what 53 calls theirs isn't a span of the line"
             place = logged.index((low, high))
-            mine, room = own_spans[place], self.files.rooms[place]
+            mine, room = own_spans[place], rooms[place]
             if not fits_own(mine, (their_low, their_high), room):
                 return "different", f"own spans {mine} and {(their_low, their_high)}, {'WG'[place > 3]} {room}"
             notes.append(f"log {low} {high} own {mine} printed {(their_low, their_high)}")
@@ -203,7 +210,7 @@ def own_rows(pair, log):
                 room = pair.files.rooms[place]
                 theirs = low + room, high - room
                 if not fits_own(mine, theirs, room):
-                    print(f"  different: own spans of epoch {epoch.index} satellite {satellite}: {mine} and "
+                    print(f"  different: own spans of epoch {epoch.index} satellite {satellite.decode()}: {mine} and "
                           f"{theirs}, {'WG'[place > 3]} {room}")
     return rows, spent or 1.0
 
@@ -291,6 +298,34 @@ def logs(arguments, directory):
         for change, changed in log_changes(log, (pair.files.room, pair.files.bound_room)):
             pair.compare(changed, tally, change)
             pair.compare(changed, tally, change, judge=True)
+        tallies.append(tally)
+        print("answers of the program:", dict(sorted(tally.answers.items())), flush=True)
+    return tallies
+
+
+def tracks(arguments, directory):
+    """Systematic small changes of the logs of tracks, and of their parts, checked by both."""
+    obs, nav, settings = small_files(6, epochs=3)
+    few = re.sub(rb"(?m)(^> .* 30\.999.*)11(.*\n(?:.*\n){3})(?:.*\n){8}", rb"\1 3\2", obs)
+    moved = obs.replace(b"20374273.891", b"20379273.891").replace(b"20466585.553", b"20461585.553")
+    tallies = []
+    for name, files, speed in (("a track", obs, 20_000), ("a receiver that stands", obs, 0),
+                               ("an epoch of few", few, 1), ("a lost epoch", moved, 20_000)):
+        tally = Tally(f"changed: {name}")
+        pair = Pair(arguments.program, directory, moving=True)
+        pair.write((files, nav, settings + b"[motion]\nspeed = %d\n" % speed))
+        answer, log = pair.solve()
+        if answer[0]:
+            print("  different: no log of", name, answer)
+            continue
+        pair.own_answer(log)
+        words = b"epoch", b"few", b"root", b"cut", b"done"
+        for change, changed in log_changes(log, (pair.files.room, speed * 1000), words):
+            pair.compare(changed, tally, change)
+        head, *blocks = re.split(rb"(?m)^(?=epoch|few)", log)
+        for first, second in ((0, 1), (1, 2), (2, 0), (2, 1), (0, 0)):
+            if max(first, second) < len(blocks):
+                pair.compare(head + blocks[first] + blocks[second], tally, f"blocks {first} and {second}")
         tallies.append(tally)
         print("answers of the program:", dict(sorted(tally.answers.items())), flush=True)
     return tallies
@@ -421,6 +456,17 @@ def small_files(bisections, epochs=1):
     return first_epochs(obs, epochs), nav, settings
 
 
+def both_files(bisections):
+    """An epoch of a made receiver of GPS and Galileo, the records of its satellites, and settings."""
+    made = made_two_systems.Made(1)
+    texts = made.texts(1, 0)
+    head, *records = re.split(r"(?m)^(?=[GE])", texts["nav"])
+    seen = set(re.findall(r"(?m)^[GE]\d\d(?=  )", texts["obs"]))
+    records = [record for record in records if record[:3] in seen]
+    settings = re.sub(r"bisections = \d+", f"bisections = {bisections}", made.settings(0, True))
+    return texts["obs"].encode(), (head + "".join(records)).encode(), settings.encode()
+
+
 def with_zenith(settings, low=1900, high=2700):
     """The settings with the troposphere mapped by elevation."""
     return re.sub(rb"(?m)^troposphere = .*$", b"troposphere = [0, 0]\nzenith = [%d, %d]" % (low, high), settings)
@@ -442,6 +488,7 @@ def bases(data):
         [first_epochs((rinex / "javad_2011_crlf.obs").read_bytes(), 1), (rinex / "javad_2011_crlf.nav").read_bytes(),
          settings("javad_2011_single.toml")],
         [*small_files(8)[:2], with_zenith(small_files(8)[2])],
+        list(both_files(8)),
     ]
 
 

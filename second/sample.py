@@ -110,7 +110,8 @@ def mapped(draw, place, point):
 def allowed(draw, record, time, values, dual, point, zenith=None, declared=(0, 0)):
     """One choice of X2, Y2, Z and P that the equations allow at a grid point, and with a zenith span of lo and hi."""
     codes = [draw.of(*recheck.numbers_of(value, 10**6)) for value in values]
-    measured = draw.near(5929 * codes[0] - 3600 * codes[1], 2329) if dual else codes[0]
+    first, second = record.system.weights
+    measured = draw.near(first * codes[0] - second * codes[1], first - second) if dual else codes[0]
     f = draw.fields(record.values)
     tsv = draw.near(time * LIGHT - measured * 10**6, LIGHT)
     dc = tsv - record.toc
@@ -119,10 +120,10 @@ def allowed(draw, record, time, values, dual, point, zenith=None, declared=(0, 0
     base = poly if dual else poly - f["tgd"]
     t0 = draw.near(tsv * 10**4 - base, 10**4)
     tk0 = t0 - (record.week + f["toe"])
-    n = isqrt(recheck.MU * 10**116 // f["root_a"] ** 6) + f["dn"]
+    n = isqrt(record.system.mu * 10**116 // f["root_a"] ** 6) + f["dn"]
     mean = draw.near(f["m0"] * 10**18 + n * tk0, 10**18)
     s0 = draw.sine(draw.anomaly(mean, f["e"]))
-    dtr = draw.near(-4442807633 * f["e"] * f["root_a"] * s0, 10**47)
+    dtr = draw.near(record.system.relativity * f["e"] * f["root_a"] * s0, 10**47)
     dt = base + dtr
     t = draw.near(tsv * 10**4 - dt, 10**4)
     corrected = draw.near(measured * 10**10 + LIGHT * dt, 10**10)
@@ -199,7 +200,8 @@ def main():
                     if not low <= value <= high:
                         outside[number_of] += 1
                         whose = ("own", "the program's")[number_of]
-                        print("outside of", whose, "row:", epoch.index, satellite, names[axis], value, low, high)
+                        print("outside of", whose, "row:", epoch.index, satellite.decode(), names[axis], value, low,
+                              high)
     print("draws outside of own rows", outside[0], "of the program's", outside[1])
     print("least and greatest distance of a draw from the own row's middle, um:", *names, least, greatest)
 

@@ -1,6 +1,7 @@
 #!/usr/bin/env python3
-"""Runs the second checker on the logs of the repository: python3 second/test_recheck.py. The last line is
-`second checker: N passed, M failed`. Exit status: 0, or 1 where one failed.
+"""Runs the second checker on the logs of the repository: python3 second/test_recheck.py [PROGRAM]. The last line is
+`second checker: N passed, M failed`. Exit status: 0, or 1 where one failed. With a PROGRAM, the proved one, it is asked
+by `check`, `retrack` and `judge` in the checker's place, and the last line begins with `program`.
 
 The verdicts are those of `gpscover check` and `gpscover judge`, or found by hand from docs/LOG.md; so are the numbers
 of the mapping, from docs/EQUATIONS.md.
@@ -19,12 +20,24 @@ TOP = Path(__file__).resolve().parent.parent
 DATA = TOP / "crates/gpscover/data"
 FILES = [DATA / name for name in ("receiver.obs", "receiver.nav", "settings.toml")]
 LOG = DATA / "receiver.log"
-WRONG_WORDS = 2, "usage: recheck.py OBS NAV SETTINGS LOG [--from N] [--to N], or recheck.py LOG\n"
+WRONG_WORDS = 2, "usage: recheck.py [--track] OBS NAV SETTINGS LOG [--from N] [--to N], or recheck.py LOG\n"
 
 
 def verdict(*words):
     """The status and the line of the second checker on these words."""
-    ran = subprocess.run([sys.executable, TOP / "second/recheck.py", *words], capture_output=True, text=True)
+    return answer(sys.executable, TOP / "second/recheck.py", *words)
+
+
+def program_verdict(program, words):
+    """Those of the proved program."""
+    if words[0] == "--track":
+        return answer(program, "retrack", *words[1:])
+    return answer(program, "judge" if len(words) == 1 else "check", *words)
+
+
+def answer(*words):
+    """The status and the line of a command."""
+    ran = subprocess.run(words, capture_output=True, text=True)
     return ran.returncode, ran.stdout + ran.stderr
 
 
@@ -74,9 +87,10 @@ def selection_cases(folder):
 def wrong_word_cases():
     """(words, status and line) of wrong command lines."""
     options = [("--from", number) for number in ("0", "02", "+2", "-2", "2.0", "200001", "x", "")]
-    options += [("--from",), ("--from", "1", "--from", "2"), ("--till", "3"), ("--to", "3", "x")]
-    return [((*FILES, LOG, *option), WRONG_WORDS) for option in options] + [
-        (("--from", "2", *FILES, LOG), WRONG_WORDS), ((LOG, "--from", "2"), WRONG_WORDS), ((), WRONG_WORDS)]
+    options += [("--from",), ("--from", "1", "--from", "2"), ("--till", "3"), ("--to", "3", "x"), ("--track",)]
+    return [((*FILES, LOG, *option), WRONG_WORDS) for option in options] + [(words, WRONG_WORDS) for words in (
+        ("--from", "2", *FILES, LOG), (LOG, "--from", "2"), (), ("--track",), ("--track", LOG),
+        ("--track", "--track", *FILES, LOG))]
 
 
 # Five satellites of which one may fail: four of docs/LOG.md's worked log, with errors of a metre, and one below. At
@@ -294,7 +308,7 @@ def drawn_numbers(files, epoch, satellite, used):
     row, codes, settings = files.row(epoch, satellite, used), epoch.satellites[satellite], files.settings
     outside = []
     for number, signs in enumerate(product((0, 1), repeat=3)):
-        draw = sample.Drawer(("low", "high", "any", "mixed")[number % 4], 100 * number + satellite)
+        draw = sample.Drawer(("low", "high", "any", "mixed")[number % 4], 100 * number + int(satellite[1:]))
         point = [files.box[axis + 3 * sign] for axis, sign in enumerate(signs)]
         numbers = sample.allowed(draw, used[1], epoch.time, codes, settings.dual, point, settings.zenith,
                                  settings.bounds_of(satellite))
@@ -310,7 +324,7 @@ def drawn_cases(folder):
         for satellite, used in files.satellites(files.epochs[0]):
             if used[0] == "sat":
                 outside = drawn_numbers(files, files.epochs[0], satellite, used)
-                yield f"drawn numbers of G{satellite:02d}, half a side {half} mm", outside, []
+                yield f"drawn numbers of {satellite.decode()}, half a side {half} mm", outside, []
 
 
 def value_cases(folder):
@@ -442,15 +456,236 @@ def pair_settings_cases(folder):
     yield (*FILES, other), differs
 
 
+# By the mode and what stands behind the other tables of the settings: the first fault.
+GALILEO = '[galileo]\ncodes = ["C1C", "C5Q"]\noffset = [-3, 5]\n'
+BOTH_CASES = (
+    ("dual", GALILEO, None),
+    ("dual", GALILEO.replace('"C1C", ', ""), "33 Outside galileo.codes"),
+    ("dual", GALILEO.replace("C5Q", "C2W"), "33 Outside galileo.codes"),
+    ("dual", GALILEO.replace("C5Q", "C5q"), "33 Outside galileo.codes"),
+    ("dual", GALILEO.replace('["C1C", "C5Q"]', "[1, 5]"), "32 WrongKind galileo.codes"),
+    ("dual", "[galileo]\noffset = [1, 0]\n", "31 Missing galileo.codes"),
+    ("dual", GALILEO.replace("offset = [-3, 5]", ""), "31 Missing galileo.offset"),
+    ("dual", GALILEO.replace("-3", "-1000000").replace("5]", "1000000]"), None),
+    ("dual", GALILEO.replace("-3", "-1000001"), "33 Outside galileo.offset"),
+    ("dual", GALILEO.replace("-3", "6"), "33 Outside galileo.offset"),
+    ("dual", GALILEO + "sign = 1\n", "34 Unknown galileo.sign"),
+    ("dual", GALILEO + "[satellite]\nE99 = [0, 1]\nG01 = [0, 1]\n", None),
+    ("dual", GALILEO + "[satellite]\nG01 = [1, 0]\nE99 = [1, 0]\n", "33 Outside satellite.E99"),
+    ("dual", GALILEO + "[satellite]\nE00 = [0, 1]\n", "34 Unknown satellite.E00"),
+    ("dual", GALILEO + "[satellite]\nR01 = [0, 1]\n", "34 Unknown satellite.R01"),
+    ("dual", "[satellite]\nE01 = [1, 0]\n", "34 Unknown satellite.E01"),
+    ("single", GALILEO, "33 Outside galileo.codes"),
+    ("single", "[galileo]\n", "33 Outside galileo.codes"),
+    ("single", "[galileo]\n[motion]\nspeed = -1\n", "33 Outside galileo.codes"),
+    ("dual", GALILEO + "[motion]\nspeed = -1\n[satellite]\nE01 = [1, 0]\n", "33 Outside motion.speed"),
+    ("dual", "[motion]\nspeed = 1000000\n", None),
+    ("dual", "[motion]\nspeed = 1000001\n", "33 Outside motion.speed"),
+    ("dual", "[motion]\n", None),
+)
+# What the second field of line 5 of a Galileo record says, and whether the record is kept: bits 1 and 8.
+SOURCES = (("258", True), ("259", True), ("262", True), ("1023", True), ("1282", False), ("2", False), ("256", False),
+           ("257", False), ("513", False), ("516", False), ("517", False), ("770", True), ("0", False), ("-258", False),
+           ("258.5", False), ("2.58E2", True))
+
+
+def both_values():
+    """(what, found, wanted) of settings with Galileo, of kept records, and of the two codes' combination."""
+    single = SETTINGS.partition("[satellite]")[0]
+    dual = single.replace('mode = "single"', 'mode = "dual"').replace('["C1C"]', '["C1C", "C2W"]')
+    for mode, more, wanted in BOTH_CASES:
+        try:
+            found = recheck.Settings(((dual if mode == "dual" else single) + more).encode()) and None
+        except recheck.Ended as end:
+            found = end.args[1].removeprefix("settings ")
+        yield f"{mode} {more!r}", found, wanted
+    settings = recheck.Settings((dual + GALILEO + "[satellite]\nE05 = [-7, 11]\n").encode())
+    common = settings.bounds
+    for name, own in ((b"G05", [0, 0]), (b"E06", [-3000, 5000]), (b"E05", [-10_000, 16_000])):
+        yield f"bounds of {name}", settings.bounds_of(name), [end + more for end, more in zip(common, own)]
+    galileo = recheck.SYSTEMS[b"E"]
+    for source, wanted in SOURCES:
+        record = recheck.Record(galileo, 0, {"toe": 0, "source": recheck.decimal(source.encode(), exponent=True)})
+        yield f"source {source}", record.is_kept(), wanted
+    yield "a record of GPS", recheck.Record(recheck.SYSTEMS[b"G"], 0, {"toe": 0}).is_kept(), True
+    # 23716 * 20000000 - 13225 * 20000005, over 10491, is 19999993.6969783..
+    measured = recheck.pseudorange([recheck.Fraction(20_000_000), recheck.Fraction(20_000_005)], galileo.weights)
+    yield "a combination", int(measured * 10**6), 19_999_993_696_978
+    # The root of mu * 10^116 over the sixth power of 5440.6 * 10^12, and by the mu of GPS.
+    for system, wanted in ((galileo, 1_239_733_955_228_326_673), (recheck.SYSTEMS[b"G"], 1_239_734_045_735_644_270)):
+        yield "a mean motion", recheck.isqrt(system.mu * 10**116 // 5_440_600_000_000_000**6), wanted
+
+
+# The track of a receiver in a search box of 2 km along x and 40 m along y and z. In the first epoch all beyond 400 m
+# along x is cut off: over each of these slabs the distances of G14 and G22 change by less than 390 m and 40 m, and
+# those of G12, G05, G15 and G26 by 410 m and more the other way, of which one satellite may fail. Later epochs keep
+# their whole roots. The epochs are a second apart, and the receiver makes at most 20 m/s, which is 20000000 um.
+MIDDLE = (-3869309827800, 3436565477600, 3717365893700)  # the header's position
+ALL_OFFSETS = "-200000000000000 200000000000000"
+KEEP = (f"edge 0 {ALL_OFFSETS}", "done 0")
+CUT = ("cut 0 0 -3869709827800", "cut 0 1 -3868909827800", *KEEP)
+LOSE = ("out 0", "done 0")
+MOVED = {"G18": 5_000_000_000, "G09": -5_000_000_000}  # um: with two of nine so far off no offset is left for eight
+MOVED_CODES = (("G18  20374456.294", "G18  20379456.294"), ("G09  20466876.082", "G09  20461876.082"))
+EPOCH_2 = "> 2008 05 26 05 59 30.9990000  0 11"
+
+
+def root_line(low, high, along=20):
+    """A root that reaches so many metres from the middle down and up along x, and up and down along y and z."""
+    ends = [part * 10**6 for part in (-low, -along, -along, high, along, along)]
+    return " ".join(["root", *(str(middle + end) for middle, end in zip(2 * MIDDLE, ends))])
+
+
+def track_block(index, root, steps, moved=()):
+    """The lines of an epoch, its rows wider by a metre than those of the receiver's log in a box of 400 m."""
+    epoch = re.split(r"(?m)^(?=epoch)", LOG.read_text())[index].splitlines()
+    lines = epoch[:1]
+    for line in epoch[1:10]:
+        _, name, *numbers = line.split(" ")
+        numbers = [int(number) + (-10**6, 10**6)[place % 2] * (place < 8) for place, number in enumerate(numbers)]
+        if name in moved:
+            numbers[6:8] = [number + moved[name] for number in numbers[6:8]]
+        lines.append(" ".join(["sat", name, *map(str, numbers)]))
+    return [*lines, root, *steps]
+
+
+def track_files(folder, name, obs=lambda text: text, speed="[motion]\nspeed = 20000\n"):
+    """The receiver's files, with a speed behind the settings."""
+    settings = re.sub(r"(?m)^half = .*$", "half = [1000000, 20000, 20000]", FILES[2].read_text()) + speed
+    return [written(folder, f"{name}.obs", obs(FILES[0].read_text())), FILES[1],
+            written(folder, f"{name}.toml", settings)]
+
+
+def moved_codes(text):
+    """The observations with two codes of the third epoch 5 km off."""
+    for old, new in MOVED_CODES:
+        assert text.count(old) == 1
+        text = text.replace(old, new)
+    return text
+
+
+def three_left(text):
+    """The observations with three satellites in the second epoch, G18, G09 and G12."""
+    before, rest = text.split(EPOCH_2 + " " * 21 + "\n")
+    lines = rest.splitlines(keepends=True)
+    return "".join([before, EPOCH_2[:-2] + " 3\n", *lines[:3], *lines[11:]])
+
+
+def track_cases(folder):
+    """(words, status and line) of checks of a track: tests 51 and 55, and the key of the speed."""
+    first, second, third, fourth = (
+        track_block(1, root_line(1000, 1000), CUT), track_block(2, root_line(420, 420), KEEP),
+        track_block(3, root_line(440, 440), KEEP), track_block(4, root_line(460, 460), KEEP))
+    begun, lost = [first, second], track_block(3, root_line(440, 440), LOSE, MOVED)
+    few = ["few 2 895816770999000000000 3"]
+    plain, off = track_files(folder, "track"), track_files(folder, "off", moved_codes)
+    left = track_files(folder, "left", three_left)
+    still = track_files(folder, "still", speed="[motion]\nspeed = 0\n")
+    for number, (paths, blocks, wanted, *options) in enumerate((
+            (plain, [*begun, third, fourth], "yes 4"),
+            # A root too small or too large by a um, one that grew on one side alone, or none at all.
+            (plain, [first, track_block(2, root_line(420, 420)[:-3] + "699", KEEP)], "no 55 RootDiffers line 28"),
+            (plain, [first, track_block(2, root_line(420, 420)[:-3] + "701", KEEP)], "no 55 RootDiffers line 28"),
+            (plain, [first, track_block(2, root_line(420, 420, 19), KEEP)], "no 55 RootDiffers line 28"),
+            (plain, [first, track_block(2, root_line(420, 400), KEEP)], "no 55 RootDiffers line 28"),
+            (plain, [first, track_block(2, root_line(400, 420), KEEP)], "no 55 RootDiffers line 28"),
+            (plain, [first, track_block(2, root_line(400, 400), KEEP)], "no 55 RootDiffers line 28"),
+            # Beyond the search box along y and z; the search box itself, as `solve` has it.
+            (plain, [first, track_block(2, root_line(420, 420, 40), KEEP)], "no 55 RootDiffers line 28"),
+            (plain, [first, track_block(2, root_line(1000, 1000), KEEP)], "no 55 RootDiffers line 28"),
+            (plain, [track_block(1, root_line(420, 420), KEEP)], "no 55 RootDiffers line 13"),
+            # The roots of the epoch before, and of the one behind.
+            (plain, [*begun, track_block(3, root_line(420, 420), KEEP)], "no 55 RootDiffers line 41"),
+            (plain, [*begun, track_block(3, root_line(460, 460), KEEP)], "no 55 RootDiffers line 41"),
+            # Whole epochs are missing.
+            (plain, begun, "no 51 EpochDiffers line 31"),
+            (plain, [first, third, fourth], "no 51 EpochDiffers line 18"),
+            (plain, [], "no 51 EpochDiffers line 3"),
+            # A part begins with the search box again, and ends where it is told to.
+            (plain, begun, "yes 2", "--to", "2"),
+            (plain, [track_block(2, root_line(1000, 1000), CUT), track_block(3, root_line(420, 420), KEEP)], "yes 2",
+             "--from", "2", "--to", "3"),
+            (plain, [second, third], "no 55 RootDiffers line 13", "--from", "2", "--to", "3"),
+            # The third epoch keeps no box, which ends the track.
+            (off, [*begun, lost], "yes 2"),
+            (off, [*begun, lost], "yes 2", "--to", "3"),
+            (off, [*begun, lost, fourth], "no 51 EpochDiffers line 44"),
+            (off, [*begun, lost, track_block(4, root_line(1000, 1000), KEEP)], "no 51 EpochDiffers line 44"),
+            (off, [*begun, lost, ["few 4 895816772999000000000 0"]], "no 51 EpochDiffers line 44"),
+            (plain, [*begun, track_block(3, root_line(440, 440), LOSE)], "no 58 OutNotShown line 42"),
+            # Over an epoch of few satellites the root grows on, and one without boxes ends no track.
+            (left, [first, few, third, fourth], "yes 3"),
+            (left, [first, few, track_block(3, root_line(420, 420), KEEP), fourth], "no 55 RootDiffers line 29"),
+            (left, [few, track_block(3, root_line(1000, 1000), CUT), track_block(4, root_line(420, 420), KEEP)],
+             "yes 2", "--from", "2"),
+            (left, [few, ["few 3 895816771999000000000 3"]], "no 52 SatelliteDiffers line 4", "--from", "2"),
+            (left, [few], "yes 0", "--from", "2", "--to", "2"),
+            # A receiver that stands still.
+            (still, [first, track_block(2, root_line(400, 400), KEEP)], "yes 2", "--to", "2"),
+            (still, begun, "no 55 RootDiffers line 28", "--to", "2"))):
+        text = "\n".join(["gpscover 1", "rules 1 12 1000000", *(line for block in blocks for line in block), ""])
+        log = written(folder, f"track{number}.log", text)
+        yield ("--track", *paths, log, *options), (0 if wanted.startswith("yes") else 1, wanted)
+    log = written(folder, "plain.log", "\n".join(["gpscover 1", "rules 1 12 1000000", *first, *second, ""]))
+    yield (*plain, log, "--to", "2"), (1, "no 55 RootDiffers line 28")  # as `check`
+    yield ("--track", *FILES, LOG), (3, "settings 31 Missing motion.speed\n")
+
+
+def speed_cases(folder):
+    """(words, status and line) of the table `motion`, with and without `--track`."""
+    few = written(folder, "speed.log", "gpscover 1\nrules 1 4096 1000000\nfew 1 1388620800070000000000 1\nskip G02 1\n")
+    missing, kind, range_ = "31 Missing motion.speed", "32 WrongKind motion.speed", "33 Outside motion.speed"
+    for number, (text, moving, plain) in enumerate((
+            ("", missing, YES_0), ("[motion]\n", missing, YES_0),
+            ("[motion]\nspeed = 0\n", YES_0, YES_0), ("[motion]\nspeed = 1000000\n", YES_0, YES_0),
+            ("[motion]\nspeed = 1000001\n", range_, range_), ("[motion]\nspeed = -1\n", range_, range_),
+            ("[motion]\nspeed = 20.0\n", kind, kind), ("[motion]\nspeed = true\n", kind, kind),
+            ("[motion]\nspeed = [20]\n", kind, kind), ("[[motion]]\nspeed = 20\n", kind, kind),
+            # An unknown name is told before a speed that is missing.
+            ("[motion]\nsped = 20\n", "34 Unknown motion.sped", "34 Unknown motion.sped"))):
+        paths = zenith_paths(folder, SETTINGS + text, f"speed{number}")
+        for words, wanted in ((("--track", *paths, few), moving), ((*paths, few), plain)):
+            yield words, wanted if isinstance(wanted, tuple) else (3, f"settings {wanted}\n")
+    # The speed is tested behind `zenith`, and before the satellites.
+    for number, (old, new, wanted) in enumerate((
+            ("[2000, 2500]", "1", "32 WrongKind bounds.zenith"), ("[-7, 9]", "1", kind))):
+        paths = zenith_paths(folder, SETTINGS.replace(old, new) + "[motion]\nspeed = true\n", f"motion{number}")
+        yield (*paths, few), (3, f"settings {wanted}\n")
+
+
+def tube_values(folder):
+    """(what, found, wanted) of how far a receiver comes, of boxes that are grown by it, and of what hangs on a root."""
+    second = recheck.SECOND
+    for speed, start, end, wanted in (
+            (1000, 0, 30 * second, 30_000_000), (1, 0, 1, 1), (20_000, 5 * second, 4 * second, 20_000_000),
+            (0, 0, second, 0), (1000, 7, 7, 0), (1, 0, 10**9, 1), (1, 0, 10**9 + 1, 2), (1, 10**9 + 1, 0, 2)):
+        yield f"reach at {speed} mm/s from {start} to {end}", recheck.reach(speed, start, end), wanted
+    box, search = [-1000000, -900000, -900000, 1000000, 900000, 900000], [-50000000] * 3 + [50000000] * 3
+    for length, wanted in ((0, box), (30_000_000, [-31000000, -30900000, -30900000, 31000000, 30900000, 30900000]),
+                           (49_050_000, [-50000000, -49950000, -49950000, 50000000, 49950000, 49950000]),
+                           (10**12, search)):
+        yield f"a box grown by {length}", recheck.grown(box, length, search), wanted
+    # W and G of a root whose longest side is 4 km, with 2.5 m at the zenith; and one that comes within 6,000 km.
+    files = recheck.Files(*zenith_paths(folder))
+    for low, near in ((6 * 10**12, False), (6 * 10**12 - 1, True)):
+        files.move_to([low, 0, -10**9, low + 7, 5, 3 * 10**9])
+        found = files.room, files.bound_room, files.low_place
+        yield f"a root from x = {low}", found, (102_000, 3_335_333, near)
+    yield "hull", recheck.hull([[0, 5, -3, 1, 6, -2], [-4, 5, -9, -3, 7, -8]]), [-4, 5, -9, 1, 7, -2]
+
+
 def main():
+    program = sys.argv[1] if sys.argv[1:] else None
     with tempfile.TemporaryDirectory() as folder:
         cases = [*verdict_cases(folder), *sure_cases(folder), *zenith_cases(folder), *mapped_cases(folder),
-                 *pair_cases(folder), *pair_settings_cases(folder),
+                 *pair_cases(folder), *pair_settings_cases(folder), *track_cases(folder), *speed_cases(folder),
                  *selection_cases(folder), *wrong_word_cases()]
-        values = [*value_cases(folder), *drawn_cases(folder)]
+        values = [*value_cases(folder), *drawn_cases(folder), *both_values(), *tube_values(folder)]
+        if program:  # which has other words and no calls
+            cases, values = [case for case in cases if case[1] != WRONG_WORDS], []
         failed = 0
         for words, wanted in cases:
-            status, line = found = verdict(*words)
+            status, line = found = program_verdict(program, words) if program else verdict(*words)
             if wanted[1].startswith("no 53"):  # the own span behind it isn't found by hand
                 found = status, line[:len(wanted[1])]
             if found not in (wanted, (wanted[0], wanted[1] + "\n")):
@@ -460,7 +695,7 @@ def main():
             if found != wanted:
                 failed += 1
                 print(f"{what}: {found} and not {wanted}")
-    print(f"second checker: {len(cases) + len(values) - failed} passed, {failed} failed")
+    print(f"{'program' if program else 'second checker'}: {len(cases) + len(values) - failed} passed, {failed} failed")
     return 1 if failed else 0
 
 
