@@ -8,16 +8,17 @@ LOG is what `gpscover solve` writes of the files with `bisections = 0`: its line
 a rough place of the receiver in the earth-fixed frame in metres, good to some 10 km. It lies in the search box of LOG;
 one outside is refused, since one of the two is wrong then. Over all epochs of LOG each satellite gets the least and the
 greatest bound between the elevations at which it is seen. A satellite that LOG lacks gets those between --mask and the
-zenith, so that none is without a bound. One that is seen below --mask, where the mapping doesn't hold, is opened to 1 km,
-so that it limits nothing.
+zenith, so that none is without a bound; Galileo satellites get bounds where LOG has rows of some. One that is seen below
+--mask, where the mapping doesn't hold, is opened to 1 km, so that it limits nothing.
 
 A bound in metres at the elevation E is the sum of
   troposphere  zenith delay times m(E) = 1.001 / sqrt(0.002001 + sin(E)^2), give or take a part of it for the mapping
                (Black and Eisner, 1984; the mapping of RTCA DO-229 above 4 degrees)
   ionosphere   single mode: zenith delay on L1 times the obliquity of a thin shell at 350 km, as in RTCA DO-229;
                dual mode: what the combination leaves of it
-  receiver     noise and multipath of a code; in dual mode 4.09 times that, since P = 2.546 P1 - 1.546 P2;
-               it grows from the elevation --rise down to --horizon times as much at the horizon
+  receiver     noise and multipath of a code; in dual mode 4.09 times that, since P = 2.546 P1 - 1.546 P2 (for Galileo
+               on E1 and E5a 3.53 times would do); it grows from the elevation --rise down to --horizon times as much at
+               the horizon
   orbit_clock  the error of the broadcast orbit and clock
 The parts that don't depend on the elevation are printed in [bounds], the rest in [satellite]. With --zenith the
 troposphere isn't mapped here: its delay at the zenith, with the part for the mapping, is printed in [bounds] as
@@ -126,8 +127,8 @@ class Stretch:
     def add(self, epoch, place):
         """Adds an epoch, with a rough place of the receiver."""
         self.last = epoch.index
-        if epoch.root is not None:
-            refuse_stranger(epoch.root, place)
+        if epoch.search is not None:
+            refuse_stranger(epoch.search, place)
         for row in epoch.rows:
             middle = [(low + high) / 2 / UM_PER_M for low, high in row.place]
             angle = elevation(place, middle)
@@ -197,13 +198,18 @@ def reason_lines(args):
     yield from (f"# {line}" for line in more)
 
 
+def satellite_names(seen):
+    """The satellites of GPS, and where some of Galileo are seen also those."""
+    counts = {"G": 32} | ({"E": 36} if any(name[0] == "E" for name in seen) else {})
+    return [f"{letter}{number:02}" for letter, count in counts.items() for number in range(1, count + 1)]
+
+
 def satellite_lines(seen, args):
-    """The table [satellite]: every GPS satellite, with the elevations that its bound holds for."""
+    """The table [satellite]: every satellite, with the elevations that its bound holds for."""
     yield "[satellite]"
     yield from reason_lines(args)
     anywhere = (math.radians(args.mask), math.pi / 2)
-    for number in range(1, 33):
-        name = f"G{number:02}"
+    for name in satellite_names(seen):
         low, high = seen.get(name, anywhere)
         where = f"{math.degrees(low):.1f} to {math.degrees(high):.1f} degrees"
         if name not in seen:

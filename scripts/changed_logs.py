@@ -67,8 +67,8 @@ def with_wide_bounds(settings):
 
 def stepped(word, by):
     """The word with its number changed by so much; the number of a satellite keeps two digits."""
-    if word[0] == "G":
-        return f"G{int(word[1:]) + by:02}"
+    if word[0] in "GE":
+        return f"{word[0]}{int(word[1:]) + by:02}"
     return str(int(word) + by)
 
 

@@ -74,6 +74,8 @@ class Epoch:
     rows        what the log has of each usable satellite, as Row
     skips       what it has of the others, as text: (satellite, the reason's number, which is a key of SKIPS, the field's or "")
     root        the search box, or None
+    search      in a log of `track` the search box of the first epoch, which is that of the settings; else the root
+    moves       whether the log is one of `track`, as far as the search boxes up to here tell
     kept        the boxes where a position may fit, as Kept
     outs        how many `out` lines there are
     splits      how many boxes were split
@@ -87,6 +89,8 @@ class Epoch:
     rows: list = field(default_factory=list)
     skips: list = field(default_factory=list)
     root: tuple = None
+    search: tuple = None
+    moves: bool = False
     kept: list = field(default_factory=list)
     outs: int = 0
     splits: int = 0
@@ -167,6 +171,23 @@ def read_block(words, outliers, lines):
     return epoch, None
 
 
+class Searches:
+    """The search boxes of a log's epochs. Where they lie in the first one and differ from it, the log is one of `track`."""
+
+    def __init__(self):
+        self.first, self.moved = None, False
+
+    def add(self, epoch):
+        """Tells an epoch with a search box what it is in the log."""
+        root = epoch.root
+        self.first = self.first or root
+        within = all(a <= b for a, b in zip(self.first[:3], root[:3])) and all(
+            a >= b for a, b in zip(self.first[3:], root[3:]))
+        epoch.search = self.first if within else root
+        self.moved = self.moved or epoch.search != root
+        epoch.moves = self.moved
+
+
 def blocks(lines):
     """The epochs of a log's lines."""
     if next(lines, None) not in HEADS:
@@ -174,12 +195,14 @@ def blocks(lines):
     rules = next(lines, "").split(" ")
     if rules[0] != "rules":
         raise ValueError
-    line = next(lines, None)
+    line, searches = next(lines, None), Searches()
     while line is not None:
         words = line.split(" ")
         if words[0] not in ("epoch", "few"):
             raise ValueError
         epoch, line = read_block(words, int(rules[1]), lines)
+        if not epoch.few:
+            searches.add(epoch)
         yield epoch
 
 

@@ -76,11 +76,11 @@ class Drawn:
             widths.append(((high - low) / room, high - low, room))
             if not low <= number <= high or high - low > room:
                 self.outside += 1
-                print("outside or too wide:", satellite, name, number, low, high, room, record.values)
+                print("outside or too wide:", satellite.decode(), name, number, low, high, room, record.values)
         distance = isqrt(sum(number**2 for number in numbers[:3]))
         if not LEAST <= distance <= GREATEST:
             self.outside += 1
-            print("distance:", satellite, distance, record.values)
+            print("distance:", satellite.decode(), distance, record.values)
         self.distances.append(distance)
         self.eccentricities.append(record.values["e"])
 

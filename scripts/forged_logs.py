@@ -311,7 +311,8 @@ WRONG_FIELDS = {
     24: ("done", "done -1", "done 200001", "done 3 ", "done 03", "done 3\r"),
 }
 # Numbers at the ends of their ranges are none of these.
-WIDEST = {3: "few 1 3999999999999999999999 0", 6: "epoch 200000 0 5", 20: "edge 4 -200000000000000 200000000000000"}
+WIDEST = {3: "few 1 3999999999999999999999 0", 4: "skip E99 6 20", 6: "epoch 200000 0 5",
+          20: "edge 4 -200000000000000 200000000000000"}
 
 
 def refused_logs():

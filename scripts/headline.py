@@ -52,11 +52,14 @@ LINKS = (
     (
         "The yes",
         "The line is `yes` and the number of boxes of an accepted log. Accepted is a fact on what was read: observations,"
-        " records, settings and log.",
+        " records, settings and log. Of satellites records and settings say what equations and bounds leave of each, those of"
+        " Galileo among them where the settings have its codes.",
         (
             ("crates/cover_run/specs/Checking.antt", "SaysAccepted"),
             ("crates/cover_run/specs/Checking.antt", "Accepts"),
-            ("crates/paving_log_check/specs/GpsChecked.antt", "IsGpsAccepted"),
+            ("crates/cover_run/specs/Solving.antt", "meaning_of"),
+            ("crates/sat_rows/specs/Sources.antt", "both_meaning"),
+            ("crates/paving_log_check/specs/GpsChecked.antt", "IsFileAccepted"),
         ),
     ),
     (
@@ -104,8 +107,8 @@ LINKS = (
     (
         "What the equations allow",
         "One whole number for each printed equation of IS-GPS-200, from the codes to the range. The equations themselves are"
-        " in `Pseudorange`, `ClockChain`, `MeanMotion`, `OrbitChain` and `Turn` of `crates/gnss_model/specs`, and which"
-        " satellites are usable in `crates/usable_sats/specs/Usability.antt`.",
+        " in `Pseudorange`, `ClockChain`, `MeanMotion`, `OrbitChain` and `Turn` of `crates/gnss_model/specs`, in what Galileo's"
+        " differ in `Systems` there, and which satellites are usable in `crates/usable_sats/specs/Usability.antt`.",
         (("crates/sat_rows/specs/Chains.antt", "IsChainAt"), ("crates/gnss_model/specs/ChainValues.antt", "ChainValue")),
     ),
     (

@@ -70,8 +70,8 @@ def is_held(epoch, point):
 
 
 def in_search_box(epoch, point):
-    """Whether a point in m is in the search box of an epoch."""
-    return all(low <= end <= high for low, end, high in zip(epoch.root, in_um(point), epoch.root[3:]))
+    """Whether a point in m is in the search box of an epoch; of a track it is that of the settings."""
+    return all(low <= end <= high for low, end, high in zip(epoch.search, in_um(point), epoch.search[3:]))
 
 
 def farthest_along_ground(centres, halves, east, north):

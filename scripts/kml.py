@@ -21,6 +21,7 @@ STYLES = {  # the colour of a line and of an area as alpha, blue, green, red
     "": ("whole", "ff358254", "66358254"),
     "reaches": ("cut", "ffd46bb3", "66d46bb3"),
     "empty": ("empty", "ff0000c0", "660000c0"),
+    "lost": ("empty", "ff0000c0", "660000c0"),
     "few": ("few", "ff7f7f7f", "667f7f7f"),
 }
 TAIL = "</Document></kml>\n"
@@ -31,7 +32,7 @@ def head():
     styles = "".join(
         f'<Style id="{name}"><LineStyle><color>{line}</color><width>2</width></LineStyle>'
         f"<PolyStyle><color>{area}</color></PolyStyle></Style>\n"
-        for name, line, area in STYLES.values()
+        for name, line, area in dict.fromkeys(STYLES.values())
     )
     return f'<?xml version="1.0" encoding="UTF-8"?>\n<kml xmlns="http://www.opengis.net/kml/2.2"><Document>\n{styles}'
 

@@ -1,14 +1,16 @@
-"""Where a GPS satellite is and what its clock shows, by its broadcast ephemeris, in floating-point numbers.
+"""Where a satellite of GPS or Galileo is and what its clock shows, by its broadcast ephemeris, in floating-point numbers.
 
-The user algorithm is that of IS-GPS-200, section 20.3.3.3.3.1 and table 20-IV. Lengths are in m, times in s, angles in
-rad; places are in the frame that turns with the earth.
+The user algorithm is that of IS-GPS-200, section 20.3.3.3.3.1 and table 20-IV, which is that of the Galileo OS SIS ICD but
+for two constants. Lengths are in m, times in s, angles in rad; places are in the frame that turns with the earth.
 """
 import datetime
 import math
 
 LIGHT = 299792458.0  # m/s
-# Of the earth's mass in m^3/s^2 and its turn in rad/s, and of a clock on an ellipse in s/m^(1/2).
-MASS, TURN, RELATIVITY = 3.986005e14, 7.2921151467e-5, -4.442807633e-10
+TURN = 7.2921151467e-5  # of the earth, rad/s
+# By the letter of the system: of the earth's mass in m^3/s^2, and of a clock on an ellipse in s/m^(1/2).
+MASS = {"G": 3.986005e14, "E": 3.986004418e14}
+RELATIVITY = {"G": -4.442807633e-10, "E": -4.442807309e-10}
 WEEK = 604800
 EPOCH = datetime.datetime(1980, 1, 6)
 
@@ -25,26 +27,30 @@ def turned(place, seconds):
 
 
 class Record:
-    """A broadcast ephemeris, of the eight lines of its record. Its times are seconds of GPS time."""
+    """A broadcast ephemeris, of the eight lines of its record. Its times are seconds of GPS time.
 
-    def __init__(self, text):
+    `dual` is for a user of two codes, to whom a clock shows no group delay.
+    """
+
+    def __init__(self, text, dual=False):
         first, *rest = text.splitlines()
         date = datetime.datetime(*map(int, first[4:23].split()))
         self.satellite, self.toc = first[:3], int((date - EPOCH).total_seconds())
         self.clock = [number(first[at : at + 19]) for at in (23, 42, 61)]
         lines = [[number(line[at : at + 19]) for at in (4, 23, 42, 61)] for line in rest]
         (_, crs, motion, self.mean), (cuc, self.ratio, cus, self.root), (toe, cic, node, cis) = lines[:3]
-        (self.tilt, crc, self.perigee, node_rate), (self.tilt_rate, *_), (_, health, self.delay, _) = lines[3:6]
+        (self.tilt, crc, self.perigee, node_rate), (self.tilt_rate, *_), (_, health, delay, _) = lines[3:6]
+        self.delay = 0 if dual else delay
         # The amounts that go with the sine and the cosine of twice the angle from the node.
         self.waves = (cus, cuc), (crs, crc), (cis, cic)
         self.axis, self.healthy = self.root**2, health == 0
-        self.motion = math.sqrt(MASS / self.axis**3) + motion
+        self.motion = math.sqrt(MASS[text[0]] / self.axis**3) + motion
         self.node, self.node_rate = node - TURN * toe, node_rate - TURN
         # The week of the time of ephemeris is the one that is nearest to that of the clock.
         self.toe = self.toc + (toe - self.toc + WEEK / 2) % WEEK - WEEK / 2
 
     def after(self, since):
-        """The place so long after the time of ephemeris, and how far the clock is ahead for a user of one code."""
+        """The place so long after the time of ephemeris, and how far the clock is ahead."""
         mean = self.mean + self.motion * since
         anomaly = mean
         for _ in range(12):
@@ -60,7 +66,7 @@ class Record:
         place = (x * math.cos(node) - flat * math.sin(node), x * math.sin(node) + flat * math.cos(node), z)
         since += self.toe - self.toc
         drift = self.clock[0] + (self.clock[1] + self.clock[2] * since) * since
-        return place, drift + RELATIVITY * self.ratio * self.root * sine - self.delay
+        return place, drift + RELATIVITY[self.satellite[0]] * self.ratio * self.root * sine - self.delay
 
     def at(self, time):
         """The same at a time of GPS."""

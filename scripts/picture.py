@@ -3,6 +3,7 @@
 
 usage: picture.py region LOG OUT [--epoch N] [--place X Y Z] [--places FILE] [--note TEXT]
        picture.py time LOG OUT [--places FILE] [--moving] [--note TEXT]
+       picture.py track LOG OUT [--places FILE] [--beside LOG] [--note TEXT]
        picture.py integrity LOG OUT --places FILE [--limit H V] [--note TEXT]
 
 `region` draws one epoch (1) from above, east and north, and from the side, east and up, at one scale: the kept boxes as
@@ -13,6 +14,10 @@ and the origin; without one the origin is the middle of the kept boxes. The titl
 `time` draws how far the region reaches along east, north and up in each epoch, beside a list of places. Epochs whose
 region reaches the search box, and those without a region, have colours of their own. The origin is the first place, with
 --moving the place of each epoch, and without a list the middle of the first region.
+
+`track` draws the regions of a log of `track` from above, at most 60 of them, the known places as a line, the search box of an
+epoch in which the receiver was lost, and how far each region reaches along east, north and up. --beside has another log of the
+same epochs, whose regions' lengths are drawn beside these. The origin is the middle of the first region.
 
 `integrity` draws an epoch as a point, as the Stanford diagram does, along the ground and up: how far the region's middle
 is from the known place, and how far its farthest corner is from its middle, which is the protection. Below the diagonal
@@ -31,15 +36,17 @@ import sys
 
 from coverlog import PS_PER_MS, UM_PER_M, LogError, calendar, epochs, run_tool, run_way
 from integrity import Judge, Limits, alert_limit
+from outline import outline
 from places import Meetings, read_places
 from region import hull_of, region_of, touched_faces, upward
 from wgs84 import geodetic, local_axes
 
 EDGE_COLOUR, INNER_COLOUR, PLACE_COLOUR, BAND_COLOUR = "#f4b183", "#548235", "#c00000", "#9dc3e6"
-CUT_COLOUR, EMPTY_COLOUR, LIMIT_COLOUR = "#b36bd4", "#d9d9d9", "#404040"
+CUT_COLOUR, EMPTY_COLOUR, LIMIT_COLOUR, EDGE_LINE_COLOUR = "#b36bd4", "#d9d9d9", "#404040", "#1f5f99"
 MANY_BOXES = 500  # in an SVG more than these are drawn as dots, so that the file stays small
 DIRECTIONS = (("east", "north"), ("east", "up"))
 LONGEST_IN = 6.5  # the longest side of what is drawn, in inches
+MOST_OUTLINES = 60  # of a track
 
 
 def tools():
@@ -79,7 +86,7 @@ def box_polygons(boxes, origin, first, second):
 
 def box_kinds(epoch):
     """The kept boxes by their colours: those on a face of the search box, the others at the edge, and inner ones."""
-    cut = {kept.box for kept in epoch.kept if touched_faces(kept.box, epoch.root)}
+    cut = {kept.box for kept in epoch.kept if touched_faces(kept.box, epoch.search)}
     edge, inner = ([kept.box for kept in epoch.kept if kept.inner == it and kept.box not in cut] for it in (False, True))
     return (
         (sorted(cut), CUT_COLOUR, "boxes on a face of the search box"),
@@ -211,7 +218,7 @@ class Course:
         region = region_of(epoch, origin) if origin is not None else None
         self.times.append(epoch.time / 1e12)
         self.extents.append(region.extents if region is not None else ((math.nan, math.nan),) * 3)
-        self.cut.append(bool(epoch.kept) and bool(touched_faces(hull_of([kept.box for kept in epoch.kept]), epoch.root)))
+        self.cut.append(bool(epoch.kept) and bool(touched_faces(hull_of([kept.box for kept in epoch.kept]), epoch.search)))
         self.empty.append(not epoch.few and not epoch.kept)
         known = (math.nan,) * 3
         if place is not None and origin is not None:
@@ -284,6 +291,106 @@ def run_time(args):
     if all(math.isnan(extents[0][0]) for extents in course.extents):
         raise LogError(f"{args.log} has no region to draw" + (" at a known place" if places else ""))
     draw_course(course, args.out, args.note)
+
+
+class Tube:
+    """The regions of a track: their outlines from above in m from an origin, their lengths, and where it was lost."""
+
+    def __init__(self, meetings):
+        self.meetings = meetings
+        self.origin = self.axes = None
+        self.times, self.rings, self.widths, self.known = [], [], [], []
+        self.lost = None  # the number and the outline of the search box of a lost epoch
+
+    def ring(self, boxes):
+        """The outline of boxes from above."""
+        return outline(boxes, self.origin, self.axes[0], self.axes[1])
+
+    def add(self, epoch):
+        """Adds an epoch; one without a region has no outline."""
+        place = self.meetings.at(epoch.time)
+        region = region_of(epoch) if epoch.kept else None
+        if region is not None and self.origin is None:
+            self.origin = region.middle()
+            self.axes = local_axes(*geodetic(self.origin)[:2])
+        self.times.append(epoch.time / 1e12)
+        self.widths.append(region.widths() if region is not None else [math.nan] * 3)
+        if region is not None:
+            self.rings.append(self.ring([kept.box for kept in epoch.kept]))
+        if place is not None and self.origin is not None:
+            self.known.append(offset(self.origin, self.axes, place)[:2])
+        if epoch.moves and not epoch.few and not epoch.kept and self.lost is None and self.origin is not None:
+            self.lost = epoch.index, self.ring([epoch.root])
+
+    def drawn(self):
+        """At most MOST_OUTLINES of the outlines, equally spaced, the last one among them."""
+        every = -(-len(self.rings) // MOST_OUTLINES)
+        return self.rings[::-1][::every][::-1]
+
+    def title(self):
+        """How many epochs there are, and where it ends."""
+        lost = f"; lost at epoch {self.lost[0]}" if self.lost else ""
+        return f"{len(self.times)} epochs, {len(self.rings)} with a region{lost}"
+
+
+def tube_of(path, meetings):
+    """The regions of a log."""
+    tube = Tube(meetings)
+    for epoch in epochs(path):
+        tube.add(epoch)
+    meetings.refuse_strangers()
+    if not tube.rings:
+        raise LogError(f"{path} has no region to draw")
+    return tube
+
+
+def draw_above(axes, tube):
+    """Draws the outlines, the places and the search box in which the receiver was lost."""
+    for number, ring in enumerate(tube.drawn()):
+        axes.fill(*zip(*ring), facecolor=BAND_COLOUR, edgecolor=EDGE_LINE_COLOUR, linewidth=0.5, alpha=0.35,
+                  label="" if number else "regions")
+    if tube.lost:
+        axes.fill(*zip(*tube.lost[1]), facecolor="none", edgecolor=LIMIT_COLOUR, linewidth=1.2, linestyle="--",
+                  label=f"search box of epoch {tube.lost[0]}: lost")
+    if tube.known:
+        axes.plot(*zip(*tube.known), color=PLACE_COLOUR, linewidth=1.2, label="known places")
+    axes.set_aspect("equal", adjustable="datalim")
+    axes.grid(alpha=0.3)
+    axes.set_xlabel("east of the first region's middle, m")
+    axes.set_ylabel("north, m")
+
+
+def draw_track(tube, beside, out, note):
+    """Draws a track from above, and the lengths of its regions."""
+    pyplot, _ = tools()
+    figure = pyplot.figure(figsize=(11, 6.5))
+    grid = figure.add_gridspec(3, 2, width_ratios=(1.2, 1))
+    above = figure.add_subplot(grid[:, 0])
+    draw_above(above, tube)
+    for k, name in enumerate(("east", "north", "up")):
+        axes = figure.add_subplot(grid[k, 1])
+        for other, colour, label in ((beside, CUT_COLOUR, "the other log"), (tube, EDGE_LINE_COLOUR, "this log")):
+            if other is not None:
+                times = [time - tube.times[0] for time in other.times]
+                axes.plot(times, [widths[k] for widths in other.widths], color=colour, linewidth=1.2, label=label)
+        axes.set_ylim(bottom=0)
+        axes.set_ylabel(f"{name}, m")
+        axes.grid(alpha=0.3)
+        if beside is not None and k == 0:
+            axes.legend(fontsize=9, frameon=False)
+    axes.set_xlabel(f"s since {calendar(round(tube.times[0] * 1000) * PS_PER_MS)} GPS time")
+    figure.suptitle(tube.title() + (f"\n{note}" if note else ""), fontsize=11)
+    handles, labels = above.get_legend_handles_labels()
+    figure.legend(handles, labels, loc="lower left", ncol=len(handles), fontsize=9, frameon=False)
+    figure.tight_layout(rect=(0, 0.04, 1, 1))
+    save(figure, out)
+
+
+def run_track(args):
+    """Draws a track."""
+    tube = tube_of(args.log, Meetings(args.places, read_places(args.places) if args.places else []))
+    beside = tube_of(args.beside, Meetings(None, [])) if args.beside else None
+    draw_track(tube, beside, args.out, args.note)
 
 
 POINTS = (  # what a point of the diagram is, and its colour; the first that it is
@@ -371,8 +478,9 @@ def arguments():
     ways = parser.add_subparsers(required=True)
     region = ways.add_parser("region", help="one epoch, from above and from the side")
     time = ways.add_parser("time", help="the extents over time")
+    track = ways.add_parser("track", help="the regions of a log of track along the way")
     integrity = ways.add_parser("integrity", help="the error against the protection at known places")
-    for way, work in ((region, run_region), (time, run_time), (integrity, run_integrity)):
+    for way, work in ((region, run_region), (time, run_time), (track, run_track), (integrity, run_integrity)):
         way.add_argument("log", metavar="LOG")
         way.add_argument("out", metavar="OUT", type=ends_well)
         way.add_argument("--places", metavar="FILE", required=way is integrity, help="a list of known places")
@@ -381,6 +489,7 @@ def arguments():
     region.add_argument("--epoch", type=int, default=1, metavar="N", help="the epoch's number in the log (1)")
     region.add_argument("--place", type=float, nargs=3, metavar=("X", "Y", "Z"), help="a known place, m")
     time.add_argument("--moving", action="store_true", help="round the place of each epoch")
+    track.add_argument("--beside", metavar="LOG", help="another log, whose regions' lengths are drawn too")
     integrity.add_argument("--limit", type=alert_limit, nargs=2, metavar=("H", "V"),
                            help="alert limits along the ground and up, m")
     return parser.parse_args()

@@ -22,6 +22,7 @@ import unittest
 from pathlib import Path
 
 import made_files
+import testing
 
 TOP = Path(__file__).resolve().parent.parent
 EXAMPLES = TOP / "examples"
@@ -33,7 +34,8 @@ REPORT = (EXAMPLES / "recorded-epoch.report").read_bytes()
 
 USAGE = (
     b"usage: gpscover judge LOG, pave ROWS LOG, "
-    b"solve or check OBS NAV SETTINGS LOG, make SEED EPOCHS\n"
+    b"solve or check OBS NAV SETTINGS LOG, make SEED EPOCHS, "
+    b"track or retrack OBS NAV SETTINGS LOG\n"
 )
 FILES = ("receiver.obs", "receiver.nav", "settings.toml")
 ROWS = "recorded-epoch.rows"
@@ -640,15 +642,7 @@ def crowded_nav(nav):
 
 def main(program):
     RealFiles.program = os.path.abspath(program)
-    tests = unittest.defaultTestLoader.loadTestsFromTestCase(RealFiles)
-    done = unittest.TextTestRunner().run(tests)
-    failed = len(done.failures) + len(done.errors)
-    left_out = len(done.skipped)
-    for _, why in done.skipped:
-        print(f"left out: {why}")
-    note = f", {left_out} left out" if left_out else ""
-    print(f"real files: {done.testsRun - failed - left_out} passed, {failed} failed{note}")
-    return 1 if failed else 0
+    return testing.run("real files")
 
 
 if __name__ == "__main__":

@@ -93,5 +93,5 @@ def region_of(epoch, origin=None):
         tuple(extent_along(axis, centres, halves) for axis in axes),
         (min(clocks[0]) / UM_PER_M, max(clocks[1]) / UM_PER_M),
         sum(8 * p * q * r for p, q, r in halves),
-        touched_faces(hull, epoch.root),
+        touched_faces(hull, epoch.search),
     )

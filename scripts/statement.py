@@ -13,7 +13,7 @@ import sys
 from pathlib import Path
 
 CRATES = Path(__file__).resolve().parent.parent / "crates"
-STARTS = ("cover_run.Runs.checking", "paving_log_check.GpsChecked.IsGpsAccepted", "paving_log_check.FileCover.FileCover")
+STARTS = ("cover_run.Runs.checking", "cover_run.Checking.Accepts", "paving_log_check.FileCover.FileCover")
 IMPORT = re.compile(r"^use Rattle\.(\w+)\.specs\.(\w+)\.\{([^}]*)\}", re.M)
 BEGINS = re.compile(r"^\s*(?:abbrev |unfoldable )?(?:pub )?(?:record |data )?(?:pub )?([A-Za-z_]\w*)\b")
 

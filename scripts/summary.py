@@ -1,7 +1,7 @@
 #!/usr/bin/env python3
 """Prints a line for each epoch of a log of gpscover, and what an empty or a cut region hides.
 
-usage: summary.py LOG [--csv | --box] [--kml FILE] [--strict]
+usage: summary.py LOG [--csv | --box] [--kml FILE] [--strict] [--obs OBS]
                   [--places FILE [--azimuth A | --along FILE] [--limit H V]]
 
 A line has the epoch's number, its time of reception by the receiver's clock as a GPS date, the usable satellites, the
@@ -10,13 +10,16 @@ clock, in metres rounded up, their volume in cubic metres, and the latitude, lon
 ellipsoid (metres) of the middle. A mark behind it says
   few      too few usable satellites, so the epoch isn't paved
   empty    no position fits: more satellites than allowed broke their bounds, or the receiver was outside the box
+  lost     the same in a log of `track`, which ends there
   reaches  a kept box lies on the named faces of the search box, so the region may go on outside
-Epochs with a mark are warned of at the end.
+Epochs with a mark are warned of at the end. A log is taken for one of `track` where the search boxes of its epochs lie in the
+first one and differ from it; `reaches` speaks of the first one then, which is that of the settings.
 
 --csv prints the same as comma-separated values, with the mark `ok` where there is none. --box prints the least search
 box that holds the kept boxes of all epochs, as lines of the settings. Both print the warnings on standard error. With
 --strict the status is 3 where there is a warning. --kml writes each epoch for a map: its time, its region's outline at
-the least and the greatest height, and a style by its mark (kml.py).
+the least and the greatest height, and a style by its mark (kml.py). --obs names the observation file, and a line says how
+many of its epochs the log covers.
 
 --places names a list of known places (places.py says its form). A line says then whether the place is in a kept box, and
 has the farthest corner of the boxes from it along the ground (hpl_m) and up or down (vpl_m), and along and across a
@@ -39,6 +42,7 @@ from collections import Counter
 
 import kml
 from coverlog import PS_PER_MS, SKIPS, UM_PER_M, LogError, calendar, epochs, run_tool
+from evidence import file_epochs
 from integrity import Judge, Limits, alert_limit
 from places import Meetings, read_places
 from region import hull_of, region_of, upward
@@ -60,6 +64,8 @@ PLACE_COLUMNS = (
 OTHER_DAY = "; is the navigation file of another day?"
 NO_CENTRE = "; is the position in the header zero, or search.centre in metres?"
 HINTS = {"3": OTHER_DAY, "5": OTHER_DAY, "7": NO_CENTRE}  # by the reasons of SKIPS
+NOT_FNAV = "; only records of F/NAV are taken"
+GALILEO_HINTS = HINTS | {"3": NOT_FNAV, "5": NOT_FNAV}
 EARTH_M = (6_300_000, 6_500_000)
 UM_PER_MM = 1000
 MOST_HALF_MM = 100_000_000  # the settings' limit
@@ -80,7 +86,7 @@ def mark_of(epoch, region):
     if epoch.few:
         return "few"
     if region is None:
-        return "empty"
+        return "lost" if epoch.moves else "empty"
     return "reaches" if region.faces else ""
 
 
@@ -159,7 +165,9 @@ class Totals:
 
     def __init__(self):
         self.epochs, self.marks = 0, Counter()
+        self.first = self.last = self.lost = None  # the numbers of epochs
         self.skips = Counter()  # the reasons why satellites of few epochs aren't used
+        self.galileo = Counter()  # those of Galileo satellites of paved epochs, and "" for each that is used
         self.hull = None  # of all kept boxes, in um
         self.half_side = self.from_centre = None  # of the last search box, in m
 
@@ -167,12 +175,19 @@ class Totals:
         """Counts an epoch."""
         self.epochs += 1
         self.marks[mark] += 1
+        self.first = self.first or epoch.index
+        self.last = epoch.index
+        if mark == "lost":
+            self.lost = epoch.index
         if epoch.few:
             self.skips.update(number for _, number, _ in epoch.skips)
+        else:
+            self.galileo.update(number for satellite, number, _ in epoch.skips if satellite[0] == "E")
+            self.galileo[""] += sum(row.satellite[0] == "E" for row in epoch.rows)
         if epoch.kept:
             self.hull = hull_of([kept.box for kept in epoch.kept] + ([self.hull] if self.hull else []))
-        if epoch.root is not None:
-            low, high = epoch.root[:3], epoch.root[3:]
+        if epoch.search is not None:
+            low, high = epoch.search[:3], epoch.search[3:]
             self.half_side = max(b - a for a, b in zip(low, high)) / 2 / UM_PER_M
             self.from_centre = math.hypot(*((a + b) / 2 for a, b in zip(low, high))) / UM_PER_M
 
@@ -181,7 +196,16 @@ class Totals:
         return (
             f"epochs {self.epochs}: {self.regions} with a region, of which {self.marks['reaches']} reach the search box;"
             f" {self.marks['few']} few, {self.marks['empty']} empty"
+            + (f"; lost at epoch {self.lost}" if self.lost else "")
         )
+
+    def covered(self, path):
+        """How many epochs of an observation file the log has."""
+        numbers = f", numbers {self.first} to {self.last}" if self.epochs else ""
+        try:
+            return f"the log covers {self.epochs} of the {file_epochs(path)} epochs of {path}{numbers}"
+        except ValueError:
+            raise LogError(f"{path}: this isn't a file of observations") from None
 
     @property
     def regions(self):
@@ -198,6 +222,8 @@ class Totals:
             yield f"every epoch has too few usable satellites; {self.why_few()}"
         elif few:
             yield f"{few} of {self.epochs} epochs have too few usable satellites; {self.why_few()}"
+        if self.lost:
+            yield f"epoch {self.lost} is lost: {self.what_lost()}"
         if empty and empty == paved:
             yield f"every paved epoch is empty; {self.why_empty()}"
         elif empty:
@@ -209,6 +235,8 @@ class Totals:
                 f"{reaches} of {self.regions} regions reach the search box, whose half side is {self.half_side:g} m:"
                 " they may go on outside, and look smaller than they are"
             )
+        if self.galileo.total() and not self.galileo[""]:
+            yield f"no Galileo satellite is used; {self.why_no_galileo()}"
 
     def box(self):
         """The least search box that holds all kept boxes: its centre and its half sides in whole mm."""
@@ -228,9 +256,14 @@ class Totals:
     def why_few(self):
         """The most frequent reason why a satellite isn't used."""
         if not self.skips:
-            return "the file has few GPS satellites"
+            return "the file has few satellites of the systems that are used"
         number, count = self.skips.most_common(1)[0]
         return f"{count} times a satellite isn't used since {SKIPS[number]}{HINTS.get(number, '')}"
+
+    def why_no_galileo(self):
+        """The most frequent reason why a Galileo satellite isn't used."""
+        number, count = self.galileo.most_common(1)[0]
+        return f"{count} times one isn't since {SKIPS[number]}{GALILEO_HINTS.get(number, '')}"
 
     def why_empty(self):
         """Where the search box is, if it isn't at the earth's surface."""
@@ -242,6 +275,14 @@ class Totals:
                 " is the position in the header zero?"
             )
         return "the bounds are too narrow, or the receiver is outside the search box"
+
+    def what_lost(self):
+        """What a lost epoch says, of which epochs the log speaks, and how to go on."""
+        return (
+            "no trajectory in the search box keeps the declared speed and bounds up to there, so some of them were broken, there"
+            " or before, and regions before it may be wrong too; a yes of retrack speaks of the log's"
+            f" {self.epochs} epochs alone, {self.first} to {self.last}: go on with --from {self.last + 1}"
+        )
 
     def why_reaches(self):
         """The size of the search box, and what may be wrong with it."""
@@ -275,6 +316,7 @@ def arguments():
     form.add_argument("--box", action="store_true", help="print the least search box round all kept boxes")
     parser.add_argument("--kml", metavar="FILE", help="write the outline of each region to FILE")
     parser.add_argument("--strict", action="store_true", help=f"end with {STRICT} where there is a warning")
+    parser.add_argument("--obs", metavar="OBS", help="say how many epochs of this observation file the log covers")
     parser.add_argument("--places", metavar="FILE", help="a list of known places")
     way = parser.add_mutually_exclusive_group()
     way.add_argument("--azimuth", type=float, metavar="A", help="look along and across A degrees from north, clockwise")
@@ -306,6 +348,8 @@ def print_text(args, outlines, judge):
 
     totals = summarize(args.log, write, outlines, judge)
     print(totals.line())
+    if args.obs is not None:
+        print(totals.covered(args.obs))
     if judge:
         print(*judge.lines(), sep="\n")
     return totals

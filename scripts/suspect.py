@@ -11,8 +11,9 @@ rows and boxes, in whole numbers; a finer paving can name a satellite that a coa
 
 `open` runs GPSCOVER (./gpscover) on the files with outliers = 0: with the bounds as they are, and with those of each
 satellite in turn opened to 1 km. Where no position fits as they are, the faulty satellite is among those whose opening
-leaves a region, if one alone is faulty. Only epochs that are empty with the bounds as they are get a line. The files of
-these runs stand in FOLDER, or in a folder that is removed at the end.
+leaves a region, if one alone is faulty. Where the settings have a table [galileo], its offset is opened to 1 km in a run
+of its own, which opens all satellites of Galileo by as much. Only epochs that are empty with the bounds as they are get a
+line. The files of these runs stand in FOLDER, or in a folder that is removed at the end.
 
 A satellite that isn't named can be faulty too: that an epoch isn't empty says nothing of its bounds.
 
@@ -93,6 +94,12 @@ def with_opened(settings, satellite):
     return text if count else f"{without.rstrip()}\n\n[satellite]\n{line}"
 
 
+def with_open_offset(settings):
+    """The settings with the offset of Galileo opened to 1 km; None where they have none."""
+    text, count = re.subn(r"(?m)^(\s*offset\s*=).*$", rf"\1 [-{OPENED_MM}, {OPENED_MM}]", settings)
+    return text if count else None
+
+
 class Runs:
     """Runs the program on the same files with other settings."""
 
@@ -116,11 +123,14 @@ def opened_lines(runs, settings):
     given = runs.solve("given", closed)
     empty = {epoch.index: epoch for epoch in given if not epoch.few and not epoch.kept}
     satellites = sorted({row.satellite for epoch in empty.values() for row in epoch.rows})
+    opened = {satellite: with_opened(closed, satellite) for satellite in satellites}
+    if any(satellite[0] == "E" for satellite in satellites):
+        opened["offset"] = with_open_offset(closed)
     helps = {index: [] for index in empty}
-    for satellite in satellites:
-        for epoch in runs.solve(satellite, with_opened(closed, satellite)):
+    for name, text in opened.items():
+        for epoch in runs.solve(name, text) if text else ():
             if epoch.index in helps and epoch.kept:
-                helps[epoch.index].append(satellite)
+                helps[epoch.index].append(name)
     for index, epoch in empty.items():
         names = " ".join(helps[index]) or "none: more than one satellite broke its bounds, or the receiver was outside"
         yield f"epoch {index} {calendar(epoch.time)} empty; a region is left when opening {names}"

@@ -17,7 +17,8 @@ import region
 import summary
 import testing
 import wgs84
-from test_scripts import HEAD, PAVED, RECORDED, WITHIN, box_at, ended_with, epoch_of, has_matplotlib, pairs, written
+from test_scripts import (HEAD, PAVED, RECORDED, WITHIN, box_at, ended_with, epoch_of, epochs_with_places,
+                          has_matplotlib, logs_with_places, written)
 
 TIME = 895816769999 * 10**9
 DATE = "2008/05/26 05:59:29.999"
@@ -74,7 +75,7 @@ class Corners(unittest.TestCase):
 
     def test_every_corner_is_asked(self):
         # The farthest of all corners, by the corners themselves.
-        for log in pairs():
+        for log in logs_with_places():
             known = places.read_places(log.with_suffix(".places"))
             for epoch in coverlog.epochs(log):
                 place = places.place_at(known, epoch.time)
@@ -106,18 +107,13 @@ class Held(unittest.TestCase):
         self.assertFalse(integrity.is_held(epoch, (6378135, 19.999999, -10)))
 
     def test_the_known_places_of_recorded_receivers_are_in_each_region(self):
-        for log in pairs():
-            known = places.read_places(log.with_suffix(".places"))
+        for log in logs_with_places():
             tested = 0
-            for epoch in coverlog.epochs(log):
-                place = None if epoch.few else places.place_at(known, epoch.time)
-                if place is not None and integrity.in_search_box(epoch, place):
-                    tested += 1
-                    with self.subTest(log=log.name, epoch=epoch.index):
-                        self.assertTrue(integrity.is_held(epoch, place))
+            for tested, (epoch, place) in enumerate(epochs_with_places(log), 1):
+                with self.subTest(log=log.name, epoch=epoch.index):
+                    self.assertTrue(integrity.is_held(epoch, place))
             with self.subTest(log=log.name):
                 self.assertGreater(tested, 4)
-
 
     def test_the_surveyed_place_of_a_station_is_in_each_region(self):
         # known to centimetres, by a baseline from a station with given coordinates
@@ -235,10 +231,10 @@ class Tracks(unittest.TestCase):
         self.assertIn("warning: in 1 epochs the track gives no direction", out)
 
 
-@unittest.skipUnless(has_matplotlib(), "matplotlib isn't there")
+@unittest.skipUnless(has_matplotlib(), f"{sys.executable} has no matplotlib")
 class Pictures(unittest.TestCase):
     def test_each_box_has_one_colour(self):
-        for log in pairs():
+        for log in logs_with_places():
             for epoch in coverlog.epochs(log):
                 kinds = picture.box_kinds(epoch)
                 self.assertEqual(sum(len(boxes) for boxes, *_ in kinds), len(epoch.kept))
@@ -273,4 +269,4 @@ class Pictures(unittest.TestCase):
 
 
 if __name__ == "__main__":
-    sys.exit(testing.run("integrity", [f"{sys.executable} has no matplotlib"]))
+    sys.exit(testing.run("integrity"))

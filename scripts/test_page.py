@@ -207,7 +207,7 @@ class Parts(unittest.TestCase):
             self.assertEqual(ended.exception.code, 2)
 
 
-@unittest.skipUnless(has_plotly(), "plotly isn't there")
+@unittest.skipUnless(has_plotly(), f"{sys.executable} has no plotly")
 class Files(unittest.TestCase):
     def page_of(self, text, *words):
         """The page of a log, and the line with which it ended, or None."""
@@ -417,4 +417,4 @@ class InTheBrowser(unittest.TestCase):
 
 
 if __name__ == "__main__":
-    sys.exit(testing.run("page", MISSING))
+    sys.exit(testing.run("page"))

@@ -19,16 +19,19 @@ from pathlib import Path
 from unittest import mock
 from xml.etree import ElementTree
 
+import bench
 import bounds
 import changed_logs
 import coverlog
 import exact_extents
 import headline
+import integrity
 import kml
 import largest_sizes
 import long_day
 import orbits
 import outline
+import pairs_table
 import picture
 import places
 import region
@@ -58,6 +61,16 @@ WITHIN = "epoch 1 895816769999000000000 5\n" + ROOT + "".join(
     f"cut 0 {face} {end}\n" for face, end in enumerate(
         (6378135000000, 6378139000000, 20000000, 30000000, -10000000, 10000000))
 ) + "edge 0 0 0\ndone 0\n"
+
+
+def tube_root(*ends):
+    """The line of a search box, from its ends in m."""
+    return "root " + " ".join(str(end * 10**6) for end in ends) + "\n"
+
+
+# Behind this epoch two of a track, 5 m being the reach: one keeps its whole search box, one keeps no box.
+TUBE = WITHIN + "epoch 2 895816770999000000000 5\n" + tube_root(6378130, 15, -15, 6378144, 35, 15) + "edge 0 0 0\ndone 0\n"
+LOST = "epoch 3 895816771999000000000 5\n" + tube_root(6378125, 10, -20, 6378149, 40, 20) + "out 0\ndone 0\n"
 
 
 def epoch_of(text):
@@ -276,6 +289,14 @@ class Marks(unittest.TestCase):
             _, lines = totals_of(f"few 1 0 0\nskip G01 {reason}\n")
             self.assertIn("1 times a satellite isn't used since ", lines[1])
 
+    def test_no_galileo_satellite_is_used(self):
+        paved = "epoch 1 0 5\nsat G01 1 1 1 1 1 1 1 1 0 0\nskip E01 3\nskip E02 3\nskip E03 1\n" + ROOT + "out 0\ndone 0\n"
+        _, lines = totals_of(paved)
+        self.assertEqual(lines[-1], "no Galileo satellite is used; 2 times one isn't since it has no ephemeris;"
+                                    " only records of F/NAV are taken")
+        for used in (paved.replace("sat G01", "sat E09"), paved.replace("skip E", "skip G"), PAVED):
+            self.assertFalse([line for line in totals_of(used)[1] if "Galileo" in line])
+
     def test_empty(self):
         marks, lines = totals_of("epoch 1 0 5\n" + ROOT + "out 0\ndone 0\n")
         self.assertEqual(marks, ["empty"])
@@ -311,6 +332,41 @@ class Marks(unittest.TestCase):
         self.assertIn("a box that a receiver leaves makes its regions small before they are empty", lines[2])
         self.assertIn("1 of 2 regions reach the search box, whose half side is 100 m: they may go on outside", lines[3])
         self.assertEqual(len(lines), 4)
+
+    def test_a_track_that_is_lost(self):
+        marks, lines = totals_of(TUBE + LOST)
+        self.assertEqual(marks, ["", "", "lost"])
+        two = "2 with a region, of which 0 reach the search box; 0 few, 0 empty"
+        self.assertEqual(lines[0], f"epochs 3: {two}; lost at epoch 3")
+        self.assertIn("epoch 3 is lost: no trajectory", lines[1])
+        self.assertIn("of the log's 3 epochs alone, 1 to 3: go on with --from 4", lines[1])
+        self.assertEqual(len(lines), 2)
+        self.assertEqual(totals_of(TUBE), (["", ""], [f"epochs 2: {two}"]))
+
+    def test_how_many_epochs_of_a_file_the_log_covers(self):
+        line = "> 2008 05 26 05 59 {}.0000000  {}  1\n"
+        obs = "".join(line.format(second, flag) + "G01\n" for second, flag in ((30, 0), (31, 4), (31, 0), (32, 1), (33, 0)))
+        with written(obs=obs, lost=HEAD + TUBE + LOST, tube=HEAD + TUBE, none=HEAD) as (path, *logs):
+            said = [ended_with(summary, log, "--obs", path)[1] for log in logs]
+        for text, covered in zip(said, ("3 of the 4 epochs of {}, numbers 1 to 3", "2 of the 4 epochs of {}, numbers 1 to 2",
+                                        "0 of the 4 epochs of {}")):
+            self.assertIn(f"the log covers {covered.format(path)}\n", text)
+
+    def test_a_file_that_has_no_observations(self):
+        with written(obs="> 2008 05 26 05 59 30.0000000  0  x\n", log=HEAD + TUBE) as (obs, log):
+            with self.assertRaisesRegex(coverlog.LogError, "obs: this isn't a file of observations"):
+                ended_with(summary, log, "--obs", obs)
+
+    def test_a_track_reaches_the_search_box_of_the_settings_alone(self):
+        there = tube_root(6378037, 15, -15, 6378144, 35, 15)
+        marks, lines = totals_of(TUBE + "epoch 3 2 5\n" + there + "edge 0 0 0\ndone 0\n")
+        self.assertEqual(marks, ["", "", "reaches"])
+        self.assertIn("1 of 3 regions reach the search box, whose half side is 100 m", lines[1])
+
+    def test_search_boxes_apart_are_no_track(self):
+        apart = tube_root(6378037, -101, -100, 6378237, 100, 100)
+        self.assertEqual(totals_of(WITHIN + "epoch 2 1 5\n" + apart + "edge 0 0 0\ndone 0\n")[0], ["", "reaches"])
+        self.assertEqual(totals_of(WITHIN + "epoch 2 1 5\n" + apart + "out 0\ndone 0\n")[0], ["", "empty"])
 
     def test_a_centre_in_metres(self):
         # 6,378,137 mm from the earth's centre, where 6,378,137 m are meant
@@ -429,6 +485,11 @@ class Bounds(unittest.TestCase):
         unseen = next(line for line in lines if line.startswith("G06"))
         self.assertIn("[1911, ", unseen)
         self.assertIn("4.0 to 90.0 degrees, not in the log", unseen)
+
+    def test_satellites_of_galileo_get_bounds_where_some_are_seen(self):
+        names = [line.split(" ")[0] for line in bounds.satellite_lines({"E11": (1.0, 1.1)}, self.table("dual")) if "=" in line]
+        self.assertEqual([name for name in names if name[0] == "E"], [f"E{number:02}" for number in range(1, 37)])
+        self.assertEqual(sum(name[0] == "G" for name in names), 32)
 
     def test_a_satellite_below_the_mask_limits_nothing(self):
         lines = list(bounds.satellite_lines({"G05": (0.03, 0.2)}, self.table("single")))
@@ -577,6 +638,11 @@ class Suspects(unittest.TestCase):
         self.assertEqual(opened, "[search]\noutliers = 0\n[satellite]\nG03 = [-1000000, 1000000]\nG04 = [1, 2] # seen\n")
         self.assertIn("[satellite]\nG07 = [", suspect.with_opened("[search]\noutliers = 0\n", "G07"))
 
+    def test_opening_the_offset_of_galileo(self):
+        self.assertIsNone(suspect.with_open_offset("[search]\nhalf = 5\n"))
+        self.assertEqual(suspect.with_open_offset("[galileo]\noffset = [0, 1] # seen\n[bounds]\n"),
+                         "[galileo]\noffset = [-1000000, 1000000]\n[bounds]\n")
+
     def test_opening_each_in_turn(self):
         with tempfile.TemporaryDirectory() as room:
             stub = os.path.join(room, "stub")
@@ -599,27 +665,35 @@ class ChangedLogs(unittest.TestCase):
         self.assertEqual(changes[-2:], [("sat", "sure hi", "up", [self.ROW + " -8 10"]),
                                         ("sat", "sure hi", "down", [self.ROW + " -8 8"])])
 
+    def test_a_satellite_keeps_its_system(self):
+        self.assertEqual([lines for *_, lines in changed_logs.number_changes(["skip E09 3"])],
+                         [["skip E10 3"], ["skip E08 3"], ["skip E09 4"], ["skip E09 2"]])
+
     def test_a_skip_with_a_field_has_its_reason_changed(self):
         self.assertEqual([lines for *_, lines in changed_logs.number_changes(["skip G09 6 2"])],
                          [["skip G10 6 2"], ["skip G08 6 2"], ["skip G09 7 2"], ["skip G09 5 2"]])
 
 
-def pairs():
+def logs_with_places():
     """The logs with lists of places beside them."""
     folders = [RECORDED] + [Path(it) for it in [os.environ.get("GPSCOVER_RECORDED")] if it]
     return [log for folder in folders for log in sorted(folder.glob("*.log"))]
 
 
+def epochs_with_places(log):
+    """The epochs of a log whose known place is in their search box, each with it."""
+    known = places.read_places(log.with_suffix(".places"))
+    for epoch in coverlog.epochs(log):
+        place = None if epoch.few else places.place_at(known, epoch.time)
+        if place is not None and integrity.in_search_box(epoch, place):
+            yield epoch, place
+
+
 class Recorded(unittest.TestCase):
     def test_the_extents_contain_the_known_place(self):
-        for log in pairs():
-            known = places.read_places(log.with_suffix(".places"))
+        for log in logs_with_places():
             tested = 0
-            for epoch in coverlog.epochs(log):
-                place = None if epoch.few else places.place_at(known, epoch.time)
-                if place is None or not all(a <= p * 1e6 <= b for p, a, b in zip(place, epoch.root, epoch.root[3:])):
-                    continue
-                tested += 1
+            for tested, (epoch, place) in enumerate(epochs_with_places(log), 1):
                 with self.subTest(log=log.name, epoch=epoch.index):
                     self.assertTrue(epoch.kept)
                     self.assertTrue(region.region_of(epoch).contains(place))
@@ -671,7 +745,7 @@ def shadow(box, across):
     return y * z * abs(across[0]) + x * z * abs(across[1]) + x * y * abs(across[2])
 
 
-@unittest.skipUnless(has_matplotlib(), "matplotlib isn't there")
+@unittest.skipUnless(has_matplotlib(), f"{sys.executable} has no matplotlib")
 class Pictures(unittest.TestCase):
     def test_the_drawn_boxes_have_the_areas_of_the_log_s(self):
         for epoch in coverlog.epochs(RECORDED / "javad_2011.log"):
@@ -707,6 +781,7 @@ class Pictures(unittest.TestCase):
             log = str(RECORDED / "geonet0759_2005.log")
             known = str(RECORDED / "geonet0759_2005.places")
             for words, ending in ((["region", "--epoch", "2"], "png"), (["region"], "svg"), (["time"], "png"),
+                                  (["track", "--beside", log], "png"), (["track"], "svg"),
                                   (["integrity", "--limit", "150", "200"], "png"), (["integrity"], "svg")):
                 out = os.path.join(room, f"out.{ending}")
                 words = ["picture.py", words[0], log, out, *words[1:], "--places", known]
@@ -723,6 +798,33 @@ class Pictures(unittest.TestCase):
             picture.chosen_epoch(RECORDED / "cres_2008.log", 8)
 
 
+class PicturedTracks(unittest.TestCase):
+    def tube(self, text, places=()):
+        with written(log=HEAD + text) as (path,):
+            return picture.tube_of(path, picture.Meetings("known", list(places)))
+
+    def test_its_outlines_places_and_the_search_box_where_it_is_lost(self):
+        tube = self.tube(TUBE + LOST, [(895816770999 * 10**9, (6378137.0, 28.0, 4.0))])
+        # Round the middle of the first region, at y = 25 m and z = 0: y is east, z is north.
+        for ring, (east, north) in zip([*tube.rings, tube.lost[1]], ((5, 10), (10, 15), (15, 20)), strict=True):
+            corners = sorted((round(x, 2), round(y, 2)) for x, y in ring)
+            self.assertEqual(corners, [(x, y) for x in (-east, east) for y in (-north, north)])
+        self.assertEqual([[round(part, 2) for part in place] for place in tube.known], [[3, 4]])
+        self.assertEqual([round(width, 2) for width in tube.widths[1]], [20, 30, 14])
+        self.assertEqual(tube.title(), "3 epochs, 2 with a region; lost at epoch 3")
+        self.assertEqual(self.tube(TUBE).title(), "2 epochs, 2 with a region")
+
+    def test_the_last_outline_is_drawn_of_many(self):
+        tube = picture.Tube(picture.Meetings(None, []))
+        for count, first, drawn in ((60, 0, 60), (61, 0, 31), (62, 1, 31), (312, 5, 52)):
+            tube.rings = list(range(count))
+            self.assertEqual((tube.drawn()[0], tube.drawn()[-1], len(tube.drawn())), (first, count - 1, drawn))
+
+    def test_a_log_without_a_region_is_refused(self):
+        with self.assertRaisesRegex(coverlog.LogError, "has no region to draw"):
+            self.tube("few 1 0 3\n")
+
+
 class LongDay(unittest.TestCase):
     def test_its_ranges_are_the_recorded_ones_but_for_the_clock_and_the_air(self):
         sky = long_day.Sky([orbits.Record(text) for text in largest_sizes.navigation_parts()[1]])
@@ -733,6 +835,76 @@ class LongDay(unittest.TestCase):
         left = [code - long_day.signal(sky.record(satellite, time), time)[1] for satellite, code in seen]
         self.assertEqual(len(left), 9)
         self.assertLess(max(left) - min(left), 20)
+
+
+class Bench(unittest.TestCase):
+    TAKEN = {"instructions": 1_000_000, "seconds": 0.1, "peak": 4_000_000}
+
+    def row(self, log=1000, **solve):
+        others = {command: self.TAKEN for command in ("check", "pave", "judge")}
+        return {"solve": {**self.TAKEN, **solve}, **others, "log": log}
+
+    def test_a_row_has_the_numbers_in_its_units(self):
+        rows = {"example, 64, yes": self.row(log=1234)}
+        text = bench.table({"program": "0a", "commit": "1b", "rows": rows})
+        self.assertIn("Program 0a, commit 1b;", text)
+        cells = " | ".join(["1.0 M, 0.10 s, 4.0 MB"] * 4)
+        self.assertEqual(text.splitlines()[-1], f"| example | 64 | yes | 1.2 KB | {cells} |")
+
+    def test_a_change_is_more_than_two_in_a_hundred_and_than_what_is_told_apart(self):
+        for row, wanted in (
+            (self.row(), []),
+            (self.row(instructions=1_020_000, log=1020), []),
+            (self.row(instructions=1_030_000), ["a: solve instructions 1.0 M, now 1.0 M (+3.0 %)"]),
+            (self.row(log=900), ["a: log 1.0 KB, now 0.9 KB (-10.0 %)"]),
+            (self.row(seconds=0.105, peak=4_400_000), []),
+            (self.row(seconds=0.15), ["a: solve seconds 0.10 s, now 0.15 s (+50.0 %)"]),
+            (self.row(peak=5_000_000), ["a: solve peak 4.0 MB, now 5.0 MB (+25.0 %)"]),
+        ):
+            with self.subTest(wanted=wanted):
+                self.assertEqual(list(bench.changes({"a": self.row()}, {"a": row})), wanted)
+        found = list(bench.changes({"a": self.row()}, {"b": self.row()}))
+        self.assertEqual(found, ["a: only before", "b: only now"])
+
+    def test_rows_end_with_the_first_search_box(self):
+        log = (HEAD + PAVED + PAVED).encode()
+        self.assertEqual(pairs_table.rows_of(log), log[: log.index(b"split")])
+        with self.assertRaises(pairs_table.Failed):
+            pairs_table.rows_of(HEAD.encode())
+
+    def test_instructions_are_those_that_callgrind_collected(self):
+        said = "==7== Events    : Ir\n"
+        self.assertEqual(bench.instructions_of(f"{said}==7== Collected : 52481\n==7==\n"), 52481)
+        with self.assertRaises(pairs_table.Failed):
+            bench.instructions_of(said)
+
+    def test_two_codes_come_before_one_and_a_set_has_three_files(self):
+        files = ("a.obs", "a.nav", "a_dual.toml", "a_single.toml", "b.obs", "b_single.toml",
+                 "c_d.obs", "c_d.nav", "c_d_single.toml")
+        with tempfile.TemporaryDirectory() as room:
+            for name in files:
+                (Path(room) / name).touch()
+            found = bench.recorded_sets(room)
+        names = {name: [file.name for file in its] for name, its in found.items()}
+        wanted = {"a": list(files[:3]), "c_d": list(files[6:])}
+        self.assertEqual(names, wanted)
+
+
+class Orbits(unittest.TestCase):
+    def test_the_mean_motion_is_that_of_the_system(self):
+        """The root of mu over the cube of the axis 5440.6^2, by whole numbers."""
+        zeros = " 0.000000000000D+00"
+        lines = [" 2024 01 07 00 00 00" + 3 * zeros, "    " + 4 * zeros, "    " + 3 * zeros + " 5.440600000000D+03",
+                 *5 * ["    " + 4 * zeros]]
+        for name, motion in (("E01", 1.239733955228326673e-4), ("G01", 1.239734045735644270e-4)):
+            self.assertAlmostEqual(orbits.Record(name + "\n".join(lines)).motion, motion, delta=1e-18)
+
+    def test_a_user_of_two_codes_sees_no_group_delay(self):
+        text = largest_sizes.navigation_parts()[1][0]
+        one, two = orbits.Record(text), orbits.Record(text, dual=True)
+        self.assertEqual(one.after(0)[0], two.after(0)[0])
+        self.assertAlmostEqual(two.after(0)[1] - one.after(0)[1], one.delay, delta=1e-18)
+        self.assertNotEqual(one.delay, 0)
 
 
 class Wrapper(unittest.TestCase):
@@ -776,4 +948,4 @@ class Documents(unittest.TestCase):
 
 
 if __name__ == "__main__":
-    sys.exit(testing.run("scripts", [f"{sys.executable} has no matplotlib"]))
+    sys.exit(testing.run("scripts"))

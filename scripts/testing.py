@@ -5,12 +5,18 @@ import sys
 import unittest
 
 
-def run(name, reasons=()):
-    """Runs the tests of the running file. 0, or 1 where one failed; the last line is `NAME: N passed, M failed`."""
-    tests = unittest.defaultTestLoader.loadTestsFromModule(sys.modules["__main__"])
+def run(name, classes=None, verbosity=1):
+    """Runs the tests of the running file, or of these of its classes. 0, or 1 where one failed; the last line is
+    `NAME: N passed, M failed`."""
+    loader = unittest.defaultTestLoader
+    if classes is None:
+        tests = loader.loadTestsFromModule(sys.modules["__main__"])
+    else:
+        tests = unittest.TestSuite(loader.loadTestsFromTestCase(it) for it in classes)
     with contextlib.redirect_stdout(io.StringIO()):
-        done = unittest.TextTestRunner(stream=sys.stderr, verbosity=1).run(tests)
+        done = unittest.TextTestRunner(stream=sys.stderr, verbosity=verbosity).run(tests)
     failed, left_out = len(done.failures) + len(done.errors), len(done.skipped)
+    reasons = sorted({why for _, why in done.skipped})
     note = f", {left_out} left out since {' and '.join(reasons)}" if left_out else ""
     print(f"{name}: {done.testsRun - failed - left_out} passed, {failed} failed{note}")
     return 1 if failed else 0

@@ -1,0 +1,243 @@
+#!/usr/bin/env python3
+"""Tests of zones.py by exact fractions: python3 scripts/test_zones.py. The last line is `zones: N passed, M failed`.
+Exit status: 0, or 1 where one failed."""
+import contextlib
+import io
+import itertools
+import json
+import math
+import random
+import sys
+import tempfile
+import unittest
+from fractions import Fraction
+from pathlib import Path
+from unittest import mock
+
+import testing
+import zone_answers
+import zones
+from wgs84 import earth_fixed
+
+DRAWN = 1000
+
+
+def said(*words):
+    """The lines that the script prints for these words."""
+    out = io.StringIO()
+    with mock.patch("sys.argv", ["zones.py", *words]), contextlib.redirect_stdout(out):
+        status = zones.main()
+    assert status == 0
+    return out.getvalue().splitlines()
+
+
+def prisms(lines):
+    """The prisms of some lines: lists of sides (A, H)."""
+    found = []
+    for line in lines:
+        word, *rest = line.split()
+        if word == "prism":
+            found.append([])
+        elif word == "side":
+            x, y, z, most = map(int, rest)
+            found[-1].append(((x, y, z), most))
+    return found
+
+
+def holds(sides, point):
+    """Whether a prism holds a point in um, by exact fractions."""
+    return all(zones.product(a, point) <= most for a, most in sides)
+
+
+def answer(sides, boxes):
+    """What boxes (lo, hi) in um say of a prism, by all of their corners."""
+    values = [[[sum(x * y for x, y in zip(a, corner)) for corner in itertools.product(*zip(*box))] for box in boxes] for a, _ in sides]
+    if all(any(min(values[s][b]) > sides[s][1] for s in range(len(sides))) for b in range(len(boxes))):
+        return "outside"
+    if boxes and all(max(values[s][b]) <= sides[s][1] for s in range(len(sides)) for b in range(len(boxes))):
+        return "inside"
+    return "open"
+
+
+def um(point):
+    return tuple(Fraction(part) * zones.UM for part in point)
+
+
+def drawn_place(draw):
+    return (draw.uniform(-89, 89), draw.uniform(-180, 180), draw.uniform(-100, 3000), draw.uniform(1, 500), draw.uniform(1, 100))
+
+
+def around(draw, place):
+    """A point within the radius and the heights of a place, or at their edge, in the plane below it."""
+    latitude, longitude, height, radius, up = place
+    ground = zones.Ground(math.radians(latitude), math.radians(longitude))
+    far, turn = radius * draw.choice((1, math.sqrt(draw.random()))), draw.uniform(0, 2 * math.pi)
+    return ground.point((far * math.cos(turn), far * math.sin(turn), height + up * draw.choice((-1, 1, draw.uniform(-1, 1)))))
+
+
+class Places(unittest.TestCase):
+    def test_a_thousand_drawn_places_are_held_by_what_grew_and_hold_what_shrank(self):
+        draw = random.Random(1)
+        for number in range(DRAWN):
+            place = drawn_place(draw)
+            (grown,) = prisms(zones.place_lines("a", *place, "outside"))
+            for _ in range(3):
+                self.assertTrue(holds(grown, um(around(draw, place))), (number, place))
+            if number % 50:
+                continue
+            (shrunk,) = prisms(zones.place_lines("a", *place, "inside"))
+            self.assert_corners_within(shrunk, place)
+
+    def assert_corners_within(self, sides, place):
+        latitude, longitude, height, radius, up = place
+        ground = zones.Ground(math.radians(latitude), math.radians(longitude))
+        found = zones.corners(sides)
+        self.assertTrue(found)
+        for x, y, z, divisor in found:
+            point = [float(Fraction(part, divisor) / zones.UM) - o for part, o in zip((x, y, z), ground.origin)]
+            east, north, above = (zones.dot(point, axis) for axis in ground.axes)
+            self.assertLess(math.hypot(east, north), radius)
+            self.assertLess(abs(above - height), up)
+
+    def test_the_middle_of_a_place_is_inside_and_what_is_beyond_is_outside(self):
+        place = (47.2, 8.5, 400.0, 25.0, 10.0)
+        middle = [round(part * zones.UM) for part in earth_fixed(math.radians(47.2), math.radians(8.5), 400.0)]
+        near = [(tuple(p - 10**6 for p in middle), tuple(p + 10**6 for p in middle))]
+        far = [(tuple(p + 40 * 10**6 for p in middle), tuple(p + 41 * 10**6 for p in middle))]
+        for purpose in ("outside", "inside"):
+            (sides,) = prisms(zones.place_lines("a", *place, purpose))
+            self.assertEqual([answer(sides, boxes) for boxes in (near, far, near + far, [])], ["inside", "outside", "open", "outside"])
+
+
+class Areas(unittest.TestCase):
+    def ring(self, draw, count):
+        """A polygon round a place, star-shaped and so seldom convex."""
+        latitude, longitude = draw.uniform(-80, 80), draw.uniform(-179, 179)
+        turns = sorted(draw.uniform(0, 2 * math.pi) for _ in range(count))
+        far = [draw.uniform(1e-4, 2e-3) for _ in turns]
+        return [(latitude + f * math.sin(t), longitude + f * math.cos(t) / math.cos(math.radians(latitude))) for f, t in zip(far, turns)]
+
+    def test_points_of_drawn_polygons_are_held_by_a_part(self):
+        draw = random.Random(2)
+        for number in range(200):
+            ring = self.ring(draw, draw.randint(3, 9))
+            try:
+                parts = prisms(zones.area_lines("a", ring, 100.0, 130.0, "outside"))
+            except zones.ShapeError:
+                continue
+            for start, end in zip(ring, ring[1:] + ring[:1]):
+                for share in (0.0, 0.5, 0.9):
+                    at = [math.radians(p + share * (q - p)) for p, q in zip(start, end)]
+                    for height in (100.0, 117.0, 130.0):
+                        point = um(earth_fixed(*at, height))
+                        near = any(all(zones.product(a, point) <= most + 200_000 * zones.LONGEST for a, most in part) for part in parts)
+                        held = any(holds(part, point) for part in parts)
+                        self.assertTrue(held or (share and near), (number, share, height))
+
+    def test_for_inside_it_must_be_convex(self):
+        square = [(47.0, 8.0), (47.0, 8.001), (47.001, 8.001), (47.001, 8.0)]
+        (sides,) = prisms(zones.area_lines("a", square, 0.0, 20.0, "inside"))
+        self.assertEqual(len(sides), 6)
+        with self.assertRaises(zones.ShapeError):
+            zones.area_lines("a", [*square, (47.0005, 8.0005)], 0.0, 20.0, "inside")
+        self.assertEqual(len(prisms(zones.area_lines("a", [*square, (47.0005, 8.0005)], 0.0, 20.0, "outside"))), 3)
+
+
+class Lanes(unittest.TestCase):
+    def test_drawn_legs_hold_their_line(self):
+        draw = random.Random(3)
+        for number in range(200):
+            start = (draw.uniform(-80, 80), draw.uniform(-179, 179), draw.uniform(0, 500))
+            end = (start[0] + draw.uniform(-0.01, 0.01), start[1] + draw.uniform(-0.01, 0.01), start[2] + draw.uniform(-20, 20))
+            for purpose in ("outside", "inside"):
+                (sides,) = prisms(zones.lane_lines("l", [start, end], 3.5, -1.0, 3.0, purpose))
+                for share in (0.01, 0.5, 0.99):
+                    at = [p + share * (q - p) for p, q in zip(start, end)]
+                    a, b = (earth_fixed(math.radians(p[0]), math.radians(p[1]), p[2]) for p in (start, end))
+                    self.assertTrue(holds(sides, um([p + share * (q - p) for p, q in zip(a, b)])), (number, purpose, share, at))
+
+
+def drawn_boxes(draw, reach):
+    """Up to three boxes within a reach of the origin."""
+    ends = [[sorted(draw.randint(-reach, reach) for _ in range(2)) for _ in range(3)] for _ in range(draw.randint(0, 3))]
+    return [(tuple(e[0] for e in box), tuple(e[1] for e in box)) for box in ends]
+
+
+class Answers(unittest.TestCase):
+    def test_a_thousand_drawn_prisms_answer_as_all_corners_do(self):
+        draw = random.Random(4)
+        for number in range(DRAWN):
+            reach = draw.choice((3, 10**6, 10**13))
+            boxes = drawn_boxes(draw, reach)
+            sides = []
+            for _ in range(draw.randint(1, 4)):
+                a = tuple(draw.randint(-5, 5) for _ in range(3)) if reach == 3 else tuple(draw.randint(-(2**20), 2**20) for _ in range(3))
+                if any(a):
+                    sides.append((a, draw.randint(-sum(map(abs, a)) * reach, sum(map(abs, a)) * reach)))
+            flat = [(*lo, *hi) for lo, hi in boxes]
+            self.assertEqual(zone_answers.Prism("a", sides).answer(flat), answer(sides, boxes), (number, sides, boxes))
+
+    def test_a_box_answers_as_the_prism_of_its_sides(self):
+        draw = random.Random(5)
+        for _ in range(DRAWN):
+            ends = [sorted(draw.randint(-4, 4) for _ in range(2)) for _ in range(3)]
+            sides = [(tuple(s * (k == i) for i in range(3)), s * ends[k][s > 0]) for k in range(3) for s in (-1, 1)]
+            flat = [(*lo, *hi) for lo, hi in drawn_boxes(draw, 4)]
+            box = zone_answers.Box("a", (*(e[0] for e in ends), *(e[1] for e in ends)))
+            self.assertEqual(box.answer(flat), zone_answers.Prism("a", sides).answer(flat))
+
+    def test_lines_of_a_log(self):
+        text = "gpszones 2\nzone a 0 0 0 2 2 2\nprism b 1\nside 1 1 1 3\nreach c 2 0 -1\n"
+        log = [(1, [(0, 0, 0, 1, 1, 1)]), (2, None), (3, []), (4, [(0, 0, 0, 1, 1, 1), (5, 5, 5, 6, 6, 6)])]
+        wanted = (
+            "epoch 1 zone a inside,epoch 1 zone b inside,epoch 1 reach c -1 2,epoch 2 few,epoch 3 zone a outside,"
+            "epoch 3 zone b outside,epoch 3 reach c none,epoch 4 zone a open,epoch 4 zone b open,epoch 4 reach c -1 7,"
+            "zone a outside 1 inside 1 open 1 few 1,zone b outside 1 inside 1 open 1 few 1,reach c -1 7"
+        ).split(",")
+        with tempfile.TemporaryDirectory() as folder:
+            path = Path(folder) / "zones"
+            path.write_text(text, encoding="utf-8")
+            self.assertEqual(list(zone_answers.lines(*zone_answers.read_zones(path), log)), wanted)
+
+    def test_the_first_line_that_does_not_fit(self):
+        zone = "gpszones 2\nzone a 0 0 0 1 1 1\n"
+        for text, line in (
+            ("", 1), ("gpszones 2", 1), ("gpszones 3\n", 1), ("gpszones 1\nreach a 1 0 0\n", 2), (zone + "zone a 0 0 0 1 1 1\n", 3),
+            ("gpszones 2\nprism a 0\n", 2), ("gpszones 2\nprism a 17\n", 2), ("gpszones 2\nprism a 2\nside 1 0 0 5\n", 4),
+            ("gpszones 2\nprism a 1\nside 0 0 0 5\n", 3), ("gpszones 2\nprism a 1\nside 1 0 0 -0\n", 3),
+            ("gpszones 2\nprism a 1\nside 1 0 0 5", 3), ("gpszones 2\nreach a 1048577 0 0\n", 2),
+            ("gpszones 2\nprism a 1\nside 1 0 0 100000000000000000001\n", 3), (zone + "zone b 0 0 0 1 1 -1\n", 3),
+        ):
+            with tempfile.TemporaryDirectory() as folder:
+                path = Path(folder) / "zones"
+                path.write_text(text, encoding="utf-8")
+                with self.assertRaisesRegex(zone_answers.ZonesError, f"line {line} "):
+                    zone_answers.read_zones(path)
+
+
+class Files(unittest.TestCase):
+    def test_kml_geojson_and_rows_say_the_same(self):
+        ring = [(47.0, 8.0, 0.0), (47.0, 8.001, 0.0), (47.001, 8.001, 0.0), (47.0, 8.0, 0.0)]
+        kml = "<kml xmlns='x'><Polygon><outerBoundaryIs><LinearRing><coordinates>{}</coordinates></LinearRing></outerBoundaryIs></Polygon></kml>"
+        texts = (
+            kml.format(" ".join(f"{p[1]},{p[0]}" for p in ring)),
+            json.dumps({"type": "Feature", "geometry": {"type": "Polygon", "coordinates": [[[p[1], p[0]] for p in ring]]}}),
+            "".join(f"{p[0]} {p[1]}\n" for p in ring),
+        )
+        with tempfile.TemporaryDirectory() as folder:
+            written = []
+            for number, text in enumerate(texts):
+                path = Path(folder) / str(number)
+                path.write_text(text, encoding="utf-8")
+                written.append(said("--for", "outside", "--area", f"a,{path},0,20", "--reach", "r,47,8"))
+        self.assertEqual(written[0], written[1])
+        self.assertEqual(written[0], written[2])
+        self.assertEqual(written[0][:2], ["gpszones 2", "prism a 5"])
+        self.assertEqual([line.split()[1] for line in written[0][-3:]], ["r-e", "r-n", "r-u"])
+
+    def test_axes_are_those_of_the_ellipsoid(self):
+        self.assertEqual(zones.reach_lines("r", 0, 0), ["reach r-e 0 1048576 0", "reach r-n 0 0 1048576", "reach r-u 1048576 0 0"])
+
+
+if __name__ == "__main__":
+    sys.exit(testing.run("zones"))

@@ -1,0 +1,408 @@
+#!/usr/bin/env python3
+"""Writes a file of zones for `guard` (its second form, `gpszones 2`), from places, lanes and areas of a map.
+
+usage: zones.py --for outside|inside [--place P].. [--lane L].. [--area A].. [--reach R].. > ZONES
+
+  --place NAME,LAT,LON,HEIGHT,RADIUS,UP   the points within RADIUS along the ground of a place and within UP above or below
+  --lane NAME,FILE,WIDTH,LOW,HIGH         a lane of this width, from LOW to HIGH above its line; NAME-1, NAME-2, .. by leg
+  --area NAME,FILE,LOW,HIGH               a polygon between two heights
+  --reach NAME,LAT,LON                    directions NAME-e, NAME-n and NAME-u: east, north and up there
+
+Latitudes and longitudes are in degrees, lengths and heights in metres, heights above the ellipsoid of WGS 84. FILE is KML (its
+first LineString or Polygon), GeoJSON (the same) or lines `LAT LON [HEIGHT]`. A polygon's edges are straight in the plane that
+touches the ellipsoid below its middle; its heights follow the ellipsoid. A place is a prism of 12 sides, a leg one of 4.
+
+The user says what the zones are for, and all is rounded to that side. A zone for `outside` grows: where `guard` says `outside`
+no fitting point lies in the zone as it was given. A zone for `inside` shrinks: where `guard` says `inside` each fitting point
+lies in it. Growing or shrinking takes a millimetre for the arithmetic of this script, and what the curve of the ellipsoid, the
+round of a place (3.5 % of its radius) and directions of whole numbers cost. For `outside` a polygon that isn't convex is cut
+into triangles NAME-1, NAME-2, ..; for `inside` it is refused, as is one of more than 14 corners: each of its points
+would have to lie in one prism. A reach is told in um times the length of its direction, which is 2^20 to within a millionth.
+
+Exit status: 0; 1 where a file can't be read, or a shape makes no zone; 2 for a wrong command line.
+"""
+import argparse
+import itertools
+import json
+import math
+import re
+import sys
+import xml.etree.ElementTree
+from fractions import Fraction
+
+from wgs84 import dot, earth_fixed, geodetic, local_axes
+
+LONGEST = 2**20  # a coordinate of a direction
+GREATEST = 10**20  # a limit of a side
+MOST_SIDES = 16
+ROUND_SIDES = 12
+UM = 10**6
+ARITHMETIC_UM = 1000  # more than the rounding of the numbers of this script, for a point near the earth
+WIDEST_M = 50_000
+
+
+class ShapeError(Exception):
+    """A shape of which no zone is made."""
+
+
+class Face:
+    """A side of a shape: the direction out of it, and points on it, in metres."""
+
+    def __init__(self, out, points):
+        self.out, self.points = out, points
+
+
+def whole(direction):
+    """A direction of unit length as whole numbers of at most 2^20 in amount."""
+    return tuple(max(-LONGEST, min(LONGEST, round(part * LONGEST))) for part in direction)
+
+
+def product(a, point):
+    """The exact product of two vectors."""
+    return sum(Fraction(x) * Fraction(y) for x, y in zip(a, point))
+
+
+def in_um(point):
+    """A point in um, exactly that of its floating-point numbers in metres."""
+    return tuple(Fraction(part) * UM for part in point)
+
+
+def length_above(a):
+    """A whole number that is at least the length of a vector of whole numbers."""
+    return math.isqrt(sum(part * part for part in a)) + 1
+
+
+# ---- sides
+
+
+def grown(faces, points):
+    """Sides (A, H) whose prism holds all points."""
+    sides = []
+    for face in faces:
+        a = whole(face.out)
+        most = max(product(a, in_um(point)) for point in points)
+        sides.append((a, math.ceil(most) + ARITHMETIC_UM * length_above(a)))
+    return sides
+
+
+def limits(faces):
+    """The half-spaces (out, most) of a shape: each ends at the innermost of its face's points, in um."""
+    return [(face.out, min(product(face.out, in_um(point)) for point in face.points)) for face in faces]
+
+
+def drawn_in(faces, by):
+    """Sides (A, H) that lie by so many um inside the faces."""
+    sides = []
+    for face in faces:
+        a = whole(face.out)
+        least = min(product(a, in_um(point)) for point in face.points)
+        sides.append((a, math.floor(least) - by * length_above(a)))
+    return sides
+
+
+def cross(a, b):
+    """The vector product."""
+    return a[1] * b[2] - a[2] * b[1], a[2] * b[0] - a[0] * b[2], a[0] * b[1] - a[1] * b[0]
+
+
+def corners(sides):
+    """The corners of a prism, as (x, y, z, divisor) of whole numbers with a divisor above 0."""
+    found = []
+    for (a, f), (b, g), (c, h) in itertools.combinations(sides, 3):
+        bc, ca, ab = cross(b, c), cross(c, a), cross(a, b)
+        divisor = dot(a, bc)
+        if divisor:
+            sign = 1 if divisor > 0 else -1
+            point = [sign * (f * p + g * q + h * r) for p, q, r in zip(bc, ca, ab)]
+            if all(dot(s, point) <= most * abs(divisor) for s, most in sides):
+                found.append((*point, abs(divisor)))
+    return found
+
+
+def shrunk(faces):
+    """Sides (A, H) whose prism lies in all half-spaces of the faces, by its corners."""
+    bounds, by = limits(faces), ARITHMETIC_UM
+    while by <= UM:
+        sides = drawn_in(faces, by)
+        points = corners(sides)
+        if not points:
+            raise ShapeError("nothing is left of it")
+        if all(product(out, point[:3]) <= (most - ARITHMETIC_UM) * point[3] for out, most in bounds for point in points):
+            return sides
+        by *= 2
+    raise ShapeError("its sides are too near to one direction")
+
+
+def prism(name, faces, points, purpose):
+    """The lines of a prism with these faces, which end at these points."""
+    sides = grown(faces, points) if purpose == "outside" else shrunk(faces)
+    if len(sides) > MOST_SIDES or any(abs(most) > GREATEST for _, most in sides):
+        raise ShapeError(f"{name}: a prism has at most {MOST_SIDES} sides")
+    return [f"prism {name} {len(sides)}"] + [f"side {x} {y} {z} {most}" for (x, y, z), most in sides]
+
+
+# ---- shapes over the ground
+
+
+class Ground:
+    """The plane that touches the ellipsoid below a place: east, north and up in metres, from that place."""
+
+    def __init__(self, latitude, longitude):
+        self.place = (latitude, longitude)
+        self.axes = local_axes(latitude, longitude)
+        self.origin = earth_fixed(latitude, longitude, 0.0)
+
+    def local(self, latitude, longitude, height):
+        """East, north and up of a point."""
+        away = [p - o for p, o in zip(earth_fixed(latitude, longitude, height), self.origin)]
+        return tuple(dot(away, axis) for axis in self.axes)
+
+    def direction(self, parts):
+        """A vector of east, north and up parts in the earth-fixed frame."""
+        return tuple(sum(part * axis[i] for part, axis in zip(parts, self.axes)) for i in range(3))
+
+    def point(self, parts):
+        """A point of east, north and up in the earth-fixed frame."""
+        return tuple(o + d for o, d in zip(self.origin, self.direction(parts)))
+
+
+def upright(ground, rings, low, high):
+    """Faces and points of an upright shape: rings of (east, north, up) below and above, counterclockwise, and the heights that
+    the middle has between them."""
+    below, above = ([ground.point(p) for p in ring] for ring in rings)
+    middle_low, middle_high = (ground.point((0.0, 0.0, height)) for height in (low, high))
+    faces = []
+    count = len(below)
+    for i, j in ((i, (i + 1) % count) for i in range(count)):
+        east, north = (rings[0][j][k] - rings[0][i][k] for k in (0, 1))
+        length = math.hypot(east, north)
+        faces.append(Face(ground.direction((north / length, -east / length, 0.0)), [below[i], below[j], above[i], above[j]]))
+    faces.append(Face(tuple(-part for part in ground.axes[2]), [*below, middle_low]))
+    faces.append(Face(ground.axes[2], [*above, middle_high]))
+    return faces, [*below, *above, middle_low, middle_high]
+
+
+def place_lines(name, latitude, longitude, height, radius, up, purpose):
+    """A place: a prism of 12 sides round its circle for `outside`, in it for `inside`."""
+    ground = Ground(math.radians(latitude), math.radians(longitude))
+    far = radius / math.cos(math.pi / ROUND_SIDES) if purpose == "outside" else radius
+    turns = [2 * math.pi * k / ROUND_SIDES for k in range(ROUND_SIDES)]
+    low, high = height - up, height + up
+    rings = [[(far * math.cos(t), far * math.sin(t), level) for t in turns] for level in (low, high)]
+    return prism(name, *upright(ground, rings, low, high), purpose)
+
+
+def area_lines(name, ring, low, high, purpose):
+    """A polygon of (latitude, longitude) in degrees between two heights."""
+    ring = [(math.radians(p[0]), math.radians(p[1])) for p in ring]
+    if len(ring) > 1 and ring[0] == ring[-1]:
+        ring = ring[:-1]
+    ground = Ground(*(sum(p[k] for p in ring) / len(ring) for k in (0, 1)))
+    flat = [ground.local(*p, 0.0)[:2] for p in ring]
+    if max(math.hypot(*p) for p in flat) > WIDEST_M:
+        raise ShapeError(f"{name}: it is wider than {2 * WIDEST_M // 1000} km")
+    if turn_of(flat) < 0:
+        ring, flat = ring[::-1], flat[::-1]
+    whole_ring = is_convex(flat) and len(ring) <= MOST_SIDES - 2
+    if not whole_ring and purpose == "inside":
+        raise ShapeError(f"{name}: for inside it must be convex, with at most {MOST_SIDES - 2} corners")
+    parts = [range(len(ring))] if whole_ring else triangles(flat)
+    written = []
+    for number, part in enumerate(parts, 1):
+        rings = [[ground.local(*ring[i], height) for i in part] for height in (low, high)]
+        written += prism(name if whole_ring else f"{name}-{number}", *upright(ground, rings, low, high), purpose)
+    return written
+
+
+def turn_of(flat):
+    """Twice the area of a polygon, which is above 0 where it goes counterclockwise."""
+    return sum(p[0] * q[1] - p[1] * q[0] for p, q in zip(flat, flat[1:] + flat[:1]))
+
+
+def turns_left(p, q, r):
+    """How far the way from p over q to r turns left."""
+    return (q[0] - p[0]) * (r[1] - q[1]) - (q[1] - p[1]) * (r[0] - q[0])
+
+
+def is_convex(flat):
+    """Whether a counterclockwise polygon turns left at each corner."""
+    count = len(flat)
+    return all(turns_left(flat[i - 2], flat[i - 1], flat[i]) > 0 for i in range(count))
+
+
+def triangles(flat):
+    """A counterclockwise polygon cut into triangles, as the places of their corners: one ear after another."""
+    left, found = list(range(len(flat))), []
+    while len(left) > 3:
+        ear = next((k for k in range(len(left)) if is_ear(flat, left, k)), None)
+        if ear is None:
+            raise ShapeError("its edges cross")
+        found.append((left[ear - 1], left[ear], left[(ear + 1) % len(left)]))
+        del left[ear]
+    return [*found, tuple(left)]
+
+
+def is_ear(flat, left, k):
+    """Whether the corner turns left, and no other corner lies in the triangle with its neighbours."""
+    a, b, c = (flat[left[i % len(left)]] for i in (k - 1, k, k + 1))
+    if turns_left(a, b, c) <= 0:
+        return False
+    others = (flat[i] for i in left if flat[i] not in (a, b, c))
+    return not any(turns_left(a, b, p) >= 0 and turns_left(b, c, p) >= 0 and turns_left(c, a, p) >= 0 for p in others)
+
+
+# ---- lanes
+
+
+def unit(a):
+    """The vector of length one."""
+    length = math.hypot(*a)
+    return tuple(part / length for part in a)
+
+
+def lane_lines(name, line, width, low, high, purpose):
+    """A polyline of (latitude, longitude, height) with a width. A leg for `outside` goes on by half of the width at both ends, so
+    that the corner between two legs is in one of them."""
+    if len(line) < 2:
+        raise ShapeError(f"{name}: a lane has two points or more")
+    beyond = width / 2 if purpose == "outside" else 0.0
+    written = []
+    for number, (start, end) in enumerate(zip(line, line[1:]), 1):
+        written += prism(f"{name}-{number}", *leg(start, end, width / 2, low, high, beyond), purpose)
+    return written
+
+
+def leg(start, end, half, low, high, beyond):
+    """Faces and points of a leg from one place to another."""
+    ends = [earth_fixed(math.radians(p[0]), math.radians(p[1]), p[2]) for p in (start, end)]
+    if not 0 < math.dist(*ends) <= WIDEST_M:
+        raise ShapeError(f"a leg is longer than 0 and at most {WIDEST_M // 1000} km long")
+    along = unit([q - p for p, q in zip(*ends)])
+    middle = [(p + q) / 2 for p, q in zip(*ends)]
+    latitude, longitude, sunk = geodetic(middle)
+    bulge = max(0.0, (start[2] + end[2]) / 2 - sunk)  # the line is straight, the ellipsoid is not
+    right = unit(cross(along, local_axes(latitude, longitude)[2]))
+    lift = cross(right, along)
+
+    def point(at, forth, side, up):
+        return tuple(p + forth * a + side * r + up * u for p, a, r, u in zip(at, along, right, lift))
+
+    levels = {low: low, high: high}
+    shape = {
+        (forth, side, level): point(ends[forth > 0], forth * beyond, side * half, levels[level])
+        for forth in (-1, 1) for side in (-1, 1) for level in (low, high)
+    }
+    tops = [point(middle, 0.0, side * half, level + bulge) for side in (-1, 1) for level in (low, high)]
+    faces = [
+        Face(tuple(sign * part for part in axis), [p for key, p in shape.items() if key[k] == wanted])
+        for k, axis, pairs in ((0, along, ((-1, -1), (1, 1))), (1, right, ((-1, -1), (1, 1))), (2, lift, ((-1, low), (1, high))))
+        for sign, wanted in pairs
+    ]
+    faces[4].points += [tops[0], tops[2]]
+    return faces, [*shape.values(), *tops]
+
+
+# ---- files
+
+
+def numbers(text):
+    """Places of a KML text: `LON,LAT[,HEIGHT]`, one behind another."""
+    places = [tuple(float(part) for part in word.split(",")) for word in text.split()]
+    return [(p[1], p[0], p[2] if len(p) > 2 else 0.0) for p in places]
+
+
+def kml_places(text, kind):
+    """The places of the first line or outer ring of a KML document."""
+    for node in xml.etree.ElementTree.fromstring(text).iter():
+        if node.tag.rpartition("}")[2] == kind:
+            for inner in node.iter():
+                if inner.tag.rpartition("}")[2] == "coordinates":
+                    return numbers(inner.text)
+    raise ShapeError(f"no {kind} in it")
+
+
+def json_places(tree, kind):
+    """The places of the first line or outer ring of a GeoJSON value."""
+    if isinstance(tree, dict):
+        if tree.get("type") == kind:
+            line = tree["coordinates"][0] if kind == "Polygon" else tree["coordinates"]
+            return [(p[1], p[0], p[2] if len(p) > 2 else 0.0) for p in line]
+        tree = list(tree.values())
+    for part in tree if isinstance(tree, list) else []:
+        found = json_places(part, kind)
+        if found:
+            return found
+    return []
+
+
+def places_of(path, kind):
+    """The places (latitude, longitude, height) of a file."""
+    with open(path, encoding="utf-8") as file:
+        text = file.read()
+    if text.lstrip().startswith("<"):
+        return kml_places(text, kind)
+    if text.lstrip().startswith("{"):
+        return json_places(json.loads(text), kind)
+    rows = [[float(word) for word in line.split()] for line in text.splitlines() if line.strip()]
+    return [(row[0], row[1], row[2] if len(row) > 2 else 0.0) for row in rows]
+
+
+# ---- the command
+
+
+def reach_lines(name, latitude, longitude):
+    """East, north and up at a place."""
+    axes = local_axes(math.radians(latitude), math.radians(longitude))
+    return ["reach {}-{} {} {} {}".format(name, letter, *whole(axis)) for letter, axis in zip("enu", axes)]
+
+
+def field_list(names):
+    """A reader of `NAME,..` with these fields: a name, a file, or numbers."""
+
+    def read(text):
+        fields = text.split(",")
+        if len(fields) != len(names) or not re.fullmatch("[a-z0-9-]{1,12}", fields[0]):
+            raise argparse.ArgumentTypeError(f"it is {','.join(names)}, the name 1 to 12 of a-z, 0-9 and -")
+        return [field if name in ("NAME", "FILE") else float(field) for name, field in zip(names, fields)]
+
+    return read
+
+
+def arguments():
+    parser = argparse.ArgumentParser(description=__doc__.splitlines()[0], usage=__doc__.split("usage: ")[1].split("\n")[0])
+    parser.add_argument("--for", dest="purpose", choices=("outside", "inside"), required=True)
+    for option, names in (
+        ("--place", "NAME LAT LON HEIGHT RADIUS UP"),
+        ("--lane", "NAME FILE WIDTH LOW HIGH"),
+        ("--area", "NAME FILE LOW HIGH"),
+        ("--reach", "NAME LAT LON"),
+    ):
+        parser.add_argument(option, action="append", default=[], type=field_list(names.split()), metavar=names.replace(" ", ","))
+    return parser.parse_args()
+
+
+def file_lines(args):
+    """The lines of the file."""
+    lines = ["gpszones 2"]
+    for place in args.place:
+        lines += place_lines(*place, args.purpose)
+    for name, path, width, low, high in args.lane:
+        lines += lane_lines(name, places_of(path, "LineString"), width, low, high, args.purpose)
+    for name, path, low, high in args.area:
+        lines += area_lines(name, places_of(path, "Polygon"), low, high, args.purpose)
+    for reach in args.reach:
+        lines += reach_lines(*reach)
+    return lines
+
+
+def main():
+    try:
+        print(*file_lines(arguments()), sep="\n")
+    except (OSError, ShapeError, ValueError, KeyError, xml.etree.ElementTree.ParseError) as fault:
+        print(f"zones.py: {fault}", file=sys.stderr)
+        return 1
+    return 0
+
+
+if __name__ == "__main__":
+    sys.exit(main())
