@@ -49,9 +49,10 @@ SETTINGS = """\
 centre = $centre
 half = 500000
 outliers = 1
-bisections = 128
+bisections = 32
 width = 1000
 max_age = 14400
+pairs = true
 
 [signal]
 mode = "single"

@@ -21,8 +21,9 @@ import time
 import unittest
 from pathlib import Path
 
-import made_network
-from made_network import coverlog
+import made_network  # before those of scripts/, which it puts on the path
+import coverlog
+import testing
 
 HERE = Path(__file__).resolve().parent
 ROOT = HERE.parent
@@ -408,7 +409,7 @@ class Made(unittest.TestCase):
             folder = Path(path)
             words = [sys.executable, HERE / "made_network.py", folder, "--epochs", "2"]
             subprocess.run(words, check=True)
-            text = (folder / "settings.toml").read_text().replace("bisections = 128", "bisections = 16")
+            text = (folder / "settings.toml").read_text()
             for packed in sorted(folder.glob("*.obs.gz")):
                 station, day = packed.name[:4], packed.name[4:11]
                 place = [round(at * 1000) for at in made_network.PLACES[station]]
@@ -508,17 +509,8 @@ class OnSlurm(Base):
 
 def main(program, slurm):
     Room.program = os.path.abspath(program)
-    loader = unittest.defaultTestLoader
     classes = (OnSlurm,) if slurm else (Whole, Killed, Changed, Missing, FullDisk, Made)
-    tests = unittest.TestSuite(loader.loadTestsFromTestCase(it) for it in classes)
-    done = unittest.TextTestRunner(verbosity=2).run(tests)
-    failed = len(done.failures) + len(done.errors)
-    left_out = len(done.skipped)
-    for _, why in done.skipped:
-        print(f"left out: {why}")
-    note = f", {left_out} left out" if left_out else ""
-    print(f"workflow: {done.testsRun - failed - left_out} passed, {failed} failed{note}")
-    return 1 if failed else 0
+    return testing.run("workflow", classes, verbosity=2)
 
 
 if __name__ == "__main__":
