@@ -1,5 +1,5 @@
 #!/usr/bin/env python3
-"""Writes a file of zones for `guard` (its second form, `gpszones 2`), from places, lanes and areas of a map.
+"""Writes a file of zones (its second form, `gpszones 2`), from places, lanes and areas of a map; zone_answers.py reads it.
 
 usage: zones.py --for outside|inside [--place P].. [--lane L].. [--area A].. [--reach R].. > ZONES
 
@@ -12,8 +12,8 @@ Latitudes and longitudes are in degrees, lengths and heights in metres, heights 
 first LineString or Polygon), GeoJSON (the same) or lines `LAT LON [HEIGHT]`. A polygon's edges are straight in the plane that
 touches the ellipsoid below its middle; its heights follow the ellipsoid. A place is a prism of 12 sides, a leg one of 4.
 
-The user says what the zones are for, and all is rounded to that side. A zone for `outside` grows: where `guard` says `outside`
-no fitting point lies in the zone as it was given. A zone for `inside` shrinks: where `guard` says `inside` each fitting point
+The user says what the zones are for, and all is rounded to that side. A zone for `outside` grows: where the answer is `outside`
+no fitting point lies in the zone as it was given. A zone for `inside` shrinks: where it is `inside` each fitting point
 lies in it. Growing or shrinking takes a millimetre for the arithmetic of this script, and what the curve of the ellipsoid, the
 round of a place (3.5 % of its radius) and directions of whole numbers cost. For `outside` a polygon that isn't convex is cut
 into triangles NAME-1, NAME-2, ..; for `inside` it is refused, as is one of more than 14 corners: each of its points
