@@ -1,5 +1,5 @@
 -- Every point that the conditions allow has a mapping.
-use Rattle.std.proofs.Common.{ℕ, ◌+◌, ◌*◌, ◌^◌, ◌≤◌, arith, refl}
+use Rattle.std.proofs.Common.{ℕ, ◌+◌, ◌*◌, ◌^◌, ◌≤◌, arith, refl, lit≤}
 use Rattle.std.specs.Prelude.{ℤ, pos, nat_abs, ◌+ℤ◌, ◌-ℤ◌, ◌*ℤ◌, ◌<ℤ◌}
 use Rattle.std.proofs.lemmas.Int.{ints}
 use Rattle.grid_model.specs.Amounts.{square}
@@ -10,7 +10,10 @@ use Rattle.grid_model.specs.Squares.{sum_of_squares}
 use Rattle.grid_model.specs.declared.boxes.Pos.{Pos}
 use Rattle.grid_model.proofs.RootLemmas.{square-mono}
 use Rattle.fix_interval.proofs.NearLemmas.{near_exists}
-use Rattle.gnss_model.specs.Mapping.{Mapping, IsRaised, up_scale, slant_floor, slant_of}
+use Rattle.gnss_model.specs.Layers.{layer_scale, layer_floor}
+use Rattle.gnss_model.specs.Mapping.{Mapping, IsRaised, up_scale, bent, slant_of}
+use Rattle.gnss_model.specs.declared.delays.Layer.{Layer}
+use Rattle.gnss_model.specs.declared.delays.Layer.TheVariants.{Troposphere, Ionosphere}
 use Rattle.elevation_mapping.proofs.Lengths.{root_at_least}
 
 -- zu is hardly less than z in amount
@@ -26,17 +29,21 @@ up_sum x y z zu h k = grind (arith, up_square z zu h, k)
 positive : (n : ℕ) → 1 ≤ n → pos 0 <ℤ pos n
 positive n h = omega (arith, ints)
 
-slant_positive : (s : ℤ) → pos 0 <ℤ pos (1000 * slant_of s)
-slant_positive s =
-    let h : 1 ≤ slant_of s = root_at_least 1 (slant_floor + square (nat_abs s)) (omega arith) in
-    positive (1000 * slant_of s) (omega (arith, h))
+floor_positive : (layer : Layer) → 1 ≤ layer_floor layer
+floor_positive Troposphere = lit≤ tt
+floor_positive Ionosphere = lit≤ tt
+
+slant_positive : (layer : Layer) (s : ℤ) → pos 0 <ℤ pos (1000 * slant_of layer s)
+slant_positive layer s =
+    let h : 1 ≤ slant_of layer s = root_at_least 1 (layer_floor layer + square (bent layer (nat_abs s))) (omega (arith, floor_positive layer)) in
+    positive (1000 * slant_of layer s) (omega (arith, h))
 
 range_positive : (x y z : ℤ) (p : Pos) → square (5 * 10 ^ 12) ≤ sum_of_squares (x -ℤ p.x) (y -ℤ p.y) (z -ℤ p.z) → 1 ≤ range_to x y z p
 unfolding range_to
 range_positive x y z p h = root_at_least 1 (sum_of_squares (x -ℤ p.x) (y -ℤ p.y) (z -ℤ p.z)) (omega (arith, h))
 
-pub mapping_exists : (p : Pos) (x y z : ℤ) → square (6 * 10 ^ 12) ≤ sum_of_squares p.x p.y p.z → square (5 * 10 ^ 12) ≤ sum_of_squares (x -ℤ p.x) (y -ℤ p.y) (z -ℤ p.z) → (factor : ℤ) × Mapping p x y z (range_to x y z p) factor
-mapping_exists p x y z h k =
+pub mapping_exists : (layer : Layer) (p : Pos) (x y z : ℤ) → square (6 * 10 ^ 12) ≤ sum_of_squares p.x p.y p.z → square (5 * 10 ^ 12) ≤ sum_of_squares (x -ℤ p.x) (y -ℤ p.y) (z -ℤ p.z) → (factor : ℤ) × Mapping layer p x y z (range_to x y z p) factor
+mapping_exists layer p x y z h k =
     let zu = near_exists (p.z *ℤ pos up_scale) (pos (10 ^ 14)) (record { lt = tt }) in
     let v = root (sum_of_squares p.x p.y zu.0) in
     let r = range_to x y z p in
@@ -49,7 +56,7 @@ mapping_exists p x y z h k =
     let ey = near_exists ((y -ℤ p.y) *ℤ pos unit) (pos r) pr in
     let ez = near_exists ((z -ℤ p.z) *ℤ pos unit) (pos r) pr in
     let se = near_exists (((ux.0 *ℤ ex.0) +ℤ (uy.0 *ℤ ey.0)) +ℤ (uz.0 *ℤ ez.0)) (pos unit) (record { lt = tt }) in
-    let mp = near_exists (pos (1001 * (unit * unit))) (pos (1000 * slant_of se.0)) (slant_positive se.0) in (
+    let mp = near_exists (pos (layer_scale layer * (unit * unit))) (pos (1000 * slant_of layer se.0)) (slant_positive layer se.0) in (
       mp.0,
       record {
         raised_z = zu.0;

@@ -15,22 +15,77 @@ use Rattle.grid_model.specs.Squares.{least_end, greatest_end, least_square, grea
 use Rattle.grid_model.proofs.RootLemmas.{root_mono, square-mono, root_is}
 use Rattle.grid_model.proofs.ProductLemmas.{mul_mono}
 use Rattle.grid_model.proofs.SquareLemmas.{one_part, square_between, least_le_greatest_end, greatest_square_le}
-use Rattle.gnss_model.specs.Mapping.{slant_floor, slant_of}
+use Rattle.gnss_model.specs.Layers.{layer_scale, layer_floor, layer_room}
+use Rattle.gnss_model.specs.Mapping.{bent, slant_of}
+use Rattle.gnss_model.specs.declared.delays.Layer.{Layer}
+use Rattle.gnss_model.specs.declared.delays.Layer.TheVariants.{Troposphere, Ionosphere}
 use Rattle.elevation_mapping.specs.SineSizes.{sine_amount, sine_slope, least_slant, slant_amount}
 use Rattle.elevation_mapping.proofs.Lengths.{root_at_least, two_products}
 use Rattle.elevation_mapping.proofs.SineWidth.{cancel}
 
+-- ---- what the constants of the layers keep to
+
+-- 1.001, or 1, over units twice
+abbrev pub mapped_one : Layer → ℕ
+mapped_one layer = unit * (layer_scale layer * 10 ^ 13)
+
+bent_whole : (a : ℕ) → bent Troposphere a ≡ a
+bent_whole a = omega arith
+
+root_of_more : (n a b : ℕ) → a ≤ b → root (n + square a) ≤ root (n + square b)
+root_of_more n a b h = root_mono (n + square a) (n + square b) _ _ (root_is (n + square a)) (root_is (n + square b)) (omega (arith, square-mono a b h))
+
+floor_square : (layer : Layer) → least_slant layer * least_slant layer + 2 * slant_amount + 1 ≤ layer_floor layer
+floor_square Troposphere = lit≤ tt
+floor_square Ionosphere = lit≤ tt
+
+pub floor_most : (layer : Layer) → layer_floor layer ≤ 10 ^ 32
+floor_most Troposphere = lit≤ tt
+floor_most Ionosphere = lit≤ tt
+
+slant_some : (layer : Layer) → 1 ≤ least_slant layer
+slant_some Troposphere = lit≤ tt
+slant_some Ionosphere = lit≤ tt
+
+mapped_some : (layer : Layer) → 1 ≤ mapped_one layer
+mapped_some Troposphere = lit≤ tt
+mapped_some Ionosphere = lit≤ tt
+
+pub bent_mono : (layer : Layer) (a b : ℕ) → a ≤ b → bent layer a ≤ bent layer b
+bent_mono Troposphere a b h = omega (arith, h)
+bent_mono Ionosphere a b h = omega (arith, h)
+
+pub bent_le : (layer : Layer) (a : ℕ) → bent layer a ≤ a
+bent_le Troposphere a = omega arith
+bent_le Ionosphere a = omega arith
+
+pub slant_room : (n b t : ℕ) → n ≤ 10 ^ 32 → b ≤ t → square t ≤ square sine_amount → n + b * b ≤ 10 ^ 32 + square sine_amount
+slant_room n b t f h k = omega (arith, f, square-mono b t h, k)
+
+-- how far a part of a sine is spread, x and y being these parts of s and t
+bent_step : (e s t x y : ℕ) → 67281363 * y ≤ 63781363 * t → 63781363 * s < 67281363 * (x + 1) → 63781363 * t < 67281363 * (y + 1) → unit * t ≤ unit * s + (e * (t + 109 * 10 ^ 14) + 10020 * unit) → unit * y ≤ unit * x + (e * (y + 110 * 10 ^ 14) + 10021 * unit)
+bent_step e s t x y a b c h = let m = mul-le e (63781363 * t) e (67281363 * (y + 1)) (omega arith) (omega (arith, c)) in omega (arith, a, b, m, h)
+
+whole_step : (e s t x y : ℕ) → x ≡ s → y ≡ t → unit * t ≤ unit * s + (e * (t + 109 * 10 ^ 14) + 10020 * unit) → unit * y ≤ unit * x + (e * (y + 110 * 10 ^ 14) + 10021 * unit)
+whole_step e s t x y a b h = rw (a, b) (omega (arith, h))
+
+bent_spread : (layer : Layer) (e s t : ℕ) → unit * t ≤ unit * s + (e * (t + 109 * 10 ^ 14) + 10020 * unit) → unit * bent layer t ≤ unit * bent layer s + (e * (bent layer t + 110 * 10 ^ 14) + 10021 * unit)
+bent_spread Troposphere e s t h = whole_step e s t (bent Troposphere s) (bent Troposphere t) (bent_whole s) (bent_whole t) h
+bent_spread Ionosphere e s t h = bent_step e s t (bent Ionosphere s) (bent Ionosphere t) (omega arith) (omega arith) (omega arith) h
+
 -- ---- it is held
 
-pub slant_held : (lo hi a b s : ℤ) → a ≡ pos (root (slant_floor + least_square lo hi)) → b ≡ pos (root (slant_floor + greatest_square lo hi)) → Between lo hi s → Between a b (pos (slant_of s))
-slant_held lo hi a b s e f h =
-    let q = square_between lo hi s h in
-    let u = root_mono (slant_floor + least_square lo hi) (slant_floor + square (nat_abs s)) _ _ (root_is (slant_floor + least_square lo hi)) (root_is (slant_floor + square (nat_abs s))) (omega (arith, q.0)) in
-    let v = root_mono (slant_floor + square (nat_abs s)) (slant_floor + greatest_square lo hi) _ _ (root_is (slant_floor + square (nat_abs s))) (root_is (slant_floor + greatest_square lo hi)) (omega (arith, q.1)) in
+pub slant_held : (layer : Layer) (lo hi a b s : ℤ) → a ≡ pos (root (layer_floor layer + square (bent layer (least_end lo hi)))) → b ≡ pos (root (layer_floor layer + square (bent layer (greatest_end lo hi)))) → Between lo hi s → Between a b (pos (slant_of layer s))
+slant_held layer lo hi a b s e f h =
+    let low : least_end lo hi ≤ nat_abs s = omega (arith, ints, h.from, h.to, one_part lo, one_part hi, one_part s) in
+    let high : nat_abs s ≤ greatest_end lo hi = omega (arith, ints, h.from, h.to, one_part lo, one_part hi, one_part s) in
+    let n = layer_floor layer in
+    let u = root_of_more n (bent layer (least_end lo hi)) (bent layer (nat_abs s)) (bent_mono layer (least_end lo hi) (nat_abs s) low) in
+    let v = root_of_more n (bent layer (nat_abs s)) (bent layer (greatest_end lo hi)) (bent_mono layer (nat_abs s) (greatest_end lo hi) high) in
     record { from = omega (arith, ints, e, u); to = omega (arith, ints, f, v) }
 
-pub slant_at_least : (x : ℕ) → least_slant ≤ root (slant_floor + x)
-slant_at_least x = root_at_least least_slant (slant_floor + x) (omega arith)
+pub slant_at_least : (layer : Layer) (x : ℕ) → least_slant layer ≤ root (layer_floor layer + x)
+slant_at_least layer x = root_at_least (least_slant layer) (layer_floor layer + x) (omega (arith, floor_square layer))
 
 -- ---- two slants p and q, of sines t and s
 
@@ -56,30 +111,30 @@ mixed_less n s t p q h k =
 gap : (n s t p q : ℕ) → n + s * s < (q + 1) * (q + 1) → n + t * t < (p + 1) * (p + 1) → p * p ≤ n + t * t → q ≤ p → p * p + s * t ≤ q * p + t * t + 2 * p
 gap n s t p q h k i o = let m = mixed_less n s t p q h k in omega (arith, m, i, o)
 
-sine_square : (t p : ℕ) → slant_floor + t * t < (p + 1) * (p + 1) → p ≤ slant_amount → t * t + least_slant * least_slant ≤ p * p
-sine_square t p h k = omega (arith, h, k)
+sine_square : (n l t p : ℕ) → l * l + 2 * slant_amount + 1 ≤ n → n + t * t < (p + 1) * (p + 1) → p ≤ slant_amount → t * t + l * l ≤ p * p
+sine_square n l t p f h k = omega (arith, f, h, k)
 
--- the slope that is left of e
-abbrev pub slant_slope : ℕ → ℕ
-slant_slope e = 1178 * 10 ^ 13 * e + 10024 * unit
+-- the slope that is left of e, where slants are at least l
+abbrev pub slant_slope : ℕ → ℕ → ℕ
+slant_slope l e = (2 * l + 110 * 10 ^ 14) * e + 10025 * unit
 
-spread_times : (e s t p q : ℕ) → unit * t ≤ unit * s + (e * (t + 109 * 10 ^ 14) + 10020 * unit) → p * p + s * t ≤ q * p + t * t + 2 * p → unit * (p * p) ≤ unit * (q * p) + (e * (t * t) + (109 * 10 ^ 14 * e + 10020 * unit) * t) + 2 * unit * p
+spread_times : (e s t p q : ℕ) → unit * t ≤ unit * s + (e * (t + 110 * 10 ^ 14) + 10021 * unit) → p * p + s * t ≤ q * p + t * t + 2 * p → unit * (p * p) ≤ unit * (q * p) + (e * (t * t) + (110 * 10 ^ 14 * e + 10021 * unit) * t) + 2 * unit * p
 spread_times e s t p q h g =
-    let a = mul-le t (unit * t) t (unit * s + (e * (t + 109 * 10 ^ 14) + 10020 * unit)) (omega arith) h in
+    let a = mul-le t (unit * t) t (unit * s + (e * (t + 110 * 10 ^ 14) + 10021 * unit)) (omega arith) h in
     omega (arith, a, g)
 
-pub slants_spread : (e s t p q : ℕ) → 1 ≤ p → t * t + least_slant * least_slant ≤ p * p → least_slant ≤ p → unit * (p * p) ≤ unit * (q * p) + (e * (t * t) + (109 * 10 ^ 14 * e + 10020 * unit) * t) + 2 * unit * p → 2 * least_slant * unit * p ≤ 2 * least_slant * unit * q + slant_slope e * p
-slants_spread e s t p q o h k g =
+pub slants_spread : (l e s t p q : ℕ) → 1 ≤ p → t * t + l * l ≤ p * p → l ≤ p → unit * (p * p) ≤ unit * (q * p) + (e * (t * t) + (110 * 10 ^ 14 * e + 10021 * unit) * t) + 2 * unit * p → 2 * l * unit * p ≤ 2 * l * unit * q + slant_slope l e * p
+slants_spread l e s t p q o h k g =
+    let c = 110 * 10 ^ 14 * e + 10021 * unit in
     let a = mul-le e (t * t) e (p * p) (omega arith) (omega (arith, h)) in
-    let w = two_products least_slant t in
-    let b = mul-le (109 * 10 ^ 14 * e + 10020 * unit) (2 * (least_slant * t)) (109 * 10 ^ 14 * e + 10020 * unit) (p * p) (omega arith) (omega (arith, w, h)) in
-    let d = mul-le least_slant p p p k (omega arith) in
-    cancel (2 * least_slant * unit * p) (2 * least_slant * unit * q + slant_slope e * p) p o (omega (arith, a, b, d, g))
+    let a' = mul-le (2 * l) (e * (t * t)) (2 * l) (e * (p * p)) (omega arith) a in
+    let w = two_products l t in
+    let b = mul-le c (2 * (l * t)) c (p * p) (omega arith) (omega (arith, w, h)) in
+    let d = mul-le l p p p k (omega arith) in
+    let g' = mul-le (2 * l) (unit * (p * p)) (2 * l) (unit * (q * p) + (e * (t * t) + c * t) + 2 * unit * p) (omega arith) g in
+    cancel (2 * l * unit * p) (2 * l * unit * q + slant_slope l e * p) p o (omega (arith, a', b, d, g'))
 
--- ---- 1.001 over both
-
-abbrev pub mapped_one : ℕ
-mapped_one = 1001 * 10 ^ 29
+-- ---- 1.001, or 1, over both
 
 step : (k l z p q : ℕ) → (l + z) * q ≤ k → k ≤ l * p → z * q * p + k * q ≤ k * p
 step k l z p q h i =
@@ -87,16 +142,19 @@ step k l z p q h i =
     let b = mul-le k q (l * p) q i (omega arith) in
     omega (arith, a, b)
 
-pub quotients_spread : (f k l z p q : ℕ) → 1 ≤ p → least_slant ≤ q → 2 * least_slant * unit * p ≤ 2 * least_slant * unit * q + f * p → (l + z) * q ≤ k → k ≤ l * p → 2 * least_slant * unit * least_slant * z ≤ k * f
-quotients_spread f k l z p q o c g h i =
+pub quotients_spread : (n f k l z p q : ℕ) → 1 ≤ p → n ≤ q → 2 * n * unit * p ≤ 2 * n * unit * q + f * p → (l + z) * q ≤ k → k ≤ l * p → 2 * n * unit * n * z ≤ k * f
+quotients_spread n f k l z p q o c g h i =
     let a = step k l z p q h i in
-    let b = mul-le k (2 * least_slant * unit * p) k (2 * least_slant * unit * q + f * p) (omega arith) g in
-    let d = cancel (2 * least_slant * unit * (z * q)) (k * f) p o (omega (arith, a, b)) in
-    let e = mul-le z least_slant z q (omega arith) c in
-    omega (arith, d, e)
+    let a' = mul-le (2 * n * unit) (z * q * p + k * q) (2 * n * unit) (k * p) (omega arith) a in
+    let b = mul-le k (2 * n * unit * p) k (2 * n * unit * q + f * p) (omega arith) g in
+    let d = cancel (2 * n * unit * (z * q)) (k * f) p o (omega (arith, a', b)) in
+    let e = mul-le z n z q (omega arith) c in
+    let e' = mul-le (2 * n * unit) (z * n) (2 * n * unit) (z * q) (omega arith) e in
+    omega (arith, d, e')
 
-last_width : (d z : ℕ) → 2 * least_slant * unit * least_slant * z ≤ mapped_one * slant_slope (sine_slope d) → z + 4 ≤ 10 ^ 12 + 10 ^ 16 * d / (3 * 10 ^ 9)
-last_width d z h = omega (arith, h)
+last_width : (layer : Layer) (d z : ℕ) → 2 * least_slant layer * unit * least_slant layer * z ≤ mapped_one layer * slant_slope (least_slant layer) (sine_slope d) → z + 4 ≤ 10 ^ 11 + 10 ^ 16 * d / layer_room layer
+last_width Troposphere d z h = omega (arith, h)
+last_width Ionosphere d z h = omega (arith, h)
 
 -- ---- the ends of the result
 
@@ -117,8 +175,8 @@ high_quotient (negsuc n) y q k r i j e = omega (arith, ints)
 same : (u x : ℤ) → Between u u x → x ≡ u
 same u x b = omega (arith, ints, b.from, b.to)
 
-pub slant_fits : (n p : ℕ) → IsRoot n p → n ≤ slant_floor + square sine_amount → p ≤ slant_amount
-slant_fits n p r h = grind (arith, square-mono (slant_amount + 1) p, r.square_le, h)
+pub slant_fits : (layer : Layer) (n p : ℕ) → IsRoot n p → n ≤ layer_floor layer + square sine_amount → p ≤ slant_amount
+slant_fits layer n p r h = let f = floor_most layer in grind (arith, square-mono (slant_amount + 1) p, r.square_le, h, f)
 
 ends_width : (l h : ℤ) (z t : ℕ) → (l +ℤ pos 2) ≡ pos (up (l +ℤ pos 2)) → up (h -ℤ pos 2) ≤ up (l +ℤ pos 2) + z → z + 4 ≤ t → (h -ℤ l) ≤ℤ pos t
 ends_width l h z t e i j = omega (arith, ints, e, i, j, one_part (h -ℤ pos 2), one_part h, one_part l)
@@ -126,41 +184,53 @@ ends_width l h z t e i j = omega (arith, ints, e, i, j, one_part (h -ℤ pos 2),
 restored : (l m q k : ℕ) → l + (m - l) ≡ m → m * q ≤ k → (l + (m - l)) * q ≤ k
 restored l m q k e h = subst (λ (z : ℕ). z * q ≤ k) (sym e) h
 
-no_width : (z t : ℕ) → z ≡ 0 → z + 4 ≤ 10 ^ 12 + t
+no_width : (z t : ℕ) → z ≡ 0 → z + 4 ≤ 10 ^ 11 + t
 no_width z t e = omega arith
 
--- all as natural numbers
-natural_width : (d s t p q l m : ℕ) → IsRoot (slant_floor + s * s) q → IsRoot (slant_floor + t * t) p → s ≤ t → p ≤ slant_amount → unit * t ≤ unit * s + (sine_slope d * (t + 109 * 10 ^ 14) + 10020 * unit) → m * q ≤ mapped_one → mapped_one ≤ l * p → (m - l) + 4 ≤ 10 ^ 12 + 10 ^ 16 * d / (3 * 10 ^ 9)
-natural_width d s t p q l m rq rp o fp h i j =
+root_above : (n c s q : ℕ) → c * c + 2 * slant_amount + 1 ≤ n → IsRoot (n + s * s) q → c ≤ q
+root_above n c s q f r = grind (arith, square-mono (q + 1) c, r.next_square_gt, f)
+
+-- all as natural numbers, s and t being parts of sines
+natural_width : (layer : Layer) (d s t p q l m : ℕ) → IsRoot (layer_floor layer + s * s) q → IsRoot (layer_floor layer + t * t) p → s ≤ t → p ≤ slant_amount → unit * t ≤ unit * s + (sine_slope d * (t + 110 * 10 ^ 14) + 10021 * unit) → m * q ≤ mapped_one layer → mapped_one layer ≤ l * p → (m - l) + 4 ≤ 10 ^ 11 + 10 ^ 16 * d / layer_room layer
+natural_width layer d s t p q l m rq rp o fp h i j =
+    let n = layer_floor layer in
+    let c = least_slant layer in
     let a = square-mono s t o in
-    let qp = root_mono (slant_floor + s * s) (slant_floor + t * t) q p rq rp (omega (arith, a)) in
-    let cq : least_slant ≤ q = grind (arith, square-mono (q + 1) least_slant, rq.next_square_gt) in
-    let g = gap slant_floor s t p q rq.next_square_gt rp.next_square_gt rp.square_le qp in
-    let x = sine_square t p rp.next_square_gt fp in
-    let y = slants_spread (sine_slope d) s t p q (omega (arith, cq, qp)) x (omega (arith, cq, qp)) (spread_times (sine_slope d) s t p q h g) in
+    let qp = root_mono (n + s * s) (n + t * t) q p rq rp (omega (arith, a)) in
+    let cq : c ≤ q = root_above n c s q (floor_square layer) rq in
+    let c1 = slant_some layer in
+    let g = gap n s t p q rq.next_square_gt rp.next_square_gt rp.square_le qp in
+    let x = sine_square n c t p (floor_square layer) rp.next_square_gt fp in
+    let y = slants_spread c (sine_slope d) s t p q (omega (arith, c1, cq, qp)) x (omega (arith, cq, qp)) (spread_times (sine_slope d) s t p q h g) in
     elim (cases_lt l m) [
-      | inl less ↦ last_width d (m - l) (quotients_spread (slant_slope (sine_slope d)) mapped_one l (m - l) p q (omega (arith, cq, qp)) cq y (restored l m q mapped_one (omega arith) i) j)
-      | inr not_less ↦ no_width (m - l) (10 ^ 16 * d / (3 * 10 ^ 9)) (omega arith)
+      | inl less ↦ last_width layer d (m - l) (quotients_spread c (slant_slope c (sine_slope d)) (mapped_one layer) l (m - l) p q (omega (arith, c1, cq, qp)) cq y (restored l m q (mapped_one layer) (omega arith) i) j)
+      | inr not_less ↦ no_width (m - l) (10 ^ 16 * d / layer_room layer) (omega arith)
     ]
 
-pub mapped_spread : (d : ℕ) (sl sh a b l h : ℤ) → Ends sine_amount (2 * sine_amount) sl sh → greatest_end sl sh * unit ≤ least_end sl sh * unit + (sine_slope d * (greatest_end sl sh + 109 * 10 ^ 14) + 10020 * unit) → a ≡ pos (root (slant_floor + least_square sl sh)) → b ≡ pos (root (slant_floor + greatest_square sl sh)) → IsTightQuotient (pos unit) (pos unit) a b (pos (1001 * 10 ^ 13)) l h → (h -ℤ l) ≤ℤ pos (10 ^ 12 + 10 ^ 16 * d / (3 * 10 ^ 9))
-mapped_spread d sl sh a b l h e n ea eb t =
-    let s = least_end sl sh in
-    let g = greatest_end sl sh in
-    let q = root (slant_floor + s * s) in
-    let p = root (slant_floor + g * g) in
-    let rq = root_is (slant_floor + s * s) in
-    let rp = root_is (slant_floor + g * g) in
+pub mapped_spread : (layer : Layer) (d : ℕ) (sl sh a b l h : ℤ) → Ends sine_amount (2 * sine_amount) sl sh → greatest_end sl sh * unit ≤ least_end sl sh * unit + (sine_slope d * (greatest_end sl sh + 109 * 10 ^ 14) + 10020 * unit) → a ≡ pos (root (layer_floor layer + square (bent layer (least_end sl sh)))) → b ≡ pos (root (layer_floor layer + square (bent layer (greatest_end sl sh)))) → IsTightQuotient (pos unit) (pos unit) a b (pos (layer_scale layer * 10 ^ 13)) l h → (h -ℤ l) ≤ℤ pos (10 ^ 11 + 10 ^ 16 * d / layer_room layer)
+mapped_spread layer d sl sh a b l h e n ea eb t =
+    let f = layer_floor layer in
+    let c = layer_scale layer * 10 ^ 13 in
+    let s = bent layer (least_end sl sh) in
+    let g = bent layer (greatest_end sl sh) in
+    let q = root (f + s * s) in
+    let p = root (f + g * g) in
+    let rq = root_is (f + s * s) in
+    let rp = root_is (f + g * g) in
     let u = t.tight in
     let x = same (pos unit) t.low_num t.low_num_is in
     let y = same (pos unit) t.high_num t.high_num_is in
     let ld = t.low_den_is in
     let hd = t.high_den_is in
-    let cq = root_at_least 1 (slant_floor + s * s) (omega arith) in
-    let k : pos mapped_one ≤ℤ ((l +ℤ pos 2) *ℤ t.low_den) = subst (λ (z : ℤ). (z *ℤ pos (1001 * 10 ^ 13)) ≤ℤ ((l +ℤ pos 2) *ℤ t.low_den)) x u.low in
-    let m : ((h -ℤ pos 2) *ℤ t.high_den) ≤ℤ pos mapped_one = subst (λ (z : ℤ). ((h -ℤ pos 2) *ℤ t.high_den) ≤ℤ (z *ℤ pos (1001 * 10 ^ 13))) y u.high in
-    let low = low_quotient (l +ℤ pos 2) t.low_den b mapped_one p (lit≤ tt) k ld.to eb (omega (arith, ints, ld.from, ea, cq)) in
-    let high = high_quotient (h -ℤ pos 2) t.high_den a mapped_one q m hd.from ea in
-    let fit = slant_fits (slant_floor + g * g) p rp (omega (arith, greatest_square_le sine_amount sl sh e.low e.high)) in
-    let w = natural_width d s g p q (up (l +ℤ pos 2)) (up (h -ℤ pos 2)) rq rp (least_le_greatest_end sl sh e.order) fit (omega (arith, n)) high low.0 in
-    ends_width l h (up (h -ℤ pos 2) - up (l +ℤ pos 2)) (10 ^ 12 + 10 ^ 16 * d / (3 * 10 ^ 9)) low.1 (omega arith) w
+    let cq = root_at_least 1 (f + s * s) (omega (arith, floor_square layer)) in
+    let k : pos (mapped_one layer) ≤ℤ ((l +ℤ pos 2) *ℤ t.low_den) = subst (λ (z : ℤ). (z *ℤ pos c) ≤ℤ ((l +ℤ pos 2) *ℤ t.low_den)) x u.low in
+    let m : ((h -ℤ pos 2) *ℤ t.high_den) ≤ℤ pos (mapped_one layer) = subst (λ (z : ℤ). ((h -ℤ pos 2) *ℤ t.high_den) ≤ℤ (z *ℤ pos c)) y u.high in
+    let low = low_quotient (l +ℤ pos 2) t.low_den b (mapped_one layer) p (mapped_some layer) k ld.to eb (omega (arith, ints, ld.from, ea, cq)) in
+    let high = high_quotient (h -ℤ pos 2) t.high_den a (mapped_one layer) q m hd.from ea in
+    let small = greatest_square_le sine_amount sl sh e.low e.high in
+    let bend = square-mono g (greatest_end sl sh) (bent_le layer (greatest_end sl sh)) in
+    let fit = slant_fits layer (f + g * g) p rp (omega (arith, small, bend)) in
+    let order = bent_mono layer (least_end sl sh) (greatest_end sl sh) (least_le_greatest_end sl sh e.order) in
+    let spread = bent_spread layer (sine_slope d) (least_end sl sh) (greatest_end sl sh) (omega (arith, n)) in
+    let w = natural_width layer d s g p q (up (l +ℤ pos 2)) (up (h -ℤ pos 2)) rq rp order fit spread high low.0 in
+    ends_width l h (up (h -ℤ pos 2) - up (l +ℤ pos 2)) (10 ^ 11 + 10 ^ 16 * d / layer_room layer) low.1 (omega arith) w

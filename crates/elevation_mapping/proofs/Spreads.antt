@@ -6,7 +6,9 @@ use Rattle.std.proofs.lemmas.Nat.{mul-le}
 use Rattle.grid_model.specs.Angles.{unit}
 use Rattle.grid_model.specs.Intervals.{Ends}
 use Rattle.grid_model.specs.Rounding.{Near}
+use Rattle.gnss_model.specs.Layers.{layer_scale}
 use Rattle.gnss_model.specs.Mapping.{up_scale, IsMapped}
+use Rattle.gnss_model.specs.declared.delays.Layer.{Layer}
 
 pub scale_spread : (w : ℕ) → pos (10 ^ 13 * 0 + up_scale * w) ≤ℤ (pos (w + w / 148 + 1) *ℤ pos (10 ^ 14))
 scale_spread w = omega (arith, ints)
@@ -24,9 +26,9 @@ thousand : (z : ℤ) (h : ℕ) → z *ℤ pos (1000 * h) ≡ pos 1000 *ℤ (z *�
 thousand (pos n) h = omega (arith, ints)
 thousand (negsuc n) h = omega (arith, ints)
 
--- 1001 / 1000, both over 1000
-pub near_thousand : (h : ℕ) (mp : ℤ) → IsMapped h mp → Near (pos unit *ℤ pos (1001 * 10 ^ 13)) (pos h) mp
-near_thousand h mp n = record { below = omega (arith, ints, thousand mp h, n.below); above = omega (arith, ints, thousand mp h, n.above) }
+-- so many thousandths, both over 1000
+pub near_thousand : (layer : Layer) (h : ℕ) (mp : ℤ) → IsMapped layer h mp → Near (pos unit *ℤ pos (layer_scale layer * 10 ^ 13)) (pos h) mp
+near_thousand layer h mp n = record { below = omega (arith, ints, thousand mp h, n.below); above = omega (arith, ints, thousand mp h, n.above) }
 
 -- amounts of a zenith span and a side
 pub spare_fits : (a b : ℕ) → a ≤ 10 ^ 7 → b ≤ 2 * 10 ^ 13 → a * b ≤ 2 * 10 ^ 20

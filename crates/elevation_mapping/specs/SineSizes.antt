@@ -2,6 +2,8 @@
 -- the sine is spread over a box. Lengths are in um, sines and slants in 10^-16.
 use Rattle.std.specs.Prelude.{ℕ, ◌+◌, ◌*◌, ◌^◌}
 use Rattle.grid_model.specs.Angles.{unit}
+use Rattle.gnss_model.specs.declared.delays.Layer.{Layer}
+use Rattle.gnss_model.specs.declared.delays.Layer.TheVariants.{Troposphere, Ionosphere}
 
 -- a part of the up direction: a coordinate of a point, z raised
 abbrev pub up_amount : ℕ
@@ -43,9 +45,10 @@ sine_slope d = 6501 * d + 9 * 10 ^ 6
 abbrev pub sine_spread : ℕ → ℕ → ℕ
 sine_spread d s = sine_slope d * (s + 109 * 10 ^ 14) + 10020 * unit
 
--- a little less than the root of 0.002001, which is the least slant
-abbrev pub least_slant : ℕ
-least_slant = 44 * 10 ^ 13
+-- a little less than the root of a layer's floor, which is its least slant
+abbrev pub least_slant : Layer → ℕ
+least_slant Troposphere = 44 * 10 ^ 13
+least_slant Ionosphere = 318 * 10 ^ 13
 
 -- a slant, each axis of the sine taken for itself
 abbrev pub slant_amount : ℕ

@@ -11,7 +11,7 @@ use crate::lines::{offsets, place_of, squares_of};
 use crate::vectors::VECTORS;
 use crate::{is_far_from_origin, mapped, mapped_delay};
 use fix_interval::{Exact, Place};
-use gnss_model::{err_spare, spare};
+use gnss_model::{Delays, Layer, err_spare, spare};
 use grid_model::{Box3, Pos, Span};
 use std::process::Abort;
 
@@ -89,14 +89,30 @@ fn is_far_from_place(turned: Place, part: &Box3) -> bool
 }
 
 /// The mapping, where its conditions hold.
-fn mapped_from(rt: &impl Abort, place: Place, part: &Box3) -> Exact
+fn mapped_from(rt: &impl Abort, place: Place, part: &Box3, layer: Layer) -> Exact
     requires { PlaceEnds turned_reach (spare_of (grid_box part.now)) place }
 {
     let (_, side) = part.longest_axis();
     assert!(rt; side <= 200_000_000_000, "not too long a side");
     assert!(rt; is_far_from_origin(part), "far from the origin");
     assert!(rt; is_far_from_place(place, part), "far from the place");
-    mapped(place, part)
+    mapped(place, part, layer)
+}
+
+/// That the mapping holds an exact factor, but for what the equations cut off.
+fn holds_factor(rt: &impl Abort, found: Exact, exact: i128, corner: &str) {
+    assert!(rt;
+        found.lo.saturating_sub(CUT_OFF) <= exact,
+        "{exact} at the {corner} corner"
+    );
+    assert!(rt;
+        exact <= found.hi.saturating_add(CUT_OFF),
+        "{exact} at the {corner} corner"
+    );
+}
+
+fn width_of(found: Exact) -> i128 {
+    found.hi.saturating_sub(found.lo)
 }
 
 #[test]
@@ -121,7 +137,7 @@ fn a_satellite_on_the_horizon(rt: HostRuntime) {
         lo: point,
         hi: point,
     };
-    let found = mapped(place, &part);
+    let found = mapped(place, &part, Layer::Troposphere);
     assert!(rt; 223_773_000_000_000_000 <= found.lo, "no less");
     assert!(rt; found.hi <= 223_776_000_000_000_000, "no more");
 }
@@ -143,20 +159,23 @@ fn places_seen_from_the_corners_of_a_cube(rt: HostRuntime) {
             y: up_from(&rt, number(&rt, fields.next()), &part),
             z: up_from(&rt, number(&rt, fields.next()), &part),
         };
-        let found = mapped_from(&rt, place, &part);
+        let side = i128::from(side.max(0));
+        let near = mapped_from(&rt, place, &part, Layer::Troposphere);
         for corner in ["low", "high"] {
-            let exact = number(&rt, fields.next());
-            assert!(rt;
-                found.lo.saturating_sub(CUT_OFF) <= exact,
-                "{exact} at the {corner} corner"
-            );
-            assert!(rt;
-                exact <= found.hi.saturating_add(CUT_OFF),
-                "{exact} at the {corner} corner"
-            );
+            holds_factor(&rt, near, number(&rt, fields.next()), corner);
         }
-        let widest = 1_000_000_000_000 + 10_000_000 * i128::from(side.max(0)) / 3;
-        assert!(rt; found.hi <= found.lo.saturating_add(widest), "the width");
+        assert!(rt;
+            width_of(near) <= 100_000_000_000 + 10_000_000 * side / 3,
+            "the width"
+        );
+        let far = mapped_from(&rt, place, &part, Layer::Ionosphere);
+        for corner in ["low", "high"] {
+            holds_factor(&rt, far, number(&rt, fields.next()), corner);
+        }
+        assert!(rt;
+            width_of(far) <= 100_000_000_000 + 10_000_000 * side / 175,
+            "its width"
+        );
     }
 }
 
@@ -174,12 +193,35 @@ fn spare_of_a_root_of_2_km(rt: HostRuntime) {
             z: 7,
         },
     };
-    assert_eq!(rt; err_spare(&root, None), 0, "without a zenith span");
-    let zenith = Span {
+    let none = Delays {
+        zenith: None,
+        vertical: None,
+    };
+    assert_eq!(rt; err_spare(&root, none), 0, "without a delay");
+    let zenith = Some(Span {
         lo: -2_500_000,
         hi: 2_000_000,
-    };
-    assert_eq!(rt; err_spare(&root, Some(zenith)), 1_668_666, "with one");
+    });
+    assert_eq!(rt;
+        err_spare(&root, Delays { zenith, ..none }),
+        1_668_666,
+        "of the troposphere"
+    );
+    let vertical = Some(Span {
+        lo: 0,
+        hi: 35_000_000,
+    });
+    // 2,000 and 35 * 10^6 * 2 * 10^9 / (175 * 10^9)
+    assert_eq!(rt;
+        err_spare(&root, Delays { vertical, ..none }),
+        402_000,
+        "of the ionosphere"
+    );
+    assert_eq!(rt;
+        err_spare(&root, Delays { zenith, vertical }),
+        2_070_666,
+        "of both"
+    );
 }
 
 #[test]

@@ -1,5 +1,5 @@
 -- Keys and their tests.
-use Rattle.std.proofs.Common.{◌≡◌, ℕ, suc, ◌+◌, ◌-◌, ◌<◌, ℤ, codes, List, [], ◌∷◌, ◌++◌, Option, Some, None, is_some, Ok, refl, sym, ap, ◌∙◌, arith, append_assoc, append-nil}
+use Rattle.std.proofs.Common.{◌≡◌, ℕ, suc, ◌+◌, ◌-◌, ◌<◌, ℤ, codes, List, [], ◌∷◌, ◌++◌, Option, Some, None, is_some, Result, Ok, refl, sym, ap, ◌∙◌, arith, append_assoc, append-nil}
 use Rattle.std.proofs.lemmas.Option.{none-some}
 use Rattle.std.specs.Option.{option_map}
 use Rattle.std.specs.List.{cons_option}
@@ -9,8 +9,8 @@ use Rattle.grid_model.specs.declared.spans.Span.{Span}
 use Rattle.toml.specs.Data.{Members, no_members}
 use Rattle.error_bounds.specs.Faults.{Found}
 use Rattle.error_bounds.specs.Forms.{errors}
-use Rattle.error_bounds.specs.Keys.{Test, bound, value_of, printed, optional, satellite, test_optional, own_tests, fault_in, first_found, first_or, sats_from}
-use Rattle.error_bounds.specs.Reading.{Answers, RefusesTests, ends_in}
+use Rattle.error_bounds.specs.Keys.{Test, bound, value_of, printed, optional, optional_at, satellite, test_optional, own_tests, fault_in, first_found, first_or, sats_from}
+use Rattle.error_bounds.specs.Reading.{Answers, AnswersOptional, RefusesTests, ends_in}
 use Rattle.error_bounds.specs.Texts.{extra_of, own_extra}
 use Rattle.error_bounds.specs.declared.fault.Fault.{Fault}
 use Rattle.error_bounds.specs.declared.fault.SettingsError.{SettingsError}
@@ -26,6 +26,20 @@ pub span_value : (table name : List ℕ) (most : ℕ) (tree : Members) (s : Span
 span_value table name most tree s answer = rw (answer.1) (sym answer.2)
 
 -- what is mapped is there where it is
+-- the same of a span that may be absent
+pub optional_span : (table name : List ℕ) (most : ℕ) (tree : Members) (o : Option Span) → AnswersOptional (λ d r. ends_in r ≡ errors most d) table name tree (Ok o)
+    → optional_at (record { table = table; name = name; form = errors most }) tree ≡ Ok (option_map ends o)
+optional_span table name most tree None none = rw none refl
+optional_span table name most tree (Some s) (d, is, reads) = rw (is, sym reads) refl
+
+-- where six tests find nothing, no fault is found
+none_in : {V : Type 0} (r : Result V Fault) (v : V) → r ≡ Ok v → fault_in r ≡ None
+none_in r v e = rw e refl
+
+pub none_of_six : {V W : Type 0} (a b c d : Result V Fault) (e f : Result W Fault) (x y z w : V) (u v : W) (k l m n i j : List ℕ) → a ≡ Ok x → b ≡ Ok y → c ≡ Ok z → d ≡ Ok w → e ≡ Ok u → f ≡ Ok v
+    → first_or (fault_in a) k (first_or (fault_in b) l (first_or (fault_in c) m (first_or (fault_in d) n (first_or (fault_in e) i (first_or (fault_in f) j None))))) ≡ None
+none_of_six a b c d e f x y z w u v k l m n i j p q r s t o = rw (none_in a x p, none_in b y q, none_in c z r, none_in d w s, none_in e u t, none_in f v o) refl
+
 pub some_mapped : {A B : Type 0} (f : A → B) (o : Option A) → is_some o ≡ is_some (option_map f o)
 some_mapped f None = refl
 some_mapped f (Some x) = refl

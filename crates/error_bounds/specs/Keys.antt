@@ -98,6 +98,10 @@ troposphere = bound (codes "troposphere")
 abbrev pub zenith : Key (ℤ × ℤ)
 zenith = record { table = codes "bounds"; name = codes "zenith"; form = errors 10000 }
 
+-- of the ionosphere's delay at the vertical: amounts of at most 100 m, and it may be absent
+abbrev pub vertical : Key (ℤ × ℤ)
+vertical = record { table = codes "bounds"; name = codes "vertical"; form = errors 100000 }
+
 -- two codes of Galileo satellites, on E1 and E5a
 abbrev pub galileo_codes : Key Signal
 galileo_codes = record { table = codes "galileo"; name = codes "codes"; form = two_codes 53 }
@@ -210,7 +214,7 @@ truth_at key tree = or_false (optional_at key tree)
 abbrev pub bounds_tests : Members → List Test
 bounds_tests tree =
     test receiver tree ∷ test orbit_clock tree ∷ test ionosphere tree ∷ test troposphere tree
-    ∷ test_optional_at zenith tree ∷ []
+    ∷ test_optional_at zenith tree ∷ test_optional_at vertical tree ∷ []
 
 -- The table of Galileo may be absent. In single mode none is right.
 abbrev pub has_galileo : Members → Bool

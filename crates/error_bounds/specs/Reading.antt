@@ -55,7 +55,8 @@ value_of_settings s = record {
   signal = s.signal;
   common = ends s.common;
   extra = with_ends s.extra.items;
-  zenith = option_map ends s.zenith;
+  zenith = option_map ends s.delays.zenith;
+  vertical = option_map ends s.delays.vertical;
   galileo = option_map galileo_value s.galileo;
   speed = s.speed;
 }

@@ -16,7 +16,7 @@ knows scope.Signal name = list_any (is_text name) (codes "mode" ∷ codes "codes
 knows scope.Bounds name =
     list_any (is_text name)
     (codes "receiver" ∷ codes "orbit_clock" ∷ codes "ionosphere" ∷ codes "troposphere"
-    ∷ codes "zenith" ∷ [])
+    ∷ codes "zenith" ∷ codes "vertical" ∷ [])
 knows scope.Galileo name = list_any (is_text name) (codes "codes" ∷ codes "offset" ∷ [])
 knows scope.Motion name = list_any (is_text name) (codes "speed" ∷ [])
 knows (scope.Satellite both) name = is_satellite both name

@@ -31,6 +31,7 @@ pub record SettingsValue : Type 0 where
   pub common : ℤ × ℤ
   pub extra : List (Sat × (ℤ × ℤ))
   pub zenith : Option (ℤ × ℤ)
+  pub vertical : Option (ℤ × ℤ)
   pub galileo : Option GalileoValue
   pub speed : Option ℕ
 
@@ -80,6 +81,7 @@ pub record IsValue (tree : Members) (v : SettingsValue) : Type 0 where
   pub common : v.common ≡ add (add (add receiver orbit_clock) ionosphere) troposphere
   pub extra : v.extra ≡ extra_in (key.has_galileo tree) (key.satellites tree)
   pub zenith : key.optional_at key.zenith tree ≡ Ok v.zenith
+  pub vertical : key.optional_at key.vertical tree ≡ Ok v.vertical
   pub galileo : IsGalileo tree v.galileo
   pub speed : key.optional_at key.speed tree ≡ Ok v.speed
 

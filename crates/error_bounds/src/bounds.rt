@@ -1,11 +1,12 @@
 //! The bounds that are declared for every satellite, and sums of bounds.
 
 ghost use Rattle.std.specs.Prelude.{◌≡◌, ℕ, ◌+◌};
-ghost use Rattle.gnss_model.specs.Zenith.{IsZenith};
+ghost use Rattle.gnss_model.specs.Delays.{AreDelays};
 ghost use Rattle.sat_model.specs.Relaxed.{ends};
 ghost use Rattle.error_bounds.specs.Sizes.{IsDeclared, IsSpanWithin, IsSumOfFour};
 ghost use Rattle.error_bounds.specs.Texts.{add};
 
+use gnss_model::Delays;
 use grid_model::Span;
 
 /// What the keys of `bounds` give.
@@ -13,9 +14,9 @@ use grid_model::Span;
 pub struct Bounds {
     /// The sum of the four spans that have to be there.
     pub common: Span,
-    pub zenith: Option<Span>,
+    pub delays: Delays,
     pub ghost common_within: { IsSumOfFour common },
-    pub ghost zenith_within: { IsZenith zenith },
+    pub ghost delays_within: { AreDelays delays },
 }
 
 /// The sum of two spans: of up to five declared ones, and of one more.

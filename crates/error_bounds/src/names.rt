@@ -94,6 +94,7 @@ fn is_bound(name: &str) -> bool
         || name == "ionosphere"
         || name == "troposphere"
         || name == "zenith"
+        || name == "vertical"
 }
 
 /// Whether a name is one of G01 to G99, or where `both` systems are used of E01 to E99.

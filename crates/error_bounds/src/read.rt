@@ -36,7 +36,7 @@ fn read_tree(alloc: Global, tree: &Table) -> Result<Settings, SettingsError>
         signal,
         common: bounds.common,
         extra,
-        zenith: bounds.zenith,
+        delays: bounds.delays,
         galileo,
         speed,
     })

@@ -1,13 +1,13 @@
 //! The settings of a run.
 
 ghost use Rattle.std.specs.Prelude.{◌≡◌, ◌≤◌, true};
-ghost use Rattle.gnss_model.specs.Zenith.{IsZenith};
+ghost use Rattle.gnss_model.specs.Delays.{AreDelays};
 ghost use Rattle.error_bounds.specs.Sizes.{IsCentre, AreHalfSides, IsSumOfFour, IsDeclared, IsSpeed, IsAscending, are_codes, AreDeclared};
 
 use crate::bounds::sum;
 use crate::galileo::Galileo;
 use crate::search_box::box_around;
-use gnss_model::{Sat, Signal};
+use gnss_model::{Delays, Sat, Signal};
 use grid_model::{Box3, Pos, Span};
 use sat_model::Rules;
 
@@ -35,9 +35,9 @@ pub struct Settings {
     pub common: Span,
     /// What is declared for one satellite beyond that, within 1 km, in the order of their names.
     pub extra: Vec<(Sat, Span)>,
-    /// What is declared of the troposphere's delay at the zenith, within 10 m: mapped by elevation
-    /// it is added to the sum.
-    pub zenith: Option<Span>,
+    /// What is declared of the delays straight up, the troposphere's within 10 m and the
+    /// ionosphere's within 100 m: mapped by elevation they are added to the sum.
+    pub delays: Delays,
     /// What is declared for Galileo satellites. Where it is none they aren't used.
     pub galileo: Option<Galileo>,
     /// The greatest speed of the receiver, in mm/s and up to 1 km/s, as the key `motion.speed`
@@ -51,7 +51,7 @@ pub struct Settings {
     pub ghost common_within: { IsSumOfFour common },
     pub ghost extra_within: { AreDeclared extra.items },
     pub ghost extra_once: { IsAscending extra.items },
-    pub ghost zenith_within: { IsZenith zenith },
+    pub ghost delays_within: { AreDelays delays },
     pub ghost speed_within: { IsSpeed speed },
 }
 

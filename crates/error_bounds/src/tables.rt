@@ -3,7 +3,7 @@
 ghost use Rattle.std.specs.Prelude.{◌≡◌, ◌≤◌, true, None, Ok, option_map, IfOk, IfErr, OnOk};
 ghost use Rattle.sat_model.specs.Relaxed.{ends};
 ghost use Rattle.toml.specs.View.{table_view};
-ghost use Rattle.error_bounds.specs.Keys.{value_of, mode_of, codes_key, optional_at, zenith, search_tests, signal_tests, bounds_tests, first_found};
+ghost use Rattle.error_bounds.specs.Keys.{value_of, mode_of, codes_key, optional_at, zenith, vertical, search_tests, signal_tests, bounds_tests, first_found};
 ghost use Rattle.error_bounds.specs.Reading.{IsSearch, IsCommon, TellsFirst};
 ghost use Rattle.error_bounds.specs.Sizes.{are_codes};
 
@@ -14,7 +14,7 @@ use crate::key::{optional, required};
 use crate::places::{HalfSides, Place};
 use crate::search::Search;
 use crate::signals::{Codes, Mode, ModeWord};
-use gnss_model::Signal;
+use gnss_model::{Delays, Signal};
 use sat_model::Rules;
 use toml::Table;
 
@@ -72,7 +72,9 @@ pub fn read_bounds(tree: &Table) -> Result<Bounds, SettingsFault>
     ensures none { OnOk result (first_found (bounds_tests (table_view tree.now)) ≡ None) }
     ensures common { IfOk result (λ bounds. IsCommon (table_view tree.now) (ends bounds.common)) }
     ensures zenith { IfOk result (λ bounds.
-        optional_at zenith (table_view tree.now) ≡ Ok (option_map ends bounds.zenith)) }
+        optional_at zenith (table_view tree.now) ≡ Ok (option_map ends bounds.delays.zenith)) }
+    ensures vertical { IfOk result (λ bounds.
+        optional_at vertical (table_view tree.now) ≡ Ok (option_map ends bounds.delays.vertical)) }
     ensures fault { IfErr result (TellsFirst (bounds_tests (table_view tree.now))) }
 {
     let receiver = required(tree, "bounds", "receiver", &DECLARED)?;
@@ -80,8 +82,12 @@ pub fn read_bounds(tree: &Table) -> Result<Bounds, SettingsFault>
     let ionosphere = required(tree, "bounds", "ionosphere", &DECLARED)?;
     let troposphere = required(tree, "bounds", "troposphere", &DECLARED)?;
     let zenith = optional(tree, "bounds", "zenith", &Errors { most: 10_000 })?;
+    let vertical = optional(tree, "bounds", "vertical", &Errors { most: 100_000 })?;
     let common = sum(receiver, orbit_clock);
     let common = sum(common, ionosphere);
     let common = sum(common, troposphere);
-    Ok(Bounds { common, zenith })
+    Ok(Bounds {
+        common,
+        delays: Delays { zenith, vertical },
+    })
 }

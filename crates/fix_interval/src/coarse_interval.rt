@@ -40,6 +40,10 @@ impl Interval for Coarse {
 
     ghost whole_high = { λ x. record { times = x.hi; is = refl } };
 
+    ghost area_whole_low = { λ a. record { times = pos a.lo; is = refl } };
+
+    ghost area_whole_high = { λ a. record { times = pos a.hi; is = refl } };
+
     fn of(lo: i64, hi: i64) -> Coarse {
         Coarse {
             lo: grains_below(lo),

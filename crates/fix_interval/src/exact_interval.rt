@@ -49,6 +49,10 @@ impl Interval for Exact {
 
     ghost whole_high = { λ x. multiple_of_one x.hi };
 
+    ghost area_whole_low = { λ a. multiple_of_one (pos a.lo) };
+
+    ghost area_whole_high = { λ a. multiple_of_one (pos a.hi) };
+
     fn of(lo: i64, hi: i64) -> Exact {
         Exact {
             lo: lo as i128,

@@ -116,4 +116,8 @@ pub trait Interval: Copy {
     ghost whole_low: { (x : Self) → IsMultipleOf GRAIN (low x) };
 
     ghost whole_high: { (x : Self) → IsMultipleOf GRAIN (high x) };
+
+    ghost area_whole_low: { (a : Self.Area) → IsMultipleOf (GRAIN *ℤ GRAIN) (pos (area_low a)) };
+
+    ghost area_whole_high: { (a : Self.Area) → IsMultipleOf (GRAIN *ℤ GRAIN) (pos (area_high a)) };
 }

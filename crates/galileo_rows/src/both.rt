@@ -1,7 +1,8 @@
 //! The satellites of both systems as one source of rows.
 
 use error_bounds::Settings;
-use grid_model::{Box3, NoMemory, Span};
+use gnss_model::Delays;
+use grid_model::{Box3, NoMemory};
 use rinex_nav::Nav;
 use rinex_obs::ObsEpoch;
 use sat_rows::{EpochRows, RowSource, rows_by};
@@ -26,8 +27,8 @@ impl<'a> RowSource for BothRows<'a> {
         rows_by(alloc, epoch, self.nav, self.settings, root, &galileo)
     }
 
-    fn zenith(&self) -> Option<Span> {
-        self.settings.zenith
+    fn delays(&self) -> Delays {
+        self.settings.delays
     }
 
     ghost sound = { λ source. both_sound source.nav.now source.settings.now };

@@ -1,4 +1,5 @@
-pub mod Zenith
+pub mod Layers
+pub mod Delays
 pub mod Kepler
 pub mod RecordBounds
 pub mod EarthModel

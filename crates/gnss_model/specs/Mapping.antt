@@ -1,14 +1,17 @@
--- The troposphere delays a signal more, the nearer to the horizon its satellite stands: by its
--- delay at the zenith times 1.001 / sqrt(0.002001 + sin^2 E), E being the elevation. This is the
--- mapping of Black and Eisner (Journal of Geophysical Research 89, 1984), as RTCA DO-229 prints it
--- in appendix A.4.2.4. The up direction at a point is this project's own choice: it is that from
--- the earth's centre, with z scaled for the ellipsoid of WGS 84, which is the ellipsoid's normal at
--- its own points. Each printed equation has one named whole number, within one unit of its
--- fraction. Lengths are in um, ratios in 10^-16.
-use Rattle.std.specs.Prelude.{ℕ, ◌≡◌, ◌+◌, ◌*◌, ◌^◌, ℤ, pos, ◌+ℤ◌, ◌-ℤ◌, ◌*ℤ◌, nat_abs}
+-- A layer of the air delays a signal more, the nearer to the horizon its satellite stands: by its
+-- delay straight up times a factor that goes by the elevation E. The troposphere's is 1.001 /
+-- sqrt(0.002001 + sin^2 E), the mapping of Black and Eisner (Journal of Geophysical Research 89,
+-- 1984), as RTCA DO-229 prints it in appendix A.4.2.4; the ionosphere's is that of a thin shell in
+-- A.4.4.10.4. Both are one equation over other constants (`Layers`). The up direction at a point is
+-- this project's own choice: it is that from the earth's centre, with z scaled for the ellipsoid of
+-- WGS 84, which is the ellipsoid's normal at its own points. Each printed equation has one named
+-- whole number, within one unit of its fraction. Lengths are in um, ratios in 10^-16.
+use Rattle.std.specs.Prelude.{ℕ, ◌≡◌, ◌+◌, ◌*◌, ◌/◌, ◌^◌, ℤ, pos, ◌+ℤ◌, ◌-ℤ◌, ◌*ℤ◌, nat_abs}
 use Rattle.grid_model.specs.Amounts.{square}
 use Rattle.grid_model.specs.Angles.{unit}
+use Rattle.gnss_model.specs.Layers.{layer_scale, layer_floor, layer_part, layer_whole}
 use Rattle.gnss_model.specs.OrbitChain.{IsProduct}
+use Rattle.gnss_model.specs.declared.delays.Layer.{Layer}
 use Rattle.grid_model.specs.Roots.{root}
 use Rattle.grid_model.specs.Rounding.{Near}
 use Rattle.grid_model.specs.Squares.{sum_of_squares}
@@ -18,10 +21,6 @@ use Rattle.grid_model.specs.declared.boxes.Pos.{Pos}
 abbrev pub up_scale : ℕ
 up_scale = 100673949674228
 
--- 0.002001, in 10^-32
-abbrev pub slant_floor : ℕ
-slant_floor = 2001 * 10 ^ 26
-
 -- z / (1 - f)^2, which takes the place of z in the up direction
 abbrev pub IsRaised : ℤ → ℤ → Type 0
 IsRaised z raised = Near (z *ℤ pos up_scale) (pos (10 ^ 14)) raised
@@ -30,16 +29,21 @@ IsRaised z raised = Near (z *ℤ pos up_scale) (pos (10 ^ 14)) raised
 abbrev pub IsRatio : ℤ → ℕ → ℤ → Type 0
 IsRatio part length ratio = Near (part *ℤ pos unit) (pos length) ratio
 
--- sqrt(0.002001 + sin^2 E), cut off, for a sine
-abbrev pub slant_of : ℤ → ℕ
-slant_of sine = root (slant_floor + square (nat_abs sine))
+-- the amount of a sine times the layer's factor, cut off
+abbrev pub bent : Layer → ℕ → ℕ
+bent layer amount = amount * layer_part layer / layer_whole layer
 
--- 1.001 over a slant
-abbrev pub IsMapped : ℕ → ℤ → Type 0
-IsMapped slant factor = Near (pos (1001 * (unit * unit))) (pos (1000 * slant)) factor
+-- sqrt(0.002001 + sin^2 E), or sqrt(1 - f^2 + (f sin E)^2), cut off, for a sine
+abbrev pub slant_of : Layer → ℤ → ℕ
+slant_of layer sine = root (layer_floor layer + square (bent layer (nat_abs sine)))
 
--- seen from p, a satellite at x, y, z, at this range, has `factor` times the delay at the zenith
-pub record Mapping (p : Pos) (x y z : ℤ) (range : ℕ) (factor : ℤ) : Type 0 where
+-- 1.001, or 1, over a slant
+abbrev pub IsMapped : Layer → ℕ → ℤ → Type 0
+IsMapped layer slant factor =
+    Near (pos (layer_scale layer * (unit * unit))) (pos (1000 * slant)) factor
+
+-- seen from p, a satellite at x, y, z, at this range, has `factor` times the delay straight up
+pub record Mapping (layer : Layer) (p : Pos) (x y z : ℤ) (range : ℕ) (factor : ℤ) : Type 0 where
   -- the up direction at p
   pub raised_z : ℤ
   pub raised_z_is : IsRaised p.z raised_z
@@ -61,9 +65,9 @@ pub record Mapping (p : Pos) (x y z : ℤ) (range : ℕ) (factor : ℤ) : Type 0
   -- sin E, the product of both directions
   pub sine : ℤ
   pub sine_is : Near (((up_x *ℤ line_x) +ℤ (up_y *ℤ line_y)) +ℤ (up_z *ℤ line_z)) (pos unit) sine
-  -- 1.001 / sqrt(0.002001 + sin^2 E)
-  pub factor_is : IsMapped (slant_of sine) factor
+  -- 1.001 / sqrt(0.002001 + sin^2 E), or 1 / sqrt(1 - f^2 + (f sin E)^2)
+  pub factor_is : IsMapped layer (slant_of layer sine) factor
 
--- a delay at the zenith, mapped
+-- a delay straight up, mapped
 abbrev pub IsMappedDelay : ℤ → ℤ → ℤ → Type 0
-IsMappedDelay zenith factor delay = IsProduct zenith factor delay
+IsMappedDelay upward factor delay = IsProduct upward factor delay

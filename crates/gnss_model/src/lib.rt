@@ -4,6 +4,7 @@
 //! Lengths are whole numbers of micrometres (um), times are picoseconds (ps).
 #![tactic(auto)]
 
+mod delays;
 mod earth_model;
 mod elements;
 mod record_bounds;
@@ -11,6 +12,7 @@ mod satellites;
 mod spares;
 mod systems;
 
+pub use delays::{Delays, Layer, is_plain};
 pub use earth_model::EARTH_RATE;
 pub use elements::Elements;
 pub use record_bounds::{

@@ -1,4 +1,4 @@
--- A made satellite that isn't the outlier of its epoch is usable and consistent with the place at clock offset 0.
+-- A made satellite is usable and, where it isn't the outlier of its epoch, consistent with the place at clock offset 0.
 use Rattle.std.proofs.Common.{◌≡◌, ℕ, zero, suc, ◌+◌, ◌-◌, ◌*◌, ◌/◌, ◌%◌, ◌^◌, ◌<◌, ◌≤◌, List, [], ◌∷◌, length, map, refl, sym, ap, subst, ◌∙◌, arith, lit≤, inl, inr, true, false, None, Some}
 use Rattle.std.specs.Prelude.{ℤ, pos, negsuc, neg_ℤ, ◌+ℤ◌, ◌-ℤ◌, ◌*ℤ◌, ◌≤ℤ◌, ◌<ℤ◌, ◌==◌, slice_get, unsigned_abs, Option, option_map}
 use Rattle.std.specs.List.{AllByRecursion}
@@ -30,6 +30,7 @@ use Rattle.gnss_model.specs.declared.satellites.Sat.{Sat}
 use Rattle.gnss_model.specs.declared.satellites.Signal.TheVariants.{Single}
 use Rattle.gnss_model.specs.declared.systems.System.TheVariants.{Gps}
 use Rattle.sat_model.specs.Relaxed.{ends}
+use Rattle.gnss_model.specs.declared.delays.Delays.{Delays}
 use Rattle.grid_model.specs.declared.spans.Span.{Span}
 use Rattle.grid_model.specs.declared.spans.Wide.{Wide}
 use Rattle.sat_rows.specs.Chains.{Chain, IsChainAt}
@@ -42,7 +43,7 @@ use Rattle.made_texts.specs.SettingsText.{settings_of}
 use Rattle.made_texts.specs.declared.sat_codes.SatCode.{SatCode}
 use Rattle.made_input.specs.MadeCodes.{IsMadeCode, AreMadeSats, IsMadeEpoch, AreMadeEpochs, place_of, centre_x, centre_y, centre_z, tag_of, goal_of}
 use Rattle.made_input.specs.MadeRecords.{made_broadcast, made_records, mean_draw}
-use Rattle.made_input.specs.PlaceFits.{FitsAt}
+use Rattle.made_input.specs.PlaceFits.{FitsAt, AreUsable}
 use Rattle.made_input.proofs.BoundLemmas.{inside}
 use Rattle.made_input.proofs.ClockBounds.{made_clock}
 use Rattle.made_input.proofs.OrbitBounds.{made_ellipse}
@@ -235,10 +236,13 @@ is_usable seed j k records s known =
 
 -- ---- consistent
 
+abbrev no_delays : Delays
+no_delays = record { zenith = None; vertical = None }
+
 chain_of : (seed j k : ℕ) (records : List NavRecord) (s : SatCode) → IsKnown seed j k records s → Chain
 chain_of seed j k records s known = let c = known.code.some.1 in record { x = c.x; y = c.y; z = c.z; corrected = c.corrected; range = c.range; lo = neg_ℤ (pos 2500000); hi = pos 2500000 }
 
-is_chain : (seed j k : ℕ) (records : List NavRecord) (s : SatCode) (known : IsKnown seed j k records s) → IsChainAt (sighting_of records j s) None (neg_ℤ (pos 2500000), pos 2500000) (place_of seed) (chain_of seed j k records s known)
+is_chain : (seed j k : ℕ) (records : List NavRecord) (s : SatCode) (known : IsKnown seed j k records s) → IsChainAt (sighting_of records j s) no_delays (neg_ℤ (pos 2500000), pos 2500000) (place_of seed) (chain_of seed j k records s known)
 unfolding sighting_of chain_of is_usable is_measured its_codes wide_of
 is_chain seed j k records s known =
     let c = known.code.some.1 in
@@ -262,7 +266,14 @@ is_chain seed j k records s known =
           orbit = c.orbit;
           turn = c.turn;
         },
-        refl,
+        record {
+          zenith = (pos 0, pos 0);
+          zenith_is = refl;
+          vertical = (pos 0, pos 0);
+          vertical_is = refl;
+          lo_is = refl;
+          hi_is = refl;
+        },
       );
     }
 
@@ -281,23 +292,29 @@ error_within goal v corrected range g b is = record { from = omega (arith, ints,
 sight : List NavRecord → SettingsValue → ℤ → SatObs → Sighting
 sight records v tag seen = record { records = records; system = Gps; signal = v.signal; max_age = v.max_age; tag = tag; seen = seen }
 
-abbrev meaning_by : List NavRecord → SettingsValue → Option Span → Meaning
-meaning_by records v zenith = record {
-  judged = λ root tag seen. IsJudged zenith root (sight records v tag seen);
-  allows = λ tag seen. IsChainAt (sight records v tag seen) zenith (bound_for seen.sat v);
+abbrev meaning_by : List NavRecord → SettingsValue → Delays → Meaning
+meaning_by records v delays = record {
+  judged = λ root tag seen. IsJudged delays root (sight records v tag seen);
+  allows = λ tag seen. IsChainAt (sight records v tag seen) delays (bound_for seen.sat v);
   declared = λ sat. bound_for sat v;
-  zenith = zenith;
+  delays = delays;
 }
 
 abbrev AgreesBy : List NavRecord → SettingsValue → GridBox → ℤ → Pos → SatObs → Type 0
-AgreesBy records v root tag p = Agrees (meaning_by records v None) root tag p (pos 0)
+AgreesBy records v root tag p = Agrees (meaning_by records v no_delays) root tag p (pos 0)
 
-abbrev FitsBy : List NavRecord → SettingsValue → Option Span → GridBox → ℤ → ℕ → Pos → List SatObs → Type 0
-FitsBy records v zenith root tag q p = Fits (meaning_by records v zenith) root tag q p (pos 0)
+abbrev FitsBy : List NavRecord → SettingsValue → Delays → GridBox → ℤ → ℕ → Pos → List SatObs → Type 0
+FitsBy records v delays root tag q p = Fits (meaning_by records v delays) root tag q p (pos 0)
 
-no_zenith : (zenith : Option Span) → option_map ends zenith ≡ None → zenith ≡ None
-no_zenith None e = refl
-no_zenith (Some s) e = absurd (let no = e in cc)
+no_span : (upward : Option Span) → option_map ends upward ≡ None → upward ≡ None
+no_span None e = refl
+no_span (Some s) e = absurd (let no = e in cc)
+
+none_declared : (delays : Delays) → option_map ends delays.zenith ≡ None → option_map ends delays.vertical ≡ None → delays ≡ no_delays
+none_declared delays e f =
+    let z = no_span delays.zenith e in
+    let v = no_span delays.vertical f in
+    λ i. record { zenith = z i; vertical = v i }
 
 behind_other : (k n : ℕ) → n < k → (k == n) ≡ false
 behind_other k n h = grind (arith, h)
@@ -320,14 +337,14 @@ module _ (seed j : ℕ) (records : List NavRecord) (x y z : ℤ) (root : GridBox
       })
 
   -- behind the outlier
-  fits_all : (k : ℕ) (sats : List SatCode) → AreMadeSats seed j k sats → 1 + j % 8 < k → k + length sats ≤ 9 → FitsBy records (settings_of x y z) None root (tag_of j) 0 (place_of seed) (map sat_of sats)
+  fits_all : (k : ℕ) (sats : List SatCode) → AreMadeSats seed j k sats → 1 + j % 8 < k → k + length sats ≤ 9 → FitsBy records (settings_of x y z) no_delays root (tag_of j) 0 (place_of seed) (map sat_of sats)
   fits_all k [] made behind few = tt
   fits_all k (s ∷ sats) made behind few =
       let other : (k == 1 + j % 8) ≡ false = behind_other k (1 + j % 8) behind in
       let known : IsKnown seed j k records s = record { records_are = records_are; number = made.0; code = made.1; epoch = epoch; from = omega (arith, behind); to = omega (arith, few) } in
       (agrees k s known other, fits_all (k + 1) sats made.2 (omega (arith, behind)) (omega (arith, few)))
 
-  fits_but_one : (k : ℕ) (sats : List SatCode) → AreMadeSats seed j k sats → 1 ≤ k → k ≤ 1 + j % 8 → k + length sats ≤ 9 → FitsBy records (settings_of x y z) None root (tag_of j) 1 (place_of seed) (map sat_of sats)
+  fits_but_one : (k : ℕ) (sats : List SatCode) → AreMadeSats seed j k sats → 1 ≤ k → k ≤ 1 + j % 8 → k + length sats ≤ 9 → FitsBy records (settings_of x y z) no_delays root (tag_of j) 1 (place_of seed) (map sat_of sats)
   fits_but_one k [] made from before few = tt
   fits_but_one k (s ∷ sats) made from before few = elim (cases_Bool (k == 1 + j % 8)) [
     | inl here ↦
@@ -353,11 +370,35 @@ fits_in_each seed records settings read value index j [] made few = tt
 fits_in_each seed records settings read value index j (e ∷ epochs) made few =
     let epoch : j < 240 = omega (arith, few) in
     let time = epoch_time seed j e made.0 epoch in
-    let none = no_zenith settings.zenith (ap (λ (v : SettingsValue). v.zenith) value) in
+    let none = none_declared settings.delays (ap (λ (v : SettingsValue). v.zenith) value) (ap (λ (v : SettingsValue). v.vertical) value) in
     let fits = λ (root : GridBox). fits_but_one seed j records (centre_x seed) (centre_y seed) (centre_z seed) root read epoch 1 e.sats.items made.0.sats (lit≤ tt) (omega arith) (omega (arith, made.0.eight)) in
-    let timed = λ (root : GridBox). subst (λ (tag : ℤ). FitsBy records (settings_of (centre_x seed) (centre_y seed) (centre_z seed)) None root tag 1 (place_of seed) (map sat_of e.sats.items)) (sym time) (fits root) in
-    let plain = λ (root : GridBox). subst (λ (zenith : Option Span). FitsBy records (settings_of (centre_x seed) (centre_y seed) (centre_z seed)) zenith root (pos (gps_time 2024 1 7 e.hour e.minute (e.second * 10000000))) 1 (place_of seed) (map sat_of e.sats.items))
+    let timed = λ (root : GridBox). subst (λ (tag : ℤ). FitsBy records (settings_of (centre_x seed) (centre_y seed) (centre_z seed)) no_delays root tag 1 (place_of seed) (map sat_of e.sats.items)) (sym time) (fits root) in
+    let plain = λ (root : GridBox). subst (λ (delays : Delays). FitsBy records (settings_of (centre_x seed) (centre_y seed) (centre_z seed)) delays root (pos (gps_time 2024 1 7 e.hour e.minute (e.second * 10000000))) 1 (place_of seed) (map sat_of e.sats.items))
     (sym none) (timed root) in (
-      λ root. subst (λ (v : SettingsValue). FitsBy records v settings.zenith root (pos (gps_time 2024 1 7 e.hour e.minute (e.second * 10000000))) v.outliers (place_of seed) (map sat_of e.sats.items)) (sym value) (plain root),
+      λ root. subst (λ (v : SettingsValue). FitsBy records v settings.delays root (pos (gps_time 2024 1 7 e.hour e.minute (e.second * 10000000))) v.outliers (place_of seed) (map sat_of e.sats.items)) (sym value) (plain root),
       fits_in_each seed records settings read value (index + 1) (j + 1) epochs made.1 (omega (arith, few)),
+    )
+
+-- ---- all satellites are usable
+
+abbrev UsableBy : List NavRecord → SettingsValue → ℤ → List SatObs → Type 0
+UsableBy records v tag sats = AllByRecursion (λ (seen : SatObs). IsUsable (sight records v tag seen)) sats
+
+usable_from : (seed j : ℕ) (records : List NavRecord) (x y z : ℤ) → records_of records ≡ made_records seed → j < 240 → (k : ℕ) (sats : List SatCode) → AreMadeSats seed j k sats → 1 ≤ k → k + length sats ≤ 9 → UsableBy records (settings_of x y z) (tag_of j) (map sat_of sats)
+unfolding sight sighting_of
+usable_from seed j records x y z read epoch k [] made from few = tt
+usable_from seed j records x y z read epoch k (s ∷ sats) made from few =
+    let known : IsKnown seed j k records s = record { records_are = read; number = made.0; code = made.1; epoch = epoch; from = from; to = omega (arith, few) } in
+    (is_usable seed j k records s known, usable_from seed j records x y z read epoch (k + 1) sats made.2 (omega (arith, from)) (omega (arith, few)))
+
+pub usable_in_each : (seed : ℕ) (records : List NavRecord) (settings : Settings) → records_of records ≡ made_records seed → value_of_settings settings ≡ settings_of (centre_x seed) (centre_y seed) (centre_z seed)
+    → (index j : ℕ) (epochs : List EpochCodes) → AreMadeEpochs seed j epochs → j + length epochs ≤ 240 → AllByRecursion (AreUsable records settings) (observed_from index epochs)
+unfolding sight
+usable_in_each seed records settings read value index j [] made few = tt
+usable_in_each seed records settings read value index j (e ∷ epochs) made few =
+    let epoch : j < 240 = omega (arith, few) in
+    let usable = usable_from seed j records (centre_x seed) (centre_y seed) (centre_z seed) read epoch 1 e.sats.items made.0.sats (lit≤ tt) (omega (arith, made.0.eight)) in
+    let timed = subst (λ (tag : ℤ). UsableBy records (settings_of (centre_x seed) (centre_y seed) (centre_z seed)) tag (map sat_of e.sats.items)) (sym (epoch_time seed j e made.0 epoch)) usable in (
+      subst (λ (v : SettingsValue). UsableBy records v (pos (gps_time 2024 1 7 e.hour e.minute (e.second * 10000000))) (map sat_of e.sats.items)) (sym value) timed,
+      usable_in_each seed records settings read value (index + 1) (j + 1) epochs made.1 (omega (arith, few)),
     )

@@ -12,7 +12,7 @@ mod receiver;
 mod record_list;
 mod records;
 
-pub use fits::place_fits;
+pub use fits::{place_fits, satellites_are_usable};
 pub use input::make;
 pub use made::Made;
 

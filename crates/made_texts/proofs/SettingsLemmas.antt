@@ -67,6 +67,7 @@ settings_read text x y z near utf8 parsed = record {
     common = refl;
     extra = sym (no_extra (sats_from 71 1));
     zenith = refl;
+    vertical = refl;
     galileo = refl;
     speed = refl;
   };

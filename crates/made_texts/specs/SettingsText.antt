@@ -63,6 +63,7 @@ settings_of x y z = record {
   common = (neg_ℤ (pos 2500000), pos 2500000);
   extra = [];
   zenith = None;
+  vertical = None;
   galileo = None;
   speed = None;
 }

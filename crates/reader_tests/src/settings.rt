@@ -100,6 +100,13 @@ const CHANGES: &str = "0||half|half
 31|bounds.troposphere|troposphere|zenith
 33|bounds.zenith|25000]|25000]@zenith = [2, 1]@[satellite]@G05 = [1]
 33|bounds.zenith|25000]|25000]@alpha = 1@zenith = [2, 1]
+32|bounds.vertical|25000]|25000]@vertical = 2000
+33|bounds.vertical|25000]|25000]@vertical = [2, 1]
+33|bounds.vertical|25000]|25000]@vertical = [0, 100001]
+33|bounds.vertical|25000]|25000]@vertical = [-100001, 0]
+33|bounds.zenith|25000]|25000]@vertical = [2, 1]@zenith = [2, 1]
+33|bounds.vertical|25000]|25000]@vertical = [2, 1]@[motion]@speed = -1
+34|bounds.verticals|25000]|25000]@verticals = [0, 35000]
 34|bounds.zenit|25000]|25000]@zenit = [1800, 3000]
 34|search.zenith|[signal]|zenith = [1800, 3000]@[signal]
 0||[search]|[motion]@[search]
@@ -136,6 +143,12 @@ const ZENITHS: &str = "[1800, 3000]|1800000|3000000
 [-10000, 10000]|-10000000|10000000
 [10000, 10000]|10000000|10000000
 [-10000, -10000]|-10000000|-10000000";
+
+/// What is declared of the delay at the vertical, in mm, and the ends that are read, in um.
+const VERTICALS: &str = "[0, 35000]|0|35000000
+[0, 0]|0|0
+[-100000, 100000]|-100000000|100000000
+[100000, 100000]|100000000|100000000";
 
 /// Settings with two codes and one satellite's own span.
 const DUAL: &str = "[search]
@@ -295,7 +308,8 @@ fn reads_lengths_in_um(rt: HostRuntime) -> Result<(), Fail> {
     let code = *b"C1C";
     assert!(rt; settings.signal == Signal::Single { code });
     assert_eq!(rt; bound_of(&settings, 5), (-4_000_000, 51_000_000));
-    assert!(rt; settings.zenith.is_none());
+    assert!(rt; settings.delays.zenith.is_none());
+    assert!(rt; settings.delays.vertical.is_none());
     let centre = Pos {
         x: 6_378_137_000_000,
         y: 0,
@@ -356,10 +370,27 @@ fn reads_a_delay_at_the_zenith(rt: HostRuntime) -> Result<(), Fail> {
         let key = changed(rt.alloc(), "25000]@zenith = SPAN", "SPAN", declared)?;
         let text = changed(rt.alloc(), FILE, "25000]", key.as_str())?;
         let settings = settings(rt.alloc(), text.as_str())?;
-        let zenith = settings.zenith.expect(&rt, "a span");
+        let zenith = settings.delays.zenith.expect(&rt, "a span");
         assert_eq!(rt; zenith.lo, number(&rt, fields.next()), "{row}");
         assert_eq!(rt; zenith.hi, number(&rt, fields.next()), "{row}");
         // The four spans are counted as without it.
+        assert_eq!(rt; bound_of(&settings, 5), (-4_000_000, 51_000_000), "{row}");
+    }
+    Ok(())
+}
+
+#[test]
+fn reads_a_delay_at_the_vertical(rt: HostRuntime) -> Result<(), Fail> {
+    for row in VERTICALS.lines() {
+        let mut fields = row.split('|');
+        let declared = fields.next().expect(&rt, "a span");
+        let key = changed(rt.alloc(), "25000]@vertical = SPAN", "SPAN", declared)?;
+        let text = changed(rt.alloc(), FILE, "25000]", key.as_str())?;
+        let settings = settings(rt.alloc(), text.as_str())?;
+        let vertical = settings.delays.vertical.expect(&rt, "a span");
+        assert_eq!(rt; vertical.lo, number(&rt, fields.next()), "{row}");
+        assert_eq!(rt; vertical.hi, number(&rt, fields.next()), "{row}");
+        assert!(rt; settings.delays.zenith.is_none(), "{row}");
         assert_eq!(rt; bound_of(&settings, 5), (-4_000_000, 51_000_000), "{row}");
     }
     Ok(())

@@ -1,6 +1,6 @@
 -- Declared ends with delays added, and how far a satellite is that is held by its place.
-use Rattle.std.proofs.Common.{◌≡◌, ℕ, ◌*◌, ◌^◌, ◌≤◌, arith, refl, true}
-use Rattle.std.specs.Prelude.{ℤ, pos, nat_abs, ◌+ℤ◌, ◌-ℤ◌, ◌≤ℤ◌}
+use Rattle.std.proofs.Common.{◌≡◌, ℕ, ◌+◌, ◌*◌, ◌^◌, ◌≤◌, arith, refl, true, ◌&&◌, Option, None, Some}
+use Rattle.std.specs.Prelude.{is_none, ℤ, pos, nat_abs, ◌+ℤ◌, ◌-ℤ◌, ◌≤ℤ◌}
 use Rattle.std.proofs.lemmas.Int.{ints}
 use Rattle.std.proofs.lemmas.Nat.{mul-le}
 use Rattle.broadcast_orbit.proofs.FarPlaces.{seen_width, near_is_far, far_from_points}
@@ -16,35 +16,74 @@ use Rattle.gnss_model.specs.OrbitChain.{OrbitChain}
 use Rattle.grid_model.specs.SearchBoxes.{IsSearchBox}
 use Rattle.grid_model.specs.Sizes.{IsWithin}
 use Rattle.gnss_model.specs.Turn.{Turn}
-use Rattle.gnss_model.specs.Zenith.{span_amount, spare_over}
+use Rattle.gnss_model.specs.Delays.{span_amount, spare_over}
+use Rattle.gnss_model.specs.declared.delays.Layer.{Layer}
+use Rattle.gnss_model.specs.declared.delays.Layer.TheVariants.{Troposphere, Ionosphere}
 use Rattle.grid_model.specs.declared.boxes.Box3.{Box3}
 use Rattle.grid_model.specs.declared.boxes.Pos.{Pos}
 use Rattle.gnss_model.specs.declared.elements.Elements.{Elements}
 use Rattle.grid_model.specs.declared.spans.Span.{Span}
 use Rattle.grid_model.proofs.PointLemmas.{le_to}
+use Rattle.sat_rows.specs.OwnRows.{IsSmall}
 use Rattle.grid_model.proofs.IntervalLemmas.{members_within}
 use Rattle.grid_model.proofs.ProductLemmas.{larger}
 
--- ---- an end d with delays from l to h
+-- ---- an end d with two delays, from k to m and from l to n
 
-pub moved_holds : (d l h lo hi x v : ℤ) → lo ≡ d +ℤ l → hi ≡ d +ℤ h → v ≡ d +ℤ x → Between l h x → Between lo hi v
-moved_holds d l h lo hi x v e f g b = record { from = omega (arith, ints, b.from); to = omega (arith, ints, b.to) }
+pub moved_holds : (d k m l n lo hi x y v : ℤ) → lo ≡ (d +ℤ k) +ℤ l → hi ≡ (d +ℤ m) +ℤ n → v ≡ (d +ℤ x) +ℤ y → Between k m x → Between l n y → Between lo hi v
+moved_holds d k m l n lo hi x y v e f g a b = record { from = omega (arith, ints, e, g, a.from, b.from); to = omega (arith, ints, f, g, a.to, b.to) }
 
-pub moved_width : (m n : ℕ) (d l h lo hi : ℤ) → lo ≡ d +ℤ l → hi ≡ d +ℤ h → (h -ℤ l) ≤ℤ pos m → m ≤ n → (hi -ℤ lo) ≤ℤ pos n
-moved_width m n d l h lo hi e f w k = omega (arith, ints)
+pub moved_width : (s t : ℕ) (d k m l n lo hi : ℤ) → lo ≡ (d +ℤ k) +ℤ l → hi ≡ (d +ℤ m) +ℤ n → (m -ℤ k) ≤ℤ pos s → (n -ℤ l) ≤ℤ pos t → (hi -ℤ lo) ≤ℤ pos (s + t)
+moved_width s t d k m l n lo hi e f v w = omega (arith, ints)
 
 -- the least low end is at most the greatest high end
-pub moved_order : (d e l h low high lo hi : ℤ) → lo ≡ d +ℤ l → hi ≡ e +ℤ h → d ≤ℤ e → l ≤ℤ low → low ≤ℤ high → high ≤ℤ h → lo ≤ℤ hi
-moved_order d e l h low high lo hi f g o p q r = omega (arith, ints)
+pub moved_order : (d e k l m n lo hi : ℤ) → lo ≡ (d +ℤ k) +ℤ l → hi ≡ (e +ℤ m) +ℤ n → d ≤ℤ e → k ≤ℤ m → l ≤ℤ n → lo ≤ℤ hi
+moved_order d e k l m n lo hi f g o p q = omega (arith, ints)
 
-spare_grows : (a b d : ℕ) → a ≤ b → spare_over a d ≤ spare_over b d
-spare_grows a b d h = let m = mul-le a d b d h (omega arith) in omega (arith, m)
+pub moved_small : (d k l z : ℤ) → z ≡ (d +ℤ k) +ℤ l → IsWithin (6 * 10 ^ 9) d → IsWithin (3 * 10 ^ 8 + 2) k → IsWithin (3 * 10 ^ 9 + 2) l → IsWithin (10 ^ 10) z
+moved_small d k l z e f g h = record { low = omega (arith, ints, e, f.low, g.low, h.low); high = omega (arith, ints, e, f.high, g.high, h.high) }
 
-pub low_spare : (s : Span) (d : ℕ) → spare_over (nat_abs s.lo) d ≤ spare_over (span_amount s) d
-low_spare s d = spare_grows (nat_abs s.lo) (span_amount s) d (omega arith)
+pub plain_both : (a b : Option Span) → (is_none a && is_none b) ≡ true → (a ≡ None) × (b ≡ None)
+plain_both None None e = (refl, refl)
+plain_both None (Some b) e = absurd cc
+plain_both (Some a) b e = absurd cc
 
-pub high_spare : (s : Span) (d : ℕ) → spare_over (nat_abs s.hi) d ≤ spare_over (span_amount s) d
-high_spare s d = spare_grows (nat_abs s.hi) (span_amount s) d (omega arith)
+pub plain_end : (d k l z : ℤ) → z ≡ (d +ℤ k) +ℤ l → k ≡ pos 0 → l ≡ pos 0 → z ≡ d
+plain_end d k l z e f g = omega (arith, ints, e, f, g)
+
+-- ---- one delay
+
+pub same_holds : (l h lo hi x : ℤ) → lo ≡ l → hi ≡ h → Between l h x → Between lo hi x
+same_holds l h lo hi x e f b = record { from = omega (arith, ints, e, b.from); to = omega (arith, ints, f, b.to) }
+
+pub same_width : (m n : ℕ) (l h lo hi : ℤ) → lo ≡ l → hi ≡ h → (h -ℤ l) ≤ℤ pos m → m ≤ n → (hi -ℤ lo) ≤ℤ pos n
+same_width m n l h lo hi e f w k = omega (arith, ints)
+
+-- the least low end is at most the greatest high end
+pub same_order : (l h low high lo hi : ℤ) → lo ≡ l → hi ≡ h → l ≤ℤ low → low ≤ℤ high → high ≤ℤ h → lo ≤ℤ hi
+same_order l h low high lo hi e f p q r = omega (arith, ints)
+
+same_within : (n : ℕ) (z x : ℤ) → z ≡ x → IsWithin n x → IsWithin n z
+same_within n z x e w = record { low = omega (arith, ints, e, w.low); high = omega (arith, ints, e, w.high) }
+
+pub small_span : (n : ℕ) (s : Span) (l h : ℤ) → s.lo ≡ l → s.hi ≡ h → IsWithin n l → IsWithin n h → IsSmall n s
+small_span n s l h e f a b = record { lo = same_within n s.lo l e a; hi = same_within n s.hi h f b }
+
+pub zero_holds : (lo hi x : ℤ) → lo ≡ pos 0 → hi ≡ pos 0 → x ≡ pos 0 → Between lo hi x
+zero_holds lo hi x e f g = record { from = omega (arith, ints); to = omega (arith, ints) }
+
+pub zero_within : (n : ℕ) (z : ℤ) → z ≡ pos 0 → IsWithin n z
+zero_within n z e = record { low = omega (arith, ints); high = omega (arith, ints) }
+
+spare_grows : (layer : Layer) (a b d : ℕ) → a ≤ b → spare_over layer a d ≤ spare_over layer b d
+spare_grows Troposphere a b d h = let m = mul-le a d b d h (omega arith) in omega (arith, m)
+spare_grows Ionosphere a b d h = let m = mul-le a d b d h (omega arith) in omega (arith, m)
+
+pub low_spare : (layer : Layer) (s : Span) (d : ℕ) → spare_over layer (nat_abs s.lo) d ≤ spare_over layer (span_amount s) d
+low_spare layer s d = spare_grows layer (nat_abs s.lo) (span_amount s) d (omega arith)
+
+pub high_spare : (layer : Layer) (s : Span) (d : ℕ) → spare_over layer (nat_abs s.hi) d ≤ spare_over layer (span_amount s) d
+high_spare layer s d = spare_grows layer (nat_abs s.hi) (span_amount s) d (omega arith)
 
 -- ---- the box
 

@@ -32,6 +32,7 @@ use Rattle.sat_model.specs.declared.rows.Row.{Row}
 use Rattle.gnss_model.specs.declared.satellites.Sat.{Sat}
 use Rattle.gnss_model.specs.declared.satellites.Signal.{Signal}
 use Rattle.gnss_model.specs.declared.satellites.Signal.TheVariants.{Single, Dual}
+use Rattle.gnss_model.specs.declared.delays.Delays.{Delays}
 use Rattle.grid_model.specs.declared.spans.Span.{Span}
 use Rattle.gnss_model.specs.declared.systems.System.{System}
 use Rattle.usable_sats.proofs.JudgementLemmas.{codes_one, elements_one}
@@ -107,9 +108,9 @@ module _ (a : Sighting) (codes : Codes) (el : Elements) (known : IsKnownBy a cod
       let e = elements_one a u known.usable ∙ known.el_is in
       λ i. record { system = a.system; tag = a.tag; codes = c i; el = e i }
 
-  pub known_holds : (zenith : Option Span) (declared : ℤ × ℤ) (root : GridBox) (row : Row) → HoldsAllowed (AreValues zenith declared (record { system = a.system; tag = a.tag; codes = codes; el = el })) root row
-      → HoldsAllowed (IsChainAt a zenith declared) root row
-  known_holds zenith declared root row holds p c inside chain = holds p c inside (subst (λ (seen : Observed). AreValues zenith declared seen p c) (known_observed chain.usable) chain.are)
+  pub known_holds : (delays : Delays) (declared : ℤ × ℤ) (root : GridBox) (row : Row) → HoldsAllowed (AreValues delays declared (record { system = a.system; tag = a.tag; codes = codes; el = el })) root row
+      → HoldsAllowed (IsChainAt a delays declared) root row
+  known_holds delays declared root row holds p c inside chain = holds p c inside (subst (λ (seen : Observed). AreValues delays declared seen p c) (known_observed chain.usable) chain.are)
 
 -- ---- the declared error
 

@@ -8,7 +8,7 @@ use Rattle.gnss_model.specs.Pseudorange.{is_single, IsRangeWith}
 use Rattle.grid_model.specs.SearchBoxes.{IsSearchBox}
 use Rattle.gnss_model.specs.Systems.{first_square, second_square, squares_apart}
 use Rattle.grid_model.specs.declared.boxes.Pos.{Pos}
-use Rattle.grid_model.specs.declared.spans.Span.{Span}
+use Rattle.gnss_model.specs.declared.delays.Delays.{Delays}
 use Rattle.grid_model.specs.declared.spans.Wide.{Wide}
 use Rattle.gnss_model.specs.declared.systems.System.{System}
 use Rattle.pseudorange_prep.proofs.WidthLemmas.{apart_positive}
@@ -65,12 +65,12 @@ values_exist seen p =
       },
     )
 
-pub chain_exists : (seen : Observed) (p : Pos) (zenith : Option Span) (declared : ℤ × ℤ) (root : GridBox) → IsSearchBox root → box_holds root p ≡ true → IsHigh zenith root
-    → (c : Chain) × AreValues zenith declared seen p c
-chain_exists seen p zenith declared root box inside high =
+pub chain_exists : (seen : Observed) (p : Pos) (delays : Delays) (declared : ℤ × ℤ) (root : GridBox) → IsSearchBox root → box_holds root p ≡ true → IsHigh delays root
+    → (c : Chain) × AreValues delays declared seen p c
+chain_exists seen p delays declared root box inside high =
     let (x, y, z, corrected, range, value) = values_exist seen p in
     let far = far_from_points x y z root p (chain_is_far seen.el value.n value.t value.sent_x value.sent_y z p x y range value.orbit value.turn) box inside in
-    let bound = bound_exists zenith declared root p x y z corrected range high inside far value.turn.range_is in (
+    let bound = bound_exists delays declared root p x y z corrected range high inside far value.turn.range_is in (
       record { x = x; y = y; z = z; corrected = corrected; range = range; lo = bound.0; hi = bound.1 },
       (value, bound.2),
     )

@@ -1,10 +1,13 @@
 -- What the equations allow of a usable satellite, as seen from a point: its values come from one
 -- pseudorange, one clock chain, one orbit chain at the time of sending, one turn of the earth, and
--- one mapping of what is declared of the troposphere at the zenith.
-use Rattle.std.specs.Prelude.{ℕ, ◌≡◌, ℤ, ◌+ℤ◌, Option, None, Some}
+-- one mapping of each delay that is declared straight up.
+use Rattle.std.specs.Prelude.{ℕ, ◌≡◌, ℤ, pos, ◌+ℤ◌, Option, None, Some}
 use Rattle.gnss_model.specs.ChainValues.{Observed, ChainValue}
 use Rattle.gnss_model.specs.Mapping.{Mapping, IsMappedDelay}
 use Rattle.grid_model.specs.declared.boxes.Pos.{Pos}
+use Rattle.gnss_model.specs.declared.delays.Delays.{Delays}
+use Rattle.gnss_model.specs.declared.delays.Layer.{Layer}
+use Rattle.gnss_model.specs.declared.delays.Layer.TheVariants.{Troposphere, Ionosphere}
 use Rattle.grid_model.specs.declared.spans.Span.{Span}
 use Rattle.usable_sats.specs.Usability.{Sighting, IsUsable}
 
@@ -28,28 +31,34 @@ observed a usable =
 abbrev pub IsChainOf : Observed → Pos → Chain → Type 0
 IsChainOf seen p c = ChainValue seen p c.x c.y c.z c.corrected c.range
 
--- the ends are these, and the delays that the span at the zenith becomes by one mapping
-pub record IsMappedBound (zenith : Span) (declared : ℤ × ℤ) (p : Pos) (c : Chain) : Type 0 where
+-- what both ends of a span straight up become by one mapping of the layer
+pub record IsMappedSpan (layer : Layer) (upward : Span) (p : Pos) (c : Chain)
+    (delay : ℤ × ℤ) : Type 0 where
   pub factor : ℤ
-  pub factor_is : Mapping p c.x c.y c.z c.range factor
-  pub low : ℤ
-  pub low_is : IsMappedDelay zenith.lo factor low
-  pub lo_is : c.lo ≡ declared.0 +ℤ low
-  pub high : ℤ
-  pub high_is : IsMappedDelay zenith.hi factor high
-  pub hi_is : c.hi ≡ declared.1 +ℤ high
+  pub factor_is : Mapping layer p c.x c.y c.z c.range factor
+  pub low : IsMappedDelay upward.lo factor delay.0
+  pub high : IsMappedDelay upward.hi factor delay.1
 
--- the ends are the declared ones, and where a span at the zenith is declared, this is added
-abbrev pub IsBound : Option Span → ℤ × ℤ → Pos → Chain → Type 0
-IsBound None declared p c = (c.lo, c.hi) ≡ declared
-IsBound (Some zenith) declared p c = IsMappedBound zenith declared p c
+-- ... where one is declared, and else 0
+abbrev pub IsDelay : Layer → Option Span → Pos → Chain → ℤ × ℤ → Type 0
+IsDelay layer None p c delay = delay ≡ (pos 0, pos 0)
+IsDelay layer (Some upward) p c delay = IsMappedSpan layer upward p c delay
+
+-- the ends are the declared ones, with both delays added
+pub record IsBound (delays : Delays) (declared : ℤ × ℤ) (p : Pos) (c : Chain) : Type 0 where
+  pub zenith : ℤ × ℤ
+  pub zenith_is : IsDelay Troposphere delays.zenith p c zenith
+  pub vertical : ℤ × ℤ
+  pub vertical_is : IsDelay Ionosphere delays.vertical p c vertical
+  pub lo_is : c.lo ≡ (declared.0 +ℤ zenith.0) +ℤ vertical.0
+  pub hi_is : c.hi ≡ (declared.1 +ℤ zenith.1) +ℤ vertical.1
 
 -- the equations and the bounds allow these values
-abbrev pub AreValues : Option Span → ℤ × ℤ → Observed → Pos → Chain → Type 0
-AreValues zenith declared seen p c = IsChainOf seen p c × IsBound zenith declared p c
+abbrev pub AreValues : Delays → ℤ × ℤ → Observed → Pos → Chain → Type 0
+AreValues delays declared seen p c = IsChainOf seen p c × IsBound delays declared p c
 
--- ... of a usable satellite, by the delay at the zenith and the sum of its declared spans
-pub record IsChainAt (a : Sighting) (zenith : Option Span) (declared : ℤ × ℤ) (p : Pos)
+-- ... of a usable satellite, by the delays straight up and the sum of its declared spans
+pub record IsChainAt (a : Sighting) (delays : Delays) (declared : ℤ × ℤ) (p : Pos)
     (c : Chain) : Type 0 where
   pub usable : IsUsable a
-  pub are : AreValues zenith declared (observed a usable) p c
+  pub are : AreValues delays declared (observed a usable) p c

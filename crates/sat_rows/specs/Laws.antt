@@ -1,5 +1,5 @@
--- Satellites are judged in one way, something is allowed of each that is usable, and its range
--- is that to its place.
+-- Satellites are judged in one way, something is allowed of each that is usable, its range is that
+-- to its place, and its ends of the error are the declared ones with each delay added.
 use Rattle.std.specs.Prelude.{List, Option, None}
 use Rattle.error_bounds.specs.Reading.{signal_of, bound_for, value_of_settings}
 use Rattle.error_bounds.specs.declared.settings.Settings.{Settings}
@@ -16,14 +16,15 @@ pub source_sound : (galileo : Option Signal) (records : List NavRecord) (setting
     → IsSound (meaning_by galileo records settings)
 source_sound galileo records settings = record {
   one_judgement = λ root tag seen. judgement_one
-      (sighting_by galileo records settings tag seen) settings.zenith root;
+      (sighting_by galileo records settings tag seen) settings.delays root;
   allowed_exists = λ root tag seen p box inside judged.
       let chain = chain_exists (observed (sighting_by galileo records settings tag seen) judged.0) p
-      settings.zenith
+      settings.delays
       (bound_for seen.sat (value_of_settings settings)) root box inside judged.1 in
       (chain.0, record { usable = judged.0; are = chain.1 });
   range_is = λ tag seen p c chain. chain.are.0.turn.range_is;
-  zenith_within = settings.zenith_within;
+  bound_is = λ tag seen p c chain. chain.are.1;
+  delays_within = settings.delays_within;
 }
 
 pub both_sound : (records : List NavRecord) (settings : Settings)

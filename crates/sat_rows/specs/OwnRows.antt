@@ -8,9 +8,10 @@ use Rattle.grid_model.specs.Intervals.{Between}
 use Rattle.grid_model.specs.Lengths.{spare_of}
 use Rattle.sat_model.specs.Relaxed.{ends}
 use Rattle.grid_model.specs.Sizes.{IsWithin}
-use Rattle.gnss_model.specs.Zenith.{err_spare_of}
+use Rattle.gnss_model.specs.Delays.{is_plain, err_spare_of}
 use Rattle.grid_model.specs.declared.boxes.Pos.{Pos}
 use Rattle.sat_model.specs.declared.rows.Row.{Row}
+use Rattle.gnss_model.specs.declared.delays.Delays.{Delays}
 use Rattle.grid_model.specs.declared.spans.Span.{Span}
 use Rattle.sat_rows.specs.Chains.{Chain}
 use Rattle.sat_rows.specs.Meanings.{Meaning}
@@ -36,14 +37,19 @@ pub record HoldEnds (low high : Span) (c : Chain) : Type 0 where
   pub lo : Between low.lo low.hi c.lo
   pub hi : Between high.lo high.hi c.hi
 
+-- ... those of a delay
+pub record HoldDelay (low high : Span) (delay : ℤ × ℤ) : Type 0 where
+  pub lo : Between low.lo low.hi delay.0
+  pub hi : Between high.lo high.hi delay.1
+
 -- a span is at most W wide
 abbrev pub IsTight : GridBox → Span → Type 0
 IsTight root span = (span.hi -ℤ span.lo) ≤ℤ pos (spare_of root)
 
 -- the span of a row's low ends of the error, and that of its high ends, are at most G wide
-pub record AreBoundsTight (root : GridBox) (zenith : Option Span) (row : Row) : Type 0 where
-  pub low : (row.sure_lo -ℤ row.err.lo) ≤ℤ pos (err_spare_of root zenith)
-  pub high : (row.err.hi -ℤ row.sure_hi) ≤ℤ pos (err_spare_of root zenith)
+pub record AreBoundsTight (root : GridBox) (delays : Delays) (row : Row) : Type 0 where
+  pub low : (row.sure_lo -ℤ row.err.lo) ≤ℤ pos (err_spare_of root delays)
+  pub high : (row.err.hi -ℤ row.sure_hi) ≤ℤ pos (err_spare_of root delays)
 
 -- the ends of the error are these alone
 pub record HasBounds (row : Row) (declared : ℤ × ℤ) : Type 0 where
@@ -60,8 +66,8 @@ module _ (m : Meaning) (root : GridBox) (tag : ℤ) where
     pub y : IsTight root row.y
     pub z : IsTight root row.z
     pub range : IsTight root row.range
-    pub bounds : AreBoundsTight root m.zenith row
-    pub plain : m.zenith ≡ None → HasBounds row (m.declared seen.sat)
+    pub bounds : AreBoundsTight root m.delays row
+    pub plain : is_plain m.delays ≡ true → HasBounds row (m.declared seen.sat)
 
   -- the line of a satellite: an own row where it is usable, else why it isn't
   abbrev pub IsOwnLine : SatObs → SatLine → Type 0

@@ -9,16 +9,16 @@ use Rattle.sat_rows.specs.Meanings.{Meaning}
 use Rattle.usable_sats.specs.Usability.{sighting_by, IsJudged}
 
 -- a satellite is usable by the seven tests, the equations of its system allow values of it, and the
--- settings declare its error and the delay at the zenith; satellites of Galileo are used where its
+-- settings declare its error and the delays straight up; satellites of Galileo are used where its
 -- codes are given
 abbrev pub meaning_by : Option Signal → List NavRecord → Settings → Meaning
 meaning_by galileo records settings = record {
-  judged = λ root tag seen. IsJudged settings.zenith root
+  judged = λ root tag seen. IsJudged settings.delays root
       (sighting_by galileo records settings tag seen);
-  allows = λ tag seen. IsChainAt (sighting_by galileo records settings tag seen) settings.zenith
+  allows = λ tag seen. IsChainAt (sighting_by galileo records settings tag seen) settings.delays
       (bound_for seen.sat (value_of_settings settings));
   declared = λ sat. bound_for sat (value_of_settings settings);
-  zenith = settings.zenith;
+  delays = settings.delays;
 }
 
 -- of the satellites of both systems where the settings have codes of Galileo, else of GPS alone

@@ -80,10 +80,10 @@ fn line_of(
     match judge_satellite(seen, epoch, nav, settings, galileo, root) {
         Judgement::Usable { codes, elements } => {
             let declared = settings.bound_of(seen.sat);
-            let zenith = settings.zenith;
+            let delays = settings.delays;
             let (system, _) = use_of(seen.sat, settings, galileo);
             let row = row_of(
-                system, seen.sat, epoch.tag, &codes, &elements, declared, zenith, root,
+                system, seen.sat, epoch.tag, &codes, &elements, declared, delays, root,
             );
             SatLine::Usable(row)
         }

@@ -4,7 +4,8 @@ use crate::epochs::rows;
 use crate::lines::EpochRows;
 use crate::source::RowSource;
 use error_bounds::Settings;
-use grid_model::{Box3, NoMemory, Span};
+use gnss_model::Delays;
+use grid_model::{Box3, NoMemory};
 use rinex_nav::Nav;
 use rinex_obs::ObsEpoch;
 use std::alloc::Global;
@@ -26,8 +27,8 @@ impl<'a> RowSource for GpsRows<'a> {
         rows(alloc, epoch, self.nav, self.settings, root)
     }
 
-    fn zenith(&self) -> Option<Span> {
-        self.settings.zenith
+    fn delays(&self) -> Delays {
+        self.settings.delays
     }
 
     ghost sound = { λ source. gps_sound source.nav.now source.settings.now };

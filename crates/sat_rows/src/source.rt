@@ -3,12 +3,13 @@
 ghost use Rattle.std.specs.Prelude.{◌≡◌, IfOk};
 ghost use Rattle.grid_model.specs.Boxes.{grid_box};
 ghost use Rattle.grid_model.specs.SearchBoxes.{IsSearchBox};
-ghost use Rattle.gnss_model.specs.Zenith.{IsZenith};
+ghost use Rattle.gnss_model.specs.Delays.{AreDelays};
 ghost use Rattle.sat_rows.specs.Meanings.{Meaning, IsSound};
 ghost use Rattle.sat_rows.specs.OwnRows.{AreLinesOf, AreSmall, usable_in};
 
 use crate::lines::EpochRows;
-use grid_model::{Box3, NoMemory, Span};
+use gnss_model::Delays;
+use grid_model::{Box3, NoMemory};
 use rinex_obs::ObsEpoch;
 use std::alloc::Global;
 
@@ -27,11 +28,11 @@ pub trait RowSource {
         ensures small { IfOk result (λ rows. AreSmall rows.lines.items) }
         ensures usable { IfOk result (λ rows. rows.usable ≡ usable_in rows.lines.items) };
 
-    /// The span of the troposphere's delay at the zenith, in um, by which it maps the bounds of the
+    /// The spans of the delays straight up, in um, which it maps and adds to the bounds of the
     /// error.
-    fn zenith(&self) -> Option<Span>
-        ensures value { result ≡ (meaning self.now).zenith }
-        ensures within { IsZenith result };
+    fn delays(&self) -> Delays
+        ensures value { result ≡ (meaning self.now).delays }
+        ensures within { AreDelays result };
 
     /// That judges each satellite in one way, and allows something of a usable one.
     ghost sound: { (source : Self) → IsSound (meaning source) };

@@ -1,7 +1,7 @@
 ghost use Rattle.std.specs.Prelude.{◌≡◌, ◌^◌, pos, ◌+ℤ◌};
 ghost use Rattle.grid_model.specs.Boxes.{grid_box};
 ghost use Rattle.grid_model.specs.SearchBoxes.{IsSearchBox};
-ghost use Rattle.grid_model.specs.Sizes.{IsWithin};
+ghost use Rattle.gnss_model.specs.Delays.{AreDelays};
 ghost use Rattle.gnss_model.specs.declared.systems.System.TheVariants.{Gps};
 ghost use Rattle.usable_sats.specs.Measured.{codes_of};
 ghost use Rattle.sat_rows.specs.OwnRows.{IsSmallRow};
@@ -12,7 +12,7 @@ use crate::spans::row_of;
 use crate::{grown, mapped};
 use elevation_mapping::is_far_from_origin;
 use fix_interval::{Exact, Place};
-use gnss_model::{Elements, Sat, System};
+use gnss_model::{Delays, Elements, Layer, Sat, System};
 use grid_model::{Box3, Pos, Span, Wide};
 use sat_model::Row;
 use std::process::Abort;
@@ -28,6 +28,12 @@ const RANGE: i128 = 20_985_472_060_000;
 const ERROR: Span = Span {
     lo: -1_000,
     hi: 2_000,
+};
+
+/// No delay straight up.
+const NONE: Delays = Delays {
+    zenith: None,
+    vertical: None,
 };
 
 /// A number that a field gives exactly.
@@ -111,7 +117,7 @@ fn seen_by(codes: &Measured) -> Row
         codes,
         &circle(),
         ERROR,
-        None,
+        NONE,
         &around(),
     )
 }
@@ -147,10 +153,9 @@ fn a_satellite_overhead_with_one_code_and_with_two(rt: HostRuntime) {
     }
 }
 
-/// A row by a delay at the zenith alone.
-fn seen_through(rt: &impl Abort, zenith: Span) -> Row
-    requires low { IsWithin (10 ^ 7) zenith.lo }
-    requires high { IsWithin (10 ^ 7) zenith.hi }
+/// A row by delays straight up alone.
+fn seen_through(rt: &impl Abort, delays: Delays) -> Row
+    requires { AreDelays delays }
 {
     let root = around();
     assert!(rt; is_far_from_origin(&root), "high enough");
@@ -163,7 +168,7 @@ fn seen_through(rt: &impl Abort, zenith: Span) -> Row
         &codes,
         &circle(),
         none,
-        Some(zenith),
+        delays,
         &root,
     )
 }
@@ -171,11 +176,11 @@ fn seen_through(rt: &impl Abort, zenith: Span) -> Row
 #[test]
 fn delays_of_a_satellite_overhead(rt: HostRuntime) {
     // The sine of its elevation is 2 * 10^-11 less than 1, and so a delay is hardly more.
-    let zenith = Span {
+    let zenith = Some(Span {
         lo: 2_000_000,
         hi: 2_500_000,
-    };
-    let row = seen_through(&rt, zenith);
+    });
+    let row = seen_through(&rt, Delays { zenith, ..NONE });
     for delay in [2_000_000, 2_000_001] {
         assert!(rt; holds(row.low_bounds(), delay), "a low end");
     }
@@ -184,6 +189,19 @@ fn delays_of_a_satellite_overhead(rt: HostRuntime) {
     }
     assert!(rt; row.err.lo >= 1_998_000, "no less than that");
     assert!(rt; row.err.hi <= 2_502_000, "and no more");
+    let vertical = Some(Span {
+        lo: 0,
+        hi: 35_000_000,
+    });
+    let both = seen_through(&rt, Delays { zenith, vertical });
+    for delay in [2_000_000, 2_000_001] {
+        assert!(rt; holds(both.low_bounds(), delay), "a low end of both");
+    }
+    for delay in [37_500_000, 37_500_001] {
+        assert!(rt; holds(both.high_bounds(), delay), "a high end of both");
+    }
+    assert!(rt; both.err.lo >= 1_996_000, "no less than that");
+    assert!(rt; both.err.hi <= 37_504_000, "and no more");
 }
 
 #[test]
@@ -208,7 +226,7 @@ fn the_mapping_of_a_satellite_on_the_horizon(rt: HostRuntime) {
         lo: point,
         hi: point,
     };
-    let found = mapped(place, &part);
+    let found = mapped(place, &part, Layer::Troposphere);
     assert!(rt; 223_773_000_000_000_000 <= found.lo, "no less");
     assert!(rt; found.hi <= 223_776_000_000_000_000, "no more");
 }

@@ -1,13 +1,13 @@
 //! The row of a satellite: spans of its place, of its corrected pseudorange and of the ends of its
 //! error over a search box.
 
-ghost use Rattle.std.specs.Prelude.{◌≡◌, None, ◌*◌, ◌^◌, pos, ◌≤ℤ◌, ◌<ℤ◌};
+ghost use Rattle.std.specs.Prelude.{◌≡◌, true, ◌*◌, ◌^◌, pos, ◌≤ℤ◌, ◌<ℤ◌};
 ghost use Rattle.grid_model.specs.Boxes.{grid_box};
 ghost use Rattle.gnss_model.specs.RecordBounds.{time_bound};
 ghost use Rattle.sat_model.specs.Relaxed.{ends};
 ghost use Rattle.grid_model.specs.SearchBoxes.{IsSearchBox};
 ghost use Rattle.grid_model.specs.Sizes.{IsPlaceSize};
-ghost use Rattle.gnss_model.specs.Zenith.{IsZenith};
+ghost use Rattle.gnss_model.specs.Delays.{AreDelays, is_plain};
 ghost use Rattle.sat_rows.specs.Chains.{AreValues};
 ghost use Rattle.usable_sats.specs.Measured.{codes_of};
 ghost use Rattle.sat_rows.specs.OwnRows.{HoldsAllowed, HasBounds, AreBoundsTight, IsTight, IsSmall};
@@ -19,7 +19,7 @@ use crate::bounds::bounds_over;
 use crate::places::seen_place;
 use crate::signals::{clock, corrected_range, of_one_code, pseudorange};
 use fix_interval::Exact;
-use gnss_model::{Elements, Sat, System};
+use gnss_model::{Delays, Elements, Sat, System};
 use grid_model::{Box3, Span};
 use sat_model::Row;
 use usable_sats::Measured;
@@ -40,8 +40,8 @@ fn span_of(x: Exact) -> Span
 /// The row of a system's satellite whose signal came at `tag` by the receiver's clock, in ps since
 /// 1980-01-06 00:00:00 GPS time and within 14,401 s of the ephemeris time: it holds whatever the
 /// equations allow as seen from the points of the box. `declared`, in um, is the sum of the spans
-/// that are declared for its error, and `zenith` the span of the troposphere's delay at the zenith,
-/// where one is mapped and added.
+/// that are declared for its error, and `delays` those of the delays straight up, which are mapped
+/// and added.
 pub(crate) fn row_of(
     system: System,
     sat: Sat,
@@ -49,7 +49,7 @@ pub(crate) fn row_of(
     codes: &Measured,
     el: &Elements,
     declared: Span,
-    zenith: Option<Span>,
+    delays: Delays,
     root: &Box3,
 ) -> Row
     requires tag_from { pos 0 ≤ℤ tag }
@@ -58,11 +58,11 @@ pub(crate) fn row_of(
     requires narrow { AreNarrow (codes_of codes.now) }
     requires near { IsNearEpoch el.now tag }
     requires small { IsSmall (6 * 10 ^ 9) declared }
-    requires zenith { IsZenith zenith }
+    requires delays { AreDelays delays }
     requires root { IsSearchBox (grid_box root.now) }
-    requires high { IsHigh zenith (grid_box root.now) }
+    requires high { IsHigh delays (grid_box root.now) }
     ensures sat { result.sat ≡ sat }
-    ensures holds { HoldsAllowed (AreValues zenith (ends declared)
+    ensures holds { HoldsAllowed (AreValues delays (ends declared)
         (record { system = system; tag = tag; codes = codes_of codes.now; el = el.now }))
         (grid_box root.now) result }
 
@@ -72,15 +72,15 @@ pub(crate) fn row_of(
     ensures z_tight { IsTight (grid_box root.now) result.z }
     ensures range_tight { IsTight (grid_box root.now) result.range }
 
-    // The spans of the ends of the error are at most as wide as the delay at the zenith spreads.
-    ensures bounds_tight { AreBoundsTight (grid_box root.now) zenith result }
-    ensures plain { zenith ≡ None → HasBounds result (ends declared) }
+    // The spans of the ends of the error are at most as wide as the delays straight up spread.
+    ensures bounds_tight { AreBoundsTight (grid_box root.now) delays result }
+    ensures plain { is_plain delays ≡ true → HasBounds result (ends declared) }
     ensures small { IsSmallRow result }
 {
     let range = pseudorange(codes, system);
     let sending = clock(tag, range, el, of_one_code(codes), system);
     let place = seen_place(el, sending.t, root, system);
-    let bounds = bounds_over(declared, zenith, place, root);
+    let bounds = bounds_over(declared, delays, place, root);
     Row {
         sat,
         x: span_of(place.x),

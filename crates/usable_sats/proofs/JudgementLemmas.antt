@@ -15,7 +15,7 @@ use Rattle.gnss_model.specs.Pseudorange.{Codes}
 use Rattle.gnss_model.specs.declared.satellites.Signal.{Signal}
 use Rattle.gnss_model.specs.declared.satellites.Signal.TheVariants.{Single, Dual}
 use Rattle.gnss_model.specs.declared.satellites.Skip.{Skip}
-use Rattle.grid_model.specs.declared.spans.Span.{Span}
+use Rattle.gnss_model.specs.declared.delays.Delays.{Delays}
 use Rattle.grid_model.specs.declared.spans.Wide.{Wide}
 use Rattle.usable_sats.proofs.ElementLemmas.{one_rounded, same_elements}
 use Rattle.usable_sats.specs.Usability.{Sighting, AreThere, HaveValue, IsMeasured, IsItsRecord, IsHealthy, IsFresh, IsFit, IsNearest, IsUsable, LacksFit, IsSkip, IsJudged}
@@ -167,21 +167,21 @@ module _ (a : Sighting) where
       ] in
       λ i. record { number = number i; field = field i }
 
-  not_both : (zenith : Option Span) (root : GridBox) (s : Skip) → IsJudged zenith root a (Some s) → IsJudged zenith root a None → ⊥
-  not_both zenith root s (inl f) (usable, high) = not_usable s f usable
-  not_both zenith root s (inr f) (usable, high) = f.low high
+  not_both : (delays : Delays) (root : GridBox) (s : Skip) → IsJudged delays root a (Some s) → IsJudged delays root a None → ⊥
+  not_both delays root s (inl f) (usable, high) = not_usable s f usable
+  not_both delays root s (inr f) (usable, high) = f.low high
 
-  one_reason : (zenith : Option Span) (root : GridBox) (s t : Skip) → IsJudged zenith root a (Some s) → IsJudged zenith root a (Some t) → s ≡ t
-  one_reason zenith root s t (inl f) (inl g) = one_skip s t f g
-  one_reason zenith root s t (inl f) (inr g) = absurd (not_usable s f g.usable)
-  one_reason zenith root s t (inr f) (inl g) = absurd (not_usable t g f.usable)
-  one_reason zenith root s t (inr f) (inr g) =
+  one_reason : (delays : Delays) (root : GridBox) (s t : Skip) → IsJudged delays root a (Some s) → IsJudged delays root a (Some t) → s ≡ t
+  one_reason delays root s t (inl f) (inl g) = one_skip s t f g
+  one_reason delays root s t (inl f) (inr g) = absurd (not_usable s f g.usable)
+  one_reason delays root s t (inr f) (inl g) = absurd (not_usable t g f.usable)
+  one_reason delays root s t (inr f) (inr g) =
       let number = f.number ∙ sym g.number in
       let field = f.field ∙ sym g.field in
       λ i. record { number = number i; field = field i }
 
-  pub judgement_one : (zenith : Option Span) (root : GridBox) (x y : Option Skip) → IsJudged zenith root a x → IsJudged zenith root a y → x ≡ y
-  judgement_one zenith root None None f g = refl
-  judgement_one zenith root None (Some t) f g = absurd (not_both zenith root t g f)
-  judgement_one zenith root (Some s) None f g = absurd (not_both zenith root s f g)
-  judgement_one zenith root (Some s) (Some t) f g = ap (λ (k : Skip). Some k) (one_reason zenith root s t f g)
+  pub judgement_one : (delays : Delays) (root : GridBox) (x y : Option Skip) → IsJudged delays root a x → IsJudged delays root a y → x ≡ y
+  judgement_one delays root None None f g = refl
+  judgement_one delays root None (Some t) f g = absurd (not_both delays root t g f)
+  judgement_one delays root (Some s) None f g = absurd (not_both delays root s f g)
+  judgement_one delays root (Some s) (Some t) f g = ap (λ (k : Skip). Some k) (one_reason delays root s t f g)

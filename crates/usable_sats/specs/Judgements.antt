@@ -3,7 +3,7 @@ use Rattle.std.specs.Prelude.{◌≡◌, Option, Some}
 use Rattle.grid_model.specs.Boxes.{GridBox}
 use Rattle.gnss_model.specs.Pseudorange.{Codes}
 use Rattle.gnss_model.specs.declared.elements.Elements.{Elements}
-use Rattle.grid_model.specs.declared.spans.Span.{Span}
+use Rattle.gnss_model.specs.declared.delays.Delays.{Delays}
 use Rattle.usable_sats.specs.Measured.{codes_of}
 use Rattle.usable_sats.specs.Usability.{Sighting, IsUsable, IsSkip, IsHigh, IsJudged}
 use Rattle.usable_sats.specs.declared.judging.Judgement.{Judgement}
@@ -20,7 +20,7 @@ abbrev pub IsOwnJudgement : Sighting → Judgement → Type 0
 IsOwnJudgement a (Usable codes el) = IsKnownBy a (codes_of codes) el
 IsOwnJudgement a (Skipped skip) = IsSkip a skip
 
--- and by that of the search box, for the delay at the zenith that is declared
-abbrev pub IsJudgement : Option Span → GridBox → Sighting → Judgement → Type 0
-IsJudgement zenith root a (Usable codes el) = IsKnownBy a (codes_of codes) el × IsHigh zenith root
-IsJudgement zenith root a (Skipped skip) = IsJudged zenith root a (Some skip)
+-- and by that of the search box, for the delays that are declared straight up
+abbrev pub IsJudgement : Delays → GridBox → Sighting → Judgement → Type 0
+IsJudgement delays root a (Usable codes el) = IsKnownBy a (codes_of codes) el × IsHigh delays root
+IsJudgement delays root a (Skipped skip) = IsJudged delays root a (Some skip)

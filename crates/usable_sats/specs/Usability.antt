@@ -1,7 +1,8 @@
 -- Which satellites of an epoch are used, and by which record: seven tests in their order, six of
 -- the satellite itself and one of the search box. The choice is made from the whole list of
 -- records.
-use Rattle.std.specs.Prelude.{ℕ, ◌*◌, ◌^◌, ◌≤◌, ◌≡◌, ◌⊎◌, ℤ, pos, ◌-ℤ◌, ◌*ℤ◌, ◌≤ℤ◌, true, List}
+use Rattle.std.specs.Prelude.{ℕ, ◌*◌, ◌^◌, ◌≤◌, ◌≡◌, ◌⊎◌, ℤ, pos, ◌-ℤ◌, ◌*ℤ◌, ◌≤ℤ◌, List}
+use Rattle.std.specs.Prelude.{Bool, true, false}
 use Rattle.std.specs.Prelude.{Option, None, Some, slice_get, nat_eq, if◌then◌else◌}
 use Rattle.error_bounds.specs.declared.settings.Settings.{Settings}
 use Rattle.exact_decimal.specs.declared.decimal.Decimal.{Decimal}
@@ -20,7 +21,8 @@ use Rattle.gnss_model.specs.declared.satellites.Sat.{Sat}
 use Rattle.gnss_model.specs.declared.satellites.Signal.{Signal}
 use Rattle.gnss_model.specs.declared.satellites.Signal.TheVariants.{Single, Dual}
 use Rattle.gnss_model.specs.declared.satellites.Skip.{Skip}
-use Rattle.grid_model.specs.declared.spans.Span.{Span}
+use Rattle.gnss_model.specs.Delays.{is_plain}
+use Rattle.gnss_model.specs.declared.delays.Delays.{Delays}
 use Rattle.grid_model.specs.declared.spans.Wide.{Wide}
 use Rattle.gnss_model.specs.declared.systems.System.{System}
 use Rattle.gnss_model.specs.declared.systems.System.TheVariants.{Gps, Galileo}
@@ -202,23 +204,26 @@ IsSkip a skip =
 
 -- ---- the search box
 
--- a bound can be mapped by elevation at points that are at least 6,000 km from the origin, in um;
--- without a delay at the zenith none is mapped
-abbrev pub IsHigh : Option Span → GridBox → Type 0
-IsHigh None root = Unit {0}
-IsHigh (Some zenith) root = IsFarFromOrigin (6 * 10 ^ 12) root
+-- a delay can be mapped by elevation at points that are at least 6,000 km from the origin, in um;
+-- where none is declared, none is mapped
+abbrev pub IsHighIf : Bool → GridBox → Type 0
+IsHighIf true root = Unit {0}
+IsHighIf false root = IsFarFromOrigin (6 * 10 ^ 12) root
+
+abbrev pub IsHigh : Delays → GridBox → Type 0
+IsHigh delays root = IsHighIf (is_plain delays) root
 
 -- 7: nothing else is wrong, but the search box comes too near to the origin
-pub record IsTooLow (zenith : Option Span) (root : GridBox) (a : Sighting)
+pub record IsTooLow (delays : Delays) (root : GridBox) (a : Sighting)
     (skip : Skip) : Type 0 where
   pub usable : IsUsable a
-  pub low : IsHigh zenith root → ⊥
+  pub low : IsHigh delays root → ⊥
   pub number : skip.number ≡ 7
   pub field : skip.field ≡ 0
 
 -- ---- the judgement
 
 -- the satellite is usable in the search box, or this is why it isn't
-abbrev pub IsJudged : Option Span → GridBox → Sighting → Option Skip → Type 0
-IsJudged zenith root a None = IsUsable a × IsHigh zenith root
-IsJudged zenith root a (Some skip) = IsSkip a skip ⊎ IsTooLow zenith root a skip
+abbrev pub IsJudged : Delays → GridBox → Sighting → Option Skip → Type 0
+IsJudged delays root a None = IsUsable a × IsHigh delays root
+IsJudged delays root a (Some skip) = IsSkip a skip ⊎ IsTooLow delays root a skip

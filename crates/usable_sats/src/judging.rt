@@ -11,7 +11,7 @@ use crate::choice::{Choice, choose};
 use crate::codes::{Measured, Reading, read_codes};
 use elevation_mapping::is_far_from_origin;
 use error_bounds::Settings;
-use gnss_model::{Elements, Sat, Signal, Skip, System};
+use gnss_model::{Elements, Sat, Signal, Skip, System, is_plain};
 use grid_model::Box3;
 use rinex_nav::Nav;
 use rinex_obs::{ObsEpoch, SatObs};
@@ -94,15 +94,15 @@ fn judge_itself(
     }
 }
 
-/// Whether a bound that the settings map by elevation can be mapped at all points of the search
-/// box.
+/// Whether the delays that the settings declare straight up, where they do, can be mapped at all
+/// points of the search box.
 fn is_high(settings: &Settings, root: &Box3) -> bool
-    ensures { IsTrue result ↔ IsHigh settings.now.zenith (grid_box root.now) }
+    ensures { IsTrue result ↔ IsHigh settings.now.delays (grid_box root.now) }
 {
-    match settings.zenith {
-        Some(_) => is_far_from_origin(root),
-        None => true,
+    if is_plain(settings.delays) {
+        return true;
     }
+    is_far_from_origin(root)
 }
 
 /// Judges a satellite of the epoch by the records and the settings, for a receiver in the search
@@ -115,7 +115,7 @@ pub fn judge_satellite(
     galileo: &Option<Signal>,
     root: &Box3,
 ) -> Judgement
-    ensures { IsJudgement settings.now.zenith (grid_box root.now)
+    ensures { IsJudgement settings.now.delays (grid_box root.now)
         (sighting_by galileo.now nav.now settings.now epoch.now.tag seen.now) result }
 {
     match judge_itself(seen, epoch, nav, settings, galileo) {

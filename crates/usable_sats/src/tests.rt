@@ -124,6 +124,25 @@ troposphere = [0, 0]
 zenith = [1800, 3000]
 ";
 
+/// The same with a delay at the vertical in its place.
+const SHELL: &str = "[search]
+centre = \"header\"
+half = 1000
+outliers = 1
+bisections = 0
+width = 1000
+max_age = 7200
+[signal]
+mode = \"single\"
+codes = [\"C1C\"]
+[bounds]
+receiver = [0, 0]
+orbit_clock = [0, 0]
+ionosphere = [0, 0]
+troposphere = [0, 0]
+vertical = [0, 35000]
+";
+
 /// Two points on the x axis.
 const HIGH: Box3 = Box3 {
     lo: Pos {
@@ -217,7 +236,10 @@ fn a_bound_is_mapped_from_high_places_alone(rt: HostRuntime) -> Result<(), Fail>
             field: 0
         })
     );
+    let below = judged_in(alloc, code, &[FRESH], SHELL, &LOW)?;
+    assert_eq!(rt; below, low, "by the delay at the vertical");
     for usable in [
+        judged_in(alloc, code, &[FRESH], SHELL, &HIGH)?,
         judged_in(alloc, code, &[FRESH], MAPPED, &HIGH)?,
         judged_in(alloc, code, &[FRESH], SETTINGS, &LOW)?,
     ] {

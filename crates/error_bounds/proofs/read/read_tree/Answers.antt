@@ -27,6 +27,7 @@ returns-clause-settings c = record {
     common = c.in_ok-bounds.ensures.common.sum;
     extra = c.in_ok-extra.ensures.extra;
     zenith = c.in_ok-bounds.ensures.zenith;
+    vertical = c.in_ok-bounds.ensures.vertical;
     galileo = c.in_ok-galileo.ensures.value;
     speed = c.in_ok-speed.ensures.value;
   };

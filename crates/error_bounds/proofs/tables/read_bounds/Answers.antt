@@ -5,7 +5,7 @@ use Rattle.sat_model.specs.Relaxed.{ends}
 use Rattle.toml.specs.View.{table_view}
 use Rattle.error_bounds.specs.Sizes.{IsDeclared}
 use Rattle.error_bounds.specs.Texts.{add}
-use Rattle.error_bounds.proofs.KeyLemmas.{bound_value}
+use Rattle.error_bounds.proofs.KeyLemmas.{bound_value, optional_span, none_of_six}
 use Rattle.error_bounds.proofs.tables.read_bounds.Goals as goal
 
 pub returns-clause-common : goal.returns-clause-common
@@ -30,3 +30,10 @@ sum-common-requires-clause-a_within c =
       lo = record { low = omega (arith, ints, within.lo); high = omega (arith, ints, within.lo) };
       hi = record { low = omega (arith, ints, within.hi); high = omega (arith, ints, within.hi) };
     }
+
+pub returns-clause-none : goal.returns-clause-none
+returns-clause-none c =
+    let tree = table_view c.args.tree.now in
+    let common = returns-clause-common c in
+    none_of_six _ _ _ _ _ _ _ _ _ _ _ _ _ _ _ _ _ _ common.is_receiver common.is_orbit_clock common.is_ionosphere common.is_troposphere
+    (optional_span (codes "bounds") (codes "zenith") 10000 tree _ c.in_ok-zenith.ensures.value) (optional_span (codes "bounds") (codes "vertical") 100000 tree _ c.in_ok-vertical.ensures.value)

@@ -1,9 +1,9 @@
-use Rattle.std.proofs.Common.{arith}
-use Rattle.std.proofs.lemmas.Int.{ints}
+use Rattle.std.proofs.Common.{◌^◌, lit≤}
+use Rattle.grid_model.proofs.ProductLemmas.{larger}
 use Rattle.gnss_model.proofs.spares.err_spare.Goals as goal
 
-pub spread-requires-clause-amount : goal.spread-requires-clause-amount
-spread-requires-clause-amount c =
-    let low = c.requires.low c.in-Some.span c.in-Some.is in
-    let high = c.requires.high c.in-Some.span c.in-Some.is in
-    omega (arith, ints, c.greater_amount.ensures, low.low, low.high, high.low, high.high)
+pub delay_spread-requires : goal.delay_spread-requires
+delay_spread-requires c = record {
+  low = λ s e. larger (10 ^ 7) (10 ^ 8) _ (lit≤ tt) (c.requires.zenith.low s e);
+  high = λ s e. larger (10 ^ 7) (10 ^ 8) _ (lit≤ tt) (c.requires.zenith.high s e);
+}

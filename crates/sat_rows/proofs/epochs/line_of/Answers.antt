@@ -32,16 +32,16 @@ row_of-row-requires-clause-small c = error_small c.args.settings.now c.args.seen
 pub returns-in-Usable-clause-own : goal.returns-in-Usable-clause-own
 returns-in-Usable-clause-own c =
     let f : FitsSigned w128 c.args.epoch.now.tag = search rules in
-    let zenith = c.args.settings.now.zenith in
+    let delays = c.args.settings.now.delays in
     let system = (use_of c.args.settings.now.signal c.args.galileo.now c.args.seen.now.sat).0 in
     let y = ap (λ (u : System × Signal). u.0) c.use_of-system.ensures in
     let e = c.row_of-row.ensures in
     let holds = e.holds in
-    let of_chain : HoldsAllowed (AreValues zenith (ends c.bound_of-declared.result) (record { system = system; tag = c.args.epoch.now.tag; codes = codes_of c.in-Usable.codes; el = c.in-Usable.elements })) (grid_box c.args.root.now) c.row_of-row.result = subst (λ (s : System). HoldsAllowed (AreValues zenith (ends c.bound_of-declared.result) (record { system = s; tag = c.args.epoch.now.tag; codes = codes_of c.in-Usable.codes; el = c.in-Usable.elements })) (grid_box c.args.root.now) c.row_of-row.result) y (simp to_z-of_z at holds) in (
+    let of_chain : HoldsAllowed (AreValues delays (ends c.bound_of-declared.result) (record { system = system; tag = c.args.epoch.now.tag; codes = codes_of c.in-Usable.codes; el = c.in-Usable.elements })) (grid_box c.args.root.now) c.row_of-row.result = subst (λ (s : System). HoldsAllowed (AreValues delays (ends c.bound_of-declared.result) (record { system = s; tag = c.args.epoch.now.tag; codes = codes_of c.in-Usable.codes; el = c.in-Usable.elements })) (grid_box c.args.root.now) c.row_of-row.result) y (simp to_z-of_z at holds) in (
       e.sat,
       (c.in-Usable.ensures.0.usable, c.in-Usable.ensures.1),
       record {
-        holds = known_holds (sighting_by c.args.galileo.now c.args.nav.now c.args.settings.now c.args.epoch.now.tag c.args.seen.now) (codes_of c.in-Usable.codes) c.in-Usable.elements c.in-Usable.ensures.0 zenith (bound_for c.args.seen.now.sat (value_of_settings c.args.settings.now)) (grid_box c.args.root.now) c.row_of-row.result (subst (λ (e : ℤ × ℤ). HoldsAllowed (AreValues zenith e (record { system = system; tag = c.args.epoch.now.tag; codes = codes_of c.in-Usable.codes; el = c.in-Usable.elements })) (grid_box c.args.root.now) c.row_of-row.result) c.bound_of-declared.ensures of_chain);
+        holds = known_holds (sighting_by c.args.galileo.now c.args.nav.now c.args.settings.now c.args.epoch.now.tag c.args.seen.now) (codes_of c.in-Usable.codes) c.in-Usable.elements c.in-Usable.ensures.0 delays (bound_for c.args.seen.now.sat (value_of_settings c.args.settings.now)) (grid_box c.args.root.now) c.row_of-row.result (subst (λ (e : ℤ × ℤ). HoldsAllowed (AreValues delays e (record { system = system; tag = c.args.epoch.now.tag; codes = codes_of c.in-Usable.codes; el = c.in-Usable.elements })) (grid_box c.args.root.now) c.row_of-row.result) c.bound_of-declared.ensures of_chain);
         x = e.x_tight;
         y = e.y_tight;
         z = e.z_tight;

@@ -8,6 +8,12 @@ use Rattle.grid_model.proofs.ProductLemmas.{larger}
 use Rattle.sat_rows.proofs.SpanLemmas.{span_holds, span_small, error_size, paired}
 use Rattle.sat_rows.proofs.spans.row_of.Goals as goal
 
+pub span_of-requires-2-clause-low_size : goal.span_of-requires-2-clause-low_size
+span_of-requires-2-clause-low_size c = larger (reach_after near_reach) (60 * 10 ^ 12) _ (lit≤ tt) c.seen_place-place.ensures.ends.y_ends.low
+
+pub span_of-requires-2-clause-high_size : goal.span_of-requires-2-clause-high_size
+span_of-requires-2-clause-high_size c = larger (reach_after near_reach) (60 * 10 ^ 12) _ (lit≤ tt) c.seen_place-place.ensures.ends.y_ends.high
+
 pub span_of-requires-3-clause-low_size : goal.span_of-requires-3-clause-low_size
 span_of-requires-3-clause-low_size c = larger (reach_after near_reach) (60 * 10 ^ 12) _ (lit≤ tt) c.seen_place-place.ensures.ends.z_ends.low
 

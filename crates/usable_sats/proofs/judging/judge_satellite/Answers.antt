@@ -5,5 +5,5 @@ use Rattle.usable_sats.proofs.judging.judge_satellite.Goals as goal
 
 pub returns-else-is_high : goal.returns-else-is_high
 returns-else-is_high c =
-    let low : IsHigh c.args.settings.now.zenith (grid_box c.args.root.now) → ⊥ = λ high. let e = c.is_high.ensures.1 high in let f = c.if-is_high.false in cc in
+    let low : IsHigh c.args.settings.now.delays (grid_box c.args.root.now) → ⊥ = λ high. let e = c.is_high.ensures.1 high in let f = c.if-is_high.false in cc in
     rw c.skipped.ensures (inr (record { usable = c.in-Usable.ensures.usable; low = low; number = refl; field = refl }))
