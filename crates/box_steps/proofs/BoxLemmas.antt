@@ -4,11 +4,10 @@ use Rattle.std.specs.Prelude.{ℤ, pos, ◌*ℤ◌, ◌≤ℤ◌}
 use Rattle.std.proofs.lemmas.List.{append-nil, length-append}
 use Rattle.grid_model.specs.declared.boxes.Box3.{Box3}
 use Rattle.sat_model.specs.declared.rules.Rules.{Rules}
-use Rattle.sat_model.specs.declared.rows.Row.{Row}
 use Rattle.sat_model.specs.declared.steps.Step.{Step}
 use Rattle.sat_model.specs.declared.steps.Step.TheVariants.{Cut, Split, Outside, Inside, Edge}
 use Rattle.grid_model.specs.Boxes.{Side, GridBox, grid_box}
-use Rattle.sat_model.specs.BoxTests.{BoxTest, test_of, IsEmpty, IsHull}
+use Rattle.sat_model.specs.BoxTests.{BoxTest, IsEmpty, IsHull}
 use Rattle.sat_model.specs.ClockSpans.{clock_spans}
 use Rattle.sat_model.specs.Contractors.{LiesIn}
 use Rattle.sat_model.specs.Fold.{ShownStep}
@@ -89,10 +88,10 @@ cut_some g slack false test id part cuts left down =
 cut_some g slack true test id part cuts left deep = round_some test id part cuts left deep
 
 -- the cuts of a box are at some faces, one after another
-pub cuts_some : (g slack : ℤ) (rows : List Row) (rules : Rules) (box : WaitingBox) (cuts : List ShownStep) (left : GridBox) → AreCutsOf g slack rows rules box cuts left
-    → (faces : List ℕ) × (AreFaces faces × AreFacesDone (IsSomeCut (test_of rules rows) box.id) faces box.part cuts left)
-cuts_some g slack rows rules box cuts left are = elim are [
-  | inl (undecided, cut) ↦ cut_some g slack rules.pairs (test_of rules rows) box.id box.part cuts left cut
+pub cuts_some : (g slack : ℤ) (test : BoxTest) (box : WaitingBox) (cuts : List ShownStep) (left : GridBox) → AreCutsOf g slack test box cuts left
+    → (faces : List ℕ) × (AreFaces faces × AreFacesDone (IsSomeCut test box.id) faces box.part cuts left)
+cuts_some g slack test box cuts left are = elim are [
+  | inl (undecided, cut) ↦ cut_some g slack test.pairs test box.id box.part cuts left cut
   | inr (decided, none, same) ↦ ([], (tt, (none, same)))
 ]
 
@@ -162,10 +161,10 @@ took_one : {L : Type 0} (took : L → Step → GridBox → L → Type 0) (step :
 took_one took step part now last t = (last, t, refl)
 
 -- the cuts and the last step were taken
-pub box_took : {L : Type 0} (took : L → Step → GridBox → L → Type 0) (g slack : ℤ) (rows : List Row) (rules : Rules) (splits : ℕ) (box : WaitingBox) (first then last : L) (ended : Ended)
-    → TookCuts took (AreCutsOf g slack rows rules box) first ended.cuts (grid_box ended.left) then → Closes rows rules splits box.id (grid_box ended.left) ended.step → took then ended.step (grid_box ended.left) last
-    → TookBox took (AreBoxSteps g slack rows rules splits box) first ended last
-box_took took g slack rows rules splits box first then last ended c closes t = record {
+pub box_took : {L : Type 0} (took : L → Step → GridBox → L → Type 0) (g slack : ℤ) (test : BoxTest) (rules : Rules) (splits : ℕ) (box : WaitingBox) (first then last : L) (ended : Ended)
+    → TookCuts took (AreCutsOf g slack test box) first ended.cuts (grid_box ended.left) then → Closes test rules splits box.id (grid_box ended.left) ended.step → took then ended.step (grid_box ended.left) last
+    → TookBox took (AreBoxSteps g slack test rules splits box) first ended last
+box_took took g slack test rules splits box first then last ended c closes t = record {
   cuts = c.steps;
   are = record { cuts = c.steps; left = grid_box ended.left; are_cuts = c.are; last = ended.step; closes = closes; all_steps = refl };
   taken = took_both took c.steps (last_of ended ∷ []) first then last c.taken (took_one took ended.step (grid_box ended.left) then last t);
@@ -173,29 +172,29 @@ box_took took g slack rows rules splits box first then last ended c closes t = r
 }
 
 -- the last step broke
-pub last_broke : {L : Type 0} (took broke : L → Step → GridBox → L → Type 0) (room : L → ℕ) (fault : StepFault) (g slack : ℤ) (rows : List Row) (rules : Rules) (splits : ℕ) (box : WaitingBox) (first then last : L) (count : ℕ) (left : GridBox) (step : Step)
-    → TookCuts took (AreCutsOf g slack rows rules box) first count left then → Closes rows rules splits box.id left step → broke then step left last → ((fault ≡ Full) ↔ (room then < length (step_bytes step)))
-    → BrokeOff took broke room fault (AreBoxSteps g slack rows rules splits box) first last
-last_broke took broke room fault g slack rows rules splits box first then last count left step c closes broken full =
+pub last_broke : {L : Type 0} (took broke : L → Step → GridBox → L → Type 0) (room : L → ℕ) (fault : StepFault) (g slack : ℤ) (test : BoxTest) (rules : Rules) (splits : ℕ) (box : WaitingBox) (first then last : L) (count : ℕ) (left : GridBox) (step : Step)
+    → TookCuts took (AreCutsOf g slack test box) first count left then → Closes test rules splits box.id left step → broke then step left last → ((fault ≡ Full) ↔ (room then < length (step_bytes step)))
+    → BrokeOff took broke room fault (AreBoxSteps g slack test rules splits box) first last
+last_broke took broke room fault g slack test rules splits box first then last count left step c closes broken full =
     let next : ShownStep = record { step = step; part = left } in
-    broke_in took broke room fault (λ steps. steps ≡ next ∷ []) (AreBoxSteps g slack rows rules splits box) c.steps first then last c.taken (one_broke took broke room fault next then last broken full)
+    broke_in took broke room fault (λ steps. steps ≡ next ∷ []) (AreBoxSteps g slack test rules splits box) c.steps first then last c.taken (one_broke took broke room fault next then last broken full)
     (λ steps one. ([], record { cuts = c.steps; left = left; are_cuts = c.are; last = step; closes = closes; all_steps = ap (λ l. c.steps ++ l) (append-nil steps ∙ one) }))
 
 -- the cuts broke off
-pub cuts_broke : {L : Type 0} (took broke : L → Step → GridBox → L → Type 0) (room : L → ℕ) (fault : StepFault) (g slack : ℤ) (rows : List Row) (rules : Rules) (splits : ℕ) (box : WaitingBox) (first last : L) → rules.outliers < length rows
-    → IsUndecided rows rules box.part → BrokeOff took broke room fault (LeaveSome (IsCut g slack (test_of rules rows) box.id box.part)) first last
-    → BrokeOff took broke room fault (AreBoxSteps g slack rows rules splits box) first last
-cuts_broke took broke room fault g slack rows rules splits box first last few undecided b =
-    broke_in took broke room fault (LeaveSome (IsCut g slack (test_of rules rows) box.id box.part)) (AreBoxSteps g slack rows rules splits box) [] first first last refl b
+pub cuts_broke : {L : Type 0} (took broke : L → Step → GridBox → L → Type 0) (room : L → ℕ) (fault : StepFault) (g slack : ℤ) (test : BoxTest) (rules : Rules) (splits : ℕ) (box : WaitingBox) (first last : L) → test.q < length test.rows
+    → IsUndecided test box.part → BrokeOff took broke room fault (LeaveSome (IsCut g slack test box.id box.part)) first last
+    → BrokeOff took broke room fault (AreBoxSteps g slack test rules splits box) first last
+cuts_broke took broke room fault g slack test rules splits box first last few undecided b =
+    broke_in took broke room fault (LeaveSome (IsCut g slack test box.id box.part)) (AreBoxSteps g slack test rules splits box) [] first first last refl b
     (λ steps some.
     let (left, cut) = some in
-    let (step, closes) = ending_exists rows rules splits box.id left few in
+    let (step, closes) = ending_exists test rules splits box.id left few in
     ((record { step = step; part = left }) ∷ [], record { cuts = steps; left = left; are_cuts = inl (undecided, cut); last = step; closes = closes; all_steps = refl }))
 
 -- no cut of a box that isn't undecided
-pub no_cuts_taken : {L : Type 0} (took : L → Step → GridBox → L → Type 0) (g slack : ℤ) (rows : List Row) (rules : Rules) (box : WaitingBox) (log : L) → (IsUndecided rows rules box.part → ⊥)
-    → TookCuts took (AreCutsOf g slack rows rules box) log 0 box.part log
-no_cuts_taken took g slack rows rules box log decided = record { steps = []; are = inr (decided, refl, refl); taken = refl; counted = refl }
+pub no_cuts_taken : {L : Type 0} (took : L → Step → GridBox → L → Type 0) (g slack : ℤ) (test : BoxTest) (box : WaitingBox) (log : L) → (IsUndecided test box.part → ⊥)
+    → TookCuts took (AreCutsOf g slack test box) log 0 box.part log
+no_cuts_taken took g slack test box log decided = record { steps = []; are = inr (decided, refl, refl); taken = refl; counted = refl }
 
 -- ---- each box of the grid has steps
 
@@ -215,22 +214,22 @@ cut_exists g false test id part one most few grid not_empty =
     ]
 cut_exists g true test id part one most few grid not_empty = deep_exist test id part few grid
 
-pub box_steps_exist : (g : ℤ) (rows : List Row) (rules : Rules) (splits : ℕ) (box : WaitingBox) → pos 1 ≤ℤ g → g ≤ℤ pos 1048576 → rules.outliers < length rows → IsGridPart box.part
-    → (steps : List ShownStep) × AreBoxSteps g (pos 16 *ℤ g) rows rules splits box steps
-box_steps_exist g rows rules splits box one most few grid =
-    let (step, closes) = ending_exists rows rules splits box.id box.part few in by_kind step closes
+pub box_steps_exist : (g : ℤ) (test : BoxTest) (rules : Rules) (splits : ℕ) (box : WaitingBox) → pos 1 ≤ℤ g → g ≤ℤ pos 1048576 → test.q < length test.rows → IsGridPart box.part
+    → (steps : List ShownStep) × AreBoxSteps g (pos 16 *ℤ g) test rules splits box steps
+box_steps_exist g test rules splits box one most few grid =
+    let (step, closes) = ending_exists test rules splits box.id box.part few in by_kind step closes
   where
-    cut_down : IsUndecided rows rules box.part → (steps : List ShownStep) × AreBoxSteps g (pos 16 *ℤ g) rows rules splits box steps
+    cut_down : IsUndecided test box.part → (steps : List ShownStep) × AreBoxSteps g (pos 16 *ℤ g) test rules splits box steps
     cut_down undecided =
-        let (cuts, (left, cut)) = cut_exists g rules.pairs (test_of rules rows) box.id box.part one most few grid undecided.not_empty in
-        let (step, closes) = ending_exists rows rules splits box.id left few in
+        let (cuts, (left, cut)) = cut_exists g test.pairs test box.id box.part one most few grid undecided.not_empty in
+        let (step, closes) = ending_exists test rules splits box.id left few in
         (cuts ++ (record { step = step; part = left }) ∷ [], record { cuts = cuts; left = left; are_cuts = inl (undecided, cut); last = step; closes = closes; all_steps = refl })
 
-    decided : (step : Step) → Closes rows rules splits box.id box.part step → (IsUndecided rows rules box.part → ⊥) → (steps : List ShownStep) × AreBoxSteps g (pos 16 *ℤ g) rows rules splits box steps
+    decided : (step : Step) → Closes test rules splits box.id box.part step → (IsUndecided test box.part → ⊥) → (steps : List ShownStep) × AreBoxSteps g (pos 16 *ℤ g) test rules splits box steps
     decided step closes not =
         ((record { step = step; part = box.part }) ∷ [], record { cuts = []; left = box.part; are_cuts = inr (not, refl, refl); last = step; closes = closes; all_steps = refl })
 
-    by_kind : (step : Step) → Closes rows rules splits box.id box.part step → (steps : List ShownStep) × AreBoxSteps g (pos 16 *ℤ g) rows rules splits box steps
+    by_kind : (step : Step) → Closes test rules splits box.id box.part step → (steps : List ShownStep) × AreBoxSteps g (pos 16 *ℤ g) test rules splits box steps
     by_kind (Outside n) closes = decided (Outside n) closes (λ u. u.not_empty closes.1)
     by_kind (Inside n clock lo hi) closes = decided (Inside n clock lo hi) closes (λ u. u.not_inner clock closes.1.shown)
     by_kind (Split n axis) closes = cut_down closes.1
@@ -239,10 +238,10 @@ box_steps_exist g rows rules splits box one most few grid =
 
 -- ---- what the cuts of a box are
 
-pub cuts_inside : (g slack : ℤ) (rows : List Row) (rules : Rules) (box : WaitingBox) (cuts : List ShownStep) (left : GridBox) → IsGridPart box.part → AreCutsOf g slack rows rules box cuts left → LiesIn left box.part
-cuts_inside g slack rows rules box cuts left grid are =
-    let (faces, (named, some)) = cuts_some g slack rows rules box cuts left are in
-    faces_inside (test_of rules rows) box.id faces box.part cuts left grid.lies some
+pub cuts_inside : (g slack : ℤ) (test : BoxTest) (box : WaitingBox) (cuts : List ShownStep) (left : GridBox) → IsGridPart box.part → AreCutsOf g slack test box cuts left → LiesIn left box.part
+cuts_inside g slack test box cuts left grid are =
+    let (faces, (named, some)) = cuts_some g slack test box cuts left are in
+    faces_inside test box.id faces box.part cuts left grid.lies some
 
 cut_few : (g slack : ℤ) (asked : Bool) (test : BoxTest) (id : ℕ) (part : GridBox) (cuts : List ShownStep) (left : GridBox) → IsGridPart part → IsCutBy g slack test asked id part cuts left → length cuts ≤ 1014
 cut_few g slack false test id part cuts left grid down =
@@ -257,10 +256,10 @@ cut_few g slack false test id part cuts left grid down =
     )
 cut_few g slack true test id part cuts left grid deep = omega (arith, rounds_few test id part cuts left grid deep)
 
-pub cuts_few : (g slack : ℤ) (rows : List Row) (rules : Rules) (box : WaitingBox) (cuts : List ShownStep) (left : GridBox) → IsGridPart box.part → AreCutsOf g slack rows rules box cuts left → length cuts ≤ 1014
-cuts_few g slack rows rules box cuts left grid are = elim are [
+pub cuts_few : (g slack : ℤ) (test : BoxTest) (box : WaitingBox) (cuts : List ShownStep) (left : GridBox) → IsGridPart box.part → AreCutsOf g slack test box cuts left → length cuts ≤ 1014
+cuts_few g slack test box cuts left grid are = elim are [
   | inr (decided, none, same) ↦ omega (arith, ap length none)
-  | inl (undecided, cut) ↦ cut_few g slack rules.pairs (test_of rules rows) box.id box.part cuts left grid cut
+  | inl (undecided, cut) ↦ cut_few g slack test.pairs test box.id box.part cuts left grid cut
 ]
 
 cut_leaves : (g slack : ℤ) (asked : Bool) (test : BoxTest) (id : ℕ) (part : GridBox) (cuts : List ShownStep) (left : GridBox) → IsCutBy g slack test asked id part cuts left → NoneMayCut test all_faces left
@@ -268,8 +267,8 @@ cut_leaves g slack false test id part cuts left down = round_cuts_leave test id 
 cut_leaves g slack true test id part cuts left deep = round_cuts_leave test id part cuts left deep
 
 -- where a box is split or closed at the edge, no slab of an eighth is shown empty
-pub none_left : (g slack : ℤ) (rows : List Row) (rules : Rules) (box : WaitingBox) (cuts : List ShownStep) (left : GridBox) → IsUndecided rows rules left → AreCutsOf g slack rows rules box cuts left → NoneMayCut (test_of rules rows) all_faces left
-none_left g slack rows rules box cuts left undecided are = elim are [
-  | inr (decided, none, same) ↦ absurd (decided (subst (λ (c : GridBox). IsUndecided rows rules c) same undecided))
-  | inl (was, cut) ↦ cut_leaves g slack rules.pairs (test_of rules rows) box.id box.part cuts left cut
+pub none_left : (g slack : ℤ) (test : BoxTest) (box : WaitingBox) (cuts : List ShownStep) (left : GridBox) → IsUndecided test left → AreCutsOf g slack test box cuts left → NoneMayCut test all_faces left
+none_left g slack test box cuts left undecided are = elim are [
+  | inr (decided, none, same) ↦ absurd (decided (subst (λ (c : GridBox). IsUndecided test c) same undecided))
+  | inl (was, cut) ↦ cut_leaves g slack test.pairs test box.id box.part cuts left cut
 ]

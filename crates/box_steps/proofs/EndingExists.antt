@@ -5,11 +5,10 @@ use Rattle.std.proofs.lemmas.Int.{ints}
 use Rattle.std.proofs.lemmas.Bool.{cases_Bool, cases_lt}
 use lib.Signed.{lt_z}
 use Rattle.sat_model.specs.declared.rules.Rules.{Rules}
-use Rattle.sat_model.specs.declared.rows.Row.{Row}
 use Rattle.sat_model.specs.declared.steps.Step.{Step}
 use Rattle.sat_model.specs.declared.steps.Step.TheVariants.{Split, Outside, Inside, Edge}
 use Rattle.grid_model.specs.Boxes.{GridBox, side_at}
-use Rattle.sat_model.specs.BoxTests.{test_of}
+use Rattle.sat_model.specs.BoxTests.{BoxTest}
 use Rattle.sat_model.specs.ClockSpans.{clock_spans, inner_spans}
 use Rattle.grid_model.specs.Lengths.{side_length, longest_length, IsLongestAxis}
 use Rattle.sat_model.specs.Waiting.{IsUndecided, MaySplit, MayNotSplit, Closes}
@@ -50,17 +49,17 @@ may_split rules splits part = elim (cases_Bool (lt_z rules.width (pos (longest_l
   | inr no_longer ↦ inr (inl (omega (arith, ints, no_longer)))
 ]
 
-pub ending_exists : (rows : List Row) (rules : Rules) (splits id : ℕ) (part : GridBox) → rules.outliers < length rows → (step : Step) × Closes rows rules splits id part step
-ending_exists rows rules splits id part enough =
-    let some : 0 < length rows - rules.outliers = omega arith in
-    elim (empty_or_not (test_of rules rows) part enough) [
+pub ending_exists : (test : BoxTest) (rules : Rules) (splits id : ℕ) (part : GridBox) → test.q < length test.rows → (step : Step) × Closes test rules splits id part step
+ending_exists test rules splits id part enough =
+    let some : 0 < length test.rows - test.q = omega arith in
+    elim (empty_or_not test part enough) [
       | inl empty ↦ (Outside id, (refl, empty))
-      | inr not_empty ↦ elim (relaxed_hull (clock_spans part rows) (length rows - rules.outliers) some) [
-        | inl none ↦ absurd (not_empty (empty_by_spans (test_of rules rows) part none))
-        | inr (lo, hi, hull) ↦ elim (least_relaxed (inner_spans part rows) (length rows - rules.outliers) some) [
+      | inr not_empty ↦ elim (relaxed_hull (clock_spans part test.rows) (length test.rows - test.q) some) [
+        | inl none ↦ absurd (not_empty (empty_by_spans test part none))
+        | inr (lo, hi, hull) ↦ elim (least_relaxed (inner_spans part test.rows) (length test.rows - test.q) some) [
           | inr (clock, least) ↦ (Inside id clock lo hi, (refl, record { shown = least.lies; least = least.least }, hull))
           | inl not_inner ↦
-              let undecided : IsUndecided rows rules part = record { not_empty = not_empty; not_inner = not_inner } in
+              let undecided : IsUndecided test part = record { not_empty = not_empty; not_inner = not_inner } in
               elim (may_split rules splits part) [
                 | inl may ↦ let (axis, longest) = longest_axis_exists part in (Split id axis, (refl, undecided, may, longest))
                 | inr may_not ↦ (Edge id lo hi, (refl, undecided, may_not, hull))

@@ -1,10 +1,9 @@
 -- The steps of one box of a paving: it is cut at its faces, and then split or closed.
 use Rattle.std.specs.Prelude.{◌≡◌, ℕ, ◌⊎◌, ℤ, List, [], ◌∷◌, ◌++◌, Option, Bool, true, false}
 use Rattle.sat_model.specs.declared.rules.Rules.{Rules}
-use Rattle.sat_model.specs.declared.rows.Row.{Row}
 use Rattle.sat_model.specs.declared.steps.Step.{Step}
 use Rattle.grid_model.specs.Boxes.{Side, GridBox}
-use Rattle.sat_model.specs.BoxTests.{BoxTest, test_of, IsHull}
+use Rattle.sat_model.specs.BoxTests.{BoxTest, IsHull}
 use Rattle.sat_model.specs.Fold.{ShownStep}
 use Rattle.sat_model.specs.Waiting.{WaitingBox, IsUndecided, Closes}
 use Rattle.sat_model.specs.Proposals.{IsProposal}
@@ -43,20 +42,19 @@ module _ (grain slack : ℤ) (test : BoxTest) where
   abbrev pub IsCut : ℕ → GridBox → List ShownStep → GridBox → Type 0
   IsCut = IsCutBy test.pairs
 
-module _ (grain slack : ℤ) (rows : List Row) (rules : Rules) where
   -- a box that is shown empty or inner isn't cut
   abbrev pub AreCutsOf : WaitingBox → List ShownStep → GridBox → Type 0
   AreCutsOf box cuts left =
-      (IsUndecided rows rules box.part
-      × IsCut grain slack (test_of rules rows) box.id box.part cuts left)
-      ⊎ ((IsUndecided rows rules box.part → ⊥) × (cuts ≡ []) × (left ≡ box.part))
+      (IsUndecided test box.part × IsCut box.id box.part cuts left)
+      ⊎ ((IsUndecided test box.part → ⊥) × (cuts ≡ []) × (left ≡ box.part))
 
   -- the steps of a box that is taken up after so many splits: its cuts, and the step that splits or
   -- closes what they leave
-  pub record AreBoxSteps (splits : ℕ) (box : WaitingBox) (steps : List ShownStep) : Type 0 where
+  pub record AreBoxSteps (rules : Rules) (splits : ℕ) (box : WaitingBox) (steps : List ShownStep)
+      : Type 0 where
     pub cuts : List ShownStep
     pub left : GridBox
     pub are_cuts : AreCutsOf box cuts left
     pub last : Step
-    pub closes : Closes rows rules splits box.id left last
+    pub closes : Closes test rules splits box.id left last
     pub all_steps : steps ≡ cuts ++ (record { step = last; part = left }) ∷ []

@@ -1,10 +1,9 @@
 //! The step that splits or closes a box.
 
-ghost use Rattle.std.specs.Prelude.{◌≡◌, List};
+ghost use Rattle.std.specs.Prelude.{◌≡◌};
 ghost use Rattle.grid_model.specs.Boxes.{grid_box};
-ghost use Rattle.sat_model.specs.BoxTests.{test_of, IsHull};
+ghost use Rattle.sat_model.specs.BoxTests.{BoxTest, IsHull};
 ghost use Rattle.sat_model.specs.Waiting.{Closes, IsUndecided};
-ghost use Rattle.sat_model.specs.declared.rows.Row.{Row};
 ghost use Rattle.relaxed_meet.specs.BoxStates.{IsBoxState};
 
 use grid_model::{Box3, Span};
@@ -15,8 +14,8 @@ use sat_model::{Rules, Step};
 /// where it is shown empty, and inside where it is shown inner. Else it is split on its longest
 /// axis, or closed at the edge where it is short enough or no split is left.
 pub fn closing_step(rules: &Rules, splits: u32, id: u32, part: &Box3, state: &BoxState) -> Step
-    ensures { (rows : List Row) → IsBoxState (test_of rules.now rows) (grid_box part.now) state.now
-        → Closes rows rules.now splits id (grid_box part.now) result }
+    ensures { (test : BoxTest) → IsBoxState test (grid_box part.now) state.now
+        → Closes test rules.now splits id (grid_box part.now) result }
 {
     match *state {
         BoxState::Empty => Step::Outside { id },
@@ -32,9 +31,9 @@ pub fn closing_step(rules: &Rules, splits: u32, id: u32, part: &Box3, state: &Bo
 
 /// The step for a box that is shown neither empty nor inner, with its clock hull.
 fn undecided_step(rules: &Rules, splits: u32, id: u32, part: &Box3, hull: Span) -> Step
-    ensures { (rows : List Row) → IsUndecided rows rules.now (grid_box part.now)
-        → IsHull (test_of rules.now rows) (grid_box part.now) hull.lo hull.hi
-        → Closes rows rules.now splits id (grid_box part.now) result }
+    ensures { (test : BoxTest) → IsUndecided test (grid_box part.now)
+        → IsHull test (grid_box part.now) hull.lo hull.hi
+        → Closes test rules.now splits id (grid_box part.now) result }
 {
     let (axis, longest) = part.longest_axis();
     if longest as i64 > rules.width && splits < rules.bisections {

@@ -2,7 +2,7 @@
 
 ghost use Rattle.std.specs.Prelude.{◌≡◌, ◌≤◌, true, false, IfOk, IfErr, Err, MatchOption};
 ghost use Rattle.grid_model.specs.Boxes.{grid_box};
-ghost use Rattle.sat_model.specs.BoxTests.{test_of, IsHull};
+ghost use Rattle.sat_model.specs.BoxTests.{IsHull};
 ghost use Rattle.sat_model.specs.RowTrees.{row_tree};
 ghost use Rattle.range_contractor.specs.Views.{tree_value};
 ghost use Rattle.relaxed_meet.specs.BoxStates.{IsBoxState};
@@ -47,15 +47,14 @@ pub fn work_on<I: Interval, L: Steps>(
     part: &Box3,
     log: &mut L,
 ) -> Result<Ended, StepFault>
-    requires test { test_value test.old ≡ test_of rules.now (test_value test.old).rows }
     requires tree { MatchOption tree ((test_value test.old).pairs ≡ true)
         (λ t. ((test_value test.old).pairs ≡ false) × (tree_value I.low I.high t.now
         ≡ row_tree I.GRAIN (test_value test.old).rows (test_value test.old).q)) }
     ensures took { IfOk result (λ ended. TookBox L.took (AreBoxSteps I.GRAIN I.SLACK
-        (test_value test.old).rows rules.now splits
+        (test_value test.old) rules.now splits
         (record { id = id; part = grid_box part.now })) log.old ended log.new) }
     ensures broken { IfErr result (λ fault. BrokeOff L.took L.broke L.room fault
-        (AreBoxSteps I.GRAIN I.SLACK (test_value test.old).rows rules.now splits
+        (AreBoxSteps I.GRAIN I.SLACK (test_value test.old) rules.now splits
         (record { id = id; part = grid_box part.now })) log.old log.new) }
     ensures few { IfOk result (λ ended. ended.cuts ≤ 1800) }
     ensures failed { result ≡ Err StepFault.Failed → Rose (L.faults log.old) (L.faults log.new) }

@@ -12,7 +12,7 @@ use Rattle.grid_model.specs.Lengths.{spare_of}
 use Rattle.sat_model.specs.Logs.{rows_of}
 use Rattle.sat_model.specs.Relaxed.{holds}
 use Rattle.grid_model.specs.SearchBoxes.{IsSearchBox}
-use Rattle.gnss_model.specs.Zenith.{err_spare_of}
+use Rattle.gnss_model.specs.Delays.{err_spare_of}
 use Rattle.sat_model.specs.declared.rows.Row.{Row}
 use Rattle.sat_model.specs.declared.rows.SatEntry.{SatEntry}
 use Rattle.sat_model.specs.declared.rows.SatEntry.TheVariants as entry
@@ -40,7 +40,7 @@ spans_each part [] = omega arith
 spans_each part (row ∷ rows) = omega (arith, spans_each part rows)
 
 module _ (m : Meaning) (sound : IsSound m) (epoch : ObsEpoch) (root : GridBox) (box : IsSearchBox root) (part : GridBox) (lies : LiesIn part root)
-    (margin : ℕ) (enough : 6 * spare_of root + 2 * err_spare_of root m.zenith ≤ margin) where
+    (margin : ℕ) (enough : 6 * spare_of root + 2 * err_spare_of root m.delays ≤ margin) where
   -- a usable satellite has no reason not to use it
   usable_meets : (Meets : SatObs → Type 0) (seen : SatObs) → m.judged root epoch.tag seen None → IfUsable m root epoch Meets seen → Meets seen
   usable_meets Meets seen usable h = elim h [
@@ -57,14 +57,14 @@ module _ (m : Meaning) (sound : IsSound m) (epoch : ObsEpoch) (root : GridBox) (
     abbrev Held : SatObs → Type 0
     Held seen = HoldsRange m root epoch part margin (ranges seen) seen
 
-    near_here : (seen : SatObs) (own row : Row) → m.judged root epoch.tag seen None → IsOwnRow m root epoch.tag seen own → IsGrownRow (pos (spare_of root)) (pos (err_spare_of root m.zenith)) own row
+    near_here : (seen : SatObs) (own row : Row) → m.judged root epoch.tag seen None → IsOwnRow m root epoch.tag seen own → IsGrownRow (pos (spare_of root)) (pos (err_spare_of root m.delays)) own row
         → IfUsable m root epoch Held seen → holds (clock_ends part row) b ≡ true → Near seen
     near_here seen own row usable is grown held e =
         let (from, to) = both _ _ e in
-        nearly_consistent m root epoch part margin seen (spare_of root) (err_spare_of root m.zenith) own row (own_box part root lies) (row_over m sound root part box epoch.tag seen own row lies usable is grown) enough
+        nearly_consistent m root epoch part margin seen (spare_of root) (err_spare_of root m.delays) own row (own_box part root lies) (row_over m sound root part box epoch.tag seen own row lies usable is grown) enough
         (ranges seen) b (usable_meets Held seen usable held) (le_from _ _ from) (le_from _ _ to)
 
-    near_but : (q : ℕ) (sats : List SatObs) (own : List SatLine) (entries : List SatEntry) → AreOwnLines m root epoch.tag sats own → AreGrownLines (pos (spare_of root)) (pos (err_spare_of root m.zenith)) own entries
+    near_but : (q : ℕ) (sats : List SatObs) (own : List SatLine) (entries : List SatEntry) → AreOwnLines m root epoch.tag sats own → AreGrownLines (pos (spare_of root)) (pos (err_spare_of root m.delays)) own entries
         → UsableBut m root epoch 0 Held sats → length (rows_of entries) ≤ count_by (λ s. holds s b) (clock_spans part (rows_of entries)) + q → UsableBut m root epoch q Near sats
     near_but q [] own entries are grown held le = tt
     near_but q (seen ∷ sats) [] entries are grown held le = absurd are
@@ -90,7 +90,7 @@ module _ (m : Meaning) (sound : IsSound m) (epoch : ObsEpoch) (root : GridBox) (
       | inr e ↦ inr (near_but q sats own entries are grown.1 held.1 (omega (arith, count_not_here b (clock_ends part row) (clock_spans part (rows_of entries)) e)))
     ]
 
-  pub empty_shown : (q : ℕ) (own : List SatLine) (entries : List SatEntry) → AreOwnLines m root epoch.tag epoch.sats.items own → AreGrownLines (pos (spare_of root)) (pos (err_spare_of root m.zenith)) own entries
+  pub empty_shown : (q : ℕ) (own : List SatLine) (entries : List SatEntry) → AreOwnLines m root epoch.tag epoch.sats.items own → AreGrownLines (pos (spare_of root)) (pos (err_spare_of root m.delays)) own entries
       → IsEmptyBy m root epoch part margin q → IsShownEmpty (rows_of entries) part q
   empty_shown q own entries are grown clear b lies_in = clear.none b (near_but clear.ranges b q epoch.sats.items own entries are grown clear.hold (omega arith))
 
@@ -100,14 +100,14 @@ module _ (m : Meaning) (sound : IsSound m) (epoch : ObsEpoch) (root : GridBox) (
     abbrev Safe : SatObs → Type 0
     Safe seen = IsSafelyConsistent m root epoch part margin b seen
 
-    inner_here : (seen : SatObs) (own row : Row) → m.judged root epoch.tag seen None → IsOwnRow m root epoch.tag seen own → IsGrownRow (pos (spare_of root)) (pos (err_spare_of root m.zenith)) own row
+    inner_here : (seen : SatObs) (own row : Row) → m.judged root epoch.tag seen None → IsOwnRow m root epoch.tag seen own → IsGrownRow (pos (spare_of root)) (pos (err_spare_of root m.delays)) own row
         → IfUsable m root epoch Safe seen → holds (inner_ends part row) b ≡ true
     inner_here seen own row usable is grown safe =
-        let (from, to) = safely_inner m root epoch part margin seen (spare_of root) (err_spare_of root m.zenith) own row (own_box part root lies) (row_over m sound root part box epoch.tag seen own row lies usable is grown) enough
+        let (from, to) = safely_inner m root epoch part margin seen (spare_of root) (err_spare_of root m.delays) own row (own_box part root lies) (row_over m sound root part box epoch.tag seen own row lies usable is grown) enough
         b (usable_meets Safe seen usable safe) in
         holds_from _ _ b from to
 
-    inner_but : (q : ℕ) (sats : List SatObs) (own : List SatLine) (entries : List SatEntry) → AreOwnLines m root epoch.tag sats own → AreGrownLines (pos (spare_of root)) (pos (err_spare_of root m.zenith)) own entries
+    inner_but : (q : ℕ) (sats : List SatObs) (own : List SatLine) (entries : List SatEntry) → AreOwnLines m root epoch.tag sats own → AreGrownLines (pos (spare_of root)) (pos (err_spare_of root m.delays)) own entries
         → UsableBut m root epoch q Safe sats → length (rows_of entries) ≤ count_by (λ s. holds s b) (inner_spans part (rows_of entries)) + q
     inner_but q [] [] [] are grown safe = omega arith
     inner_but q [] [] (e ∷ entries) are grown safe = absurd grown
@@ -129,6 +129,6 @@ module _ (m : Meaning) (sound : IsSound m) (epoch : ObsEpoch) (root : GridBox) (
       | inr safe ↦ omega (arith, count_any b (inner_ends part row) (inner_spans part (rows_of entries)), inner_but q sats own entries are grown.1 safe)
     ]
 
-  pub inner_shown : (q : ℕ) (own : List SatLine) (entries : List SatEntry) → AreOwnLines m root epoch.tag epoch.sats.items own → AreGrownLines (pos (spare_of root)) (pos (err_spare_of root m.zenith)) own entries
+  pub inner_shown : (q : ℕ) (own : List SatLine) (entries : List SatEntry) → AreOwnLines m root epoch.tag epoch.sats.items own → AreGrownLines (pos (spare_of root)) (pos (err_spare_of root m.delays)) own entries
       → (clear : IsInnerBy m root epoch part margin q) → IsShownInner (rows_of entries) part q clear.offset
   inner_shown q own entries are grown clear = omega (arith, inner_but clear.offset q epoch.sats.items own entries are grown clear.inside)

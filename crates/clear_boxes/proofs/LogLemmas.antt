@@ -13,7 +13,7 @@ use Rattle.range_contractor.proofs.TreeExists.{IsGridPart}
 use Rattle.rinex_obs.specs.declared.obs.ObsEpoch.{ObsEpoch}
 use Rattle.grid_model.specs.Lengths.{spare_of}
 use Rattle.grid_model.specs.SearchBoxes.{IsSearchSide, IsSearchBox}
-use Rattle.gnss_model.specs.Zenith.{err_spare_of}
+use Rattle.gnss_model.specs.Delays.{err_spare_of}
 use Rattle.sat_model.specs.Logs.{Block}
 use Rattle.grid_model.specs.declared.boxes.Box3.{Box3}
 use Rattle.sat_model.specs.declared.rules.Rules.{Rules}
@@ -29,11 +29,11 @@ use Rattle.log_writer.specs.Pavings.{HasRun, BodyPaves, AllPave}
 use Rattle.clear_boxes.proofs.RunLemmas.{run_clear}
 
 module _ (m : Meaning) (sound : IsSound m) (rules : Rules) (root : GridBox) (box : IsSearchBox root) (grid : IsGridPart root) where
-  run_of_block : (epoch : ObsEpoch) (own : List SatLine) (block : Block) → AreLinesOf m root epoch own → AreGrownLines (pos (spare_of root)) (pos (err_spare_of root m.zenith)) own block.sats → (paved : HasRun rules root block)
+  run_of_block : (epoch : ObsEpoch) (own : List SatLine) (block : Block) → AreLinesOf m root epoch own → AreGrownLines (pos (spare_of root)) (pos (err_spare_of root m.delays)) own block.sats → (paved : HasRun rules root block)
       → NothingClearLeft m rules (search_in root epoch) block.done paved.shown
   run_of_block epoch own block are grown paved = rw paved.done (run_clear m sound rules epoch root box grid own block.sats are grown paved.shown paved.run)
 
-  pub body_clear : (epoch : ObsEpoch) (few : Bool) (own : List SatLine) (given block : Block) (theirs : Option GridBox) → AreLinesOf m root epoch own → HasBody m.zenith few root own given → given.root ≡ theirs
+  pub body_clear : (epoch : ObsEpoch) (few : Bool) (own : List SatLine) (given block : Block) (theirs : Option GridBox) → AreLinesOf m root epoch own → HasBody m.delays few root own given → given.root ≡ theirs
       → block.sats ≡ given.sats → BodyPaves rules block theirs → BodyLeavesNothingClear m rules (search_in root epoch) block theirs
   body_clear epoch few own given block None are body is sats paves = tt
   body_clear epoch true own given block (Some theirs) are body is sats paves = absurd (let none = sym is ∙ body.1 in cc)

@@ -10,7 +10,7 @@ use Rattle.sat_model.specs.Contractors.{LiesIn}
 use Rattle.grid_model.specs.Ranges.{range_to}
 use Rattle.grid_model.specs.Lengths.{spare_of}
 use Rattle.grid_model.specs.SearchBoxes.{IsSearchBox}
-use Rattle.gnss_model.specs.Zenith.{err_spare_of}
+use Rattle.gnss_model.specs.Delays.{err_spare_of}
 use Rattle.grid_model.specs.declared.boxes.Pos.{Pos}
 use Rattle.sat_model.specs.declared.rows.Row.{Row}
 use Rattle.range_contractor.proofs.BoxLemmas.{along, holds_all, holds_at}
@@ -164,7 +164,7 @@ part_holds part root p lies inside = holds_all root p (λ axis.
     (omega (arith, ints, l.low, i.0), omega (arith, ints, l.high, i.1)))
 
 pub row_over : (m : Meaning) (sound : IsSound m) (root part : GridBox) (box : IsSearchBox root) (tag : ℤ) (seen : SatObs) (own row : Row) → LiesIn part root → m.judged root tag seen None
-    → IsOwnRow m root tag seen own → IsGrownRow (pos (spare_of root)) (pos (err_spare_of root m.zenith)) own row → IsRowOver (m.allows tag seen) (spare_of root) (err_spare_of root m.zenith) part own row
+    → IsOwnRow m root tag seen own → IsGrownRow (pos (spare_of root)) (pos (err_spare_of root m.delays)) own row → IsRowOver (m.allows tag seen) (spare_of root) (err_spare_of root m.delays) part own row
 row_over m sound root part box tag seen own row lies usable is grown = record {
   spare = omega arith;
   exists = λ p inside. sound.allowed_exists root tag seen p box (part_holds part root p lies inside) usable;

@@ -8,10 +8,10 @@ use Rattle.rinex_obs.specs.declared.obs.SatObs.{SatObs}
 use Rattle.grid_model.specs.Boxes.{Side, GridBox, box_holds, IsIn}
 use Rattle.grid_model.specs.Intervals.{Between}
 use Rattle.grid_model.specs.Lengths.{spare_of}
-use Rattle.gnss_model.specs.Zenith.{err_spare_of}
+use Rattle.gnss_model.specs.Delays.{err_spare_of}
 use Rattle.grid_model.specs.declared.boxes.Pos.{Pos}
 use Rattle.gnss_model.specs.declared.satellites.Skip.{Skip}
-use Rattle.grid_model.specs.declared.spans.Span.{Span}
+use Rattle.gnss_model.specs.declared.delays.Delays.{Delays}
 use Rattle.sat_rows.specs.Chains.{Chain}
 use Rattle.sat_rows.specs.Meanings.{Meaning}
 
@@ -69,15 +69,15 @@ module _ (m : Meaning) (root : GridBox) (epoch : ObsEpoch) where
       pub inside : UsableBut q (IsSafelyConsistent offset) epoch.sats.items
 
 -- the margin over a search box: 12 W and 4 G
-abbrev pub margin_over : GridBox → Option Span → ℕ
-margin_over root zenith = 12 * spare_of root + 4 * err_spare_of root zenith
+abbrev pub margin_over : GridBox → Delays → ℕ
+margin_over root delays = 12 * spare_of root + 4 * err_spare_of root delays
 
 -- in a search, where up to q usable satellites may be inconsistent
 module _ (m : Meaning) (q : ℕ) (search : Search) where
   abbrev pub IsClearlyEmpty : GridBox → Type 0
   IsClearlyEmpty part =
-      IsEmptyBy m search.root search.epoch part (margin_over search.root m.zenith) q
+      IsEmptyBy m search.root search.epoch part (margin_over search.root m.delays) q
 
   abbrev pub IsClearlyInner : GridBox → Type 0
   IsClearlyInner part =
-      IsInnerBy m search.root search.epoch part (margin_over search.root m.zenith) q
+      IsInnerBy m search.root search.epoch part (margin_over search.root m.delays) q

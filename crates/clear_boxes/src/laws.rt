@@ -13,9 +13,10 @@ ghost use Rattle.sat_model.specs.ClockSpans.{IsShownEmpty, IsShownInner};
 ghost use Rattle.sat_model.specs.Contractors.{LiesIn};
 ghost use Rattle.sat_model.specs.Fold.{ShownStep};
 ghost use Rattle.grid_model.specs.Lengths.{spare_of};
+ghost use Rattle.sat_model.specs.BoxTests.{test_of};
 ghost use Rattle.sat_model.specs.Logs.{Block, rows_of};
 ghost use Rattle.grid_model.specs.SearchBoxes.{IsSearchBox};
-ghost use Rattle.gnss_model.specs.Zenith.{err_spare_of};
+ghost use Rattle.gnss_model.specs.Delays.{err_spare_of};
 ghost use Rattle.grid_model.specs.declared.boxes.Box3.{Box3};
 ghost use Rattle.sat_model.specs.declared.rules.Rules.{Rules};
 ghost use Rattle.sat_model.specs.declared.rows.SatEntry.{SatEntry};
@@ -31,17 +32,17 @@ pub fn clear_boxes_are_shown<S: RowSource>()
     ensures empty { (source : S) (epoch : ObsEpoch) (root part : GridBox) (margin q : ℕ)
         (own : List SatLine) (sats : List SatEntry)
         → IsSearchBox root → AreLinesOf (S.meaning source) root epoch own
-        → AreGrownLines (pos (spare_of root)) (pos (err_spare_of root (S.meaning source).zenith))
+        → AreGrownLines (pos (spare_of root)) (pos (err_spare_of root (S.meaning source).delays))
         own sats → LiesIn part root
-        → 6 * spare_of root + 2 * err_spare_of root (S.meaning source).zenith ≤ margin
+        → 6 * spare_of root + 2 * err_spare_of root (S.meaning source).delays ≤ margin
         → IsEmptyBy (S.meaning source) root epoch part margin q
         → IsShownEmpty (rows_of sats) part q }
     ensures inner { (source : S) (epoch : ObsEpoch) (root part : GridBox) (margin q : ℕ)
         (own : List SatLine) (sats : List SatEntry)
         → IsSearchBox root → AreLinesOf (S.meaning source) root epoch own
-        → AreGrownLines (pos (spare_of root)) (pos (err_spare_of root (S.meaning source).zenith))
+        → AreGrownLines (pos (spare_of root)) (pos (err_spare_of root (S.meaning source).delays))
         own sats → LiesIn part root
-        → 6 * spare_of root + 2 * err_spare_of root (S.meaning source).zenith ≤ margin
+        → 6 * spare_of root + 2 * err_spare_of root (S.meaning source).delays ≤ margin
         → (clear : IsInnerBy (S.meaning source) root epoch part margin q)
         → IsShownInner (rows_of sats) part q clear.offset }
 {}
@@ -53,8 +54,8 @@ pub fn runs_leave_nothing_clear<S: RowSource>()
         (own : List SatLine) (sats : List SatEntry) (steps : List ShownStep)
         → IsSearchBox (grid_box root) → AreLinesOf (S.meaning source) (grid_box root) epoch own
         → AreGrownLines (pos (spare_of (grid_box root)))
-        (pos (err_spare_of (grid_box root) (S.meaning source).zenith)) own sats
-        → (run : Paved (rows_of sats) rules (grid_box root) steps)
+        (pos (err_spare_of (grid_box root) (S.meaning source).delays)) own sats
+        → (run : Paved (test_of rules (rows_of sats)) rules (grid_box root) steps)
         → NothingClearLeft (S.meaning source) rules (search_in (grid_box root) epoch)
         run.last.splits steps }
 {}

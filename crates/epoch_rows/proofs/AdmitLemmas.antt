@@ -16,7 +16,7 @@ use Rattle.sat_model.specs.Verdicts.{BodyPasses, BlockPasses, BlocksPass, NoneRe
 use Rattle.grid_model.specs.declared.boxes.Box3.{Box3}
 use Rattle.sat_model.specs.declared.rules.Rules.{Rules}
 use Rattle.sat_model.specs.declared.rows.SatEntry.{SatEntry}
-use Rattle.grid_model.specs.declared.spans.Span.{Span}
+use Rattle.gnss_model.specs.declared.delays.Delays.{Delays}
 use Rattle.paving_log_check.proofs.FitLemmas.{HasFewRoot, AreInBoxes}
 use Rattle.sat_rows.specs.Meanings.{Meaning, IsSound}
 use Rattle.sat_rows.specs.OwnRows.{AreLinesOf}
@@ -26,52 +26,52 @@ use Rattle.epoch_rows.proofs.AgreeLemmas.{HasPoint, AllAgree, LineAgrees, lines_
 -- ---- satellite lines
 
 -- lines k of both agree
-record AgreeAt (zenith : Option Span) (entries : List SatEntry) (lines : List SatLine) (k : ℕ) : Type 0 where
+record AgreeAt (delays : Delays) (entries : List SatEntry) (lines : List SatLine) (k : ℕ) : Type 0 where
   theirs : SatEntry
   theirs_at : slice_get entries k ≡ Some theirs
   ours : SatLine
   ours_at : slice_get lines k ≡ Some ours
-  agree : LineAgrees zenith theirs ours
+  agree : LineAgrees delays theirs ours
 
-agree_at : (zenith : Option Span) (entries : List SatEntry) (lines : List SatLine) (k : ℕ) → AllAgree zenith entries lines → k < length entries → AgreeAt zenith entries lines k
-agree_at zenith [] [] k all within = absurd (omega arith)
-agree_at zenith [] (line ∷ lines) k all within = absurd all
-agree_at zenith (e ∷ entries) [] k all within = absurd all
-agree_at zenith (e ∷ entries) (line ∷ lines) zero all within = record { theirs = e; theirs_at = refl; ours = line; ours_at = refl; agree = all.0 }
-agree_at zenith (e ∷ entries) (line ∷ lines) (suc k) all within =
-    let a = agree_at zenith entries lines k all.1 (omega arith) in
+agree_at : (delays : Delays) (entries : List SatEntry) (lines : List SatLine) (k : ℕ) → AllAgree delays entries lines → k < length entries → AgreeAt delays entries lines k
+agree_at delays [] [] k all within = absurd (omega arith)
+agree_at delays [] (line ∷ lines) k all within = absurd all
+agree_at delays (e ∷ entries) [] k all within = absurd all
+agree_at delays (e ∷ entries) (line ∷ lines) zero all within = record { theirs = e; theirs_at = refl; ours = line; ours_at = refl; agree = all.0 }
+agree_at delays (e ∷ entries) (line ∷ lines) (suc k) all within =
+    let a = agree_at delays entries lines k all.1 (omega arith) in
     record { theirs = a.theirs; theirs_at = a.theirs_at; ours = a.ours; ours_at = a.ours_at; agree = a.agree }
 
-sats_pass : (zenith : Option Span) (entries : List SatEntry) (lines : List SatLine) → AllAgree zenith entries lines → NoneRepeats entries → SatsPass zenith entries lines
-sats_pass zenith entries lines all once k within =
-    let a = agree_at zenith entries lines k all within in
+sats_pass : (delays : Delays) (entries : List SatEntry) (lines : List SatLine) → AllAgree delays entries lines → NoneRepeats entries → SatsPass delays entries lines
+sats_pass delays entries lines all once k within =
+    let a = agree_at delays entries lines k all within in
     record {
       is_expected = record { theirs = a.theirs; theirs_at = a.theirs_at; ours = a.ours; ours_at = a.ours_at; same = a.agree.same; once = once k };
       passes = a.agree.passes;
     }
 
-as_many : (zenith : Option Span) (entries : List SatEntry) (lines : List SatLine) → AllAgree zenith entries lines → length lines ≡ length entries
-as_many zenith [] [] all = refl
-as_many zenith [] (line ∷ lines) all = absurd all
-as_many zenith (e ∷ entries) [] all = absurd all
-as_many zenith (e ∷ entries) (line ∷ lines) all = ap suc (as_many zenith entries lines all.1)
+as_many : (delays : Delays) (entries : List SatEntry) (lines : List SatLine) → AllAgree delays entries lines → length lines ≡ length entries
+as_many delays [] [] all = refl
+as_many delays [] (line ∷ lines) all = absurd all
+as_many delays (e ∷ entries) [] all = absurd all
+as_many delays (e ∷ entries) (line ∷ lines) all = ap suc (as_many delays entries lines all.1)
 
 -- ---- bodies
 
 same_root : (root theirs : GridBox) → Some theirs ≡ Some root → theirs ≡ root
 same_root root theirs is = cc
 
-body_at : (zenith : Option Span) (rules : Rules) (root : GridBox) (few : Bool) (own : List SatLine) (given block : Block) (theirs : Option GridBox) → HasBody zenith few root own given → given.root ≡ theirs → BodyPasses rules block theirs → BodyPassesAt rules root block theirs
-body_at zenith rules root few own given block None body is passes = tt
-body_at zenith rules root true own given block (Some theirs) body is passes = absurd (let none = sym is ∙ body.1 in cc)
-body_at zenith rules root false own given block (Some theirs) body is passes =
+body_at : (delays : Delays) (rules : Rules) (root : GridBox) (few : Bool) (own : List SatLine) (given block : Block) (theirs : Option GridBox) → HasBody delays few root own given → given.root ≡ theirs → BodyPasses rules block theirs → BodyPassesAt rules root block theirs
+body_at delays rules root few own given block None body is passes = tt
+body_at delays rules root true own given block (Some theirs) body is passes = absurd (let none = sym is ∙ body.1 in cc)
+body_at delays rules root false own given block (Some theirs) body is passes =
     let same = same_root root theirs (sym is ∙ body.1) in
     (same, subst (λ (r : GridBox). BodyPasses rules block (Some r)) same passes)
 
 -- a block of few satellites, and no other, has no root
-body_root : (zenith : Option Span) (few : Bool) (root : GridBox) (own : List SatLine) (given : Block) → HasBody zenith few root own given → few ≡ is_none given.root
-body_root zenith true root own given body = sym (ap is_none body.1)
-body_root zenith false root own given body = sym (ap is_none body.1)
+body_root : (delays : Delays) (few : Bool) (root : GridBox) (own : List SatLine) (given : Block) → HasBody delays few root own given → few ≡ is_none given.root
+body_root delays true root own given body = sym (ap is_none body.1)
+body_root delays false root own given body = sym (ap is_none body.1)
 
 -- ---- the log
 
@@ -87,7 +87,7 @@ boxes_of (search ∷ rest) points = (points.0.box, boxes_of rest points.1)
 module _ (m : Meaning) (sound : IsSound m) (rules : Rules) where
   module _ (search : Search) (has : HasPoint search.root) where
     sats_agree : (few : Bool) (own other : List SatLine) (given : Block) → AreLinesOf m search.root search.epoch own → AreLinesOf m search.root search.epoch other
-        → HasBody m.zenith few search.root own given → AllAgree m.zenith given.sats (expected few other)
+        → HasBody m.delays few search.root own given → AllAgree m.delays given.sats (expected few other)
     sats_agree true own other given a b body =
         rw body.0 (skips_agree m sound search.root search.epoch.tag has search.epoch.sats.items own other a b)
     sats_agree false own other given a b body =
@@ -97,10 +97,10 @@ module _ (m : Meaning) (sound : IsSound m) (rules : Rules) where
       is_of : IsOf rules before search.epoch block
       is_of = record { later = passes.head.later; suits = passes.head.suits; index = paves.index ∙ g.index; tag = paves.ps ∙ g.ps }
 
-      block_agrees : (other : List SatLine) → AreLinesOf m search.root search.epoch other → AllAgree m.zenith block.sats (expected block.few other)
+      block_agrees : (other : List SatLine) → AreLinesOf m search.root search.epoch other → AllAgree m.delays block.sats (expected block.few other)
       block_agrees other are = rw (paves.sats, paves.few) (sats_agree given.few g.own other given g.are_own are g.body)
 
-      epoch_passes : (other : List SatLine) → AreLinesOf m search.root search.epoch other → EpochPasses m.zenith rules search.root other block
+      epoch_passes : (other : List SatLine) → AreLinesOf m search.root search.epoch other → EpochPasses m.delays rules search.root other block
       epoch_passes other are =
           let all = block_agrees other are in
           record {
@@ -108,14 +108,14 @@ module _ (m : Meaning) (sound : IsSound m) (rules : Rules) where
               rows = passes.head.counts;
               usable = paves.n ∙ (g.n ∙ same_usable m sound search.root search.epoch.tag has search.epoch.sats.items g.own other g.are_own are);
             };
-            sats = sats_pass m.zenith block.sats (expected block.few other) all passes.sats;
-            whole = omega (arith, as_many m.zenith block.sats (expected block.few other) all);
-            body = body_at m.zenith rules search.root given.few g.own given block block.root g.body (sym paves.root) passes.body;
+            sats = sats_pass m.delays block.sats (expected block.few other) all passes.sats;
+            whole = omega (arith, as_many m.delays block.sats (expected block.few other) all);
+            body = body_at m.delays rules search.root given.few g.own given block block.root g.body (sym paves.root) passes.body;
           }
 
   pub admits_from : (before : Option ℕ) (searches : List Search) (given blocks : List Block) → HavePoints searches → AreGrown m rules.outliers searches given
       → AllPave rules given blocks → BlocksPass rules before blocks
-      → (owns : List (List SatLine)) → AreOwn m searches owns → AdmitsFrom m.zenith rules before owns searches blocks
+      → (owns : List (List SatLine)) → AreOwn m searches owns → AdmitsFrom m.delays rules before owns searches blocks
   admits_from before [] [] [] points grown pave pass [] are = tt
   admits_from before [] [] [] points grown pave pass (own ∷ owns) are = absurd are
   admits_from before [] [] (block ∷ blocks) points grown pave pass owns are = absurd pave
@@ -148,7 +148,7 @@ module _ (m : Meaning) (sound : IsSound m) (rules : Rules) where
   few_roots (search ∷ rest) [] blocks grown paves = absurd grown
   few_roots (search ∷ rest) (g ∷ given) [] grown paves = absurd paves
   few_roots (search ∷ rest) (g ∷ given) (block ∷ blocks) grown paves = (
-    paves.0.few ∙ body_root m.zenith g.few search.root grown.0.own g grown.0.body ∙ ap is_none (sym paves.0.root),
+    paves.0.few ∙ body_root m.delays g.few search.root grown.0.own g grown.0.body ∙ ap is_none (sym paves.0.root),
     few_roots rest given blocks grown.1 paves.1,
   )
 

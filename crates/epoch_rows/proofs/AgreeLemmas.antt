@@ -1,9 +1,9 @@
 -- Two own lines of a satellite: a grown one holds the other.
-use Rattle.std.proofs.Common.{◌≡◌, ℕ, List, [], ◌∷◌, true, refl, sym, ap, ◌∙◌, arith}
-use Rattle.std.specs.Prelude.{ℤ, pos, ◌+ℤ◌, ◌-ℤ◌, ◌≤ℤ◌, Option, None, Some}
+use Rattle.std.proofs.Common.{◌≡◌, ℕ, Bool, List, [], ◌∷◌, true, false, refl, sym, ap, subst, ◌∙◌, ◌+◌, ◌&&◌, arith}
+use Rattle.std.specs.Prelude.{ℤ, pos, ◌+ℤ◌, ◌-ℤ◌, ◌≤ℤ◌, Option, None, Some, is_none}
 use Rattle.std.proofs.lemmas.Int.{ints}
 use Rattle.epoch_rows.specs.Grown.{IsGrownRow, IsGrownLine, AreGrownLines, skips_of}
-use Rattle.paving_log_check.specs.Lines.{skipped_in, IsSameLine, HoldsSide, bounds_compared, HoldEach, HoldsOwn, HasBound, RowPasses}
+use Rattle.paving_log_check.specs.Lines.{skipped_in, IsSameLine, HoldsSide, bounds_unless, bounds_compared, HoldEach, HasBoundIf, HoldsOwn, HasBound, RowPasses}
 use Rattle.rinex_obs.specs.declared.obs.SatObs.{SatObs}
 use Rattle.grid_model.specs.Boxes.{Side, GridBox, box_holds, span_side}
 use Rattle.sat_model.specs.Fitting.{low_bounds, high_bounds}
@@ -11,12 +11,14 @@ use Rattle.grid_model.specs.Intervals.{Between}
 use Rattle.grid_model.specs.Lengths.{spare_of}
 use Rattle.sat_model.specs.Relaxed.{ends}
 use Rattle.grid_model.specs.SearchBoxes.{IsSearchBox}
-use Rattle.gnss_model.specs.Zenith.{err_spare_of}
+use Rattle.gnss_model.specs.Delays.{is_plain, delay_spare, err_spare_of}
 use Rattle.grid_model.specs.declared.boxes.Pos.{Pos}
 use Rattle.sat_model.specs.declared.rows.Row.{Row}
 use Rattle.sat_model.specs.declared.rows.SatEntry.{SatEntry}
 use Rattle.sat_model.specs.declared.rows.SatEntry.TheVariants as entry
 use Rattle.gnss_model.specs.declared.satellites.Skip.{Skip}
+use Rattle.gnss_model.specs.declared.delays.Delays.{Delays}
+use Rattle.gnss_model.specs.declared.delays.Layer.TheVariants.{Troposphere, Ionosphere}
 use Rattle.grid_model.specs.declared.spans.Span.{Span}
 use Rattle.sat_rows.specs.Chains.{Chain}
 use Rattle.sat_rows.specs.Growth.{IsGrown, AreBoundsGrown}
@@ -38,9 +40,9 @@ holds_span : (root : GridBox) (own wide other : Span) (n : ℤ) → IsGrown (pos
 holds_span root own wide other n grown here there tight =
     holds_side (spare_of root) (span_side own) (span_side wide) (span_side other) n grown.low grown.high here there tight
 
-holds_each : (zenith : Option Span) (row ours : Row) → HoldsSide (span_side row.x) (span_side ours.x) → HoldsSide (span_side row.y) (span_side ours.y)
-    → HoldsSide (span_side row.z) (span_side ours.z) → HoldsSide (span_side row.range) (span_side ours.range) → HoldEach (bounds_compared zenith row ours) → HoldsOwn zenith row ours
-holds_each zenith row ours x y z range bounds = (x, (y, (z, (range, bounds))))
+holds_each : (delays : Delays) (row ours : Row) → HoldsSide (span_side row.x) (span_side ours.x) → HoldsSide (span_side row.y) (span_side ours.y)
+    → HoldsSide (span_side row.z) (span_side ours.z) → HoldsSide (span_side row.range) (span_side ours.range) → HoldEach (bounds_compared delays row ours) → HoldsOwn delays row ours
+holds_each delays row ours x y z range bounds = (x, (y, (z, (range, bounds))))
 
 -- ---- the ends of the error
 
@@ -68,29 +70,48 @@ same_bounds own other wide d grown here there =
     }
 
 -- the grown ones hold the other ones, or both are the declared ones
-record BoundsAgree (zenith : Option Span) (wide other : Row) : Type 0 where
-  pub held : HoldEach (bounds_compared zenith wide other)
-  pub same : HasBound zenith wide other
+record BoundsAgree (delays : Delays) (wide other : Row) : Type 0 where
+  pub held : HoldEach (bounds_compared delays wide other)
+  pub same : HasBound delays wide other
 
-bounds_agree : (root : GridBox) (zenith : Option Span) (own other wide : Row) (c : Chain) (d : ℤ × ℤ) → AreBoundsGrown (pos (err_spare_of root zenith)) own wide
-    → HoldsChain own c → HoldsChain other c → AreBoundsTight root zenith other → (zenith ≡ None → HasBounds own d) → (zenith ≡ None → HasBounds other d)
-    → BoundsAgree zenith wide other
-bounds_agree root None own other wide c d grown here there tight plain also =
-    record { held = tt; same = same_bounds own other wide d grown (plain refl) (also refl) }
-bounds_agree root (Some zenith) own other wide c d grown here there tight plain also =
-    let spare = err_spare_of root (Some zenith) in
-    let low = holds_side spare (low_bounds own) (low_bounds wide) (low_bounds other) c.lo grown.least_lo grown.greatest_lo here.lo there.lo tight.low in
-    let high = holds_side spare (high_bounds own) (high_bounds wide) (high_bounds other) c.hi grown.least_hi grown.greatest_hi here.hi there.hi tight.high in
-    record { held = (low, (high, tt)); same = tt }
+-- without a delay that is mapped G is 0
+plain_spares : (root : GridBox) (zenith vertical : Option Span) → (is_none zenith && is_none vertical) ≡ true → delay_spare Troposphere root zenith + delay_spare Ionosphere root vertical ≡ 0
+plain_spares root None None e = refl
+plain_spares root None (Some vertical) e = absurd cc
+plain_spares root (Some zenith) vertical e = absurd cc
+
+plain_spare : (root : GridBox) (delays : Delays) → is_plain delays ≡ true → err_spare_of root delays ≡ 0
+plain_spare root delays e = plain_spares root delays.zenith delays.vertical e
+
+bounds_by : (plain : Bool) (spare : ℕ) (own other wide : Row) (c : Chain) (d : ℤ × ℤ) → AreBoundsGrown (pos spare) own wide
+    → HoldsChain own c → HoldsChain other c → (other.sure_lo -ℤ other.err.lo) ≤ℤ pos spare → (other.err.hi -ℤ other.sure_hi) ≤ℤ pos spare
+    → (plain ≡ true → spare ≡ 0) → (plain ≡ true → HasBounds own d) → (plain ≡ true → HasBounds other d)
+    → HoldEach (bounds_unless plain wide other) × HasBoundIf plain wide other
+bounds_by true spare own other wide c d grown here there low high none plain also =
+    (tt, same_bounds own other wide d (subst (λ (n : ℕ). AreBoundsGrown (pos n) own wide) (none refl) grown) (plain refl) (also refl))
+bounds_by false spare own other wide c d grown here there low high none plain also = (
+  (
+    holds_side spare (low_bounds own) (low_bounds wide) (low_bounds other) c.lo grown.least_lo grown.greatest_lo here.lo there.lo low,
+    (holds_side spare (high_bounds own) (high_bounds wide) (high_bounds other) c.hi grown.least_hi grown.greatest_hi here.hi there.hi high, tt),
+  ),
+  tt,
+)
+
+bounds_agree : (root : GridBox) (delays : Delays) (own other wide : Row) (c : Chain) (d : ℤ × ℤ) → AreBoundsGrown (pos (err_spare_of root delays)) own wide
+    → HoldsChain own c → HoldsChain other c → AreBoundsTight root delays other → (is_plain delays ≡ true → HasBounds own d) → (is_plain delays ≡ true → HasBounds other d)
+    → BoundsAgree delays wide other
+bounds_agree root delays own other wide c d grown here there tight plain also =
+    let both = bounds_by (is_plain delays) (err_spare_of root delays) own other wide c d grown here there tight.low tight.high (plain_spare root delays) plain also in
+    record { held = both.0; same = both.1 }
 
 -- ---- lines
 
--- by the delay at the zenith that is mapped
-module _ (zenith : Option Span) where
+-- by the delays that are mapped
+module _ (delays : Delays) where
   -- the line is the expected one, and passes
   pub record LineAgrees (theirs : SatEntry) (ours : SatLine) : Type 0 where
     pub same : IsSameLine theirs ours
-    pub passes : RowPasses zenith theirs ours
+    pub passes : RowPasses delays theirs ours
 
   abbrev pub AllAgree : List SatEntry → List SatLine → Type 0
   AllAgree [] [] = Unit {0}
@@ -106,19 +127,19 @@ pub record HasPoint (root : GridBox) : Type 0 where
 
 module _ (m : Meaning) (sound : IsSound m) (root : GridBox) (tag : ℤ) (has : HasPoint root) where
   abbrev Grown : SatLine → SatEntry → Type 0
-  Grown own e = IsGrownLine (pos (spare_of root)) (pos (err_spare_of root m.zenith)) own e
+  Grown own e = IsGrownLine (pos (spare_of root)) (pos (err_spare_of root m.delays)) own e
 
   rows_agree : (seen : SatObs) (own other wide : Row) → m.judged root tag seen None → IsOwnRow m root tag seen own → IsOwnRow m root tag seen other
-      → own.sat ≡ seen.sat → other.sat ≡ seen.sat → IsGrownRow (pos (spare_of root)) (pos (err_spare_of root m.zenith)) own wide → LineAgrees m.zenith (entry.Row wide) (Usable other)
+      → own.sat ≡ seen.sat → other.sat ≡ seen.sat → IsGrownRow (pos (spare_of root)) (pos (err_spare_of root m.delays)) own wide → LineAgrees m.delays (entry.Row wide) (Usable other)
   rows_agree seen own other wide usable a b named also g =
       let (c, allowed) = sound.allowed_exists root tag seen has.point has.box has.inside usable in
       let here = a.holds has.point c has.inside allowed in
       let there = b.holds has.point c has.inside allowed in
-      let bounds = bounds_agree root m.zenith own other wide c (m.declared seen.sat) g.bounds here there b.bounds a.plain b.plain in
+      let bounds = bounds_agree root m.delays own other wide c (m.declared seen.sat) g.bounds here there b.bounds a.plain b.plain in
       record {
         same = g.sat ∙ (named ∙ sym also);
         passes = (
-          holds_each m.zenith wide other (holds_span root own.x wide.x other.x c.x g.x here.x there.x b.x)
+          holds_each m.delays wide other (holds_span root own.x wide.x other.x c.x g.x here.x there.x b.x)
               (holds_span root own.y wide.y other.y c.y g.y here.y there.y b.y)
               (holds_span root own.z wide.z other.z c.z g.z here.z there.z b.z)
               (holds_span root own.range wide.range other.range c.corrected g.range here.corrected there.corrected b.range)
@@ -133,7 +154,7 @@ module _ (m : Meaning) (sound : IsSound m) (root : GridBox) (tag : ℤ) (has : H
   same_skip : (seen : SatObs) (skip other : Skip) → m.judged root tag seen (Some skip) → m.judged root tag seen (Some other) → skip ≡ other
   same_skip seen skip other a b = let same = sound.one_judgement root tag seen (Some skip) (Some other) a b in cc
 
-  line_agrees : (seen : SatObs) (own other : SatLine) (e : SatEntry) → IsOwnLine m root tag seen own → IsOwnLine m root tag seen other → Grown own e → LineAgrees m.zenith e other
+  line_agrees : (seen : SatObs) (own other : SatLine) (e : SatEntry) → IsOwnLine m root tag seen own → IsOwnLine m root tag seen other → Grown own e → LineAgrees m.delays e other
   line_agrees seen (Usable own) (Usable other) (entry.Row wide) a b g = rows_agree seen own other wide a.1 a.2 b.2 a.0 b.0 g
   line_agrees seen (Usable own) (Skipped sat skip) (entry.Row wide) a b g = absurd (not_both seen skip a.1 b.1)
   line_agrees seen (Usable own) other (entry.Skipped sat skip) a b g = absurd g
@@ -144,7 +165,7 @@ module _ (m : Meaning) (sound : IsSound m) (root : GridBox) (tag : ℤ) (has : H
 
   -- each grown line of one reading passes against the other
   pub lines_agree : (sats : List SatObs) (own other : List SatLine) (entries : List SatEntry) → AreOwnLines m root tag sats own → AreOwnLines m root tag sats other
-      → AreGrownLines (pos (spare_of root)) (pos (err_spare_of root m.zenith)) own entries → AllAgree m.zenith entries other
+      → AreGrownLines (pos (spare_of root)) (pos (err_spare_of root m.delays)) own entries → AllAgree m.delays entries other
   lines_agree [] [] [] [] a b g = tt
   lines_agree [] [] [] (e ∷ entries) a b g = absurd g
   lines_agree [] [] (line ∷ other) entries a b g = absurd b
@@ -154,7 +175,7 @@ module _ (m : Meaning) (sound : IsSound m) (root : GridBox) (tag : ℤ) (has : H
   lines_agree (seen ∷ sats) (line ∷ own) (ours ∷ other) [] a b g = absurd g
   lines_agree (seen ∷ sats) (line ∷ own) (ours ∷ other) (e ∷ entries) a b g = (line_agrees seen line ours e a.0 b.0 g.0, lines_agree sats own other entries a.1 b.1 g.1)
 
-  pub skips_agree : (sats : List SatObs) (own other : List SatLine) → AreOwnLines m root tag sats own → AreOwnLines m root tag sats other → AllAgree m.zenith (skips_of own) (skipped_in other)
+  pub skips_agree : (sats : List SatObs) (own other : List SatLine) → AreOwnLines m root tag sats own → AreOwnLines m root tag sats other → AllAgree m.delays (skips_of own) (skipped_in other)
   skips_agree [] [] [] a b = tt
   skips_agree [] [] (line ∷ other) a b = absurd b
   skips_agree [] (line ∷ own) other a b = absurd a

@@ -66,7 +66,7 @@ module _ (m : Meaning) (sound : IsSound m) (rules : Rules) (left last : EpochsLe
   have_points (epoch ∷ more) = (record { box = box; point = p; inside = inside }, have_points more)
 
   -- all own lines admit it, also those of the first epochs alone
-  pub whole_admits : (owns : List (List SatLine)) → AreOwn m (all_left left) owns → Admits m.zenith (all_left left) owns rules w.log
+  pub whole_admits : (owns : List (List SatLine)) → AreOwn m (all_left left) owns → Admits m.delays (all_left left) owns rules w.log
   whole_admits owns are =
       let (given, grown, pave) = whole_of m rules.outliers rules left w.log.blocks w.behind w.came w.no_more in
       record {

@@ -4,7 +4,7 @@ use Rattle.std.specs.Prelude.{Option, None, Some}
 use Rattle.log_words.specs.Fields.{SkipFits}
 use Rattle.grid_model.specs.Boxes.{GridBox}
 use Rattle.gnss_model.specs.declared.satellites.Skip.{Skip}
-use Rattle.grid_model.specs.declared.spans.Span.{Span}
+use Rattle.gnss_model.specs.declared.delays.Delays.{Delays}
 use Rattle.epoch_rows.specs.Ready.{SkipsFit}
 use Rattle.error_bounds.specs.declared.settings.Settings.{Settings}
 use Rattle.rinex_nav.specs.declared.record.NavRecord.{NavRecord}
@@ -24,12 +24,12 @@ skip_fits a skip (inr (inr (inr (inl (is, none, lacks))))) = alone skip 4 is non
 skip_fits a skip (inr (inr (inr (inr (inl (is, none, lacks)))))) = alone skip 5 is none (omega arith) (omega arith)
 skip_fits a skip (inr (inr (inr (inr (inr (is, lacks)))))) = inr (is, (lacks.first.from, lacks.first.to))
 
-judged_fits : (zenith : Option Span) (root : GridBox) (a : Sighting) (skip : Skip) → IsJudged zenith root a (Some skip) → SkipFits skip
-judged_fits zenith root a skip (inl own) = skip_fits a skip own
-judged_fits zenith root a skip (inr low) = inl (inr low.number, low.field)
+judged_fits : (delays : Delays) (root : GridBox) (a : Sighting) (skip : Skip) → IsJudged delays root a (Some skip) → SkipFits skip
+judged_fits delays root a skip (inl own) = skip_fits a skip own
+judged_fits delays root a skip (inr low) = inl (inr low.number, low.field)
 
 pub skips_fit_by : (galileo : Option Signal) (records : List NavRecord) (settings : Settings) → SkipsFit (meaning_by galileo records settings)
-skips_fit_by galileo records settings root tag seen skip judged = judged_fits settings.zenith root (sighting_by galileo records settings tag seen) skip judged
+skips_fit_by galileo records settings root tag seen skip judged = judged_fits settings.delays root (sighting_by galileo records settings tag seen) skip judged
 
 pub both_skips_fit : (records : List NavRecord) (settings : Settings) → SkipsFit (both_meaning records settings)
 both_skips_fit records settings = skips_fit_by (signal_of (value_of_settings settings).galileo) records settings

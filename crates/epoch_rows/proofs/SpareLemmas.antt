@@ -1,15 +1,18 @@
 -- How wide a row over a root may be.
-use Rattle.std.proofs.Common.{ℕ, ◌*◌, ◌^◌, ◌≤◌, refl, arith}
+use Rattle.std.proofs.Common.{ℕ, ◌+◌, ◌*◌, ◌^◌, ◌≤◌, refl, arith}
 use Rattle.std.specs.Prelude.{ℤ, ◌≤ℤ◌, nat_abs, Option, None, Some}
-use Rattle.std.proofs.Math.Nat.{mul-le-mul_right}
+use Rattle.std.proofs.lemmas.Nat.{mul-le}
 use Rattle.std.proofs.lemmas.Int.{ints}
 use Rattle.epoch_rows.specs.Grown.{greatest_spare, greatest_err_spare}
 use Rattle.grid_model.specs.Amounts.{above}
 use Rattle.grid_model.specs.Boxes.{grid_box}
 use Rattle.grid_model.specs.Lengths.{longest_length, spare_of}
 use Rattle.grid_model.specs.Sizes.{IsBoxSize, IsWithin}
-use Rattle.gnss_model.specs.Zenith.{IsZenith, span_amount, spare_over, err_spare_of}
+use Rattle.gnss_model.specs.Delays.{IsDelayWithin, AreDelays, span_amount, spare_over, delay_spare, err_spare_of}
 use Rattle.grid_model.specs.declared.boxes.Box3.{Box3}
+use Rattle.gnss_model.specs.declared.delays.Delays.{Delays}
+use Rattle.gnss_model.specs.declared.delays.Layer.{Layer}
+use Rattle.gnss_model.specs.declared.delays.Layer.TheVariants.{Troposphere, Ionosphere}
 use Rattle.grid_model.specs.declared.spans.Span.{Span}
 use Rattle.grid_model.proofs.AmountLemmas.{above_is}
 
@@ -28,15 +31,20 @@ spare_le root = omega (arith, longest_le root)
 
 -- ---- the ends of the error
 
-amount_le : (z : ℤ) → IsWithin (10 ^ 7) z → nat_abs z ≤ 10 ^ 7
-amount_le z within = omega (arith, ints, within.low, within.high)
+amount_le : (n : ℕ) (z : ℤ) → IsWithin n z → nat_abs z ≤ n
+amount_le n z within = omega (arith, ints, within.low, within.high)
 
-spread_le : (amount d : ℕ) → amount ≤ 10 ^ 7 → d ≤ 2 * 10 ^ 13 → spare_over amount d ≤ greatest_err_spare
-spread_le amount d few short =
-    let less : amount * d ≤ (10 ^ 7) * d = mul-le-mul_right d few in
-    omega (arith, less)
+spread_le : (layer : Layer) (n amount d : ℕ) → amount ≤ n → d ≤ 2 * 10 ^ 13 → spare_over layer amount d ≤ spare_over layer n (2 * 10 ^ 13)
+spread_le Troposphere n amount d few short = let less = mul-le amount d n (2 * 10 ^ 13) few short in omega (arith, less)
+spread_le Ionosphere n amount d few short = let less = mul-le amount d n (2 * 10 ^ 13) few short in omega (arith, less)
 
-pub err_spare_le : (root : Box3) (zenith : Option Span) → IsZenith zenith → err_spare_of (grid_box root) zenith ≤ greatest_err_spare
-err_spare_le root None within = omega arith
-err_spare_le root (Some s) within =
-    spread_le (span_amount s) (longest_length (grid_box root)) (omega (arith, amount_le s.lo (within.low s refl), amount_le s.hi (within.high s refl))) (longest_le root)
+delay_spare_le : (layer : Layer) (n : ℕ) (root : Box3) (delay : Option Span) → IsDelayWithin n delay → delay_spare layer (grid_box root) delay ≤ spare_over layer n (2 * 10 ^ 13)
+delay_spare_le layer n root None within = omega arith
+delay_spare_le layer n root (Some s) within =
+    spread_le layer n (span_amount s) (longest_length (grid_box root)) (omega (arith, amount_le n s.lo (within.low s refl), amount_le n s.hi (within.high s refl))) (longest_le root)
+
+pub err_spare_le : (root : Box3) (delays : Delays) → AreDelays delays → err_spare_of (grid_box root) delays ≤ greatest_err_spare
+err_spare_le root delays within =
+    let zenith = delay_spare_le Troposphere (10 ^ 7) root delays.zenith within.zenith in
+    let vertical = delay_spare_le Ionosphere (10 ^ 8) root delays.vertical within.vertical in
+    omega (arith, zenith, vertical)

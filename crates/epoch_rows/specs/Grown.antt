@@ -5,11 +5,12 @@ use Rattle.epoch_selection.specs.Searches.{Search}
 use Rattle.grid_model.specs.Boxes.{GridBox}
 use Rattle.grid_model.specs.Lengths.{spare_of}
 use Rattle.sat_model.specs.Logs.{Block}
-use Rattle.gnss_model.specs.Zenith.{spare_over, err_spare_of}
+use Rattle.gnss_model.specs.Delays.{spare_over, err_spare_of}
+use Rattle.gnss_model.specs.declared.delays.Layer.TheVariants.{Troposphere, Ionosphere}
 use Rattle.sat_model.specs.declared.rows.Row.{Row}
 use Rattle.sat_model.specs.declared.rows.SatEntry.{SatEntry}
 use Rattle.sat_model.specs.declared.rows.SatEntry.TheVariants as entry
-use Rattle.grid_model.specs.declared.spans.Span.{Span}
+use Rattle.gnss_model.specs.declared.delays.Delays.{Delays}
 use Rattle.sat_rows.specs.Growth.{IsGrown, AreBoundsGrown}
 use Rattle.sat_rows.specs.Meanings.{Meaning}
 use Rattle.sat_rows.specs.OwnRows.{AreLinesOf, usable_in}
@@ -20,9 +21,10 @@ use Rattle.sat_rows.specs.declared.lines.SatLine.TheVariants.{Usable, Skipped}
 abbrev pub greatest_spare : ℕ
 greatest_spare = 2000 + (2 * 10 ^ 13) / 40000
 
--- the greatest G: a delay at the zenith is within 10 m
+-- the greatest G: the delays straight up are within 10 m and 100 m
 abbrev pub greatest_err_spare : ℕ
-greatest_err_spare = spare_over (10 ^ 7) (2 * 10 ^ 13)
+greatest_err_spare =
+    spare_over Troposphere (10 ^ 7) (2 * 10 ^ 13) + spare_over Ionosphere (10 ^ 8) (2 * 10 ^ 13)
 
 -- ---- satellite lines
 
@@ -59,10 +61,10 @@ skips_of (Skipped sat skip ∷ lines) = entry.Skipped sat skip ∷ skips_of line
 
 -- Where too few satellites are usable a block has the skip lines alone. Else it has all lines,
 -- whose rows are wider by W at both ends, those of the ends of the error by G, and the root.
-abbrev pub HasBody : Option Span → Bool → GridBox → List SatLine → Block → Type 0
-HasBody zenith true root own block = (block.sats ≡ skips_of own) × (block.root ≡ None)
-HasBody zenith false root own block =
-    AreGrownLines (pos (spare_of root)) (pos (err_spare_of root zenith)) own block.sats
+abbrev pub HasBody : Delays → Bool → GridBox → List SatLine → Block → Type 0
+HasBody delays true root own block = (block.sats ≡ skips_of own) × (block.root ≡ None)
+HasBody delays false root own block =
+    AreGrownLines (pos (spare_of root)) (pos (err_spare_of root delays)) own block.sats
     × (block.root ≡ Some root)
 
 -- by what a source says of satellites, where so many of them may be inconsistent
@@ -75,7 +77,7 @@ module _ (m : Meaning) (q : ℕ) where
     pub ps : block.ps ≡ search.epoch.tag
     pub n : block.n ≡ usable_in own
     pub few : block.few ≡ nat_lt (usable_in own) (q + 4)
-    pub body : HasBody m.zenith block.few search.root own block
+    pub body : HasBody m.delays block.few search.root own block
 
   -- one for each search, in order
   abbrev pub AreGrown : List Search → List Block → Type 0

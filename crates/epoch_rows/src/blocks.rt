@@ -61,7 +61,7 @@ pub fn block<S: RowSource>(
         ps: epoch.tag,
         n,
         few: false,
-        sats: grown_lines(alloc, &own.lines, root, source.zenith())?,
+        sats: grown_lines(alloc, &own.lines, root, source.delays())?,
         root: Some(*root),
         steps: LoggedSteps::new(alloc),
         done: 0,

@@ -5,11 +5,11 @@ ghost use Rattle.epoch_rows.specs.Grown.{IsGrownLine, AreGrownLines, greatest_sp
 ghost use Rattle.epoch_rows.specs.Grown.{greatest_err_spare, skips_of};
 ghost use Rattle.grid_model.specs.Boxes.{grid_box};
 ghost use Rattle.grid_model.specs.Lengths.{spare_of};
-ghost use Rattle.gnss_model.specs.Zenith.{IsZenith, err_spare_of};
+ghost use Rattle.gnss_model.specs.Delays.{AreDelays, err_spare_of};
 ghost use Rattle.sat_rows.specs.OwnRows.{IsSmallLine, AreSmall};
 
-use gnss_model::{err_spare, spare};
-use grid_model::{Box3, NoMemory, Span};
+use gnss_model::{Delays, err_spare, spare};
+use grid_model::{Box3, NoMemory};
 use sat_model::SatEntry;
 use sat_rows::{SatLine, grown};
 use std::alloc::Global;
@@ -24,24 +24,24 @@ fn room_over(root: &Box3) -> i64
 }
 
 /// The same of the spans of its low and of its high ends of the error.
-fn err_room_over(root: &Box3, zenith: Option<Span>) -> i64
-    requires { IsZenith zenith }
-    ensures value { result ≡ pos (err_spare_of (grid_box root.now) zenith) }
-    ensures most { err_spare_of (grid_box root.now) zenith ≤ greatest_err_spare }
+fn err_room_over(root: &Box3, delays: Delays) -> i64
+    requires { AreDelays delays }
+    ensures value { result ≡ pos (err_spare_of (grid_box root.now) delays) }
+    ensures most { err_spare_of (grid_box root.now) delays ≤ greatest_err_spare }
 {
-    err_spare(root, zenith)
+    err_spare(root, delays)
 }
 
 /// The line, whose row is wider by this at both ends.
-fn grown_line(line: &SatLine, root: &Box3, zenith: Option<Span>) -> SatEntry
+fn grown_line(line: &SatLine, root: &Box3, delays: Delays) -> SatEntry
     requires small { IsSmallLine line.now }
-    requires zenith { IsZenith zenith }
+    requires delays { AreDelays delays }
     ensures { IsGrownLine (pos (spare_of (grid_box root.now)))
-        (pos (err_spare_of (grid_box root.now) zenith)) line.now result }
+        (pos (err_spare_of (grid_box root.now) delays)) line.now result }
 {
     match line {
         SatLine::Usable(row) => {
-            SatEntry::Row(grown(row, room_over(root), err_room_over(root, zenith)))
+            SatEntry::Row(grown(row, room_over(root), err_room_over(root, delays)))
         }
         SatLine::Skipped { sat, skip } => SatEntry::Skipped {
             sat: *sat,
@@ -55,16 +55,16 @@ pub fn grown_lines(
     alloc: Global,
     lines: &[SatLine],
     root: &Box3,
-    zenith: Option<Span>,
+    delays: Delays,
 ) -> Result<Vec<SatEntry>, NoMemory>
     requires small { AreSmall lines.now }
-    requires zenith { IsZenith zenith }
+    requires delays { AreDelays delays }
     ensures { IfOk result (λ sats. AreGrownLines (pos (spare_of (grid_box root.now)))
-        (pos (err_spare_of (grid_box root.now) zenith)) lines.now sats.items) }
+        (pos (err_spare_of (grid_box root.now) delays)) lines.now sats.items) }
 {
     let mut sats = Vec::new(alloc);
     for line in lines {
-        sats.push(grown_line(line, root, zenith))?;
+        sats.push(grown_line(line, root, delays))?;
     }
     Ok(sats)
 }

@@ -1,3 +1,3 @@
 pub mod CutLemmas
-pub mod StageLemmas
+pub mod LiveLemmas
 pub mod FoldingLemmas

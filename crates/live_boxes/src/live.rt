@@ -4,7 +4,7 @@ ghost use Rattle.std.specs.Prelude.{◌≡◌, ◌≢◌, ◌%◌, ℕ, length, 
 ghost use Rattle.std.specs.Prelude.{IsTrue};
 ghost use Rattle.sat_model.specs.declared.steps.Step.TheVariants.{Cut, Split, Outside};
 ghost use Rattle.grid_model.specs.Boxes.{grid_box};
-ghost use Rattle.sat_model.specs.Fold.{first_stage, live_box, NoneLive, after};
+ghost use Rattle.sat_model.specs.Fold.{first_boxes, live_box, NoneLive, boxes_after};
 
 use crate::cuts::left_by;
 use grid_model::Box3;
@@ -20,12 +20,12 @@ pub struct Live {
 }
 
 impl Live {
-    ghost use Rattle.live_boxes.specs.Stages.{box_option, stage_of};
+    ghost use Rattle.live_boxes.specs.LiveValues.{box_option, live_value};
     ghost use Rattle.live_boxes.specs.Folding.{HasLive, StepFolds};
 
     /// The root alone is live.
     pub fn of_root(alloc: Global, root: &Box3) -> Result<Live, AllocError>
-        ensures { IfOk result (λ live. stage_of live ≡ first_stage (grid_box root.now)) }
+        ensures { IfOk result (λ live. live_value live ≡ first_boxes (grid_box root.now)) }
     {
         let mut boxes = Vec::new(alloc);
         boxes.push(Some(*root))?;
@@ -34,7 +34,7 @@ impl Live {
 
     /// The live box of a number.
     pub fn box_of(&self, id: u32) -> Option<Box3>
-        ensures { box_option result ≡ live_box (stage_of self.now) id }
+        ensures { box_option result ≡ live_box (live_value self.now) id }
     {
         match self.boxes.get(id as usize) {
             Some(found) => *found,
@@ -44,15 +44,15 @@ impl Live {
 
     /// How many splits were made.
     pub fn splits(&self) -> usize
-        ensures { result ≡ (stage_of self.now).splits }
+        ensures { result ≡ (live_value self.now).splits }
     {
         self.boxes.len() / 2
     }
 
     /// Whether no box is live.
     pub fn is_none_live(&self) -> bool
-        ensures yes { IsTrue result → NoneLive (stage_of self.now) }
-        ensures no { (result ≡ false) → (id : ℕ) × (live_box (stage_of self.now) id ≢ None) }
+        ensures yes { IsTrue result → NoneLive (live_value self.now) }
+        ensures no { (result ≡ false) → (id : ℕ) × (live_box (live_value self.now) id ≢ None) }
     {
         for found in &self.boxes {
             match found {
@@ -67,9 +67,10 @@ impl Live {
     /// halves, and each other step closes its box. Where memory runs out the boxes are as they
     /// were.
     pub fn take(&mut self, step: &Step) -> Result<(), AllocError>
-        requires { StepFolds (stage_of self.old) step.now }
-        ensures ok { OnOk result (stage_of self.new ≡ after (stage_of self.old) step.now) }
-        ensures err { OnErr result (stage_of self.new ≡ stage_of self.old) }
+        requires { StepFolds (live_value self.old) step.now }
+        ensures ok { OnOk result
+            (live_value self.new ≡ boxes_after (live_value self.old) step.now) }
+        ensures err { OnErr result (live_value self.new ≡ live_value self.old) }
     {
         match step {
             Step::Cut { id, face, bound } => {
@@ -86,24 +87,25 @@ impl Live {
 
     /// The live box of a number that has one.
     fn part_of(&self, id: u32) -> Box3
-        requires { HasLive (stage_of self.now) id }
-        ensures { live_box (stage_of self.now) id ≡ Some (grid_box result) }
+        requires { HasLive (live_value self.now) id }
+        ensures { live_box (live_value self.now) id ≡ Some (grid_box result) }
     {
         self.box_of(id).unwrap()
     }
 
     fn cut(&mut self, id: u32, face: u8, bound: i64)
-        requires { StepFolds (stage_of self.old) (Cut id face bound) }
-        ensures { stage_of self.new ≡ after (stage_of self.old) (Cut id face bound) }
+        requires { StepFolds (live_value self.old) (Cut id face bound) }
+        ensures { live_value self.new ≡ boxes_after (live_value self.old) (Cut id face bound) }
     {
         let part = self.part_of(id);
         self.boxes[id as usize] = Some(left_by(&part, face, bound));
     }
 
     fn split(&mut self, id: u32, axis: u8) -> Result<(), AllocError>
-        requires { StepFolds (stage_of self.old) (Split id axis) }
-        ensures ok { OnOk result (stage_of self.new ≡ after (stage_of self.old) (Split id axis)) }
-        ensures err { OnErr result (stage_of self.new ≡ stage_of self.old) }
+        requires { StepFolds (live_value self.old) (Split id axis) }
+        ensures ok { OnOk result
+            (live_value self.new ≡ boxes_after (live_value self.old) (Split id axis)) }
+        ensures err { OnErr result (live_value self.new ≡ live_value self.old) }
     {
         let (low, high) = self.part_of(id).halves(axis);
         self.boxes.extend_from_slice(&[Some(low), Some(high)])?;
@@ -112,8 +114,8 @@ impl Live {
     }
 
     fn close(&mut self, id: u32)
-        requires { HasLive (stage_of self.old) id }
-        ensures { stage_of self.new ≡ after (stage_of self.old) (Outside id) }
+        requires { HasLive (live_value self.old) id }
+        ensures { live_value self.new ≡ boxes_after (live_value self.old) (Outside id) }
     {
         self.boxes[id as usize] = None;
     }

@@ -1,7 +1,7 @@
 ghost use Rattle.std.specs.Prelude.{IfSome};
 ghost use Rattle.live_boxes.specs.Folding.{StepsFold};
 ghost use Rattle.grid_model.specs.Boxes.{grid_box};
-ghost use Rattle.sat_model.specs.Fold.{first_stage};
+ghost use Rattle.sat_model.specs.Fold.{first_boxes};
 ghost use Rattle.sat_model.specs.Logs.{IsNumbered};
 ghost use Rattle.paving_log.specs.Values.{log_value};
 
@@ -320,7 +320,7 @@ fn the_first_line_tells_whether_pairs_are_tested(rt: HostRuntime) -> Result<(), 
 
 /// The boxes of an epoch with this search box and these steps.
 fn cover(alloc: Global, root: Option<Box3>, steps: &[Step]) -> Result<Vec<Box3>, NoMemory>
-    requires { IfSome root (λ box. StepsFold (first_stage (grid_box box)) steps.now) }
+    requires { IfSome root (λ box. StepsFold (first_boxes (grid_box box)) steps.now) }
 {
     let epoch = LogEpoch {
         line: 3,

@@ -4,12 +4,10 @@ use Rattle.std.specs.Prelude.{ℤ, ◌≤ℤ◌}
 use Rattle.std.specs.List.{AllByRecursion}
 use Rattle.std.proofs.lemmas.Int.{ints}
 use Rattle.grid_model.specs.declared.boxes.Box3.{Box3}
-use Rattle.sat_model.specs.declared.rules.Rules.{Rules}
-use Rattle.sat_model.specs.declared.rows.Row.{Row}
 use Rattle.sat_model.specs.declared.steps.Step.{Step}
 use Rattle.sat_model.specs.declared.steps.Step.TheVariants.{Cut, Split, Outside, Inside, Edge}
 use Rattle.grid_model.specs.Boxes.{GridBox, Side, side_at, with_side, low_half, high_half, grid_box}
-use Rattle.sat_model.specs.BoxTests.{BoxTest, test_of}
+use Rattle.sat_model.specs.BoxTests.{BoxTest}
 use Rattle.sat_model.specs.Fold.{ShownStep, axis_of, is_low, IsProperBound, IsProperCut, side_left, side_cut, left_by_cut}
 use Rattle.grid_model.specs.Lengths.{side_length}
 use Rattle.sat_model.specs.Waiting.{WaitingBox}
@@ -191,10 +189,10 @@ faces_have test id (face ∷ faces) part steps left named (own, middle, more, is
     subst HaveFaces (sym join) (both_have own more (face_has test id face part own middle named.0 is) (faces_have test id faces middle more left named.1 rest))
 
 -- each cut of a box names one of the six faces
-pub cuts_have : (grain slack : ℤ) (rows : List Row) (rules : Rules) (box : WaitingBox) (cuts : List ShownStep) (left : GridBox) → AreCutsOf grain slack rows rules box cuts left → HaveFaces cuts
-cuts_have grain slack rows rules box cuts left are =
-    let (faces, (named, some)) = cuts_some grain slack rows rules box cuts left are in
-    faces_have (test_of rules rows) box.id faces box.part cuts left named some
+pub cuts_have : (grain slack : ℤ) (test : BoxTest) (box : WaitingBox) (cuts : List ShownStep) (left : GridBox) → AreCutsOf grain slack test box cuts left → HaveFaces cuts
+cuts_have grain slack test box cuts left are =
+    let (faces, (named, some)) = cuts_some grain slack test box cuts left are in
+    faces_have test box.id faces box.part cuts left named some
 
 -- ---- the cuts of a box
 

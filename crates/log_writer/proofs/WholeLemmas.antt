@@ -17,7 +17,7 @@ use Rattle.outer_io.specs.Sizes.{longest_file}
 use Rattle.log_writer.specs.declared.fault.WriteFault.{WriteFault}
 use Rattle.log_writer.specs.declared.fault.WriteFault.TheVariants as why
 use Rattle.log_writer.specs.Breaks.{IsLonger, Leaves}
-use Rattle.live_boxes.specs.Stages.{box_option}
+use Rattle.live_boxes.specs.LiveValues.{box_option}
 use Rattle.log_writer.specs.Kept.{hull_of_last}
 use Rattle.log_writer.specs.Pieces.{Piece, log_bytes, report_bytes, block_pieces, head_pieces, log_pieces}
 use Rattle.log_writer.specs.Pavings.{Paves}

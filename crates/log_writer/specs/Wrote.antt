@@ -2,9 +2,9 @@
 use Rattle.std.specs.Prelude.{◌≡◌, ℕ, ◌≤◌, List, [], length, Option, None, Some, Result, OnOk, IfOk}
 use Rattle.std.specs.List.{AllByRecursion}
 use Rattle.sat_model.specs.declared.rules.Rules.{Rules}
-use Rattle.sat_model.specs.declared.rows.Row.{Row}
 use Rattle.grid_model.specs.Boxes.{GridBox}
-use Rattle.sat_model.specs.Fold.{first_stage, ShownStep}
+use Rattle.sat_model.specs.BoxTests.{BoxTest}
+use Rattle.sat_model.specs.Fold.{first_boxes, ShownStep}
 use Rattle.sat_model.specs.Logs.{Block}
 use Rattle.sat_model.specs.Waiting.{steps_of}
 use Rattle.paving.specs.Paved.{Paved}
@@ -13,7 +13,7 @@ use Rattle.paving_log.specs.declared.line.Form.TheVariants as form
 use Rattle.paving_log.specs.Lines.{StepFits}
 use Rattle.paving_log.specs.RowsText.{AllOwnPass}
 use Rattle.paving_log.specs.Text.{BlockFits}
-use Rattle.live_boxes.specs.Stages.{box_option}
+use Rattle.live_boxes.specs.LiveValues.{box_option}
 use Rattle.log_writer.specs.Kept.{hull_kept, hull_of_last}
 use Rattle.log_writer.specs.declared.epochs.Outcome.{Outcome}
 use Rattle.grid_model.specs.declared.boxes.Box3.{Box3}
@@ -27,11 +27,11 @@ use Rattle.log_writer.specs.Texts.{IsText}
 use Rattle.log_writer.specs.Writing.{Sent, Counts, Seen, Put, Written}
 
 -- the steps of a whole run, and the counts are its own
-pub record WroteSteps (rows : List Row) (rules : Rules) (root : GridBox) (before : Seen)
+pub record WroteSteps (test : BoxTest) (rules : Rules) (root : GridBox) (before : Seen)
     (result : Result Outcome WriteFault) (after : Seen) : Type 0 where
   pub shown : List ShownStep
-  pub run : Paved rows rules root shown
-  pub written : Written before (step_pieces (first_stage root) (steps_of shown)) result after
+  pub run : Paved test rules root shown
+  pub written : Written before (step_pieces (first_boxes root) (steps_of shown)) result after
   pub counts : IfOk result (λ done. done.counts ≡ counts_of root (steps_of shown))
   pub splits : IfOk result (λ done. done.counts.bisections ≡ run.last.splits)
   pub kept : IfOk result (λ done. box_option done.kept ≡ hull_kept (steps_of shown) (Some root))
@@ -39,10 +39,10 @@ pub record WroteSteps (rows : List Row) (rules : Rules) (root : GridBox) (before
       (AllByRecursion StepFits (steps_of shown) × IsCountFromTo 0 most_splits run.last.splits)
 
 -- the root, the steps of a whole run, and the number of its splits with the total
-pub record WroteRun (rows : List Row) (rules : Rules) (root : GridBox) (before : Seen)
+pub record WroteRun (test : BoxTest) (rules : Rules) (root : GridBox) (before : Seen)
     (result : Result (Option Box3) WriteFault) (after : Seen) : Type 0 where
   pub shown : List ShownStep
-  pub run : Paved rows rules root shown
+  pub run : Paved test rules root shown
   pub written : Written before (paved_pieces (Some root) (steps_of shown) run.last.splits)
       result after
   pub fits : OnOk result

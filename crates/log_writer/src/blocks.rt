@@ -7,7 +7,7 @@ ghost use Rattle.paving_log.specs.declared.line.Form.TheVariants as form;
 ghost use Rattle.paving_log.specs.RowsText.{AllOwnPass};
 ghost use Rattle.paving_log.specs.Text.{BlockFits};
 ghost use Rattle.paving_log.specs.Values.{block_of, log_value};
-ghost use Rattle.live_boxes.specs.Stages.{box_option};
+ghost use Rattle.live_boxes.specs.LiveValues.{box_option};
 ghost use Rattle.grid_model.specs.Boxes.{GridBox};
 ghost use Rattle.sat_model.specs.Logs.{Block};
 ghost use Rattle.std.specs.List.{AllByRecursion};

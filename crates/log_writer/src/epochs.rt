@@ -14,6 +14,7 @@ ghost use Rattle.paving_log.specs.Rows.{EntryFits};
 ghost use Rattle.paving_log.specs.Text.{BlockFits};
 ghost use Rattle.paving_log.specs.Values.{block_of};
 ghost use Rattle.grid_model.specs.Boxes.{grid_box};
+ghost use Rattle.sat_model.specs.BoxTests.{test_of};
 ghost use Rattle.sat_model.specs.Logs.{rows_of};
 
 use crate::blocks::Blocks;
@@ -37,9 +38,9 @@ const VERSION_LENGTH: usize = 11;
 fn plan_of(alloc: Global, rules: &Rules, sats: &[SatEntry], root: &Box3) -> Result<Plan, WriteFault>
     requires enough { rules.now.outliers + 4 ≤ length (rows_of sats.now) }
     requires at_most { length (rows_of sats.now) ≤ most_sats }
-    ensures rows { IfOk result (λ plan. plan.rows ≡ rows_of sats.now) }
+    ensures test { IfOk result (λ plan. plan.test ≡ test_of rules.now (rows_of sats.now)) }
     ensures rules { IfOk result (λ plan. plan.rules ≡ rules.now) }
-    ensures root { IfOk result (λ plan. plan.root ≡ grid_box root.now) }
+    ensures root { IfOk result (λ plan. plan.root ≡ root.now) }
     ensures no_memory { IfErr result (λ fault. fault ≡ WriteFault.NoMemory) }
 {
     let rows = rows_among(alloc, sats)?;
@@ -83,9 +84,9 @@ pub(crate) struct Outcome {
 
 /// Writes the steps of a paving as they are made.
 fn pave_on<P: Pen>(track: &mut Track<'_, P>, plan: Plan) -> Result<Outcome, WriteFault>
-    requires enough { plan.rules.outliers < length plan.rows }
+    requires enough { plan.test.q < length plan.test.rows }
     requires none { track.old.kept ≡ None }
-    ensures written { WroteSteps plan.rows plan.rules plan.root
+    ensures written { WroteSteps plan.test plan.rules (grid_box plan.root)
         (P.seen track.old.pen.now) result (P.seen track.new.pen.now) }
     ensures trust { Trusts (P.trust track.old.pen.now) result (P.trust track.new.pen.now) }
     ensures same { track.new.pen.ghost_name ≡ track.old.pen.ghost_name }
@@ -107,8 +108,8 @@ fn pave_on<P: Pen>(track: &mut Track<'_, P>, plan: Plan) -> Result<Outcome, Writ
 
 /// The same on a pen.
 fn put_steps<P: Pen>(pen: &mut P, plan: Plan) -> Result<Outcome, WriteFault>
-    requires enough { plan.rules.outliers < length plan.rows }
-    ensures written { WroteSteps plan.rows plan.rules plan.root
+    requires enough { plan.test.q < length plan.test.rows }
+    ensures written { WroteSteps plan.test plan.rules (grid_box plan.root)
         (P.seen pen.old) result (P.seen pen.new) }
     ensures trust { Trusts (P.trust pen.old) result (P.trust pen.new) }
 {
@@ -122,9 +123,9 @@ fn put_steps<P: Pen>(pen: &mut P, plan: Plan) -> Result<Outcome, WriteFault>
 
 /// Writes the root, its steps, and the number of splits with the total.
 fn put_run<P: Pen>(pen: &mut P, plan: Plan, root: &Box3) -> Result<Option<Box3>, WriteFault>
-    requires root { plan.root ≡ grid_box root.now }
-    requires enough { plan.rules.outliers < length plan.rows }
-    ensures written { WroteRun plan.rows plan.rules plan.root
+    requires root { plan.root ≡ root.now }
+    requires enough { plan.test.q < length plan.test.rows }
+    ensures written { WroteRun plan.test plan.rules (grid_box plan.root)
         (P.seen pen.old) result (P.seen pen.new) }
     ensures trust { Trusts (P.trust pen.old) result (P.trust pen.new) }
 {

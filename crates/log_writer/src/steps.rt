@@ -1,7 +1,7 @@
 //! The steps of a paving, each as a line of the log and one of the report.
 
 ghost use Rattle.std.specs.Prelude.{◌≡◌, ◌≢◌, ◌+◌, ◌<◌, ◌↔◌, ◌∷◌, [], length, Ok, Err, Result};
-ghost use Rattle.live_boxes.specs.Stages.{box_option};
+ghost use Rattle.live_boxes.specs.LiveValues.{box_option};
 ghost use Rattle.log_writer.specs.Kept.{hull_after};
 ghost use Rattle.log_writer.specs.Steps.{step_piece};
 ghost use Rattle.log_writer.specs.Writing.{Went, Ended, Written, Trusts, done, failed};

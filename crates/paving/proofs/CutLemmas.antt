@@ -4,9 +4,8 @@ use Rattle.std.specs.Prelude.{ℤ, Bool, cond, count_by}
 use Rattle.std.proofs.lemmas.List.{length-append}
 use Rattle.std.proofs.lemmas.List.Sums.{sum_by-append, sum_by-cons}
 use Rattle.sat_model.specs.declared.rules.Rules.{Rules}
-use Rattle.sat_model.specs.declared.rows.Row.{Row}
 use Rattle.grid_model.specs.Boxes.{GridBox}
-use Rattle.sat_model.specs.BoxTests.{BoxTest, test_of}
+use Rattle.sat_model.specs.BoxTests.{BoxTest}
 use Rattle.sat_model.specs.Fold.{ShownStep, left_by_cut}
 use Rattle.sat_model.specs.StepKinds.{is_inside, is_edge, is_outside, is_split}
 use Rattle.sat_model.specs.Waiting.{WaitingBox, Paving, Closes, beyond, beyond_all}
@@ -26,22 +25,22 @@ ends_same (a ∷ xs) (b ∷ ys) x y e =
     (cc, last)
 
 -- the last step ends what the cuts before it left
-pub ends_by_last : (grain slack : ℤ) (rows : List Row) (rules : Rules) (splits : ℕ) (box : WaitingBox) (cuts : List ShownStep) (last : ShownStep) → AreBoxSteps grain slack rows rules splits box (cuts ++ last ∷ [])
-    → Closes rows rules splits box.id last.part last.step × AreCutsInTurn (test_of rules rows) box.id box.part cuts last.part
-ends_by_last grain slack rows rules splits box cuts last are =
+pub ends_by_last : (grain slack : ℤ) (test : BoxTest) (rules : Rules) (splits : ℕ) (box : WaitingBox) (cuts : List ShownStep) (last : ShownStep) → AreBoxSteps grain slack test rules splits box (cuts ++ last ∷ [])
+    → Closes test rules splits box.id last.part last.step × AreCutsInTurn test box.id box.part cuts last.part
+ends_by_last grain slack test rules splits box cuts last are =
     let (same, last_is) = ends_same cuts are.cuts last (record { step = are.last; part = are.left }) are.all_steps in
-    let in_turn = cuts_in_turn grain slack rows rules box are.cuts are.left are.are_cuts in (
-      subst (λ (s : ShownStep). Closes rows rules splits box.id s.part s.step) (sym last_is) are.closes,
-      subst (λ (s : ShownStep). AreCutsInTurn (test_of rules rows) box.id box.part cuts s.part) (sym last_is)
-          (subst (λ (l : List ShownStep). AreCutsInTurn (test_of rules rows) box.id box.part l are.left) (sym same) in_turn),
+    let in_turn = cuts_in_turn grain slack test box are.cuts are.left are.are_cuts in (
+      subst (λ (s : ShownStep). Closes test rules splits box.id s.part s.step) (sym last_is) are.closes,
+      subst (λ (s : ShownStep). AreCutsInTurn test box.id box.part cuts s.part) (sym last_is)
+          (subst (λ (l : List ShownStep). AreCutsInTurn test box.id box.part l are.left) (sym same) in_turn),
     )
 
 -- so it alone opens boxes
-pub opens_last : (rows : List Row) (rules : Rules) (splits : ℕ) (box : WaitingBox) (cuts : List ShownStep) (last : ShownStep) (paving : Paving) → AreStepsOf rows rules splits box (cuts ++ last ∷ [])
+pub opens_last : (test : BoxTest) (rules : Rules) (splits : ℕ) (box : WaitingBox) (cuts : List ShownStep) (last : ShownStep) (paving : Paving) → AreStepsOf test rules splits box (cuts ++ last ∷ [])
     → beyond_all paving (cuts ++ last ∷ []) ≡ beyond paving last
-opens_last rows rules splits box cuts last paving are =
+opens_last test rules splits box cuts last paving are =
     let (same, last_is) = ends_same cuts are.cuts last (record { step = are.last; part = are.left }) are.all_steps in
-    box_opens rows rules splits box (cuts ++ last ∷ []) paving are ∙ ap (beyond paving) (sym last_is)
+    box_opens test rules splits box (cuts ++ last ∷ []) paving are ∙ ap (beyond paving) (sym last_is)
 
 record AreCountsOfCuts (cuts : List ShownStep) : Type 0 where
   pub inside : count_by (λ shown. is_inside shown.step) cuts ≡ 0

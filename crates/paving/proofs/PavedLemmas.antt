@@ -5,20 +5,20 @@ use Rattle.std.proofs.lemmas.Int.{ints}
 use Rattle.std.proofs.lemmas.Bool.{cases_lt, cases_eq, ne_eqb}
 use Rattle.std.proofs.lemmas.List.{get_or-set_same, get_or-set_other, get_or_append_left, get_or_past, get_or_push, length-append, append-nil}
 use Rattle.std.proofs.Math.ListN.{length-set}
-use Rattle.sat_model.specs.declared.rows.Row.{Row}
 use Rattle.sat_model.specs.declared.rules.Rules.{Rules}
 use Rattle.sat_model.specs.declared.steps.Step.{Step}
 use Rattle.sat_model.specs.declared.steps.Step.TheVariants.{Cut, Split, Outside, Inside, Edge}
 use Rattle.grid_model.specs.Boxes.{GridBox, side_at, with_side, low_half, high_half}
 use Rattle.sat_model.specs.Cover.{EpochCover}
-use Rattle.sat_model.specs.Fold.{Stage, first_stage, live_box, left_by_cut, halves, after, ShownStep, pieces}
+use Rattle.sat_model.specs.Fold.{Subpaving, first_boxes, live_box, left_by_cut, halves, boxes_after, ShownStep, pieces}
+use Rattle.sat_model.specs.Stages.{Stage, first_stage, after}
 use Rattle.sat_model.specs.Verdicts.{StepPasses, StepsPass}
-use Rattle.sat_model.specs.Waiting.{WaitingBox, Paving, first_paving, IsNext, Closes, halves_from, beyond, beyond_all, joined, steps_of}
+use Rattle.sat_model.specs.Waiting.{WaitingBox, Paving, first_waiting, first_paving, IsNext, Closes, halves_from, beyond, beyond_all, joined, steps_of}
 use Rattle.box_steps.specs.Cuts.{MayCut, cut_shown, AreFacesDone}
 use Rattle.box_steps.specs.BoxSteps.{AreCutsOf}
 use Rattle.box_steps.proofs.BoxLemmas.{cuts_some}
 use Rattle.box_steps.proofs.FaceLemmas.{IsSomeCut}
-use Rattle.sat_model.specs.BoxTests.{BoxTest, test_of}
+use Rattle.sat_model.specs.BoxTests.{BoxTest}
 use Rattle.paving.specs.Paved.{AreStepsOf, PavesTo, Paved}
 use Rattle.grid_model.proofs.AmountLemmas.{above_is}
 use Rattle.sat_model.proofs.CoverLemmas.{epoch_cover}
@@ -54,14 +54,14 @@ faces_in_turn test id (face ∷ faces) part steps left (own, middle, more, is, o
     rw join (cuts_both test id part own more middle left (face_in_turn test id face part own middle is) (faces_in_turn test id faces middle more left others))
 
 -- so are all cuts of a box
-pub cuts_in_turn : (grain slack : ℤ) (rows : List Row) (rules : Rules) (box : WaitingBox) (cuts : List ShownStep) (left : GridBox) → AreCutsOf grain slack rows rules box cuts left
-    → AreCutsInTurn (test_of rules rows) box.id box.part cuts left
-cuts_in_turn grain slack rows rules box cuts left are =
-    let (faces, (named, some)) = cuts_some grain slack rows rules box cuts left are in
-    faces_in_turn (test_of rules rows) box.id faces box.part cuts left some
+pub cuts_in_turn : (grain slack : ℤ) (test : BoxTest) (box : WaitingBox) (cuts : List ShownStep) (left : GridBox) → AreCutsOf grain slack test box cuts left
+    → AreCutsInTurn test box.id box.part cuts left
+cuts_in_turn grain slack test box cuts left are =
+    let (faces, (named, some)) = cuts_some grain slack test box cuts left are in
+    faces_in_turn test box.id faces box.part cuts left some
 
-abbrev waits : ℕ → List WaitingBox → Paving
-waits splits waiting = record { waiting = waiting; splits = splits }
+abbrev waits : Paving → List WaitingBox → Paving
+waits paving waiting = record paving { waiting = waiting }
 
 -- cuts open no box
 pub cuts_open_none : (test : BoxTest) (id : ℕ) (part : GridBox) (cuts more : List ShownStep) (left : GridBox) (paving : Paving) → AreCutsInTurn test id part cuts left
@@ -69,15 +69,15 @@ pub cuts_open_none : (test : BoxTest) (id : ℕ) (part : GridBox) (cuts more : L
 cuts_open_none test id part [] more left paving same = refl
 cuts_open_none test id part (shown ∷ cuts) more left paving (face, bound, may, is, later) =
     cuts_open_none test id (left_by_cut face bound part) cuts more left (beyond paving shown) later
-    ∙ ap (λ (p : Paving). beyond_all p more) (ap (beyond paving) is ∙ ap (waits paving.splits) (append-nil paving.waiting))
+    ∙ ap (λ (p : Paving). beyond_all p more) (ap (beyond paving) is ∙ ap (waits paving) (append-nil paving.waiting))
 
 -- so only the last step of a box does
-pub box_opens : (rows : List Row) (rules : Rules) (splits : ℕ) (box : WaitingBox) (own : List ShownStep) (paving : Paving) → (are : AreStepsOf rows rules splits box own)
+pub box_opens : (test : BoxTest) (rules : Rules) (splits : ℕ) (box : WaitingBox) (own : List ShownStep) (paving : Paving) → (are : AreStepsOf test rules splits box own)
     → beyond_all paving own ≡ beyond paving (record { step = are.last; part = are.left })
-box_opens rows rules splits box own paving are =
+box_opens test rules splits box own paving are =
     ap (beyond_all paving) are.all_steps
-    ∙ cuts_open_none (test_of rules rows) box.id box.part are.cuts ((record { step = are.last; part = are.left }) ∷ []) are.left paving
-    (cuts_in_turn _ _ rows rules box are.cuts are.left are.are_cuts)
+    ∙ cuts_open_none test box.id box.part are.cuts ((record { step = are.last; part = are.left }) ∷ []) are.left paving
+    (cuts_in_turn _ _ test box are.cuts are.left are.are_cuts)
 
 -- ---- the boxes that wait, and the live ones
 
@@ -95,7 +95,7 @@ parts_with id (box ∷ waiting) = cond (nat_eq box.id id) (box.part ∷ parts_wi
 abbrev pub AreLive : List WaitingBox → List (Option GridBox) → Type 0
 AreLive waiting live = (id : ℕ) → parts_with id waiting ≡ boxes_in (get_or live id None)
 
-pub record IsStageOf (paving : Paving) (st : Stage) : Type 0 where
+pub record AreBoxesOf (paving : Paving) (st : Subpaving) : Type 0 where
   pub live : AreLive paving.waiting st.live
   pub given : length st.live ≡ 2 * paving.splits + 1
   pub splits : st.splits ≡ paving.splits
@@ -132,22 +132,22 @@ within_live live id c e = elim (cases_lt id (length live)) [
 ]
 
 -- the box of that number is live as this part, and the boxes of rest are the other live ones
-pub record IsInWork (id : ℕ) (part : GridBox) (rest : List WaitingBox) (splits : ℕ) (st : Stage) : Type 0 where
+pub record IsInWork (id : ℕ) (part : GridBox) (rest : List WaitingBox) (splits : ℕ) (st : Subpaving) : Type 0 where
   pub is_live : get_or st.live id None ≡ Some part
   pub others : AreLive rest (set st.live id None)
   pub given : length st.live ≡ 2 * splits + 1
   pub splits_is : st.splits ≡ splits
 
 -- the next box is taken up
-pub taken_up : (paving : Paving) (next : WaitingBox) (rest : List WaitingBox) (st : Stage) → IsNext paving.waiting next rest → IsStageOf paving st
+pub taken_up : (paving : Paving) (next : WaitingBox) (rest : List WaitingBox) (st : Subpaving) → IsNext paving.waiting next rest → AreBoxesOf paving st
     → IsInWork next.id next.part rest paving.splits st
-taken_up paving next rest st n stage =
+taken_up paving next rest st n are =
     let parts : (id : ℕ) → parts_with id paving.waiting ≡ parts_with id n.before ++ parts_with id (next ∷ n.behind)
     = λ id. ap (parts_with id) n.all_waiting ∙ parts_append id n.before (next ∷ n.behind) in
     let rests : (id : ℕ) → parts_with id rest ≡ parts_with id n.before ++ parts_with id n.behind
     = λ id. ap (parts_with id) n.others ∙ parts_append id n.before n.behind in
     let here : parts_with next.id n.before ++ next.part ∷ parts_with next.id n.behind ≡ boxes_in (get_or st.live next.id None)
-    = ap (λ l. parts_with next.id n.before ++ l) (sym (with_yes next next.id n.behind refl)) ∙ sym (parts next.id) ∙ stage.live next.id in
+    = ap (λ l. parts_with next.id n.before ++ l) (sym (with_yes next next.id n.behind refl)) ∙ sym (parts next.id) ∙ are.live next.id in
     let (is, none_before, none_behind) = only_one _ _ next.part _ here in
     record {
       is_live = is;
@@ -155,44 +155,49 @@ taken_up paving next rest st n stage =
         | inl same ↦ subst (λ (i : ℕ). parts_with i rest ≡ boxes_in (get_or (set st.live next.id None) i None)) (sym same)
             (rests next.id ∙ ap (λ l. l ++ parts_with next.id n.behind) none_before ∙ none_behind
             ∙ ap boxes_in (sym (get_or-set_same st.live next.id None None (within_live st.live next.id next.part is))))
-        | inr apart ↦ rests id ∙ ap (λ l. parts_with id n.before ++ l) (sym (with_no next id n.behind (λ e. apart (sym e)))) ∙ sym (parts id) ∙ stage.live id
+        | inr apart ↦ rests id ∙ ap (λ l. parts_with id n.before ++ l) (sym (with_no next id n.behind (λ e. apart (sym e)))) ∙ sym (parts id) ∙ are.live id
             ∙ ap boxes_in (sym (get_or-set_other st.live next.id id None None apart))
       ];
-      given = stage.given;
-      splits_is = stage.splits;
+      given = are.given;
+      splits_is = are.splits;
     }
 
--- ---- the steps of a box, from stage to stage
+-- ---- the steps of a box, one after another
 
 -- the steps pass their tests, one after another
-abbrev pub AllPass : List Row → Rules → Stage → List ShownStep → Type 0
-AllPass rows rules st [] = Unit {0}
-AllPass rows rules st (shown ∷ more) = StepPasses rows rules st shown.step × AllPass rows rules (after st shown.step) more
+abbrev pub AllPass : Rules → Stage → List ShownStep → Type 0
+AllPass rules st [] = Unit {0}
+AllPass rules st (shown ∷ more) = StepPasses rules st shown.step × AllPass rules (after st shown.step) more
 
+abbrev pub boxes_behind : Subpaving → List ShownStep → Subpaving
+boxes_behind st [] = st
+boxes_behind st (shown ∷ more) = boxes_behind (boxes_after st shown.step) more
+
+-- steps keep the test
 abbrev pub stage_after : Stage → List ShownStep → Stage
-stage_after st [] = st
-stage_after st (shown ∷ more) = stage_after (after st shown.step) more
+stage_after st steps = record { boxes = boxes_behind st.boxes steps; test = st.test }
 
-pub pass_both : (rows : List Row) (rules : Rules) (st : Stage) (xs ys : List ShownStep) → AllPass rows rules st xs → AllPass rows rules (stage_after st xs) ys → AllPass rows rules st (xs ++ ys)
-pass_both rows rules st [] ys first later = later
-pass_both rows rules st (x ∷ xs) ys (here, first) later = (here, pass_both rows rules (after st x.step) xs ys first later)
+pub pass_both : (rules : Rules) (st : Stage) (xs ys : List ShownStep) → AllPass rules st xs → AllPass rules (stage_after st xs) ys → AllPass rules st (xs ++ ys)
+pass_both rules st [] ys first later = later
+pass_both rules st (x ∷ xs) ys (here, first) later = (here, pass_both rules (after st x.step) xs ys first later)
 
-pub stage_both : (st : Stage) (xs ys : List ShownStep) → stage_after st (xs ++ ys) ≡ stage_after (stage_after st xs) ys
-stage_both st [] ys = refl
-stage_both st (x ∷ xs) ys = stage_both (after st x.step) xs ys
+pub boxes_both : (st : Subpaving) (xs ys : List ShownStep) → boxes_behind st (xs ++ ys) ≡ boxes_behind (boxes_behind st xs) ys
+boxes_both st [] ys = refl
+boxes_both st (x ∷ xs) ys = boxes_both (boxes_after st x.step) xs ys
 
 -- the steps pass, and the box stays in work as what they leave of it
-pub record StaysInWork (rows : List Row) (rules : Rules) (id : ℕ) (left : GridBox) (rest : List WaitingBox) (splits : ℕ) (st : Stage) (steps : List ShownStep) : Type 0 where
-  pub pass : AllPass rows rules st steps
-  pub in_work : IsInWork id left rest splits (stage_after st steps)
+pub record StaysInWork (rules : Rules) (id : ℕ) (left : GridBox) (rest : List WaitingBox) (splits : ℕ) (st : Stage) (steps : List ShownStep) : Type 0 where
+  pub pass : AllPass rules st steps
+  pub in_work : IsInWork id left rest splits (boxes_behind st.boxes steps)
 
 set_twice : (live : List (Option GridBox)) (id : ℕ) (a b : Option GridBox) → set (set live id a) id b ≡ set live id b
 set_twice [] id a b = refl
 set_twice (o ∷ live) zero a b = refl
 set_twice (o ∷ live) (suc id) a b = ap (λ l. o ∷ l) (set_twice live id a b)
 
-cut_in_work : (id face : ℕ) (bound : ℤ) (part : GridBox) (rest : List WaitingBox) (splits : ℕ) (st : Stage) → IsInWork id part rest splits st
-    → IsInWork id (left_by_cut face bound part) rest splits (after st (Cut id face bound))
+-- a face is cut
+pub cut_in_work : (id face : ℕ) (bound : ℤ) (part : GridBox) (rest : List WaitingBox) (splits : ℕ) (st : Subpaving) → IsInWork id part rest splits st
+    → IsInWork id (left_by_cut face bound part) rest splits (boxes_after st (Cut id face bound))
 cut_in_work id face bound part rest splits st w =
     let left : Option GridBox = Some (left_by_cut face bound part) in
     rw w.is_live
@@ -203,25 +208,19 @@ cut_in_work id face bound part rest splits st w =
       splits_is = w.splits_is;
     })
 
-in_turn_go_on : (rows : List Row) (rules : Rules) (id : ℕ) (part : GridBox) (steps : List ShownStep) (left : GridBox) (rest : List WaitingBox) (splits : ℕ) (st : Stage)
-    → AreCutsInTurn (test_of rules rows) id part steps left → IsInWork id part rest splits st → StaysInWork rows rules id left rest splits st steps
-in_turn_go_on rows rules id part [] left rest splits st same w = record { pass = tt; in_work = rw same w }
-in_turn_go_on rows rules id part (shown ∷ steps) left rest splits st (face, bound, may, is, later) w =
-    let w2 = cut_in_work id face bound part rest splits st w in
-    let r = in_turn_go_on rows rules id (left_by_cut face bound part) steps left rest splits (after st (Cut id face bound)) later w2 in
+in_turn_go_on : (rules : Rules) (id : ℕ) (part : GridBox) (steps : List ShownStep) (left : GridBox) (rest : List WaitingBox) (splits : ℕ) (st : Stage)
+    → AreCutsInTurn st.test id part steps left → IsInWork id part rest splits st.boxes → StaysInWork rules id left rest splits st steps
+in_turn_go_on rules id part [] left rest splits st same w = record { pass = tt; in_work = rw same w }
+in_turn_go_on rules id part (shown ∷ steps) left rest splits st (face, bound, may, is, later) w =
+    let w2 = cut_in_work id face bound part rest splits st.boxes w in
+    let r = in_turn_go_on rules id (left_by_cut face bound part) steps left rest splits (after st (Cut id face bound)) later w2 in
     rw is (record { pass = ((part, w.is_live, may), r.pass); in_work = r.in_work })
 
--- a face is cut
-pub cut_goes_on : (rows : List Row) (rules : Rules) (id face : ℕ) (bound : ℤ) (part : GridBox) (rest : List WaitingBox) (splits : ℕ) (st : Stage)
-    → MayCut (test_of rules rows) face bound part → IsInWork id part rest splits st → StaysInWork rows rules id (left_by_cut face bound part) rest splits st (cut_shown id face bound part ∷ [])
-cut_goes_on rows rules id face bound part rest splits st may w =
-    in_turn_go_on rows rules id part (cut_shown id face bound part ∷ []) (left_by_cut face bound part) rest splits st (face, bound, may, refl, refl) w
-
 -- all cuts of a box
-pub cuts_go_on : (grain slack : ℤ) (rows : List Row) (rules : Rules) (box : WaitingBox) (cuts : List ShownStep) (left : GridBox) (rest : List WaitingBox) (splits : ℕ) (st : Stage)
-    → AreCutsOf grain slack rows rules box cuts left → IsInWork box.id box.part rest splits st → StaysInWork rows rules box.id left rest splits st cuts
-cuts_go_on grain slack rows rules box cuts left rest splits st are w =
-    in_turn_go_on rows rules box.id box.part cuts left rest splits st (cuts_in_turn grain slack rows rules box cuts left are) w
+pub cuts_go_on : (grain slack : ℤ) (rules : Rules) (box : WaitingBox) (cuts : List ShownStep) (left : GridBox) (rest : List WaitingBox) (splits : ℕ) (st : Stage)
+    → AreCutsOf grain slack st.test box cuts left → IsInWork box.id box.part rest splits st.boxes → StaysInWork rules box.id left rest splits st cuts
+cuts_go_on grain slack rules box cuts left rest splits st are w =
+    in_turn_go_on rules box.id box.part cuts left rest splits st (cuts_in_turn grain slack st.test box cuts left are) w
 
 -- one more box is opened under the next number
 pub one_opened : (waiting : List WaitingBox) (live : List (Option GridBox)) (id : ℕ) (part : GridBox) → AreLive waiting live → id ≡ length live
@@ -245,36 +244,36 @@ one_opened waiting live id part are next other =
     ]
 
 -- the last step of a box passes its tests
-pub step_passes : (rows : List Row) (rules : Rules) (st : Stage) (splits id : ℕ) (part : GridBox) (step : Step)
-    → live_box st id ≡ Some part → st.splits ≡ splits → Closes rows rules splits id part step → StepPasses rows rules st step
-step_passes rows rules st splits id part (Outside n) is same (n_is, empty) = (part, rw n_is is, empty)
-step_passes rows rules st splits id part (Inside n clock lo hi) is same (n_is, least, hull) = (part, rw n_is is, least.shown, hull.within)
-step_passes rows rules st splits id part (Edge n lo hi) is same (n_is, undecided, may_not, hull) = (part, rw n_is is, hull.within)
-step_passes rows rules st splits id part (Split n axis) is same (n_is, undecided, may, longest) = (
+pub step_passes : (rules : Rules) (st : Stage) (splits id : ℕ) (part : GridBox) (step : Step)
+    → live_box st.boxes id ≡ Some part → st.boxes.splits ≡ splits → Closes st.test rules splits id part step → StepPasses rules st step
+step_passes rules st splits id part (Outside n) is same (n_is, empty) = (part, rw n_is is, empty)
+step_passes rules st splits id part (Inside n clock lo hi) is same (n_is, least, hull) = (part, rw n_is is, least.shown, hull.within)
+step_passes rules st splits id part (Edge n lo hi) is same (n_is, undecided, may_not, hull) = (part, rw n_is is, hull.within)
+step_passes rules st splits id part (Split n axis) is same (n_is, undecided, may, longest) = (
   part,
   rw n_is is,
   omega (arith, ints, above_is (side_at axis part).hi (side_at axis part).lo, longest.longest, may.0, rules.wide),
   omega (arith, may.1),
 )
-step_passes rows rules st splits id part (Cut n face bound) is same ends = absurd ends
+step_passes rules st splits id part (Cut n face bound) is same ends = absurd ends
 
 -- a box that is closed is gone, and the others are as they were
-closed_stage : (id n : ℕ) (part : GridBox) (rest : List WaitingBox) (splits : ℕ) (st : Stage) → n ≡ id → IsInWork id part rest splits st
-    → IsStageOf (record { waiting = rest ++ []; splits = splits }) (record { live = set st.live n None; splits = st.splits })
-closed_stage id n part rest splits st n_is w = record {
+closed_boxes : (test : BoxTest) (id n : ℕ) (part : GridBox) (rest : List WaitingBox) (splits : ℕ) (st : Subpaving) → n ≡ id → IsInWork id part rest splits st
+    → AreBoxesOf (record { waiting = rest ++ []; splits = splits; test = test }) (record { live = set st.live n None; splits = st.splits })
+closed_boxes test id n part rest splits st n_is w = record {
   live = rw n_is (subst (λ (l : List WaitingBox). AreLive l (set st.live id None)) (sym (append-nil rest)) w.others);
   given = length-set st.live n None ∙ w.given;
   splits = w.splits_is;
 }
 
--- the stage after the last step of a box is that of the paving after it
-stage_goes_on : (rows : List Row) (rules : Rules) (id : ℕ) (part : GridBox) (rest : List WaitingBox) (splits : ℕ) (st : Stage) (step : Step)
-    → Closes rows rules splits id part step → IsInWork id part rest splits st
-    → IsStageOf (beyond (record { waiting = rest; splits = splits }) (record { step = step; part = part })) (after st step)
-stage_goes_on rows rules id part rest splits st (Outside n) (n_is, ends) w = closed_stage id n part rest splits st n_is w
-stage_goes_on rows rules id part rest splits st (Inside n clock lo hi) (n_is, least, hull) w = closed_stage id n part rest splits st n_is w
-stage_goes_on rows rules id part rest splits st (Edge n lo hi) (n_is, undecided, may_not, hull) w = closed_stage id n part rest splits st n_is w
-stage_goes_on rows rules id part rest splits st (Split n axis) (n_is, undecided, may, longest) w =
+-- the boxes after the last step of a box are those of the paving after it
+pub boxes_go_on : (test : BoxTest) (rules : Rules) (id : ℕ) (part : GridBox) (rest : List WaitingBox) (splits : ℕ) (st : Subpaving) (step : Step)
+    → Closes test rules splits id part step → IsInWork id part rest splits st
+    → AreBoxesOf (beyond (record { waiting = rest; splits = splits; test = test }) (record { step = step; part = part })) (boxes_after st step)
+boxes_go_on test rules id part rest splits st (Outside n) (n_is, ends) w = closed_boxes test id n part rest splits st n_is w
+boxes_go_on test rules id part rest splits st (Inside n clock lo hi) (n_is, least, hull) w = closed_boxes test id n part rest splits st n_is w
+boxes_go_on test rules id part rest splits st (Edge n lo hi) (n_is, undecided, may_not, hull) w = closed_boxes test id n part rest splits st n_is w
+boxes_go_on test rules id part rest splits st (Split n axis) (n_is, undecided, may, longest) w =
     let low : GridBox = with_side axis part (low_half (side_at axis part)) in
     let high : GridBox = with_side axis part (high_half (side_at axis part)) in
     let first : AreLive (rest ++ (record { id = 2 * splits + 1; part = low }) ∷ []) (set st.live id None ++ Some low ∷ [])
@@ -293,65 +292,77 @@ stage_goes_on rows rules id part rest splits st (Split n axis) (n_is, undecided,
       given = rw (n_is, w.is_live) (omega (arith, length-append (set st.live id None) (halves axis (Some part)), length-set st.live id None, w.given));
       splits = ap (λ s. s + 1) w.splits_is;
     }
-stage_goes_on rows rules id part rest splits st (Cut n face bound) ends w = absurd ends
+boxes_go_on test rules id part rest splits st (Cut n face bound) ends w = absurd ends
 
 -- the last step of a box
-pub last_goes_on : (rows : List Row) (rules : Rules) (id : ℕ) (left : GridBox) (rest : List WaitingBox) (splits : ℕ) (st : Stage) (step : Step)
-    → Closes rows rules splits id left step → IsInWork id left rest splits st
-    → StepPasses rows rules st step × IsStageOf (beyond (record { waiting = rest; splits = splits }) (record { step = step; part = left })) (after st step)
-last_goes_on rows rules id left rest splits st step ends w =
-    (step_passes rows rules st splits id left step w.is_live w.splits_is ends, stage_goes_on rows rules id left rest splits st step ends w)
+last_goes_on : (rules : Rules) (id : ℕ) (left : GridBox) (rest : List WaitingBox) (splits : ℕ) (st : Stage) (step : Step)
+    → Closes st.test rules splits id left step → IsInWork id left rest splits st.boxes
+    → StepPasses rules st step × AreBoxesOf (beyond (record { waiting = rest; splits = splits; test = st.test }) (record { step = step; part = left })) (boxes_after st.boxes step)
+last_goes_on rules id left rest splits st step ends w =
+    (step_passes rules st splits id left step w.is_live w.splits_is ends, boxes_go_on st.test rules id left rest splits st.boxes step ends w)
 
--- all steps of a box pass, and the stage after them is that of the paving after them
-pub box_goes_on : (rows : List Row) (rules : Rules) (next : WaitingBox) (own : List ShownStep) (rest : List WaitingBox) (splits : ℕ) (st : Stage)
-    → AreStepsOf rows rules splits next own → IsInWork next.id next.part rest splits st
-    → AllPass rows rules st own × IsStageOf (beyond_all (record { waiting = rest; splits = splits }) own) (stage_after st own)
-box_goes_on rows rules next own rest splits st are w =
+-- all steps of a box pass, and the boxes after them are those of the paving after them
+pub box_goes_on : (rules : Rules) (next : WaitingBox) (own : List ShownStep) (rest : List WaitingBox) (splits : ℕ) (st : Stage)
+    → AreStepsOf st.test rules splits next own → IsInWork next.id next.part rest splits st.boxes
+    → AllPass rules st own × AreBoxesOf (beyond_all (record { waiting = rest; splits = splits; test = st.test }) own) (boxes_behind st.boxes own)
+box_goes_on rules next own rest splits st are w =
     let shown : ShownStep = record { step = are.last; part = are.left } in
-    let paving : Paving = record { waiting = rest; splits = splits } in
-    let c = cuts_go_on _ _ rows rules next are.cuts are.left rest splits st are.are_cuts w in
-    let (pass, stage) = last_goes_on rows rules next.id are.left rest splits (stage_after st are.cuts) are.last are.closes c.in_work in
-    let after_own : stage_after st own ≡ after (stage_after st are.cuts) are.last = ap (stage_after st) are.all_steps ∙ stage_both st are.cuts (shown ∷ []) in (
-      subst (λ (l : List ShownStep). AllPass rows rules st l) (sym are.all_steps) (pass_both rows rules st are.cuts (shown ∷ []) c.pass (pass, tt)),
-      subst (λ (p : Paving). IsStageOf p (stage_after st own)) (sym (box_opens rows rules splits next own paving are))
-          (subst (λ (s : Stage). IsStageOf (beyond paving shown) s) (sym after_own) stage),
+    let paving : Paving = record { waiting = rest; splits = splits; test = st.test } in
+    let c = cuts_go_on _ _ rules next are.cuts are.left rest splits st are.are_cuts w in
+    let (pass, now) = last_goes_on rules next.id are.left rest splits (stage_after st are.cuts) are.last are.closes c.in_work in
+    let after_own : boxes_behind st.boxes own ≡ boxes_after (boxes_behind st.boxes are.cuts) are.last =
+    ap (boxes_behind st.boxes) are.all_steps ∙ boxes_both st.boxes are.cuts (shown ∷ []) in (
+      subst (λ (l : List ShownStep). AllPass rules st l) (sym are.all_steps) (pass_both rules st are.cuts (shown ∷ []) c.pass (pass, tt)),
+      subst (λ (p : Paving). AreBoxesOf p (boxes_behind st.boxes own)) (sym (box_opens st.test rules splits next own paving are))
+          (subst (λ (s : Subpaving). AreBoxesOf (beyond paving shown) s) (sym after_own) now),
     )
 
 -- ---- a whole run
 
-pub passes_then : (rows : List Row) (rules : Rules) (done : ℕ) (st : Stage) (xs ys : List ShownStep) → AllPass rows rules st xs → StepsPass rows rules done (stage_after st xs) (steps_of ys)
-    → StepsPass rows rules done st (steps_of (xs ++ ys))
-passes_then rows rules done st [] ys first later = later
-passes_then rows rules done st (x ∷ xs) ys (here, first) later = (here, passes_then rows rules done (after st x.step) xs ys first later)
+pub passes_then : (rules : Rules) (done : ℕ) (st : Stage) (xs ys : List ShownStep) → AllPass rules st xs → StepsPass rules done (stage_after st xs) (steps_of ys)
+    → StepsPass rules done st (steps_of (xs ++ ys))
+passes_then rules done st [] ys first later = later
+passes_then rules done st (x ∷ xs) ys (here, first) later = (here, passes_then rules done (after st x.step) xs ys first later)
 
-pub passes_from : (rows : List Row) (rules : Rules) (paving last : Paving) (st : Stage) (boxes : List (List ShownStep))
-    → PavesTo rows rules paving boxes last → IsStageOf paving st → last.waiting ≡ []
-    → StepsPass rows rules last.splits st (steps_of (joined boxes))
-passes_from rows rules paving last st [] paves is none = (
+-- steps keep the test of a paving
+pub keeps_test : (paving : Paving) (steps : List ShownStep) → (beyond_all paving steps).test ≡ paving.test
+keeps_test paving [] = refl
+keeps_test paving (shown ∷ more) = keeps_test (beyond paving shown) more
+
+pub passes_from : (rules : Rules) (paving last : Paving) (st : Subpaving) (boxes : List (List ShownStep))
+    → PavesTo rules paving boxes last → AreBoxesOf paving st → last.waiting ≡ []
+    → StepsPass rules last.splits (record { boxes = st; test = paving.test }) (steps_of (joined boxes))
+passes_from rules paving last st [] paves is none = (
   λ id. none_from (live_box st id) (ap (parts_with id) (sym none) ∙ ap (λ p. parts_with id p.waiting) (sym paves) ∙ is.live id),
   is.splits ∙ ap (λ p. p.splits) paves,
 )
-passes_from rows rules paving last st (own ∷ boxes) (next, rest, n, are, later) is none =
-    let (pass, stage) = box_goes_on rows rules next own rest paving.splits st are (taken_up paving next rest st n is) in
-    passes_then rows rules last.splits st own (joined boxes) pass
-    (passes_from rows rules (beyond_all (record { waiting = rest; splits = paving.splits }) own) last (stage_after st own) boxes later stage none)
+passes_from rules paving last st (own ∷ boxes) (next, rest, n, are, later) is none =
+    let stage : Stage = record { boxes = st; test = paving.test } in
+    let rested : Paving = record paving { waiting = rest } in
+    let (pass, now) = box_goes_on rules next own rest paving.splits stage are (taken_up paving next rest st n is) in
+    passes_then rules last.splits stage own (joined boxes) pass
+    (subst (λ (t : BoxTest). StepsPass rules last.splits (record { boxes = boxes_behind st own; test = t }) (steps_of (joined boxes))) (keeps_test rested own)
+    (passes_from rules (beyond_all rested own) last (boxes_behind st own) boxes later now none))
 
-first_live : (root : GridBox) → AreLive ((record { id = 0; part = root }) ∷ []) (Some root ∷ [])
+first_live : (root : GridBox) → AreLive (first_waiting root) (Some root ∷ [])
 first_live root zero = refl
 first_live root (suc id) = with_no (record { id = 0; part = root }) (suc id) [] (λ e. omega arith)
 
-pub run_passes : (rows : List Row) (rules : Rules) (root : GridBox) (boxes : List (List ShownStep)) (last : Paving)
-    → PavesTo rows rules (first_paving root) boxes last → last.waiting ≡ []
-    → StepsPass rows rules last.splits (first_stage root) (steps_of (joined boxes))
-run_passes rows rules root boxes last paves none =
-    passes_from rows rules (first_paving root) last (first_stage root) boxes paves (record { live = first_live root; given = omega arith; splits = refl }) none
+pub first_are : (test : BoxTest) (root : GridBox) → AreBoxesOf (first_paving test root) (first_boxes root)
+first_are test root = record { live = first_live root; given = omega arith; splits = refl }
+
+pub run_passes : (test : BoxTest) (rules : Rules) (root : GridBox) (boxes : List (List ShownStep)) (last : Paving)
+    → PavesTo rules (first_paving test root) boxes last → last.waiting ≡ []
+    → StepsPass rules last.splits (first_stage test root) (steps_of (joined boxes))
+run_passes test rules root boxes last paves none =
+    passes_from rules (first_paving test root) last (first_boxes root) boxes paves (first_are test root) none
 
 -- a whole run passes all tests: each step does, no box is live at its end, and the splits are counted
-pub paved_passes : (rows : List Row) (rules : Rules) (root : GridBox) (steps : List ShownStep) → (run : Paved rows rules root steps)
-    → StepsPass rows rules run.last.splits (first_stage root) (steps_of steps)
-paved_passes rows rules root steps run = rw run.all_steps (run_passes rows rules root run.boxes run.last run.paves run.none_waiting)
+pub paved_passes : (test : BoxTest) (rules : Rules) (root : GridBox) (steps : List ShownStep) → (run : Paved test rules root steps)
+    → StepsPass rules run.last.splits (first_stage test root) (steps_of steps)
+paved_passes test rules root steps run = rw run.all_steps (run_passes test rules root run.boxes run.last run.paves run.none_waiting)
 
 -- so it partitions the root, and covers what fits
-pub paved_covers : (rows : List Row) (rules : Rules) (root : GridBox) (steps : List ShownStep) → Paved rows rules root steps
-    → EpochCover rows rules.outliers root (pieces root (steps_of steps))
-paved_covers rows rules root steps run = epoch_cover rows rules run.last.splits root (steps_of steps) (paved_passes rows rules root steps run)
+pub paved_covers : (test : BoxTest) (rules : Rules) (root : GridBox) (steps : List ShownStep) → Paved test rules root steps
+    → EpochCover test.rows test.q root (pieces root (steps_of steps))
+paved_covers test rules root steps run = epoch_cover test rules run.last.splits root (steps_of steps) (paved_passes test rules root steps run)

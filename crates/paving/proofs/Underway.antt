@@ -4,14 +4,13 @@ use Rattle.std.specs.Prelude.{Bool, true, false, cond, count_by}
 use Rattle.std.proofs.lemmas.List.{append-nil, length-append}
 use Rattle.std.proofs.lemmas.List.Sums.{sum_by-append, sum_by-cons}
 use Rattle.std.proofs.lemmas.Int.{ints}
-use Rattle.sat_model.specs.declared.rows.Row.{Row}
 use Rattle.sat_model.specs.declared.steps.Step.TheVariants.{Cut, Split, Outside, Inside, Edge}
 use Rattle.box_pool.specs.declared.item.Item.{Item}
 use Rattle.sat_model.specs.declared.rules.Rules.{Rules}
 use Rattle.sat_model.specs.declared.steps.Step.{Step}
 use Rattle.grid_model.specs.Boxes.{GridBox, grid_box, side_at}
 use Rattle.grid_model.proofs.AmountLemmas.{above_is}
-use Rattle.sat_model.specs.BoxTests.{BoxTest, test_of}
+use Rattle.sat_model.specs.BoxTests.{BoxTest}
 use Rattle.sat_model.specs.Fold.{ShownStep}
 use Rattle.sat_model.specs.StepKinds.{is_inside, is_edge, is_outside, is_split}
 use Rattle.sat_model.specs.Waiting.{WaitingBox, Paving, first_paving, IsNext, Closes, opened_by, splits_after, beyond, beyond_all, joined}
@@ -24,6 +23,7 @@ use Rattle.paving.specs.declared.counts.Counts.{Counts}
 use Rattle.paving.specs.Counting.{IsCountOf, counts_after, counts_with_cuts}
 use Rattle.paving.specs.Queues.{IsQueued, Takes, CanOpen, box_of, opened_count}
 use Rattle.paving.proofs.CutLemmas.{ends_by_last, opens_last, counted_cuts}
+use Rattle.paving.proofs.PavedExists.{same_test}
 use Rattle.paving.proofs.PavedLemmas.{AreCutsInTurn}
 
 -- so many boxes have at most so many steps of each kind, with up to 1,800 cuts a box
@@ -34,10 +34,10 @@ pub record AreFew (counts : Counts) (boxes : ℕ) : Type 0 where
   pub splits : counts.bisections ≤ boxes
 
 -- what holds before each box is taken up, with so many spare nodes for boxes
-pub record IsUnderway {L : Type 0} (took : L → Step → GridBox → L → Type 0) (rows : List Row) (rules : Rules) (root : GridBox) (first now : L) (lists : List (List Item)) (spare : ℕ) (counts : Counts) : Type 0 where
+pub record IsUnderway {L : Type 0} (took : L → Step → GridBox → L → Type 0) (test : BoxTest) (rules : Rules) (root : GridBox) (first now : L) (lists : List (List Item)) (spare : ℕ) (counts : Counts) : Type 0 where
   pub boxes : List (List ShownStep)
   pub paving : Paving
-  pub paves : PavesTo rows rules (first_paving root) boxes paving
+  pub paves : PavesTo rules (first_paving test root) boxes paving
   pub taken : TookAll took first (joined boxes) now
   pub queued : IsQueued paving.waiting lists
   pub counted : IsCountOf counts (joined boxes)
@@ -48,14 +48,14 @@ pub record IsUnderway {L : Type 0} (took : L → Step → GridBox → L → Type
   pub within : counts.bisections ≤ rules.bisections
 
 -- a run goes on by one box
-pub paves_more : (rows : List Row) (rules : Rules) (start middle : Paving) (boxes : List (List ShownStep)) (next : WaitingBox) (rest : List WaitingBox) (own : List ShownStep)
-    → PavesTo rows rules start boxes middle → IsNext middle.waiting next rest → AreStepsOf rows rules middle.splits next own
-    → PavesTo rows rules start (boxes ++ own ∷ []) (beyond_all (record { waiting = rest; splits = middle.splits }) own)
-paves_more rows rules start middle [] next rest own paves is own_is =
-    subst (λ (p : Paving). PavesTo rows rules p (own ∷ []) (beyond_all (record { waiting = rest; splits = middle.splits }) own)) (sym paves)
+pub paves_more : (rules : Rules) (start middle : Paving) (boxes : List (List ShownStep)) (next : WaitingBox) (rest : List WaitingBox) (own : List ShownStep)
+    → PavesTo rules start boxes middle → IsNext middle.waiting next rest → AreStepsOf middle.test rules middle.splits next own
+    → PavesTo rules start (boxes ++ own ∷ []) (beyond_all (record middle { waiting = rest }) own)
+paves_more rules start middle [] next rest own paves is own_is =
+    subst (λ (p : Paving). PavesTo rules p (own ∷ []) (beyond_all (record middle { waiting = rest }) own)) (sym paves)
     (next, rest, is, own_is, refl)
-paves_more rows rules start middle (first ∷ boxes) next rest own (n, r, n_is, f_is, later) is own_is =
-    (n, r, n_is, f_is, paves_more rows rules (beyond_all (record { waiting = r; splits = start.splits }) first) middle boxes next rest own later is own_is)
+paves_more rules start middle (first ∷ boxes) next rest own (n, r, n_is, f_is, later) is own_is =
+    (n, r, n_is, f_is, paves_more rules (beyond_all (record start { waiting = r }) first) middle boxes next rest own later is own_is)
 
 pub joined_more : (boxes : List (List ShownStep)) (own : List ShownStep) → joined (boxes ++ own ∷ []) ≡ joined boxes ++ own
 joined_more [] own = append-nil own
@@ -138,10 +138,10 @@ in_hand waiting old new next queued takes =
     record { rest = rest; is_next = is_next; queued = others; one_less = one_less waiting (box_of next) rest is_next }
 
 -- the step that ends the box closes it, and the others are cuts
-pub ends_box : {L : Type 0} (took : L → Step → GridBox → L → Type 0) (rows : List Row) (rules : Rules) (splits : ℕ) (next : Item) (now last : L) (ended : Ended)
-    → (t : TookBox took (AreStepsOf rows rules splits (box_of next)) now ended last)
-    → Closes rows rules splits next.id (grid_box ended.left) ended.step × AreCutsInTurn (test_of rules rows) next.id (grid_box next.part) t.cuts (grid_box ended.left)
-ends_box took rows rules splits next now last ended t = ends_by_last (grain_for (grid_box next.part)) _ rows rules splits (box_of next) t.cuts (last_of ended) t.are
+pub ends_box : {L : Type 0} (took : L → Step → GridBox → L → Type 0) (test : BoxTest) (rules : Rules) (splits : ℕ) (next : Item) (now last : L) (ended : Ended)
+    → (t : TookBox took (AreStepsOf test rules splits (box_of next)) now ended last)
+    → Closes test rules splits next.id (grid_box ended.left) ended.step × AreCutsInTurn test next.id (grid_box next.part) t.cuts (grid_box ended.left)
+ends_box took test rules splits next now last ended t = ends_by_last (grain_for (grid_box next.part)) _ test rules splits (box_of next) t.cuts (last_of ended) t.are
 
 -- ---- how the numbers go on
 
@@ -156,88 +156,96 @@ pub record GoesOn (rules : Rules) (rest : List WaitingBox) (splits : ℕ) (step 
   pub few : AreFew now (boxes + 1)
   pub within : now.bisections ≤ rules.bisections
 
-pub goes_on : (rows : List Row) (rules : Rules) (rest : List WaitingBox) (splits id : ℕ) (step : Step) (part : GridBox) (boxes spare left cuts : ℕ) (counts : Counts)
-    → Closes rows rules splits id part step → splits ≡ counts.bisections → cuts ≤ 1800
+pub goes_on : (test : BoxTest) (rules : Rules) (rest : List WaitingBox) (splits id : ℕ) (step : Step) (part : GridBox) (boxes spare left cuts : ℕ) (counts : Counts)
+    → Closes test rules splits id part step → splits ≡ counts.bisections → cuts ≤ 1800
     → length rest + 1 + boxes ≡ 2 * counts.bisections + 1 → spare + (length rest + 1) ≡ rules.bisections + 1 → left + opened_count step ≡ spare + 1
     → AreFew counts boxes → counts.bisections ≤ rules.bisections
     → GoesOn rules rest splits step part boxes left (counts_after (counts_with_cuts counts cuts) step)
-goes_on rows rules rest splits id (Inside n clock lo hi) part boxes spare left cuts counts ends same few_cuts opened spared change few within = record {
+goes_on test rules rest splits id (Inside n clock lo hi) part boxes spare left cuts counts ends same few_cuts opened spared change few within = record {
   splits_is = same;
   opened = omega (arith, opened, ap length (append-nil rest));
   spared = omega (arith, spared, change, ap length (append-nil rest));
   few = record { inside = omega (arith, few.inside); edge = omega (arith, few.edge); outside = omega (arith, few.outside, few_cuts); splits = omega (arith, few.splits) };
   within = within;
 }
-goes_on rows rules rest splits id (Edge n lo hi) part boxes spare left cuts counts ends same few_cuts opened spared change few within = record {
+goes_on test rules rest splits id (Edge n lo hi) part boxes spare left cuts counts ends same few_cuts opened spared change few within = record {
   splits_is = same;
   opened = omega (arith, opened, ap length (append-nil rest));
   spared = omega (arith, spared, change, ap length (append-nil rest));
   few = record { inside = omega (arith, few.inside); edge = omega (arith, few.edge); outside = omega (arith, few.outside, few_cuts); splits = omega (arith, few.splits) };
   within = within;
 }
-goes_on rows rules rest splits id (Outside n) part boxes spare left cuts counts ends same few_cuts opened spared change few within = record {
+goes_on test rules rest splits id (Outside n) part boxes spare left cuts counts ends same few_cuts opened spared change few within = record {
   splits_is = same;
   opened = omega (arith, opened, ap length (append-nil rest));
   spared = omega (arith, spared, change, ap length (append-nil rest));
   few = record { inside = omega (arith, few.inside); edge = omega (arith, few.edge); outside = omega (arith, few.outside, few_cuts); splits = omega (arith, few.splits) };
   within = within;
 }
-goes_on rows rules rest splits id (Split n axis) part boxes spare left cuts counts ends same few_cuts opened spared change few within = record {
+goes_on test rules rest splits id (Split n axis) part boxes spare left cuts counts ends same few_cuts opened spared change few within = record {
   splits_is = ap (λ s. s + 1) same;
   opened = omega (arith, opened, length-append rest (opened_by splits (Split n axis) part));
   spared = omega (arith, spared, change, length-append rest (opened_by splits (Split n axis) part));
   few = record { inside = omega (arith, few.inside); edge = omega (arith, few.edge); outside = omega (arith, few.outside, few_cuts); splits = omega (arith, few.splits) };
   within = omega (arith, ends);
 }
-goes_on rows rules rest splits id (Cut n face bound) part boxes spare left cuts counts ends same few_cuts opened spared change few within = absurd ends
+goes_on test rules rest splits id (Cut n face bound) part boxes spare left cuts counts ends same few_cuts opened spared change few within = absurd ends
 
 -- a box that is split has two points at least on its longest side
-pub can_open : (rows : List Row) (rules : Rules) (splits id : ℕ) (step : Step) (part : GridBox) → Closes rows rules splits id part step → CanOpen step part
-can_open rows rules splits id (Split n axis) part (is, undecided, may, longest) =
+pub can_open : (test : BoxTest) (rules : Rules) (splits id : ℕ) (step : Step) (part : GridBox) → Closes test rules splits id part step → CanOpen step part
+can_open test rules splits id (Split n axis) part (is, undecided, may, longest) =
     omega (arith, ints, above_is (side_at axis part).hi (side_at axis part).lo, longest.longest, may.0, rules.wide)
-can_open rows rules splits id (Outside n) part ends = tt
-can_open rows rules splits id (Inside n clock lo hi) part ends = tt
-can_open rows rules splits id (Edge n lo hi) part ends = tt
-can_open rows rules splits id (Cut n face bound) part ends = absurd ends
+can_open test rules splits id (Outside n) part ends = tt
+can_open test rules splits id (Inside n clock lo hi) part ends = tt
+can_open test rules splits id (Edge n lo hi) part ends = tt
+can_open test rules splits id (Cut n face bound) part ends = absurd ends
 
 -- ---- a box is done
 
+-- the steps of a box, by the paving that is underway
+pub steps_underway : {L : Type 0} {took : L → Step → GridBox → L → Type 0} {test : BoxTest} {rules : Rules} {root : GridBox} {first now : L} {lists : List (List Item)} {spare : ℕ} {counts : Counts}
+    (u : IsUnderway took test rules root first now lists spare counts) (box : WaitingBox) (own : List ShownStep)
+    → AreStepsOf test rules counts.bisections box own → AreStepsOf u.paving.test rules u.paving.splits box own
+steps_underway {test = test} {rules = rules} {root = root} u box own are =
+    subst (λ (t : BoxTest). AreStepsOf t rules u.paving.splits box own) (sym (same_test rules (first_paving test root) u.paving u.boxes u.paves))
+    (subst (λ (s : ℕ). AreStepsOf test rules s box own) (sym u.splits_is) are)
+
 -- the box was worked on, before what it opens waits
-module _ {L : Type 0} (took : L → Step → GridBox → L → Type 0) (rows : List Row) (rules : Rules) (root : GridBox) (first now last : L) (lists mid : List (List Item)) (spare : ℕ) (counts : Counts) (next : Item) (ended : Ended)
-    (u : IsUnderway took rows rules root first now lists spare counts) (takes : Takes lists (Some next) mid)
-    (t : TookBox took (AreStepsOf rows rules counts.bisections (box_of next)) now ended last) where
+module _ {L : Type 0} (took : L → Step → GridBox → L → Type 0) (test : BoxTest) (rules : Rules) (root : GridBox) (first now last : L) (lists mid : List (List Item)) (spare : ℕ) (counts : Counts) (next : Item) (ended : Ended)
+    (u : IsUnderway took test rules root first now lists spare counts) (takes : Takes lists (Some next) mid)
+    (t : TookBox took (AreStepsOf test rules counts.bisections (box_of next)) now ended last) where
   pub can_open_left : CanOpen ended.step (grid_box ended.left)
-  can_open_left = can_open rows rules counts.bisections next.id ended.step (grid_box ended.left) (ends_box took rows rules counts.bisections next now last ended t).0
+  can_open_left = can_open test rules counts.bisections next.id ended.step (grid_box ended.left) (ends_box took test rules counts.bisections next now last ended t).0
 
   goes_on_here : (left : ℕ) → ended.cuts ≤ 1800 → left + opened_count ended.step ≡ spare + 1
       → (h : IsInHand u.paving.waiting next mid)
       → GoesOn rules h.rest u.paving.splits ended.step (grid_box ended.left) (length u.boxes) left (counts_with_box counts ended)
   goes_on_here left few change h =
-      goes_on rows rules h.rest u.paving.splits next.id ended.step (grid_box ended.left) (length u.boxes) spare left ended.cuts counts
-      (subst (λ (s : ℕ). Closes rows rules s next.id (grid_box ended.left) ended.step) (sym u.splits_is) (ends_box took rows rules counts.bisections next now last ended t).0)
+      goes_on test rules h.rest u.paving.splits next.id ended.step (grid_box ended.left) (length u.boxes) spare left ended.cuts counts
+      (subst (λ (s : ℕ). Closes test rules s next.id (grid_box ended.left) ended.step) (sym u.splits_is) (ends_box took test rules counts.bisections next now last ended t).0)
       u.splits_is few (omega (arith, u.opened, h.one_less)) (omega (arith, u.spared, h.one_less)) change u.few u.within
 
   pub more_underway : (new : List (List Item)) (left : ℕ) (after : Counts) → ended.cuts ≤ 1800 → left + opened_count ended.step ≡ spare + 1
       → ((waiting : List WaitingBox) → IsQueued waiting mid → IsQueued (waiting ++ opened_by counts.bisections ended.step (grid_box ended.left)) new)
       → after ≡ counts_with_box counts ended
-      → IsUnderway took rows rules root first last new left after
+      → IsUnderway took test rules root first last new left after
   more_underway new left after few change opened same =
       let h = in_hand u.paving.waiting lists mid next u.queued takes in
       let on = goes_on_here left few change h in
       let own : List ShownStep = t.cuts ++ last_of ended ∷ [] in
-      let in_turn = (ends_box took rows rules counts.bisections next now last ended t).1 in
+      let in_turn = (ends_box took test rules counts.bisections next now last ended t).1 in
       let steps = joined_more u.boxes own in
-      let rested : Paving = record { waiting = h.rest; splits = u.paving.splits } in
-      let are : AreStepsOf rows rules u.paving.splits (box_of next) own = subst (λ (s : ℕ). AreStepsOf rows rules s (box_of next) own) (sym u.splits_is) t.are in
+      let rested : Paving = record u.paving { waiting = h.rest } in
+      let are = steps_underway u (box_of next) own t.are in
       rw same (record {
         boxes = u.boxes ++ own ∷ [];
         paving = beyond rested (last_of ended);
-        paves = subst (λ (p : Paving). PavesTo rows rules (first_paving root) (u.boxes ++ own ∷ []) p) (opens_last rows rules u.paving.splits (box_of next) t.cuts (last_of ended) rested are)
-            (paves_more rows rules (first_paving root) u.paving u.boxes (box_of next) h.rest own u.paves h.is_next are);
+        paves = subst (λ (p : Paving). PavesTo rules (first_paving test root) (u.boxes ++ own ∷ []) p) (opens_last u.paving.test rules u.paving.splits (box_of next) t.cuts (last_of ended) rested are)
+            (paves_more rules (first_paving test root) u.paving u.boxes (box_of next) h.rest own u.paves h.is_next are);
         taken = subst (λ (l : List ShownStep). TookAll took first l last) (sym steps) (took_both took (joined u.boxes) own first now last u.taken t.taken);
         queued = subst (λ (s : ℕ). IsQueued (h.rest ++ opened_by s ended.step (grid_box ended.left)) new) (sym u.splits_is) (opened h.rest h.queued);
         counted = subst (λ (l : List ShownStep). IsCountOf (counts_with_box counts ended) l) (sym steps)
-            (counted_box (test_of rules rows) next.id (grid_box next.part) counts ended (joined u.boxes) t.cuts t.counted in_turn u.counted);
+            (counted_box test next.id (grid_box next.part) counts ended (joined u.boxes) t.cuts t.counted in_turn u.counted);
         few = subst (λ (n : ℕ). AreFew (counts_with_box counts ended) n) (sym (length-append u.boxes (own ∷ []))) on.few;
         splits_is = on.splits_is;
         opened = omega (arith, on.opened, length-append u.boxes (own ∷ []));

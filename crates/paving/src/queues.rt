@@ -3,7 +3,7 @@
 ghost use Rattle.std.specs.Prelude.{◌≡◌, ◌<◌, ◌≤◌, ◌+◌, ◌∷◌, [], ◌++◌, MatchOption};
 ghost use Rattle.box_pool.specs.Lists.{AllEmpty};
 ghost use Rattle.grid_model.specs.Boxes.{grid_box};
-ghost use Rattle.sat_model.specs.Waiting.{first_paving, opened_by};
+ghost use Rattle.sat_model.specs.Waiting.{first_waiting, opened_by};
 
 use crate::bits::bits_of;
 use box_pool::{Item, Pool};
@@ -33,7 +33,7 @@ impl Queues {
     pub fn of_root(pool: Pool, root: &Box3) -> Queues
         requires empty { AllEmpty pool.lists }
         requires room { 0 < pool.spare }
-        ensures queued { IsQueued (first_paving (grid_box root.now)).waiting result.lists }
+        ensures queued { IsQueued (first_waiting (grid_box root.now)) result.lists }
         ensures spare { result.spare + 1 ≡ pool.spare }
     {
         let mut queues = Queues { pool };

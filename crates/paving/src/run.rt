@@ -21,10 +21,10 @@ use sat_model::{Row, Rules};
 /// Paves the root of the plan, box by box, and hands each step to the log. Ends with the counts of
 /// the steps, or with the first fault of the log. It takes no memory: that of the plan is enough.
 pub fn pave<L: Steps>(plan: Plan, log: &mut L) -> Result<Counts, StepFault>
-    ensures run { IfOk result (λ counts. IsRun L.took plan.rows plan.rules plan.root
-        log.old log.new counts) }
+    ensures run { IfOk result (λ counts. IsRun L.took plan.test plan.rules
+        (grid_box plan.root) log.old log.new counts) }
     ensures broken { IfErr result (λ fault. IsBroken L.took L.broke L.room fault
-        plan.rows plan.rules plan.root log.old log.new) }
+        plan.test plan.rules (grid_box plan.root) log.old log.new) }
     ensures failed { result ≡ Err StepFault.Failed → Rose (L.faults log.old) (L.faults log.new) }
     ensures counted { L.faults log.old ≤ L.faults log.new }
     ensures budget { IfOk result (λ counts. counts.bisections ≤ plan.rules.bisections) }
@@ -53,10 +53,10 @@ fn pave_box<L: Steps>(
     requires trees { AreTreesFor (test_of rules.now rows.now) trees.now }
     requires empty { AllEmpty pool.lists }
     requires room { pool.spare ≡ rules.now.bisections + 1 }
-    ensures run { IfOk result (λ counts. IsRun L.took rows.now rules.now (grid_box root.now)
-        log.old log.new counts) }
+    ensures run { IfOk result (λ counts. IsRun L.took
+        (test_of rules.now rows.now) rules.now (grid_box root.now) log.old log.new counts) }
     ensures broken { IfErr result (λ fault. IsBroken L.took L.broke L.room fault
-        rows.now rules.now (grid_box root.now) log.old log.new) }
+        (test_of rules.now rows.now) rules.now (grid_box root.now) log.old log.new) }
     ensures failed { result ≡ Err StepFault.Failed → Rose (L.faults log.old) (L.faults log.new) }
     ensures counted { L.faults log.old ≤ L.faults log.new }
     ensures budget { IfOk result (λ counts. counts.bisections ≤ rules.now.bisections) }

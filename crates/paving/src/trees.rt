@@ -95,12 +95,11 @@ pub fn work_on_box<L: Steps>(
     next: &Item,
     log: &mut L,
 ) -> Result<Ended, StepFault>
-    requires test { test_value test.old ≡ test_of rules.now (test_value test.old).rows }
     requires trees { AreTreesFor (test_value test.old) trees.now }
-    ensures took { IfOk result (λ ended. TookBox L.took (AreStepsOf (test_value test.old).rows
+    ensures took { IfOk result (λ ended. TookBox L.took (AreStepsOf (test_value test.old)
         rules.now splits (box_of next.now)) log.old ended log.new) }
     ensures broken { IfErr result (λ fault. BrokeOff L.took L.broke L.room fault
-        (AreStepsOf (test_value test.old).rows rules.now splits (box_of next.now))
+        (AreStepsOf (test_value test.old) rules.now splits (box_of next.now))
         log.old log.new) }
     ensures few { IfOk result (λ ended. ended.cuts ≤ 1800) }
     ensures failed { result ≡ Err StepFault.Failed → Rose (L.faults log.old) (L.faults log.new) }

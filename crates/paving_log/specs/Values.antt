@@ -1,7 +1,7 @@
 -- The plain value of a log.
 use Rattle.std.specs.Prelude.{map}
 use Rattle.sat_model.specs.Logs.{Block, LogValue}
-use Rattle.live_boxes.specs.Stages.{box_option}
+use Rattle.live_boxes.specs.LiveValues.{box_option}
 use Rattle.logged_steps.specs.Steps.{steps_of}
 use Rattle.paving_log.specs.declared.log.Log.{Log}
 use Rattle.paving_log.specs.declared.log.LogEpoch.{LogEpoch}

@@ -2,9 +2,9 @@
 
 ghost use Rattle.std.specs.Prelude.{◌≡◌, map, option_to_list, IfOk};
 ghost use Rattle.grid_model.specs.Boxes.{grid_box};
-ghost use Rattle.sat_model.specs.Fold.{first_stage, taken_by, pieces};
+ghost use Rattle.sat_model.specs.Fold.{first_boxes, taken_by, pieces};
 ghost use Rattle.live_boxes.specs.Folding.{StepsFold};
-ghost use Rattle.live_boxes.specs.Stages.{box_option, stage_of};
+ghost use Rattle.live_boxes.specs.LiveValues.{box_option, live_value};
 ghost use Rattle.logged_steps.specs.Steps.{steps_of};
 ghost use Rattle.paving_log.specs.CoverBoxes.{BlockFolds, kept_parts, cover_of};
 ghost use Rattle.paving_log.specs.Values.{block_of};
@@ -19,7 +19,7 @@ use std::alloc::{AllocError, Global};
 /// The box that the step closes inside or at the edge.
 fn kept_by(live: &Live, step: &Step) -> Option<Box3>
     ensures { option_to_list (box_option result)
-        ≡ kept_parts (taken_by (stage_of live.now) step.now) }
+        ≡ kept_parts (taken_by (live_value live.now) step.now) }
 {
     match step {
         Step::Inside { id, .. } | Step::Edge { id, .. } => live.box_of(*id),
@@ -29,7 +29,7 @@ fn kept_by(live: &Live, step: &Step) -> Option<Box3>
 
 /// The boxes that the steps close inside or at the edge, in order of closing.
 fn boxes_kept(alloc: Global, root: &Box3, steps: &LoggedSteps) -> Result<Vec<Box3>, AllocError>
-    requires { StepsFold (first_stage (grid_box root.now)) (steps_of steps.now) }
+    requires { StepsFold (first_boxes (grid_box root.now)) (steps_of steps.now) }
     ensures { IfOk result (λ boxes. map grid_box boxes.items
         ≡ kept_parts (pieces (grid_box root.now) (steps_of steps.now))) }
 {

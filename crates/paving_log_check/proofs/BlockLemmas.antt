@@ -6,12 +6,13 @@ use Rattle.sat_model.specs.declared.rows.SatEntry.{SatEntry}
 use Rattle.sat_model.specs.declared.steps.Step.{Step}
 use Rattle.grid_model.specs.declared.boxes.Box3.{Box3}
 use Rattle.grid_model.specs.Boxes.{GridBox, grid_box}
+use Rattle.sat_model.specs.BoxTests.{test_of, test_in}
 use Rattle.sat_model.specs.Cover.{kept_in, kept_boxes_in, kept_boxes}
-use Rattle.sat_model.specs.Fold.{Stage, first_stage, after}
+use Rattle.sat_model.specs.Stages.{Stage, first_stage, after}
 use Rattle.sat_model.specs.Logs.{Block, LogValue, rows_of, lines_with, lines_in, IsNumberedFrom}
 use Rattle.sat_model.specs.Verdicts.{StepsPass, StepsFail, SuitsNumber, CountsRows, BlockPasses, BlockFails, BlocksPass, BlocksFail, Judged, FirstFault}
 use Rattle.paving_log.specs.RowsText.{OwnPasses}
-use Rattle.live_boxes.specs.Stages.{box_option}
+use Rattle.live_boxes.specs.LiveValues.{box_option}
 use Rattle.logged_steps.specs.Steps.{steps_of}
 use Rattle.paving_log.specs.Values.{block_of}
 use Rattle.paving_log.specs.declared.log.LogEpoch.{LogEpoch}
@@ -30,7 +31,7 @@ enough_rows false q n sats is suits counts most = (omega arith, omega (arith, ro
 pub paved_passes : (rules : Rules) (before : Option ℕ) (epoch : LogEpoch) (root : Box3) (rows : List Row) (steps : List Step)
     → epoch.root ≡ Some root → rows ≡ rows_of epoch.sats.items → steps ≡ steps_of epoch.steps
     → OwnPasses rules before (block_of epoch)
-    → StepsPass rows rules epoch.done (first_stage (grid_box root)) steps → BlockPasses rules before (block_of epoch)
+    → StepsPass rules epoch.done (first_stage (test_of rules rows) (grid_box root)) steps → BlockPasses rules before (block_of epoch)
 paved_passes rules before epoch root rows steps paved same_rows same_steps own passes = record {
   head = own.head;
   sats = own.sats;
@@ -40,18 +41,18 @@ paved_passes rules before epoch root rows steps paved same_rows same_steps own p
 pub paved_fails : (rules : Rules) (before : Option ℕ) (epoch : LogEpoch) (root : Box3) (k number line : ℕ) (rows : List Row) (steps : List Step)
     → epoch.root ≡ Some root → rows ≡ rows_of epoch.sats.items → steps ≡ steps_of epoch.steps
     → OwnPasses rules before (block_of epoch)
-    → StepsFail rows rules epoch.done (first_stage (grid_box root)) steps k number
+    → StepsFail rules epoch.done (first_stage (test_of rules rows) (grid_box root)) steps k number
     → line ≡ epoch.line + 2 + length epoch.sats.items + k → BlockFails rules before (block_of epoch) line number
 paved_fails rules before epoch root k number line rows steps paved same_rows same_steps own fails is_line =
     inr (inr (own.head, own.sats, (grid_box root, k, ap box_option paved, rw (same_rows, same_steps) at fails, is_line)))
 
 -- ---- a failing line is one of the block's
 
-pub steps_within : (rows : List Row) (rules : Rules) (done : ℕ) (stage : Stage) (steps : List Step) (k number : ℕ)
-    → StepsFail rows rules done stage steps k number → k ≤ length steps
-steps_within rows rules done stage [] k number f = omega (arith, f.0)
-steps_within rows rules done stage (step ∷ steps) zero number f = omega arith
-steps_within rows rules done stage (step ∷ steps) (suc k) number f = omega (arith, steps_within rows rules done (after stage step) steps k number f.1)
+pub steps_within : (rules : Rules) (done : ℕ) (stage : Stage) (steps : List Step) (k number : ℕ)
+    → StepsFail rules done stage steps k number → k ≤ length steps
+steps_within rules done stage [] k number f = omega (arith, f.0)
+steps_within rules done stage (step ∷ steps) zero number f = omega arith
+steps_within rules done stage (step ∷ steps) (suc k) number f = omega (arith, steps_within rules done (after stage step) steps k number f.1)
 
 sats_within : (block : Block) (root : Option GridBox) → 1 + length block.sats ≤ lines_with block root
 sats_within block None = omega arith
@@ -63,7 +64,7 @@ fault_within rules before block line number f = elim f [
   | inr g ↦ elim g [
     | inl (head, (k, first, is_line), n) ↦ omega (arith, sats_within block block.root, first.repeats.is_line)
     | inr (head, none, (root, k, paved, fails, is_line)) ↦
-        omega (arith, ap (λ (o : Option GridBox). lines_with block o) paved, steps_within (rows_of block.sats) rules block.done (first_stage root) block.steps k number fails)
+        omega (arith, ap (λ (o : Option GridBox). lines_with block o) paved, steps_within rules block.done (first_stage (test_in rules block) root) block.steps k number fails)
   ]
 ]
 

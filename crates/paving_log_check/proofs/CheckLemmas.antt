@@ -32,9 +32,9 @@ module _ (m : Meaning) where
   pub record IsUnderway (rules : Rules) (searches : List Search) (log : LogValue) (before : Option ℕ) (next boxes : ℕ)
       (rest : List Search) (left : List Block) : Type 0 where
     pub whole : List (List SatLine) → List (List SatLine)
-    pub pass : (owns : List (List SatLine)) → AdmitsFrom m.zenith rules before owns rest left → AdmitsFrom m.zenith rules None (whole owns) searches log.blocks
-    pub fail : (owns : List (List SatLine)) (fault : Fault) → FailsFrom m.zenith rules next before owns rest left fault
-        → FailsFrom m.zenith rules 3 None (whole owns) searches log.blocks fault
+    pub pass : (owns : List (List SatLine)) → AdmitsFrom m.delays rules before owns rest left → AdmitsFrom m.delays rules None (whole owns) searches log.blocks
+    pub fail : (owns : List (List SatLine)) (fault : Fault) → FailsFrom m.delays rules next before owns rest left fault
+        → FailsFrom m.delays rules 3 None (whole owns) searches log.blocks fault
     pub own : (owns : List (List SatLine)) → AreOwn m rest owns → AreOwn m searches (whole owns)
     pub long : (owns : List (List SatLine)) → length owns ≡ length rest → length (whole owns) ≡ length searches
     pub kept : boxes + kept_boxes_in left ≡ kept_boxes log
@@ -85,26 +85,26 @@ module _ (m : Meaning) where
   pub rules_refused : (rules : Rules) (searches : List Search) (log : LogValue) (fault : Fault) → (AreSameRules rules log.rules → ⊥)
       → fault.line ≡ 2 → fault.number ≡ 50 → ShowsNoSpans fault → IsRefused m searches rules log fault
   rules_refused rules searches log fault differ line number none =
-      let first : FailsFirst m.zenith searches [] rules log fault = inl (record { differ = differ; line = line; number = number; no_spans = none }) in
+      let first : FailsFirst m.delays searches [] rules log fault = inl (record { differ = differ; line = line; number = number; no_spans = none }) in
       record {
         owns = [];
         are_own = tt;
         first = first;
-        refused = not_both m.zenith searches [] rules log fault first;
-        only = λ other f. one_fault m.zenith searches [] rules log other fault f first;
+        refused = not_both m.delays searches [] rules log fault first;
+        only = λ other f. one_fault m.delays searches [] rules log other fault f first;
         narrow = λ is. absurd (omega (arith, number));
       }
 
   refused_by : (rules : Rules) (searches : List Search) (log : LogValue) (fault : Fault) (owns : List (List SatLine)) → AreSameRules rules log.rules
-      → AreOwn m searches owns → FailsFrom m.zenith rules 3 None owns searches log.blocks fault → IsRefused m searches rules log fault
+      → AreOwn m searches owns → FailsFrom m.delays rules 3 None owns searches log.blocks fault → IsRefused m searches rules log fault
   refused_by rules searches log fault owns same own fails =
-      let first : FailsFirst m.zenith searches owns rules log fault = inr (same, fails) in
+      let first : FailsFirst m.delays searches owns rules log fault = inr (same, fails) in
       record {
         owns = owns;
         are_own = own;
         first = first;
-        refused = not_both m.zenith searches owns rules log fault first;
-        only = λ other f. one_fault m.zenith searches owns rules log other fault f first;
+        refused = not_both m.delays searches owns rules log fault first;
+        only = λ other f. one_fault m.delays searches owns rules log other fault f first;
         narrow = log_narrow m rules 3 None owns searches log.blocks fault own fails;
       }
 
@@ -122,7 +122,7 @@ module _ (m : Meaning) where
       (search : Search) (more : List Search) (block : Block) (behind : List Block) (found fault : Fault)
       → IsUnderway rules searches log before next boxes rest left → AreSameRules rules log.rules → rest ≡ search ∷ more → left ≡ block ∷ behind
       → IsOf rules before search.epoch block → EpochRefused m rules search block found
-      → ((own : List SatLine) → EpochFails m.zenith rules search.root own block found → BlockFault m.zenith rules (next + lines_in block) own search more block behind fault)
+      → ((own : List SatLine) → EpochFails m.delays rules search.root own block found → BlockFault m.delays rules (next + lines_in block) own search more block behind fault)
       → IsRefused m searches rules log fault
   block_refused {rules = rules} {searches = searches} {log = log} {next = next} search more block behind found fault u same is first is_of refused fails =
       refused_by rules searches log fault (u.whole (refused.own ∷ [])) same (u.own (refused.own ∷ []) (rw is (refused.are_own, none_own more)))

@@ -4,14 +4,15 @@ use Rattle.std.specs.Prelude.{ℤ, pos, slice_get}
 use Rattle.std.proofs.lemmas.Bool.{cases_order}
 use Rattle.epoch_selection.specs.Searches.{Search}
 use Rattle.grid_model.specs.Boxes.{Side, GridBox, span_side}
-use Rattle.sat_model.specs.Fold.{first_stage}
-use Rattle.sat_model.specs.Logs.{Block, LogValue, rows_of, lines_in}
+use Rattle.sat_model.specs.BoxTests.{test_in}
+use Rattle.sat_model.specs.Stages.{first_stage}
+use Rattle.sat_model.specs.Logs.{Block, LogValue, lines_in}
 use Rattle.sat_model.specs.Relaxed.{ends}
 use Rattle.sat_model.specs.Verdicts.{NoneRepeats, HeadPasses, StepsPass, StepsFail}
 use Rattle.sat_model.specs.declared.rules.Rules.{Rules}
 use Rattle.sat_model.specs.declared.rows.SatEntry.{SatEntry}
 use Rattle.sat_model.specs.declared.rows.SatEntry.TheVariants as entry
-use Rattle.grid_model.specs.declared.spans.Span.{Span}
+use Rattle.gnss_model.specs.declared.delays.Delays.{Delays}
 use Rattle.sat_model.proofs.FaultLemmas.{one_first_fault}
 use Rattle.sat_model.proofs.VerdictLemmas.{block_not_both}
 use Rattle.sat_rows.specs.declared.lines.SatLine.{SatLine}
@@ -80,15 +81,15 @@ head_alone : (rules : Rules) (block : Block) (root : GridBox) → HeadPasses rul
 head_alone rules block root = record { later = tt; suits = omega arith; counts = tt }
 
 steps_not_both : (rules : Rules) (root : GridBox) (block : Block) (k number : ℕ) → NoneRepeats block.sats
-    → StepsPass (rows_of block.sats) rules block.done (first_stage root) block.steps
-    → StepsFail (rows_of block.sats) rules block.done (first_stage root) block.steps k number → ⊥
+    → StepsPass rules block.done (first_stage (test_in rules block) root) block.steps
+    → StepsFail rules block.done (first_stage (test_in rules block) root) block.steps k number → ⊥
 steps_not_both rules root block k number none h f =
     block_not_both rules None (alone block root) (0 + 2 + length block.sats + k) number
     (record { head = head_alone rules block root; sats = none; body = h }) (inr (inr (head_alone rules block root, none, (root, k, refl, f, refl))))
 
 one_in_steps : (rules : Rules) (root : GridBox) (block : Block) (j n k m : ℕ) → NoneRepeats block.sats
-    → StepsFail (rows_of block.sats) rules block.done (first_stage root) block.steps j n
-    → StepsFail (rows_of block.sats) rules block.done (first_stage root) block.steps k m → (j ≡ k) × (n ≡ m)
+    → StepsFail rules block.done (first_stage (test_in rules block) root) block.steps j n
+    → StepsFail rules block.done (first_stage (test_in rules block) root) block.steps k m → (j ≡ k) × (n ≡ m)
 one_in_steps rules root block j n k m none f g =
     let log : LogValue = record { rules = rules; blocks = alone block root ∷ [] } in
     let head = head_alone rules block root in
@@ -96,23 +97,23 @@ one_in_steps rules root block j n k m none f g =
     (inl (inr (inr (head, none, (root, j, refl, f, refl))))) (inl (inr (inr (head, none, (root, k, refl, g, refl))))) in
     (omega (arith, same.0), same.1)
 
--- by the delay at the zenith that is mapped
-module _ (zenith : Option Span) where
+-- by the delays that are mapped
+module _ (delays : Delays) where
   -- ---- rows
 
-  row_not_both : (theirs : SatEntry) (ours : SatLine) (fault : Fault) → RowPasses zenith theirs ours → RowFails zenith theirs ours fault → ⊥
-  row_not_both (entry.Row row) (Usable ours) fault h (inl f) = narrow_not_held (compared zenith row ours) (span_side fault.theirs) (span_side fault.ours) h.0 f.0
+  row_not_both : (theirs : SatEntry) (ours : SatLine) (fault : Fault) → RowPasses delays theirs ours → RowFails delays theirs ours fault → ⊥
+  row_not_both (entry.Row row) (Usable ours) fault h (inl f) = narrow_not_held (compared delays row ours) (span_side fault.theirs) (span_side fault.ours) h.0 f.0
   row_not_both (entry.Row row) (Usable ours) fault h (inr f) = f.1 h.1
   row_not_both (entry.Row row) (Skipped sat skip) fault h f = f
   row_not_both (entry.Skipped sat skip) (Usable ours) fault h f = f
   row_not_both (entry.Skipped sat skip) (Skipped other why) fault h f = f
 
-  one_in_row : (theirs : SatEntry) (ours : SatLine) (a b : Fault) → RowFails zenith theirs ours a → RowFails zenith theirs ours b → AreAlike a b
+  one_in_row : (theirs : SatEntry) (ours : SatLine) (a b : Fault) → RowFails delays theirs ours a → RowFails delays theirs ours b → AreAlike a b
   one_in_row (entry.Row row) (Usable ours) a b (inl f) (inl g) =
-      let same = one_narrow (compared zenith row ours) (span_side a.theirs) (span_side a.ours) (span_side b.theirs) (span_side b.ours) f.0 g.0 in
+      let same = one_narrow (compared delays row ours) (span_side a.theirs) (span_side a.ours) (span_side b.theirs) (span_side b.ours) f.0 g.0 in
       record { number = f.1 ∙ sym g.1; theirs = ap side_ends same.0; ours = ap side_ends same.1 }
-  one_in_row (entry.Row row) (Usable ours) a b (inl f) (inr g) = absurd (narrow_not_held (compared zenith row ours) (span_side a.theirs) (span_side a.ours) g.0 f.0)
-  one_in_row (entry.Row row) (Usable ours) a b (inr f) (inl g) = absurd (narrow_not_held (compared zenith row ours) (span_side b.theirs) (span_side b.ours) f.0 g.0)
+  one_in_row (entry.Row row) (Usable ours) a b (inl f) (inr g) = absurd (narrow_not_held (compared delays row ours) (span_side a.theirs) (span_side a.ours) g.0 f.0)
+  one_in_row (entry.Row row) (Usable ours) a b (inr f) (inl g) = absurd (narrow_not_held (compared delays row ours) (span_side b.theirs) (span_side b.ours) f.0 g.0)
   one_in_row (entry.Row row) (Usable ours) a b (inr f) (inr g) = both_plain a b (f.2 ∙ sym g.2) f.3 g.3
   one_in_row (entry.Row row) (Skipped sat skip) a b f g = absurd f
   one_in_row (entry.Skipped sat skip) (Usable ours) a b f g = absurd f
@@ -120,37 +121,37 @@ module _ (zenith : Option Span) where
 
   -- ---- satellite lines
 
-  line_not_both : {sats : List SatEntry} {lines : List SatLine} {k : ℕ} (fault : Fault) → LinePasses zenith sats lines k → LineFails zenith sats lines k fault → ⊥
+  line_not_both : {sats : List SatEntry} {lines : List SatLine} {k : ℕ} (fault : Fault) → LinePasses delays sats lines k → LineFails delays sats lines k fault → ⊥
   line_not_both fault h (inl f) = f.0 h.is_expected
   line_not_both fault h (inr f) =
-      row_not_both f.is_expected.theirs f.is_expected.ours fault (row_at (RowPasses zenith) h.is_expected f.is_expected h.passes) f.fails
+      row_not_both f.is_expected.theirs f.is_expected.ours fault (row_at (RowPasses delays) h.is_expected f.is_expected h.passes) f.fails
 
-  one_in_line : {sats : List SatEntry} {lines : List SatLine} {k : ℕ} (a b : Fault) → LineFails zenith sats lines k a → LineFails zenith sats lines k b → AreAlike a b
+  one_in_line : {sats : List SatEntry} {lines : List SatLine} {k : ℕ} (a b : Fault) → LineFails delays sats lines k a → LineFails delays sats lines k b → AreAlike a b
   one_in_line a b (inl f) (inl g) = both_plain a b (f.1 ∙ sym g.1) f.2 g.2
   one_in_line a b (inl f) (inr g) = absurd (f.0 g.is_expected)
   one_in_line a b (inr f) (inl g) = absurd (g.0 f.is_expected)
   one_in_line a b (inr f) (inr g) =
-      one_in_row f.is_expected.theirs f.is_expected.ours a b f.fails (row_at (λ t o. RowFails zenith t o b) g.is_expected f.is_expected g.fails)
+      one_in_row f.is_expected.theirs f.is_expected.ours a b f.fails (row_at (λ t o. RowFails delays t o b) g.is_expected f.is_expected g.fails)
 
-  sats_not_both : {sats : List SatEntry} {lines : List SatLine} (k : ℕ) (fault : Fault) → SatsPass zenith sats lines → SatsFail zenith sats lines k fault → ⊥
+  sats_not_both : {sats : List SatEntry} {lines : List SatLine} (k : ℕ) (fault : Fault) → SatsPass delays sats lines → SatsFail delays sats lines k fault → ⊥
   sats_not_both k fault h f = line_not_both fault (h k f.is_line) f.here
 
-  one_in_sats : {sats : List SatEntry} {lines : List SatLine} (j k : ℕ) (a b : Fault) → SatsFail zenith sats lines j a → SatsFail zenith sats lines k b → (j ≡ k) × AreAlike a b
+  one_in_sats : {sats : List SatEntry} {lines : List SatLine} (j k : ℕ) (a b : Fault) → SatsFail delays sats lines j a → SatsFail delays sats lines k b → (j ≡ k) × AreAlike a b
   one_in_sats {sats = sats} {lines = lines} j k a b f g = elim (cases_order j k) [
-    | inl same ↦ (same, one_in_line a b f.here (subst (λ i. LineFails zenith sats lines i b) (sym same) g.here))
+    | inl same ↦ (same, one_in_line a b f.here (subst (λ i. LineFails delays sats lines i b) (sym same) g.here))
     | inr other ↦ elim other [
       | inl less ↦ absurd (line_not_both a (g.before j less) f.here)
       | inr more ↦ absurd (line_not_both b (f.before k more) g.here)
     ]
   ]
 
-  none_repeats : (sats : List SatEntry) (lines : List SatLine) → SatsPass zenith sats lines → NoneRepeats sats
+  none_repeats : (sats : List SatEntry) (lines : List SatLine) → SatsPass delays sats lines → NoneRepeats sats
   none_repeats sats lines h k r = (h k r.is_line).is_expected.once r
 
   -- ---- a block
 
   pub epoch_not_both : (rules : Rules) (root : GridBox) (own : List SatLine) (block : Block) (fault : Fault)
-      → EpochPasses zenith rules root own block → EpochFails zenith rules root own block fault → ⊥
+      → EpochPasses delays rules root own block → EpochFails delays rules root own block fault → ⊥
   epoch_not_both rules root own block fault h (inl head) = head.differs h.counts
   epoch_not_both rules root own block fault h (inr (inl sats)) = sats_not_both sats.k fault h.sats sats.fails
   epoch_not_both rules root own block fault h (inr (inr (inl missing))) = absurd (omega (arith, missing.missing, h.whole))
@@ -162,7 +163,7 @@ module _ (zenith : Option Span) where
       ]
 
   one_in_body : (rules : Rules) (root : GridBox) (own : List SatLine) (block : Block) (a b : Fault)
-      → BodyDiffers zenith rules root own block a → BodyDiffers zenith rules root own block b → AreSameFault a b
+      → BodyDiffers delays rules root own block a → BodyDiffers delays rules root own block b → AreSameFault a b
   one_in_body rules root own block a b f g =
       let same = same_some block.root g.theirs f.theirs g.is_root f.is_root in
       one_at rules root block f.theirs a b (none_repeats block.sats (expected block.few own) f.sats) f.fails
@@ -178,7 +179,7 @@ module _ (zenith : Option Span) where
           same_plain a b (omega (arith, f.line, g.line, same.0)) same.1 f.no_spans g.no_spans
 
   pub one_in_epoch : (rules : Rules) (root : GridBox) (own : List SatLine) (block : Block) (a b : Fault)
-      → EpochFails zenith rules root own block a → EpochFails zenith rules root own block b → AreSameFault a b
+      → EpochFails delays rules root own block a → EpochFails delays rules root own block b → AreSameFault a b
   one_in_epoch rules root own block a b (inl f) (inl g) = same_plain a b (f.line ∙ sym g.line) (f.number ∙ sym g.number) f.no_spans g.no_spans
   one_in_epoch rules root own block a b (inl f) (inr (inl g)) = absurd (f.differs g.counts)
   one_in_epoch rules root own block a b (inl f) (inr (inr (inl g))) = absurd (f.differs g.counts)
@@ -201,12 +202,12 @@ module _ (zenith : Option Span) where
   -- ---- the blocks
 
   block_fault_not : (rules : Rules) (behind : ℕ) (own : List SatLine) (search : Search) (rest : List Search) (block : Block) (more : List Block) (fault : Fault)
-      → EpochPasses zenith rules search.root own block → BlockFault zenith rules behind own search rest block more fault → ⊥
+      → EpochPasses delays rules search.root own block → BlockFault delays rules behind own search rest block more fault → ⊥
   block_fault_not rules behind own search rest block more fault h (inl f) = epoch_not_both rules search.root own block fault h f.0
   block_fault_not rules behind own search rest block more fault h (inr (due, (other, fails, line))) = epoch_not_both rules search.root own block other h fails
 
   one_block_fault : (rules : Rules) (behind : ℕ) (own : List SatLine) (search : Search) (rest : List Search) (block : Block) (more : List Block) (a b : Fault)
-      → BlockFault zenith rules behind own search rest block more a → BlockFault zenith rules behind own search rest block more b → AreSameFault a b
+      → BlockFault delays rules behind own search rest block more a → BlockFault delays rules behind own search rest block more b → AreSameFault a b
   one_block_fault rules behind own search rest block more a b (inl f) (inl g) = one_in_epoch rules search.root own block a b f.0 g.0
   one_block_fault rules behind own search rest block more a b (inl f) (inr (due, (other, fails, line))) =
       absurd (due.fails (f.1 ((one_in_epoch rules search.root own block a other f.0 fails).line ∙ line)))
@@ -215,7 +216,7 @@ module _ (zenith : Option Span) where
   one_block_fault rules behind own search rest block more a b (inr (due, f)) (inr (again, g)) = one_due a b due again
 
   pub from_not_both : (rules : Rules) (next : ℕ) (before : Option ℕ) (owns : List (List SatLine)) (searches : List Search) (blocks : List Block) (fault : Fault)
-      → AdmitsFrom zenith rules before owns searches blocks → FailsFrom zenith rules next before owns searches blocks fault → ⊥
+      → AdmitsFrom delays rules before owns searches blocks → FailsFrom delays rules next before owns searches blocks fault → ⊥
   from_not_both rules next before [] searches blocks fault h f = f.fails h
   from_not_both rules next before (own ∷ owns) [] blocks fault h f = h
   from_not_both rules next before (own ∷ owns) (search ∷ rest) [] fault h f = h
@@ -226,7 +227,7 @@ module _ (zenith : Option Span) where
       from_not_both rules (next + lines_in block) (Some block.index) owns rest more fault h.2 f.2
 
   one_from : (rules : Rules) (next : ℕ) (before : Option ℕ) (owns : List (List SatLine)) (searches : List Search) (blocks : List Block) (a b : Fault)
-      → FailsFrom zenith rules next before owns searches blocks a → FailsFrom zenith rules next before owns searches blocks b → AreSameFault a b
+      → FailsFrom delays rules next before owns searches blocks a → FailsFrom delays rules next before owns searches blocks b → AreSameFault a b
   one_from rules next before [] searches blocks a b f g = one_due a b f g
   one_from rules next before (own ∷ owns) [] blocks a b f g = one_due a b f g
   one_from rules next before (own ∷ owns) (search ∷ rest) [] a b f g = one_due a b f g
@@ -248,13 +249,13 @@ module _ (zenith : Option Span) where
 
   -- a log that is admitted by own lines has no fault for them
   pub not_both : (searches : List Search) (owns : List (List SatLine)) (rules : Rules) (log : LogValue) (fault : Fault)
-      → FailsFirst zenith searches owns rules log fault → Admits zenith searches owns rules log → ⊥
+      → FailsFirst delays searches owns rules log fault → Admits delays searches owns rules log → ⊥
   not_both searches owns rules log fault (inl f) h = f.differ h.same_rules
   not_both searches owns rules log fault (inr f) h = from_not_both rules 3 None owns searches log.blocks fault h.blocks f.1
 
   -- a first fault is the only one
   pub one_fault : (searches : List Search) (owns : List (List SatLine)) (rules : Rules) (log : LogValue) (a b : Fault)
-      → FailsFirst zenith searches owns rules log a → FailsFirst zenith searches owns rules log b → AreSameFault a b
+      → FailsFirst delays searches owns rules log a → FailsFirst delays searches owns rules log b → AreSameFault a b
   one_fault searches owns rules log a b (inl f) (inl g) = same_plain a b (f.line ∙ sym g.line) (f.number ∙ sym g.number) f.no_spans g.no_spans
   one_fault searches owns rules log a b (inl f) (inr g) = absurd (f.differ g.0)
   one_fault searches owns rules log a b (inr f) (inl g) = absurd (g.differ f.0)

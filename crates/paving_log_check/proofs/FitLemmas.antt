@@ -14,6 +14,7 @@ use Rattle.grid_model.specs.Ranges.{range_to}
 use Rattle.sat_model.specs.Fitting.{RowValue, low_bounds, high_bounds, IsAllowed, IsSurelyAllowed, IsPossible, IsSure, AllBut}
 use Rattle.sat_model.specs.Fold.{ShownStep, pieces}
 use Rattle.grid_model.specs.Intervals.{Between}
+use Rattle.sat_model.specs.BoxTests.{test_in}
 use Rattle.sat_model.specs.Logs.{Block, rows_of}
 use Rattle.sat_model.specs.Relaxed.{ends}
 use Rattle.grid_model.specs.SearchBoxes.{IsSearchBox}
@@ -22,7 +23,8 @@ use Rattle.sat_model.specs.declared.rules.Rules.{Rules}
 use Rattle.sat_model.specs.declared.rows.Row.{Row}
 use Rattle.sat_model.specs.declared.rows.SatEntry.{SatEntry}
 use Rattle.sat_model.specs.declared.rows.SatEntry.TheVariants as entry
-use Rattle.grid_model.specs.declared.spans.Span.{Span}
+use Rattle.gnss_model.specs.Delays.{is_plain}
+use Rattle.gnss_model.specs.declared.delays.Delays.{Delays}
 use Rattle.sat_model.specs.declared.steps.Step.{Step}
 use Rattle.sat_model.specs.declared.steps.Step.TheVariants.{Cut, Split, Outside, Inside, Edge}
 use Rattle.sat_model.proofs.CoverLemmas.{epoch_cover}
@@ -32,13 +34,13 @@ use Rattle.sat_rows.specs.Meanings.{Meaning, IsSound}
 use Rattle.sat_rows.specs.OwnRows.{HoldsChain, HasBounds, IsOwnRow, AreOwnLines, AreLinesOf}
 use Rattle.sat_rows.specs.declared.lines.SatLine.{SatLine}
 use Rattle.sat_rows.specs.declared.lines.SatLine.TheVariants.{Usable, Skipped}
-use Rattle.live_boxes.specs.Stages.{box_option}
+use Rattle.live_boxes.specs.LiveValues.{box_option}
 use Rattle.paving_log.specs.Values.{block_of}
 use Rattle.paving_log.specs.declared.log.LogEpoch.{LogEpoch}
 use Rattle.paving_log_check.specs.Admissible.{AreOwn, AdmitsFrom}
 use Rattle.paving_log_check.specs.Epochs.{BodyPassesAt}
 use Rattle.paving_log_check.specs.FileCover.{FitsInside, AllFitInside, FitCover, FitBlockCover, BlocksFitCover}
-use Rattle.paving_log_check.specs.Lines.{expected, IsSameLine, HoldsSide, HoldsOwn, HasBound, RowPasses, SatsPass}
+use Rattle.paving_log_check.specs.Lines.{expected, IsSameLine, HoldsSide, bounds_unless, HoldEach, HasBoundIf, HoldsOwn, HasBound, RowPasses, SatsPass}
 
 -- ---- one row
 
@@ -46,8 +48,8 @@ within : (theirs ours : Side) (n : ℤ) → HoldsSide theirs ours → Between ou
 within theirs ours n h k = (omega (arith, ints, h.lo, k.from), omega (arith, ints, h.hi, k.to))
 
 -- what the own row holds, the row holds
-value_of : (zenith : Option Span) (row ours : Row) (c : Chain) → HoldsOwn zenith row ours → HoldsChain ours c → RowValue row
-value_of zenith row ours c h k = record {
+value_of : (delays : Delays) (row ours : Row) (c : Chain) → HoldsOwn delays row ours → HoldsChain ours c → RowValue row
+value_of delays row ours c h k = record {
   x = c.x;
   y = c.y;
   z = c.z;
@@ -82,9 +84,12 @@ same_bounds row ours d theirs own =
       high = record { lo = omega (arith, ints, sure_hi); hi = omega (arith, ints, hi) };
     }
 
-holds_bounds : (zenith : Option Span) (row ours : Row) (d : ℤ × ℤ) → HoldsOwn zenith row ours → HasBound zenith row ours → (zenith ≡ None → HasBounds ours d) → HoldsBounds row ours
-holds_bounds None row ours d holds bound plain = same_bounds row ours d bound (plain refl)
-holds_bounds (Some zenith) row ours d holds bound plain = record { low = holds.1.1.1.1.0; high = holds.1.1.1.1.1.0 }
+holds_by : (plain : Bool) (row ours : Row) (d : ℤ × ℤ) → HoldEach (bounds_unless plain row ours) → HasBoundIf plain row ours → (plain ≡ true → HasBounds ours d) → HoldsBounds row ours
+holds_by true row ours d holds bound plain = same_bounds row ours d bound (plain refl)
+holds_by false row ours d holds bound plain = record { low = holds.0; high = holds.1.0 }
+
+holds_bounds : (delays : Delays) (row ours : Row) (d : ℤ × ℤ) → HoldsOwn delays row ours → HasBound delays row ours → (is_plain delays ≡ true → HasBounds ours d) → HoldsBounds row ours
+holds_bounds delays row ours d holds bound plain = holds_by (is_plain delays) row ours d holds.1.1.1.1 bound plain
 
 -- an error between ends that the own row holds is one that the row allows, and one that the row surely allows lies between them
 allowed : (row ours : Row) (c : Chain) (b : ℤ) (s : ℕ) → HoldsBounds row ours → HoldsChain ours c → c.range ≡ s → Between c.lo c.hi (c.corrected -ℤ pos c.range -ℤ b) → IsAllowed row (c.corrected -ℤ pos s -ℤ b)
@@ -101,9 +106,9 @@ surely_within row ours c b s h k same e =
 same_one : {X : Type 0} (x y : X) → Some x ≡ Some y → x ≡ y
 same_one x y e = cc
 
-module _ (zenith : Option Span) where
+module _ (delays : Delays) where
   abbrev AreFair : SatEntry → SatLine → Type 0
-  AreFair theirs ours = IsSameLine theirs ours × RowPasses zenith theirs ours
+  AreFair theirs ours = IsSameLine theirs ours × RowPasses delays theirs ours
 
   abbrev AllFair : List SatEntry → List SatLine → Type 0
   AllFair [] [] = Unit {0}
@@ -133,7 +138,7 @@ module _ (zenith : Option Span) where
             record { theirs = later.theirs; theirs_at = later.theirs_at; ours = later.ours; ours_at = later.ours_at; fair = later.fair }),
       )
 
-  fair_at : (sats : List SatEntry) (lines : List SatLine) → SatsPass zenith sats lines → (k : ℕ) → k < length sats → FairAt sats lines k
+  fair_at : (sats : List SatEntry) (lines : List SatLine) → SatsPass delays sats lines → (k : ℕ) → k < length sats → FairAt sats lines k
   fair_at sats lines pass k less =
       let p = pass k less in
       record { theirs = p.is_expected.theirs; theirs_at = p.is_expected.theirs_at; ours = p.is_expected.ours; ours_at = p.is_expected.ours_at; fair = (p.is_expected.same, p.passes) }
@@ -149,41 +154,41 @@ one_more (suc q) Meets (row ∷ rows) h = elim h [
 ]
 
 module _ (m : Meaning) (sound : IsSound m) (root : GridBox) (box : IsSearchBox root) (tag : ℤ) where
-  bounds_held : (row ours : Row) (seen : SatObs) → HoldsOwn m.zenith row ours → HasBound m.zenith row ours → IsOwnRow m root tag seen ours → HoldsBounds row ours
-  bounds_held row ours seen holds bound own = holds_bounds m.zenith row ours (m.declared seen.sat) holds bound own.plain
+  bounds_held : (row ours : Row) (seen : SatObs) → HoldsOwn m.delays row ours → HasBound m.delays row ours → IsOwnRow m root tag seen ours → HoldsBounds row ours
+  bounds_held row ours seen holds bound own = holds_bounds m.delays row ours (m.declared seen.sat) holds bound own.plain
 
-  possible : (row ours : Row) (seen : SatObs) (p : Pos) (b : ℤ) → HoldsOwn m.zenith row ours → HasBound m.zenith row ours → IsOwnRow m root tag seen ours
+  possible : (row ours : Row) (seen : SatObs) (p : Pos) (b : ℤ) → HoldsOwn m.delays row ours → HasBound m.delays row ours → IsOwnRow m root tag seen ours
       → box_holds root p ≡ true → IsConsistent m root tag p b seen → IsPossible p b row
   unfolding value_of
   possible row ours seen p b holds bound own inside k =
       let held = own.holds p k.values inside k.are in
       record {
-        value = value_of m.zenith row ours k.values holds held;
+        value = value_of m.delays row ours k.values holds held;
         allowed = allowed row ours k.values b (range_to k.values.x k.values.y k.values.z p) (bounds_held row ours seen holds bound own) held
             (sound.range_is tag seen p k.values k.are) k.within;
       }
 
-  consistent : (row ours : Row) (seen : SatObs) (p : Pos) (b : ℤ) → HoldsOwn m.zenith row ours → HasBound m.zenith row ours → IsOwnRow m root tag seen ours
+  consistent : (row ours : Row) (seen : SatObs) (p : Pos) (b : ℤ) → HoldsOwn m.delays row ours → HasBound m.delays row ours → IsOwnRow m root tag seen ours
       → box_holds root p ≡ true → m.judged root tag seen None → IsSure p b row → IsConsistent m root tag p b seen
   unfolding value_of
   consistent row ours seen p b holds bound own inside usable sure =
       let (c, are) = sound.allowed_exists root tag seen p box inside usable in
       let held = own.holds p c inside are in
-      let v = value_of m.zenith row ours c holds held in
+      let v = value_of m.delays row ours c holds held in
       record {
         values = c;
         are = are;
         within = surely_within row ours c b (range_to c.x c.y c.z p) (bounds_held row ours seen holds bound own) held (sound.range_is tag seen p c are) (sure v);
       }
 
-  agrees_possible : (row ours : Row) (seen : SatObs) (p : Pos) (b : ℤ) → HoldsOwn m.zenith row ours → HasBound m.zenith row ours → IsOwnRow m root tag seen ours
+  agrees_possible : (row ours : Row) (seen : SatObs) (p : Pos) (b : ℤ) → HoldsOwn m.delays row ours → HasBound m.delays row ours → IsOwnRow m root tag seen ours
       → box_holds root p ≡ true → m.judged root tag seen None → Agrees m root tag p b seen → IsPossible p b row
   agrees_possible row ours seen p b holds bound own inside usable a = elim a [
     | inl skipped ↦ absurd (let e = sound.one_judgement root tag seen None (Some skipped.0) usable skipped.1 in cc)
     | inr k ↦ possible row ours seen p b holds bound own inside k
   ]
 
-  possible_all : (q : ℕ) (p : Pos) (b : ℤ) (sats : List SatEntry) (lines : List SatLine) (seens : List SatObs) → AllFair m.zenith sats lines
+  possible_all : (q : ℕ) (p : Pos) (b : ℤ) (sats : List SatEntry) (lines : List SatLine) (seens : List SatObs) → AllFair m.delays sats lines
       → AreOwnLines m root tag seens lines → box_holds root p ≡ true → Fits m root tag q p b seens → AllBut q (IsPossible p b) (rows_of sats)
   possible_all q p b [] lines seens fair own inside h = tt
   possible_all q p b (theirs ∷ sats) [] seens fair own inside h = absurd fair
@@ -203,7 +208,7 @@ module _ (m : Meaning) (sound : IsSound m) (root : GridBox) (box : IsSearchBox r
     | inr later ↦ one_more q (IsPossible p b) (rows_of sats) (possible_all q p b sats lines seens fair.1 own.1 inside later)
   ]
 
-  fits_all : (q : ℕ) (p : Pos) (b : ℤ) (sats : List SatEntry) (lines : List SatLine) (seens : List SatObs) → AllFair m.zenith sats lines
+  fits_all : (q : ℕ) (p : Pos) (b : ℤ) (sats : List SatEntry) (lines : List SatLine) (seens : List SatObs) → AllFair m.delays sats lines
       → AreOwnLines m root tag seens lines → box_holds root p ≡ true → AllBut q (IsSure p b) (rows_of sats) → Fits m root tag q p b seens
   fits_all q p b [] [] [] fair own inside h = tt
   fits_all q p b [] [] (seen ∷ seens) fair own inside h = absurd own
@@ -225,7 +230,7 @@ module _ (m : Meaning) (sound : IsSound m) (root : GridBox) (box : IsSearchBox r
 
   -- ---- an epoch
 
-  fit_step : (q : ℕ) (sats : List SatEntry) (lines : List SatLine) (seens : List SatObs) (step : Step) (part : GridBox) → AllFair m.zenith sats lines
+  fit_step : (q : ℕ) (sats : List SatEntry) (lines : List SatLine) (seens : List SatObs) (step : Step) (part : GridBox) → AllFair m.delays sats lines
       → AreOwnLines m root tag seens lines → ((p : Pos) → box_holds part p ≡ true → box_holds root p ≡ true)
       → IsSureInside (rows_of sats) q step part → FitsInside (λ p b. Fits m root tag q p b seens) step part
   fit_step q sats lines seens (Cut id face bound) part fair own inside h = tt
@@ -235,7 +240,7 @@ module _ (m : Meaning) (sound : IsSound m) (root : GridBox) (box : IsSearchBox r
       λ p holds. fits_all q p clock sats lines seens fair own (inside p holds) (h p holds)
   fit_step q sats lines seens (Edge id lo hi) part fair own inside h = tt
 
-  fit_steps : (q : ℕ) (sats : List SatEntry) (lines : List SatLine) (seens : List SatObs) (parts : List ShownStep) → AllFair m.zenith sats lines
+  fit_steps : (q : ℕ) (sats : List SatEntry) (lines : List SatLine) (seens : List SatObs) (parts : List ShownStep) → AllFair m.delays sats lines
       → AreOwnLines m root tag seens lines → ((p : Pos) → 0 < count_by (λ piece. box_holds piece.part p) parts → box_holds root p ≡ true)
       → AreSureInside (rows_of sats) q parts → AllFitInside (λ p b. Fits m root tag q p b seens) parts
   fit_steps q sats lines seens [] fair own inside h = tt
@@ -258,7 +263,7 @@ module _ (m : Meaning) (sound : IsSound m) (root : GridBox) (box : IsSearchBox r
   held_in_root n true e some = refl
   held_in_root n false e some = absurd (omega arith)
 
-  fit_cover : (q : ℕ) (sats : List SatEntry) (lines : List SatLine) (seens : List SatObs) (parts : List ShownStep) → AllFair m.zenith sats lines
+  fit_cover : (q : ℕ) (sats : List SatEntry) (lines : List SatLine) (seens : List SatObs) (parts : List ShownStep) → AllFair m.delays sats lines
       → AreOwnLines m root tag seens lines → EpochCover (rows_of sats) q root parts → FitCover (λ p b. Fits m root tag q p b seens) root parts
   fit_cover q sats lines seens parts fair own cover = record {
     partition = cover.partition;
@@ -267,12 +272,12 @@ module _ (m : Meaning) (sound : IsSound m) (root : GridBox) (box : IsSearchBox r
   }
 
   block_cover : (rules : Rules) (block : Block) (theirs : Option GridBox) (lines : List SatLine) (seens : List SatObs) → block.few ≡ is_none theirs
-      → SatsPass m.zenith block.sats (expected block.few lines) → length (expected block.few lines) ≤ length block.sats → BodyPassesAt rules root block theirs
+      → SatsPass m.delays block.sats (expected block.few lines) → length (expected block.few lines) ≤ length block.sats → BodyPassesAt rules root block theirs
       → AreOwnLines m root tag seens lines → FitBlockCover (λ p b. Fits m root tag rules.outliers p b seens) root block theirs
   block_cover rules block None lines seens few sats whole body own = tt
   block_cover rules block (Some theirs) lines seens few sats whole body own =
-      let fair = all_fair m.zenith block.sats lines (rw few at whole) (fair_at m.zenith block.sats lines (rw few at sats)) in
-      fit_cover rules.outliers block.sats lines seens (pieces root block.steps) fair own (epoch_cover (rows_of block.sats) rules block.done root block.steps body.1)
+      let fair = all_fair m.delays block.sats lines (rw few at whole) (fair_at m.delays block.sats lines (rw few at sats)) in
+      fit_cover rules.outliers block.sats lines seens (pieces root block.steps) fair own (epoch_cover (test_in rules block) rules block.done root block.steps body.1)
 
 -- a block of few satellites, and no other, has no root
 abbrev pub HasFewRoot : Block → Type 0
@@ -293,13 +298,13 @@ all_in_box root (epoch ∷ more) box = (box, all_in_box root more box)
 -- a log that is admitted by own lines of each search covers what fits
 module _ (m : Meaning) (sound : IsSound m) where
   search_cover : (rules : Rules) (search : Search) → IsSearchBox search.root → (block : Block) (theirs : Option GridBox) (lines : List SatLine) → block.few ≡ is_none theirs
-      → SatsPass m.zenith block.sats (expected block.few lines) → length (expected block.few lines) ≤ length block.sats → BodyPassesAt rules search.root block theirs
+      → SatsPass m.delays block.sats (expected block.few lines) → length (expected block.few lines) ≤ length block.sats → BodyPassesAt rules search.root block theirs
       → AreLinesOf m search.root search.epoch lines → FitBlockCover (FitsEpoch m rules.outliers search.root search.epoch) search.root block theirs
   search_cover rules search box block theirs lines few sats whole body are =
       block_cover m sound search.root box search.epoch.tag rules block theirs lines search.epoch.sats.items few sats whole body are
 
   pub fit_all : (rules : Rules) (before : Option ℕ) (owns : List (List SatLine)) (searches : List Search) (blocks : List Block) → AreInBoxes searches → AllByRecursion HasFewRoot blocks
-      → AdmitsFrom m.zenith rules before owns searches blocks → AreOwn m searches owns → length owns ≡ length searches
+      → AdmitsFrom m.delays rules before owns searches blocks → AreOwn m searches owns → length owns ≡ length searches
       → BlocksFitCover m rules.outliers searches blocks
   fit_all rules before [] [] [] boxes few admits are each = tt
   fit_all rules before [] [] (block ∷ blocks) boxes few admits are each = absurd admits
@@ -316,7 +321,7 @@ module _ (m : Meaning) (sound : IsSound m) where
   all_few (epoch ∷ epochs) = (sym epoch.paved ∙ sym (none_of epoch.root), all_few epochs)
 
   pub blocks_fit : (rules : Rules) (before : Option ℕ) (owns : List (List SatLine)) (searches : List Search) (epochs : List LogEpoch)
-      → AreInBoxes searches → AdmitsFrom m.zenith rules before owns searches (map block_of epochs) → AreOwn m searches owns → length owns ≡ length searches
+      → AreInBoxes searches → AdmitsFrom m.delays rules before owns searches (map block_of epochs) → AreOwn m searches owns → length owns ≡ length searches
       → BlocksFitCover m rules.outliers searches (map block_of epochs)
   blocks_fit rules before owns searches epochs boxes admits are each =
       fit_all rules before owns searches (map block_of epochs) boxes (all_few epochs) admits are each

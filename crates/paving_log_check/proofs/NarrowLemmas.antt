@@ -6,18 +6,19 @@ use Rattle.epoch_selection.specs.Searches.{Search}
 use Rattle.rinex_obs.specs.declared.obs.SatObs.{SatObs}
 use Rattle.grid_model.specs.Boxes.{Side, GridBox, span_side}
 use Rattle.sat_model.specs.Fitting.{low_bounds, high_bounds}
-use Rattle.sat_model.specs.Fold.{Stage, first_stage, after}
+use Rattle.sat_model.specs.Stages.{Stage, first_stage, after}
 use Rattle.grid_model.specs.Intervals.{Between}
+use Rattle.sat_model.specs.BoxTests.{test_in}
 use Rattle.sat_model.specs.Logs.{Block, lines_in}
 use Rattle.grid_model.specs.Lengths.{spare_of}
 use Rattle.sat_model.specs.Verdicts.{StepFails, StepsFail}
-use Rattle.gnss_model.specs.Zenith.{err_spare_of}
+use Rattle.gnss_model.specs.Delays.{is_plain, err_spare_of}
 use Rattle.grid_model.specs.declared.memory.NoMemory.{NoMemory}
 use Rattle.sat_model.specs.declared.rules.Rules.{Rules}
 use Rattle.sat_model.specs.declared.rows.Row.{Row}
 use Rattle.sat_model.specs.declared.rows.SatEntry.{SatEntry}
 use Rattle.sat_model.specs.declared.rows.SatEntry.TheVariants as entry
-use Rattle.grid_model.specs.declared.spans.Span.{Span}
+use Rattle.gnss_model.specs.declared.delays.Delays.{Delays}
 use Rattle.sat_model.specs.declared.steps.Step.{Step}
 use Rattle.sat_model.specs.declared.steps.Step.TheVariants.{Cut, Split, Outside, Inside, Edge}
 use Rattle.sat_rows.specs.Chains.{Chain}
@@ -28,7 +29,7 @@ use Rattle.sat_rows.specs.declared.lines.SatLine.TheVariants.{Usable, Skipped}
 use Rattle.paving_log_check.specs.Admissible.{FailsFrom, AreOwn}
 use Rattle.paving_log_check.specs.Checked.{EpochAccepted, EpochRefused}
 use Rattle.paving_log_check.specs.Epochs.{EpochPasses, EpochFails}
-use Rattle.paving_log_check.specs.Lines.{skipped_in, expected, HoldsSide, bounds_compared, compared, IsFirstNarrow, IsSameLine, RowFails}
+use Rattle.paving_log_check.specs.Lines.{skipped_in, expected, HoldsSide, bounds_unless, compared, IsFirstNarrow, IsSameLine, RowFails}
 use Rattle.paving_log_check.specs.Narrow.{values, HoldsAround, IsTooNarrow, HasNarrowRow, HasNarrowBlock}
 use Rattle.paving_log_check.specs.declared.verdict.Fault.{Fault}
 
@@ -77,24 +78,25 @@ tight_round a b theirs ours value n width spare round shown known =
     let wide : width ≡ spare = ap (λ (x : ℤ × ℕ). x.1) both in
     rw (sym same, sym is, sym wide) round
 
-abbrev bound_values : GridBox → Option Span → Chain → List (ℤ × ℕ)
-bound_values root zenith c = (c.lo, err_spare_of root zenith) ∷ (c.hi, err_spare_of root zenith) ∷ []
+abbrev bound_values : ℕ → Chain → List (ℤ × ℕ)
+bound_values width c = (c.lo, width) ∷ (c.hi, width) ∷ []
 
 -- the ends of the error, where they are compared
-bounds_at : (root : GridBox) (zenith : Option Span) (row ours : Row) (theirs own : Side) (c : Chain) (n : ℤ) (spare place : ℕ) → AreBoundsTight root zenith ours → HoldsChain ours c
-    → slice_get (bounds_compared zenith row ours) place ≡ Some (theirs, own)
-    → slice_get (bound_values root zenith c) place ≡ Some (n, spare) → IsTightRound spare own n
-bounds_at root None row ours theirs own c n spare place tight holds shown value = absurd cc
-bounds_at root (Some zenith) row ours theirs own c n spare zero tight holds shown value =
-    tight_round (low_bounds row) (low_bounds ours) theirs own c.lo n (err_spare_of root (Some zenith)) spare (record { tight = tight.low; held = holds.lo }) shown value
-bounds_at root (Some zenith) row ours theirs own c n spare (suc zero) tight holds shown value =
-    tight_round (high_bounds row) (high_bounds ours) theirs own c.hi n (err_spare_of root (Some zenith)) spare (record { tight = tight.high; held = holds.hi }) shown value
-bounds_at root (Some zenith) row ours theirs own c n spare (suc (suc place)) tight holds shown value = absurd cc
+bounds_at : (plain : Bool) (width : ℕ) (row ours : Row) (theirs own : Side) (c : Chain) (n : ℤ) (spare place : ℕ)
+    → (ours.sure_lo -ℤ ours.err.lo) ≤ℤ pos width → (ours.err.hi -ℤ ours.sure_hi) ≤ℤ pos width → HoldsChain ours c
+    → slice_get (bounds_unless plain row ours) place ≡ Some (theirs, own)
+    → slice_get (bound_values width c) place ≡ Some (n, spare) → IsTightRound spare own n
+bounds_at true width row ours theirs own c n spare place low high holds shown value = absurd cc
+bounds_at false width row ours theirs own c n spare zero low high holds shown value =
+    tight_round (low_bounds row) (low_bounds ours) theirs own c.lo n width spare (record { tight = low; held = holds.lo }) shown value
+bounds_at false width row ours theirs own c n spare (suc zero) low high holds shown value =
+    tight_round (high_bounds row) (high_bounds ours) theirs own c.hi n width spare (record { tight = high; held = holds.hi }) shown value
+bounds_at false width row ours theirs own c n spare (suc (suc place)) low high holds shown value = absurd cc
 
 -- the own side in a place is tight round the value in the same place
 module _ (m : Meaning) (root : GridBox) (tag : ℤ) (sat : SatObs) where
   held_at : (row ours : Row) (theirs own : Side) (c : Chain) (n : ℤ) (spare place : ℕ) → IsOwnRow m root tag sat ours → HoldsChain ours c
-      → slice_get (compared m.zenith row ours) place ≡ Some (theirs, own) → slice_get (values root m.zenith c) place ≡ Some (n, spare) → IsTightRound spare own n
+      → slice_get (compared m.delays row ours) place ≡ Some (theirs, own) → slice_get (values root m.delays c) place ≡ Some (n, spare) → IsTightRound spare own n
   held_at row ours theirs own c n spare zero is holds shown value =
       tight_round (span_side row.x) (span_side ours.x) theirs own c.x n (spare_of root) spare (record { tight = is.x; held = holds.x }) shown value
   held_at row ours theirs own c n spare (suc zero) is holds shown value =
@@ -104,14 +106,14 @@ module _ (m : Meaning) (root : GridBox) (tag : ℤ) (sat : SatObs) where
   held_at row ours theirs own c n spare (suc (suc (suc zero))) is holds shown value =
       tight_round (span_side row.range) (span_side ours.range) theirs own c.corrected n (spare_of root) spare (record { tight = is.range; held = holds.corrected }) shown value
   held_at row ours theirs own c n spare (suc (suc (suc (suc place)))) is holds shown value =
-      bounds_at root m.zenith row ours theirs own c n spare place is.bounds holds shown value
+      bounds_at (is_plain m.delays) (err_spare_of root m.delays) row ours theirs own c n spare place is.bounds.low is.bounds.high holds shown value
 
 too_narrow : (m : Meaning) (search : Search) (sat : SatObs) (row ours : Row) (fault : Fault) → IsOwnRow m search.root search.epoch.tag sat ours
-    → IsFirstNarrow (compared m.zenith row ours) (span_side fault.theirs) (span_side fault.ours) → IsTooNarrow m search sat row ours fault
+    → IsFirstNarrow (compared m.delays row ours) (span_side fault.theirs) (span_side fault.ours) → IsTooNarrow m search sat row ours fault
 too_narrow m search sat row ours fault is first =
     let theirs = span_side fault.theirs in
     let own = span_side fault.ours in
-    let at = narrow_at (compared m.zenith row ours) theirs own first in
+    let at = narrow_at (compared m.delays row ours) theirs own first in
     record {
       place = at.place;
       shown = at.shown;
@@ -123,28 +125,28 @@ too_narrow m search sat row ours fault is first =
 
 -- ---- the number of another fault
 
-step_number : (rows : List Row) (rules : Rules) (stage : Stage) (step : Step) (number : ℕ) → StepFails rows rules stage step number → number ≡ 53 → ⊥
-step_number rows rules stage (Cut id face bound) number (inl f) e = absurd (omega (arith, f.1))
-step_number rows rules stage (Cut id face bound) number (inr (part, live, not, is)) e = absurd (omega (arith, is))
-step_number rows rules stage (Split id axis) number (inl f) e = absurd (omega (arith, f.1))
-step_number rows rules stage (Split id axis) number (inr (inl (part, live, not, is))) e = absurd (omega (arith, is))
-step_number rows rules stage (Split id axis) number (inr (inr (part, live, meets, not, is))) e = absurd (omega (arith, is))
-step_number rows rules stage (Outside id) number (inl f) e = absurd (omega (arith, f.1))
-step_number rows rules stage (Outside id) number (inr (part, live, not, is)) e = absurd (omega (arith, is))
-step_number rows rules stage (Inside id clock lo hi) number (inl f) e = absurd (omega (arith, f.1))
-step_number rows rules stage (Inside id clock lo hi) number (inr (inl (part, live, not, is))) e = absurd (omega (arith, is))
-step_number rows rules stage (Inside id clock lo hi) number (inr (inr (part, live, meets, not, is))) e = absurd (omega (arith, is))
-step_number rows rules stage (Edge id lo hi) number (inl f) e = absurd (omega (arith, f.1))
-step_number rows rules stage (Edge id lo hi) number (inr (part, live, not, is)) e = absurd (omega (arith, is))
+step_number : (rules : Rules) (stage : Stage) (step : Step) (number : ℕ) → StepFails rules stage step number → number ≡ 53 → ⊥
+step_number rules stage (Cut id face bound) number (inl f) e = absurd (omega (arith, f.1))
+step_number rules stage (Cut id face bound) number (inr (part, live, not, is)) e = absurd (omega (arith, is))
+step_number rules stage (Split id axis) number (inl f) e = absurd (omega (arith, f.1))
+step_number rules stage (Split id axis) number (inr (inl (part, live, not, is))) e = absurd (omega (arith, is))
+step_number rules stage (Split id axis) number (inr (inr (part, live, meets, not, is))) e = absurd (omega (arith, is))
+step_number rules stage (Outside id) number (inl f) e = absurd (omega (arith, f.1))
+step_number rules stage (Outside id) number (inr (part, live, not, is)) e = absurd (omega (arith, is))
+step_number rules stage (Inside id clock lo hi) number (inl f) e = absurd (omega (arith, f.1))
+step_number rules stage (Inside id clock lo hi) number (inr (inl (part, live, not, is))) e = absurd (omega (arith, is))
+step_number rules stage (Inside id clock lo hi) number (inr (inr (part, live, meets, not, is))) e = absurd (omega (arith, is))
+step_number rules stage (Edge id lo hi) number (inl f) e = absurd (omega (arith, f.1))
+step_number rules stage (Edge id lo hi) number (inr (part, live, not, is)) e = absurd (omega (arith, is))
 
-steps_number : (rows : List Row) (rules : Rules) (done : ℕ) (stage : Stage) (steps : List Step) (k number : ℕ) → StepsFail rows rules done stage steps k number
+steps_number : (rules : Rules) (done : ℕ) (stage : Stage) (steps : List Step) (k number : ℕ) → StepsFail rules done stage steps k number
     → number ≡ 53 → ⊥
-steps_number rows rules done stage [] k number f e = elim f.1 [
+steps_number rules done stage [] k number f e = elim f.1 [
   | inl live ↦ absurd (omega (arith, live.1))
   | inr count ↦ absurd (omega (arith, count.2))
 ]
-steps_number rows rules done stage (step ∷ steps) zero number f e = step_number rows rules stage step number f e
-steps_number rows rules done stage (step ∷ steps) (suc k) number f e = steps_number rows rules done (after stage step) steps k number f.1 e
+steps_number rules done stage (step ∷ steps) zero number f e = step_number rules stage step number f e
+steps_number rules done stage (step ∷ steps) (suc k) number f e = steps_number rules done (after stage step) steps k number f.1 e
 
 -- ---- a block
 
@@ -193,7 +195,7 @@ module _ (m : Meaning) where
 
   narrow_row : (search : Search) (own : List SatLine) (block : Block) (k : ℕ) (theirs : SatEntry) (line : SatLine) (fault : Fault)
       → AreLinesOf m search.root search.epoch own
-      → slice_get block.sats k ≡ Some theirs → slice_get (expected block.few own) k ≡ Some line → IsSameLine theirs line → RowFails m.zenith theirs line fault
+      → slice_get block.sats k ≡ Some theirs → slice_get (expected block.few own) k ≡ Some line → IsSameLine theirs line → RowFails m.delays theirs line fault
       → fault.number ≡ 53 → HasNarrowRow m search block fault
   narrow_row search own block k (entry.Row row) (Usable ours) fault are at other same (inl f) e =
       let has = own_at search.root search.epoch.tag search.epoch.sats.items own k ours are (usable_at block.few own k ours other) in
@@ -214,7 +216,7 @@ module _ (m : Meaning) where
   narrow_row search own block k (entry.Skipped sat skip) (Skipped name why) fault are at other same f e = absurd f
 
   pub epoch_narrow : (rules : Rules) (search : Search) (own : List SatLine) (block : Block) (fault : Fault)
-      → AreLinesOf m search.root search.epoch own → EpochFails m.zenith rules search.root own block fault
+      → AreLinesOf m search.root search.epoch own → EpochFails m.delays rules search.root own block fault
       → fault.number ≡ 53 → HasNarrowRow m search block fault
   epoch_narrow rules search own block fault are (inl head) e = absurd (omega (arith, head.number))
   epoch_narrow rules search own block fault are (inr (inl differs)) e = elim differs.fails.here [
@@ -225,13 +227,13 @@ module _ (m : Meaning) where
   epoch_narrow rules search own block fault are (inr (inr (inl missing))) e = absurd (omega (arith, missing.number))
   epoch_narrow rules search own block fault are (inr (inr (inr body))) e = elim body.fails [
     | inl differs ↦ absurd (omega (arith, differs.number))
-    | inr step ↦ absurd (steps_number _ rules block.done (first_stage search.root) block.steps step.k fault.number step.fails e)
+    | inr step ↦ absurd (steps_number rules block.done (first_stage (test_in rules block) search.root) block.steps step.k fault.number step.fails e)
   ]
 
   -- what the tests of a block against own lines find is found against the files
   pub epoch_answered : (rules : Rules) (search : Search) (own : List SatLine) (block : Block) (result : Result (Option Fault) NoMemory)
       → AreLinesOf m search.root search.epoch own
-      → IfOk result (λ found. MatchOption found (EpochPasses m.zenith rules search.root own block) (λ fault. EpochFails m.zenith rules search.root own block fault))
+      → IfOk result (λ found. MatchOption found (EpochPasses m.delays rules search.root own block) (λ fault. EpochFails m.delays rules search.root own block fault))
       → IfOk result (λ found. MatchOption found (EpochAccepted m rules search block)
       (λ fault. EpochRefused m rules search block fault))
   epoch_answered rules search own block (Ok None) are h = record { own = own; are_own = are; passes = h }
@@ -257,7 +259,7 @@ module _ (m : Meaning) where
   }
 
   pub log_narrow : (rules : Rules) (next : ℕ) (before : Option ℕ) (owns : List (List SatLine)) (searches : List Search) (blocks : List Block) (fault : Fault)
-      → AreOwn m searches owns → FailsFrom m.zenith rules next before owns searches blocks fault
+      → AreOwn m searches owns → FailsFrom m.delays rules next before owns searches blocks fault
       → fault.number ≡ 53 → HasNarrowBlock m searches blocks fault
   log_narrow rules next before [] searches blocks fault are f e = absurd (omega (arith, f.number))
   log_narrow rules next before (own ∷ owns) [] blocks fault are f e = absurd (omega (arith, f.number))

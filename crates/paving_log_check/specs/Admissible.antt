@@ -6,7 +6,7 @@ use Rattle.rinex_obs.specs.declared.obs.ObsEpoch.{ObsEpoch}
 use Rattle.sat_model.specs.Logs.{Block, LogValue, lines_in}
 use Rattle.sat_model.specs.Verdicts.{IsLater, SuitsNumber}
 use Rattle.sat_model.specs.declared.rules.Rules.{Rules}
-use Rattle.grid_model.specs.declared.spans.Span.{Span}
+use Rattle.gnss_model.specs.declared.delays.Delays.{Delays}
 use Rattle.sat_rows.specs.Meanings.{Meaning}
 use Rattle.sat_rows.specs.OwnRows.{AreLinesOf}
 use Rattle.sat_rows.specs.declared.lines.SatLine.{SatLine}
@@ -53,8 +53,8 @@ pub record RulesDiffer (rules other : Rules) (fault : Fault) : Type 0 where
   pub number : fault.number ≡ 50
   pub no_spans : ShowsNoSpans fault
 
--- by the delay at the zenith that is mapped
-module _ (zenith : Option Span) where
+-- by the delays that are mapped
+module _ (delays : Delays) where
   -- ---- the blocks
 
   -- no test fails up to the last search of which own lines are given, and none of the place behind
@@ -64,7 +64,7 @@ module _ (zenith : Option Span) where
   AdmitsFrom rules before (own ∷ owns) [] blocks = ⊥
   AdmitsFrom rules before (own ∷ owns) (search ∷ rest) [] = ⊥
   AdmitsFrom rules before (own ∷ owns) (search ∷ rest) (block ∷ more) =
-      IsOf rules before search.epoch block × EpochPasses zenith rules search.root own block
+      IsOf rules before search.epoch block × EpochPasses delays rules search.root own block
       × AdmitsFrom rules (Some block.index) owns rest more
 
   -- the first fault of a block. Where a line is missing at its end, the place of the next block is
@@ -72,10 +72,10 @@ module _ (zenith : Option Span) where
   abbrev pub BlockFault : Rules → ℕ → List SatLine → Search → List Search → Block → List Block
       → Fault → Type 0
   BlockFault rules behind own search rest block more fault =
-      (EpochFails zenith rules search.root own block fault
+      (EpochFails delays rules search.root own block fault
       × (fault.line ≡ behind → IsDue rules (Some block.index) rest more))
       ⊎ (DueFails rules behind (Some block.index) rest more fault
-      × ((other : Fault) × EpochFails zenith rules search.root own block other
+      × ((other : Fault) × EpochFails delays rules search.root own block other
       × (other.line ≡ behind)))
 
   -- the first line that fails a test, the least number of one on it, and the spans that are shown
@@ -91,7 +91,7 @@ module _ (zenith : Option Span) where
       DueFails rules next before (search ∷ rest) (block ∷ more) fault
       ⊎ ((IsOf rules before search.epoch block
       × BlockFault rules (next + lines_in block) own search rest block more fault)
-      ⊎ (IsOf rules before search.epoch block × EpochPasses zenith rules search.root own block
+      ⊎ (IsOf rules before search.epoch block × EpochPasses delays rules search.root own block
       × FailsFrom rules (next + lines_in block) (Some block.index) owns rest more fault))
 
   -- ---- the log

@@ -27,14 +27,14 @@ module _ (m : Meaning) where
   pub record EpochAccepted (rules : Rules) (search : Search) (block : Block) : Type 0 where
     pub own : List SatLine
     pub are_own : AreLinesOf m search.root search.epoch own
-    pub passes : EpochPasses m.zenith rules search.root own block
+    pub passes : EpochPasses m.delays rules search.root own block
 
   -- this is its first fault against them, for a row too narrow with both spans
   pub record EpochRefused (rules : Rules) (search : Search) (block : Block)
       (fault : Fault) : Type 0 where
     pub own : List SatLine
     pub are_own : AreLinesOf m search.root search.epoch own
-    pub fails : EpochFails m.zenith rules search.root own block fault
+    pub fails : EpochFails m.delays rules search.root own block fault
     pub narrow : fault.number ≡ 53 → HasNarrowRow m search block fault
 
   -- the log is admissible for own lines of each search, and covers what fits, with so many boxes
@@ -42,7 +42,7 @@ module _ (m : Meaning) where
       (boxes : ℕ) : Type 0 where
     pub owns : List (List SatLine)
     pub are_own : AreOwn m searches owns
-    pub admissible : Admissible m.zenith searches owns rules log
+    pub admissible : Admissible m.delays searches owns rules log
     pub cover : FileCover m rules.outliers searches log
     pub boxes_are : boxes ≡ kept_boxes log
 
@@ -52,8 +52,8 @@ module _ (m : Meaning) where
       (fault : Fault) : Type 0 where
     pub owns : List (List SatLine)
     pub are_own : AreOwn m searches owns
-    pub first : FailsFirst m.zenith searches owns rules log fault
-    pub refused : Admits m.zenith searches owns rules log → ⊥
-    pub only : (other : Fault) → FailsFirst m.zenith searches owns rules log other
+    pub first : FailsFirst m.delays searches owns rules log fault
+    pub refused : Admits m.delays searches owns rules log → ⊥
+    pub only : (other : Fault) → FailsFirst m.delays searches owns rules log other
         → AreSameFault other fault
     pub narrow : fault.number ≡ 53 → HasNarrowBlock m searches log.blocks fault

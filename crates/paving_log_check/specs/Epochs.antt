@@ -2,11 +2,12 @@
 -- those of its place among the epochs (50 and 51).
 use Rattle.std.specs.Prelude.{◌≡◌, ◌≢◌, ℕ, ◌+◌, ◌<◌, ◌≤◌, ◌⊎◌, List, length, Option, None, Some}
 use Rattle.grid_model.specs.Boxes.{GridBox}
-use Rattle.sat_model.specs.Fold.{first_stage}
-use Rattle.sat_model.specs.Logs.{Block, rows_of}
+use Rattle.sat_model.specs.BoxTests.{test_in}
+use Rattle.sat_model.specs.Logs.{Block}
+use Rattle.sat_model.specs.Stages.{first_stage}
 use Rattle.sat_model.specs.Verdicts.{CountsRows, StepsPass, StepsFail}
 use Rattle.sat_model.specs.declared.rules.Rules.{Rules}
-use Rattle.grid_model.specs.declared.spans.Span.{Span}
+use Rattle.gnss_model.specs.declared.delays.Delays.{Delays}
 use Rattle.sat_rows.specs.OwnRows.{usable_in}
 use Rattle.sat_rows.specs.declared.lines.SatLine.{SatLine}
 use Rattle.paving_log_check.specs.Answers.{ShowsNoSpans}
@@ -26,7 +27,8 @@ IsWhole own block = length (expected block.few own) ≤ length block.sats
 abbrev pub BodyPassesAt : Rules → GridBox → Block → Option GridBox → Type 0
 BodyPassesAt rules root block None = Unit {0}
 BodyPassesAt rules root block (Some theirs) =
-    (theirs ≡ root) × StepsPass (rows_of block.sats) rules block.done (first_stage root) block.steps
+    (theirs ≡ root)
+    × StepsPass rules block.done (first_stage (test_in rules block) root) block.steps
 
 -- ---- what fails in the first line, and behind the satellites
 
@@ -49,8 +51,8 @@ pub record StepDiffers (rules : Rules) (root : GridBox) (block : Block) (theirs 
     (fault : Fault) : Type 0 where
   pub same : theirs ≡ root
   pub k : ℕ
-  pub fails : StepsFail (rows_of block.sats) rules block.done
-      (first_stage root) block.steps k fault.number
+  pub fails : StepsFail rules block.done
+      (first_stage (test_in rules block) root) block.steps k fault.number
   pub line : fault.line ≡ block.line + 2 + length block.sats + k
   pub no_spans : ShowsNoSpans fault
 
@@ -60,13 +62,13 @@ BodyFailsAt rules root block theirs fault =
 
 -- ---- the whole block
 
--- by the delay at the zenith that is mapped
-module _ (zenith : Option Span) where
+-- by the delays that are mapped
+module _ (delays : Delays) where
   -- no test fails
   pub record EpochPasses (rules : Rules) (root : GridBox) (own : List SatLine)
       (block : Block) : Type 0 where
     pub counts : Counts own block
-    pub sats : SatsPass zenith block.sats (expected block.few own)
+    pub sats : SatsPass delays block.sats (expected block.few own)
     pub whole : IsWhole own block
     pub body : BodyPassesAt rules root block block.root
 
@@ -75,13 +77,13 @@ module _ (zenith : Option Span) where
   pub record LineDiffers (own : List SatLine) (block : Block) (fault : Fault) : Type 0 where
     pub counts : Counts own block
     pub k : ℕ
-    pub fails : SatsFail zenith block.sats (expected block.few own) k fault
+    pub fails : SatsFail delays block.sats (expected block.few own) k fault
     pub line : fault.line ≡ block.line + 1 + k
 
   -- a line is missing: that is told at the line that stands in its place
   pub record LineMissing (own : List SatLine) (block : Block) (fault : Fault) : Type 0 where
     pub counts : Counts own block
-    pub sats : SatsPass zenith block.sats (expected block.few own)
+    pub sats : SatsPass delays block.sats (expected block.few own)
     pub missing : length block.sats < length (expected block.few own)
     pub line : fault.line ≡ block.line + 1 + length block.sats
     pub number : fault.number ≡ 52
@@ -90,7 +92,7 @@ module _ (zenith : Option Span) where
   pub record BodyDiffers (rules : Rules) (root : GridBox) (own : List SatLine) (block : Block)
       (fault : Fault) : Type 0 where
     pub counts : Counts own block
-    pub sats : SatsPass zenith block.sats (expected block.few own)
+    pub sats : SatsPass delays block.sats (expected block.few own)
     pub whole : IsWhole own block
     pub theirs : GridBox
     pub is_root : block.root ≡ Some theirs

@@ -8,7 +8,8 @@ use Rattle.sat_model.specs.Verdicts.{IsRepeat}
 use Rattle.sat_model.specs.declared.rows.Row.{Row}
 use Rattle.sat_model.specs.declared.rows.SatEntry.{SatEntry}
 use Rattle.sat_model.specs.declared.rows.SatEntry.TheVariants as entry
-use Rattle.grid_model.specs.declared.spans.Span.{Span}
+use Rattle.gnss_model.specs.Delays.{is_plain}
+use Rattle.gnss_model.specs.declared.delays.Delays.{Delays}
 use Rattle.sat_rows.specs.OwnRows.{HasBounds}
 use Rattle.sat_rows.specs.declared.lines.SatLine.{SatLine}
 use Rattle.sat_rows.specs.declared.lines.SatLine.TheVariants.{Usable, Skipped}
@@ -58,19 +59,21 @@ pub record HoldsSide (theirs ours : Side) : Type 0 where
   pub lo : theirs.lo ≤ℤ ours.lo
   pub hi : ours.hi ≤ℤ theirs.hi
 
--- those of the low and of the high ends of the error are compared where a delay at the zenith is
--- mapped
-abbrev pub bounds_compared : Option Span → Row → Row → List (Side × Side)
-bounds_compared None row ours = []
-bounds_compared (Some zenith) row ours =
+-- those of the low and of the high ends of the error are compared where a delay is mapped
+abbrev pub bounds_unless : Bool → Row → Row → List (Side × Side)
+bounds_unless true row ours = []
+bounds_unless false row ours =
     (low_bounds row, low_bounds ours) ∷ (high_bounds row, high_bounds ours) ∷ []
 
+abbrev pub bounds_compared : Delays → Row → Row → List (Side × Side)
+bounds_compared delays row ours = bounds_unless (is_plain delays) row ours
+
 -- what is compared, in this order: x, y, z and the range, and then the ends of the error
-abbrev pub compared : Option Span → Row → Row → List (Side × Side)
-compared zenith row ours =
+abbrev pub compared : Delays → Row → Row → List (Side × Side)
+compared delays row ours =
     (span_side row.x, span_side ours.x) ∷ (span_side row.y, span_side ours.y)
     ∷ (span_side row.z, span_side ours.z) ∷ (span_side row.range, span_side ours.range)
-    ∷ bounds_compared zenith row ours
+    ∷ bounds_compared delays row ours
 
 abbrev pub HoldEach : List (Side × Side) → Type 0
 HoldEach [] = Unit {0}
@@ -83,21 +86,24 @@ IsFirstNarrow (pair ∷ more) theirs ours =
     ((HoldsSide pair.0 pair.1 → ⊥) × (theirs ≡ pair.0) × (ours ≡ pair.1))
     ⊎ (HoldsSide pair.0 pair.1 × IsFirstNarrow more theirs ours)
 
--- where no delay at the zenith is mapped, the ends of the error are the declared ones alone, as
--- they are in the own row
-abbrev pub HasBound : Option Span → Row → Row → Type 0
-HasBound None row ours = HasBounds row (ends ours.err)
-HasBound (Some zenith) row ours = Unit {0}
+-- where no delay is mapped, the ends of the error are the declared ones alone, as they are in the
+-- own row
+abbrev pub HasBoundIf : Bool → Row → Row → Type 0
+HasBoundIf true row ours = HasBounds row (ends ours.err)
+HasBoundIf false row ours = Unit {0}
 
--- by the delay at the zenith that is mapped
-module _ (zenith : Option Span) where
+abbrev pub HasBound : Delays → Row → Row → Type 0
+HasBound delays row ours = HasBoundIf (is_plain delays) row ours
+
+-- by the delays that are mapped
+module _ (delays : Delays) where
   -- the row's spans hold those of the own row
   abbrev pub HoldsOwn : Row → Row → Type 0
-  HoldsOwn row ours = HoldEach (compared zenith row ours)
+  HoldsOwn row ours = HoldEach (compared delays row ours)
 
   -- no test of the rows fails, where both lines have one
   abbrev pub RowPasses : SatEntry → SatLine → Type 0
-  RowPasses (entry.Row row) (Usable ours) = HoldsOwn row ours × HasBound zenith row ours
+  RowPasses (entry.Row row) (Usable ours) = HoldsOwn row ours × HasBound delays row ours
   RowPasses (entry.Row row) (Skipped sat skip) = Unit {0}
   RowPasses (entry.Skipped sat skip) (Usable ours) = Unit {0}
   RowPasses (entry.Skipped sat skip) (Skipped other why) = Unit {0}
@@ -105,9 +111,9 @@ module _ (zenith : Option Span) where
   -- the row is too narrow, and both spans are shown; or else its error isn't the declared one
   abbrev pub RowFails : SatEntry → SatLine → Fault → Type 0
   RowFails (entry.Row row) (Usable ours) fault =
-      (IsFirstNarrow (compared zenith row ours) (span_side fault.theirs) (span_side fault.ours)
+      (IsFirstNarrow (compared delays row ours) (span_side fault.theirs) (span_side fault.ours)
       × (fault.number ≡ 53))
-      ⊎ (HoldsOwn row ours × (HasBound zenith row ours → ⊥) × (fault.number ≡ 54)
+      ⊎ (HoldsOwn row ours × (HasBound delays row ours → ⊥) × (fault.number ≡ 54)
       × ShowsNoSpans fault)
   RowFails (entry.Row row) (Skipped sat skip) fault = ⊥
   RowFails (entry.Skipped sat skip) (Usable ours) fault = ⊥

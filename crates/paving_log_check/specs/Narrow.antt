@@ -8,11 +8,11 @@ use Rattle.rinex_obs.specs.declared.obs.SatObs.{SatObs}
 use Rattle.grid_model.specs.Boxes.{Side, GridBox, box_holds, span_side}
 use Rattle.grid_model.specs.Lengths.{spare_of}
 use Rattle.sat_model.specs.Logs.{Block}
-use Rattle.gnss_model.specs.Zenith.{err_spare_of}
+use Rattle.gnss_model.specs.Delays.{err_spare_of}
 use Rattle.grid_model.specs.declared.boxes.Pos.{Pos}
 use Rattle.sat_model.specs.declared.rows.Row.{Row}
 use Rattle.sat_model.specs.declared.rows.SatEntry.TheVariants as entry
-use Rattle.grid_model.specs.declared.spans.Span.{Span}
+use Rattle.gnss_model.specs.declared.delays.Delays.{Delays}
 use Rattle.sat_rows.specs.Chains.{Chain}
 use Rattle.sat_rows.specs.Meanings.{Meaning}
 use Rattle.sat_rows.specs.OwnRows.{IsOwnRow}
@@ -21,11 +21,11 @@ use Rattle.paving_log_check.specs.declared.verdict.Fault.{Fault}
 
 -- the values that the spans of a row are for, in the order in which these are compared, each with
 -- how wide its span may be over a search box
-abbrev pub values : GridBox → Option Span → Chain → List (ℤ × ℕ)
-values root zenith c =
+abbrev pub values : GridBox → Delays → Chain → List (ℤ × ℕ)
+values root delays c =
     (c.x, spare_of root) ∷ (c.y, spare_of root) ∷ (c.z, spare_of root)
     ∷ (c.corrected, spare_of root)
-    ∷ (c.lo, err_spare_of root zenith) ∷ (c.hi, err_spare_of root zenith) ∷ []
+    ∷ (c.lo, err_spare_of root delays) ∷ (c.hi, err_spare_of root delays) ∷ []
 
 -- the side holds all numbers from so much below this one to as much above it
 pub record HoldsAround (spare : ℕ) (side : Side) (n : ℤ) : Type 0 where
@@ -38,12 +38,12 @@ module _ (m : Meaning) where
   pub record IsTooNarrow (search : Search) (sat : SatObs) (row ours : Row)
       (fault : Fault) : Type 0 where
     pub place : ℕ
-    pub shown : slice_get (compared m.zenith row ours) place
+    pub shown : slice_get (compared m.delays row ours) place
         ≡ Some (span_side fault.theirs, span_side fault.ours)
     pub narrow : HoldsSide (span_side fault.theirs) (span_side fault.ours) → ⊥
     pub around : (p : Pos) (c : Chain) (n : ℤ) (spare : ℕ) → box_holds search.root p ≡ true
         → m.allows search.epoch.tag sat p c
-        → slice_get (values search.root m.zenith c) place ≡ Some (n, spare)
+        → slice_get (values search.root m.delays c) place ≡ Some (n, spare)
         → HoldsAround spare (span_side fault.theirs) n → ⊥
 
   -- it is the row of a usable satellite of this epoch

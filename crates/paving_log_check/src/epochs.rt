@@ -18,7 +18,8 @@ use crate::faults::{ROOT_DIFFERS, plain_fault};
 use crate::sat_lines::{expected_lines, sats_fault};
 use crate::steps::steps_fault;
 use crate::verdict::Fault;
-use grid_model::{Box3, NoMemory, Span};
+use gnss_model::Delays;
+use grid_model::{Box3, NoMemory};
 use paving_log::{LogEpoch, SATELLITE_DIFFERS, rows_among, rows_in};
 use rinex_obs::ObsEpoch;
 use sat_model::Rules;
@@ -82,7 +83,7 @@ fn body_fault(
 fn epoch_fault(
     alloc: Global,
     own: &EpochRows,
-    zenith: Option<Span>,
+    delays: Delays,
     rules: &Rules,
     root: &Box3,
     epoch: &LogEpoch,
@@ -91,16 +92,16 @@ fn epoch_fault(
     requires numbered { epoch.now.line + lines_in (block_of epoch.now) ≤ 4000000001 }
     requires suits { SuitsNumber epoch.now.few rules.now.outliers epoch.now.n }
     ensures { IfOk result (λ found. MatchOption found
-        (EpochPasses zenith rules.now (grid_box root.now) own.now.lines.items
+        (EpochPasses delays rules.now (grid_box root.now) own.now.lines.items
         (block_of epoch.now))
-        (λ fault. EpochFails zenith rules.now (grid_box root.now) own.now.lines.items
+        (λ fault. EpochFails delays rules.now (grid_box root.now) own.now.lines.items
         (block_of epoch.now) fault)) }
 {
     if !has_counts(own, epoch) {
         return Ok(Some(plain_fault(epoch.line, SATELLITE_DIFFERS)));
     }
     let lines = expected_lines(alloc, epoch.few, &own.lines)?;
-    if let Some(fault) = sats_fault(epoch.line + 1, zenith, &epoch.sats, &lines) {
+    if let Some(fault) = sats_fault(epoch.line + 1, delays, &epoch.sats, &lines) {
         return Ok(Some(fault));
     }
     if epoch.sats.len() < lines.len() {
@@ -135,5 +136,5 @@ pub fn check_epoch<S: RowSource>(
         (block_of epoch.now) fault)) }
 {
     let own = source.lines(alloc, seen, root)?;
-    epoch_fault(alloc, &own, source.zenith(), rules, root, epoch)
+    epoch_fault(alloc, &own, source.delays(), rules, root, epoch)
 }

@@ -5,7 +5,7 @@ ghost use Rattle.std.specs.Prelude.{IfOk, MatchOption, Option, Some, None, drop,
 ghost use Rattle.epoch_selection.specs.Searches.{Search, searches_left};
 ghost use Rattle.sat_model.specs.Logs.{Block, lines_in, IsNumbered};
 ghost use Rattle.sat_model.specs.declared.rules.Rules.{Rules};
-ghost use Rattle.grid_model.specs.declared.spans.Span.{Span};
+ghost use Rattle.gnss_model.specs.declared.delays.Delays.{Delays};
 ghost use Rattle.sat_rows.specs.declared.lines.SatLine.{SatLine};
 ghost use Rattle.paving_log.specs.Values.{block_of, log_value};
 ghost use Rattle.paving_log_check.specs.Answers.{IfYes, IfNo};
@@ -99,11 +99,11 @@ pub fn lines_of(epoch: &LogEpoch) -> u32
 /// The first fault of a block whose own one is `own_fault`: this one; but where that is told at the
 /// first line of the next block, and this block isn't due, 51 comes first.
 pub fn first_of(own_fault: Fault, behind: u32, due: bool) -> Fault
-    ensures { (zenith : Option Span) (rules : Rules) (own : List SatLine) (search : Search)
+    ensures { (delays : Delays) (rules : Rules) (own : List SatLine) (search : Search)
         (rest : List Search) (block : Block) (more : List Block)
-        → EpochFails zenith rules search.root own block own_fault
+        → EpochFails delays rules search.root own block own_fault
         → (IsTrue due ↔ IsDue rules (Some block.index) rest more)
-        → BlockFault zenith rules behind own search rest block more result }
+        → BlockFault delays rules behind own search rest block more result }
 {
     if own_fault.line == behind && !due {
         plain_fault(behind, EPOCH_DIFFERS)

@@ -15,6 +15,7 @@ ghost use Rattle.paving_log_check.specs.Lines.{LineFails, SatsPass, SatsFail};
 
 use crate::faults::{BOUND_DIFFERS, ROW_NARROW, plain_fault};
 use crate::verdict::Fault;
+use gnss_model::{Delays, is_plain};
 use grid_model::Span;
 use paving_log::{SATELLITE_DIFFERS, first_repeat};
 use sat_model::{Row, SatEntry};
@@ -58,13 +59,13 @@ fn holds_span(theirs: &Span, ours: &Span) -> bool
 }
 
 /// The first span of the row's error bounds that doesn't hold that of the own row, and the latter.
-/// They are compared only where a delay at the zenith is mapped.
-fn first_narrow_bounds(zenith: Option<Span>, row: &Row, ours: &Row) -> Option<(Span, Span)>
-    ensures { MatchOption result (HoldEach (bounds_compared zenith row.now ours.now))
-        (λ spans. IsFirstNarrow (bounds_compared zenith row.now ours.now)
+/// They are compared only where a delay is mapped.
+fn first_narrow_bounds(delays: Delays, row: &Row, ours: &Row) -> Option<(Span, Span)>
+    ensures { MatchOption result (HoldEach (bounds_compared delays row.now ours.now))
+        (λ spans. IsFirstNarrow (bounds_compared delays row.now ours.now)
         (span_side spans.0) (span_side spans.1)) }
 {
-    if zenith.is_none() {
+    if is_plain(delays) {
         return None;
     }
     let low = row.low_bounds();
@@ -81,9 +82,9 @@ fn first_narrow_bounds(zenith: Option<Span>, row: &Row, ours: &Row) -> Option<(S
 }
 
 /// The first of all spans of the row that doesn't hold that of the own row, and the latter.
-fn first_narrow(zenith: Option<Span>, row: &Row, ours: &Row) -> Option<(Span, Span)>
-    ensures { MatchOption result (HoldsOwn zenith row.now ours.now)
-        (λ spans. IsFirstNarrow (compared zenith row.now ours.now)
+fn first_narrow(delays: Delays, row: &Row, ours: &Row) -> Option<(Span, Span)>
+    ensures { MatchOption result (HoldsOwn delays row.now ours.now)
+        (λ spans. IsFirstNarrow (compared delays row.now ours.now)
         (span_side spans.0) (span_side spans.1)) }
 {
     if !holds_span(&row.x, &ours.x) {
@@ -98,7 +99,7 @@ fn first_narrow(zenith: Option<Span>, row: &Row, ours: &Row) -> Option<(Span, Sp
     if !holds_span(&row.range, &ours.range) {
         return Some((row.range, ours.range));
     }
-    first_narrow_bounds(zenith, row, ours)
+    first_narrow_bounds(delays, row, ours)
 }
 
 /// Whether the ends of the row's error are those of this span alone.
@@ -112,14 +113,14 @@ fn has_ends(row: &Row, declared: &Span) -> bool
 }
 
 /// Whether the ends of the row's error are the declared ones, as they are in the own row. Where a
-/// delay at the zenith is mapped they may be others.
-fn has_bound(zenith: Option<Span>, row: &Row, ours: &Row) -> bool
-    ensures { IsTrue result ↔ HasBound zenith row.now ours.now }
+/// delay is mapped they may be others.
+fn has_bound(delays: Delays, row: &Row, ours: &Row) -> bool
+    ensures { IsTrue result ↔ HasBound delays row.now ours.now }
 {
-    match zenith {
-        Some(_) => true,
-        None => has_ends(row, &ours.err),
+    if is_plain(delays) {
+        return has_ends(row, &ours.err);
     }
+    true
 }
 
 /// Whether both lines have the same word, satellite and skip.
@@ -142,13 +143,13 @@ fn is_same_line(theirs: &SatEntry, ours: &SatLine) -> bool
 }
 
 /// The least test that a row fails against the own one.
-fn rows_fault(line: u32, zenith: Option<Span>, row: &Row, ours: &Row) -> Option<Fault>
+fn rows_fault(line: u32, delays: Delays, row: &Row, ours: &Row) -> Option<Fault>
     ensures { MatchOption result
-        (HoldsOwn zenith row.now ours.now × HasBound zenith row.now ours.now)
-        (λ fault. RowFails zenith (entry.Row row.now) (Usable ours.now) fault
+        (HoldsOwn delays row.now ours.now × HasBound delays row.now ours.now)
+        (λ fault. RowFails delays (entry.Row row.now) (Usable ours.now) fault
         × (fault.line ≡ line)) }
 {
-    if let Some((theirs, own)) = first_narrow(zenith, row, ours) {
+    if let Some((theirs, own)) = first_narrow(delays, row, ours) {
         return Some(Fault {
             number: ROW_NARROW,
             line,
@@ -156,20 +157,20 @@ fn rows_fault(line: u32, zenith: Option<Span>, row: &Row, ours: &Row) -> Option<
             ours: own,
         });
     }
-    if !has_bound(zenith, row, ours) {
+    if !has_bound(delays, row, ours) {
         return Some(plain_fault(line, BOUND_DIFFERS));
     }
     None
 }
 
 /// The least test that the rows of both lines fail, where both have one.
-fn row_fault(line: u32, zenith: Option<Span>, theirs: &SatEntry, ours: &SatLine) -> Option<Fault>
-    ensures { MatchOption result (RowPasses zenith theirs.now ours.now)
-        (λ fault. RowFails zenith theirs.now ours.now fault × (fault.line ≡ line)) }
+fn row_fault(line: u32, delays: Delays, theirs: &SatEntry, ours: &SatLine) -> Option<Fault>
+    ensures { MatchOption result (RowPasses delays theirs.now ours.now)
+        (λ fault. RowFails delays theirs.now ours.now fault × (fault.line ≡ line)) }
 {
     match theirs {
         SatEntry::Row(row) => match ours {
-            SatLine::Usable(own) => rows_fault(line, zenith, row, own),
+            SatLine::Usable(own) => rows_fault(line, delays, row, own),
             SatLine::Skipped { .. } => None,
         },
         SatEntry::Skipped { .. } => None,
@@ -179,7 +180,7 @@ fn row_fault(line: u32, zenith: Option<Span>, theirs: &SatEntry, ours: &SatLine)
 /// The least test that satellite line `k` fails, whose number is `line`.
 fn line_fault(
     line: u32,
-    zenith: Option<Span>,
+    delays: Delays,
     sats: &[SatEntry],
     lines: &[SatLine],
     k: usize,
@@ -187,13 +188,13 @@ fn line_fault(
 ) -> Option<Fault>
     requires is_line { k < length sats.now }
     requires repeats { IsTrue repeats ↔ IsRepeat sats.now k }
-    ensures { MatchOption result (LinePasses zenith sats.now lines.now k)
-        (λ fault. LineFails zenith sats.now lines.now k fault × (fault.line ≡ line)) }
+    ensures { MatchOption result (LinePasses delays sats.now lines.now k)
+        (λ fault. LineFails delays sats.now lines.now k fault × (fault.line ≡ line)) }
 {
     if repeats || lines.len() <= k || !is_same_line(&sats[k], &lines[k]) {
         return Some(plain_fault(line, SATELLITE_DIFFERS));
     }
-    row_fault(line, zenith, &sats[k], &lines[k])
+    row_fault(line, delays, &sats[k], &lines[k])
 }
 
 /// Whether the place that was found is this one.
@@ -210,19 +211,19 @@ fn is_at(found: Option<usize>, k: usize) -> bool
 /// first of them.
 pub(crate) fn sats_fault(
     line: u32,
-    zenith: Option<Span>,
+    delays: Delays,
     sats: &[SatEntry],
     lines: &[SatLine],
 ) -> Option<Fault>
     requires { line + length sats.now < 2 ^ 32 }
-    ensures { MatchOption result (SatsPass zenith sats.now lines.now)
-        (λ fault. (k : ℕ) × SatsFail zenith sats.now lines.now k fault
+    ensures { MatchOption result (SatsPass delays sats.now lines.now)
+        (λ fault. (k : ℕ) × SatsFail delays sats.now lines.now k fault
         × (fault.line ≡ line + k)) }
 {
     let first = first_repeat(sats);
     for k in 0..sats.len() {
         let repeats = is_at(first, k);
-        if let Some(fault) = line_fault(line + k as u32, zenith, sats, lines, k, repeats) {
+        if let Some(fault) = line_fault(line + k as u32, delays, sats, lines, k, repeats) {
             return Some(fault);
         }
     }

@@ -1,18 +1,17 @@
 //! The steps of an epoch, in one pass over its live boxes.
 
-ghost use Rattle.std.specs.Prelude.{◌≡◌, ◌<◌, ◌≤◌, ◌^◌, List, length, IfOk, MatchOption};
-ghost use Rattle.sat_model.specs.declared.rows.Row.{Row};
+ghost use Rattle.std.specs.Prelude.{◌≡◌, ◌<◌, ◌≤◌, ◌^◌, length, IfOk, MatchOption};
 ghost use Rattle.sat_model.specs.declared.rules.Rules.{Rules};
 ghost use Rattle.sat_model.specs.declared.steps.Step.TheVariants.{Cut, Split, Outside, Inside};
 ghost use Rattle.sat_model.specs.declared.steps.Step.TheVariants.{Edge};
 ghost use Rattle.grid_model.specs.Boxes.{grid_box};
-ghost use Rattle.sat_model.specs.BoxTests.{test_of};
-ghost use Rattle.sat_model.specs.Fold.{first_stage};
+ghost use Rattle.sat_model.specs.BoxTests.{BoxTest as TestValue, test_of};
+ghost use Rattle.sat_model.specs.Stages.{first_stage};
 ghost use Rattle.sat_model.specs.Verdicts.{StepsPass, StepsFail};
-ghost use Rattle.live_boxes.specs.Stages.{stage_of};
+ghost use Rattle.live_boxes.specs.LiveValues.{live_value};
 ghost use Rattle.logged_steps.specs.Steps.{steps_of};
 ghost use Rattle.relaxed_meet.specs.TestValues.{test_value};
-ghost use Rattle.paving_log_check.specs.Steps.{IsStepFault};
+ghost use Rattle.paving_log_check.specs.Steps.{stage_of, IsStepFault};
 
 use crate::claims::{cuts_empty_slab, is_long};
 use crate::faults::{
@@ -29,8 +28,8 @@ use std::alloc::Global;
 
 /// The least number of a test of a cut that fails.
 fn cut_fault(test: &mut BoxTest, live: &Live, id: u32, face: u8, bound: i64) -> Option<u8>
-    ensures fault { (rows : List Row) (rules : Rules) → test_value test.old ≡ test_of rules rows
-        → IsStepFault rows rules (stage_of live.now) (Cut id face bound) result }
+    ensures fault { (rules : Rules)
+        → IsStepFault rules (stage_of live.now test.old) (Cut id face bound) result }
     ensures same { test_value test.new ≡ test_value test.old }
 {
     let Some(part) = live.box_of(id) else {
@@ -44,8 +43,9 @@ fn cut_fault(test: &mut BoxTest, live: &Live, id: u32, face: u8, bound: i64) -> 
 
 /// The same of a split.
 fn split_fault(rules: &Rules, live: &Live, id: u32, axis: u8) -> Option<u8>
-    ensures { (rows : List Row)
-        → IsStepFault rows rules.now (stage_of live.now) (Split id axis) result }
+    ensures { (test : TestValue)
+        → IsStepFault rules.now (record { boxes = live_value live.now; test = test })
+        (Split id axis) result }
 {
     let Some(part) = live.box_of(id) else {
         return Some(NOT_LIVE);
@@ -61,8 +61,8 @@ fn split_fault(rules: &Rules, live: &Live, id: u32, axis: u8) -> Option<u8>
 
 /// The same of a box that is closed as outside.
 fn outside_fault(test: &mut BoxTest, live: &Live, id: u32) -> Option<u8>
-    ensures fault { (rows : List Row) (rules : Rules) → test_value test.old ≡ test_of rules rows
-        → IsStepFault rows rules (stage_of live.now) (Outside id) result }
+    ensures fault { (rules : Rules)
+        → IsStepFault rules (stage_of live.now test.old) (Outside id) result }
     ensures same { test_value test.new ≡ test_value test.old }
 {
     let Some(part) = live.box_of(id) else {
@@ -76,8 +76,8 @@ fn outside_fault(test: &mut BoxTest, live: &Live, id: u32) -> Option<u8>
 
 /// The same of one that is closed as inside.
 fn inside_fault(test: &BoxTest, live: &Live, id: u32, clock: i64, lo: i64, hi: i64) -> Option<u8>
-    ensures { (rows : List Row) (rules : Rules) → test_value test.now ≡ test_of rules rows
-        → IsStepFault rows rules (stage_of live.now) (Inside id clock lo hi) result }
+    ensures { (rules : Rules)
+        → IsStepFault rules (stage_of live.now test.now) (Inside id clock lo hi) result }
 {
     let Some(part) = live.box_of(id) else {
         return Some(NOT_LIVE);
@@ -93,8 +93,8 @@ fn inside_fault(test: &BoxTest, live: &Live, id: u32, clock: i64, lo: i64, hi: i
 
 /// The same of one that is closed as undecided.
 fn edge_fault(test: &BoxTest, live: &Live, id: u32, lo: i64, hi: i64) -> Option<u8>
-    ensures { (rows : List Row) (rules : Rules) → test_value test.now ≡ test_of rules rows
-        → IsStepFault rows rules (stage_of live.now) (Edge id lo hi) result }
+    ensures { (rules : Rules)
+        → IsStepFault rules (stage_of live.now test.now) (Edge id lo hi) result }
 {
     let Some(part) = live.box_of(id) else {
         return Some(NOT_LIVE);
@@ -107,8 +107,7 @@ fn edge_fault(test: &BoxTest, live: &Live, id: u32, lo: i64, hi: i64) -> Option<
 
 /// The same of a step of any kind.
 fn step_fault(test: &mut BoxTest, rules: &Rules, live: &Live, step: &Step) -> Option<u8>
-    ensures fault { (rows : List Row) → test_value test.old ≡ test_of rules.now rows
-        → IsStepFault rows rules.now (stage_of live.now) step.now result }
+    ensures fault { IsStepFault rules.now (stage_of live.now test.old) step.now result }
     ensures same { test_value test.new ≡ test_value test.old }
 {
     match step {
@@ -131,9 +130,11 @@ pub(crate) fn steps_fault(
 ) -> Result<Option<LineFault>, NoMemory>
     requires { (rules.now.outliers < length rows.now) × (length rows.now ≤ 64) }
     ensures found { IfOk result (λ found. MatchOption found
-        (StepsPass rows.now rules.now done (first_stage (grid_box root.now)) (steps_of steps.now))
-        (λ fault. StepsFail rows.now rules.now done
-        (first_stage (grid_box root.now)) (steps_of steps.now) fault.offset fault.number)) }
+        (StepsPass rules.now done
+        (first_stage (test_of rules.now rows.now) (grid_box root.now)) (steps_of steps.now))
+        (λ fault. StepsFail rules.now done
+        (first_stage (test_of rules.now rows.now) (grid_box root.now)) (steps_of steps.now)
+        fault.offset fault.number)) }
     ensures few { IfOk result (λ found. length (steps_of steps.now) < 2 ^ 62) }
 {
     let mut test = BoxTest::new(rows, rules);

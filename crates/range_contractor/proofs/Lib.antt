@@ -14,3 +14,4 @@ pub mod RowLemmas
 pub mod LeafExists
 pub mod TreeExists
 pub mod RowTreeExists
+pub mod RowTreeLemmas

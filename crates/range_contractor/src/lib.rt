@@ -5,6 +5,7 @@
 mod boxes;
 mod contraction;
 mod hulls;
+mod laws;
 mod leaf;
 mod meets;
 mod ranges;
@@ -14,6 +15,7 @@ mod squares;
 mod tree;
 
 pub use contraction::contract;
+pub use laws::trees_hold_rows;
 pub use row_trees::relaxed_tree;
 pub use tree::{Leaf, Tree};
 

@@ -9,11 +9,12 @@ use Rattle.sat_model.specs.declared.rows.Row.{Row}
 use Rattle.sat_model.specs.declared.steps.Step.{Step}
 use Rattle.sat_model.specs.declared.steps.Step.TheVariants.{Cut, Split, Outside, Inside, Edge}
 use Rattle.grid_model.specs.Boxes.{GridBox, box_holds}
-use Rattle.sat_model.specs.BoxTests.{test_of}
+use Rattle.sat_model.specs.BoxTests.{BoxTest, test_in}
 use Rattle.sat_model.specs.Cover.{KeepsClock, SomeKeeps, Covers, AreSureInside, EpochCover, BlockCover, BlocksCover, RowCover}
 use Rattle.sat_model.specs.Fitting.{IsPossible, AllBut}
-use Rattle.sat_model.specs.Fold.{Stage, first_stage, slab_of_cut, after, ShownStep, taken_by, pieces_from, pieces}
-use Rattle.sat_model.specs.Logs.{Block, LogValue, rows_of}
+use Rattle.sat_model.specs.Fold.{slab_of_cut, boxes_after, ShownStep, taken_by, pieces_from, pieces}
+use Rattle.sat_model.specs.Logs.{Block, LogValue}
+use Rattle.sat_model.specs.Stages.{Stage, first_stage, after}
 use Rattle.sat_model.specs.Verdicts.{StepPasses, StepsPass, BodyPasses, BlocksPass, Judged}
 use Rattle.grid_model.proofs.PointLemmas.{in_box}
 use Rattle.sat_model.proofs.BoxTestLemmas.{nothing_fits}
@@ -42,33 +43,34 @@ closed p b step part h = elim (cases_Bool (box_holds part p)) [
   | inr e ↦ inr (one_held p step part ∙ rw e refl)
 ]
 
-keeps_or_misses : (rows : List Row) (rules : Rules) (stage : Stage) (step : Step) (p : Pos) (b : ℤ)
-    → StepPasses rows rules stage step → AllBut rules.outliers (IsPossible p b) rows → KeepsOrMisses p b (taken_by stage step)
-keeps_or_misses rows rules stage (Cut id face bound) p b (part, is, (proper, empty)) all = rw is
+keeps_or_misses : (rules : Rules) (stage : Stage) (step : Step) (p : Pos) (b : ℤ)
+    → StepPasses rules stage step → AllBut stage.test.q (IsPossible p b) stage.test.rows → KeepsOrMisses p b (taken_by stage.boxes step)
+keeps_or_misses rules stage (Cut id face bound) p b (part, is, (proper, empty)) all = rw is
     (missed p b (Cut id face bound) (slab_of_cut face bound part)
-    (λ e. nothing_fits (test_of rules rows) (slab_of_cut face bound part) empty p b e all))
-keeps_or_misses rows rules stage (Split id axis) p b h all = inr refl
-keeps_or_misses rows rules stage (Outside id) p b (part, is, empty) all = rw is
-    (missed p b (Outside id) part (λ e. nothing_fits (test_of rules rows) part empty p b e all))
-keeps_or_misses rows rules stage (Inside id clock lo hi) p b (part, is, inner, hull) all = rw is
-    (closed p b (Inside id clock lo hi) part (λ e. hull b (relaxed_of_possible rules.outliers part p b rows (in_box part p e) all)))
-keeps_or_misses rows rules stage (Edge id lo hi) p b (part, is, hull) all = rw is
-    (closed p b (Edge id lo hi) part (λ e. hull b (relaxed_of_possible rules.outliers part p b rows (in_box part p e) all)))
+    (λ e. nothing_fits stage.test (slab_of_cut face bound part) empty p b e all))
+keeps_or_misses rules stage (Split id axis) p b h all = inr refl
+keeps_or_misses rules stage (Outside id) p b (part, is, empty) all = rw is
+    (missed p b (Outside id) part (λ e. nothing_fits stage.test part empty p b e all))
+keeps_or_misses rules stage (Inside id clock lo hi) p b (part, is, inner, hull) all = rw is
+    (closed p b (Inside id clock lo hi) part (λ e. hull b (relaxed_of_possible stage.test.q part p b stage.test.rows (in_box part p e) all)))
+keeps_or_misses rules stage (Edge id lo hi) p b (part, is, hull) all = rw is
+    (closed p b (Edge id lo hi) part (λ e. hull b (relaxed_of_possible stage.test.q part p b stage.test.rows (in_box part p e) all)))
 
 -- a point of a live box is kept by a later step
-covers_from : (rows : List Row) (rules : Rules) (done : ℕ) (stage : Stage) (steps : List Step) (p : Pos) (b : ℤ)
-    → StepsPass rows rules done stage steps → AllBut rules.outliers (IsPossible p b) rows → 0 < weight p stage.live → SomeKeeps p b (pieces_from stage steps)
-covers_from rows rules done stage [] p b h all some = absurd (omega (arith, nothing_live p stage.live h.0))
-covers_from rows rules done stage (step ∷ steps) p b h all some = elim (keeps_or_misses rows rules stage step p b h.0 all) [
-  | inl kept ↦ kept (pieces_from (after stage step) steps)
-  | inr none ↦ kept_later p b (taken_by stage step) (pieces_from (after stage step) steps)
-      (covers_from rows rules done (after stage step) steps p b h.1 all (omega (arith, conserved rows rules stage step p h.0)))
+covers_from : (rules : Rules) (done : ℕ) (stage : Stage) (steps : List Step) (p : Pos) (b : ℤ)
+    → StepsPass rules done stage steps → AllBut stage.test.q (IsPossible p b) stage.test.rows → 0 < weight p stage.boxes.live
+    → SomeKeeps p b (pieces_from stage.boxes steps)
+covers_from rules done stage [] p b h all some = absurd (omega (arith, nothing_live p stage.boxes.live h.0))
+covers_from rules done stage (step ∷ steps) p b h all some = elim (keeps_or_misses rules stage step p b h.0 all) [
+  | inl kept ↦ kept (pieces_from (boxes_after stage.boxes step) steps)
+  | inr none ↦ kept_later p b (taken_by stage.boxes step) (pieces_from (boxes_after stage.boxes step) steps)
+      (covers_from rules done (after stage step) steps p b h.1 all (omega (arith, conserved rules stage step p h.0)))
 ]
 
-covers : (rows : List Row) (rules : Rules) (done : ℕ) (root : GridBox) (steps : List Step) → StepsPass rows rules done (first_stage root) steps
-    → Covers rows rules.outliers root (pieces root steps)
-covers rows rules done root steps h p b inside all =
-    covers_from rows rules done (first_stage root) steps p b h all
+covers : (test : BoxTest) (rules : Rules) (done : ℕ) (root : GridBox) (steps : List Step) → StepsPass rules done (first_stage test root) steps
+    → Covers test.rows test.q root (pieces root steps)
+covers test rules done root steps h p b inside all =
+    covers_from rules done (first_stage test root) steps p b h all
     (let one : weight p (Some root ∷ []) ≡ 1 = root_weight root p ∙ rw inside refl in omega arith)
 
 -- ---- what surely fits
@@ -77,34 +79,34 @@ sure_both : (rows : List Row) (q : ℕ) (taken more : List ShownStep) → AreSur
 sure_both rows q [] more h k = k
 sure_both rows q (piece ∷ taken) more h k = (h.0, sure_both rows q taken more h.1 k)
 
-sure_taken : (rows : List Row) (rules : Rules) (stage : Stage) (step : Step) → StepPasses rows rules stage step → AreSureInside rows rules.outliers (taken_by stage step)
-sure_taken rows rules stage (Cut id face bound) (part, is, empty) = rw is (tt, tt)
-sure_taken rows rules stage (Split id axis) h = tt
-sure_taken rows rules stage (Outside id) (part, is, empty) = rw is (tt, tt)
-sure_taken rows rules stage (Inside id clock lo hi) (part, is, inner, hull) = rw is
-    (λ p e. sure_of_inner rules.outliers part p clock rows (in_box part p e) inner, tt)
-sure_taken rows rules stage (Edge id lo hi) (part, is, hull) = rw is (tt, tt)
+sure_taken : (rules : Rules) (stage : Stage) (step : Step) → StepPasses rules stage step → AreSureInside stage.test.rows stage.test.q (taken_by stage.boxes step)
+sure_taken rules stage (Cut id face bound) (part, is, empty) = rw is (tt, tt)
+sure_taken rules stage (Split id axis) h = tt
+sure_taken rules stage (Outside id) (part, is, empty) = rw is (tt, tt)
+sure_taken rules stage (Inside id clock lo hi) (part, is, inner, hull) = rw is
+    (λ p e. sure_of_inner stage.test.q part p clock stage.test.rows (in_box part p e) inner, tt)
+sure_taken rules stage (Edge id lo hi) (part, is, hull) = rw is (tt, tt)
 
-sure_from : (rows : List Row) (rules : Rules) (done : ℕ) (stage : Stage) (steps : List Step) → StepsPass rows rules done stage steps
-    → AreSureInside rows rules.outliers (pieces_from stage steps)
-sure_from rows rules done stage [] h = tt
-sure_from rows rules done stage (step ∷ steps) h =
-    sure_both rows rules.outliers (taken_by stage step) (pieces_from (after stage step) steps)
-    (sure_taken rows rules stage step h.0) (sure_from rows rules done (after stage step) steps h.1)
+sure_from : (rules : Rules) (done : ℕ) (stage : Stage) (steps : List Step) → StepsPass rules done stage steps
+    → AreSureInside stage.test.rows stage.test.q (pieces_from stage.boxes steps)
+sure_from rules done stage [] h = tt
+sure_from rules done stage (step ∷ steps) h =
+    sure_both stage.test.rows stage.test.q (taken_by stage.boxes step) (pieces_from (boxes_after stage.boxes step) steps)
+    (sure_taken rules stage step h.0) (sure_from rules done (after stage step) steps h.1)
 
 -- ---- an epoch, and a log
 
-pub epoch_cover : (rows : List Row) (rules : Rules) (done : ℕ) (root : GridBox) (steps : List Step) → StepsPass rows rules done (first_stage root) steps
-    → EpochCover rows rules.outliers root (pieces root steps)
-epoch_cover rows rules done root steps h = record {
-  partition = partitions rows rules done root steps h;
-  covers = covers rows rules done root steps h;
-  sure = sure_from rows rules done (first_stage root) steps h;
+pub epoch_cover : (test : BoxTest) (rules : Rules) (done : ℕ) (root : GridBox) (steps : List Step) → StepsPass rules done (first_stage test root) steps
+    → EpochCover test.rows test.q root (pieces root steps)
+epoch_cover test rules done root steps h = record {
+  partition = partitions test rules done root steps h;
+  covers = covers test rules done root steps h;
+  sure = sure_from rules done (first_stage test root) steps h;
 }
 
 block_cover : (rules : Rules) (block : Block) (root : Option GridBox) → BodyPasses rules block root → BlockCover rules.outliers block root
 block_cover rules block None h = tt
-block_cover rules block (Some root) h = epoch_cover (rows_of block.sats) rules block.done root block.steps h
+block_cover rules block (Some root) h = epoch_cover (test_in rules block) rules block.done root block.steps h
 
 blocks_cover : (rules : Rules) (before : Option ℕ) (blocks : List Block) → BlocksPass rules before blocks → BlocksCover rules.outliers blocks
 blocks_cover rules before [] h = tt

@@ -3,21 +3,21 @@ use Rattle.std.proofs.Common.{◌≡◌, ◌⊎◌, ℕ, zero, suc, arith, List,
 use Rattle.std.specs.Prelude.{ℤ}
 use Rattle.std.proofs.lemmas.Bool.{cases_lt}
 use Rattle.sat_model.specs.declared.rules.Rules.{Rules}
-use Rattle.sat_model.specs.declared.rows.Row.{Row}
 use Rattle.sat_model.specs.declared.rows.SatEntry.{SatEntry}
 use Rattle.sat_model.specs.declared.steps.Step.{Step}
 use Rattle.sat_model.specs.declared.steps.Step.TheVariants.{Cut, Split, Outside, Inside, Edge}
 use Rattle.grid_model.specs.Boxes.{GridBox}
-use Rattle.sat_model.specs.BoxTests.{test_of, IsEmpty, IsInner, HoldsHull}
-use Rattle.sat_model.specs.Fold.{Stage, first_stage, IsLive, after}
-use Rattle.sat_model.specs.Logs.{Block, LogValue, rows_of}
+use Rattle.sat_model.specs.BoxTests.{test_in, IsEmpty, IsInner, HoldsHull}
+use Rattle.sat_model.specs.Fold.{IsLive}
+use Rattle.sat_model.specs.Logs.{Block, LogValue}
+use Rattle.sat_model.specs.Stages.{Stage, first_stage, after}
 use Rattle.sat_model.specs.Verdicts.{IsLong, CutsEmptySlab, LiveFails, NotLive, StepFails, StepsFail, HeadFails, IsFirstRepeat, BlockFails, BlocksFail, FirstFault}
 use Rattle.sat_model.proofs.VerdictLemmas.{not_gone, not_failing, step_not_both, head_not_both, block_not_both}
 
 -- ---- a step
 
 abbrev LaterFails : Stage → ℕ → (GridBox → Type 0) → ℕ → ℕ → Type 0
-LaterFails stage id Meets test number = (part : GridBox) × IsLive stage id part × Meets part × (number ≡ test)
+LaterFails stage id Meets test number = (part : GridBox) × IsLive stage.boxes id part × Meets part × (number ≡ test)
 
 one_of_two : (stage : Stage) (id test n m : ℕ) (Meets : GridBox → Type 0)
     → NotLive stage id n ⊎ LiveFails stage id Meets test n → NotLive stage id m ⊎ LiveFails stage id Meets test m → n ≡ m
@@ -41,44 +41,44 @@ one_of_three stage id first second n m Meets (inr (inr (part, is, meets, e))) (i
     absurd (not_failing stage id first m Meets part is meets fails)
 one_of_three stage id first second n m Meets (inr (inr (part, is, meets, e))) (inr (inr (other, live, again, f))) = omega arith
 
-later_split : (rules : Rules) (stage : Stage) (id axis n : ℕ) → (rows : List Row) → StepFails rows rules stage (Split id axis) n
+later_split : (rules : Rules) (stage : Stage) (id axis n : ℕ) → StepFails rules stage (Split id axis) n
     → NotLive stage id n ⊎ (LiveFails stage id (IsLong rules axis) 61 n ⊎ LaterFails stage id (IsLong rules axis) 62 n)
-later_split rules stage id axis n rows (inl gone) = inl gone
-later_split rules stage id axis n rows (inr (inl short)) = inr (inl short)
-later_split rules stage id axis n rows (inr (inr (part, is, long, full, e))) = inr (inr (part, is, long, e))
+later_split rules stage id axis n (inl gone) = inl gone
+later_split rules stage id axis n (inr (inl short)) = inr (inl short)
+later_split rules stage id axis n (inr (inr (part, is, long, full, e))) = inr (inr (part, is, long, e))
 
-one_number : (rows : List Row) (rules : Rules) (stage : Stage) (step : Step) (n m : ℕ)
-    → StepFails rows rules stage step n → StepFails rows rules stage step m → n ≡ m
-one_number rows rules stage (Cut id face bound) n m f g = one_of_two stage id 57 n m (CutsEmptySlab (test_of rules rows) face bound) f g
-one_number rows rules stage (Split id axis) n m f g = one_of_three stage id 61 62 n m (IsLong rules axis) (later_split rules stage id axis n rows f) (later_split rules stage id axis m rows g)
-one_number rows rules stage (Outside id) n m f g = one_of_two stage id 58 n m (λ part. IsEmpty (test_of rules rows) part) f g
-one_number rows rules stage (Inside id clock lo hi) n m f g =
-    one_of_three stage id 59 60 n m (λ part. IsInner (test_of rules rows) part clock)
-    (later_inside rows rules stage id n clock lo hi f) (later_inside rows rules stage id m clock lo hi g)
+one_number : (rules : Rules) (stage : Stage) (step : Step) (n m : ℕ)
+    → StepFails rules stage step n → StepFails rules stage step m → n ≡ m
+one_number rules stage (Cut id face bound) n m f g = one_of_two stage id 57 n m (CutsEmptySlab stage.test face bound) f g
+one_number rules stage (Split id axis) n m f g = one_of_three stage id 61 62 n m (IsLong rules axis) (later_split rules stage id axis n f) (later_split rules stage id axis m g)
+one_number rules stage (Outside id) n m f g = one_of_two stage id 58 n m (λ part. IsEmpty stage.test part) f g
+one_number rules stage (Inside id clock lo hi) n m f g =
+    one_of_three stage id 59 60 n m (λ part. IsInner stage.test part clock)
+    (later_inside rules stage id n clock lo hi f) (later_inside rules stage id m clock lo hi g)
   where
-    later_inside : (rows : List Row) (rules : Rules) (stage : Stage) (id n : ℕ) (clock lo hi : ℤ) → StepFails rows rules stage (Inside id clock lo hi) n
+    later_inside : (rules : Rules) (stage : Stage) (id n : ℕ) (clock lo hi : ℤ) → StepFails rules stage (Inside id clock lo hi) n
         → NotLive stage id n
-        ⊎ (LiveFails stage id (λ part. IsInner (test_of rules rows) part clock) 59 n ⊎ LaterFails stage id (λ part. IsInner (test_of rules rows) part clock) 60 n)
-    later_inside rows rules stage id n clock lo hi (inl gone) = inl gone
-    later_inside rows rules stage id n clock lo hi (inr (inl out)) = inr (inl out)
-    later_inside rows rules stage id n clock lo hi (inr (inr (part, is, inner, narrow, e))) = inr (inr (part, is, inner, e))
-one_number rows rules stage (Edge id lo hi) n m f g = one_of_two stage id 60 n m (λ part. HoldsHull (test_of rules rows) part lo hi) f g
+        ⊎ (LiveFails stage id (λ part. IsInner stage.test part clock) 59 n ⊎ LaterFails stage id (λ part. IsInner stage.test part clock) 60 n)
+    later_inside rules stage id n clock lo hi (inl gone) = inl gone
+    later_inside rules stage id n clock lo hi (inr (inl out)) = inr (inl out)
+    later_inside rules stage id n clock lo hi (inr (inr (part, is, inner, narrow, e))) = inr (inr (part, is, inner, e))
+one_number rules stage (Edge id lo hi) n m f g = one_of_two stage id 60 n m (λ part. HoldsHull stage.test part lo hi) f g
 
 -- the same line, the same number
 abbrev IsOne : ℕ → ℕ → ℕ → ℕ → Type 0
 IsOne line number other_line other_number = (line ≡ other_line) × (number ≡ other_number)
 
-one_in_steps : (rows : List Row) (rules : Rules) (done : ℕ) (stage : Stage) (steps : List Step) (j n k m : ℕ)
-    → StepsFail rows rules done stage steps j n → StepsFail rows rules done stage steps k m → IsOne j n k m
-one_in_steps rows rules done stage [] j n k m (here, inl (live, e)) (there, inl (again, f)) = (omega arith, omega arith)
-one_in_steps rows rules done stage [] j n k m (here, inl (live, e)) (there, inr (none, count, f)) = absurd (live.1 (none live.0))
-one_in_steps rows rules done stage [] j n k m (here, inr (none, count, e)) (there, inl (live, f)) = absurd (live.1 (none live.0))
-one_in_steps rows rules done stage [] j n k m (here, inr (none, count, e)) (there, inr (again, other, f)) = (omega arith, omega arith)
-one_in_steps rows rules done stage (step ∷ steps) zero n zero m f g = (refl, one_number rows rules stage step n m f g)
-one_in_steps rows rules done stage (step ∷ steps) zero n (suc k) m f g = absurd (step_not_both rows rules stage step n g.0 f)
-one_in_steps rows rules done stage (step ∷ steps) (suc j) n zero m f g = absurd (step_not_both rows rules stage step m f.0 g)
-one_in_steps rows rules done stage (step ∷ steps) (suc j) n (suc k) m f g =
-    let same = one_in_steps rows rules done (after stage step) steps j n k m f.1 g.1 in
+one_in_steps : (rules : Rules) (done : ℕ) (stage : Stage) (steps : List Step) (j n k m : ℕ)
+    → StepsFail rules done stage steps j n → StepsFail rules done stage steps k m → IsOne j n k m
+one_in_steps rules done stage [] j n k m (here, inl (live, e)) (there, inl (again, f)) = (omega arith, omega arith)
+one_in_steps rules done stage [] j n k m (here, inl (live, e)) (there, inr (none, count, f)) = absurd (live.1 (none live.0))
+one_in_steps rules done stage [] j n k m (here, inr (none, count, e)) (there, inl (live, f)) = absurd (live.1 (none live.0))
+one_in_steps rules done stage [] j n k m (here, inr (none, count, e)) (there, inr (again, other, f)) = (omega arith, omega arith)
+one_in_steps rules done stage (step ∷ steps) zero n zero m f g = (refl, one_number rules stage step n m f g)
+one_in_steps rules done stage (step ∷ steps) zero n (suc k) m f g = absurd (step_not_both rules stage step n g.0 f)
+one_in_steps rules done stage (step ∷ steps) (suc j) n zero m f g = absurd (step_not_both rules stage step m f.0 g)
+one_in_steps rules done stage (step ∷ steps) (suc j) n (suc k) m f g =
+    let same = one_in_steps rules done (after stage step) steps j n k m f.1 g.1 in
     (ap suc same.0, same.1)
 
 -- ---- a block, and the log
@@ -113,8 +113,8 @@ one_in_block rules before block l n k m (inr (inl (passes, (i, first, at), e))) 
 one_in_block rules before block l n k m (inr (inr (passes, none, steps))) (inl (head, f)) = absurd (head_not_both rules before block m passes head)
 one_in_block rules before block l n k m (inr (inr (passes, none, steps))) (inr (inl (again, (j, other, line), f))) = absurd (none j other.repeats)
 one_in_block rules before block l n k m (inr (inr (passes, none, (root, i, paved, fails, at)))) (inr (inr (again, absent, (base, j, is, fail, line)))) =
-    let from = subst (λ (c : GridBox). StepsFail (rows_of block.sats) rules block.done (first_stage c) block.steps i n) (one_root block.root root base paved is) fails in
-    let same = one_in_steps (rows_of block.sats) rules block.done (first_stage base) block.steps i n j m from fail in
+    let from = subst (λ (c : GridBox). StepsFail rules block.done (first_stage (test_in rules block) c) block.steps i n) (one_root block.root root base paved is) fails in
+    let same = one_in_steps rules block.done (first_stage (test_in rules block) base) block.steps i n j m from fail in
     (omega (arith, same.0), same.1)
 
 one_in_blocks : (rules : Rules) (before : Option ℕ) (blocks : List Block) (l n k m : ℕ)

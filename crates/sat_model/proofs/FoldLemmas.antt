@@ -6,12 +6,13 @@ use Rattle.std.proofs.lemmas.List.Sums.{sum_by-cons, sum_by-append, sum_by-set}
 use lib.Signed.{le_z}
 use Rattle.grid_model.specs.declared.boxes.Pos.{Pos}
 use Rattle.sat_model.specs.declared.rules.Rules.{Rules}
-use Rattle.sat_model.specs.declared.rows.Row.{Row}
 use Rattle.sat_model.specs.declared.steps.Step.{Step}
 use Rattle.sat_model.specs.declared.steps.Step.TheVariants.{Cut, Split, Outside, Inside, Edge}
 use Rattle.grid_model.specs.Boxes.{GridBox, Side, side_holds, box_holds, middle, low_half, high_half, side_at, with_side}
+use Rattle.sat_model.specs.BoxTests.{BoxTest}
 use Rattle.sat_model.specs.Cover.{Partitions}
-use Rattle.sat_model.specs.Fold.{Stage, first_stage, axis_of, is_low, side_left, side_cut, IsProperBound, left_by_cut, slab_of_cut, halves, after, ShownStep, shown, taken_by, pieces_from, pieces}
+use Rattle.sat_model.specs.Fold.{axis_of, is_low, side_left, side_cut, IsProperBound, left_by_cut, slab_of_cut, halves, boxes_after, ShownStep, shown, taken_by, pieces_from, pieces}
+use Rattle.sat_model.specs.Stages.{Stage, first_stage, after}
 use Rattle.sat_model.specs.Verdicts.{StepPasses, StepsPass}
 use Rattle.grid_model.proofs.AmountLemmas.{above_is}
 
@@ -97,46 +98,46 @@ closed_conserved : (p : Pos) (live : List (Option GridBox)) (id : ℕ) (step : S
 closed_conserved p live id step part is = rw is (omega (arith, replaced p live id part None is, one_held p step part))
 
 -- a step that passes keeps how often p is held by live boxes and by the piece that it takes
-pub conserved : (rows : List Row) (rules : Rules) (stage : Stage) (step : Step) (p : Pos) → StepPasses rows rules stage step
-    → weight p (after stage step).live + held_by p (taken_by stage step) ≡ weight p stage.live
-conserved rows rules stage (Cut id face bound) p (part, is, (proper, empty)) = rw is
+pub conserved : (rules : Rules) (stage : Stage) (step : Step) (p : Pos) → StepPasses rules stage step
+    → weight p (boxes_after stage.boxes step).live + held_by p (taken_by stage.boxes step) ≡ weight p stage.boxes.live
+conserved rules stage (Cut id face bound) p (part, is, (proper, empty)) = rw is
     (omega (
       arith,
-      replaced p stage.live id part (Some (left_by_cut face bound part)) is,
+      replaced p stage.boxes.live id part (Some (left_by_cut face bound part)) is,
       one_held p (Cut id face bound) (slab_of_cut face bound part),
       box_halved (axis_of face) part _ _ p (cut_halved (is_low face) (side_at (axis_of face) part) bound proper),
     ))
-conserved rows rules stage (Split id axis) p (part, is, long, left) = rw is
+conserved rules stage (Split id axis) p (part, is, long, left) = rw is
     (omega (
       arith,
-      sum_by-append (λ o. option_weight p o) (set stage.live id None) (halves axis (Some part)),
+      sum_by-append (λ o. option_weight p o) (set stage.boxes.live id None) (halves axis (Some part)),
       two_weights p (with_side axis part (low_half (side_at axis part))) (with_side axis part (high_half (side_at axis part))),
       box_halved axis part _ _ p (side_halved (side_at axis part) (long_ordered (side_at axis part) rules long)),
-      replaced p stage.live id part None is,
+      replaced p stage.boxes.live id part None is,
     ))
-conserved rows rules stage (Outside id) p (part, is, empty) = closed_conserved p stage.live id (Outside id) part is
-conserved rows rules stage (Inside id clock lo hi) p (part, is, inner, hull) = closed_conserved p stage.live id (Inside id clock lo hi) part is
-conserved rows rules stage (Edge id lo hi) p (part, is, hull) = closed_conserved p stage.live id (Edge id lo hi) part is
+conserved rules stage (Outside id) p (part, is, empty) = closed_conserved p stage.boxes.live id (Outside id) part is
+conserved rules stage (Inside id clock lo hi) p (part, is, inner, hull) = closed_conserved p stage.boxes.live id (Inside id clock lo hi) part is
+conserved rules stage (Edge id lo hi) p (part, is, hull) = closed_conserved p stage.boxes.live id (Edge id lo hi) part is
 
 pub nothing_live : (p : Pos) (live : List (Option GridBox)) → ((id : ℕ) → get_or live id None ≡ None) → weight p live ≡ 0
 nothing_live p [] h = refl
 nothing_live p (o ∷ live) h =
     omega (arith, sum_by-cons (λ o. option_weight p o) o live, ap (λ o. option_weight p o) (h 0), nothing_live p live (λ id. h (suc id)))
 
-held_from : (rows : List Row) (rules : Rules) (done : ℕ) (stage : Stage) (steps : List Step) (p : Pos) → StepsPass rows rules done stage steps
-    → held_by p (pieces_from stage steps) ≡ weight p stage.live
-held_from rows rules done stage [] p h = sym (nothing_live p stage.live h.0)
-held_from rows rules done stage (step ∷ steps) p h =
+held_from : (rules : Rules) (done : ℕ) (stage : Stage) (steps : List Step) (p : Pos) → StepsPass rules done stage steps
+    → held_by p (pieces_from stage.boxes steps) ≡ weight p stage.boxes.live
+held_from rules done stage [] p h = sym (nothing_live p stage.boxes.live h.0)
+held_from rules done stage (step ∷ steps) p h =
     omega (
       arith,
-      sum_by-append (λ piece. bit (box_holds piece.part p)) (taken_by stage step) (pieces_from (after stage step) steps),
-      held_from rows rules done (after stage step) steps p h.1,
-      conserved rows rules stage step p h.0,
+      sum_by-append (λ piece. bit (box_holds piece.part p)) (taken_by stage.boxes step) (pieces_from (boxes_after stage.boxes step) steps),
+      held_from rules done (after stage step) steps p h.1,
+      conserved rules stage step p h.0,
     )
 
 pub root_weight : (root : GridBox) (p : Pos) → weight p (Some root ∷ []) ≡ bit (box_holds root p)
 root_weight root p = omega arith
 
-pub partitions : (rows : List Row) (rules : Rules) (done : ℕ) (root : GridBox) (steps : List Step) → StepsPass rows rules done (first_stage root) steps
+pub partitions : (test : BoxTest) (rules : Rules) (done : ℕ) (root : GridBox) (steps : List Step) → StepsPass rules done (first_stage test root) steps
     → Partitions root (pieces root steps)
-partitions rows rules done root steps h p = omega (arith, held_from rows rules done (first_stage root) steps p h, root_weight root p)
+partitions test rules done root steps h p = omega (arith, held_from rules done (first_stage test root) steps p h, root_weight root p)

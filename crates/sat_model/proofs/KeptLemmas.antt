@@ -2,31 +2,31 @@
 use Rattle.std.proofs.Common.{◌≡◌, ℕ, arith, List, [], ◌∷◌, cond, count_by, refl}
 use Rattle.std.proofs.lemmas.List.Sums.{sum_by-cons, sum_by-append}
 use Rattle.sat_model.specs.declared.rules.Rules.{Rules}
-use Rattle.sat_model.specs.declared.rows.Row.{Row}
 use Rattle.sat_model.specs.declared.steps.Step.{Step}
 use Rattle.sat_model.specs.declared.steps.Step.TheVariants.{Cut, Split, Outside, Inside, Edge}
 use Rattle.sat_model.specs.Cover.{is_kept}
-use Rattle.sat_model.specs.Fold.{Stage, after, taken_by, pieces_from}
+use Rattle.sat_model.specs.Fold.{boxes_after, taken_by, pieces_from}
+use Rattle.sat_model.specs.Stages.{Stage, after}
 use Rattle.sat_model.specs.StepKinds.{is_kept_step}
 use Rattle.sat_model.specs.Verdicts.{StepPasses, StepsPass}
 
-kept_taken : (rows : List Row) (rules : Rules) (stage : Stage) (step : Step) → StepPasses rows rules stage step
-    → count_by is_kept (taken_by stage step) ≡ cond (is_kept_step step) 1 0
-kept_taken rows rules stage (Cut id face bound) (part, is, cuts) = rw is refl
-kept_taken rows rules stage (Split id axis) h = refl
-kept_taken rows rules stage (Outside id) (part, is, empty) = rw is refl
-kept_taken rows rules stage (Inside id clock lo hi) (part, is, inner, hull) = rw is refl
-kept_taken rows rules stage (Edge id lo hi) (part, is, hull) = rw is refl
+kept_taken : (rules : Rules) (stage : Stage) (step : Step) → StepPasses rules stage step
+    → count_by is_kept (taken_by stage.boxes step) ≡ cond (is_kept_step step) 1 0
+kept_taken rules stage (Cut id face bound) (part, is, cuts) = rw is refl
+kept_taken rules stage (Split id axis) h = refl
+kept_taken rules stage (Outside id) (part, is, empty) = rw is refl
+kept_taken rules stage (Inside id clock lo hi) (part, is, inner, hull) = rw is refl
+kept_taken rules stage (Edge id lo hi) (part, is, hull) = rw is refl
 
 -- so the steps alone tell how many boxes are kept
-pub kept_of_steps : (rows : List Row) (rules : Rules) (done : ℕ) (stage : Stage) (steps : List Step) → StepsPass rows rules done stage steps
-    → count_by is_kept (pieces_from stage steps) ≡ count_by is_kept_step steps
-kept_of_steps rows rules done stage [] h = refl
-kept_of_steps rows rules done stage (step ∷ steps) h =
+pub kept_of_steps : (rules : Rules) (done : ℕ) (stage : Stage) (steps : List Step) → StepsPass rules done stage steps
+    → count_by is_kept (pieces_from stage.boxes steps) ≡ count_by is_kept_step steps
+kept_of_steps rules done stage [] h = refl
+kept_of_steps rules done stage (step ∷ steps) h =
     omega (
       arith,
-      sum_by-append (λ piece. cond (is_kept piece) 1 0) (taken_by stage step) (pieces_from (after stage step) steps),
+      sum_by-append (λ piece. cond (is_kept piece) 1 0) (taken_by stage.boxes step) (pieces_from (boxes_after stage.boxes step) steps),
       sum_by-cons (λ s. cond (is_kept_step s) 1 0) step steps,
-      kept_taken rows rules stage step h.0,
-      kept_of_steps rows rules done (after stage step) steps h.1,
+      kept_taken rules stage step h.0,
+      kept_of_steps rules done (after stage step) steps h.1,
     )

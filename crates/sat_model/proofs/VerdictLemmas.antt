@@ -1,66 +1,66 @@
 -- A log whose lines pass has no first fault, and a first fault is the only one.
 use Rattle.std.proofs.Common.{◌≡◌, ℕ, zero, suc, arith, List, [], ◌∷◌, subst, inl, inr, refl, Option, None, Some}
 use Rattle.sat_model.specs.declared.rules.Rules.{Rules}
-use Rattle.sat_model.specs.declared.rows.Row.{Row}
 use Rattle.sat_model.specs.declared.steps.Step.{Step}
 use Rattle.sat_model.specs.declared.steps.Step.TheVariants.{Cut, Split, Outside, Inside, Edge}
 use Rattle.grid_model.specs.Boxes.{GridBox}
-use Rattle.sat_model.specs.BoxTests.{test_of, IsEmpty, IsInner, HoldsHull}
-use Rattle.sat_model.specs.Fold.{Stage, first_stage, live_box, IsLive, after}
-use Rattle.sat_model.specs.Logs.{Block, LogValue, rows_of}
+use Rattle.sat_model.specs.BoxTests.{test_in, IsEmpty, IsInner, HoldsHull}
+use Rattle.sat_model.specs.Fold.{live_box, IsLive}
+use Rattle.sat_model.specs.Logs.{Block, LogValue}
+use Rattle.sat_model.specs.Stages.{Stage, first_stage, after}
 use Rattle.sat_model.specs.Verdicts.{IsLong, CutsEmptySlab, StepPasses, LiveFails, NotLive, StepFails, StepsPass, StepsFail, HeadPasses, HeadFails, BlockPasses, BlockFails, BlocksPass, BlocksFail, Judged, FirstFault}
 
 -- ---- a step
 
-pub not_gone : (stage : Stage) (id number : ℕ) (part : GridBox) → IsLive stage id part → NotLive stage id number → ⊥
+pub not_gone : (stage : Stage) (id number : ℕ) (part : GridBox) → IsLive stage.boxes id part → NotLive stage id number → ⊥
 not_gone stage id number part is (gone, n) = absurd cc
 
 same_box : (o : Option GridBox) (a c : GridBox) → o ≡ Some a → o ≡ Some c → a ≡ c
 same_box o a c e f = cc
 
 -- the live box that fails is the one that passes
-pub not_failing : (stage : Stage) (id test number : ℕ) (Meets : GridBox → Type 0) (part : GridBox) → IsLive stage id part → Meets part
+pub not_failing : (stage : Stage) (id test number : ℕ) (Meets : GridBox → Type 0) (part : GridBox) → IsLive stage.boxes id part → Meets part
     → LiveFails stage id Meets test number → ⊥
-not_failing stage id test number Meets part is meets (other, live, fails, n) = fails (subst Meets (same_box (live_box stage id) part other is live) meets)
+not_failing stage id test number Meets part is meets (other, live, fails, n) = fails (subst Meets (same_box (live_box stage.boxes id) part other is live) meets)
 
-pub step_not_both : (rows : List Row) (rules : Rules) (stage : Stage) (step : Step) (number : ℕ)
-    → StepPasses rows rules stage step → StepFails rows rules stage step number → ⊥
-step_not_both rows rules stage (Cut id face bound) number (part, is, cuts) f = elim f [
+pub step_not_both : (rules : Rules) (stage : Stage) (step : Step) (number : ℕ)
+    → StepPasses rules stage step → StepFails rules stage step number → ⊥
+step_not_both rules stage (Cut id face bound) number (part, is, cuts) f = elim f [
   | inl gone ↦ not_gone stage id number part is gone
-  | inr fails ↦ not_failing stage id 57 number (CutsEmptySlab (test_of rules rows) face bound) part is cuts fails
+  | inr fails ↦ not_failing stage id 57 number (CutsEmptySlab stage.test face bound) part is cuts fails
 ]
-step_not_both rows rules stage (Split id axis) number (part, is, long, left) f = elim f [
+step_not_both rules stage (Split id axis) number (part, is, long, left) f = elim f [
   | inl gone ↦ not_gone stage id number part is gone
   | inr g ↦ elim g [
     | inl fails ↦ not_failing stage id 61 number (IsLong rules axis) part is long fails
     | inr (other, live, longer, full, n) ↦ absurd (omega arith)
   ]
 ]
-step_not_both rows rules stage (Outside id) number (part, is, empty) f = elim f [
+step_not_both rules stage (Outside id) number (part, is, empty) f = elim f [
   | inl gone ↦ not_gone stage id number part is gone
-  | inr fails ↦ not_failing stage id 58 number (λ c. IsEmpty (test_of rules rows) c) part is empty fails
+  | inr fails ↦ not_failing stage id 58 number (λ c. IsEmpty stage.test c) part is empty fails
 ]
-step_not_both rows rules stage (Inside id clock lo hi) number (part, is, inner, hull) f = elim f [
+step_not_both rules stage (Inside id clock lo hi) number (part, is, inner, hull) f = elim f [
   | inl gone ↦ not_gone stage id number part is gone
   | inr g ↦ elim g [
-    | inl fails ↦ not_failing stage id 59 number (λ c. IsInner (test_of rules rows) c clock) part is inner fails
+    | inl fails ↦ not_failing stage id 59 number (λ c. IsInner stage.test c clock) part is inner fails
     | inr (other, live, shown, narrow, n) ↦
-        not_failing stage id 60 60 (λ c. HoldsHull (test_of rules rows) c lo hi) part is hull (other, live, narrow, refl)
+        not_failing stage id 60 60 (λ c. HoldsHull stage.test c lo hi) part is hull (other, live, narrow, refl)
   ]
 ]
-step_not_both rows rules stage (Edge id lo hi) number (part, is, hull) f = elim f [
+step_not_both rules stage (Edge id lo hi) number (part, is, hull) f = elim f [
   | inl gone ↦ not_gone stage id number part is gone
-  | inr fails ↦ not_failing stage id 60 number (λ c. HoldsHull (test_of rules rows) c lo hi) part is hull fails
+  | inr fails ↦ not_failing stage id 60 number (λ c. HoldsHull stage.test c lo hi) part is hull fails
 ]
 
-steps_not_both : (rows : List Row) (rules : Rules) (done : ℕ) (stage : Stage) (steps : List Step) (k number : ℕ)
-    → StepsPass rows rules done stage steps → StepsFail rows rules done stage steps k number → ⊥
-steps_not_both rows rules done stage [] k number h f = elim f.1 [
+steps_not_both : (rules : Rules) (done : ℕ) (stage : Stage) (steps : List Step) (k number : ℕ)
+    → StepsPass rules done stage steps → StepsFail rules done stage steps k number → ⊥
+steps_not_both rules done stage [] k number h f = elim f.1 [
   | inl live ↦ live.0.1 (h.0 live.0.0)
   | inr count ↦ count.1 h.1
 ]
-steps_not_both rows rules done stage (step ∷ steps) zero number h f = step_not_both rows rules stage step number h.0 f
-steps_not_both rows rules done stage (step ∷ steps) (suc k) number h f = steps_not_both rows rules done (after stage step) steps k number h.1 f.1
+steps_not_both rules done stage (step ∷ steps) zero number h f = step_not_both rules stage step number h.0 f
+steps_not_both rules done stage (step ∷ steps) (suc k) number h f = steps_not_both rules done (after stage step) steps k number h.1 f.1
 
 -- ---- a block, and the log
 
@@ -77,7 +77,7 @@ block_not_both rules before block line number h f = elim f [
   | inr g ↦ elim g [
     | inl (head, (k, first, is_line), n) ↦ h.sats k first.repeats
     | inr (head, none, (root, k, paved, fails, is_line)) ↦
-        steps_not_both (rows_of block.sats) rules block.done (first_stage root) block.steps k number (rw paved at h.body) fails
+        steps_not_both rules block.done (first_stage (test_in rules block) root) block.steps k number (rw paved at h.body) fails
   ]
 ]
 

@@ -6,6 +6,7 @@ use Rattle.sat_model.specs.declared.rows.Row.{Row}
 use Rattle.grid_model.specs.Boxes.{GridBox}
 use Rattle.sat_model.specs.ClockSpans.{clock_spans, IsShownEmpty, IsShownInner, NoneIsShownInner}
 use Rattle.sat_model.specs.ClockSpans.{IsLeastShownInner, IsClockHull}
+use Rattle.sat_model.specs.Logs.{Block, rows_of}
 use Rattle.sat_model.specs.Pairs.{IsShownEmptyByPairs}
 use Rattle.sat_model.specs.Relaxed.{LiesInRelaxed}
 
@@ -17,6 +18,10 @@ pub record BoxTest : Type 0 where
 
 abbrev pub test_of : Rules → List Row → BoxTest
 test_of rules rows = record { rows = rows; q = rules.outliers; pairs = rules.pairs }
+
+-- the test by a block's own rows
+abbrev pub test_in : Rules → Block → BoxTest
+test_in rules block = test_of rules (rows_of block.sats)
 
 -- clock spans show the box empty or, where pairs are asked too, those do
 abbrev pub IsEmptyBy : Bool → List Row → GridBox → ℕ → Type 0

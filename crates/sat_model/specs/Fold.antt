@@ -1,4 +1,5 @@
--- The steps of an epoch, folded over its live boxes.
+-- The steps of an epoch, folded over its live boxes: a subpaving (Jaulin, Kieffer, Didrit and
+-- Walter, Applied Interval Analysis, 2001).
 use Rattle.std.specs.Prelude.{◌≡◌, ℕ, ◌+◌, ◌/◌, ◌%◌, ℤ, pos, ◌+ℤ◌, ◌-ℤ◌, ◌≤ℤ◌, ◌<ℤ◌, Bool, true}
 use Rattle.std.specs.Prelude.{false, nat_eq, List, [], ◌∷◌, ◌++◌, Option, None, Some}
 use Rattle.std.specs.Prelude.{slice_index_or, slice_set}
@@ -7,22 +8,23 @@ use Rattle.sat_model.specs.declared.steps.Step.TheVariants.{Cut, Split, Outside,
 use Rattle.grid_model.specs.Boxes.{GridBox, Side, side_at, with_side, low_half, high_half}
 
 -- the box of each number that was given, where it is live, and how many splits were made
-pub record Stage : Type 0 where
+pub record Subpaving : Type 0 where
   pub live : List (Option GridBox)
   pub splits : ℕ
 
-abbrev pub first_stage : GridBox → Stage
-first_stage root = record { live = Some root ∷ []; splits = 0 }
+-- the root alone is live
+abbrev pub first_boxes : GridBox → Subpaving
+first_boxes root = record { live = Some root ∷ []; splits = 0 }
 
-abbrev pub live_box : Stage → ℕ → Option GridBox
-live_box stage id = slice_index_or stage.live id None
+abbrev pub live_box : Subpaving → ℕ → Option GridBox
+live_box boxes id = slice_index_or boxes.live id None
 
-abbrev pub IsLive : Stage → ℕ → GridBox → Type 0
-IsLive stage id part = live_box stage id ≡ Some part
+abbrev pub IsLive : Subpaving → ℕ → GridBox → Type 0
+IsLive boxes id part = live_box boxes id ≡ Some part
 
 -- no box is live
-abbrev pub NoneLive : Stage → Type 0
-NoneLive stage = (id : ℕ) → live_box stage id ≡ None
+abbrev pub NoneLive : Subpaving → Type 0
+NoneLive boxes = (id : ℕ) → live_box boxes id ≡ None
 
 -- ---- cuts: faces 0 and 1 are the low and the high face of x, 2 and 3 of y, 4 and 5 of z
 
@@ -69,20 +71,22 @@ abbrev pub cut_box : ℕ → ℤ → Option GridBox → Option GridBox
 cut_box face bound None = None
 cut_box face bound (Some part) = Some (left_by_cut face bound part)
 
--- the stage behind a step
-abbrev pub after : Stage → Step → Stage
-after stage (Cut id face bound) = record {
-  live = slice_set stage.live id (cut_box face bound (live_box stage id));
-  splits = stage.splits;
+-- the boxes behind a step
+abbrev pub boxes_after : Subpaving → Step → Subpaving
+boxes_after boxes (Cut id face bound) = record {
+  live = slice_set boxes.live id (cut_box face bound (live_box boxes id));
+  splits = boxes.splits;
 }
-after stage (Split id axis) = record {
-  live = slice_set stage.live id None ++ halves axis (live_box stage id);
-  splits = stage.splits + 1;
+boxes_after boxes (Split id axis) = record {
+  live = slice_set boxes.live id None ++ halves axis (live_box boxes id);
+  splits = boxes.splits + 1;
 }
-after stage (Outside id) = record { live = slice_set stage.live id None; splits = stage.splits }
-after stage (Inside id clock lo hi) =
-    record { live = slice_set stage.live id None; splits = stage.splits }
-after stage (Edge id lo hi) = record { live = slice_set stage.live id None; splits = stage.splits }
+boxes_after boxes (Outside id) =
+    record { live = slice_set boxes.live id None; splits = boxes.splits }
+boxes_after boxes (Inside id clock lo hi) =
+    record { live = slice_set boxes.live id None; splits = boxes.splits }
+boxes_after boxes (Edge id lo hi) =
+    record { live = slice_set boxes.live id None; splits = boxes.splits }
 
 -- a step with the box or the slab that it speaks of
 pub record ShownStep : Type 0 where
@@ -99,17 +103,17 @@ slab_shown step face bound (Some part) =
     (record { step = step; part = slab_of_cut face bound part }) ∷ []
 
 -- the slab that a step cuts off, or the box that it closes
-abbrev pub taken_by : Stage → Step → List ShownStep
-taken_by stage (Cut id face bound) = slab_shown (Cut id face bound) face bound (live_box stage id)
-taken_by stage (Split id axis) = []
-taken_by stage (Outside id) = shown (Outside id) (live_box stage id)
-taken_by stage (Inside id clock lo hi) = shown (Inside id clock lo hi) (live_box stage id)
-taken_by stage (Edge id lo hi) = shown (Edge id lo hi) (live_box stage id)
+abbrev pub taken_by : Subpaving → Step → List ShownStep
+taken_by boxes (Cut id face bound) = slab_shown (Cut id face bound) face bound (live_box boxes id)
+taken_by boxes (Split id axis) = []
+taken_by boxes (Outside id) = shown (Outside id) (live_box boxes id)
+taken_by boxes (Inside id clock lo hi) = shown (Inside id clock lo hi) (live_box boxes id)
+taken_by boxes (Edge id lo hi) = shown (Edge id lo hi) (live_box boxes id)
 
 -- all slabs and closed boxes, in order
-abbrev pub pieces_from : Stage → List Step → List ShownStep
-pieces_from stage [] = []
-pieces_from stage (step ∷ steps) = taken_by stage step ++ pieces_from (after stage step) steps
+abbrev pub pieces_from : Subpaving → List Step → List ShownStep
+pieces_from boxes [] = []
+pieces_from boxes (step ∷ steps) = taken_by boxes step ++ pieces_from (boxes_after boxes step) steps
 
 abbrev pub pieces : GridBox → List Step → List ShownStep
-pieces root steps = pieces_from (first_stage root) steps
+pieces root steps = pieces_from (first_boxes root) steps

@@ -14,3 +14,4 @@ pub mod StepKinds
 pub mod Cover
 pub mod Pairs
 pub mod BoxTests
+pub mod Stages

@@ -2,14 +2,13 @@
 use Rattle.std.specs.Prelude.{◌≡◌, ◌≢◌, ℕ, zero, suc, ◌+◌, ◌<◌, ◌≤◌, ◌⊎◌, ℤ, ◌-ℤ◌, ◌<ℤ◌, Bool, true}
 use Rattle.std.specs.Prelude.{false, List, [], ◌∷◌, length, map, Option, None, Some, slice_get}
 use Rattle.sat_model.specs.declared.rules.Rules.{Rules}
-use Rattle.sat_model.specs.declared.rows.Row.{Row}
 use Rattle.sat_model.specs.declared.rows.SatEntry.{SatEntry}
 use Rattle.sat_model.specs.declared.steps.Step.{Step}
 use Rattle.sat_model.specs.declared.steps.Step.TheVariants.{Cut, Split, Outside, Inside, Edge}
 use Rattle.grid_model.specs.Boxes.{GridBox, side_at}
-use Rattle.sat_model.specs.BoxTests.{BoxTest, test_of, IsEmpty, IsInner, HoldsHull}
-use Rattle.sat_model.specs.Fold.{Stage, first_stage, live_box, IsLive, NoneLive, IsProperCut}
-use Rattle.sat_model.specs.Fold.{slab_of_cut, after}
+use Rattle.sat_model.specs.BoxTests.{BoxTest, test_in, IsEmpty, IsInner, HoldsHull}
+use Rattle.sat_model.specs.Fold.{live_box, IsLive, NoneLive, IsProperCut, slab_of_cut}
+use Rattle.sat_model.specs.Stages.{Stage, first_stage, after}
 use Rattle.sat_model.specs.Logs.{Block, LogValue, sat_of, rows_of}
 
 -- ---- the lines of steps
@@ -24,64 +23,63 @@ CutsEmptySlab test face bound part =
     IsProperCut face bound part × IsEmpty test (slab_of_cut face bound part)
 
 -- no test of the step fails, at this stage
-abbrev pub StepPasses : List Row → Rules → Stage → Step → Type 0
-StepPasses rows rules stage (Cut id face bound) =
-    (part : GridBox) × IsLive stage id part × CutsEmptySlab (test_of rules rows) face bound part
-StepPasses rows rules stage (Split id axis) = (part : GridBox) × IsLive stage id part
-    × IsLong rules axis part × (stage.splits < rules.bisections)
-StepPasses rows rules stage (Outside id) =
-    (part : GridBox) × IsLive stage id part × IsEmpty (test_of rules rows) part
-StepPasses rows rules stage (Inside id clock lo hi) =
-    (part : GridBox) × IsLive stage id part × IsInner (test_of rules rows) part clock
-    × HoldsHull (test_of rules rows) part lo hi
-StepPasses rows rules stage (Edge id lo hi) =
-    (part : GridBox) × IsLive stage id part × HoldsHull (test_of rules rows) part lo hi
+abbrev pub StepPasses : Rules → Stage → Step → Type 0
+StepPasses rules stage (Cut id face bound) =
+    (part : GridBox) × IsLive stage.boxes id part × CutsEmptySlab stage.test face bound part
+StepPasses rules stage (Split id axis) = (part : GridBox) × IsLive stage.boxes id part
+    × IsLong rules axis part × (stage.boxes.splits < rules.bisections)
+StepPasses rules stage (Outside id) =
+    (part : GridBox) × IsLive stage.boxes id part × IsEmpty stage.test part
+StepPasses rules stage (Inside id clock lo hi) =
+    (part : GridBox) × IsLive stage.boxes id part × IsInner stage.test part clock
+    × HoldsHull stage.test part lo hi
+StepPasses rules stage (Edge id lo hi) =
+    (part : GridBox) × IsLive stage.boxes id part × HoldsHull stage.test part lo hi
 
 -- a live box fails the fact, under a test of this number
 abbrev pub LiveFails : Stage → ℕ → (GridBox → Type 0) → ℕ → ℕ → Type 0
 LiveFails stage id Meets test number =
-    (part : GridBox) × IsLive stage id part × (Meets part → ⊥) × (number ≡ test)
+    (part : GridBox) × IsLive stage.boxes id part × (Meets part → ⊥) × (number ≡ test)
 
 abbrev pub NotLive : Stage → ℕ → ℕ → Type 0
-NotLive stage id number = (live_box stage id ≡ None) × (number ≡ 56)
+NotLive stage id number = (live_box stage.boxes id ≡ None) × (number ≡ 56)
 
 -- the least number of a test of the step that fails
-abbrev pub StepFails : List Row → Rules → Stage → Step → ℕ → Type 0
-StepFails rows rules stage (Cut id face bound) number =
+abbrev pub StepFails : Rules → Stage → Step → ℕ → Type 0
+StepFails rules stage (Cut id face bound) number =
     NotLive stage id number
-    ⊎ LiveFails stage id (CutsEmptySlab (test_of rules rows) face bound) 57 number
-StepFails rows rules stage (Split id axis) number =
+    ⊎ LiveFails stage id (CutsEmptySlab stage.test face bound) 57 number
+StepFails rules stage (Split id axis) number =
     NotLive stage id number
     ⊎ (LiveFails stage id (IsLong rules axis) 61 number
-    ⊎ ((part : GridBox) × IsLive stage id part × IsLong rules axis part
-    × (rules.bisections ≤ stage.splits) × (number ≡ 62)))
-StepFails rows rules stage (Outside id) number =
-    NotLive stage id number ⊎ LiveFails stage id
-    (λ part. IsEmpty (test_of rules rows) part) 58 number
-StepFails rows rules stage (Inside id clock lo hi) number =
+    ⊎ ((part : GridBox) × IsLive stage.boxes id part × IsLong rules axis part
+    × (rules.bisections ≤ stage.boxes.splits) × (number ≡ 62)))
+StepFails rules stage (Outside id) number =
+    NotLive stage id number ⊎ LiveFails stage id (λ part. IsEmpty stage.test part) 58 number
+StepFails rules stage (Inside id clock lo hi) number =
     NotLive stage id number
-    ⊎ (LiveFails stage id (λ part. IsInner (test_of rules rows) part clock) 59 number
-    ⊎ ((part : GridBox) × IsLive stage id part × IsInner (test_of rules rows) part clock
-    × (HoldsHull (test_of rules rows) part lo hi → ⊥) × (number ≡ 60)))
-StepFails rows rules stage (Edge id lo hi) number =
-    NotLive stage id number ⊎ LiveFails stage id
-    (λ part. HoldsHull (test_of rules rows) part lo hi) 60 number
+    ⊎ (LiveFails stage id (λ part. IsInner stage.test part clock) 59 number
+    ⊎ ((part : GridBox) × IsLive stage.boxes id part × IsInner stage.test part clock
+    × (HoldsHull stage.test part lo hi → ⊥) × (number ≡ 60)))
+StepFails rules stage (Edge id lo hi) number =
+    NotLive stage id number
+    ⊎ LiveFails stage id (λ part. HoldsHull stage.test part lo hi) 60 number
 
 -- the steps from this stage on and the line of the splits behind them fail no test
-abbrev pub StepsPass : List Row → Rules → ℕ → Stage → List Step → Type 0
-StepsPass rows rules done stage [] = NoneLive stage × (stage.splits ≡ done)
-StepsPass rows rules done stage (step ∷ steps) =
-    StepPasses rows rules stage step × StepsPass rows rules done (after stage step) steps
+abbrev pub StepsPass : Rules → ℕ → Stage → List Step → Type 0
+StepsPass rules done stage [] = NoneLive stage.boxes × (stage.boxes.splits ≡ done)
+StepsPass rules done stage (step ∷ steps) =
+    StepPasses rules stage step × StepsPass rules done (after stage step) steps
 
 -- the first of these lines that fails is k lines on, and number is the least of a test that fails
 -- there
-abbrev pub StepsFail : List Row → Rules → ℕ → Stage → List Step → ℕ → ℕ → Type 0
-StepsFail rows rules done stage [] k number =
-    (k ≡ 0) × ((((id : ℕ) × (live_box stage id ≢ None)) × (number ≡ 63))
-    ⊎ (NoneLive stage × (stage.splits ≢ done) × (number ≡ 64)))
-StepsFail rows rules done stage (step ∷ steps) zero number = StepFails rows rules stage step number
-StepsFail rows rules done stage (step ∷ steps) (suc k) number =
-    StepPasses rows rules stage step × StepsFail rows rules done (after stage step) steps k number
+abbrev pub StepsFail : Rules → ℕ → Stage → List Step → ℕ → ℕ → Type 0
+StepsFail rules done stage [] k number =
+    (k ≡ 0) × ((((id : ℕ) × (live_box stage.boxes id ≢ None)) × (number ≡ 63))
+    ⊎ (NoneLive stage.boxes × (stage.boxes.splits ≢ done) × (number ≡ 64)))
+StepsFail rules done stage (step ∷ steps) zero number = StepFails rules stage step number
+StepsFail rules done stage (step ∷ steps) (suc k) number =
+    StepPasses rules stage step × StepsFail rules done (after stage step) steps k number
 
 -- ---- the first line of a block
 
@@ -133,7 +131,7 @@ pub record IsFirstRepeat (sats : List SatEntry) (k : ℕ) : Type 0 where
 abbrev pub BodyPasses : Rules → Block → Option GridBox → Type 0
 BodyPasses rules block None = Unit {0}
 BodyPasses rules block (Some root) =
-    StepsPass (rows_of block.sats) rules block.done (first_stage root) block.steps
+    StepsPass rules block.done (first_stage (test_in rules block) root) block.steps
 
 -- no line of the block fails a test, behind a block of the index before
 pub record BlockPasses (rules : Rules) (before : Option ℕ) (block : Block) : Type 0 where
@@ -149,7 +147,7 @@ BlockFails rules before block line number =
     × (line ≡ block.line + 1 + k)) × (number ≡ 52))
     ⊎ (HeadPasses rules before block × NoneRepeats block.sats
     × ((root : GridBox) × (k : ℕ) × (block.root ≡ Some root)
-    × StepsFail (rows_of block.sats) rules block.done (first_stage root) block.steps k number
+    × StepsFail rules block.done (first_stage (test_in rules block) root) block.steps k number
     × (line ≡ block.line + 2 + length block.sats + k))))
 
 abbrev pub BlocksPass : Rules → Option ℕ → List Block → Type 0

@@ -2,11 +2,10 @@
 use Rattle.std.specs.Prelude.{◌≡◌, ℕ, ◌+◌, ◌*◌, ◌<◌, ◌≤◌, ◌⊎◌, pos, ◌<ℤ◌, ◌≤ℤ◌, List, [], ◌∷◌, ◌++◌}
 use Rattle.std.specs.Prelude.{map, All}
 use Rattle.sat_model.specs.declared.rules.Rules.{Rules}
-use Rattle.sat_model.specs.declared.rows.Row.{Row}
 use Rattle.sat_model.specs.declared.steps.Step.{Step}
 use Rattle.sat_model.specs.declared.steps.Step.TheVariants.{Cut, Split, Outside, Inside, Edge}
 use Rattle.grid_model.specs.Boxes.{GridBox, side_at, with_side, low_half, high_half}
-use Rattle.sat_model.specs.BoxTests.{test_of, IsEmpty, NoneIsInner, IsLeastInner, IsHull}
+use Rattle.sat_model.specs.BoxTests.{BoxTest, IsEmpty, NoneIsInner, IsLeastInner, IsHull}
 use Rattle.sat_model.specs.Fold.{ShownStep}
 use Rattle.grid_model.specs.Lengths.{longest_length, IsLongestAxis, bit_length}
 
@@ -21,14 +20,19 @@ pub record WaitingBox : Type 0 where
 abbrev pub bits_of : WaitingBox → ℕ
 bits_of box = bit_length (longest_length box.part)
 
--- the boxes that wait, in order of opening, and how many splits were made
+-- the boxes that wait, in order of opening, how many splits were made, and what boxes are tested by
+-- from there on
 pub record Paving : Type 0 where
   pub waiting : List WaitingBox
   pub splits : ℕ
+  pub test : BoxTest
 
 -- the root waits alone
-abbrev pub first_paving : GridBox → Paving
-first_paving root = record { waiting = (record { id = 0; part = root }) ∷ []; splits = 0 }
+abbrev pub first_waiting : GridBox → List WaitingBox
+first_waiting root = (record { id = 0; part = root }) ∷ []
+
+abbrev pub first_paving : BoxTest → GridBox → Paving
+first_paving test root = record { waiting = first_waiting root; splits = 0; test = test }
 
 -- next is the oldest of the greatest bit length, and rest are the others
 pub record IsNext (waiting : List WaitingBox) (next : WaitingBox)
@@ -43,9 +47,9 @@ pub record IsNext (waiting : List WaitingBox) (next : WaitingBox)
 -- ---- the steps of one box
 
 -- the box is neither shown empty nor shown inner
-pub record IsUndecided (rows : List Row) (rules : Rules) (part : GridBox) : Type 0 where
-  pub not_empty : IsEmpty (test_of rules rows) part → ⊥
-  pub not_inner : NoneIsInner (test_of rules rows) part
+pub record IsUndecided (test : BoxTest) (part : GridBox) : Type 0 where
+  pub not_empty : IsEmpty test part → ⊥
+  pub not_inner : NoneIsInner test part
 
 -- the box may be split: it is longer than the width, and splits are left
 abbrev pub MaySplit : Rules → ℕ → GridBox → Type 0
@@ -57,16 +61,15 @@ MayNotSplit rules splits part =
     (pos (longest_length part) ≤ℤ rules.width) ⊎ (rules.bisections ≤ splits)
 
 -- the step that splits or closes a box, after so many splits
-abbrev pub Closes : List Row → Rules → ℕ → ℕ → GridBox → Step → Type 0
-Closes rows rules splits id part (Outside n) = (n ≡ id) × IsEmpty (test_of rules rows) part
-Closes rows rules splits id part (Inside n clock lo hi) =
-    (n ≡ id) × IsLeastInner (test_of rules rows) part clock × IsHull (test_of rules rows) part lo hi
-Closes rows rules splits id part (Split n axis) =
-    (n ≡ id) × IsUndecided rows rules part × MaySplit rules splits part × IsLongestAxis part axis
-Closes rows rules splits id part (Edge n lo hi) =
-    (n ≡ id) × IsUndecided rows rules part × MayNotSplit rules splits part
-    × IsHull (test_of rules rows) part lo hi
-Closes rows rules splits id part (Cut n face bound) = ⊥
+abbrev pub Closes : BoxTest → Rules → ℕ → ℕ → GridBox → Step → Type 0
+Closes test rules splits id part (Outside n) = (n ≡ id) × IsEmpty test part
+Closes test rules splits id part (Inside n clock lo hi) =
+    (n ≡ id) × IsLeastInner test part clock × IsHull test part lo hi
+Closes test rules splits id part (Split n axis) =
+    (n ≡ id) × IsUndecided test part × MaySplit rules splits part × IsLongestAxis part axis
+Closes test rules splits id part (Edge n lo hi) =
+    (n ≡ id) × IsUndecided test part × MayNotSplit rules splits part × IsHull test part lo hi
+Closes test rules splits id part (Cut n face bound) = ⊥
 
 -- ---- from box to box
 
@@ -92,11 +95,12 @@ splits_after splits (Inside n clock lo hi) = splits
 splits_after splits (Edge n lo hi) = splits
 splits_after splits (Cut n face bound) = splits
 
--- the paving behind a step
+-- the paving behind a step, which keeps the test
 abbrev pub beyond : Paving → ShownStep → Paving
 beyond paving shown = record {
   waiting = paving.waiting ++ opened_by paving.splits shown.step shown.part;
   splits = splits_after paving.splits shown.step;
+  test = paving.test;
 }
 
 abbrev pub beyond_all : Paving → List ShownStep → Paving

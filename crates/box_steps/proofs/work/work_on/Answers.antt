@@ -3,12 +3,10 @@ use Rattle.std.specs.Prelude.{ℤ}
 use Rattle.std.proofs.lemmas.Result.{err_from_is_err_and}
 use Rattle.grid_model.specs.Boxes.{GridBox, grid_box}
 use Rattle.grid_model.specs.declared.spans.Span.{Span}
-use Rattle.sat_model.specs.BoxTests.{BoxTest, test_of, IsHull}
+use Rattle.sat_model.specs.BoxTests.{BoxTest, IsHull}
 use Rattle.sat_model.specs.Fold.{ShownStep}
 use Rattle.sat_model.specs.RowTrees.{row_tree}
 use Rattle.sat_model.specs.Waiting.{WaitingBox, IsUndecided}
-use Rattle.sat_model.specs.declared.rules.Rules.{Rules}
-use Rattle.sat_model.specs.declared.rows.Row.{Row}
 use Rattle.range_contractor.specs.Views.{tree_value}
 use Rattle.relaxed_meet.specs.BoxStates.{IsBoxState}
 use Rattle.relaxed_meet.specs.TestValues.{test_value}
@@ -22,29 +20,26 @@ use Rattle.box_steps.proofs.TakingLemmas.{same_fault, took_as}
 use Rattle.box_steps.proofs.work.work_on.Goals as goal
 
 -- a state that isn't undecided
-decided : (rows : List Row) (rules : Rules) (part : GridBox) (state : BoxState) → ((hull : Span) → state ≡ Undecided hull → ⊥) → IsBoxState (test_of rules rows) part state → IsUndecided rows rules part → ⊥
-decided rows rules part Empty not is u = u.not_empty is
-decided rows rules part (Inner clock hull) not is u = u.not_inner clock is.1.shown
-decided rows rules part (Undecided hull) not is u = not hull refl
+decided : (test : BoxTest) (part : GridBox) (state : BoxState) → ((hull : Span) → state ≡ Undecided hull → ⊥) → IsBoxState test part state → IsUndecided test part → ⊥
+decided test part Empty not is u = u.not_empty is
+decided test part (Inner clock hull) not is u = u.not_inner clock is.1.shown
+decided test part (Undecided hull) not is u = not hull refl
 
 -- the same test shows the same
 state_at : (a b : BoxTest) (part : GridBox) (state : BoxState) → a ≡ b → IsBoxState a part state → IsBoxState b part state
 state_at a b part state e is = subst (λ (t : BoxTest). IsBoxState t part state) e is
 
-undecided_of : (rows : List Row) (rules : Rules) (part : GridBox) (state : BoxState) (hull : Span) → state ≡ Undecided hull → IsBoxState (test_of rules rows) part state → IsUndecided rows rules part
-undecided_of rows rules part state hull e is =
-    let own : IsBoxState (test_of rules rows) part (Undecided hull) = subst (λ (s : BoxState). IsBoxState (test_of rules rows) part s) e is in
+undecided_of : (test : BoxTest) (part : GridBox) (state : BoxState) (hull : Span) → state ≡ Undecided hull → IsBoxState test part state → IsUndecided test part
+undecided_of test part state hull e is =
+    let own : IsBoxState test part (Undecided hull) = subst (λ (s : BoxState). IsBoxState test part s) e is in
     record { not_empty = own.0; not_inner = own.1 }
 
 hull_of : (test : BoxTest) (part : GridBox) (state : BoxState) (hull : Span) → state ≡ Undecided hull → IsBoxState test part state → IsHull test part hull.lo hull.hi
 hull_of test part state hull e is = let own : IsBoxState test part (Undecided hull) = subst (λ (s : BoxState). IsBoxState test part s) e is in own.2
 
-few_of : (test : BoxTest) (rules : Rules) (rows : List Row) → test.q < length rows → test ≡ test_of rules rows → rules.outliers < length rows
-few_of test rules rows few e = let q : test.q ≡ rules.outliers = ap (λ (t : BoxTest). t.q) e in omega (arith, q, few)
-
-cut_of : (grain slack : ℤ) (rows : List Row) (rules : Rules) (box : WaitingBox) (test : BoxTest) → test ≡ test_of rules rows → IsUndecided rows rules box.part
-    → (steps : List ShownStep) (left : GridBox) → IsCut grain slack test box.id box.part steps left → AreCutsOf grain slack rows rules box steps left
-cut_of grain slack rows rules box test e undecided steps left cut = inl (undecided, subst (λ (t : BoxTest). IsCut grain slack t box.id box.part steps left) e cut)
+cut_of : (grain slack : ℤ) (test : BoxTest) (box : WaitingBox) (now : BoxTest) → now ≡ test → IsUndecided test box.part
+    → (steps : List ShownStep) (left : GridBox) → IsCut grain slack now box.id box.part steps left → AreCutsOf grain slack test box steps left
+cut_of grain slack test box now e undecided steps left cut = inl (undecided, subst (λ (t : BoxTest). IsCut grain slack t box.id box.part steps left) e cut)
 
 pub cut_box-requires-clause-tree : goal.cut_box-requires-clause-tree
 cut_box-requires-clause-tree g c =
@@ -69,17 +64,16 @@ pub returns-in_err-step : goal.returns-in_err-step
 returns-in_err-step g c =
     let p = err_from_is_err_and c.from_residual.result c.from_residual.ensures.1 in
     let fault = c.in_err-step.field-0.0 in
-    let rows = (test_value c.args.test.now).rows in
+    let test = test_value c.args.test.now in
     let rules = c.args.rules.now in
     let box : WaitingBox = record { id = c.args.id; part = grid_box c.args.part.now } in
-    let state = state_at (test_value c.args.test.now) (test_of rules rows) box.part c.state-state.result c.requires.test c.state-state.ensures.state in
-    let not = decided rows rules box.part c.state-state.result c.in_default.not-Undecided state in
+    let not = decided test box.part c.state-state.result c.in_default.not-Undecided c.state-state.ensures.state in
     rw (p.1, p.2) (record {
       took = tt;
-      broken = last_broke g.L.Steps.took g.L.Steps.broke g.L.Steps.room fault g.I.Interval.GRAIN g.I.Interval.SLACK rows rules c.args.splits box
+      broken = last_broke g.L.Steps.took g.L.Steps.broke g.L.Steps.room fault g.I.Interval.GRAIN g.I.Interval.SLACK test rules c.args.splits box
           c.args.log.now c.args.log.now c.step.new.self 0 box.part c.closing_step-step.result
-          (no_cuts_taken g.L.Steps.took g.I.Interval.GRAIN g.I.Interval.SLACK rows rules box c.args.log.now not)
-          (c.closing_step-step.ensures rows state) c.in_err-step.ensures.broke (same_fault fault Full _ c.in_err-step.ensures.full);
+          (no_cuts_taken g.L.Steps.took g.I.Interval.GRAIN g.I.Interval.SLACK test box c.args.log.now not)
+          (c.closing_step-step.ensures test c.state-state.ensures.state) c.in_err-step.ensures.broke (same_fault fault Full _ c.in_err-step.ensures.full);
       few = tt;
       failed = λ e. c.in_err-step.ensures.failed (let f : fault ≡ Failed = cc in rw f refl);
       counted = c.in_err-step.ensures.counted;
@@ -88,16 +82,15 @@ returns-in_err-step g c =
 
 pub returns-in_default : goal.returns-in_default
 returns-in_default g c =
-    let rows = (test_value c.args.test.now).rows in
+    let test = test_value c.args.test.now in
     let rules = c.args.rules.now in
     let box : WaitingBox = record { id = c.args.id; part = grid_box c.args.part.now } in
-    let state = state_at (test_value c.args.test.now) (test_of rules rows) box.part c.state-state.result c.requires.test c.state-state.ensures.state in
-    let not = decided rows rules box.part c.state-state.result c.in_default.not-Undecided state in
+    let not = decided test box.part c.state-state.result c.in_default.not-Undecided c.state-state.ensures.state in
     record {
-      took = box_took g.L.Steps.took g.I.Interval.GRAIN g.I.Interval.SLACK rows rules c.args.splits box
+      took = box_took g.L.Steps.took g.I.Interval.GRAIN g.I.Interval.SLACK test rules c.args.splits box
           c.args.log.now c.args.log.now c.step.new.self (record { step = c.closing_step-step.result; left = c.args.part.now; cuts = 0 })
-          (no_cuts_taken g.L.Steps.took g.I.Interval.GRAIN g.I.Interval.SLACK rows rules box c.args.log.now not)
-          (c.closing_step-step.ensures rows state) c.in_ok-step.ensures.took;
+          (no_cuts_taken g.L.Steps.took g.I.Interval.GRAIN g.I.Interval.SLACK test box c.args.log.now not)
+          (c.closing_step-step.ensures test c.state-state.ensures.state) c.in_ok-step.ensures.took;
       broken = tt;
       few = omega arith;
       failed = λ e. absurd cc;
@@ -109,48 +102,42 @@ pub returns-in_err-cuts-clause-broken : goal.returns-in_err-cuts-clause-broken
 returns-in_err-cuts-clause-broken g c =
     let p = err_from_is_err_and c.from_residual-in_err-cuts.result c.from_residual-in_err-cuts.ensures.1 in
     let test = test_value c.args.test.now in
-    let rows = test.rows in
     let rules = c.args.rules.now in
     let box : WaitingBox = record { id = c.args.id; part = grid_box c.args.part.now } in
-    let state = state_at test (test_of rules rows) box.part c.state-state.result c.requires.test c.state-state.ensures.state in
-    let undecided = undecided_of rows rules box.part c.state-state.result c.in-Undecided.hull c.in-Undecided.is state in
+    let undecided = undecided_of test box.part c.state-state.result c.in-Undecided.hull c.in-Undecided.is c.state-state.ensures.state in
     rw (p.1, p.2)
-    (cuts_broke g.L.Steps.took g.L.Steps.broke g.L.Steps.room c.in_err-cuts.field-0.0 g.I.Interval.GRAIN g.I.Interval.SLACK rows rules c.args.splits box
-    c.args.log.now c.cut_box.new.log (few_of test rules rows c.args.test.now.enough c.requires.test) undecided
+    (cuts_broke g.L.Steps.took g.L.Steps.broke g.L.Steps.room c.in_err-cuts.field-0.0 g.I.Interval.GRAIN g.I.Interval.SLACK test rules c.args.splits box
+    c.args.log.now c.cut_box.new.log c.args.test.now.enough undecided
     (subst (λ (t : BoxTest). BrokeOff g.L.Steps.took g.L.Steps.broke g.L.Steps.room c.in_err-cuts.field-0.0 (LeaveSome (IsCut g.I.Interval.GRAIN g.I.Interval.SLACK t box.id box.part)) c.args.log.now c.cut_box.new.log)
-    (c.state-state.ensures.same ∙ c.requires.test) c.in_err-cuts.ensures.broken))
+    c.state-state.ensures.same c.in_err-cuts.ensures.broken))
 
 pub returns-in_err-step-2-clause-broken : goal.returns-in_err-step-2-clause-broken
 returns-in_err-step-2-clause-broken g c =
     let p = err_from_is_err_and c.from_residual-in_err-step-2.result c.from_residual-in_err-step-2.ensures.1 in
     let fault = c.in_err-step-2.field-0.0 in
     let test = test_value c.args.test.now in
-    let rows = test.rows in
     let rules = c.args.rules.now in
     let box : WaitingBox = record { id = c.args.id; part = grid_box c.args.part.now } in
     let left = grid_box c.cut_box.new.part in
-    let state = state_at test (test_of rules rows) box.part c.state-state.result c.requires.test c.state-state.ensures.state in
-    let undecided = undecided_of rows rules box.part c.state-state.result c.in-Undecided.hull c.in-Undecided.is state in
-    let rest = state_at (test_value c.cut_box.new.test) (test_of rules rows) left c.state_of_rest-state.result (c.in_ok-cuts.ensures.same ∙ c.state-state.ensures.same ∙ c.requires.test) c.state_of_rest-state.ensures.state in
+    let undecided = undecided_of test box.part c.state-state.result c.in-Undecided.hull c.in-Undecided.is c.state-state.ensures.state in
+    let rest = state_at (test_value c.cut_box.new.test) test left c.state_of_rest-state.result (c.in_ok-cuts.ensures.same ∙ c.state-state.ensures.same) c.state_of_rest-state.ensures.state in
     rw (p.1, p.2)
-    (last_broke g.L.Steps.took g.L.Steps.broke g.L.Steps.room fault g.I.Interval.GRAIN g.I.Interval.SLACK rows rules c.args.splits box
+    (last_broke g.L.Steps.took g.L.Steps.broke g.L.Steps.room fault g.I.Interval.GRAIN g.I.Interval.SLACK test rules c.args.splits box
     c.args.log.now c.cut_box.new.log c.step-2.new.self c.in_ok-cuts.cuts left c.closing_step-step-2.result
     (took_as g.L.Steps.took _ _ c.args.log.now c.in_ok-cuts.cuts left c.cut_box.new.log
-    (λ steps cut. cut_of g.I.Interval.GRAIN g.I.Interval.SLACK rows rules box (test_value c.state-state.new.self) (c.state-state.ensures.same ∙ c.requires.test) undecided steps left cut) c.in_ok-cuts.ensures.cut)
-    (c.closing_step-step-2.ensures rows rest) c.in_err-step-2.ensures.broke (same_fault fault Full _ c.in_err-step-2.ensures.full))
+    (λ steps cut. cut_of g.I.Interval.GRAIN g.I.Interval.SLACK test box (test_value c.state-state.new.self) c.state-state.ensures.same undecided steps left cut) c.in_ok-cuts.ensures.cut)
+    (c.closing_step-step-2.ensures test rest) c.in_err-step-2.ensures.broke (same_fault fault Full _ c.in_err-step-2.ensures.full))
 
 pub returns-clause-took : goal.returns-clause-took
 returns-clause-took g c =
     let test = test_value c.args.test.now in
-    let rows = test.rows in
     let rules = c.args.rules.now in
     let box : WaitingBox = record { id = c.args.id; part = grid_box c.args.part.now } in
     let left = grid_box c.cut_box.new.part in
-    let state = state_at test (test_of rules rows) box.part c.state-state.result c.requires.test c.state-state.ensures.state in
-    let undecided = undecided_of rows rules box.part c.state-state.result c.in-Undecided.hull c.in-Undecided.is state in
-    let rest = state_at (test_value c.cut_box.new.test) (test_of rules rows) left c.state_of_rest-state.result (c.in_ok-cuts.ensures.same ∙ c.state-state.ensures.same ∙ c.requires.test) c.state_of_rest-state.ensures.state in
-    box_took g.L.Steps.took g.I.Interval.GRAIN g.I.Interval.SLACK rows rules c.args.splits box
+    let undecided = undecided_of test box.part c.state-state.result c.in-Undecided.hull c.in-Undecided.is c.state-state.ensures.state in
+    let rest = state_at (test_value c.cut_box.new.test) test left c.state_of_rest-state.result (c.in_ok-cuts.ensures.same ∙ c.state-state.ensures.same) c.state_of_rest-state.ensures.state in
+    box_took g.L.Steps.took g.I.Interval.GRAIN g.I.Interval.SLACK test rules c.args.splits box
     c.args.log.now c.cut_box.new.log c.step-2.new.self (record { step = c.closing_step-step-2.result; left = c.cut_box.new.part; cuts = c.in_ok-cuts.cuts })
     (took_as g.L.Steps.took _ _ c.args.log.now c.in_ok-cuts.cuts left c.cut_box.new.log
-    (λ steps cut. cut_of g.I.Interval.GRAIN g.I.Interval.SLACK rows rules box (test_value c.state-state.new.self) (c.state-state.ensures.same ∙ c.requires.test) undecided steps left cut) c.in_ok-cuts.ensures.cut)
-    (c.closing_step-step-2.ensures rows rest) c.in_ok-step-2.ensures.took
+    (λ steps cut. cut_of g.I.Interval.GRAIN g.I.Interval.SLACK test box (test_value c.state-state.new.self) c.state-state.ensures.same undecided steps left cut) c.in_ok-cuts.ensures.cut)
+    (c.closing_step-step-2.ensures test rest) c.in_ok-step-2.ensures.took

@@ -3,7 +3,7 @@ use mir.Syntax.{w128}
 use Rattle.std.specs.Prelude.{pos}
 use Rattle.grid_model.specs.Boxes.{grid_box}
 use Rattle.grid_model.specs.Lengths.{spare_of}
-use Rattle.gnss_model.specs.Zenith.{err_spare_of}
+use Rattle.gnss_model.specs.Delays.{err_spare_of}
 use Rattle.epoch_rows.proofs.BlockLemmas.{root_fits, header_fits, few_usable, few_skips, skips_skipped, few_grown, skip_entries, grown_entries}
 use Rattle.epoch_rows.proofs.blocks.block.Goals as goal
 
@@ -44,7 +44,7 @@ invariant_of-result-2 g c =
     let h = c.in_ok-own.ensures in
     record {
       at_most = few_grown (s.meaning c.args.source.now) (grid_box c.args.root.now) seen c.in_ok-own.own.lines.items _ h.lines c.deref-2.ensures.value
-          (pos (spare_of (grid_box c.args.root.now))) (pos (err_spare_of (grid_box c.args.root.now) c.zenith.result)) _ c.in_ok-grown_lines.ensures;
+          (pos (spare_of (grid_box c.args.root.now))) (pos (err_spare_of (grid_box c.args.root.now) c.delays.result)) _ c.in_ok-grown_lines.ensures;
       paved = refl;
     }
 
@@ -62,7 +62,7 @@ returns-clause-fits g c =
     record {
       header = header_fits seen.index c.in_ok-own.own.usable _ seen.tag same c.requires.index seen.tag_from seen.tag_under
           (few_usable (s.meaning source) root seen own own h.lines refl _ h.usable);
-      sats = grown_entries (s.meaning source) root seen own _ h.lines c.deref-2.ensures.value c.requires.skips c.requires.named (pos (spare_of root)) (pos (err_spare_of root c.zenith.result)) items c.in_ok-grown_lines.ensures;
-      at_most = few_grown (s.meaning source) root seen own _ h.lines c.deref-2.ensures.value (pos (spare_of root)) (pos (err_spare_of root c.zenith.result)) items c.in_ok-grown_lines.ensures;
+      sats = grown_entries (s.meaning source) root seen own _ h.lines c.deref-2.ensures.value c.requires.skips c.requires.named (pos (spare_of root)) (pos (err_spare_of root c.delays.result)) items c.in_ok-grown_lines.ensures;
+      at_most = few_grown (s.meaning source) root seen own _ h.lines c.deref-2.ensures.value (pos (spare_of root)) (pos (err_spare_of root c.delays.result)) items c.in_ok-grown_lines.ensures;
       body = (refl, root_fits c.args.root.now, (c.new-2.ensures, refl));
     }

@@ -2,7 +2,7 @@ use Rattle.std.proofs.Common.{◌≡◌, ◌∙◌, refl, to_z-of_z, to_z, of_z,
 use mir.Syntax.{w64}
 use Rattle.grid_model.specs.Boxes.{grid_box}
 use Rattle.grid_model.specs.Lengths.{spare_of}
-use Rattle.gnss_model.specs.Zenith.{err_spare_of}
+use Rattle.gnss_model.specs.Delays.{err_spare_of}
 use Rattle.epoch_rows.proofs.LineLemmas.{room, err_room, is_small, row_grown}
 use Rattle.epoch_rows.proofs.lines.grown_line.Goals as goal
 
@@ -34,7 +34,7 @@ pub grown-requires-clause-bounds : goal.grown-requires-clause-bounds
 grown-requires-clause-bounds c =
     let fits : FitsSigned w64 c.err_room_over.result = search rules in
     let same : to_z w64 (of_z w64 c.err_room_over.result) ≡ c.err_room_over.result = simp to_z-of_z refl in
-    err_room c.err_room_over.result _ c.in-Usable.row same (err_spare_of (grid_box c.args.root.now) c.args.zenith) c.err_room_over.ensures.value c.err_room_over.ensures.most
+    err_room c.err_room_over.result _ c.in-Usable.row same (err_spare_of (grid_box c.args.root.now) c.args.delays) c.err_room_over.ensures.value c.err_room_over.ensures.most
     (is_small c.args.line.now c.in-Usable.row c.in-Usable.is c.requires.small)
 
 pub returns-in-Usable : goal.returns-in-Usable

@@ -21,7 +21,7 @@ pub returns-then-longest-gt-LONG_SIDE-clause-took :
     goal.returns-then-longest-gt-LONG_SIDE-clause-took
 returns-then-longest-gt-LONG_SIDE-clause-took g c =
     subst (λ (grain : ℤ). IfOk c.work_on.result (λ ended. TookBox g.L.Steps.took
-    (AreBoxSteps grain (pos 16 *ℤ grain) (test_value c.args.test.now).rows c.args.rules.now c.args.splits (box_of c.args.next.now)) c.args.log.now ended c.work_on.new.log))
+    (AreBoxSteps grain (pos 16 *ℤ grain) (test_value c.args.test.now) c.args.rules.now c.args.splits (box_of c.args.next.now)) c.args.log.now ended c.work_on.new.log))
     (sym (grain_of_long (grid_box c.args.next.now.part) (omega (arith, c.if-longest-gt-LONG_SIDE.true, c.longest_axis-longest.ensures.length))))
     c.work_on.ensures.took
 
@@ -29,7 +29,7 @@ pub returns-then-longest-gt-LONG_SIDE-clause-broken :
     goal.returns-then-longest-gt-LONG_SIDE-clause-broken
 returns-then-longest-gt-LONG_SIDE-clause-broken g c =
     subst (λ (grain : ℤ). IfErr c.work_on.result (λ fault. BrokeOff g.L.Steps.took g.L.Steps.broke g.L.Steps.room fault
-    (AreBoxSteps grain (pos 16 *ℤ grain) (test_value c.args.test.now).rows c.args.rules.now c.args.splits (box_of c.args.next.now)) c.args.log.now c.work_on.new.log))
+    (AreBoxSteps grain (pos 16 *ℤ grain) (test_value c.args.test.now) c.args.rules.now c.args.splits (box_of c.args.next.now)) c.args.log.now c.work_on.new.log))
     (sym (grain_of_long (grid_box c.args.next.now.part) (omega (arith, c.if-longest-gt-LONG_SIDE.true, c.longest_axis-longest.ensures.length))))
     c.work_on.ensures.broken
 
@@ -37,7 +37,7 @@ pub returns-else-longest-gt-LONG_SIDE-clause-took :
     goal.returns-else-longest-gt-LONG_SIDE-clause-took
 returns-else-longest-gt-LONG_SIDE-clause-took g c =
     subst (λ (grain : ℤ). IfOk c.work_on-else-longest-gt-LONG_SIDE.result (λ ended. TookBox g.L.Steps.took
-    (AreBoxSteps grain (pos 16 *ℤ grain) (test_value c.args.test.now).rows c.args.rules.now c.args.splits (box_of c.args.next.now)) c.args.log.now ended c.work_on-else-longest-gt-LONG_SIDE.new.log))
+    (AreBoxSteps grain (pos 16 *ℤ grain) (test_value c.args.test.now) c.args.rules.now c.args.splits (box_of c.args.next.now)) c.args.log.now ended c.work_on-else-longest-gt-LONG_SIDE.new.log))
     (sym (grain_of_short (grid_box c.args.next.now.part) (omega (arith, c.if-longest-gt-LONG_SIDE.false, c.longest_axis-longest.ensures.length))))
     c.work_on-else-longest-gt-LONG_SIDE.ensures.took
 
@@ -45,12 +45,12 @@ pub returns-else-longest-gt-LONG_SIDE-clause-broken :
     goal.returns-else-longest-gt-LONG_SIDE-clause-broken
 returns-else-longest-gt-LONG_SIDE-clause-broken g c =
     subst (λ (grain : ℤ). IfErr c.work_on-else-longest-gt-LONG_SIDE.result (λ fault. BrokeOff g.L.Steps.took g.L.Steps.broke g.L.Steps.room fault
-    (AreBoxSteps grain (pos 16 *ℤ grain) (test_value c.args.test.now).rows c.args.rules.now c.args.splits (box_of c.args.next.now)) c.args.log.now c.work_on-else-longest-gt-LONG_SIDE.new.log))
+    (AreBoxSteps grain (pos 16 *ℤ grain) (test_value c.args.test.now) c.args.rules.now c.args.splits (box_of c.args.next.now)) c.args.log.now c.work_on-else-longest-gt-LONG_SIDE.new.log))
     (sym (grain_of_short (grid_box c.args.next.now.part) (omega (arith, c.if-longest-gt-LONG_SIDE.false, c.longest_axis-longest.ensures.length))))
     c.work_on-else-longest-gt-LONG_SIDE.ensures.broken
 
-pub work_on-requires-clause-tree : goal.work_on-requires-clause-tree
-work_on-requires-clause-tree g c = c.coarse_of.ensures (test_value c.args.test.now) c.requires.trees
+pub work_on-requires : goal.work_on-requires
+work_on-requires g c = record { tree = c.coarse_of.ensures (test_value c.args.test.now) c.requires.trees }
 
-pub work_on-requires-else-longest-gt-LONG_SIDE-clause-tree : goal.work_on-requires-else-longest-gt-LONG_SIDE-clause-tree
-work_on-requires-else-longest-gt-LONG_SIDE-clause-tree g c = c.exact_of.ensures (test_value c.args.test.now) c.requires.trees
+pub work_on-requires-else-longest-gt-LONG_SIDE : goal.work_on-requires-else-longest-gt-LONG_SIDE
+work_on-requires-else-longest-gt-LONG_SIDE g c = record { tree = c.exact_of.ensures (test_value c.args.test.now) c.requires.trees }

@@ -1,7 +1,8 @@
 use Rattle.std.proofs.Common.{arith, sym, ap, ◌∙◌, refl}
 use Rattle.std.specs.Prelude.{is_none}
 use Rattle.grid_model.specs.Boxes.{grid_box}
-use Rattle.sat_model.specs.Fold.{first_stage}
+use Rattle.sat_model.specs.BoxTests.{test_of}
+use Rattle.sat_model.specs.Stages.{first_stage}
 use Rattle.sat_model.specs.Logs.{rows_of}
 use Rattle.logged_steps.specs.Steps.{steps_of}
 use Rattle.paving_log_check.proofs.BlockLemmas.{enough_rows, steps_within, paved_passes, paved_fails}
@@ -18,7 +19,7 @@ overflow_add-result-in-Some-2 c =
     let fails = rw c.in-Some-2.is at c.in_ok-fault-in-Some-root.ensures.found in
     omega (
       arith,
-      steps_within c.deref-in-Some-root.result.now c.args.rules.now c.args.epoch.now.done (first_stage (grid_box c.in-Some-root.root)) (steps_of c.args.epoch.now.steps) c.in-Some-2.fault.offset c.in-Some-2.fault.number fails,
+      steps_within c.args.rules.now c.args.epoch.now.done (first_stage (test_of c.args.rules.now c.deref-in-Some-root.result.now) (grid_box c.in-Some-root.root)) (steps_of c.args.epoch.now.steps) c.in-Some-2.fault.offset c.in-Some-2.fault.number fails,
       c.in_ok-fault-in-Some-root.ensures.few,
       c.args.epoch.now.at_most,
       c.args.epoch.now.sats.ok,

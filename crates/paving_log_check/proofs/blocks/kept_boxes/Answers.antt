@@ -2,10 +2,11 @@ use Rattle.std.proofs.Common.{arith, ap}
 use Rattle.std.proofs.lemmas.List.Sums.{count_by-le-length}
 use Rattle.grid_model.specs.Boxes.{grid_box}
 use Rattle.sat_model.specs.StepKinds.{is_kept_step}
-use Rattle.sat_model.specs.Fold.{first_stage}
-use Rattle.sat_model.specs.Logs.{rows_of, lines_with}
+use Rattle.sat_model.specs.BoxTests.{test_in}
+use Rattle.sat_model.specs.Stages.{first_stage}
+use Rattle.sat_model.specs.Logs.{lines_with}
 use Rattle.sat_model.proofs.KeptLemmas.{kept_of_steps}
-use Rattle.live_boxes.specs.Stages.{box_option}
+use Rattle.live_boxes.specs.LiveValues.{box_option}
 use Rattle.logged_steps.specs.Steps.{steps_of}
 use Rattle.paving_log.specs.Values.{block_of}
 use Rattle.paving_log_check.proofs.blocks.kept_boxes.Goals as goal
@@ -16,7 +17,7 @@ returns-in-Some-clause-value c rules h =
     rw c.in-Some.is (omega (
       arith,
       c.kept_steps.ensures,
-      kept_of_steps (rows_of c.args.epoch.now.sats.items) rules c.args.epoch.now.done (first_stage (grid_box c.in-Some.field-0)) (steps_of c.args.epoch.now.steps) passes,
+      kept_of_steps rules c.args.epoch.now.done (first_stage (test_in rules (block_of c.args.epoch.now)) (grid_box c.in-Some.field-0)) (steps_of c.args.epoch.now.steps) passes,
     ))
 
 pub returns-in-Some-clause-bound : goal.returns-in-Some-clause-bound

@@ -1,7 +1,7 @@
 use Rattle.std.proofs.Common.{arith, ap, sym, length, ◌∙◌}
 use Rattle.std.specs.Prelude.{is_none}
 use Rattle.grid_model.specs.Boxes.{grid_box}
-use Rattle.live_boxes.specs.Stages.{box_option}
+use Rattle.live_boxes.specs.LiveValues.{box_option}
 use Rattle.paving_log.specs.Values.{block_of}
 use Rattle.paving_log_check.proofs.BlockLemmas.{enough_rows}
 use Rattle.paving_log_check.proofs.EpochLemmas.{body_decided}
@@ -16,7 +16,7 @@ body_fault-requires-clause-rows c =
 pub returns-in-Some-root : goal.returns-in-Some-root
 returns-in-Some-root c =
     let lines = c.deref-2.ensures.value ∙ c.in_ok-lines.ensures in
-    body_decided c.args.zenith c.args.rules.now (grid_box c.args.root.now) c.args.own.now.lines.items (block_of c.args.epoch.now) (grid_box c.in-Some-root.theirs) c.body_fault.result
+    body_decided c.args.delays c.args.rules.now (grid_box c.args.root.now) c.args.own.now.lines.items (block_of c.args.epoch.now) (grid_box c.in-Some-root.theirs) c.body_fault.result
     (c.has_counts.ensures.0 c.if-not-has_counts.false)
     (rw (c.deref.ensures.value, lines) at c.in_default.ensures)
     (omega (arith, c.if-len.false, c.len.ensures, c.len-2.ensures, ap length c.in_ok-lines.ensures))

@@ -46,7 +46,7 @@ returns-in-Some-2-clause-no g c =
     block_refused (g.S.RowSource.meaning c.args.source.now) (search_in (grid_box c.loop-k.left.root) seen) (searches_left new)
     (block_of c.index-epoch.result.now) (drop (c.loop-k.k + 1) (log_value c.args.log.now).blocks) c.in-Some-2.fault c.first_of.result
     c.loop-k.invariant (c.are_same_rules.ensures.0 c.if-not-are_same_rules.false) here first c.in-Some.ensures.is_of refused
-    (λ own fails. rw c.lines_of-next.ensures at (c.first_of.ensures (g.S.RowSource.meaning c.args.source.now).zenith c.args.rules.now own (search_in (grid_box c.loop-k.left.root) seen)
+    (λ own fails. rw c.lines_of-next.ensures at (c.first_of.ensures (g.S.RowSource.meaning c.args.source.now).delays c.args.rules.now own (search_in (grid_box c.loop-k.left.root) seen)
     (searches_left new) (block_of c.index-epoch.result.now) (drop (c.loop-k.k + 1) (log_value c.args.log.now).blocks) fails due))
 
 pub returns-in_default-clause-no : goal.returns-in_default-clause-no

@@ -3,7 +3,7 @@ use Rattle.std.proofs.lemmas.Bool.{false≢true}
 use Rattle.paving_log_check.proofs.files.first_of.Goals as goal
 
 pub returns-then-not-due : goal.returns-then-not-due
-returns-then-not-due c zenith rules root own rest block more fails due = inr (
+returns-then-not-due c delays rules root own rest block more fails due = inr (
   record {
     fails = λ is. false≢true (sym c.if-not-due.true ∙ due.1 is);
     line = c.plain_fault.ensures.line;

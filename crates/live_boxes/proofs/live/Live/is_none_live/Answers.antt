@@ -1,7 +1,7 @@
 use Rattle.std.proofs.Common.{sym, ap, ◌∙◌, None, below_more}
 use Rattle.std.proofs.lemmas.List.{get_or-map}
-use Rattle.live_boxes.specs.Stages.{box_option}
-use Rattle.live_boxes.proofs.StageLemmas.{all_none}
+use Rattle.live_boxes.specs.LiveValues.{box_option}
+use Rattle.live_boxes.proofs.LiveLemmas.{all_none}
 use Rattle.live_boxes.proofs.live.Live.is_none_live.Goals as goal
 
 pub loop-found-preserved : goal.loop-found-preserved

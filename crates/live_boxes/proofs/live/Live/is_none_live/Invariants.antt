@@ -1,5 +1,5 @@
 use Rattle.std.proofs.Common.{◌≡◌, ℕ, ◌<◌, get_or, map, None}
-use Rattle.live_boxes.specs.Stages.{box_option}
+use Rattle.live_boxes.specs.LiveValues.{box_option}
 use Rattle.live_boxes.proofs.live.Live.is_none_live.Given as goal
 
 abbrev pub invariant-loop-found : goal.invariant-loop-found

@@ -1,0 +1,19 @@
+//! How many steps a whole run has.
+
+ghost use Rattle.std.specs.Prelude.{◌≤◌, ◌+◌, ◌*◌, List, length};
+ghost use Rattle.grid_model.specs.Boxes.{grid_box};
+ghost use Rattle.paving.specs.Paved.{Paved};
+ghost use Rattle.sat_model.specs.BoxTests.{BoxTest};
+ghost use Rattle.sat_model.specs.Fold.{ShownStep};
+ghost use Rattle.sat_model.specs.declared.rules.Rules.{Rules};
+
+use grid_model::Box3;
+
+/// A whole run has at most 1801 (2 B + 1) steps, B being how many splits the rules allow: no more
+/// than 2 B + 1 boxes are taken up, and `box_steps::work_on` makes at most 1,800 cuts in each. The
+/// call does nothing.
+pub fn runs_cut_few(_root: &Box3)
+    ensures { (test : BoxTest) (rules : Rules) (steps : List ShownStep)
+        → Paved test rules (grid_box _root.now) steps
+        → length steps ≤ 1801 * (2 * rules.bisections + 1) }
+{}
