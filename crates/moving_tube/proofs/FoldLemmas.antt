@@ -8,7 +8,7 @@ use Rattle.grid_model.proofs.AmountLemmas.{above_is}
 use Rattle.grid_model.specs.Boxes.{Side, GridBox, side_at, with_side, low_half, high_half}
 use Rattle.sat_model.specs.Contractors.{SideLiesIn, LiesIn}
 use Rattle.sat_model.specs.Cover.{is_kept}
-use Rattle.sat_model.specs.Fold.{Stage, first_stage, live_box, IsLive, axis_of, is_low, side_left, IsProperBound, IsProperCut, left_by_cut, halves, cut_box, after, ShownStep, shown, slab_shown, taken_by, pieces_from, pieces}
+use Rattle.sat_model.specs.Fold.{Subpaving, first_boxes, live_box, IsLive, axis_of, is_low, side_left, IsProperBound, IsProperCut, left_by_cut, halves, cut_box, boxes_after, ShownStep, shown, slab_shown, taken_by, pieces_from, pieces}
 use Rattle.sat_model.specs.Logs.{Block}
 use Rattle.sat_model.specs.declared.steps.Step.{Step}
 use Rattle.sat_model.specs.declared.steps.Step.TheVariants.{Cut, Split, Outside, Inside, Edge}
@@ -81,19 +81,19 @@ module _ (root : GridBox) where
     (lies_through _ part root (with_inside axis part (high_half (side_at axis part)) (own_box part root lies) (high_inside (side_at axis part) two)) lies, tt),
   )
 
-  after_lies : (stage : Stage) (step : Step) → AllLie stage.live → StepFolds stage step → AllLie (after stage step).live
-  after_lies stage (Cut id face bound) all (part, is, proper) =
-      let lies = live_lies stage.live id part all is in
+  after_lies : (boxes : Subpaving) (step : Step) → AllLie boxes.live → StepFolds boxes step → AllLie (boxes_after boxes step).live
+  after_lies boxes (Cut id face bound) all (part, is, proper) =
+      let lies = live_lies boxes.live id part all is in
       let own = own_box part root lies in
-      set_lies stage.live id (cut_box face bound (live_box stage id)) all
+      set_lies boxes.live id (cut_box face bound (live_box boxes id)) all
       (rw is (lies_through _ part root (with_inside (axis_of face) part (side_left (is_low face) (side_at (axis_of face) part) bound) own
       (side_inside (is_low face) (side_at (axis_of face) part) bound (own (axis_of face)).ordered proper)) lies))
-  after_lies stage (Split id axis) all (part, is, two) =
-      both_lie (set stage.live id None) (halves axis (live_box stage id)) (set_lies stage.live id None all tt)
-      (rw is (halves_lie axis part (live_lies stage.live id part all is) two))
-  after_lies stage (Outside id) all h = set_lies stage.live id None all tt
-  after_lies stage (Inside id clock lo hi) all h = set_lies stage.live id None all tt
-  after_lies stage (Edge id lo hi) all h = set_lies stage.live id None all tt
+  after_lies boxes (Split id axis) all (part, is, two) =
+      both_lie (set boxes.live id None) (halves axis (live_box boxes id)) (set_lies boxes.live id None all tt)
+      (rw is (halves_lie axis part (live_lies boxes.live id part all is) two))
+  after_lies boxes (Outside id) all h = set_lies boxes.live id None all tt
+  after_lies boxes (Inside id clock lo hi) all h = set_lies boxes.live id None all tt
+  after_lies boxes (Edge id lo hi) all h = set_lies boxes.live id None all tt
 
   -- ---- the pieces
 
@@ -119,18 +119,18 @@ module _ (root : GridBox) where
   option_lies (o ∷ live) zero all = all.0
   option_lies (o ∷ live) (suc id) all = option_lies live id all.1
 
-  taken_lies : (stage : Stage) (step : Step) (more : List ShownStep) → AllLie stage.live → PartsLie (kept_parts more) → PartsLie (kept_parts (taken_by stage step ++ more))
-  taken_lies stage (Cut id face bound) more all later = slab_skipped id face bound (live_box stage id) more later
-  taken_lies stage (Split id axis) more all later = later
-  taken_lies stage (Outside id) more all later = closed_lies (Outside id) (live_box stage id) more (option_lies stage.live id all) later
-  taken_lies stage (Inside id clock lo hi) more all later = closed_lies (Inside id clock lo hi) (live_box stage id) more (option_lies stage.live id all) later
-  taken_lies stage (Edge id lo hi) more all later = closed_lies (Edge id lo hi) (live_box stage id) more (option_lies stage.live id all) later
+  taken_lies : (boxes : Subpaving) (step : Step) (more : List ShownStep) → AllLie boxes.live → PartsLie (kept_parts more) → PartsLie (kept_parts (taken_by boxes step ++ more))
+  taken_lies boxes (Cut id face bound) more all later = slab_skipped id face bound (live_box boxes id) more later
+  taken_lies boxes (Split id axis) more all later = later
+  taken_lies boxes (Outside id) more all later = closed_lies (Outside id) (live_box boxes id) more (option_lies boxes.live id all) later
+  taken_lies boxes (Inside id clock lo hi) more all later = closed_lies (Inside id clock lo hi) (live_box boxes id) more (option_lies boxes.live id all) later
+  taken_lies boxes (Edge id lo hi) more all later = closed_lies (Edge id lo hi) (live_box boxes id) more (option_lies boxes.live id all) later
 
-  kept_from : (stage : Stage) (steps : List Step) → AllLie stage.live → StepsFold stage steps → PartsLie (kept_parts (pieces_from stage steps))
-  kept_from stage [] all folds = tt
-  kept_from stage (step ∷ steps) all folds =
-      taken_lies stage step (pieces_from (after stage step) steps) all (kept_from (after stage step) steps (after_lies stage step all folds.0) folds.1)
+  kept_from : (boxes : Subpaving) (steps : List Step) → AllLie boxes.live → StepsFold boxes steps → PartsLie (kept_parts (pieces_from boxes steps))
+  kept_from boxes [] all folds = tt
+  kept_from boxes (step ∷ steps) all folds =
+      taken_lies boxes step (pieces_from (boxes_after boxes step) steps) all (kept_from (boxes_after boxes step) steps (after_lies boxes step all folds.0) folds.1)
 
   -- The hull of the kept boxes lies in the root.
-  pub steps_hull_lies : (steps : List Step) → LiesIn root root → StepsFold (first_stage root) steps → HullLies (hull_of (kept_parts (pieces root steps))) root
-  steps_hull_lies steps own folds = hull_lies None (kept_parts (pieces root steps)) root tt (kept_from (first_stage root) steps (own, tt) folds)
+  pub steps_hull_lies : (steps : List Step) → LiesIn root root → StepsFold (first_boxes root) steps → HullLies (hull_of (kept_parts (pieces root steps))) root
+  steps_hull_lies steps own folds = hull_lies None (kept_parts (pieces root steps)) root tt (kept_from (first_boxes root) steps (own, tt) folds)

@@ -2,7 +2,7 @@
 
 ghost use Rattle.std.specs.Prelude.{◌≡◌, ◌≤ℤ◌, map, IfOk};
 ghost use Rattle.std.specs.Int.{int_min, int_max};
-ghost use Rattle.live_boxes.specs.Stages.{box_option};
+ghost use Rattle.live_boxes.specs.LiveValues.{box_option};
 ghost use Rattle.paving_log.specs.CoverBoxes.{BlockFolds, cover_of};
 ghost use Rattle.paving_log.specs.Values.{block_of};
 ghost use Rattle.grid_model.specs.Boxes.{grid_box};

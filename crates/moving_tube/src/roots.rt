@@ -2,7 +2,7 @@
 
 ghost use Rattle.std.specs.Prelude.{◌≡◌, ◌≤◌, ◌≤ℤ◌, ◌+ℤ◌, ◌-ℤ◌, pos, neg_ℤ, Some, option_map};
 ghost use Rattle.std.specs.Int.{int_min, int_max};
-ghost use Rattle.live_boxes.specs.Stages.{box_option};
+ghost use Rattle.live_boxes.specs.LiveValues.{box_option};
 ghost use Rattle.log_words.specs.Fields.{IsTime};
 ghost use Rattle.grid_model.specs.Boxes.{grid_box};
 ghost use Rattle.sat_model.specs.Contractors.{IsMeet, LiesIn};

@@ -1,8 +1,14 @@
 ghost use Rattle.std.specs.Prelude.{◌≤ℤ◌, pos};
+ghost use Rattle.grid_model.specs.Boxes.{grid_box};
 ghost use Rattle.grid_model.specs.Sizes.{IsBoxSize};
+ghost use Rattle.live_boxes.specs.Folding.{StepsFold};
+ghost use Rattle.sat_model.specs.Fold.{first_stage};
 
 use super::*;
-use grid_model::{Box3, Pos};
+use grid_model::{Box3, NoMemory, Pos};
+use logged_steps::LoggedSteps;
+use paving_log::LogEpoch;
+use sat_model::Step;
 use std::alloc::Global;
 use std::test::Fail;
 
@@ -76,5 +82,35 @@ fn the_next_root_is_grown_and_met_with_the_search_box(rt: HostRuntime) -> Result
     assert_eq!(rt; next_root(&far, 3, &search), Some(touching));
     let end = round_origin(10_000_000_000_000, 0, 0);
     assert_eq!(rt; next_root(&end, 1, &end), Some(end));
+    Ok(())
+}
+
+/// The hull of what an epoch keeps with this search box and these steps.
+fn kept(alloc: Global, root: Box3, steps: &[Step]) -> Result<Option<Box3>, NoMemory>
+    requires { StepsFold (first_stage (grid_box root)) steps.now }
+{
+    let epoch = LogEpoch {
+        line: 3,
+        index: 1,
+        ps: 0,
+        n: 4,
+        few: false,
+        sats: Vec::new(alloc),
+        root: Some(root),
+        steps: LoggedSteps::from_slice(alloc, steps)?,
+        done: 0,
+    };
+    cover_hull(alloc, &epoch)
+}
+
+#[test]
+fn a_box_that_is_kept_is_its_own_hull(rt: HostRuntime) -> Result<(), Fail> {
+    let root = round_origin(1_000_000, 900_000, 900_000);
+    let (id, lo, hi) = (0, -1_400_000, 1_400_000);
+    assert_eq!(rt;
+        kept(rt.alloc(), root, &[Step::Edge { id, lo, hi }])?,
+        Some(root)
+    );
+    assert_eq!(rt; kept(rt.alloc(), root, &[Step::Outside { id }])?, None);
     Ok(())
 }

@@ -3,7 +3,7 @@ use Rattle.std.proofs.Common.{◌≡◌, ℕ, Bool, true, false, List, [], ◌�
 use Rattle.std.specs.Prelude.{is_none}
 use Rattle.std.specs.List.{AllByRecursion}
 use Rattle.epoch_selection.specs.Searches.{Search}
-use Rattle.live_boxes.specs.Stages.{box_option}
+use Rattle.live_boxes.specs.LiveValues.{box_option}
 use Rattle.moving_tube.specs.Roots.{Before, kept_of, root_for}
 use Rattle.moving_tube.specs.Tracks.{Stay, AreRooted, root_with, IsKeptWith, AreKept}
 use Rattle.moving_tube.proofs.TrackLemmas.{HaveRoots, AreTimed, track_found}
@@ -19,7 +19,7 @@ use Rattle.rinex_obs.specs.declared.obs.ObsEpoch.{ObsEpoch}
 use Rattle.grid_model.specs.Boxes.{GridBox}
 use Rattle.sat_model.specs.Logs.{Block, LogValue}
 use Rattle.sat_model.specs.declared.rules.Rules.{Rules}
-use Rattle.grid_model.specs.declared.spans.Span.{Span}
+use Rattle.gnss_model.specs.declared.delays.Delays.{Delays}
 use Rattle.sat_rows.specs.Fitting.{FitsEpoch}
 use Rattle.sat_rows.specs.Meanings.{Meaning}
 use Rattle.sat_rows.specs.declared.lines.SatLine.{SatLine}
@@ -89,15 +89,15 @@ root_of rules root block false None e body = absurd cc
 root_of rules root block true (Some theirs) e body = absurd cc
 root_of rules root block false (Some theirs) e body = ap Some body.0
 
-pub have_roots : (zenith : Option Span) (rules : Rules) (speed : ℕ) (search : GridBox) (before : Option ℕ) (owns : List (List SatLine)) (searches : List Search) (blocks : List Block)
-    → AllByRecursion HasFewRoot blocks → length owns ≡ length searches → AdmitsFrom zenith rules before owns searches blocks → HaveRoots speed search (visits_of searches blocks)
-have_roots zenith rules speed search before [] [] blocks few each admits = tt
-have_roots zenith rules speed search before [] (s ∷ rest) blocks few each admits = absurd (omega (arith, each))
-have_roots zenith rules speed search before (own ∷ owns) [] blocks few each admits = absurd (omega (arith, each))
-have_roots zenith rules speed search before (own ∷ owns) (s ∷ rest) [] few each admits = tt
-have_roots zenith rules speed search before (own ∷ owns) (s ∷ rest) (block ∷ more) few each admits = (
+pub have_roots : (delays : Delays) (rules : Rules) (speed : ℕ) (search : GridBox) (before : Option ℕ) (owns : List (List SatLine)) (searches : List Search) (blocks : List Block)
+    → AllByRecursion HasFewRoot blocks → length owns ≡ length searches → AdmitsFrom delays rules before owns searches blocks → HaveRoots speed search (visits_of searches blocks)
+have_roots delays rules speed search before [] [] blocks few each admits = tt
+have_roots delays rules speed search before [] (s ∷ rest) blocks few each admits = absurd (omega (arith, each))
+have_roots delays rules speed search before (own ∷ owns) [] blocks few each admits = absurd (omega (arith, each))
+have_roots delays rules speed search before (own ∷ owns) (s ∷ rest) [] few each admits = tt
+have_roots delays rules speed search before (own ∷ owns) (s ∷ rest) (block ∷ more) few each admits = (
   root_of rules s.root block block.few block.root few.0 admits.1.body,
-  have_roots zenith rules speed search (Some block.index) owns rest more few.1 (omega (arith, each)) admits.2,
+  have_roots delays rules speed search (Some block.index) owns rest more few.1 (omega (arith, each)) admits.2,
 )
 
 module _ (m : Meaning) (q : ℕ) where
@@ -128,6 +128,6 @@ found_by m t rules log boxes path first few accepted goes fits =
     track_found t.speed t.search (visits_of searches blocks) _ path
     (subst (λ (b : Option Before). AreRooted t.speed t.search b (visits_of searches blocks)) first (rooted t.speed t.search t.before t.epochs blocks))
     (timed t.speed t.search t.before t.epochs blocks)
-    (have_roots m.zenith rules t.speed t.search None accepted.owns searches blocks few accepted.admissible.each accepted.admissible.admits.blocks)
+    (have_roots m.delays rules t.speed t.search None accepted.owns searches blocks few accepted.admissible.each accepted.admissible.admits.blocks)
     goes
     (are_kept m rules.outliers searches blocks path few accepted.cover fits)

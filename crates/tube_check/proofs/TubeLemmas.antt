@@ -18,8 +18,9 @@ use Rattle.rinex_obs.specs.declared.obs.ObsEpoch.{ObsEpoch}
 use Rattle.grid_model.specs.Boxes.{GridBox}
 use Rattle.sat_model.specs.Contractors.{LiesIn}
 use Rattle.sat_model.specs.Cover.{kept_in}
-use Rattle.sat_model.specs.Fold.{first_stage}
-use Rattle.sat_model.specs.Logs.{Block, LogValue, rows_of, lines_in, IsNumbered}
+use Rattle.sat_model.specs.BoxTests.{test_in}
+use Rattle.sat_model.specs.Logs.{Block, LogValue, lines_in, IsNumbered}
+use Rattle.sat_model.specs.Stages.{first_stage}
 use Rattle.sat_model.specs.declared.rules.Rules.{Rules}
 use Rattle.sat_rows.specs.Meanings.{Meaning, IsSound}
 use Rattle.tube_searches.specs.Tubes.{TubeValue, with_kept, tube_searches, IsInside, IsTaken}
@@ -29,12 +30,12 @@ use Rattle.tube_searches.proofs.TubeLemmas.{taken_searches}
 
 pub body_folds : (rules : Rules) (root : GridBox) (block : Block) (theirs : Option GridBox) → BodyPassesAt rules root block theirs → BlockFolds block theirs
 body_folds rules root block None h = tt
-body_folds rules root block (Some theirs) h = rw h.0 (steps_fold (rows_of block.sats) rules block.done (first_stage root) block.steps h.1)
+body_folds rules root block (Some theirs) h = rw h.0 (steps_fold rules block.done (first_stage (test_in rules block) root) block.steps h.1)
 
 hull_in : (rules : Rules) (root : GridBox) (block : Block) (theirs : Option GridBox) → LiesIn root root → BodyPassesAt rules root block theirs → HullLies (hull_of (cover_of block theirs)) root
 hull_in rules root block None own h = tt
 hull_in rules root block (Some theirs) own h =
-    rw h.0 (steps_hull_lies root block.steps own (steps_fold (rows_of block.sats) rules block.done (first_stage root) block.steps h.1))
+    rw h.0 (steps_hull_lies root block.steps own (steps_fold rules block.done (first_stage (test_in rules block) root) block.steps h.1))
 
 kept_in_with : (few : Bool) (rules : Rules) (root search : GridBox) (block : Block) → LiesIn root search → BodyPassesAt rules root block block.root → HullLies (kept_with few root block) search
 kept_in_with true rules root search block lies h = lies

@@ -2,7 +2,7 @@
 
 ghost use Rattle.std.specs.Prelude.{◌≡◌, ◌↔◌, List, ◌∷◌, map, IsTrue, IfOk, MatchOption, drop};
 ghost use Rattle.epoch_selection.specs.Searches.{search_in};
-ghost use Rattle.live_boxes.specs.Stages.{box_option};
+ghost use Rattle.live_boxes.specs.LiveValues.{box_option};
 ghost use Rattle.moving_tube.specs.Roots.{kept_of};
 ghost use Rattle.paving_log.specs.CoverBoxes.{BlockFolds};
 ghost use Rattle.paving_log.specs.Values.{block_of, log_value};

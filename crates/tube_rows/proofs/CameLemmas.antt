@@ -26,7 +26,7 @@ use Rattle.sat_model.specs.Logs.{Block}
 use Rattle.grid_model.specs.SearchBoxes.{IsSearchBox}
 use Rattle.grid_model.specs.declared.boxes.Pos.{Pos}
 use Rattle.sat_model.specs.declared.rules.Rules.{Rules}
-use Rattle.grid_model.specs.declared.spans.Span.{Span}
+use Rattle.gnss_model.specs.declared.delays.Delays.{Delays}
 use Rattle.sat_rows.specs.Meanings.{Meaning, IsSound}
 use Rattle.sat_rows.specs.declared.lines.SatLine.{SatLine}
 use Rattle.tube_check.proofs.FoundLemmas.{found_by}
@@ -52,9 +52,9 @@ has_point root search lies box = record { box = box; point = corner root; inside
 
 -- ---- what a block keeps, as it is told
 
-few_root : (zenith : Option Span) (few : Bool) (root : GridBox) (own : List SatLine) (given : Block) → HasBody zenith few root own given → few ≡ false → given.root ≡ Some root
-few_root zenith true root own given body e = absurd cc
-few_root zenith false root own given body e = body.1
+few_root : (delays : Delays) (few : Bool) (root : GridBox) (own : List SatLine) (given : Block) → HasBody delays few root own given → few ≡ false → given.root ≡ Some root
+few_root delays true root own given body e = absurd cc
+few_root delays false root own given body e = body.1
 
 told_kept : (few other : Bool) (root : GridBox) (block : Block) → other ≡ few → kept_told few root (hull_kept block.steps block.root) ≡ kept_with other root block
 told_kept few true root block e = rw (sym e) refl
@@ -88,7 +88,7 @@ module _ (m : Meaning) (rules : Rules) where
     tube_next = rw (told_next, gave.same_search, gave.same_speed) refl
 
     next_inside : IsInside (tube_with next told_hull)
-    next_inside = subst IsInside (sym tube_next) (kept_lies rules gave.root left.search given block gave.lies paves (few_root m.zenith given.few gave.root gave.grown.own given gave.grown.body))
+    next_inside = subst IsInside (sym tube_next) (kept_lies rules gave.root left.search given block gave.lies paves (few_root m.delays given.few gave.root gave.grown.own given gave.grown.body))
 
     next_searches : (blocks : List Block) → tube_searches (tube_with left hull) (block ∷ blocks) ≡ search_in gave.root gave.epoch ∷ tube_searches (tube_with next told_hull) blocks
     next_searches blocks =
@@ -133,7 +133,7 @@ module _ (m : Meaning) (sound : IsSound m) (rules : Rules) (left last : TubeLeft
   whole_came = came_of m rules left None w.log.blocks w.behind last none_inside w.came w.no_more
 
   -- all own lines admit it, also those of the first epochs alone
-  pub whole_admits : (owns : List (List SatLine)) → AreOwn m whole_searches owns → Admits m.zenith whole_searches owns rules w.log
+  pub whole_admits : (owns : List (List SatLine)) → AreOwn m whole_searches owns → Admits m.delays whole_searches owns rules w.log
   whole_admits owns are = record {
     same_rules = rw w.same_rules (record { outliers = refl; bisections = refl; width = refl; pairs = refl });
     blocks = admits_from m sound rules None whole_searches whole_came.given w.log.blocks whole_came.points whole_came.grown whole_came.pave (rw w.same_rules at w.judged) owns are;

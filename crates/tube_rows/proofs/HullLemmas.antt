@@ -15,8 +15,10 @@ use Rattle.paving_log.specs.CoverBoxes.{kept_parts, cover_of}
 use Rattle.grid_model.specs.Boxes.{Side, GridBox}
 use Rattle.sat_model.specs.Contractors.{LiesIn}
 use Rattle.sat_model.specs.Cover.{is_kept}
-use Rattle.sat_model.specs.Fold.{ShownStep, first_stage, pieces}
-use Rattle.sat_model.specs.Logs.{Block, rows_of}
+use Rattle.sat_model.specs.Fold.{ShownStep, pieces}
+use Rattle.sat_model.specs.BoxTests.{test_in}
+use Rattle.sat_model.specs.Logs.{Block}
+use Rattle.sat_model.specs.Stages.{first_stage}
 use Rattle.sat_model.specs.declared.rules.Rules.{Rules}
 
 -- ---- the hull
@@ -54,7 +56,7 @@ hull_told block (Some root) = same_behind None (pieces root block.steps)
 run_lies : (rules : Rules) (root : GridBox) (block : Block) → LiesIn root root → HasRun rules root block → HullLies (hull_of (cover_of block (Some root))) root
 run_lies rules root block own r =
     steps_hull_lies root block.steps own
-    (rw r.steps (steps_fold (rows_of block.sats) rules r.run.last.splits (first_stage root) _ (paved_passes (rows_of block.sats) rules root r.shown r.run)))
+    (rw r.steps (steps_fold rules r.run.last.splits (first_stage (test_in rules block) root) _ (paved_passes (test_in rules block) rules root r.shown r.run)))
 
 kept_lies_with : (few : Bool) (rules : Rules) (root search : GridBox) (block : Block) (theirs : Option GridBox) → LiesIn root search → (few ≡ false → theirs ≡ Some root) → block.root ≡ theirs → BodyPaves rules block theirs
     → HullLies (kept_with few root block) search

@@ -30,7 +30,7 @@ pub struct Tube<'a> {
 
 impl<'a> Tube<'a> {
     ghost use Rattle.std.specs.Prelude.{◌≡◌, MatchOption};
-    ghost use Rattle.live_boxes.specs.Stages.{box_option};
+    ghost use Rattle.live_boxes.specs.LiveValues.{box_option};
     ghost use Rattle.moving_tube.specs.Hulls.{HullLies};
     ghost use Rattle.moving_tube.specs.Roots.{root_for};
     ghost use Rattle.grid_model.specs.Boxes.{grid_box};

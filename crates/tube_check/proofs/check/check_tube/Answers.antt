@@ -65,8 +65,8 @@ returns-in-Some-2-clause-no g c =
     block_refused m (search_in root seen) (tube_searches (with_kept new seen.tag (kept_of root block)) behind) block behind c.in-Some-2.fault c.first_of.result
     c.loop-k.invariant.underway (c.are_same_rules.ensures.0 c.if-not-are_same_rules.false) here first c.in-Some.ensures.is_of refused
     (λ own fails.
-    same_fault m.zenith c.args.rules.now (c.loop-k.next + lines_in block) own (search_in root seen) new block.few block behind c.first_of.result (few_is c.index-epoch.result.now) (omega (arith, numbered.0))
-    (rw c.lines_of.ensures at (c.first_of.ensures m.zenith c.args.rules.now own (search_in root seen) (tube_searches (with_kept new seen.tag (Some root)) behind) block behind fails due)))
+    same_fault m.delays c.args.rules.now (c.loop-k.next + lines_in block) own (search_in root seen) new block.few block behind c.first_of.result (few_is c.index-epoch.result.now) (omega (arith, numbered.0))
+    (rw c.lines_of.ensures at (c.first_of.ensures m.delays c.args.rules.now own (search_in root seen) (tube_searches (with_kept new seen.tag (Some root)) behind) block behind fails due)))
 
 pub kept_in-requires : goal.kept_in-requires
 kept_in-requires g c =
