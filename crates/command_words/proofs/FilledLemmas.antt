@@ -1,5 +1,5 @@
 -- Where clap takes the words, each argument that was met has a value.
-use Rattle.std.proofs.Common.{◌≡◌, ◌≢◌, ◌==◌, ◌&&◌, ◌++◌, ℕ, zero, suc, Bool, true, false, not, cond, List, [], ◌∷◌, Option, Some, None, length, refl, sym, subst}
+use Rattle.std.proofs.Common.{◌≡◌, ◌≢◌, ◌⊎◌, inl, inr, ◌==◌, ◌&&◌, ◌++◌, ℕ, zero, suc, Bool, true, false, not, cond, List, [], ◌∷◌, Option, Some, None, length, refl, sym, subst}
 use Rattle.std.specs.Prelude.{option_and_then, fold, find, nat_lt, slice_get, is_some, if◌then◌else◌, drop, encode_utf8}
 use Rattle.std.specs.Option.{option_map_or}
 use Rattle.std.specs.Str.{bytes_eq, chars}
@@ -11,16 +11,17 @@ use Rattle.clap.specs.Simple.{Shape}
 use Rattle.clap.specs.Takes.{is_given}
 use Rattle.clap.specs.Faults.{action_fault, stray_fault, use_fault, settle_fault, react_fault, option_fault, long_fault, short_fault, bundle_step_fault, flags_fault, bundle_fault, flag_word_fault, other_fault, word_fault, positional_fault, step_fault, turn_fault, walk_fault}
 use Rattle.clap.specs.declared.builder.action.ArgAction.{ArgAction}
-use Rattle.clap.specs.declared.builder.action.ArgAction.TheVariants.{Set}
+use Rattle.clap.specs.declared.builder.action.ArgAction.TheVariants.{Set, SetTrue}
 use Rattle.clap.specs.declared.error.kind.ErrorKind.TheVariants.{InvalidValue, WrongNumberOfValues, TooFewValues, TooManyValues}
 use Rattle.clap.specs.declared.parser.matches.ValueSource.{ValueSource}
 use Rattle.clap.specs.declared.parser.matches.ValueSource.TheVariants.{CommandLine, DefaultValue}
 use Rattle.clap.specs.declared.builder.value_parser.Reading.{Reading}
 
--- the argument keeps the last use, and a use has a value
+-- the argument keeps the last use, and a use has a value: one of the words, or for a flag what
+-- stands for none
 pub record IsSet (a : Rule) : Type 0 where
-  pub set : action_of a ≡ Set
-  pub some : nat_lt 0 (unwrap_or_range a.range).start_inclusive ≡ true
+  pub set : (action_of a ≡ Set) ⊎ (action_of a ≡ SetTrue)
+  pub some : (nat_lt 0 (unwrap_or_range a.range).start_inclusive ≡ true) ⊎ (a.missing ≢ [])
 
 abbrev pub AllSet : List Rule → Type 0
 AllSet [] = Unit {0}
@@ -84,18 +85,33 @@ range_rest least most =
     if least == most then (if least == 0 then [] else WrongNumberOfValues ∷ [])
     else (if nat_lt 0 least then TooFewValues ∷ [] else (if nat_lt most 0 then TooManyValues ∷ [] else []))
 
-use_some : (again : Bool) (a : Rule) (rows : List Row) → IsSet a → use_fault again a [] rows ≡ [] → ⊥
-use_some again a rows k e = go (nat_lt 0 (unwrap_or_range a.range).start_inclusive) k.some (both (range_kinds (unwrap_or_range a.range).start_inclusive (most_values a) 0) (action_fault (action_of a) again a (values_or_missing a []) rows) e).0
+use_some : (again : Bool) (a : Rule) (rows : List Row) → nat_lt 0 (unwrap_or_range a.range).start_inclusive ≡ true → use_fault again a [] rows ≡ [] → ⊥
+use_some again a rows some e = go (nat_lt 0 (unwrap_or_range a.range).start_inclusive) some (both (range_kinds (unwrap_or_range a.range).start_inclusive (most_values a) 0) (action_fault (action_of a) again a (values_or_missing a []) rows) e).0
   where
     go : (t : Bool) → t ≡ true → cond (t && true) (InvalidValue ∷ []) (range_rest (unwrap_or_range a.range).start_inclusive (most_values a)) ≡ [] → ⊥
     go true is e = cc
     go false is e = cc
 
+some_values : (a : Rule) (values : List Text) (rows : List Row) (again : Bool) → (nat_lt 0 (unwrap_or_range a.range).start_inclusive ≡ true) ⊎ (a.missing ≢ [])
+    → use_fault again a values rows ≡ [] → values_or_missing a values ≢ []
+some_values a [] rows again (inl some) e = absurd (use_some again a rows some e)
+some_values a [] rows again (inr missing) e = missing
+some_values a (v ∷ vs) rows again some e = λ none. cc
+
+kept_values : (id : Text) (how : Reading) (values : List Text) (rows : List Row) → values ≢ [] → Filled rows → Filled (with_values id how CommandLine values (without id rows))
+kept_values id how [] rows some f = absurd (some refl)
+kept_values id how (v ∷ vs) rows some f = with_values_filled id how CommandLine v vs (without id rows) (without_filled id rows f)
+
+kept_filled : (a : Rule) (values : List Text) (rows : List Row) → (action_of a ≡ Set) ⊎ (action_of a ≡ SetTrue) → values ≢ [] → Filled rows
+    → Filled (used_as (action_of a) a.id (reading_by a) values rows)
+kept_filled a values rows (inl is) some f =
+    subst (λ (x : ArgAction). Filled (used_as x a.id (reading_by a) values rows)) (sym is) (kept_values a.id (reading_by a) values rows some f)
+kept_filled a values rows (inr is) some f =
+    subst (λ (x : ArgAction). Filled (used_as x a.id (reading_by a) values rows)) (sym is) (kept_values a.id (reading_by a) values rows some f)
+
 used_filled : (again : Bool) (a : Rule) (values : List Text) (rows : List Row) → IsSet a → use_fault again a values rows ≡ [] → Filled rows → Filled (used a values rows)
-used_filled again a [] rows k e f = absurd (use_some again a rows k e)
-used_filled again a (v ∷ vs) rows k e f =
-    subst (λ (x : ArgAction). Filled (used_as x a.id (reading_by a) (v ∷ vs) rows)) (sym k.set)
-    (with_values_filled a.id (reading_by a) CommandLine v vs (without a.id rows) (without_filled a.id rows f))
+used_filled again a values rows k e f =
+    kept_filled a (values_or_missing a values) rows k.set (some_values a values rows again k.some e) f
 
 settled_filled : (c : List Rule) (again : Bool) (h : Held) → AllSet c → settle_fault c again h ≡ [] → Filled h.rows → Filled (settled c h).rows
 settled_filled c again h all e f = go h.pending e

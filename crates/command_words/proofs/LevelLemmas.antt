@@ -38,8 +38,11 @@ retrack_shape = built_sub 5
 abbrev pub files_shape : Text → Shape
 files_shape name = get_or (built (with_subcommand bare (files_app name).top)).subs 0 (built program).top
 
+abbrev pub guard_shape : Shape
+guard_shape = built_sub 6
+
 abbrev pub make_shape : Shape
-make_shape = built_sub 6
+make_shape = built_sub 7
 
 pub simple : is_simple program ≡ true
 unfolding clap_on_literals

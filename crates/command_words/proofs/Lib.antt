@@ -4,3 +4,4 @@ pub mod MatchLemmas
 pub mod NumberLemmas
 pub mod SaidLemmas
 pub mod StatedLemmas
+pub mod GuardLemmas

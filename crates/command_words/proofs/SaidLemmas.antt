@@ -11,9 +11,9 @@ use Rattle.clap.specs.Takes.{is_given}
 use Rattle.clap.specs.Faults.{level_fault, walk_fault, settle_fault, defaults_fault, check_fault, entered_fault}
 use Rattle.clap.proofs.OnLiterals.{clap_on_literals}
 use Rattle.command_words.specs.Program.{program}
-use Rattle.command_words.specs.Stated.{HaveTexts, SaysCommand, TakenIsCommand, file_ids}
+use Rattle.command_words.specs.Stated.{HaveTexts, SaysCommand, TakenIsCommand, file_ids, guard_ids}
 use Rattle.command_words.proofs.FilledLemmas.{AllSet, Filled, both, walk_filled, finished_filled, given_text}
-use Rattle.command_words.proofs.LevelLemmas.{judge_shape, pave_shape, solve_shape, check_shape, track_shape, retrack_shape, make_shape}
+use Rattle.command_words.proofs.LevelLemmas.{judge_shape, pave_shape, solve_shape, check_shape, track_shape, retrack_shape, guard_shape, make_shape}
 
 -- of three tests the last, and the middle one, don't fail
 last_holds : (help sub arg : Bool) → check_kinds help sub arg ≡ [] → arg ≡ false
@@ -65,26 +65,26 @@ texts_of s words all e =
 judge_says : (words : List Text) → level_fault judge_shape [] nothing_held words false [] ≡ [] → SaysCommand (Some (rows_at judge_shape words))
 unfolding clap_on_literals
 judge_says words e =
-    let k = texts_of judge_shape words (record { set = refl; some = refl }, tt) e in
+    let k = texts_of judge_shape words (record { set = inl refl; some = inl refl }, tt) e in
     inl (record { rows = rows_after judge_shape.rules [] words; said_is = refl; texts = (k.0 refl, tt) })
 
 pave_says : (words : List Text) → level_fault pave_shape [] nothing_held words false [] ≡ [] → SaysCommand (Some (rows_at pave_shape words))
 unfolding clap_on_literals
 pave_says words e =
-    let k = texts_of pave_shape words (record { set = refl; some = refl }, (record { set = refl; some = refl }, tt)) e in
+    let k = texts_of pave_shape words (record { set = inl refl; some = inl refl }, (record { set = inl refl; some = inl refl }, tt)) e in
     inr (inl (record { rows = rows_after pave_shape.rules [] words; said_is = refl; texts = (k.0 refl, (k.1.0 refl, tt)) }))
 
 files_set : AllSet solve_shape.rules
 unfolding clap_on_literals
 files_set = (
-  record { set = refl; some = refl },
+  record { set = inl refl; some = inl refl },
   (
-    record { set = refl; some = refl },
+    record { set = inl refl; some = inl refl },
     (
-      record { set = refl; some = refl },
+      record { set = inl refl; some = inl refl },
       (
-        record { set = refl; some = refl },
-        (record { set = refl; some = refl }, (record { set = refl; some = refl }, tt)),
+        record { set = inl refl; some = inl refl },
+        (record { set = inl refl; some = inl refl }, (record { set = inl refl; some = inl refl }, tt)),
       ),
     ),
   ),
@@ -110,30 +110,64 @@ retrack_says : (words : List Text) → level_fault retrack_shape [] nothing_held
 unfolding clap_on_literals
 retrack_says words e = inr (inr (inr (inr (inr (inl (record { rows = rows_after retrack_shape.rules [] words; said_is = refl; texts = file_texts (rows_after retrack_shape.rules [] words) (texts_of retrack_shape words files_set e) }))))))
 
+guard_set : AllSet guard_shape.rules
+unfolding clap_on_literals
+guard_set = (
+  record { set = inl refl; some = inl refl },
+  (
+    record { set = inl refl; some = inl refl },
+    (
+      record { set = inl refl; some = inl refl },
+      (
+        record { set = inl refl; some = inl refl },
+        (
+          record { set = inl refl; some = inl refl },
+          (
+            record { set = inl refl; some = inl refl },
+            (
+              record { set = inl refl; some = inl refl },
+              (record { set = inr refl; some = inr (λ none. cc) }, tt),
+            ),
+          ),
+        ),
+      ),
+    ),
+  ),
+)
+
+guard_texts : (rows : List Row) → Required guard_shape.rules rows → HaveTexts guard_ids rows
+unfolding clap_on_literals
+guard_texts rows k = (k.0 refl, (k.1.0 refl, (k.1.1.0 refl, (k.1.1.1.0 refl, (k.1.1.1.1.0 refl, tt)))))
+
+guard_says : (words : List Text) → level_fault guard_shape [] nothing_held words false [] ≡ [] → SaysCommand (Some (rows_at guard_shape words))
+unfolding clap_on_literals
+guard_says words e = inr (inr (inr (inr (inr (inr (inl (record { rows = rows_after guard_shape.rules [] words; said_is = refl; texts = guard_texts (rows_after guard_shape.rules [] words) (texts_of guard_shape words guard_set e) })))))))
+
 make_says : (words : List Text) → level_fault make_shape [] nothing_held words false [] ≡ [] → SaysCommand (Some (rows_at make_shape words))
 unfolding clap_on_literals
 make_says words e =
-    let k = texts_of make_shape words (record { set = refl; some = refl }, (record { set = refl; some = refl }, tt)) e in
-    inr (inr (inr (inr (inr (inr (record { rows = rows_after make_shape.rules [] words; said_is = refl; texts = (k.0 refl, (k.1.0 refl, tt)) }))))))
+    let k = texts_of make_shape words (record { set = inl refl; some = inl refl }, (record { set = inl refl; some = inl refl }, tt)) e in
+    inr (inr (inr (inr (inr (inr (inr (record { rows = rows_after make_shape.rules [] words; said_is = refl; texts = (k.0 refl, (k.1.0 refl, tt)) })))))))
 
 -- the first subcommand whose name the word is
-abbrev chosen : Bool → Bool → Bool → Bool → Bool → Bool → Bool → Option Shape
-chosen j p s c t r m =
+abbrev chosen : Bool → Bool → Bool → Bool → Bool → Bool → Bool → Bool → Option Shape
+chosen j p s c t r g m =
     cond j (Some judge_shape) (cond p (Some pave_shape) (cond s (Some solve_shape) (cond c (Some check_shape)
-    (cond t (Some track_shape) (cond r (Some retrack_shape) (cond m (Some make_shape) None))))))
+    (cond t (Some track_shape) (cond r (Some retrack_shape) (cond g (Some guard_shape) (cond m (Some make_shape) None)))))))
 
-chosen_says : (words : List Text) (j p s c t r m : Bool)
-    → option_map_or (λ sub. level_fault sub [] nothing_held words false []) (chosen j p s c t r m) [] ≡ []
-    → is_some (option_map (λ sub. rows_at sub words) (chosen j p s c t r m)) ≡ true
-    → SaysCommand (option_map (λ sub. rows_at sub words) (chosen j p s c t r m))
-chosen_says words true p s c t r m faults some = judge_says words faults
-chosen_says words false true s c t r m faults some = pave_says words faults
-chosen_says words false false true c t r m faults some = solve_says words faults
-chosen_says words false false false true t r m faults some = check_says words faults
-chosen_says words false false false false true r m faults some = track_says words faults
-chosen_says words false false false false false true m faults some = retrack_says words faults
-chosen_says words false false false false false false true faults some = make_says words faults
-chosen_says words false false false false false false false faults some = cc
+chosen_says : (words : List Text) (j p s c t r g m : Bool)
+    → option_map_or (λ sub. level_fault sub [] nothing_held words false []) (chosen j p s c t r g m) [] ≡ []
+    → is_some (option_map (λ sub. rows_at sub words) (chosen j p s c t r g m)) ≡ true
+    → SaysCommand (option_map (λ sub. rows_at sub words) (chosen j p s c t r g m))
+chosen_says words true p s c t r g m faults some = judge_says words faults
+chosen_says words false true s c t r g m faults some = pave_says words faults
+chosen_says words false false true c t r g m faults some = solve_says words faults
+chosen_says words false false false true t r g m faults some = check_says words faults
+chosen_says words false false false false true r g m faults some = track_says words faults
+chosen_says words false false false false false true g m faults some = retrack_says words faults
+chosen_says words false false false false false false true m faults some = guard_says words faults
+chosen_says words false false false false false false false true faults some = make_says words faults
+chosen_says words false false false false false false false false faults some = cc
 
 -- the subcommand that was met is one of the program's
 said : (stop : Option (Text × List Text)) → entered_fault (built program) stop ≡ [] → is_some (entered (built program) stop) ≡ true
@@ -143,7 +177,7 @@ said None faults some = cc
 said (Some p) faults some =
     chosen_says p.1 (answers_to p.0 (label_of judge_shape)) (answers_to p.0 (label_of pave_shape)) (answers_to p.0 (label_of solve_shape))
     (answers_to p.0 (label_of check_shape)) (answers_to p.0 (label_of track_shape)) (answers_to p.0 (label_of retrack_shape))
-    (answers_to p.0 (label_of make_shape)) faults some
+    (answers_to p.0 (label_of guard_shape)) (answers_to p.0 (label_of make_shape)) faults some
 
 entered_is : (t : Bool) → (not t && true) ≡ false → t ≡ true
 entered_is true e = refl

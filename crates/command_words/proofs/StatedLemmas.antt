@@ -17,10 +17,10 @@ abbrev said_at : Text → Level → Option Command
 said_at name l = if is_empty (or_else l.0 []) then command_by name l.1 else None
 
 -- where the walk stands behind a word for a positional
-abbrev taken : Shape → Walk → ℕ → Text → Walk
+abbrev pub taken : Shape → Walk → ℕ → Text → Walk
 taken s w position word = to_positional s.rules (arg_by_index s.rules position) word (at w.held idle position) w.held
 
-abbrev start : Walk
+abbrev pub start : Walk
 start = at nothing_held idle 1
 
 -- ---- `judge LOG`
@@ -103,7 +103,7 @@ asked_of f options =
     ([], files_of (Some f.obs) (Some f.nav) (Some f.settings) (Some f.log) (epochs_by (from_text options) (to_text options)))
 
 -- the texts of the options don't begin with a dash
-abbrev ArePlain : Options → Type 0
+abbrev pub ArePlain : Options → Type 0
 ArePlain Neither = Unit {0}
 ArePlain (From from) = IsName from
 ArePlain (To to) = IsName to
@@ -116,7 +116,7 @@ epochs_given None to epochs e = cc
 epochs_given (Some n) None epochs e = cc
 epochs_given (Some n) (Some m) epochs e = ((n, refl), (m, refl))
 
-plain_options : (options : Options) (epochs : Epochs) → epochs_by (from_text options) (to_text options) ≡ Some epochs → ArePlain options
+pub plain_options : (options : Options) (epochs : Epochs) → epochs_by (from_text options) (to_text options) ≡ Some epochs → ArePlain options
 plain_options Neither epochs e = tt
 plain_options (From from) epochs e =
     let k = epochs_given (epoch_number from) (Some last_epoch) epochs e in number_plain 1 last_epoch from k.0.0 k.0.1

@@ -1,5 +1,6 @@
 -- The command that the words after the program's name ask for.
-use Rattle.std.specs.Prelude.{ℕ, List, Option, Some, None, option_map, codes, if◌then◌else◌}
+use Rattle.std.specs.Prelude.{ℕ, Bool, false, List, Option, Some, None, option_map, codes}
+use Rattle.std.specs.Prelude.{if◌then◌else◌}
 use Rattle.std.specs.Option.{option_and_then}
 use Rattle.std.specs.Str.{bytes_eq}
 use Rattle.clap.specs.Walk.{Text, Row, first_of, is_empty}
@@ -28,6 +29,7 @@ pub data Command : Type 0 where
   Check : Files → Command
   Track : Files → Command
   Retrack : Files → Command
+  Guard : Files → (zones : Text) → (tracked : Bool) → Command
   Make : (seed epochs : ℕ) → Command
 
 -- ---- a command from its texts. Where clap takes the words all of them are there
@@ -55,6 +57,15 @@ files_of (Some obs) (Some nav) (Some settings) (Some log) (Some epochs) =
     Some (record { obs = obs; nav = nav; settings = settings; log = log; epochs = epochs })
 files_of _ _ _ _ _ = None
 
+-- what clap keeps of a flag says whether it is there
+abbrev pub is_said : Option Text → Bool
+is_said None = false
+is_said (Some text) = bytes_eq text (codes "true")
+
+abbrev pub guard_of : Option Files → Option Text → Bool → Option Command
+guard_of (Some files) (Some zones) tracked = Some (Guard files zones tracked)
+guard_of _ _ _ = None
+
 abbrev pub make_of : Option ℕ → Option ℕ → Option Command
 make_of (Some seed) (Some epochs) = Some (Make seed epochs)
 make_of _ _ = None
@@ -73,6 +84,11 @@ files_by rows =
     (first_of (codes "settings") rows) (first_of (codes "log") rows)
     (epochs_by (first_of (codes "from") rows) (first_of (codes "to") rows))
 
+abbrev pub guard_by : List Row → Option Command
+guard_by rows =
+    guard_of (files_by rows) (first_of (codes "zones") rows)
+    (is_said (first_of (codes "track") rows))
+
 abbrev pub make_by : List Row → Option Command
 make_by rows =
     make_of (option_and_then seed_number (first_of (codes "seed") rows))
@@ -87,7 +103,8 @@ command_by name rows =
     else (if bytes_eq name (codes "check") then option_map Check (files_by rows)
     else (if bytes_eq name (codes "track") then option_map Track (files_by rows)
     else (if bytes_eq name (codes "retrack") then option_map Retrack (files_by rows)
-    else (if bytes_eq name (codes "make") then make_by rows else None))))))
+    else (if bytes_eq name (codes "guard") then guard_by rows
+    else (if bytes_eq name (codes "make") then make_by rows else None)))))))
 
 abbrev pub command_said : Option (Text × List Row) → Option Command
 command_said None = None

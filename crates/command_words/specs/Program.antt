@@ -2,6 +2,7 @@
 -- or version words. This definition is what the words are judged by.
 use Rattle.std.specs.Prelude.{true, [], Some, codes}
 use Rattle.clap.specs.Walk.{Text}
+use Rattle.clap.specs.declared.builder.action.ArgAction.TheVariants.{SetTrue}
 use Rattle.clap.specs.Simple.{App, new_app, new_rule, new_shape, with_rule, with_subcommand}
 
 -- one more required word
@@ -11,6 +12,10 @@ with_word app id = with_rule app (record (new_rule id) { required = true })
 -- one more long option of one text
 abbrev pub with_option : App → Text → App
 with_option app id = with_rule app (record (new_rule id) { long = Some id })
+
+-- one more flag, without a text
+abbrev pub with_flag : App → Text → App
+with_flag app id = with_rule app (record (new_rule id) { long = Some id; action = Some SetTrue })
 
 -- `judge LOG`
 abbrev pub judge_app : App
@@ -27,6 +32,17 @@ files_app name =
     let receiver = with_word (with_word (new_app name) (codes "obs")) (codes "nav") in
     let files = with_word (with_word receiver (codes "settings")) (codes "log") in
     with_option (with_option files (codes "from")) (codes "to")
+
+-- `guard OBS NAV SETTINGS ZONES LOG`
+abbrev pub guard_files : App
+guard_files =
+    let receiver = with_word (with_word (new_app (codes "guard")) (codes "obs")) (codes "nav") in
+    with_word (with_word (with_word receiver (codes "settings")) (codes "zones")) (codes "log")
+
+-- with `--from N`, `--to N` and `--track`
+abbrev pub guard_app : App
+guard_app =
+    with_flag (with_option (with_option guard_files (codes "from")) (codes "to")) (codes "track")
 
 -- `make SEED EPOCHS`
 abbrev pub make_app : App
@@ -59,4 +75,4 @@ with_tracks =
     (files_app (codes "retrack")).top
 
 abbrev pub program : App
-program = with_subcommand with_tracks make_app.top
+program = with_subcommand (with_subcommand with_tracks guard_app.top) make_app.top

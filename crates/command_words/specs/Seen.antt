@@ -3,7 +3,7 @@ use Rattle.std.specs.Prelude.{◌≤◌, List, map, String, string_bytes}
 use Rattle.std.specs.declared.alloc.Global.{Global}
 use Rattle.clap.specs.Walk.{Text}
 use Rattle.command_words.specs.Commands.{Epochs, Files, Command, Judge, Pave, Solve, Check, Track}
-use Rattle.command_words.specs.Commands.{Retrack, Make}
+use Rattle.command_words.specs.Commands.{Retrack, Guard, Make}
 use Rattle.command_words.specs.declared.command.Selection as selection
 use Rattle.command_words.specs.declared.command.Files as files
 use Rattle.command_words.specs.declared.command.Command as parsed
@@ -32,6 +32,7 @@ asked (variant.Solve files) = Solve (files_asked files)
 asked (variant.Check files) = Check (files_asked files)
 asked (variant.Track files) = Track (files_asked files)
 asked (variant.Retrack files) = Retrack (files_asked files)
+asked (variant.Guard files zones tracked) = Guard (files_asked files) zones.now tracked
 asked (variant.Make seed epochs) = Make seed epochs
 
 -- the numbers are in their ranges
@@ -45,4 +46,5 @@ HasRanges (variant.Solve files) = IsSelection files.selection
 HasRanges (variant.Check files) = IsSelection files.selection
 HasRanges (variant.Track files) = IsSelection files.selection
 HasRanges (variant.Retrack files) = IsSelection files.selection
+HasRanges (variant.Guard files zones tracked) = IsSelection files.selection
 HasRanges (variant.Make seed epochs) = (1 ≤ epochs) × (epochs ≤ 240)

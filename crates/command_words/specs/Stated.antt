@@ -1,12 +1,13 @@
 -- Words of the stated form, and that clap takes no others than a command's.
-use Rattle.std.specs.Prelude.{◌≡◌, ◌⊎◌, ◌==◌, ℕ, Bool, false, List, [], ◌∷◌, Option, Some, None}
-use Rattle.std.specs.Prelude.{codes}
+use Rattle.std.specs.Prelude.{◌≡◌, ◌⊎◌, ◌==◌, ◌++◌, ℕ, Bool, true, false, List, [], ◌∷◌, Option}
+use Rattle.std.specs.Prelude.{Some, None, codes}
 use Rattle.clap.specs.Walk.{Text, Row, first_of}
 use Rattle.clap.specs.Simple.{subcommand_of}
 use Rattle.clap.specs.Faults.{fault_of}
 use Rattle.command_words.specs.Program.{program}
 use Rattle.command_words.specs.Numbers.{seed_number, count_number}
-use Rattle.command_words.specs.Commands.{Files, Command, Judge, Pave, Make, epochs_by, command_of}
+use Rattle.command_words.specs.Commands.{Files, Command, Judge, Pave, Guard, Make, epochs_by}
+use Rattle.command_words.specs.Commands.{command_of}
 
 abbrev pub begins_with_dash : Text → Bool
 begins_with_dash [] = false
@@ -47,6 +48,35 @@ to_text (ToFrom to from) = Some to
 abbrev pub file_words : Files → Options → List Text
 file_words f options = f.obs ∷ f.nav ∷ f.settings ∷ f.log ∷ option_words options
 
+-- `--track` among them: nowhere, or before the options, behind the first, or behind them all
+pub data Flag : Type 0 where
+  Nowhere : Flag
+  Before : Flag
+  BehindFirst : Flag
+  Behind : Flag
+
+abbrev pub is_tracked : Flag → Bool
+is_tracked Nowhere = false
+is_tracked Before = true
+is_tracked BehindFirst = true
+is_tracked Behind = true
+
+abbrev pub flagged_words : Flag → Options → List Text
+flagged_words Nowhere options = option_words options
+flagged_words Before options = codes "--track" ∷ option_words options
+flagged_words BehindFirst Neither = codes "--track" ∷ []
+flagged_words BehindFirst (From from) = codes "--from" ∷ from ∷ codes "--track" ∷ []
+flagged_words BehindFirst (To to) = codes "--to" ∷ to ∷ codes "--track" ∷ []
+flagged_words BehindFirst (FromTo from to) =
+    codes "--from" ∷ from ∷ codes "--track" ∷ codes "--to" ∷ to ∷ []
+flagged_words BehindFirst (ToFrom to from) =
+    codes "--to" ∷ to ∷ codes "--track" ∷ codes "--from" ∷ from ∷ []
+flagged_words Behind options = option_words options ++ codes "--track" ∷ []
+
+abbrev pub guard_words : Files → Text → Flag → Options → List Text
+guard_words f zones flag options =
+    f.obs ∷ f.nav ∷ f.settings ∷ zones ∷ f.log ∷ flagged_words flag options
+
 abbrev pub AreNames : Files → Type 0
 AreNames f = IsName f.obs × IsName f.nav × IsName f.settings × IsName f.log
 
@@ -64,6 +94,12 @@ abbrev pub FilesAreTaken : Text → (Files → Command) → Type 0
 FilesAreTaken name asked = (files : Files) (options : Options) → AreNames files
     → epochs_by (from_text options) (to_text options) ≡ Some files.epochs
     → command_of (name ∷ file_words files options) ≡ Some (asked files)
+
+abbrev pub GuardIsTaken : Type 0
+GuardIsTaken = (files : Files) (zones : Text) (flag : Flag) (options : Options) → AreNames files
+    → IsName zones → epochs_by (from_text options) (to_text options) ≡ Some files.epochs
+    → command_of (codes "guard" ∷ guard_words files zones flag options)
+    ≡ Some (Guard files zones (is_tracked flag))
 
 abbrev pub MakeIsTaken : Type 0
 MakeIsTaken = (seed_text epochs_text : Text) (seed epochs : ℕ)
@@ -85,6 +121,9 @@ pub record Says (name : Text) (ids : List Text) (said : Option (Text × List Row
 abbrev pub file_ids : List Text
 file_ids = codes "obs" ∷ codes "nav" ∷ codes "settings" ∷ codes "log" ∷ []
 
+abbrev pub guard_ids : List Text
+guard_ids = codes "obs" ∷ codes "nav" ∷ codes "settings" ∷ codes "zones" ∷ codes "log" ∷ []
+
 abbrev pub SaysCommand : Option (Text × List Row) → Type 0
 SaysCommand said =
     Says (codes "judge") (codes "log" ∷ []) said
@@ -93,7 +132,8 @@ SaysCommand said =
     ⊎ (Says (codes "check") file_ids said
     ⊎ (Says (codes "track") file_ids said
     ⊎ (Says (codes "retrack") file_ids said
-    ⊎ Says (codes "make") (codes "seed" ∷ codes "epochs" ∷ []) said)))))
+    ⊎ (Says (codes "guard") guard_ids said
+    ⊎ Says (codes "make") (codes "seed" ∷ codes "epochs" ∷ []) said))))))
 
 abbrev pub TakenIsCommand : Type 0
 TakenIsCommand = (words : List Text) → fault_of program words ≡ []

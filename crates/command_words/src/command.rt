@@ -21,9 +21,14 @@ pub struct Files<'a> {
 #[derive(Clone, Copy, Debug, PartialEq, Eq)]
 pub enum Command<'a> {
     /// Judge this log.
-    Judge { log: &'a str },
+    Judge {
+        log: &'a str,
+    },
     /// Pave these rows, and write the log.
-    Pave { rows: &'a str, log: &'a str },
+    Pave {
+        rows: &'a str,
+        log: &'a str,
+    },
     /// Pave the epochs of these files, and write the log.
     Solve(Files<'a>),
     /// Check the log against the files.
@@ -32,6 +37,16 @@ pub enum Command<'a> {
     Track(Files<'a>),
     /// Check the log of a moving receiver against the files.
     Retrack(Files<'a>),
+    /// Check the log as `Check` does, or as `Retrack` where it is that of a track, and tell what it
+    /// says of zones.
+    Guard {
+        files: Files<'a>,
+        zones: &'a str,
+        tracked: bool,
+    },
     /// Make so many epochs of a known receiver, and solve them.
-    Make { seed: u32, epochs: u32 },
+    Make {
+        seed: u32,
+        epochs: u32,
+    },
 }

@@ -2,11 +2,12 @@
 
 ghost use Rattle.std.specs.Prelude.{codes};
 ghost use Rattle.command_words.specs.Commands.{Solve, Check, Track, Retrack};
-ghost use Rattle.command_words.specs.Stated.{JudgeIsTaken, PaveIsTaken, FilesAreTaken, MakeIsTaken};
-ghost use Rattle.command_words.specs.Stated.{TakenIsCommand};
+ghost use Rattle.command_words.specs.Stated.{JudgeIsTaken, PaveIsTaken, FilesAreTaken};
+ghost use Rattle.command_words.specs.Stated.{GuardIsTaken, MakeIsTaken, TakenIsCommand};
 
 /// Words of the stated form ask for their command: its name, its words, of which none begins with a
-/// dash, and then its options, each at most once. Each number is decimal digits in its range.
+/// dash, and then its options, each at most once. `--track` may stand between them. Each number is
+/// decimal digits in its range.
 pub fn stated_words_are_taken()
     ensures judge { JudgeIsTaken }
     ensures pave { PaveIsTaken }
@@ -14,6 +15,7 @@ pub fn stated_words_are_taken()
     ensures check { FilesAreTaken (codes "check") Check }
     ensures track { FilesAreTaken (codes "track") Track }
     ensures retrack { FilesAreTaken (codes "retrack") Retrack }
+    ensures guard { GuardIsTaken }
     ensures make { MakeIsTaken }
 {}
 

@@ -9,8 +9,9 @@ ghost use Rattle.clap.specs.Values.{kind_of};
 ghost use Rattle.clap.specs.Walk.{rows_of, first_of};
 ghost use Rattle.command_words.specs.Program.{program};
 ghost use Rattle.command_words.specs.Numbers.{epoch_or};
-ghost use Rattle.command_words.specs.Commands.{judge_by, pave_by, files_by, make_by, epochs_by};
-ghost use Rattle.command_words.specs.Commands.{command_by, command_said, command_of};
+ghost use Rattle.command_words.specs.Commands.{judge_by, pave_by, files_by, is_said, guard_by};
+ghost use Rattle.command_words.specs.Commands.{make_by, epochs_by, command_by, command_said};
+ghost use Rattle.command_words.specs.Commands.{command_of};
 ghost use Rattle.command_words.specs.Seen.{texts, epochs_asked, files_asked, asked, IsSelection};
 ghost use Rattle.command_words.specs.Seen.{HasRanges};
 
@@ -91,6 +92,8 @@ fn command_by<'a>(name: &str, found: &ArgMatches<'a>) -> Option<Command<'a>>
         Some(Command::Track(files_by(found)?))
     } else if name == "retrack" {
         Some(Command::Retrack(files_by(found)?))
+    } else if name == "guard" {
+        guard_by(found)
     } else if name == "make" {
         make_by(found)
     } else {
@@ -140,6 +143,31 @@ fn files_by<'a>(found: &ArgMatches<'a>) -> Option<Files<'a>>
         settings,
         log,
         selection,
+    })
+}
+
+/// Whether a flag is there.
+fn is_said(flag: Option<&str>) -> bool
+    ensures { result ≡ is_said (option_map (λ t. t.now) flag.entry) }
+{
+    match flag {
+        Some(text) => text == "true",
+        None => false,
+    }
+}
+
+/// `OBS NAV SETTINGS ZONES LOG`, `--from N`, `--to N` and `--track`.
+fn guard_by<'a>(found: &ArgMatches<'a>) -> Option<Command<'a>>
+    ensures command { option_map asked result ≡ guard_by (rows_of (found_of found.now)) }
+    ensures ranges { IfSome result HasRanges }
+{
+    let files = files_by(found)?;
+    let zones = text_of(found, "zones")?;
+    let tracked = is_said(text_of(found, "track"));
+    Some(Command::Guard {
+        files,
+        zones,
+        tracked,
     })
 }
 

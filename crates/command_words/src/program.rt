@@ -3,11 +3,12 @@
 ghost use Rattle.std.specs.Prelude.{◌≡◌, IfOk, false};
 ghost use Rattle.clap.specs.Simple.{app_of};
 ghost use Rattle.clap.specs.declared.builder.command.Command.TheViews.{out-Command};
-ghost use Rattle.command_words.specs.Program.{with_word, with_option, judge_app, pave_app};
-ghost use Rattle.command_words.specs.Program.{files_app, make_app, with_logs, with_files};
-ghost use Rattle.command_words.specs.Program.{with_tracks, program};
+ghost use Rattle.command_words.specs.Program.{with_word, with_option, with_flag, judge_app};
+ghost use Rattle.command_words.specs.Program.{pave_app, files_app, guard_files, guard_app};
+ghost use Rattle.command_words.specs.Program.{make_app, with_logs, with_files, with_tracks};
+ghost use Rattle.command_words.specs.Program.{program};
 
-use clap::{Arg, Command};
+use clap::{Arg, ArgAction, Command};
 use std::alloc::{AllocError, Global};
 
 /// One more required word.
@@ -36,6 +37,20 @@ fn with_option<'a>(
 {
     let option = Arg::new(alloc, id).long(id);
     command.arg(option)
+}
+
+/// One more flag, without a text.
+fn with_flag<'a>(
+    alloc: Global,
+    command: Command<'a>,
+    id: &'a str,
+) -> Result<Command<'a>, AllocError>
+    ensures app { IfOk result (λ c. app_of c ≡ with_flag (app_of command.entry) id.entry.now) }
+    ensures local { (out-Command command.entry).has_globals ≡ false
+        → IfOk result (λ c. (out-Command c).has_globals ≡ false) }
+{
+    let flag = Arg::new(alloc, id).long(id).action(ArgAction::SetTrue);
+    command.arg(flag)
 }
 
 /// `judge LOG`.
@@ -69,6 +84,30 @@ fn on_files<'a>(alloc: Global, name: &'a str) -> Result<Command<'a>, AllocError>
     let command = with_word(alloc, command, "log")?;
     let command = with_option(alloc, command, "from")?;
     with_option(alloc, command, "to")
+}
+
+/// `guard OBS NAV SETTINGS ZONES LOG`.
+fn guard_files<'a>(alloc: Global) -> Result<Command<'a>, AllocError>
+    ensures app { IfOk result (λ c. app_of c ≡ guard_files) }
+    ensures local { IfOk result (λ c. (out-Command c).has_globals ≡ false) }
+{
+    let command = Command::new(alloc, "guard");
+    let command = with_word(alloc, command, "obs")?;
+    let command = with_word(alloc, command, "nav")?;
+    let command = with_word(alloc, command, "settings")?;
+    let command = with_word(alloc, command, "zones")?;
+    with_word(alloc, command, "log")
+}
+
+/// The same with `--from N`, `--to N` and `--track`.
+fn guard<'a>(alloc: Global) -> Result<Command<'a>, AllocError>
+    ensures app { IfOk result (λ c. app_of c ≡ guard_app) }
+    ensures local { IfOk result (λ c. (out-Command c).has_globals ≡ false) }
+{
+    let command = guard_files(alloc)?;
+    let command = with_option(alloc, command, "from")?;
+    let command = with_option(alloc, command, "to")?;
+    with_flag(alloc, command, "track")
 }
 
 /// `make SEED EPOCHS`.
@@ -123,6 +162,7 @@ pub(crate) fn program<'a>(alloc: Global) -> Result<Command<'a>, AllocError>
     ensures app { IfOk result (λ c. app_of c ≡ program) }
 {
     let command = with_tracks(alloc)?;
+    let guard = guard(alloc)?;
     let make = make(alloc)?;
-    command.subcommand(make)
+    command.subcommand(guard)?.subcommand(make)
 }

@@ -25,6 +25,15 @@ fn files(log: &str, from: u32, to: u32) -> Files<'_> {
     }
 }
 
+/// The same files with the zones `z`.
+fn guarded(log: &str, from: u32, to: u32, tracked: bool) -> Option<Command<'_>> {
+    Some(Command::Guard {
+        files: files(log, from, to),
+        zones: "z",
+        tracked,
+    })
+}
+
 #[test]
 fn taken(rt: HostRuntime) -> Result<(), AllocError> {
     let judged = |log| Some(Command::Judge { log });
@@ -34,7 +43,7 @@ fn taken(rt: HostRuntime) -> Result<(), AllocError> {
     let retracked = |log, from, to| Some(Command::Retrack(files(log, from, to)));
     let made = |seed, epochs| Some(Command::Make { seed, epochs });
     let (rows, log) = ("r", "l");
-    let table: [(&[&str], Option<Command<'_>>); 23] = [
+    let table: [(&[&str], Option<Command<'_>>); 27] = [
         (&["judge", "x"], judged("x")),
         (&["judge", ""], judged("")),
         (&["judge", "-"], judged("-")),
@@ -82,6 +91,22 @@ fn taken(rt: HostRuntime) -> Result<(), AllocError> {
             &["retrack", "--to", "7", "o", "n", "s", "--from=2", "l"],
             retracked("l", 2, 7),
         ),
+        (
+            &["guard", "o", "n", "s", "z", "l"],
+            guarded("l", 1, LAST, false),
+        ),
+        (
+            &["guard", "o", "n", "s", "z", "l", "--from", "3", "--track"],
+            guarded("l", 3, LAST, true),
+        ),
+        (
+            &["guard", "--track", "o", "n", "s", "z", "--to=7", "l"],
+            guarded("l", 1, 7, true),
+        ),
+        (
+            &["guard", "o", "n", "s", "z", "--", "--track"],
+            guarded("--track", 1, LAST, false),
+        ),
         (&["make", "7", "3"], made(7, 3)),
         (&["make", "0", "1"], made(0, 1)),
         (&["make", "4294967295", "240"], made(4_294_967_295, 240)),
@@ -96,7 +121,7 @@ fn taken(rt: HostRuntime) -> Result<(), AllocError> {
 
 #[test]
 fn not_taken(rt: HostRuntime) -> Result<(), AllocError> {
-    let rows: [&[&str]; 43] = [
+    let rows: [&[&str]; 48] = [
         &[],
         &[""],
         &["judge"],
@@ -133,6 +158,11 @@ fn not_taken(rt: HostRuntime) -> Result<(), AllocError> {
         &["track", "o", "n", "s"],
         &["tracks", "o", "n", "s", "l"],
         &["retrack", "o", "n", "s", "l", "--to", "0"],
+        &["guard", "o", "n", "s", "l"],
+        &["guard", "o", "n", "s", "z", "l", "--track", "--track"],
+        &["guard", "o", "n", "s", "z", "l", "--track=true"],
+        &["guard", "o", "n", "s", "z", "l", "--track", "x"],
+        &["check", "o", "n", "s", "l", "--track"],
         &["make", "7"],
         &["make", "7", "3", "9"],
         &["make", "-1", "3"],

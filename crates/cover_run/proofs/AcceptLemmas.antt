@@ -49,7 +49,7 @@ not_refused chosen i j limit bytes said log fault same solved text refused =
     let back = searches_same solved.root (epochs_of chosen j) (epochs_of chosen i)
     (sym (epochs_same i j same chosen)) in
     let admits = solved.admits r.owns (own_there i j same here there r.owns back r.are_own) in
-    r.refused (subst (λ (l : LogValue). Admits j.settings.zenith there r.owns j.settings.rules l)
+    r.refused (subst (λ (l : LogValue). Admits j.settings.delays there r.owns j.settings.rules l)
     is_log (admits_there i j same here there r.owns whole.log alike admits))
 
 -- ---- a track

@@ -17,6 +17,8 @@ use Rattle.input_files.specs.Statuses.{status_of}
 use Rattle.input_files.specs.declared.inputs.Inputs.{Inputs}
 use Rattle.input_files.specs.declared.limits.Limits.{Limits}
 use Rattle.input_files.specs.declared.notice.Notice.{Notice}
+use Rattle.input_files.specs.declared.role.Role.{Role}
+use Rattle.input_files.specs.declared.role.Role.TheVariants as role
 use Rattle.input_files.specs.declared.status.Status.{Status}
 use Rattle.input_files.specs.declared.status.Status.TheVariants as status
 use Rattle.log_writer.specs.Sizes.{most_bytes}
@@ -57,11 +59,11 @@ module _ (moving : Bool) (limits : Limits) (names : words.Files) (bytes : List �
   later = map.insert told log bytes
 
   still : {V : Type 0} (text : Text V) (name : List ℕ) (r : Result text.Value Notice) → name ≢ log
-      → ReadsFile text (limit_of limits text.slot) NeverBreaks (file_in (Some later) name) r
-      → ReadsFile text (limit_of limits text.slot) NeverBreaks (file_in (Some told) name) r
+      → ReadsFile text (limit_of limits text.role) NeverBreaks (file_in (Some later) name) r
+      → ReadsFile text (limit_of limits text.role) NeverBreaks (file_in (Some told) name) r
   still text name r other reads = subst
       (λ (f : Option (Option (List ℕ))).
-      ReadsFile text (limit_of limits text.slot) NeverBreaks f r)
+      ReadsFile text (limit_of limits text.role) NeverBreaks f r)
       (ap Some (get-other told log name (Some bytes) other)) reads
 
   inputs_before : (r : Result InputsValue Notice)
@@ -121,7 +123,7 @@ module _ (moving : Bool) (limits : Limits) (names : words.Files) (bytes : List �
     log_read : (n : Notice)
         → ReadsFile log_text limits.log NeverBreaks (Some (Some bytes)) (Err n) → ⊥
     log_read n (inl (inl (within, refused))) =
-        no_first slot.Log IsLogText FirstFault bytes written is_text n refused.1
+        no_first role.Log IsLogText FirstFault bytes written is_text n refused.1
     log_read n (inl (inr (long, e))) = absurd (omega (arith, long, fits))
     log_read n (inr (k, e, there, breaks)) = breaks
 
@@ -213,10 +215,10 @@ module _ (limits : Limits) (names : words.Files) (p : Pair names) (a b c d : Wor
     (solver checker : Trust) (s : Status)
     (runs : RunsThen (writer limits names p) (reader limits names p) names a b c d solver checker s)
   where
-    abbrev Breaking : Slot → Notice → Type 0
+    abbrev Breaking : Role → Notice → Type 0
     Breaking = MayBreak c.shelf d.shelf checker.log
 
-    of_break : (of : Slot) (n : Notice) → s ≡ status_of n → Breaking of n → IsLost checker s
+    of_break : (of : Role) (n : Notice) → s ≡ status_of n → Breaking of n → IsLost checker s
     of_break of n is (inl m) = inl (is ∙ ap status_of m)
     of_break of n is (inr (m, counted)) =
         inr (inl (is ∙ ap status_of m), λ reads prints. counted.unreliable None reads)

@@ -5,6 +5,9 @@ pub mod TaskLemmas
 pub mod SolvingLemmas
 pub mod TrackingLemmas
 pub mod RecheckingLemmas
+pub mod ZoneLineLemmas
+pub mod ZoneTotalLemmas
+pub mod GuardingLemmas
 pub mod SameInputs
 pub mod AcceptLemmas
 pub mod Headline

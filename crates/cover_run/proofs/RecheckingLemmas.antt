@@ -5,7 +5,6 @@ use Rattle.epoch_selection.specs.declared.selection.Selection.{Selection}
 use Rattle.grid_model.specs.Boxes.{GridBox}
 use Rattle.grid_model.specs.declared.memory.NoMemory.{NoMemory}
 use Rattle.input_files.specs.declared.inputs.Inputs.{Inputs}
-use Rattle.input_files.specs.declared.status.Status.{Status}
 use Rattle.paving_log.specs.Values.{log_value}
 use Rattle.paving_log.specs.declared.log.Log.{Log}
 use Rattle.paving_log_check.specs.Answers.{IfYes, IfNo}
@@ -14,11 +13,9 @@ use Rattle.paving_log_check.specs.declared.verdict.Fault.{Fault}
 use Rattle.paving_log_check.specs.declared.verdict.Verdict.{Verdict}
 use Rattle.tube_check.proofs.FoundLemmas.{all_few, found_by}
 use Rattle.tube_searches.specs.Tubes.{tube_searches}
-use Rattle.cover_run.proofs.TellingLemmas.{said_no, said_yes, tells_as}
-use Rattle.cover_run.specs.Checking.{SaysNo, SaysYes}
-use Rattle.cover_run.specs.Rechecking.{AcceptsTrack, RefusesTrack, SaysTracked, SaysUntracked}
+use Rattle.cover_run.proofs.TellingLemmas.{no_as, yes_as}
+use Rattle.cover_run.specs.Rechecking.{AcceptsTrack, RefusesTrack}
 use Rattle.cover_run.specs.Solving.{meaning_of}
-use Rattle.cover_run.specs.Telling.{Sinks, Tells}
 use Rattle.cover_run.specs.Tracking.{IsTubeOf, tube_of}
 use Rattle.cover_run.specs.declared.checked.Checked.{Checked}
 
@@ -48,24 +45,14 @@ module _ (chosen : Selection) (f : Checked) (search : GridBox) (speed : ℕ)
         i.settings.rules (log_value f.log) boxes path refl (all_few f.log.epochs.items) accepted goes fits;
   }
 
-  module _ (verdict : Result Verdict NoMemory)
-      (yes : IfOk verdict (λ v. IfYes v Accepted)) (no : IfOk verdict (λ v. IfNo v Refused)) where
-    says_yes : (line : List ℕ) → SaysYes verdict line → SaysTracked chosen f line
-    says_yes line says =
-        let (boxes, accepted, e) = said_yes verdict Accepted yes line says in
-        (boxes, accepts boxes accepted, e)
+  -- what is known of a verdict by the checker's clauses
+  pub track_yes : (verdict : Result Verdict NoMemory) → IfOk verdict (λ v. IfYes v Accepted)
+      → IfOk verdict (λ v. IfYes v (AcceptsTrack chosen i (log_value f.log)))
+  track_yes verdict told =
+      yes_as verdict Accepted (AcceptsTrack chosen i (log_value f.log)) accepts told
 
-    says_no : (line : List ℕ) → SaysNo verdict line → SaysUntracked chosen f line
-    says_no line says =
-        let (fault, refused, e) = said_no verdict Refused no line says in (
-          fault,
-          record { search = search; speed = speed; is_tube = is_tube; refused = refused },
-          e,
-        )
-
-    pub says_track : (before after : Sinks) (reliable : Type 0) (s : Status)
-        → Tells (SaysYes verdict) (SaysNo verdict) before after reliable s
-        → Tells (SaysTracked chosen f) (SaysUntracked chosen f) before after reliable s
-    says_track before after reliable s told =
-        tells_as (SaysYes verdict) (SaysNo verdict) (SaysTracked chosen f) (SaysUntracked chosen f)
-        before after reliable says_yes says_no s told
+  pub track_no : (verdict : Result Verdict NoMemory) → IfOk verdict (λ v. IfNo v Refused)
+      → IfOk verdict (λ v. IfNo v (RefusesTrack chosen i (log_value f.log)))
+  track_no verdict told = no_as verdict Refused (RefusesTrack chosen i (log_value f.log))
+      (λ fault refused.
+      record { search = search; speed = speed; is_tube = is_tube; refused = refused }) told

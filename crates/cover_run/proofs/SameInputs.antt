@@ -29,6 +29,7 @@ use Rattle.grid_model.specs.Boxes.{GridBox}
 use Rattle.sat_model.specs.Logs.{Block, LogValue}
 use Rattle.sat_model.specs.Relaxed.{ends}
 use Rattle.sat_model.specs.declared.rules.Rules.{Rules}
+use Rattle.gnss_model.specs.declared.delays.Delays.{Delays}
 use Rattle.grid_model.specs.declared.spans.Span.{Span}
 use Rattle.sat_rows.specs.Chains.{IsChainAt}
 use Rattle.sat_rows.specs.Meanings.{Meaning}
@@ -91,6 +92,13 @@ same_spans None (Some b) e = cc
 same_spans (Some a) None e = cc
 same_spans (Some a) (Some b) e =
     let both : ends a ≡ ends b = cc in ap (λ (s : Span). Some s) (same_span a b both)
+
+same_delays : (a b : Delays) → option_map ends a.zenith ≡ option_map ends b.zenith
+    → option_map ends a.vertical ≡ option_map ends b.vertical → a ≡ b
+same_delays a b e f =
+    let zenith = same_spans a.zenith b.zenith e in
+    let vertical = same_spans a.vertical b.vertical f in
+    λ i. record { zenith = zenith i; vertical = vertical i }
 
 -- ---- epochs
 
@@ -208,20 +216,20 @@ due_same rules before (a ∷ xs) (b ∷ ys) [] same due = absurd due
 due_same rules before (a ∷ xs) (b ∷ ys) (block ∷ blocks) same due =
     of_same rules before a.epoch b.epoch block same.1 due
 
-admits_same : (zenith : Option Span) (rules : Rules) (before : Option ℕ)
+admits_same : (delays : Delays) (rules : Rules) (before : Option ℕ)
     (owns : List (List SatLine)) (xs ys : List Search) (blocks : List Block)
-    → AreSameSearches xs ys → AdmitsFrom zenith rules before owns xs blocks
-    → AdmitsFrom zenith rules before owns ys blocks
-admits_same zenith rules before [] xs ys blocks same admits =
+    → AreSameSearches xs ys → AdmitsFrom delays rules before owns xs blocks
+    → AdmitsFrom delays rules before owns ys blocks
+admits_same delays rules before [] xs ys blocks same admits =
     due_same rules before xs ys blocks same admits
-admits_same zenith rules before (own ∷ owns) [] ys blocks same admits = absurd admits
-admits_same zenith rules before (own ∷ owns) (a ∷ xs) [] blocks same admits = absurd same
-admits_same zenith rules before (own ∷ owns) (a ∷ xs) (b ∷ ys) [] same admits = absurd admits
-admits_same zenith rules before (own ∷ owns) (a ∷ xs) (b ∷ ys) (block ∷ blocks)
+admits_same delays rules before (own ∷ owns) [] ys blocks same admits = absurd admits
+admits_same delays rules before (own ∷ owns) (a ∷ xs) [] blocks same admits = absurd same
+admits_same delays rules before (own ∷ owns) (a ∷ xs) (b ∷ ys) [] same admits = absurd admits
+admits_same delays rules before (own ∷ owns) (a ∷ xs) (b ∷ ys) (block ∷ blocks)
     (root, epoch, more) admits = (
       of_same rules before a.epoch b.epoch block epoch admits.0,
-      subst (λ (r : GridBox). EpochPasses zenith rules r own block) root admits.1,
-      admits_same zenith rules (Some block.index) owns xs ys blocks more admits.2,
+      subst (λ (r : GridBox). EpochPasses delays rules r own block) root admits.1,
+      admits_same delays rules (Some block.index) owns xs ys blocks more admits.2,
     )
 
 -- ---- inputs
@@ -237,21 +245,22 @@ sighting_by records v tag seen = record {
   seen = seen;
 }
 
-abbrev meaning_by : List NavRecord → SettingsValue → Option Span → Meaning
-meaning_by records v zenith = record {
-  judged = λ root tag seen. IsJudged zenith root (sighting_by records v tag seen);
-  allows = λ tag seen. IsChainAt (sighting_by records v tag seen) zenith (bound_for seen.sat v);
+abbrev meaning_by : List NavRecord → SettingsValue → Delays → Meaning
+meaning_by records v delays = record {
+  judged = λ root tag seen. IsJudged delays root (sighting_by records v tag seen);
+  allows = λ tag seen. IsChainAt (sighting_by records v tag seen) delays (bound_for seen.sat v);
   declared = λ sat. bound_for sat v;
-  zenith = zenith;
+  delays = delays;
 }
 
 module _ (i j : Inputs) (same : inputs_value i ≡ inputs_value j) where
   settings_same : value_of_settings i.settings ≡ value_of_settings j.settings
   settings_same = ap (λ (v : InputsValue). v.settings) same
 
-  zenith_same : i.settings.zenith ≡ j.settings.zenith
-  zenith_same = same_spans i.settings.zenith j.settings.zenith
+  delays_same : i.settings.delays ≡ j.settings.delays
+  delays_same = same_delays i.settings.delays j.settings.delays
       (ap (λ (v : SettingsValue). v.zenith) settings_same)
+      (ap (λ (v : SettingsValue). v.vertical) settings_same)
 
   pub epochs_same : (chosen : Selection)
       → plain_epochs (epochs_of chosen i) ≡ plain_epochs (epochs_of chosen j)
@@ -263,37 +272,37 @@ module _ (i j : Inputs) (same : inputs_value i ≡ inputs_value j) where
       (λ (v : InputsValue).
       IsRoot (centre_with v.obs.position v.settings.centre) v.settings.half root) (sym same) is
 
-  abbrev OwnBy : List NavRecord → SettingsValue → Option Span → List Search
+  abbrev OwnBy : List NavRecord → SettingsValue → Delays → List Search
       → List (List SatLine) → Type 0
-  OwnBy records v zenith searches owns = AreOwn (meaning_by records v zenith) searches owns
+  OwnBy records v delays searches owns = AreOwn (meaning_by records v delays) searches owns
 
   pub own_there : (xs ys : List Search) (owns : List (List SatLine)) → AreSameSearches ys xs
       → AreOwn (meaning_of j) ys owns → AreOwn (meaning_of i) xs owns
   own_there xs ys owns alike are =
       let w = value_of_settings j.settings in
-      let above = j.settings.zenith in
+      let above = j.settings.delays in
       let nav = same_records i.nav j.nav (ap (λ (v : InputsValue). v.nav) same) in
       let here = subst (λ (records : List NavRecord). OwnBy records w above ys owns) (sym nav)
       are in
       let by = subst (λ (v : SettingsValue). OwnBy i.nav v above ys owns) (sym settings_same)
       here in
-      let under = subst (λ (z : Option Span).
-      OwnBy i.nav (value_of_settings i.settings) z ys owns) (sym zenith_same) by in
+      let under = subst (λ (z : Delays).
+      OwnBy i.nav (value_of_settings i.settings) z ys owns) (sym delays_same) by in
       own_same (meaning_of i) ys xs owns alike under
 
   pub admits_there : (xs ys : List Search) (owns : List (List SatLine)) (log : LogValue)
-      → AreSameSearches xs ys → Admits i.settings.zenith xs owns i.settings.rules log
-      → Admits j.settings.zenith ys owns j.settings.rules log
+      → AreSameSearches xs ys → Admits i.settings.delays xs owns i.settings.rules log
+      → Admits j.settings.delays ys owns j.settings.rules log
   admits_there xs ys owns log alike admits =
       let rules = same_rules i.settings.rules j.settings.rules
       (ap (λ (v : SettingsValue). v.outliers) settings_same)
       (ap (λ (v : SettingsValue). v.bisections) settings_same)
       (ap (λ (v : SettingsValue). v.width) settings_same)
       (ap (λ (v : SettingsValue). v.pairs) settings_same) in
-      subst (λ (r : Rules). Admits j.settings.zenith ys owns r log) rules
-      (subst (λ (z : Option Span). Admits z ys owns i.settings.rules log) zenith_same
+      subst (λ (r : Rules). Admits j.settings.delays ys owns r log) rules
+      (subst (λ (z : Delays). Admits z ys owns i.settings.rules log) delays_same
       (record {
         same_rules = admits.same_rules;
-        blocks = admits_same i.settings.zenith i.settings.rules None owns xs ys log.blocks alike
+        blocks = admits_same i.settings.delays i.settings.rules None owns xs ys log.blocks alike
             admits.blocks;
       }))

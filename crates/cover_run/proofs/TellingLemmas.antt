@@ -1,5 +1,5 @@
 -- How a verdict that was printed is told.
-use Rattle.std.proofs.Common.{◌≡◌, ◌⊎◌, ℕ, List, Result, inl, inr, refl, sym, subst}
+use Rattle.std.proofs.Common.{◌≡◌, ◌⊎◌, ℕ, List, Result, Ok, Err, inl, inr, refl, sym, subst}
 use Rattle.std.specs.Prelude.{◌≢◌, IfOk}
 use Rattle.grid_model.specs.declared.memory.NoMemory.{NoMemory}
 use Rattle.input_files.specs.Reading.{IsBrokenOff}
@@ -8,6 +8,7 @@ use Rattle.input_files.specs.declared.status.Status.TheVariants as status
 use Rattle.paving_log_check.specs.Answers.{IfYes, IfNo}
 use Rattle.paving_log_check.specs.declared.verdict.Fault.{Fault}
 use Rattle.paving_log_check.specs.declared.verdict.Verdict.{Verdict}
+use Rattle.paving_log_check.specs.declared.verdict.Verdict.TheVariants as verdict
 use Rattle.sat_model.specs.Logs.{LogValue}
 use Rattle.cover_run.specs.CheckTexts.{fault_text}
 use Rattle.cover_run.specs.Checking.{SaysYes, SaysNo}
@@ -74,6 +75,23 @@ module _ (Yes No Said Denied : List ℕ → Type 0) (before after : Sinks) (reli
   tells_as status.Refused told = told
   tells_as status.ReadFault told = told
   tells_as status.LogFull told = told
+
+-- a verdict of which more is known
+yes_as_of : (v : Verdict) (P Q : ℕ → Type 0) → ((boxes : ℕ) → P boxes → Q boxes) → IfYes v P → IfYes v Q
+yes_as_of (verdict.Yes boxes) P Q on holds = on boxes holds
+yes_as_of (verdict.No fault) P Q on holds = tt
+
+no_as_of : (v : Verdict) (P Q : Fault → Type 0) → ((fault : Fault) → P fault → Q fault) → IfNo v P → IfNo v Q
+no_as_of (verdict.Yes boxes) P Q on holds = tt
+no_as_of (verdict.No fault) P Q on holds = on fault holds
+
+pub yes_as : (told : Result Verdict NoMemory) (P Q : ℕ → Type 0) → ((boxes : ℕ) → P boxes → Q boxes) → IfOk told (λ v. IfYes v P) → IfOk told (λ v. IfYes v Q)
+yes_as (Ok v) P Q on holds = yes_as_of v P Q on holds
+yes_as (Err e) P Q on holds = tt
+
+pub no_as : (told : Result Verdict NoMemory) (P Q : Fault → Type 0) → ((fault : Fault) → P fault → Q fault) → IfOk told (λ v. IfNo v P) → IfOk told (λ v. IfNo v Q)
+no_as (Ok v) P Q on holds = no_as_of v P Q on holds
+no_as (Err e) P Q on holds = tt
 
 -- what holds of each yes and of each no, of the lines that say so
 module _ (verdict : Result Verdict NoMemory) where

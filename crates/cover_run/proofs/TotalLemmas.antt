@@ -5,12 +5,13 @@ use Rattle.std.proofs.lemmas.List.Sums.{sum_by-cons, sum_by-append}
 use Rattle.epoch_report.specs.Reports.{counts_of}
 use Rattle.paving_log.proofs.OwnLemmas.{IsBlockAt}
 use Rattle.grid_model.specs.Boxes.{GridBox}
-use Rattle.sat_model.specs.Fold.{ShownStep, Stage, after, first_stage, pieces_from, slab_of_cut, taken_by}
+use Rattle.sat_model.specs.Fold.{ShownStep, boxes_after, pieces_from, slab_of_cut, taken_by}
+use Rattle.sat_model.specs.BoxTests.{BoxTest}
+use Rattle.sat_model.specs.Stages.{Stage, after, first_stage}
 use Rattle.sat_model.specs.Logs.{Block, LogValue, IsNumbered, IsNumberedFrom, lines_in, lines_with}
 use Rattle.sat_model.specs.StepKinds.{is_inside, is_edge, is_outside}
 use Rattle.sat_model.specs.Verdicts.{BlocksPass, BodyPasses, Judged, StepPasses, StepsPass}
 use Rattle.sat_model.specs.declared.rules.Rules.{Rules}
-use Rattle.sat_model.specs.declared.rows.Row.{Row}
 use Rattle.sat_model.specs.declared.steps.Step.{Step}
 use Rattle.sat_model.specs.declared.steps.Step.TheVariants.{Cut, Split, Outside, Inside, Edge}
 use Rattle.cover_run.specs.Making.{count_of, is_of, summed}
@@ -26,42 +27,42 @@ module _ (p : Step → Bool) (splits : (id axis : ℕ) → p (Split id axis) ≡
   one : (piece : ShownStep) → count_by shows (piece ∷ []) ≡ cond (p piece.step) 1 0
   one piece = omega (arith, sum_by-cons (λ (x : ShownStep). cond (shows x) 1 0) piece [])
 
-  counted_taken : (rows : List Row) (rules : Rules) (stage : Stage) (step : Step)
-      → StepPasses rows rules stage step → count_by shows (taken_by stage step) ≡ cond (p step) 1 0
-  counted_taken rows rules stage (Cut id face bound) (part, is, cuts) =
+  counted_taken : (rules : Rules) (stage : Stage) (step : Step)
+      → StepPasses rules stage step → count_by shows (taken_by stage.boxes step) ≡ cond (p step) 1 0
+  counted_taken rules stage (Cut id face bound) (part, is, cuts) =
       rw is (one (record { step = Cut id face bound; part = slab_of_cut face bound part }))
-  counted_taken rows rules stage (Split id axis) h = rw (splits id axis) refl
-  counted_taken rows rules stage (Outside id) (part, is, empty) =
+  counted_taken rules stage (Split id axis) h = rw (splits id axis) refl
+  counted_taken rules stage (Outside id) (part, is, empty) =
       rw is (one (record { step = Outside id; part = part }))
-  counted_taken rows rules stage (Inside id clock lo hi) (part, is, inner, hull) =
+  counted_taken rules stage (Inside id clock lo hi) (part, is, inner, hull) =
       rw is (one (record { step = Inside id clock lo hi; part = part }))
-  counted_taken rows rules stage (Edge id lo hi) (part, is, hull) =
+  counted_taken rules stage (Edge id lo hi) (part, is, hull) =
       rw is (one (record { step = Edge id lo hi; part = part }))
 
-  counted : (rows : List Row) (rules : Rules) (done : ℕ) (stage : Stage) (steps : List Step)
-      → StepsPass rows rules done stage steps
-      → count_by shows (pieces_from stage steps) ≡ count_by p steps
-  counted rows rules done stage [] h = refl
-  counted rows rules done stage (step ∷ steps) h =
+  counted : (rules : Rules) (done : ℕ) (stage : Stage) (steps : List Step)
+      → StepsPass rules done stage steps
+      → count_by shows (pieces_from stage.boxes steps) ≡ count_by p steps
+  counted rules done stage [] h = refl
+  counted rules done stage (step ∷ steps) h =
       omega (
         arith,
-        sum_by-append (λ (x : ShownStep). cond (shows x) 1 0) (taken_by stage step)
-            (pieces_from (after stage step) steps),
+        sum_by-append (λ (x : ShownStep). cond (shows x) 1 0) (taken_by stage.boxes step)
+            (pieces_from (boxes_after stage.boxes step) steps),
         sum_by-cons (λ (s : Step). cond (p s) 1 0) step steps,
-        counted_taken rows rules stage step h.0,
-        counted rows rules done (after stage step) steps h.1,
+        counted_taken rules stage step h.0,
+        counted rules done (after stage step) steps h.1,
       )
 
-pub count_is : (k : Kind) (rows : List Row) (rules : Rules) (done : ℕ) (root : GridBox)
-    (steps : List Step) → StepsPass rows rules done (first_stage root) steps
+pub count_is : (k : Kind) (test : BoxTest) (rules : Rules) (done : ℕ) (root : GridBox)
+    (steps : List Step) → StepsPass rules done (first_stage test root) steps
     → count_of k (counts_of root steps) ≡ count_by (is_of k) steps
-count_is kind.Inside rows rules done root steps h =
-    counted is_inside (λ id axis. refl) rows rules done (first_stage root) steps h
-count_is kind.Edge rows rules done root steps h =
-    counted is_edge (λ id axis. refl) rows rules done (first_stage root) steps h
-count_is kind.Outside rows rules done root steps h =
-    counted is_outside (λ id axis. refl) rows rules done (first_stage root) steps h
-count_is kind.Splits rows rules done root steps h = refl
+count_is kind.Inside test rules done root steps h =
+    counted is_inside (λ id axis. refl) rules done (first_stage test root) steps h
+count_is kind.Edge test rules done root steps h =
+    counted is_edge (λ id axis. refl) rules done (first_stage test root) steps h
+count_is kind.Outside test rules done root steps h =
+    counted is_outside (λ id axis. refl) rules done (first_stage test root) steps h
+count_is kind.Splits test rules done root steps h = refl
 
 pub some_line : (block : Block) (root : Option GridBox) → 1 ≤ lines_with block root
 some_line block None = omega arith

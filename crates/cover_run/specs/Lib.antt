@@ -9,6 +9,9 @@ pub mod Checking
 pub mod Solving
 pub mod Tracking
 pub mod Rechecking
+pub mod ZoneTexts
+pub mod ZoneClaims
+pub mod Guarding
 pub mod Paving
 pub mod Making
 pub mod Runs

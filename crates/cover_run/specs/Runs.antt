@@ -1,8 +1,10 @@
 -- What a run of the program is, by what is asked for.
-use Rattle.std.specs.Prelude.{◌≡◌, ◌≢◌, ◌⊎◌, ℕ, true, false, List, [], ◌∷◌, Option, None, Some}
+use Rattle.std.specs.Prelude.{◌≡◌, ◌≢◌, ◌⊎◌, ℕ, Bool, true, false, List, [], ◌∷◌, Option, None}
+use Rattle.std.specs.Prelude.{Some}
 use Rattle.std.specs.Prelude.{Result, Ok, Err}
 use Rattle.command_words.specs.Commands as words
-use Rattle.command_words.specs.Commands.{Command, Judge, Pave, Solve, Check, Track, Retrack, Make}
+use Rattle.command_words.specs.Commands.{Command, Judge, Pave, Solve, Check, Track, Retrack, Guard}
+use Rattle.command_words.specs.Commands.{Make}
 use Rattle.input_files.specs.Inputs.{InputsValue, ReadsInputs, ReadsMoving, inputs_value}
 use Rattle.input_files.specs.Inputs.{input_slots}
 use Rattle.input_files.specs.Logs.{log_text, rows_text}
@@ -25,6 +27,8 @@ use Rattle.sat_model.specs.Logs.{LogValue}
 use Rattle.cover_run.specs.Checking.{CheckedValue, ReadsChecked, ReadsTracked, checked_value}
 use Rattle.cover_run.specs.Checking.{SaysAccepted, SaysRefused, checked_slots}
 use Rattle.cover_run.specs.Chosen.{chosen_in}
+use Rattle.cover_run.specs.Guarding.{GuardedValue, ReadsGuarded, SaysDenied, SaysGuarded}
+use Rattle.cover_run.specs.Guarding.{guarded_slots, guarded_value}
 use Rattle.cover_run.specs.Judging.{SaysJudged, SaysFault, IsJudgedAs}
 use Rattle.cover_run.specs.Making.{Makes}
 use Rattle.cover_run.specs.Paving.{Paves}
@@ -34,6 +38,7 @@ use Rattle.cover_run.specs.Telling.{Tells, sinks}
 use Rattle.cover_run.specs.Tracking.{Tracks}
 use Rattle.cover_run.specs.Worlds.{World, Says}
 use Rattle.cover_run.specs.declared.checked.Checked.{Checked}
+use Rattle.cover_run.specs.declared.guarded.Guarded.{Guarded}
 
 -- ---- a command
 
@@ -157,6 +162,18 @@ rechecking limits names = record {
   Suits = λ found s. IsVerdict s;
 }
 
+-- the verdict of one of both comes first
+abbrev pub guarding : Limits → words.Files → (zones : List ℕ) → (tracked : Bool) → Task Guarded
+guarding limits names zones tracked = record {
+  Value = GuardedValue;
+  value = guarded_value;
+  slots = guarded_slots;
+  reads = ReadsGuarded tracked limits names zones;
+  Does = λ read. TellsAlone (SaysGuarded tracked (chosen_in names) read)
+      (SaysDenied tracked (chosen_in names) read) guarded_slots;
+  Suits = λ found s. IsVerdict s;
+}
+
 -- ---- the words
 
 -- this was said, and nothing else was done
@@ -179,6 +196,8 @@ Obeys limits (Some (Track names)) before after trust s =
     RunOf (tracking limits names) before after trust s
 Obeys limits (Some (Retrack names)) before after trust s =
     RunOf (rechecking limits names) before after trust s
+Obeys limits (Some (Guard names zones tracked)) before after trust s =
+    RunOf (guarding limits names zones tracked) before after trust s
 -- this one reads and writes no file
 Obeys limits (Some (Make seed epochs)) before after trust s =
     Makes limits.log seed epochs (sinks before.out before.err) (sinks after.out after.err)

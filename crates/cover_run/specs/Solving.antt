@@ -57,7 +57,7 @@ module _ (chosen : Selection) (i : Inputs) where
         limit bytes said
     pub admits : (owns : List (List SatLine))
         → AreOwn (meaning_of i) (searches_in root (epochs_of chosen i)) owns
-        → Admits i.settings.zenith (searches_in root (epochs_of chosen i)) owns i.settings.rules
+        → Admits i.settings.delays (searches_in root (epochs_of chosen i)) owns i.settings.rules
         whole.log
     pub cover : FileCover (meaning_of i) i.settings.rules.outliers
         (searches_in root (epochs_of chosen i)) whole.log

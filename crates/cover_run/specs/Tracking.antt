@@ -126,7 +126,7 @@ module _ (chosen : Selection) (i : Inputs) where
     pub admits : (owns : List (List SatLine))
         → AreOwn (meaning_of i)
         (tube_searches (tube_of chosen i search speed) track.whole.log.blocks) owns
-        → Admits i.settings.zenith
+        → Admits i.settings.delays
         (tube_searches (tube_of chosen i search speed) track.whole.log.blocks) owns
         i.settings.rules track.whole.log
     pub cover : FileCover (meaning_of i) i.settings.rules.outliers

@@ -1,15 +1,19 @@
 //! The command `retrack OBS NAV SETTINGS LOG`.
 
-ghost use Rattle.std.specs.Prelude.{◌≡◌};
+ghost use Rattle.std.specs.Prelude.{◌≡◌, IfOk};
 ghost use Rattle.command_words.specs.Seen.{files_asked};
 ghost use Rattle.cover_run.specs.Checking.{AreReady};
-ghost use Rattle.cover_run.specs.Rechecking.{SaysTracked, SaysUntracked};
+ghost use Rattle.cover_run.specs.Rechecking.{AcceptsTrack, RefusesTrack, SaysTracked};
+ghost use Rattle.cover_run.specs.Rechecking.{SaysUntracked};
 ghost use Rattle.cover_run.specs.Runs.{RunOf, rechecking};
 ghost use Rattle.cover_run.specs.Telling.{Tells, sinks};
 ghost use Rattle.cover_run.specs.Worlds.{world};
 ghost use Rattle.input_files.specs.Motion.{HasSpeed, speed_of};
 ghost use Rattle.log_writer.specs.Writing.{trust_of};
+ghost use Rattle.paving_log.specs.Values.{log_value};
+ghost use Rattle.paving_log_check.specs.Answers.{IfNo, IfYes};
 
+use crate::Verdict;
 use crate::checked::{Checked, read_checked};
 use crate::chosen::chosen_in;
 use crate::telling::say;
@@ -18,26 +22,22 @@ use crate::verdicts::tell_verdict;
 use command_words::Files;
 use epoch_selection::{Searches, Selection};
 use galileo_rows::BothRows;
+use grid_model::NoMemory;
 use input_files::{Limits, Status};
 use outer_io::{Shelf, Sink};
 use std::alloc::Global;
 use tube_check::check_tube;
 use tube_searches::Tube;
 
-/// Checks the log against these epochs of the files, each over the root that the one before leaves,
-/// and prints the verdict.
-fn tell_rechecked<O: Sink, E: Sink>(
-    alloc: Global,
-    found: &Checked,
-    chosen: Selection,
-    out: &mut O,
-    err: &mut E,
-) -> Status
+/// The verdict on the log against these epochs of the files, each over the root that the one before
+/// leaves.
+pub fn track_verdict(alloc: Global, found: &Checked, chosen: Selection) -> Result<Verdict, NoMemory>
     requires ready { AreReady found.now }
     requires moving { HasSpeed (speed_of found.now.inputs.settings) }
-    ensures { Tells (SaysTracked chosen found.now) (SaysUntracked chosen found.now)
-        (sinks (O.state out.old) (E.state err.old)) (sinks (O.state out.new) (E.state err.new))
-        (O.reliable out.new) result }
+    ensures yes { IfOk result (λ v. IfYes v
+        (AcceptsTrack chosen found.now.inputs (log_value found.now.log))) }
+    ensures no { IfOk result (λ v. IfNo v
+        (RefusesTrack chosen found.now.inputs (log_value found.now.log))) }
 {
     let inputs = &found.inputs;
     let settings = &inputs.settings;
@@ -54,7 +54,25 @@ fn tell_rechecked<O: Sink, E: Sink>(
         speed: declared_speed(inputs),
         before: None,
     };
-    let verdict = check_tube(alloc, &source, &tube, &settings.rules, &found.log);
+    check_tube(alloc, &source, &tube, &settings.rules, &found.log)
+}
+
+/// Checks the log against these epochs of the files, each over the root that the one before leaves,
+/// and prints the verdict.
+fn tell_rechecked<O: Sink, E: Sink>(
+    alloc: Global,
+    found: &Checked,
+    chosen: Selection,
+    out: &mut O,
+    err: &mut E,
+) -> Status
+    requires ready { AreReady found.now }
+    requires moving { HasSpeed (speed_of found.now.inputs.settings) }
+    ensures { Tells (SaysTracked chosen found.now) (SaysUntracked chosen found.now)
+        (sinks (O.state out.old) (E.state err.old)) (sinks (O.state out.new) (E.state err.new))
+        (O.reliable out.new) result }
+{
+    let verdict = track_verdict(alloc, found, chosen);
     tell_verdict(&verdict, out, err)
 }
 

@@ -9,6 +9,7 @@ ghost use Rattle.input_files.specs.declared.status.Status.{Status};
 ghost use Rattle.log_writer.specs.Writing.{trust_of};
 
 use crate::checking::run_check;
+use crate::guarding::run_guard;
 use crate::judging::run_judge;
 use crate::making::run_make;
 use crate::pave::run_pave;
@@ -29,10 +30,12 @@ use std::alloc::Global;
 /// prints the verdict of the files on it. Both take `--from N` and `--to N`, the first and the last
 /// epoch that is taken. `track` and `retrack` with these words are the same of a receiver that
 /// moves: each epoch is searched in the root that the one before leaves, and behind one in which
-/// the receiver is lost nothing more is. `pave ROWS LOG` reads the rows, paves their epochs, writes
-/// the log and prints the report on `out`. `make SEED EPOCHS` makes the files of a receiver, solves
-/// them in memory and prints two lines on `out`. What stands in the way is said on `err`, where a
-/// fault changes nothing.
+/// the receiver is lost nothing more is. `guard OBS NAV SETTINGS ZONES LOG` checks the log as
+/// `check` does, or with `--track` as `retrack`. Where the verdict is no it prints that alone, and
+/// else for each epoch what is found of each zone and direction. `pave ROWS LOG` reads the rows,
+/// paves their epochs, writes the log and prints the report on `out`. `make SEED EPOCHS` makes the
+/// files of a receiver, solves them in memory and prints two lines on `out`. What stands in the way
+/// is said on `err`, where a fault changes nothing.
 pub fn run<H: Shelf, O: Sink, E: Sink>(
     alloc: Global,
     limits: &Limits,
@@ -81,6 +84,11 @@ fn obey<H: Shelf, O: Sink, E: Sink>(
         Command::Check(files) => run_check(alloc, limits, files, shelf, out, err),
         Command::Track(files) => run_track(alloc, limits, files, shelf, out, err),
         Command::Retrack(files) => run_retrack(alloc, limits, files, shelf, out, err),
+        Command::Guard {
+            files,
+            zones,
+            tracked,
+        } => run_guard(alloc, limits, files, zones, *tracked, shelf, out, err),
         Command::Make { seed, epochs } => run_make(alloc, limits, *seed, *epochs, out, err),
     }
 }

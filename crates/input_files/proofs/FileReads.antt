@@ -11,11 +11,13 @@ use Rattle.input_files.specs.Reading.{MayBreak}
 use Rattle.input_files.specs.Reading.{NeverBreaks, IsCounted, Found, Settles, IsSameAnswer, file_in}
 use Rattle.input_files.specs.Reading.{limit_of}
 use Rattle.input_files.specs.Reading.{IsOfReading, OnlyReads, Opens, Touches, valued}
+use Rattle.input_files.specs.Roles.{slot_of}
 use Rattle.input_files.specs.Statuses.{status_of}
 use Rattle.input_files.specs.Unread.{HasFile, IsTold, IsUnread}
 use Rattle.input_files.specs.declared.limits.Limits.{Limits}
 use Rattle.input_files.specs.declared.notice.Notice.{Notice}
 use Rattle.input_files.specs.declared.notice.Notice.TheVariants as notice
+use Rattle.input_files.specs.declared.role.Role.{Role}
 
 -- ---- the slot
 
@@ -24,20 +26,20 @@ opens_one : (of : Slot) (all : Bool) (a b : ShelfState)
 opens_one of true a b t = (t.phases.0, t.phases.1, inr (refl, t.phases.2))
 opens_one of false a b t = (t.phases.0, t.phases.1, inl (refl, t.phases.2))
 
-pub only_one : {V : Type 0} (of to : Slot) (a b : ShelfState) (r : Result V Notice) → of ≡ to
-    → Touches of a b → IfErr r IsOfReading → OnlyReads (to ∷ []) a b r
-only_one {V} of to a b r e t ends = subst (λ (s : Slot). OnlyReads {V = V} (s ∷ []) a b r) e
+pub only_one : {V : Type 0} (of to : Role) (a b : ShelfState) (r : Result V Notice) → of ≡ to
+    → Touches (slot_of of) a b → IfErr r IsOfReading → OnlyReads (slot_of to ∷ []) a b r
+only_one {V} of to a b r e t ends = subst (λ (s : Role). OnlyReads {V = V} (slot_of s ∷ []) a b r) e
     (record {
       untouched = record {
         leaves = t.leaves;
-        phases = opens_one of (is_ok r) a b t;
+        phases = opens_one (slot_of of) (is_ok r) a b t;
         write_faults = t.write_faults;
       };
       ends = ends;
       later = t.later;
     })
 
-pub unread_ends : (of : Slot) (limit : ℕ) (n : Notice) → IsUnread of limit n → IsOfReading n
+pub unread_ends : (of : Role) (limit : ℕ) (n : Notice) → IsUnread of limit n → IsOfReading n
 unread_ends of limit n (inl m) = inr (inr (ap status_of m))
 unread_ends of limit n (inr (inl m)) = inr (inl (ap status_of m))
 unread_ends of limit n (inr (inr m)) = inl (ap status_of m)
@@ -59,10 +61,10 @@ module _ {V : Type 0} (text : Text V) where
     -- ---- what was read
 
     unread_told : (a b : ShelfState) (reliable : Option (List ℕ) → Type 0)
-        (file : Option (List ℕ)) (n : Notice) → IsUnread text.slot limit n
-        → (n ≡ notice.TooLong text.slot limit → IsSomeAnd file (λ bytes. limit < length bytes))
-        → (not (is_some file) ≡ true → n ≡ notice.ReadFault text.slot)
-        → (n ≡ notice.ReadFault text.slot → not (is_some file) ≡ false → IsCounted a b reliable)
+        (file : Option (List ℕ)) (n : Notice) → IsUnread text.role limit n
+        → (n ≡ notice.TooLong text.role limit → IsSomeAnd file (λ bytes. limit < length bytes))
+        → (not (is_some file) ≡ true → n ≡ notice.ReadFault text.role)
+        → (n ≡ notice.ReadFault text.role → not (is_some file) ≡ false → IsCounted a b reliable)
         → ReadsFile text limit (MayBreak a b reliable) (Some file) (Err n)
     unread_told a b reliable None n unread long missing fault =
         inl (ap Err (missing refl))
@@ -73,10 +75,10 @@ module _ {V : Type 0} (text : Text V) where
         inl (inr (long m, ap Err m))
 
     unread_reads : (a b : ShelfState) (reliable : Option (List ℕ) → Type 0)
-        (told : Option Told) (n : Notice) → IsUnread text.slot limit n
-        → (n ≡ notice.TooLong text.slot limit → IsTold told name (λ bytes. limit < length bytes))
-        → (lacks told name ≡ true → n ≡ notice.ReadFault text.slot)
-        → (n ≡ notice.ReadFault text.slot → lacks told name ≡ false → IsCounted a b reliable)
+        (told : Option Told) (n : Notice) → IsUnread text.role limit n
+        → (n ≡ notice.TooLong text.role limit → IsTold told name (λ bytes. limit < length bytes))
+        → (lacks told name ≡ true → n ≡ notice.ReadFault text.role)
+        → (n ≡ notice.ReadFault text.role → lacks told name ≡ false → IsCounted a b reliable)
         → ReadsFile text limit (MayBreak a b reliable) (Here told) (Err n)
     unread_reads a b reliable (Some t) n unread long missing fault =
         unread_told a b reliable (map.get t.files name) n unread long missing fault
@@ -113,7 +115,7 @@ module _ {V : Type 0} (text : Text V) where
     -- ---- what told files give is read
 
     long_is : (bytes : List ℕ) (n : Notice) (other : Result text.Value Notice)
-        → limit < length bytes → n ≡ notice.TooLong text.slot limit
+        → limit < length bytes → n ≡ notice.TooLong text.role limit
         → ReadsFile text limit NeverBreaks (Some (Some bytes)) other → Settles (Err n) other
     long_is bytes n other long m (inl (inl (within, given))) = absurd (omega arith)
     long_is bytes n other long m (inl (inr (le, is))) =
@@ -122,8 +124,8 @@ module _ {V : Type 0} (text : Text V) where
     long_is bytes n other long m (inr (k, is, there, breaks)) = absurd breaks
 
     unread_settles : (file : Option (List ℕ)) (n : Notice) (other : Result text.Value Notice)
-        → IsUnread text.slot limit n
-        → (n ≡ notice.TooLong text.slot limit → IsSomeAnd file (λ bytes. limit < length bytes))
+        → IsUnread text.role limit n
+        → (n ≡ notice.TooLong text.role limit → IsSomeAnd file (λ bytes. limit < length bytes))
         → ReadsFile text limit NeverBreaks (Some file) other → Settles (Err n) other
     unread_settles file n other (inl m) long reads = inl (inr (inr (ap status_of m)))
     unread_settles file n other (inr (inl m)) long reads = inl (inl (ap status_of m))
@@ -133,8 +135,8 @@ module _ {V : Type 0} (text : Text V) where
 
     unread_same : (told : Option Told) (files : Files) (n : Notice)
         (other : Result text.Value Notice) → option_map (λ t. t.files) told ≡ Some files
-        → IsUnread text.slot limit n
-        → (n ≡ notice.TooLong text.slot limit → IsTold told name (λ bytes. limit < length bytes))
+        → IsUnread text.role limit n
+        → (n ≡ notice.TooLong text.role limit → IsTold told name (λ bytes. limit < length bytes))
         → ReadsFile text limit NeverBreaks (Here told) other → Settles (Err n) other
     unread_same None files n other is unread long reads = cc
     unread_same (Some t) files n other is unread long reads =
@@ -166,7 +168,7 @@ module _ {V : Type 0} (text : Text V) where
 module _ {V : Type 0} (limits : Limits) (text : Text V) (name : List ℕ) (a b : ShelfState)
     (reliable : Option (List ℕ) → Type 0) where
   -- why the bytes weren't read
-  pub record IsUnreadAt (of : Slot) (n : Notice) : Type 0 where
+  pub record IsUnreadAt (of : Role) (n : Notice) : Type 0 where
     pub unread : IsUnread of (limit_of limits of) n
     pub long : n ≡ notice.TooLong of (limit_of limits of)
         → HasFile a name (λ bytes. limit_of limits of < length bytes)
@@ -179,11 +181,11 @@ module _ {V : Type 0} (limits : Limits) (text : Text V) (name : List ℕ) (a b :
   there files other is reads =
       subst (λ (fs : Option Files). Named limits text name NeverBreaks fs other) (sym is) reads
 
-  pub found_unread : (of : Slot) (n : Notice) → of ≡ text.slot → IsUnreadAt of n
+  pub found_unread : (of : Role) (n : Notice) → of ≡ text.role → IsUnreadAt of n
       → Found (Named limits text name) a b reliable (Err n)
   found_unread of n e at_slot =
-      let u = subst (λ (s : Slot). IsUnreadAt s n) e at_slot in
-      let limit = limit_of limits text.slot in
+      let u = subst (λ (s : Role). IsUnreadAt s n) e at_slot in
+      let limit = limit_of limits text.role in
       record {
         reads =
             unread_reads text limit name a b reliable a.told n u.unread u.long u.missing u.fault;
@@ -191,13 +193,13 @@ module _ {V : Type 0} (limits : Limits) (text : Text V) (name : List ℕ) (a b :
             u.long (there told other is reads);
       }
 
-  pub found_text : (of : Slot) (all : List ℕ) (r : Result text.Value Notice) → of ≡ text.slot
+  pub found_text : (of : Role) (all : List ℕ) (r : Result text.Value Notice) → of ≡ text.role
       → HasFile a name (λ bytes. all ≡ bytes) → length all ≤ limit_of limits of
       → GivesOrEnds text all r → ((o : Result text.Value Notice) → Gives text all o → Settles r o)
       → Found (Named limits text name) a b reliable r
   found_text of all r e has within gives same =
-      let limit = limit_of limits text.slot in
-      let fits = subst (λ (s : Slot). length all ≤ limit_of limits s) e within in
+      let limit = limit_of limits text.role in
+      let fits = subst (λ (s : Role). length all ≤ limit_of limits s) e within in
       record {
         reads = text_reads text limit name a b reliable a.told all r has fits gives;
         same = λ told other is reads. text_same text limit name a.told told all r other is has fits

@@ -1,7 +1,6 @@
 -- What a text that was read or refused settles.
 use Rattle.std.proofs.Common.{◌≡◌, ℕ, Bool, true, false, List, [], ◌∷◌, Result, Ok, Err, inl, inr, refl, ap, sym}
 use Rattle.std.proofs.Common.{◌∙◌}
-use Rattle.outer_io.specs.declared.slots.Slot.{Slot}
 use Rattle.paving_log.specs.declared.log.LogError.{LogError}
 use Rattle.rinex_nav.specs.Files as nav
 use Rattle.rinex_obs.specs.Files as obs
@@ -23,6 +22,7 @@ use Rattle.input_files.specs.declared.input_fault.InputFault.{InputFault}
 use Rattle.input_files.specs.declared.input_fault.InputFault.TheVariants as input
 use Rattle.input_files.specs.declared.notice.Notice.{Notice}
 use Rattle.input_files.specs.declared.notice.Notice.TheVariants as notice
+use Rattle.input_files.specs.declared.role.Role.{Role}
 use Rattle.input_files.specs.declared.status.Status.TheVariants as status
 
 module _ {V : Type 0} (text : Text V) (bytes : List ℕ) where
@@ -51,7 +51,7 @@ module _ {V : Type 0} (text : Text V) (bytes : List ℕ) where
 -- ---- texts of rows and logs
 
 -- the text of one has no first fault
-pub no_first : (of : Slot) (IsText : LogValue → List ℕ → Type 0)
+pub no_first : (of : Role) (IsText : LogValue → List ℕ → Type 0)
     (First : List ℕ → LogError → Type 0) (bytes : List ℕ) (log : LogValue) → IsText log bytes
     → (n : Notice) → NamesFirst of IsText First bytes n → ⊥
 no_first of IsText First bytes log is (notice.BadLog at line kind) names = names.1.0 log is

@@ -5,3 +5,4 @@ pub mod ReadingLemmas
 pub mod GrammarLemmas
 pub mod MotionLemmas
 pub mod InputLemmas
+pub mod OneZones

@@ -12,26 +12,27 @@ use Rattle.input_files.specs.Reading.{Then, Returns, Found, Settles, IsSameAnswe
 use Rattle.input_files.specs.Reading.{LeavesFiles}
 use Rattle.input_files.specs.declared.limits.Limits.{Limits}
 use Rattle.input_files.specs.declared.notice.Notice.{Notice}
+use Rattle.input_files.specs.declared.role.Role.{Role}
 
 -- ---- what may break a reading off
 
 -- What is read where one thing may break it off is read where another may that comes where the one
 -- does; a value is read whatever may; and where none is, nothing broke it off, or such a thing did.
 pub record IsFair {V : Type 0} (reading : Reading V) : Type 1 where
-  pub wider : (less more : Breaks) → ((of : Slot) (n : Notice) → less of n → more of n)
+  pub wider : (less more : Breaks) → ((of : Role) (n : Notice) → less of n → more of n)
       → (files : Option Files) (r : Result V Notice) → reading less files r → reading more files r
   pub value : (less more : Breaks) (files : Option Files) (v : V)
       → reading less files (Ok v) → reading more files (Ok v)
   pub ends : (breaks : Breaks) (files : Option Files) (n : Notice) → reading breaks files (Err n)
-      → reading NeverBreaks files (Err n) ⊎ ((of : Slot) × breaks of n)
+      → reading NeverBreaks files (Err n) ⊎ ((of : Role) × breaks of n)
 
 module _ {V : Type 0} (limits : Limits) (text : Text V) (name : List ℕ) where
-  named_wider : (less more : Breaks) → ((of : Slot) (n : Notice) → less of n → more of n)
+  named_wider : (less more : Breaks) → ((of : Role) (n : Notice) → less of n → more of n)
       → (files : Option Files) (r : Result text.Value Notice)
       → Named limits text name less files r → Named limits text name more files r
   named_wider less more wider files r (inl given) = inl given
   named_wider less more wider files r (inr (n, is, there, breaks)) =
-      inr (n, is, there, wider text.slot n breaks)
+      inr (n, is, there, wider text.role n breaks)
 
   named_value : (less more : Breaks) (files : Option Files) (w : text.Value)
       → Named limits text name less files (Ok w) → Named limits text name more files (Ok w)
@@ -40,18 +41,18 @@ module _ {V : Type 0} (limits : Limits) (text : Text V) (name : List ℕ) where
 
   named_ends : (breaks : Breaks) (files : Option Files) (n : Notice)
       → Named limits text name breaks files (Err n)
-      → Named limits text name NeverBreaks files (Err n) ⊎ ((of : Slot) × breaks of n)
+      → Named limits text name NeverBreaks files (Err n) ⊎ ((of : Role) × breaks of n)
   named_ends breaks files n (inl given) = inl (inl given)
   named_ends breaks files n (inr (k, is, there, broken)) =
       let same : k ≡ n = cc in
-      inr (text.slot, subst (λ (m : Notice). breaks text.slot m) same broken)
+      inr (text.role, subst (λ (m : Notice). breaks text.role m) same broken)
 
   pub named_fair : IsFair (Named limits text name)
   named_fair = record { wider = named_wider; value = named_value; ends = named_ends }
 
 module _ {V W : Type 0} (first : Reading V) (later : V → Reading W) (fair : IsFair first)
     (fair_later : (v : V) → IsFair (later v)) where
-  then_wider : (less more : Breaks) → ((of : Slot) (n : Notice) → less of n → more of n)
+  then_wider : (less more : Breaks) → ((of : Role) (n : Notice) → less of n → more of n)
       → (files : Option Files) (r : Result W Notice)
       → Then first later less files r → Then first later more files r
   then_wider less more wider files r (inl (v, is, behind)) =
@@ -71,7 +72,7 @@ module _ {V W : Type 0} (first : Reading V) (later : V → Reading W) (fair : Is
 
   then_ends : (breaks : Breaks) (files : Option Files) (n : Notice)
       → Then first later breaks files (Err n)
-      → Then first later NeverBreaks files (Err n) ⊎ ((of : Slot) × breaks of n)
+      → Then first later NeverBreaks files (Err n) ⊎ ((of : Role) × breaks of n)
   then_ends breaks files n (inl (v, is, behind)) =
       elim ((fair_later v).ends breaks files n behind) [
         | inl given ↦ inl (inl (v, fair.value breaks NeverBreaks files v is, given))
@@ -97,7 +98,7 @@ return_fair v = record {
 -- what broke off a later reading did so since the one before
 breaks_behind : (a b c : ShelfState) (is : Option (List ℕ) → Type 0)
     → a.read_faults ≤ b.read_faults
-    → (of : Slot) (n : Notice) → MayBreak b c is of n → MayBreak a c is of n
+    → (of : Role) (n : Notice) → MayBreak b c is of n → MayBreak a c is of n
 breaks_behind a b c is later of n (inl m) = inl m
 breaks_behind a b c is later of n (inr (m, counted)) =
     let e : Rose b.read_faults c.read_faults = counted.rose in

@@ -25,6 +25,7 @@ use Rattle.input_files.specs.declared.inputs.Inputs.{Inputs}
 use Rattle.input_files.specs.declared.limits.Limits.{Limits}
 use Rattle.input_files.specs.declared.notice.Notice.{Notice}
 use Rattle.input_files.specs.declared.notice.Notice.TheVariants as notice
+use Rattle.input_files.specs.declared.role.Role.TheVariants as role
 
 -- ---- the settings
 
@@ -36,7 +37,7 @@ NamesSettingsFault moving bytes _ = ⊥
 -- of a receiver that moves, or of one whose epochs stand each by itself
 abbrev pub settings_text : Bool → Text Settings
 settings_text moving = record {
-  slot = slot.Settings;
+  role = role.Settings;
   Value = settings.SettingsValue;
   value = value_of_settings;
   Spells = IsSettingsFor moving;
@@ -60,7 +61,7 @@ NamesNavFault both bytes _ = ⊥
 
 abbrev pub nav_text : Bool → Text (List NavRecord)
 nav_text both = record {
-  slot = slot.Nav;
+  role = role.Nav;
   Value = List Broadcast;
   value = records_of;
   Spells = nav.IsNavFileOf both;
@@ -93,7 +94,7 @@ pub record AreObserved (position : Bool) (o : Obs) : Type 0 where
 -- with the wanted codes
 abbrev pub obs_text : Sought → Bool → Text Obs
 obs_text sought position = record {
-  slot = slot.Obs;
+  role = role.Obs;
   Value = obs.Observations;
   value = observations_of;
   Spells = obs.IsObsFileOf sought position;

@@ -1,3 +1,4 @@
+pub mod Roles
 pub mod Statuses
 pub mod InputTexts
 pub mod NoticeTexts
@@ -6,3 +7,4 @@ pub mod Motion
 pub mod Unread
 pub mod Logs
 pub mod Inputs
+pub mod Zones

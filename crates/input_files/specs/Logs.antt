@@ -1,7 +1,5 @@
 -- What the texts of a log and of rows stand for.
 use Rattle.std.specs.Prelude.{◌≡◌, ℕ, List, None}
-use Rattle.outer_io.specs.declared.slots.Slot.{Slot}
-use Rattle.outer_io.specs.declared.slots.Slot.TheVariants as slot
 use Rattle.paving_log.specs.Faults.{FirstFault}
 use Rattle.paving_log.specs.RowsText.{IsRowsText, FirstRowsFault, AllOwnPass}
 use Rattle.paving_log.specs.Text.{IsLogText, LogFits}
@@ -14,8 +12,10 @@ use Rattle.sat_model.specs.Logs.{LogValue, IsNumbered}
 use Rattle.input_files.specs.Reading.{Text}
 use Rattle.input_files.specs.declared.notice.Notice.{Notice}
 use Rattle.input_files.specs.declared.notice.Notice.TheVariants as notice
+use Rattle.input_files.specs.declared.role.Role.{Role}
+use Rattle.input_files.specs.declared.role.Role.TheVariants as role
 
-module _ (of : Slot) (IsText : LogValue → List ℕ → Type 0) (First : List ℕ → LogError
+module _ (of : Role) (IsText : LogValue → List ℕ → Type 0) (First : List ℕ → LogError
     → Type 0) where
   -- the bytes are no such text, and this is their first fault
   abbrev pub FailsFirst : List ℕ → LogError → Type 0
@@ -29,11 +29,11 @@ module _ (of : Slot) (IsText : LogValue → List ℕ → Type 0) (First : List �
 
 abbrev pub log_text : Text Log
 log_text = record {
-  slot = slot.Log;
+  role = role.Log;
   Value = LogValue;
   value = log_value;
   Spells = λ bytes log. IsLogText log bytes;
-  Names = NamesFirst slot.Log IsLogText FirstFault;
+  Names = NamesFirst role.Log IsLogText FirstFault;
   Usual = λ log. IsNumbered (log_value log);
 }
 
@@ -44,10 +44,10 @@ pub record ArePavable (rows : Log) : Type 0 where
 
 abbrev pub rows_text : Text Log
 rows_text = record {
-  slot = slot.Rows;
+  role = role.Rows;
   Value = LogValue;
   value = log_value;
   Spells = λ bytes rows. IsRowsText rows bytes;
-  Names = NamesFirst slot.Rows IsRowsText FirstRowsFault;
+  Names = NamesFirst role.Rows IsRowsText FirstRowsFault;
   Usual = ArePavable;
 }

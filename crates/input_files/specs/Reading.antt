@@ -9,12 +9,13 @@ use Rattle.outer_io.specs.Told.{Files, ShelfState, files_of, written_of, terms_o
 use Rattle.outer_io.specs.declared.shelf.Phase.{Phase}
 use Rattle.outer_io.specs.declared.shelf.Phase.TheVariants.{Writing}
 use Rattle.outer_io.specs.declared.slots.Slot.{Slot}
-use Rattle.outer_io.specs.declared.slots.Slot.TheVariants as slot
 use Rattle.outer_io.specs.declared.slots.Slots.{Slots}
 use Rattle.input_files.specs.Statuses.{status_of}
 use Rattle.input_files.specs.declared.limits.Limits.{Limits}
 use Rattle.input_files.specs.declared.notice.Notice.{Notice}
 use Rattle.input_files.specs.declared.notice.Notice.TheVariants as notice
+use Rattle.input_files.specs.declared.role.Role.{Role}
+use Rattle.input_files.specs.declared.role.Role.TheVariants as role
 use Rattle.input_files.specs.declared.status.Status.{Status}
 use Rattle.input_files.specs.declared.status.Status.TheVariants as status
 
@@ -48,7 +49,7 @@ valued value (Err n) = Err n
 
 -- What the texts of a file stand for: values, of which they spell so much.
 pub record Text (V : Type 0) : Type 1 where
-  pub slot : Slot
+  pub role : Role
   pub Value : Type 0
   pub value : V → Value
   -- the bytes spell the value
@@ -71,21 +72,21 @@ module _ {V : Type 0} (text : Text V) where
   -- under a limit
   abbrev pub GivesWithin : ℕ → List ℕ → Result text.Value Notice → Type 0
   GivesWithin limit bytes r = ((length bytes ≤ limit) × Gives bytes r)
-      ⊎ ((limit < length bytes) × (r ≡ Err (notice.TooLong text.slot limit)))
+      ⊎ ((limit < length bytes) × (r ≡ Err (notice.TooLong text.role limit)))
 
   -- A file that isn't told may be read as anything, but isn't known to be missing. One that is told
   -- is missing, or has bytes.
   abbrev pub FileGives : ℕ → Option (Option (List ℕ)) → Result text.Value Notice → Type 0
   FileGives limit None (Ok w) = Unit {0}
   FileGives limit None (Err n) = status_of n ≡ status.Refused
-  FileGives limit (Some None) r = r ≡ Err (notice.ReadFault text.slot)
+  FileGives limit (Some None) r = r ≡ Err (notice.ReadFault text.role)
   FileGives limit (Some (Some bytes)) r = GivesWithin limit bytes r
 
 -- ---- why a reading breaks off
 
--- what may end the reading of a slot's file, whatever the file is
+-- what may end the reading of a file with a role, whatever the file is
 abbrev pub Breaks : Type 1
-Breaks = Slot → Notice → Type 0
+Breaks = Role → Notice → Type 0
 
 -- nothing may
 abbrev pub NeverBreaks : Breaks
@@ -108,12 +109,13 @@ MayBreak before after reliable of n =
 abbrev pub Reading : Type 0 → Type 1
 Reading V = Breaks → Option Files → Result V Notice → Type 0
 
-abbrev pub limit_of : Limits → Slot → ℕ
-limit_of limits slot.Settings = limits.settings
-limit_of limits slot.Nav = limits.file
-limit_of limits slot.Obs = limits.file
-limit_of limits slot.Rows = limits.file
-limit_of limits slot.Log = limits.log
+abbrev pub limit_of : Limits → Role → ℕ
+limit_of limits role.Settings = limits.settings
+limit_of limits role.Nav = limits.file
+limit_of limits role.Obs = limits.file
+limit_of limits role.Rows = limits.file
+limit_of limits role.Zones = limits.settings
+limit_of limits role.Log = limits.log
 
 -- the named file, where the files are told
 abbrev pub file_in : Option Files → List ℕ → Option (Option (List ℕ))
@@ -129,12 +131,12 @@ MayBeThere (Some (Some bytes)) = Unit {0}
 abbrev pub ReadsFile : {V : Type 0} → (text : Text V) → ℕ → Breaks
     → Option (Option (List ℕ)) → Result text.Value Notice → Type 0
 ReadsFile text limit breaks file r = FileGives text limit file r
-    ⊎ ((n : Notice) × (r ≡ Err n) × MayBeThere file × breaks text.slot n)
+    ⊎ ((n : Notice) × (r ≡ Err n) × MayBeThere file × breaks text.role n)
 
 -- the text of the named file
 abbrev pub Named : {V : Type 0} → Limits → (text : Text V) → List ℕ → Reading text.Value
 Named limits text name breaks files =
-    ReadsFile text (limit_of limits text.slot) breaks (file_in files name)
+    ReadsFile text (limit_of limits text.role) breaks (file_in files name)
 
 -- first this, and where it is accepted what comes behind it
 abbrev pub Then : {V W : Type 0} → Reading V → (V → Reading W) → Reading W

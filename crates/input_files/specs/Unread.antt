@@ -2,9 +2,9 @@
 use Rattle.std.specs.Prelude.{◌≡◌, ◌⊎◌, ℕ, List, Option, None, Some, IsSomeAnd}
 use Rattle.std.specs.FinMap as map
 use Rattle.outer_io.specs.Told.{Told, ShelfState}
-use Rattle.outer_io.specs.declared.slots.Slot.{Slot}
 use Rattle.input_files.specs.declared.notice.Notice.{Notice}
 use Rattle.input_files.specs.declared.notice.Notice.TheVariants as notice
+use Rattle.input_files.specs.declared.role.Role.{Role}
 
 abbrev pub IsTold : Option Told → List ℕ → (List ℕ → Type 0) → Type 0
 IsTold None name Meets = Unit {0}
@@ -15,6 +15,6 @@ abbrev pub HasFile : ShelfState → List ℕ → (List ℕ → Type 0) → Type 
 HasFile s name Meets = IsTold s.told name Meets
 
 -- why it wasn't read to its end
-abbrev pub IsUnread : Slot → ℕ → Notice → Type 0
+abbrev pub IsUnread : Role → ℕ → Notice → Type 0
 IsUnread of limit n = (n ≡ notice.NoMemory)
     ⊎ ((n ≡ notice.ReadFault of) ⊎ (n ≡ notice.TooLong of limit))

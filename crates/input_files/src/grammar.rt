@@ -6,7 +6,7 @@ ghost use Rattle.outer_io.specs.Sizes.{longest_file};
 ghost use Rattle.input_files.specs.declared.notice.Notice.{Notice};
 
 use crate::notice::Notice;
-use outer_io::Slot;
+use crate::role::Role;
 use std::alloc::Global;
 
 /// How texts of one kind are read.
@@ -15,8 +15,8 @@ pub trait Grammar<V> {
     ghost text: { Self → Text V };
 
     /// What such files are read for.
-    fn slot(&self) -> Slot
-        ensures { result ≡ (text self.now).slot };
+    fn role(&self) -> Role
+        ensures { result ≡ (text self.now).role };
 
     /// The value that a text spells, or its first fault.
     fn read(&self, alloc: Global, bytes: &[u8]) -> Result<V, Notice>

@@ -3,8 +3,8 @@
 use crate::grammar::Grammar;
 use crate::motion::with_motion;
 use crate::notice::Notice;
+use crate::role::Role;
 use error_bounds::{Settings, read_settings};
-use outer_io::Slot;
 use rinex_nav::{Nav, read_nav_of};
 use rinex_obs::{Obs, Sought, read_obs_of};
 use std::alloc::Global;
@@ -20,8 +20,8 @@ impl Grammar<Settings> for SettingsText {
 
     ghost text = { λ t. settings_text t.moving };
 
-    fn slot(&self) -> Slot {
-        Slot::Settings
+    fn role(&self) -> Role {
+        Role::Settings
     }
 
     fn read(&self, alloc: Global, bytes: &[u8]) -> Result<Settings, Notice> {
@@ -43,8 +43,8 @@ impl Grammar<Nav> for NavText {
 
     ghost text = { λ t. nav_text t.both };
 
-    fn slot(&self) -> Slot {
-        Slot::Nav
+    fn role(&self) -> Role {
+        Role::Nav
     }
 
     fn read(&self, alloc: Global, bytes: &[u8]) -> Result<Nav, Notice> {
@@ -68,8 +68,8 @@ impl<'a> Grammar<Obs> for ObsText<'a> {
 
     ghost text = { λ t. obs_text t.sought.now t.position };
 
-    fn slot(&self) -> Slot {
-        Slot::Obs
+    fn role(&self) -> Role {
+        Role::Obs
     }
 
     fn read(&self, alloc: Global, bytes: &[u8]) -> Result<Obs, Notice> {

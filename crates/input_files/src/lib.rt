@@ -13,7 +13,9 @@ mod motion;
 mod named;
 mod notice;
 mod notice_texts;
+mod role;
 mod status;
+mod zones_grammar;
 
 pub use grammar::Grammar;
 pub use input_fault::InputFault;
@@ -25,4 +27,6 @@ pub use motion::speed_of;
 pub use named::read_named;
 pub use notice::Notice;
 pub use notice_texts::notice_line;
+pub use role::Role;
 pub use status::Status;
+pub use zones_grammar::ZonesText;

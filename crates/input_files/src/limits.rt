@@ -3,10 +3,10 @@
 ghost use Rattle.std.specs.Prelude.{◌≡◌, ◌≤◌};
 ghost use Rattle.outer_io.specs.Sizes.{longest_file};
 
-use outer_io::Slot;
+use crate::role::Role;
 
-/// The most bytes that a file may have: an observation, navigation or rows file, the settings, and
-/// a log, which is read or written. No file may have more than 4 * 10^9.
+/// The most bytes that a file may have: an observation, navigation or rows file, the settings
+/// or zones, and a log, which is read or written. No file may have more than 4 * 10^9.
 #[derive(Clone, Copy, Debug, PartialEq, Eq)]
 pub struct Limits {
     pub file: u64,
@@ -20,15 +20,15 @@ pub struct Limits {
 impl Limits {
     ghost use Rattle.input_files.specs.Reading.{limit_of};
 
-    /// The most bytes of the slot's file.
-    pub fn of(&self, slot: Slot) -> u64
-        ensures limit { result ≡ limit_of self.now slot }
+    /// The most bytes of a file with this role.
+    pub fn of(&self, role: Role) -> u64
+        ensures limit { result ≡ limit_of self.now role }
         ensures within { result ≤ longest_file }
     {
-        match slot {
-            Slot::Settings => self.settings,
-            Slot::Nav | Slot::Obs | Slot::Rows => self.file,
-            Slot::Log => self.log,
+        match role {
+            Role::Settings | Role::Zones => self.settings,
+            Role::Nav | Role::Obs | Role::Rows => self.file,
+            Role::Log => self.log,
         }
     }
 }

@@ -2,7 +2,7 @@
 
 use crate::grammar::Grammar;
 use crate::notice::Notice;
-use outer_io::Slot;
+use crate::role::Role;
 use paving_log::{Log, read_log, read_rows};
 use std::alloc::Global;
 
@@ -15,14 +15,14 @@ impl Grammar<Log> for LogText {
 
     ghost text = { λ _. log_text };
 
-    fn slot(&self) -> Slot {
-        Slot::Log
+    fn role(&self) -> Role {
+        Role::Log
     }
 
     fn read(&self, alloc: Global, bytes: &[u8]) -> Result<Log, Notice> {
         match read_log(alloc, bytes) {
             Ok(log) => Ok(log),
-            Err(error) => Err(Notice::of_text(Slot::Log, error)),
+            Err(error) => Err(Notice::of_text(Role::Log, error)),
         }
     }
 }
@@ -36,14 +36,14 @@ impl Grammar<Log> for RowsText {
 
     ghost text = { λ _. rows_text };
 
-    fn slot(&self) -> Slot {
-        Slot::Rows
+    fn role(&self) -> Role {
+        Role::Rows
     }
 
     fn read(&self, alloc: Global, bytes: &[u8]) -> Result<Log, Notice> {
         match read_rows(alloc, bytes) {
             Ok(rows) => Ok(rows),
-            Err(error) => Err(Notice::of_text(Slot::Rows, error)),
+            Err(error) => Err(Notice::of_text(Role::Rows, error)),
         }
     }
 }

@@ -2,29 +2,33 @@
 
 ghost use Rattle.std.specs.Prelude.{◌≡◌};
 ghost use Rattle.input_files.specs.Statuses.{status_of, notice_of_read, notice_of_log};
-ghost use Rattle.input_files.specs.Statuses.{notice_of_settings, notice_of_file};
+ghost use Rattle.input_files.specs.Statuses.{notice_of_settings, notice_of_file, notice_of_zones};
 
 use crate::input_fault::InputFault;
+use crate::role::Role;
 use crate::status::Status;
 use error_bounds::SettingsError;
-use outer_io::{ReadAll, Slot};
+use outer_io::ReadAll;
 use paving_log::LogError;
 use rinex_text::ReadError;
+use zone_guard::ZoneError;
 
-/// What is said on standard error, in one line, of a run that doesn't do its job to the end. A slot
+/// What is said on standard error, in one line, of a run that doesn't do its job to the end. A role
 /// says which file it is about.
 #[derive(Clone, Copy, PartialEq, Eq)]
 pub enum Notice {
     /// The words are no command.
     Usage,
     /// The file has more bytes than this limit.
-    TooLong { slot: Slot, limit: u64 },
+    TooLong { role: Role, limit: u64 },
     /// The file's text has its first fault at this line, of this kind.
-    BadLog { slot: Slot, line: u32, kind: u8 },
+    BadLog { role: Role, line: u32, kind: u8 },
+    /// The zones have their first line that doesn't fit here.
+    BadZones { line: u32 },
     /// A receiver's file has this first fault.
     BadInput(InputFault),
     /// The file is missing, or a read of it has failed.
-    ReadFault { slot: Slot },
+    ReadFault { role: Role },
     /// The log couldn't be created, or a write to it has failed.
     LogFault,
     /// A write to standard output has failed.
@@ -43,6 +47,7 @@ impl Notice {
             Notice::Usage => Status::Usage,
             Notice::TooLong { .. } => Status::Refused,
             Notice::BadLog { .. } => Status::Refused,
+            Notice::BadZones { .. } => Status::Refused,
             Notice::BadInput(_) => Status::Refused,
             Notice::ReadFault { .. } => Status::ReadFault,
             Notice::LogFault => Status::WriteFault,
@@ -52,24 +57,34 @@ impl Notice {
         }
     }
 
-    /// Why the slot's file wasn't read to its end.
-    pub fn of_read(slot: Slot, refusal: ReadAll) -> Notice
-        ensures { result ≡ notice_of_read slot refusal }
+    /// Why the file wasn't read to its end.
+    pub fn of_read(role: Role, refusal: ReadAll) -> Notice
+        ensures { result ≡ notice_of_read role refusal }
     {
         match refusal {
-            ReadAll::ReadFault => Notice::ReadFault { slot },
-            ReadAll::TooLong { limit } => Notice::TooLong { slot, limit },
+            ReadAll::ReadFault => Notice::ReadFault { role },
+            ReadAll::TooLong { limit } => Notice::TooLong { role, limit },
             ReadAll::NoMemory => Notice::NoMemory,
         }
     }
 
-    /// Why the text of the slot's file is none of its kind.
-    pub fn of_text(slot: Slot, error: LogError) -> Notice
-        ensures { result ≡ notice_of_log slot error }
+    /// Why the text of a file of rows or a log is none of its kind.
+    pub fn of_text(role: Role, error: LogError) -> Notice
+        ensures { result ≡ notice_of_log role error }
     {
         match error {
-            LogError::BadLog { line, kind } => Notice::BadLog { slot, line, kind },
+            LogError::BadLog { line, kind } => Notice::BadLog { role, line, kind },
             LogError::NoMemory => Notice::NoMemory,
+        }
+    }
+
+    /// Why the zones weren't read.
+    pub fn of_zones(error: ZoneError) -> Notice
+        ensures { result ≡ notice_of_zones error }
+    {
+        match error {
+            ZoneError::BadZones { line } => Notice::BadZones { line },
+            ZoneError::NoMemory => Notice::NoMemory,
         }
     }
 

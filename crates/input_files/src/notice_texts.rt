@@ -5,24 +5,25 @@ ghost use Rattle.input_files.specs.NoticeTexts.{role_text, notice_text};
 
 use crate::input_texts::push_input_fault;
 use crate::notice::Notice;
+use crate::role::Role;
 use arrayvec::ArrayString;
 use itoa::Buffer;
-use outer_io::Slot;
 
 /// A line with its LF.
 pub type Line = ArrayString<192>;
 
 /// What a file is read or written for.
-fn role_of(slot: Slot) -> &'static str
-    ensures role { result.now ≡ role_text slot }
+fn role_of(role: Role) -> &'static str
+    ensures role { result.now ≡ role_text role }
     ensures short { length result.now ≤ 8 }
 {
-    match slot {
-        Slot::Settings => "settings",
-        Slot::Nav => "nav",
-        Slot::Obs => "obs",
-        Slot::Rows => "rows",
-        Slot::Log => "log",
+    match role {
+        Role::Settings => "settings",
+        Role::Nav => "nav",
+        Role::Obs => "obs",
+        Role::Rows => "rows",
+        Role::Zones => "zones",
+        Role::Log => "log",
     }
 }
 
@@ -46,26 +47,31 @@ pub fn notice_line(notice: &Notice) -> Line
         Notice::Usage => {
             line.push_str("usage: gpscover judge LOG, pave ROWS LOG, ");
             line.push_str("solve or check OBS NAV SETTINGS LOG, make SEED EPOCHS, ");
-            line.push_str("track or retrack OBS NAV SETTINGS LOG\n");
+            line.push_str("track or retrack OBS NAV SETTINGS LOG, ");
+            line.push_str("guard OBS NAV SETTINGS ZONES LOG\n");
         }
-        Notice::TooLong { slot, limit } => {
-            line.push_str(role_of(slot));
+        Notice::TooLong { role, limit } => {
+            line.push_str(role_of(role));
             push_count(&mut line, " 29 TooLong ", limit);
             line.push_str("\n");
         }
         Notice::BadLog {
-            slot,
+            role,
             line: number,
             kind,
         } => {
-            line.push_str(role_of(slot));
+            line.push_str(role_of(role));
             push_count(&mut line, " 40 BadLog line ", u64::from(number));
             push_count(&mut line, " kind ", u64::from(kind));
             line.push_str("\n");
         }
+        Notice::BadZones { line: number } => {
+            push_count(&mut line, "zones 42 BadZones line ", u64::from(number));
+            line.push_str("\n");
+        }
         Notice::BadInput(ref fault) => push_input_fault(&mut line, fault),
-        Notice::ReadFault { slot } => {
-            line.push_str(role_of(slot));
+        Notice::ReadFault { role } => {
+            line.push_str(role_of(role));
             line.push_str(" fault\n");
         }
         Notice::LogFault => line.push_str("log fault\n"),

@@ -44,6 +44,33 @@ fn write_over<H: Shelf, O: Sink>(
     }
 }
 
+/// Writes 85,000 bytes over the named file, more than the pieces of 64 KiB in which logs go out, and
+/// prints whether as many are read again.
+fn tell_long<H: Shelf, O: Sink>(
+    alloc: Global,
+    shelf: &mut H,
+    out: &mut O,
+    name: &str,
+) -> Result<(), Failed> {
+    match shelf.create(name, Slot::Log) {
+        Ok(()) => {}
+        Err(_) => return write_sink(out, b"not created\n"),
+    }
+    'lines: for _ in 0..5_000 {
+        if write_shelf(shelf, Slot::Log, b"sixteen and a LF\n").is_err() {
+            return write_sink(out, b"not written\n");
+        }
+    }
+    match shelf.begin(name, Slot::Rows) {
+        Ok(()) => {}
+        Err(_) => return write_sink(out, b"not opened\n"),
+    }
+    match read_all(alloc, shelf, Slot::Rows, 100_000) {
+        Ok(bytes) if bytes.len() == 85_000 => write_sink(out, b"read whole\n"),
+        _ => write_sink(out, b"not read whole\n"),
+    }
+}
+
 /// Reads, writes and reads again.
 fn tell<H: Shelf, O: Sink>(alloc: Global, shelf: &mut H, out: &mut O) -> Result<(), Failed> {
     show(alloc, shelf, out, "long.txt")?;
@@ -55,7 +82,8 @@ fn tell<H: Shelf, O: Sink>(alloc: Global, shelf: &mut H, out: &mut O) -> Result<
     show(alloc, shelf, out, "folder")?;
     write_over(shelf, out, "folder", b"new\n")?;
     write_over(shelf, out, "missing/new.txt", b"new\n")?;
-    write_over(shelf, out, "/dev/full", b"new\n")
+    write_over(shelf, out, "/dev/full", b"new\n")?;
+    tell_long(alloc, shelf, out, "new.txt")
 }
 
 fn main(rt: HostRuntime) -> ExitCode {

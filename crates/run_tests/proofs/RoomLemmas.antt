@@ -5,9 +5,10 @@ use Rattle.std.specs.FinMap as map
 use Rattle.std.specs.Option.{option_map}
 use Rattle.std.proofs.lemmas.List.{length-take}
 use Rattle.command_words.specs.Commands as words
-use Rattle.command_words.specs.Commands.{Command, Judge, Pave, Solve, Check, Track, Retrack, Make}
+use Rattle.command_words.specs.Commands.{Command, Judge, Pave, Solve, Check, Track, Retrack, Guard, Make}
 use Rattle.epoch_selection.specs.declared.selection.Selection.{Selection}
 use Rattle.input_files.specs.Inputs.{InputsValue, ReadsFor, ReadsNav, ReadsObs, settings_text, nav_text, obs_text, read_both, sought_of, wants_position}
+use Rattle.input_files.specs.Zones.{zones_text}
 use Rattle.input_files.specs.Logs.{log_text, rows_text}
 use Rattle.input_files.specs.Reading as reading
 use Rattle.input_files.specs.Reading.{Text, Breaks, MayBreak, IsCounted, Reading, Found, valued, Named, Then, Returns, ReadsFile, limit_of, file_in, LeavesFiles, Untouched}
@@ -37,9 +38,10 @@ use Rattle.rinex_obs.specs.Files.{Observations}
 use Rattle.sat_model.specs.Logs.{LogValue}
 use Rattle.cover_run.specs.Checking.{CheckedValue, ReadsCheckedFor, ReadsLog}
 use Rattle.cover_run.specs.Making.{Makes, made_text}
+use Rattle.cover_run.specs.Guarding.{ReadsGuarded, ReadsLogBehind, ReadsZones, guarded_by}
 use Rattle.cover_run.specs.Paving.{IsPaved}
 use Rattle.cover_run.specs.Chosen.{chosen_in}
-use Rattle.cover_run.specs.Runs.{Task, RunOf, Ends, Stops, OnlySays, Obeys, Runs, TellsAlone, judging, paving, solving, checking, tracking, rechecking}
+use Rattle.cover_run.specs.Runs.{Task, RunOf, Ends, Stops, OnlySays, Obeys, Runs, TellsAlone, judging, paving, solving, checking, tracking, rechecking, guarding}
 use Rattle.cover_run.specs.Solving.{IsSolution}
 use Rattle.cover_run.specs.Tracking.{IsTrack}
 use Rattle.cover_run.specs.Telling as telling
@@ -65,13 +67,13 @@ module _ (before after : ShelfState) (reliable : Option (List ℕ) → Type 0) (
       → status_of n ≡ status.ReadFault → ⊥
   file_sound text limit None there n reads is = let e : false ≡ true = there in cc
   file_sound text limit (Some bytes) there n (inl (inl (short, (refused, names)))) is = apart (status_of n) refused is
-  file_sound text limit (Some bytes) there n (inl (inr (long, e))) is = apart (status_of n) (ap status_of (same_notice n (notice.TooLong text.slot limit) e)) is
+  file_sound text limit (Some bytes) there n (inl (inr (long, e))) is = apart (status_of n) (ap status_of (same_notice n (notice.TooLong text.role limit) e)) is
   file_sound text limit (Some bytes) there n (inr (m, e, may, inl none)) is =
       let f : status.NoMemory ≡ status.ReadFault = sym (ap status_of (same_notice n m e ∙ none)) ∙ is in cc
   file_sound text limit (Some bytes) there n (inr (m, e, may, inr (fault, counted))) is = counted.unreliable None sure
 
   named_sound : {V : Type 0} (text : Text V) (name : List ℕ) → IsThere files name → NeverFails (MayBreak before after reliable) files (Named limits text name)
-  named_sound text name there n reads is = file_sound text (limit_of limits text.slot) (map.get files name) there n reads is
+  named_sound text name there n reads is = file_sound text (limit_of limits text.role) (map.get files name) there n reads is
 
   then_sound : {V W : Type 0} (first : Reading V) (later : V → Reading W) → NeverFails (MayBreak before after reliable) files first → ((v : V) → NeverFails (MayBreak before after reliable) files (later v))
       → NeverFails (MayBreak before after reliable) files (Then first later)
@@ -323,6 +325,15 @@ module _ (limits : Limits) (told : Told) (before after : World) (trust : Trust) 
       (named_sound before.shelf after.shelf trust.log sure limits told.files log_text names.log there.1)
       (λ l. returns_sound before.shelf after.shelf trust.log sure limits told.files (value l)))
 
+  guard_sound : (moving : Bool) (names : words.Files) (zones : List ℕ) → AreInputsThere told.files names × (IsThere told.files zones × IsThere told.files names.log) → Sound (ReadsGuarded moving limits names zones)
+  guard_sound moving names zones there = λ sure.
+      then_sound before.shelf after.shelf trust.log sure limits told.files (ReadsFor moving limits names) (ReadsZones limits zones names.log) (inputs_sound moving names there.0 sure) (λ i.
+      then_sound before.shelf after.shelf trust.log sure limits told.files (Named limits zones_text zones) (ReadsLogBehind limits names.log i)
+      (named_sound before.shelf after.shelf trust.log sure limits told.files zones_text zones there.1.0) (λ z.
+      then_sound before.shelf after.shelf trust.log sure limits told.files (Named limits log_text names.log) (λ l. Returns (guarded_by i z l))
+      (named_sound before.shelf after.shelf trust.log sure limits told.files log_text names.log there.1.1)
+      (λ l. returns_sound before.shelf after.shelf trust.log sure limits told.files (guarded_by i z l))))
+
   obeys_safe : (command : Command) (s : Status) → before.shelf.told ≡ Some told → AreThere told.files command → Obeys limits (Some command) before after trust s
       → IsSafe limits.log (written_by command) told before after trust s
   obeys_safe (Judge log) s tells there r =
@@ -344,6 +355,9 @@ module _ (limits : Limits) (told : Told) (before after : World) (trust : Trust) 
       (λ v does. write_safe names.log _ limits.log _ (IsTrack (chosen_in names) v limits.log) told before after trust s tells (track_fits (chosen_in names) v limits.log) does) r
   obeys_safe (Retrack names) s tells there r =
       task_safe (rechecking limits names) limits.log None told before after trust s tells (check_sound true names there)
+      (λ v does. tell_safe _ _ _ limits.log told before after trust s tells does) r
+  obeys_safe (Guard names zones tracked) s tells there r =
+      task_safe (guarding limits names zones tracked) limits.log None told before after trust s tells (guard_sound tracked names zones there)
       (λ v does. tell_safe _ _ _ limits.log told before after trust s tells does) r
   obeys_safe (Make seed epochs) s tells there r =
       make_safe limits.log seed epochs None told before after trust s tells r.0 r.1

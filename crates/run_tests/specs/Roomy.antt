@@ -8,7 +8,8 @@ use Rattle.input_files.specs.declared.status.Status.TheVariants as status
 use Rattle.outer_io.specs.Taken.{SinkState, SinkTold}
 use Rattle.outer_io.specs.Told.{Files, ShelfState, Told}
 use Rattle.command_words.specs.Commands as words
-use Rattle.command_words.specs.Commands.{Command, Judge, Pave, Solve, Check, Track, Retrack, Make}
+use Rattle.command_words.specs.Commands.{Command, Judge, Pave, Solve, Check, Track, Retrack, Guard}
+use Rattle.command_words.specs.Commands.{Make}
 
 abbrev pub IsThere : Files → List ℕ → Type 0
 IsThere files name = is_some (map.get files name) ≡ true
@@ -26,6 +27,8 @@ AreThere files (Solve names) = AreInputsThere files names
 AreThere files (Check names) = AreInputsThere files names × IsThere files names.log
 AreThere files (Track names) = AreInputsThere files names
 AreThere files (Retrack names) = AreInputsThere files names × IsThere files names.log
+AreThere files (Guard names zones tracked) =
+    AreInputsThere files names × (IsThere files zones × IsThere files names.log)
 AreThere files (Make seed epochs) = Unit {0}
 
 -- the file that is written
@@ -36,6 +39,7 @@ written_by (Solve names) = Some names.log
 written_by (Check names) = None
 written_by (Track names) = Some names.log
 written_by (Retrack names) = None
+written_by (Guard names zones tracked) = None
 written_by (Make seed epochs) = None
 
 -- The files are there, the one that is written can be created and has room for more than the limit,

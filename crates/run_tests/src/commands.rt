@@ -24,7 +24,7 @@ done 0
 
 const USAGE: &str =
     "usage: gpscover judge LOG, pave ROWS LOG, solve or check OBS NAV SETTINGS LOG, make SEED EPOCHS, \
-     track or retrack OBS NAV SETTINGS LOG\n";
+     track or retrack OBS NAV SETTINGS LOG, guard OBS NAV SETTINGS ZONES LOG\n";
 
 // A run over a shelf with the file `a.log`. Calls of these numbers fail, none where it is 0.
 #[derive(Clone, Copy)]

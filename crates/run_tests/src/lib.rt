@@ -11,6 +11,8 @@ mod faults;
 #[cfg(test)]
 mod files;
 #[cfg(test)]
+mod guards;
+#[cfg(test)]
 mod made;
 #[cfg(test)]
 mod narrowing;

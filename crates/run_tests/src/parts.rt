@@ -44,7 +44,7 @@ const NONE: &str = "gpscover 1\nrules 1 4096 1000000\n";
 
 const USAGE: &str =
     "usage: gpscover judge LOG, pave ROWS LOG, solve or check OBS NAV SETTINGS LOG, make SEED EPOCHS, \
-     track or retrack OBS NAV SETTINGS LOG\n";
+     track or retrack OBS NAV SETTINGS LOG, guard OBS NAV SETTINGS ZONES LOG\n";
 
 const LIMITS: Limits = Limits {
     file: 2_000,

@@ -40,6 +40,25 @@ pub fn one_file(
     Ok(MemoryShelf::make(alloc, files, log, room, fails)?)
 }
 
+/// The files `a.obs`, `a.nav`, `a.toml`, `a.zones` and `b.log`.
+pub fn five_files(
+    alloc: Global,
+    obs: &str,
+    nav: &str,
+    settings: &str,
+    zones: &str,
+    log: &str,
+) -> Result<Vec<(String, Vec<u8>)>, Fail>
+    ensures { IfOk result (λ files. HaveOwnNames files.items) }
+{
+    let obs = file(alloc, "a.obs", obs)?;
+    let nav = file(alloc, "a.nav", nav)?;
+    let settings = file(alloc, "a.toml", settings)?;
+    let zones = file(alloc, "a.zones", zones)?;
+    let log = file(alloc, "b.log", log)?;
+    Ok(vec![in alloc; obs, nav, settings, zones, log]?)
+}
+
 /// The files `a.obs`, `a.nav`, `a.toml` and `a.log`.
 pub fn four_files(
     alloc: Global,

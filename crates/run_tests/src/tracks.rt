@@ -11,7 +11,8 @@ use std::process::Abort;
 use std::test::Fail;
 
 // Four satellites at one place, as far off as light goes in 0.07 s; three epochs, 1 s apart.
-const OBS: &str = "     3.05           OBSERVATION DATA    G                   RINEX VERSION / TYPE
+pub const OBS: &str =
+    "     3.05           OBSERVATION DATA    G                   RINEX VERSION / TYPE
 G    1 C1C                                                  SYS / # / OBS TYPES
                                                             END OF HEADER
 > 2024 01 07 00 00  0.0700000  0  4
@@ -32,7 +33,7 @@ G04  20985472.060
 ";
 
 // In the second epoch two of them are 500 m off.
-const LOST_OBS: &str =
+pub const LOST_OBS: &str =
     "     3.05           OBSERVATION DATA    G                   RINEX VERSION / TYPE
 G    1 C1C                                                  SYS / # / OBS TYPES
                                                             END OF HEADER
@@ -71,7 +72,7 @@ const RECORD: &str = " 2024 01 07 00 00 00 0
 ";
 
 // No box is split, so each epoch that fits keeps its root.
-const SETTINGS: &str = "[search]
+pub const SETTINGS: &str = "[search]
 centre = [6378137000, 0, 0]
 half = 200000
 outliers = 0
@@ -108,7 +109,7 @@ fn text(bytes: &[u8]) -> &str {
     str::from_utf8(bytes).unwrap_or("")
 }
 
-fn nav(alloc: Global) -> Result<String, AllocError> {
+pub fn nav(alloc: Global) -> Result<String, AllocError> {
     let mut text = String::from_str(alloc, NAV_HEADER)?;
     for sat in ["G01", "G02", "G03", "G04"] {
         text.push_str(sat)?;
@@ -131,7 +132,7 @@ fn shelf(
 }
 
 // What a run prints that ends so, with this on standard error.
-fn printed(
+pub fn printed(
     rt: &(impl Abort + AllocGlobal),
     texts: &[&str],
     shelf: &mut MemoryShelf,

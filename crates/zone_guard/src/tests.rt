@@ -232,6 +232,26 @@ fn boxes_answer_by_corners(rt: HostRuntime) -> Result<(), Fail> {
     Ok(())
 }
 
+// The zones share nothing with the box, hold it, hold half of it, or share a face.
+#[test]
+fn zones_around_a_box_of_two_metres(rt: HostRuntime) -> Result<(), Fail> {
+    let alloc = rt.alloc();
+    let one = [cube(-1_000_000, 1_000_000)];
+    let open = Some(Finding::Zone(ZoneAnswer::Open));
+    let inside = Some(Finding::Zone(ZoneAnswer::Inside));
+    let outside = Some(Finding::Zone(ZoneAnswer::Outside));
+    let apart = "zone a 2000000 -2000000 -2000000 3000000 2000000 2000000\n";
+    assert_eq!(rt; found(alloc, apart, &one)?, outside);
+    let round = "zone a -2000000 -2000000 -2000000 2000000 2000000 2000000\n";
+    assert_eq!(rt; found(alloc, round, &one)?, inside);
+    let half = "zone a 0 -2000000 -2000000 2000000 2000000 2000000\n";
+    assert_eq!(rt; found(alloc, half, &one)?, open);
+    let face = "zone a 1000000 -2000000 -2000000 2000000 2000000 2000000\n";
+    assert_eq!(rt; found(alloc, face, &one)?, open);
+    assert_eq!(rt; found(alloc, round, &[])?, outside);
+    Ok(())
+}
+
 #[test]
 fn reaches_go_from_corner_to_corner(rt: HostRuntime) -> Result<(), Fail> {
     let alloc = rt.alloc();

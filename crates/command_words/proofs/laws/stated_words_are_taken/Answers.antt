@@ -1,4 +1,5 @@
 use Rattle.command_words.proofs.StatedLemmas.{judge_taken, pave_taken, solve_taken, check_taken, track_taken, retrack_taken, make_taken}
+use Rattle.command_words.proofs.GuardLemmas.{guard_taken}
 use Rattle.command_words.proofs.laws.stated_words_are_taken.Goals as goal
 
 pub returns-clause-judge : goal.returns-clause-judge
@@ -18,6 +19,9 @@ returns-clause-track c = track_taken
 
 pub returns-clause-retrack : goal.returns-clause-retrack
 returns-clause-retrack c = retrack_taken
+
+pub returns-clause-guard : goal.returns-clause-guard
+returns-clause-guard c = guard_taken
 
 pub returns-clause-make : goal.returns-clause-make
 returns-clause-make c = make_taken

@@ -7,8 +7,8 @@ pub returns : goal.returns
 returns g c =
     let i = c.args.found.now.inputs in
     let log = log_value c.args.found.now.log in
-    let verdict = c.check_by-verdict.result in
-    let told = c.check_by-verdict.ensures in
+    let verdict = c.check_verdict-verdict.result in
+    let told = c.check_verdict-verdict.ensures in
     tells_as _ _ _ _ _ _ _
     (said_yes verdict (λ boxes. Accepts c.args.chosen i log boxes) told.yes)
     (said_no verdict (λ fault. Refuses c.args.chosen i log fault) told.no)

@@ -8,3 +8,6 @@ returns-in-Make-clause-known g c =
 
 pub returns-in-Make-clause-obeys : goal.returns-in-Make-clause-obeys
 returns-in-Make-clause-obeys g c = rw c.in-Make.is (c.run_make.ensures, refl)
+
+pub returns-in-Guard-clause-obeys : goal.returns-in-Guard-clause-obeys
+returns-in-Guard-clause-obeys g c = rw c.in-Guard.is c.run_guard.ensures

@@ -1,6 +1,7 @@
 use Rattle.std.proofs.Common.{arith}
 use Rattle.std.proofs.lemmas.List.Sums.{count_by-le-length}
 use Rattle.grid_model.specs.Boxes.{grid_box}
+use Rattle.sat_model.specs.BoxTests.{test_of}
 use Rattle.sat_model.specs.Logs.{rows_of}
 use Rattle.logged_steps.specs.Steps.{steps_of}
 use Rattle.cover_run.proofs.TotalLemmas.{count_is}
@@ -14,7 +15,7 @@ returns-in-Some-clause-value c rules h =
     rw c.in-Some.is (omega (
       arith,
       c.counted_steps.ensures,
-      count_is c.args.kind (rows_of epoch.sats.items) rules
+      count_is c.args.kind (test_of rules (rows_of epoch.sats.items)) rules
           epoch.done (grid_box c.in-Some.field-0) (steps_of epoch.steps) passes,
     ))
 

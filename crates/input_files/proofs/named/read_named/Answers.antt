@@ -9,10 +9,10 @@ returns-in_err-bytes-clause-found g c =
     let p = err_from_is_err_and c.from_residual.result c.from_residual.ensures.1 in
     let b = c.in_err-bytes.ensures in
     rw (p.1, p.2) (found_unread c.args.limits.now (g.G.Grammar.text c.args.grammar.now)
-    c.args.name.now _ _ (g.H.Shelf.reliable c.read_file.new.shelf) c.slot.result
-    c.in_err-bytes.field-0.0 c.slot.ensures (record {
+    c.args.name.now _ _ (g.H.Shelf.reliable c.read_file.new.shelf) c.role.result
+    c.in_err-bytes.field-0.0 c.role.ensures (record {
       unread = b.refusals;
-      long = λ e. b.too_long (limit_of c.args.limits.now c.slot.result) (ap Err e);
+      long = λ e. b.too_long (limit_of c.args.limits.now c.role.result) (ap Err e);
       missing = λ e. let m = b.missing e in cc;
       fault = λ e. b.fault (ap Err e);
     }))
@@ -21,21 +21,21 @@ pub returns-in_err-bytes-clause-only : goal.returns-in_err-bytes-clause-only
 returns-in_err-bytes-clause-only g c =
     let p = err_from_is_err_and c.from_residual.result c.from_residual.ensures.1 in
     let b = c.in_err-bytes.ensures in
-    rw (p.1, p.2) (only_one c.slot.result (g.G.Grammar.text c.args.grammar.now).slot
-    _ _ (Err c.in_err-bytes.field-0.0) c.slot.ensures b.touches
-    (unread_ends c.slot.result _ c.in_err-bytes.field-0.0 b.refusals))
+    rw (p.1, p.2) (only_one c.role.result (g.G.Grammar.text c.args.grammar.now).role
+    _ _ (Err c.in_err-bytes.field-0.0) c.role.ensures b.touches
+    (unread_ends c.role.result _ c.in_err-bytes.field-0.0 b.refusals))
 
 pub returns-clause-found : goal.returns-clause-found
 returns-clause-found g c =
     let b = c.in_ok-bytes.ensures in
     let e = c.deref.ensures.value in
     found_text c.args.limits.now (g.G.Grammar.text c.args.grammar.now) c.args.name.now _ _
-    (g.H.Shelf.reliable c.read_file.new.shelf) c.slot.result c.in_ok-bytes.bytes.items _
-    c.slot.ensures b.whole b.within (rw e at c.read.ensures.gives) (rw e at c.read.ensures.same)
+    (g.H.Shelf.reliable c.read_file.new.shelf) c.role.result c.in_ok-bytes.bytes.items _
+    c.role.ensures b.whole b.within (rw e at c.read.ensures.gives) (rw e at c.read.ensures.same)
 
 pub returns-clause-only : goal.returns-clause-only
 returns-clause-only g c =
-    only_one c.slot.result (g.G.Grammar.text c.args.grammar.now).slot _ _ c.read.result
-    c.slot.ensures c.in_ok-bytes.ensures.touches
+    only_one c.role.result (g.G.Grammar.text c.args.grammar.now).role _ _ c.read.result
+    c.role.ensures c.in_ok-bytes.ensures.touches
     (text_ends (g.G.Grammar.text c.args.grammar.now) c.deref.result.now c.read.result
     c.read.ensures.gives)

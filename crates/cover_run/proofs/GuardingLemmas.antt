@@ -1,0 +1,194 @@
+-- What `guard` tells of an accepted log.
+use Rattle.std.proofs.Common.{◌≡◌, ℕ, suc, ◌+◌, ◌<◌, ◌≤◌, ◌^◌, Bool, true, false, List, [], ◌∷◌, length, map, Option, None, Some, refl, sym, ap, subst, ◌∙◌, arith, Vec, Global}
+use Rattle.std.specs.Prelude.{ℤ, is_none}
+use Rattle.std.specs.List.{AllByRecursion}
+use Rattle.epoch_selection.specs.Searches.{Search}
+use Rattle.epoch_selection.specs.declared.selection.Selection.{Selection}
+use Rattle.grid_model.specs.Boxes.{GridBox, box_holds}
+use Rattle.grid_model.specs.declared.boxes.Pos.{Pos}
+use Rattle.gnss_model.specs.declared.delays.Delays.{Delays}
+use Rattle.input_files.specs.declared.inputs.Inputs.{Inputs}
+use Rattle.input_files.specs.Zones.{zones_value}
+use Rattle.paving_log.specs.Values.{log_value}
+use Rattle.paving_log.specs.CoverBoxes.{BlockFolds, cover_of, kept_parts}
+use Rattle.paving_log_check.proofs.FitLemmas.{HasFewRoot}
+use Rattle.paving_log_check.specs.Admissible.{AdmitsFrom}
+use Rattle.paving_log_check.specs.Answers.{IfNo, IfYes}
+use Rattle.paving_log_check.specs.Checked.{IsAccepted}
+use Rattle.paving_log_check.specs.Epochs.{BodyPassesAt}
+use Rattle.paving_log_check.specs.FileCover.{BlocksFitCover, FitBlockCover, FitCover}
+use Rattle.paving_log_check.specs.declared.verdict.Fault.{Fault}
+use Rattle.paving_log_check.specs.declared.verdict.Verdict.{Verdict}
+use Rattle.paving_log_check.specs.declared.verdict.Verdict.TheVariants as verdict
+use Rattle.sat_model.specs.Cover.{SomeKeeps}
+use Rattle.sat_model.specs.Fold.{ShownStep, pieces}
+use Rattle.sat_model.specs.Logs.{Block, IsNumberedFrom, LogValue, lines_in, lines_with}
+use Rattle.sat_model.specs.declared.rules.Rules.{Rules}
+use Rattle.sat_rows.specs.Fitting.{FitsEpoch}
+use Rattle.sat_rows.specs.Meanings.{Meaning}
+use Rattle.sat_rows.specs.declared.lines.SatLine.{SatLine}
+use Rattle.tube_check.proofs.FoundLemmas.{all_few}
+use Rattle.tube_check.proofs.TubeLemmas.{body_folds}
+use Rattle.zone_guard.proofs.AnswerLemmas.{none_kept}
+use Rattle.zone_guard.proofs.KeptLemmas.{holding, in_prism, in_zone, none_holds, reached}
+use Rattle.zone_guard.specs.EpochsFound.{AreEpochsFound, AreFindings, IsFoundIn}
+use Rattle.zone_guard.specs.Findings.{IsFinding, corner_box}
+use Rattle.zone_guard.specs.Planes.{IsInPrism}
+use Rattle.zone_guard.specs.Watched.{BoxValue, FormValue, PrismValue, ReachValue, WatchValue}
+use Rattle.zone_guard.specs.WatchValues.{watch_values}
+use Rattle.zone_guard.specs.declared.found.EpochFindings.{EpochFindings}
+use Rattle.zone_guard.specs.declared.found.Finding.{Finding}
+use Rattle.zone_guard.specs.declared.found.Finding.TheVariants.{Zone, Reach}
+use Rattle.zone_guard.specs.declared.watch.Watch.{Watch}
+use Rattle.zone_guard.specs.declared.zone.ZoneAnswer.TheVariants.{Outside, Inside, Open}
+use Rattle.cover_run.specs.Guarding.{AcceptsAs, SaysFound, SaysGuarded, searches_as}
+use Rattle.cover_run.specs.Solving.{meaning_of}
+use Rattle.cover_run.specs.declared.guarded.Guarded.{Guarded}
+use Rattle.cover_run.specs.ZoneClaims.{AreEpochsTrue, AreTrueOf, IsEpochTrue, IsTrueAt}
+use Rattle.cover_run.specs.ZoneTexts.{HasAll, HasAllOf}
+use Rattle.cover_run.proofs.ZoneTotalLemmas.{totals_true}
+
+-- ---- the steps of an accepted log fold
+
+admitted_fold : (delays : Delays) (rules : Rules) (before : Option ℕ) (owns : List (List SatLine)) (searches : List Search) (blocks : List Block) → length owns ≡ length searches
+    → AdmitsFrom delays rules before owns searches blocks → AllByRecursion (λ (block : Block). BlockFolds block block.root) blocks
+admitted_fold delays rules before [] [] [] each admits = tt
+admitted_fold delays rules before [] [] (block ∷ more) each admits = absurd admits
+admitted_fold delays rules before [] (s ∷ rest) blocks each admits = absurd (omega (arith, each))
+admitted_fold delays rules before (own ∷ owns) [] blocks each admits = absurd (omega (arith, each))
+admitted_fold delays rules before (own ∷ owns) (s ∷ rest) [] each admits = tt
+admitted_fold delays rules before (own ∷ owns) (s ∷ rest) (block ∷ more) each admits = (
+  body_folds rules s.root block block.root admits.1.body,
+  admitted_fold delays rules (Some block.index) owns rest more (omega (arith, each)) admits.2,
+)
+
+pub accepted_fold : (m : Meaning) (searches : List Search) (rules : Rules) (log : LogValue) (boxes : ℕ) → IsAccepted m searches rules log boxes → AllByRecursion (λ (block : Block). BlockFolds block block.root) log.blocks
+accepted_fold m searches rules log boxes accepted =
+    admitted_fold m.delays rules None accepted.owns searches log.blocks accepted.admissible.each accepted.admissible.admits.blocks
+
+-- ---- how many answers there are
+
+as_many_found : (ws : List Watch) (boxes : List GridBox) (found : List Finding) → AreFindings (watch_values ws) boxes found → length found ≡ length ws
+as_many_found [] boxes [] are = refl
+as_many_found [] boxes (f ∷ found) are = absurd are
+as_many_found (w ∷ ws) boxes [] are = absurd are
+as_many_found (w ∷ ws) boxes (f ∷ found) are = ap suc (as_many_found ws boxes found are.1)
+
+has_all : (ws : List Watch) (block : Block) (found : Option (Vec Finding Global)) → IsFoundIn (watch_values ws) block found → HasAllOf (length ws) found
+has_all ws block None is = tt
+has_all ws block (Some found) is = as_many_found ws (cover_of block block.root) found.items is.1
+
+pub all_have_all : (ws : List Watch) (blocks : List Block) (epochs : List EpochFindings) → AreEpochsFound (watch_values ws) blocks epochs → AllByRecursion (HasAll (length ws)) epochs
+all_have_all ws [] [] are = tt
+all_have_all ws [] (e ∷ epochs) are = absurd are
+all_have_all ws (block ∷ more) [] are = absurd are
+all_have_all ws (block ∷ more) (e ∷ epochs) are = (has_all ws block e.found are.0.1, all_have_all ws more epochs are.1)
+
+as_many : (ws : List WatchValue) (blocks : List Block) (epochs : List EpochFindings) → AreEpochsFound ws blocks epochs → length epochs ≡ length blocks
+as_many ws [] [] are = refl
+as_many ws [] (e ∷ epochs) are = absurd are
+as_many ws (block ∷ more) [] are = absurd are
+as_many ws (block ∷ more) (e ∷ epochs) are = ap suc (as_many ws more epochs are.1)
+
+some_line : (block : Block) (root : Option GridBox) → 1 ≤ lines_with block root
+some_line block None = omega arith
+some_line block (Some root) = omega arith
+
+numbered_few : (next : ℕ) (blocks : List Block) → IsNumberedFrom next blocks → next + length blocks ≤ 4000000001
+numbered_few next [] is = omega (arith, is)
+numbered_few next (block ∷ more) is = omega (arith, some_line block block.root, numbered_few (next + lines_in block) more is.1)
+
+pub few_epochs : (ws : List WatchValue) (blocks : List Block) (epochs : List EpochFindings) → IsNumberedFrom 3 blocks → AreEpochsFound ws blocks epochs → length epochs < 2 ^ 32
+few_epochs ws blocks epochs numbered are = omega (arith, as_many ws blocks epochs are, numbered_few 3 blocks numbered)
+
+-- ---- the answers are true of what fits
+
+true_at : (form : FormValue) (f : Finding) (parts : List ShownStep) (p : Pos) (b : ℤ) → IsFinding form (kept_parts parts) f → SomeKeeps p b parts → IsTrueAt form f p
+true_at (BoxValue lo hi) (Zone Outside) parts p b is keeps = λ holds. none_kept (corner_box lo hi) parts p b is.0 holds keeps
+true_at (BoxValue lo hi) (Zone Inside) parts p b is keeps = in_zone (corner_box lo hi) (kept_parts parts) p is.1.0 (holding parts p b keeps)
+true_at (BoxValue lo hi) (Zone Open) parts p b is keeps = tt
+true_at (BoxValue lo hi) (Reach found) parts p b is keeps = is
+true_at (PrismValue sides) (Zone Outside) parts p b is keeps = λ lies. none_holds sides (kept_parts parts) p is.0 lies (holding parts p b keeps)
+true_at (PrismValue sides) (Zone Inside) parts p b is keeps = in_prism sides (kept_parts parts) p is.1.0 (holding parts p b keeps)
+true_at (PrismValue sides) (Zone Open) parts p b is keeps = tt
+true_at (PrismValue sides) (Reach found) parts p b is keeps = is
+true_at (ReachValue a) (Zone found) parts p b is keeps = is
+true_at (ReachValue a) (Reach found) parts p b is keeps = reached a found (kept_parts parts) p is (holding parts p b keeps)
+
+module _ (FitsAt : Pos → ℤ → Type 0) (root : GridBox) where
+  true_of : (parts : List ShownStep) → FitCover FitsAt root parts → (ws : List WatchValue) (found : List Finding) → AreFindings ws (kept_parts parts) found → AreTrueOf FitsAt root ws found
+  true_of parts cover [] [] are = tt
+  true_of parts cover [] (f ∷ found) are = absurd are
+  true_of parts cover (w ∷ ws) [] are = absurd are
+  true_of parts cover (w ∷ ws) (f ∷ found) are =
+      (λ p b inside fits. true_at w.form f parts p b are.0 (cover.covers p b inside fits), true_of parts cover ws found are.1)
+
+  true_in : (rules : Rules) (block : Block) (theirs : Option GridBox) → is_none theirs ≡ false → BodyPassesAt rules root block theirs → FitBlockCover FitsAt root block theirs
+      → (ws : List WatchValue) (found : List Finding) → AreFindings ws (cover_of block theirs) found → AreTrueOf FitsAt root ws found
+  true_in rules block None paved body cover ws found are = absurd cc
+  true_in rules block (Some theirs) paved body cover ws found are =
+      true_of (pieces root block.steps) cover ws found (subst (λ (box : GridBox). AreFindings ws (kept_parts (pieces box block.steps)) found) body.0 are)
+
+  epoch_true : (rules : Rules) (block : Block) → HasFewRoot block → BodyPassesAt rules root block block.root → FitBlockCover FitsAt root block block.root
+      → (ws : List WatchValue) (found : Option (Vec Finding Global)) → IsFoundIn ws block found → IsEpochTrue FitsAt root ws found
+  epoch_true rules block few body cover ws None is = tt
+  epoch_true rules block few body cover ws (Some found) is = true_in rules block block.root (sym few ∙ is.0) body cover ws found.items is.1
+
+module _ (m : Meaning) (rules : Rules) (ws : List WatchValue) where
+  epochs_true : (before : Option ℕ) (owns : List (List SatLine)) (searches : List Search) (blocks : List Block) (epochs : List EpochFindings) → length owns ≡ length searches
+      → AdmitsFrom m.delays rules before owns searches blocks → BlocksFitCover m rules.outliers searches blocks → AllByRecursion HasFewRoot blocks → AreEpochsFound ws blocks epochs
+      → AreEpochsTrue m rules.outliers ws searches epochs
+  epochs_true before owns [] [] [] each admits cover few are = tt
+  epochs_true before owns [] [] (e ∷ epochs) each admits cover few are = absurd are
+  epochs_true before owns [] (block ∷ more) epochs each admits cover few are = absurd cover
+  epochs_true before owns (s ∷ rest) [] epochs each admits cover few are = absurd cover
+  epochs_true before owns (s ∷ rest) (block ∷ more) [] each admits cover few are = absurd are
+  epochs_true before [] (s ∷ rest) (block ∷ more) (e ∷ epochs) each admits cover few are = absurd (omega (arith, each))
+  epochs_true before (own ∷ owns) (s ∷ rest) (block ∷ more) (e ∷ epochs) each admits cover few are = (
+    epoch_true (FitsEpoch m rules.outliers s.root s.epoch) s.root rules block few.0 admits.1.body cover.0 ws e.found are.0.1,
+    epochs_true (Some block.index) owns rest more epochs (omega (arith, each)) admits.2 cover.1 few.1 are.1,
+  )
+
+  pub accepted_true : (searches : List Search) (log : LogValue) (boxes : ℕ) (epochs : List EpochFindings) → IsAccepted m searches rules log boxes → AllByRecursion HasFewRoot log.blocks
+      → AreEpochsFound ws log.blocks epochs → AreEpochsTrue m rules.outliers ws searches epochs
+  accepted_true searches log boxes epochs accepted few are =
+      epochs_true None accepted.owns searches log.blocks epochs accepted.admissible.each accepted.admissible.admits.blocks accepted.cover few are
+
+-- ---- by either verdict
+
+pub accepted_as : (tracked : Bool) (chosen : Selection) (i : Inputs) (log : LogValue) (boxes : ℕ) (accepted : AcceptsAs tracked chosen i log boxes)
+    → IsAccepted (meaning_of i) (searches_as tracked chosen i log boxes accepted) i.settings.rules log boxes
+accepted_as false chosen i log boxes accepted = accepted.accepted
+accepted_as true chosen i log boxes accepted = accepted.accepted
+
+module _ (tracked : Bool) (chosen : Selection) (g : Guarded) (boxes : ℕ) (accepted : AcceptsAs tracked chosen g.checked.inputs (log_value g.checked.log) boxes) where
+  pub guarded_fold : AllByRecursion (λ (block : Block). BlockFolds block block.root) (log_value g.checked.log).blocks
+  guarded_fold =
+      let i = g.checked.inputs in
+      let log = log_value g.checked.log in
+      accepted_fold (meaning_of i) (searches_as tracked chosen i log boxes accepted) i.settings.rules log boxes (accepted_as tracked chosen i log boxes accepted)
+
+  pub found_says : (text : List ℕ) → SaysFound g text → SaysGuarded tracked chosen g text
+  found_says text (epochs, found, told) =
+      let i = g.checked.inputs in
+      let log = log_value g.checked.log in
+      let searches = searches_as tracked chosen i log boxes accepted in
+      let holds = accepted_true (meaning_of i) i.settings.rules (zones_value g.zones).watches searches log boxes epochs
+      (accepted_as tracked chosen i log boxes accepted) (all_few g.checked.log.epochs.items) found in
+      record {
+        boxes = boxes;
+        accepted = accepted;
+        epochs = epochs;
+        found = found;
+        holds = holds;
+        totals_hold = totals_true (meaning_of i) i.settings.rules.outliers (zones_value g.zones).watches searches epochs holds;
+        told = told;
+      }
+
+-- ---- a verdict that is known
+
+pub yes_of : (v : Verdict) (boxes : ℕ) (P : ℕ → Type 0) → v ≡ verdict.Yes boxes → IfYes v P → P boxes
+yes_of v boxes P is holds = subst (λ (w : Verdict). IfYes w P) is holds
+
+pub no_of : (v : Verdict) (fault : Fault) (P : Fault → Type 0) → v ≡ verdict.No fault → IfNo v P → P fault
+no_of v fault P is holds = subst (λ (w : Verdict). IfNo w P) is holds
