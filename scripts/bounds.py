@@ -22,7 +22,8 @@ A bound in metres at the elevation E is the sum of
   orbit_clock  the error of the broadcast orbit and clock
 The parts that don't depend on the elevation are printed in [bounds], the rest in [satellite]. With --zenith the
 troposphere isn't mapped here: its delay at the zenith, with the part for the mapping, is printed in [bounds] as
-`zenith`, and gpscover maps it by the elevation at each point of the search box and at each epoch's time. Each number
+`zenith`, and gpscover maps it by the elevation at each point of the search box and at each epoch's time. With --vertical,
+in single mode, so is the ionosphere's, as `vertical`. With both a satellite's own bound is what noise adds alone. Each number
 is an option, and is the engineer's own declaration: the region holds the receiver only while they hold.
 
 A satellite rises and sets, so one table for a long file declares much for each. With --every there is one for each stretch
@@ -45,7 +46,8 @@ from wgs84 import elevation
 
 EARTH_KM = 6371.0
 OPENED_M = (-1000.0, 1000.0)
-ZENITH_MM = 10_000  # the greatest amount of a bound at the zenith that the settings take
+ZENITH_MM, VERTICAL_MM = 10_000, 100_000  # the greatest amounts of delays straight up that the settings take
+SHELL_KM = 350.0  # by which gpscover maps the ionosphere
 PS_PER_S = 10**12
 DUAL_FACTOR = (77**2 + 60**2) / (77**2 - 60**2)  # the sum of the amounts of the combination's two coefficients
 
@@ -83,7 +85,7 @@ def troposphere(mapped, args):
 def varying(angle, args):
     """The (low, high) in metres of what depends on the elevation and is mapped here."""
     low, high = (0.0, 0.0) if args.zenith else troposphere(troposphere_mapping(angle), args)
-    if args.mode == "single":
+    if args.mode == "single" and not args.vertical:
         oblique = ionosphere_mapping(angle, args.shell)
         low, high = low + args.ionosphere[0] * oblique, high + args.ionosphere[1] * oblique
     noise = extra_noise(angle, args)
@@ -171,16 +173,18 @@ def common_lines(args):
     yield f"receiver = {millimetres((-receiver, receiver))}"
     yield f"# The broadcast orbit and clock: {args.orbit:g} m."
     yield f"orbit_clock = {millimetres((-args.orbit, args.orbit))}"
-    yield f"# {'What the combination leaves of the ionosphere.' if args.mode == 'dual' else 'By elevation below.'}"
+    ionosphere = "Mapped by elevation." if args.vertical else "By elevation below."
+    yield f"# {'What the combination leaves of the ionosphere.' if args.mode == 'dual' else ionosphere}"
     yield f"ionosphere = {millimetres(left)}"
-    if not args.zenith:
-        yield "# By elevation below."
-        yield "troposphere = [0, 0]"
-        return
     low, high = args.troposphere
-    yield f"# Mapped by elevation: {low:g} to {high:g} m at the zenith, {args.mapping:.0%} for the mapping."
+    yield (f"# Mapped by elevation: {low:g} to {high:g} m at the zenith, {args.mapping:.0%} for the mapping." if args.zenith
+           else "# By elevation below.")
     yield "troposphere = [0, 0]"
-    yield f"zenith = {millimetres(troposphere(1.0, args))}"
+    if args.zenith:
+        yield f"zenith = {millimetres(troposphere(1.0, args))}"
+    if args.vertical:
+        yield "# Mapped by elevation: {:g} to {:g} m at the vertical, on L1.".format(*args.ionosphere)
+        yield f"vertical = {millimetres(args.ionosphere)}"
 
 
 def reason_lines(args):
@@ -189,7 +193,7 @@ def reason_lines(args):
     if not args.zenith:
         low, high = args.troposphere
         parts.append(f"zenith troposphere {low:g} to {high:g} m, mapped, {args.mapping:.0%} for the mapping")
-    if args.mode == "single":
+    if args.mode == "single" and not args.vertical:
         low, high = args.ionosphere
         parts.append(f"zenith ionosphere {low:g} to {high:g} m on L1, by a thin shell at {args.shell:g} km")
     parts.append(f"noise that grows below {args.rise:g} degrees, to {args.horizon:g} times as much at the horizon")
@@ -272,6 +276,8 @@ def arguments():
         parser.add_argument(f"--{name}", type=float, default=default, help=f"{meaning} ({default:g})", metavar="N")
     parser.add_argument("--zenith", action="store_true",
                         help="print the troposphere's delay at the zenith, which gpscover maps by elevation itself")
+    parser.add_argument("--vertical", action="store_true",
+                        help="in single mode: print the ionosphere's delay at the vertical, which gpscover maps itself")
     parser.add_argument("--every", type=float, metavar="SECONDS", help="a table for each stretch of so many seconds")
     parser.add_argument("--settings", metavar="SETTINGS", help="with --every: the settings that get these tables")
     parser.add_argument("--files", nargs=2, metavar=("OBS", "NAV"), help="with --every: the files that are solved")
@@ -285,6 +291,10 @@ def arguments():
         parser.error("a stretch has at least 0.001 seconds")
     if args.zenith and max(map(abs, whole_millimetres(troposphere(1.0, args)))) > ZENITH_MM:
         parser.error(f"with --zenith the troposphere's delay at the zenith is within {ZENITH_MM / 1000:g} m")
+    if args.vertical and (args.mode == "dual" or args.shell != SHELL_KM):
+        parser.error(f"--vertical is for single mode and a shell at {SHELL_KM:g} km")
+    if args.vertical and max(map(abs, whole_millimetres(args.ionosphere))) > VERTICAL_MM:
+        parser.error(f"with --vertical the ionosphere's delay at the vertical is within {VERTICAL_MM / 1000:g} m")
     return args
 
 

@@ -1,14 +1,15 @@
 #!/usr/bin/env python3
 """Compares rows of `gpscover solve` with numbers that the equations allow, for drawn ephemerides.
 
-usage: drawn_orbits.py [--program PATH] [--records N] [--seed N] [--zenith]
+usage: drawn_orbits.py [--program PATH] [--records N] [--seed N] [--zenith] [--vertical] [--above DEGREES]
 
 Each file has twelve satellites, whose records are drawn from the whole range of every field, often from its ends, and a
 search box of up to 200 km on each side. For each row one choice of numbers is made as the equations of
 docs/EQUATIONS.md leave it, at a drawn point of the box, in exact fractions (`allowed` of second/sample.py). It has to
 lie in the row with W taken off at both ends, which has to be at most W wide, and a place between 19,900 and 52,300 km
-from the origin. With --zenith the settings have a drawn `bounds.zenith`, and lo and hi have to lie in the row's spans
-of them with G taken off, which have to be at most G wide. The last line tells how many rows were compared, the
+from the origin. With --zenith the settings have a drawn `bounds.zenith`, with --vertical a drawn `bounds.vertical`, and lo
+and hi have to lie in the row's spans of them with G taken off, which have to be at most G wide. With --above only
+satellites are compared that are seen from that elevation on. The last line tells how many rows were compared, the
 greatest width beside W (and G), and how far out and how eccentric their orbits were. It isn't part of the gate.
 
 Exit status: 0; 1 where a number lies outside or a span is too wide, of which a line tells, or a file isn't solved.
@@ -18,7 +19,7 @@ import random
 import subprocess
 import sys
 import tempfile
-from math import isqrt
+from math import isqrt, radians
 from pathlib import Path
 
 ROOT = Path(__file__).resolve().parent.parent
@@ -27,6 +28,7 @@ sys.path.insert(0, str(ROOT / "second"))
 import compare  # noqa: E402
 import recheck  # noqa: E402
 import sample  # noqa: E402
+from wgs84 import elevation  # noqa: E402
 
 LEAST, GREATEST = 19_900 * 10**9, 52_300 * 10**9  # um
 NAMES = ("drawn.obs", "drawn.nav", "drawn.toml")
@@ -35,22 +37,23 @@ NAMES = ("drawn.obs", "drawn.nav", "drawn.toml")
 class Drawn:
     """The rows that were compared, and what was found of them."""
 
-    def __init__(self, program, folder, seed, zenith):
-        self.program, self.folder, self.zenith = program, Path(folder), zenith
-        self.chance = random.Random(seed)
+    def __init__(self, folder, arguments):
+        self.folder, self.arguments, self.chance = Path(folder), arguments, random.Random(arguments.seed)
         self.rows = self.outside = self.unsolved = 0
         self.distances, self.eccentricities, self.widths, self.bound_widths = [], [], [], []
 
     def solve(self):
         """Draws files and solves them; the files as the second checker reads them, and the lines of the log."""
         obs, nav, settings = compare.random_files(self.chance)
-        if self.zenith:
+        if self.arguments.zenith:
             settings = compare.random_zenith(self.chance, settings)
+        if self.arguments.vertical:
+            settings = compare.random_vertical(self.chance, settings)
         for name, content in zip(NAMES, (obs, nav, settings)):
             (self.folder / name).write_bytes(content)
         paths = [str(self.folder / name) for name in NAMES]
         log = str(self.folder / "drawn.log")
-        run = subprocess.run([self.program, "solve", *paths, log], stdout=subprocess.DEVNULL, check=False)
+        run = subprocess.run([self.arguments.program, "solve", *paths, log], stdout=subprocess.DEVNULL, check=False)
         if run.returncode:
             print("status", run.returncode, "of drawn files")
             self.unsolved += 1
@@ -58,18 +61,22 @@ class Drawn:
         return recheck.Files(*paths), recheck.read_log(recheck.read_file("log", log, recheck.LOG_LIMIT))
 
     def choose(self, files, epoch, satellite, record):
-        """One choice of numbers that the equations allow at a point of the box."""
+        """One choice of numbers that the equations allow at a point of the box; None where it is seen too low."""
         draw = sample.Drawer(self.chance.choice(("low", "high", "any", "mixed")), self.chance.random())
         point = [draw.of(files.box[axis], files.box[axis + 3]) for axis in range(3)]
         codes, settings = dict(epoch.satellites)[satellite], files.settings
-        return sample.allowed(draw, record, epoch.time, codes, settings.dual, point, settings.zenith,
-                              settings.bounds_of(satellite))
+        numbers = sample.allowed(draw, record, epoch.time, codes, settings.dual, point, settings.delays,
+                                 settings.bounds_of(satellite))
+        seen = elevation([part / 10**6 for part in point], [part / 10**6 for part in numbers[:3]])
+        return numbers if seen >= radians(self.arguments.above) else None
 
     def compare(self, files, epoch, values, record):
         """Compares a row with one choice."""
-        self.rows += 1
         satellite, *row = values
         numbers = self.choose(files, epoch, satellite, record)
+        if numbers is None:
+            return
+        self.rows += 1
         for name, number, (low, high), room in zip(sample.NAMES, numbers, recheck.row_spans(row), files.rooms):
             low, high = low + room, high - room
             widths = self.bound_widths if name in ("lo", "hi") else self.widths
@@ -103,9 +110,11 @@ def main():
     parser.add_argument("--records", type=int, default=10_000)
     parser.add_argument("--seed", type=int, default=1)
     parser.add_argument("--zenith", action="store_true", help="map the troposphere by elevation")
+    parser.add_argument("--vertical", action="store_true", help="map the ionosphere by elevation")
+    parser.add_argument("--above", type=float, default=-90.0, metavar="DEGREES", help="compare satellites from there on")
     arguments = parser.parse_args()
     with tempfile.TemporaryDirectory() as folder:
-        drawn = Drawn(arguments.program, folder, arguments.seed, arguments.zenith)
+        drawn = Drawn(folder, arguments)
         while drawn.rows < arguments.records and drawn.unsolved < 10:
             drawn.run()
     if drawn.rows:

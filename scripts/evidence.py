@@ -1,15 +1,17 @@
 #!/usr/bin/env python3
 """Puts the evidence of a run together in one folder, and checks a bundle that somebody else made.
 
-usage: evidence.py make FOLDER OBS NAV SETTINGS LOG [--from N] [--to N] [--program GPSCOVER]
+usage: evidence.py make FOLDER OBS NAV SETTINGS LOG [--track] [--from N] [--to N] [--program GPSCOVER]
        evidence.py check FOLDER [--sha256 HEX] [--other-program] [--program GPSCOVER]
 
 `make` copies the four files into a new FOLDER, has both checkers test the log, GPSCOVER (the built program) and
 second/recheck.py, and writes FOLDER/evidence.txt: the sizes and checksums of the files and of both checkers, the versions,
 the options, both verdicts, and how many epochs the observations have, and of these are in the log, paved, few, empty,
 reach the search box, or are lost, which are those that the log doesn't have. --from and --to are those that the log was
-solved with. Where not both checkers say yes, of as many boxes, there is no evidence: nothing is left, and the verdicts are
-printed. The checksum of evidence.txt, which is printed last, is what is signed or sent by another way.
+solved with. --track says that it is one of `track`: it is checked as one, by `retrack` and by recheck.py --track, and where
+it ends with an epoch that keeps no box this one is named. Where not both checkers say yes, of as many boxes, there is no
+evidence: nothing is left, and the verdicts are printed. The checksum of evidence.txt, which is printed last, is what is
+signed or sent by another way.
 
 `check` makes all of this anew from the four files and tells each line of evidence.txt that is another, each file that is
 missing and each that doesn't belong there. --sha256 compares the checksum of evidence.txt too. Where the checkers or the
@@ -22,10 +24,12 @@ line.
 """
 import argparse
 import hashlib
+import re
 import shutil
 import subprocess
 import sys
 from collections import Counter
+from dataclasses import dataclass
 from pathlib import Path
 
 from coverlog import LogError, epochs, run_tool, run_way
@@ -39,6 +43,28 @@ FILES = {"obs": "receiver.obs", "nav": "receiver.nav", "settings": "settings.tom
 HEAD = "gpscover evidence 1"
 ITSELF = ("program", "second", "version")  # the lines that say who checked
 GREATEST = 200_000  # the greatest epoch number
+OPTIONS = re.compile(r"(--track )?--from ([1-9]\d{0,5}) --to ([1-9]\d{0,5})", re.ASCII)
+
+
+@dataclass
+class Options:
+    """What a log was made with: its first and its last epoch, and whether it is one of `track`."""
+
+    first: int
+    last: int
+    track: bool = False
+
+    def command(self):
+        """The program's command that checks it."""
+        return "retrack" if self.track else "check"
+
+    def track_words(self):
+        """The word, if any, by which the sheet and the second checker are told that it is one of `track`."""
+        return ["--track"] if self.track else []
+
+    def epochs(self):
+        """The words that select the epochs, for both checkers."""
+        return ["--from", str(self.first), "--to", str(self.last)]
 
 
 def checksum(path):
@@ -87,36 +113,39 @@ def file_epochs(path):
     return count
 
 
-def counts(folder):
+def counts(folder, options):
     """What the log says of the epochs of the file, in one line."""
-    marks = Counter()
+    marks, ended = Counter(), ""
     try:
         total = file_epochs(folder / FILES["obs"])
         for epoch in epochs(folder / FILES["log"]):
+            is_empty = not epoch.few and not epoch.kept
             marks["few" if epoch.few else "paved"] += 1
-            marks["empty"] += not epoch.few and not epoch.kept
-            marks["reach"] += bool(epoch.kept) and bool(touched_faces(hull_of([it.box for it in epoch.kept]), epoch.root))
+            marks["empty"] += is_empty
+            marks["reach"] += bool(epoch.kept) and bool(touched_faces(hull_of([it.box for it in epoch.kept]), epoch.search))
+            if is_empty and options.track:
+                ended = f"; the track ends with epoch {epoch.index}, which keeps no box"
     except (LogError, OSError, ValueError) as error:
         return f"can't be counted: {error}".replace(str(folder) + "/", "")
     there = marks["few"] + marks["paved"]
     return (
         f"{total} in the file, {there} in the log: {marks['paved']} paved, {marks['few']} few, {marks['empty']} empty,"
-        f" {marks['reach']} reach the search box; {total - there} lost"
+        f" {marks['reach']} reach the search box; {total - there} lost{ended}"
     )
 
 
-def made(folder, program, first, last):
+def made(folder, program, options):
     """The lines of the evidence: (name, what is found) in order."""
     files = [str(folder / name) for name in FILES.values()]
-    options = ["--from", str(first), "--to", str(last)]
+    command, chosen = options.command(), options.epochs()
     yield from ((role, f"{name} {identity(folder / name)}") for role, name in FILES.items())
     yield "program", identity(program)
     yield "second", identity(SECOND)
     yield "version", version(program)
-    yield "options", " ".join(options)
-    yield "check", verdict([str(program), "check", *files, *options])
-    yield "recheck", verdict([sys.executable, str(SECOND), *files, *options])
-    yield "epochs", counts(folder)
+    yield "options", " ".join(options.track_words() + chosen)
+    yield command, verdict([str(program), command, *files, *chosen])
+    yield "recheck", verdict([sys.executable, str(SECOND), *options.track_words(), *files, *chosen])
+    yield "epochs", counts(folder, options)
 
 
 def sheet(lines):
@@ -124,34 +153,37 @@ def sheet(lines):
     return "".join(f"{line}\n" for line in [HEAD, *(f"{name} {found}" for name, found in lines)])
 
 
+def dissent(said, command):
+    """What both checkers say where it isn't the same yes, or an empty text."""
+    if said[command].startswith("yes ") and said["recheck"] == said[command]:
+        return ""
+    return f"{command} says {said[command]}, recheck says {said['recheck']}"
+
+
 def run_make(args):
     """Makes a bundle."""
-    folder = Path(args.bundle)
+    folder, options = Path(args.bundle), Options(args.first, args.last, args.track)
     folder.mkdir()
     for path, name in zip((args.obs, args.nav, args.settings, args.log), FILES.values()):
         shutil.copyfile(path, folder / name)
-    lines = list(made(folder, args.program, args.first, args.last))
-    said = dict(lines)
-    if not said["check"].startswith("yes ") or said["recheck"] != said["check"]:
+    lines = list(made(folder, args.program, options))
+    if told := dissent(dict(lines), options.command()):
         shutil.rmtree(folder)
-        raise LogError(f"no evidence: check says {said['check']}, recheck says {said['recheck']}")
+        raise LogError(f"no evidence: {told}")
     (folder / SHEET).write_text(sheet(lines), encoding="utf-8", newline="\n")
     print(sheet(lines), end="")
     print(f"{SHEET} sha256 {checksum(folder / SHEET)}")
 
 
 def read_sheet(folder):
-    """What evidence.txt says: (name, what was found) in order, and the two options."""
+    """What evidence.txt says: (name, what was found) in order, and the options."""
     head, *lines = (folder / SHEET).read_text(encoding="utf-8", errors="replace").splitlines()
     said = [tuple(line.partition(" ")[::2]) for line in lines]
-    try:
-        begin, first, end, last = dict(said)["options"].split(" ")
-        first, last = int(first), int(last)
-        if head != HEAD or (begin, end) != ("--from", "--to") or not 1 <= first <= GREATEST or not 1 <= last <= GREATEST:
-            raise ValueError
-    except (KeyError, ValueError):
-        raise LogError(f"{folder / SHEET}: this isn't evidence of gpscover, or it was changed") from None
-    return said, first, last
+    found = OPTIONS.fullmatch(dict(said).get("options", ""))
+    if head != HEAD or not found or max(map(int, found.groups()[1:])) > GREATEST:
+        raise LogError(f"{folder / SHEET}: this isn't evidence of gpscover, or it was changed")
+    track, first, last = found.groups()
+    return said, Options(int(first), int(last), bool(track))
 
 
 def differences(said, found, is_other):
@@ -174,17 +206,17 @@ def strangers(folder):
 def run_check(args):
     """Checks a bundle."""
     folder = Path(args.bundle)
-    said, first, last = read_sheet(folder)
-    found = list(made(folder, args.program, first, last))
+    said, options = read_sheet(folder)
+    found = list(made(folder, args.program, options))
     told = [*strangers(folder), *differences(said, found, args.other_program)]
     if args.sha256 not in (None, checksum(folder / SHEET)):
         told.append(f"{SHEET} has the checksum {checksum(folder / SHEET)}")
     now = dict(found)
-    if not now["check"].startswith("yes ") or now["recheck"] != now["check"]:
-        told.append(f"the checkers don't both say yes: check says {now['check']}, recheck says {now['recheck']}")
+    if others := dissent(now, options.command()):
+        told.append(f"the checkers don't both say yes: {others}")
     if told:
         raise LogError("the bundle differs\n" + "\n".join(told))
-    print(f"the bundle is as it says: {now['check']} of both checkers; {now['epochs']}")
+    print(f"the bundle is as it says: {now['recheck']} of both checkers; {now['epochs']}")
 
 
 def epoch_number(text):
@@ -206,6 +238,7 @@ def arguments():
         way.set_defaults(work=work)
     for name in ("obs", "nav", "settings", "log"):
         make.add_argument(name, metavar=name.upper())
+    make.add_argument("--track", action="store_true", help="the log is one of `track`")
     make.add_argument("--from", dest="first", type=epoch_number, default=1, metavar="N", help="the log's first epoch (1)")
     make.add_argument("--to", dest="last", type=epoch_number, default=GREATEST, metavar="N",
                       help=f"its last one ({GREATEST})")

@@ -1,12 +1,12 @@
 #!/usr/bin/env python3
-"""Judges, checks and paves forged logs, and compares each answer with the one that docs/LOG.md gives.
+"""Judges, checks, guards and paves forged logs, and compares each answer with the one that docs/LOG.md gives.
 
 usage: forged_logs.py PROGRAM
 
 There is at least one forged log for every number of a verdict, and for every kind of refusal 40 on a log with `cut`,
 `in` and `skip` lines; one test is that none is missing. Each expected answer was found by hand from docs/LOG.md, and
-none by the program. It takes some seconds. The last line is `forged logs: N passed, M failed`, and the status 1 where
-one failed.
+none by the program; where `guard` takes a log for right, its lines are those of zone_answers.py. It takes some seconds.
+The last line is `forged logs: N passed, M failed`, and the status 1 where one failed.
 """
 import collections
 import os
@@ -15,6 +15,9 @@ import subprocess
 import sys
 import tempfile
 from pathlib import Path
+
+import zone_answers
+from coverlog import epochs
 
 TOP = Path(__file__).resolve().parent.parent
 # Four satellites, and a box of some two metres that is closed at the edge.
@@ -360,11 +363,12 @@ def cut_logs():
 
 
 def refusals():
-    """The refused logs, which `check` refuses as `judge` does."""
+    """The refused logs, which `check` and `guard` refuse as `judge` does."""
     for name, data, answer in [*refused_logs(), *cut_logs()]:
         yield name, "judge", data, answer
         if answer.startswith("log"):
             yield name, "check", data, answer
+            yield name, "guard", data, answer
 
 
 # ---- rows
@@ -577,6 +581,16 @@ def checked_rules(files):
 
 # ---- running them
 
+# A box round the search box of FILES, half of space, and up.
+ZONES = """\
+gpszones 2
+zone all -3870000000000 3436000000000 3717000000000 -3869000000000 3437000000000 3718000000000
+prism half 1
+side 1 0 0 -3869309827800
+reach up -635294 564290 614402
+"""
+
+
 class Runner:
     """Runs the program over files in a folder of its own."""
 
@@ -587,6 +601,7 @@ class Runner:
         self.write("nav", files.nav)
         self.write("obs", files.obs)
         self.write("settings", files.settings)
+        self.write("zones", ZONES)
 
     def write(self, name, lines):
         (self.folder / name).write_text(lines, newline="\n")
@@ -594,7 +609,10 @@ class Runner:
     def said(self, command, data):
         """The status, standard output and standard error of a command over a log or rows of these bytes."""
         (self.folder / "log").write_bytes(data)
-        words = {"judge": ["log"], "check": ["obs", "nav", "settings", "log"], "pave": ["log", "new.log"]}[command]
+        words = {
+            "judge": ["log"], "check": ["obs", "nav", "settings", "log"], "pave": ["log", "new.log"],
+            "guard": ["obs", "nav", "settings", "zones", "log"],
+        }[command]
         run = [self.program, command, *words]
         ran = subprocess.run(run, cwd=self.folder, stdin=subprocess.DEVNULL, capture_output=True, timeout=120)
         return ran.returncode, ran.stdout.decode(), ran.stderr.decode()
@@ -605,10 +623,16 @@ class Runner:
         answer, within = it.answer if isinstance(it.answer, tuple) else (it.answer, None)
         if within and out.startswith(answer):
             out = out if not holds_own(out, within) else answer + "\n"
-        wanted = {"y": (0, answer + "\n", ""), "n": (1, answer + "\n", "")}.get(answer[0], (3, "", answer + "\n"))
+        yes = self.found() if it.command == "guard" and answer[0] == "y" else answer + "\n"
+        wanted = {"y": (0, yes, ""), "n": (1, answer + "\n", "")}.get(answer[0], (3, "", answer + "\n"))
         right = (status, out, err) == wanted and not (self.folder / "new.log").exists()
         self.count(right, f"{it.command}, {it.name}: {said}, and {answer!r} is wanted")
         self.answers.add(re.sub(r"^(no \d+|log 40|rows 40)(.*?)( kind \d)?$", r"\1\3", answer))
+
+    def found(self):
+        """What the boxes of the log say of the zones."""
+        boxes = ((e.index, None if e.few else [kept.box for kept in e.kept]) for e in epochs(self.folder / "log"))
+        return "".join(line + "\n" for line in zone_answers.lines(*zone_answers.read_zones(self.folder / "zones"), boxes))
 
     def count(self, right, otherwise):
         """Counts a test, and says what is wrong where it fails."""
@@ -632,10 +656,12 @@ def main(program):
             for row in table:
                 runner.expect(Forged(*row))
         for name, lines, answer in checked_logs(files):
-            runner.expect(Forged(name, "check", text(lines), answer))
+            for command in "check", "guard":
+                runner.expect(Forged(name, command, text(lines), answer))
         for settings, lines, answer in checked_rules(files):
             runner.write("settings", settings)
-            runner.expect(Forged("other rules", "check", text(lines), answer))
+            for command in "check", "guard":
+                runner.expect(Forged("other rules", command, text(lines), answer))
     missing = WANTED - runner.answers
     runner.count(not missing, f"never wanted: {sorted(missing)}")
     print(f"forged logs: {runner.passed} passed, {runner.failed} failed")

@@ -4,6 +4,7 @@
 usage: picture.py region LOG OUT [--epoch N] [--place X Y Z] [--places FILE] [--note TEXT]
        picture.py time LOG OUT [--places FILE] [--moving] [--note TEXT]
        picture.py track LOG OUT [--places FILE] [--beside LOG] [--note TEXT]
+       picture.py zones LOG OUT --zones ZONES.. [--zone NAME].. [--places FILE] [--note TEXT]
        picture.py integrity LOG OUT --places FILE [--limit H V] [--note TEXT]
 
 `region` draws one epoch (1) from above, east and north, and from the side, east and up, at one scale: the kept boxes as
@@ -18,6 +19,10 @@ region reaches the search box, and those without a region, have colours of their
 `track` draws the regions of a log of `track` from above, at most 60 of them, the known places as a line, the search box of an
 epoch in which the receiver was lost, and how far each region reaches along east, north and up. --beside has another log of the
 same epochs, whose regions' lengths are drawn beside these. The origin is the middle of the first region.
+
+`zones` draws a panel for each zone of some files of zones, at most 6 of them, or for those that --zone names: its outline from
+above and at most 60 of the regions in the colours of what their boxes say of it (zone_answers.py), with how many epochs say
+what. A prism is drawn as the hull of its corners, and not at all where it has none.
 
 `integrity` draws an epoch as a point, as the Stanford diagram does, along the ground and up: how far the region's middle
 is from the known place, and how far its farthest corner is from its middle, which is the protection. Below the diagonal
@@ -34,9 +39,11 @@ import argparse
 import math
 import sys
 
+import zone_answers
+import zones
 from coverlog import PS_PER_MS, UM_PER_M, LogError, calendar, epochs, run_tool, run_way
 from integrity import Judge, Limits, alert_limit
-from outline import outline
+from outline import convex_hull, outline
 from places import Meetings, read_places
 from region import hull_of, region_of, touched_faces, upward
 from wgs84 import geodetic, local_axes
@@ -46,7 +53,9 @@ CUT_COLOUR, EMPTY_COLOUR, LIMIT_COLOUR, EDGE_LINE_COLOUR = "#b36bd4", "#d9d9d9",
 MANY_BOXES = 500  # in an SVG more than these are drawn as dots, so that the file stays small
 DIRECTIONS = (("east", "north"), ("east", "up"))
 LONGEST_IN = 6.5  # the longest side of what is drawn, in inches
-MOST_OUTLINES = 60  # of a track
+MOST_OUTLINES = 60  # of a track, or beside a zone
+MOST_PANELS, PANELS_ABREAST = 6, 3  # of zones
+ANSWER_COLOURS = {"outside": BAND_COLOUR, "inside": INNER_COLOUR, "open": EDGE_COLOUR}
 
 
 def tools():
@@ -293,6 +302,12 @@ def run_time(args):
     draw_course(course, args.out, args.note)
 
 
+def some_of(outlines):
+    """At most MOST_OUTLINES of some outlines, equally spaced, the last one among them."""
+    every = max(1, -(-len(outlines) // MOST_OUTLINES))
+    return outlines[::-1][::every][::-1]
+
+
 class Tube:
     """The regions of a track: their outlines from above in m from an origin, their lengths, and where it was lost."""
 
@@ -323,9 +338,8 @@ class Tube:
             self.lost = epoch.index, self.ring([epoch.root])
 
     def drawn(self):
-        """At most MOST_OUTLINES of the outlines, equally spaced, the last one among them."""
-        every = -(-len(self.rings) // MOST_OUTLINES)
-        return self.rings[::-1][::every][::-1]
+        """At most MOST_OUTLINES of the outlines."""
+        return some_of(self.rings)
 
     def title(self):
         """How many epochs there are, and where it ends."""
@@ -391,6 +405,109 @@ def run_track(args):
     tube = tube_of(args.log, Meetings(args.places, read_places(args.places) if args.places else []))
     beside = tube_of(args.beside, Meetings(None, [])) if args.beside else None
     draw_track(tube, beside, args.out, args.note)
+
+
+class Fenced:
+    """The regions of a log from above in m from the middle of the first one, and what each says of some zones."""
+
+    def __init__(self, fences, meetings):
+        self.fences, self.meetings = fences, meetings
+        self.origin = self.axes = None
+        self.rings, self.answers, self.known = [], [], []  # an outline or None and the answers of each paved epoch; the places
+        self.few = 0
+
+    def add(self, epoch):
+        """Adds an epoch: one of few satellites says nothing, and of one without boxes there is no outline."""
+        place = self.meetings.at(epoch.time)
+        if epoch.few:
+            self.few += 1
+            return
+        boxes = [kept.box for kept in epoch.kept]
+        if boxes and self.origin is None:
+            self.origin = region_of(epoch).middle()
+            self.axes = local_axes(*geodetic(self.origin)[:2])
+        self.answers.append([fence.answer(boxes) for fence in self.fences])
+        self.rings.append(outline(boxes, self.origin, *self.axes[:2]) if boxes else None)
+        if place is not None and self.origin is not None:
+            self.known.append(offset(self.origin, self.axes, place)[:2])
+
+    def ring_of(self, fence):
+        """The outline of a zone."""
+        if isinstance(fence, zone_answers.Box):
+            return outline([(*fence.lo, *fence.hi)], self.origin, *self.axes[:2])
+        points = [[part / divisor / UM_PER_M for part in point] for *point, divisor in zones.corners(fence.sides)]
+        return convex_hull([tuple(offset(self.origin, self.axes, point)[:2]) for point in points])
+
+    def title(self, number):
+        """How many epochs say what of a zone."""
+        said = [answers[number] for answers in self.answers]
+        counts = ", ".join(f"{answer} {said.count(answer)}" for answer in ANSWER_COLOURS)
+        return f"{self.fences[number].name}: {counts}, few {self.few}"
+
+
+def draw_fence(axes, fenced, number):
+    """Draws a zone and the regions in the colours of what they say of it."""
+    of_each = [(ring, answers[number]) for ring, answers in zip(fenced.rings, fenced.answers) if ring is not None]
+    for ring, answer in some_of(of_each):
+        axes.fill(*zip(*ring), facecolor=ANSWER_COLOURS[answer], edgecolor=LIMIT_COLOUR, linewidth=0.4, alpha=0.6)
+    ring = fenced.ring_of(fenced.fences[number])
+    if ring:
+        axes.fill(*zip(*ring), facecolor="none", edgecolor=PLACE_COLOUR, linewidth=1.4, linestyle="--")
+    if fenced.known:
+        axes.plot(*zip(*fenced.known), color=EDGE_LINE_COLOUR, linewidth=1)
+    axes.set_aspect("equal", adjustable="datalim")
+    axes.grid(alpha=0.3)
+    axes.set_title(fenced.title(number), fontsize=9)
+
+
+def draw_fences(fenced, out, note):
+    """Draws a panel for each zone."""
+    pyplot, _ = tools()
+    from matplotlib import lines, patches
+
+    count = len(fenced.fences)
+    abreast = min(count, PANELS_ABREAST)
+    rows = -(-count // abreast)
+    figure, panels = pyplot.subplots(rows, abreast, figsize=(1 + 4.2 * abreast, 0.8 + 5 * rows), squeeze=False)
+    for number, axes in enumerate(panels.flat):
+        if number < count:
+            draw_fence(axes, fenced, number)
+        else:
+            axes.set_axis_off()
+    figure.supxlabel("east of the first region's middle, m", fontsize=9, y=0.05)
+    figure.supylabel("north, m", fontsize=9)
+    figure.suptitle(f"{len(fenced.answers) + fenced.few} epochs" + (f"; {note}" if note else ""), fontsize=11)
+    handles = [patches.Patch(color=colour, alpha=0.6, label=f"region: {answer}") for answer, colour in ANSWER_COLOURS.items()]
+    handles.append(lines.Line2D([], [], color=PLACE_COLOUR, linestyle="--", label="the zone"))
+    if fenced.known:
+        handles.append(lines.Line2D([], [], color=EDGE_LINE_COLOUR, label="known places"))
+    figure.legend(handles=handles, loc="lower center", ncol=len(handles), fontsize=9, frameon=False)
+    figure.tight_layout(rect=(0.01, 0.06, 1, 1))
+    save(figure, out)
+
+
+def fences_of(paths, names):
+    """The zones of some files, or those with these names."""
+    things = [thing for path in paths for thing in zone_answers.read_zones(path)[1]]
+    found = [thing for thing in things if not isinstance(thing, zone_answers.Reach)]
+    unknown = set(names) - {fence.name for fence in found}
+    if unknown or not found:
+        raise LogError(f"no zone {' '.join(sorted(unknown))} in {' '.join(map(str, paths))}")
+    found = [fence for fence in found if not names or fence.name in names]
+    if len(found) > MOST_PANELS:
+        raise LogError(f"{len(found)} zones: name at most {MOST_PANELS} of them with --zone")
+    return found
+
+
+def run_zones(args):
+    """Draws zones."""
+    fenced = Fenced(fences_of(args.zones, args.zone), Meetings(args.places, read_places(args.places) if args.places else []))
+    for epoch in epochs(args.log):
+        fenced.add(epoch)
+    fenced.meetings.refuse_strangers()
+    if fenced.origin is None:
+        raise LogError(f"{args.log} has no region to draw")
+    draw_fences(fenced, args.out, args.note)
 
 
 POINTS = (  # what a point of the diagram is, and its colour; the first that it is
@@ -479,8 +596,10 @@ def arguments():
     region = ways.add_parser("region", help="one epoch, from above and from the side")
     time = ways.add_parser("time", help="the extents over time")
     track = ways.add_parser("track", help="the regions of a log of track along the way")
+    fenced = ways.add_parser("zones", help="the regions beside zones")
     integrity = ways.add_parser("integrity", help="the error against the protection at known places")
-    for way, work in ((region, run_region), (time, run_time), (track, run_track), (integrity, run_integrity)):
+    works = ((region, run_region), (time, run_time), (track, run_track), (fenced, run_zones), (integrity, run_integrity))
+    for way, work in works:
         way.add_argument("log", metavar="LOG")
         way.add_argument("out", metavar="OUT", type=ends_well)
         way.add_argument("--places", metavar="FILE", required=way is integrity, help="a list of known places")
@@ -490,6 +609,8 @@ def arguments():
     region.add_argument("--place", type=float, nargs=3, metavar=("X", "Y", "Z"), help="a known place, m")
     time.add_argument("--moving", action="store_true", help="round the place of each epoch")
     track.add_argument("--beside", metavar="LOG", help="another log, whose regions' lengths are drawn too")
+    fenced.add_argument("--zones", metavar="ZONES", nargs="+", required=True, help="files of zones")
+    fenced.add_argument("--zone", metavar="NAME", action="append", default=[], help="a zone that is drawn (all)")
     integrity.add_argument("--limit", type=alert_limit, nargs=2, metavar=("H", "V"),
                            help="alert limits along the ground and up, m")
     return parser.parse_args()

@@ -35,10 +35,26 @@ REPORT = (EXAMPLES / "recorded-epoch.report").read_bytes()
 USAGE = (
     b"usage: gpscover judge LOG, pave ROWS LOG, "
     b"solve or check OBS NAV SETTINGS LOG, make SEED EPOCHS, "
-    b"track or retrack OBS NAV SETTINGS LOG\n"
+    b"track or retrack OBS NAV SETTINGS LOG, "
+    b"guard OBS NAV SETTINGS ZONES LOG\n"
 )
 FILES = ("receiver.obs", "receiver.nav", "settings.toml")
 ROWS = "recorded-epoch.rows"
+VERDICTS = (["judge", "receiver.log"], ["check", *FILES, "receiver.log"])
+
+# The search box of the four epochs of SOLVED, each of which keeps boxes, and as a prism its half-space up to the box's high x.
+ROOT = b"-3869509827800 3436365477600 3717165893700 -3869109827800 3436765477600 3717565893700"
+ZONES = b"""gpszones 2
+zone far 0 0 0 1 1 1
+zone all %s
+prism low 1
+side 1 0 0 -3869109827800
+""" % ROOT
+FOUND = b"epoch %d zone far outside\nepoch %d zone all inside\nepoch %d zone low inside\n"
+TOTALS = b"""zone far outside %d inside 0 open 0 few 0
+zone all outside 0 inside %d open 0 few 0
+zone low outside 0 inside %d open 0 few 0
+"""
 
 MIB = 1 << 20
 # The most bytes of each kind of file.
@@ -111,6 +127,7 @@ class RealFiles(unittest.TestCase):
             shutil.copy(DATA / name, self.folder)
         shutil.copy(EXAMPLES / ROWS, self.folder)
         self.write("receiver.log", SOLVED)
+        self.write("a.zones", ZONES)
 
     def write(self, name, data):
         (self.folder / name).write_bytes(data)
@@ -241,6 +258,71 @@ class RealFiles(unittest.TestCase):
         for words in ["judge", "receiver.log"], ["check", *FILES, "receiver.log"]:
             self.expect(words, 1, b"no 64 CountDiffers line %d\n" % (at + 1))
 
+    def test_zones(self):
+        self.assertEqual(SOLVED.count(b"\nroot %s\n" % ROOT), 4)
+        words = ["guard", *FILES, "a.zones", "receiver.log"]
+        self.expect(words, 0, found_in(1, 2, 3, 4))
+        self.expect(["guard", "--to", "4", *FILES, "--from=1", "a.zones", "receiver.log"], 0, found_in(1, 2, 3, 4))
+        # Without totals, and without lines.
+        self.write("a.zones", b"gpszones 1\n" + ZONES.split(b"\n")[1] + b"\n")
+        self.expect(words, 0, b"".join(b"epoch %d zone far outside\n" % index for index in range(1, 5)))
+        self.write("a.zones", b"gpszones 1\n")
+        self.expect(words, 0)
+        # Of a part, and of a log of which one part alone is asked.
+        self.write("a.zones", ZONES)
+        part = ["--from", "2", "--to", "3"]
+        self.assertEqual(self.run_words("solve", *FILES, "part.log", *part).returncode, 0)
+        self.expect(["guard", *FILES, "a.zones", "part.log", *part], 0, found_in(2, 3))
+        self.expect([*words, *part], 1, b"no 51 EpochDiffers line 3\n")
+
+    def test_zones_of_a_log_that_is_not_accepted(self):
+        lines = SOLVED.splitlines(keepends=True)
+        at = next(k for k, line in enumerate(lines) if line.startswith(b"done "))
+        lines[at] = b"done %d\n" % (int(lines[at].split()[1]) + 1)
+        self.write("receiver.log", b"".join(lines))
+        words = ["guard", *FILES, "a.zones", "receiver.log"]
+        self.expect(words, 1, b"no 64 CountDiffers line %d\n" % (at + 1))
+        self.write("receiver.log", SOLVED[:-1])
+        self.expect_nothing_done(words, 3, b"log 40 BadLog line %d kind 4\n" % SOLVED.count(b"\n"))
+
+    def test_zones_of_a_track(self):
+        words = ["guard", *FILES, "a.zones", "receiver.log"]
+        self.expect_nothing_done([*words, "--track"], 3, b"settings 31 Missing motion.speed\n")
+        # With pairs and more splits the region of an epoch is far from the faces of the search box.
+        settings = self.read("settings.toml").replace(b"bisections = 12\n", b"bisections = 40\npairs = true\n", 1)
+        self.write("settings.toml", settings.replace(b"[bounds]\n", b"[motion]\nspeed = 3000\n[bounds]\n", 1))
+        self.assertEqual(self.run_words("solve", *FILES, "receiver.log").returncode, 0)
+        self.expect(words, 0, found_in(1, 2, 3, 4))
+        lines = self.read("receiver.log").splitlines()
+        second = [number for number, line in enumerate(lines, 1) if line.startswith(b"root ")][1]
+        self.expect([*words, "--track"], 1, b"no 55 RootDiffers line %d\n" % second)
+        self.assertEqual(self.run_words("track", *FILES, "receiver.log").returncode, 0)
+        self.expect([*words, "--track"], 0, found_in(1, 2, 3, 4))
+        denied = self.run_words("check", *FILES, "receiver.log")
+        self.assertEqual(denied.returncode, 1)
+        self.expect(words, 1, denied.stdout)
+
+    def test_refused_zones(self):
+        words = ["guard", *FILES, "a.zones", "receiver.log"]
+        zone = b"zone a 0 0 0 1 1 1\n"
+        for text, line in (
+            (b"", 1), (b"gpszones 2", 1), (b"gpszones 3\n", 1), (b"gpszones 1\r\n", 1), (b"gpszones 1\nreach a 1 0 0\n", 2),
+            (b"gpszones 2\n\n", 2), (b"gpszones 2\n" + zone[:-1], 2), (b"gpszones 2\nzone a 0 0 0 1 1\n", 2),
+            (b"gpszones 2\nzone a 0 0 0 1 -1 1\n", 2), (b"gpszones 2\nzone a 0 0 0 1 1 10000000000001\n", 2),
+            (b"gpszones 2\nzone A 0 0 0 1 1 1\n", 2), (b"gpszones 2\nzone abcdefghijklmnopq 0 0 0 1 1 1\n", 2),
+            (b"gpszones 1\n" + zone * 2, 3), (b"gpszones 2\n" + zone + b"reach a 1 0 0\n", 3),
+            (b"gpszones 2\nprism a 0\n", 2), (b"gpszones 2\nprism a 17\n", 2), (b"gpszones 2\nside 1 0 0 5\n", 2),
+            (b"gpszones 2\nprism b 1\n" + zone, 3), (b"gpszones 2\nprism a 2\nside 1 0 0 5\n", 4),
+            (b"gpszones 2\nprism a 1\nside 0 0 0 5\n", 3), (b"gpszones 2\nprism a 1\nside 1 0 0 -0\n", 3),
+            (b"gpszones 2\nprism a 1\nside 1048577 0 0 5\n", 3), (b"gpszones 2\nreach a 0 0 -1048577\n", 2),
+            (b"gpszones 2\nprism a 1\nside 1 0 0 100000000000000000001\n", 3), (b"gpszones 2\nreach a 1 0 0 5\n", 2),
+        ):
+            self.write("a.zones", text)
+            self.expect_nothing_done(words, 3, b"zones 42 BadZones line %d\n" % line)
+        # The files are read in their order.
+        self.expect_nothing_done([*words[:4], "a.zones", "settings.toml"], 3, b"zones 42 BadZones line 2\n")
+        self.expect_nothing_done(["guard", "settings.toml", *words[2:]], 3, b"obs 10 NotRinex line 1\n")
+
     def test_a_day_is_solved_in_parts(self):
         for name, data in DAY.items():
             self.write(name, data)
@@ -321,7 +403,11 @@ class RealFiles(unittest.TestCase):
     # ---- 2
 
     def test_words_that_are_no_command(self):
-        for words in [], ["solve"], ["judge", b"\xff.log"], ["solve", *FILES, b"re\xffceiver.log"]:
+        guard = ["guard", *FILES, "a.zones", "receiver.log"]
+        for words in (
+            [], ["solve"], ["judge", b"\xff.log"], ["solve", *FILES, b"re\xffceiver.log"], guard[:-1], [*guard, "a.log"],
+            [*guard, "--track", "--track"], [*guard, "--track=1"], ["check", *FILES, "receiver.log", "--track"],
+        ):
             self.expect_nothing_done(words, 2, USAGE)
 
     # ---- 3
@@ -353,6 +439,7 @@ class RealFiles(unittest.TestCase):
             (["solve", obs, "large", settings, "new.log"], INPUT, b"nav", long_line),
             (["solve", "large", nav, settings, "new.log"], INPUT, b"obs", long_line),
             (["pave", "large", "new.log"], INPUT, b"rows", bad_log),
+            (["guard", *FILES, "large", "receiver.log"], SETTINGS, b"zones", b"%s 42 BadZones line 1\n"),
             (["judge", "large"], LOG, b"log", bad_log),
         ):
             self.sparse("large", limit + 1)
@@ -436,7 +523,7 @@ class RealFiles(unittest.TestCase):
 
     def test_standard_output_that_cannot_be_written(self):
         with open("/dev/full", "wb") as full:
-            for words in ["judge", "receiver.log"], ["check", *FILES, "receiver.log"]:
+            for words in (*VERDICTS, ["guard", *FILES, "a.zones", "receiver.log"]):
                 self.expect(words, 5, b"", b"out fault\n", stdout=full)
             for words, log in (["solve", *FILES], SOLVED), (["pave", ROWS], PAVED):
                 self.expect([*words, "new.log"], 5, b"", b"out fault\n", stdout=full)
@@ -444,7 +531,7 @@ class RealFiles(unittest.TestCase):
                 self.expect_start("new.log", log)
 
     def test_a_reader_that_has_gone(self):
-        for words in ["judge", "receiver.log"], ["check", *FILES, "receiver.log"]:
+        for words in (*VERDICTS, ["guard", *FILES, "a.zones", "receiver.log"]):
             self.expect(words, 5, b"", b"out fault\n", stdout=self.unread_pipe())
         for words, log in (["solve", *FILES], SOLVED), (["pave", ROWS], PAVED):
             self.expect([*words, "new.log"], 5, b"", b"out fault\n", stdout=self.unread_pipe())
@@ -550,6 +637,12 @@ class RealFiles(unittest.TestCase):
         self.expect(["check", *sky], 0, b"yes %d\n" % closings(log)(b"in", b"edge"))
 
 
+def found_in(*epochs):
+    """What `guard` says of ZONES in these epochs of SOLVED."""
+    count = len(epochs)
+    return b"".join(FOUND % (index, index, index) for index in epochs) + TOTALS % (count, count, count)
+
+
 def close_output():
     """Takes standard output away from a program that is about to begin."""
     os.close(1)
@@ -585,6 +678,8 @@ def readings(name, log):
         (["judge", name], b"log"),
         (["check", *FILES, name], b"log"),
         (["pave", name, log], b"rows"),
+        (["guard", *FILES, name, log], b"zones"),
+        (["guard", *FILES, "a.zones", name], b"log"),
         (["solve", *FILES[:2], name, log], b"settings"),
         (["solve", FILES[0], name, FILES[2], log], b"nav"),
         (["solve", name, *FILES[1:], log], b"obs"),

@@ -25,6 +25,8 @@ EXAMPLES, DATA = HERE.parent / "examples", HERE.parent / "crates/gpscover/data"
 NO_MEMORY = (6, b"no memory\n")
 # What stands in LOG before the runs in which all allocations from one on are refused.
 OLDER = b"what stood there before\n"
+# One of each kind.
+ZONES = "gpszones 2\nzone a 0 0 0 1 1 1\nprism b 1\nside 1 0 0 0\nreach c 0 0 1\n"
 NEVER, EVER = 0, (1 << 64) - 1
 
 HEAD = """\
@@ -144,6 +146,7 @@ def sample_runs(place):
     (place / "one-edge-box.rows").write_text("".join(lines[:-2]), newline="\n")
     for name in "settings.toml", "receiver.log":
         shutil.copy(DATA / name, place / f"data-{name}")
+    (place / "some.zones").write_text(ZONES, newline="\n")
     small = [*files[:2], "data-settings.toml"]
     for log in "one-edge-box.log", "recorded-epoch.log", "data-receiver.log":
         yield f"judge {log}", ["judge", log]
@@ -151,7 +154,9 @@ def sample_runs(place):
         yield f"pave {rows} LOG", ["pave", rows, "new.log"]
     for name, three in ("data", small), ("examples", files):
         yield f"solve the files of {name}, LOG", ["solve", *three, "new.log"]
-        yield "check LOG of these", ["check", *three, solved(place, name)]
+        log = solved(place, name)
+        yield "check LOG of these", ["check", *three, log]
+        yield "guard ZONES and LOG of these", ["guard", *three, "some.zones", log]
     long = "./" * 600
     yield "pave ROWS LOG by long names", ["pave", long + "one-edge-box.rows", long + "new.log"]
     yield "judge a missing file", ["judge", long + "missing"]

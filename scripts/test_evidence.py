@@ -2,8 +2,8 @@
 """Tests of evidence.py: python3 scripts/test_evidence.py GPSCOVER, the built program. The last line is
 `evidence: N passed, M failed`. Exit status: 0, or 1 where one failed.
 
-A bundle is made of one epoch of the example with eight splits. Then it is checked in another folder, and each of fifteen
-changes of it has to be told by the line that it concerns.
+A bundle is made of one epoch of the example with eight splits, and one of a track of two. Then it is checked in another
+folder, and each of fifteen changes of the one and three of the other has to be told by the line that it concerns.
 """
 import os
 import re
@@ -59,18 +59,37 @@ CHANGES = (
 )
 
 
-class Bundles(unittest.TestCase):
+def receiver_in(room, more="", change=lambda text: text):
+    """The example's files in a folder, and the name of a log: eight splits, more of the settings, other observations."""
+    files = [room / name for name in ("my.obs", "my.nav", "my.toml", "my.log")]
+    obs, nav, settings = ((EXAMPLES / name).read_text(encoding="utf-8") for name in (
+        "receiver.obs", "receiver.nav", "settings.toml"))
+    settings = re.sub(r"(?m)^bisections = .*", "bisections = 8", settings) + more
+    for path, text in zip(files, (change(obs), nav, settings)):
+        path.write_text(text, encoding="utf-8", newline="\n")
+    return files
+
+
+def bundle_of(room, files, last, track=False):
+    """A bundle of the epochs up to a last one, the status of making it, and what it says by the names of its lines."""
+    command, more = ("track", ["--track"]) if track else ("solve", [])
+    options = ["--to", str(last)]
+    subprocess.run([PROGRAM, command, *files, *options], stdout=subprocess.DEVNULL, check=True)
+    status, said, _ = ended_with(evidence, "make", room / "bundle", *files, *more, *options, "--program", PROGRAM)
+    return room / "bundle", status, dict(line.split(" ", 1) for line in said.splitlines())
+
+
+def boxes_in(log):
+    """How many lines of a log keep a box."""
+    return sum(line.startswith(("in ", "edge ")) for line in log.read_text(encoding="ascii").splitlines())
+
+
+class Room(unittest.TestCase):
+    """A folder for the files of a receiver and its bundles."""
+
     @classmethod
     def setUpClass(cls):
         cls.room = Path(tempfile.mkdtemp())
-        cls.files = [cls.room / name for name in ("my.obs", "my.nav", "my.toml", "my.log")]
-        for path, name in zip(cls.files, ("receiver.obs", "receiver.nav", "settings.toml")):
-            shutil.copyfile(EXAMPLES / name, path)
-        text = re.sub(r"(?m)^bisections = .*", "bisections = 8", cls.files[2].read_text(encoding="utf-8"))
-        cls.files[2].write_text(text, encoding="utf-8")
-        subprocess.run([PROGRAM, "solve", *cls.files, "--to", "1"], stdout=subprocess.DEVNULL, check=True)
-        cls.bundle = cls.room / "bundle"
-        cls.status, cls.said, _ = ended_with(evidence, "make", cls.bundle, *cls.files, "--to", 1, "--program", PROGRAM)
 
     @classmethod
     def tearDownClass(cls):
@@ -90,11 +109,28 @@ class Bundles(unittest.TestCase):
         shutil.copytree(self.bundle, folder)
         return folder
 
+    def expect_told(self, changes):
+        """Each change of a copy is told by a line that begins with the pattern beside it."""
+        for name, change, told in changes:
+            with self.subTest(change=name):
+                folder = self.copy()
+                change(folder)
+                status, said = self.check(folder)
+                self.assertEqual(status, 1)
+                self.assertRegex(said, f"\n{told}")
+
+
+class Bundles(Room):
+    @classmethod
+    def setUpClass(cls):
+        super().setUpClass()
+        cls.files = receiver_in(cls.room)
+        cls.bundle, cls.status, cls.lines = bundle_of(cls.room, cls.files, 1)
+
     def test_it_says_what_was_counted_by_hand(self):
         self.assertEqual(self.status, 0)
-        lines = dict(line.split(" ", 1) for line in self.said.splitlines())
-        boxes = sum(line.startswith(("in ", "edge ")) for line in self.files[3].read_text(encoding="ascii").splitlines())
-        self.assertEqual((lines["check"], lines["recheck"]), (f"yes {boxes}",) * 2)
+        lines = self.lines
+        self.assertEqual((lines["check"], lines["recheck"]), (f"yes {boxes_in(self.files[3])}",) * 2)
         self.assertRegex(lines["epochs"], "^4 in the file, 1 in the log: 1 paved, 0 few, 0 empty, [01] reach .*; 3 lost$")
         self.assertEqual(lines["options"], "--from 1 --to 1")
         size = os.path.getsize(self.files[0])
@@ -107,19 +143,13 @@ class Bundles(unittest.TestCase):
         self.assertIn("the bundle is as it says: yes ", said)
 
     def test_each_change_is_told(self):
-        for name, change, told in CHANGES:
-            with self.subTest(change=name):
-                folder = self.copy()
-                change(folder)
-                status, said = self.check(folder)
-                self.assertEqual(status, 1)
-                self.assertIn(f"\n{told}", said)
+        self.expect_told((name, change, re.escape(told)) for name, change, told in CHANGES)
 
     def test_a_bundle_that_is_consistent_but_another_is_told_by_its_checksum(self):
         folder = self.copy()
         with open(folder / "settings.toml", "a", encoding="utf-8") as file:
             file.write("# another\n")
-        lines = list(evidence.made(folder, PROGRAM, 1, 1))
+        lines = list(evidence.made(folder, PROGRAM, evidence.Options(1, 1)))
         (folder / "evidence.txt").write_text(evidence.sheet(lines), encoding="utf-8", newline="\n")
         self.assertEqual(self.check(folder)[0], 0)
         status, said = self.check(folder, "--sha256", evidence.checksum(self.bundle / "evidence.txt"))
@@ -152,6 +182,60 @@ class Bundles(unittest.TestCase):
         path.write_text("> 2008 05 26 05 59 29.9990000  0  1\nG01\n> " + " " * 29 + "4  2\n> comment\n> comment\n"
                         "> 2008 05 26 05 59 30.9990000  1  0\n", encoding="ascii")
         self.assertEqual(evidence.file_epochs(path), 2)
+
+
+MOTION = "\n[motion]\nspeed = 3000\n"
+TRACK_CHANGES = (
+    ("the speed", edited("settings.toml", "(?m)^speed = 3000$", "speed = 3001"),
+     r"retrack: the bundle says yes \d+; here it is no 55 RootDiffers line \d+"),
+    ("the search box of the second epoch", edited("receiver.log", r"(?s)(.*\nroot -\d+)\d ", r"\g<1> "), "log: "),
+    ("that it is a track", edited("evidence.txt", "options --track ", "options "), "the lines of evidence.txt aren't those"),
+)
+# In the second epoch two satellites are 500 m farther away than before, where one may be wrong.
+MOVED = (("G05  20138745.810", "G05  20139245.810"), ("G12  20502283.015", "G12  20502783.015"))
+
+
+def moved(text):
+    """The observations with the codes of MOVED."""
+    for old, new in MOVED:
+        text = text.replace(old, new)
+    return text
+
+
+class Tracks(Room):
+    @classmethod
+    def setUpClass(cls):
+        super().setUpClass()
+        cls.files = receiver_in(cls.room, MOTION)
+        cls.bundle, cls.status, cls.lines = bundle_of(cls.room, cls.files, 2, track=True)
+
+    def test_both_checkers_check_it_as_a_track(self):
+        self.assertEqual(self.status, 0)
+        lines = self.lines
+        self.assertEqual((lines["retrack"], lines["recheck"]), (f"yes {boxes_in(self.files[3])}",) * 2)
+        self.assertNotIn("check", lines)
+        self.assertEqual(lines["options"], "--track --from 1 --to 2")
+        self.assertEqual(
+            lines["epochs"], "4 in the file, 2 in the log: 2 paved, 0 few, 0 empty, 0 reach the search box; 2 lost")
+        self.assertEqual(self.check(self.copy(), "--sha256", evidence.checksum(self.bundle / "evidence.txt"))[0], 0)
+
+    def test_each_change_is_told(self):
+        self.expect_told(TRACK_CHANGES)
+
+    def test_it_is_no_evidence_without_its_speed(self):
+        told = "no evidence: check says no 53 RowNarrow .*, recheck says no 53 RowNarrow "  # rows of a smaller box are narrower
+        with self.assertRaisesRegex(coverlog.LogError, told):
+            ended_with(evidence, "make", self.room / "none", *self.files, "--to", 2, "--program", PROGRAM)
+
+    def test_a_lost_track_names_its_last_epoch(self):
+        room = self.room / "lost"
+        room.mkdir()
+        files = receiver_in(room, MOTION, moved)
+        _, status, lines = bundle_of(room, files, 4, track=True)
+        self.assertEqual((status, lines["retrack"]), (0, f"yes {boxes_in(files[3])}"))
+        self.assertEqual(
+            lines["epochs"], "4 in the file, 2 in the log: 2 paved, 0 few, 1 empty, 0 reach the search box; 2 lost;"
+            " the track ends with epoch 2, which keeps no box")
 
 
 if __name__ == "__main__":

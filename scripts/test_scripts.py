@@ -521,6 +521,23 @@ class Bounds(unittest.TestCase):
             "# zenith ionosphere 0 to 6 m on L1, by a thin shell at 350 km;",
             "# noise that grows below 30 degrees, to 2 times as much at the horizon."])
 
+    def test_the_vertical_in_the_place_of_each_satellite_s_ionosphere(self):
+        args = self.table("single", "--zenith", "--vertical", "--ionosphere", "-1", "7.0005")
+        self.assertEqual(list(bounds.common_lines(args))[-4:], [
+            "troposphere = [0, 0]", "zenith = [1911, 2703]",
+            "# Mapped by elevation: -1 to 7.0005 m at the vertical, on L1.", "vertical = [-1000, 7001]"])
+        # What is left of a satellite is noise: 3 m more at the horizon.
+        self.assertEqual(bounds.millimetres(bounds.bound_between(0, math.pi / 2, args)), "[-3000, 3000]")
+        self.assertFalse([line for line in bounds.satellite_lines({}, args) if "ionosphere" in line])
+        # Without the zenith the troposphere is in the satellites' bounds.
+        self.assertEqual(bounds.millimetres(bounds.bound_between(math.pi / 2, math.pi / 2, self.table("single", "--vertical"))),
+                         "[1911, 2703]")
+        for mode, *words in (("dual", "--vertical"), ("single", "--vertical", "--shell", "400"),
+                             ("single", "--vertical", "--ionosphere", "0", "100.0001")):
+            with self.assertRaises(SystemExit) as ended, contextlib.redirect_stderr(io.StringIO()):
+                self.table(mode, *words)
+            self.assertEqual(ended.exception.code, 2)
+
     def test_a_zenith_that_the_settings_would_refuse(self):
         self.assertIn("zenith = [-10000, 10000]", list(bounds.common_lines(
             self.table("dual", "--zenith", "--troposphere", "-10", "10", "--mapping", "0"))))
@@ -780,8 +797,11 @@ class Pictures(unittest.TestCase):
         with tempfile.TemporaryDirectory() as room:
             log = str(RECORDED / "geonet0759_2005.log")
             known = str(RECORDED / "geonet0759_2005.places")
+            fences = os.path.join(room, "zones")
+            Path(fences).write_text(FENCES, encoding="utf-8")
             for words, ending in ((["region", "--epoch", "2"], "png"), (["region"], "svg"), (["time"], "png"),
                                   (["track", "--beside", log], "png"), (["track"], "svg"),
+                                  (["zones", "--zones", fences], "png"), (["zones", "--zones", fences, "--zone", "a"], "svg"),
                                   (["integrity", "--limit", "150", "200"], "png"), (["integrity"], "svg")):
                 out = os.path.join(room, f"out.{ending}")
                 words = ["picture.py", words[0], log, out, *words[1:], "--places", known]
@@ -796,6 +816,37 @@ class Pictures(unittest.TestCase):
     def test_an_epoch_without_a_region_is_refused(self):
         with self.assertRaisesRegex(coverlog.LogError, "it is empty"):
             picture.chosen_epoch(RECORDED / "cres_2008.log", 8)
+
+
+# A box, a prism without corners, and a direction.
+FENCES = "gpszones 2\nzone a 6378136000000 -20000000 -30000000 6378138000000 20000000 30000000\nprism b 1\nside 0 1 0 0\nreach c 1 0 0\n"
+
+
+class PicturedZones(unittest.TestCase):
+    def fenced(self, text, names=()):
+        with written(log=HEAD + text, zones=FENCES) as (path, fences):
+            found = picture.Fenced(picture.fences_of([fences], names), picture.Meetings(None, []))
+            for epoch in coverlog.epochs(path):
+                found.add(epoch)
+        return found
+
+    def test_their_outlines_and_counts(self):
+        found = self.fenced(TUBE + LOST + "few 4 895816774999000000000 3\n")
+        # Round the middle of the first region, at y = 25 m and z = 0: y is east, z is north.
+        ring = found.ring_of(found.fences[0])
+        self.assertEqual({(round(x), round(y)) for x, y in ring}, {(x, y) for x in (-45, -5) for y in (-30, 30)})
+        self.assertEqual(found.ring_of(found.fences[1]), [])
+        # The first box shares the face y = 20 m with a, the second holds a part of it, and in the third epoch there is none.
+        self.assertEqual(found.title(0), "a: outside 1, inside 0, open 2, few 1")
+        self.assertEqual(found.title(1), "b: outside 3, inside 0, open 0, few 1")
+
+    def test_names_choose_and_too_many_are_refused(self):
+        self.assertEqual([fence.name for fence in self.fenced(TUBE, ["b"]).fences], ["b"])
+        with self.assertRaisesRegex(coverlog.LogError, "no zone d"):
+            self.fenced(TUBE, ["d"])
+        many = "gpszones 1\n" + "".join(f"zone a{k} 0 0 0 1 1 1\n" for k in range(7))
+        with written(zones=many) as (fences,), self.assertRaisesRegex(coverlog.LogError, "7 zones"):
+            picture.fences_of([fences], [])
 
 
 class PicturedTracks(unittest.TestCase):

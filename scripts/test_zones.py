@@ -1,12 +1,21 @@
 #!/usr/bin/env python3
-"""Tests of zones.py by exact fractions: python3 scripts/test_zones.py. The last line is `zones: N passed, M failed`.
-Exit status: 0, or 1 where one failed."""
+"""Tests of zones.py and zone_answers.py by exact fractions and by all corners, and of `guard`.
+
+usage: test_zones.py [PROGRAM]
+
+With a PROGRAM its `guard` has to print what zone_answers.py does, of a thousand drawn zones, prisms and directions on a solved and
+a tracked log of examples/vehicle.obs, and of zones of zones.py. The last line is `zones: N passed, M failed`. Exit status: 0, or 1
+where one failed.
+"""
 import contextlib
 import io
 import itertools
 import json
 import math
+import os
 import random
+import re
+import subprocess
 import sys
 import tempfile
 import unittest
@@ -17,9 +26,13 @@ from unittest import mock
 import testing
 import zone_answers
 import zones
+from coverlog import epochs
+from region import hull_of
 from wgs84 import earth_fixed
 
 DRAWN = 1000
+EXAMPLES = Path(__file__).resolve().parent.parent / "examples"
+PLACES = Path(__file__).resolve().parent / "recorded/cres_2008.places"
 
 
 def said(*words):
@@ -239,5 +252,101 @@ class Files(unittest.TestCase):
         self.assertEqual(zones.reach_lines("r", 0, 0), ["reach r-e 0 1048576 0", "reach r-n 0 0 1048576", "reach r-u 1048576 0 0"])
 
 
+def drawn_lines(draw, name, boxes):
+    """The lines of a zone, a prism or a direction that is drawn round some boxes; faces that just touch one aren't seldom."""
+    hull = hull_of(boxes)
+    kind = draw.choice(("zone", "zone", "prism", "prism", "reach"))
+    if kind == "zone":
+        ends = draw.choice((hull, hull, draw.choice(boxes)))
+        moved = [end + draw.choice((0, 0, 1, -1, draw.randint(-(10**8), 10**8))) for end in ends]
+        if any(moved[k] > moved[k + 3] for k in range(3)):
+            moved = ends
+        return [" ".join(map(str, ["zone", name, *moved]))]
+    sides = []
+    for _ in range(draw.randint(1, 5) if kind == "prism" else 1):
+        size = draw.choice((1, 5, zones.LONGEST))
+        a = tuple(draw.randint(-size, size) for _ in range(3))
+        a = a if any(a) else (0, -size, 0)
+        ends = [end for box in draw.choice((boxes, [draw.choice(boxes)])) for end in zone_answers.span(a, box)]
+        most = draw.choice((max(ends), max(ends), min(ends))) + draw.choice((0, 0, 1, -1, size * draw.randint(-(10**8), 10**8)))
+        sides.append((a, most))
+    if kind == "reach":
+        return ["reach {} {} {} {}".format(name, *sides[0][0])]
+    return [f"prism {name} {len(sides)}"] + ["side {} {} {} {}".format(*a, most) for a, most in sides]
+
+
+class Guards(unittest.TestCase):
+    """What the program says of a solved and of a tracked log."""
+
+    program = None
+
+    @classmethod
+    def setUpClass(cls):
+        if cls.program is None:
+            return
+        folder = tempfile.TemporaryDirectory()
+        cls.addClassCleanup(folder.cleanup)
+        cls.folder = Path(folder.name)
+        text = (EXAMPLES / "settings.toml").read_text(encoding="utf-8")
+        text = re.sub(r"(?m)^bisections = .*$", "bisections = 64", text)
+        cls.settings = cls.folder / "settings.toml"
+        cls.settings.write_text(text.replace("\n[bounds]\n", "\n[motion]\nspeed = 20000\n\n[bounds]\n"), encoding="utf-8")
+        cls.files = [str(EXAMPLES / "vehicle.obs"), str(EXAMPLES / "vehicle.nav"), str(cls.settings)]
+        cls.logs = {}
+        for command, options in (("solve", []), ("track", ["--track"])):
+            log = cls.folder / f"{command}.log"
+            subprocess.run([cls.program, command, *cls.files, log], check=True, stdout=subprocess.DEVNULL, timeout=600)
+            cls.logs[log] = options
+
+    def setUp(self):
+        if self.program is None:
+            self.skipTest("no program is named")
+
+    def expect_lines(self, path, log, options):
+        """The program and the script say the same, and this is what they say."""
+        ran = subprocess.run([self.program, "guard", *self.files, path, log, *options], capture_output=True, text=True, timeout=600)
+        self.assertEqual((ran.returncode, ran.stderr), (0, ""))
+        boxes = ((e.index, None if e.few else [kept.box for kept in e.kept]) for e in epochs(log))
+        wanted = list(zone_answers.lines(*zone_answers.read_zones(path), boxes))
+        self.assertEqual(ran.stdout, "".join(line + "\n" for line in wanted))
+        return wanted
+
+    def test_a_thousand_drawn_zones_on_both_logs(self):
+        draw, said = random.Random(6), set()
+        for log, options in self.logs.items():
+            regions = [[kept.box for kept in epoch.kept] for epoch in epochs(log) if epoch.kept]
+            for part in range(3):
+                count = DRAWN // 6 + 1
+                text = [line for k in range(count) for line in drawn_lines(draw, f"a{k}", draw.choice(regions))]
+                path = self.folder / "drawn.zones"
+                path.write_text("".join(line + "\n" for line in ["gpszones 2", *text]), encoding="utf-8")
+                with self.subTest(log=log.name, part=part):
+                    said |= {line.split()[-1] for line in self.expect_lines(path, log, options) if " zone " in line}
+        self.assertEqual(said, {"outside", "inside", "open"})
+
+    def test_the_first_form_has_no_totals(self):
+        path = self.folder / "first.zones"
+        for log, options in self.logs.items():
+            hull = hull_of([kept.box for epoch in epochs(log) for kept in epoch.kept])
+            path.write_text("gpszones 1\nzone far 0 0 0 1 1 1\nzone all {} {} {} {} {} {}\n".format(*hull), encoding="utf-8")
+            found = [line.split(" zone ")[1] for line in self.expect_lines(path, log, options)]
+            self.assertEqual(found, ["far outside", "all inside"] * 21)
+
+    def test_lanes_areas_and_limits_of_the_vehicle(self):
+        lane = self.folder / "lane.txt"
+        lane.write_text("35.8729 138.3905 1010\n35.87275 138.3871 1010\n35.8648 138.3871 950\n", encoding="utf-8")
+        for log, options in self.logs.items():
+            for purpose in ("inside", "outside"):
+                words = ["--lane", f"l,{lane},200,-300,300", "--reported", f"at,{PLACES},{log},100,250"]
+                words += ["--reach", "r,35.87,138.387"]
+                path = self.folder / "made.zones"
+                path.write_text("".join(line + "\n" for line in said("--for", purpose, *words)), encoding="utf-8")
+                found = self.expect_lines(path, log, options)
+                # The places of another program are held by each region: so none is outside.
+                for index in range(1, 22):
+                    self.assertNotIn(f"epoch {index} zone at-{index} outside", found)
+
+
 if __name__ == "__main__":
+    Guards.program = os.path.abspath(sys.argv[1]) if sys.argv[1:] else None
     sys.exit(testing.run("zones"))

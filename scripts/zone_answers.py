@@ -9,8 +9,9 @@ where each box that the epoch keeps lies apart from it, and a prism where each l
 a box and each lies in it. Behind the epochs of the second form stand `zone NAME outside A inside B open C few D` and
 `reach NAME LO HI` over all of them.
 
-The log is read as it stands: whether it is right is what `gpscover check` says, and nothing that is printed here means more than
-that. Exit status: 0; 1 where a file can't be read, or isn't of its form; 2 for a wrong command line.
+These are the lines of `gpscover guard`. But the log is read as it stands here: whether it is right `guard` asks first, and
+nothing that is printed here means more than that. Exit status: 0; 1 where a file can't be read, or isn't of its form; 2 for a
+wrong command line.
 """
 import argparse
 import re

@@ -1,16 +1,18 @@
 #!/usr/bin/env python3
-"""Writes a file of zones (its second form, `gpszones 2`), from places, lanes and areas of a map; zone_answers.py reads it.
+"""Writes a file of zones for `gpscover guard` (its second form, `gpszones 2`), from places, lanes and areas of a map.
 
-usage: zones.py --for outside|inside [--place P].. [--lane L].. [--area A].. [--reach R].. > ZONES
+usage: zones.py --for outside|inside [--place P].. [--reported P].. [--lane L].. [--area A].. [--reach R].. > ZONES
 
   --place NAME,LAT,LON,HEIGHT,RADIUS,UP   the points within RADIUS along the ground of a place and within UP above or below
+  --reported NAME,FILE,LOG,RADIUS,UP      the same of each epoch of a log that has a place in a list of places: NAME-INDEX
   --lane NAME,FILE,WIDTH,LOW,HIGH         a lane of this width, from LOW to HIGH above its line; NAME-1, NAME-2, .. by leg
   --area NAME,FILE,LOW,HIGH               a polygon between two heights
   --reach NAME,LAT,LON                    directions NAME-e, NAME-n and NAME-u: east, north and up there
 
 Latitudes and longitudes are in degrees, lengths and heights in metres, heights above the ellipsoid of WGS 84. FILE is KML (its
-first LineString or Polygon), GeoJSON (the same) or lines `LAT LON [HEIGHT]`. A polygon's edges are straight in the plane that
-touches the ellipsoid below its middle; its heights follow the ellipsoid. A place is a prism of 12 sides, a leg one of 4.
+first LineString or Polygon), GeoJSON (the same) or lines `LAT LON [HEIGHT]`; of --reported it is a list as places.py says. A
+polygon's edges are straight in the plane that touches the ellipsoid below its middle; its heights follow the ellipsoid. A place
+is a prism of 12 sides, a leg one of 4.
 
 The user says what the zones are for, and all is rounded to that side. A zone for `outside` grows: where the answer is `outside`
 no fitting point lies in the zone as it was given. A zone for `inside` shrinks: where it is `inside` each fitting point
@@ -30,11 +32,14 @@ import sys
 import xml.etree.ElementTree
 from fractions import Fraction
 
+from coverlog import LogError, epochs
+from places import Meetings, read_places
 from wgs84 import dot, earth_fixed, geodetic, local_axes
 
 LONGEST = 2**20  # a coordinate of a direction
 GREATEST = 10**20  # a limit of a side
 MOST_SIDES = 16
+LONGEST_NAME = 16
 ROUND_SIDES = 12
 UM = 10**6
 ARITHMETIC_UM = 1000  # more than the rounding of the numbers of this script, for a point near the earth
@@ -135,6 +140,8 @@ def shrunk(faces):
 
 def prism(name, faces, points, purpose):
     """The lines of a prism with these faces, which end at these points."""
+    if len(name) > LONGEST_NAME:
+        raise ShapeError(f"{name}: a name has at most {LONGEST_NAME} characters")
     sides = grown(faces, points) if purpose == "outside" else shrunk(faces)
     if len(sides) > MOST_SIDES or any(abs(most) > GREATEST for _, most in sides):
         raise ShapeError(f"{name}: a prism has at most {MOST_SIDES} sides")
@@ -190,6 +197,19 @@ def place_lines(name, latitude, longitude, height, radius, up, purpose):
     low, high = height - up, height + up
     rings = [[(far * math.cos(t), far * math.sin(t), level) for t in turns] for level in (low, high)]
     return prism(name, *upright(ground, rings, low, high), purpose)
+
+
+def reported_lines(name, path, log, radius, up, purpose):
+    """A place for each epoch of a log that has one in a list of places, within 0.1 s."""
+    meetings, written = Meetings(path, read_places(path)), []
+    for epoch in epochs(log):
+        place = meetings.at(epoch.time)
+        if place is not None:
+            latitude, longitude, height = geodetic(place)
+            where = math.degrees(latitude), math.degrees(longitude), height
+            written += place_lines(f"{name}-{epoch.index}", *where, radius, up, purpose)
+    meetings.refuse_strangers()
+    return written
 
 
 def area_lines(name, ring, low, high, purpose):
@@ -363,7 +383,7 @@ def field_list(names):
         fields = text.split(",")
         if len(fields) != len(names) or not re.fullmatch("[a-z0-9-]{1,12}", fields[0]):
             raise argparse.ArgumentTypeError(f"it is {','.join(names)}, the name 1 to 12 of a-z, 0-9 and -")
-        return [field if name in ("NAME", "FILE") else float(field) for name, field in zip(names, fields)]
+        return [field if name in ("NAME", "FILE", "LOG") else float(field) for name, field in zip(names, fields)]
 
     return read
 
@@ -373,6 +393,7 @@ def arguments():
     parser.add_argument("--for", dest="purpose", choices=("outside", "inside"), required=True)
     for option, names in (
         ("--place", "NAME LAT LON HEIGHT RADIUS UP"),
+        ("--reported", "NAME FILE LOG RADIUS UP"),
         ("--lane", "NAME FILE WIDTH LOW HIGH"),
         ("--area", "NAME FILE LOW HIGH"),
         ("--reach", "NAME LAT LON"),
@@ -386,6 +407,8 @@ def file_lines(args):
     lines = ["gpszones 2"]
     for place in args.place:
         lines += place_lines(*place, args.purpose)
+    for reported in args.reported:
+        lines += reported_lines(*reported, args.purpose)
     for name, path, width, low, high in args.lane:
         lines += lane_lines(name, places_of(path, "LineString"), width, low, high, args.purpose)
     for name, path, low, high in args.area:
@@ -398,7 +421,7 @@ def file_lines(args):
 def main():
     try:
         print(*file_lines(arguments()), sep="\n")
-    except (OSError, ShapeError, ValueError, KeyError, xml.etree.ElementTree.ParseError) as fault:
+    except (OSError, LogError, ShapeError, ValueError, KeyError, xml.etree.ElementTree.ParseError) as fault:
         print(f"zones.py: {fault}", file=sys.stderr)
         return 1
     return 0

@@ -427,6 +427,7 @@ def settings_cases(settings):
     for kind in (*kinds, b"false", b"True", b"[true]"):
         yield f"pairs = {kind}", plain.replace(b"[search]", b"[search]\npairs = " + kind)
     yield from zenith_settings(plain, kinds)
+    yield from vertical_settings(plain, kinds)
     yield from motion_settings(plain, kinds)
     for key, texts in ((b"half", (b"100000000", b"100000001", b"[1, 1, 100000000]", b"[1, 0, 1]", b"[2, 30000, 4]")),
             (b"outliers", (b"8", b"9")),
@@ -561,6 +562,24 @@ def zenith_settings(plain, kinds):
     yield "zenith, and a satellite's bound of more", mapped(plain) + b"G01 = [-1000001, 1000000]\n"
 
 
+def shell_mapped(settings, value=b"[0, 35000]"):
+    """The settings with a `vertical` behind their `troposphere`."""
+    return re.sub(rb"(?m)^troposphere = .*\n", lambda line: line.group() + b"vertical = " + value + b"\n", settings)
+
+
+def vertical_settings(plain, kinds):
+    """Changes of the settings with the key `vertical`, which may be absent too, and with both keys."""
+    for value in (*kinds, b"[0, 35000]", b"[-100000, 100000]", b"[100000, 100001]", b"[-100001, 0]", b"[2, 1]", b"[1]",
+                  b"[0.0, 35000]"):
+        yield f"vertical = {value}", shell_mapped(plain, value)
+        yield f"vertical = {value}, and zenith", shell_mapped(mapped(plain), value)
+        yield f"vertical = {value}, and zenith outside", mapped(shell_mapped(plain, value), b"[2, 1]")
+        yield f"vertical = {value}, and a satellite's bound outside", shell_mapped(plain, value) + b"G01 = [2, 1]\n"
+    for name in (b"Vertical", b"verticals", b"vertica", b"vertical.lo"):
+        yield f"{name} in the place of vertical", shell_mapped(plain).replace(b"vertical", name)
+    yield "vertical in the root", b"vertical = [0, 35000]\n" + plain
+
+
 def motion_settings(plain, kinds):
     """Changes of the settings with the table `motion`, which may be absent or without its key."""
     yield "motion without a key", plain + b"[motion]\n"
@@ -652,6 +671,7 @@ def low_places(contents):
         if max(map(abs, centre)) < at // 2:
             yield f"zenith [0, 0], {name}", [obs, nav, mapped(there, b"[0, 0]")]
             yield f"no zenith, {name}", [obs, nav, there]
+            yield f"vertical [0, 0], {name}", [obs, nav, shell_mapped(there, b"[0, 0]")]
     # The tests of a satellite that come before this one.
     there = mapped(settings.replace(b'"header"', b"[0, 0, 0]"))
     single = with_one_record(nav)
@@ -665,4 +685,6 @@ def low_places(contents):
     header = settings.replace(b"half = 200000", b"half = 100000000")
     for value in (b"[2000, 2500]", b"[-10000, 10000]", b"[-10000, -10000]", b"[0, 0]"):
         yield f"zenith = {value}, half = 100 km", [obs, nav, mapped(header, value)]
+        yield f"vertical = {value}, half = 100 km", [obs, nav, shell_mapped(header, value)]
+        yield f"both = {value}, half = 100 km", [obs, nav, shell_mapped(mapped(header, value), value)]
         yield f"zenith = {value}, half = 1 mm", [obs, nav, mapped(header.replace(b"100000000", b"1"), value)]

@@ -754,6 +754,12 @@ def random_zenith(chance, settings):
     return with_zenith(settings, low, high)
 
 
+def random_vertical(chance, settings):
+    """The same of the delay at the vertical, whose ends are farther out."""
+    low, high = sorted(chance.choice((-100_000, 0, 100_000, chance.randint(-100_000, 100_000))) for _ in range(2))
+    return re.sub(rb"(?m)^(troposphere = .*)$", rb"\1\nvertical = [%d, %d]" % (low, high), settings)
+
+
 def records(arguments, directory):
     """Records drawn from the whole range of each field, places and boxes from the whole range of the settings."""
     chance = random.Random(arguments.seed)
@@ -762,7 +768,8 @@ def records(arguments, directory):
     rows = 0
     for number in range(arguments.draws // 5):
         obs, nav, settings = random_files(chance)
-        pair.write((obs, nav, random_zenith(chance, settings) if number % 2 else settings))
+        settings = random_zenith(chance, settings) if number % 2 else settings
+        pair.write((obs, nav, random_vertical(chance, settings) if number % 3 == 0 else settings))
         answer, log = pair.solve()
         if log is None:
             print("  different: no log of drawn records", number, answer, pair.own_answer(b"")[0])

@@ -6,7 +6,7 @@
 The equations are followed as they are printed, with whole numbers; where they leave a choice, one is drawn at random,
 or the least or the greatest is taken all the time. Each result has to lie in the own row of recheck.py, and in the
 own row of the program that made the log (its spans with W taken off at both ends, those of the bounds with G). Where
-the settings have `bounds.zenith`, lo and hi are drawn too.
+the settings have `bounds.zenith` or `bounds.vertical`, lo and hi are drawn too.
 """
 
 import random
@@ -94,8 +94,14 @@ class Drawer:
         return self.of(min(found), max(found))
 
 
-def mapped(draw, place, point):
-    """One choice of mp that the equations allow of a turned place at a grid point."""
+# Of each layer: the numerator in thousandths, the floor in 10^-32, and the sine's factor as a fraction (EQUATIONS.md, 5).
+EQUATIONS = {10_000: (1001, 2001 * 10**26, 1, 1),
+             100_000: (1000, 10133458172795012207442187408082, 63781363, 67281363)}
+
+
+def mapped(draw, place, point, layer):
+    """One choice of a layer's factor that the equations allow of a turned place at a grid point."""
+    scale, floor, part, whole = EQUATIONS[layer.most]
     x, y, z = point
     raised = draw.near(z * RAISED, 10**14)
     length = isqrt(x * x + y * y + raised * raised)
@@ -103,12 +109,12 @@ def mapped(draw, place, point):
     way = isqrt(sum((there - here) ** 2 for there, here in zip(place, point)))
     line = [draw.near((there - here) * U, way) for there, here in zip(place, point)]
     sine = draw.near(sum(a * b for a, b in zip(up, line)), U)
-    slant = isqrt(2001 * 10**26 + sine * sine)
-    return draw.near(1001 * U * U, 1000 * slant)
+    slant = isqrt(floor + (abs(sine) * part // whole) ** 2)
+    return draw.near(scale * U * U, 1000 * slant)
 
 
-def allowed(draw, record, time, values, dual, point, zenith=None, declared=(0, 0)):
-    """One choice of X2, Y2, Z and P that the equations allow at a grid point, and with a zenith span of lo and hi."""
+def allowed(draw, record, time, values, dual, point, delays=(), declared=(0, 0)):
+    """One choice of X2, Y2, Z and P that the equations allow at a grid point, and with delays straight up of lo and hi."""
     codes = [draw.of(*recheck.numbers_of(value, 10**6)) for value in values]
     first, second = record.system.weights
     measured = draw.near(first * codes[0] - second * codes[1], first - second) if dual else codes[0]
@@ -158,10 +164,11 @@ def allowed(draw, record, time, values, dual, point, zenith=None, declared=(0, 0
         th = draw.near(EARTH * way, LIGHT * 10**12)
         ct, st = draw.cosine(th), draw.sine(th)
         seen = [draw.near(place[0] * ct + place[1] * st, U), draw.near(place[1] * ct - place[0] * st, U), place[2]]
-    if not zenith:
-        return seen + [corrected]
-    factor = mapped(draw, seen, point)
-    return seen + [corrected] + [end + draw.near(delay * factor, U) for end, delay in zip(declared, zenith)]
+    ends = list(declared)
+    for layer, upward in delays:
+        factor = mapped(draw, seen, point, layer)
+        ends = [end + draw.near(delay * factor, U) for end, delay in zip(ends, upward)]
+    return seen + [corrected] + (ends if delays else [])
 
 
 def main():
@@ -178,7 +185,7 @@ def main():
             found.append((epoch, values, used[values[0]]))
     choose = random.Random(1)
     outside = [0, 0]
-    names = NAMES if files.settings.zenith else NAMES[:4]
+    names = NAMES if files.settings.delays else NAMES[:4]
     least, greatest = [0] * len(names), [0] * len(names)
     for epoch, (satellite, *logged), used in choose.sample(found, min(int(rows), len(found))):
         row = files.row(epoch, satellite, used)
@@ -190,7 +197,7 @@ def main():
             side = choose.randrange(3)
             point = [draw.of(files.box[axis], files.box[axis + 3]) if side else
                      choose.choice((files.box[axis], files.box[axis + 3])) for axis in range(3)]
-            result = allowed(draw, used[1], epoch.time, codes, files.settings.dual, point, files.settings.zenith,
+            result = allowed(draw, used[1], epoch.time, codes, files.settings.dual, point, files.settings.delays,
                              files.settings.bounds_of(satellite))
             for axis, value in enumerate(result):
                 middle = sum(row[axis])

@@ -218,6 +218,16 @@ def zenith_cases(folder):
             ({ZENITH: "Zenith = [2000, 2500]"}, used, "34 Unknown bounds.Zenith"),
             ({ZENITH: "zenith = 1", "troposphere = [0, 0]\n": ""}, used, "31 Missing bounds.troposphere"),
             ({ZENITH: "zenith = 1", "G01 = [-7, 9]": "G01 = 1"}, used, kind),
+            # The delay at the vertical, behind that at the zenith and in its place.
+            ({ZENITH: ZENITH + "\nvertical = [0, 35000]"}, used, YES_0),
+            ({ZENITH: "vertical = [-100000, 100000]"}, used, YES_0),
+            ({ZENITH: "vertical = [0, 35000]", CENTRE: "[0, 0, 0]"}, low, YES_0),
+            ({ZENITH: "vertical = [0, 35000]", CENTRE: "[0, 0, 0]"}, used, differs),
+            ({ZENITH: "vertical = [0, 100001]"}, used, "33 Outside bounds.vertical"),
+            ({ZENITH: "vertical = [-100001, 0]"}, used, "33 Outside bounds.vertical"),
+            ({ZENITH: "vertical = 35000"}, used, "32 WrongKind bounds.vertical"),
+            ({ZENITH: "vertical = 1\nzenith = 1"}, used, kind),
+            ({ZENITH: "vertical = 1", "G01 = [-7, 9]": "G01 = 1"}, used, "32 WrongKind bounds.vertical"),
             ({"G01 = [-7, 9]": "G01 = [-1000000, 1000000]"}, used, YES_0))):
         settings = SETTINGS
         for old, new in changes.items():
@@ -303,6 +313,11 @@ FACTORS = (
 )
 
 
+# 1 / sqrt(1 - (Re cos E / (Re + h))^2), by hand: overhead; at the horizon, (Re + h) / sqrt(h (2 Re + h)) =
+# 6728.1363 / 2141.7743; and where the sine is 3/5, 6728.1363 / sqrt(6728.1363^2 - 0.64 * 6378.1363^2) = 6728.1363 / 4385.4555.
+SHELL_FACTORS = ((10**16, "1.0000"), (0, "3.1414"), (-6 * 10**15, "1.5342"))
+
+
 def drawn_numbers(files, epoch, satellite, used):
     """The names of numbers outside of the own row, drawn as the equations leave them at corners of the box."""
     row, codes, settings = files.row(epoch, satellite, used), epoch.satellites[satellite], files.settings
@@ -310,7 +325,7 @@ def drawn_numbers(files, epoch, satellite, used):
     for number, signs in enumerate(product((0, 1), repeat=3)):
         draw = sample.Drawer(("low", "high", "any", "mixed")[number % 4], 100 * number + int(satellite[1:]))
         point = [files.box[axis + 3 * sign] for axis, sign in enumerate(signs)]
-        numbers = sample.allowed(draw, used[1], epoch.time, codes, settings.dual, point, settings.zenith,
+        numbers = sample.allowed(draw, used[1], epoch.time, codes, settings.dual, point, settings.delays,
                                  settings.bounds_of(satellite))
         outside += [name for name, number, (low, high) in zip(sample.NAMES, numbers, row, strict=True)
                     if not low <= number <= high]
@@ -319,7 +334,8 @@ def drawn_numbers(files, epoch, satellite, used):
 
 def drawn_cases(folder):
     """(what, found, wanted) of drawn numbers over a box of 400 m, and one of 2 mm, where the own spans are narrow."""
-    for zenith, half in (("[1800, 3000]", 200_000), ("[2500, 2500]", 1)):
+    for zenith, half in (("[1800, 3000]", 200_000), ("[2500, 2500]", 1), ("[1800, 3000]\nvertical = [-7000, 35000]", 150_000),
+                         ("[2500, 2500]\nvertical = [10000, 10000]", 2)):
         files = recheck.Files(*mapped_paths(folder, zenith, half))
         for satellite, used in files.satellites(files.epochs[0]):
             if used[0] == "sat":
@@ -351,6 +367,11 @@ def value_cases(folder):
         corners = [[part + sign * half for part, sign in zip(point, signs)] for signs in product((-1, 1), repeat=3)]
         ends = [recheck.sine_span(place, 0, [*corner, *corner]) for corner in corners]
         yield f"corners {point}", low <= min(ends)[0] and max(ends)[1] <= high, True
+    for sine, factor in SHELL_FACTORS:
+        low, high = recheck.mapping_span((sine, sine), recheck.LAYERS["vertical"])
+        digits = len(factor.partition(".")[2])
+        yield f"factor of the shell {sine}", [f"{end / recheck.U:.{digits}f}" for end in (low, high)], [factor] * 2
+        yield f"factor of the shell {sine}, its width", high - low <= 12, True
     # A span of sines round the horizon has its greatest factor there, and its least at the end farther from it.
     yield "factors round the horizon", recheck.mapping_span((-3 * 10**15, 10**15)), (
         recheck.mapping_span((3 * 10**15,) * 2)[0], recheck.mapping_span((0, 0))[1])
@@ -367,6 +388,9 @@ def value_cases(folder):
     yield "G", files.bound_room, 2001
     # 10 m at the zenith over a box of 200 km: 10^7 * 2 * 10^11 / (3 * 10^9) = 666666666.6 um
     wide = SETTINGS.replace("half = 1\n", "half = [1, 100000000, 7]\n").replace("[2000, 2500]", "[-10000, 2500]")
+    both = wide.replace("[-10000, 2500]", "[-10000, 2500]\nvertical = [0, 35000]")
+    # and 35 m at the vertical: 35 * 10^6 * 2 * 10^11 / (175 * 10^9) = 40000000 um
+    yield "G of both", recheck.Files(*zenith_paths(folder, both, "both")).bound_room, 706_670_666
     yield "G of a wide box", recheck.Files(*zenith_paths(folder, wide, "wide")).bound_room, 666_668_666
 
 
