@@ -81,10 +81,11 @@ class Sky:
         return [(satellite, air) for _, satellite, air in sorted(seen, reverse=True)[:MOST]]
 
 
-def epoch_texts(sky, count):
-    """The texts of so many epochs. Which satellites are in sight and how the air delays them is told once a minute."""
+def epoch_texts(sky, count, step=1):
+    """The texts of so many epochs, one in so many seconds. Which satellites are in sight and how the air delays them is
+    told once a minute."""
     draw = random.Random(86400)
-    for time in range(sky.start, sky.start + count):
+    for time in range(sky.start, sky.start + count * step, step):
         if (time - sky.start) % 60 == 0:
             sight = sky.in_sight(time)
         lines = []
@@ -96,14 +97,14 @@ def epoch_texts(sky, count):
         yield f"> {date:%Y %m %d %H %M}{date.second:11.7f}  0{len(lines):3}\n" + "".join(lines)
 
 
-def make_files(folder, nav, count):
-    """The three files of so many epochs."""
+def make_files(folder, nav, count, step=1):
+    """The three files of so many epochs, one in so many seconds."""
     head, records = navigation_parts(os.path.abspath(nav))
     folder.write(FILES[1], head, *records)
     folder.write(FILES[2], settings_with(half=100000, bisections=8, **BOUNDS).split("\n[satellite]\n")[0] + "\n")
     with open(folder.path / FILES[0], "w", encoding="ascii", newline="\n") as file:
         file.write(observation_parts()[0])
-        file.writelines(epoch_texts(Sky([Record(text) for text in records]), count))
+        file.writelines(epoch_texts(Sky([Record(text) for text in records]), count, step))
 
 
 def cut_after(folder, name, count):

@@ -2,7 +2,7 @@ ghost use Rattle.std.specs.Prelude.{◌≤ℤ◌, pos};
 ghost use Rattle.grid_model.specs.Boxes.{grid_box};
 ghost use Rattle.grid_model.specs.Sizes.{IsBoxSize};
 ghost use Rattle.live_boxes.specs.Folding.{StepsFold};
-ghost use Rattle.sat_model.specs.Fold.{first_stage};
+ghost use Rattle.sat_model.specs.Fold.{first_boxes};
 
 use super::*;
 use grid_model::{Box3, NoMemory, Pos};
@@ -87,7 +87,7 @@ fn the_next_root_is_grown_and_met_with_the_search_box(rt: HostRuntime) -> Result
 
 /// The hull of what an epoch keeps with this search box and these steps.
 fn kept(alloc: Global, root: Box3, steps: &[Step]) -> Result<Option<Box3>, NoMemory>
-    requires { StepsFold (first_stage (grid_box root)) steps.now }
+    requires { StepsFold (first_boxes (grid_box root)) steps.now }
 {
     let epoch = LogEpoch {
         line: 3,
