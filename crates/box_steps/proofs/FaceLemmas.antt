@@ -1,19 +1,21 @@
 -- Cuts at the faces of a box: there is one way to go on at each face, and what is left lies inside.
-use Rattle.std.proofs.Common.{◌≡◌, ℕ, zero, suc, ◌<◌, ◌≤◌, arith, List, [], ◌∷◌, ◌++◌, length, ◌⊎◌, inl, inr, refl, sym, ap, subst, ◌∙◌, append_assoc, Option, None, Some, Bool, true, false}
-use Rattle.std.specs.Prelude.{ℤ, ◌≤ℤ◌}
+use Rattle.std.proofs.Common.{◌≡◌, ℕ, ◌<◌, ◌≤◌, arith, List, [], ◌∷◌, ◌++◌, length, ◌⊎◌, inl, inr, refl, sym, ap, subst, ◌∙◌, append_assoc, Option, None, Some, Bool, true, false}
+use Rattle.std.specs.Prelude.{ℤ}
 use Rattle.std.specs.List.{AllByRecursion}
 use Rattle.std.proofs.lemmas.Int.{ints, by_lt_z}
 use Rattle.std.proofs.lemmas.List.{length-append}
-use Rattle.grid_model.specs.Boxes.{Side, GridBox, grid_box, side_at, with_side}
+use Rattle.grid_model.specs.Boxes.{Side, GridBox, grid_box, side_at}
 use Rattle.sat_model.specs.BoxTests.{BoxTest}
-use Rattle.sat_model.specs.Contractors.{SideLiesIn, LiesIn}
-use Rattle.sat_model.specs.Fold.{ShownStep, axis_of, is_low, IsProperBound, side_left, left_by_cut, slab_of_cut}
+use Rattle.sat_model.specs.Contractors.{LiesIn}
+use Rattle.sat_model.specs.Fold.{ShownStep, axis_of, is_low, IsProperBound, left_by_cut, slab_of_cut}
 use Rattle.range_contractor.proofs.BoxLemmas.{lies_through}
 use Rattle.row_pairs.proofs.TestLemmas.{empty_or_not}
 use Rattle.box_steps.specs.Cuts.{Bounds, proposed, eighths, all_faces, IsAsDeep, MayCut, cut_shown, IsCutTo, IsFaceDone, AreFacesDone, AreProposalCuts}
 use Rattle.box_steps.specs.Targets.{done_by}
 use Rattle.box_steps.specs.declared.target.Target.{Target}
 use Rattle.box_steps.specs.declared.target.Target.TheVariants.{Proposal, Eighths, Deep}
+use Rattle.sat_model.proofs.FoldLemmas.{side_inside, with_inside}
+use Rattle.range_contractor.proofs.TreeLemmas.{lies_itself as own_box}
 
 -- ---- whether a face may be cut
 
@@ -133,24 +135,6 @@ faces_few test id (face ∷ faces) part steps left (own, middle, more, is, rest,
     ]
 
 -- ---- what is left lies in the box as it was
-
-side_inside : (low : Bool) (s : Side) (bound : ℤ) → s.lo ≤ℤ s.hi → IsProperBound low s bound → SideLiesIn (side_left low s bound) s
-side_inside true s bound o (h, k) = record { low = omega (arith, ints); ordered = k; high = omega (arith, ints) }
-side_inside false s bound o (h, k) = record { low = omega (arith, ints); ordered = h; high = omega (arith, ints) }
-
-pub with_inside : (axis : ℕ) (part : GridBox) (s : Side) → LiesIn part part → SideLiesIn s (side_at axis part) → LiesIn (with_side axis part s) part
-with_inside zero part s l h zero = h
-with_inside zero part s l h (suc zero) = l 1
-with_inside zero part s l h (suc (suc n)) = l 2
-with_inside (suc zero) part s l h zero = l 0
-with_inside (suc zero) part s l h (suc zero) = h
-with_inside (suc zero) part s l h (suc (suc n)) = l 2
-with_inside (suc (suc m)) part s l h zero = l 0
-with_inside (suc (suc m)) part s l h (suc zero) = l 1
-with_inside (suc (suc m)) part s l h (suc (suc n)) = h
-
-pub own_box : (a part : GridBox) → LiesIn a part → LiesIn a a
-own_box a part l axis = let u = l axis in record { low = omega (arith, ints); ordered = u.ordered; high = omega (arith, ints) }
 
 face_inside : (test : BoxTest) (id face : ℕ) (part : GridBox) (steps : List ShownStep) (left : GridBox) → LiesIn part part → IsSomeCut test id face part steps left → LiesIn left part
 face_inside test id face part steps left lies is = elim is [

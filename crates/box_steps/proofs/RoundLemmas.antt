@@ -4,7 +4,6 @@ use Rattle.std.specs.Prelude.{ℤ, ◌-ℤ◌, ◌≤ℤ◌}
 use Rattle.std.proofs.lemmas.Int.{ints}
 use Rattle.std.proofs.lemmas.List.{length-append, append-nil}
 use borrow.Author.Differences.{up}
-use Rattle.grid_model.specs.Amounts.{above}
 use Rattle.grid_model.specs.Boxes.{Side, GridBox, side_at, with_side}
 use Rattle.sat_model.specs.BoxTests.{BoxTest}
 use Rattle.sat_model.specs.Fold.{ShownStep, axis_of, is_low, IsProperBound, side_left}
@@ -19,10 +18,7 @@ use Rattle.box_steps.specs.declared.target.Target.{Target}
 use Rattle.box_steps.specs.declared.target.Target.TheVariants.{Proposal, Eighths, Deep}
 use Rattle.box_steps.proofs.EighthLemmas.{CanShrink, side_cuts}
 use Rattle.box_steps.proofs.FaceLemmas.{AreFaces, all_are, both_faces, done_exists, eighth_done, faces_exist, faces_as, faces_both}
-
-above_is_up : (a b : ℤ) → above a b ≡ up (a -ℤ b)
-unfolding above
-above_is_up a b = refl
+use Rattle.range_contractor.proofs.AmountLemmas.{above_is_up}
 
 -- a rule by which a face is cut exactly where its eighth may be, there or deeper
 pub record IsDeepRule (test : BoxTest) (id : ℕ) (Done : ℕ → GridBox → List ShownStep → GridBox → Type 0) : Type 0 where

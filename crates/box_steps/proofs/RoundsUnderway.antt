@@ -26,7 +26,7 @@ pub record RoundsUnderway {L : Type 0} (took : L → Step → GridBox → L → 
 pub no_rounds_yet : {L : Type 0} (took : L → Step → GridBox → L → Type 0) (Done : ℕ → GridBox → List ShownStep → GridBox → Type 0) (start : GridBox) (log : L) → IsGridPart start → RoundsUnderway took Done start log 0 start log
 no_rounds_yet took Done start log grid = record { rounds = []; goes_on = λ more left h. h; taken = refl; counted = refl; rest = 1008; budget = grid_budget start grid; spent = refl }
 
-one_more : (rounds : List (List ShownStep)) (round : List ShownStep) → joined (rounds ++ round ∷ []) ≡ joined rounds ++ round
+pub one_more : (rounds : List (List ShownStep)) (round : List ShownStep) → joined (rounds ++ round ∷ []) ≡ joined rounds ++ round
 one_more rounds round = joined_append rounds (round ∷ []) ∙ ap (λ l. joined rounds ++ l) (append-nil round)
 
 some_steps : (steps : List ShownStep) → 1 ≤ length steps → steps ≢ []

@@ -18,6 +18,7 @@ use Rattle.broadcast_orbit.specs.OrbitSizes.{eccentricity_amount, place_amount, 
 use Rattle.broadcast_orbit.proofs.PairLemmas.{pair_near, near_squares, product_between, square_natural, side_within, first_within, second_within, Squares}
 use Rattle.broadcast_orbit.proofs.TrueSquares.{true_squares}
 use Rattle.broadcast_orbit.proofs.Distances.{AreRadii, all_radii, least_radius, greatest_radius, radius_slack, circle_squares, radius_between, plane_near, space_near}
+use Rattle.grid_model.proofs.IntervalLemmas.{members_within as apart}
 
 -- ---- numbers of a field
 
@@ -126,9 +127,6 @@ sides_of x y z b =
     let q = square_natural y in
     let r = square_natural z in
     (side_within side x (omega (arith, ints)), side_within side y (omega (arith, ints)), side_within side z (omega (arith, ints)))
-
-apart : (m w : ℕ) (l h x y : ℤ) → Ends m w l h → Between l h x → Between l h y → IsWithin w (x -ℤ y)
-apart m w l h x y e p q = let i = e.width in record { low = omega (arith, ints, p.from, q.to); high = omega (arith, ints, p.to, q.from) }
 
 abbrev shift : ℕ
 shift = place_width * (place_width + 2 * side)

@@ -76,7 +76,7 @@ over_square num = near_exists num (pos (unit * unit)) (record { lt = tt })
 
 -- ---- the ellipse
 
-small_amount : (e : ℤ) → pos 0 ≤ℤ e → e ≤ℤ pos eccentricity_amount → IsWithin eccentricity_amount e
+pub small_amount : (e : ℤ) → pos 0 ≤ℤ e → e ≤ℤ pos eccentricity_amount → IsWithin eccentricity_amount e
 small_amount e h k = record { low = omega (arith, ints); high = omega (arith, ints) }
 
 ratio_from : (p : ℤ) → IsWithin (eccentricity_amount * (unit + 8)) p → (pos (7 * 10 ^ 15) *ℤ pos unit) ≤ℤ (pos (unit * unit) -ℤ p)

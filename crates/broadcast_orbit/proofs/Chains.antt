@@ -14,6 +14,7 @@ use Rattle.fix_interval.specs.Factors.{Holds, HasEnds}
 use Rattle.fix_interval.proofs.ProductEnds.{amount_of, spread}
 use Rattle.broadcast_orbit.specs.Directions.{DirectionEnds, DirectionAmount, DirectionSpread}
 use Rattle.broadcast_orbit.specs.declared.directions.Direction.{Direction}
+use Rattle.grid_model.proofs.IntervalLemmas.{difference_by}
 
 -- ---- fields
 
@@ -44,13 +45,8 @@ sum_by al ah bl bh cl ch x y e f p q = record { from = omega (arith, ints, p.fro
 pub sum_held : (a b c : Exact) (x y : ℤ) → c.lo ≡ a.lo +ℤ b.lo → c.hi ≡ a.hi +ℤ b.hi → Holds a x → Holds b y → Holds c (x +ℤ y)
 sum_held a b c x y e f p q = sum_by a.lo a.hi b.lo b.hi c.lo c.hi x y e f p q
 
-difference_by : (al ah bl bh cl ch x y : ℤ) → cl ≡ al -ℤ bh → ch ≡ ah -ℤ bl → Between al ah x → Between bl bh y → Between cl ch (x -ℤ y)
-difference_by al ah bl bh cl ch x y e f p q = record { from = omega (arith, ints, p.from, q.to); to = omega (arith, ints, p.to, q.from) }
-
 pub difference_held : (a b c : Exact) (x y : ℤ) → c.lo ≡ a.lo -ℤ b.hi → c.hi ≡ a.hi -ℤ b.lo → Holds a x → Holds b y → Holds c (x -ℤ y)
 difference_held a b c x y e f p q = difference_by a.lo a.hi b.lo b.hi c.lo c.hi x y e f p q
-
--- ---- products of factors of known ends
 
 -- ---- one less a product
 
@@ -95,9 +91,6 @@ less_number m n w a b l h p e f = let o = p.order in let x = p.low in let y = p.
 
 pub less_number_held : (m : ℕ) (a b l h x : ℤ) → l ≡ a -ℤ pos m → h ≡ b -ℤ pos m → Between a b x → Between l h (x -ℤ pos m)
 less_number_held m a b l h x e f p = record { from = omega (arith, ints, p.from); to = omega (arith, ints, p.to) }
-
-pub one_number : (m : ℕ) → Ends m 0 (pos m) (pos m)
-one_number m = record { order = omega (arith, ints); low = record { low = omega (arith, ints); high = omega (arith, ints) }; high = record { low = omega (arith, ints); high = omega (arith, ints) }; width = omega (arith, ints) }
 
 pub one_within : IsWithin unit (pos unit)
 one_within = record { low = omega (arith, ints); high = omega (arith, ints) }

@@ -9,9 +9,9 @@ use Rattle.gnss_model.specs.RecordBounds.{eccentricity_bound, least_root_a, grea
 use Rattle.grid_model.specs.Rounding.{Near}
 use Rattle.grid_model.specs.Sines.{NearCircle}
 use Rattle.grid_model.specs.Sizes.{IsWithin}
-use Rattle.grid_model.proofs.ProductLemmas.{mul_mono, distrib, mul_assoc, product_within}
+use Rattle.grid_model.proofs.ProductLemmas.{mul_mono, distrib, mul_assoc, product_within, swap4}
 use Rattle.broadcast_orbit.proofs.Chains.{one_within}
-use Rattle.broadcast_orbit.proofs.PairLemmas.{swap4, pair_squares, near_squares, times_near, square_natural, first_within, second_within, product_between, Squares}
+use Rattle.broadcast_orbit.proofs.PairLemmas.{pair_squares, near_squares, times_near, square_natural, first_within, second_within, product_between, Squares}
 
 -- ---- in um: the radius, and how far the squares of other distances may be from its own
 

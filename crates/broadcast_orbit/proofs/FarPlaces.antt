@@ -12,9 +12,9 @@ use Rattle.gnss_model.specs.Turn.{Turn}
 use Rattle.grid_model.specs.declared.boxes.Pos.{Pos}
 use Rattle.gnss_model.specs.declared.elements.Elements.{Elements}
 use Rattle.grid_model.proofs.PointLemmas.{in_box}
-use Rattle.grid_model.proofs.ProductLemmas.{product_le, square_of_amount}
+use Rattle.grid_model.proofs.ProductLemmas.{product_le, square_of_amount, swap4}
 use Rattle.broadcast_orbit.proofs.ChainDistance.{orbit_distance}
-use Rattle.broadcast_orbit.proofs.PairLemmas.{swap4, square_of_difference, near_squares, square_natural, side_within}
+use Rattle.broadcast_orbit.proofs.PairLemmas.{square_of_difference, near_squares, square_natural, side_within}
 use Rattle.broadcast_orbit.proofs.TurnKeeps.{turned_low, turned_high, turned_distance}
 
 -- ---- from the distance to the origin

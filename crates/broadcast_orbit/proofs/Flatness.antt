@@ -7,6 +7,7 @@ use Rattle.grid_model.specs.Intervals.{Between, Ends}
 use Rattle.grid_model.specs.Roots.{IsRoot}
 use Rattle.grid_model.proofs.RootLemmas.{square-mono}
 use Rattle.broadcast_orbit.specs.OrbitSizes.{eccentricity_amount}
+use Rattle.interval_trig.proofs.Symmetry.{natural}
 
 -- a number whose square is at most n is at most a number whose successor's square is above n
 not_above : (a w n : ℕ) → a * a ≤ n → n < (w + 1) * (w + 1) → a ≤ w
@@ -44,9 +45,6 @@ square_of x n w e h = omega (arith, ints, subst (λ (z : ℤ). (pos (w * w) +ℤ
 
 next_of : (x : ℤ) (n w : ℕ) → x ≡ pos n → pos (unit * unit) <ℤ (pos ((w + 1) * (w + 1)) +ℤ (x *ℤ x)) → unit * unit < (w + 1) * (w + 1) + n * n
 next_of x n w e h = omega (arith, ints, subst (λ (z : ℤ). pos (unit * unit) <ℤ (pos ((w + 1) * (w + 1)) +ℤ (z *ℤ z))) e h)
-
-natural : (x : ℤ) → pos 0 ≤ℤ x → x ≡ pos (nat_abs x)
-natural x h = omega (arith, ints)
 
 pub root_held : (lo hi x : ℤ) (i k u v w : ℕ) → pos i ≡ lo → pos k ≡ hi → pos 0 ≤ℤ lo → hi ≤ℤ pos eccentricity_amount → Between lo hi x → IsRoot (unit * unit - k * k) u → IsRoot (unit * unit - i * i) v → (pos (w * w) +ℤ (x *ℤ x)) ≤ℤ pos (unit * unit) → pos (unit * unit) <ℤ (pos ((w + 1) * (w + 1)) +ℤ (x *ℤ x)) → Between (pos u) (pos v) (pos w)
 root_held lo hi x i k u v w e f p h b r s y z =

@@ -7,16 +7,10 @@ use Rattle.grid_model.specs.Angles.{unit}
 use Rattle.grid_model.specs.Intervals.{Between}
 use Rattle.grid_model.specs.Rounding.{Near}
 use Rattle.grid_model.specs.Sizes.{IsWithin}
-use Rattle.grid_model.proofs.ProductLemmas.{mul_mono, add_mul, distrib, distrib_less, mul_assoc, product_within, square_of_amount}
+use Rattle.grid_model.proofs.ProductLemmas.{mul_mono, add_mul, distrib, distrib_less, product_within, square_of_amount, swap4, less_mul}
 use Rattle.grid_model.proofs.RootLemmas.{square-mono}
-use Rattle.fix_interval.proofs.InsideLemmas.{less_mul}
 
--- the middle factors change places
-pub swap4 : (a b c d : ℤ) → (a *ℤ c) *ℤ (b *ℤ d) ≡ (a *ℤ b) *ℤ (c *ℤ d)
-swap4 a b c d =
-    mul_assoc a c (b *ℤ d) ∙ ap (λ (z : ℤ). a *ℤ z) (sym (mul_assoc c b d) ∙ ap (λ (z : ℤ). z *ℤ d) (*ℤ_comm c b) ∙ mul_assoc b c d) ∙ sym (mul_assoc a b (c *ℤ d))
-
-square_of_sum : (a b : ℤ) → (a +ℤ b) *ℤ (a +ℤ b) ≡ (a *ℤ a) +ℤ (a *ℤ b) +ℤ ((a *ℤ b) +ℤ (b *ℤ b))
+pub square_of_sum : (a b : ℤ) → (a +ℤ b) *ℤ (a +ℤ b) ≡ (a *ℤ a) +ℤ (a *ℤ b) +ℤ ((a *ℤ b) +ℤ (b *ℤ b))
 square_of_sum a b = add_mul a b (a +ℤ b) ∙ (let p = distrib a a b in let q = distrib b a b in let r = *ℤ_comm b a in omega (arith, ints))
 
 pub square_of_difference : (a b : ℤ) → (a -ℤ b) *ℤ (a -ℤ b) ≡ (a *ℤ a) -ℤ (a *ℤ b) -ℤ ((a *ℤ b) -ℤ (b *ℤ b))

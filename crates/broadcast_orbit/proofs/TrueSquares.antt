@@ -9,12 +9,12 @@ use Rattle.grid_model.specs.Intervals.{Between}
 use Rattle.grid_model.specs.Rounding.{Near}
 use Rattle.grid_model.specs.Sines.{NearCircle}
 use Rattle.grid_model.specs.Sizes.{IsWithin}
-use Rattle.grid_model.proofs.ProductLemmas.{mul_mono, mul_le_back, add_mul, distrib, distrib_less, product_within}
+use Rattle.grid_model.proofs.ProductLemmas.{mul_mono, mul_le_back, add_mul, distrib, distrib_less, product_within, swap4, larger as wide, less_mul}
 use Rattle.broadcast_orbit.specs.OrbitSizes.{eccentricity_amount}
-use Rattle.broadcast_orbit.proofs.PairLemmas.{swap4, square_of_difference, near_squares, times_near, square_natural, Squares}
+use Rattle.broadcast_orbit.proofs.PairLemmas.{square_of_difference, near_squares, times_near, square_natural, Squares}
 use Rattle.grid_model.proofs.RootLemmas.{square-mono}
-use Rattle.fix_interval.proofs.InsideLemmas.{less_mul}
 use Rattle.broadcast_orbit.proofs.Chains.{one_within}
+use Rattle.broadcast_orbit.proofs.ChainExists.{small_amount as within_of}
 
 -- ---- (c - e)^2 one^2 + w^2 s^2, where the products of squares are variables
 pub join : (C S X E W ES WS EC XX o : ℤ) → o ≡ pos (unit * unit) -ℤ E -ℤ W → pos 0 ≤ℤ o → o ≤ℤ pos (2 * unit) → IsWithin (16 * unit) ((S +ℤ C) -ℤ pos (unit * unit)) → EC ≡ XX → WS ≡ (pos (unit * unit) *ℤ S) -ℤ ES -ℤ (o *ℤ S) → IsWithin (4 * (unit * unit * unit)) (o *ℤ S) → IsWithin (unit * unit * unit) ((ES +ℤ EC) -ℤ (pos (unit * unit) *ℤ E)) →
@@ -29,9 +29,6 @@ lack_is E W S o e =
 
 factor_is : (E S C : ℤ) → E *ℤ ((S +ℤ C) -ℤ pos (unit * unit)) ≡ ((E *ℤ S) +ℤ (E *ℤ C)) -ℤ (pos (unit * unit) *ℤ E)
 factor_is E S C = distrib_less E (S +ℤ C) (pos (unit * unit)) ∙ (let p = distrib E S C in let q = *ℤ_comm E (pos (unit * unit)) in omega (arith, ints))
-
-wide : (m n : ℕ) (z : ℤ) → m ≤ n → IsWithin m z → IsWithin n z
-wide m n z h w = record { low = omega (arith, ints, w.low); high = omega (arith, ints, w.high) }
 
 circle_off : (s c : ℤ) → NearCircle s c → IsWithin (16 * unit) (((s *ℤ s) +ℤ (c *ℤ c)) -ℤ pos (unit * unit))
 circle_off s c n = record { low = omega (arith, ints, n.below, n.above); high = omega (arith, ints, n.below, n.above) }
@@ -86,9 +83,6 @@ lack_from : (E : ℤ) (w : ℕ) → pos 0 ≤ℤ E → (pos (w * w) +ℤ E) ≤�
 lack_from E w p h k =
     let r = root_most w (omega (arith, ints)) in
     record { low = omega (arith, ints); high = omega (arith, ints); root = r }
-
-within_of : (e : ℤ) → pos 0 ≤ℤ e → e ≤ℤ pos eccentricity_amount → IsWithin eccentricity_amount e
-within_of e h k = record { low = omega (arith, ints); high = omega (arith, ints) }
 
 difference_small : (c e : ℤ) → IsWithin (unit + 8) c → IsWithin eccentricity_amount e → IsWithin (3 * unit) (c -ℤ e)
 difference_small c e p q = record { low = omega (arith, ints, p.low, q.high); high = omega (arith, ints, p.high, q.low) }

@@ -12,9 +12,9 @@ use Rattle.grid_model.specs.Sines.{NearCircle}
 use Rattle.grid_model.specs.Sizes.{IsWithin}
 use Rattle.gnss_model.specs.Turn.{IsTurnedOver, Turn}
 use Rattle.grid_model.specs.declared.boxes.Pos.{Pos}
-use Rattle.grid_model.proofs.ProductLemmas.{mul_mono}
+use Rattle.grid_model.proofs.ProductLemmas.{mul_mono, swap4}
 use Rattle.broadcast_orbit.specs.OrbitSizes.{least_distance, greatest_distance, IsOrbitDistance}
-use Rattle.broadcast_orbit.proofs.PairLemmas.{swap4, pair_squares, near_squares, times_near, square_natural, first_within, second_within, product_between, Squares}
+use Rattle.broadcast_orbit.proofs.PairLemmas.{pair_squares, near_squares, times_near, square_natural, first_within, second_within, product_between, Squares}
 
 abbrev circle_low : ℕ
 circle_low = unit * unit - 16 * unit

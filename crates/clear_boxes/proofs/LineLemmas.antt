@@ -16,7 +16,7 @@ use Rattle.gnss_model.specs.Delays.{err_spare_of}
 use Rattle.sat_model.specs.declared.rows.Row.{Row}
 use Rattle.sat_model.specs.declared.rows.SatEntry.{SatEntry}
 use Rattle.sat_model.specs.declared.rows.SatEntry.TheVariants as entry
-use Rattle.grid_model.proofs.PointLemmas.{both, le_from}
+use Rattle.grid_model.proofs.PointLemmas.{le_from}
 use Rattle.sat_model.proofs.FittingLemmas.{holds_from, count_here, count_not_here, count_any}
 use Rattle.sat_rows.specs.Meanings.{Meaning, IsSound}
 use Rattle.sat_rows.specs.OwnRows.{IsOwnRow, AreOwnLines}
@@ -24,8 +24,9 @@ use Rattle.sat_rows.specs.declared.lines.SatLine.{SatLine}
 use Rattle.sat_rows.specs.declared.lines.SatLine.TheVariants.{Usable, Skipped}
 use Rattle.clear_boxes.specs.Clear.{UsableBut, IfUsable, HoldsRange, IsNearlyConsistent, IsSafelyConsistent, IsEmptyBy, IsInnerBy}
 use Rattle.epoch_rows.specs.Grown.{IsGrownRow, AreGrownLines}
-use Rattle.box_steps.proofs.FaceLemmas.{own_box}
 use Rattle.clear_boxes.proofs.RowLemmas.{row_over, nearly_consistent, safely_inner}
+use Rattle.range_contractor.proofs.TreeLemmas.{lies_itself as own_box}
+use Rattle.grid_model.proofs.BoolLemmas.{both}
 
 count_le : (b : ℤ) (spans : List (ℤ × ℤ)) → count_by (λ s. holds s b) spans ≤ length spans
 count_le b [] = omega arith

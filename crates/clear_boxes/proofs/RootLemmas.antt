@@ -6,7 +6,7 @@ use Rattle.std.proofs.lemmas.Nat.{mul-le}
 use Rattle.grid_model.specs.Amounts.{least_amount, greatest_amount, square}
 use Rattle.grid_model.specs.Boxes.{Side, IsIn}
 use Rattle.grid_model.specs.Roots.{IsRoot, root}
-use Rattle.grid_model.proofs.RootLemmas.{root_is, square-mono}
+use Rattle.grid_model.proofs.RootLemmas.{root_is, square-mono, less_of_squares}
 use Rattle.grid_model.proofs.SquareLemmas.{one_part}
 use Rattle.range_contractor.proofs.AmountLemmas.{above_is_up}
 use borrow.Author.Differences.{up, down}
@@ -28,9 +28,6 @@ twice_product d e = elim (order d e) [
       | inl h ↦ inl (e - d, omega arith)
       | inr h ↦ inr (d - e, omega arith)
     ]
-
-less_of_squares : (a b : ℕ) → a * a < b * b → a < b
-less_of_squares a b h = grind (arith, square-mono b a)
 
 -- the root of three is less than 7 / 4
 sum_less : (d e f r : ℕ) → d * d + e * e + f * f < (r + 1) * (r + 1) → 4 * (d + e + f) < 7 * (r + 1)

@@ -5,7 +5,6 @@ use Rattle.std.specs.Prelude.{ℤ, pos, ◌-ℤ◌, ◌≤ℤ◌}
 use Rattle.std.proofs.lemmas.Int.{ints}
 use Rattle.box_steps.proofs.BoxLemmas.{cuts_inside, none_left}
 use Rattle.relaxed_meet.proofs.TestLemmas.{empty_by_spans}
-use Rattle.box_steps.proofs.FaceLemmas.{own_box, with_inside}
 use Rattle.box_steps.specs.BoxSteps.{AreCutsOf}
 use Rattle.box_steps.specs.Cuts.{eighth_of, past_eighth, eighths, all_faces, MayCut, NoneMayCut}
 use Rattle.epoch_selection.specs.Searches.{search_in}
@@ -38,6 +37,8 @@ use Rattle.clear_boxes.proofs.LineLemmas.{empty_shown, inner_shown}
 use Rattle.log_writer.proofs.GridSizes.{all_append, all_front, all_back}
 use Rattle.paving.proofs.PavedExists.{low_inside, high_inside}
 use Rattle.paving.proofs.PavedLemmas.{AreCutsInTurn, cuts_in_turn, box_opens, keeps_test}
+use Rattle.sat_model.proofs.FoldLemmas.{with_inside}
+use Rattle.range_contractor.proofs.TreeLemmas.{lies_itself as own_box}
 
 -- ---- eighths
 

@@ -4,7 +4,7 @@ use Rattle.std.specs.Prelude.{ℤ, pos, ◌+ℤ◌, ◌-ℤ◌, ◌*ℤ◌, ◌�
 use Rattle.std.proofs.lemmas.Int.{ints}
 use Rattle.sat_clock.specs.ClockSizes.{correction_size}
 use Rattle.code_search.specs.Residuals.{um_of}
-use Rattle.grid_model.specs.Intervals.{Between, Ends}
+use Rattle.grid_model.specs.Intervals.{Between}
 use Rattle.grid_model.specs.Ranges.{range_to}
 use Rattle.gnss_model.specs.Pseudorange.{IsCorrected}
 use Rattle.grid_model.specs.Sizes.{IsWithin}
@@ -38,9 +38,6 @@ far_range x y z p d near =
     let l = side_of_point p.y near.y in
     let m = side_of_point p.z near.z in
     range_most farthest_range x y z p (omega (arith, ints, a, b, c, k, l, m, d.to))
-
-pub member_within : (n w : ℕ) (a b x : ℤ) → Ends n w a b → Between a b x → IsWithin n x
-member_within n w a b x e h = record { low = omega (arith, ints, e.low.low, h.from); high = omega (arith, ints, e.high.high, h.to) }
 
 -- a difference from a range
 pub less_most : (p c v : ℤ) (r : ℕ) → c ≤ℤ (p +ℤ pos greatest_offset) → v ≡ c -ℤ pos r → v ≤ℤ (p +ℤ pos greatest_offset)

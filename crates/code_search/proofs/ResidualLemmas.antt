@@ -19,8 +19,8 @@ use Rattle.grid_model.specs.Intervals.{Between, Ends}
 use Rattle.grid_model.specs.Lengths.{longest_length, spare_of}
 use Rattle.grid_model.specs.Sizes.{IsWithin}
 use Rattle.grid_model.proofs.AmountLemmas.{above_is}
-use Rattle.grid_model.proofs.EndsLemmas.{wider_ends}
 use Rattle.grid_model.proofs.IntervalLemmas.{low_member, high_member}
+use Rattle.fix_interval.proofs.PlaceLemmas.{wider_place}
 
 x_within : (x y z : ℤ) → IsOrbitDistance x y z → IsWithin near_reach x
 x_within x y z d = side_within greatest_distance x (omega (arith, ints, d.to, square_natural y, square_natural z))
@@ -47,13 +47,6 @@ orbit_ends at d x y z =
 
 pub no_side : (z : ℤ) → above z z ≡ 0
 no_side z = omega (arith, ints, above_is z z)
-
-pub wider_place : (m n v w : ℕ) (at : Place) → m ≤ n → v ≤ w → PlaceEnds m v at → PlaceEnds n w at
-wider_place m n v w at h k e = record {
-  x_ends = wider_ends m n v w at.x.lo at.x.hi h k e.x_ends;
-  y_ends = wider_ends m n v w at.y.lo at.y.hi h k e.y_ends;
-  z_ends = wider_ends m n v w at.z.lo at.z.hi h k e.z_ends;
-}
 
 -- the place as seen from a point
 pub from_point : (part : GridBox) (at : Place) → longest_length part ≡ 0 → PlaceEnds (reach_after near_reach) (spare_of part) at → PlaceEnds turned_reach 2000 at

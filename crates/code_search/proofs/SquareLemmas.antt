@@ -1,18 +1,13 @@
 -- Distances from points between two circles round the earth's centre: by squares, each axis for itself.
-use Rattle.std.proofs.Common.{◌≡◌, ℕ, ◌+◌, ◌*◌, ◌≤◌, inl, inr, arith, ap, sym, ◌∙◌}
+use Rattle.std.proofs.Common.{◌≡◌, ℕ, ◌+◌, ◌*◌, ◌≤◌, arith, ap, sym, ◌∙◌}
 use Rattle.std.specs.Prelude.{ℤ, pos, ◌+ℤ◌, ◌-ℤ◌, ◌*ℤ◌, ◌≤ℤ◌}
-use Rattle.std.proofs.lemmas.Bool.{cases_lt}
 use Rattle.std.proofs.lemmas.Int.{ints}
 use lib.IntN.{*ℤ_comm}
-use Rattle.broadcast_orbit.proofs.PairLemmas.{swap4, square_natural, square_of_difference}
+use Rattle.broadcast_orbit.proofs.PairLemmas.{square_natural, square_of_difference, square_of_sum}
 use Rattle.grid_model.specs.Ranges.{range_to}
-use Rattle.grid_model.specs.Roots.{root}
 use Rattle.grid_model.specs.declared.boxes.Pos.{Pos}
-use Rattle.grid_model.proofs.ProductLemmas.{add_mul, distrib, mul_assoc, square_of_amount}
-use Rattle.grid_model.proofs.RootLemmas.{square-mono, root_is}
-
-square_of_sum : (a b : ℤ) → (a +ℤ b) *ℤ (a +ℤ b) ≡ (a *ℤ a) +ℤ (a *ℤ b) +ℤ ((a *ℤ b) +ℤ (b *ℤ b))
-square_of_sum a b = add_mul a b (a +ℤ b) ∙ (let p = distrib a a b in let q = distrib b a b in let r = *ℤ_comm b a in omega (arith, ints))
+use Rattle.grid_model.proofs.ProductLemmas.{mul_assoc, square_of_amount, swap4}
+use Rattle.grid_model.proofs.RootLemmas.{root_le as root_most, root_least}
 
 times_scaled : (n s p : ℤ) → s *ℤ (n *ℤ p) ≡ n *ℤ (s *ℤ p)
 times_scaled n s p = sym (mul_assoc s n p) ∙ ap (λ (z : ℤ). z *ℤ p) (*ℤ_comm s n) ∙ mul_assoc n s p
@@ -45,18 +40,6 @@ side_least s p =
 -- the squared distance from p
 abbrev pub apart : ℤ → ℤ → ℤ → Pos → ℤ
 apart x y z p = ((x -ℤ p.x) *ℤ (x -ℤ p.x)) +ℤ ((y -ℤ p.y) *ℤ (y -ℤ p.y)) +ℤ ((z -ℤ p.z) *ℤ (z -ℤ p.z))
-
-root_most : (a n : ℕ) → a ≤ n * n → root a ≤ n
-root_most a n h = elim (cases_lt n (root a)) [
-  | inl far ↦ let up = square-mono (n + 1) (root a) (omega (arith, far)) in let is = root_is a in absurd (omega (arith, up, is.square_le, h))
-  | inr near ↦ near
-]
-
-root_least : (a n : ℕ) → n * n ≤ a → n ≤ root a
-root_least a n h = elim (cases_lt (root a) n) [
-  | inl low ↦ let up = square-mono (root a + 1) n (omega (arith, low)) in let is = root_is a in absurd (omega (arith, up, is.next_square_gt, h))
-  | inr near ↦ near
-]
 
 pub range_most : (n : ℕ) (x y z : ℤ) (p : Pos) → apart x y z p ≤ℤ pos (n * n) → range_to x y z p ≤ n
 unfolding range_to

@@ -16,6 +16,7 @@ use Rattle.clap.specs.declared.error.kind.ErrorKind.TheVariants.{InvalidValue, W
 use Rattle.clap.specs.declared.parser.matches.ValueSource.{ValueSource}
 use Rattle.clap.specs.declared.parser.matches.ValueSource.TheVariants.{CommandLine, DefaultValue}
 use Rattle.clap.specs.declared.builder.value_parser.Reading.{Reading}
+use Rattle.std.proofs.lemmas.Option.{same_Some as same_some}
 
 -- the argument keeps the last use, and a use has a value: one of the words, or for a flag what
 -- stands for none
@@ -39,9 +40,6 @@ both (k ∷ ks) b e = cc
 either : {X : Type 0} (P : X → Type 0) (t : Bool) (x y : X) (f g : Kinds) → (f ≡ [] → P x) → (g ≡ [] → P y) → cond t f g ≡ [] → P (cond t x y)
 either P true x y f g p q e = p e
 either P false x y f g p q e = q e
-
-same_some : {X : Type 0} (x y : X) → Some x ≡ Some y → x ≡ y
-same_some x y e = cc
 
 set_found : (c : List Rule) (p : Rule → Bool) (a : Rule) → AllSet c → find p c ≡ Some a → IsSet a
 set_found [] p a all e = cc

@@ -9,13 +9,11 @@ use Rattle.clap.specs.Walk.{Text, Row, is_empty}
 use Rattle.clap.specs.Simple.{subcommand_rows}
 use Rattle.clap.specs.declared.parser.matches.SubCommand.{SubCommand}
 use Rattle.clap.specs.declared.parser.matches.ArgMatches.TheViews.{out-SubCommand}
+use Rattle.std.proofs.lemmas.Option.{same_Some as same_some}
 
 pub some_fault : (faults : Kinds) → faults ≢ [] → is_empty faults ≡ false
 some_fault [] some = absurd (some refl)
 some_fault (k ∷ ks) some = ne_eqb (length (k ∷ ks)) 0 (λ e. absurd (omega (arith, e)))
-
-same_some : {X : Type 0} (x y : X) → Some x ≡ Some y → x ≡ y
-same_some x y e = cc
 
 -- a subcommand's name and its matches, told apart
 pub said_is : (o : Option (Box SubCommand Global)) (name : Text) (rows : List Row)

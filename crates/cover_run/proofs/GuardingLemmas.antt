@@ -1,10 +1,10 @@
 -- What `guard` tells of an accepted log.
-use Rattle.std.proofs.Common.{◌≡◌, ℕ, suc, ◌+◌, ◌<◌, ◌≤◌, ◌^◌, Bool, true, false, List, [], ◌∷◌, length, map, Option, None, Some, refl, sym, ap, subst, ◌∙◌, arith, Vec, Global}
+use Rattle.std.proofs.Common.{◌≡◌, ℕ, suc, ◌+◌, ◌<◌, ◌≤◌, ◌^◌, Bool, true, false, List, [], ◌∷◌, length, Option, None, Some, refl, sym, ap, subst, ◌∙◌, arith, Vec, Global}
 use Rattle.std.specs.Prelude.{ℤ, is_none}
 use Rattle.std.specs.List.{AllByRecursion}
 use Rattle.epoch_selection.specs.Searches.{Search}
 use Rattle.epoch_selection.specs.declared.selection.Selection.{Selection}
-use Rattle.grid_model.specs.Boxes.{GridBox, box_holds}
+use Rattle.grid_model.specs.Boxes.{GridBox}
 use Rattle.grid_model.specs.declared.boxes.Pos.{Pos}
 use Rattle.gnss_model.specs.declared.delays.Delays.{Delays}
 use Rattle.input_files.specs.declared.inputs.Inputs.{Inputs}
@@ -33,7 +33,6 @@ use Rattle.zone_guard.proofs.AnswerLemmas.{none_kept}
 use Rattle.zone_guard.proofs.KeptLemmas.{holding, in_prism, in_zone, none_holds, reached}
 use Rattle.zone_guard.specs.EpochsFound.{AreEpochsFound, AreFindings, IsFoundIn}
 use Rattle.zone_guard.specs.Findings.{IsFinding, corner_box}
-use Rattle.zone_guard.specs.Planes.{IsInPrism}
 use Rattle.zone_guard.specs.Watched.{BoxValue, FormValue, PrismValue, ReachValue, WatchValue}
 use Rattle.zone_guard.specs.WatchValues.{watch_values}
 use Rattle.zone_guard.specs.declared.found.EpochFindings.{EpochFindings}
@@ -90,7 +89,7 @@ as_many ws [] (e ∷ epochs) are = absurd are
 as_many ws (block ∷ more) [] are = absurd are
 as_many ws (block ∷ more) (e ∷ epochs) are = ap suc (as_many ws more epochs are.1)
 
-some_line : (block : Block) (root : Option GridBox) → 1 ≤ lines_with block root
+pub some_line : (block : Block) (root : Option GridBox) → 1 ≤ lines_with block root
 some_line block None = omega arith
 some_line block (Some root) = omega arith
 

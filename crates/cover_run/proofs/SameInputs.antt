@@ -2,10 +2,9 @@
 use Rattle.std.proofs.Common.{◌≡◌, ℕ, Bool, List, [], ◌∷◌, Option, None, Some, inl, inr}
 use Rattle.std.proofs.Common.{refl, sym, ap, subst, ◌∙◌}
 use Rattle.std.proofs.lemmas.Bool.{cases_Bool}
-use Rattle.std.specs.Prelude.{ℤ, pos, ◌≤ℤ◌, ◌<ℤ◌, nat_le, ◌&&◌}
+use Rattle.std.specs.Prelude.{ℤ, ◌≤ℤ◌, nat_le, ◌&&◌}
 use Rattle.std.specs.List.{filter}
 use Rattle.std.specs.Option.{option_map}
-use Rattle.std.proofs.Math.Dec.{T_prop}
 use mathlib.Core.HLevel.{is_prop→PathP}
 use Rattle.epoch_selection.specs.Searches.{Search, searches_in}
 use Rattle.epoch_selection.specs.Selections.{is_selected, selected}
@@ -19,7 +18,6 @@ use Rattle.paving_log.proofs.ValueLemmas.{same_rules}
 use Rattle.paving_log_check.specs.Admissible.{Admits, AdmitsFrom, AreOwn, IsDue, IsOf}
 use Rattle.paving_log_check.specs.Epochs.{EpochPasses}
 use Rattle.rinex_nav.specs.Reading.{plain_record, records_of}
-use Rattle.rinex_nav.specs.Records.{Broadcast}
 use Rattle.rinex_nav.specs.declared.record.NavRecord.{NavRecord}
 use Rattle.rinex_obs.specs.Epochs.{Observed}
 use Rattle.rinex_obs.specs.Reading.{plain_epoch, plain_epochs}
@@ -38,27 +36,10 @@ use Rattle.sat_rows.specs.declared.lines.SatLine.{SatLine}
 use Rattle.tube_searches.specs.Tubes.{from_root, searches_from}
 use Rattle.usable_sats.specs.Usability.{Sighting, use_of, IsJudged}
 use Rattle.cover_run.specs.Solving.{IsRootOf, epochs_of, meaning_of}
+use Rattle.grid_model.proofs.OrderLemmas.{le_prop as from_prop}
+use Rattle.made_input.proofs.FitLemmas.{same_record}
 
 -- ---- values with proofs in them
-
-from_prop : (a b : ℤ) (p q : a ≤ℤ b) → p ≡ q
-from_prop a b = hlevel T_prop
-
-under_prop : (a b : ℤ) (p q : a <ℤ b) → p ≡ q
-under_prop a b = hlevel T_prop
-
-same_record : (a b : NavRecord) → plain_record a ≡ plain_record b → a ≡ b
-same_record a b e =
-    let toc : a.toc ≡ b.toc = ap (λ (r : Broadcast). r.toc) e in λ i. record {
-      sat = ap (λ (r : Broadcast). r.sat) e i;
-      toc = toc i;
-      healthy = ap (λ (r : Broadcast). r.healthy) e i;
-      fields = ap (λ (r : Broadcast). r.fields) e i;
-      toc_from = is_prop→PathP (λ j. pos 0 ≤ℤ toc j) (λ j. from_prop (pos 0) (toc j))
-          a.toc_from b.toc_from i;
-      toc_under = is_prop→PathP (λ j. toc j <ℤ pos 4000000000000000000000)
-          (λ j. under_prop (toc j) (pos 4000000000000000000000)) a.toc_under b.toc_under i;
-    }
 
 record IsCons {A : Type 0} (a b : A) (xs ys : List A) : Type 0 where
   head : a ≡ b

@@ -1,7 +1,6 @@
 -- The log that `solve` writes, against the files.
 use Rattle.std.proofs.Common.{ℕ, List, Ok, Err}
 use Rattle.clear_boxes.proofs.LogLemmas.{whole_clear}
-use Rattle.epoch_rows.proofs.AdmitLemmas.{has_corner}
 use Rattle.epoch_rows.proofs.CameLemmas.{whole_admits, whole_covers}
 use Rattle.epoch_rows.specs.EpochsLeft.{EpochsLeft, left_in}
 use Rattle.epoch_selection.specs.declared.selection.Selection.{Selection}
@@ -13,6 +12,7 @@ use Rattle.grid_model.specs.declared.boxes.Box3.{Box3}
 use Rattle.sat_rows.specs.Laws.{both_sound}
 use Rattle.cover_run.specs.Solving.{IsRootOf, IsSolution, epochs_of, gives_of, meaning_of}
 use Rattle.cover_run.specs.Writing.{Answer}
+use Rattle.grid_model.proofs.PointLemmas.{low_corner as has_corner}
 
 -- its text is that of a log that all own lines admit, that covers what fits, and that leaves nothing
 -- clear

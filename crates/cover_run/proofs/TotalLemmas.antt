@@ -8,7 +8,7 @@ use Rattle.grid_model.specs.Boxes.{GridBox}
 use Rattle.sat_model.specs.Fold.{ShownStep, boxes_after, pieces_from, slab_of_cut, taken_by}
 use Rattle.sat_model.specs.BoxTests.{BoxTest}
 use Rattle.sat_model.specs.Stages.{Stage, after, first_stage}
-use Rattle.sat_model.specs.Logs.{Block, LogValue, IsNumbered, IsNumberedFrom, lines_in, lines_with}
+use Rattle.sat_model.specs.Logs.{Block, LogValue, IsNumbered, IsNumberedFrom, lines_in}
 use Rattle.sat_model.specs.StepKinds.{is_inside, is_edge, is_outside}
 use Rattle.sat_model.specs.Verdicts.{BlocksPass, BodyPasses, Judged, StepPasses, StepsPass}
 use Rattle.sat_model.specs.declared.rules.Rules.{Rules}
@@ -17,6 +17,7 @@ use Rattle.sat_model.specs.declared.steps.Step.TheVariants.{Cut, Split, Outside,
 use Rattle.cover_run.specs.Making.{count_of, is_of, summed}
 use Rattle.cover_run.specs.declared.totals.Kind.{Kind}
 use Rattle.cover_run.specs.declared.totals.Kind.TheVariants as kind
+use Rattle.paving_log_check.proofs.BlockLemmas.{last_number}
 
 -- ---- steps that pass are those of the report's lines
 
@@ -64,15 +65,7 @@ count_is kind.Outside test rules done root steps h =
     counted is_outside (λ id axis. refl) rules done (first_stage test root) steps h
 count_is kind.Splits test rules done root steps h = refl
 
-pub some_line : (block : Block) (root : Option GridBox) → 1 ≤ lines_with block root
-some_line block None = omega arith
-some_line block (Some root) = omega arith
-
 -- ---- a sum, block by block
-
-last_number : (next : ℕ) (blocks : List Block) → IsNumberedFrom next blocks → next ≤ 4000000001
-last_number next [] h = h
-last_number next (block ∷ more) h = omega (arith, last_number (next + lines_in block) more h.1)
 
 -- the blocks before number i have this sum
 pub record IsSummed (number : Block → ℕ) (log : LogValue) (i total : ℕ) : Type 0 where

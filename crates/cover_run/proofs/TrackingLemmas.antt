@@ -1,5 +1,5 @@
 -- The log of a track, and the line of a receiver that is lost behind its report.
-use Rattle.std.proofs.Common.{◌≡◌, ◌≢◌, ◌⊎◌, ℕ, suc, ◌+◌, ◌≤◌, Bool, true, false, List, [], ◌∷◌, ◌++◌, length, take}
+use Rattle.std.proofs.Common.{◌≡◌, ◌≢◌, ℕ, suc, ◌+◌, ◌≤◌, Bool, true, false, List, [], ◌∷◌, ◌++◌, length, take}
 use Rattle.std.proofs.Common.{Option, None, Some, Ok, Err, inl, inr, refl, sym, ap, ap₂, subst, ◌∙◌, arith, append_assoc, append-nil}
 use Rattle.std.specs.Option.{option_map}
 use Rattle.grid_model.specs.Boxes.{GridBox}
@@ -11,9 +11,9 @@ use Rattle.input_files.specs.declared.status.Status.TheVariants as status
 use Rattle.log_writer.proofs.KnownRows.{broke_on}
 use Rattle.log_writer.proofs.TextLemmas.{pieces_report, pieces_text}
 use Rattle.log_writer.proofs.WritingLemmas.{log_bytes-append, report_bytes-append}
-use Rattle.log_writer.specs.Breaks.{BrokeOff, IsFrontOf}
+use Rattle.log_writer.specs.Breaks.{BrokeOff}
 use Rattle.log_writer.specs.Kept.{hull_kept, hull_of_last}
-use Rattle.log_writer.specs.Pieces.{Piece, log_bytes, log_pieces, piece, report_bytes}
+use Rattle.log_writer.specs.Pieces.{log_bytes, log_pieces, piece, report_bytes}
 use Rattle.log_writer.specs.Sizes.{HasRoom}
 use Rattle.log_writer.specs.Sources.{Gives, Came}
 use Rattle.log_writer.specs.Texts.{IsText, IsWhole}
@@ -33,10 +33,10 @@ use Rattle.tube_rows.proofs.CameLemmas.{whole_admits, whole_clear, whole_covers,
 use Rattle.tube_rows.specs.TubeLeft.{Last, TubeLeft, left_in, lost_of, of_tube}
 use Rattle.input_files.specs.declared.inputs.Inputs.{Inputs}
 use Rattle.cover_run.specs.Solving.{epochs_of, meaning_of}
-use Rattle.cover_run.specs.Telling.{Sinks, TellsLine, sinks}
+use Rattle.cover_run.specs.Telling.{Sinks, sinks}
 use Rattle.cover_run.specs.Tracking.{IsTrack, IsTrackText, IsTubeOf, TellsLost, gives_tube, lost_behind, lost_in, lost_line, lost_text, lost_with, track_pieces}
 use Rattle.cover_run.specs.Worlds.{World, Says, world}
-use Rattle.cover_run.specs.Writing.{Answer, IsCause, SaysEnd, Writes, WritesLog, status_of_writing}
+use Rattle.cover_run.specs.Writing.{Answer, SaysEnd, Writes, WritesLog, status_of_writing}
 
 -- ---- where the receiver is lost
 
@@ -130,7 +130,7 @@ taking_none : (o : Option SinkTold) → option_map (taking []) o ≡ o
 taking_none None = refl
 taking_none (Some t) = ap (λ (bs : List ℕ). Some (record t { bytes = bs })) (append-nil t.bytes)
 
-taken_both : (a b c : SinkState) (x y : List ℕ) → TakenBy a b x → TakenBy b c y → TakenBy a c (x ++ y)
+pub taken_both : (a b c : SinkState) (x y : List ℕ) → TakenBy a b x → TakenBy b c y → TakenBy a c (x ++ y)
 taken_both a b c x y first second = second ∙ ap (option_map (taking y)) first ∙ taking_both x y a.told
 
 module _ (m : Meaning) (q : ℕ) (i : Inputs) (first last : TubeLeft) (none : first.last ≡ None) (limit most : ℕ) (name : List ℕ) (before mid : World) (was : Trust) where

@@ -1,12 +1,11 @@
 -- Lines that are written one behind another, and the first bytes of them.
-use Rattle.std.proofs.Common.{◌≡◌, ℕ, zero, suc, ◌+◌, ◌<◌, ◌≤◌, Bool, true, false, List, [], ◌∷◌, ◌++◌, length, map, take, get_or, Option, None, Some, Result, Ok, Err, refl, sym, ap, subst, ◌∙◌, append_assoc, append-nil, length-append, arith, Vec, Global}
+use Rattle.std.proofs.Common.{◌≡◌, ℕ, zero, suc, ◌+◌, ◌<◌, ◌≤◌, Bool, true, false, List, [], ◌∷◌, ◌++◌, length, map, take, get_or, Option, None, Result, Ok, Err, refl, sym, ap, subst, ◌∙◌, append_assoc, append-nil, length-append, arith}
 use Rattle.std.specs.Prelude.{OnOk, OnErr}
 use Rattle.std.specs.List.{AllByRecursion}
-use Rattle.std.specs.Option.{option_map}
 use Rattle.std.proofs.lemmas.List.{take_more, take_all}
-use Rattle.outer_io.proofs.Appending.{taking-none, taking-twice}
-use Rattle.outer_io.specs.Causes.{HasCause, Rose, SucceedsWhile}
-use Rattle.outer_io.specs.Taken.{SinkState, TakenBy, TakenPrefix, taking}
+use Rattle.outer_io.proofs.Appending.{taking-none}
+use Rattle.outer_io.specs.Causes.{HasCause, SucceedsWhile}
+use Rattle.outer_io.specs.Taken.{SinkState, TakenBy, TakenPrefix}
 use Rattle.outer_io.specs.declared.failed.Failed.{Failed}
 use Rattle.zone_guard.specs.Counted.{item_at}
 use Rattle.zone_guard.specs.Texts.{finding_text}
@@ -19,6 +18,8 @@ use Rattle.zone_guard.specs.declared.planes.Extent.{Extent}
 use Rattle.zone_guard.specs.declared.watch.Watch.{Watch}
 use Rattle.cover_run.specs.ZoneTexts.{IsCutOff, IsWritten, WritesText, finding_lines, reach_from, reach_in}
 use Rattle.cover_run.specs.ZoneTexts.{text_of, total_lines, total_text, text_with, epochs_text, totals_text}
+use Rattle.cover_run.proofs.TrackingLemmas.{taken_both as taken_then}
+use Rattle.log_writer.proofs.WritingLemmas.{rose_behind as rose_since}
 
 -- ---- the front of a text
 
@@ -39,12 +40,6 @@ front_behind [] ys rest k le =
 front_behind (x ∷ xs) ys rest k le =
     let e : length (x ∷ xs) + k ≡ suc (length xs + k) = omega arith in
     rw e (ap (λ (l : List ℕ). x ∷ l) (front_behind xs ys rest k le))
-
-taken_then : (a b c : SinkState) (xs ys : List ℕ) → TakenBy a b xs → TakenBy b c ys → TakenBy a c (xs ++ ys)
-taken_then a b c xs ys first second = second ∙ ap (option_map (taking ys)) first ∙ taking-twice a.told xs ys
-
-rose_since : (a b c : ℕ) → a ≤ b → Rose b c → Rose a c
-rose_since a b c later rose = omega (arith, later, rose)
 
 -- ---- a text behind another
 

@@ -13,9 +13,8 @@ use Rattle.grid_model.specs.Squares.{least_end, greatest_end, least_square, grea
 use Rattle.grid_model.proofs.RootLemmas.{root_mono, square-mono, root_is}
 use Rattle.grid_model.proofs.ProductLemmas.{square_of_amount}
 use Rattle.grid_model.proofs.RoundingLemmas.{grain_floor_one, grain_ceil_one}
-use Rattle.grid_model.proofs.SquareLemmas.{one_part, square_between, least_le_greatest_end, root_between}
+use Rattle.grid_model.proofs.SquareLemmas.{one_part, square_between, least_le_greatest_end, root_between, ends_apart}
 use Rattle.earth_rotation.specs.RoundSizes.{sine_amount, cosine_amount, cosine_width}
-use Rattle.earth_rotation.proofs.Offsets.{ends_apart}
 
 abbrev pub least_circle : ℕ
 least_circle = unit * unit - 16 * unit

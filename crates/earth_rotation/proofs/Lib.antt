@@ -1,5 +1,3 @@
-pub mod SquareSpread
-pub mod Bounds
 pub mod Offsets
 pub mod CircleRoots
 pub mod TurnWidths

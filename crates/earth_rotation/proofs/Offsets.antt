@@ -12,9 +12,9 @@ use Rattle.grid_model.proofs.AmountLemmas.{above_is}
 use Rattle.grid_model.proofs.RootLemmas.{root_mono, square-mono, root_is}
 use Rattle.grid_model.proofs.EndsLemmas.{difference_ends, wider_ends}
 use Rattle.grid_model.proofs.RoundingLemmas.{grain_floor_one, grain_ceil_one}
-use Rattle.grid_model.proofs.SquareLemmas.{one_part, least_le_greatest_end, greatest_square_le}
+use Rattle.grid_model.proofs.SquareLemmas.{least_le_greatest_end, greatest_square_le, ends_apart}
 use Rattle.earth_rotation.specs.RoundSizes.{turned_reach, range_amount}
-use Rattle.earth_rotation.proofs.SquareSpread.{root_spread}
+use Rattle.grid_model.proofs.SpreadRoots.{root_spread}
 
 -- an offset on an axis
 abbrev pub offset_amount : ℕ
@@ -35,9 +35,6 @@ pub offset_held : (a b s t lo hi l h x p : ℤ) → s ≡ lo → t ≡ hi → l 
 offset_held a b s t lo hi l h x p d e f g i j k = record { from = omega (arith, ints, i.from); to = omega (arith, ints, i.to) }
 
 -- ---- squares
-
-pub ends_apart : (n w : ℕ) (l h : ℤ) → Ends n w l h → greatest_end l h ≤ least_end l h + w
-ends_apart n w l h e = let o = e.order in let k = e.width in omega (arith, ints, one_part l, one_part h)
 
 pub squares_fit : (xl xh yl yh zl zh : ℤ) → IsWithin offset_amount xl → IsWithin offset_amount xh → IsWithin offset_amount yl → IsWithin offset_amount yh → IsWithin offset_amount zl → IsWithin offset_amount zh → greatest_square xl xh + greatest_square yl yh + greatest_square zl zh ≤ 3 * (offset_amount * offset_amount)
 squares_fit xl xh yl yh zl zh a b c d e f = omega (arith, greatest_square_le offset_amount xl xh a b, greatest_square_le offset_amount yl yh c d, greatest_square_le offset_amount zl zh e f)

@@ -14,9 +14,10 @@ use Rattle.fix_interval.specs.declared.place.Place.{Place}
 use Rattle.fix_interval.specs.Places.{PlaceAmount}
 use Rattle.elevation_mapping.specs.Places.{least_sum, greatest_sum}
 use Rattle.elevation_mapping.specs.SineSizes.{up_amount, offset_amount, inner_amount, length_amount, height_amount, sine_amount, least_up, least_range}
-use Rattle.elevation_mapping.proofs.Lengths.{root_at_least, length_ends, wider_place}
+use Rattle.elevation_mapping.proofs.Lengths.{root_at_least, length_ends}
+use Rattle.fix_interval.proofs.PlaceLemmas.{wider_place}
 
-within_itself : (n : ℕ) → IsWithin n (pos n)
+pub within_itself : (n : ℕ) → IsWithin n (pos n)
 within_itself n = record { low = omega (arith, ints); high = omega (arith, ints) }
 
 least_divisor : (n v : ℕ) (l : ℤ) → l ≡ pos v → n ≤ v → pos n ≤ℤ l

@@ -19,9 +19,10 @@ use Rattle.fix_interval.proofs.NearLemmas.{held_fraction}
 use Rattle.fix_interval.specs.Places.{PlaceEnds}
 use Rattle.elevation_mapping.specs.Places.{least_sum, greatest_sum}
 use Rattle.elevation_mapping.specs.SineSizes.{up_amount, offset_amount, length_amount, least_up, least_range, sine_slope}
-use Rattle.elevation_mapping.proofs.Lengths.{root_at_least, length_ends, lengths_apart, lengths_order, amounts_small, wider_place, own_ends}
+use Rattle.elevation_mapping.proofs.Lengths.{root_at_least, length_ends, lengths_apart, lengths_order, amounts_small, own_ends}
 use Rattle.elevation_mapping.proofs.Quotients.{ends_amount, up_scaled, down_scaled, quotient_apart}
 use Rattle.elevation_mapping.proofs.SineWidth.{up_slope, line_slope, slopes_sum, line_spread, up_spread, line_small, up_small, length_slope, length_small, axes_spread, inner_step, height_step, scaled_step, sine_step}
+use Rattle.fix_interval.proofs.PlaceLemmas.{wider_place}
 
 -- in natural numbers
 natural_apart : (l h c : ℤ) (t v : ℕ) → l ≤ℤ h → c ≡ pos v → ((h -ℤ l) *ℤ c) ≤ℤ (pos t +ℤ (pos 4 *ℤ c)) → up (h -ℤ l) * v ≤ t + 4 * v

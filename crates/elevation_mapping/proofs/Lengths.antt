@@ -1,19 +1,19 @@
 -- Lengths of vectors: the roots of least and greatest sums of squares.
-use Rattle.std.proofs.Common.{◌≡◌, ℕ, ◌+◌, ◌-◌, ◌*◌, ◌^◌, ◌≤◌, ◌<◌, arith, lit≤}
+use Rattle.std.proofs.Common.{◌≡◌, ℕ, ◌+◌, ◌-◌, ◌*◌, ◌^◌, ◌≤◌, arith, lit≤}
 use Rattle.std.specs.Prelude.{ℤ, pos}
 use Rattle.std.proofs.lemmas.Int.{ints}
-use Rattle.std.proofs.lemmas.Nat.{mul-le}
 use Rattle.grid_model.specs.Sizes.{IsWithin}
 use Rattle.grid_model.specs.Intervals.{Ends}
 use Rattle.grid_model.specs.Roots.{IsRoot, root}
 use Rattle.grid_model.specs.Squares.{least_end, greatest_end, greatest_square}
 use Rattle.grid_model.proofs.RootLemmas.{root_mono, square-mono, root_is}
 use Rattle.grid_model.proofs.EndsLemmas.{wider_ends}
-use Rattle.grid_model.proofs.SquareLemmas.{one_part, least_le_greatest_end, greatest_square_le}
+use Rattle.grid_model.proofs.SquareLemmas.{one_part, least_le_greatest_end, greatest_square_le, ends_apart}
 use Rattle.fix_interval.specs.declared.place.Place.{Place}
 use Rattle.fix_interval.specs.Places.{PlaceEnds}
 use Rattle.elevation_mapping.specs.Places.{least_sum, greatest_sum}
 use Rattle.elevation_mapping.specs.SineSizes.{offset_amount, length_amount}
+use Rattle.grid_model.proofs.SpreadRoots.{sum_small, four_roots}
 
 -- both ends are small enough to be squared
 pub offset_fits : (w : ℕ) (l h : ℤ) → Ends offset_amount w l h → Ends (2 ^ 47) w l h
@@ -22,41 +22,12 @@ offset_fits w l h e = wider_ends offset_amount (2 ^ 47) w w l h (lit≤ tt) (ome
 pub squares_fit : (xl xh yl yh zl zh : ℤ) → IsWithin offset_amount xl → IsWithin offset_amount xh → IsWithin offset_amount yl → IsWithin offset_amount yh → IsWithin offset_amount zl → IsWithin offset_amount zh → greatest_square xl xh + greatest_square yl yh + greatest_square zl zh ≤ 3 * (offset_amount * offset_amount)
 squares_fit xl xh yl yh zl zh a b c d e f = omega (arith, greatest_square_le offset_amount xl xh a b, greatest_square_le offset_amount yl yh c d, greatest_square_le offset_amount zl zh e f)
 
-pub ends_apart : (n w : ℕ) (l h : ℤ) → Ends n w l h → greatest_end l h ≤ least_end l h + w
-ends_apart n w l h e = let o = e.order in let k = e.width in omega (arith, ints, one_part l, one_part h)
-
 -- a length is at least each part, and at least the root of what the squares are at least
 pub part_le : (a b c : ℕ) → a ≤ root (a * a + b * b + c * c)
 part_le a b c = grind (arith, square-mono (root (a * a + b * b + c * c) + 1) a, (root_is (a * a + b * b + c * c)).next_square_gt)
 
 pub root_at_least : (n a : ℕ) → n * n ≤ a → n ≤ root a
 root_at_least n a h = grind (arith, square-mono (root a + 1) n, (root_is a).next_square_gt, h)
-
-product_by : (a k : ℕ) → 2 * (a * (a + k)) ≤ a * a + (a + k) * (a + k)
-product_by a k = omega arith
-
-product_at : (a b : ℕ) → a ≤ b → 2 * (a * b) ≤ a * a + b * b
-product_at a b h =
-    let e : b ≡ a + (b - a) = omega arith in
-    rw e (product_by a (b - a))
-
-pub two_products : (a b : ℕ) → 2 * (a * b) ≤ a * a + b * b
-two_products a b = grind (arith, product_at a b, product_at b a)
-
--- 7 / 4 is a little more than the root of three
-pub sum_small : (a b c m : ℕ) → a * a + b * b + c * c < m * m → 4 * (a + b + c) ≤ 7 * m
-sum_small a b c m h = grind (arith, square-mono (7 * m + 1) (4 * (a + b + c)), two_products a b, two_products a c, two_products b c, h)
-
-squares_spread : (a b c d m : ℕ) → a * a + b * b + c * c < m * m → (4 * (a + d)) * (4 * (a + d)) + (4 * (b + d)) * (4 * (b + d)) + (4 * (c + d)) * (4 * (c + d)) < (4 * m + 7 * d + 1) * (4 * m + 7 * d + 1)
-squares_spread a b c d m h =
-    let k = mul-le d (4 * (a + b + c)) d (7 * m) (omega arith) (sum_small a b c m h) in
-    omega (arith, k, h)
-
--- each of p, q, r is at most d more than a, b, c: the roots are at most 7 / 4 of that and one apart
-four_roots : (a b c p q r d n f : ℕ) → p ≤ a + d → q ≤ b + d → r ≤ c + d → a * a + b * b + c * c < (n + 1) * (n + 1) → f * f ≤ p * p + q * q + r * r → 4 * f ≤ 4 * (n + 1) + 7 * d
-four_roots a b c p q r d n f hp hq hr h k =
-    let s = squares_spread a b c d (n + 1) h in
-    grind (arith, square-mono (4 * (n + 1) + 7 * d + 1) (4 * f), square-mono p (a + d) hp, square-mono q (b + d) hq, square-mono r (c + d) hr, s, k)
 
 -- ---- of vectors that a place holds
 
@@ -84,13 +55,6 @@ ends_by u v l h e f o k = record { order = omega (arith, ints); low = record { l
 
 pub length_ends : (w : ℕ) (a : Place) (l h : ℤ) → PlaceEnds offset_amount w a → l ≡ pos (root (least_sum a)) → h ≡ pos (root (greatest_sum a)) → Ends length_amount (root (greatest_sum a) - root (least_sum a)) l h
 length_ends w a l h e i j = ends_by (root (least_sum a)) (root (greatest_sum a)) l h i j (lengths_order offset_amount w a e) (lengths_fit w a e)
-
-pub wider_place : (m n v w : ℕ) (a : Place) → m ≤ n → v ≤ w → PlaceEnds m v a → PlaceEnds n w a
-wider_place m n v w a h k e = record {
-  x_ends = wider_ends m n v w a.x.lo a.x.hi h k e.x_ends;
-  y_ends = wider_ends m n v w a.y.lo a.y.hi h k e.y_ends;
-  z_ends = wider_ends m n v w a.z.lo a.z.hi h k e.z_ends;
-}
 
 -- ends that are at most their greatest amount
 pub own_ends : (n w : ℕ) (l h : ℤ) → Ends n w l h → Ends (greatest_end l h) w l h

@@ -11,7 +11,7 @@ use Rattle.grid_model.specs.declared.boxes.Pos.{Pos}
 use Rattle.grid_model.proofs.RootLemmas.{square-mono}
 use Rattle.fix_interval.proofs.NearLemmas.{near_exists}
 use Rattle.gnss_model.specs.Layers.{layer_scale, layer_floor}
-use Rattle.gnss_model.specs.Mapping.{Mapping, IsRaised, up_scale, bent, slant_of}
+use Rattle.gnss_model.specs.Mapping.{Mapping, IsRaised, up_scale, layer_sine, slant_of}
 use Rattle.gnss_model.specs.declared.delays.Layer.{Layer}
 use Rattle.gnss_model.specs.declared.delays.Layer.TheVariants.{Troposphere, Ionosphere}
 use Rattle.elevation_mapping.proofs.Lengths.{root_at_least}
@@ -35,7 +35,7 @@ floor_positive Ionosphere = lit≤ tt
 
 slant_positive : (layer : Layer) (s : ℤ) → pos 0 <ℤ pos (1000 * slant_of layer s)
 slant_positive layer s =
-    let h : 1 ≤ slant_of layer s = root_at_least 1 (layer_floor layer + square (bent layer (nat_abs s))) (omega (arith, floor_positive layer)) in
+    let h : 1 ≤ slant_of layer s = root_at_least 1 (layer_floor layer + square (layer_sine layer (nat_abs s))) (omega (arith, floor_positive layer)) in
     positive (1000 * slant_of layer s) (omega (arith, h))
 
 range_positive : (x y z : ℤ) (p : Pos) → square (5 * 10 ^ 12) ≤ sum_of_squares (x -ℤ p.x) (y -ℤ p.y) (z -ℤ p.z) → 1 ≤ range_to x y z p

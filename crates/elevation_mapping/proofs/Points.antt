@@ -1,6 +1,6 @@
 -- The points of a box and the lines from them to a place: how large and wide they are, and how
 -- long.
-use Rattle.std.proofs.Common.{◌≡◌, ℕ, ◌+◌, ◌*◌, ◌/◌, ◌^◌, ◌≤◌, arith, lit≤, sym, refl, Bool, true, ◌&&◌}
+use Rattle.std.proofs.Common.{◌≡◌, ℕ, ◌+◌, ◌*◌, ◌/◌, ◌^◌, ◌≤◌, arith, lit≤, sym, true}
 use Rattle.std.specs.Prelude.{IsTrue, nat_le, ℤ, pos, nat_abs, ◌+ℤ◌, ◌-ℤ◌, ◌≤ℤ◌}
 use Rattle.std.proofs.lemmas.Int.{ints, by_lt_z}
 use Rattle.grid_model.specs.Amounts.{square, above}
@@ -22,6 +22,8 @@ use Rattle.grid_model.specs.SearchBoxes.{IsFarFromOrigin}
 use Rattle.elevation_mapping.specs.Places.{IsFarFromPlace, least_sum}
 use Rattle.elevation_mapping.specs.MappingSizes.{turned_reach}
 use Rattle.elevation_mapping.specs.SineSizes.{up_amount, offset_amount, least_up}
+use Rattle.grid_model.proofs.IntervalLemmas.{difference_by as offset_held}
+use Rattle.grid_model.proofs.BoolLemmas.{both_from}
 
 side_ends : (d : ℕ) (lo hi s t : ℤ) → lo ≤ℤ hi → IsBoxSize lo → IsBoxSize hi → s ≡ lo → t ≡ hi → above hi lo ≤ d → Ends (10 ^ 13) d s t
 side_ends d lo hi s t o l h e f k = rw (e, f) (record { order = o; low = l; high = h; width = omega (arith, ints, above_is hi lo, k) })
@@ -95,9 +97,6 @@ difference_at a b c d z o p i = by_lt_z a (z +ℤ c)
 by_amounts : (a b c n : ℕ) (x y z : ℤ) → nat_abs x ≡ a → nat_abs y ≡ b → nat_abs z ≡ c → n ≤ sum_of_squares x y z → n ≤ a * a + b * b + c * c
 by_amounts a b c n x y z e f g h = rw (sym e, sym f, sym g) h
 
-both_from : (a b : Bool) → a ≡ true → b ≡ true → (a && b) ≡ true
-both_from a b e f = rw (e, f) refl
-
 in_side : (s : Side) (n : ℤ) → Between s.lo s.hi n → side_holds s n ≡ true
 in_side s n i = both_from _ _ (le_to s.lo n i.from) (le_to n s.hi i.to)
 
@@ -141,9 +140,6 @@ same_number n = omega arith
 
 pub axis_held : (lo hi s t p : ℤ) → s ≡ lo → t ≡ hi → lo ≤ℤ p → p ≤ℤ hi → Between s t p
 axis_held lo hi s t p e f h k = record { from = omega (arith, ints); to = omega (arith, ints) }
-
-pub offset_held : (a b c d l h x p : ℤ) → l ≡ a -ℤ d → h ≡ b -ℤ c → Between a b x → Between c d p → Between l h (x -ℤ p)
-offset_held a b c d l h x p e f i j = record { from = omega (arith, ints, i.from, j.to, e); to = omega (arith, ints, i.to, j.from, f) }
 
 -- ---- as truth values
 

@@ -11,17 +11,18 @@ use Rattle.grid_model.specs.Angles.{unit}
 use Rattle.grid_model.specs.Intervals.{Between, Ends}
 use Rattle.grid_model.specs.Roots.{IsRoot, root}
 use Rattle.grid_model.specs.Rounding.{IsTightQuotient}
-use Rattle.grid_model.specs.Squares.{least_end, greatest_end, least_square, greatest_square}
-use Rattle.grid_model.proofs.RootLemmas.{root_mono, square-mono, root_is}
+use Rattle.grid_model.specs.Squares.{least_end, greatest_end}
+use Rattle.grid_model.proofs.RootLemmas.{root_mono, square-mono, root_is, less_of_squares as root_less}
 use Rattle.grid_model.proofs.ProductLemmas.{mul_mono}
-use Rattle.grid_model.proofs.SquareLemmas.{one_part, square_between, least_le_greatest_end, greatest_square_le}
+use Rattle.grid_model.proofs.SquareLemmas.{one_part, least_le_greatest_end, greatest_square_le}
 use Rattle.gnss_model.specs.Layers.{layer_scale, layer_floor, layer_room}
-use Rattle.gnss_model.specs.Mapping.{bent, slant_of}
+use Rattle.gnss_model.specs.Mapping.{layer_sine, slant_of}
 use Rattle.gnss_model.specs.declared.delays.Layer.{Layer}
 use Rattle.gnss_model.specs.declared.delays.Layer.TheVariants.{Troposphere, Ionosphere}
 use Rattle.elevation_mapping.specs.SineSizes.{sine_amount, sine_slope, least_slant, slant_amount}
-use Rattle.elevation_mapping.proofs.Lengths.{root_at_least, two_products}
+use Rattle.elevation_mapping.proofs.Lengths.{root_at_least}
 use Rattle.elevation_mapping.proofs.SineWidth.{cancel}
+use Rattle.grid_model.proofs.SpreadRoots.{two_products}
 
 -- ---- what the constants of the layers keep to
 
@@ -29,8 +30,8 @@ use Rattle.elevation_mapping.proofs.SineWidth.{cancel}
 abbrev pub mapped_one : Layer → ℕ
 mapped_one layer = unit * (layer_scale layer * 10 ^ 13)
 
-bent_whole : (a : ℕ) → bent Troposphere a ≡ a
-bent_whole a = omega arith
+layer_sine_whole : (a : ℕ) → layer_sine Troposphere a ≡ a
+layer_sine_whole a = omega arith
 
 root_of_more : (n a b : ℕ) → a ≤ b → root (n + square a) ≤ root (n + square b)
 root_of_more n a b h = root_mono (n + square a) (n + square b) _ _ (root_is (n + square a)) (root_is (n + square b)) (omega (arith, square-mono a b h))
@@ -51,37 +52,37 @@ mapped_some : (layer : Layer) → 1 ≤ mapped_one layer
 mapped_some Troposphere = lit≤ tt
 mapped_some Ionosphere = lit≤ tt
 
-pub bent_mono : (layer : Layer) (a b : ℕ) → a ≤ b → bent layer a ≤ bent layer b
-bent_mono Troposphere a b h = omega (arith, h)
-bent_mono Ionosphere a b h = omega (arith, h)
+pub layer_sine_mono : (layer : Layer) (a b : ℕ) → a ≤ b → layer_sine layer a ≤ layer_sine layer b
+layer_sine_mono Troposphere a b h = omega (arith, h)
+layer_sine_mono Ionosphere a b h = omega (arith, h)
 
-pub bent_le : (layer : Layer) (a : ℕ) → bent layer a ≤ a
-bent_le Troposphere a = omega arith
-bent_le Ionosphere a = omega arith
+pub layer_sine_le : (layer : Layer) (a : ℕ) → layer_sine layer a ≤ a
+layer_sine_le Troposphere a = omega arith
+layer_sine_le Ionosphere a = omega arith
 
 pub slant_room : (n b t : ℕ) → n ≤ 10 ^ 32 → b ≤ t → square t ≤ square sine_amount → n + b * b ≤ 10 ^ 32 + square sine_amount
 slant_room n b t f h k = omega (arith, f, square-mono b t h, k)
 
 -- how far a part of a sine is spread, x and y being these parts of s and t
-bent_step : (e s t x y : ℕ) → 67281363 * y ≤ 63781363 * t → 63781363 * s < 67281363 * (x + 1) → 63781363 * t < 67281363 * (y + 1) → unit * t ≤ unit * s + (e * (t + 109 * 10 ^ 14) + 10020 * unit) → unit * y ≤ unit * x + (e * (y + 110 * 10 ^ 14) + 10021 * unit)
-bent_step e s t x y a b c h = let m = mul-le e (63781363 * t) e (67281363 * (y + 1)) (omega arith) (omega (arith, c)) in omega (arith, a, b, m, h)
+layer_sine_step : (e s t x y : ℕ) → 67281363 * y ≤ 63781363 * t → 63781363 * s < 67281363 * (x + 1) → 63781363 * t < 67281363 * (y + 1) → unit * t ≤ unit * s + (e * (t + 109 * 10 ^ 14) + 10020 * unit) → unit * y ≤ unit * x + (e * (y + 110 * 10 ^ 14) + 10021 * unit)
+layer_sine_step e s t x y a b c h = let m = mul-le e (63781363 * t) e (67281363 * (y + 1)) (omega arith) (omega (arith, c)) in omega (arith, a, b, m, h)
 
 whole_step : (e s t x y : ℕ) → x ≡ s → y ≡ t → unit * t ≤ unit * s + (e * (t + 109 * 10 ^ 14) + 10020 * unit) → unit * y ≤ unit * x + (e * (y + 110 * 10 ^ 14) + 10021 * unit)
 whole_step e s t x y a b h = rw (a, b) (omega (arith, h))
 
-bent_spread : (layer : Layer) (e s t : ℕ) → unit * t ≤ unit * s + (e * (t + 109 * 10 ^ 14) + 10020 * unit) → unit * bent layer t ≤ unit * bent layer s + (e * (bent layer t + 110 * 10 ^ 14) + 10021 * unit)
-bent_spread Troposphere e s t h = whole_step e s t (bent Troposphere s) (bent Troposphere t) (bent_whole s) (bent_whole t) h
-bent_spread Ionosphere e s t h = bent_step e s t (bent Ionosphere s) (bent Ionosphere t) (omega arith) (omega arith) (omega arith) h
+layer_sine_spread : (layer : Layer) (e s t : ℕ) → unit * t ≤ unit * s + (e * (t + 109 * 10 ^ 14) + 10020 * unit) → unit * layer_sine layer t ≤ unit * layer_sine layer s + (e * (layer_sine layer t + 110 * 10 ^ 14) + 10021 * unit)
+layer_sine_spread Troposphere e s t h = whole_step e s t (layer_sine Troposphere s) (layer_sine Troposphere t) (layer_sine_whole s) (layer_sine_whole t) h
+layer_sine_spread Ionosphere e s t h = layer_sine_step e s t (layer_sine Ionosphere s) (layer_sine Ionosphere t) (omega arith) (omega arith) (omega arith) h
 
 -- ---- it is held
 
-pub slant_held : (layer : Layer) (lo hi a b s : ℤ) → a ≡ pos (root (layer_floor layer + square (bent layer (least_end lo hi)))) → b ≡ pos (root (layer_floor layer + square (bent layer (greatest_end lo hi)))) → Between lo hi s → Between a b (pos (slant_of layer s))
+pub slant_held : (layer : Layer) (lo hi a b s : ℤ) → a ≡ pos (root (layer_floor layer + square (layer_sine layer (least_end lo hi)))) → b ≡ pos (root (layer_floor layer + square (layer_sine layer (greatest_end lo hi)))) → Between lo hi s → Between a b (pos (slant_of layer s))
 slant_held layer lo hi a b s e f h =
     let low : least_end lo hi ≤ nat_abs s = omega (arith, ints, h.from, h.to, one_part lo, one_part hi, one_part s) in
     let high : nat_abs s ≤ greatest_end lo hi = omega (arith, ints, h.from, h.to, one_part lo, one_part hi, one_part s) in
     let n = layer_floor layer in
-    let u = root_of_more n (bent layer (least_end lo hi)) (bent layer (nat_abs s)) (bent_mono layer (least_end lo hi) (nat_abs s) low) in
-    let v = root_of_more n (bent layer (nat_abs s)) (bent layer (greatest_end lo hi)) (bent_mono layer (nat_abs s) (greatest_end lo hi) high) in
+    let u = root_of_more n (layer_sine layer (least_end lo hi)) (layer_sine layer (nat_abs s)) (layer_sine_mono layer (least_end lo hi) (nat_abs s) low) in
+    let v = root_of_more n (layer_sine layer (nat_abs s)) (layer_sine layer (greatest_end lo hi)) (layer_sine_mono layer (nat_abs s) (greatest_end lo hi) high) in
     record { from = omega (arith, ints, e, u); to = omega (arith, ints, f, v) }
 
 pub slant_at_least : (layer : Layer) (x : ℕ) → least_slant layer ≤ root (layer_floor layer + x)
@@ -98,9 +99,6 @@ square_less : (a b x y : ℕ) → a < x * x → b < y * y → a * b < (x * y) * 
 square_less a b x y h k =
     let i = mul-le (a + 1) (b + 1) (x * x) (y * y) (omega (arith, h)) (omega (arith, k)) in
     omega (arith, i)
-
-root_less : (a b : ℕ) → a * a < b * b → a < b
-root_less a b h = grind (arith, square-mono b a, h)
 
 pub mixed_less : (n s t p q : ℕ) → n + s * s < (q + 1) * (q + 1) → n + t * t < (p + 1) * (p + 1) → n + s * t < (q + 1) * (p + 1)
 mixed_less n s t p q h k =
@@ -207,12 +205,12 @@ natural_width layer d s t p q l m rq rp o fp h i j =
       | inr not_less ↦ no_width (m - l) (10 ^ 16 * d / layer_room layer) (omega arith)
     ]
 
-pub mapped_spread : (layer : Layer) (d : ℕ) (sl sh a b l h : ℤ) → Ends sine_amount (2 * sine_amount) sl sh → greatest_end sl sh * unit ≤ least_end sl sh * unit + (sine_slope d * (greatest_end sl sh + 109 * 10 ^ 14) + 10020 * unit) → a ≡ pos (root (layer_floor layer + square (bent layer (least_end sl sh)))) → b ≡ pos (root (layer_floor layer + square (bent layer (greatest_end sl sh)))) → IsTightQuotient (pos unit) (pos unit) a b (pos (layer_scale layer * 10 ^ 13)) l h → (h -ℤ l) ≤ℤ pos (10 ^ 11 + 10 ^ 16 * d / layer_room layer)
+pub mapped_spread : (layer : Layer) (d : ℕ) (sl sh a b l h : ℤ) → Ends sine_amount (2 * sine_amount) sl sh → greatest_end sl sh * unit ≤ least_end sl sh * unit + (sine_slope d * (greatest_end sl sh + 109 * 10 ^ 14) + 10020 * unit) → a ≡ pos (root (layer_floor layer + square (layer_sine layer (least_end sl sh)))) → b ≡ pos (root (layer_floor layer + square (layer_sine layer (greatest_end sl sh)))) → IsTightQuotient (pos unit) (pos unit) a b (pos (layer_scale layer * 10 ^ 13)) l h → (h -ℤ l) ≤ℤ pos (10 ^ 11 + 10 ^ 16 * d / layer_room layer)
 mapped_spread layer d sl sh a b l h e n ea eb t =
     let f = layer_floor layer in
     let c = layer_scale layer * 10 ^ 13 in
-    let s = bent layer (least_end sl sh) in
-    let g = bent layer (greatest_end sl sh) in
+    let s = layer_sine layer (least_end sl sh) in
+    let g = layer_sine layer (greatest_end sl sh) in
     let q = root (f + s * s) in
     let p = root (f + g * g) in
     let rq = root_is (f + s * s) in
@@ -228,9 +226,9 @@ mapped_spread layer d sl sh a b l h e n ea eb t =
     let low = low_quotient (l +ℤ pos 2) t.low_den b (mapped_one layer) p (mapped_some layer) k ld.to eb (omega (arith, ints, ld.from, ea, cq)) in
     let high = high_quotient (h -ℤ pos 2) t.high_den a (mapped_one layer) q m hd.from ea in
     let small = greatest_square_le sine_amount sl sh e.low e.high in
-    let bend = square-mono g (greatest_end sl sh) (bent_le layer (greatest_end sl sh)) in
+    let bend = square-mono g (greatest_end sl sh) (layer_sine_le layer (greatest_end sl sh)) in
     let fit = slant_fits layer (f + g * g) p rp (omega (arith, small, bend)) in
-    let order = bent_mono layer (least_end sl sh) (greatest_end sl sh) (least_le_greatest_end sl sh e.order) in
-    let spread = bent_spread layer (sine_slope d) (least_end sl sh) (greatest_end sl sh) (omega (arith, n)) in
+    let order = layer_sine_mono layer (least_end sl sh) (greatest_end sl sh) (least_le_greatest_end sl sh e.order) in
+    let spread = layer_sine_spread layer (sine_slope d) (least_end sl sh) (greatest_end sl sh) (omega (arith, n)) in
     let w = natural_width layer d s g p q (up (l +ℤ pos 2)) (up (h -ℤ pos 2)) rq rp order fit spread high low.0 in
     ends_width l h (up (h -ℤ pos 2) - up (l +ℤ pos 2)) (10 ^ 11 + 10 ^ 16 * d / layer_room layer) low.1 (omega arith) w

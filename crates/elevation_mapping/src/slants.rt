@@ -6,7 +6,7 @@ ghost use Rattle.grid_model.specs.Roots.{root};
 ghost use Rattle.grid_model.specs.Squares.{least_end, greatest_end};
 ghost use Rattle.fix_interval.specs.Factors.{Holds, HasAmount};
 ghost use Rattle.gnss_model.specs.Layers.{layer_floor};
-ghost use Rattle.gnss_model.specs.Mapping.{bent, slant_of};
+ghost use Rattle.gnss_model.specs.Mapping.{layer_sine, slant_of};
 ghost use Rattle.elevation_mapping.specs.SineSizes.{sine_amount};
 
 use fix_interval::{Exact, ExactArea, Interval};
@@ -40,9 +40,9 @@ fn floor_of(layer: Layer) -> u128
 }
 
 /// The amount of a sine, of the ionosphere times Re / (Re + h), cut off.
-fn bent_by(layer: Layer, amount: u128) -> u128
+fn layer_sine(layer: Layer, amount: u128) -> u128
     requires { amount ≤ sine_amount }
-    ensures value { result ≡ bent layer amount }
+    ensures value { result ≡ layer_sine layer amount }
     ensures most { result ≤ amount }
 {
     match layer {
@@ -56,12 +56,12 @@ pub(crate) fn slants(sine: Exact, layer: Layer) -> Exact
     requires { HasAmount sine_amount sine }
     ensures holds { (s : ℤ) → Holds sine s → Holds result (pos (slant_of layer s)) }
     ensures low { result.lo
-        ≡ pos (root (layer_floor layer + square (bent layer (least_end sine.lo sine.hi)))) }
+        ≡ pos (root (layer_floor layer + square (layer_sine layer (least_end sine.lo sine.hi)))) }
     ensures high { result.hi
-        ≡ pos (root (layer_floor layer + square (bent layer (greatest_end sine.lo sine.hi)))) }
+        ≡ pos (root (layer_floor layer + square (layer_sine layer (greatest_end sine.lo sine.hi)))) }
 {
-    let least = bent_by(layer, least_amount(sine));
-    let greatest = bent_by(layer, greatest_amount(sine));
+    let least = layer_sine(layer, least_amount(sine));
+    let greatest = layer_sine(layer, greatest_amount(sine));
     let floor = floor_of(layer);
     <Exact as Interval>::root(ExactArea {
         lo: floor + least * least,

@@ -2,18 +2,15 @@
 use Rattle.std.proofs.Common.{◌≡◌, ℕ, zero, suc, ◌<◌, Bool, true, false, List, [], ◌∷◌, length, refl, sym, ap, subst, ◌∙◌, arith}
 use Rattle.std.specs.Prelude.{Option, None, Some, is_none, slice_get}
 use Rattle.std.specs.List.{AllByRecursion}
-use Rattle.std.proofs.lemmas.Grind.{common_steps}
-use Rattle.std.proofs.lemmas.Int.{ints}
 use Rattle.epoch_rows.specs.Grown.{HasBody, IsGrownBlock, AreGrown}
 use Rattle.epoch_selection.specs.Searches.{Search}
 use Rattle.log_writer.specs.Pavings.{Paves, AllPave}
 use Rattle.paving_log_check.specs.Admissible.{IsOf, AdmitsFrom, AreOwn}
 use Rattle.paving_log_check.specs.Epochs.{BodyPassesAt, EpochPasses}
 use Rattle.paving_log_check.specs.Lines.{expected, SatsPass}
-use Rattle.grid_model.specs.Boxes.{GridBox, grid_box, box_holds}
+use Rattle.grid_model.specs.Boxes.{GridBox}
 use Rattle.sat_model.specs.Logs.{Block}
 use Rattle.sat_model.specs.Verdicts.{BodyPasses, BlockPasses, BlocksPass, NoneRepeats}
-use Rattle.grid_model.specs.declared.boxes.Box3.{Box3}
 use Rattle.sat_model.specs.declared.rules.Rules.{Rules}
 use Rattle.sat_model.specs.declared.rows.SatEntry.{SatEntry}
 use Rattle.gnss_model.specs.declared.delays.Delays.{Delays}
@@ -151,7 +148,3 @@ module _ (m : Meaning) (sound : IsSound m) (rules : Rules) where
     paves.0.few ∙ body_root m.delays g.few search.root grown.0.own g grown.0.body ∙ ap is_none (sym paves.0.root),
     few_roots rest given blocks grown.1 paves.1,
   )
-
--- a root has a point: its low corner
-pub has_corner : (root : Box3) → box_holds (grid_box root) root.lo ≡ true
-has_corner root = grind (arith, ints, common_steps, root.x_ordered, root.y_ordered, root.z_ordered)

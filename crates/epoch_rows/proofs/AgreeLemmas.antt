@@ -1,5 +1,5 @@
 -- Two own lines of a satellite: a grown one holds the other.
-use Rattle.std.proofs.Common.{◌≡◌, ℕ, Bool, List, [], ◌∷◌, true, false, refl, sym, ap, subst, ◌∙◌, ◌+◌, ◌&&◌, arith}
+use Rattle.std.proofs.Common.{◌≡◌, ℕ, Bool, List, [], ◌∷◌, true, false, refl, sym, subst, ◌∙◌, ◌+◌, ◌&&◌, arith}
 use Rattle.std.specs.Prelude.{ℤ, pos, ◌+ℤ◌, ◌-ℤ◌, ◌≤ℤ◌, Option, None, Some, is_none}
 use Rattle.std.proofs.lemmas.Int.{ints}
 use Rattle.epoch_rows.specs.Grown.{IsGrownRow, IsGrownLine, AreGrownLines, skips_of}
@@ -26,6 +26,8 @@ use Rattle.sat_rows.specs.Meanings.{Meaning, IsSound}
 use Rattle.sat_rows.specs.OwnRows.{HoldsChain, IsTight, AreBoundsTight, HasBounds, IsOwnRow, IsOwnLine, AreOwnLines, usable_in}
 use Rattle.sat_rows.specs.declared.lines.SatLine.{SatLine}
 use Rattle.sat_rows.specs.declared.lines.SatLine.TheVariants.{Usable, Skipped}
+use Rattle.error_bounds.proofs.FormLemmas.{same_pair}
+use Rattle.paving_log_check.proofs.FitLemmas.{same_first as first_is, same_second as second_is}
 
 -- a side with so much more at both ends holds another that is at most so wide, where both hold one number
 holds_side : (spare : ℕ) (own wide other : Side) (n : ℤ) → wide.lo ≡ own.lo -ℤ pos spare → wide.hi ≡ own.hi +ℤ pos spare → Between own.lo own.hi n → Between other.lo other.hi n
@@ -45,15 +47,6 @@ holds_each : (delays : Delays) (row ours : Row) → HoldsSide (span_side row.x) 
 holds_each delays row ours x y z range bounds = (x, (y, (z, (range, bounds))))
 
 -- ---- the ends of the error
-
-same_pair : (a b c d : ℤ) → a ≡ c → b ≡ d → ◌≡◌ {A = ℤ × ℤ} (a, b) (c, d)
-same_pair a b c d e f = cc
-
-first_is : (a b c d : ℤ) → ◌≡◌ {A = ℤ × ℤ} (a, b) (c, d) → a ≡ c
-first_is a b c d e = ap (λ (x : ℤ × ℤ). x.0) e
-
-second_is : (a b c d : ℤ) → ◌≡◌ {A = ℤ × ℤ} (a, b) (c, d) → b ≡ d
-second_is a b c d e = ap (λ (x : ℤ × ℤ). x.1) e
 
 -- where nothing is added they are the declared ones in all three rows
 same_bounds : (own other wide : Row) (d : ℤ × ℤ) → AreBoundsGrown (pos 0) own wide → HasBounds own d → HasBounds other d → HasBounds wide (ends other.err)

@@ -8,28 +8,16 @@ use Rattle.epoch_rows.specs.Ready.{SkipsFit}
 use Rattle.epoch_selection.specs.Selections.{first_epoch, last_epoch}
 use Rattle.log_words.specs.Fields.{IsCountFromTo}
 use Rattle.paving_log.specs.Lines.{HeaderFits}
-use Rattle.paving_log.specs.Rows.{CornersFit, corners_of, EntryFits}
+use Rattle.paving_log.specs.Rows.{EntryFits}
 use Rattle.paving_log.specs.Text.{IsSkipped}
 use Rattle.rinex_obs.specs.Facts.{AreNamedSats}
 use Rattle.rinex_obs.specs.declared.obs.ObsEpoch.{ObsEpoch}
-use Rattle.grid_model.specs.Boxes.{GridBox, grid_box}
-use Rattle.grid_model.specs.declared.boxes.Box3.{Box3}
+use Rattle.grid_model.specs.Boxes.{GridBox}
 use Rattle.sat_model.specs.declared.rows.SatEntry.{SatEntry}
 use Rattle.sat_rows.specs.Meanings.{Meaning}
 use Rattle.sat_rows.specs.OwnRows.{AreLinesOf, usable_in}
 use Rattle.sat_rows.specs.declared.lines.SatLine.{SatLine}
 use Rattle.epoch_rows.proofs.LineLemmas.{usable_le, skips_le, grown_count, all_skipped, own_count, skips_fit, lines_fit}
-
--- ---- roots
-
-pub root_fits : (root : Box3) → CornersFit (corners_of (grid_box root))
-root_fits root = record {
-  x_ordered = root.x_ordered;
-  y_ordered = root.y_ordered;
-  z_ordered = root.z_ordered;
-  lo_within = root.lo_within;
-  hi_within = root.hi_within;
-}
 
 -- ---- first lines
 

@@ -3,7 +3,6 @@ use Rattle.std.proofs.Common.{◌≡◌, ℕ, ℤ, pos, negsuc, ◌≤ℤ◌, �
 use Rattle.std.proofs.lemmas.Bool.{and_parts, false≢true}
 use Rattle.std.proofs.lemmas.Int.{ints}
 use Rattle.grid_model.specs.Sizes.{IsWithin}
-use Rattle.grid_model.specs.declared.boxes.Pos.{Pos}
 use Rattle.toml.specs.Data.{Data}
 use Rattle.toml.specs.View.{view, items_view}
 use Rattle.toml.specs.declared.value.Value.{Value}
@@ -14,9 +13,6 @@ use Rattle.error_bounds.specs.Sizes.{IsHalfSide}
 use Rattle.error_bounds.specs.declared.fault.Fault.TheVariants.{Outside}
 use Rattle.error_bounds.specs.declared.signals.Mode.TheVariants as mode
 use lib.Signed.{le_z}
-
-pub same_pos : (x y z a b c : ℤ) → x ≡ a → y ≡ b → z ≡ c → ◌≡◌ {A = Pos} (record { x = x; y = y; z = z }) (record { x = a; y = b; z = c })
-same_pos x y z a b c e f g = cc
 
 pub same_pair : (a b c d : ℤ) → a ≡ c → b ≡ d → ◌≡◌ {A = ℤ × ℤ} (a, b) (c, d)
 same_pair a b c d e f = cc

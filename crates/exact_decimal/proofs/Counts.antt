@@ -1,5 +1,5 @@
 -- What is cut from a field is its count, and a field's count is what is cut.
-use Rattle.std.proofs.Common.{◌≡◌, ℕ, ◌+◌, ◌<◌, ◌≤◌, ◌^◌, true, false, List, [], ◌∷◌, ◌++◌, length, arith, sym, ap, ◌∙◌, inl, inr, Option, Some, None, IfSome, subst}
+use Rattle.std.proofs.Common.{◌≡◌, ℕ, ◌+◌, ◌<◌, ◌≤◌, ◌^◌, true, List, [], ◌∷◌, ◌++◌, length, arith, sym, ap, ◌∙◌, inl, inr, Option, Some, None, IfSome, subst}
 use Rattle.std.specs.Prelude.{◌↔◌, nat_lt}
 use Rattle.std.specs.Char.{is_ascii_digit}
 use Rattle.std.specs.Str.Parse.{digits_value}
@@ -13,6 +13,7 @@ use Rattle.exact_decimal.proofs.Answers.{blank_from, blank_to, behind_is}
 use Rattle.exact_decimal.proofs.Exponents.{blanks_no_digit}
 use Rattle.exact_decimal.proofs.Digits.{after_below}
 use Rattle.exact_decimal.proofs.Runs.{Stops, cut_at, passes_front, front_and_behind, head_passes}
+use Rattle.exact_decimal.proofs.Mantissas.{digit_is_not_blank as digit_no_blank}
 
 count_text_is : (before text : List ℕ) (n : ℕ) → AreBlanks before → count_text text ≡ Some n → IsCount (before ++ text) n
 count_text_is before text n blanks e = elim (cases_Bool (nat_lt 0 (length (front is_ascii_digit text)))) [
@@ -39,10 +40,6 @@ count_is : (field : List ℕ) (n : ℕ) → count_of field ≡ Some n → IsCoun
 count_is field n e =
     subst (λ (l : List ℕ). IsCount l n) (sym (front_and_behind is_blank field))
     (count_text_is (front is_blank field) (behind is_blank field) n (passes_front is_blank field) e)
-
--- a digit is no blank
-digit_no_blank : (byte : ℕ) → is_ascii_digit byte ≡ true → is_blank byte ≡ false
-digit_no_blank byte digit = grind arith
 
 digits_stop : (digits after : List ℕ) → 0 < length digits → AreDigits digits → Stops is_blank (digits ++ after)
 digits_stop [] after some digits = absurd (omega arith)

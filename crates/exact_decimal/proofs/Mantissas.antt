@@ -73,13 +73,13 @@ ends_whole pointed fraction tail is ends = elim is [
   | inr point ↦ subst (λ (p : List ℕ). Stops is_ascii_digit (p ++ tail)) (sym point) refl
 ]
 
-other_byte : (a b : ℕ) → b < a → (a == b) ≡ false
+pub other_byte : (a b : ℕ) → b < a → (a == b) ≡ false
 other_byte a b h = grind arith
 
 pub digit_is_no_sign : (byte : ℕ) → is_ascii_digit byte ≡ true → ((byte == 45) ≡ false) × ((byte == 43) ≡ false)
 digit_is_no_sign byte h = let is = digit_byte byte h in (other_byte byte 45 (omega (arith, is.low)), other_byte byte 43 (omega (arith, is.low)))
 
-digit_is_not_blank : (byte : ℕ) → is_ascii_digit byte ≡ true → is_blank byte ≡ false
+pub digit_is_not_blank : (byte : ℕ) → is_ascii_digit byte ≡ true → is_blank byte ≡ false
 digit_is_not_blank byte h = let is = digit_byte byte h in rw (other_byte byte 32 (omega (arith, is.low)), other_byte byte 9 (omega (arith, is.low))) refl
 
 -- digits and a point are neither a sign nor blank

@@ -5,13 +5,13 @@ use Rattle.std.specs.List.{prefix_len}
 use Rattle.std.proofs.Math.Nat.{mod-eq_of_lt, pow-suc}
 use Rattle.std.proofs.Math.Seq.{take-length}
 use Rattle.std.proofs.lemmas.List.{append-nil, take-append-drop}
-use Rattle.std.proofs.lemmas.Grind.{common_steps}
 use Rattle.std.specs.Char.{is_ascii_digit, digit_value}
 use Rattle.std.specs.Str.Parse.{digits_value, digits_value_after}
 use Rattle.exact_decimal.specs.NumberFields.{is_exponent_letter, AreBlanks, AreDigits, IsSign, IsMantissa, IsExponent, IsFloating, signed}
 use Rattle.exact_decimal.specs.Parts.{Begins}
 use Rattle.exact_decimal.proofs.Digits.{digit_byte, after_below}
 use Rattle.exact_decimal.proofs.Runs.{front_passes}
+use Rattle.grid_model.proofs.ListLemmas.{all_dropped}
 
 -- ---- twelve digits
 
@@ -85,9 +85,6 @@ three_bytes [] long = absurd (omega arith)
 three_bytes (a ∷ []) long = absurd (omega arith)
 three_bytes (a ∷ b ∷ []) long = absurd (omega arith)
 three_bytes (a ∷ b ∷ c ∷ more) long = refl
-
-all_dropped : (text : List ℕ) (n : ℕ) → take (length text - n) (drop n text) ≡ drop n text
-all_dropped text n = grind (arith, common_steps)
 
 -- what stands behind the point, cut behind twelve bytes
 pub parts_join : (text fraction letters : List ℕ) → fraction ≡ take 12 (take (length text - 3) (drop 3 text)) → letters ≡ drop 12 (take (length text - 3) (drop 3 text))

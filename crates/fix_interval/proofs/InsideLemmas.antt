@@ -7,7 +7,7 @@ use Rattle.std.proofs.lemmas.Int.{ints, by_lt_z}
 use lib.IntN.{*ℤ_comm}
 use Rattle.grid_model.specs.Intervals.{Between}
 use Rattle.grid_model.specs.Rounding.{Near, IsFloor}
-use Rattle.grid_model.proofs.ProductLemmas.{mul_mono, mul_anti, mul_lt_back, add_mul, neg_mul, mul_neg, mul_assoc}
+use Rattle.grid_model.proofs.ProductLemmas.{mul_mono, mul_anti, mul_lt_back, add_mul, neg_mul, mul_neg, mul_assoc, less_mul}
 use Rattle.grid_model.proofs.RoundingLemmas.{floor_is}
 
 -- num / den lies strictly between lo and hi
@@ -61,9 +61,6 @@ held n d lo hi v p i h =
 
 pub sum_inside : (m n d a b a' b' : ℤ) → Inside m d a b → Inside n d a' b' → Inside (m +ℤ n) d (a +ℤ a') (b +ℤ b')
 sum_inside m n d a b a' b' i j = record { low = omega (arith, ints, i.low, j.low, add_mul a a' d); high = omega (arith, ints, i.high, j.high, add_mul b b' d) }
-
-pub less_mul : (a b d : ℤ) → (a -ℤ b) *ℤ d ≡ (a *ℤ d) -ℤ (b *ℤ d)
-less_mul a b d = add_mul a (neg_ℤ b) d ∙ ap (λ (z : ℤ). (a *ℤ d) +ℤ z) (neg_mul b d)
 
 pub difference_inside : (m n d a b a' b' : ℤ) → Inside m d a b → Inside n d a' b' → Inside (m -ℤ n) d (a -ℤ b') (b -ℤ a')
 difference_inside m n d a b a' b' i j = record { low = omega (arith, ints, i.low, j.high, less_mul a b' d); high = omega (arith, ints, i.high, j.low, less_mul b a' d) }

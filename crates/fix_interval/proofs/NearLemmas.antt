@@ -13,7 +13,7 @@ use Rattle.grid_model.proofs.ProductLemmas.{mul_mono, mul_anti, mul_le_back, mul
 use Rattle.grid_model.proofs.IntervalLemmas.{low_member, high_member}
 use Rattle.grid_model.proofs.RoundingLemmas.{floor_is, floor_near}
 use Rattle.grid_model.proofs.SpreadLemmas.{least_has, greatest_has}
-use Rattle.grid_model.proofs.EndsLemmas.{rounded_ends}
+use Rattle.grid_model.proofs.EndsLemmas.{rounded_ends, low_of as low_bound, high_of as high_bound, common as regrouped}
 
 pub near_exists : (num den : ℤ) → pos 0 <ℤ den → (v : ℤ) × Near num den v
 near_exists num den p = (int_div_euclid num den, floor_near num den _ p (floor_is num den p))
@@ -33,12 +33,6 @@ near_without a num den v n =
     record { below = omega (arith, ints, e, n.below, n.above); above = omega (arith, ints, e, n.below, n.above) }
 
 -- ---- the ends of a product whose factors are any
-
-low_bound : (n : ℕ) (z m : ℤ) → IsWithin n z → pos n ≤ℤ m → neg_ℤ m ≤ℤ z
-low_bound n z m w h = omega (arith, ints, w.low)
-
-high_bound : (n : ℕ) (z m : ℤ) → IsWithin n z → pos n ≤ℤ m → z ≤ℤ m
-high_bound n z m w h = omega (arith, ints, w.high)
 
 apart_bound : (n k : ℕ) (x y den : ℤ) → IsWithin n x → IsWithin n y → pos n ≤ℤ (pos k *ℤ den) → y ≤ℤ (x +ℤ (pos (k + k) *ℤ den))
 apart_bound n k x y den v w h = rw (add_mul (pos k) (pos k) den) (omega (arith, ints, v.low, w.high))
@@ -80,16 +74,13 @@ held_fraction n d l h p f =
     let g : (int_div_euclid n d +ℤ pos 1) ≤ℤ h = near_or_below n d (int_div_euclid n d +ℤ pos 1) h p (λ v i. (f v i).to) (rw (add_mul (int_div_euclid n d) (pos 1) d) (omega (arith, ints, q.le))) in
     record { from = omega (arith, ints, mul_mono l (int_div_euclid n d) d e (omega (arith, ints)), q.le); to = omega (arith, ints, mul_mono (int_div_euclid n d +ℤ pos 1) h d g (omega (arith, ints)), add_mul (int_div_euclid n d) (pos 1) d, q.gt) }
 
-regrouped : (v q d : ℤ) → (v *ℤ d) *ℤ q ≡ v *ℤ (q *ℤ d)
-regrouped v q d = mul_assoc v d q ∙ ap (λ (z : ℤ). v *ℤ z) (*ℤ_comm d q)
-
 cancel_below : (t m v q d : ℤ) → pos 0 <ℤ q → t ≤ℤ (m *ℤ q) → (v *ℤ (q *ℤ d)) ≤ℤ (t +ℤ (q *ℤ d)) → (v *ℤ d) ≤ℤ (m +ℤ d)
 cancel_below t m v q d p h k = mul_le_back (v *ℤ d) (m +ℤ d) q p (rw (regrouped v q d, add_mul m d q, *ℤ_comm d q) (omega (arith, ints)))
 
 cancel_above : (t m v q d : ℤ) → pos 0 <ℤ q → (m *ℤ q) ≤ℤ t → t ≤ℤ (v *ℤ (q *ℤ d) +ℤ (q *ℤ d)) → m ≤ℤ (v *ℤ d +ℤ d)
 cancel_above t m v q d p h k = mul_le_back m (v *ℤ d +ℤ d) q p (rw (add_mul (v *ℤ d) d q, regrouped v q d, *ℤ_comm d q) (omega (arith, ints)))
 
-swapped : (a b c : ℤ) → (a *ℤ b) *ℤ c ≡ (a *ℤ c) *ℤ b
+pub swapped : (a b c : ℤ) → (a *ℤ b) *ℤ c ≡ (a *ℤ c) *ℤ b
 swapped a b c = mul_assoc a b c ∙ ap (λ (z : ℤ). a *ℤ z) (*ℤ_comm b c) ∙ sym (mul_assoc a c b)
 
 -- num / den times b lies between products of ends with b

@@ -2,7 +2,7 @@
 -- 1.001 / sqrt(0.002001 + sin^2 E), E being the elevation (`Mapping`). The ionosphere's is the
 -- obliquity factor of RTCA DO-229, A.4.4.10.4, where all delay is that of a thin shell at h = 350
 -- km above an earth of the radius Re = 6378.1363 km: 1 / sqrt(1 - (Re cos E / (Re + h))^2), which
--- is 1 / sqrt(1 - f^2 + (f sin E)^2) with f = Re / (Re + h).
+-- is 1 / sqrt(1 - F^2 + (F sin E)^2) with F = Re / (Re + h).
 use Rattle.std.specs.Prelude.{ℕ, ◌*◌, ◌^◌}
 use Rattle.gnss_model.specs.declared.delays.Layer.{Layer}
 use Rattle.gnss_model.specs.declared.delays.Layer.TheVariants.{Troposphere, Ionosphere}
@@ -12,12 +12,12 @@ abbrev pub layer_scale : Layer → ℕ
 layer_scale Troposphere = 1001
 layer_scale Ionosphere = 1000
 
--- the floor below the root, 0.002001 or 1 - f^2, in 10^-32 and cut off
+-- the floor below the root, 0.002001 or 1 - F^2, in 10^-32 and cut off
 abbrev pub layer_floor : Layer → ℕ
 layer_floor Troposphere = 2001 * 10 ^ 26
 layer_floor Ionosphere = 10133458172795012207442187408082
 
--- the factor of the sine, 1 or f, as a fraction: Re over Re + h in 0.1 m
+-- the factor of the sine, 1 or F, as a fraction: Re over Re + h in 0.1 m
 abbrev pub layer_part : Layer → ℕ
 layer_part Troposphere = 1
 layer_part Ionosphere = 63781363

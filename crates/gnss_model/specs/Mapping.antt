@@ -29,13 +29,13 @@ IsRaised z raised = Near (z *ℤ pos up_scale) (pos (10 ^ 14)) raised
 abbrev pub IsRatio : ℤ → ℕ → ℤ → Type 0
 IsRatio part length ratio = Near (part *ℤ pos unit) (pos length) ratio
 
--- the amount of a sine times the layer's factor, cut off
-abbrev pub bent : Layer → ℕ → ℕ
-bent layer amount = amount * layer_part layer / layer_whole layer
+-- the amount of a sine times the layer's factor, 1 or F, cut off
+abbrev pub layer_sine : Layer → ℕ → ℕ
+layer_sine layer amount = amount * layer_part layer / layer_whole layer
 
--- sqrt(0.002001 + sin^2 E), or sqrt(1 - f^2 + (f sin E)^2), cut off, for a sine
+-- sqrt(0.002001 + sin^2 E), or sqrt(1 - F^2 + (F sin E)^2), cut off, for a sine
 abbrev pub slant_of : Layer → ℤ → ℕ
-slant_of layer sine = root (layer_floor layer + square (bent layer (nat_abs sine)))
+slant_of layer sine = root (layer_floor layer + square (layer_sine layer (nat_abs sine)))
 
 -- 1.001, or 1, over a slant
 abbrev pub IsMapped : Layer → ℕ → ℤ → Type 0
@@ -65,7 +65,7 @@ pub record Mapping (layer : Layer) (p : Pos) (x y z : ℤ) (range : ℕ) (factor
   -- sin E, the product of both directions
   pub sine : ℤ
   pub sine_is : Near (((up_x *ℤ line_x) +ℤ (up_y *ℤ line_y)) +ℤ (up_z *ℤ line_z)) (pos unit) sine
-  -- 1.001 / sqrt(0.002001 + sin^2 E), or 1 / sqrt(1 - f^2 + (f sin E)^2)
+  -- 1.001 / sqrt(0.002001 + sin^2 E), or 1 / sqrt(1 - F^2 + (F sin E)^2)
   pub factor_is : IsMapped layer (slant_of layer sine) factor
 
 -- a delay straight up, mapped

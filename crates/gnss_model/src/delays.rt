@@ -24,9 +24,11 @@ pub struct Delays {
     pub vertical: Option<Span>,
 }
 
-/// Whether none is declared, so that nothing is mapped.
-pub fn is_plain(delays: Delays) -> bool
-    ensures { result ≡ is_plain delays }
-{
-    delays.zenith.is_none() && delays.vertical.is_none()
+impl Delays {
+    /// Whether none is declared, so that nothing is mapped.
+    pub fn is_plain(self) -> bool
+        ensures { result ≡ is_plain self }
+    {
+        self.zenith.is_none() && self.vertical.is_none()
+    }
 }

@@ -12,7 +12,7 @@ mod satellites;
 mod spares;
 mod systems;
 
-pub use delays::{Delays, Layer, is_plain};
+pub use delays::{Delays, Layer};
 pub use earth_model::EARTH_RATE;
 pub use elements::Elements;
 pub use record_bounds::{

@@ -71,17 +71,17 @@ square_divisor s b b' h k =
     let y : pos (s * s) ≤ℤ (pos s *ℤ b') = least_divisor s s b' k in
     omega (arith, ints)
 
-low_of : (x : ℕ) (n z : ℤ) → IsWithin x n → pos x ≤ℤ z → neg_ℤ z ≤ℤ n
+pub low_of : (x : ℕ) (n z : ℤ) → IsWithin x n → pos x ≤ℤ z → neg_ℤ z ≤ℤ n
 low_of x n z w h = omega (arith, ints)
 
-high_of : (x : ℕ) (n z : ℤ) → IsWithin x n → pos x ≤ℤ z → n ≤ℤ z
+pub high_of : (x : ℕ) (n z : ℤ) → IsWithin x n → pos x ≤ℤ z → n ≤ℤ z
 high_of x n z w h = omega (arith, ints)
 
 le_pos : (a b : ℕ) (z : ℤ) → a ≤ b → pos b ≤ℤ z → pos a ≤ℤ z
 le_pos a b z h k = omega (arith, ints)
 
 -- x b1 b0 and y b0 b1 have the divisors' product as a common factor
-common : (x b b' : ℤ) → (x *ℤ b') *ℤ b ≡ x *ℤ (b *ℤ b')
+pub common : (x b b' : ℤ) → (x *ℤ b') *ℤ b ≡ x *ℤ (b *ℤ b')
 common x b b' = mul_assoc x b' b ∙ ap (λ (z : ℤ). x *ℤ z) (*ℤ_comm b' b)
 
 multiples_apart : (v p : ℕ) (a a' num : ℤ) → IsWithin v (a' -ℤ a) → IsWithin p num → IsWithin (v * p) ((a' *ℤ num) -ℤ (a *ℤ num))

@@ -1,6 +1,6 @@
 -- Members of an interval, its ends, and numbers that are close to each other.
-use Rattle.std.proofs.Common.{ℕ, ◌+◌, ◌≤◌, arith}
-use Rattle.std.specs.Prelude.{ℤ, neg_ℤ, nat_abs, ◌-ℤ◌, ◌≤ℤ◌}
+use Rattle.std.proofs.Common.{ℕ, ◌+◌, ◌≤◌, arith, ◌≡◌}
+use Rattle.std.specs.Prelude.{ℤ, neg_ℤ, nat_abs, ◌-ℤ◌, ◌≤ℤ◌, pos}
 use Rattle.std.specs.Int.{int_max, int_min}
 use Rattle.std.proofs.lemmas.Int.{ints, clamps}
 use Rattle.grid_model.specs.Sizes.{IsWithin}
@@ -56,3 +56,12 @@ chain m n k s t a b p q c = record {
   below = omega (arith, ints, p.below, p.above, q.below, q.above, c.below, c.above);
   above = omega (arith, ints, p.below, p.above, q.below, q.above, c.below, c.above);
 }
+
+pub back_within : (w : ℕ) (s m : ℤ) → IsWithin w (s -ℤ m) → IsWithin w (m -ℤ s)
+back_within w s m h = record { low = omega (arith, ints, h.low, h.high); high = omega (arith, ints, h.low, h.high) }
+
+pub one_number : (m : ℕ) → Ends m 0 (pos m) (pos m)
+one_number m = record { order = omega (arith, ints); low = record { low = omega (arith, ints); high = omega (arith, ints) }; high = record { low = omega (arith, ints); high = omega (arith, ints) }; width = omega (arith, ints) }
+
+pub difference_by : (al ah bl bh cl ch x y : ℤ) → cl ≡ al -ℤ bh → ch ≡ ah -ℤ bl → Between al ah x → Between bl bh y → Between cl ch (x -ℤ y)
+difference_by al ah bl bh cl ch x y e f p q = record { from = omega (arith, ints, p.from, q.to); to = omega (arith, ints, p.to, q.from) }

@@ -1,5 +1,5 @@
 -- Products of whole numbers: how they carry an order, a sign, a sum and an amount.
-use Rattle.std.proofs.Common.{zero, suc, ◌≡◌, ℕ, ◌+◌, ◌*◌, ◌≤◌, arith, refl, ap, ◌∙◌, subst}
+use Rattle.std.proofs.Common.{zero, suc, ◌≡◌, ℕ, ◌+◌, ◌*◌, ◌≤◌, arith, refl, ap, ◌∙◌, subst, sym}
 use Rattle.std.specs.Prelude.{ℤ, pos, negsuc, ◌+ℤ◌, ◌-ℤ◌, ◌*ℤ◌, neg_ℤ, nat_abs, ◌≤ℤ◌, ◌<ℤ◌}
 use Rattle.std.proofs.lemmas.Int.{ints, by_lt_z}
 use Rattle.std.proofs.lemmas.Nat.{mul-le}
@@ -102,3 +102,11 @@ products_apart x x' y y' a b v w p q r s =
     apart_of (x *ℤ y) (x *ℤ y') (x' *ℤ y') (a * w) (b * v)
     (subst (λ (z : ℤ). z ≤ℤ pos (a * w)) (distrib_less x y y') (product_le a w x (y -ℤ y') p s))
     (subst (λ (z : ℤ). z ≤ℤ pos (b * v)) (distrib_less y' x x' ∙ ap (λ (z : ℤ). z -ℤ (y' *ℤ x')) (*ℤ_comm y' x) ∙ ap (λ (z : ℤ). (x *ℤ y') -ℤ z) (*ℤ_comm y' x')) (product_le b v y' (x -ℤ x') q r))
+
+-- the middle factors change places
+pub swap4 : (a b c d : ℤ) → (a *ℤ c) *ℤ (b *ℤ d) ≡ (a *ℤ b) *ℤ (c *ℤ d)
+swap4 a b c d =
+    mul_assoc a c (b *ℤ d) ∙ ap (λ (z : ℤ). a *ℤ z) (sym (mul_assoc c b d) ∙ ap (λ (z : ℤ). z *ℤ d) (*ℤ_comm c b) ∙ mul_assoc b c d) ∙ sym (mul_assoc a b (c *ℤ d))
+
+pub less_mul : (a b c : ℤ) → (a -ℤ b) *ℤ c ≡ (a *ℤ c) -ℤ (b *ℤ c)
+less_mul a b c = add_mul a (neg_ℤ b) c ∙ ap (λ (z : ℤ). (a *ℤ c) +ℤ z) (neg_mul b c)

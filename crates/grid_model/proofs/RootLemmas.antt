@@ -35,3 +35,16 @@ root_mono a b v w p q le = grind (arith, square-mono (w + 1) v, p.square_le, q.n
 -- three squares, added
 pub sum_mono : (x y z x' y' z' : ℕ) → x ≤ x' → y ≤ y' → z ≤ z' → square x + square y + square z ≤ square x' + square y' + square z'
 sum_mono x y z x' y' z' h k l = omega (arith, square-mono x x' h, square-mono y y' k, square-mono z z' l)
+
+pub less_of_squares : (a b : ℕ) → a * a < b * b → a < b
+less_of_squares a b h = grind (arith, square-mono b a)
+
+pub root_le : (a n : ℕ) → a ≤ n * n → root a ≤ n
+root_le a n h =
+    let r : IsRoot a (root a) = root_is a in
+    grind (arith, square-mono (n + 1) (root a), r.square_le)
+
+pub root_least : (a n : ℕ) → n * n ≤ a → n ≤ root a
+root_least a n h =
+    let r : IsRoot a (root a) = root_is a in
+    grind (arith, square-mono (root a + 1) n, r.next_square_gt)

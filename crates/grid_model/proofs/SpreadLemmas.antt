@@ -49,10 +49,10 @@ least_le_greatest a b c d = spread (a *ℤ c) (a *ℤ d) (b *ℤ c) (b *ℤ d)
 
 -- ---- what holds of each product of ends holds of the least and of the greatest
 
-min_is_one : (s t : ℤ) → (int_min s t ≡ s) ⊎ (int_min s t ≡ t)
+pub min_is_one : (s t : ℤ) → (int_min s t ≡ s) ⊎ (int_min s t ≡ t)
 min_is_one s t = grind arith
 
-max_is_one : (s t : ℤ) → (int_max s t ≡ s) ⊎ (int_max s t ≡ t)
+pub max_is_one : (s t : ℤ) → (int_max s t ≡ s) ⊎ (int_max s t ≡ t)
 max_is_one s t = grind arith
 
 pub pick_min : (P : ℤ → Type 0) (s t : ℤ) → P s → P t → P (int_min s t)

@@ -1,11 +1,11 @@
 -- The squares of members lie between the least and the greatest square.
-use Rattle.std.proofs.Common.{◌≡◌, ℕ, ◌≤◌, arith, ◌⊎◌, inl, inr, refl}
+use Rattle.std.proofs.Common.{◌≡◌, ℕ, ◌≤◌, arith, ◌⊎◌, inl, inr, refl, ◌+◌}
 use Rattle.std.specs.Prelude.{ℤ, pos, negsuc, nat_abs, ◌≤ℤ◌}
 use Rattle.std.proofs.lemmas.Int.{ints}
 use borrow.Author.Differences.{up, down}
 use Rattle.grid_model.specs.Sizes.{IsWithin}
 use Rattle.grid_model.specs.Amounts.{square}
-use Rattle.grid_model.specs.Intervals.{Between}
+use Rattle.grid_model.specs.Intervals.{Between, Ends}
 use Rattle.grid_model.specs.Roots.{IsRoot, root}
 use Rattle.grid_model.specs.Rounding.{grain_floor, grain_ceil}
 use Rattle.grid_model.specs.Squares.{least_end, greatest_end, least_square, greatest_square}
@@ -38,3 +38,6 @@ root_between g lo hi n v h p q r =
     let x = grain_between g (pos (root lo)) h in
     let y = grain_between g (pos (root hi)) h in
     record { from = omega (arith, ints, x.0); to = omega (arith, ints, y.1) }
+
+pub ends_apart : (n w : ℕ) (l h : ℤ) → Ends n w l h → greatest_end l h ≤ least_end l h + w
+ends_apart n w l h e = let o = e.order in let k = e.width in omega (arith, ints, one_part l, one_part h)

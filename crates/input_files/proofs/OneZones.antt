@@ -1,6 +1,6 @@
 -- A text of zones and directions stands for one value.
-use Rattle.std.proofs.Common.{◌≡◌, ℕ, zero, suc, ◌^◌, ◌<◌, Bool, true, false, List, [], ◌∷◌, ◌++◌, length, map, get_or, refl, sym, ap, subst, ◌∙◌, arith}
-use Rattle.std.specs.Prelude.{ℤ, pos, negsuc, codes}
+use Rattle.std.proofs.Common.{◌≡◌, ℕ, zero, suc, ◌^◌, ◌<◌, Bool, true, false, List, [], ◌∷◌, ◌++◌, length, map, refl, sym, ap, subst, ◌∙◌, arith}
+use Rattle.std.specs.Prelude.{ℤ, pos, negsuc}
 use Rattle.std.specs.Fmt.{signed_decimal}
 use Rattle.std.proofs.lemmas.Fmt.{decimal_injective}
 use Rattle.std.proofs.lemmas.Int.{ints}
@@ -10,15 +10,15 @@ use Rattle.grid_model.specs.declared.boxes.Pos.{Pos}
 use Rattle.log_words.proofs.DigitLemmas.{one_spelled}
 use Rattle.log_words.proofs.NumberLemmas.{one_place}
 use Rattle.log_words.specs.Fields.{IsPosWithin, pos_words}
-use Rattle.log_words.specs.Words.{words}
 use Rattle.zone_guard.specs.Lines.{ZoneValue, zone_words}
 use Rattle.zone_guard.specs.Planes.{PlaneValue}
-use Rattle.zone_guard.specs.Text.{lines, first_line, IsNewZone, AreZones, AreZonesIn}
+use Rattle.zone_guard.specs.Text.{lines, IsNewZone, AreZones, AreZonesIn}
 use Rattle.zone_guard.specs.Watched.{Kind, Corners, Sides, Along, KindFits, WatchLine, Named, Side, line_words, IsSide, FormValue, BoxValue, PrismValue, ReachValue, form_lines, WatchValue, watch_lines, zone_watch}
-use Rattle.zone_guard.specs.WatchText.{IsFirstUnfit, IsNextLine, names_with, owed_with, AreWatchLines, AreWatchesIn, IsWatchesText, second_line}
+use Rattle.zone_guard.specs.WatchText.{IsFirstUnfit, IsNextLine, names_with, owed_with, AreWatchLines, AreWatchesIn, IsWatchesText}
 use Rattle.input_files.specs.Zones.{ZonesValue, SpellsZones, NamesUnfit}
 use Rattle.input_files.specs.declared.notice.Notice.{Notice}
 use Rattle.input_files.specs.declared.notice.Notice.TheVariants as notice
+use Rattle.zone_guard.proofs.WatchTextLemmas.{other_heads}
 
 -- ---- the places of a line
 
@@ -176,11 +176,6 @@ one_first [] ys zs a b = absurd a
 one_first (first ∷ rest) ys zs a b = one_zones [] rest ys zs a.1 b.1
 
 -- ---- either form
-
-other_heads : (first : List ℕ) → first ≡ first_line → first ≡ second_line → ⊥
-other_heads first e f =
-    let last : 49 ≡ 50 = ap (λ (bytes : List ℕ). get_or bytes 9 0) (sym e ∙ f) in
-    omega (arith, last)
 
 one_head : (ls : List (List ℕ)) (vs : List WatchValue) (zs : List ZoneValue) → AreWatchesIn ls vs → AreZonesIn ls zs → ⊥
 one_head [] vs zs a b = absurd a

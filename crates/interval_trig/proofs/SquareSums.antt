@@ -7,11 +7,10 @@ use Rattle.std.proofs.Math.Nat.{mul-le-mul_left, le_of_mul-le-mul_left}
 use Rattle.grid_model.specs.Angles.{unit}
 use Rattle.grid_model.specs.Sizes.{IsWithin}
 use Rattle.interval_trig.specs.NestedSums.{greatest_rest, plain_num, nested_den, sine_15, cosine_16}
-use Rattle.interval_trig.proofs.HornerSteps.{below_quotient, nested_is_plain}
+use Rattle.interval_trig.proofs.HornerSteps.{below_quotient, nested_is_plain, above_quotient as at_most_next}
 use Rattle.interval_trig.proofs.PointValues.{square_small}
 use Rattle.interval_trig.proofs.Polynomials.{eval, add, scale, mul, eval-add, eval-scale, eval-mul, nested_poly, nested_is_poly, total, eval_within}
 use Rattle.interval_trig.proofs.WholeSums.{sine_whole, cosine_whole}
-use Rattle.interval_trig.proofs.SumGaps.{below_next}
 
 -- the sum of the squares of the two sums, over one denominator, as a polynomial in the rest's square
 abbrev pub squares : List ℤ
@@ -83,9 +82,6 @@ squares_around a h =
     around_of _ (total (greatest_rest * greatest_rest) (others squares)) one_squared _ (eval (pos (a * a)) squares) (eval (pos (a * a)) (others squares)) others_small
     (eval_within (a * a) (greatest_rest * greatest_rest) (others squares) (mul-le a a greatest_rest greatest_rest h h)) (first_and_others (pos (a * a)) squares)
     (eval_squares (a * a) (nested_den cosine_16 * nested_den cosine_16) (unit * unit * (nested_den sine_15 * nested_den sine_15)) (plain_num (a * a) sine_15) (plain_num (a * a) cosine_16) (nested_poly sine_15) (nested_poly cosine_16) f g)
-
-at_most_next : (n e : ℕ) → 0 < e → n ≤ (n / e + 1) * e
-at_most_next n e p = let h = below_next n e p in omega arith
 
 pub whole_squares : (a : ℕ) → a ≤ greatest_rest → WholeSquares (sine_whole a) (cosine_whole a)
 unfolding sine_whole cosine_whole

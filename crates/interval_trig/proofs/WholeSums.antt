@@ -6,6 +6,7 @@ use Rattle.grid_model.specs.Angles.{unit}
 use Rattle.interval_trig.specs.NestedSums.{greatest_rest, plain_num, nested_den, sine_15, cosine_16}
 use Rattle.interval_trig.proofs.HornerSteps.{div_mono}
 use Rattle.interval_trig.proofs.Monotone.{Falls, falls_all, rises, slope_by}
+use Rattle.grid_model.proofs.RootLemmas.{square-mono as squares_rise}
 
 -- a quotient rises by at most k where the numerator rises by at most k denominators
 quotient_rises : (n m k e : ℕ) → 0 < e → n ≤ m → m ≤ n + k * e → (n / e ≤ m / e) × (m / e ≤ n / e + k)
@@ -17,9 +18,6 @@ sine_whole a = a * plain_num (a * a) sine_15 / nested_den sine_15
 
 unfoldable pub cosine_whole : ℕ → ℕ
 cosine_whole a = unit * plain_num (a * a) cosine_16 / nested_den cosine_16
-
-squares_rise : (a b : ℕ) → a ≤ b → a * a ≤ b * b
-squares_rise a b h = mul-le a a b b h h
 
 -- the sine rises, and no faster than its rest
 pub sine_rises : (a b : ℕ) → a ≤ b → b ≤ greatest_rest → (sine_whole a ≤ sine_whole b) × (sine_whole b ≤ sine_whole a + (b - a))

@@ -91,7 +91,7 @@ behind_minus word (negsuc k) minus within e = record {
     whole digits = grind (arith, common_steps)
 
 -- two numbers of 128 bits that are spelled alike are one
-one_amount : (m n : ℕ) → m < 10 ^ 64 → n < 10 ^ 64 → decimal m ≡ decimal n → m ≡ n
+pub one_amount : (m n : ℕ) → m < 10 ^ 64 → n < 10 ^ 64 → decimal m ≡ decimal n → m ≡ n
 one_amount m n m_fits n_fits e = sym (decimal_is_IsNumeral_wide m m_fits).1 ∙ ap (digits_value 10) e ∙ (decimal_is_IsNumeral_wide n n_fits).1
 
 no_minus : (m : ℕ) (digits : List ℕ) → m < 10 ^ 64 → decimal m ≡ 45 ∷ digits → ⊥

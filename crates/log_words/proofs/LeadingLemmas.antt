@@ -1,6 +1,6 @@
 -- Numbers and words at the front of a text.
-use Rattle.std.proofs.Common.{◌≡◌, ℕ, zero, suc, ◌+◌, ◌-◌, ◌*◌, ◌^◌, ◌%◌, ◌<◌, ◌≤◌, List, [], ◌∷◌, ◌++◌, length, take, drop, get_or, refl, sym, ap, ◌∙◌, arith}
-use Rattle.std.proofs.lemmas.List.{take_all, take-take, length-drop, length-take, length-take-le, get_or-take}
+use Rattle.std.proofs.Common.{◌≡◌, ℕ, suc, ◌+◌, ◌-◌, ◌*◌, ◌^◌, ◌%◌, ◌<◌, ◌≤◌, List, [], ◌∷◌, ◌++◌, length, take, drop, get_or, refl, sym, ap, ◌∙◌, arith}
+use Rattle.std.proofs.lemmas.List.{take-take, length-take, length-take-le, get_or-take}
 use Rattle.std.specs.Fmt.{decimal}
 use Rattle.std.specs.Prelude.{slice_range}
 use Rattle.std.proofs.lemmas.Fmt.{decimal_digit}
@@ -8,16 +8,7 @@ use Rattle.std.specs.Float.Numeral.{digits_len}
 use Rattle.std.specs.Str.Parse.{AllDigits, digits_value}
 use Rattle.core.proofs.dec2flt.Rows.{AllDigits-digits_len}
 use Rattle.log_words.proofs.DigitLemmas.{below, number_spelled}
-
--- a text is what stands before a byte, the byte, and what stands behind it
-pub cut_at : (text : List ℕ) (end byte : ℕ) → end < length text → get_or text end 0 ≡ byte → text ≡ take end text ++ byte ∷ drop (suc end) text
-cut_at [] end byte lt is = absurd (omega arith)
-cut_at (first ∷ more) zero byte lt is = ap (λ (b : ℕ). b ∷ more) is
-cut_at (first ∷ more) (suc end) byte lt is = ap (λ (later : List ℕ). first ∷ later) (cut_at more end byte (omega arith) is)
-
--- all that stands behind some bytes
-pub all_behind : (text : List ℕ) (n : ℕ) → take (length text - n) (drop n text) ≡ drop n text
-all_behind text n = take_all (length text - n) (drop n text) (omega (arith, length-drop n text))
+use Rattle.grid_model.proofs.ListLemmas.{all_dropped as all_behind, cut_at}
 
 -- digits at the front and the byte behind them
 pub number_in_front : (text : List ℕ) (count number byte : ℕ) → count < length text → count ≤ 19 → AllDigits 10 (take count text) → number ≡ digits_value 10 (take count text) → get_or text count 0 ≡ byte

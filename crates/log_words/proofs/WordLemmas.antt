@@ -4,11 +4,7 @@ use Rattle.std.specs.Prelude.{nat_eq, Option, Some, None, IsTrue, ◌↔◌, is_
 use Rattle.std.specs.Borrow.{Bor}
 use Rattle.std.proofs.lemmas.Bool.{eqb-true}
 use Rattle.log_words.specs.Words.{words, longer, joined, words_left}
-
--- a test that doesn't come out true comes out false
-not_true : (b : Bool) → (b ≡ true → ⊥) → b ≡ false
-not_true true h = absurd (h refl)
-not_true false h = refl
+use Rattle.grid_model.proofs.BoolLemmas.{not_true}
 
 -- a line with no blank is one word
 pub words-only : (line : List ℕ) → ((k : ℕ) → k < length line → nat_eq (get_or line k 0) 32 ≡ true → ⊥) → words line ≡ line ∷ []
@@ -28,12 +24,12 @@ words-first (byte ∷ bytes) (suc end) none lt blank =
     let later : words bytes ≡ take end bytes ∷ words (drop (suc end) bytes) = words-first bytes end (λ k below. none (suc k) (omega arith)) (omega arith) blank in
     rw (here, later) refl
 
-longer-some : (byte : ℕ) (line : List (List ℕ)) → longer byte line ≡ [] → ⊥
+pub longer-some : (byte : ℕ) (line : List (List ℕ)) → longer byte line ≡ [] → ⊥
 longer-some byte [] e = cc
 longer-some byte (word ∷ more) e = cc
 
 -- the words of a byte and what follows it
-begun : (blank : Bool) (byte : ℕ) (line : List (List ℕ)) → cond blank ([] ∷ line) (longer byte line) ≡ [] → ⊥
+pub begun : (blank : Bool) (byte : ℕ) (line : List (List ℕ)) → cond blank ([] ∷ line) (longer byte line) ≡ [] → ⊥
 begun true byte line e = cc
 begun false byte line e = longer-some byte line e
 

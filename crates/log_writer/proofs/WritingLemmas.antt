@@ -153,7 +153,7 @@ front_behind : (xs ys front : List ℕ) → IsFrontOf front ys → IsFrontOf (xs
 front_behind [] ys front is = is
 front_behind (x ∷ xs) ys front is = let (kept, same) = front_behind xs ys front is in (kept + 1, rw add-one (ap (λ (l : List ℕ). x ∷ l) same))
 
-rose_behind : (m n k : ℕ) → m ≤ n → Rose n k → Rose m k
+pub rose_behind : (m n k : ℕ) → m ≤ n → Rose n k → Rose m k
 rose_behind m n k le rose = omega (arith, rose)
 
 -- or a device failed

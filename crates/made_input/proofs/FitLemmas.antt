@@ -1,10 +1,9 @@
 -- A made satellite is usable and, where it isn't the outlier of its epoch, consistent with the place at clock offset 0.
-use Rattle.std.proofs.Common.{◌≡◌, ℕ, zero, suc, ◌+◌, ◌-◌, ◌*◌, ◌/◌, ◌%◌, ◌^◌, ◌<◌, ◌≤◌, List, [], ◌∷◌, length, map, refl, sym, ap, subst, ◌∙◌, arith, lit≤, inl, inr, true, false, None, Some}
+use Rattle.std.proofs.Common.{◌≡◌, ℕ, zero, suc, ◌+◌, ◌-◌, ◌*◌, ◌/◌, ◌%◌, ◌^◌, ◌<◌, ◌≤◌, List, [], ◌∷◌, length, map, refl, sym, ap, subst, ◌∙◌, arith, lit≤, inl, inr, false, None, Some}
 use Rattle.std.specs.Prelude.{ℤ, pos, negsuc, neg_ℤ, ◌+ℤ◌, ◌-ℤ◌, ◌*ℤ◌, ◌≤ℤ◌, ◌<ℤ◌, ◌==◌, slice_get, unsigned_abs, Option, option_map}
 use Rattle.std.specs.List.{AllByRecursion}
 use Rattle.std.proofs.lemmas.Bool.{cases_Bool}
 use Rattle.std.proofs.lemmas.Int.{ints}
-use Rattle.std.proofs.Math.Dec.{T_prop}
 use mathlib.Core.HLevel.{is_prop→PathP}
 use Rattle.error_bounds.specs.Reading.{bound_for, value_of_settings}
 use Rattle.error_bounds.specs.declared.settings.Settings.{Settings}
@@ -50,16 +49,13 @@ use Rattle.made_input.proofs.OrbitBounds.{made_ellipse}
 use Rattle.made_input.proofs.RangeBounds.{code_in_range, drawn_below, IsPlausible as InRange}
 use Rattle.made_input.proofs.RecordLemmas.{record_at, eight_records}
 use Rattle.made_input.proofs.TimeLemmas.{tag_is, toc_is, week_is}
+use Rattle.grid_model.proofs.OrderLemmas.{le_prop, lt_prop}
+use Rattle.exact_decimal.proofs.Mantissas.{other_byte as behind_other}
+use Rattle.exact_decimal.proofs.Signs.{is_byte as is_there}
 
 -- ---- records
 
-le_prop : (a b : ℤ) (p q : a ≤ℤ b) → p ≡ q
-le_prop a b = hlevel T_prop
-
-lt_prop : (a b : ℤ) (p q : a <ℤ b) → p ≡ q
-lt_prop a b = hlevel T_prop
-
-same_record : (r s : NavRecord) → plain_record r ≡ plain_record s → r ≡ s
+pub same_record : (r s : NavRecord) → plain_record r ≡ plain_record s → r ≡ s
 same_record r s e = λ i. record {
   sat = (e i).sat;
   toc = (e i).toc;
@@ -315,12 +311,6 @@ none_declared delays e f =
     let z = no_span delays.zenith e in
     let v = no_span delays.vertical f in
     λ i. record { zenith = z i; vertical = v i }
-
-behind_other : (k n : ℕ) → n < k → (k == n) ≡ false
-behind_other k n h = grind (arith, h)
-
-is_there : (k n : ℕ) → (k == n) ≡ true → k ≡ n
-is_there k n h = grind (arith, h)
 
 is_before : (k n : ℕ) → (k == n) ≡ false → k ≤ n → k < n
 is_before k n h l = grind (arith, h, l)

@@ -1,7 +1,6 @@
 -- A text that reads as the made table has the made settings.
 use Rattle.std.proofs.Common.{◌≡◌, ℕ, true, List, [], ◌∷◌, ◌++◌, length, take, get_or, ◌+◌, ◌<◌, refl, sym, ap, ◌∙◌, arith, None, Some, Ok}
 use Rattle.std.specs.Prelude.{ℤ, pos, neg_ℤ, IsUtf8}
-use Rattle.gnss_model.specs.declared.satellites.Sat.{Sat}
 use Rattle.std.proofs.lemmas.Int.{ints}
 use Rattle.std.proofs.lemmas.List.{take_more}
 use Rattle.grid_model.specs.Sizes.{IsWithin}
@@ -10,7 +9,7 @@ use Rattle.toml.specs.Parse.{parse_document}
 use Rattle.error_bounds.specs.Forms.{is_coordinate, um}
 use Rattle.error_bounds.specs.Keys as key
 use Rattle.error_bounds.specs.Keys.{Test, value_of, fault_in, first_found, tests, own_tests, sats_from}
-use Rattle.error_bounds.specs.Texts.{IsSettings, own_extra}
+use Rattle.error_bounds.specs.Texts.{IsSettings}
 use Rattle.error_bounds.specs.declared.settings.Centre.TheVariants.{At}
 use Rattle.std.proofs.Common.{String, Global, Ordering, Less, Equal, Greater, string_bytes}
 use Rattle.std.specs.BTreeMap.{insert_entry}
@@ -20,20 +19,13 @@ use Rattle.toml.specs.View.{view, members_view, items_view}
 use Rattle.toml.specs.declared.value.Value.{Value, Integer as IntegerCase}
 use Rattle.toml.proofs.Views.{Entry, items_view-push, view-Integer}
 use Rattle.made_texts.specs.SettingsText.{integers, put_member, settings_table, settings_of, AreNear}
+use Rattle.error_bounds.proofs.KeyLemmas.{empty_tests as none_of, empty_extra as no_extra}
 
 coordinate : (x : ℤ) → IsWithin 8500000000 x → is_coordinate x ≡ true
 coordinate x h = grind (arith, ints, h.low, h.high)
 
 centre_is : (x y z : ℤ) → AreNear x y z → value_of key.centre (settings_table x y z) ≡ Ok (At (record { x = um x; y = um y; z = um z }))
 centre_is x y z near = rw (coordinate x near.0, coordinate y near.1, coordinate z near.2) refl
-
-none_of : (sats : List Sat) → first_found (own_tests no_members sats) ≡ None
-none_of [] = refl
-none_of (sat ∷ sats) = none_of sats
-
-no_extra : (sats : List Sat) → own_extra no_members sats ≡ []
-no_extra [] = refl
-no_extra (sat ∷ sats) = no_extra sats
 
 found_none : (t : Test) (more : List Test) → t.fault ≡ None → first_found more ≡ None → first_found (t ∷ more) ≡ None
 found_none t more none later = rw (none, later) refl

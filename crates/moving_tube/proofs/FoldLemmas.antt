@@ -1,41 +1,23 @@
 -- The boxes that steps keep lie in the root, where the steps can be taken.
-use Rattle.std.proofs.Common.{◌≡◌, ℕ, zero, suc, ◌+◌, ◌/◌, ◌<◌, arith, Bool, true, false, List, [], ◌∷◌, ◌++◌, get_or, set, refl, sym, ap, subst, ◌∙◌, Option, None, Some}
-use Rattle.std.specs.Prelude.{ℤ, pos, ◌+ℤ◌, ◌-ℤ◌, ◌≤ℤ◌, ◌<ℤ◌}
-use Rattle.std.specs.List.{AllByRecursion, filter}
+use Rattle.std.proofs.Common.{◌≡◌, ℕ, zero, suc, ◌+◌, ◌<◌, arith, List, [], ◌∷◌, ◌++◌, get_or, set, Option, None, Some}
+use Rattle.std.specs.Prelude.{ℤ, ◌<ℤ◌}
+use Rattle.std.specs.List.{AllByRecursion}
 use Rattle.std.proofs.lemmas.Int.{ints}
 use Rattle.range_contractor.proofs.BoxLemmas.{lies_through}
 use Rattle.grid_model.proofs.AmountLemmas.{above_is}
-use Rattle.grid_model.specs.Boxes.{Side, GridBox, side_at, with_side, low_half, high_half}
+use Rattle.grid_model.specs.Boxes.{Side, GridBox, side_at, low_half, high_half}
 use Rattle.sat_model.specs.Contractors.{SideLiesIn, LiesIn}
-use Rattle.sat_model.specs.Cover.{is_kept}
-use Rattle.sat_model.specs.Fold.{Subpaving, first_boxes, live_box, IsLive, axis_of, is_low, side_left, IsProperBound, IsProperCut, left_by_cut, halves, cut_box, boxes_after, ShownStep, shown, slab_shown, taken_by, pieces_from, pieces}
-use Rattle.sat_model.specs.Logs.{Block}
+use Rattle.sat_model.specs.Fold.{Subpaving, first_boxes, live_box, axis_of, is_low, side_left, halves, cut_box, boxes_after, ShownStep, shown, slab_shown, taken_by, pieces_from, pieces}
 use Rattle.sat_model.specs.declared.steps.Step.{Step}
 use Rattle.sat_model.specs.declared.steps.Step.TheVariants.{Cut, Split, Outside, Inside, Edge}
 use Rattle.live_boxes.specs.Folding.{IsDivisible, StepFolds, StepsFold}
-use Rattle.paving_log.specs.CoverBoxes.{BlockFolds, kept_parts, cover_of}
+use Rattle.paving_log.specs.CoverBoxes.{kept_parts}
 use Rattle.moving_tube.specs.Hulls.{hull_of, HullLies}
 use Rattle.moving_tube.proofs.HullLemmas.{hull_lies}
+use Rattle.sat_model.proofs.FoldLemmas.{side_inside, with_inside}
+use Rattle.range_contractor.proofs.TreeLemmas.{lies_itself as own_box}
 
 -- ---- parts of a box
-
-side_inside : (low : Bool) (s : Side) (bound : ℤ) → s.lo ≤ℤ s.hi → IsProperBound low s bound → SideLiesIn (side_left low s bound) s
-side_inside true s bound o (h, k) = record { low = omega (arith, ints); ordered = k; high = omega (arith, ints) }
-side_inside false s bound o (h, k) = record { low = omega (arith, ints); ordered = h; high = omega (arith, ints) }
-
-with_inside : (axis : ℕ) (part : GridBox) (s : Side) → LiesIn part part → SideLiesIn s (side_at axis part) → LiesIn (with_side axis part s) part
-with_inside zero part s l h zero = h
-with_inside zero part s l h (suc zero) = l 1
-with_inside zero part s l h (suc (suc n)) = l 2
-with_inside (suc zero) part s l h zero = l 0
-with_inside (suc zero) part s l h (suc zero) = h
-with_inside (suc zero) part s l h (suc (suc n)) = l 2
-with_inside (suc (suc m)) part s l h zero = l 0
-with_inside (suc (suc m)) part s l h (suc zero) = l 1
-with_inside (suc (suc m)) part s l h (suc (suc n)) = h
-
-own_box : (a part : GridBox) → LiesIn a part → LiesIn a a
-own_box a part l axis = let u = l axis in record { low = omega (arith, ints); ordered = u.ordered; high = omega (arith, ints) }
 
 low_inside : (s : Side) → s.lo <ℤ s.hi → SideLiesIn (low_half s) s
 low_inside s two = record {

@@ -1,18 +1,15 @@
 -- Which points boxes hold that are joined, met or grown.
-use Rattle.std.proofs.Common.{◌≡◌, ℕ, zero, suc, ◌+◌, ◌*◌, ◌<◌, ◌≤◌, arith, true, inl, inr}
-use Rattle.std.specs.Prelude.{ℤ, pos, ◌+ℤ◌, ◌-ℤ◌, ◌≤ℤ◌, nat_abs}
-use Rattle.std.proofs.lemmas.Bool.{cases_order}
+use Rattle.std.proofs.Common.{◌≡◌, ℕ, zero, suc, ◌+◌, ◌*◌, ◌≤◌, arith, true}
+use Rattle.std.specs.Prelude.{ℤ, pos, ◌-ℤ◌, nat_abs}
 use Rattle.std.proofs.lemmas.Int.{ints, clamps}
 use Rattle.range_contractor.proofs.BoxLemmas.{along, holds_at, holds_all}
-use Rattle.grid_model.specs.Amounts.{square}
 use Rattle.grid_model.specs.Boxes.{Side, GridBox, box_holds, side_at, IsIn}
 use Rattle.sat_model.specs.Contractors.{meet_side, meet_box}
-use Rattle.grid_model.specs.Squares.{sum_of_squares}
 use Rattle.grid_model.specs.declared.boxes.Pos.{Pos}
-use Rattle.grid_model.proofs.RootLemmas.{square-mono}
 use Rattle.moving_tube.specs.Hulls.{joined_side, joined_box}
 use Rattle.moving_tube.specs.Reach.{IsWithinReach}
 use Rattle.moving_tube.specs.Roots.{grown_side, grown_box, reached_box}
+use Rattle.range_contractor.proofs.TightLemmas.{square_le_back as less_of_squares}
 
 -- ---- sides
 
@@ -29,15 +26,6 @@ in_grown : (r : ℕ) (s : Side) (m n : ℤ) → IsIn s m → nat_abs (n -ℤ m) 
 in_grown r s m n h near = (omega (arith, ints, h.0), omega (arith, ints, h.1))
 
 -- ---- amounts
-
-less_of_squares : (a r : ℕ) → a * a ≤ r * r → a ≤ r
-less_of_squares a r h = elim (cases_order a r) [
-  | inl e ↦ omega arith
-  | inr k ↦ elim k [
-    | inl l ↦ omega arith
-    | inr l ↦ absurd (omega (arith, square-mono (suc r) a (omega arith)))
-  ]
-]
 
 record AreNear (r : ℕ) (p q : Pos) : Type 0 where
   pub x : nat_abs (q.x -ℤ p.x) ≤ r

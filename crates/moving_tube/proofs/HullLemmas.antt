@@ -1,22 +1,20 @@
 -- What a hull holds, and where it lies.
-use Rattle.std.proofs.Common.{◌≡◌, ℕ, zero, suc, ◌+◌, ◌<◌, arith, Bool, true, false, cond, List, [], ◌∷◌, map, inl, inr, refl, sym, ap, subst, ◌∙◌, Option, None, Some, count_by}
-use Rattle.std.specs.Prelude.{ℤ, ◌≤ℤ◌}
+use Rattle.std.proofs.Common.{◌≡◌, ℕ, zero, suc, arith, Bool, true, false, List, [], ◌∷◌, inl, inr, refl, Option, None, Some}
+use Rattle.std.specs.Prelude.{ℤ}
 use Rattle.std.specs.List.{AllByRecursion}
 use Rattle.std.proofs.lemmas.Int.{ints, clamps}
-use Rattle.std.proofs.lemmas.List.Sums.{sum_by-cons}
-use Rattle.range_contractor.proofs.BoxLemmas.{along, holds_at, holds_all}
+use Rattle.range_contractor.proofs.BoxLemmas.{along, holds_all}
 use Rattle.grid_model.specs.Boxes.{Side, GridBox, grid_box, box_holds, side_at, IsIn}
 use Rattle.sat_model.specs.Contractors.{SideLiesIn, LiesIn}
-use Rattle.sat_model.specs.Cover.{KeepsClock, Keeps, SomeKeeps, Partitions, is_kept}
+use Rattle.sat_model.specs.Cover.{SomeKeeps, is_kept}
 use Rattle.sat_model.specs.Fold.{ShownStep}
-use Rattle.sat_model.specs.StepKinds.{is_kept_step}
 use Rattle.grid_model.specs.declared.boxes.Box3.{Box3}
 use Rattle.grid_model.specs.declared.boxes.Pos.{Pos}
-use Rattle.sat_model.specs.declared.steps.Step.{Step}
-use Rattle.sat_model.specs.declared.steps.Step.TheVariants.{Cut, Split, Outside, Inside, Edge}
 use Rattle.paving_log.specs.CoverBoxes.{kept_parts}
 use Rattle.moving_tube.specs.Hulls.{joined_side, joined_box, hull_with, hull_behind, HullLies}
 use Rattle.moving_tube.proofs.HoldLemmas.{holds_first, holds_second}
+use Rattle.sat_model.proofs.KeptLemmas.{kept_step}
+use Rattle.paving_log.proofs.KeptParts.{kept_here, kept_later}
 
 -- ---- what it holds
 
@@ -36,19 +34,6 @@ held_new (Some hull) part p h = holds_second hull part p h
 held_behind : (hull : Option GridBox) (parts : List GridBox) (p : Pos) → HullHolds hull p → HullHolds (hull_behind hull parts) p
 held_behind hull [] p h = h
 held_behind hull (part ∷ more) p h = held_behind (hull_with hull part) more p (held_with hull part p h)
-
-kept_step : (step : Step) (b : ℤ) → KeepsClock step b → is_kept_step step ≡ true
-kept_step (Cut id face bound) b h = absurd h
-kept_step (Split id axis) b h = absurd h
-kept_step (Outside id) b h = absurd h
-kept_step (Inside id clock lo hi) b h = refl
-kept_step (Edge id lo hi) b h = refl
-
-pub kept_here : (piece : ShownStep) (more : List ShownStep) → is_kept piece ≡ true → kept_parts (piece ∷ more) ≡ piece.part ∷ kept_parts more
-kept_here piece more e = rw e refl
-
-pub kept_later : (piece : ShownStep) (more : List ShownStep) → is_kept piece ≡ false → kept_parts (piece ∷ more) ≡ kept_parts more
-kept_later piece more e = rw e refl
 
 -- what the hull of the later ones holds, whatever stands before them
 later_held : (hull : Option GridBox) (piece : ShownStep) (more : List ShownStep) (p : Pos) (kept : Bool) → is_kept piece ≡ kept
@@ -98,9 +83,6 @@ high_corner : (b : Box3) (axis : ℕ) → IsIn (side_at axis (grid_box b)) (alon
 high_corner b zero = (b.x_ordered, omega (arith, ints))
 high_corner b (suc zero) = (b.y_ordered, omega (arith, ints))
 high_corner b (suc (suc n)) = (b.z_ordered, omega (arith, ints))
-
-pub holds_low : (b : Box3) → box_holds (grid_box b) b.lo ≡ true
-holds_low b = holds_all (grid_box b) b.lo (low_corner b)
 
 pub holds_high : (b : Box3) → box_holds (grid_box b) b.hi ≡ true
 holds_high b = holds_all (grid_box b) b.hi (high_corner b)

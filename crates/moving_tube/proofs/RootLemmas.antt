@@ -8,7 +8,7 @@ use Rattle.live_boxes.specs.LiveValues.{box_option}
 use Rattle.grid_model.proofs.AmountLemmas.{above_is}
 use Rattle.grid_model.specs.Boxes.{Side, GridBox, grid_box, box_holds, side_at, IsIn}
 use Rattle.sat_model.specs.Contractors.{SideLiesIn, LiesIn, meet_side, meet_box, IsMeet}
-use Rattle.grid_model.specs.Lengths.{side_length, longest_length}
+use Rattle.grid_model.specs.Lengths.{side_length}
 use Rattle.grid_model.specs.SearchBoxes.{IsSearchBox}
 use Rattle.grid_model.specs.Sizes.{IsBoxSize}
 use Rattle.grid_model.specs.declared.boxes.Box3.{Box3}
@@ -17,13 +17,11 @@ use Rattle.moving_tube.specs.Hulls.{HullLies}
 use Rattle.moving_tube.specs.Reach.{longest_reach}
 use Rattle.moving_tube.specs.Roots.{grown_side, grown_box, reached_box}
 use Rattle.moving_tube.specs.Widened.{widened_side, widened_box}
-use Rattle.moving_tube.proofs.HullLemmas.{holds_low}
+use Rattle.grid_model.proofs.PointLemmas.{low_corner as holds_low}
+use Rattle.range_contractor.proofs.TreeExists.{same_box}
 
 pub same_side : (l h l' h' : ℤ) → l ≡ l' → h ≡ h' → (◌≡◌ {A = Side} (record { lo = l; hi = h }) (record { lo = l'; hi = h' }))
 same_side l h l' h' e f = rw (e, f) refl
-
-pub same_box : (x y z x' y' z' : Side) → x ≡ x' → y ≡ y' → z ≡ z' → (◌≡◌ {A = GridBox} (record { x = x; y = y; z = z }) (record { x = x'; y = y'; z = z' }))
-same_box x y z x' y' z' e f g = rw (e, f, g) refl
 
 -- ---- growing as far as boxes go
 
@@ -143,9 +141,6 @@ lies_searched a search box lies =
     }
 
 -- ---- a box within a box
-
-pub lies_alone : (a b : GridBox) → LiesIn a b → LiesIn a a
-lies_alone a b l axis = let u = l axis in record { low = omega (arith, ints); ordered = u.ordered; high = omega (arith, ints) }
 
 pub hull_through : (hull : Option GridBox) (a b : GridBox) → HullLies hull a → LiesIn a b → HullLies hull b
 hull_through None a b h l = tt

@@ -1,6 +1,6 @@
 -- A piece that goes out in several writes.
-use Rattle.std.proofs.Common.{◌≡◌, ℕ, ◌+◌, ◌-◌, List, [], ◌∷◌, ◌++◌, length, take, drop, Option, None, Some, refl, sym, ap, ◌∙◌, append_assoc, append-nil, arith, cond, Bool, true, false, length-append, length-drop, unwrap_or}
-use Rattle.std.proofs.Math.Seq.{take-add, take-length}
+use Rattle.std.proofs.Common.{◌≡◌, ℕ, ◌+◌, ◌-◌, List, [], ◌∷◌, ◌++◌, length, take, drop, Option, None, Some, refl, sym, ap, ◌∙◌, append_assoc, append-nil, arith, cond, Bool, true, false, length-append, unwrap_or}
+use Rattle.std.proofs.Math.Seq.{take-add}
 use Rattle.std.specs.Option.{option_map}
 use Rattle.std.specs.Ordering.{nat_cmp, eq_by_cmp}
 use Rattle.std.proofs.lemmas.Cmp.{nat_list_cmp_total, eq_by_cmp_equiv}
@@ -11,6 +11,7 @@ use Rattle.outer_io.specs.Slots.{at, put}
 use Rattle.outer_io.proofs.SlotLemmas.{at-put, put-put}
 use Rattle.outer_io.specs.Taken.{SinkTold, taking}
 use Rattle.outer_io.specs.Told.{Files, Told, content, appended}
+use Rattle.grid_model.proofs.ListLemmas.{all_dropped as rest_whole}
 
 taking-nothing : (t : SinkTold) → t ≡ taking [] t
 taking-nothing t = λ i. record t { bytes = sym (append-nil t.bytes) i }
@@ -26,9 +27,6 @@ taking-twice (Some t) xs ys = λ i. Some (record t { bytes = append_assoc t.byte
 -- the first bytes, and then the first of the rest
 front_of_rest : (bytes : List ℕ) (done k : ℕ) → take done bytes ++ take k (drop done bytes) ≡ take (done + k) bytes
 front_of_rest bytes done k = sym (take-add done k bytes)
-
-rest_whole : (bytes : List ℕ) (done : ℕ) → take (length bytes - done) (drop done bytes) ≡ drop done bytes
-rest_whole bytes done = ap (λ n. take n (drop done bytes)) (sym (length-drop done bytes)) ∙ take-length (drop done bytes)
 
 pub taken-more : (a b c : Option SinkTold) (bytes : List ℕ) (done k : ℕ)
     → b ≡ option_map (taking (take done bytes)) a → c ≡ option_map (taking (take k (take (length bytes - done) (drop done bytes)))) b → c ≡ option_map (taking (take (done + k) bytes)) a

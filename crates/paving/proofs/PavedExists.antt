@@ -17,9 +17,10 @@ use Rattle.sat_model.specs.Waiting.{WaitingBox, bits_of, Paving, first_paving, I
 use Rattle.grid_model.proofs.AmountLemmas.{above_is}
 use Rattle.range_contractor.proofs.TreeExists.{IsGridPart, inside_part}
 use Rattle.box_steps.proofs.BoxLemmas.{grid_part, box_steps_exist, cuts_inside}
-use Rattle.box_steps.proofs.FaceLemmas.{with_inside}
 use Rattle.paving.specs.Paved.{long_side, grain_for, AreStepsOf, PavesTo, Paved, PavedFirst}
 use Rattle.paving.proofs.PavedLemmas.{box_opens, keeps_test}
+use Rattle.sat_model.proofs.FoldLemmas.{with_inside}
+use Rattle.box_steps.proofs.RoundLemmas.{joined_append}
 
 -- ---- the box that comes next
 
@@ -203,10 +204,6 @@ rest_up_to test rules (suc fuel) (box ∷ waiting) splits enough grid le =
       paves = (n.next, n.rest, n.is_next, are, subst (λ (p : Paving). PavesTo rules p later.boxes later.last) (sym opens) later.paves);
       none_waiting = later.none_waiting;
     }
-
-pub joined_append : (xs ys : List (List ShownStep)) → joined (xs ++ ys) ≡ joined xs ++ joined ys
-joined_append [] ys = refl
-joined_append (own ∷ xs) ys = ap (λ l. own ++ l) (joined_append xs ys) ∙ sym (append_assoc own (joined xs) (joined ys))
 
 pub paves_on : (rules : Rules) (xs ys : List (List ShownStep)) (start middle last : Paving)
     → PavesTo rules start xs middle → PavesTo rules middle ys last → PavesTo rules start (xs ++ ys) last

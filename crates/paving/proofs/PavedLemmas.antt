@@ -1,5 +1,5 @@
 -- The steps of a whole run pass all tests.
-use Rattle.std.proofs.Common.{◌≡◌, ℕ, zero, suc, ◌+◌, ◌*◌, ◌<◌, arith, List, [], ◌∷◌, ◌++◌, length, get_or, set, cond, nat_eq, eq-eqb, Option, None, Some, inl, inr, refl, sym, ap, subst, ◌∙◌, append_assoc}
+use Rattle.std.proofs.Common.{◌≡◌, ℕ, zero, suc, ◌+◌, ◌*◌, arith, List, [], ◌∷◌, ◌++◌, length, get_or, set, cond, nat_eq, eq-eqb, Option, None, Some, inl, inr, refl, sym, ap, subst, ◌∙◌, append_assoc}
 use Rattle.std.specs.Prelude.{◌≢◌, ℤ}
 use Rattle.std.proofs.lemmas.Int.{ints}
 use Rattle.std.proofs.lemmas.Bool.{cases_lt, cases_eq, ne_eqb}
@@ -22,6 +22,7 @@ use Rattle.sat_model.specs.BoxTests.{BoxTest}
 use Rattle.paving.specs.Paved.{AreStepsOf, PavesTo, Paved}
 use Rattle.grid_model.proofs.AmountLemmas.{above_is}
 use Rattle.sat_model.proofs.CoverLemmas.{epoch_cover}
+use Rattle.sat_model.proofs.FoldLemmas.{there as within_live}
 
 -- ---- cuts, one after another
 
@@ -124,12 +125,6 @@ only_one (x ∷ y ∷ xs) ys c (Some d) e = absurd cc
 none_from : (o : Option GridBox) → [] ≡ boxes_in o → o ≡ None
 none_from None e = refl
 none_from (Some c) e = cc
-
-within_live : (live : List (Option GridBox)) (id : ℕ) (c : GridBox) → get_or live id None ≡ Some c → id < length live
-within_live live id c e = elim (cases_lt id (length live)) [
-  | inl less ↦ less
-  | inr past ↦ let none = get_or_past live id None past in absurd cc
-]
 
 -- the box of that number is live as this part, and the boxes of rest are the other live ones
 pub record IsInWork (id : ℕ) (part : GridBox) (rest : List WaitingBox) (splits : ℕ) (st : Subpaving) : Type 0 where

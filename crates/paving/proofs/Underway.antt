@@ -1,5 +1,5 @@
 -- A run that is underway.
-use Rattle.std.proofs.Common.{◌≡◌, ℕ, ◌+◌, ◌-◌, ◌*◌, ◌<◌, ◌≤◌, List, [], ◌∷◌, ◌++◌, length, arith, refl, sym, ap, subst, ◌∙◌, append_assoc, Some}
+use Rattle.std.proofs.Common.{◌≡◌, ℕ, ◌+◌, ◌-◌, ◌*◌, ◌<◌, ◌≤◌, List, [], ◌∷◌, ◌++◌, length, arith, refl, sym, ap, subst, append_assoc, Some}
 use Rattle.std.specs.Prelude.{Bool, true, false, cond, count_by}
 use Rattle.std.proofs.lemmas.List.{append-nil, length-append}
 use Rattle.std.proofs.lemmas.List.Sums.{sum_by-append, sum_by-cons}
@@ -25,6 +25,7 @@ use Rattle.paving.specs.Queues.{IsQueued, Takes, CanOpen, box_of, opened_count}
 use Rattle.paving.proofs.CutLemmas.{ends_by_last, opens_last, counted_cuts}
 use Rattle.paving.proofs.PavedExists.{same_test}
 use Rattle.paving.proofs.PavedLemmas.{AreCutsInTurn}
+use Rattle.box_steps.proofs.RoundsUnderway.{one_more as joined_more}
 
 -- so many boxes have at most so many steps of each kind, with up to 1,800 cuts a box
 pub record AreFew (counts : Counts) (boxes : ℕ) : Type 0 where
@@ -56,10 +57,6 @@ paves_more rules start middle [] next rest own paves is own_is =
     (next, rest, is, own_is, refl)
 paves_more rules start middle (first ∷ boxes) next rest own (n, r, n_is, f_is, later) is own_is =
     (n, r, n_is, f_is, paves_more rules (beyond_all (record start { waiting = r }) first) middle boxes next rest own later is own_is)
-
-pub joined_more : (boxes : List (List ShownStep)) (own : List ShownStep) → joined (boxes ++ own ∷ []) ≡ joined boxes ++ own
-joined_more [] own = append-nil own
-joined_more (first ∷ boxes) own = ap (λ l. first ++ l) (joined_more boxes own) ∙ sym (append_assoc first (joined boxes) own)
 
 count_yes : (p : ShownStep → Bool) (xs : List ShownStep) (x : ShownStep) (n : ℕ) → n ≡ count_by p xs → p x ≡ true → n + 1 ≡ count_by p (xs ++ x ∷ [])
 count_yes p xs x n e yes_x = omega (arith, e, sum_by-append (λ y. cond (p y) 1 0) xs (x ∷ []), sum_by-cons (λ y. cond (p y) 1 0) x [], ap {B = ℕ} (λ (b : Bool). cond b 1 0) yes_x)

@@ -10,15 +10,10 @@ use Rattle.box_pool.specs.Lists.{list_at, AllEmpty, IsPushed, IsPopped, IsGreate
 use Rattle.paving.specs.Queues.{box_of, boxes_at, IsQueued, Takes}
 use Rattle.sat_model.specs.Waiting.{WaitingBox, bits_of, IsNext, halves_from}
 use Rattle.grid_model.specs.Boxes.{GridBox, with_side, side_at, low_half, high_half}
+use Rattle.grid_model.proofs.ListLemmas.{filter_yes, filter_no}
 
 abbrev pub has_bits : ℕ → WaitingBox → Bool
 has_bits bits box = nat_eq (bits_of box) bits
-
-filter_yes : {X : Type 0} (p : X → Bool) (x : X) (xs : List X) → p x ≡ true → filter p (x ∷ xs) ≡ x ∷ filter p xs
-filter_yes p x xs e = rw e refl
-
-filter_no : {X : Type 0} (p : X → Bool) (x : X) (xs : List X) → p x ≡ false → filter p (x ∷ xs) ≡ filter p xs
-filter_no p x xs e = rw e refl
 
 front_empty : {X : Type 0} (xs ys : List X) → xs ++ ys ≡ [] → xs ≡ []
 front_empty [] ys e = refl

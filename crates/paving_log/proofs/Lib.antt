@@ -12,3 +12,4 @@ pub mod SatelliteLemmas
 pub mod OwnLemmas
 pub mod RowsLemmas
 pub mod LeadingLemmas
+pub mod KeptParts

@@ -14,7 +14,7 @@ use Rattle.log_words.specs.Words.{joined}
 use Rattle.paving_log.specs.Faults.{FitsAt, FirstLine, LineFails, FaultFrom}
 use Rattle.paving_log.specs.Taking.{Refuses, Takes}
 use Rattle.log_words.proofs.WordLemmas.{joined-words}
-use Rattle.log_words.proofs.LeadingLemmas.{cut_at}
+use Rattle.grid_model.proofs.ListLemmas.{cut_at}
 
 -- what stands before the first LF is the first line
 pub ended_line : (text : List ℕ) (end : ℕ) → ((k : ℕ) → k < end → nat_eq (get_or text k 0) 10 ≡ true → ⊥) → end < length text → nat_eq (get_or text end 0) 10 ≡ true

@@ -4,7 +4,6 @@ use Rattle.std.specs.Prelude.{count_by}
 use Rattle.std.specs.List.{AllByRecursion}
 use Rattle.std.proofs.Math.ListN.{get_or-map}
 use Rattle.std.proofs.Math.Seq.{drop-cons}
-use Rattle.std.proofs.lemmas.Bool.{cases_lt}
 use Rattle.std.proofs.lemmas.Grind.{common_steps}
 use Rattle.std.proofs.lemmas.List.{length-append, length-map}
 use Rattle.std.proofs.lemmas.List.Sums.{sum_by-cons}
@@ -13,7 +12,7 @@ use Rattle.sat_model.specs.declared.rows.SatEntry.{SatEntry}
 use Rattle.sat_model.specs.declared.rows.SatEntry.TheVariants as entry
 use Rattle.grid_model.specs.Boxes.{GridBox}
 use Rattle.sat_model.specs.Logs.{Block, LogValue, rows_of}
-use Rattle.sat_model.specs.Verdicts.{SuitsNumber, CountsRows, IsFirstRepeat}
+use Rattle.sat_model.specs.Verdicts.{SuitsNumber, CountsRows}
 use Rattle.sat_model.proofs.VerdictLemmas.{head_not_both}
 use Rattle.paving_log.specs.declared.line.Form.TheVariants as form
 use Rattle.paving_log.specs.declared.line.LogLine.TheVariants as lines
@@ -22,6 +21,7 @@ use Rattle.paving_log.specs.declared.log.LogEpoch.{LogEpoch}
 use Rattle.paving_log.specs.RowsText.{IsNumberedIn, OwnPasses, OwnFails, AllOwnPass, FirstOwnFails, HasOwnFault, has_row, IsPavable}
 use Rattle.paving_log.specs.Text.{paved_lines, block_lines, BodyFits, BlockFits}
 use Rattle.paving_log.specs.Values.{block_of, log_value}
+use Rattle.sat_model.proofs.FaultLemmas.{one_repeat}
 
 -- ---- the rows among the satellite lines
 
@@ -104,15 +104,6 @@ own_line_fits {log = log} {before = before} {i = i} {b = b} line number t here f
     omega (arith, own_within log.rules before b line number fails, last_number (t.next + length (block_lines form.Rows b)) (drop (i + 1) log.blocks) rest)
 
 -- ---- one first line fails
-
-one_repeat : (sats : List SatEntry) (j k : ℕ) → IsFirstRepeat sats j → IsFirstRepeat sats k → j ≡ k
-one_repeat sats j k a b = elim (cases_lt j k) [
-  | inl less ↦ absurd (b.first j less a.repeats)
-  | inr not_less ↦ elim (cases_lt k j) [
-    | inl less ↦ absurd (a.first k less b.repeats)
-    | inr not_more ↦ omega arith
-  ]
-]
 
 own_not_both : (rules : Rules) (before : Option ℕ) (b : Block) (line number : ℕ) → OwnPasses rules before b → OwnFails rules before b line number → ⊥
 own_not_both rules before b line number h f = elim f [

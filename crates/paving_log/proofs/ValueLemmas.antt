@@ -39,11 +39,9 @@ use Rattle.paving_log.proofs.FaultLemmas.{same_name, line_some}
 use Rattle.paving_log.proofs.SureLemmas.{ends_from}
 use Rattle.log_words.proofs.NumberLemmas.{one_number}
 use Rattle.log_words.proofs.TimeLemmas.{time_count}
+use Rattle.grid_model.proofs.OrderLemmas.{le_prop as int_prop}
 
 -- ---- proofs
-
-int_prop : (a b : ℤ) (p q : a ≤ℤ b) → p ≡ q
-int_prop a b = hlevel T_prop
 
 place_prop : (s : Span) (p q : IsPlaceSize s.lo × IsPlaceSize s.hi) → p ≡ q
 place_prop s = hlevel T_prop

@@ -79,7 +79,7 @@ pub record IsUnderway (log : LogValue) (before : Option ℕ) (i boxes : ℕ) : T
   pub numbered : IsNumberedFrom next (drop i log.blocks)
   pub few_boxes : boxes ≤ next
 
-last_number : (next : ℕ) (blocks : List Block) → IsNumberedFrom next blocks → next ≤ 4000000001
+pub last_number : (next : ℕ) (blocks : List Block) → IsNumberedFrom next blocks → next ≤ 4000000001
 last_number next [] h = h
 last_number next (block ∷ more) h = omega (arith, last_number (next + lines_in block) more h.1)
 

@@ -18,14 +18,11 @@ use Rattle.paving_log_check.specs.declared.verdict.Fault.{Fault}
 use Rattle.paving_log_check.proofs.FirstFaultLemmas.{not_both, one_fault}
 use Rattle.paving_log_check.proofs.FitLemmas.{AreInBoxes, blocks_fit}
 use Rattle.paving_log_check.proofs.NarrowLemmas.{log_narrow}
+use Rattle.paving_log_check.proofs.BlockLemmas.{last_number}
 
 pub body_passes : (rules : Rules) (root : GridBox) (block : Block) (theirs : Option GridBox) → BodyPassesAt rules root block theirs → BodyPasses rules block theirs
 body_passes rules root block None h = tt
 body_passes rules root block (Some theirs) h = rw h.0 h.1
-
-pub last_number : (next : ℕ) (blocks : List Block) → IsNumberedFrom next blocks → next ≤ 4000000001
-last_number next [] h = h
-last_number next (block ∷ more) h = omega (arith, last_number (next + lines_in block) more h.1)
 
 module _ (m : Meaning) where
   -- behind these blocks, what holds for own lines of the searches left holds for more lines from the start on

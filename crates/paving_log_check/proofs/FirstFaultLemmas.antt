@@ -23,6 +23,7 @@ use Rattle.paving_log_check.specs.Checked.{AreSameFault}
 use Rattle.paving_log_check.specs.Epochs.{EpochPasses, BodyFailsAt, BodyDiffers, EpochFails}
 use Rattle.paving_log_check.specs.Lines.{expected, HoldEach, compared, IsFirstNarrow, IsExpected, RowPasses, RowFails, LinePasses, LineFails, SatsPass, SatsFail}
 use Rattle.paving_log_check.specs.declared.verdict.Fault.{Fault}
+use Rattle.epoch_selection.proofs.SelectionLemmas.{same_some}
 
 -- ---- rows
 
@@ -61,9 +62,6 @@ side_ends s = (s.lo, s.hi)
 one_due : {rules : Rules} {next : ℕ} {before : Option ℕ} {searches : List Search} {blocks : List Block} (a b : Fault)
     → DueFails rules next before searches blocks a → DueFails rules next before searches blocks b → AreSameFault a b
 one_due a b f g = same_plain a b (f.line ∙ sym g.line) (f.number ∙ sym g.number) f.no_spans g.no_spans
-
-same_some : {X : Type 0} (o : Option X) (x y : X) → o ≡ Some x → o ≡ Some y → x ≡ y
-same_some o x y e f = cc
 
 -- the expected line is one line
 row_at : {sats : List SatEntry} {lines : List SatLine} {k : ℕ} (Meets : SatEntry → SatLine → Type 0) (e f : IsExpected sats lines k)

@@ -41,6 +41,7 @@ use Rattle.paving_log_check.specs.Admissible.{AreOwn, AdmitsFrom}
 use Rattle.paving_log_check.specs.Epochs.{BodyPassesAt}
 use Rattle.paving_log_check.specs.FileCover.{FitsInside, AllFitInside, FitCover, FitBlockCover, BlocksFitCover}
 use Rattle.paving_log_check.specs.Lines.{expected, IsSameLine, HoldsSide, bounds_unless, HoldEach, HasBoundIf, HoldsOwn, HasBound, RowPasses, SatsPass}
+use Rattle.std.proofs.lemmas.Option.{same_Some as same_one}
 
 -- ---- one row
 
@@ -65,10 +66,10 @@ record HoldsBounds (row ours : Row) : Type 0 where
   pub low : HoldsSide (low_bounds row) (low_bounds ours)
   pub high : HoldsSide (high_bounds row) (high_bounds ours)
 
-same_first : (a b c d : ℤ) → ◌≡◌ {A = ℤ × ℤ} (a, b) (c, d) → a ≡ c
+pub same_first : (a b c d : ℤ) → ◌≡◌ {A = ℤ × ℤ} (a, b) (c, d) → a ≡ c
 same_first a b c d e = ap (λ (x : ℤ × ℤ). x.0) e
 
-same_second : (a b c d : ℤ) → ◌≡◌ {A = ℤ × ℤ} (a, b) (c, d) → b ≡ d
+pub same_second : (a b c d : ℤ) → ◌≡◌ {A = ℤ × ℤ} (a, b) (c, d) → b ≡ d
 same_second a b c d e = ap (λ (x : ℤ × ℤ). x.1) e
 
 -- they are the same where both are the declared ones alone
@@ -102,9 +103,6 @@ surely_within row ours c b s h k same e =
     rw same (record { from = omega (arith, ints, h.low.hi, k.lo.to, e.0); to = omega (arith, ints, h.high.lo, k.hi.from, e.1) })
 
 -- ---- the lines of a block against own lines, pair by pair
-
-same_one : {X : Type 0} (x y : X) → Some x ≡ Some y → x ≡ y
-same_one x y e = cc
 
 module _ (delays : Delays) where
   abbrev AreFair : SatEntry → SatLine → Type 0
@@ -283,7 +281,7 @@ module _ (m : Meaning) (sound : IsSound m) (root : GridBox) (box : IsSearchBox r
 abbrev pub HasFewRoot : Block → Type 0
 HasFewRoot block = block.few ≡ is_none block.root
 
-none_of : (root : Option Box3) → is_none (box_option root) ≡ is_none root
+pub none_of : (root : Option Box3) → is_none (box_option root) ≡ is_none root
 none_of None = refl
 none_of (Some root) = refl
 

@@ -32,6 +32,7 @@ use Rattle.paving_log_check.specs.Epochs.{EpochPasses, EpochFails}
 use Rattle.paving_log_check.specs.Lines.{skipped_in, expected, HoldsSide, bounds_unless, compared, IsFirstNarrow, IsSameLine, RowFails}
 use Rattle.paving_log_check.specs.Narrow.{values, HoldsAround, IsTooNarrow, HasNarrowRow, HasNarrowBlock}
 use Rattle.paving_log_check.specs.declared.verdict.Fault.{Fault}
+use Rattle.std.proofs.lemmas.Option.{same_Some as same_item}
 
 -- ---- a side
 
@@ -58,9 +59,6 @@ narrow_at (pair ∷ more) theirs ours (inl f) = rw (f.1, f.2) (record { place = 
 narrow_at (pair ∷ more) theirs ours (inr f) =
     let later = narrow_at more theirs ours f.1 in
     record { place = suc later.place; shown = later.shown; narrow = later.narrow }
-
-same_item : {X : Type 0} (x y : X) → Some x ≡ Some y → x ≡ y
-same_item x y e = cc
 
 -- what stands in a place is the side there, and the value there with its spare
 abbrev IsShown : Side → Side → Side → Side → Type 0

@@ -1,9 +1,7 @@
 -- The blocks that are left, and the search that is due.
-use Rattle.std.proofs.Common.{◌≡◌, ℕ, suc, ◌+◌, ◌<◌, ◌≤◌, arith, List, [], ◌∷◌, length, get_or, drop, map, refl, sym, ap, ◌∙◌, add-one, Option, None, Some}
+use Rattle.std.proofs.Common.{◌≡◌, ℕ, ◌+◌, ◌<◌, ◌≤◌, arith, List, [], ◌∷◌, length, get_or, drop, map, refl, sym, ap, ◌∙◌, Option, None, Some}
 use Rattle.std.specs.Prelude.{IsTrue, ◌↔◌, MatchOption, is_some}
 use Rattle.std.proofs.Math.ListN.{get_or-map}
-use Rattle.std.proofs.Math.Seq.{drop-cons}
-use Rattle.std.proofs.lemmas.Grind.{common_steps}
 use Rattle.std.proofs.lemmas.List.{length-map}
 use Rattle.epoch_selection.specs.Searches.{searches_left, IsTaken}
 use Rattle.epoch_selection.specs.declared.searches.Searches.{Searches}
@@ -15,12 +13,7 @@ use Rattle.paving_log.specs.Values.{block_of}
 use Rattle.paving_log.specs.declared.log.LogEpoch.{LogEpoch}
 use Rattle.paving_log_check.specs.Admissible.{IsOf, IsDue}
 use Rattle.paving_log_check.specs.Taken.{IsTakenBy}
-
-next_item : {X : Type 0} (xs : List X) (i : ℕ) (x : X) → i < length xs → x ≡ get_or xs i x → drop i xs ≡ x ∷ drop (i + 1) xs
-next_item xs i x within is = rw add-one (drop-cons xs i x within ∙ ap (λ y. y ∷ drop (suc i) xs) (sym is))
-
-no_item : {X : Type 0} (xs : List X) (i : ℕ) → length xs ≤ i → drop i xs ≡ []
-no_item xs i h = grind (arith, common_steps)
+use Rattle.grid_model.proofs.ListLemmas.{next_item, no_item}
 
 -- the blocks from a place on
 pub block_left : (blocks : List LogEpoch) (k : ℕ) (epoch : LogEpoch) → k < length blocks → epoch ≡ get_or blocks k epoch

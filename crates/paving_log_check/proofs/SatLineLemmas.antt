@@ -12,6 +12,7 @@ use Rattle.gnss_model.specs.declared.delays.Delays.{Delays}
 use Rattle.sat_rows.specs.declared.lines.SatLine.{SatLine}
 use Rattle.paving_log_check.specs.Lines.{HoldsSide, bounds_unless, HoldEach, IsFirstNarrow, IsSameLine, IsExpected, RowPasses, RowFails, LinePasses, LineFails}
 use Rattle.paving_log_check.specs.declared.verdict.Fault.{Fault}
+use Rattle.epoch_selection.proofs.SelectionLemmas.{same_some}
 
 -- ---- the ends of the error
 
@@ -39,9 +40,6 @@ expected_here sats lines k theirs ours within is below are same once = record {
   same = same;
   once = once;
 }
-
-pub same_some : {X : Type 0} (o : Option X) (x y : X) → o ≡ Some x → o ≡ Some y → x ≡ y
-same_some o x y e f = cc
 
 -- what stands at a place is one value
 pub same_item : {X : Type 0} (xs : List X) (k : ℕ) (x y : X) → k < length xs → x ≡ get_or xs k x → y ≡ get_or xs k y → x ≡ y

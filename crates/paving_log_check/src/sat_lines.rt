@@ -15,7 +15,7 @@ ghost use Rattle.paving_log_check.specs.Lines.{LineFails, SatsPass, SatsFail};
 
 use crate::faults::{BOUND_DIFFERS, ROW_NARROW, plain_fault};
 use crate::verdict::Fault;
-use gnss_model::{Delays, is_plain};
+use gnss_model::Delays;
 use grid_model::Span;
 use paving_log::{SATELLITE_DIFFERS, first_repeat};
 use sat_model::{Row, SatEntry};
@@ -65,7 +65,7 @@ fn first_narrow_bounds(delays: Delays, row: &Row, ours: &Row) -> Option<(Span, S
         (λ spans. IsFirstNarrow (bounds_compared delays row.now ours.now)
         (span_side spans.0) (span_side spans.1)) }
 {
-    if is_plain(delays) {
+    if delays.is_plain() {
         return None;
     }
     let low = row.low_bounds();
@@ -117,7 +117,7 @@ fn has_ends(row: &Row, declared: &Span) -> bool
 fn has_bound(delays: Delays, row: &Row, ours: &Row) -> bool
     ensures { IsTrue result ↔ HasBound delays row.now ours.now }
 {
-    if is_plain(delays) {
+    if delays.is_plain() {
         return has_ends(row, &ours.err);
     }
     true

@@ -17,10 +17,7 @@ use Rattle.gnss_model.specs.declared.systems.System.{System}
 use Rattle.gnss_model.specs.declared.systems.System.TheVariants.{Gps, Galileo}
 use Rattle.grid_model.proofs.ProductLemmas.{mul_mono, mul_lt_back, distrib, add_mul, neg_mul}
 use Rattle.pseudorange_prep.specs.Ranges.{IsCode, IsNarrow}
-
--- one number, as an interval
-pub one_number : (n : ℕ) → Ends n 0 (pos n) (pos n)
-one_number n = record { order = omega (arith, ints); low = record { low = omega (arith, ints); high = omega (arith, ints) }; high = record { low = omega (arith, ints); high = omega (arith, ints) }; width = omega (arith, ints) }
+use Rattle.grid_model.proofs.IntervalLemmas.{one_number}
 
 -- a product with one number, over a whole number
 pub times_one_number : (m v n k j d : ℕ) (a b l h : ℤ) → Ends m v a b → pos 0 <ℤ pos d → m * n ≤ k * d → n * v ≤ j * d → l ≤ℤ h

@@ -10,7 +10,7 @@ use Rattle.grid_model.specs.Intervals.{Between}
 use Rattle.grid_model.specs.Roots.{IsRoot, root}
 use Rattle.grid_model.specs.Rounding.{IsFloor, grain_floor, grain_ceil, IsMultipleOf}
 use Rattle.grid_model.proofs.ProductLemmas.{add_mul, neg_mul}
-use Rattle.grid_model.proofs.RootLemmas.{root_is, square-mono}
+use Rattle.grid_model.proofs.RootLemmas.{root_is, root_le}
 use Rattle.grid_model.proofs.RoundingLemmas.{floor_is}
 use Rattle.grid_model.proofs.SquareLemmas.{root_between, one_part}
 use Rattle.range_contractor.specs.Sides.{IsReached, IsNearlyReached, IsKept, NoneIsKept, IsHullOfMeets, IsInOneOf, NoneMeets, IsEndOf, IsBelow, IsAbove}
@@ -148,11 +148,6 @@ pub none_where_less : (place side : Side) (low high others_low others_high : ℕ
 none_where_less place side low high others_low others_high h v i r = omega (arith, r.to, r.others_from)
 
 -- ---- sizes
-
-pub root_le : (a n : ℕ) → a ≤ n * n → root a ≤ n
-root_le a n h =
-    let r : IsRoot a (root a) = root_is a in
-    grind (arith, square-mono (n + 1) (root a), r.square_le)
 
 -- 0 is a multiple, so the floor of a natural number isn't negative
 pub floor_natural : (g : ℤ) (n : ℕ) → pos 1 ≤ℤ g → pos 0 ≤ℤ grain_floor g (pos n)

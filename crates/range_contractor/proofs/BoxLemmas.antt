@@ -1,15 +1,13 @@
 -- Boxes axis by axis.
-use Rattle.std.proofs.Common.{◌≡◌, ℕ, zero, suc, arith, Bool, true, ◌&&◌, int_eq, refl}
+use Rattle.std.proofs.Common.{◌≡◌, ℕ, zero, suc, arith, true, ◌&&◌, int_eq, refl}
 use Rattle.std.specs.Prelude.{ℤ}
 use Rattle.std.proofs.lemmas.Int.{ints}
 use Rattle.grid_model.specs.declared.boxes.Pos.{Pos}
 use Rattle.grid_model.specs.Boxes.{Side, GridBox, side_holds, box_holds, side_at, grid_box, IsIn}
 use Rattle.grid_model.specs.declared.boxes.Box3.{Box3}
-use Rattle.grid_model.proofs.PointLemmas.{both, le_to, side_in}
+use Rattle.grid_model.proofs.PointLemmas.{le_to, side_in}
 use Rattle.sat_model.specs.Contractors.{LiesIn}
-
-pub both_from : (a b : Bool) → a ≡ true → b ≡ true → (a && b) ≡ true
-both_from a b e f = rw (e, f) refl
+use Rattle.grid_model.proofs.BoolLemmas.{both_from, both}
 
 pub in_side : (s : Side) (n : ℤ) → IsIn s n → side_holds s n ≡ true
 in_side s n (l, u) = both_from _ _ (le_to s.lo n l) (le_to n s.hi u)

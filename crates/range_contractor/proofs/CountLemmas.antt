@@ -5,8 +5,9 @@ use Rattle.std.proofs.lemmas.Int.{ints}
 use Rattle.std.proofs.lemmas.Bool.{cases_Bool}
 use Rattle.sat_model.specs.Relaxed.{holds, IsRelaxedHull}
 use lib.Signed.{le_z}
-use Rattle.grid_model.proofs.PointLemmas.{both, le_from}
+use Rattle.grid_model.proofs.PointLemmas.{le_from}
 use Rattle.sat_model.proofs.FittingLemmas.{holds_from, count_here, count_not_here}
+use Rattle.grid_model.proofs.BoolLemmas.{both}
 
 -- one of the spans
 abbrev pub Member : ℤ × ℤ → List (ℤ × ℤ) → Type 0

@@ -8,9 +8,9 @@ use Rattle.sat_model.specs.Trees.{TreeValue, Sat, All, Relaxed, Again, Within, T
 use Rattle.sat_model.specs.Contractors.{sides_of, IsRelaxedBox, IsMeet, meet_side, Contractor, Then, Repeats, LiesIn}
 use Rattle.sat_model.specs.TightFaces.{end_of, face_at, IsFaceOf, IsTightAnswer}
 use Rattle.sat_model.specs.Proposals.{IsTied, InTurn, AreTied, IsWithinFace, IsFaceWithinSome, HasFacesBy, HasFaces, IsProposal}
-use Rattle.range_contractor.proofs.MeetLemmas.{one_of_max, one_of_min}
 use Rattle.range_contractor.proofs.CountLemmas.{Member, hull_low, hull_high}
 use Rattle.range_contractor.proofs.TreeLemmas.{meet_at, keeps}
+use Rattle.grid_model.proofs.SpreadLemmas.{min_is_one as one_of_min, max_is_one as one_of_max}
 
 -- which other numbers may be a face
 abbrev Others : Type 1

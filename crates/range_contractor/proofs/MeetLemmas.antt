@@ -1,17 +1,12 @@
 -- Meets and hulls of spans of whole numbers.
-use Rattle.std.proofs.Common.{◌≡◌, arith, ◌⊎◌, inl, inr, ◌∙◌, refl}
+use Rattle.std.proofs.Common.{◌≡◌, arith, inl, inr, ◌∙◌, refl}
 use Rattle.std.specs.Prelude.{ℤ, ◌≤ℤ◌, ◌<ℤ◌}
 use Rattle.std.specs.Int.{int_min, int_max}
 use Rattle.std.proofs.lemmas.Int.{ints, clamps}
 use Rattle.grid_model.specs.Boxes.{Side, IsIn}
 use Rattle.sat_model.specs.Contractors.{meet_side}
 use Rattle.range_contractor.specs.Sides.{IsMeetOf, DontMeet, IsHullOf, IsHullOfMeets, IsInOneOf, NoneMeets}
-
-pub one_of_max : (a b : ℤ) → (int_max a b ≡ a) ⊎ (int_max a b ≡ b)
-one_of_max a b = grind arith
-
-pub one_of_min : (a b : ℤ) → (int_min a b ≡ a) ⊎ (int_min a b ≡ b)
-one_of_min a b = grind arith
+use Rattle.grid_model.proofs.SpreadLemmas.{min_is_one as one_of_min, max_is_one as one_of_max}
 
 pub is_hull : (a b r : Side) → r.lo ≡ int_min a.lo b.lo → r.hi ≡ int_max a.hi b.hi → IsHullOf a b r
 is_hull a b r e f = record {

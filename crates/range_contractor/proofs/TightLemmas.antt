@@ -7,15 +7,14 @@ use Rattle.grid_model.specs.Boxes.{Side}
 use Rattle.grid_model.specs.Amounts.{least_amount, greatest_amount, square}
 use Rattle.grid_model.specs.Intervals.{Between}
 use Rattle.grid_model.specs.Roots.{IsRoot, root}
-use Rattle.grid_model.proofs.RootLemmas.{root_is, square-mono, root_mono}
-use Rattle.range_contractor.proofs.AmountLemmas.{root_le}
+use Rattle.grid_model.proofs.RootLemmas.{root_is, square-mono, root_mono, less_of_squares, root_le}
 use Rattle.range_contractor.specs.Ranges.{IsWanted}
 use Rattle.range_contractor.specs.Sides.{IsNearlyReached}
 use Rattle.range_contractor.specs.Squares.{AreDifferenceSquares, AreRangeSquares}
 
 -- ---- a sum of squares whose parts grow
 
-square_le_back : (a m : ℕ) → a * a ≤ m * m → a ≤ m
+pub square_le_back : (a m : ℕ) → a * a ≤ m * m → a ≤ m
 square_le_back a m h = grind (arith, square-mono (m + 1) a)
 
 grown_le : (a k r m : ℕ) → a * a + r ≤ m * m → (a + k) * (a + k) + r ≤ (m + k) * (m + k)
@@ -52,9 +51,6 @@ far_sum g a b c x y z h p q r s =
     let j = square-mono y (b + g) q in
     let k = square-mono z (c + g) r in
     omega arith
-
-less_of_squares : (a b : ℕ) → a * a < b * b → a < b
-less_of_squares a b h = grind (arith, square-mono b a)
 
 -- ---- the ranges to a layer meet those wanted
 

@@ -69,7 +69,7 @@ repeats_exist (suc n) Run run lies part is =
     let (answer, then) = then_exists part middle (Repeats n Run) (λ m e. repeats_exist n Run run lies m (inside_part m part (lies part m is (subst (λ (a : Option GridBox). Run part a) e ran)) is)) in
     (answer, (middle, ran, then))
 
-same_box : (x y z x' y' z' : Side) → x ≡ x' → y ≡ y' → z ≡ z' → (◌≡◌ {A = GridBox} (record { x = x; y = y; z = z }) (record { x = x'; y = y'; z = z' }))
+pub same_box : (x y z x' y' z' : Side) → x ≡ x' → y ≡ y' → z ≡ z' → (◌≡◌ {A = GridBox} (record { x = x; y = y; z = z }) (record { x = x'; y = y'; z = z' }))
 same_box x y z x' y' z' e f g = rw (e, f, g) refl
 
 ordered_side : (a b r : Side) → IsMeetOf a b r → SideLiesIn r r

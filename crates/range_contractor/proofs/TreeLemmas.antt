@@ -37,7 +37,7 @@ keeps_then S part clock (Some m) answer Next k next is = keeps_behind S part m c
 keeps_same : (S : Pos → ℤ → Type 0) (part : GridBox) (clock : Side) (answer : Option GridBox) → LiesIn part part → answer ≡ Some part → KeepsAllowed S clock part answer
 keeps_same S part clock answer lies is = rw is (lies, λ p a. a.inside)
 
-lies_itself : (a part : GridBox) → LiesIn a part → LiesIn a a
+pub lies_itself : (a part : GridBox) → LiesIn a part → LiesIn a a
 lies_itself a part h axis = let u = h axis in record { low = omega (arith, ints); ordered = u.ordered; high = omega (arith, ints) }
 
 keeps_repeated : (S : Pos → ℤ → Type 0) (n : ℕ) (Run : Contractor) (clock : Side) → ((c : GridBox) (a : Option GridBox) → LiesIn c c → Run c a → KeepsAllowed S clock c a)

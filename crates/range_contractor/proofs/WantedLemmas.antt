@@ -5,14 +5,12 @@ use Rattle.std.proofs.lemmas.Int.{ints}
 use Rattle.grid_model.specs.Amounts.{least_amount, greatest_amount, square}
 use Rattle.grid_model.specs.Boxes.{Side, GridBox, side_at, IsIn}
 use Rattle.grid_model.proofs.AmountLemmas.{above_is}
-use Rattle.grid_model.proofs.RootLemmas.{root_mono, sum_mono, root_is}
+use Rattle.grid_model.proofs.RootLemmas.{root_mono, sum_mono, root_is, root_le, root_least as root_from}
 use Rattle.sat_model.specs.Trees.{LeafValue, Sat}
 use Rattle.sat_model.specs.Contractors.{LiesIn}
 use Rattle.sat_model.specs.Proposals.{Keeps}
 use Rattle.sat_model.specs.TightFaces.{layer, least_between, greatest_between, near_leaf, far_leaf, least_range, greatest_range, IsTight, IsTightAnswer, face_at}
 use Rattle.range_contractor.specs.Ranges.{IsWanted}
-use Rattle.relaxed_meet.proofs.SquareLemmas.{root_from}
-use Rattle.range_contractor.proofs.AmountLemmas.{root_le}
 use Rattle.range_contractor.proofs.LeafLemmas.{IsOrderedLeaf, squares_le}
 
 -- a layer is no nearer and no farther than its box

@@ -10,6 +10,7 @@ use Rattle.std.proofs.lemmas.Grind.{common_steps}
 use lib.Signed.{le_z, lt_z}
 use Rattle.relaxed_meet.specs.Kept.{above, bit, IsFalling, IsKeptUpTo, Keeps}
 use Rattle.relaxed_meet.proofs.CountLemmas.{count_at_least, count_at_most, count_of_all}
+use Rattle.grid_model.proofs.IntervalLemmas.{le_z_trans as at_least}
 
 pub lt_true : (a b : ℤ) → a <ℤ b → lt_z a b ≡ true
 lt_true a b h = grind (arith, ints)
@@ -44,9 +45,6 @@ at_rank xs b k falling within few = elim (le_or_gt (get_or xs k (pos 0)) b) [
     more a b c h k = omega (arith, ints)
 
 -- ---- a number takes the place of one that is less
-
-at_least : (a b c : ℤ) → a ≤ℤ b → b ≤ℤ c → a ≤ℤ c
-at_least a b c h k = omega (arith, ints)
 
 same_le : (a b x y : ℤ) → a ≡ x → b ≡ y → x ≤ℤ y → a ≤ℤ b
 same_le a b x y e f h = rw (e, f) h

@@ -3,15 +3,10 @@ use Rattle.std.proofs.Common.{◌≡◌, true, false, List, [], ◌∷◌, map, 
 use Rattle.std.specs.Prelude.{ℤ, ◌≤ℤ◌, ◌<ℤ◌}
 use Rattle.std.proofs.lemmas.Int.{ints}
 use Rattle.std.proofs.lemmas.List.Sums.{sum_by-cons}
-use lib.Signed.{le_z, lt_z}
+use lib.Signed.{le_z}
 use Rattle.sat_model.specs.declared.rows.Row.{Row}
 use Rattle.sat_model.specs.Relaxed.{holds}
-
-pub le_true : (a b : ℤ) → a ≤ℤ b → le_z a b ≡ true
-le_true a b h = grind (arith, ints)
-
-pub lt_true : (a b : ℤ) → a <ℤ b → lt_z a b ≡ true
-lt_true a b h = grind (arith, ints)
+use Rattle.grid_model.proofs.PointLemmas.{le_to as le_true}
 
 -- a number past the low end is held where it isn't past the high end
 pub held_above : (s : ℤ × ℤ) (b lo hi b' hi' : ℤ) → ◌≡◌ {A = ℤ × ℤ} (lo, hi) s → lo ≤ℤ b → b' ≡ b → hi' ≡ hi → le_z b' hi' ≡ holds s b

@@ -11,8 +11,9 @@ use Rattle.grid_model.specs.Boxes.{grid_box}
 use Rattle.sat_model.specs.ClockSpans.{clock_spans, clock_ends}
 use Rattle.sat_model.specs.Relaxed.{holds, LiesInRelaxed}
 use Rattle.sat_model.proofs.ClockLemmas.{near_le_far}
-use Rattle.grid_model.proofs.PointLemmas.{both, le_from}
+use Rattle.grid_model.proofs.PointLemmas.{le_from}
 use Rattle.relaxed_meet.specs.Separated.{lows_above, highs_to, NoneLiesBetween}
+use Rattle.grid_model.proofs.BoolLemmas.{both}
 
 abbrev pub AreOrdered : List (ℤ × ℤ) → Type 0
 AreOrdered [] = Unit {0}

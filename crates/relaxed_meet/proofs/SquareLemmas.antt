@@ -22,12 +22,6 @@ square_above a n h =
     let r : IsRoot a (root a) = root_is a in
     omega (arith, square-mono (root a + 1) n (omega arith), r.next_square_gt)
 
--- and at least n exactly where its square is
-pub root_from : (a n : ℕ) → n * n ≤ a → n ≤ root a
-root_from a n h =
-    let r : IsRoot a (root a) = root_is a in
-    grind (arith, square-mono (root a + 1) n, r.next_square_gt)
-
 pub square_up_to : (a n : ℕ) → n ≤ root a → n * n ≤ a
 square_up_to a n h =
     let r : IsRoot a (root a) = root_is a in

@@ -21,10 +21,10 @@ same_is a b h =
     let number = eqb-true a.number b.number both.1 in
     λ i. record { system = system i; number = number i }
 
-is_self : (s : Sat) → is_same s s ≡ true
+pub is_self : (s : Sat) → is_same s s ≡ true
 is_self s = rw (eq-eqb s.system s.system refl, eq-eqb s.number s.number refl) refl
 
-by_bool : {P : Type 0} (b : Bool) → (b ≡ true → P) → (b ≡ false → P) → P
+pub by_bool : {P : Type 0} (b : Bool) → (b ≡ true → P) → (b ≡ false → P) → P
 by_bool true f g = f refl
 by_bool false f g = g refl
 

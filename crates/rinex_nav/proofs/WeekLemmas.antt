@@ -50,13 +50,13 @@ apart_fits a b from under size =
 
 -- ---- there is only one
 
-floor_only : (num den p q : ℤ) → pos 0 <ℤ den → IsFloor num den p → IsFloor num den q → p ≡ q
+pub floor_only : (num den p q : ℤ) → pos 0 <ℤ den → IsFloor num den p → IsFloor num den q → p ≡ q
 floor_only num den p q some f g =
     let below : p ≤ℤ q = (below_floor num den p q some g).1 f.le in
     let above : q ≤ℤ p = (below_floor num den q p some f).1 g.le in
     omega (arith, ints)
 
-week_only : (toc toe a b : ℤ) → IsNearestWeek toc toe a → IsNearestWeek toc toe b → a ≡ b
+pub week_only : (toc toe a b : ℤ) → IsNearestWeek toc toe a → IsNearestWeek toc toe b → a ≡ b
 week_only toc toe a b v w =
     let ea : a ≡ v.weeks *ℤ pos 604800000000000000 = v.start_is in
     let eb : b ≡ w.weeks *ℤ pos 604800000000000000 = w.start_is in

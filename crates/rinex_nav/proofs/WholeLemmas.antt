@@ -1,5 +1,5 @@
 -- The records of a navigation file that is read are those of its lines with `G`.
-use Rattle.std.proofs.Common.{◌≡◌, ℕ, zero, suc, ◌+◌, ◌∙◌, Bool, true, false, cond, Option, None, Some, List, [], ◌∷◌, ◌++◌, take, refl, ap, sym, subst, inl, inr, arith, Result, Ok, Err, IfOk}
+use Rattle.std.proofs.Common.{◌≡◌, ℕ, zero, suc, ◌+◌, ◌∙◌, Bool, true, false, cond, Option, List, [], ◌∷◌, ◌++◌, take, refl, ap, sym, subst, inl, inr, arith, Result, Ok, Err, IfOk}
 use Rattle.std.specs.Prelude.{◌==◌, ◌&&◌, ◌||◌}
 use Rattle.std.specs.List.{AllByRecursion}
 use Rattle.std.proofs.lemmas.Bool.Decides.{nat_tests}
@@ -18,6 +18,8 @@ use Rattle.rinex_nav.specs.Reading.{records_of}
 use Rattle.rinex_nav.specs.Records.{Broadcast, is_read, further_text, further_line, record_from}
 use Rattle.rinex_nav.specs.Whole.{begins_record, from_first_lines, IsRecordOf, kept_of, IsWholeOf}
 use Rattle.rinex_nav.specs.declared.record.NavRecord.{NavRecord}
+use Rattle.grid_model.proofs.BoolLemmas.{not_true}
+use Rattle.rinex_text.proofs.OnlyLemmas.{ok_same as same_ok}
 
 -- ---- the lines of a record
 
@@ -74,9 +76,6 @@ seven_more both count number line more r (inr (f, is, e)) = absurd cc
 
 -- ---- the records
 
-same_ok : {X E : Type 0} (x y : X) → ◌≡◌ {A = Result X E} (Ok x) (Ok y) → x ≡ y
-same_ok x y e = cc
-
 -- all records of some lines, and those of them that are kept
 record IsAllOf (both : Bool) (lines : List TextLine) (records : List Broadcast) : Type 0 where
   all : List (Option Broadcast)
@@ -97,10 +96,6 @@ begun both line more r rest records begins is a e = record {
   are = subst (λ (b : Bool). OneForOne (IsRecordOf both) (cond b ((line ∷ more) ∷ from_first_lines both more) (from_first_lines both more)) (r ∷ a.all)) (sym begins) (is, a.are);
   kept = e ∙ ap (with_kept r) a.kept;
 }
-
-not_true : (b : Bool) → (b ≡ true → ⊥) → b ≡ false
-not_true true other = absurd (other refl)
-not_true false other = refl
 
 -- what stands behind a record gave a list, where all gave one
 rest_of : (r : Option Broadcast) (more : Result (List Broadcast) Refusal) (records : List Broadcast) → Ok records ≡ with_first r more → (rest : List Broadcast) × (more ≡ Ok rest) × (records ≡ with_kept r rest)

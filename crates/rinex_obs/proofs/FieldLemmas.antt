@@ -5,8 +5,8 @@ use Rattle.exact_decimal.specs.NumberFields.{AreBlanks, IsFixed}
 use Rattle.exact_decimal.specs.Reading.{Reads}
 use Rattle.exact_decimal.specs.declared.decimal.BadNumber.{BadNumber}
 use Rattle.exact_decimal.specs.declared.decimal.Decimal.{Decimal}
-use Rattle.rinex_text.proofs.FieldLemmas.{both_ways}
 use Rattle.rinex_obs.specs.Epochs.{IsObserved, IsOtherSystem}
+use Rattle.grid_model.proofs.BoolLemmas.{not_both_ways as both_ways}
 
 module _ (read : Result (Option Decimal) BadNumber) (field there : List ℕ) (same : field ≡ there) (numbers : (digits ten : ℤ) → Reads read digits ten ↔ IsFixed field digits ten) where
   pub zero_observed : (number : Decimal) → read ≡ Ok (Some number) → number.digits ≡ pos 0 → IsObserved there None

@@ -13,11 +13,12 @@ use Rattle.rinex_text.specs.Dates.{IsGpsTime}
 use Rattle.rinex_text.specs.Headers.{IsShort}
 use Rattle.rinex_text.specs.Lines.{TextLine}
 use Rattle.rinex_text.specs.declared.fault.Fault.TheVariants as fault
-use Rattle.rinex_text.proofs.FieldLemmas.{same_count, both_ways}
+use Rattle.rinex_text.proofs.FieldLemmas.{same_count}
 use Rattle.rinex_obs.specs.Epochs.{IsSeconds, IsTag, flag_of, IsFlag, IsLineCount, head_line}
 use Rattle.rinex_obs.specs.declared.head.Head.TheVariants.{Epoch, Event}
 use Rattle.rinex_obs.specs.Reading.{AreTenths}
 use Rattle.rinex_obs.proofs.OnlyLemmas.{seconds_only}
+use Rattle.grid_model.proofs.BoolLemmas.{not_both_ways as both_ways}
 
 module _ (read : Result (Option Decimal) BadNumber) (field there : List ℕ) (same : field ≡ there) (numbers : (digits ten : ℤ) → Reads read digits ten ↔ IsFixed field digits ten) where
   pub seconds_are : (number : Decimal) (tenths : ℕ) → read ≡ Ok (Some number) → AreTenths number tenths → IsSeconds there tenths

@@ -33,6 +33,7 @@ use Rattle.rinex_obs.specs.declared.head.Head.{Head}
 use Rattle.rinex_obs.specs.declared.head.Head.TheVariants.{Epoch, Event}
 use Rattle.rinex_obs.specs.declared.obs.Obs.{Obs}
 use Rattle.rinex_obs.specs.declared.obs.SatObs.{SatObs}
+use Rattle.grid_model.proofs.PointLemmas.{same_pos as same_point}
 
 -- ---- types
 
@@ -101,7 +102,7 @@ second_only text (Some place) x y a b = observed_only _ x y a b
 
 -- ---- the header
 
-floor_most : (n d q r : ℤ) → pos 0 <ℤ d → IsFloor n d q → IsFloor n d r → q ≤ℤ r
+pub floor_most : (n d q r : ℤ) → pos 0 <ℤ d → IsFloor n d q → IsFloor n d r → q ≤ℤ r
 floor_most n d q r p f g =
     let k : q <ℤ (r +ℤ pos 1) = mul_lt_back q (r +ℤ pos 1) d p (omega (arith, ints, add_mul r (pos 1) d, f.le, g.gt)) in
     omega (arith, ints)
@@ -110,9 +111,6 @@ coordinate_only : (number : Decimal) → IsOnly (IsCoordinate number)
 coordinate_only number q r a b =
     let den : pos 0 <ℤ pos (denominator number.ten Length) = omega (arith, ints, power_some (denominator number.ten Length)) in
     omega (arith, ints, floor_most _ _ q r den a.floor b.floor, floor_most _ _ r q den b.floor a.floor)
-
-same_point : (x y z u v w : ℤ) → x ≡ u → y ≡ v → z ≡ w → ◌≡◌ {A = Pos} (record { x = x; y = y; z = z }) (record { x = u; y = v; z = w })
-same_point x y z u v w e f g = rw (e, f, g) refl
 
 point_only : (coordinates : Coordinates) → IsOnly (IsPoint coordinates)
 point_only coordinates p q a b = same_point _ _ _ _ _ _ (coordinate_only _ p.x q.x a.x b.x) (coordinate_only _ p.y q.y a.y b.y) (coordinate_only _ p.z q.z a.z b.z)

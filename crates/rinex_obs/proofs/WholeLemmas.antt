@@ -1,6 +1,6 @@
 -- How the lines of an observation file that is read are shared out.
 use Rattle.std.proofs.Common.{◌≡◌, ℕ, zero, suc, ◌+◌, ◌≤◌, ◌∙◌, Bool, true, false, cond, List, [], ◌∷◌, ◌++◌, length, get_or, take, drop, append_assoc, refl, ap, sym, subst, inl, inr, arith, Option, None, Some, is_some, Result, Ok, Err, IfOk, ◌⊎◌}
-use Rattle.std.specs.Prelude.{◌==◌, nat_le, codes}
+use Rattle.std.specs.Prelude.{nat_le, codes}
 use Rattle.std.specs.List.{AllByRecursion, filter, list_all}
 use Rattle.std.specs.Str.{bytes_eq}
 use Rattle.std.proofs.lemmas.Bool.Decides.{nat_tests}
@@ -18,8 +18,8 @@ use Rattle.grid_model.specs.declared.boxes.Pos.{Pos}
 use Rattle.gnss_model.specs.declared.satellites.Signal.{Signal}
 use Rattle.rinex_obs.specs.declared.sought.Sought.{Sought}
 use Rattle.gnss_model.specs.declared.satellites.Signal.TheVariants.{Single, Dual}
-use Rattle.rinex_obs.specs.Types.{Code, Types, IsRead, is_read, types_line, galileo_line, AreComplete, codes_of}
-use Rattle.rinex_obs.specs.Header.{Coordinates, position_line, IsPosition, Header, types_behind, header_line, CodePlaces, ArePlaces, MayBePlaces, are_both, Wanted, have_both, AreWanted, header_end, Start, header_lines}
+use Rattle.rinex_obs.specs.Types.{Types, IsRead, is_read, types_line, galileo_line, AreComplete, codes_of}
+use Rattle.rinex_obs.specs.Header.{Coordinates, position_line, IsPosition, Header, header_line, CodePlaces, ArePlaces, MayBePlaces, are_both, Wanted, have_both, AreWanted, header_end, Start, header_lines}
 use Rattle.rinex_obs.specs.Epochs.{IsTag, flag_of, IsFlag, IsLineCount, ArePlacesOf, sat_on, satellite_line, satellites_from, event_line, event_from, head_line, Observed, Block, block_from, epochs_from}
 use Rattle.rinex_obs.specs.Files.{Observations, unread, IsObsFileOf}
 use Rattle.rinex_obs.specs.Reading.{observations_of}
@@ -29,7 +29,8 @@ use Rattle.rinex_obs.specs.declared.head.Head.TheVariants.{Epoch, Event}
 use Rattle.rinex_obs.specs.declared.obs.Obs.{Obs}
 use Rattle.rinex_obs.specs.declared.obs.SatObs.{SatObs}
 use Rattle.rinex_obs.proofs.FactLemmas.{Give, given, on_test, on_where, on_either, on_read, on_then, on_line, on_more, has_places}
-use Rattle.rinex_obs.proofs.JoinedLemmas.{Walks, AreTypesBehind, walks_first, joined, AreSolid, solid_walk}
+use Rattle.rinex_obs.proofs.JoinedLemmas.{Walks, AreTypesBehind, walks_first, joined, solid_walk}
+use Rattle.grid_model.proofs.BoolLemmas.{not_both_ways as no_epoch}
 
 -- ---- one for one
 
@@ -192,9 +193,6 @@ is_part both line lines more opening enough short event = record {
   short = (opening.short, short);
   event = event;
 }
-
-no_epoch : (b : Bool) → b ≡ true → b ≡ false → ⊥
-no_epoch b low high = absurd cc
 
 block_of : (wanted : Wanted) (count : ℕ) (line : TextLine) (head : Head) (number : ℕ) (more : List TextLine) → IsHeadOf line head
     → Give (IsBlockOf wanted line more) (block_from wanted count head (record { number = number; lines = more }))

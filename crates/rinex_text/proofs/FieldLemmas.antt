@@ -1,5 +1,5 @@
 -- A field spells one count, and no test comes out both ways.
-use Rattle.std.proofs.Common.{◌≡◌, ℕ, Bool, true, false, List, sym, ◌∙◌, Some}
+use Rattle.std.proofs.Common.{◌≡◌, ℕ, true, false, List, sym, ◌∙◌, Some}
 use Rattle.exact_decimal.specs.Counts.{IsCount}
 use Rattle.exact_decimal.proofs.Counts.{count_answer}
 
@@ -12,6 +12,3 @@ same_count field m n first second =
 
 pub never : false ≡ true → ⊥
 never e = cc
-
-pub both_ways : (b : Bool) → b ≡ true → b ≡ false → ⊥
-both_ways b e f = cc

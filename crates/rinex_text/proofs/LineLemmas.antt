@@ -1,23 +1,18 @@
 -- The lines of a text, from its first LF.
-use Rattle.std.proofs.Common.{◌≡◌, ℕ, zero, suc, ◌+◌, ◌-◌, ◌<◌, Bool, true, false, List, [], ◌∷◌, ◌++◌, length, get_or, take, drop, refl, sym, ap, ◌∙◌, arith, inl, inr, subst, add-one}
-use Rattle.std.proofs.lemmas.Grind.{common_steps}
+use Rattle.std.proofs.Common.{◌≡◌, ℕ, zero, suc, ◌+◌, ◌-◌, ◌<◌, true, false, List, [], ◌∷◌, ◌++◌, length, get_or, take, drop, refl, sym, ap, ◌∙◌, arith, inl, inr, subst, add-one}
 use Rattle.std.specs.Prelude.{nat_eq, ◌==◌}
 use Rattle.std.proofs.lemmas.Bool.{cases_Bool, eqb-true}
 use Rattle.std.proofs.lemmas.List.{length-take-le}
 use Rattle.std.proofs.Math.Seq.{take-length}
 use Rattle.rinex_text.specs.Lines.{with_ends, without_end, without_lf, lines_of}
 use Rattle.rinex_text.specs.LineEnds.{ends_with_cr, without_cr}
+use Rattle.grid_model.proofs.BoolLemmas.{not_true}
+use Rattle.grid_model.proofs.ListLemmas.{cut_at}
 
 -- no byte is LF
 abbrev pub NoLf : List ℕ → Type 0
 NoLf [] = Unit {0}
 NoLf (byte ∷ bytes) = ((byte == 10) ≡ false) × NoLf bytes
-
-not_true : (b : Bool) → (b ≡ true → ⊥) → b ≡ false
-not_true b never = elim (cases_Bool b) [
-  | inl h ↦ absurd (never h)
-  | inr h ↦ h
-]
 
 pub no_lf : (text : List ℕ) (n : ℕ) → ((k : ℕ) → k < n → nat_eq (get_or text k 0) 10 ≡ true → ⊥) → NoLf (take n text)
 no_lf text zero none = tt
@@ -67,12 +62,6 @@ cr_none (byte ∷ next ∷ []) free = elim (cases_Bool (byte == 13)) [
 ]
 cr_none (byte ∷ next ∷ other ∷ more) free = ap (λ (l : List ℕ). byte ∷ l) (cr_none (next ∷ other ∷ more) free.1)
 
--- a text is what stands before a byte, the byte, and what stands behind it
-cut_at : (text : List ℕ) (end byte : ℕ) → end < length text → get_or text end 0 ≡ byte → text ≡ take end text ++ byte ∷ drop (suc end) text
-cut_at [] end byte lt is = absurd (omega arith)
-cut_at (first ∷ more) zero byte lt is = ap (λ (b : ℕ). b ∷ more) is
-cut_at (first ∷ more) (suc end) byte lt is = ap (λ (later : List ℕ). first ∷ later) (cut_at more end byte (omega arith) is)
-
 ended_parts : (here more : List ℕ) → NoLf here → lines_of (here ++ 10 ∷ more) ≡ record { text = without_cr here; size = length here } ∷ lines_of more
 ended_parts here more free = rw (ended here more free, cr_end here, lf_end here free) refl
 
@@ -90,9 +79,6 @@ only_line (byte ∷ bytes) some none =
     let whole : take (length (byte ∷ bytes)) (byte ∷ bytes) ≡ byte ∷ bytes = take-length (byte ∷ bytes) in
     let free = subst NoLf whole (no_lf (byte ∷ bytes) (length (byte ∷ bytes)) none) in
     rw (alone byte bytes free, cr_none (byte ∷ bytes) free, lf_none (byte ∷ bytes) free) refl
-
-pub all_dropped : (text : List ℕ) (n : ℕ) → take (length text - n) (drop n text) ≡ drop n text
-all_dropped text n = grind (arith, common_steps)
 
 pub line_found : (text here rest : List ℕ) (end : ℕ) → lines_of text ≡ record { text = without_cr (take end text); size = end } ∷ lines_of (drop (suc end) text)
     → here ≡ without_cr (take end text) → rest ≡ drop (end + 1) text → lines_of text ≡ record { text = here; size = end } ∷ lines_of rest

@@ -1,6 +1,6 @@
 -- The least of a linear function over a box, term by term.
 use Rattle.std.proofs.Common.{◌≡◌, arith, refl, ap, ◌∙◌, false, true, Bool, subst}
-use Rattle.std.specs.Prelude.{ℤ, pos, ◌+ℤ◌, ◌-ℤ◌, ◌*ℤ◌, neg_ℤ, ◌≤ℤ◌, ◌<ℤ◌}
+use Rattle.std.specs.Prelude.{ℤ, pos, ◌+ℤ◌, ◌-ℤ◌, ◌*ℤ◌, ◌≤ℤ◌, ◌<ℤ◌}
 use Rattle.std.proofs.lemmas.Int.{ints}
 use lib.IntN.{*ℤ_comm}
 use lib.Signed.{lt_z}
@@ -9,9 +9,10 @@ use Rattle.grid_model.specs.declared.boxes.Pos.{Pos}
 use Rattle.grid_model.specs.Boxes.{Side, GridBox, box_holds, middle}
 use Rattle.grid_model.proofs.AmountLemmas.{above_is}
 use Rattle.grid_model.proofs.PointLemmas.{in_box, le_to}
-use Rattle.grid_model.proofs.ProductLemmas.{add_mul, neg_mul, mul_mono, mul_anti}
+use Rattle.grid_model.proofs.ProductLemmas.{mul_mono, mul_anti, less_mul as less_times}
 use Rattle.row_pairs.specs.Leasts.{IsLeastTerm, IsLeastLead}
 use Rattle.sat_model.specs.Pairs.{FormValue, tilt, IsBelow}
+use Rattle.sat_model.proofs.FoldLemmas.{middle_high as to_high}
 
 grows : (s m at n : ℤ) → pos 0 ≤ℤ s → at ≤ℤ n → (s *ℤ (at -ℤ m)) ≤ℤ (s *ℤ (n -ℤ m))
 grows s m at n p h = rw (*ℤ_comm s (at -ℤ m), *ℤ_comm s (n -ℤ m)) (mul_mono (at -ℤ m) (n -ℤ m) s (omega (arith, ints)) p)
@@ -26,9 +27,6 @@ pub least_at_high : (s lo hi : ℤ) → lo ≤ℤ hi → s ≤ℤ pos 0 → IsLe
 least_at_high s lo hi h p = record { at = hi; from = h; to = omega (arith, ints); is = refl; least = λ n k l. falls s _ hi n p l }
 
 -- ---- three terms
-
-less_times : (a b c : ℤ) → (a -ℤ b) *ℤ c ≡ (a *ℤ c) -ℤ (b *ℤ c)
-less_times a b c = add_mul a (neg_ℤ b) c ∙ ap (λ (z : ℤ). (a *ℤ c) +ℤ z) (neg_mul b c)
 
 lead_atoms : (fx gx fy gy fz gz dx dy dz : ℤ) → dx ≡ fx -ℤ gx → dy ≡ fy -ℤ gy → dz ≡ fz -ℤ gz → (fx +ℤ fy +ℤ fz) -ℤ (gx +ℤ gy +ℤ gz) ≡ dx +ℤ dy +ℤ dz
 lead_atoms fx gx fy gy fz gz dx dy dz e f g = omega (arith, ints)
@@ -72,9 +70,6 @@ at_middle part = record { x = middle part.x; y = middle part.y; z = middle part.
 
 from_low : (s : Side) → s.lo ≤ℤ s.hi → s.lo ≤ℤ middle s
 from_low s h = omega (arith, ints, above_is s.hi s.lo)
-
-to_high : (s : Side) → s.lo ≤ℤ s.hi → middle s ≤ℤ s.hi
-to_high s h = omega (arith, ints, above_is s.hi s.lo)
 
 holds_middle : (part : GridBox) → part.x.lo ≤ℤ part.x.hi → part.y.lo ≤ℤ part.y.hi → part.z.lo ≤ℤ part.z.hi → box_holds part (at_middle part) ≡ true
 unfolding at_middle

@@ -8,20 +8,10 @@ use Rattle.grid_model.specs.Roots.{IsRoot}
 use Rattle.grid_model.proofs.RootLemmas.{square-mono}
 use Rattle.grid_model.proofs.ProductLemmas.{product_le}
 use Rattle.sat_model.proofs.PairAxisLemmas.{amount_within}
+use Rattle.grid_model.proofs.SpreadRoots.{two_products as twice_product}
 
 from_sum : (x y t : ℕ) → y ≡ x + t → 2 * (x * y) ≤ x * x + y * y
 from_sum x y t e = rw e (omega arith)
-
-pub twice_product : (x y : ℕ) → 2 * (x * y) ≤ x * x + y * y
-twice_product x y = elim (le_or x y) [
-  | inl h ↦ from_sum x y (y - x) (omega arith)
-  | inr h ↦ let k : 2 * (y * x) ≤ y * y + x * x = from_sum y x (x - y) (omega arith) in omega arith
-]
-  where
-    le_or : (x y : ℕ) → (x ≤ y) ⊎ (y ≤ x)
-    le_or zero y = inl (omega arith)
-    le_or (suc x) zero = inr (omega arith)
-    le_or (suc x) (suc y) = elim (le_or x y) [ inl h ↦ inl (omega arith) | inr h ↦ inr (omega arith) ]
 
 -- (a b + c d + e f)^2 against the product of the sums of squares
 pub cauchy : (a c e b d f : ℕ) → square (a * b + c * d + e * f) ≤ (square a + square c + square e) * (square b + square d + square f)

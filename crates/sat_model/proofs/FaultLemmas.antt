@@ -12,7 +12,7 @@ use Rattle.sat_model.specs.Fold.{IsLive}
 use Rattle.sat_model.specs.Logs.{Block, LogValue}
 use Rattle.sat_model.specs.Stages.{Stage, first_stage, after}
 use Rattle.sat_model.specs.Verdicts.{IsLong, CutsEmptySlab, LiveFails, NotLive, StepFails, StepsFail, HeadFails, IsFirstRepeat, BlockFails, BlocksFail, FirstFault}
-use Rattle.sat_model.proofs.VerdictLemmas.{not_gone, not_failing, step_not_both, head_not_both, block_not_both}
+use Rattle.sat_model.proofs.VerdictLemmas.{not_gone, not_failing, step_not_both, head_not_both, block_not_both, same_box as one_root}
 
 -- ---- a step
 
@@ -89,7 +89,7 @@ one_head rules before block n m (inl (fails, e)) (inr (later, suits, count, f)) 
 one_head rules before block n m (inr (later, suits, count, e)) (inl (fails, f)) = absurd (fails (later, suits))
 one_head rules before block n m (inr (later, suits, count, e)) (inr (l, s, c, f)) = omega arith
 
-one_repeat : (sats : List SatEntry) (j k : ℕ) → IsFirstRepeat sats j → IsFirstRepeat sats k → j ≡ k
+pub one_repeat : (sats : List SatEntry) (j k : ℕ) → IsFirstRepeat sats j → IsFirstRepeat sats k → j ≡ k
 one_repeat sats j k a b = elim (cases_lt j k) [
   | inl less ↦ absurd (b.first j less a.repeats)
   | inr not_less ↦ elim (cases_lt k j) [
@@ -97,9 +97,6 @@ one_repeat sats j k a b = elim (cases_lt j k) [
     | inr not_more ↦ omega arith
   ]
 ]
-
-one_root : (o : Option GridBox) (a b : GridBox) → o ≡ Some a → o ≡ Some b → a ≡ b
-one_root o a b e f = cc
 
 one_in_block : (rules : Rules) (before : Option ℕ) (block : Block) (l n k m : ℕ)
     → BlockFails rules before block l n → BlockFails rules before block k m → IsOne l n k m

@@ -14,7 +14,8 @@ use Rattle.sat_model.specs.Fitting.{RowValue, IsPossible, IsSure, AllBut}
 use Rattle.sat_model.specs.Relaxed.{holds, LiesInRelaxed}
 use Rattle.grid_model.proofs.RootLemmas.{root_is, root_mono, sum_mono}
 use Rattle.grid_model.proofs.AmountLemmas.{least_amount_le, greatest_amount_ge}
-use Rattle.grid_model.proofs.PointLemmas.{IsInBox, both, le_from, le_to}
+use Rattle.grid_model.proofs.PointLemmas.{IsInBox, le_from, le_to}
+use Rattle.grid_model.proofs.BoolLemmas.{both}
 
 -- ---- one row
 

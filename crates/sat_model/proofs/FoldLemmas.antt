@@ -15,6 +15,7 @@ use Rattle.sat_model.specs.Fold.{axis_of, is_low, side_left, side_cut, IsProperB
 use Rattle.sat_model.specs.Stages.{Stage, first_stage, after}
 use Rattle.sat_model.specs.Verdicts.{StepPasses, StepsPass}
 use Rattle.grid_model.proofs.AmountLemmas.{above_is}
+use Rattle.sat_model.specs.Contractors.{SideLiesIn, LiesIn}
 
 abbrev pub bit : Bool → ℕ
 bit b = cond b 1 0
@@ -40,7 +41,7 @@ IsHalved a b s = (n : ℤ) → bit (side_holds a n) + bit (side_holds b n) ≡ b
 split_at : (lo m k hi n : ℤ) → lo ≤ℤ k → m ≤ℤ hi → k ≡ m +ℤ pos 1 → bit (le_z lo n && le_z n m) + bit (le_z k n && le_z n hi) ≡ bit (le_z lo n && le_z n hi)
 split_at lo m k hi n h l e = grind (arith, ints)
 
-middle_high : (s : Side) → s.lo ≤ℤ s.hi → middle s ≤ℤ s.hi
+pub middle_high : (s : Side) → s.lo ≤ℤ s.hi → middle s ≤ℤ s.hi
 middle_high s h = omega (arith, ints, above_is s.hi s.lo)
 
 side_halved : (s : Side) → s.lo ≤ℤ s.hi → IsHalved (low_half s) (high_half s) s
@@ -141,3 +142,18 @@ root_weight root p = omega arith
 pub partitions : (test : BoxTest) (rules : Rules) (done : ℕ) (root : GridBox) (steps : List Step) → StepsPass rules done (first_stage test root) steps
     → Partitions root (pieces root steps)
 partitions test rules done root steps h p = omega (arith, held_from rules done (first_stage test root) steps p h, root_weight root p)
+
+pub side_inside : (low : Bool) (s : Side) (bound : ℤ) → s.lo ≤ℤ s.hi → IsProperBound low s bound → SideLiesIn (side_left low s bound) s
+side_inside true s bound o (h, k) = record { low = omega (arith, ints); ordered = k; high = omega (arith, ints) }
+side_inside false s bound o (h, k) = record { low = omega (arith, ints); ordered = h; high = omega (arith, ints) }
+
+pub with_inside : (axis : ℕ) (part : GridBox) (s : Side) → LiesIn part part → SideLiesIn s (side_at axis part) → LiesIn (with_side axis part s) part
+with_inside zero part s l h zero = h
+with_inside zero part s l h (suc zero) = l 1
+with_inside zero part s l h (suc (suc n)) = l 2
+with_inside (suc zero) part s l h zero = l 0
+with_inside (suc zero) part s l h (suc zero) = h
+with_inside (suc zero) part s l h (suc (suc n)) = l 2
+with_inside (suc (suc m)) part s l h zero = l 0
+with_inside (suc (suc m)) part s l h (suc zero) = l 1
+with_inside (suc (suc m)) part s l h (suc (suc n)) = h

@@ -1,14 +1,15 @@
 -- Each in or edge step that passes keeps one box.
-use Rattle.std.proofs.Common.{◌≡◌, ℕ, arith, List, [], ◌∷◌, cond, count_by, refl}
+use Rattle.std.proofs.Common.{◌≡◌, ℕ, arith, List, [], ◌∷◌, cond, count_by, refl, true}
 use Rattle.std.proofs.lemmas.List.Sums.{sum_by-cons, sum_by-append}
 use Rattle.sat_model.specs.declared.rules.Rules.{Rules}
 use Rattle.sat_model.specs.declared.steps.Step.{Step}
 use Rattle.sat_model.specs.declared.steps.Step.TheVariants.{Cut, Split, Outside, Inside, Edge}
-use Rattle.sat_model.specs.Cover.{is_kept}
+use Rattle.sat_model.specs.Cover.{is_kept, KeepsClock}
 use Rattle.sat_model.specs.Fold.{boxes_after, taken_by, pieces_from}
 use Rattle.sat_model.specs.Stages.{Stage, after}
 use Rattle.sat_model.specs.StepKinds.{is_kept_step}
 use Rattle.sat_model.specs.Verdicts.{StepPasses, StepsPass}
+use Rattle.std.specs.Prelude.{ℤ}
 
 kept_taken : (rules : Rules) (stage : Stage) (step : Step) → StepPasses rules stage step
     → count_by is_kept (taken_by stage.boxes step) ≡ cond (is_kept_step step) 1 0
@@ -30,3 +31,11 @@ kept_of_steps rules done stage (step ∷ steps) h =
       kept_taken rules stage step h.0,
       kept_of_steps rules done (after stage step) steps h.1,
     )
+
+-- a step that keeps an offset keeps a box
+pub kept_step : (step : Step) (b : ℤ) → KeepsClock step b → is_kept_step step ≡ true
+kept_step (Cut id face bound) b h = absurd h
+kept_step (Split id axis) b h = absurd h
+kept_step (Outside id) b h = absurd h
+kept_step (Inside id clock lo hi) b h = refl
+kept_step (Edge id lo hi) b h = refl

@@ -19,6 +19,7 @@ use Rattle.sat_model.specs.Pairs.{scale, half, away, away_square, arm, play, spr
 use Rattle.sat_model.proofs.PairAxisLemmas.{upper_axis, lower_axis, slope_axis, NearProduct, UpTo, From}
 use Rattle.sat_model.proofs.CauchyLemmas.{product_below, root_product}
 use Rattle.sat_model.proofs.PairBoundLemmas.{upper_numbers, lower_numbers, near_three, upper_end, lower_end}
+use Rattle.grid_model.proofs.IntervalLemmas.{back_within}
 
 -- ---- ways from the middles
 
@@ -47,9 +48,6 @@ turned x y = abs_neg (x -ℤ y) (y -ℤ x) (omega (arith, ints))
 record AxisBounds (place : Span) (side : Side) (s p : ℤ) : Type 0 where
   upper : UpTo (away place side *ℤ (p -ℤ middle side)) (away place side *ℤ (p -ℤ s)) (square (unsigned_abs (away place side))) (unsigned_abs (away place side) * half (span_side place))
   lower : From (away place side *ℤ (p -ℤ middle side)) (square (unsigned_abs (p -ℤ s))) (square (unsigned_abs (away place side))) (square (half side + half (span_side place))) (unsigned_abs (away place side) * half (span_side place))
-
-back_within : (w : ℕ) (s m : ℤ) → IsWithin w (s -ℤ m) → IsWithin w (m -ℤ s)
-back_within w s m h = record { low = omega (arith, ints, h.low, h.high); high = omega (arith, ints, h.low, h.high) }
 
 axis_bounds : (place : Span) (side : Side) (s p : ℤ) → (place.lo ≤ℤ s) × (s ≤ℤ place.hi) → (side.lo ≤ℤ p) × (p ≤ℤ side.hi) → AxisBounds place side s p
 unfolding away

@@ -1,12 +1,13 @@
 -- Either no number lies in enough of the spans, or there are a least and a greatest one that do.
 use Rattle.std.proofs.Common.{◌≡◌, ℕ, zero, suc, ◌+◌, ◌*◌, ◌<◌, arith, List, [], ◌∷◌, count_by, Bool, true, false, cond, nat_le, ◌⊎◌, inl, inr, sym, ap, subst}
-use Rattle.std.specs.Prelude.{ℤ, pos, negsuc, neg_ℤ, unsigned_abs, ◌≤ℤ◌, ◌<ℤ◌, ◌+ℤ◌, ◌-ℤ◌}
+use Rattle.std.specs.Prelude.{ℤ, pos, neg_ℤ, unsigned_abs, ◌≤ℤ◌, ◌<ℤ◌, ◌+ℤ◌, ◌-ℤ◌}
 use Rattle.std.proofs.lemmas.Int.{ints}
 use Rattle.std.proofs.lemmas.Bool.{cases_Bool, leb-true}
 use Rattle.std.proofs.lemmas.List.Sums.{sum_by-cons}
 use lib.Signed.{le_z}
 use Rattle.sat_model.specs.Relaxed.{holds, LiesInRelaxed, IsRelaxedEmpty, IsRelaxedHull}
 use Rattle.grid_model.specs.Sizes.{IsWithin}
+use Rattle.sat_model.proofs.PairAxisLemmas.{amount_within}
 
 -- ---- a test of whole numbers that fails outside a stretch
 
@@ -75,10 +76,6 @@ held spans b = count_by (λ s. holds s b) spans
 held_cons : (b : ℤ) (s : ℤ × ℤ) (spans : List (ℤ × ℤ)) → held (s ∷ spans) b ≡ cond (holds s b) 1 0 + held spans b
 unfolding held
 held_cons b s spans = sum_by-cons (λ t. cond (holds t b) 1 0) s spans
-
-amount_within : (z : ℤ) → IsWithin (unsigned_abs z) z
-amount_within (pos n) = record { low = omega (arith, ints); high = omega (arith, ints) }
-amount_within (negsuc n) = record { low = omega (arith, ints); high = omega (arith, ints) }
 
 span_within : (lo hi b : ℤ) → holds (lo, hi) b ≡ true → IsWithin (unsigned_abs lo + unsigned_abs hi) b
 span_within lo hi b e =

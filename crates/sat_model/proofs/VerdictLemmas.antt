@@ -15,7 +15,7 @@ use Rattle.sat_model.specs.Verdicts.{IsLong, CutsEmptySlab, StepPasses, LiveFail
 pub not_gone : (stage : Stage) (id number : ℕ) (part : GridBox) → IsLive stage.boxes id part → NotLive stage id number → ⊥
 not_gone stage id number part is (gone, n) = absurd cc
 
-same_box : (o : Option GridBox) (a c : GridBox) → o ≡ Some a → o ≡ Some c → a ≡ c
+pub same_box : (o : Option GridBox) (a c : GridBox) → o ≡ Some a → o ≡ Some c → a ≡ c
 same_box o a c e f = cc
 
 -- the live box that fails is the one that passes

@@ -9,7 +9,7 @@ use Rattle.broadcast_orbit.proofs.ChainExists.{orbit_exists}
 use Rattle.elevation_mapping.specs.Places.{IsFarFromPlace}
 use Rattle.fix_interval.specs.Places.{HoldsPlace, PlaceEnds}
 use Rattle.fix_interval.specs.declared.place.Place.{Place}
-use Rattle.grid_model.specs.Boxes.{GridBox, grid_box, side_holds, box_holds}
+use Rattle.grid_model.specs.Boxes.{GridBox, box_holds}
 use Rattle.grid_model.specs.Intervals.{Between, Ends}
 use Rattle.grid_model.specs.Lengths.{longest_length, spare_of}
 use Rattle.gnss_model.specs.OrbitChain.{OrbitChain}
@@ -19,11 +19,9 @@ use Rattle.gnss_model.specs.Turn.{Turn}
 use Rattle.gnss_model.specs.Delays.{span_amount, spare_over}
 use Rattle.gnss_model.specs.declared.delays.Layer.{Layer}
 use Rattle.gnss_model.specs.declared.delays.Layer.TheVariants.{Troposphere, Ionosphere}
-use Rattle.grid_model.specs.declared.boxes.Box3.{Box3}
 use Rattle.grid_model.specs.declared.boxes.Pos.{Pos}
 use Rattle.gnss_model.specs.declared.elements.Elements.{Elements}
 use Rattle.grid_model.specs.declared.spans.Span.{Span}
-use Rattle.grid_model.proofs.PointLemmas.{le_to}
 use Rattle.sat_rows.specs.OwnRows.{IsSmall}
 use Rattle.grid_model.proofs.IntervalLemmas.{members_within}
 use Rattle.grid_model.proofs.ProductLemmas.{larger}
@@ -84,14 +82,6 @@ low_spare layer s d = spare_grows layer (nat_abs s.lo) (span_amount s) d (omega 
 
 pub high_spare : (layer : Layer) (s : Span) (d : ℕ) → spare_over layer (nat_abs s.hi) d ≤ spare_over layer (span_amount s) d
 high_spare layer s d = spare_grows layer (nat_abs s.hi) (span_amount s) d (omega arith)
-
--- ---- the box
-
-low_inside : (l h : ℤ) → l ≤ℤ h → side_holds (record { lo = l; hi = h }) l ≡ true
-low_inside l h o = rw (le_to l l (omega (arith, ints)), le_to l h o) refl
-
-pub low_corner : (b : Box3) → box_holds (grid_box b) b.lo ≡ true
-low_corner b = rw (low_inside b.lo.x b.hi.x b.x_ordered, low_inside b.lo.y b.hi.y b.y_ordered, low_inside b.lo.z b.hi.z b.z_ordered) refl
 
 -- ---- the place
 

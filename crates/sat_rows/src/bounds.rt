@@ -128,7 +128,7 @@ fn delay_over(layer: Layer, upward: Option<Span>, place: Place, root: &Box3) -> 
 
 /// The spans of the low and of the high ends of the error of a satellite whose place, as seen from
 /// the points of the box, is a member of `place`. Each is at most as wide as `err_spare` of
-/// `sat_model` says, and without a delay straight up it is one declared end alone.
+/// `gnss_model` says, and without a delay straight up it is one declared end alone.
 pub(crate) fn bounds_over(declared: Span, delays: Delays, place: Place, root: &Box3) -> Bounds
     requires delays { AreDelays delays }
     requires small { IsSmall (6 * 10 ^ 9) declared }

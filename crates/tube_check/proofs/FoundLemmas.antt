@@ -9,8 +9,7 @@ use Rattle.moving_tube.specs.Tracks.{Stay, AreRooted, root_with, IsKeptWith, Are
 use Rattle.moving_tube.proofs.TrackLemmas.{HaveRoots, AreTimed, track_found}
 use Rattle.paving_log.specs.Values.{block_of}
 use Rattle.paving_log.specs.declared.log.LogEpoch.{LogEpoch}
-use Rattle.paving_log_check.proofs.FitLemmas.{HasFewRoot}
-use Rattle.grid_model.specs.declared.boxes.Box3.{Box3}
+use Rattle.paving_log_check.proofs.FitLemmas.{HasFewRoot, none_of}
 use Rattle.paving_log_check.specs.Admissible.{AdmitsFrom}
 use Rattle.paving_log_check.specs.Checked.{IsAccepted}
 use Rattle.paving_log_check.specs.Epochs.{BodyPassesAt}
@@ -27,10 +26,6 @@ use Rattle.tube_searches.specs.Tubes.{TubeValue, from_root, searches_from, tube_
 use Rattle.tube_check.specs.Found.{visits_of, IsPath, StayFits, PathFits, IsFoundIn}
 
 -- ---- a block of few satellites, and no other, has no root
-
-none_of : (root : Option Box3) → is_none (box_option root) ≡ is_none root
-none_of None = refl
-none_of (Some root) = refl
 
 pub few_is : (epoch : LogEpoch) → epoch.few ≡ is_none (box_option epoch.root)
 few_is epoch = sym epoch.paved ∙ sym (none_of epoch.root)

@@ -1,11 +1,12 @@
 -- The blocks of a log, checked one by one against the searches of a tube.
-use Rattle.std.proofs.Common.{◌≡◌, ℕ, ◌+◌, ◌≤◌, Bool, true, false, List, [], ◌∷◌, sym, ap, subst, ◌∙◌, Option, None, Some}
+use Rattle.std.proofs.Common.{◌≡◌, ℕ, ◌+◌, ◌≤◌, arith, Bool, true, false, List, [], ◌∷◌, sym, ap, subst, ◌∙◌, Option, None, Some}
+use Rattle.std.proofs.lemmas.Int.{ints}
 use Rattle.epoch_selection.specs.Searches.{Search, search_in}
 use Rattle.live_boxes.proofs.FoldingLemmas.{steps_fold}
 use Rattle.moving_tube.specs.Hulls.{hull_of, HullLies}
 use Rattle.moving_tube.specs.Roots.{kept_with, kept_of}
 use Rattle.moving_tube.proofs.FoldLemmas.{steps_hull_lies}
-use Rattle.moving_tube.proofs.RootLemmas.{hull_through, lies_alone}
+use Rattle.moving_tube.proofs.RootLemmas.{hull_through}
 use Rattle.paving_log.specs.CoverBoxes.{BlockFolds, cover_of}
 use Rattle.paving_log.specs.Values.{log_value}
 use Rattle.paving_log.specs.declared.log.Log.{Log}
@@ -39,7 +40,7 @@ hull_in rules root block (Some theirs) own h =
 
 kept_in_with : (few : Bool) (rules : Rules) (root search : GridBox) (block : Block) → LiesIn root search → BodyPassesAt rules root block block.root → HullLies (kept_with few root block) search
 kept_in_with true rules root search block lies h = lies
-kept_in_with false rules root search block lies h = hull_through (hull_of (cover_of block block.root)) root search (hull_in rules root block block.root (lies_alone root search lies) h) lies
+kept_in_with false rules root search block lies h = hull_through (hull_of (cover_of block block.root)) root search (hull_in rules root block block.root (λ axis. let u = lies axis in record { low = omega (arith, ints); ordered = u.ordered; high = omega (arith, ints) }) h) lies
 
 pub kept_inside : (rules : Rules) (root search : GridBox) (block : Block) → LiesIn root search → BodyPassesAt rules root block block.root → HullLies (kept_of root block) search
 kept_inside rules root search block lies h = kept_in_with block.few rules root search block lies h

@@ -9,7 +9,7 @@ use Rattle.log_writer.specs.Pavings.{HasRun, BodyPaves, Paves}
 use Rattle.moving_tube.specs.Hulls.{joined_side, joined_box, hull_with, hull_behind, hull_of, HullLies}
 use Rattle.moving_tube.specs.Roots.{kept_with, kept_of}
 use Rattle.moving_tube.proofs.FoldLemmas.{steps_hull_lies}
-use Rattle.moving_tube.proofs.RootLemmas.{hull_through, lies_alone}
+use Rattle.moving_tube.proofs.RootLemmas.{hull_through}
 use Rattle.paving.proofs.PavedLemmas.{paved_passes}
 use Rattle.paving_log.specs.CoverBoxes.{kept_parts, cover_of}
 use Rattle.grid_model.specs.Boxes.{Side, GridBox}
@@ -20,6 +20,7 @@ use Rattle.sat_model.specs.BoxTests.{test_in}
 use Rattle.sat_model.specs.Logs.{Block}
 use Rattle.sat_model.specs.Stages.{first_stage}
 use Rattle.sat_model.specs.declared.rules.Rules.{Rules}
+use Rattle.range_contractor.proofs.TreeLemmas.{lies_itself as lies_alone}
 
 -- ---- the hull
 

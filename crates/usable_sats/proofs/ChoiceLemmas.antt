@@ -1,6 +1,6 @@
 -- What the records give of a satellite with one more: what they gave before where that is better, else what
 -- the last gives alone.
-use Rattle.std.proofs.Common.{◌≡◌, ℕ, ◌<◌, ◌≤◌, arith, sym, subst, Bool, true, false, List, length, refl, inl, inr}
+use Rattle.std.proofs.Common.{◌≡◌, ℕ, ◌<◌, ◌≤◌, arith, sym, subst, true, List, length, refl, inl, inr}
 use Rattle.std.specs.Prelude.{Option, ℤ, pos, ◌≤ℤ◌, ◌<ℤ◌}
 use Rattle.std.proofs.lemmas.Int.{ints, by_lt_z}
 use Rattle.std.proofs.lemmas.Option.{slice_get_within}
@@ -17,15 +17,12 @@ use Rattle.usable_sats.specs.Answers.{IsChoice, IsRecent, IsAlone, passed_by, ag
 use Rattle.usable_sats.specs.Usability.{Sighting, IsItsRecord, IsHealthy, IsFresh, IsFit}
 use Rattle.usable_sats.specs.declared.choice.Choice.{Choice}
 use Rattle.usable_sats.specs.declared.choice.Choice.TheVariants.{NoRecord, Unhealthy, Old, Unfit, Fit}
+use Rattle.grid_model.proofs.BoolLemmas.{not_both_ways as true_false}
 
 -- ---- what one record gives
 
 pub not_both : (fields : List Decimal) (k : ℕ) → AreInside fields → IsFirstOutside fields k → ⊥
 not_both fields k inside first = first.outside (inside k first.from (omega (arith, first.to)))
-
-pub true_false : (b : Bool) → b ≡ true → b ≡ false → ⊥
-true_false true p q = cc
-true_false false p q = cc
 
 module _ (max_age : ℕ) (tag : ℤ) (r : NavRecord) where
   some_passed : (t : Choice) → IsAlone max_age tag r t → 1 ≤ passed_by t

@@ -1,6 +1,6 @@
 -- A record has one value for its elements.
-use Rattle.std.proofs.Common.{◌≡◌, arith, ap, ◌∙◌, sym, subst}
-use Rattle.std.specs.Prelude.{ℤ, pos, neg_ℤ, ◌+ℤ◌, ◌*ℤ◌, ◌≤ℤ◌, ◌<ℤ◌}
+use Rattle.std.proofs.Common.{◌≡◌, arith, ◌∙◌, sym, subst}
+use Rattle.std.specs.Prelude.{ℤ, pos, neg_ℤ, ◌+ℤ◌, ◌≤ℤ◌, ◌<ℤ◌}
 use Rattle.std.proofs.lemmas.Int.{ints}
 use Rattle.std.proofs.Math.Dec.{T_prop}
 use mathlib.Core.Path.{PathP}
@@ -12,20 +12,14 @@ use Rattle.rinex_nav.specs.ElementsOf.{IsRounded, AreElements}
 use Rattle.rinex_nav.specs.Weeks.{IsNearestWeek}
 use Rattle.rinex_nav.specs.declared.record.NavRecord.{NavRecord}
 use Rattle.gnss_model.specs.RecordBounds.{LiesFrom, IsNearTime, offset_bound, drift_bound, ageing_bound, delay_bound, angle_bound, rate_bound, angle_swing_bound, radius_swing_bound, eccentricity_bound, least_root_a, greatest_root_a, week, time_bound}
-use Rattle.grid_model.specs.Rounding.{IsFloor, IsCeiling}
+use Rattle.grid_model.specs.Rounding.{IsCeiling}
 use Rattle.gnss_model.specs.declared.elements.Elements.{Elements}
 use Rattle.grid_model.specs.declared.spans.Wide.{Wide}
 use Rattle.grid_model.proofs.ProductLemmas.{add_mul, mul_lt_back}
+use Rattle.grid_model.proofs.OrderLemmas.{le_prop, lt_prop}
+use Rattle.rinex_nav.proofs.WeekLemmas.{floor_only as one_floor, week_only as one_week}
 
 -- ---- numbers
-
-at_most_floor : (n d p q : ℤ) → pos 0 <ℤ d → IsFloor n d p → IsFloor n d q → p ≤ℤ q
-at_most_floor n d p q some f g =
-    let k : p <ℤ (q +ℤ pos 1) = mul_lt_back p (q +ℤ pos 1) d some (omega (arith, ints, add_mul q (pos 1) d, f.le, g.gt)) in
-    omega (arith, ints)
-
-one_floor : (n d p q : ℤ) → pos 0 <ℤ d → IsFloor n d p → IsFloor n d q → p ≡ q
-one_floor n d p q some f g = omega (arith, ints, at_most_floor n d p q some f g, at_most_floor n d q p some g f)
 
 at_most_ceiling : (n d p q : ℤ) → pos 0 <ℤ d → IsCeiling n d p → IsCeiling n d q → p ≤ℤ q
 at_most_ceiling n d p q some f g =
@@ -35,20 +29,7 @@ at_most_ceiling n d p q some f g =
 one_ceiling : (n d p q : ℤ) → pos 0 <ℤ d → IsCeiling n d p → IsCeiling n d q → p ≡ q
 one_ceiling n d p q some f g = omega (arith, ints, at_most_ceiling n d p q some f g, at_most_ceiling n d q p some g f)
 
-one_week : (toc toe s t : ℤ) → IsNearestWeek toc toe s → IsNearestWeek toc toe t → s ≡ t
-one_week toc toe s t f g =
-    let e = f.start_is in
-    let h = g.start_is in
-    let same : f.weeks ≡ g.weeks = omega (arith, ints, f.after, f.before, g.after, g.before) in
-    e ∙ ap (λ (z : ℤ). z *ℤ pos week) same ∙ sym h
-
 -- ---- facts
-
-le_prop : (a b : ℤ) (p q : a ≤ℤ b) → p ≡ q
-le_prop a b = hlevel T_prop
-
-lt_prop : (a b : ℤ) (p q : a <ℤ b) → p ≡ q
-lt_prop a b = hlevel T_prop
 
 lies_prop : (low high : ℤ) (w : Wide) (p q : LiesFrom low high w) → p ≡ q
 lies_prop low high w = hlevel T_prop

@@ -1,14 +1,14 @@
 -- A walk over the places of a satellite's records meets all of them.
-use Rattle.std.proofs.Common.{◌≡◌, ℕ, ◌+◌, ◌<◌, refl, sym, ap, subst, ◌∙◌, Bool, true, false, List, [], ◌∷◌, ◌++◌, length, Some, slice_get, append_assoc, ◌≤◌, add-one, drop-cons, drop_of_length-le, drop, get_or}
+use Rattle.std.proofs.Common.{◌≡◌, ℕ, ◌+◌, ◌<◌, refl, sym, ap, subst, ◌∙◌, true, false, List, [], ◌∷◌, ◌++◌, length, Some, slice_get, append_assoc, ◌≤◌, add-one, drop-cons, drop_of_length-le, drop, get_or}
 use Rattle.std.specs.Prelude.{Option, ℤ}
-use Rattle.std.proofs.lemmas.Bool.{eq-eqb, false≢true}
+use Rattle.std.proofs.lemmas.Bool.{false≢true}
 use Rattle.std.proofs.lemmas.List.{length-append, append-nil}
 use Rattle.std.proofs.lemmas.Option.{none-some, same_Some, slice_get_within}
 use Rattle.error_bounds.specs.declared.settings.Settings.{Settings}
 use Rattle.gnss_model.specs.declared.satellites.Signal.{Signal}
 use Rattle.rinex_nav.specs.Places.{is_same, places_from, places_of}
 use Rattle.rinex_nav.specs.declared.record.NavRecord.{NavRecord}
-use Rattle.rinex_nav.proofs.IndexLemmas.{same_is}
+use Rattle.rinex_nav.proofs.IndexLemmas.{same_is, is_self, by_bool}
 use Rattle.rinex_obs.specs.declared.obs.SatObs.{SatObs}
 use Rattle.gnss_model.specs.declared.satellites.Sat.{Sat}
 use Rattle.usable_sats.specs.Answers.{IsChoice}
@@ -16,13 +16,6 @@ use Rattle.usable_sats.specs.Usability.{sighting_by}
 use Rattle.usable_sats.specs.declared.choice.Choice.{Choice}
 use Rattle.usable_sats.specs.declared.choice.Choice.TheVariants.{NoRecord}
 use Rattle.usable_sats.proofs.ChoiceLemmas.{passes_over}
-
-by_bool : {P : Type 0} (b : Bool) → (b ≡ true → P) → (b ≡ false → P) → P
-by_bool true f g = f refl
-by_bool false f g = g refl
-
-is_self : (s : Sat) → is_same s s ≡ true
-is_self s = rw (eq-eqb s.system s.system refl, eq-eqb s.number s.number refl) refl
 
 other_sat : (a b : Sat) → is_same a b ≡ false → b ≡ a → ⊥
 other_sat a b differ same = false≢true (sym differ ∙ (ap (is_same a) same ∙ is_self a))

@@ -11,7 +11,7 @@ use crate::choice::{Choice, choose};
 use crate::codes::{Measured, Reading, read_codes};
 use elevation_mapping::is_far_from_origin;
 use error_bounds::Settings;
-use gnss_model::{Elements, Sat, Signal, Skip, System, is_plain};
+use gnss_model::{Elements, Sat, Signal, Skip, System};
 use grid_model::Box3;
 use rinex_nav::Nav;
 use rinex_obs::{ObsEpoch, SatObs};
@@ -99,7 +99,7 @@ fn judge_itself(
 fn is_high(settings: &Settings, root: &Box3) -> bool
     ensures { IsTrue result ↔ IsHigh settings.now.delays (grid_box root.now) }
 {
-    if is_plain(settings.delays) {
+    if settings.delays.is_plain() {
         return true;
     }
     is_far_from_origin(root)

@@ -1,17 +1,12 @@
 -- What stands behind the minus of a word that spells a limit.
-use Rattle.std.proofs.Common.{◌≡◌, ℕ, suc, ◌-◌, ◌^◌, ◌<◌, ◌≤◌, List, ◌∷◌, length, take, drop, get_or, ap, sym, ◌∙◌, arith}
+use Rattle.std.proofs.Common.{◌≡◌, ℕ, suc, ◌-◌, ◌<◌, ◌≤◌, List, ◌∷◌, length, take, drop, get_or, arith}
 use Rattle.std.specs.Prelude.{ℤ, pos, negsuc}
 use Rattle.std.specs.Fmt.{decimal, signed_decimal}
-use Rattle.std.specs.Str.Parse.{digits_value}
 use Rattle.std.proofs.lemmas.Fmt.{decimal_is_IsNumeral_wide}
 use Rattle.std.proofs.lemmas.Grind.{common_steps}
 use Rattle.std.proofs.lemmas.Int.{ints}
 use Rattle.std.proofs.lemmas.Str.Parse.{digit_at}
 use Rattle.grid_model.specs.Sizes.{IsWithin}
-
--- two amounts that are spelled alike are one
-pub one_amount : (m n : ℕ) → m < 10 ^ 64 → n < 10 ^ 64 → decimal m ≡ decimal n → m ≡ n
-one_amount m n m_fits n_fits e = sym (decimal_is_IsNumeral_wide m m_fits).1 ∙ ap (digits_value 10) e ∙ (decimal_is_IsNumeral_wide n n_fits).1
 
 pub record IsBehindMinus (digits : List ℕ) : Type 0 where
   pub amount : ℕ

@@ -1,38 +1,24 @@
 -- Boxes that lie apart from a zone, or in it.
-use Rattle.std.proofs.Common.{◌≡◌, ℕ, suc, ◌+◌, ◌<◌, ◌≤◌, arith, Bool, true, false, ◌&&◌, List, [], ◌∷◌, length, map, drop, get_or, inl, inr, refl, sym, ap, ◌∙◌, add-one}
+use Rattle.std.proofs.Common.{◌≡◌, ℕ, ◌+◌, ◌<◌, ◌≤◌, arith, Bool, true, false, List, [], ◌∷◌, length, map, drop, get_or, inl, inr, refl}
 use Rattle.std.specs.Prelude.{ℤ, ◌↔◌}
 use Rattle.std.specs.List.{AllByRecursion}
 use Rattle.std.specs.Int.{int_max}
-use Rattle.std.proofs.Math.Seq.{drop-cons}
-use Rattle.std.proofs.lemmas.Grind.{common_steps}
 use Rattle.std.proofs.lemmas.Int.{ints, clamps}
 use Rattle.grid_model.specs.Boxes.{GridBox, grid_box, box_holds}
-use Rattle.sat_model.specs.Cover.{KeepsClock, SomeKeeps, is_kept}
+use Rattle.sat_model.specs.Cover.{SomeKeeps, is_kept}
 use Rattle.sat_model.specs.Fold.{ShownStep}
-use Rattle.sat_model.specs.StepKinds.{is_kept_step}
 use Rattle.grid_model.specs.declared.boxes.Box3.{Box3}
 use Rattle.grid_model.specs.declared.boxes.Pos.{Pos}
-use Rattle.sat_model.specs.declared.steps.Step.{Step}
-use Rattle.sat_model.specs.declared.steps.Step.TheVariants.{Cut, Split, Outside, Inside, Edge}
 use Rattle.grid_model.proofs.PointLemmas.{IsInBox, in_box, le_to}
 use Rattle.paving_log.specs.CoverBoxes.{kept_parts}
 use Rattle.zone_guard.specs.Answers.{IsApart, IsPart, AreApart, AreWithin}
 use Rattle.zone_guard.specs.Ends.{AreMet, LiesWithin}
+use Rattle.grid_model.proofs.BoolLemmas.{both_from as and_true}
+use Rattle.grid_model.proofs.ListLemmas.{next_item, no_item}
+use Rattle.sat_model.proofs.KeptLemmas.{kept_step}
+use Rattle.paving_log.proofs.KeptParts.{kept_here, kept_later}
 
 -- ---- kept boxes
-
-pub kept_step : (step : Step) (b : ℤ) → KeepsClock step b → is_kept_step step ≡ true
-kept_step (Cut id face bound) b h = absurd h
-kept_step (Split id axis) b h = absurd h
-kept_step (Outside id) b h = absurd h
-kept_step (Inside id clock lo hi) b h = refl
-kept_step (Edge id lo hi) b h = refl
-
-pub kept_here : (piece : ShownStep) (more : List ShownStep) → is_kept piece ≡ true → kept_parts (piece ∷ more) ≡ piece.part ∷ kept_parts more
-kept_here piece more e = rw e refl
-
-pub kept_later : (piece : ShownStep) (more : List ShownStep) → is_kept piece ≡ false → kept_parts (piece ∷ more) ≡ kept_parts more
-kept_later piece more e = rw e refl
 
 later_apart : (zone : GridBox) (piece : ShownStep) (more : List ShownStep) (kept : Bool) → is_kept piece ≡ kept → AreApart zone (kept_parts (piece ∷ more)) → AreApart zone (kept_parts more)
 later_apart zone piece more true e apart = (rw (kept_here piece more e) at apart).1
@@ -44,9 +30,6 @@ none_kept zone (piece ∷ more) p b apart inside (inl here) = (rw (kept_here pie
 none_kept zone (piece ∷ more) p b apart inside (inr later) = none_kept zone more p b (later_apart zone piece more (is_kept piece) refl apart) inside later
 
 -- ---- two boxes
-
-and_true : (a b : Bool) → a ≡ true → b ≡ true → (a && b) ≡ true
-and_true a b e f = rw (e, f) refl
 
 pub holds_from : (c : GridBox) (p : Pos) → IsInBox c p → box_holds c p ≡ true
 holds_from c p i =
@@ -112,12 +95,6 @@ behind_apart part zone apart p h k =
     })
 
 -- ---- box by box
-
-next_item : {X : Type 0} (xs : List X) (i : ℕ) (x : X) → i < length xs → x ≡ get_or xs i x → drop i xs ≡ x ∷ drop (i + 1) xs
-next_item xs i x within is = rw add-one (drop-cons xs i x within ∙ ap (λ y. y ∷ drop (suc i) xs) (sym is))
-
-no_item : {X : Type 0} (xs : List X) (i : ℕ) → length xs ≤ i → drop i xs ≡ []
-no_item xs i h = grind (arith, common_steps)
 
 -- what holds of those from a place on is what holds of all of them
 module _ (P : GridBox → Type 0) (boxes : List Box3) where

@@ -15,6 +15,8 @@ use Rattle.grid_model.proofs.SpreadLemmas.{least_le_product, product_le_greatest
 use Rattle.zone_guard.specs.Corners.{least_on, greatest_on, least_over, greatest_over}
 use Rattle.zone_guard.specs.Planes.{dot, PlaneValue, LiesBehind, LiesBeyond}
 use Rattle.zone_guard.proofs.AnswerLemmas.{holds_from}
+use Rattle.grid_model.proofs.IntervalLemmas.{le_z_trans as le_both}
+use Rattle.sat_model.proofs.PairAxisLemmas.{sum_within}
 
 -- ---- casts
 
@@ -33,9 +35,6 @@ uncast_end x k = omega (arith, ints, k.low, k.high)
 pub uncast_product : (a b : ℤ) → IsWithin 1048576 a → IsBoxSize b → to_z w128 (of_z w128 (to_z w128 (of_z w128 a) *ℤ to_z w128 (of_z w128 b))) ≡ a *ℤ b
 uncast_product a b v w =
     rw (uncast a (wider _ a (omega arith) v), uncast b (wider _ b (omega arith) w)) (uncast (a *ℤ b) (wider _ (a *ℤ b) (omega arith) (product_within 1048576 10000000000000 a b v w)))
-
-sum_within : (m n : ℕ) (x y : ℤ) → IsWithin m x → IsWithin n y → IsWithin (m + n) (x +ℤ y)
-sum_within m n x y v w = record { low = omega (arith, ints, v.low, v.high, w.low, w.high); high = omega (arith, ints, v.low, v.high, w.low, w.high) }
 
 pub uncast_sum : (x y z : ℤ) → IsWithin 10485760000000000000 x → IsWithin 10485760000000000000 y → IsWithin 10485760000000000000 z
     → to_z w128 (of_z w128 (to_z w128 (of_z w128 x) +ℤ to_z w128 (of_z w128 (to_z w128 (of_z w128 y) +ℤ to_z w128 (of_z w128 z))))) ≡ x +ℤ (y +ℤ z)
@@ -68,16 +67,16 @@ record EndAt (f : ℤ) (s : Side) (v : ℤ) : Type 0 where
   inside : (s.lo ≤ℤ n) × (n ≤ℤ s.hi)
   product : (f *ℤ n) ≡ v
 
-min_left : (s t : ℤ) → s <ℤ t → s ≡ int_min s t
+pub min_left : (s t : ℤ) → s <ℤ t → s ≡ int_min s t
 min_left s t h = omega (arith, ints, clamps, h)
 
-min_right : (s t : ℤ) → t ≤ℤ s → t ≡ int_min s t
+pub min_right : (s t : ℤ) → t ≤ℤ s → t ≡ int_min s t
 min_right s t h = omega (arith, ints, clamps, h)
 
-max_left : (s t : ℤ) → t ≤ℤ s → s ≡ int_max s t
+pub max_left : (s t : ℤ) → t ≤ℤ s → s ≡ int_max s t
 max_left s t h = omega (arith, ints, clamps, h)
 
-max_right : (s t : ℤ) → s <ℤ t → t ≡ int_max s t
+pub max_right : (s t : ℤ) → s <ℤ t → t ≡ int_max s t
 max_right s t h = omega (arith, ints, clamps, h)
 
 same_le : (n : ℤ) → n ≤ℤ n
@@ -129,9 +128,6 @@ greatest_point a b =
 
 less_both : (m l v : ℤ) → m <ℤ l → l ≤ℤ v → m <ℤ v
 less_both m l v h k = omega (arith, ints, h, k)
-
-le_both : (v g m : ℤ) → v ≤ℤ g → g ≤ℤ m → v ≤ℤ m
-le_both v g m h k = omega (arith, ints, h, k)
 
 no_less : (m l : ℤ) → l ≤ℤ m → m <ℤ l → ⊥
 no_less m l h k = omega (arith, ints, h, k)

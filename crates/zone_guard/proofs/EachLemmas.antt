@@ -1,21 +1,14 @@
 -- A loop over a list, item by item.
-use Rattle.std.proofs.Common.{◌≡◌, ℕ, suc, ◌+◌, ◌<◌, ◌≤◌, arith, List, [], ◌∷◌, ◌++◌, length, map, take, drop, get_or, inl, inr, sym, ap, ◌∙◌, add-one}
+use Rattle.std.proofs.Common.{◌≡◌, ℕ, ◌+◌, ◌<◌, ◌≤◌, List, [], ◌∷◌, ◌++◌, length, map, take, drop, get_or, inl, inr, sym, ap, ◌∙◌}
 use Rattle.std.specs.Prelude.{◌↔◌}
 use Rattle.std.specs.List.{AllByRecursion}
-use Rattle.std.proofs.Math.Seq.{drop-cons}
-use Rattle.std.proofs.lemmas.Grind.{common_steps}
 use Rattle.std.proofs.lemmas.List.{take_more, take_all, map-append}
 use Rattle.grid_model.specs.Boxes.{GridBox, grid_box}
 use Rattle.grid_model.specs.declared.boxes.Box3.{Box3}
 use Rattle.zone_guard.specs.Planes.{plane_value, plane_values, LiesBeyond}
 use Rattle.zone_guard.specs.PrismAnswers.{IsShutOut}
 use Rattle.zone_guard.specs.declared.planes.HalfSpace.{HalfSpace}
-
-pub next_item : {X : Type 0} (xs : List X) (i : ℕ) (x : X) → i < length xs → x ≡ get_or xs i x → drop i xs ≡ x ∷ drop (i + 1) xs
-next_item xs i x within is = rw add-one (drop-cons xs i x within ∙ ap (λ y. y ∷ drop (suc i) xs) (sym is))
-
-pub no_item : {X : Type 0} (xs : List X) (i : ℕ) → length xs ≤ i → drop i xs ≡ []
-no_item xs i h = grind (arith, common_steps)
+use Rattle.grid_model.proofs.ListLemmas.{next_item, no_item}
 
 -- what holds of the items from a place on is what holds of all of them
 module _ {X Y : Type 0} (f : X → Y) (P : Y → Type 0) (xs : List X) where

@@ -12,8 +12,9 @@ use Rattle.zone_guard.specs.Planes.{PlaneValue, IsInPrism, dot}
 use Rattle.zone_guard.specs.PrismAnswers.{AreShutOut, AreEnclosed}
 use Rattle.zone_guard.specs.Reaches.{AreHolding, IsReach}
 use Rattle.zone_guard.specs.declared.planes.Extent.{Extent}
-use Rattle.zone_guard.proofs.AnswerLemmas.{kept_step, kept_here, kept_later}
 use Rattle.zone_guard.proofs.PrismLemmas.{out_point, in_point}
+use Rattle.sat_model.proofs.KeptLemmas.{kept_step}
+use Rattle.paving_log.proofs.KeptParts.{kept_here, kept_later}
 
 holding_later : (piece : ShownStep) (more : List ShownStep) (p : Pos) (kept : Bool) → is_kept piece ≡ kept → AreHolding (kept_parts more) p → AreHolding (kept_parts (piece ∷ more)) p
 holding_later piece more p true e h = rw (kept_here piece more e) (inr h)

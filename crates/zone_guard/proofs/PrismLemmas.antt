@@ -13,7 +13,7 @@ use Rattle.zone_guard.specs.Reaches.{AreHolding, IsProductIn, IsExtent, IsReach}
 use Rattle.zone_guard.specs.declared.planes.Extent.{Extent}
 use Rattle.zone_guard.specs.Totals.{both, joined}
 use Rattle.zone_guard.proofs.AnswerLemmas.{holds_from, low_in}
-use Rattle.zone_guard.proofs.CornerLemmas.{PointAt, least_le, le_greatest, least_point, greatest_point}
+use Rattle.zone_guard.proofs.CornerLemmas.{PointAt, least_le, le_greatest, least_point, greatest_point, min_left as min_is_left, min_right as min_is_right, max_left as max_is_left, max_right as max_is_right}
 
 -- ---- points
 
@@ -81,18 +81,6 @@ le_max_left m n v h = omega (arith, ints, clamps, h)
 
 le_max_right : (m n v : ℤ) → v ≤ℤ n → v ≤ℤ int_max m n
 le_max_right m n v h = omega (arith, ints, clamps, h)
-
-min_is_left : (m n : ℤ) → m <ℤ n → m ≡ int_min m n
-min_is_left m n h = omega (arith, ints, clamps, h)
-
-min_is_right : (m n : ℤ) → n ≤ℤ m → n ≡ int_min m n
-min_is_right m n h = omega (arith, ints, clamps, h)
-
-max_is_left : (m n : ℤ) → n ≤ℤ m → m ≡ int_max m n
-max_is_left m n h = omega (arith, ints, clamps, h)
-
-max_is_right : (m n : ℤ) → m <ℤ n → n ≡ int_max m n
-max_is_right m n h = omega (arith, ints, clamps, h)
 
 least_of : (a : Pos) (boxes : List GridBox) (m n : ℤ) → IsProductIn a boxes m → IsProductIn a boxes n → IsProductIn a boxes (int_min m n)
 least_of a boxes m n i j = by_lt_z m n (λ lt. subst (IsProductIn a boxes) (min_is_left m n lt) i) (λ ge. subst (IsProductIn a boxes) (min_is_right m n ge) j)

@@ -226,7 +226,7 @@ pub listed_all : (text : List ℕ) (watches : List Watch) (number : ℕ) (left :
 listed_all text watches number left so none =
     subst (λ (l : List WatchLine). AreWatchLines [] 0 (lines text) l) (append-nil (watch_lines (watch_values watches))) (so.on [] (rw none (refl, refl)))
 
-told_mapped : (e : ZoneError) (F G : ℕ → Type 0) → ((k : ℕ) → F k → G k) → IsToldIn F e → IsToldIn G e
+pub told_mapped : (e : ZoneError) (F G : ℕ → Type 0) → ((k : ℕ) → F k → G k) → IsToldIn F e → IsToldIn G e
 told_mapped e F G on told = elim told [
   | inl none ↦ inl none
   | inr (k, same, fails) ↦ inr (k, same, on k fails)
@@ -235,6 +235,3 @@ told_mapped e F G on told = elim told [
 pub told_if : {T U : Type 0} (result : Result T ZoneError) (other : Result U ZoneError) (F G : ℕ → Type 0) → ((k : ℕ) → F k → G k) → IfErr result (IsToldIn F) → IfErr result (IsToldIn G)
 told_if (Ok read) other F G on told = tt
 told_if (Err e) other F G on told = told_mapped e F G on told
-
-pub told_by : (e : ZoneError) (F G : ℕ → Type 0) → ((k : ℕ) → F k → G k) → IsToldIn F e → IsToldIn G e
-told_by e F G on told = told_mapped e F G on told

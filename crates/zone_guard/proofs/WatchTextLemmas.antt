@@ -11,7 +11,7 @@ use Rattle.zone_guard.specs.declared.watch.Watches.{Watches}
 use Rattle.zone_guard.specs.declared.zone.ZoneError.{ZoneError}
 use Rattle.zone_guard.specs.declared.zone.ZoneError.TheVariants.{BadZones, NoMemory}
 use Rattle.zone_guard.proofs.LineLemmas.{lines_some}
-use Rattle.zone_guard.proofs.TextLemmas.{text_not_both, text_one_line}
+use Rattle.zone_guard.proofs.TextLemmas.{text_not_both, text_one_line, same_told}
 use Rattle.zone_guard.proofs.WatchLemmas.{not_both, one_line}
 
 -- ---- the head
@@ -38,7 +38,7 @@ no_begin bytes one begins = absurd (rw one at begins)
 
 -- ---- one reading
 
-other_heads : (first : List ℕ) → first ≡ first_line → first ≡ second_line → ⊥
+pub other_heads : (first : List ℕ) → first ≡ first_line → first ≡ second_line → ⊥
 other_heads first e f =
     let last : 49 ≡ 50 = ap (λ (bytes : List ℕ). get_or bytes 9 0) (sym e ∙ f) in
     omega (arith, last)
@@ -86,9 +86,6 @@ never_refused (Err (BadZones line)) bytes second watches are told = elim told [
   | inl e ↦ absurd cc
   | inr (k, e, fails) ↦ either_not_both second watches bytes k are fails
 ]
-
-same_told : (a b : ℕ) → BadZones a ≡ BadZones b → a ≡ b
-same_told a b e = cc
 
 pub always_refused : (result : Result Watches ZoneError) (bytes : List ℕ) (line : ℕ) → IsFirstUnfit bytes line
     → IfOk result (λ found. IsWatchesText found.is_second (watch_values found.list.items) bytes) → IfErr result (IsToldIn (IsFirstUnfit bytes)) → TellsBad line result

@@ -8,8 +8,9 @@ use Rattle.grid_model.proofs.SpreadLemmas.{products_fit}
 use Rattle.fix_interval.proofs.InsideLemmas.{held, inside_of, difference_inside}
 use Rattle.fix_interval.proofs.ProductEnds.{amount_of}
 use Rattle.broadcast_orbit.specs.OrbitSizes.{orbit_reach, after_width}
-use Rattle.broadcast_orbit.proofs.Chains.{field_ends, range_ends, value_held, difference_has, less_number, less_number_held, one_number, one_held}
+use Rattle.broadcast_orbit.proofs.Chains.{field_ends, range_ends, value_held, difference_has, less_number, less_number_held, one_held}
 use Rattle.broadcast_orbit.proofs.space.node.Goals as goal
+use Rattle.grid_model.proofs.IntervalLemmas.{one_number}
 
 pub advanced-requires-clause-sizes : goal.advanced-requires-clause-sizes
 advanced-requires-clause-sizes c =

@@ -2,9 +2,10 @@ use Rattle.std.proofs.Common.{FitsSigned, arith}
 use Rattle.std.specs.Int.{w128}
 use Rattle.std.proofs.lemmas.Int.{ints, to_z-of_z}
 use Rattle.std.specs.Prelude.{pos}
-use Rattle.code_search.proofs.EndLemmas.{corrected_most, corrected_least, member_within, less_most, less_least}
+use Rattle.code_search.proofs.EndLemmas.{corrected_most, corrected_least, less_most, less_least}
 use Rattle.code_search.proofs.ResidualLemmas.{difference_held}
 use Rattle.code_search.proofs.residuals.residual.Goals as goal
+use Rattle.grid_model.proofs.IntervalLemmas.{member_within}
 
 pub minus-requires-clause-low_size : goal.minus-requires-clause-low_size
 minus-requires-clause-low_size c =

@@ -6,8 +6,9 @@ use Rattle.grid_model.specs.Boxes.{grid_box}
 use Rattle.code_search.proofs.EndLemmas.{far_range}
 use Rattle.broadcast_orbit.proofs.TurnKeeps.{turned_distance}
 use Rattle.code_search.specs.SearchSizes.{farthest_range}
-use Rattle.code_search.proofs.ResidualLemmas.{wider_place, from_point, point_range}
+use Rattle.code_search.proofs.ResidualLemmas.{from_point, point_range}
 use Rattle.code_search.proofs.residuals.seen_range.Goals as goal
+use Rattle.fix_interval.proofs.PlaceLemmas.{wider_place}
 
 pub range-requires : goal.range-requires
 range-requires c =

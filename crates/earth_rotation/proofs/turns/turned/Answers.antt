@@ -4,9 +4,9 @@ use Rattle.grid_model.specs.Ranges.{range_to}
 use Rattle.grid_model.specs.Lengths.{longest_length, spare_of}
 use Rattle.earth_rotation.specs.TurnSizes.{turn_reach, reach_after, near_reach, narrow_width}
 use Rattle.earth_rotation.specs.RoundSizes.{turned_reach, range_width, turned_width}
-use Rattle.earth_rotation.proofs.Bounds.{wider_place}
 use Rattle.earth_rotation.proofs.TurnWidths.{second_spread}
 use Rattle.earth_rotation.proofs.turns.turned.Goals as goal
+use Rattle.fix_interval.proofs.PlaceLemmas.{wider_place}
 
 pub range-requires : goal.range-requires
 range-requires c = wider_place turn_reach turned_reach _ _ _ (lit≤ tt) (lit≤ tt) c.requires

@@ -13,11 +13,12 @@ use Rattle.grid_model.proofs.RootLemmas.{square-mono, root_is}
 use Rattle.grid_model.proofs.SquareLemmas.{greatest_square_le}
 use Rattle.grid_model.proofs.PointLemmas.{in_box}
 use Rattle.gnss_model.specs.Layers.{layer_floor}
-use Rattle.gnss_model.specs.Mapping.{bent, slant_of}
+use Rattle.gnss_model.specs.Mapping.{layer_sine, slant_of}
 use Rattle.elevation_mapping.specs.SineSizes.{up_amount, offset_amount, sine_amount}
-use Rattle.elevation_mapping.proofs.Points.{ArePoints, AreOffsets, axis_held, offset_held, same_number, place_ends, offsets_ends, up_ends, up_far, line_far}
-use Rattle.elevation_mapping.proofs.SlantWidth.{mapped_spread, bent_le, slant_at_least, slant_fits}
+use Rattle.elevation_mapping.proofs.Points.{ArePoints, AreOffsets, axis_held, same_number, place_ends, offsets_ends, up_ends, up_far, line_far}
+use Rattle.elevation_mapping.proofs.SlantWidth.{mapped_spread, layer_sine_le, slant_at_least, slant_fits}
 use Rattle.elevation_mapping.proofs.mapping.mapped.Goals as goal
+use Rattle.grid_model.proofs.IntervalLemmas.{difference_by as offset_held}
 
 pub elevation_sine-sine-requires-clause-up_far : goal.elevation_sine-sine-requires-clause-up_far
 elevation_sine-sine-requires-clause-up_far c =
@@ -34,16 +35,16 @@ elevation_sine-sine-requires-clause-line_far c =
     line_far (5 * 10 ^ 12) c.args.part.now c.args.turned c.place_of-points.result c.offsets.result p d c.requires.from_place
 
 pub over_slants-requires-clause-low_size : goal.over_slants-requires-clause-low_size
-over_slants-requires-clause-low_size c = let e = c.slants.ensures.low in omega (arith, ints, e, slant_at_least c.args.layer (square (bent c.args.layer (least_end c.elevation_sine-sine.result.lo c.elevation_sine-sine.result.hi))))
+over_slants-requires-clause-low_size c = let e = c.slants.ensures.low in omega (arith, ints, e, slant_at_least c.args.layer (square (layer_sine c.args.layer (least_end c.elevation_sine-sine.result.lo c.elevation_sine-sine.result.hi))))
 
 pub over_slants-requires-clause-high_size : goal.over_slants-requires-clause-high_size
 over_slants-requires-clause-high_size c =
     let e = c.slants.ensures.high in
     let a = c.elevation_sine-sine.ensures.amount in
     let t = greatest_end c.elevation_sine-sine.result.lo c.elevation_sine-sine.result.hi in
-    let n = layer_floor c.args.layer + square (bent c.args.layer t) in
+    let n = layer_floor c.args.layer + square (layer_sine c.args.layer t) in
     let g = greatest_square_le sine_amount c.elevation_sine-sine.result.lo c.elevation_sine-sine.result.hi a.low a.high in
-    let b = square-mono (bent c.args.layer t) t (bent_le c.args.layer t) in
+    let b = square-mono (layer_sine c.args.layer t) t (layer_sine_le c.args.layer t) in
     let f = slant_fits c.args.layer n (root n) (root_is n) (omega (arith, g, b)) in
     omega (arith, ints, e, f)
 

@@ -4,8 +4,9 @@ use Rattle.std.specs.Prelude.{pos}
 use Rattle.grid_model.specs.Boxes.{grid_box}
 use Rattle.grid_model.specs.Lengths.{spare_of}
 use Rattle.gnss_model.specs.Delays.{err_spare_of}
-use Rattle.epoch_rows.proofs.BlockLemmas.{root_fits, header_fits, few_usable, few_skips, skips_skipped, few_grown, skip_entries, grown_entries}
+use Rattle.epoch_rows.proofs.BlockLemmas.{header_fits, few_usable, few_skips, skips_skipped, few_grown, skip_entries, grown_entries}
 use Rattle.epoch_rows.proofs.blocks.block.Goals as goal
+use Rattle.log_writer.proofs.GridSizes.{box3_fits as root_fits}
 
 pub invariant_of-result : goal.invariant_of-result
 invariant_of-result g c =

@@ -1,8 +1,8 @@
 use Rattle.std.proofs.Common.{arith, to_z, of_z, w64}
 use Rattle.std.specs.Prelude.{◌-ℤ◌}
 use Rattle.std.proofs.lemmas.Int.{ints}
-use Rattle.relaxed_meet.proofs.HeldLemmas.{lt_true}
 use Rattle.paving_log_check.proofs.claims.is_long.Goals as goal
+use Rattle.relaxed_meet.proofs.FallingLemmas.{lt_true}
 
 pub returns : goal.returns
 returns c = (

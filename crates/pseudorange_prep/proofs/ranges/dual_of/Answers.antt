@@ -4,8 +4,9 @@ use mir.Syntax.{w128}
 use Rattle.std.proofs.lemmas.Int.{ints}
 use Rattle.grid_model.proofs.SpreadLemmas.{products_fit}
 use Rattle.gnss_model.specs.Systems.{first_square, second_square, squares_apart}
-use Rattle.pseudorange_prep.proofs.WidthLemmas.{times_one_number, code_ends, code_member, dual_width, near_times_one, apart_positive, apart_is, combined_amount, combined_small, one_number, combined_fits, combined_spreads}
+use Rattle.pseudorange_prep.proofs.WidthLemmas.{times_one_number, code_ends, code_member, dual_width, near_times_one, apart_positive, apart_is, combined_amount, combined_small, combined_fits, combined_spreads}
 use Rattle.pseudorange_prep.proofs.ranges.dual_of.Goals as goal
+use Rattle.grid_model.proofs.IntervalLemmas.{one_number}
 
 pub times_over-requires-clause-positive : goal.times_over-requires-clause-positive
 times_over-requires-clause-positive c = let same : to_z w128 (of_z w128 c.squares_apart.result) ≡ pos (squares_apart c.args.system) = rw c.squares_apart.ensures (apart_is c.args.system) in

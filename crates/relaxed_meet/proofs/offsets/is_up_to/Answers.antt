@@ -4,8 +4,9 @@ use Rattle.std.proofs.lemmas.Bool.{leb-true, le-leb}
 use Rattle.grid_model.specs.Roots.{root}
 use Rattle.grid_model.specs.Boxes.{grid_box}
 use Rattle.sat_model.specs.ClockSpans.{near_square, near_of}
-use Rattle.relaxed_meet.proofs.SquareLemmas.{root_from, square_up_to}
+use Rattle.relaxed_meet.proofs.SquareLemmas.{square_up_to}
 use Rattle.relaxed_meet.proofs.offsets.is_up_to.Goals as goal
+use Rattle.grid_model.proofs.RootLemmas.{root_least as root_from}
 
 pub returns : goal.returns
 unfolding near_of

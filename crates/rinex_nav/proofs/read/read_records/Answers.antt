@@ -2,11 +2,11 @@ use Rattle.std.proofs.Common.{◌≡◌, ◌+◌, length, sym, ap, ◌∙◌, tr
 use Rattle.std.proofs.lemmas.List.{length-append}
 use Rattle.std.proofs.lemmas.Result.{err_from_is_err_and}
 use Rattle.rinex_text.specs.Reading.{plain_line}
-use Rattle.rinex_text.proofs.FieldLemmas.{both_ways}
 use Rattle.rinex_nav.specs.Files.{BeginsRecord}
 use Rattle.rinex_nav.specs.Reading.{listed_of}
 use Rattle.rinex_nav.proofs.RecordLemmas.{record_fault, record_on, long_fault, all_read, listed_one}
 use Rattle.rinex_nav.proofs.read.read_records.Goals as goal
+use Rattle.grid_model.proofs.BoolLemmas.{not_both_ways as both_ways}
 
 pub returns-in_err-found-clause-fault : goal.returns-in_err-found-clause-fault
 returns-in_err-found-clause-fault c =

@@ -1,9 +1,9 @@
 use Rattle.std.proofs.Common.{refl, sym, ◌∙◌, inl, inr, arith, to_z-of_z, FitsSigned, rules}
 use mir.Syntax.{w128}
 use Rattle.rinex_text.specs.Reading.{plain_line}
-use Rattle.rinex_text.proofs.FieldLemmas.{both_ways}
 use Rattle.rinex_obs.proofs.HeadLemmas.{no_mark, no_flag, no_count, is_event, no_date, too_many, is_epoch}
 use Rattle.rinex_obs.proofs.head.head_line.Goals as goal
+use Rattle.grid_model.proofs.BoolLemmas.{not_both_ways as both_ways}
 
 pub returns-then-not-is_short-clause-line : goal.returns-then-not-is_short-clause-line
 returns-then-not-is_short-clause-line c = inr (λ s. both_ways _ (c.is_short.ensures.1 s) c.if-not-is_short.true, refl)

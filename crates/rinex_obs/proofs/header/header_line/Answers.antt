@@ -1,6 +1,6 @@
 use Rattle.std.proofs.Common.{refl, inl, inr}
-use Rattle.rinex_text.proofs.FieldLemmas.{both_ways}
 use Rattle.rinex_obs.proofs.header.header_line.Goals as goal
+use Rattle.grid_model.proofs.BoolLemmas.{not_both_ways as both_ways}
 
 pub returns-in-Ok : goal.returns-in-Ok
 returns-in-Ok c = λ known h. (

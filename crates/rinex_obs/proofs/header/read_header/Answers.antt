@@ -1,8 +1,8 @@
 use Rattle.std.proofs.Common.{refl}
-use Rattle.rinex_text.proofs.FieldLemmas.{both_ways}
 use Rattle.rinex_obs.specs.Files.{unread}
 use Rattle.rinex_obs.proofs.HeaderLemmas.{line_step, line_fault, end_fault, none_known}
 use Rattle.rinex_obs.proofs.header.read_header.Goals as goal
+use Rattle.grid_model.proofs.BoolLemmas.{not_both_ways as both_ways}
 
 pub header-init : goal.header-init
 header-init c = (unread, record { gps = tt; galileo = none_known c.args.sought.now.galileo; position = refl }, λ answer h. h)

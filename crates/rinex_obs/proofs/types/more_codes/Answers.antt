@@ -1,8 +1,8 @@
 use Rattle.std.proofs.Common.{◌+◌, ◌-◌, ◌++◌, ◌∷◌, [], sym, ◌∙◌, arith}
 use Rattle.rinex_text.specs.declared.fault.Fault.TheVariants.{BadCount}
-use Rattle.rinex_text.proofs.FieldLemmas.{both_ways}
 use Rattle.rinex_obs.proofs.TypesLemmas.{code_step, code_fault, codes_fault}
 use Rattle.rinex_obs.proofs.types.more_codes.Goals as goal
+use Rattle.grid_model.proofs.BoolLemmas.{not_both_ways as both_ways}
 
 pub returns-then-is_blank_text : goal.returns-then-is_blank_text
 returns-then-is_blank_text c = λ types is.

@@ -9,8 +9,9 @@ use Rattle.gnss_model.specs.Mapping.{Mapping}
 use Rattle.gnss_model.specs.Delays.{span_amount, spare_over}
 use Rattle.grid_model.proofs.IntervalLemmas.{low_member}
 use Rattle.sat_rows.specs.BoundLemmas.{mapped_exist}
-use Rattle.sat_rows.proofs.DelayLemmas.{same_holds, same_width, same_order, low_spare, high_spare, low_corner, small_span}
+use Rattle.sat_rows.proofs.DelayLemmas.{same_holds, same_width, same_order, low_spare, high_spare, small_span}
 use Rattle.sat_rows.proofs.bounds.mapped_span.Goals as goal
+use Rattle.grid_model.proofs.PointLemmas.{low_corner}
 
 pub returns-clause-holds : goal.returns-clause-holds
 returns-clause-holds c p chain delay inside held range_is is =

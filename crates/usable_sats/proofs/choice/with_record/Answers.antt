@@ -1,5 +1,6 @@
-use Rattle.usable_sats.proofs.ChoiceLemmas.{true_false, stays, yields}
+use Rattle.usable_sats.proofs.ChoiceLemmas.{stays, yields}
 use Rattle.usable_sats.proofs.choice.with_record.Goals as goal
+use Rattle.grid_model.proofs.BoolLemmas.{not_both_ways as true_false}
 
 pub returns-then-is_better : goal.returns-then-is_better
 returns-then-is_better c = λ galileo records f. stays galileo c.args.settings.now c.args.epoch.now.tag c.args.seen.now records c.args.one.now _ _ f c.alone-later.ensures (c.is_better.ensures.0 c.if-is_better.true)

@@ -1,7 +1,7 @@
 use Rattle.std.proofs.Common.{refl}
-use Rattle.usable_sats.proofs.ChoiceLemmas.{true_false}
 use Rattle.usable_sats.proofs.CodeLemmas.{pair_out}
 use Rattle.usable_sats.proofs.codes.read_dual.Goals as goal
+use Rattle.grid_model.proofs.BoolLemmas.{not_both_ways as true_false}
 
 pub returns-then-is_combination_in_range : goal.returns-then-is_combination_in_range
 returns-then-is_combination_in_range c = λ a b.

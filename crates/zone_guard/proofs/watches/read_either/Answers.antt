@@ -1,7 +1,7 @@
 use Rattle.std.proofs.lemmas.Result.{err_from_is_err_and}
-use Rattle.zone_guard.proofs.WatchLemmas.{told_by}
 use Rattle.zone_guard.proofs.WatchTextLemmas.{second_fault}
 use Rattle.zone_guard.proofs.watches.read_either.Goals as goal
+use Rattle.zone_guard.proofs.WatchLemmas.{told_mapped as told_by}
 
 pub returns-in_err-list-in-Some-clause-fault : goal.returns-in_err-list-in-Some-clause-fault
 returns-in_err-list-in-Some-clause-fault c =

@@ -3,7 +3,7 @@ use Rattle.std.proofs.lemmas.Bool.{false≢true}
 use Rattle.std.proofs.lemmas.Result.{err_from_is_err_and}
 use Rattle.zone_guard.specs.WatchText.{IsNextLine}
 use Rattle.zone_guard.specs.WatchValues.{watch_names, opening_line, kind_value, form_value}
-use Rattle.zone_guard.proofs.WatchLemmas.{unfit_here, no_opening, taken_twice, leads_line, watch_leads, told_by}
+use Rattle.zone_guard.proofs.WatchLemmas.{unfit_here, no_opening, taken_twice, leads_line, watch_leads, told_mapped as told_by}
 use Rattle.zone_guard.proofs.watching.next_watch.Goals as goal
 
 pub returns-in_default-opening_of-clause-fault : goal.returns-in_default-opening_of-clause-fault

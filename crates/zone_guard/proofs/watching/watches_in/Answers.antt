@@ -5,7 +5,7 @@ use Rattle.zone_guard.specs.Watched.{form_lines}
 use Rattle.zone_guard.specs.WatchLeads.{Leads}
 use Rattle.zone_guard.specs.WatchValues.{watch_names, form_value}
 use Rattle.zone_guard.proofs.TextLemmas.{none_left_of}
-use Rattle.zone_guard.proofs.WatchLemmas.{listed_more, listed_all, told_by}
+use Rattle.zone_guard.proofs.WatchLemmas.{listed_more, listed_all, told_mapped as told_by}
 use Rattle.zone_guard.proofs.watching.watches_in.Goals as goal
 
 pub returns-in_err-watch-clause-fault : goal.returns-in_err-watch-clause-fault

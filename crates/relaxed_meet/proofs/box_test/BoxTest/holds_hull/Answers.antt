@@ -1,7 +1,7 @@
 use Rattle.std.proofs.Common.{◌≡◌, arith, refl, to_z, of_z, w64}
 use Rattle.std.proofs.lemmas.Int.{ints}
-use Rattle.relaxed_meet.proofs.HeldLemmas.{le_true}
 use Rattle.relaxed_meet.proofs.box_test.BoxTest.holds_hull.Goals as goal
+use Rattle.grid_model.proofs.PointLemmas.{le_to as le_true}
 
 pub returns-then-bounds_offsets : goal.returns-then-bounds_offsets
 returns-then-bounds_offsets c =

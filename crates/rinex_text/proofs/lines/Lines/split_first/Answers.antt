@@ -1,6 +1,7 @@
 use Rattle.std.proofs.Common.{◌+◌, sym, arith}
-use Rattle.rinex_text.proofs.LineLemmas.{ended_line, line_found, only_line, all_dropped}
+use Rattle.rinex_text.proofs.LineLemmas.{ended_line, line_found, only_line}
 use Rattle.rinex_text.proofs.lines.Lines.split_first.Goals as goal
+use Rattle.grid_model.proofs.ListLemmas.{all_dropped}
 
 pub returns-in-Some-clause-line : goal.returns-in-Some-clause-line
 returns-in-Some-clause-line c =
