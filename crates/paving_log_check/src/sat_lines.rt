@@ -103,7 +103,7 @@ fn first_narrow(delays: Delays, row: &Row, ours: &Row) -> Option<(Span, Span)>
 }
 
 /// Whether the ends of the row's error are those of this span alone.
-fn has_ends(row: &Row, declared: &Span) -> bool
+fn has_declared_ends(row: &Row, declared: &Span) -> bool
     ensures { IsTrue result ↔ HasBounds row.now (ends declared.now) }
 {
     row.err.lo == declared.lo
@@ -118,7 +118,7 @@ fn has_bound(delays: Delays, row: &Row, ours: &Row) -> bool
     ensures { IsTrue result ↔ HasBound delays row.now ours.now }
 {
     if delays.is_plain() {
-        return has_ends(row, &ours.err);
+        return has_declared_ends(row, &ours.err);
     }
     true
 }
