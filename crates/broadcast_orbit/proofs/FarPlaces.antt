@@ -13,6 +13,7 @@ use Rattle.grid_model.specs.declared.boxes.Pos.{Pos}
 use Rattle.gnss_model.specs.declared.elements.Elements.{Elements}
 use Rattle.grid_model.proofs.PointLemmas.{in_box}
 use Rattle.grid_model.proofs.ProductLemmas.{product_le, square_of_amount, swap4}
+use Rattle.broadcast_orbit.specs.OrbitSizes.{IsOrbitDistance}
 use Rattle.broadcast_orbit.proofs.ChainDistance.{orbit_distance}
 use Rattle.broadcast_orbit.proofs.PairLemmas.{square_of_difference, near_squares, square_natural, side_within}
 use Rattle.broadcast_orbit.proofs.TurnKeeps.{turned_low, turned_high, turned_distance}
@@ -76,11 +77,11 @@ sides_of x y z t =
     let r = square_natural z in
     (side_within turned_high x (omega (arith, ints)), side_within turned_high y (omega (arith, ints)), side_within turned_high z (omega (arith, ints)))
 
--- such a place is far, and so is what is near to it
-pub near_is_far : (el : Elements) (n t x y z : ℤ) (p : Pos) (tx ty : ℤ) (r : ℕ) (a b c : ℤ) → OrbitChain el n t x y z → Turn p x y z tx ty r → IsWithin seen_width (a -ℤ tx) → IsWithin seen_width (b -ℤ ty) → IsWithin seen_width (c -ℤ z)
+-- a place as far as an orbit is far as seen from a point, and so is what is near to it
+pub near_is_far : (x y z : ℤ) (p : Pos) (tx ty : ℤ) (r : ℕ) (a b c : ℤ) → IsOrbitDistance x y z → Turn p x y z tx ty r → IsWithin seen_width (a -ℤ tx) → IsWithin seen_width (b -ℤ ty) → IsWithin seen_width (c -ℤ z)
     → pos far_square ≤ℤ ((a *ℤ a) +ℤ (b *ℤ b) +ℤ (c *ℤ c))
-near_is_far el n t x y z p tx ty r a b c orbit turn u v w =
-    let d = turned_distance r p x y z tx ty (orbit_distance el n t x y z orbit) turn in
+near_is_far x y z p tx ty r a b c distance turn u v w =
+    let d = turned_distance r p x y z tx ty distance turn in
     let s = sides_of tx ty z d.to in
     still_far (a *ℤ a) (b *ℤ b) (c *ℤ c) (tx *ℤ tx) (ty *ℤ ty) (z *ℤ z)
     (near_squares a tx seen_width turned_high u s.0) (near_squares b ty seen_width turned_high v s.1) (near_squares c z seen_width turned_high w s.2) d.from
@@ -89,4 +90,4 @@ no_width : (x : ℤ) → IsWithin seen_width (x -ℤ x)
 no_width x = record { low = omega (arith, ints); high = omega (arith, ints) }
 
 pub chain_is_far : (el : Elements) (n t x y z : ℤ) (p : Pos) (tx ty : ℤ) (r : ℕ) → OrbitChain el n t x y z → Turn p x y z tx ty r → pos far_square ≤ℤ ((tx *ℤ tx) +ℤ (ty *ℤ ty) +ℤ (z *ℤ z))
-chain_is_far el n t x y z p tx ty r orbit turn = near_is_far el n t x y z p tx ty r tx ty z orbit turn (no_width tx) (no_width ty) (no_width z)
+chain_is_far el n t x y z p tx ty r orbit turn = near_is_far x y z p tx ty r tx ty z (orbit_distance el n t x y z orbit) turn (no_width tx) (no_width ty) (no_width z)

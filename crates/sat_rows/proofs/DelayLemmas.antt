@@ -4,15 +4,14 @@ use Rattle.std.specs.Prelude.{is_none, ℤ, pos, nat_abs, ◌+ℤ◌, ◌-ℤ◌
 use Rattle.std.proofs.lemmas.Int.{ints}
 use Rattle.std.proofs.lemmas.Nat.{mul-le}
 use Rattle.broadcast_orbit.proofs.FarPlaces.{seen_width, near_is_far, far_from_points}
+use Rattle.broadcast_orbit.specs.OrbitSizes.{IsOrbitDistance}
 use Rattle.earth_rotation.proofs.TurnExists.{turn_exists}
-use Rattle.broadcast_orbit.proofs.ChainExists.{orbit_exists}
 use Rattle.elevation_mapping.specs.Places.{IsFarFromPlace}
 use Rattle.fix_interval.specs.Places.{HoldsPlace, PlaceEnds}
 use Rattle.fix_interval.specs.declared.place.Place.{Place}
 use Rattle.grid_model.specs.Boxes.{GridBox, box_holds}
 use Rattle.grid_model.specs.Intervals.{Between, Ends}
 use Rattle.grid_model.specs.Lengths.{longest_length, spare_of}
-use Rattle.gnss_model.specs.OrbitChain.{OrbitChain}
 use Rattle.grid_model.specs.SearchBoxes.{IsSearchBox}
 use Rattle.grid_model.specs.Sizes.{IsWithin}
 use Rattle.gnss_model.specs.Turn.{Turn}
@@ -20,10 +19,9 @@ use Rattle.gnss_model.specs.Delays.{span_amount, spare_over}
 use Rattle.gnss_model.specs.declared.delays.Layer.{Layer}
 use Rattle.gnss_model.specs.declared.delays.Layer.TheVariants.{Troposphere, Ionosphere}
 use Rattle.grid_model.specs.declared.boxes.Pos.{Pos}
-use Rattle.gnss_model.specs.declared.elements.Elements.{Elements}
 use Rattle.grid_model.specs.declared.spans.Span.{Span}
 use Rattle.sat_rows.specs.OwnRows.{IsSmall}
-use Rattle.grid_model.proofs.IntervalLemmas.{members_within}
+use Rattle.grid_model.proofs.IntervalLemmas.{low_member, members_within}
 use Rattle.grid_model.proofs.ProductLemmas.{larger}
 
 -- ---- an end d with two delays, from k to m and from l to n
@@ -91,12 +89,13 @@ spare_small root h = omega arith
 member_near : (n : ℕ) (root : GridBox) (l h x y : ℤ) → longest_length root ≤ 2 * 10 ^ 11 → Ends n (spare_of root) l h → Between l h x → Between l h y → IsWithin seen_width (x -ℤ y)
 member_near n root l h x y short e p q = larger (spare_of root) seen_width (x -ℤ y) (spare_small root short) (members_within n (spare_of root) l h x y e p q)
 
--- a place that holds what the equations allow is far from the points of the box, since it is narrow
-pub place_is_far : (el : Elements) (n t : ℤ) (m : ℕ) (root : GridBox) (a : Place) → IsSearchBox root → PlaceEnds m (spare_of root) a
-    → ((p : Pos) (x y z tx ty : ℤ) (r : ℕ) → box_holds root p ≡ true → OrbitChain el n t x y z → Turn p x y z tx ty r → HoldsPlace a tx ty z) → IsFarFromPlace (5 * 10 ^ 12) a root
-place_is_far el n t m root a box ends holds p x y z inside held =
-    let orbit = orbit_exists el n t in
-    let turn = turn_exists p orbit.0 orbit.1 orbit.2 in
-    let at = holds p orbit.0 orbit.1 orbit.2 turn.0 turn.1 turn.2 inside orbit.3 turn.3 in
-    far_from_points x y z root p (near_is_far el n t orbit.0 orbit.1 orbit.2 p turn.0 turn.1 turn.2 x y z orbit.3 turn.3
-    (member_near m root a.x.lo a.x.hi x turn.0 box.short ends.x_ends held.x_held at.x_held) (member_near m root a.y.lo a.y.hi y turn.1 box.short ends.y_ends held.y_held at.y_held) (member_near m root a.z.lo a.z.hi z orbit.2 box.short ends.z_ends held.z_held at.z_held)) box inside
+-- A place that holds what is seen of one as far from the origin as an orbit is far from the points
+-- of the box, since it is narrow.
+pub place_is_far : (m : ℕ) (root : GridBox) (sent a : Place) → ((x y z : ℤ) → HoldsPlace sent x y z → IsOrbitDistance x y z) → IsSearchBox root → PlaceEnds m (spare_of root) a
+    → ((p : Pos) (x y z tx ty : ℤ) (r : ℕ) → box_holds root p ≡ true → HoldsPlace sent x y z → Turn p x y z tx ty r → HoldsPlace a tx ty z) → IsFarFromPlace (5 * 10 ^ 12) a root
+place_is_far m root sent a distance box ends holds p x y z inside held =
+    let low : HoldsPlace sent sent.x.lo sent.y.lo sent.z.lo = record { x_held = low_member _ _ sent.x.ordered; y_held = low_member _ _ sent.y.ordered; z_held = low_member _ _ sent.z.ordered } in
+    let turn = turn_exists p sent.x.lo sent.y.lo sent.z.lo in
+    let at = holds p sent.x.lo sent.y.lo sent.z.lo turn.0 turn.1 turn.2 inside low turn.3 in
+    far_from_points x y z root p (near_is_far sent.x.lo sent.y.lo sent.z.lo p turn.0 turn.1 turn.2 x y z (distance sent.x.lo sent.y.lo sent.z.lo low) turn.3
+    (member_near m root a.x.lo a.x.hi x turn.0 box.short ends.x_ends held.x_held at.x_held) (member_near m root a.y.lo a.y.hi y turn.1 box.short ends.y_ends held.y_held at.y_held) (member_near m root a.z.lo a.z.hi z sent.z.lo box.short ends.z_ends held.z_held at.z_held)) box inside

@@ -1,3 +1,4 @@
 pub mod SpanLemmas
 pub mod DelayLemmas
 pub mod RowLemmas
+pub mod PartLemmas

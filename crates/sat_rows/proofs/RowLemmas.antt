@@ -23,25 +23,26 @@ use Rattle.grid_model.proofs.ProductLemmas.{add_mul, mul_lt_back}
 use Rattle.grid_model.specs.declared.spans.Wide.{Wide}
 use Rattle.rinex_nav.specs.FieldBounds.{field_of}
 use Rattle.grid_model.specs.Boxes.{GridBox}
+use Rattle.grid_model.specs.declared.boxes.Pos.{Pos}
 use Rattle.gnss_model.specs.ChainValues.{Observed}
 use Rattle.gnss_model.specs.Pseudorange.{Codes}
 use Rattle.sat_model.specs.Relaxed.{ends}
 use Rattle.grid_model.specs.Sizes.{IsWithin}
 use Rattle.gnss_model.specs.declared.elements.Elements.{Elements}
-use Rattle.sat_model.specs.declared.rows.Row.{Row}
 use Rattle.gnss_model.specs.declared.satellites.Sat.{Sat}
 use Rattle.gnss_model.specs.declared.satellites.Signal.{Signal}
 use Rattle.gnss_model.specs.declared.satellites.Signal.TheVariants.{Single, Dual}
 use Rattle.gnss_model.specs.declared.delays.Delays.{Delays}
 use Rattle.grid_model.specs.declared.spans.Span.{Span}
-use Rattle.gnss_model.specs.declared.systems.System.{System}
 use Rattle.usable_sats.proofs.JudgementLemmas.{codes_one, elements_one}
 use Rattle.usable_sats.specs.Judgements.{IsKnownBy}
-use Rattle.sat_rows.specs.Chains.{observed, AreValues, IsChainAt}
+use Rattle.sat_rows.specs.Bases.{ComesFrom}
+use Rattle.sat_rows.specs.Chains.{Chain, observed, AreValues, IsChainAt}
 use Rattle.sat_rows.specs.Meanings.{Meaning}
-use Rattle.sat_rows.specs.OwnRows.{HoldsAllowed, IsOwnLine, AreOwnLines, IsSmall, IsSmallLine, AreSmall, usable_line, usable_in}
+use Rattle.sat_rows.specs.OwnRows.{IsOwnLine, AreOwnLines, IsSmall, IsSmallLine, AreSmall, usable_line, usable_in}
 use Rattle.sat_rows.specs.RowSizes.{AreNarrowWith, AreNarrow, IsNearEpoch}
 use Rattle.usable_sats.specs.Usability.{Sighting, HaveValue, ArePlausible, IsUsable}
+use Rattle.sat_rows.specs.declared.bases.Base.{Base}
 use Rattle.sat_rows.specs.declared.lines.SatLine.{SatLine}
 use Rattle.sat_rows.specs.declared.lines.SatLine.TheVariants.{Usable, Skipped}
 
@@ -108,9 +109,9 @@ module _ (a : Sighting) (codes : Codes) (el : Elements) (known : IsKnownBy a cod
       let e = elements_one a u known.usable ∙ known.el_is in
       λ i. record { system = a.system; tag = a.tag; codes = c i; el = e i }
 
-  pub known_holds : (delays : Delays) (declared : ℤ × ℤ) (root : GridBox) (row : Row) → HoldsAllowed (AreValues delays declared (record { system = a.system; tag = a.tag; codes = codes; el = el })) root row
-      → HoldsAllowed (IsChainAt a delays declared) root row
-  known_holds delays declared root row holds p c inside chain = holds p c inside (subst (λ (seen : Observed). AreValues delays declared seen p c) (known_observed chain.usable) chain.are)
+  pub known_comes : (delays : Delays) (declared : ℤ × ℤ) (base : Base) → ((p : Pos) (c : Chain) → AreValues delays declared (record { system = a.system; tag = a.tag; codes = codes; el = el }) p c → ComesFrom delays base p c)
+      → (p : Pos) (c : Chain) → IsChainAt a delays declared p c → ComesFrom delays base p c
+  known_comes delays declared base comes p c chain = comes p c (subst (λ (seen : Observed). AreValues delays declared seen p c) (known_observed chain.usable) chain.are)
 
 -- ---- the declared error
 

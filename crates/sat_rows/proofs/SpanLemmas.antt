@@ -89,6 +89,12 @@ span_holds x span n e f h = rw (e, f) h
 pub span_small : (m n w : ℕ) (x : Exact) (span : Span) → span.lo ≡ x.lo → span.hi ≡ x.hi → m ≤ n → HasEnds m w x → IsSmall n span
 span_small m n w x span e f k h = record { lo = rw e (larger m n x.lo k h.low); hi = rw f (larger m n x.hi k h.high) }
 
+pub span_width : (w : ℕ) (x : Exact) (span : Span) → span.lo ≡ x.lo → span.hi ≡ x.hi → (x.hi -ℤ x.lo) ≤ℤ pos w → (span.hi -ℤ span.lo) ≤ℤ pos w
+span_width w x span e f h = rw (e, f) h
+
+pub span_place : (span : Span) → IsSmall (56 * 10 ^ 12) span → IsSmall (60 * 10 ^ 12) span
+span_place span s = record { lo = larger (56 * 10 ^ 12) (60 * 10 ^ 12) span.lo (lit≤ tt) s.lo; hi = larger (56 * 10 ^ 12) (60 * 10 ^ 12) span.hi (lit≤ tt) s.hi }
+
 pub grown_within : (by : ℤ) (span grown : Span) → GrowsWithin by span → grown.lo ≡ span.lo -ℤ by → grown.hi ≡ span.hi +ℤ by → IsPlaceSize grown.lo × IsPlaceSize grown.hi
 grown_within by span grown g e f = (rw e g.low, rw f g.high)
 

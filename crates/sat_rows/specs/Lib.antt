@@ -8,3 +8,4 @@ pub mod ChainLemmas
 pub mod Laws
 pub mod RowSizes
 pub mod Growth
+pub mod Bases

@@ -1,16 +1,18 @@
 //! The rows of an epoch.
 
-ghost use Rattle.std.specs.Prelude.{◌≡◌, IfOk};
+ghost use Rattle.std.specs.Prelude.{◌≡◌, Some, IfOk, IfErr};
 ghost use Rattle.grid_model.specs.Boxes.{grid_box};
 ghost use Rattle.grid_model.specs.SearchBoxes.{IsSearchBox};
+ghost use Rattle.sat_rows.specs.Bases.{IsBaseOf};
 ghost use Rattle.sat_rows.specs.OwnRows.{IsOwnLine, IsSmallLine, AreLinesOf, AreSmall, usable_in};
 ghost use Rattle.sat_rows.specs.OwnRows.{usable_line};
 ghost use Rattle.sat_rows.specs.Sources.{gps_meaning, meaning_by};
 
+use crate::bases::{Base, base_of};
 use crate::lines::{EpochRows, SatLine};
-use crate::spans::row_of;
+use crate::spans::renewed;
 use error_bounds::Settings;
-use gnss_model::Signal;
+use gnss_model::{Signal, Skip};
 use grid_model::{Box3, NoMemory};
 use rinex_nav::Nav;
 use rinex_obs::{ObsEpoch, SatObs};
@@ -77,20 +79,37 @@ fn line_of(
         (grid_box root.now) epoch.now.tag seen.now result }
     ensures small { IsSmallLine result }
 {
-    match judge_satellite(seen, epoch, nav, settings, galileo, root) {
-        Judgement::Usable { codes, elements } => {
-            let declared = settings.bound_of(seen.sat);
-            let delays = settings.delays;
-            let (system, _) = use_of(seen.sat, settings, galileo);
-            let row = row_of(
-                system, seen.sat, epoch.tag, &codes, &elements, declared, delays, root,
-            );
-            SatLine::Usable(row)
-        }
-        Judgement::Skipped(skip) => SatLine::Skipped {
+    match base_in(seen, epoch, nav, settings, root, galileo) {
+        Ok(base) => SatLine::Usable(renewed(&base, settings.delays, root)),
+        Err(skip) => SatLine::Skipped {
             sat: seen.sat,
             skip,
         },
+    }
+}
+
+/// The base of a satellite that is usable in the search box, or why it isn't.
+fn base_in(
+    seen: &SatObs,
+    epoch: &ObsEpoch,
+    nav: &Nav,
+    settings: &Settings,
+    root: &Box3,
+    galileo: &Option<Signal>,
+) -> Result<Base, Skip>
+    requires root { IsSearchBox (grid_box root.now) }
+    ensures base { IfOk result (λ base. IsBaseOf (meaning_by galileo.now nav.now settings.now)
+        (grid_box root.now) epoch.now.tag seen.now base) }
+    ensures skip { IfErr result (λ skip. (meaning_by galileo.now nav.now settings.now).judged
+        (grid_box root.now) epoch.now.tag seen.now (Some skip)) }
+{
+    match judge_satellite(seen, epoch, nav, settings, galileo, root) {
+        Judgement::Usable { codes, elements } => {
+            let declared = settings.bound_of(seen.sat);
+            let (system, _) = use_of(seen.sat, settings, galileo);
+            Ok(base_of(system, seen.sat, epoch.tag, &codes, &elements, declared))
+        }
+        Judgement::Skipped(skip) => Err(skip),
     }
 }
 

@@ -2,6 +2,7 @@
 //! a satellite at every grid point of the search box, or why the satellite isn't used.
 #![tactic(auto)]
 
+mod bases;
 mod bounds;
 mod epochs;
 mod gps;
@@ -14,9 +15,11 @@ mod source;
 mod span_tests;
 mod spans;
 
+pub use bases::Base;
 pub use elevation_mapping::mapped;
 pub use epochs::{rows, rows_by};
 pub use gps::GpsRows;
 pub use growth::grown;
 pub use lines::{EpochRows, SatLine};
 pub use source::RowSource;
+pub use spans::renewed;

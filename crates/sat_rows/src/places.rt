@@ -1,7 +1,7 @@
 //! The satellite's place when it sent, and as seen from a box.
 
 ghost use Rattle.std.specs.Prelude.{ℕ, ◌≡◌, ◌*◌, ◌^◌, ℤ, pos, ◌-ℤ◌, ◌≤ℤ◌, true};
-ghost use Rattle.broadcast_orbit.specs.OrbitSizes.{time_width};
+ghost use Rattle.broadcast_orbit.specs.OrbitSizes.{IsOrbitDistance, time_width};
 ghost use Rattle.elevation_mapping.specs.Places.{IsFarFromPlace};
 ghost use Rattle.fix_interval.specs.Places.{HoldsPlace, PlaceEnds};
 ghost use Rattle.earth_rotation.specs.TurnSizes.{near_reach, narrow_width, reach_after};
@@ -23,27 +23,26 @@ use grid_model::Box3;
 use sat_clock::motion_of;
 
 /// Every place of the satellite when the signal was sent.
-fn sent_place(el: &Elements, t: Exact, system: System) -> Place
+pub(crate) fn sent_place(el: &Elements, t: Exact, system: System) -> Place
     requires near { IsNearOrbit el.now t.lo t.hi }
     requires width { (t.hi -ℤ t.lo) ≤ℤ pos time_width }
     ensures holds { (n time x y z : ℤ) → MeanMotionOf system el.now n → Holds t time
         → OrbitChain el.now n time x y z → HoldsPlace result x y z }
     ensures ends { PlaceEnds near_reach narrow_width result }
+    ensures distance { (x y z : ℤ) → HoldsPlace result x y z → IsOrbitDistance x y z }
 {
     place(el, motion_of(el, system), t)
 }
 
 /// The same as seen from the points of the box, which are at least 5,000 km away.
-pub(crate) fn seen_place(el: &Elements, t: Exact, root: &Box3, system: System) -> Place
-    requires near { IsNearOrbit el.now t.lo t.hi }
-    requires width { (t.hi -ℤ t.lo) ≤ℤ pos time_width }
-    requires root { IsSearchBox (grid_box root.now) }
-    ensures holds { (p : Pos) (n time x y z tx ty : ℤ) (r : ℕ)
-        → box_holds (grid_box root.now) p ≡ true → MeanMotionOf system el.now n → Holds t time
-        → OrbitChain el.now n time x y z → Turn p x y z tx ty r → HoldsPlace result tx ty z }
-    ensures ends { PlaceEnds (reach_after near_reach) (spare_of (grid_box root.now)) result }
-    ensures far { IsFarFromPlace (5 * 10 ^ 12) result (grid_box root.now) }
+pub(crate) fn seen_place(sent: Place, part: &Box3) -> Place
+    requires ends { PlaceEnds near_reach narrow_width sent }
+    requires distance { (x y z : ℤ) → HoldsPlace sent x y z → IsOrbitDistance x y z }
+    requires part { IsSearchBox (grid_box part.now) }
+    ensures holds { (p : Pos) (x y z tx ty : ℤ) (r : ℕ) → box_holds (grid_box part.now) p ≡ true
+        → HoldsPlace sent x y z → Turn p x y z tx ty r → HoldsPlace result tx ty z }
+    ensures ends { PlaceEnds (reach_after near_reach) (spare_of (grid_box part.now)) result }
+    ensures far { IsFarFromPlace (5 * 10 ^ 12) result (grid_box part.now) }
 {
-    let unturned = sent_place(el, t, system);
-    turned(unturned, root)
+    turned(sent, part)
 }

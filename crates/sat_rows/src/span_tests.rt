@@ -4,12 +4,13 @@ ghost use Rattle.grid_model.specs.SearchBoxes.{IsSearchBox};
 ghost use Rattle.gnss_model.specs.Delays.{AreDelays};
 ghost use Rattle.gnss_model.specs.declared.systems.System.TheVariants.{Gps};
 ghost use Rattle.usable_sats.specs.Measured.{codes_of};
+ghost use Rattle.sat_rows.specs.Bases.{IsNarrowBase};
 ghost use Rattle.sat_rows.specs.OwnRows.{IsSmallRow};
 ghost use Rattle.sat_rows.specs.RowSizes.{AreNarrow};
 ghost use Rattle.usable_sats.specs.Usability.{ArePlausible};
 
-use crate::spans::row_of;
-use crate::{grown, mapped};
+use crate::bases::{Base, base_of};
+use crate::{grown, mapped, renewed};
 use elevation_mapping::is_far_from_origin;
 use fix_interval::{Exact, Place};
 use gnss_model::{Delays, Elements, Layer, Sat, System};
@@ -110,16 +111,8 @@ fn seen_by(codes: &Measured) -> Row
     requires narrow { AreNarrow (codes_of codes.now) }
     ensures { IsSmallRow result }
 {
-    row_of(
-        System::Gps,
-        SAT,
-        TAG,
-        codes,
-        &circle(),
-        ERROR,
-        NONE,
-        &around(),
-    )
+    let base = base_of(System::Gps, SAT, TAG, codes, &circle(), ERROR);
+    renewed(&base, NONE, &around())
 }
 
 fn holds(span: Span, n: i64) -> bool {
@@ -161,16 +154,8 @@ fn seen_through(rt: &impl Abort, delays: Delays) -> Row
     assert!(rt; is_far_from_origin(&root), "high enough");
     let codes = Measured::Single(exact(RANGE));
     let none = Span { lo: 0, hi: 0 };
-    row_of(
-        System::Gps,
-        SAT,
-        TAG,
-        &codes,
-        &circle(),
-        none,
-        delays,
-        &root,
-    )
+    let base = base_of(System::Gps, SAT, TAG, &codes, &circle(), none);
+    renewed(&base, delays, &root)
 }
 
 #[test]
@@ -229,6 +214,134 @@ fn the_mapping_of_a_satellite_on_the_horizon(rt: HostRuntime) {
     let found = mapped(place, &part, Layer::Troposphere);
     assert!(rt; 223_773_000_000_000_000 <= found.lo, "no less");
     assert!(rt; found.hi <= 223_776_000_000_000_000, "no more");
+}
+
+/// The base of a satellite that was 27,040 km from the earth's centre at the longitude 0 when it
+/// sent.
+fn sent_over_the_equator() -> Base
+    ensures { IsNarrowBase result }
+{
+    let codes = Measured::Dual(exact(RANGE), exact(RANGE));
+    base_of(System::Gps, SAT, TAG, &codes, &circle(), ERROR)
+}
+
+/// A search box of 20 km at the longitude of 45 degrees.
+fn root() -> Box3
+    ensures { IsSearchBox (grid_box result) }
+{
+    Box3 {
+        lo: Pos {
+            x: 4_500_000_000_000,
+            y: 4_500_000_000_000,
+            z: -10_000_000_000,
+        },
+        hi: Pos {
+            x: 4_520_000_000_000,
+            y: 4_520_000_000_000,
+            z: 10_000_000_000,
+        },
+    }
+}
+
+/// The cube of 2 m in its low corner.
+fn low_part() -> Box3
+    ensures { IsSearchBox (grid_box result) }
+{
+    Box3 {
+        lo: Pos {
+            x: 4_500_000_000_000,
+            y: 4_500_000_000_000,
+            z: -10_000_000_000,
+        },
+        hi: Pos {
+            x: 4_500_002_000_000,
+            y: 4_500_002_000_000,
+            z: -9_998_000_000,
+        },
+    }
+}
+
+/// The point of its high corner.
+fn high_part() -> Box3
+    ensures { IsSearchBox (grid_box result) }
+{
+    let corner = Pos {
+        x: 4_520_000_000_000,
+        y: 4_520_000_000_000,
+        z: 10_000_000_000,
+    };
+    Box3 {
+        lo: corner,
+        hi: corner,
+    }
+}
+
+/// What is seen of the satellite from a point, in um: where its place is turned to, and the ends of
+/// its error by delays from 2 m to 2.5 m at the zenith and from 0 to 10 m at the vertical.
+struct View {
+    y: i64,
+    low_end: i64,
+    high_end: i64,
+}
+
+/// From the low corner the signal is under way for 22,984,844,149,618 um. The sine of the elevation
+/// is 0.554977, so the delays are 1.797847 and 1.626235 times as long as straight up.
+const FROM_LOW: View = View {
+    y: -151_175_379,
+    low_end: 3_594_693,
+    high_end: 20_758_964,
+};
+
+/// From the high corner it is for 22,969,159,011,523 um. The sine is 0.554125, the delays are
+/// 1.800594 and 1.628065 times as long.
+const FROM_HIGH: View = View {
+    y: -151_072_215,
+    low_end: 3_600_189,
+    high_end: 20_784_134,
+};
+
+/// The row over a part of the root.
+fn seen_from(rt: &impl Abort, part: &Box3) -> Row
+    requires { IsSearchBox (grid_box part.now) }
+{
+    assert!(rt; is_far_from_origin(part), "high enough");
+    let delays = Delays {
+        zenith: Some(Span {
+            lo: 2_000_000,
+            hi: 2_500_000,
+        }),
+        vertical: Some(Span {
+            lo: 0,
+            hi: 10_000_000,
+        }),
+    };
+    let row = renewed(&sent_over_the_equator(), delays, part);
+    assert!(rt; holds(row.x, 27_039_999_999_578), "0.4 mm less than sent");
+    assert!(rt; holds(row.z, 0), "over the equator");
+    assert!(rt; holds(row.range, 20_985_472_060_000), "the range");
+    row
+}
+
+/// Whether the row's spans hold the turned place, the low and the high end of the error.
+fn sees(row: &Row, view: &View) -> (bool, bool, bool) {
+    (
+        holds(row.y, view.y),
+        holds(row.low_bounds(), view.low_end),
+        holds(row.high_bounds(), view.high_end),
+    )
+}
+
+#[test]
+fn rows_over_a_search_box_and_its_parts(rt: HostRuntime) {
+    let all = (true, true, true);
+    let none = (false, false, false);
+    let whole = seen_from(&rt, &root());
+    let low = seen_from(&rt, &low_part());
+    let high = seen_from(&rt, &high_part());
+    for (row, from_low, from_high) in [(whole, all, all), (low, all, none), (high, none, all)] {
+        assert_eq!(rt; sees(&row, &FROM_LOW), from_low, "from the low corner");
+        assert_eq!(rt; sees(&row, &FROM_HIGH), from_high, "from the high corner");
+    }
 }
 
 #[test]

@@ -11,3 +11,6 @@ returns-clause-ends c =
     let w = c.requires.width in
     let e = c.place.ensures in
     orbit_ends c.place.result (e.distance w) (e.x_width w) (e.y_width w) (e.z_width w)
+
+pub returns-clause-distance : goal.returns-clause-distance
+returns-clause-distance c x y z held = c.place.ensures.distance c.requires.width x y z held.x_held held.y_held held.z_held

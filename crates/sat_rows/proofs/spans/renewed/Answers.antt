@@ -1,12 +1,28 @@
-use Rattle.std.proofs.Common.{rules, ◌^◌, ◌*◌, FitsSigned, lit≤, subst, sym}
-use Rattle.std.specs.Int.{w64, w128}
-use Rattle.std.specs.Prelude.{Bool}
+use Rattle.std.proofs.Common.{rules, ◌^◌, ◌*◌, FitsSigned, lit≤}
+use Rattle.std.specs.Int.{w64}
 use Rattle.std.proofs.lemmas.Int.{to_z-of_z}
 use Rattle.earth_rotation.specs.TurnSizes.{near_reach, reach_after}
-use Rattle.gnss_model.specs.ClockChain.{ClockChainOf}
 use Rattle.grid_model.proofs.ProductLemmas.{larger}
-use Rattle.sat_rows.proofs.SpanLemmas.{span_holds, span_small, error_size, paired}
-use Rattle.sat_rows.proofs.spans.row_of.Goals as goal
+use Rattle.sat_rows.proofs.SpanLemmas.{span_holds, span_small, span_place, error_size, paired}
+use Rattle.sat_rows.proofs.spans.renewed.Goals as goal
+
+pub returns-clause-holds : goal.returns-clause-holds
+returns-clause-holds c p chain inside from =
+    let b = c.bounds_over-bounds.result in
+    let least_lo : FitsSigned w64 b.low.lo = search rules in
+    let greatest_lo : FitsSigned w64 b.low.hi = search rules in
+    let least_hi : FitsSigned w64 b.high.lo = search rules in
+    let greatest_hi : FitsSigned w64 b.high.hi = search rules in
+    let at = c.seen_place-place.ensures.holds p from.sent_x from.sent_y chain.z chain.x chain.y chain.range inside from.sent_in from.turn in
+    let ends = c.bounds_over-bounds.ensures.holds p chain inside at from.turn.range_is from.bound in
+    record {
+      x = span_holds c.seen_place-place.result.x c.span_of.result chain.x c.span_of.ensures.low c.span_of.ensures.high at.x_held;
+      y = span_holds c.seen_place-place.result.y c.span_of-2.result chain.y c.span_of-2.ensures.low c.span_of-2.ensures.high at.y_held;
+      z = span_holds c.seen_place-place.result.z c.span_of-3.result chain.z c.span_of-3.ensures.low c.span_of-3.ensures.high at.z_held;
+      corrected = from.corrected;
+      lo = simp to_z-of_z ends.lo;
+      hi = simp to_z-of_z ends.hi;
+    }
 
 pub span_of-requires-2-clause-low_size : goal.span_of-requires-2-clause-low_size
 span_of-requires-2-clause-low_size c = larger (reach_after near_reach) (60 * 10 ^ 12) _ (lit≤ tt) c.seen_place-place.ensures.ends.y_ends.low
@@ -40,7 +56,7 @@ invariant_of-result-2 c =
     let x = span_small (reach_after near_reach) (60 * 10 ^ 12) _ c.seen_place-place.result.x c.span_of.result c.span_of.ensures.low c.span_of.ensures.high (lit≤ tt) e.x_ends in
     let y = span_small (reach_after near_reach) (60 * 10 ^ 12) _ c.seen_place-place.result.y c.span_of-2.result c.span_of-2.ensures.low c.span_of-2.ensures.high (lit≤ tt) e.y_ends in
     let z = span_small (reach_after near_reach) (60 * 10 ^ 12) _ c.seen_place-place.result.z c.span_of-3.result c.span_of-3.ensures.low c.span_of-3.ensures.high (lit≤ tt) e.z_ends in
-    let range = span_small (56 * 10 ^ 12) (60 * 10 ^ 12) _ c.corrected_range.result c.span_of-4.result c.span_of-4.ensures.low c.span_of-4.ensures.high (lit≤ tt) c.corrected_range.ensures.ends in
+    let range = span_place c.args.base.now.range c.requires.base.range in
     record {
       x_within = (x.lo, x.hi);
       y_within = (y.lo, y.hi);
@@ -50,30 +66,6 @@ invariant_of-result-2 c =
       sure_within = simp to_z-of_z (error_size b.low.hi low.hi, error_size b.high.lo high.lo);
       low_ordered = simp to_z-of_z b.low.ordered;
       high_ordered = simp to_z-of_z b.high.ordered;
-    }
-
-pub returns-clause-holds : goal.returns-clause-holds
-returns-clause-holds c p chain inside (value, bound) =
-    let b = c.bounds_over-bounds.result in
-    let least_lo : FitsSigned w64 b.low.lo = search rules in
-    let greatest_lo : FitsSigned w64 b.low.hi = search rules in
-    let least_hi : FitsSigned w64 b.high.lo = search rules in
-    let greatest_hi : FitsSigned w64 b.high.hi = search rules in
-    let el = c.args.el.now in
-    let tag : FitsSigned w128 c.args.tag = c.ranges.tag in
-    let pr = c.pseudorange-range.ensures.holds value.pr value.pr_is in
-    let clock = subst (λ (one : Bool). ClockChainOf c.args.system el one value.n value.tsv value.dt value.t) (sym c.of_one_code.ensures) value.clock in
-    let sent = c.clock-sending.ensures.holds value.pr value.tsv value.n value.dt value.t pr (simp to_z-of_z value.tsv_is) value.n_is clock in
-    let at = c.seen_place-place.ensures.holds p value.n value.t value.sent_x value.sent_y chain.z chain.x chain.y chain.range inside value.n_is sent.1 value.orbit value.turn in
-    let range = c.corrected_range.ensures.holds value.pr value.dt chain.corrected pr sent.0 value.corrected_is in
-    let ends = c.bounds_over-bounds.ensures.holds p chain inside at value.turn.range_is bound in
-    record {
-      x = span_holds c.seen_place-place.result.x c.span_of.result chain.x c.span_of.ensures.low c.span_of.ensures.high at.x_held;
-      y = span_holds c.seen_place-place.result.y c.span_of-2.result chain.y c.span_of-2.ensures.low c.span_of-2.ensures.high at.y_held;
-      z = span_holds c.seen_place-place.result.z c.span_of-3.result chain.z c.span_of-3.ensures.low c.span_of-3.ensures.high at.z_held;
-      corrected = span_holds c.corrected_range.result c.span_of-4.result chain.corrected c.span_of-4.ensures.low c.span_of-4.ensures.high range;
-      lo = simp to_z-of_z ends.lo;
-      hi = simp to_z-of_z ends.hi;
     }
 
 pub returns-clause-bounds_tight : goal.returns-clause-bounds_tight
@@ -94,7 +86,7 @@ returns-clause-plain c none =
     let greatest_hi : FitsSigned w64 b.high.hi = search rules in
     let low = c.bounds_over-bounds.ensures.low_plain none in
     let high = c.bounds_over-bounds.ensures.high_plain none in
-    record { err = simp to_z-of_z (paired _ _ c.args.declared low.0 high.1); sure = simp to_z-of_z (paired _ _ c.args.declared low.1 high.0) }
+    record { err = simp to_z-of_z (paired _ _ c.args.base.now.err low.0 high.1); sure = simp to_z-of_z (paired _ _ c.args.base.now.err low.1 high.0) }
 
 pub returns-clause-small : goal.returns-clause-small
 returns-clause-small c =
@@ -110,7 +102,7 @@ returns-clause-small c =
       x = span_small (reach_after near_reach) (56 * 10 ^ 12) _ c.seen_place-place.result.x c.span_of.result c.span_of.ensures.low c.span_of.ensures.high (lit≤ tt) e.x_ends;
       y = span_small (reach_after near_reach) (56 * 10 ^ 12) _ c.seen_place-place.result.y c.span_of-2.result c.span_of-2.ensures.low c.span_of-2.ensures.high (lit≤ tt) e.y_ends;
       z = span_small (reach_after near_reach) (56 * 10 ^ 12) _ c.seen_place-place.result.z c.span_of-3.result c.span_of-3.ensures.low c.span_of-3.ensures.high (lit≤ tt) e.z_ends;
-      range = span_small (56 * 10 ^ 12) (56 * 10 ^ 12) _ c.corrected_range.result c.span_of-4.result c.span_of-4.ensures.low c.span_of-4.ensures.high (lit≤ tt) c.corrected_range.ensures.ends;
+      range = c.requires.base.range;
       err = record { lo = simp to_z-of_z low.lo; hi = simp to_z-of_z high.hi };
       sure_lo = simp to_z-of_z low.hi;
       sure_hi = simp to_z-of_z high.lo;
