@@ -1,7 +1,7 @@
 -- Boxes of which the true ranges make clear that nothing in them fits, or that all of it does: by a
 -- margin, since the rows that a paving works with are wider than what a source allows.
 use Rattle.std.specs.Prelude.{ℕ, zero, suc, ◌*◌, ◌≡◌, ◌⊎◌, ℤ, pos, ◌+ℤ◌, ◌-ℤ◌, ◌≤ℤ◌}
-use Rattle.std.specs.Prelude.{◌+◌, true, List, [], ◌∷◌, Option, Some}
+use Rattle.std.specs.Prelude.{◌+◌, true, List, [], ◌∷◌, Some}
 use Rattle.epoch_selection.specs.Searches.{Search}
 use Rattle.rinex_obs.specs.declared.obs.ObsEpoch.{ObsEpoch}
 use Rattle.rinex_obs.specs.declared.obs.SatObs.{SatObs}

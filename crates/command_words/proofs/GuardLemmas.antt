@@ -1,5 +1,5 @@
 -- Words of `guard` ask for it.
-use Rattle.std.proofs.Common.{◌≡◌, ℕ, false, List, [], ◌∷◌, Option, Some, None, codes, refl, ap, ◌∙◌}
+use Rattle.std.proofs.Common.{◌≡◌, List, [], ◌∷◌, Option, Some, None, codes, refl, ap, ◌∙◌}
 use Rattle.std.specs.Prelude.{Bool, if◌then◌else◌}
 use Rattle.clap.specs.Kinds.{Kinds, or_else}
 use Rattle.clap.specs.Walk.{Text, Walk, option, nothing_held, settled, walked, is_empty, plain_word}

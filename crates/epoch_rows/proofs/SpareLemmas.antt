@@ -1,5 +1,5 @@
 -- How wide a row over a root may be.
-use Rattle.std.proofs.Common.{ℕ, ◌+◌, ◌*◌, ◌^◌, ◌≤◌, refl, arith}
+use Rattle.std.proofs.Common.{ℕ, ◌*◌, ◌^◌, ◌≤◌, refl, arith}
 use Rattle.std.specs.Prelude.{ℤ, ◌≤ℤ◌, nat_abs, Option, None, Some}
 use Rattle.std.proofs.lemmas.Nat.{mul-le}
 use Rattle.std.proofs.lemmas.Int.{ints}

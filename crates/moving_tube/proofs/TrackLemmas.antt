@@ -1,16 +1,12 @@
 -- A receiver that fits in each paved epoch, and comes no farther than its reach, is found in each epoch.
-use Rattle.std.proofs.Common.{◌≡◌, ℕ, Bool, true, false, List, [], ◌∷◌, map, refl, sym, ap, subst, ◌∙◌, Option, None, Some}
+use Rattle.std.proofs.Common.{◌≡◌, ℕ, Bool, true, false, List, [], ◌∷◌, sym, subst, Option, None, Some}
 use Rattle.std.specs.Prelude.{ℤ}
 use Rattle.std.specs.List.{AllByRecursion}
 use Rattle.grid_model.specs.Boxes.{GridBox, box_holds}
-use Rattle.sat_model.specs.Cover.{SomeKeeps}
 use Rattle.sat_model.specs.Fold.{pieces}
-use Rattle.sat_model.specs.Logs.{Block}
 use Rattle.grid_model.specs.declared.boxes.Pos.{Pos}
-use Rattle.paving_log.specs.CoverBoxes.{kept_parts, cover_of}
-use Rattle.moving_tube.specs.Hulls.{hull_of}
 use Rattle.moving_tube.specs.Reach.{reach_of}
-use Rattle.moving_tube.specs.Roots.{kept_with, kept_of, Before, root_after, root_for, reached_box}
+use Rattle.moving_tube.specs.Roots.{kept_with, Before, root_after, root_for, reached_box}
 use Rattle.moving_tube.specs.Tracks.{Stay, Left, IsReached, GoesOn, IsTrajectory, Visit, behind, AreRooted, root_with, IsKeptWith, AreKept, IsFoundWith, AreFound}
 use Rattle.moving_tube.proofs.HoldLemmas.{holds_reached}
 use Rattle.moving_tube.proofs.HullLemmas.{HullHolds, kept_held}

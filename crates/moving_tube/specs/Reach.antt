@@ -1,5 +1,5 @@
 -- How far a receiver of a declared greatest speed comes between two epochs.
-use Rattle.std.specs.Prelude.{◌≡◌, ℕ, ◌*◌, ◌^◌, ◌≤◌, min, ℤ, ◌-ℤ◌, unsigned_abs}
+use Rattle.std.specs.Prelude.{ℕ, ◌*◌, ◌^◌, ◌≤◌, min, ℤ, ◌-ℤ◌, unsigned_abs}
 use Rattle.std.specs.Int.{div_ceil}
 use Rattle.grid_model.specs.Squares.{sum_of_squares}
 use Rattle.grid_model.specs.Amounts.{square}

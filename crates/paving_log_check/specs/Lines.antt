@@ -1,6 +1,6 @@
 -- A log's satellite lines against the lines of the epoch's satellites that the files give.
 use Rattle.std.specs.Prelude.{◌≡◌, ℕ, ◌<◌, ◌⊎◌, ◌≤ℤ◌, Bool, true, false, List, [], ◌∷◌, length}
-use Rattle.std.specs.Prelude.{Option, None, Some, slice_get}
+use Rattle.std.specs.Prelude.{Some, slice_get}
 use Rattle.grid_model.specs.Boxes.{Side, span_side}
 use Rattle.sat_model.specs.Fitting.{low_bounds, high_bounds}
 use Rattle.sat_model.specs.Relaxed.{ends}

@@ -1,7 +1,7 @@
 -- Why a row is too narrow (53): one of its spans doesn't hold that of an own row. So it isn't wide
 -- enough to hold all numbers within W of a value that the equations allow, whichever this is; and a
 -- span of the ends of the error those within G of such an end.
-use Rattle.std.specs.Prelude.{◌≡◌, ℕ, ℤ, pos, ◌+ℤ◌, ◌-ℤ◌, ◌≤ℤ◌, true, List, [], ◌∷◌, Option, None}
+use Rattle.std.specs.Prelude.{◌≡◌, ℕ, ℤ, pos, ◌+ℤ◌, ◌-ℤ◌, ◌≤ℤ◌, true, List, [], ◌∷◌, None}
 use Rattle.std.specs.Prelude.{Some, Contains, slice_get}
 use Rattle.epoch_selection.specs.Searches.{Search}
 use Rattle.rinex_obs.specs.declared.obs.SatObs.{SatObs}

@@ -1,5 +1,5 @@
 -- The first fault of a navigation file comes of the lines up to it.
-use Rattle.std.proofs.Common.{◌≡◌, ℕ, Bool, Option, None, Some, zero, suc, ◌+◌, ◌≤◌, ◌∙◌, List, [], ◌∷◌, ◌++◌, take, refl, ap, sym, subst, inl, inr, arith, Result, Ok, Err, IfErr}
+use Rattle.std.proofs.Common.{◌≡◌, ℕ, Bool, Option, zero, suc, ◌+◌, ◌≤◌, ◌∙◌, List, [], ◌∷◌, ◌++◌, take, refl, ap, sym, subst, inl, inr, arith, Result, Ok, Err, IfErr}
 use Rattle.rinex_text.specs.Bodies.{counted}
 use Rattle.rinex_text.specs.Faults.{where_holds, gives}
 use Rattle.rinex_text.specs.Headers.{Behind, header_from}

@@ -1,12 +1,9 @@
 -- A record from what its lines give.
-use Rattle.std.proofs.Common.{◌≡◌, ◌⊎◌, refl, ap, inl, inr, ◌∙◌, Option, None, Some, Result, Ok, option_map}
-use Rattle.std.specs.Prelude.{ℤ, Bool}
-use Rattle.exact_decimal.specs.declared.decimal.Decimal.{Decimal}
+use Rattle.std.proofs.Common.{◌≡◌, ◌⊎◌, ap, inl, inr, ◌∙◌, Option, None, Some, Ok, option_map}
 use Rattle.rinex_text.specs.Faults.{where_holds, gives}
 use Rattle.rinex_text.specs.declared.fault.Refusal.{Refusal}
-use Rattle.rinex_nav.specs.Fields.{Two, Three, Four, is_zero}
 use Rattle.rinex_nav.specs.Reading.{plain_record}
-use Rattle.rinex_nav.specs.Records.{Clock, Broadcast, broadcast}
+use Rattle.rinex_nav.specs.Records.{Broadcast}
 use Rattle.rinex_nav.specs.declared.record.NavRecord.{NavRecord}
 
 -- the record, or none where it isn't kept

@@ -1,6 +1,6 @@
 -- What the data of a Galileo record come from. Its bits, from the lowest: 0 I/NAV on E1, 1 F/NAV on
 -- E5a, 2 I/NAV on E5b; 8 clock for E1 and E5a, 9 clock for E1 and E5b (RINEX 3.05, table A8).
-use Rattle.std.specs.Prelude.{ℕ, ◌≡◌, ◌*◌, ◌/◌, ◌%◌, ◌^◌, ◌≤◌, ℤ, pos, ◌*ℤ◌}
+use Rattle.std.specs.Prelude.{ℕ, ◌≡◌, ◌*◌, ◌/◌, ◌%◌, ◌^◌, ◌≤◌, pos, ◌*ℤ◌}
 use Rattle.exact_decimal.specs.Units.{numerator, denominator}
 use Rattle.exact_decimal.specs.declared.decimal.Decimal.{Decimal}
 use Rattle.exact_decimal.specs.declared.unit.Unit.TheVariants.{Length}

@@ -1,18 +1,16 @@
 -- The lines of a header, one behind another.
-use Rattle.std.proofs.Common.{◌≡◌, ℕ, ◌+◌, ◌≤◌, Bool, List, ◌∷◌, length, refl, subst, arith, inl, inr, Option, None, Some, Result, Ok, Err}
+use Rattle.std.proofs.Common.{◌≡◌, ℕ, ◌+◌, Bool, List, ◌∷◌, refl, subst, inl, inr, Option, None, Some, Result, Ok, Err}
 use Rattle.std.proofs.lemmas.Option.{same_Some}
 use Rattle.rinex_text.specs.Faults.{refusal}
 use Rattle.rinex_text.specs.Headers.{IsShort, IsHeaderEnd}
 use Rattle.rinex_text.specs.Lines.{TextLine}
 use Rattle.rinex_text.specs.declared.fault.Fault.{Fault}
-use Rattle.rinex_text.specs.declared.fault.Fault.TheVariants.{NoPosition}
 use Rattle.rinex_text.specs.declared.fault.Refusal.{Refusal}
-use Rattle.grid_model.specs.declared.boxes.Pos.{Pos}
 use Rattle.gnss_model.specs.declared.satellites.Signal.{Signal}
 use Rattle.rinex_obs.specs.declared.sought.Sought.{Sought}
 use Rattle.rinex_obs.specs.Types.{Types}
-use Rattle.rinex_obs.specs.Header.{Coordinates, IsPosition, Header, header_line, CodePlaces, ArePlaces, MayBePlaces, are_both, Wanted, AreWanted, header_end, Start, header_lines}
-use Rattle.rinex_obs.specs.Reading.{IsFound, MayBeFound, AreFoundOf, IsHeader}
+use Rattle.rinex_obs.specs.Header.{Header, header_line, are_both, header_end, Start, header_lines}
+use Rattle.rinex_obs.specs.Reading.{IsFound, MayBeFound, AreFoundOf}
 use Rattle.rinex_obs.specs.declared.found.Found.{Found}
 
 module _ (sought : Sought) (position : Bool) (known : Header) (n : ℕ) (lines more : List TextLine) (line : TextLine) (e : lines ≡ line ∷ more) where

@@ -1,5 +1,5 @@
 -- The line of a satellite, test by test.
-use Rattle.std.proofs.Common.{◌≡◌, ℕ, ◌<◌, Bool, true, false, List, [], ◌∷◌, ◌++◌, length, refl, inl, inr, Option, None, Some, is_some, Ok, Err}
+use Rattle.std.proofs.Common.{◌≡◌, ℕ, ◌<◌, true, false, List, [], ◌∷◌, ◌++◌, length, refl, inl, inr, Option, None, Some, is_some, Ok, Err}
 use Rattle.std.specs.Option.{option_map}
 use Rattle.std.specs.List.{list_all, list_any}
 use Rattle.exact_decimal.specs.declared.decimal.Decimal.{Decimal}
@@ -9,12 +9,10 @@ use Rattle.rinex_text.specs.Counts.{IsNumber}
 use Rattle.rinex_text.specs.Headers.{IsShort}
 use Rattle.rinex_text.specs.Lines.{TextLine}
 use Rattle.rinex_text.specs.declared.fault.Fault.TheVariants as fault
-use Rattle.gnss_model.specs.declared.satellites.Sat.{Sat}
 use Rattle.rinex_obs.specs.Header.{CodePlaces, Wanted, have_both}
-use Rattle.rinex_obs.specs.Epochs.{IsOtherSystem, ArePlacesOf, has_sat, sat_on, field_at, IsObserved, IsSecond, satellite_line}
-use Rattle.rinex_obs.specs.Reading.{code_places, wanted_of}
+use Rattle.rinex_obs.specs.Epochs.{IsOtherSystem, ArePlacesOf, has_sat, field_at, IsObserved, IsSecond, satellite_line}
+use Rattle.rinex_obs.specs.Reading.{code_places}
 use Rattle.rinex_obs.specs.declared.found.Places.{Places}
-use Rattle.rinex_obs.specs.declared.found.WantedPlaces.{WantedPlaces}
 use Rattle.rinex_obs.specs.declared.obs.SatObs.{SatObs}
 
 -- places that are kept are there where those that they stand for are

@@ -1,7 +1,7 @@
 -- What an accepted observation file is as a whole (RINEX 3.05, tables A2 and A3): how its lines are
 -- shared out, and which of them the types, the position, the epochs and their satellites come from.
 -- The readers' definitions go from line to line; these speak of the whole list of lines.
-use Rattle.std.specs.Prelude.{ℕ, zero, suc, ◌≡◌, ◌+◌, ◌-◌, min, Bool, true, false, ◌==◌, nat_le}
+use Rattle.std.specs.Prelude.{ℕ, zero, suc, ◌≡◌, ◌+◌, ◌-◌, min, Bool, true, false, nat_le}
 use Rattle.std.specs.Prelude.{List, [], ◌∷◌, ◌++◌, length, Option, None, Some, Ok, codes}
 use Rattle.std.specs.List.{AllByRecursion, filter, list_all}
 use Rattle.std.specs.Str.{bytes_eq}

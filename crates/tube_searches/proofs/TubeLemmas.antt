@@ -1,13 +1,11 @@
 -- The searches of a tube, one after another.
-use Rattle.std.proofs.Common.{◌≡◌, ℕ, List, [], ◌∷◌, Option, None, Some, inl, inr, refl, sym, ap, subst, ◌∙◌}
-use Rattle.std.specs.Prelude.{ℤ}
+use Rattle.std.proofs.Common.{◌≡◌, ℕ, List, [], ◌∷◌, Option, None, Some, inl, inr, refl, ap, ◌∙◌}
 use Rattle.epoch_selection.specs.Searches.{Search, search_in}
-use Rattle.moving_tube.specs.Hulls.{HullLies}
 use Rattle.moving_tube.specs.Roots.{Before, kept_of, root_for}
 use Rattle.rinex_obs.specs.declared.obs.ObsEpoch.{ObsEpoch}
 use Rattle.grid_model.specs.Boxes.{GridBox}
 use Rattle.sat_model.specs.Logs.{Block}
-use Rattle.tube_searches.specs.Tubes.{TubeValue, with_kept, from_root, searches_from, tube_searches, IsInside, IsOver, IsTaken}
+use Rattle.tube_searches.specs.Tubes.{TubeValue, with_kept, searches_from, tube_searches, IsInside, IsOver, IsTaken}
 
 module _ (speed : ℕ) (search : GridBox) where
   -- without a root there is no search

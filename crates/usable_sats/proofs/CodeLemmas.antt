@@ -1,8 +1,7 @@
 -- The codes of a satellite have one value, and it is in range where their decimals are.
-use Rattle.std.proofs.Common.{◌≡◌, ℕ, arith, rules, refl, sym, ap, subst, ◌∙◌, List, Some, FitsSigned, to_z, of_z}
-use Rattle.std.specs.Prelude.{ℤ, pos, neg_ℤ, ◌-ℤ◌, ◌*ℤ◌, ◌≤ℤ◌, Option, None, IsNone, IsSome}
-use Rattle.std.specs.Int.{w128}
-use Rattle.std.proofs.lemmas.Int.{ints, to_z-of_z}
+use Rattle.std.proofs.Common.{◌≡◌, ℕ, arith, sym, ap, subst, ◌∙◌, List, Some}
+use Rattle.std.specs.Prelude.{pos, ◌≤ℤ◌, Option, None, IsNone, IsSome}
+use Rattle.std.proofs.lemmas.Int.{ints}
 use Rattle.std.proofs.lemmas.Option.{same_Some}
 use Rattle.exact_decimal.specs.Units.{LiesBetween}
 use Rattle.exact_decimal.specs.declared.decimal.Decimal.{Decimal}

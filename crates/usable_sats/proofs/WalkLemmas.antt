@@ -1,5 +1,5 @@
 -- A walk over the places of a satellite's records meets all of them.
-use Rattle.std.proofs.Common.{◌≡◌, ℕ, ◌+◌, ◌<◌, refl, sym, ap, subst, ◌∙◌, true, false, List, [], ◌∷◌, ◌++◌, length, Some, slice_get, append_assoc, ◌≤◌, add-one, drop-cons, drop_of_length-le, drop, get_or}
+use Rattle.std.proofs.Common.{◌≡◌, ℕ, ◌+◌, ◌<◌, refl, sym, ap, subst, ◌∙◌, false, List, [], ◌∷◌, ◌++◌, length, Some, slice_get, append_assoc, ◌≤◌, add-one, drop-cons, drop_of_length-le, drop, get_or}
 use Rattle.std.specs.Prelude.{Option, ℤ}
 use Rattle.std.proofs.lemmas.Bool.{false≢true}
 use Rattle.std.proofs.lemmas.List.{length-append, append-nil}

@@ -1,5 +1,5 @@
 -- What a satellite is judged to be.
-use Rattle.std.specs.Prelude.{◌≡◌, Option, Some}
+use Rattle.std.specs.Prelude.{◌≡◌, Some}
 use Rattle.grid_model.specs.Boxes.{GridBox}
 use Rattle.gnss_model.specs.Pseudorange.{Codes}
 use Rattle.gnss_model.specs.declared.elements.Elements.{Elements}

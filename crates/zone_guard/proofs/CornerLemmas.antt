@@ -1,6 +1,6 @@
 -- The least and the greatest product of a direction and a point of a box: no point goes beyond them,
 -- and a corner has each.
-use Rattle.std.proofs.Common.{◌≡◌, ℕ, ◌+◌, ◌^◌, ◌≤◌, arith, true, refl, subst, to_z, of_z}
+use Rattle.std.proofs.Common.{◌≡◌, ℕ, ◌^◌, ◌≤◌, arith, true, refl, subst, to_z, of_z}
 use Rattle.std.specs.Prelude.{ℤ, ◌+ℤ◌, ◌*ℤ◌, ◌≤ℤ◌, ◌<ℤ◌}
 use Rattle.std.specs.Int.{int_max, int_min, w64, w128}
 use Rattle.std.proofs.lemmas.Int.{ints, clamps, by_lt_z}

@@ -1,4 +1,4 @@
-use Rattle.std.proofs.Common.{◌≡◌, ◌<◌, List, length, arith, inl, refl, sym, ap, subst, ◌∙◌, true, false, MatchOption}
+use Rattle.std.proofs.Common.{◌≡◌, List, arith, inl, refl, sym, subst, ◌∙◌, true, false, MatchOption}
 use Rattle.std.specs.Prelude.{ℤ}
 use Rattle.std.proofs.lemmas.Result.{err_from_is_err_and}
 use Rattle.grid_model.specs.Boxes.{GridBox, grid_box}

@@ -1,4 +1,4 @@
-use Rattle.std.proofs.Common.{◌≡◌, None, drop, map}
+use Rattle.std.proofs.Common.{◌≡◌, drop, map}
 use Rattle.live_boxes.specs.LiveValues.{box_option}
 use Rattle.grid_model.specs.Boxes.{grid_box}
 use Rattle.moving_tube.specs.Hulls.{hull_behind, hull_of}

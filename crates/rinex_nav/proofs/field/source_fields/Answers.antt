@@ -1,4 +1,4 @@
-use Rattle.std.proofs.Common.{arith, inl, inr, refl}
+use Rattle.std.proofs.Common.{arith, inl, inr}
 use Rattle.rinex_nav.proofs.field.source_fields.Goals as goal
 
 pub returns-in_err-idot-clause-none : goal.returns-in_err-idot-clause-none
