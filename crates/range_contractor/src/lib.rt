@@ -16,7 +16,7 @@ mod tree;
 
 pub use contraction::contract;
 pub use laws::trees_hold_rows;
-pub use row_trees::relaxed_tree;
+pub use row_trees::{refresh, relaxed_tree};
 pub use tree::{Leaf, Tree};
 
 #[cfg(test)]

@@ -1,10 +1,11 @@
 //! The tree of an epoch's rows.
 
-ghost use Rattle.std.specs.Prelude.{◌≡◌, ◌<◌, ◌≤◌, length, IfOk};
+ghost use Rattle.std.specs.Prelude.{◌≡◌, ◌<◌, ◌≤◌, ℕ, List, length, map, IfOk};
 ghost use Rattle.grid_model.specs.Rounding.{grain_floor, grain_ceil};
 ghost use Rattle.grid_model.specs.Sizes.{IsPlaceSize};
-ghost use Rattle.sat_model.specs.Trees.{IsWellFormed};
+ghost use Rattle.sat_model.specs.Trees.{IsWellFormed, Sat};
 ghost use Rattle.sat_model.specs.RowTrees.{row_leaf, row_tree};
+ghost use Rattle.sat_model.specs.declared.rows.Row.{Row};
 ghost use Rattle.range_contractor.specs.Views.{leaf_value, tree_value};
 
 use crate::tree::{Leaf, Tree};
@@ -50,4 +51,31 @@ pub fn relaxed_tree<I: Interval>(alloc: Global, rows: &[Row], q: u8) -> Result<T
     }
     let kid = Box::new(alloc, Tree::Relaxed { q, kids })?;
     Ok(Tree::Again { rounds: 2, kid })
+}
+
+/// Puts what these rows say in the place of as many kids.
+fn refill<I: Interval>(kids: &mut Vec<Tree<I>>, rows: &[Row])
+    requires { length kids.old.items ≡ length rows.now }
+    ensures { map (tree_value I.low I.high) kids.new.items
+        ≡ map (λ row. Sat (row_leaf I.GRAIN row)) rows.now }
+{
+    for i in 0..kids.len() {
+        let row = &rows[i];
+        kids[i] = Tree::Sat(leaf_of(row));
+    }
+}
+
+/// Makes the tree of rows that of as many others, in its own memory.
+pub fn refresh<I: Interval>(tree: &mut Tree<I>, rows: &[Row])
+    requires { (q : ℕ) × (before : List Row) × (length before ≡ length rows.now)
+        × (tree_value I.low I.high tree.old ≡ row_tree I.GRAIN before q) }
+    ensures { (q : ℕ) (before : List Row) → length before ≡ length rows.now
+        → tree_value I.low I.high tree.old ≡ row_tree I.GRAIN before q
+        → tree_value I.low I.high tree.new ≡ row_tree I.GRAIN rows.now q }
+{
+    if let Tree::Again { kid, .. } = tree {
+        if let Tree::Relaxed { kids, .. } = &mut **kid {
+            refill(kids, rows);
+        }
+    }
 }

@@ -1,4 +1,4 @@
-ghost use Rattle.std.specs.Prelude.{◌≡◌, pos, ◌≤ℤ◌, IfOk};
+ghost use Rattle.std.specs.Prelude.{◌≡◌, ◌<◌, ◌≤◌, pos, ◌≤ℤ◌, length, IfOk};
 ghost use Rattle.grid_model.specs.Sizes.{IsBoxSize, IsErrorSize, IsPlaceSize};
 ghost use Rattle.sat_model.specs.Trees.{IsWellFormed};
 ghost use Rattle.range_contractor.specs.Views.{tree_value};
@@ -73,6 +73,22 @@ fn shared<I: Interval>(alloc: Global, one: Box3, other: Box3) -> Result<Tree<I>,
     kids.push(Tree::Within(one))?;
     kids.push(Tree::Within(other))?;
     Ok(Tree::All(kids))
+}
+
+/// The tree of rows, made anew for as many others.
+fn anew<I: Interval>(
+    alloc: Global,
+    before: &[Row],
+    rows: &[Row],
+    q: u8,
+) -> Result<Tree<I>, NoMemory>
+    requires many { (q < length rows.now) × (length rows.now ≤ 64) }
+    requires same { length before.now ≡ length rows.now }
+    ensures { IfOk result (λ t. IsWellFormed (tree_value I.low I.high t)) }
+{
+    let mut tree = relaxed_tree(alloc, before, q)?;
+    refresh(&mut tree, rows);
+    Ok(tree)
 }
 
 const HALF_METRE: Span = Span {
@@ -208,6 +224,38 @@ fn one_wrong_satellite(rt: HostRuntime) {
     let all: Tree<Exact> = relaxed_tree(rt.alloc(), &rows, 0).expect(&rt, "memory");
     assert!(rt; contract(&all, &part, clock) == None, "no point by all");
     let but_one: Tree<Exact> = relaxed_tree(rt.alloc(), &rows, 1).expect(&rt, "memory");
+    assert!(rt;
+        contract(&but_one, &part, clock) == Some(part),
+        "all points by three"
+    );
+}
+
+#[test]
+fn a_tree_made_anew_for_other_rows(rt: HostRuntime) {
+    let right = [
+        row(1, ON_X, HALF_METRE),
+        row(2, ON_Y, HALF_METRE),
+        row(3, ON_Z, HALF_METRE),
+        row(4, BETWEEN, HALF_METRE),
+    ];
+    let one_wrong = [
+        row(1, BEYOND, HALF_METRE),
+        row(2, ON_Y, HALF_METRE),
+        row(3, ON_Z, HALF_METRE),
+        row(4, BETWEEN, HALF_METRE),
+    ];
+    let part = slab(-1_000_000, 1_000_000, 900_000);
+    let clock = Span {
+        lo: -1_400_000,
+        hi: 1_400_000,
+    };
+    let wrong: Tree<Exact> = anew(rt.alloc(), &right, &one_wrong, 0).expect(&rt, "memory");
+    assert!(rt; contract(&wrong, &part, clock) == None, "no point by all");
+    let mended: Tree<Exact> = anew(rt.alloc(), &one_wrong, &right, 0).expect(&rt, "memory");
+    assert!(rt; contract(&mended, &part, clock) == Some(part), "all points");
+    let coarse: Tree<Coarse> = anew(rt.alloc(), &one_wrong, &right, 0).expect(&rt, "memory");
+    assert!(rt; contract(&coarse, &part, clock) == Some(part), "all points");
+    let but_one: Tree<Exact> = anew(rt.alloc(), &right, &one_wrong, 1).expect(&rt, "memory");
     assert!(rt;
         contract(&but_one, &part, clock) == Some(part),
         "all points by three"
