@@ -7,9 +7,10 @@ use Rattle.std.specs.Ordering.{nat_cmp}
 use Rattle.std.specs.Cmp.Lexicographic.{slice_cmp}
 use Rattle.std.specs.FinMap as map
 use Rattle.outer_io.specs.declared.shelf.Phase.{Phase}
+use Rattle.outer_io.specs.declared.shelf.Phase.TheVariants.{Closed}
 use Rattle.outer_io.specs.declared.slots.Slot.{Slot}
 use Rattle.outer_io.specs.declared.slots.Slots.{Slots}
-use Rattle.outer_io.specs.Slots.{at, put}
+use Rattle.outer_io.specs.Slots.{all, at, put}
 
 -- files under their names
 abbrev pub Files : Type 0
@@ -38,12 +39,27 @@ pub record Told : Type 0 where
   pub written : ℕ
   pub terms : ShelfTerms
 
--- What is seen of a shelf: what it tells, where it tells anything; what each slot is open for; how
--- often `begin` and `read` have failed, but for a name that is told and missing; and how often
--- `create` and `write` have.
+-- What each slot is open for, and the names for which `begin` and `create` were called, the first
+-- one first, whatever the call answered.
+pub record Openings : Type 0 where
+  pub phases : Slots Phase
+  pub names : List (List ℕ)
+
+-- slots that are closed, and no name yet
+abbrev pub none_opened : Openings
+none_opened = record { phases = all Closed; names = [] }
+
+-- and then the name was opened at the slot, which is open for this since
+abbrev pub opened : Slot → List ℕ → Phase → Openings → Openings
+opened slot name phase o =
+    record { phases = put o.phases slot phase; names = o.names ++ name ∷ [] }
+
+-- What is seen of a shelf: what it tells, where it tells anything; what was opened; how often
+-- `begin` and `read` have failed, but for a name that is told and missing; and how often `create`
+-- and `write` have.
 pub record ShelfState : Type 0 where
   pub told : Option Told
-  pub phases : Slots Phase
+  pub openings : Openings
   pub read_faults : ℕ
   pub write_faults : ℕ
 

@@ -1,8 +1,8 @@
 //! The system's files.
 
 ghost use Rattle.std.specs.Prelude.{◌≡◌, None};
-ghost use Rattle.outer_io.specs.declared.shelf.Phase.{Phase};
 
+use crate::names::Names;
 use crate::{Failed, Phase, Shelf, Slot, Slots};
 use std::fs::{self, Files};
 use std::io::{Read, Write};
@@ -15,14 +15,15 @@ pub struct FileShelf<R: Files> {
     phases: Slots<Phase>,
     read_faults: u64,
     write_faults: u64,
+    names: Names,
 }
 
 impl<R: Files> FileShelf<R> {
-    ghost use Rattle.outer_io.specs.Slots.{all};
+    ghost use Rattle.outer_io.specs.Told.{none_opened};
 
     /// A shelf whose slots are closed, of which no call has failed yet.
     pub fn make(rt: R) -> FileShelf<R>
-        ensures closed { (⟦<FileShelf<R> as Shelf>⟧.state result).phases ≡ all Phase.Closed }
+        ensures openings { (⟦<FileShelf<R> as Shelf>⟧.state result).openings ≡ none_opened }
         ensures read_faults { (⟦<FileShelf<R> as Shelf>⟧.state result).read_faults ≡ 0 }
         ensures write_faults { (⟦<FileShelf<R> as Shelf>⟧.state result).write_faults ≡ 0 }
     {
@@ -38,6 +39,7 @@ impl<R: Files> FileShelf<R> {
             phases: Slots::of_each(Phase::Closed),
             read_faults: 0,
             write_faults: 0,
+            names: Names::none(),
         }
     }
 }
@@ -45,7 +47,7 @@ impl<R: Files> FileShelf<R> {
 impl<R: Files> Shelf for FileShelf<R> {
     ghost state = { λ s. record {
       told = None;
-      phases = s.phases;
+      openings = record { phases = s.phases; names = s.names.names };
       read_faults = s.read_faults;
       write_faults = s.write_faults;
     } };
@@ -55,6 +57,7 @@ impl<R: Files> Shelf for FileShelf<R> {
     ghost reliable = { λ _ _. ⊥ };
 
     fn begin(&mut self, name: &str, slot: Slot) -> Result<(), Failed> {
+        self.names.add(name.as_bytes());
         match fs::open(&self.rt, name) {
             Ok(file) => {
                 self.files.put(slot, Some(file));
@@ -81,6 +84,7 @@ impl<R: Files> Shelf for FileShelf<R> {
     }
 
     fn create(&mut self, name: &str, slot: Slot) -> Result<(), Failed> {
+        self.names.add(name.as_bytes());
         match fs::create(&self.rt, name) {
             Ok(file) => {
                 self.files.put(slot, Some(file));

@@ -12,6 +12,7 @@ mod marks;
 mod memory_files;
 mod memory_shelf;
 mod memory_sink;
+mod names;
 mod pieces;
 mod reading;
 mod shelf;

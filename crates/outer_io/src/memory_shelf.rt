@@ -4,15 +4,16 @@ ghost use Rattle.std.specs.Prelude.{◌≡◌, ◌<◌, ◌+◌, ◌^◌, ◌↔
 ghost use Rattle.std.specs.Prelude.{string_bytes, Option, None, Some, IfOk};
 ghost use Rattle.std.specs.FinMap as map;
 ghost use Rattle.std.specs.Option.{option_map};
-ghost use Rattle.outer_io.specs.declared.shelf.Phase.{Phase};
 ghost use Rattle.outer_io.specs.Marks.{WritesLog};
-ghost use Rattle.outer_io.specs.Slots.{AtEach, all};
+ghost use Rattle.outer_io.specs.Slots.{AtEach};
 ghost use Rattle.outer_io.specs.Store.{HaveOwnNames, listed, files_in, name_of};
 ghost use Rattle.outer_io.specs.Told.{Told, content, files_of, written_of, terms_of, in_pieces};
+ghost use Rattle.outer_io.specs.Told.{none_opened};
 
 use crate::failing_calls::FailingCalls;
 use crate::marks::Mark;
 use crate::memory_files::{FileId, MemoryFiles};
+use crate::names::Names;
 use crate::pieces::{copy, part};
 use crate::{Failed, Phase, Shelf, Slot, Slots};
 use grid_model::NoMemory;
@@ -30,6 +31,7 @@ pub struct MemoryShelf {
     piece: u32,
     read_faults: u64,
     write_faults: u64,
+    names: Names,
     ghost moves: { 0 < piece },
     ghost quiet: { failing.numbers.items ≡ [] → read_faults ≡ 0 },
     ghost writers: { AtEach (WritesLog store) marks },
@@ -59,8 +61,8 @@ impl MemoryShelf {
               piece = 4294967295;
               fails = fails.items;
             })) }
-        ensures closed { IfOk result (λ s.
-            (⟦<MemoryShelf as Shelf>⟧.state s).phases ≡ all Phase.Closed) }
+        ensures openings { IfOk result (λ s.
+            (⟦<MemoryShelf as Shelf>⟧.state s).openings ≡ none_opened) }
         ensures read_faults { IfOk result (λ s.
             (⟦<MemoryShelf as Shelf>⟧.state s).read_faults ≡ 0) }
         ensures write_faults { IfOk result (λ s.
@@ -80,6 +82,7 @@ impl MemoryShelf {
             piece: u32::MAX,
             read_faults: 0,
             write_faults: 0,
+            names: Names::none(),
         })
     }
 
@@ -97,8 +100,8 @@ impl MemoryShelf {
         requires { 0 < piece }
         ensures told { (⟦<MemoryShelf as Shelf>⟧.state self.new).told
             ≡ option_map (in_pieces piece) (⟦<MemoryShelf as Shelf>⟧.state self.old).told }
-        ensures phases { (⟦<MemoryShelf as Shelf>⟧.state self.new).phases
-            ≡ (⟦<MemoryShelf as Shelf>⟧.state self.old).phases }
+        ensures openings { (⟦<MemoryShelf as Shelf>⟧.state self.new).openings
+            ≡ (⟦<MemoryShelf as Shelf>⟧.state self.old).openings }
         ensures read_faults { (⟦<MemoryShelf as Shelf>⟧.state self.new).read_faults
             ≡ (⟦<MemoryShelf as Shelf>⟧.state self.old).read_faults }
         ensures write_faults { (⟦<MemoryShelf as Shelf>⟧.state self.new).write_faults
@@ -148,13 +151,15 @@ impl Shelf for MemoryShelf {
     ghost use Rattle.outer_io.specs.Store.{HasRoomFor};
 
     ghost state = { λ s.
-        state_of s.piece s.failing.numbers.items s.store s.marks s.read_faults s.write_faults };
+        state_of s.piece s.failing.numbers.items s.store s.marks s.names.names s.read_faults
+        s.write_faults };
 
     ghost fails_at = { λ s k. IsListed s.failing k };
 
     ghost reliable = { λ s log. (s.failing.numbers.items ≡ []) × HasRoomFor s.store log };
 
     fn begin(&mut self, name: &str, slot: Slot) -> Result<(), Failed> {
+        self.names.add(name.as_bytes());
         let fails = self.failing.next_fails();
         let mark = *self.marks.at(slot);
         let Some(file) = self.store.id_of(name) else {
@@ -182,6 +187,7 @@ impl Shelf for MemoryShelf {
     }
 
     fn create(&mut self, name: &str, slot: Slot) -> Result<(), Failed> {
+        self.names.add(name.as_bytes());
         let fails = self.failing.next_fails();
         if fails || !self.store.is_log(name) {
             self.write_faults = self.write_faults.saturating_add(1);

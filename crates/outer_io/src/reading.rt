@@ -48,7 +48,7 @@ pub fn read_all<H: Shelf>(
     slot: Slot,
     limit: u64,
 ) -> Result<Vec<u8>, ReadAll>
-    requires { at (H.state shelf.old).phases slot ≡ Phase.Reading }
+    requires { at (H.state shelf.old).openings.phases slot ≡ Phase.Reading }
 
     ensures whole { IfOk result (λ all.
         IfSome (left_of slot (H.state shelf.old)) (λ left. all.items ≡ left)) }
@@ -67,7 +67,7 @@ pub fn read_all<H: Shelf>(
         → Rose (H.state shelf.old).read_faults (H.state shelf.new).read_faults }
     ensures later { (H.state shelf.old).read_faults ≤ (H.state shelf.new).read_faults }
     ensures other { (H.state shelf.new).write_faults ≡ (H.state shelf.old).write_faults }
-    ensures phase { (H.state shelf.new).phases ≡ (H.state shelf.old).phases }
+    ensures openings { (H.state shelf.new).openings ≡ (H.state shelf.old).openings }
     ensures reliable { (log : Option (List ℕ)) → H.reliable shelf.new log
         → H.reliable shelf.old log × (¬ IsErrOf result ReadAll.ReadFault)
         × ((H.state shelf.new).read_faults ≡ (H.state shelf.old).read_faults) }

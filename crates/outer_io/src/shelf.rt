@@ -7,8 +7,8 @@ ghost use Rattle.std.specs.Io.KnownBytes.{ReadConsumes};
 ghost use Rattle.outer_io.specs.Causes.{HasCause, HasCauseUnless, SucceedsWhile, SucceedsWhileAnd};
 ghost use Rattle.outer_io.specs.Causes.{CountsCall};
 ghost use Rattle.outer_io.specs.declared.shelf.Phase.{Phase};
-ghost use Rattle.outer_io.specs.Slots.{at, put};
-ghost use Rattle.outer_io.specs.Told.{ShelfState, IsPiece, left_of, is_missing, Begins, Moves};
+ghost use Rattle.outer_io.specs.Slots.{at};
+ghost use Rattle.outer_io.specs.Told.{ShelfState, IsPiece, left_of, is_missing, opened, Begins, Moves};
 ghost use Rattle.outer_io.specs.Told.{Creates, Writes};
 
 use crate::{Failed, Slot};
@@ -27,7 +27,8 @@ pub enum Phase {
 /// `write` none but the slot's. No call touches another slot.
 pub trait Shelf {
     /// What is seen of it: the files, where each slot stands in them and how many bytes were
-    /// written in all, where it tells that; what each slot is open for; and how often calls failed.
+    /// written in all, where it tells that; what each slot is open for, and the names that `begin`
+    /// and `create` were called for; and how often calls failed.
     ghost state: { Self → ShelfState };
 
     /// The call of this number is known to fail, where the next call has number 1.
@@ -40,8 +41,8 @@ pub trait Shelf {
     /// Opens the named file for reading, from its start. A failure closes the slot.
     fn begin(&mut self, name: &str, slot: Slot) -> Result<(), Failed>
         ensures begun { Begins (state self.old) (state self.new) name.now slot result }
-        ensures phase { (state self.new).phases ≡ put (state self.old).phases slot
-            (if is_ok result then Phase.Reading else Phase.Closed) }
+        ensures openings { (state self.new).openings ≡ opened slot name.now
+            (if is_ok result then Phase.Reading else Phase.Closed) (state self.old).openings }
 
         // When it fails.
         ensures missing { is_missing (state self.old) name.now ≡ true → is_ok result ≡ false }
@@ -57,13 +58,13 @@ pub trait Shelf {
     /// The next bytes of the slot's file: as many as it answers, at the buffer's start. Where the
     /// buffer isn't empty, 0 means the end of the file.
     fn read(&mut self, slot: Slot, buf: &mut [u8]) -> Result<usize, Failed>
-        requires { at (state self.old).phases slot ≡ Phase.Reading }
+        requires { at (state self.old).openings.phases slot ≡ Phase.Reading }
         ensures bound { ReadsAtMost result buf.new }
         ensures bytes { ReadConsumes
             (left_of slot (state self.old)) (left_of slot (state self.new)) result buf.new }
         ensures moves { Moves (state self.old) (state self.new) slot result }
         ensures piece { IfOk result (IsPiece (state self.old)) }
-        ensures phase { (state self.new).phases ≡ (state self.old).phases }
+        ensures openings { (state self.new).openings ≡ (state self.old).openings }
 
         // When it fails.
         ensures cause { HasCause (state self.old).read_faults (state self.new).read_faults result }
@@ -76,8 +77,8 @@ pub trait Shelf {
     /// Makes the named file empty, and opens it for writing. A failure closes the slot.
     fn create(&mut self, name: &str, slot: Slot) -> Result<(), Failed>
         ensures created { Creates (state self.old) (state self.new) name.now slot result }
-        ensures phase { (state self.new).phases ≡ put (state self.old).phases slot
-            (if is_ok result then Phase.Writing else Phase.Closed) }
+        ensures openings { (state self.new).openings ≡ opened slot name.now
+            (if is_ok result then Phase.Writing else Phase.Closed) (state self.old).openings }
 
         // When it fails.
         ensures cause { HasCause
@@ -91,12 +92,12 @@ pub trait Shelf {
     /// Appends the first bytes of the piece to the slot's file, as many as it answers. Of a piece
     /// that isn't empty it takes at least one.
     fn write(&mut self, slot: Slot, bytes: &[u8]) -> Result<usize, Failed>
-        requires { at (state self.old).phases slot ≡ Phase.Writing }
+        requires { at (state self.old).openings.phases slot ≡ Phase.Writing }
         ensures bound { IfOk result (λ k. k ≤ length bytes.now) }
         ensures some { 0 < length bytes.now → IfOk result (λ k. 0 < k) }
         ensures appended { Writes (state self.old) (state self.new) slot result bytes.now }
         ensures piece { IfOk result (IsPiece (state self.old)) }
-        ensures phase { (state self.new).phases ≡ (state self.old).phases }
+        ensures openings { (state self.new).openings ≡ (state self.old).openings }
 
         // When it fails.
         ensures cause { HasCause

@@ -29,11 +29,11 @@ pub fn write_sink<O: Sink>(sink: &mut O, bytes: &[u8]) -> Result<(), Failed>
 
 /// Appends all bytes to the slot's file, or where it fails the first of them.
 pub fn write_shelf<H: Shelf>(shelf: &mut H, slot: Slot, bytes: &[u8]) -> Result<(), Failed>
-    requires { at (H.state shelf.old).phases slot ≡ Phase.Writing }
+    requires { at (H.state shelf.old).openings.phases slot ≡ Phase.Writing }
     ensures all { OnOk result (AppendedBy (H.state shelf.old) (H.state shelf.new) slot bytes.now) }
     ensures prefix { OnErr result
         (AppendedPrefix (H.state shelf.old) (H.state shelf.new) slot bytes.now) }
-    ensures phase { (H.state shelf.new).phases ≡ (H.state shelf.old).phases }
+    ensures openings { (H.state shelf.new).openings ≡ (H.state shelf.old).openings }
 
     // When it fails.
     ensures cause { HasCause

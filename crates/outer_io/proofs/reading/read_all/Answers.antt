@@ -26,5 +26,5 @@ reading-preserved g c = record {
       let here = c.in_ok-count.ensures.reliable log after in
       let before = c.reading.invariant.reliable log here.0 in
       (before.0, here.2 ∙ before.1);
-  phase = c.read.ensures.phase ∙ c.reading.invariant.phase;
+  openings = c.read.ensures.openings ∙ c.reading.invariant.openings;
 }

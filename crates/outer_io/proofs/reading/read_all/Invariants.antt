@@ -12,7 +12,7 @@ invariant-reading g l = record {
   other : (g.H.Shelf.state l.shelf).write_faults ≡ (g.H.Shelf.state l.fn.shelf).write_faults;
   reliable : (log : Option (List ℕ)) → g.H.Shelf.reliable l.shelf log
       → g.H.Shelf.reliable l.fn.shelf log × ((g.H.Shelf.state l.shelf).read_faults ≡ (g.H.Shelf.state l.fn.shelf).read_faults);
-  phase : (g.H.Shelf.state l.shelf).phases ≡ (g.H.Shelf.state l.fn.shelf).phases;
+  openings : (g.H.Shelf.state l.shelf).openings ≡ (g.H.Shelf.state l.fn.shelf).openings;
 }
 
 abbrev pub decreases-reading : goal.decreases-reading

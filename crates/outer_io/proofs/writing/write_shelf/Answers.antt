@@ -13,5 +13,5 @@ loop-done-preserved g c = record {
       let here = c.in_ok-done.ensures.reliable log after in
       let before = c.loop-done.invariant.reliable log here.0 in
       (before.0, λ writes. (here.1 writes).1 ∙ before.1 writes);
-  phase = c.write.ensures.phase ∙ c.loop-done.invariant.phase;
+  openings = c.write.ensures.openings ∙ c.loop-done.invariant.openings;
 }

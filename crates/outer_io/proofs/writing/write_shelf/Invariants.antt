@@ -10,7 +10,7 @@ invariant-loop-done g l = record {
   other : (g.H.Shelf.state l.shelf).read_faults ≡ (g.H.Shelf.state l.fn.shelf).read_faults;
   reliable : (log : Option (List ℕ)) → g.H.Shelf.reliable l.shelf log
       → g.H.Shelf.reliable l.fn.shelf log × (is_some log ≡ true → (g.H.Shelf.state l.shelf).write_faults ≡ (g.H.Shelf.state l.fn.shelf).write_faults);
-  phase : (g.H.Shelf.state l.shelf).phases ≡ (g.H.Shelf.state l.fn.shelf).phases;
+  openings : (g.H.Shelf.state l.shelf).openings ≡ (g.H.Shelf.state l.fn.shelf).openings;
 }
 
 abbrev pub decreases-loop-done : goal.decreases-loop-done
