@@ -21,18 +21,20 @@ use Rattle.input_files.specs.declared.role.Role.{Role}
 
 -- ---- the slot
 
-opens_one : (of : Slot) (all : Bool) (a b : ShelfState)
-    → Touches of a b → Opens (of ∷ []) all a.phases b.phases
-opens_one of true a b t = (t.phases.0, t.phases.1, inr (refl, t.phases.2))
-opens_one of false a b t = (t.phases.0, t.phases.1, inl (refl, t.phases.2))
+opens_one : (of : Slot) (name : List ℕ) (all : Bool) (a b : ShelfState)
+    → Touches of name a b → Opens ((of, name) ∷ []) all a.openings b.openings
+opens_one of name true a b t = (t.openings.0, t.openings.1, inr (refl, t.openings.2))
+opens_one of name false a b t = (t.openings.0, t.openings.1, inl (refl, t.openings.2))
 
-pub only_one : {V : Type 0} (of to : Role) (a b : ShelfState) (r : Result V Notice) → of ≡ to
-    → Touches (slot_of of) a b → IfErr r IsOfReading → OnlyReads (slot_of to ∷ []) a b r
-only_one {V} of to a b r e t ends = subst (λ (s : Role). OnlyReads {V = V} (slot_of s ∷ []) a b r) e
+pub only_one : {V : Type 0} (of to : Role) (name : List ℕ) (a b : ShelfState)
+    (r : Result V Notice) → of ≡ to → Touches (slot_of of) name a b → IfErr r IsOfReading
+    → OnlyReads ((slot_of to, name) ∷ []) a b r
+only_one {V} of to name a b r e t ends =
+    subst (λ (s : Role). OnlyReads {V = V} ((slot_of s, name) ∷ []) a b r) e
     (record {
       untouched = record {
         leaves = t.leaves;
-        phases = opens_one (slot_of of) (is_ok r) a b t;
+        openings = opens_one (slot_of of) name (is_ok r) a b t;
         write_faults = t.write_faults;
       };
       ends = ends;

@@ -3,13 +3,10 @@ use Rattle.std.proofs.Common.{◌≡◌, ◌⊎◌, ◌≤◌, ℕ, Bool, true, 
 use Rattle.std.proofs.Common.{Option, Some, Result, Ok, Err, is_ok, inl, inr, refl, sym, subst, ◌∙◌}
 use Rattle.std.proofs.Common.{arith}
 use Rattle.outer_io.specs.Causes.{Rose}
-use Rattle.outer_io.specs.Told.{Files, ShelfState, files_of}
-use Rattle.outer_io.specs.declared.shelf.Phase.{Phase}
-use Rattle.outer_io.specs.declared.slots.Slot.{Slot}
-use Rattle.outer_io.specs.declared.slots.Slots.{Slots}
+use Rattle.outer_io.specs.Told.{Files, Openings, ShelfState, files_of}
 use Rattle.input_files.specs.Reading.{Text, Named, Breaks, MayBreak, NeverBreaks, Reading}
 use Rattle.input_files.specs.Reading.{Then, Returns, Found, Settles, IsSameAnswer, OnlyReads, Opens}
-use Rattle.input_files.specs.Reading.{LeavesFiles}
+use Rattle.input_files.specs.Reading.{NamedSlots, LeavesFiles}
 use Rattle.input_files.specs.declared.limits.Limits.{Limits}
 use Rattle.input_files.specs.declared.notice.Notice.{Notice}
 use Rattle.input_files.specs.declared.role.Role.{Role}
@@ -143,7 +140,7 @@ module _ {V W : Type 0} (first : Reading V) (later : V → Reading W) where
   }
 
   module _ (fair : IsFair first) (fair_later : (v : V) → IsFair (later v)) where
-    pub found_then : {X : Type 0} (xs : List Slot) (a b c : ShelfState)
+    pub found_then : {X : Type 0} (xs : NamedSlots) (a b c : ShelfState)
         (ra rb : Option (List ℕ) → Type 0) (x : Result X Notice) (v : V) (r : Result W Notice)
         → OnlyReads xs a b x → Found first a b ra (Ok v) → Found (later v) b c rb r
         → Found (Then first later) a c rb r
@@ -180,19 +177,19 @@ found_return v a b reliable = record {
 
 -- ---- the slots
 
-opens_front : (xs ys : List Slot) (a b : Slots Phase) → Opens xs false a b
+opens_front : (xs ys : NamedSlots) (a b : Openings) → Opens xs false a b
     → Opens (xs ++ ys) false a b
 opens_front [] ys a b opens = let e : false ≡ true = opens.0 in cc
-opens_front (of ∷ xs) ys a b (phase, reads, inl last) = (phase, reads, inl last)
-opens_front (of ∷ xs) ys a b (phase, reads, inr more) =
+opens_front ((of, name) ∷ xs) ys a b (phase, reads, inl last) = (phase, reads, inl last)
+opens_front ((of, name) ∷ xs) ys a b (phase, reads, inr more) =
     (phase, reads, inr (opens_front xs ys _ b more))
 
-opens_then : (xs ys : List Slot) (all : Bool) (a b c : Slots Phase) → Opens xs true a b
+opens_then : (xs ys : NamedSlots) (all : Bool) (a b c : Openings) → Opens xs true a b
     → Opens ys all b c → Opens (xs ++ ys) all a c
-opens_then [] ys all a b c (e, is) behind = subst (λ (p : Slots Phase). Opens ys all p c) is behind
-opens_then (of ∷ xs) ys all a b c (phase, reads, inl last) behind =
+opens_then [] ys all a b c (e, is) behind = subst (λ (p : Openings). Opens ys all p c) is behind
+opens_then ((of, name) ∷ xs) ys all a b c (phase, reads, inl last) behind =
     let e : true ≡ false = last.0 in cc
-opens_then (of ∷ xs) ys all a b c (phase, reads, inr more) behind =
+opens_then ((of, name) ∷ xs) ys all a b c (phase, reads, inr more) behind =
     (phase, reads, inr (opens_then xs ys all _ b c more behind))
 
 leaves_then : (a b c : ShelfState) → LeavesFiles a b → LeavesFiles b c → LeavesFiles a c
@@ -203,26 +200,26 @@ leaves_then a b c here behind =
       terms = behind.terms ∙ here.terms;
     }
 
-pub only_err : {V W : Type 0} (xs ys : List Slot) (a b : ShelfState) (n : Notice)
+pub only_err : {V W : Type 0} (xs ys : NamedSlots) (a b : ShelfState) (n : Notice)
     → OnlyReads {V = V} xs a b (Err n) → OnlyReads {V = W} (xs ++ ys) a b (Err n)
 only_err xs ys a b n only = record {
   untouched = record {
     leaves = only.untouched.leaves;
-    phases = opens_front xs ys a.phases b.phases only.untouched.phases;
+    openings = opens_front xs ys a.openings b.openings only.untouched.openings;
     write_faults = only.untouched.write_faults;
   };
   ends = only.ends;
   later = only.later;
 }
 
-pub only_then : {V W : Type 0} (xs ys : List Slot) (a b c : ShelfState) (v : V)
+pub only_then : {V W : Type 0} (xs ys : NamedSlots) (a b c : ShelfState) (v : V)
     (r : Result W Notice) → OnlyReads xs a b (Ok v) → OnlyReads ys b c r
     → OnlyReads (xs ++ ys) a c r
 only_then xs ys a b c v r here behind = record {
   untouched = record {
     leaves = leaves_then a b c here.untouched.leaves behind.untouched.leaves;
-    phases = opens_then xs ys (is_ok r) a.phases b.phases c.phases here.untouched.phases
-        behind.untouched.phases;
+    openings = opens_then xs ys (is_ok r) a.openings b.openings c.openings here.untouched.openings
+        behind.untouched.openings;
     write_faults = behind.untouched.write_faults ∙ here.untouched.write_faults;
   };
   ends = behind.ends;
@@ -230,7 +227,7 @@ only_then xs ys a b c v r here behind = record {
 }
 
 -- another value in the place of the one that was read
-pub only_as : {V W : Type 0} (xs : List Slot) (a b : ShelfState) (v : V) (w : W)
+pub only_as : {V W : Type 0} (xs : NamedSlots) (a b : ShelfState) (v : V) (w : W)
     → OnlyReads xs a b (Ok v) → OnlyReads xs a b (Ok w)
 only_as xs a b v w only = record {
   untouched = only.untouched;

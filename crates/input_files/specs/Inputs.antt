@@ -7,7 +7,6 @@ use Rattle.error_bounds.specs.Texts as settings
 use Rattle.error_bounds.specs.declared.settings.Centre.{Centre}
 use Rattle.error_bounds.specs.declared.settings.Centre.TheVariants.{Header, At}
 use Rattle.error_bounds.specs.declared.settings.Settings.{Settings}
-use Rattle.outer_io.specs.declared.slots.Slot.{Slot}
 use Rattle.outer_io.specs.declared.slots.Slot.TheVariants as slot
 use Rattle.rinex_nav.specs.Files as nav
 use Rattle.rinex_nav.specs.Reading.{records_of}
@@ -19,7 +18,7 @@ use Rattle.rinex_obs.specs.Reading.{observations_of}
 use Rattle.rinex_obs.specs.declared.obs.Obs.{Obs}
 use Rattle.rinex_obs.specs.declared.sought.Sought.{Sought}
 use Rattle.input_files.specs.Motion.{HasMotion, IsSettingsFor, NamesFaultFor, speed_of}
-use Rattle.input_files.specs.Reading.{Text, Reading, Named, Then, Returns}
+use Rattle.input_files.specs.Reading.{Text, Reading, Named, NamedSlots, Then, Returns}
 use Rattle.input_files.specs.declared.input_fault.InputFault.TheVariants as fault
 use Rattle.input_files.specs.declared.inputs.Inputs.{Inputs}
 use Rattle.input_files.specs.declared.limits.Limits.{Limits}
@@ -117,8 +116,10 @@ inputs_value i = record {
   obs = observations_of i.obs;
 }
 
-abbrev pub input_slots : List Slot
-input_slots = slot.Settings ∷ slot.Nav ∷ slot.Obs ∷ []
+-- the files that are read, in their order
+abbrev pub input_files : Files → NamedSlots
+input_files names =
+    (slot.Settings, names.settings) ∷ (slot.Nav, names.nav) ∷ (slot.Obs, names.obs) ∷ []
 
 abbrev pub ReadsObs : Limits → Files → settings.SettingsValue → List Broadcast → Reading InputsValue
 ReadsObs limits names s records =

@@ -4,12 +4,11 @@ use Rattle.std.specs.Prelude.{Option, None, Some, Result, Ok, Err, IfErr, is_ok}
 use Rattle.std.specs.Option.{option_map}
 use Rattle.std.specs.FinMap as map
 use Rattle.outer_io.specs.Causes.{Rose}
-use Rattle.outer_io.specs.Slots.{put}
-use Rattle.outer_io.specs.Told.{Files, ShelfState, files_of, written_of, terms_of}
+use Rattle.outer_io.specs.Told.{Files, Openings, ShelfState, files_of, opened, written_of}
+use Rattle.outer_io.specs.Told.{terms_of}
 use Rattle.outer_io.specs.declared.shelf.Phase.{Phase}
 use Rattle.outer_io.specs.declared.shelf.Phase.TheVariants.{Writing}
 use Rattle.outer_io.specs.declared.slots.Slot.{Slot}
-use Rattle.outer_io.specs.declared.slots.Slots.{Slots}
 use Rattle.input_files.specs.Statuses.{status_of}
 use Rattle.input_files.specs.declared.limits.Limits.{Limits}
 use Rattle.input_files.specs.declared.notice.Notice.{Notice}
@@ -158,12 +157,17 @@ pub record Found {V : Type 0} (reading : Reading V) (before after : ShelfState)
   pub same : (told : Files) (other : Result V Notice) → files_of before ≡ Some told
       → reading NeverBreaks (Some told) other → Settles r other
 
--- The slots were opened in turn, none for writing: all of them, or those up to one whose file
--- wasn't accepted. No other slot was touched.
-abbrev pub Opens : List Slot → Bool → Slots Phase → Slots Phase → Type 0
+-- slots, each with the name of the file to open in it
+abbrev pub NamedSlots : Type 0
+NamedSlots = List (Slot × List ℕ)
+
+-- The named files were opened in turn, each in its slot and none for writing: all of them, or
+-- those up to one that wasn't accepted. No other name was opened, and no other slot was touched.
+abbrev pub Opens : NamedSlots → Bool → Openings → Openings → Type 0
 Opens [] all old new = (all ≡ true) × (new ≡ old)
-Opens (of ∷ more) all old new = (phase : Phase) × (phase ≢ Writing)
-    × (((all ≡ false) × (new ≡ put old of phase)) ⊎ Opens more all (put old of phase) new)
+Opens ((of, name) ∷ more) all old new = (phase : Phase) × (phase ≢ Writing)
+    × (((all ≡ false) × (new ≡ opened of name phase old))
+    ⊎ Opens more all (opened of name phase old) new)
 
 -- no file has changed, and nothing was written; what the shelf was made with never changes
 pub record LeavesFiles (before after : ShelfState) : Type 0 where
@@ -171,10 +175,10 @@ pub record LeavesFiles (before after : ShelfState) : Type 0 where
   pub written : written_of after ≡ written_of before
   pub terms : terms_of after ≡ terms_of before
 
--- and the slots alone were opened
-pub record Untouched (slots : List Slot) (all : Bool) (before after : ShelfState) : Type 0 where
+-- and these files alone were opened
+pub record Untouched (files : NamedSlots) (all : Bool) (before after : ShelfState) : Type 0 where
   pub leaves : LeavesFiles before after
-  pub phases : Opens slots all before.phases after.phases
+  pub openings : Opens files all before.openings after.openings
   pub write_faults : after.write_faults ≡ before.write_faults
 
 -- the notice is one of a file that wasn't read or accepted
@@ -182,16 +186,17 @@ abbrev pub IsOfReading : Notice → Type 0
 IsOfReading n = (status_of n ≡ status.Refused)
     ⊎ ((status_of n ≡ status.ReadFault) ⊎ (status_of n ≡ status.NoMemory))
 
--- One slot was opened, not for writing, and nothing else was touched.
-pub record Touches (of : Slot) (before after : ShelfState) : Type 0 where
+-- One name was opened, in this slot and not for writing, and nothing else was touched.
+pub record Touches (of : Slot) (name : List ℕ) (before after : ShelfState) : Type 0 where
   pub leaves : LeavesFiles before after
-  pub phases : (phase : Phase) × (phase ≢ Writing) × (after.phases ≡ put before.phases of phase)
+  pub openings : (phase : Phase) × (phase ≢ Writing)
+      × (after.openings ≡ opened of name phase before.openings)
   pub write_faults : after.write_faults ≡ before.write_faults
   pub later : before.read_faults ≤ after.read_faults
 
 -- A reading writes nothing, whatever it answers.
-pub record OnlyReads {V : Type 0} (slots : List Slot) (before after : ShelfState)
+pub record OnlyReads {V : Type 0} (files : NamedSlots) (before after : ShelfState)
     (r : Result V Notice) : Type 0 where
-  pub untouched : Untouched slots (is_ok r) before after
+  pub untouched : Untouched files (is_ok r) before after
   pub ends : IfErr r IsOfReading
   pub later : before.read_faults ≤ after.read_faults

@@ -3,7 +3,7 @@
 ghost use Rattle.std.specs.Prelude.{◌≡◌, IfOk};
 ghost use Rattle.command_words.specs.Seen.{files_asked};
 ghost use Rattle.error_bounds.specs.Reading.{value_of_settings};
-ghost use Rattle.input_files.specs.Inputs.{AreEnough, ReadsFor, input_slots, inputs_value};
+ghost use Rattle.input_files.specs.Inputs.{AreEnough, ReadsFor, input_files, inputs_value};
 ghost use Rattle.input_files.specs.Inputs.{sought_of, wants_position};
 ghost use Rattle.input_files.specs.Motion.{HasMotion, speed_of};
 ghost use Rattle.input_files.specs.Reading.{Found, OnlyReads, valued};
@@ -60,7 +60,8 @@ pub fn read_inputs<H: Shelf>(
     ensures found { Found (ReadsFor moving limits.now (files_asked words.now))
         (H.state shelf.old) (H.state shelf.new) (H.reliable shelf.new)
         (valued inputs_value result) }
-    ensures only { OnlyReads input_slots (H.state shelf.old) (H.state shelf.new) result }
+    ensures only { OnlyReads (input_files (files_asked words.now))
+        (H.state shelf.old) (H.state shelf.new) result }
     ensures enough { IfOk result AreEnough }
     ensures motion { IfOk result (λ inputs. HasMotion moving (speed_of inputs.settings)) }
 {

@@ -39,7 +39,7 @@ fn read_file<H: Shelf>(
     ensures fault { result ≡ Err (Notice.ReadFault role)
         → is_missing (H.state shelf.old) name.now ≡ false
         → IsCounted (H.state shelf.old) (H.state shelf.new) (H.reliable shelf.new) }
-    ensures touches { Touches (slot_of role) (H.state shelf.old) (H.state shelf.new) }
+    ensures touches { Touches (slot_of role) name.now (H.state shelf.old) (H.state shelf.new) }
 {
     let slot = role.slot();
     match shelf.begin(name, slot) {
@@ -64,7 +64,7 @@ pub fn read_named<H: Shelf, V, G: Grammar<V>>(
         (H.state shelf.old) (H.state shelf.new) (H.reliable shelf.new)
         (valued (G.text grammar.now).value result) }
     ensures usual { IfOk result (G.text grammar.now).Usual }
-    ensures only { OnlyReads (slot_of (G.text grammar.now).role ∷ [])
+    ensures only { OnlyReads ((slot_of (G.text grammar.now).role, name.now) ∷ [])
         (H.state shelf.old) (H.state shelf.new) result }
 {
     let bytes = read_file(alloc, limits, name, grammar.role(), shelf)?;

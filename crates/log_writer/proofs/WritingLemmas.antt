@@ -25,7 +25,7 @@ pub sent_none : (a : Devices) → Sent a [] [] a
 sent_none a = record {
   appended = appended-none slot.Log a.shelf.told;
   taken = taking-none a.out.told;
-  phases = refl;
+  openings = refl;
   log_faults = omega arith;
   out_faults = omega arith;
 }
@@ -34,7 +34,7 @@ pub sent_twice : (a b c : Devices) (log more report also : List ℕ) → Sent a 
 sent_twice a b c log more report also f g = record {
   appended = appended-twice slot.Log log more a.shelf.told b.shelf.told c.shelf.told f.appended g.appended;
   taken = g.taken ∙ ap (option_map (taking also)) f.taken ∙ taking-twice a.out.told report also;
-  phases = g.phases ∙ f.phases;
+  openings = g.openings ∙ f.openings;
   log_faults = omega (arith, f.log_faults, g.log_faults);
   out_faults = omega (arith, f.out_faults, g.out_faults);
 }

@@ -24,7 +24,7 @@ devices shelf out = record { shelf = shelf; out = out }
 pub record Sent (before : Devices) (log report : List ℕ) (after : Devices) : Type 0 where
   pub appended : AppendedBy before.shelf after.shelf slot.Log log
   pub taken : TakenBy before.out after.out report
-  pub phases : after.shelf.phases ≡ before.shelf.phases
+  pub openings : after.shelf.openings ≡ before.shelf.openings
   pub log_faults : before.shelf.write_faults ≤ after.shelf.write_faults
   pub out_faults : before.out.faults ≤ after.out.faults
 

@@ -30,7 +30,7 @@ pub fn write_log<H: Shelf, O: Sink, B: Blocks>(
     rules: &Rules,
     blocks: &mut B,
 ) -> Result<(), WriteFault>
-    requires open { at (H.state shelf.old).phases slot.Log ≡ Writing }
+    requires open { at (H.state shelf.old).openings.phases slot.Log ≡ Writing }
     requires limit { limit ≤ longest_file }
     requires rules { (B.standing blocks.old).rules ≡ rules.now }
     requires first { (B.standing blocks.old).before ≡ None }

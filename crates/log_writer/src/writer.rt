@@ -23,10 +23,10 @@ fn send<H: Shelf, O: Sink>(
     log: &[u8],
     report: &[u8],
 ) -> Result<(), WriteFault>
-    requires { at (H.state shelf.old).phases Log ≡ Writing }
+    requires { at (H.state shelf.old).openings.phases Log ≡ Writing }
     ensures sends { Sends (devices (H.state shelf.old) (O.state out.old)) log.now report.now
         result (devices (H.state shelf.new) (O.state out.new)) }
-    ensures phases { (H.state shelf.new).phases ≡ (H.state shelf.old).phases }
+    ensures openings { (H.state shelf.new).openings ≡ (H.state shelf.old).openings }
     ensures trust { Trusts (trust_of (H.reliable shelf.old) (O.reliable out.old)) result
         (trust_of (H.reliable shelf.new) (O.reliable out.new)) }
 {
@@ -49,13 +49,13 @@ pub(crate) struct Writer<'a, 'b, H: Shelf, O: Sink> {
     lines: ArrayVec<u8, PIECE>,
     reports: ArrayVec<u8, PIECE>,
     left: u64,
-    ghost open: { at (H.state shelf.now).phases Log ≡ Writing },
+    ghost open: { at (H.state shelf.now).openings.phases Log ≡ Writing },
 }
 
 impl<'a, 'b, H: Shelf, O: Sink> Writer<'a, 'b, H, O> {
     /// The log of the shelf, with room for so many bytes, and the report on `out`.
     pub fn over(shelf: &'a mut H, out: &'b mut O, left: u64) -> Writer<'a, 'b, H, O>
-        requires { at (H.state shelf.old).phases Log ≡ Writing }
+        requires { at (H.state shelf.old).openings.phases Log ≡ Writing }
         ensures shelf { result.shelf.ghost_name ≡ shelf.entry.ghost_name }
         ensures out { result.out.ghost_name ≡ out.entry.ghost_name }
         ensures shelf_value { result.shelf.now ≡ shelf.old }

@@ -1,5 +1,6 @@
-use Rattle.std.proofs.Common.{[], ◌∷◌}
+use Rattle.std.proofs.Common.{[], ◌∷◌, ◌++◌}
 use Rattle.std.proofs.lemmas.Result.{err_from_is_err_and}
+use Rattle.command_words.specs.Commands.{Files}
 use Rattle.command_words.specs.Seen.{files_asked}
 use Rattle.error_bounds.specs.Reading.{value_of_settings}
 use Rattle.outer_io.specs.declared.slots.Slot.TheVariants as slot
@@ -11,8 +12,20 @@ use Rattle.input_files.proofs.ReadingLemmas.{return_fair}
 use Rattle.input_files.proofs.ReadingLemmas.{only_as, only_err, only_then}
 use Rattle.input_files.proofs.InputLemmas.{nav_fair, obs_fair}
 use Rattle.input_files.specs.Inputs.{nav_text, obs_text, read_both, settings_text, sought_of, wants_position}
+use Rattle.input_files.specs.Reading.{NamedSlots}
 use Rattle.input_files.specs.declared.inputs.Inputs.{Inputs}
 use Rattle.input_files.proofs.inputs.read_inputs.Goals as goal
+
+-- ---- the files
+
+abbrev settings_at : Files → NamedSlots
+settings_at names = (slot.Settings, names.settings) ∷ []
+
+abbrev nav_at : Files → NamedSlots
+nav_at names = (slot.Nav, names.nav) ∷ []
+
+abbrev obs_at : Files → NamedSlots
+obs_at names = (slot.Obs, names.obs) ∷ []
 
 -- ---- the settings weren't read
 
@@ -23,8 +36,9 @@ returns-in_err-settings-clause-found g c =
 
 pub returns-in_err-settings-clause-only : goal.returns-in_err-settings-clause-only
 returns-in_err-settings-clause-only g c =
+    let names = files_asked c.args.words.now in
     let p = err_from_is_err_and c.from_residual.result c.from_residual.ensures.1 in
-    rw (p.1, p.2) (only_err (slot.Settings ∷ []) (slot.Nav ∷ slot.Obs ∷ []) _ _
+    rw (p.1, p.2) (only_err (settings_at names) (nav_at names ++ obs_at names) _ _
     c.in_err-settings.field-0.0 c.in_err-settings.ensures.only)
 
 -- ---- the navigation file wasn't read
@@ -37,17 +51,18 @@ returns-in_err-nav-clause-found g c =
     let names = files_asked c.args.words.now in
     rw (p.1, p.2) (found_then _ _ (named_fair limits (settings_text c.args.moving) names.settings)
     (nav_fair limits names)
-    (slot.Settings ∷ []) _ _ _ _ _ _ (value_of_settings c.in_ok-settings.settings) _
+    (settings_at names) _ _ _ _ _ _ (value_of_settings c.in_ok-settings.settings) _
     c.in_ok-settings.ensures.only c.in_ok-settings.ensures.found
     (found_err _ _ _ _ _ c.in_err-nav.field-0.0 (rw (c.are_both.ensures, c.sought_of-sought.ensures) at c.in_err-nav.ensures.found)))
 
 pub returns-in_err-nav-clause-only : goal.returns-in_err-nav-clause-only
 returns-in_err-nav-clause-only g c =
+    let names = files_asked c.args.words.now in
     let p = err_from_is_err_and c.from_residual-in_err-nav.result
     c.from_residual-in_err-nav.ensures.1 in
-    rw (p.1, p.2) (only_then (slot.Settings ∷ []) (slot.Nav ∷ slot.Obs ∷ []) _ _ _
+    rw (p.1, p.2) (only_then (settings_at names) (nav_at names ++ obs_at names) _ _ _
     c.in_ok-settings.settings _ c.in_ok-settings.ensures.only
-    (only_err (slot.Nav ∷ []) (slot.Obs ∷ []) _ _ c.in_err-nav.field-0.0
+    (only_err (nav_at names) (obs_at names) _ _ c.in_err-nav.field-0.0
     c.in_err-nav.ensures.only))
 
 -- ---- the observation file wasn't read
@@ -62,20 +77,21 @@ returns-in_err-obs-clause-found g c =
     let records = records_of c.in_ok-nav.nav in
     rw (p.1, p.2) (found_then _ _ (named_fair limits (settings_text c.args.moving) names.settings)
     (nav_fair limits names)
-    (slot.Settings ∷ []) _ _ _ _ _ _ s _ c.in_ok-settings.ensures.only
+    (settings_at names) _ _ _ _ _ _ s _ c.in_ok-settings.ensures.only
     c.in_ok-settings.ensures.found (found_then _ _ (named_fair limits (nav_text (read_both s)) names.nav)
-    (obs_fair limits names s) (slot.Nav ∷ []) _ _ _ _ _ _ records _ c.in_ok-nav.ensures.only
+    (obs_fair limits names s) (nav_at names) _ _ _ _ _ _ records _ c.in_ok-nav.ensures.only
     (rw (c.are_both.ensures, c.sought_of-sought.ensures) at c.in_ok-nav.ensures.found) (found_err _ _ _ _ _ c.in_err-obs.field-0.0
     (rw (c.wants_position-position.ensures, c.sought_of-sought.ensures) at c.in_err-obs.ensures.found))))
 
 pub returns-in_err-obs-clause-only : goal.returns-in_err-obs-clause-only
 returns-in_err-obs-clause-only g c =
+    let names = files_asked c.args.words.now in
     let p = err_from_is_err_and c.from_residual-in_err-obs.result
     c.from_residual-in_err-obs.ensures.1 in
-    rw (p.1, p.2) (only_then (slot.Settings ∷ []) (slot.Nav ∷ slot.Obs ∷ []) _ _ _
+    rw (p.1, p.2) (only_then (settings_at names) (nav_at names ++ obs_at names) _ _ _
     c.in_ok-settings.settings _ c.in_ok-settings.ensures.only
-    (only_then (slot.Nav ∷ []) (slot.Obs ∷ []) _ _ _ c.in_ok-nav.nav _ c.in_ok-nav.ensures.only
-    (only_err (slot.Obs ∷ []) [] _ _ c.in_err-obs.field-0.0 c.in_err-obs.ensures.only)))
+    (only_then (nav_at names) (obs_at names) _ _ _ c.in_ok-nav.nav _ c.in_ok-nav.ensures.only
+    (only_err (obs_at names) [] _ _ c.in_err-obs.field-0.0 c.in_err-obs.ensures.only)))
 
 -- ---- all were read
 
@@ -87,27 +103,28 @@ returns-clause-found g c =
     let records = records_of c.in_ok-nav.nav in
     let o = observations_of c.in_ok-obs.obs in
     found_then _ _ (named_fair limits (settings_text c.args.moving) names.settings) (nav_fair limits names)
-    (slot.Settings ∷ []) _ _ _ _ _ _ s _ c.in_ok-settings.ensures.only
+    (settings_at names) _ _ _ _ _ _ s _ c.in_ok-settings.ensures.only
     c.in_ok-settings.ensures.found (found_then _ _ (named_fair limits (nav_text (read_both s)) names.nav)
-    (obs_fair limits names s) (slot.Nav ∷ []) _ _ _ _ _ _ records _ c.in_ok-nav.ensures.only
+    (obs_fair limits names s) (nav_at names) _ _ _ _ _ _ records _ c.in_ok-nav.ensures.only
     (rw (c.are_both.ensures, c.sought_of-sought.ensures) at c.in_ok-nav.ensures.found)
     (found_then _ _ (named_fair limits (obs_text (sought_of s) (wants_position s.centre)) names.obs)
-    (λ x. return_fair (record { settings = s; nav = records; obs = x })) (slot.Obs ∷ []) _ _ _ _ _ _
+    (λ x. return_fair (record { settings = s; nav = records; obs = x })) (obs_at names) _ _ _ _ _ _
     o _ c.in_ok-obs.ensures.only
     (rw (c.wants_position-position.ensures, c.sought_of-sought.ensures) at c.in_ok-obs.ensures.found)
     (found_return (record { settings = s; nav = records; obs = o }) _ _ _)))
 
 pub returns-clause-only : goal.returns-clause-only
 returns-clause-only g c =
+    let names = files_asked c.args.words.now in
     let all : Inputs = record {
       settings = c.in_ok-settings.settings;
       nav = c.in_ok-nav.nav;
       obs = c.in_ok-obs.obs;
     } in
-    only_then (slot.Settings ∷ []) (slot.Nav ∷ slot.Obs ∷ []) _ _ _
+    only_then (settings_at names) (nav_at names ++ obs_at names) _ _ _
     c.in_ok-settings.settings _ c.in_ok-settings.ensures.only
-    (only_then (slot.Nav ∷ []) (slot.Obs ∷ []) _ _ _ c.in_ok-nav.nav _ c.in_ok-nav.ensures.only
-    (only_as (slot.Obs ∷ []) _ _ c.in_ok-obs.obs all c.in_ok-obs.ensures.only))
+    (only_then (nav_at names) (obs_at names) _ _ _ c.in_ok-nav.nav _ c.in_ok-nav.ensures.only
+    (only_as (obs_at names) _ _ c.in_ok-obs.obs all c.in_ok-obs.ensures.only))
 
 pub returns-clause-enough : goal.returns-clause-enough
 returns-clause-enough g c =

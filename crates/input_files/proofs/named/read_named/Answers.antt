@@ -22,7 +22,7 @@ returns-in_err-bytes-clause-only g c =
     let p = err_from_is_err_and c.from_residual.result c.from_residual.ensures.1 in
     let b = c.in_err-bytes.ensures in
     rw (p.1, p.2) (only_one c.role.result (g.G.Grammar.text c.args.grammar.now).role
-    _ _ (Err c.in_err-bytes.field-0.0) c.role.ensures b.touches
+    c.args.name.now _ _ (Err c.in_err-bytes.field-0.0) c.role.ensures b.touches
     (unread_ends c.role.result _ c.in_err-bytes.field-0.0 b.refusals))
 
 pub returns-clause-found : goal.returns-clause-found
@@ -35,7 +35,7 @@ returns-clause-found g c =
 
 pub returns-clause-only : goal.returns-clause-only
 returns-clause-only g c =
-    only_one c.role.result (g.G.Grammar.text c.args.grammar.now).role _ _ c.read.result
+    only_one c.role.result (g.G.Grammar.text c.args.grammar.now).role c.args.name.now _ _ c.read.result
     c.role.ensures c.in_ok-bytes.ensures.touches
     (text_ends (g.G.Grammar.text c.args.grammar.now) c.deref.result.now c.read.result
     c.read.ensures.gives)

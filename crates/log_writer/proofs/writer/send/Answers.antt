@@ -8,6 +8,6 @@ returns-in-Err-clause-sends g c =
     let (kept, at_most, appended) = b.prefix in (
       take kept c.args.log.now,
       (kept, refl),
-      record { appended = appended; taken = taking-none _; phases = b.phase; log_faults = b.cause.later; out_faults = omega arith },
+      record { appended = appended; taken = taking-none _; openings = b.openings; log_faults = b.cause.later; out_faults = omega arith },
       b.cause.failed,
     )
