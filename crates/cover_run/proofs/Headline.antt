@@ -8,7 +8,7 @@ use Rattle.std.specs.FinMap as map
 use Rattle.std.specs.Option.{option_map}
 use Rattle.command_words.specs.Commands as words
 use Rattle.input_files.proofs.GrammarLemmas.{no_first}
-use Rattle.input_files.specs.Inputs.{InputsValue, ReadsFor, input_slots, inputs_value, nav_text, obs_text, read_both, sought_of}
+use Rattle.input_files.specs.Inputs.{InputsValue, ReadsFor, input_files, inputs_value, nav_text, obs_text, read_both, sought_of}
 use Rattle.input_files.specs.Inputs.{settings_text, wants_position}
 use Rattle.input_files.specs.Logs.{log_text}
 use Rattle.input_files.specs.Reading.{IsBrokenOff, MayBreak, NeverBreaks, ReadsFile, Settles, Text}
@@ -37,7 +37,7 @@ use Rattle.cover_run.proofs.TaskLemmas.{checked_fair}
 use Rattle.cover_run.specs.Accepting.{AreApart, RunsThen, SolvesThenChecks, TracksThenRechecks}
 use Rattle.cover_run.specs.Chosen.{chosen_in}
 use Rattle.cover_run.specs.Checking.{CheckedValue, ReadsCheckedFor, SaysAccepted}
-use Rattle.cover_run.specs.Checking.{SaysRefused, checked_slots, checked_value}
+use Rattle.cover_run.specs.Checking.{SaysRefused, checked_files, checked_value}
 use Rattle.cover_run.specs.Rechecking.{SaysTracked, SaysUntracked}
 use Rattle.cover_run.specs.Runs.{Ends, IsVerdict, IsWritten, Task, TellsAlone}
 use Rattle.cover_run.specs.Solving.{IsSolution, epochs_of}
@@ -193,9 +193,9 @@ module _ (limits : Limits) (names : words.Files) (p : Pair names) where
   writer = record {
     Value = InputsValue;
     value = inputs_value;
-    slots = input_slots;
+    files = input_files names;
     reads = ReadsFor p.moving limits names;
-    Does = λ i before after trust. Writes names.log before after trust input_slots limits.log
+    Does = λ i before after trust. Writes names.log before after trust (input_files names) limits.log
         (most_bytes (length (epochs_of (chosen_in names) i)) i.settings.rules.bisections)
         (p.Written i limits.log);
     Suits = λ i s. IsWritten s;
@@ -205,9 +205,9 @@ module _ (limits : Limits) (names : words.Files) (p : Pair names) where
   reader = record {
     Value = CheckedValue;
     value = checked_value;
-    slots = checked_slots;
+    files = checked_files names;
     reads = ReadsCheckedFor p.moving limits names;
-    Does = λ read. TellsAlone (p.Accepted read) (p.Refused read) checked_slots;
+    Does = λ read. TellsAlone (p.Accepted read) (p.Refused read) (checked_files names);
     Suits = λ found s. IsVerdict s;
   }
 

@@ -65,7 +65,7 @@ module _ {V : Type 0} (task : Task V) (before after : World) (trust : Trust) (s 
 
   pub run_err : (n : Notice)
       → Found task.reads before.shelf after.shelf trust.log (Err n)
-      → OnlyReads {V = V} task.slots before.shelf after.shelf (Err n) → s ≡ status_of n
+      → OnlyReads {V = V} task.files before.shelf after.shelf (Err n) → s ≡ status_of n
       → Says before.err after.err n → after.out ≡ before.out → RunOf task before after trust s
   run_err n found only is says out = record {
     read = Err n;

@@ -160,7 +160,7 @@ module _ (m : Meaning) (q : ℕ) (i : Inputs) (first last : TubeLeft) (none : fi
       log = wrote.log;
       report = wrote.report;
       room = room;
-      phases = wrote.phases;
+      openings = wrote.openings;
       ends = ends;
     }
 
@@ -196,7 +196,7 @@ module _ (m : Meaning) (q : ℕ) (i : Inputs) (first last : TubeLeft) (none : fi
         log = wrote.log;
         report = taken_both before.out mid.out out wrote.said more wrote.report takes;
         room = tt;
-        phases = wrote.phases;
+        openings = wrote.openings;
         ends = quiet ∙ same;
       }
 
@@ -216,7 +216,7 @@ module _ (m : Meaning) (q : ℕ) (i : Inputs) (first last : TubeLeft) (none : fi
         log = wrote.log;
         report = taken_both before.out mid.out out wrote.said (take k line) wrote.report takes;
         room = tt;
-        phases = wrote.phases;
+        openings = wrote.openings;
         ends = (subst (λ (e : SinkState). Says e err notice.OutFault) same says, (omega (arith, rose, later), unreliable));
       }
 

@@ -5,7 +5,7 @@ use Rattle.std.proofs.Common.{subst, ◌∙◌, arith}
 use Rattle.std.specs.Prelude.{◌≢◌}
 use Rattle.std.specs.FinMap as map
 use Rattle.std.specs.Option.{option_map}
-use Rattle.input_files.specs.Reading.{IsBrokenOff, LeavesFiles, OnlyReads}
+use Rattle.input_files.specs.Reading.{IsBrokenOff, LeavesFiles, NamedSlots, OnlyReads}
 use Rattle.input_files.specs.declared.notice.Notice.TheVariants as notice
 use Rattle.input_files.specs.declared.status.Status.{Status}
 use Rattle.input_files.specs.declared.status.Status.TheVariants as status
@@ -15,13 +15,10 @@ use Rattle.log_writer.specs.declared.fault.WriteFault.{WriteFault}
 use Rattle.log_writer.specs.declared.fault.WriteFault.TheVariants as why
 use Rattle.outer_io.proofs.Appending.{insert-insert, content-insert}
 use Rattle.outer_io.specs.Causes.{Rose}
-use Rattle.outer_io.specs.Slots.{put}
 use Rattle.outer_io.specs.Taken.{SinkState, TakenBy}
-use Rattle.outer_io.specs.Told.{ShelfState, Told, appended, content, created}
+use Rattle.outer_io.specs.Told.{ShelfState, Told, appended, content, created, opened}
 use Rattle.outer_io.specs.declared.shelf.Phase.{Phase}
-use Rattle.outer_io.specs.declared.slots.Slot.{Slot}
 use Rattle.outer_io.specs.declared.slots.Slot.TheVariants.{Log}
-use Rattle.outer_io.specs.declared.slots.Slots.{Slots}
 use Rattle.cover_run.specs.Runs.{IsWritten}
 use Rattle.cover_run.specs.Writing.{notice_of_fault}
 use Rattle.cover_run.specs.Worlds.{World, Says, Rewrites}
@@ -75,7 +72,7 @@ terms_are (Some t) after name bytes e = ap (option_map (λ (t : Told). t.terms))
 -- how it was
 pub record IsCreated (name : List ℕ) (before mid : ShelfState) : Type 0 where
   pub told : mid.told ≡ option_map (created name Log) before.told
-  pub phases : (phase : Phase) × (mid.phases ≡ put before.phases Log phase)
+  pub openings : (phase : Phase) × (mid.openings ≡ opened Log name phase before.openings)
   pub later : before.write_faults ≤ mid.write_faults
 
 module _ (name : List ℕ) (before after : World) (trust : Trust) (mid : ShelfState)
@@ -90,10 +87,10 @@ module _ (name : List ℕ) (before after : World) (trust : Trust) (mid : ShelfSt
   cause_of was why.Full counts trusts = tt
   cause_of was why.NoMemory counts trusts = tt
 
-  log_phases : after.shelf.phases ≡ mid.phases
-      → OpensLog [] before.shelf.phases after.shelf.phases
-  log_phases same =
-      (before.shelf.phases, is_created.phases.0, (refl, refl), same ∙ is_created.phases.1)
+  log_opened : after.shelf.openings ≡ mid.openings
+      → OpensLog [] name before.shelf.openings after.shelf.openings
+  log_opened same =
+      (before.shelf.openings, is_created.openings.0, (refl, refl), same ∙ is_created.openings.1)
 
   rewrites : (bytes said : List ℕ)
       → Sent (devices mid before.out) bytes said (devices after.shelf after.out)
@@ -123,7 +120,7 @@ module _ (name : List ℕ) (before after : World) (trust : Trust) (mid : ShelfSt
       log = rewrites bytes said sent;
       report = sent.taken;
       room = room;
-      phases = log_phases sent.phases;
+      openings = log_opened sent.openings;
       ends = ends;
     }
 
@@ -143,16 +140,16 @@ module _ (name : List ℕ) (before after : World) (trust : Trust) (mid : ShelfSt
 
 -- ---- behind the reading of files
 
-module _ {V : Type 0} (slots : List Slot) (name : List ℕ) (before mid after : World) (trust : Trust)
-    (v : V) (only : OnlyReads slots before.shelf mid.shelf (Ok v)) (out : mid.out ≡ before.out)
+module _ {V : Type 0} (reads : NamedSlots) (name : List ℕ) (before mid after : World) (trust : Trust)
+    (v : V) (only : OnlyReads reads before.shelf mid.shelf (Ok v)) (out : mid.out ≡ before.out)
     (err : mid.err ≡ before.err) where
-  opens_behind : OpensLog [] mid.shelf.phases after.shelf.phases
-      → OpensLog slots before.shelf.phases after.shelf.phases
-  opens_behind (p, phase, (all, same), is) = (
-    mid.shelf.phases,
+  opens_behind : OpensLog [] name mid.shelf.openings after.shelf.openings
+      → OpensLog reads name before.shelf.openings after.shelf.openings
+  opens_behind (o, phase, (all, same), is) = (
+    mid.shelf.openings,
     phase,
-    only.untouched.phases,
-    is ∙ ap (λ (x : Slots Phase). put x Log phase) same,
+    only.untouched.openings,
+    is ∙ ap (opened Log name phase) same,
   )
 
   leaves_behind : LeavesFiles mid.shelf after.shelf → LeavesFiles before.shelf after.shelf
@@ -192,12 +189,12 @@ module _ {V : Type 0} (slots : List Slot) (name : List ℕ) (before mid after : 
 
   pub writes_behind : (limit most : ℕ) (IsText : Answer → (bytes said : List ℕ) → Type 0)
       (s : Status) → Writes name mid after trust [] limit most IsText s
-      → Writes name before after trust slots limit most IsText s
+      → Writes name before after trust reads limit most IsText s
   writes_behind limit most IsText s (inl none) = inl (record {
     status = none.status;
     leaves = leaves_behind none.leaves;
     out = none.out ∙ out;
-    phases = opens_behind none.phases;
+    openings = opens_behind none.openings;
     cause = cause_behind why.Log none.cause;
     said = subst (λ (e : SinkState). Says e after.err notice.LogFault) err none.said;
   })
@@ -210,19 +207,19 @@ module _ {V : Type 0} (slots : List Slot) (name : List ℕ) (before mid after : 
     log = rewrites_behind wrote.bytes wrote.log;
     report = subst (λ (o : SinkState). TakenBy o after.out wrote.said) out wrote.report;
     room = wrote.room;
-    phases = opens_behind wrote.phases;
+    openings = opens_behind wrote.openings;
     ends = ends_behind limit wrote.answer wrote.ends;
   })
 
 -- ---- what the text is
 
-module _ (slots : List Slot) (name : List ℕ) (before after : World) (trust : Trust)
+module _ (reads : NamedSlots) (name : List ℕ) (before after : World) (trust : Trust)
     (limit most least : ℕ) (IsText Text : Answer → (bytes said : List ℕ) → Type 0)
     (text : (answer : Answer) (bytes said : List ℕ) → IsText answer bytes said
     → Text answer bytes said)
     (e : most ≡ least) where
-  pub writes_as : (s : Status) → Writes name before after trust slots limit most IsText s
-      → Writes name before after trust slots limit least Text s
+  pub writes_as : (s : Status) → Writes name before after trust reads limit most IsText s
+      → Writes name before after trust reads limit least Text s
   writes_as s (inl none) = inl none
   writes_as s (inr wrote) = inr (record {
     answer = wrote.answer;
@@ -233,13 +230,13 @@ module _ (slots : List Slot) (name : List ℕ) (before after : World) (trust : T
     log = wrote.log;
     report = wrote.report;
     room = subst (λ (n : ℕ). HasRoom limit n wrote.answer) e wrote.room;
-    phases = wrote.phases;
+    openings = wrote.openings;
     ends = wrote.ends;
   })
 
 -- ---- the status
 
-module _ (slots : List Slot) (name : List ℕ) (before after : World) (trust : Trust)
+module _ (reads : NamedSlots) (name : List ℕ) (before after : World) (trust : Trust)
     (limit most : ℕ) (IsText : Answer → (bytes said : List ℕ) → Type 0) where
   answer_suits : (answer : Answer) (s : Status) → s ≡ status_of_writing limit answer
       → IsBrokenOff s ⊎ IsWritten s
@@ -249,7 +246,7 @@ module _ (slots : List Slot) (name : List ℕ) (before after : World) (trust : T
   answer_suits (Err why.Full) s is = inr (inr is)
   answer_suits (Err why.NoMemory) s is = inl (inr (inr is))
 
-  pub writes_suits : (s : Status) → Writes name before after trust slots limit most IsText s
+  pub writes_suits : (s : Status) → Writes name before after trust reads limit most IsText s
       → IsBrokenOff s ⊎ IsWritten s
   writes_suits s (inl none) = inl (inr (inl none.status))
   writes_suits s (inr wrote) = answer_suits wrote.answer s wrote.status

@@ -4,10 +4,9 @@ use Rattle.command_words.specs.Commands.{Files}
 use Rattle.epoch_selection.specs.declared.selection.Selection.{Selection}
 use Rattle.input_files.specs.Inputs.{InputsValue, ReadsFor, AreEnough, inputs_value}
 use Rattle.input_files.specs.Logs.{log_text}
-use Rattle.input_files.specs.Reading.{Reading, Named, Then, Returns}
+use Rattle.input_files.specs.Reading.{Reading, Named, NamedSlots, Then, Returns}
 use Rattle.input_files.specs.declared.inputs.Inputs.{Inputs}
 use Rattle.input_files.specs.declared.limits.Limits.{Limits}
-use Rattle.outer_io.specs.declared.slots.Slot.{Slot}
 use Rattle.outer_io.specs.declared.slots.Slot.TheVariants as slot
 use Rattle.paving_log.specs.Values.{log_value}
 use Rattle.paving_log_check.specs.GpsChecked.{IsFileAccepted, IsFileRefused}
@@ -31,8 +30,11 @@ pub record CheckedValue : Type 0 where
 abbrev pub checked_value : Checked → CheckedValue
 checked_value c = record { inputs = inputs_value c.inputs; log = log_value c.log }
 
-abbrev pub checked_slots : List Slot
-checked_slots = slot.Settings ∷ slot.Nav ∷ slot.Obs ∷ slot.Log ∷ []
+-- the files that are read, in their order
+abbrev pub checked_files : Files → NamedSlots
+checked_files names =
+    (slot.Settings, names.settings) ∷ (slot.Nav, names.nav) ∷ (slot.Obs, names.obs)
+    ∷ (slot.Log, names.log) ∷ []
 
 abbrev pub ReadsLog : Limits → (log : List ℕ) → InputsValue → Reading CheckedValue
 ReadsLog limits log i =

@@ -5,11 +5,10 @@ use Rattle.epoch_selection.specs.Searches.{Search, searches_in}
 use Rattle.epoch_selection.specs.declared.selection.Selection.{Selection}
 use Rattle.input_files.specs.Inputs.{InputsValue, ReadsFor}
 use Rattle.input_files.specs.Logs.{log_text}
-use Rattle.input_files.specs.Reading.{Reading, Named, Then, Returns}
+use Rattle.input_files.specs.Reading.{Reading, Named, NamedSlots, Then, Returns}
 use Rattle.input_files.specs.Zones.{ZonesValue, zones_text, zones_value}
 use Rattle.input_files.specs.declared.inputs.Inputs.{Inputs}
 use Rattle.input_files.specs.declared.limits.Limits.{Limits}
-use Rattle.outer_io.specs.declared.slots.Slot.{Slot}
 use Rattle.outer_io.specs.declared.slots.Slot.TheVariants as slot
 use Rattle.paving_log.specs.Values.{log_value}
 use Rattle.paving_log_check.specs.declared.verdict.Fault.{Fault}
@@ -38,8 +37,11 @@ pub record GuardedValue : Type 0 where
 abbrev pub guarded_value : Guarded → GuardedValue
 guarded_value g = record { checked = checked_value g.checked; zones = zones_value g.zones }
 
-abbrev pub guarded_slots : List Slot
-guarded_slots = slot.Settings ∷ slot.Nav ∷ slot.Obs ∷ slot.Rows ∷ slot.Log ∷ []
+-- the files that are read, in their order
+abbrev pub guarded_files : Files → (zones : List ℕ) → NamedSlots
+guarded_files names zones =
+    (slot.Settings, names.settings) ∷ (slot.Nav, names.nav) ∷ (slot.Obs, names.obs)
+    ∷ (slot.Rows, zones) ∷ (slot.Log, names.log) ∷ []
 
 abbrev pub guarded_by : InputsValue → ZonesValue → LogValue → GuardedValue
 guarded_by i z l = record { checked = record { inputs = i; log = l }; zones = z }

@@ -15,8 +15,8 @@ abbrev pub IsPaved : LogValue → ℕ → Answer → (bytes said : List ℕ) →
 IsPaved rows limit answer bytes said =
     (last : List Block) × IsText of_rows rows.rules rows.blocks last limit answer bytes said
 
--- the log of the rows was written, and its report printed, or it couldn't be created
-abbrev pub Paves : ℕ → List ℕ → LogValue → World → World → Trust → Status → Type 0
-Paves limit log rows before after trust =
-    Writes log before after trust (slot.Rows ∷ []) limit
+-- the log of the rows in this file was written, and its report printed, or it couldn't be created
+abbrev pub Paves : ℕ → (from log : List ℕ) → LogValue → World → World → Trust → Status → Type 0
+Paves limit from log rows before after trust =
+    Writes log before after trust ((slot.Rows, from) ∷ []) limit
     (most_bytes (length rows.blocks) rows.rules.bisections) (IsPaved rows limit)

@@ -6,10 +6,10 @@ use Rattle.command_words.specs.Commands as words
 use Rattle.command_words.specs.Commands.{Command, Judge, Pave, Solve, Check, Track, Retrack, Guard}
 use Rattle.command_words.specs.Commands.{Make}
 use Rattle.input_files.specs.Inputs.{InputsValue, ReadsInputs, ReadsMoving, inputs_value}
-use Rattle.input_files.specs.Inputs.{input_slots}
+use Rattle.input_files.specs.Inputs.{input_files}
 use Rattle.input_files.specs.Logs.{log_text, rows_text}
 use Rattle.input_files.specs.Reading.{IsBrokenOff, Found, IsOfReading, Named, NeverBreaks, Reading}
-use Rattle.input_files.specs.Reading.{Untouched, valued}
+use Rattle.input_files.specs.Reading.{NamedSlots, Untouched, valued}
 use Rattle.input_files.specs.Statuses.{status_of}
 use Rattle.input_files.specs.declared.inputs.Inputs.{Inputs}
 use Rattle.input_files.specs.declared.limits.Limits.{Limits}
@@ -19,16 +19,15 @@ use Rattle.input_files.specs.declared.status.Status.{Status}
 use Rattle.input_files.specs.declared.status.Status.TheVariants as status
 use Rattle.log_writer.specs.Writing.{Trust}
 use Rattle.outer_io.specs.Told.{Files, files_of}
-use Rattle.outer_io.specs.declared.slots.Slot.{Slot}
 use Rattle.outer_io.specs.declared.slots.Slot.TheVariants as slot
 use Rattle.paving_log.specs.Values.{log_value}
 use Rattle.paving_log.specs.declared.log.Log.{Log}
 use Rattle.sat_model.specs.Logs.{LogValue}
 use Rattle.cover_run.specs.Checking.{CheckedValue, ReadsChecked, ReadsTracked, checked_value}
-use Rattle.cover_run.specs.Checking.{SaysAccepted, SaysRefused, checked_slots}
+use Rattle.cover_run.specs.Checking.{SaysAccepted, SaysRefused, checked_files}
 use Rattle.cover_run.specs.Chosen.{chosen_in}
 use Rattle.cover_run.specs.Guarding.{GuardedValue, ReadsGuarded, SaysDenied, SaysGuarded}
-use Rattle.cover_run.specs.Guarding.{guarded_slots, guarded_value}
+use Rattle.cover_run.specs.Guarding.{guarded_files, guarded_value}
 use Rattle.cover_run.specs.Judging.{SaysJudged, SaysFault, IsJudgedAs}
 use Rattle.cover_run.specs.Making.{Makes}
 use Rattle.cover_run.specs.Paving.{Paves}
@@ -47,24 +46,26 @@ pub record Task (V : Type 0) : Type 1 where
   -- what the texts stand for
   pub Value : Type 0
   pub value : V → Value
-  pub slots : List Slot
+  -- the files that it reads, in their order
+  pub files : NamedSlots
   pub reads : Reading Value
   pub Does : V → World → World → Trust → Status → Type 0
   -- the statuses of one who does it, but for faults and want of memory
   pub Suits : Value → Status → Type 0
 
--- a file wasn't read or accepted: it was said, and nothing was written or printed
-pub record Stops (slots : List Slot) (before after : World) (n : Notice) (s : Status) : Type 0 where
+-- A file wasn't read or accepted: it was said, and nothing was written or printed. No other name
+-- was opened than those up to that file's.
+pub record Stops (files : NamedSlots) (before after : World) (n : Notice) (s : Status) : Type 0 where
   pub status : s ≡ status_of n
   pub ends : IsOfReading n
   pub said : Says before.err after.err n
   pub out : after.out ≡ before.out
-  pub shelf : Untouched slots false before.shelf after.shelf
+  pub shelf : Untouched files false before.shelf after.shelf
 
 module _ {V : Type 0} (task : Task V) (before after : World) (trust : Trust) (s : Status) where
   abbrev pub Ends : Result V Notice → Type 0
   Ends (Ok v) = task.Does v before after trust s
-  Ends (Err n) = Stops task.slots before after n s
+  Ends (Err n) = Stops task.files before after n s
 
   -- each cause has its status, where the files give this
   abbrev pub Fits : Result task.Value Notice → Type 0
@@ -85,11 +86,12 @@ module _ {V : Type 0} (task : Task V) (before after : World) (trust : Trust) (s 
 
 -- ---- the commands
 
--- a verdict was told, and no file but those that were read was opened
-module _ (Yes No : List ℕ → Type 0) (slots : List Slot) (before after : World) (trust : Trust) where
+-- a verdict was told, and no name but those of the files that were read was opened
+module _ (Yes No : List ℕ → Type 0) (files : NamedSlots) (before after : World)
+    (trust : Trust) where
   pub record TellsAlone (s : Status) : Type 0 where
     pub told : Tells Yes No (sinks before.out before.err) (sinks after.out after.err) trust.out s
-    pub shelf : Untouched slots true before.shelf after.shelf
+    pub shelf : Untouched files true before.shelf after.shelf
 
 -- the statuses of a verdict, and of a log that was written
 abbrev pub IsVerdict : Status → Type 0
@@ -102,10 +104,10 @@ abbrev pub judging : Limits → (log : List ℕ) → Task Log
 judging limits log = record {
   Value = LogValue;
   value = log_value;
-  slots = slot.Log ∷ [];
+  files = (slot.Log, log) ∷ [];
   reads = Named limits log_text log;
   Does = λ read. TellsAlone (SaysJudged (log_value read)) (SaysFault (log_value read))
-      (slot.Log ∷ []);
+      ((slot.Log, log) ∷ []);
   Suits = IsJudgedAs;
 }
 
@@ -113,9 +115,9 @@ abbrev pub paving : Limits → (rows log : List ℕ) → Task Log
 paving limits rows log = record {
   Value = LogValue;
   value = log_value;
-  slots = slot.Rows ∷ [];
+  files = (slot.Rows, rows) ∷ [];
   reads = Named limits rows_text rows;
-  Does = λ read. Paves limits.log log (log_value read);
+  Does = λ read. Paves limits.log rows log (log_value read);
   Suits = λ rows s. IsWritten s;
 }
 
@@ -123,9 +125,9 @@ abbrev pub solving : Limits → words.Files → Task Inputs
 solving limits names = record {
   Value = InputsValue;
   value = inputs_value;
-  slots = input_slots;
+  files = input_files names;
   reads = ReadsInputs limits names;
-  Does = Solves limits.log names.log (chosen_in names);
+  Does = Solves limits.log names;
   Suits = λ i s. IsWritten s;
 }
 
@@ -133,10 +135,10 @@ abbrev pub checking : Limits → words.Files → Task Checked
 checking limits names = record {
   Value = CheckedValue;
   value = checked_value;
-  slots = checked_slots;
+  files = checked_files names;
   reads = ReadsChecked limits names;
   Does = λ read. TellsAlone (SaysAccepted (chosen_in names) read)
-      (SaysRefused (chosen_in names) read) checked_slots;
+      (SaysRefused (chosen_in names) read) (checked_files names);
   Suits = λ found s. IsVerdict s;
 }
 
@@ -145,9 +147,9 @@ abbrev pub tracking : Limits → words.Files → Task Inputs
 tracking limits names = record {
   Value = InputsValue;
   value = inputs_value;
-  slots = input_slots;
+  files = input_files names;
   reads = ReadsMoving limits names;
-  Does = Tracks limits.log names.log (chosen_in names);
+  Does = Tracks limits.log names;
   Suits = λ i s. IsWritten s;
 }
 
@@ -155,10 +157,10 @@ abbrev pub rechecking : Limits → words.Files → Task Checked
 rechecking limits names = record {
   Value = CheckedValue;
   value = checked_value;
-  slots = checked_slots;
+  files = checked_files names;
   reads = ReadsTracked limits names;
   Does = λ read. TellsAlone (SaysTracked (chosen_in names) read)
-      (SaysUntracked (chosen_in names) read) checked_slots;
+      (SaysUntracked (chosen_in names) read) (checked_files names);
   Suits = λ found s. IsVerdict s;
 }
 
@@ -167,10 +169,10 @@ abbrev pub guarding : Limits → words.Files → (zones : List ℕ) → (tracked
 guarding limits names zones tracked = record {
   Value = GuardedValue;
   value = guarded_value;
-  slots = guarded_slots;
+  files = guarded_files names zones;
   reads = ReadsGuarded tracked limits names zones;
   Does = λ read. TellsAlone (SaysGuarded tracked (chosen_in names) read)
-      (SaysDenied tracked (chosen_in names) read) guarded_slots;
+      (SaysDenied tracked (chosen_in names) read) (guarded_files names zones);
   Suits = λ found s. IsVerdict s;
 }
 

@@ -1,12 +1,14 @@
 -- What `solve` writes.
 use Rattle.std.specs.Prelude.{ℕ, List, [], length, Ok, Err}
 use Rattle.clear_boxes.specs.Left.{BlocksLeaveNothingClear}
+use Rattle.command_words.specs.Commands.{Files}
 use Rattle.epoch_rows.specs.EpochsLeft.{EpochsLeft, left_in, of_epochs}
 use Rattle.epoch_selection.specs.Searches.{searches_in}
 use Rattle.epoch_selection.specs.Selections.{selected}
 use Rattle.epoch_selection.specs.declared.selection.Selection.{Selection}
 use Rattle.error_bounds.specs.Reading.{centre_with, IsRoot}
-use Rattle.input_files.specs.Inputs.{input_slots}
+use Rattle.input_files.specs.Inputs.{input_files}
+use Rattle.input_files.specs.Reading.{NamedSlots}
 use Rattle.input_files.specs.declared.inputs.Inputs.{Inputs}
 use Rattle.input_files.specs.declared.status.Status.{Status}
 use Rattle.log_writer.specs.Sizes.{most_bytes}
@@ -14,7 +16,6 @@ use Rattle.log_writer.specs.Sources.{Gives}
 use Rattle.log_writer.specs.Texts.{IsWhole, IsBegun}
 use Rattle.log_writer.specs.Writing.{Trust}
 use Rattle.log_writer.specs.declared.fault.WriteFault.{WriteFault}
-use Rattle.outer_io.specs.declared.slots.Slot.{Slot}
 use Rattle.paving_log_check.specs.Admissible.{Admits, AreOwn}
 use Rattle.paving_log_check.specs.FileCover.{FileCover}
 use Rattle.rinex_obs.specs.declared.obs.ObsEpoch.{ObsEpoch}
@@ -22,6 +23,7 @@ use Rattle.grid_model.specs.Boxes.{GridBox}
 use Rattle.sat_rows.specs.Meanings.{Meaning}
 use Rattle.sat_rows.specs.Sources.{both_meaning}
 use Rattle.sat_rows.specs.declared.lines.SatLine.{SatLine}
+use Rattle.cover_run.specs.Chosen.{chosen_in}
 use Rattle.cover_run.specs.Worlds.{World}
 use Rattle.cover_run.specs.Writing.{Answer, Writes}
 
@@ -80,13 +82,15 @@ module _ (chosen : Selection) (i : Inputs) where
 module _ (limit : ℕ) (log : List ℕ) (chosen : Selection) (i : Inputs) (before after : World)
     (trust : Trust) where
   -- behind the reading of files
-  abbrev pub WritesBehind : List Slot → Status → Type 0
-  WritesBehind slots = Writes log before after trust slots limit
+  abbrev pub WritesBehind : NamedSlots → Status → Type 0
+  WritesBehind reads = Writes log before after trust reads limit
       (most_bytes (length (epochs_of chosen i)) i.settings.rules.bisections)
       (IsSolution chosen i limit)
 
   abbrev pub Solution : Status → Type 0
   Solution = WritesBehind []
 
-  abbrev pub Solves : Status → Type 0
-  Solves = WritesBehind input_slots
+-- the same behind the reading of the files of these names, and of the log and the epochs with them
+abbrev pub Solves : ℕ → Files → Inputs → World → World → Trust → Status → Type 0
+Solves limit names i before after trust =
+    WritesBehind limit names.log (chosen_in names) i before after trust (input_files names)

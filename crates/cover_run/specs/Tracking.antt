@@ -4,11 +4,13 @@ use Rattle.std.specs.Prelude.{◌≡◌, ℕ, ◌++◌, Bool, true, false, List,
 use Rattle.std.specs.Prelude.{Some}
 use Rattle.std.specs.Prelude.{Ok, Err, codes, decimal}
 use Rattle.clear_boxes.specs.Left.{BlocksLeaveNothingClear}
+use Rattle.command_words.specs.Commands.{Files}
 use Rattle.epoch_selection.specs.Searches.{Search}
 use Rattle.epoch_selection.specs.declared.selection.Selection.{Selection}
 use Rattle.grid_model.specs.Boxes.{GridBox}
-use Rattle.input_files.specs.Inputs.{input_slots}
+use Rattle.input_files.specs.Inputs.{input_files}
 use Rattle.input_files.specs.Motion.{speed_of}
+use Rattle.input_files.specs.Reading.{NamedSlots}
 use Rattle.input_files.specs.declared.inputs.Inputs.{Inputs}
 use Rattle.input_files.specs.declared.status.Status.{Status}
 use Rattle.input_files.specs.declared.status.Status.TheVariants as status
@@ -20,7 +22,6 @@ use Rattle.log_writer.specs.Texts.{IsWhole}
 use Rattle.log_writer.specs.Writing.{Trust}
 use Rattle.log_writer.specs.declared.fault.WriteFault.{WriteFault}
 use Rattle.moving_tube.specs.Tracks.{Stay}
-use Rattle.outer_io.specs.declared.slots.Slot.{Slot}
 use Rattle.paving_log.specs.CoverBoxes.{cover_of}
 use Rattle.paving_log_check.specs.Admissible.{Admits, AreOwn}
 use Rattle.paving_log_check.specs.FileCover.{FileCover}
@@ -29,6 +30,7 @@ use Rattle.sat_rows.specs.declared.lines.SatLine.{SatLine}
 use Rattle.tube_check.specs.Found.{IsPath, PathFits, IsFoundIn}
 use Rattle.tube_rows.specs.TubeLeft.{TubeLeft, left_in, of_tube}
 use Rattle.tube_searches.specs.Tubes.{TubeValue, tube_searches}
+use Rattle.cover_run.specs.Chosen.{chosen_in}
 use Rattle.cover_run.specs.Solving.{IsRootOf, epochs_of, meaning_of}
 use Rattle.cover_run.specs.Telling.{Sinks, TellsLine}
 use Rattle.cover_run.specs.Worlds.{World}
@@ -155,13 +157,15 @@ module _ (chosen : Selection) (i : Inputs) where
 module _ (limit : ℕ) (log : List ℕ) (chosen : Selection) (i : Inputs) (before after : World)
     (trust : Trust) where
   -- behind the reading of files
-  abbrev pub TracksBehind : List Slot → Status → Type 0
-  TracksBehind slots = Writes log before after trust slots limit
+  abbrev pub TracksBehind : NamedSlots → Status → Type 0
+  TracksBehind reads = Writes log before after trust reads limit
       (most_bytes (length (epochs_of chosen i)) i.settings.rules.bisections)
       (IsTrack chosen i limit)
 
   abbrev pub Track : Status → Type 0
   Track = TracksBehind []
 
-  abbrev pub Tracks : Status → Type 0
-  Tracks = TracksBehind input_slots
+-- the same behind the reading of the files of these names, and of the log and the epochs with them
+abbrev pub Tracks : ℕ → Files → Inputs → World → World → Trust → Status → Type 0
+Tracks limit names i before after trust =
+    TracksBehind limit names.log (chosen_in names) i before after trust (input_files names)

@@ -1,6 +1,6 @@
 -- How a log is written and its report printed.
 use Rattle.std.specs.Prelude.{◌≡◌, ◌⊎◌, ℕ, true, List, Some, Result, Ok, Err}
-use Rattle.input_files.specs.Reading.{LeavesFiles, Opens}
+use Rattle.input_files.specs.Reading.{LeavesFiles, NamedSlots, Opens}
 use Rattle.input_files.specs.Statuses.{status_of}
 use Rattle.input_files.specs.declared.notice.Notice.{Notice}
 use Rattle.input_files.specs.declared.notice.Notice.TheVariants as notice
@@ -11,12 +11,10 @@ use Rattle.log_writer.specs.declared.fault.WriteFault.{WriteFault}
 use Rattle.log_writer.specs.declared.fault.WriteFault.TheVariants as why
 use Rattle.log_writer.specs.Writing.{Trust}
 use Rattle.outer_io.specs.Causes.{Rose}
-use Rattle.outer_io.specs.Slots.{put}
 use Rattle.outer_io.specs.Taken.{TakenBy}
+use Rattle.outer_io.specs.Told.{Openings, opened}
 use Rattle.outer_io.specs.declared.shelf.Phase.{Phase}
-use Rattle.outer_io.specs.declared.slots.Slot.{Slot}
 use Rattle.outer_io.specs.declared.slots.Slot.TheVariants as slot
-use Rattle.outer_io.specs.declared.slots.Slots.{Slots}
 use Rattle.cover_run.specs.Worlds.{World, Says, Rewrites}
 
 -- why LOG and the report weren't written to their end; the log's limit was this
@@ -34,11 +32,11 @@ abbrev pub status_of_writing : ℕ → Answer → Status
 status_of_writing limit (Ok done) = status.Done
 status_of_writing limit (Err fault) = status_of (notice_of_fault limit fault)
 
--- the files to read were opened in turn, and then the log
-abbrev pub OpensLog : List Slot → Slots Phase → Slots Phase → Type 0
-OpensLog reads old new =
-    (mid : Slots Phase) × (phase : Phase) × Opens reads true old mid ×
-    (new ≡ put mid slot.Log phase)
+-- the files to read were opened in turn, and then the log of this name, and no other name
+abbrev pub OpensLog : NamedSlots → (log : List ℕ) → Openings → Openings → Type 0
+OpensLog reads log old new =
+    (mid : Openings) × (phase : Phase) × Opens reads true old mid ×
+    (new ≡ opened slot.Log log phase mid)
 
 module _ (name : List ℕ) (before after : World) (trust : Trust) where
   -- a device that failed has counted it, and isn't reliable
@@ -56,18 +54,18 @@ module _ (name : List ℕ) (before after : World) (trust : Trust) where
       fault
 
   -- The log couldn't be created. Nothing was written or printed.
-  pub record CreatesNone (reads : List Slot) (s : Status) : Type 0 where
+  pub record CreatesNone (reads : NamedSlots) (s : Status) : Type 0 where
     pub status : s ≡ status.WriteFault
     pub leaves : LeavesFiles before.shelf after.shelf
     pub out : after.out ≡ before.out
-    pub phases : OpensLog reads before.shelf.phases after.shelf.phases
+    pub openings : OpensLog reads name before.shelf.openings after.shelf.openings
     pub cause : IsCause why.Log
     pub said : Says before.err after.err notice.LogFault
 
   -- It was created. It and `out` got what the writer's answer says, within the limit or as far as
   -- it goes.
   -- A full log had less room than the most bytes.
-  pub record WritesLog (reads : List Slot) (limit most : ℕ) (IsText : Answer → (bytes said : List ℕ)
+  pub record WritesLog (reads : NamedSlots) (limit most : ℕ) (IsText : Answer → (bytes said : List ℕ)
       → Type 0) (s : Status) : Type 0 where
     pub answer : Answer
     pub status : s ≡ status_of_writing limit answer
@@ -77,9 +75,9 @@ module _ (name : List ℕ) (before after : World) (trust : Trust) where
     pub log : Rewrites before.shelf after.shelf name bytes
     pub report : TakenBy before.out after.out said
     pub room : HasRoom limit most answer
-    pub phases : OpensLog reads before.shelf.phases after.shelf.phases
+    pub openings : OpensLog reads name before.shelf.openings after.shelf.openings
     pub ends : SaysEnd limit answer
 
-  abbrev pub Writes : (reads : List Slot) → (limit most : ℕ)
+  abbrev pub Writes : (reads : NamedSlots) → (limit most : ℕ)
       → (Answer → (bytes said : List ℕ) → Type 0) → Status → Type 0
   Writes reads limit most IsText s = CreatesNone reads s ⊎ WritesLog reads limit most IsText s

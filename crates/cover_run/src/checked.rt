@@ -2,7 +2,7 @@
 
 ghost use Rattle.std.specs.Prelude.{IfOk};
 ghost use Rattle.command_words.specs.Seen.{files_asked};
-ghost use Rattle.cover_run.specs.Checking.{AreReady, ReadsCheckedFor, checked_slots, checked_value};
+ghost use Rattle.cover_run.specs.Checking.{AreReady, ReadsCheckedFor, checked_files, checked_value};
 ghost use Rattle.input_files.specs.Motion.{HasMotion, speed_of};
 ghost use Rattle.input_files.specs.Reading.{Found, OnlyReads, valued};
 
@@ -30,7 +30,8 @@ pub fn read_checked<H: Shelf>(
     ensures found { Found (ReadsCheckedFor moving limits.now (files_asked words.now))
         (H.state shelf.old) (H.state shelf.new) (H.reliable shelf.new)
         (valued checked_value result) }
-    ensures only { OnlyReads checked_slots (H.state shelf.old) (H.state shelf.new) result }
+    ensures only { OnlyReads (checked_files (files_asked words.now))
+        (H.state shelf.old) (H.state shelf.new) result }
     ensures ready { IfOk result AreReady }
     ensures motion { IfOk result (λ found. HasMotion moving (speed_of found.inputs.settings)) }
 {

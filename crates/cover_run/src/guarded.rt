@@ -3,7 +3,7 @@
 ghost use Rattle.std.specs.Prelude.{IfOk};
 ghost use Rattle.command_words.specs.Seen.{files_asked};
 ghost use Rattle.cover_run.specs.Checking.{AreReady};
-ghost use Rattle.cover_run.specs.Guarding.{ReadsGuarded, guarded_slots, guarded_value};
+ghost use Rattle.cover_run.specs.Guarding.{ReadsGuarded, guarded_files, guarded_value};
 ghost use Rattle.input_files.specs.Motion.{HasMotion, speed_of};
 ghost use Rattle.input_files.specs.Reading.{Found, OnlyReads, valued};
 
@@ -34,7 +34,8 @@ pub fn read_guarded<H: Shelf>(
     ensures found { Found (ReadsGuarded moving limits.now (files_asked words.now) zones.now)
         (H.state shelf.old) (H.state shelf.new) (H.reliable shelf.new)
         (valued guarded_value result) }
-    ensures only { OnlyReads guarded_slots (H.state shelf.old) (H.state shelf.new) result }
+    ensures only { OnlyReads (guarded_files (files_asked words.now) zones.now)
+        (H.state shelf.old) (H.state shelf.new) result }
     ensures ready { IfOk result (λ found. AreReady found.checked) }
     ensures motion { IfOk result
         (λ found. HasMotion moving (speed_of found.checked.inputs.settings)) }

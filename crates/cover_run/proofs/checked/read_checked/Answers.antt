@@ -1,17 +1,24 @@
 use Rattle.std.proofs.Common.{[], ◌∷◌}
 use Rattle.std.proofs.lemmas.Result.{err_from_is_err_and}
+use Rattle.command_words.specs.Commands.{Files}
 use Rattle.command_words.specs.Seen.{files_asked}
 use Rattle.input_files.proofs.InputLemmas.{inputs_fair}
 use Rattle.input_files.proofs.ReadingLemmas.{found_err, found_then, found_return, named_fair}
 use Rattle.input_files.proofs.ReadingLemmas.{only_as, only_err, only_then}
 use Rattle.input_files.proofs.ReadingLemmas.{return_fair}
-use Rattle.input_files.specs.Inputs.{input_slots, inputs_value}
+use Rattle.input_files.specs.Inputs.{input_files, inputs_value}
 use Rattle.input_files.specs.Logs.{log_text}
+use Rattle.input_files.specs.Reading.{NamedSlots}
 use Rattle.outer_io.specs.declared.slots.Slot.TheVariants as slot
 use Rattle.paving_log.specs.Values.{log_value}
 use Rattle.cover_run.proofs.TaskLemmas.{log_fair}
 use Rattle.cover_run.specs.declared.checked.Checked.{Checked}
 use Rattle.cover_run.proofs.checked.read_checked.Goals as goal
+
+-- ---- the files behind those of a receiver
+
+abbrev log_at : Files → NamedSlots
+log_at names = (slot.Log, names.log) ∷ []
 
 -- ---- the files weren't read
 
@@ -22,50 +29,55 @@ returns-in_err-inputs-clause-found g c =
 
 pub returns-in_err-inputs-clause-only : goal.returns-in_err-inputs-clause-only
 returns-in_err-inputs-clause-only g c =
+    let names = files_asked c.args.words.now in
     let p = err_from_is_err_and c.from_residual.result c.from_residual.ensures.1 in
-    rw (p.1, p.2) (only_err input_slots (slot.Log ∷ []) _ _ c.in_err-inputs.field-0.0
+    rw (p.1, p.2) (only_err (input_files names) (log_at names) _ _ c.in_err-inputs.field-0.0
     c.in_err-inputs.ensures.only)
 
 -- ---- the log wasn't read
 
 pub returns-in_err-log-clause-found : goal.returns-in_err-log-clause-found
 returns-in_err-log-clause-found g c =
+    let names = files_asked c.args.words.now in
     let p = err_from_is_err_and c.from_residual-in_err-log.result
     c.from_residual-in_err-log.ensures.1 in
     let limits = c.args.limits.now in
     let words = c.args.words.now in
     rw (p.1, p.2) (found_then _ _ (inputs_fair limits (files_asked words) c.args.moving)
-    (log_fair limits (files_asked words) words.log.now) input_slots _ _ _ _ _ _
+    (log_fair limits (files_asked words) words.log.now) (input_files names) _ _ _ _ _ _
     (inputs_value c.in_ok-inputs.inputs) _ c.in_ok-inputs.ensures.only c.in_ok-inputs.ensures.found
     (found_err _ _ _ _ _ c.in_err-log.field-0.0 c.in_err-log.ensures.found))
 
 pub returns-in_err-log-clause-only : goal.returns-in_err-log-clause-only
 returns-in_err-log-clause-only g c =
+    let names = files_asked c.args.words.now in
     let p = err_from_is_err_and c.from_residual-in_err-log.result
     c.from_residual-in_err-log.ensures.1 in
-    rw (p.1, p.2) (only_then input_slots (slot.Log ∷ []) _ _ _ c.in_ok-inputs.inputs _
-    c.in_ok-inputs.ensures.only (only_err (slot.Log ∷ []) [] _ _ c.in_err-log.field-0.0
+    rw (p.1, p.2) (only_then (input_files names) (log_at names) _ _ _ c.in_ok-inputs.inputs _
+    c.in_ok-inputs.ensures.only (only_err (log_at names) [] _ _ c.in_err-log.field-0.0
     c.in_err-log.ensures.only))
 
 -- ---- all were read
 
 pub returns-clause-found : goal.returns-clause-found
 returns-clause-found g c =
+    let names = files_asked c.args.words.now in
     let limits = c.args.limits.now in
     let words = c.args.words.now in
     let i = inputs_value c.in_ok-inputs.inputs in
     let log = log_value c.in_ok-log.log in
     found_then _ _ (inputs_fair limits (files_asked words) c.args.moving)
-    (log_fair limits (files_asked words) words.log.now) input_slots _ _ _ _ _ _ i _
+    (log_fair limits (files_asked words) words.log.now) (input_files names) _ _ _ _ _ _ i _
     c.in_ok-inputs.ensures.only c.in_ok-inputs.ensures.found
     (found_then _ _ (named_fair limits log_text words.log.now)
     (λ x. return_fair (record { inputs = i; log = x }))
-    (slot.Log ∷ []) _ _ _ _ _ _ log _ c.in_ok-log.ensures.only c.in_ok-log.ensures.found
+    (log_at names) _ _ _ _ _ _ log _ c.in_ok-log.ensures.only c.in_ok-log.ensures.found
     (found_return (record { inputs = i; log = log }) _ _ _))
 
 pub returns-clause-only : goal.returns-clause-only
 returns-clause-only g c =
+    let names = files_asked c.args.words.now in
     let all : Checked = record { inputs = c.in_ok-inputs.inputs; log = c.in_ok-log.log } in
-    only_then input_slots (slot.Log ∷ []) _ _ _ c.in_ok-inputs.inputs _
-    c.in_ok-inputs.ensures.only (only_as (slot.Log ∷ []) _ _ c.in_ok-log.log all
+    only_then (input_files names) (log_at names) _ _ _ c.in_ok-inputs.inputs _
+    c.in_ok-inputs.ensures.only (only_as (log_at names) _ _ c.in_ok-log.log all
     c.in_ok-log.ensures.only)

@@ -37,7 +37,7 @@ returns g c =
     ))
     (ap (λ (blocks : List Block). most_bytes (length blocks) rows.rules.bisections) made.rest)
     s c.write_named.ensures.log in
-    let does = writes_behind (slot.Rows ∷ []) _ _ _ _ _ rows c.in-Ok.ensures.only refl refl
+    let does = writes_behind ((slot.Rows, c.args.rows.now) ∷ []) _ _ _ _ _ rows c.in-Ok.ensures.only refl refl
     limits.log _ (IsPaved (log_value rows) limits.log) s wrote in
     run_ok _ _ _ _ s rows (found_value _ _ _ _ _ _ _ fair c.in-Ok.ensures.found) does
     (writes_suits _ _ _ _ _ _ _ _ s does) (written_known s)

@@ -2,7 +2,7 @@ use Rattle.std.proofs.Common.{refl, true}
 use Rattle.command_words.specs.Seen.{files_asked}
 use Rattle.input_files.proofs.InputLemmas.{inputs_fair}
 use Rattle.input_files.proofs.ReadingLemmas.{found_value}
-use Rattle.input_files.specs.Inputs.{input_slots}
+use Rattle.input_files.specs.Inputs.{input_files}
 use Rattle.cover_run.proofs.RunLemmas.{run_ok, run_err}
 use Rattle.cover_run.proofs.WritingLemmas.{writes_behind, writes_suits, written_known}
 use Rattle.cover_run.specs.Chosen.{chosen_in}
@@ -16,7 +16,7 @@ returns-in-Ok g c =
     let names = files_asked c.args.words.now in
     let fair = inputs_fair limits names true in
     let s = c.write_track.result in
-    let does = writes_behind input_slots _ _ _ _ _ i c.in-Ok.ensures.only refl refl limits.log _
+    let does = writes_behind (input_files names) _ _ _ _ _ i c.in-Ok.ensures.only refl refl limits.log _
     (IsTrack (chosen_in names) i limits.log) s
     (rw c.chosen_in.ensures at c.write_track.ensures) in
     run_ok _ _ _ _ s i (found_value _ _ _ _ _ _ _ fair c.in-Ok.ensures.found) does

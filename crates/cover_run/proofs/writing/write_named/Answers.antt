@@ -9,7 +9,7 @@ returns-in-Ok-write_log-clause-log g c =
     let made = c.in-Ok.ensures in
     let w = c.in-Ok-write_log.ensures in
     wrote_all c.args.name.now _ _ _ (g.H.Shelf.state c.create.new.self)
-    (record { told = made.created; phases = (Writing, made.phase); later = made.cause.later })
+    (record { told = made.created; openings = (Writing, made.openings); later = made.cause.later })
     _ _ _ _ w.text w.room refl refl
 
 pub returns-in-Err-write_log-clause-log : goal.returns-in-Err-write_log-clause-log
@@ -18,7 +18,7 @@ returns-in-Err-write_log-clause-log g c =
     let w = c.in-Err-write_log.ensures in
     let say = c.say-in-Err-write_log.ensures in
     wrote_first c.args.name.now _ _ _ (g.H.Shelf.state c.create.new.self)
-    (record { told = made.created; phases = (Writing, made.phase); later = made.cause.later })
+    (record { told = made.created; openings = (Writing, made.openings); later = made.cause.later })
     _ _ _ _ _ c.in-Err-write_log.fault w.text w.room w.counts w.trust
     (say.status ∙ ap status_of c.notice_of_fault.ensures) (rw c.notice_of_fault.ensures at say.line)
 
