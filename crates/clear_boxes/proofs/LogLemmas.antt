@@ -1,9 +1,8 @@
 -- A log that paves the grown rows of searches leaves nothing clear.
 use Rattle.std.specs.Prelude.{ℤ, ◌≤ℤ◌, pos}
-use Rattle.std.proofs.Common.{◌≡◌, ℕ, Bool, true, false, List, [], ◌∷◌, refl, sym, ◌∙◌, arith, Option, None, Some}
+use Rattle.std.proofs.Common.{◌≡◌, ℕ, Bool, true, false, List, [], ◌∷◌, length, suc, refl, sym, ap, subst, ◌∙◌, arith, Option, None, Some}
 use Rattle.box_steps.proofs.BoxLemmas.{grid_part}
 use Rattle.std.proofs.lemmas.Int.{ints}
-use Rattle.epoch_rows.proofs.AdmitLemmas.{HavePoints}
 use Rattle.epoch_rows.proofs.AgreeLemmas.{HasPoint}
 use Rattle.range_contractor.proofs.BoxLemmas.{along, holds_at}
 use Rattle.grid_model.specs.Sizes.{IsBoxSize}
@@ -23,10 +22,22 @@ use Rattle.sat_rows.specs.declared.lines.SatLine.{SatLine}
 use Rattle.epoch_rows.proofs.CameLemmas.{whole_of}
 use Rattle.epoch_rows.specs.EpochsLeft.{EpochsLeft, left_in, of_epochs}
 use Rattle.epoch_rows.specs.Grown.{HasBody, AreGrown, AreGrownLines}
-use Rattle.clear_boxes.specs.Left.{NothingClearLeft, BodyLeavesNothingClear, BlocksLeaveNothingClear}
-use Rattle.log_writer.specs.Texts.{IsWhole}
+use Rattle.clear_boxes.specs.Left.{NothingClearLeft, BodyLeavesNothingClear, BlocksLeaveNothingClear, LogLeavesNothingClear}
+use Rattle.log_writer.specs.Kept.{hull_kept}
+use Rattle.log_writer.specs.Sources.{Came}
+use Rattle.log_writer.specs.Texts.{IsWhole, IsBegun}
+use Rattle.log_writer.specs.declared.fault.WriteFault.{WriteFault}
 use Rattle.log_writer.specs.Pavings.{HasRun, BodyPaves, AllPave}
 use Rattle.clear_boxes.proofs.RunLemmas.{run_clear}
+
+-- each search has a block
+pub as_many : (m : Meaning) (q : ℕ) (rules : Rules) (searches : List Search) (given blocks : List Block) → AreGrown m q searches given → AllPave rules given blocks → length blocks ≡ length searches
+as_many m q rules [] [] [] grown pave = refl
+as_many m q rules [] [] (block ∷ blocks) grown pave = absurd pave
+as_many m q rules [] (g ∷ given) blocks grown pave = absurd grown
+as_many m q rules (search ∷ searches) [] blocks grown pave = absurd grown
+as_many m q rules (search ∷ searches) (g ∷ given) [] grown pave = absurd pave
+as_many m q rules (search ∷ searches) (g ∷ given) (block ∷ blocks) grown pave = ap suc (as_many m q rules searches given blocks grown.1 pave.1)
 
 module _ (m : Meaning) (sound : IsSound m) (rules : Rules) (root : GridBox) (box : IsSearchBox root) (grid : IsGridPart root) where
   run_of_block : (epoch : ObsEpoch) (own : List SatLine) (block : Block) → AreLinesOf m root epoch own → AreGrownLines (pos (spare_of root)) (pos (err_spare_of root m.delays)) own block.sats → (paved : HasRun rules root block)
@@ -42,17 +53,32 @@ module _ (m : Meaning) (sound : IsSound m) (rules : Rules) (root : GridBox) (box
       let paved : HasRun rules root block = rw same at paves in
       rw same (refl, paved, run_of_block epoch own block are (rw sats body.0) paved)
 
-  pub log_clear : (epochs : List ObsEpoch) (given blocks : List Block) → AreGrown m rules.outliers (searches_in root epochs) given → AllPave rules given blocks
+  blocks_clear : (epochs : List ObsEpoch) (given blocks : List Block) → AreGrown m rules.outliers (searches_in root epochs) given → AllPave rules given blocks
       → BlocksLeaveNothingClear m rules (searches_in root epochs) blocks
-  log_clear [] [] [] grown pave = tt
-  log_clear [] [] (block ∷ blocks) grown pave = absurd pave
-  log_clear [] (g ∷ given) blocks grown pave = absurd grown
-  log_clear (epoch ∷ epochs) [] blocks grown pave = absurd grown
-  log_clear (epoch ∷ epochs) (g ∷ given) [] grown pave = absurd pave
-  log_clear (epoch ∷ epochs) (g ∷ given) (block ∷ blocks) grown pave = (
+  blocks_clear epochs given [] grown pave = tt
+  blocks_clear epochs [] (block ∷ blocks) grown pave = absurd pave
+  blocks_clear [] (g ∷ given) (block ∷ blocks) grown pave = absurd grown
+  blocks_clear (epoch ∷ epochs) (g ∷ given) (block ∷ blocks) grown pave = (
     body_clear epoch g.few grown.0.own g block block.root grown.0.are_own grown.0.body (sym pave.0.root) pave.0.sats pave.0.body,
-    log_clear epochs given blocks grown.1 pave.1,
+    blocks_clear epochs given blocks grown.1 pave.1,
   )
+
+  pub log_clear : (epochs : List ObsEpoch) (given blocks : List Block) → AreGrown m rules.outliers (searches_in root epochs) given → AllPave rules given blocks
+      → LogLeavesNothingClear m rules (searches_in root epochs) blocks
+  log_clear epochs given blocks grown pave =
+      (as_many m rules.outliers rules (searches_in root epochs) given blocks grown pave, blocks_clear epochs given blocks grown pave)
+
+  -- what came from a source of epochs, also where it has more of them
+  pub came_clear : (epochs : List ObsEpoch) (hull : Option GridBox) (blocks : List Block) (behind : EpochsLeft) → Came (of_epochs m rules.outliers) rules (left_in root epochs) hull blocks behind
+      → BlocksLeaveNothingClear m rules (searches_in root epochs) blocks
+  came_clear epochs hull [] behind came = tt
+  came_clear epochs hull (block ∷ blocks) behind (given, next, gave, paves, came) =
+      let here = ap (λ (r : GridBox). left_in r next.epochs) gave.same_root in
+      let later = subst (λ (l : EpochsLeft). Came (of_epochs m rules.outliers) rules l (hull_kept block.steps block.root) blocks behind) here came in
+      subst (λ (l : List ObsEpoch). BlocksLeaveNothingClear m rules (searches_in root l) (block ∷ blocks)) (sym gave.first) (
+        body_clear gave.epoch given.few gave.grown.own given block block.root gave.grown.are_own gave.grown.body (sym paves.root) paves.sats paves.body,
+        came_clear next.epochs (hull_kept block.steps block.root) blocks behind later,
+      )
 
 -- ---- each search in a box of its own
 
@@ -66,28 +92,23 @@ ordered : (s : Side) (n : ℤ) → IsIn s n → s.lo ≤ℤ s.hi
 ordered s n (low, high) = omega (arith, ints, low, high)
 
 -- a search box with a point is a box of the grid, not empty
-point_grid : (root : GridBox) → HasPoint root → IsGridPart root
+pub point_grid : (root : GridBox) → HasPoint root → IsGridPart root
 point_grid root has = record {
   lies = λ axis. record { low = omega (arith, ints); ordered = ordered (side_at axis root) (along axis has.point) (holds_at root has.point has.inside axis); high = omega (arith, ints) };
   sizes = record { x = sized root.x has.box.x; y = sized root.y has.box.y; z = sized root.z has.box.z };
 }
 
-module _ (m : Meaning) (sound : IsSound m) (rules : Rules) where
-  pub searches_clear : (searches : List Search) (given blocks : List Block) → HavePoints searches → AreGrown m rules.outliers searches given → AllPave rules given blocks
-      → BlocksLeaveNothingClear m rules searches blocks
-  searches_clear [] [] [] points grown pave = tt
-  searches_clear [] [] (block ∷ blocks) points grown pave = absurd pave
-  searches_clear [] (g ∷ given) blocks points grown pave = absurd grown
-  searches_clear (search ∷ searches) [] blocks points grown pave = absurd grown
-  searches_clear (search ∷ searches) (g ∷ given) [] points grown pave = absurd pave
-  searches_clear (search ∷ searches) (g ∷ given) (block ∷ blocks) points grown pave = (
-    body_clear m sound rules search.root points.0.box (point_grid search.root points.0) search.epoch g.few grown.0.own g block block.root grown.0.are_own grown.0.body (sym pave.0.root) pave.0.sats pave.0.body,
-    searches_clear searches given blocks points.1 grown.1 pave.1,
-  )
+-- ---- a source of epochs
 
--- the whole log of a source of epochs
+-- the whole log
 pub whole_clear : (m : Meaning) (sound : IsSound m) (rules : Rules) (root : Box3) (box : IsSearchBox (grid_box root)) (epochs : List ObsEpoch) (last : EpochsLeft) (limit : ℕ) (bytes said : List ℕ)
-    (w : IsWhole (of_epochs m rules.outliers) rules (left_in (grid_box root) epochs) last limit bytes said) → BlocksLeaveNothingClear m rules (searches_in (grid_box root) epochs) w.log.blocks
+    (w : IsWhole (of_epochs m rules.outliers) rules (left_in (grid_box root) epochs) last limit bytes said) → LogLeavesNothingClear m rules (searches_in (grid_box root) epochs) w.log.blocks
 whole_clear m sound rules root box epochs last limit bytes said w =
     let (given, grown, pave) = whole_of m rules.outliers rules (left_in (grid_box root) epochs) w.log.blocks w.behind w.came w.no_more in
     log_clear m sound rules (grid_box root) box (grid_part root) epochs given w.log.blocks grown pave
+
+-- what a fault left of it
+pub begun_clear : (fault : WriteFault) (m : Meaning) (sound : IsSound m) (rules : Rules) (root : Box3) (box : IsSearchBox (grid_box root)) (epochs : List ObsEpoch) (limit : ℕ) (bytes said : List ℕ)
+    (b : IsBegun fault (of_epochs m rules.outliers) rules (left_in (grid_box root) epochs) limit bytes said) → BlocksLeaveNothingClear m rules (searches_in (grid_box root) epochs) b.blocks
+begun_clear fault m sound rules root box epochs limit bytes said b =
+    came_clear m sound rules (grid_box root) box (grid_part root) epochs None b.blocks b.behind b.came

@@ -1,6 +1,7 @@
 -- What a run leaves: no box that it splits, or closes at the edge, is clear, and no eighth at its
 -- faces.
-use Rattle.std.specs.Prelude.{◌≡◌, ℕ, ◌≤◌, pos, ◌<ℤ◌, List, [], ◌∷◌, Option, None, Some}
+use Rattle.std.specs.Prelude.{◌≡◌, ℕ, ◌≤◌, pos, ◌<ℤ◌, List, [], ◌∷◌, length, Option, None}
+use Rattle.std.specs.Prelude.{Some}
 use Rattle.std.specs.List.{AllByRecursion}
 use Rattle.box_steps.specs.Cuts.{eighth_of, eighths}
 use Rattle.epoch_selection.specs.Searches.{Search}
@@ -56,10 +57,14 @@ module _ (m : Meaning) (rules : Rules) where
       × (paved : HasRun rules root block)
       × NothingClearLeft m rules search block.done paved.shown
 
-  -- so does each block, in the search that it is of
+  -- blocks of the first of these searches, one after another: so does each
   abbrev pub BlocksLeaveNothingClear : List Search → List Block → Type 0
-  BlocksLeaveNothingClear [] [] = Unit {0}
+  BlocksLeaveNothingClear searches [] = Unit {0}
   BlocksLeaveNothingClear [] (block ∷ blocks) = ⊥
-  BlocksLeaveNothingClear (search ∷ searches) [] = ⊥
   BlocksLeaveNothingClear (search ∷ searches) (block ∷ blocks) =
       BodyLeavesNothingClear search block block.root × BlocksLeaveNothingClear searches blocks
+
+  -- of a whole log, which has one of each search
+  abbrev pub LogLeavesNothingClear : List Search → List Block → Type 0
+  LogLeavesNothingClear searches blocks = (length blocks ≡ length searches)
+      × BlocksLeaveNothingClear searches blocks

@@ -2,7 +2,7 @@
 
 ghost use Rattle.std.specs.Prelude.{◌≡◌, ◌+◌, ◌*◌, ◌≤◌, ℕ, List, pos};
 ghost use Rattle.clear_boxes.specs.Clear.{IsEmptyBy, IsInnerBy};
-ghost use Rattle.clear_boxes.specs.Left.{BlocksLeaveNothingClear, NothingClearLeft};
+ghost use Rattle.clear_boxes.specs.Left.{LogLeavesNothingClear, NothingClearLeft};
 ghost use Rattle.epoch_rows.specs.Grown.{AreGrown, AreGrownLines};
 ghost use Rattle.epoch_selection.specs.Searches.{search_in, searches_in};
 ghost use Rattle.log_writer.specs.Pavings.{AllPave};
@@ -68,6 +68,6 @@ pub fn logs_leave_nothing_clear<S: RowSource>()
         → IsSearchBox (grid_box root)
         → AreGrown (S.meaning source) rules.outliers (searches_in (grid_box root) epochs) given
         → AllPave rules given blocks
-        → BlocksLeaveNothingClear (S.meaning source) rules (searches_in (grid_box root) epochs)
+        → LogLeavesNothingClear (S.meaning source) rules (searches_in (grid_box root) epochs)
         blocks }
 {}

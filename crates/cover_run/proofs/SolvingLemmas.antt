@@ -1,6 +1,6 @@
 -- The log that `solve` writes, against the files.
 use Rattle.std.proofs.Common.{ℕ, List, Ok, Err}
-use Rattle.clear_boxes.proofs.LogLemmas.{whole_clear}
+use Rattle.clear_boxes.proofs.LogLemmas.{begun_clear, whole_clear}
 use Rattle.epoch_rows.proofs.CameLemmas.{whole_admits, whole_covers}
 use Rattle.epoch_rows.specs.EpochsLeft.{EpochsLeft, left_in}
 use Rattle.epoch_selection.specs.declared.selection.Selection.{Selection}
@@ -37,5 +37,10 @@ solution_of chosen i root last limit (Ok done) bytes said is_root box text =
       nothing_clear = whole_clear m sound rules root box (epochs_of chosen i) last limit bytes
           said text;
     }
-solution_of chosen i root last limit (Err fault) bytes said is_root box text =
-    record { root = grid_box root; is_root = is_root; begun = text }
+solution_of chosen i root last limit (Err fault) bytes said is_root box text = record {
+  root = grid_box root;
+  is_root = is_root;
+  begun = text;
+  nothing_clear = begun_clear fault (meaning_of i) (both_sound i.nav i.settings) i.settings.rules
+      root box (epochs_of chosen i) limit bytes said text;
+}

@@ -29,7 +29,7 @@ use Rattle.sat_rows.specs.Laws.{both_sound}
 use Rattle.sat_rows.specs.Meanings.{Meaning}
 use Rattle.tube_rows.proofs.HullLemmas.{hull_told}
 use Rattle.tube_rows.specs.TubeLeft as left
-use Rattle.tube_rows.proofs.CameLemmas.{whole_admits, whole_clear, whole_covers, whole_found}
+use Rattle.tube_rows.proofs.CameLemmas.{came_clear, whole_admits, whole_clear, whole_covers, whole_found}
 use Rattle.tube_rows.specs.TubeLeft.{Last, TubeLeft, left_in, lost_of, of_tube}
 use Rattle.input_files.specs.declared.inputs.Inputs.{Inputs}
 use Rattle.cover_run.specs.Solving.{epochs_of, meaning_of}
@@ -299,4 +299,12 @@ track_of chosen i search speed last limit (Ok done) bytes said is_tube track =
       found = whole_found m sound rules here last refl limit bytes track.report w;
     }
 track_of chosen i search speed last limit (Err fault) bytes said is_tube begun =
-    record { search = search; speed = speed; is_tube = is_tube; last = last; begun = begun }
+    let here = left_in search speed (epochs_of chosen i) in
+    record {
+      search = search;
+      speed = speed;
+      is_tube = is_tube;
+      last = last;
+      begun = begun;
+      nothing_clear = came_clear (meaning_of i) i.settings.rules (both_sound i.nav i.settings) here None begun.blocks begun.behind tt begun.came;
+    }

@@ -91,7 +91,8 @@ module _ (limit : ℕ) (i : Inputs) where
     pub solved : IsSolved all_epochs i limit bytes said
     pub log_is : solved.whole.log ≡ log
 
-  -- the first lines of such a log, of which the next would bring it past the limit
+  -- the first lines of a log of the first epochs, up to the one in hand, whose next line would
+  -- bring it past the limit, which is less than a log of all epochs can need
   pub record IsFull : Type 0 where
     pub bytes : List ℕ
     pub said : List ℕ

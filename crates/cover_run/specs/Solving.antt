@@ -1,6 +1,6 @@
 -- What `solve` writes.
 use Rattle.std.specs.Prelude.{ℕ, List, [], length, Ok, Err}
-use Rattle.clear_boxes.specs.Left.{BlocksLeaveNothingClear}
+use Rattle.clear_boxes.specs.Left.{BlocksLeaveNothingClear, LogLeavesNothingClear}
 use Rattle.command_words.specs.Commands.{Files}
 use Rattle.epoch_rows.specs.EpochsLeft.{EpochsLeft, left_in, of_epochs}
 use Rattle.epoch_selection.specs.Searches.{searches_in}
@@ -63,15 +63,17 @@ module _ (chosen : Selection) (i : Inputs) where
         whole.log
     pub cover : FileCover (meaning_of i) i.settings.rules.outliers
         (searches_in root (epochs_of chosen i)) whole.log
-    pub nothing_clear : BlocksLeaveNothingClear (meaning_of i) i.settings.rules
+    pub nothing_clear : LogLeavesNothingClear (meaning_of i) i.settings.rules
         (searches_in root (epochs_of chosen i)) whole.log.blocks
 
-  -- what this fault left of both
+  -- what this fault left of both; its blocks, up to the one in hand, leave nothing clear either
   pub record IsSolvedTo (fault : WriteFault) (limit : ℕ) (bytes said : List ℕ) : Type 0 where
     pub root : GridBox
     pub is_root : IsRootOf i root
     pub begun : IsBegun fault (gives_of i) i.settings.rules (left_in root (epochs_of chosen i))
         limit bytes said
+    pub nothing_clear : BlocksLeaveNothingClear (meaning_of i) i.settings.rules
+        (searches_in root (epochs_of chosen i)) begun.blocks
 
   -- by how the writing ended
   abbrev pub IsSolution : ℕ → Answer → (bytes said : List ℕ) → Type 0

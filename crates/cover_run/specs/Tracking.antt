@@ -3,7 +3,7 @@
 use Rattle.std.specs.Prelude.{◌≡◌, ℕ, ◌++◌, Bool, true, false, List, [], ◌∷◌, length, Option, None}
 use Rattle.std.specs.Prelude.{Some}
 use Rattle.std.specs.Prelude.{Ok, Err, codes, decimal}
-use Rattle.clear_boxes.specs.Left.{BlocksLeaveNothingClear}
+use Rattle.clear_boxes.specs.Left.{BlocksLeaveNothingClear, LogLeavesNothingClear}
 use Rattle.command_words.specs.Commands.{Files}
 use Rattle.epoch_selection.specs.Searches.{Search}
 use Rattle.epoch_selection.specs.declared.selection.Selection.{Selection}
@@ -133,13 +133,13 @@ module _ (chosen : Selection) (i : Inputs) where
         i.settings.rules track.whole.log
     pub cover : FileCover (meaning_of i) i.settings.rules.outliers
         (tube_searches (tube_of chosen i search speed) track.whole.log.blocks) track.whole.log
-    pub nothing_clear : BlocksLeaveNothingClear (meaning_of i) i.settings.rules
+    pub nothing_clear : LogLeavesNothingClear (meaning_of i) i.settings.rules
         (tube_searches (tube_of chosen i search speed) track.whole.log.blocks)
         track.whole.log.blocks
     pub found : FindsReceiver search speed track.whole.log
         (tube_searches (tube_of chosen i search speed) track.whole.log.blocks)
 
-  -- what this fault left of both
+  -- what this fault left of both; its blocks, up to the one in hand, leave nothing clear either
   pub record IsTrackedTo (fault : WriteFault) (limit : ℕ) (bytes said : List ℕ) : Type 0 where
     pub search : GridBox
     pub speed : ℕ
@@ -147,6 +147,8 @@ module _ (chosen : Selection) (i : Inputs) where
     pub last : TubeLeft
     pub begun : IsBegunTrack (gives_tube i) i (left_in search speed (epochs_of chosen i)) last
         fault limit bytes said
+    pub nothing_clear : BlocksLeaveNothingClear (meaning_of i) i.settings.rules
+        (tube_searches (tube_of chosen i search speed) begun.blocks) begun.blocks
 
   -- by how the writing ended
   abbrev pub IsTrack : ℕ → Answer → (bytes said : List ℕ) → Type 0

@@ -1,8 +1,8 @@
 -- A log of what came from the epochs of a moving receiver, against the files.
 use Rattle.std.proofs.Common.{◌≡◌, ℕ, zero, suc, Bool, true, false, List, [], ◌∷◌, refl, sym, ap, subst, ◌∙◌, arith, Option, None, Some}
 use Rattle.std.proofs.lemmas.Int.{ints}
-use Rattle.clear_boxes.proofs.LogLemmas.{searches_clear}
-use Rattle.clear_boxes.specs.Left.{BlocksLeaveNothingClear}
+use Rattle.clear_boxes.proofs.LogLemmas.{as_many, body_clear, point_grid}
+use Rattle.clear_boxes.specs.Left.{BlocksLeaveNothingClear, LogLeavesNothingClear}
 use Rattle.epoch_rows.proofs.AdmitLemmas.{HavePoints, boxes_of, admits_from, owns_of, few_roots}
 use Rattle.epoch_rows.proofs.AgreeLemmas.{HasPoint}
 use Rattle.epoch_rows.specs.Grown.{HasBody, AreGrown}
@@ -120,6 +120,19 @@ module _ (m : Meaning) (rules : Rules) where
       more_came left hull given block next inside gave paves blocks
       (came_of next (hull_kept block.steps block.root) blocks behind last (next_inside left hull given block next inside gave paves) came ended)
 
+  -- also where the tube has more of them, they leave nothing clear
+  pub came_clear : (sound : IsSound m) (left : TubeLeft) (hull : Option GridBox) (blocks : List Block) (behind : TubeLeft) → IsInside (tube_with left hull)
+      → Came (of_tube m rules.outliers) rules left hull blocks behind → BlocksLeaveNothingClear m rules (tube_searches (tube_with left hull) blocks) blocks
+  unfolding told_hull
+  came_clear sound left hull [] behind inside came = tt
+  came_clear sound left hull (block ∷ blocks) behind inside (given, next, gave, paves, came) =
+      let grid = point_grid gave.root (has_point gave.root left.search gave.lies gave.box) in
+      let g = gave.grown in
+      subst (λ (l : List Search). BlocksLeaveNothingClear m rules l (block ∷ blocks)) (sym (next_searches left hull given block next inside gave paves blocks)) (
+        body_clear m sound rules gave.root gave.box grid gave.epoch given.few g.own given block block.root g.are_own g.body (sym paves.root) paves.sats paves.body,
+        came_clear sound next (hull_kept block.steps block.root) blocks behind (next_inside left hull given block next inside gave paves) came,
+      )
+
 -- the whole log of a moving receiver, from its first epoch on
 module _ (m : Meaning) (sound : IsSound m) (rules : Rules) (left last : TubeLeft) (first : left.last ≡ None) (limit : ℕ) (bytes said : List ℕ)
     (w : IsWhole (of_tube m rules.outliers) rules left last limit bytes said) where
@@ -147,8 +160,11 @@ module _ (m : Meaning) (sound : IsSound m) (rules : Rules) (left last : TubeLeft
       (whole_admits owns are).blocks are each
 
   -- and leaves nothing clear
-  pub whole_clear : BlocksLeaveNothingClear m rules whole_searches w.log.blocks
-  whole_clear = searches_clear m sound rules whole_searches whole_came.given w.log.blocks whole_came.points whole_came.grown whole_came.pave
+  pub whole_clear : LogLeavesNothingClear m rules whole_searches w.log.blocks
+  whole_clear = (
+    as_many m rules.outliers rules whole_searches whole_came.given w.log.blocks whole_came.grown whole_came.pave,
+    came_clear m rules sound left None w.log.blocks w.behind none_inside w.came,
+  )
 
   -- they accept it
   pub whole_accepted : IsAccepted m whole_searches rules w.log (kept_boxes w.log)
