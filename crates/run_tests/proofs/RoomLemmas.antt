@@ -1,5 +1,5 @@
 -- What is left of the room behind a run, and that nothing fails while some is.
-use Rattle.std.proofs.Common.{◌≡◌, ◌≤◌, ◌<◌, ◌∙◌, ◌⊎◌, ℕ, ◌+◌, Bool, true, false, List, [], ◌++◌, length, take, drop, Option, None, Some, is_some, Result, Ok, Err, refl, sym, ap, subst, inl, inr, arith, length-append}
+use Rattle.std.proofs.Common.{◌≡◌, ◌≤◌, ◌<◌, ◌∙◌, ℕ, ◌+◌, Bool, true, false, List, [], length, take, Option, None, Some, is_some, Result, Ok, Err, refl, sym, ap, subst, inl, inr, arith, length-append}
 use Rattle.std.specs.Prelude.{IfSome}
 use Rattle.std.specs.FinMap as map
 use Rattle.std.specs.Option.{option_map}
@@ -11,7 +11,7 @@ use Rattle.input_files.specs.Inputs.{InputsValue, ReadsFor, ReadsNav, ReadsObs, 
 use Rattle.input_files.specs.Zones.{zones_text}
 use Rattle.input_files.specs.Logs.{log_text, rows_text}
 use Rattle.input_files.specs.Reading as reading
-use Rattle.input_files.specs.Reading.{Text, Breaks, MayBreak, IsCounted, Reading, Found, valued, Named, Then, Returns, ReadsFile, limit_of, file_in, LeavesFiles, Untouched}
+use Rattle.input_files.specs.Reading.{Text, Breaks, MayBreak, IsCounted, Reading, Found, valued, Named, Then, Returns, ReadsFile, limit_of, file_in, LeavesFiles, NamedSlots, Untouched}
 use Rattle.input_files.specs.Statuses.{status_of}
 use Rattle.input_files.specs.declared.inputs.Inputs.{Inputs}
 use Rattle.input_files.specs.declared.limits.Limits.{Limits}
@@ -19,8 +19,8 @@ use Rattle.input_files.specs.declared.notice.Notice.{Notice}
 use Rattle.input_files.specs.declared.notice.Notice.TheVariants as notice
 use Rattle.input_files.specs.declared.status.Status.{Status}
 use Rattle.input_files.specs.declared.status.Status.TheVariants as status
-use Rattle.log_writer.specs.Breaks.{BrokeOff, Leaves, LogBreaks, IsFrontOf}
-use Rattle.log_writer.specs.Pieces.{Piece, log_bytes, report_bytes}
+use Rattle.log_writer.specs.Breaks.{BrokeOff, LogBreaks, IsFrontOf}
+use Rattle.log_writer.specs.Pieces.{Piece, log_bytes}
 use Rattle.log_writer.specs.RowsFrom.{of_rows}
 use Rattle.log_writer.specs.Sources.{Gives}
 use Rattle.log_writer.specs.Texts.{IsText}
@@ -32,7 +32,6 @@ use Rattle.paving_log.specs.Values.{log_value}
 use Rattle.outer_io.specs.Taken.{SinkState, SinkTold, TakenBy, taking}
 use Rattle.outer_io.specs.Told.{Files, ShelfState, Told, ShelfTerms, files_of, written_of, terms_of}
 use Rattle.outer_io.proofs.Appending.{taking-none}
-use Rattle.outer_io.specs.declared.slots.Slot.{Slot}
 use Rattle.sat_model.specs.declared.rules.Rules.{Rules}
 use Rattle.rinex_obs.specs.Files.{Observations}
 use Rattle.sat_model.specs.Logs.{LogValue}
@@ -44,11 +43,10 @@ use Rattle.cover_run.specs.Chosen.{chosen_in}
 use Rattle.cover_run.specs.Runs.{Task, RunOf, Ends, Stops, OnlySays, Obeys, Runs, TellsAlone, judging, paving, solving, checking, tracking, rechecking, guarding}
 use Rattle.cover_run.specs.Solving.{IsSolution}
 use Rattle.cover_run.specs.Tracking.{IsTrack}
-use Rattle.cover_run.specs.Telling as telling
 use Rattle.cover_run.specs.Telling.{Tells, sinks}
 use Rattle.cover_run.specs.Worlds.{World, Rewrites}
 use Rattle.cover_run.specs.Writing.{Answer, Writes, SaysEnd, status_of_writing}
-use Rattle.run_tests.specs.Roomy.{AreInputsThere, IsThere, AreThere, written_by, IsRoomy, HasRoomLeft, IsFault}
+use Rattle.run_tests.specs.Roomy.{AreInputsThere, IsThere, AreThere, written_by, IsReady, HasRoom, HasRoomBehind, HasRoomLeft, IsFault}
 
 -- ---- files that are read
 
@@ -200,12 +198,12 @@ module _ (limit seed count : ℕ) (before after : World) (trust : Trust) where
   makes_sound status.Refused out m is = m
   makes_sound status.ReadFault out m is = m
 
-module _ (name : List ℕ) (before after : World) (trust : Trust) (slots : List Slot) (limit most : ℕ) (IsTextOf : Answer → (bytes said : List ℕ) → Type 0) (s : Status) where
-  writes_takes : Writes name before after trust slots limit most IsTextOf s → Takes before.out after.out
+module _ (name : List ℕ) (before after : World) (trust : Trust) (reads : NamedSlots) (limit most : ℕ) (IsTextOf : Answer → (bytes said : List ℕ) → Type 0) (s : Status) where
+  writes_takes : Writes name before after trust reads limit most IsTextOf s → Takes before.out after.out
   writes_takes (inl none) = took_none before.out after.out none.out
   writes_takes (inr wrote) = (wrote.said, wrote.report)
 
-  writes_few : (told : Told) → before.shelf.told ≡ Some told → ((answer : Answer) (bytes said : List ℕ) → IsTextOf answer bytes said → length bytes ≤ limit) → Writes name before after trust slots limit most IsTextOf s
+  writes_few : (told : Told) → before.shelf.told ≡ Some told → ((answer : Answer) (bytes said : List ℕ) → IsTextOf answer bytes said → length bytes ≤ limit) → Writes name before after trust reads limit most IsTextOf s
       → HasWritten limit told after.shelf
   writes_few told tells fits (inl none) = left_told limit told before.shelf after.shelf tells none.leaves
   writes_few told tells fits (inr wrote) = written_told limit told before.shelf after.shelf name wrote.bytes tells wrote.log (fits wrote.answer wrote.bytes wrote.said wrote.text)
@@ -220,7 +218,7 @@ module _ (name : List ℕ) (before after : World) (trust : Trust) (slots : List 
   answer_sound (Err why.NoMemory) log out ends e (inl is) = let f : status.NoMemory ≡ status.ReadFault = sym e ∙ is in cc
   answer_sound (Err why.NoMemory) log out ends e (inr is) = let f : status.NoMemory ≡ status.WriteFault = sym e ∙ is in cc
 
-  writes_sound : trust.log (Some name) → trust.out → Writes name before after trust slots limit most IsTextOf s → IsFault s → ⊥
+  writes_sound : trust.log (Some name) → trust.out → Writes name before after trust reads limit most IsTextOf s → IsFault s → ⊥
   writes_sound log out (inl none) is = none.cause.1 log
   writes_sound log out (inr wrote) is = answer_sound wrote.answer log out wrote.ends wrote.status is
 
@@ -245,7 +243,7 @@ task_safe : {V : Type 0} (task : Task V) (limit : ℕ) (log : Option (List ℕ))
 task_safe {V} task limit log told before after trust s tells reads does r = elim r.read as (λ read. r.read ≡ read → IsSafe limit log told before after trust s) [
   | Ok v ↦ λ is. does v (subst (Ends task before after trust s) is r.ends)
   | Err n ↦ λ is.
-      let stops : Stops task.slots before after n s = subst (Ends task before after trust s) is r.ends in
+      let stops : Stops task.files before after n s = subst (Ends task before after trust s) is r.ends in
       let found = subst (λ (x : Result V Notice). Found task.reads before.shelf after.shelf trust.log (valued task.value x)) is r.found in
       let files : files_of before.shelf ≡ Some told.files = ap (option_map (λ (t : Told). t.files)) tells in
       let ends : task.reads (MayBreak before.shelf after.shelf trust.log) (Some told.files) (Err n) = subst (λ (f : Option Files). task.reads (MayBreak before.shelf after.shelf trust.log) f (Err n)) files found.reads in
@@ -256,21 +254,21 @@ task_safe {V} task limit log told before after trust s tells reads does r = elim
       }
 ] refl
 
-tell_safe : (Yes No : List ℕ → Type 0) (slots : List Slot) (limit : ℕ) (told : Told) (before after : World) (trust : Trust) (s : Status) → before.shelf.told ≡ Some told
-    → TellsAlone Yes No slots before after trust s → IsSafe limit None told before after trust s
-tell_safe Yes No slots limit told before after trust s tells t = record {
+tell_safe : (Yes No : List ℕ → Type 0) (reads : NamedSlots) (limit : ℕ) (told : Told) (before after : World) (trust : Trust) (s : Status) → before.shelf.told ≡ Some told
+    → TellsAlone Yes No reads before after trust s → IsSafe limit None told before after trust s
+tell_safe Yes No reads limit told before after trust s tells t = record {
   sound = λ sure named out. told_sound Yes No before after trust s out t.told;
   shelf = left_told limit told before.shelf after.shelf tells t.shelf.leaves;
   out = told_takes Yes No before after trust s t.told;
 }
 
-write_safe : (name : List ℕ) (slots : List Slot) (limit most : ℕ) (IsTextOf : Answer → (bytes said : List ℕ) → Type 0) (told : Told) (before after : World) (trust : Trust) (s : Status) → before.shelf.told ≡ Some told
-    → ((answer : Answer) (bytes said : List ℕ) → IsTextOf answer bytes said → length bytes ≤ limit) → Writes name before after trust slots limit most IsTextOf s
+write_safe : (name : List ℕ) (reads : NamedSlots) (limit most : ℕ) (IsTextOf : Answer → (bytes said : List ℕ) → Type 0) (told : Told) (before after : World) (trust : Trust) (s : Status) → before.shelf.told ≡ Some told
+    → ((answer : Answer) (bytes said : List ℕ) → IsTextOf answer bytes said → length bytes ≤ limit) → Writes name before after trust reads limit most IsTextOf s
     → IsSafe limit (Some name) told before after trust s
-write_safe name slots limit most IsTextOf told before after trust s tells fits w = record {
-  sound = λ sure log out. writes_sound name before after trust slots limit most IsTextOf s log out w;
-  shelf = writes_few name before after trust slots limit most IsTextOf s told tells fits w;
-  out = writes_takes name before after trust slots limit most IsTextOf s w;
+write_safe name reads limit most IsTextOf told before after trust s tells fits w = record {
+  sound = λ sure log out. writes_sound name before after trust reads limit most IsTextOf s log out w;
+  shelf = writes_few name before after trust reads limit most IsTextOf s told tells fits w;
+  out = writes_takes name before after trust reads limit most IsTextOf s w;
 }
 
 -- nothing was done but something said
@@ -380,28 +378,50 @@ named_sure : (log : Option (List ℕ)) (name : List ℕ) (reliable : Option (Lis
 named_sure None name reliable is sure = tt
 named_sure (Some of) name reliable is sure = subst (λ (n : List ℕ). reliable (Some n)) is sure
 
-pub no_fault : (limits : Limits) (command : Command) (before after : World) (trust : Trust) (s : Status) (room out_room : ℕ) → IsRoomy limits command before.shelf before.out
-    → Runs limits (Some command) before after trust s → SaysRoom after trust room out_room → HasRoomLeft after.out → IsFault s → ⊥
-no_fault limits command before after trust s room out_room roomy runs says left fault =
-    let safe = run_safe limits roomy.told before after trust command s roomy.tells roomy.there runs in
+no_fault : (limits : Limits) (command : Command) (before after : World) (trust : Trust) (s : Status) (room out_room : ℕ) → IsReady command before.shelf before.out
+    → Runs limits (Some command) before after trust s → SaysRoom after trust room out_room → HasRoom after.shelf → HasRoomLeft after.out → IsFault s → ⊥
+no_fault limits command before after trust s room out_room ready runs says has left fault =
+    let safe = run_safe limits ready.told before after trust command s ready.tells ready.there runs in
     let shelf = safe.shelf in
-    let fails : shelf.told.terms.fails ≡ [] = ap (λ (t : ShelfTerms). t.fails) shelf.terms ∙ roomy.sure in
+    let fails : shelf.told.terms.fails ≡ [] = ap (λ (t : ShelfTerms). t.fails) shelf.terms ∙ ready.sure in
     let sure = says.sure shelf.told shelf.tells fails in
-    let some : 0 < room = omega (arith, says.left shelf.told shelf.tells, shelf.few, roomy.room, ap (λ (t : ShelfTerms). t.room) shelf.terms) in
-    let name : trust.log (Some roomy.told.terms.log) = subst (λ (t : ShelfTerms). trust.log (Some t.log)) shelf.terms (sure.1 some) in
+    let some : 0 < room = omega (arith, says.left shelf.told shelf.tells, has shelf.told shelf.tells) in
+    let name : trust.log (Some ready.told.terms.log) = subst (λ (t : ShelfTerms). trust.log (Some t.log)) shelf.terms (sure.1 some) in
     let took = safe.out in
-    let out_told = taking took.0 roomy.out_told in
-    let out_tells : after.out.told ≡ Some out_told = took.1 ∙ ap (option_map (taking took.0)) roomy.out_tells in
+    let out_told = taking took.0 ready.out_told in
+    let out_tells : after.out.told ≡ Some out_told = took.1 ∙ ap (option_map (taking took.0)) ready.out_tells in
     let out_some : 0 < out_room = omega (arith, says.out_left out_told out_tells, left out_told out_tells) in
-    let out = says.out_sure out_told out_tells roomy.out_sure out_some in
-    safe.sound sure.0 (named_sure (written_by command) roomy.told.terms.log trust.log roomy.log name) out fault
+    let out = says.out_sure out_told out_tells ready.out_sure out_some in
+    safe.sound sure.0 (named_sure (written_by command) ready.told.terms.log trust.log ready.log name) out fault
 
 -- no command is no fault
 usage_no_fault : (limits : Limits) (before after : World) (trust : Trust) (s : Status) → Runs limits None before after trust s → IsFault s → ⊥
 usage_no_fault limits before after trust s (inl only) = memory_harmless s only.0
 usage_no_fault limits before after trust s (inr only) = usage_harmless s only.0
 
-pub no_fault_of : (limits : Limits) (asked : Option Command) (before after : World) (trust : Trust) (s : Status) (room out_room : ℕ) → IfSome asked (λ command. IsRoomy limits command before.shelf before.out)
-    → Runs limits asked before after trust s → SaysRoom after trust room out_room → HasRoomLeft after.out → IsFault s → ⊥
-no_fault_of limits None before after trust s room out_room roomy runs says left = usage_no_fault limits before after trust s runs
-no_fault_of limits (Some command) before after trust s room out_room roomy runs says left = no_fault limits command before after trust s room out_room roomy runs says left
+pub no_fault_of : (limits : Limits) (asked : Option Command) (before after : World) (trust : Trust) (s : Status) (room out_room : ℕ) → IfSome asked (λ command. IsReady command before.shelf before.out)
+    → Runs limits asked before after trust s → SaysRoom after trust room out_room → HasRoom after.shelf → HasRoomLeft after.out → IsFault s → ⊥
+no_fault_of limits None before after trust s room out_room ready runs says has left = usage_no_fault limits before after trust s runs
+no_fault_of limits (Some command) before after trust s room out_room ready runs says has left = no_fault limits command before after trust s room out_room ready runs says has left
+
+-- ---- the room that is left
+
+written_room : (limit : ℕ) (told : Told) (before after : ShelfState) → before.told ≡ Some told → HasWritten limit told after → HasRoomBehind limit before → HasRoom after
+written_room limit told before after tells wrote room = λ t is.
+    let same : t ≡ wrote.told = cc in
+    let most : ◌≡◌ {A = ℕ} wrote.told.terms.room told.terms.room = ap (λ (x : ShelfTerms). x.room) wrote.terms in
+    subst (λ (x : Told). x.written < x.terms.room) (sym same) (omega (arith, wrote.few, room told tells, most))
+
+unchanged_room : (limit : ℕ) (before after : ShelfState) → after ≡ before → HasRoomBehind limit before → HasRoom after
+unchanged_room limit before after e room = λ t is. let had = room t (ap (λ (s : ShelfState). s.told) (sym e) ∙ is) in omega (arith, had)
+
+usage_unchanged : (limits : Limits) (before after : World) (trust : Trust) (s : Status) → Runs limits None before after trust s → after.shelf ≡ before.shelf
+usage_unchanged limits before after trust s (inl only) = only.2
+usage_unchanged limits before after trust s (inr only) = only.2
+
+pub room_left : (limits : Limits) (asked : Option Command) (before after : World) (trust : Trust) (s : Status) → IfSome asked (λ command. IsReady command before.shelf before.out)
+    → Runs limits asked before after trust s → HasRoomBehind limits.log before.shelf → HasRoom after.shelf
+room_left limits None before after trust s ready runs = unchanged_room limits.log before.shelf after.shelf (usage_unchanged limits before after trust s runs)
+room_left limits (Some command) before after trust s ready runs =
+    let safe = run_safe limits ready.told before after trust command s ready.tells ready.there runs in
+    written_room limits.log ready.told before.shelf after.shelf ready.tells safe.shelf

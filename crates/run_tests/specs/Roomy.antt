@@ -1,8 +1,7 @@
--- Runs over objects in memory that have room for all that is written.
+-- Runs over objects in memory of which no call is to fail.
 use Rattle.std.specs.Prelude.{◌≡◌, ◌<◌, ◌⊎◌, ℕ, ◌+◌, List, [], length, Option, None, Some, IfSome}
 use Rattle.std.specs.Prelude.{is_some, true}
 use Rattle.std.specs.FinMap as map
-use Rattle.input_files.specs.declared.limits.Limits.{Limits}
 use Rattle.input_files.specs.declared.status.Status.{Status}
 use Rattle.input_files.specs.declared.status.Status.TheVariants as status
 use Rattle.outer_io.specs.Taken.{SinkState, SinkTold}
@@ -42,19 +41,25 @@ written_by (Retrack names) = None
 written_by (Guard names zones tracked) = None
 written_by (Make seed epochs) = None
 
--- The files are there, the one that is written can be created and has room for more than the limit,
--- and no call is to fail.
-pub record IsRoomy (limits : Limits) (command : Command) (shelf : ShelfState)
-    (out : SinkState) : Type 0 where
+-- the files are there, the one that is written can be created, and no call is to fail
+pub record IsReady (command : Command) (shelf : ShelfState) (out : SinkState) : Type 0 where
   pub told : Told
   pub tells : shelf.told ≡ Some told
   pub there : AreThere told.files command
   pub log : IfSome (written_by command) (λ log. told.terms.log ≡ log)
-  pub room : told.written + limits.log < told.terms.room
   pub sure : told.terms.fails ≡ []
   pub out_told : SinkTold
   pub out_tells : out.told ≡ Some out_told
   pub out_sure : out_told.terms.fails ≡ []
+
+-- a shelf has room left
+abbrev pub HasRoom : ShelfState → Type 0
+HasRoom shelf = (t : Told) → shelf.told ≡ Some t → t.written < t.terms.room
+
+-- it has room for more than so many bytes
+abbrev pub HasRoomBehind : ℕ → ShelfState → Type 0
+HasRoomBehind limit shelf =
+    (t : Told) → shelf.told ≡ Some t → t.written + limit < t.terms.room
 
 -- a sink has room left
 abbrev pub HasRoomLeft : SinkState → Type 0

@@ -1,16 +1,19 @@
-//! Runs over objects in memory that have room for all that is written.
+//! Runs over objects in memory of which no call is to fail.
 
 ghost use Rattle.std.specs.Prelude.{IfSome};
 ghost use Rattle.command_words.specs.Commands.{command_of};
 ghost use Rattle.command_words.specs.Seen.{texts};
-ghost use Rattle.run_tests.specs.Roomy.{IsRoomy, HasRoomLeft, IsFault};
+ghost use Rattle.run_tests.specs.Roomy.{IsReady, HasRoom, HasRoomBehind};
+ghost use Rattle.run_tests.specs.Roomy.{HasRoomLeft, IsFault};
 
 use cover_run::{Limits, Status, run};
 use outer_io::{MemoryShelf, MemorySink, Shelf, Sink};
 use std::alloc::Global;
 
-/// A run over a shelf that has room for more bytes than the limit of a log, where no call is to
-/// fail. No fault ends it where `out` has room left behind it.
+/// A run over objects in memory of which no call is to fail, where the files that are read are
+/// there and the log's name is the one that can be created. No fault ends it where the shelf and
+/// `out` have room left behind it, and the shelf has where it had room for more bytes than the
+/// limit of a log.
 pub fn run_with_room(
     alloc: Global,
     limits: &Limits,
@@ -19,9 +22,12 @@ pub fn run_with_room(
     out: &mut MemorySink,
     err: &mut MemorySink,
 ) -> Status
-    requires { IfSome (command_of (texts words.now)) (λ command. IsRoomy limits.now command
+    requires { IfSome (command_of (texts words.now)) (λ command. IsReady command
         (⟦<MemoryShelf as Shelf>⟧.state shelf.old) (⟦<MemorySink as Sink>⟧.state out.old)) }
-    ensures { HasRoomLeft (⟦<MemorySink as Sink>⟧.state out.new) → IsFault result → ⊥ }
+    ensures no_fault { HasRoom (⟦<MemoryShelf as Shelf>⟧.state shelf.new)
+        → HasRoomLeft (⟦<MemorySink as Sink>⟧.state out.new) → IsFault result → ⊥ }
+    ensures room { HasRoomBehind limits.now.log (⟦<MemoryShelf as Shelf>⟧.state shelf.old)
+        → HasRoom (⟦<MemoryShelf as Shelf>⟧.state shelf.new) }
 {
     let status = run(alloc, limits, words, shelf, out, err);
     let _room = shelf.room();
