@@ -1,4 +1,5 @@
 pub mod Taken
+pub mod Renewing
 pub mod Cuts
 pub mod BoxSteps
 pub mod Targets
