@@ -1,5 +1,4 @@
 pub mod Taken
-pub mod Renewing
 pub mod Cuts
 pub mod BoxSteps
 pub mod Targets

@@ -25,10 +25,6 @@ impl Steps for StepList {
 
     ghost broke = { λ old step part new. new.steps.items ≡ old.steps.items };
 
-    ghost took_rows = { λ old new last. last.steps.items ≡ old.steps.items };
-
-    ghost broke_rows = { λ old new lines last. ⊥ };
-
     ghost room = { λ list. 1000 };
 
     ghost faults = { λ list. list.faults };
@@ -43,11 +39,6 @@ impl Steps for StepList {
         }
         self.faults = self.faults.saturating_add(1);
         Err(StepFault::Failed)
-    }
-
-    /// No steps of a box renew rows.
-    fn renew(&mut self, _part: &Box3, _rows: &[Row]) -> Result<(), StepFault> {
-        Ok(())
     }
 }
 

@@ -2,9 +2,7 @@
 #![tactic(auto)]
 
 mod cuts;
-mod inside;
 mod live;
 
 pub use cuts::{is_proper_cut, left_by, slab_of};
-pub use inside::lies_in;
 pub use live::Live;

@@ -1,14 +1,12 @@
 //! The boxes of an epoch that no step has closed yet.
 
 ghost use Rattle.std.specs.Prelude.{◌≡◌, ◌≢◌, ◌%◌, ℕ, length, Some, None, false, IfOk, OnOk, OnErr};
-ghost use Rattle.std.specs.Prelude.{◌↔◌, IsTrue};
+ghost use Rattle.std.specs.Prelude.{IsTrue};
 ghost use Rattle.sat_model.specs.declared.steps.Step.TheVariants.{Cut, Split, Outside};
-ghost use Rattle.grid_model.specs.Boxes.{GridBox, grid_box};
-ghost use Rattle.sat_model.specs.Fold.{first_boxes, live_box, IsLive, NoneLive, boxes_after};
-ghost use Rattle.sat_model.specs.Renewals.{IsInside, HoldsLive};
+ghost use Rattle.grid_model.specs.Boxes.{grid_box};
+ghost use Rattle.sat_model.specs.Fold.{first_boxes, live_box, NoneLive, boxes_after};
 
 use crate::cuts::left_by;
-use crate::inside::lies_in;
 use grid_model::Box3;
 use sat_model::Step;
 use std::alloc::{AllocError, Global};
@@ -59,34 +57,6 @@ impl Live {
         for found in &self.boxes {
             match found {
                 Some(_) => return false,
-                None => {}
-            }
-        }
-        true
-    }
-
-    /// Whether rows may be renewed over a box: it lies in the root, and each live box lies in it.
-    pub fn may_renew(&self, root: &Box3, part: &Box3) -> bool
-        ensures { IsTrue result
-            ↔ HoldsLive (grid_box root.now) (live_value self.now) (grid_box part.now) }
-    {
-        lies_in(part, root) && self.all_inside(part)
-    }
-
-    /// Whether each live box lies in this one.
-    fn all_inside(&self, whole: &Box3) -> bool
-        ensures yes { IsTrue result → (id : ℕ) (live : GridBox) → IsLive (live_value self.now) id live
-            → IsInside live (grid_box whole.now) }
-        ensures no { (result ≡ false) → (id : ℕ) × (live : GridBox)
-            × IsLive (live_value self.now) id live × (IsInside live (grid_box whole.now) → ⊥) }
-    {
-        for found in &self.boxes {
-            match found {
-                Some(part) => {
-                    if !lies_in(part, whole) {
-                        return false;
-                    }
-                }
                 None => {}
             }
         }

@@ -11,13 +11,12 @@ use Rattle.paving_log.specs.Text.{IsLogText, BlockFits}
 use Rattle.log_writer.specs.declared.fault.WriteFault.{WriteFault}
 use Rattle.log_writer.specs.Breaks.{BrokeOff}
 use Rattle.log_writer.specs.Pavings.{AllPave}
-use Rattle.log_writer.specs.Pieces.{log_pieces, version_of}
+use Rattle.log_writer.specs.Pieces.{log_pieces}
 use Rattle.log_writer.specs.RowsFrom.{of_rows}
 use Rattle.log_writer.specs.Texts.{IsText}
 
 -- the log has the rules and blocks of the rows, and paves each root
 pub record IsPavingOf (rows log : LogValue) : Type 0 where
-  pub version : log.version ≡ version_of rows.rules
   pub rules : log.rules ≡ rows.rules
   pub blocks : AllPave rows.rules rows.blocks log.blocks
 

@@ -40,4 +40,4 @@ abbrev pub Came : {B : Type 0} → Gives B → Rules → B → Option GridBox �
 Came gives rules first hull [] last = first ≡ last
 Came {B} gives rules first hull (block ∷ more) last = (given : Block) × (next : B)
     × gives first hull (Some given) next × Paves rules given block
-    × Came gives rules next (hull_kept block.body) more last
+    × Came gives rules next (hull_kept block.steps block.root) more last

@@ -10,7 +10,7 @@ use Rattle.epoch_report.specs.Reports.{report_text}
 use Rattle.log_writer.specs.declared.fault.WriteFault.{WriteFault}
 use Rattle.log_writer.specs.Breaks.{BrokeOff}
 use Rattle.log_writer.specs.Kept.{hull_of_last}
-use Rattle.log_writer.specs.Pieces.{log_pieces, version_of}
+use Rattle.log_writer.specs.Pieces.{log_pieces}
 use Rattle.log_writer.specs.Sources.{Gives, Came}
 
 -- The text and the report of one log. Its blocks are all that the source gave, each one paved
@@ -19,7 +19,6 @@ use Rattle.log_writer.specs.Sources.{Gives, Came}
 pub record IsWhole {B : Type 0} (gives : Gives B) (rules : Rules) (first last : B) (limit : ℕ)
     (bytes said : List ℕ) : Type 0 where
   pub log : LogValue
-  pub version : log.version ≡ version_of rules
   pub same_rules : log.rules ≡ rules
   pub behind : B
   pub came : Came gives rules first None log.blocks behind
@@ -38,11 +37,7 @@ pub record IsBegun {B : Type 0} (fault : WriteFault) (gives : Gives B) (rules : 
   pub blocks : List Block
   pub behind : B
   pub came : Came gives rules first None blocks behind
-  pub broke : BrokeOff limit (log_pieces (record {
-    version = version_of rules;
-    rules = rules;
-    blocks = blocks;
-  }))
+  pub broke : BrokeOff limit (log_pieces (record { rules = rules; blocks = blocks }))
       fault bytes said
 
 -- by how the writing ended, of the source before and behind it

@@ -1,18 +1,18 @@
 -- What was written of a paving: all of it, or the first pieces, which go on to a whole one.
-use Rattle.std.specs.Prelude.{◌≡◌, ℕ, ◌≤◌, Bool, List, [], length, Option, None, Some, Result, OnOk, IfOk}
+use Rattle.std.specs.Prelude.{◌≡◌, ℕ, ◌≤◌, List, [], length, Option, None, Some, Result, OnOk, IfOk}
 use Rattle.std.specs.List.{AllByRecursion}
 use Rattle.sat_model.specs.declared.rules.Rules.{Rules}
 use Rattle.grid_model.specs.Boxes.{GridBox}
 use Rattle.sat_model.specs.BoxTests.{BoxTest}
-use Rattle.sat_model.specs.Events.{Event, steps_in}
-use Rattle.sat_model.specs.Fold.{first_boxes}
-use Rattle.sat_model.specs.Logs.{Body, Block}
-use Rattle.paving.specs.Idle.{idle}
-use Rattle.paving.specs.Turns.{ShownEvent, events_of, PavedTurns}
+use Rattle.sat_model.specs.Fold.{first_boxes, ShownStep}
+use Rattle.sat_model.specs.Logs.{Block}
+use Rattle.sat_model.specs.Waiting.{steps_of}
+use Rattle.paving.specs.Paved.{Paved}
 use Rattle.log_words.specs.Fields.{IsCountFromTo}
 use Rattle.paving_log.specs.declared.line.Form.TheVariants as form
+use Rattle.paving_log.specs.Lines.{StepFits}
 use Rattle.paving_log.specs.RowsText.{AllOwnPass}
-use Rattle.paving_log.specs.Text.{BlockFits, EventFits}
+use Rattle.paving_log.specs.Text.{BlockFits}
 use Rattle.live_boxes.specs.LiveValues.{box_option}
 use Rattle.log_writer.specs.Kept.{hull_kept, hull_of_last}
 use Rattle.log_writer.specs.declared.epochs.Outcome.{Outcome}
@@ -20,43 +20,34 @@ use Rattle.grid_model.specs.declared.boxes.Box3.{Box3}
 use Rattle.epoch_report.specs.Reports.{counts_of}
 use Rattle.log_writer.specs.declared.fault.WriteFault.{WriteFault}
 use Rattle.log_writer.specs.Pavings.{Paves, AllPave}
-use Rattle.log_writer.specs.Pieces.{event_pieces, paved_pieces, block_pieces, log_pieces, version_of}
+use Rattle.log_writer.specs.Pieces.{step_pieces, paved_pieces, block_pieces, log_pieces}
 use Rattle.log_writer.specs.Sizes.{most_splits, most_bytes, HasRoom}
 use Rattle.log_writer.specs.Sources.{Gives, Came}
 use Rattle.log_writer.specs.Texts.{IsText}
 use Rattle.log_writer.specs.Writing.{Sent, Counts, Seen, Put, Written}
 
--- the steps fit in a block of any version and so many satellites, and so does the number of splits
-abbrev pub RunFits : List Event → ℕ → Type 0
-RunFits events splits = ((renews : Bool) (n : ℕ) → AllByRecursion (EventFits renews n) events)
-    × IsCountFromTo 0 most_splits splits
-
--- the body of a run from this root
-abbrev pub body_of : GridBox → List ShownEvent → ℕ → Body
-body_of root shown done = record { root = root; events = events_of shown; done = done }
-
 -- the steps of a whole run, and the counts are its own
 pub record WroteSteps (test : BoxTest) (rules : Rules) (root : GridBox) (before : Seen)
     (result : Result Outcome WriteFault) (after : Seen) : Type 0 where
-  pub shown : List ShownEvent
-  pub run : PavedTurns idle test rules root shown
-  pub written : Written before (event_pieces (first_boxes root) (events_of shown)) result after
-  pub counts : IfOk result (λ done. done.counts ≡ counts_of root (steps_in (events_of shown)))
+  pub shown : List ShownStep
+  pub run : Paved test rules root shown
+  pub written : Written before (step_pieces (first_boxes root) (steps_of shown)) result after
+  pub counts : IfOk result (λ done. done.counts ≡ counts_of root (steps_of shown))
   pub splits : IfOk result (λ done. done.counts.bisections ≡ run.last.splits)
-  pub kept : IfOk result (λ done. box_option done.kept
-      ≡ hull_kept (Some (body_of root shown run.last.splits)))
-  pub fits : OnOk result (RunFits (events_of shown) run.last.splits)
+  pub kept : IfOk result (λ done. box_option done.kept ≡ hull_kept (steps_of shown) (Some root))
+  pub fits : OnOk result
+      (AllByRecursion StepFits (steps_of shown) × IsCountFromTo 0 most_splits run.last.splits)
 
 -- the root, the steps of a whole run, and the number of its splits with the total
 pub record WroteRun (test : BoxTest) (rules : Rules) (root : GridBox) (before : Seen)
     (result : Result (Option Box3) WriteFault) (after : Seen) : Type 0 where
-  pub shown : List ShownEvent
-  pub run : PavedTurns idle test rules root shown
-  pub written : Written before (paved_pieces (Some (body_of root shown run.last.splits)))
+  pub shown : List ShownStep
+  pub run : Paved test rules root shown
+  pub written : Written before (paved_pieces (Some root) (steps_of shown) run.last.splits)
       result after
-  pub fits : OnOk result (RunFits (events_of shown) run.last.splits)
-  pub kept : IfOk result (λ kept. box_option kept
-      ≡ hull_kept (Some (body_of root shown run.last.splits)))
+  pub fits : OnOk result
+      (AllByRecursion StepFits (steps_of shown) × IsCountFromTo 0 most_splits run.last.splits)
+  pub kept : IfOk result (λ kept. box_option kept ≡ hull_kept (steps_of shown) (Some root))
 
 -- a block that paves the given one
 pub record WroteBlock (rules : Rules) (given : Block) (before : Seen)
@@ -64,8 +55,8 @@ pub record WroteBlock (rules : Rules) (given : Block) (before : Seen)
   pub block : Block
   pub paves : Paves rules given block
   pub written : Written before (block_pieces block) result after
-  pub fits : OnOk result ((renews : Bool) → BlockFits (form.Log renews) block)
-  pub kept : IfOk result (λ kept. box_option kept ≡ hull_kept block.body)
+  pub fits : OnOk result (BlockFits form.Log block)
+  pub kept : IfOk result (λ kept. box_option kept ≡ hull_kept block.steps block.root)
 
 -- blocks of a source that were given one after another, each with its rows form
 pub record Gave {B : Type 0} (gives : Gives B) (rules : Rules) (first : B) (most : ℕ)
@@ -83,11 +74,7 @@ pub record WroteLog {B T : Type 0} (gives : Gives B) (rules : Rules) (first last
   pub blocks : List Block
   pub behind : B
   pub gave : Gave gives rules first most given blocks behind
-  pub written : Written before (log_pieces (record {
-    version = version_of rules;
-    rules = rules;
-    blocks = blocks;
-  })) result after
+  pub written : Written before (log_pieces (record { rules = rules; blocks = blocks })) result after
   pub no_more : OnOk result (gives behind (hull_of_last None blocks) None last)
 
 -- what went to the devices, where nothing waited before

@@ -3,7 +3,7 @@
 ghost use Rattle.std.specs.Prelude.{◌≡◌, ◌≢◌, ◌+◌, ◌<◌, ◌≤◌, ℕ, List, Option, length, map, false};
 ghost use Rattle.std.specs.Prelude.{None, Err, IfOk, IfErr};
 ghost use Rattle.std.specs.List.{AllByRecursion};
-ghost use Rattle.log_writer.specs.Pieces.{alone, head_pieces, version_of};
+ghost use Rattle.log_writer.specs.Pieces.{alone, head_pieces};
 ghost use Rattle.log_writer.specs.Sizes.{most_sats};
 ghost use Rattle.log_writer.specs.Writing.{Written, Trusts};
 ghost use Rattle.log_writer.specs.Wrote.{WroteSteps, WroteRun, WroteBlock, WroteLog, Finished};
@@ -15,7 +15,7 @@ ghost use Rattle.paving_log.specs.Text.{BlockFits};
 ghost use Rattle.paving_log.specs.Values.{block_of};
 ghost use Rattle.grid_model.specs.Boxes.{grid_box};
 ghost use Rattle.sat_model.specs.BoxTests.{test_of};
-ghost use Rattle.sat_model.specs.Logs.{rows_of, is_few};
+ghost use Rattle.sat_model.specs.Logs.{rows_of};
 
 use crate::blocks::Blocks;
 use crate::fault::WriteFault;
@@ -24,7 +24,7 @@ use crate::steps::Track;
 use box_steps::StepFault;
 use epoch_report::{Counts4, epoch_text, total_text};
 use grid_model::{Box3, NoMemory};
-use paving::{Idle, Plan, pave};
+use paving::{Plan, pave};
 use paving_log::{
     LogEpoch, SatEntry, done_line, epoch_line, head_lines, root_line, rows_among, sat_line,
 };
@@ -52,13 +52,12 @@ fn plan_of(alloc: Global, rules: &Rules, sats: &[SatEntry], root: &Box3) -> Resu
 
 /// Writes the two lines of the head.
 fn put_head<P: Pen>(pen: &mut P, rules: &Rules) -> Result<(), WriteFault>
-    ensures written { Written (P.seen pen.old) (head_pieces (version_of rules.now) rules.now) result (P.seen pen.new) }
+    ensures written { Written (P.seen pen.old) (head_pieces rules.now) result (P.seen pen.new) }
     ensures trust { Trusts (P.trust pen.old) result (P.trust pen.new) }
 {
-    let version = if rules.pairs { 3 } else { 1 };
-    let lines = head_lines(version, rules);
-    let (version_line, rules_line) = lines.as_bytes().split_at(VERSION_LENGTH);
-    pen.put(version_line, &[])?;
+    let lines = head_lines(rules);
+    let (version, rules_line) = lines.as_bytes().split_at(VERSION_LENGTH);
+    pen.put(version, &[])?;
     pen.put(rules_line, &[])
 }
 
@@ -92,7 +91,7 @@ fn pave_on<P: Pen>(track: &mut Track<'_, P>, plan: Plan) -> Result<Outcome, Writ
     ensures trust { Trusts (P.trust track.old.pen.now) result (P.trust track.new.pen.now) }
     ensures same { track.new.pen.ghost_name ≡ track.old.pen.ghost_name }
 {
-    match pave(plan, track, &Idle) {
+    match pave(plan, track) {
         Ok(counts) => Ok(Outcome {
             counts: Counts4 {
                 inside: counts.inside,
@@ -147,20 +146,20 @@ fn put_epoch<P: Pen>(
     epoch: &LogEpoch,
 ) -> Result<Option<Box3>, WriteFault>
     requires fits { BlockFits form.Rows (block_of epoch.now) }
-    requires enough { is_few (block_of epoch.now) ≡ false
+    requires enough { epoch.now.few ≡ false
         → rules.now.outliers + 4 ≤ length (rows_of epoch.now.sats.items) }
     ensures written { WroteBlock rules.now (block_of epoch.now)
         (P.seen pen.old) result (P.seen pen.new) }
     ensures trust { Trusts (P.trust pen.old) result (P.trust pen.new) }
 {
-    let first = epoch_line(epoch.is_few(), epoch.index, epoch.ps, epoch.n);
-    let report = epoch_text(epoch.is_few(), epoch.index, epoch.ps, epoch.n);
+    let first = epoch_line(epoch.few, epoch.index, epoch.ps, epoch.n);
+    let report = epoch_text(epoch.few, epoch.index, epoch.ps, epoch.n);
     pen.put(first.as_bytes(), report.as_bytes())?;
     put_sats(pen, &epoch.sats)?;
-    match &epoch.body {
-        Some(body) => {
-            let plan = plan_of(alloc, rules, &epoch.sats, &body.root)?;
-            put_run(pen, plan, &body.root)
+    match &epoch.root {
+        Some(root) => {
+            let plan = plan_of(alloc, rules, &epoch.sats, root)?;
+            put_run(pen, plan, root)
         }
         None => Ok(None),
     }

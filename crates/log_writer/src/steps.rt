@@ -1,12 +1,6 @@
 //! The steps of a paving, each as a line of the log and one of the report.
 
-ghost use Rattle.std.specs.Prelude.{◌≡◌, ◌≢◌, ◌+◌, ◌<◌, ◌↔◌, ◌∷◌, [], length, map, take, Ok, Err, Result};
-ghost use Rattle.std.specs.List.{AllByRecursion};
-ghost use Rattle.paving_log.specs.declared.line.LogLine.TheVariants as line;
-ghost use Rattle.paving_log.specs.Rows.{RowFits};
-ghost use Rattle.paving_log.specs.Text.{row_line};
-ghost use Rattle.sat_model.specs.Events.{rows_over};
-ghost use Rattle.log_writer.specs.Pieces.{alone, row_pieces};
+ghost use Rattle.std.specs.Prelude.{◌≡◌, ◌≢◌, ◌+◌, ◌<◌, ◌↔◌, ◌∷◌, [], length, Ok, Err, Result};
 ghost use Rattle.live_boxes.specs.LiveValues.{box_option};
 ghost use Rattle.log_writer.specs.Kept.{hull_after};
 ghost use Rattle.log_writer.specs.Steps.{step_piece};
@@ -21,8 +15,8 @@ use crate::pen::Pen;
 use box_steps::{StepFault, Steps};
 use epoch_report::step_text;
 use grid_model::Box3;
-use paving_log::{SatEntry, renew_line, sat_line, step_line};
-use sat_model::{Row, Step};
+use paving_log::step_line;
+use sat_model::Step;
 
 /// Writes a step with the box or slab that it speaks of.
 fn put_step<P: Pen>(pen: &mut P, step: &Step, part: &Box3) -> Result<(), WriteFault>
@@ -38,34 +32,6 @@ fn put_step<P: Pen>(pen: &mut P, step: &Step, part: &Box3) -> Result<(), WriteFa
         Some(report) => pen.put(line.as_bytes(), report.as_bytes()),
         None => pen.put(line.as_bytes(), &[]),
     }
-}
-
-/// Writes the satellite lines of renewed rows.
-fn put_rows<P: Pen>(pen: &mut P, rows: &[Row]) -> Result<(), WriteFault>
-    ensures written { AllByRecursion RowFits rows.now
-        → Written (P.seen pen.old) (map (λ row. alone (row_line row)) rows.now)
-        result (P.seen pen.new) }
-    ensures trust { Trusts (P.trust pen.old) result (P.trust pen.new) }
-    ensures no_memory_taken { result ≢ Err WriteFault.NoMemory }
-{
-    for row in rows {
-        let line = sat_line(&SatEntry::Row(*row));
-        pen.put(line.as_bytes(), &[])?;
-    }
-    Ok(())
-}
-
-/// Writes rows that are renewed: the line of their box, and one for each.
-fn put_renewal<P: Pen>(pen: &mut P, part: &Box3, rows: &[Row]) -> Result<(), WriteFault>
-    ensures written { AllByRecursion RowFits rows.now
-        → Written (P.seen pen.old) (row_pieces (rows_over (grid_box part.now) rows.now))
-        result (P.seen pen.new) }
-    ensures trust { Trusts (P.trust pen.old) result (P.trust pen.new) }
-    ensures no_memory_taken { result ≢ Err WriteFault.NoMemory }
-{
-    let first = renew_line(part);
-    pen.put(first.as_bytes(), &[])?;
-    put_rows(pen, rows)
 }
 
 /// A pen that takes the steps of a paving.
@@ -92,21 +58,6 @@ impl<P: Pen> Steps for Track<'_, P> {
         × (new.pen.ghost_name ≡ old.pen.ghost_name)
         × Trusts (P.trust old.pen.now) (failed new.last) (P.trust new.pen.now) };
 
-    ghost took_rows = { λ old new last.
-        (AllByRecursion RowFits new.rows
-        → Went (P.seen old.pen.now) (row_pieces new) (P.seen last.pen.now))
-        × (CornersFit (corners_of new.part))
-        × (last.pen.ghost_name ≡ old.pen.ghost_name)
-        × Trusts (P.trust old.pen.now) done (P.trust last.pen.now)
-        × (box_option last.kept ≡ box_option old.kept) };
-
-    ghost broke_rows = { λ old new lines last.
-        (AllByRecursion RowFits new.rows
-        → Ended (P.seen old.pen.now) (take (lines + 1) (row_pieces new)) last.last
-        (P.seen last.pen.now))
-        × (last.pen.ghost_name ≡ old.pen.ghost_name)
-        × Trusts (P.trust old.pen.now) (failed last.last) (P.trust last.pen.now) };
-
     ghost room = { λ track. (P.seen track.pen.now).left };
 
     ghost faults = { λ track. (P.seen track.pen.now).at.shelf.write_faults
@@ -118,16 +69,6 @@ impl<P: Pen> Steps for Track<'_, P> {
                 self.kept = hull_with_step(self.kept, step, part);
                 Ok(())
             }
-            Err(fault) => {
-                self.last = fault;
-                Err(fault.in_paving())
-            }
-        }
-    }
-
-    fn renew(&mut self, part: &Box3, rows: &[Row]) -> Result<(), StepFault> {
-        match put_renewal(self.pen, part, rows) {
-            Ok(()) => Ok(()),
             Err(fault) => {
                 self.last = fault;
                 Err(fault.in_paving())

@@ -7,7 +7,7 @@ ghost use Rattle.sat_model.specs.Fold.{first_boxes};
 use super::*;
 use grid_model::{Box3, NoMemory, Pos};
 use logged_steps::LoggedSteps;
-use paving_log::{Body, LogEpoch};
+use paving_log::LogEpoch;
 use sat_model::Step;
 use std::alloc::Global;
 use std::test::Fail;
@@ -94,13 +94,11 @@ fn kept(alloc: Global, root: Box3, steps: &[Step]) -> Result<Option<Box3>, NoMem
         index: 1,
         ps: 0,
         n: 4,
+        few: false,
         sats: Vec::new(alloc),
-        body: Some(Body {
-            root,
-            steps: LoggedSteps::from_slice(alloc, steps)?,
-            renewals: Vec::new(alloc),
-            done: 0,
-        }),
+        root: Some(root),
+        steps: LoggedSteps::from_slice(alloc, steps)?,
+        done: 0,
     };
     cover_hull(alloc, &epoch)
 }

@@ -1,4 +1,3 @@
-pub mod OrderLemmas
 pub mod LineLemmas
 pub mod BlockLemmas
 pub mod FitLemmas
@@ -14,4 +13,3 @@ pub mod OwnLemmas
 pub mod RowsLemmas
 pub mod LeadingLemmas
 pub mod KeptParts
-pub mod EventLemmas

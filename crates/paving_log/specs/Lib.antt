@@ -1,5 +1,3 @@
-pub mod Renewing
-pub mod EventValues
 pub mod Values
 pub mod Rows
 pub mod Lines

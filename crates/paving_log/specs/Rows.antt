@@ -52,7 +52,7 @@ abbrev pub EntryFits : SatEntry → Type 0
 EntryFits (entry.Row r) = RowFits r
 EntryFits (entry.Skipped sat skip) = IsNamed sat × SkipFits skip
 
--- the low corner and the high corner of a root, or of the box of a renewal
+-- the low corner and the high corner
 abbrev pub root_words : Corners → List (List ℕ)
 root_words c = pos_words c.lo ++ pos_words c.hi
 

@@ -6,7 +6,7 @@ ghost use Rattle.sat_model.specs.Fold.{first_boxes, taken_by, pieces};
 ghost use Rattle.live_boxes.specs.Folding.{StepsFold};
 ghost use Rattle.live_boxes.specs.LiveValues.{box_option, live_value};
 ghost use Rattle.logged_steps.specs.Steps.{steps_of};
-ghost use Rattle.paving_log.specs.CoverBoxes.{BodyFolds, kept_parts, cover_of};
+ghost use Rattle.paving_log.specs.CoverBoxes.{BlockFolds, kept_parts, cover_of};
 ghost use Rattle.paving_log.specs.Values.{block_of};
 
 use crate::log::LogEpoch;
@@ -50,12 +50,12 @@ fn boxes_kept(alloc: Global, root: &Box3, steps: &LoggedSteps) -> Result<Vec<Box
 /// two grid points or more: all this is so in a log that is judged to be right. Want of memory is
 /// the only error.
 pub fn cover_boxes(alloc: Global, epoch: &LogEpoch) -> Result<Vec<Box3>, NoMemory>
-    requires { BodyFolds (block_of epoch.now).body }
+    requires { BlockFolds (block_of epoch.now) (block_of epoch.now).root }
     ensures { IfOk result (λ boxes. map grid_box boxes.items
-        ≡ cover_of (block_of epoch.now).body) }
+        ≡ cover_of (block_of epoch.now) (block_of epoch.now).root) }
 {
-    match &epoch.body {
-        Some(body) => Ok(boxes_kept(alloc, &body.root, &body.steps)?),
+    match &epoch.root {
+        Some(root) => Ok(boxes_kept(alloc, root, &epoch.steps)?),
         None => Ok(Vec::new(alloc)),
     }
 }

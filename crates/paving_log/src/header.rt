@@ -4,7 +4,6 @@ ghost use Rattle.std.specs.Prelude.{◌≡◌};
 ghost use Rattle.log_words.specs.Words.{words_left, Reads};
 ghost use Rattle.paving_log.specs.Lines.{limits_words, LimitsFit, limits_of, header_words};
 ghost use Rattle.paving_log.specs.Lines.{HeaderFits};
-ghost use Rattle.paving_log.specs.Order.{has_pairs};
 
 use crate::limits::Limits;
 use crate::line::Header;
@@ -29,15 +28,15 @@ pub fn limits(rest: Rest<'_>) -> Option<Limits>
 }
 
 /// The rules that the first two lines give.
-pub fn rules(version: u8, limits: Limits) -> Rules
-    ensures pairs { result.pairs ≡ has_pairs version }
+pub fn rules(pairs: bool, limits: Limits) -> Rules
+    ensures pairs { result.pairs ≡ pairs }
     ensures limits { limits_of result ≡ limits }
 {
     Rules {
         outliers: limits.outliers,
         bisections: limits.bisections,
         width: limits.width,
-        pairs: version == 3,
+        pairs,
     }
 }
 

@@ -12,7 +12,7 @@ pub struct Header {
     pub n: u32,
 }
 
-/// The low and the high corner of a root, or of the box of a renewal.
+/// The low and the high corner of a root.
 #[derive(Clone, Copy, Debug, PartialEq, Eq)]
 pub struct Corners {
     pub lo: Pos,
@@ -22,26 +22,21 @@ pub struct Corners {
 /// A line.
 #[derive(Clone, Copy, Debug, PartialEq, Eq)]
 pub enum LogLine {
-    /// The version, which tells whether pairs of rows show boxes empty, and whether rows may be
-    /// renewed.
-    Version(u8),
+    /// The version, which tells whether pairs of rows show boxes empty.
+    Version { pairs: bool },
     Rules(Limits),
     Few(Header),
     Epoch(Header),
     Sat(SatEntry),
     Root(Corners),
     Step(Step),
-    /// The box of a renewal.
-    Renew(Corners),
     Done(u32),
 }
 
-/// A line behind the root of a log, but for those of renewed rows.
+/// A line behind the root of a log.
 #[derive(Clone, Copy, Debug, PartialEq, Eq)]
 pub enum ClosingLine {
     Step(Step),
-    /// The box of a renewal.
-    Renew(Corners),
     /// The number of splits.
     Done(u32),
 }
@@ -61,22 +56,14 @@ pub enum LineName {
     Out,
     In,
     Edge,
-    Renew,
     Done,
 }
 
-/// What is read: a log, or its rows alone.
-#[derive(Clone, Copy, Debug, PartialEq, Eq)]
-pub enum Kind {
-    Log,
-    Rows,
-}
-
-/// Which lines a text has: those of a log, in which rows may be renewed or may not, or those of its
-/// rows alone, where each block with a root ends with the line of the root.
+/// Which lines a text has: those of a log, or those of its rows alone, where each block with a root
+/// ends with the line of the root.
 #[derive(Clone, Copy, Debug, PartialEq, Eq)]
 pub enum Form {
-    Log { renews: bool },
+    Log,
     Rows,
 }
 
@@ -84,18 +71,17 @@ pub enum Form {
 #[derive(Clone, Copy, Debug, PartialEq, Eq)]
 pub enum Place {
     /// The line of the version.
-    First(Kind),
+    First(Form),
     /// The line of the rules.
     Second(Form),
     /// A block, or the end.
     Between(Form),
-    /// In a block of so many usable satellites, behind so many satellite lines.
-    Satellites(Form, u32, usize),
+    /// Behind so many satellite lines of a block.
+    Satellites(Form, usize),
     /// Behind so many satellite lines of a block of few satellites.
     Few(Form, usize),
-    /// Behind the root of a log: whether rows may be renewed, of how many satellites, and how many
-    /// rows of a renewal are still to come.
-    Steps(bool, u32, u32),
+    /// Behind the root of a log.
+    Steps,
 }
 
 /// Why a line doesn't fit.

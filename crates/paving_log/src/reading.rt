@@ -7,7 +7,7 @@ ghost use Rattle.paving_log.specs.Faults.{FitsAt, Misfit};
 
 use crate::header::{header, limits};
 use crate::line::{Fault, LineName, LogLine, Place};
-use crate::order::{may_come, name_from, place_behind};
+use crate::order::{name_from, place_behind};
 use crate::rows::{root, row, skipped};
 use crate::steps::{cut, edge, inside, out, split};
 use log_words::{Rest, count, is_ended, word};
@@ -18,11 +18,15 @@ fn version(rest: Rest<'_>) -> Option<LogLine>
     ensures { Reads (λ l. LineFits l × (name_of l ≡ LineName.Gpscover)) fields
         (words_left rest.entry) result }
 {
-    let (version, rest) = count(rest, 1, 3)?;
+    let (version, rest) = word(rest)?;
     if !is_ended(rest) {
         return None;
     }
-    Some(LogLine::Version(version as u8))
+    match version {
+        b"1" => Some(LogLine::Version { pairs: false }),
+        b"3" => Some(LogLine::Version { pairs: true }),
+        _ => None,
+    }
 }
 
 /// The number of splits.
@@ -54,7 +58,6 @@ fn fields_of(name: LineName, rest: Rest<'_>) -> Option<LogLine>
         LineName::Out => Some(LogLine::Step(out(rest)?)),
         LineName::In => Some(LogLine::Step(inside(rest)?)),
         LineName::Edge => Some(LogLine::Step(edge(rest)?)),
-        LineName::Renew => Some(LogLine::Renew(root(rest)?)),
         LineName::Done => done(rest),
     }
 }
@@ -70,14 +73,11 @@ pub fn line_at(place: Place, here: &[u8]) -> Result<(LogLine, Place), Fault>
     let Some(name) = name_from(word) else {
         return Err(Fault::Word);
     };
-    if !may_come(place, name) {
+    let Some(after) = place_behind(place, name) else {
         return Err(Fault::Word);
-    }
-    let Some(line) = fields_of(name, rest) else {
-        return Err(Fault::Fields);
     };
-    match place_behind(place, &line) {
-        Some(after) => Ok((line, after)),
+    match fields_of(name, rest) {
+        Some(line) => Ok((line, after)),
         None => Err(Fault::Fields),
     }
 }

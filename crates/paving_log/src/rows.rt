@@ -94,7 +94,7 @@ pub fn skipped(rest: Rest<'_>) -> Option<SatEntry>
     Some(SatEntry::Skipped { sat, skip })
 }
 
-/// The corners of the root of an epoch, or of the box of a renewal.
+/// The corners of the root of an epoch.
 pub fn root(rest: Rest<'_>) -> Option<Corners>
     ensures { Reads CornersFit root_words (words_left rest.entry) result }
 {

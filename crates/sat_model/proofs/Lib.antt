@@ -12,4 +12,3 @@ pub mod PairBoundLemmas
 pub mod PairFormLemmas
 pub mod PairLemmas
 pub mod BoxTestLemmas
-pub mod EventLemmas

@@ -7,7 +7,6 @@ pub mod Contractors
 pub mod TightFaces
 pub mod Proposals
 pub mod Fold
-pub mod Events
 pub mod Logs
 pub mod Waiting
 pub mod Verdicts
@@ -16,4 +15,3 @@ pub mod Cover
 pub mod Pairs
 pub mod BoxTests
 pub mod Stages
-pub mod Renewals
