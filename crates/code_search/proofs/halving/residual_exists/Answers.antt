@@ -1,5 +1,0 @@
-use Rattle.code_search.proofs.ResidualExists.{residual_exists}
-use Rattle.code_search.proofs.halving.residual_exists.Goals as goal
-
-pub returns : goal.returns
-returns c = residual_exists
