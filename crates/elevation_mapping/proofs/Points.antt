@@ -23,7 +23,7 @@ use Rattle.elevation_mapping.specs.Places.{IsFarFromPlace, least_sum}
 use Rattle.elevation_mapping.specs.MappingSizes.{turned_reach}
 use Rattle.elevation_mapping.specs.SineSizes.{up_amount, offset_amount, least_up}
 use Rattle.grid_model.proofs.IntervalLemmas.{difference_by as offset_held}
-use Rattle.grid_model.proofs.BoolLemmas.{both_from}
+use Rattle.std.proofs.lemmas.Bool.{and_from as both_from}
 
 side_ends : (d : ℕ) (lo hi s t : ℤ) → lo ≤ℤ hi → IsBoxSize lo → IsBoxSize hi → s ≡ lo → t ≡ hi → above hi lo ≤ d → Ends (10 ^ 13) d s t
 side_ends d lo hi s t o l h e f k = rw (e, f) (record { order = o; low = l; high = h; width = omega (arith, ints, above_is hi lo, k) })

@@ -8,7 +8,6 @@ pub mod RoundingLemmas
 pub mod SpreadLemmas
 pub mod SquareLemmas
 pub mod EndsLemmas
-pub mod BoolLemmas
 pub mod ListLemmas
 pub mod OrderLemmas
 pub mod SpreadRoots

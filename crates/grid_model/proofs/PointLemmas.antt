@@ -6,7 +6,7 @@ use lib.Signed.{le_z}
 use Rattle.grid_model.specs.declared.boxes.Pos.{Pos}
 use Rattle.grid_model.specs.Boxes.{GridBox, Side, side_holds, box_holds, grid_box}
 use Rattle.grid_model.specs.declared.boxes.Box3.{Box3}
-use Rattle.grid_model.proofs.BoolLemmas.{both}
+use Rattle.std.proofs.lemmas.Bool.{and_parts as both}
 
 pub record IsInBox (part : GridBox) (p : Pos) : Type 0 where
   pub x : (part.x.lo ≤ℤ p.x) × (p.x ≤ℤ part.x.hi)

@@ -7,7 +7,7 @@ use Rattle.grid_model.specs.Boxes.{Side, GridBox, side_holds, box_holds, side_at
 use Rattle.grid_model.specs.declared.boxes.Box3.{Box3}
 use Rattle.grid_model.proofs.PointLemmas.{le_to, side_in}
 use Rattle.sat_model.specs.Contractors.{LiesIn}
-use Rattle.grid_model.proofs.BoolLemmas.{both_from, both}
+use Rattle.std.proofs.lemmas.Bool.{and_from as both_from, and_parts as both}
 
 pub in_side : (s : Side) (n : ℤ) → IsIn s n → side_holds s n ≡ true
 in_side s n (l, u) = both_from _ _ (le_to s.lo n l) (le_to n s.hi u)

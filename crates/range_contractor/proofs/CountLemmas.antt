@@ -2,12 +2,11 @@
 use Rattle.std.proofs.Common.{◌≡◌, ℕ, ◌≤◌, ◌<◌, arith, List, [], ◌∷◌, count_by, true, false, ◌⊎◌, inl, inr, refl}
 use Rattle.std.specs.Prelude.{ℤ, pos, ◌≤ℤ◌, ◌-ℤ◌, ◌+ℤ◌}
 use Rattle.std.proofs.lemmas.Int.{ints}
-use Rattle.std.proofs.lemmas.Bool.{cases_Bool}
+use Rattle.std.proofs.lemmas.Bool.{cases_Bool, and_parts as both}
 use Rattle.sat_model.specs.Relaxed.{holds, IsRelaxedHull}
 use lib.Signed.{le_z}
 use Rattle.grid_model.proofs.PointLemmas.{le_from}
 use Rattle.sat_model.proofs.FittingLemmas.{holds_from, count_here, count_not_here}
-use Rattle.grid_model.proofs.BoolLemmas.{both}
 
 -- one of the spans
 abbrev pub Member : ℤ × ℤ → List (ℤ × ℤ) → Type 0

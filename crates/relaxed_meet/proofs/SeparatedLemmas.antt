@@ -13,7 +13,7 @@ use Rattle.sat_model.specs.Relaxed.{holds, LiesInRelaxed}
 use Rattle.sat_model.proofs.ClockLemmas.{near_le_far}
 use Rattle.grid_model.proofs.PointLemmas.{le_from}
 use Rattle.relaxed_meet.specs.Separated.{lows_above, highs_to, NoneLiesBetween}
-use Rattle.grid_model.proofs.BoolLemmas.{both}
+use Rattle.std.proofs.lemmas.Bool.{and_parts as both}
 
 abbrev pub AreOrdered : List (ℤ × ℤ) → Type 0
 AreOrdered [] = Unit {0}

@@ -11,6 +11,13 @@ use grid_model::{Box3, Span};
 use row_pairs::shown_empty_by_pairs;
 use sat_model::{Row, Rules};
 
+/// What decided the last tests. It suits other rows too, and doesn't matter for an answer.
+#[derive(Clone, Copy, Default)]
+pub struct Memory {
+    boxes: Deciding,
+    slabs: SlabTests,
+}
+
 /// An inclusion test of boxes: the rows of an epoch, how many of them may be inconsistent, and
 /// whether pairs of them show boxes empty too. It remembers what decided the tests before.
 #[derive(Clone, Copy)]
@@ -35,12 +42,28 @@ impl<'a> BoxTest<'a> {
         requires { (rules.now.outliers < length rows.now) × (length rows.now ≤ 64) }
         ensures { test_value result ≡ test_of rules.now rows.now }
     {
+        BoxTest::recalling(rows, rules, Memory::default())
+    }
+
+    /// The same, which asks first what decided the tests that are remembered.
+    pub fn recalling(rows: &'a [Row], rules: &Rules, memory: Memory) -> Self
+        requires { (rules.now.outliers < length rows.now) × (length rows.now ≤ 64) }
+        ensures { test_value result ≡ test_of rules.now rows.now }
+    {
         BoxTest {
             rows,
             q: rules.outliers,
             pairs: rules.pairs,
-            boxes: Deciding::default(),
-            slabs: SlabTests::default(),
+            boxes: memory.boxes,
+            slabs: memory.slabs,
+        }
+    }
+
+    /// What decided the tests so far.
+    pub fn memory(&self) -> Memory {
+        Memory {
+            boxes: self.boxes,
+            slabs: self.slabs,
         }
     }
 

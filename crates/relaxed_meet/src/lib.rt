@@ -17,7 +17,7 @@ mod separation;
 mod shown;
 
 pub use bounds::bounds_offsets;
-pub use box_test::BoxTest;
+pub use box_test::{BoxTest, Memory};
 pub use clocks::{clock_span, inner_span};
 pub use deciding::{Deciding, SlabTests};
 pub use distance::{far_square_of, near_far, near_square_of};

@@ -2,17 +2,20 @@
 use Rattle.std.proofs.Common.{◌≡◌, ◌⊎◌, ℕ, zero, suc, arith, List, [], ◌∷◌, subst, sym, ap, inl, inr, refl, Option, None, Some, ◌∙◌}
 use Rattle.std.specs.Prelude.{ℤ}
 use Rattle.std.proofs.lemmas.Bool.{cases_lt}
+use Rattle.sat_model.specs.declared.rows.Row.{Row}
 use Rattle.sat_model.specs.declared.rules.Rules.{Rules}
 use Rattle.sat_model.specs.declared.rows.SatEntry.{SatEntry}
 use Rattle.sat_model.specs.declared.steps.Step.{Step}
 use Rattle.sat_model.specs.declared.steps.Step.TheVariants.{Cut, Split, Outside, Inside, Edge}
 use Rattle.grid_model.specs.Boxes.{GridBox}
 use Rattle.sat_model.specs.BoxTests.{test_in, IsEmpty, IsInner, HoldsHull}
-use Rattle.sat_model.specs.Fold.{IsLive}
-use Rattle.sat_model.specs.Logs.{Block, LogValue}
+use Rattle.sat_model.specs.Events.{Event, Made, Renewed, RowsOver}
+use Rattle.sat_model.specs.Fold.{Subpaving, IsLive}
+use Rattle.sat_model.specs.Logs.{Body, Block, LogValue, first_rows}
+use Rattle.sat_model.specs.Renewals.{LineTests, no_tests, LineFails, LinesFail, RenewalFails}
 use Rattle.sat_model.specs.Stages.{Stage, first_stage, after}
-use Rattle.sat_model.specs.Verdicts.{IsLong, CutsEmptySlab, LiveFails, NotLive, StepFails, StepsFail, HeadFails, IsFirstRepeat, BlockFails, BlocksFail, FirstFault}
-use Rattle.sat_model.proofs.VerdictLemmas.{not_gone, not_failing, step_not_both, head_not_both, block_not_both, same_box as one_root}
+use Rattle.sat_model.specs.Verdicts.{IsLong, CutsEmptySlab, LiveFails, NotLive, StepFails, DoneFails, EventsFail, BodyFailsBy, HeadFails, IsFirstRepeat, BlockFails, BlocksFail, FirstFault}
+use Rattle.sat_model.proofs.VerdictLemmas.{not_gone, not_failing, step_not_both, AreExclusive, nothing_exclusive, line_not_both, renewal_not_both, head_not_both, block_not_both}
 
 -- ---- a step
 
@@ -68,18 +71,70 @@ one_number rules stage (Edge id lo hi) n m f g = one_of_two stage id 60 n m (λ 
 abbrev IsOne : ℕ → ℕ → ℕ → ℕ → Type 0
 IsOne line number other_line other_number = (line ≡ other_line) × (number ≡ other_number)
 
-one_in_steps : (rules : Rules) (done : ℕ) (stage : Stage) (steps : List Step) (j n k m : ℕ)
-    → StepsFail rules done stage steps j n → StepsFail rules done stage steps k m → IsOne j n k m
-one_in_steps rules done stage [] j n k m (here, inl (live, e)) (there, inl (again, f)) = (omega arith, omega arith)
-one_in_steps rules done stage [] j n k m (here, inl (live, e)) (there, inr (none, count, f)) = absurd (live.1 (none live.0))
-one_in_steps rules done stage [] j n k m (here, inr (none, count, e)) (there, inl (live, f)) = absurd (live.1 (none live.0))
-one_in_steps rules done stage [] j n k m (here, inr (none, count, e)) (there, inr (again, other, f)) = (omega arith, omega arith)
-one_in_steps rules done stage (step ∷ steps) zero n zero m f g = (refl, one_number rules stage step n m f g)
-one_in_steps rules done stage (step ∷ steps) zero n (suc k) m f g = absurd (step_not_both rules stage step n g.0 f)
-one_in_steps rules done stage (step ∷ steps) (suc j) n zero m f g = absurd (step_not_both rules stage step m f.0 g)
-one_in_steps rules done stage (step ∷ steps) (suc j) n (suc k) m f g =
-    let same = one_in_steps rules done (after stage step) steps j n k m f.1 g.1 in
-    (ap suc same.0, same.1)
+-- ---- renewals and steps
+
+-- of a line that fails one fault is told
+pub record AreSharp {Fault : Type 0} (tests : LineTests Fault) (Same : Fault → Fault → Type 0) : Type 0 where
+  pub exclusive : AreExclusive tests
+  pub one : (j i : ℕ) (row : Row) (f g : Fault) → tests.fails j i row f → tests.fails j i row g → Same f g
+  pub told : (f g : Fault) → tests.number f ≡ tests.number g → tests.plain f → tests.plain g → Same f g
+
+nothing_sharp : AreSharp no_tests (λ n m. n ≡ m)
+nothing_sharp = record {
+  exclusive = nothing_exclusive;
+  one = λ j i row f g a b. absurd a;
+  told = λ f g e a b. e;
+}
+
+one_at_end : (done : ℕ) (stage : Stage) (n m : ℕ) → DoneFails done stage n → DoneFails done stage m → n ≡ m
+one_at_end done stage n m (inl (live, e)) (inl (again, f)) = omega arith
+one_at_end done stage n m (inl (live, e)) (inr (none, count, f)) = absurd (live.1 (none live.0))
+one_at_end done stage n m (inr (none, count, e)) (inl (live, f)) = absurd (live.1 (none live.0))
+one_at_end done stage n m (inr (none, count, e)) (inr (again, other, f)) = omega arith
+
+module _ {Fault : Type 0} (tests : LineTests Fault) (Same : Fault → Fault → Type 0) (sharp : AreSharp tests Same) (first : RowsOver) where
+  one_line : (j i : ℕ) (row : Row) (f g : Fault) → LineFails tests first j i row f → LineFails tests first j i row g → Same f g
+  one_line j i row f g (inl (other, n, plain)) (inl (again, m, alone)) = sharp.told f g (n ∙ sym m) plain alone
+  one_line j i row f g (inl (other, n, plain)) (inr (same, fails)) = absurd (other same)
+  one_line j i row f g (inr (same, fails)) (inl (other, n, plain)) = absurd (other same)
+  one_line j i row f g (inr (same, fails)) (inr (again, fail)) = sharp.one j i row f g fails fail
+
+  one_in_lines : (j i : ℕ) (rows : List Row) (k : ℕ) (f : Fault) (m : ℕ) (g : Fault)
+      → LinesFail tests first j i rows k f → LinesFail tests first j i rows m g → (k ≡ m) × Same f g
+  one_in_lines j i [] k f m g a b = absurd a
+  one_in_lines j i (row ∷ rows) zero f zero g a b = (refl, one_line j i row f g a b)
+  one_in_lines j i (row ∷ rows) zero f (suc m) g a b = absurd (line_not_both tests sharp.exclusive first j i row f b.0 a)
+  one_in_lines j i (row ∷ rows) (suc k) f zero g a b = absurd (line_not_both tests sharp.exclusive first j i row g a.0 b)
+  one_in_lines j i (row ∷ rows) (suc k) f (suc m) g a b =
+      let same = one_in_lines j (suc i) rows k f m g a.1 b.1 in
+      (ap suc same.0, same.1)
+
+  one_in_renewal : (j : ℕ) (boxes : Subpaving) (new : RowsOver) (k : ℕ) (f : Fault) (m : ℕ) (g : Fault)
+      → RenewalFails tests first j boxes new k f → RenewalFails tests first j boxes new m g → (k ≡ m) × Same f g
+  one_in_renewal j boxes new zero f zero g a b = (refl, sharp.told f g (a.1 ∙ sym b.1) a.2 b.2)
+  one_in_renewal j boxes new zero f (suc m) g a b = absurd (a.0 b.0)
+  one_in_renewal j boxes new (suc k) f zero g a b = absurd (b.0 a.0)
+  one_in_renewal j boxes new (suc k) f (suc m) g a b =
+      let same = one_in_lines j 0 new.rows k f m g a.1 b.1 in
+      (ap suc same.0, same.1)
+
+  pub one_in_events : (rules : Rules) (done j : ℕ) (stage : Stage) (events : List Event) (k : ℕ) (f : Fault) (m : ℕ) (g : Fault)
+      → EventsFail tests first rules done j stage events k f → EventsFail tests first rules done j stage events m g → (k ≡ m) × Same f g
+  one_in_events rules done j stage [] k f m g a b = (omega (arith, a.0, b.0), sharp.told f g (one_at_end done stage _ _ a.1 b.1) a.2 b.2)
+  one_in_events rules done j stage (Made step ∷ events) zero f zero g a b = (refl, sharp.told f g (one_number rules stage step _ _ a.0 b.0) a.1 b.1)
+  one_in_events rules done j stage (Made step ∷ events) zero f (suc m) g a b = absurd (step_not_both rules stage step _ b.0 a.0)
+  one_in_events rules done j stage (Made step ∷ events) (suc k) f zero g a b = absurd (step_not_both rules stage step _ a.0 b.0)
+  one_in_events rules done j stage (Made step ∷ events) (suc k) f (suc m) g a b =
+      let same = one_in_events rules done j (after stage (Made step)) events k f m g a.1 b.1 in
+      (ap suc same.0, same.1)
+  one_in_events rules done j stage (Renewed new ∷ events) k f m g (inl a) (inl b) = one_in_renewal j stage.boxes new k f m g a b
+  one_in_events rules done j stage (Renewed new ∷ events) k f m g (inl a) (inr (l, e, passes, later)) =
+      absurd (renewal_not_both tests sharp.exclusive first j stage.boxes new k f passes a)
+  one_in_events rules done j stage (Renewed new ∷ events) k f m g (inr (l, e, passes, later)) (inl b) =
+      absurd (renewal_not_both tests sharp.exclusive first j stage.boxes new m g passes b)
+  one_in_events rules done j stage (Renewed new ∷ events) k f m g (inr (l, e, passes, later)) (inr (h, d, pass, late)) =
+      let same = one_in_events rules done (suc j) (after stage (Renewed new)) events l f h g later late in
+      (omega (arith, e, d, same.0), same.1)
 
 -- ---- a block, and the log
 
@@ -98,6 +153,9 @@ one_repeat sats j k a b = elim (cases_lt j k) [
   ]
 ]
 
+one_body : (o : Option Body) (a c : Body) → o ≡ Some a → o ≡ Some c → a ≡ c
+one_body o a c e f = cc
+
 one_in_block : (rules : Rules) (before : Option ℕ) (block : Block) (l n k m : ℕ)
     → BlockFails rules before block l n → BlockFails rules before block k m → IsOne l n k m
 one_in_block rules before block l n k m (inl (head, e)) (inl (again, f)) = (e ∙ sym f, one_head rules before block n m head again)
@@ -109,9 +167,10 @@ one_in_block rules before block l n k m (inr (inl (passes, (i, first, at), e))) 
 one_in_block rules before block l n k m (inr (inl (passes, (i, first, at), e))) (inr (inr (again, none, steps))) = absurd (none i first.repeats)
 one_in_block rules before block l n k m (inr (inr (passes, none, steps))) (inl (head, f)) = absurd (head_not_both rules before block m passes head)
 one_in_block rules before block l n k m (inr (inr (passes, none, steps))) (inr (inl (again, (j, other, line), f))) = absurd (none j other.repeats)
-one_in_block rules before block l n k m (inr (inr (passes, none, (root, i, paved, fails, at)))) (inr (inr (again, absent, (base, j, is, fail, line)))) =
-    let from = subst (λ (c : GridBox). StepsFail rules block.done (first_stage (test_in rules block) c) block.steps i n) (one_root block.root root base paved is) fails in
-    let same = one_in_steps rules block.done (first_stage (test_in rules block) base) block.steps i n j m from fail in
+one_in_block rules before block l n k m (inr (inr (passes, none, (body, i, paved, fails, at)))) (inr (inr (again, absent, (other, j, is, fail, line)))) =
+    let from = subst (λ (c : Body). BodyFailsBy no_tests rules block c i n) (one_body block.body body other paved is) fails in
+    let same = one_in_events no_tests (λ a b. a ≡ b) nothing_sharp (first_rows block other) rules other.done
+    0 (first_stage (test_in rules block) other.root) other.events i n j m from fail in
     (omega (arith, same.0), same.1)
 
 one_in_blocks : (rules : Rules) (before : Option ℕ) (blocks : List Block) (l n k m : ℕ)

@@ -3,7 +3,7 @@
 use Rattle.std.proofs.Common.{◌≡◌, ℕ, zero, suc, ◌+◌, ◌-◌, ◌≤◌, arith, List, [], ◌∷◌, length, count_by, Bool, true, false, cond, inl, inr, refl, ◌∙◌}
 use Rattle.std.specs.Prelude.{ℤ, ◌≤ℤ◌}
 use Rattle.std.proofs.lemmas.Int.{ints}
-use Rattle.std.proofs.lemmas.Bool.{cases_Bool}
+use Rattle.std.proofs.lemmas.Bool.{cases_Bool, and_parts as both}
 use Rattle.std.proofs.lemmas.List.Sums.{sum_by-cons}
 use Rattle.grid_model.specs.declared.boxes.Pos.{Pos}
 use Rattle.sat_model.specs.declared.rows.Row.{Row}
@@ -15,7 +15,6 @@ use Rattle.sat_model.specs.Relaxed.{holds, LiesInRelaxed}
 use Rattle.grid_model.proofs.RootLemmas.{root_is, root_mono, sum_mono}
 use Rattle.grid_model.proofs.AmountLemmas.{least_amount_le, greatest_amount_ge}
 use Rattle.grid_model.proofs.PointLemmas.{IsInBox, le_from, le_to}
-use Rattle.grid_model.proofs.BoolLemmas.{both}
 
 -- ---- one row
 

@@ -12,8 +12,10 @@ use Rattle.grid_model.specs.Boxes.{GridBox, Side, side_holds, box_holds, middle,
 use Rattle.sat_model.specs.BoxTests.{BoxTest}
 use Rattle.sat_model.specs.Cover.{Partitions}
 use Rattle.sat_model.specs.Fold.{axis_of, is_low, side_left, side_cut, IsProperBound, left_by_cut, slab_of_cut, halves, boxes_after, ShownStep, shown, taken_by, pieces_from, pieces}
+use Rattle.sat_model.specs.Events.{Event, Made, Renewed, RowsOver, steps_in}
+use Rattle.sat_model.specs.Renewals.{LineFact}
 use Rattle.sat_model.specs.Stages.{Stage, first_stage, after}
-use Rattle.sat_model.specs.Verdicts.{StepPasses, StepsPass}
+use Rattle.sat_model.specs.Verdicts.{StepPasses, EventsPass}
 use Rattle.grid_model.proofs.AmountLemmas.{above_is}
 use Rattle.sat_model.specs.Contractors.{SideLiesIn, LiesIn}
 
@@ -125,23 +127,26 @@ nothing_live p [] h = refl
 nothing_live p (o ∷ live) h =
     omega (arith, sum_by-cons (λ o. option_weight p o) o live, ap (λ o. option_weight p o) (h 0), nothing_live p live (λ id. h (suc id)))
 
-held_from : (rules : Rules) (done : ℕ) (stage : Stage) (steps : List Step) (p : Pos) → StepsPass rules done stage steps
-    → held_by p (pieces_from stage.boxes steps) ≡ weight p stage.boxes.live
-held_from rules done stage [] p h = sym (nothing_live p stage.boxes.live h.0)
-held_from rules done stage (step ∷ steps) p h =
-    omega (
-      arith,
-      sum_by-append (λ piece. bit (box_holds piece.part p)) (taken_by stage.boxes step) (pieces_from (boxes_after stage.boxes step) steps),
-      held_from rules done (after stage step) steps p h.1,
-      conserved rules stage step p h.0,
-    )
-
 pub root_weight : (root : GridBox) (p : Pos) → weight p (Some root ∷ []) ≡ bit (box_holds root p)
 root_weight root p = omega arith
 
-pub partitions : (test : BoxTest) (rules : Rules) (done : ℕ) (root : GridBox) (steps : List Step) → StepsPass rules done (first_stage test root) steps
-    → Partitions root (pieces root steps)
-partitions test rules done root steps h p = omega (arith, held_from rules done (first_stage test root) steps p h, root_weight root p)
+module _ (Meets : LineFact) (first : RowsOver) (rules : Rules) (done : ℕ) where
+  -- a renewal changes no box
+  held_from : (j : ℕ) (stage : Stage) (events : List Event) (p : Pos) → EventsPass Meets first rules done j stage events
+      → held_by p (pieces_from stage.boxes (steps_in events)) ≡ weight p stage.boxes.live
+  held_from j stage [] p h = sym (nothing_live p stage.boxes.live h.0)
+  held_from j stage (Made step ∷ events) p h =
+      omega (
+        arith,
+        sum_by-append (λ piece. bit (box_holds piece.part p)) (taken_by stage.boxes step) (pieces_from (boxes_after stage.boxes step) (steps_in events)),
+        held_from j (after stage (Made step)) events p h.1,
+        conserved rules stage step p h.0,
+      )
+  held_from j stage (Renewed new ∷ events) p h = held_from (suc j) (after stage (Renewed new)) events p h.1
+
+  pub partitions : (test : BoxTest) (root : GridBox) (events : List Event) → EventsPass Meets first rules done 0 (first_stage test root) events
+      → Partitions root (pieces root (steps_in events))
+  partitions test root events h p = omega (arith, held_from 0 (first_stage test root) events p h, root_weight root p)
 
 pub side_inside : (low : Bool) (s : Side) (bound : ℤ) → s.lo ≤ℤ s.hi → IsProperBound low s bound → SideLiesIn (side_left low s bound) s
 side_inside true s bound o (h, k) = record { low = omega (arith, ints); ordered = k; high = omega (arith, ints) }

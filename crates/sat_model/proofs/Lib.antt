@@ -12,3 +12,4 @@ pub mod PairBoundLemmas
 pub mod PairFormLemmas
 pub mod PairLemmas
 pub mod BoxTestLemmas
+pub mod EventLemmas

@@ -1,14 +1,17 @@
 -- A log whose lines pass has no first fault, and a first fault is the only one.
 use Rattle.std.proofs.Common.{◌≡◌, ℕ, zero, suc, arith, List, [], ◌∷◌, subst, inl, inr, refl, Option, None, Some}
+use Rattle.sat_model.specs.declared.rows.Row.{Row}
 use Rattle.sat_model.specs.declared.rules.Rules.{Rules}
 use Rattle.sat_model.specs.declared.steps.Step.{Step}
 use Rattle.sat_model.specs.declared.steps.Step.TheVariants.{Cut, Split, Outside, Inside, Edge}
 use Rattle.grid_model.specs.Boxes.{GridBox}
 use Rattle.sat_model.specs.BoxTests.{test_in, IsEmpty, IsInner, HoldsHull}
-use Rattle.sat_model.specs.Fold.{live_box, IsLive}
-use Rattle.sat_model.specs.Logs.{Block, LogValue}
+use Rattle.sat_model.specs.Events.{Event, Made, Renewed, RowsOver}
+use Rattle.sat_model.specs.Fold.{Subpaving, live_box, IsLive}
+use Rattle.sat_model.specs.Logs.{Block, LogValue, first_rows}
+use Rattle.sat_model.specs.Renewals.{LinePasses, LinesPass, RenewalPasses, LineTests, no_tests, LineFails, LinesFail, RenewalFails}
 use Rattle.sat_model.specs.Stages.{Stage, first_stage, after}
-use Rattle.sat_model.specs.Verdicts.{IsLong, CutsEmptySlab, StepPasses, LiveFails, NotLive, StepFails, StepsPass, StepsFail, HeadPasses, HeadFails, BlockPasses, BlockFails, BlocksPass, BlocksFail, Judged, FirstFault}
+use Rattle.sat_model.specs.Verdicts.{IsLong, CutsEmptySlab, StepPasses, LiveFails, NotLive, StepFails, DonePasses, DoneFails, EventsPass, EventsFail, HeadPasses, HeadFails, BlockPasses, BlockFails, BlocksPass, BlocksFail, Judged, FirstFault}
 
 -- ---- a step
 
@@ -53,14 +56,48 @@ step_not_both rules stage (Edge id lo hi) number (part, is, hull) f = elim f [
   | inr fails ↦ not_failing stage id 60 number (λ c. HoldsHull stage.test c lo hi) part is hull fails
 ]
 
-steps_not_both : (rules : Rules) (done : ℕ) (stage : Stage) (steps : List Step) (k number : ℕ)
-    → StepsPass rules done stage steps → StepsFail rules done stage steps k number → ⊥
-steps_not_both rules done stage [] k number h f = elim f.1 [
+-- ---- renewals and steps
+
+-- a line doesn't pass and fail the further tests of it
+abbrev pub AreExclusive : {Fault : Type 0} → LineTests Fault → Type 0
+AreExclusive {Fault} tests = (j i : ℕ) (row : Row) (fault : Fault) → tests.passes j i row → tests.fails j i row fault → ⊥
+
+pub nothing_exclusive : AreExclusive no_tests
+nothing_exclusive j i row fault h f = f
+
+done_not_both : (done : ℕ) (stage : Stage) (number : ℕ) → DonePasses done stage → DoneFails done stage number → ⊥
+done_not_both done stage number h f = elim f [
   | inl live ↦ live.0.1 (h.0 live.0.0)
   | inr count ↦ count.1 h.1
 ]
-steps_not_both rules done stage (step ∷ steps) zero number h f = step_not_both rules stage step number h.0 f
-steps_not_both rules done stage (step ∷ steps) (suc k) number h f = steps_not_both rules done (after stage step) steps k number h.1 f.1
+
+module _ {Fault : Type 0} (tests : LineTests Fault) (exclusive : AreExclusive tests) (first : RowsOver) where
+  pub line_not_both : (j i : ℕ) (row : Row) (fault : Fault) → LinePasses tests.passes first j i row → LineFails tests first j i row fault → ⊥
+  line_not_both j i row fault h f = elim f [
+    | inl other ↦ other.0 h.0
+    | inr later ↦ exclusive j i row fault h.1 later.1
+  ]
+
+  lines_not_both : (j i : ℕ) (rows : List Row) (k : ℕ) (fault : Fault) → LinesPass tests.passes first j i rows → LinesFail tests first j i rows k fault → ⊥
+  lines_not_both j i [] k fault h f = f
+  lines_not_both j i (row ∷ rows) zero fault h f = line_not_both j i row fault h.0 f
+  lines_not_both j i (row ∷ rows) (suc k) fault h f = lines_not_both j (suc i) rows k fault h.1 f.1
+
+  pub renewal_not_both : (j : ℕ) (boxes : Subpaving) (new : RowsOver) (k : ℕ) (fault : Fault)
+      → RenewalPasses tests.passes first j boxes new → RenewalFails tests first j boxes new k fault → ⊥
+  renewal_not_both j boxes new zero fault h f = f.0 h.holds
+  renewal_not_both j boxes new (suc k) fault h f = lines_not_both j 0 new.rows k fault h.lines f.1
+
+  pub events_not_both : (rules : Rules) (done j : ℕ) (stage : Stage) (events : List Event) (k : ℕ) (fault : Fault)
+      → EventsPass tests.passes first rules done j stage events → EventsFail tests first rules done j stage events k fault → ⊥
+  events_not_both rules done j stage [] k fault h f = done_not_both done stage (tests.number fault) h f.1
+  events_not_both rules done j stage (Made step ∷ events) zero fault h f = step_not_both rules stage step (tests.number fault) h.0 f.0
+  events_not_both rules done j stage (Made step ∷ events) (suc k) fault h f =
+      events_not_both rules done j (after stage (Made step)) events k fault h.1 f.1
+  events_not_both rules done j stage (Renewed new ∷ events) k fault h f = elim f [
+    | inl fails ↦ renewal_not_both j stage.boxes new k fault h.0 fails
+    | inr (m, e, passes, later) ↦ events_not_both rules done (suc j) (after stage (Renewed new)) events m fault h.1 later
+  ]
 
 -- ---- a block, and the log
 
@@ -76,8 +113,9 @@ block_not_both rules before block line number h f = elim f [
   | inl fails ↦ head_not_both rules before block number h.head fails.0
   | inr g ↦ elim g [
     | inl (head, (k, first, is_line), n) ↦ h.sats k first.repeats
-    | inr (head, none, (root, k, paved, fails, is_line)) ↦
-        steps_not_both rules block.done (first_stage (test_in rules block) root) block.steps k number (rw paved at h.body) fails
+    | inr (head, none, (body, k, paved, fails, is_line)) ↦
+        events_not_both no_tests nothing_exclusive (first_rows block body) rules body.done
+        0 (first_stage (test_in rules block) body.root) body.events k number (rw paved at h.body) fails
   ]
 ]
 

@@ -45,8 +45,8 @@ pub record IsPossible (p : Pos) (b : ℤ) (row : Row) : Type 0 where
 abbrev pub IsSure : Pos → ℤ → Row → Type 0
 IsSure p b row = (value : RowValue row) → IsSurelyAllowed row (error_of row value p b)
 
--- all rows but at most q meet the fact
-abbrev pub AllBut : ℕ → (Row → Type 0) → List Row → Type 0
+-- all of them but at most q meet the fact
+abbrev pub AllBut : {A : Type 0} → ℕ → (A → Type 0) → List A → Type 0
 AllBut q Meets [] = Unit {0}
-AllBut zero Meets (row ∷ rows) = Meets row × AllBut zero Meets rows
-AllBut (suc q) Meets (row ∷ rows) = (Meets row × AllBut (suc q) Meets rows) ⊎ AllBut q Meets rows
+AllBut zero Meets (one ∷ more) = Meets one × AllBut zero Meets more
+AllBut (suc q) Meets (one ∷ more) = (Meets one × AllBut (suc q) Meets more) ⊎ AllBut q Meets more

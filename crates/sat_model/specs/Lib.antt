@@ -7,6 +7,7 @@ pub mod Contractors
 pub mod TightFaces
 pub mod Proposals
 pub mod Fold
+pub mod Events
 pub mod Logs
 pub mod Waiting
 pub mod Verdicts
@@ -15,3 +16,4 @@ pub mod Cover
 pub mod Pairs
 pub mod BoxTests
 pub mod Stages
+pub mod Renewals

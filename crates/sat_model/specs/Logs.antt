@@ -1,27 +1,38 @@
--- A log as a value: its rules, and a block for each epoch with the number of its first line.
+-- A log as a value: its version, its rules, and a block for each epoch with the number of its
+-- first line.
 use Rattle.std.specs.Prelude.{◌≡◌, ℕ, ◌+◌, ◌≤◌, ℤ, Bool, List, [], ◌∷◌, length, Option, None, Some}
+use Rattle.std.specs.Prelude.{is_none}
 use Rattle.sat_model.specs.declared.rules.Rules.{Rules}
 use Rattle.sat_model.specs.declared.rows.Row.{Row}
 use Rattle.gnss_model.specs.declared.satellites.Sat.{Sat}
 use Rattle.sat_model.specs.declared.rows.SatEntry.{SatEntry}
 use Rattle.sat_model.specs.declared.rows.SatEntry.TheVariants as entry
-use Rattle.sat_model.specs.declared.steps.Step.{Step}
 use Rattle.grid_model.specs.Boxes.{GridBox}
+use Rattle.sat_model.specs.Events.{Event, RowsOver, rows_over, lines_of_all}
 
--- The lines of a block stand in this order: its first line, the satellites, and, where it is no
--- block of few satellites, the root, the steps and the number of splits.
+-- How an epoch was paved. The lines stand in this order: the root, the steps with the renewals
+-- among them, and the number of splits.
+pub record Body : Type 0 where
+  pub root : GridBox
+  pub events : List Event
+  pub done : ℕ
+
+-- The lines of a block stand in this order: its first line, the satellites, and the body.
 pub record Block : Type 0 where
   pub line : ℕ
   pub index : ℕ
   pub ps : ℤ
   pub n : ℕ
-  pub few : Bool
   pub sats : List SatEntry
-  pub root : Option GridBox
-  pub steps : List Step
-  pub done : ℕ
+  pub body : Option Body
 
+-- a block of few satellites has no body
+abbrev pub is_few : Block → Bool
+is_few block = is_none block.body
+
+-- version 1 is without renewals
 pub record LogValue : Type 0 where
+  pub version : ℕ
   pub rules : Rules
   pub blocks : List Block
 
@@ -35,16 +46,20 @@ rows_of [] = []
 rows_of (entry.Row row ∷ more) = row ∷ rows_of more
 rows_of (entry.Skipped sat skip ∷ more) = rows_of more
 
+-- the first rows of a block, which hold over the root
+abbrev pub first_rows : Block → Body → RowsOver
+first_rows block body = rows_over body.root (rows_of block.sats)
+
 -- ---- the numbers of the lines
 
--- the lines of a block: its first one and the satellites, and with a root also that, the steps and
--- the number of splits
-abbrev pub lines_with : Block → Option GridBox → ℕ
-lines_with block None = 1 + length block.sats
-lines_with block (Some root) = 3 + length block.sats + length block.steps
+-- the root, the steps and renewals, and the number of splits
+abbrev pub lines_of_body : Option Body → ℕ
+lines_of_body None = 0
+lines_of_body (Some body) = 2 + lines_of_all body.events
 
+-- the lines of a block
 abbrev pub lines_in : Block → ℕ
-lines_in block = lines_with block block.root
+lines_in block = 1 + length block.sats + lines_of_body block.body
 
 -- each block begins where the one before ends, and all lines have numbers of at most 4 * 10^9
 abbrev pub IsNumberedFrom : ℕ → List Block → Type 0

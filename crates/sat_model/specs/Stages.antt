@@ -1,7 +1,7 @@
 -- The stages of an epoch: which boxes are live, and what boxes are tested by from there on.
-use Rattle.sat_model.specs.declared.steps.Step.{Step}
 use Rattle.grid_model.specs.Boxes.{GridBox}
 use Rattle.sat_model.specs.BoxTests.{BoxTest}
+use Rattle.sat_model.specs.Events.{Event, Made, Renewed}
 use Rattle.sat_model.specs.Fold.{Subpaving, first_boxes, boxes_after}
 
 pub record Stage : Type 0 where
@@ -11,6 +11,10 @@ pub record Stage : Type 0 where
 abbrev pub first_stage : BoxTest → GridBox → Stage
 first_stage test root = record { boxes = first_boxes root; test = test }
 
--- the stage behind a step, which keeps the test
-abbrev pub after : Stage → Step → Stage
-after stage step = record { boxes = boxes_after stage.boxes step; test = stage.test }
+-- a step keeps the test; a renewal keeps the boxes, and puts its rows into the test
+abbrev pub after : Stage → Event → Stage
+after stage (Made step) = record { boxes = boxes_after stage.boxes step; test = stage.test }
+after stage (Renewed new) = record {
+  boxes = stage.boxes;
+  test = record { rows = new.rows; q = stage.test.q; pairs = stage.test.pairs };
+}

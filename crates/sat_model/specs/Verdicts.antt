@@ -7,9 +7,12 @@ use Rattle.sat_model.specs.declared.steps.Step.{Step}
 use Rattle.sat_model.specs.declared.steps.Step.TheVariants.{Cut, Split, Outside, Inside, Edge}
 use Rattle.grid_model.specs.Boxes.{GridBox, side_at}
 use Rattle.sat_model.specs.BoxTests.{BoxTest, test_in, IsEmpty, IsInner, HoldsHull}
+use Rattle.sat_model.specs.Events.{Event, Made, Renewed, RowsOver}
 use Rattle.sat_model.specs.Fold.{live_box, IsLive, NoneLive, IsProperCut, slab_of_cut}
 use Rattle.sat_model.specs.Stages.{Stage, first_stage, after}
-use Rattle.sat_model.specs.Logs.{Block, LogValue, sat_of, rows_of}
+use Rattle.sat_model.specs.Logs.{Body, Block, LogValue, is_few, sat_of, rows_of, first_rows}
+use Rattle.sat_model.specs.Renewals.{LineFact, AnyLine, RenewalPasses, LineTests, no_tests}
+use Rattle.sat_model.specs.Renewals.{RenewalFails}
 
 -- ---- the lines of steps
 
@@ -65,21 +68,46 @@ StepFails rules stage (Edge id lo hi) number =
     NotLive stage id number
     ⊎ LiveFails stage id (λ part. HoldsHull stage.test part lo hi) 60 number
 
--- the steps from this stage on and the line of the splits behind them fail no test
-abbrev pub StepsPass : Rules → ℕ → Stage → List Step → Type 0
-StepsPass rules done stage [] = NoneLive stage.boxes × (stage.boxes.splits ≡ done)
-StepsPass rules done stage (step ∷ steps) =
-    StepPasses rules stage step × StepsPass rules done (after stage step) steps
+-- ---- the line of the splits, behind all steps
 
--- the first of these lines that fails is k lines on, and number is the least of a test that fails
--- there
-abbrev pub StepsFail : Rules → ℕ → Stage → List Step → ℕ → ℕ → Type 0
-StepsFail rules done stage [] k number =
-    (k ≡ 0) × ((((id : ℕ) × (live_box stage.boxes id ≢ None)) × (number ≡ 63))
-    ⊎ (NoneLive stage.boxes × (stage.boxes.splits ≢ done) × (number ≡ 64)))
-StepsFail rules done stage (step ∷ steps) zero number = StepFails rules stage step number
-StepsFail rules done stage (step ∷ steps) (suc k) number =
-    StepPasses rules stage step × StepsFail rules done (after stage step) steps k number
+abbrev pub DonePasses : ℕ → Stage → Type 0
+DonePasses done stage = NoneLive stage.boxes × (stage.boxes.splits ≡ done)
+
+-- the least number of a test of it that fails
+abbrev pub DoneFails : ℕ → Stage → ℕ → Type 0
+DoneFails done stage number =
+    (((id : ℕ) × (live_box stage.boxes id ≢ None)) × (number ≡ 63))
+    ⊎ (NoneLive stage.boxes × (stage.boxes.splits ≢ done) × (number ≡ 64))
+
+-- ---- what stands behind the root, by the first rows and the rules
+
+-- the steps and renewals from this stage on, behind j renewals, and the line of the splits behind
+-- them fail no test
+module _ (Meets : LineFact) (first : RowsOver) (rules : Rules) (done : ℕ) where
+  abbrev pub EventsPass : ℕ → Stage → List Event → Type 0
+  EventsPass j stage [] = DonePasses done stage
+  EventsPass j stage (Made step ∷ events) =
+      StepPasses rules stage step × EventsPass j (after stage (Made step)) events
+  EventsPass j stage (Renewed new ∷ events) =
+      RenewalPasses Meets first j stage.boxes new
+      × EventsPass (suc j) (after stage (Renewed new)) events
+
+-- the first of these lines that fails is k lines on, and the fault is told with the least number of
+-- a test that fails there
+module _ {Fault : Type 0} (tests : LineTests Fault) (first : RowsOver) (rules : Rules)
+    (done : ℕ) where
+  abbrev pub EventsFail : ℕ → Stage → List Event → ℕ → Fault → Type 0
+  EventsFail j stage [] k fault =
+      (k ≡ 0) × DoneFails done stage (tests.number fault) × tests.plain fault
+  EventsFail j stage (Made step ∷ events) zero fault =
+      StepFails rules stage step (tests.number fault) × tests.plain fault
+  EventsFail j stage (Made step ∷ events) (suc k) fault =
+      StepPasses rules stage step × EventsFail j (after stage (Made step)) events k fault
+  EventsFail j stage (Renewed new ∷ events) k fault =
+      RenewalFails tests first j stage.boxes new k fault
+      ⊎ ((m : ℕ) × (k ≡ 1 + length new.rows + m)
+      × RenewalPasses tests.passes first j stage.boxes new
+      × EventsFail (suc j) (after stage (Renewed new)) events m fault)
 
 -- ---- the first line of a block
 
@@ -100,15 +128,15 @@ CountsRows false n sats = length (rows_of sats) ≡ n
 
 pub record HeadPasses (rules : Rules) (before : Option ℕ) (block : Block) : Type 0 where
   pub later : IsLater before block.index
-  pub suits : SuitsNumber block.few rules.outliers block.n
-  pub counts : CountsRows block.few block.n block.sats
+  pub suits : SuitsNumber (is_few block) rules.outliers block.n
+  pub counts : CountsRows (is_few block) block.n block.sats
 
 abbrev pub HeadFails : Rules → Option ℕ → Block → ℕ → Type 0
 HeadFails rules before block number =
-    ((IsLater before block.index × SuitsNumber block.few rules.outliers block.n → ⊥)
+    ((IsLater before block.index × SuitsNumber (is_few block) rules.outliers block.n → ⊥)
     × (number ≡ 51))
-    ⊎ (IsLater before block.index × SuitsNumber block.few rules.outliers block.n
-    × (CountsRows block.few block.n block.sats → ⊥) × (number ≡ 52))
+    ⊎ (IsLater before block.index × SuitsNumber (is_few block) rules.outliers block.n
+    × (CountsRows (is_few block) block.n block.sats → ⊥) × (number ≡ 52))
 
 -- ---- the satellite lines
 
@@ -128,16 +156,29 @@ pub record IsFirstRepeat (sats : List SatEntry) (k : ℕ) : Type 0 where
 
 -- ---- the blocks
 
-abbrev pub BodyPasses : Rules → Block → Option GridBox → Type 0
+-- no line of the body fails a test, by the block's rows, where so much is asked of the lines of
+-- renewals
+abbrev pub BodyPassesBy : LineFact → Rules → Block → Body → Type 0
+BodyPassesBy Meets rules block body =
+    EventsPass Meets (first_rows block body) rules body.done
+    0 (first_stage (test_in rules block) body.root) body.events
+
+-- the first line of it that fails is k lines behind the root
+abbrev pub BodyFailsBy : {Fault : Type 0} → LineTests Fault → Rules → Block → Body → ℕ → Fault
+    → Type 0
+BodyFailsBy tests rules block body k fault =
+    EventsFail tests (first_rows block body) rules body.done
+    0 (first_stage (test_in rules block) body.root) body.events k fault
+
+abbrev pub BodyPasses : Rules → Block → Option Body → Type 0
 BodyPasses rules block None = Unit {0}
-BodyPasses rules block (Some root) =
-    StepsPass rules block.done (first_stage (test_in rules block) root) block.steps
+BodyPasses rules block (Some body) = BodyPassesBy AnyLine rules block body
 
 -- no line of the block fails a test, behind a block of the index before
 pub record BlockPasses (rules : Rules) (before : Option ℕ) (block : Block) : Type 0 where
   pub head : HeadPasses rules before block
   pub sats : NoneRepeats block.sats
-  pub body : BodyPasses rules block block.root
+  pub body : BodyPasses rules block block.body
 
 -- the first line of the block that fails, and the least number of a test that fails there
 abbrev pub BlockFails : Rules → Option ℕ → Block → ℕ → ℕ → Type 0
@@ -146,8 +187,8 @@ BlockFails rules before block line number =
     ⊎ ((HeadPasses rules before block × ((k : ℕ) × IsFirstRepeat block.sats k
     × (line ≡ block.line + 1 + k)) × (number ≡ 52))
     ⊎ (HeadPasses rules before block × NoneRepeats block.sats
-    × ((root : GridBox) × (k : ℕ) × (block.root ≡ Some root)
-    × StepsFail rules block.done (first_stage (test_in rules block) root) block.steps k number
+    × ((body : Body) × (k : ℕ) × (block.body ≡ Some body)
+    × BodyFailsBy no_tests rules block body k number
     × (line ≡ block.line + 2 + length block.sats + k))))
 
 abbrev pub BlocksPass : Rules → Option ℕ → List Block → Type 0

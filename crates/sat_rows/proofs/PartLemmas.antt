@@ -11,7 +11,7 @@ use Rattle.grid_model.specs.SearchBoxes.{IsSearchSide, IsSearchBox}
 use Rattle.grid_model.specs.declared.boxes.Pos.{Pos}
 use Rattle.grid_model.specs.declared.spans.Span.{Span}
 use Rattle.grid_model.proofs.AmountLemmas.{above_is}
-use Rattle.grid_model.proofs.BoolLemmas.{both_from}
+use Rattle.std.proofs.lemmas.Bool.{and_from as both_from}
 use Rattle.grid_model.proofs.PointLemmas.{in_box, le_to}
 use Rattle.gnss_model.specs.Delays.{is_plain, span_amount, spare_over, delay_spare, err_spare_of}
 use Rattle.gnss_model.specs.declared.delays.Delays.{Delays}
@@ -19,7 +19,7 @@ use Rattle.gnss_model.specs.declared.delays.Layer.{Layer}
 use Rattle.gnss_model.specs.declared.delays.Layer.TheVariants.{Troposphere, Ionosphere}
 use Rattle.sat_model.specs.Contractors.{SideLiesIn, LiesIn}
 use Rattle.sat_model.specs.declared.rows.Row.{Row}
-use Rattle.sat_rows.specs.Bases.{IsBaseOf, IsRowOver}
+use Rattle.sat_rows.specs.Bases.{IsBaseOf, IsRowOfBase}
 use Rattle.sat_rows.specs.Meanings.{Meaning}
 use Rattle.sat_rows.specs.OwnRows.{HasBounds, IsOwnRow}
 use Rattle.sat_rows.specs.declared.bases.Base.{Base}
@@ -90,7 +90,7 @@ err_spare_mono delays part root lies = omega (arith, delay_mono Troposphere dela
 
 module _ (m : Meaning) (root : GridBox) (tag : ℤ) (seen : SatObs) (base : Base) (part : GridBox) (row : Row) where
   -- the row of a base over a box whose points its search box holds is an own row for that box
-  pub own_of_points : IsBaseOf m root tag seen base → ((p : Pos) → box_holds part p ≡ true → box_holds root p ≡ true) → IsRowOver m.delays base part row → IsOwnRow m part tag seen row
+  pub own_of_points : IsBaseOf m root tag seen base → ((p : Pos) → box_holds part p ≡ true → box_holds root p ≡ true) → IsRowOfBase m.delays base part row → IsOwnRow m part tag seen row
   own_of_points is inside over = record {
     holds = λ p c here allowed. over.holds p c here (is.comes p c (inside p here) allowed);
     x = over.x;
@@ -102,5 +102,5 @@ module _ (m : Meaning) (root : GridBox) (tag : ℤ) (seen : SatObs) (base : Base
   }
 
   -- ... and so over a part of it
-  pub own_of_base : IsBaseOf m root tag seen base → LiesIn part root → IsRowOver m.delays base part row → IsOwnRow m part tag seen row
+  pub own_of_base : IsBaseOf m root tag seen base → LiesIn part root → IsRowOfBase m.delays base part row → IsOwnRow m part tag seen row
   own_of_base is lies over = own_of_points is (λ p. part_holds part root p lies) over

@@ -36,7 +36,7 @@ use Rattle.gnss_model.specs.declared.delays.Delays.{Delays}
 use Rattle.grid_model.specs.declared.spans.Span.{Span}
 use Rattle.usable_sats.proofs.JudgementLemmas.{codes_one, elements_one}
 use Rattle.usable_sats.specs.Judgements.{IsKnownBy}
-use Rattle.sat_rows.specs.Bases.{ComesFrom}
+use Rattle.sat_rows.specs.Bases.{ComesFrom, base_list, HasBase, AreBasesOf}
 use Rattle.sat_rows.specs.Chains.{Chain, observed, AreValues, IsChainAt}
 use Rattle.sat_rows.specs.Meanings.{Meaning}
 use Rattle.sat_rows.specs.OwnRows.{IsOwnLine, AreOwnLines, IsSmall, IsSmallLine, AreSmall, usable_line, usable_in}
@@ -171,6 +171,30 @@ module _ (m : Meaning) (root : GridBox) (tag : ℤ) where
   so_far_all sats left lines k f h =
       let none = drop_of_length-le left {i = k} h in
       subst (AreOwnLines m root tag sats) (append-nil lines) (f.own [] (subst (λ (l : List SatObs). AreOwnLines m root tag l []) (sym none) tt))
+
+-- the bases of the satellites so far
+module _ (m : Meaning) (root : GridBox) (tag : ℤ) where
+  pub record BasesSoFar (sats left : List SatObs) (lines : List SatLine) (bases : List Base) : Type 0 where
+    pub own : (more : List SatLine) (rest : List Base) → AreBasesOf m root tag left more rest → AreBasesOf m root tag sats (lines ++ more) (bases ++ rest)
+
+  pub bases_none : (sats : List SatObs) → BasesSoFar sats sats [] []
+  bases_none sats = record { own = λ more rest f. f }
+
+  pub bases_more : (sats left : List SatObs) (lines after : List SatLine) (bases now : List Base) (k : ℕ) (line : SatLine) (own : Option Base) (d : SatObs) → BasesSoFar sats (drop k left) lines bases → k < length left
+      → HasBase m root tag (get_or left k d) line own → after ≡ lines ++ line ∷ [] → now ≡ bases ++ base_list own → BasesSoFar sats (drop (k + 1) left) after now
+  bases_more sats left lines after bases now k line own d f h has e n = record {
+    own = λ more rest g.
+        let next : drop k left ≡ get_or left k d ∷ drop (k + 1) left = rw (add-one, drop-cons left k d) refl in
+        let all = f.own (line ∷ more) (base_list own ++ rest) (subst (λ (l : List SatObs). AreBasesOf m root tag l (line ∷ more) (base_list own ++ rest)) (sym next) (own, rest, refl, has, g)) in
+        let lined = subst (λ (l : List SatLine). AreBasesOf m root tag sats l (bases ++ (base_list own ++ rest))) (sym (append_assoc lines (line ∷ []) more) ∙ ap (λ (l : List SatLine). l ++ more) (sym e)) all in
+        subst (λ (l : List Base). AreBasesOf m root tag sats (after ++ more) l) (sym (append_assoc bases (base_list own) rest) ∙ ap (λ (l : List Base). l ++ rest) (sym n)) lined;
+  }
+
+  pub bases_all : (sats left : List SatObs) (lines : List SatLine) (bases : List Base) (k : ℕ) → BasesSoFar sats (drop k left) lines bases → length left ≤ k → AreBasesOf m root tag sats lines bases
+  bases_all sats left lines bases k f h =
+      let none = drop_of_length-le left {i = k} h in
+      let all = f.own [] [] (subst (λ (l : List SatObs). AreBasesOf m root tag l [] []) (sym none) refl) in
+      subst (λ (l : List SatLine). AreBasesOf m root tag sats l bases) (append-nil lines) (subst (λ (l : List Base). AreBasesOf m root tag sats (lines ++ []) l) (append-nil bases) all)
 
 small_end : (lines : List SatLine) (line : SatLine) → AreSmall lines → IsSmallLine line → AreSmall (lines ++ line ∷ [])
 small_end [] line f g = (g, tt)

@@ -1,6 +1,7 @@
 -- What the rows of a satellite are formed from, whatever the box: what is known of it before its
 -- place is turned into the frame of the reception, and before a delay is mapped.
-use Rattle.std.specs.Prelude.{◌*◌, ◌^◌, ◌≡◌, ℤ, pos, ◌-ℤ◌, ◌≤ℤ◌, true, None}
+use Rattle.std.specs.Prelude.{◌*◌, ◌^◌, ◌≡◌, ℤ, pos, ◌-ℤ◌, ◌≤ℤ◌, true, Option, None, Some}
+use Rattle.std.specs.Prelude.{List, [], ◌∷◌, ◌++◌}
 use Rattle.broadcast_orbit.specs.OrbitSizes.{IsOrbitDistance}
 use Rattle.earth_rotation.specs.TurnSizes.{near_reach, narrow_width}
 use Rattle.fix_interval.specs.Places.{HoldsPlace, PlaceEnds}
@@ -18,6 +19,8 @@ use Rattle.sat_rows.specs.Chains.{Chain, IsBound}
 use Rattle.sat_rows.specs.Meanings.{Meaning}
 use Rattle.sat_rows.specs.OwnRows.{HoldsAllowed, HasBounds, AreBoundsTight, IsTight, IsSmall}
 use Rattle.sat_rows.specs.declared.bases.Base.{Base}
+use Rattle.sat_rows.specs.declared.lines.SatLine.{SatLine}
+use Rattle.sat_rows.specs.declared.lines.SatLine.TheVariants.{Usable, Skipped}
 use Rattle.usable_sats.specs.Usability.{IsHigh}
 
 -- the values come from a place that is held, by one turn of the earth as seen from p, from a range
@@ -54,7 +57,7 @@ pub record IsBaseOf (m : Meaning) (root : GridBox) (tag : ℤ) (seen : SatObs)
 
 -- The row over a box holds whatever comes from the base as seen from its grid points, within W and
 -- G of this box.
-pub record IsRowOver (delays : Delays) (base : Base) (part : GridBox) (row : Row) : Type 0 where
+pub record IsRowOfBase (delays : Delays) (base : Base) (part : GridBox) (row : Row) : Type 0 where
   pub holds : HoldsAllowed (ComesFrom delays base) part row
   pub x : IsTight part row.x
   pub y : IsTight part row.y
@@ -62,3 +65,24 @@ pub record IsRowOver (delays : Delays) (base : Base) (part : GridBox) (row : Row
   pub range : IsTight part row.range
   pub bounds : AreBoundsTight part delays row
   pub plain : is_plain delays ≡ true → HasBounds row (ends base.err)
+
+-- ---- the bases of an epoch
+
+abbrev pub base_list : Option Base → List Base
+base_list None = []
+base_list (Some base) = base ∷ []
+
+-- the line of a usable satellite, and no other, has a base
+abbrev pub HasBase : Meaning → GridBox → ℤ → SatObs → SatLine → Option Base → Type 0
+HasBase m root tag seen (Usable row) None = ⊥
+HasBase m root tag seen (Usable row) (Some base) = IsBaseOf m root tag seen base
+HasBase m root tag seen (Skipped sat skip) None = Unit {0}
+HasBase m root tag seen (Skipped sat skip) (Some base) = ⊥
+
+-- one for each usable satellite, in order
+abbrev pub AreBasesOf : Meaning → GridBox → ℤ → List SatObs → List SatLine → List Base → Type 0
+AreBasesOf m root tag [] lines bases = bases ≡ []
+AreBasesOf m root tag (seen ∷ sats) [] bases = ⊥
+AreBasesOf m root tag (seen ∷ sats) (line ∷ lines) bases =
+    (own : Option Base) × (rest : List Base) × (bases ≡ base_list own ++ rest)
+    × HasBase m root tag seen line own × AreBasesOf m root tag sats lines rest

@@ -1,9 +1,9 @@
 //! The rows of an epoch.
 
-ghost use Rattle.std.specs.Prelude.{◌≡◌, Some, IfOk, IfErr};
+ghost use Rattle.std.specs.Prelude.{◌≡◌, ◌++◌, Some, IfOk, IfErr, OnOk};
 ghost use Rattle.grid_model.specs.Boxes.{grid_box};
 ghost use Rattle.grid_model.specs.SearchBoxes.{IsSearchBox};
-ghost use Rattle.sat_rows.specs.Bases.{IsBaseOf};
+ghost use Rattle.sat_rows.specs.Bases.{IsBaseOf, base_list, HasBase, AreBasesOf};
 ghost use Rattle.sat_rows.specs.OwnRows.{IsOwnLine, IsSmallLine, AreLinesOf, AreSmall, usable_in};
 ghost use Rattle.sat_rows.specs.OwnRows.{usable_line};
 ghost use Rattle.sat_rows.specs.Sources.{gps_meaning, meaning_by};
@@ -36,15 +36,24 @@ pub fn rows_by(
         rows.lines.items) }
     ensures small { IfOk result (λ rows. AreSmall rows.lines.items) }
     ensures usable { IfOk result (λ rows. rows.usable ≡ usable_in rows.lines.items) }
+    ensures bases { IfOk result (λ rows. AreBasesOf (meaning_by galileo.now nav.now settings.now)
+        (grid_box root.now) epoch.now.tag epoch.now.sats.items rows.lines.items
+        rows.bases.items) }
 {
     let mut lines = Vec::new(alloc);
+    let mut bases = Vec::new(alloc);
     let mut usable = 0;
     for seen in &epoch.sats {
-        let line = line_of(seen, epoch, nav, settings, root, galileo);
-        usable += count(&line);
-        lines.push(line)?;
+        let formed = line_of(seen, epoch, nav, settings, root, galileo);
+        usable += count(&formed.line);
+        push_base(&mut bases, formed.base)?;
+        lines.push(formed.line)?;
     }
-    Ok(EpochRows { lines, usable })
+    Ok(EpochRows {
+        lines,
+        usable,
+        bases,
+    })
 }
 
 /// The same with the satellites of GPS alone.
@@ -61,8 +70,28 @@ pub fn rows(
         rows.lines.items) }
     ensures small { IfOk result (λ rows. AreSmall rows.lines.items) }
     ensures usable { IfOk result (λ rows. rows.usable ≡ usable_in rows.lines.items) }
+    ensures bases { IfOk result (λ rows. AreBasesOf (gps_meaning nav.now settings.now)
+        (grid_box root.now) epoch.now.tag epoch.now.sats.items rows.lines.items
+        rows.bases.items) }
 {
     rows_by(alloc, epoch, nav, settings, root, &None)
+}
+
+/// A satellite's line, and the base of a usable one.
+#[derive(Clone, Copy)]
+struct Formed {
+    line: SatLine,
+    base: Option<Base>,
+}
+
+/// Puts a base behind the others, where there is one.
+fn push_base(bases: &mut Vec<Base>, base: Option<Base>) -> Result<(), NoMemory>
+    ensures { OnOk result (bases.new.items ≡ bases.old.items ++ base_list base) }
+{
+    match base {
+        Some(base) => Ok(bases.push(base)?),
+        None => Ok(()),
+    }
 }
 
 /// The line of a satellite of the epoch.
@@ -73,17 +102,25 @@ fn line_of(
     settings: &Settings,
     root: &Box3,
     galileo: &Option<Signal>,
-) -> SatLine
+) -> Formed
     requires root { IsSearchBox (grid_box root.now) }
     ensures own { IsOwnLine (meaning_by galileo.now nav.now settings.now)
-        (grid_box root.now) epoch.now.tag seen.now result }
-    ensures small { IsSmallLine result }
+        (grid_box root.now) epoch.now.tag seen.now result.line }
+    ensures small { IsSmallLine result.line }
+    ensures base { HasBase (meaning_by galileo.now nav.now settings.now)
+        (grid_box root.now) epoch.now.tag seen.now result.line result.base }
 {
     match base_in(seen, epoch, nav, settings, root, galileo) {
-        Ok(base) => SatLine::Usable(renewed(&base, settings.delays, root)),
-        Err(skip) => SatLine::Skipped {
-            sat: seen.sat,
-            skip,
+        Ok(base) => Formed {
+            line: SatLine::Usable(renewed(&base, settings.delays, root)),
+            base: Some(base),
+        },
+        Err(skip) => Formed {
+            line: SatLine::Skipped {
+                sat: seen.sat,
+                skip,
+            },
+            base: None,
         },
     }
 }

@@ -1,5 +1,6 @@
 //! What becomes of the satellites of an epoch.
 
+use crate::bases::Base;
 use gnss_model::{Sat, Skip};
 use sat_model::Row;
 
@@ -10,9 +11,11 @@ pub enum SatLine {
     Skipped { sat: Sat, skip: Skip },
 }
 
-/// One line for each satellite of an epoch, in its order, and how many are usable.
+/// One line for each satellite of an epoch, in its order, how many are usable, and the base of each
+/// of these.
 #[derive(Debug, Drop)]
 pub struct EpochRows {
     pub lines: Vec<SatLine>,
     pub usable: u32,
+    pub bases: Vec<Base>,
 }

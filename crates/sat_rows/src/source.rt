@@ -4,6 +4,7 @@ ghost use Rattle.std.specs.Prelude.{◌≡◌, IfOk};
 ghost use Rattle.grid_model.specs.Boxes.{grid_box};
 ghost use Rattle.grid_model.specs.SearchBoxes.{IsSearchBox};
 ghost use Rattle.gnss_model.specs.Delays.{AreDelays};
+ghost use Rattle.sat_rows.specs.Bases.{AreBasesOf};
 ghost use Rattle.sat_rows.specs.Meanings.{Meaning, IsSound};
 ghost use Rattle.sat_rows.specs.OwnRows.{AreLinesOf, AreSmall, usable_in};
 
@@ -26,7 +27,9 @@ pub trait RowSource {
         ensures lines { IfOk result (λ rows.
             AreLinesOf (meaning self.now) (grid_box root.now) epoch.now rows.lines.items) }
         ensures small { IfOk result (λ rows. AreSmall rows.lines.items) }
-        ensures usable { IfOk result (λ rows. rows.usable ≡ usable_in rows.lines.items) };
+        ensures usable { IfOk result (λ rows. rows.usable ≡ usable_in rows.lines.items) }
+        ensures bases { IfOk result (λ rows. AreBasesOf (meaning self.now) (grid_box root.now)
+            epoch.now.tag epoch.now.sats.items rows.lines.items rows.bases.items) };
 
     /// The spans of the delays straight up, in um, which it maps and adds to the bounds of the
     /// error.

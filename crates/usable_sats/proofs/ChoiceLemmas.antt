@@ -17,7 +17,7 @@ use Rattle.usable_sats.specs.Answers.{IsChoice, IsRecent, IsAlone, passed_by, ag
 use Rattle.usable_sats.specs.Usability.{Sighting, IsItsRecord, IsHealthy, IsFresh, IsFit}
 use Rattle.usable_sats.specs.declared.choice.Choice.{Choice}
 use Rattle.usable_sats.specs.declared.choice.Choice.TheVariants.{NoRecord, Unhealthy, Old, Unfit, Fit}
-use Rattle.grid_model.proofs.BoolLemmas.{not_both_ways as true_false}
+use Rattle.std.proofs.lemmas.Bool.{both_ways as true_false}
 
 -- ---- what one record gives
 
@@ -34,7 +34,7 @@ module _ (max_age : ℕ) (tag : ℤ) (r : NavRecord) where
 
   old : (t : Choice) → IsAlone max_age tag r t → passed_by t ≤ 2 → (age : ℤ) → IsRecent max_age tag r age → ⊥
   old NoRecord g few age recent = g
-  old Unhealthy g few age recent = true_false r.healthy recent.healthy g
+  old Unhealthy g few age recent = true_false r.healthy g recent.healthy
   old Old g few age recent = g.1 age recent
   old (Unfit own field) g few age recent = absurd (omega arith)
   old (Fit own el) g few age recent = absurd (omega arith)
@@ -43,7 +43,7 @@ module _ (max_age : ℕ) (tag : ℤ) (r : NavRecord) where
   unfit (Unfit own field) g few age recent inside = not_both r.fields field inside g.1
   unfit (Fit own el) g few age recent inside = absurd (omega arith)
   unfit NoRecord g few age recent inside = g
-  unfit Unhealthy g few age recent inside = true_false r.healthy recent.healthy g
+  unfit Unhealthy g few age recent inside = true_false r.healthy g recent.healthy
   unfit Old g few age recent inside = g.1 age recent
 
   aged : (t : Choice) → IsAlone max_age tag r t → 3 ≤ passed_by t → IsRecent max_age tag r (age_of t)
@@ -166,7 +166,7 @@ module _ (galileo : Option Signal) (settings : Settings) (tag : ℤ) (seen : Sat
     (length records, r, its_last galileo settings tag seen records r own),
     λ i q p. elim (healthy_split galileo settings tag seen records r i q p) [
       | inl front ↦ none_healthy (before galileo settings tag seen records r) s f (no_more s Unhealthy worse) i q front
-      | inr last ↦ true_false r.healthy (subst (λ (s : NavRecord). s.healthy ≡ true) last.1 p.healthy) g
+      | inr last ↦ true_false r.healthy g (subst (λ (s : NavRecord). s.healthy ≡ true) last.1 p.healthy)
     ],
   )
   yields s Old own f g worse = (
