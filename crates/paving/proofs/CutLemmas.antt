@@ -9,7 +9,7 @@ use Rattle.sat_model.specs.BoxTests.{BoxTest}
 use Rattle.sat_model.specs.Fold.{ShownStep, left_by_cut}
 use Rattle.sat_model.specs.StepKinds.{is_inside, is_edge, is_outside, is_split}
 use Rattle.sat_model.specs.Waiting.{WaitingBox, Paving, Closes, beyond, beyond_all}
-use Rattle.box_steps.specs.BoxSteps.{AreBoxSteps}
+use Rattle.box_contraction.specs.BoxSteps.{AreBoxSteps}
 use Rattle.paving.specs.Paved.{AreStepsOf}
 use Rattle.paving.specs.declared.counts.Counts.{Counts}
 use Rattle.paving.specs.Counting.{IsCountOf, counts_with_cuts}

@@ -16,11 +16,11 @@ use Rattle.grid_model.specs.Lengths.{side_length, longest_length}
 use Rattle.sat_model.specs.Waiting.{WaitingBox, bits_of, Paving, first_paving, IsNext, Closes, opened_by, beyond, beyond_all, joined}
 use Rattle.grid_model.proofs.AmountLemmas.{above_is}
 use Rattle.range_contractor.proofs.TreeExists.{IsGridPart, inside_part}
-use Rattle.box_steps.proofs.BoxLemmas.{grid_part, box_steps_exist, cuts_inside}
+use Rattle.box_contraction.proofs.BoxLemmas.{grid_part, box_steps_exist, cuts_inside}
 use Rattle.paving.specs.Paved.{long_side, grain_for, AreStepsOf, PavesTo, Paved, PavedFirst}
 use Rattle.paving.proofs.PavedLemmas.{box_opens, keeps_test}
 use Rattle.sat_model.proofs.FoldLemmas.{with_inside}
-use Rattle.box_steps.proofs.RoundLemmas.{joined_append}
+use Rattle.box_contraction.proofs.RoundLemmas.{joined_append}
 
 -- ---- the box that comes next
 

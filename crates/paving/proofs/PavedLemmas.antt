@@ -10,14 +10,16 @@ use Rattle.sat_model.specs.declared.steps.Step.{Step}
 use Rattle.sat_model.specs.declared.steps.Step.TheVariants.{Cut, Split, Outside, Inside, Edge}
 use Rattle.grid_model.specs.Boxes.{GridBox, side_at, with_side, low_half, high_half}
 use Rattle.sat_model.specs.Cover.{EpochCover}
-use Rattle.sat_model.specs.Fold.{Subpaving, first_boxes, live_box, left_by_cut, halves, boxes_after, ShownStep, pieces}
+use Rattle.sat_model.specs.Fold.{Subpaving, first_boxes, live_box, left_by_cut, halves, boxes_after, ShownStep}
+use Rattle.sat_model.specs.Events.{Made, RowsOver, rows_over, made_all}
+use Rattle.sat_model.specs.Renewals.{AnyLine}
 use Rattle.sat_model.specs.Stages.{Stage, first_stage, after}
-use Rattle.sat_model.specs.Verdicts.{StepPasses, StepsPass}
+use Rattle.sat_model.specs.Verdicts.{StepPasses, EventsPass}
 use Rattle.sat_model.specs.Waiting.{WaitingBox, Paving, first_waiting, first_paving, IsNext, Closes, halves_from, beyond, beyond_all, joined, steps_of}
-use Rattle.box_steps.specs.Cuts.{MayCut, cut_shown, AreFacesDone}
-use Rattle.box_steps.specs.BoxSteps.{AreCutsOf}
-use Rattle.box_steps.proofs.BoxLemmas.{cuts_some}
-use Rattle.box_steps.proofs.FaceLemmas.{IsSomeCut}
+use Rattle.box_contraction.specs.Cuts.{MayCut, cut_shown, AreFacesDone}
+use Rattle.box_contraction.specs.BoxSteps.{AreCutsOf}
+use Rattle.box_contraction.proofs.BoxLemmas.{cuts_some}
+use Rattle.box_contraction.proofs.FaceLemmas.{IsSomeCut}
 use Rattle.sat_model.specs.BoxTests.{BoxTest}
 use Rattle.paving.specs.Paved.{AreStepsOf, PavesTo, Paved}
 use Rattle.grid_model.proofs.AmountLemmas.{above_is}
@@ -101,10 +103,10 @@ pub record AreBoxesOf (paving : Paving) (st : Subpaving) : Type 0 where
   pub given : length st.live ≡ 2 * paving.splits + 1
   pub splits : st.splits ≡ paving.splits
 
-with_yes : (box : WaitingBox) (id : ℕ) (waiting : List WaitingBox) → box.id ≡ id → parts_with id (box ∷ waiting) ≡ box.part ∷ parts_with id waiting
+pub with_yes : (box : WaitingBox) (id : ℕ) (waiting : List WaitingBox) → box.id ≡ id → parts_with id (box ∷ waiting) ≡ box.part ∷ parts_with id waiting
 with_yes box id waiting e = rw (eq-eqb box.id id e) refl
 
-with_no : (box : WaitingBox) (id : ℕ) (waiting : List WaitingBox) → box.id ≢ id → parts_with id (box ∷ waiting) ≡ parts_with id waiting
+pub with_no : (box : WaitingBox) (id : ℕ) (waiting : List WaitingBox) → box.id ≢ id → parts_with id (box ∷ waiting) ≡ parts_with id waiting
 with_no box id waiting e = rw (ne_eqb box.id id e) refl
 
 parts_append : (id : ℕ) (xs ys : List WaitingBox) → parts_with id (xs ++ ys) ≡ parts_with id xs ++ parts_with id ys
@@ -122,7 +124,7 @@ only_one [] ys c (Some d) e = (cc, refl, cc)
 only_one (x ∷ []) ys c (Some d) e = absurd cc
 only_one (x ∷ y ∷ xs) ys c (Some d) e = absurd cc
 
-none_from : (o : Option GridBox) → [] ≡ boxes_in o → o ≡ None
+pub none_from : (o : Option GridBox) → [] ≡ boxes_in o → o ≡ None
 none_from None e = refl
 none_from (Some c) e = cc
 
@@ -162,7 +164,7 @@ taken_up paving next rest st n are =
 -- the steps pass their tests, one after another
 abbrev pub AllPass : Rules → Stage → List ShownStep → Type 0
 AllPass rules st [] = Unit {0}
-AllPass rules st (shown ∷ more) = StepPasses rules st shown.step × AllPass rules (after st shown.step) more
+AllPass rules st (shown ∷ more) = StepPasses rules st shown.step × AllPass rules (after st (Made shown.step)) more
 
 abbrev pub boxes_behind : Subpaving → List ShownStep → Subpaving
 boxes_behind st [] = st
@@ -174,7 +176,7 @@ stage_after st steps = record { boxes = boxes_behind st.boxes steps; test = st.t
 
 pub pass_both : (rules : Rules) (st : Stage) (xs ys : List ShownStep) → AllPass rules st xs → AllPass rules (stage_after st xs) ys → AllPass rules st (xs ++ ys)
 pass_both rules st [] ys first later = later
-pass_both rules st (x ∷ xs) ys (here, first) later = (here, pass_both rules (after st x.step) xs ys first later)
+pass_both rules st (x ∷ xs) ys (here, first) later = (here, pass_both rules (after st (Made x.step)) xs ys first later)
 
 pub boxes_both : (st : Subpaving) (xs ys : List ShownStep) → boxes_behind st (xs ++ ys) ≡ boxes_behind (boxes_behind st xs) ys
 boxes_both st [] ys = refl
@@ -208,7 +210,7 @@ in_turn_go_on : (rules : Rules) (id : ℕ) (part : GridBox) (steps : List ShownS
 in_turn_go_on rules id part [] left rest splits st same w = record { pass = tt; in_work = rw same w }
 in_turn_go_on rules id part (shown ∷ steps) left rest splits st (face, bound, may, is, later) w =
     let w2 = cut_in_work id face bound part rest splits st.boxes w in
-    let r = in_turn_go_on rules id (left_by_cut face bound part) steps left rest splits (after st (Cut id face bound)) later w2 in
+    let r = in_turn_go_on rules id (left_by_cut face bound part) steps left rest splits (after st (Made (Cut id face bound))) later w2 in
     rw is (record { pass = ((part, w.is_live, may), r.pass); in_work = r.in_work })
 
 -- all cuts of a box
@@ -314,30 +316,34 @@ box_goes_on rules next own rest splits st are w =
 
 -- ---- a whole run
 
-pub passes_then : (rules : Rules) (done : ℕ) (st : Stage) (xs ys : List ShownStep) → AllPass rules st xs → StepsPass rules done (stage_after st xs) (steps_of ys)
-    → StepsPass rules done st (steps_of (xs ++ ys))
-passes_then rules done st [] ys first later = later
-passes_then rules done st (x ∷ xs) ys (here, first) later = (here, passes_then rules done (after st x.step) xs ys first later)
+-- steps without renewals pass from this stage on
+abbrev pub RunPasses : RowsOver → Rules → ℕ → Stage → List ShownStep → Type 0
+RunPasses start rules done st steps = EventsPass AnyLine start rules done 0 st (made_all (steps_of steps))
+
+pub passes_then : (start : RowsOver) (rules : Rules) (done : ℕ) (st : Stage) (xs ys : List ShownStep) → AllPass rules st xs → RunPasses start rules done (stage_after st xs) ys
+    → RunPasses start rules done st (xs ++ ys)
+passes_then start rules done st [] ys first later = later
+passes_then start rules done st (x ∷ xs) ys (here, first) later = (here, passes_then start rules done (after st (Made x.step)) xs ys first later)
 
 -- steps keep the test of a paving
 pub keeps_test : (paving : Paving) (steps : List ShownStep) → (beyond_all paving steps).test ≡ paving.test
 keeps_test paving [] = refl
 keeps_test paving (shown ∷ more) = keeps_test (beyond paving shown) more
 
-pub passes_from : (rules : Rules) (paving last : Paving) (st : Subpaving) (boxes : List (List ShownStep))
+pub passes_from : (start : RowsOver) (rules : Rules) (paving last : Paving) (st : Subpaving) (boxes : List (List ShownStep))
     → PavesTo rules paving boxes last → AreBoxesOf paving st → last.waiting ≡ []
-    → StepsPass rules last.splits (record { boxes = st; test = paving.test }) (steps_of (joined boxes))
-passes_from rules paving last st [] paves is none = (
+    → RunPasses start rules last.splits (record { boxes = st; test = paving.test }) (joined boxes)
+passes_from start rules paving last st [] paves is none = (
   λ id. none_from (live_box st id) (ap (parts_with id) (sym none) ∙ ap (λ p. parts_with id p.waiting) (sym paves) ∙ is.live id),
   is.splits ∙ ap (λ p. p.splits) paves,
 )
-passes_from rules paving last st (own ∷ boxes) (next, rest, n, are, later) is none =
+passes_from start rules paving last st (own ∷ boxes) (next, rest, n, are, later) is none =
     let stage : Stage = record { boxes = st; test = paving.test } in
     let rested : Paving = record paving { waiting = rest } in
     let (pass, now) = box_goes_on rules next own rest paving.splits stage are (taken_up paving next rest st n is) in
-    passes_then rules last.splits stage own (joined boxes) pass
-    (subst (λ (t : BoxTest). StepsPass rules last.splits (record { boxes = boxes_behind st own; test = t }) (steps_of (joined boxes))) (keeps_test rested own)
-    (passes_from rules (beyond_all rested own) last (boxes_behind st own) boxes later now none))
+    passes_then start rules last.splits stage own (joined boxes) pass
+    (subst (λ (t : BoxTest). RunPasses start rules last.splits (record { boxes = boxes_behind st own; test = t }) (joined boxes)) (keeps_test rested own)
+    (passes_from start rules (beyond_all rested own) last (boxes_behind st own) boxes later now none))
 
 first_live : (root : GridBox) → AreLive (first_waiting root) (Some root ∷ [])
 first_live root zero = refl
@@ -348,16 +354,17 @@ first_are test root = record { live = first_live root; given = omega arith; spli
 
 pub run_passes : (test : BoxTest) (rules : Rules) (root : GridBox) (boxes : List (List ShownStep)) (last : Paving)
     → PavesTo rules (first_paving test root) boxes last → last.waiting ≡ []
-    → StepsPass rules last.splits (first_stage test root) (steps_of (joined boxes))
+    → RunPasses (rows_over root test.rows) rules last.splits (first_stage test root) (joined boxes)
 run_passes test rules root boxes last paves none =
-    passes_from rules (first_paving test root) last (first_boxes root) boxes paves (first_are test root) none
+    passes_from (rows_over root test.rows) rules (first_paving test root) last (first_boxes root) boxes paves (first_are test root) none
 
 -- a whole run passes all tests: each step does, no box is live at its end, and the splits are counted
 pub paved_passes : (test : BoxTest) (rules : Rules) (root : GridBox) (steps : List ShownStep) → (run : Paved test rules root steps)
-    → StepsPass rules run.last.splits (first_stage test root) (steps_of steps)
+    → RunPasses (rows_over root test.rows) rules run.last.splits (first_stage test root) steps
 paved_passes test rules root steps run = rw run.all_steps (run_passes test rules root run.boxes run.last run.paves run.none_waiting)
 
 -- so it partitions the root, and covers what fits
 pub paved_covers : (test : BoxTest) (rules : Rules) (root : GridBox) (steps : List ShownStep) → Paved test rules root steps
-    → EpochCover test.rows test.q root (pieces root (steps_of steps))
-paved_covers test rules root steps run = epoch_cover test rules run.last.splits root (steps_of steps) (paved_passes test rules root steps run)
+    → EpochCover test.q (rows_over root test.rows) (made_all (steps_of steps))
+paved_covers test rules root steps run =
+    epoch_cover AnyLine rules run.last.splits test root (made_all (steps_of steps)) (paved_passes test rules root steps run)

@@ -1,5 +1,5 @@
--- A run that is underway.
-use Rattle.std.proofs.Common.{◌≡◌, ℕ, ◌+◌, ◌-◌, ◌*◌, ◌<◌, ◌≤◌, List, [], ◌∷◌, ◌++◌, length, arith, refl, sym, ap, subst, append_assoc, Some}
+-- Counts and room while a run is underway.
+use Rattle.std.proofs.Common.{◌≡◌, ℕ, ◌+◌, ◌*◌, ◌≤◌, List, [], ◌∷◌, ◌++◌, length, arith, refl, sym, ap, subst, append_assoc, Some}
 use Rattle.std.specs.Prelude.{Bool, true, false, cond, count_by}
 use Rattle.std.proofs.lemmas.List.{append-nil, length-append}
 use Rattle.std.proofs.lemmas.List.Sums.{sum_by-append, sum_by-cons}
@@ -13,19 +13,15 @@ use Rattle.grid_model.proofs.AmountLemmas.{above_is}
 use Rattle.sat_model.specs.BoxTests.{BoxTest}
 use Rattle.sat_model.specs.Fold.{ShownStep}
 use Rattle.sat_model.specs.StepKinds.{is_inside, is_edge, is_outside, is_split}
-use Rattle.sat_model.specs.Waiting.{WaitingBox, Paving, first_paving, IsNext, Closes, opened_by, splits_after, beyond, beyond_all, joined}
-use Rattle.box_steps.specs.Taken.{TookAll}
-use Rattle.box_steps.specs.Ends.{last_of, TookBox}
-use Rattle.box_steps.specs.declared.work.Ended.{Ended}
-use Rattle.box_steps.proofs.TakingLemmas.{took_both}
-use Rattle.paving.specs.Paved.{grain_for, AreStepsOf, PavesTo}
+use Rattle.sat_model.specs.Waiting.{WaitingBox, IsNext, Closes, opened_by, splits_after}
+use Rattle.box_contraction.specs.Ends.{last_of, TookBox}
+use Rattle.box_contraction.specs.declared.work.Ended.{Ended}
+use Rattle.paving.specs.Paved.{grain_for, AreStepsOf}
 use Rattle.paving.specs.declared.counts.Counts.{Counts}
 use Rattle.paving.specs.Counting.{IsCountOf, counts_after, counts_with_cuts}
 use Rattle.paving.specs.Queues.{IsQueued, Takes, CanOpen, box_of, opened_count}
-use Rattle.paving.proofs.CutLemmas.{ends_by_last, opens_last, counted_cuts}
-use Rattle.paving.proofs.PavedExists.{same_test}
+use Rattle.paving.proofs.CutLemmas.{ends_by_last, counted_cuts}
 use Rattle.paving.proofs.PavedLemmas.{AreCutsInTurn}
-use Rattle.box_steps.proofs.RoundsUnderway.{one_more as joined_more}
 
 -- so many boxes have at most so many steps of each kind, with up to 1,800 cuts a box
 pub record AreFew (counts : Counts) (boxes : ℕ) : Type 0 where
@@ -33,30 +29,6 @@ pub record AreFew (counts : Counts) (boxes : ℕ) : Type 0 where
   pub edge : counts.edge ≤ boxes
   pub outside : counts.outside ≤ 1801 * boxes
   pub splits : counts.bisections ≤ boxes
-
--- what holds before each box is taken up, with so many spare nodes for boxes
-pub record IsUnderway {L : Type 0} (took : L → Step → GridBox → L → Type 0) (test : BoxTest) (rules : Rules) (root : GridBox) (first now : L) (lists : List (List Item)) (spare : ℕ) (counts : Counts) : Type 0 where
-  pub boxes : List (List ShownStep)
-  pub paving : Paving
-  pub paves : PavesTo rules (first_paving test root) boxes paving
-  pub taken : TookAll took first (joined boxes) now
-  pub queued : IsQueued paving.waiting lists
-  pub counted : IsCountOf counts (joined boxes)
-  pub few : AreFew counts (length boxes)
-  pub splits_is : paving.splits ≡ counts.bisections
-  pub opened : length paving.waiting + length boxes ≡ 2 * counts.bisections + 1
-  pub spared : spare + length paving.waiting ≡ rules.bisections + 1
-  pub within : counts.bisections ≤ rules.bisections
-
--- a run goes on by one box
-pub paves_more : (rules : Rules) (start middle : Paving) (boxes : List (List ShownStep)) (next : WaitingBox) (rest : List WaitingBox) (own : List ShownStep)
-    → PavesTo rules start boxes middle → IsNext middle.waiting next rest → AreStepsOf middle.test rules middle.splits next own
-    → PavesTo rules start (boxes ++ own ∷ []) (beyond_all (record middle { waiting = rest }) own)
-paves_more rules start middle [] next rest own paves is own_is =
-    subst (λ (p : Paving). PavesTo rules p (own ∷ []) (beyond_all (record middle { waiting = rest }) own)) (sym paves)
-    (next, rest, is, own_is, refl)
-paves_more rules start middle (first ∷ boxes) next rest own (n, r, n_is, f_is, later) is own_is =
-    (n, r, n_is, f_is, paves_more rules (beyond_all (record start { waiting = r }) first) middle boxes next rest own later is own_is)
 
 count_yes : (p : ShownStep → Bool) (xs : List ShownStep) (x : ShownStep) (n : ℕ) → n ≡ count_by p xs → p x ≡ true → n + 1 ≡ count_by p (xs ++ x ∷ [])
 count_yes p xs x n e yes_x = omega (arith, e, sum_by-append (λ y. cond (p y) 1 0) xs (x ∷ []), sum_by-cons (λ y. cond (p y) 1 0) x [], ap {B = ℕ} (λ (b : Bool). cond b 1 0) yes_x)
@@ -196,65 +168,3 @@ can_open test rules splits id (Outside n) part ends = tt
 can_open test rules splits id (Inside n clock lo hi) part ends = tt
 can_open test rules splits id (Edge n lo hi) part ends = tt
 can_open test rules splits id (Cut n face bound) part ends = absurd ends
-
--- ---- a box is done
-
--- the steps of a box, by the paving that is underway
-pub steps_underway : {L : Type 0} {took : L → Step → GridBox → L → Type 0} {test : BoxTest} {rules : Rules} {root : GridBox} {first now : L} {lists : List (List Item)} {spare : ℕ} {counts : Counts}
-    (u : IsUnderway took test rules root first now lists spare counts) (box : WaitingBox) (own : List ShownStep)
-    → AreStepsOf test rules counts.bisections box own → AreStepsOf u.paving.test rules u.paving.splits box own
-steps_underway {test = test} {rules = rules} {root = root} u box own are =
-    subst (λ (t : BoxTest). AreStepsOf t rules u.paving.splits box own) (sym (same_test rules (first_paving test root) u.paving u.boxes u.paves))
-    (subst (λ (s : ℕ). AreStepsOf test rules s box own) (sym u.splits_is) are)
-
--- the box was worked on, before what it opens waits
-module _ {L : Type 0} (took : L → Step → GridBox → L → Type 0) (test : BoxTest) (rules : Rules) (root : GridBox) (first now last : L) (lists mid : List (List Item)) (spare : ℕ) (counts : Counts) (next : Item) (ended : Ended)
-    (u : IsUnderway took test rules root first now lists spare counts) (takes : Takes lists (Some next) mid)
-    (t : TookBox took (AreStepsOf test rules counts.bisections (box_of next)) now ended last) where
-  pub can_open_left : CanOpen ended.step (grid_box ended.left)
-  can_open_left = can_open test rules counts.bisections next.id ended.step (grid_box ended.left) (ends_box took test rules counts.bisections next now last ended t).0
-
-  goes_on_here : (left : ℕ) → ended.cuts ≤ 1800 → left + opened_count ended.step ≡ spare + 1
-      → (h : IsInHand u.paving.waiting next mid)
-      → GoesOn rules h.rest u.paving.splits ended.step (grid_box ended.left) (length u.boxes) left (counts_with_box counts ended)
-  goes_on_here left few change h =
-      goes_on test rules h.rest u.paving.splits next.id ended.step (grid_box ended.left) (length u.boxes) spare left ended.cuts counts
-      (subst (λ (s : ℕ). Closes test rules s next.id (grid_box ended.left) ended.step) (sym u.splits_is) (ends_box took test rules counts.bisections next now last ended t).0)
-      u.splits_is few (omega (arith, u.opened, h.one_less)) (omega (arith, u.spared, h.one_less)) change u.few u.within
-
-  pub more_underway : (new : List (List Item)) (left : ℕ) (after : Counts) → ended.cuts ≤ 1800 → left + opened_count ended.step ≡ spare + 1
-      → ((waiting : List WaitingBox) → IsQueued waiting mid → IsQueued (waiting ++ opened_by counts.bisections ended.step (grid_box ended.left)) new)
-      → after ≡ counts_with_box counts ended
-      → IsUnderway took test rules root first last new left after
-  more_underway new left after few change opened same =
-      let h = in_hand u.paving.waiting lists mid next u.queued takes in
-      let on = goes_on_here left few change h in
-      let own : List ShownStep = t.cuts ++ last_of ended ∷ [] in
-      let in_turn = (ends_box took test rules counts.bisections next now last ended t).1 in
-      let steps = joined_more u.boxes own in
-      let rested : Paving = record u.paving { waiting = h.rest } in
-      let are = steps_underway u (box_of next) own t.are in
-      rw same (record {
-        boxes = u.boxes ++ own ∷ [];
-        paving = beyond rested (last_of ended);
-        paves = subst (λ (p : Paving). PavesTo rules (first_paving test root) (u.boxes ++ own ∷ []) p) (opens_last u.paving.test rules u.paving.splits (box_of next) t.cuts (last_of ended) rested are)
-            (paves_more rules (first_paving test root) u.paving u.boxes (box_of next) h.rest own u.paves h.is_next are);
-        taken = subst (λ (l : List ShownStep). TookAll took first l last) (sym steps) (took_both took (joined u.boxes) own first now last u.taken t.taken);
-        queued = subst (λ (s : ℕ). IsQueued (h.rest ++ opened_by s ended.step (grid_box ended.left)) new) (sym u.splits_is) (opened h.rest h.queued);
-        counted = subst (λ (l : List ShownStep). IsCountOf (counts_with_box counts ended) l) (sym steps)
-            (counted_box test next.id (grid_box next.part) counts ended (joined u.boxes) t.cuts t.counted in_turn u.counted);
-        few = subst (λ (n : ℕ). AreFew (counts_with_box counts ended) n) (sym (length-append u.boxes (own ∷ []))) on.few;
-        splits_is = on.splits_is;
-        opened = omega (arith, on.opened, length-append u.boxes (own ∷ []));
-        spared = on.spared;
-        within = on.within;
-      })
-
-  -- of the 2 * bisections + 1 boxes that there may be, one is left less
-  pub measure_smaller : (left : ℕ) (after : Counts) → ended.cuts ≤ 1800 → left + opened_count ended.step ≡ spare + 1
-      → after ≡ counts_with_box counts ended
-      → 3 * rules.bisections + 1 - (2 * after.bisections + left) < 3 * rules.bisections + 1 - (2 * counts.bisections + spare)
-  measure_smaller left after few change same =
-      let h = in_hand u.paving.waiting lists mid next u.queued takes in
-      let on = goes_on_here left few change h in
-      rw same (omega (arith, on.opened, on.spared, u.opened, u.spared, u.within, h.one_less))

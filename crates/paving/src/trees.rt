@@ -1,24 +1,25 @@
 //! The contractor trees of an epoch's rows, one for long boxes and one for the others.
 
-ghost use Rattle.std.specs.Prelude.{◌≡◌, ◌<◌, ◌≤◌, pos, true, false, length};
+ghost use Rattle.std.specs.Prelude.{◌≡◌, ◌<◌, ◌≤◌, ℕ, List, pos, true, false, length};
 ghost use Rattle.std.specs.Prelude.{IfOk, IfErr, Err, MatchOption};
 ghost use Rattle.sat_model.specs.BoxTests.{BoxTest as TestValue, test_of};
 ghost use Rattle.sat_model.specs.RowTrees.{row_tree};
+ghost use Rattle.sat_model.specs.declared.rows.Row.{Row};
 ghost use Rattle.fix_interval.specs.Grains.{coarse_low, coarse_high};
 ghost use Rattle.range_contractor.specs.Views.{tree_value};
 ghost use Rattle.relaxed_meet.specs.TestValues.{test_value};
-ghost use Rattle.box_steps.specs.Ends.{TookBox};
-ghost use Rattle.box_steps.specs.Taken.{Rose};
-ghost use Rattle.box_steps.specs.Taking.{BrokeOff};
+ghost use Rattle.box_contraction.specs.Ends.{TookBox};
+ghost use Rattle.box_contraction.specs.Taken.{Rose};
+ghost use Rattle.box_contraction.specs.Taking.{BrokeOff};
 ghost use Rattle.paving.specs.Paved.{AreStepsOf, long_side};
 ghost use Rattle.paving.specs.Queues.{box_of};
 ghost use Rattle.paving.specs.Trees.{AreTreesOf, AreTreesFor};
 
+use box_contraction::{Ended, StepFault, Steps, work_on};
 use box_pool::Item;
-use box_steps::{Ended, StepFault, Steps, work_on};
 use fix_interval::{Coarse, Exact};
 use grid_model::NoMemory;
-use range_contractor::{Tree, relaxed_tree};
+use range_contractor::{Tree, refresh, relaxed_tree};
 use relaxed_meet::BoxTest;
 use sat_model::{Row, Rules};
 use std::alloc::Global;
@@ -44,6 +45,30 @@ impl Trees {
             coarse: relaxed_tree(alloc, rows, q)?,
             exact: relaxed_tree(alloc, rows, q)?,
         })
+    }
+
+    /// Makes the trees those of as many other rows, in their own memory.
+    fn refresh(&mut self, rows: &[Row])
+        requires { (q : ℕ) × (before : List Row) × (length before ≡ length rows.now)
+            × AreTreesOf self.old before q }
+        ensures { (q : ℕ) (before : List Row) → length before ≡ length rows.now
+            → AreTreesOf self.old before q → AreTreesOf self.new rows.now q }
+    {
+        refresh(&mut self.coarse, rows);
+        refresh(&mut self.exact, rows);
+    }
+}
+
+/// Makes the trees, where there are trees, those of as many other rows.
+pub fn refresh_trees(trees: &mut Option<Trees>, rows: &[Row])
+    requires { (test : TestValue) × (length test.rows ≡ length rows.now)
+        × AreTreesFor test trees.old }
+    ensures { (test : TestValue) → length test.rows ≡ length rows.now
+        → AreTreesFor test trees.old
+        → AreTreesFor (record { rows = rows.now; q = test.q; pairs = test.pairs }) trees.new }
+{
+    if let Some(trees) = trees {
+        trees.refresh(rows);
     }
 }
 

@@ -4,9 +4,9 @@ use Rattle.std.proofs.lemmas.Bool.{lt-ltb, le-ltb}
 use Rattle.grid_model.specs.Boxes.{GridBox, grid_box}
 use Rattle.grid_model.specs.Lengths.{longest_length}
 use Rattle.relaxed_meet.specs.TestValues.{test_value}
-use Rattle.box_steps.specs.BoxSteps.{AreBoxSteps}
-use Rattle.box_steps.specs.Ends.{TookBox}
-use Rattle.box_steps.specs.Taking.{BrokeOff}
+use Rattle.box_contraction.specs.BoxSteps.{AreBoxSteps}
+use Rattle.box_contraction.specs.Ends.{TookBox}
+use Rattle.box_contraction.specs.Taking.{BrokeOff}
 use Rattle.paving.specs.Paved.{long_side, grain_for}
 use Rattle.paving.specs.Queues.{box_of}
 use Rattle.paving.proofs.trees.work_on_box.Goals as goal

@@ -1,6 +1,0 @@
-pub mod Taken
-pub mod Cuts
-pub mod BoxSteps
-pub mod Targets
-pub mod Taking
-pub mod Ends

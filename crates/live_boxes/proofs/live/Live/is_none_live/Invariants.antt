@@ -1,6 +1,0 @@
-use Rattle.std.proofs.Common.{◌≡◌, ℕ, ◌<◌, get_or, map, None}
-use Rattle.live_boxes.specs.LiveValues.{box_option}
-use Rattle.live_boxes.proofs.live.Live.is_none_live.Given as goal
-
-abbrev pub invariant-loop-found : goal.invariant-loop-found
-invariant-loop-found l = (id : ℕ) → id < l.found-index → get_or (map box_option l.found-items) id None ≡ None

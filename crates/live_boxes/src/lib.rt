@@ -1,8 +1,0 @@
-//! The live boxes of an epoch, folded over its steps.
-#![tactic(auto)]
-
-mod cuts;
-mod live;
-
-pub use cuts::{is_proper_cut, left_by, slab_of};
-pub use live::Live;
