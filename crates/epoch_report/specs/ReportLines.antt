@@ -4,7 +4,7 @@ use Rattle.std.specs.Fmt.{decimal}
 use Rattle.sat_model.specs.declared.steps.Step.{Step}
 use Rattle.sat_model.specs.declared.steps.Step.TheVariants.{Cut, Split, Outside, Inside, Edge}
 use Rattle.grid_model.specs.Boxes.{GridBox, Side}
-use Rattle.log_words.specs.Words.{joined}
+use Rattle.log_tokens.specs.Words.{joined}
 use Rattle.epoch_report.specs.declared.counts.Counts4.{Counts4}
 use Rattle.epoch_report.specs.Metres.{metres_text, seconds_text}
 

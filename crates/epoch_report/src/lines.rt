@@ -2,7 +2,7 @@
 
 ghost use Rattle.std.specs.Prelude.{◌≡◌, ◌↔◌, ◌+◌, ◌≤◌, ◌∷◌, ◌++◌, length, IfSome, true};
 ghost use Rattle.std.specs.Fmt.{decimal};
-ghost use Rattle.log_words.specs.Words.{joined};
+ghost use Rattle.log_tokens.specs.Words.{joined};
 ghost use Rattle.grid_model.specs.Boxes.{grid_box};
 ghost use Rattle.sat_model.specs.StepKinds.{is_split};
 ghost use Rattle.epoch_report.specs.Metres.{metres_text};

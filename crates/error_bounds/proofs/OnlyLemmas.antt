@@ -29,11 +29,11 @@ same_read a b r e f = ap (λ x. result_unwrap_or x a) (sym e ∙ f)
 same_sum : (a b c d a' b' c' d' : ℤ × ℤ) → a ≡ a' → b ≡ b' → c ≡ c' → d ≡ d' → add (add (add a b) c) d ≡ add (add (add a' b') c') d'
 same_sum a b c d a' b' c' d' ea eb ec ed = rw (ea, eb, ec, ed) refl
 
-same_fields : (c c' : Centre) (h h' : Pos) (o o' b b' : ℕ) (w w' : ℤ) (m m' : ℕ) (d d' : Bool) (s s' : Signal) (k k' : ℤ × ℤ) (x x' : List (Sat × (ℤ × ℤ))) (z z' u u' : Option (ℤ × ℤ)) (g g' : Option GalileoValue) (v v' : Option ℕ)
-    → c ≡ c' → h ≡ h' → o ≡ o' → b ≡ b' → w ≡ w' → m ≡ m' → d ≡ d' → s ≡ s' → k ≡ k' → x ≡ x' → z ≡ z' → u ≡ u' → g ≡ g' → v ≡ v'
-    → ◌≡◌ {A = SettingsValue} (record { centre = c; half = h; outliers = o; bisections = b; width = w; max_age = m; pairs = d; signal = s; common = k; extra = x; zenith = z; vertical = u; galileo = g; speed = v })
-    (record { centre = c'; half = h'; outliers = o'; bisections = b'; width = w'; max_age = m'; pairs = d'; signal = s'; common = k'; extra = x'; zenith = z'; vertical = u'; galileo = g'; speed = v' })
-same_fields c c' h h' o o' b b' w w' m m' d d' s s' k k' x x' z z' u u' g g' v v' ec eh eo eb ew em ed es ek ex ez eu eg ev = cc
+same_fields : (c c' : Centre) (h h' : Pos) (o o' b b' : ℕ) (w w' : ℤ) (m m' : ℕ) (r r' d d' : Bool) (s s' : Signal) (k k' : ℤ × ℤ) (x x' : List (Sat × (ℤ × ℤ))) (z z' u u' : Option (ℤ × ℤ)) (g g' : Option GalileoValue) (v v' : Option ℕ)
+    → c ≡ c' → h ≡ h' → o ≡ o' → b ≡ b' → w ≡ w' → m ≡ m' → r ≡ r' → d ≡ d' → s ≡ s' → k ≡ k' → x ≡ x' → z ≡ z' → u ≡ u' → g ≡ g' → v ≡ v'
+    → ◌≡◌ {A = SettingsValue} (record { centre = c; half = h; outliers = o; bisections = b; width = w; max_age = m; renew = r; pairs = d; signal = s; common = k; extra = x; zenith = z; vertical = u; galileo = g; speed = v })
+    (record { centre = c'; half = h'; outliers = o'; bisections = b'; width = w'; max_age = m'; renew = r'; pairs = d'; signal = s'; common = k'; extra = x'; zenith = z'; vertical = u'; galileo = g'; speed = v' })
+same_fields c c' h h' o o' b b' w w' m m' r r' d d' s s' k k' x x' z z' u u' g g' v v' ec eh eo eb ew em er ed es ek ex ez eu eg ev = cc
 
 none_read : {V : Type 0} (key : Key V) (tree : Members) (v : V) → get_member key.table tree ≡ None → value_of key tree ≡ Ok v → ⊥
 none_read key tree v none is =
@@ -51,9 +51,9 @@ same_galileo tree (Some v) (Some w) p q = same_declared _ _ _ _ (same_read _ _ _
 
 pub one_value : (tree : Members) (v w : SettingsValue) → IsValue tree v → IsValue tree w → v ≡ w
 one_value tree v w p q =
-    same_fields v.centre w.centre v.half w.half v.outliers w.outliers v.bisections w.bisections v.width w.width v.max_age w.max_age v.pairs w.pairs v.signal w.signal v.common w.common v.extra w.extra v.zenith w.zenith v.vertical w.vertical v.galileo w.galileo v.speed w.speed
+    same_fields v.centre w.centre v.half w.half v.outliers w.outliers v.bisections w.bisections v.width w.width v.max_age w.max_age v.renew w.renew v.pairs w.pairs v.signal w.signal v.common w.common v.extra w.extra v.zenith w.zenith v.vertical w.vertical v.galileo w.galileo v.speed w.speed
     (same_read _ _ _ p.centre q.centre) (same_read _ _ _ p.half q.half) (same_read _ _ _ p.outliers q.outliers) (same_read _ _ _ p.bisections q.bisections)
-    (same_read _ _ _ p.width q.width) (same_read _ _ _ p.max_age q.max_age) (same_read _ _ _ p.pairs q.pairs) (same_read _ _ _ p.signal q.signal)
+    (same_read _ _ _ p.width q.width) (same_read _ _ _ p.max_age q.max_age) (same_read _ _ _ p.renew q.renew) (same_read _ _ _ p.pairs q.pairs) (same_read _ _ _ p.signal q.signal)
     (p.common ∙ (same_sum _ _ _ _ _ _ _ _ (same_read _ _ _ p.is_receiver q.is_receiver) (same_read _ _ _ p.is_orbit_clock q.is_orbit_clock)
     (same_read _ _ _ p.is_ionosphere q.is_ionosphere) (same_read _ _ _ p.is_troposphere q.is_troposphere) ∙ sym q.common))
     (p.extra ∙ sym q.extra) (same_read _ _ _ p.zenith q.zenith) (same_read _ _ _ p.vertical q.vertical) (same_galileo tree v.galileo w.galileo p.galileo q.galileo) (same_read _ _ _ p.speed q.speed)

@@ -68,6 +68,10 @@ width = record { table = codes "search"; name = codes "width"; form = length_fro
 abbrev pub max_age : Key ℕ
 max_age = record { table = codes "search"; name = codes "max_age"; form = count 1 14400 }
 
+-- whether rows are renewed for smaller boxes; it may be absent
+abbrev pub renew : Key Bool
+renew = record { table = codes "search"; name = codes "renew"; form = truth }
+
 -- whether pairs of rows show boxes empty too; it may be absent
 abbrev pub pairs : Key Bool
 pairs = record { table = codes "search"; name = codes "pairs"; form = truth }
@@ -200,7 +204,7 @@ test_optional_at key tree = record { key = printed key; fault = fault_in (option
 abbrev pub search_tests : Members → List Test
 search_tests tree =
     test centre tree ∷ test half tree ∷ test outliers tree ∷ test bisections tree ∷ test width tree
-    ∷ test max_age tree ∷ test_optional_at pairs tree ∷ []
+    ∷ test max_age tree ∷ test_optional_at renew tree ∷ test_optional_at pairs tree ∷ []
 
 -- a truth value, false where its key is absent
 abbrev pub or_false : Result (Option Bool) Fault → Result Bool Fault

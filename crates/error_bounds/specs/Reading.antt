@@ -51,6 +51,7 @@ value_of_settings s = record {
   bisections = s.rules.bisections;
   width = s.rules.width;
   max_age = s.max_age;
+  renew = s.renew;
   pairs = s.rules.pairs;
   signal = s.signal;
   common = ends s.common;
@@ -161,6 +162,7 @@ pub record IsSearch (tree : Members) (s : Search) : Type 0 where
   pub bisections : key.value_of key.bisections tree ≡ Ok s.rules.bisections
   pub width : key.value_of key.width tree ≡ Ok s.rules.width
   pub max_age : key.value_of key.max_age tree ≡ Ok s.max_age
+  pub renew : key.truth_at key.renew tree ≡ Ok s.renew
   pub pairs : key.truth_at key.pairs tree ≡ Ok s.rules.pairs
 
 pub record IsCommon (tree : Members) (common : ℤ × ℤ) : Type 0 where

@@ -26,6 +26,7 @@ pub record SettingsValue : Type 0 where
   pub bisections : ℕ
   pub width : ℤ
   pub max_age : ℕ
+  pub renew : Bool
   pub pairs : Bool
   pub signal : Signal
   pub common : ℤ × ℤ
@@ -68,6 +69,7 @@ pub record IsValue (tree : Members) (v : SettingsValue) : Type 0 where
   pub bisections : key.value_of key.bisections tree ≡ Ok v.bisections
   pub width : key.value_of key.width tree ≡ Ok v.width
   pub max_age : key.value_of key.max_age tree ≡ Ok v.max_age
+  pub renew : key.truth_at key.renew tree ≡ Ok v.renew
   pub pairs : key.truth_at key.pairs tree ≡ Ok v.pairs
   pub signal : key.value_of (key.codes_key tree) tree ≡ Ok v.signal
   pub receiver : ℤ × ℤ

@@ -82,6 +82,7 @@ fn is_search_key(name: &str) -> bool
         || name == "bisections"
         || name == "width"
         || name == "max_age"
+        || name == "renew"
         || name == "pairs"
 }
 

@@ -33,6 +33,7 @@ fn read_tree(alloc: Global, tree: &Table) -> Result<Settings, SettingsError>
         half: search.half,
         rules: search.rules,
         max_age: search.max_age,
+        renew: search.renew,
         signal,
         common: bounds.common,
         extra,

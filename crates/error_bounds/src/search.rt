@@ -14,6 +14,7 @@ pub struct Search {
     pub half: Pos,
     pub rules: Rules,
     pub max_age: u32,
+    pub renew: bool,
     pub ghost centre_within: { IsCentre centre },
     pub ghost half_within: { AreHalfSides half },
     pub ghost some_age: { 1 ≤ max_age },

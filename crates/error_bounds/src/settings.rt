@@ -30,6 +30,8 @@ pub struct Settings {
     pub rules: Rules,
     /// How far, in s, the ephemeris time of a record may be from the time of an epoch: 1 to 14,400.
     pub max_age: u32,
+    /// Whether rows are renewed for smaller boxes among the steps of an epoch.
+    pub renew: bool,
     pub signal: Signal,
     /// The sum of the four spans declared for every satellite, each within 1 km.
     pub common: Span,

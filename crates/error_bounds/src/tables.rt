@@ -38,6 +38,7 @@ pub fn read_search(tree: &Table) -> Result<Search, SettingsFault>
         },
     )?;
     let max_age = required(tree, "search", "max_age", &Count { lo: 1, hi: 14_400 })?;
+    let renew = optional(tree, "search", "renew", &Truth)?;
     let pairs = optional(tree, "search", "pairs", &Truth)?;
     let rules = Rules {
         outliers: outliers as u8,
@@ -50,6 +51,7 @@ pub fn read_search(tree: &Table) -> Result<Search, SettingsFault>
         half,
         rules,
         max_age,
+        renew: renew.unwrap_or(false),
     })
 }
 

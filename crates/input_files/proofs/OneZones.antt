@@ -7,9 +7,9 @@ use Rattle.std.proofs.lemmas.Int.{ints}
 use lib.Signed.{mag}
 use Rattle.grid_model.specs.Sizes.{IsWithin}
 use Rattle.grid_model.specs.declared.boxes.Pos.{Pos}
-use Rattle.log_words.proofs.DigitLemmas.{one_spelled}
-use Rattle.log_words.proofs.NumberLemmas.{one_place}
-use Rattle.log_words.specs.Fields.{IsPosWithin, pos_words}
+use Rattle.log_tokens.proofs.DigitLemmas.{one_spelled}
+use Rattle.log_tokens.proofs.NumberLemmas.{one_place}
+use Rattle.log_tokens.specs.Fields.{IsPosWithin, pos_words}
 use Rattle.zone_guard.specs.Lines.{ZoneValue, zone_words}
 use Rattle.zone_guard.specs.Planes.{PlaneValue}
 use Rattle.zone_guard.specs.Text.{lines, IsNewZone, AreZones, AreZonesIn}

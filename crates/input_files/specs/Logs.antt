@@ -4,7 +4,7 @@ use Rattle.paving_log.specs.Faults.{FirstFault}
 use Rattle.paving_log.specs.RowsText.{IsRowsText, FirstRowsFault, AllOwnPass}
 use Rattle.paving_log.specs.Text.{IsLogText, LogFits}
 use Rattle.paving_log.specs.Values.{log_value}
-use Rattle.paving_log.specs.declared.line.Form.TheVariants as form
+use Rattle.paving_log.specs.declared.line.Kind.TheVariants as kind
 use Rattle.paving_log.specs.declared.log.Log.{Log}
 use Rattle.paving_log.specs.declared.log.LogError.{LogError}
 use Rattle.paving_log.specs.declared.log.LogError.TheVariants as error
@@ -39,7 +39,7 @@ log_text = record {
 
 -- of which a log can be written
 pub record ArePavable (rows : Log) : Type 0 where
-  pub fits : LogFits form.Rows (log_value rows)
+  pub fits : LogFits kind.Rows (log_value rows)
   pub passes : AllOwnPass rows.rules None (log_value rows).blocks
 
 abbrev pub rows_text : Text Log

@@ -1,13 +1,13 @@
 -- Counts of faults, and what is reliable, over some pieces.
-use Rattle.std.proofs.Common.{◌≡◌, ◌+◌, ◌≤◌, List, [], ◌∷◌, length, Some, Result, Ok, Err, refl, sym, arith, append-nil, length-append}
-use Rattle.box_steps.specs.Taken.{Rose}
-use Rattle.box_steps.specs.declared.steps.StepFault.TheVariants as step_fault
+use Rattle.std.proofs.Common.{◌≡◌, ◌+◌, ◌≤◌, List, [], ◌∷◌, length, Some, Result, Ok, Err, refl, sym, ap, arith, append-nil, length-append}
+use Rattle.box_contraction.specs.Taken.{Rose}
+use Rattle.box_contraction.specs.declared.steps.StepFault.TheVariants as step_fault
 use Rattle.log_writer.specs.declared.fault.WriteFault.{WriteFault}
 use Rattle.log_writer.specs.declared.fault.WriteFault.TheVariants as why
-use Rattle.log_writer.specs.Pieces.{Piece, piece}
+use Rattle.log_writer.specs.Pieces.{Piece, piece, log_bytes}
 use Rattle.log_writer.specs.Steps.{in_paving}
 use Rattle.log_writer.specs.Writing.{Seen, Put, Stops, Went, Ended, Trust, Trusts}
-use Rattle.log_writer.proofs.WritingLemmas.{sent_none}
+use Rattle.log_writer.proofs.WritingLemmas.{sent_none, log_bytes-append}
 
 -- ---- counts
 
@@ -27,6 +27,13 @@ some_put a = record {
   report_waits = sym (append-nil a.report_waits);
   left = omega (arith, length-append a.log_waits []);
 }
+
+-- what was put takes of the room
+pub went_left : (a c : Seen) (ps : List Piece) → Went a ps c → length (log_bytes ps) + c.left ≡ a.left
+went_left a c ps went =
+    let held : List Piece = piece a.log_waits a.report_waits ∷ [] in
+    let put = went (start_of a) held (some_put a) in
+    omega (arith, put.left, ap length (log_bytes-append held ps), length-append (log_bytes held) (log_bytes ps), length-append a.log_waits [])
 
 pub record Counted (a c : Seen) : Type 0 where
   pub log : a.at.shelf.write_faults ≤ c.at.shelf.write_faults
@@ -84,7 +91,7 @@ trusts_other a b fault f = record {
 pub trusts_done : {S T : Type 0} (a b : Trust) (x : S) (y : T) → Trusts a (Ok x) b → Trusts a (Ok y) b
 trusts_done a b x y f = record { log = λ name h. ((f.log name h).0, λ some e. cc); out = λ h. ((f.out h).0, λ e. cc) }
 
-abbrev the_err : {E : Type 0} → E → Result (Unit {0}) E
+abbrev pub the_err : {E : Type 0} → E → Result (Unit {0}) E
 the_err x = Err x
 
 pub err_is : {E : Type 0} (x y : E) → the_err x ≡ the_err y → x ≡ y

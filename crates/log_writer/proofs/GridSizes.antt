@@ -1,5 +1,5 @@
 -- The boxes of a run lie in the grid, and the numbers of its cuts fit in lines.
-use Rattle.std.proofs.Common.{◌≡◌, ℕ, zero, suc, ◌<◌, ◌≤◌, List, [], ◌∷◌, ◌++◌, Bool, true, false, arith, inl, inr, subst, sym, refl}
+use Rattle.std.proofs.Common.{ℕ, zero, suc, ◌<◌, ◌≤◌, List, [], ◌∷◌, ◌++◌, Bool, true, false, arith, inl, inr, subst, sym}
 use Rattle.std.specs.Prelude.{ℤ, ◌≤ℤ◌}
 use Rattle.std.specs.List.{AllByRecursion}
 use Rattle.std.proofs.lemmas.Int.{ints}
@@ -8,15 +8,15 @@ use Rattle.sat_model.specs.declared.steps.Step.{Step}
 use Rattle.sat_model.specs.declared.steps.Step.TheVariants.{Cut, Split, Outside, Inside, Edge}
 use Rattle.grid_model.specs.Boxes.{GridBox, Side, side_at, with_side, low_half, high_half, grid_box}
 use Rattle.sat_model.specs.BoxTests.{BoxTest}
-use Rattle.sat_model.specs.Fold.{ShownStep, axis_of, is_low, IsProperBound, IsProperCut, side_left, side_cut, left_by_cut}
+use Rattle.sat_model.specs.Fold.{ShownStep, axis_of, is_low, IsProperBound, IsProperCut, side_left, left_by_cut}
 use Rattle.grid_model.specs.Lengths.{side_length}
 use Rattle.sat_model.specs.Waiting.{WaitingBox}
 use Rattle.grid_model.specs.Sizes.{IsBoxSize}
 use Rattle.grid_model.proofs.AmountLemmas.{above_is}
-use Rattle.box_steps.specs.BoxSteps.{AreCutsOf}
-use Rattle.box_steps.specs.Cuts.{AreFacesDone}
-use Rattle.box_steps.proofs.BoxLemmas.{cuts_some}
-use Rattle.box_steps.proofs.FaceLemmas.{IsSomeCut, AreFaces}
+use Rattle.box_contraction.specs.BoxSteps.{AreCutsOf}
+use Rattle.box_contraction.specs.Cuts.{AreFacesDone}
+use Rattle.box_contraction.proofs.BoxLemmas.{cuts_some}
+use Rattle.box_contraction.proofs.FaceLemmas.{IsSomeCut, AreFaces}
 use Rattle.paving.proofs.PavedLemmas.{AreCutsInTurn}
 use Rattle.paving_log.specs.Lines.{StepFits}
 use Rattle.paving_log.specs.Rows.{CornersFit, corners_of}
@@ -124,40 +124,6 @@ cut_fits : (face : ℕ) (bound : ℤ) (part : GridBox) → CornersFit (corners_o
 cut_fits face bound part fit proper =
     let side = left_fits (is_low face) (side_at (axis_of face) part) bound (side_fits (axis_of face) part fit) proper in
     (side.0, with_fits (axis_of face) part (side_left (is_low face) (side_at (axis_of face) part) bound) fit side.1)
-
--- a side of which a cut leaves and takes off parts of the grid
-whole_side : (low : Bool) (s : Side) (bound : ℤ) → SideFits (side_left low s bound) → SideFits (side_cut low s bound) → IsProperBound low s bound → SideFits s
-whole_side true s bound left cut (h, k) = record { ordered = omega (arith, ints, h, k); lo_within = cut.lo_within; hi_within = left.hi_within }
-whole_side false s bound left cut (h, k) = record { ordered = omega (arith, ints, h, k); lo_within = left.lo_within; hi_within = cut.hi_within }
-
-side_of_with : (axis : ℕ) (part : GridBox) (s : Side) → side_at axis (with_side axis part s) ≡ s
-side_of_with zero part s = refl
-side_of_with (suc zero) part s = refl
-side_of_with (suc (suc n)) part s = refl
-
-with_back : (axis : ℕ) (part : GridBox) (s : Side) → with_side axis (with_side axis part s) (side_at axis part) ≡ part
-with_back zero part s = refl
-with_back (suc zero) part s = refl
-with_back (suc (suc n)) part s = refl
-
-part_fits : (axis : ℕ) (low : Bool) (part : GridBox) (bound : ℤ) → CornersFit (corners_of (with_side axis part (side_left low (side_at axis part) bound)))
-    → CornersFit (corners_of (with_side axis part (side_cut low (side_at axis part) bound))) → IsProperBound low (side_at axis part) bound → CornersFit (corners_of part)
-part_fits axis low part bound left cut proper =
-    let s : Side = side_at axis part in
-    let left_side = subst SideFits (side_of_with axis part (side_left low s bound)) (side_fits axis (with_side axis part (side_left low s bound)) left) in
-    let cut_side = subst SideFits (side_of_with axis part (side_cut low s bound)) (side_fits axis (with_side axis part (side_cut low s bound)) cut) in
-    subst (λ (g : GridBox). CornersFit (corners_of g)) (with_back axis part (side_left low s bound))
-    (with_fits axis (with_side axis part (side_left low s bound)) s left (whole_side low s bound left_side cut_side proper))
-
-abbrev pub HasGridBox : ShownStep → Type 0
-HasGridBox shown = CornersFit (corners_of shown.part)
-
--- a box lies in the grid where its slabs and what its cuts leave do
-pub whole_fits : (test : BoxTest) (id : ℕ) (cuts : List ShownStep) (part left : GridBox) → AreCutsInTurn test id part cuts left → AllByRecursion HasGridBox cuts → CornersFit (corners_of left)
-    → CornersFit (corners_of part)
-whole_fits test id [] part left same grid fit = subst (λ (g : GridBox). CornersFit (corners_of g)) same fit
-whole_fits test id (shown ∷ cuts) part left (face, bound, may, is, later) grid fit =
-    part_fits (axis_of face) (is_low face) part bound (whole_fits test id cuts (left_by_cut face bound part) left later grid.1 fit) (subst HasGridBox is grid.0) may.0
 
 -- ---- the faces of cuts
 

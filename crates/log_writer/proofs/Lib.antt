@@ -6,6 +6,7 @@ pub mod LineSizes
 pub mod WritingLemmas
 pub mod ReportLemmas
 pub mod TextLemmas
+pub mod LinesPut
 pub mod RunLemmas
 pub mod SatLemmas
 pub mod BlockLemmas

@@ -1,9 +1,9 @@
 -- The hull of the boxes that a block keeps.
 use Rattle.std.specs.Prelude.{ℤ, List, [], ◌∷◌, Option, None, Some, cond}
-use Rattle.sat_model.specs.declared.steps.Step.{Step}
 use Rattle.grid_model.specs.Boxes.{Side, GridBox}
+use Rattle.sat_model.specs.Events.{steps_in}
 use Rattle.sat_model.specs.Fold.{ShownStep, pieces}
-use Rattle.sat_model.specs.Logs.{Block}
+use Rattle.sat_model.specs.Logs.{Body, Block}
 use Rattle.sat_model.specs.StepKinds.{is_kept_step}
 use lib.Signed.{le_z}
 
@@ -36,12 +36,12 @@ abbrev pub hull_behind : Option GridBox → List ShownStep → Option GridBox
 hull_behind hull [] = hull
 hull_behind hull (shown ∷ more) = hull_behind (hull_after hull shown) more
 
--- of the in and edge boxes of an epoch with these steps; none where it has none, or no root
-abbrev pub hull_kept : List Step → Option GridBox → Option GridBox
-hull_kept steps None = None
-hull_kept steps (Some root) = hull_behind None (pieces root steps)
+-- of the in and edge boxes of an epoch; none where it has none, or no body
+abbrev pub hull_kept : Option Body → Option GridBox
+hull_kept None = None
+hull_kept (Some body) = hull_behind None (pieces body.root (steps_in body.events))
 
 -- of the last block
 abbrev pub hull_of_last : Option GridBox → List Block → Option GridBox
 hull_of_last hull [] = hull
-hull_of_last hull (block ∷ more) = hull_of_last (hull_kept block.steps block.root) more
+hull_of_last hull (block ∷ more) = hull_of_last (hull_kept block.body) more

@@ -1,9 +1,10 @@
 -- What a log and its report have of one log of rows that are all known.
-use Rattle.std.specs.Prelude.{◌≡◌, ℕ, ◌≤◌, List, length, None, Result, Ok, Err}
+use Rattle.std.specs.Prelude.{◌≡◌, ℕ, ◌≤◌, false, List, length, None, Result, Ok, Err}
 use Rattle.std.specs.List.{AllByRecursion}
 use Rattle.sat_model.specs.Cover.{RowCover}
 use Rattle.sat_model.specs.Logs.{Block, LogValue}
 use Rattle.sat_model.specs.Verdicts.{Judged}
+use Rattle.paving.specs.Idle.{idle}
 use Rattle.epoch_report.specs.Reports.{report_text}
 use Rattle.paving_log.specs.declared.line.Form.TheVariants as form
 use Rattle.paving_log.specs.RowsText.{AllOwnPass}
@@ -11,14 +12,15 @@ use Rattle.paving_log.specs.Text.{IsLogText, BlockFits}
 use Rattle.log_writer.specs.declared.fault.WriteFault.{WriteFault}
 use Rattle.log_writer.specs.Breaks.{BrokeOff}
 use Rattle.log_writer.specs.Pavings.{AllPave}
-use Rattle.log_writer.specs.Pieces.{log_pieces}
+use Rattle.log_writer.specs.Pieces.{log_pieces, version_of}
 use Rattle.log_writer.specs.RowsFrom.{of_rows}
 use Rattle.log_writer.specs.Texts.{IsText}
 
 -- the log has the rules and blocks of the rows, and paves each root
 pub record IsPavingOf (rows log : LogValue) : Type 0 where
+  pub version : log.version ≡ version_of rows.rules false
   pub rules : log.rules ≡ rows.rules
-  pub blocks : AllPave rows.rules rows.blocks log.blocks
+  pub blocks : AllPave idle rows.rules rows.blocks log.blocks
 
 -- The text and the report of one log that paves the rows. It passes all tests, and its cover by the
 -- rows holds.

@@ -1,6 +1,6 @@
 -- What a log's file and `out` got where a log is written of the blocks of a source, up to a limit
 -- on its bytes.
-use Rattle.std.specs.Prelude.{◌≡◌, ℕ, ◌≤◌, List, length, None, Result, Ok, Err}
+use Rattle.std.specs.Prelude.{◌≡◌, ℕ, ◌≤◌, List, length, Option, None, Result, Ok, Err}
 use Rattle.sat_model.specs.declared.rules.Rules.{Rules}
 use Rattle.sat_model.specs.Cover.{RowCover}
 use Rattle.sat_model.specs.Logs.{Block, LogValue}
@@ -10,40 +10,47 @@ use Rattle.epoch_report.specs.Reports.{report_text}
 use Rattle.log_writer.specs.declared.fault.WriteFault.{WriteFault}
 use Rattle.log_writer.specs.Breaks.{BrokeOff}
 use Rattle.log_writer.specs.Kept.{hull_of_last}
-use Rattle.log_writer.specs.Pieces.{log_pieces}
-use Rattle.log_writer.specs.Sources.{Gives, Came}
+use Rattle.log_writer.specs.Pieces.{pieces_with, version_of}
+use Rattle.log_writer.specs.Sources.{Source, Came, IsInHand}
 
 -- The text and the report of one log. Its blocks are all that the source gave, each one paved
 -- before the next was given; then it had no more, and stood so. The log passes all tests, and its
 -- cover by the rows holds.
-pub record IsWhole {B : Type 0} (gives : Gives B) (rules : Rules) (first last : B) (limit : ℕ)
+pub record IsWhole {B : Type 0} (source : Source B) (rules : Rules) (first last : B) (limit : ℕ)
     (bytes said : List ℕ) : Type 0 where
   pub log : LogValue
+  pub version : log.version ≡ version_of rules (source.maker first).active
   pub same_rules : log.rules ≡ rules
   pub behind : B
-  pub came : Came gives rules first None log.blocks behind
-  pub no_more : gives behind (hull_of_last None log.blocks) None last
+  pub came : Came source rules first None log.blocks behind
+  pub no_more : source.gives behind (hull_of_last None log.blocks) None last
   pub text : IsLogText log bytes
   pub report : said ≡ report_text log
   pub judged : Judged log
   pub cover : RowCover log
   pub fits : length bytes ≤ limit
 
--- What this fault left of the head and some blocks: the finished ones, and where an epoch was in
--- hand that one last, which goes on to the end of a whole run. They came from the source, each when
--- the one before was finished. Nothing is said of later ones.
-pub record IsBegun {B : Type 0} (fault : WriteFault) (gives : Gives B) (rules : Rules) (first : B)
+-- What this fault left of the head, of blocks whose runs are whole, and of the first lines of one
+-- more whose run broke off, where one was in hand. They came from the source, each when the one
+-- before was finished. That a run which broke off goes on to the end isn't said, and nothing is of
+-- later blocks.
+pub record IsBegun {B : Type 0} (fault : WriteFault) (source : Source B) (rules : Rules) (first : B)
     (limit : ℕ) (bytes said : List ℕ) : Type 0 where
   pub blocks : List Block
   pub behind : B
-  pub came : Came gives rules first None blocks behind
-  pub broke : BrokeOff limit (log_pieces (record { rules = rules; blocks = blocks }))
-      fault bytes said
+  pub came : Came source rules first None blocks behind
+  pub hand : Option Block
+  pub in_hand : IsInHand source rules behind (hull_of_last None blocks) hand
+  pub broke : BrokeOff limit (pieces_with (record {
+    version = version_of rules (source.maker first).active;
+    rules = rules;
+    blocks = blocks;
+  }) hand) fault bytes said
 
 -- by how the writing ended, of the source before and behind it
-abbrev pub IsText : {B T : Type 0} → Gives B → Rules → (first last : B) → ℕ → Result T WriteFault
+abbrev pub IsText : {B T : Type 0} → Source B → Rules → (first last : B) → ℕ → Result T WriteFault
     → (bytes said : List ℕ) → Type 0
-IsText gives rules first last limit (Ok done) bytes said =
-    IsWhole gives rules first last limit bytes said
-IsText gives rules first last limit (Err fault) bytes said =
-    IsBegun fault gives rules first limit bytes said
+IsText source rules first last limit (Ok done) bytes said =
+    IsWhole source rules first last limit bytes said
+IsText source rules first last limit (Err fault) bytes said =
+    IsBegun fault source rules first limit bytes said

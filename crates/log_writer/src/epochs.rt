@@ -1,30 +1,31 @@
 //! The head of a log, and its epochs.
 
-ghost use Rattle.std.specs.Prelude.{◌≡◌, ◌≢◌, ◌+◌, ◌<◌, ◌≤◌, ℕ, List, Option, length, map, false};
-ghost use Rattle.std.specs.Prelude.{None, Err, IfOk, IfErr};
+ghost use Rattle.std.specs.Prelude.{◌≡◌, ◌≢◌, ◌+◌, ◌<◌, ◌≤◌, ℕ, List, Option, length, map, true};
+ghost use Rattle.std.specs.Prelude.{false, None, Err, IfOk, IfErr};
 ghost use Rattle.std.specs.List.{AllByRecursion};
-ghost use Rattle.log_writer.specs.Pieces.{alone, head_pieces};
+ghost use Rattle.log_writer.specs.Pieces.{alone, head_pieces, version_of};
 ghost use Rattle.log_writer.specs.Sizes.{most_sats};
+ghost use Rattle.log_writer.specs.Sources.{Serves, source_of};
 ghost use Rattle.log_writer.specs.Writing.{Written, Trusts};
 ghost use Rattle.log_writer.specs.Wrote.{WroteSteps, WroteRun, WroteBlock, WroteLog, Finished};
 ghost use Rattle.outer_io.specs.Sizes.{longest_file};
 ghost use Rattle.paving_log.specs.declared.line.Form.TheVariants as form;
 ghost use Rattle.paving_log.specs.declared.line.LogLine.TheVariants as line;
-ghost use Rattle.paving_log.specs.Rows.{EntryFits};
+ghost use Rattle.paving_log.specs.Rows.{EntryFits, RowFits};
 ghost use Rattle.paving_log.specs.Text.{BlockFits};
 ghost use Rattle.paving_log.specs.Values.{block_of};
 ghost use Rattle.grid_model.specs.Boxes.{grid_box};
 ghost use Rattle.sat_model.specs.BoxTests.{test_of};
-ghost use Rattle.sat_model.specs.Logs.{rows_of};
+ghost use Rattle.sat_model.specs.Logs.{rows_of, is_few};
 
 use crate::blocks::Blocks;
 use crate::fault::WriteFault;
 use crate::pen::Pen;
 use crate::steps::Track;
-use box_steps::StepFault;
+use box_contraction::StepFault;
 use epoch_report::{Counts4, epoch_text, total_text};
 use grid_model::{Box3, NoMemory};
-use paving::{Plan, pave};
+use paving::{Plan, Renewals, pave};
 use paving_log::{
     LogEpoch, SatEntry, done_line, epoch_line, head_lines, root_line, rows_among, sat_line,
 };
@@ -50,12 +51,24 @@ fn plan_of(alloc: Global, rules: &Rules, sats: &[SatEntry], root: &Box3) -> Resu
     }
 }
 
+/// The version of a log by these rules, whose rows may be renewed or not.
+fn version_for(rules: &Rules, renews: bool) -> u8
+    ensures { result ≡ version_of rules.now renews }
+{
+    match (rules.pairs, renews) {
+        (true, _) => 3,
+        (false, true) => 2,
+        (false, false) => 1,
+    }
+}
+
 /// Writes the two lines of the head.
-fn put_head<P: Pen>(pen: &mut P, rules: &Rules) -> Result<(), WriteFault>
-    ensures written { Written (P.seen pen.old) (head_pieces rules.now) result (P.seen pen.new) }
+fn put_head<P: Pen>(pen: &mut P, rules: &Rules, renews: bool) -> Result<(), WriteFault>
+    ensures written { Written (P.seen pen.old)
+        (head_pieces (version_of rules.now renews) rules.now) result (P.seen pen.new) }
     ensures trust { Trusts (P.trust pen.old) result (P.trust pen.new) }
 {
-    let lines = head_lines(rules);
+    let lines = head_lines(version_for(rules, renews), rules);
     let (version, rules_line) = lines.as_bytes().split_at(VERSION_LENGTH);
     pen.put(version, &[])?;
     pen.put(rules_line, &[])
@@ -82,16 +95,23 @@ pub(crate) struct Outcome {
     kept: Option<Box3>,
 }
 
-/// Writes the steps of a paving as they are made.
-fn pave_on<P: Pen>(track: &mut Track<'_, P>, plan: Plan) -> Result<Outcome, WriteFault>
-    requires enough { plan.test.q < length plan.test.rows }
+/// Writes the steps of a paving, and the renewals among them, as they are made.
+fn pave_on<P: Pen, M: Renewals>(
+    track: &mut Track<'_, P>,
+    plan: Plan,
+    maker: &M,
+) -> Result<Outcome, WriteFault>
+    requires rows { AllByRecursion RowFits plan.test.rows }
+    requires root { (M.maker maker.now).active ≡ true → M.root maker.now ≡ grid_box plan.root }
+    requires sats { (M.maker maker.now).active ≡ true
+        → M.sats maker.now ≡ map (λ row. row.sat) plan.test.rows }
     requires none { track.old.kept ≡ None }
-    ensures written { WroteSteps plan.test plan.rules (grid_box plan.root)
+    ensures written { WroteSteps (M.maker maker.now) plan.test plan.rules (grid_box plan.root)
         (P.seen track.old.pen.now) result (P.seen track.new.pen.now) }
     ensures trust { Trusts (P.trust track.old.pen.now) result (P.trust track.new.pen.now) }
     ensures same { track.new.pen.ghost_name ≡ track.old.pen.ghost_name }
 {
-    match pave(plan, track) {
+    match pave(plan, track, maker) {
         Ok(counts) => Ok(Outcome {
             counts: Counts4 {
                 inside: counts.inside,
@@ -107,9 +127,12 @@ fn pave_on<P: Pen>(track: &mut Track<'_, P>, plan: Plan) -> Result<Outcome, Writ
 }
 
 /// The same on a pen.
-fn put_steps<P: Pen>(pen: &mut P, plan: Plan) -> Result<Outcome, WriteFault>
-    requires enough { plan.test.q < length plan.test.rows }
-    ensures written { WroteSteps plan.test plan.rules (grid_box plan.root)
+fn put_steps<P: Pen, M: Renewals>(pen: &mut P, plan: Plan, maker: &M) -> Result<Outcome, WriteFault>
+    requires rows { AllByRecursion RowFits plan.test.rows }
+    requires root { (M.maker maker.now).active ≡ true → M.root maker.now ≡ grid_box plan.root }
+    requires sats { (M.maker maker.now).active ≡ true
+        → M.sats maker.now ≡ map (λ row. row.sat) plan.test.rows }
+    ensures written { WroteSteps (M.maker maker.now) plan.test plan.rules (grid_box plan.root)
         (P.seen pen.old) result (P.seen pen.new) }
     ensures trust { Trusts (P.trust pen.old) result (P.trust pen.new) }
 {
@@ -118,48 +141,60 @@ fn put_steps<P: Pen>(pen: &mut P, plan: Plan) -> Result<Outcome, WriteFault>
         last: WriteFault::NoMemory,
         kept: None,
     };
-    pave_on(&mut track, plan)
+    pave_on(&mut track, plan, maker)
 }
 
-/// Writes the root, its steps, and the number of splits with the total.
-fn put_run<P: Pen>(pen: &mut P, plan: Plan, root: &Box3) -> Result<Option<Box3>, WriteFault>
-    requires root { plan.root ≡ root.now }
-    requires enough { plan.test.q < length plan.test.rows }
-    ensures written { WroteRun plan.test plan.rules (grid_box plan.root)
+/// Writes the root, its steps and renewals, and the number of splits with the total.
+fn put_run<P: Pen, M: Renewals>(
+    pen: &mut P,
+    plan: Plan,
+    root: &Box3,
+    maker: &M,
+) -> Result<Option<Box3>, WriteFault>
+    requires same { plan.root ≡ root.now }
+    requires rows { AllByRecursion RowFits plan.test.rows }
+    requires root { (M.maker maker.now).active ≡ true → M.root maker.now ≡ grid_box plan.root }
+    requires sats { (M.maker maker.now).active ≡ true
+        → M.sats maker.now ≡ map (λ row. row.sat) plan.test.rows }
+    ensures written { WroteRun (M.maker maker.now) plan.test plan.rules (grid_box plan.root)
         (P.seen pen.old) result (P.seen pen.new) }
     ensures trust { Trusts (P.trust pen.old) result (P.trust pen.new) }
 {
     let first = root_line(root);
     pen.put(first.as_bytes(), &[])?;
-    let done = put_steps(pen, plan)?;
+    let done = put_steps(pen, plan, maker)?;
     let last = done_line(done.counts.bisections);
     let total = total_text(&done.counts);
     pen.put(last.as_bytes(), total.as_bytes())?;
     Ok(done.kept)
 }
 
-/// Writes an epoch, and paves its root where it has one.
-fn put_epoch<P: Pen>(
+/// Writes an epoch, and paves its root where it has one. Its rows are renewed by the maker, where
+/// this is active.
+fn put_epoch<P: Pen, M: Renewals>(
     alloc: Global,
     pen: &mut P,
     rules: &Rules,
     epoch: &LogEpoch,
+    maker: &M,
 ) -> Result<Option<Box3>, WriteFault>
     requires fits { BlockFits form.Rows (block_of epoch.now) }
-    requires enough { epoch.now.few ≡ false
+    requires enough { is_few (block_of epoch.now) ≡ false
         → rules.now.outliers + 4 ≤ length (rows_of epoch.now.sats.items) }
-    ensures written { WroteBlock rules.now (block_of epoch.now)
+    requires serves { (M.maker maker.now).active ≡ true
+        → Serves (M.sats maker.now) (M.root maker.now) (block_of epoch.now) }
+    ensures written { WroteBlock (M.maker maker.now) rules.now (block_of epoch.now)
         (P.seen pen.old) result (P.seen pen.new) }
     ensures trust { Trusts (P.trust pen.old) result (P.trust pen.new) }
 {
-    let first = epoch_line(epoch.few, epoch.index, epoch.ps, epoch.n);
-    let report = epoch_text(epoch.few, epoch.index, epoch.ps, epoch.n);
+    let first = epoch_line(epoch.is_few(), epoch.index, epoch.ps, epoch.n);
+    let report = epoch_text(epoch.is_few(), epoch.index, epoch.ps, epoch.n);
     pen.put(first.as_bytes(), report.as_bytes())?;
     put_sats(pen, &epoch.sats)?;
-    match &epoch.root {
-        Some(root) => {
-            let plan = plan_of(alloc, rules, &epoch.sats, root)?;
-            put_run(pen, plan, root)
+    match &epoch.body {
+        Some(body) => {
+            let plan = plan_of(alloc, rules, &epoch.sats, &body.root)?;
+            put_run(pen, plan, &body.root, maker)
         }
         None => Ok(None),
     }
@@ -175,15 +210,15 @@ fn put_blocks<P: Pen, B: Blocks>(
     requires rules { (B.standing blocks.old).rules ≡ rules.now }
     requires first { (B.standing blocks.old).before ≡ None }
     requires ready { B.ready blocks.old }
-    ensures written { WroteLog B.gives rules.now blocks.old blocks.new
+    ensures written { WroteLog (source_of B.gives B.maker) rules.now blocks.old blocks.new
         (B.standing blocks.old).most
         (P.seen pen.old) result (P.seen pen.new) }
     ensures trust { Trusts (P.trust pen.old) result (P.trust pen.new) }
 {
-    put_head(pen, rules)?;
+    put_head(pen, rules, blocks.active())?;
     let mut kept = None;
     while let Some(epoch) = blocks.next(alloc, kept)? {
-        kept = put_epoch(alloc, pen, rules, &epoch)?;
+        kept = put_epoch(alloc, pen, rules, &epoch, &*blocks)?;
     }
     Ok(())
 }
@@ -199,7 +234,7 @@ pub(crate) fn put_whole<P: Pen, B: Blocks>(
     requires first { (B.standing blocks.old).before ≡ None }
     requires ready { B.ready blocks.old }
     requires room { (P.seen pen.old).left ≤ longest_file }
-    ensures finished { Finished B.gives rules.now blocks.old blocks.new
+    ensures finished { Finished (source_of B.gives B.maker) rules.now blocks.old blocks.new
         (B.standing blocks.old).most
         (P.seen pen.old) result (P.seen pen.new) }
     ensures trust { Trusts (P.trust pen.old) result (P.trust pen.new) }

@@ -1,7 +1,7 @@
 //! The hull of the boxes that an epoch keeps.
 
 ghost use Rattle.std.specs.Prelude.{◌≡◌, ◌≤ℤ◌};
-ghost use Rattle.live_boxes.specs.LiveValues.{box_option};
+ghost use Rattle.subpaving.specs.LiveValues.{box_option};
 ghost use Rattle.log_writer.specs.Kept.{lesser, greater, joined_box, hull_after};
 ghost use Rattle.grid_model.specs.Boxes.{grid_box};
 ghost use Rattle.grid_model.specs.Sizes.{IsBoxSize};

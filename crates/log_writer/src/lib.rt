@@ -1,7 +1,8 @@
 //! Writes the log of a paving and its report as it is made: the head, and for each epoch its
-//! satellites, its root and the steps. The lines are gathered and go out in pieces of up to 64 KiB,
-//! the log's before the report's. The epochs come from a source, the next one when the one before
-//! is finished.
+//! satellites, its root, the steps, and the rows that are renewed among them. The lines are
+//! gathered and go out in pieces of up to 64 KiB, the log's before the report's. The epochs come
+//! from a source, the next one when the one before is finished. The source also renews the rows of
+//! the epoch in hand.
 #![tactic(auto)]
 
 mod blocks;

@@ -1,22 +1,29 @@
-//! The steps of a paving, each as a line of the log and one of the report.
+//! The steps of a paving, each as a line of the log and one of the report, and the rows that are
+//! renewed among them.
 
-ghost use Rattle.std.specs.Prelude.{◌≡◌, ◌≢◌, ◌+◌, ◌<◌, ◌↔◌, ◌∷◌, [], length, Ok, Err, Result};
-ghost use Rattle.live_boxes.specs.LiveValues.{box_option};
-ghost use Rattle.log_writer.specs.Kept.{hull_after};
-ghost use Rattle.log_writer.specs.Steps.{step_piece};
-ghost use Rattle.log_writer.specs.Writing.{Went, Ended, Written, Trusts, done, failed};
-ghost use Rattle.box_steps.specs.Taken.{step_bytes};
-ghost use Rattle.paving_log.specs.Rows.{CornersFit, corners_of};
+ghost use Rattle.std.specs.Prelude.{◌≡◌, ◌≢◌, ℕ, ◌+◌, ◌<◌, ◌≤◌, ◌↔◌, ◌∷◌, [], List, length, map};
+ghost use Rattle.std.specs.Prelude.{take, Ok, Err, Result, OnOk, IfErr};
+ghost use Rattle.std.specs.List.{AllByRecursion};
+ghost use Rattle.box_contraction.specs.Renewing.{renewal_lines};
+ghost use Rattle.box_contraction.specs.Taken.{step_bytes};
 ghost use Rattle.grid_model.specs.Boxes.{grid_box};
+ghost use Rattle.subpaving.specs.LiveValues.{box_option};
+ghost use Rattle.log_writer.specs.Kept.{hull_after};
+ghost use Rattle.log_writer.specs.Pieces.{Piece, alone, row_pieces};
+ghost use Rattle.log_writer.specs.Steps.{step_piece, BrokeAfter};
+ghost use Rattle.log_writer.specs.Writing.{Went, Ended, Written, Trusts, done, failed};
+ghost use Rattle.paving_log.specs.Rows.{RowFits};
+ghost use Rattle.paving_log.specs.Text.{row_line};
+ghost use Rattle.sat_model.specs.Events.{rows_over};
 
 use crate::fault::WriteFault;
 use crate::kept::hull_with_step;
 use crate::pen::Pen;
-use box_steps::{StepFault, Steps};
+use box_contraction::{StepFault, Steps};
 use epoch_report::step_text;
 use grid_model::Box3;
-use paving_log::step_line;
-use sat_model::Step;
+use paving_log::{SatEntry, renew_line, sat_line, step_line};
+use sat_model::{Row, Step};
 
 /// Writes a step with the box or slab that it speaks of.
 fn put_step<P: Pen>(pen: &mut P, step: &Step, part: &Box3) -> Result<(), WriteFault>
@@ -34,6 +41,43 @@ fn put_step<P: Pen>(pen: &mut P, step: &Step, part: &Box3) -> Result<(), WriteFa
     }
 }
 
+/// Writes the satellite lines of renewed rows.
+fn put_rows<P: Pen>(pen: &mut P, rows: &[Row]) -> Result<(), WriteFault>
+    ensures went { OnOk result (AllByRecursion RowFits rows.now
+        → Went (P.seen pen.old) (map alone (map row_line rows.now)) (P.seen pen.new)) }
+    ensures broke { IfErr result (λ fault. (taken : ℕ) × (taken < length rows.now)
+        × (AllByRecursion RowFits rows.now
+        → BrokeAfter (P.seen pen.old) (map row_line rows.now) taken fault (P.seen pen.new))) }
+    ensures some { (pieces : List Piece)
+        × Written (P.seen pen.old) pieces result (P.seen pen.new) }
+    ensures trust { Trusts (P.trust pen.old) result (P.trust pen.new) }
+    ensures no_memory_taken { result ≢ Err WriteFault.NoMemory }
+{
+    for row in rows {
+        let line = sat_line(&SatEntry::Row(*row));
+        pen.put(line.as_bytes(), &[])?;
+    }
+    Ok(())
+}
+
+/// Writes rows that are renewed: the line of their box, and one for each.
+fn put_renewal<P: Pen>(pen: &mut P, part: &Box3, rows: &[Row]) -> Result<(), WriteFault>
+    ensures went { OnOk result (AllByRecursion RowFits rows.now
+        → Went (P.seen pen.old) (row_pieces (rows_over (grid_box part.now) rows.now))
+        (P.seen pen.new)) }
+    ensures broke { IfErr result (λ fault. (taken : ℕ) × (taken ≤ length rows.now)
+        × (AllByRecursion RowFits rows.now → BrokeAfter (P.seen pen.old)
+        (renewal_lines (rows_over (grid_box part.now) rows.now)) taken fault (P.seen pen.new))) }
+    ensures some { (pieces : List Piece)
+        × Written (P.seen pen.old) pieces result (P.seen pen.new) }
+    ensures trust { Trusts (P.trust pen.old) result (P.trust pen.new) }
+    ensures no_memory_taken { result ≢ Err WriteFault.NoMemory }
+{
+    let first = renew_line(part);
+    pen.put(first.as_bytes(), &[])?;
+    put_rows(pen, rows)
+}
+
 /// A pen that takes the steps of a paving.
 #[derive(Drop)]
 pub(crate) struct Track<'a, P: Pen> {
@@ -47,7 +91,6 @@ pub(crate) struct Track<'a, P: Pen> {
 impl<P: Pen> Steps for Track<'_, P> {
     ghost took = { λ old step part new.
         Went (P.seen old.pen.now) (step_piece step part ∷ []) (P.seen new.pen.now)
-        × (CornersFit (corners_of part))
         × (new.pen.ghost_name ≡ old.pen.ghost_name)
         × Trusts (P.trust old.pen.now) done (P.trust new.pen.now)
         × (box_option new.kept
@@ -57,6 +100,20 @@ impl<P: Pen> Steps for Track<'_, P> {
         Ended (P.seen old.pen.now) (step_piece step part ∷ []) new.last (P.seen new.pen.now)
         × (new.pen.ghost_name ≡ old.pen.ghost_name)
         × Trusts (P.trust old.pen.now) (failed new.last) (P.trust new.pen.now) };
+
+    ghost took_rows = { λ old new last.
+        (AllByRecursion RowFits new.rows
+        → Went (P.seen old.pen.now) (row_pieces new) (P.seen last.pen.now))
+        × (last.pen.ghost_name ≡ old.pen.ghost_name)
+        × Trusts (P.trust old.pen.now) done (P.trust last.pen.now)
+        × (box_option last.kept ≡ box_option old.kept) };
+
+    ghost broke_rows = { λ old new lines last.
+        (AllByRecursion RowFits new.rows
+        → Ended (P.seen old.pen.now) (map alone (take (lines + 1) (renewal_lines new))) last.last
+        (P.seen last.pen.now))
+        × (last.pen.ghost_name ≡ old.pen.ghost_name)
+        × Trusts (P.trust old.pen.now) (failed last.last) (P.trust last.pen.now) };
 
     ghost room = { λ track. (P.seen track.pen.now).left };
 
@@ -69,6 +126,16 @@ impl<P: Pen> Steps for Track<'_, P> {
                 self.kept = hull_with_step(self.kept, step, part);
                 Ok(())
             }
+            Err(fault) => {
+                self.last = fault;
+                Err(fault.in_paving())
+            }
+        }
+    }
+
+    fn renew(&mut self, part: &Box3, rows: &[Row]) -> Result<(), StepFault> {
+        match put_renewal(self.pen, part, rows) {
+            Ok(()) => Ok(()),
             Err(fault) => {
                 self.last = fault;
                 Err(fault.in_paving())

@@ -2,6 +2,7 @@
 
 ghost use Rattle.std.specs.Prelude.{◌≡◌, ◌≤◌, ℕ, List, None};
 ghost use Rattle.log_writer.specs.Sizes.{most_bytes, HasRoom};
+ghost use Rattle.log_writer.specs.Sources.{source_of};
 ghost use Rattle.log_writer.specs.Texts.{IsText};
 ghost use Rattle.log_writer.specs.Writing.{devices, Sent, Counts, trust_of, Trusts};
 ghost use Rattle.outer_io.specs.Sizes.{longest_file};
@@ -18,10 +19,11 @@ use sat_model::Rules;
 use std::alloc::Global;
 
 /// Paves the blocks of this source, each one before it asks for the next, and writes their log to
-/// the slot `Log` of the shelf, as far as `limit` bytes, and the report to `out`. The lines go out
-/// in large pieces, each line of the log before the report's line of it. Ends early with the first
-/// fault: of a write, of the log's line for which there is no room left, or of memory. Where no
-/// device was at fault, all lines before went out then.
+/// the slot `Log` of the shelf, as far as `limit` bytes, and the report to `out`. Where the source
+/// is active, it renews the rows of each block while this is paved. The lines go out in large
+/// pieces, each line of the log before the report's line of it. Ends early with the first fault: of
+/// a write, of the log's line for which there is no room left, or of memory. Where no device was at
+/// fault, all lines before went out then.
 pub fn write_log<H: Shelf, O: Sink, B: Blocks>(
     alloc: Global,
     shelf: &mut H,
@@ -36,7 +38,7 @@ pub fn write_log<H: Shelf, O: Sink, B: Blocks>(
     requires first { (B.standing blocks.old).before ≡ None }
     requires ready { B.ready blocks.old }
     ensures text { (bytes said : List ℕ)
-        × IsText B.gives rules.now blocks.old blocks.new limit result bytes said
+        × IsText (source_of B.gives B.maker) rules.now blocks.old blocks.new limit result bytes said
         × Sent (devices (H.state shelf.old) (O.state out.old)) bytes said
         (devices (H.state shelf.new) (O.state out.new)) }
     ensures room { HasRoom limit

@@ -1,68 +1,75 @@
 -- What each kind of line leads to, and blocks line by line.
-use Rattle.std.proofs.Common.{◌≡◌, ℕ, ◌+◌, ◌<◌, ◌≤◌, Bool, true, false, List, [], ◌∷◌, ◌++◌, length, map, Some, None, refl, sym, ap, subst, ◌∙◌, append_assoc, arith}
-use Rattle.std.specs.Prelude.{nat_lt, if◌then◌else◌, Option}
+use Rattle.std.proofs.Common.{◌≡◌, ℕ, suc, ◌+◌, ◌-◌, ◌<◌, ◌≤◌, Bool, true, false, List, [], ◌∷◌, ◌++◌, length, map, Some, None, refl, sym, ap, subst, ◌∙◌, append_assoc, arith}
+use Rattle.std.specs.Prelude.{nat_lt, Option}
+use Rattle.std.specs.List.{flat_map, AllByRecursion}
 use Rattle.std.proofs.lemmas.List.{map-append, length-append, append-nil}
+use Rattle.std.proofs.lemmas.List.Concat.{flat_map-append}
 use Rattle.std.proofs.lemmas.Bool.{ltb-true}
+use Rattle.grid_model.specs.Boxes.{GridBox}
+use Rattle.sat_model.specs.declared.rows.Row.{Row}
 use Rattle.sat_model.specs.declared.rows.SatEntry.{SatEntry}
 use Rattle.sat_model.specs.declared.rows.SatEntry.TheVariants as entry
 use Rattle.sat_model.specs.declared.steps.Step.{Step}
-use Rattle.sat_model.specs.declared.steps.Step.TheVariants.{Cut, Split, Outside, Inside, Edge}
+use Rattle.sat_model.specs.Events.{Event, Renewed, rows_over}
 use Rattle.paving_log.specs.declared.line.Corners.{Corners}
 use Rattle.paving_log.specs.declared.line.Form.{Form}
 use Rattle.paving_log.specs.declared.line.Form.TheVariants as form
+use Rattle.paving_log.specs.declared.line.Kind.{Kind}
 use Rattle.paving_log.specs.declared.line.LogLine.{LogLine}
 use Rattle.paving_log.specs.declared.line.LogLine.TheVariants as line
 use Rattle.paving_log.specs.declared.line.Place.{Place}
 use Rattle.paving_log.specs.declared.line.Place.TheVariants as place
 use Rattle.paving_log.specs.declared.lines.Lines.{Lines}
 use Rattle.paving_log.specs.declared.lines.Opening.{Opening}
-use Rattle.paving_log.specs.Lines.{name_of, step_name, entry_name}
-use Rattle.paving_log.specs.Order.{next, place_behind_root}
-use Rattle.paving_log.specs.Text.{first_line, closing_lines, IsSkipped}
+use Rattle.paving_log.specs.Order.{only_if, has_version, form_of, next, place_behind_root}
+use Rattle.paving_log.specs.Rows.{corners_of}
+use Rattle.paving_log.specs.Text.{first_line, row_line, event_lines, IsSkipped, EventFits}
 use Rattle.paving_log.specs.Taking.{Takes, TakesWith, TakesTo, block_place}
+use Rattle.paving_log.proofs.EventLemmas.{fit_on}
 use Rattle.paving_log.proofs.LineLemmas.{takes_on}
+use Rattle.paving_log.proofs.OrderLemmas.{only_true, only_place}
 
 -- ---- where a line leads
 
-pub behind_step : (s : Step) (to : Place) → next place.Steps (step_name s) ≡ Some to → to ≡ place.Steps
-behind_step (Cut id face bound) to e = cc
-behind_step (Split id axis) to e = cc
-behind_step (Outside id) to e = cc
-behind_step (Inside id clock lo hi) to e = cc
-behind_step (Edge id lo hi) to e = cc
+pub behind_step : (renews : Bool) (n : ℕ) (s : Step) (to : Place) → next (place.Steps renews n 0) (line.Step s) ≡ Some to → to ≡ place.Steps renews n 0
+behind_step renews n s to e = only_place true (place.Steps renews n 0) to e
 
-pub behind_first : (f : Form) (l : LogLine) (to : Place) → next (place.First f) (name_of l) ≡ Some to → ((pairs : Bool) × (l ≡ line.Version pairs)) × (to ≡ place.Second f)
-behind_first f (line.Version pairs) to e = ((pairs, refl), cc)
-behind_first f (line.Sat (entry.Row r)) to e = cc
-behind_first f (line.Sat (entry.Skipped sat skip)) to e = cc
-behind_first f (line.Step (Cut id face bound)) to e = cc
-behind_first f (line.Step (Split id axis)) to e = cc
-behind_first f (line.Step (Outside id)) to e = cc
-behind_first f (line.Step (Inside id clock lo hi)) to e = cc
-behind_first f (line.Step (Edge id lo hi)) to e = cc
-behind_first f _ to e = cc
+pub behind_row : (renews : Bool) (n left : ℕ) (row : Row) (to : Place) → next (place.Steps renews n left) (line.Sat (entry.Row row)) ≡ Some to → to ≡ place.Steps renews n (left - 1)
+behind_row renews n left row to e = only_place (nat_lt 0 left) (place.Steps renews n (left - 1)) to e
+
+-- a renewal comes where rows may be renewed
+pub behind_renew : (renews : Bool) (n : ℕ) (c : Corners) (to : Place) → next (place.Steps renews n 0) (line.Renew c) ≡ Some to → (renews ≡ true) × (to ≡ place.Steps renews n n)
+behind_renew true n c to e = (refl, only_place true (place.Steps true n n) to e)
+behind_renew false n c to e = cc
+
+pub record IsVersion (k : Kind) (l : LogLine) (to : Place) : Type 0 where
+  pub version : ℕ
+  pub line : l ≡ line.Version version
+  pub place : to ≡ place.Second (form_of k version)
+
+pub behind_first : (k : Kind) (l : LogLine) (to : Place) → next (place.First k) l ≡ Some to → IsVersion k l to
+behind_first k (line.Version version) to e = record { version = version; line = refl; place = only_place (has_version k version) (place.Second (form_of k version)) to e }
+behind_first k _ to e = cc
 
 -- one line more, below 64
 pub record IsOneMore (k : ℕ) (after to : Place) : Type 0 where
   pub below : k < 64
   pub place : to ≡ after
 
-pub one_more_if : (k : ℕ) (test : Bool) (after to : Place) → nat_lt k 64 ≡ test → (if test then Some after else None) ≡ Some to → IsOneMore k after to
-one_more_if k true after to is e = record { below = ltb-true k 64 is; place = cc }
-one_more_if k false after to is e = cc
+one_more : (k : ℕ) (after to : Place) → only_if (nat_lt k 64) after ≡ Some to → IsOneMore k after to
+one_more k after to e = record { below = ltb-true k 64 (only_true (nat_lt k 64) after to e); place = only_place (nat_lt k 64) after to e }
 
-pub behind_sat : (f : Form) (k : ℕ) (e : SatEntry) (to : Place) → next (place.Satellites f k) (entry_name e) ≡ Some to → IsOneMore k (place.Satellites f (k + 1)) to
-behind_sat f k (entry.Row r) to e = one_more_if k (nat_lt k 64) _ to refl e
-behind_sat f k (entry.Skipped sat skip) to e = one_more_if k (nat_lt k 64) _ to refl e
+pub behind_sat : (f : Form) (n k : ℕ) (e : SatEntry) (to : Place) → next (place.Satellites f n k) (line.Sat e) ≡ Some to → IsOneMore k (place.Satellites f n (k + 1)) to
+behind_sat f n k e to is = one_more k (place.Satellites f n (k + 1)) to is
 
 -- one more satellite line of a block of few is a skipped one
 pub record IsOneFew (f : Form) (k : ℕ) (e : SatEntry) (to : Place) : Type 0 where
   pub more : IsOneMore k (place.Few f (k + 1)) to
   pub skipped : IsSkipped e
 
-pub behind_few : (f : Form) (k : ℕ) (e : SatEntry) (to : Place) → next (place.Few f k) (entry_name e) ≡ Some to → IsOneFew f k e to
+pub behind_few : (f : Form) (k : ℕ) (e : SatEntry) (to : Place) → next (place.Few f k) (line.Sat e) ≡ Some to → IsOneFew f k e to
 behind_few f k (entry.Row r) to e = cc
-behind_few f k (entry.Skipped sat skip) to e = record { more = one_more_if k (nat_lt k 64) _ to refl e; skipped = tt }
+behind_few f k (entry.Skipped sat skip) to e = record { more = one_more k (place.Few f (k + 1)) to e; skipped = tt }
 
 -- the same lines, said by another place, and by another first line
 pub takes_one : (at at' : Place) (old : Lines) (l l' : LogLine) (to to' : Place) (new : Lines) → at ≡ at' → l ≡ l' → to ≡ to' → Takes at old (l ∷ []) to new → Takes at' old (l' ∷ []) to' new
@@ -72,33 +79,33 @@ takes_one at at' old l l' to to' new e f g taken =
     (subst (λ (p : Place). Takes at old (l ∷ []) p new) g taken))
 
 -- where a single line that was taken leads
-pub leads_to : (at : Place) (old : Lines) (l : LogLine) (to : Place) (new : Lines) → Takes at old (l ∷ []) to new → next at (name_of l) ≡ Some to
+pub leads_to : (at : Place) (old : Lines) (l : LogLine) (to : Place) (new : Lines) → Takes at old (l ∷ []) to new → next at l ≡ Some to
 leads_to at old l to new taken = taken.leads.2 ∙ ap (λ (p : Place). Some p) taken.leads.3
 
 -- ---- satellite lines
 
-pub sat_taken : (f : Form) (start old new : Lines) (sats pushed : List SatEntry) (e : SatEntry) (l : LogLine) (k : ℕ) (to : Place)
-    → Takes (place.Satellites f 0) start (map line.Sat sats) (place.Satellites f (length sats)) old → k ≡ length sats → l ≡ line.Sat e → Takes (place.Satellites f k) old (l ∷ []) to new → pushed ≡ sats ++ e ∷ []
-    → Takes (place.Satellites f 0) start (map line.Sat pushed) (place.Satellites f (length pushed)) new × (length pushed ≤ 64)
-sat_taken f start old new sats pushed e l k to before count is taken push =
-    let one : Takes (place.Satellites f (length sats)) old (line.Sat e ∷ []) to new = takes_one _ _ old l (line.Sat e) to to new (ap (place.Satellites f) count) is refl taken in
-    let behind = behind_sat f (length sats) e to (leads_to _ old _ to new one) in
+pub sat_taken : (f : Form) (n : ℕ) (start old new : Lines) (sats pushed : List SatEntry) (e : SatEntry) (l : LogLine) (k : ℕ) (to : Place)
+    → Takes (place.Satellites f n 0) start (map line.Sat sats) (place.Satellites f n (length sats)) old → k ≡ length sats → l ≡ line.Sat e → Takes (place.Satellites f n k) old (l ∷ []) to new → pushed ≡ sats ++ e ∷ []
+    → Takes (place.Satellites f n 0) start (map line.Sat pushed) (place.Satellites f n (length pushed)) new × (length pushed ≤ 64)
+sat_taken f n start old new sats pushed e l k to before count is taken push =
+    let one : Takes (place.Satellites f n (length sats)) old (line.Sat e ∷ []) to new = takes_one _ _ old l (line.Sat e) to to new (ap (place.Satellites f n) count) is refl taken in
+    let behind = behind_sat f n (length sats) e to (leads_to _ old _ to new one) in
     let both = takes_on _ _ _ start old new (map line.Sat sats) (line.Sat e ∷ []) before one in
     let mapped : map line.Sat sats ++ line.Sat e ∷ [] ≡ map line.Sat pushed = sym (ap (map line.Sat) push ∙ map-append line.Sat sats (e ∷ [])) in
     let counted : length sats + 1 ≡ length pushed = omega (arith, ap length push, length-append sats (e ∷ [])) in (
-      subst (λ (ls : List LogLine). Takes (place.Satellites f 0) start ls (place.Satellites f (length pushed)) new) mapped
-          (subst (λ (p : Place). Takes (place.Satellites f 0) start (map line.Sat sats ++ line.Sat e ∷ []) p new) (behind.place ∙ ap (place.Satellites f) counted) both),
+      subst (λ (ls : List LogLine). Takes (place.Satellites f n 0) start ls (place.Satellites f n (length pushed)) new) mapped
+          (subst (λ (p : Place). Takes (place.Satellites f n 0) start (map line.Sat sats ++ line.Sat e ∷ []) p new) (behind.place ∙ ap (place.Satellites f n) counted) both),
       omega (arith, behind.below),
     )
 
-pub root_taken : (f : Form) (start old new : Lines) (sats : List SatEntry) (corners : Corners) (l : LogLine) (k : ℕ) (to : Place)
-    → Takes (place.Satellites f 0) start (map line.Sat sats) (place.Satellites f (length sats)) old → k ≡ length sats → l ≡ line.Root corners → Takes (place.Satellites f k) old (l ∷ []) to new
-    → Takes (place.Satellites f 0) start (map line.Sat sats ++ line.Root corners ∷ []) (place_behind_root f) new
-root_taken f start old new sats corners l k to before count is taken =
-    let one : Takes (place.Satellites f (length sats)) old (line.Root corners ∷ []) to new = takes_one _ _ old l (line.Root corners) to to new (ap (place.Satellites f) count) is refl taken in
-    let behind : Some to ≡ Some (place_behind_root f) = sym (leads_to _ old _ to new one) in
-    let after : to ≡ place_behind_root f = cc in
-    subst (λ (p : Place). Takes (place.Satellites f 0) start (map line.Sat sats ++ line.Root corners ∷ []) p new) after
+pub root_taken : (f : Form) (n : ℕ) (start old new : Lines) (sats : List SatEntry) (corners : Corners) (l : LogLine) (k : ℕ) (to : Place)
+    → Takes (place.Satellites f n 0) start (map line.Sat sats) (place.Satellites f n (length sats)) old → k ≡ length sats → l ≡ line.Root corners → Takes (place.Satellites f n k) old (l ∷ []) to new
+    → Takes (place.Satellites f n 0) start (map line.Sat sats ++ line.Root corners ∷ []) (place_behind_root f n) new
+root_taken f n start old new sats corners l k to before count is taken =
+    let one : Takes (place.Satellites f n (length sats)) old (line.Root corners ∷ []) to new = takes_one _ _ old l (line.Root corners) to to new (ap (place.Satellites f n) count) is refl taken in
+    let behind : Some to ≡ Some (place_behind_root f n) = sym (leads_to _ old _ to new one) in
+    let after : to ≡ place_behind_root f n = cc in
+    subst (λ (p : Place). Takes (place.Satellites f n 0) start (map line.Sat sats ++ line.Root corners ∷ []) p new) after
     (takes_on _ _ _ start old new (map line.Sat sats) (line.Root corners ∷ []) before one)
 
 pub skip_taken : (f : Form) (start old new : Lines) (sats pushed : List SatEntry) (e : SatEntry) (l : LogLine) (k : ℕ) (to : Place)
@@ -117,59 +124,92 @@ skip_taken f start old new sats pushed e l k to before count is taken push =
 
 -- the first line of a block, behind the satellite lines of a block of few
 pub opening_taken : (f : Form) (start old new : Lines) (sats : List SatEntry) (o : Opening) (l : LogLine) (k : ℕ) (to : Place)
-    → Takes (place.Few f 0) start (map line.Sat sats) (place.Few f (length sats)) old → k ≡ length sats → l ≡ first_line o.few o.header → to ≡ block_place f o.few → Takes (place.Few f k) old (l ∷ []) to new → old.number ≡ o.line
+    → Takes (place.Few f 0) start (map line.Sat sats) (place.Few f (length sats)) old → k ≡ length sats → l ≡ first_line o.few o.header → to ≡ block_place f o.few o.header → Takes (place.Few f k) old (l ∷ []) to new → old.number ≡ o.line
     → TakesWith f (place.Few f 0) start (map line.Sat sats) o new
 opening_taken f start old new sats o l k to before count is behind taken number =
-    let one : Takes (place.Few f (length sats)) old (first_line o.few o.header ∷ []) (block_place f o.few) new = takes_one _ _ old l _ to _ new (ap (place.Few f) count) is behind taken in
+    let one : Takes (place.Few f (length sats)) old (first_line o.few o.header ∷ []) (block_place f o.few o.header) new = takes_one _ _ old l _ to _ new (ap (place.Few f) count) is behind taken in
     record {
       taken = takes_on _ _ _ start old new (map line.Sat sats) _ before one;
       number = omega (arith, one.number);
     }
 
--- ---- steps
+-- ---- steps and renewals
 
-pub step_taken : (start old new : Lines) (steps pushed : List Step) (s : Step) (l : LogLine) (to : Place)
-    → Takes place.Steps start (map line.Step steps) place.Steps old → l ≡ line.Step s → Takes place.Steps old (l ∷ []) to new → pushed ≡ steps ++ s ∷ []
-    → Takes place.Steps start (map line.Step pushed) place.Steps new
-step_taken start old new steps pushed s l to before is taken push =
-    let one : Takes place.Steps old (line.Step s ∷ []) to new = takes_one _ _ old l (line.Step s) to to new refl is refl taken in
-    let behind : to ≡ place.Steps = behind_step s to (leads_to _ old _ to new one) in
-    let mapped : map line.Step steps ++ line.Step s ∷ [] ≡ map line.Step pushed = sym (ap (map line.Step) push ∙ map-append line.Step steps (s ∷ [])) in
-    subst (λ (ls : List LogLine). Takes place.Steps start ls place.Steps new) mapped
-    (subst (λ (p : Place). Takes place.Steps start (map line.Step steps ++ line.Step s ∷ []) p new) behind (takes_on _ _ _ start old new (map line.Step steps) (line.Step s ∷ []) before one))
+-- steps and renewals that fit were taken from the front
+pub record TakesEvents (renews : Bool) (n : ℕ) (start : Lines) (events : List Event) (left : Lines) : Type 0 where
+  pub taken : Takes (place.Steps renews n 0) start (flat_map event_lines events) (place.Steps renews n 0) left
+  pub fit : AllByRecursion (EventFits renews n) events
 
--- the line of a step that was taken, and the last line of a block
-pub one_step : (old new : Lines) (s : Step) (l : LogLine) (to : Place) → l ≡ line.Step s → Takes place.Steps old (l ∷ []) to new → Takes place.Steps old (line.Step s ∷ []) place.Steps new
-one_step old new s l to is taken =
-    let one : Takes place.Steps old (line.Step s ∷ []) to new = takes_one _ _ old l (line.Step s) to to new refl is refl taken in
-    takes_one _ _ old (line.Step s) (line.Step s) to place.Steps new refl refl (behind_step s to (leads_to _ old _ to new one)) one
+-- the lines of one event more
+pub event_taken : (renews : Bool) (n : ℕ) (start old new : Lines) (events pushed : List Event) (event : Event)
+    → Takes (place.Steps renews n 0) start (flat_map event_lines events) (place.Steps renews n 0) old → Takes (place.Steps renews n 0) old (event_lines event) (place.Steps renews n 0) new → pushed ≡ events ++ event ∷ []
+    → Takes (place.Steps renews n 0) start (flat_map event_lines pushed) (place.Steps renews n 0) new
+event_taken renews n start old new events pushed event before one push =
+    let grown : flat_map event_lines events ++ event_lines event ≡ flat_map event_lines pushed =
+    ap (λ (ls : List LogLine). flat_map event_lines events ++ ls) (sym (append-nil (event_lines event)))
+    ∙ sym (flat_map-append event_lines events (event ∷ [])) ∙ ap (flat_map event_lines) (sym push) in
+    subst (λ (ls : List LogLine). Takes (place.Steps renews n 0) start ls (place.Steps renews n 0) new) grown
+    (takes_on _ _ _ start old new (flat_map event_lines events) (event_lines event) before one)
 
-pub one_done : (old new : Lines) (n : ℕ) (l : LogLine) (to : Place) → l ≡ line.Done n → Takes place.Steps old (l ∷ []) to new → Takes place.Steps old (line.Done n ∷ []) (place.Between form.Log) new
-one_done old new n l to is taken =
-    let one : Takes place.Steps old (line.Done n ∷ []) to new = takes_one _ _ old l (line.Done n) to to new refl is refl taken in
-    let behind : Some to ≡ Some (place.Between form.Log) = sym (leads_to _ old _ to new one) in
-    let between : to ≡ (place.Between form.Log) = cc in
-    takes_one _ _ old (line.Done n) (line.Done n) to (place.Between form.Log) new refl refl between one
+-- the lines of a step, of the box of a renewal and of the number of splits, each where it leads
+pub one_step : (renews : Bool) (n : ℕ) (old new : Lines) (s : Step) (l : LogLine) (to : Place) → l ≡ line.Step s → Takes (place.Steps renews n 0) old (l ∷ []) to new → Takes (place.Steps renews n 0) old (line.Step s ∷ []) (place.Steps renews n 0) new
+one_step renews n old new s l to is taken =
+    let one : Takes (place.Steps renews n 0) old (line.Step s ∷ []) to new = takes_one _ _ old l (line.Step s) to to new refl is refl taken in
+    takes_one _ _ old (line.Step s) (line.Step s) to (place.Steps renews n 0) new refl refl (behind_step renews n s to (leads_to _ old _ to new one)) one
 
-pub done_taken : (start old new : Lines) (steps : List Step) (n : ℕ) (l : LogLine) (to : Place)
-    → Takes place.Steps start (map line.Step steps) place.Steps old → l ≡ line.Done n → Takes place.Steps old (l ∷ []) to new
-    → Takes place.Steps start (map line.Step steps ++ line.Done n ∷ []) (place.Between form.Log) new
-done_taken start old new steps n l to before is taken =
-    let one : Takes place.Steps old (line.Done n ∷ []) to new = takes_one _ _ old l (line.Done n) to to new refl is refl taken in
-    let behind : Some to ≡ Some (place.Between form.Log) = sym (leads_to _ old _ to new one) in
-    let between : to ≡ (place.Between form.Log) = cc in
-    subst (λ (p : Place). Takes place.Steps start (map line.Step steps ++ line.Done n ∷ []) p new) between
-    (takes_on _ _ _ start old new (map line.Step steps) (line.Done n ∷ []) before one)
+pub one_renew : (renews : Bool) (n : ℕ) (old new : Lines) (c : Corners) (l : LogLine) (to : Place) → l ≡ line.Renew c → Takes (place.Steps renews n 0) old (l ∷ []) to new → Takes (place.Steps renews n 0) old (line.Renew c ∷ []) (place.Steps renews n n) new
+one_renew renews n old new c l to is taken =
+    let one : Takes (place.Steps renews n 0) old (line.Renew c ∷ []) to new = takes_one _ _ old l (line.Renew c) to to new refl is refl taken in
+    takes_one _ _ old (line.Renew c) (line.Renew c) to (place.Steps renews n n) new refl refl (behind_renew renews n c to (leads_to _ old _ to new one)).1 one
+
+pub one_done : (renews : Bool) (n : ℕ) (old new : Lines) (splits : ℕ) (l : LogLine) (to : Place) → l ≡ line.Done splits → Takes (place.Steps renews n 0) old (l ∷ []) to new → Takes (place.Steps renews n 0) old (line.Done splits ∷ []) (place.Between (form.Log renews)) new
+one_done renews n old new splits l to is taken =
+    let one : Takes (place.Steps renews n 0) old (line.Done splits ∷ []) to new = takes_one _ _ old l (line.Done splits) to to new refl is refl taken in
+    takes_one _ _ old (line.Done splits) (line.Done splits) to (place.Between (form.Log renews)) new refl refl (only_place true (place.Between (form.Log renews)) to (leads_to _ old _ to new one)) one
+
+-- one event more
+pub event_on : (renews : Bool) (n : ℕ) (start old new : Lines) (events pushed : List Event) (event : Event)
+    → TakesEvents renews n start events old → Takes (place.Steps renews n 0) old (event_lines event) (place.Steps renews n 0) new → EventFits renews n event → pushed ≡ events ++ event ∷ [] → TakesEvents renews n start pushed new
+event_on renews n start old new events pushed event before one fits push = record {
+  taken = event_taken renews n start old new events pushed event before.taken one push;
+  fit = subst (λ (es : List Event). AllByRecursion (EventFits renews n) es) (sym push) (fit_on renews n events event before.fit fits);
+}
+
+-- the number of splits behind them
+pub done_on : (renews : Bool) (n : ℕ) (start old new : Lines) (events : List Event) (splits : ℕ)
+    → TakesEvents renews n start events old → Takes (place.Steps renews n 0) old (line.Done splits ∷ []) (place.Between (form.Log renews)) new
+    → Takes (place.Steps renews n 0) start (flat_map event_lines events ++ line.Done splits ∷ []) (place.Between (form.Log renews)) new
+done_on renews n start old new events splits before one = takes_on _ _ _ start old new (flat_map event_lines events) (line.Done splits ∷ []) before.taken one
+
+-- one row more of a renewal
+pub row_taken : (renews : Bool) (n left fewer : ℕ) (start old new : Lines) (rows pushed : List Row) (row : Row) (l : LogLine) (to : Place)
+    → Takes (place.Steps renews n n) start (map row_line rows) (place.Steps renews n left) old → l ≡ row_line row → Takes (place.Steps renews n left) old (l ∷ []) to new → pushed ≡ rows ++ row ∷ [] → left ≡ suc fewer
+    → Takes (place.Steps renews n n) start (map row_line pushed) (place.Steps renews n fewer) new
+row_taken renews n left fewer start old new rows pushed row l to before is taken push less =
+    let one : Takes (place.Steps renews n left) old (row_line row ∷ []) to new = takes_one _ _ old l (row_line row) to to new refl is refl taken in
+    let down : left - 1 ≡ fewer = omega (arith, less) in
+    let behind : to ≡ place.Steps renews n fewer = behind_row renews n left row to (leads_to _ old _ to new one) ∙ ap (place.Steps renews n) down in
+    let mapped : map row_line rows ++ row_line row ∷ [] ≡ map row_line pushed = sym (ap (map row_line) push ∙ map-append row_line rows (row ∷ [])) in
+    subst (λ (ls : List LogLine). Takes (place.Steps renews n n) start ls (place.Steps renews n fewer) new) mapped
+    (subst (λ (p : Place). Takes (place.Steps renews n n) start (map row_line rows ++ row_line row ∷ []) p new) behind (takes_on _ _ _ start old new (map row_line rows) (row_line row ∷ []) before one))
+
+-- the box of a renewal and its rows
+pub renewal_taken : (renews : Bool) (n : ℕ) (start mid new : Lines) (part : GridBox) (rows : List Row) (c : Corners) → corners_of part ≡ c
+    → Takes (place.Steps renews n 0) start (line.Renew c ∷ []) (place.Steps renews n n) mid → Takes (place.Steps renews n n) mid (map row_line rows) (place.Steps renews n 0) new
+    → Takes (place.Steps renews n 0) start (event_lines (Renewed (rows_over part rows))) (place.Steps renews n 0) new
+renewal_taken renews n start mid new part rows c same first later =
+    subst (λ (d : Corners). Takes (place.Steps renews n 0) start (line.Renew d ∷ map row_line rows) (place.Steps renews n 0) new) (sym same)
+    (takes_on _ _ _ start mid new (line.Renew c ∷ []) (map row_line rows) first later)
 
 -- ---- blocks
 
 -- a block behind what was taken, and its body with what follows
 pub block_taken : (f : Form) (at : Place) (start mid new : Lines) (ls : List LogLine) (o : Opening) (body : List LogLine) (after : Option Opening)
-    → TakesWith f at start ls o mid → TakesTo f (block_place f o.few) mid body after new → TakesTo f at start (ls ++ first_line o.few o.header ∷ body) after new
+    → TakesWith f at start ls o mid → TakesTo f (block_place f o.few o.header) mid body after new → TakesTo f at start (ls ++ first_line o.few o.header ∷ body) after new
 block_taken f at start mid new ls o body None before rest = record {
   to = rest.to;
   taken = subst (λ (all : List LogLine). Takes at start all rest.to new) (append_assoc ls (first_line o.few o.header ∷ []) body)
-      (takes_on at (block_place f o.few) rest.to start mid new (ls ++ first_line o.few o.header ∷ []) body before.taken rest.taken);
+      (takes_on at (block_place f o.few o.header) rest.to start mid new (ls ++ first_line o.few o.header ∷ []) body before.taken rest.taken);
   may_end = rest.may_end;
   ended = rest.ended;
 }
@@ -177,8 +217,8 @@ block_taken f at start mid new ls o body (Some o2) before rest = record {
   taken =
       let last = first_line o2.few o2.header ∷ [] in
       let regrouped : (ls ++ first_line o.few o.header ∷ []) ++ (body ++ last) ≡ (ls ++ first_line o.few o.header ∷ body) ++ last = append_assoc ls (first_line o.few o.header ∷ []) (body ++ last) ∙ sym (append_assoc ls (first_line o.few o.header ∷ body) last) in
-      subst (λ (all : List LogLine). Takes at start all (block_place f o2.few) new) regrouped
-      (takes_on at (block_place f o.few) (block_place f o2.few) start mid new (ls ++ first_line o.few o.header ∷ []) (body ++ last) before.taken rest.taken);
+      subst (λ (all : List LogLine). Takes at start all (block_place f o2.few o2.header) new) regrouped
+      (takes_on at (block_place f o.few o.header) (block_place f o2.few o2.header) start mid new (ls ++ first_line o.few o.header ∷ []) (body ++ last) before.taken rest.taken);
   number = rest.number;
 }
 
@@ -188,13 +228,12 @@ end_of None left = left.number
 end_of (Some o) left = o.line
 
 -- the body of an epoch's block
-pub paved_taken : (f : Form) (start mid new : Lines) (sats : List SatEntry) (corners said : Corners) (steps : List Step) (n : ℕ) → said ≡ corners
-    → Takes (place.Satellites f 0) start (map line.Sat sats ++ line.Root corners ∷ []) (place_behind_root f) mid → Takes (place_behind_root f) mid (closing_lines f steps n) (place.Between f) new
-    → Takes (place.Satellites f 0) start (map line.Sat sats ++ line.Root said ∷ closing_lines f steps n) (place.Between f) new
-paved_taken f start mid new sats corners said steps n same first second =
-    let last = closing_lines f steps n in
-    subst (λ (c : Corners). Takes (place.Satellites f 0) start (map line.Sat sats ++ line.Root c ∷ last) (place.Between f) new) (sym same)
-    (subst (λ (ls : List LogLine). Takes (place.Satellites f 0) start ls (place.Between f) new) (append_assoc (map line.Sat sats) (line.Root corners ∷ []) last)
+pub paved_taken : (f : Form) (n : ℕ) (start mid new : Lines) (sats : List SatEntry) (corners said : Corners) (last : List LogLine) → said ≡ corners
+    → Takes (place.Satellites f n 0) start (map line.Sat sats ++ line.Root corners ∷ []) (place_behind_root f n) mid → Takes (place_behind_root f n) mid last (place.Between f) new
+    → Takes (place.Satellites f n 0) start (map line.Sat sats ++ line.Root said ∷ last) (place.Between f) new
+paved_taken f n start mid new sats corners said last same first second =
+    subst (λ (c : Corners). Takes (place.Satellites f n 0) start (map line.Sat sats ++ line.Root c ∷ last) (place.Between f) new) (sym same)
+    (subst (λ (ls : List LogLine). Takes (place.Satellites f n 0) start ls (place.Between f) new) (append_assoc (map line.Sat sats) (line.Root corners ∷ []) last)
     (takes_on _ _ _ start mid new (map line.Sat sats ++ line.Root corners ∷ []) last first second))
 
 -- what follows lines that were taken
@@ -206,6 +245,6 @@ takes_to_behind f at mid start now new ls None before rest = record {
   ended = rest.ended;
 }
 takes_to_behind f at mid start now new ls (Some o) before rest = record {
-  taken = takes_on at mid (block_place f o.few) start now new ls (first_line o.few o.header ∷ []) before rest.taken;
+  taken = takes_on at mid (block_place f o.few o.header) start now new ls (first_line o.few o.header ∷ []) before rest.taken;
   number = rest.number;
 }

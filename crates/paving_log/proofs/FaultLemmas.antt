@@ -1,52 +1,30 @@
 -- A text has one first fault at most, and the text of a log has none.
-use Rattle.std.proofs.Common.{◌≡◌, ◌≢◌, ℕ, zero, suc, ◌+◌, ◌*◌, ◌<◌, true, List, [], ◌∷◌, ◌++◌, length, Some, refl, sym, ap, subst, ◌∙◌, append_assoc, arith, inl, inr}
+use Rattle.std.proofs.Common.{◌≡◌, ◌≢◌, ℕ, zero, suc, ◌+◌, ◌<◌, true, List, [], ◌∷◌, ◌++◌, length, Some, None, refl, sym, ap, subst, ◌∙◌, append_assoc, arith, inl, inr}
 use Rattle.std.specs.Prelude.{slice_index}
 use Rattle.std.proofs.lemmas.List.{length-append}
 use Rattle.paving_log.specs.declared.line.Fault.{Fault}
 use Rattle.paving_log.specs.declared.line.Fault.TheVariants as fault
 use Rattle.paving_log.specs.declared.line.LineName.{LineName}
-use Rattle.paving_log.specs.declared.line.LineName.TheVariants as name
 use Rattle.paving_log.specs.declared.line.LogLine.{LogLine}
 use Rattle.paving_log.specs.declared.line.Place.{Place}
 use Rattle.paving_log.specs.declared.log.LogError.{LogError}
-use Rattle.log_words.specs.Words.{words}
-use Rattle.paving_log.specs.Lines.{spelled, name_of, LineFits, line_text, text_of}
-use Rattle.paving_log.specs.Order.{next, may_end, Leads}
+use Rattle.log_tokens.specs.Words.{words}
+use Rattle.paving_log.specs.Lines.{spelled, name_of, fields, LineFits, line_words, line_text, text_of}
+use Rattle.paving_log.specs.Order.{may_come, next, may_end, Leads}
 use Rattle.paving_log.specs.Faults.{FitsAt, head_of, Begins, Misfit, refusal, IsLineEnd, FirstLine, LineFails, FaultFrom}
-use Rattle.paving_log.proofs.SpellingLemmas.{HasNoEnd, words-line_text, line_end, same_line}
-
--- ---- names
-
--- tells the names apart: the first byte, and how many follow
-abbrev digest : List ℕ → ℕ
-digest [] = 0
-digest (byte ∷ more) = byte + 256 * length more
-
-pub same_name : (m n : LineName) → spelled m ≡ spelled n → m ≡ n
-same_name name.Gpscover name.Gpscover e = refl
-same_name name.Rules name.Rules e = refl
-same_name name.Few name.Few e = refl
-same_name name.Epoch name.Epoch e = refl
-same_name name.Sat name.Sat e = refl
-same_name name.Skip name.Skip e = refl
-same_name name.Root name.Root e = refl
-same_name name.Cut name.Cut e = refl
-same_name name.Split name.Split e = refl
-same_name name.Out name.Out e = refl
-same_name name.In name.In e = refl
-same_name name.Edge name.Edge e = refl
-same_name name.Done name.Done e = refl
-same_name _ _ e = absurd (omega (arith, ap digest e))
+use Rattle.paving_log.proofs.OrderLemmas.{next_named}
+use Rattle.paving_log.proofs.SpellingLemmas.{HasNoEnd, words-line_text, line_end, line_some, same_line}
+use Rattle.paving_log.proofs.ValueLemmas.{same_words}
 
 -- ---- one line
 
 begins : (at : Place) (here : List ℕ) (l : LogLine) (after : Place) → FitsAt at here l after → Begins at here (name_of l)
-begins at here l after fits = record { word = ap head_of fits.spelled; may_come = λ none. let some = fits.next in cc }
+begins at here l after fits = record { word = ap head_of fits.spelled; may_come = next_named at l after fits.next }
 
 -- a line that fits is no misfit
 no_misfit : (at : Place) (here : List ℕ) (f : Fault) (l : LogLine) (after : Place) → Misfit at here f → FitsAt at here l after → ⊥
 no_misfit at here fault.Word l after misfit fits = misfit (name_of l) (begins at here l after fits)
-no_misfit at here fault.Fields l after misfit fits = misfit.2 l fits.fits fits.spelled
+no_misfit at here fault.Fields l after misfit fits = misfit.2 l after fits
 
 -- a line is a misfit in one way
 one_misfit : (at : Place) (here : List ℕ) (f g : Fault) → Misfit at here f → Misfit at here g → f ≡ g
@@ -54,6 +32,19 @@ one_misfit at here fault.Word fault.Word first second = refl
 one_misfit at here fault.Word fault.Fields first second = absurd (first second.0 second.1)
 one_misfit at here fault.Fields fault.Word first second = absurd (second first.0 first.1)
 one_misfit at here fault.Fields fault.Fields first second = refl
+
+-- where the line that has these words may not come, none may that has them
+pub none_behind : (at : Place) (here word : List ℕ) (rest : List (List ℕ)) (name : LineName) (l : LogLine) → words here ≡ word ∷ rest → word ≡ spelled name → may_come at name ≡ true
+    → LineFits l → name_of l ≡ name → rest ≡ fields l → next at l ≡ None → Misfit at here fault.Fields
+none_behind at here word rest name l front is may fits named told none = (
+  name,
+  record { word = ap head_of front ∙ is; may_come = may },
+  λ other after there.
+      let all : word ∷ rest ≡ line_words l = ap (λ (w : List ℕ). w ∷ rest) (is ∙ ap spelled (sym named)) ∙ ap (λ (ws : List (List ℕ)). spelled (name_of l) ∷ ws) told in
+      let same : line_words other ≡ line_words l = sym there.spelled ∙ front ∙ all in
+      let some : Some after ≡ None = sym there.next ∙ ap (next at) (same_words other l there.fits fits same) ∙ none in
+      cc,
+)
 
 -- ---- the first line of a text
 
@@ -81,18 +72,14 @@ whole_line (byte ∷ bytes) none zero lt = none.0
 whole_line (byte ∷ bytes) none (suc k) lt = whole_line bytes none.1 k (omega arith)
 
 -- the first line of a text that a fitting line begins is that line
-fits_here : (at : Place) (text here behind rest : List ℕ) (l : LogLine) (to : Place) → FirstLine text here behind → LineFits l → next at (name_of l) ≡ Some to → text ≡ line_text l ++ 10 ∷ rest
+fits_here : (at : Place) (text here behind rest : List ℕ) (l : LogLine) (to : Place) → FirstLine text here behind → LineFits l → next at l ≡ Some to → text ≡ line_text l ++ 10 ∷ rest
     → (here ≡ line_text l) × FitsAt at here l to
 fits_here at text here behind rest l to first fits step is =
     let same : here ≡ line_text l = one_first here (line_text l) behind (10 ∷ rest) first.whole (whole_line (line_text l) (line_end l fits)) first.ended refl (sym first.parts ∙ is) in
     (same, record { spelled = ap words same ∙ words-line_text l fits; fits = fits; next = step })
 
--- a fitting line begins some text
-pub line_some : (l : LogLine) (text rest : List ℕ) → text ≡ line_text l ++ 10 ∷ rest → text ≡ [] → ⊥
-line_some l text rest is none = omega (arith, ap length (sym is ∙ none), length-append (line_text l) (10 ∷ rest))
-
 -- no text that a fitting line begins fails at its first line
-no_failure : (at : Place) (text rest : List ℕ) (number : ℕ) (e : LogError) (l : LogLine) (to : Place) → LineFails at text number e → LineFits l → next at (name_of l) ≡ Some to → text ≡ line_text l ++ 10 ∷ rest → ⊥
+no_failure : (at : Place) (text rest : List ℕ) (number : ℕ) (e : LogError) (l : LogLine) (to : Place) → LineFails at text number e → LineFits l → next at l ≡ Some to → text ≡ line_text l ++ 10 ∷ rest → ⊥
 no_failure at text rest number e l to (inl missing) fits step is = line_some l text rest is missing.nothing
 no_failure at text rest number e l to (inr (inl misfit)) fits step is =
     no_misfit at misfit.here misfit.fault l to misfit.misfit (fits_here at text misfit.here misfit.behind rest l to misfit.line fits step is).1
@@ -132,12 +119,11 @@ pub record IsSameStep (behind after : Place) (rest more : List ℕ) : Type 0 whe
   pub place : behind ≡ after
   pub left : rest ≡ more
 
-same_step : (at behind after : Place) (l m : LogLine) (rest more : List ℕ) → LineFits l → LineFits m → next at (name_of l) ≡ Some behind → next at (name_of m) ≡ Some after
+same_step : (at behind after : Place) (l m : LogLine) (rest more : List ℕ) → LineFits l → LineFits m → next at l ≡ Some behind → next at m ≡ Some after
     → line_text l ++ 10 ∷ rest ≡ line_text m ++ 10 ∷ more → IsSameStep behind after rest more
 same_step at behind after l m rest more f g x y e =
     let same = same_line l m rest more f g e in
-    let name : name_of l ≡ name_of m = same_name (name_of l) (name_of m) (ap head_of same.0) in
-    let step : Some behind ≡ Some after = sym x ∙ ap (next at) name ∙ y in
+    let step : Some behind ≡ Some after = sym x ∙ ap (next at) (same_words l m f g same.0) ∙ y in
     record { place = cc; left = same.1 }
 
 text_split : (l : LogLine) (lines : List LogLine) (left : List ℕ) → text_of (l ∷ lines) ++ left ≡ line_text l ++ 10 ∷ (text_of lines ++ left)
@@ -149,7 +135,7 @@ none_fails : (earlier lines : List LogLine) (at to mid : Place) (text left : Lis
 none_fails [] [] at to mid text left number e leads may is before parts fails =
     no_failure_at_end mid left number e fails (ap may_end (sym before ∙ leads) ∙ may) (sym parts ∙ is)
 none_fails [] (l ∷ lines) at to mid text left number e leads may is before parts fails =
-    no_failure mid left (text_of lines) number e l leads.1 fails leads.0 (ap (λ (p : Place). next p (name_of l)) (sym before) ∙ leads.2) (sym parts ∙ is)
+    no_failure mid left (text_of lines) number e l leads.1 fails leads.0 (ap (λ (p : Place). next p l) (sym before) ∙ leads.2) (sym parts ∙ is)
 none_fails (x ∷ earlier) [] at to mid text left number e leads may is before parts fails =
     line_some x text (text_of earlier ++ left) (parts ∙ text_split x earlier left) is
 none_fails (x ∷ earlier) (l ∷ lines) at to mid text left number e leads may is before parts fails =
@@ -169,9 +155,9 @@ one_after [] [] at to mid text rest left number k j e f before parts count fails
     let line : k ≡ j = count ∙ sym sum in
     one_failure at rest j e f (subst (λ (n : ℕ). LineFails at rest n e) line (subst (λ (t : List ℕ). LineFails at t k e) same here)) there
 one_after [] (l ∷ lines) at to mid text rest left number k j e f before parts count fails leads is sum breaks =
-    absurd (no_failure mid left (text_of lines ++ rest) k e l leads.1 fails leads.0 (ap (λ (p : Place). next p (name_of l)) (sym before) ∙ leads.2) (sym parts ∙ is ∙ text_split l lines rest))
+    absurd (no_failure mid left (text_of lines ++ rest) k e l leads.1 fails leads.0 (ap (λ (p : Place). next p l) (sym before) ∙ leads.2) (sym parts ∙ is ∙ text_split l lines rest))
 one_after (x ∷ earlier) [] at to mid text rest left number k j e f before parts count fails leads is sum breaks =
-    absurd (no_failure to rest (text_of earlier ++ left) j f x before.1 breaks before.0 (ap (λ (p : Place). next p (name_of x)) (sym leads) ∙ before.2) (sym is ∙ parts ∙ text_split x earlier left))
+    absurd (no_failure to rest (text_of earlier ++ left) j f x before.1 breaks before.0 (ap (λ (p : Place). next p x) (sym leads) ∙ before.2) (sym is ∙ parts ∙ text_split x earlier left))
 one_after (x ∷ earlier) (l ∷ lines) at to mid text rest left number k j e f before parts count fails leads is sum breaks =
     let same = same_step at before.1 leads.1 x l (text_of earlier ++ left) (text_of lines ++ rest) before.0 leads.0 before.2 leads.2 (sym (text_split x earlier left) ∙ sym parts ∙ is ∙ text_split l lines rest) in
     one_after earlier lines leads.1 to mid (text_of lines ++ rest) rest left (number + 1) k j e f (subst (λ (p : Place). Leads p earlier mid) same.place before.3) (sym same.left) (omega (arith, count)) fails

@@ -1,10 +1,16 @@
 -- What lines that lead from place to place say of their fields.
-use Rattle.std.proofs.Common.{◌≡◌, ℕ, ◌+◌, ◌≤◌, Bool, true, false, List, [], ◌∷◌, ◌++◌, length, map, Some, None, sym, subst, arith}
+use Rattle.std.proofs.Common.{◌≡◌, ℕ, ◌+◌, ◌-◌, ◌≤◌, Bool, true, false, List, [], ◌∷◌, ◌++◌, length, map, Some, None, sym, subst, arith}
 use Rattle.std.specs.Prelude.{Option}
 use Rattle.std.specs.List.{AllByRecursion}
 use Rattle.std.proofs.lemmas.List.{append-nil}
-use Rattle.sat_model.specs.declared.rows.SatEntry.{SatEntry}
+use Rattle.grid_model.specs.Boxes.{GridBox}
+use Rattle.step_columns.specs.Steps.{steps_of}
+use Rattle.sat_model.specs.declared.rows.Row.{Row}
 use Rattle.sat_model.specs.declared.steps.Step.{Step}
+use Rattle.sat_model.specs.Events.{Event, Made, Renewed, rows_over}
+use Rattle.paving_log.specs.declared.events.Events.{Events}
+use Rattle.paving_log.specs.declared.line.Corners.{Corners}
+use Rattle.sat_model.specs.declared.rows.SatEntry.{SatEntry}
 use Rattle.paving_log.specs.declared.line.Form.{Form}
 use Rattle.paving_log.specs.declared.line.Header.{Header}
 use Rattle.paving_log.specs.declared.line.LogLine.{LogLine}
@@ -13,12 +19,14 @@ use Rattle.paving_log.specs.declared.line.Place.{Place}
 use Rattle.paving_log.specs.declared.line.Place.TheVariants as place
 use Rattle.paving_log.specs.declared.lines.Lines.{Lines}
 use Rattle.paving_log.specs.declared.lines.Opening.{Opening}
-use Rattle.paving_log.specs.Lines.{StepFits, HeaderFits, LineFits}
+use Rattle.paving_log.specs.Lines.{HeaderFits, LineFits}
 use Rattle.paving_log.specs.Order.{Leads}
-use Rattle.paving_log.specs.Rows.{EntryFits}
-use Rattle.paving_log.specs.Text.{first_line, IsSkipped}
-use Rattle.paving_log.specs.Taking.{TakesTo}
-use Rattle.paving_log.proofs.BlockLemmas.{behind_few, behind_sat, behind_step}
+use Rattle.paving_log.specs.Rows.{RowFits, EntryFits, CornersFit, corners_of}
+use Rattle.paving_log.specs.Text.{first_line, row_line, IsSkipped, EventFits}
+use Rattle.paving_log.specs.EventValues.{events_of}
+use Rattle.paving_log.specs.Taking.{Takes, TakesTo}
+use Rattle.paving_log.proofs.EventLemmas.{steps_le_lines}
+use Rattle.paving_log.proofs.BlockLemmas.{TakesEvents, behind_few, behind_sat, behind_row, behind_renew, event_on, renewal_taken}
 
 pub record FewParts (f : Form) (k : ℕ) (sats : List SatEntry) (tail : List LogLine) (to : Place) : Type 0 where
   pub fit : AllByRecursion EntryFits sats
@@ -44,32 +52,32 @@ few_parts f k (e ∷ sats) tail to le leads =
       rest = subst (λ (n : ℕ). Leads (place.Few f n) tail to) same later.rest;
     }
 
-pub record SatParts (f : Form) (k : ℕ) (sats : List SatEntry) (tail : List LogLine) (to : Place) : Type 0 where
+pub record SatParts (f : Form) (n k : ℕ) (sats : List SatEntry) (tail : List LogLine) (to : Place) : Type 0 where
   pub fit : AllByRecursion EntryFits sats
   pub at_most : k + length sats ≤ 64
-  pub rest : Leads (place.Satellites f (k + length sats)) tail to
+  pub rest : Leads (place.Satellites f n (k + length sats)) tail to
 
-pub sat_parts : (f : Form) (k : ℕ) (sats : List SatEntry) (tail : List LogLine) (to : Place) → k ≤ 64 → Leads (place.Satellites f k) (map line.Sat sats ++ tail) to → SatParts f k sats tail to
-sat_parts f k [] tail to le leads = record {
+pub sat_parts : (f : Form) (n k : ℕ) (sats : List SatEntry) (tail : List LogLine) (to : Place) → k ≤ 64 → Leads (place.Satellites f n k) (map line.Sat sats ++ tail) to → SatParts f n k sats tail to
+sat_parts f n k [] tail to le leads = record {
   fit = tt;
   at_most = omega arith;
-  rest = let same : k ≡ k + 0 = omega arith in subst (λ (n : ℕ). Leads (place.Satellites f n) tail to) same leads;
+  rest = let same : k ≡ k + 0 = omega arith in subst (λ (m : ℕ). Leads (place.Satellites f n m) tail to) same leads;
 }
-sat_parts f k (e ∷ sats) tail to le leads =
-    let one = behind_sat f k e leads.1 leads.2 in
-    let later = sat_parts f (k + 1) sats tail to (omega (arith, one.below)) (subst (λ (p : Place). Leads p (map line.Sat sats ++ tail) to) one.place leads.3) in
+sat_parts f n k (e ∷ sats) tail to le leads =
+    let one = behind_sat f n k e leads.1 leads.2 in
+    let later = sat_parts f n (k + 1) sats tail to (omega (arith, one.below)) (subst (λ (p : Place). Leads p (map line.Sat sats ++ tail) to) one.place leads.3) in
     let same : k + 1 + length sats ≡ k + length (e ∷ sats) = omega arith in
     record {
       fit = (leads.0, later.fit);
       at_most = omega (arith, later.at_most);
-      rest = subst (λ (n : ℕ). Leads (place.Satellites f n) tail to) same later.rest;
+      rest = subst (λ (m : ℕ). Leads (place.Satellites f n m) tail to) same later.rest;
     }
 
-pub step_parts : (steps : List Step) (tail : List LogLine) (to : Place) → Leads place.Steps (map line.Step steps ++ tail) to → AllByRecursion StepFits steps × Leads place.Steps tail to
-step_parts [] tail to leads = (tt, leads)
-step_parts (s ∷ steps) tail to leads =
-    let later = step_parts steps tail to (subst (λ (p : Place). Leads p (map line.Step steps ++ tail) to) (behind_step s leads.1 leads.2) leads.3) in
-    ((leads.0, later.0), later.1)
+-- the rows of a renewal
+pub rows_parts : (renews : Bool) (n left : ℕ) (rows : List Row) (to : Place) → Leads (place.Steps renews n left) (map row_line rows) to → AllByRecursion RowFits rows
+rows_parts renews n left [] to leads = tt
+rows_parts renews n left (row ∷ rows) to leads =
+    (leads.0, rows_parts renews n (left - 1) rows to (subst (λ (p : Place). Leads p (map row_line rows) to) (behind_row renews n left row leads.1 leads.2) leads.3))
 
 -- the satellites of a block of few
 pub few_fit : (f : Form) (start new : Lines) (sats : List SatEntry) (next : Option Opening) → TakesTo f (place.Few f 0) start (map line.Sat sats) next new → AllByRecursion EntryFits sats × AllByRecursion IsSkipped sats
@@ -91,3 +99,21 @@ header_fits false h fits = fits
 
 pub opening_fits : (f : Form) (at : Place) (start new : Lines) (lines : List LogLine) (o : Opening) → TakesTo f at start lines (Some o) new → HeaderFits o.header
 opening_fits f at start new lines o taken = header_fits o.few o.header (last_fits at _ lines _ taken.taken.leads)
+
+-- ---- steps and renewals
+
+pub step_more : (renews : Bool) (n : ℕ) (start old new : Lines) (events pushed : List Event) (s : Step)
+    → TakesEvents renews n start events old → Takes (place.Steps renews n 0) old (line.Step s ∷ []) (place.Steps renews n 0) new → pushed ≡ events ++ Made s ∷ [] → TakesEvents renews n start pushed new
+step_more renews n start old new events pushed s before one push = event_on renews n start old new events pushed (Made s) before one one.leads.0 push
+
+pub renewal_more : (renews : Bool) (n : ℕ) (start old mid new : Lines) (events pushed : List Event) (part : GridBox) (rows : List Row) (c : Corners) → corners_of part ≡ c
+    → TakesEvents renews n start events old → Takes (place.Steps renews n 0) old (line.Renew c ∷ []) (place.Steps renews n n) mid → Takes (place.Steps renews n n) mid (map row_line rows) (place.Steps renews n 0) new
+    → length rows ≡ n → pushed ≡ events ++ Renewed (rows_over part rows) ∷ [] → TakesEvents renews n start pushed new
+renewal_more renews n start old mid new events pushed part rows c same before first later many push =
+    let allowed = (behind_renew renews n c first.leads.1 first.leads.2).0 in
+    let fits : EventFits renews n (Renewed (rows_over part rows)) = (allowed, subst CornersFit (sym same) first.leads.0, many, rows_parts renews n n rows _ later.leads) in
+    event_on renews n start old new events pushed (Renewed (rows_over part rows)) before (renewal_taken renews n old mid new part rows c same first later) fits push
+
+-- no more steps than numbers of lines
+pub few_steps : (renews : Bool) (n : ℕ) (start left : Lines) (e : Events) → TakesEvents renews n start (events_of e) left → length (steps_of e.steps) ≤ 4000000001
+few_steps renews n start left e before = omega (arith, before.taken.number, left.room, steps_le_lines (steps_of e.steps) e.renewals.items)

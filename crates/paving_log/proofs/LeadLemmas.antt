@@ -1,44 +1,34 @@
 -- The lines of a log that fits lead from the first place to an end.
-use Rattle.std.proofs.Common.{◌≡◌, ℕ, ◌+◌, ◌<◌, ◌≤◌, Bool, true, false, List, [], ◌∷◌, ◌++◌, length, map, Some, None, refl, sym, ap, subst, append_assoc, arith}
-use Rattle.std.specs.Prelude.{Option, if◌then◌else◌}
+use Rattle.std.proofs.Common.{◌≡◌, ℕ, ◌+◌, ◌-◌, ◌<◌, ◌≤◌, Bool, true, false, ◌&&◌, List, [], ◌∷◌, ◌++◌, length, map, Some, None, refl, sym, ap, subst, ◌∙◌, append_assoc, arith}
+use Rattle.std.specs.Prelude.{Option, is_none, nat_lt}
 use Rattle.std.specs.List.{flat_map, AllByRecursion}
 use Rattle.std.proofs.lemmas.Bool.{lt-ltb}
+use Rattle.sat_model.specs.declared.rows.Row.{Row}
 use Rattle.sat_model.specs.declared.rows.SatEntry.{SatEntry}
 use Rattle.sat_model.specs.declared.rows.SatEntry.TheVariants as entry
-use Rattle.sat_model.specs.declared.steps.Step.{Step}
-use Rattle.sat_model.specs.declared.steps.Step.TheVariants.{Cut, Split, Outside, Inside, Edge}
-use Rattle.grid_model.specs.Boxes.{GridBox}
-use Rattle.sat_model.specs.Logs.{Block, LogValue}
+use Rattle.sat_model.specs.Events.{Event, Made, Renewed}
+use Rattle.sat_model.specs.Logs.{Body, Block, LogValue, is_few}
 use Rattle.paving_log.specs.declared.line.Form.{Form}
 use Rattle.paving_log.specs.declared.line.Form.TheVariants as form
 use Rattle.paving_log.specs.declared.line.Header.{Header}
+use Rattle.paving_log.specs.declared.line.Kind.{Kind}
 use Rattle.paving_log.specs.declared.line.LogLine.{LogLine}
 use Rattle.paving_log.specs.declared.line.LogLine.TheVariants as line
 use Rattle.paving_log.specs.declared.line.Place.{Place}
 use Rattle.paving_log.specs.declared.line.Place.TheVariants as place
-use Rattle.paving_log.specs.Lines.{name_of, entry_name, step_name, StepFits, HeaderFits, LineFits}
-use Rattle.paving_log.specs.Order.{next, place_behind_root, one_more, may_end, Leads}
-use Rattle.paving_log.specs.Rows.{EntryFits, corners_of}
-use Rattle.paving_log.specs.Text.{first_line, header_of, closing_lines, paved_lines, block_lines, log_lines, IsSkipped, ClosingFits, BodyFits, BlockFits, LogFits}
+use Rattle.paving_log.specs.Lines.{HeaderFits, LineFits}
+use Rattle.paving_log.specs.Order.{has_version, form_of, only_if, next, place_behind_root, may_end, Leads}
+use Rattle.paving_log.specs.Rows.{RowFits, EntryFits, corners_of}
+use Rattle.paving_log.specs.Text.{first_line, header_of, row_line, event_lines, closing_lines, paved_lines, block_lines, log_lines, IsSkipped, EventFits, ClosingFits, BodyFits, BlockFits, LogFits}
 use Rattle.paving_log.specs.Taking.{block_place}
+use Rattle.paving_log.proofs.OrderLemmas.{given}
 
-one_more_below : (k : ℕ) (after : Place) → k < 64 → one_more k after ≡ Some after
-one_more_below k after lt = ap (λ (b : Bool). if b then Some after else None) (lt-ltb k 64 lt)
+below : (k : ℕ) (after : Place) → k < 64 → only_if (nat_lt k 64) after ≡ Some after
+below k after lt = given (nat_lt k 64) after (lt-ltb k 64 lt)
 
-sat_next : (f : Form) (k : ℕ) (e : SatEntry) → k < 64 → next (place.Satellites f k) (entry_name e) ≡ Some (place.Satellites f (k + 1))
-sat_next f k (entry.Row r) lt = one_more_below k _ lt
-sat_next f k (entry.Skipped sat skip) lt = one_more_below k _ lt
-
-few_next : (f : Form) (k : ℕ) (e : SatEntry) → IsSkipped e → k < 64 → next (place.Few f k) (entry_name e) ≡ Some (place.Few f (k + 1))
+few_next : (f : Form) (k : ℕ) (e : SatEntry) → IsSkipped e → k < 64 → next (place.Few f k) (line.Sat e) ≡ Some (place.Few f (k + 1))
 few_next f k (entry.Row r) skipped lt = absurd skipped
-few_next f k (entry.Skipped sat skip) skipped lt = one_more_below k _ lt
-
-step_next : (s : Step) → next place.Steps (step_name s) ≡ Some place.Steps
-step_next (Cut id face bound) = refl
-step_next (Split id axis) = refl
-step_next (Outside id) = refl
-step_next (Inside id clock lo hi) = refl
-step_next (Edge id lo hi) = refl
+few_next f k (entry.Skipped sat skip) skipped lt = below k _ lt
 
 few_lead : (f : Form) (k : ℕ) (sats : List SatEntry) (tail : List LogLine) (to : Place) → AllByRecursion EntryFits sats → AllByRecursion IsSkipped sats → k + length sats ≤ 64
     → Leads (place.Few f (k + length sats)) tail to → Leads (place.Few f k) (map line.Sat sats ++ tail) to
@@ -47,33 +37,50 @@ few_lead f k (e ∷ sats) tail to fit skipped le leads =
     let same : k + length (e ∷ sats) ≡ k + 1 + length sats = omega arith in
     (fit.0, place.Few f (k + 1), few_next f k e skipped.0 (omega arith), few_lead f (k + 1) sats tail to fit.1 skipped.1 (omega arith) (subst (λ (n : ℕ). Leads (place.Few f n) tail to) same leads))
 
-sat_lead : (f : Form) (k : ℕ) (sats : List SatEntry) (tail : List LogLine) (to : Place) → AllByRecursion EntryFits sats → k + length sats ≤ 64
-    → Leads (place.Satellites f (k + length sats)) tail to → Leads (place.Satellites f k) (map line.Sat sats ++ tail) to
-sat_lead f k [] tail to fit le leads = let same : k + 0 ≡ k = omega arith in subst (λ (n : ℕ). Leads (place.Satellites f n) tail to) same leads
-sat_lead f k (e ∷ sats) tail to fit le leads =
+sat_lead : (f : Form) (n k : ℕ) (sats : List SatEntry) (tail : List LogLine) (to : Place) → AllByRecursion EntryFits sats → k + length sats ≤ 64
+    → Leads (place.Satellites f n (k + length sats)) tail to → Leads (place.Satellites f n k) (map line.Sat sats ++ tail) to
+sat_lead f n k [] tail to fit le leads = let same : k + 0 ≡ k = omega arith in subst (λ (m : ℕ). Leads (place.Satellites f n m) tail to) same leads
+sat_lead f n k (e ∷ sats) tail to fit le leads =
     let same : k + length (e ∷ sats) ≡ k + 1 + length sats = omega arith in
-    (fit.0, place.Satellites f (k + 1), sat_next f k e (omega arith), sat_lead f (k + 1) sats tail to fit.1 (omega arith) (subst (λ (n : ℕ). Leads (place.Satellites f n) tail to) same leads))
+    (fit.0, place.Satellites f n (k + 1), below k _ (omega arith), sat_lead f n (k + 1) sats tail to fit.1 (omega arith) (subst (λ (m : ℕ). Leads (place.Satellites f n m) tail to) same leads))
 
-step_lead : (steps : List Step) (tail : List LogLine) (to : Place) → AllByRecursion StepFits steps → Leads place.Steps tail to → Leads place.Steps (map line.Step steps ++ tail) to
-step_lead [] tail to fit leads = leads
-step_lead (s ∷ steps) tail to fit leads = (fit.0, place.Steps, step_next s, step_lead steps tail to fit.1 leads)
+rows_lead : (renews : Bool) (n : ℕ) (rows : List Row) (tail : List LogLine) (to : Place) → AllByRecursion RowFits rows → Leads (place.Steps renews n 0) tail to → Leads (place.Steps renews n (length rows)) (map row_line rows ++ tail) to
+rows_lead renews n [] tail to fit leads = leads
+rows_lead renews n (row ∷ rows) tail to fit leads =
+    let less : length (row ∷ rows) - 1 ≡ length rows = omega arith in
+    let step : next (place.Steps renews n (length (row ∷ rows))) (row_line row) ≡ Some (place.Steps renews n (length rows)) =
+    given _ _ (lt-ltb 0 (length (row ∷ rows)) (omega arith)) ∙ ap (λ (m : ℕ). Some (place.Steps renews n m)) less in
+    (fit.0, place.Steps renews n (length rows), step, rows_lead renews n rows tail to fit.1 leads)
+
+event_lead : (renews : Bool) (n : ℕ) (event : Event) (tail : List LogLine) (to : Place) → EventFits renews n event → Leads (place.Steps renews n 0) tail to → Leads (place.Steps renews n 0) (event_lines event ++ tail) to
+event_lead renews n (Made step) tail to fits leads = (fits, place.Steps renews n 0, refl, leads)
+event_lead renews n (Renewed new) tail to fits leads =
+    let allowed : next (place.Steps renews n 0) (line.Renew (corners_of new.part)) ≡ Some (place.Steps renews n n) = given (renews && true) _ (ap (λ (b : Bool). b && true) fits.0) in
+    let rows = subst (λ (m : ℕ). Leads (place.Steps renews n m) (map row_line new.rows ++ tail) to) fits.2 (rows_lead renews n new.rows tail to fits.3 leads) in
+    (fits.1, place.Steps renews n n, allowed, rows)
+
+events_lead : (renews : Bool) (n : ℕ) (events : List Event) (tail : List LogLine) (to : Place) → AllByRecursion (EventFits renews n) events → Leads (place.Steps renews n 0) tail to → Leads (place.Steps renews n 0) (flat_map event_lines events ++ tail) to
+events_lead renews n [] tail to fit leads = leads
+events_lead renews n (event ∷ events) tail to fit leads =
+    subst (λ (ls : List LogLine). Leads (place.Steps renews n 0) ls to) (sym (append_assoc (event_lines event) (flat_map event_lines events) tail))
+    (event_lead renews n event (flat_map event_lines events ++ tail) to fit.0 (events_lead renews n events tail to fit.1 leads))
 
 -- a block may begin at the place, and the text may end
 record IsBetween (f : Form) (at : Place) : Type 0 where
   may_end : may_end at ≡ true
-  next : (few : Bool) (h : Header) → next at (name_of (first_line few h)) ≡ Some (block_place f few)
+  next : (few : Bool) (h : Header) → next at (first_line few h) ≡ Some (block_place f few h)
 
 between : (f : Form) → IsBetween f (place.Between f)
 between f = record { may_end = refl; next = first }
   where
-    first : (few : Bool) (h : Header) → next (place.Between f) (name_of (first_line few h)) ≡ Some (block_place f few)
+    first : (few : Bool) (h : Header) → next (place.Between f) (first_line few h) ≡ Some (block_place f few h)
     first true h = refl
     first false h = refl
 
 behind_skips : (f : Form) (k : ℕ) → IsBetween f (place.Few f k)
 behind_skips f k = record { may_end = refl; next = first }
   where
-    first : (few : Bool) (h : Header) → next (place.Few f k) (name_of (first_line few h)) ≡ Some (block_place f few)
+    first : (few : Bool) (h : Header) → next (place.Few f k) (first_line few h) ≡ Some (block_place f few h)
     first true h = refl
     first false h = refl
 
@@ -84,31 +91,29 @@ record BlockLeads (f : Form) (from : Place) (lines : List LogLine) : Type 0 wher
   leads : (tail : List LogLine) (end : Place) → Leads to tail end → Leads from (lines ++ tail) end
 
 -- what stands behind a root leads to the next block
-closing_lead : (f : Form) (steps : List Step) (done : ℕ) (tail : List LogLine) (to : Place) → ClosingFits f steps done → Leads (place.Between f) tail to → Leads (place_behind_root f) (closing_lines f steps done ++ tail) to
-closing_lead form.Log steps done tail to fits leads =
-    subst (λ (ls : List LogLine). Leads place.Steps ls to) (sym (append_assoc (map line.Step steps) (line.Done done ∷ []) tail))
-    (step_lead steps (line.Done done ∷ tail) to fits.0 (fits.1, place.Between form.Log, refl, leads))
-closing_lead form.Rows steps done tail to fits leads = leads
+closing_lead : (f : Form) (n : ℕ) (events : List Event) (done : ℕ) (tail : List LogLine) (to : Place) → ClosingFits f n events done → Leads (place.Between f) tail to → Leads (place_behind_root f n) (closing_lines f events done ++ tail) to
+closing_lead (form.Log renews) n events done tail to fits leads =
+    subst (λ (ls : List LogLine). Leads (place.Steps renews n 0) ls to) (sym (append_assoc (flat_map event_lines events) (line.Done done ∷ []) tail))
+    (events_lead renews n events (line.Done done ∷ tail) to fits.0 (fits.1, place.Between (form.Log renews), refl, leads))
+closing_lead form.Rows n events done tail to fits leads = leads
 
-body_leads : (f : Form) (b : Block) (root : Option GridBox) → AllByRecursion EntryFits b.sats → length b.sats ≤ 64 → BodyFits f b root → BlockLeads f (block_place f b.few) (map line.Sat b.sats ++ paved_lines f root b.steps b.done)
-body_leads f b None fit le body = record {
+body_leads : (f : Form) (b : Block) (body : Option Body) → AllByRecursion EntryFits b.sats → length b.sats ≤ 64 → BodyFits f b body → BlockLeads f (block_place f (is_none body) (header_of b)) (map line.Sat b.sats ++ paved_lines f body)
+body_leads f b None fit le skipped = record {
   to = place.Few f (0 + length b.sats);
   between = behind_skips f (0 + length b.sats);
   leads = λ tail end leads.
-      subst (λ (p : Place). Leads p ((map line.Sat b.sats ++ []) ++ tail) end) (sym (ap (block_place f) body.0))
-      (subst (λ (ls : List LogLine). Leads (place.Few f 0) ls end) (sym (append_assoc (map line.Sat b.sats) [] tail))
-      (few_lead f 0 b.sats tail end fit body.1 (omega arith) leads));
+      subst (λ (ls : List LogLine). Leads (place.Few f 0) ls end) (sym (append_assoc (map line.Sat b.sats) [] tail))
+      (few_lead f 0 b.sats tail end fit skipped (omega arith) leads);
 }
-body_leads f b (Some root) fit le body = record {
+body_leads f b (Some body) fit le fits = record {
   to = place.Between f;
   between = between f;
   leads = λ tail end leads.
-      let last = closing_lines f b.steps b.done in
-      let closing = closing_lead f b.steps b.done tail end body.2 leads in
-      let paved : Leads (place.Satellites f (0 + length b.sats)) (line.Root (corners_of root) ∷ (last ++ tail)) end = (body.1, place_behind_root f, refl, closing) in
-      let whole = sat_lead f 0 b.sats _ end fit (omega arith) paved in
-      subst (λ (p : Place). Leads p ((map line.Sat b.sats ++ line.Root (corners_of root) ∷ last) ++ tail) end) (sym (ap (block_place f) body.0))
-      (subst (λ (ls : List LogLine). Leads (place.Satellites f 0) ls end) (sym (append_assoc (map line.Sat b.sats) (line.Root (corners_of root) ∷ last) tail)) whole);
+      let last = closing_lines f body.events body.done in
+      let closing = closing_lead f b.n body.events body.done tail end fits.1 leads in
+      let paved : Leads (place.Satellites f b.n (0 + length b.sats)) (line.Root (corners_of body.root) ∷ (last ++ tail)) end = (fits.0, place_behind_root f b.n, refl, closing) in
+      let whole = sat_lead f b.n 0 b.sats _ end fit (omega arith) paved in
+      subst (λ (ls : List LogLine). Leads (place.Satellites f b.n 0) ls end) (sym (append_assoc (map line.Sat b.sats) (line.Root (corners_of body.root) ∷ last) tail)) whole;
 }
 
 first_fits : (few : Bool) (h : Header) → HeaderFits h → LineFits (first_line few h)
@@ -124,20 +129,21 @@ pub record LeadsToEnd (at : Place) (lines : List LogLine) : Type 0 where
 blocks_lead : (f : Form) (blocks : List Block) (at : Place) → IsBetween f at → AllByRecursion (BlockFits f) blocks → LeadsToEnd at (flat_map (block_lines f) blocks)
 blocks_lead f [] at here fit = record { to = at; may_end = here.may_end; leads = refl }
 blocks_lead f (b ∷ blocks) at here fit =
-    let body = body_leads f b b.root fit.0.sats fit.0.at_most fit.0.body in
+    let body = body_leads f b b.body fit.0.sats fit.0.at_most fit.0.body in
     let later = blocks_lead f blocks body.to body.between fit.1 in
     record {
       to = later.to;
       may_end = later.may_end;
-      leads = (first_fits b.few (header_of b) fit.0.header, block_place f b.few, here.next b.few (header_of b), body.leads (flat_map (block_lines f) blocks) later.to later.leads);
+      leads = (first_fits (is_few b) (header_of b) fit.0.header, block_place f (is_few b) (header_of b), here.next (is_few b) (header_of b), body.leads (flat_map (block_lines f) blocks) later.to later.leads);
     }
 
 -- a log that fits
-pub log_leads : (f : Form) (log : LogValue) → LogFits f log → LeadsToEnd (place.First f) (log_lines f log)
-log_leads f log fits =
-    let blocks = blocks_lead f log.blocks (place.Between f) (between f) fits in
+pub log_leads : (k : Kind) (log : LogValue) → LogFits k log → LeadsToEnd (place.First k) (log_lines k log)
+log_leads k log fits =
+    let f = form_of k log.version in
+    let blocks = blocks_lead f log.blocks (place.Between f) (between f) fits.blocks in
     record {
       to = blocks.to;
       may_end = blocks.may_end;
-      leads = (tt, place.Second f, refl, (tt, place.Between f, refl, blocks.leads));
+      leads = (fits.version, place.Second f, given (has_version k log.version) (place.Second f) fits.has_version, (tt, place.Between f, refl, blocks.leads));
     }

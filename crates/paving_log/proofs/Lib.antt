@@ -1,3 +1,4 @@
+pub mod OrderLemmas
 pub mod LineLemmas
 pub mod BlockLemmas
 pub mod FitLemmas
@@ -13,3 +14,4 @@ pub mod OwnLemmas
 pub mod RowsLemmas
 pub mod LeadingLemmas
 pub mod KeptParts
+pub mod EventLemmas

@@ -10,10 +10,10 @@ use Rattle.paving_log.specs.declared.log.LogError.{LogError}
 use Rattle.paving_log.specs.declared.log.LogError.TheVariants as error
 use Rattle.paving_log.specs.Lines.{line_text, text_of}
 use Rattle.paving_log.specs.Order.{Leads}
-use Rattle.log_words.specs.Words.{joined}
+use Rattle.log_tokens.specs.Words.{joined}
 use Rattle.paving_log.specs.Faults.{FitsAt, FirstLine, LineFails, FaultFrom}
 use Rattle.paving_log.specs.Taking.{Refuses, Takes}
-use Rattle.log_words.proofs.WordLemmas.{joined-words}
+use Rattle.log_tokens.proofs.WordLemmas.{joined-words}
 use Rattle.grid_model.proofs.ListLemmas.{cut_at}
 
 -- what stands before the first LF is the first line

@@ -1,15 +1,20 @@
 -- A text spells one value at most, and then each of its lines fits.
 use Rattle.std.proofs.Common.{◌≡◌, ℕ, ◌+◌, Bool, true, false, List, [], ◌∷◌, ◌++◌, length, map, Some, None, refl, sym, ap, subst, ◌∙◌, append_assoc, arith, inl, inr}
 use Rattle.std.proofs.lemmas.List.{length-append, length-map}
-use Rattle.std.specs.Prelude.{Option, Result, Ok, Err, IfOk, IfErr, ◌⊎◌}
+use Rattle.std.specs.Prelude.{Option, is_none, Result, Ok, Err, IfOk, IfErr, ◌⊎◌}
 use Rattle.std.specs.List.{flat_map, AllByRecursion}
+use Rattle.sat_model.specs.declared.rows.Row.{Row}
 use Rattle.sat_model.specs.declared.rows.SatEntry.{SatEntry}
-use Rattle.sat_model.specs.declared.steps.Step.{Step}
+use Rattle.sat_model.specs.declared.rows.SatEntry.TheVariants as entry
+use Rattle.sat_model.specs.declared.rules.Rules.{Rules}
 use Rattle.grid_model.specs.Boxes.{GridBox}
-use Rattle.sat_model.specs.Logs.{Block, LogValue, lines_with, lines_in, IsNumberedFrom}
+use Rattle.sat_model.specs.Events.{Event, Made, Renewed, RowsOver}
+use Rattle.sat_model.specs.Logs.{Body, Block, LogValue, is_few, lines_of_body, lines_in, IsNumberedFrom}
 use Rattle.paving_log.specs.declared.line.Corners.{Corners}
 use Rattle.paving_log.specs.declared.line.Form.{Form}
 use Rattle.paving_log.specs.declared.line.Form.TheVariants as form
+use Rattle.paving_log.specs.declared.line.Kind.{Kind}
+use Rattle.paving_log.specs.declared.line.Kind.TheVariants as kind
 use Rattle.paving_log.specs.declared.line.Header.{Header}
 use Rattle.paving_log.specs.declared.line.LogLine.{LogLine}
 use Rattle.paving_log.specs.declared.line.LogLine.TheVariants as line
@@ -17,13 +22,15 @@ use Rattle.paving_log.specs.declared.line.Place.TheVariants as place
 use Rattle.paving_log.specs.declared.log.LogError.{LogError}
 use Rattle.paving_log.specs.Rows.{corners_of}
 use Rattle.paving_log.specs.Lines.{limits_of}
-use Rattle.paving_log.specs.Text.{first_line, header_of, closing_lines, paved_lines, block_lines, log_lines, ClosingFits, BodyFits, BlockFits, IsLogText}
+use Rattle.paving_log.specs.Order.{has_pairs, may_renew, form_of}
+use Rattle.paving_log.specs.Text.{first_line, header_of, row_line, event_lines, closing_lines, paved_lines, block_lines, head_lines, log_lines, ClosingFits, BodyFits, BlockFits, IsLogText, IsUnrenewed, AreUnrenewed}
 use Rattle.paving_log.specs.RowsText.{IsNumberedIn, IsSpelling}
 use Rattle.paving_log.specs.Faults.{FaultFrom, FirstFault}
 use Rattle.paving_log.specs.declared.log.Log.{Log}
 use Rattle.paving_log.specs.declared.log.LogError.TheVariants.{NoMemory}
 use Rattle.paving_log.specs.Values.{log_value}
 use Rattle.paving_log.specs.Answers.{GivesLog, GivesFault}
+use Rattle.paving_log.proofs.EventLemmas.{none_renewed, lines_of_events}
 use Rattle.paving_log.proofs.FaultLemmas.{no_fault, one_fault}
 use Rattle.paving_log.proofs.LeadLemmas.{log_leads}
 use Rattle.paving_log.proofs.ValueLemmas.{rules_from, all_fit, same_lines}
@@ -51,22 +58,6 @@ same_sats (s ∷ sats) (o ∷ others) tail more f g e =
     let later = same_sats sats others tail more f g rest in
     (ap (λ (t : List SatEntry). s ∷ t) later.0 ∙ ap (λ (x : SatEntry). x ∷ others) one, later.1)
 
--- two lists of steps with the number of splits behind them
-record IsSamePaving (steps others : List Step) (m n : ℕ) (tail more : List LogLine) : Type 0 where
-  same : steps ≡ others
-  done : m ≡ n
-  behind : tail ≡ more
-
-same_steps : (steps others : List Step) (m n : ℕ) (tail more : List LogLine) → map line.Step steps ++ line.Done m ∷ tail ≡ map line.Step others ++ line.Done n ∷ more → IsSamePaving steps others m n tail more
-same_steps [] [] m n tail more e = record { same = refl; done = cc; behind = cc }
-same_steps [] (o ∷ others) m n tail more e = cc
-same_steps (s ∷ steps) [] m n tail more e = cc
-same_steps (s ∷ steps) (o ∷ others) m n tail more e =
-    let rest : map line.Step steps ++ line.Done m ∷ tail ≡ map line.Step others ++ line.Done n ∷ more = cc in
-    let one : s ≡ o = cc in
-    let later = same_steps steps others m n tail more rest in
-    record { same = ap (λ (t : List Step). s ∷ t) later.same ∙ ap (λ (x : Step). x ∷ others) one; done = later.done; behind = later.behind }
-
 same_box : (a b : GridBox) → corners_of a ≡ corners_of b → a ≡ b
 same_box a b e = λ i. record {
   x = record { lo = (e i).lo.x; hi = (e i).hi.x };
@@ -74,30 +65,87 @@ same_box a b e = λ i. record {
   z = record { lo = (e i).lo.z; hi = (e i).hi.z };
 }
 
--- the parts of two blocks behind the satellites
-record IsSameBody (b c : Block) (root other : Option GridBox) (tail more : List LogLine) : Type 0 where
-  box : root ≡ other
-  steps : b.steps ≡ c.steps
-  done : b.done ≡ c.done
+same_rows : (rows others : List Row) (tail more : List LogLine) → NoSat tail → NoSat more → map row_line rows ++ tail ≡ map row_line others ++ more → (rows ≡ others) × (tail ≡ more)
+same_rows [] [] tail more f g e = (refl, e)
+same_rows [] (o ∷ others) tail more f g e = absurd (sat_first (entry.Row o) tail _ f e)
+same_rows (r ∷ rows) [] tail more f g e = absurd (sat_first (entry.Row r) more _ g (sym e))
+same_rows (r ∷ rows) (o ∷ others) tail more f g e =
+    let rest : map row_line rows ++ tail ≡ map row_line others ++ more = cc in
+    let one : r ≡ o = cc in
+    let later = same_rows rows others tail more f g rest in
+    (ap (λ (t : List Row). r ∷ t) later.0 ∙ ap (λ (x : Row). x ∷ others) one, later.1)
+
+no_sat_events : (events : List Event) (tail : List LogLine) → NoSat tail → NoSat (flat_map event_lines events ++ tail)
+no_sat_events [] tail none = none
+no_sat_events (Made step ∷ events) tail none = tt
+no_sat_events (Renewed new ∷ events) tail none = tt
+
+-- two lists of events with the number of splits behind them
+record IsSamePaving (events others : List Event) (m n : ℕ) (tail more : List LogLine) : Type 0 where
+  same : events ≡ others
+  done : m ≡ n
   behind : tail ≡ more
 
--- what stands behind two roots
-same_closing : (f : Form) (b c : Block) (tail more : List LogLine) → ClosingFits f b.steps b.done → ClosingFits f c.steps c.done
-    → closing_lines f b.steps b.done ++ tail ≡ closing_lines f c.steps c.done ++ more → IsSamePaving b.steps c.steps b.done c.done tail more
-same_closing form.Log b c tail more x y e =
-    same_steps b.steps c.steps b.done c.done tail more
-    (sym (append_assoc (map line.Step b.steps) (line.Done b.done ∷ []) tail) ∙ e ∙ append_assoc (map line.Step c.steps) (line.Done c.done ∷ []) more)
-same_closing form.Rows b c tail more x y e = record { same = x.0 ∙ sym y.0; done = x.1 ∙ sym y.1; behind = e }
+same_renewal : (new other : RowsOver) → corners_of new.part ≡ corners_of other.part → new.rows ≡ other.rows → new ≡ other
+same_renewal new other part rows = let box = same_box new.part other.part part in λ i. record { part = box i; rows = rows i }
 
-same_body : (f : Form) (b c : Block) (root other : Option GridBox) (tail more : List LogLine) → b.few ≡ c.few → BodyFits f b root → BodyFits f c other
-    → paved_lines f root b.steps b.done ++ tail ≡ paved_lines f other c.steps c.done ++ more → IsSameBody b c root other tail more
-same_body f b c None None tail more few x y e = record { box = refl; steps = x.2 ∙ sym y.2; done = x.3 ∙ sym y.3; behind = e }
-same_body f b c None (Some other) tail more few x y e = let p = x.0 in let q = y.0 in cc
-same_body f b c (Some root) None tail more few x y e = let p = x.0 in let q = y.0 in cc
-same_body f b c (Some root) (Some other) tail more few x y e =
-    let corners : corners_of root ≡ corners_of other = first_root (corners_of root) (corners_of other) _ _ e in
-    let paving = same_closing f b c tail more x.2 y.2 (behind_root (corners_of root) (corners_of other) _ _ e) in
-    record { box = ap Some (same_box root other corners); steps = paving.same; done = paving.done; behind = paving.behind }
+one_more : (event other : Event) (events others : List Event) (m n : ℕ) (tail more : List LogLine) → event ≡ other → IsSamePaving events others m n tail more → IsSamePaving (event ∷ events) (other ∷ others) m n tail more
+one_more event other events others m n tail more one later = record {
+  same = ap (λ (t : List Event). event ∷ t) later.same ∙ ap (λ (x : Event). x ∷ others) one;
+  done = later.done;
+  behind = later.behind;
+}
+
+same_events : (events others : List Event) (m n : ℕ) (tail more : List LogLine) → flat_map event_lines events ++ line.Done m ∷ tail ≡ flat_map event_lines others ++ line.Done n ∷ more → IsSamePaving events others m n tail more
+same_events [] [] m n tail more e = record { same = refl; done = cc; behind = cc }
+same_events [] (Made o ∷ others) m n tail more e = cc
+same_events [] (Renewed o ∷ others) m n tail more e = cc
+same_events (Made s ∷ events) [] m n tail more e = cc
+same_events (Renewed s ∷ events) [] m n tail more e = cc
+same_events (Made s ∷ events) (Renewed o ∷ others) m n tail more e = cc
+same_events (Renewed s ∷ events) (Made o ∷ others) m n tail more e = cc
+same_events (Made s ∷ events) (Made o ∷ others) m n tail more e =
+    let rest : flat_map event_lines events ++ line.Done m ∷ tail ≡ flat_map event_lines others ++ line.Done n ∷ more = cc in
+    let one : s ≡ o = cc in
+    one_more (Made s) (Made o) events others m n tail more (ap Made one) (same_events events others m n tail more rest)
+same_events (Renewed s ∷ events) (Renewed o ∷ others) m n tail more e =
+    let corners : corners_of s.part ≡ corners_of o.part = first_box (corners_of s.part) (corners_of o.part) _ _ e in
+    let lines = behind_box (corners_of s.part) (corners_of o.part) _ _ e in
+    let last = line.Done m ∷ tail in
+    let end = line.Done n ∷ more in
+    let regrouped = sym (append_assoc (map row_line s.rows) (flat_map event_lines events) last) ∙ lines ∙ append_assoc (map row_line o.rows) (flat_map event_lines others) end in
+    let rows = same_rows s.rows o.rows _ _ (no_sat_events events last tt) (no_sat_events others end tt) regrouped in
+    one_more (Renewed s) (Renewed o) events others m n tail more (ap Renewed (same_renewal s o corners rows.0)) (same_events events others m n tail more rows.1)
+  where
+    first_box : (x y : Corners) (ls ms : List LogLine) → line.Renew x ∷ ls ≡ line.Renew y ∷ ms → x ≡ y
+    first_box x y ls ms e = cc
+
+    behind_box : (x y : Corners) (ls ms : List LogLine) → line.Renew x ∷ ls ≡ line.Renew y ∷ ms → ls ≡ ms
+    behind_box x y ls ms e = cc
+
+-- what stands behind two roots
+same_closing : (f : Form) (k j : ℕ) (events others : List Event) (m n : ℕ) (tail more : List LogLine) → ClosingFits f k events m → ClosingFits f j others n
+    → closing_lines f events m ++ tail ≡ closing_lines f others n ++ more → IsSamePaving events others m n tail more
+same_closing (form.Log renews) k j events others m n tail more x y e =
+    same_events events others m n tail more
+    (sym (append_assoc (flat_map event_lines events) (line.Done m ∷ []) tail) ∙ e ∙ append_assoc (flat_map event_lines others) (line.Done n ∷ []) more)
+same_closing form.Rows k j events others m n tail more x y e = record { same = x.0 ∙ sym y.0; done = x.1 ∙ sym y.1; behind = e }
+
+-- the parts of two blocks behind the satellites
+record IsSameBody (body other : Option Body) (tail more : List LogLine) : Type 0 where
+  same : body ≡ other
+  behind : tail ≡ more
+
+same_body : (f : Form) (b c : Block) (body other : Option Body) (tail more : List LogLine) → is_none body ≡ is_none other → BodyFits f b body → BodyFits f c other
+    → paved_lines f body ++ tail ≡ paved_lines f other ++ more → IsSameBody body other tail more
+same_body f b c None None tail more few x y e = record { same = refl; behind = e }
+same_body f b c None (Some other) tail more few x y e = cc
+same_body f b c (Some body) None tail more few x y e = cc
+same_body f b c (Some body) (Some other) tail more few x y e =
+    let corners : corners_of body.root ≡ corners_of other.root = first_root (corners_of body.root) (corners_of other.root) _ _ e in
+    let box = same_box body.root other.root corners in
+    let paving = same_closing f b.n c.n body.events other.events body.done other.done tail more x.1 y.1 (behind_root (corners_of body.root) (corners_of other.root) _ _ e) in
+    record { same = λ i. Some (record { root = box i; events = paving.same i; done = paving.done i }); behind = paving.behind }
   where
     first_root : (x y : Corners) (ls ms : List LogLine) → line.Root x ∷ ls ≡ line.Root y ∷ ms → x ≡ y
     first_root x y ls ms e = cc
@@ -116,9 +164,9 @@ same_first true false h k e = cc
 same_first false true h k e = cc
 same_first false false h k e = record { same = refl; header = cc }
 
-no_sat_paved : (f : Form) (root : Option GridBox) (steps : List Step) (done : ℕ) (tail : List LogLine) → NoSat tail → NoSat (paved_lines f root steps done ++ tail)
-no_sat_paved f None steps done tail none = none
-no_sat_paved f (Some root) steps done tail none = tt
+no_sat_paved : (f : Form) (body : Option Body) (tail : List LogLine) → NoSat tail → NoSat (paved_lines f body ++ tail)
+no_sat_paved f None tail none = none
+no_sat_paved f (Some body) tail none = tt
 
 no_sat_first : (few : Bool) (h : Header) → IsNoSat (first_line few h)
 no_sat_first true h = tt
@@ -126,7 +174,7 @@ no_sat_first false h = tt
 
 no_sat_blocks : (f : Form) (blocks : List Block) → NoSat (flat_map (block_lines f) blocks)
 no_sat_blocks f [] = tt
-no_sat_blocks f (b ∷ blocks) = no_sat_first b.few (header_of b)
+no_sat_blocks f (b ∷ blocks) = no_sat_first (is_few b) (header_of b)
 
 -- two blocks with the same lines, before the same rest
 record IsSameBlock (b c : Block) (tail more : List LogLine) : Type 0 where
@@ -135,21 +183,18 @@ record IsSameBlock (b c : Block) (tail more : List LogLine) : Type 0 where
 
 same_block : (f : Form) (b c : Block) (tail more : List LogLine) → BlockFits f b → BlockFits f c → NoSat tail → NoSat more → block_lines f b ++ tail ≡ block_lines f c ++ more → IsSameBlock b c tail more
 same_block f b c tail more g h x y e =
-    let first = same_first b.few c.few (header_of b) (header_of c) (head e) in
-    let bodies = sym (append_assoc (map line.Sat b.sats) (paved_lines f b.root b.steps b.done) tail) ∙ rest e ∙ append_assoc (map line.Sat c.sats) (paved_lines f c.root c.steps c.done) more in
-    let sats = same_sats b.sats c.sats _ _ (no_sat_paved f b.root b.steps b.done tail x) (no_sat_paved f c.root c.steps c.done more y) bodies in
-    let body = same_body f b c b.root c.root tail more first.same g.body h.body sats.1 in
+    let first = same_first (is_few b) (is_few c) (header_of b) (header_of c) (head e) in
+    let bodies = sym (append_assoc (map line.Sat b.sats) (paved_lines f b.body) tail) ∙ rest e ∙ append_assoc (map line.Sat c.sats) (paved_lines f c.body) more in
+    let sats = same_sats b.sats c.sats _ _ (no_sat_paved f b.body tail x) (no_sat_paved f c.body more y) bodies in
+    let body = same_body f b c b.body c.body tail more first.same g.body h.body sats.1 in
     record {
       same = λ line. λ i. record {
         line = line i;
         index = (first.header i).index;
         ps = (first.header i).ps;
         n = (first.header i).n;
-        few = first.same i;
         sats = sats.0 i;
-        root = body.box i;
-        steps = body.steps i;
-        done = body.done i;
+        body = body.same i;
       };
       behind = body.behind;
     }
@@ -174,68 +219,97 @@ same_blocks f (b ∷ blocks) (c ∷ others) next g h x y e =
 
 -- ---- texts
 
+-- the lines behind those of two heads
+record IsSameHead (version other : ℕ) (rules said : Rules) (ls ms : List LogLine) : Type 0 where
+  same : version ≡ other
+  limits : limits_of rules ≡ limits_of said
+  behind : ls ≡ ms
+
+same_head : (version other : ℕ) (rules said : Rules) (ls ms : List LogLine) → head_lines version rules ++ ls ≡ head_lines other said ++ ms → IsSameHead version other rules said ls ms
+same_head version other rules said ls ms e = record { same = cc; limits = cc; behind = cc }
+
 -- a text spells one value at most
-pub one_spelled : (f : Form) (log other : LogValue) (text : List ℕ) → IsSpelling f log text → IsSpelling f other text → log ≡ other
-one_spelled f log other text x y =
-    let first = log_leads f log x.fits in
-    let second = log_leads f other y.fits in
-    let lines = same_lines (log_lines f log) (log_lines f other) (all_fit (place.First f) first.to (log_lines f log) first.leads) (all_fit (place.First f) second.to (log_lines f other) second.leads) (sym x.spelled ∙ y.spelled) in
-    let pairs : log.rules.pairs ≡ other.rules.pairs = cc in
-    let limits : limits_of log.rules ≡ limits_of other.rules = cc in
-    let rules = rules_from log.rules other.rules pairs limits in
-    let blocks = same_blocks f log.blocks other.blocks 3 x.fits y.fits x.numbered y.numbered cc in
-    λ i. record { rules = rules i; blocks = blocks i }
+pub one_spelled : (k : Kind) (log other : LogValue) (text : List ℕ) → IsSpelling k log text → IsSpelling k other text → log ≡ other
+one_spelled k log other text x y =
+    let first = log_leads k log x.fits in
+    let second = log_leads k other y.fits in
+    let lines = same_lines (log_lines k log) (log_lines k other) (all_fit (place.First k) first.to (log_lines k log) first.leads) (all_fit (place.First k) second.to (log_lines k other) second.leads) (sym x.spelled ∙ y.spelled) in
+    let head = same_head log.version other.version log.rules other.rules _ _ lines in
+    let rules = rules_from log.rules other.rules (x.fits.pairs ∙ ap has_pairs head.same ∙ sym y.fits.pairs) head.limits in
+    let f = form_of k log.version in
+    let g = form_of k other.version in
+    let form : g ≡ f = ap (form_of k) (sym head.same) in
+    let fit = subst (λ (h : Form). AllByRecursion (BlockFits h) other.blocks) form y.fits.blocks in
+    let numbered = subst (λ (h : Form). IsNumberedIn h 3 other.blocks) form y.numbered in
+    let same = head.behind ∙ ap (λ (h : Form). flat_map (block_lines h) other.blocks) form in
+    let blocks = same_blocks f log.blocks other.blocks 3 x.fits.blocks fit x.numbered numbered same in
+    λ i. record { version = head.same i; rules = rules i; blocks = blocks i }
 
 -- in the text of a value each line fits
-pub spelled_has_no_fault : (f : Form) (log : LogValue) (text : List ℕ) (e : LogError) → IsSpelling f log text → FaultFrom (place.First f) text 1 e → ⊥
-spelled_has_no_fault f log text e is fault =
-    let leads = log_leads f log is.fits in
-    no_fault (log_lines f log) (place.First f) leads.to text 1 e leads.leads leads.may_end is.spelled fault
+pub spelled_has_no_fault : (k : Kind) (log : LogValue) (text : List ℕ) (e : LogError) → IsSpelling k log text → FaultFrom (place.First k) text 1 e → ⊥
+spelled_has_no_fault k log text e is fault =
+    let leads = log_leads k log is.fits in
+    no_fault (log_lines k log) (place.First k) leads.to text 1 e leads.leads leads.may_end is.spelled fault
 
 -- ---- the numbers of a log's lines
 
-lines_with-length : (b : Block) (root : Option GridBox) → lines_with b root ≡ 1 + length (map line.Sat b.sats ++ paved_lines form.Log root b.steps b.done)
-lines_with-length b None = omega (arith, length-append (map line.Sat b.sats) [], length-map b.sats line.Sat)
-lines_with-length b (Some root) =
-    let last = map line.Step b.steps ++ line.Done b.done ∷ [] in
-    omega (arith, length-append (map line.Sat b.sats) (line.Root (corners_of root) ∷ last), length-map b.sats line.Sat, length-append (map line.Step b.steps) (line.Done b.done ∷ []), length-map b.steps line.Step)
+lines_of_body-length : (renews : Bool) (b : Block) (body : Option Body) → 1 + length b.sats + lines_of_body body ≡ 1 + length (map line.Sat b.sats ++ paved_lines (form.Log renews) body)
+lines_of_body-length renews b None = omega (arith, length-append (map line.Sat b.sats) [], length-map b.sats line.Sat)
+lines_of_body-length renews b (Some body) =
+    let last = flat_map event_lines body.events ++ line.Done body.done ∷ [] in
+    omega (arith, length-append (map line.Sat b.sats) (line.Root (corners_of body.root) ∷ last), length-map b.sats line.Sat, length-append (flat_map event_lines body.events) (line.Done body.done ∷ []), lines_of_events body.events)
 
-lines_in-length : (b : Block) → lines_in b ≡ length (block_lines form.Log b)
-lines_in-length b = omega (arith, lines_with-length b b.root)
+lines_in-length : (renews : Bool) (b : Block) → lines_in b ≡ length (block_lines (form.Log renews) b)
+lines_in-length renews b = omega (arith, lines_of_body-length renews b b.body)
 
-numbered_from : (next : ℕ) (blocks : List Block) → IsNumberedIn form.Log next blocks → IsNumberedFrom next blocks
-numbered_from next [] numbered = numbered
-numbered_from next (b ∷ blocks) numbered =
-    (numbered.0, subst (λ (k : ℕ). IsNumberedFrom (next + k) blocks) (sym (lines_in-length b)) (numbered_from (next + length (block_lines form.Log b)) blocks numbered.1))
+numbered_from : (renews : Bool) (next : ℕ) (blocks : List Block) → IsNumberedIn (form.Log renews) next blocks → IsNumberedFrom next blocks
+numbered_from renews next [] numbered = numbered
+numbered_from renews next (b ∷ blocks) numbered =
+    (numbered.0, subst (λ (k : ℕ). IsNumberedFrom (next + k) blocks) (sym (lines_in-length renews b)) (numbered_from renews (next + length (block_lines (form.Log renews) b)) blocks numbered.1))
 
-numbered_in : (next : ℕ) (blocks : List Block) → IsNumberedFrom next blocks → IsNumberedIn form.Log next blocks
-numbered_in next [] numbered = numbered
-numbered_in next (b ∷ blocks) numbered =
-    (numbered.0, subst (λ (k : ℕ). IsNumberedIn form.Log (next + k) blocks) (lines_in-length b) (numbered_in (next + lines_in b) blocks numbered.1))
+numbered_in : (renews : Bool) (next : ℕ) (blocks : List Block) → IsNumberedFrom next blocks → IsNumberedIn (form.Log renews) next blocks
+numbered_in renews next [] numbered = numbered
+numbered_in renews next (b ∷ blocks) numbered =
+    (numbered.0, subst (λ (k : ℕ). IsNumberedIn (form.Log renews) (next + k) blocks) (lines_in-length renews b) (numbered_in renews (next + lines_in b) blocks numbered.1))
 
-pub log_text_from : (log : LogValue) (text : List ℕ) → IsSpelling form.Log log text → IsLogText log text
-log_text_from log text is = record { fits = is.fits; numbered = numbered_from 3 log.blocks is.numbered; spelled = is.spelled }
+pub log_text_from : (log : LogValue) (text : List ℕ) → IsSpelling kind.Log log text → IsLogText log text
+log_text_from log text is = record { fits = is.fits; numbered = numbered_from (may_renew log.version) 3 log.blocks is.numbered; spelled = is.spelled }
 
-pub log_spelling : (log : LogValue) (text : List ℕ) → IsLogText log text → IsSpelling form.Log log text
-log_spelling log text is = record { fits = is.fits; numbered = numbered_in 3 log.blocks is.numbered; spelled = is.spelled }
+pub log_spelling : (log : LogValue) (text : List ℕ) → IsLogText log text → IsSpelling kind.Log log text
+log_spelling log text is = record { fits = is.fits; numbered = numbered_in (may_renew log.version) 3 log.blocks is.numbered; spelled = is.spelled }
 
 -- ---- what a reader's answer is held to
 
 -- what was read is the log of a text
-pub value_given : (result : Result Log LogError) (text : List ℕ) → IfOk result (λ read. IsSpelling form.Log (log_value read) text) → IfOk result (λ read. IsLogText (log_value read) text)
+pub value_given : (result : Result Log LogError) (text : List ℕ) → IfOk result (λ read. IsSpelling kind.Log (log_value read) text) → IfOk result (λ read. IsLogText (log_value read) text)
 value_given (Ok read) text value = log_text_from (log_value read) text value
 value_given (Err e) text value = tt
 
 -- an answer that is right both ways gives the log of a text
-pub gives_log : (result : Result Log LogError) (text : List ℕ) → IfOk result (λ read. IsSpelling form.Log (log_value read) text) → IfErr result (λ e. (e ≡ NoMemory) ⊎ FirstFault text e)
+pub gives_log : (result : Result Log LogError) (text : List ℕ) → IfOk result (λ read. IsSpelling kind.Log (log_value read) text) → IfErr result (λ e. (e ≡ NoMemory) ⊎ FirstFault text e)
     → (log : LogValue) → IsLogText log text → GivesLog log result
-gives_log (Ok read) text value fault log is = one_spelled form.Log (log_value read) log text value (log_spelling log text is)
+gives_log (Ok read) text value fault log is = one_spelled kind.Log (log_value read) log text value (log_spelling log text is)
 gives_log (Err e) text value (inl none) log is = none
-gives_log (Err e) text value (inr fault) log is = absurd (spelled_has_no_fault form.Log log text e (log_spelling log text is) fault)
+gives_log (Err e) text value (inr fault) log is = absurd (spelled_has_no_fault kind.Log log text e (log_spelling log text is) fault)
 
 -- and the first fault of a text
-pub gives_fault : (result : Result Log LogError) (text : List ℕ) → IfOk result (λ read. IsSpelling form.Log (log_value read) text) → IfErr result (λ e. (e ≡ NoMemory) ⊎ FirstFault text e)
+pub gives_fault : (result : Result Log LogError) (text : List ℕ) → IfOk result (λ read. IsSpelling kind.Log (log_value read) text) → IfErr result (λ e. (e ≡ NoMemory) ⊎ FirstFault text e)
     → (e : LogError) → FirstFault text e → GivesFault e result
-gives_fault (Ok read) text value fault e first = spelled_has_no_fault form.Log (log_value read) text e value first
+gives_fault (Ok read) text value fault e first = spelled_has_no_fault kind.Log (log_value read) text e value first
 gives_fault (Err f) text value (inl none) e first = inr none
-gives_fault (Err f) text value (inr fault) e first = inl (one_fault (place.First form.Log) text 1 f e fault first)
+gives_fault (Err f) text value (inr fault) e first = inl (one_fault (place.First kind.Log) text 1 f e fault first)
+
+-- ---- version 1
+
+body_unrenewed : (f : Form) (b : Block) (body : Option Body) → f ≡ form.Log false → BodyFits f b body → IsUnrenewed body
+body_unrenewed f b None plain fits = tt
+body_unrenewed f b (Some body) plain fits = none_renewed b.n body.events (subst (λ (g : Form). ClosingFits g b.n body.events body.done) plain fits.1).0
+
+blocks_unrenewed : (f : Form) (blocks : List Block) → f ≡ form.Log false → AllByRecursion (BlockFits f) blocks → AreUnrenewed blocks
+blocks_unrenewed f [] plain fit = tt
+blocks_unrenewed f (b ∷ blocks) plain fit = (body_unrenewed f b b.body plain fit.0.body, blocks_unrenewed f blocks plain fit.1)
+
+pub first_unrenewed : (result : Result Log LogError) (text : List ℕ) → IfOk result (λ read. IsSpelling kind.Log (log_value read) text) → IfOk result (λ read. read.version ≡ 1 → AreUnrenewed (log_value read).blocks)
+first_unrenewed (Ok read) text value = λ one.
+    blocks_unrenewed (form_of kind.Log read.version) (log_value read).blocks (ap (form_of kind.Log) one) value.fits.blocks
+first_unrenewed (Err e) text value = tt

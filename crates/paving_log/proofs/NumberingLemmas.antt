@@ -4,7 +4,7 @@ use Rattle.std.specs.Prelude.{Option}
 use Rattle.std.specs.List.{flat_map, AllByRecursion}
 use Rattle.std.proofs.lemmas.List.{length-append, append-nil}
 use Rattle.std.proofs.lemmas.List.Concat.{flat_map-append}
-use Rattle.sat_model.specs.Logs.{Block}
+use Rattle.sat_model.specs.Logs.{Block, is_few}
 use Rattle.paving_log.specs.declared.line.Form.{Form}
 use Rattle.paving_log.specs.declared.line.Header.{Header}
 use Rattle.paving_log.specs.declared.line.LogLine.{LogLine}
@@ -29,7 +29,7 @@ numbered_on f from to [] b numbered is = (is ∙ sym numbered, ap (λ (n : ℕ).
 numbered_on f from to (c ∷ blocks) b numbered is = (numbered.0, numbered_on f (from + length (block_lines f c)) to blocks b numbered.1 is)
 
 -- the block ends where the next begins
-block_end : (f : Form) (mid new : Lines) (o : Opening) (b : Block) (next : Option Opening) → mid.number ≡ o.line + 1 → TakesTo f (block_place f o.few) mid (body_lines f b) next new → o.line + length (block_lines f b) ≡ end_of next new
+block_end : (f : Form) (mid new : Lines) (o : Opening) (b : Block) (next : Option Opening) → mid.number ≡ o.line + 1 → TakesTo f (block_place f o.few o.header) mid (body_lines f b) next new → o.line + length (block_lines f b) ≡ end_of next new
 block_end f mid new o b None number taken = omega (arith, taken.taken.number)
 block_end f mid new o b (Some o2) number taken =
     omega (arith, taken.taken.number, taken.number, length-append (body_lines f b) (first_line o2.few o2.header ∷ []))
@@ -38,15 +38,15 @@ all_on : (f : Form) (blocks : List Block) (b : Block) → AllByRecursion (BlockF
 all_on f [] b fit one = (one, tt)
 all_on f (c ∷ blocks) b fit one = (fit.0, all_on f blocks b fit.1 one)
 
-flat_on : (f : Form) (blocks : List Block) (b : Block) (few : Bool) (h : Header) → b.few ≡ few → header_of b ≡ h → flat_map (block_lines f) blocks ++ first_line few h ∷ body_lines f b ≡ flat_map (block_lines f) (blocks ++ b ∷ [])
+flat_on : (f : Form) (blocks : List Block) (b : Block) (few : Bool) (h : Header) → is_few b ≡ few → header_of b ≡ h → flat_map (block_lines f) blocks ++ first_line few h ∷ body_lines f b ≡ flat_map (block_lines f) (blocks ++ b ∷ [])
 flat_on f blocks b few h e g =
-    ap (λ (l : LogLine). flat_map (block_lines f) blocks ++ l ∷ body_lines f b) (sym (ap (λ (x : Bool). first_line x h) e) ∙ sym (ap (first_line b.few) g))
+    ap (λ (l : LogLine). flat_map (block_lines f) blocks ++ l ∷ body_lines f b) (sym (ap (λ (x : Bool). first_line x h) e) ∙ sym (ap (first_line (is_few b)) g))
     ∙ ap (λ (ls : List LogLine). flat_map (block_lines f) blocks ++ ls) (sym (append-nil (block_lines f b)))
     ∙ sym (flat_map-append (block_lines f) blocks (b ∷ []))
 
 -- one block more
 pub block_on : (f : Form) (start mid new : Lines) (blocks : List Block) (o : Opening) (b : Block) (next : Option Opening)
-    → TakesSoFar f start blocks (Some o) mid → IsOpened o b → BlockFits f b → TakesTo f (block_place f o.few) mid (body_lines f b) next new → TakesSoFar f start (blocks ++ b ∷ []) next new
+    → TakesSoFar f start blocks (Some o) mid → IsOpened o b → BlockFits f b → TakesTo f (block_place f o.few o.header) mid (body_lines f b) next new → TakesSoFar f start (blocks ++ b ∷ []) next new
 block_on f start mid new blocks o b next before opened fits taken = record {
   taken =
       subst (λ (ls : List LogLine). TakesTo f (place.Between f) start ls next new) (flat_on f blocks b o.few o.header opened.few opened.header)

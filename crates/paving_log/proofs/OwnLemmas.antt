@@ -10,8 +10,8 @@ use Rattle.std.proofs.lemmas.List.Sums.{sum_by-cons}
 use Rattle.sat_model.specs.declared.rules.Rules.{Rules}
 use Rattle.sat_model.specs.declared.rows.SatEntry.{SatEntry}
 use Rattle.sat_model.specs.declared.rows.SatEntry.TheVariants as entry
-use Rattle.grid_model.specs.Boxes.{GridBox}
-use Rattle.sat_model.specs.Logs.{Block, LogValue, rows_of}
+use Rattle.std.specs.Prelude.{is_none}
+use Rattle.sat_model.specs.Logs.{Body, Block, LogValue, is_few, rows_of}
 use Rattle.sat_model.specs.Verdicts.{SuitsNumber, CountsRows}
 use Rattle.sat_model.proofs.VerdictLemmas.{head_not_both}
 use Rattle.paving_log.specs.declared.line.Form.TheVariants as form
@@ -19,7 +19,7 @@ use Rattle.paving_log.specs.declared.line.LogLine.TheVariants as lines
 use Rattle.paving_log.specs.declared.log.Log.{Log}
 use Rattle.paving_log.specs.declared.log.LogEpoch.{LogEpoch}
 use Rattle.paving_log.specs.RowsText.{IsNumberedIn, OwnPasses, OwnFails, AllOwnPass, FirstOwnFails, HasOwnFault, has_row, IsPavable}
-use Rattle.paving_log.specs.Text.{paved_lines, block_lines, BodyFits, BlockFits}
+use Rattle.paving_log.specs.Text.{paved_lines, block_lines, BlockFits}
 use Rattle.paving_log.specs.Values.{block_of, log_value}
 use Rattle.sat_model.proofs.FaultLemmas.{one_repeat}
 
@@ -90,7 +90,7 @@ last_number next (b ∷ more) h = omega (arith, last_number (next + length (bloc
 -- a failing line is one of the block's
 own_within : (rules : Rules) (before : Option ℕ) (b : Block) (line number : ℕ) → OwnFails rules before b line number → line < b.line + length (block_lines form.Rows b)
 own_within rules before b line number f =
-    let long = length-append (map lines.Sat b.sats) (paved_lines form.Rows b.root b.steps b.done) in
+    let long = length-append (map lines.Sat b.sats) (paved_lines form.Rows b.body) in
     let same = length-map b.sats lines.Sat in
     elim f [
       | inl head ↦ omega (arith, long, same, head.1)
@@ -138,14 +138,14 @@ suited : (few : Bool) (q n : ℕ) (sats : List SatEntry) → few ≡ false → S
 suited true q n sats is suits counts = absurd cc
 suited false q n sats is suits counts = omega arith
 
-rooted : (rules : Rules) (b : Block) (root : Option GridBox) → b.root ≡ root → b.few ≡ false → BodyFits form.Rows b root → rules.outliers + 4 ≤ length (rows_of b.sats) → length (rows_of b.sats) ≤ 64 → IsPavable rules b
-rooted rules b None is few body enough most = absurd (let no = body.0 in cc)
-rooted rules b (Some root) is few body enough most = record { root = root; is_root = is; enough = enough; at_most = most }
+bodied : (rules : Rules) (b : Block) (body : Option Body) → b.body ≡ body → is_few b ≡ false → rules.outliers + 4 ≤ length (rows_of b.sats) → length (rows_of b.sats) ≤ 64 → IsPavable rules b
+bodied rules b None is few enough most = absurd (let none = ap is_none is in cc)
+bodied rules b (Some body) is few enough most = record { body = body; is_body = is; enough = enough; at_most = most }
 
-pavable : (rules : Rules) (before : Option ℕ) (b : Block) → BlockFits form.Rows b → OwnPasses rules before b → b.few ≡ false → IsPavable rules b
+pavable : (rules : Rules) (before : Option ℕ) (b : Block) → BlockFits form.Rows b → OwnPasses rules before b → is_few b ≡ false → IsPavable rules b
 pavable rules before b fits passes few =
-    rooted rules b b.root refl few fits.body (suited b.few rules.outliers b.n b.sats few passes.head.suits passes.head.counts) (omega (arith, rows_le_lines b.sats, fits.at_most))
+    bodied rules b b.body refl few (suited (is_few b) rules.outliers b.n b.sats few passes.head.suits passes.head.counts) (omega (arith, rows_le_lines b.sats, fits.at_most))
 
-pub all_pavable : (rules : Rules) (before : Option ℕ) (blocks : List Block) → AllByRecursion (BlockFits form.Rows) blocks → AllOwnPass rules before blocks → AllByRecursion (λ b. b.few ≡ false → IsPavable rules b) blocks
+pub all_pavable : (rules : Rules) (before : Option ℕ) (blocks : List Block) → AllByRecursion (BlockFits form.Rows) blocks → AllOwnPass rules before blocks → AllByRecursion (λ b. is_few b ≡ false → IsPavable rules b) blocks
 all_pavable rules before [] fit passes = tt
 all_pavable rules before (b ∷ more) fit passes = (pavable rules before b fit.0 passes.0, all_pavable rules (Some b.index) more fit.1 passes.1)

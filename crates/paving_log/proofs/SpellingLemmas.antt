@@ -1,5 +1,5 @@
 -- A spelled line holds no LF, and its words are those that it was joined of.
-use Rattle.std.proofs.Common.{◌≡◌, ◌≢◌, ℕ, zero, suc, ◌<◌, ◌≤◌, ◌^◌, ℤ, pos, negsuc, Bool, true, false, List, [], ◌∷◌, ◌++◌, refl, sym, ap, subst, ◌∙◌, lit<, arith, inl, inr}
+use Rattle.std.proofs.Common.{◌≡◌, ◌≢◌, ℕ, zero, suc, ◌+◌, ◌*◌, ◌<◌, ◌≤◌, ◌^◌, ℤ, pos, negsuc, Bool, true, false, List, [], ◌∷◌, ◌++◌, length, refl, sym, ap, subst, ◌∙◌, lit<, arith, inl, inr}
 use Rattle.std.specs.Prelude.{nat_eq, if◌then◌else◌}
 use Rattle.std.specs.List.{AllByRecursion}
 use Rattle.std.specs.Fmt.{decimal, signed_decimal}
@@ -8,6 +8,7 @@ use Rattle.std.proofs.lemmas.Fmt.{decimal_is_IsNumeral_wide}
 use Rattle.std.proofs.lemmas.Str.Parse.{digit_from_value}
 use Rattle.std.proofs.lemmas.Int.{ints}
 use Rattle.std.proofs.lemmas.Bool.{eqb-true}
+use Rattle.std.proofs.lemmas.List.{length-append}
 use Rattle.grid_model.specs.Sizes.{IsWithin, IsErrorSize, IsClockSize}
 use Rattle.grid_model.specs.declared.boxes.Pos.{Pos}
 use Rattle.grid_model.specs.declared.spans.Span.{Span}
@@ -19,17 +20,18 @@ use Rattle.sat_model.specs.declared.rows.SatEntry.TheVariants as entry
 use Rattle.sat_model.specs.declared.steps.Step.{Step}
 use Rattle.sat_model.specs.declared.steps.Step.TheVariants.{Cut, Split, Outside, Inside, Edge}
 use Rattle.paving_log.specs.declared.limits.Limits.{Limits}
+use Rattle.paving_log.specs.declared.line.Corners.{Corners}
 use Rattle.paving_log.specs.declared.line.Header.{Header}
 use Rattle.paving_log.specs.declared.line.LineName.{LineName}
 use Rattle.paving_log.specs.declared.line.LineName.TheVariants as name
 use Rattle.paving_log.specs.declared.line.LogLine.{LogLine}
 use Rattle.paving_log.specs.declared.line.LogLine.TheVariants as line
-use Rattle.log_words.specs.Words.{words, joined}
-use Rattle.log_words.specs.Fields.{optional_words, span_words, IsSpanWithin, pos_words, IsPosWithin, sat_words, IsNamed, skip_words, SkipFits, IsTime}
-use Rattle.paving_log.specs.Rows.{are_ends, sure_words, error_words, row_words, RowFits, entry_words, EntryFits}
+use Rattle.log_tokens.specs.Words.{words, joined}
+use Rattle.log_tokens.specs.Fields.{optional_words, span_words, IsSpanWithin, pos_words, IsPosWithin, sat_words, IsNamed, skip_words, SkipFits, IsTime}
+use Rattle.paving_log.specs.Rows.{are_ends, sure_words, error_words, row_words, RowFits, entry_words, EntryFits, root_words, CornersFit}
 use Rattle.paving_log.specs.Lines.{spelled, name_of, fields, limits_words, header_words, HeaderFits, step_words, IsId, StepFits, LineFits, line_words, line_text}
-use Rattle.log_words.proofs.TimeLemmas.{time_count}
-use Rattle.log_words.proofs.JoinedLemmas.{HasNoBlank, words-joined}
+use Rattle.log_tokens.proofs.TimeLemmas.{time_count}
+use Rattle.log_tokens.proofs.JoinedLemmas.{HasNoBlank, words-joined}
 
 -- each byte is above the blank
 abbrev pub IsWord : List ℕ → Type 0
@@ -125,15 +127,18 @@ step_are (Outside id) fits = (id_word id fits, tt)
 step_are (Inside id clock lo hi) fits = (id_word id fits.0, (clock_word clock fits.1, (clock_word lo fits.2, (clock_word hi fits.3, tt))))
 step_are (Edge id lo hi) fits = (id_word id fits.0, (clock_word lo fits.1, (clock_word hi fits.2, tt)))
 
+corners_are : (c : Corners) → CornersFit c → AreWords (root_words c)
+corners_are c fits = words-on (pos_words c.lo) (pos_words c.hi) (pos_are 10000000000000 c.lo (lit< tt) fits.lo_within) (pos_are 10000000000000 c.hi (lit< tt) fits.hi_within)
+
 fields_are : (l : LogLine) → LineFits l → AreWords (fields l)
-fields_are (line.Version false) fits = ((lit< tt, tt), tt)
-fields_are (line.Version true) fits = ((lit< tt, tt), tt)
+fields_are (line.Version version) fits = (count_word 3 version (lit< tt) fits.1, tt)
 fields_are (line.Rules r) fits = limits_are r
 fields_are (line.Few h) fits = header_are h fits
 fields_are (line.Epoch h) fits = header_are h fits
 fields_are (line.Sat e) fits = entry_are e fits
-fields_are (line.Root c) fits = words-on (pos_words c.lo) (pos_words c.hi) (pos_are 10000000000000 c.lo (lit< tt) fits.lo_within) (pos_are 10000000000000 c.hi (lit< tt) fits.hi_within)
+fields_are (line.Root c) fits = corners_are c fits
 fields_are (line.Step s) fits = step_are s fits
+fields_are (line.Renew c) fits = corners_are c fits
 fields_are (line.Done n) fits = (count_word 200000 n (lit< tt) fits.1, tt)
 
 name_is : (n : LineName) → IsWord (spelled n)
@@ -149,7 +154,32 @@ name_is name.Split = (lit< tt, (lit< tt, (lit< tt, (lit< tt, (lit< tt, tt)))))
 name_is name.Out = (lit< tt, (lit< tt, (lit< tt, tt)))
 name_is name.In = (lit< tt, (lit< tt, tt))
 name_is name.Edge = (lit< tt, (lit< tt, (lit< tt, (lit< tt, tt))))
+name_is name.Renew = (lit< tt, (lit< tt, (lit< tt, (lit< tt, (lit< tt, tt)))))
 name_is name.Done = (lit< tt, (lit< tt, (lit< tt, (lit< tt, tt))))
+
+-- ---- names
+
+-- tells the names apart: the first two bytes, and how many follow
+abbrev digest : List ℕ → ℕ
+digest (first ∷ second ∷ more) = first + 256 * (second + 256 * length more)
+digest _ = 0
+
+pub same_name : (m n : LineName) → spelled m ≡ spelled n → m ≡ n
+same_name name.Gpscover name.Gpscover e = refl
+same_name name.Rules name.Rules e = refl
+same_name name.Few name.Few e = refl
+same_name name.Epoch name.Epoch e = refl
+same_name name.Sat name.Sat e = refl
+same_name name.Skip name.Skip e = refl
+same_name name.Root name.Root e = refl
+same_name name.Cut name.Cut e = refl
+same_name name.Split name.Split e = refl
+same_name name.Out name.Out e = refl
+same_name name.In name.In e = refl
+same_name name.Edge name.Edge e = refl
+same_name name.Renew name.Renew e = refl
+same_name name.Done name.Done e = refl
+same_name _ _ e = absurd (omega (arith, ap digest e))
 
 -- ---- lines
 
@@ -205,3 +235,7 @@ pub same_line : (l m : LogLine) (rest more : List ℕ) → LineFits l → LineFi
 same_line l m rest more f g e =
     let same = same_front (line_text l) (line_text m) rest more (line_end l f) (line_end m g) e in
     (sym (words-line_text l f) ∙ ap words same.0 ∙ words-line_text m g, same.1)
+
+-- a fitting line begins some text
+pub line_some : (l : LogLine) (text rest : List ℕ) → text ≡ line_text l ++ 10 ∷ rest → text ≡ [] → ⊥
+line_some l text rest is none = omega (arith, ap length (sym is ∙ none), length-append (line_text l) (10 ∷ rest))

@@ -4,9 +4,9 @@ use Rattle.std.specs.Prelude.{if◌then◌else◌}
 use Rattle.std.specs.Bool.{Decides}
 use Rattle.std.specs.Fmt.{signed_decimal}
 use Rattle.std.proofs.lemmas.Bool.Decides.{Decides-and, Decides-int_eq}
-use Rattle.log_words.specs.Fields.{number_words, span_words, IsSpanWithin}
-use Rattle.log_words.proofs.WordLemmas.{same_rest}
-use Rattle.log_words.proofs.NumberLemmas.{one_number}
+use Rattle.log_tokens.specs.Fields.{number_words, span_words, IsSpanWithin}
+use Rattle.log_tokens.proofs.WordLemmas.{same_rest}
+use Rattle.log_tokens.proofs.NumberLemmas.{one_number}
 use Rattle.paving_log.specs.Rows.{are_ends, sure_words, AreSure}
 use Rattle.grid_model.specs.Sizes.{IsErrorSize}
 use Rattle.grid_model.specs.declared.spans.Span.{Span}

@@ -1,5 +1,5 @@
 -- Values that are spelled alike are one value.
-use Rattle.std.proofs.Common.{◌≡◌, Bool, true, false, ℕ, zero, suc, ◌+◌, ◌/◌, ◌%◌, ◌<◌, ◌≤◌, ◌^◌, ℤ, pos, List, [], ◌∷◌, drop, refl, sym, ap, ◌∙◌, lit<, arith, inl, inr}
+use Rattle.std.proofs.Common.{◌≡◌, ℕ, zero, suc, ◌+◌, ◌/◌, ◌%◌, ◌<◌, ◌≤◌, ◌^◌, ℤ, pos, List, [], ◌∷◌, drop, refl, sym, ap, ◌∙◌, lit<, arith, inl, inr}
 use Rattle.std.specs.Prelude.{◌≤ℤ◌}
 use Rattle.std.specs.Fmt.{decimal, signed_decimal}
 use Rattle.std.specs.Str.Parse.{digits_value}
@@ -28,17 +28,16 @@ use Rattle.paving_log.specs.declared.line.LineName.TheVariants as name
 use Rattle.paving_log.specs.declared.line.LogLine.{LogLine}
 use Rattle.paving_log.specs.declared.line.LogLine.TheVariants as line
 use Rattle.paving_log.specs.declared.line.Place.{Place}
-use Rattle.log_words.specs.Fields.{IsSpanWithin, IsPosWithin, IsTime, sat_words, IsNamed, optional_words, skip_words, SkipFits}
+use Rattle.log_tokens.specs.Fields.{IsSpanWithin, IsPosWithin, IsTime, sat_words, IsNamed, optional_words, skip_words, SkipFits}
 use Rattle.paving_log.specs.Rows.{row_words, RowFits, entry_words, EntryFits, root_words, CornersFit}
-use Rattle.paving_log.specs.Lines.{version_word, limits_of, limits_words, header_words, HeaderFits, step_words, step_name, IsId, StepFits, entry_name, name_of, fields, LineFits, line_words, text_of}
+use Rattle.paving_log.specs.Lines.{limits_of, limits_words, header_words, HeaderFits, step_words, step_name, IsId, StepFits, entry_name, name_of, fields, LineFits, line_words, text_of}
 use Rattle.paving_log.specs.Order.{Leads}
 use Rattle.paving_log.specs.Faults.{head_of}
 use Rattle.std.specs.List.{AllByRecursion}
-use Rattle.paving_log.proofs.SpellingLemmas.{same_line}
-use Rattle.paving_log.proofs.FaultLemmas.{same_name, line_some}
+use Rattle.paving_log.proofs.SpellingLemmas.{same_name, line_some, same_line}
 use Rattle.paving_log.proofs.SureLemmas.{ends_from}
-use Rattle.log_words.proofs.NumberLemmas.{one_number}
-use Rattle.log_words.proofs.TimeLemmas.{time_count}
+use Rattle.log_tokens.proofs.NumberLemmas.{one_number}
+use Rattle.log_tokens.proofs.TimeLemmas.{time_count}
 use Rattle.grid_model.proofs.OrderLemmas.{le_prop as int_prop}
 
 -- ---- proofs
@@ -193,13 +192,6 @@ limits_from a b e =
     (count_same 200000 a.bisections b.bisections (lit< tt) a.few_bisections b.few_bisections (at_index 1 _ _ e))
     (one_number 10000000000 a.width b.width (lit< tt) (record { low = omega (arith, ints, a.wide); high = a.narrow }) (record { low = omega (arith, ints, b.wide); high = b.narrow }) (at_index 2 _ _ e))
 
--- the words of the two versions differ
-version_from : (a b : Bool) → version_word a ≡ version_word b → a ≡ b
-version_from true true e = refl
-version_from false false e = refl
-version_from true false e = absurd (omega (arith, ap (λ (w : List ℕ). get_or w 0 0) e))
-version_from false true e = absurd (omega (arith, ap (λ (w : List ℕ). get_or w 0 0) e))
-
 header_from : (a b : Header) → HeaderFits a → HeaderFits b → header_words a ≡ header_words b → a ≡ b
 header_from a b f g e =
     same_header a b (count_same 200000 a.index b.index (lit< tt) f.index.1 g.index.1 (at_index 0 _ _ e)) (time_same a.ps b.ps f.ps g.ps (at_index 1 _ _ e))
@@ -259,20 +251,22 @@ kind name.Split = 6
 kind name.Out = 6
 kind name.In = 6
 kind name.Edge = 6
-kind name.Done = 7
+kind name.Renew = 7
+kind name.Done = 8
 
 abbrev kind_of : LogLine → ℕ
-kind_of (line.Version pairs) = 0
+kind_of (line.Version version) = 0
 kind_of (line.Rules r) = 1
 kind_of (line.Few h) = 2
 kind_of (line.Epoch h) = 3
 kind_of (line.Sat e) = 4
 kind_of (line.Root c) = 5
 kind_of (line.Step s) = 6
-kind_of (line.Done n) = 7
+kind_of (line.Renew c) = 7
+kind_of (line.Done n) = 8
 
 kind_named : (l : LogLine) → kind (name_of l) ≡ kind_of l
-kind_named (line.Version pairs) = refl
+kind_named (line.Version version) = refl
 kind_named (line.Rules r) = refl
 kind_named (line.Few h) = refl
 kind_named (line.Epoch h) = refl
@@ -284,24 +278,26 @@ kind_named (line.Step (Split id axis)) = refl
 kind_named (line.Step (Outside id)) = refl
 kind_named (line.Step (Inside id clock lo hi)) = refl
 kind_named (line.Step (Edge id lo hi)) = refl
+kind_named (line.Renew c) = refl
 kind_named (line.Done n) = refl
 
 same_kind : (l m : LogLine) → name_of l ≡ name_of m → kind_of l ≡ kind_of m
 same_kind l m name = sym (kind_named l) ∙ ap kind name ∙ kind_named m
 
 line_from : (l m : LogLine) → LineFits l → LineFits m → name_of l ≡ name_of m → fields l ≡ fields m → l ≡ m
-line_from (line.Version p) (line.Version q) f g name e = ap line.Version (version_from p q (at_index 0 _ _ e))
+line_from (line.Version m) (line.Version n) f g name e = ap line.Version (count_same 3 m n (lit< tt) f.1 g.1 (at_index 0 _ _ e))
 line_from (line.Rules r) (line.Rules s) f g name e = ap line.Rules (limits_from r s e)
 line_from (line.Few h) (line.Few k) f g name e = ap line.Few (header_from h k f g e)
 line_from (line.Epoch h) (line.Epoch k) f g name e = ap line.Epoch (header_from h k f g e)
 line_from (line.Sat x) (line.Sat y) f g name e = ap line.Sat (entry_from x y f g name e)
 line_from (line.Root c) (line.Root d) f g name e = ap line.Root (corners_from c d f g e)
 line_from (line.Step s) (line.Step t) f g name e = ap line.Step (step_from s t f g name e)
+line_from (line.Renew c) (line.Renew d) f g name e = ap line.Renew (corners_from c d f g e)
 line_from (line.Done m) (line.Done n) f g name e = ap line.Done (count_same 200000 m n (lit< tt) f.1 g.1 (at_index 0 _ _ e))
 line_from l m f g name e = absurd (omega (arith, same_kind l m name))
 
 -- lines that fit and have the same words are one
-same_words : (l m : LogLine) → LineFits l → LineFits m → line_words l ≡ line_words m → l ≡ m
+pub same_words : (l m : LogLine) → LineFits l → LineFits m → line_words l ≡ line_words m → l ≡ m
 same_words l m f g e =
     let rest : fields l ≡ fields m = ap (drop 1) e in
     line_from l m f g (same_name (name_of l) (name_of m) (ap head_of e)) rest

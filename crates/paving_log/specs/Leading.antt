@@ -3,7 +3,7 @@ use Rattle.std.specs.Prelude.{ℕ, ◌≡◌, List, ◌∷◌, ◌++◌}
 use Rattle.sat_model.specs.declared.steps.Step.{Step}
 use Rattle.paving_log.specs.declared.line.LineName.{LineName}
 use Rattle.paving_log.specs.declared.line.LogLine.TheVariants as line
-use Rattle.log_words.specs.Words.{joined}
+use Rattle.log_tokens.specs.Words.{joined}
 use Rattle.paving_log.specs.Lines.{StepFits, step_name, step_words, line_text}
 
 -- the fields of a step of this name stand at the front up to the LF, and this is what stands behind

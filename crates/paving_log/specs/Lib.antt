@@ -1,3 +1,5 @@
+pub mod Renewing
+pub mod EventValues
 pub mod Values
 pub mod Rows
 pub mod Lines

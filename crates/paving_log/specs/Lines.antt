@@ -1,5 +1,5 @@
 -- The lines of a log: the words of each, and which values fit in it.
-use Rattle.std.specs.Prelude.{ℕ, Bool, true, false, ◌≤ℤ◌, List, [], ◌∷◌, ◌++◌, codes}
+use Rattle.std.specs.Prelude.{ℕ, ◌≤ℤ◌, List, [], ◌∷◌, ◌++◌, codes}
 use Rattle.std.specs.Fmt.{decimal, signed_decimal}
 use Rattle.grid_model.specs.Sizes.{IsBoxSize, IsClockSize}
 use Rattle.sat_model.specs.declared.rules.Rules.{Rules}
@@ -13,16 +13,11 @@ use Rattle.paving_log.specs.declared.line.LineName.{LineName}
 use Rattle.paving_log.specs.declared.line.LineName.TheVariants as name
 use Rattle.paving_log.specs.declared.line.LogLine.{LogLine}
 use Rattle.paving_log.specs.declared.line.LogLine.TheVariants as line
-use Rattle.log_words.specs.Words.{joined}
-use Rattle.log_words.specs.Fields.{IsCountFromTo, IsTime}
+use Rattle.log_tokens.specs.Words.{joined}
+use Rattle.log_tokens.specs.Fields.{IsCountFromTo, IsTime}
 use Rattle.paving_log.specs.Rows.{entry_words, EntryFits, root_words, CornersFit}
 
 -- ---- the fields behind the first word
-
--- the version of a log, by whether pairs of rows show boxes empty
-abbrev pub version_word : Bool → List ℕ
-version_word false = codes "1"
-version_word true = codes "3"
 
 -- the numbers of rules
 abbrev pub limits_of : Rules → Limits
@@ -86,6 +81,7 @@ spelled name.Split = codes "split"
 spelled name.Out = codes "out"
 spelled name.In = codes "in"
 spelled name.Edge = codes "edge"
+spelled name.Renew = codes "renew"
 spelled name.Done = codes "done"
 
 abbrev pub entry_name : SatEntry → LineName
@@ -100,33 +96,36 @@ step_name (Inside id clock lo hi) = name.In
 step_name (Edge id lo hi) = name.Edge
 
 abbrev pub name_of : LogLine → LineName
-name_of (line.Version pairs) = name.Gpscover
+name_of (line.Version version) = name.Gpscover
 name_of (line.Rules l) = name.Rules
 name_of (line.Few h) = name.Few
 name_of (line.Epoch h) = name.Epoch
 name_of (line.Sat e) = entry_name e
 name_of (line.Root c) = name.Root
 name_of (line.Step s) = step_name s
+name_of (line.Renew c) = name.Renew
 name_of (line.Done n) = name.Done
 
 abbrev pub fields : LogLine → List (List ℕ)
-fields (line.Version pairs) = version_word pairs ∷ []
+fields (line.Version version) = decimal version ∷ []
 fields (line.Rules l) = limits_words l
 fields (line.Few h) = header_words h
 fields (line.Epoch h) = header_words h
 fields (line.Sat e) = entry_words e
 fields (line.Root c) = root_words c
 fields (line.Step s) = step_words s
+fields (line.Renew c) = root_words c
 fields (line.Done n) = decimal n ∷ []
 
 abbrev pub LineFits : LogLine → Type 0
-LineFits (line.Version pairs) = Unit {0}
+LineFits (line.Version version) = IsCountFromTo 1 3 version
 LineFits (line.Rules l) = LimitsFit l
 LineFits (line.Few h) = HeaderFits h
 LineFits (line.Epoch h) = HeaderFits h
 LineFits (line.Sat e) = EntryFits e
 LineFits (line.Root c) = CornersFit c
 LineFits (line.Step s) = StepFits s
+LineFits (line.Renew c) = CornersFit c
 LineFits (line.Done n) = IsCountFromTo 0 200000 n
 
 abbrev pub line_words : LogLine → List (List ℕ)

@@ -9,8 +9,8 @@ use Rattle.sat_model.specs.declared.rows.SatEntry.{SatEntry}
 use Rattle.sat_model.specs.declared.rows.SatEntry.TheVariants as entry
 use Rattle.grid_model.specs.Boxes.{GridBox}
 use Rattle.paving_log.specs.declared.line.Corners.{Corners}
-use Rattle.log_words.specs.Fields.{span_words, pos_words, IsPosWithin, sat_words, IsNamed}
-use Rattle.log_words.specs.Fields.{skip_words, SkipFits}
+use Rattle.log_tokens.specs.Fields.{span_words, pos_words, IsPosWithin, sat_words, IsNamed}
+use Rattle.log_tokens.specs.Fields.{skip_words, SkipFits}
 
 -- lo and hi are the ends of the span
 abbrev pub are_ends : Span → ℤ → ℤ → Bool
@@ -52,7 +52,7 @@ abbrev pub EntryFits : SatEntry → Type 0
 EntryFits (entry.Row r) = RowFits r
 EntryFits (entry.Skipped sat skip) = IsNamed sat × SkipFits skip
 
--- the low corner and the high corner
+-- the low corner and the high corner of a root, or of the box of a renewal
 abbrev pub root_words : Corners → List (List ℕ)
 root_words c = pos_words c.lo ++ pos_words c.hi
 

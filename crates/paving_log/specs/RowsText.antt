@@ -5,14 +5,15 @@ use Rattle.std.specs.List.{AllByRecursion}
 use Rattle.sat_model.specs.declared.rules.Rules.{Rules}
 use Rattle.sat_model.specs.declared.rows.SatEntry.{SatEntry}
 use Rattle.sat_model.specs.declared.rows.SatEntry.TheVariants as entry
-use Rattle.grid_model.specs.Boxes.{GridBox}
-use Rattle.sat_model.specs.Logs.{Block, LogValue, rows_of}
+use Rattle.sat_model.specs.Logs.{Body, Block, LogValue, is_few, rows_of}
 use Rattle.sat_model.specs.Verdicts.{HeadPasses, HeadFails, NoneRepeats, IsFirstRepeat}
 use Rattle.paving_log.specs.declared.line.Form.{Form}
-use Rattle.paving_log.specs.declared.line.Form.TheVariants as form
+use Rattle.paving_log.specs.declared.line.Kind.{Kind}
+use Rattle.paving_log.specs.declared.line.Kind.TheVariants as kind
 use Rattle.paving_log.specs.declared.line.Place.TheVariants as place
 use Rattle.paving_log.specs.declared.log.LogError.{LogError}
 use Rattle.paving_log.specs.declared.log.LogError.TheVariants as error
+use Rattle.paving_log.specs.Order.{form_of}
 use Rattle.paving_log.specs.Text.{block_lines, log_text, LogFits}
 use Rattle.paving_log.specs.Faults.{FaultFrom}
 
@@ -25,12 +26,12 @@ IsNumberedIn f next [] = next ≤ 4000000001
 IsNumberedIn f next (b ∷ more) =
     (b.line ≡ next) × IsNumberedIn f (next + length (block_lines f b)) more
 
--- The text is the one spelling of the value in this form. The blocks begin behind the two lines of
--- the head, and have the numbers of their lines.
-pub record IsSpelling (f : Form) (log : LogValue) (text : List ℕ) : Type 0 where
-  pub fits : LogFits f log
-  pub numbered : IsNumberedIn f 3 log.blocks
-  pub spelled : text ≡ log_text f log
+-- The text is the one spelling of the log, or of its rows alone. The blocks begin behind the two
+-- lines of the head, and have the numbers of their lines.
+pub record IsSpelling (k : Kind) (log : LogValue) (text : List ℕ) : Type 0 where
+  pub fits : LogFits k log
+  pub numbered : IsNumberedIn (form_of k log.version) 3 log.blocks
+  pub spelled : text ≡ log_text k log
 
 -- ---- the tests of a block's own lines
 
@@ -71,30 +72,30 @@ HasOwnFault log line = (number : ℕ) × FirstOwnFails log.rules None log.blocks
 
 -- The text spells the value without steps, and no block fails a test of its own lines.
 pub record IsRowsText (log : LogValue) (text : List ℕ) : Type 0 where
-  pub spelling : IsSpelling form.Rows log text
+  pub spelling : IsSpelling kind.Rows log text
   pub passes : AllOwnPass log.rules None log.blocks
 
 -- The text spells a value, and this line is the first that fails such a test.
 pub record FailsTest (text : List ℕ) (e : LogError) : Type 0 where
   pub log : LogValue
-  pub spelling : IsSpelling form.Rows log text
+  pub spelling : IsSpelling kind.Rows log text
   pub line : ℕ
   pub fails : HasOwnFault log line
   pub error : e ≡ error.BadLog line 5
 
 -- the first line that doesn't fit, and where all lines fit the first that fails a test
 abbrev pub FirstRowsFault : List ℕ → LogError → Type 0
-FirstRowsFault text e = FaultFrom (place.First form.Rows) text 1 e ⊎ FailsTest text e
+FirstRowsFault text e = FaultFrom (place.First kind.Rows) text 1 e ⊎ FailsTest text e
 
 -- ---- what a paving asks for
 
--- the block has a root, and rows of four satellites more than may be inconsistent
+-- the block has a body, and rows of four satellites more than may be inconsistent
 pub record IsPavable (rules : Rules) (b : Block) : Type 0 where
-  pub root : GridBox
-  pub is_root : b.root ≡ Some root
+  pub body : Body
+  pub is_body : b.body ≡ Some body
   pub enough : rules.outliers + 4 ≤ length (rows_of b.sats)
   pub at_most : length (rows_of b.sats) ≤ 64
 
 -- each block that isn't one of few satellites
 abbrev pub ArePavable : LogValue → Type 0
-ArePavable log = AllByRecursion (λ b. b.few ≡ false → IsPavable log.rules b) log.blocks
+ArePavable log = AllByRecursion (λ b. is_few b ≡ false → IsPavable log.rules b) log.blocks

@@ -1,11 +1,12 @@
 -- Lines that were taken from the front of a text.
 use Rattle.std.specs.Prelude.{ℕ, ◌≡◌, ◌+◌, Bool, true, false, List, [], ◌∷◌, ◌++◌, length, Option}
 use Rattle.std.specs.Prelude.{None, Some}
-use Rattle.sat_model.specs.Logs.{Block}
+use Rattle.sat_model.specs.Logs.{Block, is_few}
 use Rattle.paving_log.specs.declared.line.ClosingLine.{ClosingLine}
 use Rattle.paving_log.specs.declared.line.ClosingLine.TheVariants as closing
 use Rattle.paving_log.specs.declared.line.Form.{Form}
 use Rattle.paving_log.specs.declared.line.Form.TheVariants as form
+use Rattle.paving_log.specs.declared.line.Header.{Header}
 use Rattle.paving_log.specs.declared.line.LogLine.{LogLine}
 use Rattle.paving_log.specs.declared.line.LogLine.TheVariants as line
 use Rattle.paving_log.specs.declared.line.Place.{Place}
@@ -35,16 +36,18 @@ pub record Takes (at : Place) (old : Lines) (lines : List LogLine) (to : Place)
 -- a line behind the root of a log, and the place behind it
 abbrev pub closing_line : ClosingLine → LogLine
 closing_line (closing.Step s) = line.Step s
-closing_line (closing.Done n) = line.Done n
+closing_line (closing.Renew c) = line.Renew c
+closing_line (closing.Done splits) = line.Done splits
 
-abbrev pub behind_closing : ClosingLine → Place
-behind_closing (closing.Step s) = place.Steps
-behind_closing (closing.Done n) = place.Between form.Log
+abbrev pub behind_closing : Bool → ℕ → ClosingLine → Place
+behind_closing renews n (closing.Step s) = place.Steps renews n 0
+behind_closing renews n (closing.Renew c) = place.Steps renews n n
+behind_closing renews n (closing.Done splits) = place.Between (form.Log renews)
 
 -- the place behind the first line of a block
-abbrev pub block_place : Form → Bool → Place
-block_place f true = place.Few f 0
-block_place f false = place.Satellites f 0
+abbrev pub block_place : Form → Bool → Header → Place
+block_place f true h = place.Few f 0
+block_place f false h = place.Satellites f h.n 0
 
 -- these lines were taken, and then the text ended
 pub record TakesAll (at : Place) (old : Lines) (lines : List LogLine) (new : Lines) : Type 0 where
@@ -56,7 +59,8 @@ pub record TakesAll (at : Place) (old : Lines) (lines : List LogLine) (new : Lin
 -- these lines were taken, and behind them the first line of a block
 pub record TakesWith (f : Form) (at : Place) (old : Lines) (lines : List LogLine) (o : Opening)
     (new : Lines) : Type 0 where
-  pub taken : Takes at old (lines ++ first_line o.few o.header ∷ []) (block_place f o.few) new
+  pub taken :
+      Takes at old (lines ++ first_line o.few o.header ∷ []) (block_place f o.few o.header) new
   pub number : new.number ≡ o.line + 1
 
 -- these lines were taken, and behind them the first line of a block, or else the text ended
@@ -66,7 +70,7 @@ TakesTo f at old lines (Some o) new = TakesWith f at old lines o new
 
 -- the block begins with this line
 pub record IsOpened (o : Opening) (b : Block) : Type 0 where
-  pub few : b.few ≡ o.few
+  pub few : is_few b ≡ o.few
   pub header : header_of b ≡ o.header
   pub line : b.line ≡ o.line
 

@@ -1,10 +1,24 @@
 -- The plain value of a log.
-use Rattle.std.specs.Prelude.{map}
+use Rattle.std.specs.Prelude.{map, Option, None, Some}
+use Rattle.grid_model.specs.Boxes.{grid_box}
 use Rattle.sat_model.specs.Logs.{Block, LogValue}
-use Rattle.live_boxes.specs.LiveValues.{box_option}
-use Rattle.logged_steps.specs.Steps.{steps_of}
+use Rattle.sat_model.specs.Logs.{Body as BodyValue}
+use Rattle.step_columns.specs.Steps.{steps_of}
+use Rattle.paving_log.specs.declared.log.Body.{Body}
 use Rattle.paving_log.specs.declared.log.Log.{Log}
 use Rattle.paving_log.specs.declared.log.LogEpoch.{LogEpoch}
+use Rattle.paving_log.specs.Renewing.{events_from}
+
+abbrev pub body_value : Body → BodyValue
+body_value body = record {
+  root = grid_box body.root;
+  events = events_from 0 (steps_of body.steps) body.renewals.items;
+  done = body.done;
+}
+
+abbrev pub body_option : Option Body → Option BodyValue
+body_option None = None
+body_option (Some body) = Some (body_value body)
 
 abbrev pub block_of : LogEpoch → Block
 block_of epoch = record {
@@ -12,12 +26,13 @@ block_of epoch = record {
   index = epoch.index;
   ps = epoch.ps;
   n = epoch.n;
-  few = epoch.few;
   sats = epoch.sats.items;
-  root = box_option epoch.root;
-  steps = steps_of epoch.steps;
-  done = epoch.done;
+  body = body_option epoch.body;
 }
 
 abbrev pub log_value : Log → LogValue
-log_value log = record { rules = log.rules; blocks = map block_of log.epochs.items }
+log_value log = record {
+  version = log.version;
+  rules = log.rules;
+  blocks = map block_of log.epochs.items;
+}

@@ -3,18 +3,18 @@
 ghost use Rattle.std.specs.Prelude.{◌≡◌, map, option_to_list, IfOk};
 ghost use Rattle.grid_model.specs.Boxes.{grid_box};
 ghost use Rattle.sat_model.specs.Fold.{first_boxes, taken_by, pieces};
-ghost use Rattle.live_boxes.specs.Folding.{StepsFold};
-ghost use Rattle.live_boxes.specs.LiveValues.{box_option, live_value};
-ghost use Rattle.logged_steps.specs.Steps.{steps_of};
-ghost use Rattle.paving_log.specs.CoverBoxes.{BlockFolds, kept_parts, cover_of};
+ghost use Rattle.subpaving.specs.Folding.{StepsFold};
+ghost use Rattle.subpaving.specs.LiveValues.{box_option, live_value};
+ghost use Rattle.step_columns.specs.Steps.{steps_of};
+ghost use Rattle.paving_log.specs.CoverBoxes.{BodyFolds, kept_parts, cover_of};
 ghost use Rattle.paving_log.specs.Values.{block_of};
 
 use crate::log::LogEpoch;
 use grid_model::{Box3, NoMemory};
-use live_boxes::Live;
-use logged_steps::LoggedSteps;
 use sat_model::Step;
 use std::alloc::{AllocError, Global};
+use step_columns::LoggedSteps;
+use subpaving::Live;
 
 /// The box that the step closes inside or at the edge.
 fn kept_by(live: &Live, step: &Step) -> Option<Box3>
@@ -50,12 +50,12 @@ fn boxes_kept(alloc: Global, root: &Box3, steps: &LoggedSteps) -> Result<Vec<Box
 /// two grid points or more: all this is so in a log that is judged to be right. Want of memory is
 /// the only error.
 pub fn cover_boxes(alloc: Global, epoch: &LogEpoch) -> Result<Vec<Box3>, NoMemory>
-    requires { BlockFolds (block_of epoch.now) (block_of epoch.now).root }
+    requires { BodyFolds (block_of epoch.now).body }
     ensures { IfOk result (λ boxes. map grid_box boxes.items
-        ≡ cover_of (block_of epoch.now) (block_of epoch.now).root) }
+        ≡ cover_of (block_of epoch.now).body) }
 {
-    match &epoch.root {
-        Some(root) => Ok(boxes_kept(alloc, root, &epoch.steps)?),
+    match &epoch.body {
+        Some(body) => Ok(boxes_kept(alloc, &body.root, &body.steps)?),
         None => Ok(Vec::new(alloc)),
     }
 }

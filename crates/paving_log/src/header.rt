@@ -1,13 +1,14 @@
 //! The numbers of the rules, and the first line of a block.
 
 ghost use Rattle.std.specs.Prelude.{◌≡◌};
-ghost use Rattle.log_words.specs.Words.{words_left, Reads};
+ghost use Rattle.log_tokens.specs.Words.{words_left, Reads};
 ghost use Rattle.paving_log.specs.Lines.{limits_words, LimitsFit, limits_of, header_words};
 ghost use Rattle.paving_log.specs.Lines.{HeaderFits};
+ghost use Rattle.paving_log.specs.Order.{has_pairs};
 
 use crate::limits::Limits;
 use crate::line::Header;
-use log_words::{Rest, count, is_ended, number, time};
+use log_tokens::{Rest, count, is_ended, number, time};
 use sat_model::Rules;
 
 /// The numbers of the rules of a log.
@@ -28,15 +29,15 @@ pub fn limits(rest: Rest<'_>) -> Option<Limits>
 }
 
 /// The rules that the first two lines give.
-pub fn rules(pairs: bool, limits: Limits) -> Rules
-    ensures pairs { result.pairs ≡ pairs }
+pub fn rules(version: u8, limits: Limits) -> Rules
+    ensures pairs { result.pairs ≡ has_pairs version }
     ensures limits { limits_of result ≡ limits }
 {
     Rules {
         outliers: limits.outliers,
         bisections: limits.bisections,
         width: limits.width,
-        pairs,
+        pairs: version == 3,
     }
 }
 

@@ -6,7 +6,7 @@ ghost use Rattle.paving_log.specs.declared.line.LineName.TheVariants as names;
 ghost use Rattle.paving_log.specs.Leading.{HasFields, HasStep};
 
 use crate::steps::{GREATEST_BOUND, GREATEST_CLOCK, LAST_ID};
-use log_words::{leading_amount, leading_count, leading_digit};
+use log_tokens::{leading_amount, leading_count, leading_digit};
 use sat_model::Step;
 
 /// The fields of a cut.

@@ -1,8 +1,10 @@
 //! The log of a paving, and its rows alone: the value, and its one text.
 #![tactic(auto)]
 
+mod closing_lines;
 mod cover;
 mod entries;
+mod events;
 mod header;
 mod leading_steps;
 mod limits;
@@ -13,6 +15,7 @@ mod order;
 mod own_tests;
 mod read;
 mod reading;
+mod renewal;
 mod rows;
 mod steps;
 mod take;
@@ -21,10 +24,13 @@ mod write;
 
 pub use cover::cover_boxes;
 pub use entries::rows_among;
-pub use log::{Log, LogEpoch, LogError};
+pub use log::{Body, Log, LogEpoch, LogError};
 pub use own_tests::{
     EPOCH_DIFFERS, LineFault, SATELLITE_DIFFERS, first_repeat, is_later, own_fault, rows_in, suits,
 };
+pub use renewal::Renewal;
 pub use sat_model::SatEntry;
 pub use texts::{read_log, read_rows};
-pub use write::{Line, done_line, epoch_line, head_lines, root_line, sat_line, step_line};
+pub use write::{
+    Line, done_line, epoch_line, head_lines, renew_line, root_line, sat_line, step_line,
+};

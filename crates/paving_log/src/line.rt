@@ -12,7 +12,7 @@ pub struct Header {
     pub n: u32,
 }
 
-/// The low and the high corner of a root.
+/// The low and the high corner of a root, or of the box of a renewal.
 #[derive(Clone, Copy, Debug, PartialEq, Eq)]
 pub struct Corners {
     pub lo: Pos,
@@ -22,21 +22,26 @@ pub struct Corners {
 /// A line.
 #[derive(Clone, Copy, Debug, PartialEq, Eq)]
 pub enum LogLine {
-    /// The version, which tells whether pairs of rows show boxes empty.
-    Version { pairs: bool },
+    /// The version, which tells whether pairs of rows show boxes empty, and whether rows may be
+    /// renewed.
+    Version(u8),
     Rules(Limits),
     Few(Header),
     Epoch(Header),
     Sat(SatEntry),
     Root(Corners),
     Step(Step),
+    /// The box of a renewal.
+    Renew(Corners),
     Done(u32),
 }
 
-/// A line behind the root of a log.
+/// A line behind the root of a log, but for those of renewed rows.
 #[derive(Clone, Copy, Debug, PartialEq, Eq)]
 pub enum ClosingLine {
     Step(Step),
+    /// The box of a renewal.
+    Renew(Corners),
     /// The number of splits.
     Done(u32),
 }
@@ -56,14 +61,22 @@ pub enum LineName {
     Out,
     In,
     Edge,
+    Renew,
     Done,
 }
 
-/// Which lines a text has: those of a log, or those of its rows alone, where each block with a root
-/// ends with the line of the root.
+/// What is read: a log, or its rows alone.
+#[derive(Clone, Copy, Debug, PartialEq, Eq)]
+pub enum Kind {
+    Log,
+    Rows,
+}
+
+/// Which lines a text has: those of a log, in which rows may be renewed or may not, or those of its
+/// rows alone, where each block with a root ends with the line of the root.
 #[derive(Clone, Copy, Debug, PartialEq, Eq)]
 pub enum Form {
-    Log,
+    Log { renews: bool },
     Rows,
 }
 
@@ -71,17 +84,18 @@ pub enum Form {
 #[derive(Clone, Copy, Debug, PartialEq, Eq)]
 pub enum Place {
     /// The line of the version.
-    First(Form),
+    First(Kind),
     /// The line of the rules.
     Second(Form),
     /// A block, or the end.
     Between(Form),
-    /// Behind so many satellite lines of a block.
-    Satellites(Form, usize),
+    /// In a block of so many usable satellites, behind so many satellite lines.
+    Satellites(Form, u32, usize),
     /// Behind so many satellite lines of a block of few satellites.
     Few(Form, usize),
-    /// Behind the root of a log.
-    Steps,
+    /// Behind the root of a log: whether rows may be renewed, of how many satellites, and how many
+    /// rows of a renewal are still to come.
+    Steps(bool, u32, u32),
 }
 
 /// Why a line doesn't fit.

@@ -1,12 +1,27 @@
 //! A log as a value, and why a text is none.
 
-ghost use Rattle.std.specs.Prelude.{◌≡◌, ◌≤◌, length, true, is_none};
+ghost use Rattle.std.specs.Prelude.{◌≡◌, ◌≤◌, length};
+ghost use Rattle.paving_log.specs.Renewing.{AreAmong, AreAmong-prop};
 ghost use Rattle.paving_log.specs.declared.log.LogError.TheVariants.{NoMemory};
 
+use crate::renewal::Renewal;
 use grid_model::Box3;
-use logged_steps::LoggedSteps;
 use sat_model::{Rules, SatEntry};
 use std::alloc::{AllocError, AllocFailed};
+use step_columns::LoggedSteps;
+
+/// How an epoch was paved.
+#[derive(Debug, Drop)]
+pub struct Body {
+    /// The search box.
+    pub root: Box3,
+    pub steps: LoggedSteps,
+    /// The renewals among the steps, in order.
+    pub renewals: Vec<Renewal>,
+    /// The number of splits.
+    pub done: u32,
+    pub ghost places: { AreAmong steps renewals.items } by { AreAmong-prop steps renewals.items },
+}
 
 /// What a log says of one epoch.
 #[derive(Debug, Drop)]
@@ -19,21 +34,29 @@ pub struct LogEpoch {
     pub ps: i128,
     /// The number of satellites that count.
     pub n: u32,
-    /// Too few satellites count, so nothing is paved.
-    pub few: bool,
     pub sats: Vec<SatEntry>,
-    /// The search box, none where there are too few satellites.
-    pub root: Option<Box3>,
-    pub steps: LoggedSteps,
-    /// The number of splits.
-    pub done: u32,
+    /// How it was paved, none where too few satellites count.
+    pub body: Option<Body>,
     pub ghost at_most: { length sats.items ≤ 64 },
-    pub ghost paved: { is_none root ≡ few },
 }
 
-/// The rules of a search and its epochs, in order.
+impl LogEpoch {
+    ghost use Rattle.sat_model.specs.Logs.{is_few};
+    ghost use Rattle.paving_log.specs.Values.{block_of};
+
+    /// Whether too few satellites count, so nothing is paved.
+    pub fn is_few(&self) -> bool
+        ensures { result ≡ is_few (block_of self.now) }
+    {
+        self.body.is_none()
+    }
+}
+
+/// The version of a log, the rules of its search, and its epochs in order.
 #[derive(Debug, Drop)]
 pub struct Log {
+    /// 1, 2 where rows may be renewed, or 3 where they may and pairs of rows show boxes empty.
+    pub version: u8,
     pub rules: Rules,
     pub epochs: Vec<LogEpoch>,
 }

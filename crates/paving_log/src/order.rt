@@ -2,10 +2,12 @@
 
 ghost use Rattle.std.specs.Prelude.{◌≡◌, Some, None, IfSome, IfNone};
 ghost use Rattle.paving_log.specs.declared.line.LineName.{LineName};
+ghost use Rattle.paving_log.specs.declared.line.Place.TheVariants as places;
 ghost use Rattle.paving_log.specs.Lines.{spelled};
-ghost use Rattle.paving_log.specs.Order.{next, place_behind_root};
+ghost use Rattle.paving_log.specs.Order.{has_version, form_of, may_come, next, place_behind_root};
 
-use crate::line::{Form, LineName, Place};
+use crate::line::{Form, Kind, LineName, LogLine, Place};
+use sat_model::SatEntry;
 
 /// The word's name, where it is a first word of some line.
 pub fn name_from(word: &[u8]) -> Option<LineName>
@@ -25,44 +27,104 @@ pub fn name_from(word: &[u8]) -> Option<LineName>
         b"out" => Some(LineName::Out),
         b"in" => Some(LineName::In),
         b"edge" => Some(LineName::Edge),
+        b"renew" => Some(LineName::Renew),
         b"done" => Some(LineName::Done),
         _ => None,
     }
 }
 
+/// Whether a line with this first word may come.
+pub fn may_come(place: Place, name: LineName) -> bool
+    ensures { result ≡ may_come place name }
+{
+    match (place, name) {
+        (Place::First(_), LineName::Gpscover)
+        | (Place::Second(_), LineName::Rules)
+        | (Place::Between(_) | Place::Few(_, _), LineName::Epoch | LineName::Few)
+        | (Place::Satellites(_, _, _), LineName::Root) => true,
+        (Place::Few(_, count), LineName::Skip) => count < 64,
+        (Place::Satellites(_, _, count), LineName::Sat | LineName::Skip) => count < 64,
+        (
+            Place::Steps(_, _, left),
+            LineName::Cut
+            | LineName::Split
+            | LineName::Out
+            | LineName::In
+            | LineName::Edge
+            | LineName::Done,
+        ) => left == 0,
+        (Place::Steps(renews, _, left), LineName::Renew) => renews && left == 0,
+        (Place::Steps(_, _, left), LineName::Sat) => 0 < left,
+        _ => false,
+    }
+}
+
+/// Whether rows alone, or a log, may have the version.
+fn has_version(kind: Kind, version: u8) -> bool
+    ensures { result ≡ has_version kind version }
+{
+    match kind {
+        Kind::Log => true,
+        Kind::Rows => version != 2,
+    }
+}
+
+/// Which lines a text of the version has.
+pub fn form_of(kind: Kind, version: u8) -> Form
+    ensures { result ≡ form_of kind version }
+{
+    match kind {
+        Kind::Log => Form::Log {
+            renews: 1 < version,
+        },
+        Kind::Rows => Form::Rows,
+    }
+}
+
 /// The place behind the line of a root.
-fn behind_root(form: Form) -> Place
-    ensures { result ≡ place_behind_root form }
+fn behind_root(form: Form, n: u32) -> Place
+    ensures { result ≡ place_behind_root form n }
 {
     match form {
-        Form::Log => Place::Steps,
+        Form::Log { renews } => Place::Steps(renews, n, 0),
         Form::Rows => Place::Between(Form::Rows),
     }
 }
 
-/// The place behind a line with this first word, where the line may come.
-pub fn place_behind(place: Place, name: LineName) -> Option<Place>
-    ensures { result ≡ next place name }
+/// The place behind a line behind the root of a log, where the line may come.
+fn behind_steps(renews: bool, n: u32, left: u32, line: &LogLine) -> Option<Place>
+    ensures { result ≡ next (places.Steps renews n left) line.now }
 {
-    match (place, name) {
-        (Place::First(form), LineName::Gpscover) => Some(Place::Second(form)),
-        (Place::Second(form), LineName::Rules) => Some(Place::Between(form)),
-        (Place::Between(form) | Place::Few(form, _), LineName::Epoch) => {
-            Some(Place::Satellites(form, 0))
+    match line {
+        LogLine::Step(_) if left == 0 => Some(Place::Steps(renews, n, 0)),
+        LogLine::Renew(_) if renews && left == 0 => Some(Place::Steps(renews, n, n)),
+        LogLine::Sat(SatEntry::Row(_)) if 0 < left => Some(Place::Steps(renews, n, left - 1)),
+        LogLine::Done(_) if left == 0 => Some(Place::Between(Form::Log { renews })),
+        _ => None,
+    }
+}
+
+/// The place behind a line, where the line may come.
+pub fn place_behind(place: Place, line: &LogLine) -> Option<Place>
+    ensures { result ≡ next place line.now }
+{
+    match (place, line) {
+        (Place::First(kind), LogLine::Version(version)) if has_version(kind, *version) => {
+            Some(Place::Second(form_of(kind, *version)))
         }
-        (Place::Between(form) | Place::Few(form, _), LineName::Few) => Some(Place::Few(form, 0)),
-        (Place::Few(form, count), LineName::Skip) if count < 64 => {
+        (Place::Second(form), LogLine::Rules(_)) => Some(Place::Between(form)),
+        (Place::Between(form) | Place::Few(form, _), LogLine::Epoch(header)) => {
+            Some(Place::Satellites(form, header.n, 0))
+        }
+        (Place::Between(form) | Place::Few(form, _), LogLine::Few(_)) => Some(Place::Few(form, 0)),
+        (Place::Few(form, count), LogLine::Sat(SatEntry::Skipped { .. })) if count < 64 => {
             Some(Place::Few(form, count + 1))
         }
-        (Place::Satellites(form, count), LineName::Sat | LineName::Skip) if count < 64 => {
-            Some(Place::Satellites(form, count + 1))
+        (Place::Satellites(form, n, count), LogLine::Sat(_)) if count < 64 => {
+            Some(Place::Satellites(form, n, count + 1))
         }
-        (Place::Satellites(form, _), LineName::Root) => Some(behind_root(form)),
-        (
-            Place::Steps,
-            LineName::Cut | LineName::Split | LineName::Out | LineName::In | LineName::Edge,
-        ) => Some(Place::Steps),
-        (Place::Steps, LineName::Done) => Some(Place::Between(Form::Log)),
+        (Place::Satellites(form, n, _), LogLine::Root(_)) => Some(behind_root(form, n)),
+        (Place::Steps(renews, n, left), _) => behind_steps(renews, n, left, line),
         _ => None,
     }
 }

@@ -65,10 +65,11 @@ fn head_fault(rules: &Rules, before: Option<u32>, epoch: &LogEpoch) -> Option<u8
     ensures { MatchOption result (HeadPasses rules.now before (block_of epoch.now))
         (λ number. HeadFails rules.now before (block_of epoch.now) number) }
 {
-    if !is_later(before, epoch.index) || !suits(epoch.few, rules.outliers, epoch.n) {
+    let few = epoch.is_few();
+    if !is_later(before, epoch.index) || !suits(few, rules.outliers, epoch.n) {
         return Some(EPOCH_DIFFERS);
     }
-    if !epoch.few && rows_in(&epoch.sats) != epoch.n as usize {
+    if !few && rows_in(&epoch.sats) != epoch.n as usize {
         return Some(SATELLITE_DIFFERS);
     }
     None

@@ -1,40 +1,50 @@
 //! The parts of a text, from left to right.
 
 ghost use Rattle.std.specs.Prelude.{◌≡◌, true, false, ◌≤◌, ◌++◌, [], ◌∷◌, map, length, IfOk, IfErr};
-ghost use Rattle.grid_model.specs.Boxes.{grid_box};
-ghost use Rattle.paving_log.specs.declared.line.Form.TheVariants as forms;
 ghost use Rattle.paving_log.specs.declared.line.LogLine.TheVariants as line;
 ghost use Rattle.paving_log.specs.declared.line.Place.TheVariants as place;
-ghost use Rattle.logged_steps.specs.Steps.{steps_of};
 ghost use Rattle.paving_log.specs.Lines.{HeaderFits};
-ghost use Rattle.paving_log.specs.Order.{place_behind_root};
-ghost use Rattle.paving_log.specs.Rows.{CornersFit, corners_of};
+ghost use Rattle.paving_log.specs.Order.{has_pairs, form_of, place_behind_root};
 ghost use Rattle.paving_log.specs.Taking.{Takes, TakesTo, Refuses, block_place, IsOpened};
 ghost use Rattle.paving_log.specs.Taking.{TakesBlocks};
-ghost use Rattle.paving_log.specs.Text.{head_lines, closing_lines, body_lines, ClosingFits};
+ghost use Rattle.paving_log.specs.Text.{head_lines, body_lines};
 ghost use Rattle.paving_log.specs.Text.{BlockFits};
 ghost use Rattle.paving_log.specs.Values.{block_of};
 
+use crate::closing_lines::{box_of, closing};
 use crate::header::rules;
-use crate::line::{ClosingLine, Corners, Form, LogLine, Place};
+use crate::line::{Corners, Form, Kind, LogLine, Place};
 use crate::lines::{Lines, Opening};
-use crate::log::{LogEpoch, LogError};
-use crate::take::{take_line, take_step};
-use grid_model::Box3;
-use logged_steps::LoggedSteps;
+use crate::log::{Body, LogEpoch, LogError};
+use crate::order::form_of;
+use crate::take::take_line;
 use sat_model::{Rules, SatEntry};
 use std::alloc::Global;
 
-/// The first two lines.
-pub fn head(form: Form, lines: Lines<'_>) -> Result<(Rules, Lines<'_>), LogError>
-    ensures taken { IfOk result
-        (λ t. Takes (place.First form) lines.entry (head_lines t.0) (place.Between form) t.1) }
-    ensures refused { IfErr result (Refuses (place.First form) lines.entry) }
+/// The first line, which gives the version.
+fn version(kind: Kind, lines: Lines<'_>) -> Result<(u8, Lines<'_>), LogError>
+    ensures taken { IfOk result (λ t. Takes (place.First kind) lines.entry (line.Version t.0 ∷ [])
+        (place.Second (form_of kind t.0)) t.1) }
+    ensures refused { IfErr result (Refuses (place.First kind) lines.entry) }
 {
-    let (version, _, lines) = take_line(lines, Place::First(form))?;
-    let (line, _, lines) = take_line(lines, Place::Second(form))?;
-    match (version, line) {
-        (LogLine::Version { pairs }, LogLine::Rules(limits)) => Ok((rules(pairs, limits), lines)),
+    let (line, _, left) = take_line(lines, Place::First(kind))?;
+    match line {
+        LogLine::Version(version) => Ok((version, left)),
+        _ => unreachable!(),
+    }
+}
+
+/// The first two lines: the version and the rules.
+pub fn head(kind: Kind, lines: Lines<'_>) -> Result<(u8, Rules, Lines<'_>), LogError>
+    ensures taken { IfOk result (λ t. Takes (place.First kind) lines.entry (head_lines t.0 t.1)
+        (place.Between (form_of kind t.0)) t.2) }
+    ensures pairs { IfOk result (λ t. t.1.pairs ≡ has_pairs t.0) }
+    ensures refused { IfErr result (Refuses (place.First kind) lines.entry) }
+{
+    let (version, lines) = version(kind, lines)?;
+    let (line, _, lines) = take_line(lines, Place::Second(form_of(kind, version)))?;
+    match line {
+        LogLine::Rules(limits) => Ok((version, rules(version, limits), lines)),
         _ => unreachable!(),
     }
 }
@@ -65,62 +75,25 @@ fn next_opening(form: Form, lines: Lines<'_>) -> Result<(Option<Opening>, Lines<
 fn satellites(
     alloc: Global,
     form: Form,
+    n: u32,
     lines: Lines<'_>,
 ) -> Result<(Vec<SatEntry>, Corners, Lines<'_>), LogError>
     ensures taken { IfOk result
-        (λ t. Takes (place.Satellites form 0) lines.entry (map line.Sat t.0.items ++ line.Root t.1
-        ∷ []) (place_behind_root form) t.2) }
+        (λ t. Takes (place.Satellites form n 0) lines.entry (map line.Sat t.0.items ++ line.Root t.1
+        ∷ []) (place_behind_root form n) t.2) }
     ensures at_most { IfOk result (λ t. length t.0.items ≤ 64) }
-    ensures refused { IfErr result (Refuses (place.Satellites form 0) lines.entry) }
+    ensures refused { IfErr result (Refuses (place.Satellites form n 0) lines.entry) }
 {
     let mut sats = Vec::new(alloc);
     let mut left = lines;
     'satellites: loop {
-        let (line, _, behind) = take_line(left, Place::Satellites(form, sats.len()))?;
+        let (line, _, behind) = take_line(left, Place::Satellites(form, n, sats.len()))?;
         left = behind;
         match line {
             LogLine::Sat(entry) => sats.push(entry)?,
             LogLine::Root(corners) => return Ok((sats, corners, left)),
             _ => unreachable!(),
         }
-    }
-}
-
-/// The steps of an epoch, and the number of splits behind them.
-fn steps(alloc: Global, lines: Lines<'_>) -> Result<(LoggedSteps, u32, Lines<'_>), LogError>
-    ensures taken { IfOk result
-        (λ t. Takes place.Steps lines.entry (map line.Step (steps_of t.0) ++ line.Done t.1 ∷ [])
-        (place.Between forms.Log) t.2) }
-    ensures fits { IfOk result (λ t. ClosingFits forms.Log (steps_of t.0) t.1) }
-    ensures refused { IfErr result (Refuses place.Steps lines.entry) }
-{
-    let mut steps = LoggedSteps::new(alloc);
-    let mut left = lines;
-    'steps: loop {
-        let (line, behind) = take_step(left)?;
-        left = behind;
-        match line {
-            ClosingLine::Step(step) => steps.push(step)?,
-            ClosingLine::Done(bisections) => return Ok((steps, bisections, left)),
-        }
-    }
-}
-
-/// What stands behind a root: the steps and the number of splits, and nothing in the rows form.
-fn closing(
-    alloc: Global,
-    form: Form,
-    lines: Lines<'_>,
-) -> Result<(LoggedSteps, u32, Lines<'_>), LogError>
-    ensures taken { IfOk result
-        (λ t. Takes (place_behind_root form) lines.entry (closing_lines form (steps_of t.0) t.1)
-        (place.Between form) t.2) }
-    ensures fits { IfOk result (λ t. ClosingFits form (steps_of t.0) t.1) }
-    ensures refused { IfErr result (Refuses (place_behind_root form) lines.entry) }
-{
-    match form {
-        Form::Log => steps(alloc, lines),
-        Form::Rows => Ok((LoggedSteps::new(alloc), 0, lines)),
     }
 }
 
@@ -166,17 +139,6 @@ fn few_satellites(
     Ok((sats, None, left))
 }
 
-/// The box with these corners.
-fn root_box(corners: Corners) -> Box3
-    requires { CornersFit corners }
-    ensures { corners_of (grid_box result) ≡ corners }
-{
-    Box3 {
-        lo: corners.lo,
-        hi: corners.hi,
-    }
-}
-
 /// The block of an epoch, behind its first line.
 fn paved_block(
     alloc: Global,
@@ -187,26 +149,30 @@ fn paved_block(
     requires paved { opening.few ≡ false }
     requires header { HeaderFits opening.header }
     ensures taken { IfOk result
-        (λ t. Takes (place.Satellites form 0) lines.entry (body_lines form (block_of t.0))
-        (place.Between form) t.1) }
+        (λ t. Takes (place.Satellites form opening.header.n 0) lines.entry
+        (body_lines form (block_of t.0)) (place.Between form) t.1) }
     ensures opened { IfOk result (λ t. IsOpened opening (block_of t.0)) }
     ensures fits { IfOk result (λ t. BlockFits form (block_of t.0)) }
-    ensures refused { IfErr result (Refuses (place.Satellites form 0) lines.entry) }
+    ensures refused { IfErr result
+        (Refuses (place.Satellites form opening.header.n 0) lines.entry) }
 {
-    let (mut sats, corners, left) = satellites(alloc, form, lines)?;
-    let (mut steps, done, left) = closing(alloc, form, left)?;
+    let (mut sats, corners, left) = satellites(alloc, form, opening.header.n, lines)?;
+    let (mut events, done, left) = closing(alloc, form, opening.header.n, left)?;
     sats.shrink_to_fit();
-    steps.shrink_to_fit();
+    events.shrink_to_fit();
+    let body = Body {
+        root: box_of(corners),
+        steps: events.steps,
+        renewals: events.renewals,
+        done,
+    };
     let epoch = LogEpoch {
         line: opening.line,
         index: opening.header.index,
         ps: opening.header.ps,
         n: opening.header.n,
-        few: false,
         sats,
-        root: Some(root_box(corners)),
-        steps,
-        done,
+        body: Some(body),
     };
     Ok((epoch, left))
 }
@@ -234,11 +200,8 @@ fn few_block(
         index: opening.header.index,
         ps: opening.header.ps,
         n: opening.header.n,
-        few: true,
         sats,
-        root: None,
-        steps: LoggedSteps::new(alloc),
-        done: 0,
+        body: None,
     };
     Ok((epoch, next, left))
 }
@@ -252,11 +215,12 @@ fn block(
 ) -> Result<(LogEpoch, Option<Opening>, Lines<'_>), LogError>
     requires { HeaderFits opening.header }
     ensures taken { IfOk result
-        (λ t. TakesTo form (block_place form opening.few) lines.entry
+        (λ t. TakesTo form (block_place form opening.few opening.header) lines.entry
         (body_lines form (block_of t.0)) t.1 t.2) }
     ensures opened { IfOk result (λ t. IsOpened opening (block_of t.0)) }
     ensures fits { IfOk result (λ t. BlockFits form (block_of t.0)) }
-    ensures refused { IfErr result (Refuses (block_place form opening.few) lines.entry) }
+    ensures refused { IfErr result
+        (Refuses (block_place form opening.few opening.header) lines.entry) }
 {
     if opening.few {
         return few_block(alloc, form, opening, lines);

@@ -1,16 +1,16 @@
 //! One line at its place.
 
 ghost use Rattle.std.specs.Prelude.{◌≡◌, IfOk, IfErr};
-ghost use Rattle.log_words.specs.Words.{words_left, Reads};
+ghost use Rattle.log_tokens.specs.Words.{words_left, Reads};
 ghost use Rattle.paving_log.specs.Lines.{LineFits, name_of, fields};
 ghost use Rattle.paving_log.specs.Faults.{FitsAt, Misfit};
 
 use crate::header::{header, limits};
 use crate::line::{Fault, LineName, LogLine, Place};
-use crate::order::{name_from, place_behind};
+use crate::order::{may_come, name_from, place_behind};
 use crate::rows::{root, row, skipped};
 use crate::steps::{cut, edge, inside, out, split};
-use log_words::{Rest, count, is_ended, word};
+use log_tokens::{Rest, count, is_ended, word};
 use sat_model::SatEntry;
 
 /// The one field of the first line.
@@ -18,15 +18,11 @@ fn version(rest: Rest<'_>) -> Option<LogLine>
     ensures { Reads (λ l. LineFits l × (name_of l ≡ LineName.Gpscover)) fields
         (words_left rest.entry) result }
 {
-    let (version, rest) = word(rest)?;
+    let (version, rest) = count(rest, 1, 3)?;
     if !is_ended(rest) {
         return None;
     }
-    match version {
-        b"1" => Some(LogLine::Version { pairs: false }),
-        b"3" => Some(LogLine::Version { pairs: true }),
-        _ => None,
-    }
+    Some(LogLine::Version(version as u8))
 }
 
 /// The number of splits.
@@ -58,6 +54,7 @@ fn fields_of(name: LineName, rest: Rest<'_>) -> Option<LogLine>
         LineName::Out => Some(LogLine::Step(out(rest)?)),
         LineName::In => Some(LogLine::Step(inside(rest)?)),
         LineName::Edge => Some(LogLine::Step(edge(rest)?)),
+        LineName::Renew => Some(LogLine::Renew(root(rest)?)),
         LineName::Done => done(rest),
     }
 }
@@ -73,11 +70,14 @@ pub fn line_at(place: Place, here: &[u8]) -> Result<(LogLine, Place), Fault>
     let Some(name) = name_from(word) else {
         return Err(Fault::Word);
     };
-    let Some(after) = place_behind(place, name) else {
+    if !may_come(place, name) {
         return Err(Fault::Word);
+    }
+    let Some(line) = fields_of(name, rest) else {
+        return Err(Fault::Fields);
     };
-    match fields_of(name, rest) {
-        Some(line) => Ok((line, after)),
+    match place_behind(place, &line) {
+        Some(after) => Ok((line, after)),
         None => Err(Fault::Fields),
     }
 }

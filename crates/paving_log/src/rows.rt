@@ -4,14 +4,14 @@ ghost use Rattle.std.specs.Prelude.{◌≡◌, false};
 ghost use Rattle.grid_model.specs.Sizes.{IsErrorSize};
 ghost use Rattle.gnss_model.specs.declared.satellites.Skip.{Skip};
 ghost use Rattle.paving_log.specs.declared.line.LineName.TheVariants as names;
-ghost use Rattle.log_words.specs.Words.{words_left, Reads};
+ghost use Rattle.log_tokens.specs.Words.{words_left, Reads};
 ghost use Rattle.paving_log.specs.Rows.{are_ends, sure_words, AreSure, row_words, RowFits};
 ghost use Rattle.paving_log.specs.Rows.{entry_words, EntryFits, root_words, CornersFit};
 ghost use Rattle.paving_log.specs.Lines.{entry_name};
 
 use crate::line::Corners;
 use grid_model::Span;
-use log_words::{Rest, amount, is_ended, place, satellite, skip, span};
+use log_tokens::{Rest, amount, is_ended, place, satellite, skip, span};
 use sat_model::{Row, SatEntry};
 
 /// The greatest amount of a satellite's coordinate and of a range, in um.
@@ -94,7 +94,7 @@ pub fn skipped(rest: Rest<'_>) -> Option<SatEntry>
     Some(SatEntry::Skipped { sat, skip })
 }
 
-/// The corners of the root of an epoch.
+/// The corners of the root of an epoch, or of the box of a renewal.
 pub fn root(rest: Rest<'_>) -> Option<Corners>
     ensures { Reads CornersFit root_words (words_left rest.entry) result }
 {

@@ -2,10 +2,10 @@
 
 ghost use Rattle.std.specs.Prelude.{◌≡◌};
 ghost use Rattle.paving_log.specs.declared.line.LineName.TheVariants as names;
-ghost use Rattle.log_words.specs.Words.{words_left, Reads};
+ghost use Rattle.log_tokens.specs.Words.{words_left, Reads};
 ghost use Rattle.paving_log.specs.Lines.{step_words, step_name, StepFits};
 
-use log_words::{Rest, amount, count, is_ended, span};
+use log_tokens::{Rest, amount, count, is_ended, span};
 use sat_model::Step;
 
 /// The greatest number of a box.

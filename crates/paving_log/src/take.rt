@@ -67,27 +67,41 @@ pub fn take_line(lines: Lines<'_>, place: Place) -> Result<(LogLine, Place, Line
 }
 
 /// The next line behind the root of a log, word by word, and what is left.
-fn take_closing(lines: Lines<'_>) -> Result<(ClosingLine, Lines<'_>), LogError>
+fn take_closing(
+    lines: Lines<'_>,
+    renews: bool,
+    n: u32,
+) -> Result<(ClosingLine, Lines<'_>), LogError>
     ensures taken { IfOk result
-        (λ t. Takes place.Steps lines.entry (closing_line t.0 ∷ []) (behind_closing t.0) t.1) }
-    ensures fails { IfErr result (LineFails place.Steps lines.entry.rest.now lines.entry.number) }
+        (λ t. Takes (place.Steps renews n 0) lines.entry (closing_line t.0 ∷ [])
+        (behind_closing renews n t.0) t.1) }
+    ensures fails { IfErr result
+        (LineFails (place.Steps renews n 0) lines.entry.rest.now lines.entry.number) }
 {
-    let (line, _, left) = take_line(lines, Place::Steps)?;
+    let (line, _, left) = take_line(lines, Place::Steps(renews, n, 0))?;
     match line {
         LogLine::Step(step) => Ok((ClosingLine::Step(step), left)),
+        LogLine::Renew(corners) => Ok((ClosingLine::Renew(corners), left)),
         LogLine::Done(bisections) => Ok((ClosingLine::Done(bisections), left)),
         _ => unreachable!(),
     }
 }
 
-/// The next line behind the root of a log, which has to fit there, and what is left.
-pub fn take_step(lines: Lines<'_>) -> Result<(ClosingLine, Lines<'_>), LogError>
+/// The next line behind the root of a log, but for those of renewed rows, which has to fit there,
+/// and what is left.
+pub fn take_step(
+    lines: Lines<'_>,
+    renews: bool,
+    n: u32,
+) -> Result<(ClosingLine, Lines<'_>), LogError>
     ensures taken { IfOk result
-        (λ t. Takes place.Steps lines.entry (closing_line t.0 ∷ []) (behind_closing t.0) t.1) }
-    ensures fails { IfErr result (LineFails place.Steps lines.entry.rest.now lines.entry.number) }
+        (λ t. Takes (place.Steps renews n 0) lines.entry (closing_line t.0 ∷ [])
+        (behind_closing renews n t.0) t.1) }
+    ensures fails { IfErr result
+        (LineFails (place.Steps renews n 0) lines.entry.rest.now lines.entry.number) }
 {
     let Some((step, rest)) = leading_step(lines.rest) else {
-        return take_closing(lines);
+        return take_closing(lines, renews, n);
     };
     let left = Lines {
         rest,

@@ -8,30 +8,35 @@ ghost use Rattle.paving_log.specs.declared.log.LogError.TheVariants as error;
 ghost use Rattle.paving_log.specs.Answers.{GivesLog, GivesFault};
 ghost use Rattle.paving_log.specs.Faults.{FaultFrom, FirstFault};
 ghost use Rattle.paving_log.specs.RowsText.{IsSpelling, IsRowsText, FirstRowsFault, ArePavable};
-ghost use Rattle.paving_log.specs.Text.{IsLogText};
+ghost use Rattle.paving_log.specs.Text.{IsLogText, AreUnrenewed};
 ghost use Rattle.paving_log.specs.Values.{log_value};
 
-use crate::line::Form;
+use crate::line::Kind;
 use crate::lines::Lines;
 use crate::log::{Log, LogError};
+use crate::order::form_of;
 use crate::own_tests::first_own_fault;
 use crate::read::{blocks, head};
 use std::alloc::Global;
 
-/// The value that the text spells in this form, or the first line that doesn't fit.
-fn read_text(alloc: Global, form: Form, bytes: &[u8]) -> Result<Log, LogError>
+/// The log that the text spells, or its rows alone, or the first line that doesn't fit.
+fn read_text(alloc: Global, kind: Kind, bytes: &[u8]) -> Result<Log, LogError>
     requires { length bytes.now ≤ 4000000000 }
-    ensures value { IfOk result (λ log. IsSpelling form (log_value log) bytes.now) }
+    ensures value { IfOk result (λ log. IsSpelling kind (log_value log) bytes.now) }
     ensures fault { IfErr result (λ e. (e ≡ error.NoMemory)
-        ⊎ FaultFrom (place.First form) bytes.now 1 e) }
+        ⊎ FaultFrom (place.First kind) bytes.now 1 e) }
 {
     let lines = Lines {
         rest: bytes,
         number: 1,
     };
-    let (rules, left) = head(form, lines)?;
-    let epochs = blocks(alloc, form, left)?;
-    Ok(Log { rules, epochs })
+    let (version, rules, left) = head(kind, lines)?;
+    let epochs = blocks(alloc, form_of(kind, version), left)?;
+    Ok(Log {
+        version,
+        rules,
+        epochs,
+    })
 }
 
 /// Reads a log from its text. The text is read once from left to right, and what is read takes
@@ -46,8 +51,11 @@ pub fn read_log(alloc: Global, bytes: &[u8]) -> Result<Log, LogError>
     ensures exact { (log : LogValue) → IsLogText log bytes.now → GivesLog log result }
     // A text with a fault is refused with its first, unless memory runs out.
     ensures first { (e : LogError) → FirstFault bytes.now e → GivesFault e result }
+    // In a log of version 1 no rows are renewed.
+    ensures steps_alone { IfOk result (λ log. log.version ≡ 1 →
+        AreUnrenewed (log_value log).blocks) }
 {
-    read_text(alloc, Form::Log, bytes)
+    read_text(alloc, Kind::Log, bytes)
 }
 
 /// The rows that the text spells, or its first fault.
@@ -56,7 +64,7 @@ fn tested_rows(alloc: Global, bytes: &[u8]) -> Result<Log, LogError>
     ensures value { IfOk result (λ log. IsRowsText (log_value log) bytes.now) }
     ensures fault { IfErr result (λ e. (e ≡ error.NoMemory) ⊎ FirstRowsFault bytes.now e) }
 {
-    let log = read_text(alloc, Form::Rows, bytes)?;
+    let log = read_text(alloc, Kind::Rows, bytes)?;
     match first_own_fault(&log) {
         Some(line) => Err(LogError::BadLog { line, kind: 5 }),
         None => Ok(log),

@@ -8,10 +8,10 @@ ghost use Rattle.sat_model.specs.Logs.{sat_of};
 ghost use Rattle.grid_model.specs.Sizes.{IsErrorSize};
 ghost use Rattle.paving_log.specs.declared.line.LogLine.TheVariants as line;
 ghost use Rattle.sat_model.specs.declared.rows.SatEntry.TheVariants as entry;
-ghost use Rattle.log_words.specs.Words.{joined};
-ghost use Rattle.log_words.specs.Fields.{span_words};
-ghost use Rattle.paving_log.specs.Rows.{corners_of, error_words};
-ghost use Rattle.paving_log.specs.Lines.{version_word, line_text, text_of};
+ghost use Rattle.log_tokens.specs.Words.{joined};
+ghost use Rattle.log_tokens.specs.Fields.{span_words};
+ghost use Rattle.paving_log.specs.Rows.{corners_of, root_words, error_words};
+ghost use Rattle.paving_log.specs.Lines.{line_text, text_of};
 ghost use Rattle.paving_log.specs.Text.{first_line, head_lines};
 
 use crate::rows::has_ends;
@@ -135,21 +135,13 @@ pub fn step_line(step: &Step) -> Line
     }
 }
 
-/// The version of a log, by whether pairs of rows show boxes empty.
-fn version_word(pairs: bool) -> &'static str
-    ensures word { result.now ≡ version_word pairs }
-    ensures length { length result.now ≡ 1 }
-{
-    if pairs { "3" } else { "1" }
-}
-
-/// The two lines of the head.
-pub fn head_lines(rules: &Rules) -> Line
-    ensures { result.bytes ≡ text_of (head_lines rules.now) }
+/// The two lines of the head. The version tells whether the rules have pairs.
+pub fn head_lines(version: u8, rules: &Rules) -> Line
+    ensures { result.bytes ≡ text_of (head_lines version rules.now) }
 {
     let mut line = Line::new();
-    line.push_str("gpscover ");
-    line.push_str(version_word(rules.pairs));
+    line.push_str("gpscover");
+    push_number(&mut line, i64::from(version));
     line.push_str("\nrules");
     push_numbers(
         &mut line,
@@ -201,14 +193,35 @@ fn push_pos(line: &mut Line, point: Pos)
     push_three(line, point.x, point.y, point.z);
 }
 
+/// The low and the high corner of a box.
+fn push_box(line: &mut Line, part: &Box3)
+    requires { length line.old.bytes ≤ 100 }
+    ensures pushed { line.new.bytes ≡ line.old.bytes ++ 32
+        ∷ joined (root_words (corners_of (grid_box part.now))) }
+    ensures length { length line.new.bytes ≤ length line.old.bytes + 126 }
+{
+    push_pos(line, part.lo);
+    push_pos(line, part.hi);
+}
+
+/// The line of the box of a renewal. The satellite lines of its rows stand behind it.
+pub fn renew_line(part: &Box3) -> Line
+    ensures { result.bytes ≡ line_text (line.Renew (corners_of (grid_box part.now))) ++ 10 ∷ [] }
+{
+    let mut line = Line::new();
+    line.push_str("renew");
+    push_box(&mut line, part);
+    line.push_str("\n");
+    line
+}
+
 /// The line of a root: its low and its high corner.
 pub fn root_line(root: &Box3) -> Line
     ensures { result.bytes ≡ line_text (line.Root (corners_of (grid_box root.now))) ++ 10 ∷ [] }
 {
     let mut line = Line::new();
     line.push_str("root");
-    push_pos(&mut line, root.lo);
-    push_pos(&mut line, root.hi);
+    push_box(&mut line, root);
     line.push_str("\n");
     line
 }

@@ -18,7 +18,7 @@ use Rattle.rinex_nav.specs.Reading.{records_of}
 use Rattle.rinex_nav.specs.Records.{Broadcast, is_read, further_text, further_line, record_from}
 use Rattle.rinex_nav.specs.Whole.{begins_record, from_first_lines, IsRecordOf, kept_of, IsWholeOf}
 use Rattle.rinex_nav.specs.declared.record.NavRecord.{NavRecord}
-use Rattle.grid_model.proofs.BoolLemmas.{not_true}
+use Rattle.std.proofs.lemmas.Bool.{false_from_ne_true as not_true}
 use Rattle.rinex_text.proofs.OnlyLemmas.{ok_same as same_ok}
 
 -- ---- the lines of a record

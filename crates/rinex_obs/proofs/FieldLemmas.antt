@@ -6,7 +6,7 @@ use Rattle.exact_decimal.specs.Reading.{Reads}
 use Rattle.exact_decimal.specs.declared.decimal.BadNumber.{BadNumber}
 use Rattle.exact_decimal.specs.declared.decimal.Decimal.{Decimal}
 use Rattle.rinex_obs.specs.Epochs.{IsObserved, IsOtherSystem}
-use Rattle.grid_model.proofs.BoolLemmas.{not_both_ways as both_ways}
+use Rattle.std.proofs.lemmas.Bool.{both_ways}
 
 module _ (read : Result (Option Decimal) BadNumber) (field there : List ℕ) (same : field ≡ there) (numbers : (digits ten : ℤ) → Reads read digits ten ↔ IsFixed field digits ten) where
   pub zero_observed : (number : Decimal) → read ≡ Ok (Some number) → number.digits ≡ pos 0 → IsObserved there None
@@ -27,4 +27,4 @@ module _ (read : Result (Option Decimal) BadNumber) (field there : List ℕ) (sa
   not_observed e is blank (Some number) of = not_fixed e is number.digits number.ten of.0
 
 pub not_other : (tested both again : Bool) (letter byte : ℕ) → IsTrue tested ↔ IsOtherSystem both letter → letter ≡ byte → both ≡ again → tested ≡ false → IsOtherSystem again byte → ⊥
-not_other tested both again letter byte is same read fails other = both_ways tested (is.1 (rw (same, read) other)) fails
+not_other tested both again letter byte is same read fails other = both_ways tested fails (is.1 (rw (same, read) other))

@@ -18,7 +18,7 @@ use Rattle.rinex_obs.specs.Epochs.{IsSeconds, IsTag, flag_of, IsFlag, IsLineCoun
 use Rattle.rinex_obs.specs.declared.head.Head.TheVariants.{Epoch, Event}
 use Rattle.rinex_obs.specs.Reading.{AreTenths}
 use Rattle.rinex_obs.proofs.OnlyLemmas.{seconds_only}
-use Rattle.grid_model.proofs.BoolLemmas.{not_both_ways as both_ways}
+use Rattle.std.proofs.lemmas.Bool.{both_ways}
 
 module _ (read : Result (Option Decimal) BadNumber) (field there : List ℕ) (same : field ≡ there) (numbers : (digits ten : ℤ) → Reads read digits ten ↔ IsFixed field digits ten) where
   pub seconds_are : (number : Decimal) (tenths : ℕ) → read ≡ Ok (Some number) → AreTenths number tenths → IsSeconds there tenths
@@ -61,7 +61,7 @@ none_on P Q on (Some n) h = h
 
 pub count_of_lines : (field there : List ℕ) (blank : Bool) (lines : ℕ) → field ≡ there → blank ≡ list_all is_blank field → blank ≡ false → IsLineCount there lines → IsCount there lines
 count_of_lines field there blank lines same test solid is = elim is [
-  | inl (blanks, none) ↦ absurd (both_ways (list_all is_blank there) blanks (rw same at (sym test ∙ solid)))
+  | inl (blanks, none) ↦ absurd (both_ways (list_all is_blank there) (rw same at (sym test ∙ solid)) blanks)
   | inr (other, count) ↦ count
 ]
 

@@ -30,7 +30,7 @@ use Rattle.rinex_obs.specs.declared.obs.Obs.{Obs}
 use Rattle.rinex_obs.specs.declared.obs.SatObs.{SatObs}
 use Rattle.rinex_obs.proofs.FactLemmas.{Give, given, on_test, on_where, on_either, on_read, on_then, on_line, on_more, has_places}
 use Rattle.rinex_obs.proofs.JoinedLemmas.{Walks, AreTypesBehind, walks_first, joined, solid_walk}
-use Rattle.grid_model.proofs.BoolLemmas.{not_both_ways as no_epoch}
+use Rattle.std.proofs.lemmas.Bool.{both_ways as no_epoch}
 
 -- ---- one for one
 
@@ -201,7 +201,7 @@ block_of wanted count line (Epoch tag lines) number more is =
     let all = add_all wanted lines [] number more (Ok sats) l in
     let epoch : Observed = record { index = count + 1; tag = tag; sats = sats } in
     given (IsBlockOf wanted line more) (record { epochs = epoch ∷ []; lines = lines }) (record {
-      part = is_part (have_both wanted) line lines more is.0 all.enough all.short (λ high looked. absurd (no_epoch _ is.1 high));
+      part = is_part (have_both wanted) line lines more is.0 all.enough all.short (λ high looked. absurd (no_epoch _ high is.1));
       epochs = kept (IsEpochOf wanted) _ (record { head = line; lines = take lines more }) epoch is.1
           (record { tag = is.2; sats = subst (OneForOne (IsSeenOn wanted) (filter (is_of_read (have_both wanted)) (take lines more))) (sym all.after_is) all.seen });
     }))

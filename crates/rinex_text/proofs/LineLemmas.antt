@@ -1,12 +1,11 @@
 -- The lines of a text, from its first LF.
 use Rattle.std.proofs.Common.{◌≡◌, ℕ, zero, suc, ◌+◌, ◌-◌, ◌<◌, true, false, List, [], ◌∷◌, ◌++◌, length, get_or, take, drop, refl, sym, ap, ◌∙◌, arith, inl, inr, subst, add-one}
 use Rattle.std.specs.Prelude.{nat_eq, ◌==◌}
-use Rattle.std.proofs.lemmas.Bool.{cases_Bool, eqb-true}
+use Rattle.std.proofs.lemmas.Bool.{cases_Bool, eqb-true, false_from_ne_true as not_true}
 use Rattle.std.proofs.lemmas.List.{length-take-le}
 use Rattle.std.proofs.Math.Seq.{take-length}
 use Rattle.rinex_text.specs.Lines.{with_ends, without_end, without_lf, lines_of}
 use Rattle.rinex_text.specs.LineEnds.{ends_with_cr, without_cr}
-use Rattle.grid_model.proofs.BoolLemmas.{not_true}
 use Rattle.grid_model.proofs.ListLemmas.{cut_at}
 
 -- no byte is LF

@@ -14,6 +14,7 @@ returns-clause-settings c = record {
     bisections = c.in_ok-search.ensures.value.bisections;
     width = c.in_ok-search.ensures.value.width;
     max_age = c.in_ok-search.ensures.value.max_age;
+    renew = c.in_ok-search.ensures.value.renew;
     pairs = c.in_ok-search.ensures.value.pairs;
     signal = c.in_ok-mode.ensures.value;
     receiver = c.in_ok-bounds.ensures.common.receiver;

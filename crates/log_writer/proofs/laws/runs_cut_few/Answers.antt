@@ -4,4 +4,4 @@ use Rattle.log_writer.proofs.RunSizes.{run_at_most}
 use Rattle.log_writer.proofs.laws.runs_cut_few.Goals as goal
 
 pub returns : goal.returns
-returns c test rules steps run = run_at_most test rules (grid_box c.args._root.now) steps run (box3_fits c.args._root.now)
+returns g c test rules events run = run_at_most (g.M.Renewals.maker c.args._maker.now) test rules (grid_box c.args._root.now) events run (box3_fits c.args._root.now)

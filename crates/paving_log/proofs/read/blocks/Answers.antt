@@ -34,10 +34,10 @@ returns-in_err-epoch-clause-refused c =
     let p = err_from_is_err_and c.from_residual-in_err-epoch.result c.from_residual-in_err-epoch.ensures.1 in
     let o = c.in-Some.opening in
     let so_far = opened c.args.form c.args.lines c.each.left (map block_of c.each.epochs.items) c.each.next o c.in-Some.is c.each.invariant in
-    rw (p.1, p.2) (refuses_behind (place.Between c.args.form) (block_place c.args.form o.few) c.args.lines c.each.left (flat_map (block_lines c.args.form) (map block_of c.each.epochs.items) ++ first_line o.few o.header ∷ []) _ so_far.taken.taken c.in_err-epoch.ensures.refused)
+    rw (p.1, p.2) (refuses_behind (place.Between c.args.form) (block_place c.args.form o.few o.header) c.args.lines c.each.left (flat_map (block_lines c.args.form) (map block_of c.each.epochs.items) ++ first_line o.few o.header ∷ []) _ so_far.taken.taken c.in_err-epoch.ensures.refused)
 
-smaller : (f : Form) (mid new : Lines) (ls : List LogLine) (here next : Option Opening) (o : Opening) → here ≡ Some o → TakesTo f (block_place f o.few) mid ls next new → left_over next new < left_over here mid
-smaller f mid new ls here next o is taken = rw is (block_takes f (block_place f o.few) mid new ls next taken)
+smaller : (f : Form) (mid new : Lines) (ls : List LogLine) (here next : Option Opening) (o : Opening) → here ≡ Some o → TakesTo f (block_place f o.few o.header) mid ls next new → left_over next new < left_over here mid
+smaller f mid new ls here next o is taken = rw is (block_takes f (block_place f o.few o.header) mid new ls next taken)
 
 pub each-smaller : goal.each-smaller
 each-smaller c = smaller c.args.form c.each.left c.in_ok-epoch.behind (body_lines c.args.form (block_of c.in_ok-epoch.epoch)) c.each.next c.in_ok-epoch.after c.in-Some.opening c.in-Some.is c.in_ok-epoch.ensures.taken

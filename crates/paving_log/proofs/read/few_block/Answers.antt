@@ -1,7 +1,7 @@
-use Rattle.std.proofs.Common.{◌≡◌, refl, sym, subst, to_z, of_z, arith}
+use Rattle.std.proofs.Common.{◌≡◌, sym, subst, to_z, of_z, arith}
 use mir.Syntax.{w128}
 use Rattle.std.proofs.lemmas.Int.{ints}
-use Rattle.log_words.specs.Fields.{IsTime}
+use Rattle.log_tokens.specs.Fields.{IsTime}
 use Rattle.paving_log.proofs.FitLemmas.{few_fit}
 use Rattle.paving_log.proofs.read.few_block.Goals as goal
 
@@ -15,5 +15,5 @@ returns-clause-fits c =
       header = record { index = c.requires.header.index; ps = subst IsTime (sym same) time; n = c.requires.header.n };
       sats = sats.0;
       at_most = c.in_ok-sats.ensures.at_most;
-      body = (refl, sats.1, c.new.ensures, refl);
+      body = sats.1;
     }

@@ -3,8 +3,8 @@ use Rattle.std.specs.Fmt.{signed_decimal}
 use Rattle.sat_model.specs.declared.steps.Step.{Step}
 use Rattle.sat_model.specs.declared.steps.Step.TheVariants.{Cut}
 use Rattle.paving_log.specs.declared.line.LineName.TheVariants as names
-use Rattle.log_words.specs.Words.{words_left}
-use Rattle.log_words.specs.Fields.{count_words, number_words, IsFromTo, IsCountFromTo}
+use Rattle.log_tokens.specs.Words.{words_left}
+use Rattle.log_tokens.specs.Fields.{count_words, number_words, IsFromTo, IsCountFromTo}
 use Rattle.paving_log.specs.Lines.{step_words, step_name, StepFits}
 use Rattle.paving_log.proofs.steps.cut.Goals as goal
 

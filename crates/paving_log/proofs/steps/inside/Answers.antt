@@ -4,8 +4,8 @@ use Rattle.grid_model.specs.declared.spans.Span.{Span}
 use Rattle.sat_model.specs.declared.steps.Step.{Step}
 use Rattle.sat_model.specs.declared.steps.Step.TheVariants.{Inside}
 use Rattle.paving_log.specs.declared.line.LineName.TheVariants as names
-use Rattle.log_words.specs.Words.{words_left}
-use Rattle.log_words.specs.Fields.{count_words, number_words, IsFromTo, span_words, IsSpanWithin}
+use Rattle.log_tokens.specs.Words.{words_left}
+use Rattle.log_tokens.specs.Fields.{count_words, number_words, IsFromTo, span_words, IsSpanWithin}
 use Rattle.paving_log.specs.Lines.{step_words, step_name, StepFits}
 use Rattle.paving_log.proofs.steps.inside.Goals as goal
 

@@ -2,7 +2,7 @@ use Rattle.std.proofs.Common.{◌≡◌, ℕ, true, false, List, ◌∷◌, ◌+
 use Rattle.std.specs.Prelude.{ℤ}
 use Rattle.std.specs.Fmt.{signed_decimal}
 use Rattle.std.proofs.lemmas.Int.{ints}
-use Rattle.log_words.specs.Words.{joined}
+use Rattle.log_tokens.specs.Words.{joined}
 use Rattle.paving_log.specs.Rows.{are_ends, error_words}
 use Rattle.paving_log.proofs.write.push_bounds.Goals as goal
 use Rattle.grid_model.specs.Sizes.{IsErrorSize}

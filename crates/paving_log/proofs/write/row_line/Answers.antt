@@ -1,6 +1,6 @@
 use Rattle.std.proofs.Common.{◌≡◌, ℕ, ◌+◌, ◌/◌, ◌%◌, List, [], ◌∷◌, ◌++◌, append_assoc}
 use Rattle.std.specs.Fmt.{signed_decimal}
-use Rattle.log_words.specs.Words.{joined}
+use Rattle.log_tokens.specs.Words.{joined}
 use Rattle.paving_log.specs.Rows.{error_words}
 use Rattle.paving_log.proofs.write.row_line.Goals as goal
 

@@ -6,7 +6,7 @@ use Rattle.rinex_nav.specs.Files.{BeginsRecord}
 use Rattle.rinex_nav.specs.Reading.{listed_of}
 use Rattle.rinex_nav.proofs.RecordLemmas.{record_fault, record_on, long_fault, all_read, listed_one}
 use Rattle.rinex_nav.proofs.read.read_records.Goals as goal
-use Rattle.grid_model.proofs.BoolLemmas.{not_both_ways as both_ways}
+use Rattle.std.proofs.lemmas.Bool.{both_ways}
 
 pub returns-in_err-found-clause-fault : goal.returns-in_err-found-clause-fault
 returns-in_err-found-clause-fault c =
@@ -32,7 +32,7 @@ returns-then-not-is_short-clause-fault c =
     rw c.new-refusal.ensures
     (c.lines.invariant.reads _ (long_fault c.args.both _ _ _ _ _ c.in-Some.ensures.line
     (λ b. let e : c.is_read.result ≡ true = c.is_read.ensures ∙ rw c.column.ensures b in let f : c.is_read.result ≡ false = c.if-is_read.false in absurd cc)
-    (λ s. both_ways _ (c.is_short.ensures.1 s) c.if-not-is_short.true)))
+    (λ s. both_ways _ c.if-not-is_short.true (c.is_short.ensures.1 s))))
 
 pub returns-clause-records : goal.returns-clause-records
 returns-clause-records c = all_read c.args.both _ _ _ _ _ _ c.in_default.ensures.end c.lines.invariant.reads

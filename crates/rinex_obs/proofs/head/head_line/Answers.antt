@@ -3,14 +3,14 @@ use mir.Syntax.{w128}
 use Rattle.rinex_text.specs.Reading.{plain_line}
 use Rattle.rinex_obs.proofs.HeadLemmas.{no_mark, no_flag, no_count, is_event, no_date, too_many, is_epoch}
 use Rattle.rinex_obs.proofs.head.head_line.Goals as goal
-use Rattle.grid_model.proofs.BoolLemmas.{not_both_ways as both_ways}
+use Rattle.std.proofs.lemmas.Bool.{both_ways}
 
 pub returns-then-not-is_short-clause-line : goal.returns-then-not-is_short-clause-line
-returns-then-not-is_short-clause-line c = inr (λ s. both_ways _ (c.is_short.ensures.1 s) c.if-not-is_short.true, refl)
+returns-then-not-is_short-clause-line c = inr (λ s. both_ways _ c.if-not-is_short.true (c.is_short.ensures.1 s), refl)
 
 pub returns-then-not-is_printable_text-clause-line : goal.returns-then-not-is_printable_text-clause-line
 returns-then-not-is_printable_text-clause-line c =
-    inl (c.is_short.ensures.0 c.if-not-is_short.false, inr (λ p. both_ways _ p (sym c.is_printable_text.ensures ∙ c.if-not-is_printable_text.true), refl))
+    inl (c.is_short.ensures.0 c.if-not-is_short.false, inr (λ p. both_ways _ (sym c.is_printable_text.ensures ∙ c.if-not-is_printable_text.true) p, refl))
 
 pub returns-then-column-ne62-clause-line : goal.returns-then-column-ne62-clause-line
 returns-then-column-ne62-clause-line c =
@@ -20,7 +20,7 @@ returns-then-column-ne62-clause-line c =
 pub returns-then-not-is_flag-clause-line : goal.returns-then-not-is_flag-clause-line
 returns-then-not-is_flag-clause-line c =
     no_flag c.args.count (plain_line c.args.line) (c.is_short.ensures.0 c.if-not-is_short.false) (sym c.is_printable_text.ensures ∙ c.if-not-is_printable_text.false)
-    (sym c.column.ensures ∙ c.if-column-ne62.false) c.flag_digit-flag.result c.flag_digit-flag.ensures (λ f. both_ways _ (c.is_flag.ensures.1 f) c.if-not-is_flag.true)
+    (sym c.column.ensures ∙ c.if-column-ne62.false) c.flag_digit-flag.result c.flag_digit-flag.ensures (λ f. both_ways _ c.if-not-is_flag.true (c.is_flag.ensures.1 f))
 
 pub returns-in_default-clause-line : goal.returns-in_default-clause-line
 returns-in_default-clause-line c =
