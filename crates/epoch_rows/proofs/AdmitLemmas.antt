@@ -1,24 +1,38 @@
 -- A log that paves the rows of some searches is admitted by all own lines of theirs.
-use Rattle.std.proofs.Common.{◌≡◌, ℕ, zero, suc, ◌<◌, Bool, true, false, List, [], ◌∷◌, length, refl, sym, ap, subst, ◌∙◌, arith}
-use Rattle.std.specs.Prelude.{Option, None, Some, is_none, slice_get}
+use Rattle.std.proofs.Common.{◌≡◌, ℕ, zero, suc, ◌<◌, Bool, List, [], ◌∷◌, length, map, refl, sym, ap, subst, ◌∙◌, arith}
+use Rattle.std.specs.Prelude.{pos, Option, None, Some, is_none, slice_get}
 use Rattle.std.specs.List.{AllByRecursion}
-use Rattle.epoch_rows.specs.Grown.{HasBody, IsGrownBlock, AreGrown}
+use Rattle.epoch_rows.specs.Grown.{AreGrownLines, HasBody}
+use Rattle.epoch_rows.specs.Renewed.{Hand, hand_of, maker_of}
+use Rattle.epoch_rows.specs.Solved.{IsSolved, AreSolved}
 use Rattle.epoch_selection.specs.Searches.{Search}
-use Rattle.log_writer.specs.Pavings.{Paves, AllPave}
-use Rattle.paving_log_check.specs.Admissible.{IsOf, AdmitsFrom, AreOwn}
+use Rattle.log_writer.specs.Pavings.{BodyExtends, HasRun}
+use Rattle.paving.specs.Renewing.{Maker}
+use Rattle.paving_log_check.specs.Admissible.{IsOf, AdmitsFrom}
 use Rattle.paving_log_check.specs.Epochs.{BodyPassesAt, EpochPasses}
 use Rattle.paving_log_check.specs.Lines.{expected, SatsPass}
+use Rattle.paving_log_check.specs.OwnLines.{OwnLines, renewals_of, usable_of, IsOwnOf, AreOwn, HaveEachRow, AreWhole}
+use Rattle.paving_log_check.specs.Renewed.{HoldsGiven}
 use Rattle.grid_model.specs.Boxes.{GridBox}
-use Rattle.sat_model.specs.Logs.{Block}
-use Rattle.sat_model.specs.Verdicts.{BodyPasses, BlockPasses, BlocksPass, NoneRepeats}
-use Rattle.sat_model.specs.declared.rules.Rules.{Rules}
-use Rattle.sat_model.specs.declared.rows.SatEntry.{SatEntry}
+use Rattle.grid_model.specs.Lengths.{spare_of}
+use Rattle.gnss_model.specs.Delays.{err_spare_of}
 use Rattle.gnss_model.specs.declared.delays.Delays.{Delays}
-use Rattle.paving_log_check.proofs.FitLemmas.{HasFewRoot, AreInBoxes}
+use Rattle.sat_model.specs.BoxTests.{test_in}
+use Rattle.sat_model.specs.Events.{RowsOver, renewals_in}
+use Rattle.sat_model.specs.Logs.{Body, Block, is_few, rows_of, first_rows}
+use Rattle.sat_model.specs.Stages.{first_stage}
+use Rattle.sat_model.specs.Verdicts.{CountsRows, BodyPasses, BlockPasses, BlocksPass, NoneRepeats}
+use Rattle.sat_model.specs.declared.rows.Row.{Row}
+use Rattle.sat_model.specs.declared.rows.SatEntry.{SatEntry}
+use Rattle.sat_model.specs.declared.rules.Rules.{Rules}
+use Rattle.paving_log_check.proofs.FitLemmas.{AreInBoxes}
 use Rattle.sat_rows.specs.Meanings.{Meaning, IsSound}
 use Rattle.sat_rows.specs.OwnRows.{AreLinesOf}
 use Rattle.sat_rows.specs.declared.lines.SatLine.{SatLine}
-use Rattle.epoch_rows.proofs.AgreeLemmas.{HasPoint, AllAgree, LineAgrees, lines_agree, skips_agree, same_usable}
+use Rattle.epoch_rows.proofs.AgreeLemmas.{HasPoint, AllAgree, LineAgrees, lines_agree, skips_agree, same_usable, grown_sats, names_of}
+use Rattle.epoch_rows.proofs.MakerLemmas.{IsGiven, row_given, run_given}
+use Rattle.epoch_rows.proofs.PlaceLemmas.{each_at, each_as}
+use Rattle.epoch_rows.proofs.RenewedLemmas.{RowAt, row_at, given_held, own_renewed, all_meet}
 
 -- ---- satellite lines
 
@@ -55,20 +69,27 @@ as_many delays (e ∷ entries) (line ∷ lines) all = ap suc (as_many delays ent
 
 -- ---- bodies
 
-same_root : (root theirs : GridBox) → Some theirs ≡ Some root → theirs ≡ root
-same_root root theirs is = cc
+-- a finished block has a body where the one that was given has, with the same root
+few_as : (Runs : Block → Body → Type 0) (block : Block) (given body : Option Body) → BodyExtends Runs block given body → is_none body ≡ is_none given
+few_as Runs block None None is = refl
+few_as Runs block None (Some body) is = absurd is
+few_as Runs block (Some given) None is = absurd is
+few_as Runs block (Some given) (Some body) is = refl
 
-body_at : (delays : Delays) (rules : Rules) (root : GridBox) (few : Bool) (own : List SatLine) (given block : Block) (theirs : Option GridBox) → HasBody delays few root own given → given.root ≡ theirs → BodyPasses rules block theirs → BodyPassesAt rules root block theirs
-body_at delays rules root few own given block None body is passes = tt
-body_at delays rules root true own given block (Some theirs) body is passes = absurd (let none = sym is ∙ body.1 in cc)
-body_at delays rules root false own given block (Some theirs) body is passes =
-    let same = same_root root theirs (sym is ∙ body.1) in
-    (same, subst (λ (r : GridBox). BodyPasses rules block (Some r)) same passes)
+-- the body is that of a run from the root, over the rows that were given
+record IsRunOver (maker : Maker) (rules : Rules) (delays : Delays) (root : GridBox) (own : List SatLine) (block : Block) (body : Body) : Type 0 where
+  same_root : body.root ≡ root
+  grown : AreGrownLines (pos (spare_of root)) (pos (err_spare_of root delays)) own block.sats
+  run : HasRun maker rules block body
 
--- a block of few satellites, and no other, has no root
-body_root : (delays : Delays) (few : Bool) (root : GridBox) (own : List SatLine) (given : Block) → HasBody delays few root own given → few ≡ is_none given.root
-body_root delays true root own given body = sym (ap is_none body.1)
-body_root delays false root own given body = sym (ap is_none body.1)
+run_over : (maker : Maker) (rules : Rules) (delays : Delays) (root : GridBox) (own : List SatLine) (sats : List SatEntry) (block : Block) (given : Option Body) (body : Body)
+    → HasBody delays root own sats given → block.sats ≡ sats → BodyExtends (HasRun maker rules) block given (Some body) → IsRunOver maker rules delays root own block body
+run_over maker rules delays root own sats block None body has same is = absurd is
+run_over maker rules delays root own sats block (Some given) body has same is = record {
+  same_root = is.0 ∙ ap (λ (b : Body). b.root) has.1;
+  grown = rw same has.0;
+  run = is.1;
+}
 
 -- ---- the log
 
@@ -81,70 +102,118 @@ boxes_of [] points = tt
 boxes_of (search ∷ rest) points = (points.0.box, boxes_of rest points.1)
 
 -- by what a source says of satellites
-module _ (m : Meaning) (sound : IsSound m) (rules : Rules) where
+module _ (m : Meaning) (sound : IsSound m) (renews : Bool) (rules : Rules) where
   module _ (search : Search) (has : HasPoint search.root) where
-    sats_agree : (few : Bool) (own other : List SatLine) (given : Block) → AreLinesOf m search.root search.epoch own → AreLinesOf m search.root search.epoch other
-        → HasBody m.delays few search.root own given → AllAgree m.delays given.sats (expected few other)
-    sats_agree true own other given a b body =
-        rw body.0 (skips_agree m sound search.root search.epoch.tag has search.epoch.sats.items own other a b)
-    sats_agree false own other given a b body =
-        lines_agree m sound search.root search.epoch.tag has search.epoch.sats.items own other given.sats a b body.0
+    sats_agree : (own other : List SatLine) (sats : List SatEntry) (body : Option Body) → AreLinesOf m search.root search.epoch own → AreLinesOf m search.root search.epoch other
+        → HasBody m.delays search.root own sats body → AllAgree m.delays sats (expected (is_none body) other)
+    sats_agree own other sats None a b body =
+        rw body (skips_agree m sound search.root search.epoch.tag has search.epoch.sats.items own other a b)
+    sats_agree own other sats (Some given) a b body =
+        lines_agree m sound search.root search.epoch.tag has search.epoch.sats.items own other sats a b body.0
 
-    module _ (before : Option ℕ) (given block : Block) (g : IsGrownBlock m rules.outliers search given) (paves : Paves rules given block) (passes : BlockPasses rules before block) where
+    module _ (before : Option ℕ) (block : Block) (s : IsSolved m renews rules search block) (passes : BlockPasses rules before block) where
       is_of : IsOf rules before search.epoch block
-      is_of = record { later = passes.head.later; suits = passes.head.suits; index = paves.index ∙ g.index; tag = paves.ps ∙ g.ps }
+      is_of = record { later = passes.head.later; suits = passes.head.suits; index = s.made.index ∙ s.grown.index; tag = s.made.ps ∙ s.grown.ps }
 
-      block_agrees : (other : List SatLine) → AreLinesOf m search.root search.epoch other → AllAgree m.delays block.sats (expected block.few other)
-      block_agrees other are = rw (paves.sats, paves.few) (sats_agree given.few g.own other given g.are_own are g.body)
+      hand : Hand
+      hand = hand_of search s.given
 
-      epoch_passes : (other : List SatLine) → AreLinesOf m search.root search.epoch other → EpochPasses m.delays rules search.root other block
-      epoch_passes other are =
-          let all = block_agrees other are in
+      same_few : is_few block ≡ is_few s.given
+      same_few = few_as (HasRun (maker_of m renews (Some (hand_of search s.given))) rules) block s.given.body block.body s.made.body
+
+      block_agrees : (other : List SatLine) → AreLinesOf m search.root search.epoch other → AllAgree m.delays block.sats (expected (is_few block) other)
+      block_agrees other are = rw (s.made.sats, same_few) (sats_agree s.grown.own other s.given.sats s.given.body s.grown.are_own are s.grown.body)
+
+      -- its body is that of a run over the rows that were given
+      run_of : (body : Body) → block.body ≡ Some body → IsRunOver (maker_of m renews (Some (hand_of search s.given))) rules m.delays search.root s.grown.own block body
+      run_of body is =
+          let maker = maker_of m renews (Some (hand_of search s.given)) in
+          run_over maker rules m.delays search.root s.grown.own s.given.sats block s.given.body body s.grown.body s.made.sats
+          (subst (λ (b : Option Body). BodyExtends (HasRun maker rules) block s.given.body b) is s.made.body)
+
+      -- each renewed row of the body is one of the satellite in its place
+      rows_at : (other : List SatLine) → AreLinesOf m search.root search.epoch other → (body : Body)
+          → IsRunOver (maker_of m renews (Some (hand_of search s.given))) rules m.delays search.root s.grown.own block body
+          → AllByRecursion (λ (new : RowsOver). (i : ℕ) (row : Row) → slice_get new.rows i ≡ Some row → RowAt m search (usable_of search.epoch.sats.items other) new.part i row) (renewals_in body.events)
+      unfolding hand
+      rows_at other are body r =
+          let maker = maker_of m renews (Some hand) in
+          let by = pos (spare_of search.root) in
+          let err_by = pos (err_spare_of search.root m.delays) in
+          let sats = search.epoch.sats.items in
+          let names = names_of m sound search.root search.epoch.tag has by err_by sats s.grown.own block.sats s.grown.are_own r.grown in
+          let usable = ap (λ (entries : List SatEntry). map (λ (row : Row). row.sat) (rows_of entries)) (sym s.made.sats)
+          ∙ grown_sats m sound search.root search.epoch.tag has by err_by sats s.grown.own other block.sats s.grown.are_own are r.grown in
+          each_as (IsGiven maker rules (length (rows_of block.sats))) _ (renewals_in body.events)
+          (λ new given i row at. row_at m search block.sats other passes.sats names hand refl usable new.part i row (row_given maker rules new.part new.rows i row given.rows at))
+          (run_given maker rules block body r.run)
+
+      body_at : (own : OwnLines) → IsOwnOf m search (renewals_of block.body) own → (theirs : Option Body) → block.body ≡ theirs → BodyPasses rules block theirs
+          → BodyPassesAt m.delays rules search.root own.renewed block theirs
+      body_at own are None is pass = tt
+      body_at own are (Some body) is pass =
+          let r = run_of body is in
+          let renewed = subst (λ (theirs : Option Body). IsOwnOf m search (renewals_of theirs) own) is are in
+          let rows = rows_at own.lines are.lines body r in (
+            r.same_root,
+            all_meet (HoldsGiven m.delays own.renewed) (first_rows block body) rules body.done (first_stage (test_in rules block) body.root) body.events
+                (λ j new i row at there. given_held m search sound has.box (usable_of search.epoch.sats.items own.lines) (renewals_in body.events) own.renewed renewed.renewed j new i row at
+                (each_at _ (renewals_in body.events) j new rows at i row there)) pass,
+          )
+
+      -- a renewal has a row for each that counts
+      renewed_counts : (theirs : Option Body) → block.body ≡ theirs → CountsRows (is_none theirs) block.n block.sats → AllByRecursion (λ new. length new.rows ≡ block.n) (renewals_of theirs)
+      renewed_counts None is counts = tt
+      renewed_counts (Some body) is counts =
+          let maker = maker_of m renews (Some (hand_of search s.given)) in
+          let r = run_of body is in
+          each_as (IsGiven maker rules (length (rows_of block.sats))) _ (renewals_in body.events) (λ new given. given.many ∙ counts) (run_given maker rules block body r.run)
+
+      epoch_passes : (own : OwnLines) → IsOwnOf m search (renewals_of block.body) own → EpochPasses m.delays rules search.root own block
+      epoch_passes own are =
+          let all = block_agrees own.lines are.lines in
           record {
             counts = record {
               rows = passes.head.counts;
-              usable = paves.n ∙ (g.n ∙ same_usable m sound search.root search.epoch.tag has search.epoch.sats.items g.own other g.are_own are);
+              renewed = renewed_counts block.body refl passes.head.counts;
+              usable = s.made.n ∙ (s.grown.n ∙ same_usable m sound search.root search.epoch.tag has search.epoch.sats.items s.grown.own own.lines s.grown.are_own are.lines);
             };
-            sats = sats_pass m.delays block.sats (expected block.few other) all passes.sats;
-            whole = omega (arith, as_many m.delays block.sats (expected block.few other) all);
-            body = body_at m.delays rules search.root given.few g.own given block block.root g.body (sym paves.root) passes.body;
+            sats = sats_pass m.delays block.sats (expected (is_few block) own.lines) all passes.sats;
+            whole = omega (arith, as_many m.delays block.sats (expected (is_few block) own.lines) all);
+            body = body_at own are block.body refl passes.body;
           }
 
-  pub admits_from : (before : Option ℕ) (searches : List Search) (given blocks : List Block) → HavePoints searches → AreGrown m rules.outliers searches given
-      → AllPave rules given blocks → BlocksPass rules before blocks
-      → (owns : List (List SatLine)) → AreOwn m searches owns → AdmitsFrom m.delays rules before owns searches blocks
-  admits_from before [] [] [] points grown pave pass [] are = tt
-  admits_from before [] [] [] points grown pave pass (own ∷ owns) are = absurd are
-  admits_from before [] [] (block ∷ blocks) points grown pave pass owns are = absurd pave
-  admits_from before [] (g ∷ given) blocks points grown pave pass owns are = absurd grown
-  admits_from before (search ∷ rest) [] blocks points grown pave pass owns are = absurd grown
-  admits_from before (search ∷ rest) (g ∷ given) [] points grown pave pass owns are = absurd pave
-  admits_from before (search ∷ rest) (g ∷ given) (block ∷ blocks) points grown pave pass [] are =
-      is_of search points.0 before g block grown.0 pave.0 pass.0
-  admits_from before (search ∷ rest) (g ∷ given) (block ∷ blocks) points grown pave pass (own ∷ owns) are = (
-    is_of search points.0 before g block grown.0 pave.0 pass.0,
-    epoch_passes search points.0 before g block grown.0 pave.0 pass.0 own are.0,
-    admits_from (Some block.index) rest given blocks points.1 grown.1 pave.1 pass.1 owns are.1,
+      -- the own lines and rows that those of the block were made of
+      pub own_of_block : (own : OwnLines) × IsOwnOf m search (renewals_of block.body) own × HaveEachRow (renewals_of block.body) own.renewed
+      own_of_block = own_behind block.body refl
+        where
+          own_behind : (theirs : Option Body) → block.body ≡ theirs → (own : OwnLines) × IsOwnOf m search (renewals_of theirs) own × HaveEachRow (renewals_of theirs) own.renewed
+          own_behind None is = (record { lines = s.grown.own; renewed = [] }, record { lines = s.grown.are_own; renewed = tt }, tt)
+          own_behind (Some body) is =
+              let r = run_of body is in
+              let (renewed, are, whole) = own_renewed m search (usable_of search.epoch.sats.items s.grown.own) (renewals_in body.events) (rows_at s.grown.own s.grown.are_own body r) in
+              (record { lines = s.grown.own; renewed = renewed }, record { lines = s.grown.are_own; renewed = are }, whole)
+
+  pub admits_from : (before : Option ℕ) (searches : List Search) (blocks : List Block) → HavePoints searches → AreSolved m renews rules searches blocks → BlocksPass rules before blocks
+      → (owns : List OwnLines) → AreOwn m searches blocks owns → AdmitsFrom m.delays rules before owns searches blocks
+  admits_from before [] [] points solved pass [] are = tt
+  admits_from before [] [] points solved pass (own ∷ owns) are = absurd are
+  admits_from before [] (block ∷ blocks) points solved pass owns are = absurd solved
+  admits_from before (search ∷ rest) [] points solved pass owns are = absurd solved
+  admits_from before (search ∷ rest) (block ∷ blocks) points solved pass [] are = is_of search points.0 before block solved.0 pass.0
+  admits_from before (search ∷ rest) (block ∷ blocks) points solved pass (own ∷ owns) are = (
+    is_of search points.0 before block solved.0 pass.0,
+    epoch_passes search points.0 before block solved.0 pass.0 own are.0,
+    admits_from (Some block.index) rest blocks points.1 solved.1 pass.1 owns are.1,
   )
 
-  -- the own lines that the rows were made of
-  pub owns_of : (searches : List Search) (given : List Block) → AreGrown m rules.outliers searches given
-      → (owns : List (List SatLine)) × AreOwn m searches owns × (length owns ≡ length searches)
-  owns_of [] [] grown = ([], tt, refl)
-  owns_of [] (g ∷ given) grown = absurd grown
-  owns_of (search ∷ rest) [] grown = absurd grown
-  owns_of (search ∷ rest) (g ∷ given) grown =
-      let (owns, are, each) = owns_of rest given grown.1 in
-      (grown.0.own ∷ owns, (grown.0.are_own, are), ap suc each)
-
-  pub few_roots : (searches : List Search) (given blocks : List Block) → AreGrown m rules.outliers searches given → AllPave rules given blocks
-      → AllByRecursion HasFewRoot blocks
-  few_roots [] [] [] grown paves = tt
-  few_roots [] [] (block ∷ blocks) grown paves = absurd paves
-  few_roots [] (g ∷ given) blocks grown paves = absurd grown
-  few_roots (search ∷ rest) [] blocks grown paves = absurd grown
-  few_roots (search ∷ rest) (g ∷ given) [] grown paves = absurd paves
-  few_roots (search ∷ rest) (g ∷ given) (block ∷ blocks) grown paves = (
-    paves.0.few ∙ body_root m.delays g.few search.root grown.0.own g grown.0.body ∙ ap is_none (sym paves.0.root),
-    few_roots rest given blocks grown.1 paves.1,
-  )
+  -- the own lines that the rows were made of, all of them
+  pub owns_of : (before : Option ℕ) (searches : List Search) (blocks : List Block) → HavePoints searches → AreSolved m renews rules searches blocks → BlocksPass rules before blocks
+      → (owns : List OwnLines) × AreOwn m searches blocks owns × (length owns ≡ length searches) × AreWhole owns blocks
+  owns_of before [] [] points solved pass = ([], tt, refl, tt)
+  owns_of before [] (block ∷ blocks) points solved pass = absurd solved
+  owns_of before (search ∷ rest) [] points solved pass = absurd solved
+  owns_of before (search ∷ rest) (block ∷ blocks) points solved pass =
+      let (own, is, each_row) = own_of_block search points.0 before block solved.0 pass.0 in
+      let (owns, are, each, whole) = owns_of (Some block.index) rest blocks points.1 solved.1 pass.1 in
+      (own ∷ owns, (is, are), ap suc each, (each_row, whole))

@@ -1,14 +1,16 @@
 -- Two own lines of a satellite: a grown one holds the other.
-use Rattle.std.proofs.Common.{◌≡◌, ℕ, Bool, List, [], ◌∷◌, true, false, refl, sym, subst, ◌∙◌, ◌+◌, ◌&&◌, arith}
+use Rattle.std.proofs.Common.{◌≡◌, ℕ, Bool, List, [], ◌∷◌, map, true, false, refl, sym, subst, ◌∙◌, ◌+◌, ◌&&◌, arith}
 use Rattle.std.specs.Prelude.{ℤ, pos, ◌+ℤ◌, ◌-ℤ◌, ◌≤ℤ◌, Option, None, Some, is_none}
 use Rattle.std.proofs.lemmas.Int.{ints}
 use Rattle.epoch_rows.specs.Grown.{IsGrownRow, IsGrownLine, AreGrownLines, skips_of}
 use Rattle.paving_log_check.specs.Lines.{skipped_in, IsSameLine, HoldsSide, bounds_unless, bounds_compared, HoldEach, HasBoundIf, HoldsOwn, HasBound, RowPasses}
+use Rattle.paving_log_check.specs.OwnLines.{usable_of}
 use Rattle.rinex_obs.specs.declared.obs.SatObs.{SatObs}
 use Rattle.grid_model.specs.Boxes.{Side, GridBox, box_holds, span_side}
 use Rattle.sat_model.specs.Fitting.{low_bounds, high_bounds}
 use Rattle.grid_model.specs.Intervals.{Between}
 use Rattle.grid_model.specs.Lengths.{spare_of}
+use Rattle.sat_model.specs.Logs.{sat_of, rows_of}
 use Rattle.sat_model.specs.Relaxed.{ends}
 use Rattle.grid_model.specs.SearchBoxes.{IsSearchBox}
 use Rattle.gnss_model.specs.Delays.{is_plain, delay_spare, err_spare_of}
@@ -27,6 +29,7 @@ use Rattle.sat_rows.specs.OwnRows.{HoldsChain, IsTight, AreBoundsTight, HasBound
 use Rattle.sat_rows.specs.declared.lines.SatLine.{SatLine}
 use Rattle.sat_rows.specs.declared.lines.SatLine.TheVariants.{Usable, Skipped}
 use Rattle.error_bounds.proofs.FormLemmas.{same_pair}
+use Rattle.epoch_rows.proofs.LineLemmas.{line_names}
 use Rattle.paving_log_check.proofs.FitLemmas.{same_first as first_is, same_second as second_is}
 
 -- a side with so much more at both ends holds another that is at most so wide, where both hold one number
@@ -118,28 +121,34 @@ pub record HasPoint (root : GridBox) : Type 0 where
   pub point : Pos
   pub inside : box_holds root point ≡ true
 
+module _ (m : Meaning) (sound : IsSound m) (root : GridBox) (tag : ℤ) where
+  -- two own rows over a box that has a point in the search box: a grown one of the first passes against the second
+  pub own_agree : (part : GridBox) (p : Pos) → IsSearchBox root → box_holds root p ≡ true → box_holds part p ≡ true → (seen : SatObs) (own other wide : Row) → m.judged root tag seen None
+      → IsOwnRow m part tag seen own → IsOwnRow m part tag seen other → IsGrownRow (pos (spare_of part)) (pos (err_spare_of part m.delays)) own wide
+      → HoldsOwn m.delays wide other × HasBound m.delays wide other
+  own_agree part p box in_root inside seen own other wide usable a b g =
+      let (c, allowed) = sound.allowed_exists root tag seen p box in_root usable in
+      let here = a.holds p c inside allowed in
+      let there = b.holds p c inside allowed in
+      let bounds = bounds_agree part m.delays own other wide c (m.declared seen.sat) g.bounds here there b.bounds a.plain b.plain in (
+        holds_each m.delays wide other (holds_span part own.x wide.x other.x c.x g.x here.x there.x b.x)
+            (holds_span part own.y wide.y other.y c.y g.y here.y there.y b.y)
+            (holds_span part own.z wide.z other.z c.z g.z here.z there.z b.z)
+            (holds_span part own.range wide.range other.range c.corrected g.range here.corrected there.corrected b.range)
+            bounds.held,
+        bounds.same,
+      )
+
 module _ (m : Meaning) (sound : IsSound m) (root : GridBox) (tag : ℤ) (has : HasPoint root) where
   abbrev Grown : SatLine → SatEntry → Type 0
   Grown own e = IsGrownLine (pos (spare_of root)) (pos (err_spare_of root m.delays)) own e
 
   rows_agree : (seen : SatObs) (own other wide : Row) → m.judged root tag seen None → IsOwnRow m root tag seen own → IsOwnRow m root tag seen other
       → own.sat ≡ seen.sat → other.sat ≡ seen.sat → IsGrownRow (pos (spare_of root)) (pos (err_spare_of root m.delays)) own wide → LineAgrees m.delays (entry.Row wide) (Usable other)
-  rows_agree seen own other wide usable a b named also g =
-      let (c, allowed) = sound.allowed_exists root tag seen has.point has.box has.inside usable in
-      let here = a.holds has.point c has.inside allowed in
-      let there = b.holds has.point c has.inside allowed in
-      let bounds = bounds_agree root m.delays own other wide c (m.declared seen.sat) g.bounds here there b.bounds a.plain b.plain in
-      record {
-        same = g.sat ∙ (named ∙ sym also);
-        passes = (
-          holds_each m.delays wide other (holds_span root own.x wide.x other.x c.x g.x here.x there.x b.x)
-              (holds_span root own.y wide.y other.y c.y g.y here.y there.y b.y)
-              (holds_span root own.z wide.z other.z c.z g.z here.z there.z b.z)
-              (holds_span root own.range wide.range other.range c.corrected g.range here.corrected there.corrected b.range)
-              bounds.held,
-          bounds.same,
-        );
-      }
+  rows_agree seen own other wide usable a b named also g = record {
+    same = g.sat ∙ (named ∙ sym also);
+    passes = own_agree m sound root tag root has.point has.box has.inside has.inside seen own other wide usable a b g;
+  }
 
   not_both : (seen : SatObs) (skip : Skip) → m.judged root tag seen None → m.judged root tag seen (Some skip) → ⊥
   not_both seen skip usable skipped = let same = sound.one_judgement root tag seen None (Some skip) usable skipped in cc
@@ -190,3 +199,36 @@ module _ (m : Meaning) (sound : IsSound m) (root : GridBox) (tag : ℤ) (has : H
   same_usable (seen ∷ sats) (Usable row ∷ own) (Skipped sat skip ∷ other) a b = absurd (not_both seen skip a.0.1 b.0.1)
   same_usable (seen ∷ sats) (Skipped sat skip ∷ own) (Usable ours ∷ other) a b = absurd (not_both seen skip b.0.1 a.0.1)
   same_usable (seen ∷ sats) (Skipped sat skip ∷ own) (Skipped named why ∷ other) a b = omega (arith, same_usable sats own other a.1 b.1)
+
+  -- both name the same usable satellites
+  pub grown_sats : (by err_by : ℤ) (sats : List SatObs) (own other : List SatLine) (entries : List SatEntry) → AreOwnLines m root tag sats own → AreOwnLines m root tag sats other
+      → AreGrownLines by err_by own entries → map (λ row. row.sat) (rows_of entries) ≡ map (λ seen. seen.sat) (usable_of sats other)
+  grown_sats by err_by [] [] [] [] a b g = refl
+  grown_sats by err_by [] [] [] (e ∷ entries) a b g = absurd g
+  grown_sats by err_by [] [] (line ∷ other) entries a b g = absurd b
+  grown_sats by err_by [] (line ∷ own) other entries a b g = absurd a
+  grown_sats by err_by (seen ∷ sats) [] other entries a b g = absurd a
+  grown_sats by err_by (seen ∷ sats) (line ∷ own) [] entries a b g = absurd b
+  grown_sats by err_by (seen ∷ sats) (line ∷ own) (ours ∷ other) [] a b g = absurd g
+  grown_sats by err_by (seen ∷ sats) (Usable row ∷ own) (Usable ours ∷ other) (entry.Row wide ∷ entries) a b g =
+      let here : wide.sat ≡ seen.sat = g.0.sat ∙ a.0.0 in
+      let later = grown_sats by err_by sats own other entries a.1 b.1 g.1 in
+      cc
+  grown_sats by err_by (seen ∷ sats) (Usable row ∷ own) (ours ∷ other) (entry.Skipped sat skip ∷ entries) a b g = absurd g.0
+  grown_sats by err_by (seen ∷ sats) (Usable row ∷ own) (Skipped sat skip ∷ other) (entry.Row wide ∷ entries) a b g = absurd (not_both seen skip a.0.1 b.0.1)
+  grown_sats by err_by (seen ∷ sats) (Skipped sat skip ∷ own) (ours ∷ other) (entry.Row wide ∷ entries) a b g = absurd g.0
+  grown_sats by err_by (seen ∷ sats) (Skipped sat skip ∷ own) (Usable ours ∷ other) (entry.Skipped same why ∷ entries) a b g = absurd (not_both seen skip b.0.1 a.0.1)
+  grown_sats by err_by (seen ∷ sats) (Skipped sat skip ∷ own) (Skipped named reason ∷ other) (entry.Skipped same why ∷ entries) a b g = grown_sats by err_by sats own other entries a.1 b.1 g.1
+
+  -- a grown line names its satellite
+  pub names_of : (by err_by : ℤ) (sats : List SatObs) (own : List SatLine) (entries : List SatEntry) → AreOwnLines m root tag sats own → AreGrownLines by err_by own entries
+      → map sat_of entries ≡ map (λ seen. seen.sat) sats
+  names_of by err_by [] [] [] a g = refl
+  names_of by err_by [] [] (e ∷ entries) a g = absurd g
+  names_of by err_by [] (line ∷ own) entries a g = absurd a
+  names_of by err_by (seen ∷ sats) [] entries a g = absurd a
+  names_of by err_by (seen ∷ sats) (line ∷ own) [] a g = absurd g
+  names_of by err_by (seen ∷ sats) (line ∷ own) (e ∷ entries) a g =
+      let here : sat_of e ≡ seen.sat = line_names m root tag by err_by seen line e a.0 g.0 in
+      let later = names_of by err_by sats own entries a.1 g.1 in
+      cc

@@ -1,18 +1,21 @@
 -- The blocks that are made of own lines.
-use Rattle.std.proofs.Common.{◌≡◌, ℕ, ◌≤◌, List, length, ap, arith}
+use Rattle.std.proofs.Common.{◌≡◌, ℕ, ◌≤◌, List, [], length, refl, ap, arith}
 use Rattle.std.specs.Prelude.{ℤ, pos, ◌≤ℤ◌, ◌<ℤ◌}
 use Rattle.std.specs.List.{AllByRecursion}
 use Rattle.std.proofs.lemmas.Int.{ints}
-use Rattle.epoch_rows.specs.Grown.{AreGrownLines, skips_of}
+use Rattle.epoch_rows.specs.Grown.{bare_body, AreGrownLines, skips_of}
 use Rattle.epoch_rows.specs.Ready.{SkipsFit}
 use Rattle.epoch_selection.specs.Selections.{first_epoch, last_epoch}
-use Rattle.log_words.specs.Fields.{IsCountFromTo}
+use Rattle.log_tokens.specs.Fields.{IsCountFromTo}
 use Rattle.paving_log.specs.Lines.{HeaderFits}
-use Rattle.paving_log.specs.Rows.{EntryFits}
+use Rattle.paving_log.specs.Rows.{EntryFits, CornersFit, corners_of}
 use Rattle.paving_log.specs.Text.{IsSkipped}
 use Rattle.rinex_obs.specs.Facts.{AreNamedSats}
 use Rattle.rinex_obs.specs.declared.obs.ObsEpoch.{ObsEpoch}
-use Rattle.grid_model.specs.Boxes.{GridBox}
+use Rattle.log_writer.proofs.GridSizes.{box3_fits}
+use Rattle.grid_model.specs.Boxes.{GridBox, grid_box}
+use Rattle.grid_model.specs.declared.boxes.Box3.{Box3}
+use Rattle.sat_model.specs.Logs.{Body}
 use Rattle.sat_model.specs.declared.rows.SatEntry.{SatEntry}
 use Rattle.sat_rows.specs.Meanings.{Meaning}
 use Rattle.sat_rows.specs.OwnRows.{AreLinesOf, usable_in}
@@ -24,6 +27,11 @@ use Rattle.epoch_rows.proofs.LineLemmas.{usable_le, skips_le, grown_count, all_s
 pub header_fits : (index n : ℕ) (ps tag : ℤ) → ps ≡ tag → IsCountFromTo first_epoch last_epoch index → pos 0 ≤ℤ tag → tag <ℤ pos 4000000000000000000000 → n ≤ 64
     → HeaderFits (record { index = index; ps = ps; n = n })
 header_fits index n ps tag same counted from under few = record { index = counted; ps = (omega (arith, ints, from), omega (arith, ints, under)); n = (omega arith, few) }
+
+-- ---- roots
+
+pub bare_fits : (body : Body) (root : Box3) → body ≡ bare_body (grid_box root) → CornersFit (corners_of body.root) × ((body.events ≡ []) × (body.done ≡ 0))
+bare_fits body root is = rw is (box3_fits root, (refl, refl))
 
 -- ---- satellite lines
 

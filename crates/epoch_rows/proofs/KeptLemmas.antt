@@ -1,71 +1,149 @@
--- What came from a source, said of a plainer value of it, where the source keeps what the value leaves out.
-use Rattle.std.proofs.Common.{◌≡◌, ℕ, List, [], ◌∷◌, Option, None, Some, Result, Ok, Err, refl, ap, subst, ◌∙◌}
-use Rattle.epoch_rows.specs.EpochsLeft.{left_of, of_epochs}
+-- What came from a source, said of another source that stands alike, where the first keeps what the
+-- second leaves out.
+use Rattle.std.proofs.Common.{◌≡◌, ℕ, Bool, true, List, [], ◌∷◌, Option, None, Some, Result, Ok, Err, refl, ap, sym, subst, ◌∙◌}
+use Rattle.epoch_rows.specs.EpochsLeft.{EpochsLeft, left_of, left_behind, GivesFirst, source_of}
+use Rattle.epoch_rows.specs.Makers.{IsMakerFor, GivesBlock, GivesNext}
+use Rattle.epoch_rows.specs.Renewed.{Hand, IsGrownFrom, maker_from, maker_of}
+use Rattle.epoch_rows.specs.declared.maker.RowMaker.{RowMaker}
 use Rattle.epoch_selection.specs.declared.searches.Searches.{Searches}
+use Rattle.gnss_model.specs.declared.delays.Delays.{Delays}
+use Rattle.log_writer.specs.Breaks.{BrokeOff}
 use Rattle.log_writer.specs.Kept.{hull_kept, hull_of_last}
-use Rattle.log_writer.specs.Sources.{Gives, Came}
+use Rattle.log_writer.specs.Pieces.{pieces_with, version_of}
+use Rattle.log_writer.specs.Sources.{Source, Came, IsInHand}
 use Rattle.log_writer.specs.Texts.{IsText}
 use Rattle.log_writer.specs.declared.fault.WriteFault.{WriteFault}
-use Rattle.grid_model.specs.Boxes.{GridBox}
+use Rattle.grid_model.specs.Boxes.{GridBox, grid_box}
 use Rattle.sat_model.specs.Logs.{Block}
+use Rattle.sat_model.specs.declared.rows.Row.{Row}
 use Rattle.sat_model.specs.declared.rules.Rules.{Rules}
 use Rattle.sat_rows.specs.Meanings.{Meaning}
+use Rattle.sat_rows.specs.declared.bases.Base.{Base}
+use Rattle.epoch_rows.proofs.BaseLemmas.{renewed_row}
+use Rattle.epoch_rows.proofs.MakerLemmas.{GoesAs, paves_as, begins_as}
 
-module _ {B C : Type 0} (gives : Gives B) (others : Gives C) (value : B → C) (Keeps : B → Type 0)
-    (each : (old : B) (hull : Option GridBox) (next : Option Block) (new : B) → Keeps old → gives old hull next new → others (value old) hull next (value new))
-    (keep : (old : B) (hull : Option GridBox) (block : Block) (new : B) → Keeps old → gives old hull (Some block) new → Keeps new) (rules : Rules) where
-  came_kept : (first last : B) (hull : Option GridBox) (blocks : List Block) → Keeps first → Came gives rules first hull blocks last
-      → Came others rules (value first) hull blocks (value last) × Keeps last
-  came_kept first last hull [] keeps came = (ap value came, subst Keeps came keeps)
-  came_kept first last hull (block ∷ blocks) keeps (given, next, gave, paves, later) =
-      let more = came_kept next last (hull_kept block.steps block.root) blocks (keep first hull given next keeps gave) later in
-      ((given, value next, each first hull (Some given) next keeps gave, paves, more.0), more.1)
+module _ {B C : Type 0} (source : Source B) (others : Source C) (Stands : B → C → Type 0) where
+  -- the second gives the block too, and both stand alike behind it
+  pub record GivesToo (was : C) (hull : Option GridBox) (block : Block) (new : B) : Type 0 where
+    pub is : C
+    pub stands : Stands new is
+    pub gave : others.gives was hull (Some block) is
+    pub goes : GoesAs (source.maker new) (others.maker is)
 
-  pub text_kept : {T : Type 0} (first last : B) (limit : ℕ) (r : Result T WriteFault) (bytes said : List ℕ) → Keeps first
-      → IsText gives rules first last limit r bytes said → IsText others rules (value first) (value last) limit r bytes said
-  text_kept first last limit (Ok done) bytes said keeps w =
-      let came = came_kept first w.behind None w.log.blocks keeps w.came in
-      record {
-        log = w.log;
-        same_rules = w.same_rules;
-        behind = value w.behind;
-        came = came.0;
-        no_more = each w.behind (hull_of_last None w.log.blocks) None last came.1 w.no_more;
-        text = w.text;
-        report = w.report;
-        judged = w.judged;
-        cover = w.cover;
-        fits = w.fits;
-      }
-  text_kept first last limit (Err fault) bytes said keeps w = record {
-    blocks = w.blocks;
-    behind = value w.behind;
-    came = (came_kept first w.behind None w.blocks keeps w.came).0;
-    broke = w.broke;
+  -- and where the first has no more, neither has the second, which then stands so
+  module _ (ended : B → C) (each : (old : B) (was : C) (hull : Option GridBox) (block : Block) (new : B) → Stands old was → source.gives old hull (Some block) new → GivesToo was hull block new)
+      (ends : (old : B) (was : C) (hull : Option GridBox) (new : B) → Stands old was → source.gives old hull None new → others.gives was hull None (ended new)) (rules : Rules) where
+    came_kept : (first last : B) (was : C) (hull : Option GridBox) (blocks : List Block) → Stands first was → Came source rules first hull blocks last
+        → (is : C) × Came others rules was hull blocks is × Stands last is
+    came_kept first last was hull [] stands came = (was, refl, subst (λ (b : B). Stands b was) came stands)
+    came_kept first last was hull (block ∷ blocks) stands (given, next, gave, paves, later) =
+        let g = each first was hull given next stands gave in
+        let (is, came, still) = came_kept next last g.is (hull_kept block.body) blocks g.stands later in
+        (is, (given, g.is, g.gave, paves_as (source.maker next) (others.maker g.is) g.goes rules given block paves, came), still)
+
+    in_hand_kept : (behind : B) (is : C) (hull : Option GridBox) (hand : Option Block) → Stands behind is → IsInHand source rules behind hull hand → IsInHand others rules is hull hand
+    in_hand_kept behind is hull None stands in_hand = tt
+    in_hand_kept behind is hull (Some block) stands (given, next, gave, begins) =
+        let g = each behind is hull given next stands gave in
+        (given, g.is, g.gave, begins_as (source.maker next) (others.maker g.is) g.goes rules given block begins)
+
+    pub text_kept : {T : Type 0} (first last : B) (was : C) (limit : ℕ) (r : Result T WriteFault) (bytes said : List ℕ) → Stands first was
+        → (source.maker first).active ≡ (others.maker was).active → IsText source rules first last limit r bytes said → IsText others rules was (ended last) limit r bytes said
+    text_kept first last was limit (Ok done) bytes said stands same w =
+        let (is, came, still) = came_kept first w.behind was None w.log.blocks stands w.came in
+        record {
+          log = w.log;
+          version = w.version ∙ ap (version_of rules) same;
+          same_rules = w.same_rules;
+          behind = is;
+          came = came;
+          no_more = ends w.behind is (hull_of_last None w.log.blocks) last still w.no_more;
+          text = w.text;
+          report = w.report;
+          judged = w.judged;
+          cover = w.cover;
+          fits = w.fits;
+        }
+    text_kept first last was limit (Err fault) bytes said stands same w =
+        let (is, came, still) = came_kept first w.behind was None w.blocks stands w.came in
+        record {
+          blocks = w.blocks;
+          behind = is;
+          came = came;
+          hand = w.hand;
+          in_hand = in_hand_kept w.behind is (hull_of_last None w.blocks) w.hand still w.in_hand;
+          broke = subst (λ (renews : Bool). BrokeOff limit (pieces_with (record { version = version_of rules renews; rules = rules; blocks = w.blocks }) w.hand) fault bytes said) same w.broke;
+        }
+
+-- ---- the maker of a block's rows
+
+-- the values of a maker are those of the block in hand
+goes_from : (m : Meaning) (hand : Hand) (renews asked : Bool) (delays : Delays) (root : GridBox) (bases : List Base) → asked ≡ renews
+    → (asked ≡ true → (delays ≡ m.delays) × (root ≡ hand.search.root) × ((i : ℕ) (part : GridBox) (row : Row) → IsGrownFrom m.delays hand.search.root bases i part row → (maker_of m renews (Some hand)).gives i part row))
+    → GoesAs (maker_from asked delays root bases) (maker_of m renews (Some hand))
+goes_from m hand renews asked delays root bases same are = record {
+  active = same;
+  gives = λ active i part row g. let (delays_are, root_is, all) = are active in all i part row (rw (delays_are, root_is) at g);
+}
+
+pub maker_goes : (m : Meaning) (hand : Hand) (renews : Bool) (maker : RowMaker) → maker.renews ≡ renews → (renews ≡ true → IsMakerFor m hand maker)
+    → GoesAs (maker_from maker.renews maker.delays (grid_box maker.root) maker.bases.items) (maker_of m renews (Some hand))
+maker_goes m hand renews maker same is =
+    goes_from m hand renews maker.renews maker.delays (grid_box maker.root) maker.bases.items same
+    (λ active. let k = is (sym same ∙ active) in (k.delays, k.root, renewed_row m hand maker.bases.items k.bases))
+
+-- ---- the epochs of a file
+
+-- what is in hand doesn't count for what comes next
+any_hand : (m : Meaning) (q : ℕ) (hand : Option Hand) (s : Searches) (block : Block) (new : EpochsLeft) → GivesFirst m q (left_of s) block new → GivesFirst m q (left_behind hand s) block new
+any_hand m q hand s block new g = record { epoch = g.epoch; first = g.first; grown = g.grown; same_root = g.same_root; hand = g.hand }
+
+-- What came from blocks that have a source of rows, rules, searches and a maker of rows came from the epochs that are left.
+module _ {B S : Type 0} (rows_in : B → S) (rules_in : B → Rules) (searches_in : B → Searches) (maker_in : B → RowMaker) (meaning : S → Meaning) where
+  abbrev pub of_blocks : Source B
+  of_blocks = record {
+    gives = λ (old : B) (hull : Option GridBox) (next : Option Block) (new : B). (rows_in new ≡ rows_in old) × (rules_in new ≡ rules_in old) × ((maker_in new).renews ≡ (maker_in old).renews)
+        × GivesNext (meaning (rows_in old)) (rules_in old).outliers (maker_in old).renews (searches_in old) next (searches_in new) (maker_in new);
+    maker = λ (b : B). maker_from (maker_in b).renews (maker_in b).delays (grid_box (maker_in b).root) (maker_in b).bases.items;
   }
 
--- What came from blocks that have a source of rows, rules and searches came from the epochs that are left.
-module _ {B S : Type 0} (source_of : B → S) (rules_of : B → Rules) (searches_of : B → Searches) (meaning : S → Meaning) where
-  abbrev pub gives_epochs : Gives B
-  gives_epochs old kept next new =
-      (source_of new ≡ source_of old) × (rules_of new ≡ rules_of old)
-      × of_epochs (meaning (source_of old)) (rules_of old).outliers (left_of (searches_of old)) kept next (left_of (searches_of new))
-
   module _ (first : B) where
-    abbrev IsSame : B → Type 0
-    IsSame b = (source_of b ≡ source_of first) × (rules_of b ≡ rules_of first)
+    abbrev Others : Source EpochsLeft
+    Others = source_of (meaning (rows_in first)) (rules_in first).outliers (maker_in first).renews
 
-    given_here : (old : B) (hull : Option GridBox) (next : Option Block) (new : B) → IsSame old → gives_epochs old hull next new
-        → of_epochs (meaning (source_of first)) (rules_of first).outliers (left_of (searches_of old)) hull next (left_of (searches_of new))
-    given_here old hull next new same gave =
-        subst (λ (s : S). of_epochs (meaning s) (rules_of first).outliers (left_of (searches_of old)) hull next (left_of (searches_of new))) same.0
-        (subst (λ (r : Rules). of_epochs (meaning (source_of old)) r.outliers (left_of (searches_of old)) hull next (left_of (searches_of new))) same.1 gave.2)
+    -- the source, the rules and the maker are those of the first, and the same epochs are left
+    record Stands (b : B) (left : EpochsLeft) : Type 0 where
+      rows : rows_in b ≡ rows_in first
+      rules : rules_in b ≡ rules_in first
+      renews : (maker_in b).renews ≡ (maker_in first).renews
+      left_is : left ≡ left_behind left.hand (searches_in b)
 
-    still_same : (old : B) (hull : Option GridBox) (block : Block) (new : B) → IsSame old → gives_epochs old hull (Some block) new → IsSame new
-    still_same old hull block new same gave = (gave.0 ∙ same.0, gave.1 ∙ same.1)
+    given_here : (old : B) (block : Block) (new : B) → rows_in old ≡ rows_in first → rules_in old ≡ rules_in first → (maker_in old).renews ≡ (maker_in first).renews
+        → GivesBlock (meaning (rows_in old)) (rules_in old).outliers (maker_in old).renews (searches_in old) block (searches_in new) (maker_in new)
+        → GivesBlock (meaning (rows_in first)) (rules_in first).outliers (maker_in first).renews (searches_in old) block (searches_in new) (maker_in new)
+    given_here old block new rows rules renews g =
+        subst (λ (s : S). GivesBlock (meaning s) (rules_in first).outliers (maker_in first).renews (searches_in old) block (searches_in new) (maker_in new)) rows
+        (subst (λ (r : Rules). GivesBlock (meaning (rows_in old)) r.outliers (maker_in first).renews (searches_in old) block (searches_in new) (maker_in new)) rules
+        (subst (λ (b : Bool). GivesBlock (meaning (rows_in old)) (rules_in old).outliers b (searches_in old) block (searches_in new) (maker_in new)) renews g))
 
-    pub text_of_epochs : {T : Type 0} (last : B) (rules : Rules) (limit : ℕ) (r : Result T WriteFault) (bytes said : List ℕ) → IsText gives_epochs rules first last limit r bytes said
-        → IsText (of_epochs (meaning (source_of first)) (rules_of first).outliers) rules (left_of (searches_of first)) (left_of (searches_of last)) limit r bytes said
+    each : (old : B) (was : EpochsLeft) (hull : Option GridBox) (block : Block) (new : B) → Stands old was → of_blocks.gives old hull (Some block) new
+        → GivesToo of_blocks Others Stands was hull block new
+    each old was hull block new stands (rows, rules, renews, gave) =
+        let g = given_here old block new stands.rows stands.rules stands.renews gave in
+        let same = renews ∙ stands.renews in
+        record {
+          is = left_behind (Some g.hand) (searches_in new);
+          stands = record { rows = rows ∙ stands.rows; rules = rules ∙ stands.rules; renews = same; left_is = refl };
+          gave = subst (λ (l : EpochsLeft). GivesFirst (meaning (rows_in first)) (rules_in first).outliers l block (left_behind (Some g.hand) (searches_in new))) (sym stands.left_is)
+              (any_hand (meaning (rows_in first)) (rules_in first).outliers was.hand (searches_in old) block (left_behind (Some g.hand) (searches_in new)) g.first);
+          goes = maker_goes (meaning (rows_in first)) g.hand (maker_in first).renews (maker_in new) same g.is_maker;
+        }
+
+    ends : (old : B) (was : EpochsLeft) (hull : Option GridBox) (new : B) → Stands old was → of_blocks.gives old hull None new → Others.gives was hull None (left_of (searches_in new))
+    ends old was hull new stands (rows, rules, renews, none) = ap (λ (l : EpochsLeft). l.epochs) stands.left_is ∙ none
+
+    pub text_of_epochs : {T : Type 0} (last : B) (rules : Rules) (limit : ℕ) (r : Result T WriteFault) (bytes said : List ℕ) → IsText of_blocks rules first last limit r bytes said
+        → IsText (source_of (meaning (rows_in first)) (rules_in first).outliers (maker_in first).renews) rules (left_of (searches_in first)) (left_of (searches_in last)) limit r bytes said
     text_of_epochs last rules limit r bytes said text =
-        text_kept gives_epochs (of_epochs (meaning (source_of first)) (rules_of first).outliers) (λ b. left_of (searches_of b)) IsSame given_here still_same
-        rules first last limit r bytes said (refl, refl) text
+        text_kept of_blocks Others Stands (λ b. left_of (searches_in b)) each ends rules first last (left_of (searches_in first)) limit r bytes said
+        (record { rows = refl; rules = refl; renews = refl; left_is = refl }) refl text

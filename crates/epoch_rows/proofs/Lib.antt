@@ -1,11 +1,15 @@
 pub mod SpareLemmas
+pub mod PlaceLemmas
 pub mod ApartLemmas
 pub mod LineLemmas
+pub mod BaseLemmas
 pub mod BlockLemmas
 pub mod PassLemmas
 pub mod ReadyLemmas
 pub mod NextLemmas
 pub mod AgreeLemmas
+pub mod MakerLemmas
+pub mod RenewedLemmas
 pub mod AdmitLemmas
 pub mod KeptLemmas
 pub mod CameLemmas

@@ -4,9 +4,9 @@ use Rattle.std.specs.Prelude.{◌*◌, ◌^◌, ℤ, pos}
 use Rattle.std.specs.List.{AllByRecursion}
 use Rattle.std.proofs.lemmas.Grind.{common_steps}
 use Rattle.std.proofs.lemmas.Int.{ints}
-use Rattle.epoch_rows.specs.Grown.{IsGrownLine, AreGrownLines, greatest_spare, greatest_err_spare, skips_of}
+use Rattle.epoch_rows.specs.Grown.{IsGrownRow, IsGrownLine, AreGrownLines, greatest_spare, greatest_err_spare, skips_of}
 use Rattle.epoch_rows.specs.Ready.{SkipsFit}
-use Rattle.log_words.specs.Fields.{IsNamed, SkipFits}
+use Rattle.log_tokens.specs.Fields.{IsNamed, SkipFits}
 use Rattle.paving_log.specs.Rows.{EntryFits}
 use Rattle.paving_log.specs.Text.{IsSkipped}
 use Rattle.rinex_obs.specs.Facts.{IsSatOf, AreNamedSats, AreDistinct}
@@ -89,10 +89,10 @@ pub is_small : (line : SatLine) (row : Row) → line ≡ Usable row → IsSmallL
 is_small line row e small = rw e at small
 
 -- the numbers by which a row was grown are these
-pub row_grown : (by b err_by err_b : ℤ) (line : SatLine) (own row : Row) → b ≡ by → err_b ≡ err_by → line ≡ Usable own → row.sat ≡ own.sat → AreBoundsGrown err_b own row
-    → IsGrown b own.x row.x → IsGrown b own.y row.y → IsGrown b own.z row.z → IsGrown b own.range row.range → IsGrownLine by err_by line (entry.Row row)
-row_grown by b err_by err_b line own row same err_same e sat bounds x y z range =
-    rw e (record { sat = sat; x = rw same at x; y = rw same at y; z = rw same at z; range = rw same at range; bounds = rw err_same at bounds })
+pub row_grown : (by b err_by err_b : ℤ) (own row : Row) → b ≡ by → err_b ≡ err_by → row.sat ≡ own.sat → AreBoundsGrown err_b own row
+    → IsGrown b own.x row.x → IsGrown b own.y row.y → IsGrown b own.z row.z → IsGrown b own.range row.range → IsGrownRow by err_by own row
+row_grown by b err_by err_b own row same err_same sat bounds x y z range =
+    record { sat = sat; x = rw same at x; y = rw same at y; z = rw same at z; range = rw same at range; bounds = rw err_same at bounds }
 
 -- ---- the satellites that they name
 
@@ -148,7 +148,7 @@ module _ (m : Meaning) (root : GridBox) (tag : ℤ) where
   skips_apart (seen ∷ sats) (Skipped sat skip ∷ own) distinct are =
       (no_skip_names sat sats own (subst (λ (s : Sat). Other s sats) (sym are.0.0) distinct.0) are.1, skips_apart sats own distinct.1 are.1)
 
-  line_names : (by err_by : ℤ) (seen : SatObs) (line : SatLine) (e : SatEntry) → IsOwnLine m root tag seen line → IsGrownLine by err_by line e → sat_of e ≡ seen.sat
+  pub line_names : (by err_by : ℤ) (seen : SatObs) (line : SatLine) (e : SatEntry) → IsOwnLine m root tag seen line → IsGrownLine by err_by line e → sat_of e ≡ seen.sat
   line_names by err_by seen (Usable row) (entry.Row wide) is grown = grown.sat ∙ is.0
   line_names by err_by seen (Usable row) (entry.Skipped sat skip) is grown = absurd grown
   line_names by err_by seen (Skipped sat skip) (entry.Row wide) is grown = absurd grown

@@ -1,6 +1,6 @@
 -- The block of an epoch passes the tests of its own lines.
 use Rattle.std.proofs.Common.{◌≡◌, ℕ, ◌+◌, Bool, true, false, List, sym, subst, ◌∙◌, arith}
-use Rattle.std.specs.Prelude.{pos, nat_lt, Option}
+use Rattle.std.specs.Prelude.{pos, nat_lt, Option, None, Some, is_none}
 use Rattle.std.proofs.lemmas.Bool.{ltb-true, ltb-false}
 use Rattle.epoch_rows.specs.Grown.{skips_of, HasBody, IsGrownBlock}
 use Rattle.epoch_selection.specs.Searches.{Search}
@@ -9,11 +9,11 @@ use Rattle.rinex_obs.specs.Facts.{AreDistinct}
 use Rattle.rinex_obs.specs.declared.obs.ObsEpoch.{ObsEpoch}
 use Rattle.grid_model.specs.Boxes.{GridBox}
 use Rattle.grid_model.specs.Lengths.{spare_of}
-use Rattle.sat_model.specs.Logs.{Block}
+use Rattle.sat_model.specs.Logs.{Body, Block, is_few}
 use Rattle.gnss_model.specs.Delays.{err_spare_of}
 use Rattle.sat_model.specs.Verdicts.{IsLater, SuitsNumber, CountsRows, NoneRepeats}
 use Rattle.sat_model.specs.declared.rules.Rules.{Rules}
-use Rattle.gnss_model.specs.declared.delays.Delays.{Delays}
+use Rattle.sat_model.specs.declared.rows.SatEntry.{SatEntry}
 use Rattle.sat_rows.specs.Meanings.{Meaning}
 use Rattle.sat_rows.specs.OwnRows.{AreLinesOf, usable_in}
 use Rattle.sat_rows.specs.declared.lines.SatLine.{SatLine}
@@ -26,16 +26,16 @@ suits : (few : Bool) (q n usable : ℕ) → few ≡ nat_lt usable (q + 4) → n 
 suits true q n usable few same = omega (arith, same, ltb-true usable (q + 4) (sym few))
 suits false q n usable few same = omega (arith, same, ltb-false usable (q + 4) (sym few))
 
-counts : (delays : Delays) (few : Bool) (n : ℕ) (root : GridBox) (own : List SatLine) (block : Block) → n ≡ usable_in own → HasBody delays few root own block → CountsRows few n block.sats
-counts delays true n root own block same body = tt
-counts delays false n root own block same body = grown_rows (pos (spare_of root)) (pos (err_spare_of root delays)) own block.sats body.0 ∙ sym same
+module _ (m : Meaning) (root : GridBox) (own : List SatLine) (sats : List SatEntry) where
+  counts : (n : ℕ) (body : Option Body) → n ≡ usable_in own → HasBody m.delays root own sats body → CountsRows (is_none body) n sats
+  counts n None same is = tt
+  counts n (Some body) same is = grown_rows (pos (spare_of root)) (pos (err_spare_of root m.delays)) own sats is.0 ∙ sym same
 
-module _ (m : Meaning) (root : GridBox) where
-  once : (few : Bool) (seen : ObsEpoch) (own : List SatLine) (block : Block) → AreDistinct seen.sats.items → AreLinesOf m root seen own → HasBody m.delays few root own block → NoneRepeats block.sats
-  once true seen own block distinct are body =
-      rw body.0 (none_repeats (skips_of own) (skips_apart m root seen.tag seen.sats.items own distinct are))
-  once false seen own block distinct are body =
-      none_repeats block.sats (lines_apart m root seen.tag (pos (spare_of root)) (pos (err_spare_of root m.delays)) seen.sats.items own block.sats distinct are body.0)
+  once : (body : Option Body) (seen : ObsEpoch) → AreDistinct seen.sats.items → AreLinesOf m root seen own → HasBody m.delays root own sats body → NoneRepeats sats
+  once None seen distinct are is =
+      rw is (none_repeats (skips_of own) (skips_apart m root seen.tag seen.sats.items own distinct are))
+  once (Some body) seen distinct are is =
+      none_repeats sats (lines_apart m root seen.tag (pos (spare_of root)) (pos (err_spare_of root m.delays)) seen.sats.items own sats distinct are is.0)
 
 -- it passes the tests of its own lines
 pub grown_passes : (m : Meaning) (rules : Rules) (before : Option ℕ) (search : Search) (block : Block) → IsLater before search.epoch.index
@@ -43,8 +43,8 @@ pub grown_passes : (m : Meaning) (rules : Rules) (before : Option ℕ) (search :
 grown_passes m rules before search block later distinct g = record {
   head = record {
     later = subst (IsLater before) (sym g.index) later;
-    suits = suits block.few rules.outliers block.n (usable_in g.own) g.few g.n;
-    counts = counts m.delays block.few block.n search.root g.own block g.n g.body;
+    suits = suits (is_few block) rules.outliers block.n (usable_in g.own) g.few g.n;
+    counts = counts m search.root g.own block.sats block.n block.body g.n g.body;
   };
-  sats = once m search.root block.few search.epoch g.own block distinct g.are_own g.body;
+  sats = once m search.root g.own block.sats block.body search.epoch distinct g.are_own g.body;
 }

@@ -1,7 +1,7 @@
 -- Each reason not to use a satellite can stand in a log.
 use Rattle.std.proofs.Common.{◌≡◌, ℕ, ◌≤◌, List, inl, inr, arith}
 use Rattle.std.specs.Prelude.{Option, None, Some}
-use Rattle.log_words.specs.Fields.{SkipFits}
+use Rattle.log_tokens.specs.Fields.{SkipFits}
 use Rattle.grid_model.specs.Boxes.{GridBox}
 use Rattle.gnss_model.specs.declared.satellites.Skip.{Skip}
 use Rattle.gnss_model.specs.declared.delays.Delays.{Delays}

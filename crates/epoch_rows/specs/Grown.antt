@@ -1,10 +1,10 @@
 -- Own rows with room at their ends, as the blocks of a log that has no steps yet.
-use Rattle.std.specs.Prelude.{ℕ, ◌≡◌, ◌+◌, ◌*◌, ◌/◌, ◌^◌, ℤ, pos, Bool, true, false, nat_lt, List}
-use Rattle.std.specs.Prelude.{[], ◌∷◌, None, Some}
+use Rattle.std.specs.Prelude.{ℕ, ◌≡◌, ◌+◌, ◌*◌, ◌/◌, ◌^◌, ℤ, pos, nat_lt, List, [], ◌∷◌}
+use Rattle.std.specs.Prelude.{Option, None, Some}
 use Rattle.epoch_selection.specs.Searches.{Search}
 use Rattle.grid_model.specs.Boxes.{GridBox}
 use Rattle.grid_model.specs.Lengths.{spare_of}
-use Rattle.sat_model.specs.Logs.{Block}
+use Rattle.sat_model.specs.Logs.{Body, Block, is_few}
 use Rattle.gnss_model.specs.Delays.{spare_over, err_spare_of}
 use Rattle.gnss_model.specs.declared.delays.Layer.TheVariants.{Troposphere, Ionosphere}
 use Rattle.sat_model.specs.declared.rows.Row.{Row}
@@ -59,30 +59,26 @@ skips_of (Skipped sat skip ∷ lines) = entry.Skipped sat skip ∷ skips_of line
 
 -- ---- blocks
 
--- Where too few satellites are usable a block has the skip lines alone. Else it has all lines,
--- whose rows are wider by W at both ends, those of the ends of the error by G, and the root.
-abbrev pub HasBody : Delays → Bool → GridBox → List SatLine → Block → Type 0
-HasBody delays true root own block = (block.sats ≡ skips_of own) × (block.root ≡ None)
-HasBody delays false root own block =
-    AreGrownLines (pos (spare_of root)) (pos (err_spare_of root delays)) own block.sats
-    × (block.root ≡ Some root)
+-- a root that isn't paved yet
+abbrev pub bare_body : GridBox → Body
+bare_body root = record { root = root; events = []; done = 0 }
+
+-- A block without a body has the skip lines alone. Else it has all lines, whose rows are wider by W
+-- at both ends, those of the ends of the error by G, and the root.
+abbrev pub HasBody : Delays → GridBox → List SatLine → List SatEntry → Option Body → Type 0
+HasBody delays root own sats None = sats ≡ skips_of own
+HasBody delays root own sats (Some body) =
+    AreGrownLines (pos (spare_of root)) (pos (err_spare_of root delays)) own sats
+    × (body ≡ bare_body root)
 
 -- by what a source says of satellites, where so many of them may be inconsistent
 module _ (m : Meaning) (q : ℕ) where
-  -- the block of a search
+  -- the block of a search, without a body where too few satellites are usable
   pub record IsGrownBlock (search : Search) (block : Block) : Type 0 where
     pub own : List SatLine
     pub are_own : AreLinesOf m search.root search.epoch own
     pub index : block.index ≡ search.epoch.index
     pub ps : block.ps ≡ search.epoch.tag
     pub n : block.n ≡ usable_in own
-    pub few : block.few ≡ nat_lt (usable_in own) (q + 4)
-    pub body : HasBody m.delays block.few search.root own block
-
-  -- one for each search, in order
-  abbrev pub AreGrown : List Search → List Block → Type 0
-  AreGrown [] [] = Unit {0}
-  AreGrown [] (block ∷ blocks) = ⊥
-  AreGrown (search ∷ searches) [] = ⊥
-  AreGrown (search ∷ searches) (block ∷ blocks) =
-      IsGrownBlock search block × AreGrown searches blocks
+    pub few : is_few block ≡ nat_lt (usable_in own) (q + 4)
+    pub body : HasBody m.delays search.root own block.sats block.body

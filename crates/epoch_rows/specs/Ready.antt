@@ -1,7 +1,7 @@
 -- Which epochs the blocks of a log may be formed of.
 use Rattle.std.specs.Prelude.{ℕ, ℤ, List, [], ◌∷◌, Option, Some}
 use Rattle.epoch_selection.specs.Selections.{first_epoch, last_epoch}
-use Rattle.log_words.specs.Fields.{IsCountFromTo, SkipFits}
+use Rattle.log_tokens.specs.Fields.{IsCountFromTo, SkipFits}
 use Rattle.rinex_obs.specs.Facts.{AreDistinct, AreNamedSats}
 use Rattle.rinex_obs.specs.declared.obs.ObsEpoch.{ObsEpoch}
 use Rattle.rinex_obs.specs.declared.obs.SatObs.{SatObs}

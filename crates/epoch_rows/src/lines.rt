@@ -1,16 +1,16 @@
 //! The satellite lines of a block.
 
 ghost use Rattle.std.specs.Prelude.{◌≡◌, ◌≤◌, pos, IfOk};
-ghost use Rattle.epoch_rows.specs.Grown.{IsGrownLine, AreGrownLines, greatest_spare};
+ghost use Rattle.epoch_rows.specs.Grown.{IsGrownRow, IsGrownLine, AreGrownLines, greatest_spare};
 ghost use Rattle.epoch_rows.specs.Grown.{greatest_err_spare, skips_of};
 ghost use Rattle.grid_model.specs.Boxes.{grid_box};
 ghost use Rattle.grid_model.specs.Lengths.{spare_of};
 ghost use Rattle.gnss_model.specs.Delays.{AreDelays, err_spare_of};
-ghost use Rattle.sat_rows.specs.OwnRows.{IsSmallLine, AreSmall};
+ghost use Rattle.sat_rows.specs.OwnRows.{IsSmallRow, IsSmallLine, AreSmall};
 
 use gnss_model::{Delays, err_spare, spare};
 use grid_model::{Box3, NoMemory};
-use sat_model::SatEntry;
+use sat_model::{Row, SatEntry};
 use sat_rows::{SatLine, grown};
 use std::alloc::Global;
 
@@ -32,6 +32,16 @@ fn err_room_over(root: &Box3, delays: Delays) -> i64
     err_spare(root, delays)
 }
 
+/// The row of a box, wider by this at both ends.
+pub fn grown_row(row: &Row, part: &Box3, delays: Delays) -> Row
+    requires small { IsSmallRow row.now }
+    requires delays { AreDelays delays }
+    ensures { IsGrownRow (pos (spare_of (grid_box part.now)))
+        (pos (err_spare_of (grid_box part.now) delays)) row.now result }
+{
+    grown(row, room_over(part), err_room_over(part, delays))
+}
+
 /// The line, whose row is wider by this at both ends.
 fn grown_line(line: &SatLine, root: &Box3, delays: Delays) -> SatEntry
     requires small { IsSmallLine line.now }
@@ -40,9 +50,7 @@ fn grown_line(line: &SatLine, root: &Box3, delays: Delays) -> SatEntry
         (pos (err_spare_of (grid_box root.now) delays)) line.now result }
 {
     match line {
-        SatLine::Usable(row) => {
-            SatEntry::Row(grown(row, room_over(root), err_room_over(root, delays)))
-        }
+        SatLine::Usable(row) => SatEntry::Row(grown_row(row, root, delays)),
         SatLine::Skipped { sat, skip } => SatEntry::Skipped {
             sat: *sat,
             skip: *skip,

@@ -1,39 +1,46 @@
 -- The blocks of a log, checked one by one against the searches.
 use Rattle.std.proofs.Common.{◌≡◌, ℕ, ◌+◌, ◌≤◌, arith, List, [], ◌∷◌, length, inl, inr, refl, sym, ap, Option, None, Some}
 use Rattle.epoch_selection.specs.Searches.{Search}
+use Rattle.gnss_model.specs.declared.delays.Delays.{Delays}
 use Rattle.grid_model.specs.Boxes.{GridBox}
+use Rattle.sat_model.specs.BoxTests.{test_in}
 use Rattle.sat_model.specs.Cover.{kept_in, kept_boxes_in, kept_boxes}
-use Rattle.sat_model.specs.Logs.{Block, LogValue, lines_in, IsNumberedFrom, IsNumbered}
+use Rattle.sat_model.specs.Logs.{Body, Block, LogValue, first_rows, lines_in, IsNumberedFrom, IsNumbered}
+use Rattle.sat_model.specs.Stages.{first_stage}
 use Rattle.sat_model.specs.Verdicts.{BodyPasses}
+use Rattle.sat_model.specs.declared.rows.Row.{Row}
 use Rattle.sat_model.specs.declared.rules.Rules.{Rules}
 use Rattle.sat_rows.specs.Meanings.{Meaning, IsSound}
-use Rattle.sat_rows.specs.declared.lines.SatLine.{SatLine}
-use Rattle.paving_log.specs.Values.{log_value}
-use Rattle.paving_log.specs.declared.log.Log.{Log}
-use Rattle.paving_log_check.specs.Admissible.{AreSameRules, IsOf, IsDue, AdmitsFrom, BlockFault, FailsFrom, FailsFirst, AreOwn}
+use Rattle.paving_log_check.specs.Admissible.{AreSameRules, IsOf, IsDue, AdmitsFrom, BlockFault, FailsFrom, FailsFirst}
 use Rattle.paving_log_check.specs.Answers.{ShowsNoSpans}
 use Rattle.paving_log_check.specs.Checked.{EpochAccepted, EpochRefused, IsAccepted, IsRefused}
 use Rattle.paving_log_check.specs.Epochs.{BodyPassesAt, EpochFails}
+use Rattle.paving_log_check.specs.OwnLines.{OwnLines, AreOwn, AreWhole}
+use Rattle.paving_log_check.specs.Renewed.{HoldsGiven}
 use Rattle.paving_log_check.specs.declared.verdict.Fault.{Fault}
 use Rattle.paving_log_check.proofs.FirstFaultLemmas.{not_both, one_fault}
-use Rattle.paving_log_check.proofs.FitLemmas.{AreInBoxes, blocks_fit}
+use Rattle.paving_log_check.proofs.FitLemmas.{AreInBoxes, fit_all}
+use Rattle.paving_log_check.proofs.GivenLemmas.{events_any}
 use Rattle.paving_log_check.proofs.NarrowLemmas.{log_narrow}
 use Rattle.paving_log_check.proofs.BlockLemmas.{last_number}
 
-pub body_passes : (rules : Rules) (root : GridBox) (block : Block) (theirs : Option GridBox) → BodyPassesAt rules root block theirs → BodyPasses rules block theirs
-body_passes rules root block None h = tt
-body_passes rules root block (Some theirs) h = rw h.0 h.1
+pub body_passes : (delays : Delays) (rules : Rules) (root : GridBox) (renewed : List (List Row)) (block : Block) (body : Option Body)
+    → BodyPassesAt delays rules root renewed block body → BodyPasses rules block body
+body_passes delays rules root renewed block None h = tt
+body_passes delays rules root renewed block (Some body) h =
+    events_any (HoldsGiven delays renewed) (first_rows block body) rules body.done 0 (first_stage (test_in rules block) body.root) body.events h.1
 
 module _ (m : Meaning) where
   -- behind these blocks, what holds for own lines of the searches left holds for more lines from the start on
   pub record IsUnderway (rules : Rules) (searches : List Search) (log : LogValue) (before : Option ℕ) (next boxes : ℕ)
       (rest : List Search) (left : List Block) : Type 0 where
-    pub whole : List (List SatLine) → List (List SatLine)
-    pub pass : (owns : List (List SatLine)) → AdmitsFrom m.delays rules before owns rest left → AdmitsFrom m.delays rules None (whole owns) searches log.blocks
-    pub fail : (owns : List (List SatLine)) (fault : Fault) → FailsFrom m.delays rules next before owns rest left fault
+    pub whole : List OwnLines → List OwnLines
+    pub pass : (owns : List OwnLines) → AdmitsFrom m.delays rules before owns rest left → AdmitsFrom m.delays rules None (whole owns) searches log.blocks
+    pub fail : (owns : List OwnLines) (fault : Fault) → FailsFrom m.delays rules next before owns rest left fault
         → FailsFrom m.delays rules 3 None (whole owns) searches log.blocks fault
-    pub own : (owns : List (List SatLine)) → AreOwn m rest owns → AreOwn m searches (whole owns)
-    pub long : (owns : List (List SatLine)) → length owns ≡ length rest → length (whole owns) ≡ length searches
+    pub own : (owns : List OwnLines) → AreOwn m rest left owns → AreOwn m searches log.blocks (whole owns)
+    pub full : (owns : List OwnLines) → AreWhole owns left → AreWhole (whole owns) log.blocks
+    pub long : (owns : List OwnLines) → length owns ≡ length rest → length (whole owns) ≡ length searches
     pub kept : boxes + kept_boxes_in left ≡ kept_boxes log
     pub numbered : IsNumberedFrom next left
     pub few_boxes : boxes ≤ next
@@ -45,6 +52,7 @@ module _ (m : Meaning) where
     pass = λ owns h. h;
     fail = λ owns fault h. h;
     own = λ owns h. h;
+    full = λ owns h. h;
     long = λ owns e. e;
     kept = omega arith;
     numbered = numbered;
@@ -55,13 +63,14 @@ module _ (m : Meaning) where
   pub underway_more : {rules : Rules} {searches : List Search} {log : LogValue} {before : Option ℕ} {next boxes : ℕ} {rest : List Search} {left : List Block}
       (search : Search) (more : List Search) (block : Block) (behind : List Block) (kept : ℕ)
       → IsUnderway rules searches log before next boxes rest left → rest ≡ search ∷ more → left ≡ block ∷ behind
-      → IsOf rules before search.epoch block → EpochAccepted m rules search block → kept ≡ kept_in block block.root → kept ≤ lines_in block
+      → IsOf rules before search.epoch block → EpochAccepted m rules search block → kept ≡ kept_in block.body → kept ≤ lines_in block
       → IsUnderway rules searches log (Some block.index) (next + lines_in block) (boxes + kept) more behind
   underway_more {next = next} {boxes = boxes} search more block behind kept u is first is_of accepted is_kept few = record {
     whole = λ owns. u.whole (accepted.own ∷ owns);
     pass = λ owns h. u.pass (accepted.own ∷ owns) (rw (is, first) (is_of, accepted.passes, h));
     fail = λ owns fault h. u.fail (accepted.own ∷ owns) fault (rw (is, first) (inr (inr (is_of, accepted.passes, h))));
-    own = λ owns h. u.own (accepted.own ∷ owns) (rw is (accepted.are_own, h));
+    own = λ owns h. u.own (accepted.own ∷ owns) (rw (is, first) (accepted.are_own, h));
+    full = λ owns h. u.full (accepted.own ∷ owns) (rw first (accepted.whole, h));
     long = λ owns e. u.long (accepted.own ∷ owns) (omega (arith, e, ap length is));
     kept = omega (arith, u.kept, ap kept_boxes_in first, is_kept);
     numbered = (rw first at u.numbered).1;
@@ -92,8 +101,8 @@ module _ (m : Meaning) where
         narrow = λ is. absurd (omega (arith, number));
       }
 
-  refused_by : (rules : Rules) (searches : List Search) (log : LogValue) (fault : Fault) (owns : List (List SatLine)) → AreSameRules rules log.rules
-      → AreOwn m searches owns → FailsFrom m.delays rules 3 None owns searches log.blocks fault → IsRefused m searches rules log fault
+  refused_by : (rules : Rules) (searches : List Search) (log : LogValue) (fault : Fault) (owns : List OwnLines) → AreSameRules rules log.rules
+      → AreOwn m searches log.blocks owns → FailsFrom m.delays rules 3 None owns searches log.blocks fault → IsRefused m searches rules log fault
   refused_by rules searches log fault owns same own fails =
       let first : FailsFirst m.delays searches owns rules log fault = inr (same, fails) in
       record {
@@ -105,24 +114,21 @@ module _ (m : Meaning) where
         narrow = log_narrow m rules 3 None owns searches log.blocks fault own fails;
       }
 
-  none_own : (searches : List Search) → AreOwn m searches []
-  none_own searches = tt
-
   pub due_refused : {rules : Rules} {searches : List Search} {log : LogValue} {before : Option ℕ} {next boxes : ℕ} {rest : List Search} {left : List Block}
       (fault : Fault) → IsUnderway rules searches log before next boxes rest left → AreSameRules rules log.rules → (IsDue rules before rest left → ⊥)
       → fault.line ≡ next → fault.number ≡ 51 → ShowsNoSpans fault → IsRefused m searches rules log fault
   due_refused {rules = rules} {searches = searches} {log = log} {rest = rest} fault u same not_due line number none =
-      refused_by rules searches log fault (u.whole []) same (u.own [] (none_own rest))
+      refused_by rules searches log fault (u.whole []) same (u.own [] tt)
       (u.fail [] fault (record { fails = not_due; line = line; number = number; no_spans = none }))
 
   pub block_refused : {rules : Rules} {searches : List Search} {log : LogValue} {before : Option ℕ} {next boxes : ℕ} {rest : List Search} {left : List Block}
       (search : Search) (more : List Search) (block : Block) (behind : List Block) (found fault : Fault)
       → IsUnderway rules searches log before next boxes rest left → AreSameRules rules log.rules → rest ≡ search ∷ more → left ≡ block ∷ behind
       → IsOf rules before search.epoch block → EpochRefused m rules search block found
-      → ((own : List SatLine) → EpochFails m.delays rules search.root own block found → BlockFault m.delays rules (next + lines_in block) own search more block behind fault)
+      → ((own : OwnLines) → EpochFails m.delays rules search.root own block found → BlockFault m.delays rules (next + lines_in block) own search more block behind fault)
       → IsRefused m searches rules log fault
   block_refused {rules = rules} {searches = searches} {log = log} {next = next} search more block behind found fault u same is first is_of refused fails =
-      refused_by rules searches log fault (u.whole (refused.own ∷ [])) same (u.own (refused.own ∷ []) (rw is (refused.are_own, none_own more)))
+      refused_by rules searches log fault (u.whole (refused.own ∷ [])) same (u.own (refused.own ∷ []) (rw (is, first) (refused.are_own, tt)))
       (u.fail (refused.own ∷ []) fault (rw (is, first) (inr (inl (is_of, fails refused.own refused.fails)))))
 
   -- ---- the end
@@ -131,19 +137,20 @@ module _ (m : Meaning) where
   ended_rest rules before [] h = refl
   ended_rest rules before (search ∷ rest) h = absurd h
 
-  pub all_accepted : {rules : Rules} {searches : List Search} {before : Option ℕ} {next boxes : ℕ} {rest : List Search} {left : List Block} (log : Log)
+  pub all_accepted : {rules : Rules} {searches : List Search} {before : Option ℕ} {next boxes : ℕ} {rest : List Search} {left : List Block} (log : LogValue)
       → IsSound m → AreInBoxes searches
-      → IsUnderway rules searches (log_value log) before next boxes rest left → AreSameRules rules log.rules → left ≡ [] → IsDue rules before rest []
-      → IsAccepted m searches rules (log_value log) boxes
+      → IsUnderway rules searches log before next boxes rest left → AreSameRules rules log.rules → left ≡ [] → IsDue rules before rest []
+      → IsAccepted m searches rules log boxes
   all_accepted {rules = rules} {searches = searches} {before = before} {boxes = boxes} {rest = rest} {left = left} log sound boxes_in u same ended due =
       let none = ended_rest rules before rest due in
       let admits = u.pass [] (rw ended due) in
-      let own = u.own [] (none_own rest) in
+      let own = u.own [] tt in
+      let whole = u.full [] tt in
       let long = u.long [] (sym (ap length none)) in
       record {
         owns = u.whole [];
         are_own = own;
-        admissible = record { each = long; admits = record { same_rules = same; blocks = admits } };
-        cover = blocks_fit m sound rules None (u.whole []) searches log.epochs.items boxes_in admits own long;
+        admissible = record { each = long; whole = whole; admits = record { same_rules = same; blocks = admits } };
+        cover = fit_all m sound rules None (u.whole []) searches log.blocks boxes_in admits own whole long;
         boxes_are = omega (arith, u.kept, ap kept_boxes_in ended);
       }

@@ -1,27 +1,60 @@
 -- A block whose own lines pass is decided by its body.
-use Rattle.std.proofs.Common.{◌≡◌, List, inr, Option, None, Some, Result, Ok, Err}
+use Rattle.std.proofs.Common.{◌≡◌, ℕ, ◌+◌, arith, List, length, inr, Option, None, Some, Result, Ok, Err}
 use Rattle.std.specs.Prelude.{IfOk, MatchOption}
 use Rattle.grid_model.specs.Boxes.{GridBox}
-use Rattle.sat_model.specs.Logs.{Block}
+use Rattle.sat_model.specs.declared.rows.Row.{Row}
+use Rattle.sat_model.specs.Logs.{Body, Block, is_few, rows_of}
 use Rattle.grid_model.specs.declared.memory.NoMemory.{NoMemory}
 use Rattle.sat_model.specs.declared.rules.Rules.{Rules}
 use Rattle.gnss_model.specs.declared.delays.Delays.{Delays}
+use Rattle.sat_rows.specs.declared.bases.Base.{Base}
 use Rattle.sat_rows.specs.declared.lines.SatLine.{SatLine}
-use Rattle.paving_log_check.specs.Epochs.{Counts, IsWhole, BodyPassesAt, BodyFailsAt, EpochPasses, EpochFails}
+use Rattle.paving_log_check.specs.Epochs.{Counts, IsWhole}
+use Rattle.paving_log_check.specs.Forming.{EventsHold, EventsBreak, BodyHolds, BodyBreaks, EpochHolds, EpochBreaks}
 use Rattle.paving_log_check.specs.Lines.{expected, SatsPass}
 use Rattle.paving_log_check.specs.declared.verdict.Fault.{Fault}
 
-body_decides : (delays : Delays) (rules : Rules) (root : GridBox) (own : List SatLine) (block : Block) (theirs : GridBox) (found : Option Fault)
-    → Counts own block → SatsPass delays block.sats (expected block.few own) → IsWhole own block → block.root ≡ Some theirs
-    → MatchOption found (BodyPassesAt rules root block (Some theirs)) (λ fault. BodyFailsAt rules root block theirs fault)
-    → MatchOption found (EpochPasses delays rules root own block) (λ fault. EpochFails delays rules root own block fault)
-body_decides delays rules root own block theirs None counts sats whole is body = record { counts = counts; sats = sats; whole = whole; body = rw is body }
-body_decides delays rules root own block theirs (Some fault) counts sats whole is body =
-    inr (inr (inr (record { counts = counts; sats = sats; whole = whole; theirs = theirs; is_root = is; fails = body })))
+module _ (delays : Delays) (rules : Rules) (root : GridBox) (lines : List SatLine) (bases : List Base) (block : Block) (body : Body) where
+  body_decides : (found : Option Fault)
+      → Counts lines block → SatsPass delays block.sats (expected (is_few block) lines) → IsWhole lines block → block.body ≡ Some body
+      → MatchOption found (BodyHolds delays rules root bases block body) (λ fault. BodyBreaks delays rules root bases block body fault)
+      → MatchOption found (EpochHolds delays rules root lines bases block) (λ fault. EpochBreaks delays rules root lines bases block fault)
+  body_decides None counts sats whole is h = record {
+    renewed = h.renewed;
+    formed = rw is h.formed;
+    many = rw is h.many;
+    passes = record { counts = counts; sats = sats; whole = whole; body = rw is h.passes };
+  }
+  body_decides (Some fault) counts sats whole is h = record {
+    renewed = h.renewed;
+    formed = rw is h.formed;
+    fails = inr (inr (inr (record { counts = counts; sats = sats; whole = whole; body = body; is_body = is; fails = h.fails })));
+  }
 
-pub body_decided : (delays : Delays) (rules : Rules) (root : GridBox) (own : List SatLine) (block : Block) (theirs : GridBox) (result : Result (Option Fault) NoMemory)
-    → Counts own block → SatsPass delays block.sats (expected block.few own) → IsWhole own block → block.root ≡ Some theirs
-    → IfOk result (λ found. MatchOption found (BodyPassesAt rules root block (Some theirs)) (λ fault. BodyFailsAt rules root block theirs fault))
-    → IfOk result (λ found. MatchOption found (EpochPasses delays rules root own block) (λ fault. EpochFails delays rules root own block fault))
-body_decided delays rules root own block theirs (Ok found) counts sats whole is body = body_decides delays rules root own block theirs found counts sats whole is body
-body_decided delays rules root own block theirs (Err e) counts sats whole is body = tt
+  pub body_decided : (result : Result (Option Fault) NoMemory)
+      → Counts lines block → SatsPass delays block.sats (expected (is_few block) lines) → IsWhole lines block → block.body ≡ Some body
+      → IfOk result (λ found. MatchOption found (BodyHolds delays rules root bases block body) (λ fault. BodyBreaks delays rules root bases block body fault))
+      → IfOk result (λ found. MatchOption found (EpochHolds delays rules root lines bases block) (λ fault. EpochBreaks delays rules root lines bases block fault))
+  body_decided (Ok found) counts sats whole is h = body_decides found counts sats whole is h
+  body_decided (Err e) counts sats whole is h = tt
+
+  -- ---- the body
+
+  -- behind the given root it is decided by its steps and renewals
+  pub body_at : (result : Result (Option Fault) NoMemory) (firsts : List Row) (line : ℕ) → body.root ≡ root → firsts ≡ rows_of block.sats
+      → IfOk result (λ found. MatchOption found (EventsHold delays root firsts bases rules body.done body.events)
+      (λ fault. (k : ℕ) × EventsBreak delays root firsts bases rules body.done body.events k fault × (fault.line ≡ line + k)))
+      → line ≡ block.line + 2 + length block.sats
+      → IfOk result (λ found. MatchOption found (BodyHolds delays rules root bases block body) (λ fault. BodyBreaks delays rules root bases block body fault))
+  body_at (Ok None) firsts line same is h begins = record {
+    renewed = h.renewed;
+    formed = h.formed;
+    many = h.many;
+    passes = (same, rw same (rw is at h.passes));
+  }
+  body_at (Ok (Some fault)) firsts line same is (k, f, at) begins = record {
+    renewed = f.renewed;
+    formed = f.formed;
+    fails = inr (record { same = same; k = k; fails = rw same (rw is at f.fails); line = omega (arith, at, begins) });
+  }
+  body_at (Err e) firsts line same is h begins = tt

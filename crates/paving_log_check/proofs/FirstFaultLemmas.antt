@@ -1,27 +1,29 @@
 -- A log that is admitted has no fault, and for given own lines a first fault is the only one.
-use Rattle.std.proofs.Common.{◌≡◌, ℕ, ◌+◌, arith, true, List, [], ◌∷◌, length, inl, inr, refl, sym, ap, subst, ◌∙◌, Option, None, Some}
-use Rattle.std.specs.Prelude.{ℤ, pos, slice_get}
+use Rattle.std.proofs.Common.{◌≡◌, ℕ, ◌+◌, arith, List, [], ◌∷◌, inl, inr, sym, ap, subst, ◌∙◌, Option, None, Some}
+use Rattle.std.specs.Prelude.{ℤ, slice_get}
 use Rattle.std.proofs.lemmas.Bool.{cases_order}
 use Rattle.epoch_selection.specs.Searches.{Search}
 use Rattle.grid_model.specs.Boxes.{Side, GridBox, span_side}
 use Rattle.sat_model.specs.BoxTests.{test_in}
 use Rattle.sat_model.specs.Stages.{first_stage}
-use Rattle.sat_model.specs.Logs.{Block, LogValue, lines_in}
+use Rattle.sat_model.specs.Logs.{Body, Block, LogValue, first_rows, lines_in}
 use Rattle.sat_model.specs.Relaxed.{ends}
-use Rattle.sat_model.specs.Verdicts.{NoneRepeats, HeadPasses, StepsPass, StepsFail}
+use Rattle.sat_model.specs.declared.rows.Row.{Row}
 use Rattle.sat_model.specs.declared.rules.Rules.{Rules}
 use Rattle.sat_model.specs.declared.rows.SatEntry.{SatEntry}
 use Rattle.sat_model.specs.declared.rows.SatEntry.TheVariants as entry
 use Rattle.gnss_model.specs.declared.delays.Delays.{Delays}
-use Rattle.sat_model.proofs.FaultLemmas.{one_first_fault}
-use Rattle.sat_model.proofs.VerdictLemmas.{block_not_both}
+use Rattle.sat_model.proofs.FaultLemmas.{AreSharp, one_in_events}
+use Rattle.sat_model.proofs.VerdictLemmas.{AreExclusive, events_not_both}
 use Rattle.sat_rows.specs.declared.lines.SatLine.{SatLine}
 use Rattle.sat_rows.specs.declared.lines.SatLine.TheVariants.{Usable, Skipped}
 use Rattle.paving_log_check.specs.Admissible.{DueFails, AdmitsFrom, BlockFault, FailsFrom, Admits, FailsFirst}
 use Rattle.paving_log_check.specs.Answers.{ShowsNoSpans}
 use Rattle.paving_log_check.specs.Checked.{AreSameFault}
 use Rattle.paving_log_check.specs.Epochs.{EpochPasses, BodyFailsAt, BodyDiffers, EpochFails}
-use Rattle.paving_log_check.specs.Lines.{expected, HoldEach, compared, IsFirstNarrow, IsExpected, RowPasses, RowFails, LinePasses, LineFails, SatsPass, SatsFail}
+use Rattle.paving_log_check.specs.Lines.{HoldEach, compared, IsFirstNarrow, IsExpected, RowPasses, RowFails, LinePasses, LineFails, SatsPass, SatsFail}
+use Rattle.paving_log_check.specs.OwnLines.{OwnLines}
+use Rattle.paving_log_check.specs.Renewed.{IsGiven, own_tests}
 use Rattle.paving_log_check.specs.declared.verdict.Fault.{Fault}
 use Rattle.epoch_selection.proofs.SelectionLemmas.{same_some}
 
@@ -69,31 +71,6 @@ row_at : {sats : List SatEntry} {lines : List SatLine} {k : ℕ} (Meets : SatEnt
 row_at {sats = sats} {lines = lines} {k = k} Meets e f h =
     subst (λ t. Meets t f.ours) (same_some (slice_get sats k) e.theirs f.theirs e.theirs_at f.theirs_at)
     (subst (λ o. Meets e.theirs o) (same_some (slice_get lines k) e.ours f.ours e.ours_at f.ours_at) h)
-
--- ---- steps: those of a block that has nothing else to fail
-
-abbrev alone : Block → GridBox → Block
-alone block root = record { line = 0; index = 0; ps = pos 0; n = 0; few = true; sats = block.sats; root = Some root; steps = block.steps; done = block.done }
-
-head_alone : (rules : Rules) (block : Block) (root : GridBox) → HeadPasses rules None (alone block root)
-head_alone rules block root = record { later = tt; suits = omega arith; counts = tt }
-
-steps_not_both : (rules : Rules) (root : GridBox) (block : Block) (k number : ℕ) → NoneRepeats block.sats
-    → StepsPass rules block.done (first_stage (test_in rules block) root) block.steps
-    → StepsFail rules block.done (first_stage (test_in rules block) root) block.steps k number → ⊥
-steps_not_both rules root block k number none h f =
-    block_not_both rules None (alone block root) (0 + 2 + length block.sats + k) number
-    (record { head = head_alone rules block root; sats = none; body = h }) (inr (inr (head_alone rules block root, none, (root, k, refl, f, refl))))
-
-one_in_steps : (rules : Rules) (root : GridBox) (block : Block) (j n k m : ℕ) → NoneRepeats block.sats
-    → StepsFail rules block.done (first_stage (test_in rules block) root) block.steps j n
-    → StepsFail rules block.done (first_stage (test_in rules block) root) block.steps k m → (j ≡ k) × (n ≡ m)
-one_in_steps rules root block j n k m none f g =
-    let log : LogValue = record { rules = rules; blocks = alone block root ∷ [] } in
-    let head = head_alone rules block root in
-    let same = one_first_fault log (0 + 2 + length block.sats + j) n (0 + 2 + length block.sats + k) m
-    (inl (inr (inr (head, none, (root, j, refl, f, refl))))) (inl (inr (inr (head, none, (root, k, refl, g, refl))))) in
-    (omega (arith, same.0), same.1)
 
 -- by the delays that are mapped
 module _ (delays : Delays) where
@@ -143,40 +120,58 @@ module _ (delays : Delays) where
     ]
   ]
 
-  none_repeats : (sats : List SatEntry) (lines : List SatLine) → SatsPass delays sats lines → NoneRepeats sats
-  none_repeats sats lines h k r = (h k r.is_line).is_expected.once r
+  -- ---- lines of renewals
+
+  -- at a place one own row is given
+  one_given : (renewed : List (List Row)) (j i : ℕ) (ours other : Row) → IsGiven renewed j i ours → IsGiven renewed j i other → ours ≡ other
+  one_given renewed j i ours other (rows, at, is) (again, here, there) =
+      let same = same_some (slice_get renewed j) again rows here at in
+      same_some (slice_get rows i) ours other is (subst (λ l. slice_get l i ≡ Some other) same there)
+
+  own_exclusive : (renewed : List (List Row)) → AreExclusive (own_tests delays renewed)
+  own_exclusive renewed j i row fault h (ours, given, fails) = row_not_both (entry.Row row) (Usable ours) fault (h ours given) fails
+
+  own_sharp : (renewed : List (List Row)) → AreSharp (own_tests delays renewed) AreAlike
+  own_sharp renewed = record {
+    exclusive = own_exclusive renewed;
+    one = λ j i row f g (ours, given, fails) (other, too, fail).
+        one_in_row (entry.Row row) (Usable ours) f g fails
+        (subst (λ r. RowFails delays (entry.Row row) (Usable r) g) (one_given renewed j i other ours too given) fail);
+    told = both_plain;
+  }
 
   -- ---- a block
 
-  pub epoch_not_both : (rules : Rules) (root : GridBox) (own : List SatLine) (block : Block) (fault : Fault)
+  pub epoch_not_both : (rules : Rules) (root : GridBox) (own : OwnLines) (block : Block) (fault : Fault)
       → EpochPasses delays rules root own block → EpochFails delays rules root own block fault → ⊥
   epoch_not_both rules root own block fault h (inl head) = head.differs h.counts
   epoch_not_both rules root own block fault h (inr (inl sats)) = sats_not_both sats.k fault h.sats sats.fails
   epoch_not_both rules root own block fault h (inr (inr (inl missing))) = absurd (omega (arith, missing.missing, h.whole))
-  epoch_not_both rules root own block fault h (inr (inr (inr body))) =
-      let at = rw body.is_root at h.body in
-      elim body.fails [
+  epoch_not_both rules root own block fault h (inr (inr (inr b))) =
+      let at = rw b.is_body at h.body in
+      elim b.fails [
         | inl differs ↦ differs.differs at.0
-        | inr step ↦ steps_not_both rules root block step.k fault.number (none_repeats block.sats (expected block.few own) h.sats) at.1 step.fails
+        | inr event ↦ events_not_both (own_tests delays own.renewed) (own_exclusive own.renewed) (first_rows block b.body) rules b.body.done
+            0 (first_stage (test_in rules block) b.body.root) b.body.events event.k fault at.1 event.fails
       ]
 
-  one_in_body : (rules : Rules) (root : GridBox) (own : List SatLine) (block : Block) (a b : Fault)
+  one_in_body : (rules : Rules) (root : GridBox) (own : OwnLines) (block : Block) (a b : Fault)
       → BodyDiffers delays rules root own block a → BodyDiffers delays rules root own block b → AreSameFault a b
   one_in_body rules root own block a b f g =
-      let same = same_some block.root g.theirs f.theirs g.is_root f.is_root in
-      one_at rules root block f.theirs a b (none_repeats block.sats (expected block.few own) f.sats) f.fails
-      (subst (λ t. BodyFailsAt rules root block t b) same g.fails)
+      let same = same_some block.body g.body f.body g.is_body f.is_body in
+      one_at rules root own.renewed block f.body a b f.fails (subst (λ t. BodyFailsAt delays rules root own.renewed block t b) same g.fails)
     where
-      one_at : (rules : Rules) (root : GridBox) (block : Block) (theirs : GridBox) (a b : Fault) → NoneRepeats block.sats
-          → BodyFailsAt rules root block theirs a → BodyFailsAt rules root block theirs b → AreSameFault a b
-      one_at rules root block theirs a b none (inl f) (inl g) = same_plain a b (f.line ∙ sym g.line) (f.number ∙ sym g.number) f.no_spans g.no_spans
-      one_at rules root block theirs a b none (inl f) (inr g) = absurd (f.differs g.same)
-      one_at rules root block theirs a b none (inr f) (inl g) = absurd (g.differs f.same)
-      one_at rules root block theirs a b none (inr f) (inr g) =
-          let same = one_in_steps rules root block f.k a.number g.k b.number none f.fails g.fails in
-          same_plain a b (omega (arith, f.line, g.line, same.0)) same.1 f.no_spans g.no_spans
+      one_at : (rules : Rules) (root : GridBox) (renewed : List (List Row)) (block : Block) (body : Body) (a b : Fault)
+          → BodyFailsAt delays rules root renewed block body a → BodyFailsAt delays rules root renewed block body b → AreSameFault a b
+      one_at rules root renewed block body a b (inl f) (inl g) = same_plain a b (f.line ∙ sym g.line) (f.number ∙ sym g.number) f.no_spans g.no_spans
+      one_at rules root renewed block body a b (inl f) (inr g) = absurd (f.differs g.same)
+      one_at rules root renewed block body a b (inr f) (inl g) = absurd (g.differs f.same)
+      one_at rules root renewed block body a b (inr f) (inr g) =
+          let same = one_in_events (own_tests delays renewed) AreAlike (own_sharp renewed) (first_rows block body) rules body.done
+          0 (first_stage (test_in rules block) body.root) body.events f.k a g.k b f.fails g.fails in
+          on_line a b (omega (arith, f.line, g.line, same.0)) same.1
 
-  pub one_in_epoch : (rules : Rules) (root : GridBox) (own : List SatLine) (block : Block) (a b : Fault)
+  pub one_in_epoch : (rules : Rules) (root : GridBox) (own : OwnLines) (block : Block) (a b : Fault)
       → EpochFails delays rules root own block a → EpochFails delays rules root own block b → AreSameFault a b
   one_in_epoch rules root own block a b (inl f) (inl g) = same_plain a b (f.line ∙ sym g.line) (f.number ∙ sym g.number) f.no_spans g.no_spans
   one_in_epoch rules root own block a b (inl f) (inr (inl g)) = absurd (f.differs g.counts)
@@ -199,12 +194,12 @@ module _ (delays : Delays) where
 
   -- ---- the blocks
 
-  block_fault_not : (rules : Rules) (behind : ℕ) (own : List SatLine) (search : Search) (rest : List Search) (block : Block) (more : List Block) (fault : Fault)
+  block_fault_not : (rules : Rules) (behind : ℕ) (own : OwnLines) (search : Search) (rest : List Search) (block : Block) (more : List Block) (fault : Fault)
       → EpochPasses delays rules search.root own block → BlockFault delays rules behind own search rest block more fault → ⊥
   block_fault_not rules behind own search rest block more fault h (inl f) = epoch_not_both rules search.root own block fault h f.0
   block_fault_not rules behind own search rest block more fault h (inr (due, (other, fails, line))) = epoch_not_both rules search.root own block other h fails
 
-  one_block_fault : (rules : Rules) (behind : ℕ) (own : List SatLine) (search : Search) (rest : List Search) (block : Block) (more : List Block) (a b : Fault)
+  one_block_fault : (rules : Rules) (behind : ℕ) (own : OwnLines) (search : Search) (rest : List Search) (block : Block) (more : List Block) (a b : Fault)
       → BlockFault delays rules behind own search rest block more a → BlockFault delays rules behind own search rest block more b → AreSameFault a b
   one_block_fault rules behind own search rest block more a b (inl f) (inl g) = one_in_epoch rules search.root own block a b f.0 g.0
   one_block_fault rules behind own search rest block more a b (inl f) (inr (due, (other, fails, line))) =
@@ -213,7 +208,7 @@ module _ (delays : Delays) where
       absurd (due.fails (g.1 ((one_in_epoch rules search.root own block b other g.0 fails).line ∙ line)))
   one_block_fault rules behind own search rest block more a b (inr (due, f)) (inr (again, g)) = one_due a b due again
 
-  pub from_not_both : (rules : Rules) (next : ℕ) (before : Option ℕ) (owns : List (List SatLine)) (searches : List Search) (blocks : List Block) (fault : Fault)
+  pub from_not_both : (rules : Rules) (next : ℕ) (before : Option ℕ) (owns : List OwnLines) (searches : List Search) (blocks : List Block) (fault : Fault)
       → AdmitsFrom delays rules before owns searches blocks → FailsFrom delays rules next before owns searches blocks fault → ⊥
   from_not_both rules next before [] searches blocks fault h f = f.fails h
   from_not_both rules next before (own ∷ owns) [] blocks fault h f = h
@@ -224,7 +219,7 @@ module _ (delays : Delays) where
   from_not_both rules next before (own ∷ owns) (search ∷ rest) (block ∷ more) fault h (inr (inr f)) =
       from_not_both rules (next + lines_in block) (Some block.index) owns rest more fault h.2 f.2
 
-  one_from : (rules : Rules) (next : ℕ) (before : Option ℕ) (owns : List (List SatLine)) (searches : List Search) (blocks : List Block) (a b : Fault)
+  one_from : (rules : Rules) (next : ℕ) (before : Option ℕ) (owns : List OwnLines) (searches : List Search) (blocks : List Block) (a b : Fault)
       → FailsFrom delays rules next before owns searches blocks a → FailsFrom delays rules next before owns searches blocks b → AreSameFault a b
   one_from rules next before [] searches blocks a b f g = one_due a b f g
   one_from rules next before (own ∷ owns) [] blocks a b f g = one_due a b f g
@@ -246,13 +241,13 @@ module _ (delays : Delays) where
   -- ---- the log
 
   -- a log that is admitted by own lines has no fault for them
-  pub not_both : (searches : List Search) (owns : List (List SatLine)) (rules : Rules) (log : LogValue) (fault : Fault)
+  pub not_both : (searches : List Search) (owns : List OwnLines) (rules : Rules) (log : LogValue) (fault : Fault)
       → FailsFirst delays searches owns rules log fault → Admits delays searches owns rules log → ⊥
   not_both searches owns rules log fault (inl f) h = f.differ h.same_rules
   not_both searches owns rules log fault (inr f) h = from_not_both rules 3 None owns searches log.blocks fault h.blocks f.1
 
   -- a first fault is the only one
-  pub one_fault : (searches : List Search) (owns : List (List SatLine)) (rules : Rules) (log : LogValue) (a b : Fault)
+  pub one_fault : (searches : List Search) (owns : List OwnLines) (rules : Rules) (log : LogValue) (a b : Fault)
       → FailsFirst delays searches owns rules log a → FailsFirst delays searches owns rules log b → AreSameFault a b
   one_fault searches owns rules log a b (inl f) (inl g) = same_plain a b (f.line ∙ sym g.line) (f.number ∙ sym g.number) f.no_spans g.no_spans
   one_fault searches owns rules log a b (inl f) (inr g) = absurd (f.differ g.0)

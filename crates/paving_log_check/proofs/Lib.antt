@@ -1,3 +1,4 @@
+pub mod FewLemmas
 pub mod StepLemmas
 pub mod BlockLemmas
 pub mod SatLineLemmas
@@ -6,4 +7,10 @@ pub mod FirstFaultLemmas
 pub mod FitLemmas
 pub mod NarrowLemmas
 pub mod PlaceLemmas
+pub mod GivenLemmas
 pub mod CheckLemmas
+pub mod RenewalLemmas
+pub mod WalkLemmas
+pub mod WayLemmas
+pub mod AnswerLemmas
+pub mod CountLemmas

@@ -1,19 +1,21 @@
 -- A fault with number 53 is that of a row which is too narrow.
-use Rattle.std.proofs.Common.{◌≡◌, ℕ, zero, suc, ◌+◌, arith, Bool, true, false, List, [], ◌∷◌, inl, inr, refl, sym, ap, Option, None, Some, Result, Ok, Err, ◌∙◌}
-use Rattle.std.specs.Prelude.{ℤ, pos, ◌-ℤ◌, ◌≤ℤ◌, Contains, slice_get, IfOk, MatchOption}
+use Rattle.std.proofs.Common.{◌≡◌, ℕ, zero, suc, ◌+◌, arith, Bool, true, false, List, [], ◌∷◌, map, inl, inr, refl, sym, ap, subst, Option, None, Some, ◌∙◌}
+use Rattle.std.specs.Prelude.{ℤ, pos, ◌-ℤ◌, ◌≤ℤ◌, Contains, slice_get}
 use Rattle.std.proofs.lemmas.Int.{ints}
 use Rattle.epoch_selection.specs.Searches.{Search}
 use Rattle.rinex_obs.specs.declared.obs.SatObs.{SatObs}
 use Rattle.grid_model.specs.Boxes.{Side, GridBox, span_side}
 use Rattle.sat_model.specs.Fitting.{low_bounds, high_bounds}
+use Rattle.sat_model.specs.Events.{Event, Made, Renewed, RowsOver, renewals_in}
+use Rattle.sat_model.specs.Fold.{Subpaving}
 use Rattle.sat_model.specs.Stages.{Stage, first_stage, after}
 use Rattle.grid_model.specs.Intervals.{Between}
 use Rattle.sat_model.specs.BoxTests.{test_in}
-use Rattle.sat_model.specs.Logs.{Block, lines_in}
+use Rattle.sat_model.specs.Logs.{Body, Block, is_few, rows_of, first_rows, lines_in}
+use Rattle.sat_model.specs.Renewals.{IsOfPlace, LineFails, LinesFail, RenewalFails}
 use Rattle.grid_model.specs.Lengths.{spare_of}
-use Rattle.sat_model.specs.Verdicts.{StepFails, StepsFail}
+use Rattle.sat_model.specs.Verdicts.{StepFails, DoneFails, EventsFail}
 use Rattle.gnss_model.specs.Delays.{is_plain, err_spare_of}
-use Rattle.grid_model.specs.declared.memory.NoMemory.{NoMemory}
 use Rattle.sat_model.specs.declared.rules.Rules.{Rules}
 use Rattle.sat_model.specs.declared.rows.Row.{Row}
 use Rattle.sat_model.specs.declared.rows.SatEntry.{SatEntry}
@@ -25,12 +27,14 @@ use Rattle.sat_rows.specs.Meanings.{Meaning}
 use Rattle.sat_rows.specs.OwnRows.{HoldsChain, IsOwnRow, AreOwnLines, AreLinesOf}
 use Rattle.sat_rows.specs.declared.lines.SatLine.{SatLine}
 use Rattle.sat_rows.specs.declared.lines.SatLine.TheVariants.{Usable, Skipped}
-use Rattle.paving_log_check.specs.Admissible.{FailsFrom, AreOwn}
-use Rattle.paving_log_check.specs.Checked.{EpochAccepted, EpochRefused}
-use Rattle.paving_log_check.specs.Epochs.{EpochPasses, EpochFails}
+use Rattle.paving_log_check.specs.Admissible.{FailsFrom}
+use Rattle.paving_log_check.specs.Epochs.{EventDiffers, EpochFails}
 use Rattle.paving_log_check.specs.Lines.{skipped_in, expected, HoldsSide, bounds_unless, compared, IsFirstNarrow, IsSameLine, RowFails}
 use Rattle.paving_log_check.specs.Narrow.{values, HoldsAround, IsTooNarrow, HasNarrowRow, HasNarrowBlock}
+use Rattle.paving_log_check.specs.OwnLines.{OwnLines, renewals_of, usable_of, AreOwnRows, AreRenewed, IsOwnOf, AreOwn}
+use Rattle.paving_log_check.specs.Renewed.{own_tests}
 use Rattle.paving_log_check.specs.declared.verdict.Fault.{Fault}
+use Rattle.paving_log_check.proofs.FitLemmas.{AllFair, fair_block, IsFrom, from_next, given_first}
 use Rattle.std.proofs.lemmas.Option.{same_Some as same_item}
 
 -- ---- a side
@@ -105,9 +109,9 @@ module _ (m : Meaning) (root : GridBox) (tag : ℤ) (sat : SatObs) where
   held_at row ours theirs own c n spare (suc (suc (suc (suc place)))) is holds shown value =
       bounds_at (is_plain m.delays) (err_spare_of root m.delays) row ours theirs own c n spare place is.bounds.low is.bounds.high holds shown value
 
-too_narrow : (m : Meaning) (search : Search) (sat : SatObs) (row ours : Row) (fault : Fault) → IsOwnRow m search.root search.epoch.tag sat ours
-    → IsFirstNarrow (compared m.delays row ours) (span_side fault.theirs) (span_side fault.ours) → IsTooNarrow m search sat row ours fault
-too_narrow m search sat row ours fault is first =
+too_narrow : (m : Meaning) (over : GridBox) (tag : ℤ) (sat : SatObs) (row ours : Row) (fault : Fault) → IsOwnRow m over tag sat ours
+    → IsFirstNarrow (compared m.delays row ours) (span_side fault.theirs) (span_side fault.ours) → IsTooNarrow m over tag sat row ours fault
+too_narrow m over tag sat row ours fault is first =
     let theirs = span_side fault.theirs in
     let own = span_side fault.ours in
     let at = narrow_at (compared m.delays row ours) theirs own first in
@@ -117,7 +121,7 @@ too_narrow m search sat row ours fault is first =
       narrow = at.narrow;
       around = λ p c n spare inside allowed value around.
           at.narrow (around_holds theirs own n spare
-          (held_at m search.root search.epoch.tag sat row ours theirs own c n spare at.place is (is.holds p c inside allowed) at.shown value) around);
+          (held_at m over tag sat row ours theirs own c n spare at.place is (is.holds p c inside allowed) at.shown value) around);
     }
 
 -- ---- the number of another fault
@@ -136,14 +140,9 @@ step_number rules stage (Inside id clock lo hi) number (inr (inr (part, live, me
 step_number rules stage (Edge id lo hi) number (inl f) e = absurd (omega (arith, f.1))
 step_number rules stage (Edge id lo hi) number (inr (part, live, not, is)) e = absurd (omega (arith, is))
 
-steps_number : (rules : Rules) (done : ℕ) (stage : Stage) (steps : List Step) (k number : ℕ) → StepsFail rules done stage steps k number
-    → number ≡ 53 → ⊥
-steps_number rules done stage [] k number f e = elim f.1 [
-  | inl live ↦ absurd (omega (arith, live.1))
-  | inr count ↦ absurd (omega (arith, count.2))
-]
-steps_number rules done stage (step ∷ steps) zero number f e = step_number rules stage step number f e
-steps_number rules done stage (step ∷ steps) (suc k) number f e = steps_number rules done (after stage step) steps k number f.1 e
+done_number : (done : ℕ) (stage : Stage) (number : ℕ) → DoneFails done stage number → number ≡ 53 → ⊥
+done_number done stage number (inl live) e = absurd (omega (arith, live.1))
+done_number done stage number (inr count) e = absurd (omega (arith, count.2))
 
 -- ---- a block
 
@@ -190,57 +189,216 @@ module _ (m : Meaning) where
       let later = own_at root tag sats own k ours h.1 e in
       record { sat = later.sat; is_seen = behind sat later.sat sats later.is_seen; same_sat = later.same_sat; usable = later.usable; is_own = later.is_own }
 
+  -- ---- renewals
+
+  -- the row in a place is an own row of the satellite there
+  own_in : (part : GridBox) (tag : ℤ) (sats : List SatObs) (given : List Row) (i : ℕ) (ours : Row) → AreOwnRows m part tag sats given → slice_get given i ≡ Some ours
+      → (seen : SatObs) × (slice_get sats i ≡ Some seen) × IsOwnRow m part tag seen ours
+  own_in part tag sats [] i ours own e = absurd cc
+  own_in part tag [] (row ∷ given) i ours own e = absurd own
+  own_in part tag (seen ∷ sats) (row ∷ given) zero ours own e = let same : row ≡ ours = cc in (seen, refl, rw (sym same) own.0)
+  own_in part tag (seen ∷ sats) (row ∷ given) (suc i) ours own e = own_in part tag sats given i ours own.1 e
+
+  -- a line of one of these renewals is of the satellite in its place, and its row too narrow
+  record HasNarrowLine (first : RowsOver) (tag : ℤ) (sats : List SatObs) (renewals : List RowsOver) (fault : Fault) : Type 0 where
+    pub new : RowsOver
+    pub is_new : Contains renewals new
+    pub row : Row
+    pub is_row : Contains new.rows row
+    pub i : ℕ
+    pub of_place : IsOfPlace first.rows i row
+    pub sat : SatObs
+    pub is_sat : slice_get sats i ≡ Some sat
+    pub ours : Row
+    pub is_own : IsOwnRow m new.part tag sat ours
+    pub narrow : IsFirstNarrow (compared m.delays row ours) (span_side fault.theirs) (span_side fault.ours)
+
+  module _ (renewed : List (List Row)) (first : RowsOver) (tag : ℤ) (sats : List SatObs) where
+    line_narrow : (renewals : List RowsOver) (new : RowsOver) (j i : ℕ) (given : List Row) (row : Row) (fault : Fault) → Contains renewals new → Contains new.rows row
+        → slice_get renewed j ≡ Some given → AreOwnRows m new.part tag sats given
+        → LineFails (own_tests m.delays renewed) first j i row fault → fault.number ≡ 53 → HasNarrowLine first tag sats renewals fault
+    line_narrow renewals new j i given row fault among there at own (inl other) e = absurd (omega (arith, other.1))
+    line_narrow renewals new j i given row fault among there at own (inr (place, (ours, (rows, here, is), inr f))) e = absurd (omega (arith, f.2))
+    line_narrow renewals new j i given row fault among there at own (inr (place, (ours, (rows, here, is), inl f))) e =
+        let same : rows ≡ given = same_item rows given (sym here ∙ at) in
+        let (seen, is_seen, is_own) = own_in new.part tag sats given i ours own (rw same at is) in
+        record {
+          new = new;
+          is_new = among;
+          row = row;
+          is_row = there;
+          i = i;
+          of_place = place;
+          sat = seen;
+          is_sat = is_seen;
+          ours = ours;
+          is_own = is_own;
+          narrow = f.0;
+        }
+
+    lines_narrow : (renewals : List RowsOver) (new : RowsOver) (j i : ℕ) (given rows : List Row) (k : ℕ) (fault : Fault) → Contains renewals new
+        → ((row : Row) → Contains rows row → Contains new.rows row) → slice_get renewed j ≡ Some given → AreOwnRows m new.part tag sats given
+        → LinesFail (own_tests m.delays renewed) first j i rows k fault → fault.number ≡ 53 → HasNarrowLine first tag sats renewals fault
+    lines_narrow renewals new j i given [] k fault among there at own f e = absurd f
+    lines_narrow renewals new j i given (row ∷ rows) zero fault among there at own f e =
+        line_narrow renewals new j i given row fault among (there row (in_front row rows)) at own f e
+    lines_narrow renewals new j i given (row ∷ rows) (suc k) fault among there at own f e =
+        lines_narrow renewals new j (suc i) given rows k fault among (λ other is. there other (behind row other rows is)) at own f.1 e
+
+    renewal_narrow : (renewals : List RowsOver) (boxes : Subpaving) (new : RowsOver) (j : ℕ) (given : List Row) (k : ℕ) (fault : Fault) → Contains renewals new
+        → slice_get renewed j ≡ Some given → AreOwnRows m new.part tag sats given
+        → RenewalFails (own_tests m.delays renewed) first j boxes new k fault → fault.number ≡ 53 → HasNarrowLine first tag sats renewals fault
+    renewal_narrow renewals boxes new j given zero fault among at own f e = absurd (omega (arith, f.1))
+    renewal_narrow renewals boxes new j given (suc k) fault among at own f e =
+        lines_narrow renewals new j 0 given new.rows k fault among (λ row is. is) at own f.1 e
+
+    none_told : (j i : ℕ) (rows : List Row) (k : ℕ) (fault : Fault) → slice_get renewed j ≡ None
+        → LinesFail (own_tests m.delays renewed) first j i rows k fault → fault.number ≡ 53 → ⊥
+    none_told j i [] k fault none f e = f
+    none_told j i (row ∷ rows) zero fault none (inl other) e = absurd (omega (arith, other.1))
+    none_told j i (row ∷ rows) zero fault none (inr (place, (ours, (given, here, is), fails))) e = absurd (let some = sym none ∙ here in cc)
+    none_told j i (row ∷ rows) (suc k) fault none f e = none_told j (suc i) rows k fault none f.1 e
+
+    none_given : (boxes : Subpaving) (new : RowsOver) (j k : ℕ) (fault : Fault) → slice_get renewed j ≡ None
+        → RenewalFails (own_tests m.delays renewed) first j boxes new k fault → fault.number ≡ 53 → ⊥
+    none_given boxes new j zero fault none f e = absurd (omega (arith, f.1))
+    none_given boxes new j (suc k) fault none f e = none_told j 0 new.rows k fault none f.1 e
+
+    later_line : (new : RowsOver) (renewals : List RowsOver) (fault : Fault) → HasNarrowLine first tag sats renewals fault → HasNarrowLine first tag sats (new ∷ renewals) fault
+    later_line new renewals fault h = record {
+      new = h.new;
+      is_new = behind new h.new renewals h.is_new;
+      row = h.row;
+      is_row = h.is_row;
+      i = h.i;
+      of_place = h.of_place;
+      sat = h.sat;
+      is_sat = h.is_sat;
+      ours = h.ours;
+      is_own = h.is_own;
+      narrow = h.narrow;
+    }
+
+    events_narrow : (rules : Rules) (done j : ℕ) (stage : Stage) (events : List Event) (left : List (List Row)) (k : ℕ) (fault : Fault) → IsFrom renewed j left
+        → AreRenewed m tag sats (renewals_in events) left
+        → EventsFail (own_tests m.delays renewed) first rules done j stage events k fault → fault.number ≡ 53 → HasNarrowLine first tag sats (renewals_in events) fault
+    events_narrow rules done j stage [] left k fault from own f e = absurd (done_number done stage fault.number f.1 e)
+    events_narrow rules done j stage (Made step ∷ events) left zero fault from own f e = absurd (step_number rules stage step fault.number f.0 e)
+    events_narrow rules done j stage (Made step ∷ events) left (suc k) fault from own f e =
+        events_narrow rules done j (after stage (Made step)) events left k fault from own f.1 e
+    events_narrow rules done j stage (Renewed new ∷ events) [] k fault from own (inl f) e =
+        absurd (none_given stage.boxes new j k fault (subst (λ (n : ℕ). slice_get renewed n ≡ None) (omega arith) (from 0)) f e)
+    events_narrow rules done j stage (Renewed new ∷ events) [] k fault from own (inr (l, is, passes, f)) e =
+        later_line new (renewals_in events) fault (events_narrow rules done (suc j) (after stage (Renewed new)) events [] l fault
+        (λ i. subst (λ (n : ℕ). slice_get renewed n ≡ None) (omega arith) (from (suc i))) tt f e)
+    events_narrow rules done j stage (Renewed new ∷ events) (given ∷ left) k fault from own (inl f) e =
+        renewal_narrow (new ∷ renewals_in events) stage.boxes new j given k fault (in_front new (renewals_in events)) (given_first renewed j given left from) own.0 f e
+    events_narrow rules done j stage (Renewed new ∷ events) (given ∷ left) k fault from own (inr (l, is, passes, f)) e =
+        later_line new (renewals_in events) fault (events_narrow rules done (suc j) (after stage (Renewed new)) events left l fault (from_next renewed j given left from) own.1 f e)
+
+  -- ---- the satellites of the first rows
+
+  first_sats : (root : GridBox) (tag : ℤ) (seens : List SatObs) (sats : List SatEntry) (lines : List SatLine) → AllFair m.delays sats lines → AreOwnLines m root tag seens lines
+      → map (λ (row : Row). row.sat) (rows_of sats) ≡ map (λ (seen : SatObs). seen.sat) (usable_of seens lines)
+  first_sats root tag [] [] [] fair own = refl
+  first_sats root tag (seen ∷ seens) [] [] fair own = absurd own
+  first_sats root tag seens [] (line ∷ lines) fair own = absurd fair
+  first_sats root tag seens (theirs ∷ sats) [] fair own = absurd fair
+  first_sats root tag [] (theirs ∷ sats) (line ∷ lines) fair own = absurd own
+  first_sats root tag (seen ∷ seens) (entry.Row row ∷ sats) (Usable ours ∷ lines) fair own =
+      let here : row.sat ≡ seen.sat = fair.0.0 ∙ own.0.0 in
+      let later = first_sats root tag seens sats lines fair.1 own.1 in
+      cc
+  first_sats root tag (seen ∷ seens) (entry.Row row ∷ sats) (Skipped sat skip ∷ lines) fair own = absurd fair.0.0
+  first_sats root tag (seen ∷ seens) (entry.Skipped sat skip ∷ sats) (Usable ours ∷ lines) fair own = absurd fair.0.0
+  first_sats root tag (seen ∷ seens) (entry.Skipped sat skip ∷ sats) (Skipped other why ∷ lines) fair own = first_sats root tag seens sats lines fair.1 own.1
+
+  sat_at : (seens : List SatObs) (i : ℕ) (seen : SatObs) → slice_get seens i ≡ Some seen → slice_get (map (λ (seen : SatObs). seen.sat) seens) i ≡ Some seen.sat
+  sat_at [] i seen e = absurd cc
+  sat_at (first ∷ seens) zero seen e = let same : first ≡ seen = cc in rw same refl
+  sat_at (first ∷ seens) (suc i) seen e = sat_at seens i seen e
+
+  record IsUsable (root : GridBox) (tag : ℤ) (seens : List SatObs) (seen : SatObs) : Type 0 where
+    pub is_seen : Contains seens seen
+    pub judged : m.judged root tag seen None
+
+  usable_seen : (root : GridBox) (tag : ℤ) (seens : List SatObs) (lines : List SatLine) (i : ℕ) (seen : SatObs) → AreOwnLines m root tag seens lines
+      → slice_get (usable_of seens lines) i ≡ Some seen → IsUsable root tag seens seen
+  usable_seen root tag [] lines i seen own e = absurd cc
+  usable_seen root tag (first ∷ seens) [] i seen own e = absurd cc
+  usable_seen root tag (first ∷ seens) (Usable ours ∷ lines) zero seen own e =
+      let same : first ≡ seen = cc in
+      rw (sym same) (record { is_seen = in_front first seens; judged = own.0.1 })
+  usable_seen root tag (first ∷ seens) (Usable ours ∷ lines) (suc i) seen own e =
+      let later = usable_seen root tag seens lines i seen own.1 e in
+      record { is_seen = behind first seen seens later.is_seen; judged = later.judged }
+  usable_seen root tag (first ∷ seens) (Skipped sat skip ∷ lines) i seen own e =
+      let later = usable_seen root tag seens lines i seen own.1 e in
+      record { is_seen = behind first seen seens later.is_seen; judged = later.judged }
+
+  body_narrow : (rules : Rules) (search : Search) (own : OwnLines) (block : Block) (body : Body) (fault : Fault)
+      → IsOwnOf m search (renewals_of block.body) own → AllFair m.delays block.sats own.lines → block.body ≡ Some body
+      → EventDiffers m.delays rules search.root own.renewed block body fault → fault.number ≡ 53 → HasNarrowRow m search block fault
+  body_narrow rules search own block body fault are fair is event e =
+      let seens = search.epoch.sats.items in
+      let given = ap renewals_of is in
+      let rows : AreRenewed m search.epoch.tag (usable_of seens own.lines) (renewals_in body.events) own.renewed = rw given at are.renewed in
+      let h = events_narrow own.renewed (first_rows block body) search.epoch.tag (usable_of seens own.lines) rules body.done
+      0 (first_stage (test_in rules block) body.root) body.events own.renewed event.k fault (λ i. ap (slice_get own.renewed) (omega arith)) rows event.fails e in
+      let usable = usable_seen search.root search.epoch.tag seens own.lines h.i h.sat are.lines h.is_sat in
+      let names = first_sats search.root search.epoch.tag seens block.sats own.lines fair are.lines in
+      record {
+        sat = h.sat;
+        is_seen = usable.is_seen;
+        usable = usable.judged;
+        over = h.new.part;
+        ours = h.ours;
+        is_own = h.is_own;
+        row = h.row;
+        is_line = inr (h.new, rw (sym given) at h.is_new, refl, h.is_row);
+        same_sat = same_item h.row.sat h.sat.sat (sym h.of_place ∙ ap (λ l. slice_get l h.i) names ∙ sat_at (usable_of seens own.lines) h.i h.sat h.is_sat);
+        too_narrow = too_narrow m h.new.part search.epoch.tag h.sat h.row h.ours fault h.is_own h.narrow;
+      }
+
+  -- ---- satellite lines
+
   narrow_row : (search : Search) (own : List SatLine) (block : Block) (k : ℕ) (theirs : SatEntry) (line : SatLine) (fault : Fault)
       → AreLinesOf m search.root search.epoch own
-      → slice_get block.sats k ≡ Some theirs → slice_get (expected block.few own) k ≡ Some line → IsSameLine theirs line → RowFails m.delays theirs line fault
+      → slice_get block.sats k ≡ Some theirs → slice_get (expected (is_few block) own) k ≡ Some line → IsSameLine theirs line → RowFails m.delays theirs line fault
       → fault.number ≡ 53 → HasNarrowRow m search block fault
   narrow_row search own block k (entry.Row row) (Usable ours) fault are at other same (inl f) e =
-      let has = own_at search.root search.epoch.tag search.epoch.sats.items own k ours are (usable_at block.few own k ours other) in
+      let has = own_at search.root search.epoch.tag search.epoch.sats.items own k ours are (usable_at (is_few block) own k ours other) in
       record {
         sat = has.sat;
         is_seen = has.is_seen;
         usable = has.usable;
+        over = search.root;
         ours = ours;
         is_own = has.is_own;
         row = row;
-        is_line = contained block.sats k (entry.Row row) at;
+        is_line = inl (refl, contained block.sats k (entry.Row row) at);
         same_sat = same ∙ has.same_sat;
-        too_narrow = too_narrow m search has.sat row ours fault has.is_own f.0;
+        too_narrow = too_narrow m search.root search.epoch.tag has.sat row ours fault has.is_own f.0;
       }
   narrow_row search own block k (entry.Row row) (Usable ours) fault are at other same (inr f) e = absurd (omega (arith, f.2))
   narrow_row search own block k (entry.Row row) (Skipped sat skip) fault are at other same f e = absurd f
   narrow_row search own block k (entry.Skipped sat skip) (Usable ours) fault are at other same f e = absurd f
   narrow_row search own block k (entry.Skipped sat skip) (Skipped name why) fault are at other same f e = absurd f
 
-  pub epoch_narrow : (rules : Rules) (search : Search) (own : List SatLine) (block : Block) (fault : Fault)
-      → AreLinesOf m search.root search.epoch own → EpochFails m.delays rules search.root own block fault
+  pub epoch_narrow : (rules : Rules) (search : Search) (own : OwnLines) (block : Block) (fault : Fault)
+      → IsOwnOf m search (renewals_of block.body) own → EpochFails m.delays rules search.root own block fault
       → fault.number ≡ 53 → HasNarrowRow m search block fault
   epoch_narrow rules search own block fault are (inl head) e = absurd (omega (arith, head.number))
   epoch_narrow rules search own block fault are (inr (inl differs)) e = elim differs.fails.here [
     | inl other ↦ absurd (omega (arith, other.1))
-    | inr has ↦ narrow_row search own block differs.k has.is_expected.theirs has.is_expected.ours fault are
+    | inr has ↦ narrow_row search own.lines block differs.k has.is_expected.theirs has.is_expected.ours fault are.lines
         has.is_expected.theirs_at has.is_expected.ours_at has.is_expected.same has.fails e
   ]
   epoch_narrow rules search own block fault are (inr (inr (inl missing))) e = absurd (omega (arith, missing.number))
-  epoch_narrow rules search own block fault are (inr (inr (inr body))) e = elim body.fails [
+  epoch_narrow rules search own block fault are (inr (inr (inr b))) e = elim b.fails [
     | inl differs ↦ absurd (omega (arith, differs.number))
-    | inr step ↦ absurd (steps_number rules block.done (first_stage (test_in rules block) search.root) block.steps step.k fault.number step.fails e)
+    | inr event ↦ body_narrow rules search own block b.body fault are (fair_block m.delays block b.body own.lines b.is_body b.sats b.whole) b.is_body event e
   ]
-
-  -- what the tests of a block against own lines find is found against the files
-  pub epoch_answered : (rules : Rules) (search : Search) (own : List SatLine) (block : Block) (result : Result (Option Fault) NoMemory)
-      → AreLinesOf m search.root search.epoch own
-      → IfOk result (λ found. MatchOption found (EpochPasses m.delays rules search.root own block) (λ fault. EpochFails m.delays rules search.root own block fault))
-      → IfOk result (λ found. MatchOption found (EpochAccepted m rules search block)
-      (λ fault. EpochRefused m rules search block fault))
-  epoch_answered rules search own block (Ok None) are h = record { own = own; are_own = are; passes = h }
-  epoch_answered rules search own block (Ok (Some fault)) are h = record {
-    own = own;
-    are_own = are;
-    fails = h;
-    narrow = epoch_narrow rules search own block fault are h;
-  }
-  epoch_answered rules search own block (Err e) are h = tt
 
   -- ---- the log
 
@@ -255,8 +413,8 @@ module _ (m : Meaning) where
     has_row = h.has_row;
   }
 
-  pub log_narrow : (rules : Rules) (next : ℕ) (before : Option ℕ) (owns : List (List SatLine)) (searches : List Search) (blocks : List Block) (fault : Fault)
-      → AreOwn m searches owns → FailsFrom m.delays rules next before owns searches blocks fault
+  pub log_narrow : (rules : Rules) (next : ℕ) (before : Option ℕ) (owns : List OwnLines) (searches : List Search) (blocks : List Block) (fault : Fault)
+      → AreOwn m searches blocks owns → FailsFrom m.delays rules next before owns searches blocks fault
       → fault.number ≡ 53 → HasNarrowBlock m searches blocks fault
   log_narrow rules next before [] searches blocks fault are f e = absurd (omega (arith, f.number))
   log_narrow rules next before (own ∷ owns) [] blocks fault are f e = absurd (omega (arith, f.number))

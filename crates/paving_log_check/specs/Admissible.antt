@@ -3,15 +3,13 @@
 use Rattle.std.specs.Prelude.{◌≡◌, ℕ, ◌+◌, ◌⊎◌, List, [], ◌∷◌, length, Option, None, Some}
 use Rattle.epoch_selection.specs.Searches.{Search}
 use Rattle.rinex_obs.specs.declared.obs.ObsEpoch.{ObsEpoch}
-use Rattle.sat_model.specs.Logs.{Block, LogValue, lines_in}
+use Rattle.sat_model.specs.Logs.{Block, LogValue, is_few, lines_in}
 use Rattle.sat_model.specs.Verdicts.{IsLater, SuitsNumber}
 use Rattle.sat_model.specs.declared.rules.Rules.{Rules}
 use Rattle.gnss_model.specs.declared.delays.Delays.{Delays}
-use Rattle.sat_rows.specs.Meanings.{Meaning}
-use Rattle.sat_rows.specs.OwnRows.{AreLinesOf}
-use Rattle.sat_rows.specs.declared.lines.SatLine.{SatLine}
 use Rattle.paving_log_check.specs.Answers.{ShowsNoSpans}
 use Rattle.paving_log_check.specs.Epochs.{EpochPasses, EpochFails}
+use Rattle.paving_log_check.specs.OwnLines.{OwnLines, AreWhole}
 use Rattle.paving_log_check.specs.declared.verdict.Fault.{Fault}
 
 -- ---- the rules
@@ -27,7 +25,7 @@ pub record AreSameRules (a b : Rules) : Type 0 where
 -- the block is that of this epoch, behind a block of the index before
 pub record IsOf (rules : Rules) (before : Option ℕ) (seen : ObsEpoch) (block : Block) : Type 0 where
   pub later : IsLater before block.index
-  pub suits : SuitsNumber block.few rules.outliers block.n
+  pub suits : SuitsNumber (is_few block) rules.outliers block.n
   pub index : block.index ≡ seen.index
   pub tag : block.ps ≡ seen.tag
 
@@ -59,7 +57,7 @@ module _ (delays : Delays) where
 
   -- no test fails up to the last search of which own lines are given, and none of the place behind
   -- it
-  abbrev pub AdmitsFrom : Rules → Option ℕ → List (List SatLine) → List Search → List Block → Type 0
+  abbrev pub AdmitsFrom : Rules → Option ℕ → List OwnLines → List Search → List Block → Type 0
   AdmitsFrom rules before [] searches blocks = IsDue rules before searches blocks
   AdmitsFrom rules before (own ∷ owns) [] blocks = ⊥
   AdmitsFrom rules before (own ∷ owns) (search ∷ rest) [] = ⊥
@@ -69,7 +67,7 @@ module _ (delays : Delays) where
 
   -- the first fault of a block. Where a line is missing at its end, the place of the next block is
   -- tested before that is told.
-  abbrev pub BlockFault : Rules → ℕ → List SatLine → Search → List Search → Block → List Block
+  abbrev pub BlockFault : Rules → ℕ → OwnLines → Search → List Search → Block → List Block
       → Fault → Type 0
   BlockFault rules behind own search rest block more fault =
       (EpochFails delays rules search.root own block fault
@@ -79,7 +77,7 @@ module _ (delays : Delays) where
       × (other.line ≡ behind)))
 
   -- the first line that fails a test, the least number of one on it, and the spans that are shown
-  abbrev pub FailsFrom : Rules → ℕ → Option ℕ → List (List SatLine) → List Search → List Block
+  abbrev pub FailsFrom : Rules → ℕ → Option ℕ → List OwnLines → List Search → List Block
       → Fault → Type 0
   FailsFrom rules next before [] searches blocks fault =
       DueFails rules next before searches blocks fault
@@ -97,28 +95,20 @@ module _ (delays : Delays) where
   -- ---- the log
 
   -- no test fails, as far as own lines are given
-  pub record Admits (searches : List Search) (owns : List (List SatLine)) (rules : Rules)
+  pub record Admits (searches : List Search) (owns : List OwnLines) (rules : Rules)
       (log : LogValue) : Type 0 where
     pub same_rules : AreSameRules rules log.rules
     pub blocks : AdmitsFrom rules None owns searches log.blocks
 
-  -- and they are given for each search
-  pub record Admissible (searches : List Search) (owns : List (List SatLine)) (rules : Rules)
+  -- and they are given for each search, with a row for each line of a renewal
+  pub record Admissible (searches : List Search) (owns : List OwnLines) (rules : Rules)
       (log : LogValue) : Type 0 where
     pub each : length owns ≡ length searches
+    pub whole : AreWhole owns log.blocks
     pub admits : Admits searches owns rules log
 
   -- the first fault, as far as own lines are given
-  abbrev pub FailsFirst : List Search → List (List SatLine) → Rules → LogValue → Fault → Type 0
+  abbrev pub FailsFirst : List Search → List OwnLines → Rules → LogValue → Fault → Type 0
   FailsFirst searches owns rules log fault =
       RulesDiffer rules log.rules fault
       ⊎ (AreSameRules rules log.rules × FailsFrom rules 3 None owns searches log.blocks fault)
-
--- ---- whose lines they are
-
--- own lines of the first of these searches, by what a source says of satellites
-abbrev pub AreOwn : Meaning → List Search → List (List SatLine) → Type 0
-AreOwn m searches [] = Unit {0}
-AreOwn m [] (own ∷ owns) = ⊥
-AreOwn m (search ∷ rest) (own ∷ owns) =
-    AreLinesOf m search.root search.epoch own × AreOwn m rest owns

@@ -6,12 +6,11 @@ use Rattle.sat_model.specs.Logs.{Block, LogValue}
 use Rattle.sat_model.specs.Relaxed.{ends}
 use Rattle.sat_model.specs.declared.rules.Rules.{Rules}
 use Rattle.sat_rows.specs.Meanings.{Meaning}
-use Rattle.sat_rows.specs.OwnRows.{AreLinesOf}
-use Rattle.sat_rows.specs.declared.lines.SatLine.{SatLine}
-use Rattle.paving_log_check.specs.Admissible.{Admits, Admissible, FailsFirst, AreOwn}
+use Rattle.paving_log_check.specs.Admissible.{Admits, Admissible, FailsFirst}
 use Rattle.paving_log_check.specs.Epochs.{EpochPasses, EpochFails}
 use Rattle.paving_log_check.specs.FileCover.{FileCover}
 use Rattle.paving_log_check.specs.Narrow.{HasNarrowRow, HasNarrowBlock}
+use Rattle.paving_log_check.specs.OwnLines.{OwnLines, renewals_of, IsOwnOf, AreOwn, HaveEachRow}
 use Rattle.paving_log_check.specs.declared.verdict.Fault.{Fault}
 
 -- the same line, number and spans
@@ -23,25 +22,26 @@ pub record AreSameFault (a b : Fault) : Type 0 where
 
 -- by what a source says of satellites
 module _ (m : Meaning) where
-  -- no test of the block fails against own lines of the search
+  -- no test of the block fails against own lines of the search, which are all given
   pub record EpochAccepted (rules : Rules) (search : Search) (block : Block) : Type 0 where
-    pub own : List SatLine
-    pub are_own : AreLinesOf m search.root search.epoch own
+    pub own : OwnLines
+    pub are_own : IsOwnOf m search (renewals_of block.body) own
+    pub whole : HaveEachRow (renewals_of block.body) own.renewed
     pub passes : EpochPasses m.delays rules search.root own block
 
   -- this is its first fault against them, for a row too narrow with both spans
   pub record EpochRefused (rules : Rules) (search : Search) (block : Block)
       (fault : Fault) : Type 0 where
-    pub own : List SatLine
-    pub are_own : AreLinesOf m search.root search.epoch own
+    pub own : OwnLines
+    pub are_own : IsOwnOf m search (renewals_of block.body) own
     pub fails : EpochFails m.delays rules search.root own block fault
     pub narrow : fault.number ≡ 53 → HasNarrowRow m search block fault
 
   -- the log is admissible for own lines of each search, and covers what fits, with so many boxes
   pub record IsAccepted (searches : List Search) (rules : Rules) (log : LogValue)
       (boxes : ℕ) : Type 0 where
-    pub owns : List (List SatLine)
-    pub are_own : AreOwn m searches owns
+    pub owns : List OwnLines
+    pub are_own : AreOwn m searches log.blocks owns
     pub admissible : Admissible m.delays searches owns rules log
     pub cover : FileCover m rules.outliers searches log
     pub boxes_are : boxes ≡ kept_boxes log
@@ -50,8 +50,8 @@ module _ (m : Meaning) where
   -- fault, and the only one
   pub record IsRefused (searches : List Search) (rules : Rules) (log : LogValue)
       (fault : Fault) : Type 0 where
-    pub owns : List (List SatLine)
-    pub are_own : AreOwn m searches owns
+    pub owns : List OwnLines
+    pub are_own : AreOwn m searches log.blocks owns
     pub first : FailsFirst m.delays searches owns rules log fault
     pub refused : Admits m.delays searches owns rules log → ⊥
     pub only : (other : Fault) → FailsFirst m.delays searches owns rules log other

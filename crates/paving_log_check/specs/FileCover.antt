@@ -4,8 +4,9 @@ use Rattle.std.specs.Prelude.{◌≡◌, ℕ, ℤ, true, List, [], ◌∷◌, Op
 use Rattle.epoch_selection.specs.Searches.{Search}
 use Rattle.grid_model.specs.Boxes.{GridBox, box_holds}
 use Rattle.sat_model.specs.Cover.{Partitions, SomeKeeps}
+use Rattle.sat_model.specs.Events.{steps_in}
 use Rattle.sat_model.specs.Fold.{ShownStep, pieces}
-use Rattle.sat_model.specs.Logs.{Block, LogValue}
+use Rattle.sat_model.specs.Logs.{Body, Block, LogValue}
 use Rattle.grid_model.specs.declared.boxes.Pos.{Pos}
 use Rattle.sat_model.specs.declared.steps.Step.{Step}
 use Rattle.sat_model.specs.declared.steps.Step.TheVariants.{Cut, Split, Outside, Inside, Edge}
@@ -34,9 +35,10 @@ pub record FitCover (FitsAt : Pos → ℤ → Type 0) (root : GridBox)
   pub covers : (p : Pos) (b : ℤ) → box_holds root p ≡ true → FitsAt p b → SomeKeeps p b parts
   pub fits_inside : AllFitInside FitsAt parts
 
-abbrev pub FitBlockCover : (Pos → ℤ → Type 0) → GridBox → Block → Option GridBox → Type 0
-FitBlockCover FitsAt root block None = Unit {0}
-FitBlockCover FitsAt root block (Some theirs) = FitCover FitsAt root (pieces root block.steps)
+abbrev pub FitBodyCover : (Pos → ℤ → Type 0) → GridBox → Option Body → Type 0
+FitBodyCover FitsAt root None = Unit {0}
+FitBodyCover FitsAt root (Some body) =
+    FitCover FitsAt root (pieces root (steps_in body.events))
 
 -- Each search has a block, and each of those that is paved covers what fits all but at most q
 -- usable satellites, by what a source says of satellites.
@@ -45,7 +47,7 @@ BlocksFitCover m q [] [] = Unit {0}
 BlocksFitCover m q [] (block ∷ more) = ⊥
 BlocksFitCover m q (search ∷ rest) [] = ⊥
 BlocksFitCover m q (search ∷ rest) (block ∷ more) =
-    FitBlockCover (FitsEpoch m q search.root search.epoch) search.root block block.root
+    FitBodyCover (FitsEpoch m q search.root search.epoch) search.root block.body
     × BlocksFitCover m q rest more
 
 -- in every paved epoch of the log

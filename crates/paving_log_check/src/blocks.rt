@@ -1,47 +1,75 @@
 //! The tests of one block of a log.
 
-ghost use Rattle.std.specs.Prelude.{◌≡◌, ◌+◌, ◌<◌, ◌≤◌, ◌↔◌, length, count_by, IsTrue, IfOk};
-ghost use Rattle.std.specs.Prelude.{MatchOption};
+ghost use Rattle.std.specs.Prelude.{◌≡◌, ◌+◌, ◌≤◌, ℕ, length, count_by, IfOk, MatchOption, Some};
 ghost use Rattle.sat_model.specs.declared.rules.Rules.{Rules};
 ghost use Rattle.sat_model.specs.Cover.{kept_in};
-ghost use Rattle.sat_model.specs.Logs.{rows_of, lines_in};
+ghost use Rattle.sat_model.specs.Logs.{lines_in};
+ghost use Rattle.sat_model.specs.Renewals.{no_tests};
 ghost use Rattle.sat_model.specs.StepKinds.{is_kept_step};
-ghost use Rattle.sat_model.specs.Verdicts.{IsLater, SuitsNumber, HeadPasses, HeadFails, BodyPasses};
-ghost use Rattle.sat_model.specs.Verdicts.{BlockPasses, BlockFails};
-ghost use Rattle.logged_steps.specs.Steps.{steps_of};
-ghost use Rattle.paving_log.specs.Values.{block_of};
+ghost use Rattle.sat_model.specs.Verdicts.{BodyPasses, BodyFailsBy, BlockPasses, BlockFails};
+ghost use Rattle.step_columns.specs.Steps.{steps_of};
+ghost use Rattle.paving_log.specs.Values.{body_value, block_of};
+ghost use Rattle.paving_log_check.specs.Answers.{ShowsNoSpans};
 
-use crate::steps::steps_fault;
+use crate::events::events_fault;
+use crate::faults::plain_fault;
+use crate::renewals::RenewalTest;
+use crate::verdict::Fault;
+use gnss_model::Delays;
 use grid_model::NoMemory;
-use logged_steps::LoggedSteps;
-use paving_log::{LineFault, LogEpoch, own_fault, rows_among};
-use sat_model::{Row, Rules, Step};
+use paving_log::{Body, LogEpoch, own_fault, rows_among};
+use sat_model::{Rules, Step};
 use std::alloc::Global;
+use step_columns::LoggedSteps;
 
-/// The first line of the block that fails a test.
+/// The first line of what stands behind the satellites that fails a test, its rows taken as given.
+fn body_fault(
+    alloc: Global,
+    rules: &Rules,
+    epoch: &LogEpoch,
+    body: &Body,
+) -> Result<Option<Fault>, NoMemory>
+    requires numbered { epoch.now.line + lines_in (block_of epoch.now) ≤ 4000000001 }
+    requires body { epoch.now.body ≡ Some body.now }
+    ensures { IfOk result (λ found. MatchOption found
+        (BodyPasses rules.now (block_of epoch.now) (Some (body_value body.now)))
+        (λ fault. (k : ℕ) × BodyFailsBy no_tests rules.now (block_of epoch.now)
+        (body_value body.now) k fault.number × ShowsNoSpans fault
+        × (fault.line ≡ epoch.now.line + 2 + length epoch.now.sats.items + k))) }
+{
+    let rows = rows_among(alloc, &epoch.sats)?;
+    let given = RenewalTest {
+        root: &body.root,
+        firsts: &rows,
+        delays: Delays {
+            zenith: None,
+            vertical: None,
+        },
+        bases: &[],
+    };
+    let line = epoch.line + 2 + epoch.sats.len() as u32;
+    events_fault(alloc, line, &given, rules, body)
+}
+
+/// The first line of the block that fails a test, its rows taken as given.
 pub(crate) fn block_fault(
     alloc: Global,
     rules: &Rules,
     before: Option<u32>,
     epoch: &LogEpoch,
-) -> Result<Option<LineFault>, NoMemory>
+) -> Result<Option<Fault>, NoMemory>
+    requires { epoch.now.line + lines_in (block_of epoch.now) ≤ 4000000001 }
     ensures { IfOk result (λ found. MatchOption found
         (BlockPasses rules.now before (block_of epoch.now))
-        (λ fault. BlockFails rules.now before (block_of epoch.now)
-        (epoch.now.line + fault.offset) fault.number)) }
+        (λ fault. BlockFails rules.now before (block_of epoch.now) fault.line fault.number
+        × ShowsNoSpans fault)) }
 {
     if let Some(fault) = own_fault(rules, before, epoch) {
-        return Ok(Some(fault));
+        let line = epoch.line + fault.offset as u32;
+        return Ok(Some(plain_fault(line, fault.number)));
     }
-    let rows = rows_among(alloc, &epoch.sats)?;
-    match &epoch.root {
-        Some(root) => match steps_fault(alloc, &rows, rules, epoch.done, root, &epoch.steps)? {
-            Some(fault) => Ok(Some(LineFault {
-                offset: 2 + epoch.sats.len() + fault.offset,
-                number: fault.number,
-            })),
-            None => Ok(None),
-        },
+    match &epoch.body {
+        Some(body) => body_fault(alloc, rules, epoch, body),
         None => Ok(None),
     }
 }
@@ -69,12 +97,12 @@ fn kept_steps(steps: &LoggedSteps) -> usize
 /// How many boxes the steps of a block close inside or at the edge.
 pub fn kept_boxes(epoch: &LogEpoch) -> u64
     ensures value { (rules : Rules)
-        → BodyPasses rules (block_of epoch.now) (block_of epoch.now).root
-        → result ≡ kept_in (block_of epoch.now) (block_of epoch.now).root }
+        → BodyPasses rules (block_of epoch.now) (block_of epoch.now).body
+        → result ≡ kept_in (block_of epoch.now).body }
     ensures bound { result ≤ lines_in (block_of epoch.now) }
 {
-    match epoch.root {
-        Some(_) => kept_steps(&epoch.steps) as u64,
+    match &epoch.body {
+        Some(body) => kept_steps(&body.steps) as u64,
         None => 0,
     }
 }

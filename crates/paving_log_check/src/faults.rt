@@ -32,6 +32,8 @@ pub const OVER_BUDGET: u8 = 62;
 pub const NOT_CLOSED: u8 = 63;
 /// The number of splits isn't the one that is said.
 pub const COUNT_DIFFERS: u8 = 64;
+/// Rows are renewed over a box that isn't in the root, or that a live box isn't in.
+pub const BAD_RENEWAL: u8 = 65;
 
 /// A fault that shows no spans.
 pub fn plain_fault(line: u32, number: u8) -> Fault

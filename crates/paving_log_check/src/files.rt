@@ -6,11 +6,12 @@ ghost use Rattle.epoch_selection.specs.Searches.{Search, searches_left};
 ghost use Rattle.sat_model.specs.Logs.{Block, lines_in, IsNumbered};
 ghost use Rattle.sat_model.specs.declared.rules.Rules.{Rules};
 ghost use Rattle.gnss_model.specs.declared.delays.Delays.{Delays};
-ghost use Rattle.sat_rows.specs.declared.lines.SatLine.{SatLine};
 ghost use Rattle.paving_log.specs.Values.{block_of, log_value};
+ghost use Rattle.paving_log_check.specs.Renewed.{lines_in_renewals};
 ghost use Rattle.paving_log_check.specs.Answers.{IfYes, IfNo};
 ghost use Rattle.paving_log_check.specs.Admissible.{AreSameRules, IsOf, IsDue, BlockFault};
 ghost use Rattle.paving_log_check.specs.Epochs.{EpochFails};
+ghost use Rattle.paving_log_check.specs.OwnLines.{OwnLines};
 ghost use Rattle.paving_log_check.specs.Checked.{IsAccepted, IsRefused};
 ghost use Rattle.paving_log_check.specs.Taken.{IsTakenBy};
 
@@ -20,7 +21,7 @@ use crate::faults::{RULES_DIFFER, plain_fault};
 use crate::verdict::{Fault, Verdict};
 use epoch_selection::Searches;
 use grid_model::NoMemory;
-use paving_log::{EPOCH_DIFFERS, Log, LogEpoch, is_later, suits};
+use paving_log::{EPOCH_DIFFERS, Log, LogEpoch, Renewal, is_later, suits};
 use rinex_obs::ObsEpoch;
 use sat_model::Rules;
 use sat_rows::RowSource;
@@ -41,7 +42,7 @@ pub fn is_of(rules: &Rules, before: Option<u32>, seen: &ObsEpoch, epoch: &LogEpo
     ensures { IsTrue result ↔ IsOf rules.now before seen.now (block_of epoch.now) }
 {
     is_later(before, epoch.index)
-        && suits(epoch.few, rules.outliers, epoch.n)
+        && suits(epoch.is_few(), rules.outliers, epoch.n)
         && epoch.index == seen.index
         && epoch.ps == seen.tag
 }
@@ -85,13 +86,28 @@ fn is_due(
     }
 }
 
+/// How many lines renewals have.
+fn renewal_lines(renewals: &[Renewal]) -> u32
+    requires { lines_in_renewals renewals.now ≤ 4000000001 }
+    ensures { result ≡ lines_in_renewals renewals.now }
+{
+    let mut lines = 0;
+    for renewal in renewals {
+        lines += 1 + renewal.rows.len() as u32;
+    }
+    lines
+}
+
 /// How many lines a block has.
 pub fn lines_of(epoch: &LogEpoch) -> u32
     requires { lines_in (block_of epoch.now) ≤ 4000000001 }
     ensures { result ≡ lines_in (block_of epoch.now) }
 {
-    match epoch.root {
-        Some(_) => 3 + epoch.sats.len() as u32 + epoch.steps.len() as u32,
+    match &epoch.body {
+        Some(body) => {
+            let steps = body.steps.len() as u32;
+            3 + epoch.sats.len() as u32 + steps + renewal_lines(&body.renewals)
+        }
         None => 1 + epoch.sats.len() as u32,
     }
 }
@@ -99,7 +115,7 @@ pub fn lines_of(epoch: &LogEpoch) -> u32
 /// The first fault of a block whose own one is `own_fault`: this one; but where that is told at the
 /// first line of the next block, and this block isn't due, 51 comes first.
 pub fn first_of(own_fault: Fault, behind: u32, due: bool) -> Fault
-    ensures { (delays : Delays) (rules : Rules) (own : List SatLine) (search : Search)
+    ensures { (delays : Delays) (rules : Rules) (own : OwnLines) (search : Search)
         (rest : List Search) (block : Block) (more : List Block)
         → EpochFails delays rules search.root own block own_fault
         → (IsTrue due ↔ IsDue rules (Some block.index) rest more)

@@ -2,7 +2,7 @@
 
 ghost use Rattle.std.specs.Prelude.{ℕ, Option};
 ghost use Rattle.sat_model.specs.Verdicts.{BlockPasses};
-ghost use Rattle.paving_log.specs.CoverBoxes.{BlockFolds};
+ghost use Rattle.paving_log.specs.CoverBoxes.{BodyFolds};
 ghost use Rattle.paving_log.specs.Values.{block_of};
 
 use paving_log::LogEpoch;
@@ -12,5 +12,5 @@ use sat_model::Rules;
 /// the block. The call does nothing.
 pub fn judged_folds(epoch: &LogEpoch, rules: &Rules)
     ensures { (before : Option ℕ) → BlockPasses rules.now before (block_of epoch.now)
-        → BlockFolds (block_of epoch.now) (block_of epoch.now).root }
+        → BodyFolds (block_of epoch.now).body }
 {}

@@ -5,11 +5,14 @@
 mod blocks;
 mod claims;
 mod epochs;
+mod events;
 mod faults;
 mod files;
 mod folds;
 mod gps;
 mod logs;
+mod renewals;
+mod rows_test;
 mod sat_lines;
 mod steps;
 mod verdict;

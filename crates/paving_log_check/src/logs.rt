@@ -1,6 +1,6 @@
 //! The verdict on a whole log.
 
-ghost use Rattle.std.specs.Prelude.{◌≡◌, ◌+◌, ◌^◌, ◌<◌, IfOk};
+ghost use Rattle.std.specs.Prelude.{◌≡◌, IfOk};
 ghost use Rattle.sat_model.specs.Cover.{RowCover, kept_boxes};
 ghost use Rattle.sat_model.specs.Logs.{IsNumbered};
 ghost use Rattle.sat_model.specs.Verdicts.{Judged, FirstFault};
@@ -8,25 +8,10 @@ ghost use Rattle.paving_log.specs.Values.{log_value};
 ghost use Rattle.paving_log_check.specs.Answers.{IfYes, IfNo, IsOnlyFault, ShowsNoSpans};
 
 use crate::blocks::{block_fault, kept_boxes};
-use crate::verdict::{Fault, Verdict};
-use grid_model::{NoMemory, Span};
-use paving_log::{LineFault, Log};
+use crate::verdict::Verdict;
+use grid_model::NoMemory;
+use paving_log::Log;
 use std::alloc::Global;
-
-/// The fault of the line so far behind this one.
-fn fault_behind(line: u32, found: LineFault) -> Fault
-    requires { line + found.offset < 2 ^ 32 }
-    ensures number { result.number ≡ found.number }
-    ensures line { result.line ≡ line + found.offset }
-    ensures no_spans { ShowsNoSpans result }
-{
-    Fault {
-        number: found.number,
-        line: line + found.offset as u32,
-        theirs: Span { lo: 0, hi: 0 },
-        ours: Span { lo: 0, hi: 0 },
-    }
-}
 
 /// Judges a log with its rows taken as given: yes with the number of boxes closed inside or at the
 /// edge, or no with the first line that fails a test. A yes means that in each paved epoch the
@@ -50,9 +35,8 @@ pub fn judge(alloc: Global, log: &Log) -> Result<Verdict, NoMemory>
     let mut boxes: u64 = 0;
     let mut before: Option<u32> = None;
     for epoch in &log.epochs {
-        match block_fault(alloc, &log.rules, before, epoch)? {
-            Some(found) => return Ok(Verdict::No(fault_behind(epoch.line, found))),
-            None => {}
+        if let Some(fault) = block_fault(alloc, &log.rules, before, epoch)? {
+            return Ok(Verdict::No(fault));
         }
         boxes += kept_boxes(epoch);
         before = Some(epoch.index);

@@ -143,7 +143,7 @@ fn is_same_line(theirs: &SatEntry, ours: &SatLine) -> bool
 }
 
 /// The least test that a row fails against the own one.
-fn rows_fault(line: u32, delays: Delays, row: &Row, ours: &Row) -> Option<Fault>
+pub(crate) fn rows_fault(line: u32, delays: Delays, row: &Row, ours: &Row) -> Option<Fault>
     ensures { MatchOption result
         (HoldsOwn delays row.now ours.now × HasBound delays row.now ours.now)
         (λ fault. RowFails delays (entry.Row row.now) (Usable ours.now) fault

@@ -13,7 +13,7 @@ use Rattle.grid_model.proofs.PointLemmas.{IsInBox, in_box, le_to}
 use Rattle.paving_log.specs.CoverBoxes.{kept_parts}
 use Rattle.zone_guard.specs.Answers.{IsApart, IsPart, AreApart, AreWithin}
 use Rattle.zone_guard.specs.Ends.{AreMet, LiesWithin}
-use Rattle.grid_model.proofs.BoolLemmas.{both_from as and_true}
+use Rattle.std.proofs.lemmas.Bool.{and_from as and_true}
 use Rattle.grid_model.proofs.ListLemmas.{next_item, no_item}
 use Rattle.sat_model.proofs.KeptLemmas.{kept_step}
 use Rattle.paving_log.proofs.KeptParts.{kept_here, kept_later}

@@ -4,7 +4,7 @@ use Rattle.std.specs.List.{AllByRecursion}
 use Rattle.std.proofs.lemmas.List.{take_more, take_all, map-append}
 use Rattle.grid_model.specs.Boxes.{GridBox}
 use Rattle.sat_model.specs.Logs.{Block}
-use Rattle.paving_log.specs.CoverBoxes.{BlockFolds}
+use Rattle.paving_log.specs.CoverBoxes.{BodyFolds}
 use Rattle.paving_log.specs.Values.{block_of}
 use Rattle.paving_log.specs.declared.log.LogEpoch.{LogEpoch}
 use Rattle.zone_guard.specs.EpochsFound.{AreFindings, IsEpochFound, AreEpochsFound}
@@ -54,12 +54,12 @@ pub epochs_all : (watches : List WatchValue) (epochs : List LogEpoch) (i : ℕ) 
     → AreEpochsFound watches (map block_of epochs) found
 epochs_all watches epochs i found ended are = rw (all_of block_of epochs i ended) at are
 
-folds_of : (epochs : List LogEpoch) (i : ℕ) (x : LogEpoch) → i < length epochs → AllByRecursion (λ (b : Block). BlockFolds b b.root) (map block_of epochs)
-    → BlockFolds (block_of (get_or epochs i x)) (block_of (get_or epochs i x)).root
+folds_of : (epochs : List LogEpoch) (i : ℕ) (x : LogEpoch) → i < length epochs → AllByRecursion (λ (b : Block). BodyFolds b.body) (map block_of epochs)
+    → BodyFolds (block_of (get_or epochs i x)).body
 folds_of [] i x within all = absurd (omega arith)
 folds_of (y ∷ epochs) zero x within all = all.0
 folds_of (y ∷ epochs) (suc i) x within all = folds_of epochs i x (omega arith) all.1
 
-pub folds_at : (epochs : List LogEpoch) (i : ℕ) (x : LogEpoch) → i < length epochs → x ≡ get_or epochs i x → AllByRecursion (λ (b : Block). BlockFolds b b.root) (map block_of epochs)
-    → BlockFolds (block_of x) (block_of x).root
-folds_at epochs i x within is all = subst (λ (y : LogEpoch). BlockFolds (block_of y) (block_of y).root) (sym is) (folds_of epochs i x within all)
+pub folds_at : (epochs : List LogEpoch) (i : ℕ) (x : LogEpoch) → i < length epochs → x ≡ get_or epochs i x → AllByRecursion (λ (b : Block). BodyFolds b.body) (map block_of epochs)
+    → BodyFolds (block_of x).body
+folds_at epochs i x within is all = subst (λ (y : LogEpoch). BodyFolds (block_of y).body) (sym is) (folds_of epochs i x within all)

@@ -4,7 +4,7 @@ use Rattle.std.specs.Prelude.{IfErr}
 use Rattle.std.specs.List.{Contains}
 use Rattle.std.proofs.lemmas.Fmt.{decimal_injective}
 use Rattle.std.proofs.lemmas.Grind.{common_steps}
-use Rattle.log_words.specs.Words.{words}
+use Rattle.log_tokens.specs.Words.{words}
 use Rattle.zone_guard.specs.Planes.{PlaneValue, plane_value, plane_values}
 use Rattle.zone_guard.specs.Text.{lines}
 use Rattle.zone_guard.specs.Told.{IsToldIn}

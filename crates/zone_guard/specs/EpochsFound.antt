@@ -3,7 +3,7 @@ use Rattle.std.specs.Prelude.{◌≡◌, true, false, List, [], ◌∷◌, Optio
 use Rattle.std.specs.declared.vec.Vec.{Vec}
 use Rattle.std.specs.declared.alloc.Global.{Global}
 use Rattle.grid_model.specs.Boxes.{GridBox}
-use Rattle.sat_model.specs.Logs.{Block}
+use Rattle.sat_model.specs.Logs.{Block, is_few}
 use Rattle.paving_log.specs.CoverBoxes.{cover_of}
 use Rattle.zone_guard.specs.Findings.{IsFinding}
 use Rattle.zone_guard.specs.Watched.{WatchValue}
@@ -20,9 +20,9 @@ AreFindings (w ∷ watches) boxes (f ∷ found) = IsFinding w.form boxes f
 
 -- nothing exactly in an epoch of few satellites, and else what its kept boxes say
 abbrev pub IsFoundIn : List WatchValue → Block → Option (Vec Finding Global) → Type 0
-IsFoundIn watches block None = block.few ≡ true
+IsFoundIn watches block None = is_few block ≡ true
 IsFoundIn watches block (Some found) =
-    (block.few ≡ false) × AreFindings watches (cover_of block block.root) found.items
+    (is_few block ≡ false) × AreFindings watches (cover_of block.body) found.items
 
 abbrev pub IsEpochFound : List WatchValue → Block → EpochFindings → Type 0
 IsEpochFound watches block e = (e.index ≡ block.index) × IsFoundIn watches block e.found

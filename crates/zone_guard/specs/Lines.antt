@@ -1,7 +1,7 @@
 -- A line of zones, and which zones have one.
 use Rattle.std.specs.Prelude.{◌≡◌, ◌⊎◌, ℕ, ◌≤◌, ◌≤ℤ◌, List, ◌∷◌, ◌++◌, length, codes}
 use Rattle.std.specs.List.{AllByRecursion}
-use Rattle.log_words.specs.Fields.{pos_words, IsPosWithin, IsCountFromTo}
+use Rattle.log_tokens.specs.Fields.{pos_words, IsPosWithin, IsCountFromTo}
 use Rattle.grid_model.specs.declared.boxes.Pos.{Pos}
 use Rattle.zone_guard.specs.declared.zone.Zone.{Zone}
 

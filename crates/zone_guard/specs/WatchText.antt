@@ -2,7 +2,7 @@
 use Rattle.std.specs.Prelude.{◌≡◌, ◌≢◌, ◌⊎◌, ℕ, zero, suc, ◌+◌, ◌-◌, Bool, true, false, List, []}
 use Rattle.std.specs.Prelude.{◌∷◌, ◌++◌, map, codes}
 use Rattle.std.specs.List.{Contains}
-use Rattle.log_words.specs.Words.{words}
+use Rattle.log_tokens.specs.Words.{words}
 use Rattle.zone_guard.specs.Lines.{ZoneValue}
 use Rattle.zone_guard.specs.Text.{lines, IsZonesText, IsFirstBad}
 use Rattle.zone_guard.specs.Watched.{Kind, WatchLine, Named, Side, Corners, Sides, Along, LineFits}

@@ -1,7 +1,7 @@
 -- What a file of zones names, as plain values, and the lines of the second form.
 use Rattle.std.specs.Prelude.{◌≡◌, ℕ, pos, ◌≤ℤ◌, List, [], ◌∷◌, ◌++◌, map, length, codes}
 use Rattle.std.specs.Fmt.{decimal, signed_decimal}
-use Rattle.log_words.specs.Fields.{pos_words, IsPosWithin, IsCountFromTo}
+use Rattle.log_tokens.specs.Fields.{pos_words, IsPosWithin, IsCountFromTo}
 use Rattle.grid_model.specs.Sizes.{IsWithin}
 use Rattle.grid_model.specs.declared.boxes.Pos.{Pos}
 use Rattle.zone_guard.specs.Lines.{IsName, ZoneValue}

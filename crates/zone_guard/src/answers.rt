@@ -2,7 +2,7 @@
 
 ghost use Rattle.std.specs.Prelude.{◌↔◌, IsTrue, IfOk, map};
 ghost use Rattle.grid_model.specs.Boxes.{grid_box, side_at};
-ghost use Rattle.paving_log.specs.CoverBoxes.{BlockFolds, cover_of};
+ghost use Rattle.paving_log.specs.CoverBoxes.{BodyFolds, cover_of};
 ghost use Rattle.paving_log.specs.Values.{block_of};
 ghost use Rattle.zone_guard.specs.Answers.{AreApart, AreParts, IsAnswer};
 ghost use Rattle.zone_guard.specs.Ends.{SidesMeet, SideLies, AreMet, LiesWithin};
@@ -98,9 +98,9 @@ pub fn answer_of(zone: &Box3, boxes: &[Box3]) -> ZoneAnswer
 /// What the boxes that the steps of an epoch close inside or at the edge say of the zone. The steps
 /// are to fold, as `cover_boxes` has it.
 pub fn answer(alloc: Global, zone: &Zone, epoch: &LogEpoch) -> Result<ZoneAnswer, NoMemory>
-    requires { BlockFolds (block_of epoch.now) (block_of epoch.now).root }
+    requires { BodyFolds (block_of epoch.now).body }
     ensures { IfOk result (IsAnswer (grid_box zone.now.part)
-        (cover_of (block_of epoch.now) (block_of epoch.now).root)) }
+        (cover_of (block_of epoch.now).body)) }
 {
     let boxes = cover_boxes(alloc, epoch)?;
     Ok(answer_of(&zone.part, &boxes))

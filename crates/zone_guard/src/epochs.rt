@@ -3,7 +3,7 @@
 ghost use Rattle.std.specs.Prelude.{IfOk, map};
 ghost use Rattle.std.specs.List.{AllByRecursion};
 ghost use Rattle.grid_model.specs.Boxes.{grid_box};
-ghost use Rattle.paving_log.specs.CoverBoxes.{BlockFolds};
+ghost use Rattle.paving_log.specs.CoverBoxes.{BodyFolds};
 ghost use Rattle.paving_log.specs.Values.{block_of, log_value};
 ghost use Rattle.zone_guard.specs.EpochsFound.{AreFindings, IsEpochFound, AreEpochsFound};
 ghost use Rattle.zone_guard.specs.WatchValues.{watch_values};
@@ -33,10 +33,10 @@ fn epoch_findings(
     watches: &[Watch],
     epoch: &LogEpoch,
 ) -> Result<EpochFindings, NoMemory>
-    requires { BlockFolds (block_of epoch.now) (block_of epoch.now).root }
+    requires { BodyFolds (block_of epoch.now).body }
     ensures { IfOk result (IsEpochFound (watch_values watches.now) (block_of epoch.now)) }
 {
-    if epoch.few {
+    if epoch.is_few() {
         return Ok(EpochFindings {
             index: epoch.index,
             found: None,
@@ -57,7 +57,7 @@ pub fn log_findings(
     watches: &[Watch],
     log: &Log,
 ) -> Result<Vec<EpochFindings>, NoMemory>
-    requires { AllByRecursion (λ block. BlockFolds block block.root) (log_value log.now).blocks }
+    requires { AllByRecursion (λ block. BodyFolds block.body) (log_value log.now).blocks }
     ensures { IfOk result (λ found. AreEpochsFound (watch_values watches.now)
         (log_value log.now).blocks found.items) }
 {

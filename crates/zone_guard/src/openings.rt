@@ -3,8 +3,8 @@
 ghost use Rattle.std.specs.Prelude.{◌≡◌, ℕ, ◌∷◌, [], ◌++◌, List, IfSome, IfNone};
 ghost use Rattle.std.specs.Fmt.{decimal};
 ghost use Rattle.grid_model.specs.declared.boxes.Pos.{Pos};
-ghost use Rattle.log_words.specs.Fields.{pos_words, IsCountFromTo};
-ghost use Rattle.log_words.specs.Words.{words, words_left};
+ghost use Rattle.log_tokens.specs.Fields.{pos_words, IsCountFromTo};
+ghost use Rattle.log_tokens.specs.Words.{words, words_left};
 ghost use Rattle.zone_guard.specs.Planes.{PlaneValue, plane_value};
 ghost use Rattle.zone_guard.specs.Watched.{Kind, KindFits, kind_word, kind_words, Named, LineFits};
 ghost use Rattle.zone_guard.specs.Watched.{line_words, IsDirection, IsSide, Side};
@@ -15,7 +15,7 @@ use crate::numbers::limit_of;
 use crate::opening::{Opening, OpeningKind};
 use crate::planes::{Direction, HalfSpace};
 use crate::reading::box_of;
-use log_words::{Rest, count, is_ended, place, word};
+use log_tokens::{Rest, count, is_ended, place, word};
 
 /// The greatest amount of a coordinate of a direction: 2^20.
 const LONGEST: u64 = 1_048_576;

@@ -1,6 +1,6 @@
 //! Directions and half-spaces of the earth-fixed frame.
 
-ghost use Rattle.log_words.specs.Fields.{IsPosWithin};
+ghost use Rattle.log_tokens.specs.Fields.{IsPosWithin};
 
 use grid_model::Pos;
 

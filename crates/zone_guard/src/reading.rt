@@ -2,8 +2,8 @@
 
 ghost use Rattle.std.specs.Prelude.{◌≡◌, ◌+◌, ◌≤◌, [], ◌∷◌, ◌++◌, length, IfSome, IfNone};
 ghost use Rattle.std.specs.Prelude.{MatchOption};
-ghost use Rattle.log_words.specs.Fields.{pos_words};
-ghost use Rattle.log_words.specs.Words.{words, words_left};
+ghost use Rattle.log_tokens.specs.Fields.{pos_words};
+ghost use Rattle.log_tokens.specs.Words.{words, words_left};
 ghost use Rattle.zone_guard.specs.Lines.{ZoneValue, ZoneFits, zone_value, zone_words};
 ghost use Rattle.zone_guard.specs.Names.{corner_words, CornersFit};
 ghost use Rattle.zone_guard.specs.Text.{lines};
@@ -11,7 +11,7 @@ ghost use Rattle.zone_guard.specs.Text.{lines};
 use crate::names::name_of;
 use crate::zone::Zone;
 use grid_model::Box3;
-use log_words::{Rest, is_ended, place, word};
+use log_tokens::{Rest, is_ended, place, word};
 use memchr::memchr;
 
 /// The greatest amount of a coordinate, in um.

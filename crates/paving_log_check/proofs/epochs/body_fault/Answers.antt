@@ -1,26 +1,40 @@
-use Rattle.std.proofs.Common.{arith}
+use Rattle.std.proofs.Common.{arith, ap, length, inl, sym, [], ◌∙◌}
+use Rattle.std.proofs.lemmas.Bool.{false≢true}
 use Rattle.grid_model.specs.Boxes.{grid_box}
-use Rattle.sat_model.specs.BoxTests.{test_of}
-use Rattle.sat_model.specs.Stages.{first_stage}
-use Rattle.logged_steps.specs.Steps.{steps_of}
-use Rattle.paving_log_check.proofs.BlockLemmas.{steps_within}
+use Rattle.sat_model.specs.Logs.{rows_of, lines_of_body}
+use Rattle.paving_log.specs.Values.{body_value, body_option, block_of}
+use Rattle.paving_log.proofs.OwnLemmas.{rows_le_lines}
+use Rattle.paving_log_check.proofs.EpochLemmas.{body_at}
 use Rattle.paving_log_check.proofs.epochs.body_fault.Goals as goal
 
-pub overflow_cast-line-in-Some-2 : goal.overflow_cast-line-in-Some-2
-overflow_cast-line-in-Some-2 c =
-    let fails = rw c.in-Some.is at c.in_ok-fault.ensures.found in
-    omega (
-      arith,
-      steps_within c.args.rules.now c.args.epoch.now.done (first_stage (test_of c.args.rules.now c.deref-2.result.now) (grid_box c.args.root.now)) (steps_of c.args.epoch.now.steps) c.in-Some.fault.offset c.in-Some.fault.number fails,
-      c.requires.numbered,
-    )
+pub returns-then-not-is_same_box : goal.returns-then-not-is_same_box
+returns-then-not-is_same_box c = record {
+  renewed = [];
+  formed = tt;
+  fails = inl (record {
+    differs = λ is. false≢true (sym c.if-not-is_same_box.true ∙ c.is_same_box.ensures.1 is);
+    line = omega (arith, c.plain_fault.ensures.line, c.len.ensures);
+    number = c.plain_fault.ensures.number;
+    no_spans = c.plain_fault.ensures.no_spans;
+  });
+}
 
-pub overflow_add-line-in-Some-3 : goal.overflow_add-line-in-Some-3
-overflow_add-line-in-Some-3 c =
-    let fails = rw c.in-Some.is at c.in_ok-fault.ensures.found in
-    omega (
-      arith,
-      steps_within c.args.rules.now c.args.epoch.now.done (first_stage (test_of c.args.rules.now c.deref-2.result.now) (grid_box c.args.root.now)) (steps_of c.args.epoch.now.steps) c.in-Some.fault.offset c.in-Some.fault.number fails,
-      c.len-in-Some.ensures,
-      c.requires.numbered,
-    )
+pub events_fault-requires-clause-rows : goal.events_fault-requires-clause-rows
+events_fault-requires-clause-rows c =
+    let rows = c.deref-2.ensures.value ∙ c.in_ok-rows.ensures ∙ ap rows_of c.deref.ensures.value in
+    omega (arith, ap length rows, rows_le_lines c.args.epoch.now.sats.items, c.args.epoch.now.at_most)
+
+pub events_fault-requires-clause-ready : goal.events_fault-requires-clause-ready
+events_fault-requires-clause-ready c = rw c.deref-3.ensures.value c.requires.ready
+
+pub events_fault-requires-clause-numbered : goal.events_fault-requires-clause-numbered
+events_fault-requires-clause-numbered c =
+    omega (arith, c.requires.numbered, ap (λ o. lines_of_body (body_option o)) c.requires.body, c.args.epoch.now.at_most)
+
+pub returns : goal.returns
+returns c =
+    let given = c.args.given.now in
+    let rows = c.deref-2.ensures.value ∙ c.in_ok-rows.ensures ∙ ap rows_of c.deref.ensures.value in
+    let found = rw c.deref-3.ensures.value at c.events_fault.ensures in
+    body_at given.delays c.args.rules.now (grid_box given.root.now) given.own.now.lines.items given.own.now.bases.items (block_of c.args.epoch.now) (body_value c.args.body.now)
+    c.events_fault.result _ _ (c.is_same_box.ensures.0 c.if-not-is_same_box.false) rows found (omega (arith, c.len-2.ensures, c.args.epoch.now.sats.ok))

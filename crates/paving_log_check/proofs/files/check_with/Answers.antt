@@ -66,8 +66,8 @@ loop-k-preserved g c =
     rw c.lines_of-next.ensures (underway_more (g.S.RowSource.meaning c.args.source.now) (search_in (grid_box c.loop-k.left.root) seen) (searches_left new)
     (block_of c.index-epoch.result.now) (drop (c.loop-k.k + 1) (log_value c.args.log.now).blocks) c.kept_boxes-boxes.result
     c.loop-k.invariant here first c.in-Some.ensures.is_of passes
-    (c.kept_boxes-boxes.ensures.value c.args.rules.now (body_passes c.args.rules.now (grid_box c.loop-k.left.root) (block_of c.index-epoch.result.now)
-    (block_of c.index-epoch.result.now).root passes.passes.body))
+    (c.kept_boxes-boxes.ensures.value c.args.rules.now (body_passes (g.S.RowSource.meaning c.args.source.now).delays c.args.rules.now (grid_box c.loop-k.left.root) passes.own.renewed
+    (block_of c.index-epoch.result.now) (block_of c.index-epoch.result.now).body passes.passes.body))
     c.kept_boxes-boxes.ensures.bound)
 
 pub returns-then-not-is_due-clause-no : goal.returns-then-not-is_due-clause-no
@@ -84,6 +84,6 @@ returns-clause-yes g c =
     let ended = blocks_ended c.args.log.now.epochs.items c.loop-k.k (omega (arith, c.loop-k-test.false, c.len-k-end.ensures, c.args.log.now.epochs.ok)) in
     let none = blocks_ended c.args.log.now.epochs.items c.len.result (omega (arith, c.len.ensures, c.args.log.now.epochs.ok)) in
     let due = rw none at (rw c.deref-2.ensures.value at c.is_due.ensures) in
-    all_accepted (g.S.RowSource.meaning c.args.source.now) c.args.log.now (g.met.S.RowSource.sound c.args.source.now)
+    all_accepted (g.S.RowSource.meaning c.args.source.now) (log_value c.args.log.now) (g.met.S.RowSource.sound c.args.source.now)
     (all_in_box (grid_box c.args.searches.now.root) (epochs_left c.args.searches.now) c.args.searches.now.search_box)
     c.loop-k.invariant (c.are_same_rules.ensures.0 c.if-not-are_same_rules.false) ended (due.0 c.if-not-is_due.false)

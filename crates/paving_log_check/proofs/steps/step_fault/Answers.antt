@@ -1,6 +1,6 @@
 use Rattle.std.proofs.Common.{rules, w64}
 use Rattle.std.proofs.lemmas.Int.{to_z-of_z}
-use Rattle.relaxed_meet.specs.TestValues.{test_value}
+use Rattle.paving_log_check.specs.RowsTests.{rows_test_value}
 use Rattle.paving_log_check.proofs.steps.step_fault.Goals as goal
 
 pub returns-in-Cut-clause-fault : goal.returns-in-Cut-clause-fault
@@ -9,7 +9,7 @@ returns-in-Cut-clause-fault c =
     rw c.in-Cut.is (rw bound at (c.cut_fault.ensures.fault c.args.rules.now))
 
 pub returns-in-Split-clause-fault : goal.returns-in-Split-clause-fault
-returns-in-Split-clause-fault c = rw c.in-Split.is (c.split_fault.ensures (test_value c.args.test.now))
+returns-in-Split-clause-fault c = rw c.in-Split.is (c.split_fault.ensures (rows_test_value c.args.test.now))
 
 pub returns-in-Outside-clause-fault : goal.returns-in-Outside-clause-fault
 returns-in-Outside-clause-fault c = rw c.in-Outside.is (c.outside_fault.ensures.fault c.args.rules.now)

@@ -1,7 +1,7 @@
 use Rattle.std.proofs.Common.{◌≡◌, get_or, sym, ◌∙◌, arith}
 use Rattle.zone_guard.proofs.AmountLemmas.{behind_minus}
 use Rattle.zone_guard.proofs.numbers.limit_of.Goals as goal
-use Rattle.log_words.proofs.DigitLemmas.{one_amount}
+use Rattle.log_tokens.proofs.DigitLemmas.{one_amount}
 
 pub returns-in_err-amount-clause-none : goal.returns-in_err-amount-clause-none
 returns-in_err-amount-clause-none c = rw c.from_residual.ensures (λ n within e.

@@ -1,6 +1,6 @@
 use Rattle.std.proofs.Common.{arith, lit<}
 use Rattle.std.proofs.lemmas.Int.{ints}
-use Rattle.log_words.proofs.NumberLemmas.{one_place}
+use Rattle.log_tokens.proofs.NumberLemmas.{one_place}
 use Rattle.zone_guard.proofs.openings.direction.Goals as goal
 
 pub returns-in_err-vector-clause-none : goal.returns-in_err-vector-clause-none

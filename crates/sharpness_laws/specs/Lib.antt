@@ -1,0 +1,3 @@
+pub mod Clear
+pub mod UsableRows
+pub mod Left
