@@ -10,7 +10,7 @@ use Rattle.sat_model.specs.Contractors.{SideLiesIn, LiesIn}
 use Rattle.sat_model.specs.Fold.{Subpaving, first_boxes, live_box, axis_of, is_low, side_left, halves, cut_box, boxes_after, ShownStep, shown, slab_shown, taken_by, pieces_from, pieces}
 use Rattle.sat_model.specs.declared.steps.Step.{Step}
 use Rattle.sat_model.specs.declared.steps.Step.TheVariants.{Cut, Split, Outside, Inside, Edge}
-use Rattle.live_boxes.specs.Folding.{IsDivisible, StepFolds, StepsFold}
+use Rattle.subpaving.specs.Folding.{IsDivisible, StepFolds, StepsFold}
 use Rattle.paving_log.specs.CoverBoxes.{kept_parts}
 use Rattle.moving_tube.specs.Hulls.{hull_of, HullLies}
 use Rattle.moving_tube.proofs.HullLemmas.{hull_lies}

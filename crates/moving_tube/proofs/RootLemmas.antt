@@ -4,7 +4,7 @@ use Rattle.std.specs.Prelude.{ℤ, pos, neg_ℤ, ◌+ℤ◌, ◌-ℤ◌, ◌≤�
 use Rattle.std.specs.Int.{int_min, int_max}
 use Rattle.std.proofs.lemmas.Int.{ints, clamps}
 use Rattle.range_contractor.proofs.BoxLemmas.{along, holds_at, holds_all, lies_through}
-use Rattle.live_boxes.specs.LiveValues.{box_option}
+use Rattle.subpaving.specs.LiveValues.{box_option}
 use Rattle.grid_model.proofs.AmountLemmas.{above_is}
 use Rattle.grid_model.specs.Boxes.{Side, GridBox, grid_box, box_holds, side_at, IsIn}
 use Rattle.sat_model.specs.Contractors.{SideLiesIn, LiesIn, meet_side, meet_box, IsMeet}

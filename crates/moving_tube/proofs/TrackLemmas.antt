@@ -1,13 +1,15 @@
 -- A receiver that fits in each paved epoch, and comes no farther than its reach, is found in each epoch.
-use Rattle.std.proofs.Common.{◌≡◌, ℕ, Bool, true, false, List, [], ◌∷◌, sym, subst, Option, None, Some}
+use Rattle.std.proofs.Common.{◌≡◌, ℕ, true, List, [], ◌∷◌, sym, subst, Option, None, Some}
 use Rattle.std.specs.Prelude.{ℤ}
 use Rattle.std.specs.List.{AllByRecursion}
 use Rattle.grid_model.specs.Boxes.{GridBox, box_holds}
+use Rattle.sat_model.specs.Events.{steps_in}
 use Rattle.sat_model.specs.Fold.{pieces}
+use Rattle.sat_model.specs.Logs.{Body}
 use Rattle.grid_model.specs.declared.boxes.Pos.{Pos}
 use Rattle.moving_tube.specs.Reach.{reach_of}
 use Rattle.moving_tube.specs.Roots.{kept_with, Before, root_after, root_for, reached_box}
-use Rattle.moving_tube.specs.Tracks.{Stay, Left, IsReached, GoesOn, IsTrajectory, Visit, behind, AreRooted, root_with, IsKeptWith, AreKept, IsFoundWith, AreFound}
+use Rattle.moving_tube.specs.Tracks.{Stay, Left, IsReached, GoesOn, IsTrajectory, Visit, behind, AreRooted, HasRoot, IsKeptWith, AreKept, IsFoundWith, AreFound}
 use Rattle.moving_tube.proofs.HoldLemmas.{holds_reached}
 use Rattle.moving_tube.proofs.HullLemmas.{HullHolds, kept_held}
 
@@ -39,18 +41,18 @@ in_root speed search (Some before) (Some left) tag root q held inside near e =
     (subst (λ (t : ℤ). IsReached speed (Some (record { tag = t; at = left.at })) tag q) (sym held.0) near) e
 
 -- and found there
-found_with : (few : Bool) (v : Visit) (stay : Stay) → box_holds v.root stay.at ≡ true → IsKeptWith few v stay → IsFoundWith few v stay
-found_with true v stay inside kept = inside
-found_with false v stay inside kept = kept inside
+found_with : (root : GridBox) (body : Option Body) (stay : Stay) → box_holds root stay.at ≡ true → IsKeptWith root body stay → IsFoundWith root body stay
+found_with root None stay inside kept = inside
+found_with root (Some body) stay inside kept = kept inside
 
-held_with : (few : Bool) (v : Visit) (stay : Stay) → v.block.root ≡ root_with few v.root → IsFoundWith few v stay → HullHolds (kept_with few v.root v.block) stay.at
-held_with true v stay is found = found
-held_with false v stay is found = rw is (kept_held None (pieces v.root v.block.steps) stay.at stay.offset found)
+held_with : (root : GridBox) (body : Option Body) (stay : Stay) → HasRoot root body → IsFoundWith root body stay → HullHolds (kept_with root body) stay.at
+held_with root None stay is found = found
+held_with root (Some body) stay is found = rw is (kept_held None (pieces root (steps_in body.events)) stay.at stay.offset found)
 
 module _ (speed : ℕ) (search : GridBox) where
   -- each visit has its root in its block
   abbrev pub HaveRoots : List Visit → Type 0
-  HaveRoots visits = AllByRecursion (λ v. v.block.root ≡ root_with v.block.few v.root) visits
+  HaveRoots visits = AllByRecursion (λ v. HasRoot v.root v.block.body) visits
 
   -- the visits are at the first of these times
   abbrev pub AreTimed : List Visit → List ℤ → Type 0
@@ -66,8 +68,8 @@ module _ (speed : ℕ) (search : GridBox) where
   found_from before left (v ∷ more) (tag ∷ tags) [] held rooted timed roots goes kept = absurd kept
   found_from before left (v ∷ more) (tag ∷ tags) (stay ∷ path) held rooted timed roots goes kept =
       let inside = in_root speed search before left v.tag v.root stay.at held goes.0 (subst (λ (t : ℤ). IsReached speed left t stay.at) (sym timed.0) goes.1) rooted.0 in
-      let found = found_with v.block.few v stay inside kept.0 in
-      let held = held_with v.block.few v stay roots.0 found in
+      let found = found_with v.root v.block.body stay inside kept.0 in
+      let held = held_with v.root v.block.body stay roots.0 found in
       (found, found_from (behind v) (Some (record { tag = tag; at = stay.at })) more tags path (timed.0, held) rooted.1 timed.1 roots.1 goes.2 kept.1)
 
   -- A trajectory that each paved epoch keeps, where it is in its root, is found in each epoch.

@@ -1,8 +1,8 @@
 -- The box in which a moving receiver is searched, by the boxes that an epoch before kept.
-use Rattle.std.specs.Prelude.{ℕ, ℤ, pos, ◌+ℤ◌, ◌-ℤ◌, Bool, true, false, Option, None, Some}
+use Rattle.std.specs.Prelude.{ℕ, ℤ, pos, ◌+ℤ◌, ◌-ℤ◌, Option, None, Some}
 use Rattle.grid_model.specs.Boxes.{Side, GridBox}
 use Rattle.sat_model.specs.Contractors.{meet_box}
-use Rattle.sat_model.specs.Logs.{Block}
+use Rattle.sat_model.specs.Logs.{Body, Block}
 use Rattle.paving_log.specs.CoverBoxes.{cover_of}
 use Rattle.moving_tube.specs.Hulls.{hull_of}
 use Rattle.moving_tube.specs.Reach.{reach_of}
@@ -26,12 +26,12 @@ reached_box reach kept search = meet_box search (grown_box (pos reach) kept)
 
 -- where the receiver was in an epoch that was searched in this root: in the hull of the in and edge
 -- boxes, none where there are none; and in a block of few satellites in the root
-abbrev pub kept_with : Bool → GridBox → Block → Option GridBox
-kept_with true root block = Some root
-kept_with false root block = hull_of (cover_of block block.root)
+abbrev pub kept_with : GridBox → Option Body → Option GridBox
+kept_with root None = Some root
+kept_with root (Some body) = hull_of (cover_of (Some body))
 
 abbrev pub kept_of : GridBox → Block → Option GridBox
-kept_of root block = kept_with block.few root block
+kept_of root block = kept_with root block.body
 
 -- the time of the epoch before, and where the receiver was
 pub record Before : Type 0 where

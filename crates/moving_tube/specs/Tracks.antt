@@ -1,9 +1,10 @@
 -- Trajectories of a moving receiver, and the boxes in which it is found.
-use Rattle.std.specs.Prelude.{◌≡◌, ℕ, ℤ, Bool, true, false, List, [], ◌∷◌, Option, None, Some}
+use Rattle.std.specs.Prelude.{◌≡◌, ℕ, ℤ, true, List, [], ◌∷◌, Option, None, Some}
 use Rattle.grid_model.specs.Boxes.{GridBox, box_holds}
 use Rattle.sat_model.specs.Cover.{SomeKeeps}
+use Rattle.sat_model.specs.Events.{steps_in}
 use Rattle.sat_model.specs.Fold.{pieces}
-use Rattle.sat_model.specs.Logs.{Block}
+use Rattle.sat_model.specs.Logs.{Body, Block}
 use Rattle.grid_model.specs.declared.boxes.Pos.{Pos}
 use Rattle.moving_tube.specs.Reach.{reach_of, IsWithinReach}
 use Rattle.moving_tube.specs.Roots.{Before, kept_of, root_for}
@@ -55,31 +56,32 @@ AreRooted speed search before (v ∷ more) =
     (root_for speed search before v.tag ≡ Some v.root) × AreRooted speed search (behind v) more
 
 -- a block of few satellites has no root, and each other one that of its epoch
-abbrev pub root_with : Bool → GridBox → Option GridBox
-root_with true root = None
-root_with false root = Some root
+abbrev pub HasRoot : GridBox → Option Body → Type 0
+HasRoot root None = Unit {0}
+HasRoot root (Some body) = body.root ≡ root
 
 -- who is in its root is kept there, where the epoch is paved
-abbrev pub IsKeptWith : Bool → Visit → Stay → Type 0
-IsKeptWith true v stay = Unit {0}
-IsKeptWith false v stay = box_holds v.root stay.at ≡ true
-    → SomeKeeps stay.at stay.offset (pieces v.root v.block.steps)
+abbrev pub IsKeptWith : GridBox → Option Body → Stay → Type 0
+IsKeptWith root None stay = Unit {0}
+IsKeptWith root (Some body) stay = box_holds root stay.at ≡ true
+    → SomeKeeps stay.at stay.offset (pieces root (steps_in body.events))
 
 -- so it is in each of these epochs, of which there is a stay
 abbrev pub AreKept : List Visit → List Stay → Type 0
 AreKept [] path = Unit {0}
 AreKept (v ∷ more) [] = ⊥
-AreKept (v ∷ more) (stay ∷ path) = IsKeptWith v.block.few v stay × AreKept more path
+AreKept (v ∷ more) (stay ∷ path) = IsKeptWith v.root v.block.body stay × AreKept more path
 
 -- ---- where a receiver is found
 
 -- in an in or edge box whose clock span has its offset; in a block of few satellites in the root
-abbrev pub IsFoundWith : Bool → Visit → Stay → Type 0
-IsFoundWith true v stay = box_holds v.root stay.at ≡ true
-IsFoundWith false v stay = SomeKeeps stay.at stay.offset (pieces v.root v.block.steps)
+abbrev pub IsFoundWith : GridBox → Option Body → Stay → Type 0
+IsFoundWith root None stay = box_holds root stay.at ≡ true
+IsFoundWith root (Some body) stay =
+    SomeKeeps stay.at stay.offset (pieces root (steps_in body.events))
 
 -- in each of these epochs, and maybe in more
 abbrev pub AreFound : List Visit → List Stay → Type 0
 AreFound [] path = Unit {0}
 AreFound (v ∷ more) [] = ⊥
-AreFound (v ∷ more) (stay ∷ path) = IsFoundWith v.block.few v stay × AreFound more path
+AreFound (v ∷ more) (stay ∷ path) = IsFoundWith v.root v.block.body stay × AreFound more path

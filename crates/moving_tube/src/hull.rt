@@ -2,8 +2,8 @@
 
 ghost use Rattle.std.specs.Prelude.{◌≡◌, ◌≤ℤ◌, map, IfOk};
 ghost use Rattle.std.specs.Int.{int_min, int_max};
-ghost use Rattle.live_boxes.specs.LiveValues.{box_option};
-ghost use Rattle.paving_log.specs.CoverBoxes.{BlockFolds, cover_of};
+ghost use Rattle.subpaving.specs.LiveValues.{box_option};
+ghost use Rattle.paving_log.specs.CoverBoxes.{BodyFolds, cover_of};
 ghost use Rattle.paving_log.specs.Values.{block_of};
 ghost use Rattle.grid_model.specs.Boxes.{grid_box};
 ghost use Rattle.grid_model.specs.Sizes.{IsBoxSize};
@@ -75,9 +75,9 @@ fn hull_of(boxes: &[Box3]) -> Option<Box3>
 /// The hull of the boxes that the steps of an epoch close inside or at the edge, and none where
 /// there are none. Its steps are to fold, as `cover_boxes` has it.
 pub fn cover_hull(alloc: Global, epoch: &LogEpoch) -> Result<Option<Box3>, NoMemory>
-    requires { BlockFolds (block_of epoch.now) (block_of epoch.now).root }
+    requires { BodyFolds (block_of epoch.now).body }
     ensures { IfOk result (λ hull. box_option hull
-        ≡ hull_of (cover_of (block_of epoch.now) (block_of epoch.now).root)) }
+        ≡ hull_of (cover_of (block_of epoch.now).body)) }
 {
     let boxes = cover_boxes(alloc, epoch)?;
     Ok(hull_of(&boxes))

@@ -2,8 +2,8 @@
 
 ghost use Rattle.std.specs.Prelude.{◌≡◌, ◌≤◌, ◌≤ℤ◌, ◌+ℤ◌, ◌-ℤ◌, pos, neg_ℤ, Some, option_map};
 ghost use Rattle.std.specs.Int.{int_min, int_max};
-ghost use Rattle.live_boxes.specs.LiveValues.{box_option};
-ghost use Rattle.log_words.specs.Fields.{IsTime};
+ghost use Rattle.subpaving.specs.LiveValues.{box_option};
+ghost use Rattle.log_tokens.specs.Fields.{IsTime};
 ghost use Rattle.grid_model.specs.Boxes.{grid_box};
 ghost use Rattle.sat_model.specs.Contractors.{IsMeet, LiesIn};
 ghost use Rattle.grid_model.specs.SearchBoxes.{IsSearchBox};

@@ -1,16 +1,16 @@
 ghost use Rattle.std.specs.Prelude.{◌≤ℤ◌, pos};
 ghost use Rattle.grid_model.specs.Boxes.{grid_box};
 ghost use Rattle.grid_model.specs.Sizes.{IsBoxSize};
-ghost use Rattle.live_boxes.specs.Folding.{StepsFold};
+ghost use Rattle.subpaving.specs.Folding.{StepsFold};
 ghost use Rattle.sat_model.specs.Fold.{first_boxes};
 
 use super::*;
 use grid_model::{Box3, NoMemory, Pos};
-use logged_steps::LoggedSteps;
-use paving_log::LogEpoch;
+use paving_log::{Body, LogEpoch};
 use sat_model::Step;
 use std::alloc::Global;
 use std::test::Fail;
+use step_columns::LoggedSteps;
 
 /// Epoch 0 of 2024 in ps.
 const THEN: i128 = 1_388_102_400_000_000_000_000;
@@ -94,11 +94,13 @@ fn kept(alloc: Global, root: Box3, steps: &[Step]) -> Result<Option<Box3>, NoMem
         index: 1,
         ps: 0,
         n: 4,
-        few: false,
         sats: Vec::new(alloc),
-        root: Some(root),
-        steps: LoggedSteps::from_slice(alloc, steps)?,
-        done: 0,
+        body: Some(Body {
+            root,
+            steps: LoggedSteps::from_slice(alloc, steps)?,
+            renewals: Vec::new(alloc),
+            done: 0,
+        }),
     };
     cover_hull(alloc, &epoch)
 }

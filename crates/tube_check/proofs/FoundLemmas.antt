@@ -1,38 +1,24 @@
 -- By an accepted log a moving receiver is found.
-use Rattle.std.proofs.Common.{◌≡◌, ℕ, Bool, true, false, List, [], ◌∷◌, length, map, refl, sym, ap, subst, ◌∙◌, arith, Option, None, Some}
-use Rattle.std.specs.Prelude.{is_none}
-use Rattle.std.specs.List.{AllByRecursion}
+use Rattle.std.proofs.Common.{◌≡◌, ℕ, List, [], ◌∷◌, length, map, refl, subst, arith, Option, None, Some}
 use Rattle.epoch_selection.specs.Searches.{Search}
-use Rattle.live_boxes.specs.LiveValues.{box_option}
 use Rattle.moving_tube.specs.Roots.{Before, kept_of, root_for}
-use Rattle.moving_tube.specs.Tracks.{Stay, AreRooted, root_with, IsKeptWith, AreKept}
+use Rattle.moving_tube.specs.Tracks.{Stay, AreRooted, HasRoot, IsKeptWith, AreKept}
 use Rattle.moving_tube.proofs.TrackLemmas.{HaveRoots, AreTimed, track_found}
-use Rattle.paving_log.specs.Values.{block_of}
-use Rattle.paving_log.specs.declared.log.LogEpoch.{LogEpoch}
-use Rattle.paving_log_check.proofs.FitLemmas.{HasFewRoot, none_of}
 use Rattle.paving_log_check.specs.Admissible.{AdmitsFrom}
 use Rattle.paving_log_check.specs.Checked.{IsAccepted}
 use Rattle.paving_log_check.specs.Epochs.{BodyPassesAt}
-use Rattle.paving_log_check.specs.FileCover.{FitBlockCover, BlocksFitCover}
+use Rattle.paving_log_check.specs.FileCover.{FitBodyCover, BlocksFitCover}
+use Rattle.paving_log_check.specs.OwnLines.{OwnLines}
 use Rattle.rinex_obs.specs.declared.obs.ObsEpoch.{ObsEpoch}
 use Rattle.grid_model.specs.Boxes.{GridBox}
-use Rattle.sat_model.specs.Logs.{Block, LogValue}
+use Rattle.sat_model.specs.Logs.{Body, Block, LogValue}
+use Rattle.sat_model.specs.declared.rows.Row.{Row}
 use Rattle.sat_model.specs.declared.rules.Rules.{Rules}
 use Rattle.gnss_model.specs.declared.delays.Delays.{Delays}
 use Rattle.sat_rows.specs.Fitting.{FitsEpoch}
 use Rattle.sat_rows.specs.Meanings.{Meaning}
-use Rattle.sat_rows.specs.declared.lines.SatLine.{SatLine}
 use Rattle.tube_searches.specs.Tubes.{TubeValue, from_root, searches_from, tube_searches}
 use Rattle.tube_check.specs.Found.{visits_of, IsPath, StayFits, PathFits, IsFoundIn}
-
--- ---- a block of few satellites, and no other, has no root
-
-pub few_is : (epoch : LogEpoch) → epoch.few ≡ is_none (box_option epoch.root)
-few_is epoch = sym epoch.paved ∙ sym (none_of epoch.root)
-
-pub all_few : (epochs : List LogEpoch) → AllByRecursion HasFewRoot (map block_of epochs)
-all_few [] = tt
-all_few (epoch ∷ epochs) = (few_is epoch, all_few epochs)
 
 -- ---- the visits of a tube's searches
 
@@ -78,51 +64,48 @@ module _ (speed : ℕ) (search : GridBox) where
 
 -- ---- roots and covers of an accepted log
 
-root_of : (rules : Rules) (root : GridBox) (block : Block) (few : Bool) (theirs : Option GridBox) → few ≡ is_none theirs → BodyPassesAt rules root block theirs → theirs ≡ root_with few root
-root_of rules root block true None e body = refl
-root_of rules root block false None e body = absurd cc
-root_of rules root block true (Some theirs) e body = absurd cc
-root_of rules root block false (Some theirs) e body = ap Some body.0
+root_of : (delays : Delays) (rules : Rules) (root : GridBox) (renewed : List (List Row)) (block : Block) (theirs : Option Body) → BodyPassesAt delays rules root renewed block theirs → HasRoot root theirs
+root_of delays rules root renewed block None body = tt
+root_of delays rules root renewed block (Some theirs) body = body.0
 
-pub have_roots : (delays : Delays) (rules : Rules) (speed : ℕ) (search : GridBox) (before : Option ℕ) (owns : List (List SatLine)) (searches : List Search) (blocks : List Block)
-    → AllByRecursion HasFewRoot blocks → length owns ≡ length searches → AdmitsFrom delays rules before owns searches blocks → HaveRoots speed search (visits_of searches blocks)
-have_roots delays rules speed search before [] [] blocks few each admits = tt
-have_roots delays rules speed search before [] (s ∷ rest) blocks few each admits = absurd (omega (arith, each))
-have_roots delays rules speed search before (own ∷ owns) [] blocks few each admits = absurd (omega (arith, each))
-have_roots delays rules speed search before (own ∷ owns) (s ∷ rest) [] few each admits = tt
-have_roots delays rules speed search before (own ∷ owns) (s ∷ rest) (block ∷ more) few each admits = (
-  root_of rules s.root block block.few block.root few.0 admits.1.body,
-  have_roots delays rules speed search (Some block.index) owns rest more few.1 (omega (arith, each)) admits.2,
+pub have_roots : (delays : Delays) (rules : Rules) (speed : ℕ) (search : GridBox) (before : Option ℕ) (owns : List OwnLines) (searches : List Search) (blocks : List Block)
+    → length owns ≡ length searches → AdmitsFrom delays rules before owns searches blocks → HaveRoots speed search (visits_of searches blocks)
+have_roots delays rules speed search before [] [] blocks each admits = tt
+have_roots delays rules speed search before [] (s ∷ rest) blocks each admits = absurd (omega (arith, each))
+have_roots delays rules speed search before (own ∷ owns) [] blocks each admits = absurd (omega (arith, each))
+have_roots delays rules speed search before (own ∷ owns) (s ∷ rest) [] each admits = tt
+have_roots delays rules speed search before (own ∷ owns) (s ∷ rest) (block ∷ more) each admits = (
+  root_of delays rules s.root own.renewed block block.body admits.1.body,
+  have_roots delays rules speed search (Some block.index) owns rest more (omega (arith, each)) admits.2,
 )
 
 module _ (m : Meaning) (q : ℕ) where
-  kept_here : (few : Bool) (s : Search) (block : Block) (stay : Stay) (theirs : Option GridBox) → few ≡ is_none theirs → FitBlockCover (FitsEpoch m q s.root s.epoch) s.root block theirs
-      → StayFits few (FitsEpoch m q s.root s.epoch) stay → IsKeptWith few (record { tag = s.epoch.tag; root = s.root; block = block }) stay
-  kept_here true s block stay theirs e cover fits = tt
-  kept_here false s block stay None e cover fits = absurd cc
-  kept_here false s block stay (Some theirs) e cover fits = λ inside. cover.covers stay.at stay.offset inside fits
+  kept_here : (s : Search) (body : Option Body) (stay : Stay) → FitBodyCover (FitsEpoch m q s.root s.epoch) s.root body
+      → StayFits body (FitsEpoch m q s.root s.epoch) stay → IsKeptWith s.root body stay
+  kept_here s None stay cover fits = tt
+  kept_here s (Some body) stay cover fits = λ inside. cover.covers stay.at stay.offset inside fits
 
-  pub are_kept : (searches : List Search) (blocks : List Block) (path : List Stay) → AllByRecursion HasFewRoot blocks → BlocksFitCover m q searches blocks → PathFits m q searches blocks path
+  pub are_kept : (searches : List Search) (blocks : List Block) (path : List Stay) → BlocksFitCover m q searches blocks → PathFits m q searches blocks path
       → AreKept (visits_of searches blocks) path
-  are_kept [] blocks path few cover fits = tt
-  are_kept (s ∷ rest) [] path few cover fits = tt
-  are_kept (s ∷ rest) (block ∷ more) [] few cover fits = absurd fits
-  are_kept (s ∷ rest) (block ∷ more) (stay ∷ path) few cover fits = (
-    kept_here block.few s block stay block.root few.0 cover.0 fits.0,
-    are_kept rest more path few.1 cover.1 fits.1,
+  are_kept [] blocks path cover fits = tt
+  are_kept (s ∷ rest) [] path cover fits = tt
+  are_kept (s ∷ rest) (block ∷ more) [] cover fits = absurd fits
+  are_kept (s ∷ rest) (block ∷ more) (stay ∷ path) cover fits = (
+    kept_here s block.body stay cover.0 fits.0,
+    are_kept rest more path cover.1 fits.1,
   )
 
 -- ---- by an accepted log
 
-pub found_by : (m : Meaning) (t : TubeValue) (rules : Rules) (log : LogValue) (boxes : ℕ) (path : List Stay) → t.before ≡ None → AllByRecursion HasFewRoot log.blocks
+pub found_by : (m : Meaning) (t : TubeValue) (rules : Rules) (log : LogValue) (boxes : ℕ) (path : List Stay) → t.before ≡ None
     → IsAccepted m (tube_searches t log.blocks) rules log boxes → IsPath t.speed t.search t.epochs path → PathFits m rules.outliers (tube_searches t log.blocks) log.blocks path
     → IsFoundIn (tube_searches t log.blocks) log.blocks path
-found_by m t rules log boxes path first few accepted goes fits =
+found_by m t rules log boxes path first accepted goes fits =
     let blocks = log.blocks in
     let searches = tube_searches t blocks in
     track_found t.speed t.search (visits_of searches blocks) _ path
     (subst (λ (b : Option Before). AreRooted t.speed t.search b (visits_of searches blocks)) first (rooted t.speed t.search t.before t.epochs blocks))
     (timed t.speed t.search t.before t.epochs blocks)
-    (have_roots m.delays rules t.speed t.search None accepted.owns searches blocks few accepted.admissible.each accepted.admissible.admits.blocks)
+    (have_roots m.delays rules t.speed t.search None accepted.owns searches blocks accepted.admissible.each accepted.admissible.admits.blocks)
     goes
-    (are_kept m rules.outliers searches blocks path few accepted.cover fits)
+    (are_kept m rules.outliers searches blocks path accepted.cover fits)

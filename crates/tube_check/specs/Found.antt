@@ -1,10 +1,10 @@
 -- Where a moving receiver is found by an accepted log.
-use Rattle.std.specs.Prelude.{ℕ, ℤ, Bool, true, false, List, [], ◌∷◌, map}
+use Rattle.std.specs.Prelude.{ℕ, ℤ, List, [], ◌∷◌, map, Option, None, Some}
 use Rattle.epoch_selection.specs.Searches.{Search}
 use Rattle.moving_tube.specs.Tracks.{Stay, IsTrajectory, Visit, AreFound}
 use Rattle.rinex_obs.specs.declared.obs.ObsEpoch.{ObsEpoch}
 use Rattle.grid_model.specs.Boxes.{GridBox}
-use Rattle.sat_model.specs.Logs.{Block}
+use Rattle.sat_model.specs.Logs.{Body, Block}
 use Rattle.grid_model.specs.declared.boxes.Pos.{Pos}
 use Rattle.sat_rows.specs.Fitting.{FitsEpoch}
 use Rattle.sat_rows.specs.Meanings.{Meaning}
@@ -21,9 +21,9 @@ visits_of (search ∷ rest) (block ∷ more) =
 abbrev pub IsPath : ℕ → GridBox → List ObsEpoch → List Stay → Type 0
 IsPath speed search epochs path = IsTrajectory speed search (map (λ epoch. epoch.tag) epochs) path
 
-abbrev pub StayFits : Bool → (Pos → ℤ → Type 0) → Stay → Type 0
-StayFits true FitsAt stay = Unit {0}
-StayFits false FitsAt stay = FitsAt stay.at stay.offset
+abbrev pub StayFits : Option Body → (Pos → ℤ → Type 0) → Stay → Type 0
+StayFits None FitsAt stay = Unit {0}
+StayFits (Some body) FitsAt stay = FitsAt stay.at stay.offset
 
 -- each stay fits in its epoch where the block is paved
 abbrev pub PathFits : Meaning → ℕ → List Search → List Block → List Stay → Type 0
@@ -31,7 +31,7 @@ PathFits m q [] blocks path = Unit {0}
 PathFits m q (search ∷ rest) [] path = Unit {0}
 PathFits m q (search ∷ rest) (block ∷ more) [] = ⊥
 PathFits m q (search ∷ rest) (block ∷ more) (stay ∷ path) =
-    StayFits block.few (FitsEpoch m q search.root search.epoch) stay × PathFits m q rest more path
+    StayFits block.body (FitsEpoch m q search.root search.epoch) stay × PathFits m q rest more path
 
 -- each position lies in an in or edge box of its epoch whose clock span has its offset, and in a
 -- block of few satellites in the root

@@ -2,9 +2,9 @@
 
 ghost use Rattle.std.specs.Prelude.{◌≡◌, ◌↔◌, List, ◌∷◌, map, IsTrue, IfOk, MatchOption, drop};
 ghost use Rattle.epoch_selection.specs.Searches.{search_in};
-ghost use Rattle.live_boxes.specs.LiveValues.{box_option};
+ghost use Rattle.subpaving.specs.LiveValues.{box_option};
 ghost use Rattle.moving_tube.specs.Roots.{kept_of};
-ghost use Rattle.paving_log.specs.CoverBoxes.{BlockFolds};
+ghost use Rattle.paving_log.specs.CoverBoxes.{BodyFolds};
 ghost use Rattle.paving_log.specs.Values.{block_of, log_value};
 ghost use Rattle.paving_log_check.specs.Admissible.{IsDue};
 ghost use Rattle.paving_log_check.specs.Answers.{IfYes, IfNo};
@@ -74,14 +74,13 @@ fn is_due(
 /// Where the receiver was in an epoch that was searched in this root: in the hull of the boxes that
 /// are kept of it, or in the root, where it has few satellites.
 fn kept_in(alloc: Global, root: &Box3, epoch: &LogEpoch) -> Result<Option<Box3>, NoMemory>
-    requires { BlockFolds (block_of epoch.now) (block_of epoch.now).root }
+    requires { BodyFolds (block_of epoch.now).body }
     ensures { IfOk result (λ kept. box_option kept
         ≡ kept_of (grid_box root.now) (block_of epoch.now)) }
 {
-    if epoch.few {
-        Ok(Some(*root))
-    } else {
-        cover_hull(alloc, epoch)
+    match epoch.body {
+        None => Ok(Some(*root)),
+        Some(_) => cover_hull(alloc, epoch),
     }
 }
 

@@ -1,26 +1,31 @@
 -- The hull that a source is told is that of the boxes that cover a block.
-use Rattle.std.proofs.Common.{◌≡◌, Bool, true, false, List, [], ◌∷◌, refl, sym, ap, ◌∙◌, arith, Option, None, Some}
-use Rattle.std.specs.Prelude.{ℤ}
+use Rattle.std.proofs.Common.{◌≡◌, Bool, true, false, List, [], ◌∷◌, refl, sym, ap, subst, ◌∙◌, arith, Option, None, Some}
+use Rattle.std.specs.Prelude.{ℤ, is_none}
 use Rattle.std.specs.Int.{int_min, int_max}
 use Rattle.std.proofs.lemmas.Int.{ints}
-use Rattle.live_boxes.proofs.FoldingLemmas.{steps_fold}
+use Rattle.subpaving.proofs.FoldingLemmas.{steps_fold}
 use Rattle.log_writer.specs.Kept as told
-use Rattle.log_writer.specs.Pavings.{HasRun, BodyPaves, Paves}
+use Rattle.log_writer.specs.Pavings.{BodyExtends, HasRun}
 use Rattle.moving_tube.specs.Hulls.{joined_side, joined_box, hull_with, hull_behind, hull_of, HullLies}
-use Rattle.moving_tube.specs.Roots.{kept_with, kept_of}
+use Rattle.moving_tube.specs.Roots.{kept_with}
+use Rattle.moving_tube.specs.Tracks.{HasRoot}
 use Rattle.moving_tube.proofs.FoldLemmas.{steps_hull_lies}
 use Rattle.moving_tube.proofs.RootLemmas.{hull_through}
-use Rattle.paving.proofs.PavedLemmas.{paved_passes}
-use Rattle.paving_log.specs.CoverBoxes.{kept_parts, cover_of}
+use Rattle.paving.proofs.TurnLemmas.{Suits, turns_pass}
+use Rattle.paving.specs.Renewing.{Maker}
+use Rattle.paving_log.specs.CoverBoxes.{BodyFolds, kept_parts, cover_of}
 use Rattle.grid_model.specs.Boxes.{Side, GridBox}
 use Rattle.sat_model.specs.Contractors.{LiesIn}
 use Rattle.sat_model.specs.Cover.{is_kept}
+use Rattle.sat_model.specs.Events.{steps_in}
 use Rattle.sat_model.specs.Fold.{ShownStep, pieces}
 use Rattle.sat_model.specs.BoxTests.{test_in}
-use Rattle.sat_model.specs.Logs.{Block}
+use Rattle.sat_model.specs.Logs.{Body, Block, rows_of, first_rows}
+use Rattle.sat_model.specs.Renewals.{AnyLine}
 use Rattle.sat_model.specs.Stages.{first_stage}
 use Rattle.sat_model.specs.declared.rules.Rules.{Rules}
 use Rattle.range_contractor.proofs.TreeLemmas.{lies_itself as lies_alone}
+use Rattle.tube_rows.specs.TubeLeft.{kept_told}
 
 -- ---- the hull
 
@@ -48,25 +53,34 @@ same_behind hull (piece ∷ more) = by_kind (is_kept piece) (λ (h : Option Grid
     by_kind true later e = rw e (ap (λ (h : Option GridBox). told.hull_behind h more) (same_with hull piece.part) ∙ later (hull_with hull piece.part))
     by_kind false later e = rw e (later hull)
 
-pub hull_told : (block : Block) (root : Option GridBox) → told.hull_kept block.steps root ≡ hull_of (cover_of block root)
-hull_told block None = refl
-hull_told block (Some root) = same_behind None (pieces root block.steps)
+pub hull_told : (body : Option Body) → told.hull_kept body ≡ hull_of (cover_of body)
+hull_told None = refl
+hull_told (Some body) = same_behind None (pieces body.root (steps_in body.events))
 
 -- ---- it lies in the root
 
-run_lies : (rules : Rules) (root : GridBox) (block : Block) → LiesIn root root → HasRun rules root block → HullLies (hull_of (cover_of block (Some root))) root
-run_lies rules root block own r =
-    steps_hull_lies root block.steps own
-    (rw r.steps (steps_fold rules r.run.last.splits (first_stage (test_in rules block) root) _ (paved_passes (test_in rules block) rules root r.shown r.run)))
+module _ (maker : Maker) (rules : Rules) (block : Block) (suits : Suits maker (rows_of block.sats)) where
+  run_folds : (body : Body) → HasRun maker rules block body → BodyFolds (Some body)
+  run_folds body r =
+      steps_fold AnyLine (first_rows block body) rules r.run.last.splits 0 (first_stage (test_in rules block) body.root) body.events
+      (rw r.events (turns_pass maker (test_in rules block) rules body.root r.shown suits r.run))
 
-kept_lies_with : (few : Bool) (rules : Rules) (root search : GridBox) (block : Block) (theirs : Option GridBox) → LiesIn root search → (few ≡ false → theirs ≡ Some root) → block.root ≡ theirs → BodyPaves rules block theirs
-    → HullLies (kept_with few root block) search
-kept_lies_with true rules root search block theirs lies has is paves = lies
-kept_lies_with false rules root search block theirs lies has is paves =
-    let e = has refl in
-    let paved : HasRun rules root block = rw e at paves in
-    rw (is, e) (hull_through (hull_of (cover_of block (Some root))) root search (run_lies rules root block (lies_alone root search lies) paved) lies)
+  run_lies : (body : Body) → LiesIn body.root body.root → HasRun maker rules block body → HullLies (hull_of (cover_of (Some body))) body.root
+  run_lies body own r = steps_hull_lies body.root (steps_in body.events) own (run_folds body r)
 
-pub kept_lies : (rules : Rules) (root search : GridBox) (given block : Block) → LiesIn root search → Paves rules given block → (given.few ≡ false → given.root ≡ Some root) → HullLies (kept_of root block) search
-kept_lies rules root search given block lies paves has =
-    kept_lies_with block.few rules root search block block.root lies (λ few. paves.root ∙ has (sym paves.few ∙ few)) refl paves.body
+  pub kept_lies : (root search : GridBox) (given body : Option Body) → LiesIn root search → HasRoot root given → BodyExtends (HasRun maker rules) block given body → HullLies (kept_with root body) search
+  kept_lies root search None None lies has is = lies
+  kept_lies root search None (Some body) lies has is = absurd is
+  kept_lies root search (Some given) None lies has is = absurd is
+  kept_lies root search (Some given) (Some body) lies has is =
+      let same : body.root ≡ root = is.0 ∙ has in
+      hull_through (hull_of (cover_of (Some body))) root search
+      (subst (HullLies (hull_of (cover_of (Some body)))) same (run_lies body (subst (λ (r : GridBox). LiesIn r r) (sym same) (lies_alone root search lies)) is.1)) lies
+
+-- what is told of a block is what it keeps
+pub told_kept : (Runs : Block → Body → Type 0) (root : GridBox) (block : Block) (given body : Option Body) → BodyExtends Runs block given body
+    → kept_told (is_none given) root (told.hull_kept body) ≡ kept_with root body
+told_kept Runs root block None None is = refl
+told_kept Runs root block None (Some body) is = absurd is
+told_kept Runs root block (Some given) None is = absurd is
+told_kept Runs root block (Some given) (Some body) is = hull_told (Some body)

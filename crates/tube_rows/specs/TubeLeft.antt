@@ -2,13 +2,14 @@
 -- before is finished, over the root that its boxes leave.
 use Rattle.std.specs.Prelude.{◌≡◌, ℕ, ℤ, Bool, true, false, List, ◌∷◌, Option, None, Some}
 use Rattle.epoch_rows.specs.Grown.{IsGrownBlock}
+use Rattle.epoch_rows.specs.Renewed.{Hand, hand_of, maker_of}
 use Rattle.epoch_selection.specs.Searches.{search_in, epochs_left}
-use Rattle.log_writer.specs.Sources.{Gives}
+use Rattle.log_writer.specs.Sources.{Gives, Source}
 use Rattle.moving_tube.specs.Roots.{Before, root_for}
 use Rattle.rinex_obs.specs.declared.obs.ObsEpoch.{ObsEpoch}
 use Rattle.grid_model.specs.Boxes.{GridBox, grid_box}
 use Rattle.sat_model.specs.Contractors.{LiesIn}
-use Rattle.sat_model.specs.Logs.{Block}
+use Rattle.sat_model.specs.Logs.{Block, is_few}
 use Rattle.grid_model.specs.SearchBoxes.{IsSearchBox}
 use Rattle.sat_rows.specs.Meanings.{Meaning}
 use Rattle.tube_searches.specs.Tubes.{TubeValue, IsInside, IsOver}
@@ -22,18 +23,25 @@ pub record Last : Type 0 where
   pub root : GridBox
   pub few : Bool
 
--- the epochs that are left, the search box, the greatest speed, the last block, and the number of
--- the epoch at which the receiver was lost
+-- the epochs that are left, the search box, the greatest speed, the last block, what its rows are
+-- renewed by, and the number of the epoch at which the receiver was lost
 pub record TubeLeft : Type 0 where
   pub epochs : List ObsEpoch
   pub search : GridBox
   pub speed : ℕ
   pub last : Option Last
+  pub hand : Option Hand
   pub lost : Option ℕ
 
 abbrev pub left_in : GridBox → ℕ → List ObsEpoch → TubeLeft
-left_in search speed epochs =
-    record { epochs = epochs; search = search; speed = speed; last = None; lost = None }
+left_in search speed epochs = record {
+  epochs = epochs;
+  search = search;
+  speed = speed;
+  last = None;
+  hand = None;
+  lost = None;
+}
 
 abbrev pub given_value : Option Given → Option Last
 given_value None = None
@@ -44,14 +52,19 @@ abbrev pub index_of : Option Given → Option ℕ
 index_of None = None
 index_of (Some g) = Some g.index
 
+-- without what rows are renewed by
 abbrev pub left_of : Tube → Option Given → Option ℕ → TubeLeft
 left_of tube given lost = record {
   epochs = epochs_left tube.searches;
   search = grid_box tube.searches.root;
   speed = tube.speed;
   last = given_value given;
+  hand = None;
   lost = lost;
 }
+
+abbrev pub with_hand : Option Hand → TubeLeft → TubeLeft
+with_hand hand left = record left { hand = hand }
 
 -- ---- what is told of the last block
 
@@ -106,9 +119,21 @@ module _ (m : Meaning) (q : ℕ) where
     pub grown : IsGrownBlock m q (search_in root epoch) block
     pub same_search : new.search ≡ old.search
     pub same_speed : new.speed ≡ old.speed
-    pub last : new.last
-        ≡ Some (record { index = block.index; tag = epoch.tag; root = root; few = block.few })
+    pub last : new.last ≡ Some (record {
+      index = block.index;
+      tag = epoch.tag;
+      root = root;
+      few = is_few block;
+    })
+    pub hand : new.hand ≡ Some (hand_of (search_in root epoch) block)
 
   abbrev pub of_tube : Gives TubeLeft
   of_tube old hull None new = IsEnded old hull new
   of_tube old hull (Some block) new = GivesNext old hull block new
+
+  -- its rows are renewed, or aren't
+  abbrev pub source_of : Bool → Source TubeLeft
+  source_of renews = record {
+    gives = of_tube;
+    maker = λ (left : TubeLeft). maker_of m renews left.hand;
+  }

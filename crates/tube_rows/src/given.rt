@@ -1,6 +1,6 @@
 //! The block that was given last.
 
-ghost use Rattle.log_words.specs.Fields.{IsTime};
+ghost use Rattle.log_tokens.specs.Fields.{IsTime};
 
 use grid_model::Box3;
 

@@ -1,6 +1,7 @@
 //! The blocks of a moving receiver's epochs.
 
 ghost use Rattle.std.specs.Prelude.{◌≡◌, ◌≤◌, None, length};
+ghost use Rattle.epoch_rows.specs.Laws.{sat_in_place};
 ghost use Rattle.epoch_rows.specs.Ready.{SkipsFit, CanGive};
 ghost use Rattle.epoch_selection.specs.Searches.{epochs_left};
 ghost use Rattle.epoch_selection.specs.Selections.{selected};
@@ -9,17 +10,19 @@ ghost use Rattle.rinex_obs.specs.Facts.{AreNumbered, AreDistinct, AreNamedSats, 
 ghost use Rattle.rinex_obs.specs.Reading.{observations_of};
 ghost use Rattle.grid_model.specs.Boxes.{grid_box};
 ghost use Rattle.grid_model.specs.SearchBoxes.{IsSearchBox};
-ghost use Rattle.tube_rows.specs.TubeLeft.{left_of, left_in, index_of, of_tube};
+ghost use Rattle.tube_rows.specs.Makers.{GivesAny};
+ghost use Rattle.tube_rows.specs.TubeLeft.{left_of, left_in, index_of};
 
 use crate::given::Given;
 use crate::told::{kept_of, lost_at};
-use epoch_rows::block;
+use epoch_rows::{RowMaker, block};
 use epoch_selection::{Searches, Selection};
 use grid_model::{Box3, NoMemory};
 use log_writer::Blocks;
+use paving::Renewals;
 use paving_log::LogEpoch;
 use rinex_obs::Obs;
-use sat_model::Rules;
+use sat_model::{Row, Rules};
 use sat_rows::RowSource;
 use std::alloc::Global;
 use tube_searches::Tube;
@@ -34,17 +37,22 @@ pub struct TubeBlocks<'a, S: RowSource> {
     given: Option<Given>,
     /// The number of the epoch that kept no box, where the last one did so.
     lost: Option<u32>,
+    /// Forms the rows of the block that was given last anew, and none before the first.
+    maker: RowMaker,
 }
 
 impl<'a, S: RowSource> TubeBlocks<'a, S> {
-    /// Those of all selected epochs of a file, the first searched in this box.
+    /// Those of all selected epochs of a file, the first searched in this box. Their rows are to be
+    /// renewed, or aren't.
     pub fn of_file(
+        alloc: Global,
         source: &'a S,
         obs: &'a Obs,
         selection: Selection,
         search: &Box3,
         speed: u32,
         rules: &Rules,
+        renews: bool,
     ) -> TubeBlocks<'a, S>
         requires numbered { AreNumbered (observations_of obs.now).epochs }
         requires distinct { InEach AreDistinct (observations_of obs.now).epochs }
@@ -57,6 +65,7 @@ impl<'a, S: RowSource> TubeBlocks<'a, S> {
             ≡ left_in (grid_box search.now) speed
             (selected selection obs.now.epochs.items) }
         ensures rules { result.rules ≡ rules.now }
+        ensures renews { result.maker.renews ≡ renews }
         ensures first { result.given ≡ None }
         ensures ready { CanGive (S.meaning result.source.now) (index_of result.given)
             (epochs_left result.tube.searches) }
@@ -75,6 +84,7 @@ impl<'a, S: RowSource> TubeBlocks<'a, S> {
             rules: *rules,
             given: None,
             lost: None,
+            maker: RowMaker::empty(alloc, renews, search, source.delays()),
         }
     }
 
@@ -86,11 +96,32 @@ impl<'a, S: RowSource> TubeBlocks<'a, S> {
     }
 }
 
+impl<S: RowSource> Renewals for TubeBlocks<'_, S> {
+    ghost maker = { λ blocks. ⟦<RowMaker as Renewals>⟧.maker blocks.maker };
+
+    ghost sats = { λ blocks. ⟦<RowMaker as Renewals>⟧.sats blocks.maker };
+
+    ghost root = { λ blocks. ⟦<RowMaker as Renewals>⟧.root blocks.maker };
+
+    ghost of_sat = { λ blocks i part row gives. sat_in_place blocks.maker.delays
+        (grid_box blocks.maker.root) blocks.maker.bases.items i part row gives };
+
+    fn active(&self) -> bool {
+        self.maker.active()
+    }
+
+    fn row(&self, i: u32, part: &Box3) -> Option<Row> {
+        self.maker.row(i, part)
+    }
+}
+
 impl<S: RowSource> Blocks for TubeBlocks<'_, S> {
     ghost gives = { λ old kept next new.
         (new.source.now ≡ old.source.now) × (new.rules ≡ old.rules)
-        × of_tube (S.meaning old.source.now) old.rules.outliers
-        (left_of old.tube old.given old.lost) kept next (left_of new.tube new.given new.lost) };
+        × (new.maker.renews ≡ old.maker.renews)
+        × GivesAny (S.meaning old.source.now) old.rules.outliers old.maker.renews
+        (left_of old.tube old.given old.lost) kept next
+        (left_of new.tube new.given new.lost) new.maker };
 
     ghost standing = { λ blocks. record {
       rules = blocks.rules;
@@ -108,14 +139,16 @@ impl<S: RowSource> Blocks for TubeBlocks<'_, S> {
             self.lost = lost_at(self.given, kept);
             return Ok(None);
         };
-        let block = block(alloc, self.source, epoch, &self.rules, &root)?;
+        let renews = self.maker.active();
+        let next = block(alloc, self.source, epoch, &self.rules, &root, renews)?;
         self.tube = tube;
         self.given = Some(Given {
-            index: block.index,
+            index: next.block.index,
             tag: epoch.tag,
             root,
-            few: block.few,
+            few: next.block.is_few(),
         });
-        Ok(Some(block))
+        self.maker = next.maker;
+        Ok(Some(next.block))
     }
 }

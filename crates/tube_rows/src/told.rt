@@ -1,7 +1,7 @@
 //! What is known of the block that was given last, by the hull of the boxes that it kept.
 
 ghost use Rattle.std.specs.Prelude.{◌≡◌};
-ghost use Rattle.live_boxes.specs.LiveValues.{box_option};
+ghost use Rattle.subpaving.specs.LiveValues.{box_option};
 ghost use Rattle.grid_model.specs.Boxes.{grid_box};
 ghost use Rattle.tube_rows.specs.TubeLeft.{given_value, kept_told, told, lost_of};
 ghost use Rattle.tube_searches.specs.Tubes.{before_value};

@@ -3,8 +3,8 @@ use Rattle.std.proofs.Common.{◌≡◌, ℕ, arith, Option, None, Some, to_z, o
 use Rattle.std.specs.Int.{w128}
 use Rattle.std.specs.Prelude.{ℤ}
 use Rattle.std.proofs.lemmas.Int.{ints}
-use Rattle.live_boxes.specs.LiveValues.{box_option}
-use Rattle.log_words.specs.Fields.{IsTime}
+use Rattle.subpaving.specs.LiveValues.{box_option}
+use Rattle.log_tokens.specs.Fields.{IsTime}
 use Rattle.moving_tube.specs.Hulls.{HullLies}
 use Rattle.moving_tube.specs.Reach.{reach_of}
 use Rattle.moving_tube.specs.Roots.{reached_box, root_after, root_for}

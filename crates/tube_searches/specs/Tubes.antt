@@ -2,7 +2,7 @@
 -- to the first in which it is lost. They go by the blocks of a log.
 use Rattle.std.specs.Prelude.{◌≡◌, ◌⊎◌, ℕ, ℤ, List, [], ◌∷◌, Option, None, Some}
 use Rattle.epoch_selection.specs.Searches.{Search, search_in, epochs_left}
-use Rattle.live_boxes.specs.LiveValues.{box_option}
+use Rattle.subpaving.specs.LiveValues.{box_option}
 use Rattle.moving_tube.specs.Hulls.{HullLies}
 use Rattle.moving_tube.specs.Roots.{Before, kept_of, root_for}
 use Rattle.rinex_obs.specs.declared.obs.ObsEpoch.{ObsEpoch}

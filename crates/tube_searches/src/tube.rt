@@ -1,7 +1,7 @@
 //! Epochs with the boxes in which a moving receiver is searched.
 
 ghost use Rattle.std.specs.Prelude.{◌≤◌};
-ghost use Rattle.log_words.specs.Fields.{IsTime};
+ghost use Rattle.log_tokens.specs.Fields.{IsTime};
 ghost use Rattle.moving_tube.specs.Reach.{fastest};
 
 use epoch_selection::Searches;
@@ -30,7 +30,7 @@ pub struct Tube<'a> {
 
 impl<'a> Tube<'a> {
     ghost use Rattle.std.specs.Prelude.{◌≡◌, MatchOption};
-    ghost use Rattle.live_boxes.specs.LiveValues.{box_option};
+    ghost use Rattle.subpaving.specs.LiveValues.{box_option};
     ghost use Rattle.moving_tube.specs.Hulls.{HullLies};
     ghost use Rattle.moving_tube.specs.Roots.{root_for};
     ghost use Rattle.grid_model.specs.Boxes.{grid_box};

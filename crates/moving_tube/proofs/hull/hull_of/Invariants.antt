@@ -1,5 +1,5 @@
 use Rattle.std.proofs.Common.{◌≡◌, drop, map}
-use Rattle.live_boxes.specs.LiveValues.{box_option}
+use Rattle.subpaving.specs.LiveValues.{box_option}
 use Rattle.grid_model.specs.Boxes.{grid_box}
 use Rattle.moving_tube.specs.Hulls.{hull_behind, hull_of}
 use Rattle.moving_tube.proofs.hull.hull_of.Given as goal

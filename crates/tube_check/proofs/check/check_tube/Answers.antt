@@ -1,4 +1,4 @@
-use Rattle.std.proofs.Common.{◌+◌, arith, sym, ap, subst, drop, ◌∙◌, Option, Some}
+use Rattle.std.proofs.Common.{◌+◌, arith, refl, sym, ap, subst, drop, ◌∙◌, Option, Some}
 use Rattle.std.specs.Prelude.{IsTrue, ◌↔◌}
 use Rattle.std.proofs.lemmas.Bool.{false≢true}
 use Rattle.epoch_selection.specs.Searches.{search_in}
@@ -11,7 +11,6 @@ use Rattle.grid_model.specs.Boxes.{GridBox, grid_box}
 use Rattle.sat_model.specs.Logs.{lines_in}
 use Rattle.tube_searches.specs.Tubes.{TubeValue, tube_value, with_kept, tube_searches}
 use Rattle.tube_check.proofs.FaultLemmas.{same_fault}
-use Rattle.tube_check.proofs.FoundLemmas.{few_is}
 use Rattle.tube_check.proofs.TubeLemmas.{IsOnWay, body_folds, way_first, next_search, way_more, way_ended}
 use Rattle.tube_check.proofs.check.check_tube.Goals as goal
 
@@ -65,13 +64,14 @@ returns-in-Some-2-clause-no g c =
     block_refused m (search_in root seen) (tube_searches (with_kept new seen.tag (kept_of root block)) behind) block behind c.in-Some-2.fault c.first_of.result
     c.loop-k.invariant.underway (c.are_same_rules.ensures.0 c.if-not-are_same_rules.false) here first c.in-Some.ensures.is_of refused
     (λ own fails.
-    same_fault m.delays c.args.rules.now (c.loop-k.next + lines_in block) own (search_in root seen) new block.few block behind c.first_of.result (few_is c.index-epoch.result.now) (omega (arith, numbered.0))
+    same_fault m.delays c.args.rules.now (c.loop-k.next + lines_in block) own (search_in root seen) new block.body block behind c.first_of.result refl (omega (arith, numbered.0))
     (rw c.lines_of.ensures at (c.first_of.ensures m.delays c.args.rules.now own (search_in root seen) (tube_searches (with_kept new seen.tag (Some root)) behind) block behind fails due)))
 
 pub kept_in-requires : goal.kept_in-requires
 kept_in-requires g c =
+    let m = g.S.RowSource.meaning c.args.source.now in
     let passes = rw c.in_default-2.is at c.in_ok-fault.ensures in
-    body_folds c.args.rules.now (grid_box c.in-Some.root) (block_of c.index-epoch.result.now) (block_of c.index-epoch.result.now).root passes.passes.body
+    body_folds m.delays c.args.rules.now (grid_box c.in-Some.root) passes.own.renewed (block_of c.index-epoch.result.now) (block_of c.index-epoch.result.now).body passes.passes.body
 
 pub loop-k-preserved : goal.loop-k-preserved
 loop-k-preserved g c =
@@ -87,7 +87,7 @@ loop-k-preserved g c =
     subst (λ (t : TubeValue). IsOnWay m c.args.rules.now (tube_value c.args.tube.now) (log_value c.args.log.now) (Some block.index) (c.loop-k.next + c.lines_of.result) (c.loop-k.boxes + c.kept_boxes.result) t behind) (sym kept)
     (rw c.lines_of.ensures (way_more m c.args.rules.now (tube_value c.args.tube.now) (log_value c.args.log.now) c.loop-k.invariant
     seen root new block behind c.in-Some.ensures.taken first c.kept_boxes.result c.in-Some.ensures.is_of passes
-    (c.kept_boxes.ensures.value c.args.rules.now (body_passes c.args.rules.now root block block.root passes.passes.body))
+    (c.kept_boxes.ensures.value c.args.rules.now (body_passes m.delays c.args.rules.now root passes.own.renewed block block.body passes.passes.body))
     c.kept_boxes.ensures.bound))
 
 pub returns-then-not-is_due-clause-no : goal.returns-then-not-is_due-clause-no
@@ -104,5 +104,5 @@ returns-clause-yes g c =
     let ended = blocks_ended c.args.log.now.epochs.items c.loop-k.k (omega (arith, c.loop-k-test.false, c.len-k-end.ensures, c.args.log.now.epochs.ok)) in
     let none = blocks_ended c.args.log.now.epochs.items c.len.result (omega (arith, c.len.ensures, c.args.log.now.epochs.ok)) in
     let due = rw none at (rw c.deref-2.ensures.value at c.is_due.ensures) in
-    way_ended (g.S.RowSource.meaning c.args.source.now) c.args.rules.now (tube_value c.args.tube.now) c.args.log.now (g.met.S.RowSource.sound c.args.source.now)
+    way_ended (g.S.RowSource.meaning c.args.source.now) c.args.rules.now (tube_value c.args.tube.now) (log_value c.args.log.now) (g.met.S.RowSource.sound c.args.source.now)
     c.loop-k.invariant (c.are_same_rules.ensures.0 c.if-not-are_same_rules.false) ended (due.0 c.if-not-is_due.false)
