@@ -8,8 +8,7 @@ use Rattle.input_files.specs.Motion.{speed_in, speed_of}
 use Rattle.input_files.specs.declared.inputs.Inputs.{Inputs}
 use Rattle.paving_log.proofs.LogLemmas.{one_spelled, log_spelling}
 use Rattle.paving_log.specs.Text.{IsLogText}
-use Rattle.paving_log.specs.declared.line.Form.TheVariants as form
-use Rattle.paving_log_check.specs.Admissible.{Admits}
+use Rattle.paving_log.specs.declared.line.Kind.TheVariants as kind
 use Rattle.paving_log_check.specs.Checked.{IsRefused}
 use Rattle.paving_log_check.specs.declared.verdict.Fault.{Fault}
 use Rattle.grid_model.specs.Boxes.{GridBox}
@@ -35,22 +34,24 @@ pub not_refused : (chosen : Selection) (i j : Inputs) (limit : ℕ) (bytes said 
     → Refuses chosen j log fault → ⊥
 not_refused chosen i j limit bytes said log fault same solved text refused =
     let whole = solved.whole in
-    let is_log : whole.log ≡ log = one_spelled form.Log whole.log log bytes
+    let is_log : whole.log ≡ log = one_spelled kind.Log whole.log log bytes
     (log_spelling whole.log bytes whole.text) (log_spelling log bytes text) in
     let box : refused.root ≡ solved.root = one_root _ i.settings.half refused.root solved.root
     (root_there i j same refused.root refused.is_root) solved.is_root in
     let here = searches_in solved.root (epochs_of chosen i) in
     let there = searches_in solved.root (epochs_of chosen j) in
-    let r = subst (λ (root : GridBox).
+    let r = subst (λ (l : LogValue).
+    IsRefused (meaning_of j) there j.settings.rules l fault) (sym is_log)
+    (subst (λ (root : GridBox).
     IsRefused (meaning_of j) (searches_in root (epochs_of chosen j)) j.settings.rules log fault)
-    box refused.refused in
+    box refused.refused) in
     let alike = searches_same solved.root (epochs_of chosen i) (epochs_of chosen j)
     (epochs_same i j same chosen) in
     let back = searches_same solved.root (epochs_of chosen j) (epochs_of chosen i)
     (sym (epochs_same i j same chosen)) in
-    let admits = solved.admits r.owns (own_there i j same here there r.owns back r.are_own) in
-    r.refused (subst (λ (l : LogValue). Admits j.settings.delays there r.owns j.settings.rules l)
-    is_log (admits_there i j same here there r.owns whole.log alike admits))
+    let admits = solved.admits r.owns
+    (own_there i j same here there whole.log.blocks r.owns back r.are_own) in
+    r.refused (admits_there i j same here there r.owns whole.log alike admits)
 
 -- ---- a track
 
@@ -63,7 +64,7 @@ pub track_not_refused : (chosen : Selection) (i j : Inputs) (limit : ℕ) (bytes
     → RefusesTrack chosen j log fault → ⊥
 track_not_refused chosen i j limit bytes said log fault same tracked text refused =
     let whole = tracked.track.whole in
-    let is_log : whole.log ≡ log = one_spelled form.Log whole.log log bytes
+    let is_log : whole.log ≡ log = one_spelled kind.Log whole.log log bytes
     (log_spelling whole.log bytes whole.text) (log_spelling log bytes text) in
     let box : refused.search ≡ tracked.search =
     one_root _ i.settings.half refused.search tracked.search
@@ -86,5 +87,6 @@ track_not_refused chosen i j limit bytes said log fault same tracked text refuse
     (epochs_of chosen j) whole.log.blocks (epochs_same i j same chosen) in
     let back = tube_same tracked.speed tracked.search None (epochs_of chosen j)
     (epochs_of chosen i) whole.log.blocks (sym (epochs_same i j same chosen)) in
-    let admits = tracked.admits r.owns (own_there i j same here there r.owns back r.are_own) in
+    let admits = tracked.admits r.owns
+    (own_there i j same here there whole.log.blocks r.owns back r.are_own) in
     r.refused (admits_there i j same here there r.owns whole.log alike admits)

@@ -1,5 +1,5 @@
 -- What `guard` tells of an accepted log.
-use Rattle.std.proofs.Common.{◌≡◌, ℕ, suc, ◌+◌, ◌<◌, ◌≤◌, ◌^◌, Bool, true, false, List, [], ◌∷◌, length, Option, None, Some, refl, sym, ap, subst, ◌∙◌, arith, Vec, Global}
+use Rattle.std.proofs.Common.{◌≡◌, ℕ, suc, ◌+◌, ◌<◌, ◌≤◌, ◌^◌, Bool, true, false, List, [], ◌∷◌, length, Option, None, Some, refl, ap, subst, arith, Vec, Global}
 use Rattle.std.specs.Prelude.{ℤ, is_none}
 use Rattle.std.specs.List.{AllByRecursion}
 use Rattle.epoch_selection.specs.Searches.{Search}
@@ -10,24 +10,24 @@ use Rattle.gnss_model.specs.declared.delays.Delays.{Delays}
 use Rattle.input_files.specs.declared.inputs.Inputs.{Inputs}
 use Rattle.input_files.specs.Zones.{zones_value}
 use Rattle.paving_log.specs.Values.{log_value}
-use Rattle.paving_log.specs.CoverBoxes.{BlockFolds, cover_of, kept_parts}
-use Rattle.paving_log_check.proofs.FitLemmas.{HasFewRoot}
+use Rattle.paving_log.specs.CoverBoxes.{BodyFolds, cover_of, kept_parts}
 use Rattle.paving_log_check.specs.Admissible.{AdmitsFrom}
 use Rattle.paving_log_check.specs.Answers.{IfNo, IfYes}
 use Rattle.paving_log_check.specs.Checked.{IsAccepted}
 use Rattle.paving_log_check.specs.Epochs.{BodyPassesAt}
-use Rattle.paving_log_check.specs.FileCover.{BlocksFitCover, FitBlockCover, FitCover}
+use Rattle.paving_log_check.specs.FileCover.{BlocksFitCover, FitBodyCover, FitCover}
+use Rattle.paving_log_check.specs.OwnLines.{OwnLines}
 use Rattle.paving_log_check.specs.declared.verdict.Fault.{Fault}
 use Rattle.paving_log_check.specs.declared.verdict.Verdict.{Verdict}
 use Rattle.paving_log_check.specs.declared.verdict.Verdict.TheVariants as verdict
 use Rattle.sat_model.specs.Cover.{SomeKeeps}
 use Rattle.sat_model.specs.Fold.{ShownStep, pieces}
-use Rattle.sat_model.specs.Logs.{Block, IsNumberedFrom, LogValue, lines_in, lines_with}
+use Rattle.sat_model.specs.Events.{steps_in}
+use Rattle.sat_model.specs.Logs.{Body, Block, IsNumberedFrom, LogValue, lines_in}
+use Rattle.sat_model.specs.declared.rows.Row.{Row}
 use Rattle.sat_model.specs.declared.rules.Rules.{Rules}
 use Rattle.sat_rows.specs.Fitting.{FitsEpoch}
 use Rattle.sat_rows.specs.Meanings.{Meaning}
-use Rattle.sat_rows.specs.declared.lines.SatLine.{SatLine}
-use Rattle.tube_check.proofs.FoundLemmas.{all_few}
 use Rattle.tube_check.proofs.TubeLemmas.{body_folds}
 use Rattle.zone_guard.proofs.AnswerLemmas.{none_kept}
 use Rattle.zone_guard.proofs.KeptLemmas.{holding, in_prism, in_zone, none_holds, reached}
@@ -49,19 +49,19 @@ use Rattle.cover_run.proofs.ZoneTotalLemmas.{totals_true}
 
 -- ---- the steps of an accepted log fold
 
-admitted_fold : (delays : Delays) (rules : Rules) (before : Option ℕ) (owns : List (List SatLine)) (searches : List Search) (blocks : List Block) → length owns ≡ length searches
-    → AdmitsFrom delays rules before owns searches blocks → AllByRecursion (λ (block : Block). BlockFolds block block.root) blocks
+admitted_fold : (delays : Delays) (rules : Rules) (before : Option ℕ) (owns : List OwnLines) (searches : List Search) (blocks : List Block) → length owns ≡ length searches
+    → AdmitsFrom delays rules before owns searches blocks → AllByRecursion (λ (block : Block). BodyFolds block.body) blocks
 admitted_fold delays rules before [] [] [] each admits = tt
 admitted_fold delays rules before [] [] (block ∷ more) each admits = absurd admits
 admitted_fold delays rules before [] (s ∷ rest) blocks each admits = absurd (omega (arith, each))
 admitted_fold delays rules before (own ∷ owns) [] blocks each admits = absurd (omega (arith, each))
 admitted_fold delays rules before (own ∷ owns) (s ∷ rest) [] each admits = tt
 admitted_fold delays rules before (own ∷ owns) (s ∷ rest) (block ∷ more) each admits = (
-  body_folds rules s.root block block.root admits.1.body,
+  body_folds delays rules s.root own.renewed block block.body admits.1.body,
   admitted_fold delays rules (Some block.index) owns rest more (omega (arith, each)) admits.2,
 )
 
-pub accepted_fold : (m : Meaning) (searches : List Search) (rules : Rules) (log : LogValue) (boxes : ℕ) → IsAccepted m searches rules log boxes → AllByRecursion (λ (block : Block). BlockFolds block block.root) log.blocks
+pub accepted_fold : (m : Meaning) (searches : List Search) (rules : Rules) (log : LogValue) (boxes : ℕ) → IsAccepted m searches rules log boxes → AllByRecursion (λ (block : Block). BodyFolds block.body) log.blocks
 accepted_fold m searches rules log boxes accepted =
     admitted_fold m.delays rules None accepted.owns searches log.blocks accepted.admissible.each accepted.admissible.admits.blocks
 
@@ -75,7 +75,7 @@ as_many_found (w ∷ ws) boxes (f ∷ found) are = ap suc (as_many_found ws boxe
 
 has_all : (ws : List Watch) (block : Block) (found : Option (Vec Finding Global)) → IsFoundIn (watch_values ws) block found → HasAllOf (length ws) found
 has_all ws block None is = tt
-has_all ws block (Some found) is = as_many_found ws (cover_of block block.root) found.items is.1
+has_all ws block (Some found) is = as_many_found ws (cover_of block.body) found.items is.1
 
 pub all_have_all : (ws : List Watch) (blocks : List Block) (epochs : List EpochFindings) → AreEpochsFound (watch_values ws) blocks epochs → AllByRecursion (HasAll (length ws)) epochs
 all_have_all ws [] [] are = tt
@@ -89,13 +89,9 @@ as_many ws [] (e ∷ epochs) are = absurd are
 as_many ws (block ∷ more) [] are = absurd are
 as_many ws (block ∷ more) (e ∷ epochs) are = ap suc (as_many ws more epochs are.1)
 
-pub some_line : (block : Block) (root : Option GridBox) → 1 ≤ lines_with block root
-some_line block None = omega arith
-some_line block (Some root) = omega arith
-
 numbered_few : (next : ℕ) (blocks : List Block) → IsNumberedFrom next blocks → next + length blocks ≤ 4000000001
 numbered_few next [] is = omega (arith, is)
-numbered_few next (block ∷ more) is = omega (arith, some_line block block.root, numbered_few (next + lines_in block) more is.1)
+numbered_few next (block ∷ more) is = omega (arith, numbered_few (next + lines_in block) more is.1)
 
 pub few_epochs : (ws : List WatchValue) (blocks : List Block) (epochs : List EpochFindings) → IsNumberedFrom 3 blocks → AreEpochsFound ws blocks epochs → length epochs < 2 ^ 32
 few_epochs ws blocks epochs numbered are = omega (arith, as_many ws blocks epochs are, numbered_few 3 blocks numbered)
@@ -122,36 +118,36 @@ module _ (FitsAt : Pos → ℤ → Type 0) (root : GridBox) where
   true_of parts cover (w ∷ ws) (f ∷ found) are =
       (λ p b inside fits. true_at w.form f parts p b are.0 (cover.covers p b inside fits), true_of parts cover ws found are.1)
 
-  true_in : (rules : Rules) (block : Block) (theirs : Option GridBox) → is_none theirs ≡ false → BodyPassesAt rules root block theirs → FitBlockCover FitsAt root block theirs
-      → (ws : List WatchValue) (found : List Finding) → AreFindings ws (cover_of block theirs) found → AreTrueOf FitsAt root ws found
-  true_in rules block None paved body cover ws found are = absurd cc
-  true_in rules block (Some theirs) paved body cover ws found are =
-      true_of (pieces root block.steps) cover ws found (subst (λ (box : GridBox). AreFindings ws (kept_parts (pieces box block.steps)) found) body.0 are)
+  epoch_true : (delays : Delays) (rules : Rules) (renewed : List (List Row)) (block : Block) (body : Option Body) → BodyPassesAt delays rules root renewed block body → FitBodyCover FitsAt root body
+      → (ws : List WatchValue) (found : List Finding) → is_none body ≡ false → AreFindings ws (cover_of body) found → AreTrueOf FitsAt root ws found
+  epoch_true delays rules renewed block None passes cover ws found paved are = absurd cc
+  epoch_true delays rules renewed block (Some body) passes cover ws found paved are =
+      true_of (pieces root (steps_in body.events)) cover ws found (subst (λ (box : GridBox). AreFindings ws (kept_parts (pieces box (steps_in body.events))) found) passes.0 are)
 
-  epoch_true : (rules : Rules) (block : Block) → HasFewRoot block → BodyPassesAt rules root block block.root → FitBlockCover FitsAt root block block.root
+  block_true : (delays : Delays) (rules : Rules) (renewed : List (List Row)) (block : Block) → BodyPassesAt delays rules root renewed block block.body → FitBodyCover FitsAt root block.body
       → (ws : List WatchValue) (found : Option (Vec Finding Global)) → IsFoundIn ws block found → IsEpochTrue FitsAt root ws found
-  epoch_true rules block few body cover ws None is = tt
-  epoch_true rules block few body cover ws (Some found) is = true_in rules block block.root (sym few ∙ is.0) body cover ws found.items is.1
+  block_true delays rules renewed block passes cover ws None is = tt
+  block_true delays rules renewed block passes cover ws (Some found) is = epoch_true delays rules renewed block block.body passes cover ws found.items is.0 is.1
 
 module _ (m : Meaning) (rules : Rules) (ws : List WatchValue) where
-  epochs_true : (before : Option ℕ) (owns : List (List SatLine)) (searches : List Search) (blocks : List Block) (epochs : List EpochFindings) → length owns ≡ length searches
-      → AdmitsFrom m.delays rules before owns searches blocks → BlocksFitCover m rules.outliers searches blocks → AllByRecursion HasFewRoot blocks → AreEpochsFound ws blocks epochs
+  epochs_true : (before : Option ℕ) (owns : List OwnLines) (searches : List Search) (blocks : List Block) (epochs : List EpochFindings) → length owns ≡ length searches
+      → AdmitsFrom m.delays rules before owns searches blocks → BlocksFitCover m rules.outliers searches blocks → AreEpochsFound ws blocks epochs
       → AreEpochsTrue m rules.outliers ws searches epochs
-  epochs_true before owns [] [] [] each admits cover few are = tt
-  epochs_true before owns [] [] (e ∷ epochs) each admits cover few are = absurd are
-  epochs_true before owns [] (block ∷ more) epochs each admits cover few are = absurd cover
-  epochs_true before owns (s ∷ rest) [] epochs each admits cover few are = absurd cover
-  epochs_true before owns (s ∷ rest) (block ∷ more) [] each admits cover few are = absurd are
-  epochs_true before [] (s ∷ rest) (block ∷ more) (e ∷ epochs) each admits cover few are = absurd (omega (arith, each))
-  epochs_true before (own ∷ owns) (s ∷ rest) (block ∷ more) (e ∷ epochs) each admits cover few are = (
-    epoch_true (FitsEpoch m rules.outliers s.root s.epoch) s.root rules block few.0 admits.1.body cover.0 ws e.found are.0.1,
-    epochs_true (Some block.index) owns rest more epochs (omega (arith, each)) admits.2 cover.1 few.1 are.1,
+  epochs_true before owns [] [] [] each admits cover are = tt
+  epochs_true before owns [] [] (e ∷ epochs) each admits cover are = absurd are
+  epochs_true before owns [] (block ∷ more) epochs each admits cover are = absurd cover
+  epochs_true before owns (s ∷ rest) [] epochs each admits cover are = absurd cover
+  epochs_true before owns (s ∷ rest) (block ∷ more) [] each admits cover are = absurd are
+  epochs_true before [] (s ∷ rest) (block ∷ more) (e ∷ epochs) each admits cover are = absurd (omega (arith, each))
+  epochs_true before (own ∷ owns) (s ∷ rest) (block ∷ more) (e ∷ epochs) each admits cover are = (
+    block_true (FitsEpoch m rules.outliers s.root s.epoch) s.root m.delays rules own.renewed block admits.1.body cover.0 ws e.found are.0.1,
+    epochs_true (Some block.index) owns rest more epochs (omega (arith, each)) admits.2 cover.1 are.1,
   )
 
-  pub accepted_true : (searches : List Search) (log : LogValue) (boxes : ℕ) (epochs : List EpochFindings) → IsAccepted m searches rules log boxes → AllByRecursion HasFewRoot log.blocks
+  pub accepted_true : (searches : List Search) (log : LogValue) (boxes : ℕ) (epochs : List EpochFindings) → IsAccepted m searches rules log boxes
       → AreEpochsFound ws log.blocks epochs → AreEpochsTrue m rules.outliers ws searches epochs
-  accepted_true searches log boxes epochs accepted few are =
-      epochs_true None accepted.owns searches log.blocks epochs accepted.admissible.each accepted.admissible.admits.blocks accepted.cover few are
+  accepted_true searches log boxes epochs accepted are =
+      epochs_true None accepted.owns searches log.blocks epochs accepted.admissible.each accepted.admissible.admits.blocks accepted.cover are
 
 -- ---- by either verdict
 
@@ -161,7 +157,7 @@ accepted_as false chosen i log boxes accepted = accepted.accepted
 accepted_as true chosen i log boxes accepted = accepted.accepted
 
 module _ (tracked : Bool) (chosen : Selection) (g : Guarded) (boxes : ℕ) (accepted : AcceptsAs tracked chosen g.checked.inputs (log_value g.checked.log) boxes) where
-  pub guarded_fold : AllByRecursion (λ (block : Block). BlockFolds block block.root) (log_value g.checked.log).blocks
+  pub guarded_fold : AllByRecursion (λ (block : Block). BodyFolds block.body) (log_value g.checked.log).blocks
   guarded_fold =
       let i = g.checked.inputs in
       let log = log_value g.checked.log in
@@ -173,7 +169,7 @@ module _ (tracked : Bool) (chosen : Selection) (g : Guarded) (boxes : ℕ) (acce
       let log = log_value g.checked.log in
       let searches = searches_as tracked chosen i log boxes accepted in
       let holds = accepted_true (meaning_of i) i.settings.rules (zones_value g.zones).watches searches log boxes epochs
-      (accepted_as tracked chosen i log boxes accepted) (all_few g.checked.log.epochs.items) found in
+      (accepted_as tracked chosen i log boxes accepted) found in
       record {
         boxes = boxes;
         accepted = accepted;

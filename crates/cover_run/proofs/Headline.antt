@@ -25,8 +25,6 @@ use Rattle.log_writer.specs.Sizes.{most_bytes}
 use Rattle.log_writer.specs.Writing.{Trust}
 use Rattle.outer_io.proofs.Covering.{get-other, get-log}
 use Rattle.outer_io.specs.Told.{Files, files_of}
-use Rattle.outer_io.specs.declared.slots.Slot.{Slot}
-use Rattle.outer_io.specs.declared.slots.Slot.TheVariants as slot
 use Rattle.paving_log.specs.Faults.{FirstFault}
 use Rattle.paving_log.specs.Text.{IsLogText}
 use Rattle.paving_log.specs.Values.{log_value}

@@ -1,17 +1,16 @@
 -- What `retrack` says of a log, against the files.
-use Rattle.std.proofs.Common.{◌≡◌, ℕ, List, None, Result, refl}
+use Rattle.std.proofs.Common.{ℕ, Result, refl}
 use Rattle.std.specs.Prelude.{IfOk}
 use Rattle.epoch_selection.specs.declared.selection.Selection.{Selection}
 use Rattle.grid_model.specs.Boxes.{GridBox}
 use Rattle.grid_model.specs.declared.memory.NoMemory.{NoMemory}
 use Rattle.input_files.specs.declared.inputs.Inputs.{Inputs}
 use Rattle.paving_log.specs.Values.{log_value}
-use Rattle.paving_log.specs.declared.log.Log.{Log}
 use Rattle.paving_log_check.specs.Answers.{IfYes, IfNo}
 use Rattle.paving_log_check.specs.Checked.{IsAccepted, IsRefused}
 use Rattle.paving_log_check.specs.declared.verdict.Fault.{Fault}
 use Rattle.paving_log_check.specs.declared.verdict.Verdict.{Verdict}
-use Rattle.tube_check.proofs.FoundLemmas.{all_few, found_by}
+use Rattle.tube_check.proofs.FoundLemmas.{found_by}
 use Rattle.tube_searches.specs.Tubes.{tube_searches}
 use Rattle.cover_run.proofs.TellingLemmas.{no_as, yes_as}
 use Rattle.cover_run.specs.Rechecking.{AcceptsTrack, RefusesTrack}
@@ -42,7 +41,7 @@ module _ (chosen : Selection) (f : Checked) (search : GridBox) (speed : ℕ)
     is_tube = is_tube;
     accepted = accepted;
     found = λ path goes fits. found_by (meaning_of i) (tube_of chosen i search speed)
-        i.settings.rules (log_value f.log) boxes path refl (all_few f.log.epochs.items) accepted goes fits;
+        i.settings.rules (log_value f.log) boxes path refl accepted goes fits;
   }
 
   -- what is known of a verdict by the checker's clauses

@@ -15,8 +15,10 @@ use Rattle.input_files.specs.Inputs.{InputsValue, inputs_value}
 use Rattle.input_files.specs.declared.inputs.Inputs.{Inputs}
 use Rattle.moving_tube.specs.Roots.{Before, kept_of, root_for}
 use Rattle.paving_log.proofs.ValueLemmas.{same_rules}
-use Rattle.paving_log_check.specs.Admissible.{Admits, AdmitsFrom, AreOwn, IsDue, IsOf}
+use Rattle.paving_log_check.specs.Admissible.{Admits, AdmitsFrom, IsDue, IsOf}
 use Rattle.paving_log_check.specs.Epochs.{EpochPasses}
+use Rattle.paving_log_check.specs.OwnLines.{OwnLines, AreOwn, AreRenewed, IsOwnOf, renewals_of}
+use Rattle.paving_log_check.specs.OwnLines.{usable_of}
 use Rattle.rinex_nav.specs.Reading.{plain_record, records_of}
 use Rattle.rinex_nav.specs.declared.record.NavRecord.{NavRecord}
 use Rattle.rinex_obs.specs.Epochs.{Observed}
@@ -24,6 +26,7 @@ use Rattle.rinex_obs.specs.Reading.{plain_epoch, plain_epochs}
 use Rattle.rinex_obs.specs.declared.obs.ObsEpoch.{ObsEpoch}
 use Rattle.rinex_obs.specs.declared.obs.SatObs.{SatObs}
 use Rattle.grid_model.specs.Boxes.{GridBox}
+use Rattle.sat_model.specs.Events.{RowsOver}
 use Rattle.sat_model.specs.Logs.{Block, LogValue}
 use Rattle.sat_model.specs.Relaxed.{ends}
 use Rattle.sat_model.specs.declared.rules.Rules.{Rules}
@@ -32,7 +35,6 @@ use Rattle.grid_model.specs.declared.spans.Span.{Span}
 use Rattle.sat_rows.specs.Chains.{IsChainAt}
 use Rattle.sat_rows.specs.Meanings.{Meaning}
 use Rattle.sat_rows.specs.OwnRows.{AreOwnLines}
-use Rattle.sat_rows.specs.declared.lines.SatLine.{SatLine}
 use Rattle.tube_searches.specs.Tubes.{from_root, searches_from}
 use Rattle.usable_sats.specs.Usability.{Sighting, use_of, IsJudged}
 use Rattle.cover_run.specs.Solving.{IsRootOf, epochs_of, meaning_of}
@@ -165,16 +167,29 @@ module _ (speed : ℕ) (search : GridBox) where
 
 -- ---- own lines
 
-own_same : (m : Meaning) (xs ys : List Search) (owns : List (List SatLine))
-    → AreSameSearches xs ys → AreOwn m xs owns → AreOwn m ys owns
-own_same m xs ys [] same are = tt
-own_same m [] [] (own ∷ owns) same are = are
-own_same m [] (b ∷ ys) (own ∷ owns) same are = absurd same
-own_same m (a ∷ xs) [] (own ∷ owns) same are = absurd same
-own_same m (a ∷ xs) (b ∷ ys) (own ∷ owns) (root, epoch, more) are = (
-  subst (λ (r : GridBox). AreOwnLines m r b.epoch.tag b.epoch.sats.items own) root
-      (subst (λ (o : Observed). AreOwnLines m a.root o.tag o.sats own) epoch are.0),
-  own_same m xs ys owns more are.1,
+-- those of a search, whose epochs stand for the same
+own_of_same : (m : Meaning) (a b : Search) (renewals : List RowsOver) (own : OwnLines)
+    → a.root ≡ b.root → plain_epoch a.epoch ≡ plain_epoch b.epoch → IsOwnOf m a renewals own
+    → IsOwnOf m b renewals own
+own_of_same m a b renewals own root epoch is = record {
+  lines = subst (λ (r : GridBox).
+      AreOwnLines m r b.epoch.tag b.epoch.sats.items own.lines) root
+      (subst (λ (o : Observed). AreOwnLines m a.root o.tag o.sats own.lines) epoch is.lines);
+  renewed = subst (λ (o : Observed).
+      AreRenewed m o.tag (usable_of o.sats own.lines) renewals own.renewed) epoch is.renewed;
+}
+
+own_same : (m : Meaning) (xs ys : List Search) (blocks : List Block) (owns : List OwnLines)
+    → AreSameSearches xs ys → AreOwn m xs blocks owns → AreOwn m ys blocks owns
+own_same m xs ys blocks [] same are = tt
+own_same m [] [] blocks (own ∷ owns) same are = absurd are
+own_same m [] (b ∷ ys) blocks (own ∷ owns) same are = absurd same
+own_same m (a ∷ xs) [] blocks (own ∷ owns) same are = absurd same
+own_same m (a ∷ xs) (b ∷ ys) [] (own ∷ owns) (root, epoch, more) are =
+    (own_of_same m a b [] own root epoch are.0, own_same m xs ys [] owns more are.1)
+own_same m (a ∷ xs) (b ∷ ys) (block ∷ blocks) (own ∷ owns) (root, epoch, more) are = (
+  own_of_same m a b (renewals_of block.body) own root epoch are.0,
+  own_same m xs ys blocks owns more are.1,
 )
 
 -- ---- the log
@@ -198,7 +213,7 @@ due_same rules before (a ∷ xs) (b ∷ ys) (block ∷ blocks) same due =
     of_same rules before a.epoch b.epoch block same.1 due
 
 admits_same : (delays : Delays) (rules : Rules) (before : Option ℕ)
-    (owns : List (List SatLine)) (xs ys : List Search) (blocks : List Block)
+    (owns : List OwnLines) (xs ys : List Search) (blocks : List Block)
     → AreSameSearches xs ys → AdmitsFrom delays rules before owns xs blocks
     → AdmitsFrom delays rules before owns ys blocks
 admits_same delays rules before [] xs ys blocks same admits =
@@ -253,25 +268,27 @@ module _ (i j : Inputs) (same : inputs_value i ≡ inputs_value j) where
       (λ (v : InputsValue).
       IsRoot (centre_with v.obs.position v.settings.centre) v.settings.half root) (sym same) is
 
-  abbrev OwnBy : List NavRecord → SettingsValue → Delays → List Search
-      → List (List SatLine) → Type 0
-  OwnBy records v delays searches owns = AreOwn (meaning_by records v delays) searches owns
+  abbrev OwnBy : List NavRecord → SettingsValue → Delays → List Search → List Block
+      → List OwnLines → Type 0
+  OwnBy records v delays searches blocks owns =
+      AreOwn (meaning_by records v delays) searches blocks owns
 
-  pub own_there : (xs ys : List Search) (owns : List (List SatLine)) → AreSameSearches ys xs
-      → AreOwn (meaning_of j) ys owns → AreOwn (meaning_of i) xs owns
-  own_there xs ys owns alike are =
+  pub own_there : (xs ys : List Search) (blocks : List Block) (owns : List OwnLines)
+      → AreSameSearches ys xs → AreOwn (meaning_of j) ys blocks owns
+      → AreOwn (meaning_of i) xs blocks owns
+  own_there xs ys blocks owns alike are =
       let w = value_of_settings j.settings in
       let above = j.settings.delays in
       let nav = same_records i.nav j.nav (ap (λ (v : InputsValue). v.nav) same) in
-      let here = subst (λ (records : List NavRecord). OwnBy records w above ys owns) (sym nav)
-      are in
-      let by = subst (λ (v : SettingsValue). OwnBy i.nav v above ys owns) (sym settings_same)
-      here in
+      let here = subst (λ (records : List NavRecord). OwnBy records w above ys blocks owns)
+      (sym nav) are in
+      let by = subst (λ (v : SettingsValue). OwnBy i.nav v above ys blocks owns)
+      (sym settings_same) here in
       let under = subst (λ (z : Delays).
-      OwnBy i.nav (value_of_settings i.settings) z ys owns) (sym delays_same) by in
-      own_same (meaning_of i) ys xs owns alike under
+      OwnBy i.nav (value_of_settings i.settings) z ys blocks owns) (sym delays_same) by in
+      own_same (meaning_of i) ys xs blocks owns alike under
 
-  pub admits_there : (xs ys : List Search) (owns : List (List SatLine)) (log : LogValue)
+  pub admits_there : (xs ys : List Search) (owns : List OwnLines) (log : LogValue)
       → AreSameSearches xs ys → Admits i.settings.delays xs owns i.settings.rules log
       → Admits j.settings.delays ys owns j.settings.rules log
   admits_there xs ys owns log alike admits =

@@ -1,16 +1,19 @@
 -- The numbers of totals, summed block by block.
-use Rattle.std.proofs.Common.{◌≡◌, ℕ, ◌+◌, ◌*◌, ◌≤◌, arith, Bool, false, List, [], ◌∷◌, ap, cond}
+use Rattle.std.proofs.Common.{◌≡◌, ℕ, suc, ◌+◌, ◌*◌, ◌≤◌, arith, Bool, false, List, [], ◌∷◌, ap, cond}
 use Rattle.std.proofs.Common.{count_by, drop, Option, None, Some, refl}
 use Rattle.std.proofs.lemmas.List.Sums.{sum_by-cons, sum_by-append}
 use Rattle.epoch_report.specs.Reports.{counts_of}
 use Rattle.paving_log.proofs.OwnLemmas.{IsBlockAt}
-use Rattle.grid_model.specs.Boxes.{GridBox}
-use Rattle.sat_model.specs.Fold.{ShownStep, boxes_after, pieces_from, slab_of_cut, taken_by}
-use Rattle.sat_model.specs.BoxTests.{BoxTest}
+use Rattle.sat_model.specs.BoxTests.{test_in}
+use Rattle.sat_model.specs.Events.{Event, Made, Renewed, RowsOver, steps_in}
+use Rattle.sat_model.specs.Fold.{ShownStep, boxes_after, pieces, pieces_from, slab_of_cut, taken_by}
+use Rattle.sat_model.specs.Renewals.{AnyLine}
 use Rattle.sat_model.specs.Stages.{Stage, after, first_stage}
-use Rattle.sat_model.specs.Logs.{Block, LogValue, IsNumbered, IsNumberedFrom, lines_in}
+use Rattle.sat_model.specs.Logs.{Body, Block, LogValue, IsNumbered, IsNumberedFrom, lines_in}
+use Rattle.sat_model.specs.Logs.{first_rows}
 use Rattle.sat_model.specs.StepKinds.{is_inside, is_edge, is_outside}
-use Rattle.sat_model.specs.Verdicts.{BlocksPass, BodyPasses, Judged, StepPasses, StepsPass}
+use Rattle.sat_model.specs.Verdicts.{BlocksPass, BodyPasses, BodyPassesBy, EventsPass, Judged}
+use Rattle.sat_model.specs.Verdicts.{StepPasses}
 use Rattle.sat_model.specs.declared.rules.Rules.{Rules}
 use Rattle.sat_model.specs.declared.steps.Step.{Step}
 use Rattle.sat_model.specs.declared.steps.Step.TheVariants.{Cut, Split, Outside, Inside, Edge}
@@ -40,30 +43,42 @@ module _ (p : Step → Bool) (splits : (id axis : ℕ) → p (Split id axis) ≡
   counted_taken rules stage (Edge id lo hi) (part, is, hull) =
       rw is (one (record { step = Edge id lo hi; part = part }))
 
-  counted : (rules : Rules) (done : ℕ) (stage : Stage) (steps : List Step)
-      → StepsPass rules done stage steps
-      → count_by shows (pieces_from stage.boxes steps) ≡ count_by p steps
-  counted rules done stage [] h = refl
-  counted rules done stage (step ∷ steps) h =
+  -- a renewal takes no box
+  counted : (first : RowsOver) (rules : Rules) (done j : ℕ) (stage : Stage) (events : List Event)
+      → EventsPass AnyLine first rules done j stage events
+      → count_by shows (pieces_from stage.boxes (steps_in events)) ≡ count_by p (steps_in events)
+  counted first rules done j stage [] h = refl
+  counted first rules done j stage (Renewed new ∷ events) h =
+      counted first rules done (suc j) (after stage (Renewed new)) events h.1
+  counted first rules done j stage (Made step ∷ events) h =
       omega (
         arith,
         sum_by-append (λ (x : ShownStep). cond (shows x) 1 0) (taken_by stage.boxes step)
-            (pieces_from (boxes_after stage.boxes step) steps),
-        sum_by-cons (λ (s : Step). cond (p s) 1 0) step steps,
+            (pieces_from (boxes_after stage.boxes step) (steps_in events)),
+        sum_by-cons (λ (s : Step). cond (p s) 1 0) step (steps_in events),
         counted_taken rules stage step h.0,
-        counted rules done (after stage step) steps h.1,
+        counted first rules done j (after stage (Made step)) events h.1,
       )
 
-pub count_is : (k : Kind) (test : BoxTest) (rules : Rules) (done : ℕ) (root : GridBox)
-    (steps : List Step) → StepsPass rules done (first_stage test root) steps
-    → count_of k (counts_of root steps) ≡ count_by (is_of k) steps
-count_is kind.Inside test rules done root steps h =
-    counted is_inside (λ id axis. refl) rules done (first_stage test root) steps h
-count_is kind.Edge test rules done root steps h =
-    counted is_edge (λ id axis. refl) rules done (first_stage test root) steps h
-count_is kind.Outside test rules done root steps h =
-    counted is_outside (λ id axis. refl) rules done (first_stage test root) steps h
-count_is kind.Splits test rules done root steps h = refl
+counted_all : (p : Step → Bool) (splits : (id axis : ℕ) → p (Split id axis) ≡ false)
+    (rules : Rules) (block : Block) (body : Body) → BodyPassesBy AnyLine rules block body
+    → count_by (λ (x : ShownStep). p x.step) (pieces body.root (steps_in body.events))
+    ≡ count_by p (steps_in body.events)
+counted_all p splits rules block body passes =
+    counted p splits (first_rows block body) rules body.done 0
+    (first_stage (test_in rules block) body.root) body.events passes
+
+pub count_is : (k : Kind) (rules : Rules) (block : Block) (body : Body)
+    → BodyPassesBy AnyLine rules block body
+    → count_of k (counts_of body.root (steps_in body.events))
+    ≡ count_by (is_of k) (steps_in body.events)
+count_is kind.Inside rules block body passes =
+    counted_all is_inside (λ id axis. refl) rules block body passes
+count_is kind.Edge rules block body passes =
+    counted_all is_edge (λ id axis. refl) rules block body passes
+count_is kind.Outside rules block body passes =
+    counted_all is_outside (λ id axis. refl) rules block body passes
+count_is kind.Splits rules block body passes = refl
 
 -- ---- a sum, block by block
 
@@ -88,7 +103,7 @@ module _ {number : Block → ℕ} {log : LogValue} where
   }
 
   pub body_here : {i total : ℕ} {block : Block} → IsSummed number log i total
-      → IsBlockAt log i block → BodyPasses log.rules block block.root
+      → IsBlockAt log i block → BodyPasses log.rules block block.body
   body_here s here = (rw here.at at s.pass).0.body
 
   pub summed_more : {i total : ℕ} {block : Block} (one : ℕ) → IsSummed number log i total

@@ -24,7 +24,6 @@ use Rattle.cover_run.specs.Solving.{epochs_of, meaning_of}
 use Rattle.cover_run.specs.Tracking.{tube_of}
 use Rattle.cover_run.specs.ZoneClaims.{AreEpochsTrue, AreTotalsTrue}
 use Rattle.cover_run.specs.ZoneTexts.{guard_text}
-use Rattle.cover_run.specs.declared.checked.Checked.{Checked}
 use Rattle.cover_run.specs.declared.guarded.Guarded.{Guarded}
 
 -- ---- what is read

@@ -20,8 +20,8 @@ use Rattle.rinex_nav.specs.Files.{IsNavFile}
 use Rattle.rinex_nav.specs.Reading.{records_of}
 use Rattle.rinex_obs.specs.Files.{IsObsFile}
 use Rattle.rinex_obs.specs.Reading.{observations_of}
-use Rattle.grid_model.specs.Boxes.{GridBox}
-use Rattle.sat_model.specs.Logs.{Block, LogValue}
+use Rattle.sat_model.specs.Events.{steps_in}
+use Rattle.sat_model.specs.Logs.{Body, Block, LogValue}
 use Rattle.sat_model.specs.StepKinds.{is_inside, is_edge, is_outside, is_split}
 use Rattle.sat_model.specs.declared.steps.Step.{Step}
 use Rattle.cover_run.specs.Solving.{IsSolved, IsSolvedTo, epochs_of}
@@ -39,12 +39,12 @@ count_of Outside counts = counts.outside
 count_of Splits counts = counts.bisections
 
 -- one of the numbers of a block's total
-abbrev pub counted_with : Kind → Block → Option GridBox → ℕ
-counted_with kind block None = 0
-counted_with kind block (Some root) = count_of kind (counts_of root block.steps)
+abbrev pub counted_with : Kind → Option Body → ℕ
+counted_with kind None = 0
+counted_with kind (Some body) = count_of kind (counts_of body.root (steps_in body.events))
 
 abbrev pub counted_in : Kind → Block → ℕ
-counted_in kind block = counted_with kind block block.root
+counted_in kind block = counted_with kind block.body
 
 -- how many usable satellites it has
 abbrev pub usable_in : Block → ℕ

@@ -55,7 +55,8 @@ pub record Task (V : Type 0) : Type 1 where
 
 -- A file wasn't read or accepted: it was said, and nothing was written or printed. No other name
 -- was opened than those up to that file's.
-pub record Stops (files : NamedSlots) (before after : World) (n : Notice) (s : Status) : Type 0 where
+pub record Stops (files : NamedSlots) (before after : World) (n : Notice)
+    (s : Status) : Type 0 where
   pub status : s ≡ status_of n
   pub ends : IsOfReading n
   pub said : Says before.err after.err n

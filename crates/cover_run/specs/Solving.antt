@@ -1,8 +1,8 @@
 -- What `solve` writes.
 use Rattle.std.specs.Prelude.{ℕ, List, [], length, Ok, Err}
-use Rattle.clear_boxes.specs.Left.{BlocksLeaveNothingClear, LogLeavesNothingClear}
+use Rattle.sharpness_laws.specs.Left.{BlocksLeaveNothingClear, LogLeavesNothingClear}
 use Rattle.command_words.specs.Commands.{Files}
-use Rattle.epoch_rows.specs.EpochsLeft.{EpochsLeft, left_in, of_epochs}
+use Rattle.epoch_rows.specs.EpochsLeft.{EpochsLeft, left_in, source_of}
 use Rattle.epoch_selection.specs.Searches.{searches_in}
 use Rattle.epoch_selection.specs.Selections.{selected}
 use Rattle.epoch_selection.specs.declared.selection.Selection.{Selection}
@@ -12,17 +12,17 @@ use Rattle.input_files.specs.Reading.{NamedSlots}
 use Rattle.input_files.specs.declared.inputs.Inputs.{Inputs}
 use Rattle.input_files.specs.declared.status.Status.{Status}
 use Rattle.log_writer.specs.Sizes.{most_bytes}
-use Rattle.log_writer.specs.Sources.{Gives}
+use Rattle.log_writer.specs.Sources.{Source}
 use Rattle.log_writer.specs.Texts.{IsWhole, IsBegun}
 use Rattle.log_writer.specs.Writing.{Trust}
 use Rattle.log_writer.specs.declared.fault.WriteFault.{WriteFault}
-use Rattle.paving_log_check.specs.Admissible.{Admits, AreOwn}
+use Rattle.paving_log_check.specs.Admissible.{Admits}
 use Rattle.paving_log_check.specs.FileCover.{FileCover}
+use Rattle.paving_log_check.specs.OwnLines.{OwnLines, AreOwn}
 use Rattle.rinex_obs.specs.declared.obs.ObsEpoch.{ObsEpoch}
 use Rattle.grid_model.specs.Boxes.{GridBox}
 use Rattle.sat_rows.specs.Meanings.{Meaning}
 use Rattle.sat_rows.specs.Sources.{both_meaning}
-use Rattle.sat_rows.specs.declared.lines.SatLine.{SatLine}
 use Rattle.cover_run.specs.Chosen.{chosen_in}
 use Rattle.cover_run.specs.Worlds.{World}
 use Rattle.cover_run.specs.Writing.{Answer, Writes}
@@ -36,9 +36,9 @@ module _ (i : Inputs) where
   abbrev pub meaning_of : Meaning
   meaning_of = both_meaning i.nav i.settings
 
-  -- the epochs give their blocks in turn
-  abbrev pub gives_of : Gives EpochsLeft
-  gives_of = of_epochs meaning_of i.settings.rules.outliers
+  -- the epochs give their blocks in turn, and renew their rows where the settings say so
+  abbrev pub epoch_source : Source EpochsLeft
+  epoch_source = source_of meaning_of i.settings.rules.outliers i.settings.renew
 
   -- the search box of the settings
   abbrev pub IsRootOf : GridBox → Type 0
@@ -47,33 +47,34 @@ module _ (i : Inputs) where
 module _ (chosen : Selection) (i : Inputs) where
   -- The text of one log and its report, within the limit: each epoch's block has own lines, whose
   -- rows are wider by W at both ends, and by G at those of the ends of the error, over the search
-  -- box of the settings, and is formed when the one before is paved. All own lines of the epochs
-  -- admit it, also those of the first epochs alone; and in each epoch that it gives as paved, what
-  -- fits is covered, and each in box fits. No box is split, or left at the edge, of which the true
-  -- ranges and bounds make clear that nothing in it fits, or that all of it does.
+  -- box of the settings, and is formed when the one before is paved; a row that is renewed is wider
+  -- by W and G of its box. All own lines of the epochs admit it, also those of the first epochs
+  -- alone; and in each epoch that it gives as paved, what fits is covered, and each in box fits. No
+  -- box is split, or left at the edge, of which the true ranges and bounds make clear that nothing
+  -- in it fits, or that all of it does.
   pub record IsSolved (limit : ℕ) (bytes said : List ℕ) : Type 0 where
     pub root : GridBox
     pub is_root : IsRootOf i root
     pub last : EpochsLeft
-    pub whole : IsWhole (gives_of i) i.settings.rules (left_in root (epochs_of chosen i)) last
+    pub whole : IsWhole (epoch_source i) i.settings.rules (left_in root (epochs_of chosen i)) last
         limit bytes said
-    pub admits : (owns : List (List SatLine))
-        → AreOwn (meaning_of i) (searches_in root (epochs_of chosen i)) owns
+    pub admits : (owns : List OwnLines)
+        → AreOwn (meaning_of i) (searches_in root (epochs_of chosen i)) whole.log.blocks owns
         → Admits i.settings.delays (searches_in root (epochs_of chosen i)) owns i.settings.rules
         whole.log
     pub cover : FileCover (meaning_of i) i.settings.rules.outliers
         (searches_in root (epochs_of chosen i)) whole.log
-    pub nothing_clear : LogLeavesNothingClear (meaning_of i) i.settings.rules
+    pub nothing_clear : LogLeavesNothingClear (meaning_of i) i.settings.renew i.settings.rules
         (searches_in root (epochs_of chosen i)) whole.log.blocks
 
-  -- what this fault left of both; its blocks, up to the one in hand, leave nothing clear either
+  -- what this fault left of both; its blocks, with the one in hand, leave nothing clear either
   pub record IsSolvedTo (fault : WriteFault) (limit : ℕ) (bytes said : List ℕ) : Type 0 where
     pub root : GridBox
     pub is_root : IsRootOf i root
-    pub begun : IsBegun fault (gives_of i) i.settings.rules (left_in root (epochs_of chosen i))
-        limit bytes said
-    pub nothing_clear : BlocksLeaveNothingClear (meaning_of i) i.settings.rules
-        (searches_in root (epochs_of chosen i)) begun.blocks
+    pub begun : IsBegun fault (epoch_source i) i.settings.rules
+        (left_in root (epochs_of chosen i)) limit bytes said
+    pub nothing_clear : BlocksLeaveNothingClear (meaning_of i) i.settings.renew i.settings.rules
+        (searches_in root (epochs_of chosen i)) begun.blocks begun.hand
 
   -- by how the writing ended
   abbrev pub IsSolution : ℕ → Answer → (bytes said : List ℕ) → Type 0

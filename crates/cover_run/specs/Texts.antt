@@ -22,7 +22,8 @@ test_name number =
     else if nat_eq number 61 then codes "BadSplit"
     else if nat_eq number 62 then codes "OverBudget"
     else if nat_eq number 63 then codes "NotClosed"
-    else codes "CountDiffers"
+    else if nat_eq number 64 then codes "CountDiffers"
+    else codes "BadRenew"
 
 -- a line of a log is the first that fails a test, of which this is the least number
 abbrev pub no_text : ℕ → ℕ → List ℕ

@@ -1,9 +1,8 @@
 -- What `track` writes: the log of a receiver that moves, each epoch over the root that the one
 -- before leaves.
 use Rattle.std.specs.Prelude.{◌≡◌, ℕ, ◌++◌, Bool, true, false, List, [], ◌∷◌, length, Option, None}
-use Rattle.std.specs.Prelude.{Some}
-use Rattle.std.specs.Prelude.{Ok, Err, codes, decimal}
-use Rattle.clear_boxes.specs.Left.{BlocksLeaveNothingClear, LogLeavesNothingClear}
+use Rattle.std.specs.Prelude.{Some, Ok, Err, codes, decimal}
+use Rattle.sharpness_laws.specs.Left.{BlocksLeaveNothingClear, LogLeavesNothingClear}
 use Rattle.command_words.specs.Commands.{Files}
 use Rattle.epoch_selection.specs.Searches.{Search}
 use Rattle.epoch_selection.specs.declared.selection.Selection.{Selection}
@@ -15,20 +14,21 @@ use Rattle.input_files.specs.declared.inputs.Inputs.{Inputs}
 use Rattle.input_files.specs.declared.status.Status.{Status}
 use Rattle.input_files.specs.declared.status.Status.TheVariants as status
 use Rattle.log_writer.specs.Breaks.{BrokeOff}
-use Rattle.log_writer.specs.Pieces.{Piece, log_pieces, piece}
+use Rattle.log_writer.specs.Kept.{hull_of_last}
+use Rattle.log_writer.specs.Pieces.{Piece, piece, pieces_with, version_of}
 use Rattle.log_writer.specs.Sizes.{most_bytes}
-use Rattle.log_writer.specs.Sources.{Gives, Came}
+use Rattle.log_writer.specs.Sources.{Source, Came, IsInHand}
 use Rattle.log_writer.specs.Texts.{IsWhole}
 use Rattle.log_writer.specs.Writing.{Trust}
 use Rattle.log_writer.specs.declared.fault.WriteFault.{WriteFault}
 use Rattle.moving_tube.specs.Tracks.{Stay}
 use Rattle.paving_log.specs.CoverBoxes.{cover_of}
-use Rattle.paving_log_check.specs.Admissible.{Admits, AreOwn}
+use Rattle.paving_log_check.specs.Admissible.{Admits}
 use Rattle.paving_log_check.specs.FileCover.{FileCover}
-use Rattle.sat_model.specs.Logs.{Block, LogValue}
-use Rattle.sat_rows.specs.declared.lines.SatLine.{SatLine}
+use Rattle.paving_log_check.specs.OwnLines.{OwnLines, AreOwn}
+use Rattle.sat_model.specs.Logs.{Block, LogValue, is_few}
 use Rattle.tube_check.specs.Found.{IsPath, PathFits, IsFoundIn}
-use Rattle.tube_rows.specs.TubeLeft.{TubeLeft, left_in, of_tube}
+use Rattle.tube_rows.specs.TubeLeft.{TubeLeft, left_in, source_of}
 use Rattle.tube_searches.specs.Tubes.{TubeValue, tube_searches}
 use Rattle.cover_run.specs.Chosen.{chosen_in}
 use Rattle.cover_run.specs.Solving.{IsRootOf, epochs_of, meaning_of}
@@ -48,7 +48,7 @@ lost_with false [] index = lost_line index
 lost_with false (part ∷ more) index = []
 
 abbrev pub lost_in : Block → List ℕ
-lost_in block = lost_with block.few (cover_of block block.root) block.index
+lost_in block = lost_with (is_few block) (cover_of block.body) block.index
 
 -- what is said of the last of these blocks
 abbrev pub lost_behind : List ℕ → List Block → List ℕ
@@ -58,9 +58,10 @@ lost_behind line (block ∷ more) = lost_behind (lost_in block) more
 abbrev pub lost_text : List Block → List ℕ
 lost_text blocks = lost_behind [] blocks
 
--- the lines of a log and its report, and behind them the line of a receiver that is lost
-abbrev pub track_pieces : LogValue → List Piece
-track_pieces log = log_pieces log ++ piece [] (lost_text log.blocks) ∷ []
+-- that line, which comes where no block is in hand any more
+abbrev pub lost_pieces : (hand : Option Block) → List Block → List Piece
+lost_pieces None blocks = piece [] (lost_text blocks) ∷ []
+lost_pieces (Some block) blocks = []
 
 -- of a log that was written to its end it is told, where the receiver is lost
 abbrev pub TellsLost : Option ℕ → (before after : Sinks) → Type 0 → Status → Type 0
@@ -72,18 +73,23 @@ TellsLost (Some index) before after reliable s =
 
 -- A log and its report, to which the line of a receiver that is lost belongs; or what a fault left
 -- of them. The source stood first here, and then there.
-module _ (gives : Gives TubeLeft) (i : Inputs) (first last : TubeLeft) where
+module _ (source : Source TubeLeft) (i : Inputs) (first last : TubeLeft) where
   pub record IsWholeTrack (limit : ℕ) (bytes said : List ℕ) : Type 0 where
     pub report : List ℕ
-    pub whole : IsWhole gives i.settings.rules first last limit bytes report
+    pub whole : IsWhole source i.settings.rules first last limit bytes report
     pub all : said ≡ report ++ lost_text whole.log.blocks
 
   pub record IsBegunTrack (fault : WriteFault) (limit : ℕ) (bytes said : List ℕ) : Type 0 where
     pub blocks : List Block
     pub behind : TubeLeft
-    pub came : Came gives i.settings.rules first None blocks behind
-    pub broke : BrokeOff limit
-        (track_pieces (record { rules = i.settings.rules; blocks = blocks })) fault bytes said
+    pub came : Came source i.settings.rules first None blocks behind
+    pub hand : Option Block
+    pub in_hand : IsInHand source i.settings.rules behind (hull_of_last None blocks) hand
+    pub broke : BrokeOff limit (pieces_with (record {
+      version = version_of i.settings.rules (source.maker first).active;
+      rules = i.settings.rules;
+      blocks = blocks;
+    }) hand ++ lost_pieces hand blocks) fault bytes said
 
   abbrev pub IsTrackText : ℕ → Answer → (bytes said : List ℕ) → Type 0
   IsTrackText limit (Ok done) = IsWholeTrack limit
@@ -91,9 +97,10 @@ module _ (gives : Gives TubeLeft) (i : Inputs) (first last : TubeLeft) where
 
 -- ---- the track of the files
 
--- the epochs give their blocks in turn, each over the root that the one before leaves
-abbrev pub gives_tube : Inputs → Gives TubeLeft
-gives_tube i = of_tube (meaning_of i) i.settings.rules.outliers
+-- the epochs give their blocks in turn, each over the root that the one before leaves, and renew
+-- their rows where the settings say so
+abbrev pub tube_source : Inputs → Source TubeLeft
+tube_source i = source_of (meaning_of i) i.settings.rules.outliers i.settings.renew
 
 -- the search box of the settings, and the greatest speed that they declare
 pub record IsTubeOf (i : Inputs) (root : GridBox) (fastest : ℕ) : Type 0 where
@@ -123,32 +130,33 @@ module _ (chosen : Selection) (i : Inputs) where
     pub speed : ℕ
     pub is_tube : IsTubeOf i search speed
     pub last : TubeLeft
-    pub track : IsWholeTrack (gives_tube i) i (left_in search speed (epochs_of chosen i)) last
+    pub track : IsWholeTrack (tube_source i) i (left_in search speed (epochs_of chosen i)) last
         limit bytes said
-    pub admits : (owns : List (List SatLine))
+    pub admits : (owns : List OwnLines)
         → AreOwn (meaning_of i)
-        (tube_searches (tube_of chosen i search speed) track.whole.log.blocks) owns
+        (tube_searches (tube_of chosen i search speed) track.whole.log.blocks)
+        track.whole.log.blocks owns
         → Admits i.settings.delays
         (tube_searches (tube_of chosen i search speed) track.whole.log.blocks) owns
         i.settings.rules track.whole.log
     pub cover : FileCover (meaning_of i) i.settings.rules.outliers
         (tube_searches (tube_of chosen i search speed) track.whole.log.blocks) track.whole.log
-    pub nothing_clear : LogLeavesNothingClear (meaning_of i) i.settings.rules
+    pub nothing_clear : LogLeavesNothingClear (meaning_of i) i.settings.renew i.settings.rules
         (tube_searches (tube_of chosen i search speed) track.whole.log.blocks)
         track.whole.log.blocks
     pub found : FindsReceiver search speed track.whole.log
         (tube_searches (tube_of chosen i search speed) track.whole.log.blocks)
 
-  -- what this fault left of both; its blocks, up to the one in hand, leave nothing clear either
+  -- what this fault left of both; its blocks, with the one in hand, leave nothing clear either
   pub record IsTrackedTo (fault : WriteFault) (limit : ℕ) (bytes said : List ℕ) : Type 0 where
     pub search : GridBox
     pub speed : ℕ
     pub is_tube : IsTubeOf i search speed
     pub last : TubeLeft
-    pub begun : IsBegunTrack (gives_tube i) i (left_in search speed (epochs_of chosen i)) last
+    pub begun : IsBegunTrack (tube_source i) i (left_in search speed (epochs_of chosen i)) last
         fault limit bytes said
-    pub nothing_clear : BlocksLeaveNothingClear (meaning_of i) i.settings.rules
-        (tube_searches (tube_of chosen i search speed) begun.blocks) begun.blocks
+    pub nothing_clear : BlocksLeaveNothingClear (meaning_of i) i.settings.renew i.settings.rules
+        (tube_searches (tube_of chosen i search speed) begun.blocks) begun.blocks begun.hand
 
   -- by how the writing ended
   abbrev pub IsTrack : ℕ → Answer → (bytes said : List ℕ) → Type 0

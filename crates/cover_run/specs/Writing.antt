@@ -65,8 +65,8 @@ module _ (name : List ℕ) (before after : World) (trust : Trust) where
   -- It was created. It and `out` got what the writer's answer says, within the limit or as far as
   -- it goes.
   -- A full log had less room than the most bytes.
-  pub record WritesLog (reads : NamedSlots) (limit most : ℕ) (IsText : Answer → (bytes said : List ℕ)
-      → Type 0) (s : Status) : Type 0 where
+  pub record WritesLog (reads : NamedSlots) (limit most : ℕ)
+      (IsText : Answer → (bytes said : List ℕ) → Type 0) (s : Status) : Type 0 where
     pub answer : Answer
     pub status : s ≡ status_of_writing limit answer
     pub bytes : List ℕ

@@ -14,7 +14,7 @@ ghost use Rattle.input_files.specs.Motion.{HasMotion, speed_of};
 ghost use Rattle.input_files.specs.Zones.{zones_value};
 ghost use Rattle.input_files.specs.declared.status.Status.{Status};
 ghost use Rattle.log_writer.specs.Writing.{trust_of};
-ghost use Rattle.paving_log.specs.CoverBoxes.{BlockFolds};
+ghost use Rattle.paving_log.specs.CoverBoxes.{BodyFolds};
 ghost use Rattle.paving_log.specs.Values.{log_value};
 ghost use Rattle.paving_log_check.specs.Answers.{IfNo, IfYes};
 
@@ -78,7 +78,7 @@ fn tell_findings<O: Sink, E: Sink>(
 /// Finds all answers, and prints them.
 fn tell_zones<O: Sink, E: Sink>(alloc: Global, found: &Guarded, out: &mut O, err: &mut E) -> Status
     requires ready { AreReady found.now.checked }
-    requires folds { AllByRecursion (λ block. BlockFolds block block.root)
+    requires folds { AllByRecursion (λ block. BodyFolds block.body)
         (log_value found.now.checked.log).blocks }
     ensures { Tells (SaysFound found.now) (λ line. ⊥)
         (sinks (O.state out.old) (E.state err.old)) (sinks (O.state out.new) (E.state err.new))

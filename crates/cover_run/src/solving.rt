@@ -18,7 +18,8 @@ use input_files::{Inputs, Limits, Status, read_inputs};
 use outer_io::{Shelf, Sink};
 use std::alloc::Global;
 
-/// Writes the log of these epochs of the files and prints its report.
+/// Writes the log of these epochs of the files and prints its report. Rows are renewed where the
+/// settings say so.
 pub fn write_solution<H: Shelf, O: Sink, E: Sink>(
     alloc: Global,
     limits: &Limits,
@@ -41,7 +42,15 @@ pub fn write_solution<H: Shelf, O: Sink, E: Sink>(
         nav: &inputs.nav,
         settings,
     };
-    let mut blocks = ObsBlocks::of_file(&source, &inputs.obs, chosen, &root, &settings.rules);
+    let mut blocks = ObsBlocks::of_file(
+        alloc,
+        &source,
+        &inputs.obs,
+        chosen,
+        &root,
+        &settings.rules,
+        settings.renew,
+    );
     write_named(
         alloc,
         limits,

@@ -58,6 +58,7 @@ pub fn name_of_test(number: u8) -> &'static str
         61 => "BadSplit",
         62 => "OverBudget",
         63 => "NotClosed",
-        _ => "CountDiffers",
+        64 => "CountDiffers",
+        _ => "BadRenew",
     }
 }

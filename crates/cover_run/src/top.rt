@@ -35,7 +35,8 @@ use std::alloc::Global;
 /// else for each epoch what is found of each zone and direction. `pave ROWS LOG` reads the rows,
 /// paves their epochs, writes the log and prints the report on `out`. `make SEED EPOCHS` makes the
 /// files of a receiver, solves them in memory and prints two lines on `out`. What stands in the way
-/// is said on `err`, where a fault changes nothing.
+/// is said on `err`, where a fault changes nothing. When none comes over objects in memory is said
+/// at `run_with_room` of `run_tests`.
 pub fn run<H: Shelf, O: Sink, E: Sink>(
     alloc: Global,
     limits: &Limits,

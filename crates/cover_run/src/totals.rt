@@ -2,15 +2,15 @@
 
 ghost use Rattle.std.specs.Prelude.{◌≡◌, ◌≤◌, ◌*◌, count_by};
 ghost use Rattle.cover_run.specs.Making.{counted_in, is_of, summed, usable_in};
-ghost use Rattle.logged_steps.specs.Steps.{steps_of};
+ghost use Rattle.step_columns.specs.Steps.{steps_of};
 ghost use Rattle.paving_log.specs.Values.{block_of, log_value};
 ghost use Rattle.sat_model.specs.Logs.{IsNumbered, lines_in};
 ghost use Rattle.sat_model.specs.Verdicts.{BodyPasses, Judged};
 ghost use Rattle.sat_model.specs.declared.rules.Rules.{Rules};
 
-use logged_steps::LoggedSteps;
 use paving_log::{Log, LogEpoch};
 use sat_model::Step;
+use step_columns::LoggedSteps;
 
 /// The numbers of a total.
 #[derive(Clone, Copy, Debug, PartialEq, Eq)]
@@ -43,12 +43,12 @@ fn counted_steps(kind: Kind, steps: &LoggedSteps) -> usize
 /// One of the numbers of an epoch's total, 0 where it has none.
 fn counted_in(kind: Kind, epoch: &LogEpoch) -> u64
     ensures value { (rules : Rules)
-        → BodyPasses rules (block_of epoch.now) (block_of epoch.now).root
+        → BodyPasses rules (block_of epoch.now) (block_of epoch.now).body
         → result ≡ counted_in kind (block_of epoch.now) }
     ensures bound { result ≤ 4294967295 * lines_in (block_of epoch.now) }
 {
-    match epoch.root {
-        Some(_) => counted_steps(kind, &epoch.steps) as u64,
+    match &epoch.body {
+        Some(body) => counted_steps(kind, &body.steps) as u64,
         None => 0,
     }
 }

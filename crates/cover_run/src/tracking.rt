@@ -60,7 +60,8 @@ fn tell_lost<O: Sink, E: Sink>(lost: Option<u32>, out: &mut O, err: &mut E) -> S
 }
 
 /// Writes the log of these epochs of the files, each over the root that the one before leaves, and
-/// prints its report. Behind an epoch in which the receiver is lost it says so, and ends.
+/// prints its report. Rows are renewed where the settings say so. Behind an epoch in which the
+/// receiver is lost it says so, and ends.
 fn write_track<H: Shelf, O: Sink, E: Sink>(
     alloc: Global,
     limits: &Limits,
@@ -86,7 +87,16 @@ fn write_track<H: Shelf, O: Sink, E: Sink>(
         nav: &inputs.nav,
         settings,
     };
-    let mut blocks = TubeBlocks::of_file(&source, &inputs.obs, chosen, &search, speed, rules);
+    let mut blocks = TubeBlocks::of_file(
+        alloc,
+        &source,
+        &inputs.obs,
+        chosen,
+        &search,
+        speed,
+        rules,
+        settings.renew,
+    );
     let status = write_named(alloc, limits, log, rules, &mut blocks, shelf, out, err);
     if status == Status::Done {
         return tell_lost(blocks.lost(), out, err);

@@ -4,6 +4,7 @@ ghost use Rattle.std.specs.Prelude.{◌≡◌, ◌≤◌, None, []};
 ghost use Rattle.cover_run.specs.Worlds.{world};
 ghost use Rattle.cover_run.specs.Writing.{Writes, notice_of_fault};
 ghost use Rattle.log_writer.specs.Sizes.{most_bytes};
+ghost use Rattle.log_writer.specs.Sources.{source_of};
 ghost use Rattle.log_writer.specs.Texts.{IsText};
 ghost use Rattle.log_writer.specs.Writing.{trust_of};
 
@@ -44,8 +45,8 @@ pub fn write_named<H: Shelf, O: Sink, E: Sink, B: Blocks>(
         (world (H.state shelf.new) (O.state out.new) (E.state err.new))
         (trust_of (H.reliable shelf.new) (O.reliable out.new)) [] limits.now.log
         (most_bytes (B.standing blocks.old).most rules.now.bisections)
-        (λ answer bytes said.
-        IsText B.gives rules.now blocks.old blocks.new limits.now.log answer bytes said) result }
+        (λ answer bytes said. IsText (source_of B.gives B.maker) rules.now blocks.old blocks.new
+        limits.now.log answer bytes said) result }
     ensures later { (O.state out.old).faults ≤ (O.state out.new).faults }
 {
     match shelf.create(name, Slot::Log) {

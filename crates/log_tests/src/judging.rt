@@ -8,12 +8,12 @@ use crate::small_rows::{
     FAR, cuboid, cut_of, edge, five_rows, four_rows, metre_row, row, rules, split, up_to,
 };
 use grid_model::{Box3, NoMemory, Pos, Span};
-use logged_steps::LoggedSteps;
-use paving_log::{Log, LogEpoch};
+use paving_log::{Body, Log, LogEpoch};
 use paving_log_check::{Fault, Verdict, judge};
 use sat_model::{Row, Rules, SatEntry, Step};
 use std::alloc::Global;
 use std::test::Fail;
+use step_columns::LoggedSteps;
 
 fn yes(boxes: u64) -> Verdict {
     Verdict::Yes { boxes }
@@ -49,13 +49,20 @@ fn judged(
         index: 1,
         ps: 1_388_102_400_000_000_000_000,
         n: rows.len() as u32,
-        few: false,
         sats,
-        root: Some(root),
-        steps: LoggedSteps::from_slice(alloc, steps)?,
-        done,
+        body: Some(Body {
+            root,
+            steps: LoggedSteps::from_slice(alloc, steps)?,
+            renewals: Vec::new(alloc),
+            done,
+        }),
     })?;
-    judge(alloc, &Log { rules, epochs })
+    let log = Log {
+        version: 1,
+        rules,
+        epochs,
+    };
+    judge(alloc, &log)
 }
 
 fn inside(id: u32, clock: i64, lo: i64, hi: i64) -> Step {
@@ -267,11 +274,8 @@ fn few(alloc: Global, line: u32, index: u32) -> LogEpoch
         index,
         ps: 1_388_102_400_000_000_000_000,
         n: 4,
-        few: true,
         sats: Vec::new(alloc),
-        root: None,
-        steps: LoggedSteps::new(alloc),
-        done: 0,
+        body: None,
     }
 }
 
@@ -280,7 +284,12 @@ fn judged_few(alloc: Global, rules: Rules, first: u32, second: u32) -> Result<Ve
     let mut epochs = Vec::new(alloc);
     epochs.push(few(alloc, 3, first))?;
     epochs.push(few(alloc, 4, second))?;
-    judge(alloc, &Log { rules, epochs })
+    let log = Log {
+        version: 1,
+        rules,
+        epochs,
+    };
+    judge(alloc, &log)
 }
 
 #[test]

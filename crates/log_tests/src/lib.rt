@@ -17,6 +17,8 @@ mod pavings;
 #[cfg(test)]
 mod pool;
 #[cfg(test)]
+mod renewed;
+#[cfg(test)]
 mod report;
 #[cfg(test)]
 mod rows;

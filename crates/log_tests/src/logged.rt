@@ -1,9 +1,9 @@
 //! Steps that are kept in columns come out as they were put in.
 
 use crate::small_rows::{cut_of, edge, split};
-use logged_steps::LoggedSteps;
 use sat_model::Step;
 use std::test::Fail;
+use step_columns::LoggedSteps;
 
 #[test]
 fn steps_come_out_as_they_were_put_in(rt: HostRuntime) -> Result<(), Fail> {

@@ -1,21 +1,21 @@
-ghost use Rattle.std.specs.Prelude.{IfSome};
-ghost use Rattle.live_boxes.specs.Folding.{StepsFold};
+ghost use Rattle.subpaving.specs.Folding.{StepsFold};
 ghost use Rattle.grid_model.specs.Boxes.{grid_box};
 ghost use Rattle.sat_model.specs.Fold.{first_boxes};
 ghost use Rattle.sat_model.specs.Logs.{IsNumbered};
 ghost use Rattle.paving_log.specs.Values.{log_value};
 
+use crate::renewed::{LEFT, ROWS, log_with};
 use crate::small_rows::cuboid;
 use grid_model::{Box3, NoMemory, Pos};
-use logged_steps::LoggedSteps;
 use paving_log::{
-    Log, LogEpoch, LogError, cover_boxes, done_line, epoch_line, head_lines, read_log, read_rows,
-    root_line, sat_line, step_line,
+    Body, Log, LogEpoch, LogError, Renewal, cover_boxes, done_line, epoch_line, head_lines,
+    read_log, read_rows, renew_line, root_line, sat_line, step_line,
 };
 use paving_log_check::{Verdict, judge, judged_folds};
-use sat_model::Step;
+use sat_model::{SatEntry, Step};
 use std::alloc::{AllocError, Global};
 use std::test::Fail;
+use step_columns::LoggedSteps;
 
 const LOG: &str = "gpscover 1
 rules 0 0 1000000
@@ -71,12 +71,13 @@ const EDGE: &str = "edge 0 -1400000 1400000";
 
 /// Texts in place of one in the log, and where its first fault is then, by line and kind; or twice
 /// 0.
-const CHANGES: [(&str, &str, u32, u8); 54] = [
+const CHANGES: [(&str, &str, u32, u8); 55] = [
     ("done 0", "done 0", 0, 0),
     (EDGE, "out 0\nin 0 0 -1 1\nsplit 400000 2", 0, 0),
     ("sat G01", "skip G01 6 20\nsat G01", 0, 0),
     ("gpscover 1", "gpscover 3", 0, 0),
-    ("gpscover 1", "gpscover 2", 1, 1),
+    ("gpscover 1", "gpscover 2", 0, 0),
+    ("gpscover 1", "gpscover 4", 1, 1),
     ("gpscover 1", "gpscover 03", 1, 1),
     ("gpscover 1", "gpscover 3 ", 1, 1),
     ("gpscover 1", "gpscover 1 3", 1, 1),
@@ -242,21 +243,47 @@ fn a_block_has_at_most_64_satellite_lines(rt: HostRuntime) -> Result<(), Fail> {
 /// The text of a log, line by line.
 fn written(alloc: Global, log: &Log) -> Result<String, AllocError> {
     let mut text = String::new(alloc);
-    text.push_str(&head_lines(&log.rules))?;
+    text.push_str(&head_lines(log.version, &log.rules))?;
     for epoch in &log.epochs {
-        text.push_str(&epoch_line(epoch.few, epoch.index, epoch.ps, epoch.n))?;
+        text.push_str(&epoch_line(epoch.is_few(), epoch.index, epoch.ps, epoch.n))?;
         for entry in &epoch.sats {
             text.push_str(&sat_line(entry))?;
         }
-        if let Some(root) = &epoch.root {
-            text.push_str(&root_line(root))?;
-            for step in epoch.steps.ahead() {
-                text.push_str(&step_line(&step))?;
-            }
-            text.push_str(&done_line(epoch.done))?;
+        if let Some(body) = &epoch.body {
+            put_body(&mut text, body)?;
         }
     }
     Ok(text)
+}
+
+/// The lines of a root and of all that stands behind it.
+fn put_body(text: &mut String, body: &Body) -> Result<(), AllocError> {
+    text.push_str(&root_line(&body.root))?;
+    for (at, step) in body.steps.ahead().enumerate() {
+        put_renewals(text, body, at)?;
+        text.push_str(&step_line(&step))?;
+    }
+    put_renewals(text, body, body.steps.len())?;
+    text.push_str(&done_line(body.done))
+}
+
+/// The lines of the renewals behind so many steps.
+fn put_renewals(text: &mut String, body: &Body, at: usize) -> Result<(), AllocError> {
+    for renewal in &body.renewals {
+        if renewal.at as usize == at {
+            put_renewal(text, renewal)?;
+        }
+    }
+    Ok(())
+}
+
+/// The line of a renewal and those of its rows.
+fn put_renewal(text: &mut String, renewal: &Renewal) -> Result<(), AllocError> {
+    text.push_str(&renew_line(&renewal.part))?;
+    for row in &renewal.rows {
+        text.push_str(&sat_line(&SatEntry::Row(*row)))?;
+    }
+    Ok(())
 }
 
 #[test]
@@ -274,7 +301,7 @@ fn rows_that_were_read_are_written_as_they_were(rt: HostRuntime) -> Result<(), F
             whole.push_str("done 0\nfew 2 1388102401000000000000 1\nskip G02 1\nskip G03 6 20\n")?;
             assert_eq!(rt; written(rt.alloc(), &log)?, whole);
             for (epoch, line) in log.epochs.iter().zip([3, 9]) {
-                assert_eq!(rt; (epoch.line, epoch.steps.len(), epoch.done), (line, 0, 0));
+                assert_eq!(rt; epoch.line, line);
             }
         }
         Err(error) => assert!(rt; false, "refused: {error:?}"),
@@ -289,26 +316,29 @@ fn a_log_that_was_read_is_written_as_it_was(rt: HostRuntime) -> Result<(), Fail>
     text.push_str(
         "few 2 1388102401000000000000 1\nskip G02 1\nskip G03 6 20\nepoch 3 1388102402000000000000 0\nroot 0 0 0 1 1 1\ncut 0 3 0\nsplit 0 2\nout 1\nin 2 -3 -4 5\ndone 1\n",
     )?;
-    if text.len() > 4_000_000_000 {
-        return Ok(());
-    }
-    match read_log(rt.alloc(), text.as_bytes()) {
-        Ok(log) => assert_eq!(rt; written(rt.alloc(), &log)?, text),
-        Err(error) => assert!(rt; false, "refused: {error:?}"),
+    let renewed = log_with(rt.alloc(), "gpscover 2\n", LEFT, &ROWS)?;
+    for text in [text.as_str(), renewed.as_str()] {
+        if text.len() > 4_000_000_000 {
+            return Ok(());
+        }
+        match read_log(rt.alloc(), text.as_bytes()) {
+            Ok(log) => assert_eq!(rt; written(rt.alloc(), &log)?.as_str(), text),
+            Err(error) => assert!(rt; false, "refused: {error:?}"),
+        }
     }
     Ok(())
 }
 
 #[test]
 fn the_first_line_tells_whether_pairs_are_tested(rt: HostRuntime) -> Result<(), Fail> {
-    for (first, pairs) in [("gpscover 1", false), ("gpscover 3", true)] {
+    for (first, version, pairs) in [("gpscover 1", 1, false), ("gpscover 3", 3, true)] {
         let text = changed(rt.alloc(), LOG, "gpscover 1", first)?;
         let rows = changed(rt.alloc(), rows_of_log(), "gpscover 1", first)?;
         if text.len() > 4_000_000_000 || rows.len() > 4_000_000_000 {
             return Ok(());
         }
         let log = read_log(rt.alloc(), text.as_bytes()).ok().ok_or("refused")?;
-        assert_eq!(rt; log.rules.pairs, pairs);
+        assert_eq!(rt; (log.version, log.rules.pairs), (version, pairs));
         assert_eq!(rt; written(rt.alloc(), &log)?, text);
         let log = read_rows(rt.alloc(), rows.as_bytes())
             .ok()
@@ -319,19 +349,21 @@ fn the_first_line_tells_whether_pairs_are_tested(rt: HostRuntime) -> Result<(), 
 }
 
 /// The boxes of an epoch with this search box and these steps.
-fn cover(alloc: Global, root: Option<Box3>, steps: &[Step]) -> Result<Vec<Box3>, NoMemory>
-    requires { IfSome root (λ box. StepsFold (first_boxes (grid_box box)) steps.now) }
+fn cover(alloc: Global, root: Box3, steps: &[Step]) -> Result<Vec<Box3>, NoMemory>
+    requires { StepsFold (first_boxes (grid_box root)) steps.now }
 {
     let epoch = LogEpoch {
         line: 3,
         index: 1,
         ps: 0,
         n: 0,
-        few: root.is_none(),
         sats: Vec::new(alloc),
-        root,
-        steps: LoggedSteps::from_slice(alloc, steps)?,
-        done: 0,
+        body: Some(Body {
+            root,
+            steps: LoggedSteps::from_slice(alloc, steps)?,
+            renewals: Vec::new(alloc),
+            done: 0,
+        }),
     };
     cover_boxes(alloc, &epoch)
 }
@@ -392,13 +424,7 @@ fn the_cover_has_the_kept_boxes_in_order_of_closing(rt: HostRuntime) -> Result<(
             hi: 1,
         },
     ];
-    match cover(rt.alloc(), Some(root), &steps) {
-        Ok(boxes) => assert_eq!(rt; boxes.as_slice(), &[high_quarter, low_half][..]),
-        Err(NoMemory) => assert!(rt; false, "no memory"),
-    }
-    match cover(rt.alloc(), None, &steps) {
-        Ok(boxes) => assert!(rt; boxes.is_empty()),
-        Err(NoMemory) => assert!(rt; false, "no memory"),
-    }
+    let boxes = cover(rt.alloc(), root, &steps)?;
+    assert_eq!(rt; boxes.as_slice(), &[high_quarter, low_half][..]);
     Ok(())
 }

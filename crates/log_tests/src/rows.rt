@@ -125,7 +125,15 @@ fn blocks_of(alloc: Global, selection: Selection) -> Result<Vec<LogEpoch>, Fail>
         settings: &settings,
     };
     let root = settings.root(Some(ORIGIN));
-    let mut left = ObsBlocks::of_file(&source, &obs, selection, &root, &settings.rules);
+    let mut left = ObsBlocks::of_file(
+        alloc,
+        &source,
+        &obs,
+        selection,
+        &root,
+        &settings.rules,
+        settings.renew,
+    );
     let mut blocks = Vec::new(alloc);
     for _ in 0..3 {
         match left.next(alloc, None) {
@@ -171,9 +179,10 @@ fn blocks_of_the_selected_epochs(rt: HostRuntime) -> Result<(), Fail> {
     }
     let blocks = blocks_of(rt.alloc(), Selection::all())?;
     let first = blocks.first().ok_or("first")?;
-    assert_eq!(rt; (first.index, first.n, first.few), (1, 4, false));
+    assert_eq!(rt; (first.index, first.n, first.is_few()), (1, 4, false));
     assert_eq!(rt; first.ps, 1_388_628_001_000_000_000_000);
-    assert_eq!(rt; (first.sats.len(), first.root), (5, Some(root())));
+    assert_eq!(rt; first.sats.len(), 5);
+    assert_eq!(rt; first.body.as_ref().map(|body| body.root), Some(root()));
     assert_eq!(rt; first.sats.get(2), Some(&skip(5, 3)));
     let Some(SatEntry::Row(row)) = first.sats.first() else {
         return Err(Fail::from("no row"));
@@ -186,8 +195,7 @@ fn blocks_of_the_selected_epochs(rt: HostRuntime) -> Result<(), Fail> {
         );
     }
     let second = blocks.get(1).ok_or("second")?;
-    assert_eq!(rt; (second.index, second.n, second.few), (2, 1, true));
+    assert_eq!(rt; (second.index, second.n, second.is_few()), (2, 1, true));
     assert_eq!(rt; second.sats.as_slice(), [skip(2, 1), skip(5, 3)].as_slice());
-    assert_eq!(rt; second.root, None);
     Ok(())
 }

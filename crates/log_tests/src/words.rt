@@ -1,4 +1,4 @@
-use log_words::{number, satellite, skip, span};
+use log_tokens::{number, satellite, skip, span};
 use std::test::Fail;
 
 #[test]

@@ -5,19 +5,20 @@ ghost use Rattle.std.specs.Prelude.{◌≡◌, None, IfOk};
 ghost use Rattle.paving_log.specs.RowsText.{AllOwnPass};
 ghost use Rattle.paving_log.specs.Text.{LogFits};
 ghost use Rattle.paving_log.specs.Values.{log_value};
-ghost use Rattle.paving_log.specs.declared.line.Form.TheVariants as form;
+ghost use Rattle.paving_log.specs.declared.line.Kind.TheVariants as kind;
 
 use grid_model::{Box3, NoMemory};
 use log_writer::{Blocks, LogBlocks, WriteFault, write_log};
 use outer_io::{MemoryShelf, MemorySink, Shelf, Slot};
+use paving::Renewals;
 use paving_log::{Log, LogEpoch, read_rows};
-use sat_model::Rules;
+use sat_model::{Row, Rules};
 use std::alloc::{AllocError, Global};
 use std::test::Fail;
 
 /// The rows of a text.
 fn rows_in(alloc: Global, text: &str) -> Result<Log, Fail>
-    ensures fits { IfOk result (λ rows. LogFits form.Rows (log_value rows)) }
+    ensures fits { IfOk result (λ rows. LogFits kind.Rows (log_value rows)) }
     ensures passes { IfOk result (λ rows. AllOwnPass rows.rules None (log_value rows).blocks) }
 {
     if text.len() > 4_000_000_000 {
@@ -296,6 +297,24 @@ fn the_logs_piece_goes_out_before_the_reports(rt: HostRuntime) -> Result<(), Fai
 struct Ending {
     blocks: LogBlocks,
     left: u32,
+}
+
+impl Renewals for Ending {
+    ghost maker = { λ ending. ⟦<LogBlocks as Renewals>⟧.maker ending.blocks };
+
+    ghost sats = { λ ending. ⟦<LogBlocks as Renewals>⟧.sats ending.blocks };
+
+    ghost root = { λ ending. ⟦<LogBlocks as Renewals>⟧.root ending.blocks };
+
+    ghost of_sat = { λ ending i part row gives. absurd gives };
+
+    fn active(&self) -> bool {
+        self.blocks.active()
+    }
+
+    fn row(&self, i: u32, part: &Box3) -> Option<Row> {
+        self.blocks.row(i, part)
+    }
 }
 
 impl Blocks for Ending {

@@ -3,9 +3,9 @@ use Rattle.std.proofs.Common.{◌≡◌, ℕ, ◌+◌, ◌*◌, ◌≤◌, subst
 use Rattle.std.specs.Prelude.{ℤ, pos, ◌+ℤ◌, ◌-ℤ◌, ◌*ℤ◌, ◌≤ℤ◌}
 use Rattle.std.proofs.lemmas.Int.{ints}
 use Rattle.gnss_model.specs.declared.elements.Elements.{Elements}
-use Rattle.code_search.specs.Residuals.{Residual, ResidualsAtMost, ResidualsAtLeast, um_of}
-use Rattle.code_search.specs.SearchSizes.{last_code, one_width, pair_width}
-use Rattle.code_search.proofs.ResidualExists.{residual_exists}
+use Rattle.code_simulation.specs.Residuals.{Residual, ResidualsAtMost, ResidualsAtLeast, um_of}
+use Rattle.code_simulation.specs.SearchSizes.{last_code, one_width, pair_width}
+use Rattle.code_simulation.proofs.ResidualExists.{residual_exists}
 use Rattle.made_input.specs.Generator.{drawn}
 use Rattle.made_input.specs.MadeCodes.{AreElementsOf, IsMadeCode, goal_by, place_of, tag_of}
 use Rattle.made_input.specs.MadeRecords.{made_broadcast, mean_draw}

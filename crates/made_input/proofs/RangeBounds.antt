@@ -10,9 +10,9 @@ use Rattle.grid_model.specs.Sizes.{IsWithin}
 use Rattle.grid_model.specs.declared.boxes.Pos.{Pos}
 use Rattle.gnss_model.specs.declared.elements.Elements.{Elements}
 use Rattle.grid_model.proofs.RootLemmas.{square-mono}
-use Rattle.code_search.specs.Residuals.{Residual}
-use Rattle.code_search.specs.SearchSizes.{IsNearPoint}
-use Rattle.code_search.proofs.SquareLemmas.{side_most, side_least, range_most, range_least}
+use Rattle.code_simulation.specs.Residuals.{Residual}
+use Rattle.code_simulation.specs.SearchSizes.{IsNearPoint}
+use Rattle.code_simulation.proofs.SquareLemmas.{side_most, side_least, range_most, range_least}
 use Rattle.made_input.specs.MadeCodes.{place_of, place_x, place_y, place_z, tag_of, goal_by, goal_of, IsMadeCode}
 use Rattle.made_input.specs.Generator.{drawn}
 use Rattle.made_input.proofs.ClockBounds.{IsMadeClock, clock_small}

@@ -14,7 +14,7 @@ use Rattle.jiff_core.specs.Calendar.{days_of_years, days_of_months, day_count, d
 use Rattle.rinex_text.specs.Dates.{gps_time}
 use Rattle.grid_model.specs.Amounts.{above}
 use Rattle.gnss_model.specs.declared.elements.Elements.{Elements}
-use Rattle.code_search.specs.SearchSizes.{IsNearEpoch}
+use Rattle.code_simulation.specs.SearchSizes.{IsNearEpoch}
 use Rattle.made_input.specs.MadeCodes.{tag_of}
 use Rattle.made_input.specs.MadeRecords.{made_broadcast}
 

@@ -11,8 +11,8 @@ use Rattle.grid_model.specs.declared.boxes.Pos.{Pos}
 use Rattle.gnss_model.specs.declared.elements.Elements.{Elements}
 use Rattle.made_texts.specs.declared.sat_codes.SatCode.{SatCode}
 use Rattle.made_texts.specs.declared.sat_codes.EpochCodes.{EpochCodes}
-use Rattle.code_search.specs.Residuals.{Residual}
-use Rattle.code_search.specs.SearchSizes.{one_width, pair_width}
+use Rattle.code_simulation.specs.Residuals.{Residual}
+use Rattle.code_simulation.specs.SearchSizes.{one_width, pair_width}
 use Rattle.made_input.specs.Generator.{drawn}
 use Rattle.made_input.specs.MadeRecords.{mean_draw, made_broadcast}
 

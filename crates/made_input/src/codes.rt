@@ -8,7 +8,7 @@ ghost use Rattle.made_input.specs.MadeRecords.{made_broadcast, mean_draw};
 
 use crate::generator::Generator;
 use crate::receiver::Receiver;
-use code_search::code_for;
+use code_simulation::code_for;
 use gnss_model::Elements;
 use grid_model::NoMemory;
 use made_texts::SatCode;

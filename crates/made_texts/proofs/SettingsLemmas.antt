@@ -46,6 +46,7 @@ settings_read text x y z near utf8 parsed = record {
     bisections = refl;
     width = refl;
     max_age = refl;
+    renew = refl;
     pairs = refl;
     signal = refl;
     receiver = (neg_ℤ (pos 2500000), pos 2500000);

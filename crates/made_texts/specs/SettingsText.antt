@@ -58,6 +58,7 @@ settings_of x y z = record {
   bisections = 64;
   width = pos 1000000;
   max_age = 7200;
+  renew = false;
   pairs = false;
   signal = Single (codes "C1C");
   common = (neg_ℤ (pos 2500000), pos 2500000);

@@ -140,5 +140,6 @@ fn settings_are_written(rt: HostRuntime) -> Result<(), Fail> {
         panic!(rt; "no settings");
     };
     assert_eq!(rt; settings.max_age, 7_200);
+    assert!(rt; !settings.renew);
     Ok(())
 }

@@ -42,6 +42,9 @@ const CHANGES: &str = "0||half|half
 0||7200|7200@pairs = true
 0||7200|7200@pairs = false
 0||[search]|[search]@pairs = true
+0||7200|7200@renew = true
+0||7200|7200@renew = false
+0||[search]|[search]@pairs = true@renew = true
 0||[-3000, 3000]|[1000000, 1000000]
 0||[2000, 25000]|[0, 1]@[satellite]@G01 = [0, 0]@G99 = [-1, 2]
 0||[2000, 25000]|[0, 1]@[satellite]
@@ -71,7 +74,18 @@ const CHANGES: &str = "0||half|half
 32|search.pairs|[signal]|pairs = 0@[signals]
 33|search.max_age|7200|0@pairs = 1
 31|search.max_age|max_age = 7200|pairs = true
+32|search.renew|7200|7200@renew = 1
+32|search.renew|7200|7200@renew = \"true\"
+32|search.renew|7200|7200@renew = [true]
+32|search.renew|7200|7200@[search.renew]
+32|search.renew|7200|7200@pairs = 1@renew = 1
+32|search.pairs|7200|7200@pairs = 1@renew = true
+33|search.max_age|7200|0@renew = 1
+31|search.max_age|max_age = 7200|renew = true
+32|search.renew|[signal]|renew = 0@[signals]
 34|search.pair|7200|7200@pair = true
+34|search.renewed|7200|7200@renewed = true
+34|signal.renew|[bounds]|renew = true@[bounds]
 34|signal.pairs|[bounds]|pairs = true@[bounds]
 34|pairs|[search]|pairs = true@[search]
 30||7200|7200@pairs = True
@@ -342,6 +356,21 @@ fn reads_whether_pairs_are_tested(rt: HostRuntime) -> Result<(), Fail> {
         let text = changed(rt.alloc(), FILE, "7200", age)?;
         let settings = settings(rt.alloc(), text.as_str())?;
         assert_eq!(rt; settings.rules.pairs, pairs, "{age}");
+    }
+    Ok(())
+}
+
+#[test]
+fn reads_whether_rows_are_renewed(rt: HostRuntime) -> Result<(), Fail> {
+    for (age, renew) in [
+        ("7200", false),
+        ("7200@renew = false", false),
+        ("7200@renew = true", true),
+        ("7200@pairs = true", false),
+    ] {
+        let text = changed(rt.alloc(), FILE, "7200", age)?;
+        let settings = settings(rt.alloc(), text.as_str())?;
+        assert_eq!(rt; settings.renew, renew, "{age}");
     }
     Ok(())
 }

@@ -22,7 +22,7 @@ use Rattle.input_files.specs.declared.status.Status.TheVariants as status
 use Rattle.log_writer.specs.Breaks.{BrokeOff, LogBreaks, IsFrontOf}
 use Rattle.log_writer.specs.Pieces.{Piece, log_bytes}
 use Rattle.log_writer.specs.RowsFrom.{of_rows}
-use Rattle.log_writer.specs.Sources.{Gives}
+use Rattle.log_writer.specs.Sources.{Source}
 use Rattle.log_writer.specs.Texts.{IsText}
 use Rattle.log_writer.specs.Writing.{Trust}
 use Rattle.log_writer.specs.declared.fault.WriteFault.{WriteFault}
@@ -46,7 +46,7 @@ use Rattle.cover_run.specs.Tracking.{IsTrack}
 use Rattle.cover_run.specs.Telling.{Tells, sinks}
 use Rattle.cover_run.specs.Worlds.{World, Rewrites}
 use Rattle.cover_run.specs.Writing.{Answer, Writes, SaysEnd, status_of_writing}
-use Rattle.run_tests.specs.Roomy.{AreInputsThere, IsThere, AreThere, written_by, IsReady, HasRoom, HasRoomBehind, HasRoomLeft, IsFault}
+use Rattle.run_tests.specs.Roomy.{AreInputsThere, IsThere, AreThere, written_by, IsReady, HasShelfRoom, HasRoomBeyond, HasSinkRoom, IsFault}
 
 -- ---- files that are read
 
@@ -98,9 +98,9 @@ broke_fits limit pieces why.Out log report b = omega (arith, b.fits, ap length b
 broke_fits limit pieces why.Full log report b = omega (arith, b.fits, ap length b.leaves.0)
 broke_fits limit pieces why.NoMemory log report b = omega (arith, b.fits, ap length b.leaves.0)
 
-text_fits : {B : Type 0} (gives : Gives B) (rules : Rules) (first last : B) (limit : ℕ) (answer : Answer) (bytes said : List ℕ) → IsText gives rules first last limit answer bytes said → length bytes ≤ limit
-text_fits gives rules first last limit (Ok done) bytes said whole = whole.fits
-text_fits gives rules first last limit (Err fault) bytes said begun = broke_fits limit _ fault bytes said begun.broke
+text_fits : {B : Type 0} (source : Source B) (rules : Rules) (first last : B) (limit : ℕ) (answer : Answer) (bytes said : List ℕ) → IsText source rules first last limit answer bytes said → length bytes ≤ limit
+text_fits source rules first last limit (Ok done) bytes said whole = whole.fits
+text_fits source rules first last limit (Err fault) bytes said begun = broke_fits limit _ fault bytes said begun.broke
 
 solution_fits : (chosen : Selection) (i : Inputs) (limit : ℕ) (answer : Answer) (bytes said : List ℕ) → IsSolution chosen i limit answer bytes said → length bytes ≤ limit
 solution_fits chosen i limit (Ok done) bytes said solved = solved.whole.fits
@@ -379,7 +379,7 @@ named_sure None name reliable is sure = tt
 named_sure (Some of) name reliable is sure = subst (λ (n : List ℕ). reliable (Some n)) is sure
 
 no_fault : (limits : Limits) (command : Command) (before after : World) (trust : Trust) (s : Status) (room out_room : ℕ) → IsReady command before.shelf before.out
-    → Runs limits (Some command) before after trust s → SaysRoom after trust room out_room → HasRoom after.shelf → HasRoomLeft after.out → IsFault s → ⊥
+    → Runs limits (Some command) before after trust s → SaysRoom after trust room out_room → HasShelfRoom after.shelf → HasSinkRoom after.out → IsFault s → ⊥
 no_fault limits command before after trust s room out_room ready runs says has left fault =
     let safe = run_safe limits ready.told before after trust command s ready.tells ready.there runs in
     let shelf = safe.shelf in
@@ -400,19 +400,19 @@ usage_no_fault limits before after trust s (inl only) = memory_harmless s only.0
 usage_no_fault limits before after trust s (inr only) = usage_harmless s only.0
 
 pub no_fault_of : (limits : Limits) (asked : Option Command) (before after : World) (trust : Trust) (s : Status) (room out_room : ℕ) → IfSome asked (λ command. IsReady command before.shelf before.out)
-    → Runs limits asked before after trust s → SaysRoom after trust room out_room → HasRoom after.shelf → HasRoomLeft after.out → IsFault s → ⊥
+    → Runs limits asked before after trust s → SaysRoom after trust room out_room → HasShelfRoom after.shelf → HasSinkRoom after.out → IsFault s → ⊥
 no_fault_of limits None before after trust s room out_room ready runs says has left = usage_no_fault limits before after trust s runs
 no_fault_of limits (Some command) before after trust s room out_room ready runs says has left = no_fault limits command before after trust s room out_room ready runs says has left
 
 -- ---- the room that is left
 
-written_room : (limit : ℕ) (told : Told) (before after : ShelfState) → before.told ≡ Some told → HasWritten limit told after → HasRoomBehind limit before → HasRoom after
+written_room : (limit : ℕ) (told : Told) (before after : ShelfState) → before.told ≡ Some told → HasWritten limit told after → HasRoomBeyond limit before → HasShelfRoom after
 written_room limit told before after tells wrote room = λ t is.
     let same : t ≡ wrote.told = cc in
     let most : ◌≡◌ {A = ℕ} wrote.told.terms.room told.terms.room = ap (λ (x : ShelfTerms). x.room) wrote.terms in
     subst (λ (x : Told). x.written < x.terms.room) (sym same) (omega (arith, wrote.few, room told tells, most))
 
-unchanged_room : (limit : ℕ) (before after : ShelfState) → after ≡ before → HasRoomBehind limit before → HasRoom after
+unchanged_room : (limit : ℕ) (before after : ShelfState) → after ≡ before → HasRoomBeyond limit before → HasShelfRoom after
 unchanged_room limit before after e room = λ t is. let had = room t (ap (λ (s : ShelfState). s.told) (sym e) ∙ is) in omega (arith, had)
 
 usage_unchanged : (limits : Limits) (before after : World) (trust : Trust) (s : Status) → Runs limits None before after trust s → after.shelf ≡ before.shelf
@@ -420,7 +420,7 @@ usage_unchanged limits before after trust s (inl only) = only.2
 usage_unchanged limits before after trust s (inr only) = only.2
 
 pub room_left : (limits : Limits) (asked : Option Command) (before after : World) (trust : Trust) (s : Status) → IfSome asked (λ command. IsReady command before.shelf before.out)
-    → Runs limits asked before after trust s → HasRoomBehind limits.log before.shelf → HasRoom after.shelf
+    → Runs limits asked before after trust s → HasRoomBeyond limits.log before.shelf → HasShelfRoom after.shelf
 room_left limits None before after trust s ready runs = unchanged_room limits.log before.shelf after.shelf (usage_unchanged limits before after trust s runs)
 room_left limits (Some command) before after trust s ready runs =
     let safe = run_safe limits ready.told before after trust command s ready.tells ready.there runs in

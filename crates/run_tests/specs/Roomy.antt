@@ -53,17 +53,17 @@ pub record IsReady (command : Command) (shelf : ShelfState) (out : SinkState) : 
   pub out_sure : out_told.terms.fails ≡ []
 
 -- a shelf has room left
-abbrev pub HasRoom : ShelfState → Type 0
-HasRoom shelf = (t : Told) → shelf.told ≡ Some t → t.written < t.terms.room
+abbrev pub HasShelfRoom : ShelfState → Type 0
+HasShelfRoom shelf = (t : Told) → shelf.told ≡ Some t → t.written < t.terms.room
 
 -- it has room for more than so many bytes
-abbrev pub HasRoomBehind : ℕ → ShelfState → Type 0
-HasRoomBehind limit shelf =
+abbrev pub HasRoomBeyond : ℕ → ShelfState → Type 0
+HasRoomBeyond limit shelf =
     (t : Told) → shelf.told ≡ Some t → t.written + limit < t.terms.room
 
 -- a sink has room left
-abbrev pub HasRoomLeft : SinkState → Type 0
-HasRoomLeft out = (t : SinkTold) → out.told ≡ Some t → length t.bytes < t.terms.room
+abbrev pub HasSinkRoom : SinkState → Type 0
+HasSinkRoom out = (t : SinkTold) → out.told ≡ Some t → length t.bytes < t.terms.room
 
 -- a file couldn't be read or written
 abbrev pub IsFault : Status → Type 0

@@ -150,7 +150,8 @@ fn a_log_is_judged(rt: HostRuntime) -> Result<(), Fail> {
 fn what_is_no_log_is_refused(rt: HostRuntime) -> Result<(), Fail> {
     let table = [
         ("", "log 40 BadLog line 1 kind 4\n"),
-        ("gpscover 2\n", "log 40 BadLog line 1 kind 1\n"),
+        ("gpscover 4\n", "log 40 BadLog line 1 kind 1\n"),
+        ("gpscover 2\n", "log 40 BadLog line 2 kind 4\n"),
         (
             "gpscover 1\nrules 0 0 1000000\ndone 0\n",
             "log 40 BadLog line 3 kind 2\n",

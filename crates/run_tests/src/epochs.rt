@@ -1,6 +1,6 @@
 //! The checker's test of one epoch, called by itself on a block of few satellites.
 
-ghost use Rattle.std.specs.Prelude.{◌≡◌, ◌≤◌, length, true, IfOk};
+ghost use Rattle.std.specs.Prelude.{◌≡◌, ◌≤◌, length, None, IfOk};
 ghost use Rattle.sat_model.specs.Logs.{lines_in};
 ghost use Rattle.paving_log.specs.Values.{block_of};
 
@@ -8,7 +8,6 @@ use crate::files::{NAV, OBS, SETTINGS};
 use error_bounds::{Settings, read_settings};
 use gnss_model::{Sat, Skip};
 use grid_model::{Pos, Span};
-use logged_steps::LoggedSteps;
 use paving_log::LogEpoch;
 use paving_log_check::{Fault, check_epoch};
 use rinex_nav::{Nav, read_nav};
@@ -39,7 +38,7 @@ fn skip(number: u8, test: u8) -> SatEntry {
 fn block(alloc: Global, n: u32, skips: &[SatEntry]) -> Result<LogEpoch, AllocError>
     requires { length skips.now ≤ 2 }
     ensures line { IfOk result (λ block. block.line ≡ 3) }
-    ensures few { IfOk result (λ block. block.few ≡ true) }
+    ensures few { IfOk result (λ block. block.body ≡ None) }
     ensures number { IfOk result (λ block. block.n ≡ n) }
     ensures lines { IfOk result (λ block. lines_in (block_of block) ≤ 3) }
 {
@@ -50,11 +49,8 @@ fn block(alloc: Global, n: u32, skips: &[SatEntry]) -> Result<LogEpoch, AllocErr
         index: 1,
         ps: 1_388_620_800_070_000_000_000,
         n,
-        few: true,
         sats,
-        root: None,
-        steps: LoggedSteps::new(alloc),
-        done: 0,
+        body: None,
     })
 }
 

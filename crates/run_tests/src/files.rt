@@ -115,6 +115,10 @@ troposphere = [2000, 25000]
 const PAIRS_LOG: &str =
     "gpscover 3\nrules 1 4096 1000000\nfew 1 1388620800070000000000 1\nskip G02 1\n";
 
+// One whose rows may be renewed.
+const RENEW_LOG: &str =
+    "gpscover 2\nrules 1 4096 1000000\nfew 1 1388620800070000000000 1\nskip G02 1\n";
+
 pub const LOG: &str =
     "gpscover 1\nrules 1 4096 1000000\nfew 1 1388620800070000000000 1\nskip G02 1\n";
 
@@ -203,7 +207,8 @@ fn a_log_is_checked_against_files(rt: HostRuntime) -> Result<(), Fail> {
     Ok(())
 }
 
-// The first line of a log is that of the settings.
+// The first line of a log tells of pairs what the settings do. Rows may be renewed whatever these
+// say.
 #[test]
 fn the_version_is_checked_against_settings(rt: HostRuntime) -> Result<(), Fail> {
     let differ = "no 50 RulesDiffer line 2\n";
@@ -211,6 +216,8 @@ fn the_version_is_checked_against_settings(rt: HostRuntime) -> Result<(), Fail> 
         (SETTINGS, PAIRS_LOG, Status::No, differ),
         (PAIRS_SETTINGS, LOG, Status::No, differ),
         (PAIRS_SETTINGS, PAIRS_LOG, Status::Done, "yes 0\n"),
+        (SETTINGS, RENEW_LOG, Status::Done, "yes 0\n"),
+        (PAIRS_SETTINGS, RENEW_LOG, Status::No, differ),
     ] {
         let case = Case {
             settings,
@@ -247,7 +254,7 @@ fn events_are_passed_over(rt: HostRuntime) -> Result<(), Fail> {
 #[test]
 fn files_are_refused_in_their_order(rt: HostRuntime) -> Result<(), Fail> {
     let no_log = Case {
-        log: "gpscover 2\n",
+        log: "gpscover 4\n",
         ..CHECK
     };
     let no_obs = Case {

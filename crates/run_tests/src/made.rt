@@ -1,6 +1,6 @@
 use crate::shelves::{four_files, one_file, words};
 use cover_run::{Limits, Status, run};
-use made_input::make;
+use made_input::{Made, make};
 use outer_io::{MemoryShelf, MemorySink};
 use std::alloc::Global;
 use std::process::Abort;
@@ -87,30 +87,97 @@ fn a_made_run_ends_early(rt: HostRuntime) -> Result<(), Fail> {
     Ok(())
 }
 
+// How a log of the made files is written and checked, its first line, and whether rows are renewed
+// in it.
+#[derive(Clone, Copy)]
+struct Writing {
+    writer: &'static str,
+    checker: &'static str,
+    first: &'static str,
+    renewals: bool,
+}
+
+const SOLVING: Writing = Writing {
+    writer: "solve",
+    checker: "check",
+    first: "gpscover 1\n",
+    renewals: false,
+};
+
+// The report of a log that is written with these settings. The checker and `judge` accept it, with
+// the boxes of the report.
+fn written(
+    rt: &(impl Abort + AllocGlobal),
+    made: &Made,
+    settings: &str,
+    how: &Writing,
+) -> Result<MemorySink, Fail> {
+    let alloc = rt.alloc();
+    let files = four_files(alloc, text(&made.obs), text(&made.nav), settings, "")?;
+    let name = String::from_str(alloc, "b.log")?;
+    let mut shelf = MemoryShelf::make(alloc, files, name, 1_000_000, Vec::new(alloc))?;
+    let done = (Status::Done, "");
+    let [obs, nav, toml, log] = ["a.obs", "a.nav", "a.toml", "b.log"];
+    let write = [how.writer, obs, nav, toml, log];
+    let out = printed(rt, &write, &LIMITS, &mut shelf, 1_000_000, done)?;
+    let lines = text(shelf.file(log).unwrap_or(&[]));
+    assert!(rt; lines.starts_with(how.first), "{}", how.first);
+    assert_eq!(rt; lines_of(lines, "renew ") > 0, how.renewals);
+    let report = text(out.bytes());
+    let kept = lines_of(report, "in ").saturating_add(lines_of(report, "edge "));
+    let verdict = format!(in alloc; "yes {kept}\n")?;
+    let check = [how.checker, obs, nav, toml, log];
+    for texts in [&check[..], &["judge", log][..]] {
+        let yes = printed(rt, texts, &LIMITS, &mut shelf, 200, done)?;
+        assert_eq!(rt; yes.bytes(), verdict.as_bytes());
+    }
+    Ok(out)
+}
+
 // The same files, written out, are solved and checked, and the totals are those of the report.
 #[test]
 fn made_files_are_solved_and_checked(rt: HostRuntime) -> Result<(), Fail> {
     let alloc = rt.alloc();
     let made = make(alloc, 7, 3)?;
-    let (obs, nav, settings) = (text(&made.obs), text(&made.nav), text(&made.settings));
-    let files = four_files(alloc, obs, nav, settings, "")?;
-    let name = String::from_str(alloc, "b.log")?;
-    let mut shelf = MemoryShelf::make(alloc, files, name, 1_000_000, Vec::new(alloc))?;
-    let done = (Status::Done, "");
-    let solve = ["solve", "a.obs", "a.nav", "a.toml", "b.log"];
-    let out = printed(&rt, &solve, &LIMITS, &mut shelf, 1_000_000, done)?;
+    let out = written(&rt, &made, text(&made.settings), &SOLVING)?;
     let report = text(out.bytes());
     let (inside, edge) = (lines_of(report, "in "), lines_of(report, "edge "));
-    let check = ["check", "a.obs", "a.nav", "a.toml", "b.log"];
-    let yes = printed(&rt, &check, &LIMITS, &mut shelf, 200, done)?;
-    let verdict = format!(in alloc; "yes {}\n", inside.saturating_add(edge))?;
-    assert_eq!(rt; yes.bytes(), verdict.as_bytes());
     let outside = lines_of(report, "out ");
     let lines = format!(in alloc;
         "made seed 7 epochs 3 satellites 24\nboxes in {inside} edge {edge} out {outside} bisections "
     )?;
     let mut none = empty_shelf(alloc)?;
-    let told = printed(&rt, &["make", "7", "3"], &LIMITS, &mut none, 200, done)?;
+    let ends = (Status::Done, "");
+    let told = printed(&rt, &["make", "7", "3"], &LIMITS, &mut none, 200, ends)?;
     assert!(rt; told.bytes().starts_with(lines.as_bytes()));
+    Ok(())
+}
+
+// Rows are renewed where the settings ask for it.
+#[test]
+fn made_files_are_solved_with_renewed_rows(rt: HostRuntime) -> Result<(), Fail> {
+    let alloc = rt.alloc();
+    let made = make(alloc, 7, 3)?;
+    let (front, behind) = text(&made.settings)
+        .split_once("[search]\n")
+        .ok_or("no search")?;
+    let renewing = Writing {
+        first: "gpscover 2\n",
+        renewals: true,
+        ..SOLVING
+    };
+    let tracking = Writing {
+        writer: "track",
+        checker: "retrack",
+        ..renewing
+    };
+    for (renew, motion, how) in [
+        ("false", "", SOLVING),
+        ("true", "", renewing),
+        ("true", "[motion]\nspeed = 100\n", tracking),
+    ] {
+        let settings = format!(in alloc; "{front}[search]\nrenew = {renew}\n{behind}\n{motion}")?;
+        let _report = written(&rt, &made, &settings, &how)?;
+    }
     Ok(())
 }

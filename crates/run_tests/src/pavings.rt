@@ -272,19 +272,19 @@ fn a_log_ends_early(rt: HostRuntime) -> Result<(), Fail> {
     Ok(())
 }
 
-// A log of E epochs with B splits allowed isn't full at 512 + 256 * E * (67 + 1,801 * (2 * B + 1))
-// bytes: here E and B are 1 and 0, 1 and 1, 2 and 0, and none and 200,000.
+// A log of E epochs with B splits allowed isn't full at 512 + 256 * E * (1,237 + 1,801 * (2 * B +
+// 1)) bytes: here E and B are 1 and 0, 1 and 1, 2 and 0, and none and 200,000.
 #[test]
 fn a_log_has_room_where_the_limit_is_enough(rt: HostRuntime) -> Result<(), Fail> {
     let table = [
-        (478_720, ROWS, "edge 0 -1400000 1400000\ndone 0\n", REPORT),
+        (778_240, ROWS, "edge 0 -1400000 1400000\ndone 0\n", REPORT),
         (
-            1_400_832,
+            1_700_352,
             SPLIT_ROWS,
             "split 0 0\nedge 1 -1400000 500000\nedge 2 -499999 1400000\ndone 1\n",
             SPLIT_REPORT,
         ),
-        (956_928, EMPTY_ROWS, "out 0\ndone 0\n", EMPTY_REPORT),
+        (1_555_968, EMPTY_ROWS, "out 0\ndone 0\n", EMPTY_REPORT),
         (512, "gpscover 1\nrules 8 200000 1000\n", "", ""),
     ];
     for (limit, rows, steps, out) in table {

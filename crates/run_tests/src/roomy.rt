@@ -3,8 +3,8 @@
 ghost use Rattle.std.specs.Prelude.{IfSome};
 ghost use Rattle.command_words.specs.Commands.{command_of};
 ghost use Rattle.command_words.specs.Seen.{texts};
-ghost use Rattle.run_tests.specs.Roomy.{IsReady, HasRoom, HasRoomBehind};
-ghost use Rattle.run_tests.specs.Roomy.{HasRoomLeft, IsFault};
+ghost use Rattle.run_tests.specs.Roomy.{IsReady, HasShelfRoom, HasRoomBeyond};
+ghost use Rattle.run_tests.specs.Roomy.{HasSinkRoom, IsFault};
 
 use cover_run::{Limits, Status, run};
 use outer_io::{MemoryShelf, MemorySink, Shelf, Sink};
@@ -24,10 +24,10 @@ pub fn run_with_room(
 ) -> Status
     requires { IfSome (command_of (texts words.now)) (λ command. IsReady command
         (⟦<MemoryShelf as Shelf>⟧.state shelf.old) (⟦<MemorySink as Sink>⟧.state out.old)) }
-    ensures no_fault { HasRoom (⟦<MemoryShelf as Shelf>⟧.state shelf.new)
-        → HasRoomLeft (⟦<MemorySink as Sink>⟧.state out.new) → IsFault result → ⊥ }
-    ensures room { HasRoomBehind limits.now.log (⟦<MemoryShelf as Shelf>⟧.state shelf.old)
-        → HasRoom (⟦<MemoryShelf as Shelf>⟧.state shelf.new) }
+    ensures no_fault { HasShelfRoom (⟦<MemoryShelf as Shelf>⟧.state shelf.new)
+        → HasSinkRoom (⟦<MemorySink as Sink>⟧.state out.new) → IsFault result → ⊥ }
+    ensures room { HasRoomBeyond limits.now.log (⟦<MemoryShelf as Shelf>⟧.state shelf.old)
+        → HasShelfRoom (⟦<MemoryShelf as Shelf>⟧.state shelf.new) }
 {
     let status = run(alloc, limits, words, shelf, out, err);
     let _room = shelf.room();

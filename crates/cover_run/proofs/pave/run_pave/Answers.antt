@@ -32,8 +32,8 @@ returns g c =
     (λ answer bytes said text. (
       blocks_of last,
       text_of answer bytes said (text_map _ of_rows
-          blocks_of (λ old hull next new gave. gave) rows.rules c.of_log-blocks.result last limits.log
-          answer bytes said text),
+          blocks_of (λ old hull next new gave. gave) (λ blocks. refl) rows.rules
+          c.of_log-blocks.result last limits.log answer bytes said text),
     ))
     (ap (λ (blocks : List Block). most_bytes (length blocks) rows.rules.bisections) made.rest)
     s c.write_named.ensures.log in

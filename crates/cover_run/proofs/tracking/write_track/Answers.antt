@@ -1,11 +1,16 @@
-use Rattle.std.proofs.Common.{◌≡◌, ◌≢◌, [], ap, length, refl, rules}
+use Rattle.std.proofs.Common.{◌≡◌, ◌≢◌, [], List, ap, length, refl, rules, subst}
+use Rattle.sharpness_laws.proofs.LogLemmas.{writable_distinct}
+use Rattle.sharpness_laws.specs.UsableRows.{AllDistinctIf}
+use Rattle.epoch_selection.specs.Searches.{epochs_left}
 use Rattle.grid_model.specs.Boxes.{grid_box}
 use Rattle.input_files.specs.declared.status.Status.TheVariants as status
 use Rattle.log_writer.specs.Sizes.{most_bytes}
 use Rattle.galileo_rows.specs.declared.both.BothRows.{BothRows}
+use Rattle.rinex_obs.specs.declared.obs.ObsEpoch.{ObsEpoch}
 use Rattle.sat_rows.specs.Sources.{both_meaning}
-use Rattle.tube_rows.specs.TubeLeft.{TubeLeft, left_in, left_of}
-use Rattle.cover_run.proofs.TrackingLemmas.{broken_off, text_of_tube, told_lost, track_of}
+use Rattle.tube_rows.proofs.KeptLemmas.{text_of_tube}
+use Rattle.tube_rows.specs.TubeLeft.{TubeLeft, index_of, left_in, left_of}
+use Rattle.cover_run.proofs.TrackingLemmas.{broken_off, text_known, told_lost, track_of}
 use Rattle.cover_run.proofs.WritingLemmas.{writes_as}
 use Rattle.cover_run.specs.Solving.{epochs_of, meaning_of}
 use Rattle.cover_run.specs.Tracking.{IsTrack, IsTubeOf}
@@ -15,6 +20,7 @@ pub returns-then-eq : goal.returns-then-eq
 returns-then-eq g c =
     let i = c.args.inputs.now in
     let given = i.settings.rules in
+    let renews = i.settings.renew in
     let limit = c.args.limits.now.log in
     let chosen = c.args.chosen in
     let made = c.of_file-blocks.ensures in
@@ -28,26 +34,32 @@ returns-then-eq g c =
       search = c.root-search.ensures.value;
       speed = c.declared_speed-speed.ensures.speed;
     } in
+    let meaning = λ (s : BothRows). both_meaning s.nav.now s.settings.now in
+    let distinct = subst (λ (epochs : List ObsEpoch). AllDistinctIf renews epochs)
+    (ap (λ (left : TubeLeft). left.epochs) made.left)
+    (writable_distinct renews (index_of b.given) (epochs_left b.tube.searches)
+    made.ready.epochs_are) in
     let most = ap (λ (l : TubeLeft). most_bytes (length l.epochs) given.bisections) made.left in
     let wrote = writes_as [] _ _ _ _ limit _ _ _ _
-    (λ answer bytes said text. text_of_tube (λ x. x.source.now) (λ x. x.rules)
-    (λ x. left_of x.tube x.given x.lost)
-    (λ (s : BothRows). both_meaning s.nav.now s.settings.now) b last (meaning_of i) given here
-    (ap (λ (s : BothRows). both_meaning s.nav.now s.settings.now) made.source) made.rules made.left
-    limit answer bytes said text) most c.write_named-status.result
-    c.write_named-status.ensures.log in
+    (λ answer bytes said text. text_known (meaning_of i) (meaning b.source.now) b.rules given
+    b.maker.renews renews (left_of b.tube b.given b.lost) here behind limit answer bytes said
+    (ap meaning made.source) made.rules made.renews made.left
+    (text_of_tube (λ x. x.source.now) (λ x. x.rules) (λ x. left_of x.tube x.given x.lost)
+    (λ x. x.maker) meaning b last given limit answer bytes said text)) most
+    c.write_named-status.result c.write_named-status.ensures.log in
     let is : c.write_named-status.result ≡ status.Done = search rules in
-    let told = told_lost (meaning_of i) given.outliers i here behind refl limit _ _ _ _ _
+    let told = told_lost (meaning_of i) given.outliers renews i here behind refl limit _ _ _ _ _
     c.write_named-status.ensures.later _ _ _ _ _ is wrote
     (rw c.lost.ensures at c.tell_lost.ensures) in
     writes_as [] _ _ _ _ limit _ _ _ (IsTrack chosen i limit)
     (λ answer bytes said text. track_of chosen i box speed behind limit answer bytes said is_tube
-    text) refl c.tell_lost.result told
+    distinct text) refl c.tell_lost.result told
 
 pub returns : goal.returns
 returns g c =
     let i = c.args.inputs.now in
     let given = i.settings.rules in
+    let renews = i.settings.renew in
     let limit = c.args.limits.now.log in
     let chosen = c.args.chosen in
     let made = c.of_file-blocks.ensures in
@@ -61,17 +73,22 @@ returns g c =
       search = c.root-search.ensures.value;
       speed = c.declared_speed-speed.ensures.speed;
     } in
+    let meaning = λ (s : BothRows). both_meaning s.nav.now s.settings.now in
+    let distinct = subst (λ (epochs : List ObsEpoch). AllDistinctIf renews epochs)
+    (ap (λ (left : TubeLeft). left.epochs) made.left)
+    (writable_distinct renews (index_of b.given) (epochs_left b.tube.searches)
+    made.ready.epochs_are) in
     let most = ap (λ (l : TubeLeft). most_bytes (length l.epochs) given.bisections) made.left in
     let wrote = writes_as [] _ _ _ _ limit _ _ _ _
-    (λ answer bytes said text. text_of_tube (λ x. x.source.now) (λ x. x.rules)
-    (λ x. left_of x.tube x.given x.lost)
-    (λ (s : BothRows). both_meaning s.nav.now s.settings.now) b last (meaning_of i) given here
-    (ap (λ (s : BothRows). both_meaning s.nav.now s.settings.now) made.source) made.rules made.left
-    limit answer bytes said text) most c.write_named-status.result
-    c.write_named-status.ensures.log in
+    (λ answer bytes said text. text_known (meaning_of i) (meaning b.source.now) b.rules given
+    b.maker.renews renews (left_of b.tube b.given b.lost) here behind limit answer bytes said
+    (ap meaning made.source) made.rules made.renews made.left
+    (text_of_tube (λ x. x.source.now) (λ x. x.rules) (λ x. left_of x.tube x.given x.lost)
+    (λ x. x.maker) meaning b last given limit answer bytes said text)) most
+    c.write_named-status.result c.write_named-status.ensures.log in
     let other : c.write_named-status.result ≢ status.Done = search rules in
-    let told = broken_off (meaning_of i) given.outliers i here behind refl limit _ _ _ _ _
+    let told = broken_off (meaning_of i) given.outliers renews i here behind refl limit _ _ _ _ _
     c.write_named-status.result other wrote in
     writes_as [] _ _ _ _ limit _ _ _ (IsTrack chosen i limit)
     (λ answer bytes said text. track_of chosen i box speed behind limit answer bytes said is_tube
-    text) refl c.write_named-status.result told
+    distinct text) refl c.write_named-status.result told

@@ -1,6 +1,5 @@
-use Rattle.std.proofs.Common.{◌≡◌, ◌∙◌, Ok, rules}
+use Rattle.std.proofs.Common.{◌∙◌, rules}
 use Rattle.cover_run.proofs.TellingLemmas.{tells_no}
-use Rattle.paving_log_check.specs.declared.verdict.Verdict.TheVariants as verdict
 use Rattle.cover_run.proofs.verdicts.tell_verdict.Goals as goal
 
 pub returns-in-Ok-No : goal.returns-in-Ok-No

@@ -1,5 +1,4 @@
-use Rattle.std.proofs.Common.{◌≡◌, ◌∙◌, sym, ap}
-use Rattle.zone_guard.specs.Totals.{joined}
+use Rattle.std.proofs.Common.{◌∙◌, sym}
 use Rattle.cover_run.proofs.ZoneLineLemmas.{reach_all, reach_more}
 use Rattle.cover_run.proofs.zone_lines.reach_over.Goals as goal
 

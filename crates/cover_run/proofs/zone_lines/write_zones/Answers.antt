@@ -1,6 +1,6 @@
 use Rattle.std.proofs.lemmas.Result.{err_from_is_err_and}
 use Rattle.zone_guard.specs.WatchValues.{watch_values}
-use Rattle.cover_run.proofs.ZoneLineLemmas.{epochs_alone, totals_too, zones_cut}
+use Rattle.cover_run.proofs.ZoneLineLemmas.{totals_too, zones_cut}
 use Rattle.cover_run.proofs.zone_lines.write_zones.Goals as goal
 
 pub returns-in_err-write_epochs : goal.returns-in_err-write_epochs

@@ -4,7 +4,7 @@ use Rattle.std.specs.Int.{w64, w128}
 use Rattle.std.proofs.lemmas.Int.{ints}
 use Rattle.grid_model.specs.Sizes.{IsWithin}
 use Rattle.grid_model.specs.declared.boxes.Pos.{Pos}
-use Rattle.code_search.specs.SearchSizes.{IsNearPoint}
+use Rattle.code_simulation.specs.SearchSizes.{IsNearPoint}
 use Rattle.made_input.specs.MadeCodes.{goal_by, tag_of, place_of}
 use Rattle.made_input.specs.MadeRecords.{mean_draw}
 use Rattle.made_input.proofs.CodeLemmas.{made_code}
