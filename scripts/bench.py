@@ -4,8 +4,8 @@
 usage: bench.py PROGRAM [--recorded FOLDER] [--quick] [--jobs N] [--out FILE] [--against FILE]
 
 The first epoch of each file is solved with 64, 512 and 4,096 splits, with `pairs = true` and
-without; its log is checked and judged, and its rows are paved again, which has to give the same
-log. For each command a row has millions of instructions, by callgrind; the user time of the
+without, and without renewed rows; its log is checked and judged, and its rows are paved again,
+which has to give the same log. For each command a row has millions of instructions, by callgrind; the user time of the
 processor, the least of five runs; and the peak of memory, by GNU time. FOLDER has recorded files
 NAME.obs and NAME.nav with settings NAME_dual.toml or NAME_single.toml, of which the first is taken
 where both are there; without one, or with --quick, the example alone is measured.

@@ -3,11 +3,12 @@
 
 usage: changed_logs.py PROGRAM FOLDER
 
-FOLDER has receiver.obs, receiver.nav and settings.toml, as crates/gpscover/data has. Two logs of their first three epochs
-are solved: one with the settings as they are, and one over a small box with wide bounds, so that there are
-boxes inside. Of the second epoch four satellites are left, and there and in the third one satellite lacks its
-code. Each number of each line goes up and down by one, and each line is dropped, doubled, put behind the next,
-and replaced by the line at its place in another epoch; of the `cut` lines one in eight. Prints two tables in Markdown.
+FOLDER has receiver.obs, receiver.nav and settings.toml, as crates/gpscover/data has. Three logs of their first three epochs
+are solved: one with the settings as they are, one over a small box with wide bounds, so that there are boxes inside, and
+one over a large box, whose rows are renewed. Of the second epoch four satellites are left, and there and in the third one
+satellite lacks its code. Each number of each line goes up and down by one, and each line is dropped, doubled, put behind
+the next, and replaced by the line at its place in another epoch; of the `cut` lines one in eight. Prints two tables in
+Markdown.
 """
 import collections
 import os
@@ -27,6 +28,7 @@ FIELDS = {
             "error hi", "sure lo", "sure hi"],  # the last two only where the troposphere is mapped by elevation
     "skip": ["satellite", "test"],
     "root": ["a coordinate"] * 6,
+    "renew": ["a coordinate"] * 6,
     "cut": ["box", "face", "bound"],
     "split": ["box", "axis"],
     "out": ["box"],
@@ -36,6 +38,7 @@ FIELDS = {
 }
 CUTS_FOR_ONE = 8
 WIDE = {"half": "half = 2000", "receiver": "receiver = [-30000, 30000]"}
+RENEWED = {"half": "half = 10000000\nrenew = true"}
 
 
 def without_code(epoch):
@@ -58,11 +61,16 @@ def three_epochs(text):
     return "".join(line + "\n" for line in kept)
 
 
-def with_wide_bounds(settings):
-    """The settings with other lines for the keys of WIDE."""
-    for key, line in WIDE.items():
+def with_lines(settings, lines):
+    """The settings with other lines for some keys."""
+    for key, line in lines.items():
         settings = re.sub(rf"^{key} = .*$", line, settings, flags=re.M)
     return settings
+
+
+def variants(settings):
+    """The settings of the logs, each with a name."""
+    return ("given", settings), ("wide", with_lines(settings, WIDE)), ("renewed", with_lines(settings, RENEWED))
 
 
 def stepped(word, by):
@@ -172,7 +180,7 @@ def main():
     numbers, wholes = collections.defaultdict(collections.Counter), collections.defaultdict(collections.Counter)
     count = 0
     with tempfile.TemporaryDirectory() as room, ThreadPoolExecutor(os.cpu_count()) as pool:
-        for name, text in (("given", settings), ("wide", with_wide_bounds(settings))):
+        for name, text in variants(settings):
             files, lines = solved(program, room, name, three_epochs(obs), nav, text)
             checks = Checks(program, files, room)
             changes = [((numbers, kind, field, way), changed) for kind, field, way, changed in number_changes(lines)]

@@ -6,7 +6,7 @@
         print(epoch.index, calendar(epoch.time), epoch.satellites, len(epoch.kept), "boxes")
         for kept in epoch.kept:
             low, high = kept.box[:3], kept.box[3:]      # corners in um
-            ...                                         # kept.inner, kept.clock
+            ...                                         # kept.inner, kept.clock, kept.rows
 
 Lengths are whole micrometres (um), as in the log. Times are picoseconds (ps) since 1980-01-06 00:00:00 GPS
 time. A box is a tuple (x, y, z of the low corner, x, y, z of the high corner) in the earth-fixed frame, whose ends belong
@@ -20,13 +20,14 @@ import datetime
 import sys
 from dataclasses import dataclass, field
 
-__all__ = ["epochs", "rules_of", "calendar", "Epoch", "Row", "Kept", "LogError", "SKIPS", "UM_PER_M", "PS_PER_MS"]
+__all__ = ["epochs", "rules_of", "calendar", "Epoch", "Row", "Renewal", "Kept", "LogError", "SKIPS", "UM_PER_M", "PS_PER_MS"]
 
 UM_PER_M = 1_000_000
 PS_PER_MS = 1_000_000_000
 
-# The first line of a log. By the second one, pairs of satellites may show a box empty too.
-HEADS = "gpscover 1", "gpscover 3"
+# The first line of a log. By the third one, pairs of satellites may show a box empty too. Behind all but the first one
+# rows may be renewed.
+HEADS = "gpscover 1", "gpscover 2", "gpscover 3"
 SKIPS = {
     "1": "a wanted code is missing",
     "2": "a code is out of range",
@@ -49,8 +50,17 @@ class Row:
     satellite: str
     place: tuple  # ((low, high) of x, of y, of z)
     range: tuple
-    error: tuple  # the widest one that is declared at a point of the search box
+    error: tuple  # the widest one that is declared at a point of the row's box: the search box, or that of a renewal
     sure: tuple  # what is declared at every point: from the greatest low end to the least high end, which may be less
+
+
+@dataclass
+class Renewal:
+    """Rows formed anew over a box that holds all boxes that are live where it stands; in use from there on."""
+
+    steps: int  # how many steps stand before it
+    box: tuple
+    rows: list  # of the same satellites as the epoch's first rows, in the same order
 
 
 @dataclass
@@ -60,6 +70,7 @@ class Kept:
     box: tuple
     inner: bool
     clock: tuple  # (low, high)
+    rows: list  # those in use where it was closed: the epoch's own list, or that of a renewal
 
 
 @dataclass
@@ -71,7 +82,8 @@ class Epoch:
     satellites  how many are usable
     few         whether these are too few, so that the epoch isn't paved
     outliers    how many of them may break their bounds
-    rows        what the log has of each usable satellite, as Row
+    rows        what the log has of each usable satellite over the search box, as Row
+    renewals    where it has rows over a smaller box, as Renewal
     skips       what it has of the others, as text: (satellite, the reason's number, which is a key of SKIPS, the field's or "")
     root        the search box, or None
     search      in a log of `track` the search box of the first epoch, which is that of the settings; else the root
@@ -87,6 +99,7 @@ class Epoch:
     few: bool
     outliers: int
     rows: list = field(default_factory=list)
+    renewals: list = field(default_factory=list)
     skips: list = field(default_factory=list)
     root: tuple = None
     search: tuple = None
@@ -102,54 +115,90 @@ def calendar(time):
     return (datetime.datetime(1980, 1, 6) + ms).isoformat(sep=" ", timespec="milliseconds")
 
 
-def close_box(epoch, box, words):
-    """Adds the box that an `in`, `edge` or `out` line closes."""
-    if words[0] == "out":
-        epoch.outs += 1
-    else:
-        epoch.kept.append(Kept(tuple(box), words[0] == "in", (int(words[-2]), int(words[-1]))))
-
-
-def halve(live, identity, axis, following):
-    """Puts the two halves of a box into the live boxes, under the next two numbers."""
-    low = live.pop(identity)
-    high = list(low)
-    middle = (low[axis] + low[axis + 3]) // 2
-    low[axis + 3], high[axis] = middle, middle + 1
-    live[following], live[following + 1] = low, high
-
-
-def fold_steps(epoch, lines):
-    """Takes the lines behind `root` up to `done`. A cut gives the box a new end at one of its faces."""
-    live, following = {0: list(epoch.root)}, 1
-    for line in lines:
-        words = line.split(" ")
-        if words[0] == "split":
-            halve(live, int(words[1]), int(words[2]), following)
-            following += 2
-        elif words[0] in ("out", "edge", "in"):
-            close_box(epoch, live.pop(int(words[1])), words)
-        elif words[0] == "cut":
-            axis, is_high = divmod(int(words[2]), 2)
-            live[int(words[1])][axis + 3 * is_high] = int(words[3])
-        elif words[0] == "done":
-            epoch.splits = int(words[1])
-            return
-        else:
-            raise ValueError
-    raise EOFError
-
-
 def row_of(words):
     """The row of a `sat` line. On one without a last pair the error is the same at every point."""
     ends = [int(word) for word in words[2:]]
     pairs = list(zip(ends[::2], ends[1::2], strict=True))
-    if len(pairs) not in (5, 6):
+    if words[0] != "sat" or len(pairs) not in (5, 6):
         raise ValueError
     return Row(words[1], tuple(pairs[:3]), pairs[3], pairs[4], pairs[-1])
 
 
-def read_block(words, outliers, lines):
+def next_words(lines):
+    """The words of the next line, which there has to be."""
+    line = next(lines, None)
+    if line is None:
+        raise EOFError
+    return line.split(" ")
+
+
+class Fold:
+    """The steps of an epoch as they come, with the boxes that are live and the rows that are in use."""
+
+    def __init__(self, epoch):
+        self.epoch, self.rows = epoch, epoch.rows
+        self.live, self.following, self.steps = {0: list(epoch.root)}, 1, 0
+
+    def close(self, words):
+        """Closes a box by an `in`, `edge` or `out` line."""
+        box = self.live.pop(int(words[1]))
+        if words[0] == "out":
+            self.epoch.outs += 1
+        else:
+            clock = int(words[-2]), int(words[-1])
+            self.epoch.kept.append(Kept(tuple(box), words[0] == "in", clock, self.rows))
+
+    def halve(self, identity, axis):
+        """Puts the two halves of a box into the live boxes, under the next two numbers."""
+        low = self.live.pop(identity)
+        high = list(low)
+        middle = (low[axis] + low[axis + 3]) // 2
+        low[axis + 3], high[axis] = middle, middle + 1
+        self.live[self.following], self.live[self.following + 1] = low, high
+        self.following += 2
+
+    def cut(self, identity, face, bound):
+        """Gives a box a new end at one of its faces."""
+        axis, is_high = divmod(face, 2)
+        self.live[identity][axis + 3 * is_high] = bound
+
+    def step(self, words):
+        """Takes a step."""
+        if words[0] == "split":
+            self.halve(int(words[1]), int(words[2]))
+        elif words[0] in ("out", "edge", "in"):
+            self.close(words)
+        elif words[0] == "cut":
+            self.cut(*map(int, words[1:4]))
+        else:
+            raise ValueError
+        self.steps += 1
+
+    def renew(self, words, lines):
+        """Takes the box of a `renew` line and the rows behind it: as many as the epoch has usable satellites."""
+        box = tuple(int(word) for word in words[1:])
+        if len(box) != 6:
+            raise ValueError
+        self.rows = [row_of(next_words(lines)) for _ in range(self.epoch.satellites)]
+        self.epoch.renewals.append(Renewal(self.steps, box, self.rows))
+
+
+def fold_steps(epoch, lines, renews):
+    """Takes the lines behind `root` up to `done`. Rows may be renewed where `renews` says so."""
+    fold = Fold(epoch)
+    for line in lines:
+        words = line.split(" ")
+        if words[0] == "done":
+            epoch.splits = int(words[1])
+            return
+        if words[0] == "renew" and renews:
+            fold.renew(words, lines)
+        else:
+            fold.step(words)
+    raise EOFError
+
+
+def read_block(words, outliers, lines, renews):
     """The epoch that a first line begins, and the line behind it, which is None at the end."""
     epoch = Epoch(int(words[1]), int(words[2]), int(words[3]), words[0] == "few", outliers)
     for line in lines:
@@ -160,7 +209,7 @@ def read_block(words, outliers, lines):
             epoch.skips.append((words[1], words[2], words[3] if len(words) > 3 else ""))
         elif words[0] == "root" and not epoch.few:
             epoch.root = tuple(int(word) for word in words[1:7])
-            fold_steps(epoch, lines)
+            fold_steps(epoch, lines, renews)
             return epoch, next(lines, None)
         elif epoch.few:
             return epoch, line
@@ -190,17 +239,18 @@ class Searches:
 
 def blocks(lines):
     """The epochs of a log's lines."""
-    if next(lines, None) not in HEADS:
+    head = next(lines, None)
+    if head not in HEADS:
         raise ValueError
     rules = next(lines, "").split(" ")
     if rules[0] != "rules":
         raise ValueError
-    line, searches = next(lines, None), Searches()
+    line, searches, renews = next(lines, None), Searches(), head != HEADS[0]
     while line is not None:
         words = line.split(" ")
         if words[0] not in ("epoch", "few"):
             raise ValueError
-        epoch, line = read_block(words, int(rules[1]), lines)
+        epoch, line = read_block(words, int(rules[1]), lines, renews)
         if not epoch.few:
             searches.add(epoch)
         yield epoch

@@ -77,7 +77,7 @@ class Drawn:
         if numbers is None:
             return
         self.rows += 1
-        for name, number, (low, high), room in zip(sample.NAMES, numbers, recheck.row_spans(row), files.rooms):
+        for name, number, (low, high), room in zip(sample.NAMES, numbers, recheck.row_spans(row), files.rooms(files.box)):
             low, high = low + room, high - room
             widths = self.bound_widths if name in ("lo", "hi") else self.widths
             widths.append(((high - low) / room, high - low, room))

@@ -6,7 +6,8 @@ usage: exact_extents.py LOG
 The positions and clock offsets that all but q rows allow are a union of convex bodies, one for each choice of q rows
 left out. With each range taken as linear around the middle of the kept boxes, which is true to a few mm within 300 m,
 these are polytopes: each corner is where four rows are at an end of their spans, so the extents of the union are
-those of the corners at which all but q rows hold. A line has the extents along local east, north, up and of the clock
+those of the corners at which all but q rows hold. Where rows were renewed, they are those in use where the last kept box
+was closed: the exact region of wider rows would be wider. A line has the extents along local east, north, up and of the clock
 offset in metres: those of the kept boxes, and behind each, by how many percent they are more than the exact ones. The
 last line has the means of the percentages. Numbers are floats, and prove nothing.
 
@@ -79,7 +80,7 @@ def exact_extents(rows, outliers, centre, axes):
 def excesses(epoch):
     """How wide the region of an epoch is, and by how many percent it is wider than the exact one, along each axis."""
     region = region_of(epoch)
-    exact = exact_extents(epoch.rows, epoch.outliers, region.origin, region.axes)
+    exact = exact_extents(epoch.kept[-1].rows, epoch.outliers, region.origin, region.axes)
     if exact is None:
         return None
     widths = [*region.widths(), region.clock[1] - region.clock[0]]

@@ -22,6 +22,11 @@ from coverlog import epochs
 TOP = Path(__file__).resolve().parent.parent
 # Four satellites, and a box of some two metres that is closed at the edge.
 ONE_BOX = (TOP / "examples/one-edge-box.log").read_text().splitlines()
+# Four satellites on the x, y and z axes, whose rows are renewed behind the second of four cuts: those of G01 and G05 by a
+# fifth of their errors. At a point x metres along the x axis the clock offset is within x - e to x + e by G01 and from -x - e
+# to -x + e by G05, with e of 5 m by the first rows and of 1 m by the renewed ones; all of it within 0.1 mm. G02 and G03 leave
+# 49 m. So a slab beyond |x| = e is shown empty, and the clock hull of the last box is within 2 m.
+RENEWED = (TOP / "examples/renewed-rows.log").read_text().splitlines()
 DATA = TOP / "crates/gpscover/data"
 
 # Five satellites of which one may fail, 20,000 km away on the axes, on the diagonal of x and y with 0.6 and 0.8, and
@@ -61,7 +66,7 @@ FEW, EPOCH, ROOT, DONE = 3, 6, 14, 24
 Forged = collections.namedtuple("Forged", "name command data answer")
 
 # What has to come at least once.
-WANTED = {f"no {number}" for number in range(50, 65)}
+WANTED = {f"no {number}" for number in range(50, 66)}
 WANTED |= {f"log 40 kind {kind}" for kind in range(1, 5)} | {f"rows 40 kind {kind}" for kind in range(1, 6)}
 
 
@@ -240,9 +245,213 @@ def pair_logs():
             yield f"version {version}, {more} um more, {step}", "judge", text(lines), answer
 
 
+# ---- renewals
+
+RENEW = 11  # its line in RENEWED, behind which come as many rows as in front of the root
+NEW_ROWS = RENEWED[RENEW : RENEW + 4]
+OLD_ROWS = RENEWED[3:7]
+BOX = (-6000000, -1000000, -1000000, 6250000, 1000000, 1000000)  # what the first two cuts leave
+SEARCH = (-8000000, -1000000, -1000000, 8000000, 1000000, 1000000)
+CUTS_LEAVE = "edge 0 -11000000 11000000"  # of BOX, by the first rows
+MANY = 50_000
+
+
+def renew_line(ends, k=0, by=0):
+    """The line of a renewal over a box, of which one end is so much off."""
+    return " ".join(["renew", *(str(end + by * (place == k)) for place, end in enumerate(ends))])
+
+
+def renewal(ends=BOX, rows=NEW_ROWS):
+    """The lines of a renewal."""
+    return [renew_line(ends), *rows]
+
+
+def with_renewals(*renewals, behind=()):
+    """The log with these lines between its first two cuts and its `done`."""
+    return [*RENEWED[: RENEW - 1], *(line for lines in renewals for line in lines), *behind, RENEWED[-1]]
+
+
+def renewed_boxes():
+    """Boxes of renewals, which have to lie in the root and to hold each live box."""
+    for k in range(6):
+        inward = 1 if k < 3 else -1
+        yield put(RENEWED, RENEW, renew_line(BOX, k, inward)), f"no 65 BadRenew line {RENEW}"
+        yield put(RENEWED, RENEW, renew_line(SEARCH, k, -inward)), f"no 65 BadRenew line {RENEW}"
+    yield put(RENEWED, RENEW, renew_line(SEARCH)), "yes 1"
+    for k, outward in (0, -1), (3, 1):
+        yield put(RENEWED, RENEW, renew_line(BOX, k, outward)), "yes 1"
+    # Of two halves both have to lie in it, and only one that was closed needn't. The rules have a split then.
+    halves = changed(RENEWED, {2: "rules 0 1 1000000", len(RENEWED): "done 1"})
+    halves = [*halves[:10], "split 0 0", *halves[10:15], *(f"edge {k} -11000000 11000000" for k in (1, 2)), halves[-1]]
+    low, high = (*BOX[:3], 125000, *BOX[4:]), (125001, *BOX[1:])
+    yield halves, "yes 2"
+    for half in low, high:
+        yield put(halves, 12, renew_line(half)), "no 65 BadRenew line 12"
+    first = [*halves[:11], halves[16], *halves[11:16], *halves[17:]]
+    for half, answer in (high, "yes 2"), (low, "no 65 BadRenew line 13"), ((*high[:3], 125001, *high[4:]), None):
+        yield put(first, 13, renew_line(half)), answer or "no 65 BadRenew line 13"
+    # No box is live at the end.
+    last = [CUTS_LEAVE, *renewal((0,) * 6)]
+    yield with_renewals(last), "yes 1"
+    yield with_renewals([CUTS_LEAVE, *renewal((8000001, 0, 0, 8000001, 0, 0))]), "no 65 BadRenew line 12"
+
+
+def renewed_as_before():
+    """Renewals with the first rows again."""
+    again = with_renewals(renewal(rows=OLD_ROWS), behind=[CUTS_LEAVE])
+    yield again, "yes 1"
+    yield put(again, 1, "gpscover 1"), "log 40 BadLog line 11 kind 2"
+    yield put(again, 11, again[10].replace("-6000000", "-5999999")), "no 65 BadRenew line 11"
+    yield put(again, 14), "log 40 BadLog line 15 kind 2"
+    yield put(again, 12, again[11].replace("G01", "G04")), "no 52 SatelliteDiffers line 12"
+
+
+def renewed_satellites():
+    """Rows of renewals: of the same satellites in the same order, as many, and the last ones are those in use."""
+    yield put(RENEWED, 12, NEW_ROWS[0].replace("G01", "G04")), "no 52 SatelliteDiffers line 12"
+    yield changed(RENEWED, {14: NEW_ROWS[3], 15: NEW_ROWS[2]}), "no 52 SatelliteDiffers line 14"
+    yield put(RENEWED, 13, NEW_ROWS[0]), "no 52 SatelliteDiffers line 13"
+    yield put(RENEWED, 15, NEW_ROWS[3].replace("G05", "E05")), "no 52 SatelliteDiffers line 15"
+    yield put(RENEWED, 15, NEW_ROWS[3] + " 0 0"), "yes 1"
+    # Each row is as it is said, without the files: a row of another place, and its offsets, are taken.
+    far = NEW_ROWS[0].replace("20000000000000 20000000000000 -", "20000010000000 20000010000000 -")
+    yield put(RENEWED, 12, far), "no 57 CutNotShown line 16"
+    yield with_renewals(renewal(rows=[far, *NEW_ROWS[1:]]), behind=["out 0"]), "no 58 OutNotShown line 16"
+    farther = far.replace("20000010000000", "20000013000000")
+    yield with_renewals(renewal(rows=[farther, *NEW_ROWS[1:]]), behind=["out 0"]), "no 58 OutNotShown line 16"
+    farthest = far.replace("20000010000000", "20000063000000")
+    yield with_renewals(renewal(rows=[farthest, *NEW_ROWS[1:]]), behind=["out 0"]), "yes 0"
+
+
+def rows_in_use():
+    """Steps that only the rows in use show, or don't."""
+    yield before(RENEWED, RENEW, "cut 0 1 1000000"), f"no 57 CutNotShown line {RENEW}"
+    yield before(RENEWED, RENEW, "cut 0 1 5000000"), "yes 1"
+    yield put(RENEWED, 16, "cut 0 0 -999999"), "no 57 CutNotShown line 16"
+    yield put(RENEWED, 18, "edge 0 -1999999 2000000"), "no 60 ClockNarrow line 18"
+    yield put(RENEWED, 18, "edge 0 -2000000 1999999"), "no 60 ClockNarrow line 18"
+    yield put(RENEWED, 18, "in 0 0 -2000000 2000000"), "yes 1"
+    yield put(RENEWED, 18, "in 0 1 -2000000 2000000"), "no 59 InNotShown line 18"
+    closed = [CUTS_LEAVE, CUTS_LEAVE.replace("11000000 ", "10999999 ")]
+    for edge, answer in zip(closed, ("yes 1", "no 60 ClockNarrow line 11")):
+        yield with_renewals([edge]), answer
+    # By the renewed rows the clock hull of the same box reaches 4 m less far to both sides.
+    for ends, answer in (("-7000000 7000000", "yes 1"), ("-6999999 7000000", "no 60 ClockNarrow line 16"),
+                         ("-7000000 6999999", "no 60 ClockNarrow line 16")):
+        yield with_renewals(renewal(), behind=[f"edge 0 {ends}"]), answer
+    # They may be renewed in front of the first step, with the root.
+    rest = RENEWED[15:18]
+    for rows, answer in (OLD_ROWS, "no 57 CutNotShown line 16"), (NEW_ROWS, "yes 1"):
+        yield [*RENEWED[:8], *renewal(SEARCH, rows), *RENEWED[8:10], *rest, RENEWED[-1]], answer
+    # Rows may be wider than those before, and the box larger.
+    yield with_renewals(renewal(), renewal(), behind=rest), "yes 1"
+    yield with_renewals(renewal(rows=OLD_ROWS), renewal(), behind=rest), "yes 1"
+    yield with_renewals(renewal(), renewal(rows=OLD_ROWS), behind=rest), "no 57 CutNotShown line 21"
+    yield with_renewals(renewal(), renewal(SEARCH), behind=rest), "yes 1"
+    yield with_renewals(renewal(), renewal((*BOX[:5], 999999)), behind=rest), "no 65 BadRenew line 16"
+    # What is sure is that of the rows in use: with errors of 3 m a box is inner at the offset 0 up to |x| = 3 m.
+    wide = [row.replace("-1000000 1000000", "-3000000 3000000") for row in NEW_ROWS]
+    less = [wide[0] + " -2999999 3000000", *wide[1:]]
+    for rows, low, answer in (wide, 3000000, "yes 1"), (wide, 3000001, "no 59 InNotShown line 18"), (
+            less, 3000000, "no 59 InNotShown line 18"):
+        steps = [f"cut 0 0 -{low}", "cut 0 1 3000000", "in 0 0 -7000000 7000000"]
+        yield with_renewals(renewal(rows=rows), behind=steps), answer
+    narrow = [*rest[:2], *renewal(rows=wide)]
+    yield with_renewals(renewal(), behind=[*narrow, "in 0 2000000 -4000000 4000000"]), "yes 1"
+    yield with_renewals(renewal(), behind=[*rest[:2], "in 0 2000000 -4000000 4000000"]), "no 59 InNotShown line 18"
+
+
+def many_renewals():
+    """Very many renewals, and very many rows."""
+    rest = RENEWED[15:18]
+    many = [renewal()] * MANY
+    yield with_renewals(*many, behind=rest), "yes 1"
+    bad = [renew_line(BOX, 0, 1), *NEW_ROWS]
+    yield with_renewals(*many, bad, behind=rest), f"no 65 BadRenew line {RENEW + 5 * MANY}"
+    yield with_renewals(*many, renewal(rows=OLD_ROWS), behind=rest), f"no 57 CutNotShown line {RENEW + 5 * (MANY + 1)}"
+    yield with_renewals(*many, behind=rest)[:-1], f"log 40 BadLog line {RENEW + 5 * MANY + 3} kind 4"
+    # 64 rows in front of the root, and behind each renewal.
+    names = [f"G{number:02}" for number in range(6, 66)]
+    old, new = ([*rows, *(rows[1].replace("G02", name) for name in names)] for rows in (OLD_ROWS, NEW_ROWS))
+    head = [*RENEWED[:2], RENEWED[2][:-1] + "64", *old, *RENEWED[7:10]]
+    yield [*head, *renewal(rows=new), *renewal(rows=new), *rest, RENEWED[-1]], "yes 1"
+    yield [*head, *renewal(rows=[*new, new[-1]]), *rest, RENEWED[-1]], "log 40 BadLog line 136 kind 2"
+    # Lines of satellites that aren't used don't count behind the root.
+    skips = [f"skip {name} 1" for name in names]
+    yield [*RENEWED[:7], *skips, *RENEWED[7:]], "yes 1"
+
+
+def renewals_that_do_not_fit():
+    """Renewals where none may stand, and lines that don't fit."""
+    kind_2 = f"log 40 BadLog line {RENEW} kind 2"
+    yield put(RENEWED, 1, "gpscover 1"), kind_2
+    yield put(RENEWED, 1, "gpscover 3"), "yes 1"
+    for line in ("renew", "renew ", "renew -6000000 -1000000 -1000000 6250000 1000000", renew_line(BOX) + " 0",
+                 renew_line(BOX) + " ", renew_line(BOX).replace(" ", "  ", 1), renew_line(BOX) + "\r",
+                 "renew 6250001 -1000000 -1000000 6250000 1000000 1000000", renew_line(BOX, 5, 10**13),
+                 renew_line(BOX, 0, -(10**13)), "renew -06000000 -1000000 -1000000 6250000 1000000 1000000"):
+        yield put(RENEWED, RENEW, line), f"log 40 BadLog line {RENEW} kind 3"
+    for line in "Renew" + renew_line(BOX)[5:], " " + renew_line(BOX), renew_line(BOX).replace(" ", "\t", 1), "renews":
+        yield put(RENEWED, RENEW, line), kind_2
+    for number in 3, 4, 8:
+        yield before(RENEWED, number, renew_line(BOX)), f"log 40 BadLog line {number} kind 2"
+    yield [*RENEWED, *renewal()], "log 40 BadLog line 20 kind 2"
+    yield [*RENEWED, "few 2 1388102400000000000000 0", renew_line(BOX)], "log 40 BadLog line 21 kind 2"
+    # Among the rows there is nothing else, and they are as many as those in front of the root.
+    for line in "skip G05 1", "cut 0 0 -1000000", "done 0", renew_line(BOX), "epoch 2 0 4", "root 0 0 0 0 0 0", "":
+        for number in 12, 15:
+            yield put(RENEWED, number, line), f"log 40 BadLog line {number} kind 2"
+    yield put(RENEWED, 15), "log 40 BadLog line 15 kind 2"
+    yield before(RENEWED, 16, NEW_ROWS[3]), "log 40 BadLog line 16 kind 2"
+    yield before(RENEWED, 18, NEW_ROWS[3]), "log 40 BadLog line 18 kind 2"
+    yield put(RENEWED, 13, NEW_ROWS[1] + " 0"), "log 40 BadLog line 13 kind 3"
+    yield put(RENEWED, 13, NEW_ROWS[1].replace(" 0 0 ", " 1 0 ", 1)), "log 40 BadLog line 13 kind 3"
+    for count in range(RENEW, RENEW + 5):
+        yield RENEWED[:count], f"log 40 BadLog line {count + 1} kind 4"
+    # The number of the rows is that of line 3, whatever a test says of it; there may be none.
+    none = [*RENEWED[:2], RENEWED[2][:-1] + "0", RENEWED[7], renew_line(SEARCH), "edge 0 0 0", "done 0"]
+    yield none, "no 51 EpochDiffers line 3"
+    yield before(none, 6, NEW_ROWS[0]), "log 40 BadLog line 6 kind 2"
+    yield put(RENEWED, 3, RENEWED[2][:-1] + "5"), "log 40 BadLog line 16 kind 2"
+    yield put(RENEWED, 3, RENEWED[2][:-1] + "3"), "log 40 BadLog line 15 kind 2"
+
+
+def pairs_by_renewed_rows():
+    """Two rows of one place that are renewed with ranges so far apart that pairs of rows show the box empty."""
+    row = ONE_BOX[3].replace("G01", "G02")
+    far = row.replace(" 20000000000000 20000000000000 -", " 20000001100000 20000001100000 -")
+    rows = [ONE_BOX[3], row, *ONE_BOX[5:7]]
+    box = "renew" + ONE_BOX[7][4:]
+    head = [*ONE_BOX[:3], *rows, ONE_BOX[7]]
+    new = [ONE_BOX[3], far, *ONE_BOX[5:7]]
+    for version, answer in (2, "no 58 OutNotShown line 14"), (3, "yes 0"):
+        yield put([*head, box, *new, "out 0", "done 0"], 1, f"gpscover {version}"), answer
+        yield put([*head[:4], far, *head[5:], box, *rows, "out 0", "done 0"], 1, f"gpscover {version}"), (
+            "no 58 OutNotShown line 14")
+
+
+def short_renewals():
+    """All logs with renewals but the longest ones, each with what `judge` says of it."""
+    yield RENEWED, "yes 1"
+    for table in (renewed_boxes, renewed_as_before, renewed_satellites, rows_in_use, renewals_that_do_not_fit,
+                  pairs_by_renewed_rows):
+        yield from table()
+
+
+def renewal_logs():
+    """Logs with renewals."""
+    for table in short_renewals, many_renewals:
+        for number, (lines, answer) in enumerate(table()):
+            yield f"{table.__name__} {number}", "judge", text(lines), answer
+    rows = RENEWED[:8]
+    yield "rows of version 2", "pave", text(rows), "rows 40 BadLog line 1 kind 1"
+    yield "rows with a renewal", "pave", text(put(rows, 1, "gpscover 3") + renewal()), "rows 40 BadLog line 9 kind 2"
+
+
 def verdicts():
     """Verdicts on the log with all kinds of lines."""
     yield "with all, as it is", "judge", text(WITH_ALL), "yes 3"
+    yield "with all, by version 2", "judge", text(put(WITH_ALL, 1, "gpscover 2")), "yes 3"
     for changes, answer in VERDICTS:
         yield f"with all, {changes}", "judge", text(changed(WITH_ALL, changes)), answer
     for lines, answer in (
@@ -266,7 +475,8 @@ def verdicts():
 # ---- refusals of the log with all kinds of lines
 
 WRONG_HEADS = {
-    1: ("gpscover 2", "gpscover 1 ", " gpscover 1", "gpscover  1", "gpscover 01", "gpscover", "Gpscover 1", "",
+    1: ("gpscover 02", "gpscover 2 ", "gpscover 0", "gpscover 1 ", " gpscover 1", "gpscover  1", "gpscover 01", "gpscover",
+        "Gpscover 1", "",
         "gpscover 3 ", "gpscover 03", "gpscover 4", "gpscover 13", "gpscover 1 3", "gpscover -3"),
     2: ("rules 9 3 1000000", "rules 1 200001 1000000", "rules 1 3 999", "rules 1 3 10000000001", "rules 1 3",
         "rules 1 3 1000000 0", "rules -1 3 1000000", "rules 01 3 1000000", "rules 1 3 1000000 ", "rule 1 3 1000", ""),
@@ -461,6 +671,14 @@ class Files:
         """The lines with one number changed by so much."""
         return self.with_words(line, {place: self.number(line, place) + by})
 
+    def root_ends(self):
+        """The ends of the first epoch's root."""
+        return [self.number(self.root, place) for place in range(1, 7)]
+
+    def rows(self):
+        """The rows of the first epoch."""
+        return [line for line in self.lines[self.heads[0] : self.root - 1] if line.startswith("sat ")]
+
 
 def checked_logs(files):
     """Logs that `check` tests against the files."""
@@ -470,6 +688,7 @@ def checked_logs(files):
         for by in 1, -1:
             yield "other rules", files.stepped(2, place, by), "no 50 RulesDiffer line 2"
     yield "another version", put(lines, 1, "gpscover 3"), "no 50 RulesDiffer line 2"
+    yield "version 2", put(lines, 1, "gpscover 2"), f"yes {files.boxes}"
     for head in files.heads:
         for place in 1, 2:
             yield "another index or time", files.stepped(head, place, 1), f"no 51 EpochDiffers line {head}"
@@ -488,6 +707,7 @@ def checked_logs(files):
         for by in 1, -1:
             yield "another root", files.stepped(files.root, place, by), f"no 55 RootDiffers line {files.root}"
     yield from step_logs(files, lines)
+    yield from checked_renewals(files)
 
 
 def satellite_logs(files, lines):
@@ -562,11 +782,60 @@ def step_logs(files, lines):
         yield "another count", files.stepped(done, 1, by), f"no 64 CountDiffers line {done}"
 
 
+def checked_renewals(files):
+    """Renewals by `check`, behind the root of the first epoch. Its rows, which are wider than own ones by the room of the
+    root, hold the own rows over any box in it: both hold what the equations allow at a point of that box, and those over
+    the box are at most as wide as the room of the root."""
+    lines, root = put(files.lines, 1, "gpscover 2"), files.root
+    rows, ends = files.rows(), files.root_ends()
+
+    def renewed(rows=rows, ends=ends, at=root + 1, log=lines):
+        return before(log, at, *renewal(ends, rows))
+
+    yield "renewed rows", renewed(), f"yes {files.boxes}"
+    yield "renewed twice", renewed(log=renewed()), f"yes {files.boxes}"
+    yield "renewed by version 1", renewed(log=files.lines), f"log 40 BadLog line {root + 1} kind 2"
+    yield "renewed by version 3", renewed(log=put(lines, 1, "gpscover 3")), "no 50 RulesDiffer line 2"
+    # No box is live at the end, so any box in the root will do.
+    point = [*ends[:3], *ends[:3]]
+    yield "renewed at the end", renewed(ends=point, at=files.done), f"yes {files.boxes}"
+    for k in range(6):
+        for by in 1, -1:
+            other = [end + by * (place == k) for place, end in enumerate(ends)]
+            yield "a box that isn't the root", renewed(ends=other), f"no 65 BadRenew line {root + 1}"
+    yield "a row less", renewed(rows[1:]), f"log 40 BadLog line {root + 1 + len(rows)} kind 2"
+    yield "a row more", renewed(rows + rows[-1:]), f"log 40 BadLog line {root + 2 + len(rows)} kind 2"
+    yield "rows swapped", renewed([*rows[:3], rows[4], rows[3], *rows[5:]]), f"no 52 SatelliteDiffers line {root + 5}"
+    yield "a row twice", renewed([*rows[:3], rows[2], *rows[4:]]), f"no 52 SatelliteDiffers line {root + 5}"
+    yield "a satellite that isn't used", renewed(["sat G01" + rows[0][7:], *rows[1:]]), (
+        f"no 52 SatelliteDiffers line {root + 2}")
+    # A row of which a span is moved by its length, so that the own one isn't held; and of other bounds.
+    words = rows[2].split()
+    for low in 2, 4, 6, 8:
+        old = [int(word) for word in words[low : low + 2]]
+        new = [end + old[1] - old[0] for end in old]
+        row = " ".join([*words[:low], *map(str, new), *words[low + 2 :]])
+        answer = f"no 53 RowNarrow line {root + 4} theirs {new[0]} {new[1]} ours"
+        yield "a row of another place", renewed([*rows[:2], row, *rows[3:]]), (answer, old)
+    for place in 10, 11:
+        row = " ".join([*words[:place], str(int(words[place]) + 1), *words[place + 1 :]])
+        yield "a row of other bounds", renewed([*rows[:2], row, *rows[3:]]), f"no 54 BoundDiffers line {root + 4}"
+    yield "a row of what is less sure", renewed([*rows[:2], rows[2] + " 0 0", *rows[3:]]), f"no 54 BoundDiffers line {root + 4}"
+
+
 def checked_rules(files):
     """50, 61 and 62 by `check`, whose rules are those of the settings: the settings are changed with them."""
     by_pairs = re.sub(r"(?m)^(max_age = .*)$", r"\1\npairs = true", files.settings)
     yield by_pairs, files.lines, "no 50 RulesDiffer line 2"
     yield by_pairs, put(files.lines, 1, "gpscover 3"), f"yes {files.boxes}"
+    yield by_pairs, put(files.lines, 1, "gpscover 2"), "no 50 RulesDiffer line 2"
+    renewed = before(put(files.lines, 1, "gpscover 3"), files.root + 1, *renewal(files.root_ends(), files.rows()))
+    yield by_pairs, renewed, f"yes {files.boxes}"
+    # Whether the settings ask for renewed rows is for `solve` alone.
+    for value in "true", "false":
+        renewing = re.sub(r"(?m)^(max_age = .*)$", rf"\1\nrenew = {value}", files.settings)
+        for version in 1, 2:
+            yield renewing, put(files.lines, 1, f"gpscover {version}"), f"yes {files.boxes}"
     side = files.number(files.root, 4) - files.number(files.root, 1)
     splits = [at for at, line in enumerate(files.lines, 1) if line.startswith("split ")]
     less = files.number(2, 2) - 1  # than the first epoch has
@@ -652,7 +921,7 @@ def main(program):
     files = Files()
     with tempfile.TemporaryDirectory() as folder:
         runner = Runner(os.path.abspath(program), folder, files)
-        for table in one_box_logs(), pair_logs(), verdicts(), refusals(), refused_rows():
+        for table in one_box_logs(), pair_logs(), renewal_logs(), verdicts(), refusals(), refused_rows():
             for row in table:
                 runner.expect(Forged(*row))
         for name, lines, answer in checked_logs(files):

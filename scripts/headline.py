@@ -1,5 +1,5 @@
 #!/usr/bin/env python3
-"""Makes docs/HEADLINE.md: from the README's sentence down to the definitions, in ten links.
+"""Makes docs/HEADLINE.md: from the README's sentence down to the definitions, in ten links, and renewed rows.
 
 usage: headline.py > docs/HEADLINE.md
 
@@ -22,9 +22,10 @@ HEAD = """# From the headline down to the definitions
 
 {sentence}
 
-Ten links lead from this sentence of the README to the equations. What stands in a frame is copied from the file above
-it by `scripts/headline.py`, which fails where a name is gone. `×` reads 'and', `⊎` reads 'or', `→` reads 'implies' or
-'for all', `≡` reads 'is', `(x : T) ×` reads 'there is an x', and a record is the conjunction of its fields.
+Ten links lead from this sentence of the README to the equations, and an eleventh says what renewed rows are. What
+stands in a frame is copied from the file above it by `scripts/headline.py`, which fails where a name is gone. `×`
+reads 'and', `⊎` reads 'or', `→` reads 'implies' or 'for all', `≡` reads 'is', `(x : T) ×` reads 'there is an x', and
+a record is the conjunction of its fields.
 """
 WIDTH = 118
 
@@ -64,15 +65,24 @@ LINKS = (
     ),
     (
         "An accepted log",
-        "It passes every test against rows of the checker's own, and it covers.",
-        (("crates/paving_log_check/specs/Checked.antt", "IsAccepted"),),
+        "It passes every test against rows of the checker's own, and it covers. These rows are given for the whole search"
+        " box, and where the log renews its rows for a smaller box, for that one too: to each line of a renewal belongs an"
+        " own row of its satellite over that box.",
+        (
+            ("crates/paving_log_check/specs/Checked.antt", "IsAccepted"),
+            ("crates/paving_log_check/specs/Admissible.antt", "Admissible"),
+            ("crates/paving_log_check/specs/OwnLines.antt", "OwnLines"),
+            ("crates/paving_log_check/specs/OwnLines.antt", "IsOwnOf"),
+        ),
     ),
     (
         "In every paved epoch",
-        "Each epoch of the file has its block, and each block that has a root covers what fits at the epoch's time.",
+        "Each epoch of the file has its block, and each block that has a body, which one of few satellites lacks, covers what"
+        " fits at the epoch's time. Its boxes are those of its steps: a renewal changes none.",
         (
             ("crates/paving_log_check/specs/FileCover.antt", "FileCover"),
             ("crates/paving_log_check/specs/FileCover.antt", "BlocksFitCover"),
+            ("crates/paving_log_check/specs/FileCover.antt", "FitBodyCover"),
         ),
     ),
     (
@@ -113,10 +123,48 @@ LINKS = (
     ),
     (
         "Every log that `solve` completes is one that `check` accepts",
-        "The second half of the sentence is the contract of a call with an empty body.",
+        "The second half of the sentence is the contract of a call with an empty body. The settings tell `solve` whether it"
+        " renews rows; `check` takes either log.",
         (
             ("crates/cover_run/src/accepting.rt", "accepted"),
             ("crates/cover_run/specs/Accepting.antt", "SolvesThenChecks"),
+        ),
+    ),
+    (
+        "Renewed rows",
+        "A row holds what the equations allow of a satellite at every point of a box, so the smaller the box, the narrower"
+        " the row. Where all that is left of an epoch lies in a small box, a log may give the rows anew for that one, and from"
+        " there on boxes are tested by them. What stands behind a root is one list of events, steps and renewals; version 1"
+        " of the log is the case without renewals, of which every definition here speaks too.",
+        (
+            ("crates/sat_model/specs/Logs.antt", "LogValue"),
+            ("crates/sat_model/specs/Logs.antt", "Body"),
+            ("crates/sat_model/specs/Events.antt", "RowsOver"),
+            ("crates/sat_model/specs/Events.antt", "Event"),
+        ),
+        "Each event is tested where it stands: a step by the rows in use, a renewal by the boxes that are live. Its box lies in"
+        " the root and holds each of them, and line i of it is of the i-th satellite. `Meets` is what is asked of a line besides:"
+        " nothing by `judge`, and by `check` that it holds the own row in its place.",
+        (
+            ("crates/sat_model/specs/Verdicts.antt", "EventsPass"),
+            ("crates/sat_model/specs/Renewals.antt", "RenewalPasses"),
+            ("crates/sat_model/specs/Renewals.antt", "HoldsLive"),
+        ),
+        "What the rows of a log claim by themselves goes satellite by satellite: one is possible at a point by all of its rows"
+        " whose box holds that point, and an inner box is sure by the rows in use at its step.",
+        (
+            ("crates/sat_model/specs/Cover.antt", "Covers"),
+            ("crates/sat_model/specs/Cover.antt", "IsPossibleByAll"),
+            ("crates/sat_model/specs/Cover.antt", "AreSureFrom"),
+        ),
+        "`solve` paves block after block. A source gives each, and says which rows may be given anew for the boxes of the one in"
+        " hand; a body has the events of a whole run by that maker. What a fault leaves are finished blocks and the first lines"
+        " of one in hand, of which it isn't said that its run goes on.",
+        (
+            ("crates/log_writer/specs/Sources.antt", "Source"),
+            ("crates/log_writer/specs/Pavings.antt", "HasRun"),
+            ("crates/log_writer/specs/Pavings.antt", "HasBegun"),
+            ("crates/log_writer/specs/Texts.antt", "IsBegun"),
         ),
     ),
 )
@@ -180,9 +228,11 @@ def sentence():
 def page():
     """The whole page."""
     parts = [HEAD.format(sentence=sentence())]
-    for number, (title, text, names) in enumerate(LINKS, 1):
-        parts.append(f"## {number}. {title}\n" + (f"\n{textwrap.fill(text, WIDTH)}\n" if text else ""))
-        parts += [frame(path, name) for path, name in names]
+    for number, (title, *passages) in enumerate(LINKS, 1):
+        parts.append(f"## {number}. {title}\n")
+        for text, names in zip(passages[::2], passages[1::2]):
+            parts += [f"{textwrap.fill(text, WIDTH)}\n"] if text else []
+            parts += [frame(path, name) for path, name in names]
     return "\n".join(parts)
 
 

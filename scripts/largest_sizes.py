@@ -352,6 +352,21 @@ def log_sizes(sizes):
     folder.remove("large.log", "block")
 
 
+def many_renewals(sizes):
+    """A log of one epoch that is filled with renewals, up to 512 MiB."""
+    folder = sizes.folder
+    lines = whole_text("renewed-rows.log", EXAMPLES).splitlines(keepends=True)
+    before, renewal, behind = ("".join(lines[first:last]) for first, last in ((0, 10), (10, 15), (15, None)))
+    count = (LOG - len(before) - len(behind)) // len(renewal)
+    with open(folder.path / "large.log", "w", newline="\n") as file:
+        file.write(before)
+        file.writelines(renewal for _ in range(count))
+        file.write(behind)
+    what = f"a log of {folder.size('large.log'):,} bytes, {count:,} renewals of 4 rows in one epoch"
+    sizes.run(Case(what, ["judge", "large.log"], 0, "yes 1"))
+    folder.remove("large.log")
+
+
 def copied(path, file):
     """Copies a file to an open one in pieces, and gives how many bytes these were."""
     count = 0
@@ -379,7 +394,7 @@ def main(program):
             folder.write(name, whole_text(name))
         sizes = Sizes(os.path.abspath(program), folder)
         for part in (settings_sizes, navigation_sizes, observation_sizes, satellite_sizes, split_sizes, rows_sizes,
-                     log_sizes, full_log):
+                     log_sizes, many_renewals, full_log):
             part(sizes)
     head = ["what", "run", "processor time", "peak memory", "status", "line"]
     for cells in head, ["---"] * len(head), *sizes.rows:

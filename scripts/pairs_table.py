@@ -4,12 +4,13 @@
 usage: pairs_table.py PROGRAM OBS NAV SETTINGS [OBS NAV SETTINGS ...] [--outliers Q ...] [--halves M ...] [--splits N ...]
                       [--all]
 
-The first epoch of each OBS is solved by its SETTINGS with each number of outliers at the first half side, and with each half side
-in metres at the number of outliers that the settings name; with --all, with each pair of them. Each is done with each number of
-splits, once with `pairs = true` and once without. A row of the table has for both the cuts and the bytes of the log, the processor
-time of `pave` on its rows (user, the least of five runs), and by how many percent the region reaches further than the exact one
-along east, north and up (`exact_extents.py`), or `none` where no position fits. PROGRAM is the built program. A run that isn't
-accepted by `check` ends the table, as does a log by `pave` that differs from that of `solve`.
+The first epoch of each OBS is solved by its SETTINGS with each number of outliers at the first half side, and with each half
+side in metres at the number of outliers that the settings name; with --all, with each pair of them. Each is done with each
+number of splits, once with `pairs = true` and once without. A row of the table has for both the cuts and the bytes of the log,
+the processor time of `pave` on its rows (user, the least of five runs; rows aren't renewed), and by how many percent the region
+reaches further than the exact one along east, north and up (`exact_extents.py`), or `none` where no position fits. PROGRAM is
+the built program. A run that isn't accepted by `check` ends the table, as does a log by `pave` that differs from that of
+`solve`.
 
 Exit status: 0; 1 where a run fails or a file can't be read; 2 for a wrong command line.
 """
@@ -40,9 +41,9 @@ def setting(text, key, value):
 
 
 def with_values(settings, values, pairs):
-    """The text of settings with other values in the table [search]."""
+    """The text of settings with other values in the table [search]; rows aren't renewed, as `pave` doesn't either."""
     text = Path(settings).read_text(encoding="utf-8")
-    for key, value in (*values.items(), ("pairs", str(pairs).lower())):
+    for key, value in (*values.items(), ("pairs", str(pairs).lower()), ("renew", "false")):
         text = setting(text, key, value)
     return text
 

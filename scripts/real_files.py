@@ -10,6 +10,7 @@ line is `real files: N passed, M failed`, with how many were left out since the 
 them, and the status 1 where one failed.
 """
 import os
+import re
 import resource
 import shutil
 import signal
@@ -21,6 +22,7 @@ import time
 import unittest
 from pathlib import Path
 
+import coverlog
 import made_files
 import testing
 
@@ -66,6 +68,36 @@ NOBODY = 65534
 def closings(log):
     """How many lines of the log close a box, of those with these words."""
     return lambda *words: sum(line.split()[0] in words for line in log.splitlines())
+
+
+def longest(box):
+    """The longest side of a box."""
+    return max(high - low for low, high in zip(box[:3], box[3:]))
+
+
+def renewals(log):
+    """The `renew` lines that the steps of a log ask for, and those that are there: the number of the line, and the box.
+
+    Behind a split that brings the splits of the epoch to a power of two they are asked for where the box of the rows in use
+    is at least twice as long as the hull of the live boxes, all of which are waiting there.
+    """
+    asked, found = [], []
+    for number, line in enumerate(log.decode().splitlines(), 1):
+        word, *fields = line.split(" ")
+        if word == "root":
+            box, splits = tuple(map(int, fields)), 0
+            fold = coverlog.Fold(coverlog.Epoch(1, 0, 0, False, 0, root=box))
+        elif word == "renew":
+            box = tuple(map(int, fields))
+            found.append((number, box))
+        elif word in ("cut", "split", "out", "in", "edge"):
+            fold.step([word, *fields])
+            splits += word == "split"
+            ends = list(zip(*fold.live.values()))
+            if word == "split" and splits & (splits - 1) == 0:
+                hull = (*map(min, ends[:3]), *map(max, ends[3:]))
+                asked += [(number + 1, hull)] * (0 < longest(box) >= 2 * longest(hull))
+    return asked, found
 
 
 def day(lines):
@@ -364,6 +396,40 @@ class RealFiles(unittest.TestCase):
         few = b"gpscover 1\nrules 1 4096 1000000\nfew 1 1388620800000000000000 0\n" + skips
         self.assertEqual(self.read("part.log"), few)
         self.expect(["check", *DAY, "part.log", "--to", "1"], 0, b"yes 0\n")
+
+    def test_rows_are_renewed(self):
+        plain = self.read("settings.toml").replace(b"half = 200000\n", b"half = 10000000\n")
+        plain = plain.replace(b"bisections = 12\n", b"bisections = 40\n")
+        mapped = re.sub(rb"(?m)^troposphere = .*$", b"troposphere = [0, 0]\nzenith = [1800, 3000]", plain)
+        for settings, pairs, command, check in (
+            (plain, b"", "solve", "check"), (plain, b"pairs = true\n", "solve", "check"), (mapped, b"", "solve", "check"),
+            (plain + b"[motion]\nspeed = 100000\n", b"", "track", "retrack"),
+        ):
+            lengths = []
+            for more in b"renew = true\n", b"renew = false\n", b"":
+                self.write("settings.toml", settings.replace(b"[signal]\n", more + pairs + b"[signal]\n", 1))
+                ran = self.run_words(command, *FILES, "new.log")
+                self.assertEqual((ran.returncode, ran.stderr), (0, b""))
+                log = self.read("new.log")
+                head = b"gpscover 3" if pairs else b"gpscover 2" if b"true" in more else b"gpscover 1"
+                self.assertEqual(log.splitlines()[0], head)
+                asked, found = renewals(log)
+                self.assertEqual(found, asked if b"true" in more else [])
+                lengths.append(len(found))
+                yes = b"yes %d\n" % closings(log)(b"in", b"edge")
+                self.expect([check, *FILES, "new.log"], 0, yes)
+                self.expect(["judge", "new.log"], 0, yes)
+                # Whether rows are renewed is for `solve` and `track` alone to ask.
+                self.write("settings.toml", settings.replace(b"[signal]\n", pairs + b"[signal]\n", 1))
+                self.expect([check, *FILES, "new.log"], 0, yes)
+            self.assertGreater(lengths[0], 0)
+
+    def test_a_log_with_renewed_rows(self):
+        renewed = (EXAMPLES / "renewed-rows.log").read_bytes()
+        self.write("new.log", renewed)
+        self.expect(["judge", "new.log"], 0, b"yes 1\n")
+        self.write("new.log", renewed.replace(b"gpscover 2", b"gpscover 1", 1))
+        self.expect(["judge", "new.log"], 3, b"", b"log 40 BadLog line 11 kind 2\n")
 
     def test_rows_of_which_less_is_sure(self):
         log = (EXAMPLES / "one-edge-box.log").read_bytes().replace(b" -500000 500000\n", b" -500000 500000 -400000 400000\n", 1)

@@ -140,7 +140,7 @@ class Row:
 def sample_runs(place):
     """The commands over the files of examples/ and of the program's own test, and with long names."""
     files = ["receiver.obs", "receiver.nav", "settings.toml"]
-    for name in *files, "recorded-epoch.rows", "recorded-epoch.log", "one-edge-box.log":
+    for name in *files, "recorded-epoch.rows", "recorded-epoch.log", "one-edge-box.log", "renewed-rows.log":
         shutil.copy(EXAMPLES / name, place)
     lines = (EXAMPLES / "one-edge-box.log").read_text().splitlines(keepends=True)
     (place / "one-edge-box.rows").write_text("".join(lines[:-2]), newline="\n")
@@ -148,7 +148,7 @@ def sample_runs(place):
         shutil.copy(DATA / name, place / f"data-{name}")
     (place / "some.zones").write_text(ZONES, newline="\n")
     small = [*files[:2], "data-settings.toml"]
-    for log in "one-edge-box.log", "recorded-epoch.log", "data-receiver.log":
+    for log in "one-edge-box.log", "renewed-rows.log", "recorded-epoch.log", "data-receiver.log":
         yield f"judge {log}", ["judge", log]
     for rows in "one-edge-box.rows", "recorded-epoch.rows":
         yield f"pave {rows} LOG", ["pave", rows, "new.log"]

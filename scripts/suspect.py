@@ -7,7 +7,8 @@ usage: suspect.py log LOG
 `log` reads a log that was solved with outliers = 1 or more. At each point and clock offset that fits, all but at most
 q satellites keep their bounds. A satellite is named where in no kept box there is a clock offset at which it can be one
 of them, so that it broke its bounds wherever in the search box the receiver was. The spans are those of the log's
-rows and boxes, in whole numbers; a finer paving can name a satellite that a coarse one doesn't.
+boxes and of the rows in use where each was closed, in whole numbers; a finer paving can name a satellite that a coarse
+one doesn't.
 
 `open` runs GPSCOVER (./gpscover) on the files with outliers = 0: with the bounds as they are, and with those of each
 satellite in turn opened to 1 km. Where no position fits as they are, the faulty satellite is among those whose opening
@@ -61,7 +62,7 @@ def surely_broken(epoch):
     """The satellites that no kept box can count among those that keep their bounds."""
     left = set(range(len(epoch.rows)))
     for kept in epoch.kept:
-        left -= possible_in(epoch.rows, kept.box, epoch.outliers)
+        left -= possible_in(kept.rows, kept.box, epoch.outliers)
         if not left:
             break
     return [epoch.rows[k].satellite for k in sorted(left)]

@@ -35,6 +35,7 @@ import pairs_table
 import picture
 import places
 import region
+import renewed
 import summary
 import suspect
 import testing
@@ -42,6 +43,7 @@ import wgs84
 
 HERE = Path(__file__).resolve().parent
 RECORDED = HERE / "recorded"
+RENEWED = HERE.parent / "examples/renewed-rows.log"  # the rows of G01 and G05 are renewed with a fifth of their errors
 HEAD = "gpscover 1\nrules 1 10 1000\n"
 # A box of 200 m at the equator, at longitude 0: east is y, north is z, up is x.
 ROOT = "root 6378037000000 -100000000 -100000000 6378237000000 100000000 100000000\n"
@@ -73,9 +75,9 @@ TUBE = WITHIN + "epoch 2 895816770999000000000 5\n" + tube_root(6378130, 15, -15
 LOST = "epoch 3 895816771999000000000 5\n" + tube_root(6378125, 10, -20, 6378149, 40, 20) + "out 0\ndone 0\n"
 
 
-def epoch_of(text):
+def epoch_of(text, head=HEAD):
     """The one epoch of a log with these lines behind its head."""
-    (epoch,) = epochs_of(text)
+    (epoch,) = epochs_of(text, head)
     return epoch
 
 
@@ -134,9 +136,10 @@ class Logs(unittest.TestCase):
         self.assertEqual(boxes, [(third, False, (-5000000, 7000000)), (fourth, True, (-9000000, 2000000))])
         self.assertEqual((epoch.outs, epoch.splits, epoch.outliers), (1, 2, 1))
 
-    def test_both_versions_are_read(self):
-        self.assertEqual(epochs_of(PAVED), epochs_of(PAVED, HEAD.replace("gpscover 1", "gpscover 3")))
-        for first in "gpscover 2", "gpscover 3 ", "gpscover 03", "gpscover":
+    def test_all_versions_are_read(self):
+        for version in "23":
+            self.assertEqual(epochs_of(PAVED), epochs_of(PAVED, HEAD.replace("gpscover 1", f"gpscover {version}")))
+        for first in "gpscover 0", "gpscover 4", "gpscover 3 ", "gpscover 02", "gpscover":
             with self.assertRaisesRegex(coverlog.LogError, "line 1: this isn't a log"):
                 epochs_of(PAVED, HEAD.replace("gpscover 1", first))
 
@@ -169,6 +172,46 @@ class Logs(unittest.TestCase):
         for row in plain, mapped:
             self.assertEqual((row.place, row.range, row.error), (((1, 2), (3, 4), (5, 6)), (7, 8), (-90, 100)))
         self.assertEqual((plain.sure, mapped.sure), ((-90, 100), (-80, 70)))
+
+    def test_renewed_rows_are_in_use_behind_their_renewal(self):
+        (epoch,) = coverlog.epochs(RENEWED)
+        self.assertEqual([row.satellite for row in epoch.rows], ["G01", "G02", "G03", "G05"])
+        self.assertEqual([row.error[1] for row in epoch.rows], [5000000, 50000000, 50000000, 5000000])
+        (renewal,) = epoch.renewals
+        self.assertEqual((renewal.steps, renewal.box), (2, (-6000000, -1000000, -1000000, 6250000, 1000000, 1000000)))
+        self.assertEqual([row.error[1] for row in renewal.rows], [1000000, 50000000, 50000000, 1000000])
+        (kept,) = epoch.kept
+        self.assertEqual(kept.box, (-1000000, -1000000, -1000000, 1000000, 1000000, 1000000))
+        self.assertIs(kept.rows, renewal.rows)
+
+    def test_boxes_have_the_rows_that_were_in_use_where_they_were_closed(self):
+        text = RENEWED.read_text().replace("renew", "split 0 1\nedge 1 0 0\nrenew").replace("edge 0", "edge 2", 1)
+        lines = text.replace("\ncut 0 0 -1000000\ncut 0 1 1000000", "").splitlines(keepends=True)
+        again = [*lines[:-2], *lines[12:17], lines[-2], lines[-1]]
+        for lines, at in (lines, [0]), (again, [1]):
+            epoch = epoch_of("".join(lines[2:]), "".join(lines[:2]))
+            self.assertEqual([renewal.steps for renewal in epoch.renewals], [4] * len(epoch.renewals))
+            self.assertIs(epoch.kept[0].rows, epoch.rows)
+            self.assertEqual([k for k, it in enumerate(epoch.renewals) if it.rows is epoch.kept[1].rows], at)
+
+    def test_renewals_that_are_none(self):
+        lines = RENEWED.read_text().splitlines(keepends=True)
+        first = lines[11]
+        wrong = {
+            ("gpscover 1\n", *lines[1:]): 11,
+            (*lines[:14], *lines[15:]): 15,
+            (*lines[:12], first, *lines[12:]): 16,
+            (*lines[:11], "skip G01 1\n", *lines[12:]): 12,
+            (*lines[:10], "renew 0 0 0 0 0 x\n", *lines[11:]): 11,
+            (*lines[:10], "renew 0 0 0 0 0\n", *lines[11:]): 11,
+            (*lines, *lines[10:15]): 20,
+        }
+        for made, line in wrong.items():
+            with self.assertRaisesRegex(coverlog.LogError, f"line {line}: this isn't a log"):
+                epochs_of("".join(made[2:]), "".join(made[:2]))
+        for count in range(11, 16):
+            with self.assertRaisesRegex(coverlog.LogError, f"ends within an epoch, at line {count}"):
+                epochs_of("".join(lines[2:count]), "".join(lines[:2]))
 
     def test_what_is_no_log_is_refused_at_its_line(self):
         wrong = {
@@ -265,6 +308,18 @@ class ExactExtents(unittest.TestCase):
     def test_one_may_be_left_out(self):
         # without one on x: x - 1 <= b <= x + 1 and the others keep b within 1 m
         self.assertEqual(self.extents(1), [(-2, 2)] * 3 + [(-1, 1)])
+
+    def test_the_rows_are_those_in_use_at_the_end(self):
+        # Along x the rows of G01 and G05 leave their errors, which are renewed: 5 m, and then 1 m.
+        below = f"sat G06 0 0 0 0 {-2 * 10**13} {-2 * 10**13} {2 * 10**13} {2 * 10**13} -500000 500000\n"
+        text = RENEWED.read_text().replace("-50000000 50000000", "-500000 500000").replace("0 4\n", "0 5\n")
+        lines = [line + below * line.startswith("sat G05") for line in text.splitlines(keepends=True)]
+        found = mock.Mock(origin=(0, 0, 0), axes=((1, 0, 0), (0, 1, 0), (0, 0, 1)), clock=(-1, 1))
+        found.widths.return_value = (10, 1, 1)
+        for made, more in (lines[2:], 400), ([*lines[2:10], "edge 0 0 0\n", lines[-1]], 0):
+            with mock.patch("exact_extents.region_of", return_value=found):
+                width, further = exact_extents.excesses(epoch_of("".join(made), lines[0] + lines[1]))[0]
+            self.assertEqual((width, round(further, 4)), (10, more))
 
     def test_an_empty_region(self):
         row = coverlog.Row("G01", ((0, 0),) * 3, (0, 0), (0, 0), (0, 0))
@@ -646,6 +701,16 @@ class Suspects(unittest.TestCase):
         faulty = FAULTY.replace("500000\n", "500000 500000 -500000\n")
         self.assertEqual(suspect.surely_broken(epoch_of(faulty + "edge 0 -1500000 1500000\ndone 0\n")), ["G05"])
 
+    def test_the_rows_in_use_tell(self):
+        # By the rows of the root, whose errors are 2 km, each satellite can keep its bounds; by renewed rows G05 can't.
+        wide = FAULTY.replace("-500000 500000", "-2000000000 2000000000")
+        ends = "edge 0 -1500000 1500000\ndone 0\n"
+        box = "renew -1000000 -1000000 -1000000 1000000 1000000 1000000\n"
+        head = HEAD.replace("gpscover 1", "gpscover 2")
+        for text, broken in (wide + ends, []), (wide + box + FIVE + ends, ["G05"]), (
+                FAULTY + box + "".join(wide.splitlines(keepends=True)[1:6]) + ends, []):
+            self.assertEqual(suspect.surely_broken(epoch_of(text, head)), broken)
+
     def test_an_empty_epoch_says_so(self):
         self.assertIn("empty: more than 1 satellites", suspect.log_line(epoch_of(FAULTY + "out 0\ndone 0\n")))
 
@@ -941,6 +1006,59 @@ class Bench(unittest.TestCase):
         self.assertEqual(names, wanted)
 
 
+class Renewed(unittest.TestCase):
+    """The table of regions with renewed rows and without, by a stand-in for the program that copies a log."""
+
+    STUB = """#!/bin/sh
+case $1 in
+    solve) if grep -q "^renew = true" "$4"; then cp renewed.log "$5"; else cp plain.log "$5"; fi ;;
+    *) echo "yes 2" ;;
+esac
+"""
+
+    def table(self, *words, stub=STUB):
+        """The rows of the table of two logs, as lists of cells."""
+        box = "renew 6378137000000 -100000000 -100000000 6378237000000 100000000 100000000\n"
+        mended = PAVED.replace("split 2 1\n", box + FIVE + "split 2 1\n").replace("edge 3", "cut 3 2 -50000000\nedge 3")
+        texts = {"program": stub, "plain.log": HEAD + PAVED, "renewed.log": HEAD.replace("gpscover 1", "gpscover 2") + mended,
+                 "settings": "[search]\nhalf = 5\n[bounds]\ntroposphere = [0, 20000]\n"}
+        with written(**texts) as (program, *_, settings), contextlib.chdir(program.parent):
+            program.chmod(0o755)
+            status, out, err = ended_with(renewed, program, "obs", "nav", settings, "--halves", "3", *words)
+        return status, [line.strip("| ").split(" | ") for line in out.splitlines()[2:]], err
+
+    def test_a_row_is_that_of_the_log(self):
+        status, (plain, other), err = self.table()
+        self.assertEqual((status, err), (0, ""))
+        self.assertEqual(plain[:7], ["3 km", "as given", "as given", "no", "200.0 x 200.0 x 100.0 m", "16.0 m", "3,200,000"])
+        self.assertEqual(other[3:7], ["yes", "150.0 x 200.0 x 100.0 m", "16.0 m", "2,200,000"])
+        self.assertEqual((plain[7:9], other[7:9]), (["0", "0.0"], ["0", "1.0"]))
+
+    def test_each_way_has_its_rows(self):
+        _, rows, _ = self.table("--pairs", "--zenith", "2000", "2600")
+        found = [row[1:4] for row in rows]
+        self.assertEqual(found, [[pairs, zenith, renew] for pairs in ("no", "yes")
+                                 for zenith in ("as given", "[2000, 2600] mm") for renew in ("no", "yes")])
+
+    def test_settings_have_the_keys(self):
+        with written(settings="[search]\nhalf = [1, 2, 3]\n[bounds]\ntroposphere = [1, 2]\nzenith = [5, 6]\n") as (path,):
+            text = path.read_text()
+        changed = renewed.with_values(text, 10, True, (2000, 2600), True)
+        for line in "half = 10000000", "renew = true", "pairs = true", "troposphere = [0, 0]", "zenith = [2000, 2600]":
+            self.assertEqual(changed.splitlines().count(line), 1, line)
+        self.assertNotIn("zenith = [5, 6]", changed)
+        same = renewed.with_values(text, 10, None, None, False)
+        self.assertIn("zenith = [5, 6]", same)
+        self.assertNotIn("pairs", same)
+
+    def test_a_no_ends_the_table(self):
+        status, rows, err = self.table(stub=self.STUB.replace('echo "yes 2"', 'echo "no 65 BadRenew line 7"; exit 1'))
+        self.assertEqual((status, rows), (1, []))
+        self.assertIn("status 1 no 65 BadRenew line 7", err)
+        status, _, err = self.table(stub=self.STUB.replace('"yes 2"', '"yes $#"'))
+        self.assertEqual((status, err), (1, "renewed.py: the checkers don't count the same boxes\n"))
+
+
 class Orbits(unittest.TestCase):
     def test_the_mean_motion_is_that_of_the_system(self):
         """The root of mu over the cube of the axis 5440.6^2, by whole numbers."""
@@ -985,7 +1103,7 @@ class Wrapper(unittest.TestCase):
             for path in (os.environ["PATH"], self.bare(room)):
                 project, logs, kit = self.said("--version", path).splitlines()
                 self.assertRegex(project, r"^gpscover (unreleased|[0-9.]+)")
-                self.assertEqual(logs, "logs of the versions 1, 3")
+                self.assertEqual(logs, "logs of the versions 1, 2, 3")
                 self.assertRegex(kit, r"^(built by|not built)")
 
 

@@ -424,8 +424,9 @@ def settings_cases(settings):
             new = plain.replace(key + b" = " + value, key + b" = " + kind)
             if new != plain:
                 yield f"{key} = {kind}", new
-    for kind in (*kinds, b"false", b"True", b"[true]"):
-        yield f"pairs = {kind}", plain.replace(b"[search]", b"[search]\npairs = " + kind)
+    for key in b"pairs", b"renew":
+        for kind in (*kinds, b"false", b"True", b"[true]"):
+            yield f"{key} = {kind}", plain.replace(b"[search]", b"[search]\n%s = %s" % (key, kind))
     yield from zenith_settings(plain, kinds)
     yield from vertical_settings(plain, kinds)
     yield from motion_settings(plain, kinds)

@@ -3,7 +3,8 @@
 
     compare.py --program PATH --data DIRECTORY [--draws NUMBER] [--seed NUMBER] [PART ..]
 
-The parts are recorded, records, rows, page, logs, tracks, cuts, selections, cases and drawn; without one all are run.
+The parts are recorded, records, rows, page, logs, tracks, cuts, renewals, selections, cases and drawn; without one all
+are run.
 An answer is the exit status with all that is printed. Two answers agree where they are the same. Where both say 53 on
 the same line, the printed spans may differ, as each is of a program's own: then both own spans have to be at most W
 wide, or G where they are of the bounds, and to share a number. Where one alone says 53, the log's span has to lie so
@@ -23,6 +24,7 @@ from pathlib import Path
 import recheck
 from cases import named_cases
 from cuts import log_with_cuts, with_cuts
+from renewals import with_renewals
 
 TOP = Path(__file__).resolve().parent.parent
 sys.path.append(str(TOP / "scripts"))
@@ -30,7 +32,7 @@ import changed_logs  # of scripts/, which makes the logs of docs/CHANGED_LOGS.md
 import made_two_systems  # which makes files of GPS and Galileo
 
 PLACE = 6 * 10**13  # um
-PARTS = ("recorded", "records", "rows", "page", "logs", "tracks", "cuts", "selections", "cases", "drawn")
+PARTS = ("recorded", "records", "rows", "page", "logs", "tracks", "cuts", "renewals", "selections", "cases", "drawn")
 
 
 class Tally:
@@ -64,7 +66,8 @@ class Tracing(recheck.Judge):
         self.own_rows = {}
 
     def own(self, row, satellite, used):
-        self.own_rows[self.number] = self.files.row(self.own_epoch, satellite, used), row, self.files.rooms
+        own = self.files.row(self.own_epoch, satellite, used, self.part)
+        self.own_rows[self.number] = own, row, self.files.rooms(self.part)
         super().own(row, satellite, used)
 
 
@@ -199,15 +202,17 @@ def own_rows(pair, log):
     for word, values in recheck.read_log(log):
         if word in (b"epoch", b"few"):
             epoch = next(epochs)
-            used = dict(pair.files.satellites(epoch))
+            used, box = dict(pair.files.satellites(epoch)), pair.files.box
+        elif word == b"renew":
+            box = values
         elif word == b"sat":
             start = time.time()
             satellite, *logged = values
-            row = pair.files.row(epoch, satellite, used[satellite])
+            row = pair.files.row(epoch, satellite, used[satellite], box)
             spent += time.time() - start
             rows += 1
             for place, (mine, (low, high)) in enumerate(zip(row, recheck.row_spans(logged))):
-                room = pair.files.rooms[place]
+                room = pair.files.rooms(box)[place]
                 theirs = low + room, high - room
                 if not fits_own(mine, theirs, room):
                     print(f"  different: own spans of epoch {epoch.index} satellite {satellite.decode()}: {mine} and "
@@ -251,7 +256,7 @@ def log_changes(log, rooms, words=None):
                               ("one more field", line + b" 1"), ("one field less", line.rpartition(b" ")[0]),
                               ("byte 0", line + b"\0"), ("byte 200", line + b"\xc8")):
             yield name + what, joined(before + [changed] + after)
-        words = b"epoch few sat skip root cut split out in edge done rules".split()
+        words = b"epoch few sat skip root renew cut split out in edge done rules".split()
         first, _, rest = line.partition(b" ")
         for word in words:
             if word != first and at % 4 == words.index(word) % 4:
@@ -286,7 +291,9 @@ def logs(arguments, directory):
     for name, contents in (("log of the example", (obs, nav, settings)),
                            ("log with `few` and `skip`", (mixed, nav, settings)),
                            ("log with `in`", (mixed, nav, inner)),
-                           ("log with `zenith`", (obs, nav, with_zenith(settings)))):
+                           ("log with `zenith`", (obs, nav, with_zenith(settings))),
+                           ("log with `renew`", (obs, nav, with_renewed_rows(settings))),
+                           ("log with `renew` and `zenith`", (obs, nav, with_renewed_rows(with_zenith(settings))))):
         tally = Tally(f"changed: {name}")
         pair = Pair(arguments.program, directory)
         pair.write(contents)
@@ -310,16 +317,18 @@ def tracks(arguments, directory):
     moved = obs.replace(b"20374273.891", b"20379273.891").replace(b"20466585.553", b"20461585.553")
     tallies = []
     for name, files, speed in (("a track", obs, 20_000), ("a receiver that stands", obs, 0),
-                               ("an epoch of few", few, 1), ("a lost epoch", moved, 20_000)):
+                               ("an epoch of few", few, 1), ("a lost epoch", moved, 20_000),
+                               ("a track with renewed rows", obs, 1_000_000)):
         tally = Tally(f"changed: {name}")
         pair = Pair(arguments.program, directory, moving=True)
-        pair.write((files, nav, settings + b"[motion]\nspeed = %d\n" % speed))
+        own = with_renewed_rows(settings) if "renewed" in name else settings
+        pair.write((files, nav, own + b"[motion]\nspeed = %d\n" % speed))
         answer, log = pair.solve()
         if answer[0]:
             print("  different: no log of", name, answer)
             continue
         pair.own_answer(log)
-        words = b"epoch", b"few", b"root", b"cut", b"done"
+        words = b"epoch", b"few", b"root", b"renew", b"cut", b"done"
         for change, changed in log_changes(log, (pair.files.room, speed * 1000), words):
             pair.compare(changed, tally, change)
         head, *blocks = re.split(rb"(?m)^(?=epoch|few)", log)
@@ -336,7 +345,7 @@ def page(arguments, directory):
     tally = Tally("logs of CHANGED_LOGS.md")
     pair = Pair(arguments.program, directory)
     obs, nav, settings = [text.decode() for text in small_files(12, epochs=4)]
-    for name, text in (("given", settings), ("wide", changed_logs.with_wide_bounds(settings))):
+    for name, text in changed_logs.variants(settings):
         pair.write([part.encode() for part in (changed_logs.three_epochs(obs), nav, text)])
         _, log = pair.solve()
         lines = log.decode().splitlines()
@@ -383,6 +392,31 @@ def cuts(arguments, directory):
         print(f"{tally.part}: answers of the program:", dict(sorted(tally.answers.items())))
     print("pavings with cuts:", lines, "cuts")
     return [pavings, put, small]
+
+
+def renewals(arguments, directory):
+    """Renewals put into logs, and small changes of the lines of such a log."""
+    chance = random.Random(arguments.seed)
+    put, small = Tally("renewals put into logs"), Tally("changed: a log with `renew`")
+    pair = Pair(arguments.program, directory)
+    for number, contents in enumerate([small_files(8), *bases(arguments.data)]):
+        pair.write(contents)
+        _, log = pair.solve()
+        pair.own_answer(log)
+        for name, changed in with_renewals(chance, log, arguments.draws // 10, pair.files):
+            for judge in (False, True):
+                pair.compare(changed, put, f"files {number}, {name}", judge)
+    pair.write(small_files(2))
+    _, log = pair.solve()
+    pair.own_answer(log)
+    made = [changed for name, changed in with_renewals(chance, log, 40, pair.files) if name.endswith("the hull, own rows")]
+    accepted = next(log for log in made if pair.own_answer(log)[0][0] == 0)
+    for change, changed in log_changes(accepted, (pair.files.room,), (b"gpscover", b"renew", b"sat", b"done")):
+        for judge in (False, True):
+            pair.compare(changed, small, change, judge)
+    for tally in (put, small):
+        print(f"{tally.part}: answers of the program:", dict(sorted(tally.answers.items())))
+    return [put, small]
 
 
 def shortened(log, epochs, splits):
@@ -472,6 +506,12 @@ def with_zenith(settings, low=1900, high=2700):
     return re.sub(rb"(?m)^troposphere = .*$", b"troposphere = [0, 0]\nzenith = [%d, %d]" % (low, high), settings)
 
 
+def with_renewed_rows(settings, half=10_000_000):
+    """The settings with renewed rows over a large search box."""
+    settings = re.sub(rb"(?m)^half = .*$", b"half = %d" % half, settings)
+    return re.sub(rb"(?m)^(max_age = .*)$", rb"\1\nrenew = true", settings)
+
+
 def bases(data):
     """The files that are changed: small pairs cut from the recorded ones."""
     rinex, two = data / "rinex", b"bisections = 8\n"
@@ -488,6 +528,7 @@ def bases(data):
         [first_epochs((rinex / "javad_2011_crlf.obs").read_bytes(), 1), (rinex / "javad_2011_crlf.nav").read_bytes(),
          settings("javad_2011_single.toml")],
         [*small_files(8)[:2], with_zenith(small_files(8)[2])],
+        [*small_files(8)[:2], with_renewed_rows(small_files(8)[2])],
         list(both_files(8)),
     ]
 

@@ -180,23 +180,25 @@ def main():
     for word, values in lines:
         if word in (b"epoch", b"few"):
             epoch = next(epochs)
-            used = dict(files.satellites(epoch))
+            used, box = dict(files.satellites(epoch)), files.box
+        if word == b"renew":
+            box = values
         if word == b"sat":
-            found.append((epoch, values, used[values[0]]))
+            found.append((epoch, values, used[values[0]], box))
     choose = random.Random(1)
     outside = [0, 0]
     names = NAMES if files.settings.delays else NAMES[:4]
     least, greatest = [0] * len(names), [0] * len(names)
-    for epoch, (satellite, *logged), used in choose.sample(found, min(int(rows), len(found))):
-        row = files.row(epoch, satellite, used)
-        theirs = [(low + room, high - room) for (low, high), room in zip(recheck.row_spans(logged), files.rooms)]
+    for epoch, (satellite, *logged), used, box in choose.sample(found, min(int(rows), len(found))):
+        row = files.row(epoch, satellite, used, box)
+        theirs = [(low + room, high - room) for (low, high), room in zip(recheck.row_spans(logged), files.rooms(box))]
         codes = dict(epoch.satellites)[satellite]
         for number in range(int(draws)):
             ways = ("low", "high", "any", "mixed")
             draw = Drawer(ways[number] if number < 4 else choose.choice(ways[2:]), number)
             side = choose.randrange(3)
-            point = [draw.of(files.box[axis], files.box[axis + 3]) if side else
-                     choose.choice((files.box[axis], files.box[axis + 3])) for axis in range(3)]
+            point = [draw.of(box[axis], box[axis + 3]) if side else
+                     choose.choice((box[axis], box[axis + 3])) for axis in range(3)]
             result = allowed(draw, used[1], epoch.time, codes, files.settings.dual, point, files.settings.delays,
                              files.settings.bounds_of(satellite))
             for axis, value in enumerate(result):

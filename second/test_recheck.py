@@ -17,6 +17,8 @@ import recheck
 import sample
 
 TOP = Path(__file__).resolve().parent.parent
+sys.path.append(str(TOP / "scripts"))
+import forged_logs  # of scripts/, whose answers were found by hand
 DATA = TOP / "crates/gpscover/data"
 FILES = [DATA / name for name in ("receiver.obs", "receiver.nav", "settings.toml")]
 LOG = DATA / "receiver.log"
@@ -58,6 +60,7 @@ def verdict_cases(folder):
         ((LOG,), (0, "yes 48\n")),
         ((TOP / "examples/recorded-epoch.log",), (0, "yes 12\n")),
         ((TOP / "examples/one-edge-box.log",), (0, "yes 1\n")),
+        ((TOP / "examples/renewed-rows.log",), (0, "yes 1\n")),
         ((written(folder, "worked.log", worked),), (0, "yes 2\n")),
         ((changed,), (1, "no 56 NotLive line 14\n")),
     )
@@ -320,7 +323,7 @@ SHELL_FACTORS = ((10**16, "1.0000"), (0, "3.1414"), (-6 * 10**15, "1.5342"))
 
 def drawn_numbers(files, epoch, satellite, used):
     """The names of numbers outside of the own row, drawn as the equations leave them at corners of the box."""
-    row, codes, settings = files.row(epoch, satellite, used), epoch.satellites[satellite], files.settings
+    row, codes, settings = files.row(epoch, satellite, used, files.box), epoch.satellites[satellite], files.settings
     outside = []
     for number, signs in enumerate(product((0, 1), repeat=3)):
         draw = sample.Drawer(("low", "high", "any", "mixed")[number % 4], 100 * number + int(satellite[1:]))
@@ -381,7 +384,7 @@ def value_cases(folder):
     files = recheck.Files(*zenith_paths(folder))
     (epoch,) = files.epochs
     (satellite, used), _ = files.satellites(epoch)
-    lo, hi = files.row(epoch, satellite, used)[4:]
+    lo, hi = files.row(epoch, satellite, used, files.box)[4:]
     # The factor is 1, to some 10^-11; the sum of the declared bounds is that of G01, -7000 and 9000. G is 2000 + 1.
     yield "lo at the zenith", lo[0] <= 1993000 and 1993001 <= lo[1] and lo[1] - lo[0] < 10, True
     yield "hi at the zenith", hi[0] <= 2509000 and 2509001 <= hi[1] and hi[1] - hi[0] < 10, True
@@ -443,19 +446,26 @@ def pair_cases(folder):
                 log = written(folder, f"pairs{number}.{version}.log", pair_log(outliers, rows, steps, version))
                 yield (log,), told if isinstance(told, tuple) else (int(told[:2] == "no"), told)
     few = "gpscover 3\nrules 1 0 1000000\nfew 1 0 0\n"
-    for number, head in enumerate(("gpscover 2", "gpscover 03", "gpscover 3 ", "gpscover 13", "gpscover")):
+    for number, head in enumerate(("gpscover 4", "gpscover 02", "gpscover 03", "gpscover 3 ", "gpscover 13", "gpscover")):
         refused = 3, "log 40 BadLog line 1 kind 1\n"
         yield (written(folder, f"head{number}.log", few.replace("gpscover 3", head)),), refused
-    yield (written(folder, "head.log", few),), yes
+    for version in 2, 3:
+        yield (written(folder, f"head.{version}.log", few.replace("gpscover 3", f"gpscover {version}")),), yes
 
 
 def pair_settings_cases(folder):
     """(words, status and line) of the key `search.pairs`, against the first line of a log."""
     plain = "gpscover 1\nrules 1 4096 1000000\nfew 1 1388620800070000000000 1\nskip G02 1\n"
     logs = {version: written(folder, f"first{version}.log", plain.replace("gpscover 1", f"gpscover {version}"))
-            for version in (1, 3)}
+            for version in (1, 2, 3)}
     differs, yes = (1, "no 50 RulesDiffer line 2\n"), YES_0
     for number, (line, version, wanted) in enumerate((
+            ("", 2, yes), ("pairs = true", 2, differs), ("renew = true", 1, yes), ("renew = true", 2, yes),
+            ("renew = false", 2, yes), ("renew = true", 3, differs), ("renew = true\npairs = true", 3, yes),
+            ("pairs = true\nrenew = true", 2, differs), ("renew = 1", 1, "32 WrongKind search.renew"),
+            ('renew = "true"', 1, "32 WrongKind search.renew"), ("renew = [true]", 1, "32 WrongKind search.renew"),
+            ("pairs = 1\nrenew = 1", 1, "32 WrongKind search.renew"), ("renews = true", 1, "34 Unknown search.renews"),
+            ("[motion]\nrenew = true\n[search]", 1, "30 NotToml"),
             ("", 1, yes), ("", 3, differs), ("pairs = false", 1, yes), ("pairs = false", 3, differs),
             ("pairs = true", 1, differs), ("pairs = true", 3, yes),
             ("pairs = 1", 1, "32 WrongKind search.pairs"), ('pairs = "true"', 1, "32 WrongKind search.pairs"),
@@ -464,13 +474,12 @@ def pair_settings_cases(folder):
         if isinstance(wanted, str):
             wanted = 3, f"settings {wanted}\n"
         yield (*zenith_paths(folder, settings, f"pairs{number}"), logs[version]), wanted
-    # A key is tested behind `max_age` and before the signal.
-    for number, (old, new, wanted) in enumerate((
-            ("max_age = 7200\n", "pairs = 1\n", "31 Missing search.max_age"),
-            ('mode = "single"\n', "", "32 WrongKind search.pairs"))):
-        settings = SETTINGS.replace("max_age = 7200\n", "max_age = 7200\npairs = 1\n" if number else "max_age = 7200\n")
-        settings = settings.replace(old, new)
-        yield (*zenith_paths(folder, settings, f"order{number}"), logs[1]), (3, f"settings {wanted}\n")
+    # Both keys are tested behind `max_age`, `renew` first, and before the signal.
+    for number, (key, (old, new, told)) in enumerate(product(("renew", "pairs"), (
+            ("max_age = 7200\n", "", "31 Missing search.max_age"), ('mode = "single"\n', "", None)))):
+        settings = SETTINGS.replace("max_age = 7200\n", f"max_age = 7200\n{key} = 1\n").replace(old, new)
+        wanted = 3, f"settings {told or '32 WrongKind search.' + key}\n"
+        yield (*zenith_paths(folder, settings, f"order{number}"), logs[1]), wanted
     # What clock spans show is shown in a log of the other version too.
     settings = re.sub(r"(?m)^(max_age = .*)$", r"\1\npairs = true", FILES[2].read_text())
     paths = [*FILES[:2], written(folder, "receiver.toml", settings)]
@@ -540,6 +549,26 @@ def both_values():
         yield "a mean motion", recheck.isqrt(system.mu * 10**116 // 5_440_600_000_000_000**6), wanted
 
 
+def wanted_answer(told):
+    """The status and the line of an answer of scripts/forged_logs.py."""
+    line = told if isinstance(told, str) else told[0]
+    return {"y": 0, "n": 1}.get(line[0], 3), line
+
+
+def renewal_cases(folder):
+    """(words, status and line) of judged logs with renewals, and of such logs beside a receiver's files."""
+    for number, (lines, told) in enumerate(forged_logs.short_renewals()):
+        path = Path(folder) / f"renewal{number}.log"
+        path.write_bytes(forged_logs.text(lines))
+        yield (path,), wanted_answer(told)
+    files = forged_logs.Files()
+    paths = [written(folder, f"renewals.{end}", text) for end, text in (("obs", files.obs), ("nav", files.nav))]
+    given = [(files.settings, lines, told) for _, lines, told in forged_logs.checked_renewals(files)]
+    for number, (settings, lines, told) in enumerate([*given, *forged_logs.checked_rules(files)]):
+        log = written(folder, f"renewed{number}.log", forged_logs.text(lines).decode())
+        yield (*paths, written(folder, f"renewed{number}.toml", settings), log), wanted_answer(told)
+
+
 # The track of a receiver in a search box of 2 km along x and 40 m along y and z. In the first epoch all beyond 400 m
 # along x is cut off: over each of these slabs the distances of G14 and G22 change by less than 390 m and 40 m, and
 # those of G12, G05, G15 and G26 by 410 m and more the other way, of which one satellite may fail. Later epochs keep
@@ -578,6 +607,11 @@ def track_files(folder, name, obs=lambda text: text, speed="[motion]\nspeed = 20
     settings = re.sub(r"(?m)^half = .*$", "half = [1000000, 20000, 20000]", FILES[2].read_text()) + speed
     return [written(folder, f"{name}.obs", obs(FILES[0].read_text())), FILES[1],
             written(folder, f"{name}.toml", settings)]
+
+
+def renewed_block(block, root):
+    """The lines of an epoch whose rows are renewed as they are, behind the root and for the box of a root's line."""
+    return [*block[:11], root.replace("root", "renew"), *block[1:10], *block[11:]]
 
 
 def moved_codes(text):
@@ -650,6 +684,16 @@ def track_cases(folder):
         text = "\n".join(["gpscover 1", "rules 1 12 1000000", *(line for block in blocks for line in block), ""])
         log = written(folder, f"track{number}.log", text)
         yield ("--track", *paths, log, *options), (0 if wanted.startswith("yes") else 1, wanted)
+    # Renewals lie in the epoch's own root, and the next root is what they leave it.
+    for number, (renewed, wanted) in enumerate((
+            (renewed_block(second, second[10]), "yes 4"),
+            (renewed_block(second, root_line(421, 420)), "no 65 BadRenew line 29"),
+            (renewed_block(second, root_line(419, 420)), "no 65 BadRenew line 29"),
+            (renewed_block(second, first[10]), "no 65 BadRenew line 29"))):
+        blocks = [first, renewed, renewed_block(third, third[10]), fourth]
+        text = "\n".join(["gpscover 2", "rules 1 12 1000000", *(line for block in blocks for line in block), ""])
+        log = written(folder, f"renewedtrack{number}.log", text)
+        yield ("--track", *plain, log), (0 if wanted.startswith("yes") else 1, wanted)
     log = written(folder, "plain.log", "\n".join(["gpscover 1", "rules 1 12 1000000", *first, *second, ""]))
     yield (*plain, log, "--to", "2"), (1, "no 55 RootDiffers line 28")  # as `check`
     yield ("--track", *FILES, LOG), (3, "settings 31 Missing motion.speed\n")
@@ -702,7 +746,8 @@ def main():
     program = sys.argv[1] if sys.argv[1:] else None
     with tempfile.TemporaryDirectory() as folder:
         cases = [*verdict_cases(folder), *sure_cases(folder), *zenith_cases(folder), *mapped_cases(folder),
-                 *pair_cases(folder), *pair_settings_cases(folder), *track_cases(folder), *speed_cases(folder),
+                 *pair_cases(folder), *pair_settings_cases(folder), *renewal_cases(folder), *track_cases(folder),
+                 *speed_cases(folder),
                  *selection_cases(folder), *wrong_word_cases()]
         values = [*value_cases(folder), *drawn_cases(folder), *both_values(), *tube_values(folder)]
         if program:  # which has other words and no calls
