@@ -55,10 +55,10 @@ fn layer_sine(layer: Layer, amount: u128) -> u128
 pub(crate) fn slants(sine: Exact, layer: Layer) -> Exact
     requires { HasAmount sine_amount sine }
     ensures holds { (s : ℤ) → Holds sine s → Holds result (pos (slant_of layer s)) }
-    ensures low { result.lo
-        ≡ pos (root (layer_floor layer + square (layer_sine layer (least_end sine.lo sine.hi)))) }
-    ensures high { result.hi
-        ≡ pos (root (layer_floor layer + square (layer_sine layer (greatest_end sine.lo sine.hi)))) }
+    ensures low { result.lo ≡ pos (root (layer_floor layer
+        + square (layer_sine layer (least_end sine.lo sine.hi)))) }
+    ensures high { result.hi ≡ pos (root (layer_floor layer
+        + square (layer_sine layer (greatest_end sine.lo sine.hi)))) }
 {
     let least = layer_sine(layer, least_amount(sine));
     let greatest = layer_sine(layer, greatest_amount(sine));

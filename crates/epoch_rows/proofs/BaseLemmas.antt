@@ -6,7 +6,7 @@ use Rattle.std.proofs.lemmas.Option.{slice_get_read}
 use Rattle.std.specs.List.{AllByRecursion}
 use Rattle.epoch_rows.specs.Grown.{AreGrownLines, skips_of}
 use Rattle.epoch_rows.specs.Laws.{sat_in_place}
-use Rattle.epoch_rows.specs.Renewed.{Hand, GivesRow, IsGrownFrom, IsBaseIn, AreBasesIn, CanRenew}
+use Rattle.epoch_rows.specs.Renewed.{Hand, GivesRow, IsGrownFrom, IsBaseIn, AreBasesIn, CanFormEach}
 use Rattle.epoch_selection.specs.Searches.{Search}
 use Rattle.gnss_model.specs.declared.satellites.Sat.{Sat}
 use Rattle.grid_model.specs.Boxes.{GridBox, grid_box}
@@ -19,7 +19,7 @@ use Rattle.sat_model.specs.declared.rows.Row.{Row}
 use Rattle.sat_model.specs.declared.rows.SatEntry.{SatEntry}
 use Rattle.sat_model.specs.declared.rows.SatEntry.TheVariants as entry
 use Rattle.sat_rows.proofs.PartLemmas.{own_of_base}
-use Rattle.sat_rows.specs.Bases.{IsBaseOf, AreBasesOf}
+use Rattle.sat_rows.specs.Bases.{IsBaseOf, AreBasesOf, CanForm}
 use Rattle.sat_rows.specs.Meanings.{Meaning}
 use Rattle.sat_rows.specs.OwnRows.{AreOwnLines}
 use Rattle.sat_rows.specs.declared.bases.Base.{Base}
@@ -79,10 +79,11 @@ module _ (m : Meaning) (search : Search) where
     sats = same_sats by err_by search.epoch.sats.items own entries bases are grown of;
   }
 
-  pub can_renew : (own : List SatLine) (bases : List Base) → AreBasesOf m search.root search.epoch.tag search.epoch.sats.items own bases
-      → AllByRecursion (CanRenew m.delays search.root) bases
-  can_renew own bases of =
-      each_as (IsBaseIn m search) (CanRenew m.delays search.root) bases (λ base b. record { narrow = b.is_base.narrow; high = b.is_base.high })
+  pub can_form : (own : List SatLine) (bases : List Base) → AreBasesOf m search.root search.epoch.tag search.epoch.sats.items own bases
+      → CanFormEach m.delays search.root bases
+  can_form own bases of =
+      each_as (IsBaseIn m search) (CanForm m.delays search.root) bases
+      (λ base b. record { narrow = b.is_base.narrow; search = b.is_base.search; high = b.is_base.high })
       (bases_in search.epoch.sats.items own bases (λ seen among. among) of)
 
 -- a block of few satellites has no rows
@@ -96,12 +97,6 @@ pub few_bases : (m : Meaning) (search : Search) (own : List SatLine) (entries : 
 few_bases m search own entries bases skips none = record { each = rw none tt; sats = rw (none, skips, no_rows own) refl }
 
 -- ---- one row
-
--- a box that is inside is a part
-pub inside_lies : (part : Box3) (root : GridBox) → IsInside (grid_box part) root → LiesIn (grid_box part) root
-inside_lies part root inside zero = record { low = inside.0.0; ordered = part.x_ordered; high = inside.0.1 }
-inside_lies part root inside (suc zero) = record { low = inside.1.0; ordered = part.y_ordered; high = inside.1.1 }
-inside_lies part root inside (suc (suc n)) = record { low = inside.2.0; ordered = part.z_ordered; high = inside.2.1 }
 
 pub base_at : (bases : List Base) (i : ℕ) (base : Base) → i < length (base_sats bases) → base ≡ get_or bases i base → slice_get bases i ≡ Some base
 base_at bases i base less is = slice_get_read bases (length bases) i base refl (omega (arith, less, length-map bases (λ (b : Base). b.sat))) is

@@ -17,8 +17,8 @@ pub record IsMakerFor (m : Meaning) (hand : Hand) (maker : RowMaker) : Type 0 wh
 
 -- ---- the blocks of a file's epochs
 
--- by what a source says of satellites, where so many of them may be inconsistent, and where rows are
--- renewed or aren't
+-- by what a source says of satellites, where so many of them may be inconsistent, and where rows
+-- are renewed or aren't
 module _ (m : Meaning) (q : ℕ) (renews : Bool) where
   -- the block of the first epoch that is left, with the maker of its rows
   pub record GivesBlock (old : Searches) (block : Block) (new : Searches)

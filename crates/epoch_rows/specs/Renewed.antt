@@ -8,19 +8,18 @@ use Rattle.epoch_selection.specs.Searches.{Search}
 use Rattle.gnss_model.specs.Delays.{is_plain, err_spare_of}
 use Rattle.gnss_model.specs.declared.delays.Delays.{Delays}
 use Rattle.gnss_model.specs.declared.satellites.Sat.{Sat}
-use Rattle.grid_model.specs.Boxes.{GridBox, grid_box}
-use Rattle.grid_model.specs.declared.boxes.Box3.{Box3}
+use Rattle.grid_model.specs.Boxes.{GridBox}
 use Rattle.grid_model.specs.Lengths.{spare_of}
 use Rattle.paving.specs.Renewing.{Maker}
 use Rattle.rinex_obs.specs.declared.obs.SatObs.{SatObs}
 use Rattle.sat_model.specs.Contractors.{LiesIn}
 use Rattle.sat_model.specs.Logs.{Block, rows_of}
 use Rattle.sat_model.specs.declared.rows.Row.{Row}
-use Rattle.sat_rows.specs.Bases.{IsBaseOf, IsRowOfBase, IsNarrowBase}
+use Rattle.sat_rows.specs.Bases.{IsBaseOf, IsRowOfBase, CanForm}
 use Rattle.sat_rows.specs.Meanings.{Meaning}
 use Rattle.sat_rows.specs.OwnRows.{IsOwnRow}
 use Rattle.sat_rows.specs.declared.bases.Base.{Base}
-use Rattle.usable_sats.specs.Usability.{IsHighIf, IsHigh}
+use Rattle.usable_sats.specs.Usability.{IsHighIf}
 use Rattle.epoch_rows.specs.Grown.{IsGrownRow}
 
 -- the search of the block that was given last, and the satellites of its rows, in order
@@ -86,23 +85,17 @@ pub record AreBasesIn (m : Meaning) (hand : Hand) (bases : List Base) : Type 0 w
 
 -- ---- what is kept of a base
 
--- a row can be formed from it for each part of the root
-pub record CanRenew (delays : Delays) (root : GridBox) (base : Base) : Type 0 where
-  pub narrow : IsNarrowBase base
-  pub high : IsHigh delays root
-
 high_prop : (plain : Bool) (root : GridBox) → IsProp (IsHighIf plain root)
 high_prop true root = Unit-prop
 high_prop false root = hlevel (T_prop, le_prop)
 
-can_prop : (delays : Delays) (root : GridBox) (base : Base) → IsProp (CanRenew delays root base)
+can_prop : (delays : Delays) (root : GridBox) (base : Base) → IsProp (CanForm delays root base)
 can_prop delays root base = hlevel (T_prop, le_prop, high_prop (is_plain delays) root)
 
--- ... from each of these, for the parts of a box
-abbrev pub AreReady : Delays → Box3 → List Base → Type 0
-AreReady delays root bases = AllByRecursion (CanRenew delays (grid_box root)) bases
+-- rows can be formed of each of these over each part of the root
+abbrev pub CanFormEach : Delays → GridBox → List Base → Type 0
+CanFormEach delays root = AllByRecursion (CanForm delays root)
 
-pub AreReady-prop : (delays : Delays) (root : Box3) (bases : List Base)
-    → IsProp (AreReady delays root bases)
-AreReady-prop delays root bases = AllByRecursion-prop (CanRenew delays (grid_box root))
-    (can_prop delays (grid_box root)) bases
+pub CanFormEach-prop : (delays : Delays) (root : GridBox) (bases : List Base)
+    → IsProp (CanFormEach delays root bases)
+CanFormEach-prop delays root = AllByRecursion-prop (CanForm delays root) (can_prop delays root)

@@ -1,7 +1,7 @@
 //! Rows that are formed anew.
 
 ghost use Rattle.std.specs.Prelude.{◌≡◌, [], map, true};
-ghost use Rattle.epoch_rows.specs.Renewed.{AreReady, AreReady-prop, maker_from};
+ghost use Rattle.epoch_rows.specs.Renewed.{CanFormEach, CanFormEach-prop, maker_from};
 ghost use Rattle.gnss_model.specs.Delays.{AreDelays};
 ghost use Rattle.grid_model.specs.Boxes.{grid_box};
 ghost use Rattle.grid_model.specs.SearchBoxes.{IsSearchBox};
@@ -28,7 +28,8 @@ pub struct RowMaker {
     delays: Delays,
     ghost search: { IsSearchBox (grid_box root) },
     ghost within: { AreDelays delays },
-    ghost ready: { AreReady delays root bases.items } by { AreReady-prop delays root bases.items },
+    ghost ready: { CanFormEach delays (grid_box root) bases.items }
+        by { CanFormEach-prop delays (grid_box root) bases.items },
 }
 
 impl RowMaker {
@@ -60,7 +61,7 @@ impl RowMaker {
     ) -> RowMaker
         requires root { IsSearchBox (grid_box root.now) }
         requires delays { AreDelays delays }
-        requires bases { AreReady delays root.now bases.items }
+        requires bases { CanFormEach delays (grid_box root.now) bases.items }
         ensures renews { result.renews ≡ renews }
         ensures bases { renews ≡ true → result.bases.items ≡ bases.items }
         ensures root { result.root ≡ root.now }

@@ -44,8 +44,8 @@ fn write_over<H: Shelf, O: Sink>(
     }
 }
 
-/// Writes 85,000 bytes over the named file, more than the pieces of 64 KiB in which logs go out, and
-/// prints whether as many are read again.
+/// Writes 85,000 bytes over the named file, more than the pieces of 64 KiB in which logs go out,
+/// and prints whether as many are read again.
 fn tell_long<H: Shelf, O: Sink>(
     alloc: Global,
     shelf: &mut H,

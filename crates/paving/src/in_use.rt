@@ -70,7 +70,8 @@ impl InUse {
             → length (M.sats maker.now) ≡ length self.old.rows.items }
         requires inside { (M.maker maker.now).active ≡ true → (waiting : List WaitingBox)
             × IsQueued waiting queues.now.lists × AllInside waiting (M.root maker.now) }
-        ensures renewed { OnOk result ((waiting : List WaitingBox) → IsQueued waiting queues.now.lists
+        ensures renewed { OnOk result ((waiting : List WaitingBox)
+            → IsQueued waiting queues.now.lists
             → RenewedTo L.took_rows (M.maker maker.now) before splits waiting
             (used_of self.old) (used_of self.new) log.old log.new) }
         ensures trees { OnOk result
@@ -80,7 +81,8 @@ impl InUse {
             → IsQueued waiting queues.now.lists
             → RenewalBroke L.broke_rows L.room fault (M.maker maker.now) before splits waiting
             (used_of self.old) log.old log.new) }
-        ensures failed { result ≡ Err StepFault.Failed → Rose (L.faults log.old) (L.faults log.new) }
+        ensures failed { result ≡ Err StepFault.Failed
+            → Rose (L.faults log.old) (L.faults log.new) }
         ensures counted { L.faults log.old ≤ L.faults log.new }
     {
         let Some(hull) = renewal_due(&self.part, before, splits, queues, maker) else {

@@ -29,8 +29,8 @@ pub trait Renewals {
     fn active(&self) -> bool
         ensures { result ≡ (maker self.now).active };
 
-    /// The row of satellite `i`, from 0, for a box that lies in the search box; none behind the last
-    /// satellite.
+    /// The row of satellite `i`, from 0, for a box that lies in the search box; none behind the
+    /// last satellite.
     fn row(&self, i: u32, part: &Box3) -> Option<Row>
         requires inside { IsInside (grid_box part.now) (root self.now) }
         ensures gives { IfSome result (λ row.

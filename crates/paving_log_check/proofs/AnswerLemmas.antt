@@ -12,7 +12,7 @@ use Rattle.sat_model.specs.Logs.{Block}
 use Rattle.sat_model.specs.declared.rows.Row.{Row}
 use Rattle.sat_model.specs.declared.rules.Rules.{Rules}
 use Rattle.sat_model.proofs.CoverLemmas.{inside_holds}
-use Rattle.sat_rows.specs.Bases.{AreBasesOf}
+use Rattle.sat_rows.specs.Bases.{CanForm, AreBasesOf}
 use Rattle.sat_rows.specs.Meanings.{Meaning}
 use Rattle.sat_rows.specs.OwnRows.{AreOwnLines, AreLinesOf, usable_in}
 use Rattle.sat_rows.specs.declared.bases.Base.{Base}
@@ -20,7 +20,7 @@ use Rattle.sat_rows.specs.declared.lines.SatLine.{SatLine}
 use Rattle.sat_rows.specs.declared.lines.SatLine.TheVariants.{Usable, Skipped}
 use Rattle.sat_rows.proofs.PartLemmas.{own_of_points}
 use Rattle.gnss_model.specs.Delays.{AreDelays}
-use Rattle.paving_log_check.specs.Bases.{CanForm, AreReady}
+use Rattle.paving_log_check.specs.Bases.{AreReady}
 use Rattle.paving_log_check.specs.Checked.{EpochAccepted, EpochRefused}
 use Rattle.paving_log_check.specs.Forming.{AreFormed, AreAllFormed, AreAsMany, own_lines, EpochHolds, EpochBreaks}
 use Rattle.paving_log_check.specs.OwnLines.{renewals_of, usable_of, AreOwnRows, AreRenewed, IsOwnOf, HaveEachRow}

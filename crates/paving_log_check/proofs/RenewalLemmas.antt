@@ -9,10 +9,10 @@ use Rattle.grid_model.specs.Boxes.{GridBox, grid_box}
 use Rattle.grid_model.specs.SearchBoxes.{IsSearchBox}
 use Rattle.grid_model.specs.declared.boxes.Box3.{Box3}
 use Rattle.sat_model.specs.Contractors.{LiesIn}
-use Rattle.sat_rows.specs.Bases.{IsNarrowBase}
+use Rattle.sat_rows.specs.Bases.{IsNarrowBase, CanForm}
 use Rattle.sat_rows.proofs.PartLemmas.{part_search, part_high}
 use Rattle.usable_sats.specs.Usability.{IsHigh}
-use Rattle.paving_log_check.specs.Bases.{CanForm, AreReady}
+use Rattle.paving_log_check.specs.Bases.{AreReady}
 use Rattle.sat_model.specs.Events.{RowsOver, rows_over}
 use Rattle.sat_model.specs.Fold.{Subpaving}
 use Rattle.sat_model.specs.Renewals.{IsInside, HoldsLive, IsOfPlace, LineFact, LinesPass, LinesFail}
@@ -275,7 +275,7 @@ ready_each delays root (first ∷ bases) zero base each is = let same : first �
 ready_each delays root (first ∷ bases) (suc i) base each is = ready_each delays root bases i base each.1 is
 
 -- a box that isn't empty lies in the root that it is inside of
-lies_in_root : (part : Box3) (root : GridBox) → IsInside (grid_box part) root → LiesIn (grid_box part) root
+pub lies_in_root : (part : Box3) (root : GridBox) → IsInside (grid_box part) root → LiesIn (grid_box part) root
 lies_in_root part root inside zero = record { low = inside.0.0; ordered = part.x_ordered; high = inside.0.1 }
 lies_in_root part root inside (suc zero) = record { low = inside.1.0; ordered = part.y_ordered; high = inside.1.1 }
 lies_in_root part root inside (suc (suc n)) = record { low = inside.2.0; ordered = part.z_ordered; high = inside.2.1 }

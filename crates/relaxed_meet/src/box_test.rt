@@ -59,7 +59,8 @@ impl<'a> BoxTest<'a> {
         }
     }
 
-    /// What decided the tests so far.
+    /// What decided the tests so far. It makes those to come faster and changes no answer, so
+    /// nothing is promised of it.
     pub fn memory(&self) -> Memory {
         Memory {
             boxes: self.boxes,

@@ -66,6 +66,12 @@ pub record IsRowOfBase (delays : Delays) (base : Base) (part : GridBox) (row : R
   pub bounds : AreBoundsTight part delays row
   pub plain : is_plain delays ≡ true → HasBounds row (ends base.err)
 
+-- own rows of it can be formed over each part of the root
+pub record CanForm (delays : Delays) (root : GridBox) (base : Base) : Type 0 where
+  pub narrow : IsNarrowBase base
+  pub search : IsSearchBox root
+  pub high : IsHigh delays root
+
 -- ---- the bases of an epoch
 
 abbrev pub base_list : Option Base → List Base

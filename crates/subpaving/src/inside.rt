@@ -13,13 +13,7 @@ fn lies_on(part: &Box3, whole: &Box3, axis: u8) -> bool
 {
     let (low, high) = part.side(axis);
     let (whole_low, whole_high) = whole.side(axis);
-    if whole_low > low {
-        return false;
-    }
-    if high > whole_high {
-        return false;
-    }
-    true
+    whole_low <= low && high <= whole_high
 }
 
 /// Whether the first box lies in the second.

@@ -5,7 +5,7 @@ use Rattle.grid_model.specs.Boxes.{grid_box}
 use Rattle.grid_model.specs.Lengths.{spare_of}
 use Rattle.gnss_model.specs.Delays.{err_spare_of}
 use Rattle.epoch_selection.specs.Searches.{search_in}
-use Rattle.epoch_rows.proofs.BaseLemmas.{few_bases, bases_of_rows, can_renew}
+use Rattle.epoch_rows.proofs.BaseLemmas.{few_bases, bases_of_rows, can_form}
 use Rattle.epoch_rows.proofs.BlockLemmas.{header_fits, bare_fits, few_usable, few_skips, skips_skipped, few_grown, skip_entries, grown_entries}
 use Rattle.epoch_rows.proofs.blocks.block.Goals as goal
 use Rattle.paving_log.specs.Values.{body_value}
@@ -53,7 +53,7 @@ pub of_bases-requires-clause-bases : goal.of_bases-requires-clause-bases
 of_bases-requires-clause-bases g c =
     let m = g.S.RowSource.meaning c.args.source.now in
     let own = c.in_ok-own.own in
-    rw c.delays-delays.ensures.value (can_renew m (search_in (grid_box c.args.root.now) c.args.epoch.now) own.lines.items own.bases.items c.in_ok-own.ensures.bases)
+    rw c.delays-delays.ensures.value (can_form m (search_in (grid_box c.args.root.now) c.args.epoch.now) own.lines.items own.bases.items c.in_ok-own.ensures.bases)
 
 pub invariant_of-result-2 : goal.invariant_of-result-2
 invariant_of-result-2 g c =
