@@ -28,8 +28,7 @@ pub struct RowMaker {
     delays: Delays,
     ghost search: { IsSearchBox (grid_box root) },
     ghost within: { AreDelays delays },
-    ghost ready: { CanFormEach delays (grid_box root) bases.items }
-        by { CanFormEach-prop delays (grid_box root) bases.items },
+    ghost ready: { CanFormEach delays (grid_box root) bases.items } by { CanFormEach-prop delays (grid_box root) bases.items },
 }
 
 impl RowMaker {

@@ -1,4 +1,4 @@
-use crate::small_rows::cuboid;
+use crate::logs::search_box;
 use epoch_report::{Counts4, Line, epoch_text, metres, step_text, total_text};
 use grid_model::{Box3, Pos};
 use sat_model::Step;
@@ -61,7 +61,7 @@ fn slab() -> Box3 {
 
 #[test]
 fn a_step_is_told_by_the_box_that_it_closes_and_a_split_not(rt: HostRuntime) -> Result<(), Fail> {
-    let part = cuboid();
+    let part = search_box();
     for (step, text) in [
         (
             Step::Edge {

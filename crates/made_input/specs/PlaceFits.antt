@@ -18,7 +18,7 @@ use Rattle.usable_sats.specs.Usability.{sighting, IsUsable}
 abbrev pub FitsAt : List NavRecord → Settings → Pos → Observed → Type 0
 FitsAt records settings p epoch = (root : GridBox)
     → Fits (gps_meaning records settings) root epoch.tag settings.rules.outliers p (pos 0)
-      epoch.sats
+    epoch.sats
 
 abbrev pub FitsInEach : List NavRecord → Settings → Pos → List EpochCodes → Type 0
 FitsInEach records settings p epochs = AllByRecursion (FitsAt records settings p) (observed_from 1

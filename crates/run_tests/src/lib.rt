@@ -1,9 +1,7 @@
-//! Tests alone: whole runs of the program over files and sinks in memory, these files and sinks
-//! themselves, and the checker's tests of one epoch and of one row.
+//! Shelves and runs over objects in memory, and tests: runs over the files of a receiver, and the
+//! checker's test of one epoch.
 #![tactic(auto)]
 
-#[cfg(test)]
-mod commands;
 #[cfg(test)]
 mod epochs;
 #[cfg(test)]
@@ -13,17 +11,8 @@ mod files;
 #[cfg(test)]
 mod guards;
 #[cfg(test)]
-mod made;
-#[cfg(test)]
-mod narrowing;
-#[cfg(test)]
-mod outer;
-#[cfg(test)]
 mod parts;
-#[cfg(test)]
-mod pavings;
 pub mod roomy;
-#[cfg(test)]
-mod shelves;
+pub mod shelves;
 #[cfg(test)]
 mod tracks;

@@ -3,9 +3,9 @@
 ghost use Rattle.std.specs.Prelude.{◌≡◌, IfOk, string_bytes};
 ghost use Rattle.outer_io.specs.Store.{HaveOwnNames};
 
+use grid_model::NoMemory;
 use outer_io::MemoryShelf;
 use std::alloc::{AllocError, Global};
-use std::test::Fail;
 
 /// The words of a run.
 pub fn words(alloc: Global, texts: &[&str]) -> Result<Vec<String>, AllocError> {
@@ -17,7 +17,7 @@ pub fn words(alloc: Global, texts: &[&str]) -> Result<Vec<String>, AllocError> {
 }
 
 /// A file with a name and bytes.
-fn file(alloc: Global, name: &str, text: &str) -> Result<(String, Vec<u8>), Fail>
+fn file(alloc: Global, name: &str, text: &str) -> Result<(String, Vec<u8>), NoMemory>
     ensures { IfOk result (λ file. string_bytes file.0 ≡ name.now) }
 {
     let mut bytes = Vec::new(alloc);
@@ -34,7 +34,7 @@ pub fn one_file(
     log: &str,
     room: u64,
     fails: Vec<u64>,
-) -> Result<MemoryShelf, Fail> {
+) -> Result<MemoryShelf, NoMemory> {
     let files = vec![in alloc; file(alloc, name, text)?]?;
     let log = String::from_str(alloc, log)?;
     Ok(MemoryShelf::make(alloc, files, log, room, fails)?)
@@ -48,7 +48,7 @@ pub fn five_files(
     settings: &str,
     zones: &str,
     log: &str,
-) -> Result<Vec<(String, Vec<u8>)>, Fail>
+) -> Result<Vec<(String, Vec<u8>)>, NoMemory>
     ensures { IfOk result (λ files. HaveOwnNames files.items) }
 {
     let obs = file(alloc, "a.obs", obs)?;
@@ -66,7 +66,7 @@ pub fn four_files(
     nav: &str,
     settings: &str,
     log: &str,
-) -> Result<Vec<(String, Vec<u8>)>, Fail>
+) -> Result<Vec<(String, Vec<u8>)>, NoMemory>
     ensures { IfOk result (λ files. HaveOwnNames files.items) }
 {
     let obs = file(alloc, "a.obs", obs)?;

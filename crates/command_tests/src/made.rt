@@ -1,7 +1,7 @@
-use crate::shelves::{four_files, one_file, words};
 use cover_run::{Limits, Status, run};
 use made_input::{Made, make};
 use outer_io::{MemoryShelf, MemorySink};
+use run_tests::shelves::{four_files, one_file, words};
 use std::alloc::Global;
 use std::process::Abort;
 use std::test::Fail;

@@ -3,7 +3,7 @@ use Rattle.step_columns.specs.Steps.{steps_of}
 use Rattle.paving_log.specs.Renewing.{events_from}
 use Rattle.sat_model.proofs.EventLemmas.{lines_of_made}
 use Rattle.sat_model.specs.Events.{lines_of_all}
-use Rattle.log_tests.proofs.judging.judged.Goals as goal
+use Rattle.paving_tests.proofs.judging.judged.Goals as goal
 
 -- its events are steps alone
 pub judge-requires : goal.judge-requires

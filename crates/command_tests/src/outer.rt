@@ -1,8 +1,8 @@
-use crate::shelves::one_file;
 use outer_io::{
     FileShelf, MemoryShelf, MemorySink, ReadAll, Shelf, Sink, Slot, StreamSink, read_all,
     write_shelf, write_sink,
 };
+use run_tests::shelves::one_file;
 use std::alloc::Global;
 use std::test::Fail;
 

@@ -2,9 +2,9 @@
 
 ghost use Rattle.std.specs.Prelude.{◌<◌};
 
-use crate::shelves::{one_file, words};
 use cover_run::{Limits, Status, run};
 use outer_io::MemorySink;
+use run_tests::shelves::{one_file, words};
 use std::process::Abort;
 use std::test::Fail;
 

@@ -3,9 +3,9 @@
 ghost use Rattle.std.specs.Prelude.{◌<◌};
 
 use crate::commands::LOG;
-use crate::shelves::{one_file, words};
 use cover_run::{Limits, Status, run};
 use outer_io::{MemoryShelf, MemorySink};
+use run_tests::shelves::{one_file, words};
 use std::process::Abort;
 use std::test::Fail;
 

@@ -2,9 +2,9 @@
 //! Where the bound of the troposphere is mapped by elevation, so may those of the ends of the
 //! error.
 
-use crate::shelves::{four_files, words};
 use cover_run::{Limits, Status, run};
 use outer_io::{MemoryShelf, MemorySink};
+use run_tests::shelves::{four_files, words};
 use std::alloc::{AllocError, Global};
 use std::process::Abort;
 use std::test::Fail;
