@@ -33,6 +33,7 @@ use Rattle.epoch_rows.proofs.AgreeLemmas.{HasPoint, AllAgree, LineAgrees, lines_
 use Rattle.epoch_rows.proofs.MakerLemmas.{IsGiven, row_given, run_given}
 use Rattle.epoch_rows.proofs.PlaceLemmas.{each_at, each_as}
 use Rattle.epoch_rows.proofs.RenewedLemmas.{RowAt, row_at, given_held, own_renewed, all_meet}
+use Rattle.log_writer.proofs.LogLemmas.{same_few}
 
 -- ---- satellite lines
 
@@ -70,12 +71,6 @@ as_many delays (e ∷ entries) (line ∷ lines) all = ap suc (as_many delays ent
 -- ---- bodies
 
 -- a finished block has a body where the one that was given has, with the same root
-few_as : (Runs : Block → Body → Type 0) (block : Block) (given body : Option Body) → BodyExtends Runs block given body → is_none body ≡ is_none given
-few_as Runs block None None is = refl
-few_as Runs block None (Some body) is = absurd is
-few_as Runs block (Some given) None is = absurd is
-few_as Runs block (Some given) (Some body) is = refl
-
 -- the body is that of a run from the root, over the rows that were given
 record IsRunOver (maker : Maker) (rules : Rules) (delays : Delays) (root : GridBox) (own : List SatLine) (block : Block) (body : Body) : Type 0 where
   same_root : body.root ≡ root
@@ -119,7 +114,7 @@ module _ (m : Meaning) (sound : IsSound m) (renews : Bool) (rules : Rules) where
       hand = hand_of search s.given
 
       same_few : is_few block ≡ is_few s.given
-      same_few = few_as (HasRun (maker_of m renews (Some (hand_of search s.given))) rules) block s.given.body block.body s.made.body
+      same_few = same_few (HasRun (maker_of m renews (Some (hand_of search s.given))) rules) block s.given.body block.body s.made.body
 
       block_agrees : (other : List SatLine) → AreLinesOf m search.root search.epoch other → AllAgree m.delays block.sats (expected (is_few block) other)
       block_agrees other are = rw (s.made.sats, same_few) (sats_agree s.grown.own other s.given.sats s.given.body s.grown.are_own are s.grown.body)

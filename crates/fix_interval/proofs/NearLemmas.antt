@@ -104,3 +104,9 @@ fraction_product lo hi num q b den l h o p r f g v n =
       from = ⊎_elim (λ k. near_or_above (lo *ℤ b) den v l r (λ w i. (at_low w i).from) (cancel_above (num *ℤ b) (lo *ℤ b) v q den p k n.above)) (λ k. near_or_above (hi *ℤ b) den v l r (λ w i. (at_high w i).from) (cancel_above (num *ℤ b) (hi *ℤ b) v q den p k n.above)) (least_of lo hi num q b f);
       to = ⊎_elim (λ k. near_or_below (lo *ℤ b) den v h r (λ w i. (at_low w i).to) (cancel_below (num *ℤ b) (lo *ℤ b) v q den p k n.below)) (λ k. near_or_below (hi *ℤ b) den v h r (λ w i. (at_high w i).to) (cancel_below (num *ℤ b) (hi *ℤ b) v q den p k n.below)) (greatest_of lo hi num q b f);
     }
+
+-- ---- sums
+
+-- a number is held, and what another is more than it
+pub between_sums : (lo hi l h rl rh a v : ℤ) → Between lo hi a → Between l h (v -ℤ a) → rl ≡ lo +ℤ l → rh ≡ hi +ℤ h → Between rl rh v
+between_sums lo hi l h rl rh a v p q e f = record { from = omega (arith, ints, p.from, q.from); to = omega (arith, ints, p.to, q.to) }

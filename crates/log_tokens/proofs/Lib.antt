@@ -4,3 +4,4 @@ pub mod TimeLemmas
 pub mod JoinedLemmas
 pub mod DigitLemmas
 pub mod LeadingLemmas
+pub mod TextLemmas

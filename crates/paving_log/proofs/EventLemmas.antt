@@ -14,7 +14,7 @@ use Rattle.paving_log.specs.Text.{row_line, event_lines, EventFits}
 
 -- ---- places
 
-rise_high : (from to : ℕ) (rs : List Renewal) → Rise from rs to → from ≤ to
+pub rise_high : (from to : ℕ) (rs : List Renewal) → Rise from rs to → from ≤ to
 rise_high from to [] rise = rise
 rise_high from to (r ∷ more) rise = omega (arith, rise.0, rise_high r.at to more rise.1)
 

@@ -116,7 +116,7 @@ body_leads f b (Some body) fit le fits = record {
       subst (λ (ls : List LogLine). Leads (place.Satellites f b.n 0) ls end) (sym (append_assoc (map line.Sat b.sats) (line.Root (corners_of body.root) ∷ last) tail)) whole;
 }
 
-first_fits : (few : Bool) (h : Header) → HeaderFits h → LineFits (first_line few h)
+pub first_fits : (few : Bool) (h : Header) → HeaderFits h → LineFits (first_line few h)
 first_fits true h fits = fits
 first_fits false h fits = fits
 

@@ -31,7 +31,7 @@ use Rattle.gnss_model.specs.Delays.{is_plain}
 use Rattle.gnss_model.specs.declared.delays.Delays.{Delays}
 use Rattle.sat_model.specs.declared.steps.Step.{Step}
 use Rattle.sat_model.specs.declared.steps.Step.TheVariants.{Cut, Split, Outside, Inside, Edge}
-use Rattle.sat_model.proofs.CoverLemmas.{inside_holds, PossibleInEach, covers_each, epoch_cover}
+use Rattle.sat_model.proofs.CoverLemmas.{inside_holds, PossibleInEach, covers_each, epoch_cover, some_live}
 use Rattle.sat_model.proofs.FoldLemmas.{option_weight, weight, held_by, conserved, root_weight}
 use Rattle.sat_rows.specs.Chains.{Chain}
 use Rattle.sat_rows.specs.Fitting.{IsConsistent, Agrees, Fits, FitsEpoch}
@@ -215,20 +215,6 @@ one_more (suc q) Meets (x ∷ xs) h = elim h [
 ]
 
 -- ---- live boxes
-
--- a live box holds a point that some live boxes hold
-some_live : (p : Pos) (live : List (Option GridBox)) → 0 < weight p live → (id : ℕ) × (part : GridBox) × (get_or live id None ≡ Some part) × (box_holds part p ≡ true)
-some_live p [] h = absurd (omega arith)
-some_live p (None ∷ live) h =
-    let (id, part, is, inside) = some_live p live (omega (arith, sum_by-cons (λ o. option_weight p o) None live, h)) in
-    (suc id, part, is, inside)
-some_live p (Some part ∷ live) h = elim (cases_Bool (box_holds part p)) [
-  | inl e ↦ (zero, part, refl, e)
-  | inr e ↦
-      let none : option_weight p (Some part) ≡ 0 = rw e refl in
-      let (id, other, is, inside) = some_live p live (omega (arith, sum_by-cons (λ o. option_weight p o) (Some part) live, h, none)) in
-      (suc id, other, is, inside)
-]
 
 -- the box holds each point that a live box holds
 abbrev HoldsLivePoints : GridBox → Subpaving → Type 0

@@ -14,7 +14,7 @@ use Rattle.sat_model.specs.declared.steps.Step.{Step}
 use Rattle.sat_model.proofs.EventLemmas.{lines_of_made, lines_behind}
 use Rattle.grid_model.proofs.ListLemmas.{next_item, no_item}
 use Rattle.sat_rows.specs.declared.bases.Base.{Base}
-use Rattle.paving_log.proofs.EventLemmas.{steps_le_lines, lines_of_events}
+use Rattle.paving_log.proofs.EventLemmas.{steps_le_lines, lines_of_events, rise_high}
 use Rattle.paving_log.specs.declared.renewal.Renewal.{Renewal}
 use Rattle.paving_log.specs.Renewing.{Rise, new_rows, events_from}
 use Rattle.paving_log_check.specs.Answers.{ShowsNoSpans}
@@ -23,11 +23,6 @@ use Rattle.paving_log_check.specs.Steps.{StepsPass, StepsFail, stage_behind}
 use Rattle.paving_log_check.specs.declared.verdict.Fault.{Fault}
 use Rattle.paving_log_check.proofs.StepLemmas.{test_behind}
 use Rattle.paving_log_check.proofs.WalkLemmas.{start, IsWalked, walked_first, walked_steps, walked_steps_fail, walked_renewal, walked_renewal_fails, walked_done, walked_done_fails}
-
--- the last place isn't below the first one
-rise_high : (from to : ℕ) (rs : List Renewal) → Rise from rs to → from ≤ to
-rise_high from to [] rise = rise
-rise_high from to (r ∷ more) rise = omega (arith, rise.0, rise_high r.at to more rise.1)
 
 -- so many steps stand before the next renewal
 pub few_before : (taken : ℕ) (steps : List Step) (r : Renewal) (more : List Renewal) → Rise taken (r ∷ more) (taken + length steps)

@@ -160,8 +160,5 @@ plus_size x y f g = record { low = omega (arith, ints, f.low, g.low); high = ome
 pub near_light : (d v : ℤ) → Near (pos light_speed *ℤ d) (pos (10 ^ 10)) v → Near (d *ℤ pos light_speed) (pos (10 ^ 10)) v
 near_light d v n = rw (*ℤ_comm d (pos light_speed)) n
 
-pub sum_member : (a b lo hi l h p v : ℤ) → Between a b p → Between lo hi (v -ℤ p) → l ≡ a +ℤ lo → h ≡ b +ℤ hi → Between l h v
-sum_member a b lo hi l h p v f g e i = record { from = omega (arith, ints, f.from, g.from); to = omega (arith, ints, f.to, g.to) }
-
 pub sum_width : (w : ℕ) (a b lo hi l h : ℤ) → IsNarrow w a b → (hi -ℤ lo) ≤ℤ pos 6 → l ≡ a +ℤ lo → h ≡ b +ℤ hi → IsNarrow (w + 24) l h
 sum_width w a b lo hi l h f g e i = record { width = omega (arith, ints, f.width) }

@@ -65,7 +65,7 @@ keeps_or_misses rules stage (Edge id lo hi) p b (part, is, hull) all = rw is
 
 -- ---- which live box holds a point
 
-some_live : (p : Pos) (live : List (Option GridBox)) → 0 < weight p live → (id : ℕ) × (part : GridBox) × (get_or live id None ≡ Some part) × (box_holds part p ≡ true)
+pub some_live : (p : Pos) (live : List (Option GridBox)) → 0 < weight p live → (id : ℕ) × (part : GridBox) × (get_or live id None ≡ Some part) × (box_holds part p ≡ true)
 some_live p [] h = absurd (omega arith)
 some_live p (None ∷ live) h =
     let (id, part, is, inside) = some_live p live (omega (arith, sum_by-cons (λ o. option_weight p o) None live, h)) in

@@ -7,7 +7,7 @@ use Rattle.grid_model.specs.Products.{ProductsWithin, least_product, greatest_pr
 use Rattle.grid_model.specs.Rounding.{IsTightRound}
 use Rattle.grid_model.specs.Sizes.{IsWithin}
 use Rattle.grid_model.proofs.EndsLemmas.{product_ends, sum_ends}
-use Rattle.fix_interval.proofs.NearLemmas.{near_without, any_product_ends}
+use Rattle.fix_interval.proofs.NearLemmas.{near_without, any_product_ends, between_sums}
 use Rattle.fix_interval.proofs.advance.advanced.Goals as goal
 
 small : (a b c d l h : ℤ) → ProductsWithin (10 ^ 38) a b c d → l ≤ℤ h → IsTightRound (least_product a b c d) (pos rate_scale) (greatest_product a b c d) (pos rate_scale) l h → Ends (10 ^ 20 + 2) (10 ^ 20 + 10 ^ 20 + 4) l h
@@ -15,9 +15,6 @@ small a b c d l h p o t = any_product_ends (10 ^ 20) (pos rate_scale) a b c d l 
 
 sum_within : (x y : ℤ) → IsWithin (10 ^ 37) x → IsWithin (10 ^ 20 + 2) y → IsWithin (10 ^ 38) (x +ℤ y)
 sum_within x y p q = record { low = omega (arith, ints); high = omega (arith, ints) }
-
-between_sums : (lo hi l h rl rh a v : ℤ) → Between lo hi a → Between l h (v -ℤ a) → rl ≡ lo +ℤ l → rh ≡ hi +ℤ h → Between rl rh v
-between_sums lo hi l h rl rh a v p q e f = record { from = omega (arith, ints, p.from, q.from); to = omega (arith, ints, p.to, q.to) }
 
 pub plus-requires-clause-low_size : goal.plus-requires-clause-low_size
 plus-requires-clause-low_size c =

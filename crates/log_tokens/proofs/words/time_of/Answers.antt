@@ -5,16 +5,10 @@ use Rattle.std.proofs.lemmas.Bool.{eq-eqb}
 use Rattle.std.proofs.lemmas.Fmt.{parse-decimal_wide, IsAscii-decimal_wide}
 use Rattle.std.proofs.lemmas.Str.{IsUtf8-from_ascii}
 use lib.Pointwise.{pointwise}
+use Rattle.log_tokens.proofs.TextLemmas.{same_pointwise}
 use Rattle.log_tokens.proofs.TimeLemmas.{time_count}
 use Rattle.log_tokens.proofs.words.time_of.Goals as goal
 use Rattle.log_tokens.proofs.words.time_of.Goals.{else-ps-le-TIME_END-via-then-ps-le-TIME_END+else-eq, else-ps-le-TIME_END-via-else-ps-le-TIME_END}
-
-pointwise_self : (xs : List ℕ) → pointwise eqb xs xs ≡ true
-pointwise_self [] = refl
-pointwise_self (x ∷ xs) = rw (eq-eqb x x refl) (pointwise_self xs)
-
-pointwise_same : (xs ys : List ℕ) → xs ≡ ys → pointwise eqb xs ys ≡ true
-pointwise_same xs ys e = rw e (pointwise_self ys)
 
 pub returns-in-Err-clause-none : goal.returns-in-Err-clause-none
 returns-in-Err-clause-none c = λ ps time e.
@@ -41,7 +35,7 @@ returns-else-ps-le-TIME_END-clause-none c = λ ps time e.
     elim c.else-ps-le-TIME_END.branch [
       | else-ps-le-TIME_END-via-then-ps-le-TIME_END+else-eq w ↦
           let again : c.as_bytes-spelled.result.now ≡ c.args.word.now = c.as_bytes-spelled.ensures.value ∙ c.format.ensures.text ∙ ap decimal same ∙ sym spelled in
-          let alike = pointwise_same _ _ again in
+          let alike = same_pointwise _ _ again in
           let apart = w.if-eq.false in
           let is = w.eq.ensures in
           cc

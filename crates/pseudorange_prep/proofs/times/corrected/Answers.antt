@@ -2,8 +2,8 @@ use Rattle.std.proofs.Common.{lit≤, ◌^◌, ◌*◌, ◌+◌}
 use Rattle.std.specs.Prelude.{pos, ◌-ℤ◌, ◌*ℤ◌}
 use Rattle.grid_model.proofs.EndsLemmas.{sum_ends}
 use Rattle.gnss_model.specs.EarthModel.{light_speed}
-use Rattle.fix_interval.proofs.NearLemmas.{near_without}
-use Rattle.pseudorange_prep.proofs.WidthLemmas.{amount_ends, narrow_ends, plus_size, sum_member, near_light, sum_width}
+use Rattle.fix_interval.proofs.NearLemmas.{near_without, between_sums}
+use Rattle.pseudorange_prep.proofs.WidthLemmas.{amount_ends, narrow_ends, plus_size, near_light, sum_width}
 use Rattle.pseudorange_prep.proofs.times.corrected.Goals as goal
 
 pub plus-requires-clause-low_size : goal.plus-requires-clause-low_size
@@ -18,7 +18,7 @@ plus-requires-clause-high_size c =
 
 pub returns-clause-holds : goal.returns-clause-holds
 returns-clause-holds c p d v f g n =
-    sum_member _ _ _ _ _ _ p v f
+    between_sums _ _ _ _ _ _ p v f
     (c.times_light.ensures.holds d (v -ℤ p) g (near_light d (v -ℤ p) (near_without p (pos light_speed *ℤ d) (pos (10 ^ 10)) v n)))
     c.plus.ensures.low c.plus.ensures.high
 

@@ -5,15 +5,9 @@ use Rattle.std.proofs.lemmas.Bool.{eq-eqb}
 use Rattle.std.proofs.lemmas.Fmt.{parse-decimal_wide, IsAscii-decimal_wide}
 use Rattle.std.proofs.lemmas.Str.{IsUtf8-from_ascii}
 use lib.Pointwise.{pointwise}
+use Rattle.log_tokens.proofs.TextLemmas.{same_pointwise}
 use Rattle.zone_guard.proofs.numbers.amount_of.Goals as goal
 use Rattle.zone_guard.proofs.numbers.amount_of.Goals.{else-amount-le-GREATEST-via-then-amount-le-GREATEST+else-eq, else-amount-le-GREATEST-via-else-amount-le-GREATEST}
-
-pointwise_self : (xs : List ℕ) → pointwise eqb xs xs ≡ true
-pointwise_self [] = refl
-pointwise_self (x ∷ xs) = rw (eq-eqb x x refl) (pointwise_self xs)
-
-pointwise_same : (xs ys : List ℕ) → xs ≡ ys → pointwise eqb xs ys ≡ true
-pointwise_same xs ys e = rw e (pointwise_self ys)
 
 pub returns-in-Err-clause-none : goal.returns-in-Err-clause-none
 returns-in-Err-clause-none c = λ n within spelled.
@@ -34,7 +28,7 @@ returns-else-amount-le-GREATEST-clause-none c = λ n within spelled.
     elim c.else-amount-le-GREATEST.branch [
       | else-amount-le-GREATEST-via-then-amount-le-GREATEST+else-eq w ↦
           let again : c.as_bytes-spelled.result.now ≡ c.args.digits.now = c.as_bytes-spelled.ensures.value ∙ c.format.ensures.text ∙ ap decimal same ∙ sym spelled in
-          let alike = pointwise_same _ _ again in
+          let alike = same_pointwise _ _ again in
           let apart = w.if-eq.false in
           let is = w.eq.ensures in
           cc
