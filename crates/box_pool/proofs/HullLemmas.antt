@@ -1,41 +1,41 @@
 -- The least box round items.
 use Rattle.std.proofs.Common.{◌≡◌, ◌≢◌, ℕ, zero, suc, ◌+◌, List, [], ◌∷◌, ◌++◌, take, Option, Some, None, arith, append_assoc, refl, sym, ap, subst, ◌∙◌}
-use Rattle.grid_model.specs.Boxes.{GridBox, grid_box}
+use Rattle.grid_model.specs.Boxes.{GridBox, grid_box, IsInside}
 use Rattle.grid_model.specs.declared.boxes.Box3.{Box3}
 use Rattle.box_pool.specs.declared.item.Item.{Item}
 use Rattle.box_pool.specs.Lists.{list_at, AllEmpty}
-use Rattle.box_pool.specs.Hulls.{LiesIn, AllLieIn, IsHull, IsHullOf, IsHullOfAll}
+use Rattle.box_pool.specs.Hulls.{AllItemsInside, IsHull, IsHullOf, IsHullOfAll}
 use Rattle.std.specs.Int.Signed.{≤ℤ_refl}
 use Rattle.std.specs.Prelude.{MatchOption}
 use Rattle.grid_model.proofs.IntervalLemmas.{le_z_trans}
 
-pub lies_trans : (a b c : GridBox) → LiesIn a b → LiesIn b c → LiesIn a c
+pub lies_trans : (a b c : GridBox) → IsInside a b → IsInside b c → IsInside a c
 lies_trans a b c p q = (
   (le_z_trans c.x.lo b.x.lo a.x.lo q.0.0 p.0.0, le_z_trans a.x.hi b.x.hi c.x.hi p.0.1 q.0.1),
   (le_z_trans c.y.lo b.y.lo a.y.lo q.1.0 p.1.0, le_z_trans a.y.hi b.y.hi c.y.hi p.1.1 q.1.1),
   (le_z_trans c.z.lo b.z.lo a.z.lo q.2.0 p.2.0, le_z_trans a.z.hi b.z.hi c.z.hi p.2.1 q.2.1),
 )
 
-pub lies_refl : (a : GridBox) → LiesIn a a
+pub lies_refl : (a : GridBox) → IsInside a a
 lies_refl a = ((≤ℤ_refl a.x.lo, ≤ℤ_refl a.x.hi), (≤ℤ_refl a.y.lo, ≤ℤ_refl a.y.hi), (≤ℤ_refl a.z.lo, ≤ℤ_refl a.z.hi))
 
-pub all_wider : (items : List Item) (a b : GridBox) → AllLieIn items a → LiesIn a b → AllLieIn items b
+pub all_wider : (items : List Item) (a b : GridBox) → AllItemsInside items a → IsInside a b → AllItemsInside items b
 all_wider [] a b p q = tt
 all_wider (item ∷ items) a b p q = (lies_trans (grid_box item.part) a b p.0 q, all_wider items a b p.1 q)
 
-pub all_push : (items : List Item) (item : Item) (a : GridBox) → AllLieIn items a → LiesIn (grid_box item.part) a → AllLieIn (items ++ item ∷ []) a
+pub all_push : (items : List Item) (item : Item) (a : GridBox) → AllItemsInside items a → IsInside (grid_box item.part) a → AllItemsInside (items ++ item ∷ []) a
 all_push [] item a p q = (q, tt)
 all_push (i ∷ items) item a p q = (p.0, all_push items item a p.1 q)
 
-pub all_left : (items others : List Item) (a : GridBox) → AllLieIn (items ++ others) a → AllLieIn items a
+pub all_left : (items others : List Item) (a : GridBox) → AllItemsInside (items ++ others) a → AllItemsInside items a
 all_left [] others a p = tt
 all_left (i ∷ items) others a p = (p.0, all_left items others a p.1)
 
-pub all_right : (items others : List Item) (a : GridBox) → AllLieIn (items ++ others) a → AllLieIn others a
+pub all_right : (items others : List Item) (a : GridBox) → AllItemsInside (items ++ others) a → AllItemsInside others a
 all_right [] others a p = p
 all_right (i ∷ items) others a p = all_right items others a p.1
 
-pub all_both : (items others : List Item) (a : GridBox) → AllLieIn items a → AllLieIn others a → AllLieIn (items ++ others) a
+pub all_both : (items others : List Item) (a : GridBox) → AllItemsInside items a → AllItemsInside others a → AllItemsInside (items ++ others) a
 all_both [] others a p q = q
 all_both (i ∷ items) others a p q = (p.0, all_both items others a p.1 q)
 
@@ -47,12 +47,12 @@ not_nil (i ∷ items) item e = cc
 pub hull_one : (items : List Item) (item : Item) → items ≡ [] → IsHull (items ++ item ∷ []) (grid_box item.part)
 hull_one items item e = record {
   some = not_nil items item;
-  holds = all_push items item (grid_box item.part) (subst (λ xs. AllLieIn xs (grid_box item.part)) (sym e) tt) (lies_refl (grid_box item.part));
+  holds = all_push items item (grid_box item.part) (subst (λ xs. AllItemsInside xs (grid_box item.part)) (sym e) tt) (lies_refl (grid_box item.part));
   least = λ whole all. (all_right items (item ∷ []) whole all).0;
 }
 
-pub hull_more : (items : List Item) (item : Item) (hull now : GridBox) → IsHull items hull → LiesIn hull now → LiesIn (grid_box item.part) now
-    → ((whole : GridBox) → LiesIn hull whole → LiesIn (grid_box item.part) whole → LiesIn now whole) → IsHull (items ++ item ∷ []) now
+pub hull_more : (items : List Item) (item : Item) (hull now : GridBox) → IsHull items hull → IsInside hull now → IsInside (grid_box item.part) now
+    → ((whole : GridBox) → IsInside hull whole → IsInside (grid_box item.part) whole → IsInside now whole) → IsHull (items ++ item ∷ []) now
 hull_more items item hull now k wider holds least = record {
   some = not_nil items item;
   holds = all_push items item now (all_wider items hull now k.holds wider) holds;
@@ -78,13 +78,13 @@ flat_next (items ∷ lists) (suc i) = ap (λ xs. items ++ xs) (flat_next lists i
 pub flat_more : (lists : List (List Item)) (i : ℕ) → flat (take (i + 1) lists) ≡ flat (take i lists) ++ list_at lists i
 flat_more lists i = let next : i + 1 ≡ suc i = omega arith in ap (λ k. flat (take k lists)) next ∙ flat_next lists i
 
-all_at : (lists : List (List Item)) (a : GridBox) → AllLieIn (flat lists) a → (bucket : ℕ) → AllLieIn (list_at lists bucket) a
+all_at : (lists : List (List Item)) (a : GridBox) → AllItemsInside (flat lists) a → (bucket : ℕ) → AllItemsInside (list_at lists bucket) a
 unfolding flat
 all_at [] a p bucket = tt
 all_at (items ∷ lists) a p zero = all_left items (flat lists) a p
 all_at (items ∷ lists) a p (suc bucket) = all_at lists a (all_right items (flat lists) a p) bucket
 
-all_flat : (lists : List (List Item)) (a : GridBox) → ((bucket : ℕ) → AllLieIn (list_at lists bucket) a) → AllLieIn (flat lists) a
+all_flat : (lists : List (List Item)) (a : GridBox) → ((bucket : ℕ) → AllItemsInside (list_at lists bucket) a) → AllItemsInside (flat lists) a
 unfolding flat
 all_flat [] a p = tt
 all_flat (items ∷ lists) a p = all_both items (flat lists) a (p 0) (all_flat lists a (λ bucket. p (suc bucket)))

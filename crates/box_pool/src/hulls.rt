@@ -1,8 +1,8 @@
 //! The hull of boxes: the least box round them.
 
 ghost use Rattle.std.specs.Prelude.{◌≡◌, List, [], ◌∷◌, ◌++◌, Some};
-ghost use Rattle.grid_model.specs.Boxes.{GridBox, grid_box};
-ghost use Rattle.box_pool.specs.Hulls.{IsHullOf, LiesIn};
+ghost use Rattle.grid_model.specs.Boxes.{GridBox, grid_box, IsInside};
+ghost use Rattle.box_pool.specs.Hulls.{IsHullOf};
 ghost use Rattle.box_pool.specs.Corners.{IsLesser, IsGreater};
 
 use crate::item::Item;
@@ -36,10 +36,10 @@ fn greater(one: &Pos, other: &Pos) -> Pos
 
 /// The hull of two boxes.
 fn both(one: &Box3, other: &Box3) -> Box3
-    ensures first { LiesIn (grid_box one.now) (grid_box result) }
-    ensures second { LiesIn (grid_box other.now) (grid_box result) }
-    ensures least { (whole : GridBox) → LiesIn (grid_box one.now) whole
-        → LiesIn (grid_box other.now) whole → LiesIn (grid_box result) whole }
+    ensures first { IsInside (grid_box one.now) (grid_box result) }
+    ensures second { IsInside (grid_box other.now) (grid_box result) }
+    ensures least { (whole : GridBox) → IsInside (grid_box one.now) whole
+        → IsInside (grid_box other.now) whole → IsInside (grid_box result) whole }
 {
     Box3 {
         lo: lesser(&one.lo, &other.lo),

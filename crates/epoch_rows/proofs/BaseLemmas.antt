@@ -9,12 +9,11 @@ use Rattle.epoch_rows.specs.Laws.{sat_in_place}
 use Rattle.epoch_rows.specs.Renewed.{Hand, GivesRow, IsGrownFrom, IsBaseIn, AreBasesIn, CanFormEach}
 use Rattle.epoch_selection.specs.Searches.{Search}
 use Rattle.gnss_model.specs.declared.satellites.Sat.{Sat}
-use Rattle.grid_model.specs.Boxes.{GridBox, grid_box}
+use Rattle.grid_model.specs.Boxes.{GridBox, grid_box, IsInside}
 use Rattle.grid_model.specs.declared.boxes.Box3.{Box3}
 use Rattle.rinex_obs.specs.declared.obs.SatObs.{SatObs}
 use Rattle.sat_model.specs.Contractors.{LiesIn}
 use Rattle.sat_model.specs.Logs.{rows_of}
-use Rattle.sat_model.specs.Renewals.{IsInside}
 use Rattle.sat_model.specs.declared.rows.Row.{Row}
 use Rattle.sat_model.specs.declared.rows.SatEntry.{SatEntry}
 use Rattle.sat_model.specs.declared.rows.SatEntry.TheVariants as entry

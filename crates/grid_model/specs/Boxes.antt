@@ -35,6 +35,14 @@ side_holds s n = le_z s.lo n && le_z n s.hi
 abbrev pub box_holds : GridBox → Pos → Bool
 box_holds c p = side_holds c.x p.x && (side_holds c.y p.y && side_holds c.z p.z)
 
+abbrev pub IsSideInside : Side → Side → Type 0
+IsSideInside part whole = (whole.lo ≤ℤ part.lo) × (part.hi ≤ℤ whole.hi)
+
+-- no point of the first box is outside the second
+abbrev pub IsInside : GridBox → GridBox → Type 0
+IsInside part whole =
+    IsSideInside part.x whole.x × IsSideInside part.y whole.y × IsSideInside part.z whole.z
+
 -- the low end and half of the way to the high end, rounded down
 abbrev pub middle : Side → ℤ
 middle s = s.lo +ℤ pos (above s.hi s.lo / 2)

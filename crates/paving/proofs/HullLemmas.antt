@@ -5,11 +5,10 @@ use Rattle.std.specs.Prelude.{pos, ◌+ℤ◌, Option, MatchOption}
 use Rattle.std.proofs.lemmas.Bool.{cases_Bool}
 use Rattle.std.proofs.lemmas.Int.{ints}
 use Rattle.box_pool.specs.declared.item.Item.{Item}
-use Rattle.box_pool.specs.Hulls.{AllLieIn, IsHullOfAll}
+use Rattle.box_pool.specs.Hulls.{AllItemsInside, IsHullOfAll}
 use Rattle.box_pool.specs.Lists.{list_at, AllEmpty}
 use Rattle.grid_model.specs.declared.boxes.Box3.{Box3}
-use Rattle.grid_model.specs.Boxes.{Side, GridBox, grid_box}
-use Rattle.sat_model.specs.Renewals.{IsSideInside}
+use Rattle.grid_model.specs.Boxes.{Side, GridBox, grid_box, IsSideInside}
 use Rattle.sat_model.specs.Waiting.{WaitingBox, bits_of}
 use Rattle.paving.specs.Queues.{box_of, IsQueued}
 use Rattle.paving.specs.Renewing.{AllInside, IsHullOfWaiting, IsHullIf}
@@ -19,11 +18,11 @@ has bits box = nat_eq (bits_of box) bits
 
 -- ---- boxes and items
 
-items_inside : (items : List Item) (whole : GridBox) → AllLieIn items whole → AllInside (map box_of items) whole
+items_inside : (items : List Item) (whole : GridBox) → AllItemsInside items whole → AllInside (map box_of items) whole
 items_inside [] whole h = tt
 items_inside (item ∷ items) whole h = (h.0, items_inside items whole h.1)
 
-inside_items : (items : List Item) (whole : GridBox) → AllInside (map box_of items) whole → AllLieIn items whole
+inside_items : (items : List Item) (whole : GridBox) → AllInside (map box_of items) whole → AllItemsInside items whole
 inside_items [] whole h = tt
 inside_items (item ∷ items) whole h = (h.0, inside_items items whole h.1)
 

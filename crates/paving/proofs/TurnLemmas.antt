@@ -8,13 +8,13 @@ use Rattle.sat_model.specs.declared.rows.Row.{Row}
 use Rattle.sat_model.specs.declared.rules.Rules.{Rules}
 use Rattle.sat_model.specs.declared.steps.Step.{Step}
 use Rattle.sat_model.specs.declared.steps.Step.TheVariants.{Cut, Split, Outside, Inside, Edge}
-use Rattle.grid_model.specs.Boxes.{Side, GridBox, side_at, with_side, low_half, high_half}
+use Rattle.grid_model.specs.Boxes.{Side, GridBox, side_at, with_side, low_half, high_half, IsSideInside, IsInside}
 use Rattle.grid_model.specs.Lengths.{bit_length}
 use Rattle.sat_model.specs.BoxTests.{BoxTest}
 use Rattle.sat_model.specs.Cover.{EpochCover}
 use Rattle.sat_model.specs.Events.{Made, RowsOver, rows_over}
 use Rattle.sat_model.specs.Fold.{Subpaving, first_boxes, live_box, axis_of, is_low, side_left, IsProperBound, IsProperCut, left_by_cut, ShownStep}
-use Rattle.sat_model.specs.Renewals.{IsSideInside, IsInside, AnyLine, IsOfPlace, LinesPass, RenewalPasses}
+use Rattle.sat_model.specs.Renewals.{AnyLine, IsOfPlace, LinesPass, RenewalPasses}
 use Rattle.sat_model.specs.Stages.{Stage, first_stage, after}
 use Rattle.sat_model.specs.Verdicts.{EventsPass}
 use Rattle.sat_model.specs.Waiting.{WaitingBox, Paving, first_paving, IsNext, Closes, opened_by, splits_after}

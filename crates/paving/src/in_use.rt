@@ -1,9 +1,8 @@
 //! The rows in use, and the renewal of them.
 
 ghost use Rattle.std.specs.Prelude.{◌≡◌, ◌<◌, ◌≤◌, ℕ, List, length, true, OnOk, IfErr, Err};
-ghost use Rattle.grid_model.specs.Boxes.{grid_box};
+ghost use Rattle.grid_model.specs.Boxes.{grid_box, IsInside};
 ghost use Rattle.sat_model.specs.BoxTests.{test_of};
-ghost use Rattle.sat_model.specs.Renewals.{IsInside};
 ghost use Rattle.sat_model.specs.Waiting.{WaitingBox};
 ghost use Rattle.box_contraction.specs.Taken.{Rose};
 ghost use Rattle.paving.specs.InUse.{used_of, IsRefilled, RenewedTo, RenewalBroke};

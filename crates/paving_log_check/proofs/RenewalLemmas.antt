@@ -5,7 +5,7 @@ use Rattle.std.proofs.lemmas.List.{length-map}
 use Rattle.std.proofs.lemmas.Option.{same_Some, slice_get_within, slice_get_read, slice_get-map}
 use Rattle.gnss_model.specs.declared.delays.Delays.{Delays}
 use Rattle.std.specs.List.{AllByRecursion}
-use Rattle.grid_model.specs.Boxes.{GridBox, grid_box}
+use Rattle.grid_model.specs.Boxes.{GridBox, grid_box, IsInside}
 use Rattle.grid_model.specs.SearchBoxes.{IsSearchBox}
 use Rattle.grid_model.specs.declared.boxes.Box3.{Box3}
 use Rattle.sat_model.specs.Contractors.{LiesIn}
@@ -15,7 +15,7 @@ use Rattle.usable_sats.specs.Usability.{IsHigh}
 use Rattle.paving_log_check.specs.Bases.{AreReady}
 use Rattle.sat_model.specs.Events.{RowsOver, rows_over}
 use Rattle.sat_model.specs.Fold.{Subpaving}
-use Rattle.sat_model.specs.Renewals.{IsInside, HoldsLive, IsOfPlace, LineFact, LinesPass, LinesFail}
+use Rattle.sat_model.specs.Renewals.{HoldsLive, IsOfPlace, LineFact, LinesPass, LinesFail}
 use Rattle.sat_model.specs.declared.rows.Row.{Row}
 use Rattle.sat_rows.specs.declared.bases.Base.{Base}
 use Rattle.paving_log_check.specs.Answers.{ShowsNoSpans}

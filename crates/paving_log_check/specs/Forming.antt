@@ -3,12 +3,12 @@
 use Rattle.std.specs.Prelude.{◌≡◌, ℕ, ◌⊎◌, List, [], ◌∷◌, length, min, Option, None, Some}
 use Rattle.std.specs.Prelude.{slice_get}
 use Rattle.gnss_model.specs.declared.delays.Delays.{Delays}
-use Rattle.grid_model.specs.Boxes.{GridBox}
+use Rattle.grid_model.specs.Boxes.{GridBox, IsInside}
 use Rattle.sat_model.specs.BoxTests.{test_of}
 use Rattle.sat_model.specs.Events.{Event, RowsOver, rows_over, renewals_in}
 use Rattle.sat_model.specs.Fold.{Subpaving}
 use Rattle.sat_model.specs.Logs.{Body, Block}
-use Rattle.sat_model.specs.Renewals.{IsInside, IsOfPlace, RenewalPasses, RenewalFails}
+use Rattle.sat_model.specs.Renewals.{IsOfPlace, RenewalPasses, RenewalFails}
 use Rattle.sat_model.specs.Stages.{first_stage}
 use Rattle.sat_model.specs.Verdicts.{EventsPass, EventsFail}
 use Rattle.sat_model.specs.declared.rows.Row.{Row}

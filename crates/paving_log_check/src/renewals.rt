@@ -1,8 +1,7 @@
 //! The tests of renewals.
 
 ghost use Rattle.std.specs.Prelude.{◌≡◌, ℕ, ◌+◌, ◌<◌, ◌^◌, ◌↔◌, length, IsTrue, MatchOption};
-ghost use Rattle.grid_model.specs.Boxes.{grid_box};
-ghost use Rattle.sat_model.specs.Renewals.{IsInside};
+ghost use Rattle.grid_model.specs.Boxes.{grid_box, IsInside};
 ghost use Rattle.paving_log_check.specs.Bases.{AreReady};
 
 use crate::faults::{BAD_RENEWAL, plain_fault};

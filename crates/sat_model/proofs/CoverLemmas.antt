@@ -13,14 +13,14 @@ use Rattle.sat_model.specs.declared.rules.Rules.{Rules}
 use Rattle.sat_model.specs.declared.rows.Row.{Row}
 use Rattle.sat_model.specs.declared.steps.Step.{Step}
 use Rattle.sat_model.specs.declared.steps.Step.TheVariants.{Cut, Split, Outside, Inside, Edge}
-use Rattle.grid_model.specs.Boxes.{GridBox, Side, side_holds, box_holds}
+use Rattle.grid_model.specs.Boxes.{GridBox, Side, side_holds, box_holds, IsSideInside, IsInside}
 use Rattle.sat_model.specs.BoxTests.{BoxTest, test_in}
 use Rattle.sat_model.specs.Cover.{KeepsClock, SomeKeeps, IsPossibleByAll, numbers_from, Covers, AreSureInside, AreSureFrom, EpochCover, BlockCover, BlocksCover, RowCover}
 use Rattle.sat_model.specs.Events.{Event, Made, Renewed, RowsOver, rows_over, steps_in, renewals_in}
 use Rattle.sat_model.specs.Fitting.{IsPossible, AllBut}
 use Rattle.sat_model.specs.Fold.{slab_of_cut, boxes_after, ShownStep, taken_by, pieces_from, pieces}
 use Rattle.sat_model.specs.Logs.{Body, Block, LogValue}
-use Rattle.sat_model.specs.Renewals.{IsSideInside, IsInside, LineFact, AnyLine, LinesPass}
+use Rattle.sat_model.specs.Renewals.{LineFact, AnyLine, LinesPass}
 use Rattle.sat_model.specs.Stages.{Stage, first_stage, after}
 use Rattle.sat_model.specs.Verdicts.{StepPasses, EventsPass, BodyPasses, BlocksPass, Judged}
 use Rattle.grid_model.proofs.PointLemmas.{in_box, side_in, le_to}

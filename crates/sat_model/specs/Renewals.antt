@@ -1,19 +1,11 @@
 -- The tests of renewed rows: of the box over which they hold, and of their satellite lines.
-use Rattle.std.specs.Prelude.{◌≡◌, ℕ, zero, suc, ◌⊎◌, ◌≤ℤ◌, List, [], ◌∷◌, map, Some, slice_get}
+use Rattle.std.specs.Prelude.{◌≡◌, ℕ, zero, suc, ◌⊎◌, List, [], ◌∷◌, map, Some, slice_get}
 use Rattle.sat_model.specs.declared.rows.Row.{Row}
-use Rattle.grid_model.specs.Boxes.{Side, GridBox}
+use Rattle.grid_model.specs.Boxes.{GridBox, IsInside}
 use Rattle.sat_model.specs.Events.{RowsOver}
 use Rattle.sat_model.specs.Fold.{Subpaving, IsLive}
 
 -- ---- the box
-
-abbrev pub IsSideInside : Side → Side → Type 0
-IsSideInside part whole = (whole.lo ≤ℤ part.lo) × (part.hi ≤ℤ whole.hi)
-
--- no point of the first box is outside the second
-abbrev pub IsInside : GridBox → GridBox → Type 0
-IsInside part whole =
-    IsSideInside part.x whole.x × IsSideInside part.y whole.y × IsSideInside part.z whole.z
 
 -- it lies in the root, and each live box lies in it
 pub record HoldsLive (root : GridBox) (boxes : Subpaving) (part : GridBox) : Type 0 where

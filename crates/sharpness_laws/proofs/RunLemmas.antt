@@ -11,11 +11,10 @@ use Rattle.epoch_selection.specs.Searches.{Search}
 use Rattle.range_contractor.proofs.AmountLemmas.{above_is_up}
 use Rattle.range_contractor.proofs.BoxLemmas.{lies_through}
 use Rattle.range_contractor.proofs.TreeExists.{IsGridPart, inside_part}
-use Rattle.grid_model.specs.Boxes.{Side, GridBox, side_at, low_half, high_half}
+use Rattle.grid_model.specs.Boxes.{Side, GridBox, side_at, low_half, high_half, IsSideInside, IsInside}
 use Rattle.sat_model.specs.BoxTests.{BoxTest, IsEmpty, NoneIsInner}
 use Rattle.sat_model.specs.ClockSpans.{IsShownEmpty, IsShownInner}
 use Rattle.sat_model.specs.Events.{RowsOver, rows_over}
-use Rattle.sat_model.specs.Renewals.{IsSideInside, IsInside}
 use Rattle.sat_model.specs.Contractors.{SideLiesIn, LiesIn}
 use Rattle.sat_model.specs.Fold.{ShownStep, axis_of, is_low, IsProperBound, IsProperCut, side_cut, left_by_cut, slab_of_cut}
 use Rattle.grid_model.specs.Lengths.{spare_of}

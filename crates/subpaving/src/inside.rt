@@ -1,8 +1,7 @@
 //! Boxes that lie in other boxes.
 
 ghost use Rattle.std.specs.Prelude.{◌↔◌, IsTrue};
-ghost use Rattle.grid_model.specs.Boxes.{grid_box, side_at};
-ghost use Rattle.sat_model.specs.Renewals.{IsSideInside, IsInside};
+ghost use Rattle.grid_model.specs.Boxes.{grid_box, side_at, IsSideInside, IsInside};
 
 use grid_model::Box3;
 

@@ -3,9 +3,9 @@
 ghost use Rattle.std.specs.Prelude.{◌≡◌, ◌≢◌, ◌%◌, ℕ, length, Some, None, false, IfOk, OnOk, OnErr};
 ghost use Rattle.std.specs.Prelude.{◌↔◌, IsTrue};
 ghost use Rattle.sat_model.specs.declared.steps.Step.TheVariants.{Cut, Split, Outside};
-ghost use Rattle.grid_model.specs.Boxes.{GridBox, grid_box};
+ghost use Rattle.grid_model.specs.Boxes.{GridBox, grid_box, IsInside};
 ghost use Rattle.sat_model.specs.Fold.{first_boxes, live_box, IsLive, NoneLive, boxes_after};
-ghost use Rattle.sat_model.specs.Renewals.{IsInside, HoldsLive};
+ghost use Rattle.sat_model.specs.Renewals.{HoldsLive};
 
 use crate::cuts::left_by;
 use crate::inside::lies_in;

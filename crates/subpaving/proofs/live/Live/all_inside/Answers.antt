@@ -1,8 +1,7 @@
 use Rattle.std.proofs.Common.{sym, ap, subst, ◌∙◌, None, below_more}
 use Rattle.std.proofs.lemmas.Bool.{false≢true}
 use Rattle.std.proofs.lemmas.List.{get_or-map}
-use Rattle.grid_model.specs.Boxes.{GridBox, grid_box}
-use Rattle.sat_model.specs.Renewals.{IsInside}
+use Rattle.grid_model.specs.Boxes.{GridBox, grid_box, IsInside}
 use Rattle.sat_model.proofs.VerdictLemmas.{same_box}
 use Rattle.subpaving.specs.LiveValues.{box_option}
 use Rattle.subpaving.proofs.LiveLemmas.{all_held}

@@ -1,6 +1,5 @@
 use Rattle.std.proofs.Common.{◌≡◌, ℕ, ◌<◌, get_or, map, None, Some}
-use Rattle.grid_model.specs.Boxes.{GridBox, grid_box}
-use Rattle.sat_model.specs.Renewals.{IsInside}
+use Rattle.grid_model.specs.Boxes.{GridBox, grid_box, IsInside}
 use Rattle.subpaving.specs.LiveValues.{box_option}
 use Rattle.subpaving.proofs.live.Live.all_inside.Given as goal
 
