@@ -1,4 +1,5 @@
 use cover_run::{Limits, Status, run};
+use grid_model::NoMemory;
 use made_input::{Made, make};
 use outer_io::{MemoryShelf, MemorySink};
 use run_tests::shelves::{four_files, one_file, words};
@@ -13,7 +14,7 @@ const LIMITS: Limits = Limits {
 };
 
 // A shelf with an empty file, on which nothing can be written.
-fn empty_shelf(alloc: Global) -> Result<MemoryShelf, Fail> {
+fn empty_shelf(alloc: Global) -> Result<MemoryShelf, NoMemory> {
     one_file(alloc, "a.log", "", "b.log", 0, Vec::new(alloc))
 }
 

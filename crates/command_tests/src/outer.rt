@@ -1,3 +1,4 @@
+use grid_model::NoMemory;
 use outer_io::{
     FileShelf, MemoryShelf, MemorySink, ReadAll, Shelf, Sink, Slot, StreamSink, read_all,
     write_shelf, write_sink,
@@ -7,7 +8,7 @@ use std::alloc::Global;
 use std::test::Fail;
 
 // A shelf with the file `a.log`, which is its log too, and room for five bytes.
-fn shelf(alloc: Global, fails: Vec<u64>) -> Result<MemoryShelf, Fail> {
+fn shelf(alloc: Global, fails: Vec<u64>) -> Result<MemoryShelf, NoMemory> {
     one_file(alloc, "a.log", "old", "a.log", 5, fails)
 }
 
