@@ -2,6 +2,7 @@ ghost use Rattle.std.specs.Prelude.{◌≡◌, ◌<◌, ◌≤◌, ◌∷◌, []
 ghost use Rattle.grid_model.specs.Sizes.{IsBoxSize, IsErrorSize, IsPlaceSize};
 
 use super::*;
+use box_pool::Item;
 use fix_interval::Exact;
 use gnss_model::Sat;
 use grid_model::{Box3, Pos, Span};
@@ -151,7 +152,8 @@ fn worked_on(
     match relaxed_tree::<Exact>(alloc, rows, 0) {
         Ok(tree) => {
             let mut test = BoxTest::new(rows, &NO_SPLITS);
-            work_on(&mut test, &NO_SPLITS, Some(&tree), 0, 0, part, log)
+            let first = Item { id: 0, part: *part };
+            work_on(&mut test, &NO_SPLITS, Some(&tree), 0, &first, log)
         }
         Err(_) => Err(StepFault::Failed),
     }
@@ -235,9 +237,12 @@ fn slabs_are_cut_off_as_deep_as_pairs_show_them(rt: HostRuntime) -> Result<(), F
         lo: -10_027_344,
         hi: 10_027_344,
     };
-    let part = slab(-9_000_000, 9_000_000);
+    let first = Item {
+        id: 0,
+        part: slab(-9_000_000, 9_000_000),
+    };
     assert_eq!(rt;
-        work_on::<Exact, StepList>(&mut test, &BY_PAIRS, None, 0, 0, &part, &mut log),
+        work_on::<Exact, StepList>(&mut test, &BY_PAIRS, None, 0, &first, &mut log),
         Ok(Ended {
             step: edge,
             left: slab(-5_027_344, 5_041_112),

@@ -17,6 +17,7 @@ use crate::proposal::cut_by_tree;
 use crate::rounds::cut_rounds;
 use crate::steps::{StepFault, Steps};
 use crate::target::Target;
+use box_pool::Item;
 use fix_interval::Interval;
 use grid_model::{Box3, Span};
 use range_contractor::Tree;
@@ -43,8 +44,7 @@ pub fn work_on<I: Interval, L: Steps>(
     rules: &Rules,
     tree: Option<&Tree<I>>,
     splits: u32,
-    id: u32,
-    part: &Box3,
+    next: &Item,
     log: &mut L,
 ) -> Result<Ended, StepFault>
     requires tree { MatchOption tree ((test_value test.old).pairs ≡ true)
@@ -52,15 +52,17 @@ pub fn work_on<I: Interval, L: Steps>(
         ≡ row_tree I.GRAIN (test_value test.old).rows (test_value test.old).q)) }
     ensures took { IfOk result (λ ended. TookBox L.took (AreBoxSteps I.GRAIN I.SLACK
         (test_value test.old) rules.now splits
-        (record { id = id; part = grid_box part.now })) log.old ended log.new) }
+        (record { id = next.now.id; part = grid_box next.now.part })) log.old ended log.new) }
     ensures broken { IfErr result (λ fault. BrokeOff L.took L.broke L.room fault
         (AreBoxSteps I.GRAIN I.SLACK (test_value test.old) rules.now splits
-        (record { id = id; part = grid_box part.now })) log.old log.new) }
+        (record { id = next.now.id; part = grid_box next.now.part })) log.old log.new) }
     ensures few { IfOk result (λ ended. ended.cuts ≤ 1800) }
     ensures failed { result ≡ Err StepFault.Failed → Rose (L.faults log.old) (L.faults log.new) }
     ensures counted { L.faults log.old ≤ L.faults log.new }
     ensures same { test_value test.new ≡ test_value test.old }
 {
+    let id = next.id;
+    let part = &next.part;
     let state = test.state(part);
     let BoxState::Undecided { hull } = state else {
         let step = closing_step(rules, splits, id, part, &state);

@@ -131,11 +131,10 @@ pub fn work_on_box<L: Steps>(
     ensures counted { L.faults log.old ≤ L.faults log.new }
     ensures same { test_value test.new ≡ test_value test.old }
 {
-    let part = &next.part;
-    let (_, longest) = part.longest_axis();
+    let (_, longest) = next.part.longest_axis();
     if longest > LONG_SIDE {
-        work_on(test, rules, coarse_of(trees), splits, next.id, part, log)
+        work_on(test, rules, coarse_of(trees), splits, next, log)
     } else {
-        work_on(test, rules, exact_of(trees), splits, next.id, part, log)
+        work_on(test, rules, exact_of(trees), splits, next, log)
     }
 }

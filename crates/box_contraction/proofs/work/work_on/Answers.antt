@@ -48,15 +48,15 @@ cut_box-requires-clause-tree g c =
 
 pub cut_box-requires-clause-hull : goal.cut_box-requires-clause-hull
 cut_box-requires-clause-hull g c =
-    let part = grid_box c.args.part.now in
+    let part = grid_box c.args.next.now.part in
     hull_of (test_value c.state-state.new.self) part c.state-state.result c.in-Undecided.hull c.in-Undecided.is
     (state_at (test_value c.args.test.now) (test_value c.state-state.new.self) part c.state-state.result (sym c.state-state.ensures.same) c.state-state.ensures.state)
 
 pub state_of_rest-state-requires : goal.state_of_rest-state-requires
 state_of_rest-state-requires g c =
     record {
-      before = subst (λ (s : BoxState). IsBoxState (test_value c.cut_box.new.test) (grid_box c.args.part.now) s) c.in-Undecided.is
-          (state_at (test_value c.args.test.now) (test_value c.cut_box.new.test) (grid_box c.args.part.now) c.state-state.result
+      before = subst (λ (s : BoxState). IsBoxState (test_value c.cut_box.new.test) (grid_box c.args.next.now.part) s) c.in-Undecided.is
+          (state_at (test_value c.args.test.now) (test_value c.cut_box.new.test) (grid_box c.args.next.now.part) c.state-state.result
           (sym (c.in_ok-cuts.ensures.same ∙ c.state-state.ensures.same)) c.state-state.ensures.state);
     }
 
@@ -66,7 +66,7 @@ returns-in_err-step g c =
     let fault = c.in_err-step.field-0.0 in
     let test = test_value c.args.test.now in
     let rules = c.args.rules.now in
-    let box : WaitingBox = record { id = c.args.id; part = grid_box c.args.part.now } in
+    let box : WaitingBox = record { id = c.args.next.now.id; part = grid_box c.args.next.now.part } in
     let not = decided test box.part c.state-state.result c.in_default.not-Undecided c.state-state.ensures.state in
     rw (p.1, p.2) (record {
       took = tt;
@@ -84,11 +84,11 @@ pub returns-in_default : goal.returns-in_default
 returns-in_default g c =
     let test = test_value c.args.test.now in
     let rules = c.args.rules.now in
-    let box : WaitingBox = record { id = c.args.id; part = grid_box c.args.part.now } in
+    let box : WaitingBox = record { id = c.args.next.now.id; part = grid_box c.args.next.now.part } in
     let not = decided test box.part c.state-state.result c.in_default.not-Undecided c.state-state.ensures.state in
     record {
       took = box_took g.L.Steps.took g.I.Interval.GRAIN g.I.Interval.SLACK test rules c.args.splits box
-          c.args.log.now c.args.log.now c.step.new.self (record { step = c.closing_step-step.result; left = c.args.part.now; cuts = 0 })
+          c.args.log.now c.args.log.now c.step.new.self (record { step = c.closing_step-step.result; left = c.args.next.now.part; cuts = 0 })
           (no_cuts_taken g.L.Steps.took g.I.Interval.GRAIN g.I.Interval.SLACK test box c.args.log.now not)
           (c.closing_step-step.ensures test c.state-state.ensures.state) c.in_ok-step.ensures.took;
       broken = tt;
@@ -103,7 +103,7 @@ returns-in_err-cuts-clause-broken g c =
     let p = err_from_is_err_and c.from_residual-in_err-cuts.result c.from_residual-in_err-cuts.ensures.1 in
     let test = test_value c.args.test.now in
     let rules = c.args.rules.now in
-    let box : WaitingBox = record { id = c.args.id; part = grid_box c.args.part.now } in
+    let box : WaitingBox = record { id = c.args.next.now.id; part = grid_box c.args.next.now.part } in
     let undecided = undecided_of test box.part c.state-state.result c.in-Undecided.hull c.in-Undecided.is c.state-state.ensures.state in
     rw (p.1, p.2)
     (cuts_broke g.L.Steps.took g.L.Steps.broke g.L.Steps.room c.in_err-cuts.field-0.0 g.I.Interval.GRAIN g.I.Interval.SLACK test rules c.args.splits box
@@ -117,7 +117,7 @@ returns-in_err-step-2-clause-broken g c =
     let fault = c.in_err-step-2.field-0.0 in
     let test = test_value c.args.test.now in
     let rules = c.args.rules.now in
-    let box : WaitingBox = record { id = c.args.id; part = grid_box c.args.part.now } in
+    let box : WaitingBox = record { id = c.args.next.now.id; part = grid_box c.args.next.now.part } in
     let left = grid_box c.cut_box.new.part in
     let undecided = undecided_of test box.part c.state-state.result c.in-Undecided.hull c.in-Undecided.is c.state-state.ensures.state in
     let rest = state_at (test_value c.cut_box.new.test) test left c.state_of_rest-state.result (c.in_ok-cuts.ensures.same ∙ c.state-state.ensures.same) c.state_of_rest-state.ensures.state in
@@ -132,7 +132,7 @@ pub returns-clause-took : goal.returns-clause-took
 returns-clause-took g c =
     let test = test_value c.args.test.now in
     let rules = c.args.rules.now in
-    let box : WaitingBox = record { id = c.args.id; part = grid_box c.args.part.now } in
+    let box : WaitingBox = record { id = c.args.next.now.id; part = grid_box c.args.next.now.part } in
     let left = grid_box c.cut_box.new.part in
     let undecided = undecided_of test box.part c.state-state.result c.in-Undecided.hull c.in-Undecided.is c.state-state.ensures.state in
     let rest = state_at (test_value c.cut_box.new.test) test left c.state_of_rest-state.result (c.in_ok-cuts.ensures.same ∙ c.state-state.ensures.same) c.state_of_rest-state.ensures.state in
