@@ -39,41 +39,52 @@ use Rattle.box_contraction.proofs.TakingLemmas.{took_both, broke_in, one_broke}
 pub grid_part : (part : Box3) → IsGridPart (grid_box part)
 grid_part part = record { lies = box_lies part; sizes = box_sizes part }
 
-eighths_exist : (test : BoxTest) (id : ℕ) (part : GridBox) → test.q < length test.rows → IsGridPart part → (steps : List ShownStep) × ((left : GridBox) × AreEighthCuts test id part steps left)
+eighths_exist : (test : BoxTest) (id : ℕ) (part : GridBox) → test.q < length test.rows
+    → IsGridPart part
+    → (steps : List ShownStep) × ((left : GridBox) × AreEighthCuts test id part steps left)
 eighths_exist test id part few grid = rounds_exist test id (IsCutTo test id eighths) part (target_rule test id Eighths few tt) grid
 
-deep_exist : (test : BoxTest) (id : ℕ) (part : GridBox) → test.q < length test.rows → IsGridPart part → (steps : List ShownStep) × ((left : GridBox) × AreDeepCuts test id part steps left)
+deep_exist : (test : BoxTest) (id : ℕ) (part : GridBox) → test.q < length test.rows
+    → IsGridPart part
+    → (steps : List ShownStep) × ((left : GridBox) × AreDeepCuts test id part steps left)
 deep_exist test id part few grid = rounds_exist test id (IsFaceDone test id) part (target_rule test id Deep few tt) grid
 
 -- ---- cuts at some faces
 
-by_tree_some : (g slack : ℤ) (t : TreeValue) (clock : Side) (test : BoxTest) (id : ℕ) (part : GridBox) (cuts : List ShownStep) (left : GridBox) → AreCutsByTree g slack t clock test id part cuts left
+by_tree_some : (g slack : ℤ) (t : TreeValue) (clock : Side) (test : BoxTest) (id : ℕ) (part : GridBox) (cuts : List ShownStep) (left : GridBox)
+    → AreCutsByTree g slack t clock test id part cuts left
     → (faces : List ℕ) × ((length faces ≤ 6) × (AreFaces faces × AreFacesDone (IsSomeCut test id) faces part cuts left))
 by_tree_some g slack t clock test id part cuts left by = proposal_some test id by.answer part cuts left by.are
 
-by_tree_inside : (g slack : ℤ) (t : TreeValue) (clock : Side) (test : BoxTest) (id : ℕ) (part : GridBox) (cuts : List ShownStep) (left : GridBox) → IsGridPart part → AreCutsByTree g slack t clock test id part cuts left → LiesIn left part
+by_tree_inside : (g slack : ℤ) (t : TreeValue) (clock : Side) (test : BoxTest) (id : ℕ) (part : GridBox) (cuts : List ShownStep) (left : GridBox)
+    → IsGridPart part → AreCutsByTree g slack t clock test id part cuts left → LiesIn left part
 by_tree_inside g slack t clock test id part cuts left grid by =
     let (faces, (few, (named, are))) = by_tree_some g slack t clock test id part cuts left by in
     faces_inside test id faces part cuts left grid.lies are
 
-by_tree_few : (g slack : ℤ) (t : TreeValue) (clock : Side) (test : BoxTest) (id : ℕ) (part : GridBox) (cuts : List ShownStep) (left : GridBox) → AreCutsByTree g slack t clock test id part cuts left → length cuts ≤ 6
+by_tree_few : (g slack : ℤ) (t : TreeValue) (clock : Side) (test : BoxTest) (id : ℕ) (part : GridBox) (cuts : List ShownStep) (left : GridBox)
+    → AreCutsByTree g slack t clock test id part cuts left → length cuts ≤ 6
 by_tree_few g slack t clock test id part cuts left by =
     let (faces, (few, (named, are))) = by_tree_some g slack t clock test id part cuts left by in
     omega (arith, few, faces_few test id faces part cuts left are)
 
-by_tree_grid : (g slack : ℤ) (t : TreeValue) (clock : Side) (test : BoxTest) (id : ℕ) (part : GridBox) (cuts : List ShownStep) (left : GridBox) → IsGridPart part → AreCutsByTree g slack t clock test id part cuts left → IsGridPart left
+by_tree_grid : (g slack : ℤ) (t : TreeValue) (clock : Side) (test : BoxTest) (id : ℕ) (part : GridBox) (cuts : List ShownStep) (left : GridBox)
+    → IsGridPart part → AreCutsByTree g slack t clock test id part cuts left → IsGridPart left
 by_tree_grid g slack t clock test id part cuts left grid by = inside_part left part (by_tree_inside g slack t clock test id part cuts left grid by) grid
 
-round_some : (test : BoxTest) (id : ℕ) (part : GridBox) (cuts : List ShownStep) (left : GridBox) → AreRoundCuts (IsFaceDone test id) part cuts left
+round_some : (test : BoxTest) (id : ℕ) (part : GridBox) (cuts : List ShownStep) (left : GridBox)
+    → AreRoundCuts (IsFaceDone test id) part cuts left
     → (faces : List ℕ) × (AreFaces faces × AreFacesDone (IsSomeCut test id) faces part cuts left)
 round_some test id part cuts left are =
     let (faces, (named, all)) = round_cuts_faces (IsFaceDone test id) part cuts left are in
     (faces, (named, faces_as (IsFaceDone test id) (IsSomeCut test id) faces part cuts left (done_some test id) all))
 
-eighths_done : (test : BoxTest) (id : ℕ) (part : GridBox) (cuts : List ShownStep) (left : GridBox) → AreEighthCuts test id part cuts left → AreRoundCuts (IsFaceDone test id) part cuts left
+eighths_done : (test : BoxTest) (id : ℕ) (part : GridBox) (cuts : List ShownStep) (left : GridBox)
+    → AreEighthCuts test id part cuts left → AreRoundCuts (IsFaceDone test id) part cuts left
 eighths_done test id part cuts left are = round_cuts_as (IsCutTo test id eighths) (IsFaceDone test id) part cuts left (eighth_done test id) are
 
-cut_some : (g slack : ℤ) (asked : Bool) (test : BoxTest) (id : ℕ) (part : GridBox) (cuts : List ShownStep) (left : GridBox) → IsCutBy g slack test asked id part cuts left
+cut_some : (g slack : ℤ) (asked : Bool) (test : BoxTest) (id : ℕ) (part : GridBox) (cuts : List ShownStep) (left : GridBox)
+    → IsCutBy g slack test asked id part cuts left
     → (faces : List ℕ) × (AreFaces faces × AreFacesDone (IsSomeCut test id) faces part cuts left)
 cut_some g slack false test id part cuts left down =
     let (xs, (few, (these, first))) = by_tree_some g slack (row_tree g test.rows test.q) down.clock test id part down.by_tree down.middle down.tree_cuts in
@@ -88,7 +99,8 @@ cut_some g slack false test id part cuts left down =
 cut_some g slack true test id part cuts left deep = round_some test id part cuts left deep
 
 -- the cuts of a box are at some faces, one after another
-pub cuts_some : (g slack : ℤ) (test : BoxTest) (box : WaitingBox) (cuts : List ShownStep) (left : GridBox) → AreCutsOf g slack test box cuts left
+pub cuts_some : (g slack : ℤ) (test : BoxTest) (box : WaitingBox) (cuts : List ShownStep) (left : GridBox)
+    → AreCutsOf g slack test box cuts left
     → (faces : List ℕ) × (AreFaces faces × AreFacesDone (IsSomeCut test box.id) faces box.part cuts left)
 cuts_some g slack test box cuts left are = elim are [
   | inl (undecided, cut) ↦ cut_some g slack test.pairs test box.id box.part cuts left cut
@@ -120,7 +132,8 @@ down_took took g slack test then_test t clock id part middle left first then las
 
 -- the tree's cuts broke off
 pub tree_broke : {L : Type 0} (took broke : L → Step → GridBox → L → Type 0) (room : L → ℕ) (fault : StepFault) (g slack : ℤ) (test : BoxTest) (t : TreeValue) (clock : Side) (id : ℕ) (part : GridBox) (first last : L)
-    → test.q < length test.rows → IsGridPart part → t ≡ row_tree g test.rows test.q → IsHull test part clock.lo clock.hi
+    → test.q < length test.rows → IsGridPart part → t ≡ row_tree g test.rows test.q
+    → IsHull test part clock.lo clock.hi
     → BrokeOff took broke room fault (LeaveSome (AreCutsByTree g slack t clock test id part)) first last
     → BrokeOff took broke room fault (LeaveSome (IsCutDown g slack test id part)) first last
 tree_broke took broke room fault g slack test t clock id part first last few grid e hull b =
@@ -157,12 +170,15 @@ eighths_broke took broke room fault g slack test then_test t clock id part middl
       ),
     ))
 
-took_one : {L : Type 0} (took : L → Step → GridBox → L → Type 0) (step : Step) (part : GridBox) (now last : L) → took now step part last → TookAll took now ((record { step = step; part = part }) ∷ []) last
+took_one : {L : Type 0} (took : L → Step → GridBox → L → Type 0) (step : Step) (part : GridBox) (now last : L)
+    → took now step part last → TookAll took now ((record { step = step; part = part }) ∷ []) last
 took_one took step part now last t = (last, t, refl)
 
 -- the cuts and the last step were taken
 pub box_took : {L : Type 0} (took : L → Step → GridBox → L → Type 0) (g slack : ℤ) (test : BoxTest) (rules : Rules) (splits : ℕ) (box : WaitingBox) (first then last : L) (ended : Ended)
-    → TookCuts took (AreCutsOf g slack test box) first ended.cuts (grid_box ended.left) then → Closes test rules splits box.id (grid_box ended.left) ended.step → took then ended.step (grid_box ended.left) last
+    → TookCuts took (AreCutsOf g slack test box) first ended.cuts (grid_box ended.left) then
+    → Closes test rules splits box.id (grid_box ended.left) ended.step
+    → took then ended.step (grid_box ended.left) last
     → TookBox took (AreBoxSteps g slack test rules splits box) first ended last
 box_took took g slack test rules splits box first then last ended c closes t = record {
   cuts = c.steps;
@@ -173,7 +189,9 @@ box_took took g slack test rules splits box first then last ended c closes t = r
 
 -- the last step broke
 pub last_broke : {L : Type 0} (took broke : L → Step → GridBox → L → Type 0) (room : L → ℕ) (fault : StepFault) (g slack : ℤ) (test : BoxTest) (rules : Rules) (splits : ℕ) (box : WaitingBox) (first then last : L) (count : ℕ) (left : GridBox) (step : Step)
-    → TookCuts took (AreCutsOf g slack test box) first count left then → Closes test rules splits box.id left step → broke then step left last → ((fault ≡ Full) ↔ (room then < length (step_bytes step)))
+    → TookCuts took (AreCutsOf g slack test box) first count left then
+    → Closes test rules splits box.id left step → broke then step left last
+    → ((fault ≡ Full) ↔ (room then < length (step_bytes step)))
     → BrokeOff took broke room fault (AreBoxSteps g slack test rules splits box) first last
 last_broke took broke room fault g slack test rules splits box first then last count left step c closes broken full =
     let next : ShownStep = record { step = step; part = left } in
@@ -181,8 +199,10 @@ last_broke took broke room fault g slack test rules splits box first then last c
     (λ steps one. ([], record { cuts = c.steps; left = left; are_cuts = c.are; last = step; closes = closes; all_steps = ap (λ l. c.steps ++ l) (append-nil steps ∙ one) }))
 
 -- the cuts broke off
-pub cuts_broke : {L : Type 0} (took broke : L → Step → GridBox → L → Type 0) (room : L → ℕ) (fault : StepFault) (g slack : ℤ) (test : BoxTest) (rules : Rules) (splits : ℕ) (box : WaitingBox) (first last : L) → test.q < length test.rows
-    → IsUndecided test box.part → BrokeOff took broke room fault (LeaveSome (IsCut g slack test box.id box.part)) first last
+pub cuts_broke : {L : Type 0} (took broke : L → Step → GridBox → L → Type 0) (room : L → ℕ) (fault : StepFault) (g slack : ℤ) (test : BoxTest) (rules : Rules) (splits : ℕ) (box : WaitingBox) (first last : L)
+    → test.q < length test.rows
+    → IsUndecided test box.part
+    → BrokeOff took broke room fault (LeaveSome (IsCut g slack test box.id box.part)) first last
     → BrokeOff took broke room fault (AreBoxSteps g slack test rules splits box) first last
 cuts_broke took broke room fault g slack test rules splits box first last few undecided b =
     broke_in took broke room fault (LeaveSome (IsCut g slack test box.id box.part)) (AreBoxSteps g slack test rules splits box) [] first first last refl b
@@ -192,13 +212,15 @@ cuts_broke took broke room fault g slack test rules splits box first last few un
     ((record { step = step; part = left }) ∷ [], record { cuts = steps; left = left; are_cuts = inl (undecided, cut); last = step; closes = closes; all_steps = refl }))
 
 -- no cut of a box that isn't undecided
-pub no_cuts_taken : {L : Type 0} (took : L → Step → GridBox → L → Type 0) (g slack : ℤ) (test : BoxTest) (box : WaitingBox) (log : L) → (IsUndecided test box.part → ⊥)
+pub no_cuts_taken : {L : Type 0} (took : L → Step → GridBox → L → Type 0) (g slack : ℤ) (test : BoxTest) (box : WaitingBox) (log : L)
+    → (IsUndecided test box.part → ⊥)
     → TookCuts took (AreCutsOf g slack test box) log 0 box.part log
 no_cuts_taken took g slack test box log decided = record { steps = []; are = inr (decided, refl, refl); taken = refl; counted = refl }
 
 -- ---- each box of the grid has steps
 
-cut_exists : (g : ℤ) (asked : Bool) (test : BoxTest) (id : ℕ) (part : GridBox) → pos 1 ≤ℤ g → g ≤ℤ pos 1048576 → test.q < length test.rows → IsGridPart part → (IsEmpty test part → ⊥)
+cut_exists : (g : ℤ) (asked : Bool) (test : BoxTest) (id : ℕ) (part : GridBox) → pos 1 ≤ℤ g
+    → g ≤ℤ pos 1048576 → test.q < length test.rows → IsGridPart part → (IsEmpty test part → ⊥)
     → (cuts : List ShownStep) × ((left : GridBox) × IsCutBy g (pos 16 *ℤ g) test asked id part cuts left)
 cut_exists g false test id part one most few grid not_empty =
     elim (relaxed_hull (clock_spans part test.rows) (length test.rows - test.q) (omega arith)) [
@@ -214,22 +236,27 @@ cut_exists g false test id part one most few grid not_empty =
     ]
 cut_exists g true test id part one most few grid not_empty = deep_exist test id part few grid
 
-pub box_steps_exist : (g : ℤ) (test : BoxTest) (rules : Rules) (splits : ℕ) (box : WaitingBox) → pos 1 ≤ℤ g → g ≤ℤ pos 1048576 → test.q < length test.rows → IsGridPart box.part
+pub box_steps_exist : (g : ℤ) (test : BoxTest) (rules : Rules) (splits : ℕ) (box : WaitingBox)
+    → pos 1 ≤ℤ g → g ≤ℤ pos 1048576 → test.q < length test.rows → IsGridPart box.part
     → (steps : List ShownStep) × AreBoxSteps g (pos 16 *ℤ g) test rules splits box steps
 box_steps_exist g test rules splits box one most few grid =
     let (step, closes) = ending_exists test rules splits box.id box.part few in by_kind step closes
   where
-    cut_down : IsUndecided test box.part → (steps : List ShownStep) × AreBoxSteps g (pos 16 *ℤ g) test rules splits box steps
+    cut_down : IsUndecided test box.part
+        → (steps : List ShownStep) × AreBoxSteps g (pos 16 *ℤ g) test rules splits box steps
     cut_down undecided =
         let (cuts, (left, cut)) = cut_exists g test.pairs test box.id box.part one most few grid undecided.not_empty in
         let (step, closes) = ending_exists test rules splits box.id left few in
         (cuts ++ (record { step = step; part = left }) ∷ [], record { cuts = cuts; left = left; are_cuts = inl (undecided, cut); last = step; closes = closes; all_steps = refl })
 
-    decided : (step : Step) → Closes test rules splits box.id box.part step → (IsUndecided test box.part → ⊥) → (steps : List ShownStep) × AreBoxSteps g (pos 16 *ℤ g) test rules splits box steps
+    decided : (step : Step) → Closes test rules splits box.id box.part step
+        → (IsUndecided test box.part → ⊥)
+        → (steps : List ShownStep) × AreBoxSteps g (pos 16 *ℤ g) test rules splits box steps
     decided step closes not =
         ((record { step = step; part = box.part }) ∷ [], record { cuts = []; left = box.part; are_cuts = inr (not, refl, refl); last = step; closes = closes; all_steps = refl })
 
-    by_kind : (step : Step) → Closes test rules splits box.id box.part step → (steps : List ShownStep) × AreBoxSteps g (pos 16 *ℤ g) test rules splits box steps
+    by_kind : (step : Step) → Closes test rules splits box.id box.part step
+        → (steps : List ShownStep) × AreBoxSteps g (pos 16 *ℤ g) test rules splits box steps
     by_kind (Outside n) closes = decided (Outside n) closes (λ u. u.not_empty closes.1)
     by_kind (Inside n clock lo hi) closes = decided (Inside n clock lo hi) closes (λ u. u.not_inner clock closes.1.shown)
     by_kind (Split n axis) closes = cut_down closes.1
@@ -238,12 +265,14 @@ box_steps_exist g test rules splits box one most few grid =
 
 -- ---- what the cuts of a box are
 
-pub cuts_inside : (g slack : ℤ) (test : BoxTest) (box : WaitingBox) (cuts : List ShownStep) (left : GridBox) → IsGridPart box.part → AreCutsOf g slack test box cuts left → LiesIn left box.part
+pub cuts_inside : (g slack : ℤ) (test : BoxTest) (box : WaitingBox) (cuts : List ShownStep) (left : GridBox)
+    → IsGridPart box.part → AreCutsOf g slack test box cuts left → LiesIn left box.part
 cuts_inside g slack test box cuts left grid are =
     let (faces, (named, some)) = cuts_some g slack test box cuts left are in
     faces_inside test box.id faces box.part cuts left grid.lies some
 
-cut_few : (g slack : ℤ) (asked : Bool) (test : BoxTest) (id : ℕ) (part : GridBox) (cuts : List ShownStep) (left : GridBox) → IsGridPart part → IsCutBy g slack test asked id part cuts left → length cuts ≤ 1014
+cut_few : (g slack : ℤ) (asked : Bool) (test : BoxTest) (id : ℕ) (part : GridBox) (cuts : List ShownStep) (left : GridBox)
+    → IsGridPart part → IsCutBy g slack test asked id part cuts left → length cuts ≤ 1014
 cut_few g slack false test id part cuts left grid down =
     let tree = row_tree g test.rows test.q in
     let middle = by_tree_grid g slack tree down.clock test id part down.by_tree down.middle grid down.tree_cuts in
@@ -256,18 +285,21 @@ cut_few g slack false test id part cuts left grid down =
     )
 cut_few g slack true test id part cuts left grid deep = omega (arith, rounds_few test id part cuts left grid deep)
 
-pub cuts_few : (g slack : ℤ) (test : BoxTest) (box : WaitingBox) (cuts : List ShownStep) (left : GridBox) → IsGridPart box.part → AreCutsOf g slack test box cuts left → length cuts ≤ 1014
+pub cuts_few : (g slack : ℤ) (test : BoxTest) (box : WaitingBox) (cuts : List ShownStep) (left : GridBox)
+    → IsGridPart box.part → AreCutsOf g slack test box cuts left → length cuts ≤ 1014
 cuts_few g slack test box cuts left grid are = elim are [
   | inr (decided, none, same) ↦ omega (arith, ap length none)
   | inl (undecided, cut) ↦ cut_few g slack test.pairs test box.id box.part cuts left grid cut
 ]
 
-cut_leaves : (g slack : ℤ) (asked : Bool) (test : BoxTest) (id : ℕ) (part : GridBox) (cuts : List ShownStep) (left : GridBox) → IsCutBy g slack test asked id part cuts left → NoneMayCut test all_faces left
+cut_leaves : (g slack : ℤ) (asked : Bool) (test : BoxTest) (id : ℕ) (part : GridBox) (cuts : List ShownStep) (left : GridBox)
+    → IsCutBy g slack test asked id part cuts left → NoneMayCut test all_faces left
 cut_leaves g slack false test id part cuts left down = round_cuts_leave test id down.middle down.by_eighths left (eighths_done test id down.middle down.by_eighths left down.eighth_cuts)
 cut_leaves g slack true test id part cuts left deep = round_cuts_leave test id part cuts left deep
 
 -- where a box is split or closed at the edge, no slab of an eighth is shown empty
-pub none_left : (g slack : ℤ) (test : BoxTest) (box : WaitingBox) (cuts : List ShownStep) (left : GridBox) → IsUndecided test left → AreCutsOf g slack test box cuts left → NoneMayCut test all_faces left
+pub none_left : (g slack : ℤ) (test : BoxTest) (box : WaitingBox) (cuts : List ShownStep) (left : GridBox)
+    → IsUndecided test left → AreCutsOf g slack test box cuts left → NoneMayCut test all_faces left
 none_left g slack test box cuts left undecided are = elim are [
   | inr (decided, none, same) ↦ absurd (decided (subst (λ (c : GridBox). IsUndecided test c) same undecided))
   | inl (was, cut) ↦ cut_leaves g slack test.pairs test box.id box.part cuts left cut

@@ -40,7 +40,8 @@ longest_axis_exists c = elim (cases_lt (side_length c.x) (longest_length c)) [
   ]
 ]
 
-may_split : (rules : Rules) (splits : ℕ) (part : GridBox) → MaySplit rules splits part ⊎ MayNotSplit rules splits part
+may_split : (rules : Rules) (splits : ℕ) (part : GridBox)
+    → MaySplit rules splits part ⊎ MayNotSplit rules splits part
 may_split rules splits part = elim (cases_Bool (lt_z rules.width (pos (longest_length part)))) [
   | inl longer ↦ elim (cases_lt splits rules.bisections) [
     | inl left ↦ inl (omega (arith, ints, longer), left)
@@ -49,7 +50,8 @@ may_split rules splits part = elim (cases_Bool (lt_z rules.width (pos (longest_l
   | inr no_longer ↦ inr (inl (omega (arith, ints, no_longer)))
 ]
 
-pub ending_exists : (test : BoxTest) (rules : Rules) (splits id : ℕ) (part : GridBox) → test.q < length test.rows → (step : Step) × Closes test rules splits id part step
+pub ending_exists : (test : BoxTest) (rules : Rules) (splits id : ℕ) (part : GridBox)
+    → test.q < length test.rows → (step : Step) × Closes test rules splits id part step
 ending_exists test rules splits id part enough =
     let some : 0 < length test.rows - test.q = omega arith in
     elim (empty_or_not test part enough) [

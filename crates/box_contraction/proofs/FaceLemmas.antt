@@ -19,7 +19,8 @@ use Rattle.range_contractor.proofs.TreeLemmas.{lies_itself as own_box}
 
 -- ---- whether a face may be cut
 
-proper_or_not : (low : Bool) (s : Side) (bound : ℤ) → IsProperBound low s bound ⊎ (IsProperBound low s bound → ⊥)
+proper_or_not : (low : Bool) (s : Side) (bound : ℤ)
+    → IsProperBound low s bound ⊎ (IsProperBound low s bound → ⊥)
 proper_or_not true s bound = by_lt_z s.lo bound
     (λ h. by_lt_z s.hi bound (λ k. inr (λ p. let x = p.1 in omega (arith, ints))) (λ k. inl (h, k)))
     (λ h. inr (λ p. let x = p.0 in omega (arith, ints)))
@@ -27,7 +28,8 @@ proper_or_not false s bound = by_lt_z bound s.hi
     (λ h. by_lt_z bound s.lo (λ k. inr (λ p. let x = p.0 in omega (arith, ints))) (λ k. inl (k, h)))
     (λ h. inr (λ p. let x = p.1 in omega (arith, ints)))
 
-may_or_not : (test : BoxTest) (face : ℕ) (bound : ℤ) (part : GridBox) → test.q < length test.rows → MayCut test face bound part ⊎ (MayCut test face bound part → ⊥)
+may_or_not : (test : BoxTest) (face : ℕ) (bound : ℤ) (part : GridBox) → test.q < length test.rows
+    → MayCut test face bound part ⊎ (MayCut test face bound part → ⊥)
 may_or_not test face bound part few = elim (proper_or_not (is_low face) (side_at (axis_of face) part) bound) [
   | inr not ↦ inr (λ may. not may.0)
   | inl proper ↦ elim (empty_or_not test (slab_of_cut face bound part) few) [
@@ -44,13 +46,15 @@ IsSomeCut test id face part steps left =
     ((bound : ℤ) × MayCut test face bound part × (steps ≡ cut_shown id face bound part ∷ []) × (left ≡ left_by_cut face bound part))
     ⊎ ((steps ≡ []) × (left ≡ part))
 
-pub to_some : (test : BoxTest) (id : ℕ) (bounds : Bounds) (face : ℕ) (part : GridBox) (steps : List ShownStep) (left : GridBox) → IsCutTo test id bounds face part steps left → IsSomeCut test id face part steps left
+pub to_some : (test : BoxTest) (id : ℕ) (bounds : Bounds) (face : ℕ) (part : GridBox) (steps : List ShownStep) (left : GridBox)
+    → IsCutTo test id bounds face part steps left → IsSomeCut test id face part steps left
 to_some test id bounds face part steps left is = elim is [
   | inl (may, one, cut) ↦ inl (bounds face part, may, one, cut)
   | inr (not, none, same) ↦ inr (none, same)
 ]
 
-pub done_some : (test : BoxTest) (id face : ℕ) (part : GridBox) (steps : List ShownStep) (left : GridBox) → IsFaceDone test id face part steps left → IsSomeCut test id face part steps left
+pub done_some : (test : BoxTest) (id face : ℕ) (part : GridBox) (steps : List ShownStep) (left : GridBox)
+    → IsFaceDone test id face part steps left → IsSomeCut test id face part steps left
 done_some test id face part steps left is = elim is [
   | inl d ↦ inl (d.bound, d.may, d.cut, d.rest)
   | inr (not, none, same) ↦ inr (none, same)
@@ -61,19 +65,24 @@ least_deep true bound = omega (arith, ints)
 least_deep false bound = omega (arith, ints)
 
 -- the cut of an eighth is one of an eighth or more
-pub eighth_done : (test : BoxTest) (id face : ℕ) (part : GridBox) (steps : List ShownStep) (left : GridBox) → IsCutTo test id eighths face part steps left → IsFaceDone test id face part steps left
+pub eighth_done : (test : BoxTest) (id face : ℕ) (part : GridBox) (steps : List ShownStep) (left : GridBox)
+    → IsCutTo test id eighths face part steps left → IsFaceDone test id face part steps left
 eighth_done test id face part steps left is = elim is [
   | inl (may, one, cut) ↦ inl (record { eighth = may; bound = eighths face part; deep = least_deep (is_low face) (eighths face part); may = may; cut = one; rest = cut })
   | inr not ↦ inr not
 ]
 
-to_exists : (test : BoxTest) (id : ℕ) (bounds : Bounds) (face : ℕ) (part : GridBox) → test.q < length test.rows → (steps : List ShownStep) × ((left : GridBox) × IsCutTo test id bounds face part steps left)
+to_exists : (test : BoxTest) (id : ℕ) (bounds : Bounds) (face : ℕ) (part : GridBox)
+    → test.q < length test.rows
+    → (steps : List ShownStep) × ((left : GridBox) × IsCutTo test id bounds face part steps left)
 to_exists test id bounds face part few = elim (may_or_not test face (bounds face part) part few) [
   | inl may ↦ (cut_shown id face (bounds face part) part ∷ [], (left_by_cut face (bounds face part) part, inl (may, refl, refl)))
   | inr not ↦ ([], (part, inr (not, refl, refl)))
 ]
 
-pub done_exists : (test : BoxTest) (id : ℕ) (target : Target) (face : ℕ) (part : GridBox) → test.q < length test.rows → (steps : List ShownStep) × ((left : GridBox) × done_by test id target face part steps left)
+pub done_exists : (test : BoxTest) (id : ℕ) (target : Target) (face : ℕ) (part : GridBox)
+    → test.q < length test.rows
+    → (steps : List ShownStep) × ((left : GridBox) × done_by test id target face part steps left)
 done_exists test id (Proposal a) face part few = to_exists test id (proposed (grid_box a)) face part few
 done_exists test id Eighths face part few = to_exists test id eighths face part few
 done_exists test id Deep face part few =
@@ -83,14 +92,17 @@ done_exists test id Deep face part few =
 -- ---- each box has its cuts
 
 pub faces_exist : (Done : ℕ → GridBox → List ShownStep → GridBox → Type 0) (faces : List ℕ) (part : GridBox)
-    → ((face : ℕ) (b : GridBox) → (steps : List ShownStep) × ((left : GridBox) × Done face b steps left)) → (steps : List ShownStep) × ((left : GridBox) × AreFacesDone Done faces part steps left)
+    → ((face : ℕ) (b : GridBox) → (steps : List ShownStep) × ((left : GridBox) × Done face b steps left))
+    → (steps : List ShownStep) × ((left : GridBox) × AreFacesDone Done faces part steps left)
 faces_exist Done [] part each = ([], (part, (refl, refl)))
 faces_exist Done (face ∷ faces) part each =
     let (own, (middle, is)) = each face part in
     let (more, (left, rest)) = faces_exist Done faces middle each in
     (own ++ more, (left, (own, middle, more, is, rest, refl)))
 
-pub proposal_cuts_exist : (test : BoxTest) (id : ℕ) (answer : Option GridBox) (part : GridBox) → test.q < length test.rows → (steps : List ShownStep) × ((left : GridBox) × AreProposalCuts test id answer part steps left)
+pub proposal_cuts_exist : (test : BoxTest) (id : ℕ) (answer : Option GridBox) (part : GridBox)
+    → test.q < length test.rows
+    → (steps : List ShownStep) × ((left : GridBox) × AreProposalCuts test id answer part steps left)
 proposal_cuts_exist test id None part few = ([], (part, (refl, refl)))
 proposal_cuts_exist test id (Some a) part few = faces_exist (IsCutTo test id (proposed a)) all_faces part (λ face b. to_exists test id (proposed a) face b few)
 
@@ -109,13 +121,15 @@ all_are = (omega arith, (omega arith, (omega arith, (omega arith, (omega arith, 
 -- ---- the same faces, by another relation
 
 pub faces_as : (A B : ℕ → GridBox → List ShownStep → GridBox → Type 0) (faces : List ℕ) (part : GridBox) (steps : List ShownStep) (left : GridBox)
-    → ((face : ℕ) (b : GridBox) (own : List ShownStep) (rest : GridBox) → A face b own rest → B face b own rest) → AreFacesDone A faces part steps left → AreFacesDone B faces part steps left
+    → ((face : ℕ) (b : GridBox) (own : List ShownStep) (rest : GridBox) → A face b own rest → B face b own rest)
+    → AreFacesDone A faces part steps left → AreFacesDone B faces part steps left
 faces_as A B [] part steps left f are = are
 faces_as A B (face ∷ faces) part steps left f (own, middle, more, is, rest, join) = (own, middle, more, f face part own middle is, faces_as A B faces middle more left f rest, join)
 
 -- faces, and others after them
 pub faces_both : (Done : ℕ → GridBox → List ShownStep → GridBox → Type 0) (xs ys : List ℕ) (part middle left : GridBox) (first second : List ShownStep)
-    → AreFacesDone Done xs part first middle → AreFacesDone Done ys middle second left → AreFacesDone Done (xs ++ ys) part (first ++ second) left
+    → AreFacesDone Done xs part first middle → AreFacesDone Done ys middle second left
+    → AreFacesDone Done (xs ++ ys) part (first ++ second) left
 faces_both Done [] ys part middle left first second (none, same) rest =
     subst (λ (s : List ShownStep). AreFacesDone Done ys part (s ++ second) left) (sym none) (subst (λ (b : GridBox). AreFacesDone Done ys b second left) same rest)
 faces_both Done (x ∷ xs) ys part middle left first second (own, next, more, is, others, join) rest =
@@ -123,7 +137,8 @@ faces_both Done (x ∷ xs) ys part middle left first second (own, next, more, is
 
 -- ---- how many
 
-pub faces_few : (test : BoxTest) (id : ℕ) (faces : List ℕ) (part : GridBox) (steps : List ShownStep) (left : GridBox) → AreFacesDone (IsSomeCut test id) faces part steps left → length steps ≤ length faces
+pub faces_few : (test : BoxTest) (id : ℕ) (faces : List ℕ) (part : GridBox) (steps : List ShownStep) (left : GridBox)
+    → AreFacesDone (IsSomeCut test id) faces part steps left → length steps ≤ length faces
 faces_few test id [] part steps left (none, same) = omega (arith, ap length none)
 faces_few test id (face ∷ faces) part steps left (own, middle, more, is, rest, join) =
     omega (arith, ap length join, length-append own more, one_at_most, faces_few test id faces middle more left rest)
@@ -136,13 +151,15 @@ faces_few test id (face ∷ faces) part steps left (own, middle, more, is, rest,
 
 -- ---- what is left lies in the box as it was
 
-face_inside : (test : BoxTest) (id face : ℕ) (part : GridBox) (steps : List ShownStep) (left : GridBox) → LiesIn part part → IsSomeCut test id face part steps left → LiesIn left part
+face_inside : (test : BoxTest) (id face : ℕ) (part : GridBox) (steps : List ShownStep) (left : GridBox)
+    → LiesIn part part → IsSomeCut test id face part steps left → LiesIn left part
 face_inside test id face part steps left lies is = elim is [
   | inr (none, same) ↦ rw same lies
   | inl (bound, may, one, cut) ↦ rw cut (with_inside (axis_of face) part _ lies (side_inside (is_low face) (side_at (axis_of face) part) bound (lies (axis_of face)).ordered may.0))
 ]
 
-pub faces_inside : (test : BoxTest) (id : ℕ) (faces : List ℕ) (part : GridBox) (steps : List ShownStep) (left : GridBox) → LiesIn part part → AreFacesDone (IsSomeCut test id) faces part steps left → LiesIn left part
+pub faces_inside : (test : BoxTest) (id : ℕ) (faces : List ℕ) (part : GridBox) (steps : List ShownStep) (left : GridBox)
+    → LiesIn part part → AreFacesDone (IsSomeCut test id) faces part steps left → LiesIn left part
 faces_inside test id [] part steps left lies (none, same) = rw same lies
 faces_inside test id (face ∷ faces) part steps left lies (own, middle, more, is, rest, join) =
     let here = face_inside test id face part own middle lies is in
@@ -150,7 +167,8 @@ faces_inside test id (face ∷ faces) part steps left lies (own, middle, more, i
 
 -- ---- a proposal's cuts
 
-pub proposal_some : (test : BoxTest) (id : ℕ) (answer : Option GridBox) (part : GridBox) (steps : List ShownStep) (left : GridBox) → AreProposalCuts test id answer part steps left
+pub proposal_some : (test : BoxTest) (id : ℕ) (answer : Option GridBox) (part : GridBox) (steps : List ShownStep) (left : GridBox)
+    → AreProposalCuts test id answer part steps left
     → (faces : List ℕ) × ((length faces ≤ 6) × (AreFaces faces × AreFacesDone (IsSomeCut test id) faces part steps left))
 proposal_some test id None part steps left are = ([], (omega arith, (tt, are)))
 proposal_some test id (Some a) part steps left are = (all_faces, (omega arith, (all_are, faces_as (IsCutTo test id (proposed a)) (IsSomeCut test id) all_faces part steps left (to_some test id (proposed a)) are)))

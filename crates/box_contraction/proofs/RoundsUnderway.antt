@@ -16,17 +16,20 @@ use Rattle.box_contraction.proofs.TakingLemmas.{took_both, broke_in}
 
 pub record RoundsUnderway {L : Type 0} (took : L → Step → GridBox → L → Type 0) (Done : ℕ → GridBox → List ShownStep → GridBox → Type 0) (start : GridBox) (first : L) (cuts : ℕ) (part : GridBox) (log : L) : Type 0 where
   pub rounds : List (List ShownStep)
-  pub goes_on : (more : List (List ShownStep)) (left : GridBox) → AreRounds Done part more left → AreRounds Done start (rounds ++ more) left
+  pub goes_on : (more : List (List ShownStep)) (left : GridBox) → AreRounds Done part more left
+      → AreRounds Done start (rounds ++ more) left
   pub taken : TookAll took first (joined rounds) log
   pub counted : cuts ≡ length (joined rounds)
   pub rest : ℕ
   pub budget : Budget part rest
   pub spent : cuts + rest ≡ 1008
 
-pub no_rounds_yet : {L : Type 0} (took : L → Step → GridBox → L → Type 0) (Done : ℕ → GridBox → List ShownStep → GridBox → Type 0) (start : GridBox) (log : L) → IsGridPart start → RoundsUnderway took Done start log 0 start log
+pub no_rounds_yet : {L : Type 0} (took : L → Step → GridBox → L → Type 0) (Done : ℕ → GridBox → List ShownStep → GridBox → Type 0) (start : GridBox) (log : L)
+    → IsGridPart start → RoundsUnderway took Done start log 0 start log
 no_rounds_yet took Done start log grid = record { rounds = []; goes_on = λ more left h. h; taken = refl; counted = refl; rest = 1008; budget = grid_budget start grid; spent = refl }
 
-pub one_more : (rounds : List (List ShownStep)) (round : List ShownStep) → joined (rounds ++ round ∷ []) ≡ joined rounds ++ round
+pub one_more : (rounds : List (List ShownStep)) (round : List ShownStep)
+    → joined (rounds ++ round ∷ []) ≡ joined rounds ++ round
 one_more rounds round = joined_append rounds (round ∷ []) ∙ ap (λ l. joined rounds ++ l) (append-nil round)
 
 some_steps : (steps : List ShownStep) → 1 ≤ length steps → steps ≢ []
@@ -37,8 +40,10 @@ no_steps : (steps : List ShownStep) → length steps ≡ 0 → steps ≡ []
 no_steps [] h = refl
 no_steps (step ∷ steps) h = absurd (omega arith)
 
-pub one_round : {L : Type 0} (took : L → Step → GridBox → L → Type 0) (test : BoxTest) (id : ℕ) (Done : ℕ → GridBox → List ShownStep → GridBox → Type 0) (start : GridBox) (first : L) (cuts made : ℕ) (part left : GridBox) (log last : L) → IsDeepRule test id Done
-    → RoundsUnderway took Done start first cuts part log → TookCuts took (AreFacesDone Done all_faces part) log made left last → 1 ≤ made
+pub one_round : {L : Type 0} (took : L → Step → GridBox → L → Type 0) (test : BoxTest) (id : ℕ) (Done : ℕ → GridBox → List ShownStep → GridBox → Type 0) (start : GridBox) (first : L) (cuts made : ℕ) (part left : GridBox) (log last : L)
+    → IsDeepRule test id Done
+    → RoundsUnderway took Done start first cuts part log
+    → TookCuts took (AreFacesDone Done all_faces part) log made left last → 1 ≤ made
     → RoundsUnderway took Done start first (cuts + made) left last
 one_round took test id Done start first cuts made part left log last rule u c some =
     let (rest, (e, budget)) = round_spent test id Done part c.steps left u.rest rule c.are u.budget in record {
@@ -53,7 +58,8 @@ one_round took test id Done start first cuts made part left log last rule u c so
     }
 
 pub last_round : {L : Type 0} (took : L → Step → GridBox → L → Type 0) (Done : ℕ → GridBox → List ShownStep → GridBox → Type 0) (start : GridBox) (first : L) (cuts made : ℕ) (part left : GridBox) (log last : L)
-    → RoundsUnderway took Done start first cuts part log → TookCuts took (AreFacesDone Done all_faces part) log made left last → made ≡ 0
+    → RoundsUnderway took Done start first cuts part log
+    → TookCuts took (AreFacesDone Done all_faces part) log made left last → made ≡ 0
     → TookCuts took (AreRoundCuts Done start) first cuts left last
 last_round took Done start first cuts made part left log last u c none = record {
   steps = joined u.rounds ++ c.steps;
@@ -62,8 +68,10 @@ last_round took Done start first cuts made part left log last u c none = record 
   counted = omega (arith, u.counted, c.counted, length-append (joined u.rounds) c.steps);
 }
 
-pub round_broke : {L : Type 0} (took broke : L → Step → GridBox → L → Type 0) (room : L → ℕ) (fault : StepFault) (test : BoxTest) (id : ℕ) (Done : ℕ → GridBox → List ShownStep → GridBox → Type 0) (start : GridBox) (first : L) (cuts : ℕ) (part : GridBox) (log last : L) → IsDeepRule test id Done
-    → RoundsUnderway took Done start first cuts part log → BrokeOff took broke room fault (LeaveSome (AreFacesDone Done all_faces part)) log last
+pub round_broke : {L : Type 0} (took broke : L → Step → GridBox → L → Type 0) (room : L → ℕ) (fault : StepFault) (test : BoxTest) (id : ℕ) (Done : ℕ → GridBox → List ShownStep → GridBox → Type 0) (start : GridBox) (first : L) (cuts : ℕ) (part : GridBox) (log last : L)
+    → IsDeepRule test id Done
+    → RoundsUnderway took Done start first cuts part log
+    → BrokeOff took broke room fault (LeaveSome (AreFacesDone Done all_faces part)) log last
     → BrokeOff took broke room fault (LeaveSome (AreRoundCuts Done start)) first last
 round_broke took broke room fault test id Done start first cuts part log last rule u b =
     broke_in took broke room fault (LeaveSome (AreFacesDone Done all_faces part)) (LeaveSome (AreRoundCuts Done start)) (joined u.rounds) first log last u.taken b

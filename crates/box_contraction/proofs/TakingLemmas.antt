@@ -8,16 +8,20 @@ use Rattle.box_contraction.specs.declared.steps.StepFault.{StepFault}
 use Rattle.box_contraction.specs.declared.steps.StepFault.TheVariants.{Full}
 use Rattle.box_contraction.specs.Taking.{TookCuts, BrokeOff}
 
-pub took_both : {L : Type 0} (took : L → Step → GridBox → L → Type 0) (xs ys : List ShownStep) (first middle last : L) → TookAll took first xs middle → TookAll took middle ys last → TookAll took first (xs ++ ys) last
+pub took_both : {L : Type 0} (took : L → Step → GridBox → L → Type 0) (xs ys : List ShownStep) (first middle last : L)
+    → TookAll took first xs middle → TookAll took middle ys last
+    → TookAll took first (xs ++ ys) last
 took_both took [] ys first middle last f g = subst (λ l. TookAll took l ys last) (sym f) g
 took_both took (x ∷ xs) ys first middle last (next, t, f) g = (next, t, took_both took xs ys next middle last f g)
 
 -- the same cuts, by another relation
 pub took_as : {L : Type 0} (took : L → Step → GridBox → L → Type 0) (A B : List ShownStep → GridBox → Type 0) (first : L) (count : ℕ) (left : GridBox) (last : L)
-    → ((steps : List ShownStep) → A steps left → B steps left) → TookCuts took A first count left last → TookCuts took B first count left last
+    → ((steps : List ShownStep) → A steps left → B steps left)
+    → TookCuts took A first count left last → TookCuts took B first count left last
 took_as took A B first count left last f t = record { steps = t.steps; are = f t.steps t.are; taken = t.taken; counted = t.counted }
 
-rejoined : (a b : List ShownStep) (x : ShownStep) (c d : List ShownStep) → a ++ ((b ++ x ∷ c) ++ d) ≡ (a ++ b) ++ x ∷ (c ++ d)
+rejoined : (a b : List ShownStep) (x : ShownStep) (c d : List ShownStep)
+    → a ++ ((b ++ x ∷ c) ++ d) ≡ (a ++ b) ++ x ∷ (c ++ d)
 rejoined a b x c d = ap (λ l. a ++ l) (append_assoc b (x ∷ c) d) ∙ sym (append_assoc a b (x ∷ (c ++ d)))
 
 -- What broke off among inner steps, behind others that were taken, broke off among outer ones, where
@@ -40,7 +44,8 @@ broke_in took broke room fault Inner Outer done first middle last taken b goes_o
 
 -- one step broke
 pub one_broke : {L : Type 0} (took broke : L → Step → GridBox → L → Type 0) (room : L → ℕ) (fault : StepFault) (next : ShownStep) (now last : L)
-    → broke now next.step next.part last → ((fault ≡ Full) ↔ (room now < length (step_bytes next.step)))
+    → broke now next.step next.part last
+    → ((fault ≡ Full) ↔ (room now < length (step_bytes next.step)))
     → BrokeOff took broke room fault (λ steps. steps ≡ next ∷ []) now last
 one_broke took broke room fault next now last broken full = record {
   steps = [];
@@ -55,7 +60,8 @@ one_broke took broke room fault next now last broken full = record {
 
 -- the same steps, by another relation
 pub broke_as : {L : Type 0} (took broke : L → Step → GridBox → L → Type 0) (room : L → ℕ) (fault : StepFault) (A B : List ShownStep → Type 0) (first last : L)
-    → ((steps : List ShownStep) → A steps → B steps) → BrokeOff took broke room fault A first last → BrokeOff took broke room fault B first last
+    → ((steps : List ShownStep) → A steps → B steps) → BrokeOff took broke room fault A first last
+    → BrokeOff took broke room fault B first last
 broke_as took broke room fault A B first last f b = record {
   steps = b.steps;
   next = b.next;
@@ -67,5 +73,6 @@ broke_as took broke room fault A B first last f b = record {
   full = b.full;
 }
 
-pub same_fault : (fault cause : StepFault) (P : Type 0) → ((◌≡◌ {A = Result (Unit {0}) StepFault} (Err fault) (Err cause)) ↔ P) → ((fault ≡ cause) ↔ P)
+pub same_fault : (fault cause : StepFault) (P : Type 0)
+    → ((◌≡◌ {A = Result (Unit {0}) StepFault} (Err fault) (Err cause)) ↔ P) → ((fault ≡ cause) ↔ P)
 same_fault fault cause P h = (λ e. h.0 (rw e refl), λ p. let e = h.1 p in cc)

@@ -20,30 +20,35 @@ some_none : (n : Node) → Some n ≡ None → ⊥
 some_none n e = cc
 
 -- a write to a place that is in no link
-pub chain_set : (slots : List (Option Node)) (q : ℕ) (x : Option Node) (p : ℕ) (ls : List Link) → IsFree q ls → Chain slots p ls → Chain (set slots q x) p ls
+pub chain_set : (slots : List (Option Node)) (q : ℕ) (x : Option Node) (p : ℕ) (ls : List Link)
+    → IsFree q ls → Chain slots p ls → Chain (set slots q x) p ls
 chain_set slots q x p [] free c = tt
 chain_set slots q x p (l ∷ ls) free c =
     (c.0, (c.1.0, get_or-set_other slots q p x None (λ e. free.0 (sym e ∙ sym c.0)) ∙ c.1.1, chain_set slots q x c.1.0 ls free.1 c.1.2))
 
 -- the same of the spare nodes
-pub spares_set : (slots : List (Option Node)) (q : ℕ) (x : Option Node) (p : ℕ) (ls : List Link) (end : ℕ) → IsFree q ls → ChainTo slots p ls end → ChainTo (set slots q x) p ls end
+pub spares_set : (slots : List (Option Node)) (q : ℕ) (x : Option Node) (p : ℕ) (ls : List Link) (end : ℕ)
+    → IsFree q ls → ChainTo slots p ls end → ChainTo (set slots q x) p ls end
 spares_set slots q x p [] end free c = c
 spares_set slots q x p (l ∷ ls) end free c =
     (c.0, (c.1.0, get_or-set_other slots q p x None (λ e. free.0 (sym e ∙ sym c.0)) ∙ c.1.1, spares_set slots q x c.1.0 ls end free.1 c.1.2))
 
 -- an unused place is that of no link
-unused_free : (slots : List (Option Node)) (q p : ℕ) (ls : List Link) → node_at slots q ≡ None → Chain slots p ls → IsFree q ls
+unused_free : (slots : List (Option Node)) (q p : ℕ) (ls : List Link) → node_at slots q ≡ None
+    → Chain slots p ls → IsFree q ls
 unused_free slots q p [] none c = tt
 unused_free slots q p (l ∷ ls) none c =
     ((λ e. some_none (node l.item c.1.0) (sym c.1.1 ∙ ap (λ i. node_at slots i) (sym c.0 ∙ sym e) ∙ none)), unused_free slots q c.1.0 ls none c.1.2)
 
-pub items_are : (slots : List (Option Node)) (p : ℕ) (ls : List Link) → Chain slots p ls → items_from slots (length ls) p ≡ items_of ls
+pub items_are : (slots : List (Option Node)) (p : ℕ) (ls : List Link) → Chain slots p ls
+    → items_from slots (length ls) p ≡ items_of ls
 unfolding items_from
 items_are slots p [] c = refl
 items_are slots p (l ∷ ls) c =
     ap (λ (n : Option Node). item_before n (items_from slots (length ls) (next_of n))) c.1.1 ∙ ap (λ xs. l.item ∷ xs) (items_are slots c.1.0 ls c.1.2)
 
-pub list_is : (slots : List (Option Node)) (firsts counts : List ℕ) (bucket : ℕ) → length firsts ≡ length counts
+pub list_is : (slots : List (Option Node)) (firsts counts : List ℕ) (bucket : ℕ)
+    → length firsts ≡ length counts
     → list_at (lists_from slots firsts counts) bucket ≡ items_from slots (get_or counts bucket 0) (get_or firsts bucket 0)
 unfolding lists_from items_from
 list_is slots [] [] bucket e = refl
@@ -52,7 +57,8 @@ list_is slots (f ∷ fs) [] bucket e = absurd (omega (arith, e))
 list_is slots (f ∷ fs) (n ∷ ns) zero e = refl
 list_is slots (f ∷ fs) (n ∷ ns) (suc bucket) e = list_is slots fs ns bucket (omega (arith, e))
 
-pub free_of : (owner : ℕ → ℕ) (who q : ℕ) (ls : List Link) → Belong owner who ls → owner q ≢ who → IsFree q ls
+pub free_of : (owner : ℕ → ℕ) (who q : ℕ) (ls : List Link) → Belong owner who ls → owner q ≢ who
+    → IsFree q ls
 free_of owner who q [] b apart = tt
 free_of owner who q (l ∷ ls) b apart = ((λ e. apart (ap owner e ∙ b.0)), free_of owner who q ls b.1 apart)
 
@@ -66,22 +72,26 @@ at_same b v f x e = ap (λ (t : Bool). cond t v (f x)) (eq-eqb x b e)
 pub at_other : {X : Type 0} (b : ℕ) (v : X) (f : ℕ → X) (x : ℕ) → x ≢ b → at b v f x ≡ f x
 at_other b v f x ne = ap (λ (t : Bool). cond t v (f x)) (ne_eqb x b ne)
 
-pub everywhere : {X : Type 0} (P : ℕ → X → Type 0) (b : ℕ) (v : X) (f : ℕ → X) → P b v → ((x : ℕ) → x ≢ b → P x (f x)) → (x : ℕ) → P x (at b v f x)
+pub everywhere : {X : Type 0} (P : ℕ → X → Type 0) (b : ℕ) (v : X) (f : ℕ → X) → P b v
+    → ((x : ℕ) → x ≢ b → P x (f x)) → (x : ℕ) → P x (at b v f x)
 everywhere P b v f here there x = elim (cases_eq x b) [
   | inl e ↦ subst (P x) (sym (at_same b v f x e)) (subst (λ y. P y v) (sym e) here)
   | inr ne ↦ subst (P x) (sym (at_other b v f x ne)) (there x ne)
 ]
 
 -- the owner of a place that is in none of the links changes
-pub belong_at : (owner : ℕ → ℕ) (who q to : ℕ) (ls : List Link) → IsFree q ls → Belong owner who ls → Belong (at q to owner) who ls
+pub belong_at : (owner : ℕ → ℕ) (who q to : ℕ) (ls : List Link) → IsFree q ls → Belong owner who ls
+    → Belong (at q to owner) who ls
 belong_at owner who q to [] free b = tt
 belong_at owner who q to (l ∷ ls) free b = (at_other q to owner l.place (λ e. free.0 (sym e)) ∙ b.0, belong_at owner who q to ls free.1 b.1)
 
-pub belong_push : (owner : ℕ → ℕ) (who : ℕ) (ls : List Link) (l : Link) → Belong owner who ls → owner l.place ≡ who → Belong owner who (ls ++ l ∷ [])
+pub belong_push : (owner : ℕ → ℕ) (who : ℕ) (ls : List Link) (l : Link) → Belong owner who ls
+    → owner l.place ≡ who → Belong owner who (ls ++ l ∷ [])
 belong_push owner who [] l b e = (e, tt)
 belong_push owner who (m ∷ ls) l b e = (b.0, belong_push owner who ls l b.1 e)
 
-free_push : (q : ℕ) (ls : List Link) (l : Link) → IsFree q ls → q ≢ l.place → IsFree q (ls ++ l ∷ [])
+free_push : (q : ℕ) (ls : List Link) (l : Link) → IsFree q ls → q ≢ l.place
+    → IsFree q (ls ++ l ∷ [])
 free_push q [] l free ne = (ne, tt)
 free_push q (m ∷ ls) l free ne = (free.0, free_push q ls l free.1 ne)
 
@@ -103,11 +113,13 @@ items_push [] l = refl
 items_push (m ∷ ls) l = ap (λ xs. m.item ∷ xs) (items_push ls l)
 
 -- the place of the last link is none of the places that are free of the links
-ends_in : (q last : ℕ) (l : Link) (ls : List Link) → EndsAt last (l ∷ ls) → IsFree q (l ∷ ls) → q ≢ last
+ends_in : (q last : ℕ) (l : Link) (ls : List Link) → EndsAt last (l ∷ ls) → IsFree q (l ∷ ls)
+    → q ≢ last
 ends_in q last l [] e free = λ same. free.0 (same ∙ sym e)
 ends_in q last l (m ∷ ls) e free = ends_in q last m ls e free.1
 
-pub ends_owned : (owner : ℕ → ℕ) (who last : ℕ) (l : Link) (ls : List Link) → EndsAt last (l ∷ ls) → Belong owner who (l ∷ ls) → owner last ≡ who
+pub ends_owned : (owner : ℕ → ℕ) (who last : ℕ) (l : Link) (ls : List Link) → EndsAt last (l ∷ ls)
+    → Belong owner who (l ∷ ls) → owner last ≡ who
 ends_owned owner who last l [] e b = ap owner (sym e) ∙ b.0
 ends_owned owner who last l (m ∷ ls) e b = ends_owned owner who last m ls e b.1
 
@@ -116,11 +128,13 @@ ends_tail last l [] e = tt
 ends_tail last l (m ∷ ls) e = e
 
 -- the last of the links has a node
-pub last_filled : (slots : List (Option Node)) (last p : ℕ) (l : Link) (ls : List Link) → EndsAt last (l ∷ ls) → Chain slots p (l ∷ ls) → IsFilled slots last
+pub last_filled : (slots : List (Option Node)) (last p : ℕ) (l : Link) (ls : List Link)
+    → EndsAt last (l ∷ ls) → Chain slots p (l ∷ ls) → IsFilled slots last
 last_filled slots last p l [] e c = (node l.item c.1.0, ap (λ q. node_at slots q) (sym e ∙ c.0) ∙ c.1.1)
 last_filled slots last p l (m ∷ ls) e c = last_filled slots last c.1.0 m ls e c.1.2
 
-within : (slots : List (Option Node)) (p : ℕ) (n : Node) → node_at slots p ≡ Some n → p < length slots
+within : (slots : List (Option Node)) (p : ℕ) (n : Node) → node_at slots p ≡ Some n
+    → p < length slots
 within [] p n e = cc
 within (c ∷ cs) zero n e = omega arith
 within (c ∷ cs) (suc p) n e = omega (arith, within cs p n e)
@@ -160,7 +174,8 @@ chain_push slots p last q item next w l (m ∷ ls) c once e free at_q at_last =
 abbrev pub write : List (Option Node) → ℕ → Item → ℕ → List (Option Node)
 write slots p item next = set slots p (Some (node item next))
 
-pub written : (slots : List (Option Node)) (p : ℕ) (item : Item) (next : ℕ) → p < length slots → node_at (write slots p item next) p ≡ Some (node item next)
+pub written : (slots : List (Option Node)) (p : ℕ) (item : Item) (next : ℕ) → p < length slots
+    → node_at (write slots p item next) p ≡ Some (node item next)
 written slots p item next lt = get_or-set_same slots p (Some (node item next)) None lt
 
 -- a node that is used is below the unused ones
@@ -184,26 +199,32 @@ pub record IsSpare (slots : List (Option Node)) (chain : ℕ → List Link) (own
   pub unused : (i : ℕ) → mark ≤ i → node_at slots i ≡ None
 
 module _ (slots : List (Option Node)) (firsts lasts counts : List ℕ) (free spare used nodes : ℕ) (k : IsLinked slots firsts lasts counts free spare used nodes) (same : length firsts ≡ length counts) where
-  pub lists_are : (bucket : ℕ) → list_at (lists_from slots firsts counts) bucket ≡ items_of (k.chain bucket)
+  pub lists_are : (bucket : ℕ)
+      → list_at (lists_from slots firsts counts) bucket ≡ items_of (k.chain bucket)
   lists_are bucket =
       list_is slots firsts counts bucket same
       ∙ ap (λ n. items_from slots n (get_or firsts bucket 0)) (sym (k.counted bucket))
       ∙ items_are slots (get_or firsts bucket 0) (k.chain bucket) (k.linked bucket)
 
   -- the first spare node
-  pub first_spare : 0 < spare → length slots ≡ nodes → (free < length slots) × (free < used → IsFilled slots free)
+  pub first_spare : 0 < spare → length slots ≡ nodes
+      → (free < length slots) × (free < used → IsFilled slots free)
   first_spare some long = go k.spares k.spares_linked k.spares_counted
     where
-      go : (ls : List Link) → ChainTo slots free ls used → length ls + nodes ≡ spare + used → (free < length slots) × (free < used → IsFilled slots free)
+      go : (ls : List Link) → ChainTo slots free ls used → length ls + nodes ≡ spare + used
+          → (free < length slots) × (free < used → IsFilled slots free)
       go [] c e = (omega (arith, c, e, long, some), (λ lt. absurd (omega (arith, c, lt))))
       go (l ∷ ls) c e = (within slots free (node l.item c.1.0) c.1.1, (λ lt. (node l.item c.1.0, c.1.1)))
 
   -- it leaves the spare ones
-  pub spare_there : (behind mark : ℕ) → 0 < spare → length slots ≡ nodes → behind ≡ spare_behind (node_at slots free) free → mark ≡ max used (free + 1)
+  pub spare_there : (behind mark : ℕ) → 0 < spare → length slots ≡ nodes
+      → behind ≡ spare_behind (node_at slots free) free → mark ≡ max used (free + 1)
       → IsSpare slots k.chain k.owner free behind (spare - 1) mark nodes
   spare_there behind mark some long is marked = go k.spares k.spares_linked k.spares_counted k.spares_owned k.spares_once
     where
-      go : (ls : List Link) → ChainTo slots free ls used → length ls + nodes ≡ spare + used → Belong k.owner 0 ls → Once ls → IsSpare slots k.chain k.owner free behind (spare - 1) mark nodes
+      go : (ls : List Link) → ChainTo slots free ls used → length ls + nodes ≡ spare + used
+          → Belong k.owner 0 ls → Once ls
+          → IsSpare slots k.chain k.owner free behind (spare - 1) mark nodes
       go [] c n own once =
           let none : node_at slots free ≡ None = k.unused free (omega (arith, c)) in let up : mark ≡ used + 1 = omega (arith, c, marked) in
           record {
@@ -235,17 +256,22 @@ module _ (slots : List (Option Node)) (firsts lasts counts : List ℕ) (free spa
           }
 
   -- a list that has a node begins with one and ends with one
-  pub first_filled : (bucket : ℕ) → get_or counts bucket 0 ≢ 0 → IsFilled slots (get_or firsts bucket 0)
+  pub first_filled : (bucket : ℕ) → get_or counts bucket 0 ≢ 0
+      → IsFilled slots (get_or firsts bucket 0)
   first_filled bucket some = go (k.chain bucket) (k.linked bucket) (k.counted bucket)
     where
-      go : (ls : List Link) → Chain slots (get_or firsts bucket 0) ls → length ls ≡ get_or counts bucket 0 → IsFilled slots (get_or firsts bucket 0)
+      go : (ls : List Link) → Chain slots (get_or firsts bucket 0) ls
+          → length ls ≡ get_or counts bucket 0 → IsFilled slots (get_or firsts bucket 0)
       go [] c e = absurd (some (sym e))
       go (l ∷ ls) c e = (node l.item c.1.0, c.1.1)
 
-  pub end_filled : (bucket : ℕ) → get_or counts bucket 0 ≢ 0 → IsFilled slots (get_or lasts bucket 0)
+  pub end_filled : (bucket : ℕ) → get_or counts bucket 0 ≢ 0
+      → IsFilled slots (get_or lasts bucket 0)
   end_filled bucket some = go (k.chain bucket) (k.linked bucket) (k.counted bucket) (k.ended bucket)
     where
-      go : (ls : List Link) → Chain slots (get_or firsts bucket 0) ls → length ls ≡ get_or counts bucket 0 → EndsAt (get_or lasts bucket 0) ls → IsFilled slots (get_or lasts bucket 0)
+      go : (ls : List Link) → Chain slots (get_or firsts bucket 0) ls
+          → length ls ≡ get_or counts bucket 0 → EndsAt (get_or lasts bucket 0) ls
+          → IsFilled slots (get_or lasts bucket 0)
       go [] c e ends = absurd (some (sym e))
       go (l ∷ ls) c e ends = last_filled slots (get_or lasts bucket 0) (get_or firsts bucket 0) l ls ends c
 
@@ -313,7 +339,8 @@ module _ (slots : List (Option Node)) (firsts lasts counts : List ℕ) (free spa
       kept_same : length F' ≡ length C'
       kept_same = length-set firsts bucket was.next ∙ same ∙ sym (length-set counts bucket (get_or counts bucket 0 - 1))
 
-      taken : k.chain bucket ≡ l ∷ ls → IsPopped (lists_from slots firsts counts) bucket was.item (lists_from S' F' C')
+      taken : k.chain bucket ≡ l ∷ ls
+          → IsPopped (lists_from slots firsts counts) bucket was.item (lists_from S' F' C')
       unfolding kept
       taken is = record {
         taken =
@@ -325,10 +352,13 @@ module _ (slots : List (Option Node)) (firsts lasts counts : List ℕ) (free spa
             ∙ sym (lists_are slots firsts lasts counts free spare used nodes k same x);
       }
 
-    pub popped : get_or counts bucket 0 ≢ 0 → IsLinked S' F' lasts C' F (spare + 1) used nodes × IsPopped (lists_from slots firsts counts) bucket was.item (lists_from S' F' C')
+    pub popped : get_or counts bucket 0 ≢ 0
+        → IsLinked S' F' lasts C' F (spare + 1) used nodes × IsPopped (lists_from slots firsts counts) bucket was.item (lists_from S' F' C')
     popped some = go (k.chain bucket) (k.linked bucket) (k.counted bucket) (k.ended bucket) (k.owned bucket) (k.once bucket) refl
       where
-        go : (ls : List Link) → Chain slots F ls → length ls ≡ get_or counts bucket 0 → EndsAt (get_or lasts bucket 0) ls → Belong k.owner (suc bucket) ls → Once ls → k.chain bucket ≡ ls
+        go : (ls : List Link) → Chain slots F ls → length ls ≡ get_or counts bucket 0
+            → EndsAt (get_or lasts bucket 0) ls → Belong k.owner (suc bucket) ls → Once ls
+            → k.chain bucket ≡ ls
             → IsLinked S' F' lasts C' F (spare + 1) used nodes × IsPopped (lists_from slots firsts counts) bucket was.item (lists_from S' F' C')
         go [] c n ends own once e = absurd (some (sym n))
         go (l ∷ ls) c n ends own once e = (kept l ls c n ends own once, taken l ls c n ends own once e)
@@ -400,7 +430,8 @@ module _ (slots : List (Option Node)) (firsts lasts counts : List ℕ) (free spa
     F₁ = set firsts bucket free
 
     -- into an empty list
-    pub pushed_first : get_or counts bucket 0 ≡ 0 → IsLinked S₁ F₁ L₁ C₁ behind (spare - 1) mark nodes × IsPushed (lists_from slots firsts counts) bucket item (lists_from S₁ F₁ C₁)
+    pub pushed_first : get_or counts bucket 0 ≡ 0
+        → IsLinked S₁ F₁ L₁ C₁ behind (spare - 1) mark nodes × IsPushed (lists_from slots firsts counts) bucket item (lists_from S₁ F₁ C₁)
     pushed_first none =
         let empty : k.chain bucket ≡ [] = nil_from_length (k.chain bucket) (k.counted bucket ∙ none) in
         let begins : Chain S₁ (get_or F₁ bucket 0) (new ∷ []) = (sym (get_or-set_same firsts bucket free 0 lt), (0, ap (λ p. node_at S₁ p) (get_or-set_same firsts bucket free 0 lt) ∙ written slots free item 0 spare_is.inside, tt)) in
@@ -422,7 +453,8 @@ module _ (slots : List (Option Node)) (firsts lasts counts : List ℕ) (free spa
       unused_2 i le =
           get_or-set_other S₁ E i (Some (node w.item free)) None (λ e. some_none w (sym at_end ∙ ap (λ j. node_at S₁ j) (sym e) ∙ unused_1 i le)) ∙ unused_1 i le
 
-      pub pushed_behind : get_or counts bucket 0 ≢ 0 → IsLinked S₂ firsts L₁ C₁ behind (spare - 1) mark nodes × IsPushed (lists_from slots firsts counts) bucket item (lists_from S₂ firsts C₁)
+      pub pushed_behind : get_or counts bucket 0 ≢ 0
+          → IsLinked S₂ firsts L₁ C₁ behind (spare - 1) mark nodes × IsPushed (lists_from slots firsts counts) bucket item (lists_from S₂ firsts C₁)
       pushed_behind more = go (k.chain bucket) refl (k.ended bucket) (k.owned bucket)
         where
           go : (ms : List Link) → k.chain bucket ≡ ms → EndsAt E ms → Belong k.owner (suc bucket) ms
@@ -445,7 +477,8 @@ module _ (slots : List (Option Node)) (firsts lasts counts : List ℕ) (free spa
               (after_push S₂ firsts refl here there rest unused_2, put_last S₂ firsts refl here there rest unused_2)
 
 -- a place keeps being filled where a node is put into a place
-pub filled_set : (slots : List (Option Node)) (q : ℕ) (n : Node) (p : ℕ) → q < length slots → IsFilled slots p → IsFilled (set slots q (Some n)) p
+pub filled_set : (slots : List (Option Node)) (q : ℕ) (n : Node) (p : ℕ) → q < length slots
+    → IsFilled slots p → IsFilled (set slots q (Some n)) p
 filled_set slots q n p lt at_p = elim (cases_eq p q) [
   | inl e ↦ (n, ap (λ k. node_at (set slots q (Some n)) k) e ∙ get_or-set_same slots q (Some n) None lt)
   | inr ne ↦ (at_p.0, get_or-set_other slots q p (Some n) None ne ∙ at_p.1)
@@ -456,11 +489,13 @@ no_items [] e = refl
 no_items (l ∷ ls) e = cc
 
 module _ (slots : List (Option Node)) (firsts lasts counts : List ℕ) (free spare used nodes : ℕ) (k : IsLinked slots firsts lasts counts free spare used nodes) (same : length firsts ≡ length counts) where
-  pub empty_at : (bucket : ℕ) → get_or counts bucket 0 ≡ 0 → list_at (lists_from slots firsts counts) bucket ≡ []
+  pub empty_at : (bucket : ℕ) → get_or counts bucket 0 ≡ 0
+      → list_at (lists_from slots firsts counts) bucket ≡ []
   empty_at bucket none =
       lists_are slots firsts lasts counts free spare used nodes k same bucket ∙ ap items_of (nil_from_length (k.chain bucket) (k.counted bucket ∙ none))
 
-  pub some_at : (bucket : ℕ) → get_or counts bucket 0 ≢ 0 → list_at (lists_from slots firsts counts) bucket ≢ []
+  pub some_at : (bucket : ℕ) → get_or counts bucket 0 ≢ 0
+      → list_at (lists_from slots firsts counts) bucket ≢ []
   some_at bucket some e =
       some (sym (k.counted bucket) ∙ no_items (k.chain bucket) (sym (lists_are slots firsts lasts counts free spare used nodes k same bucket) ∙ e))
 
@@ -470,7 +505,8 @@ none_at zero (suc n) = refl
 none_at (suc bucket) (suc n) = none_at bucket n
 
 -- no node is used
-pub all_spare : (slots : List (Option Node)) (n : ℕ) → ((i : ℕ) → node_at slots i ≡ None) → IsLinked slots (replicate 48 0) (replicate 48 0) (replicate 48 0) 0 n 0 n
+pub all_spare : (slots : List (Option Node)) (n : ℕ) → ((i : ℕ) → node_at slots i ≡ None)
+    → IsLinked slots (replicate 48 0) (replicate 48 0) (replicate 48 0) 0 n 0 n
 all_spare slots n unused = record {
   chain = λ bucket. [];
   owner = λ q. 0;
@@ -488,7 +524,8 @@ all_spare slots n unused = record {
   all = omega arith;
 }
 
-pub lists_long : (slots : List (Option Node)) (firsts counts : List ℕ) → length firsts ≡ length counts → length (lists_from slots firsts counts) ≡ length counts
+pub lists_long : (slots : List (Option Node)) (firsts counts : List ℕ)
+    → length firsts ≡ length counts → length (lists_from slots firsts counts) ≡ length counts
 unfolding lists_from
 lists_long slots [] [] e = refl
 lists_long slots [] (n ∷ ns) e = absurd (omega (arith, e))

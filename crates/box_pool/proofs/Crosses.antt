@@ -20,7 +20,8 @@ module _ (R : RattleType) where
   slots-Keyless s b o (Some x ∷ cs) = (part_keyless R s full_share x b o, slots-Keyless s b (o + type_size R) cs)
   slots-Keyless s b o (None ∷ cs) = (tt, slots-Keyless s b (o + type_size R) cs)
 
-  slots_lent-Common : IsSync R → (b o : ℕ) (cs : List (Option R.Denot)) → Common (slots_lent R b o cs)
+  slots_lent-Common : IsSync R → (b o : ℕ) (cs : List (Option R.Denot))
+      → Common (slots_lent R b o cs)
   slots_lent-Common y b o [] κ = tt
   slots_lent-Common y b o (Some x ∷ cs) κ = (y.shared x b o κ, slots_lent-Common y b (o + type_size R) cs κ)
   slots_lent-Common y b o (None ∷ cs) κ = (tt, slots_lent-Common y b (o + type_size R) cs κ)

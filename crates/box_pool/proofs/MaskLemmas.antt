@@ -27,21 +27,24 @@ power_suc : (i : ℕ) → 2 ^ suc i ≡ 2 * 2 ^ i
 power_suc i = pow-succ' 2 i
 
 -- a list gets its first node
-pub mask_more : (ns : List ℕ) (i m : ℕ) → i < length ns → get_or ns i 0 ≡ 0 → m ≢ 0 → mask_of (set ns i m) ≡ mask_of ns + 2 ^ i
+pub mask_more : (ns : List ℕ) (i m : ℕ) → i < length ns → get_or ns i 0 ≡ 0 → m ≢ 0
+    → mask_of (set ns i m) ≡ mask_of ns + 2 ^ i
 unfolding mask_of
 mask_more [] i m lt none some = absurd (omega arith)
 mask_more (n ∷ ns) zero m lt none some = omega (arith, no_flag n none, one_flag m some)
 mask_more (n ∷ ns) (suc i) m lt none some = omega (arith, mask_more ns i m (omega arith) none some, power_suc i)
 
 -- a list loses its last node
-pub mask_less : (ns : List ℕ) (i m : ℕ) → i < length ns → get_or ns i 0 ≢ 0 → m ≡ 0 → mask_of (set ns i m) + 2 ^ i ≡ mask_of ns
+pub mask_less : (ns : List ℕ) (i m : ℕ) → i < length ns → get_or ns i 0 ≢ 0 → m ≡ 0
+    → mask_of (set ns i m) + 2 ^ i ≡ mask_of ns
 unfolding mask_of
 mask_less [] i m lt some none = absurd (omega arith)
 mask_less (n ∷ ns) zero m lt some none = omega (arith, one_flag n some, no_flag m none)
 mask_less (n ∷ ns) (suc i) m lt some none = omega (arith, mask_less ns i m (omega arith) some none, power_suc i)
 
 -- a list keeps having a node
-pub mask_same : (ns : List ℕ) (i m : ℕ) → i < length ns → get_or ns i 0 ≢ 0 → m ≢ 0 → mask_of (set ns i m) ≡ mask_of ns
+pub mask_same : (ns : List ℕ) (i m : ℕ) → i < length ns → get_or ns i 0 ≢ 0 → m ≢ 0
+    → mask_of (set ns i m) ≡ mask_of ns
 unfolding mask_of
 mask_same [] i m lt some still = absurd (omega arith)
 mask_same (n ∷ ns) zero m lt some still = omega (arith, one_flag n some, one_flag m still)
@@ -58,7 +61,8 @@ mask_zero [] k e = refl
 mask_zero (n ∷ ns) zero e = flag_zero n (omega (arith, e))
 mask_zero (n ∷ ns) (suc k) e = mask_zero ns k (omega (arith, e))
 
-pub mask_top : (ns : List ℕ) (j : ℕ) → 2 ^ j ≤ mask_of ns → mask_of ns < 2 ^ suc j → (get_or ns j 0 ≢ 0) × ((k : ℕ) → j < k → get_or ns k 0 ≡ 0)
+pub mask_top : (ns : List ℕ) (j : ℕ) → 2 ^ j ≤ mask_of ns → mask_of ns < 2 ^ suc j
+    → (get_or ns j 0 ≢ 0) × ((k : ℕ) → j < k → get_or ns k 0 ≡ 0)
 unfolding mask_of
 mask_top [] j low high = absurd (omega (arith, low, pow_pos j))
 mask_top (n ∷ ns) zero low high = ((λ e. absurd (omega (arith, low, high, no_flag n e))), later)
@@ -75,8 +79,10 @@ mask_top (n ∷ ns) (suc j) low high =
     later rest (suc k) lt = rest k (omega (arith, lt))
 
 -- the mask after a list lost a node
-pub mask_after : (ns : List ℕ) (i left mask after : ℕ) → i < length ns → get_or ns i 0 ≢ 0 → mask ≡ mask_of ns
-    → (left ≡ 0 → after + 2 ^ i ≡ mask) → (left ≢ 0 → after ≡ mask) → after ≡ mask_of (set ns i left)
+pub mask_after : (ns : List ℕ) (i left mask after : ℕ) → i < length ns → get_or ns i 0 ≢ 0
+    → mask ≡ mask_of ns
+    → (left ≡ 0 → after + 2 ^ i ≡ mask) → (left ≢ 0 → after ≡ mask)
+    → after ≡ mask_of (set ns i left)
 mask_after ns i left mask after lt some is emptied same = elim (cases_eq left 0) [
   | inl e ↦ let less = mask_less ns i left lt some e in let cut = emptied e in omega (arith, less, cut, is)
   | inr ne ↦ same ne ∙ is ∙ sym (mask_same ns i left lt some ne)

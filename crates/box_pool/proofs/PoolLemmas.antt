@@ -9,7 +9,8 @@ use Rattle.box_pool.specs.declared.item.Node.{Node}
 use Rattle.box_pool.specs.Blocks.{IsBlock}
 
 pub block_kept : (base : Base Node) (old new : Cells Node) (deed : Deed Node Global) (alloc : Global) (nodes : ℕ) (i : ℕ) (v : Option Node)
-    → IsBlock base old deed alloc nodes → new.at ≡ old.at → new.slots ≡ set old.slots i v → IsBlock base new deed alloc nodes
+    → IsBlock base old deed alloc nodes → new.at ≡ old.at → new.slots ≡ set old.slots i v
+    → IsBlock base new deed alloc nodes
 block_kept base old new deed alloc nodes i v k at slots = record {
   cells_at = at ∙ k.cells_at;
   deed_at = k.deed_at;

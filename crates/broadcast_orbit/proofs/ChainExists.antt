@@ -76,16 +76,19 @@ over_square num = near_exists num (pos (unit * unit)) (record { lt = tt })
 
 -- ---- the ellipse
 
-pub small_amount : (e : ℤ) → pos 0 ≤ℤ e → e ≤ℤ pos eccentricity_amount → IsWithin eccentricity_amount e
+pub small_amount : (e : ℤ) → pos 0 ≤ℤ e → e ≤ℤ pos eccentricity_amount
+    → IsWithin eccentricity_amount e
 small_amount e h k = record { low = omega (arith, ints); high = omega (arith, ints) }
 
-ratio_from : (p : ℤ) → IsWithin (eccentricity_amount * (unit + 8)) p → (pos (7 * 10 ^ 15) *ℤ pos unit) ≤ℤ (pos (unit * unit) -ℤ p)
+ratio_from : (p : ℤ) → IsWithin (eccentricity_amount * (unit + 8)) p
+    → (pos (7 * 10 ^ 15) *ℤ pos unit) ≤ℤ (pos (unit * unit) -ℤ p)
 ratio_from p w = omega (arith, ints, w.high)
 
 positive_from : (r : ℤ) → (pos (7 * 10 ^ 15) -ℤ pos 1) ≤ℤ r → pos 0 <ℤ r
 positive_from r h = omega (arith, ints)
 
-ratio_positive : (e x c r : ℤ) → pos 0 ≤ℤ e → e ≤ℤ pos eccentricity_amount → IsWithin (unit + 8) c → Near (pos (unit * unit) -ℤ (e *ℤ c)) (pos unit) r → pos 0 <ℤ r
+ratio_positive : (e x c r : ℤ) → pos 0 ≤ℤ e → e ≤ℤ pos eccentricity_amount → IsWithin (unit + 8) c
+    → Near (pos (unit * unit) -ℤ (e *ℤ c)) (pos unit) r → pos 0 <ℤ r
 ratio_positive e x c r h k w n = positive_from r (near_low (pos (unit * unit) -ℤ (e *ℤ c)) (pos unit) r (pos (7 * 10 ^ 15)) (record { lt = tt }) (ratio_from (e *ℤ c) (product_within eccentricity_amount (unit + 8) e c (small_amount e h k) w)) n)
 
 -- the root of 1 - e^2
@@ -93,7 +96,8 @@ record IsFlatness (e : ℤ) (w : ℕ) : Type 0 where
   low : (pos (w * w) +ℤ (e *ℤ e)) ≤ℤ pos (unit * unit)
   high : pos (unit * unit) <ℤ (pos ((w + 1) * (w + 1)) +ℤ (e *ℤ e))
 
-flatness_from : (k w : ℕ) → k * k ≤ unit * unit → IsRoot (unit * unit - k * k) w → IsFlatness (pos k) w
+flatness_from : (k w : ℕ) → k * k ≤ unit * unit → IsRoot (unit * unit - k * k) w
+    → IsFlatness (pos k) w
 flatness_from k w h r = record { low = omega (arith, ints, r.square_le); high = omega (arith, ints, r.next_square_gt) }
 
 flatness_exists : (e : ℤ) → pos 0 ≤ℤ e → e ≤ℤ pos eccentricity_amount → (w : ℕ) × IsFlatness e w
@@ -102,7 +106,8 @@ flatness_exists (pos k) h l =
     (root (unit * unit - k * k), flatness_from k (root (unit * unit - k * k)) (omega arith) (root_is (unit * unit - k * k)))
 flatness_exists (negsuc k) h l = absurd (omega (arith, ints))
 
-anomaly_exists : (f : OrbitFields) (n after : ℤ) → pos 0 ≤ℤ f.e → f.e ≤ℤ pos eccentricity_amount → (r : ℤ) × (c : ℤ) × (s : ℤ) × Anomaly f n after r c s
+anomaly_exists : (f : OrbitFields) (n after : ℤ) → pos 0 ≤ℤ f.e → f.e ≤ℤ pos eccentricity_amount
+    → (r : ℤ) × (c : ℤ) × (s : ℤ) × Anomaly f n after r c s
 anomaly_exists f n after h l =
     let m = over_rate ((f.m0 *ℤ pos rate_scale) +ℤ (n *ℤ after)) in
     let x = kepler_exists m.0 f.e h in
@@ -136,7 +141,8 @@ anomaly_exists f n after h l =
 
 -- ---- the argument of latitude
 
-latitude_exists : (f : OrbitFields) (cv sv : ℤ) → (cu : ℤ) × (su : ℤ) × (dr : ℤ) × (di : ℤ) × Latitude f cv sv cu su dr di
+latitude_exists : (f : OrbitFields) (cv sv : ℤ)
+    → (cu : ℤ) × (su : ℤ) × (dr : ℤ) × (di : ℤ) × Latitude f cv sv cu su dr di
 latitude_exists f cv sv =
     let cw = cosine_exists f.omega in
     let sw = sine_exists f.omega in
@@ -181,7 +187,8 @@ latitude_exists f cv sv =
 
 -- ---- the plane of the orbit and the earth-fixed frame
 
-plane_exists : (f : OrbitFields) (g dr c s : ℤ) → (r : ℤ) × (x : ℤ) × (y : ℤ) × InPlane f g dr c s r x y
+plane_exists : (f : OrbitFields) (g dr c s : ℤ)
+    → (r : ℤ) × (x : ℤ) × (y : ℤ) × InPlane f g dr c s r x y
 plane_exists f g dr c s =
     let a = over_rate (f.root_a *ℤ f.root_a) in
     let r = over_one ((a.0 *ℤ g) +ℤ (dr *ℤ pos unit)) in
@@ -189,7 +196,8 @@ plane_exists f g dr c s =
     let y = over_one (r.0 *ℤ s) in
     (r.0, x.0, y.0, record { axis = a.0; axis_is = a.1; radius_is = r.1; x_is = x.1; y_is = y.1 })
 
-space_exists : (f : OrbitFields) (after di p q : ℤ) → (x : ℤ) × (y : ℤ) × (z : ℤ) × EarthFixed f after di p q x y z
+space_exists : (f : OrbitFields) (after di p q : ℤ)
+    → (x : ℤ) × (y : ℤ) × (z : ℤ) × EarthFixed f after di p q x y z
 space_exists f after di p q =
     let i = over_rate (((f.i0 +ℤ di) *ℤ pos rate_scale) +ℤ (f.idot *ℤ after)) in
     let ci = cosine_exists i.0 in

@@ -50,22 +50,33 @@ all_radii = record {
   radius_to = lit≤ tt;
 }
 
-axis_by : (low high l h : ℕ) (ss a : ℤ) → (low + 1) * 10 ^ 18 ≤ l → h + 10 ^ 18 ≤ high * 10 ^ 18 → Between (pos l) (pos h) ss → Near ss (pos (10 ^ 18)) a → Between (pos low) (pos high) a
+axis_by : (low high l h : ℕ) (ss a : ℤ) → (low + 1) * 10 ^ 18 ≤ l → h + 10 ^ 18 ≤ high * 10 ^ 18
+    → Between (pos l) (pos h) ss → Near ss (pos (10 ^ 18)) a → Between (pos low) (pos high) a
 axis_by low high l h ss a from to p n = record { from = omega (arith, ints, from, p.from, n.above); to = omega (arith, ints, to, p.to, n.below) }
 
-ratio_by : (e : ℕ) (p g : ℤ) → e + 10 ≤ unit → IsWithin (e * (unit + 8)) p → Near (pos (unit * unit) -ℤ p) (pos unit) g → Between (pos (unit - e - 10)) (pos (unit + e + 10)) g
+ratio_by : (e : ℕ) (p g : ℤ) → e + 10 ≤ unit → IsWithin (e * (unit + 8)) p
+    → Near (pos (unit * unit) -ℤ p) (pos unit) g
+    → Between (pos (unit - e - 10)) (pos (unit + e + 10)) g
 ratio_by e p g small w n = record { from = omega (arith, ints, small, w.low, w.high, n.above); to = omega (arith, ints, small, w.low, w.high, n.below) }
 
-correction_by : (p q d : ℤ) → IsWithin (radius_swing_bound * (2 * unit)) p → IsWithin (radius_swing_bound * (2 * unit)) q → Near (p +ℤ q) (pos unit) d → IsWithin (2 * 10 ^ 10 + 1) d
+correction_by : (p q d : ℤ) → IsWithin (radius_swing_bound * (2 * unit)) p
+    → IsWithin (radius_swing_bound * (2 * unit)) q → Near (p +ℤ q) (pos unit) d
+    → IsWithin (2 * 10 ^ 10 + 1) d
 correction_by p q d v w n = record { low = omega (arith, ints, v.low, w.low, n.above); high = omega (arith, ints, v.high, w.high, n.below) }
 
-radius_by : (low high l h : ℕ) (p d r : ℤ) → (low + 2 * 10 ^ 10 + 2) * unit ≤ l → h + (2 * 10 ^ 10 + 2) * unit ≤ high * unit → Between (pos l) (pos h) p → IsWithin (2 * 10 ^ 10 + 1) d → Near (p +ℤ (d *ℤ pos unit)) (pos unit) r → Between (pos low) (pos high) r
+radius_by : (low high l h : ℕ) (p d r : ℤ) → (low + 2 * 10 ^ 10 + 2) * unit ≤ l
+    → h + (2 * 10 ^ 10 + 2) * unit ≤ high * unit → Between (pos l) (pos h) p
+    → IsWithin (2 * 10 ^ 10 + 1) d → Near (p +ℤ (d *ℤ pos unit)) (pos unit) r
+    → Between (pos low) (pos high) r
 radius_by low high l h p d r from to b w n = record { from = omega (arith, ints, from, b.from, w.low, n.above); to = omega (arith, ints, to, b.to, w.high, n.below) }
 
 eccentricity_within : (m : ℕ) (e : ℤ) → pos 0 ≤ℤ e → e ≤ℤ pos m → IsWithin m e
 eccentricity_within m e h k = record { low = omega (arith, ints); high = omega (arith, ints) }
 
-pub radius_between : (s0 s1 m low high : ℕ) (s a e c g crs crc s2 c2 dr r : ℤ) → AreRadii s0 s1 m low high → Between (pos s0) (pos s1) s → Near (s *ℤ s) (pos (10 ^ 18)) a → pos 0 ≤ℤ e → e ≤ℤ pos m → IsWithin (unit + 8) c → Near (pos (unit * unit) -ℤ (e *ℤ c)) (pos unit) g →
+pub radius_between : (s0 s1 m low high : ℕ) (s a e c g crs crc s2 c2 dr r : ℤ)
+    → AreRadii s0 s1 m low high → Between (pos s0) (pos s1) s → Near (s *ℤ s) (pos (10 ^ 18)) a
+    → pos 0 ≤ℤ e → e ≤ℤ pos m → IsWithin (unit + 8) c
+    → Near (pos (unit * unit) -ℤ (e *ℤ c)) (pos unit) g →
     IsWithin radius_swing_bound crs → IsWithin radius_swing_bound crc → IsWithin (2 * unit) s2 → IsWithin (2 * unit) c2 → Near ((crs *ℤ s2) +ℤ (crc *ℤ c2)) (pos unit) dr → Near ((a *ℤ g) +ℤ (dr *ℤ pos unit)) (pos unit) r → Between (pos low) (pos high) r
 radius_between s0 s1 m low high s a e c g crs crc s2 c2 dr r radii b na h k w ng ws wc v2 w2 nd nr =
     let axis = axis_by radii.axis_low radii.axis_high (s0 * s0) (s1 * s1) (s *ℤ s) a radii.axis_from radii.axis_to (product_between s0 s1 s0 s1 s s b b) na in
@@ -76,21 +87,27 @@ radius_between s0 s1 m low high s a e c g crs crc s2 c2 dr r radii b na h k w ng
 
 -- ---- in the plane
 
-turns_of : (t0 t1 : ℕ) (z T : ℤ) → pos 0 ≤ℤ z → Between (pos t0) (pos t1) T → ((pos t0 *ℤ z) ≤ℤ (z *ℤ T)) × ((z *ℤ T) ≤ℤ (pos t1 *ℤ z))
+turns_of : (t0 t1 : ℕ) (z T : ℤ) → pos 0 ≤ℤ z → Between (pos t0) (pos t1) T
+    → ((pos t0 *ℤ z) ≤ℤ (z *ℤ T)) × ((z *ℤ T) ≤ℤ (pos t1 *ℤ z))
 turns_of t0 t1 z T h b = (rw (*ℤ_comm z T) (mul_mono (pos t0) T z b.from h), rw (*ℤ_comm z T) (mul_mono T (pos t1) z b.to h))
 
-radius_within : (r : ℤ) → Between (pos least_radius) (pos greatest_radius) r → IsWithin greatest_radius r
+radius_within : (r : ℤ) → Between (pos least_radius) (pos greatest_radius) r
+    → IsWithin greatest_radius r
 radius_within r b = record { low = omega (arith, ints, b.from); high = omega (arith, ints, b.to) }
 
 abbrev plane_slip : ℕ
 plane_slip = unit * (unit + 2 * (greatest_radius * (2 * unit)))
 
 -- rr is the square of the radius
-plane_by : (rr xx yy X Y P Q W : ℤ) → X ≡ xx *ℤ pos (unit * unit) → Y ≡ yy *ℤ pos (unit * unit) → IsWithin plane_slip (X -ℤ P) → IsWithin plane_slip (Y -ℤ Q) → P +ℤ Q ≡ W → rr ≤ℤ pos (greatest_radius * greatest_radius) →
+plane_by : (rr xx yy X Y P Q W : ℤ) → X ≡ xx *ℤ pos (unit * unit) → Y ≡ yy *ℤ pos (unit * unit)
+    → IsWithin plane_slip (X -ℤ P) → IsWithin plane_slip (Y -ℤ Q) → P +ℤ Q ≡ W
+    → rr ≤ℤ pos (greatest_radius * greatest_radius) →
     (pos (unit * unit - 400 * unit) *ℤ rr) ≤ℤ W → W ≤ℤ (pos (unit * unit + 400 * unit) *ℤ rr) → Close plane_slack rr (xx +ℤ yy)
 plane_by rr xx yy X Y P Q W e f v w g most low high = record { below = omega (arith, ints, v.low, w.low, low, most); above = omega (arith, ints, v.high, w.high, high, most) }
 
-pub plane_near : (r c s x y : ℤ) → Between (pos least_radius) (pos greatest_radius) r → Squares (unit * unit - 400 * unit) (unit * unit + 400 * unit) c s → Near (r *ℤ c) (pos unit) x → Near (r *ℤ s) (pos unit) y → Close plane_slack (r *ℤ r) ((x *ℤ x) +ℤ (y *ℤ y))
+pub plane_near : (r c s x y : ℤ) → Between (pos least_radius) (pos greatest_radius) r
+    → Squares (unit * unit - 400 * unit) (unit * unit + 400 * unit) c s → Near (r *ℤ c) (pos unit) x
+    → Near (r *ℤ s) (pos unit) y → Close plane_slack (r *ℤ r) ((x *ℤ x) +ℤ (y *ℤ y))
 plane_near r c s x y b u n m =
     let C = first_within (2 * unit) (unit * unit - 400 * unit) (unit * unit + 400 * unit) c s (lit≤ tt) u in
     let S = second_within (2 * unit) (unit * unit - 400 * unit) (unit * unit + 400 * unit) c s (lit≤ tt) u in
@@ -128,7 +145,9 @@ circle_squares s c n = record { from = omega (arith, ints, n.below, n.above); to
 
 -- rr is the square of the radius, xx and yy are squares, B and D are y^2 cos^2 i and y^2 sin^2 i, T is the sum of the
 -- squares of the cosine and the sine of the node, and X, Y and Z are the squares of the coordinates
-space_by : (rr xx yy B D HT P Q X Y Z : ℤ) → pos 0 ≤ℤ xx → pos 0 ≤ℤ yy → pos 0 ≤ℤ D → rr ≤ℤ pos (greatest_radius * greatest_radius) → Close plane_slack rr (xx +ℤ yy) → (pos turn_low *ℤ yy) ≤ℤ (B +ℤ D) → (B +ℤ D) ≤ℤ (pos turn_high *ℤ yy) →
+space_by : (rr xx yy B D HT P Q X Y Z : ℤ) → pos 0 ≤ℤ xx → pos 0 ≤ℤ yy → pos 0 ≤ℤ D
+    → rr ≤ℤ pos (greatest_radius * greatest_radius) → Close plane_slack rr (xx +ℤ yy)
+    → (pos turn_low *ℤ yy) ≤ℤ (B +ℤ D) → (B +ℤ D) ≤ℤ (pos turn_high *ℤ yy) →
     (pos turn_low *ℤ ((pos (unit * unit) *ℤ xx) +ℤ B)) ≤ℤ HT → HT ≤ℤ (pos turn_high *ℤ ((pos (unit * unit) *ℤ xx) +ℤ B)) → P +ℤ Q ≡ HT →
     IsWithin level_slip ((X *ℤ pos (unit * unit * (unit * unit))) -ℤ P) → IsWithin level_slip ((Y *ℤ pos (unit * unit * (unit * unit))) -ℤ Q) → IsWithin height_slip ((Z *ℤ pos (unit * unit)) -ℤ D) → Close radius_slack rr (X +ℤ Y +ℤ Z)
 space_by rr xx yy B D HT P Q X Y Z hx hy hd most b bl bh tl th e v w u = record { below = omega (arith, ints, b.below, v.low, w.low, u.low); above = omega (arith, ints, b.above, v.high, w.high, u.high) }
@@ -136,16 +155,20 @@ space_by rr xx yy B D HT P Q X Y Z hx hy hd most b bl bh tl th e v w u = record 
 swap_unit : (x c : ℤ) → (x *ℤ c) *ℤ pos unit ≡ (x *ℤ pos unit) *ℤ c
 swap_unit x c = mul_assoc x c (pos unit) ∙ ap (λ (z : ℤ). x *ℤ z) (*ℤ_comm c (pos unit)) ∙ sym (mul_assoc x (pos unit) c)
 
-within_side : (rr xx yy : ℤ) → rr ≤ℤ pos (greatest_radius * greatest_radius) → Close plane_slack rr (xx +ℤ yy) → pos 0 ≤ℤ (xx +ℤ yy) → Between (pos 0) (pos (side * side)) (xx +ℤ yy)
+within_side : (rr xx yy : ℤ) → rr ≤ℤ pos (greatest_radius * greatest_radius)
+    → Close plane_slack rr (xx +ℤ yy) → pos 0 ≤ℤ (xx +ℤ yy)
+    → Between (pos 0) (pos (side * side)) (xx +ℤ yy)
 within_side rr xx yy most b some = record { from = some; to = omega (arith, ints, b.above) }
 
 some_square : (x y : ℤ) → pos 0 ≤ℤ ((x *ℤ x) +ℤ (y *ℤ y))
 some_square x y = omega (arith, ints, square_natural x, square_natural y)
 
-level_within : (p q : ℤ) → IsWithin (side * unit * (2 * unit)) p → IsWithin (side * (2 * unit) * (2 * unit)) q → IsWithin (level * (unit * unit)) (p +ℤ q)
+level_within : (p q : ℤ) → IsWithin (side * unit * (2 * unit)) p
+    → IsWithin (side * (2 * unit) * (2 * unit)) q → IsWithin (level * (unit * unit)) (p +ℤ q)
 level_within p q v w = record { low = omega (arith, ints, v.low, w.low); high = omega (arith, ints, v.high, w.high) }
 
-level_apart : (p q : ℤ) → IsWithin (side * unit * (2 * unit)) p → IsWithin (side * (2 * unit) * (2 * unit)) q → IsWithin (level * (unit * unit)) (p -ℤ q)
+level_apart : (p q : ℤ) → IsWithin (side * unit * (2 * unit)) p
+    → IsWithin (side * (2 * unit) * (2 * unit)) q → IsWithin (level * (unit * unit)) (p -ℤ q)
 level_apart p q v w = record { low = omega (arith, ints, v.low, w.high); high = omega (arith, ints, v.high, w.low) }
 
 sum_natural : (x B : ℤ) → pos 0 ≤ℤ x → pos 0 ≤ℤ B → pos 0 ≤ℤ ((pos (unit * unit) *ℤ x) +ℤ B)
@@ -157,7 +180,11 @@ product_natural x y h k = let p : (pos 0 *ℤ y) ≤ℤ (x *ℤ y) = mul_mono (p
 commuted : (p q : ℤ) → p +ℤ q ≡ q +ℤ p
 commuted p q = omega (arith, ints)
 
-pub space_near : (rr x y ci si co so X Y Z : ℤ) → rr ≤ℤ pos (greatest_radius * greatest_radius) → Close plane_slack rr ((x *ℤ x) +ℤ (y *ℤ y)) → NearCircle si ci → NearCircle so co → Near (((x *ℤ co) *ℤ pos unit) -ℤ ((y *ℤ ci) *ℤ so)) (pos (unit * unit)) X → Near (((x *ℤ so) *ℤ pos unit) +ℤ ((y *ℤ ci) *ℤ co)) (pos (unit * unit)) Y → Near (y *ℤ si) (pos unit) Z → Close radius_slack rr ((X *ℤ X) +ℤ (Y *ℤ Y) +ℤ (Z *ℤ Z))
+pub space_near : (rr x y ci si co so X Y Z : ℤ) → rr ≤ℤ pos (greatest_radius * greatest_radius)
+    → Close plane_slack rr ((x *ℤ x) +ℤ (y *ℤ y)) → NearCircle si ci → NearCircle so co
+    → Near (((x *ℤ co) *ℤ pos unit) -ℤ ((y *ℤ ci) *ℤ so)) (pos (unit * unit)) X
+    → Near (((x *ℤ so) *ℤ pos unit) +ℤ ((y *ℤ ci) *ℤ co)) (pos (unit * unit)) Y
+    → Near (y *ℤ si) (pos unit) Z → Close radius_slack rr ((X *ℤ X) +ℤ (Y *ℤ Y) +ℤ (Z *ℤ Z))
 space_near rr x y ci si co so X Y Z most s i o nx ny nz =
     let I = circle_squares si ci i in
     let O = circle_squares so co o in

@@ -21,7 +21,8 @@ use Rattle.broadcast_orbit.proofs.TurnKeeps.{turned_low, turned_high, turned_dis
 -- ---- from the distance to the origin
 
 -- what is left over is (3 s - 4 p)^2
-axis_apart : (s p : ℤ) → (pos 3 *ℤ (s *ℤ s)) ≤ℤ ((pos 12 *ℤ ((s -ℤ p) *ℤ (s -ℤ p))) +ℤ (pos 4 *ℤ (p *ℤ p)))
+axis_apart : (s p : ℤ)
+    → (pos 3 *ℤ (s *ℤ s)) ≤ℤ ((pos 12 *ℤ ((s -ℤ p) *ℤ (s -ℤ p))) +ℤ (pos 4 *ℤ (p *ℤ p)))
 axis_apart s p =
     let over = square_natural ((pos 3 *ℤ s) -ℤ (pos 4 *ℤ p)) in
     let spelled = square_of_difference (pos 3 *ℤ s) (pos 4 *ℤ p) in
@@ -34,7 +35,8 @@ axis_apart s p =
 abbrev search_reach : ℕ
 search_reach = 8600 * 10 ^ 9
 
-in_reach : (s : Side) (c : ℤ) → IsSearchSide s → s.lo ≤ℤ c → c ≤ℤ s.hi → (c *ℤ c) ≤ℤ pos (search_reach * search_reach)
+in_reach : (s : Side) (c : ℤ) → IsSearchSide s → s.lo ≤ℤ c → c ≤ℤ s.hi
+    → (c *ℤ c) ≤ℤ pos (search_reach * search_reach)
 in_reach s c b l h =
     let w : IsWithin search_reach c = record { low = omega (arith, ints, b.low.low); high = omega (arith, ints, b.high.high) } in
     product_le search_reach search_reach c c w w
@@ -43,15 +45,23 @@ in_reach s c b l h =
 abbrev pub far_square : ℕ
 far_square = 3960 * 10 ^ 23
 
-far_by : (xx yy zz dx dy dz px py pz : ℤ) → (pos 3 *ℤ xx) ≤ℤ ((pos 12 *ℤ dx) +ℤ (pos 4 *ℤ px)) → (pos 3 *ℤ yy) ≤ℤ ((pos 12 *ℤ dy) +ℤ (pos 4 *ℤ py)) → (pos 3 *ℤ zz) ≤ℤ ((pos 12 *ℤ dz) +ℤ (pos 4 *ℤ pz))
-    → px ≤ℤ pos (search_reach * search_reach) → py ≤ℤ pos (search_reach * search_reach) → pz ≤ℤ pos (search_reach * search_reach) → pos far_square ≤ℤ (xx +ℤ yy +ℤ zz) → pos (square (5 * 10 ^ 12)) ≤ℤ (dx +ℤ dy +ℤ dz)
+far_by : (xx yy zz dx dy dz px py pz : ℤ) → (pos 3 *ℤ xx) ≤ℤ ((pos 12 *ℤ dx) +ℤ (pos 4 *ℤ px))
+    → (pos 3 *ℤ yy) ≤ℤ ((pos 12 *ℤ dy) +ℤ (pos 4 *ℤ py))
+    → (pos 3 *ℤ zz) ≤ℤ ((pos 12 *ℤ dz) +ℤ (pos 4 *ℤ pz))
+    → px ≤ℤ pos (search_reach * search_reach) → py ≤ℤ pos (search_reach * search_reach)
+    → pz ≤ℤ pos (search_reach * search_reach) → pos far_square ≤ℤ (xx +ℤ yy +ℤ zz)
+    → pos (square (5 * 10 ^ 12)) ≤ℤ (dx +ℤ dy +ℤ dz)
 far_by xx yy zz dx dy dz px py pz x y z p q r far = omega (arith, ints)
 
-squares_from : (n : ℕ) (x y z : ℤ) → pos n ≤ℤ ((x *ℤ x) +ℤ (y *ℤ y) +ℤ (z *ℤ z)) → n ≤ sum_of_squares x y z
+squares_from : (n : ℕ) (x y z : ℤ) → pos n ≤ℤ ((x *ℤ x) +ℤ (y *ℤ y) +ℤ (z *ℤ z))
+    → n ≤ sum_of_squares x y z
 squares_from n x y z h = omega (arith, ints, h, square_of_amount x, square_of_amount y, square_of_amount z)
 
 -- what is so far from the origin is 5,000 km from each point of the box
-pub far_from_points : (x y z : ℤ) (box : GridBox) (p : Pos) → pos far_square ≤ℤ ((x *ℤ x) +ℤ (y *ℤ y) +ℤ (z *ℤ z)) → IsSearchBox box → box_holds box p ≡ true → square (5 * 10 ^ 12) ≤ sum_of_squares (x -ℤ p.x) (y -ℤ p.y) (z -ℤ p.z)
+pub far_from_points : (x y z : ℤ) (box : GridBox) (p : Pos)
+    → pos far_square ≤ℤ ((x *ℤ x) +ℤ (y *ℤ y) +ℤ (z *ℤ z)) → IsSearchBox box
+    → box_holds box p ≡ true
+    → square (5 * 10 ^ 12) ≤ sum_of_squares (x -ℤ p.x) (y -ℤ p.y) (z -ℤ p.z)
 far_from_points x y z box p far search inside =
     let i = in_box box p inside in
     squares_from (square (5 * 10 ^ 12)) (x -ℤ p.x) (y -ℤ p.y) (z -ℤ p.z)
@@ -67,10 +77,13 @@ seen_width = 6 * 10 ^ 6
 abbrev shift : ℕ
 shift = seen_width * (seen_width + 2 * turned_high)
 
-still_far : (a b c A B C : ℤ) → IsWithin shift (a -ℤ A) → IsWithin shift (b -ℤ B) → IsWithin shift (c -ℤ C) → pos (turned_low * turned_low) ≤ℤ (A +ℤ B +ℤ C) → pos far_square ≤ℤ (a +ℤ b +ℤ c)
+still_far : (a b c A B C : ℤ) → IsWithin shift (a -ℤ A) → IsWithin shift (b -ℤ B)
+    → IsWithin shift (c -ℤ C) → pos (turned_low * turned_low) ≤ℤ (A +ℤ B +ℤ C)
+    → pos far_square ≤ℤ (a +ℤ b +ℤ c)
 still_far a b c A B C u v w d = omega (arith, ints, u.low, v.low, w.low, d)
 
-sides_of : (x y z : ℤ) → ((x *ℤ x) +ℤ (y *ℤ y) +ℤ (z *ℤ z)) ≤ℤ pos (turned_high * turned_high) → IsWithin turned_high x × IsWithin turned_high y × IsWithin turned_high z
+sides_of : (x y z : ℤ) → ((x *ℤ x) +ℤ (y *ℤ y) +ℤ (z *ℤ z)) ≤ℤ pos (turned_high * turned_high)
+    → IsWithin turned_high x × IsWithin turned_high y × IsWithin turned_high z
 sides_of x y z t =
     let p = square_natural x in
     let q = square_natural y in
@@ -78,7 +91,9 @@ sides_of x y z t =
     (side_within turned_high x (omega (arith, ints)), side_within turned_high y (omega (arith, ints)), side_within turned_high z (omega (arith, ints)))
 
 -- a place as far as an orbit is far as seen from a point, and so is what is near to it
-pub near_is_far : (x y z : ℤ) (p : Pos) (tx ty : ℤ) (r : ℕ) (a b c : ℤ) → IsOrbitDistance x y z → Turn p x y z tx ty r → IsWithin seen_width (a -ℤ tx) → IsWithin seen_width (b -ℤ ty) → IsWithin seen_width (c -ℤ z)
+pub near_is_far : (x y z : ℤ) (p : Pos) (tx ty : ℤ) (r : ℕ) (a b c : ℤ) → IsOrbitDistance x y z
+    → Turn p x y z tx ty r → IsWithin seen_width (a -ℤ tx) → IsWithin seen_width (b -ℤ ty)
+    → IsWithin seen_width (c -ℤ z)
     → pos far_square ≤ℤ ((a *ℤ a) +ℤ (b *ℤ b) +ℤ (c *ℤ c))
 near_is_far x y z p tx ty r a b c distance turn u v w =
     let d = turned_distance r p x y z tx ty distance turn in
@@ -89,5 +104,7 @@ near_is_far x y z p tx ty r a b c distance turn u v w =
 no_width : (x : ℤ) → IsWithin seen_width (x -ℤ x)
 no_width x = record { low = omega (arith, ints); high = omega (arith, ints) }
 
-pub chain_is_far : (el : Elements) (n t x y z : ℤ) (p : Pos) (tx ty : ℤ) (r : ℕ) → OrbitChain el n t x y z → Turn p x y z tx ty r → pos far_square ≤ℤ ((tx *ℤ tx) +ℤ (ty *ℤ ty) +ℤ (z *ℤ z))
+pub chain_is_far : (el : Elements) (n t x y z : ℤ) (p : Pos) (tx ty : ℤ) (r : ℕ)
+    → OrbitChain el n t x y z → Turn p x y z tx ty r
+    → pos far_square ≤ℤ ((tx *ℤ tx) +ℤ (ty *ℤ ty) +ℤ (z *ℤ z))
 chain_is_far el n t x y z p tx ty r orbit turn = near_is_far x y z p tx ty r tx ty z (orbit_distance el n t x y z orbit) turn (no_width tx) (no_width ty) (no_width z)

@@ -10,14 +10,17 @@ use Rattle.grid_model.specs.Sizes.{IsWithin}
 use Rattle.grid_model.proofs.ProductLemmas.{mul_mono, add_mul, distrib, distrib_less, product_within, square_of_amount, swap4, less_mul}
 use Rattle.grid_model.proofs.RootLemmas.{square-mono}
 
-pub square_of_sum : (a b : ℤ) → (a +ℤ b) *ℤ (a +ℤ b) ≡ (a *ℤ a) +ℤ (a *ℤ b) +ℤ ((a *ℤ b) +ℤ (b *ℤ b))
+pub square_of_sum : (a b : ℤ)
+    → (a +ℤ b) *ℤ (a +ℤ b) ≡ (a *ℤ a) +ℤ (a *ℤ b) +ℤ ((a *ℤ b) +ℤ (b *ℤ b))
 square_of_sum a b = add_mul a b (a +ℤ b) ∙ (let p = distrib a a b in let q = distrib b a b in let r = *ℤ_comm b a in omega (arith, ints))
 
-pub square_of_difference : (a b : ℤ) → (a -ℤ b) *ℤ (a -ℤ b) ≡ (a *ℤ a) -ℤ (a *ℤ b) -ℤ ((a *ℤ b) -ℤ (b *ℤ b))
+pub square_of_difference : (a b : ℤ)
+    → (a -ℤ b) *ℤ (a -ℤ b) ≡ (a *ℤ a) -ℤ (a *ℤ b) -ℤ ((a *ℤ b) -ℤ (b *ℤ b))
 square_of_difference a b = less_mul a b (a -ℤ b) ∙ (let p = distrib_less a a b in let q = distrib_less b a b in let r = *ℤ_comm b a in omega (arith, ints))
 
 -- the law of two squares
-pub pair_squares : (a b c d : ℤ) → (((a *ℤ c) -ℤ (b *ℤ d)) *ℤ ((a *ℤ c) -ℤ (b *ℤ d))) +ℤ (((b *ℤ c) +ℤ (a *ℤ d)) *ℤ ((b *ℤ c) +ℤ (a *ℤ d))) ≡ ((a *ℤ a) +ℤ (b *ℤ b)) *ℤ ((c *ℤ c) +ℤ (d *ℤ d))
+pub pair_squares : (a b c d : ℤ)
+    → (((a *ℤ c) -ℤ (b *ℤ d)) *ℤ ((a *ℤ c) -ℤ (b *ℤ d))) +ℤ (((b *ℤ c) +ℤ (a *ℤ d)) *ℤ ((b *ℤ c) +ℤ (a *ℤ d))) ≡ ((a *ℤ a) +ℤ (b *ℤ b)) *ℤ ((c *ℤ c) +ℤ (d *ℤ d))
 pair_squares a b c d =
     let p = square_of_difference (a *ℤ c) (b *ℤ d) in
     let q = square_of_sum (b *ℤ c) (a *ℤ d) in
@@ -36,7 +39,8 @@ pair_squares a b c d =
 difference_of_squares : (x y : ℤ) → (x -ℤ y) *ℤ (x +ℤ y) ≡ (x *ℤ x) -ℤ (y *ℤ y)
 difference_of_squares x y = less_mul x y (x +ℤ y) ∙ (let p = distrib x x y in let q = distrib y x y in let r = *ℤ_comm y x in omega (arith, ints))
 
-pub near_squares : (x y : ℤ) (d m : ℕ) → IsWithin d (x -ℤ y) → IsWithin m y → IsWithin (d * (d + 2 * m)) ((x *ℤ x) -ℤ (y *ℤ y))
+pub near_squares : (x y : ℤ) (d m : ℕ) → IsWithin d (x -ℤ y) → IsWithin m y
+    → IsWithin (d * (d + 2 * m)) ((x *ℤ x) -ℤ (y *ℤ y))
 near_squares x y d m v w = subst (λ (z : ℤ). IsWithin (d * (d + 2 * m)) z) (difference_of_squares x y) (product_within d (d + 2 * m) (x -ℤ y) (x +ℤ y) v (record { low = omega (arith, ints, v.low, w.low); high = omega (arith, ints, v.high, w.high) }))
 
 -- a number near a fraction times the denominator is near the numerator
@@ -64,7 +68,8 @@ pub second_within : (n low high : ℕ) (a b : ℤ) → high ≤ n * n → Square
 second_within n low high a b h s = let t = s.to in let q = square_natural a in side_within n b (omega (arith, ints))
 
 -- a product of numbers that are not negative
-pub product_between : (s0 s1 t0 t1 : ℕ) (x y : ℤ) → Between (pos s0) (pos s1) x → Between (pos t0) (pos t1) y → Between (pos (s0 * t0)) (pos (s1 * t1)) (x *ℤ y)
+pub product_between : (s0 s1 t0 t1 : ℕ) (x y : ℤ) → Between (pos s0) (pos s1) x
+    → Between (pos t0) (pos t1) y → Between (pos (s0 * t0)) (pos (s1 * t1)) (x *ℤ y)
 product_between s0 s1 t0 t1 x y p q =
     let a : (pos s0 *ℤ y) ≤ℤ (x *ℤ y) = mul_mono (pos s0) x y p.from (omega (arith, ints, q.from)) in
     let b : (x *ℤ y) ≤ℤ (pos s1 *ℤ y) = mul_mono x (pos s1) y p.to (omega (arith, ints, q.from)) in
@@ -84,14 +89,23 @@ sum_within m x y p q = record { low = omega (arith, ints, p.low, q.low); high = 
 abbrev pub slip : ℕ
 slip = unit * (unit + 2 * (8 * (unit * unit)))
 
-close_sums : (j0 j1 s t : ℕ) (pp qq P Q w : ℤ) → IsWithin slip (pp -ℤ P) → IsWithin slip (qq -ℤ Q) → P +ℤ Q ≡ w → Between (pos s) (pos t) w → j0 * (unit * unit) + 2 * slip ≤ s → t + 2 * slip ≤ j1 * (unit * unit) → Between (pos (j0 * (unit * unit))) (pos (j1 * (unit * unit))) (pp +ℤ qq)
+close_sums : (j0 j1 s t : ℕ) (pp qq P Q w : ℤ) → IsWithin slip (pp -ℤ P) → IsWithin slip (qq -ℤ Q)
+    → P +ℤ Q ≡ w → Between (pos s) (pos t) w → j0 * (unit * unit) + 2 * slip ≤ s
+    → t + 2 * slip ≤ j1 * (unit * unit)
+    → Between (pos (j0 * (unit * unit))) (pos (j1 * (unit * unit))) (pp +ℤ qq)
 close_sums j0 j1 s t pp qq P Q w a b e p h k = record { from = omega (arith, ints, a.low, b.low, p.from); to = omega (arith, ints, a.high, b.high, p.to) }
 
-back_sums : (j0 j1 : ℕ) (p q pp qq : ℤ) → pp ≡ p *ℤ pos (unit * unit) → qq ≡ q *ℤ pos (unit * unit) → Between (pos (j0 * (unit * unit))) (pos (j1 * (unit * unit))) (pp +ℤ qq) → Between (pos j0) (pos j1) (p +ℤ q)
+back_sums : (j0 j1 : ℕ) (p q pp qq : ℤ) → pp ≡ p *ℤ pos (unit * unit) → qq ≡ q *ℤ pos (unit * unit)
+    → Between (pos (j0 * (unit * unit))) (pos (j1 * (unit * unit))) (pp +ℤ qq)
+    → Between (pos j0) (pos j1) (p +ℤ q)
 back_sums j0 j1 p q pp qq e f b = record { from = omega (arith, ints, b.from); to = omega (arith, ints, b.to) }
 
 -- the cosine and the sine of the sum of two angles
-pub pair_near : (s0 s1 t0 t1 j0 j1 : ℕ) (a b c d p q : ℤ) → Squares s0 s1 a b → Squares t0 t1 c d → Near ((a *ℤ c) -ℤ (b *ℤ d)) (pos unit) p → Near ((b *ℤ c) +ℤ (a *ℤ d)) (pos unit) q → s1 ≤ (2 * unit) * (2 * unit) → t1 ≤ (2 * unit) * (2 * unit) → j0 * (unit * unit) + 2 * slip ≤ s0 * t0 → s1 * t1 + 2 * slip ≤ j1 * (unit * unit) → Squares j0 j1 p q
+pub pair_near : (s0 s1 t0 t1 j0 j1 : ℕ) (a b c d p q : ℤ) → Squares s0 s1 a b → Squares t0 t1 c d
+    → Near ((a *ℤ c) -ℤ (b *ℤ d)) (pos unit) p → Near ((b *ℤ c) +ℤ (a *ℤ d)) (pos unit) q
+    → s1 ≤ (2 * unit) * (2 * unit) → t1 ≤ (2 * unit) * (2 * unit)
+    → j0 * (unit * unit) + 2 * slip ≤ s0 * t0 → s1 * t1 + 2 * slip ≤ j1 * (unit * unit)
+    → Squares j0 j1 p q
 pair_near s0 s1 t0 t1 j0 j1 a b c d p q S T m n h k low high =
     let A = first_within (2 * unit) s0 s1 a b h S in
     let B = second_within (2 * unit) s0 s1 a b h S in

@@ -17,24 +17,32 @@ use Rattle.broadcast_orbit.proofs.Chains.{one_within}
 use Rattle.broadcast_orbit.proofs.ChainExists.{small_amount as within_of}
 
 -- ---- (c - e)^2 one^2 + w^2 s^2, where the products of squares are variables
-pub join : (C S X E W ES WS EC XX o : ℤ) → o ≡ pos (unit * unit) -ℤ E -ℤ W → pos 0 ≤ℤ o → o ≤ℤ pos (2 * unit) → IsWithin (16 * unit) ((S +ℤ C) -ℤ pos (unit * unit)) → EC ≡ XX → WS ≡ (pos (unit * unit) *ℤ S) -ℤ ES -ℤ (o *ℤ S) → IsWithin (4 * (unit * unit * unit)) (o *ℤ S) → IsWithin (unit * unit * unit) ((ES +ℤ EC) -ℤ (pos (unit * unit) *ℤ E)) →
+pub join : (C S X E W ES WS EC XX o : ℤ) → o ≡ pos (unit * unit) -ℤ E -ℤ W → pos 0 ≤ℤ o
+    → o ≤ℤ pos (2 * unit) → IsWithin (16 * unit) ((S +ℤ C) -ℤ pos (unit * unit)) → EC ≡ XX
+    → WS ≡ (pos (unit * unit) *ℤ S) -ℤ ES -ℤ (o *ℤ S) → IsWithin (4 * (unit * unit * unit)) (o *ℤ S)
+    → IsWithin (unit * unit * unit) ((ES +ℤ EC) -ℤ (pos (unit * unit) *ℤ E)) →
     IsWithin (24 * (unit * unit * unit)) (((pos (unit * unit) *ℤ ((C -ℤ X) -ℤ (X -ℤ E))) +ℤ WS) -ℤ ((pos (unit * unit * (unit * unit)) -ℤ (pos (unit * unit) *ℤ X)) -ℤ ((pos (unit * unit) *ℤ X) -ℤ XX)))
 join C S X E W ES WS EC XX o e p q d f g h i = record { low = omega (arith, ints, d.low, d.high, h.low, h.high, i.low, i.high); high = omega (arith, ints, d.low, d.high, h.low, h.high, i.low, i.high) }
 
 -- what w^2 lacks
-lack_is : (E W S o : ℤ) → o ≡ pos (unit * unit) -ℤ E -ℤ W → W *ℤ S ≡ (pos (unit * unit) *ℤ S) -ℤ (E *ℤ S) -ℤ (o *ℤ S)
+lack_is : (E W S o : ℤ) → o ≡ pos (unit * unit) -ℤ E -ℤ W
+    → W *ℤ S ≡ (pos (unit * unit) *ℤ S) -ℤ (E *ℤ S) -ℤ (o *ℤ S)
 lack_is E W S o e =
     let k : W ≡ (pos (unit * unit) -ℤ E) -ℤ o = omega (arith, ints) in
     subst (λ (z : ℤ). z *ℤ S ≡ (pos (unit * unit) *ℤ S) -ℤ (E *ℤ S) -ℤ (o *ℤ S)) (sym k) (less_mul (pos (unit * unit) -ℤ E) o S ∙ ap (λ (z : ℤ). z -ℤ (o *ℤ S)) (less_mul (pos (unit * unit)) E S))
 
-factor_is : (E S C : ℤ) → E *ℤ ((S +ℤ C) -ℤ pos (unit * unit)) ≡ ((E *ℤ S) +ℤ (E *ℤ C)) -ℤ (pos (unit * unit) *ℤ E)
+factor_is : (E S C : ℤ)
+    → E *ℤ ((S +ℤ C) -ℤ pos (unit * unit)) ≡ ((E *ℤ S) +ℤ (E *ℤ C)) -ℤ (pos (unit * unit) *ℤ E)
 factor_is E S C = distrib_less E (S +ℤ C) (pos (unit * unit)) ∙ (let p = distrib E S C in let q = *ℤ_comm E (pos (unit * unit)) in omega (arith, ints))
 
-circle_off : (s c : ℤ) → NearCircle s c → IsWithin (16 * unit) (((s *ℤ s) +ℤ (c *ℤ c)) -ℤ pos (unit * unit))
+circle_off : (s c : ℤ) → NearCircle s c
+    → IsWithin (16 * unit) (((s *ℤ s) +ℤ (c *ℤ c)) -ℤ pos (unit * unit))
 circle_off s c n = record { low = omega (arith, ints, n.below, n.above); high = omega (arith, ints, n.below, n.above) }
 
 -- the squares of (c - e) one and w s add up to that of one^2 - e c
-pub plain_squares : (e c s w : ℤ) → IsWithin eccentricity_amount e → IsWithin (unit + 8) s → NearCircle s c → pos 0 ≤ℤ ((pos (unit * unit) -ℤ (e *ℤ e)) -ℤ (w *ℤ w)) → ((pos (unit * unit) -ℤ (e *ℤ e)) -ℤ (w *ℤ w)) ≤ℤ pos (2 * unit) →
+pub plain_squares : (e c s w : ℤ) → IsWithin eccentricity_amount e → IsWithin (unit + 8) s
+    → NearCircle s c → pos 0 ≤ℤ ((pos (unit * unit) -ℤ (e *ℤ e)) -ℤ (w *ℤ w))
+    → ((pos (unit * unit) -ℤ (e *ℤ e)) -ℤ (w *ℤ w)) ≤ℤ pos (2 * unit) →
     IsWithin (24 * (unit * unit * unit)) (((((c -ℤ e) *ℤ pos unit) *ℤ ((c -ℤ e) *ℤ pos unit)) +ℤ ((w *ℤ s) *ℤ (w *ℤ s))) -ℤ ((pos (unit * unit) -ℤ (e *ℤ c)) *ℤ (pos (unit * unit) -ℤ (e *ℤ c))))
 plain_squares e c s w he hs n h k =
     let o = (pos (unit * unit) -ℤ (e *ℤ e)) -ℤ (w *ℤ w) in
@@ -51,12 +59,18 @@ plain_squares e c s w he hs n h k =
     rw (p, q, r) j
 
 -- a sum V of squares times g^2 is one^2 g^2, within 60 one^3
-pub back : (V G : ℤ) → pos (49 * 10 ^ 30) ≤ℤ G → IsWithin (60 * (unit * unit * unit)) ((V *ℤ G) -ℤ (G *ℤ pos (unit * unit))) → Between (pos (unit * unit - 200 * unit)) (pos (unit * unit + 200 * unit)) V
+pub back : (V G : ℤ) → pos (49 * 10 ^ 30) ≤ℤ G
+    → IsWithin (60 * (unit * unit * unit)) ((V *ℤ G) -ℤ (G *ℤ pos (unit * unit)))
+    → Between (pos (unit * unit - 200 * unit)) (pos (unit * unit + 200 * unit)) V
 back V G h w =
     let p : pos 0 <ℤ G = omega (arith, ints) in
     record { from = mul_le_back (pos (unit * unit - 200 * unit)) V G p (omega (arith, ints, w.low)); to = mul_le_back V (pos (unit * unit + 200 * unit)) G p (omega (arith, ints, w.high)) }
 
-pub gather : (P Q N p q n : ℤ) → IsWithin (24 * (unit * unit * unit)) ((P +ℤ Q) -ℤ N) → IsWithin (2 * unit * (2 * unit + 2 * (3 * (unit * unit)))) (p -ℤ P) → IsWithin (2 * unit * (2 * unit + 2 * (3 * (unit * unit)))) (q -ℤ Q) → IsWithin (unit * (unit + 2 * (2 * (unit * unit)))) (n -ℤ N) → IsWithin (60 * (unit * unit * unit)) ((p +ℤ q) -ℤ n)
+pub gather : (P Q N p q n : ℤ) → IsWithin (24 * (unit * unit * unit)) ((P +ℤ Q) -ℤ N)
+    → IsWithin (2 * unit * (2 * unit + 2 * (3 * (unit * unit)))) (p -ℤ P)
+    → IsWithin (2 * unit * (2 * unit + 2 * (3 * (unit * unit)))) (q -ℤ Q)
+    → IsWithin (unit * (unit + 2 * (2 * (unit * unit)))) (n -ℤ N)
+    → IsWithin (60 * (unit * unit * unit)) ((p +ℤ q) -ℤ n)
 gather P Q N p q n a b c d = record { low = omega (arith, ints, a.low, a.high, b.low, b.high, c.low, c.high, d.low, d.high); high = omega (arith, ints, a.low, a.high, b.low, b.high, c.low, c.high, d.low, d.high) }
 
 -- ---- the true anomaly
@@ -65,10 +79,12 @@ record DivisorIs (g : ℤ) : Type 0 where
   low : pos (7 * 10 ^ 15) ≤ℤ g
   high : g ≤ℤ pos (2 * unit)
 
-divisor_from : (p g : ℤ) → IsWithin (eccentricity_amount * (unit + 8)) p → Near (pos (unit * unit) -ℤ p) (pos unit) g → DivisorIs g
+divisor_from : (p g : ℤ) → IsWithin (eccentricity_amount * (unit + 8)) p
+    → Near (pos (unit * unit) -ℤ p) (pos unit) g → DivisorIs g
 divisor_from p g w n = record { low = omega (arith, ints, w.low, w.high, n.below, n.above); high = omega (arith, ints, w.low, w.high, n.below, n.above) }
 
-total_within : (p : ℤ) → IsWithin (eccentricity_amount * (unit + 8)) p → IsWithin (2 * (unit * unit)) (pos (unit * unit) -ℤ p)
+total_within : (p : ℤ) → IsWithin (eccentricity_amount * (unit + 8)) p
+    → IsWithin (2 * (unit * unit)) (pos (unit * unit) -ℤ p)
 total_within p w = record { low = omega (arith, ints, w.high); high = omega (arith, ints, w.low) }
 
 root_most : (w : ℕ) → w * w ≤ unit * unit → w ≤ unit
@@ -79,12 +95,14 @@ record Lack (E W : ℤ) (w : ℕ) : Type 0 where
   high : ((pos (unit * unit) -ℤ E) -ℤ W) ≤ℤ pos (2 * unit)
   root : w ≤ unit
 
-lack_from : (E : ℤ) (w : ℕ) → pos 0 ≤ℤ E → (pos (w * w) +ℤ E) ≤ℤ pos (unit * unit) → pos (unit * unit) <ℤ (pos ((w + 1) * (w + 1)) +ℤ E) → Lack E (pos (w * w)) w
+lack_from : (E : ℤ) (w : ℕ) → pos 0 ≤ℤ E → (pos (w * w) +ℤ E) ≤ℤ pos (unit * unit)
+    → pos (unit * unit) <ℤ (pos ((w + 1) * (w + 1)) +ℤ E) → Lack E (pos (w * w)) w
 lack_from E w p h k =
     let r = root_most w (omega (arith, ints)) in
     record { low = omega (arith, ints); high = omega (arith, ints); root = r }
 
-difference_small : (c e : ℤ) → IsWithin (unit + 8) c → IsWithin eccentricity_amount e → IsWithin (3 * unit) (c -ℤ e)
+difference_small : (c e : ℤ) → IsWithin (unit + 8) c → IsWithin eccentricity_amount e
+    → IsWithin (3 * unit) (c -ℤ e)
 difference_small c e p q = record { low = omega (arith, ints, p.low, q.high); high = omega (arith, ints, p.high, q.low) }
 
 root_within : (w : ℕ) → w ≤ unit → IsWithin unit (pos w)
@@ -95,7 +113,12 @@ square_least g h =
     let a : (pos (7 * 10 ^ 15) *ℤ g) ≤ℤ (g *ℤ g) = mul_mono (pos (7 * 10 ^ 15)) g g h (omega (arith, ints)) in
     omega (arith, ints)
 
-pub true_squares : (e c s g cn sn : ℤ) (w : ℕ) → pos 0 ≤ℤ e → e ≤ℤ pos eccentricity_amount → IsWithin (unit + 8) c → IsWithin (unit + 8) s → NearCircle s c → (pos (w * w) +ℤ (e *ℤ e)) ≤ℤ pos (unit * unit) → pos (unit * unit) <ℤ (pos ((w + 1) * (w + 1)) +ℤ (e *ℤ e)) → Near (pos (unit * unit) -ℤ (e *ℤ c)) (pos unit) g → Near ((c -ℤ e) *ℤ pos unit) g cn → Near (pos w *ℤ s) g sn → Squares (unit * unit - 200 * unit) (unit * unit + 200 * unit) cn sn
+pub true_squares : (e c s g cn sn : ℤ) (w : ℕ) → pos 0 ≤ℤ e → e ≤ℤ pos eccentricity_amount
+    → IsWithin (unit + 8) c → IsWithin (unit + 8) s → NearCircle s c
+    → (pos (w * w) +ℤ (e *ℤ e)) ≤ℤ pos (unit * unit)
+    → pos (unit * unit) <ℤ (pos ((w + 1) * (w + 1)) +ℤ (e *ℤ e))
+    → Near (pos (unit * unit) -ℤ (e *ℤ c)) (pos unit) g → Near ((c -ℤ e) *ℤ pos unit) g cn
+    → Near (pos w *ℤ s) g sn → Squares (unit * unit - 200 * unit) (unit * unit + 200 * unit) cn sn
 true_squares e c s g cn sn w h k C S n fl fh ng nc ns =
     let E = within_of e h k in
     let l = lack_from (e *ℤ e) w (square_natural e) fl fh in

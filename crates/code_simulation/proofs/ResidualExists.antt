@@ -10,7 +10,8 @@ use Rattle.broadcast_orbit.proofs.ChainExists.{orbit_exists}
 use Rattle.earth_rotation.proofs.TurnExists.{turn_exists}
 use Rattle.code_simulation.specs.Residuals.{Residual}
 
-pub residual_exists : (el : Elements) (tag : ℤ) (p : Pos) (pr : ℤ) → (v : ℤ) × Residual el tag p pr v
+pub residual_exists : (el : Elements) (tag : ℤ) (p : Pos) (pr : ℤ)
+    → (v : ℤ) × Residual el tag p pr v
 residual_exists el tag p pr =
     let sent = near_exists ((tag *ℤ pos light_speed) -ℤ (pr *ℤ pos (10 ^ 6))) (pos light_speed) (record { lt = tt }) in
     let clock = clock_exists el true sent.0 in

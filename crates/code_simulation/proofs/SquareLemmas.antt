@@ -16,7 +16,8 @@ square_scaled : (n p : ℤ) → (n *ℤ p) *ℤ (n *ℤ p) ≡ (n *ℤ n) *ℤ (
 square_scaled n p = swap4 n n p p
 
 -- what is left over is (s + 6 p)^2
-pub side_most : (s p : ℤ) → (pos 6 *ℤ ((s -ℤ p) *ℤ (s -ℤ p))) ≤ℤ ((pos 7 *ℤ (s *ℤ s)) +ℤ (pos 42 *ℤ (p *ℤ p)))
+pub side_most : (s p : ℤ)
+    → (pos 6 *ℤ ((s -ℤ p) *ℤ (s -ℤ p))) ≤ℤ ((pos 7 *ℤ (s *ℤ s)) +ℤ (pos 42 *ℤ (p *ℤ p)))
 side_most s p =
     let over = square_natural (s +ℤ (pos 6 *ℤ p)) in
     let spelled = square_of_sum s (pos 6 *ℤ p) in
@@ -26,7 +27,8 @@ side_most s p =
     omega (arith, ints, over, spelled, cross, square, side)
 
 -- what is left over is (s - 4 p)^2
-pub side_least : (s p : ℤ) → ((pos 3 *ℤ (s *ℤ s)) -ℤ (pos 12 *ℤ (p *ℤ p))) ≤ℤ (pos 4 *ℤ ((s -ℤ p) *ℤ (s -ℤ p)))
+pub side_least : (s p : ℤ)
+    → ((pos 3 *ℤ (s *ℤ s)) -ℤ (pos 12 *ℤ (p *ℤ p))) ≤ℤ (pos 4 *ℤ ((s -ℤ p) *ℤ (s -ℤ p)))
 side_least s p =
     let over = square_natural (s -ℤ (pos 4 *ℤ p)) in
     let spelled = square_of_difference s (pos 4 *ℤ p) in
@@ -49,7 +51,8 @@ range_most n x y z p h =
     let c = square_of_amount (z -ℤ p.z) in
     root_most _ n (omega (arith, ints, a, b, c, h))
 
-pub range_least : (n : ℕ) (x y z : ℤ) (p : Pos) → pos (n * n) ≤ℤ apart x y z p → n ≤ range_to x y z p
+pub range_least : (n : ℕ) (x y z : ℤ) (p : Pos) → pos (n * n) ≤ℤ apart x y z p
+    → n ≤ range_to x y z p
 unfolding range_to
 range_least n x y z p h =
     let a = square_of_amount (x -ℤ p.x) in

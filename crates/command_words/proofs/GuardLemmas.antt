@@ -44,7 +44,8 @@ module _ (f : Files) (zones : Text) (n : AreNames f) (z : IsName zones) where
   abbrev g₅ : Walk
   g₅ = taken s g₄ 5 f.log
 
-  names_walked : (rest : List Text) → level s (f.obs ∷ f.nav ∷ f.settings ∷ zones ∷ f.log ∷ rest) ≡ level_from s g₅ rest
+  names_walked : (rest : List Text)
+      → level s (f.obs ∷ f.nav ∷ f.settings ∷ zones ∷ f.log ∷ rest) ≡ level_from s g₅ rest
   names_walked rest =
       level_is s (f.obs ∷ f.nav ∷ f.settings ∷ zones ∷ f.log ∷ rest)
       ∙ name_more s nothing_held 1 f.obs (f.nav ∷ f.settings ∷ zones ∷ f.log ∷ rest) n.0 refl
@@ -72,12 +73,15 @@ module _ (f : Files) (zones : Text) (n : AreNames f) (z : IsName zones) where
 
   -- ---- one step, where the word passes there
 
-  read_more : (w : Walk) (word id text : Text) (rest : List Text) → turn_fault s [] w word ≡ [] → walked s.rules [] w word ≡ waits w id
-      → step_fault s 6 (plain_word s.rules (option id) text (waits w id).held).0 (plain_word s.rules (option id) text (waits w id).held).1 ≡ [] → IsName text
+  read_more : (w : Walk) (word id text : Text) (rest : List Text) → turn_fault s [] w word ≡ []
+      → walked s.rules [] w word ≡ waits w id
+      → step_fault s 6 (plain_word s.rules (option id) text (waits w id).held).0 (plain_word s.rules (option id) text (waits w id).held).1 ≡ []
+      → IsName text
       → level_from s w (word ∷ text ∷ rest) ≡ level_from s (read w id text) rest
   read_more w word id text rest passes is step name = more s w (waits w id) word (text ∷ rest) passes is ∙ value_more s (waits w id).held id 6 text rest name step
 
-  flag_more : (w : Walk) (rest : List Text) → turn_fault s [] w (codes "--track") ≡ [] → level_from s w (codes "--track" ∷ rest) ≡ level_from s (flag w) rest
+  flag_more : (w : Walk) (rest : List Text) → turn_fault s [] w (codes "--track") ≡ []
+      → level_from s w (codes "--track" ∷ rest) ≡ level_from s (flag w) rest
   flag_more w rest passes = more s w (flag w) (codes "--track") rest passes refl
 
   -- where the walk stands behind the options
@@ -103,7 +107,8 @@ module _ (f : Files) (zones : Text) (n : AreNames f) (z : IsName zones) where
   last_walk Behind (FromTo from to) = flag (to_of (from_of g₅ from) to)
   last_walk Behind (ToFrom to from) = flag (from_of (to_of g₅ to) from)
 
-  options_walked : (flag : Flag) (options : Options) → ArePlain options → level_from s g₅ (flagged_words flag options) ≡ level_from s (last_walk flag options) []
+  options_walked : (flag : Flag) (options : Options) → ArePlain options
+      → level_from s g₅ (flagged_words flag options) ≡ level_from s (last_walk flag options) []
   unfolding clap_on_literals
   options_walked Nowhere Neither p = refl
   options_walked Nowhere (From from) p = read_more g₅ (codes "--from") (codes "from") from [] refl refl refl p
@@ -160,7 +165,8 @@ module _ (f : Files) (zones : Text) (n : AreNames f) (z : IsName zones) where
       ∙ read_more (to_of g₅ to) (codes "--from") (codes "from") from (codes "--track" ∷ []) refl refl refl p.0
       ∙ flag_more (from_of (to_of g₅ to) from) [] refl
 
-  ended : (flag : Flag) (options : Options) → guard_seen (level_from s (last_walk flag options) []) ≡ asked_of f zones (is_tracked flag) options
+  ended : (flag : Flag) (options : Options)
+      → guard_seen (level_from s (last_walk flag options) []) ≡ asked_of f zones (is_tracked flag) options
   unfolding level_from clap_on_literals
   ended Nowhere Neither = refl
   ended Nowhere (From from) = refl
@@ -183,7 +189,8 @@ module _ (f : Files) (zones : Text) (n : AreNames f) (z : IsName zones) where
   ended Behind (FromTo from to) = refl
   ended Behind (ToFrom to from) = refl
 
-  guard_level : (flag : Flag) (options : Options) → ArePlain options → epochs_by (from_text options) (to_text options) ≡ Some f.epochs
+  guard_level : (flag : Flag) (options : Options) → ArePlain options
+      → epochs_by (from_text options) (to_text options) ≡ Some f.epochs
       → guard_seen (level s (guard_words f zones flag options)) ≡ ([], Some (Guard f zones (is_tracked flag)))
   guard_level flag options p e =
       ap guard_seen (names_walked (flagged_words flag options) ∙ options_walked flag options p)

@@ -79,14 +79,16 @@ plain_met c position word h e =
     ∙ ap (λ l. long_or_other c idle word l h) (no_long word e)
     ∙ ap (λ s. short_or_plain c idle word s h) (no_short word e)
 
-value_met : (c : List Rule) (id : Text) (position : ℕ) (word : Text) (h : Held) → begins_with_dash word ≡ false
+value_met : (c : List Rule) (id : Text) (position : ℕ) (word : Text) (h : Held)
+    → begins_with_dash word ≡ false
     → word_met c [] false (option id) position word h ≡ plain_word c (option id) word h
 value_met c id position word h e =
     ap (λ (b : Bool). if b then (h, trailing position) else long_or_other c (option id) word (long_of word) h) (no_dashes word e)
     ∙ ap (λ l. long_or_other c (option id) word l h) (no_long word e)
     ∙ ap (λ s. short_or_plain c (option id) word s h) (no_short word e)
 
-other_plain : (s : Shape) (word : Text) (h : Held) → begins_with_dash word ≡ false → other_fault s None word h ≡ []
+other_plain : (s : Shape) (word : Text) (h : Held) → begins_with_dash word ≡ false
+    → other_fault s None word h ≡ []
 other_plain s word h e =
     ap (λ (b : Bool). if b then [] else flag_word_fault s.rules s.args_override_self (long_of word) word h) (no_dashes word e)
     ∙ ap (λ l. flag_word_fault s.rules s.args_override_self l word h) (no_long word e)
@@ -111,12 +113,14 @@ level_from s w words =
 abbrev pub level : Shape → List Text → Level
 level s words = (level_fault s [] nothing_held words false [], rows_after s.rules [] words)
 
-pub level_is : (s : Shape) (words : List Text) → level s words ≡ level_from s (walk_from nothing_held) words
+pub level_is : (s : Shape) (words : List Text)
+    → level s words ≡ level_from s (walk_from nothing_held) words
 unfolding level_from
 level_is s words = refl
 
 -- one word more
-pub more : (s : Shape) (w now : Walk) (word : Text) (rest : List Text) → turn_fault s [] w word ≡ [] → walked s.rules [] w word ≡ now
+pub more : (s : Shape) (w now : Walk) (word : Text) (rest : List Text) → turn_fault s [] w word ≡ []
+    → walked s.rules [] w word ≡ now
     → level_from s w (word ∷ rest) ≡ level_from s now rest
 unfolding level_from walk_fault
 more s w now word rest passes is =
@@ -131,20 +135,23 @@ more s w now word rest passes is =
     ∙ ap (λ v. level_from s v rest) is
 
 -- a word for a positional
-plain_turn : (s : Shape) (h : Held) (position : ℕ) (word : Text) → begins_with_dash word ≡ false → step_fault s position h value ≡ []
+plain_turn : (s : Shape) (h : Held) (position : ℕ) (word : Text) → begins_with_dash word ≡ false
+    → step_fault s position h value ≡ []
     → turn_fault s [] (at h idle position) word ≡ []
 plain_turn s h position word e passes =
     ap (λ (m : Held × Step). or_else (other_fault s None word h) (step_fault s position m.0 m.1)) (plain_met s.rules position word h e)
     ∙ ap (λ k. or_else k (step_fault s position h value)) (other_plain s word h e)
     ∙ passes
 
-plain_walked : (c : List Rule) (h : Held) (position : ℕ) (word : Text) → begins_with_dash word ≡ false
+plain_walked : (c : List Rule) (h : Held) (position : ℕ) (word : Text)
+    → begins_with_dash word ≡ false
     → walked c [] (at h idle position) word ≡ to_positional c (arg_by_index c position) word (at h idle position) h
 unfolding walked
 plain_walked c h position word e = ap (λ (m : Held × Step). after_step c word (at h idle position) m.0 m.1) (plain_met c position word h e)
 
 -- a word that a positional takes
-pub name_more : (s : Shape) (h : Held) (position : ℕ) (word : Text) (rest : List Text) → begins_with_dash word ≡ false
+pub name_more : (s : Shape) (h : Held) (position : ℕ) (word : Text) (rest : List Text)
+    → begins_with_dash word ≡ false
     → step_fault s position h value ≡ []
     → level_from s (at h idle position) (word ∷ rest)
     ≡ level_from s (to_positional s.rules (arg_by_index s.rules position) word (at h idle position) h) rest
@@ -156,7 +163,8 @@ abbrev pub behind_value : List Rule → Held → Text → ℕ → Text → Walk
 behind_value c h id position word =
     after_step c word (at h (option id) position) (plain_word c (option id) word h).0 (plain_word c (option id) word h).1
 
-value_turn : (s : Shape) (h : Held) (id : Text) (position : ℕ) (word : Text) → begins_with_dash word ≡ false
+value_turn : (s : Shape) (h : Held) (id : Text) (position : ℕ) (word : Text)
+    → begins_with_dash word ≡ false
     → step_fault s position (plain_word s.rules (option id) word h).0 (plain_word s.rules (option id) word h).1 ≡ []
     → turn_fault s [] (at h (option id) position) word ≡ []
 value_turn s h id position word e passes =
@@ -164,13 +172,15 @@ value_turn s h id position word e passes =
     ∙ ap (λ k. or_else k (step_fault s position (plain_word s.rules (option id) word h).0 (plain_word s.rules (option id) word h).1)) (other_plain s word h e)
     ∙ passes
 
-value_walked : (c : List Rule) (h : Held) (id : Text) (position : ℕ) (word : Text) → begins_with_dash word ≡ false
+value_walked : (c : List Rule) (h : Held) (id : Text) (position : ℕ) (word : Text)
+    → begins_with_dash word ≡ false
     → walked c [] (at h (option id) position) word ≡ behind_value c h id position word
 unfolding walked
 value_walked c h id position word e = ap (λ (m : Held × Step). after_step c word (at h (option id) position) m.0 m.1) (value_met c id position word h e)
 
 -- a word that is an option's text
-pub value_more : (s : Shape) (h : Held) (id : Text) (position : ℕ) (word : Text) (rest : List Text) → begins_with_dash word ≡ false
+pub value_more : (s : Shape) (h : Held) (id : Text) (position : ℕ) (word : Text) (rest : List Text)
+    → begins_with_dash word ≡ false
     → step_fault s position (plain_word s.rules (option id) word h).0 (plain_word s.rules (option id) word h).1 ≡ []
     → level_from s (at h (option id) position) (word ∷ rest) ≡ level_from s (behind_value s.rules h id position word) rest
 value_more s h id position word rest e passes =

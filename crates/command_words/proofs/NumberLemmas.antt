@@ -13,7 +13,8 @@ use Rattle.command_words.specs.Numbers.{leads, is_numeral, is_from_to, number_in
 use Rattle.command_words.specs.Stated.{begins_with_dash}
 
 -- what a number is written with doesn't begin with a dash
-pub number_plain : (low high : ℕ) (text : List ℕ) (n : ℕ) → number_in low high text ≡ Some n → begins_with_dash text ≡ false
+pub number_plain : (low high : ℕ) (text : List ℕ) (n : ℕ) → number_in low high text ≡ Some n
+    → begins_with_dash text ≡ false
 number_plain low high [] n e = refl
 number_plain low high (byte ∷ more) n e = go (byte == 45) refl
   where
@@ -46,7 +47,8 @@ some_digit [] e = cc
 some_digit (byte ∷ more) e = omega arith
 
 -- digits that don't fit 32 bits write no number up to a bound that does
-pub not_parsed : {E : Type 0} (low high : ℕ) (text : List ℕ) (r : Result ℕ E) (e : E) → r ≡ Err e → high < 2 ^ 32
+pub not_parsed : {E : Type 0} (low high : ℕ) (text : List ℕ) (r : Result ℕ E) (e : E) → r ≡ Err e
+    → high < 2 ^ 32
     → is_numeral text ≡ true → ParsesUnsigned 32 10 text r → number_in low high text ≡ None
 not_parsed {E} low high text r e is small numeral parsed = elim (cases_lt (digits_value 10 text) (2 ^ 32)) [
   | inl lt ↦ absurd (no (some_digit text numeral, lt))

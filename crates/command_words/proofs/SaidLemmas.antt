@@ -36,7 +36,8 @@ abbrev Required : List Rule → List Row → Type 0
 Required [] rows = Unit {0}
 Required (a ∷ c) rows = (a.required ≡ true → (text : Text) × (first_of a.id rows ≡ Some text)) × Required c rows
 
-required : (c : List Rule) (rows : List Row) → Filled rows → list_any (λ a. a.required && not (is_given a.id rows)) c ≡ false → Required c rows
+required : (c : List Rule) (rows : List Row) → Filled rows
+    → list_any (λ a. a.required && not (is_given a.id rows)) c ≡ false → Required c rows
 required [] rows filled none = tt
 required (a ∷ c) rows filled none = (
   (λ wanted. given_text a.id rows filled (given (is_given a.id rows) (ap (λ w. w && not (is_given a.id rows)) (sym wanted) ∙ (neither (a.required && not (is_given a.id rows)) _ none).0))),
@@ -52,7 +53,9 @@ required (a ∷ c) rows filled none = (
     given false e = cc
 
 -- the texts of a subcommand that takes its words
-texts_of : (s : Shape) (words : List Text) → AllSet s.rules → level_fault s [] nothing_held words false [] ≡ [] → Required s.rules (rows_after s.rules [] words)
+texts_of : (s : Shape) (words : List Text) → AllSet s.rules
+    → level_fault s [] nothing_held words false [] ≡ []
+    → Required s.rules (rows_after s.rules [] words)
 texts_of s words all e =
     let end = (walk s.rules [] nothing_held words).held in
     let walked = both (walk_fault s [] (walk_from nothing_held) words) _ e in
@@ -62,13 +65,15 @@ texts_of s words all e =
     (finished_filled s end all settles.0 (walk_filled s [] (walk_from nothing_held) words all walked.0 tt))
     (lacks_none s.subcommand_negates_reqs _ (last_holds _ _ _ defaults.1))
 
-judge_says : (words : List Text) → level_fault judge_shape [] nothing_held words false [] ≡ [] → SaysCommand (Some (rows_at judge_shape words))
+judge_says : (words : List Text) → level_fault judge_shape [] nothing_held words false [] ≡ []
+    → SaysCommand (Some (rows_at judge_shape words))
 unfolding clap_on_literals
 judge_says words e =
     let k = texts_of judge_shape words (record { set = inl refl; some = inl refl }, tt) e in
     inl (record { rows = rows_after judge_shape.rules [] words; said_is = refl; texts = (k.0 refl, tt) })
 
-pave_says : (words : List Text) → level_fault pave_shape [] nothing_held words false [] ≡ [] → SaysCommand (Some (rows_at pave_shape words))
+pave_says : (words : List Text) → level_fault pave_shape [] nothing_held words false [] ≡ []
+    → SaysCommand (Some (rows_at pave_shape words))
 unfolding clap_on_literals
 pave_says words e =
     let k = texts_of pave_shape words (record { set = inl refl; some = inl refl }, (record { set = inl refl; some = inl refl }, tt)) e in
@@ -94,19 +99,23 @@ file_texts : (rows : List Row) → Required solve_shape.rules rows → HaveTexts
 unfolding clap_on_literals
 file_texts rows k = (k.0 refl, (k.1.0 refl, (k.1.1.0 refl, (k.1.1.1.0 refl, tt))))
 
-solve_says : (words : List Text) → level_fault solve_shape [] nothing_held words false [] ≡ [] → SaysCommand (Some (rows_at solve_shape words))
+solve_says : (words : List Text) → level_fault solve_shape [] nothing_held words false [] ≡ []
+    → SaysCommand (Some (rows_at solve_shape words))
 unfolding clap_on_literals
 solve_says words e = inr (inr (inl (record { rows = rows_after solve_shape.rules [] words; said_is = refl; texts = file_texts (rows_after solve_shape.rules [] words) (texts_of solve_shape words files_set e) })))
 
-check_says : (words : List Text) → level_fault check_shape [] nothing_held words false [] ≡ [] → SaysCommand (Some (rows_at check_shape words))
+check_says : (words : List Text) → level_fault check_shape [] nothing_held words false [] ≡ []
+    → SaysCommand (Some (rows_at check_shape words))
 unfolding clap_on_literals
 check_says words e = inr (inr (inr (inl (record { rows = rows_after check_shape.rules [] words; said_is = refl; texts = file_texts (rows_after check_shape.rules [] words) (texts_of check_shape words files_set e) }))))
 
-track_says : (words : List Text) → level_fault track_shape [] nothing_held words false [] ≡ [] → SaysCommand (Some (rows_at track_shape words))
+track_says : (words : List Text) → level_fault track_shape [] nothing_held words false [] ≡ []
+    → SaysCommand (Some (rows_at track_shape words))
 unfolding clap_on_literals
 track_says words e = inr (inr (inr (inr (inl (record { rows = rows_after track_shape.rules [] words; said_is = refl; texts = file_texts (rows_after track_shape.rules [] words) (texts_of track_shape words files_set e) })))))
 
-retrack_says : (words : List Text) → level_fault retrack_shape [] nothing_held words false [] ≡ [] → SaysCommand (Some (rows_at retrack_shape words))
+retrack_says : (words : List Text) → level_fault retrack_shape [] nothing_held words false [] ≡ []
+    → SaysCommand (Some (rows_at retrack_shape words))
 unfolding clap_on_literals
 retrack_says words e = inr (inr (inr (inr (inr (inl (record { rows = rows_after retrack_shape.rules [] words; said_is = refl; texts = file_texts (rows_after retrack_shape.rules [] words) (texts_of retrack_shape words files_set e) }))))))
 
@@ -139,11 +148,13 @@ guard_texts : (rows : List Row) → Required guard_shape.rules rows → HaveText
 unfolding clap_on_literals
 guard_texts rows k = (k.0 refl, (k.1.0 refl, (k.1.1.0 refl, (k.1.1.1.0 refl, (k.1.1.1.1.0 refl, tt)))))
 
-guard_says : (words : List Text) → level_fault guard_shape [] nothing_held words false [] ≡ [] → SaysCommand (Some (rows_at guard_shape words))
+guard_says : (words : List Text) → level_fault guard_shape [] nothing_held words false [] ≡ []
+    → SaysCommand (Some (rows_at guard_shape words))
 unfolding clap_on_literals
 guard_says words e = inr (inr (inr (inr (inr (inr (inl (record { rows = rows_after guard_shape.rules [] words; said_is = refl; texts = guard_texts (rows_after guard_shape.rules [] words) (texts_of guard_shape words guard_set e) })))))))
 
-make_says : (words : List Text) → level_fault make_shape [] nothing_held words false [] ≡ [] → SaysCommand (Some (rows_at make_shape words))
+make_says : (words : List Text) → level_fault make_shape [] nothing_held words false [] ≡ []
+    → SaysCommand (Some (rows_at make_shape words))
 unfolding clap_on_literals
 make_says words e =
     let k = texts_of make_shape words (record { set = inl refl; some = inl refl }, (record { set = inl refl; some = inl refl }, tt)) e in
@@ -170,7 +181,8 @@ chosen_says words false false false false false false false true faults some = m
 chosen_says words false false false false false false false false faults some = cc
 
 -- the subcommand that was met is one of the program's
-said : (stop : Option (Text × List Text)) → entered_fault (built program) stop ≡ [] → is_some (entered (built program) stop) ≡ true
+said : (stop : Option (Text × List Text)) → entered_fault (built program) stop ≡ []
+    → is_some (entered (built program) stop) ≡ true
     → SaysCommand (entered (built program) stop)
 unfolding clap_on_literals
 said None faults some = cc
@@ -183,7 +195,8 @@ entered_is : (t : Bool) → (not t && true) ≡ false → t ≡ true
 entered_is true e = refl
 entered_is false e = cc
 
-sub_there : (s : Shape) (rows : List Row) (has : Bool) → s.subcommand_required ≡ true → check_fault s rows has ≡ [] → has ≡ true
+sub_there : (s : Shape) (rows : List Row) (has : Bool) → s.subcommand_required ≡ true
+    → check_fault s rows has ≡ [] → has ≡ true
 sub_there s rows has wanted e =
     let middle = middle_holds (not has && (s.arg_required_else_help && not (list_any (λ r. explicit_source r.source) rows))) (not has && s.subcommand_required)
     (not (s.subcommand_negates_reqs && has) && list_any (λ a. a.required && not (is_given a.id rows)) s.rules) e in

@@ -25,11 +25,13 @@ start = at nothing_held idle 1
 
 -- ---- `judge LOG`
 
-judge_end : (log : Text) → said_at (codes "judge") (level_from judge_shape (taken judge_shape start 1 log) []) ≡ Some (Judge log)
+judge_end : (log : Text)
+    → said_at (codes "judge") (level_from judge_shape (taken judge_shape start 1 log) []) ≡ Some (Judge log)
 unfolding level_from clap_on_literals
 judge_end log = refl
 
-judge_said : (log : Text) → command_of (codes "judge" ∷ log ∷ []) ≡ said_at (codes "judge") (level judge_shape (log ∷ []))
+judge_said : (log : Text)
+    → command_of (codes "judge" ∷ log ∷ []) ≡ said_at (codes "judge") (level judge_shape (log ∷ []))
 unfolding clap_on_literals
 judge_said log = refl
 
@@ -116,7 +118,8 @@ epochs_given None to epochs e = cc
 epochs_given (Some n) None epochs e = cc
 epochs_given (Some n) (Some m) epochs e = ((n, refl), (m, refl))
 
-pub plain_options : (options : Options) (epochs : Epochs) → epochs_by (from_text options) (to_text options) ≡ Some epochs → ArePlain options
+pub plain_options : (options : Options) (epochs : Epochs)
+    → epochs_by (from_text options) (to_text options) ≡ Some epochs → ArePlain options
 plain_options Neither epochs e = tt
 plain_options (From from) epochs e =
     let k = epochs_given (epoch_number from) (Some last_epoch) epochs e in number_plain 1 last_epoch from k.0.0 k.0.1
@@ -145,7 +148,8 @@ module _ (name : Text) (f : Files) (n : AreNames f) where
   abbrev f₄ : Walk
   f₄ = taken s f₃ 4 f.log
 
-  names_walked : (rest : List Text) → level s (f.obs ∷ f.nav ∷ f.settings ∷ f.log ∷ rest) ≡ level_from s f₄ rest
+  names_walked : (rest : List Text)
+      → level s (f.obs ∷ f.nav ∷ f.settings ∷ f.log ∷ rest) ≡ level_from s f₄ rest
   names_walked rest =
       level_is s (f.obs ∷ f.nav ∷ f.settings ∷ f.log ∷ rest)
       ∙ name_more s nothing_held 1 f.obs (f.nav ∷ f.settings ∷ f.log ∷ rest) n.0 refl
@@ -174,7 +178,8 @@ module _ (name : Text) (f : Files) (n : AreNames f) where
   unfolding clap_on_literals
   from_walked = refl
 
-  from_first : (from : Text) (rest : List Text) → IsName from → level_from s f₄ (codes "--from" ∷ from ∷ rest) ≡ level_from s (read f₄ from_id from) rest
+  from_first : (from : Text) (rest : List Text) → IsName from
+      → level_from s f₄ (codes "--from" ∷ from ∷ rest) ≡ level_from s (read f₄ from_id from) rest
   from_first from rest e =
       more s f₄ (waits f₄ from_id) (codes "--from") (from ∷ rest) from_turn from_walked
       ∙ value_more s (waits f₄ from_id).held from_id 5 from rest e refl
@@ -187,7 +192,8 @@ module _ (name : Text) (f : Files) (n : AreNames f) where
   unfolding clap_on_literals
   to_walked = refl
 
-  to_first : (to : Text) (rest : List Text) → IsName to → level_from s f₄ (codes "--to" ∷ to ∷ rest) ≡ level_from s (read f₄ to_id to) rest
+  to_first : (to : Text) (rest : List Text) → IsName to
+      → level_from s f₄ (codes "--to" ∷ to ∷ rest) ≡ level_from s (read f₄ to_id to) rest
   to_first to rest e =
       more s f₄ (waits f₄ to_id) (codes "--to") (to ∷ rest) to_turn to_walked
       ∙ value_more s (waits f₄ to_id).held to_id 5 to rest e refl
@@ -196,7 +202,8 @@ module _ (name : Text) (f : Files) (n : AreNames f) where
   unfolding clap_on_literals
   second_to_turn from = refl
 
-  second_to_walked : (from : Text) → walked s.rules [] (read f₄ from_id from) (codes "--to") ≡ waits (read f₄ from_id from) to_id
+  second_to_walked : (from : Text)
+      → walked s.rules [] (read f₄ from_id from) (codes "--to") ≡ waits (read f₄ from_id from) to_id
   unfolding clap_on_literals
   second_to_walked from = refl
 
@@ -210,7 +217,8 @@ module _ (name : Text) (f : Files) (n : AreNames f) where
   unfolding clap_on_literals
   second_from_turn to = refl
 
-  second_from_walked : (to : Text) → walked s.rules [] (read f₄ to_id to) (codes "--from") ≡ waits (read f₄ to_id to) from_id
+  second_from_walked : (to : Text)
+      → walked s.rules [] (read f₄ to_id to) (codes "--from") ≡ waits (read f₄ to_id to) from_id
   unfolding clap_on_literals
   second_from_walked to = refl
 
@@ -228,14 +236,16 @@ module _ (name : Text) (f : Files) (n : AreNames f) where
   last_walk (FromTo from to) = read (read f₄ from_id from) to_id to
   last_walk (ToFrom to from) = read (read f₄ to_id to) from_id from
 
-  options_walked : (options : Options) → ArePlain options → level_from s f₄ (option_words options) ≡ level_from s (last_walk options) []
+  options_walked : (options : Options) → ArePlain options
+      → level_from s f₄ (option_words options) ≡ level_from s (last_walk options) []
   options_walked Neither p = refl
   options_walked (From from) p = from_first from [] p
   options_walked (To to) p = to_first to [] p
   options_walked (FromTo from to) p = from_first from (codes "--to" ∷ to ∷ []) p.0 ∙ to_second from to p.1
   options_walked (ToFrom to from) p = to_first to (codes "--from" ∷ from ∷ []) p.1 ∙ from_second to from p.0
 
-  ended : (options : Options) → files_seen (level_from s (last_walk options) []) ≡ asked_of f options
+  ended : (options : Options)
+      → files_seen (level_from s (last_walk options) []) ≡ asked_of f options
   unfolding level_from clap_on_literals
   ended Neither = refl
   ended (From from) = refl
@@ -243,7 +253,8 @@ module _ (name : Text) (f : Files) (n : AreNames f) where
   ended (FromTo from to) = refl
   ended (ToFrom to from) = refl
 
-  files_level : (options : Options) → ArePlain options → epochs_by (from_text options) (to_text options) ≡ Some f.epochs
+  files_level : (options : Options) → ArePlain options
+      → epochs_by (from_text options) (to_text options) ≡ Some f.epochs
       → files_seen (level s (file_words f options)) ≡ ([], Some f)
   files_level options p e =
       ap files_seen (names_walked (option_words options) ∙ options_walked options p)

@@ -49,8 +49,10 @@ use Rattle.cover_run.proofs.ZoneTotalLemmas.{totals_true}
 
 -- ---- the steps of an accepted log fold
 
-admitted_fold : (delays : Delays) (rules : Rules) (before : Option ℕ) (owns : List OwnLines) (searches : List Search) (blocks : List Block) → length owns ≡ length searches
-    → AdmitsFrom delays rules before owns searches blocks → AllByRecursion (λ (block : Block). BodyFolds block.body) blocks
+admitted_fold : (delays : Delays) (rules : Rules) (before : Option ℕ) (owns : List OwnLines) (searches : List Search) (blocks : List Block)
+    → length owns ≡ length searches
+    → AdmitsFrom delays rules before owns searches blocks
+    → AllByRecursion (λ (block : Block). BodyFolds block.body) blocks
 admitted_fold delays rules before [] [] [] each admits = tt
 admitted_fold delays rules before [] [] (block ∷ more) each admits = absurd admits
 admitted_fold delays rules before [] (s ∷ rest) blocks each admits = absurd (omega (arith, each))
@@ -61,44 +63,53 @@ admitted_fold delays rules before (own ∷ owns) (s ∷ rest) (block ∷ more) e
   admitted_fold delays rules (Some block.index) owns rest more (omega (arith, each)) admits.2,
 )
 
-pub accepted_fold : (m : Meaning) (searches : List Search) (rules : Rules) (log : LogValue) (boxes : ℕ) → IsAccepted m searches rules log boxes → AllByRecursion (λ (block : Block). BodyFolds block.body) log.blocks
+pub accepted_fold : (m : Meaning) (searches : List Search) (rules : Rules) (log : LogValue) (boxes : ℕ)
+    → IsAccepted m searches rules log boxes
+    → AllByRecursion (λ (block : Block). BodyFolds block.body) log.blocks
 accepted_fold m searches rules log boxes accepted =
     admitted_fold m.delays rules None accepted.owns searches log.blocks accepted.admissible.each accepted.admissible.admits.blocks
 
 -- ---- how many answers there are
 
-as_many_found : (ws : List Watch) (boxes : List GridBox) (found : List Finding) → AreFindings (watch_values ws) boxes found → length found ≡ length ws
+as_many_found : (ws : List Watch) (boxes : List GridBox) (found : List Finding)
+    → AreFindings (watch_values ws) boxes found → length found ≡ length ws
 as_many_found [] boxes [] are = refl
 as_many_found [] boxes (f ∷ found) are = absurd are
 as_many_found (w ∷ ws) boxes [] are = absurd are
 as_many_found (w ∷ ws) boxes (f ∷ found) are = ap suc (as_many_found ws boxes found are.1)
 
-has_all : (ws : List Watch) (block : Block) (found : Option (Vec Finding Global)) → IsFoundIn (watch_values ws) block found → HasAllOf (length ws) found
+has_all : (ws : List Watch) (block : Block) (found : Option (Vec Finding Global))
+    → IsFoundIn (watch_values ws) block found → HasAllOf (length ws) found
 has_all ws block None is = tt
 has_all ws block (Some found) is = as_many_found ws (cover_of block.body) found.items is.1
 
-pub all_have_all : (ws : List Watch) (blocks : List Block) (epochs : List EpochFindings) → AreEpochsFound (watch_values ws) blocks epochs → AllByRecursion (HasAll (length ws)) epochs
+pub all_have_all : (ws : List Watch) (blocks : List Block) (epochs : List EpochFindings)
+    → AreEpochsFound (watch_values ws) blocks epochs → AllByRecursion (HasAll (length ws)) epochs
 all_have_all ws [] [] are = tt
 all_have_all ws [] (e ∷ epochs) are = absurd are
 all_have_all ws (block ∷ more) [] are = absurd are
 all_have_all ws (block ∷ more) (e ∷ epochs) are = (has_all ws block e.found are.0.1, all_have_all ws more epochs are.1)
 
-as_many : (ws : List WatchValue) (blocks : List Block) (epochs : List EpochFindings) → AreEpochsFound ws blocks epochs → length epochs ≡ length blocks
+as_many : (ws : List WatchValue) (blocks : List Block) (epochs : List EpochFindings)
+    → AreEpochsFound ws blocks epochs → length epochs ≡ length blocks
 as_many ws [] [] are = refl
 as_many ws [] (e ∷ epochs) are = absurd are
 as_many ws (block ∷ more) [] are = absurd are
 as_many ws (block ∷ more) (e ∷ epochs) are = ap suc (as_many ws more epochs are.1)
 
-numbered_few : (next : ℕ) (blocks : List Block) → IsNumberedFrom next blocks → next + length blocks ≤ 4000000001
+numbered_few : (next : ℕ) (blocks : List Block) → IsNumberedFrom next blocks
+    → next + length blocks ≤ 4000000001
 numbered_few next [] is = omega (arith, is)
 numbered_few next (block ∷ more) is = omega (arith, numbered_few (next + lines_in block) more is.1)
 
-pub few_epochs : (ws : List WatchValue) (blocks : List Block) (epochs : List EpochFindings) → IsNumberedFrom 3 blocks → AreEpochsFound ws blocks epochs → length epochs < 2 ^ 32
+pub few_epochs : (ws : List WatchValue) (blocks : List Block) (epochs : List EpochFindings)
+    → IsNumberedFrom 3 blocks → AreEpochsFound ws blocks epochs → length epochs < 2 ^ 32
 few_epochs ws blocks epochs numbered are = omega (arith, as_many ws blocks epochs are, numbered_few 3 blocks numbered)
 
 -- ---- the answers are true of what fits
 
-true_at : (form : FormValue) (f : Finding) (parts : List ShownStep) (p : Pos) (b : ℤ) → IsFinding form (kept_parts parts) f → SomeKeeps p b parts → IsTrueAt form f p
+true_at : (form : FormValue) (f : Finding) (parts : List ShownStep) (p : Pos) (b : ℤ)
+    → IsFinding form (kept_parts parts) f → SomeKeeps p b parts → IsTrueAt form f p
 true_at (BoxValue lo hi) (Zone Outside) parts p b is keeps = λ holds. none_kept (corner_box lo hi) parts p b is.0 holds keeps
 true_at (BoxValue lo hi) (Zone Inside) parts p b is keeps = in_zone (corner_box lo hi) (kept_parts parts) p is.1.0 (holding parts p b keeps)
 true_at (BoxValue lo hi) (Zone Open) parts p b is keeps = tt
@@ -111,27 +122,36 @@ true_at (ReachValue a) (Zone found) parts p b is keeps = is
 true_at (ReachValue a) (Reach found) parts p b is keeps = reached a found (kept_parts parts) p is (holding parts p b keeps)
 
 module _ (FitsAt : Pos → ℤ → Type 0) (root : GridBox) where
-  true_of : (parts : List ShownStep) → FitCover FitsAt root parts → (ws : List WatchValue) (found : List Finding) → AreFindings ws (kept_parts parts) found → AreTrueOf FitsAt root ws found
+  true_of : (parts : List ShownStep) → FitCover FitsAt root parts
+      → (ws : List WatchValue) (found : List Finding) → AreFindings ws (kept_parts parts) found
+      → AreTrueOf FitsAt root ws found
   true_of parts cover [] [] are = tt
   true_of parts cover [] (f ∷ found) are = absurd are
   true_of parts cover (w ∷ ws) [] are = absurd are
   true_of parts cover (w ∷ ws) (f ∷ found) are =
       (λ p b inside fits. true_at w.form f parts p b are.0 (cover.covers p b inside fits), true_of parts cover ws found are.1)
 
-  epoch_true : (delays : Delays) (rules : Rules) (renewed : List (List Row)) (block : Block) (body : Option Body) → BodyPassesAt delays rules root renewed block body → FitBodyCover FitsAt root body
-      → (ws : List WatchValue) (found : List Finding) → is_none body ≡ false → AreFindings ws (cover_of body) found → AreTrueOf FitsAt root ws found
+  epoch_true : (delays : Delays) (rules : Rules) (renewed : List (List Row)) (block : Block) (body : Option Body)
+      → BodyPassesAt delays rules root renewed block body → FitBodyCover FitsAt root body
+      → (ws : List WatchValue) (found : List Finding) → is_none body ≡ false
+      → AreFindings ws (cover_of body) found → AreTrueOf FitsAt root ws found
   epoch_true delays rules renewed block None passes cover ws found paved are = absurd cc
   epoch_true delays rules renewed block (Some body) passes cover ws found paved are =
       true_of (pieces root (steps_in body.events)) cover ws found (subst (λ (box : GridBox). AreFindings ws (kept_parts (pieces box (steps_in body.events))) found) passes.0 are)
 
-  block_true : (delays : Delays) (rules : Rules) (renewed : List (List Row)) (block : Block) → BodyPassesAt delays rules root renewed block block.body → FitBodyCover FitsAt root block.body
-      → (ws : List WatchValue) (found : Option (Vec Finding Global)) → IsFoundIn ws block found → IsEpochTrue FitsAt root ws found
+  block_true : (delays : Delays) (rules : Rules) (renewed : List (List Row)) (block : Block)
+      → BodyPassesAt delays rules root renewed block block.body
+      → FitBodyCover FitsAt root block.body
+      → (ws : List WatchValue) (found : Option (Vec Finding Global)) → IsFoundIn ws block found
+      → IsEpochTrue FitsAt root ws found
   block_true delays rules renewed block passes cover ws None is = tt
   block_true delays rules renewed block passes cover ws (Some found) is = epoch_true delays rules renewed block block.body passes cover ws found.items is.0 is.1
 
 module _ (m : Meaning) (rules : Rules) (ws : List WatchValue) where
-  epochs_true : (before : Option ℕ) (owns : List OwnLines) (searches : List Search) (blocks : List Block) (epochs : List EpochFindings) → length owns ≡ length searches
-      → AdmitsFrom m.delays rules before owns searches blocks → BlocksFitCover m rules.outliers searches blocks → AreEpochsFound ws blocks epochs
+  epochs_true : (before : Option ℕ) (owns : List OwnLines) (searches : List Search) (blocks : List Block) (epochs : List EpochFindings)
+      → length owns ≡ length searches
+      → AdmitsFrom m.delays rules before owns searches blocks
+      → BlocksFitCover m rules.outliers searches blocks → AreEpochsFound ws blocks epochs
       → AreEpochsTrue m rules.outliers ws searches epochs
   epochs_true before owns [] [] [] each admits cover are = tt
   epochs_true before owns [] [] (e ∷ epochs) each admits cover are = absurd are
@@ -144,7 +164,8 @@ module _ (m : Meaning) (rules : Rules) (ws : List WatchValue) where
     epochs_true (Some block.index) owns rest more epochs (omega (arith, each)) admits.2 cover.1 are.1,
   )
 
-  pub accepted_true : (searches : List Search) (log : LogValue) (boxes : ℕ) (epochs : List EpochFindings) → IsAccepted m searches rules log boxes
+  pub accepted_true : (searches : List Search) (log : LogValue) (boxes : ℕ) (epochs : List EpochFindings)
+      → IsAccepted m searches rules log boxes
       → AreEpochsFound ws log.blocks epochs → AreEpochsTrue m rules.outliers ws searches epochs
   accepted_true searches log boxes epochs accepted are =
       epochs_true None accepted.owns searches log.blocks epochs accepted.admissible.each accepted.admissible.admits.blocks accepted.cover are
@@ -182,8 +203,10 @@ module _ (tracked : Bool) (chosen : Selection) (g : Guarded) (boxes : ℕ) (acce
 
 -- ---- a verdict that is known
 
-pub yes_of : (v : Verdict) (boxes : ℕ) (P : ℕ → Type 0) → v ≡ verdict.Yes boxes → IfYes v P → P boxes
+pub yes_of : (v : Verdict) (boxes : ℕ) (P : ℕ → Type 0) → v ≡ verdict.Yes boxes → IfYes v P
+    → P boxes
 yes_of v boxes P is holds = subst (λ (w : Verdict). IfYes w P) is holds
 
-pub no_of : (v : Verdict) (fault : Fault) (P : Fault → Type 0) → v ≡ verdict.No fault → IfNo v P → P fault
+pub no_of : (v : Verdict) (fault : Fault) (P : Fault → Type 0) → v ≡ verdict.No fault → IfNo v P
+    → P fault
 no_of v fault P is holds = subst (λ (w : Verdict). IfNo w P) is holds

@@ -149,7 +149,8 @@ module _ (moving : Bool) (limits : Limits) (names : words.Files) (bytes : List �
     at_log r reads = subst (λ (f : Option (Option (List ℕ))).
         ReadsFile log_text limits.log NeverBreaks f r) log_there reads
 
-    read_again : (v : CheckedValue) → ReadsCheckedFor moving limits names NeverBreaks (Some later) (Ok v)
+    read_again : (v : CheckedValue)
+        → ReadsCheckedFor moving limits names NeverBreaks (Some later) (Ok v)
         → IsReadAgain v
     read_again v (inr (n, is, e)) = cc
     read_again v (inl (w, is, inr (n, has, e))) = cc
@@ -158,7 +159,8 @@ module _ (moving : Bool) (limits : Limits) (names : words.Files) (bytes : List �
         subst IsReadAgain (sym made)
         (record { inputs = same_inputs w is; text = log_is value (at_log (Ok value) has) })
 
-    read_ends : (n : Notice) → ReadsCheckedFor moving limits names NeverBreaks (Some later) (Err n) → ⊥
+    read_ends : (n : Notice) → ReadsCheckedFor moving limits names NeverBreaks (Some later) (Err n)
+        → ⊥
     read_ends n (inr (k, is, e)) = inputs_read k is
     read_ends n (inl (w, is, inr (k, has, e))) = log_read k (at_log (Err k) has)
     read_ends n (inl (w, is, inl (value, has, e))) = cc

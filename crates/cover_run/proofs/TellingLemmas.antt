@@ -65,7 +65,8 @@ judged_known log s (inr (e, wrong)) usage = cc
 -- ---- a verdict of a checker
 
 module _ (Yes No Said Denied : List ℕ → Type 0) (before after : Sinks) (reliable : Type 0) (yes : (line : List ℕ) → Yes line → Said line) (no : (line : List ℕ) → No line → Denied line) where
-  pub tells_as : (s : Status) → Tells Yes No before after reliable s → Tells Said Denied before after reliable s
+  pub tells_as : (s : Status) → Tells Yes No before after reliable s
+      → Tells Said Denied before after reliable s
   tells_as status.Done told = (told.0, yes told.0 told.1, told.2)
   tells_as status.No told = (told.0, no told.0 told.1, told.2)
   tells_as status.WriteFault (line, inl says, breaks) = (line, inl (yes line says), breaks)
@@ -77,30 +78,36 @@ module _ (Yes No Said Denied : List ℕ → Type 0) (before after : Sinks) (reli
   tells_as status.LogFull told = told
 
 -- a verdict of which more is known
-yes_as_of : (v : Verdict) (P Q : ℕ → Type 0) → ((boxes : ℕ) → P boxes → Q boxes) → IfYes v P → IfYes v Q
+yes_as_of : (v : Verdict) (P Q : ℕ → Type 0) → ((boxes : ℕ) → P boxes → Q boxes) → IfYes v P
+    → IfYes v Q
 yes_as_of (verdict.Yes boxes) P Q on holds = on boxes holds
 yes_as_of (verdict.No fault) P Q on holds = tt
 
-no_as_of : (v : Verdict) (P Q : Fault → Type 0) → ((fault : Fault) → P fault → Q fault) → IfNo v P → IfNo v Q
+no_as_of : (v : Verdict) (P Q : Fault → Type 0) → ((fault : Fault) → P fault → Q fault) → IfNo v P
+    → IfNo v Q
 no_as_of (verdict.Yes boxes) P Q on holds = tt
 no_as_of (verdict.No fault) P Q on holds = on fault holds
 
-pub yes_as : (told : Result Verdict NoMemory) (P Q : ℕ → Type 0) → ((boxes : ℕ) → P boxes → Q boxes) → IfOk told (λ v. IfYes v P) → IfOk told (λ v. IfYes v Q)
+pub yes_as : (told : Result Verdict NoMemory) (P Q : ℕ → Type 0) → ((boxes : ℕ) → P boxes → Q boxes)
+    → IfOk told (λ v. IfYes v P) → IfOk told (λ v. IfYes v Q)
 yes_as (Ok v) P Q on holds = yes_as_of v P Q on holds
 yes_as (Err e) P Q on holds = tt
 
-pub no_as : (told : Result Verdict NoMemory) (P Q : Fault → Type 0) → ((fault : Fault) → P fault → Q fault) → IfOk told (λ v. IfNo v P) → IfOk told (λ v. IfNo v Q)
+pub no_as : (told : Result Verdict NoMemory) (P Q : Fault → Type 0)
+    → ((fault : Fault) → P fault → Q fault) → IfOk told (λ v. IfNo v P) → IfOk told (λ v. IfNo v Q)
 no_as (Ok v) P Q on holds = no_as_of v P Q on holds
 no_as (Err e) P Q on holds = tt
 
 -- what holds of each yes and of each no, of the lines that say so
 module _ (verdict : Result Verdict NoMemory) where
-  pub said_yes : (Accepts : ℕ → Type 0) → IfOk verdict (λ v. IfYes v Accepts) → (line : List ℕ) → SaysYes verdict line
+  pub said_yes : (Accepts : ℕ → Type 0) → IfOk verdict (λ v. IfYes v Accepts) → (line : List ℕ)
+      → SaysYes verdict line
       → (boxes : ℕ) × Accepts boxes × (line ≡ yes_text boxes)
   said_yes Accepts holds line (boxes, is, e) =
       (boxes, subst (λ (r : Result Verdict NoMemory). IfOk r (λ v. IfYes v Accepts)) is holds, e)
 
-  pub said_no : (Refuses : Fault → Type 0) → IfOk verdict (λ v. IfNo v Refuses) → (line : List ℕ) → SaysNo verdict line
+  pub said_no : (Refuses : Fault → Type 0) → IfOk verdict (λ v. IfNo v Refuses) → (line : List ℕ)
+      → SaysNo verdict line
       → (fault : Fault) × Refuses fault × (line ≡ fault_text fault)
   said_no Refuses holds line (fault, is, e) =
       (fault, subst (λ (r : Result Verdict NoMemory). IfOk r (λ v. IfNo v Refuses)) is holds, e)

@@ -46,24 +46,29 @@ abbrev pub told_of : Option ℕ → List ℕ
 told_of None = []
 told_of (Some index) = lost_line index
 
-some_hull : (hull : GridBox) (parts : List GridBox) → (h : GridBox) × (hull_behind (Some hull) parts ≡ Some h)
+some_hull : (hull : GridBox) (parts : List GridBox)
+    → (h : GridBox) × (hull_behind (Some hull) parts ≡ Some h)
 some_hull hull [] = (hull, refl)
 some_hull hull (part ∷ parts) = some_hull (joined_box hull part) parts
 
-lost_is : (few : Bool) (parts : List GridBox) (index : ℕ) → told_of (left.lost_with index few (hull_of parts)) ≡ lost_with few parts index
+lost_is : (few : Bool) (parts : List GridBox) (index : ℕ)
+    → told_of (left.lost_with index few (hull_of parts)) ≡ lost_with few parts index
 lost_is true parts index = refl
 lost_is false [] index = refl
 lost_is false (part ∷ parts) index = let (h, is) = some_hull part parts in rw is refl
 
-same_few : (Runs : Block → Body → Type 0) (block : Block) (given body : Option Body) → BodyExtends Runs block given body → is_none given ≡ is_none body
+same_few : (Runs : Block → Body → Type 0) (block : Block) (given body : Option Body)
+    → BodyExtends Runs block given body → is_none given ≡ is_none body
 same_few Runs block None None is = refl
 same_few Runs block None (Some body) is = absurd is
 same_few Runs block (Some given) None is = absurd is
 same_few Runs block (Some given) (Some body) is = refl
 
 module _ (m : Meaning) (q : ℕ) (renews : Bool) (rules : Rules) where
-  lost_here : (old : TubeLeft) (hull : Option GridBox) (given block : Block) (next : TubeLeft) → of_tube m q old hull (Some given) next
-      → is_few given ≡ is_few block → block.index ≡ given.index → told_of (lost_of next.last (hull_kept block.body)) ≡ lost_in block
+  lost_here : (old : TubeLeft) (hull : Option GridBox) (given block : Block) (next : TubeLeft)
+      → of_tube m q old hull (Some given) next
+      → is_few given ≡ is_few block → block.index ≡ given.index
+      → told_of (lost_of next.last (hull_kept block.body)) ≡ lost_in block
   lost_here old hull given block next gave few index =
       let parts = cover_of block.body in
       ap (λ (l : Option Last). told_of (lost_of l (hull_kept block.body))) gave.last
@@ -71,14 +76,16 @@ module _ (m : Meaning) (q : ℕ) (renews : Bool) (rules : Rules) where
       ∙ lost_is (is_few given) parts given.index
       ∙ ap₂ (λ (f : Bool) (n : ℕ). lost_with f parts n) few (sym index)
 
-  came_lost : (old : TubeLeft) (hull : Option GridBox) (blocks : List Block) (behind : TubeLeft) → Came (source_of m q renews) rules old hull blocks behind
+  came_lost : (old : TubeLeft) (hull : Option GridBox) (blocks : List Block) (behind : TubeLeft)
+      → Came (source_of m q renews) rules old hull blocks behind
       → told_of (lost_of behind.last (hull_of_last hull blocks)) ≡ lost_behind (told_of (lost_of old.last hull)) blocks
   came_lost old hull [] behind came = ap (λ (l : TubeLeft). told_of (lost_of l.last hull)) (sym came)
   came_lost old hull (block ∷ blocks) behind (given, next, gave, paves, came) =
       came_lost next (hull_kept block.body) blocks behind came
       ∙ ap (λ (line : List ℕ). lost_behind line blocks) (lost_here old hull given block next gave (same_few (HasRun ((source_of m q renews).maker next) rules) block given.body block.body paves.body) paves.index)
 
-  pub whole_lost : (first last : TubeLeft) (limit : ℕ) (bytes said : List ℕ) → first.last ≡ None → (w : IsWhole (source_of m q renews) rules first last limit bytes said)
+  pub whole_lost : (first last : TubeLeft) (limit : ℕ) (bytes said : List ℕ) → first.last ≡ None
+      → (w : IsWhole (source_of m q renews) rules first last limit bytes said)
       → told_of last.lost ≡ lost_text w.log.blocks
   whole_lost first last limit bytes said none w =
       ap told_of w.no_more.lost
@@ -102,7 +109,8 @@ track_log log =
     log_bytes-append (pieces_with log None) (lost_pieces None log.blocks) ∙ append-nil (log_bytes (pieces_with log None))
     ∙ ap log_bytes (append-nil (log_pieces log))
 
-track_report : (log : LogValue) → report_bytes (track_pieces log) ≡ report_bytes (log_pieces log) ++ lost_text log.blocks
+track_report : (log : LogValue)
+    → report_bytes (track_pieces log) ≡ report_bytes (log_pieces log) ++ lost_text log.blocks
 track_report log =
     report_bytes-append (pieces_with log None) (lost_pieces None log.blocks)
     ∙ ap (λ (l : List ℕ). report_bytes (pieces_with log None) ++ l) (append-nil (lost_text log.blocks))
@@ -126,7 +134,8 @@ module _ {B : Type 0} (source : Source B) (rules : Rules) (first last : B) (limi
       (ap (λ (l : LogValue). report_bytes (log_pieces l)) (sym log_is) ∙ pieces_report w.log ∙ sym w.report)
 
   -- a write failed behind the first bytes of the line
-  lost_broke : (k : ℕ) → BrokeOff limit (track_pieces log) why.Out bytes (report ++ take k (lost_text w.log.blocks))
+  lost_broke : (k : ℕ)
+      → BrokeOff limit (track_pieces log) why.Out bytes (report ++ take k (lost_text w.log.blocks))
   lost_broke k = record {
     text = track_pieces log;
     more = [];
@@ -137,7 +146,8 @@ module _ {B : Type 0} (source : Source B) (rules : Rules) (first last : B) (limi
 
 -- ---- what became of the world
 
-taking_both : (x y : List ℕ) (o : Option SinkTold) → option_map (taking y) (option_map (taking x) o) ≡ option_map (taking (x ++ y)) o
+taking_both : (x y : List ℕ) (o : Option SinkTold)
+    → option_map (taking y) (option_map (taking x) o) ≡ option_map (taking (x ++ y)) o
 taking_both x y None = refl
 taking_both x y (Some t) = ap (λ (bs : List ℕ). Some (record t { bytes = bs })) (append_assoc t.bytes x y)
 
@@ -145,7 +155,8 @@ taking_none : (o : Option SinkTold) → option_map (taking []) o ≡ o
 taking_none None = refl
 taking_none (Some t) = ap (λ (bs : List ℕ). Some (record t { bytes = bs })) (append-nil t.bytes)
 
-pub taken_both : (a b c : SinkState) (x y : List ℕ) → TakenBy a b x → TakenBy b c y → TakenBy a c (x ++ y)
+pub taken_both : (a b c : SinkState) (x y : List ℕ) → TakenBy a b x → TakenBy b c y
+    → TakenBy a c (x ++ y)
 taken_both a b c x y first second = second ∙ ap (option_map (taking y)) first ∙ taking_both x y a.told
 
 module _ (m : Meaning) (q : ℕ) (renews : Bool) (i : Inputs) (first last : TubeLeft) (none : first.last ≡ None) (limit most : ℕ) (name : List ℕ) (before mid : World) (was : Trust) where
@@ -155,7 +166,8 @@ module _ (m : Meaning) (q : ℕ) (renews : Bool) (i : Inputs) (first last : Tube
   abbrev OfTrack : Answer → (bytes said : List ℕ) → Type 0
   OfTrack = IsTrackText (source_of m q renews) i first last limit
 
-  begun_text : (bytes said : List ℕ) (fault : _) → OfTube (Err fault) bytes said → OfTrack (Err fault) bytes said
+  begun_text : (bytes said : List ℕ) (fault : _) → OfTube (Err fault) bytes said
+      → OfTrack (Err fault) bytes said
   begun_text bytes said fault b = record {
     blocks = b.blocks;
     behind = b.behind;
@@ -166,7 +178,9 @@ module _ (m : Meaning) (q : ℕ) (renews : Bool) (i : Inputs) (first last : Tube
   }
 
   module _ (s : Status) (wrote : WritesLog name before mid was [] limit most OfTube s) where
-    as_track : (answer : Answer) → s ≡ status_of_writing limit answer → OfTrack answer wrote.bytes wrote.said → HasRoom limit most answer → SaysEnd name before mid was limit answer
+    as_track : (answer : Answer) → s ≡ status_of_writing limit answer
+        → OfTrack answer wrote.bytes wrote.said → HasRoom limit most answer
+        → SaysEnd name before mid was limit answer
         → WritesLog name before mid was [] limit most OfTrack s
     as_track answer is text room ends = record {
       answer = answer;
@@ -181,13 +195,17 @@ module _ (m : Meaning) (q : ℕ) (renews : Bool) (i : Inputs) (first last : Tube
       ends = ends;
     }
 
-    not_whole : (answer : Answer) → s ≢ status.Done → s ≡ status_of_writing limit answer → OfTube answer wrote.bytes wrote.said → HasRoom limit most answer
-        → SaysEnd name before mid was limit answer → WritesLog name before mid was [] limit most OfTrack s
+    not_whole : (answer : Answer) → s ≢ status.Done → s ≡ status_of_writing limit answer
+        → OfTube answer wrote.bytes wrote.said → HasRoom limit most answer
+        → SaysEnd name before mid was limit answer
+        → WritesLog name before mid was [] limit most OfTrack s
     not_whole (Ok done) other is text room ends = absurd (other is)
     not_whole (Err fault) other is text room ends = as_track (Err fault) is (begun_text wrote.bytes wrote.said fault text) room ends
 
   -- the log wasn't written to its end
-  pub broken_off : (s : Status) → s ≢ status.Done → Writes name before mid was [] limit most OfTube s → Writes name before mid was [] limit most OfTrack s
+  pub broken_off : (s : Status) → s ≢ status.Done
+      → Writes name before mid was [] limit most OfTube s
+      → Writes name before mid was [] limit most OfTrack s
   broken_off s other (inl created) = inl created
   broken_off s other (inr wrote) = inr (not_whole s wrote wrote.answer other wrote.status wrote.text wrote.room wrote.ends)
 
@@ -203,7 +221,8 @@ module _ (m : Meaning) (q : ℕ) (renews : Bool) (i : Inputs) (first last : Tube
       line = lost_text w.log.blocks
 
       -- with this behind the report
-      told_whole : (more : List ℕ) → more ≡ line → s ≡ status.Done → TakenBy mid.out out more → err ≡ mid.err → WritesLog name before after trust [] limit most OfTrack s
+      told_whole : (more : List ℕ) → more ≡ line → s ≡ status.Done → TakenBy mid.out out more
+          → err ≡ mid.err → WritesLog name before after trust [] limit most OfTrack s
       told_whole more is ends takes quiet = record {
         answer = Ok tt;
         status = ends;
@@ -217,7 +236,8 @@ module _ (m : Meaning) (q : ℕ) (renews : Bool) (i : Inputs) (first last : Tube
         ends = quiet ∙ same;
       }
 
-      told_front : (k : ℕ) → s ≡ status.WriteFault → TakenBy mid.out out (take k line) → Rose mid.out.faults out.faults → (trust.out → ⊥) → Says mid.err err notice.OutFault
+      told_front : (k : ℕ) → s ≡ status.WriteFault → TakenBy mid.out out (take k line)
+          → Rose mid.out.faults out.faults → (trust.out → ⊥) → Says mid.err err notice.OutFault
           → WritesLog name before after trust [] limit most OfTrack s
       told_front k ends takes rose unreliable says = record {
         answer = Err why.Out;
@@ -239,7 +259,9 @@ module _ (m : Meaning) (q : ℕ) (renews : Bool) (i : Inputs) (first last : Tube
         ends = (subst (λ (e : SinkState). Says e err notice.OutFault) same says, (omega (arith, rose, later), unreliable));
       }
 
-      told_so : (lost : Option ℕ) → told_of lost ≡ line → TellsLost lost (sinks mid.out mid.err) (sinks out err) trust.out s → WritesLog name before after trust [] limit most OfTrack s
+      told_so : (lost : Option ℕ) → told_of lost ≡ line
+          → TellsLost lost (sinks mid.out mid.err) (sinks out err) trust.out s
+          → WritesLog name before after trust [] limit most OfTrack s
       told_so None is (ends, stays) =
           told_whole [] is ends
           (ap (λ (b : Sinks). b.out.told) stays ∙ sym (taking_none mid.out.told)) (ap (λ (b : Sinks). b.err) stays)
@@ -247,8 +269,10 @@ module _ (m : Meaning) (q : ℕ) (renews : Bool) (i : Inputs) (first last : Tube
       told_so (Some index) is (inr (ends, breaks)) =
           told_front breaks.prefix.0 ends (subst (λ (l : List ℕ). TakenBy mid.out out (take breaks.prefix.0 l)) is breaks.prefix.2) breaks.rose breaks.unreliable breaks.said
 
-    by_answer : (t : Status) (wrote : WritesLog name before mid was [] limit most OfTube t) (answer : Answer) → t ≡ status.Done → t ≡ status_of_writing limit answer
-        → OfTube answer wrote.bytes wrote.said → SaysEnd name before mid was limit answer → TellsLost last.lost (sinks mid.out mid.err) (sinks out err) trust.out s
+    by_answer : (t : Status) (wrote : WritesLog name before mid was [] limit most OfTube t) (answer : Answer)
+        → t ≡ status.Done → t ≡ status_of_writing limit answer
+        → OfTube answer wrote.bytes wrote.said → SaysEnd name before mid was limit answer
+        → TellsLost last.lost (sinks mid.out mid.err) (sinks out err) trust.out s
         → WritesLog name before after trust [] limit most OfTrack s
     by_answer t wrote (Ok all) is ends w same told =
         told_so t wrote w same last.lost (whole_lost m q renews i.settings.rules first last limit wrote.bytes wrote.said none w) told
@@ -257,15 +281,19 @@ module _ (m : Meaning) (q : ℕ) (renews : Bool) (i : Inputs) (first last : Tube
     by_answer t wrote (Err why.Full) is ends text end told = cc
     by_answer t wrote (Err why.NoMemory) is ends text end told = cc
 
-    pub told_lost : (t : Status) → t ≡ status.Done → Writes name before mid was [] limit most OfTube t
-        → TellsLost last.lost (sinks mid.out mid.err) (sinks out err) trust.out s → Writes name before after trust [] limit most OfTrack s
+    pub told_lost : (t : Status) → t ≡ status.Done
+        → Writes name before mid was [] limit most OfTube t
+        → TellsLost last.lost (sinks mid.out mid.err) (sinks out err) trust.out s
+        → Writes name before after trust [] limit most OfTrack s
     told_lost t is (inl created) told = let e : t ≡ status.WriteFault = created.status in cc
     told_lost t is (inr wrote) told = inr (by_answer t wrote wrote.answer is wrote.status wrote.text wrote.ends told)
 
 -- ---- a source, rules and a key that are known
 
-pub text_known : (m n : Meaning) (given rules : Rules) (asked renews : Bool) (first here last : TubeLeft) (limit : ℕ) (answer : Answer) (bytes said : List ℕ) → n ≡ m → given ≡ rules → asked ≡ renews → first ≡ here
-    → IsText (source_of n given.outliers asked) rules first last limit answer bytes said → IsText (source_of m rules.outliers renews) rules here last limit answer bytes said
+pub text_known : (m n : Meaning) (given rules : Rules) (asked renews : Bool) (first here last : TubeLeft) (limit : ℕ) (answer : Answer) (bytes said : List ℕ)
+    → n ≡ m → given ≡ rules → asked ≡ renews → first ≡ here
+    → IsText (source_of n given.outliers asked) rules first last limit answer bytes said
+    → IsText (source_of m rules.outliers renews) rules here last limit answer bytes said
 text_known m n given rules asked renews first here last limit answer bytes said same are is begins text =
     subst (λ (l : TubeLeft). IsText (source_of m rules.outliers renews) rules l last limit answer bytes said) begins
     (subst (λ (b : Bool). IsText (source_of m rules.outliers b) rules first last limit answer bytes said) is
@@ -276,8 +304,11 @@ text_known m n given rules asked renews first here last limit answer bytes said 
 
 -- its text is that of a log that all own lines admit, that covers what fits, and that leaves nothing
 -- clear; and a receiver is found by it
-pub track_of : (chosen : Selection) (i : Inputs) (search : GridBox) (speed : ℕ) (last : TubeLeft) (limit : ℕ) (answer : Answer) (bytes said : List ℕ) → IsTubeOf i search speed
-    → AllDistinctIf i.settings.renew (epochs_of chosen i) → IsTrackText (tube_source i) i (left_in search speed (epochs_of chosen i)) last limit answer bytes said → IsTrack chosen i limit answer bytes said
+pub track_of : (chosen : Selection) (i : Inputs) (search : GridBox) (speed : ℕ) (last : TubeLeft) (limit : ℕ) (answer : Answer) (bytes said : List ℕ)
+    → IsTubeOf i search speed
+    → AllDistinctIf i.settings.renew (epochs_of chosen i)
+    → IsTrackText (tube_source i) i (left_in search speed (epochs_of chosen i)) last limit answer bytes said
+    → IsTrack chosen i limit answer bytes said
 track_of chosen i search speed last limit (Ok done) bytes said is_tube distinct track =
     let m = meaning_of i in
     let sound = both_sound i.nav i.settings in

@@ -9,7 +9,8 @@ use Rattle.std.proofs.lemmas.Bool.{and_from}
 use Rattle.decimal_digits.specs.Digits.{last_digits}
 
 -- the first of them, and the others
-pub digits_more : (k n : ℕ) → 0 < k → last_digits k n ≡ (48 + n / 10 ^ (k - 1) % 10) ∷ last_digits (k - 1) n
+pub digits_more : (k n : ℕ) → 0 < k
+    → last_digits k n ≡ (48 + n / 10 ^ (k - 1) % 10) ∷ last_digits (k - 1) n
 unfolding last_digits
 digits_more zero n some = absurd (omega arith)
 digits_more (suc k) n some =

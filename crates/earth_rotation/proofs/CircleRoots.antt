@@ -24,7 +24,8 @@ greatest_circle = unit * unit + 16 * unit
 
 -- ---- it is held
 
-square_left : (s c : ℤ) (l h : ℕ) → NearCircle s c → l ≤ square (nat_abs s) → square (nat_abs s) ≤ h → (least_circle - h ≤ nat_abs c * nat_abs c) × (nat_abs c * nat_abs c ≤ greatest_circle - l)
+square_left : (s c : ℤ) (l h : ℕ) → NearCircle s c → l ≤ square (nat_abs s) → square (nat_abs s) ≤ h
+    → (least_circle - h ≤ nat_abs c * nat_abs c) × (nat_abs c * nat_abs c ≤ greatest_circle - l)
 square_left s c l h n p q = (omega (arith, ints, n.below, n.above, square_of_amount s, square_of_amount c), omega (arith, ints, n.below, n.above, square_of_amount s, square_of_amount c))
 
 own_root : (v : ℕ) → IsRoot (v * v) v
@@ -33,7 +34,10 @@ own_root v = record { square_le = omega arith; next_square_gt = omega arith }
 natural : (c : ℤ) → pos 0 ≤ℤ c → pos (nat_abs c) ≡ c
 natural c h = omega (arith, ints)
 
-pub circle_held : (lo hi s c a b : ℤ) (l h : ℕ) → l ≡ least_square lo hi → h ≡ greatest_square lo hi → a ≡ grain_floor (pos 1) (pos (root (least_circle - h))) → b ≡ grain_ceil (pos 1) (pos (root (greatest_circle - l))) → Between lo hi s → pos 0 ≤ℤ c → NearCircle s c → Between a b c
+pub circle_held : (lo hi s c a b : ℤ) (l h : ℕ) → l ≡ least_square lo hi → h ≡ greatest_square lo hi
+    → a ≡ grain_floor (pos 1) (pos (root (least_circle - h)))
+    → b ≡ grain_ceil (pos 1) (pos (root (greatest_circle - l))) → Between lo hi s → pos 0 ≤ℤ c
+    → NearCircle s c → Between a b c
 circle_held lo hi s c a b l h el eh ea eb i n k =
     let q = square_between lo hi s i in
     let r = square_left s c l h k (omega (arith, q.0)) (omega (arith, q.1)) in
@@ -42,22 +46,29 @@ circle_held lo hi s c a b l h el eh ea eb i n k =
 
 -- ---- it is narrow
 
-square_after : (x d w : ℕ) → d ≤ w → x + d ≤ sine_amount → (x + d) * (x + d) ≤ x * x + 2 * sine_amount * w
+square_after : (x d w : ℕ) → d ≤ w → x + d ≤ sine_amount
+    → (x + d) * (x + d) ≤ x * x + 2 * sine_amount * w
 square_after x d w h k = let m = mul-le d (x + (x + d)) w (2 * sine_amount) h (omega arith) in omega (arith, m)
 
-squares_apart : (x y w : ℕ) → x ≤ y → y ≤ x + w → y ≤ sine_amount → y * y ≤ x * x + 2 * sine_amount * w
+squares_apart : (x y w : ℕ) → x ≤ y → y ≤ x + w → y ≤ sine_amount
+    → y * y ≤ x * x + 2 * sine_amount * w
 squares_apart x y w h k m =
     let e : y ≡ x + (y - x) = omega arith in
     subst (λ (z : ℕ). z * z ≤ x * x + 2 * sine_amount * w) (sym e) (square_after x (y - x) w (omega arith) (omega arith))
 
 -- the root is at least one half
-root_great : (h v : ℕ) → h ≤ sine_amount * sine_amount → least_circle - h < (v + 1) * (v + 1) → 5 * 10 ^ 15 ≤ v + 1
+root_great : (h v : ℕ) → h ≤ sine_amount * sine_amount → least_circle - h < (v + 1) * (v + 1)
+    → 5 * 10 ^ 15 ≤ v + 1
 root_great h v k r = grind (arith, square-mono (v + 1) (5 * 10 ^ 15), k, r)
 
-step_by : (v q xx yy w : ℕ) → 5 * 10 ^ 15 ≤ v + 1 → w < 5000 * (q + 1) → xx ≤ 10 ^ 24 → yy ≤ 10 ^ 24 → yy ≤ xx + 2 * sine_amount * w → least_circle - yy < (v + 1) * (v + 1) → greatest_circle - xx < (v + 1 + (q + 33)) * (v + 1 + (q + 33))
+step_by : (v q xx yy w : ℕ) → 5 * 10 ^ 15 ≤ v + 1 → w < 5000 * (q + 1) → xx ≤ 10 ^ 24 → yy ≤ 10 ^ 24
+    → yy ≤ xx + 2 * sine_amount * w → least_circle - yy < (v + 1) * (v + 1)
+    → greatest_circle - xx < (v + 1 + (q + 33)) * (v + 1 + (q + 33))
 step_by v q xx yy w g f i j k r = let m = mul-le (5 * 10 ^ 15) (q + 33) (v + 1) (q + 33) g (omega arith) in omega (arith, m, r)
 
-pub circle_spread : (w x y v u : ℕ) → x ≤ y → y ≤ x + w → y ≤ sine_amount → least_circle - y * y < (v + 1) * (v + 1) → u * u ≤ greatest_circle - x * x → u ≤ v + cosine_width w
+pub circle_spread : (w x y v u : ℕ) → x ≤ y → y ≤ x + w → y ≤ sine_amount
+    → least_circle - y * y < (v + 1) * (v + 1) → u * u ≤ greatest_circle - x * x
+    → u ≤ v + cosine_width w
 circle_spread w x y v u h k m r s =
     let a = square-mono y sine_amount m in
     let b = square-mono x y h in
@@ -68,13 +79,18 @@ circle_spread w x y v u h k m r s =
 value_fits : (n v : ℕ) → IsRoot n v → n ≤ greatest_circle → v ≤ cosine_amount
 value_fits n v r h = grind (arith, square-mono (cosine_amount + 1) v, r.square_le, h)
 
-cosine_by : (w u v : ℕ) (l h : ℤ) → l ≡ pos u → h ≡ pos v → u ≤ v → v ≤ cosine_amount → v ≤ u + w → Ends cosine_amount w l h
+cosine_by : (w u v : ℕ) (l h : ℤ) → l ≡ pos u → h ≡ pos v → u ≤ v → v ≤ cosine_amount → v ≤ u + w
+    → Ends cosine_amount w l h
 cosine_by w u v l h e f o k i = record { order = omega (arith, ints); low = record { low = omega (arith, ints); high = omega (arith, ints) }; high = record { low = omega (arith, ints); high = omega (arith, ints) }; width = omega (arith, ints) }
 
 amount_fits : (n w : ℕ) (lo hi : ℤ) → Ends n w lo hi → greatest_end lo hi ≤ n
 amount_fits n w lo hi e = let l = e.low in let h = e.high in omega (arith, ints, one_part lo, one_part hi)
 
-pub circle_ends : (w : ℕ) (lo hi a b : ℤ) (l h : ℕ) → Ends sine_amount w lo hi → l ≡ least_square lo hi → h ≡ greatest_square lo hi → a ≡ grain_floor (pos 1) (pos (root (least_circle - h))) → b ≡ grain_ceil (pos 1) (pos (root (greatest_circle - l))) → Ends cosine_amount (cosine_width w) a b
+pub circle_ends : (w : ℕ) (lo hi a b : ℤ) (l h : ℕ) → Ends sine_amount w lo hi
+    → l ≡ least_square lo hi → h ≡ greatest_square lo hi
+    → a ≡ grain_floor (pos 1) (pos (root (least_circle - h)))
+    → b ≡ grain_ceil (pos 1) (pos (root (greatest_circle - l)))
+    → Ends cosine_amount (cosine_width w) a b
 circle_ends w lo hi a b l h e el eh ea eb =
     let ra = root_is (least_circle - h) in
     let rb = root_is (greatest_circle - l) in

@@ -20,33 +20,46 @@ use Rattle.grid_model.proofs.SpreadRoots.{root_spread}
 abbrev pub offset_amount : ℕ
 offset_amount = 71 * 10 ^ 12
 
-side_ends : (lo hi : ℤ) → lo ≤ℤ hi → IsBoxSize lo → IsBoxSize hi → Ends (10 ^ 13) (above hi lo) lo hi
+side_ends : (lo hi : ℤ) → lo ≤ℤ hi → IsBoxSize lo → IsBoxSize hi
+    → Ends (10 ^ 13) (above hi lo) lo hi
 side_ends lo hi o l h = record { order = o; low = l; high = h; width = omega (arith, ints, above_is hi lo) }
 
 -- of a place from a to b and the points of a side from lo to hi, which an interval from s to t holds
-pub offset_ends : (w : ℕ) (a b s t lo hi l h : ℤ) → Ends turned_reach w a b → s ≡ lo → t ≡ hi → lo ≤ℤ hi → IsBoxSize lo → IsBoxSize hi → l ≡ a -ℤ t → h ≡ b -ℤ s → Ends offset_amount (w + above hi lo) l h
+pub offset_ends : (w : ℕ) (a b s t lo hi l h : ℤ) → Ends turned_reach w a b → s ≡ lo → t ≡ hi
+    → lo ≤ℤ hi → IsBoxSize lo → IsBoxSize hi → l ≡ a -ℤ t → h ≡ b -ℤ s
+    → Ends offset_amount (w + above hi lo) l h
 offset_ends w a b s t lo hi l h e i j o p q f g = rw (f, g, i, j) (difference_ends turned_reach w (10 ^ 13) (above hi lo) a b lo hi e (side_ends lo hi o p q))
 
 -- both ends are small enough to be squared
 pub offset_fits : (w : ℕ) (l h : ℤ) → Ends offset_amount w l h → Ends (2 ^ 47) w l h
 offset_fits w l h e = wider_ends offset_amount (2 ^ 47) w w l h (lit≤ tt) (omega arith) e
 
-pub offset_held : (a b s t lo hi l h x p : ℤ) → s ≡ lo → t ≡ hi → l ≡ a -ℤ t → h ≡ b -ℤ s → Between a b x → lo ≤ℤ p → p ≤ℤ hi → Between l h (x -ℤ p)
+pub offset_held : (a b s t lo hi l h x p : ℤ) → s ≡ lo → t ≡ hi → l ≡ a -ℤ t → h ≡ b -ℤ s
+    → Between a b x → lo ≤ℤ p → p ≤ℤ hi → Between l h (x -ℤ p)
 offset_held a b s t lo hi l h x p d e f g i j k = record { from = omega (arith, ints, i.from); to = omega (arith, ints, i.to) }
 
 -- ---- squares
 
-pub squares_fit : (xl xh yl yh zl zh : ℤ) → IsWithin offset_amount xl → IsWithin offset_amount xh → IsWithin offset_amount yl → IsWithin offset_amount yh → IsWithin offset_amount zl → IsWithin offset_amount zh → greatest_square xl xh + greatest_square yl yh + greatest_square zl zh ≤ 3 * (offset_amount * offset_amount)
+pub squares_fit : (xl xh yl yh zl zh : ℤ) → IsWithin offset_amount xl → IsWithin offset_amount xh
+    → IsWithin offset_amount yl → IsWithin offset_amount yh → IsWithin offset_amount zl
+    → IsWithin offset_amount zh
+    → greatest_square xl xh + greatest_square yl yh + greatest_square zl zh ≤ 3 * (offset_amount * offset_amount)
 squares_fit xl xh yl yh zl zh a b c d e f = omega (arith, greatest_square_le offset_amount xl xh a b, greatest_square_le offset_amount yl yh c d, greatest_square_le offset_amount zl zh e f)
 
 root_fits : (n v : ℕ) → IsRoot n v → n ≤ 3 * (offset_amount * offset_amount) → v ≤ range_amount
 root_fits n v r h = grind (arith, square-mono (range_amount + 1) v, r.square_le, h)
 
-range_by : (w u v : ℕ) (l h : ℤ) → l ≡ pos u → h ≡ pos v → u ≤ v → v ≤ range_amount → v ≤ u + w → Ends range_amount w l h
+range_by : (w u v : ℕ) (l h : ℤ) → l ≡ pos u → h ≡ pos v → u ≤ v → v ≤ range_amount → v ≤ u + w
+    → Ends range_amount w l h
 range_by w u v l h e f o k i = record { order = omega (arith, ints); low = record { low = omega (arith, ints); high = omega (arith, ints) }; high = record { low = omega (arith, ints); high = omega (arith, ints) }; width = omega (arith, ints) }
 
 -- the roots of the least and the greatest sum of squares
-pub range_ends : (w : ℕ) (xl xh yl yh zl zh l h : ℤ) (a b : ℕ) → Ends offset_amount w xl xh → Ends offset_amount w yl yh → Ends offset_amount w zl zh → a ≡ least_square xl xh + least_square yl yh + least_square zl zh → b ≡ greatest_square xl xh + greatest_square yl yh + greatest_square zl zh → l ≡ grain_floor (pos 1) (pos (root a)) → h ≡ grain_ceil (pos 1) (pos (root b)) → Ends range_amount (7 * w / 4 + 1) l h
+pub range_ends : (w : ℕ) (xl xh yl yh zl zh l h : ℤ) (a b : ℕ) → Ends offset_amount w xl xh
+    → Ends offset_amount w yl yh → Ends offset_amount w zl zh
+    → a ≡ least_square xl xh + least_square yl yh + least_square zl zh
+    → b ≡ greatest_square xl xh + greatest_square yl yh + greatest_square zl zh
+    → l ≡ grain_floor (pos 1) (pos (root a)) → h ≡ grain_ceil (pos 1) (pos (root b))
+    → Ends range_amount (7 * w / 4 + 1) l h
 range_ends w xl xh yl yh zl zh l h a b x y z ea eb el eh =
     let ra = root_is a in
     let rb = root_is b in

@@ -9,7 +9,8 @@ use Rattle.grid_model.specs.declared.boxes.Pos.{Pos}
 use Rattle.fix_interval.proofs.NearLemmas.{near_exists}
 use Rattle.interval_trig.proofs.Existence.{sine_exists, cosine_exists}
 
-turned_exists : (range : ℕ) (x y : ℤ) → (new_x : ℤ) × (new_y : ℤ) × IsTurnedOver range x y new_x new_y
+turned_exists : (range : ℕ) (x y : ℤ)
+    → (new_x : ℤ) × (new_y : ℤ) × IsTurnedOver range x y new_x new_y
 turned_exists range x y =
     let a = near_exists (pos earth_rate *ℤ pos range) (pos (light_speed * 10 ^ 12)) (record { lt = tt }) in
     let c = cosine_exists a.0 in

@@ -14,7 +14,8 @@ last_step (suc k) n =
     rw (place, last_step k n) refl
 
 -- a one in front of k digits
-pub behind_one : (k n : ℕ) → n < 10 ^ k → 10 ^ k + n < 2 ^ 64 → decimal (10 ^ k + n) ≡ 49 ∷ last_digits k n
+pub behind_one : (k n : ℕ) → n < 10 ^ k → 10 ^ k + n < 2 ^ 64
+    → decimal (10 ^ k + n) ≡ 49 ∷ last_digits k n
 unfolding last_digits
 behind_one zero n small fits =
     let none : n ≡ 0 = omega arith in
@@ -49,5 +50,6 @@ twelve_digits n =
     rw (a, b, c, d, e, f) refl
 
 -- the same with what is left of divisions by a million
-pub twelve_of_rest : (n : ℕ) → last_digits 6 (n / 1000000 % 1000000) ++ last_digits 6 (n % 1000000) ≡ last_digits 12 n
+pub twelve_of_rest : (n : ℕ)
+    → last_digits 6 (n / 1000000 % 1000000) ++ last_digits 6 (n % 1000000) ≡ last_digits 12 n
 twelve_of_rest n = (λ i. six_of_rest (n / 1000000) i ++ six_of_rest n i) ∙ sym (twelve_digits n)

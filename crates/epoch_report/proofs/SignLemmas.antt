@@ -13,7 +13,8 @@ four_behind line a b c d =
     append_assoc (line ++ a ++ b) c d ∙ append_assoc (line ++ a) b (c ++ d) ∙ append_assoc line a (b ++ (c ++ d))
 
 -- the whole metres, the point, and six digits, behind the sign
-metres_spelled : (um : ℤ) → sign_text (lt_z um (pos 0)) ++ (decimal (nat_abs um / 1000000) ++ ((46 ∷ []) ++ last_digits 6 (nat_abs um % 1000000)))
+metres_spelled : (um : ℤ)
+    → sign_text (lt_z um (pos 0)) ++ (decimal (nat_abs um / 1000000) ++ ((46 ∷ []) ++ last_digits 6 (nat_abs um % 1000000)))
     ≡ metres_text um
 unfolding metres_text
 metres_spelled (pos n) =
@@ -33,7 +34,8 @@ abbrev low : ℕ → List ℕ
 low n = last_digits 6 (n % 1000000)
 
 -- the whole seconds, the point, and two times six digits, behind a blank and the sign
-seconds_spelled : (ps : ℤ) → (32 ∷ sign_text (lt_z ps (pos 0))) ++ (decimal (nat_abs ps / 1000000000000) ++ ((46 ∷ []) ++ (high (nat_abs ps) ++ low (nat_abs ps))))
+seconds_spelled : (ps : ℤ)
+    → (32 ∷ sign_text (lt_z ps (pos 0))) ++ (decimal (nat_abs ps / 1000000000000) ++ ((46 ∷ []) ++ (high (nat_abs ps) ++ low (nat_abs ps))))
     ≡ 32 ∷ seconds_text ps
 unfolding seconds_text
 seconds_spelled (pos n) =

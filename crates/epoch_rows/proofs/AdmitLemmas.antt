@@ -45,7 +45,8 @@ record AgreeAt (delays : Delays) (entries : List SatEntry) (lines : List SatLine
   ours_at : slice_get lines k ≡ Some ours
   agree : LineAgrees delays theirs ours
 
-agree_at : (delays : Delays) (entries : List SatEntry) (lines : List SatLine) (k : ℕ) → AllAgree delays entries lines → k < length entries → AgreeAt delays entries lines k
+agree_at : (delays : Delays) (entries : List SatEntry) (lines : List SatLine) (k : ℕ)
+    → AllAgree delays entries lines → k < length entries → AgreeAt delays entries lines k
 agree_at delays [] [] k all within = absurd (omega arith)
 agree_at delays [] (line ∷ lines) k all within = absurd all
 agree_at delays (e ∷ entries) [] k all within = absurd all
@@ -54,7 +55,8 @@ agree_at delays (e ∷ entries) (line ∷ lines) (suc k) all within =
     let a = agree_at delays entries lines k all.1 (omega arith) in
     record { theirs = a.theirs; theirs_at = a.theirs_at; ours = a.ours; ours_at = a.ours_at; agree = a.agree }
 
-sats_pass : (delays : Delays) (entries : List SatEntry) (lines : List SatLine) → AllAgree delays entries lines → NoneRepeats entries → SatsPass delays entries lines
+sats_pass : (delays : Delays) (entries : List SatEntry) (lines : List SatLine)
+    → AllAgree delays entries lines → NoneRepeats entries → SatsPass delays entries lines
 sats_pass delays entries lines all once k within =
     let a = agree_at delays entries lines k all within in
     record {
@@ -62,7 +64,8 @@ sats_pass delays entries lines all once k within =
       passes = a.agree.passes;
     }
 
-as_many : (delays : Delays) (entries : List SatEntry) (lines : List SatLine) → AllAgree delays entries lines → length lines ≡ length entries
+as_many : (delays : Delays) (entries : List SatEntry) (lines : List SatLine)
+    → AllAgree delays entries lines → length lines ≡ length entries
 as_many delays [] [] all = refl
 as_many delays [] (line ∷ lines) all = absurd all
 as_many delays (e ∷ entries) [] all = absurd all
@@ -78,7 +81,9 @@ record IsRunOver (maker : Maker) (rules : Rules) (delays : Delays) (root : GridB
   run : HasRun maker rules block body
 
 run_over : (maker : Maker) (rules : Rules) (delays : Delays) (root : GridBox) (own : List SatLine) (sats : List SatEntry) (block : Block) (given : Option Body) (body : Body)
-    → HasBody delays root own sats given → block.sats ≡ sats → BodyExtends (HasRun maker rules) block given (Some body) → IsRunOver maker rules delays root own block body
+    → HasBody delays root own sats given → block.sats ≡ sats
+    → BodyExtends (HasRun maker rules) block given (Some body)
+    → IsRunOver maker rules delays root own block body
 run_over maker rules delays root own sats block None body has same is = absurd is
 run_over maker rules delays root own sats block (Some given) body has same is = record {
   same_root = is.0 ∙ ap (λ (b : Body). b.root) has.1;
@@ -99,8 +104,10 @@ boxes_of (search ∷ rest) points = (points.0.box, boxes_of rest points.1)
 -- by what a source says of satellites
 module _ (m : Meaning) (sound : IsSound m) (renews : Bool) (rules : Rules) where
   module _ (search : Search) (has : HasPoint search.root) where
-    sats_agree : (own other : List SatLine) (sats : List SatEntry) (body : Option Body) → AreLinesOf m search.root search.epoch own → AreLinesOf m search.root search.epoch other
-        → HasBody m.delays search.root own sats body → AllAgree m.delays sats (expected (is_none body) other)
+    sats_agree : (own other : List SatLine) (sats : List SatEntry) (body : Option Body)
+        → AreLinesOf m search.root search.epoch own → AreLinesOf m search.root search.epoch other
+        → HasBody m.delays search.root own sats body
+        → AllAgree m.delays sats (expected (is_none body) other)
     sats_agree own other sats None a b body =
         rw body (skips_agree m sound search.root search.epoch.tag has search.epoch.sats.items own other a b)
     sats_agree own other sats (Some given) a b body =
@@ -116,11 +123,13 @@ module _ (m : Meaning) (sound : IsSound m) (renews : Bool) (rules : Rules) where
       same_few : is_few block ≡ is_few s.given
       same_few = same_few (HasRun (maker_of m renews (Some (hand_of search s.given))) rules) block s.given.body block.body s.made.body
 
-      block_agrees : (other : List SatLine) → AreLinesOf m search.root search.epoch other → AllAgree m.delays block.sats (expected (is_few block) other)
+      block_agrees : (other : List SatLine) → AreLinesOf m search.root search.epoch other
+          → AllAgree m.delays block.sats (expected (is_few block) other)
       block_agrees other are = rw (s.made.sats, same_few) (sats_agree s.grown.own other s.given.sats s.given.body s.grown.are_own are s.grown.body)
 
       -- its body is that of a run over the rows that were given
-      run_of : (body : Body) → block.body ≡ Some body → IsRunOver (maker_of m renews (Some (hand_of search s.given))) rules m.delays search.root s.grown.own block body
+      run_of : (body : Body) → block.body ≡ Some body
+          → IsRunOver (maker_of m renews (Some (hand_of search s.given))) rules m.delays search.root s.grown.own block body
       run_of body is =
           let maker = maker_of m renews (Some (hand_of search s.given)) in
           run_over maker rules m.delays search.root s.grown.own s.given.sats block s.given.body body s.grown.body s.made.sats
@@ -143,7 +152,8 @@ module _ (m : Meaning) (sound : IsSound m) (renews : Bool) (rules : Rules) where
           (λ new given i row at. row_at m search block.sats other passes.sats names hand refl usable new.part i row (row_given maker rules new.part new.rows i row given.rows at))
           (run_given maker rules block body r.run)
 
-      body_at : (own : OwnLines) → IsOwnOf m search (renewals_of block.body) own → (theirs : Option Body) → block.body ≡ theirs → BodyPasses rules block theirs
+      body_at : (own : OwnLines) → IsOwnOf m search (renewals_of block.body) own
+          → (theirs : Option Body) → block.body ≡ theirs → BodyPasses rules block theirs
           → BodyPassesAt m.delays rules search.root own.renewed block theirs
       body_at own are None is pass = tt
       body_at own are (Some body) is pass =
@@ -157,14 +167,17 @@ module _ (m : Meaning) (sound : IsSound m) (renews : Bool) (rules : Rules) where
           )
 
       -- a renewal has a row for each that counts
-      renewed_counts : (theirs : Option Body) → block.body ≡ theirs → CountsRows (is_none theirs) block.n block.sats → AllByRecursion (λ new. length new.rows ≡ block.n) (renewals_of theirs)
+      renewed_counts : (theirs : Option Body) → block.body ≡ theirs
+          → CountsRows (is_none theirs) block.n block.sats
+          → AllByRecursion (λ new. length new.rows ≡ block.n) (renewals_of theirs)
       renewed_counts None is counts = tt
       renewed_counts (Some body) is counts =
           let maker = maker_of m renews (Some (hand_of search s.given)) in
           let r = run_of body is in
           each_as (IsGiven maker rules (length (rows_of block.sats))) _ (renewals_in body.events) (λ new given. given.many ∙ counts) (run_given maker rules block body r.run)
 
-      epoch_passes : (own : OwnLines) → IsOwnOf m search (renewals_of block.body) own → EpochPasses m.delays rules search.root own block
+      epoch_passes : (own : OwnLines) → IsOwnOf m search (renewals_of block.body) own
+          → EpochPasses m.delays rules search.root own block
       epoch_passes own are =
           let all = block_agrees own.lines are.lines in
           record {
@@ -182,15 +195,19 @@ module _ (m : Meaning) (sound : IsSound m) (renews : Bool) (rules : Rules) where
       pub own_of_block : (own : OwnLines) × IsOwnOf m search (renewals_of block.body) own × HaveEachRow (renewals_of block.body) own.renewed
       own_of_block = own_behind block.body refl
         where
-          own_behind : (theirs : Option Body) → block.body ≡ theirs → (own : OwnLines) × IsOwnOf m search (renewals_of theirs) own × HaveEachRow (renewals_of theirs) own.renewed
+          own_behind : (theirs : Option Body) → block.body ≡ theirs
+              → (own : OwnLines) × IsOwnOf m search (renewals_of theirs) own × HaveEachRow (renewals_of theirs) own.renewed
           own_behind None is = (record { lines = s.grown.own; renewed = [] }, record { lines = s.grown.are_own; renewed = tt }, tt)
           own_behind (Some body) is =
               let r = run_of body is in
               let (renewed, are, whole) = own_renewed m search (usable_of search.epoch.sats.items s.grown.own) (renewals_in body.events) (rows_at s.grown.own s.grown.are_own body r) in
               (record { lines = s.grown.own; renewed = renewed }, record { lines = s.grown.are_own; renewed = are }, whole)
 
-  pub admits_from : (before : Option ℕ) (searches : List Search) (blocks : List Block) → HavePoints searches → AreSolved m renews rules searches blocks → BlocksPass rules before blocks
-      → (owns : List OwnLines) → AreOwn m searches blocks owns → AdmitsFrom m.delays rules before owns searches blocks
+  pub admits_from : (before : Option ℕ) (searches : List Search) (blocks : List Block)
+      → HavePoints searches → AreSolved m renews rules searches blocks
+      → BlocksPass rules before blocks
+      → (owns : List OwnLines) → AreOwn m searches blocks owns
+      → AdmitsFrom m.delays rules before owns searches blocks
   admits_from before [] [] points solved pass [] are = tt
   admits_from before [] [] points solved pass (own ∷ owns) are = absurd are
   admits_from before [] (block ∷ blocks) points solved pass owns are = absurd solved
@@ -203,7 +220,9 @@ module _ (m : Meaning) (sound : IsSound m) (renews : Bool) (rules : Rules) where
   )
 
   -- the own lines that the rows were made of, all of them
-  pub owns_of : (before : Option ℕ) (searches : List Search) (blocks : List Block) → HavePoints searches → AreSolved m renews rules searches blocks → BlocksPass rules before blocks
+  pub owns_of : (before : Option ℕ) (searches : List Search) (blocks : List Block)
+      → HavePoints searches → AreSolved m renews rules searches blocks
+      → BlocksPass rules before blocks
       → (owns : List OwnLines) × AreOwn m searches blocks owns × (length owns ≡ length searches) × AreWhole owns blocks
   owns_of before [] [] points solved pass = ([], tt, refl, tt)
   owns_of before [] (block ∷ blocks) points solved pass = absurd solved

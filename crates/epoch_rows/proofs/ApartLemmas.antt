@@ -16,12 +16,14 @@ abbrev pub AreApart : List SatEntry → Type 0
 AreApart [] = Unit {0}
 AreApart (entry ∷ entries) = NoneNames (sat_of entry) entries × AreApart entries
 
-named_at : (sat : Sat) (entries : List SatEntry) (k : ℕ) → NoneNames sat entries → k < length entries → slice_get (map sat_of entries) k ≢ Some sat
+named_at : (sat : Sat) (entries : List SatEntry) (k : ℕ) → NoneNames sat entries
+    → k < length entries → slice_get (map sat_of entries) k ≢ Some sat
 named_at sat [] k none within is = absurd (omega arith)
 named_at sat (entry ∷ entries) zero none within is = none.0 (same_Some (sat_of entry) sat is)
 named_at sat (entry ∷ entries) (suc k) none within is = named_at sat entries k none.1 (omega arith) is
 
-no_pair : (entries : List SatEntry) (j k : ℕ) → AreApart entries → j < k → k < length entries → slice_get (map sat_of entries) j ≢ slice_get (map sat_of entries) k
+no_pair : (entries : List SatEntry) (j k : ℕ) → AreApart entries → j < k → k < length entries
+    → slice_get (map sat_of entries) j ≢ slice_get (map sat_of entries) k
 no_pair [] j k apart less within same = absurd (omega arith)
 no_pair (entry ∷ entries) j zero apart less within same = absurd (omega arith)
 no_pair (entry ∷ entries) zero (suc k) apart less within same = named_at (sat_of entry) entries k apart.0 (omega arith) (sym same)

@@ -37,11 +37,14 @@ abbrev IsAmong : List SatObs → SatObs → Type 0
 IsAmong sats seen = (place : ℕ) × (slice_get sats place ≡ Some seen)
 
 module _ (m : Meaning) (search : Search) where
-  base_in : (seen : SatObs) (base : Base) → IsAmong search.epoch.sats.items seen → IsBaseOf m search.root search.epoch.tag seen base → IsBaseIn m search base
+  base_in : (seen : SatObs) (base : Base) → IsAmong search.epoch.sats.items seen
+      → IsBaseOf m search.root search.epoch.tag seen base → IsBaseIn m search base
   base_in seen base (place, at) is = record { place = place; seen = seen; is_seen = at; is_base = is }
 
-  bases_in : (sats : List SatObs) (own : List SatLine) (bases : List Base) → ((seen : SatObs) → IsAmong sats seen → IsAmong search.epoch.sats.items seen)
-      → AreBasesOf m search.root search.epoch.tag sats own bases → AllByRecursion (IsBaseIn m search) bases
+  bases_in : (sats : List SatObs) (own : List SatLine) (bases : List Base)
+      → ((seen : SatObs) → IsAmong sats seen → IsAmong search.epoch.sats.items seen)
+      → AreBasesOf m search.root search.epoch.tag sats own bases
+      → AllByRecursion (IsBaseIn m search) bases
   bases_in [] own bases inside none = rw none tt
   bases_in (seen ∷ sats) [] bases inside are = absurd are
   bases_in (seen ∷ sats) (Usable row ∷ own) bases inside (None, rest, all, has, are) = absurd has
@@ -51,8 +54,11 @@ module _ (m : Meaning) (search : Search) where
       rw all (bases_in sats own rest (λ other (place, at). inside other (suc place, at)) are)
   bases_in (seen ∷ sats) (Skipped sat skip ∷ own) bases inside (Some base, rest, all, has, are) = absurd has
 
-  same_sats : (by err_by : ℤ) (sats : List SatObs) (own : List SatLine) (entries : List SatEntry) (bases : List Base) → AreOwnLines m search.root search.epoch.tag sats own
-      → AreGrownLines by err_by own entries → AreBasesOf m search.root search.epoch.tag sats own bases → base_sats bases ≡ row_sats entries
+  same_sats : (by err_by : ℤ) (sats : List SatObs) (own : List SatLine) (entries : List SatEntry) (bases : List Base)
+      → AreOwnLines m search.root search.epoch.tag sats own
+      → AreGrownLines by err_by own entries
+      → AreBasesOf m search.root search.epoch.tag sats own bases
+      → base_sats bases ≡ row_sats entries
   same_sats by err_by [] [] [] bases are grown none = rw none refl
   same_sats by err_by [] [] (e ∷ entries) bases are grown none = absurd grown
   same_sats by err_by [] (line ∷ own) entries bases are grown none = absurd are
@@ -70,15 +76,18 @@ module _ (m : Meaning) (search : Search) where
   same_sats by err_by (seen ∷ sats) (Skipped sat skip ∷ own) (entry.Skipped same why ∷ entries) bases are grown (Some base, rest, all, has, of) = absurd has
 
   -- the bases that a source gives for an epoch, for the rows of its block
-  pub bases_of_rows : (by err_by : ℤ) (own : List SatLine) (entries : List SatEntry) (bases : List Base) → AreOwnLines m search.root search.epoch.tag search.epoch.sats.items own
-      → AreGrownLines by err_by own entries → AreBasesOf m search.root search.epoch.tag search.epoch.sats.items own bases
+  pub bases_of_rows : (by err_by : ℤ) (own : List SatLine) (entries : List SatEntry) (bases : List Base)
+      → AreOwnLines m search.root search.epoch.tag search.epoch.sats.items own
+      → AreGrownLines by err_by own entries
+      → AreBasesOf m search.root search.epoch.tag search.epoch.sats.items own bases
       → AreBasesIn m (record { search = search; sats = row_sats entries }) bases
   bases_of_rows by err_by own entries bases are grown of = record {
     each = bases_in search.epoch.sats.items own bases (λ seen among. among) of;
     sats = same_sats by err_by search.epoch.sats.items own entries bases are grown of;
   }
 
-  pub can_form : (own : List SatLine) (bases : List Base) → AreBasesOf m search.root search.epoch.tag search.epoch.sats.items own bases
+  pub can_form : (own : List SatLine) (bases : List Base)
+      → AreBasesOf m search.root search.epoch.tag search.epoch.sats.items own bases
       → CanFormEach m.delays search.root bases
   can_form own bases of =
       each_as (IsBaseIn m search) (CanForm m.delays search.root) bases
@@ -91,17 +100,20 @@ no_rows [] = refl
 no_rows (Usable row ∷ own) = no_rows own
 no_rows (Skipped sat skip ∷ own) = no_rows own
 
-pub few_bases : (m : Meaning) (search : Search) (own : List SatLine) (entries : List SatEntry) (bases : List Base) → entries ≡ skips_of own → bases ≡ []
+pub few_bases : (m : Meaning) (search : Search) (own : List SatLine) (entries : List SatEntry) (bases : List Base)
+    → entries ≡ skips_of own → bases ≡ []
     → AreBasesIn m (record { search = search; sats = row_sats entries }) bases
 few_bases m search own entries bases skips none = record { each = rw none tt; sats = rw (none, skips, no_rows own) refl }
 
 -- ---- one row
 
-pub base_at : (bases : List Base) (i : ℕ) (base : Base) → i < length (base_sats bases) → base ≡ get_or bases i base → slice_get bases i ≡ Some base
+pub base_at : (bases : List Base) (i : ℕ) (base : Base) → i < length (base_sats bases)
+    → base ≡ get_or bases i base → slice_get bases i ≡ Some base
 base_at bases i base less is = slice_get_read bases (length bases) i base refl (omega (arith, less, length-map bases (λ (b : Base). b.sat))) is
 
 -- what is formed from such a base is a renewed row of its satellite
-pub renewed_row : (m : Meaning) (hand : Hand) (bases : List Base) → AreBasesIn m hand bases → (i : ℕ) (part : GridBox) (row : Row)
+pub renewed_row : (m : Meaning) (hand : Hand) (bases : List Base) → AreBasesIn m hand bases
+    → (i : ℕ) (part : GridBox) (row : Row)
     → IsGrownFrom m.delays hand.search.root bases i part row → GivesRow m (Some hand) i part row
 renewed_row m hand bases are i part row g =
     let b = each_at (IsBaseIn m hand.search) bases i g.base are.each g.is_base in (

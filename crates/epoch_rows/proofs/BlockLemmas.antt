@@ -24,13 +24,15 @@ use Rattle.epoch_rows.proofs.LineLemmas.{usable_le, skips_le, grown_count, all_s
 
 -- ---- first lines
 
-pub header_fits : (index n : ℕ) (ps tag : ℤ) → ps ≡ tag → IsCountFromTo first_epoch last_epoch index → pos 0 ≤ℤ tag → tag <ℤ pos 4000000000000000000000 → n ≤ 64
+pub header_fits : (index n : ℕ) (ps tag : ℤ) → ps ≡ tag → IsCountFromTo first_epoch last_epoch index
+    → pos 0 ≤ℤ tag → tag <ℤ pos 4000000000000000000000 → n ≤ 64
     → HeaderFits (record { index = index; ps = ps; n = n })
 header_fits index n ps tag same counted from under few = record { index = counted; ps = (omega (arith, ints, from), omega (arith, ints, under)); n = (omega arith, few) }
 
 -- ---- roots
 
-pub bare_fits : (body : Body) (root : Box3) → body ≡ bare_body (grid_box root) → CornersFit (corners_of body.root) × ((body.events ≡ []) × (body.done ≡ 0))
+pub bare_fits : (body : Body) (root : Box3) → body ≡ bare_body (grid_box root)
+    → CornersFit (corners_of body.root) × ((body.events ≡ []) × (body.done ≡ 0))
 bare_fits body root is = rw is (box3_fits root, (refl, refl))
 
 -- ---- satellite lines
@@ -42,16 +44,20 @@ module _ (m : Meaning) (root : GridBox) (seen : ObsEpoch) (own given : List SatL
   pub few_skips : (items : List SatEntry) → items ≡ skips_of given → length items ≤ 64
   few_skips items is = rw (is, same) (omega (arith, skips_le own, own_count m root seen.tag seen.sats.items own are, seen.few))
 
-  pub skips_skipped : (items : List SatEntry) → items ≡ skips_of given → AllByRecursion IsSkipped items
+  pub skips_skipped : (items : List SatEntry) → items ≡ skips_of given
+      → AllByRecursion IsSkipped items
   skips_skipped items is = rw (is, same) (all_skipped own)
 
-  pub few_grown : (by err_by : ℤ) (items : List SatEntry) → AreGrownLines by err_by given items → length items ≤ 64
+  pub few_grown : (by err_by : ℤ) (items : List SatEntry) → AreGrownLines by err_by given items
+      → length items ≤ 64
   few_grown by err_by items grown =
       omega (arith, grown_count by err_by given items grown, ap length same, own_count m root seen.tag seen.sats.items own are, seen.few)
 
   module _ (skips : SkipsFit m) (named : AreNamedSats seen.sats.items) where
-    pub skip_entries : (items : List SatEntry) → items ≡ skips_of given → AllByRecursion EntryFits items
+    pub skip_entries : (items : List SatEntry) → items ≡ skips_of given
+        → AllByRecursion EntryFits items
     skip_entries items is = rw (is, same) (skips_fit m root seen.tag skips seen.sats.items own named are)
 
-    pub grown_entries : (by err_by : ℤ) (items : List SatEntry) → AreGrownLines by err_by given items → AllByRecursion EntryFits items
+    pub grown_entries : (by err_by : ℤ) (items : List SatEntry)
+        → AreGrownLines by err_by given items → AllByRecursion EntryFits items
     grown_entries by err_by items grown = lines_fit m root seen.tag skips by err_by seen.sats.items own items named are (rw same at grown)

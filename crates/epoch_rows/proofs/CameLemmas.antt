@@ -27,33 +27,40 @@ abbrev pub all_left : EpochsLeft → List Search
 all_left left = searches_in left.root left.epochs
 
 module _ (m : Meaning) (renews : Bool) (rules : Rules) where
-  first_left : (old : EpochsLeft) (block : Block) (new : EpochsLeft) (gave : GivesFirst m rules.outliers old block new) → all_left old ≡ search_in old.root gave.epoch ∷ all_left new
+  first_left : (old : EpochsLeft) (block : Block) (new : EpochsLeft) (gave : GivesFirst m rules.outliers old block new)
+      → all_left old ≡ search_in old.root gave.epoch ∷ all_left new
   first_left old block new gave = rw gave.same_root (ap (searches_in old.root) gave.first)
 
   -- what is made of a block that was given is made for its search
   made_of : (Makes : Maker → Rules → Block → Block → Type 0) (old : EpochsLeft) (given block : Block) (new : EpochsLeft) (gave : GivesFirst m rules.outliers old given new)
-      → Makes (maker_of m renews new.hand) rules given block → IsMade m renews rules Makes (search_in old.root gave.epoch) block
+      → Makes (maker_of m renews new.hand) rules given block
+      → IsMade m renews rules Makes (search_in old.root gave.epoch) block
   made_of Makes old given block new gave made = record { given = given; grown = gave.grown; made = rw gave.hand at made }
 
   -- the blocks are solved of the first epochs
-  pub came_of : (left : EpochsLeft) (hull : Option GridBox) (blocks : List Block) (behind : EpochsLeft) → Came (source_of m rules.outliers renews) rules left hull blocks behind
-      → (rest : List Block) → AreSolved m renews rules (all_left behind) rest → AreSolved m renews rules (all_left left) (blocks ++ rest)
+  pub came_of : (left : EpochsLeft) (hull : Option GridBox) (blocks : List Block) (behind : EpochsLeft)
+      → Came (source_of m rules.outliers renews) rules left hull blocks behind
+      → (rest : List Block) → AreSolved m renews rules (all_left behind) rest
+      → AreSolved m renews rules (all_left left) (blocks ++ rest)
   came_of left hull [] behind came rest solved = subst (λ (l : EpochsLeft). AreSolved m renews rules (all_left l) rest) (sym came) solved
   came_of left hull (block ∷ blocks) behind (given, next, gave, paves, came) rest solved =
       subst (λ (l : List Search). AreSolved m renews rules l (block ∷ blocks ++ rest)) (sym (first_left left given next gave))
       (made_of _ left given block next gave paves, came_of next (hull_kept block.body) blocks behind came rest solved)
 
-  none_left : (behind : EpochsLeft) → behind.epochs ≡ [] → AreSolved m renews rules (all_left behind) []
+  none_left : (behind : EpochsLeft) → behind.epochs ≡ []
+      → AreSolved m renews rules (all_left behind) []
   none_left behind ended = rw ended tt
 
   -- where no epoch was left, of all epochs
-  pub whole_of : (left : EpochsLeft) (blocks : List Block) (behind : EpochsLeft) → Came (source_of m rules.outliers renews) rules left None blocks behind → behind.epochs ≡ []
+  pub whole_of : (left : EpochsLeft) (blocks : List Block) (behind : EpochsLeft)
+      → Came (source_of m rules.outliers renews) rules left None blocks behind → behind.epochs ≡ []
       → AreSolved m renews rules (all_left left) blocks
   whole_of left blocks behind came ended =
       subst (AreSolved m renews rules (all_left left)) (append-nil blocks) (came_of left None blocks behind came [] (none_left behind ended))
 
   -- a block in hand begins to pave the rows of the next epoch
-  pub in_hand_of : (behind : EpochsLeft) (hull : Option GridBox) (block : Block) → IsInHand (source_of m rules.outliers renews) rules behind hull (Some block)
+  pub in_hand_of : (behind : EpochsLeft) (hull : Option GridBox) (block : Block)
+      → IsInHand (source_of m rules.outliers renews) rules behind hull (Some block)
       → (search : Search) × (rest : List Search) × (all_left behind ≡ search ∷ rest) × IsSolvedFirst m renews rules search block
   in_hand_of behind hull block (given, next, gave, begins) =
       (search_in behind.root gave.epoch, all_left next, first_left behind given next gave, made_of _ behind given block next gave begins)
@@ -72,7 +79,8 @@ module _ (m : Meaning) (sound : IsSound m) (renews : Bool) (rules : Rules) (left
   whole_passes = rw w.same_rules at w.judged
 
   -- all own lines admit it, also those of the first epochs alone
-  pub whole_admits : (owns : List OwnLines) → AreOwn m (all_left left) w.log.blocks owns → Admits m.delays (all_left left) owns rules w.log
+  pub whole_admits : (owns : List OwnLines) → AreOwn m (all_left left) w.log.blocks owns
+      → Admits m.delays (all_left left) owns rules w.log
   whole_admits owns are = record {
     same_rules = rw w.same_rules (record { outliers = refl; bisections = refl; width = refl; pairs = refl });
     blocks = admits_from m sound renews rules None (all_left left) w.log.blocks (have_points left.epochs) whole_solved whole_passes owns are;

@@ -33,7 +33,8 @@ module _ {B C : Type 0} (source : Source B) (others : Source C) (Stands : B → 
   -- and where the first has no more, neither has the second, which then stands so
   module _ (ended : B → C) (each : (old : B) (was : C) (hull : Option GridBox) (block : Block) (new : B) → Stands old was → source.gives old hull (Some block) new → GivesToo was hull block new)
       (ends : (old : B) (was : C) (hull : Option GridBox) (new : B) → Stands old was → source.gives old hull None new → others.gives was hull None (ended new)) (rules : Rules) where
-    came_kept : (first last : B) (was : C) (hull : Option GridBox) (blocks : List Block) → Stands first was → Came source rules first hull blocks last
+    came_kept : (first last : B) (was : C) (hull : Option GridBox) (blocks : List Block)
+        → Stands first was → Came source rules first hull blocks last
         → (is : C) × Came others rules was hull blocks is × Stands last is
     came_kept first last was hull [] stands came = (was, refl, subst (λ (b : B). Stands b was) came stands)
     came_kept first last was hull (block ∷ blocks) stands (given, next, gave, paves, later) =
@@ -41,14 +42,19 @@ module _ {B C : Type 0} (source : Source B) (others : Source C) (Stands : B → 
         let (is, came, still) = came_kept next last g.is (hull_kept block.body) blocks g.stands later in
         (is, (given, g.is, g.gave, paves_as (source.maker next) (others.maker g.is) g.goes rules given block paves, came), still)
 
-    in_hand_kept : (behind : B) (is : C) (hull : Option GridBox) (hand : Option Block) → Stands behind is → IsInHand source rules behind hull hand → IsInHand others rules is hull hand
+    in_hand_kept : (behind : B) (is : C) (hull : Option GridBox) (hand : Option Block)
+        → Stands behind is → IsInHand source rules behind hull hand
+        → IsInHand others rules is hull hand
     in_hand_kept behind is hull None stands in_hand = tt
     in_hand_kept behind is hull (Some block) stands (given, next, gave, begins) =
         let g = each behind is hull given next stands gave in
         (given, g.is, g.gave, begins_as (source.maker next) (others.maker g.is) g.goes rules given block begins)
 
-    pub text_kept : {T : Type 0} (first last : B) (was : C) (limit : ℕ) (r : Result T WriteFault) (bytes said : List ℕ) → Stands first was
-        → (source.maker first).active ≡ (others.maker was).active → IsText source rules first last limit r bytes said → IsText others rules was (ended last) limit r bytes said
+    pub text_kept : {T : Type 0} (first last : B) (was : C) (limit : ℕ) (r : Result T WriteFault) (bytes said : List ℕ)
+        → Stands first was
+        → (source.maker first).active ≡ (others.maker was).active
+        → IsText source rules first last limit r bytes said
+        → IsText others rules was (ended last) limit r bytes said
     text_kept first last was limit (Ok done) bytes said stands same w =
         let (is, came, still) = came_kept first w.behind was None w.log.blocks stands w.came in
         record {
@@ -78,7 +84,8 @@ module _ {B C : Type 0} (source : Source B) (others : Source C) (Stands : B → 
 -- ---- the maker of a block's rows
 
 -- the values of a maker are those of the block in hand
-goes_from : (m : Meaning) (hand : Hand) (renews asked : Bool) (delays : Delays) (root : GridBox) (bases : List Base) → asked ≡ renews
+goes_from : (m : Meaning) (hand : Hand) (renews asked : Bool) (delays : Delays) (root : GridBox) (bases : List Base)
+    → asked ≡ renews
     → (asked ≡ true → (delays ≡ m.delays) × (root ≡ hand.search.root) × ((i : ℕ) (part : GridBox) (row : Row) → IsGrownFrom m.delays hand.search.root bases i part row → (maker_of m renews (Some hand)).gives i part row))
     → GoesAs (maker_from asked delays root bases) (maker_of m renews (Some hand))
 goes_from m hand renews asked delays root bases same are = record {
@@ -86,7 +93,8 @@ goes_from m hand renews asked delays root bases same are = record {
   gives = λ active i part row g. let (delays_are, root_is, all) = are active in all i part row (rw (delays_are, root_is) at g);
 }
 
-pub maker_goes : (m : Meaning) (hand : Hand) (renews : Bool) (maker : RowMaker) → maker.renews ≡ renews → (renews ≡ true → IsMakerFor m hand maker)
+pub maker_goes : (m : Meaning) (hand : Hand) (renews : Bool) (maker : RowMaker)
+    → maker.renews ≡ renews → (renews ≡ true → IsMakerFor m hand maker)
     → GoesAs (maker_from maker.renews maker.delays (grid_box maker.root) maker.bases.items) (maker_of m renews (Some hand))
 maker_goes m hand renews maker same is =
     goes_from m hand renews maker.renews maker.delays (grid_box maker.root) maker.bases.items same
@@ -95,7 +103,8 @@ maker_goes m hand renews maker same is =
 -- ---- the epochs of a file
 
 -- what is in hand doesn't count for what comes next
-any_hand : (m : Meaning) (q : ℕ) (hand : Option Hand) (s : Searches) (block : Block) (new : EpochsLeft) → GivesFirst m q (left_of s) block new → GivesFirst m q (left_behind hand s) block new
+any_hand : (m : Meaning) (q : ℕ) (hand : Option Hand) (s : Searches) (block : Block) (new : EpochsLeft)
+    → GivesFirst m q (left_of s) block new → GivesFirst m q (left_behind hand s) block new
 any_hand m q hand s block new g = record { epoch = g.epoch; first = g.first; grown = g.grown; same_root = g.same_root; hand = g.hand }
 
 -- What came from blocks that have a source of rows, rules, searches and a maker of rows came from the epochs that are left.
@@ -118,7 +127,8 @@ module _ {B S : Type 0} (rows_in : B → S) (rules_in : B → Rules) (searches_i
       renews : (maker_in b).renews ≡ (maker_in first).renews
       left_is : left ≡ left_behind left.hand (searches_in b)
 
-    given_here : (old : B) (block : Block) (new : B) → rows_in old ≡ rows_in first → rules_in old ≡ rules_in first → (maker_in old).renews ≡ (maker_in first).renews
+    given_here : (old : B) (block : Block) (new : B) → rows_in old ≡ rows_in first
+        → rules_in old ≡ rules_in first → (maker_in old).renews ≡ (maker_in first).renews
         → GivesBlock (meaning (rows_in old)) (rules_in old).outliers (maker_in old).renews (searches_in old) block (searches_in new) (maker_in new)
         → GivesBlock (meaning (rows_in first)) (rules_in first).outliers (maker_in first).renews (searches_in old) block (searches_in new) (maker_in new)
     given_here old block new rows rules renews g =
@@ -126,7 +136,8 @@ module _ {B S : Type 0} (rows_in : B → S) (rules_in : B → Rules) (searches_i
         (subst (λ (r : Rules). GivesBlock (meaning (rows_in old)) r.outliers (maker_in first).renews (searches_in old) block (searches_in new) (maker_in new)) rules
         (subst (λ (b : Bool). GivesBlock (meaning (rows_in old)) (rules_in old).outliers b (searches_in old) block (searches_in new) (maker_in new)) renews g))
 
-    each : (old : B) (was : EpochsLeft) (hull : Option GridBox) (block : Block) (new : B) → Stands old was → of_blocks.gives old hull (Some block) new
+    each : (old : B) (was : EpochsLeft) (hull : Option GridBox) (block : Block) (new : B)
+        → Stands old was → of_blocks.gives old hull (Some block) new
         → GivesToo of_blocks Others Stands was hull block new
     each old was hull block new stands (rows, rules, renews, gave) =
         let g = given_here old block new stands.rows stands.rules stands.renews gave in
@@ -139,10 +150,12 @@ module _ {B S : Type 0} (rows_in : B → S) (rules_in : B → Rules) (searches_i
           goes = maker_goes (meaning (rows_in first)) g.hand (maker_in first).renews (maker_in new) same g.is_maker;
         }
 
-    ends : (old : B) (was : EpochsLeft) (hull : Option GridBox) (new : B) → Stands old was → of_blocks.gives old hull None new → Others.gives was hull None (left_of (searches_in new))
+    ends : (old : B) (was : EpochsLeft) (hull : Option GridBox) (new : B) → Stands old was
+        → of_blocks.gives old hull None new → Others.gives was hull None (left_of (searches_in new))
     ends old was hull new stands (rows, rules, renews, none) = ap (λ (l : EpochsLeft). l.epochs) stands.left_is ∙ none
 
-    pub text_of_epochs : {T : Type 0} (last : B) (rules : Rules) (limit : ℕ) (r : Result T WriteFault) (bytes said : List ℕ) → IsText of_blocks rules first last limit r bytes said
+    pub text_of_epochs : {T : Type 0} (last : B) (rules : Rules) (limit : ℕ) (r : Result T WriteFault) (bytes said : List ℕ)
+        → IsText of_blocks rules first last limit r bytes said
         → IsText (source_of (meaning (rows_in first)) (rules_in first).outliers (maker_in first).renews) rules (left_of (searches_in first)) (left_of (searches_in last)) limit r bytes said
     text_of_epochs last rules limit r bytes said text =
         text_kept of_blocks Others Stands (λ b. left_of (searches_in b)) each ends rules first last (left_of (searches_in first)) limit r bytes said

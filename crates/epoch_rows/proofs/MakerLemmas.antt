@@ -21,19 +21,24 @@ use Rattle.sat_model.specs.declared.rules.Rules.{Rules}
 -- both are asked for rows or aren't, and what the first may give the second may give
 pub record GoesAs (maker other : Maker) : Type 0 where
   pub active : maker.active ≡ other.active
-  pub gives : maker.active ≡ true → (i : ℕ) (part : GridBox) (row : Row) → maker.gives i part row → other.gives i part row
+  pub gives : maker.active ≡ true → (i : ℕ) (part : GridBox) (row : Row) → maker.gives i part row
+      → other.gives i part row
 
 module _ (maker other : Maker) (goes : GoesAs maker other) (rules : Rules) where
-  rows_as : maker.active ≡ true → (from : ℕ) (part : GridBox) (rows : List Row) → GivesFrom maker from part rows → GivesFrom other from part rows
+  rows_as : maker.active ≡ true → (from : ℕ) (part : GridBox) (rows : List Row)
+      → GivesFrom maker from part rows → GivesFrom other from part rows
   rows_as active from part [] gives = tt
   rows_as active from part (row ∷ rows) gives = (goes.gives active from part row gives.0, rows_as active (suc from) part rows gives.1)
 
-  renews_as : (used : RowsOver) (before splits : ℕ) (waiting : List WaitingBox) (renewed : Option RowsOver) → Renews maker used before splits waiting renewed
+  renews_as : (used : RowsOver) (before splits : ℕ) (waiting : List WaitingBox) (renewed : Option RowsOver)
+      → Renews maker used before splits waiting renewed
       → Renews other used before splits waiting renewed
   renews_as used before splits waiting None none = λ hull active due. none hull (goes.active ∙ active) due
   renews_as used before splits waiting (Some new) (active, due, many, gives) = (sym goes.active ∙ active, due, many, rows_as active 0 new.part new.rows gives)
 
-  turns_as : (used : GridBox) (paving : Paving) (turns : List Turn) (last : Paving) → PavesTurns maker rules used paving turns last → PavesTurns other rules used paving turns last
+  turns_as : (used : GridBox) (paving : Paving) (turns : List Turn) (last : Paving)
+      → PavesTurns maker rules used paving turns last
+      → PavesTurns other rules used paving turns last
   turns_as used paving [] last same = same
   turns_as used paving (turn ∷ turns) last (next, rest, is_next, steps, renews, more) = (
     next,
@@ -44,7 +49,8 @@ module _ (maker other : Maker) (goes : GoesAs maker other) (rules : Rules) where
     turns_as (used_after used turn.renewed) (behind_turn paving rest turn) turns last more,
   )
 
-  paved_as : (test : BoxTest) (root : GridBox) (events : List ShownEvent) → PavedTurns maker test rules root events → PavedTurns other test rules root events
+  paved_as : (test : BoxTest) (root : GridBox) (events : List ShownEvent)
+      → PavedTurns maker test rules root events → PavedTurns other test rules root events
   paved_as test root events p = record {
     turns = p.turns;
     all_events = p.all_events;
@@ -53,7 +59,8 @@ module _ (maker other : Maker) (goes : GoesAs maker other) (rules : Rules) where
     none_waiting = p.none_waiting;
   }
 
-  begun_as : (test : BoxTest) (root : GridBox) (events : List ShownEvent) → TurnsBegun maker test rules root events → TurnsBegun other test rules root events
+  begun_as : (test : BoxTest) (root : GridBox) (events : List ShownEvent)
+      → TurnsBegun maker test rules root events → TurnsBegun other test rules root events
   begun_as test root events b = record {
     turns = b.turns;
     paving = b.paving;
@@ -63,14 +70,17 @@ module _ (maker other : Maker) (goes : GoesAs maker other) (rules : Rules) where
     all_events = b.all_events;
   }
 
-  body_as : (Runs Others : Block → Body → Type 0) (block : Block) (given body : Option Body) → ((b : Body) → Runs block b → Others block b)
+  body_as : (Runs Others : Block → Body → Type 0) (block : Block) (given body : Option Body)
+      → ((b : Body) → Runs block b → Others block b)
       → BodyExtends Runs block given body → BodyExtends Others block given body
   body_as Runs Others block None None as_runs is = tt
   body_as Runs Others block None (Some body) as_runs is = absurd is
   body_as Runs Others block (Some given) None as_runs is = absurd is
   body_as Runs Others block (Some given) (Some body) as_runs is = (is.0, as_runs body is.1)
 
-  extends_as : (Runs Others : Block → Body → Type 0) (given block : Block) → ((b : Body) → Runs block b → Others block b) → Extends Runs given block → Extends Others given block
+  extends_as : (Runs Others : Block → Body → Type 0) (given block : Block)
+      → ((b : Body) → Runs block b → Others block b) → Extends Runs given block
+      → Extends Others given block
   extends_as Runs Others given block as_runs e = record {
     index = e.index;
     ps = e.ps;
@@ -79,13 +89,15 @@ module _ (maker other : Maker) (goes : GoesAs maker other) (rules : Rules) where
     body = body_as Runs Others block given.body block.body as_runs e.body;
   }
 
-  pub paves_as : (given block : Block) → Paves maker rules given block → Paves other rules given block
+  pub paves_as : (given block : Block) → Paves maker rules given block
+      → Paves other rules given block
   unfolding paved_as
   paves_as given block paves =
       extends_as (HasRun maker rules) (HasRun other rules) given block
       (λ body h. record { shown = h.shown; run = paved_as _ body.root h.shown h.run; events = h.events; done = h.done }) paves
 
-  pub begins_as : (given block : Block) → Begins maker rules given block → Begins other rules given block
+  pub begins_as : (given block : Block) → Begins maker rules given block
+      → Begins other rules given block
   begins_as given block begins =
       extends_as (HasBegun maker rules) (HasBegun other rules) given block
       (λ body h. record { shown = h.shown; begun = begun_as _ body.root h.shown h.begun; events = h.events }) begins
@@ -101,21 +113,27 @@ module _ (maker : Maker) (rules : Rules) where
   abbrev AreGiven : ℕ → List RowsOver → Type 0
   AreGiven n renewals = AllByRecursion (IsGiven n) renewals
 
-  steps_alone : (steps : List ShownStep) (more : List ShownEvent) → renewals_in (events_of (map OfStep steps ++ more)) ≡ renewals_in (events_of more)
+  steps_alone : (steps : List ShownStep) (more : List ShownEvent)
+      → renewals_in (events_of (map OfStep steps ++ more)) ≡ renewals_in (events_of more)
   steps_alone [] more = refl
   steps_alone (shown ∷ steps) more = steps_alone steps more
 
   module _ (n : ℕ) (used : GridBox) (test : BoxTest) (many : length test.rows ≡ n) (before splits : ℕ) (waiting : List WaitingBox) where
-    new_given : (renewed : Option RowsOver) (more : List ShownEvent) → Renews maker (rows_over used test.rows) before splits waiting renewed
-        → AreGiven n (renewals_in (events_of more)) → AreGiven n (renewals_in (events_of (shown_new renewed ++ more)))
+    new_given : (renewed : Option RowsOver) (more : List ShownEvent)
+        → Renews maker (rows_over used test.rows) before splits waiting renewed
+        → AreGiven n (renewals_in (events_of more))
+        → AreGiven n (renewals_in (events_of (shown_new renewed ++ more)))
     new_given None more renews all = all
     new_given (Some new) more (active, due, same, gives) all = (record { rows = gives; many = same ∙ many }, all)
 
-    still_many : (renewed : Option RowsOver) → Renews maker (rows_over used test.rows) before splits waiting renewed → length (test_after test renewed).rows ≡ n
+    still_many : (renewed : Option RowsOver)
+        → Renews maker (rows_over used test.rows) before splits waiting renewed
+        → length (test_after test renewed).rows ≡ n
     still_many None renews = many
     still_many (Some new) (active, due, same, gives) = same ∙ many
 
-  turns_given : (n : ℕ) (used : GridBox) (paving : Paving) (turns : List Turn) (last : Paving) → length paving.test.rows ≡ n → PavesTurns maker rules used paving turns last
+  turns_given : (n : ℕ) (used : GridBox) (paving : Paving) (turns : List Turn) (last : Paving)
+      → length paving.test.rows ≡ n → PavesTurns maker rules used paving turns last
       → AreGiven n (renewals_in (events_of (joined_turns turns)))
   turns_given n used paving [] last many same = tt
   turns_given n used paving (turn ∷ turns) last many (next, rest, is_next, steps, renews, more) =
@@ -125,13 +143,17 @@ module _ (maker : Maker) (rules : Rules) where
       (turns_given n (used_after used turn.renewed) (behind_turn paving rest turn) turns last (still_many n used paving.test many paving.splits behind.splits behind.waiting turn.renewed renews) more))
 
   -- those of a run from the rows of a block
-  pub run_given : (block : Block) (body : Body) → HasRun maker rules block body → AllByRecursion (IsGiven (length (rows_of block.sats))) (renewals_in body.events)
+  pub run_given : (block : Block) (body : Body) → HasRun maker rules block body
+      → AllByRecursion (IsGiven (length (rows_of block.sats))) (renewals_in body.events)
   run_given block body h = rw (h.events, h.run.all_events) (turns_given (length (rows_of block.sats)) body.root _ h.run.turns h.run.last refl h.run.paves)
 
-  row_from : (from : ℕ) (part : GridBox) (rows : List Row) (i : ℕ) (row : Row) → GivesFrom maker from part rows → slice_get rows i ≡ Some row → maker.gives (from + i) part row
+  row_from : (from : ℕ) (part : GridBox) (rows : List Row) (i : ℕ) (row : Row)
+      → GivesFrom maker from part rows → slice_get rows i ≡ Some row
+      → maker.gives (from + i) part row
   row_from from part [] i row gives is = absurd cc
   row_from from part (first ∷ rows) zero row gives is = rw (sym (same_Some first row is)) (subst (λ (n : ℕ). maker.gives n part first) (omega arith) gives.0)
   row_from from part (first ∷ rows) (suc i) row gives is = subst (λ (n : ℕ). maker.gives n part row) (omega arith) (row_from (suc from) part rows i row gives.1 is)
 
-  pub row_given : (part : GridBox) (rows : List Row) (i : ℕ) (row : Row) → GivesFrom maker 0 part rows → slice_get rows i ≡ Some row → maker.gives i part row
+  pub row_given : (part : GridBox) (rows : List Row) (i : ℕ) (row : Row)
+      → GivesFrom maker 0 part rows → slice_get rows i ≡ Some row → maker.gives i part row
   row_given part rows i row gives is = subst (λ (n : ℕ). maker.gives n part row) (omega arith) (row_from 0 part rows i row gives is)

@@ -25,7 +25,8 @@ use Rattle.sat_rows.specs.Meanings.{Meaning}
 use Rattle.sat_rows.specs.declared.lines.SatLine.{SatLine}
 use Rattle.epoch_rows.proofs.PassLemmas.{grown_passes}
 
-root_of_body : (delays : Delays) (root : GridBox) (own : List SatLine) (sats : List SatEntry) (given : Option Body) (body : Body) → HasBody delays root own sats given → given ≡ Some body → body.root ≡ root
+root_of_body : (delays : Delays) (root : GridBox) (own : List SatLine) (sats : List SatEntry) (given : Option Body) (body : Body)
+    → HasBody delays root own sats given → given ≡ Some body → body.root ≡ root
 root_of_body delays root own sats None body is has = absurd cc
 root_of_body delays root own sats (Some bare) body is has = ap (λ (b : Body). b.root) (sym (same_Some bare body has) ∙ is.1)
 
@@ -54,12 +55,14 @@ module _ (m : Meaning) (before : Option ℕ) (old : Searches) (epoch : ObsEpoch)
       hand = ap (λ (root : Box3). Some (hand_of (search_in (grid_box root) epoch) block)) taken.same_root;
     }
 
-    pub gives_block : (renews : Bool) (maker : RowMaker) → (renews ≡ true → IsMakerFor m (hand_of (search_in (grid_box new.root) epoch) block) maker)
+    pub gives_block : (renews : Bool) (maker : RowMaker)
+        → (renews ≡ true → IsMakerFor m (hand_of (search_in (grid_box new.root) epoch) block) maker)
         → GivesBlock m rules.outliers renews old block new maker
     gives_block renews maker is_maker = record { hand = hand; first = gives_first; is_maker = is_maker }
 
     -- the body's root and the satellites of its rows are those of the maker
-    pub serves : (maker : RowMaker) → IsMakerFor m (hand_of (search_in (grid_box new.root) epoch) block) maker
+    pub serves : (maker : RowMaker)
+        → IsMakerFor m (hand_of (search_in (grid_box new.root) epoch) block) maker
         → Serves (map (λ base. base.sat) maker.bases.items) (grid_box maker.root) block
     serves maker is body has = (is.root ∙ sym (root_of_body m.delays (grid_box new.root) grown.own block.sats block.body body grown.body has), is.bases.sats)
 

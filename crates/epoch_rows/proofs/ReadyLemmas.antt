@@ -15,8 +15,10 @@ later_more None next h = tt
 later_more (Some last) next h = omega arith
 
 module _ (s : Selection) where
-  selected_from : (before : Option ℕ) (next : ℕ) (epochs : List ObsEpoch) → IsLater before next → 1 ≤ next → next + length epochs ≤ last_epoch + 1
-      → AreNumberedFrom next (plain_epochs epochs) → InEach AreDistinct (plain_epochs epochs) → InEach AreNamedSats (plain_epochs epochs)
+  selected_from : (before : Option ℕ) (next : ℕ) (epochs : List ObsEpoch) → IsLater before next
+      → 1 ≤ next → next + length epochs ≤ last_epoch + 1
+      → AreNumberedFrom next (plain_epochs epochs) → InEach AreDistinct (plain_epochs epochs)
+      → InEach AreNamedSats (plain_epochs epochs)
       → AreWritable before (selected s epochs)
   selected_from before next [] later from few numbered distinct named = tt
   selected_from before next (epoch ∷ more) later from few numbered distinct named =
@@ -32,7 +34,8 @@ module _ (s : Selection) where
   plain_count [] = omega arith
   plain_count (epoch ∷ more) = omega (arith, plain_count more)
 
-  pub selected_writable : (epochs : List ObsEpoch) → AreNumbered (plain_epochs epochs) → InEach AreDistinct (plain_epochs epochs)
+  pub selected_writable : (epochs : List ObsEpoch) → AreNumbered (plain_epochs epochs)
+      → InEach AreDistinct (plain_epochs epochs)
       → InEach AreNamedSats (plain_epochs epochs) → AreWritable None (selected s epochs)
   selected_writable epochs numbered distinct named =
       selected_from None 1 epochs tt (omega arith) (omega (arith, plain_count epochs, numbered.at_most)) numbered.in_order distinct named

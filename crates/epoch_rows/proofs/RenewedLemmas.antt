@@ -42,16 +42,20 @@ use Rattle.epoch_rows.proofs.AgreeLemmas.{own_agree}
 abbrev sats_of : List SatObs → List Sat
 sats_of sats = map (λ seen. seen.sat) sats
 
-named : (sats : List SatObs) (k : ℕ) (seen : SatObs) → slice_get sats k ≡ Some seen → slice_get (sats_of sats) k ≡ Some seen.sat
+named : (sats : List SatObs) (k : ℕ) (seen : SatObs) → slice_get sats k ≡ Some seen
+    → slice_get (sats_of sats) k ≡ Some seen.sat
 named sats k seen at = slice_get-map (λ (s : SatObs). s.sat) sats k ∙ ap (option_map (λ (s : SatObs). s.sat)) at
 
 -- the one in the place of a name
-seen_at : (sats : List SatObs) (k : ℕ) (sat : Sat) → slice_get (sats_of sats) k ≡ Some sat → (seen : SatObs) × (slice_get sats k ≡ Some seen) × (seen.sat ≡ sat)
+seen_at : (sats : List SatObs) (k : ℕ) (sat : Sat) → slice_get (sats_of sats) k ≡ Some sat
+    → (seen : SatObs) × (slice_get sats k ≡ Some seen) × (seen.sat ≡ sat)
 seen_at [] k sat at = absurd cc
 seen_at (seen ∷ sats) zero sat at = (seen, refl, same_Some seen.sat sat at)
 seen_at (seen ∷ sats) (suc k) sat at = seen_at sats k sat at
 
-usable_at : (sats : List SatObs) (lines : List SatLine) (k : ℕ) (seen : SatObs) → slice_get (usable_of sats lines) k ≡ Some seen → (place : ℕ) × (slice_get sats place ≡ Some seen)
+usable_at : (sats : List SatObs) (lines : List SatLine) (k : ℕ) (seen : SatObs)
+    → slice_get (usable_of sats lines) k ≡ Some seen
+    → (place : ℕ) × (slice_get sats place ≡ Some seen)
 usable_at [] lines k seen at = absurd cc
 usable_at (first ∷ sats) [] k seen at = absurd cc
 usable_at (first ∷ sats) (Usable row ∷ lines) zero seen at = (0, at)
@@ -63,7 +67,8 @@ module _ (entries : List SatEntry) (sats : List SatObs) (once : NoneRepeats entr
   as_long : length entries ≡ length sats
   as_long = sym (length-map entries sat_of) ∙ ap length names ∙ length-map sats (λ (s : SatObs). s.sat)
 
-  no_later : (j k : ℕ) (seen other : SatObs) → slice_get sats j ≡ Some seen → slice_get sats k ≡ Some other → seen.sat ≡ other.sat → j < k → ⊥
+  no_later : (j k : ℕ) (seen other : SatObs) → slice_get sats j ≡ Some seen
+      → slice_get sats k ≡ Some other → seen.sat ≡ other.sat → j < k → ⊥
   no_later j k seen other at there same less = once k (record {
     earlier = j;
     is_earlier = less;
@@ -71,7 +76,8 @@ module _ (entries : List SatEntry) (sats : List SatObs) (once : NoneRepeats entr
     same = rw names (named sats j seen at ∙ ap (λ (sat : Sat). Some sat) same ∙ sym (named sats k other there));
   })
 
-  same_seen : (j k : ℕ) (seen other : SatObs) → slice_get sats j ≡ Some seen → slice_get sats k ≡ Some other → seen.sat ≡ other.sat → seen ≡ other
+  same_seen : (j k : ℕ) (seen other : SatObs) → slice_get sats j ≡ Some seen
+      → slice_get sats k ≡ Some other → seen.sat ≡ other.sat → seen ≡ other
   same_seen j k seen other at there same = elim (cases_lt j k) [
     | inl less ↦ absurd (no_later j k seen other at there same less)
     | inr from ↦ elim (eq-or-lt_of_le from) [
@@ -112,7 +118,8 @@ module _ (m : Meaning) (search : Search) where
     abbrev Usables : List SatObs
     Usables = usable_of search.epoch.sats.items lines
 
-    pub row_at : (part : GridBox) (i : ℕ) (row : Row) → GivesRow m (Some hand) i part row → RowAt Usables part i row
+    pub row_at : (part : GridBox) (i : ℕ) (row : Row) → GivesRow m (Some hand) i part row
+        → RowAt Usables part i row
     row_at part i row gives =
         let (seen, at, same) = seen_at Usables i row.sat (rw hand_sats at gives.0) in
         let r = rw is_hand at gives.1 in
@@ -130,7 +137,8 @@ module _ (m : Meaning) (search : Search) where
 
   -- ---- against own rows that are given
 
-  own_at : (part : GridBox) (sats : List SatObs) (ours : List Row) (i : ℕ) (seen : SatObs) (row : Row) → AreOwnRows m part search.epoch.tag sats ours → slice_get sats i ≡ Some seen
+  own_at : (part : GridBox) (sats : List SatObs) (ours : List Row) (i : ℕ) (seen : SatObs) (row : Row)
+      → AreOwnRows m part search.epoch.tag sats ours → slice_get sats i ≡ Some seen
       → slice_get ours i ≡ Some row → IsOwnRow m part search.epoch.tag seen row
   own_at part sats [] i seen row are at there = absurd cc
   own_at part [] (first ∷ ours) i seen row are at there = absurd are
@@ -138,8 +146,10 @@ module _ (m : Meaning) (search : Search) where
       rw (sym (same_Some one seen at), sym (same_Some first row there)) are.0
   own_at part (one ∷ sats) (first ∷ ours) (suc i) seen row are at there = own_at part sats ours i seen row are.1 at there
 
-  renewed_at : (sats : List SatObs) (renewals : List RowsOver) (renewed : List (List Row)) (j : ℕ) (new : RowsOver) (rows : List Row) → AreRenewed m search.epoch.tag sats renewals renewed
-      → slice_get renewals j ≡ Some new → slice_get renewed j ≡ Some rows → AreOwnRows m new.part search.epoch.tag sats rows
+  renewed_at : (sats : List SatObs) (renewals : List RowsOver) (renewed : List (List Row)) (j : ℕ) (new : RowsOver) (rows : List Row)
+      → AreRenewed m search.epoch.tag sats renewals renewed
+      → slice_get renewals j ≡ Some new → slice_get renewed j ≡ Some rows
+      → AreOwnRows m new.part search.epoch.tag sats rows
   renewed_at sats renewals [] j new rows are at there = absurd cc
   renewed_at sats [] (first ∷ renewed) j new rows are at there = absurd are
   renewed_at sats (one ∷ renewals) (first ∷ renewed) zero new rows are at there =
@@ -148,22 +158,27 @@ module _ (m : Meaning) (search : Search) where
 
   module _ (sound : IsSound m) (box : IsSearchBox search.root) where
     -- it passes against each of them
-    passes_at : (usable : List SatObs) (part : GridBox) (i : ℕ) (row ours : Row) → RowAt usable part i row → (rows : List Row) → AreOwnRows m part search.epoch.tag usable rows
+    passes_at : (usable : List SatObs) (part : GridBox) (i : ℕ) (row ours : Row)
+        → RowAt usable part i row → (rows : List Row)
+        → AreOwnRows m part search.epoch.tag usable rows
         → slice_get rows i ≡ Some ours → HoldsOwn m.delays row ours × HasBound m.delays row ours
     passes_at usable part i row ours r rows are at =
         let inside = holds_corner part search.root r.lies in
         own_agree m sound search.root search.epoch.tag part (low_corner part) box (part_holds part search.root (low_corner part) r.lies inside) inside r.seen r.own ours row r.judged
         r.is_own (own_at part usable rows i r.seen ours are r.at at) r.grown
 
-    pub given_held : (usable : List SatObs) (renewals : List RowsOver) (renewed : List (List Row)) → AreRenewed m search.epoch.tag usable renewals renewed
-        → (j : ℕ) (new : RowsOver) (i : ℕ) (row : Row) → slice_get renewals j ≡ Some new → RowAt usable new.part i row → HoldsGiven m.delays renewed j i row
+    pub given_held : (usable : List SatObs) (renewals : List RowsOver) (renewed : List (List Row))
+        → AreRenewed m search.epoch.tag usable renewals renewed
+        → (j : ℕ) (new : RowsOver) (i : ℕ) (row : Row) → slice_get renewals j ≡ Some new
+        → RowAt usable new.part i row → HoldsGiven m.delays renewed j i row
     given_held usable renewals renewed are j new i row at r = λ ours (rows, there, here).
         passes_at usable new.part i row ours r rows (renewed_at usable renewals renewed j new rows are at there) here
 
   -- ---- the own rows that they were made of
 
   -- one for each of these rows of usable satellites, the first of which is in this place
-  own_rows : (usable : List SatObs) (part : GridBox) (i : ℕ) (left : List SatObs) (rows : List Row) → ((k : ℕ) → slice_get left k ≡ slice_get usable (i + k))
+  own_rows : (usable : List SatObs) (part : GridBox) (i : ℕ) (left : List SatObs) (rows : List Row)
+      → ((k : ℕ) → slice_get left k ≡ slice_get usable (i + k))
       → ((k : ℕ) (row : Row) → slice_get rows k ≡ Some row → RowAt usable part (i + k) row)
       → (ours : List Row) × AreOwnRows m part search.epoch.tag left ours × (length ours ≡ length rows)
   own_rows usable part i left [] inside each = ([], tt, refl)
@@ -177,7 +192,8 @@ module _ (m : Meaning) (search : Search) where
       (λ k other at. subst (λ (n : ℕ). RowAt usable part n other) (omega arith) (each (suc k) other at)) in
       (r.own ∷ ours, (subst (λ (s : SatObs). IsOwnRow m part search.epoch.tag s r.own) (sym same) r.is_own, are), ap suc many)
 
-  pub own_renewed : (usable : List SatObs) (renewals : List RowsOver) → AllByRecursion (λ (new : RowsOver). (i : ℕ) (row : Row) → slice_get new.rows i ≡ Some row → RowAt usable new.part i row) renewals
+  pub own_renewed : (usable : List SatObs) (renewals : List RowsOver)
+      → AllByRecursion (λ (new : RowsOver). (i : ℕ) (row : Row) → slice_get new.rows i ≡ Some row → RowAt usable new.part i row) renewals
       → (renewed : List (List Row)) × AreRenewed m search.epoch.tag usable renewals renewed × HaveEachRow renewals renewed
   own_renewed usable [] each = ([], tt, tt)
   own_renewed usable (new ∷ renewals) each =
@@ -189,7 +205,9 @@ module _ (m : Meaning) (search : Search) where
 -- ---- what more is asked of each line of a renewal
 
 module _ (Meets : LineFact) (first : RowsOver) where
-  lines_meet : (j i : ℕ) (rows : List Row) → ((k : ℕ) (row : Row) → slice_get rows k ≡ Some row → Meets j (i + k) row) → LinesPass AnyLine first j i rows → LinesPass Meets first j i rows
+  lines_meet : (j i : ℕ) (rows : List Row)
+      → ((k : ℕ) (row : Row) → slice_get rows k ≡ Some row → Meets j (i + k) row)
+      → LinesPass AnyLine first j i rows → LinesPass Meets first j i rows
   lines_meet j i [] each pass = tt
   lines_meet j i (row ∷ rows) each pass = (
     (pass.0.0, subst (λ (n : ℕ). Meets j n row) (omega arith) (each 0 row refl)),
@@ -198,7 +216,8 @@ module _ (Meets : LineFact) (first : RowsOver) where
 
   events_meet : (rules : Rules) (done j : ℕ) (stage : Stage) (events : List Event)
       → ((k : ℕ) (new : RowsOver) (i : ℕ) (row : Row) → slice_get (renewals_in events) k ≡ Some new → slice_get new.rows i ≡ Some row → Meets (j + k) i row)
-      → EventsPass AnyLine first rules done j stage events → EventsPass Meets first rules done j stage events
+      → EventsPass AnyLine first rules done j stage events
+      → EventsPass Meets first rules done j stage events
   events_meet rules done j stage [] each pass = pass
   events_meet rules done j stage (Made step ∷ events) each pass = (pass.0, events_meet rules done j (after stage (Made step)) events each pass.1)
   events_meet rules done j stage (Renewed new ∷ events) each pass = (
@@ -212,6 +231,7 @@ module _ (Meets : LineFact) (first : RowsOver) where
 
   pub all_meet : (rules : Rules) (done : ℕ) (stage : Stage) (events : List Event)
       → ((j : ℕ) (new : RowsOver) (i : ℕ) (row : Row) → slice_get (renewals_in events) j ≡ Some new → slice_get new.rows i ≡ Some row → Meets j i row)
-      → EventsPass AnyLine first rules done 0 stage events → EventsPass Meets first rules done 0 stage events
+      → EventsPass AnyLine first rules done 0 stage events
+      → EventsPass Meets first rules done 0 stage events
   all_meet rules done stage events each pass =
       events_meet rules done 0 stage events (λ j new i row at there. subst (λ (n : ℕ). Meets n i row) (omega arith) (each j new i row at there)) pass

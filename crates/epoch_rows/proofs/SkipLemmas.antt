@@ -13,7 +13,8 @@ use Rattle.error_bounds.specs.Reading.{signal_of, value_of_settings}
 use Rattle.sat_rows.specs.Sources.{meaning_by, both_meaning, gps_meaning}
 use Rattle.usable_sats.specs.Usability.{Sighting, sighting_by, IsSkip, IsJudged}
 
-alone : (skip : Skip) (number : ℕ) → skip.number ≡ number → skip.field ≡ 0 → 1 ≤ number → number ≤ 5 → SkipFits skip
+alone : (skip : Skip) (number : ℕ) → skip.number ≡ number → skip.field ≡ 0 → 1 ≤ number → number ≤ 5
+    → SkipFits skip
 alone skip number is none from to = inl (inl (omega arith, omega arith), none)
 
 skip_fits : (a : Sighting) (skip : Skip) → IsSkip a skip → SkipFits skip
@@ -24,15 +25,19 @@ skip_fits a skip (inr (inr (inr (inl (is, none, lacks))))) = alone skip 4 is non
 skip_fits a skip (inr (inr (inr (inr (inl (is, none, lacks)))))) = alone skip 5 is none (omega arith) (omega arith)
 skip_fits a skip (inr (inr (inr (inr (inr (is, lacks)))))) = inr (is, (lacks.first.from, lacks.first.to))
 
-judged_fits : (delays : Delays) (root : GridBox) (a : Sighting) (skip : Skip) → IsJudged delays root a (Some skip) → SkipFits skip
+judged_fits : (delays : Delays) (root : GridBox) (a : Sighting) (skip : Skip)
+    → IsJudged delays root a (Some skip) → SkipFits skip
 judged_fits delays root a skip (inl own) = skip_fits a skip own
 judged_fits delays root a skip (inr low) = inl (inr low.number, low.field)
 
-pub skips_fit_by : (galileo : Option Signal) (records : List NavRecord) (settings : Settings) → SkipsFit (meaning_by galileo records settings)
+pub skips_fit_by : (galileo : Option Signal) (records : List NavRecord) (settings : Settings)
+    → SkipsFit (meaning_by galileo records settings)
 skips_fit_by galileo records settings root tag seen skip judged = judged_fits settings.delays root (sighting_by galileo records settings tag seen) skip judged
 
-pub both_skips_fit : (records : List NavRecord) (settings : Settings) → SkipsFit (both_meaning records settings)
+pub both_skips_fit : (records : List NavRecord) (settings : Settings)
+    → SkipsFit (both_meaning records settings)
 both_skips_fit records settings = skips_fit_by (signal_of (value_of_settings settings).galileo) records settings
 
-pub gps_skips_fit : (records : List NavRecord) (settings : Settings) → SkipsFit (gps_meaning records settings)
+pub gps_skips_fit : (records : List NavRecord) (settings : Settings)
+    → SkipsFit (gps_meaning records settings)
 gps_skips_fit records settings = skips_fit_by None records settings

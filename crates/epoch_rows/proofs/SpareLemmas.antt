@@ -34,16 +34,19 @@ spare_le root = omega (arith, longest_le root)
 amount_le : (n : ℕ) (z : ℤ) → IsWithin n z → nat_abs z ≤ n
 amount_le n z within = omega (arith, ints, within.low, within.high)
 
-spread_le : (layer : Layer) (n amount d : ℕ) → amount ≤ n → d ≤ 2 * 10 ^ 13 → spare_over layer amount d ≤ spare_over layer n (2 * 10 ^ 13)
+spread_le : (layer : Layer) (n amount d : ℕ) → amount ≤ n → d ≤ 2 * 10 ^ 13
+    → spare_over layer amount d ≤ spare_over layer n (2 * 10 ^ 13)
 spread_le Troposphere n amount d few short = let less = mul-le amount d n (2 * 10 ^ 13) few short in omega (arith, less)
 spread_le Ionosphere n amount d few short = let less = mul-le amount d n (2 * 10 ^ 13) few short in omega (arith, less)
 
-delay_spare_le : (layer : Layer) (n : ℕ) (root : Box3) (delay : Option Span) → IsDelayWithin n delay → delay_spare layer (grid_box root) delay ≤ spare_over layer n (2 * 10 ^ 13)
+delay_spare_le : (layer : Layer) (n : ℕ) (root : Box3) (delay : Option Span) → IsDelayWithin n delay
+    → delay_spare layer (grid_box root) delay ≤ spare_over layer n (2 * 10 ^ 13)
 delay_spare_le layer n root None within = omega arith
 delay_spare_le layer n root (Some s) within =
     spread_le layer n (span_amount s) (longest_length (grid_box root)) (omega (arith, amount_le n s.lo (within.low s refl), amount_le n s.hi (within.high s refl))) (longest_le root)
 
-pub err_spare_le : (root : Box3) (delays : Delays) → AreDelays delays → err_spare_of (grid_box root) delays ≤ greatest_err_spare
+pub err_spare_le : (root : Box3) (delays : Delays) → AreDelays delays
+    → err_spare_of (grid_box root) delays ≤ greatest_err_spare
 err_spare_le root delays within =
     let zenith = delay_spare_le Troposphere (10 ^ 7) root delays.zenith within.zenith in
     let vertical = delay_spare_le Ionosphere (10 ^ 8) root delays.vertical within.vertical in

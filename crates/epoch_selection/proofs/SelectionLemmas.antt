@@ -24,17 +24,21 @@ module _ (s : Selection) (epochs : List ObsEpoch) (i : ℕ) (epoch : ObsEpoch) (
   }
 
   -- or is passed over too
-  pub passed_over : is_selected s epoch ≡ false → selected s epochs ≡ selected s (drop (i + 1) epochs)
+  pub passed_over : is_selected s epoch ≡ false
+      → selected s epochs ≡ selected s (drop (i + 1) epochs)
   passed_over other = so_far ∙ ap (selected s) (next_item epochs i epoch within is) ∙ filter_no (is_selected s) epoch (drop (i + 1) epochs) other
 
-pub all_passed : (s : Selection) (epochs : List ObsEpoch) (i : ℕ) → selected s epochs ≡ selected s (drop i epochs) → length epochs ≤ i → selected s epochs ≡ []
+pub all_passed : (s : Selection) (epochs : List ObsEpoch) (i : ℕ)
+    → selected s epochs ≡ selected s (drop i epochs) → length epochs ≤ i → selected s epochs ≡ []
 all_passed s epochs i so_far ended = so_far ∙ ap (selected s) (no_item epochs i ended)
 
 -- the epoch at the place of the first selected one
-pub first_at : (s : Selection) (epochs : List ObsEpoch) (i : ℕ) (epoch : ObsEpoch) (first : IsFirstSelected s epochs i) → epoch ≡ get_or epochs i epoch → epoch ≡ first.epoch
+pub first_at : (s : Selection) (epochs : List ObsEpoch) (i : ℕ) (epoch : ObsEpoch) (first : IsFirstSelected s epochs i)
+    → epoch ≡ get_or epochs i epoch → epoch ≡ first.epoch
 first_at s epochs i epoch first is =
     same_some (slice_get epochs i) epoch first.epoch (slice_get_read epochs (length epochs) i epoch refl (slice_get_within epochs i first.epoch first.at) is) first.at
 
 -- the first search is that of the epoch that was taken
-pub taken_search : (old : Searches) (epoch : ObsEpoch) (new : Searches) → IsTaken old epoch new → searches_left old ≡ search_in (grid_box old.root) epoch ∷ searches_left new
+pub taken_search : (old : Searches) (epoch : ObsEpoch) (new : Searches) → IsTaken old epoch new
+    → searches_left old ≡ search_in (grid_box old.root) epoch ∷ searches_left new
 taken_search old epoch new taken = rw taken.same_root (ap (searches_in (grid_box old.root)) taken.first)

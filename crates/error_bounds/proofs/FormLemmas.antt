@@ -24,22 +24,27 @@ from_between lo hi n h =
 
 -- ---- lists whose members are all of one kind
 
-members_long : {V : Type 0} (kind : Data → Option V) (vs : List Value) (ns : List V) → all_members kind (items_view vs) ≡ Some ns → length ns ≡ length vs
+members_long : {V : Type 0} (kind : Data → Option V) (vs : List Value) (ns : List V)
+    → all_members kind (items_view vs) ≡ Some ns → length ns ≡ length vs
 members_long kind [] ns h = rw (← same_Some _ _ h) refl
 members_long {V} kind (v ∷ vs) ns h = longer (kind (view v)) (all_members kind (items_view vs)) ns h (members_long kind vs)
   where
-    longer : (o : Option V) (more : Option (List V)) (ns : List V) → option_and_then (λ v. option_map (λ vs. v ∷ vs) more) o ≡ Some ns → ((ms : List V) → more ≡ Some ms → length ms ≡ length vs) → length ns ≡ suc (length vs)
+    longer : (o : Option V) (more : Option (List V)) (ns : List V)
+        → option_and_then (λ v. option_map (λ vs. v ∷ vs) more) o ≡ Some ns
+        → ((ms : List V) → more ≡ Some ms → length ms ≡ length vs) → length ns ≡ suc (length vs)
     longer None more ns h ih = absurd (none-some ns h)
     longer (Some x) None ns h ih = absurd (none-some ns h)
     longer (Some x) (Some ms) ns h ih = rw (← same_Some _ _ h) (ap suc (ih ms refl))
 
 -- a list of another length
 pub others_outside : {V W : Type 0} (kind : Data → Option V) (form : List V → Result W Fault) (n : ℕ) (vs : List Value)
-    → ((ns : List V) → (length ns ≢ n) → form ns ≡ Err Outside) → (length vs ≢ n) → true ≡ is_some (all_members kind (items_view vs))
+    → ((ns : List V) → (length ns ≢ n) → form ns ≡ Err Outside) → (length vs ≢ n)
+    → true ≡ is_some (all_members kind (items_view vs))
     → Err Outside ≡ of_kind (all_members kind (items_view vs)) form
 others_outside {V} {W} kind form n vs outside other there = by_members (all_members kind (items_view vs)) (members_long kind vs) there
   where
-    by_members : (o : Option (List V)) → ((ns : List V) → o ≡ Some ns → length ns ≡ length vs) → true ≡ is_some o → Err Outside ≡ of_kind o form
+    by_members : (o : Option (List V)) → ((ns : List V) → o ≡ Some ns → length ns ≡ length vs)
+        → true ≡ is_some o → Err Outside ≡ of_kind o form
     by_members None long there = absurd (false≢true (sym there))
     by_members (Some ns) long there = sym (outside ns (λ e. other (sym (long ns refl) ∙ e)))
 
@@ -61,14 +66,17 @@ not_one_code [] other = refl
 not_one_code (x ∷ []) other = absurd (other refl)
 not_one_code (x ∷ y ∷ ns) other = refl
 
-pub not_two_codes : (band : ℕ) (ns : List (List ℕ)) → (length ns ≢ 2) → dual_codes band ns ≡ Err Outside
+pub not_two_codes : (band : ℕ) (ns : List (List ℕ)) → (length ns ≢ 2)
+    → dual_codes band ns ≡ Err Outside
 not_two_codes band [] other = refl
 not_two_codes band (x ∷ []) other = refl
 not_two_codes band (x ∷ y ∷ []) other = absurd (other refl)
 not_two_codes band (x ∷ y ∷ z ∷ ns) other = refl
 
-pub two_members : {V : Type 0} (kind : Data → Option V) (vs : List Value) (a b : Value) (x y : V) → length vs ≡ 2 → a ≡ get_or vs 0 a → b ≡ get_or vs 1 b
-    → kind (view a) ≡ Some x → kind (view b) ≡ Some y → all_members kind (items_view vs) ≡ Some (x ∷ y ∷ [])
+pub two_members : {V : Type 0} (kind : Data → Option V) (vs : List Value) (a b : Value) (x y : V)
+    → length vs ≡ 2 → a ≡ get_or vs 0 a → b ≡ get_or vs 1 b
+    → kind (view a) ≡ Some x → kind (view b) ≡ Some y
+    → all_members kind (items_view vs) ≡ Some (x ∷ y ∷ [])
 two_members kind [] a b x y l ia ib fa fb = absurd (omega (arith, l))
 two_members kind (u ∷ []) a b x y l ia ib fa fb = absurd (omega (arith, l))
 two_members kind (u ∷ v ∷ []) a b x y l ia ib fa fb = rw (← ia, ← ib, fa, fb) refl
@@ -76,12 +84,14 @@ two_members kind (u ∷ v ∷ w ∷ vs) a b x y l ia ib fa fb = absurd (omega (a
 
 -- ---- sizes
 
-pub half_of : (n m : ℤ) → is_from (pos 1) (pos 100000000) n ≡ true → m ≡ n *ℤ pos 1000 → IsHalfSide m
+pub half_of : (n m : ℤ) → is_from (pos 1) (pos 100000000) n ≡ true → m ≡ n *ℤ pos 1000
+    → IsHalfSide m
 half_of n m h e =
     let (low, high) = from_between (pos 1) (pos 100000000) n h in
     record { low = omega (arith, ints, low, e); high = omega (arith, ints, high, e) }
 
-pub coordinate_of : (n m : ℤ) → is_from (negsuc 8499999999) (pos 8500000000) n ≡ true → m ≡ n *ℤ pos 1000 → IsWithin 8500000000000 m
+pub coordinate_of : (n m : ℤ) → is_from (negsuc 8499999999) (pos 8500000000) n ≡ true
+    → m ≡ n *ℤ pos 1000 → IsWithin 8500000000000 m
 coordinate_of n m h e =
     let (low, high) = from_between (negsuc 8499999999) (pos 8500000000) n h in
     record { low = omega (arith, ints, low, e); high = omega (arith, ints, high, e) }

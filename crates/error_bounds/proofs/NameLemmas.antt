@@ -6,7 +6,8 @@ use Rattle.std.specs.Ordering.{is_lt}
 use Rattle.std.specs.String.{string_cmp}
 use Rattle.error_bounds.specs.Names.{IsFirstName}
 
-pub first_of_texts : (xs : List (String Global)) (x : String Global) → Contains xs x → All (λ other. is_lt (string_cmp other x) ≡ false) xs
+pub first_of_texts : (xs : List (String Global)) (x : String Global) → Contains xs x
+    → All (λ other. is_lt (string_cmp other x) ≡ false) xs
     → IsFirstName (map string_bytes xs) (string_bytes x)
 first_of_texts xs x (k, bound, here) first = record {
   among = (k, rw (length-map xs (string_bytes {Z = Global})) bound, get_or-map string_bytes xs k x (string_bytes x) bound ∙ ap string_bytes here);
@@ -24,7 +25,8 @@ six_joined a b c d e f =
 
 -- lists that are added one behind another
 pub all_added : {X : Type 0} (a b c d e f g n1 n2 n3 n4 n5 n6 n7 : List X)
-    → n1 ≡ a → n2 ≡ n1 ++ b → n3 ≡ n2 ++ c → n4 ≡ n3 ++ d → n5 ≡ n4 ++ e → n6 ≡ n5 ++ f → n7 ≡ n6 ++ g
+    → n1 ≡ a → n2 ≡ n1 ++ b → n3 ≡ n2 ++ c → n4 ≡ n3 ++ d → n5 ≡ n4 ++ e → n6 ≡ n5 ++ f
+    → n7 ≡ n6 ++ g
     → n7 ≡ a ++ (b ++ (c ++ (d ++ (e ++ (f ++ g)))))
 all_added a b c d e f g n1 n2 n3 n4 n5 n6 n7 e1 e2 e3 e4 e5 e6 e7 =
     rw (e7, e6, e5, e4, e3, e2, e1)

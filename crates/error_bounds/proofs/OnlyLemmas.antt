@@ -26,24 +26,29 @@ use Rattle.error_bounds.specs.declared.fault.SettingsError.{SettingsError}
 same_read : {A E : Type 0} (a b : A) (r : Result A E) → r ≡ Ok a → r ≡ Ok b → a ≡ b
 same_read a b r e f = ap (λ x. result_unwrap_or x a) (sym e ∙ f)
 
-same_sum : (a b c d a' b' c' d' : ℤ × ℤ) → a ≡ a' → b ≡ b' → c ≡ c' → d ≡ d' → add (add (add a b) c) d ≡ add (add (add a' b') c') d'
+same_sum : (a b c d a' b' c' d' : ℤ × ℤ) → a ≡ a' → b ≡ b' → c ≡ c' → d ≡ d'
+    → add (add (add a b) c) d ≡ add (add (add a' b') c') d'
 same_sum a b c d a' b' c' d' ea eb ec ed = rw (ea, eb, ec, ed) refl
 
 same_fields : (c c' : Centre) (h h' : Pos) (o o' b b' : ℕ) (w w' : ℤ) (m m' : ℕ) (r r' d d' : Bool) (s s' : Signal) (k k' : ℤ × ℤ) (x x' : List (Sat × (ℤ × ℤ))) (z z' u u' : Option (ℤ × ℤ)) (g g' : Option GalileoValue) (v v' : Option ℕ)
-    → c ≡ c' → h ≡ h' → o ≡ o' → b ≡ b' → w ≡ w' → m ≡ m' → r ≡ r' → d ≡ d' → s ≡ s' → k ≡ k' → x ≡ x' → z ≡ z' → u ≡ u' → g ≡ g' → v ≡ v'
+    → c ≡ c' → h ≡ h' → o ≡ o' → b ≡ b' → w ≡ w' → m ≡ m' → r ≡ r' → d ≡ d' → s ≡ s' → k ≡ k'
+    → x ≡ x' → z ≡ z' → u ≡ u' → g ≡ g' → v ≡ v'
     → ◌≡◌ {A = SettingsValue} (record { centre = c; half = h; outliers = o; bisections = b; width = w; max_age = m; renew = r; pairs = d; signal = s; common = k; extra = x; zenith = z; vertical = u; galileo = g; speed = v })
     (record { centre = c'; half = h'; outliers = o'; bisections = b'; width = w'; max_age = m'; renew = r'; pairs = d'; signal = s'; common = k'; extra = x'; zenith = z'; vertical = u'; galileo = g'; speed = v' })
 same_fields c c' h h' o o' b b' w w' m m' r r' d d' s s' k k' x x' z z' u u' g g' v v' ec eh eo eb ew em er ed es ek ex ez eu eg ev = cc
 
-none_read : {V : Type 0} (key : Key V) (tree : Members) (v : V) → get_member key.table tree ≡ None → value_of key tree ≡ Ok v → ⊥
+none_read : {V : Type 0} (key : Key V) (tree : Members) (v : V) → get_member key.table tree ≡ None
+    → value_of key tree ≡ Ok v → ⊥
 none_read key tree v none is =
     let fault : value_of key tree ≡ Err Missing = rw none refl in
     cc
 
-same_declared : (s t : Signal) (a b : ℤ × ℤ) → s ≡ t → a ≡ b → ◌≡◌ {A = Option GalileoValue} (Some (record { signal = s; offset = a })) (Some (record { signal = t; offset = b }))
+same_declared : (s t : Signal) (a b : ℤ × ℤ) → s ≡ t → a ≡ b
+    → ◌≡◌ {A = Option GalileoValue} (Some (record { signal = s; offset = a })) (Some (record { signal = t; offset = b }))
 same_declared s t a b e f = rw (e, f) refl
 
-same_galileo : (tree : Members) (v w : Option GalileoValue) → IsGalileo tree v → IsGalileo tree w → v ≡ w
+same_galileo : (tree : Members) (v w : Option GalileoValue) → IsGalileo tree v → IsGalileo tree w
+    → v ≡ w
 same_galileo tree None None p q = refl
 same_galileo tree None (Some w) p q = absurd (none_read galileo_codes tree w.signal p q.0)
 same_galileo tree (Some v) None p q = absurd (none_read galileo_codes tree v.signal q p.0)
@@ -61,19 +66,22 @@ one_value tree v w p q =
 one_tree : (text : List ℕ) (a b : Members) → IsTree text a → IsTree text b → a ≡ b
 one_tree text a b p q = same_Some a b (sym p.parsed ∙ q.parsed)
 
-pub one_settings : (text : List ℕ) (v w : SettingsValue) → IsSettings text v → IsSettings text w → v ≡ w
+pub one_settings : (text : List ℕ) (v w : SettingsValue) → IsSettings text v → IsSettings text w
+    → v ≡ w
 one_settings text v w p q =
     let same = one_tree text q.tree p.tree q.is_tree p.is_tree in
     one_value p.tree v w p.value (rw same at q.value)
 
 -- ---- first faults
 
-first_by : (o : Ordering) (a b : List ℕ) → o ≡ slice_cmp nat_cmp a b → is_lt o ≡ false → is_lt (ordering_reverse o) ≡ false → a ≡ b
+first_by : (o : Ordering) (a b : List ℕ) → o ≡ slice_cmp nat_cmp a b → is_lt o ≡ false
+    → is_lt (ordering_reverse o) ≡ false → a ≡ b
 first_by Less a b e ab ba = absurd (false≢true (sym ab))
 first_by Greater a b e ab ba = absurd (false≢true (sym ba))
 first_by Equal a b e ab ba = (bytes_decides a b).0 (sym (is_eq-slice_cmp a b) ∙ ap is_eq (sym e))
 
-one_first : (names : List (List ℕ)) (a b : List ℕ) → IsFirstName names a → IsFirstName names b → a ≡ b
+one_first : (names : List (List ℕ)) (a b : List ℕ) → IsFirstName names a → IsFirstName names b
+    → a ≡ b
 one_first names a b p q =
     let ba : is_lt (slice_cmp nat_cmp b a) ≡ false = rw q.among.2 at (p.first q.among.0 b q.among.1) in
     let ab : is_lt (slice_cmp nat_cmp a b) ≡ false = rw p.among.2 at (q.first p.among.0 a p.among.1) in
@@ -82,7 +90,8 @@ one_first names a b p q =
 none_first : (names : List (List ℕ)) (a : List ℕ) → names ≡ [] → IsFirstName names a → ⊥
 none_first names a e p = absurd (omega (arith, p.among.1, ap length e))
 
-same_found : (f g : Fault) (a b : List ℕ) → f ≡ g → a ≡ b → ◌≡◌ {A = Found} (record { fault = f; key = a }) (record { fault = g; key = b })
+same_found : (f g : Fault) (a b : List ℕ) → f ≡ g → a ≡ b
+    → ◌≡◌ {A = Found} (record { fault = f; key = a }) (record { fault = g; key = b })
 same_found f g a b d e = cc
 
 one_found : (tree : Members) (a b : Found) → IsFound tree a → IsFound tree b → a ≡ b
@@ -99,7 +108,8 @@ one_fault text a b (inr p) (inr q) =
     let same = one_tree text q.0 p.0 q.1 p.1 in
     one_found p.0 a b p.2 (rw same at q.2)
 
-pub not_both : (text : List ℕ) (v : SettingsValue) (found : Found) → IsSettings text v → IsFirstFault text found → ⊥
+pub not_both : (text : List ℕ) (v : SettingsValue) (found : Found) → IsSettings text v
+    → IsFirstFault text found → ⊥
 not_both text v found p (inl q) = none-some p.tree (sym (q.0 p.is_tree.utf8) ∙ p.is_tree.parsed)
 not_both text v found p (inr q) = of_tree (rw (one_tree text q.0 p.tree q.1 p.is_tree) at q.2)
   where
@@ -107,13 +117,15 @@ not_both text v found p (inr q) = of_tree (rw (one_tree text q.0 p.tree q.1 p.is
     of_tree (inl e) = none-some found (sym p.faultless ∙ e)
     of_tree (inr e) = none_first (unknown p.tree) found.key p.known e.2
 
-pub gives_settings : (text : List ℕ) (v : SettingsValue) (r : Result Settings SettingsError) → IfOk r (λ s. IsSettings text (value_of_settings s)) → IfErr r (RefusesFirst text)
+pub gives_settings : (text : List ℕ) (v : SettingsValue) (r : Result Settings SettingsError)
+    → IfOk r (λ s. IsSettings text (value_of_settings s)) → IfErr r (RefusesFirst text)
     → IsSettings text v → GivesSettings v r
 gives_settings text v (Ok s) ok err is = one_settings text (value_of_settings s) v ok is
 gives_settings text v (Err NoMemory) ok err is = refl
 gives_settings text v (Err (Refused told)) ok err is = absurd (not_both text v err.0 is err.1)
 
-pub gives_fault : (text : List ℕ) (found : Found) (r : Result Settings SettingsError) → IfOk r (λ s. IsSettings text (value_of_settings s)) → IfErr r (RefusesFirst text)
+pub gives_fault : (text : List ℕ) (found : Found) (r : Result Settings SettingsError)
+    → IfOk r (λ s. IsSettings text (value_of_settings s)) → IfErr r (RefusesFirst text)
     → IsFirstFault text found → GivesFault found r
 gives_fault text found (Ok s) ok err is = not_both text (value_of_settings s) found ok is
 gives_fault text found (Err NoMemory) ok err is = tt

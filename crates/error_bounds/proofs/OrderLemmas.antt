@@ -16,11 +16,14 @@ none_listed sat = record {
   below = λ k d within. absurd (omega (arith, within));
 }
 
-before_next : (a : Sat) (system n : ℕ) → IsBefore a (record { system = system; number = n }) → IsBefore a (record { system = system; number = n + 1 })
+before_next : (a : Sat) (system n : ℕ) → IsBefore a (record { system = system; number = n })
+    → IsBefore a (record { system = system; number = n + 1 })
 before_next a system n less = omega (arith, less)
 
 -- behind all of a system those of a later one may come
-pub listed_later : (system next n m : ℕ) (extra : List (Sat × Span)) → system < next → n ≤ 256 → AreListed (record { system = system; number = n }) extra → AreListed (record { system = next; number = m }) extra
+pub listed_later : (system next n m : ℕ) (extra : List (Sat × Span)) → system < next → n ≤ 256
+    → AreListed (record { system = system; number = n }) extra
+    → AreListed (record { system = next; number = m }) extra
 listed_later system next n m extra more fits l = record { declared = l.declared; ascending = l.ascending; below = λ k d within. omega (arith, more, fits, l.below k d within) }
 
 below_or_last : (j n : ℕ) → j < n + 1 → (j < n) ⊎ (j ≡ n)
@@ -32,7 +35,8 @@ below_or_last (suc j) (suc n) h = elim (below_or_last j n (omega (arith, h))) [
   | inr same ↦ inr (omega (arith, same))
 ]
 
-ascending_next : (old : List (Sat × Span)) (x : Sat × Span) → IsAscending old → All (λ e. IsBefore e.0 x.0) old → IsAscending (old ++ x ∷ [])
+ascending_next : (old : List (Sat × Span)) (x : Sat × Span) → IsAscending old
+    → All (λ e. IsBefore e.0 x.0) old → IsAscending (old ++ x ∷ [])
 ascending_next old x up below i j d less within = elim (below_or_last j (length old) (omega (arith, within, length-append old (x ∷ [])))) [
   | inl inside ↦
       subst (λ (p : Sat × Span). IsBefore p.0 (slice_index_or (old ++ x ∷ []) j d).0) (sym (get_or_append_left old (x ∷ []) d i (omega (arith, less, inside))))
@@ -45,7 +49,8 @@ ascending_next old x up below i j d less within = elim (below_or_last j (length 
 ]
 
 -- one more with its span
-pub listed_next : (sat : Sat) (span : Span) (old new : List (Sat × Span)) → IsDeclared span → new ≡ old ++ (sat, span) ∷ [] → AreListed sat old
+pub listed_next : (sat : Sat) (span : Span) (old new : List (Sat × Span)) → IsDeclared span
+    → new ≡ old ++ (sat, span) ∷ [] → AreListed sat old
     → AreListed (record { system = sat.system; number = sat.number + 1 }) new
 listed_next sat span old new within e l =
     let next : Sat = record { system = sat.system; number = sat.number + 1 } in
@@ -58,5 +63,6 @@ listed_next sat span old new within e l =
     subst (AreListed next) (sym e) all
 
 -- none more
-pub listed_without : (sat : Sat) (extra : List (Sat × Span)) → AreListed sat extra → AreListed (record { system = sat.system; number = sat.number + 1 }) extra
+pub listed_without : (sat : Sat) (extra : List (Sat × Span)) → AreListed sat extra
+    → AreListed (record { system = sat.system; number = sat.number + 1 }) extra
 listed_without sat extra l = record { declared = l.declared; ascending = l.ascending; below = λ k d less. before_next _ sat.system sat.number (l.below k d less) }

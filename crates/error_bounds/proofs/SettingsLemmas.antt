@@ -13,7 +13,8 @@ use Rattle.error_bounds.specs.Sizes.{IsNearEarth, IsCentre, IsHalfSide, AreHalfS
 use Rattle.error_bounds.specs.declared.settings.Centre.{Centre}
 use Rattle.error_bounds.specs.declared.settings.Centre.TheVariants.{Header, At}
 
-pub same_box : (a b c d e f a' b' c' d' e' f' : ℤ) → a ≡ a' → b ≡ b' → c ≡ c' → d ≡ d' → e ≡ e' → f ≡ f'
+pub same_box : (a b c d e f a' b' c' d' e' f' : ℤ) → a ≡ a' → b ≡ b' → c ≡ c' → d ≡ d' → e ≡ e'
+    → f ≡ f'
     → ◌≡◌ {A = GridBox} (record { x = record { lo = a; hi = b }; y = record { lo = c; hi = d }; z = record { lo = e; hi = f } })
     (record { x = record { lo = a'; hi = b' }; y = record { lo = c'; hi = d' }; z = record { lo = e'; hi = f' } })
 same_box a b c d e f a' b' c' d' e' f' ha hb hc hd he hf = cc
@@ -32,7 +33,8 @@ searched c h near half = record {
 short : (c h : ℤ) → IsHalfSide h → side_length (around c h) ≤ 2 * 10 ^ 11
 short c h half = omega (arith, ints, half.high, above_is (c +ℤ h) (c -ℤ h))
 
-pub box_searched : (p half : Pos) → IsNearEarth p → AreHalfSides half → IsSearchBox (box_around p half)
+pub box_searched : (p half : Pos) → IsNearEarth p → AreHalfSides half
+    → IsSearchBox (box_around p half)
 box_searched p half near sides = record {
   x = searched p.x half.x near.x sides.x;
   y = searched p.y half.y near.y sides.y;
@@ -40,7 +42,9 @@ box_searched p half near sides = record {
   short = omega (arith, short p.x half.x sides.x, short p.y half.y sides.y, short p.z half.z sides.z);
 }
 
-known_searched : (p : Option Pos) (half : Pos) (root : GridBox) → ((q : Pos) → p ≡ Some q → IsNearEarth q) → AreHalfSides half → IsRoot p half root → IsSearchBox root
+known_searched : (p : Option Pos) (half : Pos) (root : GridBox)
+    → ((q : Pos) → p ≡ Some q → IsNearEarth q) → AreHalfSides half → IsRoot p half root
+    → IsSearchBox root
 known_searched None half root near sides is = absurd is
 known_searched (Some p) half root near sides is = rw is (box_searched p half (near p refl) sides)
 
@@ -48,10 +52,12 @@ header_near : (header : Option Pos) → IsKnown header → (q : Pos) → header 
 header_near None known q e = absurd known
 header_near (Some p) known q e = rw (← same_Some p q e) known
 
-centre_near : (header : Option Pos) (centre : Centre) → IsCentre centre → IsEnough centre header → (q : Pos) → centre_with header centre ≡ Some q → IsNearEarth q
+centre_near : (header : Option Pos) (centre : Centre) → IsCentre centre → IsEnough centre header
+    → (q : Pos) → centre_with header centre ≡ Some q → IsNearEarth q
 centre_near header Header is enough q e = header_near header enough q e
 centre_near header (At p) is enough q e = rw (← same_Some p q e) (is.near p refl)
 
-pub root_is_search_box : (header : Option Pos) (centre : Centre) (half : Pos) (root : GridBox) → IsCentre centre → AreHalfSides half → IsEnough centre header
+pub root_is_search_box : (header : Option Pos) (centre : Centre) (half : Pos) (root : GridBox)
+    → IsCentre centre → AreHalfSides half → IsEnough centre header
     → IsRoot (centre_with header centre) half root → IsSearchBox root
 root_is_search_box header centre half root near sides enough = known_searched (centre_with header centre) half root (centre_near header centre near enough) sides

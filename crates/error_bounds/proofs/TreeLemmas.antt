@@ -45,25 +45,32 @@ module _ (tree : Members) (a : first_found (search_tests tree) ≡ None) where
           pub all_none : first_found (satellite_tests tree) ≡ None → first_found (tests tree) ≡ None
           all_none e = after_motion ∙ e
 
-          pub from_satellites : (error : SettingsError) → RefusesTests (satellite_tests tree) error → RefusesTree tree error
+          pub from_satellites : (error : SettingsError) → RefusesTests (satellite_tests tree) error
+              → RefusesTree tree error
           from_satellites NoMemory refused = tt
           from_satellites (Refused told) (found, here, tells) = (found, inl (after_motion ∙ here), tells)
 
-        pub from_motion : (told : SettingsFault) → TellsFirst (motion_tests tree) told → RefusesTree tree (Refused told)
+        pub from_motion : (told : SettingsFault) → TellsFirst (motion_tests tree) told
+            → RefusesTree tree (Refused told)
         from_motion told (found, here, tells) = (found, inl (after_galileo ∙ found_before (motion_tests tree) (satellite_tests tree) found here), tells)
 
-      pub from_galileo : (told : SettingsFault) → TellsFirst (galileo_tests tree) told → RefusesTree tree (Refused told)
+      pub from_galileo : (told : SettingsFault) → TellsFirst (galileo_tests tree) told
+          → RefusesTree tree (Refused told)
       from_galileo told (found, here, tells) = (found, inl (after_bounds ∙ found_before (galileo_tests tree) (behind_galileo tree) found here), tells)
 
-    pub from_bounds : (told : SettingsFault) → TellsFirst (bounds_tests tree) told → RefusesTree tree (Refused told)
+    pub from_bounds : (told : SettingsFault) → TellsFirst (bounds_tests tree) told
+        → RefusesTree tree (Refused told)
     from_bounds told (found, here, tells) = (found, inl (after_signal ∙ found_before (bounds_tests tree) (behind_bounds tree) found here), tells)
 
-  pub from_signal : (told : SettingsFault) → TellsFirst (signal_tests tree) told → RefusesTree tree (Refused told)
+  pub from_signal : (told : SettingsFault) → TellsFirst (signal_tests tree) told
+      → RefusesTree tree (Refused told)
   from_signal told (found, here, tells) = (found, inl (after_search ∙ found_before (signal_tests tree) (behind_signal tree) found here), tells)
 
-pub from_search : (tree : Members) (told : SettingsFault) → TellsFirst (search_tests tree) told → RefusesTree tree (Refused told)
+pub from_search : (tree : Members) (told : SettingsFault) → TellsFirst (search_tests tree) told
+    → RefusesTree tree (Refused told)
 from_search tree told (found, here, tells) = (found, inl (found_before (search_tests tree) (behind_search tree) found here), tells)
 
-pub from_names : (tree : Members) (error : SettingsError) → first_found (tests tree) ≡ None → RefusesName (unknown tree) error → RefusesTree tree error
+pub from_names : (tree : Members) (error : SettingsError) → first_found (tests tree) ≡ None
+    → RefusesName (unknown tree) error → RefusesTree tree error
 from_names tree NoMemory none refused = tt
 from_names tree (Refused told) none (name, first, tells) = (record { fault = Unknown; key = name }, inr (none, refl, first), tells)

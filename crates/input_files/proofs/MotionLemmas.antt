@@ -20,21 +20,25 @@ use Rattle.input_files.specs.declared.notice.Notice.TheVariants as notice
 use Rattle.input_files.specs.declared.status.Status.TheVariants as status
 
 -- none is missed where it is there
-none_missed : (moving : Bool) (speed : Option ℕ) → HasMotion moving speed → moving ≡ true → speed ≡ None → ⊥
+none_missed : (moving : Bool) (speed : Option ℕ) → HasMotion moving speed → moving ≡ true
+    → speed ≡ None → ⊥
 none_missed false speed has moves none = cc
 none_missed true None has moves none = has
 none_missed true (Some speed) has moves none = cc
 
-lacks_moves : (moving : Bool) (bytes : List ℕ) (told : SettingsFault) → LacksSpeed moving bytes told → moving ≡ true
+lacks_moves : (moving : Bool) (bytes : List ℕ) (told : SettingsFault) → LacksSpeed moving bytes told
+    → moving ≡ true
 lacks_moves false bytes told lacks = absurd lacks
 lacks_moves true bytes told lacks = refl
 
-lacks_of : (moving : Bool) (bytes : List ℕ) (told : SettingsFault) (v : SettingsValue) → moving ≡ true → IsSettings bytes v → speed_in v ≡ None → Tells no_speed told
+lacks_of : (moving : Bool) (bytes : List ℕ) (told : SettingsFault) (v : SettingsValue)
+    → moving ≡ true → IsSettings bytes v → speed_in v ≡ None → Tells no_speed told
     → LacksSpeed moving bytes told
 lacks_of false bytes told v moves is none tells = cc
 lacks_of true bytes told v moves is none tells = (v, is, none, tells)
 
-lacking : (moving : Bool) (bytes : List ℕ) (told : SettingsFault) → LacksSpeed moving bytes told → (v : SettingsValue) × IsSettings bytes v × (speed_in v ≡ None)
+lacking : (moving : Bool) (bytes : List ℕ) (told : SettingsFault) → LacksSpeed moving bytes told
+    → (v : SettingsValue) × IsSettings bytes v × (speed_in v ≡ None)
 lacking false bytes told lacks = absurd lacks
 lacking true bytes told (v, is, none, tells) = (v, is, none)
 
@@ -43,7 +47,8 @@ lacking true bytes told (v, is, none, tells) = (v, is, none)
 module _ (moving : Bool) (bytes : List ℕ) (s : Settings) (is : IsSettings bytes (value_of_settings s))
     (exact : (v : SettingsValue) → IsSettings bytes v → value_of_settings s ≡ v)
     (first : (found : Found) → IsFirstFault bytes found → ⊥) where
-  pub read_gives : (r : Result Settings Notice) → IfOk r (λ kept. kept ≡ s) → IfOk r (λ kept. HasMotion moving (speed_of kept)) → IfErr r (speed_missed moving s)
+  pub read_gives : (r : Result Settings Notice) → IfOk r (λ kept. kept ≡ s)
+      → IfOk r (λ kept. HasMotion moving (speed_of kept)) → IfErr r (speed_missed moving s)
       → GivesOrEnds (settings_text moving) bytes (valued value_of_settings r)
   read_gives (Ok kept) same has missed = inr (rw same is, has)
   read_gives (Err (notice.BadInput (input.Settings told))) same has (moves, none, tells) =
@@ -65,8 +70,10 @@ module _ (moving : Bool) (bytes : List ℕ) (s : Settings) (is : IsSettings byte
   missed_for (notice.BadInput (input.Settings told)) (moves, none, tells) = (moves, none)
   missed_for _ missed = absurd missed
 
-  pub read_same : (r : Result Settings Notice) → IfOk r (λ kept. kept ≡ s) → IfOk r (λ kept. HasMotion moving (speed_of kept)) → IfErr r (speed_missed moving s)
-      → (other : Result SettingsValue Notice) → Gives (settings_text moving) bytes other → Settles (valued value_of_settings r) other
+  pub read_same : (r : Result Settings Notice) → IfOk r (λ kept. kept ≡ s)
+      → IfOk r (λ kept. HasMotion moving (speed_of kept)) → IfErr r (speed_missed moving s)
+      → (other : Result SettingsValue Notice) → Gives (settings_text moving) bytes other
+      → Settles (valued value_of_settings r) other
   read_same (Ok kept) same has missed =
       read_settles (settings_text moving) bytes (value_of_settings kept) (λ v there. rw same (exact v there.0))
       (λ n. not_named n (rw same at has))
@@ -77,11 +84,13 @@ module _ (moving : Bool) (bytes : List ℕ) (s : Settings) (is : IsSettings byte
 
 -- ---- one that was refused
 
-pub refused_gives : (moving : Bool) (bytes : List ℕ) (e : SettingsError) → RefusesFirst bytes e → GivesOrEnds (settings_text moving) bytes (Err (notice_of_settings e))
+pub refused_gives : (moving : Bool) (bytes : List ℕ) (e : SettingsError) → RefusesFirst bytes e
+    → GivesOrEnds (settings_text moving) bytes (Err (notice_of_settings e))
 refused_gives moving bytes (error.Refused told) refuses = inr (refl, inl refuses)
 refused_gives moving bytes error.NoMemory refuses = inl refl
 
-pub refused_same : (moving : Bool) (bytes : List ℕ) (e : SettingsError) → ((v : SettingsValue) → IsSettings bytes v → e ≡ error.NoMemory)
+pub refused_same : (moving : Bool) (bytes : List ℕ) (e : SettingsError)
+    → ((v : SettingsValue) → IsSettings bytes v → e ≡ error.NoMemory)
     → SettlesErr (settings_text moving) bytes (notice_of_settings e)
 refused_same moving bytes (error.Refused told) none =
     refused_settles (settings_text moving) bytes (notice.BadInput (input.Settings told)) refl

@@ -25,7 +25,8 @@ use Rattle.zone_guard.proofs.WatchTextLemmas.{other_heads}
 same_place : (p q : Pos) → (p.x ≡ q.x) × (p.y ≡ q.y) × (p.z ≡ q.z) → p ≡ q
 same_place p q (x, y, z) = λ i. record { x = x i; y = y i; z = z i }
 
-one_corners : (a b c d : Pos) → IsPosWithin 10000000000000 a → IsPosWithin 10000000000000 b → IsPosWithin 10000000000000 c → IsPosWithin 10000000000000 d
+one_corners : (a b c d : Pos) → IsPosWithin 10000000000000 a → IsPosWithin 10000000000000 b
+    → IsPosWithin 10000000000000 c → IsPosWithin 10000000000000 d
     → pos_words a ++ pos_words b ≡ pos_words c ++ pos_words d → (a ≡ c) × (b ≡ d)
 one_corners a b c d a_fits b_fits c_fits d_fits e =
     let behind : pos_words b ≡ pos_words d = cc in (
@@ -33,7 +34,8 @@ one_corners a b c d a_fits b_fits c_fits d_fits e =
       same_place b d (one_place 10000000000000 (pos_words b) [] [] b d (omega arith) b_fits d_fits refl behind),
     )
 
-one_along : (a b : Pos) (rest more : List (List ℕ)) → IsPosWithin 1048576 a → IsPosWithin 1048576 b → pos_words a ++ rest ≡ pos_words b ++ more → a ≡ b
+one_along : (a b : Pos) (rest more : List (List ℕ)) → IsPosWithin 1048576 a → IsPosWithin 1048576 b
+    → pos_words a ++ rest ≡ pos_words b ++ more → a ≡ b
 one_along a b rest more a_fits b_fits e = same_place a b (one_place 1048576 (pos_words a ++ rest) rest more a b (omega arith) a_fits b_fits refl e)
 
 mag_fits : (n : ℤ) → IsWithin 100000000000000000000 n → mag n < 2 ^ 127
@@ -46,7 +48,8 @@ record IsOneName (n m : List ℕ) (k l : Kind) : Type 0 where
   name : n ≡ m
   kind : k ≡ l
 
-one_named : (n m : List ℕ) (k l : Kind) → KindFits k → KindFits l → line_words (Named n k) ≡ line_words (Named m l) → IsOneName n m k l
+one_named : (n m : List ℕ) (k l : Kind) → KindFits k → KindFits l
+    → line_words (Named n k) ≡ line_words (Named m l) → IsOneName n m k l
 one_named n m (Corners a b) (Corners c d) f g e =
     let behind : pos_words a ++ pos_words b ≡ pos_words c ++ pos_words d = cc in
     let both = one_corners a b c d f.lo_within f.hi_within g.lo_within g.hi_within behind in
@@ -63,14 +66,16 @@ one_named n m (Along a) (Along c) f g e =
     let behind : pos_words a ++ [] ≡ pos_words c ++ [] = cc in
     record { name = cc; kind = ap Along (one_along a c [] [] f.within g.within behind) }
 
-one_side : (s t : PlaneValue) → IsSide s → IsSide t → line_words (Side s) ≡ line_words (Side t) → s ≡ t
+one_side : (s t : PlaneValue) → IsSide s → IsSide t → line_words (Side s) ≡ line_words (Side t)
+    → s ≡ t
 one_side s t f g e =
     let behind : pos_words s.along ++ signed_decimal s.most ∷ [] ≡ pos_words t.along ++ signed_decimal t.most ∷ [] = cc in
     let along : s.along ≡ t.along = one_along s.along t.along (signed_decimal s.most ∷ []) (signed_decimal t.most ∷ []) f.along.within g.along.within behind in
     let most : s.most ≡ t.most = one_spelled s.most t.most (mag_fits s.most f.most) (mag_fits t.most g.most) cc in
     λ i. record { along = along i; most = most i }
 
-one_next : (names : List (List ℕ)) (owed : ℕ) (line : List ℕ) (l k : WatchLine) → IsNextLine names owed line l → IsNextLine names owed line k → l ≡ k
+one_next : (names : List (List ℕ)) (owed : ℕ) (line : List ℕ) (l k : WatchLine)
+    → IsNextLine names owed line l → IsNextLine names owed line k → l ≡ k
 one_next names zero line (Named n a) (Named m b) x y =
     let one = one_named n m a b x.fits.1 y.fits.1 (sym x.spelled ∙ y.spelled) in
     λ i. Named (one.name i) (one.kind i)
@@ -80,7 +85,8 @@ one_next names (suc owed) line (Named n a) k x y = absurd x.due
 one_next names (suc owed) line (Side s) (Named m b) x y = absurd y.due
 one_next names (suc owed) line (Side s) (Side t) x y = ap Side (one_side s t x.fits y.fits (sym x.spelled ∙ y.spelled))
 
-one_lines : (names : List (List ℕ)) (owed : ℕ) (text : List (List ℕ)) (ls ks : List WatchLine) → AreWatchLines names owed text ls → AreWatchLines names owed text ks → ls ≡ ks
+one_lines : (names : List (List ℕ)) (owed : ℕ) (text : List (List ℕ)) (ls ks : List WatchLine)
+    → AreWatchLines names owed text ls → AreWatchLines names owed text ks → ls ≡ ks
 one_lines names owed [] ls ks a b = absurd a
 one_lines names owed (last ∷ []) [] [] a b = refl
 one_lines names owed (last ∷ []) [] (k ∷ ks) a b = absurd b
@@ -100,7 +106,8 @@ record IsOneForm (n m : List ℕ) (f g : FormValue) (xs ys : List WatchLine) : T
   form : f ≡ g
   rest : xs ≡ ys
 
-one_prism : (s t : List PlaneValue) (xs ys : List WatchLine) → length s ≡ length t → map Side s ++ xs ≡ map Side t ++ ys → (s ≡ t) × (xs ≡ ys)
+one_prism : (s t : List PlaneValue) (xs ys : List WatchLine) → length s ≡ length t
+    → map Side s ++ xs ≡ map Side t ++ ys → (s ≡ t) × (xs ≡ ys)
 one_prism [] [] xs ys e f = (refl, f)
 one_prism [] (y ∷ t) xs ys e f = absurd (omega (arith, e))
 one_prism (x ∷ s) [] xs ys e f = absurd (omega (arith, e))
@@ -110,7 +117,8 @@ one_prism (x ∷ s) (y ∷ t) xs ys e f =
     let rest = one_prism s t xs ys (omega (arith, e)) more in
     (λ i. head i ∷ rest.0 i, rest.1)
 
-one_form : (n m : List ℕ) (f g : FormValue) (xs ys : List WatchLine) → form_lines n f ++ xs ≡ form_lines m g ++ ys → IsOneForm n m f g xs ys
+one_form : (n m : List ℕ) (f g : FormValue) (xs ys : List WatchLine)
+    → form_lines n f ++ xs ≡ form_lines m g ++ ys → IsOneForm n m f g xs ys
 one_form n m (BoxValue a b) (BoxValue c d) xs ys e =
     let lo : a ≡ c = cc in
     let hi : b ≡ d = cc in
@@ -144,13 +152,15 @@ one_list (v ∷ vs) (w ∷ ws) e =
     let rest : vs ≡ ws = one_list vs ws one.rest in
     λ i. record { name = one.name i; form = one.form i } ∷ rest i
 
-one_second : (ls : List (List ℕ)) (vs ws : List WatchValue) → AreWatchesIn ls vs → AreWatchesIn ls ws → vs ≡ ws
+one_second : (ls : List (List ℕ)) (vs ws : List WatchValue) → AreWatchesIn ls vs
+    → AreWatchesIn ls ws → vs ≡ ws
 one_second [] vs ws a b = absurd a
 one_second (first ∷ rest) vs ws a b = one_list vs ws (one_lines [] 0 rest (watch_lines vs) (watch_lines ws) a.1 b.1)
 
 -- ---- the first form
 
-one_zone : (names : List (List ℕ)) (line : List ℕ) (y z : ZoneValue) → IsNewZone names line y → IsNewZone names line z → y ≡ z
+one_zone : (names : List (List ℕ)) (line : List ℕ) (y z : ZoneValue) → IsNewZone names line y
+    → IsNewZone names line z → y ≡ z
 one_zone names line y z a b =
     let same : zone_words y ≡ zone_words z = sym a.spelled ∙ b.spelled in
     let name : y.name ≡ z.name = cc in
@@ -158,7 +168,8 @@ one_zone names line y z a b =
     let both = one_corners y.lo y.hi z.lo z.hi a.fits.lo_within a.fits.hi_within b.fits.lo_within b.fits.hi_within behind in
     λ i. record { name = name i; lo = both.0 i; hi = both.1 i }
 
-one_zones : (names : List (List ℕ)) (text : List (List ℕ)) (ys zs : List ZoneValue) → AreZones names text ys → AreZones names text zs → ys ≡ zs
+one_zones : (names : List (List ℕ)) (text : List (List ℕ)) (ys zs : List ZoneValue)
+    → AreZones names text ys → AreZones names text zs → ys ≡ zs
 one_zones names [] ys zs a b = absurd a
 one_zones names (last ∷ []) [] [] a b = refl
 one_zones names (last ∷ []) [] (z ∷ zs) a b = absurd b
@@ -171,29 +182,34 @@ one_zones names (here ∷ next ∷ more) (y ∷ ys) (z ∷ zs) a b =
     let rest : ys ≡ zs = one_zones (names ++ z.name ∷ []) (next ∷ more) ys zs there b.1 in
     λ i. same i ∷ rest i
 
-one_first : (ls : List (List ℕ)) (ys zs : List ZoneValue) → AreZonesIn ls ys → AreZonesIn ls zs → ys ≡ zs
+one_first : (ls : List (List ℕ)) (ys zs : List ZoneValue) → AreZonesIn ls ys → AreZonesIn ls zs
+    → ys ≡ zs
 one_first [] ys zs a b = absurd a
 one_first (first ∷ rest) ys zs a b = one_zones [] rest ys zs a.1 b.1
 
 -- ---- either form
 
-one_head : (ls : List (List ℕ)) (vs : List WatchValue) (zs : List ZoneValue) → AreWatchesIn ls vs → AreZonesIn ls zs → ⊥
+one_head : (ls : List (List ℕ)) (vs : List WatchValue) (zs : List ZoneValue) → AreWatchesIn ls vs
+    → AreZonesIn ls zs → ⊥
 one_head [] vs zs a b = absurd a
 one_head (first ∷ rest) vs zs a b = other_heads first b.0 a.0
 
-one_text : (bytes : List ℕ) (s t : Bool) (vs ws : List WatchValue) → IsWatchesText s vs bytes → IsWatchesText t ws bytes → (s ≡ t) × (vs ≡ ws)
+one_text : (bytes : List ℕ) (s t : Bool) (vs ws : List WatchValue) → IsWatchesText s vs bytes
+    → IsWatchesText t ws bytes → (s ≡ t) × (vs ≡ ws)
 one_text bytes true true vs ws a b = (refl, one_second (lines bytes) vs ws a b)
 one_text bytes true false vs ws a b = absurd (one_head (lines bytes) vs b.0 a b.2)
 one_text bytes false true vs ws a b = absurd (one_head (lines bytes) ws a.0 b a.2)
 one_text bytes false false vs ws a b =
     (refl, a.1 ∙ ap (map zone_watch) (one_first (lines bytes) a.0 b.0 a.2 b.2) ∙ sym b.1)
 
-pub one_value : (bytes : List ℕ) (v w : ZonesValue) → SpellsZones bytes v → SpellsZones bytes w → v ≡ w
+pub one_value : (bytes : List ℕ) (v w : ZonesValue) → SpellsZones bytes v → SpellsZones bytes w
+    → v ≡ w
 one_value bytes v w a b =
     let both = one_text bytes v.is_second w.is_second v.watches w.watches a b in
     λ i. record { is_second = both.0 i; watches = both.1 i }
 
 -- what was read has no line that doesn't fit
-pub named_no_text : (bytes : List ℕ) → ((line : ℕ) → IsFirstUnfit bytes line → ⊥) → (n : Notice) → NamesUnfit bytes n → ⊥
+pub named_no_text : (bytes : List ℕ) → ((line : ℕ) → IsFirstUnfit bytes line → ⊥) → (n : Notice)
+    → NamesUnfit bytes n → ⊥
 named_no_text bytes none (notice.BadZones line) names = none line names
 named_no_text bytes none _ names = names

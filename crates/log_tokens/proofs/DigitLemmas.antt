@@ -22,7 +22,8 @@ pub record AreDigitsOf (digits : List ℕ) (n : ℕ) : Type 0 where
   pub plain : 1 < length digits → get_or digits 0 0 ≡ 48 → ⊥
   pub range : (i : ℕ) → i < length digits → (48 ≤ get_or digits i 0) × (get_or digits i 0 ≤ 57)
 
-pub digits_of_number : (digits : List ℕ) (n : ℕ) → n ≤ 9999999999999999999 → digits ≡ decimal n → AreDigitsOf digits n
+pub digits_of_number : (digits : List ℕ) (n : ℕ) → n ≤ 9999999999999999999 → digits ≡ decimal n
+    → AreDigitsOf digits n
 digits_of_number digits n small e = subst (λ ds. AreDigitsOf ds n) (sym e) record {
   some = (decimal_is_IsNumeral n (omega (arith, small))).0.0;
   few = length-decimal-le 19 n (omega arith) (omega (arith, small)) (omega (arith, small));
@@ -30,7 +31,8 @@ digits_of_number digits n small e = subst (λ ds. AreDigitsOf ds n) (sym e) reco
   range = λ i within. let is = digit_at (decimal n) i (decimal_is_IsNumeral n (omega (arith, small))).0.1 within in (is.0, is.1);
 }
   where
-    plain : (n : ℕ) → n ≤ 9999999999999999999 → 1 < length (decimal n) → get_or (decimal n) 0 0 ≡ 48 → ⊥
+    plain : (n : ℕ) → n ≤ 9999999999999999999 → 1 < length (decimal n) → get_or (decimal n) 0 0 ≡ 48
+        → ⊥
     plain zero small more zeros = omega (arith, more, ap length (decimal_digit 0 (omega arith)))
     plain (suc k) small more zeros = omega (arith, zeros, first_decimal (suc k) (omega arith) (omega (arith, small)))
 
@@ -39,22 +41,27 @@ pub record IsDigitByte (byte digit : ℕ) : Type 0 where
   pub value : digit_value byte ≡ digit
   pub small : digit_value byte < 10
 
-pub digit_byte : (byte : ℕ) → byte < 256 → (byte + 208) % 256 ≤ 9 → IsDigitByte byte ((byte + 208) % 256)
+pub digit_byte : (byte : ℕ) → byte < 256 → (byte + 208) % 256 ≤ 9
+    → IsDigitByte byte ((byte + 208) % 256)
 digit_byte byte fits small =
     let is : digit_value byte + 48 ≡ byte = digit_value_digit byte (omega arith, omega arith) in
     record { value = omega (arith, is); small = omega (arith, is) }
 
 -- one more digit is read
-pub value_more : (digits : List ℕ) (i number digit : ℕ) → i < length digits → number ≡ digits_value 10 (take i digits) → digit_value (get_or digits i 0) ≡ digit
+pub value_more : (digits : List ℕ) (i number digit : ℕ) → i < length digits
+    → number ≡ digits_value 10 (take i digits) → digit_value (get_or digits i 0) ≡ digit
     → number * 10 + digit ≡ digits_value 10 (take (i + 1) digits)
 value_more digits i number digit within value is = omega (arith, value, is, digits_value_more 10 digits i within)
 
 -- 19 digits fit
-pub below : (digits : List ℕ) (number : ℕ) → length digits ≤ 19 → AllDigits 10 digits → number ≡ digits_value 10 digits → number < 10 ^ 19
+pub below : (digits : List ℕ) (number : ℕ) → length digits ≤ 19 → AllDigits 10 digits
+    → number ≡ digits_value 10 digits → number < 10 ^ 19
 below digits number few all value = omega (arith, value, digits_value-lt 10 digits all, pow-le-pow_right {n = 10} (omega arith) few)
 
-pub value_fits : (digits : List ℕ) (i number : ℕ) → get_or digits i 0 < 256 → (get_or digits i 0 + 208) % 256 ≤ 9 → i < length digits → length digits ≤ 19
-    → AllDigits 10 (take i digits) → number ≡ digits_value 10 (take i digits) → number * 10 + (get_or digits i 0 + 208) % 256 < 10 ^ 19
+pub value_fits : (digits : List ℕ) (i number : ℕ) → get_or digits i 0 < 256
+    → (get_or digits i 0 + 208) % 256 ≤ 9 → i < length digits → length digits ≤ 19
+    → AllDigits 10 (take i digits) → number ≡ digits_value 10 (take i digits)
+    → number * 10 + (get_or digits i 0 + 208) % 256 < 10 ^ 19
 value_fits digits i number fits small within few all value =
     let is = digit_byte (get_or digits i 0) fits small in
     below (take (i + 1) digits) _ (omega (arith, length-take-le (i + 1) digits (omega arith))) (digits_more 10 digits i within all is.small) (value_more digits i number _ within value is.value)
@@ -62,7 +69,8 @@ value_fits digits i number fits small within few all value =
 one_only : (len : ℕ) → 0 < len → (1 < len → ⊥) → len ≡ 1
 one_only len some not_more = elim (cases_lt 1 len) [ inl more ↦ absurd (not_more more) | inr one ↦ omega (arith, some, one) ]
 
-pub number_spelled : (digits : List ℕ) (number : ℕ) → 0 < length digits → length digits ≤ 19 → (1 < length digits → get_or digits 0 0 ≡ 48 → ⊥)
+pub number_spelled : (digits : List ℕ) (number : ℕ) → 0 < length digits → length digits ≤ 19
+    → (1 < length digits → get_or digits 0 0 ≡ 48 → ⊥)
     → AllDigits 10 digits → number ≡ digits_value 10 digits → digits ≡ decimal number
 number_spelled digits number some few plain all value =
     let small = below digits (digits_value 10 digits) few all refl in
@@ -76,7 +84,8 @@ pub record IsBehindMinus (digits : List ℕ) : Type 0 where
   pub within : amount ≤ 9999999999999999999
   pub spelled : digits ≡ decimal amount
 
-pub behind_minus : (word : List ℕ) (n : ℤ) → get_or word 0 0 ≡ 45 → IsWithin 9999999999999999999 n → word ≡ signed_decimal n → IsBehindMinus (take (length word - 1) (drop 1 word))
+pub behind_minus : (word : List ℕ) (n : ℤ) → get_or word 0 0 ≡ 45 → IsWithin 9999999999999999999 n
+    → word ≡ signed_decimal n → IsBehindMinus (take (length word - 1) (drop 1 word))
 behind_minus word (pos k) minus within e =
     let are = digits_of_number word k (omega (arith, ints, within.high)) e in
     absurd (omega (arith, minus, (are.range 0 are.some).0))
@@ -100,7 +109,8 @@ no_minus m digits fits e =
     let first : get_or (decimal m) 0 0 ≡ 45 = ap (λ ds. get_or ds 0 0) e in
     omega (arith, first, (digit_at (decimal m) 0 is.1 is.0).0)
 
-pub one_spelled : (y z : ℤ) → mag y < 2 ^ 127 → mag z < 2 ^ 127 → signed_decimal y ≡ signed_decimal z → y ≡ z
+pub one_spelled : (y z : ℤ) → mag y < 2 ^ 127 → mag z < 2 ^ 127
+    → signed_decimal y ≡ signed_decimal z → y ≡ z
 one_spelled (pos m) (pos n) y_fits z_fits e = ap pos (one_amount m n (omega (arith, y_fits)) (omega (arith, z_fits)) e)
 one_spelled (pos m) (negsuc n) y_fits z_fits e = absurd (no_minus m (decimal (suc n)) (omega (arith, y_fits)) e)
 one_spelled (negsuc m) (pos n) y_fits z_fits e = absurd (no_minus n (decimal (suc m)) (omega (arith, z_fits)) (sym e))

@@ -14,7 +14,8 @@ words-single (byte ∷ bytes) none =
     let later = words-single bytes none.1 in
     rw (here, later) refl
 
-words-behind : (word rest : List ℕ) → HasNoBlank word → words (word ++ 32 ∷ rest) ≡ word ∷ words rest
+words-behind : (word rest : List ℕ) → HasNoBlank word
+    → words (word ++ 32 ∷ rest) ≡ word ∷ words rest
 words-behind [] rest none = refl
 words-behind (byte ∷ bytes) rest none =
     let here = none.0 in
@@ -22,7 +23,8 @@ words-behind (byte ∷ bytes) rest none =
     rw (here, later) refl
 
 -- what was joined has the words that it was joined of
-pub words-joined : (word : List ℕ) (more : List (List ℕ)) → HasNoBlank word → AllByRecursion HasNoBlank more → words (joined (word ∷ more)) ≡ word ∷ more
+pub words-joined : (word : List ℕ) (more : List (List ℕ)) → HasNoBlank word
+    → AllByRecursion HasNoBlank more → words (joined (word ∷ more)) ≡ word ∷ more
 words-joined word [] none rest = words-single word none
 words-joined word (next ∷ more) none rest =
     words-behind word (joined (next ∷ more)) none ∙ ap (λ (ws : List (List ℕ)). word ∷ ws) (words-joined next more rest.0 rest.1)

@@ -11,8 +11,11 @@ use Rattle.log_tokens.proofs.DigitLemmas.{below, number_spelled}
 use Rattle.grid_model.proofs.ListLemmas.{all_dropped as all_behind, cut_at}
 
 -- digits at the front and the byte behind them
-pub number_in_front : (text : List ℕ) (count number byte : ℕ) → count < length text → count ≤ 19 → AllDigits 10 (take count text) → number ≡ digits_value 10 (take count text) → get_or text count 0 ≡ byte
-    → 0 < length (take count text) → (1 < length (take count text) → get_or (take count text) 0 0 ≡ 48 → ⊥)
+pub number_in_front : (text : List ℕ) (count number byte : ℕ) → count < length text → count ≤ 19
+    → AllDigits 10 (take count text) → number ≡ digits_value 10 (take count text)
+    → get_or text count 0 ≡ byte
+    → 0 < length (take count text)
+    → (1 < length (take count text) → get_or (take count text) 0 0 ≡ 48 → ⊥)
     → text ≡ decimal number ++ byte ∷ take (length text - (count + 1)) (drop (count + 1) text)
 number_in_front text count number byte long few all value is some plain =
     let len : length (take count text) ≡ count = length-take-le count text (omega arith) in
@@ -22,9 +25,13 @@ number_in_front text count number byte long few all value is some plain =
     ∙ ap (λ (rest : List ℕ). decimal number ++ byte ∷ rest) (ap (λ (n : ℕ). drop n text) next ∙ sym (all_behind text (count + 1)))
 
 -- the same, where they were read among the first 16 bytes
-pub spelled_in_front : (text : List ℕ) (count number byte power : ℕ) → 16 ≤ length text → count ≡ 0 + digits_len (drop 0 (take 16 text)) → count ≤ length (take 16 text) → (count ≡ 16 → ⊥)
-    → number ≡ (0 * power + digits_value 10 (slice_range (take 16 text) 0 count)) % 2 ^ 64 → get_or text count 0 ≡ byte
-    → 0 < length (take count text) → (1 < length (take count text) → get_or (take count text) 0 0 ≡ 48 → ⊥)
+pub spelled_in_front : (text : List ℕ) (count number byte power : ℕ) → 16 ≤ length text
+    → count ≡ 0 + digits_len (drop 0 (take 16 text)) → count ≤ length (take 16 text)
+    → (count ≡ 16 → ⊥)
+    → number ≡ (0 * power + digits_value 10 (slice_range (take 16 text) 0 count)) % 2 ^ 64
+    → get_or text count 0 ≡ byte
+    → 0 < length (take count text)
+    → (1 < length (take count text) → get_or (take count text) 0 0 ≡ 48 → ⊥)
     → text ≡ decimal number ++ byte ∷ take (length text - (count + 1)) (drop (count + 1) text)
 spelled_in_front text count number byte power long digits within apart value is some plain =
     let few : count < 16 = omega (arith, length-take 16 text) in
@@ -38,9 +45,12 @@ spelled_in_front text count number byte power long digits within apart value is 
     number_in_front text count number byte (omega arith) (omega arith) all (omega (arith, value, small, read)) is some plain
 
 -- the same, where they were read one by one
-pub counted_in_front : (text : List ℕ) (most count number byte : ℕ) → most ≤ 19 → count < length (take most text) → get_or (take most text) count 0 ≡ byte
-    → 0 < length (take count (take most text)) → (1 < length (take count (take most text)) → get_or (take count (take most text)) 0 0 ≡ 48 → ⊥)
-    → AllDigits 10 (take count (take most text)) → number ≡ digits_value 10 (take count (take most text))
+pub counted_in_front : (text : List ℕ) (most count number byte : ℕ) → most ≤ 19
+    → count < length (take most text) → get_or (take most text) count 0 ≡ byte
+    → 0 < length (take count (take most text))
+    → (1 < length (take count (take most text)) → get_or (take count (take most text)) 0 0 ≡ 48 → ⊥)
+    → AllDigits 10 (take count (take most text))
+    → number ≡ digits_value 10 (take count (take most text))
     → text ≡ decimal number ++ byte ∷ take (length text - (count + 1)) (drop (count + 1) text)
 counted_in_front text most count number byte few within is some plain all value =
     let inside : count < most = omega (arith, length-take most text) in
@@ -49,7 +59,8 @@ counted_in_front text most count number byte few within is some plain all value 
     (sym (get_or-take most text count 0 inside) ∙ is) (rw same at some) (rw same at plain)
 
 -- a digit and the byte behind it
-pub digit_in_front : (text : List ℕ) (digit byte : ℕ) → 2 ≤ length text → get_or text 0 0 < 256 → digit ≡ (get_or text 0 0 + 208) % 256 → digit ≤ 9 → get_or text 1 0 ≡ byte
+pub digit_in_front : (text : List ℕ) (digit byte : ℕ) → 2 ≤ length text → get_or text 0 0 < 256
+    → digit ≡ (get_or text 0 0 + 208) % 256 → digit ≤ 9 → get_or text 1 0 ≡ byte
     → text ≡ decimal digit ++ byte ∷ take (length text - 2) (drop 2 text)
 digit_in_front [] digit byte long fits digit_is small is = absurd (omega arith)
 digit_in_front (first ∷ []) digit byte long fits digit_is small is = absurd (omega arith)

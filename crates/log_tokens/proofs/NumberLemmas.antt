@@ -15,11 +15,14 @@ mag-within zero (negsuc k) small within = omega (arith, ints, within.low)
 mag-within (suc bound) (negsuc k) small within = omega (arith, ints, within.low)
 
 -- two numbers within a bound that are spelled alike are one
-pub one_number : (bound : ℕ) (m n : ℤ) → bound < 2 ^ 63 → IsWithin bound m → IsWithin bound n → signed_decimal m ≡ signed_decimal n → m ≡ n
+pub one_number : (bound : ℕ) (m n : ℤ) → bound < 2 ^ 63 → IsWithin bound m → IsWithin bound n
+    → signed_decimal m ≡ signed_decimal n → m ≡ n
 one_number bound m n small m_within n_within = signed_decimal_injective m n (mag-within bound m small m_within) (mag-within bound n small n_within)
 
 -- two places that begin a line are one
-pub one_place : (bound : ℕ) (line rest more : List (List ℕ)) (p q : Pos) → bound < 2 ^ 63 → IsPosWithin bound p → IsPosWithin bound q → line ≡ pos_words p ++ rest → line ≡ pos_words q ++ more
+pub one_place : (bound : ℕ) (line rest more : List (List ℕ)) (p q : Pos) → bound < 2 ^ 63
+    → IsPosWithin bound p → IsPosWithin bound q → line ≡ pos_words p ++ rest
+    → line ≡ pos_words q ++ more
     → (p.x ≡ q.x) × (p.y ≡ q.y) × (p.z ≡ q.z)
 one_place bound line rest more p q small p_within q_within e f =
     (one_number bound p.x q.x small p_within.0 q_within.0 cc, one_number bound p.y q.y small p_within.1 q_within.1 cc, one_number bound p.z q.z small p_within.2 q_within.2 cc)

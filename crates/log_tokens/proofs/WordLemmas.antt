@@ -6,7 +6,8 @@ use Rattle.std.proofs.lemmas.Bool.{eqb-true, false_from_ne_true as not_true}
 use Rattle.log_tokens.specs.Words.{words, longer, joined, words_left}
 
 -- a line with no blank is one word
-pub words-only : (line : List ℕ) → ((k : ℕ) → k < length line → nat_eq (get_or line k 0) 32 ≡ true → ⊥) → words line ≡ line ∷ []
+pub words-only : (line : List ℕ)
+    → ((k : ℕ) → k < length line → nat_eq (get_or line k 0) 32 ≡ true → ⊥) → words line ≡ line ∷ []
 words-only [] none = refl
 words-only (byte ∷ bytes) none =
     let here : nat_eq byte 32 ≡ false = not_true _ (none 0 (omega arith)) in
@@ -14,7 +15,9 @@ words-only (byte ∷ bytes) none =
     rw (here, later) refl
 
 -- the first blank ends the first word
-pub words-first : (line : List ℕ) (end : ℕ) → ((k : ℕ) → k < end → nat_eq (get_or line k 0) 32 ≡ true → ⊥) → end < length line → nat_eq (get_or line end 0) 32 ≡ true
+pub words-first : (line : List ℕ) (end : ℕ)
+    → ((k : ℕ) → k < end → nat_eq (get_or line k 0) 32 ≡ true → ⊥) → end < length line
+    → nat_eq (get_or line end 0) 32 ≡ true
     → words line ≡ take end line ∷ words (drop (suc end) line)
 words-first [] end none lt blank = absurd (omega arith)
 words-first (byte ∷ bytes) zero none lt blank = rw blank refl
@@ -28,7 +31,8 @@ longer-some byte [] e = cc
 longer-some byte (word ∷ more) e = cc
 
 -- the words of a byte and what follows it
-pub begun : (blank : Bool) (byte : ℕ) (line : List (List ℕ)) → cond blank ([] ∷ line) (longer byte line) ≡ [] → ⊥
+pub begun : (blank : Bool) (byte : ℕ) (line : List (List ℕ))
+    → cond blank ([] ∷ line) (longer byte line) ≡ [] → ⊥
 begun true byte line e = cc
 begun false byte line e = longer-some byte line e
 
@@ -38,14 +42,16 @@ words-some [] e = cc
 words-some (byte ∷ bytes) e = begun (nat_eq byte 32) byte (words bytes) e
 
 -- no word is left exactly where no bytes are
-pub ended : (rest : Option (Bor (List ℕ))) (none : Bool) → is_some rest ≡ not none → IsTrue none ↔ (words_left rest ≡ [])
+pub ended : (rest : Option (Bor (List ℕ))) (none : Bool) → is_some rest ≡ not none
+    → IsTrue none ↔ (words_left rest ≡ [])
 ended None true is = (λ _. refl, λ _. refl)
 ended None false is = absurd cc
 ended (Some line) true is = absurd cc
 ended (Some line) false is = (λ yes. absurd cc, λ e. absurd (words-some line.now e))
 
 -- what stands behind as many words is the same
-pub same_rest : {A : Type 0} (line front other rest more : List A) → length front ≡ length other → line ≡ front ++ rest → line ≡ other ++ more → rest ≡ more
+pub same_rest : {A : Type 0} (line front other rest more : List A) → length front ≡ length other
+    → line ≡ front ++ rest → line ≡ other ++ more → rest ≡ more
 same_rest line [] [] rest more len e f = cc
 same_rest line [] (o ∷ other) rest more len e f = absurd (omega arith)
 same_rest line (x ∷ front) [] rest more len e f = absurd (omega arith)
@@ -59,7 +65,8 @@ joined-longer byte [] = refl
 joined-longer byte (word ∷ []) = refl
 joined-longer byte (word ∷ next ∷ more) = refl
 
-joined-step : (blank : Bool) (byte : ℕ) (line : List (List ℕ)) → (blank ≡ true → byte ≡ 32) → (line ≡ [] → ⊥) → joined (cond blank ([] ∷ line) (longer byte line)) ≡ byte ∷ joined line
+joined-step : (blank : Bool) (byte : ℕ) (line : List (List ℕ)) → (blank ≡ true → byte ≡ 32)
+    → (line ≡ [] → ⊥) → joined (cond blank ([] ∷ line) (longer byte line)) ≡ byte ∷ joined line
 joined-step false byte line is some = joined-longer byte line
 joined-step true byte [] is some = absurd (some refl)
 joined-step true byte (word ∷ more) is some = ap (λ (b : ℕ). b ∷ joined (word ∷ more)) (sym (is refl))

@@ -29,7 +29,8 @@ some_put a = record {
 }
 
 -- what was put takes of the room
-pub went_left : (a c : Seen) (ps : List Piece) → Went a ps c → length (log_bytes ps) + c.left ≡ a.left
+pub went_left : (a c : Seen) (ps : List Piece) → Went a ps c
+    → length (log_bytes ps) + c.left ≡ a.left
 went_left a c ps went =
     let held : List Piece = piece a.log_waits a.report_waits ∷ [] in
     let put = went (start_of a) held (some_put a) in
@@ -44,26 +45,30 @@ went_counted a c ps went =
     let put = went (start_of a) (piece a.log_waits a.report_waits ∷ []) (some_put a) in
     record { log = put.sent.log_faults; out = put.sent.out_faults }
 
-stops_counted : (start c : Seen) (text more : List Piece) (fault : WriteFault) → Stops start text more fault c → Counted start c
+stops_counted : (start c : Seen) (text more : List Piece) (fault : WriteFault)
+    → Stops start text more fault c → Counted start c
 stops_counted start c text more why.Log s = record { log = s.sent.log_faults; out = s.sent.out_faults }
 stops_counted start c text more why.Out s = record { log = s.sent.log_faults; out = s.sent.out_faults }
 stops_counted start c text more why.Full s = record { log = s.0.sent.log_faults; out = s.0.sent.out_faults }
 stops_counted start c text more why.NoMemory s = record { log = s.sent.log_faults; out = s.sent.out_faults }
 
-pub ended_counted : (a c : Seen) (ps : List Piece) (fault : WriteFault) → Ended a ps fault c → Counted a c
+pub ended_counted : (a c : Seen) (ps : List Piece) (fault : WriteFault) → Ended a ps fault c
+    → Counted a c
 ended_counted a c ps fault ended =
     let s = ended (start_of a) (piece a.log_waits a.report_waits ∷ []) (some_put a) in
     let k = stops_counted (start_of a) c s.text s.more fault s.stops in
     record { log = k.log; out = k.out }
 
-stops_rose : (start c : Seen) (text more : List Piece) (fault : WriteFault) → in_paving fault ≡ Some step_fault.Failed → Stops start text more fault c
+stops_rose : (start c : Seen) (text more : List Piece) (fault : WriteFault)
+    → in_paving fault ≡ Some step_fault.Failed → Stops start text more fault c
     → Rose (start.at.shelf.write_faults + start.at.out.faults) (c.at.shelf.write_faults + c.at.out.faults)
 stops_rose start c text more why.Log is s = omega (arith, s.fails.1, s.sent.out_faults)
 stops_rose start c text more why.Out is s = omega (arith, s.fails.2, s.sent.log_faults)
 stops_rose start c text more why.Full is s = absurd cc
 stops_rose start c text more why.NoMemory is s = absurd cc
 
-pub ended_rose : (a c : Seen) (ps : List Piece) (fault : WriteFault) → in_paving fault ≡ Some step_fault.Failed → Ended a ps fault c
+pub ended_rose : (a c : Seen) (ps : List Piece) (fault : WriteFault)
+    → in_paving fault ≡ Some step_fault.Failed → Ended a ps fault c
     → Rose (a.at.shelf.write_faults + a.at.out.faults) (c.at.shelf.write_faults + c.at.out.faults)
 ended_rose a c ps fault is ended =
     let s = ended (start_of a) (piece a.log_waits a.report_waits ∷ []) (some_put a) in
@@ -74,21 +79,24 @@ ended_rose a c ps fault is ended =
 pub trusts_none : {T : Type 0} (a : Trust) (x : T) → Trusts a (Ok x) a
 trusts_none a x = record { log = λ name h. (h, λ some e. cc); out = λ h. (h, λ e. cc) }
 
-pub trusts_more : {S T : Type 0} (a b c : Trust) (x : S) (r : Result T WriteFault) → Trusts a (Ok x) b → Trusts b r c → Trusts a r c
+pub trusts_more : {S T : Type 0} (a b c : Trust) (x : S) (r : Result T WriteFault)
+    → Trusts a (Ok x) b → Trusts b r c → Trusts a r c
 trusts_more a b c x r f g = record {
   log = λ name h. ((f.log name (g.log name h).0).0, (g.log name h).1);
   out = λ h. ((f.out (g.out h).0).0, (g.out h).1);
 }
 
 -- the result may be of another type
-pub trusts_other : {S T : Type 0} (a b : Trust) (fault : WriteFault) → Trusts {T = S} a (Err fault) b → Trusts {T = T} a (Err fault) b
+pub trusts_other : {S T : Type 0} (a b : Trust) (fault : WriteFault)
+    → Trusts {T = S} a (Err fault) b → Trusts {T = T} a (Err fault) b
 trusts_other a b fault f = record {
   log = λ name h. ((f.log name h).0, λ some e. (f.log name h).1 some cc);
   out = λ h. ((f.out h).0, λ e. (f.out h).1 cc);
 }
 
 -- and so may it where nothing failed
-pub trusts_done : {S T : Type 0} (a b : Trust) (x : S) (y : T) → Trusts a (Ok x) b → Trusts a (Ok y) b
+pub trusts_done : {S T : Type 0} (a b : Trust) (x : S) (y : T) → Trusts a (Ok x) b
+    → Trusts a (Ok y) b
 trusts_done a b x y f = record { log = λ name h. ((f.log name h).0, λ some e. cc); out = λ h. ((f.out h).0, λ e. cc) }
 
 abbrev pub the_err : {E : Type 0} → E → Result (Unit {0}) E

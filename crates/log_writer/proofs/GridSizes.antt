@@ -23,15 +23,18 @@ use Rattle.paving_log.specs.Rows.{CornersFit, corners_of}
 
 -- ---- lists whose members all meet a fact
 
-pub all_append : {X : Type 0} (P : X → Type 0) (xs ys : List X) → AllByRecursion P xs → AllByRecursion P ys → AllByRecursion P (xs ++ ys)
+pub all_append : {X : Type 0} (P : X → Type 0) (xs ys : List X) → AllByRecursion P xs
+    → AllByRecursion P ys → AllByRecursion P (xs ++ ys)
 all_append P [] ys f g = g
 all_append P (x ∷ xs) ys f g = (f.0, all_append P xs ys f.1 g)
 
-pub all_front : {X : Type 0} (P : X → Type 0) (xs ys : List X) → AllByRecursion P (xs ++ ys) → AllByRecursion P xs
+pub all_front : {X : Type 0} (P : X → Type 0) (xs ys : List X) → AllByRecursion P (xs ++ ys)
+    → AllByRecursion P xs
 all_front P [] ys f = tt
 all_front P (x ∷ xs) ys f = (f.0, all_front P xs ys f.1)
 
-pub all_back : {X : Type 0} (P : X → Type 0) (xs ys : List X) → AllByRecursion P (xs ++ ys) → AllByRecursion P ys
+pub all_back : {X : Type 0} (P : X → Type 0) (xs ys : List X) → AllByRecursion P (xs ++ ys)
+    → AllByRecursion P ys
 all_back P [] ys f = f
 all_back P (x ∷ xs) ys f = all_back P xs ys f.1
 
@@ -57,12 +60,14 @@ pub record SideFits (s : Side) : Type 0 where
   pub lo_within : IsBoxSize s.lo
   pub hi_within : IsBoxSize s.hi
 
-pub side_fits : (axis : ℕ) (part : GridBox) → CornersFit (corners_of part) → SideFits (side_at axis part)
+pub side_fits : (axis : ℕ) (part : GridBox) → CornersFit (corners_of part)
+    → SideFits (side_at axis part)
 side_fits zero part fit = record { ordered = fit.x_ordered; lo_within = fit.lo_within.0; hi_within = fit.hi_within.0 }
 side_fits (suc zero) part fit = record { ordered = fit.y_ordered; lo_within = fit.lo_within.1; hi_within = fit.hi_within.1 }
 side_fits (suc (suc n)) part fit = record { ordered = fit.z_ordered; lo_within = fit.lo_within.2; hi_within = fit.hi_within.2 }
 
-pub with_fits : (axis : ℕ) (part : GridBox) (s : Side) → CornersFit (corners_of part) → SideFits s → CornersFit (corners_of (with_side axis part s))
+pub with_fits : (axis : ℕ) (part : GridBox) (s : Side) → CornersFit (corners_of part) → SideFits s
+    → CornersFit (corners_of (with_side axis part s))
 with_fits zero part s fit side = record {
   x_ordered = side.ordered;
   y_ordered = fit.y_ordered;
@@ -109,10 +114,12 @@ high_fits s fit some = record {
 
 -- ---- cuts
 
-bound_within : (lo hi bound : ℤ) → IsBoxSize lo → IsBoxSize hi → lo ≤ℤ bound → bound ≤ℤ hi → IsBoxSize bound
+bound_within : (lo hi bound : ℤ) → IsBoxSize lo → IsBoxSize hi → lo ≤ℤ bound → bound ≤ℤ hi
+    → IsBoxSize bound
 bound_within lo hi bound f g h k = record { low = omega (arith, ints, f.low, h); high = omega (arith, ints, g.high, k) }
 
-left_fits : (low : Bool) (s : Side) (bound : ℤ) → SideFits s → IsProperBound low s bound → IsBoxSize bound × SideFits (side_left low s bound)
+left_fits : (low : Bool) (s : Side) (bound : ℤ) → SideFits s → IsProperBound low s bound
+    → IsBoxSize bound × SideFits (side_left low s bound)
 left_fits true s bound fit (h, k) =
     let within = bound_within s.lo s.hi bound fit.lo_within fit.hi_within (omega (arith, ints, h)) k in
     (within, record { ordered = k; lo_within = within; hi_within = fit.hi_within })
@@ -120,7 +127,9 @@ left_fits false s bound fit (h, k) =
     let within = bound_within s.lo s.hi bound fit.lo_within fit.hi_within h (omega (arith, ints, k)) in
     (within, record { ordered = h; lo_within = fit.lo_within; hi_within = within })
 
-cut_fits : (face : ℕ) (bound : ℤ) (part : GridBox) → CornersFit (corners_of part) → IsProperCut face bound part → IsBoxSize bound × CornersFit (corners_of (left_by_cut face bound part))
+cut_fits : (face : ℕ) (bound : ℤ) (part : GridBox) → CornersFit (corners_of part)
+    → IsProperCut face bound part
+    → IsBoxSize bound × CornersFit (corners_of (left_by_cut face bound part))
 cut_fits face bound part fit proper =
     let side = left_fits (is_low face) (side_at (axis_of face) part) bound (side_fits (axis_of face) part fit) proper in
     (side.0, with_fits (axis_of face) part (side_left (is_low face) (side_at (axis_of face) part) bound) fit side.1)
@@ -143,19 +152,22 @@ HaveFaces cuts = AllByRecursion (λ (s : ShownStep). HasFace s.step) cuts
 both_have : (xs ys : List ShownStep) → HaveFaces xs → HaveFaces ys → HaveFaces (xs ++ ys)
 both_have xs ys f g = all_append (λ (s : ShownStep). HasFace s.step) xs ys f g
 
-face_has : (test : BoxTest) (id face : ℕ) (part : GridBox) (steps : List ShownStep) (left : GridBox) → IsFace face → IsSomeCut test id face part steps left → HaveFaces steps
+face_has : (test : BoxTest) (id face : ℕ) (part : GridBox) (steps : List ShownStep) (left : GridBox)
+    → IsFace face → IsSomeCut test id face part steps left → HaveFaces steps
 face_has test id face part steps left named is = elim is [
   | inl (bound, may, one, cut) ↦ subst HaveFaces (sym one) (named, tt)
   | inr (none, same) ↦ subst HaveFaces (sym none) tt
 ]
 
-faces_have : (test : BoxTest) (id : ℕ) (faces : List ℕ) (part : GridBox) (steps : List ShownStep) (left : GridBox) → AreFaces faces → AreFacesDone (IsSomeCut test id) faces part steps left → HaveFaces steps
+faces_have : (test : BoxTest) (id : ℕ) (faces : List ℕ) (part : GridBox) (steps : List ShownStep) (left : GridBox)
+    → AreFaces faces → AreFacesDone (IsSomeCut test id) faces part steps left → HaveFaces steps
 faces_have test id [] part steps left named (none, same) = subst HaveFaces (sym none) tt
 faces_have test id (face ∷ faces) part steps left named (own, middle, more, is, rest, join) =
     subst HaveFaces (sym join) (both_have own more (face_has test id face part own middle named.0 is) (faces_have test id faces middle more left named.1 rest))
 
 -- each cut of a box names one of the six faces
-pub cuts_have : (grain slack : ℤ) (test : BoxTest) (box : WaitingBox) (cuts : List ShownStep) (left : GridBox) → AreCutsOf grain slack test box cuts left → HaveFaces cuts
+pub cuts_have : (grain slack : ℤ) (test : BoxTest) (box : WaitingBox) (cuts : List ShownStep) (left : GridBox)
+    → AreCutsOf grain slack test box cuts left → HaveFaces cuts
 cuts_have grain slack test box cuts left are =
     let (faces, (named, some)) = cuts_some grain slack test box cuts left are in
     faces_have test box.id faces box.part cuts left named some
@@ -170,7 +182,8 @@ pub record CutsFit (cuts : List ShownStep) (left : GridBox) : Type 0 where
   pub fit : AllByRecursion IsSpelled cuts
   pub in_grid : CornersFit (corners_of left)
 
-pub cuts_fit : (test : BoxTest) (id : ℕ) (cuts : List ShownStep) (part left : GridBox) → id ≤ 400000 → CornersFit (corners_of part) → HaveFaces cuts
+pub cuts_fit : (test : BoxTest) (id : ℕ) (cuts : List ShownStep) (part left : GridBox) → id ≤ 400000
+    → CornersFit (corners_of part) → HaveFaces cuts
     → AreCutsInTurn test id part cuts left → CutsFit cuts left
 cuts_fit test id [] part left le fit named same = record { fit = tt; in_grid = subst (λ (g : GridBox). CornersFit (corners_of g)) (sym same) fit }
 cuts_fit test id (shown ∷ cuts) part left le fit named (face, bound, may, is, later) =

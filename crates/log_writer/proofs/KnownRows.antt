@@ -38,7 +38,8 @@ use Rattle.log_writer.proofs.WritingLemmas.{longer_before}
 
 -- ---- a block in hand goes on to a whole one
 
-run_on : (rules : Rules) (g : Block) (given : Body) (shown : List ShownEvent) → CanPave rules g → g.body ≡ Some given → TurnsBegun idle (test_in rules g) rules given.root shown
+run_on : (rules : Rules) (g : Block) (given : Body) (shown : List ShownEvent) → CanPave rules g
+    → g.body ≡ Some given → TurnsBegun idle (test_in rules g) rules given.root shown
     → (more : List ShownStep) × PavedTurns idle (test_in rules g) rules given.root (shown ++ map OfStep more)
 run_on rules g given shown can is begun =
     let fit = (fits_root g given can.fits is).0 in
@@ -52,19 +53,23 @@ record GoesOnTo (rules : Rules) (g b : Block) : Type 0 where
   later : List Piece
   pieces : begun_pieces b ++ later ≡ block_pieces block
 
-pieces_then : (rules : Rules) (test : BoxTest) (root : GridBox) (shown more : List ShownEvent) → TurnsBegun idle test rules root shown → PavedTurns idle test rules root (shown ++ more)
+pieces_then : (rules : Rules) (test : BoxTest) (root : GridBox) (shown more : List ShownEvent)
+    → TurnsBegun idle test rules root shown → PavedTurns idle test rules root (shown ++ more)
     → event_pieces (first_boxes root) (events_of shown) ++ shown_pieces more ≡ event_pieces (first_boxes root) (events_of (shown ++ more))
 pieces_then rules test root shown more begun run =
     ap (λ (ps : List Piece). ps ++ shown_pieces more) (sym (taken_pieces (first_boxes root) shown (begun_taken idle test rules root shown begun)))
     ∙ sym (shown-append shown more) ∙ taken_pieces (first_boxes root) (shown ++ more) (run_taken idle test rules root (shown ++ more) run)
 
 -- the opening of the block says the same
-opening_is : (rules : Rules) (g b : Block) (begins : Begins idle rules g b) → opening_pieces b ≡ opening_pieces g
+opening_is : (rules : Rules) (g b : Block) (begins : Begins idle rules g b)
+    → opening_pieces b ≡ opening_pieces g
 opening_is rules g b begins =
     let few = same_few (HasBegun idle rules) b g.body b.body begins.body in
     λ i. with_report (first_line (few i) (record { index = begins.index i; ps = begins.ps i; n = begins.n i })) (epoch_text_of (few i) (begins.index i) (begins.ps i) (begins.n i)) ∷ sat_pieces (begins.sats i)
 
-hand_on : (rules : Rules) (g b : Block) (o q : Option Body) → CanPave rules g → g.body ≡ o → b.body ≡ q → Begins idle rules g b → BodyExtends (HasBegun idle rules) b o q → GoesOnTo rules g b
+hand_on : (rules : Rules) (g b : Block) (o q : Option Body) → CanPave rules g → g.body ≡ o
+    → b.body ≡ q → Begins idle rules g b → BodyExtends (HasBegun idle rules) b o q
+    → GoesOnTo rules g b
 hand_on rules g b None None can is own begins e = record {
   block = g;
   paves = extends_self (HasRun idle rules) g (λ body some. absurd (no_body g.body body is some));
@@ -105,7 +110,8 @@ some_block rules g can =
 
 -- ---- the blocks behind
 
-some_blocks : (rules : Rules) (given : List Block) → CanAllPave rules given → (blocks : List Block) × AllPave idle rules given blocks
+some_blocks : (rules : Rules) (given : List Block) → CanAllPave rules given
+    → (blocks : List Block) × AllPave idle rules given blocks
 some_blocks rules [] can = ([], tt)
 some_blocks rules (g ∷ given) can =
     let (b, paves) = some_block rules g can.0 in
@@ -119,7 +125,8 @@ record AreOn (rules : Rules) (left : List Block) (blocks : List Block) (hand : O
   later : List Piece
   pieces : flat_map begun_pieces (option_to_list hand) ++ later ≡ flat_map block_pieces more
 
-all_on : (rules : Rules) (left : List Block) (hand : Option Block) (hull : Option GridBox) → CanAllPave rules left → IsInHand of_rows rules left hull hand → AreOn rules left [] hand
+all_on : (rules : Rules) (left : List Block) (hand : Option Block) (hull : Option GridBox)
+    → CanAllPave rules left → IsInHand of_rows rules left hull hand → AreOn rules left [] hand
 all_on rules left None hull can in_hand =
     let (blocks, all) = some_blocks rules left can in
     record { more = blocks; pave = all; later = flat_map block_pieces blocks; pieces = refl }
@@ -137,7 +144,9 @@ all_on rules left (Some b) hull can (g, next, gave, begins) =
     }
 
 -- blocks that came from a list are the first ones of a paving of it
-came_on : (rules : Rules) (left blocks behind : List Block) (hand : Option Block) (hull : Option GridBox) → CanAllPave rules left → Came of_rows rules left hull blocks behind → IsInHand of_rows rules behind (hull_of_last hull blocks) hand
+came_on : (rules : Rules) (left blocks behind : List Block) (hand : Option Block) (hull : Option GridBox)
+    → CanAllPave rules left → Came of_rows rules left hull blocks behind
+    → IsInHand of_rows rules behind (hull_of_last hull blocks) hand
     → AreOn rules left blocks hand
 came_on rules left [] behind hand hull can came in_hand =
     all_on rules left hand hull can (subst (λ (l : List Block). IsInHand of_rows rules l hull hand) (sym came) in_hand)
@@ -173,8 +182,10 @@ broke_on limit pieces later fault log report b = record {
 abbrev log_of : Rules → List Block → LogValue
 log_of rules blocks = record { version = version_of rules false; rules = rules; blocks = blocks }
 
-begun_on : (rows : LogValue) (fault : WriteFault) (limit : ℕ) (bytes said : List ℕ) → CanAllPave rows.rules rows.blocks
-    → IsBegun fault of_rows rows.rules rows.blocks limit bytes said → IsBegunOf fault rows limit bytes said
+begun_on : (rows : LogValue) (fault : WriteFault) (limit : ℕ) (bytes said : List ℕ)
+    → CanAllPave rows.rules rows.blocks
+    → IsBegun fault of_rows rows.rules rows.blocks limit bytes said
+    → IsBegunOf fault rows limit bytes said
 begun_on rows fault limit bytes said can b =
     let on = came_on rows.rules rows.blocks b.blocks b.behind b.hand None can b.came b.in_hand in
     let head : List Piece = head_pieces (version_of rows.rules false) rows.rules in
@@ -191,7 +202,8 @@ begun_on rows fault limit bytes said can b =
       broke = subst (λ (ps : List Piece). BrokeOff limit ps fault bytes said) pieces (broke_on limit ((head ++ front) ++ held) on.later fault bytes said b.broke);
     }
 
-whole_of : (rows : LogValue) (last : List Block) (limit : ℕ) (bytes said : List ℕ) → IsWhole of_rows rows.rules rows.blocks last limit bytes said → IsWholeOf rows limit bytes said
+whole_of : (rows : LogValue) (last : List Block) (limit : ℕ) (bytes said : List ℕ)
+    → IsWhole of_rows rows.rules rows.blocks last limit bytes said → IsWholeOf rows limit bytes said
 whole_of rows last limit bytes said w = record {
   log = w.log;
   paving = record { version = w.version; rules = w.same_rules; blocks = came_all rows.rules rows.blocks w.log.blocks w.behind last None w.came w.no_more };

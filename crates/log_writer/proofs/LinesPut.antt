@@ -19,26 +19,31 @@ use Rattle.log_writer.proofs.WritingLemmas.{went_none, ended_behind, ended_befor
 
 -- ---- the place of a line
 
-got_map : {X Y : Type 0} (f : X → Y) (xs : List X) (i : ℕ) (x : X) → get_or (map f xs) i (f x) ≡ f (get_or xs i x)
+got_map : {X Y : Type 0} (f : X → Y) (xs : List X) (i : ℕ) (x : X)
+    → get_or (map f xs) i (f x) ≡ f (get_or xs i x)
 got_map f [] i x = refl
 got_map f (first ∷ xs) zero x = refl
 got_map f (first ∷ xs) (suc i) x = got_map f xs i x
 
-pub map_at : {X Y : Type 0} (f : X → Y) (xs : List X) (i : ℕ) (x : X) → IsItemAt xs i x → IsItemAt (map f xs) i (f x)
+pub map_at : {X Y : Type 0} (f : X → Y) (xs : List X) (i : ℕ) (x : X) → IsItemAt xs i x
+    → IsItemAt (map f xs) i (f x)
 map_at f xs i x at = record {
   within = omega (arith, at.within, length-map xs f);
   is = ap f at.is ∙ sym (got_map f xs i x);
 }
 
-pub all_taken : {X : Type 0} (f : X → LogLine) (xs : List X) (i : ℕ) → length xs ≤ i → take i (map f xs) ≡ map f xs
+pub all_taken : {X : Type 0} (f : X → LogLine) (xs : List X) (i : ℕ) → length xs ≤ i
+    → take i (map f xs) ≡ map f xs
 all_taken f xs i le = take_all i (map f xs) (omega (arith, le, length-map xs f))
 
 -- ---- the line that broke
 
-broke_full : (fault : WriteFault) (room before here more : ℕ) (all : ℕ) → before + here ≡ room → all ≡ before + more → (fault ≡ why.Full) ↔ (here < more) → (fault ≡ why.Full) ↔ (room < all)
+broke_full : (fault : WriteFault) (room before here more : ℕ) (all : ℕ) → before + here ≡ room
+    → all ≡ before + more → (fault ≡ why.Full) ↔ (here < more) → (fault ≡ why.Full) ↔ (room < all)
 broke_full fault room before here more all left same (f, g) = (λ e. omega (arith, f e, left, same), λ less. g (omega (arith, less, left, same)))
 
-full_fault : {P : Type 0} (fault : WriteFault) → ((the_err fault ≡ Err why.Full) ↔ P) → (fault ≡ why.Full) ↔ P
+full_fault : {P : Type 0} (fault : WriteFault) → ((the_err fault ≡ Err why.Full) ↔ P)
+    → (fault ≡ why.Full) ↔ P
 full_fault fault (f, g) = (λ e. f (ap Err e), λ p. err_is fault why.Full (g p))
 
 -- the line broke, by its bytes
@@ -46,15 +51,19 @@ record LineBroke (b c : Seen) (l : LogLine) (fault : WriteFault) : Type 0 where
   ended : Ended b (alone l ∷ []) fault c
   full : (fault ≡ why.Full) ↔ (b.left < length (text_of (l ∷ [])))
 
-by_bytes : (b c : Seen) (l : LogLine) (fault : WriteFault) (bytes : List ℕ) → bytes ≡ text_of (l ∷ []) → Ended b (piece bytes [] ∷ []) fault c → ((the_err fault ≡ Err why.Full) ↔ (b.left < length bytes)) → LineBroke b c l fault
+by_bytes : (b c : Seen) (l : LogLine) (fault : WriteFault) (bytes : List ℕ)
+    → bytes ≡ text_of (l ∷ []) → Ended b (piece bytes [] ∷ []) fault c
+    → ((the_err fault ≡ Err why.Full) ↔ (b.left < length bytes)) → LineBroke b c l fault
 by_bytes b c l fault bytes is ended full = record {
   ended = subst (λ (line : List ℕ). Ended b (piece line [] ∷ []) fault c) is ended;
   full = full_fault fault (subst (λ (line : List ℕ). (the_err fault ≡ Err why.Full) ↔ (b.left < length line)) is full);
 }
 
 -- line i broke behind those before it
-pub line_broke : (a b c : Seen) (lines : List LogLine) (i : ℕ) (l : LogLine) (fault : WriteFault) (bytes : List ℕ) → IsItemAt lines i l → Went a (map alone (take i lines)) b
-    → bytes ≡ text_of (l ∷ []) → Ended b (piece bytes [] ∷ []) fault c → ((the_err fault ≡ Err why.Full) ↔ (b.left < length bytes)) → BrokeAfter a lines i fault c
+pub line_broke : (a b c : Seen) (lines : List LogLine) (i : ℕ) (l : LogLine) (fault : WriteFault) (bytes : List ℕ)
+    → IsItemAt lines i l → Went a (map alone (take i lines)) b
+    → bytes ≡ text_of (l ∷ []) → Ended b (piece bytes [] ∷ []) fault c
+    → ((the_err fault ≡ Err why.Full) ↔ (b.left < length bytes)) → BrokeAfter a lines i fault c
 line_broke a b c lines i l fault bytes at went is ended full =
     let broke = by_bytes b c l fault bytes is ended full in
     let more : take i lines ++ l ∷ [] ≡ take (i + 1) lines = longer alone lines i l at in
@@ -74,11 +83,16 @@ line_broke a b c lines i l fault bytes at went is ended full =
     }
 
 -- the first line broke
-pub first_broke : (a c : Seen) (l : LogLine) (lines : List LogLine) (fault : WriteFault) (bytes : List ℕ) → bytes ≡ text_of (l ∷ []) → Ended a (piece bytes [] ∷ []) fault c → ((the_err fault ≡ Err why.Full) ↔ (a.left < length bytes)) → BrokeAfter a (l ∷ lines) 0 fault c
+pub first_broke : (a c : Seen) (l : LogLine) (lines : List LogLine) (fault : WriteFault) (bytes : List ℕ)
+    → bytes ≡ text_of (l ∷ []) → Ended a (piece bytes [] ∷ []) fault c
+    → ((the_err fault ≡ Err why.Full) ↔ (a.left < length bytes))
+    → BrokeAfter a (l ∷ lines) 0 fault c
 first_broke a c l lines fault bytes is ended full = line_broke a a c (l ∷ lines) 0 l fault bytes (record { within = omega arith; is = refl }) (went_none a) is ended full
 
 -- a later line broke
-pub later_broke : (a b c : Seen) (l : LogLine) (lines : List LogLine) (taken : ℕ) (fault : WriteFault) → Went a (alone l ∷ []) b → BrokeAfter b lines taken fault c → BrokeAfter a (l ∷ lines) (taken + 1) fault c
+pub later_broke : (a b c : Seen) (l : LogLine) (lines : List LogLine) (taken : ℕ) (fault : WriteFault)
+    → Went a (alone l ∷ []) b → BrokeAfter b lines taken fault c
+    → BrokeAfter a (l ∷ lines) (taken + 1) fault c
 later_broke a b c l lines taken fault went broke =
     let next : taken + 1 + 1 ≡ suc (taken + 1) = omega arith in
     let front : take (taken + 1 + 1) (l ∷ lines) ≡ l ∷ take (taken + 1) lines = ap (λ (n : ℕ). take n (l ∷ lines)) next in
@@ -98,14 +112,16 @@ later_broke a b c l lines taken fault went broke =
     }
 
 -- all lines, of which the first ones broke off
-pub among_all : (a c : Seen) (lines : List LogLine) (n : ℕ) (fault : WriteFault) → Ended a (map alone (take n lines)) fault c → Ended a (map alone lines) fault c
+pub among_all : (a c : Seen) (lines : List LogLine) (n : ℕ) (fault : WriteFault)
+    → Ended a (map alone (take n lines)) fault c → Ended a (map alone lines) fault c
 among_all a c lines n fault ended =
     subst (λ (ps : List Piece). Ended a ps fault c) (sym (map-append alone (take n lines) (drop n lines)) ∙ ap (map alone) (take-append-drop n lines))
     (ended_before a c (map alone (take n lines)) (map alone (drop n lines)) fault ended)
 
 -- ---- what a paving is told
 
-pub full_told : (fault : WriteFault) (told : StepFault) → in_paving fault ≡ Some told → (told ≡ step_fault.Full) ↔ (fault ≡ why.Full)
+pub full_told : (fault : WriteFault) (told : StepFault) → in_paving fault ≡ Some told
+    → (told ≡ step_fault.Full) ↔ (fault ≡ why.Full)
 full_told why.Log told is = (λ e. absurd cc, λ e. absurd cc)
 full_told why.Out told is = (λ e. absurd cc, λ e. absurd cc)
 full_told why.Full told is = (λ e. refl, λ e. cc)

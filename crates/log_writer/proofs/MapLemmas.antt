@@ -16,20 +16,26 @@ use Rattle.log_writer.specs.Texts.{IsText}
 module _ {B C : Type 0} (source : Source B) (other : Source C) (value : B → C)
     (each : (old : B) (hull : Option GridBox) (next : Option Block) (new : B) → source.gives old hull next new → other.gives (value old) hull next (value new))
     (maker : (b : B) → source.maker b ≡ other.maker (value b)) (rules : Rules) where
-  paves_map : (next : B) (given b : Block) → Paves (source.maker next) rules given b → Paves (other.maker (value next)) rules given b
+  paves_map : (next : B) (given b : Block) → Paves (source.maker next) rules given b
+      → Paves (other.maker (value next)) rules given b
   paves_map next given b paves = subst (λ (m : Maker). Paves m rules given b) (maker next) paves
 
-  pub came_map : (first last : B) (hull : Option GridBox) (blocks : List Block) → Came source rules first hull blocks last → Came other rules (value first) hull blocks (value last)
+  pub came_map : (first last : B) (hull : Option GridBox) (blocks : List Block)
+      → Came source rules first hull blocks last
+      → Came other rules (value first) hull blocks (value last)
   came_map first last hull [] came = ap value came
   came_map first last hull (b ∷ blocks) (given, next, gave, paves, later) =
       (given, value next, each first hull (Some given) next gave, paves_map next given b paves, came_map next last (hull_kept b.body) blocks later)
 
-  pub hand_map : (behind : B) (hull : Option GridBox) (hand : Option Block) → IsInHand source rules behind hull hand → IsInHand other rules (value behind) hull hand
+  pub hand_map : (behind : B) (hull : Option GridBox) (hand : Option Block)
+      → IsInHand source rules behind hull hand → IsInHand other rules (value behind) hull hand
   hand_map behind hull None in_hand = tt
   hand_map behind hull (Some b) (given, next, gave, begins) =
       (given, value next, each behind hull (Some given) next gave, subst (λ (m : Maker). Begins m rules given b) (maker next) begins)
 
-  pub text_map : {T : Type 0} (first last : B) (limit : ℕ) (r : Result T WriteFault) (bytes said : List ℕ) → IsText source rules first last limit r bytes said → IsText other rules (value first) (value last) limit r bytes said
+  pub text_map : {T : Type 0} (first last : B) (limit : ℕ) (r : Result T WriteFault) (bytes said : List ℕ)
+      → IsText source rules first last limit r bytes said
+      → IsText other rules (value first) (value last) limit r bytes said
   text_map first last limit (Ok done) bytes said w = record {
     log = w.log;
     version = subst (λ (m : Maker). w.log.version ≡ version_of rules m.active) (maker first) w.version;

@@ -41,24 +41,28 @@ use Rattle.log_writer.proofs.WritingLemmas.{log_bytes-append, sent_none, went_tw
 abbrev log_of : ℕ → Rules → List Block → LogValue
 log_of version rules blocks = record { version = version; rules = rules; blocks = blocks }
 
-pieces_more : (version : ℕ) (rules : Rules) (blocks : List Block) (b : Block) → log_pieces (log_of version rules blocks) ++ block_pieces b ≡ log_pieces (log_of version rules (blocks ++ b ∷ []))
+pieces_more : (version : ℕ) (rules : Rules) (blocks : List Block) (b : Block)
+    → log_pieces (log_of version rules blocks) ++ block_pieces b ≡ log_pieces (log_of version rules (blocks ++ b ∷ []))
 pieces_more version rules blocks b =
     append_assoc (head_pieces version rules) (flat_map block_pieces blocks) (block_pieces b)
     ∙ ap (λ (ps : List Piece). head_pieces version rules ++ ps)
     (ap (λ (ps : List Piece). flat_map block_pieces blocks ++ ps) (sym (append-nil (block_pieces b))) ∙ sym (flat_map-append block_pieces blocks (b ∷ [])))
 
 -- the version tells of pairs, and whether rows may be renewed
-tells_pairs : (pairs renews : Bool) → pairs ≡ has_pairs (if pairs then 3 else if renews then 2 else 1)
+tells_pairs : (pairs renews : Bool)
+    → pairs ≡ has_pairs (if pairs then 3 else if renews then 2 else 1)
 tells_pairs true renews = refl
 tells_pairs false true = refl
 tells_pairs false false = refl
 
-tells_renewed : (pairs renews : Bool) → renews ≡ true → may_renew (if pairs then 3 else if renews then 2 else 1) ≡ true
+tells_renewed : (pairs renews : Bool) → renews ≡ true
+    → may_renew (if pairs then 3 else if renews then 2 else 1) ≡ true
 tells_renewed true renews is = refl
 tells_renewed false true is = refl
 tells_renewed false false is = absurd cc
 
-longer_all : (limit : ℕ) (text more : List Piece) → IsLonger limit text more → limit < length (log_bytes (text ++ more))
+longer_all : (limit : ℕ) (text more : List Piece) → IsLonger limit text more
+    → limit < length (log_bytes (text ++ more))
 longer_all limit text [] longer = absurd longer
 longer_all limit text (next ∷ more) longer =
     omega (arith, longer, ap length (log_bytes-append text (next ∷ more)), length-append (log_bytes text) (log_bytes (next ∷ more)), length-append next.line (log_bytes more))
@@ -86,7 +90,8 @@ module _ {B : Type 0} (source : Source B) (rules : Rules) (first : B) where
   none_gave = record { came = refl; fit = tt; pass = tt; small = tt }
 
   -- the head ended early
-  pub head_ended : (most : ℕ) (a c : Seen) (fault : WriteFault) → Ended a (head_pieces its_version rules) fault c → LogEnded source rules first most a fault c
+  pub head_ended : (most : ℕ) (a c : Seen) (fault : WriteFault)
+      → Ended a (head_pieces its_version rules) fault c → LogEnded source rules first most a fault c
   head_ended most a c fault ended = record {
     blocks = [];
     behind = first;
@@ -112,7 +117,9 @@ module _ {B : Type 0} (source : Source B) (rules : Rules) (first : B) where
       pub kept : hull ≡ hull_of_last None blocks
       pub went : Went a (log_pieces (log_of its_version rules blocks)) now
 
-    pub underway_first : (a now : Seen) → (standing first).rules ≡ rules → (standing first).before ≡ None → Went a (head_pieces its_version rules) now → IsUnderway a first None now
+    pub underway_first : (a now : Seen) → (standing first).rules ≡ rules
+        → (standing first).before ≡ None → Went a (head_pieces its_version rules) now
+        → IsUnderway a first None now
     underway_first a now same_rules index went = record {
       blocks = [];
       gave = none_gave;
@@ -132,11 +139,15 @@ module _ {B : Type 0} (source : Source B) (rules : Rules) (first : B) where
       pub can_next : CanPave rules g
       can_next = can_pave rules (index_behind None u.blocks) g f.fits passes
 
-      gives_it : source.gives behind hull (Some g) next → source.gives behind (hull_of_last None u.blocks) (Some g) next
+      gives_it : source.gives behind hull (Some g) next
+          → source.gives behind (hull_of_last None u.blocks) (Some g) next
       gives_it gave = subst (λ (h : Option GridBox). source.gives behind h (Some g) next) u.kept gave
 
-      gave_more : (b : Block) → source.gives behind hull (Some g) next → SuitsBlock (source.maker next) g → (source.maker next).active ≡ (source.maker behind).active
-          → Paves (source.maker next) rules g b → Gave source rules its_version first (u.blocks ++ b ∷ []) next
+      gave_more : (b : Block) → source.gives behind hull (Some g) next
+          → SuitsBlock (source.maker next) g
+          → (source.maker next).active ≡ (source.maker behind).active
+          → Paves (source.maker next) rules g b
+          → Gave source rules its_version first (u.blocks ++ b ∷ []) next
       gave_more b gave suits same paves =
           let maker : Maker = source.maker next in
           let renews = λ (on : maker.active ≡ true). tells_renewed rules.pairs (source.maker first).active (sym u.active ∙ sym same ∙ on) in
@@ -147,8 +158,11 @@ module _ {B : Type 0} (source : Source B) (rules : Rules) (first : B) where
             small = all_more (IsSmall rules) u.blocks b u.gave.small (block_small maker rules (index_behind None u.blocks) g b f.fits passes suits paves);
           }
 
-      pub underway_more : (later : Seen) (kept : Option Box3) → source.gives behind hull (Some g) next → SuitsBlock (source.maker next) g → (source.maker next).active ≡ (source.maker behind).active
-          → BlockWent (source.maker next) rules g now kept later → IsUnderway a next (box_option kept) later
+      pub underway_more : (later : Seen) (kept : Option Box3)
+          → source.gives behind hull (Some g) next → SuitsBlock (source.maker next) g
+          → (source.maker next).active ≡ (source.maker behind).active
+          → BlockWent (source.maker next) rules g now kept later
+          → IsUnderway a next (box_option kept) later
       underway_more later kept gave suits same w = record {
         blocks = u.blocks ++ w.block ∷ [];
         gave = gave_more w.block gave suits same w.paves;
@@ -162,8 +176,11 @@ module _ {B : Type 0} (source : Source B) (rules : Rules) (first : B) where
       }
 
       -- its last line broke
-      pub last_broke : (later : Seen) (fault : WriteFault) → source.gives behind hull (Some g) next → SuitsBlock (source.maker next) g → (source.maker next).active ≡ (source.maker behind).active
-          → LastBroke (source.maker next) rules g now fault later → LogEnded source rules first (standing first).most a fault later
+      pub last_broke : (later : Seen) (fault : WriteFault) → source.gives behind hull (Some g) next
+          → SuitsBlock (source.maker next) g
+          → (source.maker next).active ≡ (source.maker behind).active
+          → LastBroke (source.maker next) rules g now fault later
+          → LogEnded source rules first (standing first).most a fault later
       last_broke later fault gave suits same w = record {
         blocks = u.blocks ++ w.block ∷ [];
         behind = next;
@@ -177,7 +194,9 @@ module _ {B : Type 0} (source : Source B) (rules : Rules) (first : B) where
       }
 
       -- its run broke off
-      pub block_broke : (later : Seen) (fault : WriteFault) → source.gives behind hull (Some g) next → BlockBroke (source.maker next) rules g now fault later → LogEnded source rules first (standing first).most a fault later
+      pub block_broke : (later : Seen) (fault : WriteFault) → source.gives behind hull (Some g) next
+          → BlockBroke (source.maker next) rules g now fault later
+          → LogEnded source rules first (standing first).most a fault later
       block_broke later fault gave w = record {
         blocks = u.blocks;
         behind = behind;
@@ -190,13 +209,18 @@ module _ {B : Type 0} (source : Source B) (rules : Rules) (first : B) where
             (ended_behind a now later (log_pieces (log_of its_version rules u.blocks)) (begun_pieces w.block) fault u.went w.ended);
       }
 
-      pub block_ended : (later : Seen) (fault : WriteFault) → source.gives behind hull (Some g) next → SuitsBlock (source.maker next) g → (source.maker next).active ≡ (source.maker behind).active
-          → WroteBlock (source.maker next) rules g now (Err fault) later → LogEnded source rules first (standing first).most a fault later
+      pub block_ended : (later : Seen) (fault : WriteFault) → source.gives behind hull (Some g) next
+          → SuitsBlock (source.maker next) g
+          → (source.maker next).active ≡ (source.maker behind).active
+          → WroteBlock (source.maker next) rules g now (Err fault) later
+          → LogEnded source rules first (standing first).most a fault later
       block_ended later fault gave suits same (inl w) = last_broke later fault gave suits same w
       block_ended later fault gave suits same (inr w) = block_broke later fault gave w
 
     -- there was no memory for the next block
-    pub next_ended : (a : Seen) (behind : B) (hull : Option GridBox) (now : Seen) → IsUnderway a behind hull now → LogEnded source rules first (standing first).most a why.NoMemory now
+    pub next_ended : (a : Seen) (behind : B) (hull : Option GridBox) (now : Seen)
+        → IsUnderway a behind hull now
+        → LogEnded source rules first (standing first).most a why.NoMemory now
     next_ended a behind hull now u = record {
       blocks = u.blocks;
       behind = behind;
@@ -209,7 +233,9 @@ module _ {B : Type 0} (source : Source B) (rules : Rules) (first : B) where
     }
 
     -- the source had no more
-    pub log_done : (a : Seen) (behind last : B) (hull : Option GridBox) (now : Seen) → IsUnderway a behind hull now → source.gives behind hull None last → LogWent source rules first last a now
+    pub log_done : (a : Seen) (behind last : B) (hull : Option GridBox) (now : Seen)
+        → IsUnderway a behind hull now → source.gives behind hull None last
+        → LogWent source rules first last a now
     log_done a behind last hull now u ended = record {
       blocks = u.blocks;
       behind = behind;
@@ -236,7 +262,9 @@ module _ {B : Type 0} (source : Source B) (rules : Rules) (first last : B) (most
   of_ended w = record { blocks = w.blocks; behind = w.behind; came = w.gave.came; hand = w.hand; in_hand = w.in_hand }
 
   -- a device failed while a text was on its way
-  lost_finishes : {T : Type 0} (h : HasBlocks) (a c : Seen) (fault : WriteFault) (text more : List Piece) → pieces_in h ≡ text ++ more → Lost a text fault c → Finishes {T = T} source rules first last most a (Err fault) c
+  lost_finishes : {T : Type 0} (h : HasBlocks) (a c : Seen) (fault : WriteFault) (text more : List Piece)
+      → pieces_in h ≡ text ++ more → Lost a text fault c
+      → Finishes {T = T} source rules first last most a (Err fault) c
   lost_finishes h a c why.Log text more all l = record {
     bytes = l.log;
     said = l.report;
@@ -261,8 +289,13 @@ module _ {B : Type 0} (source : Source B) (rules : Rules) (first last : B) (most
   lost_finishes h a c why.NoMemory text more all l = absurd l.fails
 
   -- a text went out, behind which the writing stopped
-  stop_finishes : {T : Type 0} (h : HasBlocks) (a c : Seen) (fault : WriteFault) (text more : List Piece) → pieces_in h ≡ text ++ more → Put a text c → Sent a.at (log_bytes text) (report_bytes text) c.at
-      → Leaves a.left text more fault (log_bytes text) (report_bytes text) → Counts {T = T} a.at (Err fault) c.at → HasRoom {T = T} a.left (most_bytes most rules.bisections) (Err fault) → Finishes {T = T} source rules first last most a (Err fault) c
+  stop_finishes : {T : Type 0} (h : HasBlocks) (a c : Seen) (fault : WriteFault) (text more : List Piece)
+      → pieces_in h ≡ text ++ more → Put a text c
+      → Sent a.at (log_bytes text) (report_bytes text) c.at
+      → Leaves a.left text more fault (log_bytes text) (report_bytes text)
+      → Counts {T = T} a.at (Err fault) c.at
+      → HasRoom {T = T} a.left (most_bytes most rules.bisections) (Err fault)
+      → Finishes {T = T} source rules first last most a (Err fault) c
   stop_finishes h a c fault text more all put sent leaves counts room = record {
     bytes = log_bytes text;
     said = report_bytes text;
@@ -276,7 +309,8 @@ module _ {B : Type 0} (source : Source B) (rules : Rules) (first last : B) (most
 
   -- ---- a log that is full
 
-  full_room : (a c : Seen) → Put a [] a → LogEnded source rules first most a why.Full c → a.left < most_bytes most rules.bisections
+  full_room : (a c : Seen) → Put a [] a → LogEnded source rules first most a why.Full c
+      → a.left < most_bytes most rules.bisections
   full_room a c start w =
       let s = w.ended a [] start in
       room_of rules (source.maker first).active w.blocks w.hand a.left most w.gave.small w.small w.at_most
@@ -285,28 +319,37 @@ module _ {B : Type 0} (source : Source B) (rules : Rules) (first last : B) (most
   -- ---- by the fault
 
   -- a device was at fault already
-  finish_log : {T : Type 0} (a c : Seen) → LogEnded source rules first most a why.Log c → Finished {T = T} source rules first last most a (Err why.Log) c
+  finish_log : {T : Type 0} (a c : Seen) → LogEnded source rules first most a why.Log c
+      → Finished {T = T} source rules first last most a (Err why.Log) c
   finish_log a c w = λ start. let s = w.ended a [] start in lost_finishes (of_ended w) a c why.Log s.text s.more s.all s.stops
 
-  finish_out : {T : Type 0} (a c : Seen) → LogEnded source rules first most a why.Out c → Finished {T = T} source rules first last most a (Err why.Out) c
+  finish_out : {T : Type 0} (a c : Seen) → LogEnded source rules first most a why.Out c
+      → Finished {T = T} source rules first last most a (Err why.Out) c
   finish_out a c w = λ start. let s = w.ended a [] start in lost_finishes (of_ended w) a c why.Out s.text s.more s.all s.stops
 
   -- the log is full
-  finish_full : {S T : Type 0} (a b c : Seen) (done : S) → LogEnded source rules first most a why.Full b → Flushed {T = S} b (Ok done) c → Finished {T = T} source rules first last most a (Err why.Full) c
+  finish_full : {S T : Type 0} (a b c : Seen) (done : S)
+      → LogEnded source rules first most a why.Full b → Flushed {T = S} b (Ok done) c
+      → Finished {T = T} source rules first last most a (Err why.Full) c
   finish_full a b c done w flushed = λ start.
       let s = w.ended a [] start in
       let (put, sent) = flushed a s.text s.stops.0 in
       stop_finishes (of_ended w) a c why.Full s.text s.more s.all put sent (refl, refl, s.stops.1) tt (full_room a b start w)
 
   -- memory ended
-  finish_memory : {S T : Type 0} (a b c : Seen) (done : S) → LogEnded source rules first most a why.NoMemory b → Flushed {T = S} b (Ok done) c → Finished {T = T} source rules first last most a (Err why.NoMemory) c
+  finish_memory : {S T : Type 0} (a b c : Seen) (done : S)
+      → LogEnded source rules first most a why.NoMemory b → Flushed {T = S} b (Ok done) c
+      → Finished {T = T} source rules first last most a (Err why.NoMemory) c
   finish_memory a b c done w flushed = λ start.
       let s = w.ended a [] start in
       let (put, sent) = flushed a s.text s.stops in
       stop_finishes (of_ended w) a c why.NoMemory s.text s.more s.all put sent (refl, refl) tt tt
 
   -- the last bytes of a log that ended early were lost
-  pub finish_stop_lost : {U : Type 0} (S : Type 0) (a b c : Seen) (before fault : WriteFault) → of_device before ≡ false → LogEnded source rules first most a before b → Flushed {T = S} b (Err fault) c → Finished {T = U} source rules first last most a (Err fault) c
+  pub finish_stop_lost : {U : Type 0} (S : Type 0) (a b c : Seen) (before fault : WriteFault)
+      → of_device before ≡ false → LogEnded source rules first most a before b
+      → Flushed {T = S} b (Err fault) c
+      → Finished {T = U} source rules first last most a (Err fault) c
   finish_stop_lost S a b c why.Log fault is w flushed = absurd cc
   finish_stop_lost S a b c why.Out fault is w flushed = absurd cc
   finish_stop_lost S a b c why.Full fault is w flushed = λ start.
@@ -321,7 +364,8 @@ module _ {B : Type 0} (source : Source B) (rules : Rules) (first last : B) (most
     pieces = log_pieces (log_of (version_of rules (source.maker first).active) rules w.blocks)
 
     -- the last bytes were lost
-    whole_lost : {U : Type 0} (S : Type 0) (fault : WriteFault) → Flushed {T = S} b (Err fault) c → Finished {T = U} source rules first last most a (Err fault) c
+    whole_lost : {U : Type 0} (S : Type 0) (fault : WriteFault) → Flushed {T = S} b (Err fault) c
+        → Finished {T = U} source rules first last most a (Err fault) c
     unfolding pieces
     whole_lost S fault flushed = λ start.
         let h : HasBlocks = record { blocks = w.blocks; behind = w.behind; came = w.gave.came; hand = None; in_hand = tt } in
@@ -349,7 +393,9 @@ module _ {B : Type 0} (source : Source B) (rules : Rules) (first last : B) (most
     }
 
     -- all of it went out
-    finish_done : {S T : Type 0} (done : T) (all_out : S) → a.left ≤ longest_file → Flushed {T = S} b (Ok all_out) c → Finished {T = T} source rules first last most a (Ok done) c
+    finish_done : {S T : Type 0} (done : T) (all_out : S) → a.left ≤ longest_file
+        → Flushed {T = S} b (Ok all_out) c
+        → Finished {T = T} source rules first last most a (Ok done) c
     unfolding pieces log
     finish_done done all_out room flushed = λ start.
         let on : Bool = may_renew (version_of rules (source.maker first).active) in
@@ -382,17 +428,24 @@ module _ {B : Type 0} (source : Source B) (rules : Rules) (first last : B) (most
 
   -- ---- by how it ended
 
-  pub finish_ok : {T : Type 0} (a b c : Seen) (done : T) (r : Result T WriteFault) → a.left ≤ longest_file → LogWent source rules first last a b → Flushed b r c → Finished source rules first last most a r c
+  pub finish_ok : {T : Type 0} (a b c : Seen) (done : T) (r : Result T WriteFault)
+      → a.left ≤ longest_file → LogWent source rules first last a b → Flushed b r c
+      → Finished source rules first last most a r c
   finish_ok {T} a b c done (Ok all_out) room w flushed = finish_done a b c w all_out all_out room flushed
   finish_ok {T} a b c done (Err fault) room w flushed = whole_lost a b c w T fault flushed
 
-  pub finish_device : {T : Type 0} (a c : Seen) (fault : WriteFault) → of_device fault ≡ true → LogEnded source rules first most a fault c → Finished {T = T} source rules first last most a (Err fault) c
+  pub finish_device : {T : Type 0} (a c : Seen) (fault : WriteFault) → of_device fault ≡ true
+      → LogEnded source rules first most a fault c
+      → Finished {T = T} source rules first last most a (Err fault) c
   finish_device a c why.Log is w = finish_log a c w
   finish_device a c why.Out is w = finish_out a c w
   finish_device a c why.Full is w = absurd cc
   finish_device a c why.NoMemory is w = absurd cc
 
-  pub finish_stop : {S T : Type 0} (a b c : Seen) (fault : WriteFault) (done : S) → of_device fault ≡ false → LogEnded source rules first most a fault b → Flushed {T = S} b (Ok done) c → Finished {T = T} source rules first last most a (Err fault) c
+  pub finish_stop : {S T : Type 0} (a b c : Seen) (fault : WriteFault) (done : S)
+      → of_device fault ≡ false → LogEnded source rules first most a fault b
+      → Flushed {T = S} b (Ok done) c
+      → Finished {T = T} source rules first last most a (Err fault) c
   finish_stop a b c why.Log done is w flushed = absurd cc
   finish_stop a b c why.Out done is w flushed = absurd cc
   finish_stop a b c why.Full done is w flushed = finish_full a b c done w flushed

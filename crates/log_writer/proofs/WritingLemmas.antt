@@ -16,7 +16,8 @@ use Rattle.log_writer.specs.Writing.{Devices, Sent, Sends, Seen, Put, Lost, Stop
 pub log_bytes-append : (xs ys : List Piece) → log_bytes (xs ++ ys) ≡ log_bytes xs ++ log_bytes ys
 log_bytes-append xs ys = flat_map-append (λ (p : Piece). p.line) xs ys
 
-pub report_bytes-append : (xs ys : List Piece) → report_bytes (xs ++ ys) ≡ report_bytes xs ++ report_bytes ys
+pub report_bytes-append : (xs ys : List Piece)
+    → report_bytes (xs ++ ys) ≡ report_bytes xs ++ report_bytes ys
 report_bytes-append xs ys = flat_map-append (λ (p : Piece). p.report) xs ys
 
 -- ---- what was sent
@@ -30,7 +31,8 @@ sent_none a = record {
   out_faults = omega arith;
 }
 
-pub sent_twice : (a b c : Devices) (log more report also : List ℕ) → Sent a log report b → Sent b more also c → Sent a (log ++ more) (report ++ also) c
+pub sent_twice : (a b c : Devices) (log more report also : List ℕ) → Sent a log report b
+    → Sent b more also c → Sent a (log ++ more) (report ++ also) c
 sent_twice a b c log more report also f g = record {
   appended = appended-twice slot.Log log more a.shelf.told b.shelf.told c.shelf.told f.appended g.appended;
   taken = g.taken ∙ ap (option_map (taking also)) f.taken ∙ taking-twice a.out.told report also;
@@ -44,31 +46,37 @@ sent_twice a b c log more report also f g = record {
 pub went_none : (a : Seen) → Went a [] a
 went_none a = λ start earlier put. subst (λ (ps : List Piece). Put start ps a) (sym (append-nil earlier)) put
 
-pub went_twice : (a b c : Seen) (xs ys : List Piece) → Went a xs b → Went b ys c → Went a (xs ++ ys) c
+pub went_twice : (a b c : Seen) (xs ys : List Piece) → Went a xs b → Went b ys c
+    → Went a (xs ++ ys) c
 went_twice a b c xs ys f g = λ start earlier put.
     subst (λ (ps : List Piece). Put start ps c) (append_assoc earlier xs ys) (g start (earlier ++ xs) (f start earlier put))
 
-pub ended_behind : (a b c : Seen) (xs ys : List Piece) (fault : WriteFault) → Went a xs b → Ended b ys fault c → Ended a (xs ++ ys) fault c
+pub ended_behind : (a b c : Seen) (xs ys : List Piece) (fault : WriteFault) → Went a xs b
+    → Ended b ys fault c → Ended a (xs ++ ys) fault c
 ended_behind a b c xs ys fault f h = λ start earlier put.
     subst (λ (ps : List Piece). Stopped start ps fault c) (append_assoc earlier xs ys) (h start (earlier ++ xs) (f start earlier put))
 
-pub written_behind : {T : Type 0} (a b c : Seen) (xs ys : List Piece) (r : Result T WriteFault) → Went a xs b → Written b ys r c → Written a (xs ++ ys) r c
+pub written_behind : {T : Type 0} (a b c : Seen) (xs ys : List Piece) (r : Result T WriteFault)
+    → Went a xs b → Written b ys r c → Written a (xs ++ ys) r c
 written_behind a b c xs ys (Ok x) g h = went_twice a b c xs ys g h
 written_behind a b c xs ys (Err fault) g h = ended_behind a b c xs ys fault g h
 
 -- ---- pieces that others would have followed
 
-pub longer_before : (limit : ℕ) (text more ys : List Piece) → IsLonger limit text more → IsLonger limit text (more ++ ys)
+pub longer_before : (limit : ℕ) (text more ys : List Piece) → IsLonger limit text more
+    → IsLonger limit text (more ++ ys)
 longer_before limit text [] ys longer = absurd longer
 longer_before limit text (next ∷ more) ys longer = longer
 
-stops_before : (start : Seen) (text more ys : List Piece) (fault : WriteFault) (c : Seen) → Stops start text more fault c → Stops start text (more ++ ys) fault c
+stops_before : (start : Seen) (text more ys : List Piece) (fault : WriteFault) (c : Seen)
+    → Stops start text more fault c → Stops start text (more ++ ys) fault c
 stops_before start text more ys why.Log c s = s
 stops_before start text more ys why.Out c s = s
 stops_before start text more ys why.Full c s = (s.0, longer_before start.left text more ys s.1)
 stops_before start text more ys why.NoMemory c s = s
 
-stopped_before : (start : Seen) (xs ys : List Piece) (fault : WriteFault) (c : Seen) → Stopped start xs fault c → Stopped start (xs ++ ys) fault c
+stopped_before : (start : Seen) (xs ys : List Piece) (fault : WriteFault) (c : Seen)
+    → Stopped start xs fault c → Stopped start (xs ++ ys) fault c
 stopped_before start xs ys fault c h = record {
   text = h.text;
   more = h.more ++ ys;
@@ -76,7 +84,8 @@ stopped_before start xs ys fault c h = record {
   stops = stops_before start h.text h.more ys fault c h.stops;
 }
 
-pub ended_before : (a c : Seen) (xs ys : List Piece) (fault : WriteFault) → Ended a xs fault c → Ended a (xs ++ ys) fault c
+pub ended_before : (a c : Seen) (xs ys : List Piece) (fault : WriteFault) → Ended a xs fault c
+    → Ended a (xs ++ ys) fault c
 ended_before a c xs ys fault h = λ start earlier put.
     subst (λ (ps : List Piece). Stopped start ps fault c) (append_assoc earlier xs ys) (stopped_before start (earlier ++ xs) ys fault c (h start earlier put))
 
@@ -101,15 +110,19 @@ piece_full a p longer = λ start earlier put. record {
 }
 
 -- a device failed while the pieces before were on their way
-pub piece_lost : (a c : Seen) (p : Piece) (fault : WriteFault) → ((start : Seen) (text : List Piece) → Put start text a → Lost start text fault c) → Ended a (p ∷ []) fault c
+pub piece_lost : (a c : Seen) (p : Piece) (fault : WriteFault)
+    → ((start : Seen) (text : List Piece) → Put start text a → Lost start text fault c)
+    → Ended a (p ∷ []) fault c
 piece_lost a c p why.Log lost = λ start earlier put. record { text = earlier; more = p ∷ []; all = refl; stops = lost start earlier put }
 piece_lost a c p why.Out lost = λ start earlier put. record { text = earlier; more = p ∷ []; all = refl; stops = lost start earlier put }
 piece_lost a c p why.Full lost = λ start earlier put. absurd (lost start earlier put).fails
 piece_lost a c p why.NoMemory lost = λ start earlier put. absurd (lost start earlier put).fails
 
 -- it waits with the others
-pub piece_waits : (a c : Seen) (line report : List ℕ) → c.at ≡ a.at → c.shelf ≡ a.shelf → c.out ≡ a.out
-    → c.log_waits ≡ a.log_waits ++ line → c.report_waits ≡ a.report_waits ++ report → length line + c.left ≡ a.left → Went a (piece line report ∷ []) c
+pub piece_waits : (a c : Seen) (line report : List ℕ) → c.at ≡ a.at → c.shelf ≡ a.shelf
+    → c.out ≡ a.out
+    → c.log_waits ≡ a.log_waits ++ line → c.report_waits ≡ a.report_waits ++ report
+    → length line + c.left ≡ a.left → Went a (piece line report ∷ []) c
 piece_waits a c line report at shelf out lines reports left = λ start earlier put.
     let p = piece line report in record {
       gone = put.gone;
@@ -126,8 +139,10 @@ piece_waits a c line report at shelf out lines reports left = λ start earlier p
 -- ---- what waits is sent
 
 -- all of it
-pub flushed_all : {T : Type 0} (a c : Seen) (done : T) → Sends a.at a.log_waits a.report_waits (Ok done) c.at → c.shelf ≡ a.shelf → c.out ≡ a.out
-    → c.log_waits ≡ [] → c.report_waits ≡ [] → c.left ≡ a.left → (start : Seen) (text : List Piece) → Put start text a → Flushes {T = T} start text (Ok done) c
+pub flushed_all : {T : Type 0} (a c : Seen) (done : T)
+    → Sends a.at a.log_waits a.report_waits (Ok done) c.at → c.shelf ≡ a.shelf → c.out ≡ a.out
+    → c.log_waits ≡ [] → c.report_waits ≡ [] → c.left ≡ a.left → (start : Seen) (text : List Piece)
+    → Put start text a → Flushes {T = T} start text (Ok done) c
 flushed_all a c done sends shelf out lines reports left start text put =
     let log = ap (λ (l : List ℕ). log_bytes put.gone ++ l) put.log_waits ∙ sym (log_bytes-append put.gone put.waiting) ∙ ap log_bytes (sym put.all) in
     let report = ap (λ (l : List ℕ). report_bytes put.gone ++ l) put.report_waits ∙ sym (report_bytes-append put.gone put.waiting) ∙ ap report_bytes (sym put.all) in
@@ -157,7 +172,9 @@ pub rose_behind : (m n k : ℕ) → m ≤ n → Rose n k → Rose m k
 rose_behind m n k le rose = omega (arith, rose)
 
 -- or a device failed
-pub flushed_lost : (T : Type 0) (a c : Seen) (fault : WriteFault) → Sends {T = T} a.at a.log_waits a.report_waits (Err fault) c.at → c.shelf ≡ a.shelf → c.out ≡ a.out
+pub flushed_lost : (T : Type 0) (a c : Seen) (fault : WriteFault)
+    → Sends {T = T} a.at a.log_waits a.report_waits (Err fault) c.at → c.shelf ≡ a.shelf
+    → c.out ≡ a.out
     → (start : Seen) (text : List Piece) → Put start text a → Lost start text fault c
 flushed_lost T a c why.Log (front, is, sent, rose) shelf out start text put = record {
   log = log_bytes put.gone ++ front;
@@ -200,12 +217,14 @@ flushed_lost T a c why.Full sends shelf out start text put = absurd sends
 flushed_lost T a c why.NoMemory sends shelf out start text put = absurd sends
 
 -- by how it ended
-pub flushed_any : {T : Type 0} (a c : Seen) (r : Result T WriteFault) → Sends a.at a.log_waits a.report_waits r c.at → c.shelf ≡ a.shelf → c.out ≡ a.out
+pub flushed_any : {T : Type 0} (a c : Seen) (r : Result T WriteFault)
+    → Sends a.at a.log_waits a.report_waits r c.at → c.shelf ≡ a.shelf → c.out ≡ a.out
     → OnOk r (c.log_waits ≡ []) → OnOk r (c.report_waits ≡ []) → c.left ≡ a.left → Flushed a r c
 flushed_any {T} a c (Ok done) sends shelf out lines reports left = flushed_all a c done sends shelf out lines reports left
 flushed_any {T} a c (Err fault) sends shelf out lines reports left = flushed_lost T a c fault sends shelf out
 
-lost_stops : (start : Seen) (text more : List Piece) (fault : WriteFault) (c : Seen) → Lost start text fault c → Stops start text more fault c
+lost_stops : (start : Seen) (text more : List Piece) (fault : WriteFault) (c : Seen)
+    → Lost start text fault c → Stops start text more fault c
 lost_stops start text more why.Log c l = l
 lost_stops start text more why.Out c l = l
 lost_stops start text more why.Full c l = absurd l.fails
@@ -224,8 +243,10 @@ sent_after b w c p (Err fault) went lost all sends = λ start earlier put. recor
 }
 
 -- a piece that is too long to wait is sent by itself
-pub piece_sent : {T : Type 0} (b c : Seen) (line report : List ℕ) (left : ℕ) (r : Result T WriteFault) → b.log_waits ≡ [] → b.report_waits ≡ [] → length line + left ≡ b.left
-    → Sends b.at line report r c.at → c.shelf ≡ b.shelf → c.out ≡ b.out → c.log_waits ≡ [] → c.report_waits ≡ [] → c.left ≡ left → Written b (piece line report ∷ []) r c
+pub piece_sent : {T : Type 0} (b c : Seen) (line report : List ℕ) (left : ℕ) (r : Result T WriteFault)
+    → b.log_waits ≡ [] → b.report_waits ≡ [] → length line + left ≡ b.left
+    → Sends b.at line report r c.at → c.shelf ≡ b.shelf → c.out ≡ b.out → c.log_waits ≡ []
+    → c.report_waits ≡ [] → c.left ≡ left → Written b (piece line report ∷ []) r c
 piece_sent {T} b c line report left r lines reports room sends shelf out lines_c reports_c left_c =
     let w : Seen = record { at = b.at; shelf = b.shelf; out = b.out; log_waits = line; report_waits = report; left = left } in
     let went = piece_waits b w line report refl refl refl (ap (λ (l : List ℕ). l ++ line) (sym lines)) (ap (λ (l : List ℕ). l ++ report) (sym reports)) room in
@@ -233,6 +254,8 @@ piece_sent {T} b c line report left r lines reports room sends shelf out lines_c
     (λ done s. flushed_all w c done s shelf out lines_c reports_c left_c) sends
 
 -- nothing was put, and what waited went out
-pub emptied : {T : Type 0} (a b : Seen) (done : T) → Sends a.at a.log_waits a.report_waits (Ok done) b.at → b.shelf ≡ a.shelf → b.out ≡ a.out → b.log_waits ≡ [] → b.report_waits ≡ [] → b.left ≡ a.left → Went a [] b
+pub emptied : {T : Type 0} (a b : Seen) (done : T)
+    → Sends a.at a.log_waits a.report_waits (Ok done) b.at → b.shelf ≡ a.shelf → b.out ≡ a.out
+    → b.log_waits ≡ [] → b.report_waits ≡ [] → b.left ≡ a.left → Went a [] b
 emptied a b done sends shelf out lines reports left = λ start earlier put.
     subst (λ (ps : List Piece). Put start ps b) (sym (append-nil earlier)) (flushed_all a b done sends shelf out lines reports left start earlier put).0

@@ -8,7 +8,8 @@ use Rattle.exact_decimal.specs.declared.unit.Unit.TheVariants.{Ratio}
 use Rattle.rinex_nav.specs.FieldBounds.{AreInside}
 use Rattle.made_input.specs.MadeRecords.{made_broadcast, thousandths}
 
-angle : (n : ℕ) → n < 6000 → LiesBetween (thousandths n).digits (thousandths n).ten Ratio (neg_ℤ (pos 70000000000000000)) (pos 70000000000000000)
+angle : (n : ℕ) → n < 6000
+    → LiesBetween (thousandths n).digits (thousandths n).ten Ratio (neg_ℤ (pos 70000000000000000)) (pos 70000000000000000)
 angle n h = elim (cases_Bool (nat_lt n 1000)) [
   | inl e ↦ rw e (record { from = omega (arith, ints); to = omega (arith, ints) })
   | inr e ↦ rw e (record { from = omega (arith, ints); to = omega (arith, ints) })

@@ -29,17 +29,24 @@ pub record IsMadeClock (el : Elements) : Type 0 where
   pub af2 : (v : ℤ) → IsValue el.af2 v → v ≡ pos 0
   pub tgd : (v : ℤ) → IsValue el.tgd v → v ≡ neg_ℤ (pos 100000000)
 
-af0_value : (k : ℕ) (w : Wide) (v : ℤ) → k ≤ 8 → (w.lo *ℤ pos 10) ≤ℤ pos (k * 10 ^ 12 * 1) → pos (k * 10 ^ 12 * 1) <ℤ ((w.lo *ℤ pos 10) +ℤ pos 10) → pos (k * 10 ^ 12 * 1) ≤ℤ (w.hi *ℤ pos 10) → (w.hi *ℤ pos 10) <ℤ (pos (k * 10 ^ 12 * 1) +ℤ pos 10)
+af0_value : (k : ℕ) (w : Wide) (v : ℤ) → k ≤ 8 → (w.lo *ℤ pos 10) ≤ℤ pos (k * 10 ^ 12 * 1)
+    → pos (k * 10 ^ 12 * 1) <ℤ ((w.lo *ℤ pos 10) +ℤ pos 10)
+    → pos (k * 10 ^ 12 * 1) ≤ℤ (w.hi *ℤ pos 10)
+    → (w.hi *ℤ pos 10) <ℤ (pos (k * 10 ^ 12 * 1) +ℤ pos 10)
     → IsValue w v → IsWithin (8 * 10 ^ 11) v
 af0_value k w v few a b c d is = record { low = omega (arith, ints, b, is.from); high = omega (arith, ints, few, d, is.to) }
 
-zero_value : (w : Wide) (v : ℤ) → pos 0 <ℤ ((w.lo *ℤ pos 1) +ℤ pos 1) → (w.hi *ℤ pos 1) <ℤ (pos 0 +ℤ pos 1) → IsValue w v → v ≡ pos 0
+zero_value : (w : Wide) (v : ℤ) → pos 0 <ℤ ((w.lo *ℤ pos 1) +ℤ pos 1)
+    → (w.hi *ℤ pos 1) <ℤ (pos 0 +ℤ pos 1) → IsValue w v → v ≡ pos 0
 zero_value w v a b is = omega (arith, ints, a, b, is.from, is.to)
 
-tgd_value : (w : Wide) (v : ℤ) → neg_ℤ (pos 1000000000000) <ℤ ((w.lo *ℤ pos 10000) +ℤ pos 10000) → (w.hi *ℤ pos 10000) <ℤ (neg_ℤ (pos 1000000000000) +ℤ pos 10000) → IsValue w v → v ≡ neg_ℤ (pos 100000000)
+tgd_value : (w : Wide) (v : ℤ) → neg_ℤ (pos 1000000000000) <ℤ ((w.lo *ℤ pos 10000) +ℤ pos 10000)
+    → (w.hi *ℤ pos 10000) <ℤ (neg_ℤ (pos 1000000000000) +ℤ pos 10000) → IsValue w v
+    → v ≡ neg_ℤ (pos 100000000)
 tgd_value w v a b is = omega (arith, ints, a, b, is.from, is.to)
 
-pub made_clock : (k u : ℕ) (r : NavRecord) (el : Elements) → k ≤ 8 → plain_record r ≡ made_broadcast k u → AreElements r el → IsMadeClock el
+pub made_clock : (k u : ℕ) (r : NavRecord) (el : Elements) → k ≤ 8
+    → plain_record r ≡ made_broadcast k u → AreElements r el → IsMadeClock el
 made_clock k u r el few numbers a =
     let fields : r.fields ≡ (made_broadcast k u).fields = ap (λ (b : Broadcast). b.fields) numbers in
     let af0 = subst (λ (fs : List Decimal). IsRounded el.af0 (field_of fs 1) Clock) fields a.af0 in
@@ -56,30 +63,38 @@ made_clock k u r el few numbers a =
 -- ---- the chain
 
 -- a rate of at most one over less than the scale
-drift_small : (rate time v : ℤ) → rate ≡ pos 0 → (drift : ℤ) → drift ≡ pos 0 → IsAdvanced rate drift time v → IsWithin 1 v
+drift_small : (rate time v : ℤ) → rate ≡ pos 0 → (drift : ℤ) → drift ≡ pos 0
+    → IsAdvanced rate drift time v → IsWithin 1 v
 drift_small rate time v zero drift none is =
     let a = rw (zero, none) at is.below in
     let b = rw (zero, none) at is.above in
     record { low = omega (arith, ints, b); high = omega (arith, ints, a) }
 
-offset_small : (af0 drift time v : ℤ) → IsWithin (8 * 10 ^ 11) af0 → IsWithin 1 drift → IsWithin rate_scale time → IsAdvanced af0 drift time v → IsWithin (8 * 10 ^ 11 + 2) v
+offset_small : (af0 drift time v : ℤ) → IsWithin (8 * 10 ^ 11) af0 → IsWithin 1 drift
+    → IsWithin rate_scale time → IsAdvanced af0 drift time v → IsWithin (8 * 10 ^ 11 + 2) v
 offset_small af0 drift time v a d t is =
     let p = product_within 1 rate_scale drift time d t in
     record { low = omega (arith, ints, a.low, p.low, is.above); high = omega (arith, ints, a.high, p.high, is.below) }
 
-small_between : (low high n : ℕ) (w : Wide) (v : ℤ) → high ≤ n → LiesFrom (pos low) (pos high) w → IsValue w v → IsWithin n v
+small_between : (low high n : ℕ) (w : Wide) (v : ℤ) → high ≤ n → LiesFrom (pos low) (pos high) w
+    → IsValue w v → IsWithin n v
 small_between low high n w v less lies is = record { low = omega (arith, ints, lies.from, is.from); high = omega (arith, ints, less, lies.to, is.to) }
 
-relative_small : (num v : ℤ) → IsWithin (relativity * eccentricity_bound * greatest_root_a * (unit + 8)) num → Near (neg_ℤ num) (pos (10 ^ 47)) v → IsWithin (10 ^ 10) v
+relative_small : (num v : ℤ)
+    → IsWithin (relativity * eccentricity_bound * greatest_root_a * (unit + 8)) num
+    → Near (neg_ℤ num) (pos (10 ^ 47)) v → IsWithin (10 ^ 10) v
 relative_small num v n is = record { low = omega (arith, ints, n.high, is.above); high = omega (arith, ints, n.low, is.below) }
 
 one_factor : IsWithin relativity (pos relativity)
 one_factor = record { low = record { le = tt }; high = record { le = tt } }
 
-base_small : (offset tgd base relative dt : ℤ) → IsWithin (8 * 10 ^ 11 + 2) offset → tgd ≡ neg_ℤ (pos 100000000) → base ≡ offset -ℤ tgd → IsWithin (10 ^ 10) relative → dt ≡ base +ℤ relative → IsWithin (10 ^ 12) dt
+base_small : (offset tgd base relative dt : ℤ) → IsWithin (8 * 10 ^ 11 + 2) offset
+    → tgd ≡ neg_ℤ (pos 100000000) → base ≡ offset -ℤ tgd → IsWithin (10 ^ 10) relative
+    → dt ≡ base +ℤ relative → IsWithin (10 ^ 12) dt
 base_small offset tgd base relative dt o t b r d = record { low = omega (arith, ints, o.low, t, b, r.low, d); high = omega (arith, ints, o.high, t, b, r.high, d) }
 
-pub clock_small : (el : Elements) (n tsv dt t : ℤ) → IsMadeClock el → IsWithin rate_scale (tsv -ℤ el.toc) → ClockChain el true n tsv dt t → IsWithin (10 ^ 12) dt
+pub clock_small : (el : Elements) (n tsv dt t : ℤ) → IsMadeClock el
+    → IsWithin rate_scale (tsv -ℤ el.toc) → ClockChain el true n tsv dt t → IsWithin (10 ^ 12) dt
 clock_small el n tsv dt t made near c =
     let f = c.f in
     let F = c.fields in

@@ -13,8 +13,12 @@ use Rattle.made_input.specs.MadeRecords.{made_broadcast, mean_draw}
 in_um : (n : ℕ) (code : ℤ) → code ≡ pos n -ℤ pos 20000000000 → code *ℤ pos 1000 ≡ um_of n
 in_um n code is = omega (arith, ints, is)
 
-pub made_code : (seed j k n draw : ℕ) (el : Elements) (code : ℤ) → code ≡ pos n -ℤ pos 20000000000 → n ≤ last_code → draw ≡ drawn seed (10 + 8 * j + k) 4001 → AreElementsOf (made_broadcast k (mean_draw seed k)) el
-    → ResidualsAtLeast el (tag_of j) (place_of seed) n (goal_by draw j k -ℤ pos pair_width) → ResidualsAtMost el (tag_of j) (place_of seed) n (goal_by draw j k +ℤ pos one_width) → IsMadeCode seed j k code
+pub made_code : (seed j k n draw : ℕ) (el : Elements) (code : ℤ) → code ≡ pos n -ℤ pos 20000000000
+    → n ≤ last_code → draw ≡ drawn seed (10 + 8 * j + k) 4001
+    → AreElementsOf (made_broadcast k (mean_draw seed k)) el
+    → ResidualsAtLeast el (tag_of j) (place_of seed) n (goal_by draw j k -ℤ pos pair_width)
+    → ResidualsAtMost el (tag_of j) (place_of seed) n (goal_by draw j k +ℤ pos one_width)
+    → IsMadeCode seed j k code
 made_code seed j k n draw el code is few drawn_is elements least most =
     let um = in_um n code is in
     record {

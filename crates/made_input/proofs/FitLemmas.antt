@@ -72,7 +72,8 @@ record_there (r ∷ records) (suc i) h = record_there records i (omega (arith, h
 
 -- ---- the ephemeris time
 
-made_age : (k u : ℕ) (r : NavRecord) (tag age : ℤ) → plain_record r ≡ made_broadcast k u → IsAge r tag age → age ≡ pos (unsigned_abs (tag -ℤ pos 1388628000000000000000))
+made_age : (k u : ℕ) (r : NavRecord) (tag age : ℤ) → plain_record r ≡ made_broadcast k u
+    → IsAge r tag age → age ≡ pos (unsigned_abs (tag -ℤ pos 1388628000000000000000))
 made_age k u r tag age numbers a =
     let t = a.1 in
     let toc = toc_is k u r numbers in
@@ -85,7 +86,8 @@ made_age k u r tag age numbers a =
     let time : a.0 ≡ pos 1388628000000000000000 = omega (arith, ints, t.time_is, start, toe) in
     a.2 ∙ ap (λ (z : ℤ). pos (unsigned_abs (tag -ℤ z))) time
 
-the_age : (k u : ℕ) (r : NavRecord) (tag : ℤ) → k ≤ 8 → u ≤ 99 → plain_record r ≡ made_broadcast k u → IsAge r tag (pos (unsigned_abs (tag -ℤ pos 1388628000000000000000)))
+the_age : (k u : ℕ) (r : NavRecord) (tag : ℤ) → k ≤ 8 → u ≤ 99 → plain_record r ≡ made_broadcast k u
+    → IsAge r tag (pos (unsigned_abs (tag -ℤ pos 1388628000000000000000)))
 the_age k u r tag few draw numbers =
     let toc = toc_is k u r numbers in
     let fields : r.fields ≡ (made_broadcast k u).fields = ap (λ (b : Broadcast). b.fields) numbers in
@@ -104,7 +106,8 @@ the_age k u r tag few draw numbers =
 
 -- ---- the code
 
-observed_some : (code : ℤ) → pos 1 ≤ℤ code → observed_of code ≡ Some (record { digits = code; ten = neg_ℤ (pos 3) })
+observed_some : (code : ℤ) → pos 1 ≤ℤ code
+    → observed_of code ≡ Some (record { digits = code; ten = neg_ℤ (pos 3) })
 observed_some (pos zero) h = absurd (omega (arith, ints, h))
 observed_some (pos (suc n)) h = refl
 observed_some (negsuc n) h = absurd (omega (arith, ints, h))
@@ -115,7 +118,8 @@ same_le z = omega (arith, ints)
 wide_of : ℤ → Wide
 wide_of z = record { lo = z; hi = z; ordered = same_le z }
 
-rounded : (code : ℤ) → IsRounded (wide_of (code *ℤ pos 1000)) (record { digits = code; ten = neg_ℤ (pos 3) }) Length
+rounded : (code : ℤ)
+    → IsRounded (wide_of (code *ℤ pos 1000)) (record { digits = code; ten = neg_ℤ (pos 3) }) Length
 unfolding wide_of
 rounded code = record { floor = record { le = omega (arith, ints); gt = omega (arith, ints) }; ceiling = record { ge = omega (arith, ints); lt = omega (arith, ints) } }
 
@@ -127,7 +131,8 @@ sighting_of records j s = record { records = records; system = Gps; signal = Sin
 age_of : ℕ → ℤ
 age_of j = pos (unsigned_abs (tag_of j -ℤ pos 1388628000000000000000))
 
-age_near : (tag : ℤ) (j : ℕ) → j < 240 → tag ≡ pos (1388624400000000000000 + 30 * j * 10 ^ 12) → pos (unsigned_abs (tag -ℤ pos 1388628000000000000000)) ≤ℤ pos (7200 * 10 ^ 12)
+age_near : (tag : ℤ) (j : ℕ) → j < 240 → tag ≡ pos (1388624400000000000000 + 30 * j * 10 ^ 12)
+    → pos (unsigned_abs (tag -ℤ pos 1388628000000000000000)) ≤ℤ pos (7200 * 10 ^ 12)
 age_near tag j few is = omega (arith, ints, few, is)
 
 age_small : (j : ℕ) → j < 240 → age_of j ≤ℤ pos (7200 * 10 ^ 12)
@@ -135,7 +140,9 @@ unfolding age_of
 age_small j few = age_near (tag_of j) j few (tag_is j)
 
 -- its record stands behind those of the satellites before it
-its_place : (seed j k i : ℕ) (records : List NavRecord) (s : SatCode) (r : NavRecord) → records_of records ≡ made_records seed → s.number ≡ k → IsItsRecord (sighting_of records j s) i r → i + 1 ≡ k
+its_place : (seed j k i : ℕ) (records : List NavRecord) (s : SatCode) (r : NavRecord)
+    → records_of records ≡ made_records seed → s.number ≡ k
+    → IsItsRecord (sighting_of records j s) i r → i + 1 ≡ k
 unfolding sighting_of
 its_place seed j k i records s r e number its =
     let numbers = ap (λ (b : Broadcast). b.sat.number) (record_at seed 1 8 i records r e its.at) in
@@ -143,7 +150,9 @@ its_place seed j k i records s r e number its =
     omega (arith, numbers, same, number)
 
 -- a record of it is that one, and as old
-its_age : (seed j k i : ℕ) (records : List NavRecord) (s : SatCode) (r : NavRecord) (age : ℤ) → records_of records ≡ made_records seed → s.number ≡ k → IsFit (sighting_of records j s) i r age → age ≡ age_of j
+its_age : (seed j k i : ℕ) (records : List NavRecord) (s : SatCode) (r : NavRecord) (age : ℤ)
+    → records_of records ≡ made_records seed → s.number ≡ k
+    → IsFit (sighting_of records j s) i r age → age ≡ age_of j
 unfolding sighting_of age_of
 its_age seed j k i records s r age e number fit =
     made_age (1 + i) (mean_draw seed (1 + i)) r (tag_of j) age (record_at seed 1 8 i records r e fit.fresh.healthy.its.at) fit.fresh.age_is
@@ -156,22 +165,26 @@ record IsKnown (seed j k : ℕ) (records : List NavRecord) (s : SatCode) : Type 
   from : 1 ≤ k
   to : k ≤ 8
 
-its_record : (seed j k : ℕ) (records : List NavRecord) (s : SatCode) → IsKnown seed j k records s → (r : NavRecord) × (slice_get records (k - 1) ≡ Some r) × (plain_record r ≡ made_broadcast k (mean_draw seed k))
+its_record : (seed j k : ℕ) (records : List NavRecord) (s : SatCode) → IsKnown seed j k records s
+    → (r : NavRecord) × (slice_get records (k - 1) ≡ Some r) × (plain_record r ≡ made_broadcast k (mean_draw seed k))
 its_record seed j k records s known =
     let there = record_there records (k - 1) (omega (arith, eight_records seed records known.records_are, known.to, known.from)) in
     let place : 1 + (k - 1) ≡ k = omega (arith, known.from) in
     (there.0, there.1, subst (λ (n : ℕ). plain_record there.0 ≡ made_broadcast n (mean_draw seed n)) place (record_at seed 1 8 (k - 1) records there.0 known.records_are there.1))
 
-its_elements : (seed j k : ℕ) (records : List NavRecord) (s : SatCode) (known : IsKnown seed j k records s) → AreElements (its_record seed j k records s known).0 known.code.el
+its_elements : (seed j k : ℕ) (records : List NavRecord) (s : SatCode) (known : IsKnown seed j k records s)
+    → AreElements (its_record seed j k records s known).0 known.code.el
 its_elements seed j k records s known =
     let r = its_record seed j k records s known in
     let other = known.code.elements in
     subst (λ (z : NavRecord). AreElements z known.code.el) (same_record other.r r.0 (other.numbers_are ∙ sym r.2)) other.elements
 
-near_toc : (tag toc : ℤ) (j : ℕ) → j < 240 → tag ≡ pos (1388624400000000000000 + 30 * j * 10 ^ 12) → toc ≡ pos 1388628000000000000000 → IsWithin (4 * 10 ^ 15) (tag -ℤ toc)
+near_toc : (tag toc : ℤ) (j : ℕ) → j < 240 → tag ≡ pos (1388624400000000000000 + 30 * j * 10 ^ 12)
+    → toc ≡ pos 1388628000000000000000 → IsWithin (4 * 10 ^ 15) (tag -ℤ toc)
 near_toc tag toc j few is at = record { low = omega (arith, ints, few, is, at); high = omega (arith, ints, few, is, at) }
 
-its_code : (seed j k : ℕ) (records : List NavRecord) (s : SatCode) → IsKnown seed j k records s → InRange s.code
+its_code : (seed j k : ℕ) (records : List NavRecord) (s : SatCode) → IsKnown seed j k records s
+    → InRange s.code
 its_code seed j k records s known =
     let r = its_record seed j k records s known in
     let elements = its_elements seed j k records s known in
@@ -181,7 +194,8 @@ its_code seed j k records s known =
 its_codes : SatCode → Codes
 its_codes s = record { first = wide_of (s.code *ℤ pos 1000); second = None }
 
-is_measured : (seed j k : ℕ) (records : List NavRecord) (s : SatCode) → IsKnown seed j k records s → IsMeasured (sighting_of records j s)
+is_measured : (seed j k : ℕ) (records : List NavRecord) (s : SatCode) → IsKnown seed j k records s
+    → IsMeasured (sighting_of records j s)
 unfolding sighting_of its_codes wide_of
 is_measured seed j k records s known =
     let range = its_code seed j k records s known in
@@ -194,7 +208,8 @@ is_measured seed j k records s known =
 abbrev gps : ℕ → Sat
 gps number = record { system = 71; number = number }
 
-is_fit : (seed j k : ℕ) (records : List NavRecord) (s : SatCode) (known : IsKnown seed j k records s) → IsFit (sighting_of records j s) (k - 1) (its_record seed j k records s known).0 (age_of j)
+is_fit : (seed j k : ℕ) (records : List NavRecord) (s : SatCode) (known : IsKnown seed j k records s)
+    → IsFit (sighting_of records j s) (k - 1) (its_record seed j k records s known).0 (age_of j)
 unfolding sighting_of age_of
 is_fit seed j k records s known =
     let r = its_record seed j k records s known in
@@ -212,7 +227,8 @@ is_fit seed j k records s known =
       inside = subst (λ (fs : List Decimal). AreInside fs) (sym fields) (inside k (mean_draw seed k) known.to draw);
     }
 
-is_usable : (seed j k : ℕ) (records : List NavRecord) (s : SatCode) → IsKnown seed j k records s → IsUsable (sighting_of records j s)
+is_usable : (seed j k : ℕ) (records : List NavRecord) (s : SatCode) → IsKnown seed j k records s
+    → IsUsable (sighting_of records j s)
 unfolding sighting_of
 is_usable seed j k records s known =
     let r = its_record seed j k records s known in
@@ -235,10 +251,12 @@ is_usable seed j k records s known =
 abbrev no_delays : Delays
 no_delays = record { zenith = None; vertical = None }
 
-chain_of : (seed j k : ℕ) (records : List NavRecord) (s : SatCode) → IsKnown seed j k records s → Chain
+chain_of : (seed j k : ℕ) (records : List NavRecord) (s : SatCode) → IsKnown seed j k records s
+    → Chain
 chain_of seed j k records s known = let c = known.code.some.1 in record { x = c.x; y = c.y; z = c.z; corrected = c.corrected; range = c.range; lo = neg_ℤ (pos 2500000); hi = pos 2500000 }
 
-is_chain : (seed j k : ℕ) (records : List NavRecord) (s : SatCode) (known : IsKnown seed j k records s) → IsChainAt (sighting_of records j s) no_delays (neg_ℤ (pos 2500000), pos 2500000) (place_of seed) (chain_of seed j k records s known)
+is_chain : (seed j k : ℕ) (records : List NavRecord) (s : SatCode) (known : IsKnown seed j k records s)
+    → IsChainAt (sighting_of records j s) no_delays (neg_ℤ (pos 2500000), pos 2500000) (place_of seed) (chain_of seed j k records s known)
 unfolding sighting_of chain_of is_usable is_measured its_codes wide_of
 is_chain seed j k records s known =
     let c = known.code.some.1 in
@@ -274,12 +292,14 @@ is_chain seed j k records s known =
     }
 
 -- without the outlier's 500 m
-small_goal : (seed j k : ℕ) → (k == 1 + j % 8) ≡ false → Between (neg_ℤ (pos 2000000)) (pos 2000000) (goal_of seed j k)
+small_goal : (seed j k : ℕ) → (k == 1 + j % 8) ≡ false
+    → Between (neg_ℤ (pos 2000000)) (pos 2000000) (goal_of seed j k)
 small_goal seed j k other =
     let draw = drawn_below seed (10 + 8 * j + k) 4001 (lit≤ tt) in
     rw other (record { from = omega (arith, ints, draw); to = omega (arith, ints, draw) })
 
-error_within : (goal v corrected : ℤ) (range : ℕ) → Between (neg_ℤ (pos 2000000)) (pos 2000000) goal → Between (goal -ℤ pos 4507) (goal +ℤ pos 3507) v → v ≡ corrected -ℤ pos range
+error_within : (goal v corrected : ℤ) (range : ℕ) → Between (neg_ℤ (pos 2000000)) (pos 2000000) goal
+    → Between (goal -ℤ pos 4507) (goal +ℤ pos 3507) v → v ≡ corrected -ℤ pos range
     → Between (neg_ℤ (pos 2500000)) (pos 2500000) (corrected -ℤ pos range -ℤ pos 0)
 error_within goal v corrected range g b is = record { from = omega (arith, ints, g.from, b.from, is); to = omega (arith, ints, g.to, b.to, is) }
 
@@ -306,7 +326,8 @@ no_span : (upward : Option Span) → option_map ends upward ≡ None → upward 
 no_span None e = refl
 no_span (Some s) e = absurd (let no = e in cc)
 
-none_declared : (delays : Delays) → option_map ends delays.zenith ≡ None → option_map ends delays.vertical ≡ None → delays ≡ no_delays
+none_declared : (delays : Delays) → option_map ends delays.zenith ≡ None
+    → option_map ends delays.vertical ≡ None → delays ≡ no_delays
 none_declared delays e f =
     let z = no_span delays.zenith e in
     let v = no_span delays.vertical f in
@@ -316,7 +337,8 @@ is_before : (k n : ℕ) → (k == n) ≡ false → k ≤ n → k < n
 is_before k n h l = grind (arith, h, l)
 
 module _ (seed j : ℕ) (records : List NavRecord) (x y z : ℤ) (root : GridBox) (records_are : records_of records ≡ made_records seed) (epoch : j < 240) where
-  agrees : (k : ℕ) (s : SatCode) → IsKnown seed j k records s → (k == 1 + j % 8) ≡ false → AgreesBy records (settings_of x y z) root (tag_of j) (place_of seed) (sat_of s)
+  agrees : (k : ℕ) (s : SatCode) → IsKnown seed j k records s → (k == 1 + j % 8) ≡ false
+      → AgreesBy records (settings_of x y z) root (tag_of j) (place_of seed) (sat_of s)
   unfolding sight sighting_of chain_of
   agrees k s known other =
       let c = known.code.some in
@@ -327,14 +349,18 @@ module _ (seed j : ℕ) (records : List NavRecord) (x y z : ℤ) (root : GridBox
       })
 
   -- behind the outlier
-  fits_all : (k : ℕ) (sats : List SatCode) → AreMadeSats seed j k sats → 1 + j % 8 < k → k + length sats ≤ 9 → FitsBy records (settings_of x y z) no_delays root (tag_of j) 0 (place_of seed) (map sat_of sats)
+  fits_all : (k : ℕ) (sats : List SatCode) → AreMadeSats seed j k sats → 1 + j % 8 < k
+      → k + length sats ≤ 9
+      → FitsBy records (settings_of x y z) no_delays root (tag_of j) 0 (place_of seed) (map sat_of sats)
   fits_all k [] made behind few = tt
   fits_all k (s ∷ sats) made behind few =
       let other : (k == 1 + j % 8) ≡ false = behind_other k (1 + j % 8) behind in
       let known : IsKnown seed j k records s = record { records_are = records_are; number = made.0; code = made.1; epoch = epoch; from = omega (arith, behind); to = omega (arith, few) } in
       (agrees k s known other, fits_all (k + 1) sats made.2 (omega (arith, behind)) (omega (arith, few)))
 
-  fits_but_one : (k : ℕ) (sats : List SatCode) → AreMadeSats seed j k sats → 1 ≤ k → k ≤ 1 + j % 8 → k + length sats ≤ 9 → FitsBy records (settings_of x y z) no_delays root (tag_of j) 1 (place_of seed) (map sat_of sats)
+  fits_but_one : (k : ℕ) (sats : List SatCode) → AreMadeSats seed j k sats → 1 ≤ k → k ≤ 1 + j % 8
+      → k + length sats ≤ 9
+      → FitsBy records (settings_of x y z) no_delays root (tag_of j) 1 (place_of seed) (map sat_of sats)
   fits_but_one k [] made from before few = tt
   fits_but_one k (s ∷ sats) made from before few = elim (cases_Bool (k == 1 + j % 8)) [
     | inl here ↦
@@ -348,13 +374,18 @@ module _ (seed j : ℕ) (records : List NavRecord) (x y z : ℤ) (root : GridBox
 
 -- ---- all epochs fit
 
-epoch_time : (seed j : ℕ) (e : EpochCodes) → IsMadeEpoch seed j e → j < 240 → pos (gps_time 2024 1 7 e.hour e.minute (e.second * 10000000)) ≡ tag_of j
+epoch_time : (seed j : ℕ) (e : EpochCodes) → IsMadeEpoch seed j e → j < 240
+    → pos (gps_time 2024 1 7 e.hour e.minute (e.second * 10000000)) ≡ tag_of j
 epoch_time seed j e is few =
     let time : gps_time 2024 1 7 (1 + j / 120) (j / 2 % 60) (j % 2 * 30 * 10000000) ≡ gps_time 2024 1 7 1 0 0 + 30 * j * 10 ^ 12 = omega (arith, few) in
     rw (is.hour, is.minute, is.second) (ap (λ (n : ℕ). pos n) time)
 
-pub fits_in_each : (seed : ℕ) (records : List NavRecord) (settings : Settings) → records_of records ≡ made_records seed → value_of_settings settings ≡ settings_of (centre_x seed) (centre_y seed) (centre_z seed)
-    → (index j : ℕ) (epochs : List EpochCodes) → AreMadeEpochs seed j epochs → j + length epochs ≤ 240 → AllByRecursion (FitsAt records settings (place_of seed)) (observed_from index epochs)
+pub fits_in_each : (seed : ℕ) (records : List NavRecord) (settings : Settings)
+    → records_of records ≡ made_records seed
+    → value_of_settings settings ≡ settings_of (centre_x seed) (centre_y seed) (centre_z seed)
+    → (index j : ℕ) (epochs : List EpochCodes) → AreMadeEpochs seed j epochs
+    → j + length epochs ≤ 240
+    → AllByRecursion (FitsAt records settings (place_of seed)) (observed_from index epochs)
 unfolding sight
 fits_in_each seed records settings read value index j [] made few = tt
 fits_in_each seed records settings read value index j (e ∷ epochs) made few =
@@ -374,15 +405,22 @@ fits_in_each seed records settings read value index j (e ∷ epochs) made few =
 abbrev UsableBy : List NavRecord → SettingsValue → ℤ → List SatObs → Type 0
 UsableBy records v tag sats = AllByRecursion (λ (seen : SatObs). IsUsable (sight records v tag seen)) sats
 
-usable_from : (seed j : ℕ) (records : List NavRecord) (x y z : ℤ) → records_of records ≡ made_records seed → j < 240 → (k : ℕ) (sats : List SatCode) → AreMadeSats seed j k sats → 1 ≤ k → k + length sats ≤ 9 → UsableBy records (settings_of x y z) (tag_of j) (map sat_of sats)
+usable_from : (seed j : ℕ) (records : List NavRecord) (x y z : ℤ)
+    → records_of records ≡ made_records seed → j < 240 → (k : ℕ) (sats : List SatCode)
+    → AreMadeSats seed j k sats → 1 ≤ k → k + length sats ≤ 9
+    → UsableBy records (settings_of x y z) (tag_of j) (map sat_of sats)
 unfolding sight sighting_of
 usable_from seed j records x y z read epoch k [] made from few = tt
 usable_from seed j records x y z read epoch k (s ∷ sats) made from few =
     let known : IsKnown seed j k records s = record { records_are = read; number = made.0; code = made.1; epoch = epoch; from = from; to = omega (arith, few) } in
     (is_usable seed j k records s known, usable_from seed j records x y z read epoch (k + 1) sats made.2 (omega (arith, from)) (omega (arith, few)))
 
-pub usable_in_each : (seed : ℕ) (records : List NavRecord) (settings : Settings) → records_of records ≡ made_records seed → value_of_settings settings ≡ settings_of (centre_x seed) (centre_y seed) (centre_z seed)
-    → (index j : ℕ) (epochs : List EpochCodes) → AreMadeEpochs seed j epochs → j + length epochs ≤ 240 → AllByRecursion (AreUsable records settings) (observed_from index epochs)
+pub usable_in_each : (seed : ℕ) (records : List NavRecord) (settings : Settings)
+    → records_of records ≡ made_records seed
+    → value_of_settings settings ≡ settings_of (centre_x seed) (centre_y seed) (centre_z seed)
+    → (index j : ℕ) (epochs : List EpochCodes) → AreMadeEpochs seed j epochs
+    → j + length epochs ≤ 240
+    → AllByRecursion (AreUsable records settings) (observed_from index epochs)
 unfolding sight
 usable_in_each seed records settings read value index j [] made few = tt
 usable_in_each seed records settings read value index j (e ∷ epochs) made few =

@@ -36,13 +36,17 @@ pub record IsMadeEllipse (el : Elements) : Type 0 where
   pub root_a : (v : ℤ) → IsValue el.root_a v → Between (pos made_root) (pos made_root) v
   pub e : (v : ℤ) → IsValue el.e v → v ≤ℤ pos most_eccentric
 
-root_value : (w : Wide) (v : ℤ) → pos (5153600000000 * 1000) <ℤ ((w.lo *ℤ pos 1) +ℤ pos 1) → (w.hi *ℤ pos 1) <ℤ (pos (5153600000000 * 1000) +ℤ pos 1) → IsValue w v → Between (pos made_root) (pos made_root) v
+root_value : (w : Wide) (v : ℤ) → pos (5153600000000 * 1000) <ℤ ((w.lo *ℤ pos 1) +ℤ pos 1)
+    → (w.hi *ℤ pos 1) <ℤ (pos (5153600000000 * 1000) +ℤ pos 1) → IsValue w v
+    → Between (pos made_root) (pos made_root) v
 root_value w v a b is = record { from = omega (arith, ints, a, is.from); to = omega (arith, ints, b, is.to) }
 
-e_value : (k : ℕ) (w : Wide) (v : ℤ) → k ≤ 8 → (w.hi *ℤ pos 1) <ℤ (pos (k * 10 ^ 12 * 10) +ℤ pos 1) → IsValue w v → v ≤ℤ pos most_eccentric
+e_value : (k : ℕ) (w : Wide) (v : ℤ) → k ≤ 8 → (w.hi *ℤ pos 1) <ℤ (pos (k * 10 ^ 12 * 10) +ℤ pos 1)
+    → IsValue w v → v ≤ℤ pos most_eccentric
 e_value k w v few b is = omega (arith, ints, few, b, is.to)
 
-pub made_ellipse : (k u : ℕ) (r : NavRecord) (el : Elements) → k ≤ 8 → plain_record r ≡ made_broadcast k u → AreElements r el → IsMadeEllipse el
+pub made_ellipse : (k u : ℕ) (r : NavRecord) (el : Elements) → k ≤ 8
+    → plain_record r ≡ made_broadcast k u → AreElements r el → IsMadeEllipse el
 made_ellipse k u r el few numbers a =
     let fields : r.fields ≡ (made_broadcast k u).fields = ap (λ (b : Broadcast). b.fields) numbers in
     let root = subst (λ (fs : List Decimal). IsRounded el.root_a (field_of fs 10) RootA) fields a.root_a in
@@ -92,16 +96,23 @@ made_radii = record {
   radius_to = lit≤ tt;
 }
 
-sent_by : (rr v : ℤ) → Between (pos (least_radius * least_radius)) (pos (greatest_radius * greatest_radius)) rr → Close radius_slack rr v → Between (pos (sent_low * sent_low)) (pos (sent_high * sent_high)) v
+sent_by : (rr v : ℤ)
+    → Between (pos (least_radius * least_radius)) (pos (greatest_radius * greatest_radius)) rr
+    → Close radius_slack rr v → Between (pos (sent_low * sent_low)) (pos (sent_high * sent_high)) v
 sent_by rr v b c = record { from = omega (arith, ints, b.from, c.below); to = omega (arith, ints, b.to, c.above) }
 
-seen_by : (R S Z : ℤ) → Between (pos (sent_low * sent_low)) (pos (sent_high * sent_high)) (R +ℤ Z) → Close turn_loss R S → Between (pos (seen_low * seen_low)) (pos (seen_high * seen_high)) (S +ℤ Z)
+seen_by : (R S Z : ℤ) → Between (pos (sent_low * sent_low)) (pos (sent_high * sent_high)) (R +ℤ Z)
+    → Close turn_loss R S
+    → Between (pos (seen_low * seen_low)) (pos (seen_high * seen_high)) (S +ℤ Z)
 seen_by R S Z d c = record { from = omega (arith, ints, d.from, c.below); to = omega (arith, ints, d.to, c.above) }
 
-flat_most : (R Z : ℤ) → pos 0 ≤ℤ Z → (R +ℤ Z) ≤ℤ pos (sent_high * sent_high) → R ≤ℤ pos (sent_high * sent_high)
+flat_most : (R Z : ℤ) → pos 0 ≤ℤ Z → (R +ℤ Z) ≤ℤ pos (sent_high * sent_high)
+    → R ≤ℤ pos (sent_high * sent_high)
 flat_most R Z h k = omega (arith, ints)
 
-pub seen_distance : (el : Elements) (n t x y z tx ty : ℤ) (p : Pos) (range : ℕ) → IsMadeEllipse el → OrbitChain el n t x y z → Turn p x y z tx ty range → Between (pos (seen_low * seen_low)) (pos (seen_high * seen_high)) ((tx *ℤ tx) +ℤ (ty *ℤ ty) +ℤ (z *ℤ z))
+pub seen_distance : (el : Elements) (n t x y z tx ty : ℤ) (p : Pos) (range : ℕ) → IsMadeEllipse el
+    → OrbitChain el n t x y z → Turn p x y z tx ty range
+    → Between (pos (seen_low * seen_low)) (pos (seen_high * seen_high)) ((tx *ℤ tx) +ℤ (ty *ℤ ty) +ℤ (z *ℤ z))
 seen_distance el n t x y z tx ty p range made o turn =
     let r = chain_radius made_root made_root most_eccentric least_radius greatest_radius el n t x y z made_radii o (made.root_a o.f.root_a o.fields.root_a_is) (made.e o.f.e o.fields.e_is) in
     let sent = sent_by (o.radius *ℤ o.radius) ((x *ℤ x) +ℤ (y *ℤ y) +ℤ (z *ℤ z)) (product_between least_radius greatest_radius least_radius greatest_radius o.radius o.radius r r) (chain_keeps_radius el n t x y z o) in

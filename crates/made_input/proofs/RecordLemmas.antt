@@ -20,21 +20,26 @@ pub record AreMade (records : List Ephemeris) (seed k : ℕ) : Type 0 where
 pub made_none : (seed : ℕ) → AreMade [] seed 1
 made_none seed = record { count = refl; named = tt; written = tt; whole = refl }
 
-named_push : (records : List Ephemeris) (e : Ephemeris) → AreNamed records → IsNamed e → AreNamed (records ++ e ∷ [])
+named_push : (records : List Ephemeris) (e : Ephemeris) → AreNamed records → IsNamed e
+    → AreNamed (records ++ e ∷ [])
 named_push [] e named is = (is, tt)
 named_push (r ∷ records) e named is = (named.0, named_push records e named.1 is)
 
-written_push : (records : List Ephemeris) (e : Ephemeris) → AllWellWritten records → AreWellWritten e → AllWellWritten (records ++ e ∷ [])
+written_push : (records : List Ephemeris) (e : Ephemeris) → AllWellWritten records
+    → AreWellWritten e → AllWellWritten (records ++ e ∷ [])
 written_push [] e written is = (is, tt)
 written_push (r ∷ records) e written is = (written.0, written_push records e written.1 is)
 
-first_made : (seed k : ℕ) → k < 9 → made_from seed k (9 - k) ≡ made_broadcast k (mean_draw seed k) ∷ made_from seed (k + 1) (9 - (k + 1))
+first_made : (seed k : ℕ) → k < 9
+    → made_from seed k (9 - k) ≡ made_broadcast k (mean_draw seed k) ∷ made_from seed (k + 1) (9 - (k + 1))
 first_made seed k h =
     let one : 9 - k ≡ suc (9 - (k + 1)) = omega (arith, h) in
     ap (λ (n : ℕ). made_from seed k n) one
 
-pub made_next : (records next : List Ephemeris) (seed k : ℕ) (e : Ephemeris) → k < 9 → AreMade records seed k → next ≡ records ++ e ∷ []
-    → IsNamed e → AreWellWritten e → broadcast_of e ≡ made_broadcast k (mean_draw seed k) → AreMade next seed (k + 1)
+pub made_next : (records next : List Ephemeris) (seed k : ℕ) (e : Ephemeris) → k < 9
+    → AreMade records seed k → next ≡ records ++ e ∷ []
+    → IsNamed e → AreWellWritten e → broadcast_of e ≡ made_broadcast k (mean_draw seed k)
+    → AreMade next seed (k + 1)
 made_next records next seed k e within made is named written reads = rw is (record {
   count = omega (arith, made.count, length-append records (e ∷ []));
   named = named_push records e made.named named;
@@ -46,7 +51,8 @@ made_next records next seed k e within made is named written reads = rw is (reco
       ∙ (ap (λ (b : Broadcast). map broadcast_of records ++ b ∷ later) reads ∙ (ap (λ (l : List Broadcast). map broadcast_of records ++ l) (sym (first_made seed k within)) ∙ made.whole)));
 })
 
-pub made_end : (records : List Ephemeris) (seed k : ℕ) → k ≡ 9 → AreMade records seed k → map broadcast_of records ≡ made_records seed
+pub made_end : (records : List Ephemeris) (seed k : ℕ) → k ≡ 9 → AreMade records seed k
+    → map broadcast_of records ≡ made_records seed
 made_end records seed k e made =
     sym (append-nil (map broadcast_of records)) ∙ (ap (λ (n : ℕ). map broadcast_of records ++ made_from seed n (9 - n)) (sym e) ∙ made.whole)
 
@@ -61,7 +67,9 @@ rest_of b c l m e = ap (λ (bs : List Broadcast). drop 1 bs) e
 none_left : (b : Broadcast) (l : List Broadcast) → b ∷ l ≡ [] → ⊥
 none_left b l e = let n = ap length e in omega (arith, n)
 
-pub record_at : (seed k n i : ℕ) (records : List NavRecord) (r : NavRecord) → records_of records ≡ made_from seed k n → slice_get records i ≡ Some r → plain_record r ≡ made_broadcast (k + i) (mean_draw seed (k + i))
+pub record_at : (seed k n i : ℕ) (records : List NavRecord) (r : NavRecord)
+    → records_of records ≡ made_from seed k n → slice_get records i ≡ Some r
+    → plain_record r ≡ made_broadcast (k + i) (mean_draw seed (k + i))
 record_at seed k n i [] r e at = let no = ap is_some at in cc
 record_at seed k zero i (s ∷ records) r e at = absurd (none_left (plain_record s) (records_of records) e)
 record_at seed k (suc n) zero (s ∷ records) r e at =
@@ -74,9 +82,12 @@ record_at seed k (suc n) (suc i) (s ∷ records) r e at =
     let next : k + suc i ≡ k + 1 + i = omega arith in
     rw next (record_at seed (k + 1) n i records r more at)
 
-pub eight_records : (seed : ℕ) (records : List NavRecord) → records_of records ≡ made_records seed → length records ≡ 8
+pub eight_records : (seed : ℕ) (records : List NavRecord) → records_of records ≡ made_records seed
+    → length records ≡ 8
 eight_records seed records e = sym (length-map records plain_record) ∙ ap length e
 
 -- satellite k's record stands behind those of k - 1 others
-pub record_of : (seed k : ℕ) (records : List NavRecord) (r : NavRecord) (i : ℕ) → records_of records ≡ made_records seed → slice_get records i ≡ Some r → 1 + i ≡ k → plain_record r ≡ made_broadcast k (mean_draw seed k)
+pub record_of : (seed k : ℕ) (records : List NavRecord) (r : NavRecord) (i : ℕ)
+    → records_of records ≡ made_records seed → slice_get records i ≡ Some r → 1 + i ≡ k
+    → plain_record r ≡ made_broadcast k (mean_draw seed k)
 record_of seed k records r i e at place = subst (λ (n : ℕ). plain_record r ≡ made_broadcast n (mean_draw seed n)) place (record_at seed 1 8 i records r e at)

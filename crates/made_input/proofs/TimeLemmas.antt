@@ -29,11 +29,13 @@ clock_time = refl
 pub tag_is : (j : ℕ) → tag_of j ≡ pos (1388624400000000000000 + 30 * j * 10 ^ 12)
 tag_is j = ap (λ (n : ℕ). pos (n + 30 * j * 10 ^ 12)) first_time
 
-pub toc_is : (k u : ℕ) (r : NavRecord) → plain_record r ≡ made_broadcast k u → r.toc ≡ pos 1388628000000000000000
+pub toc_is : (k u : ℕ) (r : NavRecord) → plain_record r ≡ made_broadcast k u
+    → r.toc ≡ pos 1388628000000000000000
 toc_is k u r numbers = ap (λ (b : Broadcast). b.toc) numbers ∙ ap (λ (n : ℕ). pos n) clock_time
 
 -- 2024-01-07 02:00:00 is 7,200 s into a week
-pub week_is : (toe start : ℤ) → toe ≡ pos 7200000000000000 → IsNearestWeek (pos 1388628000000000000000) toe start → start ≡ pos 1388620800000000000000
+pub week_is : (toe start : ℤ) → toe ≡ pos 7200000000000000
+    → IsNearestWeek (pos 1388628000000000000000) toe start → start ≡ pos 1388620800000000000000
 week_is toe start is k =
     let e : start ≡ k.weeks *ℤ pos 604800000000000000 = k.start_is in
     let from : pos 1388628000000000000000 <ℤ (start +ℤ toe +ℤ pos 302400000000000000) = omega (arith, ints, k.after) in
@@ -46,7 +48,8 @@ pub record IsMadeTime (el : Elements) : Type 0 where
   pub low : el.toe_week.lo ≡ pos 7200000000000000
   pub high : el.toe_week.hi ≡ pos 7200000000000000
 
-pub made_time : (k u : ℕ) (r : NavRecord) (el : Elements) → plain_record r ≡ made_broadcast k u → AreElements r el → IsMadeTime el
+pub made_time : (k u : ℕ) (r : NavRecord) (el : Elements) → plain_record r ≡ made_broadcast k u
+    → AreElements r el → IsMadeTime el
 made_time k u r el numbers a =
     let toc = toc_is k u r numbers in
     let fields : r.fields ≡ (made_broadcast k u).fields = ap (λ (b : Broadcast). b.fields) numbers in

@@ -30,7 +30,8 @@ last n cell len =
     rw whole (take_all n cell (omega (arith, len)))
 
 -- the columns behind it
-pub behind : (n : ℕ) (cell more : List ℕ) (first last : ℕ) → length cell ≡ n → n < first → columns_of (cell ++ more) first last ≡ columns_of more (first - n) (last - n)
+pub behind : (n : ℕ) (cell more : List ℕ) (first last : ℕ) → length cell ≡ n → n < first
+    → columns_of (cell ++ more) first last ≡ columns_of more (first - n) (last - n)
 behind n cell more first last len after =
     let at : first - 1 ≡ length cell + (first - n - 1) = omega (arith, len) in
     let wide : last - (first - 1) ≡ last - n - (first - n - 1) = omega arith in
@@ -43,7 +44,8 @@ pub record AreThree (row a b c : List ℕ) : Type 0 where
   pub second : columns_of row 20 38 ≡ b
   pub third : columns_of row 39 57 ≡ c
 
-pub three_cells : (a b c : List ℕ) → length a ≡ 19 → length b ≡ 19 → length c ≡ 19 → AreThree (a ++ (b ++ c)) a b c
+pub three_cells : (a b c : List ℕ) → length a ≡ 19 → length b ≡ 19 → length c ≡ 19
+    → AreThree (a ++ (b ++ c)) a b c
 three_cells a b c x y z = record {
   first = here 19 a (b ++ c) x;
   second = behind 19 a (b ++ c) 20 38 x (omega arith) ∙ here 19 b c y;
@@ -54,7 +56,8 @@ pub record AreFour (row a b c d : List ℕ) : Type 0 where
   pub first : columns_of row 1 19 ≡ a
   pub others : (columns_of row 20 38 ≡ b) × (columns_of row 39 57 ≡ c) × (columns_of row 58 76 ≡ d)
 
-pub four_cells : (a b c d : List ℕ) → length a ≡ 19 → length b ≡ 19 → length c ≡ 19 → length d ≡ 19 → AreFour (a ++ (b ++ (c ++ d))) a b c d
+pub four_cells : (a b c d : List ℕ) → length a ≡ 19 → length b ≡ 19 → length c ≡ 19 → length d ≡ 19
+    → AreFour (a ++ (b ++ (c ++ d))) a b c d
 four_cells a b c d w x y z =
     let more = three_cells b c d x y z in
     record {

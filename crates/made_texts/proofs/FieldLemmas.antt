@@ -18,7 +18,8 @@ use Rattle.made_texts.proofs.CellLemmas.{IsCell, beside}
 
 -- ---- its bytes
 
-signs_print : (other : ℕ) (negative : Bool) → is_printable other ≡ true → is_printable (minus_or other negative) ≡ true
+signs_print : (other : ℕ) (negative : Bool) → is_printable other ≡ true
+    → is_printable (minus_or other negative) ≡ true
 signs_print other true h = refl
 signs_print other false h = h
 
@@ -62,7 +63,8 @@ mantissa negative n sign is = record {
   places = sym (length_digits 12 n);
 }
 
-exponent : (down : Bool) (p : ℕ) → IsExponent (68 ∷ minus_or 43 down ∷ last_digits 2 p) (signed down (p % 10 ^ 2))
+exponent : (down : Bool) (p : ℕ)
+    → IsExponent (68 ∷ minus_or 43 down ∷ last_digits 2 p) (signed down (p % 10 ^ 2))
 exponent down p = record {
   letter = 68;
   is_letter = refl;
@@ -117,7 +119,8 @@ floating false n down p = record {
   power = refl;
 }
 
-pub field_reads : (w : FieldNumber) → IsFloating (field_text w) (number_of w).digits (number_of w).ten
+pub field_reads : (w : FieldNumber)
+    → IsFloating (field_text w) (number_of w).digits (number_of w).ten
 unfolding field_text
 field_reads w = floating w.negative w.digits w.negative_power w.power
 
@@ -126,7 +129,8 @@ field_reads w = floating w.negative w.digits w.negative_power w.power
 pub solid_field : (w : FieldNumber) → list_all is_blank (field_text w) ≡ false
 unfolding field_text
 solid_field w = solid w.negative (w.digits / 10 ^ 12 % 10) (omega arith) (46 ∷ (last_digits 12 w.digits ++ 68 ∷ minus_or 43 w.negative_power ∷ last_digits 2 w.power)) where
-  solid : (negative : Bool) (d : ℕ) → d < 10 → (more : List ℕ) → list_all is_blank (minus_or 32 negative ∷ (48 + d) ∷ more) ≡ false
+  solid : (negative : Bool) (d : ℕ) → d < 10 → (more : List ℕ)
+      → list_all is_blank (minus_or 32 negative ∷ (48 + d) ∷ more) ≡ false
   solid true d h more = refl
   solid false d h more = rw (a_digit d h).solid refl
 

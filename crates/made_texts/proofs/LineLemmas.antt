@@ -20,7 +20,8 @@ record NoEnd (byte : ℕ) : Type 0 where
 no_end : (byte : ℕ) → is_printable byte ≡ true → NoEnd byte
 no_end byte h = record { lf = grind arith; cr = grind arith }
 
-ended : (line more : List ℕ) → IsPrintable line → with_ends (line ++ 10 ∷ more) ≡ (line ++ 10 ∷ []) ∷ with_ends more
+ended : (line more : List ℕ) → IsPrintable line
+    → with_ends (line ++ 10 ∷ more) ≡ (line ++ 10 ∷ []) ∷ with_ends more
 ended [] more all = refl
 ended (byte ∷ bytes) more all =
     let parts = and_parts _ _ all in
@@ -40,13 +41,15 @@ text_end (byte ∷ []) all =
 text_end (byte ∷ next ∷ []) all = ap (λ (l : List ℕ). byte ∷ l) (text_end (next ∷ []) (and_parts _ _ all).1)
 text_end (byte ∷ next ∷ other ∷ bytes) all = ap (λ (l : List ℕ). byte ∷ l) (text_end (next ∷ other ∷ bytes) (and_parts _ _ all).1)
 
-pub lines_are : (lines : List (List ℕ)) → AllByRecursion IsPrintable lines → lines_of (text_of lines) ≡ map plain lines
+pub lines_are : (lines : List (List ℕ)) → AllByRecursion IsPrintable lines
+    → lines_of (text_of lines) ≡ map plain lines
 lines_are [] all = refl
 lines_are (line ∷ lines) all =
     rw (ended line (text_of lines) all.0, text_end line all.0, lf_end line all.0) (ap (λ (l : List TextLine). plain line ∷ l) (lines_are lines all.1))
 
 -- no line is blank, so all are counted
-pub all_counted : (lines : List TextLine) → AllByRecursion (λ (line : TextLine). is_blank_line line ≡ false) lines → counted lines ≡ lines
+pub all_counted : (lines : List TextLine)
+    → AllByRecursion (λ (line : TextLine). is_blank_line line ≡ false) lines → counted lines ≡ lines
 all_counted [] all = refl
 all_counted (line ∷ []) all = rw all.0 refl
 all_counted (line ∷ next ∷ more) all = rw (all_counted (next ∷ more) all.1) refl

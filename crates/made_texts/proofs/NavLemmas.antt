@@ -35,7 +35,8 @@ use Rattle.made_texts.proofs.FieldLemmas.{field_cell, field_reads, solid_field, 
 
 -- ---- cells
 
-pub literal : (n : ℕ) (text : List ℕ) → length text ≡ n → list_all is_printable text ≡ true → IsCell n text
+pub literal : (n : ℕ) (text : List ℕ) → length text ≡ n → list_all is_printable text ≡ true
+    → IsCell n text
 literal n text len all = record { len = len; printable = all }
 
 pub two_digits : (n : ℕ) → IsCell 2 (last_digits 2 n)
@@ -54,10 +55,12 @@ further_cell a b c d =
 
 -- ---- columns
 
-field_in : (text : List ℕ) (first last : ℕ) (w : FieldNumber) → columns_of text first last ≡ field_text w → IsField (columns_of text first last) (number_of w)
+field_in : (text : List ℕ) (first last : ℕ) (w : FieldNumber)
+    → columns_of text first last ≡ field_text w → IsField (columns_of text first last) (number_of w)
 field_in text first last w e = subst (λ (f : List ℕ). IsField f (number_of w)) (sym e) (inr (field_reads w))
 
-clock_fields : (r : Ephemeris) → LastFields (clock_text r) (number_of r.af0, number_of r.af1, number_of r.af2)
+clock_fields : (r : Ephemeris)
+    → LastFields (clock_text r) (number_of r.af0, number_of r.af1, number_of r.af2)
 unfolding clock_text last_digits
 clock_fields r =
     let cells = three_cells (field_text r.af0) (field_text r.af1) (field_text r.af2) (field_cell r.af0).len (field_cell r.af1).len (field_cell r.af2).len in
@@ -68,7 +71,8 @@ clock_fields r =
       field_in (head ++ fields) 62 80 r.af2 (behind 23 head fields 62 80 refl (omega arith) ∙ cells.third),
     )
 
-all_fields : (a b c d : FieldNumber) → AllFields (further_text a b c d) (number_of a, number_of b, number_of c, number_of d)
+all_fields : (a b c d : FieldNumber)
+    → AllFields (further_text a b c d) (number_of a, number_of b, number_of c, number_of d)
 unfolding further_text
 all_fields a b c d =
     let cells = four_cells (field_text a) (field_text b) (field_text c) (field_text d) (field_cell a).len (field_cell b).len (field_cell c).len (field_cell d).len in
@@ -85,7 +89,8 @@ all_fields a b c d =
 no_blanks : (d : ℕ) → (k : ℕ) → k < 0 → is_blank d ≡ true
 no_blanks d k l = absurd (omega arith)
 
-pub counts : (digits : List ℕ) (n : ℕ) → AreDigits digits → 0 < length digits → n ≡ digits_value 10 digits → IsCount digits n
+pub counts : (digits : List ℕ) (n : ℕ) → AreDigits digits → 0 < length digits
+    → n ≡ digits_value 10 digits → IsCount digits n
 counts digits n all some value = record {
   before = [];
   blanks_before = λ k d l. absurd (omega arith);
@@ -98,7 +103,8 @@ counts digits n all some value = record {
   value = value;
 }
 
-pub literal_count : (digits : List ℕ) (n : ℕ) → list_all is_ascii_digit digits ≡ true → 0 < length digits → n ≡ digits_value 10 digits → IsCount digits n
+pub literal_count : (digits : List ℕ) (n : ℕ) → list_all is_ascii_digit digits ≡ true
+    → 0 < length digits → n ≡ digits_value 10 digits → IsCount digits n
 literal_count digits n all some value = counts digits n (AllPass-from_list_all is_ascii_digit digits all) some value
 
 day_is : pos 19729 ≡ days_from_civil (pos 2024) 1 7
@@ -148,24 +154,31 @@ blank : (a b c d : FieldNumber) → is_blank (column_of (further_text a b c d) 1
 unfolding further_text
 blank a b c d = refl
 
-text_read : (a b c d : FieldNumber) → reader.further_text false (plain (further_text a b c d)) (Ok tt)
+text_read : (a b c d : FieldNumber)
+    → reader.further_text false (plain (further_text a b c d)) (Ok tt)
 text_read a b c d =
     let cell = further_cell a b c d in
     inl (omega (arith, cell.len), inl (inl (blank a b c d), inl (cell.printable, inl (blank a b c d, refl))))
 
-further_read : {V : Type 0} (AreFields : List ℕ → V → Type 0) (a b c d : FieldNumber) (v : V) → AreFields (further_text a b c d) v → further_line false AreFields (plain (further_text a b c d)) (Ok v)
+further_read : {V : Type 0} (AreFields : List ℕ → V → Type 0) (a b c d : FieldNumber) (v : V)
+    → AreFields (further_text a b c d) v
+    → further_line false AreFields (plain (further_text a b c d)) (Ok v)
 further_read AreFields a b c d v are = inl (tt, text_read a b c d, inl (v, are, refl))
 
-source_read : (a b c d : FieldNumber) → further_line false (SourceFields 71) (plain (further_text a b c d)) (Ok (number_of a, zero_decimal))
+source_read : (a b c d : FieldNumber)
+    → further_line false (SourceFields 71) (plain (further_text a b c d)) (Ok (number_of a, zero_decimal))
 source_read a b c d = further_read (SourceFields 71) a b c d (number_of a, zero_decimal) ((all_fields a b c d).0, inr ((λ e. absurd (omega (arith, e))), refl))
 
-middle_read : (a b c d : FieldNumber) → further_line false MiddleFields (plain (further_text a b c d)) (Ok (number_of b, number_of c))
+middle_read : (a b c d : FieldNumber)
+    → further_line false MiddleFields (plain (further_text a b c d)) (Ok (number_of b, number_of c))
 middle_read a b c d = further_read MiddleFields a b c d (number_of b, number_of c) ((all_fields a b c d).1, (all_fields a b c d).2)
 
-last_read : (a b c d : FieldNumber) → further_line false LastFields (plain (further_text a b c d)) (Ok (number_of b, number_of c, number_of d))
+last_read : (a b c d : FieldNumber)
+    → further_line false LastFields (plain (further_text a b c d)) (Ok (number_of b, number_of c, number_of d))
 last_read a b c d = further_read LastFields a b c d (number_of b, number_of c, number_of d) ((all_fields a b c d).1, (all_fields a b c d).2, (all_fields a b c d).3)
 
-all_read : (a b c d : FieldNumber) → further_line false AllFields (plain (further_text a b c d)) (Ok (number_of a, number_of b, number_of c, number_of d))
+all_read : (a b c d : FieldNumber)
+    → further_line false AllFields (plain (further_text a b c d)) (Ok (number_of a, number_of b, number_of c, number_of d))
 all_read a b c d = further_read AllFields a b c d (number_of a, number_of b, number_of c, number_of d) (all_fields a b c d)
 
 -- ---- records
@@ -207,7 +220,8 @@ begins : (r : Ephemeris) → is_read false (column_of (clock_text r) 1) ≡ true
 unfolding clock_text
 begins r = refl
 
-body_read : (count number : ℕ) (records : List Ephemeris) → AreNamed records → count + length records ≤ 200000
+body_read : (count number : ℕ) (records : List Ephemeris) → AreNamed records
+    → count + length records ≤ 200000
     → records_from false count number 0 (map plain (body_lines records)) (Ok (map broadcast_of records))
 body_read count number [] named few = refl
 body_read count number (r ∷ records) named few =
@@ -239,7 +253,8 @@ solid_further : (a b c d : FieldNumber) → list_all is_blank (further_text a b 
 unfolding further_text
 solid_further a b c d = solid_before (field_text a) (field_text b ++ (field_text c ++ field_text d)) (solid_field a)
 
-body_solid : (records : List Ephemeris) → AllByRecursion (λ (line : TextLine). is_blank_line line ≡ false) (map plain (body_lines records))
+body_solid : (records : List Ephemeris)
+    → AllByRecursion (λ (line : TextLine). is_blank_line line ≡ false) (map plain (body_lines records))
 body_solid [] = tt
 body_solid (r ∷ records) =
     (solid_clock r, (solid_further zero_field r.crs r.dn r.m0, (solid_further r.cuc r.e r.cus r.root_a, (solid_further r.toe r.cic r.om0 r.cis, (solid_further r.i0 r.crc r.omega r.om_dot, (solid_further r.idot zero_field zero_field zero_field, (solid_further zero_field zero_field r.tgd zero_field, (solid_further zero_field zero_field zero_field zero_field, body_solid records))))))))
@@ -284,10 +299,12 @@ version_read : version_line 78 (plain version_text) (Ok tt)
 unfolding version_text
 version_read = inl (omega arith, inl (refl, inl (version_is, inl (refl, inl (inl refl, refl)))))
 
-header_read : (number : ℕ) (lines : List TextLine) → header_from number (plain (codes "                                                            END OF HEADER") ∷ lines) (Ok (record { number = number + 1; lines = lines }))
+header_read : (number : ℕ) (lines : List TextLine)
+    → header_from number (plain (codes "                                                            END OF HEADER") ∷ lines) (Ok (record { number = number + 1; lines = lines }))
 header_read number lines = inl (omega arith, inl (refl, refl))
 
-pub nav_read : (records : List Ephemeris) → AreNamed records → length records ≤ 200000 → IsNavFile (text_of (nav_lines records)) (map broadcast_of records)
+pub nav_read : (records : List Ephemeris) → AreNamed records → length records ≤ 200000
+    → IsNavFile (text_of (nav_lines records)) (map broadcast_of records)
 unfolding version_text
 nav_read records named few =
     let lines = lines_are (nav_lines records) (refl, (refl, body_prints records)) in
@@ -306,10 +323,12 @@ nav_read records named few =
 
 -- ---- how long it is
 
-line_length : (line : List ℕ) (more : List (List ℕ)) → length line ≡ 80 → length (text_of (line ∷ more)) ≡ 81 + length (text_of more)
+line_length : (line : List ℕ) (more : List (List ℕ)) → length line ≡ 80
+    → length (text_of (line ∷ more)) ≡ 81 + length (text_of more)
 line_length line more len = length-append line (10 ∷ text_of more) ∙ omega (arith, len)
 
-body_length : (records : List Ephemeris) → length (text_of (body_lines records)) ≡ 648 * length records
+body_length : (records : List Ephemeris)
+    → length (text_of (body_lines records)) ≡ 648 * length records
 body_length [] = refl
 body_length (r ∷ records) =
     let m7 = body_lines records in
@@ -331,5 +350,6 @@ body_length (r ∷ records) =
     let later = body_length records in
     s ∙ omega (arith, s0, s1, s2, s3, s4, s5, s6, later)
 
-pub nav_length : (records : List Ephemeris) → length records ≤ 200000 → length (text_of (nav_lines records)) ≤ 4000000000
+pub nav_length : (records : List Ephemeris) → length records ≤ 200000
+    → length (text_of (nav_lines records)) ≤ 4000000000
 nav_length records few = let body = body_length records in omega (arith, body, few)

@@ -61,7 +61,8 @@ blanks_print (suc n) = blanks_print n
 pub are_blanks : (n : ℕ) → AreBlanks (replicate n 32)
 are_blanks n = AllPass-from_list_all is_blank (replicate n 32) (blanks_pass n)
 
-pub right_cell : (width : ℕ) (text : List ℕ) → length text ≤ width → list_all is_printable text ≡ true → IsCell width (right width text)
+pub right_cell : (width : ℕ) (text : List ℕ) → length text ≤ width
+    → list_all is_printable text ≡ true → IsCell width (right width text)
 unfolding right
 right_cell width text fits printable = record {
   len = length-append (replicate (width - length text) 32) text ∙ (rw (length-replicate {A = ℕ} (width - length text) 32) (omega (arith, fits)));
@@ -113,7 +114,8 @@ mantissa negative n sign is small =
       places = sym (length_digits 3 n);
     }
 
-fixed : (blanks : ℕ) (text : List ℕ) (digits : ℤ) → IsMantissa text digits 3 → IsFixed (replicate blanks 32 ++ text) digits (neg_ℤ (pos 3))
+fixed : (blanks : ℕ) (text : List ℕ) (digits : ℤ) → IsMantissa text digits 3
+    → IsFixed (replicate blanks 32 ++ text) digits (neg_ℤ (pos 3))
 fixed blanks text digits is = record {
   before = replicate blanks 32;
   blanks_before = are_blanks blanks;
@@ -126,17 +128,20 @@ fixed blanks text digits is = record {
   power = refl;
 }
 
-pub metres_fixed : (code : ℤ) → nat_abs code < 10 ^ 11 → IsFixed (right 14 (metres_text code)) code (neg_ℤ (pos 3))
+pub metres_fixed : (code : ℤ) → nat_abs code < 10 ^ 11
+    → IsFixed (right 14 (metres_text code)) code (neg_ℤ (pos 3))
 unfolding right metres_text
 metres_fixed (pos n) small = fixed _ _ (pos n) (mantissa false n [] (inl refl) (omega (arith, ints)))
 metres_fixed (negsuc n) small = fixed _ _ (negsuc n) (mantissa true (suc n) (45 ∷ []) refl (omega (arith, ints)))
 
-pub metres_observed : (code : ℤ) → nat_abs code < 10 ^ 11 → IsObserved (right 14 (metres_text code)) (observed_of code)
+pub metres_observed : (code : ℤ) → nat_abs code < 10 ^ 11
+    → IsObserved (right 14 (metres_text code)) (observed_of code)
 metres_observed (pos zero) small = inr (neg_ℤ (pos 3), metres_fixed (pos zero) small)
 metres_observed (pos (suc n)) small = (metres_fixed (pos (suc n)) small, λ e. absurd (omega (arith, ints, e)))
 metres_observed (negsuc n) small = (metres_fixed (negsuc n) small, λ e. absurd (omega (arith, ints, e)))
 
-point_cell : (n : ℕ) → n < 10 ^ 11 → (length (decimal (n / 1000) ++ 46 ∷ last_digits 3 n) ≤ 12) × (list_all is_printable (decimal (n / 1000) ++ 46 ∷ last_digits 3 n) ≡ true)
+point_cell : (n : ℕ) → n < 10 ^ 11
+    → (length (decimal (n / 1000) ++ 46 ∷ last_digits 3 n) ≤ 12) × (list_all is_printable (decimal (n / 1000) ++ 46 ∷ last_digits 3 n) ≡ true)
 point_cell n small =
     let short = length-decimal-le 8 (n / 1000) (omega arith) (omega arith) (omega arith) in
     let plain = plain_decimal (n / 1000) (omega arith) in (
@@ -159,7 +164,8 @@ zeros_are : codes "0000000" ≡ last_digits 7 0
 unfolding last_digits
 zeros_are = refl
 
-seconds_with : (blanks digits : List ℕ) (n : ℕ) → AreBlanks blanks → AreDigits digits → 0 < length digits → length digits ≤ 2 → digits_value 10 digits ≡ n → n ≤ 59
+seconds_with : (blanks digits : List ℕ) (n : ℕ) → AreBlanks blanks → AreDigits digits
+    → 0 < length digits → length digits ≤ 2 → digits_value 10 digits ≡ n → n ≤ 59
     → IsSeconds (blanks ++ (digits ++ codes ".0000000")) (n * 10000000)
 seconds_with blanks digits n all are some few value small =
     let whole : digits_value 10 (digits ++ last_digits 7 0) ≡ n * 10000000 =
@@ -201,7 +207,8 @@ seconds_with blanks digits n all are some few value small =
 one_second : (n : ℕ) → n < 10 → IsSeconds (32 ∷ 32 ∷ (48 + n) ∷ codes ".0000000") (n * 10000000)
 one_second n h = seconds_with (32 ∷ 32 ∷ []) ((48 + n) ∷ []) n (AllPass-from_list_all is_blank (32 ∷ 32 ∷ []) refl) (AllPass-from_list_all is_ascii_digit ((48 + n) ∷ []) (and_from _ _ (a_digit n h).passes refl)) (omega arith) (omega arith) (omega (arith, (written_digit n h).value)) (omega arith)
 
-two_seconds : (n : ℕ) → n ≤ 59 → IsSeconds (32 ∷ (48 + n / 10) ∷ (48 + n % 10) ∷ codes ".0000000") (n * 10000000)
+two_seconds : (n : ℕ) → n ≤ 59
+    → IsSeconds (32 ∷ (48 + n / 10) ∷ (48 + n % 10) ∷ codes ".0000000") (n * 10000000)
 two_seconds n small =
     let tens = a_digit (n / 10) (omega arith) in
     let ones = a_digit (n % 10) (omega arith) in
@@ -228,7 +235,8 @@ two_wide_cell n small = record { len = refl; printable = and_from _ _ (lead n sm
 
 -- ---- a count isn't blank
 
-solid_digits : (text : List ℕ) → list_all is_ascii_digit text ≡ true → 0 < length text → list_all is_blank text ≡ false
+solid_digits : (text : List ℕ) → list_all is_ascii_digit text ≡ true → 0 < length text
+    → list_all is_blank text ≡ false
 solid_digits [] all some = absurd (omega arith)
 solid_digits (c ∷ cs) all some =
     let digit = (and_parts (is_ascii_digit c) (list_all is_ascii_digit cs) all).0 in

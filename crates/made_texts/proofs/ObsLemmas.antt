@@ -41,13 +41,15 @@ satellite_cell : (seen : SatCode) → nat_abs seen.code < 10 ^ 11 → IsCell 17 
 unfolding satellite_text
 satellite_cell seen small = beside 1 16 (71 ∷ []) _ (literal 1 (71 ∷ []) refl refl) (beside 2 14 _ _ (two_digits seen.number) (metres_cell seen.code small))
 
-code_at : (seen : SatCode) → nat_abs seen.code < 10 ^ 11 → columns_of (satellite_text seen) 4 17 ≡ right 14 (metres_text seen.code)
+code_at : (seen : SatCode) → nat_abs seen.code < 10 ^ 11
+    → columns_of (satellite_text seen) 4 17 ≡ right 14 (metres_text seen.code)
 unfolding satellite_text
 code_at seen small =
     let field = right 14 (metres_text seen.code) in
     behind 3 (71 ∷ last_digits 2 seen.number) field 4 17 (ap suc (length_digits 2 seen.number)) (omega arith) ∙ last 14 field (metres_cell seen.code small).len
 
-number_in : (seen : SatCode) → 1 ≤ seen.number → seen.number ≤ 99 → IsNumber (satellite_text seen) seen.number
+number_in : (seen : SatCode) → 1 ≤ seen.number → seen.number ≤ 99
+    → IsNumber (satellite_text seen) seen.number
 unfolding satellite_text last_digits
 number_in seen from to = record {
   count = counts (last_digits 2 seen.number) seen.number (are_digits 2 seen.number) (omega (arith, length_digits 2 seen.number)) (omega (arith, value_is 2 seen.number, to));
@@ -65,17 +67,20 @@ wanted = record { gps = record { first = 0; second = None }; galileo = None }
 abbrev AreBelow : ℕ → List SatObs → Type 0
 AreBelow n sats = AllByRecursion (λ (s : SatObs). s.sat.number < n) sats
 
-none_has : (sat : Sat) (sats : List SatObs) → AreBelow sat.number sats → list_any (has_sat sat) sats ≡ false
+none_has : (sat : Sat) (sats : List SatObs) → AreBelow sat.number sats
+    → list_any (has_sat sat) sats ≡ false
 none_has sat [] below = refl
 none_has sat (s ∷ sats) below =
     let other : (s.sat.number == sat.number) ≡ false = grind (arith, below.0) in
     rw other (none_has sat sats below.1)
 
-below_next : (m n : ℕ) (sats : List SatObs) (s : SatObs) → AreBelow m sats → m ≤ n → s.sat.number ≡ n → AreBelow (n + 1) (sats ++ s ∷ [])
+below_next : (m n : ℕ) (sats : List SatObs) (s : SatObs) → AreBelow m sats → m ≤ n
+    → s.sat.number ≡ n → AreBelow (n + 1) (sats ++ s ∷ [])
 below_next m n [] s below le is = (omega (arith, is), tt)
 below_next m n (t ∷ sats) s below le is = (omega (arith, below.0), below_next m n sats s below.1 le is)
 
-satellite_read : (before : List SatObs) (seen : SatCode) → AreBelow seen.number before → length before < 64 → 1 ≤ seen.number → seen.number ≤ 99 → nat_abs seen.code < 10 ^ 11
+satellite_read : (before : List SatObs) (seen : SatCode) → AreBelow seen.number before
+    → length before < 64 → 1 ≤ seen.number → seen.number ≤ 99 → nat_abs seen.code < 10 ^ 11
     → satellite_line wanted before (plain (satellite_text seen)) (Ok (before ++ sat_of seen ∷ []))
 unfolding wanted
 satellite_read before seen below room from to small =
@@ -106,7 +111,8 @@ satellite_read before seen below room from to small =
       ),
     )
 
-satellites_read : (least number : ℕ) (before : List SatObs) (sats : List SatCode) (more : List (List ℕ)) → 1 ≤ least → AreBelow least before → AreSeenFrom least sats → length before + length sats ≤ 64
+satellites_read : (least number : ℕ) (before : List SatObs) (sats : List SatCode) (more : List (List ℕ))
+    → 1 ≤ least → AreBelow least before → AreSeenFrom least sats → length before + length sats ≤ 64
     → satellites_from wanted (length sats) before (record { number = number; lines = map plain (satellite_lines sats more) }) (Ok (before ++ map sat_of sats))
 satellites_read least number before [] more one below rising room = ap Ok (append-nil before)
 satellites_read least number before (seen ∷ sats) more one below rising room =
@@ -123,7 +129,8 @@ satellites_read least number before (seen ∷ sats) more one below rising room =
 
 -- ---- the first line of an epoch
 
-head_cell : (hour minute second count : ℕ) → second ≤ 59 → count < 1000 → IsCell 35 (head_text hour minute second count)
+head_cell : (hour minute second count : ℕ) → second ≤ 59 → count < 1000
+    → IsCell 35 (head_text hour minute second count)
 unfolding head_text
 head_cell hour minute second count s few =
     beside 13 22 _ _ (literal 13 (codes "> 2024 01 07 ") refl refl) (beside 2 20 _ _ (two_digits hour) (beside 1 19 (32 ∷ []) _ (literal 1 (32 ∷ []) refl refl) (beside 2 17 _ _ (two_digits minute) (beside 1 16 (32 ∷ []) _ (literal 1 (32 ∷ []) refl refl)
@@ -132,7 +139,8 @@ head_cell hour minute second count s few =
 tag_of : ℕ → ℕ → ℕ → ℤ
 tag_of hour minute second = pos (gps_time 2024 1 7 hour minute (second * 10000000))
 
-tag_read : (hour minute second count : ℕ) → hour ≤ 23 → minute ≤ 59 → second ≤ 59 → IsTag (head_text hour minute second count) (tag_of hour minute second)
+tag_read : (hour minute second count : ℕ) → hour ≤ 23 → minute ≤ 59 → second ≤ 59
+    → IsTag (head_text hour minute second count) (tag_of hour minute second)
 unfolding head_text last_digits tag_of
 tag_read hour minute second count h m s = record {
   year = 2024;
@@ -151,13 +159,15 @@ tag_read hour minute second count h m s = record {
   value = refl;
 }
 
-count_at : (hour minute second count : ℕ) → count < 1000 → columns_of (head_text hour minute second count) 33 35 ≡ right 3 (decimal count)
+count_at : (hour minute second count : ℕ) → count < 1000
+    → columns_of (head_text hour minute second count) 33 35 ≡ right 3 (decimal count)
 unfolding head_text last_digits
 count_at hour minute second count few =
     let field = right 3 (decimal count) in
     behind 32 (codes "> 2024 01 07 " ++ (last_digits 2 hour ++ 32 ∷ (last_digits 2 minute ++ 32 ∷ two_wide second (codes ".0000000  0")))) field 33 35 refl (omega arith) ∙ last 3 field (count_cell count few).len
 
-first_column : (hour minute second count : ℕ) → column_of (head_text hour minute second count) 1 ≡ 62
+first_column : (hour minute second count : ℕ)
+    → column_of (head_text hour minute second count) 1 ≡ 62
 unfolding head_text last_digits
 first_column hour minute second count = refl
 
@@ -165,7 +175,8 @@ flag_is : (hour minute second count : ℕ) → flag_of (head_text hour minute se
 unfolding head_text last_digits
 flag_is hour minute second count = refl
 
-head_read : (before hour minute second count : ℕ) → hour ≤ 23 → minute ≤ 59 → second ≤ 59 → count ≤ 64 → before < 200000
+head_read : (before hour minute second count : ℕ) → hour ≤ 23 → minute ≤ 59 → second ≤ 59
+    → count ≤ 64 → before < 200000
     → head_line before (plain (head_text hour minute second count)) (Ok (head.Epoch (tag_of hour minute second) count))
 head_read before hour minute second count h m s few room =
     let cell = head_cell hour minute second count s (omega (arith, few)) in
@@ -190,13 +201,17 @@ head_read before hour minute second count h m s few room =
 
 -- ---- epochs
 
-passed : (sats : List SatCode) (more : List (List ℕ)) (epochs : List Observed) (answer : Result (List Observed) Refusal) → ((n : ℕ) → epochs_from wanted epochs n 0 (map plain more) answer)
-    → (number : ℕ) → epochs_from wanted epochs number (length sats) (map plain (satellite_lines sats more)) answer
+passed : (sats : List SatCode) (more : List (List ℕ)) (epochs : List Observed) (answer : Result (List Observed) Refusal)
+    → ((n : ℕ) → epochs_from wanted epochs n 0 (map plain more) answer)
+    → (number : ℕ)
+    → epochs_from wanted epochs number (length sats) (map plain (satellite_lines sats more)) answer
 passed [] more epochs answer later number = later number
 passed (seen ∷ sats) more epochs answer later number = passed sats more epochs answer later (number + 1)
 
-epochs_read : (before : List Observed) (epochs : List EpochCodes) → AreEpochs epochs → length before + length epochs ≤ 200000
-    → (number : ℕ) → epochs_from wanted before number 0 (map plain (epoch_lines epochs)) (Ok (before ++ observed_from (length before + 1) epochs))
+epochs_read : (before : List Observed) (epochs : List EpochCodes) → AreEpochs epochs
+    → length before + length epochs ≤ 200000
+    → (number : ℕ)
+    → epochs_from wanted before number 0 (map plain (epoch_lines epochs)) (Ok (before ++ observed_from (length before + 1) epochs))
 unfolding tag_of
 epochs_read before [] are room number = ap Ok (append-nil before)
 epochs_read before (epoch ∷ epochs) are room number =
@@ -221,11 +236,13 @@ epochs_read before (epoch ∷ epochs) are room number =
 
 -- ---- lines
 
-satellites_print : (least : ℕ) (sats : List SatCode) (more : List (List ℕ)) → AreSeenFrom least sats → AllByRecursion IsPrintable more → AllByRecursion IsPrintable (satellite_lines sats more)
+satellites_print : (least : ℕ) (sats : List SatCode) (more : List (List ℕ)) → AreSeenFrom least sats
+    → AllByRecursion IsPrintable more → AllByRecursion IsPrintable (satellite_lines sats more)
 satellites_print least [] more rising later = later
 satellites_print least (seen ∷ sats) more rising later = ((satellite_cell seen rising.2).printable, satellites_print (seen.number + 1) sats more rising.3 later)
 
-epochs_print : (epochs : List EpochCodes) → AreEpochs epochs → AllByRecursion IsPrintable (epoch_lines epochs)
+epochs_print : (epochs : List EpochCodes) → AreEpochs epochs
+    → AllByRecursion IsPrintable (epoch_lines epochs)
 epochs_print [] are = tt
 epochs_print (epoch ∷ epochs) are =
     ((head_cell epoch.hour epoch.minute epoch.second (length epoch.sats.items) are.0.second (omega (arith, are.0.few))).printable, satellites_print 1 epoch.sats.items (epoch_lines epochs) are.0.sats (epochs_print epochs are.1))
@@ -237,11 +254,13 @@ solid_satellite : (seen : SatCode) → list_all is_blank (satellite_text seen) �
 unfolding satellite_text
 solid_satellite seen = refl
 
-solid_head : (hour minute second count : ℕ) → list_all is_blank (head_text hour minute second count) ≡ false
+solid_head : (hour minute second count : ℕ)
+    → list_all is_blank (head_text hour minute second count) ≡ false
 unfolding head_text
 solid_head hour minute second count = refl
 
-satellites_solid : (sats : List SatCode) (more : List (List ℕ)) → AreSolid more → AreSolid (satellite_lines sats more)
+satellites_solid : (sats : List SatCode) (more : List (List ℕ)) → AreSolid more
+    → AreSolid (satellite_lines sats more)
 satellites_solid [] more later = later
 satellites_solid (seen ∷ sats) more later = (solid_satellite seen, satellites_solid sats more later)
 
@@ -355,7 +374,8 @@ obs_read epochs are few =
 
 -- ---- how long it is
 
-satellites_length : (least : ℕ) (sats : List SatCode) (more : List (List ℕ)) → AreSeenFrom least sats
+satellites_length : (least : ℕ) (sats : List SatCode) (more : List (List ℕ))
+    → AreSeenFrom least sats
     → length (text_of (satellite_lines sats more)) ≡ 18 * length sats + length (text_of more)
 satellites_length least [] more rising = omega arith
 satellites_length least (seen ∷ sats) more rising =
@@ -363,7 +383,8 @@ satellites_length least (seen ∷ sats) more rising =
     let rest = satellites_length (seen.number + 1) sats more rising.3 in
     omega (arith, length-append (satellite_text seen) (10 ∷ text_of (satellite_lines sats more)), line, rest)
 
-epochs_length : (epochs : List EpochCodes) → AreEpochs epochs → length (text_of (epoch_lines epochs)) ≤ 1188 * length epochs
+epochs_length : (epochs : List EpochCodes) → AreEpochs epochs
+    → length (text_of (epoch_lines epochs)) ≤ 1188 * length epochs
 epochs_length [] are = omega arith
 epochs_length (epoch ∷ epochs) are =
     let is = are.0 in
@@ -379,5 +400,6 @@ epochs_length (epoch ∷ epochs) are =
       epochs_length epochs are.1,
     )
 
-pub obs_length : (epochs : List EpochCodes) → AreEpochs epochs → length epochs ≤ 200000 → length (text_of (obs_lines epochs)) ≤ 4000000000
+pub obs_length : (epochs : List EpochCodes) → AreEpochs epochs → length epochs ≤ 200000
+    → length (text_of (obs_lines epochs)) ≤ 4000000000
 obs_length epochs are few = omega (arith, few, epochs_length epochs are)

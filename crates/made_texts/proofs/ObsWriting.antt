@@ -16,7 +16,8 @@ blanks_more (suc n) some =
     let one : suc n - 1 ≡ n = omega arith in
     rw one refl
 
-pub metres_spelled : (z : ℤ) → sign_text (lt_z z (pos 0)) ++ (decimal (nat_abs z / 1000) ++ 46 ∷ last_digits 3 (nat_abs z)) ≡ metres_text z
+pub metres_spelled : (z : ℤ)
+    → sign_text (lt_z z (pos 0)) ++ (decimal (nat_abs z / 1000) ++ 46 ∷ last_digits 3 (nat_abs z)) ≡ metres_text z
 unfolding metres_text
 metres_spelled (pos n) =
     let positive : lt_z (pos n) (pos 0) ≡ false = grind arith in
@@ -25,17 +26,21 @@ metres_spelled (negsuc n) = refl
 
 -- ---- satellites
 
-satellites_before : (sats : List SatCode) (more : List (List ℕ)) → text_of (satellite_lines sats more) ≡ satellites_text sats ++ text_of more
+satellites_before : (sats : List SatCode) (more : List (List ℕ))
+    → text_of (satellite_lines sats more) ≡ satellites_text sats ++ text_of more
 unfolding satellites_text
 satellites_before [] more = refl
 satellites_before (seen ∷ sats) more = rw (satellites_before sats more) (sym (append_assoc (satellite_text seen) (10 ∷ satellites_text sats) (text_of more)))
 
-satellites_more : (seen : SatCode) (sats : List SatCode) → satellites_text (seen ∷ sats) ≡ satellite_text seen ++ 10 ∷ satellites_text sats
+satellites_more : (seen : SatCode) (sats : List SatCode)
+    → satellites_text (seen ∷ sats) ≡ satellite_text seen ++ 10 ∷ satellites_text sats
 unfolding satellites_text
 satellites_more seen sats = refl
 
-pub satellites_next : (text next whole : List ℕ) (sats : List SatCode) (i : ℕ) (d : SatCode) → i < length sats → text ++ satellites_text (drop i sats) ≡ whole
-    → next ≡ text ++ (satellite_text (get_or sats i d) ++ 10 ∷ []) → next ++ satellites_text (drop (i + 1) sats) ≡ whole
+pub satellites_next : (text next whole : List ℕ) (sats : List SatCode) (i : ℕ) (d : SatCode)
+    → i < length sats → text ++ satellites_text (drop i sats) ≡ whole
+    → next ≡ text ++ (satellite_text (get_or sats i d) ++ 10 ∷ [])
+    → next ++ satellites_text (drop (i + 1) sats) ≡ whole
 satellites_next text next whole sats i d within e more =
     let first = ap satellites_text (drop_more sats i d within) ∙ satellites_more (get_or sats i d) (drop (i + 1) sats) in
     let here = satellite_text (get_or sats i d) in
@@ -46,33 +51,39 @@ no_satellites : satellites_text [] ≡ []
 unfolding satellites_text
 no_satellites = refl
 
-pub satellites_end : (text whole : List ℕ) (sats : List SatCode) (i : ℕ) → length sats ≤ i → text ++ satellites_text (drop i sats) ≡ whole → text ≡ whole
+pub satellites_end : (text whole : List ℕ) (sats : List SatCode) (i : ℕ) → length sats ≤ i
+    → text ++ satellites_text (drop i sats) ≡ whole → text ≡ whole
 satellites_end text whole sats i past e =
     sym (append-nil text) ∙ (ap (λ (l : List ℕ). text ++ l) (sym (ap satellites_text (drop_all i sats past) ∙ no_satellites)) ∙ e)
 
 -- ---- epochs
 
-epoch_before : (epoch : EpochCodes) (more : List EpochCodes) → text_of (epoch_lines (epoch ∷ more)) ≡ epoch_text epoch ++ text_of (epoch_lines more)
+epoch_before : (epoch : EpochCodes) (more : List EpochCodes)
+    → text_of (epoch_lines (epoch ∷ more)) ≡ epoch_text epoch ++ text_of (epoch_lines more)
 unfolding epoch_text
 epoch_before epoch more =
     let head = head_text epoch.hour epoch.minute epoch.second (length epoch.sats.items) in
     ap (λ (l : List ℕ). head ++ 10 ∷ l) (satellites_before epoch.sats.items (epoch_lines more))
     ∙ sym (append_assoc head (10 ∷ satellites_text epoch.sats.items) (text_of (epoch_lines more)))
 
-pub epochs_next : (text next whole : List ℕ) (epochs : List EpochCodes) (i : ℕ) (d : EpochCodes) → i < length epochs → text ++ text_of (epoch_lines (drop i epochs)) ≡ whole
-    → next ≡ text ++ epoch_text (get_or epochs i d) → next ++ text_of (epoch_lines (drop (i + 1) epochs)) ≡ whole
+pub epochs_next : (text next whole : List ℕ) (epochs : List EpochCodes) (i : ℕ) (d : EpochCodes)
+    → i < length epochs → text ++ text_of (epoch_lines (drop i epochs)) ≡ whole
+    → next ≡ text ++ epoch_text (get_or epochs i d)
+    → next ++ text_of (epoch_lines (drop (i + 1) epochs)) ≡ whole
 epochs_next text next whole epochs i d within e more =
     let first = ap (λ (es : List EpochCodes). text_of (epoch_lines es)) (drop_more epochs i d within) ∙ epoch_before (get_or epochs i d) (drop (i + 1) epochs) in
     let later = text_of (epoch_lines (drop (i + 1) epochs)) in
     rw more (append_assoc text (epoch_text (get_or epochs i d)) later ∙ (ap (λ (l : List ℕ). text ++ l) (sym first) ∙ e))
 
-pub epochs_end : (text whole : List ℕ) (epochs : List EpochCodes) (i : ℕ) → length epochs ≤ i → text ++ text_of (epoch_lines (drop i epochs)) ≡ whole → text ≡ whole
+pub epochs_end : (text whole : List ℕ) (epochs : List EpochCodes) (i : ℕ) → length epochs ≤ i
+    → text ++ text_of (epoch_lines (drop i epochs)) ≡ whole → text ≡ whole
 epochs_end text whole epochs i past e =
     sym (append-nil text) ∙ (ap (λ (es : List EpochCodes). text ++ text_of (epoch_lines es)) (sym (drop_all i epochs past)) ∙ e)
 
 -- ---- behind what was written before
 
-pub metres_placed : (old : List ℕ) (z : ℤ) → (((old ++ sign_text (lt_z z (pos 0))) ++ decimal (nat_abs z / 1000)) ++ 46 ∷ []) ++ last_digits 3 (nat_abs z) ≡ old ++ metres_text z
+pub metres_placed : (old : List ℕ) (z : ℤ)
+    → (((old ++ sign_text (lt_z z (pos 0))) ++ decimal (nat_abs z / 1000)) ++ 46 ∷ []) ++ last_digits 3 (nat_abs z) ≡ old ++ metres_text z
 metres_placed old z =
     let spelled = ap (λ (l : List ℕ). old ++ l) (metres_spelled z) in
     placed old (sign_text (lt_z z (pos 0))) (decimal (nat_abs z / 1000)) (last_digits 3 (nat_abs z)) ∙ spelled where

@@ -24,16 +24,19 @@ use Rattle.error_bounds.proofs.KeyLemmas.{empty_tests as none_of, empty_extra as
 coordinate : (x : ℤ) → IsWithin 8500000000 x → is_coordinate x ≡ true
 coordinate x h = grind (arith, ints, h.low, h.high)
 
-centre_is : (x y z : ℤ) → AreNear x y z → value_of key.centre (settings_table x y z) ≡ Ok (At (record { x = um x; y = um y; z = um z }))
+centre_is : (x y z : ℤ) → AreNear x y z
+    → value_of key.centre (settings_table x y z) ≡ Ok (At (record { x = um x; y = um y; z = um z }))
 centre_is x y z near = rw (coordinate x near.0, coordinate y near.1, coordinate z near.2) refl
 
-found_none : (t : Test) (more : List Test) → t.fault ≡ None → first_found more ≡ None → first_found (t ∷ more) ≡ None
+found_none : (t : Test) (more : List Test) → t.fault ≡ None → first_found more ≡ None
+    → first_found (t ∷ more) ≡ None
 found_none t more none later = rw (none, later) refl
 
 faultless : (x y z : ℤ) → AreNear x y z → first_found (tests (settings_table x y z)) ≡ None
 faultless x y z near = found_none (key.test key.centre (settings_table x y z)) (own_tests no_members (sats_from 71 1)) (ap fault_in (centre_is x y z near)) (none_of (sats_from 71 1))
 
-pub settings_read : (text : List ℕ) (x y z : ℤ) → AreNear x y z → IsUtf8 text → parse_document text ≡ Some (settings_table x y z) → IsSettings text (settings_of x y z)
+pub settings_read : (text : List ℕ) (x y z : ℤ) → AreNear x y z → IsUtf8 text
+    → parse_document text ≡ Some (settings_table x y z) → IsSettings text (settings_of x y z)
 settings_read text x y z near utf8 parsed = record {
   tree = settings_table x y z;
   is_tree = record { utf8 = utf8; parsed = parsed };
@@ -68,12 +71,14 @@ settings_read text x y z near utf8 parsed = record {
 
 -- ---- tables
 
-members_by : (o : Ordering) (a b c : List Entry) → members_view (match_ordering o a b c) ≡ match_ordering o (members_view a) (members_view b) (members_view c)
+members_by : (o : Ordering) (a b c : List Entry)
+    → members_view (match_ordering o a b c) ≡ match_ordering o (members_view a) (members_view b) (members_view c)
 members_by Less a b c = refl
 members_by Equal a b c = refl
 members_by Greater a b c = refl
 
-pub put_view : (k : String Global) (v : Value) (es : List Entry) → members_view (insert_entry string_cmp es k v) ≡ put_member (string_bytes k) (view v) (members_view es)
+pub put_view : (k : String Global) (v : Value) (es : List Entry)
+    → members_view (insert_entry string_cmp es k v) ≡ put_member (string_bytes k) (view v) (members_view es)
 put_view k v [] = refl
 put_view k v (e ∷ es) =
     members_by (string_cmp k e.0) ((k, v) ∷ e ∷ es) ((e.0, v) ∷ es) (e ∷ insert_entry string_cmp es k v)
@@ -81,11 +86,13 @@ put_view k v (e ∷ es) =
 
 -- ---- lists
 
-integers_push : (zs : List ℤ) (z : ℤ) → integers (zs ++ z ∷ []) ≡ push_item (integers zs) (integer z)
+integers_push : (zs : List ℤ) (z : ℤ)
+    → integers (zs ++ z ∷ []) ≡ push_item (integers zs) (integer z)
 integers_push [] z = refl
 integers_push (y ∷ zs) z = ap (item (integer y)) (integers_push zs z)
 
-pub list_more : (vs : List Value) (zs : List ℤ) (i : ℕ) (z : ℤ) → i < length zs → items_view vs ≡ integers (take i zs)
+pub list_more : (vs : List Value) (zs : List ℤ) (i : ℕ) (z : ℤ) → i < length zs
+    → items_view vs ≡ integers (take i zs)
     → items_view (vs ++ IntegerCase (get_or zs i z) ∷ []) ≡ integers (take (i + 1) zs)
 list_more vs zs i z within e =
     items_view-push vs (IntegerCase (get_or zs i z))

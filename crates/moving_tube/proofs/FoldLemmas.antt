@@ -43,12 +43,14 @@ module _ (root : GridBox) where
   abbrev AllLie : List (Option GridBox) → Type 0
   AllLie live = AllByRecursion OptionLies live
 
-  live_lies : (live : List (Option GridBox)) (id : ℕ) (part : GridBox) → AllLie live → get_or live id None ≡ Some part → LiesIn part root
+  live_lies : (live : List (Option GridBox)) (id : ℕ) (part : GridBox) → AllLie live
+      → get_or live id None ≡ Some part → LiesIn part root
   live_lies [] id part all e = absurd cc
   live_lies (o ∷ live) zero part all e = let here : o ≡ Some part = e in rw here at all.0
   live_lies (o ∷ live) (suc id) part all e = live_lies live id part all.1 e
 
-  set_lies : (live : List (Option GridBox)) (id : ℕ) (o : Option GridBox) → AllLie live → OptionLies o → AllLie (set live id o)
+  set_lies : (live : List (Option GridBox)) (id : ℕ) (o : Option GridBox) → AllLie live
+      → OptionLies o → AllLie (set live id o)
   set_lies [] id o all h = tt
   set_lies (x ∷ live) zero o all h = (h, all.1)
   set_lies (x ∷ live) (suc id) o all h = (all.0, set_lies live id o all.1 h)
@@ -57,13 +59,15 @@ module _ (root : GridBox) where
   both_lie [] ys h k = k
   both_lie (x ∷ xs) ys h k = (h.0, both_lie xs ys h.1 k)
 
-  halves_lie : (axis : ℕ) (part : GridBox) → LiesIn part root → IsDivisible axis part → AllLie (halves axis (Some part))
+  halves_lie : (axis : ℕ) (part : GridBox) → LiesIn part root → IsDivisible axis part
+      → AllLie (halves axis (Some part))
   halves_lie axis part lies two = (
     lies_through _ part root (with_inside axis part (low_half (side_at axis part)) (own_box part root lies) (low_inside (side_at axis part) two)) lies,
     (lies_through _ part root (with_inside axis part (high_half (side_at axis part)) (own_box part root lies) (high_inside (side_at axis part) two)) lies, tt),
   )
 
-  after_lies : (boxes : Subpaving) (step : Step) → AllLie boxes.live → StepFolds boxes step → AllLie (boxes_after boxes step).live
+  after_lies : (boxes : Subpaving) (step : Step) → AllLie boxes.live → StepFolds boxes step
+      → AllLie (boxes_after boxes step).live
   after_lies boxes (Cut id face bound) all (part, is, proper) =
       let lies = live_lies boxes.live id part all is in
       let own = own_box part root lies in
@@ -83,7 +87,8 @@ module _ (root : GridBox) where
   PartsLie parts = AllByRecursion (λ part. LiesIn part root) parts
 
   -- what a step keeps stands in front of what the others keep
-  closed_lies : (step : Step) (o : Option GridBox) (more : List ShownStep) → OptionLies o → PartsLie (kept_parts more) → PartsLie (kept_parts (shown step o ++ more))
+  closed_lies : (step : Step) (o : Option GridBox) (more : List ShownStep) → OptionLies o
+      → PartsLie (kept_parts more) → PartsLie (kept_parts (shown step o ++ more))
   closed_lies step None more h later = later
   closed_lies (Cut id face bound) (Some part) more h later = later
   closed_lies (Split id axis) (Some part) more h later = later
@@ -91,28 +96,33 @@ module _ (root : GridBox) where
   closed_lies (Inside id clock lo hi) (Some part) more h later = (h, later)
   closed_lies (Edge id lo hi) (Some part) more h later = (h, later)
 
-  slab_skipped : (id face : ℕ) (bound : ℤ) (o : Option GridBox) (more : List ShownStep) → PartsLie (kept_parts more)
+  slab_skipped : (id face : ℕ) (bound : ℤ) (o : Option GridBox) (more : List ShownStep)
+      → PartsLie (kept_parts more)
       → PartsLie (kept_parts (slab_shown (Cut id face bound) face bound o ++ more))
   slab_skipped id face bound None more later = later
   slab_skipped id face bound (Some part) more later = later
 
-  option_lies : (live : List (Option GridBox)) (id : ℕ) → AllLie live → OptionLies (get_or live id None)
+  option_lies : (live : List (Option GridBox)) (id : ℕ) → AllLie live
+      → OptionLies (get_or live id None)
   option_lies [] id all = tt
   option_lies (o ∷ live) zero all = all.0
   option_lies (o ∷ live) (suc id) all = option_lies live id all.1
 
-  taken_lies : (boxes : Subpaving) (step : Step) (more : List ShownStep) → AllLie boxes.live → PartsLie (kept_parts more) → PartsLie (kept_parts (taken_by boxes step ++ more))
+  taken_lies : (boxes : Subpaving) (step : Step) (more : List ShownStep) → AllLie boxes.live
+      → PartsLie (kept_parts more) → PartsLie (kept_parts (taken_by boxes step ++ more))
   taken_lies boxes (Cut id face bound) more all later = slab_skipped id face bound (live_box boxes id) more later
   taken_lies boxes (Split id axis) more all later = later
   taken_lies boxes (Outside id) more all later = closed_lies (Outside id) (live_box boxes id) more (option_lies boxes.live id all) later
   taken_lies boxes (Inside id clock lo hi) more all later = closed_lies (Inside id clock lo hi) (live_box boxes id) more (option_lies boxes.live id all) later
   taken_lies boxes (Edge id lo hi) more all later = closed_lies (Edge id lo hi) (live_box boxes id) more (option_lies boxes.live id all) later
 
-  kept_from : (boxes : Subpaving) (steps : List Step) → AllLie boxes.live → StepsFold boxes steps → PartsLie (kept_parts (pieces_from boxes steps))
+  kept_from : (boxes : Subpaving) (steps : List Step) → AllLie boxes.live → StepsFold boxes steps
+      → PartsLie (kept_parts (pieces_from boxes steps))
   kept_from boxes [] all folds = tt
   kept_from boxes (step ∷ steps) all folds =
       taken_lies boxes step (pieces_from (boxes_after boxes step) steps) all (kept_from (boxes_after boxes step) steps (after_lies boxes step all folds.0) folds.1)
 
   -- The hull of the kept boxes lies in the root.
-  pub steps_hull_lies : (steps : List Step) → LiesIn root root → StepsFold (first_boxes root) steps → HullLies (hull_of (kept_parts (pieces root steps))) root
+  pub steps_hull_lies : (steps : List Step) → LiesIn root root → StepsFold (first_boxes root) steps
+      → HullLies (hull_of (kept_parts (pieces root steps))) root
   steps_hull_lies steps own folds = hull_lies None (kept_parts (pieces root steps)) root tt (kept_from (first_boxes root) steps (own, tt) folds)

@@ -23,26 +23,32 @@ abbrev pub HullHolds : Option GridBox → Pos → Type 0
 HullHolds None p = ⊥
 HullHolds (Some hull) p = box_holds hull p ≡ true
 
-held_with : (hull : Option GridBox) (part : GridBox) (p : Pos) → HullHolds hull p → HullHolds (hull_with hull part) p
+held_with : (hull : Option GridBox) (part : GridBox) (p : Pos) → HullHolds hull p
+    → HullHolds (hull_with hull part) p
 held_with None part p h = absurd h
 held_with (Some hull) part p h = holds_first hull part p h
 
-held_new : (hull : Option GridBox) (part : GridBox) (p : Pos) → box_holds part p ≡ true → HullHolds (hull_with hull part) p
+held_new : (hull : Option GridBox) (part : GridBox) (p : Pos) → box_holds part p ≡ true
+    → HullHolds (hull_with hull part) p
 held_new None part p h = h
 held_new (Some hull) part p h = holds_second hull part p h
 
-held_behind : (hull : Option GridBox) (parts : List GridBox) (p : Pos) → HullHolds hull p → HullHolds (hull_behind hull parts) p
+held_behind : (hull : Option GridBox) (parts : List GridBox) (p : Pos) → HullHolds hull p
+    → HullHolds (hull_behind hull parts) p
 held_behind hull [] p h = h
 held_behind hull (part ∷ more) p h = held_behind (hull_with hull part) more p (held_with hull part p h)
 
 -- what the hull of the later ones holds, whatever stands before them
-later_held : (hull : Option GridBox) (piece : ShownStep) (more : List ShownStep) (p : Pos) (kept : Bool) → is_kept piece ≡ kept
-    → ((h : Option GridBox) → HullHolds (hull_behind h (kept_parts more)) p) → HullHolds (hull_behind hull (kept_parts (piece ∷ more))) p
+later_held : (hull : Option GridBox) (piece : ShownStep) (more : List ShownStep) (p : Pos) (kept : Bool)
+    → is_kept piece ≡ kept
+    → ((h : Option GridBox) → HullHolds (hull_behind h (kept_parts more)) p)
+    → HullHolds (hull_behind hull (kept_parts (piece ∷ more))) p
 later_held hull piece more p true e later = rw (kept_here piece more e) (later (hull_with hull piece.part))
 later_held hull piece more p false e later = rw (kept_later piece more e) (later hull)
 
 -- the hull of the kept boxes holds what one of them keeps
-pub kept_held : (hull : Option GridBox) (parts : List ShownStep) (p : Pos) (b : ℤ) → SomeKeeps p b parts → HullHolds (hull_behind hull (kept_parts parts)) p
+pub kept_held : (hull : Option GridBox) (parts : List ShownStep) (p : Pos) (b : ℤ)
+    → SomeKeeps p b parts → HullHolds (hull_behind hull (kept_parts parts)) p
 kept_held hull [] p b some = absurd some
 kept_held hull (piece ∷ more) p b (inl here) =
     rw (kept_here piece more (kept_step piece.step b here.1)) (held_behind (hull_with hull piece.part) (kept_parts more) p (held_new hull piece.part p here.0))
@@ -63,11 +69,13 @@ joined_lies a b box h k zero = joined_lies_on a.x b.x box.x (h 0) (k 0)
 joined_lies a b box h k (suc zero) = joined_lies_on a.y b.y box.y (h 1) (k 1)
 joined_lies a b box h k (suc (suc n)) = joined_lies_on a.z b.z box.z (h 2) (k 2)
 
-lies_with : (hull : Option GridBox) (part box : GridBox) → HullLies hull box → LiesIn part box → HullLies (hull_with hull part) box
+lies_with : (hull : Option GridBox) (part box : GridBox) → HullLies hull box → LiesIn part box
+    → HullLies (hull_with hull part) box
 lies_with None part box h k = k
 lies_with (Some hull) part box h k = joined_lies hull part box h k
 
-pub hull_lies : (hull : Option GridBox) (parts : List GridBox) (box : GridBox) → HullLies hull box → AllByRecursion (λ part. LiesIn part box) parts
+pub hull_lies : (hull : Option GridBox) (parts : List GridBox) (box : GridBox) → HullLies hull box
+    → AllByRecursion (λ part. LiesIn part box) parts
     → HullLies (hull_behind hull parts) box
 hull_lies hull [] box h all = h
 hull_lies hull (part ∷ more) box h all = hull_lies (hull_with hull part) more box (lies_with hull part box h all.0) all.1

@@ -21,16 +21,20 @@ IsHeld (Some before) None = ⊥
 IsHeld (Some before) (Some left) = (before.tag ≡ left.tag) × HullHolds before.kept left.at
 
 -- so it is in the root
-in_root_after : (speed : ℕ) (search : GridBox) (from to : ℤ) (kept : Option GridBox) (root : GridBox) (p q : Pos) → HullHolds kept p
-    → box_holds search q ≡ true → IsReached speed (Some (record { tag = from; at = p })) to q → root_after speed search from kept to ≡ Some root
+in_root_after : (speed : ℕ) (search : GridBox) (from to : ℤ) (kept : Option GridBox) (root : GridBox) (p q : Pos)
+    → HullHolds kept p
+    → box_holds search q ≡ true → IsReached speed (Some (record { tag = from; at = p })) to q
+    → root_after speed search from kept to ≡ Some root
     → box_holds root q ≡ true
 in_root_after speed search from to None root p q held inside near e = absurd held
 in_root_after speed search from to (Some kept) root p q held inside near e =
     let same : reached_box (reach_of speed from to) kept search ≡ root = cc in
     subst (λ (r : GridBox). box_holds r q ≡ true) same (holds_reached (reach_of speed from to) kept search p q held near inside)
 
-in_root : (speed : ℕ) (search : GridBox) (before : Option Before) (left : Option Left) (tag : ℤ) (root : GridBox) (q : Pos) → IsHeld before left
-    → box_holds search q ≡ true → IsReached speed left tag q → root_for speed search before tag ≡ Some root → box_holds root q ≡ true
+in_root : (speed : ℕ) (search : GridBox) (before : Option Before) (left : Option Left) (tag : ℤ) (root : GridBox) (q : Pos)
+    → IsHeld before left
+    → box_holds search q ≡ true → IsReached speed left tag q
+    → root_for speed search before tag ≡ Some root → box_holds root q ≡ true
 in_root speed search None None tag root q held inside near e =
     let same : search ≡ root = cc in
     subst (λ (r : GridBox). box_holds r q ≡ true) same inside
@@ -41,11 +45,13 @@ in_root speed search (Some before) (Some left) tag root q held inside near e =
     (subst (λ (t : ℤ). IsReached speed (Some (record { tag = t; at = left.at })) tag q) (sym held.0) near) e
 
 -- and found there
-found_with : (root : GridBox) (body : Option Body) (stay : Stay) → box_holds root stay.at ≡ true → IsKeptWith root body stay → IsFoundWith root body stay
+found_with : (root : GridBox) (body : Option Body) (stay : Stay) → box_holds root stay.at ≡ true
+    → IsKeptWith root body stay → IsFoundWith root body stay
 found_with root None stay inside kept = inside
 found_with root (Some body) stay inside kept = kept inside
 
-held_with : (root : GridBox) (body : Option Body) (stay : Stay) → HasRoot root body → IsFoundWith root body stay → HullHolds (kept_with root body) stay.at
+held_with : (root : GridBox) (body : Option Body) (stay : Stay) → HasRoot root body
+    → IsFoundWith root body stay → HullHolds (kept_with root body) stay.at
 held_with root None stay is found = found
 held_with root (Some body) stay is found = rw is (kept_held None (pieces root (steps_in body.events)) stay.at stay.offset found)
 
@@ -60,8 +66,10 @@ module _ (speed : ℕ) (search : GridBox) where
   AreTimed (v ∷ more) [] = ⊥
   AreTimed (v ∷ more) (tag ∷ tags) = (v.tag ≡ tag) × AreTimed more tags
 
-  found_from : (before : Option Before) (left : Option Left) (visits : List Visit) (tags : List ℤ) (path : List Stay) → IsHeld before left
-      → AreRooted speed search before visits → AreTimed visits tags → HaveRoots visits → GoesOn speed search left tags path → AreKept visits path
+  found_from : (before : Option Before) (left : Option Left) (visits : List Visit) (tags : List ℤ) (path : List Stay)
+      → IsHeld before left
+      → AreRooted speed search before visits → AreTimed visits tags → HaveRoots visits
+      → GoesOn speed search left tags path → AreKept visits path
       → AreFound visits path
   found_from before left [] tags path held rooted timed roots goes kept = tt
   found_from before left (v ∷ more) [] path held rooted timed roots goes kept = absurd timed
@@ -73,6 +81,8 @@ module _ (speed : ℕ) (search : GridBox) where
       (found, found_from (behind v) (Some (record { tag = tag; at = stay.at })) more tags path (timed.0, held) rooted.1 timed.1 roots.1 goes.2 kept.1)
 
   -- A trajectory that each paved epoch keeps, where it is in its root, is found in each epoch.
-  pub track_found : (visits : List Visit) (tags : List ℤ) (path : List Stay) → AreRooted speed search None visits → AreTimed visits tags
-      → HaveRoots visits → IsTrajectory speed search tags path → AreKept visits path → AreFound visits path
+  pub track_found : (visits : List Visit) (tags : List ℤ) (path : List Stay)
+      → AreRooted speed search None visits → AreTimed visits tags
+      → HaveRoots visits → IsTrajectory speed search tags path → AreKept visits path
+      → AreFound visits path
   track_found visits tags path rooted timed roots goes kept = found_from None None visits tags path tt rooted timed roots goes kept

@@ -9,9 +9,11 @@ use Rattle.sat_model.specs.Proposals.{IsTied}
 use Rattle.sat_model.specs.Trees.{TreeValue, Within}
 use Rattle.grid_model.specs.declared.boxes.Box3.{Box3}
 
-pub view_within : {I : Type 0} (A : Type 0) (low high : I → ℤ) (part : Box3) → tree_value {I = I} {A = A} low high (CodeWithin part) ≡ Within (grid_box part)
+pub view_within : {I : Type 0} (A : Type 0) (low high : I → ℤ) (part : Box3)
+    → tree_value {I = I} {A = A} low high (CodeWithin part) ≡ Within (grid_box part)
 view_within A low high part = search (rules, the_lemmas)
 
 -- an answer that is tied to it is the meet
-pub tied_meet : (grain slack : ℤ) (t : TreeValue) (clock : Side) (box part : GridBox) (answer : Option GridBox) → t ≡ Within box → IsTied t grain slack clock part answer → IsMeet box part answer
+pub tied_meet : (grain slack : ℤ) (t : TreeValue) (clock : Side) (box part : GridBox) (answer : Option GridBox)
+    → t ≡ Within box → IsTied t grain slack clock part answer → IsMeet box part answer
 tied_meet grain slack t clock box part answer e tied = rw e at tied

@@ -15,7 +15,8 @@ use Rattle.paving.specs.declared.counts.Counts.{Counts}
 use Rattle.paving.specs.Counting.{IsCountOf, counts_with_cuts}
 use Rattle.paving.proofs.PavedLemmas.{AreCutsInTurn, cuts_in_turn, box_opens}
 
-ends_same : {X : Type 0} (xs ys : List X) (x y : X) → xs ++ x ∷ [] ≡ ys ++ y ∷ [] → (xs ≡ ys) × (x ≡ y)
+ends_same : {X : Type 0} (xs ys : List X) (x y : X) → xs ++ x ∷ [] ≡ ys ++ y ∷ []
+    → (xs ≡ ys) × (x ≡ y)
 ends_same [] [] x y e = (refl, cc)
 ends_same [] (b ∷ ys) x y e = absurd (omega (arith, ap length e, length-append ys (y ∷ [])))
 ends_same (a ∷ xs) [] x y e = absurd (omega (arith, ap length e, length-append xs (x ∷ [])))
@@ -25,7 +26,8 @@ ends_same (a ∷ xs) (b ∷ ys) x y e =
     (cc, last)
 
 -- the last step ends what the cuts before it left
-pub ends_by_last : (grain slack : ℤ) (test : BoxTest) (rules : Rules) (splits : ℕ) (box : WaitingBox) (cuts : List ShownStep) (last : ShownStep) → AreBoxSteps grain slack test rules splits box (cuts ++ last ∷ [])
+pub ends_by_last : (grain slack : ℤ) (test : BoxTest) (rules : Rules) (splits : ℕ) (box : WaitingBox) (cuts : List ShownStep) (last : ShownStep)
+    → AreBoxSteps grain slack test rules splits box (cuts ++ last ∷ [])
     → Closes test rules splits box.id last.part last.step × AreCutsInTurn test box.id box.part cuts last.part
 ends_by_last grain slack test rules splits box cuts last are =
     let (same, last_is) = ends_same cuts are.cuts last (record { step = are.last; part = are.left }) are.all_steps in
@@ -36,7 +38,8 @@ ends_by_last grain slack test rules splits box cuts last are =
     )
 
 -- so it alone opens boxes
-pub opens_last : (test : BoxTest) (rules : Rules) (splits : ℕ) (box : WaitingBox) (cuts : List ShownStep) (last : ShownStep) (paving : Paving) → AreStepsOf test rules splits box (cuts ++ last ∷ [])
+pub opens_last : (test : BoxTest) (rules : Rules) (splits : ℕ) (box : WaitingBox) (cuts : List ShownStep) (last : ShownStep) (paving : Paving)
+    → AreStepsOf test rules splits box (cuts ++ last ∷ [])
     → beyond_all paving (cuts ++ last ∷ []) ≡ beyond paving last
 opens_last test rules splits box cuts last paving are =
     let (same, last_is) = ends_same cuts are.cuts last (record { step = are.last; part = are.left }) are.all_steps in
@@ -48,7 +51,8 @@ record AreCountsOfCuts (cuts : List ShownStep) : Type 0 where
   pub outside : count_by (λ shown. is_outside shown.step) cuts ≡ length cuts
   pub bisections : count_by (λ shown. is_split shown.step) cuts ≡ 0
 
-counts_of_cuts : (test : BoxTest) (id : ℕ) (part : GridBox) (cuts : List ShownStep) (left : GridBox) → AreCutsInTurn test id part cuts left → AreCountsOfCuts cuts
+counts_of_cuts : (test : BoxTest) (id : ℕ) (part : GridBox) (cuts : List ShownStep) (left : GridBox)
+    → AreCutsInTurn test id part cuts left → AreCountsOfCuts cuts
 counts_of_cuts test id part [] left same = record { inside = refl; edge = refl; outside = refl; bisections = refl }
 counts_of_cuts test id part (shown ∷ cuts) left (face, bound, may, is, later) =
     let rest = counts_of_cuts test id (left_by_cut face bound part) cuts left later in record {
@@ -58,10 +62,12 @@ counts_of_cuts test id part (shown ∷ cuts) left (face, bound, may, is, later) 
       bisections = omega (arith, rest.bisections, sum_by-cons (λ s. cond (is_split s.step) 1 0) shown cuts, ap {B = ℕ} (λ (s : ShownStep). cond (is_split s.step) 1 0) is);
     }
 
-count_both : (p : ShownStep → Bool) (steps cuts : List ShownStep) (n more : ℕ) → n ≡ count_by p steps → count_by p cuts ≡ more → n + more ≡ count_by p (steps ++ cuts)
+count_both : (p : ShownStep → Bool) (steps cuts : List ShownStep) (n more : ℕ)
+    → n ≡ count_by p steps → count_by p cuts ≡ more → n + more ≡ count_by p (steps ++ cuts)
 count_both p steps cuts n more e f = omega (arith, e, f, sum_by-append (λ s. cond (p s) 1 0) steps cuts)
 
-pub counted_cuts : (test : BoxTest) (id : ℕ) (part left : GridBox) (counts : Counts) (steps cuts : List ShownStep) → AreCutsInTurn test id part cuts left → IsCountOf counts steps
+pub counted_cuts : (test : BoxTest) (id : ℕ) (part left : GridBox) (counts : Counts) (steps cuts : List ShownStep)
+    → AreCutsInTurn test id part cuts left → IsCountOf counts steps
     → IsCountOf (counts_with_cuts counts (length cuts)) (steps ++ cuts)
 counted_cuts test id part left counts steps cuts in_turn c =
     let k = counts_of_cuts test id part cuts left in_turn in record {

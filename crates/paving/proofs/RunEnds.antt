@@ -29,7 +29,9 @@ use Rattle.paving.proofs.Underway.{in_hand, counts_with_box}
 
 -- no box waits any more
 pub whole_run : {L : Type 0} (took : L → Step → GridBox → L → Type 0) (took_rows : L → RowsOver → L → Type 0) (maker : Maker) (test : BoxTest) (rules : Rules) (root : GridBox) (first now : L) (lists mid : List (List Item)) (spare : ℕ) (counts : Counts) (used : RowsOver)
-    → Suits maker test.rows → AreTurnsUnderway took took_rows maker test rules root first now lists spare counts used → Takes lists None mid
+    → Suits maker test.rows
+    → AreTurnsUnderway took took_rows maker test rules root first now lists spare counts used
+    → Takes lists None mid
     → IsRun took took_rows maker test rules root first now counts
 whole_run took took_rows maker test rules root first now lists mid spare counts used suits u takes =
     let run : PavedTurns maker test rules root (joined_turns u.turns)
@@ -43,12 +45,14 @@ whole_run took took_rows maker test rules root first now lists mid spare counts 
       cover = turns_cover maker test rules root _ suits run;
     }
 
-front_then : (xs : List ShownStep) (next : ShownStep) → map OfStep (xs ++ next ∷ []) ≡ map OfStep xs ++ OfStep next ∷ []
+front_then : (xs : List ShownStep) (next : ShownStep)
+    → map OfStep (xs ++ next ∷ []) ≡ map OfStep xs ++ OfStep next ∷ []
 front_then [] next = refl
 front_then (x ∷ xs) next = ap (λ l. OfStep x ∷ l) (front_then xs next)
 
 -- the first steps of a box begin it
-begins : (rules : Rules) (paving : Paving) (next : WaitingBox) (rest : List WaitingBox) (steps more : List ShownStep) → IsNext paving.waiting next rest
+begins : (rules : Rules) (paving : Paving) (next : WaitingBox) (rest : List WaitingBox) (steps more : List ShownStep)
+    → IsNext paving.waiting next rest
     → AreStepsOf paving.test rules paving.splits next (steps ++ more) → BeginsBox rules paving steps
 begins rules paving next rest [] more is are = tt
 begins rules paving next rest (shown ∷ steps) more is are = (next, rest, more, is, are)
@@ -56,7 +60,8 @@ begins rules paving next rest (shown ∷ steps) more is are = (next, rest, more,
 -- a step of the box in hand broke
 pub broke_here : {L : Type 0} (took broke : L → Step → GridBox → L → Type 0) (took_rows : L → RowsOver → L → Type 0) (broke_rows : L → RowsOver → ℕ → L → Type 0) (room : L → ℕ) (fault : StepFault) (maker : Maker) (test : BoxTest) (rules : Rules) (root : GridBox)
     (first now last : L) (lists mid : List (List Item)) (spare : ℕ) (counts : Counts) (used : RowsOver) (next : Item)
-    → AreTurnsUnderway took took_rows maker test rules root first now lists spare counts used → Takes lists (Some next) mid
+    → AreTurnsUnderway took took_rows maker test rules root first now lists spare counts used
+    → Takes lists (Some next) mid
     → BrokeOff took broke room fault (AreStepsOf (test_by test used.rows) rules counts.bisections (box_of next)) now last
     → IsBroken took broke took_rows broke_rows room fault maker test rules root first last
 broke_here took broke took_rows broke_rows room fault maker test rules root first now last lists mid spare counts used next u takes b =
@@ -84,9 +89,11 @@ broke_here took broke took_rows broke_rows room fault maker test rules root firs
 -- the renewal behind a box broke
 pub broke_renewing : {L : Type 0} (took broke : L → Step → GridBox → L → Type 0) (took_rows : L → RowsOver → L → Type 0) (broke_rows : L → RowsOver → ℕ → L → Type 0) (room : L → ℕ) (fault : StepFault) (maker : Maker) (test : BoxTest) (rules : Rules) (root : GridBox)
     (first now worked last : L) (lists mid : List (List Item)) (spare left : ℕ) (counts after : Counts) (used : RowsOver) (next : Item) (ended : Ended)
-    → (u : AreTurnsUnderway took took_rows maker test rules root first now lists spare counts used) → (takes : Takes lists (Some next) mid)
+    → (u : AreTurnsUnderway took took_rows maker test rules root first now lists spare counts used)
+    → (takes : Takes lists (Some next) mid)
     → (t : TookBox took (AreStepsOf (test_by test used.rows) rules counts.bisections (box_of next)) now ended worked)
-    → ended.cuts ≤ 1800 → left + opened_count ended.step ≡ spare + 1 → after ≡ counts_with_box counts ended
+    → ended.cuts ≤ 1800 → left + opened_count ended.step ≡ spare + 1
+    → after ≡ counts_with_box counts ended
     → RenewalBroke broke_rows room fault maker counts.bisections after.bisections (waiting_then took took_rows maker test rules root first now worked lists mid spare counts used next ended u takes t) used worked last
     → IsBroken took broke took_rows broke_rows room fault maker test rules root first last
 broke_renewing took broke took_rows broke_rows room fault maker test rules root first now worked last lists mid spare left counts after used next ended u takes t few change same r =

@@ -28,11 +28,13 @@ use Rattle.paving.proofs.PowerLemmas.{bits_mono, one_more_digit, bits_most}
 
 -- ---- the boxes that wait lie in the root
 
-all_both : (xs ys : List WaitingBox) (whole : GridBox) → AllInside xs whole → AllInside ys whole → AllInside (xs ++ ys) whole
+all_both : (xs ys : List WaitingBox) (whole : GridBox) → AllInside xs whole → AllInside ys whole
+    → AllInside (xs ++ ys) whole
 all_both [] ys whole h k = k
 all_both (x ∷ xs) ys whole h k = (h.0, all_both xs ys whole h.1 k)
 
-all_parts : (xs ys : List WaitingBox) (whole : GridBox) → AllInside (xs ++ ys) whole → AllInside xs whole × AllInside ys whole
+all_parts : (xs ys : List WaitingBox) (whole : GridBox) → AllInside (xs ++ ys) whole
+    → AllInside xs whole × AllInside ys whole
 all_parts [] ys whole h = (tt, h)
 all_parts (x ∷ xs) ys whole h = let more = all_parts xs ys whole h.1 in ((h.0, more.0), more.1)
 
@@ -42,7 +44,8 @@ side_through a s t h k = (omega (arith, ints, h.0, k.0), omega (arith, ints, h.1
 inside_through : (a b c : GridBox) → IsInside a b → IsInside b c → IsInside a c
 inside_through a b c h k = (side_through a.x b.x c.x h.0 k.0, side_through a.y b.y c.y h.1 k.1, side_through a.z b.z c.z h.2 k.2)
 
-all_through : (waiting : List WaitingBox) (a b : GridBox) → AllInside waiting a → IsInside a b → AllInside waiting b
+all_through : (waiting : List WaitingBox) (a b : GridBox) → AllInside waiting a → IsInside a b
+    → AllInside waiting b
 all_through [] a b h k = tt
 all_through (box ∷ waiting) a b h k = (inside_through box.part a b h.0 k, all_through waiting a b h.1 k)
 
@@ -53,25 +56,30 @@ pub same_inside : (a : GridBox) → IsInside a a
 same_inside a = (same_side_inside a.x, same_side_inside a.y, same_side_inside a.z)
 
 -- a box with a smaller side lies in it
-smaller_side : (axis : ℕ) (part : GridBox) (s : Side) → IsSideInside s (side_at axis part) → IsInside (with_side axis part s) part
+smaller_side : (axis : ℕ) (part : GridBox) (s : Side) → IsSideInside s (side_at axis part)
+    → IsInside (with_side axis part s) part
 smaller_side zero part s h = (h, same_side_inside part.y, same_side_inside part.z)
 smaller_side (suc zero) part s h = (same_side_inside part.x, h, same_side_inside part.z)
 smaller_side (suc (suc n)) part s h = (same_side_inside part.x, same_side_inside part.y, h)
 
-cut_side : (low : Bool) (s : Side) (bound : ℤ) → IsProperBound low s bound → IsSideInside (side_left low s bound) s
+cut_side : (low : Bool) (s : Side) (bound : ℤ) → IsProperBound low s bound
+    → IsSideInside (side_left low s bound) s
 cut_side true s bound h = (omega (arith, ints, h.0), omega (arith, ints))
 cut_side false s bound h = (omega (arith, ints), omega (arith, ints, h.1))
 
-cut_inside : (face : ℕ) (bound : ℤ) (part : GridBox) → IsProperCut face bound part → IsInside (left_by_cut face bound part) part
+cut_inside : (face : ℕ) (bound : ℤ) (part : GridBox) → IsProperCut face bound part
+    → IsInside (left_by_cut face bound part) part
 cut_inside face bound part proper = smaller_side (axis_of face) part (side_left (is_low face) (side_at (axis_of face) part) bound)
     (cut_side (is_low face) (side_at (axis_of face) part) bound proper)
 
-cuts_inside : (test : BoxTest) (id : ℕ) (part : GridBox) (steps : List ShownStep) (left : GridBox) → AreCutsInTurn test id part steps left → IsInside left part
+cuts_inside : (test : BoxTest) (id : ℕ) (part : GridBox) (steps : List ShownStep) (left : GridBox)
+    → AreCutsInTurn test id part steps left → IsInside left part
 cuts_inside test id part [] left same = subst (λ (c : GridBox). IsInside c part) (sym same) (same_inside part)
 cuts_inside test id part (shown ∷ more) left (face, bound, may, is, later) =
     inside_through left (left_by_cut face bound part) part (cuts_inside test id (left_by_cut face bound part) more left later) (cut_inside face bound part may.0)
 
-opened_inside : (test : BoxTest) (rules : Rules) (splits id : ℕ) (part : GridBox) (step : Step) → Closes test rules splits id part step → AllInside (opened_by splits step part) part
+opened_inside : (test : BoxTest) (rules : Rules) (splits id : ℕ) (part : GridBox) (step : Step)
+    → Closes test rules splits id part step → AllInside (opened_by splits step part) part
 opened_inside test rules splits id part (Outside n) ends = tt
 opened_inside test rules splits id part (Inside n clock lo hi) ends = tt
 opened_inside test rules splits id part (Edge n lo hi) ends = tt
@@ -84,14 +92,17 @@ opened_inside test rules splits id part (Split n axis) (n_is, undecided, may, lo
 opened_inside test rules splits id part (Cut n face bound) ends = absurd ends
 
 -- the next box lies in the root, and so do the others
-next_inside : (root : GridBox) (waiting : List WaitingBox) (next : WaitingBox) (rest : List WaitingBox) → IsNext waiting next rest → AllInside waiting root → IsInside next.part root × AllInside rest root
+next_inside : (root : GridBox) (waiting : List WaitingBox) (next : WaitingBox) (rest : List WaitingBox)
+    → IsNext waiting next rest → AllInside waiting root
+    → IsInside next.part root × AllInside rest root
 next_inside root waiting next rest is all =
     let (before, behind) = all_parts is.before (next ∷ is.behind) root (subst (λ (l : List WaitingBox). AllInside l root) is.all_waiting all) in
     (behind.0, subst (λ (l : List WaitingBox). AllInside l root) (sym is.others) (all_both is.before is.behind root before behind.1))
 
 -- and behind the steps of a box
 pub turn_inside : (rules : Rules) (root : GridBox) (paving : Paving) (next : WaitingBox) (rest : List WaitingBox) (turn : Turn)
-    → IsNext paving.waiting next rest → AreStepsOf paving.test rules paving.splits next turn.steps → AllInside paving.waiting root
+    → IsNext paving.waiting next rest → AreStepsOf paving.test rules paving.splits next turn.steps
+    → AllInside paving.waiting root
     → AllInside (worked_on paving rest turn).waiting root
 turn_inside rules root paving next rest turn is are all =
     let (here, others) = next_inside root paving.waiting next rest is all in
@@ -101,14 +112,16 @@ turn_inside rules root paving next rest turn is are all =
 
 -- ---- rows that are renewed pass their tests
 
-parts_inside : (id : ℕ) (waiting : List WaitingBox) (whole : GridBox) → AllInside waiting whole → AllByRecursion (λ (part : GridBox). IsInside part whole) (parts_with id waiting)
+parts_inside : (id : ℕ) (waiting : List WaitingBox) (whole : GridBox) → AllInside waiting whole
+    → AllByRecursion (λ (part : GridBox). IsInside part whole) (parts_with id waiting)
 parts_inside id [] whole h = tt
 parts_inside id (box ∷ waiting) whole h = elim (cases_eq box.id id) [
   | inl here ↦ subst (AllByRecursion (λ (part : GridBox). IsInside part whole)) (sym (with_yes box id waiting here)) (h.0, parts_inside id waiting whole h.1)
   | inr apart ↦ subst (AllByRecursion (λ (part : GridBox). IsInside part whole)) (sym (with_no box id waiting apart)) (parts_inside id waiting whole h.1)
 ]
 
-live_inside : (waiting : List WaitingBox) (live : List (Option GridBox)) (whole : GridBox) (id : ℕ) (part : GridBox) → AreLive waiting live → AllInside waiting whole
+live_inside : (waiting : List WaitingBox) (live : List (Option GridBox)) (whole : GridBox) (id : ℕ) (part : GridBox)
+    → AreLive waiting live → AllInside waiting whole
     → get_or live id None ≡ Some part → IsInside part whole
 live_inside waiting live whole id part are all is =
     (subst (AllByRecursion (λ (c : GridBox). IsInside c whole)) (are id ∙ ap boxes_in is) (parts_inside id waiting whole all)).0
@@ -117,14 +130,17 @@ live_inside waiting live whole id part are all is =
 abbrev pub Suits : Maker → List Row → Type 0
 Suits maker firsts = maker.active ≡ true → (i : ℕ) (part : GridBox) (row : Row) → maker.gives i part row → IsOfPlace firsts i row
 
-lines_pass : (maker : Maker) (start : RowsOver) (j i : ℕ) (part : GridBox) (rows : List Row) → ((k : ℕ) (c : GridBox) (row : Row) → maker.gives k c row → IsOfPlace start.rows k row)
+lines_pass : (maker : Maker) (start : RowsOver) (j i : ℕ) (part : GridBox) (rows : List Row)
+    → ((k : ℕ) (c : GridBox) (row : Row) → maker.gives k c row → IsOfPlace start.rows k row)
     → GivesFrom maker i part rows → LinesPass AnyLine start j i rows
 lines_pass maker start j i part [] suits gives = tt
 lines_pass maker start j i part (row ∷ rows) suits gives =
     ((suits i part row gives.0, tt), lines_pass maker start j (suc i) part rows suits gives.1)
 
 renewal_passes : (maker : Maker) (start used new : RowsOver) (before splits j : ℕ) (waiting : List WaitingBox) (boxes : Subpaving)
-    → Suits maker start.rows → AreLive waiting boxes.live → AllInside waiting start.part → Renews maker used before splits waiting (Some new) → RenewalPasses AnyLine start j boxes new
+    → Suits maker start.rows → AreLive waiting boxes.live → AllInside waiting start.part
+    → Renews maker used before splits waiting (Some new)
+    → RenewalPasses AnyLine start j boxes new
 renewal_passes maker start used new before splits j waiting boxes suits are all (active, due, same, gives) = record {
   holds = record {
     in_root = due.is_hull.least start.part all;
@@ -136,13 +152,16 @@ renewal_passes maker start used new before splits j waiting boxes suits are all 
 -- ---- a whole run
 
 module _ (maker : Maker) (start : RowsOver) (rules : Rules) (done : ℕ) (suits : Suits maker start.rows) where
-  steps_then : (j : ℕ) (st : Stage) (xs : List ShownStep) (zs : List ShownEvent) → AllPass rules st xs → EventsPass AnyLine start rules done j (stage_after st xs) (events_of zs)
+  steps_then : (j : ℕ) (st : Stage) (xs : List ShownStep) (zs : List ShownEvent)
+      → AllPass rules st xs
+      → EventsPass AnyLine start rules done j (stage_after st xs) (events_of zs)
       → EventsPass AnyLine start rules done j st (events_of (map OfStep xs ++ zs))
   steps_then j st [] zs first later = later
   steps_then j st (x ∷ xs) zs (here, first) later = (here, steps_then j (after st (Made x.step)) xs zs first later)
 
   renewed_then : (used : RowsOver) (before splits j : ℕ) (waiting : List WaitingBox) (boxes : Subpaving) (test : BoxTest) (renewed : Option RowsOver) (zs : List ShownEvent)
-      → AreLive waiting boxes.live → AllInside waiting start.part → Renews maker used before splits waiting renewed
+      → AreLive waiting boxes.live → AllInside waiting start.part
+      → Renews maker used before splits waiting renewed
       → ((k : ℕ) → EventsPass AnyLine start rules done k (record { boxes = boxes; test = test_after test renewed }) (events_of zs))
       → EventsPass AnyLine start rules done j (record { boxes = boxes; test = test }) (events_of (shown_new renewed ++ zs))
   renewed_then used before splits j waiting boxes test None zs are all renews later = later j
@@ -150,7 +169,8 @@ module _ (maker : Maker) (start : RowsOver) (rules : Rules) (done : ℕ) (suits 
       (renewal_passes maker start used new before splits j waiting boxes suits are all renews, later (suc j))
 
   passes_from : (used : GridBox) (j : ℕ) (paving last : Paving) (boxes : Subpaving) (turns : List Turn)
-      → PavesTurns maker rules used paving turns last → AreBoxesOf paving boxes → AllInside paving.waiting start.part → last.waiting ≡ [] → last.splits ≡ done
+      → PavesTurns maker rules used paving turns last → AreBoxesOf paving boxes
+      → AllInside paving.waiting start.part → last.waiting ≡ [] → last.splits ≡ done
       → EventsPass AnyLine start rules done j (record { boxes = boxes; test = paving.test }) (events_of (joined_turns turns))
   passes_from used j paving last boxes [] paves is all none count = (
     λ id. none_from (live_box boxes id) (ap (parts_with id) (sym none) ∙ ap (λ p. parts_with id p.waiting) (sym paves) ∙ is.live id),
@@ -169,14 +189,16 @@ module _ (maker : Maker) (start : RowsOver) (rules : Rules) (done : ℕ) (suits 
 
 -- a whole run passes all tests: each step and each renewal does, no box is live at its end, and the
 -- splits are counted
-pub turns_pass : (maker : Maker) (test : BoxTest) (rules : Rules) (root : GridBox) (events : List ShownEvent) → Suits maker test.rows → (run : PavedTurns maker test rules root events)
+pub turns_pass : (maker : Maker) (test : BoxTest) (rules : Rules) (root : GridBox) (events : List ShownEvent)
+    → Suits maker test.rows → (run : PavedTurns maker test rules root events)
     → EventsPass AnyLine (rows_over root test.rows) rules run.last.splits 0 (first_stage test root) (events_of events)
 turns_pass maker test rules root events suits run = rw run.all_events
     (passes_from maker (rows_over root test.rows) rules run.last.splits suits root 0 (first_paving test root) run.last (first_boxes root) run.turns run.paves
     (first_are test root) (same_inside root, tt) run.none_waiting refl)
 
 -- so it partitions the root, and covers what fits
-pub turns_cover : (maker : Maker) (test : BoxTest) (rules : Rules) (root : GridBox) (events : List ShownEvent) → Suits maker test.rows → PavedTurns maker test rules root events
+pub turns_cover : (maker : Maker) (test : BoxTest) (rules : Rules) (root : GridBox) (events : List ShownEvent)
+    → Suits maker test.rows → PavedTurns maker test rules root events
     → EpochCover test.q (rows_over root test.rows) (events_of events)
 turns_cover maker test rules root events suits run =
     epoch_cover AnyLine rules run.last.splits test root (events_of events) (turns_pass maker test rules root events suits run)
@@ -198,13 +220,15 @@ splits_stay splits (Outside id) = omega arith
 splits_stay splits (Inside id clock lo hi) = omega arith
 splits_stay splits (Edge id lo hi) = omega arith
 
-digits_rise : (maker : Maker) (used : RowsOver) (before splits : ℕ) (waiting : List WaitingBox) (renewed : Option RowsOver) → before ≤ splits → Renews maker used before splits waiting renewed
+digits_rise : (maker : Maker) (used : RowsOver) (before splits : ℕ) (waiting : List WaitingBox) (renewed : Option RowsOver)
+    → before ≤ splits → Renews maker used before splits waiting renewed
     → new_count renewed + bit_length before ≤ bit_length splits
 digits_rise maker used before splits waiting None le renews = omega (arith, bits_mono before splits le)
 digits_rise maker used before splits waiting (Some new) le (active, due, same, gives) = omega (arith, one_more_digit before splits due.was_split due.power)
 
 -- each is at another power of two
-renewals_few : (maker : Maker) (rules : Rules) (used : GridBox) (paving last : Paving) (turns : List Turn) → PavesTurns maker rules used paving turns last
+renewals_few : (maker : Maker) (rules : Rules) (used : GridBox) (paving last : Paving) (turns : List Turn)
+    → PavesTurns maker rules used paving turns last
     → count_renewed turns + bit_length paving.splits ≤ bit_length last.splits
 renewals_few maker rules used paving last [] paves = omega (arith, ap (λ (p : Paving). bit_length p.splits) paves)
 renewals_few maker rules used paving last (turn ∷ turns) (next, rest, is, are, renews, later) =
@@ -215,5 +239,7 @@ renewals_few maker rules used paving last (turn ∷ turns) (next, rest, is, are,
     omega (arith, here, renewals_few maker rules (used_after used turn.renewed) (behind_turn paving rest turn) last turns later)
 
 -- so there are at most 18, since there are at most 200,000 splits
-pub renewals_most : (maker : Maker) (rules : Rules) (used : GridBox) (paving last : Paving) (turns : List Turn) → PavesTurns maker rules used paving turns last → last.splits ≤ 200000 → count_renewed turns ≤ 18
+pub renewals_most : (maker : Maker) (rules : Rules) (used : GridBox) (paving last : Paving) (turns : List Turn)
+    → PavesTurns maker rules used paving turns last → last.splits ≤ 200000
+    → count_renewed turns ≤ 18
 renewals_most maker rules used paving last turns paves most = omega (arith, renewals_few maker rules used paving last turns paves, bits_most last.splits 18 (omega (arith, most)))

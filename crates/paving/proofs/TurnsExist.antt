@@ -26,7 +26,8 @@ map_both [] ys = refl
 map_both (x ∷ xs) ys = ap (λ l. OfStep x ∷ l) (map_both xs ys)
 
 -- a box without a renewal behind it leaves the paving as its steps do
-same_paving : (paving : Paving) (rest : List WaitingBox) (own : List ShownStep) → behind_turn paving rest (without own) ≡ beyond_all (record paving { waiting = rest }) own
+same_paving : (paving : Paving) (rest : List WaitingBox) (own : List ShownStep)
+    → behind_turn paving rest (without own) ≡ beyond_all (record paving { waiting = rest }) own
 same_paving paving rest own =
     let now : Paving = beyond_all (record paving { waiting = rest }) own in
     let test : now.test ≡ paving.test = keeps_test (record paving { waiting = rest }) own in
@@ -39,12 +40,14 @@ true_false : (b : Bool) → b ≡ false → b ≡ true → ⊥
 true_false b e f = cc
 
 module _ (maker : Maker) (off : maker.active ≡ false) (rules : Rules) where
-  not_renewed : (used : RowsOver) (before splits : ℕ) (waiting : List WaitingBox) (renewed : Option RowsOver) → Renews maker used before splits waiting renewed → renewed ≡ None
+  not_renewed : (used : RowsOver) (before splits : ℕ) (waiting : List WaitingBox) (renewed : Option RowsOver)
+      → Renews maker used before splits waiting renewed → renewed ≡ None
   not_renewed used before splits waiting None renews = refl
   not_renewed used before splits waiting (Some new) renews = absurd (true_false maker.active off renews.0)
 
   -- the turns of a run are boxes alone
-  boxes_alone : (used : GridBox) (paving last : Paving) (turns : List Turn) → PavesTurns maker rules used paving turns last
+  boxes_alone : (used : GridBox) (paving last : Paving) (turns : List Turn)
+      → PavesTurns maker rules used paving turns last
       → PavesTo rules paving (steps_of_turns turns) last × (joined_turns turns ≡ map OfStep (joined (steps_of_turns turns)))
   boxes_alone used paving last [] paves = (paves, refl)
   boxes_alone used paving last (turn ∷ turns) (next, rest, n, are, renews, later) =
@@ -58,7 +61,8 @@ module _ (maker : Maker) (off : maker.active ≡ false) (rules : Rules) where
       )
 
   -- and boxes alone are turns of a run
-  turns_alone : (used : GridBox) (paving last : Paving) (boxes : List (List ShownStep)) → PavesTo rules paving boxes last
+  turns_alone : (used : GridBox) (paving last : Paving) (boxes : List (List ShownStep))
+      → PavesTo rules paving boxes last
       → PavesTurns maker rules used paving (map without boxes) last × (joined_turns (map without boxes) ≡ map OfStep (joined boxes))
   turns_alone used paving last [] paves = (paves, refl)
   turns_alone used paving last (own ∷ boxes) (next, rest, n, are, later) =
@@ -74,8 +78,10 @@ module _ (maker : Maker) (off : maker.active ≡ false) (rules : Rules) where
         ap (λ l. map OfStep own ++ l) others.1 ∙ sym (map_both own (joined boxes)),
       )
 
-  rest_of : (test : BoxTest) (root : Box3) (boxes : List (List ShownStep)) (paving : Paving) (steps : List ShownStep) → test.q < length test.rows
-      → PavesTo rules (first_paving test (grid_box root)) boxes paving → BeginsBox rules paving steps
+  rest_of : (test : BoxTest) (root : Box3) (boxes : List (List ShownStep)) (paving : Paving) (steps : List ShownStep)
+      → test.q < length test.rows
+      → PavesTo rules (first_paving test (grid_box root)) boxes paving
+      → BeginsBox rules paving steps
       → (more : List ShownStep) × Paved test rules (grid_box root) ((joined boxes ++ steps) ++ more)
   rest_of test root boxes paving [] enough paves begun =
       let (more, whole) = begins_run test rules root boxes paving enough paves in
@@ -95,7 +101,8 @@ module _ (maker : Maker) (off : maker.active ≡ false) (rules : Rules) where
       })
 
   -- the first steps of a run go on to those of a whole one
-  pub turns_go_on : (test : BoxTest) (root : Box3) (events : List ShownEvent) → test.q < length test.rows → TurnsBegun maker test rules (grid_box root) events
+  pub turns_go_on : (test : BoxTest) (root : Box3) (events : List ShownEvent)
+      → test.q < length test.rows → TurnsBegun maker test rules (grid_box root) events
       → (more : List ShownStep) × PavedTurns maker test rules (grid_box root) (events ++ map OfStep more)
   turns_go_on test root events enough b =
       let start : Paving = first_paving test (grid_box root) in
@@ -115,7 +122,8 @@ module _ (maker : Maker) (off : maker.active ≡ false) (rules : Rules) where
       )
 
   -- a whole run is its steps alone
-  pub run_alone : (test : BoxTest) (root : GridBox) (events : List ShownEvent) → (run : PavedTurns maker test rules root events)
+  pub run_alone : (test : BoxTest) (root : GridBox) (events : List ShownEvent)
+      → (run : PavedTurns maker test rules root events)
       → (steps : List ShownStep) × (alone : Paved test rules root steps) × (alone.last ≡ run.last) × (events ≡ map OfStep steps)
   run_alone test root events run =
       let alone = boxes_alone root (first_paving test root) run.last run.turns run.paves in (

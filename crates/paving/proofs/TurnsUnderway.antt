@@ -50,7 +50,8 @@ pub record AreTurnsUnderway {L : Type 0} (took : L → Step → GridBox → L �
 
 -- a run goes on by one box
 pub paves_more : (maker : Maker) (rules : Rules) (used : GridBox) (start middle : Paving) (turns : List Turn) (next : WaitingBox) (rest : List WaitingBox) (turn : Turn)
-    → PavesTurns maker rules used start turns middle → IsNext middle.waiting next rest → AreStepsOf middle.test rules middle.splits next turn.steps
+    → PavesTurns maker rules used start turns middle → IsNext middle.waiting next rest
+    → AreStepsOf middle.test rules middle.splits next turn.steps
     → Renews maker (rows_over (used_behind used turns) middle.test.rows) middle.splits (worked_on middle rest turn).splits (worked_on middle rest turn).waiting turn.renewed
     → PavesTurns maker rules used start (turns ++ turn ∷ []) (behind_turn middle rest turn)
 paves_more maker rules used start middle [] next rest turn paves is own_is renews =
@@ -67,7 +68,8 @@ used_more used (first ∷ turns) turn = used_more (used_after used first.renewed
 abbrev pub turn_events : Turn → List ShownEvent
 turn_events turn = map OfStep turn.steps ++ shown_new turn.renewed
 
-pub turns_more : (turns : List Turn) (turn : Turn) → joined_turns (turns ++ turn ∷ []) ≡ joined_turns turns ++ turn_events turn
+pub turns_more : (turns : List Turn) (turn : Turn)
+    → joined_turns (turns ++ turn ∷ []) ≡ joined_turns turns ++ turn_events turn
 turns_more [] turn = ap (λ l. map OfStep turn.steps ++ l) (append-nil (shown_new turn.renewed))
 turns_more (first ∷ turns) turn =
     ap (λ l. map OfStep first.steps ++ (shown_new first.renewed ++ l)) (turns_more turns turn)
@@ -92,16 +94,20 @@ turn_steps turn = steps_both (map OfStep turn.steps) (shown_new turn.renewed) �
     ∙ ap (λ l. turn.steps ++ l) (no_steps turn.renewed) ∙ append-nil turn.steps
 
 module _ {L : Type 0} (took : L → Step → GridBox → L → Type 0) (took_rows : L → RowsOver → L → Type 0) where
-  pub events_both : (xs ys : List ShownEvent) (first middle last : L) → TookEvents took took_rows first xs middle → TookEvents took took_rows middle ys last → TookEvents took took_rows first (xs ++ ys) last
+  pub events_both : (xs ys : List ShownEvent) (first middle last : L)
+      → TookEvents took took_rows first xs middle → TookEvents took took_rows middle ys last
+      → TookEvents took took_rows first (xs ++ ys) last
   events_both [] ys first middle last f g = subst (λ l. TookEvents took took_rows l ys last) (sym f) g
   events_both (OfStep shown ∷ xs) ys first middle last (next, t, f) g = (next, t, events_both xs ys next middle last f g)
   events_both (OfRows new ∷ xs) ys first middle last (next, t, f) g = (next, t, events_both xs ys next middle last f g)
 
-  pub of_steps : (steps : List ShownStep) (first last : L) → TookAll took first steps last → TookEvents took took_rows first (map OfStep steps) last
+  pub of_steps : (steps : List ShownStep) (first last : L) → TookAll took first steps last
+      → TookEvents took took_rows first (map OfStep steps) last
   of_steps [] first last f = f
   of_steps (shown ∷ steps) first last (next, t, f) = (next, t, of_steps steps next last f)
 
-  pub of_new : (renewed : Option RowsOver) (first last : L) → TookNew took_rows first renewed last → TookEvents took took_rows first (shown_new renewed) last
+  pub of_new : (renewed : Option RowsOver) (first last : L) → TookNew took_rows first renewed last
+      → TookEvents took took_rows first (shown_new renewed) last
   of_new None first last f = f
   of_new (Some new) first last f = (last, f, refl)
 
@@ -112,12 +118,15 @@ used_then : (used : RowsOver) (part : GridBox) (test : BoxTest) (renewed : Optio
 used_then used part test None is = is
 used_then used part test (Some new) is = refl
 
-tested_then : (now test : BoxTest) (used : RowsOver) (renewed : Option RowsOver) → now ≡ test_by test used.rows → test_after now renewed ≡ test_by test (used_with used renewed).rows
+tested_then : (now test : BoxTest) (used : RowsOver) (renewed : Option RowsOver)
+    → now ≡ test_by test used.rows
+    → test_after now renewed ≡ test_by test (used_with used renewed).rows
 tested_then now test used None is = is
 tested_then now test used (Some new) is = ap (λ (t : BoxTest). test_by t new.rows) is
 
 -- they are as many
-as_many : (maker : Maker) (used : RowsOver) (before splits : ℕ) (waiting : List WaitingBox) (renewed : Option RowsOver) → Renews maker used before splits waiting renewed
+as_many : (maker : Maker) (used : RowsOver) (before splits : ℕ) (waiting : List WaitingBox) (renewed : Option RowsOver)
+    → Renews maker used before splits waiting renewed
     → length (used_with used renewed).rows ≡ length used.rows
 as_many maker used before splits waiting None renews = refl
 as_many maker used before splits waiting (Some new) (active, due, same, gives) = same
@@ -125,7 +134,8 @@ as_many maker used before splits waiting (Some new) (active, due, same, gives) =
 -- ---- the root waits alone
 
 pub first_turns : {L : Type 0} (took : L → Step → GridBox → L → Type 0) (took_rows : L → RowsOver → L → Type 0) (maker : Maker) (test : BoxTest) (rules : Rules) (root : GridBox) (log : L) (lists : List (List Item)) (spare : ℕ) (counts : Counts)
-    → counts.inside ≡ 0 → counts.edge ≡ 0 → counts.outside ≡ 0 → counts.bisections ≡ 0 → IsQueued (first_paving test root).waiting lists → spare + 1 ≡ rules.bisections + 1
+    → counts.inside ≡ 0 → counts.edge ≡ 0 → counts.outside ≡ 0 → counts.bisections ≡ 0
+    → IsQueued (first_paving test root).waiting lists → spare + 1 ≡ rules.bisections + 1
     → AreTurnsUnderway took took_rows maker test rules root log log lists spare counts (rows_over root test.rows)
 first_turns took took_rows maker test rules root log lists spare counts inside edge outside splits queued room = record {
   turns = [];
@@ -148,8 +158,10 @@ first_turns took took_rows maker test rules root log lists spare counts inside e
 -- ---- a box is done
 
 -- the halves of a box have room
-room_for : (test : BoxTest) (rules : Rules) (splits id : ℕ) (step : Step) (part : GridBox) (boxes spare waiting : ℕ) → Closes test rules splits id part step
-    → waiting + boxes ≡ 2 * splits + 1 → spare + waiting ≡ rules.bisections + 1 → splits ≤ boxes → opened_count step ≤ spare + 1
+room_for : (test : BoxTest) (rules : Rules) (splits id : ℕ) (step : Step) (part : GridBox) (boxes spare waiting : ℕ)
+    → Closes test rules splits id part step
+    → waiting + boxes ≡ 2 * splits + 1 → spare + waiting ≡ rules.bisections + 1 → splits ≤ boxes
+    → opened_count step ≤ spare + 1
 room_for test rules splits id (Inside n clock lo hi) part boxes spare waiting ends opened spared few = omega arith
 room_for test rules splits id (Edge n lo hi) part boxes spare waiting ends opened spared few = omega arith
 room_for test rules splits id (Outside n) part boxes spare waiting ends opened spared few = omega arith
@@ -208,13 +220,15 @@ module _ {L : Type 0} (took : L → Step → GridBox → L → Type 0) (took_row
   then_inside = subst (λ (w : List WaitingBox). AllInside w root) waits_then
       (turn_inside rules root u.paving (box_of next) hand.rest (record { steps = own; renewed = None }) hand.is_next are_own u.inside)
 
-  splits_then : (left : ℕ) (after : Counts) → ended.cuts ≤ 1800 → left + opened_count ended.step ≡ spare + 1 → after ≡ counts_with_box counts ended
+  splits_then : (left : ℕ) (after : Counts) → ended.cuts ≤ 1800
+      → left + opened_count ended.step ≡ spare + 1 → after ≡ counts_with_box counts ended
       → (beyond_all rested own).splits ≡ after.bisections
   splits_then left after few change same =
       ap (λ (p : Paving). p.splits) beyond_own ∙ (turn_goes_on left few change).splits_is ∙ sym (ap (λ (k : Counts). k.bisections) same)
 
   -- what is renewed is so by the paving that is underway
-  pub renews_underway : (left : ℕ) (after : Counts) (renewed : Option RowsOver) → ended.cuts ≤ 1800 → left + opened_count ended.step ≡ spare + 1 → after ≡ counts_with_box counts ended
+  pub renews_underway : (left : ℕ) (after : Counts) (renewed : Option RowsOver) → ended.cuts ≤ 1800
+      → left + opened_count ended.step ≡ spare + 1 → after ≡ counts_with_box counts ended
       → Renews maker used counts.bisections after.bisections waiting_then renewed
       → Renews maker (rows_over (used_behind root u.turns) u.paving.test.rows) u.paving.splits (beyond_all rested own).splits (beyond_all rested own).waiting renewed
   renews_underway left after renewed few change same renews =
@@ -224,7 +238,8 @@ module _ {L : Type 0} (took : L → Step → GridBox → L → Type 0) (took_row
       let by_splits = subst (λ (s : ℕ). Renews maker (rows_over (used_behind root u.turns) u.paving.test.rows) u.paving.splits s waiting_then renewed) (sym (splits_then left after few change same)) by_before in
       subst (λ (w : List WaitingBox). Renews maker (rows_over (used_behind root u.turns) u.paving.test.rows) u.paving.splits (beyond_all rested own).splits w renewed) (sym waits_then) by_splits
 
-  pub more_turns : (new : List (List Item)) (left : ℕ) (after : Counts) (last : L) (used_now : RowsOver) → ended.cuts ≤ 1800 → left + opened_count ended.step ≡ spare + 1
+  pub more_turns : (new : List (List Item)) (left : ℕ) (after : Counts) (last : L) (used_now : RowsOver)
+      → ended.cuts ≤ 1800 → left + opened_count ended.step ≡ spare + 1
       → ((waiting : List WaitingBox) → IsQueued waiting mid → IsQueued (waiting ++ opened_by counts.bisections ended.step (grid_box ended.left)) new)
       → after ≡ counts_with_box counts ended
       → RenewedTo took_rows maker counts.bisections after.bisections waiting_then used used_now worked last
@@ -261,7 +276,8 @@ module _ {L : Type 0} (took : L → Step → GridBox → L → Type 0) (took_row
       }
 
   -- of the 2 * bisections + 1 boxes that there may be, one is left less
-  pub turns_left : (left : ℕ) (after : Counts) → ended.cuts ≤ 1800 → left + opened_count ended.step ≡ spare + 1
+  pub turns_left : (left : ℕ) (after : Counts) → ended.cuts ≤ 1800
+      → left + opened_count ended.step ≡ spare + 1
       → after ≡ counts_with_box counts ended
       → 3 * rules.bisections + 1 - (2 * after.bisections + left) < 3 * rules.bisections + 1 - (2 * counts.bisections + spare)
   turns_left left after few change same =

@@ -30,10 +30,12 @@ pub record AreFew (counts : Counts) (boxes : ℕ) : Type 0 where
   pub outside : counts.outside ≤ 1801 * boxes
   pub splits : counts.bisections ≤ boxes
 
-count_yes : (p : ShownStep → Bool) (xs : List ShownStep) (x : ShownStep) (n : ℕ) → n ≡ count_by p xs → p x ≡ true → n + 1 ≡ count_by p (xs ++ x ∷ [])
+count_yes : (p : ShownStep → Bool) (xs : List ShownStep) (x : ShownStep) (n : ℕ) → n ≡ count_by p xs
+    → p x ≡ true → n + 1 ≡ count_by p (xs ++ x ∷ [])
 count_yes p xs x n e yes_x = omega (arith, e, sum_by-append (λ y. cond (p y) 1 0) xs (x ∷ []), sum_by-cons (λ y. cond (p y) 1 0) x [], ap {B = ℕ} (λ (b : Bool). cond b 1 0) yes_x)
 
-count_no : (p : ShownStep → Bool) (xs : List ShownStep) (x : ShownStep) (n : ℕ) → n ≡ count_by p xs → p x ≡ false → n ≡ count_by p (xs ++ x ∷ [])
+count_no : (p : ShownStep → Bool) (xs : List ShownStep) (x : ShownStep) (n : ℕ) → n ≡ count_by p xs
+    → p x ≡ false → n ≡ count_by p (xs ++ x ∷ [])
 count_no p xs x n e no_x = omega (arith, e, sum_by-append (λ y. cond (p y) 1 0) xs (x ∷ []), sum_by-cons (λ y. cond (p y) 1 0) x [], ap {B = ℕ} (λ (b : Bool). cond b 1 0) no_x)
 
 abbrev inside_in : ShownStep → Bool
@@ -48,7 +50,8 @@ outside_in shown = is_outside shown.step
 abbrev split_in : ShownStep → Bool
 split_in shown = is_split shown.step
 
-pub counted_more : (counts : Counts) (steps : List ShownStep) (step : Step) (part : GridBox) → IsCountOf counts steps
+pub counted_more : (counts : Counts) (steps : List ShownStep) (step : Step) (part : GridBox)
+    → IsCountOf counts steps
     → IsCountOf (counts_after counts step) (steps ++ (record { step = step; part = part }) ∷ [])
 counted_more counts steps (Inside id clock lo hi) part c = record {
   inside = count_yes inside_in steps _ _ c.inside refl;
@@ -82,7 +85,8 @@ counted_more counts steps (Split id axis) part c = record {
 }
 
 -- the steps of a box are counted
-pub counted_box : (test : BoxTest) (id : ℕ) (part : GridBox) (counts : Counts) (ended : Ended) (steps cuts : List ShownStep) → ended.cuts ≡ length cuts
+pub counted_box : (test : BoxTest) (id : ℕ) (part : GridBox) (counts : Counts) (ended : Ended) (steps cuts : List ShownStep)
+    → ended.cuts ≡ length cuts
     → AreCutsInTurn test id part cuts (grid_box ended.left) → IsCountOf counts steps
     → IsCountOf (counts_after (counts_with_cuts counts ended.cuts) ended.step) (steps ++ (cuts ++ last_of ended ∷ []))
 counted_box test id part counts ended steps cuts many in_turn c =
@@ -90,7 +94,8 @@ counted_box test id part counts ended steps cuts many in_turn c =
     (counted_more (counts_with_cuts counts ended.cuts) (steps ++ cuts) ended.step (grid_box ended.left)
     (subst (λ (n : ℕ). IsCountOf (counts_with_cuts counts n) (steps ++ cuts)) (sym many) (counted_cuts test id part (grid_box ended.left) counts steps cuts in_turn c)))
 
-one_less : (waiting : List WaitingBox) (next : WaitingBox) (rest : List WaitingBox) → IsNext waiting next rest → length waiting ≡ length rest + 1
+one_less : (waiting : List WaitingBox) (next : WaitingBox) (rest : List WaitingBox)
+    → IsNext waiting next rest → length waiting ≡ length rest + 1
 one_less waiting next rest n = omega (arith, ap length n.all_waiting, ap length n.others, length-append n.before (next ∷ n.behind), length-append n.before n.behind)
 
 -- ---- the box in hand
@@ -101,7 +106,8 @@ pub record IsInHand (waiting : List WaitingBox) (next : Item) (lists : List (Lis
   pub queued : IsQueued rest lists
   pub one_less : length waiting ≡ length rest + 1
 
-pub in_hand : (waiting : List WaitingBox) (old new : List (List Item)) (next : Item) → IsQueued waiting old → Takes old (Some next) new → IsInHand waiting next new
+pub in_hand : (waiting : List WaitingBox) (old new : List (List Item)) (next : Item)
+    → IsQueued waiting old → Takes old (Some next) new → IsInHand waiting next new
 in_hand waiting old new next queued takes =
     let (rest, is_next, others) = takes waiting queued in
     record { rest = rest; is_next = is_next; queued = others; one_less = one_less waiting (box_of next) rest is_next }
@@ -127,7 +133,8 @@ pub record GoesOn (rules : Rules) (rest : List WaitingBox) (splits : ℕ) (step 
 
 pub goes_on : (test : BoxTest) (rules : Rules) (rest : List WaitingBox) (splits id : ℕ) (step : Step) (part : GridBox) (boxes spare left cuts : ℕ) (counts : Counts)
     → Closes test rules splits id part step → splits ≡ counts.bisections → cuts ≤ 1800
-    → length rest + 1 + boxes ≡ 2 * counts.bisections + 1 → spare + (length rest + 1) ≡ rules.bisections + 1 → left + opened_count step ≡ spare + 1
+    → length rest + 1 + boxes ≡ 2 * counts.bisections + 1
+    → spare + (length rest + 1) ≡ rules.bisections + 1 → left + opened_count step ≡ spare + 1
     → AreFew counts boxes → counts.bisections ≤ rules.bisections
     → GoesOn rules rest splits step part boxes left (counts_after (counts_with_cuts counts cuts) step)
 goes_on test rules rest splits id (Inside n clock lo hi) part boxes spare left cuts counts ends same few_cuts opened spared change few within = record {
@@ -161,7 +168,8 @@ goes_on test rules rest splits id (Split n axis) part boxes spare left cuts coun
 goes_on test rules rest splits id (Cut n face bound) part boxes spare left cuts counts ends same few_cuts opened spared change few within = absurd ends
 
 -- a box that is split has two points at least on its longest side
-pub can_open : (test : BoxTest) (rules : Rules) (splits id : ℕ) (step : Step) (part : GridBox) → Closes test rules splits id part step → CanOpen step part
+pub can_open : (test : BoxTest) (rules : Rules) (splits id : ℕ) (step : Step) (part : GridBox)
+    → Closes test rules splits id part step → CanOpen step part
 can_open test rules splits id (Split n axis) part (is, undecided, may, longest) =
     omega (arith, ints, above_is (side_at axis part).hi (side_at axis part).lo, longest.longest, may.0, rules.wide)
 can_open test rules splits id (Outside n) part ends = tt

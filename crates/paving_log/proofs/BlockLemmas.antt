@@ -31,14 +31,19 @@ use Rattle.paving_log.proofs.OrderLemmas.{only_true, only_place}
 
 -- ---- where a line leads
 
-pub behind_step : (renews : Bool) (n : ℕ) (s : Step) (to : Place) → next (place.Steps renews n 0) (line.Step s) ≡ Some to → to ≡ place.Steps renews n 0
+pub behind_step : (renews : Bool) (n : ℕ) (s : Step) (to : Place)
+    → next (place.Steps renews n 0) (line.Step s) ≡ Some to → to ≡ place.Steps renews n 0
 behind_step renews n s to e = only_place true (place.Steps renews n 0) to e
 
-pub behind_row : (renews : Bool) (n left : ℕ) (row : Row) (to : Place) → next (place.Steps renews n left) (line.Sat (entry.Row row)) ≡ Some to → to ≡ place.Steps renews n (left - 1)
+pub behind_row : (renews : Bool) (n left : ℕ) (row : Row) (to : Place)
+    → next (place.Steps renews n left) (line.Sat (entry.Row row)) ≡ Some to
+    → to ≡ place.Steps renews n (left - 1)
 behind_row renews n left row to e = only_place (nat_lt 0 left) (place.Steps renews n (left - 1)) to e
 
 -- a renewal comes where rows may be renewed
-pub behind_renew : (renews : Bool) (n : ℕ) (c : Corners) (to : Place) → next (place.Steps renews n 0) (line.Renew c) ≡ Some to → (renews ≡ true) × (to ≡ place.Steps renews n n)
+pub behind_renew : (renews : Bool) (n : ℕ) (c : Corners) (to : Place)
+    → next (place.Steps renews n 0) (line.Renew c) ≡ Some to
+    → (renews ≡ true) × (to ≡ place.Steps renews n n)
 behind_renew true n c to e = (refl, only_place true (place.Steps true n n) to e)
 behind_renew false n c to e = cc
 
@@ -47,7 +52,8 @@ pub record IsVersion (k : Kind) (l : LogLine) (to : Place) : Type 0 where
   pub line : l ≡ line.Version version
   pub place : to ≡ place.Second (form_of k version)
 
-pub behind_first : (k : Kind) (l : LogLine) (to : Place) → next (place.First k) l ≡ Some to → IsVersion k l to
+pub behind_first : (k : Kind) (l : LogLine) (to : Place) → next (place.First k) l ≡ Some to
+    → IsVersion k l to
 behind_first k (line.Version version) to e = record { version = version; line = refl; place = only_place (has_version k version) (place.Second (form_of k version)) to e }
 behind_first k _ to e = cc
 
@@ -59,7 +65,9 @@ pub record IsOneMore (k : ℕ) (after to : Place) : Type 0 where
 one_more : (k : ℕ) (after to : Place) → only_if (nat_lt k 64) after ≡ Some to → IsOneMore k after to
 one_more k after to e = record { below = ltb-true k 64 (only_true (nat_lt k 64) after to e); place = only_place (nat_lt k 64) after to e }
 
-pub behind_sat : (f : Form) (n k : ℕ) (e : SatEntry) (to : Place) → next (place.Satellites f n k) (line.Sat e) ≡ Some to → IsOneMore k (place.Satellites f n (k + 1)) to
+pub behind_sat : (f : Form) (n k : ℕ) (e : SatEntry) (to : Place)
+    → next (place.Satellites f n k) (line.Sat e) ≡ Some to
+    → IsOneMore k (place.Satellites f n (k + 1)) to
 behind_sat f n k e to is = one_more k (place.Satellites f n (k + 1)) to is
 
 -- one more satellite line of a block of few is a skipped one
@@ -67,25 +75,30 @@ pub record IsOneFew (f : Form) (k : ℕ) (e : SatEntry) (to : Place) : Type 0 wh
   pub more : IsOneMore k (place.Few f (k + 1)) to
   pub skipped : IsSkipped e
 
-pub behind_few : (f : Form) (k : ℕ) (e : SatEntry) (to : Place) → next (place.Few f k) (line.Sat e) ≡ Some to → IsOneFew f k e to
+pub behind_few : (f : Form) (k : ℕ) (e : SatEntry) (to : Place)
+    → next (place.Few f k) (line.Sat e) ≡ Some to → IsOneFew f k e to
 behind_few f k (entry.Row r) to e = cc
 behind_few f k (entry.Skipped sat skip) to e = record { more = one_more k (place.Few f (k + 1)) to e; skipped = tt }
 
 -- the same lines, said by another place, and by another first line
-pub takes_one : (at at' : Place) (old : Lines) (l l' : LogLine) (to to' : Place) (new : Lines) → at ≡ at' → l ≡ l' → to ≡ to' → Takes at old (l ∷ []) to new → Takes at' old (l' ∷ []) to' new
+pub takes_one : (at at' : Place) (old : Lines) (l l' : LogLine) (to to' : Place) (new : Lines)
+    → at ≡ at' → l ≡ l' → to ≡ to' → Takes at old (l ∷ []) to new → Takes at' old (l' ∷ []) to' new
 takes_one at at' old l l' to to' new e f g taken =
     subst (λ (p : Place). Takes p old (l' ∷ []) to' new) e
     (subst (λ (m : LogLine). Takes at old (m ∷ []) to' new) f
     (subst (λ (p : Place). Takes at old (l ∷ []) p new) g taken))
 
 -- where a single line that was taken leads
-pub leads_to : (at : Place) (old : Lines) (l : LogLine) (to : Place) (new : Lines) → Takes at old (l ∷ []) to new → next at l ≡ Some to
+pub leads_to : (at : Place) (old : Lines) (l : LogLine) (to : Place) (new : Lines)
+    → Takes at old (l ∷ []) to new → next at l ≡ Some to
 leads_to at old l to new taken = taken.leads.2 ∙ ap (λ (p : Place). Some p) taken.leads.3
 
 -- ---- satellite lines
 
 pub sat_taken : (f : Form) (n : ℕ) (start old new : Lines) (sats pushed : List SatEntry) (e : SatEntry) (l : LogLine) (k : ℕ) (to : Place)
-    → Takes (place.Satellites f n 0) start (map line.Sat sats) (place.Satellites f n (length sats)) old → k ≡ length sats → l ≡ line.Sat e → Takes (place.Satellites f n k) old (l ∷ []) to new → pushed ≡ sats ++ e ∷ []
+    → Takes (place.Satellites f n 0) start (map line.Sat sats) (place.Satellites f n (length sats)) old
+    → k ≡ length sats → l ≡ line.Sat e → Takes (place.Satellites f n k) old (l ∷ []) to new
+    → pushed ≡ sats ++ e ∷ []
     → Takes (place.Satellites f n 0) start (map line.Sat pushed) (place.Satellites f n (length pushed)) new × (length pushed ≤ 64)
 sat_taken f n start old new sats pushed e l k to before count is taken push =
     let one : Takes (place.Satellites f n (length sats)) old (line.Sat e ∷ []) to new = takes_one _ _ old l (line.Sat e) to to new (ap (place.Satellites f n) count) is refl taken in
@@ -99,7 +112,9 @@ sat_taken f n start old new sats pushed e l k to before count is taken push =
     )
 
 pub root_taken : (f : Form) (n : ℕ) (start old new : Lines) (sats : List SatEntry) (corners : Corners) (l : LogLine) (k : ℕ) (to : Place)
-    → Takes (place.Satellites f n 0) start (map line.Sat sats) (place.Satellites f n (length sats)) old → k ≡ length sats → l ≡ line.Root corners → Takes (place.Satellites f n k) old (l ∷ []) to new
+    → Takes (place.Satellites f n 0) start (map line.Sat sats) (place.Satellites f n (length sats)) old
+    → k ≡ length sats → l ≡ line.Root corners
+    → Takes (place.Satellites f n k) old (l ∷ []) to new
     → Takes (place.Satellites f n 0) start (map line.Sat sats ++ line.Root corners ∷ []) (place_behind_root f n) new
 root_taken f n start old new sats corners l k to before count is taken =
     let one : Takes (place.Satellites f n (length sats)) old (line.Root corners ∷ []) to new = takes_one _ _ old l (line.Root corners) to to new (ap (place.Satellites f n) count) is refl taken in
@@ -109,7 +124,9 @@ root_taken f n start old new sats corners l k to before count is taken =
     (takes_on _ _ _ start old new (map line.Sat sats) (line.Root corners ∷ []) before one)
 
 pub skip_taken : (f : Form) (start old new : Lines) (sats pushed : List SatEntry) (e : SatEntry) (l : LogLine) (k : ℕ) (to : Place)
-    → Takes (place.Few f 0) start (map line.Sat sats) (place.Few f (length sats)) old → k ≡ length sats → l ≡ line.Sat e → Takes (place.Few f k) old (l ∷ []) to new → pushed ≡ sats ++ e ∷ []
+    → Takes (place.Few f 0) start (map line.Sat sats) (place.Few f (length sats)) old
+    → k ≡ length sats → l ≡ line.Sat e → Takes (place.Few f k) old (l ∷ []) to new
+    → pushed ≡ sats ++ e ∷ []
     → Takes (place.Few f 0) start (map line.Sat pushed) (place.Few f (length pushed)) new × (length pushed ≤ 64)
 skip_taken f start old new sats pushed e l k to before count is taken push =
     let one : Takes (place.Few f (length sats)) old (line.Sat e ∷ []) to new = takes_one _ _ old l (line.Sat e) to to new (ap (place.Few f) count) is refl taken in
@@ -124,7 +141,9 @@ skip_taken f start old new sats pushed e l k to before count is taken push =
 
 -- the first line of a block, behind the satellite lines of a block of few
 pub opening_taken : (f : Form) (start old new : Lines) (sats : List SatEntry) (o : Opening) (l : LogLine) (k : ℕ) (to : Place)
-    → Takes (place.Few f 0) start (map line.Sat sats) (place.Few f (length sats)) old → k ≡ length sats → l ≡ first_line o.few o.header → to ≡ block_place f o.few o.header → Takes (place.Few f k) old (l ∷ []) to new → old.number ≡ o.line
+    → Takes (place.Few f 0) start (map line.Sat sats) (place.Few f (length sats)) old
+    → k ≡ length sats → l ≡ first_line o.few o.header → to ≡ block_place f o.few o.header
+    → Takes (place.Few f k) old (l ∷ []) to new → old.number ≡ o.line
     → TakesWith f (place.Few f 0) start (map line.Sat sats) o new
 opening_taken f start old new sats o l k to before count is behind taken number =
     let one : Takes (place.Few f (length sats)) old (first_line o.few o.header ∷ []) (block_place f o.few o.header) new = takes_one _ _ old l _ to _ new (ap (place.Few f) count) is behind taken in
@@ -142,7 +161,9 @@ pub record TakesEvents (renews : Bool) (n : ℕ) (start : Lines) (events : List 
 
 -- the lines of one event more
 pub event_taken : (renews : Bool) (n : ℕ) (start old new : Lines) (events pushed : List Event) (event : Event)
-    → Takes (place.Steps renews n 0) start (flat_map event_lines events) (place.Steps renews n 0) old → Takes (place.Steps renews n 0) old (event_lines event) (place.Steps renews n 0) new → pushed ≡ events ++ event ∷ []
+    → Takes (place.Steps renews n 0) start (flat_map event_lines events) (place.Steps renews n 0) old
+    → Takes (place.Steps renews n 0) old (event_lines event) (place.Steps renews n 0) new
+    → pushed ≡ events ++ event ∷ []
     → Takes (place.Steps renews n 0) start (flat_map event_lines pushed) (place.Steps renews n 0) new
 event_taken renews n start old new events pushed event before one push =
     let grown : flat_map event_lines events ++ event_lines event ≡ flat_map event_lines pushed =
@@ -152,24 +173,33 @@ event_taken renews n start old new events pushed event before one push =
     (takes_on _ _ _ start old new (flat_map event_lines events) (event_lines event) before one)
 
 -- the lines of a step, of the box of a renewal and of the number of splits, each where it leads
-pub one_step : (renews : Bool) (n : ℕ) (old new : Lines) (s : Step) (l : LogLine) (to : Place) → l ≡ line.Step s → Takes (place.Steps renews n 0) old (l ∷ []) to new → Takes (place.Steps renews n 0) old (line.Step s ∷ []) (place.Steps renews n 0) new
+pub one_step : (renews : Bool) (n : ℕ) (old new : Lines) (s : Step) (l : LogLine) (to : Place)
+    → l ≡ line.Step s → Takes (place.Steps renews n 0) old (l ∷ []) to new
+    → Takes (place.Steps renews n 0) old (line.Step s ∷ []) (place.Steps renews n 0) new
 one_step renews n old new s l to is taken =
     let one : Takes (place.Steps renews n 0) old (line.Step s ∷ []) to new = takes_one _ _ old l (line.Step s) to to new refl is refl taken in
     takes_one _ _ old (line.Step s) (line.Step s) to (place.Steps renews n 0) new refl refl (behind_step renews n s to (leads_to _ old _ to new one)) one
 
-pub one_renew : (renews : Bool) (n : ℕ) (old new : Lines) (c : Corners) (l : LogLine) (to : Place) → l ≡ line.Renew c → Takes (place.Steps renews n 0) old (l ∷ []) to new → Takes (place.Steps renews n 0) old (line.Renew c ∷ []) (place.Steps renews n n) new
+pub one_renew : (renews : Bool) (n : ℕ) (old new : Lines) (c : Corners) (l : LogLine) (to : Place)
+    → l ≡ line.Renew c → Takes (place.Steps renews n 0) old (l ∷ []) to new
+    → Takes (place.Steps renews n 0) old (line.Renew c ∷ []) (place.Steps renews n n) new
 one_renew renews n old new c l to is taken =
     let one : Takes (place.Steps renews n 0) old (line.Renew c ∷ []) to new = takes_one _ _ old l (line.Renew c) to to new refl is refl taken in
     takes_one _ _ old (line.Renew c) (line.Renew c) to (place.Steps renews n n) new refl refl (behind_renew renews n c to (leads_to _ old _ to new one)).1 one
 
-pub one_done : (renews : Bool) (n : ℕ) (old new : Lines) (splits : ℕ) (l : LogLine) (to : Place) → l ≡ line.Done splits → Takes (place.Steps renews n 0) old (l ∷ []) to new → Takes (place.Steps renews n 0) old (line.Done splits ∷ []) (place.Between (form.Log renews)) new
+pub one_done : (renews : Bool) (n : ℕ) (old new : Lines) (splits : ℕ) (l : LogLine) (to : Place)
+    → l ≡ line.Done splits → Takes (place.Steps renews n 0) old (l ∷ []) to new
+    → Takes (place.Steps renews n 0) old (line.Done splits ∷ []) (place.Between (form.Log renews)) new
 one_done renews n old new splits l to is taken =
     let one : Takes (place.Steps renews n 0) old (line.Done splits ∷ []) to new = takes_one _ _ old l (line.Done splits) to to new refl is refl taken in
     takes_one _ _ old (line.Done splits) (line.Done splits) to (place.Between (form.Log renews)) new refl refl (only_place true (place.Between (form.Log renews)) to (leads_to _ old _ to new one)) one
 
 -- one event more
 pub event_on : (renews : Bool) (n : ℕ) (start old new : Lines) (events pushed : List Event) (event : Event)
-    → TakesEvents renews n start events old → Takes (place.Steps renews n 0) old (event_lines event) (place.Steps renews n 0) new → EventFits renews n event → pushed ≡ events ++ event ∷ [] → TakesEvents renews n start pushed new
+    → TakesEvents renews n start events old
+    → Takes (place.Steps renews n 0) old (event_lines event) (place.Steps renews n 0) new
+    → EventFits renews n event → pushed ≡ events ++ event ∷ []
+    → TakesEvents renews n start pushed new
 event_on renews n start old new events pushed event before one fits push = record {
   taken = event_taken renews n start old new events pushed event before.taken one push;
   fit = subst (λ (es : List Event). AllByRecursion (EventFits renews n) es) (sym push) (fit_on renews n events event before.fit fits);
@@ -177,13 +207,16 @@ event_on renews n start old new events pushed event before one fits push = recor
 
 -- the number of splits behind them
 pub done_on : (renews : Bool) (n : ℕ) (start old new : Lines) (events : List Event) (splits : ℕ)
-    → TakesEvents renews n start events old → Takes (place.Steps renews n 0) old (line.Done splits ∷ []) (place.Between (form.Log renews)) new
+    → TakesEvents renews n start events old
+    → Takes (place.Steps renews n 0) old (line.Done splits ∷ []) (place.Between (form.Log renews)) new
     → Takes (place.Steps renews n 0) start (flat_map event_lines events ++ line.Done splits ∷ []) (place.Between (form.Log renews)) new
 done_on renews n start old new events splits before one = takes_on _ _ _ start old new (flat_map event_lines events) (line.Done splits ∷ []) before.taken one
 
 -- one row more of a renewal
 pub row_taken : (renews : Bool) (n left fewer : ℕ) (start old new : Lines) (rows pushed : List Row) (row : Row) (l : LogLine) (to : Place)
-    → Takes (place.Steps renews n n) start (map row_line rows) (place.Steps renews n left) old → l ≡ row_line row → Takes (place.Steps renews n left) old (l ∷ []) to new → pushed ≡ rows ++ row ∷ [] → left ≡ suc fewer
+    → Takes (place.Steps renews n n) start (map row_line rows) (place.Steps renews n left) old
+    → l ≡ row_line row → Takes (place.Steps renews n left) old (l ∷ []) to new
+    → pushed ≡ rows ++ row ∷ [] → left ≡ suc fewer
     → Takes (place.Steps renews n n) start (map row_line pushed) (place.Steps renews n fewer) new
 row_taken renews n left fewer start old new rows pushed row l to before is taken push less =
     let one : Takes (place.Steps renews n left) old (row_line row ∷ []) to new = takes_one _ _ old l (row_line row) to to new refl is refl taken in
@@ -194,8 +227,10 @@ row_taken renews n left fewer start old new rows pushed row l to before is taken
     (subst (λ (p : Place). Takes (place.Steps renews n n) start (map row_line rows ++ row_line row ∷ []) p new) behind (takes_on _ _ _ start old new (map row_line rows) (row_line row ∷ []) before one))
 
 -- the box of a renewal and its rows
-pub renewal_taken : (renews : Bool) (n : ℕ) (start mid new : Lines) (part : GridBox) (rows : List Row) (c : Corners) → corners_of part ≡ c
-    → Takes (place.Steps renews n 0) start (line.Renew c ∷ []) (place.Steps renews n n) mid → Takes (place.Steps renews n n) mid (map row_line rows) (place.Steps renews n 0) new
+pub renewal_taken : (renews : Bool) (n : ℕ) (start mid new : Lines) (part : GridBox) (rows : List Row) (c : Corners)
+    → corners_of part ≡ c
+    → Takes (place.Steps renews n 0) start (line.Renew c ∷ []) (place.Steps renews n n) mid
+    → Takes (place.Steps renews n n) mid (map row_line rows) (place.Steps renews n 0) new
     → Takes (place.Steps renews n 0) start (event_lines (Renewed (rows_over part rows))) (place.Steps renews n 0) new
 renewal_taken renews n start mid new part rows c same first later =
     subst (λ (d : Corners). Takes (place.Steps renews n 0) start (line.Renew d ∷ map row_line rows) (place.Steps renews n 0) new) (sym same)
@@ -205,7 +240,8 @@ renewal_taken renews n start mid new part rows c same first later =
 
 -- a block behind what was taken, and its body with what follows
 pub block_taken : (f : Form) (at : Place) (start mid new : Lines) (ls : List LogLine) (o : Opening) (body : List LogLine) (after : Option Opening)
-    → TakesWith f at start ls o mid → TakesTo f (block_place f o.few o.header) mid body after new → TakesTo f at start (ls ++ first_line o.few o.header ∷ body) after new
+    → TakesWith f at start ls o mid → TakesTo f (block_place f o.few o.header) mid body after new
+    → TakesTo f at start (ls ++ first_line o.few o.header ∷ body) after new
 block_taken f at start mid new ls o body None before rest = record {
   to = rest.to;
   taken = subst (λ (all : List LogLine). Takes at start all rest.to new) (append_assoc ls (first_line o.few o.header ∷ []) body)
@@ -228,8 +264,10 @@ end_of None left = left.number
 end_of (Some o) left = o.line
 
 -- the body of an epoch's block
-pub paved_taken : (f : Form) (n : ℕ) (start mid new : Lines) (sats : List SatEntry) (corners said : Corners) (last : List LogLine) → said ≡ corners
-    → Takes (place.Satellites f n 0) start (map line.Sat sats ++ line.Root corners ∷ []) (place_behind_root f n) mid → Takes (place_behind_root f n) mid last (place.Between f) new
+pub paved_taken : (f : Form) (n : ℕ) (start mid new : Lines) (sats : List SatEntry) (corners said : Corners) (last : List LogLine)
+    → said ≡ corners
+    → Takes (place.Satellites f n 0) start (map line.Sat sats ++ line.Root corners ∷ []) (place_behind_root f n) mid
+    → Takes (place_behind_root f n) mid last (place.Between f) new
     → Takes (place.Satellites f n 0) start (map line.Sat sats ++ line.Root said ∷ last) (place.Between f) new
 paved_taken f n start mid new sats corners said last same first second =
     subst (λ (c : Corners). Takes (place.Satellites f n 0) start (map line.Sat sats ++ line.Root c ∷ last) (place.Between f) new) (sym same)
@@ -237,7 +275,8 @@ paved_taken f n start mid new sats corners said last same first second =
     (takes_on _ _ _ start mid new (map line.Sat sats ++ line.Root corners ∷ []) last first second))
 
 -- what follows lines that were taken
-pub takes_to_behind : (f : Form) (at mid : Place) (start now new : Lines) (ls : List LogLine) (next : Option Opening) → Takes at start ls mid now → TakesTo f mid now [] next new → TakesTo f at start ls next new
+pub takes_to_behind : (f : Form) (at mid : Place) (start now new : Lines) (ls : List LogLine) (next : Option Opening)
+    → Takes at start ls mid now → TakesTo f mid now [] next new → TakesTo f at start ls next new
 takes_to_behind f at mid start now new ls None before rest = record {
   to = rest.to;
   taken = subst (λ (all : List LogLine). Takes at start all rest.to new) (append-nil ls) (takes_on at mid rest.to start now new ls [] before rest.taken);

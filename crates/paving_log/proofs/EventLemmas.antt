@@ -18,11 +18,13 @@ pub rise_high : (from to : ℕ) (rs : List Renewal) → Rise from rs to → from
 rise_high from to [] rise = rise
 rise_high from to (r ∷ more) rise = omega (arith, rise.0, rise_high r.at to more rise.1)
 
-pub rise_to : (from to high : ℕ) (rs : List Renewal) → Rise from rs to → to ≤ high → Rise from rs high
+pub rise_to : (from to high : ℕ) (rs : List Renewal) → Rise from rs to → to ≤ high
+    → Rise from rs high
 rise_to from to high [] rise le = omega (arith, rise)
 rise_to from to high (r ∷ more) rise le = (rise.0, rise_to r.at to high more rise.1 le)
 
-pub rise_on : (from to : ℕ) (rs : List Renewal) (r : Renewal) → Rise from rs to → r.at ≡ to → Rise from (rs ++ r ∷ []) to
+pub rise_on : (from to : ℕ) (rs : List Renewal) (r : Renewal) → Rise from rs to → r.at ≡ to
+    → Rise from (rs ++ r ∷ []) to
 rise_on from to [] r rise at = (omega (arith, rise), omega arith)
 rise_on from to (first ∷ more) r rise at = (rise.0, rise_on first.at to more r rise.1 at)
 
@@ -31,7 +33,8 @@ record IsPlaced (from : ℕ) (steps : List Step) (r : Renewal) (more : List Rene
   few : r.at - from ≤ length steps
   rest : Rise r.at more (r.at + length (drop (r.at - from) steps))
 
-placed : (from : ℕ) (steps : List Step) (r : Renewal) (more : List Renewal) → Rise from (r ∷ more) (from + length steps) → IsPlaced from steps r more
+placed : (from : ℕ) (steps : List Step) (r : Renewal) (more : List Renewal)
+    → Rise from (r ∷ more) (from + length steps) → IsPlaced from steps r more
 placed from steps r more rise =
     let high = rise_high r.at (from + length steps) more rise.1 in
     let left : from + length steps ≡ r.at + length (drop (r.at - from) steps) = omega (arith, rise.0, length-drop (r.at - from) steps) in
@@ -39,7 +42,9 @@ placed from steps r more rise =
 
 -- ---- one more
 
-pub step_behind : (from : ℕ) (steps : List Step) (s : Step) (rs : List Renewal) → Rise from rs (from + length steps) → events_from from (steps ++ s ∷ []) rs ≡ events_from from steps rs ++ Made s ∷ []
+pub step_behind : (from : ℕ) (steps : List Step) (s : Step) (rs : List Renewal)
+    → Rise from rs (from + length steps)
+    → events_from from (steps ++ s ∷ []) rs ≡ events_from from steps rs ++ Made s ∷ []
 step_behind from steps s [] rise = made_behind steps (s ∷ [])
 step_behind from steps s (r ∷ more) rise =
     let k = r.at - from in
@@ -52,13 +57,16 @@ step_behind from steps s (r ∷ more) rise =
     ∙ ap (λ (es : List Event). made_all (take k steps) ++ Renewed (new_rows r) ∷ es) later
     ∙ sym (append_assoc (made_all (take k steps)) (Renewed (new_rows r) ∷ events_from r.at (drop k steps) more) (Made s ∷ []))
 
-take_whole : (steps : List Step) (k : ℕ) → k ≡ length steps → (take k steps ≡ steps) × (drop k steps ≡ [])
+take_whole : (steps : List Step) (k : ℕ) → k ≡ length steps
+    → (take k steps ≡ steps) × (drop k steps ≡ [])
 take_whole [] zero e = (refl, refl)
 take_whole [] (suc k) e = absurd (omega (arith, e))
 take_whole (s ∷ steps) zero e = absurd (omega (arith, e))
 take_whole (s ∷ steps) (suc k) e = let later = take_whole steps k (omega (arith, e)) in (ap (λ (xs : List Step). s ∷ xs) later.0, later.1)
 
-pub renewal_behind : (from : ℕ) (steps : List Step) (rs : List Renewal) (r : Renewal) → Rise from rs (from + length steps) → r.at ≡ from + length steps → events_from from steps (rs ++ r ∷ []) ≡ events_from from steps rs ++ Renewed (new_rows r) ∷ []
+pub renewal_behind : (from : ℕ) (steps : List Step) (rs : List Renewal) (r : Renewal)
+    → Rise from rs (from + length steps) → r.at ≡ from + length steps
+    → events_from from steps (rs ++ r ∷ []) ≡ events_from from steps rs ++ Renewed (new_rows r) ∷ []
 renewal_behind from steps [] r rise at =
     let whole = take_whole steps (r.at - from) (omega (arith, at)) in
     ap (λ (xs : List Step). made_all xs ++ Renewed (new_rows r) ∷ made_all (drop (r.at - from) steps)) whole.0
@@ -74,7 +82,8 @@ renewal_behind from steps (first ∷ more) r rise at =
 
 -- ---- the steps alone
 
-pub steps_in_events : (from : ℕ) (steps : List Step) (rs : List Renewal) → steps_in (events_from from steps rs) ≡ steps
+pub steps_in_events : (from : ℕ) (steps : List Step) (rs : List Renewal)
+    → steps_in (events_from from steps rs) ≡ steps
 steps_in_events from steps [] = steps_of_made steps
 steps_in_events from steps (r ∷ more) =
     let k = r.at - from in
@@ -85,7 +94,8 @@ steps_in_events from steps (r ∷ more) =
 
 -- ---- their lines
 
-pub lines_of_events : (events : List Event) → length (flat_map event_lines events) ≡ lines_of_all events
+pub lines_of_events : (events : List Event)
+    → length (flat_map event_lines events) ≡ lines_of_all events
 lines_of_events [] = refl
 lines_of_events (Made step ∷ events) = omega (arith, lines_of_events events, length-append (event_lines (Made step)) (flat_map event_lines events))
 lines_of_events (Renewed new ∷ events) =
@@ -97,41 +107,54 @@ fewer (Made step ∷ events) = omega (arith, fewer events)
 fewer (Renewed new ∷ events) = omega (arith, fewer events)
 
 -- no more steps than lines
-pub steps_le_lines : (steps : List Step) (rs : List Renewal) → length steps ≤ length (flat_map event_lines (events_from 0 steps rs))
+pub steps_le_lines : (steps : List Step) (rs : List Renewal)
+    → length steps ≤ length (flat_map event_lines (events_from 0 steps rs))
 steps_le_lines steps rs = omega (arith, ap length (steps_in_events 0 steps rs), fewer (events_from 0 steps rs), lines_of_events (events_from 0 steps rs))
 
-pub fit_on : (renews : Bool) (n : ℕ) (events : List Event) (event : Event) → AllByRecursion (EventFits renews n) events → EventFits renews n event → AllByRecursion (EventFits renews n) (events ++ event ∷ [])
+pub fit_on : (renews : Bool) (n : ℕ) (events : List Event) (event : Event)
+    → AllByRecursion (EventFits renews n) events → EventFits renews n event
+    → AllByRecursion (EventFits renews n) (events ++ event ∷ [])
 fit_on renews n [] event fit one = (one, tt)
 fit_on renews n (first ∷ events) event fit one = (fit.0, fit_on renews n events event fit.1 one)
 
 -- ---- what a push gives
 
-pub places_on : {U E : Type 0} (result : Result U E) (old new : List Step) (s : Step) (rs : List Renewal) → OnOk result (new ≡ old ++ s ∷ []) → OnErr result (new ≡ old) → Rise 0 rs (length old) → Rise 0 rs (length new)
+pub places_on : {U E : Type 0} (result : Result U E) (old new : List Step) (s : Step) (rs : List Renewal)
+    → OnOk result (new ≡ old ++ s ∷ []) → OnErr result (new ≡ old) → Rise 0 rs (length old)
+    → Rise 0 rs (length new)
 places_on (Ok u) old new s rs ok err rise = rise_to 0 (length old) (length new) rs rise (omega (arith, ap length ok, length-append old (s ∷ [])))
 places_on (Err e) old new s rs ok err rise = rise_to 0 (length old) (length new) rs rise (omega (arith, ap length err))
 
-from_start : (steps : List Step) (rs : List Renewal) → Rise 0 rs (length steps) → Rise 0 rs (0 + length steps)
+from_start : (steps : List Step) (rs : List Renewal) → Rise 0 rs (length steps)
+    → Rise 0 rs (0 + length steps)
 from_start steps rs rise = rise_to 0 (length steps) (0 + length steps) rs rise (omega arith)
 
-pub step_on : {U E : Type 0} (result : Result U E) (old new : List Step) (s : Step) (rs : List Renewal) → OnOk result (new ≡ old ++ s ∷ []) → Rise 0 rs (length old) → OnOk result (events_from 0 new rs ≡ events_from 0 old rs ++ Made s ∷ [])
+pub step_on : {U E : Type 0} (result : Result U E) (old new : List Step) (s : Step) (rs : List Renewal)
+    → OnOk result (new ≡ old ++ s ∷ []) → Rise 0 rs (length old)
+    → OnOk result (events_from 0 new rs ≡ events_from 0 old rs ++ Made s ∷ [])
 step_on (Ok u) old new s rs ok rise = ap (λ (xs : List Step). events_from 0 xs rs) ok ∙ step_behind 0 old s rs (from_start old rs rise)
 step_on (Err e) old new s rs ok rise = tt
 
-pub places_with : (ok : Bool) (high : ℕ) (rs now : List Renewal) (r : Renewal) → now ≡ (if ok then rs ++ r ∷ [] else rs) → Rise 0 rs high → r.at ≡ high → Rise 0 now high
+pub places_with : (ok : Bool) (high : ℕ) (rs now : List Renewal) (r : Renewal)
+    → now ≡ (if ok then rs ++ r ∷ [] else rs) → Rise 0 rs high → r.at ≡ high → Rise 0 now high
 places_with true high rs now r is rise at = subst (λ (l : List Renewal). Rise 0 l high) (sym is) (rise_on 0 high rs r rise at)
 places_with false high rs now r is rise at = subst (λ (l : List Renewal). Rise 0 l high) (sym is) rise
 
-pub renewal_on : (steps : List Step) (rs now : List Renewal) (r : Renewal) → now ≡ rs ++ r ∷ [] → Rise 0 rs (length steps) → r.at ≡ length steps → events_from 0 steps now ≡ events_from 0 steps rs ++ Renewed (new_rows r) ∷ []
+pub renewal_on : (steps : List Step) (rs now : List Renewal) (r : Renewal) → now ≡ rs ++ r ∷ []
+    → Rise 0 rs (length steps) → r.at ≡ length steps
+    → events_from 0 steps now ≡ events_from 0 steps rs ++ Renewed (new_rows r) ∷ []
 renewal_on steps rs now r is rise at = ap (events_from 0 steps) is ∙ renewal_behind 0 steps rs r (from_start steps rs rise) (omega (arith, at))
 
 -- ---- steps without renewals
 
-pub none_renewed : (n : ℕ) (events : List Event) → AllByRecursion (EventFits false n) events → renewals_in events ≡ []
+pub none_renewed : (n : ℕ) (events : List Event) → AllByRecursion (EventFits false n) events
+    → renewals_in events ≡ []
 none_renewed n [] fit = refl
 none_renewed n (Made step ∷ events) fit = none_renewed n events fit.1
 none_renewed n (Renewed new ∷ events) fit = let no = fit.0.0 in cc
 
 -- their lines are those of the steps
-pub lines_of_steps : (steps : List Step) → flat_map event_lines (made_all steps) ≡ map line.Step steps
+pub lines_of_steps : (steps : List Step)
+    → flat_map event_lines (made_all steps) ≡ map line.Step steps
 lines_of_steps [] = refl
 lines_of_steps (step ∷ steps) = ap (λ (ls : List LogLine). line.Step step ∷ ls) (lines_of_steps steps)

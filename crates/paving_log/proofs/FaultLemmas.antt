@@ -18,24 +18,29 @@ use Rattle.paving_log.proofs.ValueLemmas.{same_words}
 
 -- ---- one line
 
-begins : (at : Place) (here : List ℕ) (l : LogLine) (after : Place) → FitsAt at here l after → Begins at here (name_of l)
+begins : (at : Place) (here : List ℕ) (l : LogLine) (after : Place) → FitsAt at here l after
+    → Begins at here (name_of l)
 begins at here l after fits = record { word = ap head_of fits.spelled; may_come = next_named at l after fits.next }
 
 -- a line that fits is no misfit
-no_misfit : (at : Place) (here : List ℕ) (f : Fault) (l : LogLine) (after : Place) → Misfit at here f → FitsAt at here l after → ⊥
+no_misfit : (at : Place) (here : List ℕ) (f : Fault) (l : LogLine) (after : Place)
+    → Misfit at here f → FitsAt at here l after → ⊥
 no_misfit at here fault.Word l after misfit fits = misfit (name_of l) (begins at here l after fits)
 no_misfit at here fault.Fields l after misfit fits = misfit.2 l after fits
 
 -- a line is a misfit in one way
-one_misfit : (at : Place) (here : List ℕ) (f g : Fault) → Misfit at here f → Misfit at here g → f ≡ g
+one_misfit : (at : Place) (here : List ℕ) (f g : Fault) → Misfit at here f → Misfit at here g
+    → f ≡ g
 one_misfit at here fault.Word fault.Word first second = refl
 one_misfit at here fault.Word fault.Fields first second = absurd (first second.0 second.1)
 one_misfit at here fault.Fields fault.Word first second = absurd (second first.0 first.1)
 one_misfit at here fault.Fields fault.Fields first second = refl
 
 -- where the line that has these words may not come, none may that has them
-pub none_behind : (at : Place) (here word : List ℕ) (rest : List (List ℕ)) (name : LineName) (l : LogLine) → words here ≡ word ∷ rest → word ≡ spelled name → may_come at name ≡ true
-    → LineFits l → name_of l ≡ name → rest ≡ fields l → next at l ≡ None → Misfit at here fault.Fields
+pub none_behind : (at : Place) (here word : List ℕ) (rest : List (List ℕ)) (name : LineName) (l : LogLine)
+    → words here ≡ word ∷ rest → word ≡ spelled name → may_come at name ≡ true
+    → LineFits l → name_of l ≡ name → rest ≡ fields l → next at l ≡ None
+    → Misfit at here fault.Fields
 none_behind at here word rest name l front is may fits named told none = (
   name,
   record { word = ap head_of front ∙ is; may_come = may },
@@ -56,7 +61,8 @@ head_end [] more byte end e = cc
 head_end (b ∷ behind) more byte end e = cc
 
 -- a text has one first line
-one_first : (here there behind beyond : List ℕ) → IsWhole here → IsWhole there → IsLineEnd behind → IsLineEnd beyond → here ++ behind ≡ there ++ beyond → here ≡ there
+one_first : (here there behind beyond : List ℕ) → IsWhole here → IsWhole there → IsLineEnd behind
+    → IsLineEnd beyond → here ++ behind ≡ there ++ beyond → here ≡ there
 one_first [] [] behind beyond f g x y e = refl
 one_first [] (b ∷ there) behind beyond f g x y e = absurd (g 0 (omega arith) (head_end behind (there ++ beyond) b x e))
 one_first (a ∷ here) [] behind beyond f g x y e = absurd (f 0 (omega arith) (head_end beyond (here ++ behind) a y (sym e)))
@@ -72,14 +78,18 @@ whole_line (byte ∷ bytes) none zero lt = none.0
 whole_line (byte ∷ bytes) none (suc k) lt = whole_line bytes none.1 k (omega arith)
 
 -- the first line of a text that a fitting line begins is that line
-fits_here : (at : Place) (text here behind rest : List ℕ) (l : LogLine) (to : Place) → FirstLine text here behind → LineFits l → next at l ≡ Some to → text ≡ line_text l ++ 10 ∷ rest
+fits_here : (at : Place) (text here behind rest : List ℕ) (l : LogLine) (to : Place)
+    → FirstLine text here behind → LineFits l → next at l ≡ Some to
+    → text ≡ line_text l ++ 10 ∷ rest
     → (here ≡ line_text l) × FitsAt at here l to
 fits_here at text here behind rest l to first fits step is =
     let same : here ≡ line_text l = one_first here (line_text l) behind (10 ∷ rest) first.whole (whole_line (line_text l) (line_end l fits)) first.ended refl (sym first.parts ∙ is) in
     (same, record { spelled = ap words same ∙ words-line_text l fits; fits = fits; next = step })
 
 -- no text that a fitting line begins fails at its first line
-no_failure : (at : Place) (text rest : List ℕ) (number : ℕ) (e : LogError) (l : LogLine) (to : Place) → LineFails at text number e → LineFits l → next at l ≡ Some to → text ≡ line_text l ++ 10 ∷ rest → ⊥
+no_failure : (at : Place) (text rest : List ℕ) (number : ℕ) (e : LogError) (l : LogLine) (to : Place)
+    → LineFails at text number e → LineFits l → next at l ≡ Some to
+    → text ≡ line_text l ++ 10 ∷ rest → ⊥
 no_failure at text rest number e l to (inl missing) fits step is = line_some l text rest is missing.nothing
 no_failure at text rest number e l to (inr (inl misfit)) fits step is =
     no_misfit at misfit.here misfit.fault l to misfit.misfit (fits_here at text misfit.here misfit.behind rest l to misfit.line fits step is).1
@@ -88,13 +98,15 @@ no_failure at text rest number e l to (inr (inr unended)) fits step is =
     omega (arith, ap length same, ap length is, length-append (line_text l) (10 ∷ rest))
 
 -- no text that may end here fails where it ends
-no_failure_at_end : (at : Place) (text : List ℕ) (number : ℕ) (e : LogError) → LineFails at text number e → may_end at ≡ true → text ≡ [] → ⊥
+no_failure_at_end : (at : Place) (text : List ℕ) (number : ℕ) (e : LogError)
+    → LineFails at text number e → may_end at ≡ true → text ≡ [] → ⊥
 no_failure_at_end at text number e (inl missing) may none = let needed = missing.needed in cc
 no_failure_at_end at text number e (inr (inl misfit)) may none = misfit.some none
 no_failure_at_end at text number e (inr (inr unended)) may none = unended.some none
 
 -- a first line fails in one way
-one_failure : (at : Place) (text : List ℕ) (number : ℕ) (e f : LogError) → LineFails at text number e → LineFails at text number f → e ≡ f
+one_failure : (at : Place) (text : List ℕ) (number : ℕ) (e f : LogError)
+    → LineFails at text number e → LineFails at text number f → e ≡ f
 one_failure at text number e f (inl first) (inl second) = first.error ∙ sym second.error
 one_failure at text number e f (inl first) (inr (inl second)) = absurd (second.some first.nothing)
 one_failure at text number e f (inl first) (inr (inr second)) = absurd (second.some first.nothing)
@@ -119,19 +131,22 @@ pub record IsSameStep (behind after : Place) (rest more : List ℕ) : Type 0 whe
   pub place : behind ≡ after
   pub left : rest ≡ more
 
-same_step : (at behind after : Place) (l m : LogLine) (rest more : List ℕ) → LineFits l → LineFits m → next at l ≡ Some behind → next at m ≡ Some after
+same_step : (at behind after : Place) (l m : LogLine) (rest more : List ℕ) → LineFits l → LineFits m
+    → next at l ≡ Some behind → next at m ≡ Some after
     → line_text l ++ 10 ∷ rest ≡ line_text m ++ 10 ∷ more → IsSameStep behind after rest more
 same_step at behind after l m rest more f g x y e =
     let same = same_line l m rest more f g e in
     let step : Some behind ≡ Some after = sym x ∙ ap (next at) (same_words l m f g same.0) ∙ y in
     record { place = cc; left = same.1 }
 
-text_split : (l : LogLine) (lines : List LogLine) (left : List ℕ) → text_of (l ∷ lines) ++ left ≡ line_text l ++ 10 ∷ (text_of lines ++ left)
+text_split : (l : LogLine) (lines : List LogLine) (left : List ℕ)
+    → text_of (l ∷ lines) ++ left ≡ line_text l ++ 10 ∷ (text_of lines ++ left)
 text_split l lines left = append_assoc (line_text l) (10 ∷ text_of lines) left
 
 -- the text of lines that lead to an end has no first fault
 none_fails : (earlier lines : List LogLine) (at to mid : Place) (text left : List ℕ) (number : ℕ) (e : LogError)
-    → Leads at lines to → may_end to ≡ true → text ≡ text_of lines → Leads at earlier mid → text ≡ text_of earlier ++ left → LineFails mid left number e → ⊥
+    → Leads at lines to → may_end to ≡ true → text ≡ text_of lines → Leads at earlier mid
+    → text ≡ text_of earlier ++ left → LineFails mid left number e → ⊥
 none_fails [] [] at to mid text left number e leads may is before parts fails =
     no_failure_at_end mid left number e fails (ap may_end (sym before ∙ leads) ∙ may) (sym parts ∙ is)
 none_fails [] (l ∷ lines) at to mid text left number e leads may is before parts fails =
@@ -142,12 +157,15 @@ none_fails (x ∷ earlier) (l ∷ lines) at to mid text left number e leads may 
     let same = same_step at before.1 leads.1 x l (text_of earlier ++ left) (text_of lines) before.0 leads.0 before.2 leads.2 (sym (text_split x earlier left) ∙ sym parts ∙ is) in
     none_fails earlier lines leads.1 to mid (text_of lines) left number e leads.3 may refl (subst (λ (p : Place). Leads p earlier mid) same.place before.3) (sym same.left) fails
 
-pub no_fault : (lines : List LogLine) (at to : Place) (text : List ℕ) (number : ℕ) (e : LogError) → Leads at lines to → may_end to ≡ true → text ≡ text_of lines → FaultFrom at text number e → ⊥
+pub no_fault : (lines : List LogLine) (at to : Place) (text : List ℕ) (number : ℕ) (e : LogError)
+    → Leads at lines to → may_end to ≡ true → text ≡ text_of lines → FaultFrom at text number e → ⊥
 no_fault lines at to text number e leads may is fault = none_fails fault.earlier lines at to fault.to text fault.left _ e leads may is fault.leads fault.parts fault.fails
 
 one_after : (earlier lines : List LogLine) (at to mid : Place) (text rest left : List ℕ) (number k j : ℕ) (e f : LogError)
-    → Leads at earlier mid → text ≡ text_of earlier ++ left → k ≡ number + length earlier → LineFails mid left k e
-    → Leads at lines to → text ≡ text_of lines ++ rest → j ≡ number + length lines → LineFails to rest j f → e ≡ f
+    → Leads at earlier mid → text ≡ text_of earlier ++ left → k ≡ number + length earlier
+    → LineFails mid left k e
+    → Leads at lines to → text ≡ text_of lines ++ rest → j ≡ number + length lines
+    → LineFails to rest j f → e ≡ f
 one_after [] [] at to mid text rest left number k j e f before parts count fails leads is sum breaks =
     let here = subst (λ (p : Place). LineFails p left k e) (sym before) fails in
     let there = subst (λ (p : Place). LineFails p rest j f) (sym leads) breaks in
@@ -164,6 +182,7 @@ one_after (x ∷ earlier) (l ∷ lines) at to mid text rest left number k j e f 
     leads.3 refl (omega (arith, sum)) breaks
 
 -- a text has one first fault at most
-pub one_fault : (at : Place) (text : List ℕ) (number : ℕ) (e f : LogError) → FaultFrom at text number e → FaultFrom at text number f → e ≡ f
+pub one_fault : (at : Place) (text : List ℕ) (number : ℕ) (e f : LogError)
+    → FaultFrom at text number e → FaultFrom at text number f → e ≡ f
 one_fault at text number e f first second =
     one_after first.earlier second.earlier at second.to first.to text second.left first.left number _ _ e f first.leads first.parts refl first.fails second.leads second.parts refl second.fails

@@ -34,7 +34,8 @@ pub record FewParts (f : Form) (k : ℕ) (sats : List SatEntry) (tail : List Log
   pub at_most : k + length sats ≤ 64
   pub rest : Leads (place.Few f (k + length sats)) tail to
 
-pub few_parts : (f : Form) (k : ℕ) (sats : List SatEntry) (tail : List LogLine) (to : Place) → k ≤ 64 → Leads (place.Few f k) (map line.Sat sats ++ tail) to → FewParts f k sats tail to
+pub few_parts : (f : Form) (k : ℕ) (sats : List SatEntry) (tail : List LogLine) (to : Place)
+    → k ≤ 64 → Leads (place.Few f k) (map line.Sat sats ++ tail) to → FewParts f k sats tail to
 few_parts f k [] tail to le leads = record {
   fit = tt;
   skipped = tt;
@@ -57,7 +58,9 @@ pub record SatParts (f : Form) (n k : ℕ) (sats : List SatEntry) (tail : List L
   pub at_most : k + length sats ≤ 64
   pub rest : Leads (place.Satellites f n (k + length sats)) tail to
 
-pub sat_parts : (f : Form) (n k : ℕ) (sats : List SatEntry) (tail : List LogLine) (to : Place) → k ≤ 64 → Leads (place.Satellites f n k) (map line.Sat sats ++ tail) to → SatParts f n k sats tail to
+pub sat_parts : (f : Form) (n k : ℕ) (sats : List SatEntry) (tail : List LogLine) (to : Place)
+    → k ≤ 64 → Leads (place.Satellites f n k) (map line.Sat sats ++ tail) to
+    → SatParts f n k sats tail to
 sat_parts f n k [] tail to le leads = record {
   fit = tt;
   at_most = omega arith;
@@ -74,13 +77,16 @@ sat_parts f n k (e ∷ sats) tail to le leads =
     }
 
 -- the rows of a renewal
-pub rows_parts : (renews : Bool) (n left : ℕ) (rows : List Row) (to : Place) → Leads (place.Steps renews n left) (map row_line rows) to → AllByRecursion RowFits rows
+pub rows_parts : (renews : Bool) (n left : ℕ) (rows : List Row) (to : Place)
+    → Leads (place.Steps renews n left) (map row_line rows) to → AllByRecursion RowFits rows
 rows_parts renews n left [] to leads = tt
 rows_parts renews n left (row ∷ rows) to leads =
     (leads.0, rows_parts renews n (left - 1) rows to (subst (λ (p : Place). Leads p (map row_line rows) to) (behind_row renews n left row leads.1 leads.2) leads.3))
 
 -- the satellites of a block of few
-pub few_fit : (f : Form) (start new : Lines) (sats : List SatEntry) (next : Option Opening) → TakesTo f (place.Few f 0) start (map line.Sat sats) next new → AllByRecursion EntryFits sats × AllByRecursion IsSkipped sats
+pub few_fit : (f : Form) (start new : Lines) (sats : List SatEntry) (next : Option Opening)
+    → TakesTo f (place.Few f 0) start (map line.Sat sats) next new
+    → AllByRecursion EntryFits sats × AllByRecursion IsSkipped sats
 few_fit f start new sats None taken =
     let parts = few_parts f 0 sats [] taken.to (omega arith) (subst (λ (ls : List LogLine). Leads (place.Few f 0) ls taken.to) (sym (append-nil (map line.Sat sats))) taken.taken.leads) in
     (parts.fit, parts.skipped)
@@ -89,7 +95,8 @@ few_fit f start new sats (Some o) taken =
     (parts.fit, parts.skipped)
 
 -- the last line fits
-last_fits : (at to : Place) (lines : List LogLine) (l : LogLine) → Leads at (lines ++ l ∷ []) to → LineFits l
+last_fits : (at to : Place) (lines : List LogLine) (l : LogLine) → Leads at (lines ++ l ∷ []) to
+    → LineFits l
 last_fits at to [] l leads = leads.0
 last_fits at to (m ∷ lines) l leads = last_fits leads.1 to lines l leads.3
 
@@ -97,23 +104,31 @@ header_fits : (few : Bool) (h : Header) → LineFits (first_line few h) → Head
 header_fits true h fits = fits
 header_fits false h fits = fits
 
-pub opening_fits : (f : Form) (at : Place) (start new : Lines) (lines : List LogLine) (o : Opening) → TakesTo f at start lines (Some o) new → HeaderFits o.header
+pub opening_fits : (f : Form) (at : Place) (start new : Lines) (lines : List LogLine) (o : Opening)
+    → TakesTo f at start lines (Some o) new → HeaderFits o.header
 opening_fits f at start new lines o taken = header_fits o.few o.header (last_fits at _ lines _ taken.taken.leads)
 
 -- ---- steps and renewals
 
 pub step_more : (renews : Bool) (n : ℕ) (start old new : Lines) (events pushed : List Event) (s : Step)
-    → TakesEvents renews n start events old → Takes (place.Steps renews n 0) old (line.Step s ∷ []) (place.Steps renews n 0) new → pushed ≡ events ++ Made s ∷ [] → TakesEvents renews n start pushed new
+    → TakesEvents renews n start events old
+    → Takes (place.Steps renews n 0) old (line.Step s ∷ []) (place.Steps renews n 0) new
+    → pushed ≡ events ++ Made s ∷ [] → TakesEvents renews n start pushed new
 step_more renews n start old new events pushed s before one push = event_on renews n start old new events pushed (Made s) before one one.leads.0 push
 
-pub renewal_more : (renews : Bool) (n : ℕ) (start old mid new : Lines) (events pushed : List Event) (part : GridBox) (rows : List Row) (c : Corners) → corners_of part ≡ c
-    → TakesEvents renews n start events old → Takes (place.Steps renews n 0) old (line.Renew c ∷ []) (place.Steps renews n n) mid → Takes (place.Steps renews n n) mid (map row_line rows) (place.Steps renews n 0) new
-    → length rows ≡ n → pushed ≡ events ++ Renewed (rows_over part rows) ∷ [] → TakesEvents renews n start pushed new
+pub renewal_more : (renews : Bool) (n : ℕ) (start old mid new : Lines) (events pushed : List Event) (part : GridBox) (rows : List Row) (c : Corners)
+    → corners_of part ≡ c
+    → TakesEvents renews n start events old
+    → Takes (place.Steps renews n 0) old (line.Renew c ∷ []) (place.Steps renews n n) mid
+    → Takes (place.Steps renews n n) mid (map row_line rows) (place.Steps renews n 0) new
+    → length rows ≡ n → pushed ≡ events ++ Renewed (rows_over part rows) ∷ []
+    → TakesEvents renews n start pushed new
 renewal_more renews n start old mid new events pushed part rows c same before first later many push =
     let allowed = (behind_renew renews n c first.leads.1 first.leads.2).0 in
     let fits : EventFits renews n (Renewed (rows_over part rows)) = (allowed, subst CornersFit (sym same) first.leads.0, many, rows_parts renews n n rows _ later.leads) in
     event_on renews n start old new events pushed (Renewed (rows_over part rows)) before (renewal_taken renews n old mid new part rows c same first later) fits push
 
 -- no more steps than numbers of lines
-pub few_steps : (renews : Bool) (n : ℕ) (start left : Lines) (e : Events) → TakesEvents renews n start (events_of e) left → length (steps_of e.steps) ≤ 4000000001
+pub few_steps : (renews : Bool) (n : ℕ) (start left : Lines) (e : Events)
+    → TakesEvents renews n start (events_of e) left → length (steps_of e.steps) ≤ 4000000001
 few_steps renews n start left e before = omega (arith, before.taken.number, left.room, steps_le_lines (steps_of e.steps) e.renewals.items)

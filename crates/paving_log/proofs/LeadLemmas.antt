@@ -26,25 +26,32 @@ use Rattle.paving_log.proofs.OrderLemmas.{given}
 below : (k : ℕ) (after : Place) → k < 64 → only_if (nat_lt k 64) after ≡ Some after
 below k after lt = given (nat_lt k 64) after (lt-ltb k 64 lt)
 
-few_next : (f : Form) (k : ℕ) (e : SatEntry) → IsSkipped e → k < 64 → next (place.Few f k) (line.Sat e) ≡ Some (place.Few f (k + 1))
+few_next : (f : Form) (k : ℕ) (e : SatEntry) → IsSkipped e → k < 64
+    → next (place.Few f k) (line.Sat e) ≡ Some (place.Few f (k + 1))
 few_next f k (entry.Row r) skipped lt = absurd skipped
 few_next f k (entry.Skipped sat skip) skipped lt = below k _ lt
 
-few_lead : (f : Form) (k : ℕ) (sats : List SatEntry) (tail : List LogLine) (to : Place) → AllByRecursion EntryFits sats → AllByRecursion IsSkipped sats → k + length sats ≤ 64
-    → Leads (place.Few f (k + length sats)) tail to → Leads (place.Few f k) (map line.Sat sats ++ tail) to
+few_lead : (f : Form) (k : ℕ) (sats : List SatEntry) (tail : List LogLine) (to : Place)
+    → AllByRecursion EntryFits sats → AllByRecursion IsSkipped sats → k + length sats ≤ 64
+    → Leads (place.Few f (k + length sats)) tail to
+    → Leads (place.Few f k) (map line.Sat sats ++ tail) to
 few_lead f k [] tail to fit skipped le leads = let same : k + 0 ≡ k = omega arith in subst (λ (n : ℕ). Leads (place.Few f n) tail to) same leads
 few_lead f k (e ∷ sats) tail to fit skipped le leads =
     let same : k + length (e ∷ sats) ≡ k + 1 + length sats = omega arith in
     (fit.0, place.Few f (k + 1), few_next f k e skipped.0 (omega arith), few_lead f (k + 1) sats tail to fit.1 skipped.1 (omega arith) (subst (λ (n : ℕ). Leads (place.Few f n) tail to) same leads))
 
-sat_lead : (f : Form) (n k : ℕ) (sats : List SatEntry) (tail : List LogLine) (to : Place) → AllByRecursion EntryFits sats → k + length sats ≤ 64
-    → Leads (place.Satellites f n (k + length sats)) tail to → Leads (place.Satellites f n k) (map line.Sat sats ++ tail) to
+sat_lead : (f : Form) (n k : ℕ) (sats : List SatEntry) (tail : List LogLine) (to : Place)
+    → AllByRecursion EntryFits sats → k + length sats ≤ 64
+    → Leads (place.Satellites f n (k + length sats)) tail to
+    → Leads (place.Satellites f n k) (map line.Sat sats ++ tail) to
 sat_lead f n k [] tail to fit le leads = let same : k + 0 ≡ k = omega arith in subst (λ (m : ℕ). Leads (place.Satellites f n m) tail to) same leads
 sat_lead f n k (e ∷ sats) tail to fit le leads =
     let same : k + length (e ∷ sats) ≡ k + 1 + length sats = omega arith in
     (fit.0, place.Satellites f n (k + 1), below k _ (omega arith), sat_lead f n (k + 1) sats tail to fit.1 (omega arith) (subst (λ (m : ℕ). Leads (place.Satellites f n m) tail to) same leads))
 
-rows_lead : (renews : Bool) (n : ℕ) (rows : List Row) (tail : List LogLine) (to : Place) → AllByRecursion RowFits rows → Leads (place.Steps renews n 0) tail to → Leads (place.Steps renews n (length rows)) (map row_line rows ++ tail) to
+rows_lead : (renews : Bool) (n : ℕ) (rows : List Row) (tail : List LogLine) (to : Place)
+    → AllByRecursion RowFits rows → Leads (place.Steps renews n 0) tail to
+    → Leads (place.Steps renews n (length rows)) (map row_line rows ++ tail) to
 rows_lead renews n [] tail to fit leads = leads
 rows_lead renews n (row ∷ rows) tail to fit leads =
     let less : length (row ∷ rows) - 1 ≡ length rows = omega arith in
@@ -52,14 +59,18 @@ rows_lead renews n (row ∷ rows) tail to fit leads =
     given _ _ (lt-ltb 0 (length (row ∷ rows)) (omega arith)) ∙ ap (λ (m : ℕ). Some (place.Steps renews n m)) less in
     (fit.0, place.Steps renews n (length rows), step, rows_lead renews n rows tail to fit.1 leads)
 
-event_lead : (renews : Bool) (n : ℕ) (event : Event) (tail : List LogLine) (to : Place) → EventFits renews n event → Leads (place.Steps renews n 0) tail to → Leads (place.Steps renews n 0) (event_lines event ++ tail) to
+event_lead : (renews : Bool) (n : ℕ) (event : Event) (tail : List LogLine) (to : Place)
+    → EventFits renews n event → Leads (place.Steps renews n 0) tail to
+    → Leads (place.Steps renews n 0) (event_lines event ++ tail) to
 event_lead renews n (Made step) tail to fits leads = (fits, place.Steps renews n 0, refl, leads)
 event_lead renews n (Renewed new) tail to fits leads =
     let allowed : next (place.Steps renews n 0) (line.Renew (corners_of new.part)) ≡ Some (place.Steps renews n n) = given (renews && true) _ (ap (λ (b : Bool). b && true) fits.0) in
     let rows = subst (λ (m : ℕ). Leads (place.Steps renews n m) (map row_line new.rows ++ tail) to) fits.2 (rows_lead renews n new.rows tail to fits.3 leads) in
     (fits.1, place.Steps renews n n, allowed, rows)
 
-events_lead : (renews : Bool) (n : ℕ) (events : List Event) (tail : List LogLine) (to : Place) → AllByRecursion (EventFits renews n) events → Leads (place.Steps renews n 0) tail to → Leads (place.Steps renews n 0) (flat_map event_lines events ++ tail) to
+events_lead : (renews : Bool) (n : ℕ) (events : List Event) (tail : List LogLine) (to : Place)
+    → AllByRecursion (EventFits renews n) events → Leads (place.Steps renews n 0) tail to
+    → Leads (place.Steps renews n 0) (flat_map event_lines events ++ tail) to
 events_lead renews n [] tail to fit leads = leads
 events_lead renews n (event ∷ events) tail to fit leads =
     subst (λ (ls : List LogLine). Leads (place.Steps renews n 0) ls to) (sym (append_assoc (event_lines event) (flat_map event_lines events) tail))
@@ -73,14 +84,16 @@ record IsBetween (f : Form) (at : Place) : Type 0 where
 between : (f : Form) → IsBetween f (place.Between f)
 between f = record { may_end = refl; next = first }
   where
-    first : (few : Bool) (h : Header) → next (place.Between f) (first_line few h) ≡ Some (block_place f few h)
+    first : (few : Bool) (h : Header)
+        → next (place.Between f) (first_line few h) ≡ Some (block_place f few h)
     first true h = refl
     first false h = refl
 
 behind_skips : (f : Form) (k : ℕ) → IsBetween f (place.Few f k)
 behind_skips f k = record { may_end = refl; next = first }
   where
-    first : (few : Bool) (h : Header) → next (place.Few f k) (first_line few h) ≡ Some (block_place f few h)
+    first : (few : Bool) (h : Header)
+        → next (place.Few f k) (first_line few h) ≡ Some (block_place f few h)
     first true h = refl
     first false h = refl
 
@@ -91,13 +104,17 @@ record BlockLeads (f : Form) (from : Place) (lines : List LogLine) : Type 0 wher
   leads : (tail : List LogLine) (end : Place) → Leads to tail end → Leads from (lines ++ tail) end
 
 -- what stands behind a root leads to the next block
-closing_lead : (f : Form) (n : ℕ) (events : List Event) (done : ℕ) (tail : List LogLine) (to : Place) → ClosingFits f n events done → Leads (place.Between f) tail to → Leads (place_behind_root f n) (closing_lines f events done ++ tail) to
+closing_lead : (f : Form) (n : ℕ) (events : List Event) (done : ℕ) (tail : List LogLine) (to : Place)
+    → ClosingFits f n events done → Leads (place.Between f) tail to
+    → Leads (place_behind_root f n) (closing_lines f events done ++ tail) to
 closing_lead (form.Log renews) n events done tail to fits leads =
     subst (λ (ls : List LogLine). Leads (place.Steps renews n 0) ls to) (sym (append_assoc (flat_map event_lines events) (line.Done done ∷ []) tail))
     (events_lead renews n events (line.Done done ∷ tail) to fits.0 (fits.1, place.Between (form.Log renews), refl, leads))
 closing_lead form.Rows n events done tail to fits leads = leads
 
-body_leads : (f : Form) (b : Block) (body : Option Body) → AllByRecursion EntryFits b.sats → length b.sats ≤ 64 → BodyFits f b body → BlockLeads f (block_place f (is_none body) (header_of b)) (map line.Sat b.sats ++ paved_lines f body)
+body_leads : (f : Form) (b : Block) (body : Option Body) → AllByRecursion EntryFits b.sats
+    → length b.sats ≤ 64 → BodyFits f b body
+    → BlockLeads f (block_place f (is_none body) (header_of b)) (map line.Sat b.sats ++ paved_lines f body)
 body_leads f b None fit le skipped = record {
   to = place.Few f (0 + length b.sats);
   between = behind_skips f (0 + length b.sats);
@@ -126,7 +143,8 @@ pub record LeadsToEnd (at : Place) (lines : List LogLine) : Type 0 where
   pub may_end : may_end to ≡ true
   pub leads : Leads at lines to
 
-blocks_lead : (f : Form) (blocks : List Block) (at : Place) → IsBetween f at → AllByRecursion (BlockFits f) blocks → LeadsToEnd at (flat_map (block_lines f) blocks)
+blocks_lead : (f : Form) (blocks : List Block) (at : Place) → IsBetween f at
+    → AllByRecursion (BlockFits f) blocks → LeadsToEnd at (flat_map (block_lines f) blocks)
 blocks_lead f [] at here fit = record { to = at; may_end = here.may_end; leads = refl }
 blocks_lead f (b ∷ blocks) at here fit =
     let body = body_leads f b b.body fit.0.sats fit.0.at_most fit.0.body in
@@ -138,7 +156,8 @@ blocks_lead f (b ∷ blocks) at here fit =
     }
 
 -- a log that fits
-pub log_leads : (k : Kind) (log : LogValue) → LogFits k log → LeadsToEnd (place.First k) (log_lines k log)
+pub log_leads : (k : Kind) (log : LogValue) → LogFits k log
+    → LeadsToEnd (place.First k) (log_lines k log)
 log_leads k log fits =
     let f = form_of k log.version in
     let blocks = blocks_lead f log.blocks (place.Between f) (between f) fits.blocks in

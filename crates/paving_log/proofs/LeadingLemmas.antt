@@ -7,7 +7,8 @@ use Rattle.paving_log.specs.declared.line.LineName.TheVariants as name
 use Rattle.paving_log.specs.Leading.{HasFields}
 
 -- a word in front of others
-word_before : (text word rest more behind : List ℕ) → text ≡ word ++ 32 ∷ rest → rest ≡ more ++ 10 ∷ behind → text ≡ (word ++ 32 ∷ more) ++ 10 ∷ behind
+word_before : (text word rest more behind : List ℕ) → text ≡ word ++ 32 ∷ rest
+    → rest ≡ more ++ 10 ∷ behind → text ≡ (word ++ 32 ∷ more) ++ 10 ∷ behind
 word_before text word rest more behind first later =
     first ∙ ap (λ (r : List ℕ). word ++ 32 ∷ r) later ∙ sym (append_assoc word (32 ∷ more) (10 ∷ behind))
 

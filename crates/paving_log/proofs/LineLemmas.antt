@@ -17,7 +17,9 @@ use Rattle.log_tokens.proofs.WordLemmas.{joined-words}
 use Rattle.grid_model.proofs.ListLemmas.{cut_at}
 
 -- what stands before the first LF is the first line
-pub ended_line : (text : List ℕ) (end : ℕ) → ((k : ℕ) → k < end → nat_eq (get_or text k 0) 10 ≡ true → ⊥) → end < length text → nat_eq (get_or text end 0) 10 ≡ true
+pub ended_line : (text : List ℕ) (end : ℕ)
+    → ((k : ℕ) → k < end → nat_eq (get_or text k 0) 10 ≡ true → ⊥) → end < length text
+    → nat_eq (get_or text end 0) 10 ≡ true
     → FirstLine text (take end text) (10 ∷ drop (suc end) text)
 ended_line text end none lt is = record {
   parts = cut_at text end 10 lt (eqb-true _ _ is);
@@ -28,11 +30,13 @@ ended_line text end none lt is = record {
 }
 
 -- a text without LF is one line
-pub only_line : (text : List ℕ) → ((k : ℕ) → k < length text → nat_eq (get_or text k 0) 10 ≡ true → ⊥) → FirstLine text text []
+pub only_line : (text : List ℕ)
+    → ((k : ℕ) → k < length text → nat_eq (get_or text k 0) 10 ≡ true → ⊥) → FirstLine text text []
 only_line text none = record { parts = sym (append-nil text); whole = λ k lt is_lf. none k lt (eq-eqb _ _ is_lf); ended = tt }
 
 -- the bytes of a line that fits are its spelling
-pub spelled_line : (at : Place) (here : List ℕ) (l : LogLine) (behind : Place) → FitsAt at here l behind → line_text l ≡ here
+pub spelled_line : (at : Place) (here : List ℕ) (l : LogLine) (behind : Place)
+    → FitsAt at here l behind → line_text l ≡ here
 spelled_line at here l behind line = ap joined (sym line.spelled) ∙ joined-words here
 
 -- a list whose length isn't 0
@@ -41,17 +45,20 @@ nonempty [] lt e = omega arith
 nonempty (byte ∷ more) lt e = cc
 
 -- lines behind lines
-pub leads_on : (at mid to : Place) (lines more : List LogLine) → Leads at lines mid → Leads mid more to → Leads at (lines ++ more) to
+pub leads_on : (at mid to : Place) (lines more : List LogLine) → Leads at lines mid
+    → Leads mid more to → Leads at (lines ++ more) to
 leads_on at mid to [] more first second = subst (λ (p : Place). Leads p more to) (sym first) second
 leads_on at mid to (l ∷ lines) more first second = (first.0, first.1, first.2, leads_on first.1 mid to lines more first.3 second)
 
-pub text_of-append : (lines more : List LogLine) → text_of (lines ++ more) ≡ text_of lines ++ text_of more
+pub text_of-append : (lines more : List LogLine)
+    → text_of (lines ++ more) ≡ text_of lines ++ text_of more
 text_of-append [] more = refl
 text_of-append (l ∷ lines) more =
     ap (λ (t : List ℕ). line_text l ++ 10 ∷ t) (text_of-append lines more) ∙ sym (append_assoc (line_text l) (10 ∷ text_of lines) (text_of more))
 
 -- what was taken in two parts was taken
-pub takes_on : (at mid to : Place) (old now new : Lines) (lines more : List LogLine) → Takes at old lines mid now → Takes mid now more to new → Takes at old (lines ++ more) to new
+pub takes_on : (at mid to : Place) (old now new : Lines) (lines more : List LogLine)
+    → Takes at old lines mid now → Takes mid now more to new → Takes at old (lines ++ more) to new
 takes_on at mid to old now new lines more first second = record {
   leads = leads_on at mid to lines more first.leads second.leads;
   parts =
@@ -62,7 +69,9 @@ takes_on at mid to old now new lines more first second = record {
 }
 
 -- the first fault behind lines that were taken is the first fault
-fault_behind : (at mid : Place) (old now : Lines) (lines : List LogLine) (e : LogError) → Takes at old lines mid now → FaultFrom mid now.rest.now now.number e → FaultFrom at old.rest.now old.number e
+fault_behind : (at mid : Place) (old now : Lines) (lines : List LogLine) (e : LogError)
+    → Takes at old lines mid now → FaultFrom mid now.rest.now now.number e
+    → FaultFrom at old.rest.now old.number e
 fault_behind at mid old now lines e taken fault = record {
   earlier = lines ++ fault.earlier;
   to = fault.to;
@@ -77,12 +86,14 @@ fault_behind at mid old now lines e taken fault = record {
       subst (λ (k : ℕ). LineFails fault.to fault.left k e) count fault.fails;
 }
 
-refuses : (at : Place) (lines : Lines) (e : LogError) → FaultFrom at lines.rest.now lines.number e → Refuses at lines e
+refuses : (at : Place) (lines : Lines) (e : LogError) → FaultFrom at lines.rest.now lines.number e
+    → Refuses at lines e
 refuses at lines error.NoMemory fault = tt
 refuses at lines (error.BadLog line kind) fault = fault
 
 -- the first line fails
-pub refuses_here : (at : Place) (lines : Lines) (e : LogError) → LineFails at lines.rest.now lines.number e → Refuses at lines e
+pub refuses_here : (at : Place) (lines : Lines) (e : LogError)
+    → LineFails at lines.rest.now lines.number e → Refuses at lines e
 refuses_here at lines e fails = refuses at lines e (record {
   earlier = [];
   to = at;
@@ -93,20 +104,25 @@ refuses_here at lines e fails = refuses at lines e (record {
 })
 
 -- a refusal behind lines that were taken is one of the whole
-pub refuses_behind : (at mid : Place) (old now : Lines) (lines : List LogLine) (e : LogError) → Takes at old lines mid now → Refuses mid now e → Refuses at old e
+pub refuses_behind : (at mid : Place) (old now : Lines) (lines : List LogLine) (e : LogError)
+    → Takes at old lines mid now → Refuses mid now e → Refuses at old e
 refuses_behind at mid old now lines error.NoMemory taken fault = tt
 refuses_behind at mid old now lines (error.BadLog line kind) taken fault = fault_behind at mid old now lines (error.BadLog line kind) taken fault
 
 -- a refusal is want of memory or a fault
-refusal_cases : (at : Place) (lines : Lines) (e : LogError) → Refuses at lines e → (e ≡ error.NoMemory) ⊎ FaultFrom at lines.rest.now lines.number e
+refusal_cases : (at : Place) (lines : Lines) (e : LogError) → Refuses at lines e
+    → (e ≡ error.NoMemory) ⊎ FaultFrom at lines.rest.now lines.number e
 refusal_cases at lines error.NoMemory fault = inl refl
 refusal_cases at lines (error.BadLog line kind) fault = inr fault
 
 -- the same, behind lines that were taken
-pub refusal_behind : (at mid : Place) (old now : Lines) (lines : List LogLine) (e : LogError) → Takes at old lines mid now → Refuses mid now e → (e ≡ error.NoMemory) ⊎ FaultFrom at old.rest.now old.number e
+pub refusal_behind : (at mid : Place) (old now : Lines) (lines : List LogLine) (e : LogError)
+    → Takes at old lines mid now → Refuses mid now e
+    → (e ≡ error.NoMemory) ⊎ FaultFrom at old.rest.now old.number e
 refusal_behind at mid old now lines e taken refused = refusal_cases at old e (refuses_behind at mid old now lines e taken refused)
 
 -- a test found the list not empty
-pub tested_nonempty : (text : List ℕ) (empty : Bool) → empty ≡ nat_eq (length text) 0 → empty ≡ false → text ≢ []
+pub tested_nonempty : (text : List ℕ) (empty : Bool) → empty ≡ nat_eq (length text) 0
+    → empty ≡ false → text ≢ []
 tested_nonempty [] empty test e f = cc
 tested_nonempty (byte ∷ more) empty test e f = cc

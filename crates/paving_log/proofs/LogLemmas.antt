@@ -48,7 +48,8 @@ sat_first : (e : SatEntry) (lines more : List LogLine) → NoSat lines → lines
 sat_first e [] more none same = cc
 sat_first e (l ∷ lines) more none same = let first : l ≡ line.Sat e = cc in subst IsNoSat first none
 
-same_sats : (sats others : List SatEntry) (tail more : List LogLine) → NoSat tail → NoSat more → map line.Sat sats ++ tail ≡ map line.Sat others ++ more → (sats ≡ others) × (tail ≡ more)
+same_sats : (sats others : List SatEntry) (tail more : List LogLine) → NoSat tail → NoSat more
+    → map line.Sat sats ++ tail ≡ map line.Sat others ++ more → (sats ≡ others) × (tail ≡ more)
 same_sats [] [] tail more f g e = (refl, e)
 same_sats [] (o ∷ others) tail more f g e = absurd (sat_first o tail _ f e)
 same_sats (s ∷ sats) [] tail more f g e = absurd (sat_first s more _ g (sym e))
@@ -65,7 +66,8 @@ same_box a b e = λ i. record {
   z = record { lo = (e i).lo.z; hi = (e i).hi.z };
 }
 
-same_rows : (rows others : List Row) (tail more : List LogLine) → NoSat tail → NoSat more → map row_line rows ++ tail ≡ map row_line others ++ more → (rows ≡ others) × (tail ≡ more)
+same_rows : (rows others : List Row) (tail more : List LogLine) → NoSat tail → NoSat more
+    → map row_line rows ++ tail ≡ map row_line others ++ more → (rows ≡ others) × (tail ≡ more)
 same_rows [] [] tail more f g e = (refl, e)
 same_rows [] (o ∷ others) tail more f g e = absurd (sat_first (entry.Row o) tail _ f e)
 same_rows (r ∷ rows) [] tail more f g e = absurd (sat_first (entry.Row r) more _ g (sym e))
@@ -75,7 +77,8 @@ same_rows (r ∷ rows) (o ∷ others) tail more f g e =
     let later = same_rows rows others tail more f g rest in
     (ap (λ (t : List Row). r ∷ t) later.0 ∙ ap (λ (x : Row). x ∷ others) one, later.1)
 
-no_sat_events : (events : List Event) (tail : List LogLine) → NoSat tail → NoSat (flat_map event_lines events ++ tail)
+no_sat_events : (events : List Event) (tail : List LogLine) → NoSat tail
+    → NoSat (flat_map event_lines events ++ tail)
 no_sat_events [] tail none = none
 no_sat_events (Made step ∷ events) tail none = tt
 no_sat_events (Renewed new ∷ events) tail none = tt
@@ -86,17 +89,22 @@ record IsSamePaving (events others : List Event) (m n : ℕ) (tail more : List L
   done : m ≡ n
   behind : tail ≡ more
 
-same_renewal : (new other : RowsOver) → corners_of new.part ≡ corners_of other.part → new.rows ≡ other.rows → new ≡ other
+same_renewal : (new other : RowsOver) → corners_of new.part ≡ corners_of other.part
+    → new.rows ≡ other.rows → new ≡ other
 same_renewal new other part rows = let box = same_box new.part other.part part in λ i. record { part = box i; rows = rows i }
 
-one_more : (event other : Event) (events others : List Event) (m n : ℕ) (tail more : List LogLine) → event ≡ other → IsSamePaving events others m n tail more → IsSamePaving (event ∷ events) (other ∷ others) m n tail more
+one_more : (event other : Event) (events others : List Event) (m n : ℕ) (tail more : List LogLine)
+    → event ≡ other → IsSamePaving events others m n tail more
+    → IsSamePaving (event ∷ events) (other ∷ others) m n tail more
 one_more event other events others m n tail more one later = record {
   same = ap (λ (t : List Event). event ∷ t) later.same ∙ ap (λ (x : Event). x ∷ others) one;
   done = later.done;
   behind = later.behind;
 }
 
-same_events : (events others : List Event) (m n : ℕ) (tail more : List LogLine) → flat_map event_lines events ++ line.Done m ∷ tail ≡ flat_map event_lines others ++ line.Done n ∷ more → IsSamePaving events others m n tail more
+same_events : (events others : List Event) (m n : ℕ) (tail more : List LogLine)
+    → flat_map event_lines events ++ line.Done m ∷ tail ≡ flat_map event_lines others ++ line.Done n ∷ more
+    → IsSamePaving events others m n tail more
 same_events [] [] m n tail more e = record { same = refl; done = cc; behind = cc }
 same_events [] (Made o ∷ others) m n tail more e = cc
 same_events [] (Renewed o ∷ others) m n tail more e = cc
@@ -117,15 +125,19 @@ same_events (Renewed s ∷ events) (Renewed o ∷ others) m n tail more e =
     let rows = same_rows s.rows o.rows _ _ (no_sat_events events last tt) (no_sat_events others end tt) regrouped in
     one_more (Renewed s) (Renewed o) events others m n tail more (ap Renewed (same_renewal s o corners rows.0)) (same_events events others m n tail more rows.1)
   where
-    first_box : (x y : Corners) (ls ms : List LogLine) → line.Renew x ∷ ls ≡ line.Renew y ∷ ms → x ≡ y
+    first_box : (x y : Corners) (ls ms : List LogLine) → line.Renew x ∷ ls ≡ line.Renew y ∷ ms
+        → x ≡ y
     first_box x y ls ms e = cc
 
-    behind_box : (x y : Corners) (ls ms : List LogLine) → line.Renew x ∷ ls ≡ line.Renew y ∷ ms → ls ≡ ms
+    behind_box : (x y : Corners) (ls ms : List LogLine) → line.Renew x ∷ ls ≡ line.Renew y ∷ ms
+        → ls ≡ ms
     behind_box x y ls ms e = cc
 
 -- what stands behind two roots
-same_closing : (f : Form) (k j : ℕ) (events others : List Event) (m n : ℕ) (tail more : List LogLine) → ClosingFits f k events m → ClosingFits f j others n
-    → closing_lines f events m ++ tail ≡ closing_lines f others n ++ more → IsSamePaving events others m n tail more
+same_closing : (f : Form) (k j : ℕ) (events others : List Event) (m n : ℕ) (tail more : List LogLine)
+    → ClosingFits f k events m → ClosingFits f j others n
+    → closing_lines f events m ++ tail ≡ closing_lines f others n ++ more
+    → IsSamePaving events others m n tail more
 same_closing (form.Log renews) k j events others m n tail more x y e =
     same_events events others m n tail more
     (sym (append_assoc (flat_map event_lines events) (line.Done m ∷ []) tail) ∙ e ∙ append_assoc (flat_map event_lines others) (line.Done n ∷ []) more)
@@ -136,7 +148,8 @@ record IsSameBody (body other : Option Body) (tail more : List LogLine) : Type 0
   same : body ≡ other
   behind : tail ≡ more
 
-same_body : (f : Form) (b c : Block) (body other : Option Body) (tail more : List LogLine) → is_none body ≡ is_none other → BodyFits f b body → BodyFits f c other
+same_body : (f : Form) (b c : Block) (body other : Option Body) (tail more : List LogLine)
+    → is_none body ≡ is_none other → BodyFits f b body → BodyFits f c other
     → paved_lines f body ++ tail ≡ paved_lines f other ++ more → IsSameBody body other tail more
 same_body f b c None None tail more few x y e = record { same = refl; behind = e }
 same_body f b c None (Some other) tail more few x y e = cc
@@ -147,10 +160,12 @@ same_body f b c (Some body) (Some other) tail more few x y e =
     let paving = same_closing f b.n c.n body.events other.events body.done other.done tail more x.1 y.1 (behind_root (corners_of body.root) (corners_of other.root) _ _ e) in
     record { same = λ i. Some (record { root = box i; events = paving.same i; done = paving.done i }); behind = paving.behind }
   where
-    first_root : (x y : Corners) (ls ms : List LogLine) → line.Root x ∷ ls ≡ line.Root y ∷ ms → x ≡ y
+    first_root : (x y : Corners) (ls ms : List LogLine) → line.Root x ∷ ls ≡ line.Root y ∷ ms
+        → x ≡ y
     first_root x y ls ms e = cc
 
-    behind_root : (x y : Corners) (ls ms : List LogLine) → line.Root x ∷ ls ≡ line.Root y ∷ ms → ls ≡ ms
+    behind_root : (x y : Corners) (ls ms : List LogLine) → line.Root x ∷ ls ≡ line.Root y ∷ ms
+        → ls ≡ ms
     behind_root x y ls ms e = cc
 
 -- the first lines of two blocks
@@ -158,13 +173,15 @@ record IsSameFirst (few other : Bool) (h k : Header) : Type 0 where
   same : few ≡ other
   header : h ≡ k
 
-same_first : (few other : Bool) (h k : Header) → first_line few h ≡ first_line other k → IsSameFirst few other h k
+same_first : (few other : Bool) (h k : Header) → first_line few h ≡ first_line other k
+    → IsSameFirst few other h k
 same_first true true h k e = record { same = refl; header = cc }
 same_first true false h k e = cc
 same_first false true h k e = cc
 same_first false false h k e = record { same = refl; header = cc }
 
-no_sat_paved : (f : Form) (body : Option Body) (tail : List LogLine) → NoSat tail → NoSat (paved_lines f body ++ tail)
+no_sat_paved : (f : Form) (body : Option Body) (tail : List LogLine) → NoSat tail
+    → NoSat (paved_lines f body ++ tail)
 no_sat_paved f None tail none = none
 no_sat_paved f (Some body) tail none = tt
 
@@ -181,7 +198,9 @@ record IsSameBlock (b c : Block) (tail more : List LogLine) : Type 0 where
   same : b.line ≡ c.line → b ≡ c
   behind : tail ≡ more
 
-same_block : (f : Form) (b c : Block) (tail more : List LogLine) → BlockFits f b → BlockFits f c → NoSat tail → NoSat more → block_lines f b ++ tail ≡ block_lines f c ++ more → IsSameBlock b c tail more
+same_block : (f : Form) (b c : Block) (tail more : List LogLine) → BlockFits f b → BlockFits f c
+    → NoSat tail → NoSat more → block_lines f b ++ tail ≡ block_lines f c ++ more
+    → IsSameBlock b c tail more
 same_block f b c tail more g h x y e =
     let first = same_first (is_few b) (is_few c) (header_of b) (header_of c) (head e) in
     let bodies = sym (append_assoc (map line.Sat b.sats) (paved_lines f b.body) tail) ∙ rest e ∙ append_assoc (map line.Sat c.sats) (paved_lines f c.body) more in
@@ -205,7 +224,9 @@ same_block f b c tail more g h x y e =
     rest : {l m : LogLine} {ls ms : List LogLine} → l ∷ ls ≡ m ∷ ms → ls ≡ ms
     rest e = cc
 
-same_blocks : (f : Form) (blocks others : List Block) (next : ℕ) → AllByRecursion (BlockFits f) blocks → AllByRecursion (BlockFits f) others → IsNumberedIn f next blocks → IsNumberedIn f next others
+same_blocks : (f : Form) (blocks others : List Block) (next : ℕ)
+    → AllByRecursion (BlockFits f) blocks → AllByRecursion (BlockFits f) others
+    → IsNumberedIn f next blocks → IsNumberedIn f next others
     → flat_map (block_lines f) blocks ≡ flat_map (block_lines f) others → blocks ≡ others
 same_blocks f [] [] next g h x y e = refl
 same_blocks f [] (c ∷ others) next g h x y e = cc
@@ -225,11 +246,14 @@ record IsSameHead (version other : ℕ) (rules said : Rules) (ls ms : List LogLi
   limits : limits_of rules ≡ limits_of said
   behind : ls ≡ ms
 
-same_head : (version other : ℕ) (rules said : Rules) (ls ms : List LogLine) → head_lines version rules ++ ls ≡ head_lines other said ++ ms → IsSameHead version other rules said ls ms
+same_head : (version other : ℕ) (rules said : Rules) (ls ms : List LogLine)
+    → head_lines version rules ++ ls ≡ head_lines other said ++ ms
+    → IsSameHead version other rules said ls ms
 same_head version other rules said ls ms e = record { same = cc; limits = cc; behind = cc }
 
 -- a text spells one value at most
-pub one_spelled : (k : Kind) (log other : LogValue) (text : List ℕ) → IsSpelling k log text → IsSpelling k other text → log ≡ other
+pub one_spelled : (k : Kind) (log other : LogValue) (text : List ℕ) → IsSpelling k log text
+    → IsSpelling k other text → log ≡ other
 one_spelled k log other text x y =
     let first = log_leads k log x.fits in
     let second = log_leads k other y.fits in
@@ -246,54 +270,67 @@ one_spelled k log other text x y =
     λ i. record { version = head.same i; rules = rules i; blocks = blocks i }
 
 -- in the text of a value each line fits
-pub spelled_has_no_fault : (k : Kind) (log : LogValue) (text : List ℕ) (e : LogError) → IsSpelling k log text → FaultFrom (place.First k) text 1 e → ⊥
+pub spelled_has_no_fault : (k : Kind) (log : LogValue) (text : List ℕ) (e : LogError)
+    → IsSpelling k log text → FaultFrom (place.First k) text 1 e → ⊥
 spelled_has_no_fault k log text e is fault =
     let leads = log_leads k log is.fits in
     no_fault (log_lines k log) (place.First k) leads.to text 1 e leads.leads leads.may_end is.spelled fault
 
 -- ---- the numbers of a log's lines
 
-lines_of_body-length : (renews : Bool) (b : Block) (body : Option Body) → 1 + length b.sats + lines_of_body body ≡ 1 + length (map line.Sat b.sats ++ paved_lines (form.Log renews) body)
+lines_of_body-length : (renews : Bool) (b : Block) (body : Option Body)
+    → 1 + length b.sats + lines_of_body body ≡ 1 + length (map line.Sat b.sats ++ paved_lines (form.Log renews) body)
 lines_of_body-length renews b None = omega (arith, length-append (map line.Sat b.sats) [], length-map b.sats line.Sat)
 lines_of_body-length renews b (Some body) =
     let last = flat_map event_lines body.events ++ line.Done body.done ∷ [] in
     omega (arith, length-append (map line.Sat b.sats) (line.Root (corners_of body.root) ∷ last), length-map b.sats line.Sat, length-append (flat_map event_lines body.events) (line.Done body.done ∷ []), lines_of_events body.events)
 
-lines_in-length : (renews : Bool) (b : Block) → lines_in b ≡ length (block_lines (form.Log renews) b)
+lines_in-length : (renews : Bool) (b : Block)
+    → lines_in b ≡ length (block_lines (form.Log renews) b)
 lines_in-length renews b = omega (arith, lines_of_body-length renews b b.body)
 
-numbered_from : (renews : Bool) (next : ℕ) (blocks : List Block) → IsNumberedIn (form.Log renews) next blocks → IsNumberedFrom next blocks
+numbered_from : (renews : Bool) (next : ℕ) (blocks : List Block)
+    → IsNumberedIn (form.Log renews) next blocks → IsNumberedFrom next blocks
 numbered_from renews next [] numbered = numbered
 numbered_from renews next (b ∷ blocks) numbered =
     (numbered.0, subst (λ (k : ℕ). IsNumberedFrom (next + k) blocks) (sym (lines_in-length renews b)) (numbered_from renews (next + length (block_lines (form.Log renews) b)) blocks numbered.1))
 
-numbered_in : (renews : Bool) (next : ℕ) (blocks : List Block) → IsNumberedFrom next blocks → IsNumberedIn (form.Log renews) next blocks
+numbered_in : (renews : Bool) (next : ℕ) (blocks : List Block) → IsNumberedFrom next blocks
+    → IsNumberedIn (form.Log renews) next blocks
 numbered_in renews next [] numbered = numbered
 numbered_in renews next (b ∷ blocks) numbered =
     (numbered.0, subst (λ (k : ℕ). IsNumberedIn (form.Log renews) (next + k) blocks) (lines_in-length renews b) (numbered_in renews (next + lines_in b) blocks numbered.1))
 
-pub log_text_from : (log : LogValue) (text : List ℕ) → IsSpelling kind.Log log text → IsLogText log text
+pub log_text_from : (log : LogValue) (text : List ℕ) → IsSpelling kind.Log log text
+    → IsLogText log text
 log_text_from log text is = record { fits = is.fits; numbered = numbered_from (may_renew log.version) 3 log.blocks is.numbered; spelled = is.spelled }
 
-pub log_spelling : (log : LogValue) (text : List ℕ) → IsLogText log text → IsSpelling kind.Log log text
+pub log_spelling : (log : LogValue) (text : List ℕ) → IsLogText log text
+    → IsSpelling kind.Log log text
 log_spelling log text is = record { fits = is.fits; numbered = numbered_in (may_renew log.version) 3 log.blocks is.numbered; spelled = is.spelled }
 
 -- ---- what a reader's answer is held to
 
 -- what was read is the log of a text
-pub value_given : (result : Result Log LogError) (text : List ℕ) → IfOk result (λ read. IsSpelling kind.Log (log_value read) text) → IfOk result (λ read. IsLogText (log_value read) text)
+pub value_given : (result : Result Log LogError) (text : List ℕ)
+    → IfOk result (λ read. IsSpelling kind.Log (log_value read) text)
+    → IfOk result (λ read. IsLogText (log_value read) text)
 value_given (Ok read) text value = log_text_from (log_value read) text value
 value_given (Err e) text value = tt
 
 -- an answer that is right both ways gives the log of a text
-pub gives_log : (result : Result Log LogError) (text : List ℕ) → IfOk result (λ read. IsSpelling kind.Log (log_value read) text) → IfErr result (λ e. (e ≡ NoMemory) ⊎ FirstFault text e)
+pub gives_log : (result : Result Log LogError) (text : List ℕ)
+    → IfOk result (λ read. IsSpelling kind.Log (log_value read) text)
+    → IfErr result (λ e. (e ≡ NoMemory) ⊎ FirstFault text e)
     → (log : LogValue) → IsLogText log text → GivesLog log result
 gives_log (Ok read) text value fault log is = one_spelled kind.Log (log_value read) log text value (log_spelling log text is)
 gives_log (Err e) text value (inl none) log is = none
 gives_log (Err e) text value (inr fault) log is = absurd (spelled_has_no_fault kind.Log log text e (log_spelling log text is) fault)
 
 -- and the first fault of a text
-pub gives_fault : (result : Result Log LogError) (text : List ℕ) → IfOk result (λ read. IsSpelling kind.Log (log_value read) text) → IfErr result (λ e. (e ≡ NoMemory) ⊎ FirstFault text e)
+pub gives_fault : (result : Result Log LogError) (text : List ℕ)
+    → IfOk result (λ read. IsSpelling kind.Log (log_value read) text)
+    → IfErr result (λ e. (e ≡ NoMemory) ⊎ FirstFault text e)
     → (e : LogError) → FirstFault text e → GivesFault e result
 gives_fault (Ok read) text value fault e first = spelled_has_no_fault kind.Log (log_value read) text e value first
 gives_fault (Err f) text value (inl none) e first = inr none
@@ -301,15 +338,19 @@ gives_fault (Err f) text value (inr fault) e first = inl (one_fault (place.First
 
 -- ---- version 1
 
-body_unrenewed : (f : Form) (b : Block) (body : Option Body) → f ≡ form.Log false → BodyFits f b body → IsUnrenewed body
+body_unrenewed : (f : Form) (b : Block) (body : Option Body) → f ≡ form.Log false
+    → BodyFits f b body → IsUnrenewed body
 body_unrenewed f b None plain fits = tt
 body_unrenewed f b (Some body) plain fits = none_renewed b.n body.events (subst (λ (g : Form). ClosingFits g b.n body.events body.done) plain fits.1).0
 
-blocks_unrenewed : (f : Form) (blocks : List Block) → f ≡ form.Log false → AllByRecursion (BlockFits f) blocks → AreUnrenewed blocks
+blocks_unrenewed : (f : Form) (blocks : List Block) → f ≡ form.Log false
+    → AllByRecursion (BlockFits f) blocks → AreUnrenewed blocks
 blocks_unrenewed f [] plain fit = tt
 blocks_unrenewed f (b ∷ blocks) plain fit = (body_unrenewed f b b.body plain fit.0.body, blocks_unrenewed f blocks plain fit.1)
 
-pub first_unrenewed : (result : Result Log LogError) (text : List ℕ) → IfOk result (λ read. IsSpelling kind.Log (log_value read) text) → IfOk result (λ read. read.version ≡ 1 → AreUnrenewed (log_value read).blocks)
+pub first_unrenewed : (result : Result Log LogError) (text : List ℕ)
+    → IfOk result (λ read. IsSpelling kind.Log (log_value read) text)
+    → IfOk result (λ read. read.version ≡ 1 → AreUnrenewed (log_value read).blocks)
 first_unrenewed (Ok read) text value = λ one.
     blocks_unrenewed (form_of kind.Log read.version) (log_value read).blocks (ap (form_of kind.Log) one) value.fits.blocks
 first_unrenewed (Err e) text value = tt

@@ -24,7 +24,8 @@ given test after e = ap (λ (b : Bool). only_if b after) e
 
 -- ---- a line that may come here has a first word that may
 
-pub next_named : (at : Place) (l : LogLine) (to : Place) → next at l ≡ Some to → may_come at (name_of l) ≡ true
+pub next_named : (at : Place) (l : LogLine) (to : Place) → next at l ≡ Some to
+    → may_come at (name_of l) ≡ true
 next_named (place.First k) (line.Version version) to e = refl
 next_named (place.Second f) (line.Rules l) to e = refl
 next_named (place.Between f) (line.Epoch h) to e = refl

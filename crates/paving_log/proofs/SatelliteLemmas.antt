@@ -10,11 +10,13 @@ use Rattle.sat_model.specs.declared.rows.SatEntry.{SatEntry}
 use Rattle.sat_model.specs.Logs.{sat_of}
 use Rattle.sat_model.specs.Verdicts.{IsRepeat}
 
-pub other_satellite : (a b : Sat) → false ≡ (nat_eq a.system b.system && nat_eq a.number b.number) → a ≢ b
+pub other_satellite : (a b : Sat) → false ≡ (nat_eq a.system b.system && nat_eq a.number b.number)
+    → a ≢ b
 other_satellite a b h same =
     false≢true (h ∙ rw (eq-eqb a.system b.system (ap (λ (s : Sat). s.system) same), eq-eqb a.number b.number (ap (λ (s : Sat). s.number) same)) refl)
 
-pub repeat_from : (sats : List SatEntry) (k : ℕ) (entry : SatEntry) → k < length sats → entry ≡ get_or sats k entry
+pub repeat_from : (sats : List SatEntry) (k : ℕ) (entry : SatEntry) → k < length sats
+    → entry ≡ get_or sats k entry
     → Contains (map sat_of (take k sats)) (sat_of entry) → IsRepeat sats k
 repeat_from sats k entry within is (i, less, same) =
     let short : i < k = omega (arith, length-map (take k sats) sat_of, length-take k sats) in

@@ -54,7 +54,8 @@ decimal_word : (n : ℕ) → n < 10 ^ 64 → IsWord (decimal n)
 decimal_word n small = digits_word (decimal n) (decimal_is_IsNumeral_wide n small).0.1
 
 -- a number within a bound of at most 64 digits
-pub within_word : (bound : ℕ) (z : ℤ) → bound < 10 ^ 64 → IsWithin bound z → IsWord (signed_decimal z)
+pub within_word : (bound : ℕ) (z : ℤ) → bound < 10 ^ 64 → IsWithin bound z
+    → IsWord (signed_decimal z)
 within_word bound (pos n) small within = decimal_word n (omega (arith, ints, within.high))
 within_word zero (negsuc n) small within = absurd (omega (arith, ints, within.low))
 within_word (suc bound) (negsuc n) small within = (lit< tt, decimal_word (suc n) (omega (arith, ints, within.low)))
@@ -87,7 +88,8 @@ header_are : (h : Header) → HeaderFits h → AreWords (header_words h)
 header_are h fits = (count_word 200000 h.index (lit< tt) fits.index.1, (time_word h.ps fits.ps, (count_word 64 h.n (lit< tt) fits.n.1, tt)))
 
 -- two words, or none
-told_are : (none : Bool) (lo hi : ℤ) → IsErrorSize lo × IsErrorSize hi → AreWords (if none then [] else (signed_decimal lo ∷ signed_decimal hi ∷ []))
+told_are : (none : Bool) (lo hi : ℤ) → IsErrorSize lo × IsErrorSize hi
+    → AreWords (if none then [] else (signed_decimal lo ∷ signed_decimal hi ∷ []))
 told_are true lo hi within = tt
 told_are false lo hi within = (within_word 1000000000000 lo (lit< tt) within.0, (within_word 1000000000000 hi (lit< tt) within.1, tt))
 
@@ -220,7 +222,8 @@ pub line_end : (l : LogLine) → LineFits l → HasNoEnd (line_text l)
 line_end l fits = joined_end (line_words l) (name_is (name_of l), fields_are l fits)
 
 -- what stands before the first LF of a text
-pub same_front : (a b rest more : List ℕ) → HasNoEnd a → HasNoEnd b → a ++ 10 ∷ rest ≡ b ++ 10 ∷ more → (a ≡ b) × (rest ≡ more)
+pub same_front : (a b rest more : List ℕ) → HasNoEnd a → HasNoEnd b
+    → a ++ 10 ∷ rest ≡ b ++ 10 ∷ more → (a ≡ b) × (rest ≡ more)
 same_front [] [] rest more f g e = (refl, cc)
 same_front [] (y ∷ b) rest more f g e = let h : y ≡ 10 = cc in absurd (g.0 h)
 same_front (x ∷ a) [] rest more f g e = let h : x ≡ 10 = cc in absurd (f.0 h)
@@ -231,7 +234,9 @@ same_front (x ∷ a) (y ∷ b) rest more f g e =
     (ap (λ (t : List ℕ). x ∷ t) later.0 ∙ ap (λ (h : ℕ). h ∷ b) heads, later.1)
 
 -- two lines that fit and begin the same text have the same words
-pub same_line : (l m : LogLine) (rest more : List ℕ) → LineFits l → LineFits m → line_text l ++ 10 ∷ rest ≡ line_text m ++ 10 ∷ more → (line_words l ≡ line_words m) × (rest ≡ more)
+pub same_line : (l m : LogLine) (rest more : List ℕ) → LineFits l → LineFits m
+    → line_text l ++ 10 ∷ rest ≡ line_text m ++ 10 ∷ more
+    → (line_words l ≡ line_words m) × (rest ≡ more)
 same_line l m rest more f g e =
     let same = same_front (line_text l) (line_text m) rest more (line_end l f) (line_end m g) e in
     (sym (words-line_text l f) ∙ ap words same.0 ∙ words-line_text m g, same.1)

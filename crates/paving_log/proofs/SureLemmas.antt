@@ -15,7 +15,8 @@ use Rattle.grid_model.specs.declared.spans.Span.{Span}
 pub ends_decide : (s : Span) (lo hi : ℤ) → Decides (are_ends s lo hi) ((lo ≡ s.lo) × (hi ≡ s.hi))
 ends_decide s lo hi = Decides-and _ _ (Decides-int_eq lo s.lo) (Decides-int_eq hi s.hi)
 
-pub told_words : (s : Span) (lo hi : ℤ) → are_ends s lo hi ≡ false → sure_words s lo hi ≡ signed_decimal lo ∷ signed_decimal hi ∷ []
+pub told_words : (s : Span) (lo hi : ℤ) → are_ends s lo hi ≡ false
+    → sure_words s lo hi ≡ signed_decimal lo ∷ signed_decimal hi ∷ []
 told_words s lo hi other = rw other refl
 
 pub untold_words : (s : Span) (lo hi : ℤ) → are_ends s lo hi ≡ true → sure_words s lo hi ≡ []
@@ -34,19 +35,25 @@ error_from : (m n : ℤ) → IsErrorSize m → IsErrorSize n → signed_decimal 
 error_from m n f g e = one_number 1000000000000 m n (lit< tt) f g e
 
 -- those that were read, and any that are written so
-pub read_ends : (line rest more : List (List ℕ)) (lo hi low high : ℤ) → IsErrorSize lo × IsErrorSize hi → IsErrorSize low × IsErrorSize high
-    → line ≡ number_words lo ++ rest → rest ≡ number_words hi ++ more → line ≡ signed_decimal low ∷ signed_decimal high ∷ [] → AreSameEnds lo low hi high
+pub read_ends : (line rest more : List (List ℕ)) (lo hi low high : ℤ)
+    → IsErrorSize lo × IsErrorSize hi → IsErrorSize low × IsErrorSize high
+    → line ≡ number_words lo ++ rest → rest ≡ number_words hi ++ more
+    → line ≡ signed_decimal low ∷ signed_decimal high ∷ [] → AreSameEnds lo low hi high
 read_ends line rest more lo hi low high f g e d told = record { lo_same = error_from lo low f.0 g.0 cc; hi_same = error_from hi high f.1 g.1 cc }
 
-told_from : (none nothing : Bool) (a b lo hi low high : ℤ) → (none ≡ true → (lo ≡ a) × (hi ≡ b)) → (nothing ≡ true → (low ≡ a) × (high ≡ b)) → IsErrorSize lo × IsErrorSize hi → IsErrorSize low × IsErrorSize high
-    → (if none then [] else (signed_decimal lo ∷ signed_decimal hi ∷ [])) ≡ (if nothing then [] else (signed_decimal low ∷ signed_decimal high ∷ [])) → AreSameEnds lo low hi high
+told_from : (none nothing : Bool) (a b lo hi low high : ℤ) → (none ≡ true → (lo ≡ a) × (hi ≡ b))
+    → (nothing ≡ true → (low ≡ a) × (high ≡ b)) → IsErrorSize lo × IsErrorSize hi
+    → IsErrorSize low × IsErrorSize high
+    → (if none then [] else (signed_decimal lo ∷ signed_decimal hi ∷ [])) ≡ (if nothing then [] else (signed_decimal low ∷ signed_decimal high ∷ []))
+    → AreSameEnds lo low hi high
 told_from true true a b lo hi low high is are f g e = record { lo_same = (is refl).0 ∙ sym (are refl).0; hi_same = (is refl).1 ∙ sym (are refl).1 }
 told_from true false a b lo hi low high is are f g e = absurd cc
 told_from false true a b lo hi low high is are f g e = absurd cc
 told_from false false a b lo hi low high is are f g e = record { lo_same = error_from lo low f.0 g.0 cc; hi_same = error_from hi high f.1 g.1 cc }
 
 -- they are the same, beside errors that are the same
-pub ends_from : (err other : Span) (lo hi low high : ℤ) → err ≡ other → IsErrorSize lo × IsErrorSize hi → IsErrorSize low × IsErrorSize high
+pub ends_from : (err other : Span) (lo hi low high : ℤ) → err ≡ other
+    → IsErrorSize lo × IsErrorSize hi → IsErrorSize low × IsErrorSize high
     → sure_words err lo hi ≡ sure_words other low high → AreSameEnds lo low hi high
 ends_from err other lo hi low high same f g e =
     let from : err.lo ≡ other.lo = ap (λ (s : Span). s.lo) same in
@@ -55,8 +62,10 @@ ends_from err other lo hi low high same f g e =
     (λ is. let ends = (ends_decide other low high).0 is in (ends.0 ∙ sym from, ends.1 ∙ sym to)) f g e
 
 -- where none is read behind an error, there is none of any row with that error
-pub none_behind : (line rest : List (List ℕ)) (err other : Span) (lo hi : ℤ) → IsSpanWithin 1000000000000 err → IsSpanWithin 1000000000000 other
-    → line ≡ span_words err ++ rest → line ≡ span_words other ++ sure_words other lo hi → AreSure other lo hi
+pub none_behind : (line rest : List (List ℕ)) (err other : Span) (lo hi : ℤ)
+    → IsSpanWithin 1000000000000 err → IsSpanWithin 1000000000000 other
+    → line ≡ span_words err ++ rest → line ≡ span_words other ++ sure_words other lo hi
+    → AreSure other lo hi
     → ((ends : ℤ × ℤ) → AreSure err ends.0 ends.1 → rest ≡ sure_words err ends.0 ends.1 → ⊥) → ⊥
 none_behind line rest err other lo hi f g e d sure none =
     let from : other.lo ≡ err.lo = error_from other.lo err.lo g.0 f.0 cc in

@@ -53,7 +53,8 @@ error_prop lo hi = hlevel T_prop
 same_span : (a b : Span) → a.lo ≡ b.lo → a.hi ≡ b.hi → a ≡ b
 same_span a b p q = λ i. record { lo = p i; hi = q i; ordered = is_prop→PathP (λ j. p j ≤ℤ q j) (λ j. int_prop (p j) (q j)) a.ordered b.ordered i }
 
-pub same_rules : (a b : Rules) → a.outliers ≡ b.outliers → a.bisections ≡ b.bisections → a.width ≡ b.width → a.pairs ≡ b.pairs → a ≡ b
+pub same_rules : (a b : Rules) → a.outliers ≡ b.outliers → a.bisections ≡ b.bisections
+    → a.width ≡ b.width → a.pairs ≡ b.pairs → a ≡ b
 same_rules a b p q r s = λ i. record {
   outliers = p i;
   bisections = q i;
@@ -69,7 +70,8 @@ same_rules a b p q r s = λ i. record {
 pub rules_from : (a b : Rules) → a.pairs ≡ b.pairs → limits_of a ≡ limits_of b → a ≡ b
 rules_from a b same e = same_rules a b (ap (λ (l : Limits). l.outliers) e) (ap (λ (l : Limits). l.bisections) e) (ap (λ (l : Limits). l.width) e) same
 
-same_limits : (a b : Limits) → a.outliers ≡ b.outliers → a.bisections ≡ b.bisections → a.width ≡ b.width → a ≡ b
+same_limits : (a b : Limits) → a.outliers ≡ b.outliers → a.bisections ≡ b.bisections
+    → a.width ≡ b.width → a ≡ b
 same_limits a b p q r = λ i. record {
   outliers = p i;
   bisections = q i;
@@ -80,7 +82,8 @@ same_limits a b p q r = λ i. record {
   narrow = is_prop→PathP (λ j. r j ≤ℤ pos 10000000000) (λ j. int_prop (r j) (pos 10000000000)) a.narrow b.narrow i;
 }
 
-same_row : (a b : Row) → a.sat ≡ b.sat → a.x ≡ b.x → a.y ≡ b.y → a.z ≡ b.z → a.range ≡ b.range → a.err ≡ b.err → a.sure_lo ≡ b.sure_lo → a.sure_hi ≡ b.sure_hi → a ≡ b
+same_row : (a b : Row) → a.sat ≡ b.sat → a.x ≡ b.x → a.y ≡ b.y → a.z ≡ b.z → a.range ≡ b.range
+    → a.err ≡ b.err → a.sure_lo ≡ b.sure_lo → a.sure_hi ≡ b.sure_hi → a ≡ b
 same_row a b s x y z range err lo hi = λ i. record {
   sat = s i;
   x = x i;
@@ -133,13 +136,17 @@ time_same m n f g e =
 at_index : (k : ℕ) (ws vs : List (List ℕ)) → ws ≡ vs → get_or ws k [] ≡ get_or vs k []
 at_index k ws vs e = ap (λ (all : List (List ℕ)). get_or all k []) e
 
-span_from : (bound : ℕ) (a b : Span) → bound < 2 ^ 63 → IsSpanWithin bound a → IsSpanWithin bound b → signed_decimal a.lo ≡ signed_decimal b.lo → signed_decimal a.hi ≡ signed_decimal b.hi → a ≡ b
+span_from : (bound : ℕ) (a b : Span) → bound < 2 ^ 63 → IsSpanWithin bound a → IsSpanWithin bound b
+    → signed_decimal a.lo ≡ signed_decimal b.lo → signed_decimal a.hi ≡ signed_decimal b.hi → a ≡ b
 span_from bound a b small f g p q = same_span a b (one_number bound a.lo b.lo small f.0 g.0 p) (one_number bound a.hi b.hi small f.1 g.1 q)
 
-pos_from : (bound : ℕ) (a b : Pos) → bound < 2 ^ 63 → IsPosWithin bound a → IsPosWithin bound b → signed_decimal a.x ≡ signed_decimal b.x → signed_decimal a.y ≡ signed_decimal b.y → signed_decimal a.z ≡ signed_decimal b.z → a ≡ b
+pos_from : (bound : ℕ) (a b : Pos) → bound < 2 ^ 63 → IsPosWithin bound a → IsPosWithin bound b
+    → signed_decimal a.x ≡ signed_decimal b.x → signed_decimal a.y ≡ signed_decimal b.y
+    → signed_decimal a.z ≡ signed_decimal b.z → a ≡ b
 pos_from bound a b small f g p q r = same_pos a b (one_number bound a.x b.x small f.0 g.0 p) (one_number bound a.y b.y small f.1 g.1 q) (one_number bound a.z b.z small f.2 g.2 r)
 
-sat_from : (a b : Sat) → IsNamed a → IsNamed b → get_or (sat_words a) 0 [] ≡ get_or (sat_words b) 0 [] → a ≡ b
+sat_from : (a b : Sat) → IsNamed a → IsNamed b
+    → get_or (sat_words a) 0 [] ≡ get_or (sat_words b) 0 [] → a ≡ b
 sat_from a b f g e =
     let tens : 48 + a.number / 10 ≡ 48 + b.number / 10 = ap (λ (w : List ℕ). get_or w 1 0) e in
     let ones : 48 + a.number % 10 ≡ 48 + b.number % 10 = ap (λ (w : List ℕ). get_or w 2 0) e in
@@ -176,7 +183,8 @@ skip_from a b f g e =
     let rest : optional_words a.field ≡ optional_words b.field = cc in
     same_skip a b (count_same 7 a.number b.number (lit< tt) x.0 y.0 (at_index 0 _ _ e)) (optional_from a.field b.field x.1 y.1 rest)
 
-entry_from : (a b : SatEntry) → EntryFits a → EntryFits b → entry_name a ≡ entry_name b → entry_words a ≡ entry_words b → a ≡ b
+entry_from : (a b : SatEntry) → EntryFits a → EntryFits b → entry_name a ≡ entry_name b
+    → entry_words a ≡ entry_words b → a ≡ b
 entry_from (entry.Row r) (entry.Row s) f g name e = ap entry.Row (row_from r s f g e)
 entry_from (entry.Row r) (entry.Skipped sat skip) f g name e = cc
 entry_from (entry.Skipped sat skip) (entry.Row r) f g name e = cc
@@ -211,7 +219,8 @@ clock_from m n f g e = one_number 200000000000000 m n (lit< tt) f g e
 bound_from : (m n : ℤ) → IsBoxSize m → IsBoxSize n → signed_decimal m ≡ signed_decimal n → m ≡ n
 bound_from m n f g e = one_number 10000000000000 m n (lit< tt) f g e
 
-step_from : (a b : Step) → StepFits a → StepFits b → step_name a ≡ step_name b → step_words a ≡ step_words b → a ≡ b
+step_from : (a b : Step) → StepFits a → StepFits b → step_name a ≡ step_name b
+    → step_words a ≡ step_words b → a ≡ b
 step_from (Cut i face bound) (Cut j other limit) f g name e =
     let id = id_from i j f.0 g.0 (at_index 0 _ _ e) in
     let same = count_same 5 face other (lit< tt) f.1.1 g.1.1 (at_index 1 _ _ e) in
@@ -284,7 +293,8 @@ kind_named (line.Done n) = refl
 same_kind : (l m : LogLine) → name_of l ≡ name_of m → kind_of l ≡ kind_of m
 same_kind l m name = sym (kind_named l) ∙ ap kind name ∙ kind_named m
 
-line_from : (l m : LogLine) → LineFits l → LineFits m → name_of l ≡ name_of m → fields l ≡ fields m → l ≡ m
+line_from : (l m : LogLine) → LineFits l → LineFits m → name_of l ≡ name_of m → fields l ≡ fields m
+    → l ≡ m
 line_from (line.Version m) (line.Version n) f g name e = ap line.Version (count_same 3 m n (lit< tt) f.1 g.1 (at_index 0 _ _ e))
 line_from (line.Rules r) (line.Rules s) f g name e = ap line.Rules (limits_from r s e)
 line_from (line.Few h) (line.Few k) f g name e = ap line.Few (header_from h k f g e)
@@ -303,12 +313,14 @@ same_words l m f g e =
     line_from l m f g (same_name (name_of l) (name_of m) (ap head_of e)) rest
 
 -- lines that lead somewhere fit
-pub all_fit : (at to : Place) (lines : List LogLine) → Leads at lines to → AllByRecursion LineFits lines
+pub all_fit : (at to : Place) (lines : List LogLine) → Leads at lines to
+    → AllByRecursion LineFits lines
 all_fit at to [] leads = tt
 all_fit at to (l ∷ lines) leads = (leads.0, all_fit leads.1 to lines leads.3)
 
 -- lines that fit and have the same text are the same
-pub same_lines : (lines others : List LogLine) → AllByRecursion LineFits lines → AllByRecursion LineFits others → text_of lines ≡ text_of others → lines ≡ others
+pub same_lines : (lines others : List LogLine) → AllByRecursion LineFits lines
+    → AllByRecursion LineFits others → text_of lines ≡ text_of others → lines ≡ others
 same_lines [] [] f g e = refl
 same_lines [] (m ∷ others) f g e = absurd (line_some m [] (text_of others) e refl)
 same_lines (l ∷ lines) [] f g e = absurd (line_some l [] (text_of lines) (sym e) refl)

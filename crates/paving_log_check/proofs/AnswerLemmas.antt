@@ -28,8 +28,10 @@ use Rattle.paving_log_check.specs.declared.verdict.Fault.{Fault}
 use Rattle.paving_log_check.proofs.NarrowLemmas.{epoch_narrow}
 
 -- where each renewal has as many rows as there are bases, a row is formed for each line
-each_row : (bases : List Base) (renewals : List RowsOver) (renewed : List (List Row)) (n : ℕ) → length bases ≡ n
-    → AllByRecursion (λ new. length new.rows ≡ n) renewals → AreAsMany bases renewals renewed → HaveEachRow renewals renewed
+each_row : (bases : List Base) (renewals : List RowsOver) (renewed : List (List Row)) (n : ℕ)
+    → length bases ≡ n
+    → AllByRecursion (λ new. length new.rows ≡ n) renewals → AreAsMany bases renewals renewed
+    → HaveEachRow renewals renewed
 each_row bases [] [] n same each many = tt
 each_row bases [] (given ∷ more) n same each many = absurd many
 each_row bases (new ∷ renewals) [] n same each many = absurd many
@@ -37,7 +39,8 @@ each_row bases (new ∷ renewals) (given ∷ more) n same each many =
     (omega (arith, same, each.0, many.0), each_row bases renewals more n same each.1 many.1)
 
 module _ (m : Meaning) (root : GridBox) (tag : ℤ) where
-  bases_ready : (sats : List SatObs) (lines : List SatLine) (bases : List Base) → AreBasesOf m root tag sats lines bases → AllByRecursion (CanForm m.delays root) bases
+  bases_ready : (sats : List SatObs) (lines : List SatLine) (bases : List Base)
+      → AreBasesOf m root tag sats lines bases → AllByRecursion (CanForm m.delays root) bases
   bases_ready [] lines bases are = rw are tt
   bases_ready (seen ∷ sats) [] bases are = absurd are
   bases_ready (seen ∷ sats) (Usable row ∷ lines) bases (None, rest, is, has, more) = absurd has
@@ -46,11 +49,14 @@ module _ (m : Meaning) (root : GridBox) (tag : ℤ) where
   bases_ready (seen ∷ sats) (Skipped sat skip ∷ lines) bases (None, rest, is, has, more) = rw is (bases_ready sats lines rest more)
   bases_ready (seen ∷ sats) (Skipped sat skip ∷ lines) bases (Some base, rest, is, has, more) = absurd has
 
-  pub ready_by : (delays : Delays) (sats : List SatObs) (lines : List SatLine) (bases : List Base) → delays ≡ m.delays → AreDelays delays → AreBasesOf m root tag sats lines bases
+  pub ready_by : (delays : Delays) (sats : List SatObs) (lines : List SatLine) (bases : List Base)
+      → delays ≡ m.delays → AreDelays delays → AreBasesOf m root tag sats lines bases
       → AreReady delays root bases
   ready_by delays sats lines bases same within are = record { within = within; each = rw same (bases_ready sats lines bases are) }
 
-  bases_many : (sats : List SatObs) (lines : List SatLine) (bases : List Base) → AreOwnLines m root tag sats lines → AreBasesOf m root tag sats lines bases → length bases ≡ usable_in lines
+  bases_many : (sats : List SatObs) (lines : List SatLine) (bases : List Base)
+      → AreOwnLines m root tag sats lines → AreBasesOf m root tag sats lines bases
+      → length bases ≡ usable_in lines
   bases_many [] [] bases own are = ap length are
   bases_many [] (line ∷ lines) bases own are = absurd own
   bases_many (seen ∷ sats) [] bases own are = absurd own
@@ -59,8 +65,10 @@ module _ (m : Meaning) (root : GridBox) (tag : ℤ) where
   bases_many (seen ∷ sats) (Skipped sat skip ∷ lines) bases own (None, rest, is, has, more) = omega (arith, ap length is, bases_many sats lines rest own.1 more)
   bases_many (seen ∷ sats) (Skipped sat skip ∷ lines) bases own (Some base, rest, is, has, more) = absurd has
 
-  formed_own : (part : GridBox) (sats : List SatObs) (lines : List SatLine) (bases : List Base) (given : List Row) → AreBasesOf m root tag sats lines bases
-      → AreFormed m.delays root part bases given → AreOwnRows m part tag (usable_of sats lines) given
+  formed_own : (part : GridBox) (sats : List SatObs) (lines : List SatLine) (bases : List Base) (given : List Row)
+      → AreBasesOf m root tag sats lines bases
+      → AreFormed m.delays root part bases given
+      → AreOwnRows m part tag (usable_of sats lines) given
   formed_own part sats lines bases [] are formed = tt
   formed_own part [] lines bases (ours ∷ given) are formed = absurd (rw are at formed)
   formed_own part (seen ∷ sats) [] bases (ours ∷ given) are formed = absurd are
@@ -72,8 +80,10 @@ module _ (m : Meaning) (root : GridBox) (tag : ℤ) where
       formed_own part sats lines rest (ours ∷ given) more (rw is at formed)
   formed_own part (seen ∷ sats) (Skipped sat skip ∷ lines) bases (ours ∷ given) (Some base, rest, is, has, more) formed = absurd has
 
-  all_own : (sats : List SatObs) (lines : List SatLine) (bases : List Base) (renewals : List RowsOver) (renewed : List (List Row)) → AreBasesOf m root tag sats lines bases
-      → AreAllFormed m.delays root bases renewals renewed → AreRenewed m tag (usable_of sats lines) renewals renewed
+  all_own : (sats : List SatObs) (lines : List SatLine) (bases : List Base) (renewals : List RowsOver) (renewed : List (List Row))
+      → AreBasesOf m root tag sats lines bases
+      → AreAllFormed m.delays root bases renewals renewed
+      → AreRenewed m tag (usable_of sats lines) renewals renewed
   all_own sats lines bases renewals [] are formed = tt
   all_own sats lines bases [] (given ∷ more) are formed = absurd formed
   all_own sats lines bases (new ∷ renewals) (given ∷ more) are formed =

@@ -15,12 +15,14 @@ use Rattle.paving_log.proofs.OwnLemmas.{IsBlockAt}
 -- ---- a failing line is one of the block's
 
 module _ {F : Type 0} (tests : LineTests F) (first : RowsOver) where
-  lines_within : (j i : ℕ) (rows : List Row) (k : ℕ) (fault : F) → LinesFail tests first j i rows k fault → k < length rows
+  lines_within : (j i : ℕ) (rows : List Row) (k : ℕ) (fault : F)
+      → LinesFail tests first j i rows k fault → k < length rows
   lines_within j i [] k fault f = absurd f
   lines_within j i (row ∷ rows) zero fault f = omega arith
   lines_within j i (row ∷ rows) (suc k) fault f = omega (arith, lines_within j (suc i) rows k fault f.1)
 
-  renewal_within : (j : ℕ) (boxes : Subpaving) (new : RowsOver) (k : ℕ) (fault : F) → RenewalFails tests first j boxes new k fault → k ≤ length new.rows
+  renewal_within : (j : ℕ) (boxes : Subpaving) (new : RowsOver) (k : ℕ) (fault : F)
+      → RenewalFails tests first j boxes new k fault → k ≤ length new.rows
   renewal_within j boxes new zero fault f = omega arith
   renewal_within j boxes new (suc k) fault f = omega (arith, lines_within j 0 new.rows k fault f.1)
 
@@ -34,7 +36,8 @@ module _ {F : Type 0} (tests : LineTests F) (first : RowsOver) where
       omega (arith, is, events_within rules done (suc j) (after stage (Renewed new)) events l fault f)
 
 -- a line of the block's own that fails
-pub own_within : (rules : Rules) (before : Option ℕ) (block : Block) (line number : ℕ) → OwnFails rules before block line number → line < block.line + lines_in block
+pub own_within : (rules : Rules) (before : Option ℕ) (block : Block) (line number : ℕ)
+    → OwnFails rules before block line number → line < block.line + lines_in block
 own_within rules before block line number (inl head) = omega (arith, head.1)
 own_within rules before block line number (inr (head, (k, first, is_line), n)) = omega (arith, first.repeats.is_line)
 
@@ -43,7 +46,8 @@ own_within rules before block line number (inr (head, (k, first, is_line), n)) =
 -- the blocks from number i on decide, behind a block of the index before
 pub record IsUnderway (log : LogValue) (before : Option ℕ) (i boxes : ℕ) : Type 0 where
   pub pass : BlocksPass log.rules before (drop i log.blocks) → Judged log
-  pub fail : (line number : ℕ) → BlocksFail log.rules before (drop i log.blocks) line number → FirstFault log line number
+  pub fail : (line number : ℕ) → BlocksFail log.rules before (drop i log.blocks) line number
+      → FirstFault log line number
   pub kept : boxes + kept_boxes_in (drop i log.blocks) ≡ kept_boxes log
   pub next : ℕ
   pub numbered : IsNumberedFrom next (drop i log.blocks)
@@ -53,11 +57,13 @@ pub last_number : (next : ℕ) (blocks : List Block) → IsNumberedFrom next blo
 last_number next [] h = h
 last_number next (block ∷ more) h = omega (arith, last_number (next + lines_in block) more h.1)
 
-numbered_here : {log : LogValue} {before : Option ℕ} {i boxes : ℕ} {block : Block} (u : IsUnderway log before i boxes) → IsBlockAt log i block
+numbered_here : {log : LogValue} {before : Option ℕ} {i boxes : ℕ} {block : Block} (u : IsUnderway log before i boxes)
+    → IsBlockAt log i block
     → (block.line ≡ u.next) × IsNumberedFrom (u.next + lines_in block) (drop (i + 1) log.blocks)
 numbered_here u here = rw here.at at u.numbered
 
-pub underway_more : {log : LogValue} {before : Option ℕ} {i boxes : ℕ} {block : Block} (kept : ℕ) → IsUnderway log before i boxes → IsBlockAt log i block
+pub underway_more : {log : LogValue} {before : Option ℕ} {i boxes : ℕ} {block : Block} (kept : ℕ)
+    → IsUnderway log before i boxes → IsBlockAt log i block
     → BlockPasses log.rules before block → kept ≡ kept_in block.body → kept ≤ lines_in block
     → IsUnderway log (Some block.index) (i + 1) (boxes + kept)
 underway_more {block = block} kept u here passes is_kept few = record {
@@ -69,22 +75,26 @@ underway_more {block = block} kept u here passes is_kept few = record {
   few_boxes = omega (arith, u.few_boxes);
 }
 
-pub underway_fails : {log : LogValue} {before : Option ℕ} {i boxes : ℕ} {block : Block} (line number : ℕ) → IsUnderway log before i boxes → IsBlockAt log i block
+pub underway_fails : {log : LogValue} {before : Option ℕ} {i boxes : ℕ} {block : Block} (line number : ℕ)
+    → IsUnderway log before i boxes → IsBlockAt log i block
     → BlockFails log.rules before block line number → FirstFault log line number
 underway_fails line number u here fails = u.fail line number (rw here.at (inl fails))
 
 -- the numbers of the block's lines
-pub block_fits : {log : LogValue} {before : Option ℕ} {i boxes : ℕ} {block : Block} → IsUnderway log before i boxes → IsBlockAt log i block
+pub block_fits : {log : LogValue} {before : Option ℕ} {i boxes : ℕ} {block : Block}
+    → IsUnderway log before i boxes → IsBlockAt log i block
     → block.line + lines_in block ≤ 4000000001
 block_fits {log = log} {i = i} {block = block} u here =
     let (first, rest) = numbered_here u here in
     omega (arith, last_number (u.next + lines_in block) (drop (i + 1) log.blocks) rest)
 
-pub boxes_fit : {log : LogValue} {before : Option ℕ} {i boxes : ℕ} {block : Block} (kept : ℕ) → IsUnderway log before i boxes → IsBlockAt log i block
+pub boxes_fit : {log : LogValue} {before : Option ℕ} {i boxes : ℕ} {block : Block} (kept : ℕ)
+    → IsUnderway log before i boxes → IsBlockAt log i block
     → kept ≤ lines_in block → boxes + kept ≤ 4000000001
 boxes_fit {log = log} {i = i} {block = block} kept u here few =
     let (first, rest) = numbered_here u here in
     omega (arith, u.few_boxes, last_number (u.next + lines_in block) (drop (i + 1) log.blocks) rest)
 
-pub underway_ends : {log : LogValue} {before : Option ℕ} {i boxes : ℕ} → IsUnderway log before i boxes → drop i log.blocks ≡ [] → Judged log
+pub underway_ends : {log : LogValue} {before : Option ℕ} {i boxes : ℕ}
+    → IsUnderway log before i boxes → drop i log.blocks ≡ [] → Judged log
 underway_ends u ended = u.pass (rw ended tt)

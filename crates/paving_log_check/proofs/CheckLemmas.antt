@@ -35,12 +35,16 @@ module _ (m : Meaning) where
   pub record IsUnderway (rules : Rules) (searches : List Search) (log : LogValue) (before : Option ℕ) (next boxes : ℕ)
       (rest : List Search) (left : List Block) : Type 0 where
     pub whole : List OwnLines → List OwnLines
-    pub pass : (owns : List OwnLines) → AdmitsFrom m.delays rules before owns rest left → AdmitsFrom m.delays rules None (whole owns) searches log.blocks
-    pub fail : (owns : List OwnLines) (fault : Fault) → FailsFrom m.delays rules next before owns rest left fault
+    pub pass : (owns : List OwnLines) → AdmitsFrom m.delays rules before owns rest left
+        → AdmitsFrom m.delays rules None (whole owns) searches log.blocks
+    pub fail : (owns : List OwnLines) (fault : Fault)
+        → FailsFrom m.delays rules next before owns rest left fault
         → FailsFrom m.delays rules 3 None (whole owns) searches log.blocks fault
-    pub own : (owns : List OwnLines) → AreOwn m rest left owns → AreOwn m searches log.blocks (whole owns)
+    pub own : (owns : List OwnLines) → AreOwn m rest left owns
+        → AreOwn m searches log.blocks (whole owns)
     pub full : (owns : List OwnLines) → AreWhole owns left → AreWhole (whole owns) log.blocks
-    pub long : (owns : List OwnLines) → length owns ≡ length rest → length (whole owns) ≡ length searches
+    pub long : (owns : List OwnLines) → length owns ≡ length rest
+        → length (whole owns) ≡ length searches
     pub kept : boxes + kept_boxes_in left ≡ kept_boxes log
     pub numbered : IsNumberedFrom next left
     pub few_boxes : boxes ≤ next
@@ -62,8 +66,10 @@ module _ (m : Meaning) where
   -- a block of the next search, which passes
   pub underway_more : {rules : Rules} {searches : List Search} {log : LogValue} {before : Option ℕ} {next boxes : ℕ} {rest : List Search} {left : List Block}
       (search : Search) (more : List Search) (block : Block) (behind : List Block) (kept : ℕ)
-      → IsUnderway rules searches log before next boxes rest left → rest ≡ search ∷ more → left ≡ block ∷ behind
-      → IsOf rules before search.epoch block → EpochAccepted m rules search block → kept ≡ kept_in block.body → kept ≤ lines_in block
+      → IsUnderway rules searches log before next boxes rest left → rest ≡ search ∷ more
+      → left ≡ block ∷ behind
+      → IsOf rules before search.epoch block → EpochAccepted m rules search block
+      → kept ≡ kept_in block.body → kept ≤ lines_in block
       → IsUnderway rules searches log (Some block.index) (next + lines_in block) (boxes + kept) more behind
   underway_more {next = next} {boxes = boxes} search more block behind kept u is first is_of accepted is_kept few = record {
     whole = λ owns. u.whole (accepted.own ∷ owns);
@@ -88,8 +94,10 @@ module _ (m : Meaning) where
 
   -- ---- refusals
 
-  pub rules_refused : (rules : Rules) (searches : List Search) (log : LogValue) (fault : Fault) → (AreSameRules rules log.rules → ⊥)
-      → fault.line ≡ 2 → fault.number ≡ 50 → ShowsNoSpans fault → IsRefused m searches rules log fault
+  pub rules_refused : (rules : Rules) (searches : List Search) (log : LogValue) (fault : Fault)
+      → (AreSameRules rules log.rules → ⊥)
+      → fault.line ≡ 2 → fault.number ≡ 50 → ShowsNoSpans fault
+      → IsRefused m searches rules log fault
   rules_refused rules searches log fault differ line number none =
       let first : FailsFirst m.delays searches [] rules log fault = inl (record { differ = differ; line = line; number = number; no_spans = none }) in
       record {
@@ -101,8 +109,11 @@ module _ (m : Meaning) where
         narrow = λ is. absurd (omega (arith, number));
       }
 
-  refused_by : (rules : Rules) (searches : List Search) (log : LogValue) (fault : Fault) (owns : List OwnLines) → AreSameRules rules log.rules
-      → AreOwn m searches log.blocks owns → FailsFrom m.delays rules 3 None owns searches log.blocks fault → IsRefused m searches rules log fault
+  refused_by : (rules : Rules) (searches : List Search) (log : LogValue) (fault : Fault) (owns : List OwnLines)
+      → AreSameRules rules log.rules
+      → AreOwn m searches log.blocks owns
+      → FailsFrom m.delays rules 3 None owns searches log.blocks fault
+      → IsRefused m searches rules log fault
   refused_by rules searches log fault owns same own fails =
       let first : FailsFirst m.delays searches owns rules log fault = inr (same, fails) in
       record {
@@ -116,14 +127,16 @@ module _ (m : Meaning) where
 
   pub due_refused : {rules : Rules} {searches : List Search} {log : LogValue} {before : Option ℕ} {next boxes : ℕ} {rest : List Search} {left : List Block}
       (fault : Fault) → IsUnderway rules searches log before next boxes rest left → AreSameRules rules log.rules → (IsDue rules before rest left → ⊥)
-      → fault.line ≡ next → fault.number ≡ 51 → ShowsNoSpans fault → IsRefused m searches rules log fault
+      → fault.line ≡ next → fault.number ≡ 51 → ShowsNoSpans fault
+      → IsRefused m searches rules log fault
   due_refused {rules = rules} {searches = searches} {log = log} {rest = rest} fault u same not_due line number none =
       refused_by rules searches log fault (u.whole []) same (u.own [] tt)
       (u.fail [] fault (record { fails = not_due; line = line; number = number; no_spans = none }))
 
   pub block_refused : {rules : Rules} {searches : List Search} {log : LogValue} {before : Option ℕ} {next boxes : ℕ} {rest : List Search} {left : List Block}
       (search : Search) (more : List Search) (block : Block) (behind : List Block) (found fault : Fault)
-      → IsUnderway rules searches log before next boxes rest left → AreSameRules rules log.rules → rest ≡ search ∷ more → left ≡ block ∷ behind
+      → IsUnderway rules searches log before next boxes rest left → AreSameRules rules log.rules
+      → rest ≡ search ∷ more → left ≡ block ∷ behind
       → IsOf rules before search.epoch block → EpochRefused m rules search block found
       → ((own : OwnLines) → EpochFails m.delays rules search.root own block found → BlockFault m.delays rules (next + lines_in block) own search more block behind fault)
       → IsRefused m searches rules log fault
@@ -133,13 +146,15 @@ module _ (m : Meaning) where
 
   -- ---- the end
 
-  ended_rest : (rules : Rules) (before : Option ℕ) (rest : List Search) → IsDue rules before rest [] → rest ≡ []
+  ended_rest : (rules : Rules) (before : Option ℕ) (rest : List Search) → IsDue rules before rest []
+      → rest ≡ []
   ended_rest rules before [] h = refl
   ended_rest rules before (search ∷ rest) h = absurd h
 
   pub all_accepted : {rules : Rules} {searches : List Search} {before : Option ℕ} {next boxes : ℕ} {rest : List Search} {left : List Block} (log : LogValue)
       → IsSound m → AreInBoxes searches
-      → IsUnderway rules searches log before next boxes rest left → AreSameRules rules log.rules → left ≡ [] → IsDue rules before rest []
+      → IsUnderway rules searches log before next boxes rest left → AreSameRules rules log.rules
+      → left ≡ [] → IsDue rules before rest []
       → IsAccepted m searches rules log boxes
   all_accepted {rules = rules} {searches = searches} {before = before} {boxes = boxes} {rest = rest} {left = left} log sound boxes_in u same ended due =
       let none = ended_rest rules before rest due in

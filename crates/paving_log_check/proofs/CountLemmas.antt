@@ -10,7 +10,8 @@ use Rattle.paving_log.specs.declared.renewal.Renewal.{Renewal}
 use Rattle.paving_log.specs.Renewing.{new_rows, events_from}
 use Rattle.paving_log_check.specs.Renewed.{lines_in_renewals}
 
-pub lines_counted : (from : ℕ) (steps : List Step) (rs : List Renewal) → lines_of_all (events_from from steps rs) ≡ length steps + lines_in_renewals rs
+pub lines_counted : (from : ℕ) (steps : List Step) (rs : List Renewal)
+    → lines_of_all (events_from from steps rs) ≡ length steps + lines_in_renewals rs
 lines_counted from steps [] = omega (arith, lines_of_made steps)
 lines_counted from steps (r ∷ more) =
     let k = r.at - from in
@@ -23,7 +24,8 @@ lines_counted from steps (r ∷ more) =
       ap length (take-append-drop k steps),
     )
 
-pub renewals_of_events : (from : ℕ) (steps : List Step) (rs : List Renewal) → renewals_in (events_from from steps rs) ≡ map new_rows rs
+pub renewals_of_events : (from : ℕ) (steps : List Step) (rs : List Renewal)
+    → renewals_in (events_from from steps rs) ≡ map new_rows rs
 renewals_of_events from steps [] = none_renewed steps
 renewals_of_events from steps (r ∷ more) =
     let k = r.at - from in
@@ -32,6 +34,7 @@ renewals_of_events from steps (r ∷ more) =
     ∙ ap (λ (l : List RowsOver). new_rows r ∷ l) (renewals_of_events r.at (drop k steps) more)
 
 -- so many rows each
-pub as_many : (n : ℕ) (rs : List Renewal) → AllByRecursion (λ r. length r.rows.items ≡ n) rs ↔ AllByRecursion (λ new. length new.rows ≡ n) (map new_rows rs)
+pub as_many : (n : ℕ) (rs : List Renewal)
+    → AllByRecursion (λ r. length r.rows.items ≡ n) rs ↔ AllByRecursion (λ new. length new.rows ≡ n) (map new_rows rs)
 as_many n [] = (λ h. tt, λ h. tt)
 as_many n (r ∷ more) = (λ h. (h.0, (as_many n more).0 h.1), λ h. (h.0, (as_many n more).1 h.1))

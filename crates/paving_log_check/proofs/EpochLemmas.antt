@@ -16,7 +16,8 @@ use Rattle.paving_log_check.specs.declared.verdict.Fault.{Fault}
 
 module _ (delays : Delays) (rules : Rules) (root : GridBox) (lines : List SatLine) (bases : List Base) (block : Block) (body : Body) where
   body_decides : (found : Option Fault)
-      → Counts lines block → SatsPass delays block.sats (expected (is_few block) lines) → IsWhole lines block → block.body ≡ Some body
+      → Counts lines block → SatsPass delays block.sats (expected (is_few block) lines)
+      → IsWhole lines block → block.body ≡ Some body
       → MatchOption found (BodyHolds delays rules root bases block body) (λ fault. BodyBreaks delays rules root bases block body fault)
       → MatchOption found (EpochHolds delays rules root lines bases block) (λ fault. EpochBreaks delays rules root lines bases block fault)
   body_decides None counts sats whole is h = record {
@@ -32,7 +33,8 @@ module _ (delays : Delays) (rules : Rules) (root : GridBox) (lines : List SatLin
   }
 
   pub body_decided : (result : Result (Option Fault) NoMemory)
-      → Counts lines block → SatsPass delays block.sats (expected (is_few block) lines) → IsWhole lines block → block.body ≡ Some body
+      → Counts lines block → SatsPass delays block.sats (expected (is_few block) lines)
+      → IsWhole lines block → block.body ≡ Some body
       → IfOk result (λ found. MatchOption found (BodyHolds delays rules root bases block body) (λ fault. BodyBreaks delays rules root bases block body fault))
       → IfOk result (λ found. MatchOption found (EpochHolds delays rules root lines bases block) (λ fault. EpochBreaks delays rules root lines bases block fault))
   body_decided (Ok found) counts sats whole is h = body_decides found counts sats whole is h
@@ -41,7 +43,8 @@ module _ (delays : Delays) (rules : Rules) (root : GridBox) (lines : List SatLin
   -- ---- the body
 
   -- behind the given root it is decided by its steps and renewals
-  pub body_at : (result : Result (Option Fault) NoMemory) (firsts : List Row) (line : ℕ) → body.root ≡ root → firsts ≡ rows_of block.sats
+  pub body_at : (result : Result (Option Fault) NoMemory) (firsts : List Row) (line : ℕ)
+      → body.root ≡ root → firsts ≡ rows_of block.sats
       → IfOk result (λ found. MatchOption found (EventsHold delays root firsts bases rules body.done body.events)
       (λ fault. (k : ℕ) × EventsBreak delays root firsts bases rules body.done body.events k fault × (fault.line ≡ line + k)))
       → line ≡ block.line + 2 + length block.sats

@@ -13,7 +13,8 @@ use Rattle.paving_log_check.specs.declared.rows_test.FewRows.{FewRows}
 use Rattle.paving_log_check.specs.declared.rows_test.RowsTest.{RowsTest}
 use Rattle.paving_log_check.specs.declared.rows_test.RowsTest.TheVariants.{Few}
 
-all_but_few : {A : Type 0} (q : ℕ) (Meets : A → Type 0) (xs : List A) → length xs ≤ q → AllBut q Meets xs
+all_but_few : {A : Type 0} (q : ℕ) (Meets : A → Type 0) (xs : List A) → length xs ≤ q
+    → AllBut q Meets xs
 all_but_few q Meets [] few = tt
 all_but_few zero Meets (x ∷ xs) few = absurd (omega (arith, few))
 all_but_few (suc q) Meets (x ∷ xs) few = inr (all_but_few q Meets xs (omega (arith, few)))

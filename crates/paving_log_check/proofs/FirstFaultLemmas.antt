@@ -29,12 +29,14 @@ use Rattle.epoch_selection.proofs.SelectionLemmas.{same_some}
 
 -- ---- rows
 
-narrow_not_held : (pairs : List (Side × Side)) (theirs ours : Side) → HoldEach pairs → IsFirstNarrow pairs theirs ours → ⊥
+narrow_not_held : (pairs : List (Side × Side)) (theirs ours : Side) → HoldEach pairs
+    → IsFirstNarrow pairs theirs ours → ⊥
 narrow_not_held [] theirs ours h f = f
 narrow_not_held (pair ∷ more) theirs ours h (inl f) = f.0 h.0
 narrow_not_held (pair ∷ more) theirs ours h (inr f) = narrow_not_held more theirs ours h.1 f.1
 
-one_narrow : (pairs : List (Side × Side)) (t o u v : Side) → IsFirstNarrow pairs t o → IsFirstNarrow pairs u v → (t ≡ u) × (o ≡ v)
+one_narrow : (pairs : List (Side × Side)) (t o u v : Side) → IsFirstNarrow pairs t o
+    → IsFirstNarrow pairs u v → (t ≡ u) × (o ≡ v)
 one_narrow [] t o u v f g = absurd f
 one_narrow (pair ∷ more) t o u v (inl f) (inl g) = (f.1 ∙ sym g.1, f.2 ∙ sym g.2)
 one_narrow (pair ∷ more) t o u v (inl f) (inr g) = absurd (f.0 g.0)
@@ -53,7 +55,8 @@ both_plain a b number one other = record { number = number; theirs = one.0 ∙ s
 on_line : (a b : Fault) → a.line ≡ b.line → AreAlike a b → AreSameFault a b
 on_line a b line alike = record { line = line; number = alike.number; theirs = alike.theirs; ours = alike.ours }
 
-same_plain : (a b : Fault) → a.line ≡ b.line → a.number ≡ b.number → ShowsNoSpans a → ShowsNoSpans b → AreSameFault a b
+same_plain : (a b : Fault) → a.line ≡ b.line → a.number ≡ b.number → ShowsNoSpans a → ShowsNoSpans b
+    → AreSameFault a b
 same_plain a b line number one other = on_line a b line (both_plain a b number one other)
 
 abbrev side_ends : Side → ℤ × ℤ
@@ -62,7 +65,8 @@ side_ends s = (s.lo, s.hi)
 -- ---- the place of a block, and which line is expected
 
 one_due : {rules : Rules} {next : ℕ} {before : Option ℕ} {searches : List Search} {blocks : List Block} (a b : Fault)
-    → DueFails rules next before searches blocks a → DueFails rules next before searches blocks b → AreSameFault a b
+    → DueFails rules next before searches blocks a → DueFails rules next before searches blocks b
+    → AreSameFault a b
 one_due a b f g = same_plain a b (f.line ∙ sym g.line) (f.number ∙ sym g.number) f.no_spans g.no_spans
 
 -- the expected line is one line
@@ -76,14 +80,16 @@ row_at {sats = sats} {lines = lines} {k = k} Meets e f h =
 module _ (delays : Delays) where
   -- ---- rows
 
-  row_not_both : (theirs : SatEntry) (ours : SatLine) (fault : Fault) → RowPasses delays theirs ours → RowFails delays theirs ours fault → ⊥
+  row_not_both : (theirs : SatEntry) (ours : SatLine) (fault : Fault) → RowPasses delays theirs ours
+      → RowFails delays theirs ours fault → ⊥
   row_not_both (entry.Row row) (Usable ours) fault h (inl f) = narrow_not_held (compared delays row ours) (span_side fault.theirs) (span_side fault.ours) h.0 f.0
   row_not_both (entry.Row row) (Usable ours) fault h (inr f) = f.1 h.1
   row_not_both (entry.Row row) (Skipped sat skip) fault h f = f
   row_not_both (entry.Skipped sat skip) (Usable ours) fault h f = f
   row_not_both (entry.Skipped sat skip) (Skipped other why) fault h f = f
 
-  one_in_row : (theirs : SatEntry) (ours : SatLine) (a b : Fault) → RowFails delays theirs ours a → RowFails delays theirs ours b → AreAlike a b
+  one_in_row : (theirs : SatEntry) (ours : SatLine) (a b : Fault) → RowFails delays theirs ours a
+      → RowFails delays theirs ours b → AreAlike a b
   one_in_row (entry.Row row) (Usable ours) a b (inl f) (inl g) =
       let same = one_narrow (compared delays row ours) (span_side a.theirs) (span_side a.ours) (span_side b.theirs) (span_side b.ours) f.0 g.0 in
       record { number = f.1 ∙ sym g.1; theirs = ap side_ends same.0; ours = ap side_ends same.1 }
@@ -96,22 +102,26 @@ module _ (delays : Delays) where
 
   -- ---- satellite lines
 
-  line_not_both : {sats : List SatEntry} {lines : List SatLine} {k : ℕ} (fault : Fault) → LinePasses delays sats lines k → LineFails delays sats lines k fault → ⊥
+  line_not_both : {sats : List SatEntry} {lines : List SatLine} {k : ℕ} (fault : Fault)
+      → LinePasses delays sats lines k → LineFails delays sats lines k fault → ⊥
   line_not_both fault h (inl f) = f.0 h.is_expected
   line_not_both fault h (inr f) =
       row_not_both f.is_expected.theirs f.is_expected.ours fault (row_at (RowPasses delays) h.is_expected f.is_expected h.passes) f.fails
 
-  one_in_line : {sats : List SatEntry} {lines : List SatLine} {k : ℕ} (a b : Fault) → LineFails delays sats lines k a → LineFails delays sats lines k b → AreAlike a b
+  one_in_line : {sats : List SatEntry} {lines : List SatLine} {k : ℕ} (a b : Fault)
+      → LineFails delays sats lines k a → LineFails delays sats lines k b → AreAlike a b
   one_in_line a b (inl f) (inl g) = both_plain a b (f.1 ∙ sym g.1) f.2 g.2
   one_in_line a b (inl f) (inr g) = absurd (f.0 g.is_expected)
   one_in_line a b (inr f) (inl g) = absurd (g.0 f.is_expected)
   one_in_line a b (inr f) (inr g) =
       one_in_row f.is_expected.theirs f.is_expected.ours a b f.fails (row_at (λ t o. RowFails delays t o b) g.is_expected f.is_expected g.fails)
 
-  sats_not_both : {sats : List SatEntry} {lines : List SatLine} (k : ℕ) (fault : Fault) → SatsPass delays sats lines → SatsFail delays sats lines k fault → ⊥
+  sats_not_both : {sats : List SatEntry} {lines : List SatLine} (k : ℕ) (fault : Fault)
+      → SatsPass delays sats lines → SatsFail delays sats lines k fault → ⊥
   sats_not_both k fault h f = line_not_both fault (h k f.is_line) f.here
 
-  one_in_sats : {sats : List SatEntry} {lines : List SatLine} (j k : ℕ) (a b : Fault) → SatsFail delays sats lines j a → SatsFail delays sats lines k b → (j ≡ k) × AreAlike a b
+  one_in_sats : {sats : List SatEntry} {lines : List SatLine} (j k : ℕ) (a b : Fault)
+      → SatsFail delays sats lines j a → SatsFail delays sats lines k b → (j ≡ k) × AreAlike a b
   one_in_sats {sats = sats} {lines = lines} j k a b f g = elim (cases_order j k) [
     | inl same ↦ (same, one_in_line a b f.here (subst (λ i. LineFails delays sats lines i b) (sym same) g.here))
     | inr other ↦ elim other [
@@ -123,7 +133,8 @@ module _ (delays : Delays) where
   -- ---- lines of renewals
 
   -- at a place one own row is given
-  one_given : (renewed : List (List Row)) (j i : ℕ) (ours other : Row) → IsGiven renewed j i ours → IsGiven renewed j i other → ours ≡ other
+  one_given : (renewed : List (List Row)) (j i : ℕ) (ours other : Row) → IsGiven renewed j i ours
+      → IsGiven renewed j i other → ours ≡ other
   one_given renewed j i ours other (rows, at, is) (again, here, there) =
       let same = same_some (slice_get renewed j) again rows here at in
       same_some (slice_get rows i) ours other is (subst (λ l. slice_get l i ≡ Some other) same there)
@@ -156,13 +167,15 @@ module _ (delays : Delays) where
       ]
 
   one_in_body : (rules : Rules) (root : GridBox) (own : OwnLines) (block : Block) (a b : Fault)
-      → BodyDiffers delays rules root own block a → BodyDiffers delays rules root own block b → AreSameFault a b
+      → BodyDiffers delays rules root own block a → BodyDiffers delays rules root own block b
+      → AreSameFault a b
   one_in_body rules root own block a b f g =
       let same = same_some block.body g.body f.body g.is_body f.is_body in
       one_at rules root own.renewed block f.body a b f.fails (subst (λ t. BodyFailsAt delays rules root own.renewed block t b) same g.fails)
     where
       one_at : (rules : Rules) (root : GridBox) (renewed : List (List Row)) (block : Block) (body : Body) (a b : Fault)
-          → BodyFailsAt delays rules root renewed block body a → BodyFailsAt delays rules root renewed block body b → AreSameFault a b
+          → BodyFailsAt delays rules root renewed block body a
+          → BodyFailsAt delays rules root renewed block body b → AreSameFault a b
       one_at rules root renewed block body a b (inl f) (inl g) = same_plain a b (f.line ∙ sym g.line) (f.number ∙ sym g.number) f.no_spans g.no_spans
       one_at rules root renewed block body a b (inl f) (inr g) = absurd (f.differs g.same)
       one_at rules root renewed block body a b (inr f) (inl g) = absurd (g.differs f.same)
@@ -172,7 +185,8 @@ module _ (delays : Delays) where
           on_line a b (omega (arith, f.line, g.line, same.0)) same.1
 
   pub one_in_epoch : (rules : Rules) (root : GridBox) (own : OwnLines) (block : Block) (a b : Fault)
-      → EpochFails delays rules root own block a → EpochFails delays rules root own block b → AreSameFault a b
+      → EpochFails delays rules root own block a → EpochFails delays rules root own block b
+      → AreSameFault a b
   one_in_epoch rules root own block a b (inl f) (inl g) = same_plain a b (f.line ∙ sym g.line) (f.number ∙ sym g.number) f.no_spans g.no_spans
   one_in_epoch rules root own block a b (inl f) (inr (inl g)) = absurd (f.differs g.counts)
   one_in_epoch rules root own block a b (inl f) (inr (inr (inl g))) = absurd (f.differs g.counts)
@@ -195,12 +209,14 @@ module _ (delays : Delays) where
   -- ---- the blocks
 
   block_fault_not : (rules : Rules) (behind : ℕ) (own : OwnLines) (search : Search) (rest : List Search) (block : Block) (more : List Block) (fault : Fault)
-      → EpochPasses delays rules search.root own block → BlockFault delays rules behind own search rest block more fault → ⊥
+      → EpochPasses delays rules search.root own block
+      → BlockFault delays rules behind own search rest block more fault → ⊥
   block_fault_not rules behind own search rest block more fault h (inl f) = epoch_not_both rules search.root own block fault h f.0
   block_fault_not rules behind own search rest block more fault h (inr (due, (other, fails, line))) = epoch_not_both rules search.root own block other h fails
 
   one_block_fault : (rules : Rules) (behind : ℕ) (own : OwnLines) (search : Search) (rest : List Search) (block : Block) (more : List Block) (a b : Fault)
-      → BlockFault delays rules behind own search rest block more a → BlockFault delays rules behind own search rest block more b → AreSameFault a b
+      → BlockFault delays rules behind own search rest block more a
+      → BlockFault delays rules behind own search rest block more b → AreSameFault a b
   one_block_fault rules behind own search rest block more a b (inl f) (inl g) = one_in_epoch rules search.root own block a b f.0 g.0
   one_block_fault rules behind own search rest block more a b (inl f) (inr (due, (other, fails, line))) =
       absurd (due.fails (f.1 ((one_in_epoch rules search.root own block a other f.0 fails).line ∙ line)))
@@ -209,7 +225,8 @@ module _ (delays : Delays) where
   one_block_fault rules behind own search rest block more a b (inr (due, f)) (inr (again, g)) = one_due a b due again
 
   pub from_not_both : (rules : Rules) (next : ℕ) (before : Option ℕ) (owns : List OwnLines) (searches : List Search) (blocks : List Block) (fault : Fault)
-      → AdmitsFrom delays rules before owns searches blocks → FailsFrom delays rules next before owns searches blocks fault → ⊥
+      → AdmitsFrom delays rules before owns searches blocks
+      → FailsFrom delays rules next before owns searches blocks fault → ⊥
   from_not_both rules next before [] searches blocks fault h f = f.fails h
   from_not_both rules next before (own ∷ owns) [] blocks fault h f = h
   from_not_both rules next before (own ∷ owns) (search ∷ rest) [] fault h f = h
@@ -220,7 +237,8 @@ module _ (delays : Delays) where
       from_not_both rules (next + lines_in block) (Some block.index) owns rest more fault h.2 f.2
 
   one_from : (rules : Rules) (next : ℕ) (before : Option ℕ) (owns : List OwnLines) (searches : List Search) (blocks : List Block) (a b : Fault)
-      → FailsFrom delays rules next before owns searches blocks a → FailsFrom delays rules next before owns searches blocks b → AreSameFault a b
+      → FailsFrom delays rules next before owns searches blocks a
+      → FailsFrom delays rules next before owns searches blocks b → AreSameFault a b
   one_from rules next before [] searches blocks a b f g = one_due a b f g
   one_from rules next before (own ∷ owns) [] blocks a b f g = one_due a b f g
   one_from rules next before (own ∷ owns) (search ∷ rest) [] a b f g = one_due a b f g
@@ -248,7 +266,8 @@ module _ (delays : Delays) where
 
   -- a first fault is the only one
   pub one_fault : (searches : List Search) (owns : List OwnLines) (rules : Rules) (log : LogValue) (a b : Fault)
-      → FailsFirst delays searches owns rules log a → FailsFirst delays searches owns rules log b → AreSameFault a b
+      → FailsFirst delays searches owns rules log a → FailsFirst delays searches owns rules log b
+      → AreSameFault a b
   one_fault searches owns rules log a b (inl f) (inl g) = same_plain a b (f.line ∙ sym g.line) (f.number ∙ sym g.number) f.no_spans g.no_spans
   one_fault searches owns rules log a b (inl f) (inr g) = absurd (f.differ g.0)
   one_fault searches owns rules log a b (inr f) (inl g) = absurd (g.differ f.0)

@@ -49,11 +49,13 @@ use Rattle.std.proofs.lemmas.Option.{same_Some as same_one}
 
 -- ---- one row
 
-within : (theirs ours : Side) (n : ℤ) → HoldsSide theirs ours → Between ours.lo ours.hi n → (theirs.lo ≤ℤ n) × (n ≤ℤ theirs.hi)
+within : (theirs ours : Side) (n : ℤ) → HoldsSide theirs ours → Between ours.lo ours.hi n
+    → (theirs.lo ≤ℤ n) × (n ≤ℤ theirs.hi)
 within theirs ours n h k = (omega (arith, ints, h.lo, k.from), omega (arith, ints, h.hi, k.to))
 
 -- what the own row holds, the row holds
-value_of : (delays : Delays) (row ours : Row) (c : Chain) → HoldsOwn delays row ours → HoldsChain ours c → RowValue row
+value_of : (delays : Delays) (row ours : Row) (c : Chain) → HoldsOwn delays row ours
+    → HoldsChain ours c → RowValue row
 value_of delays row ours c h k = record {
   x = c.x;
   y = c.y;
@@ -77,7 +79,8 @@ pub same_second : (a b c d : ℤ) → ◌≡◌ {A = ℤ × ℤ} (a, b) (c, d) �
 same_second a b c d e = ap (λ (x : ℤ × ℤ). x.1) e
 
 -- they are the same where both are the declared ones alone
-same_bounds : (row ours : Row) (d : ℤ × ℤ) → HasBounds row (ends ours.err) → HasBounds ours d → HoldsBounds row ours
+same_bounds : (row ours : Row) (d : ℤ × ℤ) → HasBounds row (ends ours.err) → HasBounds ours d
+    → HoldsBounds row ours
 same_bounds row ours d theirs own =
     let lo = same_first row.err.lo row.err.hi ours.err.lo ours.err.hi theirs.err in
     let hi = same_second row.err.lo row.err.hi ours.err.lo ours.err.hi theirs.err in
@@ -89,20 +92,26 @@ same_bounds row ours d theirs own =
       high = record { lo = omega (arith, ints, sure_hi); hi = omega (arith, ints, hi) };
     }
 
-holds_by : (plain : Bool) (row ours : Row) (d : ℤ × ℤ) → HoldEach (bounds_unless plain row ours) → HasBoundIf plain row ours → (plain ≡ true → HasBounds ours d) → HoldsBounds row ours
+holds_by : (plain : Bool) (row ours : Row) (d : ℤ × ℤ) → HoldEach (bounds_unless plain row ours)
+    → HasBoundIf plain row ours → (plain ≡ true → HasBounds ours d) → HoldsBounds row ours
 holds_by true row ours d holds bound plain = same_bounds row ours d bound (plain refl)
 holds_by false row ours d holds bound plain = record { low = holds.0; high = holds.1.0 }
 
-holds_bounds : (delays : Delays) (row ours : Row) (d : ℤ × ℤ) → HoldsOwn delays row ours → HasBound delays row ours → (is_plain delays ≡ true → HasBounds ours d) → HoldsBounds row ours
+holds_bounds : (delays : Delays) (row ours : Row) (d : ℤ × ℤ) → HoldsOwn delays row ours
+    → HasBound delays row ours → (is_plain delays ≡ true → HasBounds ours d) → HoldsBounds row ours
 holds_bounds delays row ours d holds bound plain = holds_by (is_plain delays) row ours d holds.1.1.1.1 bound plain
 
 -- an error between ends that the own row holds is one that the row allows, and one that the row surely allows lies between them
-allowed : (row ours : Row) (c : Chain) (b : ℤ) (s : ℕ) → HoldsBounds row ours → HoldsChain ours c → c.range ≡ s → Between c.lo c.hi (c.corrected -ℤ pos c.range -ℤ b) → IsAllowed row (c.corrected -ℤ pos s -ℤ b)
+allowed : (row ours : Row) (c : Chain) (b : ℤ) (s : ℕ) → HoldsBounds row ours → HoldsChain ours c
+    → c.range ≡ s → Between c.lo c.hi (c.corrected -ℤ pos c.range -ℤ b)
+    → IsAllowed row (c.corrected -ℤ pos s -ℤ b)
 allowed row ours c b s h k same e =
     let moved : Between c.lo c.hi (c.corrected -ℤ pos s -ℤ b) = rw (sym same) e in
     (omega (arith, ints, h.low.lo, k.lo.from, moved.from), omega (arith, ints, h.high.hi, k.hi.to, moved.to))
 
-surely_within : (row ours : Row) (c : Chain) (b : ℤ) (s : ℕ) → HoldsBounds row ours → HoldsChain ours c → c.range ≡ s → IsSurelyAllowed row (c.corrected -ℤ pos s -ℤ b) → Between c.lo c.hi (c.corrected -ℤ pos c.range -ℤ b)
+surely_within : (row ours : Row) (c : Chain) (b : ℤ) (s : ℕ) → HoldsBounds row ours
+    → HoldsChain ours c → c.range ≡ s → IsSurelyAllowed row (c.corrected -ℤ pos s -ℤ b)
+    → Between c.lo c.hi (c.corrected -ℤ pos c.range -ℤ b)
 surely_within row ours c b s h k same e =
     rw same (record { from = omega (arith, ints, h.low.hi, k.lo.to, e.0); to = omega (arith, ints, h.high.lo, k.hi.from, e.1) })
 
@@ -128,7 +137,8 @@ module _ (delays : Delays) where
   fair_pair : (a b : SatEntry) (c d : SatLine) → a ≡ b → c ≡ d → AreFair b d → AreFair a c
   fair_pair a b c d e f h = rw (e, f) h
 
-  all_fair : (sats : List SatEntry) (lines : List SatLine) → length lines ≤ length sats → ((k : ℕ) → k < length sats → FairAt sats lines k) → AllFair sats lines
+  all_fair : (sats : List SatEntry) (lines : List SatLine) → length lines ≤ length sats
+      → ((k : ℕ) → k < length sats → FairAt sats lines k) → AllFair sats lines
   all_fair [] [] short each = tt
   all_fair [] (ours ∷ lines) short each = absurd (omega arith)
   all_fair (theirs ∷ sats) [] short each = absurd (let first = (each 0 (omega arith)).ours_at in cc)
@@ -140,14 +150,17 @@ module _ (delays : Delays) where
             record { theirs = later.theirs; theirs_at = later.theirs_at; ours = later.ours; ours_at = later.ours_at; fair = later.fair }),
       )
 
-  fair_at : (sats : List SatEntry) (lines : List SatLine) → SatsPass delays sats lines → (k : ℕ) → k < length sats → FairAt sats lines k
+  fair_at : (sats : List SatEntry) (lines : List SatLine) → SatsPass delays sats lines → (k : ℕ)
+      → k < length sats → FairAt sats lines k
   fair_at sats lines pass k less =
       let p = pass k less in
       record { theirs = p.is_expected.theirs; theirs_at = p.is_expected.theirs_at; ours = p.is_expected.ours; ours_at = p.is_expected.ours_at; fair = (p.is_expected.same, p.passes) }
 
 -- the lines of a paved block pass, and none is missing
-pub fair_block : (delays : Delays) (block : Block) (body : Body) (lines : List SatLine) → block.body ≡ Some body
-    → SatsPass delays block.sats (expected (is_few block) lines) → IsWhole lines block → AllFair delays block.sats lines
+pub fair_block : (delays : Delays) (block : Block) (body : Body) (lines : List SatLine)
+    → block.body ≡ Some body
+    → SatsPass delays block.sats (expected (is_few block) lines) → IsWhole lines block
+    → AllFair delays block.sats lines
 fair_block delays block body lines is sats whole =
     let few : is_few block ≡ false = ap is_none is in
     all_fair delays block.sats lines (rw few at whole) (fair_at delays block.sats lines (rw few at sats))
@@ -165,7 +178,8 @@ own_rows [] = []
 own_rows (Usable ours ∷ lines) = ours ∷ own_rows lines
 own_rows (Skipped sat skip ∷ lines) = own_rows lines
 
-fair_held : (delays : Delays) (sats : List SatEntry) (lines : List SatLine) → AllFair delays sats lines → AreHeld delays (rows_of sats) (own_rows lines)
+fair_held : (delays : Delays) (sats : List SatEntry) (lines : List SatLine)
+    → AllFair delays sats lines → AreHeld delays (rows_of sats) (own_rows lines)
 fair_held delays [] [] fair = tt
 fair_held delays [] (ours ∷ lines) fair = absurd fair
 fair_held delays (theirs ∷ sats) [] fair = absurd fair
@@ -180,14 +194,17 @@ fair_held delays (entry.Skipped sat skip ∷ sats) (Skipped other why ∷ lines)
 abbrev pub IsFrom : List (List Row) → ℕ → List (List Row) → Type 0
 IsFrom renewed j left = (i : ℕ) → slice_get renewed (j + i) ≡ slice_get left i
 
-pub from_next : (renewed : List (List Row)) (j : ℕ) (given : List Row) (left : List (List Row)) → IsFrom renewed j (given ∷ left) → IsFrom renewed (suc j) left
+pub from_next : (renewed : List (List Row)) (j : ℕ) (given : List Row) (left : List (List Row))
+    → IsFrom renewed j (given ∷ left) → IsFrom renewed (suc j) left
 from_next renewed j given left from i = subst (λ (k : ℕ). slice_get renewed k ≡ slice_get left i) (omega arith) (from (suc i))
 
-pub given_first : (renewed : List (List Row)) (j : ℕ) (given : List Row) (left : List (List Row)) → IsFrom renewed j (given ∷ left) → slice_get renewed j ≡ Some given
+pub given_first : (renewed : List (List Row)) (j : ℕ) (given : List Row) (left : List (List Row))
+    → IsFrom renewed j (given ∷ left) → slice_get renewed j ≡ Some given
 given_first renewed j given left from = subst (λ (k : ℕ). slice_get renewed k ≡ Some given) (omega arith) (from 0)
 
 -- the lines from number i on hold what is given from there on
-lines_held : (delays : Delays) (renewed : List (List Row)) (first : RowsOver) (j i : ℕ) (rows all given : List Row) → slice_get renewed j ≡ Some all
+lines_held : (delays : Delays) (renewed : List (List Row)) (first : RowsOver) (j i : ℕ) (rows all given : List Row)
+    → slice_get renewed j ≡ Some all
     → ((k : ℕ) → slice_get all (i + k) ≡ slice_get given k) → length given ≡ length rows
     → LinesPass (HoldsGiven delays renewed) first j i rows → AreHeld delays rows given
 lines_held delays renewed first j i [] all [] is from same pass = tt
@@ -199,14 +216,17 @@ lines_held delays renewed first j i (row ∷ rows) all (ours ∷ given) is from 
       (λ k. subst (λ (n : ℕ). slice_get all n ≡ slice_get given k) (omega arith) (from (suc k))) (omega (arith, same)) pass.1,
 )
 
-renewal_held : (delays : Delays) (renewed : List (List Row)) (first : RowsOver) (j : ℕ) (rows given : List Row) → slice_get renewed j ≡ Some given
-    → length given ≡ length rows → LinesPass (HoldsGiven delays renewed) first j 0 rows → AreHeld delays rows given
+renewal_held : (delays : Delays) (renewed : List (List Row)) (first : RowsOver) (j : ℕ) (rows given : List Row)
+    → slice_get renewed j ≡ Some given
+    → length given ≡ length rows → LinesPass (HoldsGiven delays renewed) first j 0 rows
+    → AreHeld delays rows given
 renewal_held delays renewed first j rows given is same pass =
     lines_held delays renewed first j 0 rows given given is (λ k. ap (slice_get given) (omega arith)) same pass
 
 -- ---- all but q
 
-one_more : {A : Type 0} (q : ℕ) (Meets : A → Type 0) (xs : List A) → AllBut q Meets xs → AllBut (suc q) Meets xs
+one_more : {A : Type 0} (q : ℕ) (Meets : A → Type 0) (xs : List A) → AllBut q Meets xs
+    → AllBut (suc q) Meets xs
 one_more q Meets [] h = tt
 one_more zero Meets (x ∷ xs) h = inl (h.0, one_more zero Meets xs h.1)
 one_more (suc q) Meets (x ∷ xs) h = elim h [
@@ -220,7 +240,8 @@ one_more (suc q) Meets (x ∷ xs) h = elim h [
 abbrev HoldsLivePoints : GridBox → Subpaving → Type 0
 HoldsLivePoints over boxes = (p : Pos) → 0 < weight p boxes.live → box_holds over p ≡ true
 
-holds_renewed : (root : GridBox) (boxes : Subpaving) (part : GridBox) → HoldsLive root boxes part → HoldsLivePoints part boxes
+holds_renewed : (root : GridBox) (boxes : Subpaving) (part : GridBox) → HoldsLive root boxes part
+    → HoldsLivePoints part boxes
 holds_renewed root boxes part h p some =
     let (id, live, is, inside) = some_live p boxes.live some in
     inside_holds live part p (h.each_live id live is) inside
@@ -232,10 +253,12 @@ held_in_root n false e some = absurd (omega arith)
 module _ (m : Meaning) (sound : IsSound m) (root : GridBox) (box : IsSearchBox root) (tag : ℤ) where
   -- ---- one row over a box
 
-  bounds_held : (over : GridBox) (row ours : Row) (seen : SatObs) → HoldsOwn m.delays row ours → HasBound m.delays row ours → IsOwnRow m over tag seen ours → HoldsBounds row ours
+  bounds_held : (over : GridBox) (row ours : Row) (seen : SatObs) → HoldsOwn m.delays row ours
+      → HasBound m.delays row ours → IsOwnRow m over tag seen ours → HoldsBounds row ours
   bounds_held over row ours seen holds bound own = holds_bounds m.delays row ours (m.declared seen.sat) holds bound own.plain
 
-  possible : (over : GridBox) (row ours : Row) (seen : SatObs) (p : Pos) (b : ℤ) → HoldsOwn m.delays row ours → HasBound m.delays row ours → IsOwnRow m over tag seen ours
+  possible : (over : GridBox) (row ours : Row) (seen : SatObs) (p : Pos) (b : ℤ)
+      → HoldsOwn m.delays row ours → HasBound m.delays row ours → IsOwnRow m over tag seen ours
       → box_holds over p ≡ true → IsConsistent m root tag p b seen → IsPossible p b row
   unfolding value_of
   possible over row ours seen p b holds bound own inside k =
@@ -246,8 +269,10 @@ module _ (m : Meaning) (sound : IsSound m) (root : GridBox) (box : IsSearchBox r
             (sound.range_is tag seen p k.values k.are) k.within;
       }
 
-  consistent : (over : GridBox) (row ours : Row) (seen : SatObs) (p : Pos) (b : ℤ) → HoldsOwn m.delays row ours → HasBound m.delays row ours → IsOwnRow m over tag seen ours
-      → box_holds over p ≡ true → box_holds root p ≡ true → m.judged root tag seen None → IsSure p b row → IsConsistent m root tag p b seen
+  consistent : (over : GridBox) (row ours : Row) (seen : SatObs) (p : Pos) (b : ℤ)
+      → HoldsOwn m.delays row ours → HasBound m.delays row ours → IsOwnRow m over tag seen ours
+      → box_holds over p ≡ true → box_holds root p ≡ true → m.judged root tag seen None
+      → IsSure p b row → IsConsistent m root tag p b seen
   unfolding value_of
   consistent over row ours seen p b holds bound own inside within usable sure =
       let (c, are) = sound.allowed_exists root tag seen p box within usable in
@@ -261,8 +286,10 @@ module _ (m : Meaning) (sound : IsSound m) (root : GridBox) (box : IsSearchBox r
 
   -- ---- the usable satellites, and rows over a box
 
-  possible_rows : (over : GridBox) (q : ℕ) (p : Pos) (b : ℤ) (sats : List SatObs) (rows given : List Row) → AreHeld m.delays rows given → AreOwnRows m over tag sats given
-      → box_holds over p ≡ true → AllBut q (IsConsistent m root tag p b) sats → AllBut q (IsPossible p b) rows
+  possible_rows : (over : GridBox) (q : ℕ) (p : Pos) (b : ℤ) (sats : List SatObs) (rows given : List Row)
+      → AreHeld m.delays rows given → AreOwnRows m over tag sats given
+      → box_holds over p ≡ true → AllBut q (IsConsistent m root tag p b) sats
+      → AllBut q (IsPossible p b) rows
   possible_rows over q p b sats [] given held own inside h = tt
   possible_rows over q p b sats (row ∷ rows) [] held own inside h = absurd held
   possible_rows over q p b [] (row ∷ rows) (ours ∷ given) held own inside h = absurd own
@@ -273,9 +300,11 @@ module _ (m : Meaning) (sound : IsSound m) (root : GridBox) (box : IsSearchBox r
     | inr later ↦ inr (possible_rows over q p b sats rows given held.1 own.1 inside later)
   ]
 
-  sure_rows : (over : GridBox) (q : ℕ) (p : Pos) (b : ℤ) (sats : List SatObs) (rows given : List Row) → AreHeld m.delays rows given → AreOwnRows m over tag sats given
+  sure_rows : (over : GridBox) (q : ℕ) (p : Pos) (b : ℤ) (sats : List SatObs) (rows given : List Row)
+      → AreHeld m.delays rows given → AreOwnRows m over tag sats given
       → length given ≡ length sats → AllByRecursion (λ seen. m.judged root tag seen None) sats
-      → box_holds over p ≡ true → box_holds root p ≡ true → AllBut q (IsSure p b) rows → AllBut q (IsConsistent m root tag p b) sats
+      → box_holds over p ≡ true → box_holds root p ≡ true → AllBut q (IsSure p b) rows
+      → AllBut q (IsConsistent m root tag p b) sats
   sure_rows over q p b [] rows given held own same usable inside within h = tt
   sure_rows over q p b (seen ∷ sats) rows [] held own same usable inside within h = absurd (omega (arith, same))
   sure_rows over q p b (seen ∷ sats) [] (ours ∷ given) held own same usable inside within h = absurd held
@@ -293,34 +322,39 @@ module _ (m : Meaning) (sound : IsSound m) (root : GridBox) (box : IsSearchBox r
 
   -- ---- own lines
 
-  lines_own : (seens : List SatObs) (lines : List SatLine) → AreOwnLines m root tag seens lines → AreOwnRows m root tag (usable_of seens lines) (own_rows lines)
+  lines_own : (seens : List SatObs) (lines : List SatLine) → AreOwnLines m root tag seens lines
+      → AreOwnRows m root tag (usable_of seens lines) (own_rows lines)
   lines_own [] [] own = tt
   lines_own [] (line ∷ lines) own = absurd own
   lines_own (seen ∷ seens) [] own = absurd own
   lines_own (seen ∷ seens) (Usable ours ∷ lines) own = (own.0.2, lines_own seens lines own.1)
   lines_own (seen ∷ seens) (Skipped sat skip ∷ lines) own = lines_own seens lines own.1
 
-  usable_judged : (seens : List SatObs) (lines : List SatLine) → AreOwnLines m root tag seens lines → AllByRecursion (λ seen. m.judged root tag seen None) (usable_of seens lines)
+  usable_judged : (seens : List SatObs) (lines : List SatLine) → AreOwnLines m root tag seens lines
+      → AllByRecursion (λ seen. m.judged root tag seen None) (usable_of seens lines)
   usable_judged [] lines own = tt
   usable_judged (seen ∷ seens) [] own = tt
   usable_judged (seen ∷ seens) (Usable ours ∷ lines) own = (own.0.1, usable_judged seens lines own.1)
   usable_judged (seen ∷ seens) (Skipped sat skip ∷ lines) own = usable_judged seens lines own.1
 
-  usable_many : (seens : List SatObs) (lines : List SatLine) → AreOwnLines m root tag seens lines → length (usable_of seens lines) ≡ usable_in lines
+  usable_many : (seens : List SatObs) (lines : List SatLine) → AreOwnLines m root tag seens lines
+      → length (usable_of seens lines) ≡ usable_in lines
   usable_many [] [] own = refl
   usable_many [] (line ∷ lines) own = absurd own
   usable_many (seen ∷ seens) [] own = absurd own
   usable_many (seen ∷ seens) (Usable ours ∷ lines) own = omega (arith, usable_many seens lines own.1)
   usable_many (seen ∷ seens) (Skipped sat skip ∷ lines) own = omega (arith, usable_many seens lines own.1)
 
-  agreed : (seen : SatObs) (p : Pos) (b : ℤ) → m.judged root tag seen None → Agrees m root tag p b seen → IsConsistent m root tag p b seen
+  agreed : (seen : SatObs) (p : Pos) (b : ℤ) → m.judged root tag seen None
+      → Agrees m root tag p b seen → IsConsistent m root tag p b seen
   agreed seen p b usable a = elim a [
     | inl skipped ↦ absurd (let e = sound.one_judgement root tag seen None (Some skipped.0) usable skipped.1 in cc)
     | inr k ↦ k
   ]
 
   -- what fits all satellites but at most q fits the usable ones
-  usable_fit : (q : ℕ) (p : Pos) (b : ℤ) (seens : List SatObs) (lines : List SatLine) → AreOwnLines m root tag seens lines
+  usable_fit : (q : ℕ) (p : Pos) (b : ℤ) (seens : List SatObs) (lines : List SatLine)
+      → AreOwnLines m root tag seens lines
       → Fits m root tag q p b seens → AllBut q (IsConsistent m root tag p b) (usable_of seens lines)
   usable_fit q p b [] lines own h = tt
   usable_fit q p b (seen ∷ seens) [] own h = absurd own
@@ -336,7 +370,8 @@ module _ (m : Meaning) (sound : IsSound m) (root : GridBox) (box : IsSearchBox r
   ]
 
   -- and back
-  fits_usable : (q : ℕ) (p : Pos) (b : ℤ) (seens : List SatObs) (lines : List SatLine) → AreOwnLines m root tag seens lines
+  fits_usable : (q : ℕ) (p : Pos) (b : ℤ) (seens : List SatObs) (lines : List SatLine)
+      → AreOwnLines m root tag seens lines
       → AllBut q (IsConsistent m root tag p b) (usable_of seens lines) → Fits m root tag q p b seens
   fits_usable q p b [] lines own h = tt
   fits_usable q p b (seen ∷ seens) [] own h = absurd own
@@ -354,7 +389,8 @@ module _ (m : Meaning) (sound : IsSound m) (root : GridBox) (box : IsSearchBox r
       (usable : AllByRecursion (λ seen. m.judged root tag seen None) sats) where
     -- what all usable satellites but at most q are consistent with is possible by the rows of each renewal
     each_possible : (q : ℕ) (p : Pos) (b : ℤ) (j : ℕ) (stage : Stage) (events : List Event) (left : List (List Row))
-        → EventsPass (HoldsGiven m.delays renewed) first rules done j stage events → IsFrom renewed j left
+        → EventsPass (HoldsGiven m.delays renewed) first rules done j stage events
+        → IsFrom renewed j left
         → AreRenewed m tag sats (renewals_in events) left → HaveEachRow (renewals_in events) left
         → AllBut q (IsConsistent m root tag p b) sats → PossibleInEach q p b (renewals_in events)
     each_possible q p b j stage [] left pass from own whole h = tt
@@ -376,9 +412,11 @@ module _ (m : Meaning) (sound : IsSound m) (root : GridBox) (box : IsSearchBox r
       pub within : (p : Pos) → box_holds over p ≡ true → box_holds root p ≡ true
 
     module _ (q : ℕ) (seens : List SatObs) (Same : (p : Pos) (b : ℤ) → AllBut q (IsConsistent m root tag p b) sats → Fits m root tag q p b seens) where
-      fit_step : (over : GridBox) (rows : List Row) (boxes : Subpaving) (step : Step) (part : GridBox) → IsInUse over rows boxes
+      fit_step : (over : GridBox) (rows : List Row) (boxes : Subpaving) (step : Step) (part : GridBox)
+          → IsInUse over rows boxes
           → ((p : Pos) → box_holds part p ≡ true → 0 < weight p boxes.live)
-          → IsSureInside rows q step part → FitsInside (λ p b. Fits m root tag q p b seens) step part
+          → IsSureInside rows q step part
+          → FitsInside (λ p b. Fits m root tag q p b seens) step part
       fit_step over rows boxes (Cut id face bound) part by live h = tt
       fit_step over rows boxes (Split id axis) part by live h = tt
       fit_step over rows boxes (Outside id) part by live h = tt
@@ -387,7 +425,8 @@ module _ (m : Meaning) (sound : IsSound m) (root : GridBox) (box : IsSearchBox r
           Same p clock (sure_rows over q p clock sats rows by.given by.held by.own by.many usable inside (by.within p inside) (h p holds))
       fit_step over rows boxes (Edge id lo hi) part by live h = tt
 
-      fit_steps : (over : GridBox) (rows : List Row) (boxes : Subpaving) (parts : List ShownStep) → IsInUse over rows boxes
+      fit_steps : (over : GridBox) (rows : List Row) (boxes : Subpaving) (parts : List ShownStep)
+          → IsInUse over rows boxes
           → ((p : Pos) → held_by p parts ≤ weight p boxes.live)
           → AreSureInside rows q parts → AllFitInside (λ p b. Fits m root tag q p b seens) parts
       fit_steps over rows boxes [] by few h = tt
@@ -396,19 +435,23 @@ module _ (m : Meaning) (sound : IsSound m) (root : GridBox) (box : IsSearchBox r
         fit_steps over rows boxes more by (λ p. omega (arith, few p, sum_by-cons (λ (piece : ShownStep). cond (box_holds piece.part p) 1 0) piece more)) h.1,
       )
         where
-          held_here : {n : ℕ} (p : Pos) (piece : ShownStep) (more : List ShownStep) → held_by p (piece ∷ more) ≤ n → box_holds piece.part p ≡ true → 0 < n
+          held_here : {n : ℕ} (p : Pos) (piece : ShownStep) (more : List ShownStep)
+              → held_by p (piece ∷ more) ≤ n → box_holds piece.part p ≡ true → 0 < n
           held_here p piece more few holds =
               let counted = sum_by-cons (λ (piece : ShownStep). cond (box_holds piece.part p) 1 0) piece more in
               let here : ◌≡◌ {A = ℕ} (cond (box_holds piece.part p) 1 0) 1 = rw holds refl in
               omega (arith, counted, here, few)
 
-      both_fit : (parts more : List ShownStep) → AllFitInside (λ p b. Fits m root tag q p b seens) parts → AllFitInside (λ p b. Fits m root tag q p b seens) more
+      both_fit : (parts more : List ShownStep)
+          → AllFitInside (λ p b. Fits m root tag q p b seens) parts
+          → AllFitInside (λ p b. Fits m root tag q p b seens) more
           → AllFitInside (λ p b. Fits m root tag q p b seens) (parts ++ more)
       both_fit [] more h k = k
       both_fit (piece ∷ parts) more h k = (h.0, both_fit parts more h.1 k)
 
       fit_events : (over : GridBox) (rows : List Row) (j : ℕ) (stage : Stage) (events : List Event) (left : List (List Row))
-          → EventsPass (HoldsGiven m.delays renewed) first rules done j stage events → IsFrom renewed j left
+          → EventsPass (HoldsGiven m.delays renewed) first rules done j stage events
+          → IsFrom renewed j left
           → AreRenewed m tag sats (renewals_in events) left → HaveEachRow (renewals_in events) left
           → AllByRecursion (λ new. length new.rows ≡ length sats) (renewals_in events)
           → ((p : Pos) → box_holds first.part p ≡ true → box_holds root p ≡ true)
@@ -444,8 +487,10 @@ module _ (m : Meaning) (sound : IsSound m) (root : GridBox) (box : IsSearchBox r
 
   module _ (rules : Rules) (block : Block) (lines : List SatLine) (renewed : List (List Row)) (seens : List SatObs)
       (own : AreOwnLines m root tag seens lines) (fair : AllFair m.delays block.sats lines) (counts : Counts lines block) where
-    body_cover : (body : Body) → block.body ≡ Some body → BodyPassesAt m.delays rules root renewed block (Some body)
-        → AreRenewed m tag (usable_of seens lines) (renewals_in body.events) renewed → HaveEachRow (renewals_in body.events) renewed
+    body_cover : (body : Body) → block.body ≡ Some body
+        → BodyPassesAt m.delays rules root renewed block (Some body)
+        → AreRenewed m tag (usable_of seens lines) (renewals_in body.events) renewed
+        → HaveEachRow (renewals_in body.events) renewed
         → FitBodyCover (λ p b. Fits m root tag rules.outliers p b seens) root (Some body)
     body_cover body is passes given whole =
         let firsts = rows_of block.sats in
@@ -479,22 +524,27 @@ module _ (m : Meaning) (sound : IsSound m) (root : GridBox) (box : IsSearchBox r
           fits_inside = fits;
         }
       where
-        rows_many : (seens : List SatObs) (lines : List SatLine) → AreOwnLines m root tag seens lines → length (own_rows lines) ≡ length (usable_of seens lines)
+        rows_many : (seens : List SatObs) (lines : List SatLine)
+            → AreOwnLines m root tag seens lines
+            → length (own_rows lines) ≡ length (usable_of seens lines)
         rows_many [] [] own = refl
         rows_many [] (line ∷ lines) own = absurd own
         rows_many (seen ∷ seens) [] own = absurd own
         rows_many (seen ∷ seens) (Usable ours ∷ lines) own = omega (arith, rows_many seens lines own.1)
         rows_many (seen ∷ seens) (Skipped sat skip ∷ lines) own = rows_many seens lines own.1
 
-        each_many : (body : Body) → block.body ≡ Some body → AllByRecursion (λ new. length new.rows ≡ length (usable_of seens lines)) (renewals_in body.events)
+        each_many : (body : Body) → block.body ≡ Some body
+            → AllByRecursion (λ new. length new.rows ≡ length (usable_of seens lines)) (renewals_in body.events)
         each_many body is =
             let many = usable_many seens lines own in
             let all : AllByRecursion (λ new. length new.rows ≡ block.n) (renewals_in body.events) = rw is at counts.renewed in
             subst (λ (n : ℕ). AllByRecursion (λ new. length new.rows ≡ n) (renewals_in body.events)) (counts.usable ∙ sym many) all
 
-  block_cover : (rules : Rules) (block : Block) (body : Option Body) (own : OwnLines) (seens : List SatObs) → block.body ≡ body
+  block_cover : (rules : Rules) (block : Block) (body : Option Body) (own : OwnLines) (seens : List SatObs)
+      → block.body ≡ body
       → EpochPasses m.delays rules root own block → AreOwnLines m root tag seens own.lines
-      → AreRenewed m tag (usable_of seens own.lines) (renewals_of body) own.renewed → HaveEachRow (renewals_of body) own.renewed
+      → AreRenewed m tag (usable_of seens own.lines) (renewals_of body) own.renewed
+      → HaveEachRow (renewals_of body) own.renewed
       → FitBodyCover (λ p b. Fits m root tag rules.outliers p b seens) root body
   block_cover rules block None own seens is passes are given whole = tt
   block_cover rules block (Some body) own seens is passes are given whole =
@@ -505,20 +555,26 @@ module _ (m : Meaning) (sound : IsSound m) (root : GridBox) (box : IsSearchBox r
 abbrev pub AreInBoxes : List Search → Type 0
 AreInBoxes searches = AllByRecursion (λ search. IsSearchBox search.root) searches
 
-pub all_in_box : (root : GridBox) (epochs : List ObsEpoch) → IsSearchBox root → AreInBoxes (searches_in root epochs)
+pub all_in_box : (root : GridBox) (epochs : List ObsEpoch) → IsSearchBox root
+    → AreInBoxes (searches_in root epochs)
 all_in_box root [] box = tt
 all_in_box root (epoch ∷ more) box = (box, all_in_box root more box)
 
 -- a log that is admitted by own lines of each search, which are all given, covers what fits
 module _ (m : Meaning) (sound : IsSound m) where
-  search_cover : (rules : Rules) (search : Search) → IsSearchBox search.root → (block : Block) (own : OwnLines)
-      → EpochPasses m.delays rules search.root own block → IsOwnOf m search (renewals_of block.body) own → HaveEachRow (renewals_of block.body) own.renewed
+  search_cover : (rules : Rules) (search : Search) → IsSearchBox search.root
+      → (block : Block) (own : OwnLines)
+      → EpochPasses m.delays rules search.root own block
+      → IsOwnOf m search (renewals_of block.body) own
+      → HaveEachRow (renewals_of block.body) own.renewed
       → FitBodyCover (FitsEpoch m rules.outliers search.root search.epoch) search.root block.body
   search_cover rules search box block own passes are whole =
       block_cover m sound search.root box search.epoch.tag rules block block.body own search.epoch.sats.items refl passes are.lines are.renewed whole
 
-  pub fit_all : (rules : Rules) (before : Option ℕ) (owns : List OwnLines) (searches : List Search) (blocks : List Block) → AreInBoxes searches
-      → AdmitsFrom m.delays rules before owns searches blocks → AreOwn m searches blocks owns → AreWhole owns blocks → length owns ≡ length searches
+  pub fit_all : (rules : Rules) (before : Option ℕ) (owns : List OwnLines) (searches : List Search) (blocks : List Block)
+      → AreInBoxes searches
+      → AdmitsFrom m.delays rules before owns searches blocks → AreOwn m searches blocks owns
+      → AreWhole owns blocks → length owns ≡ length searches
       → BlocksFitCover m rules.outliers searches blocks
   fit_all rules before [] [] [] boxes admits are whole each = tt
   fit_all rules before [] [] (block ∷ blocks) boxes admits are whole each = absurd admits

@@ -20,15 +20,18 @@ use Rattle.paving_log_check.specs.declared.verdict.Fault.{Fault}
 
 -- ---- what passes
 
-lines_any : (Meets : LineFact) (first : RowsOver) (j i : ℕ) (rows : List Row) → LinesPass Meets first j i rows → LinesPass AnyLine first j i rows
+lines_any : (Meets : LineFact) (first : RowsOver) (j i : ℕ) (rows : List Row)
+    → LinesPass Meets first j i rows → LinesPass AnyLine first j i rows
 lines_any Meets first j i [] h = tt
 lines_any Meets first j i (row ∷ rows) h = ((h.0.0, tt), lines_any Meets first j (suc i) rows h.1)
 
-renewal_any : (Meets : LineFact) (first : RowsOver) (j : ℕ) (boxes : Subpaving) (new : RowsOver) → RenewalPasses Meets first j boxes new → RenewalPasses AnyLine first j boxes new
+renewal_any : (Meets : LineFact) (first : RowsOver) (j : ℕ) (boxes : Subpaving) (new : RowsOver)
+    → RenewalPasses Meets first j boxes new → RenewalPasses AnyLine first j boxes new
 renewal_any Meets first j boxes new h = record { holds = h.holds; lines = lines_any Meets first j 0 new.rows h.lines }
 
 pub events_any : (Meets : LineFact) (first : RowsOver) (rules : Rules) (done j : ℕ) (stage : Stage) (events : List Event)
-    → EventsPass Meets first rules done j stage events → EventsPass AnyLine first rules done j stage events
+    → EventsPass Meets first rules done j stage events
+    → EventsPass AnyLine first rules done j stage events
 events_any Meets first rules done j stage [] h = h
 events_any Meets first rules done j stage (Made step ∷ events) h = (h.0, events_any Meets first rules done j (after stage (Made step)) events h.1)
 events_any Meets first rules done j stage (Renewed new ∷ events) h = (
@@ -44,22 +47,27 @@ NoneGiven renewed = (j i : ℕ) (ours : Row) → IsGiven renewed j i ours → �
 
 module _ (delays : Delays) (renewed : List (List Row)) (none : NoneGiven renewed) (first : RowsOver) where
   -- so the fault is told by its number alone
-  line_told : (j i : ℕ) (row : Row) (fault : Fault) → LineFails (own_tests delays renewed) first j i row fault → LineFails no_tests first j i row fault.number × ShowsNoSpans fault
+  line_told : (j i : ℕ) (row : Row) (fault : Fault)
+      → LineFails (own_tests delays renewed) first j i row fault
+      → LineFails no_tests first j i row fault.number × ShowsNoSpans fault
   line_told j i row fault (inl (other, is, plain)) = (inl (other, is, tt), plain)
   line_told j i row fault (inr (place, (ours, given, fails))) = absurd (none j i ours given)
 
-  lines_told : (j i : ℕ) (rows : List Row) (k : ℕ) (fault : Fault) → LinesFail (own_tests delays renewed) first j i rows k fault
+  lines_told : (j i : ℕ) (rows : List Row) (k : ℕ) (fault : Fault)
+      → LinesFail (own_tests delays renewed) first j i rows k fault
       → LinesFail no_tests first j i rows k fault.number × ShowsNoSpans fault
   lines_told j i [] k fault f = absurd f
   lines_told j i (row ∷ rows) zero fault f = line_told j i row fault f
   lines_told j i (row ∷ rows) (suc k) fault f = let later = lines_told j (suc i) rows k fault f.1 in (((f.0.0, tt), later.0), later.1)
 
-  renewal_told : (j : ℕ) (boxes : Subpaving) (new : RowsOver) (k : ℕ) (fault : Fault) → RenewalFails (own_tests delays renewed) first j boxes new k fault
+  renewal_told : (j : ℕ) (boxes : Subpaving) (new : RowsOver) (k : ℕ) (fault : Fault)
+      → RenewalFails (own_tests delays renewed) first j boxes new k fault
       → RenewalFails no_tests first j boxes new k fault.number × ShowsNoSpans fault
   renewal_told j boxes new zero fault f = ((f.0, f.1, tt), f.2)
   renewal_told j boxes new (suc k) fault f = let later = lines_told j 0 new.rows k fault f.1 in ((f.0, later.0), later.1)
 
-  events_told : (rules : Rules) (done j : ℕ) (stage : Stage) (events : List Event) (k : ℕ) (fault : Fault) → EventsFail (own_tests delays renewed) first rules done j stage events k fault
+  events_told : (rules : Rules) (done j : ℕ) (stage : Stage) (events : List Event) (k : ℕ) (fault : Fault)
+      → EventsFail (own_tests delays renewed) first rules done j stage events k fault
       → EventsFail no_tests first rules done j stage events k fault.number × ShowsNoSpans fault
   events_told rules done j stage [] k fault f = ((f.0, f.1, tt), f.2)
   events_told rules done j stage (Made step ∷ events) zero fault f = ((f.0, tt), f.1)
@@ -70,7 +78,8 @@ module _ (delays : Delays) (renewed : List (List Row)) (none : NoneGiven renewed
       (inr (l, is, renewal_any (own_tests delays renewed).passes first j stage.boxes new passes, later.0), later.1)
 
 -- without bases no row is formed
-none_formed : (delays : Delays) (root : GridBox) (renewals : List RowsOver) (renewed : List (List Row)) → AreAllFormed delays root [] renewals renewed → NoneGiven renewed
+none_formed : (delays : Delays) (root : GridBox) (renewals : List RowsOver) (renewed : List (List Row))
+    → AreAllFormed delays root [] renewals renewed → NoneGiven renewed
 none_formed delays root renewals [] formed j i ours (rows, at, is) = absurd cc
 none_formed delays root [] (given ∷ more) formed j i ours is = absurd formed
 none_formed delays root (new ∷ renewals) ([] ∷ more) formed zero i ours (rows, at, is) = let same : [] ≡ rows = cc in absurd (let e = rw (sym same) at is in cc)
@@ -80,7 +89,8 @@ none_formed delays root (new ∷ renewals) (given ∷ more) formed (suc j) i our
 -- ---- a body, and a block
 
 module _ (delays : Delays) (rules : Rules) (block : Block) (body : Body) where
-  pub body_told : (result : Result (Option Fault) NoMemory) (firsts : List Row) (line : ℕ) → firsts ≡ rows_of block.sats
+  pub body_told : (result : Result (Option Fault) NoMemory) (firsts : List Row) (line : ℕ)
+      → firsts ≡ rows_of block.sats
       → IfOk result (λ found. MatchOption found (EventsHold delays body.root firsts [] rules body.done body.events)
       (λ fault. (k : ℕ) × EventsBreak delays body.root firsts [] rules body.done body.events k fault × (fault.line ≡ line + k)))
       → line ≡ block.line + 2 + length block.sats

@@ -45,7 +45,8 @@ record IsTightRound (spare : ℕ) (side : Side) (n : ℤ) : Type 0 where
   pub held : Between side.lo side.hi n
 
 -- so it lies within as much of the number
-around_holds : (theirs ours : Side) (n : ℤ) (spare : ℕ) → IsTightRound spare ours n → HoldsAround spare theirs n → HoldsSide theirs ours
+around_holds : (theirs ours : Side) (n : ℤ) (spare : ℕ) → IsTightRound spare ours n
+    → HoldsAround spare theirs n → HoldsSide theirs ours
 around_holds theirs ours n spare round around = record {
   lo = omega (arith, ints, round.tight, round.held.to, around.lo);
   hi = omega (arith, ints, round.tight, round.held.from, around.hi);
@@ -56,7 +57,8 @@ record NarrowAt (pairs : List (Side × Side)) (theirs ours : Side) : Type 0 wher
   pub shown : slice_get pairs place ≡ Some (theirs, ours)
   pub narrow : HoldsSide theirs ours → ⊥
 
-narrow_at : (pairs : List (Side × Side)) (theirs ours : Side) → IsFirstNarrow pairs theirs ours → NarrowAt pairs theirs ours
+narrow_at : (pairs : List (Side × Side)) (theirs ours : Side) → IsFirstNarrow pairs theirs ours
+    → NarrowAt pairs theirs ours
 narrow_at [] theirs ours f = absurd f
 narrow_at (pair ∷ more) theirs ours (inl f) = rw (f.1, f.2) (record { place = 0; shown = refl; narrow = f.0 })
 narrow_at (pair ∷ more) theirs ours (inr f) =
@@ -70,7 +72,8 @@ IsShown a b theirs ours = ◌≡◌ {A = Option (Side × Side)} (Some (a, b)) (S
 abbrev IsKnown : ℤ → ℕ → ℤ → ℕ → Type 0
 IsKnown value width n spare = ◌≡◌ {A = Option (ℤ × ℕ)} (Some (value, width)) (Some (n, spare))
 
-tight_round : (a b theirs ours : Side) (value n : ℤ) (width spare : ℕ) → IsTightRound width b value → IsShown a b theirs ours → IsKnown value width n spare → IsTightRound spare ours n
+tight_round : (a b theirs ours : Side) (value n : ℤ) (width spare : ℕ) → IsTightRound width b value
+    → IsShown a b theirs ours → IsKnown value width n spare → IsTightRound spare ours n
 tight_round a b theirs ours value n width spare round shown known =
     let pair = same_item (a, b) (theirs, ours) shown in
     let both = same_item (value, width) (n, spare) known in
@@ -84,7 +87,8 @@ bound_values width c = (c.lo, width) ∷ (c.hi, width) ∷ []
 
 -- the ends of the error, where they are compared
 bounds_at : (plain : Bool) (width : ℕ) (row ours : Row) (theirs own : Side) (c : Chain) (n : ℤ) (spare place : ℕ)
-    → (ours.sure_lo -ℤ ours.err.lo) ≤ℤ pos width → (ours.err.hi -ℤ ours.sure_hi) ≤ℤ pos width → HoldsChain ours c
+    → (ours.sure_lo -ℤ ours.err.lo) ≤ℤ pos width → (ours.err.hi -ℤ ours.sure_hi) ≤ℤ pos width
+    → HoldsChain ours c
     → slice_get (bounds_unless plain row ours) place ≡ Some (theirs, own)
     → slice_get (bound_values width c) place ≡ Some (n, spare) → IsTightRound spare own n
 bounds_at true width row ours theirs own c n spare place low high holds shown value = absurd cc
@@ -96,8 +100,10 @@ bounds_at false width row ours theirs own c n spare (suc (suc place)) low high h
 
 -- the own side in a place is tight round the value in the same place
 module _ (m : Meaning) (root : GridBox) (tag : ℤ) (sat : SatObs) where
-  held_at : (row ours : Row) (theirs own : Side) (c : Chain) (n : ℤ) (spare place : ℕ) → IsOwnRow m root tag sat ours → HoldsChain ours c
-      → slice_get (compared m.delays row ours) place ≡ Some (theirs, own) → slice_get (values root m.delays c) place ≡ Some (n, spare) → IsTightRound spare own n
+  held_at : (row ours : Row) (theirs own : Side) (c : Chain) (n : ℤ) (spare place : ℕ)
+      → IsOwnRow m root tag sat ours → HoldsChain ours c
+      → slice_get (compared m.delays row ours) place ≡ Some (theirs, own)
+      → slice_get (values root m.delays c) place ≡ Some (n, spare) → IsTightRound spare own n
   held_at row ours theirs own c n spare zero is holds shown value =
       tight_round (span_side row.x) (span_side ours.x) theirs own c.x n (spare_of root) spare (record { tight = is.x; held = holds.x }) shown value
   held_at row ours theirs own c n spare (suc zero) is holds shown value =
@@ -109,8 +115,10 @@ module _ (m : Meaning) (root : GridBox) (tag : ℤ) (sat : SatObs) where
   held_at row ours theirs own c n spare (suc (suc (suc (suc place)))) is holds shown value =
       bounds_at (is_plain m.delays) (err_spare_of root m.delays) row ours theirs own c n spare place is.bounds.low is.bounds.high holds shown value
 
-too_narrow : (m : Meaning) (over : GridBox) (tag : ℤ) (sat : SatObs) (row ours : Row) (fault : Fault) → IsOwnRow m over tag sat ours
-    → IsFirstNarrow (compared m.delays row ours) (span_side fault.theirs) (span_side fault.ours) → IsTooNarrow m over tag sat row ours fault
+too_narrow : (m : Meaning) (over : GridBox) (tag : ℤ) (sat : SatObs) (row ours : Row) (fault : Fault)
+    → IsOwnRow m over tag sat ours
+    → IsFirstNarrow (compared m.delays row ours) (span_side fault.theirs) (span_side fault.ours)
+    → IsTooNarrow m over tag sat row ours fault
 too_narrow m over tag sat row ours fault is first =
     let theirs = span_side fault.theirs in
     let own = span_side fault.ours in
@@ -126,7 +134,8 @@ too_narrow m over tag sat row ours fault is first =
 
 -- ---- the number of another fault
 
-step_number : (rules : Rules) (stage : Stage) (step : Step) (number : ℕ) → StepFails rules stage step number → number ≡ 53 → ⊥
+step_number : (rules : Rules) (stage : Stage) (step : Step) (number : ℕ)
+    → StepFails rules stage step number → number ≡ 53 → ⊥
 step_number rules stage (Cut id face bound) number (inl f) e = absurd (omega (arith, f.1))
 step_number rules stage (Cut id face bound) number (inr (part, live, not, is)) e = absurd (omega (arith, is))
 step_number rules stage (Split id axis) number (inl f) e = absurd (omega (arith, f.1))
@@ -140,7 +149,8 @@ step_number rules stage (Inside id clock lo hi) number (inr (inr (part, live, me
 step_number rules stage (Edge id lo hi) number (inl f) e = absurd (omega (arith, f.1))
 step_number rules stage (Edge id lo hi) number (inr (part, live, not, is)) e = absurd (omega (arith, is))
 
-done_number : (done : ℕ) (stage : Stage) (number : ℕ) → DoneFails done stage number → number ≡ 53 → ⊥
+done_number : (done : ℕ) (stage : Stage) (number : ℕ) → DoneFails done stage number → number ≡ 53
+    → ⊥
 done_number done stage number (inl live) e = absurd (omega (arith, live.1))
 done_number done stage number (inr count) e = absurd (omega (arith, count.2))
 
@@ -157,14 +167,16 @@ contained [] k x e = absurd cc
 contained (first ∷ xs) zero x e = let same : first ≡ x = cc in rw (sym same) (in_front first xs)
 contained (first ∷ xs) (suc k) x e = behind first x xs (contained xs k x e)
 
-none_usable : (own : List SatLine) (k : ℕ) (row : Row) → slice_get (skipped_in own) k ≡ Some (Usable row) → ⊥
+none_usable : (own : List SatLine) (k : ℕ) (row : Row)
+    → slice_get (skipped_in own) k ≡ Some (Usable row) → ⊥
 none_usable [] k row e = absurd cc
 none_usable (Usable other ∷ own) k row e = none_usable own k row e
 none_usable (Skipped sat skip ∷ own) zero row e = absurd cc
 none_usable (Skipped sat skip ∷ own) (suc k) row e = none_usable own k row e
 
 -- a usable line among the expected ones is one of all
-usable_at : (few : Bool) (own : List SatLine) (k : ℕ) (row : Row) → slice_get (expected few own) k ≡ Some (Usable row) → slice_get own k ≡ Some (Usable row)
+usable_at : (few : Bool) (own : List SatLine) (k : ℕ) (row : Row)
+    → slice_get (expected few own) k ≡ Some (Usable row) → slice_get own k ≡ Some (Usable row)
 usable_at true own k row e = absurd (none_usable own k row e)
 usable_at false own k row e = e
 
@@ -176,7 +188,8 @@ module _ (m : Meaning) where
     pub usable : m.judged root tag sat None
     pub is_own : IsOwnRow m root tag sat ours
 
-  own_at : (root : GridBox) (tag : ℤ) (sats : List SatObs) (own : List SatLine) (k : ℕ) (ours : Row) → AreOwnLines m root tag sats own
+  own_at : (root : GridBox) (tag : ℤ) (sats : List SatObs) (own : List SatLine) (k : ℕ) (ours : Row)
+      → AreOwnLines m root tag sats own
       → slice_get own k ≡ Some (Usable ours) → HasOwn root tag sats ours
   own_at root tag [] [] k ours h e = absurd cc
   own_at root tag [] (line ∷ own) k ours h e = absurd h
@@ -192,7 +205,8 @@ module _ (m : Meaning) where
   -- ---- renewals
 
   -- the row in a place is an own row of the satellite there
-  own_in : (part : GridBox) (tag : ℤ) (sats : List SatObs) (given : List Row) (i : ℕ) (ours : Row) → AreOwnRows m part tag sats given → slice_get given i ≡ Some ours
+  own_in : (part : GridBox) (tag : ℤ) (sats : List SatObs) (given : List Row) (i : ℕ) (ours : Row)
+      → AreOwnRows m part tag sats given → slice_get given i ≡ Some ours
       → (seen : SatObs) × (slice_get sats i ≡ Some seen) × IsOwnRow m part tag seen ours
   own_in part tag sats [] i ours own e = absurd cc
   own_in part tag [] (row ∷ given) i ours own e = absurd own
@@ -214,9 +228,11 @@ module _ (m : Meaning) where
     pub narrow : IsFirstNarrow (compared m.delays row ours) (span_side fault.theirs) (span_side fault.ours)
 
   module _ (renewed : List (List Row)) (first : RowsOver) (tag : ℤ) (sats : List SatObs) where
-    line_narrow : (renewals : List RowsOver) (new : RowsOver) (j i : ℕ) (given : List Row) (row : Row) (fault : Fault) → Contains renewals new → Contains new.rows row
+    line_narrow : (renewals : List RowsOver) (new : RowsOver) (j i : ℕ) (given : List Row) (row : Row) (fault : Fault)
+        → Contains renewals new → Contains new.rows row
         → slice_get renewed j ≡ Some given → AreOwnRows m new.part tag sats given
-        → LineFails (own_tests m.delays renewed) first j i row fault → fault.number ≡ 53 → HasNarrowLine first tag sats renewals fault
+        → LineFails (own_tests m.delays renewed) first j i row fault → fault.number ≡ 53
+        → HasNarrowLine first tag sats renewals fault
     line_narrow renewals new j i given row fault among there at own (inl other) e = absurd (omega (arith, other.1))
     line_narrow renewals new j i given row fault among there at own (inr (place, (ours, (rows, here, is), inr f))) e = absurd (omega (arith, f.2))
     line_narrow renewals new j i given row fault among there at own (inr (place, (ours, (rows, here, is), inl f))) e =
@@ -236,18 +252,23 @@ module _ (m : Meaning) where
           narrow = f.0;
         }
 
-    lines_narrow : (renewals : List RowsOver) (new : RowsOver) (j i : ℕ) (given rows : List Row) (k : ℕ) (fault : Fault) → Contains renewals new
-        → ((row : Row) → Contains rows row → Contains new.rows row) → slice_get renewed j ≡ Some given → AreOwnRows m new.part tag sats given
-        → LinesFail (own_tests m.delays renewed) first j i rows k fault → fault.number ≡ 53 → HasNarrowLine first tag sats renewals fault
+    lines_narrow : (renewals : List RowsOver) (new : RowsOver) (j i : ℕ) (given rows : List Row) (k : ℕ) (fault : Fault)
+        → Contains renewals new
+        → ((row : Row) → Contains rows row → Contains new.rows row)
+        → slice_get renewed j ≡ Some given → AreOwnRows m new.part tag sats given
+        → LinesFail (own_tests m.delays renewed) first j i rows k fault → fault.number ≡ 53
+        → HasNarrowLine first tag sats renewals fault
     lines_narrow renewals new j i given [] k fault among there at own f e = absurd f
     lines_narrow renewals new j i given (row ∷ rows) zero fault among there at own f e =
         line_narrow renewals new j i given row fault among (there row (in_front row rows)) at own f e
     lines_narrow renewals new j i given (row ∷ rows) (suc k) fault among there at own f e =
         lines_narrow renewals new j (suc i) given rows k fault among (λ other is. there other (behind row other rows is)) at own f.1 e
 
-    renewal_narrow : (renewals : List RowsOver) (boxes : Subpaving) (new : RowsOver) (j : ℕ) (given : List Row) (k : ℕ) (fault : Fault) → Contains renewals new
+    renewal_narrow : (renewals : List RowsOver) (boxes : Subpaving) (new : RowsOver) (j : ℕ) (given : List Row) (k : ℕ) (fault : Fault)
+        → Contains renewals new
         → slice_get renewed j ≡ Some given → AreOwnRows m new.part tag sats given
-        → RenewalFails (own_tests m.delays renewed) first j boxes new k fault → fault.number ≡ 53 → HasNarrowLine first tag sats renewals fault
+        → RenewalFails (own_tests m.delays renewed) first j boxes new k fault → fault.number ≡ 53
+        → HasNarrowLine first tag sats renewals fault
     renewal_narrow renewals boxes new j given zero fault among at own f e = absurd (omega (arith, f.1))
     renewal_narrow renewals boxes new j given (suc k) fault among at own f e =
         lines_narrow renewals new j 0 given new.rows k fault among (λ row is. is) at own f.1 e
@@ -259,12 +280,16 @@ module _ (m : Meaning) where
     none_told j i (row ∷ rows) zero fault none (inr (place, (ours, (given, here, is), fails))) e = absurd (let some = sym none ∙ here in cc)
     none_told j i (row ∷ rows) (suc k) fault none f e = none_told j (suc i) rows k fault none f.1 e
 
-    none_given : (boxes : Subpaving) (new : RowsOver) (j k : ℕ) (fault : Fault) → slice_get renewed j ≡ None
-        → RenewalFails (own_tests m.delays renewed) first j boxes new k fault → fault.number ≡ 53 → ⊥
+    none_given : (boxes : Subpaving) (new : RowsOver) (j k : ℕ) (fault : Fault)
+        → slice_get renewed j ≡ None
+        → RenewalFails (own_tests m.delays renewed) first j boxes new k fault → fault.number ≡ 53
+        → ⊥
     none_given boxes new j zero fault none f e = absurd (omega (arith, f.1))
     none_given boxes new j (suc k) fault none f e = none_told j 0 new.rows k fault none f.1 e
 
-    later_line : (new : RowsOver) (renewals : List RowsOver) (fault : Fault) → HasNarrowLine first tag sats renewals fault → HasNarrowLine first tag sats (new ∷ renewals) fault
+    later_line : (new : RowsOver) (renewals : List RowsOver) (fault : Fault)
+        → HasNarrowLine first tag sats renewals fault
+        → HasNarrowLine first tag sats (new ∷ renewals) fault
     later_line new renewals fault h = record {
       new = h.new;
       is_new = behind new h.new renewals h.is_new;
@@ -279,9 +304,11 @@ module _ (m : Meaning) where
       narrow = h.narrow;
     }
 
-    events_narrow : (rules : Rules) (done j : ℕ) (stage : Stage) (events : List Event) (left : List (List Row)) (k : ℕ) (fault : Fault) → IsFrom renewed j left
+    events_narrow : (rules : Rules) (done j : ℕ) (stage : Stage) (events : List Event) (left : List (List Row)) (k : ℕ) (fault : Fault)
+        → IsFrom renewed j left
         → AreRenewed m tag sats (renewals_in events) left
-        → EventsFail (own_tests m.delays renewed) first rules done j stage events k fault → fault.number ≡ 53 → HasNarrowLine first tag sats (renewals_in events) fault
+        → EventsFail (own_tests m.delays renewed) first rules done j stage events k fault
+        → fault.number ≡ 53 → HasNarrowLine first tag sats (renewals_in events) fault
     events_narrow rules done j stage [] left k fault from own f e = absurd (done_number done stage fault.number f.1 e)
     events_narrow rules done j stage (Made step ∷ events) left zero fault from own f e = absurd (step_number rules stage step fault.number f.0 e)
     events_narrow rules done j stage (Made step ∷ events) left (suc k) fault from own f e =
@@ -298,7 +325,8 @@ module _ (m : Meaning) where
 
   -- ---- the satellites of the first rows
 
-  first_sats : (root : GridBox) (tag : ℤ) (seens : List SatObs) (sats : List SatEntry) (lines : List SatLine) → AllFair m.delays sats lines → AreOwnLines m root tag seens lines
+  first_sats : (root : GridBox) (tag : ℤ) (seens : List SatObs) (sats : List SatEntry) (lines : List SatLine)
+      → AllFair m.delays sats lines → AreOwnLines m root tag seens lines
       → map (λ (row : Row). row.sat) (rows_of sats) ≡ map (λ (seen : SatObs). seen.sat) (usable_of seens lines)
   first_sats root tag [] [] [] fair own = refl
   first_sats root tag (seen ∷ seens) [] [] fair own = absurd own
@@ -313,7 +341,8 @@ module _ (m : Meaning) where
   first_sats root tag (seen ∷ seens) (entry.Skipped sat skip ∷ sats) (Usable ours ∷ lines) fair own = absurd fair.0.0
   first_sats root tag (seen ∷ seens) (entry.Skipped sat skip ∷ sats) (Skipped other why ∷ lines) fair own = first_sats root tag seens sats lines fair.1 own.1
 
-  sat_at : (seens : List SatObs) (i : ℕ) (seen : SatObs) → slice_get seens i ≡ Some seen → slice_get (map (λ (seen : SatObs). seen.sat) seens) i ≡ Some seen.sat
+  sat_at : (seens : List SatObs) (i : ℕ) (seen : SatObs) → slice_get seens i ≡ Some seen
+      → slice_get (map (λ (seen : SatObs). seen.sat) seens) i ≡ Some seen.sat
   sat_at [] i seen e = absurd cc
   sat_at (first ∷ seens) zero seen e = let same : first ≡ seen = cc in rw same refl
   sat_at (first ∷ seens) (suc i) seen e = sat_at seens i seen e
@@ -322,7 +351,8 @@ module _ (m : Meaning) where
     pub is_seen : Contains seens seen
     pub judged : m.judged root tag seen None
 
-  usable_seen : (root : GridBox) (tag : ℤ) (seens : List SatObs) (lines : List SatLine) (i : ℕ) (seen : SatObs) → AreOwnLines m root tag seens lines
+  usable_seen : (root : GridBox) (tag : ℤ) (seens : List SatObs) (lines : List SatLine) (i : ℕ) (seen : SatObs)
+      → AreOwnLines m root tag seens lines
       → slice_get (usable_of seens lines) i ≡ Some seen → IsUsable root tag seens seen
   usable_seen root tag [] lines i seen own e = absurd cc
   usable_seen root tag (first ∷ seens) [] i seen own e = absurd cc
@@ -337,8 +367,10 @@ module _ (m : Meaning) where
       record { is_seen = behind first seen seens later.is_seen; judged = later.judged }
 
   body_narrow : (rules : Rules) (search : Search) (own : OwnLines) (block : Block) (body : Body) (fault : Fault)
-      → IsOwnOf m search (renewals_of block.body) own → AllFair m.delays block.sats own.lines → block.body ≡ Some body
-      → EventDiffers m.delays rules search.root own.renewed block body fault → fault.number ≡ 53 → HasNarrowRow m search block fault
+      → IsOwnOf m search (renewals_of block.body) own → AllFair m.delays block.sats own.lines
+      → block.body ≡ Some body
+      → EventDiffers m.delays rules search.root own.renewed block body fault → fault.number ≡ 53
+      → HasNarrowRow m search block fault
   body_narrow rules search own block body fault are fair is event e =
       let seens = search.epoch.sats.items in
       let given = ap renewals_of is in
@@ -364,7 +396,8 @@ module _ (m : Meaning) where
 
   narrow_row : (search : Search) (own : List SatLine) (block : Block) (k : ℕ) (theirs : SatEntry) (line : SatLine) (fault : Fault)
       → AreLinesOf m search.root search.epoch own
-      → slice_get block.sats k ≡ Some theirs → slice_get (expected (is_few block) own) k ≡ Some line → IsSameLine theirs line → RowFails m.delays theirs line fault
+      → slice_get block.sats k ≡ Some theirs → slice_get (expected (is_few block) own) k ≡ Some line
+      → IsSameLine theirs line → RowFails m.delays theirs line fault
       → fault.number ≡ 53 → HasNarrowRow m search block fault
   narrow_row search own block k (entry.Row row) (Usable ours) fault are at other same (inl f) e =
       let has = own_at search.root search.epoch.tag search.epoch.sats.items own k ours are (usable_at (is_few block) own k ours other) in
@@ -386,7 +419,8 @@ module _ (m : Meaning) where
   narrow_row search own block k (entry.Skipped sat skip) (Skipped name why) fault are at other same f e = absurd f
 
   pub epoch_narrow : (rules : Rules) (search : Search) (own : OwnLines) (block : Block) (fault : Fault)
-      → IsOwnOf m search (renewals_of block.body) own → EpochFails m.delays rules search.root own block fault
+      → IsOwnOf m search (renewals_of block.body) own
+      → EpochFails m.delays rules search.root own block fault
       → fault.number ≡ 53 → HasNarrowRow m search block fault
   epoch_narrow rules search own block fault are (inl head) e = absurd (omega (arith, head.number))
   epoch_narrow rules search own block fault are (inr (inl differs)) e = elim differs.fails.here [
@@ -403,7 +437,8 @@ module _ (m : Meaning) where
   -- ---- the log
 
   later_block : (first : Search) (searches : List Search) (block : Block) (blocks : List Block) (fault : Fault)
-      → HasNarrowBlock m searches blocks fault → HasNarrowBlock m (first ∷ searches) (block ∷ blocks) fault
+      → HasNarrowBlock m searches blocks fault
+      → HasNarrowBlock m (first ∷ searches) (block ∷ blocks) fault
   later_block first searches block blocks fault h = record {
     search = h.search;
     is_search = behind first h.search searches h.is_search;
@@ -414,7 +449,8 @@ module _ (m : Meaning) where
   }
 
   pub log_narrow : (rules : Rules) (next : ℕ) (before : Option ℕ) (owns : List OwnLines) (searches : List Search) (blocks : List Block) (fault : Fault)
-      → AreOwn m searches blocks owns → FailsFrom m.delays rules next before owns searches blocks fault
+      → AreOwn m searches blocks owns
+      → FailsFrom m.delays rules next before owns searches blocks fault
       → fault.number ≡ 53 → HasNarrowBlock m searches blocks fault
   log_narrow rules next before [] searches blocks fault are f e = absurd (omega (arith, f.number))
   log_narrow rules next before (own ∷ owns) [] blocks fault are f e = absurd (omega (arith, f.number))

@@ -16,19 +16,23 @@ use Rattle.paving_log_check.specs.Taken.{IsTakenBy}
 use Rattle.grid_model.proofs.ListLemmas.{next_item, no_item}
 
 -- the blocks from a place on
-pub block_left : (blocks : List LogEpoch) (k : ℕ) (epoch : LogEpoch) → k < length blocks → epoch ≡ get_or blocks k epoch
+pub block_left : (blocks : List LogEpoch) (k : ℕ) (epoch : LogEpoch) → k < length blocks
+    → epoch ≡ get_or blocks k epoch
     → drop k (map block_of blocks) ≡ block_of epoch ∷ drop (k + 1) (map block_of blocks)
 block_left blocks k epoch within is = next_item (map block_of blocks) k (block_of epoch) (omega (arith, length-map blocks block_of))
     (ap block_of is ∙ sym (get_or-map block_of blocks k epoch))
 
-pub blocks_ended : (blocks : List LogEpoch) (k : ℕ) → length blocks ≤ k → drop k (map block_of blocks) ≡ []
+pub blocks_ended : (blocks : List LogEpoch) (k : ℕ) → length blocks ≤ k
+    → drop k (map block_of blocks) ≡ []
 blocks_ended blocks k ended = no_item (map block_of blocks) k (omega (arith, length-map blocks block_of))
 
 -- ---- the next search
 
 -- it isn't the block's
-pub not_due : (rules : Rules) (before : Option ℕ) (old : Searches) (seen : ObsEpoch) (new : Searches) (block : Block) → IsTaken old seen new
-    → (IsOf rules before seen block → ⊥) → (more : List Block) → IsDue rules before (searches_left old) (block ∷ more) → ⊥
+pub not_due : (rules : Rules) (before : Option ℕ) (old : Searches) (seen : ObsEpoch) (new : Searches) (block : Block)
+    → IsTaken old seen new
+    → (IsOf rules before seen block → ⊥) → (more : List Block)
+    → IsDue rules before (searches_left old) (block ∷ more) → ⊥
 not_due rules before old seen new block taken other more due = other (rw (taken_search old seen new taken) at due)
 
 -- a block is left: it is due where its search was taken

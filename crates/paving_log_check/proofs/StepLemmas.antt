@@ -9,17 +9,21 @@ use Rattle.paving_log_check.specs.Steps.{StepsPass, StepsFail, stage_behind}
 
 -- ---- one step more
 
-pub passes_more : (rules : Rules) (stage : Stage) (steps : List Step) (step : Step) → StepsPass rules stage steps → StepPasses rules (stage_behind stage steps) step
+pub passes_more : (rules : Rules) (stage : Stage) (steps : List Step) (step : Step)
+    → StepsPass rules stage steps → StepPasses rules (stage_behind stage steps) step
     → StepsPass rules stage (steps ++ step ∷ [])
 passes_more rules stage [] step h k = (k, tt)
 passes_more rules stage (first ∷ steps) step h k = (h.0, passes_more rules (after stage (Made first)) steps step h.1 k)
 
-pub stage_more : (stage : Stage) (steps : List Step) (step : Step) → stage_behind stage (steps ++ step ∷ []) ≡ after (stage_behind stage steps) (Made step)
+pub stage_more : (stage : Stage) (steps : List Step) (step : Step)
+    → stage_behind stage (steps ++ step ∷ []) ≡ after (stage_behind stage steps) (Made step)
 stage_more stage [] step = refl
 stage_more stage (first ∷ steps) step = stage_more (after stage (Made first)) steps step
 
-pub fails_next : (rules : Rules) (stage : Stage) (steps more : List Step) (step : Step) (number : ℕ) → StepsPass rules stage steps
-    → StepFails rules (stage_behind stage steps) step number → StepsFail rules stage (steps ++ step ∷ more) (length steps) number
+pub fails_next : (rules : Rules) (stage : Stage) (steps more : List Step) (step : Step) (number : ℕ)
+    → StepsPass rules stage steps
+    → StepFails rules (stage_behind stage steps) step number
+    → StepsFail rules stage (steps ++ step ∷ more) (length steps) number
 fails_next rules stage [] more step number h f = f
 fails_next rules stage (first ∷ steps) more step number h f = (h.0, fails_next rules (after stage (Made first)) steps more step number h.1 f)
 
@@ -36,7 +40,8 @@ pub record IsNext (xs : List Step) (i : ℕ) (step : Step) (more : List Step) : 
   pub less : i < length xs
   pub many : length (take i xs) ≡ i
 
-pub is_next : (xs : List Step) (i : ℕ) (step : Step) (more : List Step) → drop i xs ≡ step ∷ more → IsNext xs i step more
+pub is_next : (xs : List Step) (i : ℕ) (step : Step) (more : List Step) → drop i xs ≡ step ∷ more
+    → IsNext xs i step more
 is_next [] zero step more e = absurd cc
 is_next [] (suc i) step more e = absurd cc
 is_next (x ∷ xs) zero step more e = record { taken = cc; left = cc; less = omega arith; many = refl }
@@ -44,7 +49,8 @@ is_next (x ∷ xs) (suc i) step more e =
     let at = is_next xs i step more e in
     record { taken = ap (λ l. x ∷ l) at.taken; left = at.left; less = omega (arith, at.less); many = ap suc at.many }
 
-pub some_taken : (xs : List Step) (i most : ℕ) (step : Step) (more : List Step) → drop i xs ≡ step ∷ more → i < most
+pub some_taken : (xs : List Step) (i most : ℕ) (step : Step) (more : List Step)
+    → drop i xs ≡ step ∷ more → i < most
     → (rest : List Step) × (take most xs ≡ take i xs ++ step ∷ rest)
 some_taken [] zero most step more e less = absurd cc
 some_taken [] (suc i) most step more e less = absurd cc
@@ -53,7 +59,8 @@ some_taken (x ∷ xs) zero (suc most) step more e less = (take most xs, cc)
 some_taken (x ∷ xs) (suc i) (suc most) step more e less = let (rest, is) = some_taken xs i most step more e (omega arith) in (rest, ap (λ l. x ∷ l) is)
 
 -- none is left, so all were taken
-pub none_left : (xs : List Step) (i most : ℕ) → drop i xs ≡ [] → i ≤ most → (take most xs ≡ take i xs) × (drop most xs ≡ [])
+pub none_left : (xs : List Step) (i most : ℕ) → drop i xs ≡ [] → i ≤ most
+    → (take most xs ≡ take i xs) × (drop most xs ≡ [])
 none_left [] zero zero e le = (refl, refl)
 none_left [] zero (suc most) e le = (refl, refl)
 none_left [] (suc i) zero e le = (refl, refl)

@@ -21,21 +21,26 @@ use Rattle.paving_log_check.specs.declared.verdict.Fault.{Fault}
 
 -- ---- steps before other events
 
-passes_behind : (Meets : LineFact) (first : RowsOver) (rules : Rules) (done j : ℕ) (stage : Stage) (steps : List Step) (more : List Event) → StepsPass rules stage steps
-    → EventsPass Meets first rules done j (stage_behind stage steps) more → EventsPass Meets first rules done j stage (made_all steps ++ more)
+passes_behind : (Meets : LineFact) (first : RowsOver) (rules : Rules) (done j : ℕ) (stage : Stage) (steps : List Step) (more : List Event)
+    → StepsPass rules stage steps
+    → EventsPass Meets first rules done j (stage_behind stage steps) more
+    → EventsPass Meets first rules done j stage (made_all steps ++ more)
 passes_behind Meets first rules done j stage [] more h later = later
 passes_behind Meets first rules done j stage (step ∷ steps) more h later = (h.0, passes_behind Meets first rules done j (after stage (Made step)) steps more h.1 later)
 
 module _ {F : Type 0} (tests : LineTests F) (first : RowsOver) (rules : Rules) (done : ℕ) where
-  fails_behind : (j : ℕ) (stage : Stage) (steps : List Step) (more : List Event) (k : ℕ) (fault : F) → StepsPass rules stage steps
-      → EventsFail tests first rules done j (stage_behind stage steps) more k fault → EventsFail tests first rules done j stage (made_all steps ++ more) (length steps + k) fault
+  fails_behind : (j : ℕ) (stage : Stage) (steps : List Step) (more : List Event) (k : ℕ) (fault : F)
+      → StepsPass rules stage steps
+      → EventsFail tests first rules done j (stage_behind stage steps) more k fault
+      → EventsFail tests first rules done j stage (made_all steps ++ more) (length steps + k) fault
   fails_behind j stage [] more k fault h later = subst (λ (n : ℕ). EventsFail tests first rules done j stage more n fault) (omega arith) later
   fails_behind j stage (step ∷ steps) more k fault h later =
       let on : EventsFail tests first rules done j stage (made_all (step ∷ steps) ++ more) (suc (length steps + k)) fault = (h.0, fails_behind j (after stage (Made step)) steps more k fault h.1 later) in
       let same : suc (length steps + k) ≡ length (step ∷ steps) + k = omega arith in
       subst (λ (n : ℕ). EventsFail tests first rules done j stage (made_all (step ∷ steps) ++ more) n fault) same on
 
-  fails_among : (j : ℕ) (stage : Stage) (steps : List Step) (more : List Event) (k : ℕ) (fault : F) → StepsFail rules stage steps k (tests.number fault) → tests.plain fault
+  fails_among : (j : ℕ) (stage : Stage) (steps : List Step) (more : List Event) (k : ℕ) (fault : F)
+      → StepsFail rules stage steps k (tests.number fault) → tests.plain fault
       → EventsFail tests first rules done j stage (made_all steps ++ more) k fault
   fails_among j stage [] more k fault f plain = absurd f
   fails_among j stage (step ∷ steps) more zero fault f plain = (f, plain)
@@ -44,13 +49,15 @@ module _ {F : Type 0} (tests : LineTests F) (first : RowsOver) (rules : Rules) (
 -- ---- the rows that are given
 
 -- behind some lists stands the next one
-next_given : (given : List (List Row)) (one : List Row) (more : List (List Row)) (j : ℕ) → length given ≡ j → slice_get (given ++ one ∷ more) j ≡ Some one
+next_given : (given : List (List Row)) (one : List Row) (more : List (List Row)) (j : ℕ)
+    → length given ≡ j → slice_get (given ++ one ∷ more) j ≡ Some one
 next_given [] one more zero e = refl
 next_given [] one more (suc j) e = absurd (omega (arith, e))
 next_given (first ∷ given) one more zero e = absurd (omega (arith, e))
 next_given (first ∷ given) one more (suc j) e = next_given given one more j (omega (arith, e))
 
-one_behind : (given : List (List Row)) (one : List Row) (more : List (List Row)) → (given ++ one ∷ []) ++ more ≡ given ++ one ∷ more
+one_behind : (given : List (List Row)) (one : List Row) (more : List (List Row))
+    → (given ++ one ∷ []) ++ more ≡ given ++ one ∷ more
 one_behind given one more = append_assoc given (one ∷ []) more
 
 -- ---- the walk
@@ -69,10 +76,15 @@ module _ (delays : Delays) (root : GridBox) (firsts : List Row) (bases : List Ba
   pub record IsWalked (j : ℕ) (stage : Stage) (events : List Event) (offset : ℕ) : Type 0 where
     pub given : List (List Row)
     pub many : length given ≡ j
-    pub formed : (more : List (List Row)) → AreAllFormed delays root bases (renewals_in events) more → AreAllFormed delays root bases (renewals_in all) (given ++ more)
-    pub whole : (more : List (List Row)) → AreAsMany bases (renewals_in events) more → AreAsMany bases (renewals_in all) (given ++ more)
-    pub pass : (more : List (List Row)) → PassFrom (given ++ more) j stage events → PassFrom (given ++ more) 0 start all
-    pub fail : (more : List (List Row)) (k : ℕ) (fault : Fault) → FailFrom (given ++ more) j stage events k fault → FailFrom (given ++ more) 0 start all (offset + k) fault
+    pub formed : (more : List (List Row)) → AreAllFormed delays root bases (renewals_in events) more
+        → AreAllFormed delays root bases (renewals_in all) (given ++ more)
+    pub whole : (more : List (List Row)) → AreAsMany bases (renewals_in events) more
+        → AreAsMany bases (renewals_in all) (given ++ more)
+    pub pass : (more : List (List Row)) → PassFrom (given ++ more) j stage events
+        → PassFrom (given ++ more) 0 start all
+    pub fail : (more : List (List Row)) (k : ℕ) (fault : Fault)
+        → FailFrom (given ++ more) j stage events k fault
+        → FailFrom (given ++ more) 0 start all (offset + k) fault
     pub lines : offset + lines_of_all events ≡ lines_of_all all
 
   pub walked_first : IsWalked 0 start all 0
@@ -86,14 +98,16 @@ module _ (delays : Delays) (root : GridBox) (firsts : List Row) (bases : List Ba
     lines = omega arith;
   }
 
-  renewals_behind_steps : (steps : List Step) (events : List Event) → renewals_in (made_all steps ++ events) ≡ renewals_in events
+  renewals_behind_steps : (steps : List Step) (events : List Event)
+      → renewals_in (made_all steps ++ events) ≡ renewals_in events
   renewals_behind_steps [] events = refl
   renewals_behind_steps (step ∷ steps) events = renewals_behind_steps steps events
 
   -- ---- steps
 
   module _ {j : ℕ} {stage : Stage} {offset : ℕ} (steps : List Step) (events : List Event) (w : IsWalked j stage (made_all steps ++ events) offset) where
-    pub walked_steps : StepsPass rules stage steps → IsWalked j (stage_behind stage steps) events (offset + length steps)
+    pub walked_steps : StepsPass rules stage steps
+        → IsWalked j (stage_behind stage steps) events (offset + length steps)
     walked_steps passes =
         let same = renewals_behind_steps steps events in
         record {
@@ -107,7 +121,8 @@ module _ (delays : Delays) (root : GridBox) (firsts : List Row) (bases : List Ba
           lines = omega (arith, w.lines, lines_behind (made_all steps) events, lines_of_made steps);
         }
 
-    pub walked_steps_fail : (k : ℕ) (fault : Fault) → StepsFail rules stage steps k fault.number → ShowsNoSpans fault
+    pub walked_steps_fail : (k : ℕ) (fault : Fault) → StepsFail rules stage steps k fault.number
+        → ShowsNoSpans fault
         → EventsBreak delays root firsts bases rules done all (offset + k) fault
     walked_steps_fail k fault fails plain = record {
       renewed = w.given ++ [];
@@ -118,7 +133,8 @@ module _ (delays : Delays) (root : GridBox) (firsts : List Row) (bases : List Ba
   -- ---- a renewal
 
   module _ {j : ℕ} {stage : Stage} {offset : ℕ} (new : RowsOver) (events : List Event) (w : IsWalked j stage (Renewed new ∷ events) offset) where
-    pub walked_renewal : RenewalHolds delays root firsts bases stage.boxes new → IsWalked (suc j) (after stage (Renewed new)) events (offset + 1 + length new.rows)
+    pub walked_renewal : RenewalHolds delays root firsts bases stage.boxes new
+        → IsWalked (suc j) (after stage (Renewed new)) events (offset + 1 + length new.rows)
     walked_renewal h = record {
       given = w.given ++ h.given ∷ [];
       many = omega (arith, w.many, length_more w.given h.given);
@@ -140,11 +156,13 @@ module _ (delays : Delays) (root : GridBox) (firsts : List Row) (bases : List Ba
       lines = omega (arith, w.lines);
     }
       where
-        length_more : (given : List (List Row)) (one : List Row) → length (given ++ one ∷ []) ≡ suc (length given)
+        length_more : (given : List (List Row)) (one : List Row)
+            → length (given ++ one ∷ []) ≡ suc (length given)
         length_more [] one = refl
         length_more (first ∷ given) one = ap suc (length_more given one)
 
-    pub walked_renewal_fails : (k : ℕ) (fault : Fault) → RenewalBreaks delays root firsts bases stage.boxes new k fault
+    pub walked_renewal_fails : (k : ℕ) (fault : Fault)
+        → RenewalBreaks delays root firsts bases stage.boxes new k fault
         → EventsBreak delays root firsts bases rules done all (offset + k) fault
     walked_renewal_fails k fault f = record {
       renewed = w.given ++ f.given ∷ [];
@@ -154,7 +172,8 @@ module _ (delays : Delays) (root : GridBox) (firsts : List Row) (bases : List Ba
 
   -- ---- the end
 
-  pub walked_done : {j : ℕ} {stage : Stage} {offset : ℕ} → IsWalked j stage [] offset → DonePasses done stage → EventsHold delays root firsts bases rules done all
+  pub walked_done : {j : ℕ} {stage : Stage} {offset : ℕ} → IsWalked j stage [] offset
+      → DonePasses done stage → EventsHold delays root firsts bases rules done all
   walked_done w h = record {
     renewed = w.given ++ [];
     formed = w.formed [] tt;
@@ -162,7 +181,8 @@ module _ (delays : Delays) (root : GridBox) (firsts : List Row) (bases : List Ba
     passes = w.pass [] h;
   }
 
-  pub walked_done_fails : {j : ℕ} {stage : Stage} {offset : ℕ} (fault : Fault) → IsWalked j stage [] offset → DoneFails done stage fault.number → ShowsNoSpans fault
+  pub walked_done_fails : {j : ℕ} {stage : Stage} {offset : ℕ} (fault : Fault)
+      → IsWalked j stage [] offset → DoneFails done stage fault.number → ShowsNoSpans fault
       → EventsBreak delays root firsts bases rules done all offset fault
   walked_done_fails {offset = offset} fault w f plain = record {
     renewed = w.given ++ [];

@@ -25,7 +25,8 @@ use Rattle.paving_log_check.proofs.StepLemmas.{test_behind}
 use Rattle.paving_log_check.proofs.WalkLemmas.{start, IsWalked, walked_first, walked_steps, walked_steps_fail, walked_renewal, walked_renewal_fails, walked_done, walked_done_fails}
 
 -- so many steps stand before the next renewal
-pub few_before : (taken : ℕ) (steps : List Step) (r : Renewal) (more : List Renewal) → Rise taken (r ∷ more) (taken + length steps)
+pub few_before : (taken : ℕ) (steps : List Step) (r : Renewal) (more : List Renewal)
+    → Rise taken (r ∷ more) (taken + length steps)
     → (taken ≤ r.at) × (r.at - taken ≤ length steps)
 few_before taken steps r more rise = (rise.0, omega (arith, rise.0, rise_high r.at (taken + length steps) more rise.1))
 
@@ -33,7 +34,8 @@ few_before taken steps r more rise = (rise.0, omega (arith, rise.0, rise_high r.
 abbrev by_rows : Subpaving → List Row → BoxTest → Stage
 by_rows boxes rows test = record { boxes = boxes; test = record { rows = rows; q = test.q; pairs = test.pairs } }
 
-pub steps_few : (steps : List Step) (rs : List Renewal) → length steps ≤ lines_of_all (events_from 0 steps rs)
+pub steps_few : (steps : List Step) (rs : List Renewal)
+    → length steps ≤ lines_of_all (events_from 0 steps rs)
 steps_few steps rs = omega (arith, steps_le_lines steps rs, lines_of_events (events_from 0 steps rs))
 
 module _ (delays : Delays) (root : GridBox) (firsts : List Row) (bases : List Base) (rules : Rules) (done : ℕ) (all : List Event) (line : ℕ) where
@@ -49,7 +51,9 @@ module _ (delays : Delays) (root : GridBox) (firsts : List Row) (bases : List Ba
   abbrev pub Breaks : Fault → Type 0
   Breaks fault = (k : ℕ) × EventsBreak delays root firsts bases rules done all k fault × (fault.line ≡ line + k)
 
-  pub way_first : (steps : List Step) (renewals : List Renewal) (stage : Stage) → all ≡ events_from 0 steps renewals → Rise 0 renewals (length steps) → stage ≡ start delays root firsts bases rules done all
+  pub way_first : (steps : List Step) (renewals : List Renewal) (stage : Stage)
+      → all ≡ events_from 0 steps renewals → Rise 0 renewals (length steps)
+      → stage ≡ start delays root firsts bases rules done all
       → IsOnTheWay line 0 0 stage steps renewals
   way_first steps renewals stage is rise first = record {
     offset = 0;
@@ -60,21 +64,27 @@ module _ (delays : Delays) (root : GridBox) (firsts : List Row) (bases : List Ba
   }
 
   -- with the renewal at a place, and behind the last one
-  pub way_at : {next taken j : ℕ} {stage : Stage} {steps : List Step} (renewals there : List Renewal) (i : ℕ) (r : Renewal) → there ≡ renewals → i < length there → r ≡ get_or there i r
-      → IsOnTheWay next taken j stage steps (drop i renewals) → IsOnTheWay next taken j stage steps (r ∷ drop (i + 1) renewals)
+  pub way_at : {next taken j : ℕ} {stage : Stage} {steps : List Step} (renewals there : List Renewal) (i : ℕ) (r : Renewal)
+      → there ≡ renewals → i < length there → r ≡ get_or there i r
+      → IsOnTheWay next taken j stage steps (drop i renewals)
+      → IsOnTheWay next taken j stage steps (r ∷ drop (i + 1) renewals)
   way_at renewals there i r same within is w = rw (next_item renewals i r (rw same at within) (rw same at is)) at w
 
-  pub way_end : {next taken j : ℕ} {stage : Stage} {steps : List Step} (renewals there : List Renewal) (i : ℕ) → there ≡ renewals → length there ≤ i
-      → IsOnTheWay next taken j stage steps (drop i renewals) → IsOnTheWay next taken j stage steps []
+  pub way_end : {next taken j : ℕ} {stage : Stage} {steps : List Step} (renewals there : List Renewal) (i : ℕ)
+      → there ≡ renewals → length there ≤ i
+      → IsOnTheWay next taken j stage steps (drop i renewals)
+      → IsOnTheWay next taken j stage steps []
   way_end renewals there i same ended w = rw (no_item renewals i (rw same at ended)) at w
 
   -- how many lines are left
-  pub lines_left : {next taken j : ℕ} {stage : Stage} (steps : List Step) (renewals : List Renewal) → IsOnTheWay next taken j stage steps renewals
+  pub lines_left : {next taken j : ℕ} {stage : Stage} (steps : List Step) (renewals : List Renewal)
+      → IsOnTheWay next taken j stage steps renewals
       → next + lines_of_all (events_from taken steps renewals) ≡ line + lines_of_all all
   lines_left steps renewals w = omega (arith, w.next_is, w.walked.lines)
 
   -- ... up to a renewal, and behind it
-  pub lines_before : {next taken j : ℕ} {stage : Stage} (steps : List Step) (r : Renewal) (more : List Renewal) → IsOnTheWay next taken j stage steps (r ∷ more)
+  pub lines_before : {next taken j : ℕ} {stage : Stage} (steps : List Step) (r : Renewal) (more : List Renewal)
+      → IsOnTheWay next taken j stage steps (r ∷ more)
       → next + (r.at - taken) + 1 + length r.rows.items ≤ line + lines_of_all all
   lines_before {taken = taken} steps r more w =
       let few = few_before taken steps r more w.rise in
@@ -88,7 +98,8 @@ module _ (delays : Delays) (root : GridBox) (firsts : List Row) (bases : List Ba
         length-take-le k steps few.1,
       )
 
-  pub lines_last : {next taken j : ℕ} {stage : Stage} (steps : List Step) → IsOnTheWay next taken j stage steps [] → next + length steps ≤ line + lines_of_all all
+  pub lines_last : {next taken j : ℕ} {stage : Stage} (steps : List Step)
+      → IsOnTheWay next taken j stage steps [] → next + length steps ≤ line + lines_of_all all
   lines_last {taken = taken} steps w = omega (arith, lines_left steps [] w, lines_of_made steps)
 
   module _ {next taken j : ℕ} {stage : Stage} (steps : List Step) (r : Renewal) (more : List Renewal) (w : IsOnTheWay next taken j stage steps (r ∷ more)) (count : ℕ) (is : count ≡ r.at - taken) where
@@ -98,7 +109,9 @@ module _ (delays : Delays) (root : GridBox) (firsts : List Row) (bases : List Ba
     many_before : length (take count steps) ≡ count
     many_before = length-take-le count steps (omega (arith, is, (few_before taken steps r more w.rise).1))
 
-    pub fails_in_steps : (k : ℕ) (fault : Fault) → StepsFail rules stage (take count steps) k fault.number → ShowsNoSpans fault → fault.line ≡ next + k → Breaks fault
+    pub fails_in_steps : (k : ℕ) (fault : Fault)
+        → StepsFail rules stage (take count steps) k fault.number → ShowsNoSpans fault
+        → fault.line ≡ next + k → Breaks fault
     fails_in_steps k fault fails plain at = (
       w.offset + k,
       walked_steps_fail delays root firsts bases rules done all (take count steps) (Renewed (new_rows r) ∷ events_from r.at (drop count steps) more) walked_here k fault fails plain,
@@ -113,15 +126,20 @@ module _ (delays : Delays) (root : GridBox) (firsts : List Row) (bases : List Ba
       walked_mid : IsWalked delays root firsts bases rules done all j mid (Renewed (new_rows r) ∷ events_from r.at (drop count steps) more) (w.offset + length (take count steps))
       walked_mid = subst (λ (s : Stage). IsWalked delays root firsts bases rules done all j s (Renewed (new_rows r) ∷ events_from r.at (drop count steps) more) (w.offset + length (take count steps))) (sym here) (walked_before passes)
 
-      pub fails_in_renewal : (k : ℕ) (fault : Fault) → RenewalBreaks delays root firsts bases mid.boxes (new_rows r) k fault → fault.line ≡ next + count + k → Breaks fault
+      pub fails_in_renewal : (k : ℕ) (fault : Fault)
+          → RenewalBreaks delays root firsts bases mid.boxes (new_rows r) k fault
+          → fault.line ≡ next + count + k → Breaks fault
       fails_in_renewal k fault fails at = (
         w.offset + length (take count steps) + k,
         walked_renewal_fails delays root firsts bases rules done all (new_rows r) (events_from r.at (drop count steps) more) walked_mid k fault fails,
         omega (arith, at, w.next_is, many_before),
       )
 
-      pub way_more : (line_next : ℕ) (stage_next : Stage) (left : List Step) → RenewalHolds delays root firsts bases mid.boxes (new_rows r)
-          → line_next ≡ next + count + 1 + length r.rows.items → stage_next ≡ record { boxes = mid.boxes; test = test_of rules r.rows.items } → left ≡ drop count steps
+      pub way_more : (line_next : ℕ) (stage_next : Stage) (left : List Step)
+          → RenewalHolds delays root firsts bases mid.boxes (new_rows r)
+          → line_next ≡ next + count + 1 + length r.rows.items
+          → stage_next ≡ record { boxes = mid.boxes; test = test_of rules r.rows.items }
+          → left ≡ drop count steps
           → IsOnTheWay line_next r.at (j + 1) stage_next left more
       way_more line_next stage_next left holds line_is stage_is left_is =
           let few = few_before taken steps r more w.rise in
@@ -147,7 +165,9 @@ module _ (delays : Delays) (root : GridBox) (firsts : List Row) (bases : List Ba
         let whole = take_all count steps (omega (arith, is)) in
         subst (λ (events : List Event). IsWalked delays root firsts bases rules done all j stage events w.offset) (ap made_all (sym whole) ∙ sym (append-nil (made_all (take count steps)))) w.walked
 
-    pub fails_in_last : (k : ℕ) (fault : Fault) → StepsFail rules stage (take count steps) k fault.number → ShowsNoSpans fault → fault.line ≡ next + k → Breaks fault
+    pub fails_in_last : (k : ℕ) (fault : Fault)
+        → StepsFail rules stage (take count steps) k fault.number → ShowsNoSpans fault
+        → fault.line ≡ next + k → Breaks fault
     fails_in_last k fault fails plain at = (
       w.offset + k,
       walked_steps_fail delays root firsts bases rules done all (take count steps) [] walked_last k fault fails plain,
@@ -162,7 +182,8 @@ module _ (delays : Delays) (root : GridBox) (firsts : List Row) (bases : List Ba
       pub way_ends : DonePasses done end → EventsHold delays root firsts bases rules done all
       way_ends h = walked_done delays root firsts bases rules done all walked_end h
 
-      pub fails_at_end : (fault : Fault) → DoneFails done end fault.number → ShowsNoSpans fault → fault.line ≡ next + count → Breaks fault
+      pub fails_at_end : (fault : Fault) → DoneFails done end fault.number → ShowsNoSpans fault
+          → fault.line ≡ next + count → Breaks fault
       fails_at_end fault fails plain at = (
         w.offset + length (take count steps),
         walked_done_fails delays root firsts bases rules done all fault walked_end fails plain,

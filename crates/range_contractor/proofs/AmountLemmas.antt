@@ -31,22 +31,26 @@ above_is_up a b = refl
 
 -- ---- rounding to a grain
 
-pub floor_near : (g x : ℤ) → pos 1 ≤ℤ g → (grain_floor g x ≤ℤ x) × ((x +ℤ pos 1) ≤ℤ (grain_floor g x +ℤ g))
+pub floor_near : (g x : ℤ) → pos 1 ≤ℤ g
+    → (grain_floor g x ≤ℤ x) × ((x +ℤ pos 1) ≤ℤ (grain_floor g x +ℤ g))
 floor_near g x h =
     let p : IsFloor x g (int_div_euclid x g) = floor_is x g (omega (arith, ints)) in
     (p.le, omega (arith, ints, p.gt))
 
-pub ceil_near : (g x : ℤ) → pos 1 ≤ℤ g → (x ≤ℤ grain_ceil g x) × ((grain_ceil g x +ℤ pos 1) ≤ℤ (x +ℤ g))
+pub ceil_near : (g x : ℤ) → pos 1 ≤ℤ g
+    → (x ≤ℤ grain_ceil g x) × ((grain_ceil g x +ℤ pos 1) ≤ℤ (x +ℤ g))
 ceil_near g x h =
     let p = floor_near g (neg_ℤ x) h in
     (omega (arith, ints, p.0), omega (arith, ints, p.1))
 
 -- ---- sums of multiples
 
-pub multiple_sum : (g a b v : ℤ) → IsMultipleOf g a → IsMultipleOf g b → v ≡ a +ℤ b → IsMultipleOf g v
+pub multiple_sum : (g a b v : ℤ) → IsMultipleOf g a → IsMultipleOf g b → v ≡ a +ℤ b
+    → IsMultipleOf g v
 multiple_sum g a b v p q e = record { times = p.times +ℤ q.times; is = omega (arith, ints, e, p.is, q.is, add_mul p.times q.times g) }
 
-pub multiple_difference : (g a b v : ℤ) → IsMultipleOf g a → IsMultipleOf g b → v ≡ a -ℤ b → IsMultipleOf g v
+pub multiple_difference : (g a b v : ℤ) → IsMultipleOf g a → IsMultipleOf g b → v ≡ a -ℤ b
+    → IsMultipleOf g v
 multiple_difference g a b v p q e = record { times = p.times +ℤ neg_ℤ q.times; is = omega (arith, ints, e, p.is, q.is, add_mul p.times (neg_ℤ q.times) g, neg_mul q.times g) }
 
 -- ---- the amounts
@@ -56,8 +60,10 @@ abs_cases (pos n) = inl refl
 abs_cases (negsuc n) = inr (omega (arith, ints))
 
 -- a reached number lies below the place by one of the amounts, or above it
-pub reached_in : (g : ℤ) (place amount below above' : Side) (low high others_low others_high : ℕ) (v : ℤ) → pos 1 ≤ℤ g
-    → AreAmounts g low high others_low others_high amount → IsBelow place amount below → IsAbove place amount above'
+pub reached_in : (g : ℤ) (place amount below above' : Side) (low high others_low others_high : ℕ) (v : ℤ)
+    → pos 1 ≤ℤ g
+    → AreAmounts g low high others_low others_high amount → IsBelow place amount below
+    → IsAbove place amount above'
     → IsReached place low high others_low others_high v → IsInOneOf below above' v
 reached_in g place amount below above' low high others_low others_high v h are is_below is_above r =
     let d = unsigned_abs (r.at -ℤ v) in
@@ -70,8 +76,11 @@ reached_in g place amount below above' low high others_low others_high v h are i
       | inr e ↦ inr (omega (arith, ints, e, b.from, i.0, is_above.low), omega (arith, ints, e, b.to, i.1, is_above.high))
     ]
 
-nearly : (g : ℤ) (place amount : Side) (low high others_low others_high : ℕ) (v : ℤ) → pos 1 ≤ℤ g → AreAmounts g low high others_low others_high amount
-    → pos (least_amount place.lo place.hi v v) ≤ℤ amount.hi → amount.lo ≤ℤ pos (greatest_amount place.lo place.hi v v) → IsNearlyReached g place low high others_low others_high v
+nearly : (g : ℤ) (place amount : Side) (low high others_low others_high : ℕ) (v : ℤ) → pos 1 ≤ℤ g
+    → AreAmounts g low high others_low others_high amount
+    → pos (least_amount place.lo place.hi v v) ≤ℤ amount.hi
+    → amount.lo ≤ℤ pos (greatest_amount place.lo place.hi v v)
+    → IsNearlyReached g place low high others_low others_high v
 nearly g place amount low high others_low others_high v h are near far =
     let most : IsRoot (high - others_low) (root (high - others_low)) = root_is _ in
     let least : IsRoot (low - others_high) (root (low - others_high)) = root_is _ in
@@ -86,7 +95,8 @@ nearly g place amount low high others_low others_high v h are near far =
       far = omega (arith, ints, far, are.low_is, f.1);
     }
 
-amount_natural : (g : ℤ) (amount : Side) (low high others_low others_high : ℕ) → pos 1 ≤ℤ g → AreAmounts g low high others_low others_high amount → (n : ℕ) × (amount.hi ≡ pos n)
+amount_natural : (g : ℤ) (amount : Side) (low high others_low others_high : ℕ) → pos 1 ≤ℤ g
+    → AreAmounts g low high others_low others_high amount → (n : ℕ) × (amount.hi ≡ pos n)
 amount_natural g amount low high others_low others_high h are = natural amount.hi (omega (arith, ints, are.high_is, (ceil_near g (pos (root (high - others_low))) h).0))
   where
     natural : (z : ℤ) → pos 0 ≤ℤ z → (n : ℕ) × (z ≡ pos n)
@@ -94,8 +104,10 @@ amount_natural g amount low high others_low others_high h are = natural amount.h
     natural (negsuc n) h = absurd (omega (arith, ints))
 
 -- each such number is nearly reached
-pub nearly_reached : (g : ℤ) (place amount below above' : Side) (low high others_low others_high : ℕ) (v : ℤ) → pos 1 ≤ℤ g → place.lo ≤ℤ place.hi → pos 0 ≤ℤ amount.lo
-    → AreAmounts g low high others_low others_high amount → IsBelow place amount below → IsAbove place amount above'
+pub nearly_reached : (g : ℤ) (place amount below above' : Side) (low high others_low others_high : ℕ) (v : ℤ)
+    → pos 1 ≤ℤ g → place.lo ≤ℤ place.hi → pos 0 ≤ℤ amount.lo
+    → AreAmounts g low high others_low others_high amount → IsBelow place amount below
+    → IsAbove place amount above'
     → IsInOneOf below above' v → IsNearlyReached g place low high others_low others_high v
 nearly_reached g place amount below above' low high others_low others_high v h ordered natural are is_below is_above i =
     let (n, n_is) = amount_natural g amount low high others_low others_high h are in
@@ -110,7 +122,8 @@ nearly_reached g place amount below above' low high others_low others_high v h o
 
 -- ---- what is kept of a side
 
-face_is : (g old a b v : ℤ) → IsMultipleOf g a → IsMultipleOf g b → IsEndOf old a b v → (v ≡ old) ⊎ IsMultipleOf g v
+face_is : (g old a b v : ℤ) → IsMultipleOf g a → IsMultipleOf g b → IsEndOf old a b v
+    → (v ≡ old) ⊎ IsMultipleOf g v
 face_is g old a b v p q e = elim e [
   | inl e ↦ inl e
   | inr e ↦ elim e [
@@ -119,9 +132,12 @@ face_is g old a b v p q e = elim e [
   ]
 ]
 
-pub is_kept : (g : ℤ) (place amount side below above' kept : Side) (low high others_low others_high : ℕ) → pos 1 ≤ℤ g → place.lo ≤ℤ place.hi
-    → IsAmount g low high others_low others_high amount → IsBelow place amount below → IsAbove place amount above' → AreWhole g place
-    → IsHullOfMeets side below above' kept → IsKept g place side low high others_low others_high kept
+pub is_kept : (g : ℤ) (place amount side below above' kept : Side) (low high others_low others_high : ℕ)
+    → pos 1 ≤ℤ g → place.lo ≤ℤ place.hi
+    → IsAmount g low high others_low others_high amount → IsBelow place amount below
+    → IsAbove place amount above' → AreWhole g place
+    → IsHullOfMeets side below above' kept
+    → IsKept g place side low high others_low others_high kept
 is_kept g place amount side below above' kept low high others_low others_high h ordered is is_below is_above place_whole k = record {
   from = k.from;
   ordered = k.ordered;
@@ -137,14 +153,17 @@ is_kept g place amount side below above' kept low high others_low others_high h 
       (multiple_sum g place.hi amount.hi above'.hi place_whole.high is.whole.high is_above.high) k.high_end;
 }
 
-pub none_is_kept : (g : ℤ) (place amount side below above' : Side) (low high others_low others_high : ℕ) → pos 1 ≤ℤ g
-    → IsAmount g low high others_low others_high amount → IsBelow place amount below → IsAbove place amount above'
+pub none_is_kept : (g : ℤ) (place amount side below above' : Side) (low high others_low others_high : ℕ)
+    → pos 1 ≤ℤ g
+    → IsAmount g low high others_low others_high amount → IsBelow place amount below
+    → IsAbove place amount above'
     → NoneMeets side below above' → NoneIsKept place side low high others_low others_high
 none_is_kept g place amount side below above' low high others_low others_high h is is_below is_above none v i r =
     none v i (reached_in g place amount below above' low high others_low others_high v h is.are is_below is_above r)
 
 -- nothing is reached where the others alone are too great
-pub none_where_less : (place side : Side) (low high others_low others_high : ℕ) → high < others_low → NoneIsKept place side low high others_low others_high
+pub none_where_less : (place side : Side) (low high others_low others_high : ℕ) → high < others_low
+    → NoneIsKept place side low high others_low others_high
 none_where_less place side low high others_low others_high h v i r = omega (arith, r.to, r.others_from)
 
 -- ---- sizes
@@ -154,8 +173,11 @@ pub floor_natural : (g : ℤ) (n : ℕ) → pos 1 ≤ℤ g → pos 0 ≤ℤ grai
 floor_natural (pos d) n h = omega (arith, ints)
 floor_natural (negsuc d) n h = absurd (omega (arith, ints))
 
-pub is_amount : (g : ℤ) (amount : Side) (low high others_low others_high : ℕ) → pos 1 ≤ℤ g → g ≤ℤ pos 1048576
-    → low ≤ high → high ≤ 79228162514264337593543950336 → AreAmounts g low high others_low others_high amount → AreWhole g amount → IsAmount g low high others_low others_high amount
+pub is_amount : (g : ℤ) (amount : Side) (low high others_low others_high : ℕ) → pos 1 ≤ℤ g
+    → g ≤ℤ pos 1048576
+    → low ≤ high → high ≤ 79228162514264337593543950336
+    → AreAmounts g low high others_low others_high amount → AreWhole g amount
+    → IsAmount g low high others_low others_high amount
 is_amount g amount low high others_low others_high h k le size are whole =
     let x = root_le (low - others_high) 281474976710656 (omega arith) in
     let y = root_le (high - others_low) 281474976710656 (omega arith) in

@@ -18,12 +18,14 @@ along zero p = p.x
 along (suc zero) p = p.y
 along (suc (suc n)) p = p.z
 
-pub holds_at : (c : GridBox) (p : Pos) → box_holds c p ≡ true → (axis : ℕ) → IsIn (side_at axis c) (along axis p)
+pub holds_at : (c : GridBox) (p : Pos) → box_holds c p ≡ true → (axis : ℕ)
+    → IsIn (side_at axis c) (along axis p)
 holds_at c p h zero = side_in c.x p.x (both _ _ h).0
 holds_at c p h (suc zero) = side_in c.y p.y (both _ _ (both _ _ h).1).0
 holds_at c p h (suc (suc n)) = side_in c.z p.z (both _ _ (both _ _ h).1).1
 
-pub holds_all : (c : GridBox) (p : Pos) → ((axis : ℕ) → IsIn (side_at axis c) (along axis p)) → box_holds c p ≡ true
+pub holds_all : (c : GridBox) (p : Pos) → ((axis : ℕ) → IsIn (side_at axis c) (along axis p))
+    → box_holds c p ≡ true
 holds_all c p h = both_from _ _ (in_side c.x p.x (h 0)) (both_from _ _ (in_side c.y p.y (h 1)) (in_side c.z p.z (h 2)))
 
 pub lies_through : (a m part : GridBox) → LiesIn a m → LiesIn m part → LiesIn a part
@@ -39,7 +41,8 @@ box_lies b (suc zero) = record { low = omega (arith, ints); ordered = b.y_ordere
 box_lies b (suc (suc n)) = record { low = omega (arith, ints); ordered = b.z_ordered; high = omega (arith, ints) }
 
 -- boxes that are found the same by their coordinates
-pub same_coordinates : (a b : Box3) → ((int_eq a.lo.x b.lo.x && (int_eq a.lo.y b.lo.y && int_eq a.lo.z b.lo.z)) && (int_eq a.hi.x b.hi.x && (int_eq a.hi.y b.hi.y && int_eq a.hi.z b.hi.z))) ≡ true
+pub same_coordinates : (a b : Box3)
+    → ((int_eq a.lo.x b.lo.x && (int_eq a.lo.y b.lo.y && int_eq a.lo.z b.lo.z)) && (int_eq a.hi.x b.hi.x && (int_eq a.hi.y b.hi.y && int_eq a.hi.z b.hi.z))) ≡ true
     → grid_box a ≡ grid_box b
 same_coordinates a b h =
     let (lo, hi) = both (int_eq a.lo.x b.lo.x && (int_eq a.lo.y b.lo.y && int_eq a.lo.z b.lo.z)) (int_eq a.hi.x b.hi.x && (int_eq a.hi.y b.hi.y && int_eq a.hi.z b.hi.z)) h in
@@ -50,7 +53,8 @@ same_coordinates a b h =
     same : (c d : ℤ) → int_eq c d ≡ true → c ≡ d
     same c d k = grind (arith, ints)
 
-    three_same : (c d e f g i : ℤ) → (int_eq c d && (int_eq e f && int_eq g i)) ≡ true → (c ≡ d) × (e ≡ f) × (g ≡ i)
+    three_same : (c d e f g i : ℤ) → (int_eq c d && (int_eq e f && int_eq g i)) ≡ true
+        → (c ≡ d) × (e ≡ f) × (g ≡ i)
     three_same c d e f g i k =
         let (x, yz) = both (int_eq c d) (int_eq e f && int_eq g i) k in
         let (y, z) = both (int_eq e f) (int_eq g i) yz in

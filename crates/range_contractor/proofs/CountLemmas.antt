@@ -14,7 +14,8 @@ Member s [] = ⊥
 Member s (t ∷ spans) = (s ≡ t) ⊎ Member s spans
 
 -- a number that lies in some span: one of the spans holds it
-pub some_holds : (b : ℤ) (spans : List (ℤ × ℤ)) → 1 ≤ count_by (λ t. holds t b) spans → (s : ℤ × ℤ) × Member s spans × (s.0 ≤ℤ b) × (b ≤ℤ s.1)
+pub some_holds : (b : ℤ) (spans : List (ℤ × ℤ)) → 1 ≤ count_by (λ t. holds t b) spans
+    → (s : ℤ × ℤ) × Member s spans × (s.0 ≤ℤ b) × (b ≤ℤ s.1)
 some_holds b [] h = absurd (omega arith)
 some_holds b (t ∷ spans) h = elim (cases_Bool (holds t b)) [
   | inl e ↦ let (l, u) = both _ _ e in (t, inl refl, le_from _ _ l, le_from _ _ u)
@@ -22,7 +23,8 @@ some_holds b (t ∷ spans) h = elim (cases_Bool (holds t b)) [
 ]
 
 -- where one number lies in more of the spans than another, some span holds it and not the other
-pub some_more : (b c : ℤ) (spans : List (ℤ × ℤ)) → count_by (λ t. holds t c) spans < count_by (λ t. holds t b) spans
+pub some_more : (b c : ℤ) (spans : List (ℤ × ℤ))
+    → count_by (λ t. holds t c) spans < count_by (λ t. holds t b) spans
     → (s : ℤ × ℤ) × Member s spans × (holds s b ≡ true) × (holds s c ≡ false)
 some_more b c [] h = absurd (omega arith)
 some_more b c (t ∷ spans) h = elim (cases_Bool (holds t b)) [
@@ -37,7 +39,8 @@ some_more b c (t ∷ spans) h = elim (cases_Bool (holds t b)) [
 ]
 
 -- the ends of a hull are ends of spans
-pub hull_low : (spans : List (ℤ × ℤ)) (need : ℕ) (lo hi : ℤ) → IsRelaxedHull spans need lo hi → (s : ℤ × ℤ) × Member s spans × (lo ≡ s.0) × (lo ≤ℤ s.1)
+pub hull_low : (spans : List (ℤ × ℤ)) (need : ℕ) (lo hi : ℤ) → IsRelaxedHull spans need lo hi
+    → (s : ℤ × ℤ) × Member s spans × (lo ≡ s.0) × (lo ≤ℤ s.1)
 hull_low spans need lo hi h =
     let below : count_by (λ t. holds t (lo -ℤ pos 1)) spans < need = elim (cases_le need (count_by (λ t. holds t (lo -ℤ pos 1)) spans)) [
       | inl le ↦ absurd (let w = h.within (lo -ℤ pos 1) le in omega (arith, ints, w.0))
@@ -58,7 +61,8 @@ hull_low spans need lo hi h =
       | inr t ↦ omega (arith, ints)
     ]
 
-pub hull_high : (spans : List (ℤ × ℤ)) (need : ℕ) (lo hi : ℤ) → IsRelaxedHull spans need lo hi → (s : ℤ × ℤ) × Member s spans × (hi ≡ s.1) × (s.0 ≤ℤ hi)
+pub hull_high : (spans : List (ℤ × ℤ)) (need : ℕ) (lo hi : ℤ) → IsRelaxedHull spans need lo hi
+    → (s : ℤ × ℤ) × Member s spans × (hi ≡ s.1) × (s.0 ≤ℤ hi)
 hull_high spans need lo hi h =
     let above : count_by (λ t. holds t (hi +ℤ pos 1)) spans < need = elim (cases_le need (count_by (λ t. holds t (hi +ℤ pos 1)) spans)) [
       | inl le ↦ absurd (let w = h.within (hi +ℤ pos 1) le in omega (arith, ints, w.1))

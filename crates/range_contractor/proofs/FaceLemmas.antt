@@ -21,7 +21,9 @@ abbrev Comes : ℤ → Others → GridBox → ℕ → Bool → ℤ → Type 0
 Comes grain W part axis low v = IsFaceOf grain (face_at axis low part) v ⊎ W axis low v
 
 -- the same with more others
-more_faces : (grain : ℤ) (W V : Others) (part : GridBox) (answer : Option GridBox) → ((axis : ℕ) (low : Bool) (v : ℤ) → W axis low v → V axis low v) → HasFacesBy grain W part answer → HasFacesBy grain V part answer
+more_faces : (grain : ℤ) (W V : Others) (part : GridBox) (answer : Option GridBox)
+    → ((axis : ℕ) (low : Bool) (v : ℤ) → W axis low v → V axis low v)
+    → HasFacesBy grain W part answer → HasFacesBy grain V part answer
 more_faces grain W V part None i h = tt
 more_faces grain W V part (Some a) i h = λ axis low. elim (h axis low) [
   | inl f ↦ inl f
@@ -30,7 +32,8 @@ more_faces grain W V part (Some a) i h = λ axis low. elim (h axis low) [
 
 -- the faces of an answer to an answer
 come_through : (grain : ℤ) (W : Others) (part m : GridBox) (axis : ℕ) (low : Bool) (v : ℤ)
-    → Comes grain W part axis low (face_at axis low m) → Comes grain W m axis low v → Comes grain W part axis low v
+    → Comes grain W part axis low (face_at axis low m) → Comes grain W m axis low v
+    → Comes grain W part axis low v
 come_through grain W part m axis low v h k = elim k [
   | inr w ↦ inr w
   | inl f ↦ elim f [
@@ -40,21 +43,27 @@ come_through grain W part m axis low v h k = elim k [
 ]
 
 faces_then : (grain : ℤ) (W : Others) (part : GridBox) (middle answer : Option GridBox) (Next : Contractor)
-    → HasFacesBy grain W part middle → ((m : GridBox) (a : Option GridBox) → Next m a → HasFacesBy grain W m a) → Then middle Next answer → HasFacesBy grain W part answer
+    → HasFacesBy grain W part middle
+    → ((m : GridBox) (a : Option GridBox) → Next m a → HasFacesBy grain W m a)
+    → Then middle Next answer → HasFacesBy grain W part answer
 faces_then grain W part None answer Next h next is = rw is tt
 faces_then grain W part (Some m) None Next h next is = tt
 faces_then grain W part (Some m) (Some a) Next h next is = λ axis low. come_through grain W part m axis low (face_at axis low a) (h axis low) (next m (Some a) is axis low)
 
-faces_same : (grain : ℤ) (W : Others) (part : GridBox) (answer : Option GridBox) → answer ≡ Some part → HasFacesBy grain W part answer
+faces_same : (grain : ℤ) (W : Others) (part : GridBox) (answer : Option GridBox)
+    → answer ≡ Some part → HasFacesBy grain W part answer
 faces_same grain W part answer is = rw is (λ axis low. inl (inl refl))
 
-faces_repeated : (grain : ℤ) (W : Others) (n : ℕ) (Run : Contractor) → ((c : GridBox) (a : Option GridBox) → Run c a → HasFacesBy grain W c a)
-    → (part : GridBox) (answer : Option GridBox) → Repeats n Run part answer → HasFacesBy grain W part answer
+faces_repeated : (grain : ℤ) (W : Others) (n : ℕ) (Run : Contractor)
+    → ((c : GridBox) (a : Option GridBox) → Run c a → HasFacesBy grain W c a)
+    → (part : GridBox) (answer : Option GridBox) → Repeats n Run part answer
+    → HasFacesBy grain W part answer
 faces_repeated grain W zero Run run part answer is = faces_same grain W part answer is
 faces_repeated grain W (suc n) Run run part answer (middle, ran, then) =
     faces_then grain W part middle answer (Repeats n Run) (run part middle ran) (λ m a rest. faces_repeated grain W n Run run m a rest) then
 
-meet_face : (grain : ℤ) (part box : GridBox) (axis : ℕ) (low : Bool) → Comes grain (λ axis low v. v ≡ face_at axis low box) part axis low (end_of low (meet_side (side_at axis part) (side_at axis box)))
+meet_face : (grain : ℤ) (part box : GridBox) (axis : ℕ) (low : Bool)
+    → Comes grain (λ axis low v. v ≡ face_at axis low box) part axis low (end_of low (meet_side (side_at axis part) (side_at axis box)))
 meet_face grain part box axis true = elim (one_of_max (side_at axis part).lo (side_at axis box).lo) [
   | inl e ↦ inl (inl e)
   | inr e ↦ inr e
@@ -64,7 +73,8 @@ meet_face grain part box axis false = elim (one_of_min (side_at axis part).hi (s
   | inr e ↦ inr e
 ]
 
-faces_meet : (grain : ℤ) (part box : GridBox) (answer : Option GridBox) → IsMeet box part answer → HasFacesBy grain (λ axis low v. v ≡ face_at axis low box) part answer
+faces_meet : (grain : ℤ) (part box : GridBox) (answer : Option GridBox) → IsMeet box part answer
+    → HasFacesBy grain (λ axis low v. v ≡ face_at axis low box) part answer
 faces_meet grain part box None is = tt
 faces_meet grain part box (Some a) (is, ordered) = λ axis low.
     subst (λ (s : Side). Comes grain (λ axis low v. v ≡ face_at axis low box) part axis low (end_of low s)) (sym (meet_at axis part box) ∙ rw is refl) (meet_face grain part box axis low)
@@ -84,12 +94,14 @@ span_end false s = s.1
 abbrev KidFace : ℤ → TreeList → GridBox → ℕ → Bool → ℤ → Type 0
 KidFace grain kids part axis low v = Comes grain (λ axis low v. IsFaceWithinSome kids axis low v) part axis low v
 
-side_end : (axis : ℕ) (low : Bool) (a : GridBox) → span_end low ((side_at axis a).lo, (side_at axis a).hi) ≡ face_at axis low a
+side_end : (axis : ℕ) (low : Bool) (a : GridBox)
+    → span_end low ((side_at axis a).lo, (side_at axis a).hi) ≡ face_at axis low a
 side_end axis true a = refl
 side_end axis false a = refl
 
 side_face : (grain : ℤ) (axis : ℕ) (low : Bool) (kids : TreeList) (part : GridBox) (answers : List (Option GridBox)) (s : ℤ × ℤ)
-    → AllHaveFaces grain kids part answers → Member s (sides_of axis answers) → KidFace grain kids part axis low (span_end low s)
+    → AllHaveFaces grain kids part answers → Member s (sides_of axis answers)
+    → KidFace grain kids part axis low (span_end low s)
 side_face grain axis low no_trees part [] s h m = absurd m
 side_face grain axis low no_trees part (answer ∷ answers) s h m = absurd h
 side_face grain axis low (tree t more) part [] s h m = absurd h
@@ -110,7 +122,8 @@ side_face grain axis low (tree t more) part (Some a ∷ answers) s h m = elim m 
 ]
 
 hull_face : (grain : ℤ) (axis : ℕ) (low : Bool) (kids : TreeList) (part : GridBox) (answers : List (Option GridBox)) (need : ℕ) (s : Side)
-    → AllHaveFaces grain kids part answers → IsRelaxedHull (sides_of axis answers) need s.lo s.hi → KidFace grain kids part axis low (end_of low s)
+    → AllHaveFaces grain kids part answers → IsRelaxedHull (sides_of axis answers) need s.lo s.hi
+    → KidFace grain kids part axis low (end_of low s)
 hull_face grain axis true kids part answers need s h hull =
     let (t, m, e, _) = hull_low (sides_of axis answers) need s.lo s.hi hull in
     subst (λ (v : ℤ). KidFace grain kids part axis true v) (sym e) (side_face grain axis true kids part answers t h m)
@@ -119,21 +132,26 @@ hull_face grain axis false kids part answers need s h hull =
     subst (λ (v : ℤ). KidFace grain kids part axis false v) (sym e) (side_face grain axis false kids part answers t h m)
 
 faces_relaxed : (grain : ℤ) (kids : TreeList) (part : GridBox) (answers : List (Option GridBox)) (need : ℕ) (answer : Option GridBox)
-    → AllHaveFaces grain kids part answers → IsRelaxedBox answers need answer → HasFacesBy grain (λ axis low v. IsFaceWithinSome kids axis low v) part answer
+    → AllHaveFaces grain kids part answers → IsRelaxedBox answers need answer
+    → HasFacesBy grain (λ axis low v. IsFaceWithinSome kids axis low v) part answer
 faces_relaxed grain kids part answers need None h is = tt
 faces_relaxed grain kids part answers need (Some a) h is = λ axis low. hull_face grain axis low kids part answers need (side_at axis a) h (is axis)
 
 -- ---- every tree
 
-faces_leaf : (grain : ℤ) (W : Others) (part a : GridBox) → ((axis : ℕ) (low : Bool) → IsFaceOf grain (face_at axis low part) (face_at axis low a)) → HasFacesBy grain W part (Some a)
+faces_leaf : (grain : ℤ) (W : Others) (part a : GridBox)
+    → ((axis : ℕ) (low : Bool) → IsFaceOf grain (face_at axis low part) (face_at axis low a))
+    → HasFacesBy grain W part (Some a)
 faces_leaf grain W part a h = λ axis low. inl (h axis low)
 
-faces_of_leaf : (grain slack : ℤ) (leaf : LeafValue) (clock : Side) (part : GridBox) (answer : Option GridBox) → IsTightAnswer grain slack leaf clock part answer → HasFaces grain (Sat leaf) part answer
+faces_of_leaf : (grain slack : ℤ) (leaf : LeafValue) (clock : Side) (part : GridBox) (answer : Option GridBox)
+    → IsTightAnswer grain slack leaf clock part answer → HasFaces grain (Sat leaf) part answer
 faces_of_leaf grain slack leaf clock part None is = tt
 faces_of_leaf grain slack leaf clock part (Some a) is = faces_leaf grain (λ axis low v. IsWithinFace (Sat leaf) axis low v) part a is.1
 
 mutual
-  pub faces : (t : TreeValue) (grain slack : ℤ) (clock : Side) (part : GridBox) (answer : Option GridBox) → IsTied t grain slack clock part answer → HasFaces grain t part answer
+  pub faces : (t : TreeValue) (grain slack : ℤ) (clock : Side) (part : GridBox) (answer : Option GridBox)
+      → IsTied t grain slack clock part answer → HasFaces grain t part answer
   faces (Sat leaf) grain slack clock part answer is = faces_of_leaf grain slack leaf clock part answer is.1
   faces (All kids) grain slack clock part answer is = faces_in_turn kids grain slack clock part answer is
   faces (Relaxed q kids) grain slack clock part answer (answers, all, is) = faces_relaxed grain kids part answers (count_trees kids - q) answer (all_have_faces kids grain slack clock part answers all) is
@@ -142,7 +160,8 @@ mutual
   faces (Within box) grain slack clock part answer is = faces_meet grain part box answer is
 
   faces_in_turn : (kids : TreeList) (grain slack : ℤ) (clock : Side) (part : GridBox) (answer : Option GridBox)
-      → InTurn kids grain slack clock part answer → HasFacesBy grain (λ axis low v. IsFaceWithinSome kids axis low v) part answer
+      → InTurn kids grain slack clock part answer
+      → HasFacesBy grain (λ axis low v. IsFaceWithinSome kids axis low v) part answer
   faces_in_turn no_trees grain slack clock part answer is = faces_same grain (λ axis low v. IsFaceWithinSome no_trees axis low v) part answer is
   faces_in_turn (tree t more) grain slack clock part answer (middle, first, then) =
       faces_then grain (λ axis low v. IsFaceWithinSome (tree t more) axis low v) part middle answer (λ c a. InTurn more grain slack clock c a)
@@ -160,7 +179,8 @@ mutual
 -- ---- the two together
 
 pub proposal : (t : TreeValue) (grain slack : ℤ) (clock : Side) (part : GridBox) (answer : Option GridBox)
-    → LiesIn part part → IsTied t grain slack clock part answer → IsProposal grain slack t clock part answer
+    → LiesIn part part → IsTied t grain slack clock part answer
+    → IsProposal grain slack t clock part answer
 proposal t grain slack clock part answer lies is = record {
   keeps = keeps t grain slack clock part answer lies is;
   tied = is;

@@ -16,7 +16,8 @@ use Rattle.range_contractor.proofs.TreeLemmas.{keeps}
 
 module _ {X : Type 0} (view : X → TreeValue) (xs : List X) where
   -- the next kid and those behind it
-  pub kids_from : (i : ℕ) (x : X) → i < length xs → x ≡ get_or xs i x → trees_of (map view (drop i xs)) ≡ tree (view x) (trees_of (map view (drop (i + 1) xs)))
+  pub kids_from : (i : ℕ) (x : X) → i < length xs → x ≡ get_or xs i x
+      → trees_of (map view (drop i xs)) ≡ tree (view x) (trees_of (map view (drop (i + 1) xs)))
   kids_from i x h e = at_drop_more (λ (ys : List X). trees_of (map view ys)) xs i x h ∙ ap (λ (y : X). tree (view y) (trees_of (map view (drop (i + 1) xs)))) (sym e)
 
   pub no_kids_from : (i : ℕ) → length xs ≤ i → trees_of (map view (drop i xs)) ≡ no_trees
@@ -31,7 +32,8 @@ module _ {X : Type 0} (view : X → TreeValue) (xs : List X) where
 
 -- ---- sides of answers
 
-pub sides_append : (axis : ℕ) (answers more : List (Option GridBox)) → sides_of axis (answers ++ more) ≡ sides_of axis answers ++ sides_of axis more
+pub sides_append : (axis : ℕ) (answers more : List (Option GridBox))
+    → sides_of axis (answers ++ more) ≡ sides_of axis answers ++ sides_of axis more
 sides_append axis [] more = refl
 sides_append axis (None ∷ answers) more = sides_append axis answers more
 sides_append axis (Some a ∷ answers) more = ap (λ (l : List (ℤ × ℤ)). ((side_at axis a).lo, (side_at axis a).hi) ∷ l) (sides_append axis answers more)
@@ -39,14 +41,17 @@ sides_append axis (Some a ∷ answers) more = ap (λ (l : List (ℤ × ℤ)). ((
 -- ---- answers of kids
 
 pub tied_append : (ts : List TreeValue) (t : TreeValue) (grain slack : ℤ) (clock : Side) (part : GridBox) (answers : List (Option GridBox)) (answer : Option GridBox)
-    → AreTied (trees_of ts) grain slack clock part answers → IsTied t grain slack clock part answer → AreTied (trees_of (ts ++ t ∷ [])) grain slack clock part (answers ++ answer ∷ [])
+    → AreTied (trees_of ts) grain slack clock part answers → IsTied t grain slack clock part answer
+    → AreTied (trees_of (ts ++ t ∷ [])) grain slack clock part (answers ++ answer ∷ [])
 tied_append [] t grain slack clock part [] answer h k = (k, tt)
 tied_append [] t grain slack clock part (a ∷ answers) answer h k = absurd h
 tied_append (u ∷ ts) t grain slack clock part [] answer h k = absurd h
 tied_append (u ∷ ts) t grain slack clock part (a ∷ answers) answer h k = (h.0, tied_append ts t grain slack clock part answers answer h.1 k)
 
 pub tied_more : {X : Type 0} (view : X → TreeValue) (xs : List X) (i : ℕ) (x : X) (grain slack : ℤ) (clock : Side) (part : GridBox) (answers : List (Option GridBox)) (answer : Option GridBox)
-    → i < length xs → x ≡ get_or xs i x → AreTied (trees_of (map view (take i xs))) grain slack clock part answers → IsTied (view x) grain slack clock part answer
+    → i < length xs → x ≡ get_or xs i x
+    → AreTied (trees_of (map view (take i xs))) grain slack clock part answers
+    → IsTied (view x) grain slack clock part answer
     → AreTied (trees_of (map view (take (i + 1) xs))) grain slack clock part (answers ++ answer ∷ [])
 tied_more view xs i x grain slack clock part answers answer h e all k =
     let same : map view (take i xs) ++ view x ∷ [] ≡ map view (take (i + 1) xs) =
@@ -56,14 +61,16 @@ tied_more view xs i x grain slack clock part answers answer h e all k =
 
 -- ---- hulls of spans inside a side
 
-inside_of : (s : Side) (spans : List (ℤ × ℤ)) (t : ℤ × ℤ) → AreInside s spans → Member t spans → (s.lo ≤ℤ t.0) × (t.1 ≤ℤ s.hi)
+inside_of : (s : Side) (spans : List (ℤ × ℤ)) (t : ℤ × ℤ) → AreInside s spans → Member t spans
+    → (s.lo ≤ℤ t.0) × (t.1 ≤ℤ s.hi)
 inside_of s [] t h m = absurd m
 inside_of s (u ∷ spans) t h m = elim m [
   | inl e ↦ (rw e h.0, rw e h.1)
   | inr m ↦ inside_of s spans t h.2 m
 ]
 
-pub hull_inside : (s : Side) (spans : List (ℤ × ℤ)) (need : ℕ) (lo hi : ℤ) → 1 ≤ need → AreInside s spans → IsRelaxedHull spans need lo hi → (s.lo ≤ℤ lo) × (lo ≤ℤ hi) × (hi ≤ℤ s.hi)
+pub hull_inside : (s : Side) (spans : List (ℤ × ℤ)) (need : ℕ) (lo hi : ℤ) → 1 ≤ need
+    → AreInside s spans → IsRelaxedHull spans need lo hi → (s.lo ≤ℤ lo) × (lo ≤ℤ hi) × (hi ≤ℤ s.hi)
 hull_inside s spans need lo hi h i k =
     let (t, m, l, u) = some_holds lo spans (omega (arith, k.lo_lies)) in
     let (t', m', l', u') = some_holds hi spans (omega (arith, k.hi_lies)) in
@@ -74,7 +81,9 @@ hull_inside s spans need lo hi h i k =
 
 -- ---- the answer of enough kids
 
-pub relaxed_answer : (answers : List (Option GridBox)) (need : ℕ) (answer : Option GridBox) → IsBoxOfHulls (sides_of 0 answers) (sides_of 1 answers) (sides_of 2 answers) need answer → IsRelaxedBox answers need answer
+pub relaxed_answer : (answers : List (Option GridBox)) (need : ℕ) (answer : Option GridBox)
+    → IsBoxOfHulls (sides_of 0 answers) (sides_of 1 answers) (sides_of 2 answers) need answer
+    → IsRelaxedBox answers need answer
 relaxed_answer answers need None h = elim h [
   | inl e ↦ (0, e)
   | inr h ↦ elim h [
@@ -84,12 +93,14 @@ relaxed_answer answers need None h = elim h [
 ]
 relaxed_answer answers need (Some a) h = λ axis. hull_at axis
   where
-    sides_z : (n : ℕ) (answers : List (Option GridBox)) → sides_of (suc (suc n)) answers ≡ sides_of 2 answers
+    sides_z : (n : ℕ) (answers : List (Option GridBox))
+        → sides_of (suc (suc n)) answers ≡ sides_of 2 answers
     sides_z n [] = refl
     sides_z n (None ∷ answers) = sides_z n answers
     sides_z n (Some a ∷ answers) = ap (λ (l : List (ℤ × ℤ)). (a.z.lo, a.z.hi) ∷ l) (sides_z n answers)
 
-    hull_at : (axis : ℕ) → IsRelaxedHull (sides_of axis answers) need (side_at axis a).lo (side_at axis a).hi
+    hull_at : (axis : ℕ)
+        → IsRelaxedHull (sides_of axis answers) need (side_at axis a).lo (side_at axis a).hi
     hull_at zero = h.0
     hull_at (suc zero) = h.1
     hull_at (suc (suc n)) = rw (sides_z n answers) h.2
@@ -102,15 +113,20 @@ GoesOn rounds Run part left current = (answer : Option GridBox) → Repeats left
 one_less : (rounds round : ℕ) → round < rounds → rounds - round ≡ suc (rounds - (round + 1))
 one_less rounds round h = omega arith
 
-pub repeat_more : (rounds round : ℕ) (Run : Contractor) (part current kept : GridBox) → round < rounds → Run current (Some kept) → GoesOn rounds Run part (rounds - round) current → GoesOn rounds Run part (rounds - (round + 1)) kept
+pub repeat_more : (rounds round : ℕ) (Run : Contractor) (part current kept : GridBox)
+    → round < rounds → Run current (Some kept) → GoesOn rounds Run part (rounds - round) current
+    → GoesOn rounds Run part (rounds - (round + 1)) kept
 repeat_more rounds round Run part current kept h ran on answer rest =
     on answer (subst (λ (n : ℕ). Repeats n Run current answer) (sym (one_less rounds round h)) (Some kept, ran, rest))
 
-pub repeat_none : (rounds round : ℕ) (Run : Contractor) (part current : GridBox) → round < rounds → Run current None → GoesOn rounds Run part (rounds - round) current → Repeats rounds Run part None
+pub repeat_none : (rounds round : ℕ) (Run : Contractor) (part current : GridBox) → round < rounds
+    → Run current None → GoesOn rounds Run part (rounds - round) current
+    → Repeats rounds Run part None
 repeat_none rounds round Run part current h ran on =
     on None (subst (λ (n : ℕ). Repeats n Run current None) (sym (one_less rounds round h)) (None, ran, refl))
 
-pub repeat_done : (rounds round : ℕ) (Run : Contractor) (part current : GridBox) → rounds ≤ round → GoesOn rounds Run part (rounds - round) current → Repeats rounds Run part (Some current)
+pub repeat_done : (rounds round : ℕ) (Run : Contractor) (part current : GridBox) → rounds ≤ round
+    → GoesOn rounds Run part (rounds - round) current → Repeats rounds Run part (Some current)
 repeat_done rounds round Run part current h on =
     on (Some current) (subst (λ (n : ℕ). Repeats n Run current (Some current)) (sym (none_left rounds round h)) refl)
   where
@@ -118,11 +134,14 @@ repeat_done rounds round Run part current h on =
     none_left rounds round h = omega arith
 
 -- a round that leaves all of the box does so again
-repeats_same : (n : ℕ) (Run : Contractor) (current : GridBox) → Run current (Some current) → Repeats n Run current (Some current)
+repeats_same : (n : ℕ) (Run : Contractor) (current : GridBox) → Run current (Some current)
+    → Repeats n Run current (Some current)
 repeats_same zero Run current ran = refl
 repeats_same (suc n) Run current ran = (Some current, ran, repeats_same n Run current ran)
 
-pub repeat_same : (rounds round : ℕ) (Run : Contractor) (part current : GridBox) → Run current (Some current) → GoesOn rounds Run part (rounds - round) current → Repeats rounds Run part (Some current)
+pub repeat_same : (rounds round : ℕ) (Run : Contractor) (part current : GridBox)
+    → Run current (Some current) → GoesOn rounds Run part (rounds - round) current
+    → Repeats rounds Run part (Some current)
 repeat_same rounds round Run part current ran on = on (Some current) (repeats_same (rounds - round) Run current ran)
 
 -- ---- one after the other
@@ -131,24 +150,32 @@ module _ {X : Type 0} (view : X → TreeValue) (xs : List X) (grain slack : ℤ)
   abbrev pub TurnGoesOn : ℕ → GridBox → Type 0
   TurnGoesOn i current = (answer : Option GridBox) → InTurn (trees_of (map view (drop i xs))) grain slack clock current answer → InTurn (trees_of (map view xs)) grain slack clock part answer
 
-  pub turn_more : (i : ℕ) (x : X) (current kept : GridBox) → i < length xs → x ≡ get_or xs i x → IsTied (view x) grain slack clock current (Some kept) → TurnGoesOn i current → TurnGoesOn (i + 1) kept
+  pub turn_more : (i : ℕ) (x : X) (current kept : GridBox) → i < length xs → x ≡ get_or xs i x
+      → IsTied (view x) grain slack clock current (Some kept) → TurnGoesOn i current
+      → TurnGoesOn (i + 1) kept
   turn_more i x current kept h e ran on answer rest =
       on answer (subst (λ (ts : TreeList). InTurn ts grain slack clock current answer) (sym (kids_from view xs i x h e)) (Some kept, ran, rest))
 
-  pub turn_none : (i : ℕ) (x : X) (current : GridBox) → i < length xs → x ≡ get_or xs i x → IsTied (view x) grain slack clock current None → TurnGoesOn i current → InTurn (trees_of (map view xs)) grain slack clock part None
+  pub turn_none : (i : ℕ) (x : X) (current : GridBox) → i < length xs → x ≡ get_or xs i x
+      → IsTied (view x) grain slack clock current None → TurnGoesOn i current
+      → InTurn (trees_of (map view xs)) grain slack clock part None
   turn_none i x current h e ran on =
       on None (subst (λ (ts : TreeList). InTurn ts grain slack clock current None) (sym (kids_from view xs i x h e)) (None, ran, refl))
 
-  pub turn_done : (i : ℕ) (current : GridBox) → length xs ≤ i → TurnGoesOn i current → InTurn (trees_of (map view xs)) grain slack clock part (Some current)
+  pub turn_done : (i : ℕ) (current : GridBox) → length xs ≤ i → TurnGoesOn i current
+      → InTurn (trees_of (map view xs)) grain slack clock part (Some current)
   turn_done i current h on =
       on (Some current) (subst (λ (ts : TreeList). InTurn ts grain slack clock current (Some current)) (sym (no_kids_from view xs i h)) refl)
 
-pub sound_from : {X : Type 0} (view : X → TreeValue) (xs : List X) (i : ℕ) (x : X) → i < length xs → x ≡ get_or xs i x → HaveSoundNodes (trees_of (map view (drop i xs))) → HasSoundNodes (view x) × HaveSoundNodes (trees_of (map view (drop (i + 1) xs)))
+pub sound_from : {X : Type 0} (view : X → TreeValue) (xs : List X) (i : ℕ) (x : X) → i < length xs
+    → x ≡ get_or xs i x → HaveSoundNodes (trees_of (map view (drop i xs)))
+    → HasSoundNodes (view x) × HaveSoundNodes (trees_of (map view (drop (i + 1) xs)))
 sound_from view xs i x h e s = subst HaveSoundNodes (kids_from view xs i x h e) s
 
 -- ---- answers that were kept lie in the box
 
-pub answers_inside : (axis : ℕ) (kids : TreeList) (grain slack : ℤ) (clock : Side) (part : GridBox) (answers : List (Option GridBox)) → LiesIn part part → AreTied kids grain slack clock part answers
+pub answers_inside : (axis : ℕ) (kids : TreeList) (grain slack : ℤ) (clock : Side) (part : GridBox) (answers : List (Option GridBox))
+    → LiesIn part part → AreTied kids grain slack clock part answers
     → AreInside (side_at axis part) (sides_of axis answers)
 answers_inside axis no_trees grain slack clock part [] lies h = tt
 answers_inside axis no_trees grain slack clock part (answer ∷ answers) lies h = absurd h
@@ -166,26 +193,31 @@ abbrev pub HoldMost : List (Option GridBox) → ℕ → ℕ → GridBox → Type
 HoldMost answers kids smaller part =
     (axis : ℕ) (b : ℤ) → IsIn (side_at axis part) b → kids ≤ count_by (λ s. holds s b) (sides_of axis answers) + smaller
 
-count_append : (b : ℤ) (xs ys : List (ℤ × ℤ)) → count_by (λ s. holds s b) (xs ++ ys) ≡ count_by (λ s. holds s b) xs + count_by (λ s. holds s b) ys
+count_append : (b : ℤ) (xs ys : List (ℤ × ℤ))
+    → count_by (λ s. holds s b) (xs ++ ys) ≡ count_by (λ s. holds s b) xs + count_by (λ s. holds s b) ys
 count_append b xs ys = sum_by-append (λ s. cond (holds s b) 1 0) xs ys
 
 count_more : (axis : ℕ) (b : ℤ) (answers : List (Option GridBox)) (answer : Option GridBox)
     → count_by (λ s. holds s b) (sides_of axis (answers ++ answer ∷ [])) ≡ count_by (λ s. holds s b) (sides_of axis answers) + count_by (λ s. holds s b) (sides_of axis (answer ∷ []))
 count_more axis b answers answer = rw (sides_append axis answers (answer ∷ [])) (count_append b (sides_of axis answers) (sides_of axis (answer ∷ [])))
 
-pub whole_more : (answers : List (Option GridBox)) (answer : Option GridBox) (kids smaller : ℕ) (part : GridBox) → answer ≡ Some part → HoldMost answers kids smaller part
+pub whole_more : (answers : List (Option GridBox)) (answer : Option GridBox) (kids smaller : ℕ) (part : GridBox)
+    → answer ≡ Some part → HoldMost answers kids smaller part
     → HoldMost (answers ++ answer ∷ []) (kids + 1) smaller part
 whole_more answers answer kids smaller part is most axis b within =
     let one = count_here b ((side_at axis part).lo, (side_at axis part).hi) [] (holds_from _ _ b within.0 within.1) in
     let here : count_by (λ s. holds s b) (sides_of axis (answer ∷ [])) ≡ 1 + 0 = rw is one in
     omega (arith, most axis b within, count_more axis b answers answer, here)
 
-pub smaller_more : (answers : List (Option GridBox)) (answer : Option GridBox) (kids smaller : ℕ) (part : GridBox) → HoldMost answers kids smaller part
+pub smaller_more : (answers : List (Option GridBox)) (answer : Option GridBox) (kids smaller : ℕ) (part : GridBox)
+    → HoldMost answers kids smaller part
     → HoldMost (answers ++ answer ∷ []) (kids + 1) (smaller + 1) part
 smaller_more answers answer kids smaller part most axis b within = omega (arith, most axis b within, count_more axis b answers answer)
 
-pub whole_hulls : (answers : List (Option GridBox)) (need kids smaller : ℕ) (part : GridBox) → LiesIn part part → 1 ≤ need → need + smaller ≤ kids
-    → ((axis : ℕ) → AreInside (side_at axis part) (sides_of axis answers)) → HoldMost answers kids smaller part → IsRelaxedBox answers need (Some part)
+pub whole_hulls : (answers : List (Option GridBox)) (need kids smaller : ℕ) (part : GridBox)
+    → LiesIn part part → 1 ≤ need → need + smaller ≤ kids
+    → ((axis : ℕ) → AreInside (side_at axis part) (sides_of axis answers))
+    → HoldMost answers kids smaller part → IsRelaxedBox answers need (Some part)
 whole_hulls answers need kids smaller part lies some enough inside most axis =
     let u = lies axis in
     record {

@@ -21,7 +21,8 @@ use Rattle.range_contractor.proofs.AmountLemmas.{is_amount, is_kept, none_is_kep
 use Rattle.range_contractor.proofs.SquareLemmas.{are_difference_squares, are_range_squares, range_squares_small}
 use Rattle.range_contractor.proofs.LeafLemmas.{Measures, IsMeasured, AreSizes, IsOrderedLeaf, none_wanted, none_on_x, none_on_y, none_on_z, leaf_keeps, leaf_answer}
 
-wanted_or_none : (from to : ℤ) → ((least : ℤ) × (most : ℤ) × IsWanted from to least most) ⊎ NoneIsWanted from to
+wanted_or_none : (from to : ℤ)
+    → ((least : ℤ) × (most : ℤ) × IsWanted from to least most) ⊎ NoneIsWanted from to
 wanted_or_none from to = by_lt_z (int_min to (pos greatest_possible)) (int_max (pos 0) from)
     (λ h. inr (λ n le b. let f = b.from in let t = b.to in omega (arith, ints, clamps, h, f, t)))
     (λ h. inl (
@@ -43,7 +44,8 @@ meet_or_none a b = by_lt_z (int_min a.hi b.hi) (int_max a.lo b.lo)
     (λ h. inr (dont_meet a b h))
     (λ h. inl (record { lo = int_max a.lo b.lo; hi = int_min a.hi b.hi }, is_meet a b (record { lo = int_max a.lo b.lo; hi = int_min a.hi b.hi }) refl refl h))
 
-hull_or_none : (side below above : Side) → ((k : Side) × IsHullOfMeets side below above k) ⊎ NoneMeets side below above
+hull_or_none : (side below above : Side)
+    → ((k : Side) × IsHullOfMeets side below above k) ⊎ NoneMeets side below above
 hull_or_none side below above = elim (meet_or_none side below) [
   | inl (a, m) ↦ elim (meet_or_none side above) [
     | inl (b, n) ↦
@@ -63,7 +65,8 @@ floor_whole g x = record { times = int_div_euclid x g; is = refl }
 pub ceil_whole : (g x : ℤ) → IsMultipleOf g (grain_ceil g x)
 ceil_whole g x = record { times = neg_ℤ (int_div_euclid (neg_ℤ x) g); is = omega (arith, ints, neg_mul (int_div_euclid (neg_ℤ x) g) g) }
 
-pub kept_or_none : (g : ℤ) (place side : Side) (low high others_low others_high : ℕ) → pos 1 ≤ℤ g → g ≤ℤ pos 1048576 → place.lo ≤ℤ place.hi → AreWhole g place
+pub kept_or_none : (g : ℤ) (place side : Side) (low high others_low others_high : ℕ) → pos 1 ≤ℤ g
+    → g ≤ℤ pos 1048576 → place.lo ≤ℤ place.hi → AreWhole g place
     → low ≤ high → high ≤ 79228162514264337593543950336
     → ((k : Side) × IsKept g place side low high others_low others_high k) ⊎ NoneIsKept place side low high others_low others_high
 kept_or_none g place side low high others_low others_high one most ordered whole le small = elim (cases_lt high others_low) [
@@ -93,8 +96,10 @@ record HasSquares (g : ℤ) (place side : Side) : Type 0 where
   pub high : ℕ
   pub is : AreDifferenceSquares g place side low high
 
-squares_of : (g : ℤ) (place side : Side) → pos 1 ≤ℤ g → g ≤ℤ pos 1048576 → place.lo ≤ℤ place.hi → side.lo ≤ℤ side.hi
-    → IsWithin 70000000000000 place.lo × IsWithin 70000000000000 place.hi → IsBoxSize side.lo × IsBoxSize side.hi → HasSquares g place side
+squares_of : (g : ℤ) (place side : Side) → pos 1 ≤ℤ g → g ≤ℤ pos 1048576 → place.lo ≤ℤ place.hi
+    → side.lo ≤ℤ side.hi
+    → IsWithin 70000000000000 place.lo × IsWithin 70000000000000 place.hi
+    → IsBoxSize side.lo × IsBoxSize side.hi → HasSquares g place side
 squares_of g place side one most o s (p, q) (r, t) =
     let low = place.lo -ℤ grain_ceil g side.hi in
     let high = place.hi -ℤ grain_floor g side.lo in
@@ -108,13 +113,16 @@ natural : (z : ℤ) → pos 0 ≤ℤ z → (n : ℕ) × (z ≡ pos n)
 natural (pos n) h = (n, refl)
 natural (negsuc n) h = absurd (omega (arith, ints))
 
-low_le_high : (g least most : ℤ) (low high : ℕ) → (pos 0 ≤ℤ least) × (least ≤ℤ most) → AreRangeSquares g least most low high → low ≤ high
+low_le_high : (g least most : ℤ) (low high : ℕ) → (pos 0 ≤ℤ least) × (least ≤ℤ most)
+    → AreRangeSquares g least most low high → low ≤ high
 low_le_high g least most low high (zero', le) r =
     let (n, is) = natural least zero' in
     omega (arith, r.holds_from n (omega (arith, ints)), r.holds_to n (omega (arith, ints)))
 
-pub leaf_exists : (g slack : ℤ) (leaf : LeafValue) (clock : Side) (part : GridBox) → pos 1 ≤ℤ g → g ≤ℤ pos 1048576 → slack ≡ pos 16 *ℤ g
-    → IsLeafSized leaf → AreWholeSides g leaf → IsOrderedLeaf leaf part → AreSizes part → (answer : Option GridBox) × IsTied (Sat leaf) g slack clock part answer
+pub leaf_exists : (g slack : ℤ) (leaf : LeafValue) (clock : Side) (part : GridBox) → pos 1 ≤ℤ g
+    → g ≤ℤ pos 1048576 → slack ≡ pos 16 *ℤ g
+    → IsLeafSized leaf → AreWholeSides g leaf → IsOrderedLeaf leaf part → AreSizes part
+    → (answer : Option GridBox) × IsTied (Sat leaf) g slack clock part answer
 leaf_exists g slack leaf clock part one most e sized whole o sizes = elim (wanted_or_none (least_range leaf clock) (greatest_range leaf clock)) [
   | inr none ↦ (None, (none_wanted leaf clock part sized sizes none, tt))
   | inl (least, most_range, w) ↦

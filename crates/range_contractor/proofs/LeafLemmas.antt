@@ -59,10 +59,13 @@ pub record IsMeasured (g : ℤ) (leaf : LeafValue) (clock : Side) (part : GridBo
   pub z : AreDifferenceSquares g leaf.z part.z m.zl m.zh
 
 -- the same from the sides as they were taken
-pub measured : (g : ℤ) (leaf : LeafValue) (clock : Side) (part : GridBox) (x y z : Side) (m : Measures) → pos 1 ≤ℤ g
-    → IsWanted (least_range leaf clock) (greatest_range leaf clock) m.least m.most → AreRangeSquares g m.least m.most m.low m.high
+pub measured : (g : ℤ) (leaf : LeafValue) (clock : Side) (part : GridBox) (x y z : Side) (m : Measures)
+    → pos 1 ≤ℤ g
+    → IsWanted (least_range leaf clock) (greatest_range leaf clock) m.least m.most
+    → AreRangeSquares g m.least m.most m.low m.high
     → x ≡ part.x → y ≡ part.y → z ≡ part.z
-    → AreDifferenceSquares g leaf.x x m.xl m.xh → AreDifferenceSquares g leaf.y y m.yl m.yh → AreDifferenceSquares g leaf.z z m.zl m.zh
+    → AreDifferenceSquares g leaf.x x m.xl m.xh → AreDifferenceSquares g leaf.y y m.yl m.yh
+    → AreDifferenceSquares g leaf.z z m.zl m.zh
     → IsMeasured g leaf clock part m
 measured g leaf clock part x y z m grain wanted reach e f h x_is y_is z_is = record {
   grain = grain;
@@ -79,13 +82,16 @@ abs_le : (z : ℤ) (n : ℕ) → neg_ℤ (pos n) ≤ℤ z → z ≤ℤ pos n →
 abs_le (pos m) n h k = omega (arith, ints)
 abs_le (negsuc m) n h k = omega (arith, ints)
 
-difference_le : (place side : Side) (s v : ℤ) → IsWithin 70000000000000 place.lo → IsWithin 70000000000000 place.hi → IsBoxSize side.lo → IsBoxSize side.hi → IsIn place s → IsIn side v → unsigned_abs (s -ℤ v) ≤ 80000000000000
+difference_le : (place side : Side) (s v : ℤ) → IsWithin 70000000000000 place.lo
+    → IsWithin 70000000000000 place.hi → IsBoxSize side.lo → IsBoxSize side.hi → IsIn place s
+    → IsIn side v → unsigned_abs (s -ℤ v) ≤ 80000000000000
 difference_le place side s v p q r t i j = abs_le (s -ℤ v) 80000000000000 (omega (arith, ints, p.low, t.high, i.0, j.1)) (omega (arith, ints, q.high, r.low, i.1, j.0))
 
 abbrev distance_square : ℤ → ℤ → ℤ → Pos → ℕ
 distance_square x y z p = square (unsigned_abs (x -ℤ p.x)) + square (unsigned_abs (y -ℤ p.y)) + square (unsigned_abs (z -ℤ p.z))
 
-possible_range : (a b c : ℕ) → a ≤ 80000000000000 → b ≤ 80000000000000 → c ≤ 80000000000000 → root (square a + square b + square c) ≤ 139999999999999
+possible_range : (a b c : ℕ) → a ≤ 80000000000000 → b ≤ 80000000000000 → c ≤ 80000000000000
+    → root (square a + square b + square c) ≤ 139999999999999
 possible_range a b c h k l =
     let x = sum_mono a b c 80000000000000 80000000000000 80000000000000 h k l in
     let r : IsRoot (square a + square b + square c) (root (square a + square b + square c)) = root_is _ in
@@ -111,7 +117,9 @@ pub record IsReachedBy (low high : ℕ) (x y z : ℤ) (p : Pos) : Type 0 where
   pub from : low ≤ distance_square x y z p
   pub to : distance_square x y z p ≤ high
 
-range_wanted : (leaf : LeafValue) (clock : Side) (part : GridBox) (p : Pos) (b : ℤ) → IsLeafSized leaf → AreSizes part → box_holds part p ≡ true → IsIn clock b → (a : LeafAllows leaf p b)
+range_wanted : (leaf : LeafValue) (clock : Side) (part : GridBox) (p : Pos) (b : ℤ)
+    → IsLeafSized leaf → AreSizes part → box_holds part p ≡ true → IsIn clock b
+    → (a : LeafAllows leaf p b)
     → (range_to a.x a.y a.z p ≤ greatest_possible) × Between (least_range leaf clock) (greatest_range leaf clock) (pos (range_to a.x a.y a.z p))
 unfolding range_to
 range_wanted leaf clock part p b sized sizes inside c a =
@@ -126,7 +134,8 @@ range_wanted leaf clock part p b sized sizes inside c a =
     )
 
 reached_by : (g : ℤ) (leaf : LeafValue) (clock : Side) (part : GridBox) (m : Measures) (p : Pos) (b : ℤ)
-    → IsMeasured g leaf clock part m → IsLeafSized leaf → AreSizes part → box_holds part p ≡ true → IsIn clock b → (a : LeafAllows leaf p b)
+    → IsMeasured g leaf clock part m → IsLeafSized leaf → AreSizes part → box_holds part p ≡ true
+    → IsIn clock b → (a : LeafAllows leaf p b)
     → IsReachedBy m.low m.high a.x a.y a.z p
 unfolding range_to
 reached_by g leaf clock part m p b is sized sizes inside c a =
@@ -143,7 +152,8 @@ pub record AreReached (leaf : LeafValue) (m : Measures) (p : Pos) : Type 0 where
   pub z : IsReached leaf.z m.low m.high (m.xl + m.yl) (m.xh + m.yh) p.z
 
 pub are_reached : (g : ℤ) (leaf : LeafValue) (clock : Side) (part : GridBox) (m : Measures) (p : Pos)
-    → IsMeasured g leaf clock part m → IsLeafSized leaf → AreSizes part → IsAllowedIn (Allows (Sat leaf)) part clock p → AreReached leaf m p
+    → IsMeasured g leaf clock part m → IsLeafSized leaf → AreSizes part
+    → IsAllowedIn (Allows (Sat leaf)) part clock p → AreReached leaf m p
 are_reached g leaf clock part m p is sized sizes k =
     let a = k.allowed in
     let r = reached_by g leaf clock part m p k.offset is sized sizes k.inside k.in_clock a in
@@ -159,27 +169,35 @@ are_reached g leaf clock part m p is sized sizes k =
 
 -- ---- nothing is allowed
 
-pub none_wanted : (leaf : LeafValue) (clock : Side) (part : GridBox) → IsLeafSized leaf → AreSizes part → NoneIsWanted (least_range leaf clock) (greatest_range leaf clock) → Keeps (Sat leaf) clock part None
+pub none_wanted : (leaf : LeafValue) (clock : Side) (part : GridBox) → IsLeafSized leaf
+    → AreSizes part → NoneIsWanted (least_range leaf clock) (greatest_range leaf clock)
+    → Keeps (Sat leaf) clock part None
 none_wanted leaf clock part sized sizes none = λ p k.
     let a = k.allowed in
     let w = range_wanted leaf clock part p k.offset sized sizes k.inside k.in_clock a in
     none (range_to a.x a.y a.z p) w.0 w.1
 
 -- nothing is kept of one side
-pub none_on_x : (g : ℤ) (leaf : LeafValue) (clock : Side) (part : GridBox) (x : Side) (m : Measures) → IsMeasured g leaf clock part m → IsLeafSized leaf → AreSizes part
-    → x ≡ part.x → NoneIsKept leaf.x x m.low m.high (m.yl + m.zl) (m.yh + m.zh) → Keeps (Sat leaf) clock part None
+pub none_on_x : (g : ℤ) (leaf : LeafValue) (clock : Side) (part : GridBox) (x : Side) (m : Measures)
+    → IsMeasured g leaf clock part m → IsLeafSized leaf → AreSizes part
+    → x ≡ part.x → NoneIsKept leaf.x x m.low m.high (m.yl + m.zl) (m.yh + m.zh)
+    → Keeps (Sat leaf) clock part None
 none_on_x g leaf clock part x m is sized sizes e none = λ p k.
     let held : NoneIsKept leaf.x part.x m.low m.high (m.yl + m.zl) (m.yh + m.zh) = rw e at none in
     held p.x (holds_at part p k.inside 0) (are_reached g leaf clock part m p is sized sizes k).x
 
-pub none_on_y : (g : ℤ) (leaf : LeafValue) (clock : Side) (part : GridBox) (y : Side) (m : Measures) → IsMeasured g leaf clock part m → IsLeafSized leaf → AreSizes part
-    → y ≡ part.y → NoneIsKept leaf.y y m.low m.high (m.xl + m.zl) (m.xh + m.zh) → Keeps (Sat leaf) clock part None
+pub none_on_y : (g : ℤ) (leaf : LeafValue) (clock : Side) (part : GridBox) (y : Side) (m : Measures)
+    → IsMeasured g leaf clock part m → IsLeafSized leaf → AreSizes part
+    → y ≡ part.y → NoneIsKept leaf.y y m.low m.high (m.xl + m.zl) (m.xh + m.zh)
+    → Keeps (Sat leaf) clock part None
 none_on_y g leaf clock part y m is sized sizes e none = λ p k.
     let held : NoneIsKept leaf.y part.y m.low m.high (m.xl + m.zl) (m.xh + m.zh) = rw e at none in
     held p.y (holds_at part p k.inside 1) (are_reached g leaf clock part m p is sized sizes k).y
 
-pub none_on_z : (g : ℤ) (leaf : LeafValue) (clock : Side) (part : GridBox) (z : Side) (m : Measures) → IsMeasured g leaf clock part m → IsLeafSized leaf → AreSizes part
-    → z ≡ part.z → NoneIsKept leaf.z z m.low m.high (m.xl + m.yl) (m.xh + m.yh) → Keeps (Sat leaf) clock part None
+pub none_on_z : (g : ℤ) (leaf : LeafValue) (clock : Side) (part : GridBox) (z : Side) (m : Measures)
+    → IsMeasured g leaf clock part m → IsLeafSized leaf → AreSizes part
+    → z ≡ part.z → NoneIsKept leaf.z z m.low m.high (m.xl + m.yl) (m.xh + m.yh)
+    → Keeps (Sat leaf) clock part None
 none_on_z g leaf clock part z m is sized sizes e none = λ p k.
     let held : NoneIsKept leaf.z part.z m.low m.high (m.xl + m.yl) (m.xh + m.yh) = rw e at none in
     held p.z (holds_at part p k.inside 2) (are_reached g leaf clock part m p is sized sizes k).z
@@ -188,7 +206,9 @@ none_on_z g leaf clock part z m is sized sizes e none = λ p k.
 
 pub leaf_keeps : (g : ℤ) (leaf : LeafValue) (clock : Side) (part : GridBox) (m : Measures) (x y z : Side)
     → IsMeasured g leaf clock part m → IsLeafSized leaf → AreSizes part
-    → IsKept g leaf.x part.x m.low m.high (m.yl + m.zl) (m.yh + m.zh) x → IsKept g leaf.y part.y m.low m.high (m.xl + m.zl) (m.xh + m.zh) y → IsKept g leaf.z part.z m.low m.high (m.xl + m.yl) (m.xh + m.yh) z
+    → IsKept g leaf.x part.x m.low m.high (m.yl + m.zl) (m.yh + m.zh) x
+    → IsKept g leaf.y part.y m.low m.high (m.xl + m.zl) (m.xh + m.zh) y
+    → IsKept g leaf.z part.z m.low m.high (m.xl + m.yl) (m.xh + m.yh) z
     → Keeps (Sat leaf) clock part (Some (record { x = x; y = y; z = z }))
 leaf_keeps g leaf clock part m x y z is sized sizes kx ky kz = (
   λ axis. lies axis,
@@ -198,12 +218,14 @@ leaf_keeps g leaf clock part m x y z is sized sizes kx ky kz = (
       holds_all (record { x = x; y = y; z = z }) p (λ axis. held p h r axis),
 )
   where
-    lies : (axis : ℕ) → SideLiesIn (side_at axis (record { x = x; y = y; z = z })) (side_at axis part)
+    lies : (axis : ℕ)
+        → SideLiesIn (side_at axis (record { x = x; y = y; z = z })) (side_at axis part)
     lies zero = record { low = kx.from; ordered = kx.ordered; high = kx.to }
     lies (suc zero) = record { low = ky.from; ordered = ky.ordered; high = ky.to }
     lies (suc (suc n)) = record { low = kz.from; ordered = kz.ordered; high = kz.to }
 
-    held : (p : Pos) → ((axis : ℕ) → IsIn (side_at axis part) (along axis p)) → AreReached leaf m p → (axis : ℕ) → IsIn (side_at axis (record { x = x; y = y; z = z })) (along axis p)
+    held : (p : Pos) → ((axis : ℕ) → IsIn (side_at axis part) (along axis p)) → AreReached leaf m p
+        → (axis : ℕ) → IsIn (side_at axis (record { x = x; y = y; z = z })) (along axis p)
     held p h r zero = kx.holds p.x (h 0) r.x
     held p h r (suc zero) = ky.holds p.y (h 1) r.y
     held p h r (suc (suc n)) = kz.holds p.z (h 2) r.z
@@ -224,16 +246,23 @@ near_square leaf part = square (least_between leaf.x part.x) + square (least_bet
 abbrev far_square : LeafValue → GridBox → ℕ
 far_square leaf part = square (greatest_between leaf.x part.x) + square (greatest_between leaf.y part.y) + square (greatest_between leaf.z part.z)
 
-pub squares_le : (leaf : LeafValue) (part : GridBox) → leaf.x.lo ≤ℤ leaf.x.hi → part.x.lo ≤ℤ part.x.hi → leaf.y.lo ≤ℤ leaf.y.hi → part.y.lo ≤ℤ part.y.hi → leaf.z.lo ≤ℤ leaf.z.hi → part.z.lo ≤ℤ part.z.hi
+pub squares_le : (leaf : LeafValue) (part : GridBox) → leaf.x.lo ≤ℤ leaf.x.hi
+    → part.x.lo ≤ℤ part.x.hi → leaf.y.lo ≤ℤ leaf.y.hi → part.y.lo ≤ℤ part.y.hi
+    → leaf.z.lo ≤ℤ leaf.z.hi → part.z.lo ≤ℤ part.z.hi
     → near_square leaf part ≤ far_square leaf part
 squares_le leaf part a b c d e f = sum_mono _ _ _ _ _ _ (least_le_greatest _ _ _ _ a b) (least_le_greatest _ _ _ _ c d) (least_le_greatest _ _ _ _ e f)
 
-tight_of : (slack : ℤ) (leaf : LeafValue) (clock : Side) (part : GridBox) (near far : ℕ) → near ≡ near_leaf leaf part → far ≡ far_leaf leaf part
-    → Meet near far (least_range leaf clock -ℤ slack) (greatest_range leaf clock +ℤ slack) → IsTight slack leaf clock part
+tight_of : (slack : ℤ) (leaf : LeafValue) (clock : Side) (part : GridBox) (near far : ℕ)
+    → near ≡ near_leaf leaf part → far ≡ far_leaf leaf part
+    → Meet near far (least_range leaf clock -ℤ slack) (greatest_range leaf clock +ℤ slack)
+    → IsTight slack leaf clock part
 tight_of slack leaf clock part near far e f m = record { range = m.range; reached = rw (sym e, sym f) m.reached; wanted = m.wanted }
 
-layer_tight_x : (g slack : ℤ) (leaf : LeafValue) (clock : Side) (part : GridBox) (m : Measures) (v : ℤ) → slack ≡ pos 16 *ℤ g
-    → IsMeasured g leaf clock part m → IsOrderedLeaf leaf part → IsNearlyReached g leaf.x m.low m.high (m.yl + m.zl) (m.yh + m.zh) v → IsTight slack leaf clock (layer 0 part v)
+layer_tight_x : (g slack : ℤ) (leaf : LeafValue) (clock : Side) (part : GridBox) (m : Measures) (v : ℤ)
+    → slack ≡ pos 16 *ℤ g
+    → IsMeasured g leaf clock part m → IsOrderedLeaf leaf part
+    → IsNearlyReached g leaf.x m.low m.high (m.yl + m.zl) (m.yh + m.zh) v
+    → IsTight slack leaf clock (layer 0 part v)
 unfolding near_leaf far_leaf
 layer_tight_x (negsuc g) slack leaf clock part m v e is o n = absurd (omega (arith, ints, is.grain))
 layer_tight_x (pos g) slack leaf clock part m v e is o n = tight_of slack leaf clock (layer 0 part v) _ _ refl refl
@@ -241,8 +270,11 @@ layer_tight_x (pos g) slack leaf clock part m v e is o n = tight_of slack leaf c
     (near_square leaf (layer 0 part v)) (far_square leaf (layer 0 part v)) (omega (arith, ints, is.grain)) is.wanted is.reach is.y is.z n (omega arith) (omega arith)
     (squares_le leaf (layer 0 part v) o.x (omega (arith, ints)) o.y o.part_y o.z o.part_z)))
 
-layer_tight_y : (g slack : ℤ) (leaf : LeafValue) (clock : Side) (part : GridBox) (m : Measures) (v : ℤ) → slack ≡ pos 16 *ℤ g
-    → IsMeasured g leaf clock part m → IsOrderedLeaf leaf part → IsNearlyReached g leaf.y m.low m.high (m.xl + m.zl) (m.xh + m.zh) v → IsTight slack leaf clock (layer 1 part v)
+layer_tight_y : (g slack : ℤ) (leaf : LeafValue) (clock : Side) (part : GridBox) (m : Measures) (v : ℤ)
+    → slack ≡ pos 16 *ℤ g
+    → IsMeasured g leaf clock part m → IsOrderedLeaf leaf part
+    → IsNearlyReached g leaf.y m.low m.high (m.xl + m.zl) (m.xh + m.zh) v
+    → IsTight slack leaf clock (layer 1 part v)
 unfolding near_leaf far_leaf
 layer_tight_y (negsuc g) slack leaf clock part m v e is o n = absurd (omega (arith, ints, is.grain))
 layer_tight_y (pos g) slack leaf clock part m v e is o n = tight_of slack leaf clock (layer 1 part v) _ _ refl refl
@@ -250,8 +282,11 @@ layer_tight_y (pos g) slack leaf clock part m v e is o n = tight_of slack leaf c
     (near_square leaf (layer 1 part v)) (far_square leaf (layer 1 part v)) (omega (arith, ints, is.grain)) is.wanted is.reach is.x is.z n (omega arith) (omega arith)
     (squares_le leaf (layer 1 part v) o.x o.part_x o.y (omega (arith, ints)) o.z o.part_z)))
 
-layer_tight_z : (g slack : ℤ) (leaf : LeafValue) (clock : Side) (part : GridBox) (m : Measures) (v : ℤ) → slack ≡ pos 16 *ℤ g
-    → IsMeasured g leaf clock part m → IsOrderedLeaf leaf part → IsNearlyReached g leaf.z m.low m.high (m.xl + m.yl) (m.xh + m.yh) v → IsTight slack leaf clock (layer 2 part v)
+layer_tight_z : (g slack : ℤ) (leaf : LeafValue) (clock : Side) (part : GridBox) (m : Measures) (v : ℤ)
+    → slack ≡ pos 16 *ℤ g
+    → IsMeasured g leaf clock part m → IsOrderedLeaf leaf part
+    → IsNearlyReached g leaf.z m.low m.high (m.xl + m.yl) (m.xh + m.yh) v
+    → IsTight slack leaf clock (layer 2 part v)
 unfolding near_leaf far_leaf
 layer_tight_z (negsuc g) slack leaf clock part m v e is o n = absurd (omega (arith, ints, is.grain))
 layer_tight_z (pos g) slack leaf clock part m v e is o n = tight_of slack leaf clock (layer 2 part v) _ _ refl refl
@@ -259,13 +294,17 @@ layer_tight_z (pos g) slack leaf clock part m v e is o n = tight_of slack leaf c
     (near_square leaf (layer 2 part v)) (far_square leaf (layer 2 part v)) (omega (arith, ints, is.grain)) is.wanted is.reach is.x is.y n (omega arith) (omega arith)
     (squares_le leaf (layer 2 part v) o.x o.part_x o.y o.part_y o.z (omega (arith, ints)))))
 
-pub leaf_answer : (g slack : ℤ) (leaf : LeafValue) (clock : Side) (part : GridBox) (m : Measures) (x y z : Side) → slack ≡ pos 16 *ℤ g
+pub leaf_answer : (g slack : ℤ) (leaf : LeafValue) (clock : Side) (part : GridBox) (m : Measures) (x y z : Side)
+    → slack ≡ pos 16 *ℤ g
     → IsMeasured g leaf clock part m → IsOrderedLeaf leaf part
-    → IsKept g leaf.x part.x m.low m.high (m.yl + m.zl) (m.yh + m.zh) x → IsKept g leaf.y part.y m.low m.high (m.xl + m.zl) (m.xh + m.zh) y → IsKept g leaf.z part.z m.low m.high (m.xl + m.yl) (m.xh + m.yh) z
+    → IsKept g leaf.x part.x m.low m.high (m.yl + m.zl) (m.yh + m.zh) x
+    → IsKept g leaf.y part.y m.low m.high (m.xl + m.zl) (m.xh + m.zh) y
+    → IsKept g leaf.z part.z m.low m.high (m.xl + m.yl) (m.xh + m.yh) z
     → IsTightAnswer g slack leaf clock part (Some (record { x = x; y = y; z = z }))
 leaf_answer g slack leaf clock part m x y z e is o kx ky kz = (λ axis low'. faces axis low', λ axis low'. same axis low')
   where
-    faces : (axis : ℕ) (low' : Bool) → IsTight slack leaf clock (layer axis part (face_at axis low' (record { x = x; y = y; z = z })))
+    faces : (axis : ℕ) (low' : Bool)
+        → IsTight slack leaf clock (layer axis part (face_at axis low' (record { x = x; y = y; z = z })))
     faces zero true = layer_tight_x g slack leaf clock part m x.lo e is o kx.low_tight
     faces zero false = layer_tight_x g slack leaf clock part m x.hi e is o kx.high_tight
     faces (suc zero) true = layer_tight_y g slack leaf clock part m y.lo e is o ky.low_tight
@@ -273,7 +312,8 @@ leaf_answer g slack leaf clock part m x y z e is o kx ky kz = (λ axis low'. fac
     faces (suc (suc n)) true = layer_tight_z g slack leaf clock part m z.lo e is o kz.low_tight
     faces (suc (suc n)) false = layer_tight_z g slack leaf clock part m z.hi e is o kz.high_tight
 
-    same : (axis : ℕ) (low' : Bool) → IsFaceOf g (face_at axis low' part) (face_at axis low' (record { x = x; y = y; z = z }))
+    same : (axis : ℕ) (low' : Bool)
+        → IsFaceOf g (face_at axis low' part) (face_at axis low' (record { x = x; y = y; z = z }))
     same zero true = kx.low_face
     same zero false = kx.high_face
     same (suc zero) true = ky.low_face

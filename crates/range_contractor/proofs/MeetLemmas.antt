@@ -18,7 +18,8 @@ is_hull a b r e f = record {
   high_end = rw f (one_of_max a.hi b.hi);
 }
 
-pub is_meet : (a b r : Side) → r.lo ≡ int_max a.lo b.lo → r.hi ≡ int_min a.hi b.hi → r.lo ≤ℤ r.hi → IsMeetOf a b r
+pub is_meet : (a b r : Side) → r.lo ≡ int_max a.lo b.lo → r.hi ≡ int_min a.hi b.hi → r.lo ≤ℤ r.hi
+    → IsMeetOf a b r
 is_meet a b r e f le = record {
   low_a = omega (arith, ints, clamps);
   low_b = omega (arith, ints, clamps);
@@ -59,7 +60,8 @@ in_meet_of a b r v m h k = (
   elim m.high_end [ inl e ↦ omega (arith, ints, h.1) | inr e ↦ omega (arith, ints, k.1) ],
 )
 
-pub first_meets : (side below above kept : Side) → IsMeetOf side below kept → DontMeet side above → IsHullOfMeets side below above kept
+pub first_meets : (side below above kept : Side) → IsMeetOf side below kept → DontMeet side above
+    → IsHullOfMeets side below above kept
 first_meets side below above kept m d = record {
   from = m.low_a;
   ordered = m.ordered;
@@ -74,7 +76,8 @@ first_meets side below above kept m d = record {
   high_end = elim m.high_end [ inl e ↦ inl e | inr e ↦ inr (inl e) ];
 }
 
-pub second_meets : (side below above kept : Side) → DontMeet side below → IsMeetOf side above kept → IsHullOfMeets side below above kept
+pub second_meets : (side below above kept : Side) → DontMeet side below → IsMeetOf side above kept
+    → IsHullOfMeets side below above kept
 second_meets side below above kept d m = record {
   from = m.low_a;
   ordered = m.ordered;
@@ -89,19 +92,22 @@ second_meets side below above kept d m = record {
   high_end = elim m.high_end [ inl e ↦ inl e | inr e ↦ inr (inr e) ];
 }
 
-pub none_meets : (side below above : Side) → DontMeet side below → DontMeet side above → NoneMeets side below above
+pub none_meets : (side below above : Side) → DontMeet side below → DontMeet side above
+    → NoneMeets side below above
 none_meets side below above d e v h k = elim k [
   | inl k ↦ apart side below v d h k
   | inr k ↦ apart side above v e h k
 ]
 
-in_hull : (side below above a b kept : Side) (v : ℤ) → IsMeetOf side below a → IsMeetOf side above b → IsHullOf a b kept → IsIn side v → IsInOneOf below above v → IsIn kept v
+in_hull : (side below above a b kept : Side) (v : ℤ) → IsMeetOf side below a → IsMeetOf side above b
+    → IsHullOf a b kept → IsIn side v → IsInOneOf below above v → IsIn kept v
 in_hull side below above a b kept v m n h i k = elim k [
   | inl k ↦ let w = in_meet_of side below a v m i k in (omega (arith, ints, w.0, h.low_a), omega (arith, ints, w.1, h.high_a))
   | inr k ↦ let w = in_meet_of side above b v n i k in (omega (arith, ints, w.0, h.low_b), omega (arith, ints, w.1, h.high_b))
 ]
 
-pub both_meet : (side below above a b kept : Side) → IsMeetOf side below a → IsMeetOf side above b → IsHullOf a b kept → IsHullOfMeets side below above kept
+pub both_meet : (side below above a b kept : Side) → IsMeetOf side below a → IsMeetOf side above b
+    → IsHullOf a b kept → IsHullOfMeets side below above kept
 both_meet side below above a b kept m n h =
     record {
       from = elim h.low_end [ inl e ↦ omega (arith, ints, m.low_a) | inr e ↦ omega (arith, ints, n.low_a) ];
@@ -132,5 +138,6 @@ meet_is a b r m =
     let hi : r.hi ≡ int_min a.hi b.hi = elim m.high_end [ inl e ↦ omega (arith, ints, clamps, m.high_b) | inr e ↦ omega (arith, ints, clamps, m.high_a) ] in
     same_side r.lo r.hi (int_max a.lo b.lo) (int_min a.hi b.hi) lo hi
   where
-    same_side : (l h l' h' : ℤ) → l ≡ l' → h ≡ h' → (◌≡◌ {A = Side} (record { lo = l; hi = h }) (record { lo = l'; hi = h' }))
+    same_side : (l h l' h' : ℤ) → l ≡ l' → h ≡ h'
+        → (◌≡◌ {A = Side} (record { lo = l; hi = h }) (record { lo = l'; hi = h' }))
     same_side l h l' h' e f = rw (e, f) refl

@@ -9,7 +9,9 @@ use Rattle.sat_model.specs.Trees.{Sat, TreeList, IsLeafSized, HaveSoundNodes, co
 use Rattle.sat_model.specs.RowTrees.{rounded_side, row_leaf, row_tree}
 use Rattle.range_contractor.proofs.AmountLemmas.{floor_near, ceil_near}
 
-rounded_sizes : (g : ℤ) (s : Span) → pos 1 ≤ℤ g → g ≤ℤ pos 1048576 → IsPlaceSize s.lo × IsPlaceSize s.hi → IsWithin 70000000000000 (rounded_side g s).lo × IsWithin 70000000000000 (rounded_side g s).hi
+rounded_sizes : (g : ℤ) (s : Span) → pos 1 ≤ℤ g → g ≤ℤ pos 1048576
+    → IsPlaceSize s.lo × IsPlaceSize s.hi
+    → IsWithin 70000000000000 (rounded_side g s).lo × IsWithin 70000000000000 (rounded_side g s).hi
 rounded_sizes g s h k (p, q) =
     let f = floor_near g s.lo h in
     let c = ceil_near g s.hi h in (
@@ -37,11 +39,13 @@ shallow : (g : ℤ) (rows : List Row) → depth_of_all (kids_of g rows) ≤ 1
 shallow g [] = omega arith
 shallow g (row ∷ rows) = omega (arith, shallow g rows)
 
-all_sound : (g : ℤ) (rows : List Row) → pos 1 ≤ℤ g → g ≤ℤ pos 1048576 → HaveSoundNodes (kids_of g rows)
+all_sound : (g : ℤ) (rows : List Row) → pos 1 ≤ℤ g → g ≤ℤ pos 1048576
+    → HaveSoundNodes (kids_of g rows)
 all_sound g [] h k = tt
 all_sound g (row ∷ rows) h k = (row_sized g row h k, all_sound g rows h k)
 
-pub row_tree_well_formed : (g : ℤ) (rows : List Row) (q : ℕ) → pos 1 ≤ℤ g → g ≤ℤ pos 1048576 → q < length rows → length rows ≤ 64 → IsWellFormed (row_tree g rows q)
+pub row_tree_well_formed : (g : ℤ) (rows : List Row) (q : ℕ) → pos 1 ≤ℤ g → g ≤ℤ pos 1048576
+    → q < length rows → length rows ≤ 64 → IsWellFormed (row_tree g rows q)
 row_tree_well_formed g rows q h k few most = record {
   depth = omega (arith, shallow g rows);
   nodes = (omega arith, omega arith, (omega (arith, count_rows g rows), omega (arith, count_rows g rows), all_sound g rows h k));

@@ -32,11 +32,13 @@ row_grain g row h k = record {
   z = rounded_ordered g row.z h;
 }
 
-pub rows_grain : (g : ℤ) (rows : List Row) → pos 1 ≤ℤ g → g ≤ℤ pos 1048576 → AreGrainTrees g (kids_of g rows)
+pub rows_grain : (g : ℤ) (rows : List Row) → pos 1 ≤ℤ g → g ≤ℤ pos 1048576
+    → AreGrainTrees g (kids_of g rows)
 rows_grain g [] h k = tt
 rows_grain g (row ∷ rows) h k = (row_grain g row h k, rows_grain g rows h k)
 
-pub proposal_exists : (g : ℤ) (rows : List Row) (q : ℕ) (part : Box3) (clock : Side) → pos 1 ≤ℤ g → g ≤ℤ pos 1048576 → q < length rows
+pub proposal_exists : (g : ℤ) (rows : List Row) (q : ℕ) (part : Box3) (clock : Side) → pos 1 ≤ℤ g
+    → g ≤ℤ pos 1048576 → q < length rows
     → (answer : Option GridBox) × IsProposal g (pos 16 *ℤ g) (row_tree g rows q) clock (grid_box part) answer
 proposal_exists g rows q part clock h k few =
     let (answer, tied) = tied_exists (row_tree g rows q) g (pos 16 *ℤ g) clock (grid_box part) h k refl (omega (arith, count_rows g rows), rows_grain g rows h k) (record { lies = box_lies part; sizes = box_sizes part }) in

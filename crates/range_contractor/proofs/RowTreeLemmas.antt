@@ -11,13 +11,15 @@ use Rattle.sat_model.specs.RowTrees.{rounded_side, row_leaf, row_tree}
 use Rattle.sat_model.specs.Trees.{LeafAllows, Allows, AllButAllow, Sat, trees_of}
 use Rattle.sat_model.specs.declared.rows.Row.{Row}
 
-in_rounded : (grain : ℤ) (s : Span) (n : ℤ) → pos 1 ≤ℤ grain → s.lo ≤ℤ n → n ≤ℤ s.hi → IsIn (rounded_side grain s) n
+in_rounded : (grain : ℤ) (s : Span) (n : ℤ) → pos 1 ≤ℤ grain → s.lo ≤ℤ n → n ≤ℤ s.hi
+    → IsIn (rounded_side grain s) n
 in_rounded grain s n g l h =
     let low = grain_between grain s.lo g in
     let high = grain_between grain s.hi g in
     (omega (arith, ints, low.0, l), omega (arith, ints, high.1, h))
 
-pub leaf_holds : (grain : ℤ) (row : Row) (p : Pos) (b : ℤ) → pos 1 ≤ℤ grain → IsPossible p b row → LeafAllows (row_leaf grain row) p b
+pub leaf_holds : (grain : ℤ) (row : Row) (p : Pos) (b : ℤ) → pos 1 ≤ℤ grain → IsPossible p b row
+    → LeafAllows (row_leaf grain row) p b
 leaf_holds grain row p b g possible =
     let v = possible.value in
     record {
@@ -32,12 +34,14 @@ leaf_holds grain row p b g possible =
       allowed = possible.allowed;
     }
 
-leaves_hold : (grain : ℤ) (rows : List Row) (q : ℕ) (p : Pos) (b : ℤ) → pos 1 ≤ℤ grain → AllBut q (IsPossible p b) rows
+leaves_hold : (grain : ℤ) (rows : List Row) (q : ℕ) (p : Pos) (b : ℤ) → pos 1 ≤ℤ grain
+    → AllBut q (IsPossible p b) rows
     → AllButAllow (trees_of (map (λ row. Sat (row_leaf grain row)) rows)) q p b
 leaves_hold grain [] q p b g h = tt
 leaves_hold grain (row ∷ rows) zero p b g (here, later) = (leaf_holds grain row p b g here, leaves_hold grain rows zero p b g later)
 leaves_hold grain (row ∷ rows) (suc q) p b g (inl (here, later)) = inl (leaf_holds grain row p b g here, leaves_hold grain rows (suc q) p b g later)
 leaves_hold grain (row ∷ rows) (suc q) p b g (inr later) = inr (leaves_hold grain rows q p b g later)
 
-pub tree_holds : (grain : ℤ) (rows : List Row) (q : ℕ) (p : Pos) (b : ℤ) → pos 1 ≤ℤ grain → AllBut q (IsPossible p b) rows → Allows (row_tree grain rows q) p b
+pub tree_holds : (grain : ℤ) (rows : List Row) (q : ℕ) (p : Pos) (b : ℤ) → pos 1 ≤ℤ grain
+    → AllBut q (IsPossible p b) rows → Allows (row_tree grain rows q) p b
 tree_holds grain rows q p b g h = leaves_hold grain rows q p b g h

@@ -17,8 +17,11 @@ pub record IsRoundedDifference (g : ℤ) (place side : Side) (low high : ℤ) : 
   pub low_is : low ≡ place.lo -ℤ grain_ceil g side.hi
   pub high_is : high ≡ place.hi -ℤ grain_floor g side.lo
 
-pub difference_sizes : (g : ℤ) (place side : Side) (low high : ℤ) → pos 1 ≤ℤ g → g ≤ℤ pos 1048576 → IsWithin 70000000000000 place.lo → IsWithin 70000000000000 place.hi → IsBoxSize side.lo → IsBoxSize side.hi
-    → IsRoundedDifference g place side low high → IsWithin 80000001048576 low × IsWithin 80000001048576 high
+pub difference_sizes : (g : ℤ) (place side : Side) (low high : ℤ) → pos 1 ≤ℤ g → g ≤ℤ pos 1048576
+    → IsWithin 70000000000000 place.lo → IsWithin 70000000000000 place.hi → IsBoxSize side.lo
+    → IsBoxSize side.hi
+    → IsRoundedDifference g place side low high
+    → IsWithin 80000001048576 low × IsWithin 80000001048576 high
 difference_sizes g place side low high h k p q r s is =
     let f = floor_near g side.lo h in
     let c = ceil_near g side.hi h in (
@@ -26,9 +29,13 @@ difference_sizes g place side low high h k p q r s is =
       record { low = omega (arith, ints, is.high_is, f.0, q.low, r.high); high = omega (arith, ints, is.high_is, f.1, q.high, r.low) },
     )
 
-pub are_difference_squares : (g : ℤ) (place side : Side) (low high : ℤ) (area_low area_high : ℕ) → pos 1 ≤ℤ g → g ≤ℤ pos 1048576 → place.lo ≤ℤ place.hi → side.lo ≤ℤ side.hi
-    → IsWithin 70000000000000 place.lo → IsWithin 70000000000000 place.hi → IsBoxSize side.lo → IsBoxSize side.hi
-    → IsRoundedDifference g place side low high → area_low ≡ least_square low high → area_high ≡ greatest_square low high → AreDifferenceSquares g place side area_low area_high
+pub are_difference_squares : (g : ℤ) (place side : Side) (low high : ℤ) (area_low area_high : ℕ)
+    → pos 1 ≤ℤ g → g ≤ℤ pos 1048576 → place.lo ≤ℤ place.hi → side.lo ≤ℤ side.hi
+    → IsWithin 70000000000000 place.lo → IsWithin 70000000000000 place.hi → IsBoxSize side.lo
+    → IsBoxSize side.hi
+    → IsRoundedDifference g place side low high → area_low ≡ least_square low high
+    → area_high ≡ greatest_square low high
+    → AreDifferenceSquares g place side area_low area_high
 are_difference_squares g place side low high area_low area_high h k o o' p q r s is low_is high_is =
     let f = floor_near g side.lo h in
     let c = ceil_near g side.hi h in
@@ -47,8 +54,11 @@ are_difference_squares g place side low high area_low area_high h k o o' p q r s
           (rw low_is x.0, rw high_is x.1);
     }
 
-pub are_range_squares : (g least most low high : ℤ) (area_low area_high : ℕ) → pos 1 ≤ℤ g → pos 0 ≤ℤ least → least ≤ℤ most
-    → low ≡ grain_floor g least → high ≡ grain_ceil g (most +ℤ pos 1) → area_low ≡ least_square low high → area_high ≡ greatest_square low high → AreRangeSquares g least most area_low area_high
+pub are_range_squares : (g least most low high : ℤ) (area_low area_high : ℕ) → pos 1 ≤ℤ g
+    → pos 0 ≤ℤ least → least ≤ℤ most
+    → low ≡ grain_floor g least → high ≡ grain_ceil g (most +ℤ pos 1)
+    → area_low ≡ least_square low high → area_high ≡ greatest_square low high
+    → AreRangeSquares g least most area_low area_high
 are_range_squares g (negsuc least) most low high area_low area_high h natural o e f low_is high_is = absurd (omega (arith, ints))
 are_range_squares g (pos least) most low high area_low area_high h natural o e f low_is high_is =
     let x = floor_near g (pos least) h in
@@ -65,12 +75,16 @@ are_range_squares g (pos least) most low high area_low area_high h natural o e f
       holds_to = λ n le. rw high_is (square-mono n (greatest_end low high) (omega (arith, ints, one_part low, one_part high, f, y.0, le)));
     }
 
-pub difference_squares_small : (low high : ℤ) (area_high : ℕ) → IsWithin 80000001048576 low → IsWithin 80000001048576 high → area_high ≡ greatest_square low high → area_high ≤ 9903520314283042199192993792
+pub difference_squares_small : (low high : ℤ) (area_high : ℕ) → IsWithin 80000001048576 low
+    → IsWithin 80000001048576 high → area_high ≡ greatest_square low high
+    → area_high ≤ 9903520314283042199192993792
 difference_squares_small low high area_high p q e = rw e
     (let x = square-mono (greatest_end low high) 80000001048576 (omega (arith, ints, one_part low, one_part high, p.low, p.high, q.low, q.high)) in omega arith)
 
-pub range_squares_small : (g least most low high : ℤ) (area_high : ℕ) → pos 1 ≤ℤ g → g ≤ℤ pos 1048576 → pos 0 ≤ℤ least → least ≤ℤ most → most ≤ℤ pos 139999999999999
-    → low ≡ grain_floor g least → high ≡ grain_ceil g (most +ℤ pos 1) → area_high ≡ greatest_square low high → area_high ≤ 79228162514264337593543950336
+pub range_squares_small : (g least most low high : ℤ) (area_high : ℕ) → pos 1 ≤ℤ g
+    → g ≤ℤ pos 1048576 → pos 0 ≤ℤ least → least ≤ℤ most → most ≤ℤ pos 139999999999999
+    → low ≡ grain_floor g least → high ≡ grain_ceil g (most +ℤ pos 1)
+    → area_high ≡ greatest_square low high → area_high ≤ 79228162514264337593543950336
 range_squares_small g (negsuc least) most low high area_high h k natural o p e f high_is = absurd (omega (arith, ints))
 range_squares_small g (pos least) most low high area_high h k natural o p e f high_is = rw high_is
     (let y = ceil_near g (most +ℤ pos 1) h in

@@ -30,7 +30,8 @@ grown_lt a k r m h =
     omega arith
 
 -- parts that are greater by at most g each
-near_sum : (g a b c x y z h : ℕ) → a ≤ x + g → b ≤ y + g → c ≤ z + g → x * x + (y * y + z * z) ≤ h * h
+near_sum : (g a b c x y z h : ℕ) → a ≤ x + g → b ≤ y + g → c ≤ z + g
+    → x * x + (y * y + z * z) ≤ h * h
     → a * a + b * b + c * c ≤ (h + 3 * g) * (h + 3 * g)
 near_sum g a b c x y z h p q r s =
     let one : (x + g) * (x + g) + (y * y + z * z) ≤ (h + g) * (h + g) = grown_le x g (y * y + z * z) h s in
@@ -59,14 +60,17 @@ pub record Meet (near far : ℕ) (from to : ℤ) : Type 0 where
   pub reached : Between (pos near) (pos far) range
   pub wanted : Between from to range
 
-meeting : (near far : ℕ) (from to : ℤ) → near ≤ far → from ≤ℤ to → pos near ≤ℤ to → from ≤ℤ pos far → Meet near far from to
+meeting : (near far : ℕ) (from to : ℤ) → near ≤ far → from ≤ℤ to → pos near ≤ℤ to → from ≤ℤ pos far
+    → Meet near far from to
 meeting near far from to h k l m = by_lt_z (pos near) from
     (λ lt. record { range = from; reached = record { from = omega (arith, ints); to = m }; wanted = record { from = omega (arith, ints); to = k } })
     (λ le. record { range = pos near; reached = record { from = omega (arith, ints); to = omega (arith, ints) }; wanted = record { from = le; to = l } })
 
 -- near and far squares of a layer, by the amounts of the axis and of the two others
 pub tight : (g : ℕ) (from to least most : ℤ) (low high : ℕ) (place : Side) (v : ℤ) (other other' side side' : Side) (l h l' h' near far : ℕ)
-    → 1 ≤ g → IsWanted from to least most → AreRangeSquares (pos g) least most low high → AreDifferenceSquares (pos g) other side l h → AreDifferenceSquares (pos g) other' side' l' h'
+    → 1 ≤ g → IsWanted from to least most → AreRangeSquares (pos g) least most low high
+    → AreDifferenceSquares (pos g) other side l h
+    → AreDifferenceSquares (pos g) other' side' l' h'
     → IsNearlyReached (pos g) place low high (l + l') (h + h') v
     → near ≡ square (least_amount place.lo place.hi v v) + square (least_amount other.lo other.hi side.lo side.hi) + square (least_amount other'.lo other'.hi side'.lo side'.hi)
     → far ≡ square (greatest_amount place.lo place.hi v v) + square (greatest_amount other.lo other.hi side.lo side.hi) + square (greatest_amount other'.lo other'.hi side'.lo side'.hi)

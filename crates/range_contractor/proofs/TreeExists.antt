@@ -42,7 +42,8 @@ pub record IsGridPart (part : GridBox) : Type 0 where
   pub lies : LiesIn part part
   pub sizes : AreSizes part
 
-sized_in : (a part : Side) → SideLiesIn a part → IsBoxSize part.lo × IsBoxSize part.hi → IsBoxSize a.lo × IsBoxSize a.hi
+sized_in : (a part : Side) → SideLiesIn a part → IsBoxSize part.lo × IsBoxSize part.hi
+    → IsBoxSize a.lo × IsBoxSize a.hi
 sized_in a part l (p, q) = (
   record { low = omega (arith, ints, l.low, p.low); high = omega (arith, ints, l.ordered, l.high, q.high) },
   record { low = omega (arith, ints, l.low, l.ordered, p.low); high = omega (arith, ints, l.high, q.high) },
@@ -58,18 +59,23 @@ inside_part a part l is = record {
 abbrev HasAnswer : Contractor → GridBox → Type 0
 HasAnswer Run part = (answer : Option GridBox) × Run part answer
 
-then_exists : (part : GridBox) (middle : Option GridBox) (Next : Contractor) → ((m : GridBox) → middle ≡ Some m → HasAnswer Next m) → (answer : Option GridBox) × Then middle Next answer
+then_exists : (part : GridBox) (middle : Option GridBox) (Next : Contractor)
+    → ((m : GridBox) → middle ≡ Some m → HasAnswer Next m)
+    → (answer : Option GridBox) × Then middle Next answer
 then_exists part None Next next = (None, refl)
 then_exists part (Some m) Next next = next m refl
 
-repeats_exist : (n : ℕ) (Run : Contractor) → ((c : GridBox) → IsGridPart c → HasAnswer Run c) → ((c a : GridBox) → IsGridPart c → Run c (Some a) → LiesIn a c) → (part : GridBox) → IsGridPart part → HasAnswer (Repeats n Run) part
+repeats_exist : (n : ℕ) (Run : Contractor) → ((c : GridBox) → IsGridPart c → HasAnswer Run c)
+    → ((c a : GridBox) → IsGridPart c → Run c (Some a) → LiesIn a c) → (part : GridBox)
+    → IsGridPart part → HasAnswer (Repeats n Run) part
 repeats_exist zero Run run lies part is = (Some part, refl)
 repeats_exist (suc n) Run run lies part is =
     let (middle, ran) = run part is in
     let (answer, then) = then_exists part middle (Repeats n Run) (λ m e. repeats_exist n Run run lies m (inside_part m part (lies part m is (subst (λ (a : Option GridBox). Run part a) e ran)) is)) in
     (answer, (middle, ran, then))
 
-pub same_box : (x y z x' y' z' : Side) → x ≡ x' → y ≡ y' → z ≡ z' → (◌≡◌ {A = GridBox} (record { x = x; y = y; z = z }) (record { x = x'; y = y'; z = z' }))
+pub same_box : (x y z x' y' z' : Side) → x ≡ x' → y ≡ y' → z ≡ z'
+    → (◌≡◌ {A = GridBox} (record { x = x; y = y; z = z }) (record { x = x'; y = y'; z = z' }))
 same_box x y z x' y' z' e f g = rw (e, f, g) refl
 
 ordered_side : (a b r : Side) → IsMeetOf a b r → SideLiesIn r r
@@ -93,12 +99,15 @@ meet_exists part box = elim (meet_or_none part.x box.x) [
   ]
 ]
   where
-    at : (axis : ℕ) (x y z : Side) → IsMeetOf part.x box.x x → IsMeetOf part.y box.y y → IsMeetOf part.z box.z z → SideLiesIn (side_at axis (record { x = x; y = y; z = z })) (side_at axis (record { x = x; y = y; z = z }))
+    at : (axis : ℕ) (x y z : Side) → IsMeetOf part.x box.x x → IsMeetOf part.y box.y y
+        → IsMeetOf part.z box.z z
+        → SideLiesIn (side_at axis (record { x = x; y = y; z = z })) (side_at axis (record { x = x; y = y; z = z }))
     at zero x y z mx my mz = ordered_side part.x box.x x mx
     at (suc zero) x y z mx my mz = ordered_side part.y box.y y my
     at (suc (suc n)) x y z mx my mz = ordered_side part.z box.z z mz
 
-hulls_exist : (answers : List (Option GridBox)) (need : ℕ) → 0 < need → (answer : Option GridBox) × IsRelaxedBox answers need answer
+hulls_exist : (answers : List (Option GridBox)) (need : ℕ) → 0 < need
+    → (answer : Option GridBox) × IsRelaxedBox answers need answer
 hulls_exist answers need some = elim (relaxed_hull (sides_of 0 answers) need some) [
   | inl e ↦ (None, (0, e))
   | inr (xl, xh, hx) ↦ elim (relaxed_hull (sides_of 1 answers) need some) [
@@ -113,7 +122,8 @@ hulls_exist answers need some = elim (relaxed_hull (sides_of 0 answers) need som
 ]
 
 mutual
-  pub tied_exists : (t : TreeValue) (g slack : ℤ) (clock : Side) (part : GridBox) → pos 1 ≤ℤ g → g ≤ℤ pos 1048576 → slack ≡ pos 16 *ℤ g → IsGrainTree g t → IsGridPart part
+  pub tied_exists : (t : TreeValue) (g slack : ℤ) (clock : Side) (part : GridBox) → pos 1 ≤ℤ g
+      → g ≤ℤ pos 1048576 → slack ≡ pos 16 *ℤ g → IsGrainTree g t → IsGridPart part
       → (answer : Option GridBox) × IsTied t g slack clock part answer
   tied_exists (Sat leaf) g slack clock part one most e is grid =
       leaf_exists g slack leaf clock part one most e is.sized is.whole
@@ -128,7 +138,8 @@ mutual
       (λ c a at r. (keeps kid g slack clock c (Some a) at.lies r).0) part grid
   tied_exists (Within box) g slack clock part one most e is grid = meet_exists part box
 
-  turn_exists : (kids : TreeList) (g slack : ℤ) (clock : Side) (part : GridBox) → pos 1 ≤ℤ g → g ≤ℤ pos 1048576 → slack ≡ pos 16 *ℤ g → AreGrainTrees g kids → IsGridPart part
+  turn_exists : (kids : TreeList) (g slack : ℤ) (clock : Side) (part : GridBox) → pos 1 ≤ℤ g
+      → g ≤ℤ pos 1048576 → slack ≡ pos 16 *ℤ g → AreGrainTrees g kids → IsGridPart part
       → (answer : Option GridBox) × InTurn kids g slack clock part answer
   turn_exists no_trees g slack clock part one most e is grid = (Some part, refl)
   turn_exists (tree t more) g slack clock part one most e is grid =
@@ -137,7 +148,8 @@ mutual
       (inside_part m part (keeps t g slack clock part (Some m) grid.lies (subst (λ (a : Option GridBox). IsTied t g slack clock part a) s ran)).0 grid)) in
       (answer, (middle, ran, then))
 
-  answers_exist : (kids : TreeList) (g slack : ℤ) (clock : Side) (part : GridBox) → pos 1 ≤ℤ g → g ≤ℤ pos 1048576 → slack ≡ pos 16 *ℤ g → AreGrainTrees g kids → IsGridPart part
+  answers_exist : (kids : TreeList) (g slack : ℤ) (clock : Side) (part : GridBox) → pos 1 ≤ℤ g
+      → g ≤ℤ pos 1048576 → slack ≡ pos 16 *ℤ g → AreGrainTrees g kids → IsGridPart part
       → (answers : List (Option GridBox)) × AreTied kids g slack clock part answers
   answers_exist no_trees g slack clock part one most e is grid = ([], tt)
   answers_exist (tree t more) g slack clock part one most e is grid =

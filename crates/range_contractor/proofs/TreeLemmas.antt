@@ -17,31 +17,38 @@ use Rattle.sat_model.proofs.FittingLemmas.{count_here, count_any, holds_from}
 abbrev Implies : (Pos → ℤ → Type 0) → (Pos → ℤ → Type 0) → Type 0
 Implies S Q = (p : Pos) (b : ℤ) → S p b → Q p b
 
-keeps_less : (S Q : Pos → ℤ → Type 0) (part : GridBox) (clock : Side) (answer : Option GridBox) → Implies S Q → KeepsAllowed Q clock part answer → KeepsAllowed S clock part answer
+keeps_less : (S Q : Pos → ℤ → Type 0) (part : GridBox) (clock : Side) (answer : Option GridBox)
+    → Implies S Q → KeepsAllowed Q clock part answer → KeepsAllowed S clock part answer
 keeps_less S Q part clock None i k = λ p a. k p (record { inside = a.inside; offset = a.offset; in_clock = a.in_clock; allowed = i p a.offset a.allowed })
 keeps_less S Q part clock (Some a') i k = (k.0, λ p a. k.1 p (record { inside = a.inside; offset = a.offset; in_clock = a.in_clock; allowed = i p a.offset a.allowed }))
 
 -- ---- one after the other
 
 keeps_behind : (S : Pos → ℤ → Type 0) (part m : GridBox) (clock : Side) (answer : Option GridBox)
-    → LiesIn m part → ((p : Pos) → IsAllowedIn S part clock p → box_holds m p ≡ true) → KeepsAllowed S clock m answer → KeepsAllowed S clock part answer
+    → LiesIn m part → ((p : Pos) → IsAllowedIn S part clock p → box_holds m p ≡ true)
+    → KeepsAllowed S clock m answer → KeepsAllowed S clock part answer
 keeps_behind S part m clock None lies held k = λ p a. k p (record { inside = held p a; offset = a.offset; in_clock = a.in_clock; allowed = a.allowed })
 keeps_behind S part m clock (Some a') lies held k =
     (lies_through a' m part k.0 lies, λ p a. k.1 p (record { inside = held p a; offset = a.offset; in_clock = a.in_clock; allowed = a.allowed }))
 
 keeps_then : (S : Pos → ℤ → Type 0) (part : GridBox) (clock : Side) (middle answer : Option GridBox) (Next : Contractor)
-    → KeepsAllowed S clock part middle → ((m : GridBox) → LiesIn m part → Next m answer → KeepsAllowed S clock m answer) → Then middle Next answer → KeepsAllowed S clock part answer
+    → KeepsAllowed S clock part middle
+    → ((m : GridBox) → LiesIn m part → Next m answer → KeepsAllowed S clock m answer)
+    → Then middle Next answer → KeepsAllowed S clock part answer
 keeps_then S part clock None answer Next k next is = rw is k
 keeps_then S part clock (Some m) answer Next k next is = keeps_behind S part m clock answer k.0 k.1 (next m k.0 is)
 
-keeps_same : (S : Pos → ℤ → Type 0) (part : GridBox) (clock : Side) (answer : Option GridBox) → LiesIn part part → answer ≡ Some part → KeepsAllowed S clock part answer
+keeps_same : (S : Pos → ℤ → Type 0) (part : GridBox) (clock : Side) (answer : Option GridBox)
+    → LiesIn part part → answer ≡ Some part → KeepsAllowed S clock part answer
 keeps_same S part clock answer lies is = rw is (lies, λ p a. a.inside)
 
 pub lies_itself : (a part : GridBox) → LiesIn a part → LiesIn a a
 lies_itself a part h axis = let u = h axis in record { low = omega (arith, ints); ordered = u.ordered; high = omega (arith, ints) }
 
-keeps_repeated : (S : Pos → ℤ → Type 0) (n : ℕ) (Run : Contractor) (clock : Side) → ((c : GridBox) (a : Option GridBox) → LiesIn c c → Run c a → KeepsAllowed S clock c a)
-    → (part : GridBox) (answer : Option GridBox) → LiesIn part part → Repeats n Run part answer → KeepsAllowed S clock part answer
+keeps_repeated : (S : Pos → ℤ → Type 0) (n : ℕ) (Run : Contractor) (clock : Side)
+    → ((c : GridBox) (a : Option GridBox) → LiesIn c c → Run c a → KeepsAllowed S clock c a)
+    → (part : GridBox) (answer : Option GridBox) → LiesIn part part → Repeats n Run part answer
+    → KeepsAllowed S clock part answer
 keeps_repeated S zero Run clock run part answer lies is = keeps_same S part clock answer lies is
 keeps_repeated S (suc n) Run clock run part answer lies (middle, ran, then) =
     keeps_then S part clock middle answer (Repeats n Run) (run part middle lies ran)
@@ -49,12 +56,14 @@ keeps_repeated S (suc n) Run clock run part answer lies (middle, ran, then) =
 
 -- ---- the meet
 
-pub meet_at : (axis : ℕ) (c d : GridBox) → side_at axis (meet_box c d) ≡ meet_side (side_at axis c) (side_at axis d)
+pub meet_at : (axis : ℕ) (c d : GridBox)
+    → side_at axis (meet_box c d) ≡ meet_side (side_at axis c) (side_at axis d)
 meet_at zero c d = refl
 meet_at (suc zero) c d = refl
 meet_at (suc (suc n)) c d = refl
 
-meet_lies : (axis : ℕ) (part box a : GridBox) → a ≡ meet_box part box → SideLiesIn (side_at axis a) (side_at axis a) → SideLiesIn (side_at axis a) (side_at axis part)
+meet_lies : (axis : ℕ) (part box a : GridBox) → a ≡ meet_box part box
+    → SideLiesIn (side_at axis a) (side_at axis a) → SideLiesIn (side_at axis a) (side_at axis part)
 meet_lies axis part box a is ordered =
     let e : side_at axis a ≡ meet_side (side_at axis part) (side_at axis box) = rw is (meet_at axis part box) in
     record {
@@ -63,10 +72,12 @@ meet_lies axis part box a is ordered =
       high = rw e (omega (arith, ints, clamps));
     }
 
-in_meet : (axis : ℕ) (c d : GridBox) (p : Pos) → IsIn (side_at axis c) (along axis p) → IsIn (side_at axis d) (along axis p) → IsIn (side_at axis (meet_box c d)) (along axis p)
+in_meet : (axis : ℕ) (c d : GridBox) (p : Pos) → IsIn (side_at axis c) (along axis p)
+    → IsIn (side_at axis d) (along axis p) → IsIn (side_at axis (meet_box c d)) (along axis p)
 in_meet axis c d p h k = rw (meet_at axis c d) (omega (arith, ints, clamps, h.0, k.0), omega (arith, ints, clamps, h.1, k.1))
 
-keeps_meet : (part box : GridBox) (clock : Side) (answer : Option GridBox) → IsMeet box part answer → KeepsAllowed (λ p b. box_holds box p ≡ true) clock part answer
+keeps_meet : (part box : GridBox) (clock : Side) (answer : Option GridBox) → IsMeet box part answer
+    → KeepsAllowed (λ p b. box_holds box p ≡ true) clock part answer
 keeps_meet part box clock None none = λ p a. none p a.inside a.allowed
 keeps_meet part box clock (Some a) (is, ordered) = (
   λ axis. meet_lies axis part box a is (ordered axis),
@@ -97,7 +108,8 @@ side_counts_any axis None answers n = omega arith
 side_counts_any axis (Some a) answers n = count_any n ((side_at axis a).lo, (side_at axis a).hi) (sides_of axis answers)
 
 all_but_counted : (axis : ℕ) (kids : TreeList) (q : ℕ) (part : GridBox) (clock : Side) (answers : List (Option GridBox)) (p : Pos) (b : ℤ)
-    → AllKeep kids part clock answers → box_holds part p ≡ true → IsIn clock b → AllButAllow kids q p b
+    → AllKeep kids part clock answers → box_holds part p ≡ true → IsIn clock b
+    → AllButAllow kids q p b
     → count_trees kids ≤ count_by (λ s. holds s (along axis p)) (sides_of axis answers) + q
 all_but_counted axis no_trees q part clock answers p b k i c a = omega arith
 all_but_counted axis (tree t more) q part clock [] p b k i c a = absurd k
@@ -110,7 +122,8 @@ all_but_counted axis (tree t more) (suc q) part clock (answer ∷ answers) p b k
 
 -- each side of the answers lies in the box's
 sides_lie : (axis : ℕ) (kids : TreeList) (part : GridBox) (clock : Side) (answers : List (Option GridBox)) (s : ℤ × ℤ)
-    → AllKeep kids part clock answers → Member s (sides_of axis answers) → ((side_at axis part).lo ≤ℤ s.0) × (s.1 ≤ℤ (side_at axis part).hi)
+    → AllKeep kids part clock answers → Member s (sides_of axis answers)
+    → ((side_at axis part).lo ≤ℤ s.0) × (s.1 ≤ℤ (side_at axis part).hi)
 sides_lie axis no_trees part clock [] s k m = absurd m
 sides_lie axis no_trees part clock (answer ∷ answers) s k m = absurd k
 sides_lie axis (tree t more) part clock [] s k m = absurd k
@@ -124,7 +137,9 @@ no_need : (spans : List (ℤ × ℤ)) (lo hi : ℤ) → IsRelaxedHull spans 0 lo
 no_need spans lo hi h = let w = h.within (hi +ℤ pos 1) (omega arith) in omega (arith, ints, w.1)
 
 hull_lies : (axis : ℕ) (kids : TreeList) (part : GridBox) (clock : Side) (answers : List (Option GridBox)) (need : ℕ) (a : GridBox)
-    → AllKeep kids part clock answers → IsRelaxedHull (sides_of axis answers) need (side_at axis a).lo (side_at axis a).hi → SideLiesIn (side_at axis a) (side_at axis part)
+    → AllKeep kids part clock answers
+    → IsRelaxedHull (sides_of axis answers) need (side_at axis a).lo (side_at axis a).hi
+    → SideLiesIn (side_at axis a) (side_at axis part)
 hull_lies axis kids part clock answers zero a k h = absurd (no_need (sides_of axis answers) _ _ h)
 hull_lies axis kids part clock answers (suc need) a k h =
     let (s, m, l, u) = some_holds (side_at axis a).lo (sides_of axis answers) (omega (arith, h.lo_lies)) in
@@ -135,7 +150,8 @@ hull_lies axis kids part clock answers (suc need) a k h =
     record { low = omega (arith, ints, x.0); ordered = w.1; high = omega (arith, ints, x'.1) }
 
 keeps_relaxed : (q : ℕ) (kids : TreeList) (part : GridBox) (clock : Side) (answers : List (Option GridBox)) (answer : Option GridBox)
-    → AllKeep kids part clock answers → IsRelaxedBox answers (count_trees kids - q) answer → KeepsAllowed (λ p b. AllButAllow kids q p b) clock part answer
+    → AllKeep kids part clock answers → IsRelaxedBox answers (count_trees kids - q) answer
+    → KeepsAllowed (λ p b. AllButAllow kids q p b) clock part answer
 keeps_relaxed q kids part clock answers None k (axis, none) = λ p a.
     none (along axis p) (omega (arith, all_but_counted axis kids q part clock answers p a.offset k a.inside a.in_clock a.allowed))
 keeps_relaxed q kids part clock answers (Some a') k hulls = (
@@ -157,7 +173,8 @@ mutual
   keeps (Within box) grain slack clock part answer lies is = keeps_meet part box clock answer is
 
   keeps_in_turn : (kids : TreeList) (grain slack : ℤ) (clock : Side) (part : GridBox) (answer : Option GridBox)
-      → LiesIn part part → InTurn kids grain slack clock part answer → KeepsAllowed (λ p b. AllButAllow kids zero p b) clock part answer
+      → LiesIn part part → InTurn kids grain slack clock part answer
+      → KeepsAllowed (λ p b. AllButAllow kids zero p b) clock part answer
   keeps_in_turn no_trees grain slack clock part answer lies is = keeps_same _ part clock answer lies is
   keeps_in_turn (tree t more) grain slack clock part answer lies (middle, first, then) =
       keeps_then (λ p b. Allows t p b × AllButAllow more zero p b) part clock middle answer (λ c a. InTurn more grain slack clock c a)
@@ -167,7 +184,8 @@ mutual
       then
 
   all_keep : (kids : TreeList) (grain slack : ℤ) (clock : Side) (part : GridBox) (answers : List (Option GridBox))
-      → LiesIn part part → AreTied kids grain slack clock part answers → AllKeep kids part clock answers
+      → LiesIn part part → AreTied kids grain slack clock part answers
+      → AllKeep kids part clock answers
   all_keep no_trees grain slack clock part [] lies h = tt
   all_keep no_trees grain slack clock part (answer ∷ answers) lies h = absurd h
   all_keep (tree t more) grain slack clock part [] lies h = absurd h

@@ -8,10 +8,12 @@ use Rattle.sat_model.specs.RowTrees.{row_leaf, row_tree}
 use Rattle.sat_model.specs.declared.rows.Row.{Row}
 use Rattle.range_contractor.specs.Views.{tree_value, tree_values}
 
-pub view_relaxed : {I A : Type 0} (low high : I → ℤ) (q : ℕ) (kids : Vec (Tree I A) Global) → tree_value low high (CodeRelaxed q kids) ≡ Relaxed q (tree_values low high kids.items)
+pub view_relaxed : {I A : Type 0} (low high : I → ℤ) (q : ℕ) (kids : Vec (Tree I A) Global)
+    → tree_value low high (CodeRelaxed q kids) ≡ Relaxed q (tree_values low high kids.items)
 view_relaxed low high q kids = search (rules, the_lemmas)
 
-pub view_again : {I A : Type 0} (low high : I → ℤ) (rounds : ℕ) (kid : Box (Tree I A) Global) → tree_value low high (CodeAgain rounds kid) ≡ Again rounds (tree_value low high kid.value)
+pub view_again : {I A : Type 0} (low high : I → ℤ) (rounds : ℕ) (kid : Box (Tree I A) Global)
+    → tree_value low high (CodeAgain rounds kid) ≡ Again rounds (tree_value low high kid.value)
 view_again low high rounds kid = search (rules, the_lemmas)
 
 -- ---- the tree of rows, from the outside in
@@ -28,7 +30,8 @@ relaxed_only m n a b e = (cc, cc)
 
 -- a tree that is that of rows has two rounds of a relaxed tree with a kid for each row
 pub kids_many : {I A : Type 0} (low high : I → ℤ) (grain : ℤ) (q rounds p : ℕ) (before : List Row) (kid : Box (Tree I A) Global) (inner : Tree I A) (kids : Vec (Tree I A) Global)
-    → tree_value low high (CodeAgain rounds kid) ≡ row_tree grain before q → kid.value ≡ inner → inner ≡ CodeRelaxed p kids
+    → tree_value low high (CodeAgain rounds kid) ≡ row_tree grain before q → kid.value ≡ inner
+    → inner ≡ CodeRelaxed p kids
     → (rounds ≡ 2) × (p ≡ q) × (length kids.items ≡ length before)
 kids_many low high grain q rounds p before kid inner kids e is inner_is =
     let (two, rest) = again_only rounds 2 _ _ (sym (view_again low high rounds kid) ∙ e) in

@@ -15,30 +15,35 @@ use Rattle.grid_model.proofs.ProductLemmas.{add_mul, mul_lt_back}
 use Rattle.rinex_nav.specs.FieldBounds.{Between, field_bounds, field_of, IsInside, AreInsideBefore}
 use Rattle.rinex_nav.specs.ElementsOf.{IsRounded, Holds}
 
-pub one_more : (fields : List Decimal) (k : ℕ) → AreInsideBefore fields k → IsInside fields k → AreInsideBefore fields (k + 1)
+pub one_more : (fields : List Decimal) (k : ℕ) → AreInsideBefore fields k → IsInside fields k
+    → AreInsideBefore fields (k + 1)
 one_more fields k before is j from under = elim (eq-or-lt_of_le {n = j} {m = k} (omega arith)) [
   | inl same ↦ subst (IsInside fields) (sym same) is
   | inr less ↦ before j from less
 ]
 
 -- a field whose row of the table is known
-pub inside_row : (fields : List Decimal) (k : ℕ) (unit : Unit) (low high : ℤ) → slice_get field_bounds (k - 1) ≡ Some (Between unit low high)
+pub inside_row : (fields : List Decimal) (k : ℕ) (unit : Unit) (low high : ℤ)
+    → slice_get field_bounds (k - 1) ≡ Some (Between unit low high)
     → IsInside fields k ↔ LiesBetween (field_of fields k).digits (field_of fields k).ten unit low high
 inside_row fields k unit low high row = (λ h. rw row at h, λ h. rw row h)
 
-pub holds_row : (fields : List Decimal) (k : ℕ) (unit : Unit) (low high : ℤ) (field : Wide) → slice_get field_bounds (k - 1) ≡ Some (Between unit low high)
+pub holds_row : (fields : List Decimal) (k : ℕ) (unit : Unit) (low high : ℤ) (field : Wide)
+    → slice_get field_bounds (k - 1) ≡ Some (Between unit low high)
     → IsRounded field (field_of fields k) unit → LiesFrom low high field → Holds fields k field
 holds_row fields k unit low high field row rounded lies = rw row (rounded, lies)
 
 -- the floor and the ceiling are at most one unit apart
-pub narrow : (num den lo hi : ℤ) → pos 0 <ℤ den → IsFloor num den lo → IsCeiling num den hi → hi ≤ℤ (lo +ℤ pos 1)
+pub narrow : (num den lo hi : ℤ) → pos 0 <ℤ den → IsFloor num den lo → IsCeiling num den hi
+    → hi ≤ℤ (lo +ℤ pos 1)
 narrow num den lo hi some f c =
     let under : (hi *ℤ den) <ℤ ((lo +ℤ pos 2) *ℤ den) = omega (arith, ints, add_mul lo (pos 2) den, f.gt, c.lt) in
     let less : hi <ℤ (lo +ℤ pos 2) = mul_lt_back hi (lo +ℤ pos 2) den some under in
     omega (arith, ints, less)
 
 -- under a whole number is what has its floor there
-pub under_floor : (number : Decimal) (high q : ℤ) → IsFloor (numerator number.digits number.ten Time) (pos (denominator number.ten Time)) q
+pub under_floor : (number : Decimal) (high q : ℤ)
+    → IsFloor (numerator number.digits number.ten Time) (pos (denominator number.ten Time)) q
     → (q <ℤ high) ↔ (numerator number.digits number.ten Time <ℤ (high *ℤ pos (denominator number.ten Time)))
 under_floor number high q f =
     let some = some_parts number.ten Time in

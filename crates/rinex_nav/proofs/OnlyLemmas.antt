@@ -76,7 +76,9 @@ clock_only count line =
 text_only : (both : Bool) (line : TextLine) → IsOnly (further_text both line)
 text_only both line = test_only _ _ _ (test_only _ _ _ (test_only _ _ _ (test_only _ _ _ (gives_only tt))))
 
-further_only : {V : Type 0} (both : Bool) (Are : List ℕ → V → Type 0) → ((text : List ℕ) → IsOnly (Are text)) → (line : TextLine) → IsOnly (further_line both Are line)
+further_only : {V : Type 0} (both : Bool) (Are : List ℕ → V → Type 0)
+    → ((text : List ℕ) → IsOnly (Are text)) → (line : TextLine)
+    → IsOnly (further_line both Are line)
 further_only both Are one line = then_only _ _ (text_only both line) (λ passed. read_only _ _ _ (one line.text) (λ v. gives_only v))
 
 record_only : (both : Bool) (count : ℕ) (from : Behind) → IsOnly (record_from both count from)
@@ -112,18 +114,23 @@ records_only both count number zero (line ∷ more) x y a b = elim a [
   ]
 ]
 
-pub file_only : (both : Bool) (lines : List TextLine) (x y : Result (List Broadcast) Refusal) → nav_file_of both lines x → nav_file_of both lines y → x ≡ y
+pub file_only : (both : Bool) (lines : List TextLine) (x y : Result (List Broadcast) Refusal)
+    → nav_file_of both lines x → nav_file_of both lines y → x ≡ y
 file_only both lines = then_only _ _ (version_by_only both 78 lines) (λ header. then_only _ _ (header_only header.number header.lines) (λ body. records_only both 0 body.number 0 (counted body.lines)))
 
 -- ---- answers
 
-pub gives_records : (both : Bool) (text : List ℕ) (records : List Broadcast) (given : Result (List NavRecord) ReadError) → IfOk given (λ nav. IsNavFileOf both text (records_of nav)) → IfErr given (Refuses (nav_file_of both (lines_of text)))
+pub gives_records : (both : Bool) (text : List ℕ) (records : List Broadcast) (given : Result (List NavRecord) ReadError)
+    → IfOk given (λ nav. IsNavFileOf both text (records_of nav))
+    → IfErr given (Refuses (nav_file_of both (lines_of text)))
     → IsNavFileOf both text records → GivesRecords records given
 gives_records both text records (Ok nav) is fault file = ok_same _ _ (file_only both (lines_of text) _ _ is file)
 gives_records both text records (Err (Refused r)) is fault file = absurd (not_both _ _ (file_only both (lines_of text) _ _ file fault))
 gives_records both text records (Err NoMemory) is fault file = refl
 
-pub gives_refusal : (both : Bool) (text : List ℕ) (r : Refusal) (given : Result (List NavRecord) ReadError) → IfOk given (λ nav. IsNavFileOf both text (records_of nav)) → IfErr given (Refuses (nav_file_of both (lines_of text)))
+pub gives_refusal : (both : Bool) (text : List ℕ) (r : Refusal) (given : Result (List NavRecord) ReadError)
+    → IfOk given (λ nav. IsNavFileOf both text (records_of nav))
+    → IfErr given (Refuses (nav_file_of both (lines_of text)))
     → IsFirstFaultOf both text r → GivesRefusal r given
 gives_refusal both text r (Ok nav) is fault first = not_both _ _ (file_only both (lines_of text) _ _ is first)
 gives_refusal both text r (Err (Refused other)) is fault first = inl (ap (λ u. Refused u) (err_same _ _ (file_only both (lines_of text) _ _ fault first)))

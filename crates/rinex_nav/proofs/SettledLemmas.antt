@@ -20,7 +20,8 @@ use Rattle.rinex_nav.specs.declared.record.NavRecord.{NavRecord}
 -- ---- a record
 
 -- a record, or none, is no fault
-no_fault : {X : Type 0} (Kept : Type 0) (v w : X) (r : Refusal) → where_holds Kept (gives v) (gives w) (Err r) → ⊥
+no_fault : {X : Type 0} (Kept : Type 0) (v w : X) (r : Refusal)
+    → where_holds Kept (gives v) (gives w) (Err r) → ⊥
 no_fault Kept v w r (inl (kept, e)) = not_both v r (sym e)
 no_fault Kept v w r (inr (other, e)) = not_both w r (sym e)
 
@@ -44,7 +45,9 @@ record_read both count number =
 -- ---- the body
 
 -- a record with a fault in it begins with this line
-begun_settled : (both : Bool) (count number : ℕ) (line : TextLine) (more : List TextLine) (r f : Refusal) → r ≡ f → BeginsRecord both line → Settles number (λ lines. record_from both count (record { number = number; lines = lines })) (line ∷ more) f
+begun_settled : (both : Bool) (count number : ℕ) (line : TextLine) (more : List TextLine) (r f : Refusal)
+    → r ≡ f → BeginsRecord both line
+    → Settles number (λ lines. record_from both count (record { number = number; lines = lines })) (line ∷ more) f
     → Settles number (records_from both count number zero) (line ∷ more) r
 begun_settled both count number line more r f same begins s = record {
   behind = s.behind;
@@ -61,7 +64,8 @@ record SettlesBehind (both : Bool) (count number read : ℕ) (lines : List TextL
   behind : read ≤ settled.behind
 
 -- a fault behind a record is that of what comes later
-later_fault : (first : Option Broadcast) (more : Result (List Broadcast) Refusal) (r : Refusal) → Err r ≡ with_first first more → more ≡ Err r
+later_fault : (first : Option Broadcast) (more : Result (List Broadcast) Refusal) (r : Refusal)
+    → Err r ≡ with_first first more → more ≡ Err r
 later_fault first (Ok records) r e = absurd (not_both _ r (sym e))
 later_fault first (Err f) r e = ap (λ (q : Refusal). Err q) (sym (err_same r f e))
 
@@ -101,7 +105,8 @@ records_settled both count number zero (line ∷ more) r (inr (other, inr (long,
 
 -- ---- files
 
-settled_file : (both : Bool) (lines others : List TextLine) (r : Refusal) → nav_file_of both lines (Err r) → AgreeTo r.line lines others → nav_file_of both others (Err r)
+settled_file : (both : Bool) (lines others : List TextLine) (r : Refusal)
+    → nav_file_of both lines (Err r) → AgreeTo r.line lines others → nav_file_of both others (Err r)
 settled_file both lines others r (inr (f, v, e)) agree =
     let same : r ≡ f = err_same r f e in
     let s = version_by_settled both 78 lines f v in
@@ -134,7 +139,9 @@ settled_file both (line ∷ more) others r (inl (version, v, inl (body, h, b))) 
       inl (behind, subst (λ (n : ℕ). header_from n (front.front ++ here.rest) (Ok behind)) top.1 (front.stands here.rest), s.moves (counted here.rest) here.alike),
     ))
 
-pub settled_read : (both : Bool) (text : List ℕ) (read : Result (List NavRecord) ReadError) → IfErr read (Refuses (nav_file_of both (lines_of text))) → IfErr read (IsSettled (nav_file_of both) text)
+pub settled_read : (both : Bool) (text : List ℕ) (read : Result (List NavRecord) ReadError)
+    → IfErr read (Refuses (nav_file_of both (lines_of text)))
+    → IfErr read (IsSettled (nav_file_of both) text)
 settled_read both text (Ok nav) h = tt
 settled_read both text (Err NoMemory) h = tt
 settled_read both text (Err (Refused r)) h = λ other agree. settled_file both (lines_of text) (lines_of other) r h agree

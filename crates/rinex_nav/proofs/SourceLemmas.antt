@@ -30,7 +30,8 @@ module _ (number : Decimal) where
   num = numerator number.digits number.ten Length
 
   -- a whole number lies where it is looked for
-  pub whole_lies : (v : ℕ) → IsWhole number v → LiesBetween number.digits number.ten Length (pos 0) (pos 1023000000)
+  pub whole_lies : (v : ℕ) → IsWhole number v
+      → LiesBetween number.digits number.ten Length (pos 0) (pos 1023000000)
   whole_lies v w =
       let some = some_parts number.ten Length in
       let from = mul_mono (pos 0) (pos (v * 10 ^ 6)) (pos (denominator number.ten Length)) (omega (arith, ints)) (omega (arith, ints)) in
@@ -38,14 +39,20 @@ module _ (number : Decimal) where
       record { from = omega (arith, ints, from, w.is); to = omega (arith, ints, to, w.is) }
 
   -- and both are it, in 10^-6
-  pub whole_floor : (v : ℕ) (lo : ℤ) → IsWhole number v → IsFloor (numerator number.digits number.ten Length) (pos (denominator number.ten Length)) lo → lo ≡ pos (v * 10 ^ 6)
+  pub whole_floor : (v : ℕ) (lo : ℤ) → IsWhole number v
+      → IsFloor (numerator number.digits number.ten Length) (pos (denominator number.ten Length)) lo
+      → lo ≡ pos (v * 10 ^ 6)
   whole_floor v lo w f = floor_exact _ _ lo (pos (v * 10 ^ 6)) (some_parts number.ten Length) w.is f
 
-  pub whole_ceiling : (v : ℕ) (hi : ℤ) → IsWhole number v → IsCeiling (numerator number.digits number.ten Length) (pos (denominator number.ten Length)) hi → hi ≡ pos (v * 10 ^ 6)
+  pub whole_ceiling : (v : ℕ) (hi : ℤ) → IsWhole number v
+      → IsCeiling (numerator number.digits number.ten Length) (pos (denominator number.ten Length)) hi
+      → hi ≡ pos (v * 10 ^ 6)
   whole_ceiling v hi w f = ceiling_exact _ _ hi (pos (v * 10 ^ 6)) (some_parts number.ten Length) w.is f
 
   -- where both are one number of 10^6
-  pub is_whole : (v : ℕ) (lo hi : ℤ) → IsFloor (numerator number.digits number.ten Length) (pos (denominator number.ten Length)) lo → IsCeiling (numerator number.digits number.ten Length) (pos (denominator number.ten Length)) hi
+  pub is_whole : (v : ℕ) (lo hi : ℤ)
+      → IsFloor (numerator number.digits number.ten Length) (pos (denominator number.ten Length)) lo
+      → IsCeiling (numerator number.digits number.ten Length) (pos (denominator number.ten Length)) hi
       → lo ≡ hi → lo ≡ pos (v * 10 ^ 6) → v ≤ 1023 → IsWhole number v
   is_whole v lo hi f g e is few =
       let same = ap (λ (z : ℤ). z *ℤ pos (denominator number.ten Length)) is in

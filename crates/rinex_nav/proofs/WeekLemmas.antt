@@ -13,7 +13,9 @@ use Rattle.rinex_nav.specs.Weeks.{IsNearestWeek, IsEphemerisTime, IsAge}
 use Rattle.rinex_nav.specs.FieldBounds.{field_of}
 use Rattle.rinex_nav.specs.declared.record.NavRecord.{NavRecord}
 
-pub nearest_is : (toc toe weeks start : ℤ) → IsFloor ((toc -ℤ toe) +ℤ pos 302400000000000000) (pos 604800000000000000) weeks → start ≡ weeks *ℤ pos 604800000000000000 → IsNearestWeek toc toe start
+pub nearest_is : (toc toe weeks start : ℤ)
+    → IsFloor ((toc -ℤ toe) +ℤ pos 302400000000000000) (pos 604800000000000000) weeks
+    → start ≡ weeks *ℤ pos 604800000000000000 → IsNearestWeek toc toe start
 nearest_is toc toe weeks start f e = record {
   weeks = weeks;
   start_is = e;
@@ -22,27 +24,31 @@ nearest_is toc toe weeks start f e = record {
 }
 
 -- the ephemeris time is near the clock time
-pub time_size : (toc toe start : ℤ) → IsNearestWeek toc toe start → pos 0 ≤ℤ toc → toc <ℤ pos 4000000000000000000000 → pos 0 ≤ℤ toe → toe ≤ℤ pos 604800000000000000
+pub time_size : (toc toe start : ℤ) → IsNearestWeek toc toe start → pos 0 ≤ℤ toc
+    → toc <ℤ pos 4000000000000000000000 → pos 0 ≤ℤ toe → toe ≤ℤ pos 604800000000000000
     → IsWithin (5 * 10 ^ 21) start × IsWithin (10 ^ 22) (start +ℤ toe)
 time_size toc toe start w a b c d =
     let after : neg_ℤ (pos 302400000000000000) <ℤ ((start +ℤ toe) -ℤ toc) = w.after in
     let before : ((start +ℤ toe) -ℤ toc) ≤ℤ pos 302400000000000000 = w.before in
     (record { low = omega (arith, ints); high = omega (arith, ints) }, record { low = omega (arith, ints); high = omega (arith, ints) })
 
-within_second : (toc toe other start : ℤ) → IsNearestWeek toc toe start → toe ≤ℤ other → other ≤ℤ (toe +ℤ pos 1) → IsWithin 302401000000000000 (toc -ℤ (start +ℤ other))
+within_second : (toc toe other start : ℤ) → IsNearestWeek toc toe start → toe ≤ℤ other
+    → other ≤ℤ (toe +ℤ pos 1) → IsWithin 302401000000000000 (toc -ℤ (start +ℤ other))
 within_second toc toe other start w low high =
     let after : neg_ℤ (pos 302400000000000000) <ℤ ((start +ℤ toe) -ℤ toc) = w.after in
     let before : ((start +ℤ toe) -ℤ toc) ≤ℤ pos 302400000000000000 = w.before in
     record { low = omega (arith, ints); high = omega (arith, ints) }
 
 -- both ends of the ephemeris time are
-pub is_near : (toc start : ℤ) (toe : Wide) → IsNearestWeek toc toe.lo start → LiesFrom (pos 0) (pos week) toe → IsNearTime toc start toe
+pub is_near : (toc start : ℤ) (toe : Wide) → IsNearestWeek toc toe.lo start
+    → LiesFrom (pos 0) (pos week) toe → IsNearTime toc start toe
 is_near toc start toe w f = record {
   low = within_second toc toe.lo toe.lo start w (omega (arith, ints)) (omega (arith, ints));
   high = within_second toc toe.lo toe.hi start w toe.ordered f.narrow;
 }
 
-pub apart_fits : (a b : ℤ) → pos 0 ≤ℤ a → a <ℤ pos 4000000000000000000000 → IsWithin (10 ^ 22) b → FitsSigned w128 (a -ℤ b)
+pub apart_fits : (a b : ℤ) → pos 0 ≤ℤ a → a <ℤ pos 4000000000000000000000 → IsWithin (10 ^ 22) b
+    → FitsSigned w128 (a -ℤ b)
 apart_fits a b from under size =
     let low : neg_ℤ (pos 10000000000000000000000) ≤ℤ b = size.low in
     let high : b ≤ℤ pos 10000000000000000000000 = size.high in

@@ -31,13 +31,16 @@ AreNoStarts both count lines = AllByRecursion (IsNoStart both) (take count lines
 
 -- a line that begins no record, before so many that don't
 first_more : {V X : Type 0} (both : Bool) (reader : TextLine → Result V Fault → Type 0) (number : ℕ) (lines : List TextLine) (later : V → Behind → Result X Refusal → Type 0) (x : X) (k : ℕ)
-    → ((line : TextLine) (v : V) → reader line (Ok v) → IsNoStart both line) → first_of reader number lines later (Ok x) → ((v : V) (next : Behind) → later v next (Ok x) → AreNoStarts both k next.lines)
+    → ((line : TextLine) (v : V) → reader line (Ok v) → IsNoStart both line)
+    → first_of reader number lines later (Ok x)
+    → ((v : V) (next : Behind) → later v next (Ok x) → AreNoStarts both k next.lines)
     → AreNoStarts both (suc k) lines
 first_more both reader number [] later x k start e rest = absurd cc
 first_more both reader number (line ∷ more) later x k start (inl (v, is, goes)) rest = (start line v is, rest v (record { number = number + 1; lines = more }) goes)
 first_more both reader number (line ∷ more) later x k start (inr (f, is, e)) rest = absurd cc
 
-no_letter : (byte letter : ℕ) → is_blank byte ≡ true → is_blank letter ≡ false → (byte == letter) ≡ false
+no_letter : (byte letter : ℕ) → is_blank byte ≡ true → is_blank letter ≡ false
+    → (byte == letter) ≡ false
 no_letter byte letter blank other = elim (byte == letter) as (λ b. (b ≡ true → byte ≡ letter) → b ≡ false) [
   | true ↦ λ is. absurd (let e : is_blank letter ≡ true = subst (λ n. is_blank n ≡ true) (is refl) blank in cc)
   | false ↦ λ is. refl
@@ -52,18 +55,22 @@ none_of false false e p q = refl
 no_start : (both : Bool) (byte : ℕ) → is_blank byte ≡ true → is_read both byte ≡ false
 no_start both byte blank = none_of both (byte == 71) (byte == 69) (no_letter byte 71 blank refl) (no_letter byte 69 blank refl)
 
-blank_first : (both : Bool) (line : TextLine) (passed : Unit {0}) → further_text both line (Ok passed) → IsNoStart both line
+blank_first : (both : Bool) (line : TextLine) (passed : Unit {0})
+    → further_text both line (Ok passed) → IsNoStart both line
 blank_first both line passed (inl (short, inl (may, inl (printable, inl (blank, e))))) = no_start both (column_of line.text 1) blank
 blank_first both line passed (inl (short, inl (may, inl (printable, inr (other, e))))) = absurd cc
 blank_first both line passed (inl (short, inl (may, inr (other, e)))) = absurd cc
 blank_first both line passed (inl (short, inr (other, e))) = absurd cc
 blank_first both line passed (inr (other, e)) = absurd cc
 
-further_no_start : {V : Type 0} (both : Bool) (AreFields : List ℕ → V → Type 0) (line : TextLine) (v : V) → further_line both AreFields line (Ok v) → IsNoStart both line
+further_no_start : {V : Type 0} (both : Bool) (AreFields : List ℕ → V → Type 0) (line : TextLine) (v : V)
+    → further_line both AreFields line (Ok v) → IsNoStart both line
 further_no_start both AreFields line v (inl (passed, text, fields)) = blank_first both line passed text
 further_no_start both AreFields line v (inr (f, text, e)) = absurd cc
 
-seven_more : (both : Bool) (count number : ℕ) (line : TextLine) (more : List TextLine) (r : Option Broadcast) → record_from both count (record { number = number; lines = line ∷ more }) (Ok r) → AreNoStarts both 7 more
+seven_more : (both : Bool) (count number : ℕ) (line : TextLine) (more : List TextLine) (r : Option Broadcast)
+    → record_from both count (record { number = number; lines = line ∷ more }) (Ok r)
+    → AreNoStarts both 7 more
 seven_more both count number line more r (inl (clock, is, goes)) =
     first_more both (further_line both LastFields) (number + 1) more _ r 6 (further_no_start both LastFields) goes (λ a l2 g2.
     first_more both (further_line both AllFields) l2.number l2.lines _ r 5 (further_no_start both AllFields) g2 (λ b l3 g3.
@@ -82,14 +89,17 @@ record IsAllOf (both : Bool) (lines : List TextLine) (records : List Broadcast) 
   are : OneForOne (IsRecordOf both) (from_first_lines both lines) all
   kept : records ≡ kept_of all
 
-passed_over : (both : Bool) (line : TextLine) (more : List TextLine) (records : List Broadcast) → begins_record both line ≡ false → IsAllOf both more records → IsAllOf both (line ∷ more) records
+passed_over : (both : Bool) (line : TextLine) (more : List TextLine) (records : List Broadcast)
+    → begins_record both line ≡ false → IsAllOf both more records
+    → IsAllOf both (line ∷ more) records
 passed_over both line more records other a = record {
   all = a.all;
   are = subst (λ (b : Bool). OneForOne (IsRecordOf both) (cond b ((line ∷ more) ∷ from_first_lines both more) (from_first_lines both more)) a.all) (sym other) a.are;
   kept = a.kept;
 }
 
-begun : (both : Bool) (line : TextLine) (more : List TextLine) (r : Option Broadcast) (rest records : List Broadcast) → begins_record both line ≡ true → IsRecordOf both (line ∷ more) r → IsAllOf both more rest
+begun : (both : Bool) (line : TextLine) (more : List TextLine) (r : Option Broadcast) (rest records : List Broadcast)
+    → begins_record both line ≡ true → IsRecordOf both (line ∷ more) r → IsAllOf both more rest
     → records ≡ with_kept r rest → IsAllOf both (line ∷ more) records
 begun both line more r rest records begins is a e = record {
   all = r ∷ a.all;
@@ -98,11 +108,14 @@ begun both line more r rest records begins is a e = record {
 }
 
 -- what stands behind a record gave a list, where all gave one
-rest_of : (r : Option Broadcast) (more : Result (List Broadcast) Refusal) (records : List Broadcast) → Ok records ≡ with_first r more → (rest : List Broadcast) × (more ≡ Ok rest) × (records ≡ with_kept r rest)
+rest_of : (r : Option Broadcast) (more : Result (List Broadcast) Refusal) (records : List Broadcast)
+    → Ok records ≡ with_first r more
+    → (rest : List Broadcast) × (more ≡ Ok rest) × (records ≡ with_kept r rest)
 rest_of r (Ok rest) records e = (rest, refl, same_ok records (with_kept r rest) e)
 rest_of r (Err f) records e = absurd cc
 
-none_read : (both : Bool) (records : List Broadcast) → ◌≡◌ {A = Result (List Broadcast) Refusal} (Ok records) (Ok []) → IsAllOf both [] records
+none_read : (both : Bool) (records : List Broadcast)
+    → ◌≡◌ {A = Result (List Broadcast) Refusal} (Ok records) (Ok []) → IsAllOf both [] records
 none_read both records e = record { all = []; are = tt; kept = same_ok records [] e }
 
 records_walk : (both : Bool) (count number skip : ℕ) (lines : List TextLine) (records : List Broadcast) → AreNoStarts both skip lines → records_from both count number skip lines (Ok records)
@@ -129,7 +142,8 @@ record IsTop (lines : List TextLine) (behind : List TextLine) : Type 0 where
   none_before : AllByRecursion (λ line. IsHeaderEnd line → ⊥) header
   short : AllByRecursion IsShort (header ++ end ∷ [])
 
-top_of : (number : ℕ) (lines : List TextLine) (behind : Behind) → header_from number lines (Ok behind) → IsTop lines behind.lines
+top_of : (number : ℕ) (lines : List TextLine) (behind : Behind)
+    → header_from number lines (Ok behind) → IsTop lines behind.lines
 top_of number [] behind e = absurd cc
 top_of number (line ∷ more) behind (inl (short, inl (is, e))) =
     let same : more ≡ behind.lines = ap (λ (b : Behind). b.lines) (sym (same_ok behind (record { number = number + 1; lines = more }) e)) in
@@ -144,7 +158,8 @@ record IsBehindVersion (lines : List TextLine) (version : Behind) : Type 0 where
   spelled : lines ≡ line ∷ version.lines
   short : IsShort line
 
-behind_version : (both : Bool) (lines : List TextLine) (version : Behind) → version_by both 78 lines (Ok version) → IsBehindVersion lines version
+behind_version : (both : Bool) (lines : List TextLine) (version : Behind)
+    → version_by both 78 lines (Ok version) → IsBehindVersion lines version
 behind_version both [] version e = absurd cc
 behind_version both (line ∷ more) version (inl (passed, inl (short, label), e)) =
     record { line = line; spelled = ap (λ (l : List TextLine). line ∷ l) (ap (λ (b : Behind). b.lines) (sym (same_ok version (record { number = 2; lines = more }) e))); short = short }
@@ -153,7 +168,8 @@ behind_version both (line ∷ more) version (inr (f, is, e)) = absurd cc
 
 -- ---- files
 
-whole : (both : Bool) (text : List ℕ) (records : List Broadcast) → IsNavFileOf both text records → IsWholeOf both (lines_of text) records
+whole : (both : Bool) (text : List ℕ) (records : List Broadcast) → IsNavFileOf both text records
+    → IsWholeOf both (lines_of text) records
 whole both text records (inl (version, v, inl (body, b, h))) =
     let first = behind_version both (lines_of text) version v in
     let top = top_of version.number version.lines body b in
@@ -169,6 +185,8 @@ whole both text records (inl (version, v, inl (body, b, h))) =
 whole both text records (inl (version, v, inr (f, b, e))) = absurd cc
 whole both text records (inr (f, v, e)) = absurd cc
 
-pub whole_read : (both : Bool) (text : List ℕ) (read : Result (List NavRecord) ReadError) → IfOk read (λ nav. IsNavFileOf both text (records_of nav)) → IfOk read (λ nav. IsWholeOf both (lines_of text) (records_of nav))
+pub whole_read : (both : Bool) (text : List ℕ) (read : Result (List NavRecord) ReadError)
+    → IfOk read (λ nav. IsNavFileOf both text (records_of nav))
+    → IfOk read (λ nav. IsWholeOf both (lines_of text) (records_of nav))
 whole_read both text (Ok nav) file = whole both text (records_of nav) file
 whole_read both text (Err e) file = tt

@@ -61,7 +61,9 @@ same_notice : {V : Type 0} (n m : Notice) → ◌≡◌ {A = Result V Notice} (E
 same_notice n m e = cc
 
 module _ (before after : ShelfState) (reliable : Option (List ℕ) → Type 0) (sure : reliable None) (limits : Limits) (files : Files) where
-  file_sound : {V : Type 0} (text : Text V) (limit : ℕ) (file : Option (List ℕ)) → is_some file ≡ true → (n : Notice) → ReadsFile text limit (MayBreak before after reliable) (Some file) (Err n)
+  file_sound : {V : Type 0} (text : Text V) (limit : ℕ) (file : Option (List ℕ))
+      → is_some file ≡ true → (n : Notice)
+      → ReadsFile text limit (MayBreak before after reliable) (Some file) (Err n)
       → status_of n ≡ status.ReadFault → ⊥
   file_sound text limit None there n reads is = let e : false ≡ true = there in cc
   file_sound text limit (Some bytes) there n (inl (inl (short, (refused, names)))) is = apart (status_of n) refused is
@@ -70,15 +72,19 @@ module _ (before after : ShelfState) (reliable : Option (List ℕ) → Type 0) (
       let f : status.NoMemory ≡ status.ReadFault = sym (ap status_of (same_notice n m e ∙ none)) ∙ is in cc
   file_sound text limit (Some bytes) there n (inr (m, e, may, inr (fault, counted))) is = counted.unreliable None sure
 
-  named_sound : {V : Type 0} (text : Text V) (name : List ℕ) → IsThere files name → NeverFails (MayBreak before after reliable) files (Named limits text name)
+  named_sound : {V : Type 0} (text : Text V) (name : List ℕ) → IsThere files name
+      → NeverFails (MayBreak before after reliable) files (Named limits text name)
   named_sound text name there n reads is = file_sound text (limit_of limits text.role) (map.get files name) there n reads is
 
-  then_sound : {V W : Type 0} (first : Reading V) (later : V → Reading W) → NeverFails (MayBreak before after reliable) files first → ((v : V) → NeverFails (MayBreak before after reliable) files (later v))
+  then_sound : {V W : Type 0} (first : Reading V) (later : V → Reading W)
+      → NeverFails (MayBreak before after reliable) files first
+      → ((v : V) → NeverFails (MayBreak before after reliable) files (later v))
       → NeverFails (MayBreak before after reliable) files (Then first later)
   then_sound first later one more n (inl (v, is, goes)) = more v n goes
   then_sound first later one more n (inr (m, is, e)) = λ fault. one m is (sym (ap status_of (same_notice n m e)) ∙ fault)
 
-  returns_sound : {V : Type 0} (v : V) → NeverFails (MayBreak before after reliable) files (Returns v)
+  returns_sound : {V : Type 0} (v : V)
+      → NeverFails (MayBreak before after reliable) files (Returns v)
   returns_sound v n e is = cc
 
 -- ---- how much a log has
@@ -86,27 +92,32 @@ module _ (before after : ShelfState) (reliable : Option (List ℕ) → Type 0) (
 front_fits : (front bytes : List ℕ) → IsFrontOf front bytes → length front ≤ length bytes
 front_fits front bytes (kept, e) = omega (arith, ap length e, length-take kept bytes)
 
-log_fits : (text : List Piece) (log report : List ℕ) → LogBreaks text log report → length log ≤ length (log_bytes text)
+log_fits : (text : List Piece) (log report : List ℕ) → LogBreaks text log report
+    → length log ≤ length (log_bytes text)
 log_fits text log report b =
     let all : length (log_bytes text) ≡ length (log_bytes b.earlier) + length (log_bytes b.later) = ap (λ (t : List Piece). length (log_bytes t)) b.all ∙ (ap length (log_bytes-append b.earlier b.later) ∙ length-append _ _) in
     let has : length log ≡ length (log_bytes b.earlier) + length b.rest = ap length b.log_is ∙ length-append _ _ in
     omega (arith, all, has, front_fits b.rest (log_bytes b.later) b.front)
 
-broke_fits : (limit : ℕ) (pieces : List Piece) (fault : WriteFault) (log report : List ℕ) → BrokeOff limit pieces fault log report → length log ≤ limit
+broke_fits : (limit : ℕ) (pieces : List Piece) (fault : WriteFault) (log report : List ℕ)
+    → BrokeOff limit pieces fault log report → length log ≤ limit
 broke_fits limit pieces why.Log log report b = omega (arith, b.fits, log_fits b.text log report b.leaves)
 broke_fits limit pieces why.Out log report b = omega (arith, b.fits, ap length b.leaves.0)
 broke_fits limit pieces why.Full log report b = omega (arith, b.fits, ap length b.leaves.0)
 broke_fits limit pieces why.NoMemory log report b = omega (arith, b.fits, ap length b.leaves.0)
 
-text_fits : {B : Type 0} (source : Source B) (rules : Rules) (first last : B) (limit : ℕ) (answer : Answer) (bytes said : List ℕ) → IsText source rules first last limit answer bytes said → length bytes ≤ limit
+text_fits : {B : Type 0} (source : Source B) (rules : Rules) (first last : B) (limit : ℕ) (answer : Answer) (bytes said : List ℕ)
+    → IsText source rules first last limit answer bytes said → length bytes ≤ limit
 text_fits source rules first last limit (Ok done) bytes said whole = whole.fits
 text_fits source rules first last limit (Err fault) bytes said begun = broke_fits limit _ fault bytes said begun.broke
 
-solution_fits : (chosen : Selection) (i : Inputs) (limit : ℕ) (answer : Answer) (bytes said : List ℕ) → IsSolution chosen i limit answer bytes said → length bytes ≤ limit
+solution_fits : (chosen : Selection) (i : Inputs) (limit : ℕ) (answer : Answer) (bytes said : List ℕ)
+    → IsSolution chosen i limit answer bytes said → length bytes ≤ limit
 solution_fits chosen i limit (Ok done) bytes said solved = solved.whole.fits
 solution_fits chosen i limit (Err fault) bytes said solved = broke_fits limit _ fault bytes said solved.begun.broke
 
-track_fits : (chosen : Selection) (i : Inputs) (limit : ℕ) (answer : Answer) (bytes said : List ℕ) → IsTrack chosen i limit answer bytes said → length bytes ≤ limit
+track_fits : (chosen : Selection) (i : Inputs) (limit : ℕ) (answer : Answer) (bytes said : List ℕ)
+    → IsTrack chosen i limit answer bytes said → length bytes ≤ limit
 track_fits chosen i limit (Ok done) bytes said tracked = tracked.track.whole.fits
 track_fits chosen i limit (Err fault) bytes said tracked = broke_fits limit _ fault bytes said tracked.begun.broke
 
@@ -119,7 +130,9 @@ record HasWritten (limit : ℕ) (before : Told) (after : ShelfState) : Type 0 wh
   terms : told.terms ≡ before.terms
   few : told.written ≤ before.written + limit
 
-kept_told : (limit : ℕ) (before : Told) (after : ShelfState) (count : ℕ) → terms_of after ≡ Some before.terms → written_of after ≡ Some count → count ≤ before.written + limit → HasWritten limit before after
+kept_told : (limit : ℕ) (before : Told) (after : ShelfState) (count : ℕ)
+    → terms_of after ≡ Some before.terms → written_of after ≡ Some count
+    → count ≤ before.written + limit → HasWritten limit before after
 kept_told limit before after count terms written few = elim after.told as (λ o. after.told ≡ o → option_map (λ (t : Told). t.terms) o ≡ Some before.terms → option_map (λ (t : Told). t.written) o ≡ Some count → HasWritten limit before after) [
   | None ↦ λ tells e f. absurd cc
   | Some t ↦ λ tells e f.
@@ -128,11 +141,14 @@ kept_told limit before after count terms written few = elim after.told as (λ o.
       record { told = t; tells = tells; terms = same; few = omega (arith, counts, few) }
 ] refl terms written
 
-left_told : (limit : ℕ) (told : Told) (before after : ShelfState) → before.told ≡ Some told → LeavesFiles before after → HasWritten limit told after
+left_told : (limit : ℕ) (told : Told) (before after : ShelfState) → before.told ≡ Some told
+    → LeavesFiles before after → HasWritten limit told after
 left_told limit told before after tells leaves =
     kept_told limit told after told.written (leaves.terms ∙ ap (option_map (λ (t : Told). t.terms)) tells) (leaves.written ∙ ap (option_map (λ (t : Told). t.written)) tells) (omega arith)
 
-written_told : (limit : ℕ) (told : Told) (before after : ShelfState) (name bytes : List ℕ) → before.told ≡ Some told → Rewrites before after name bytes → length bytes ≤ limit → HasWritten limit told after
+written_told : (limit : ℕ) (told : Told) (before after : ShelfState) (name bytes : List ℕ)
+    → before.told ≡ Some told → Rewrites before after name bytes → length bytes ≤ limit
+    → HasWritten limit told after
 written_told limit told before after name bytes tells log fits =
     kept_told limit told after (told.written + length bytes) (log.terms ∙ ap (option_map (λ (t : Told). t.terms)) tells)
     (log.written ∙ ap (λ (o : Option Told). option_map (λ count. count + length bytes) (option_map (λ (t : Told). t.written) o)) tells) (omega (arith, fits))
@@ -147,7 +163,9 @@ took_none : (before after : SinkState) → after ≡ before → Takes before aft
 took_none before after e = ([], ap (λ (s : SinkState). s.told) e ∙ taking-none before.told)
 
 module _ (Yes No : List ℕ → Type 0) (before after : World) (trust : Trust) where
-  told_takes : (s : Status) → Tells Yes No (sinks before.out before.err) (sinks after.out after.err) trust.out s → Takes before.out after.out
+  told_takes : (s : Status)
+      → Tells Yes No (sinks before.out before.err) (sinks after.out after.err) trust.out s
+      → Takes before.out after.out
   told_takes status.Done (line, says, prints) = (line, prints.0)
   told_takes status.No (line, says, prints) = (line, prints.0)
   told_takes status.WriteFault (line, which, breaks) = (take breaks.prefix.0 line, breaks.prefix.2)
@@ -157,7 +175,9 @@ module _ (Yes No : List ℕ → Type 0) (before after : World) (trust : Trust) w
   told_takes status.ReadFault t = absurd t
   told_takes status.LogFull t = absurd t
 
-  told_sound : (s : Status) → trust.out → Tells Yes No (sinks before.out before.err) (sinks after.out after.err) trust.out s → IsFault s → ⊥
+  told_sound : (s : Status) → trust.out
+      → Tells Yes No (sinks before.out before.err) (sinks after.out after.err) trust.out s
+      → IsFault s → ⊥
   told_sound status.Done out t (inl e) = cc
   told_sound status.Done out t (inr e) = cc
   told_sound status.No out t (inl e) = cc
@@ -199,16 +219,21 @@ module _ (limit seed count : ℕ) (before after : World) (trust : Trust) where
   makes_sound status.ReadFault out m is = m
 
 module _ (name : List ℕ) (before after : World) (trust : Trust) (reads : NamedSlots) (limit most : ℕ) (IsTextOf : Answer → (bytes said : List ℕ) → Type 0) (s : Status) where
-  writes_takes : Writes name before after trust reads limit most IsTextOf s → Takes before.out after.out
+  writes_takes : Writes name before after trust reads limit most IsTextOf s
+      → Takes before.out after.out
   writes_takes (inl none) = took_none before.out after.out none.out
   writes_takes (inr wrote) = (wrote.said, wrote.report)
 
-  writes_few : (told : Told) → before.shelf.told ≡ Some told → ((answer : Answer) (bytes said : List ℕ) → IsTextOf answer bytes said → length bytes ≤ limit) → Writes name before after trust reads limit most IsTextOf s
+  writes_few : (told : Told) → before.shelf.told ≡ Some told
+      → ((answer : Answer) (bytes said : List ℕ) → IsTextOf answer bytes said → length bytes ≤ limit)
+      → Writes name before after trust reads limit most IsTextOf s
       → HasWritten limit told after.shelf
   writes_few told tells fits (inl none) = left_told limit told before.shelf after.shelf tells none.leaves
   writes_few told tells fits (inr wrote) = written_told limit told before.shelf after.shelf name wrote.bytes tells wrote.log (fits wrote.answer wrote.bytes wrote.said wrote.text)
 
-  answer_sound : (answer : Answer) → trust.log (Some name) → trust.out → SaysEnd name before after trust limit answer → s ≡ status_of_writing limit answer → IsFault s → ⊥
+  answer_sound : (answer : Answer) → trust.log (Some name) → trust.out
+      → SaysEnd name before after trust limit answer → s ≡ status_of_writing limit answer
+      → IsFault s → ⊥
   answer_sound (Ok done) log out ends e (inl is) = let f : status.Done ≡ status.ReadFault = sym e ∙ is in cc
   answer_sound (Ok done) log out ends e (inr is) = let f : status.Done ≡ status.WriteFault = sym e ∙ is in cc
   answer_sound (Err why.Log) log out ends e is = ends.1.1 log
@@ -218,7 +243,8 @@ module _ (name : List ℕ) (before after : World) (trust : Trust) (reads : Named
   answer_sound (Err why.NoMemory) log out ends e (inl is) = let f : status.NoMemory ≡ status.ReadFault = sym e ∙ is in cc
   answer_sound (Err why.NoMemory) log out ends e (inr is) = let f : status.NoMemory ≡ status.WriteFault = sym e ∙ is in cc
 
-  writes_sound : trust.log (Some name) → trust.out → Writes name before after trust reads limit most IsTextOf s → IsFault s → ⊥
+  writes_sound : trust.log (Some name) → trust.out
+      → Writes name before after trust reads limit most IsTextOf s → IsFault s → ⊥
   writes_sound log out (inl none) is = none.cause.1 log
   writes_sound log out (inr wrote) is = answer_sound wrote.answer log out wrote.ends wrote.status is
 
@@ -230,15 +256,18 @@ record IsSafe (limit : ℕ) (log : Option (List ℕ)) (told : Told) (before afte
   shelf : HasWritten limit told after.shelf
   out : Takes before.out after.out
 
-stop_sound : (n : Notice) (s : Status) → reading.IsOfReading n → s ≡ status_of n → (status_of n ≡ status.ReadFault → ⊥) → IsFault s → ⊥
+stop_sound : (n : Notice) (s : Status) → reading.IsOfReading n → s ≡ status_of n
+    → (status_of n ≡ status.ReadFault → ⊥) → IsFault s → ⊥
 stop_sound n s ends e sound (inl is) = sound (sym e ∙ is)
 stop_sound n s (inl refused) e sound (inr is) = let f : status.Refused ≡ status.WriteFault = sym refused ∙ (sym e ∙ is) in cc
 stop_sound n s (inr (inl fault)) e sound (inr is) = let f : status.ReadFault ≡ status.WriteFault = sym fault ∙ (sym e ∙ is) in cc
 stop_sound n s (inr (inr memory)) e sound (inr is) = let f : status.NoMemory ≡ status.WriteFault = sym memory ∙ (sym e ∙ is) in cc
 
 -- a task that reads files which are there, and then does what is safe
-task_safe : {V : Type 0} (task : Task V) (limit : ℕ) (log : Option (List ℕ)) (told : Told) (before after : World) (trust : Trust) (s : Status) → before.shelf.told ≡ Some told
-    → (trust.log None → NeverFails (MayBreak before.shelf after.shelf trust.log) told.files task.reads) → ((v : V) → task.Does v before after trust s → IsSafe limit log told before after trust s)
+task_safe : {V : Type 0} (task : Task V) (limit : ℕ) (log : Option (List ℕ)) (told : Told) (before after : World) (trust : Trust) (s : Status)
+    → before.shelf.told ≡ Some told
+    → (trust.log None → NeverFails (MayBreak before.shelf after.shelf trust.log) told.files task.reads)
+    → ((v : V) → task.Does v before after trust s → IsSafe limit log told before after trust s)
     → RunOf task before after trust s → IsSafe limit log told before after trust s
 task_safe {V} task limit log told before after trust s tells reads does r = elim r.read as (λ read. r.read ≡ read → IsSafe limit log told before after trust s) [
   | Ok v ↦ λ is. does v (subst (Ends task before after trust s) is r.ends)
@@ -254,7 +283,8 @@ task_safe {V} task limit log told before after trust s tells reads does r = elim
       }
 ] refl
 
-tell_safe : (Yes No : List ℕ → Type 0) (reads : NamedSlots) (limit : ℕ) (told : Told) (before after : World) (trust : Trust) (s : Status) → before.shelf.told ≡ Some told
+tell_safe : (Yes No : List ℕ → Type 0) (reads : NamedSlots) (limit : ℕ) (told : Told) (before after : World) (trust : Trust) (s : Status)
+    → before.shelf.told ≡ Some told
     → TellsAlone Yes No reads before after trust s → IsSafe limit None told before after trust s
 tell_safe Yes No reads limit told before after trust s tells t = record {
   sound = λ sure named out. told_sound Yes No before after trust s out t.told;
@@ -262,8 +292,10 @@ tell_safe Yes No reads limit told before after trust s tells t = record {
   out = told_takes Yes No before after trust s t.told;
 }
 
-write_safe : (name : List ℕ) (reads : NamedSlots) (limit most : ℕ) (IsTextOf : Answer → (bytes said : List ℕ) → Type 0) (told : Told) (before after : World) (trust : Trust) (s : Status) → before.shelf.told ≡ Some told
-    → ((answer : Answer) (bytes said : List ℕ) → IsTextOf answer bytes said → length bytes ≤ limit) → Writes name before after trust reads limit most IsTextOf s
+write_safe : (name : List ℕ) (reads : NamedSlots) (limit most : ℕ) (IsTextOf : Answer → (bytes said : List ℕ) → Type 0) (told : Told) (before after : World) (trust : Trust) (s : Status)
+    → before.shelf.told ≡ Some told
+    → ((answer : Answer) (bytes said : List ℕ) → IsTextOf answer bytes said → length bytes ≤ limit)
+    → Writes name before after trust reads limit most IsTextOf s
     → IsSafe limit (Some name) told before after trust s
 write_safe name reads limit most IsTextOf told before after trust s tells fits w = record {
   sound = λ sure log out. writes_sound name before after trust reads limit most IsTextOf s log out w;
@@ -280,19 +312,24 @@ usage_harmless : (s : Status) → s ≡ status.Usage → IsFault s → ⊥
 usage_harmless s is (inl e) = let f : status.Usage ≡ status.ReadFault = sym is ∙ e in cc
 usage_harmless s is (inr e) = let f : status.Usage ≡ status.WriteFault = sym is ∙ e in cc
 
-same_told : (limit : ℕ) (told : Told) (before after : ShelfState) → before.told ≡ Some told → after ≡ before → HasWritten limit told after
+same_told : (limit : ℕ) (told : Told) (before after : ShelfState) → before.told ≡ Some told
+    → after ≡ before → HasWritten limit told after
 same_told limit told before after tells e = record { told = told; tells = ap (λ (s : ShelfState). s.told) e ∙ tells; terms = refl; few = omega arith }
 
-make_safe : (limit seed count : ℕ) (log : Option (List ℕ)) (told : Told) (before after : World) (trust : Trust) (s : Status) → before.shelf.told ≡ Some told
-    → MakesHere limit seed count before after trust s → after.shelf ≡ before.shelf → IsSafe limit log told before after trust s
+make_safe : (limit seed count : ℕ) (log : Option (List ℕ)) (told : Told) (before after : World) (trust : Trust) (s : Status)
+    → before.shelf.told ≡ Some told
+    → MakesHere limit seed count before after trust s → after.shelf ≡ before.shelf
+    → IsSafe limit log told before after trust s
 make_safe limit seed count log told before after trust s tells makes same = record {
   sound = λ sure named out. makes_sound limit seed count before after trust s out makes;
   shelf = same_told limit told before.shelf after.shelf tells same;
   out = makes_takes limit seed count before after trust s makes;
 }
 
-only_safe : (n : Notice) (limit : ℕ) (log : Option (List ℕ)) (told : Told) (before after : World) (trust : Trust) (s : Status) → before.shelf.told ≡ Some told
-    → (s ≡ status_of n → IsFault s → ⊥) → OnlySays n before after s → IsSafe limit log told before after trust s
+only_safe : (n : Notice) (limit : ℕ) (log : Option (List ℕ)) (told : Told) (before after : World) (trust : Trust) (s : Status)
+    → before.shelf.told ≡ Some told
+    → (s ≡ status_of n → IsFault s → ⊥) → OnlySays n before after s
+    → IsSafe limit log told before after trust s
 only_safe n limit log told before after trust s tells harmless (is, said, shelf, out) = record {
   sound = λ sure named reliable. harmless is;
   shelf = same_told limit told before.shelf after.shelf tells shelf;
@@ -303,7 +340,8 @@ module _ (limits : Limits) (told : Told) (before after : World) (trust : Trust) 
   abbrev Sound : {V : Type 0} → Reading V → Type 0
   Sound reads = trust.log None → NeverFails (MayBreak before.shelf after.shelf trust.log) told.files reads
 
-  inputs_sound : (moving : Bool) (names : words.Files) → AreInputsThere told.files names → Sound (ReadsFor moving limits names)
+  inputs_sound : (moving : Bool) (names : words.Files) → AreInputsThere told.files names
+      → Sound (ReadsFor moving limits names)
   inputs_sound moving names there = λ sure.
       then_sound before.shelf after.shelf trust.log sure limits told.files (Named limits (settings_text moving) names.settings) (ReadsNav limits names)
       (named_sound before.shelf after.shelf trust.log sure limits told.files (settings_text moving) names.settings there.0) (λ s.
@@ -315,7 +353,9 @@ module _ (limits : Limits) (told : Told) (before after : World) (trust : Trust) 
       (named_sound before.shelf after.shelf trust.log sure limits told.files text names.obs there.2)
       (λ o. returns_sound before.shelf after.shelf trust.log sure limits told.files (value o))))
 
-  check_sound : (moving : Bool) (names : words.Files) → AreInputsThere told.files names × IsThere told.files names.log → Sound (ReadsCheckedFor moving limits names)
+  check_sound : (moving : Bool) (names : words.Files)
+      → AreInputsThere told.files names × IsThere told.files names.log
+      → Sound (ReadsCheckedFor moving limits names)
   check_sound moving names there = λ sure.
       then_sound before.shelf after.shelf trust.log sure limits told.files (ReadsFor moving limits names) (ReadsLog limits names.log) (inputs_sound moving names there.0 sure) (λ i.
       let value : LogValue → CheckedValue = λ l. record { inputs = i; log = l } in
@@ -323,7 +363,9 @@ module _ (limits : Limits) (told : Told) (before after : World) (trust : Trust) 
       (named_sound before.shelf after.shelf trust.log sure limits told.files log_text names.log there.1)
       (λ l. returns_sound before.shelf after.shelf trust.log sure limits told.files (value l)))
 
-  guard_sound : (moving : Bool) (names : words.Files) (zones : List ℕ) → AreInputsThere told.files names × (IsThere told.files zones × IsThere told.files names.log) → Sound (ReadsGuarded moving limits names zones)
+  guard_sound : (moving : Bool) (names : words.Files) (zones : List ℕ)
+      → AreInputsThere told.files names × (IsThere told.files zones × IsThere told.files names.log)
+      → Sound (ReadsGuarded moving limits names zones)
   guard_sound moving names zones there = λ sure.
       then_sound before.shelf after.shelf trust.log sure limits told.files (ReadsFor moving limits names) (ReadsZones limits zones names.log) (inputs_sound moving names there.0 sure) (λ i.
       then_sound before.shelf after.shelf trust.log sure limits told.files (Named limits zones_text zones) (ReadsLogBehind limits names.log i)
@@ -332,7 +374,8 @@ module _ (limits : Limits) (told : Told) (before after : World) (trust : Trust) 
       (named_sound before.shelf after.shelf trust.log sure limits told.files log_text names.log there.1.1)
       (λ l. returns_sound before.shelf after.shelf trust.log sure limits told.files (guarded_by i z l))))
 
-  obeys_safe : (command : Command) (s : Status) → before.shelf.told ≡ Some told → AreThere told.files command → Obeys limits (Some command) before after trust s
+  obeys_safe : (command : Command) (s : Status) → before.shelf.told ≡ Some told
+      → AreThere told.files command → Obeys limits (Some command) before after trust s
       → IsSafe limits.log (written_by command) told before after trust s
   obeys_safe (Judge log) s tells there r =
       task_safe (judging limits log) limits.log None told before after trust s tells
@@ -360,7 +403,8 @@ module _ (limits : Limits) (told : Told) (before after : World) (trust : Trust) 
   obeys_safe (Make seed epochs) s tells there r =
       make_safe limits.log seed epochs None told before after trust s tells r.0 r.1
 
-  run_safe : (command : Command) (s : Status) → before.shelf.told ≡ Some told → AreThere told.files command → Runs limits (Some command) before after trust s
+  run_safe : (command : Command) (s : Status) → before.shelf.told ≡ Some told
+      → AreThere told.files command → Runs limits (Some command) before after trust s
       → IsSafe limits.log (written_by command) told before after trust s
   run_safe command s tells there (inl only) = only_safe notice.NoMemory limits.log (written_by command) told before after trust s tells (memory_harmless s) only
   run_safe command s tells there (inr obeys) = obeys_safe command s tells there obeys
@@ -370,16 +414,21 @@ module _ (limits : Limits) (told : Told) (before after : World) (trust : Trust) 
 -- what their `room` says behind the run
 pub record SaysRoom (after : World) (trust : Trust) (room out_room : ℕ) : Type 0 where
   pub left : (t : Told) → after.shelf.told ≡ Some t → t.written + room ≡ t.terms.room
-  pub sure : (t : Told) → after.shelf.told ≡ Some t → t.terms.fails ≡ [] → trust.log None × (0 < room → trust.log (Some t.terms.log))
+  pub sure : (t : Told) → after.shelf.told ≡ Some t → t.terms.fails ≡ []
+      → trust.log None × (0 < room → trust.log (Some t.terms.log))
   pub out_left : (t : SinkTold) → after.out.told ≡ Some t → length t.bytes + out_room ≡ t.terms.room
-  pub out_sure : (t : SinkTold) → after.out.told ≡ Some t → t.terms.fails ≡ [] → 0 < out_room → trust.out
+  pub out_sure : (t : SinkTold) → after.out.told ≡ Some t → t.terms.fails ≡ [] → 0 < out_room
+      → trust.out
 
-named_sure : (log : Option (List ℕ)) (name : List ℕ) (reliable : Option (List ℕ) → Type 0) → IfSome log (λ of. name ≡ of) → reliable (Some name) → IfSome log (λ of. reliable (Some of))
+named_sure : (log : Option (List ℕ)) (name : List ℕ) (reliable : Option (List ℕ) → Type 0)
+    → IfSome log (λ of. name ≡ of) → reliable (Some name) → IfSome log (λ of. reliable (Some of))
 named_sure None name reliable is sure = tt
 named_sure (Some of) name reliable is sure = subst (λ (n : List ℕ). reliable (Some n)) is sure
 
-no_fault : (limits : Limits) (command : Command) (before after : World) (trust : Trust) (s : Status) (room out_room : ℕ) → IsReady command before.shelf before.out
-    → Runs limits (Some command) before after trust s → SaysRoom after trust room out_room → HasShelfRoom after.shelf → HasSinkRoom after.out → IsFault s → ⊥
+no_fault : (limits : Limits) (command : Command) (before after : World) (trust : Trust) (s : Status) (room out_room : ℕ)
+    → IsReady command before.shelf before.out
+    → Runs limits (Some command) before after trust s → SaysRoom after trust room out_room
+    → HasShelfRoom after.shelf → HasSinkRoom after.out → IsFault s → ⊥
 no_fault limits command before after trust s room out_room ready runs says has left fault =
     let safe = run_safe limits ready.told before after trust command s ready.tells ready.there runs in
     let shelf = safe.shelf in
@@ -395,32 +444,40 @@ no_fault limits command before after trust s room out_room ready runs says has l
     safe.sound sure.0 (named_sure (written_by command) ready.told.terms.log trust.log ready.log name) out fault
 
 -- no command is no fault
-usage_no_fault : (limits : Limits) (before after : World) (trust : Trust) (s : Status) → Runs limits None before after trust s → IsFault s → ⊥
+usage_no_fault : (limits : Limits) (before after : World) (trust : Trust) (s : Status)
+    → Runs limits None before after trust s → IsFault s → ⊥
 usage_no_fault limits before after trust s (inl only) = memory_harmless s only.0
 usage_no_fault limits before after trust s (inr only) = usage_harmless s only.0
 
-pub no_fault_of : (limits : Limits) (asked : Option Command) (before after : World) (trust : Trust) (s : Status) (room out_room : ℕ) → IfSome asked (λ command. IsReady command before.shelf before.out)
-    → Runs limits asked before after trust s → SaysRoom after trust room out_room → HasShelfRoom after.shelf → HasSinkRoom after.out → IsFault s → ⊥
+pub no_fault_of : (limits : Limits) (asked : Option Command) (before after : World) (trust : Trust) (s : Status) (room out_room : ℕ)
+    → IfSome asked (λ command. IsReady command before.shelf before.out)
+    → Runs limits asked before after trust s → SaysRoom after trust room out_room
+    → HasShelfRoom after.shelf → HasSinkRoom after.out → IsFault s → ⊥
 no_fault_of limits None before after trust s room out_room ready runs says has left = usage_no_fault limits before after trust s runs
 no_fault_of limits (Some command) before after trust s room out_room ready runs says has left = no_fault limits command before after trust s room out_room ready runs says has left
 
 -- ---- the room that is left
 
-written_room : (limit : ℕ) (told : Told) (before after : ShelfState) → before.told ≡ Some told → HasWritten limit told after → HasRoomBeyond limit before → HasShelfRoom after
+written_room : (limit : ℕ) (told : Told) (before after : ShelfState) → before.told ≡ Some told
+    → HasWritten limit told after → HasRoomBeyond limit before → HasShelfRoom after
 written_room limit told before after tells wrote room = λ t is.
     let same : t ≡ wrote.told = cc in
     let most : ◌≡◌ {A = ℕ} wrote.told.terms.room told.terms.room = ap (λ (x : ShelfTerms). x.room) wrote.terms in
     subst (λ (x : Told). x.written < x.terms.room) (sym same) (omega (arith, wrote.few, room told tells, most))
 
-unchanged_room : (limit : ℕ) (before after : ShelfState) → after ≡ before → HasRoomBeyond limit before → HasShelfRoom after
+unchanged_room : (limit : ℕ) (before after : ShelfState) → after ≡ before
+    → HasRoomBeyond limit before → HasShelfRoom after
 unchanged_room limit before after e room = λ t is. let had = room t (ap (λ (s : ShelfState). s.told) (sym e) ∙ is) in omega (arith, had)
 
-usage_unchanged : (limits : Limits) (before after : World) (trust : Trust) (s : Status) → Runs limits None before after trust s → after.shelf ≡ before.shelf
+usage_unchanged : (limits : Limits) (before after : World) (trust : Trust) (s : Status)
+    → Runs limits None before after trust s → after.shelf ≡ before.shelf
 usage_unchanged limits before after trust s (inl only) = only.2
 usage_unchanged limits before after trust s (inr only) = only.2
 
-pub room_left : (limits : Limits) (asked : Option Command) (before after : World) (trust : Trust) (s : Status) → IfSome asked (λ command. IsReady command before.shelf before.out)
-    → Runs limits asked before after trust s → HasRoomBeyond limits.log before.shelf → HasShelfRoom after.shelf
+pub room_left : (limits : Limits) (asked : Option Command) (before after : World) (trust : Trust) (s : Status)
+    → IfSome asked (λ command. IsReady command before.shelf before.out)
+    → Runs limits asked before after trust s → HasRoomBeyond limits.log before.shelf
+    → HasShelfRoom after.shelf
 room_left limits None before after trust s ready runs = unchanged_room limits.log before.shelf after.shelf (usage_unchanged limits before after trust s runs)
 room_left limits (Some command) before after trust s ready runs =
     let safe = run_safe limits ready.told before after trust command s ready.tells ready.there runs in

@@ -22,7 +22,8 @@ ends_width n w a b e = omega (arith, ints, e.order, e.width)
 -- ---- times
 
 -- tsv - toc, by way of the ephemeris time
-pub since_ends : (el : Elements) (lo hi : ℤ) → lo ≤ℤ hi → IsNearEphemeris el lo hi → Ends since_size (width lo hi) (lo -ℤ el.toc) (hi -ℤ el.toc)
+pub since_ends : (el : Elements) (lo hi : ℤ) → lo ≤ℤ hi → IsNearEphemeris el lo hi
+    → Ends since_size (width lo hi) (lo -ℤ el.toc) (hi -ℤ el.toc)
 since_ends el lo hi o n =
     let v = el.toc_near.low in
     let w = el.toc_near.high in
@@ -34,7 +35,10 @@ since_ends el lo hi o n =
     }
 
 -- tsv - toe
-pub ephemeris_ends : (lo hi start early late l h : ℤ) → lo ≤ℤ hi → early ≤ℤ late → late ≤ℤ (early +ℤ pos 1) → neg_ℤ (pos ephemeris_reach) ≤ℤ (lo -ℤ (start +ℤ late)) → (hi -ℤ (start +ℤ early)) ≤ℤ pos ephemeris_reach → l ≡ lo -ℤ (start +ℤ late) → h ≡ hi -ℤ (start +ℤ early) → Ends ephemeris_reach (width lo hi + 1) l h
+pub ephemeris_ends : (lo hi start early late l h : ℤ) → lo ≤ℤ hi → early ≤ℤ late
+    → late ≤ℤ (early +ℤ pos 1) → neg_ℤ (pos ephemeris_reach) ≤ℤ (lo -ℤ (start +ℤ late))
+    → (hi -ℤ (start +ℤ early)) ≤ℤ pos ephemeris_reach → l ≡ lo -ℤ (start +ℤ late)
+    → h ≡ hi -ℤ (start +ℤ early) → Ends ephemeris_reach (width lo hi + 1) l h
 ephemeris_ends lo hi start early late l h o p q f g d e = record {
   order = omega (arith, ints);
   low = record { low = omega (arith, ints); high = omega (arith, ints) };
@@ -42,7 +46,9 @@ ephemeris_ends lo hi start early late l h o p q f g d e = record {
   width = omega (arith, ints);
 }
 
-pub ephemeris_between : (lo hi start early late l h x toe : ℤ) → l ≡ lo -ℤ (start +ℤ late) → h ≡ hi -ℤ (start +ℤ early) → Between lo hi x → Between early late toe → Between l h (x -ℤ (start +ℤ toe))
+pub ephemeris_between : (lo hi start early late l h x toe : ℤ) → l ≡ lo -ℤ (start +ℤ late)
+    → h ≡ hi -ℤ (start +ℤ early) → Between lo hi x → Between early late toe
+    → Between l h (x -ℤ (start +ℤ toe))
 ephemeris_between lo hi start early late l h x toe d e p q = record { from = omega (arith, ints, p.from, q.to); to = omega (arith, ints, p.to, q.from) }
 
 -- the same time from another zero
@@ -51,19 +57,25 @@ earlier_from x b t zero n = record { below = omega (arith, ints, n.below, n.abov
 
 -- ---- the mean motion and the anomaly
 
-pub motion_ends : (lo hi : ℤ) → lo ≤ℤ hi → pos 0 ≤ℤ lo → hi ≤ℤ pos motion_size → (hi -ℤ lo) ≤ℤ pos motion_width → Ends motion_size motion_width lo hi
+pub motion_ends : (lo hi : ℤ) → lo ≤ℤ hi → pos 0 ≤ℤ lo → hi ≤ℤ pos motion_size
+    → (hi -ℤ lo) ≤ℤ pos motion_width → Ends motion_size motion_width lo hi
 motion_ends lo hi o f g w = record { order = o; low = record { low = omega (arith, ints); high = omega (arith, ints) }; high = record { low = omega (arith, ints); high = omega (arith, ints) }; width = w }
 
 -- a field that isn't negative
-pub natural_ends : (n : ℕ) (least : ℤ) (field : Wide) → pos 0 ≤ℤ least → LiesFrom least (pos n) field → Ends n 1 field.lo field.hi
+pub natural_ends : (n : ℕ) (least : ℤ) (field : Wide) → pos 0 ≤ℤ least
+    → LiesFrom least (pos n) field → Ends n 1 field.lo field.hi
 natural_ends n least field h f = record { order = field.ordered; low = record { low = omega (arith, ints, f.from); high = omega (arith, ints, f.to, field.ordered) }; high = record { low = omega (arith, ints, f.from, field.ordered); high = f.to }; width = omega (arith, ints, f.narrow) }
 
-pub sine_ends : (ml mh el eh xl xh sl sh : ℤ) → ml ≤ℤ mh → eh ≤ℤ (el +ℤ pos 1) → sl ≤ℤ sh → (xh -ℤ xl) ≤ℤ (pos 2 *ℤ ((mh -ℤ ml) +ℤ (eh -ℤ el)) +ℤ pos 64) → (sh -ℤ sl) ≤ℤ ((xh -ℤ xl) +ℤ pos 16) → IsWithin (unit + 8) sl → IsWithin (unit + 8) sh → Ends (unit + 8) (2 * width ml mh + 82) sl sh
+pub sine_ends : (ml mh el eh xl xh sl sh : ℤ) → ml ≤ℤ mh → eh ≤ℤ (el +ℤ pos 1) → sl ≤ℤ sh
+    → (xh -ℤ xl) ≤ℤ (pos 2 *ℤ ((mh -ℤ ml) +ℤ (eh -ℤ el)) +ℤ pos 64)
+    → (sh -ℤ sl) ≤ℤ ((xh -ℤ xl) +ℤ pos 16) → IsWithin (unit + 8) sl → IsWithin (unit + 8) sh
+    → Ends (unit + 8) (2 * width ml mh + 82) sl sh
 sine_ends ml mh el eh xl xh sl sh o n p f g v w = record { order = p; low = v; high = w; width = omega (arith, ints) }
 
 -- ---- tsv is a time after the start of GPS time
 
-pub sent_ends : (el : Elements) (lo hi : ℤ) → lo ≤ℤ hi → IsNearEphemeris el lo hi → Ends sent_size (width lo hi) lo hi
+pub sent_ends : (el : Elements) (lo hi : ℤ) → lo ≤ℤ hi → IsNearEphemeris el lo hi
+    → Ends sent_size (width lo hi) lo hi
 sent_ends el lo hi o n =
     let v = el.toc_near.low in
     let w = el.toc_near.high in

@@ -24,18 +24,25 @@ use Rattle.sat_clock.proofs.ClockLemmas.{natural_ends}
 abbrev focus_width : ℕ
 focus_width = (eccentricity_bound + greatest_root_a) / 10 ^ 12 + 1 + 4
 
-pub e_ends : (e : Wide) → LiesFrom (pos 0) (pos eccentricity_bound) e → Ends eccentricity_bound 1 e.lo e.hi
+pub e_ends : (e : Wide) → LiesFrom (pos 0) (pos eccentricity_bound) e
+    → Ends eccentricity_bound 1 e.lo e.hi
 e_ends e f = natural_ends eccentricity_bound (pos 0) e (record { le = tt }) f
 
-pub root_ends : (s : Wide) → LiesFrom (pos least_root_a) (pos greatest_root_a) s → Ends greatest_root_a 1 s.lo s.hi
+pub root_ends : (s : Wide) → LiesFrom (pos least_root_a) (pos greatest_root_a) s
+    → Ends greatest_root_a 1 s.lo s.hi
 root_ends s f = natural_ends greatest_root_a (pos least_root_a) s (record { le = tt }) f
 
 -- that of GPS is the greatest
-pub factor_ends : (y : System) → Ends relativity 0 (neg_ℤ (pos (relativity_of y))) (neg_ℤ (pos (relativity_of y)))
+pub factor_ends : (y : System)
+    → Ends relativity 0 (neg_ℤ (pos (relativity_of y))) (neg_ℤ (pos (relativity_of y)))
 factor_ends Gps = record { order = record { le = tt }; low = record { low = record { le = tt }; high = record { le = tt } }; high = record { low = record { le = tt }; high = record { le = tt } }; width = record { le = tt } }
 factor_ends Galileo = record { order = record { le = tt }; low = record { low = record { le = tt }; high = record { le = tt } }; high = record { low = record { le = tt }; high = record { le = tt } }; width = record { le = tt } }
 
-pub focus_ends : (e s : Wide) (a b c d l h : ℤ) → LiesFrom (pos 0) (pos eccentricity_bound) e → LiesFrom (pos least_root_a) (pos greatest_root_a) s → a ≡ e.lo → b ≡ e.hi → c ≡ s.lo → d ≡ s.hi → l ≤ℤ h → IsTightRound (least_product a b c d) (pos (10 ^ 12)) (greatest_product a b c d) (pos (10 ^ 12)) l h → Ends focus_size focus_width l h
+pub focus_ends : (e s : Wide) (a b c d l h : ℤ) → LiesFrom (pos 0) (pos eccentricity_bound) e
+    → LiesFrom (pos least_root_a) (pos greatest_root_a) s → a ≡ e.lo → b ≡ e.hi → c ≡ s.lo
+    → d ≡ s.hi → l ≤ℤ h
+    → IsTightRound (least_product a b c d) (pos (10 ^ 12)) (greatest_product a b c d) (pos (10 ^ 12)) l h
+    → Ends focus_size focus_width l h
 focus_ends e s a b c d l h f g p q r u o t =
     product_ends eccentricity_bound 1 greatest_root_a 1 (eccentricity_bound * greatest_root_a / 10 ^ 12 + 1) ((eccentricity_bound + greatest_root_a) / 10 ^ 12 + 1) a b c d (pos (10 ^ 12)) l h
     (rw (p, q) (e_ends e f)) (rw (r, u) (root_ends s g)) (record { lt = tt }) (record { le = tt }) (record { le = tt }) o t
@@ -43,16 +50,24 @@ focus_ends e s a b c d l h f g p q r u o t =
 abbrev height_width : ℕ → ℕ
 height_width w = (focus_size / unit + 1) * w + 2 * focus_width + 4
 
-height_spread : (w : ℕ) → pos (focus_size * w + (unit + 8) * focus_width) ≤ℤ pos (((focus_size / unit + 1) * w + 2 * focus_width) * unit)
+height_spread : (w : ℕ)
+    → pos (focus_size * w + (unit + 8) * focus_width) ≤ℤ pos (((focus_size / unit + 1) * w + 2 * focus_width) * unit)
 height_spread w = omega (arith, ints)
 
-pub height_ends : (w : ℕ) (a b c d l h : ℤ) → Ends focus_size focus_width a b → Ends (unit + 8) w c d → l ≤ℤ h → IsTightRound (least_product a b c d) (pos unit) (greatest_product a b c d) (pos unit) l h → Ends height_size (height_width w) l h
+pub height_ends : (w : ℕ) (a b c d l h : ℤ) → Ends focus_size focus_width a b
+    → Ends (unit + 8) w c d → l ≤ℤ h
+    → IsTightRound (least_product a b c d) (pos unit) (greatest_product a b c d) (pos unit) l h
+    → Ends height_size (height_width w) l h
 height_ends w a b c d l h e f o t = product_ends focus_size focus_width (unit + 8) w (focus_size * (unit + 8) / unit + 1) ((focus_size / unit + 1) * w + 2 * focus_width) a b c d (pos unit) l h e f (record { lt = tt }) (record { le = tt }) (height_spread w) o t
 
-relative_spread : (w : ℕ) → pos (height_size * 0 + relativity * height_width w) ≤ℤ pos ((w / 1000 + 1) * 10 ^ 19)
+relative_spread : (w : ℕ)
+    → pos (height_size * 0 + relativity * height_width w) ≤ℤ pos ((w / 1000 + 1) * 10 ^ 19)
 relative_spread w = omega (arith, ints)
 
-pub relative_ends : (w : ℕ) (a b f g l h : ℤ) → Ends height_size (height_width w) a b → Ends relativity 0 f g → l ≤ℤ h → IsTightRound (least_product a b f g) (pos (10 ^ 19)) (greatest_product a b f g) (pos (10 ^ 19)) l h → Ends relative_size (w / 1000 + 5) l h
+pub relative_ends : (w : ℕ) (a b f g l h : ℤ) → Ends height_size (height_width w) a b
+    → Ends relativity 0 f g → l ≤ℤ h
+    → IsTightRound (least_product a b f g) (pos (10 ^ 19)) (greatest_product a b f g) (pos (10 ^ 19)) l h
+    → Ends relative_size (w / 1000 + 5) l h
 relative_ends w a b f g l h e k o t = wider_ends _ _ _ _ _ _ (lit≤ tt) (omega arith) (product_ends height_size (height_width w) relativity 0 (height_size * relativity / 10 ^ 19 + 1) (w / 1000 + 1) a b f g (pos (10 ^ 19)) l h e k (record { lt = tt }) (record { le = tt }) (relative_spread w) o t)
 
 -- ---- values

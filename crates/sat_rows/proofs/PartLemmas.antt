@@ -27,11 +27,13 @@ use Rattle.usable_sats.specs.Usability.{IsHighIf, IsHigh}
 
 -- ---- boxes
 
-side_whole : (a s : Side) (n : ℤ) → SideLiesIn a s → (a.lo ≤ℤ n) × (n ≤ℤ a.hi) → side_holds s n ≡ true
+side_whole : (a s : Side) (n : ℤ) → SideLiesIn a s → (a.lo ≤ℤ n) × (n ≤ℤ a.hi)
+    → side_holds s n ≡ true
 side_whole a s n i (l, h) = both_from _ _ (le_to s.lo n (omega (arith, ints, i.low, l))) (le_to n s.hi (omega (arith, ints, i.high, h)))
 
 -- a point of a part is one of the whole
-pub part_holds : (part root : GridBox) (p : Pos) → LiesIn part root → box_holds part p ≡ true → box_holds root p ≡ true
+pub part_holds : (part root : GridBox) (p : Pos) → LiesIn part root → box_holds part p ≡ true
+    → box_holds root p ≡ true
 part_holds part root p lies inside =
     let i = in_box part p inside in
     both_from _ _ (side_whole part.x root.x p.x (lies 0) i.x) (both_from _ _ (side_whole part.y root.y p.y (lies 1) i.y) (side_whole part.z root.z p.z (lies 2) i.z))
@@ -60,12 +62,14 @@ part_search part root lies b = record {
   short = omega (arith, shorter part root lies, b.short);
 }
 
-high_if : (plain : Bool) (part root : GridBox) → LiesIn part root → IsHighIf plain root → IsHighIf plain part
+high_if : (plain : Bool) (part root : GridBox) → LiesIn part root → IsHighIf plain root
+    → IsHighIf plain part
 high_if true part root lies high = tt
 high_if false part root lies high = λ p inside. high p (part_holds part root p lies inside)
 
 -- ... and is as high
-pub part_high : (delays : Delays) (part root : GridBox) → LiesIn part root → IsHigh delays root → IsHigh delays part
+pub part_high : (delays : Delays) (part root : GridBox) → LiesIn part root → IsHigh delays root
+    → IsHigh delays part
 part_high delays part root lies high = high_if (is_plain delays) part root lies high
 
 -- ---- W and G
@@ -74,23 +78,28 @@ part_high delays part root lies high = high_if (is_plain delays) part root lies 
 pub spare_mono : (part root : GridBox) → LiesIn part root → spare_of part ≤ spare_of root
 spare_mono part root lies = let h = shorter part root lies in omega (arith, h)
 
-over_mono : (layer : Layer) (amount d e : ℕ) → d ≤ e → spare_over layer amount d ≤ spare_over layer amount e
+over_mono : (layer : Layer) (amount d e : ℕ) → d ≤ e
+    → spare_over layer amount d ≤ spare_over layer amount e
 over_mono Troposphere amount d e h = let m = mul-le amount d amount e (omega arith) h in omega (arith, m)
 over_mono Ionosphere amount d e h = let m = mul-le amount d amount e (omega arith) h in omega (arith, m)
 
-delay_mono : (layer : Layer) (delay : Option Span) (part root : GridBox) → LiesIn part root → delay_spare layer part delay ≤ delay_spare layer root delay
+delay_mono : (layer : Layer) (delay : Option Span) (part root : GridBox) → LiesIn part root
+    → delay_spare layer part delay ≤ delay_spare layer root delay
 delay_mono layer None part root lies = omega arith
 delay_mono layer (Some s) part root lies = over_mono layer (span_amount s) (longest_length part) (longest_length root) (shorter part root lies)
 
 -- and so is G
-pub err_spare_mono : (delays : Delays) (part root : GridBox) → LiesIn part root → err_spare_of part delays ≤ err_spare_of root delays
+pub err_spare_mono : (delays : Delays) (part root : GridBox) → LiesIn part root
+    → err_spare_of part delays ≤ err_spare_of root delays
 err_spare_mono delays part root lies = omega (arith, delay_mono Troposphere delays.zenith part root lies, delay_mono Ionosphere delays.vertical part root lies)
 
 -- ---- own rows
 
 module _ (m : Meaning) (root : GridBox) (tag : ℤ) (seen : SatObs) (base : Base) (part : GridBox) (row : Row) where
   -- the row of a base over a box whose points its search box holds is an own row for that box
-  pub own_of_points : IsBaseOf m root tag seen base → ((p : Pos) → box_holds part p ≡ true → box_holds root p ≡ true) → IsRowOfBase m.delays base part row → IsOwnRow m part tag seen row
+  pub own_of_points : IsBaseOf m root tag seen base
+      → ((p : Pos) → box_holds part p ≡ true → box_holds root p ≡ true)
+      → IsRowOfBase m.delays base part row → IsOwnRow m part tag seen row
   own_of_points is inside over = record {
     holds = λ p c here allowed. over.holds p c here (is.comes p c (inside p here) allowed);
     x = over.x;
@@ -102,5 +111,6 @@ module _ (m : Meaning) (root : GridBox) (tag : ℤ) (seen : SatObs) (base : Base
   }
 
   -- ... and so over a part of it
-  pub own_of_base : IsBaseOf m root tag seen base → LiesIn part root → IsRowOfBase m.delays base part row → IsOwnRow m part tag seen row
+  pub own_of_base : IsBaseOf m root tag seen base → LiesIn part root
+      → IsRowOfBase m.delays base part row → IsOwnRow m part tag seen row
   own_of_base is lies over = own_of_points is (λ p. part_holds part root p lies) over

@@ -49,21 +49,25 @@ use Rattle.sat_rows.specs.declared.lines.SatLine.TheVariants.{Usable, Skipped}
 -- ---- codes
 
 -- a floor and a ceiling are at most one apart
-rounded_narrow : (number : Decimal) (unit : Unit) (a : Wide) → IsRounded a number unit → IsNarrow 1 a.lo a.hi
+rounded_narrow : (number : Decimal) (unit : Unit) (a : Wide) → IsRounded a number unit
+    → IsNarrow 1 a.lo a.hi
 rounded_narrow number unit a f =
     let d = pos (denominator number.ten unit) in
     let k : a.hi <ℤ (a.lo +ℤ pos 2) = mul_lt_back a.hi (a.lo +ℤ pos 2) d (some_parts number.ten unit)
     (omega (arith, ints, add_mul a.lo (pos 2) d, f.floor.gt, f.ceiling.lt)) in
     record { width = omega (arith, ints) }
 
-narrow_codes : (signal : Signal) (seen : SatObs) (codes : Codes) → HaveValue signal seen codes → AreNarrow codes
+narrow_codes : (signal : Signal) (seen : SatObs) (codes : Codes) → HaveValue signal seen codes
+    → AreNarrow codes
 narrow_codes (Single code) seen codes v = subst (AreNarrowWith codes.first) (sym v.3) (rounded_narrow v.0 Length codes.first v.2)
 narrow_codes (Dual code other) seen codes v = subst (AreNarrowWith codes.first) (sym v.1.3) (rounded_narrow v.0.0 Length codes.first v.0.2, rounded_narrow v.1.0 Length v.1.1 v.1.4)
 
 -- ---- times
 
-near_time : (tag time age : ℤ) (max : ℕ) → age ≡ pos (unsigned_abs (tag -ℤ time)) → age ≤ℤ pos (max * 1000000000000) → max ≤ 14400
-    → (more : ℤ) → pos 0 ≤ℤ more → more ≤ℤ pos 1 → IsWithin 14401000000000000 (tag -ℤ (time +ℤ more))
+near_time : (tag time age : ℤ) (max : ℕ) → age ≡ pos (unsigned_abs (tag -ℤ time))
+    → age ≤ℤ pos (max * 1000000000000) → max ≤ 14400
+    → (more : ℤ) → pos 0 ≤ℤ more → more ≤ℤ pos 1
+    → IsWithin 14401000000000000 (tag -ℤ (time +ℤ more))
 near_time tag time age max e fresh short more low high = record { low = omega (arith, ints, e); high = omega (arith, ints, e) }
 
 plus_none : (s : ℤ) → s +ℤ pos 0 ≡ s
@@ -75,7 +79,8 @@ plus_apart s l h = omega (arith, ints)
 plus_some : (l h : ℤ) → l ≤ℤ h → pos 0 ≤ℤ (h -ℤ l)
 plus_some l h o = omega (arith, ints)
 
-near_elements : (r : NavRecord) (el : Elements) (tag age : ℤ) (max : ℕ) → IsAge r tag age → age ≤ℤ pos (max * 10 ^ 12) → max ≤ 14400 → AreElements r el → IsNearEpoch el tag
+near_elements : (r : NavRecord) (el : Elements) (tag age : ℤ) (max : ℕ) → IsAge r tag age
+    → age ≤ℤ pos (max * 10 ^ 12) → max ≤ 14400 → AreElements r el → IsNearEpoch el tag
 near_elements r el tag age max a fresh short f =
     let here : IsEphemerisTime r (el.week_start +ℤ el.toe_week.lo) = record { inside = a.1.inside; toe = el.toe_week.lo; start = el.week_start; toe_is = f.toe_week.floor; start_is = f.week_start; time_is = refl } in
     let same = time_only r a.0 (el.week_start +ℤ el.toe_week.lo) a.1 here in
@@ -103,13 +108,15 @@ module _ (a : Sighting) (codes : Codes) (el : Elements) (known : IsKnownBy a cod
       let near = near_elements known.usable.r known.usable.el a.tag known.usable.age a.max_age fresh.age_is fresh.fresh short known.usable.elements in
       subst (λ (e : Elements). IsNearEpoch e a.tag) known.el_is near
 
-  known_observed : (u : IsUsable a) → observed a u ≡ record { system = a.system; tag = a.tag; codes = codes; el = el }
+  known_observed : (u : IsUsable a)
+      → observed a u ≡ record { system = a.system; tag = a.tag; codes = codes; el = el }
   known_observed u =
       let c = codes_one a u known.usable ∙ known.codes_are in
       let e = elements_one a u known.usable ∙ known.el_is in
       λ i. record { system = a.system; tag = a.tag; codes = c i; el = e i }
 
-  pub known_comes : (delays : Delays) (declared : ℤ × ℤ) (base : Base) → ((p : Pos) (c : Chain) → AreValues delays declared (record { system = a.system; tag = a.tag; codes = codes; el = el }) p c → ComesFrom delays base p c)
+  pub known_comes : (delays : Delays) (declared : ℤ × ℤ) (base : Base)
+      → ((p : Pos) (c : Chain) → AreValues delays declared (record { system = a.system; tag = a.tag; codes = codes; el = el }) p c → ComesFrom delays base p c)
       → (p : Pos) (c : Chain) → IsChainAt a delays declared p c → ComesFrom delays base p c
   known_comes delays declared base comes p c chain = comes p c (subst (λ (seen : Observed). AreValues delays declared seen p c) (known_observed chain.usable) chain.are)
 
@@ -124,7 +131,8 @@ extra_small sat (e ∷ more) f =
       | false ↦ extra_small sat more f.1
     ]
 
-offset_small : (sat : Sat) (galileo : Option Galileo) → IsWithin 1000000000 (offset_for sat (option_map galileo_value galileo)).0 × IsWithin 1000000000 (offset_for sat (option_map galileo_value galileo)).1
+offset_small : (sat : Sat) (galileo : Option Galileo)
+    → IsWithin 1000000000 (offset_for sat (option_map galileo_value galileo)).0 × IsWithin 1000000000 (offset_for sat (option_map galileo_value galileo)).1
 offset_small sat None = (record { low = omega (arith, ints); high = omega (arith, ints) }, record { low = omega (arith, ints); high = omega (arith, ints) })
 offset_small sat (Some g) =
     elim (sat.system == 69) as (λ b. IsWithin 1000000000 (cond b (ends g.offset) (pos 0, pos 0)).0 × IsWithin 1000000000 (cond b (ends g.offset) (pos 0, pos 0)).1) [
@@ -132,12 +140,14 @@ offset_small sat (Some g) =
       | false ↦ (record { low = omega (arith, ints); high = omega (arith, ints) }, record { low = omega (arith, ints); high = omega (arith, ints) })
     ]
 
-within_sum : (sum a b c : ℤ) → sum ≡ (a +ℤ b) +ℤ c → IsWithin 4000000000 a → IsWithin 1000000000 b → IsWithin 1000000000 c → IsWithin (6 * 10 ^ 9) sum
+within_sum : (sum a b c : ℤ) → sum ≡ (a +ℤ b) +ℤ c → IsWithin 4000000000 a → IsWithin 1000000000 b
+    → IsWithin 1000000000 c → IsWithin (6 * 10 ^ 9) sum
 within_sum sum a b c e f g h =
     let bounds : IsWithin 6000000000 sum = record { low = omega (arith, ints, e, f.low, g.low, h.low); high = omega (arith, ints, e, f.high, g.high, h.high) } in
     bounds
 
-pub error_small : (settings : Settings) (sat : Sat) (err : Span) → ends err ≡ bound_for sat (value_of_settings settings) → IsSmall (6 * 10 ^ 9) err
+pub error_small : (settings : Settings) (sat : Sat) (err : Span)
+    → ends err ≡ bound_for sat (value_of_settings settings) → IsSmall (6 * 10 ^ 9) err
 error_small settings sat err e =
     let own = extra_for sat (with_ends settings.extra.items) in
     let shift = offset_for sat (option_map galileo_value settings.galileo) in
@@ -153,13 +163,16 @@ error_small settings sat err e =
 module _ (m : Meaning) (root : GridBox) (tag : ℤ) where
   -- lines of all satellites: those so far, before whatever lines the satellites left have
   pub record AreSoFar (sats left : List SatObs) (lines : List SatLine) : Type 0 where
-    pub own : (more : List SatLine) → AreOwnLines m root tag left more → AreOwnLines m root tag sats (lines ++ more)
+    pub own : (more : List SatLine) → AreOwnLines m root tag left more
+        → AreOwnLines m root tag sats (lines ++ more)
 
   pub so_far_none : (sats : List SatObs) → AreSoFar sats sats []
   so_far_none sats = record { own = λ more f. f }
 
-  pub so_far_more : (sats left : List SatObs) (lines after : List SatLine) (k : ℕ) (line : SatLine) (d : SatObs) → AreSoFar sats (drop k left) lines → k < length left
-      → IsOwnLine m root tag (get_or left k d) line → after ≡ lines ++ line ∷ [] → AreSoFar sats (drop (k + 1) left) after
+  pub so_far_more : (sats left : List SatObs) (lines after : List SatLine) (k : ℕ) (line : SatLine) (d : SatObs)
+      → AreSoFar sats (drop k left) lines → k < length left
+      → IsOwnLine m root tag (get_or left k d) line → after ≡ lines ++ line ∷ []
+      → AreSoFar sats (drop (k + 1) left) after
   so_far_more sats left lines after k line d f h own e = record {
     own = λ more g.
         let next : drop k left ≡ get_or left k d ∷ drop (k + 1) left = rw (add-one, drop-cons left k d) refl in
@@ -167,7 +180,8 @@ module _ (m : Meaning) (root : GridBox) (tag : ℤ) where
         subst (AreOwnLines m root tag sats) (sym (append_assoc lines (line ∷ []) more) ∙ ap (λ (l : List SatLine). l ++ more) (sym e)) all;
   }
 
-  pub so_far_all : (sats left : List SatObs) (lines : List SatLine) (k : ℕ) → AreSoFar sats (drop k left) lines → length left ≤ k → AreOwnLines m root tag sats lines
+  pub so_far_all : (sats left : List SatObs) (lines : List SatLine) (k : ℕ)
+      → AreSoFar sats (drop k left) lines → length left ≤ k → AreOwnLines m root tag sats lines
   so_far_all sats left lines k f h =
       let none = drop_of_length-le left {i = k} h in
       subst (AreOwnLines m root tag sats) (append-nil lines) (f.own [] (subst (λ (l : List SatObs). AreOwnLines m root tag l []) (sym none) tt))
@@ -175,13 +189,16 @@ module _ (m : Meaning) (root : GridBox) (tag : ℤ) where
 -- the bases of the satellites so far
 module _ (m : Meaning) (root : GridBox) (tag : ℤ) where
   pub record BasesSoFar (sats left : List SatObs) (lines : List SatLine) (bases : List Base) : Type 0 where
-    pub own : (more : List SatLine) (rest : List Base) → AreBasesOf m root tag left more rest → AreBasesOf m root tag sats (lines ++ more) (bases ++ rest)
+    pub own : (more : List SatLine) (rest : List Base) → AreBasesOf m root tag left more rest
+        → AreBasesOf m root tag sats (lines ++ more) (bases ++ rest)
 
   pub bases_none : (sats : List SatObs) → BasesSoFar sats sats [] []
   bases_none sats = record { own = λ more rest f. f }
 
-  pub bases_more : (sats left : List SatObs) (lines after : List SatLine) (bases now : List Base) (k : ℕ) (line : SatLine) (own : Option Base) (d : SatObs) → BasesSoFar sats (drop k left) lines bases → k < length left
-      → HasBase m root tag (get_or left k d) line own → after ≡ lines ++ line ∷ [] → now ≡ bases ++ base_list own → BasesSoFar sats (drop (k + 1) left) after now
+  pub bases_more : (sats left : List SatObs) (lines after : List SatLine) (bases now : List Base) (k : ℕ) (line : SatLine) (own : Option Base) (d : SatObs)
+      → BasesSoFar sats (drop k left) lines bases → k < length left
+      → HasBase m root tag (get_or left k d) line own → after ≡ lines ++ line ∷ []
+      → now ≡ bases ++ base_list own → BasesSoFar sats (drop (k + 1) left) after now
   bases_more sats left lines after bases now k line own d f h has e n = record {
     own = λ more rest g.
         let next : drop k left ≡ get_or left k d ∷ drop (k + 1) left = rw (add-one, drop-cons left k d) refl in
@@ -190,24 +207,30 @@ module _ (m : Meaning) (root : GridBox) (tag : ℤ) where
         subst (λ (l : List Base). AreBasesOf m root tag sats (after ++ more) l) (sym (append_assoc bases (base_list own) rest) ∙ ap (λ (l : List Base). l ++ rest) (sym n)) lined;
   }
 
-  pub bases_all : (sats left : List SatObs) (lines : List SatLine) (bases : List Base) (k : ℕ) → BasesSoFar sats (drop k left) lines bases → length left ≤ k → AreBasesOf m root tag sats lines bases
+  pub bases_all : (sats left : List SatObs) (lines : List SatLine) (bases : List Base) (k : ℕ)
+      → BasesSoFar sats (drop k left) lines bases → length left ≤ k
+      → AreBasesOf m root tag sats lines bases
   bases_all sats left lines bases k f h =
       let none = drop_of_length-le left {i = k} h in
       let all = f.own [] [] (subst (λ (l : List SatObs). AreBasesOf m root tag l [] []) (sym none) refl) in
       subst (λ (l : List SatLine). AreBasesOf m root tag sats l bases) (append-nil lines) (subst (λ (l : List Base). AreBasesOf m root tag sats (lines ++ []) l) (append-nil bases) all)
 
-small_end : (lines : List SatLine) (line : SatLine) → AreSmall lines → IsSmallLine line → AreSmall (lines ++ line ∷ [])
+small_end : (lines : List SatLine) (line : SatLine) → AreSmall lines → IsSmallLine line
+    → AreSmall (lines ++ line ∷ [])
 small_end [] line f g = (g, tt)
 small_end (first ∷ lines) line f g = (f.0, small_end lines line f.1 g)
 
-pub small_more : (lines after : List SatLine) (line : SatLine) → AreSmall lines → IsSmallLine line → after ≡ lines ++ line ∷ [] → AreSmall after
+pub small_more : (lines after : List SatLine) (line : SatLine) → AreSmall lines → IsSmallLine line
+    → after ≡ lines ++ line ∷ [] → AreSmall after
 small_more lines after line f g e = subst AreSmall (sym e) (small_end lines line f g)
 
-usable_end : (lines : List SatLine) (line : SatLine) → usable_in (lines ++ line ∷ []) ≡ usable_in lines + usable_line line
+usable_end : (lines : List SatLine) (line : SatLine)
+    → usable_in (lines ++ line ∷ []) ≡ usable_in lines + usable_line line
 usable_end [] line = omega arith
 usable_end (first ∷ lines) line = omega (arith, usable_end lines line)
 
-pub usable_more : (lines after : List SatLine) (line : SatLine) → after ≡ lines ++ line ∷ [] → usable_in after ≡ usable_in lines + usable_line line
+pub usable_more : (lines after : List SatLine) (line : SatLine) → after ≡ lines ++ line ∷ []
+    → usable_in after ≡ usable_in lines + usable_line line
 usable_more lines after line e = ap usable_in e ∙ usable_end lines line
 
 pub usable_one : (line : SatLine) → usable_line line ≤ 1

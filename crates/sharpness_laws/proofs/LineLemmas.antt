@@ -44,14 +44,16 @@ module _ (m : Meaning) (sound : IsSound m) (search : Search) (box : IsSearchBox 
   But = UsableBut m search.root search.epoch
 
   -- a usable satellite has no reason not to use it
-  usable_meets : (Meets : SatObs → Type 0) (seen : SatObs) → m.judged search.root search.epoch.tag seen None → Usable Meets seen → Meets seen
+  usable_meets : (Meets : SatObs → Type 0) (seen : SatObs)
+      → m.judged search.root search.epoch.tag seen None → Usable Meets seen → Meets seen
   usable_meets Meets seen usable h = elim h [
     | inl (skip, skipped) ↦ absurd (let same = sound.one_judgement search.root search.epoch.tag seen None (Some skip) usable skipped in cc)
     | inr meets ↦ meets
   ]
 
   -- one more of which the fact holds
-  meets_too : (q : ℕ) (Meets : SatObs → Type 0) (seen : SatObs) (sats : List SatObs) → Usable Meets seen → But q Meets sats → But q Meets (seen ∷ sats)
+  meets_too : (q : ℕ) (Meets : SatObs → Type 0) (seen : SatObs) (sats : List SatObs)
+      → Usable Meets seen → But q Meets sats → But q Meets (seen ∷ sats)
   meets_too zero Meets seen sats here more = (here, more)
   meets_too (suc q) Meets seen sats here more = inl (here, more)
 
@@ -64,14 +66,16 @@ module _ (m : Meaning) (sound : IsSound m) (search : Search) (box : IsSearchBox 
     abbrev Held : SatObs → Type 0
     Held seen = HoldsRange m search.root search.epoch part margin (ranges seen) seen
 
-    near_here : (seen : SatObs) (row : Row) → IsRowFor m search used seen row → Usable Held seen → holds (clock_ends part row) b ≡ true → Near seen
+    near_here : (seen : SatObs) (row : Row) → IsRowFor m search used seen row → Usable Held seen
+        → holds (clock_ends part row) b ≡ true → Near seen
     near_here seen row is held e =
         let (from, to) = both _ _ e in
         nearly_consistent m search.root search.epoch part margin seen (spare_of used) (err_spare_of used m.delays) is.own row (own_box part used in_used)
         (row_over m sound search box used part seen row in_root in_used is) enough
         (ranges seen) b (usable_meets Held seen is.usable held) (le_from _ _ from) (le_from _ _ to)
 
-    near_but : (q : ℕ) (sats : List SatObs) (rows : List Row) → AreRowsFor m search used sats rows → But 0 Held sats
+    near_but : (q : ℕ) (sats : List SatObs) (rows : List Row) → AreRowsFor m search used sats rows
+        → But 0 Held sats
         → length rows ≤ count_by (λ s. holds s b) (clock_spans part rows) + q → But q Near sats
     near_but q [] rows are held le = tt
     near_but q (seen ∷ sats) [] are held le = meets_too q Near seen sats (inl are.0) (near_but q sats [] are.1 held.1 le)
@@ -88,7 +92,8 @@ module _ (m : Meaning) (sound : IsSound m) (search : Search) (box : IsSearchBox 
       ]
     ]
 
-  pub empty_shown : (q : ℕ) (rows : List Row) → AreRowsOver m search used rows → IsEmptyBy m search.root search.epoch part margin q → IsShownEmpty rows part q
+  pub empty_shown : (q : ℕ) (rows : List Row) → AreRowsOver m search used rows
+      → IsEmptyBy m search.root search.epoch part margin q → IsShownEmpty rows part q
   empty_shown q rows are clear b lies_in = clear.none b (near_but clear.ranges b q search.epoch.sats.items rows are clear.hold (omega arith))
 
   -- ---- inner spans
@@ -97,13 +102,15 @@ module _ (m : Meaning) (sound : IsSound m) (search : Search) (box : IsSearchBox 
     abbrev Safe : SatObs → Type 0
     Safe seen = IsSafelyConsistent m search.root search.epoch part margin b seen
 
-    inner_here : (seen : SatObs) (row : Row) → IsRowFor m search used seen row → Usable Safe seen → holds (inner_ends part row) b ≡ true
+    inner_here : (seen : SatObs) (row : Row) → IsRowFor m search used seen row → Usable Safe seen
+        → holds (inner_ends part row) b ≡ true
     inner_here seen row is safe =
         let (from, to) = safely_inner m search.root search.epoch part margin seen (spare_of used) (err_spare_of used m.delays) is.own row (own_box part used in_used)
         (row_over m sound search box used part seen row in_root in_used is) enough b (usable_meets Safe seen is.usable safe) in
         holds_from _ _ b from to
 
-    inner_but : (q : ℕ) (sats : List SatObs) (rows : List Row) → AreRowsFor m search used sats rows → But q Safe sats → length rows ≤ count_by (λ s. holds s b) (inner_spans part rows) + q
+    inner_but : (q : ℕ) (sats : List SatObs) (rows : List Row) → AreRowsFor m search used sats rows
+        → But q Safe sats → length rows ≤ count_by (λ s. holds s b) (inner_spans part rows) + q
     inner_but q [] [] are safe = omega arith
     inner_but q [] (row ∷ rows) are safe = absurd are
     inner_but q (seen ∷ sats) [] are safe = omega arith
@@ -122,5 +129,7 @@ module _ (m : Meaning) (sound : IsSound m) (search : Search) (box : IsSearchBox 
       ]
     ]
 
-  pub inner_shown : (q : ℕ) (rows : List Row) → AreRowsOver m search used rows → (clear : IsInnerBy m search.root search.epoch part margin q) → IsShownInner rows part q clear.offset
+  pub inner_shown : (q : ℕ) (rows : List Row) → AreRowsOver m search used rows
+      → (clear : IsInnerBy m search.root search.epoch part margin q)
+      → IsShownInner rows part q clear.offset
   inner_shown q rows are clear = omega (arith, inner_but clear.offset q search.epoch.sats.items rows are clear.inside)

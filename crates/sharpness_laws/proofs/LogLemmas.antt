@@ -59,22 +59,27 @@ module _ (m : Meaning) (sound : IsSound m) (renews : Bool) (rules : Rules) where
       rows_are : AreRowsOver m search search.root (rows_of block.sats)
       rows_are = rw sats (first_over m search grown.own given.sats grown.are_own lines)
 
-      run_leaves : (paved : HasRun maker rules block body) → NothingClearIn m rules search body.done paved.shown
+      run_leaves : (paved : HasRun maker rules block body)
+          → NothingClearIn m rules search body.done paved.shown
       run_leaves paved = rw paved.done (run_clear m sound rules search box grid maker (length (rows_of block.sats)) (renewed_over m search renews (rows_of block.sats) distinct rows_are)
           (test_in rules block) refl rows_are refl body.root root paved.shown paved.run)
 
-      hand_leaves : (first : HasBegun maker rules block body) → NothingClearIn m rules search first.begun.paving.splits first.shown
+      hand_leaves : (first : HasBegun maker rules block body)
+          → NothingClearIn m rules search first.begun.paving.splits first.shown
       hand_leaves first = first_clear m sound rules search box grid maker (length (rows_of block.sats)) (renewed_over m search renews (rows_of block.sats) distinct rows_are)
           (test_in rules block) refl rows_are refl body.root root first.shown first.begun
 
-    body_of : (theirs ours : Option Body) → HasBody m.delays search.root grown.own given.sats theirs → BodyExtends (HasRun maker rules) block theirs ours
+    body_of : (theirs ours : Option Body) → HasBody m.delays search.root grown.own given.sats theirs
+        → BodyExtends (HasRun maker rules) block theirs ours
         → BodyLeavesNothingClear m renews rules search block ours
     body_of theirs None has extends = tt
     body_of theirs (Some body) has extends =
         let (lines, root, paved) = root_and_run m.delays search.root grown.own given.sats (HasRun maker rules) block theirs body has extends in
         (root, paved, run_leaves lines body root paved)
 
-    hand_of_body : (theirs ours : Option Body) → HasBody m.delays search.root grown.own given.sats theirs → BodyExtends (HasBegun maker rules) block theirs ours
+    hand_of_body : (theirs ours : Option Body)
+        → HasBody m.delays search.root grown.own given.sats theirs
+        → BodyExtends (HasBegun maker rules) block theirs ours
         → HandLeavesNothingClear m renews rules search block ours
     hand_of_body theirs None has extends = tt
     hand_of_body theirs (Some body) has extends =
@@ -82,22 +87,26 @@ module _ (m : Meaning) (sound : IsSound m) (renews : Bool) (rules : Rules) where
         (root, first, hand_leaves lines body root first)
 
   -- the maker goes by the rows of the block that was given, which are those of the block
-  same_maker : (search : Search) (given block : Block) → block.sats ≡ given.sats → maker_of m renews (Some (hand_of search given)) ≡ maker_in m renews search block
+  same_maker : (search : Search) (given block : Block) → block.sats ≡ given.sats
+      → maker_of m renews (Some (hand_of search given)) ≡ maker_in m renews search block
   same_maker search given block sats = ap (λ (entries : List SatEntry). maker_of m renews (Some (record { search = search; sats = map (λ row. row.sat) (rows_of entries) }))) (sym sats)
 
   module _ (search : Search) (box : IsSearchBox search.root) (grid : IsGridPart search.root) (distinct : AreDistinctIf renews search.epoch.sats.items) (block : Block) where
-    pub body_clear : IsSolved m renews rules search block → BodyLeavesNothingClear m renews rules search block block.body
+    pub body_clear : IsSolved m renews rules search block
+        → BodyLeavesNothingClear m renews rules search block block.body
     body_clear s =
         let body = subst (λ (maker : Maker). BodyExtends (HasRun maker rules) block s.given.body block.body) (same_maker search s.given block s.made.sats) s.made.body in
         body_of search box grid distinct s.given block s.grown s.made.sats s.given.body block.body s.grown.body body
 
-    pub hand_clear : IsSolvedFirst m renews rules search block → HandLeavesNothingClear m renews rules search block block.body
+    pub hand_clear : IsSolvedFirst m renews rules search block
+        → HandLeavesNothingClear m renews rules search block block.body
     hand_clear s =
         let body = subst (λ (maker : Maker). BodyExtends (HasBegun maker rules) block s.given.body block.body) (same_maker search s.given block s.made.sats) s.made.body in
         hand_of_body search box grid distinct s.given block s.grown s.made.sats s.given.body block.body s.grown.body body
 
   -- each search has a block
-  pub as_many : (searches : List Search) (blocks : List Block) → AreSolved m renews rules searches blocks → length blocks ≡ length searches
+  pub as_many : (searches : List Search) (blocks : List Block)
+      → AreSolved m renews rules searches blocks → length blocks ≡ length searches
   as_many [] [] solved = refl
   as_many [] (block ∷ blocks) solved = absurd solved
   as_many (search ∷ searches) [] solved = absurd solved
@@ -106,14 +115,16 @@ module _ (m : Meaning) (sound : IsSound m) (renews : Bool) (rules : Rules) where
   -- ---- blocks of epochs that are searched in one box
 
   module _ (root : GridBox) (box : IsSearchBox root) (grid : IsGridPart root) where
-    blocks_clear : (epochs : List ObsEpoch) (blocks : List Block) → AllDistinctIf renews epochs → AreSolved m renews rules (searches_in root epochs) blocks
+    blocks_clear : (epochs : List ObsEpoch) (blocks : List Block) → AllDistinctIf renews epochs
+        → AreSolved m renews rules (searches_in root epochs) blocks
         → BlocksLeaveNothingClear m renews rules (searches_in root epochs) blocks None
     blocks_clear epochs [] distinct solved = tt
     blocks_clear [] (block ∷ blocks) distinct solved = absurd solved
     blocks_clear (epoch ∷ epochs) (block ∷ blocks) distinct solved =
         (body_clear (search_in root epoch) box grid distinct.0 block solved.0, blocks_clear epochs blocks distinct.1 solved.1)
 
-    pub log_clear : (epochs : List ObsEpoch) (blocks : List Block) → AllDistinctIf renews epochs → AreSolved m renews rules (searches_in root epochs) blocks
+    pub log_clear : (epochs : List ObsEpoch) (blocks : List Block) → AllDistinctIf renews epochs
+        → AreSolved m renews rules (searches_in root epochs) blocks
         → LogLeavesNothingClear m renews rules (searches_in root epochs) blocks
     log_clear epochs blocks distinct solved = (as_many (searches_in root epochs) blocks solved, blocks_clear epochs blocks distinct solved)
 
@@ -126,7 +137,8 @@ module _ (m : Meaning) (sound : IsSound m) (renews : Bool) (rules : Rules) where
     first_search : searches_in old.root old.epochs ≡ search_in old.root gave.epoch ∷ searches_in new.root new.epochs
     first_search = rw gave.same_root (ap (searches_in old.root) gave.first)
 
-    made_of : (Makes : Maker → Rules → Block → Block → Type 0) (block : Block) → Makes (maker_of m renews new.hand) rules given block
+    made_of : (Makes : Maker → Rules → Block → Block → Type 0) (block : Block)
+        → Makes (maker_of m renews new.hand) rules given block
         → IsMade m renews rules Makes (search_in old.root gave.epoch) block
     made_of Makes block made = record {
       given = given;
@@ -134,18 +146,23 @@ module _ (m : Meaning) (sound : IsSound m) (renews : Bool) (rules : Rules) where
       made = subst (λ (hand : Option Hand). Makes (maker_of m renews hand) rules given block) gave.hand made;
     }
 
-    distinct_of : AllDistinctIf renews old.epochs → AreDistinctIf renews gave.epoch.sats.items × AllDistinctIf renews new.epochs
+    distinct_of : AllDistinctIf renews old.epochs
+        → AreDistinctIf renews gave.epoch.sats.items × AllDistinctIf renews new.epochs
     distinct_of distinct = let both : AllDistinctIf renews (gave.epoch ∷ new.epochs) = subst (AllDistinctIf renews) gave.first distinct in (both.0, both.1)
 
-  hand_came : (behind : EpochsLeft) (hull : Option GridBox) (hand : Option Block) → IsSearchBox behind.root → IsGridPart behind.root → AllDistinctIf renews behind.epochs
-      → IsInHand source rules behind hull hand → BlocksLeaveNothingClear m renews rules (searches_in behind.root behind.epochs) [] hand
+  hand_came : (behind : EpochsLeft) (hull : Option GridBox) (hand : Option Block)
+      → IsSearchBox behind.root → IsGridPart behind.root → AllDistinctIf renews behind.epochs
+      → IsInHand source rules behind hull hand
+      → BlocksLeaveNothingClear m renews rules (searches_in behind.root behind.epochs) [] hand
   hand_came behind hull None box grid distinct in_hand = tt
   hand_came behind hull (Some block) box grid distinct (given, next, gave, begins) =
       subst (λ (l : List Search). BlocksLeaveNothingClear m renews rules l [] (Some block)) (sym (first_search behind given next gave))
       (hand_clear (search_in behind.root gave.epoch) box grid (distinct_of behind given next gave distinct).0 block (made_of behind given next gave Begins block begins))
 
-  pub came_clear : (left : EpochsLeft) (hull : Option GridBox) (blocks : List Block) (behind : EpochsLeft) (hand : Option Block) → IsSearchBox left.root → IsGridPart left.root → AllDistinctIf renews left.epochs
-      → Came source rules left hull blocks behind → IsInHand source rules behind (hull_of_last hull blocks) hand
+  pub came_clear : (left : EpochsLeft) (hull : Option GridBox) (blocks : List Block) (behind : EpochsLeft) (hand : Option Block)
+      → IsSearchBox left.root → IsGridPart left.root → AllDistinctIf renews left.epochs
+      → Came source rules left hull blocks behind
+      → IsInHand source rules behind (hull_of_last hull blocks) hand
       → BlocksLeaveNothingClear m renews rules (searches_in left.root left.epochs) blocks hand
   came_clear left hull [] behind hand box grid distinct came in_hand =
       hand_came left hull hand box grid distinct (subst (λ (l : EpochsLeft). IsInHand source rules l hull hand) (sym came) in_hand)
@@ -172,7 +189,8 @@ module _ (m : Meaning) (sound : IsSound m) (renews : Bool) (rules : Rules) where
 -- ---- epochs that can stand in a log
 
 -- their satellites have names of their own
-pub writable_distinct : (renews : Bool) (before : Option ℕ) (epochs : List ObsEpoch) → AreWritable before epochs → AllDistinctIf renews epochs
+pub writable_distinct : (renews : Bool) (before : Option ℕ) (epochs : List ObsEpoch)
+    → AreWritable before epochs → AllDistinctIf renews epochs
 writable_distinct renews before [] writable = tt
 writable_distinct renews before (epoch ∷ epochs) writable =
     (λ active. writable.1.distinct, writable_distinct renews (Some epoch.index) epochs writable.2)

@@ -72,7 +72,8 @@ abbrev IsNearAt : ℤ → ℤ → ℕ → Side → ℤ → ℤ → Type 0
 IsNearAt x0 x1 w side x at = unsigned_abs (x -ℤ at) ≤ least_amount (x0 -ℤ pos w) (x1 +ℤ pos w) side.lo side.hi + 2 * w
 
 -- the end of the side that is farthest from the grown span
-pub far_axis : (x0 x1 : ℤ) (w : ℕ) (side : Side) → x0 ≤ℤ x1 → (x1 -ℤ x0) ≤ℤ pos w → side.lo ≤ℤ side.hi
+pub far_axis : (x0 x1 : ℤ) (w : ℕ) (side : Side) → x0 ≤ℤ x1 → (x1 -ℤ x0) ≤ℤ pos w
+    → side.lo ≤ℤ side.hi
     → AxisPoint x0 x1 side (λ x at. IsFarAt x0 x1 w side x at)
 far_axis x0 x1 w side o tight s =
     let above = above_is_up (x1 +ℤ pos w) side.lo in
@@ -84,7 +85,8 @@ far_axis x0 x1 w side o tight s =
     (λ h. record { at = side.hi; inside = (s, omega (arith, ints)); good = λ x l u. omega (arith, ints, above, below, abs_up_down (x -ℤ side.hi), one_part (x -ℤ side.hi), high_part, low_part) })
 
 -- the number of the side that is nearest to the span's low end
-pub near_axis : (x0 x1 : ℤ) (w : ℕ) (side : Side) → x0 ≤ℤ x1 → (x1 -ℤ x0) ≤ℤ pos w → side.lo ≤ℤ side.hi
+pub near_axis : (x0 x1 : ℤ) (w : ℕ) (side : Side) → x0 ≤ℤ x1 → (x1 -ℤ x0) ≤ℤ pos w
+    → side.lo ≤ℤ side.hi
     → AxisPoint x0 x1 side (λ x at. IsNearAt x0 x1 w side x at)
 near_axis x0 x1 w side o tight s =
     let above = above_is_up (x0 -ℤ pos w) side.hi in

@@ -29,7 +29,8 @@ use Rattle.sharpness_laws.proofs.RootLemmas.{root_grown, far_axis, near_axis}
 pub record IsRowOver (Allows : Pos → Chain → Type 0) (w g : ℕ) (part : GridBox) (own row : Row) : Type 0 where
   pub spare : 2 ≤ w
   pub exists : (p : Pos) → box_holds part p ≡ true → (values : Chain) × Allows p values
-  pub range_is : (p : Pos) (values : Chain) → Allows p values → values.range ≡ range_to values.x values.y values.z p
+  pub range_is : (p : Pos) (values : Chain) → Allows p values
+      → values.range ≡ range_to values.x values.y values.z p
   pub holds : HoldsAllowed Allows part own
   pub x : (own.x.hi -ℤ own.x.lo) ≤ℤ pos w
   pub y : (own.y.hi -ℤ own.y.lo) ≤ℤ pos w
@@ -49,7 +50,8 @@ pub record AllowedIn (Allows : Pos → Chain → Type 0) (part : GridBox) (Good 
   pub are : Allows at values
   pub good : Good values
 
-holds_sides : (part : GridBox) (p : Pos) → IsIn part.x p.x → IsIn part.y p.y → IsIn part.z p.z → box_holds part p ≡ true
+holds_sides : (part : GridBox) (p : Pos) → IsIn part.x p.x → IsIn part.y p.y → IsIn part.z p.z
+    → box_holds part p ≡ true
 holds_sides part p x y z = holds_all part p (λ axis. side axis)
   where
     side : (axis : ℕ) → IsIn (side_at axis part) (along axis p)
@@ -107,7 +109,8 @@ module _ (Allows : Pos → Chain → Type 0) (w g : ℕ) (part : GridBox) (own r
 module _ (m : Meaning) (root : GridBox) (epoch : ObsEpoch) (part : GridBox) (margin : ℕ) (seen : SatObs) (w g : ℕ) (own row : Row)
     (lies : LiesIn part part) (over : IsRowOver (m.allows epoch.tag seen) w g part own row) (enough : 6 * w + 2 * g ≤ margin) where
   -- an offset in the clock span leaves the satellite nearly consistent
-  pub nearly_consistent : (range : Side) (b : ℤ) → HoldsRange m root epoch part margin range seen → (clock_ends part row).0 ≤ℤ b → b ≤ℤ (clock_ends part row).1
+  pub nearly_consistent : (range : Side) (b : ℤ) → HoldsRange m root epoch part margin range seen
+      → (clock_ends part row).0 ≤ℤ b → b ≤ℤ (clock_ends part row).1
       → IsNearlyConsistent m root epoch part margin range b seen
   nearly_consistent range b ranges from to =
       let f = far_less (m.allows epoch.tag seen) w g part own row lies over in
@@ -140,7 +143,8 @@ module _ (m : Meaning) (root : GridBox) (epoch : ObsEpoch) (part : GridBox) (mar
       (λ k. record { at = f.at; inside = f.inside; values = f.values; are = f.are; distance = range.lo; in_range = (omega (arith, ints), ranges.ordered); within = record { from = below; to = k } })
 
   -- an offset at which the satellite is safely consistent lies in the inner span
-  pub safely_inner : (b : ℤ) → IsSafelyConsistent m root epoch part margin b seen → ((inner_ends part row).0 ≤ℤ b) × (b ≤ℤ (inner_ends part row).1)
+  pub safely_inner : (b : ℤ) → IsSafelyConsistent m root epoch part margin b seen
+      → ((inner_ends part row).0 ≤ℤ b) × (b ≤ℤ (inner_ends part row).1)
   safely_inner b safe =
       let f = far_less (m.allows epoch.tag seen) w g part own row lies over in
       let n = near_greater (m.allows epoch.tag seen) w g part own row lies over in
@@ -160,8 +164,10 @@ module _ (m : Meaning) (root : GridBox) (epoch : ObsEpoch) (part : GridBox) (mar
 -- ---- the rows in use
 
 -- over a part of the box of the rows in use
-pub row_over : (m : Meaning) (sound : IsSound m) (search : Search) (box : IsSearchBox search.root) (used part : GridBox) (seen : SatObs) (row : Row) → LiesIn part search.root → LiesIn part used
-    → (is : IsRowFor m search used seen row) → IsRowOver (m.allows search.epoch.tag seen) (spare_of used) (err_spare_of used m.delays) part is.own row
+pub row_over : (m : Meaning) (sound : IsSound m) (search : Search) (box : IsSearchBox search.root) (used part : GridBox) (seen : SatObs) (row : Row)
+    → LiesIn part search.root → LiesIn part used
+    → (is : IsRowFor m search used seen row)
+    → IsRowOver (m.allows search.epoch.tag seen) (spare_of used) (err_spare_of used m.delays) part is.own row
 row_over m sound search box used part seen row in_root in_used is = record {
   spare = omega arith;
   exists = λ p inside. sound.allowed_exists search.root search.epoch.tag seen p box (part_holds part search.root p in_root inside) is.usable;

@@ -45,19 +45,23 @@ use Rattle.range_contractor.proofs.TreeLemmas.{lies_itself as own_box}
 
 -- ---- eighths
 
-eighth_proper : (low : Bool) (s : Side) → s.lo ≤ℤ s.hi → 1 ≤ eighth_of s → IsProperBound low s (past_eighth low s)
+eighth_proper : (low : Bool) (s : Side) → s.lo ≤ℤ s.hi → 1 ≤ eighth_of s
+    → IsProperBound low s (past_eighth low s)
 eighth_proper true s ordered some = (omega (arith, ints), omega (arith, ints, above_is_up s.hi s.lo, one_part (s.hi -ℤ s.lo)))
 eighth_proper false s ordered some = (omega (arith, ints, above_is_up s.hi s.lo, one_part (s.hi -ℤ s.lo)), omega (arith, ints))
 
-slab_side_inside : (low : Bool) (s : Side) (bound : ℤ) → IsProperBound low s bound → SideLiesIn (side_cut low s bound) s
+slab_side_inside : (low : Bool) (s : Side) (bound : ℤ) → IsProperBound low s bound
+    → SideLiesIn (side_cut low s bound) s
 slab_side_inside true s bound (h, k) = record { low = omega (arith, ints); ordered = omega (arith, ints); high = omega (arith, ints) }
 slab_side_inside false s bound (h, k) = record { low = omega (arith, ints); ordered = omega (arith, ints); high = omega (arith, ints) }
 
-slab_inside : (face : ℕ) (bound : ℤ) (part : GridBox) → LiesIn part part → IsProperCut face bound part → LiesIn (slab_of_cut face bound part) part
+slab_inside : (face : ℕ) (bound : ℤ) (part : GridBox) → LiesIn part part
+    → IsProperCut face bound part → LiesIn (slab_of_cut face bound part) part
 slab_inside face bound part lies proper =
     with_inside (axis_of face) part (side_cut (is_low face) (side_at (axis_of face) part) bound) lies (slab_side_inside (is_low face) (side_at (axis_of face) part) bound proper)
 
-none_at : (test : BoxTest) (face : ℕ) (part : GridBox) → face ≤ 5 → NoneMayCut test all_faces part → MayCut test face (eighths face part) part → ⊥
+none_at : (test : BoxTest) (face : ℕ) (part : GridBox) → face ≤ 5 → NoneMayCut test all_faces part
+    → MayCut test face (eighths face part) part → ⊥
 none_at test zero part le none = none.0
 none_at test (suc zero) part le none = none.1.0
 none_at test (suc (suc zero)) part le none = none.1.1.0
@@ -68,7 +72,8 @@ none_at test (suc (suc (suc (suc (suc (suc n)))))) part le none = absurd (omega 
 
 -- ---- splits: they rise, up to the number that is allowed
 
-splits_on : (test : BoxTest) (rules : Rules) (splits id : ℕ) (part : GridBox) (step : Step) → Closes test rules splits id part step
+splits_on : (test : BoxTest) (rules : Rules) (splits id : ℕ) (part : GridBox) (step : Step)
+    → Closes test rules splits id part step
     → (splits ≤ splits_after splits step) × (splits ≤ rules.bisections → splits_after splits step ≤ rules.bisections)
 splits_on test rules splits id part (Cut n face bound) closes = absurd closes
 splits_on test rules splits id part (Split n axis) (is, undecided, may, longest) = (omega arith, λ le. omega (arith, may.1))
@@ -76,7 +81,8 @@ splits_on test rules splits id part (Outside n) closes = (omega arith, λ le. le
 splits_on test rules splits id part (Inside n clock lo hi) closes = (omega arith, λ le. le)
 splits_on test rules splits id part (Edge n lo hi) closes = (omega arith, λ le. le)
 
-run_splits : (maker : Maker) (rules : Rules) (used : GridBox) (paving last : Paving) (turns : List Turn) → PavesTurns maker rules used paving turns last
+run_splits : (maker : Maker) (rules : Rules) (used : GridBox) (paving last : Paving) (turns : List Turn)
+    → PavesTurns maker rules used paving turns last
     → (paving.splits ≤ last.splits) × (paving.splits ≤ rules.bisections → last.splits ≤ rules.bisections)
 run_splits maker rules used paving last [] same = rw same (omega arith, λ le. le)
 run_splits maker rules used paving last (turn ∷ turns) (next, rest, is_next, steps, renews, later) =
@@ -109,14 +115,16 @@ whole_of a b c lies inside (suc (suc n)) = whole_side a.z b.z c.z (lies 2) insid
 abbrev Lie : GridBox → List WaitingBox → Type 0
 Lie whole waiting = AllByRecursion (λ (box : WaitingBox). LiesIn box.part whole) waiting
 
-next_lies : (whole : GridBox) (waiting : List WaitingBox) (next : WaitingBox) (rest : List WaitingBox) → IsNext waiting next rest → Lie whole waiting → LiesIn next.part whole × Lie whole rest
+next_lies : (whole : GridBox) (waiting : List WaitingBox) (next : WaitingBox) (rest : List WaitingBox)
+    → IsNext waiting next rest → Lie whole waiting → LiesIn next.part whole × Lie whole rest
 next_lies whole waiting next rest is all =
     let P = λ (box : WaitingBox). LiesIn box.part whole in
     let split : Lie whole (is.before ++ next ∷ is.behind) = subst (Lie whole) is.all_waiting all in
     let behind = all_back P is.before (next ∷ is.behind) split in
     (behind.0, subst (Lie whole) (sym is.others) (all_append P is.before is.behind (all_front P is.before (next ∷ is.behind) split) behind.1))
 
-opened_lie : (whole : GridBox) (test : BoxTest) (rules : Rules) (splits id : ℕ) (part : GridBox) (step : Step) → Closes test rules splits id part step → LiesIn part whole
+opened_lie : (whole : GridBox) (test : BoxTest) (rules : Rules) (splits id : ℕ) (part : GridBox) (step : Step)
+    → Closes test rules splits id part step → LiesIn part whole
     → Lie whole (opened_by splits step part)
 opened_lie whole test rules splits id part (Cut n face bound) closes lies = absurd closes
 opened_lie whole test rules splits id part (Split n axis) (is, undecided, may, longest) lies =
@@ -129,12 +137,14 @@ opened_lie whole test rules splits id part (Outside n) closes lies = tt
 opened_lie whole test rules splits id part (Inside n clock lo hi) closes lies = tt
 opened_lie whole test rules splits id part (Edge n lo hi) closes lies = tt
 
-all_inside : (whole root : GridBox) (waiting : List WaitingBox) → Lie whole waiting → IsInside whole root → AllInside waiting root
+all_inside : (whole root : GridBox) (waiting : List WaitingBox) → Lie whole waiting
+    → IsInside whole root → AllInside waiting root
 all_inside whole root [] lie inside = tt
 all_inside whole root (box ∷ waiting) lie inside =
     (inside_of box.part root (lies_through box.part whole root lie.0 (whole_of box.part whole root lie.0 inside)), all_inside whole root waiting lie.1 inside)
 
-lie_in_hull : (whole hull : GridBox) (waiting : List WaitingBox) → Lie whole waiting → AllInside waiting hull → Lie hull waiting
+lie_in_hull : (whole hull : GridBox) (waiting : List WaitingBox) → Lie whole waiting
+    → AllInside waiting hull → Lie hull waiting
 lie_in_hull whole hull [] lie inside = tt
 lie_in_hull whole hull (box ∷ waiting) lie inside = (part_of box.part hull whole lie.0 inside.0, lie_in_hull whole hull waiting lie.1 inside.1)
 
@@ -149,26 +159,31 @@ module _ (m : Meaning) (sound : IsSound m) (rules : Rules) (search : Search) (bo
     pub many : length test.rows ≡ count
     pub inside : IsInside used search.root
 
-  in_root : (used part : GridBox) (test : BoxTest) → IsInUse used test → LiesIn part used → LiesIn part search.root
+  in_root : (used part : GridBox) (test : BoxTest) → IsInUse used test → LiesIn part used
+      → LiesIn part search.root
   in_root used part test is lies = lies_through part used search.root lies (whole_of part used search.root lies is.inside)
 
-  enough : (used part : GridBox) (test : BoxTest) → IsInUse used test → LiesIn part used → 6 * spare_of used + 2 * err_spare_of used m.delays ≤ margin_over search.root m.delays
+  enough : (used part : GridBox) (test : BoxTest) → IsInUse used test → LiesIn part used
+      → 6 * spare_of used + 2 * err_spare_of used m.delays ≤ margin_over search.root m.delays
   enough used part test is lies =
       let whole = whole_of part used search.root lies is.inside in
       omega (arith, spare_mono used search.root whole, err_spare_mono m.delays used search.root whole)
 
   -- where a box isn't shown empty it isn't clearly so
-  not_clearly_empty : (used part : GridBox) (test : BoxTest) → IsInUse used test → LiesIn part used → (IsEmpty test part → ⊥) → IsClearlyEmpty m rules.outliers search part → ⊥
+  not_clearly_empty : (used part : GridBox) (test : BoxTest) → IsInUse used test → LiesIn part used
+      → (IsEmpty test part → ⊥) → IsClearlyEmpty m rules.outliers search part → ⊥
   not_clearly_empty used part test is lies not clear =
       let shown = empty_shown m sound search box used part (in_root used part test is lies) lies (margin_over search.root m.delays) (enough used part test is lies) rules.outliers test.rows is.rows clear in
       not (empty_by_spans test part (subst (IsShownEmpty test.rows part) (sym is.outliers) shown))
 
-  not_clearly_inner : (used part : GridBox) (test : BoxTest) → IsInUse used test → LiesIn part used → NoneIsInner test part → IsClearlyInner m rules.outliers search part → ⊥
+  not_clearly_inner : (used part : GridBox) (test : BoxTest) → IsInUse used test → LiesIn part used
+      → NoneIsInner test part → IsClearlyInner m rules.outliers search part → ⊥
   not_clearly_inner used part test is lies none clear =
       let shown = inner_shown m sound search box used part (in_root used part test is lies) lies (margin_over search.root m.delays) (enough used part test is lies) rules.outliers test.rows is.rows clear in
       none clear.offset (subst (λ (n : ℕ). IsShownInner test.rows part n clear.offset) (sym is.outliers) shown)
 
-  unclear : (grain slack : ℤ) (used : GridBox) (test : BoxTest) (waits : WaitingBox) (cuts : List ShownStep) (left : GridBox) → IsInUse used test → AreCutsOf grain slack test waits cuts left
+  unclear : (grain slack : ℤ) (used : GridBox) (test : BoxTest) (waits : WaitingBox) (cuts : List ShownStep) (left : GridBox)
+      → IsInUse used test → AreCutsOf grain slack test waits cuts left
       → LiesIn left used → IsUndecided test left → IsUnclear m rules search left
   unclear grain slack used test waits cuts left is are_cuts lies undecided = record {
     not_empty = not_clearly_empty used left test is lies undecided.not_empty;
@@ -181,7 +196,9 @@ module _ (m : Meaning) (sound : IsSound m) (rules : Rules) (search : Search) (bo
   }
 
   -- the step that splits or closes a box
-  last_clear : (test : BoxTest) (splits id done : ℕ) (left : GridBox) (step : Step) → Closes test rules splits id left step → (IsUndecided test left → IsUnclear m rules search left)
+  last_clear : (test : BoxTest) (splits id done : ℕ) (left : GridBox) (step : Step)
+      → Closes test rules splits id left step
+      → (IsUndecided test left → IsUnclear m rules search left)
       → splits ≤ done → done ≤ rules.bisections → LeavesNothingClear m rules search done step left
   last_clear test splits id done left (Cut n face bound) closes clear le most = absurd closes
   last_clear test splits id done left (Split n axis) (is, undecided, may, longest) clear le most = clear undecided
@@ -196,19 +213,22 @@ module _ (m : Meaning) (sound : IsSound m) (rules : Rules) (search : Search) (bo
   )
 
   -- nothing is asked of cuts
-  cuts_clear : (test : BoxTest) (id done : ℕ) (part : GridBox) (cuts : List ShownStep) (left : GridBox) → AreCutsInTurn test id part cuts left → NothingClearLeft m rules search done cuts
+  cuts_clear : (test : BoxTest) (id done : ℕ) (part : GridBox) (cuts : List ShownStep) (left : GridBox)
+      → AreCutsInTurn test id part cuts left → NothingClearLeft m rules search done cuts
   cuts_clear test id done part [] left same = tt
   cuts_clear test id done part (shown ∷ cuts) left (face, bound, may, is, later) =
       (subst (λ (s : ShownStep). LeavesNothingClear m rules search done s.step s.part) (sym is) tt, cuts_clear test id done (left_by_cut face bound part) cuts left later)
 
   -- ---- the steps of a box
 
-  left_lies : (used : GridBox) (test : BoxTest) (splits : ℕ) (next : WaitingBox) (own : List ShownStep) → IsInUse used test → LiesIn next.part used → (steps : AreStepsOf test rules splits next own)
+  left_lies : (used : GridBox) (test : BoxTest) (splits : ℕ) (next : WaitingBox) (own : List ShownStep)
+      → IsInUse used test → LiesIn next.part used → (steps : AreStepsOf test rules splits next own)
       → LiesIn steps.left used
   left_lies used test splits next own is here steps =
       lies_through steps.left next.part used (cuts_inside _ _ test next steps.cuts steps.left (inside_part next.part search.root (in_root used next.part test is here) grid) steps.are_cuts) here
 
-  box_clear : (used : GridBox) (test : BoxTest) (splits done : ℕ) (next : WaitingBox) (own : List ShownStep) → IsInUse used test → LiesIn next.part used → AreStepsOf test rules splits next own
+  box_clear : (used : GridBox) (test : BoxTest) (splits done : ℕ) (next : WaitingBox) (own : List ShownStep)
+      → IsInUse used test → LiesIn next.part used → AreStepsOf test rules splits next own
       → splits ≤ done → done ≤ rules.bisections → NothingClearLeft m rules search done own
   box_clear used test splits done next own is here steps le most =
       let P = λ (shown : ShownStep). LeavesNothingClear m rules search done shown.step shown.part in
@@ -226,7 +246,8 @@ module _ (m : Meaning) (sound : IsSound m) (rules : Rules) (search : Search) (bo
 
   -- the rows in use behind a renewal or none, where these boxes wait
   used_then : (used : GridBox) (test : BoxTest) (before splits : ℕ) (waiting : List WaitingBox) (new : Option RowsOver) → IsInUse used test → Lie used waiting
-      → Renews maker (rows_over used test.rows) before splits waiting new → IsInUse (used_after used new) (test_after test new) × Lie (used_after used new) waiting
+      → Renews maker (rows_over used test.rows) before splits waiting new
+      → IsInUse (used_after used new) (test_after test new) × Lie (used_after used new) waiting
   used_then used test before splits waiting None is lie renews = (is, lie)
   used_then used test before splits waiting (Some new) is lie (active, due, many, gives) = (
     record {
@@ -238,7 +259,8 @@ module _ (m : Meaning) (sound : IsSound m) (rules : Rules) (search : Search) (bo
     lie_in_hull used new.part waiting lie due.is_hull.holds,
   )
 
-  goes_on : (used : GridBox) (paving : Paving) (next : WaitingBox) (rest : List WaitingBox) (turn : Turn) → IsGoing used paving → IsNext paving.waiting next rest
+  goes_on : (used : GridBox) (paving : Paving) (next : WaitingBox) (rest : List WaitingBox) (turn : Turn)
+      → IsGoing used paving → IsNext paving.waiting next rest
       → (steps : AreStepsOf paving.test rules paving.splits next turn.steps)
       → Renews maker (rows_over used paving.test.rows) paving.splits (worked_on paving rest turn).splits (worked_on paving rest turn).waiting turn.renewed
       → IsGoing (used_after used turn.renewed) (behind_turn paving rest turn)
@@ -251,27 +273,32 @@ module _ (m : Meaning) (sound : IsSound m) (rules : Rules) (search : Search) (bo
       let (in_use, lie) = used_then used paving.test paving.splits _ _ turn.renewed is.in_use opened renews in
       record { in_use = in_use; lie = lie }
 
-  going_behind : (used : GridBox) (paving last : Paving) (turns : List Turn) → IsGoing used paving → PavesTurns maker rules used paving turns last → IsGoing (used_behind used turns) last
+  going_behind : (used : GridBox) (paving last : Paving) (turns : List Turn) → IsGoing used paving
+      → PavesTurns maker rules used paving turns last → IsGoing (used_behind used turns) last
   going_behind used paving last [] is same = subst (IsGoing used) same is
   going_behind used paving last (turn ∷ turns) is (next, rest, is_next, steps, renews, later) =
       going_behind (used_after used turn.renewed) (behind_turn paving rest turn) last turns (goes_on used paving next rest turn is is_next steps renews) later
 
   -- ---- events
 
-  steps_clear : (done : ℕ) (steps : List ShownStep) → NothingClearLeft m rules search done steps → NothingClearIn m rules search done (map OfStep steps)
+  steps_clear : (done : ℕ) (steps : List ShownStep) → NothingClearLeft m rules search done steps
+      → NothingClearIn m rules search done (map OfStep steps)
   steps_clear done [] clear = tt
   steps_clear done (shown ∷ steps) clear = (clear.0, steps_clear done steps clear.1)
 
-  both_clear : (done : ℕ) (xs ys : List ShownEvent) → NothingClearIn m rules search done xs → NothingClearIn m rules search done ys → NothingClearIn m rules search done (xs ++ ys)
+  both_clear : (done : ℕ) (xs ys : List ShownEvent) → NothingClearIn m rules search done xs
+      → NothingClearIn m rules search done ys → NothingClearIn m rules search done (xs ++ ys)
   both_clear done [] ys first later = later
   both_clear done (OfStep shown ∷ xs) ys first later = (first.0, both_clear done xs ys first.1 later)
   both_clear done (OfRows new ∷ xs) ys first later = both_clear done xs ys first later
 
-  new_clear : (done : ℕ) (new : Option RowsOver) → NothingClearIn m rules search done (shown_new new)
+  new_clear : (done : ℕ) (new : Option RowsOver)
+      → NothingClearIn m rules search done (shown_new new)
   new_clear done None = tt
   new_clear done (Some new) = tt
 
-  turns_clear : (used : GridBox) (paving last : Paving) (turns : List Turn) → IsGoing used paving → PavesTurns maker rules used paving turns last → last.splits ≤ rules.bisections
+  turns_clear : (used : GridBox) (paving last : Paving) (turns : List Turn) → IsGoing used paving
+      → PavesTurns maker rules used paving turns last → last.splits ≤ rules.bisections
       → NothingClearIn m rules search last.splits (joined_turns turns)
   turns_clear used paving last [] is same most = tt
   turns_clear used paving last (turn ∷ turns) is (next, rest, is_next, steps, renews, later) most =
@@ -283,7 +310,8 @@ module _ (m : Meaning) (sound : IsSound m) (rules : Rules) (search : Search) (bo
       (both_clear last.splits (shown_new turn.renewed) (joined_turns turns) (new_clear last.splits turn.renewed) others)
 
   -- the first steps of the next box
-  begun_clear : (used : GridBox) (paving : Paving) (steps : List ShownStep) → IsGoing used paving → BeginsBox rules paving steps → paving.splits ≤ rules.bisections
+  begun_clear : (used : GridBox) (paving : Paving) (steps : List ShownStep) → IsGoing used paving
+      → BeginsBox rules paving steps → paving.splits ≤ rules.bisections
       → NothingClearLeft m rules search paving.splits steps
   begun_clear used paving [] is begins most = tt
   begun_clear used paving (shown ∷ steps) is (next, rest, more, is_next, own) most =
@@ -300,16 +328,20 @@ module _ (m : Meaning) (sound : IsSound m) (rules : Rules) (search : Search) (bo
       lie = (grid.lies, tt);
     })
 
-    most_splits : (last : Paving) (turns : List Turn) → PavesTurns maker rules root (first_paving test root) turns last → last.splits ≤ rules.bisections
+    most_splits : (last : Paving) (turns : List Turn)
+        → PavesTurns maker rules root (first_paving test root) turns last
+        → last.splits ≤ rules.bisections
     most_splits last turns paves = (run_splits maker rules root (first_paving test root) last turns paves).1 (omega arith)
 
     -- a whole run
-    pub run_clear : (events : List ShownEvent) → (run : PavedTurns maker test rules root events) → NothingClearIn m rules search run.last.splits events
+    pub run_clear : (events : List ShownEvent) → (run : PavedTurns maker test rules root events)
+        → NothingClearIn m rules search run.last.splits events
     run_clear events run = subst (NothingClearIn m rules search run.last.splits) (sym run.all_events)
         (turns_clear root (first_paving test root) run.last run.turns first_going run.paves (most_splits run.last run.turns run.paves))
 
     -- the first events of one
-    pub first_clear : (events : List ShownEvent) → (first : TurnsBegun maker test rules root events) → NothingClearIn m rules search first.paving.splits events
+    pub first_clear : (events : List ShownEvent) → (first : TurnsBegun maker test rules root events)
+        → NothingClearIn m rules search first.paving.splits events
     first_clear events first =
         let most = most_splits first.paving first.turns first.paves in
         let is = going_behind root (first_paving test root) first.paving first.turns first_going first.paves in

@@ -27,7 +27,9 @@ use Rattle.sharpness_laws.specs.UsableRows.{IsUnusable, IsRowFor, AreRowsFor, Ar
 
 -- ---- satellites of one name
 
-distinct_at : (sats : List SatObs) (j k : ℕ) (seen other : SatObs) → AreDistinct sats → slice_get sats j ≡ Some seen → slice_get sats k ≡ Some other → other.sat ≡ seen.sat → other ≡ seen
+distinct_at : (sats : List SatObs) (j k : ℕ) (seen other : SatObs) → AreDistinct sats
+    → slice_get sats j ≡ Some seen → slice_get sats k ≡ Some other → other.sat ≡ seen.sat
+    → other ≡ seen
 distinct_at [] j k seen other distinct at there same = absurd cc
 distinct_at (first ∷ sats) zero zero seen other distinct at there same = same_Some other seen (sym there ∙ at)
 distinct_at (first ∷ sats) zero (suc k) seen other distinct at there same =
@@ -42,13 +44,16 @@ names rows = map (λ row. row.sat) rows
 module _ (m : Meaning) (search : Search) where
   -- ---- the first rows
 
-  unusable_first : (seen : SatObs) (sats : List SatObs) (rows : List Row) → IsUnusable m search seen → AreRowsFor m search search.root sats rows
+  unusable_first : (seen : SatObs) (sats : List SatObs) (rows : List Row) → IsUnusable m search seen
+      → AreRowsFor m search search.root sats rows
       → AreRowsFor m search search.root (seen ∷ sats) rows
   unusable_first seen sats [] unusable are = (unusable, are)
   unusable_first seen sats (row ∷ rows) unusable are = inl (unusable, are)
 
-  first_for : (sats : List SatObs) (own : List SatLine) (entries : List SatEntry) → AreOwnLines m search.root search.epoch.tag sats own
-      → AreGrownLines (pos (spare_of search.root)) (pos (err_spare_of search.root m.delays)) own entries → AreRowsFor m search search.root sats (rows_of entries)
+  first_for : (sats : List SatObs) (own : List SatLine) (entries : List SatEntry)
+      → AreOwnLines m search.root search.epoch.tag sats own
+      → AreGrownLines (pos (spare_of search.root)) (pos (err_spare_of search.root m.delays)) own entries
+      → AreRowsFor m search search.root sats (rows_of entries)
   first_for [] [] [] are grown = tt
   first_for [] [] (e ∷ entries) are grown = absurd grown
   first_for [] (line ∷ own) entries are grown = absurd are
@@ -61,15 +66,19 @@ module _ (m : Meaning) (search : Search) where
   first_for (seen ∷ sats) (Usable o ∷ own) (entry.Row row ∷ entries) ((same, usable, is), are) grown =
       inr (record { usable = usable; own = o; sat = same; is_own = is; grown = grown.0 }, first_for sats own entries are grown.1)
 
-  pub first_over : (own : List SatLine) (entries : List SatEntry) → AreLinesOf m search.root search.epoch own
-      → AreGrownLines (pos (spare_of search.root)) (pos (err_spare_of search.root m.delays)) own entries → AreRowsOver m search search.root (rows_of entries)
+  pub first_over : (own : List SatLine) (entries : List SatEntry)
+      → AreLinesOf m search.root search.epoch own
+      → AreGrownLines (pos (spare_of search.root)) (pos (err_spare_of search.root m.delays)) own entries
+      → AreRowsOver m search search.root (rows_of entries)
   first_over own entries are grown = first_for search.epoch.sats.items own entries are grown
 
   -- ---- renewed rows
 
   -- the satellite is the one in this place
-  renewed_for : (distinct : AreDistinct search.epoch.sats.items) (part : GridBox) (place : ℕ) (seen : SatObs) (first row : Row) → slice_get search.epoch.sats.items place ≡ Some seen
-      → IsRowFor m search search.root seen first → row.sat ≡ first.sat → IsRenewedRow m search part row → IsRowFor m search part seen row
+  renewed_for : (distinct : AreDistinct search.epoch.sats.items) (part : GridBox) (place : ℕ) (seen : SatObs) (first row : Row)
+      → slice_get search.epoch.sats.items place ≡ Some seen
+      → IsRowFor m search search.root seen first → row.sat ≡ first.sat
+      → IsRenewedRow m search part row → IsRowFor m search part seen row
   renewed_for distinct part place seen first row at is same new =
       let name : new.seen.sat ≡ seen.sat = sym (new.grown.sat ∙ new.sat) ∙ same ∙ is.grown.sat ∙ is.sat in
       let one : new.seen ≡ seen = distinct_at search.epoch.sats.items place new.place seen new.seen distinct at new.is_seen name in
@@ -83,7 +92,8 @@ module _ (m : Meaning) (search : Search) where
 
   -- satellite by satellite, from this place on
   renewed_from : (distinct : AreDistinct search.epoch.sats.items) (part : GridBox) (place : ℕ) (sats : List SatObs) (firsts rows : List Row)
-      → ((k : ℕ) → slice_get sats k ≡ slice_get search.epoch.sats.items (place + k)) → AreRowsFor m search search.root sats firsts → names rows ≡ names firsts
+      → ((k : ℕ) → slice_get sats k ≡ slice_get search.epoch.sats.items (place + k))
+      → AreRowsFor m search search.root sats firsts → names rows ≡ names firsts
       → AllByRecursion (IsRenewedRow m search part) rows → AreRowsFor m search part sats rows
   renewed_from distinct part place [] [] [] stand are same new = tt
   renewed_from distinct part place [] (first ∷ firsts) rows stand are same new = absurd are
@@ -109,11 +119,13 @@ module _ (m : Meaning) (search : Search) where
     abbrev maker : Maker
     maker = maker_of m renews (Some (record { search = search; sats = named }))
 
-    given_new : (part : GridBox) (place : ℕ) (rows : List Row) → GivesFrom maker place part rows → AllByRecursion (IsRenewedRow m search part) rows
+    given_new : (part : GridBox) (place : ℕ) (rows : List Row) → GivesFrom maker place part rows
+        → AllByRecursion (IsRenewedRow m search part) rows
     given_new part place [] gives = tt
     given_new part place (row ∷ rows) gives = (gives.0.1, given_new part (suc place) rows gives.1)
 
-    given_names : (part : GridBox) (place : ℕ) (left : List Sat) (rows : List Row) → ((k : ℕ) → slice_get left k ≡ slice_get named (place + k)) → length rows ≡ length left
+    given_names : (part : GridBox) (place : ℕ) (left : List Sat) (rows : List Row)
+        → ((k : ℕ) → slice_get left k ≡ slice_get named (place + k)) → length rows ≡ length left
         → GivesFrom maker place part rows → names rows ≡ left
     given_names part place [] [] stand many gives = refl
     given_names part place [] (row ∷ rows) stand many gives = absurd (omega (arith, many))
@@ -123,8 +135,11 @@ module _ (m : Meaning) (search : Search) where
         let others : names rows ≡ left = given_names part (suc place) left rows (λ k. stand (suc k) ∙ ap (slice_get named) (omega arith)) (omega (arith, many)) gives.1 in
         cc
 
-  pub renewed_over : (renews : Bool) (firsts : List Row) → AreDistinctIf renews search.epoch.sats.items → AreRowsOver m search search.root firsts → renews ≡ true
-      → (part : GridBox) (rows : List Row) → length rows ≡ length firsts → GivesFrom (maker renews (names firsts)) 0 part rows → AreRowsOver m search part rows
+  pub renewed_over : (renews : Bool) (firsts : List Row)
+      → AreDistinctIf renews search.epoch.sats.items → AreRowsOver m search search.root firsts
+      → renews ≡ true
+      → (part : GridBox) (rows : List Row) → length rows ≡ length firsts
+      → GivesFrom (maker renews (names firsts)) 0 part rows → AreRowsOver m search part rows
   renewed_over renews firsts distinct are active part rows many gives =
       renewed_from (distinct active) part 0 search.epoch.sats.items firsts rows (λ k. ap (slice_get search.epoch.sats.items) (omega arith)) are
       (given_names renews (names firsts) part 0 (names firsts) rows (λ k. ap (slice_get (names firsts)) (omega arith)) (many ∙ sym (length-map firsts (λ row. row.sat))) gives)

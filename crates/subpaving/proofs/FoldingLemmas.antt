@@ -11,10 +11,12 @@ use Rattle.sat_model.specs.Stages.{Stage, after}
 use Rattle.sat_model.specs.Verdicts.{IsLong, StepPasses, EventsPass}
 use Rattle.subpaving.specs.Folding.{IsDivisible, StepFolds, StepsFold}
 
-long_divisible : (rules : Rules) (axis : ℕ) (part : GridBox) → IsLong rules axis part → IsDivisible axis part
+long_divisible : (rules : Rules) (axis : ℕ) (part : GridBox) → IsLong rules axis part
+    → IsDivisible axis part
 long_divisible rules axis part long = omega (arith, ints, long, rules.wide)
 
-pub step_folds : (rules : Rules) (stage : Stage) (step : Step) → StepPasses rules stage step → StepFolds stage.boxes step
+pub step_folds : (rules : Rules) (stage : Stage) (step : Step) → StepPasses rules stage step
+    → StepFolds stage.boxes step
 step_folds rules stage (Cut id face bound) (part, is, (proper, empty)) = (part, is, proper)
 step_folds rules stage (Split id axis) (part, is, long, left) = (part, is, long_divisible rules axis part long)
 step_folds rules stage (Outside id) (part, is, empty) = (part, is)

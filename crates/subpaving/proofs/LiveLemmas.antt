@@ -13,13 +13,16 @@ use Rattle.sat_model.proofs.FoldLemmas.{there}
 abbrev pub boxes_with : List (Option Box3) → Subpaving
 boxes_with boxes = record { live = map box_option boxes; splits = length boxes / 2 }
 
-same_boxes : (a b : List (Option GridBox)) (n m : ℕ) → a ≡ b → n ≡ m → ◌≡◌ {A = Subpaving} (record { live = a; splits = n }) (record { live = b; splits = m })
+same_boxes : (a b : List (Option GridBox)) (n m : ℕ) → a ≡ b → n ≡ m
+    → ◌≡◌ {A = Subpaving} (record { live = a; splits = n }) (record { live = b; splits = m })
 same_boxes a b n m e f = cc
 
-pub id_within : (boxes : List (Option Box3)) (id : ℕ) (part : GridBox) → get_or (map box_option boxes) id None ≡ Some part → id < length boxes
+pub id_within : (boxes : List (Option Box3)) (id : ℕ) (part : GridBox)
+    → get_or (map box_option boxes) id None ≡ Some part → id < length boxes
 id_within boxes id part e = omega (arith, there (map box_option boxes) id part e, length-map boxes box_option)
 
-pub all_none : (boxes : List (Option Box3)) (n : ℕ) → ((id : ℕ) → id < n → get_or (map box_option boxes) id None ≡ None) → length boxes ≤ n
+pub all_none : (boxes : List (Option Box3)) (n : ℕ)
+    → ((id : ℕ) → id < n → get_or (map box_option boxes) id None ≡ None) → length boxes ≤ n
     → (id : ℕ) → get_or (map box_option boxes) id None ≡ None
 all_none boxes n none all id = elim (cases_lt id n) [
   | inl less ↦ none id less
@@ -28,7 +31,8 @@ all_none boxes n none all id = elim (cases_lt id n) [
 
 -- what is so of each live box below a number is so of all, where no number is left
 pub all_held : (boxes : List (Option Box3)) (Meets : GridBox → Type 0) (n : ℕ)
-    → ((id : ℕ) → id < n → (live : GridBox) → get_or (map box_option boxes) id None ≡ Some live → Meets live) → length boxes ≤ n
+    → ((id : ℕ) → id < n → (live : GridBox) → get_or (map box_option boxes) id None ≡ Some live → Meets live)
+    → length boxes ≤ n
     → (id : ℕ) (live : GridBox) → get_or (map box_option boxes) id None ≡ Some live → Meets live
 all_held boxes Meets n held all id live e = held id (omega (arith, all, id_within boxes id live e)) live e
 
@@ -39,7 +43,8 @@ closed_boxes boxes id = same_boxes _ _ _ _ (map-set box_option boxes id None) (a
 
 -- a box is cut
 pub cut_boxes : (boxes : List (Option Box3)) (id face : ℕ) (bound : ℤ) (part rest : Box3)
-    → get_or (map box_option boxes) id None ≡ Some (grid_box part) → grid_box rest ≡ left_by_cut face bound (grid_box part)
+    → get_or (map box_option boxes) id None ≡ Some (grid_box part)
+    → grid_box rest ≡ left_by_cut face bound (grid_box part)
     → boxes_with (set boxes id (Some rest))
     ≡ record { live = set (map box_option boxes) id (cut_box face bound (get_or (map box_option boxes) id None)); splits = length boxes / 2 }
 cut_boxes boxes id face bound part rest found left =

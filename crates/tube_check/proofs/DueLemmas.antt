@@ -12,16 +12,20 @@ use Rattle.tube_check.specs.Taken.{IsTakenBy}
 
 module _ (rules : Rules) (before : Option ℕ) (old : TubeValue) (inside : IsInside old) where
   -- a block comes where no search is left
-  pub over_not_due : (block : Block) → IsOver old → (more : List Block) → IsDue rules before (tube_searches old (block ∷ more)) (block ∷ more) → ⊥
+  pub over_not_due : (block : Block) → IsOver old → (more : List Block)
+      → IsDue rules before (tube_searches old (block ∷ more)) (block ∷ more) → ⊥
   over_not_due block over more due = rw (over_searches old (block ∷ more) over) at due
 
   -- the next search isn't the block's
-  pub not_due : (seen : ObsEpoch) (root : GridBox) (new : TubeValue) (block : Block) → IsTaken old seen root new → (IsOf rules before seen block → ⊥)
-      → (more : List Block) → IsDue rules before (tube_searches old (block ∷ more)) (block ∷ more) → ⊥
+  pub not_due : (seen : ObsEpoch) (root : GridBox) (new : TubeValue) (block : Block)
+      → IsTaken old seen root new → (IsOf rules before seen block → ⊥)
+      → (more : List Block) → IsDue rules before (tube_searches old (block ∷ more)) (block ∷ more)
+      → ⊥
   not_due seen root new block taken other more due = other (rw (taken_searches old seen root new block more inside taken) at due)
 
   -- a block is left: it is due where its search was taken
-  pub due_block : {X : Type 0} (seen : X → ObsEpoch) (root : X → GridBox) (new : TubeValue) (block : Block) (left more : List Block) (found : Option X) → left ≡ block ∷ more
+  pub due_block : {X : Type 0} (seen : X → ObsEpoch) (root : X → GridBox) (new : TubeValue) (block : Block) (left more : List Block) (found : Option X)
+      → left ≡ block ∷ more
       → MatchOption found ((others : List Block) → IsDue rules before (tube_searches old (block ∷ others)) (block ∷ others) → ⊥)
       (λ x. IsTakenBy rules before old (seen x) (root x) new block)
       → IsTrue (is_some found) ↔ IsDue rules before (tube_searches old left) left
@@ -30,7 +34,8 @@ module _ (rules : Rules) (before : Option ℕ) (old : TubeValue) (inside : IsIns
       (λ h. rw (is, taken_searches old (seen x) (root x) new block more inside m.taken) m.is_of, λ due. refl)
 
   -- no block is left: that is due where no search is
-  pub due_none : {X : Type 0} (seen : X → ObsEpoch) (root : X → GridBox) (new : TubeValue) (left : List Block) (found : Option X) (none : Bool) → is_some found ≡ not none → left ≡ []
+  pub due_none : {X : Type 0} (seen : X → ObsEpoch) (root : X → GridBox) (new : TubeValue) (left : List Block) (found : Option X) (none : Bool)
+      → is_some found ≡ not none → left ≡ []
       → MatchOption found (IsInside old → IsOver old) (λ x. IsTaken old (seen x) (root x) new)
       → IsTrue none ↔ IsDue rules before (tube_searches old left) left
   due_none seen root new left None true same is m = (λ h. rw (is, over_searches old [] (m inside)) tt, λ due. refl)

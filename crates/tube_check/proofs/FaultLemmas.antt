@@ -21,7 +21,9 @@ module _ (delays : Delays) (rules : Rules) (root : GridBox) (own : OwnLines) (bl
   many : lines_in block ≡ 3 + length block.sats + lines_of_all body.events
   many = let here : lines_of_body block.body ≡ 2 + lines_of_all body.events = ap lines_of_body paved in omega (arith, here)
 
-  body_on_line : (other : Body) (fault : Fault) → other ≡ body → BodyFailsAt delays rules root own.renewed block other fault → fault.line < block.line + lines_in block
+  body_on_line : (other : Body) (fault : Fault) → other ≡ body
+      → BodyFailsAt delays rules root own.renewed block other fault
+      → fault.line < block.line + lines_in block
   body_on_line other fault same (inl f) = omega (arith, f.line, many)
   body_on_line other fault same (inr f) =
       let within = events_within (own_tests delays own.renewed) (first_rows block other) rules other.done 0 (first_stage (test_in rules block) other.root) other.events f.k fault f.fails in
@@ -31,7 +33,8 @@ module _ (delays : Delays) (rules : Rules) (root : GridBox) (own : OwnLines) (bl
   some_body : (other : Body) → block.body ≡ Some other → other ≡ body
   some_body other is = cc
 
-  pub fault_on_line : (fault : Fault) → EpochFails delays rules root own block fault → fault.line < block.line + lines_in block
+  pub fault_on_line : (fault : Fault) → EpochFails delays rules root own block fault
+      → fault.line < block.line + lines_in block
   fault_on_line fault (inl f) = omega (arith, f.line, many)
   fault_on_line fault (inr (inl f)) = omega (arith, f.line, many, f.fails.is_line)
   fault_on_line fault (inr (inr (inl f))) = omega (arith, f.line, many)
@@ -40,7 +43,8 @@ module _ (delays : Delays) (rules : Rules) (root : GridBox) (own : OwnLines) (bl
 -- so it is told whatever may come behind the block
 paved_fault : (delays : Delays) (rules : Rules) (behind : ℕ) (own : OwnLines) (search : Search) (rest real : List Search) (block : Block) (more : List Block) (fault : Fault) (body : Body)
     → block.body ≡ Some body → behind ≡ block.line + lines_in block
-    → BlockFault delays rules behind own search rest block more fault → BlockFault delays rules behind own search real block more fault
+    → BlockFault delays rules behind own search rest block more fault
+    → BlockFault delays rules behind own search real block more fault
 paved_fault delays rules behind own search rest real block more fault body paved is (inl f) =
     inl (f.0, λ last. absurd (omega (arith, last, is, fault_on_line delays rules search.root own block body paved fault f.0)))
 paved_fault delays rules behind own search rest real block more fault body paved is (inr f) =

@@ -27,17 +27,20 @@ module _ (speed : ℕ) (search : GridBox) where
   later epoch more block blocks root = searches_from speed search (Some (record { tag = epoch.tag; kept = kept_of root block })) more blocks
 
   -- an epoch's root, where there is one, and what holds of the later visits
-  rooted_here : (before : Option Before) (epoch : ObsEpoch) (more : List ObsEpoch) (block : Block) (blocks : List Block) (o : Option GridBox) → root_for speed search before epoch.tag ≡ o
+  rooted_here : (before : Option Before) (epoch : ObsEpoch) (more : List ObsEpoch) (block : Block) (blocks : List Block) (o : Option GridBox)
+      → root_for speed search before epoch.tag ≡ o
       → ((root : GridBox) → AreRooted speed search (Some (record { tag = epoch.tag; kept = kept_of root block })) (visits_of (later epoch more block blocks root) blocks))
       → AreRooted speed search before (visits_of (from_root o epoch (later epoch more block blocks)) (block ∷ blocks))
   rooted_here before epoch more block blocks None e rest = tt
   rooted_here before epoch more block blocks (Some root) e rest = (e, rest root)
 
-  rooted_last : (before : Option Before) (epoch : ObsEpoch) (o : Option GridBox) → AreRooted speed search before (visits_of (from_root o epoch (λ root. [])) [])
+  rooted_last : (before : Option Before) (epoch : ObsEpoch) (o : Option GridBox)
+      → AreRooted speed search before (visits_of (from_root o epoch (λ root. [])) [])
   rooted_last before epoch None = tt
   rooted_last before epoch (Some root) = tt
 
-  pub rooted : (before : Option Before) (epochs : List ObsEpoch) (blocks : List Block) → AreRooted speed search before (visits_of (searches_from speed search before epochs blocks) blocks)
+  pub rooted : (before : Option Before) (epochs : List ObsEpoch) (blocks : List Block)
+      → AreRooted speed search before (visits_of (searches_from speed search before epochs blocks) blocks)
   rooted before [] blocks = tt
   rooted before (epoch ∷ more) [] = rooted_last before epoch (root_for speed search before epoch.tag)
   rooted before (epoch ∷ more) (block ∷ blocks) =
@@ -50,7 +53,8 @@ module _ (speed : ℕ) (search : GridBox) where
   timed_here epoch more block blocks None rest = tt
   timed_here epoch more block blocks (Some root) rest = (refl, rest root)
 
-  timed_last : (epoch : ObsEpoch) (more : List ObsEpoch) (o : Option GridBox) → AreTimed speed search (visits_of (from_root o epoch (λ root. [])) []) (map (λ e. e.tag) (epoch ∷ more))
+  timed_last : (epoch : ObsEpoch) (more : List ObsEpoch) (o : Option GridBox)
+      → AreTimed speed search (visits_of (from_root o epoch (λ root. [])) []) (map (λ e. e.tag) (epoch ∷ more))
   timed_last epoch more None = tt
   timed_last epoch more (Some root) = tt
 
@@ -64,12 +68,14 @@ module _ (speed : ℕ) (search : GridBox) where
 
 -- ---- roots and covers of an accepted log
 
-root_of : (delays : Delays) (rules : Rules) (root : GridBox) (renewed : List (List Row)) (block : Block) (theirs : Option Body) → BodyPassesAt delays rules root renewed block theirs → HasRoot root theirs
+root_of : (delays : Delays) (rules : Rules) (root : GridBox) (renewed : List (List Row)) (block : Block) (theirs : Option Body)
+    → BodyPassesAt delays rules root renewed block theirs → HasRoot root theirs
 root_of delays rules root renewed block None body = tt
 root_of delays rules root renewed block (Some theirs) body = body.0
 
 pub have_roots : (delays : Delays) (rules : Rules) (speed : ℕ) (search : GridBox) (before : Option ℕ) (owns : List OwnLines) (searches : List Search) (blocks : List Block)
-    → length owns ≡ length searches → AdmitsFrom delays rules before owns searches blocks → HaveRoots speed search (visits_of searches blocks)
+    → length owns ≡ length searches → AdmitsFrom delays rules before owns searches blocks
+    → HaveRoots speed search (visits_of searches blocks)
 have_roots delays rules speed search before [] [] blocks each admits = tt
 have_roots delays rules speed search before [] (s ∷ rest) blocks each admits = absurd (omega (arith, each))
 have_roots delays rules speed search before (own ∷ owns) [] blocks each admits = absurd (omega (arith, each))
@@ -80,12 +86,14 @@ have_roots delays rules speed search before (own ∷ owns) (s ∷ rest) (block �
 )
 
 module _ (m : Meaning) (q : ℕ) where
-  kept_here : (s : Search) (body : Option Body) (stay : Stay) → FitBodyCover (FitsEpoch m q s.root s.epoch) s.root body
+  kept_here : (s : Search) (body : Option Body) (stay : Stay)
+      → FitBodyCover (FitsEpoch m q s.root s.epoch) s.root body
       → StayFits body (FitsEpoch m q s.root s.epoch) stay → IsKeptWith s.root body stay
   kept_here s None stay cover fits = tt
   kept_here s (Some body) stay cover fits = λ inside. cover.covers stay.at stay.offset inside fits
 
-  pub are_kept : (searches : List Search) (blocks : List Block) (path : List Stay) → BlocksFitCover m q searches blocks → PathFits m q searches blocks path
+  pub are_kept : (searches : List Search) (blocks : List Block) (path : List Stay)
+      → BlocksFitCover m q searches blocks → PathFits m q searches blocks path
       → AreKept (visits_of searches blocks) path
   are_kept [] blocks path cover fits = tt
   are_kept (s ∷ rest) [] path cover fits = tt
@@ -97,8 +105,11 @@ module _ (m : Meaning) (q : ℕ) where
 
 -- ---- by an accepted log
 
-pub found_by : (m : Meaning) (t : TubeValue) (rules : Rules) (log : LogValue) (boxes : ℕ) (path : List Stay) → t.before ≡ None
-    → IsAccepted m (tube_searches t log.blocks) rules log boxes → IsPath t.speed t.search t.epochs path → PathFits m rules.outliers (tube_searches t log.blocks) log.blocks path
+pub found_by : (m : Meaning) (t : TubeValue) (rules : Rules) (log : LogValue) (boxes : ℕ) (path : List Stay)
+    → t.before ≡ None
+    → IsAccepted m (tube_searches t log.blocks) rules log boxes
+    → IsPath t.speed t.search t.epochs path
+    → PathFits m rules.outliers (tube_searches t log.blocks) log.blocks path
     → IsFoundIn (tube_searches t log.blocks) log.blocks path
 found_by m t rules log boxes path first accepted goes fits =
     let blocks = log.blocks in

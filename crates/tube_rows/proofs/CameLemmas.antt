@@ -49,7 +49,8 @@ use Rattle.tube_rows.proofs.NextLemmas.{given_root}
 corner : GridBox → Pos
 corner root = record { x = root.x.lo; y = root.y.lo; z = root.z.lo }
 
-corner_on : (root search : GridBox) → LiesIn root search → (axis : ℕ) → IsIn (side_at axis root) (along axis (corner root))
+corner_on : (root search : GridBox) → LiesIn root search → (axis : ℕ)
+    → IsIn (side_at axis root) (along axis (corner root))
 unfolding corner
 corner_on root search lies zero = (omega (arith, ints), (lies 0).ordered)
 corner_on root search lies (suc zero) = (omega (arith, ints), (lies 1).ordered)
@@ -61,7 +62,8 @@ has_point root search lies box = record { box = box; point = corner root; inside
 -- ---- what came
 
 -- the maker of a block's rows gives each of the satellite in its place
-suits_rows : (m : Meaning) (renews : Bool) (search : Search) (given : Block) (sats : List SatEntry) → sats ≡ given.sats → Suits (maker_of m renews (Some (hand_of search given))) (rows_of sats)
+suits_rows : (m : Meaning) (renews : Bool) (search : Search) (given : Block) (sats : List SatEntry)
+    → sats ≡ given.sats → Suits (maker_of m renews (Some (hand_of search given))) (rows_of sats)
 suits_rows m renews search given sats same active i part row gives =
     subst (λ (entries : List SatEntry). slice_get (map (λ first. first.sat) (rows_of entries)) i ≡ Some row.sat) (sym same) gives.0
 
@@ -71,7 +73,8 @@ module _ (m : Meaning) (renews : Bool) (rules : Rules) where
     pub solved : AreSolved m renews rules (tube_searches (tube_with left hull) blocks) blocks
     pub points : HavePoints (tube_searches (tube_with left hull) blocks)
 
-  none_came : (left : TubeLeft) (hull : Option GridBox) → IsOver (tube_with left hull) → CameOf left hull []
+  none_came : (left : TubeLeft) (hull : Option GridBox) → IsOver (tube_with left hull)
+      → CameOf left hull []
   none_came left hull over =
       let none = over_searches (tube_with left hull) [] over in
       record { solved = rw none tt; points = rw none tt }
@@ -94,7 +97,8 @@ module _ (m : Meaning) (renews : Bool) (rules : Rules) where
 
   -- what is made of a block that was given is made for its search
   made_of : (Makes : Maker → Rules → Block → Block → Type 0) (left : TubeLeft) (hull : Option GridBox) (given block : Block) (next : TubeLeft) (gave : GivesNext m rules.outliers left hull given next)
-      → Makes (maker_of m renews next.hand) rules given block → IsMade m renews rules Makes (search_in gave.root gave.epoch) block
+      → Makes (maker_of m renews next.hand) rules given block
+      → IsMade m renews rules Makes (search_in gave.root gave.epoch) block
   made_of Makes left hull given block next gave made = record {
     given = given;
     grown = gave.grown;
@@ -128,18 +132,22 @@ module _ (m : Meaning) (renews : Bool) (rules : Rules) where
         (kept_lies (maker_of m renews (Some (hand_of (search_in gave.root gave.epoch) given))) rules block (suits_rows m renews (search_in gave.root gave.epoch) given block.sats paves.sats) gave.root left.search given.body block.body gave.lies
         (given_root m.delays gave.root gave.grown.own given.sats given.body gave.grown.body) extends)
 
-    next_searches : (blocks : List Block) → tube_searches (tube_with left hull) (block ∷ blocks) ≡ search_in gave.root gave.epoch ∷ tube_searches (tube_with next told_hull) blocks
+    next_searches : (blocks : List Block)
+        → tube_searches (tube_with left hull) (block ∷ blocks) ≡ search_in gave.root gave.epoch ∷ tube_searches (tube_with next told_hull) blocks
     next_searches blocks =
         taken_searches (tube_with left hull) gave.epoch gave.root (tube_taken left hull next) block blocks inside (is_taken left hull given next gave)
         ∙ ap (λ (t : TubeValue). search_in gave.root gave.epoch ∷ tube_searches t blocks) (sym tube_next)
 
-    more_came : (blocks : List Block) → CameOf next told_hull blocks → CameOf left hull (block ∷ blocks)
+    more_came : (blocks : List Block) → CameOf next told_hull blocks
+        → CameOf left hull (block ∷ blocks)
     more_came blocks later = record {
       solved = rw (next_searches blocks) (solved, later.solved);
       points = rw (next_searches blocks) (has_point gave.root left.search gave.lies gave.box, later.points);
     }
 
-  pub came_of : (left : TubeLeft) (hull : Option GridBox) (blocks : List Block) (behind last : TubeLeft) → IsInside (tube_with left hull) → Came (source_of m rules.outliers renews) rules left hull blocks behind
+  pub came_of : (left : TubeLeft) (hull : Option GridBox) (blocks : List Block) (behind last : TubeLeft)
+      → IsInside (tube_with left hull)
+      → Came (source_of m rules.outliers renews) rules left hull blocks behind
       → IsEnded behind (hull_of_last hull blocks) last → CameOf left hull blocks
   unfolding told_hull
   came_of left hull [] behind last inside came ended =
@@ -150,17 +158,21 @@ module _ (m : Meaning) (renews : Bool) (rules : Rules) where
 
   -- also where the tube has more of them, they leave nothing clear, nor does a block in hand
   module _ (sound : IsSound m) where
-    grid_root : (left : TubeLeft) (hull : Option GridBox) (given : Block) (next : TubeLeft) (gave : GivesNext m rules.outliers left hull given next) → IsGridPart gave.root
+    grid_root : (left : TubeLeft) (hull : Option GridBox) (given : Block) (next : TubeLeft) (gave : GivesNext m rules.outliers left hull given next)
+        → IsGridPart gave.root
     grid_root left hull given next gave = point_grid gave.root (has_point gave.root left.search gave.lies gave.box)
 
-    distinct_of : (left : TubeLeft) (hull : Option GridBox) (given : Block) (next : TubeLeft) (gave : GivesNext m rules.outliers left hull given next) → AllDistinctIf renews left.epochs
+    distinct_of : (left : TubeLeft) (hull : Option GridBox) (given : Block) (next : TubeLeft) (gave : GivesNext m rules.outliers left hull given next)
+        → AllDistinctIf renews left.epochs
         → AreDistinctIf renews gave.epoch.sats.items × AllDistinctIf renews next.epochs
     distinct_of left hull given next gave distinct =
         let both : AllDistinctIf renews (gave.epoch ∷ next.epochs) = subst (AllDistinctIf renews) gave.first distinct in
         (both.0, both.1)
 
-    hand_came : (behind : TubeLeft) (hull : Option GridBox) (hand : Option Block) → IsInside (tube_with behind hull) → AllDistinctIf renews behind.epochs
-        → IsInHand (source_of m rules.outliers renews) rules behind hull hand → BlocksLeaveNothingClear m renews rules (tube_searches (tube_with behind hull) []) [] hand
+    hand_came : (behind : TubeLeft) (hull : Option GridBox) (hand : Option Block)
+        → IsInside (tube_with behind hull) → AllDistinctIf renews behind.epochs
+        → IsInHand (source_of m rules.outliers renews) rules behind hull hand
+        → BlocksLeaveNothingClear m renews rules (tube_searches (tube_with behind hull) []) [] hand
     hand_came behind hull None inside distinct in_hand = tt
     hand_came behind hull (Some block) inside distinct (given, next, gave, begins) =
         subst (λ (l : List Search). BlocksLeaveNothingClear m renews rules l [] (Some block))
@@ -168,8 +180,10 @@ module _ (m : Meaning) (renews : Bool) (rules : Rules) where
         (hand_clear m sound renews rules (search_in gave.root gave.epoch) gave.box (grid_root behind hull given next gave) (distinct_of behind hull given next gave distinct).0 block
         (made_of Begins behind hull given block next gave begins))
 
-    pub came_clear : (left : TubeLeft) (hull : Option GridBox) (blocks : List Block) (behind : TubeLeft) (hand : Option Block) → IsInside (tube_with left hull) → AllDistinctIf renews left.epochs
-        → Came (source_of m rules.outliers renews) rules left hull blocks behind → IsInHand (source_of m rules.outliers renews) rules behind (hull_of_last hull blocks) hand
+    pub came_clear : (left : TubeLeft) (hull : Option GridBox) (blocks : List Block) (behind : TubeLeft) (hand : Option Block)
+        → IsInside (tube_with left hull) → AllDistinctIf renews left.epochs
+        → Came (source_of m rules.outliers renews) rules left hull blocks behind
+        → IsInHand (source_of m rules.outliers renews) rules behind (hull_of_last hull blocks) hand
         → BlocksLeaveNothingClear m renews rules (tube_searches (tube_with left hull) blocks) blocks hand
     unfolding told_hull
     came_clear left hull [] behind hand inside distinct came in_hand =
@@ -197,7 +211,8 @@ module _ (m : Meaning) (sound : IsSound m) (renews : Bool) (rules : Rules) (left
   whole_passes = rw w.same_rules at w.judged
 
   -- all own lines admit it, also those of the first epochs alone
-  pub whole_admits : (owns : List OwnLines) → AreOwn m whole_searches w.log.blocks owns → Admits m.delays whole_searches owns rules w.log
+  pub whole_admits : (owns : List OwnLines) → AreOwn m whole_searches w.log.blocks owns
+      → Admits m.delays whole_searches owns rules w.log
   whole_admits owns are = record {
     same_rules = rw w.same_rules (record { outliers = refl; bisections = refl; width = refl; pairs = refl });
     blocks = admits_from m sound renews rules None whole_searches w.log.blocks whole_came.points whole_came.solved whole_passes owns are;
@@ -210,7 +225,8 @@ module _ (m : Meaning) (sound : IsSound m) (renews : Bool) (rules : Rules) (left
       fit_all m sound rules None owns whole_searches w.log.blocks (boxes_of whole_searches whole_came.points) (whole_admits owns are).blocks are whole each
 
   -- and leaves nothing clear
-  pub whole_clear : AllDistinctIf renews left.epochs → LogLeavesNothingClear m renews rules whole_searches w.log.blocks
+  pub whole_clear : AllDistinctIf renews left.epochs
+      → LogLeavesNothingClear m renews rules whole_searches w.log.blocks
   whole_clear distinct = (
     as_many m sound renews rules whole_searches w.log.blocks whole_came.solved,
     came_clear m renews rules sound left None w.log.blocks w.behind None none_inside distinct w.came tt,
@@ -227,7 +243,9 @@ module _ (m : Meaning) (sound : IsSound m) (renews : Bool) (rules : Rules) (left
   not_refused fault refused = refused.refused (whole_admits refused.owns refused.are_own)
 
   -- and each trajectory that fits in the paved epochs is found in it
-  pub whole_found : (path : List Stay) → IsPath left.speed left.search left.epochs path → PathFits m rules.outliers whole_searches w.log.blocks path → IsFoundIn whole_searches w.log.blocks path
+  pub whole_found : (path : List Stay) → IsPath left.speed left.search left.epochs path
+      → PathFits m rules.outliers whole_searches w.log.blocks path
+      → IsFoundIn whole_searches w.log.blocks path
   whole_found path goes fits =
       let none : told left.last None ≡ None = rw first refl in
       found_by m (tube_with left None) rules w.log (kept_boxes w.log) path none whole_accepted goes fits

@@ -41,15 +41,20 @@ same_side s t = rw (same_min s.lo t.lo, same_max s.hi t.hi) refl
 same_box : (a b : GridBox) → told.joined_box a b ≡ joined_box a b
 same_box a b = rw (same_side a.x b.x, same_side a.y b.y, same_side a.z b.z) refl
 
-same_with : (hull : Option GridBox) (part : GridBox) → told.hull_with hull part ≡ hull_with hull part
+same_with : (hull : Option GridBox) (part : GridBox)
+    → told.hull_with hull part ≡ hull_with hull part
 same_with None part = refl
 same_with (Some hull) part = ap Some (same_box hull part)
 
-same_behind : (hull : Option GridBox) (parts : List ShownStep) → told.hull_behind hull parts ≡ hull_behind hull (kept_parts parts)
+same_behind : (hull : Option GridBox) (parts : List ShownStep)
+    → told.hull_behind hull parts ≡ hull_behind hull (kept_parts parts)
 same_behind hull [] = refl
 same_behind hull (piece ∷ more) = by_kind (is_kept piece) (λ (h : Option GridBox). same_behind h more) refl
   where
-    by_kind : (kept : Bool) → ((h : Option GridBox) → told.hull_behind h more ≡ hull_behind h (kept_parts more)) → is_kept piece ≡ kept → told.hull_behind (told.hull_after hull piece) more ≡ hull_behind hull (kept_parts (piece ∷ more))
+    by_kind : (kept : Bool)
+        → ((h : Option GridBox) → told.hull_behind h more ≡ hull_behind h (kept_parts more))
+        → is_kept piece ≡ kept
+        → told.hull_behind (told.hull_after hull piece) more ≡ hull_behind hull (kept_parts (piece ∷ more))
     by_kind true later e = rw e (ap (λ (h : Option GridBox). told.hull_behind h more) (same_with hull piece.part) ∙ later (hull_with hull piece.part))
     by_kind false later e = rw e (later hull)
 
@@ -65,10 +70,13 @@ module _ (maker : Maker) (rules : Rules) (block : Block) (suits : Suits maker (r
       steps_fold AnyLine (first_rows block body) rules r.run.last.splits 0 (first_stage (test_in rules block) body.root) body.events
       (rw r.events (turns_pass maker (test_in rules block) rules body.root r.shown suits r.run))
 
-  run_lies : (body : Body) → LiesIn body.root body.root → HasRun maker rules block body → HullLies (hull_of (cover_of (Some body))) body.root
+  run_lies : (body : Body) → LiesIn body.root body.root → HasRun maker rules block body
+      → HullLies (hull_of (cover_of (Some body))) body.root
   run_lies body own r = steps_hull_lies body.root (steps_in body.events) own (run_folds body r)
 
-  pub kept_lies : (root search : GridBox) (given body : Option Body) → LiesIn root search → HasRoot root given → BodyExtends (HasRun maker rules) block given body → HullLies (kept_with root body) search
+  pub kept_lies : (root search : GridBox) (given body : Option Body) → LiesIn root search
+      → HasRoot root given → BodyExtends (HasRun maker rules) block given body
+      → HullLies (kept_with root body) search
   kept_lies root search None None lies has is = lies
   kept_lies root search None (Some body) lies has is = absurd is
   kept_lies root search (Some given) None lies has is = absurd is
@@ -78,7 +86,8 @@ module _ (maker : Maker) (rules : Rules) (block : Block) (suits : Suits maker (r
       (subst (HullLies (hull_of (cover_of (Some body)))) same (run_lies body (subst (λ (r : GridBox). LiesIn r r) (sym same) (lies_alone root search lies)) is.1)) lies
 
 -- what is told of a block is what it keeps
-pub told_kept : (Runs : Block → Body → Type 0) (root : GridBox) (block : Block) (given body : Option Body) → BodyExtends Runs block given body
+pub told_kept : (Runs : Block → Body → Type 0) (root : GridBox) (block : Block) (given body : Option Body)
+    → BodyExtends Runs block given body
     → kept_told (is_none given) root (told.hull_kept body) ≡ kept_with root body
 told_kept Runs root block None None is = refl
 told_kept Runs root block None (Some body) is = absurd is

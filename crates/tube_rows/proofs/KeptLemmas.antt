@@ -15,7 +15,8 @@ use Rattle.tube_rows.specs.Makers.{GivesBlock, GivesAny}
 use Rattle.tube_rows.specs.TubeLeft.{TubeLeft, with_hand, IsEnded, GivesNext, source_of}
 
 -- what is in hand doesn't count for what comes next
-any_hand : (m : Meaning) (q : ℕ) (hand : Option Hand) (left : TubeLeft) (hull : Option GridBox) (block : Block) (new : TubeLeft) → GivesNext m q left hull block new → GivesNext m q (with_hand hand left) hull block new
+any_hand : (m : Meaning) (q : ℕ) (hand : Option Hand) (left : TubeLeft) (hull : Option GridBox) (block : Block) (new : TubeLeft)
+    → GivesNext m q left hull block new → GivesNext m q (with_hand hand left) hull block new
 any_hand m q hand left hull block new g = record {
   epoch = g.epoch;
   root = g.root;
@@ -30,7 +31,8 @@ any_hand m q hand left hull block new g = record {
   hand = g.hand;
 }
 
-any_end : (hand : Option Hand) (left : TubeLeft) (hull : Option GridBox) (new : TubeLeft) → IsEnded left hull new → IsEnded (with_hand hand left) hull new
+any_end : (hand : Option Hand) (left : TubeLeft) (hull : Option GridBox) (new : TubeLeft)
+    → IsEnded left hull new → IsEnded (with_hand hand left) hull new
 any_end hand left hull new e = record { over = e.over; lost = e.lost }
 
 -- Blocks that have a source of rows, rules, epochs that are left and a maker of rows.
@@ -53,7 +55,9 @@ module _ {B S : Type 0} (rows_in : B → S) (rules_in : B → Rules) (left_in : 
       renews : (maker_in b).renews ≡ (maker_in first).renews
       left_is : left ≡ with_hand left.hand (left_in b)
 
-    given_here : (old : B) (hull : Option GridBox) (block : Block) (new : B) → rows_in old ≡ rows_in first → rules_in old ≡ rules_in first → (maker_in old).renews ≡ (maker_in first).renews
+    given_here : (old : B) (hull : Option GridBox) (block : Block) (new : B)
+        → rows_in old ≡ rows_in first → rules_in old ≡ rules_in first
+        → (maker_in old).renews ≡ (maker_in first).renews
         → GivesBlock (meaning (rows_in old)) (rules_in old).outliers (maker_in old).renews (left_in old) hull block (left_in new) (maker_in new)
         → GivesBlock (meaning (rows_in first)) (rules_in first).outliers (maker_in first).renews (left_in old) hull block (left_in new) (maker_in new)
     given_here old hull block new rows rules renews g =
@@ -61,7 +65,8 @@ module _ {B S : Type 0} (rows_in : B → S) (rules_in : B → Rules) (left_in : 
         (subst (λ (r : Rules). GivesBlock (meaning (rows_in old)) r.outliers (maker_in first).renews (left_in old) hull block (left_in new) (maker_in new)) rules
         (subst (λ (b : Bool). GivesBlock (meaning (rows_in old)) (rules_in old).outliers b (left_in old) hull block (left_in new) (maker_in new)) renews g))
 
-    each : (old : B) (was : TubeLeft) (hull : Option GridBox) (block : Block) (new : B) → Stands old was → of_blocks.gives old hull (Some block) new
+    each : (old : B) (was : TubeLeft) (hull : Option GridBox) (block : Block) (new : B)
+        → Stands old was → of_blocks.gives old hull (Some block) new
         → GivesToo of_blocks Others Stands was hull block new
     each old was hull block new stands (rows, rules, renews, gave) =
         let m = meaning (rows_in first) in
@@ -76,11 +81,13 @@ module _ {B S : Type 0} (rows_in : B → S) (rules_in : B → Rules) (left_in : 
           goes = maker_goes m g.hand (maker_in first).renews (maker_in new) same g.is_maker;
         }
 
-    ends : (old : B) (was : TubeLeft) (hull : Option GridBox) (new : B) → Stands old was → of_blocks.gives old hull None new → Others.gives was hull None (left_in new)
+    ends : (old : B) (was : TubeLeft) (hull : Option GridBox) (new : B) → Stands old was
+        → of_blocks.gives old hull None new → Others.gives was hull None (left_in new)
     ends old was hull new stands (rows, rules, renews, ended) =
         subst (λ (l : TubeLeft). IsEnded l hull (left_in new)) (sym stands.left_is) (any_end was.hand (left_in old) hull (left_in new) ended)
 
-    pub text_of_tube : {T : Type 0} (last : B) (rules : Rules) (limit : ℕ) (r : Result T WriteFault) (bytes said : List ℕ) → IsText of_blocks rules first last limit r bytes said
+    pub text_of_tube : {T : Type 0} (last : B) (rules : Rules) (limit : ℕ) (r : Result T WriteFault) (bytes said : List ℕ)
+        → IsText of_blocks rules first last limit r bytes said
         → IsText (source_of (meaning (rows_in first)) (rules_in first).outliers (maker_in first).renews) rules (left_in first) (left_in last) limit r bytes said
     text_of_tube last rules limit r bytes said text =
         text_kept of_blocks Others Stands left_in each ends rules first last (left_in first) limit r bytes said

@@ -23,7 +23,8 @@ use Rattle.sat_rows.specs.Meanings.{Meaning}
 use Rattle.sat_rows.specs.declared.lines.SatLine.{SatLine}
 
 -- a block of a search has its root, or no body
-pub given_root : (delays : Delays) (root : GridBox) (own : List SatLine) (sats : List SatEntry) (body : Option Body) → HasBody delays root own sats body → HasRoot root body
+pub given_root : (delays : Delays) (root : GridBox) (own : List SatLine) (sats : List SatEntry) (body : Option Body)
+    → HasBody delays root own sats body → HasRoot root body
 given_root delays root own sats None is = tt
 given_root delays root own sats (Some body) is = ap (λ (b : Body). b.root) is.1
 
@@ -40,7 +41,8 @@ module _ (m : Meaning) (before : Option ℕ) (old new : List ObsEpoch) (epoch : 
       epochs_are = subst (λ (n : ℕ). AreWritable (Some n) new) (sym grown.index) first_writable.2;
     }
 
-    pub follows : BlockFits form.Rows block → Follows (record { rules = rules; before = before; most = length old }) block
+    pub follows : BlockFits form.Rows block
+        → Follows (record { rules = rules; before = before; most = length old }) block
         (record { rules = rules; before = Some block.index; most = length new })
     follows fits = record {
       fits = fits;

@@ -25,13 +25,16 @@ module _ (speed : ℕ) (search : GridBox) (tag : ℤ) (part : Box3) (answer : Op
   abbrev Answers : ℤ → Type 0
   Answers from = LiesIn (grid_box part) search → box_option answer ≡ Some (reached_box (reach_of speed from tag) (grid_box part) search)
 
-  part_root : (from : ℤ) (kept : Option Box3) → kept ≡ Some part → Answers from → HullLies (box_option kept) search → box_option answer ≡ root_after speed search from (box_option kept) tag
+  part_root : (from : ℤ) (kept : Option Box3) → kept ≡ Some part → Answers from
+      → HullLies (box_option kept) search
+      → box_option answer ≡ root_after speed search from (box_option kept) tag
   part_root from None is root lies = absurd cc
   part_root from (Some k) is root lies =
       let same : k ≡ part = cc in
       rw same (root (rw same at lies))
 
-  pub before_root : (o : Option Kept) (before : Kept) → o ≡ Some before → before.part ≡ Some part → Answers before.tag → IsInsideOf search (before_value o)
+  pub before_root : (o : Option Kept) (before : Kept) → o ≡ Some before → before.part ≡ Some part
+      → Answers before.tag → IsInsideOf search (before_value o)
       → box_option answer ≡ root_for speed search (before_value o) tag
   before_root None before is was root inside = absurd cc
   before_root (Some b) before is was root inside =

@@ -32,28 +32,32 @@ module _ (max_age : ℕ) (tag : ℤ) (r : NavRecord) where
   some_passed (Unfit age field) g = omega arith
   some_passed (Fit age el) g = omega arith
 
-  old : (t : Choice) → IsAlone max_age tag r t → passed_by t ≤ 2 → (age : ℤ) → IsRecent max_age tag r age → ⊥
+  old : (t : Choice) → IsAlone max_age tag r t → passed_by t ≤ 2 → (age : ℤ)
+      → IsRecent max_age tag r age → ⊥
   old NoRecord g few age recent = g
   old Unhealthy g few age recent = true_false r.healthy g recent.healthy
   old Old g few age recent = g.1 age recent
   old (Unfit own field) g few age recent = absurd (omega arith)
   old (Fit own el) g few age recent = absurd (omega arith)
 
-  unfit : (t : Choice) → IsAlone max_age tag r t → passed_by t ≤ 3 → (age : ℤ) → IsRecent max_age tag r age → AreInside r.fields → ⊥
+  unfit : (t : Choice) → IsAlone max_age tag r t → passed_by t ≤ 3 → (age : ℤ)
+      → IsRecent max_age tag r age → AreInside r.fields → ⊥
   unfit (Unfit own field) g few age recent inside = not_both r.fields field inside g.1
   unfit (Fit own el) g few age recent inside = absurd (omega arith)
   unfit NoRecord g few age recent inside = g
   unfit Unhealthy g few age recent inside = true_false r.healthy g recent.healthy
   unfit Old g few age recent inside = g.1 age recent
 
-  aged : (t : Choice) → IsAlone max_age tag r t → 3 ≤ passed_by t → IsRecent max_age tag r (age_of t)
+  aged : (t : Choice) → IsAlone max_age tag r t → 3 ≤ passed_by t
+      → IsRecent max_age tag r (age_of t)
   aged NoRecord g many = absurd (omega arith)
   aged Unhealthy g many = absurd (omega arith)
   aged Old g many = absurd (omega arith)
   aged (Unfit own field) g many = g.0
   aged (Fit own el) g many = g.0
 
-  one_age : (t : Choice) → IsAlone max_age tag r t → 3 ≤ passed_by t → (age : ℤ) → IsRecent max_age tag r age → age ≡ age_of t
+  one_age : (t : Choice) → IsAlone max_age tag r t → 3 ≤ passed_by t → (age : ℤ)
+      → IsRecent max_age tag r age → age ≡ age_of t
   one_age t g many age recent = age_only r tag age (age_of t) recent.age_is (aged t g many).age_is
 
 no_age : (t : Choice) → passed_by t ≤ 2 → age_of t ≡ pos 0
@@ -66,35 +70,41 @@ no_age (Fit age el) few = absurd (omega arith)
 -- ---- what the records before give
 
 module _ (a : Sighting) where
-  none_healthy : (s : Choice) → IsChoice a s → passed_by s ≤ 1 → (i : ℕ) (r : NavRecord) → IsHealthy a i r → ⊥
+  none_healthy : (s : Choice) → IsChoice a s → passed_by s ≤ 1 → (i : ℕ) (r : NavRecord)
+      → IsHealthy a i r → ⊥
   none_healthy NoRecord f few i r p = f i r p.its
   none_healthy Unhealthy f few i r p = f.1 i r p
   none_healthy Old f few i r p = absurd (omega arith)
   none_healthy (Unfit age field) f few i r p = absurd (omega arith)
   none_healthy (Fit age el) f few i r p = absurd (omega arith)
 
-  none_fresh : (s : Choice) → IsChoice a s → passed_by s ≤ 2 → (i : ℕ) (r : NavRecord) (age : ℤ) → IsFresh a i r age → ⊥
+  none_fresh : (s : Choice) → IsChoice a s → passed_by s ≤ 2 → (i : ℕ) (r : NavRecord) (age : ℤ)
+      → IsFresh a i r age → ⊥
   none_fresh NoRecord f few i r age p = f i r p.healthy.its
   none_fresh Unhealthy f few i r age p = f.1 i r p.healthy
   none_fresh Old f few i r age p = f.1 i r age p
   none_fresh (Unfit own field) f few i r age p = absurd (omega arith)
   none_fresh (Fit own el) f few i r age p = absurd (omega arith)
 
-  none_fit : (s : Choice) → IsChoice a s → passed_by s ≤ 3 → (i : ℕ) (r : NavRecord) (age : ℤ) → IsFit a i r age → ⊥
+  none_fit : (s : Choice) → IsChoice a s → passed_by s ≤ 3 → (i : ℕ) (r : NavRecord) (age : ℤ)
+      → IsFit a i r age → ⊥
   none_fit NoRecord f few i r age p = f i r p.fresh.healthy.its
   none_fit Unhealthy f few i r age p = f.1 i r p.fresh.healthy
   none_fit Old f few i r age p = f.1 i r age p.fresh
   none_fit (Unfit own field) f few i r age p = f.none i r age p
   none_fit (Fit own el) f few i r age p = absurd (omega arith)
 
-  least_fresh : (s : Choice) → IsChoice a s → passed_by s ≤ 3 → (least : ℤ) → (passed_by s ≡ 3 → least ≤ℤ age_of s) → (i : ℕ) (r : NavRecord) (age : ℤ) → IsFresh a i r age → least ≤ℤ age
+  least_fresh : (s : Choice) → IsChoice a s → passed_by s ≤ 3 → (least : ℤ)
+      → (passed_by s ≡ 3 → least ≤ℤ age_of s) → (i : ℕ) (r : NavRecord) (age : ℤ)
+      → IsFresh a i r age → least ≤ℤ age
   least_fresh NoRecord f few least at i r age p = absurd (none_fresh NoRecord f (omega arith) i r age p)
   least_fresh Unhealthy f few least at i r age p = absurd (none_fresh Unhealthy f (omega arith) i r age p)
   least_fresh Old f few least at i r age p = absurd (none_fresh Old f (omega arith) i r age p)
   least_fresh (Unfit own field) f few least at i r age p = omega (arith, ints, f.nearest.least i r age p, at refl)
   least_fresh (Fit own el) f few least at i r age p = absurd (omega arith)
 
-  least_fit : (s : Choice) → IsChoice a s → (least : ℤ) → (passed_by s ≡ 4 → least ≤ℤ age_of s) → (i : ℕ) (r : NavRecord) (age : ℤ) → IsFit a i r age → least ≤ℤ age
+  least_fit : (s : Choice) → IsChoice a s → (least : ℤ) → (passed_by s ≡ 4 → least ≤ℤ age_of s)
+      → (i : ℕ) (r : NavRecord) (age : ℤ) → IsFit a i r age → least ≤ℤ age
   least_fit NoRecord f least at i r age p = absurd (none_fit NoRecord f (omega arith) i r age p)
   least_fit Unhealthy f least at i r age p = absurd (none_fit Unhealthy f (omega arith) i r age p)
   least_fit Old f least at i r age p = absurd (none_fit Old f (omega arith) i r age p)
@@ -104,16 +114,21 @@ module _ (a : Sighting) where
 -- ---- one more record
 
 module _ (galileo : Option Signal) (settings : Settings) (tag : ℤ) (seen : SatObs) (records : List NavRecord) (r : NavRecord) where
-  farther : (age : ℤ) (field : ℕ) (t : Choice) → IsAlone settings.max_age tag r t → IsBetter (Unfit age field) t → (b : ℤ) → IsRecent settings.max_age tag r b → age <ℤ b
+  farther : (age : ℤ) (field : ℕ) (t : Choice) → IsAlone settings.max_age tag r t
+      → IsBetter (Unfit age field) t → (b : ℤ) → IsRecent settings.max_age tag r b → age <ℤ b
   farther age field t g (inl less) b recent = absurd (old settings.max_age tag r t g (omega arith) b recent)
   farther age field t g (inr same) b recent = omega (arith, ints, same.1, one_age settings.max_age tag r t g (omega (arith, same.0)) b recent)
 
-  farther_fit : (age : ℤ) (el : Elements) (t : Choice) → IsAlone settings.max_age tag r t → IsBetter (Fit age el) t → (b : ℤ) → IsRecent settings.max_age tag r b → AreInside r.fields → age <ℤ b
+  farther_fit : (age : ℤ) (el : Elements) (t : Choice) → IsAlone settings.max_age tag r t
+      → IsBetter (Fit age el) t → (b : ℤ) → IsRecent settings.max_age tag r b → AreInside r.fields
+      → age <ℤ b
   farther_fit age el t g (inl less) b recent inside = absurd (unfit settings.max_age tag r t g (omega arith) b recent inside)
   farther_fit age el t g (inr same) b recent inside = omega (arith, ints, same.1, one_age settings.max_age tag r t g (omega (arith, same.0)) b recent)
 
   -- a better choice stays
-  pub stays : (s t : Choice) → IsChoice (before galileo settings tag seen records r) s → IsAlone settings.max_age tag r t → IsBetter s t → IsChoice (after galileo settings tag seen records r) s
+  pub stays : (s t : Choice) → IsChoice (before galileo settings tag seen records r) s
+      → IsAlone settings.max_age tag r t → IsBetter s t
+      → IsChoice (after galileo settings tag seen records r) s
   stays NoRecord t f g (inl less) = absurd (omega arith)
   stays NoRecord t f g (inr same) = absurd (omega (arith, some_passed settings.max_age tag r t g, same.0))
   stays Unhealthy t f g (inl less) = absurd (omega (arith, some_passed settings.max_age tag r t g))
@@ -156,11 +171,14 @@ module _ (galileo : Option Signal) (settings : Settings) (tag : ℤ) (seen : Sat
       let no : passed_by t < passed_by s → ⊥ = λ h. worse (inl h) in
       omega (arith, no)
 
-  no_farther : (s t : Choice) → (IsBetter s t → ⊥) → passed_by s ≡ passed_by t → age_of t ≤ℤ age_of s
+  no_farther : (s t : Choice) → (IsBetter s t → ⊥) → passed_by s ≡ passed_by t
+      → age_of t ≤ℤ age_of s
   no_farther s t worse same = by_lt_z (age_of s) (age_of t) (λ (less : age_of s <ℤ age_of t). absurd (worse (inr (sym same, less)))) (λ not. not)
 
   -- else the last counts
-  pub yields : (s t : Choice) → r.sat ≡ seen.sat → IsChoice (before galileo settings tag seen records r) s → IsAlone settings.max_age tag r t → (IsBetter s t → ⊥) → IsChoice (after galileo settings tag seen records r) t
+  pub yields : (s t : Choice) → r.sat ≡ seen.sat
+      → IsChoice (before galileo settings tag seen records r) s → IsAlone settings.max_age tag r t
+      → (IsBetter s t → ⊥) → IsChoice (after galileo settings tag seen records r) t
   yields s NoRecord own f g worse = absurd g
   yields s Unhealthy own f g worse = (
     (length records, r, its_last galileo settings tag seen records r own),
@@ -203,11 +221,14 @@ module _ (galileo : Option Signal) (settings : Settings) (tag : ℤ) (seen : Sat
     elements = g.2;
   }
 
-  no_last : (r.sat ≡ seen.sat → ⊥) → (i : ℕ) (s : NavRecord) → IsItsRecord (after galileo settings tag seen records r) i s → s ≡ r → ⊥
+  no_last : (r.sat ≡ seen.sat → ⊥) → (i : ℕ) (s : NavRecord)
+      → IsItsRecord (after galileo settings tag seen records r) i s → s ≡ r → ⊥
   no_last other i s p last = other (subst (λ (q : NavRecord). q.sat ≡ seen.sat) last p.sat)
 
   -- a record of another satellite changes nothing
-  pub passes_over : (s : Choice) → (r.sat ≡ seen.sat → ⊥) → IsChoice (before galileo settings tag seen records r) s → IsChoice (after galileo settings tag seen records r) s
+  pub passes_over : (s : Choice) → (r.sat ≡ seen.sat → ⊥)
+      → IsChoice (before galileo settings tag seen records r) s
+      → IsChoice (after galileo settings tag seen records r) s
   passes_over NoRecord other f = λ i q p. elim (its_split galileo settings tag seen records r i q p) [
     | inl front ↦ f i q front
     | inr last ↦ no_last other i q p last.1

@@ -17,7 +17,8 @@ use Rattle.pseudorange_prep.specs.Ranges.{IsCode}
 use Rattle.usable_sats.proofs.ElementLemmas.{one_rounded}
 use Rattle.usable_sats.specs.Usability.{HaveValue, IsPlausible, IsCombinationPlausible, ArePlausibleWith, ArePlausible}
 
-pub lies_between : (d : Decimal) (w : Wide) → IsRounded w d Length → IsPlausible w.lo w.hi 1 → LiesBetween d.digits d.ten Length (pos 15000000000000) (pos 40000000000000)
+pub lies_between : (d : Decimal) (w : Wide) → IsRounded w d Length → IsPlausible w.lo w.hi 1
+    → LiesBetween d.digits d.ten Length (pos 15000000000000) (pos 40000000000000)
 lies_between d w r p = record {
   from = (below_floor _ _ _ w.lo (some_parts d.ten Length) r.floor).0 p.from;
   to = (above_ceiling _ _ _ w.hi (some_parts d.ten Length) r.ceiling).0 p.to;
@@ -28,8 +29,10 @@ not_none None n s = absurd cc
 not_none (Some w) n s = absurd cc
 
 -- where the combination is out of range no value of the codes is within
-pub pair_out : (system : System) (seen : SatObs) (a b : List ℕ) (d e : Decimal) (v w : Wide) → seen.first ≡ Some d → seen.second ≡ Some e → IsRounded v d Length → IsRounded w e Length
-    → (IsCombinationPlausible system v w → ⊥) → (codes : Codes) → HaveValue (Dual a b) seen codes → ArePlausible system codes → ⊥
+pub pair_out : (system : System) (seen : SatObs) (a b : List ℕ) (d e : Decimal) (v w : Wide)
+    → seen.first ≡ Some d → seen.second ≡ Some e → IsRounded v d Length → IsRounded w e Length
+    → (IsCombinationPlausible system v w → ⊥) → (codes : Codes) → HaveValue (Dual a b) seen codes
+    → ArePlausible system codes → ⊥
 pair_out system seen a b d e v w first second r s out codes values plausible =
     let one = values.0 in
     let two = values.1 in

@@ -42,13 +42,15 @@ near_prop toc start toe = hlevel T_prop
 same_wide : (a b : Wide) → a.lo ≡ b.lo → a.hi ≡ b.hi → a ≡ b
 same_wide a b p q = λ i. record { lo = p i; hi = q i; ordered = is_prop→PathP (λ j. p j ≤ℤ q j) (λ j. le_prop (p j) (q j)) a.ordered b.ordered i }
 
-pub one_rounded : (number : Decimal) (unit : Unit) (a b : Wide) → IsRounded a number unit → IsRounded b number unit → a ≡ b
+pub one_rounded : (number : Decimal) (unit : Unit) (a b : Wide) → IsRounded a number unit
+    → IsRounded b number unit → a ≡ b
 one_rounded number unit a b f g =
     same_wide a b
     (one_floor _ _ a.lo b.lo (some_parts number.ten unit) f.floor g.floor)
     (one_ceiling _ _ a.hi b.hi (some_parts number.ten unit) f.ceiling g.ceiling)
 
-same_lies : (low high : ℤ) (a b : Wide) (p : a ≡ b) (f : LiesFrom low high a) (g : LiesFrom low high b) → PathP (λ i. LiesFrom low high (p i)) f g
+same_lies : (low high : ℤ) (a b : Wide) (p : a ≡ b) (f : LiesFrom low high a) (g : LiesFrom low high b)
+    → PathP (λ i. LiesFrom low high (p i)) f g
 same_lies low high a b p f g = is_prop→PathP (λ j. LiesFrom low high (p j)) (λ j. lies_prop low high (p j)) f g
 
 -- ---- elements

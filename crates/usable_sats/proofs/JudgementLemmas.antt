@@ -22,13 +22,15 @@ use Rattle.usable_sats.specs.Usability.{Sighting, AreThere, HaveValue, IsMeasure
 
 -- ---- one value
 
-pub first_outside_one : (fields : List Decimal) (j k : ℕ) → IsFirstOutside fields j → IsFirstOutside fields k → j ≡ k
+pub first_outside_one : (fields : List Decimal) (j k : ℕ) → IsFirstOutside fields j
+    → IsFirstOutside fields k → j ≡ k
 first_outside_one fields j k f g =
     let up : j < k → ⊥ = λ h. f.outside (g.before j f.from h) in
     let down : k < j → ⊥ = λ h. g.outside (f.before k g.from h) in
     omega (arith, up, down)
 
-pub nearest_one : (records : List NavRecord) (Meets : ℕ → NavRecord → ℤ → Type 0) → ((i : ℕ) (r : NavRecord) (age : ℤ) → Meets i r age → slice_get records i ≡ Some r)
+pub nearest_one : (records : List NavRecord) (Meets : ℕ → NavRecord → ℤ → Type 0)
+    → ((i : ℕ) (r : NavRecord) (age : ℤ) → Meets i r age → slice_get records i ≡ Some r)
     → (i j : ℕ) (r s : NavRecord) (a b : ℤ) → IsNearest Meets i r a → IsNearest Meets j s b → r ≡ s
 nearest_one records Meets at i j r s a b m n =
     let age : a ≡ b = omega (arith, ints, m.least j s b n.meets, n.least i r a m.meets) in
@@ -40,12 +42,14 @@ nearest_one records Meets at i j r s a b m n =
 same_codes : (c d : Codes) → c.first ≡ d.first → c.second ≡ d.second → c ≡ d
 same_codes c d p q = λ i. record { first = p i; second = q i }
 
-one_code : (o : Option Decimal) (v w : Wide) → (d : Decimal) × (o ≡ Some d) × IsRounded v d Length → (d : Decimal) × (o ≡ Some d) × IsRounded w d Length → v ≡ w
+one_code : (o : Option Decimal) (v w : Wide) → (d : Decimal) × (o ≡ Some d) × IsRounded v d Length
+    → (d : Decimal) × (o ≡ Some d) × IsRounded w d Length → v ≡ w
 one_code o v w f g =
     let same = same_Some f.0 g.0 (sym f.1 ∙ g.1) in
     one_rounded g.0 Length v w (subst (λ (q : Decimal). IsRounded v q Length) same f.2) g.2
 
-value_one : (signal : Signal) (seen : SatObs) (c d : Codes) → HaveValue signal seen c → HaveValue signal seen d → c ≡ d
+value_one : (signal : Signal) (seen : SatObs) (c d : Codes) → HaveValue signal seen c
+    → HaveValue signal seen d → c ≡ d
 value_one (Single code) seen c d f g = same_codes c d (one_code seen.first c.first d.first (f.0, f.1, f.2) (g.0, g.1, g.2)) (f.3 ∙ sym g.3)
 value_one (Dual code other) seen c d f g =
     let first = one_code seen.first c.first d.first f.0 g.0 in
@@ -63,7 +67,8 @@ module _ (a : Sighting) where
 
 -- ---- one judgement
 
-have_there : (signal : Signal) (seen : SatObs) (c : Codes) → HaveValue signal seen c → AreThere signal seen
+have_there : (signal : Signal) (seen : SatObs) (c : Codes) → HaveValue signal seen c
+    → AreThere signal seen
 have_there (Single code) seen c v = (v.0, v.1)
 have_there (Dual code other) seen c v = ((v.0.0, v.0.1), (v.1.0, v.1.2))
 
@@ -167,11 +172,13 @@ module _ (a : Sighting) where
       ] in
       λ i. record { number = number i; field = field i }
 
-  not_both : (delays : Delays) (root : GridBox) (s : Skip) → IsJudged delays root a (Some s) → IsJudged delays root a None → ⊥
+  not_both : (delays : Delays) (root : GridBox) (s : Skip) → IsJudged delays root a (Some s)
+      → IsJudged delays root a None → ⊥
   not_both delays root s (inl f) (usable, high) = not_usable s f usable
   not_both delays root s (inr f) (usable, high) = f.low high
 
-  one_reason : (delays : Delays) (root : GridBox) (s t : Skip) → IsJudged delays root a (Some s) → IsJudged delays root a (Some t) → s ≡ t
+  one_reason : (delays : Delays) (root : GridBox) (s t : Skip) → IsJudged delays root a (Some s)
+      → IsJudged delays root a (Some t) → s ≡ t
   one_reason delays root s t (inl f) (inl g) = one_skip s t f g
   one_reason delays root s t (inl f) (inr g) = absurd (not_usable s f g.usable)
   one_reason delays root s t (inr f) (inl g) = absurd (not_usable t g f.usable)
@@ -180,7 +187,8 @@ module _ (a : Sighting) where
       let field = f.field ∙ sym g.field in
       λ i. record { number = number i; field = field i }
 
-  pub judgement_one : (delays : Delays) (root : GridBox) (x y : Option Skip) → IsJudged delays root a x → IsJudged delays root a y → x ≡ y
+  pub judgement_one : (delays : Delays) (root : GridBox) (x y : Option Skip)
+      → IsJudged delays root a x → IsJudged delays root a y → x ≡ y
   judgement_one delays root None None f g = refl
   judgement_one delays root None (Some t) f g = absurd (not_both delays root t g f)
   judgement_one delays root (Some s) None f g = absurd (not_both delays root s f g)

@@ -12,7 +12,8 @@ use Rattle.usable_sats.specs.Usability.{Sighting, IsItsRecord, IsHealthy, IsFres
 
 -- ---- lists
 
-get_front : {X : Type 0} (xs : List X) (y : X) (i : ℕ) (x : X) → slice_get xs i ≡ Some x → slice_get (xs ++ y ∷ []) i ≡ Some x
+get_front : {X : Type 0} (xs : List X) (y : X) (i : ℕ) (x : X) → slice_get xs i ≡ Some x
+    → slice_get (xs ++ y ∷ []) i ≡ Some x
 get_front [] y i x e = absurd cc
 get_front (z ∷ xs) y zero x e = e
 get_front (z ∷ xs) y (suc i) x e = get_front xs y i x e
@@ -21,7 +22,8 @@ get_last : {X : Type 0} (xs : List X) (y : X) → slice_get (xs ++ y ∷ []) (le
 get_last [] y = refl
 get_last (z ∷ xs) y = get_last xs y
 
-get_split : {X : Type 0} (xs : List X) (y : X) (i : ℕ) (x : X) → slice_get (xs ++ y ∷ []) i ≡ Some x → (slice_get xs i ≡ Some x) ⊎ ((i ≡ length xs) × (x ≡ y))
+get_split : {X : Type 0} (xs : List X) (y : X) (i : ℕ) (x : X) → slice_get (xs ++ y ∷ []) i ≡ Some x
+    → (slice_get xs i ≡ Some x) ⊎ ((i ≡ length xs) × (x ≡ y))
 get_split [] y zero x e = inr (refl, cc)
 get_split [] y (suc i) x e = absurd cc
 get_split (z ∷ xs) y zero x e = inl e
@@ -49,31 +51,36 @@ module _ (galileo : Option Signal) (settings : Settings) (tag : ℤ) (seen : Sat
   pub healthy_kept : (i : ℕ) (s : NavRecord) → IsHealthy before i s → IsHealthy after i s
   healthy_kept i s p = record { its = its_kept i s p.its; healthy = p.healthy }
 
-  pub fresh_kept : (i : ℕ) (s : NavRecord) (age : ℤ) → IsFresh before i s age → IsFresh after i s age
+  pub fresh_kept : (i : ℕ) (s : NavRecord) (age : ℤ) → IsFresh before i s age
+      → IsFresh after i s age
   fresh_kept i s age p = record { healthy = healthy_kept i s p.healthy; age_is = p.age_is; fresh = p.fresh }
 
   pub fit_kept : (i : ℕ) (s : NavRecord) (age : ℤ) → IsFit before i s age → IsFit after i s age
   fit_kept i s age p = record { fresh = fresh_kept i s age p.fresh; inside = p.inside }
 
-  pub its_split : (i : ℕ) (s : NavRecord) → IsItsRecord after i s → IsItsRecord before i s ⊎ IsLast i s
+  pub its_split : (i : ℕ) (s : NavRecord) → IsItsRecord after i s
+      → IsItsRecord before i s ⊎ IsLast i s
   its_split i s p = elim (get_split records r i s p.at) [
     | inl front ↦ inl (record { at = front; sat = p.sat })
     | inr last ↦ inr last
   ]
 
-  pub healthy_split : (i : ℕ) (s : NavRecord) → IsHealthy after i s → IsHealthy before i s ⊎ IsLast i s
+  pub healthy_split : (i : ℕ) (s : NavRecord) → IsHealthy after i s
+      → IsHealthy before i s ⊎ IsLast i s
   healthy_split i s p = elim (its_split i s p.its) [
     | inl front ↦ inl (record { its = front; healthy = p.healthy })
     | inr last ↦ inr last
   ]
 
-  pub fresh_split : (i : ℕ) (s : NavRecord) (age : ℤ) → IsFresh after i s age → IsFresh before i s age ⊎ IsLast i s
+  pub fresh_split : (i : ℕ) (s : NavRecord) (age : ℤ) → IsFresh after i s age
+      → IsFresh before i s age ⊎ IsLast i s
   fresh_split i s age p = elim (healthy_split i s p.healthy) [
     | inl front ↦ inl (record { healthy = front; age_is = p.age_is; fresh = p.fresh })
     | inr last ↦ inr last
   ]
 
-  pub fit_split : (i : ℕ) (s : NavRecord) (age : ℤ) → IsFit after i s age → IsFit before i s age ⊎ IsLast i s
+  pub fit_split : (i : ℕ) (s : NavRecord) (age : ℤ) → IsFit after i s age
+      → IsFit before i s age ⊎ IsLast i s
   fit_split i s age p = elim (fresh_split i s age p.fresh) [
     | inl front ↦ inl (record { fresh = front; inside = p.inside })
     | inr last ↦ inr last
@@ -82,17 +89,21 @@ module _ (galileo : Option Signal) (settings : Settings) (tag : ℤ) (seen : Sat
   pub its_last : r.sat ≡ seen.sat → IsItsRecord after (length records) r
   its_last own = record { at = get_last records r; sat = own }
 
-  pub fresh_last : (age : ℤ) → r.sat ≡ seen.sat → IsRecent settings.max_age tag r age → IsFresh after (length records) r age
+  pub fresh_last : (age : ℤ) → r.sat ≡ seen.sat → IsRecent settings.max_age tag r age
+      → IsFresh after (length records) r age
   fresh_last age own p = record { healthy = record { its = its_last own; healthy = p.healthy }; age_is = p.age_is; fresh = p.fresh }
 
-  pub is_recent : (i : ℕ) (s : NavRecord) (age : ℤ) → IsFresh after i s age → s ≡ r → IsRecent settings.max_age tag r age
+  pub is_recent : (i : ℕ) (s : NavRecord) (age : ℤ) → IsFresh after i s age → s ≡ r
+      → IsRecent settings.max_age tag r age
   is_recent i s age p last = subst (λ (q : NavRecord). IsRecent settings.max_age tag q age) last (record { healthy = p.healthy.healthy; age_is = p.age_is; fresh = p.fresh })
 
 -- ---- the nearest
 
 -- it stays so where whatever else meets the fact is farther
-pub nearest_kept : (Meets More : ℕ → NavRecord → ℤ → Type 0) (i : ℕ) (r : NavRecord) (age : ℤ) → IsNearest Meets i r age → ((j : ℕ) (s : NavRecord) (b : ℤ) → Meets j s b → More j s b)
-    → ((j : ℕ) (s : NavRecord) (b : ℤ) → More j s b → Meets j s b ⊎ (age <ℤ b)) → IsNearest More i r age
+pub nearest_kept : (Meets More : ℕ → NavRecord → ℤ → Type 0) (i : ℕ) (r : NavRecord) (age : ℤ)
+    → IsNearest Meets i r age → ((j : ℕ) (s : NavRecord) (b : ℤ) → Meets j s b → More j s b)
+    → ((j : ℕ) (s : NavRecord) (b : ℤ) → More j s b → Meets j s b ⊎ (age <ℤ b))
+    → IsNearest More i r age
 nearest_kept Meets More i r age n keep split = record {
   meets = keep i r age n.meets;
   least = λ j s b m. elim (split j s b m) [
@@ -106,8 +117,10 @@ nearest_kept Meets More i r age n keep split = record {
 }
 
 -- a last one is the nearest where none is nearer
-pub nearest_last : (Meets More : ℕ → NavRecord → ℤ → Type 0) (n : ℕ) (r : NavRecord) (age : ℤ) → More n r age → ((j : ℕ) (s : NavRecord) (b : ℤ) → Meets j s b → (age ≤ℤ b) × (j < n))
-    → ((j : ℕ) (s : NavRecord) (b : ℤ) → More j s b → Meets j s b ⊎ ((j ≡ n) × (b ≡ age))) → IsNearest More n r age
+pub nearest_last : (Meets More : ℕ → NavRecord → ℤ → Type 0) (n : ℕ) (r : NavRecord) (age : ℤ)
+    → More n r age → ((j : ℕ) (s : NavRecord) (b : ℤ) → Meets j s b → (age ≤ℤ b) × (j < n))
+    → ((j : ℕ) (s : NavRecord) (b : ℤ) → More j s b → Meets j s b ⊎ ((j ≡ n) × (b ≡ age)))
+    → IsNearest More n r age
 nearest_last Meets More n r age meets farther split = record {
   meets = meets;
   least = λ j s b m. elim (split j s b m) [

@@ -20,10 +20,12 @@ use Rattle.usable_sats.proofs.ChoiceLemmas.{passes_over}
 other_sat : (a b : Sat) → is_same a b ≡ false → b ≡ a → ⊥
 other_sat a b differ same = false≢true (sym differ ∙ (ap (is_same a) same ∙ is_self a))
 
-place_last : (records : List NavRecord) (r : NavRecord) (n : ℕ) → n ≡ length records + 1 → n ≡ length (records ++ r ∷ [])
+place_last : (records : List NavRecord) (r : NavRecord) (n : ℕ) → n ≡ length records + 1
+    → n ≡ length (records ++ r ∷ [])
 place_last records r n e = e ∙ sym (length-append records (r ∷ []))
 
-get_behind : {X : Type 0} (front behind : List X) (x : X) → slice_get (front ++ x ∷ behind) (length front) ≡ Some x
+get_behind : {X : Type 0} (front behind : List X) (x : X)
+    → slice_get (front ++ x ∷ behind) (length front) ≡ Some x
 get_behind [] behind x = refl
 get_behind (y ∷ front) behind x = get_behind front behind x
 
@@ -46,8 +48,10 @@ pub record IsAtNext (records : List NavRecord) (galileo : Option Signal) (settin
   pub choice_is : IsChoice (sighting_by galileo front settings tag seen) choice
 
 module _ (records : List NavRecord) (galileo : Option Signal) (settings : Settings) (tag : ℤ) (seen : SatObs) where
-  next_from : (front behind : List NavRecord) (place : ℕ) (rest : List ℕ) (choice : Choice) → records ≡ front ++ behind → places_from (length front) seen.sat behind ≡ place ∷ rest
-      → IsChoice (sighting_by galileo front settings tag seen) choice → (r : NavRecord) × IsAtNext records galileo settings tag seen place r rest choice
+  next_from : (front behind : List NavRecord) (place : ℕ) (rest : List ℕ) (choice : Choice)
+      → records ≡ front ++ behind → places_from (length front) seen.sat behind ≡ place ∷ rest
+      → IsChoice (sighting_by galileo front settings tag seen) choice
+      → (r : NavRecord) × IsAtNext records galileo settings tag seen place r rest choice
   next_from front [] place rest choice all places f = absurd cc
   next_from front (q ∷ behind) place rest choice all places f = by_bool (is_same seen.sat q.sat)
       (λ yes.
@@ -59,7 +63,9 @@ module _ (records : List NavRecord) (galileo : Option Signal) (settings : Settin
       (subst (λ (n : ℕ). places_from n seen.sat behind ≡ place ∷ rest) (place_last front q _ refl) later)
       (passes_over galileo settings tag seen front q choice (other_sat seen.sat q.sat differ) f))
 
-  end_from : (front behind : List NavRecord) (choice : Choice) → records ≡ front ++ behind → places_from (length front) seen.sat behind ≡ [] → IsChoice (sighting_by galileo front settings tag seen) choice
+  end_from : (front behind : List NavRecord) (choice : Choice) → records ≡ front ++ behind
+      → places_from (length front) seen.sat behind ≡ []
+      → IsChoice (sighting_by galileo front settings tag seen) choice
       → IsChoice (sighting_by galileo records settings tag seen) choice
   end_from front [] choice all places f = subst (λ (l : List NavRecord). IsChoice (sighting_by galileo l settings tag seen) choice) (sym (all ∙ append-nil front)) f
   end_from front (q ∷ behind) choice all places f = by_bool (is_same seen.sat q.sat)
@@ -71,15 +77,20 @@ module _ (records : List NavRecord) (galileo : Option Signal) (settings : Settin
       (passes_over galileo settings tag seen front q choice (other_sat seen.sat q.sat differ) f))
 
   -- the next place has a record of the satellite
-  pub walk_next : (place : ℕ) (rest : List ℕ) (choice : Choice) → IsWalked records galileo settings tag seen (place ∷ rest) choice → (r : NavRecord) × IsAtNext records galileo settings tag seen place r rest choice
+  pub walk_next : (place : ℕ) (rest : List ℕ) (choice : Choice)
+      → IsWalked records galileo settings tag seen (place ∷ rest) choice
+      → (r : NavRecord) × IsAtNext records galileo settings tag seen place r rest choice
   walk_next place rest choice w = next_from w.front w.behind place rest choice w.all w.places w.choice_is
 
-  pub next_get : (place : ℕ) (r : NavRecord) (rest : List ℕ) (choice : Choice) → IsAtNext records galileo settings tag seen place r rest choice → slice_get records place ≡ Some r
+  pub next_get : (place : ℕ) (r : NavRecord) (rest : List ℕ) (choice : Choice)
+      → IsAtNext records galileo settings tag seen place r rest choice
+      → slice_get records place ≡ Some r
   next_get place r rest choice n = rw (n.all, n.at) (get_behind n.front n.behind r)
 
   -- behind it the walk goes on
   pub walk_on : (place : ℕ) (r : NavRecord) (rest : List ℕ) (choice more : Choice) (n : IsAtNext records galileo settings tag seen place r rest choice)
-      → IsChoice (sighting_by galileo (n.front ++ r ∷ []) settings tag seen) more → IsWalked records galileo settings tag seen rest more
+      → IsChoice (sighting_by galileo (n.front ++ r ∷ []) settings tag seen) more
+      → IsWalked records galileo settings tag seen rest more
   walk_on place r rest choice more n f = record {
     front = n.front ++ r ∷ [];
     behind = n.behind;
@@ -88,33 +99,40 @@ module _ (records : List NavRecord) (galileo : Option Signal) (settings : Settin
     choice_is = f;
   }
 
-  pub walk_end : (choice : Choice) → IsWalked records galileo settings tag seen [] choice → IsChoice (sighting_by galileo records settings tag seen) choice
+  pub walk_end : (choice : Choice) → IsWalked records galileo settings tag seen [] choice
+      → IsChoice (sighting_by galileo records settings tag seen) choice
   walk_end choice w = end_from w.front w.behind choice w.all w.places w.choice_is
 
   -- ---- by the index of a place
 
-  pub walk_begins : (places : List ℕ) → places ≡ places_of records seen.sat → IsWalked records galileo settings tag seen places NoRecord
+  pub walk_begins : (places : List ℕ) → places ≡ places_of records seen.sat
+      → IsWalked records galileo settings tag seen places NoRecord
   walk_begins places e = record { front = []; behind = records; all = refl; places = sym e; choice_is = λ i r p. none-some r p.at }
 
-  at_place : (places : List ℕ) (k : ℕ) (choice : Choice) → IsWalked records galileo settings tag seen (drop k places) choice → k < length places
+  at_place : (places : List ℕ) (k : ℕ) (choice : Choice)
+      → IsWalked records galileo settings tag seen (drop k places) choice → k < length places
       → (r : NavRecord) × IsAtNext records galileo settings tag seen (get_or places k 0) r (drop (k + 1) places) choice
   at_place places k choice w h =
       let next : drop k places ≡ get_or places k 0 ∷ drop (k + 1) places = rw (add-one, drop-cons places k 0) refl in
       walk_next (get_or places k 0) (drop (k + 1) places) choice (subst (λ (l : List ℕ). IsWalked records galileo settings tag seen l choice) next w)
 
-  pub place_within : (places : List ℕ) (k : ℕ) (choice : Choice) → IsWalked records galileo settings tag seen (drop k places) choice → k < length places → get_or places k 0 < length records
+  pub place_within : (places : List ℕ) (k : ℕ) (choice : Choice)
+      → IsWalked records galileo settings tag seen (drop k places) choice → k < length places
+      → get_or places k 0 < length records
   place_within places k choice w h =
       let n = at_place places k choice w h in
       slice_get_within records (get_or places k 0) n.0 (next_get _ n.0 _ choice n.1)
 
-  pub place_own : (places : List ℕ) (k : ℕ) (choice : Choice) (r : NavRecord) → IsWalked records galileo settings tag seen (drop k places) choice → k < length places
+  pub place_own : (places : List ℕ) (k : ℕ) (choice : Choice) (r : NavRecord)
+      → IsWalked records galileo settings tag seen (drop k places) choice → k < length places
       → slice_get records (get_or places k 0) ≡ Some r → r.sat ≡ seen.sat
   place_own places k choice r w h at =
       let n = at_place places k choice w h in
       let same = same_Some n.0 r (sym (next_get _ n.0 _ choice n.1) ∙ at) in
       subst (λ (q : NavRecord). q.sat ≡ seen.sat) same n.1.own
 
-  pub walk_step : (places : List ℕ) (k : ℕ) (choice more : Choice) (r : NavRecord) → IsWalked records galileo settings tag seen (drop k places) choice → k < length places
+  pub walk_step : (places : List ℕ) (k : ℕ) (choice more : Choice) (r : NavRecord)
+      → IsWalked records galileo settings tag seen (drop k places) choice → k < length places
       → slice_get records (get_or places k 0) ≡ Some r
       → ((front : List NavRecord) → IsChoice (sighting_by galileo front settings tag seen) choice → IsChoice (sighting_by galileo (front ++ r ∷ []) settings tag seen) more)
       → IsWalked records galileo settings tag seen (drop (k + 1) places) more
@@ -123,5 +141,7 @@ module _ (records : List NavRecord) (galileo : Option Signal) (settings : Settin
       let same = same_Some n.0 r (sym (next_get _ n.0 _ choice n.1) ∙ at) in
       walk_on _ n.0 _ choice more n.1 (subst (λ (q : NavRecord). IsChoice (sighting_by galileo (n.1.front ++ q ∷ []) settings tag seen) more) (sym same) (step n.1.front n.1.choice_is))
 
-  pub walk_ends : (places : List ℕ) (k : ℕ) (choice : Choice) → IsWalked records galileo settings tag seen (drop k places) choice → length places ≤ k → IsChoice (sighting_by galileo records settings tag seen) choice
+  pub walk_ends : (places : List ℕ) (k : ℕ) (choice : Choice)
+      → IsWalked records galileo settings tag seen (drop k places) choice → length places ≤ k
+      → IsChoice (sighting_by galileo records settings tag seen) choice
   walk_ends places k choice w h = walk_end choice (subst (λ (l : List ℕ). IsWalked records galileo settings tag seen l choice) (drop_of_length-le places {i = k} h) w)

@@ -14,7 +14,8 @@ pub record IsBehindMinus (digits : List ℕ) : Type 0 where
   pub within : amount ≤ 100000000000000000000
   pub spelled : digits ≡ decimal amount
 
-pub behind_minus : (word : List ℕ) (n : ℤ) → get_or word 0 0 ≡ 45 → IsWithin 100000000000000000000 n → word ≡ signed_decimal n → IsBehindMinus (take (length word - 1) (drop 1 word))
+pub behind_minus : (word : List ℕ) (n : ℤ) → get_or word 0 0 ≡ 45 → IsWithin 100000000000000000000 n
+    → word ≡ signed_decimal n → IsBehindMinus (take (length word - 1) (drop 1 word))
 behind_minus word (pos k) minus within e =
     let is = (decimal_is_IsNumeral_wide k (omega (arith, ints, within.high))).0 in
     let first : get_or (decimal k) 0 0 ≡ 45 = rw e at minus in

@@ -32,11 +32,13 @@ uncast_factor x k = omega (arith, ints, k.low, k.high)
 pub uncast_end : (x : ℤ) → IsBoxSize x → to_z w64 (of_z w64 x) ≡ x
 uncast_end x k = omega (arith, ints, k.low, k.high)
 
-pub uncast_product : (a b : ℤ) → IsWithin 1048576 a → IsBoxSize b → to_z w128 (of_z w128 (to_z w128 (of_z w128 a) *ℤ to_z w128 (of_z w128 b))) ≡ a *ℤ b
+pub uncast_product : (a b : ℤ) → IsWithin 1048576 a → IsBoxSize b
+    → to_z w128 (of_z w128 (to_z w128 (of_z w128 a) *ℤ to_z w128 (of_z w128 b))) ≡ a *ℤ b
 uncast_product a b v w =
     rw (uncast a (wider _ a (omega arith) v), uncast b (wider _ b (omega arith) w)) (uncast (a *ℤ b) (wider _ (a *ℤ b) (omega arith) (product_within 1048576 10000000000000 a b v w)))
 
-pub uncast_sum : (x y z : ℤ) → IsWithin 10485760000000000000 x → IsWithin 10485760000000000000 y → IsWithin 10485760000000000000 z
+pub uncast_sum : (x y z : ℤ) → IsWithin 10485760000000000000 x → IsWithin 10485760000000000000 y
+    → IsWithin 10485760000000000000 z
     → to_z w128 (of_z w128 (to_z w128 (of_z w128 x) +ℤ to_z w128 (of_z w128 (to_z w128 (of_z w128 y) +ℤ to_z w128 (of_z w128 z))))) ≡ x +ℤ (y +ℤ z)
 uncast_sum x y z u v w =
     let inner = sum_within _ _ y z v w in
@@ -58,7 +60,8 @@ itself f = record { from = omega (arith, ints); to = omega (arith, ints) }
 least_on_le : (f : ℤ) (s : Side) (n : ℤ) → (s.lo ≤ℤ n) × (n ≤ℤ s.hi) → least_on f s ≤ℤ (f *ℤ n)
 least_on_le f s n h = one_min (f *ℤ s.lo) (f *ℤ s.hi) (f *ℤ n) (least_le_product f f s.lo s.hi f n (itself f) (record { from = h.0; to = h.1 }))
 
-le_greatest_on : (f : ℤ) (s : Side) (n : ℤ) → (s.lo ≤ℤ n) × (n ≤ℤ s.hi) → (f *ℤ n) ≤ℤ greatest_on f s
+le_greatest_on : (f : ℤ) (s : Side) (n : ℤ) → (s.lo ≤ℤ n) × (n ≤ℤ s.hi)
+    → (f *ℤ n) ≤ℤ greatest_on f s
 le_greatest_on f s n h = one_max (f *ℤ s.lo) (f *ℤ s.hi) (f *ℤ n) (product_le_greatest f f s.lo s.hi f n (itself f) (record { from = h.0; to = h.1 }))
 
 -- an end of the side has this product with the factor
@@ -100,7 +103,8 @@ sum_le a b c x y z h k l = omega (arith, ints, h, k, l)
 pub least_le : (a : Pos) (c : GridBox) (p : Pos) → box_holds c p ≡ true → least_over a c ≤ℤ dot a p
 least_le a c p h = let i = in_box c p h in sum_le _ _ _ _ _ _ (least_on_le a.x c.x p.x i.x) (least_on_le a.y c.y p.y i.y) (least_on_le a.z c.z p.z i.z)
 
-pub le_greatest : (a : Pos) (c : GridBox) (p : Pos) → box_holds c p ≡ true → dot a p ≤ℤ greatest_over a c
+pub le_greatest : (a : Pos) (c : GridBox) (p : Pos) → box_holds c p ≡ true
+    → dot a p ≤ℤ greatest_over a c
 le_greatest a c p h = let i = in_box c p h in sum_le _ _ _ _ _ _ (le_greatest_on a.x c.x p.x i.x) (le_greatest_on a.y c.y p.y i.y) (le_greatest_on a.z c.z p.z i.z)
 
 -- a point of the box has this product with the direction
@@ -109,7 +113,8 @@ pub record PointAt (a : Pos) (c : GridBox) (v : ℤ) : Type 0 where
   pub held : box_holds c point ≡ true
   pub product : dot a point ≡ v
 
-point_of : (a : Pos) (c : GridBox) (u v w : ℤ) → EndAt a.x c.x u → EndAt a.y c.y v → EndAt a.z c.z w → PointAt a c (u +ℤ (v +ℤ w))
+point_of : (a : Pos) (c : GridBox) (u v w : ℤ) → EndAt a.x c.x u → EndAt a.y c.y v → EndAt a.z c.z w
+    → PointAt a c (u +ℤ (v +ℤ w))
 point_of a c u v w e f g = record {
   point = record { x = e.n; y = f.n; z = g.n };
   held = holds_from c (record { x = e.n; y = f.n; z = g.n }) (record { x = e.inside; y = f.inside; z = g.inside });
@@ -132,18 +137,22 @@ less_both m l v h k = omega (arith, ints, h, k)
 no_less : (m l : ℤ) → l ≤ℤ m → m <ℤ l → ⊥
 no_less m l h k = omega (arith, ints, h, k)
 
-pub beyond : (s : PlaneValue) (b : Box3) → s.most <ℤ least_over s.along (grid_box b) → LiesBeyond (grid_box b) s
+pub beyond : (s : PlaneValue) (b : Box3) → s.most <ℤ least_over s.along (grid_box b)
+    → LiesBeyond (grid_box b) s
 beyond s b h p held = less_both _ _ _ h (least_le s.along (grid_box b) p held)
 
-pub not_beyond : (s : PlaneValue) (b : Box3) → least_over s.along (grid_box b) ≤ℤ s.most → LiesBeyond (grid_box b) s → ⊥
+pub not_beyond : (s : PlaneValue) (b : Box3) → least_over s.along (grid_box b) ≤ℤ s.most
+    → LiesBeyond (grid_box b) s → ⊥
 not_beyond s b h all =
     let low = least_point s.along b in
     no_less s.most _ h (subst (λ (v : ℤ). s.most <ℤ v) low.product (all low.point low.held))
 
-pub behind : (s : PlaneValue) (b : Box3) → greatest_over s.along (grid_box b) ≤ℤ s.most → LiesBehind (grid_box b) s
+pub behind : (s : PlaneValue) (b : Box3) → greatest_over s.along (grid_box b) ≤ℤ s.most
+    → LiesBehind (grid_box b) s
 behind s b h p held = le_both _ _ _ (le_greatest s.along (grid_box b) p held) h
 
-pub not_behind : (s : PlaneValue) (b : Box3) → s.most <ℤ greatest_over s.along (grid_box b) → LiesBehind (grid_box b) s → ⊥
+pub not_behind : (s : PlaneValue) (b : Box3) → s.most <ℤ greatest_over s.along (grid_box b)
+    → LiesBehind (grid_box b) s → ⊥
 not_behind s b h all =
     let high = greatest_point s.along b in
     no_less s.most _ (subst (λ (v : ℤ). v ≤ℤ s.most) high.product (all high.point high.held)) h

@@ -16,50 +16,64 @@ use Rattle.zone_guard.specs.declared.found.Finding.{Finding}
 use Rattle.zone_guard.specs.declared.watch.Watch.{Watch}
 
 -- the items up to a place, each as a value
-more_of : {X Y : Type 0} (f : X → Y) (xs : List X) (i : ℕ) (x : X) → i < length xs → x ≡ get_or xs i x → map f (take (i + 1) xs) ≡ map f (take i xs) ++ f x ∷ []
+more_of : {X Y : Type 0} (f : X → Y) (xs : List X) (i : ℕ) (x : X) → i < length xs
+    → x ≡ get_or xs i x → map f (take (i + 1) xs) ≡ map f (take i xs) ++ f x ∷ []
 more_of f xs i x within is = ap (map f) (take_more xs i x within ∙ ap (λ y. take i xs ++ y ∷ []) (sym is)) ∙ map-append f (take i xs) (x ∷ [])
 
-all_of : {X Y : Type 0} (f : X → Y) (xs : List X) (i : ℕ) → length xs ≤ i → map f (take i xs) ≡ map f xs
+all_of : {X Y : Type 0} (f : X → Y) (xs : List X) (i : ℕ) → length xs ≤ i
+    → map f (take i xs) ≡ map f xs
 all_of f xs i ended = ap (map f) (take_all i xs ended)
 
-one_more : (watches : List WatchValue) (boxes : List GridBox) (found : List Finding) (w : WatchValue) (f : Finding) → AreFindings watches boxes found → IsFinding w.form boxes f
+one_more : (watches : List WatchValue) (boxes : List GridBox) (found : List Finding) (w : WatchValue) (f : Finding)
+    → AreFindings watches boxes found → IsFinding w.form boxes f
     → AreFindings (watches ++ w ∷ []) boxes (found ++ f ∷ [])
 one_more [] boxes [] w f are is = (is, tt)
 one_more [] boxes (g ∷ found) w f are is = absurd are
 one_more (v ∷ watches) boxes [] w f are is = absurd are
 one_more (v ∷ watches) boxes (g ∷ found) w f are is = (are.0, one_more watches boxes found w f are.1 is)
 
-pub findings_more : (watches : List Watch) (i : ℕ) (w : Watch) (boxes : List GridBox) (found items : List Finding) (f : Finding) → i < length watches → w ≡ get_or watches i w
-    → AreFindings (watch_values (take i watches)) boxes found → IsFinding (watch_value w).form boxes f → items ≡ found ++ f ∷ [] → AreFindings (watch_values (take (i + 1) watches)) boxes items
+pub findings_more : (watches : List Watch) (i : ℕ) (w : Watch) (boxes : List GridBox) (found items : List Finding) (f : Finding)
+    → i < length watches → w ≡ get_or watches i w
+    → AreFindings (watch_values (take i watches)) boxes found
+    → IsFinding (watch_value w).form boxes f → items ≡ found ++ f ∷ []
+    → AreFindings (watch_values (take (i + 1) watches)) boxes items
 findings_more watches i w boxes found items f within is are here e =
     rw (e, more_of watch_value watches i w within is) (one_more (watch_values (take i watches)) boxes found (watch_value w) f are here)
 
-pub findings_all : (watches : List Watch) (i : ℕ) (boxes : List GridBox) (found : List Finding) → length watches ≤ i → AreFindings (watch_values (take i watches)) boxes found
+pub findings_all : (watches : List Watch) (i : ℕ) (boxes : List GridBox) (found : List Finding)
+    → length watches ≤ i → AreFindings (watch_values (take i watches)) boxes found
     → AreFindings (watch_values watches) boxes found
 findings_all watches i boxes found ended are = rw (all_of watch_value watches i ended) at are
 
-next_epoch : (watches : List WatchValue) (blocks : List Block) (found : List EpochFindings) (block : Block) (e : EpochFindings) → AreEpochsFound watches blocks found → IsEpochFound watches block e
+next_epoch : (watches : List WatchValue) (blocks : List Block) (found : List EpochFindings) (block : Block) (e : EpochFindings)
+    → AreEpochsFound watches blocks found → IsEpochFound watches block e
     → AreEpochsFound watches (blocks ++ block ∷ []) (found ++ e ∷ [])
 next_epoch watches [] [] block e are is = (is, tt)
 next_epoch watches [] (g ∷ found) block e are is = absurd are
 next_epoch watches (b ∷ blocks) [] block e are is = absurd are
 next_epoch watches (b ∷ blocks) (g ∷ found) block e are is = (are.0, next_epoch watches blocks found block e are.1 is)
 
-pub epochs_more : (watches : List WatchValue) (epochs : List LogEpoch) (i : ℕ) (x : LogEpoch) (found items : List EpochFindings) (e : EpochFindings) → i < length epochs → x ≡ get_or epochs i x
-    → AreEpochsFound watches (map block_of (take i epochs)) found → IsEpochFound watches (block_of x) e → items ≡ found ++ e ∷ [] → AreEpochsFound watches (map block_of (take (i + 1) epochs)) items
+pub epochs_more : (watches : List WatchValue) (epochs : List LogEpoch) (i : ℕ) (x : LogEpoch) (found items : List EpochFindings) (e : EpochFindings)
+    → i < length epochs → x ≡ get_or epochs i x
+    → AreEpochsFound watches (map block_of (take i epochs)) found
+    → IsEpochFound watches (block_of x) e → items ≡ found ++ e ∷ []
+    → AreEpochsFound watches (map block_of (take (i + 1) epochs)) items
 epochs_more watches epochs i x found items e within is are here same =
     rw (same, more_of block_of epochs i x within is) (next_epoch watches (map block_of (take i epochs)) found (block_of x) e are here)
 
-pub epochs_all : (watches : List WatchValue) (epochs : List LogEpoch) (i : ℕ) (found : List EpochFindings) → length epochs ≤ i → AreEpochsFound watches (map block_of (take i epochs)) found
+pub epochs_all : (watches : List WatchValue) (epochs : List LogEpoch) (i : ℕ) (found : List EpochFindings)
+    → length epochs ≤ i → AreEpochsFound watches (map block_of (take i epochs)) found
     → AreEpochsFound watches (map block_of epochs) found
 epochs_all watches epochs i found ended are = rw (all_of block_of epochs i ended) at are
 
-folds_of : (epochs : List LogEpoch) (i : ℕ) (x : LogEpoch) → i < length epochs → AllByRecursion (λ (b : Block). BodyFolds b.body) (map block_of epochs)
+folds_of : (epochs : List LogEpoch) (i : ℕ) (x : LogEpoch) → i < length epochs
+    → AllByRecursion (λ (b : Block). BodyFolds b.body) (map block_of epochs)
     → BodyFolds (block_of (get_or epochs i x)).body
 folds_of [] i x within all = absurd (omega arith)
 folds_of (y ∷ epochs) zero x within all = all.0
 folds_of (y ∷ epochs) (suc i) x within all = folds_of epochs i x (omega arith) all.1
 
-pub folds_at : (epochs : List LogEpoch) (i : ℕ) (x : LogEpoch) → i < length epochs → x ≡ get_or epochs i x → AllByRecursion (λ (b : Block). BodyFolds b.body) (map block_of epochs)
+pub folds_at : (epochs : List LogEpoch) (i : ℕ) (x : LogEpoch) → i < length epochs
+    → x ≡ get_or epochs i x → AllByRecursion (λ (b : Block). BodyFolds b.body) (map block_of epochs)
     → BodyFolds (block_of x).body
 folds_at epochs i x within is all = subst (λ (y : LogEpoch). BodyFolds (block_of y).body) (sym is) (folds_of epochs i x within all)

@@ -6,7 +6,9 @@ use Rattle.zone_guard.specs.Names.{CornersFit, corner_words}
 use Rattle.zone_guard.specs.Watched.{Kind, Corners, Sides, Along, KindFits, kind_word, kind_words}
 
 -- no corners are those of a zone, where none are read
-pub no_corners : (line : List (List ℕ)) → ((c : ZoneValue) → CornersFit c → line ≡ corner_words c → ⊥) → (first : List ℕ) (k : Kind) → first ≡ codes "zone" → KindFits k → first ≡ kind_word k → line ≡ kind_words k → ⊥
+pub no_corners : (line : List (List ℕ))
+    → ((c : ZoneValue) → CornersFit c → line ≡ corner_words c → ⊥) → (first : List ℕ) (k : Kind)
+    → first ≡ codes "zone" → KindFits k → first ≡ kind_word k → line ≡ kind_words k → ⊥
 no_corners line none first (Corners lo hi) zone fits is spelled =
     none (record { name = []; lo = lo; hi = hi }) (record { lo_within = fits.lo_within; hi_within = fits.hi_within; x_ordered = fits.x_ordered; y_ordered = fits.y_ordered; z_ordered = fits.z_ordered }) spelled
 no_corners line none first (Sides count) zone fits is spelled = absurd cc

@@ -21,24 +21,28 @@ no_less : (n m : ℤ) → n ≤ℤ m → m <ℤ n → ⊥
 no_less n m h k = omega (arith, ints, h, k)
 
 -- a point of a box beyond a plane isn't in the prism
-pub out_point : (sides : List PlaneValue) (part : GridBox) (p : Pos) → IsShutOut sides part → box_holds part p ≡ true → IsInPrism sides p → ⊥
+pub out_point : (sides : List PlaneValue) (part : GridBox) (p : Pos) → IsShutOut sides part
+    → box_holds part p ≡ true → IsInPrism sides p → ⊥
 out_point [] part p out held inside = absurd out
 out_point (s ∷ sides) part p (inl beyond) held inside = no_less _ _ inside.0 (beyond p held)
 out_point (s ∷ sides) part p (inr later) held inside = out_point sides part p later held inside.1
 
 -- a point of a box behind each plane is
-pub in_point : (sides : List PlaneValue) (part : GridBox) (p : Pos) → IsEnclosed sides part → box_holds part p ≡ true → IsInPrism sides p
+pub in_point : (sides : List PlaneValue) (part : GridBox) (p : Pos) → IsEnclosed sides part
+    → box_holds part p ≡ true → IsInPrism sides p
 in_point [] part p all held = tt
 in_point (s ∷ sides) part p all held = (all.0 p held, in_point sides part p all.1 held)
 
 -- ---- boxes
 
 -- boxes that aren't all outside are some
-pub some_boxes : (sides : List PlaneValue) (boxes : List GridBox) → (AreShutOut sides boxes → ⊥) → boxes ≡ [] → ⊥
+pub some_boxes : (sides : List PlaneValue) (boxes : List GridBox) → (AreShutOut sides boxes → ⊥)
+    → boxes ≡ [] → ⊥
 some_boxes sides boxes met none = met (rw none tt)
 
 -- boxes outside a prism aren't in it, where there is one
-pub not_both : (sides : List PlaneValue) (boxes : List Box3) → AreShutOut sides (map grid_box boxes) → AreInPrism sides (map grid_box boxes) → ⊥
+pub not_both : (sides : List PlaneValue) (boxes : List Box3) → AreShutOut sides (map grid_box boxes)
+    → AreInPrism sides (map grid_box boxes) → ⊥
 not_both sides [] out within = within.1 refl
 not_both sides (b ∷ boxes) out within =
     let low = holds_from (grid_box b) b.lo (low_in b) in
@@ -46,16 +50,19 @@ not_both sides (b ∷ boxes) out within =
 
 -- ---- one box more
 
-held_front : (boxes more : List GridBox) (p : Pos) → AreHolding boxes p → AreHolding (boxes ++ more) p
+held_front : (boxes more : List GridBox) (p : Pos) → AreHolding boxes p
+    → AreHolding (boxes ++ more) p
 held_front [] more p h = absurd h
 held_front (b ∷ boxes) more p (inl here) = inl here
 held_front (b ∷ boxes) more p (inr later) = inr (held_front boxes more p later)
 
-held_last : (boxes : List GridBox) (part : GridBox) (p : Pos) → box_holds part p ≡ true → AreHolding (boxes ++ part ∷ []) p
+held_last : (boxes : List GridBox) (part : GridBox) (p : Pos) → box_holds part p ≡ true
+    → AreHolding (boxes ++ part ∷ []) p
 held_last [] part p h = inl h
 held_last (b ∷ boxes) part p h = inr (held_last boxes part p h)
 
-held_either : (boxes : List GridBox) (part : GridBox) (p : Pos) → AreHolding (boxes ++ part ∷ []) p → AreHolding boxes p ⊎ (box_holds part p ≡ true)
+held_either : (boxes : List GridBox) (part : GridBox) (p : Pos) → AreHolding (boxes ++ part ∷ []) p
+    → AreHolding boxes p ⊎ (box_holds part p ≡ true)
 held_either [] part p (inl here) = inr here
 held_either [] part p (inr later) = absurd later
 held_either (b ∷ boxes) part p (inl here) = inl (inl here)
@@ -64,10 +71,12 @@ held_either (b ∷ boxes) part p (inr later) = elim (held_either boxes part p la
   | inr last ↦ inr last
 ]
 
-product_front : (a : Pos) (boxes more : List GridBox) (n : ℤ) → IsProductIn a boxes n → IsProductIn a (boxes ++ more) n
+product_front : (a : Pos) (boxes more : List GridBox) (n : ℤ) → IsProductIn a boxes n
+    → IsProductIn a (boxes ++ more) n
 product_front a boxes more n i = record { point = i.point; holding = held_front boxes more i.point i.holding; product = i.product }
 
-product_last : (a : Pos) (boxes : List GridBox) (part : GridBox) (n : ℤ) → PointAt a part n → IsProductIn a (boxes ++ part ∷ []) n
+product_last : (a : Pos) (boxes : List GridBox) (part : GridBox) (n : ℤ) → PointAt a part n
+    → IsProductIn a (boxes ++ part ∷ []) n
 product_last a boxes part n i = record { point = i.point; holding = held_last boxes part i.point i.held; product = i.product }
 
 min_le_left : (m n v : ℤ) → m ≤ℤ v → int_min m n ≤ℤ v
@@ -82,10 +91,12 @@ le_max_left m n v h = omega (arith, ints, clamps, h)
 le_max_right : (m n v : ℤ) → v ≤ℤ n → v ≤ℤ int_max m n
 le_max_right m n v h = omega (arith, ints, clamps, h)
 
-least_of : (a : Pos) (boxes : List GridBox) (m n : ℤ) → IsProductIn a boxes m → IsProductIn a boxes n → IsProductIn a boxes (int_min m n)
+least_of : (a : Pos) (boxes : List GridBox) (m n : ℤ) → IsProductIn a boxes m
+    → IsProductIn a boxes n → IsProductIn a boxes (int_min m n)
 least_of a boxes m n i j = by_lt_z m n (λ lt. subst (IsProductIn a boxes) (min_is_left m n lt) i) (λ ge. subst (IsProductIn a boxes) (min_is_right m n ge) j)
 
-greatest_of : (a : Pos) (boxes : List GridBox) (m n : ℤ) → IsProductIn a boxes m → IsProductIn a boxes n → IsProductIn a boxes (int_max m n)
+greatest_of : (a : Pos) (boxes : List GridBox) (m n : ℤ) → IsProductIn a boxes m
+    → IsProductIn a boxes n → IsProductIn a boxes (int_max m n)
 greatest_of a boxes m n i j = by_lt_z m n (λ lt. subst (IsProductIn a boxes) (max_is_right m n lt) j) (λ ge. subst (IsProductIn a boxes) (max_is_left m n ge) i)
 
 -- the first box
@@ -96,7 +107,8 @@ first_extent a b = record {
   greatest = product_last a [] (grid_box b) _ (greatest_point a b);
 }
 
-next_extent : (a : Pos) (boxes : List GridBox) (b : Box3) (e : Extent) → IsExtent a boxes e → IsExtent a (boxes ++ grid_box b ∷ []) (grown (Some e) a (grid_box b))
+next_extent : (a : Pos) (boxes : List GridBox) (b : Box3) (e : Extent) → IsExtent a boxes e
+    → IsExtent a (boxes ++ grid_box b ∷ []) (grown (Some e) a (grid_box b))
 next_extent a boxes b e i = record {
   all = λ p h. elim (held_either boxes (grid_box b) p h) [
     | inl before ↦ let k = i.all p before in (min_le_left _ _ _ k.0, le_max_left _ _ _ k.1)
@@ -106,17 +118,21 @@ next_extent a boxes b e i = record {
   greatest = greatest_of a _ _ _ (product_front a boxes _ _ i.greatest) (product_last a boxes (grid_box b) _ (greatest_point a b));
 }
 
-pub reach_more : (a : Pos) (boxes : List GridBox) (b : Box3) (found : Option Extent) → IsReach a boxes found → IsReach a (boxes ++ grid_box b ∷ []) (Some (grown found a (grid_box b)))
+pub reach_more : (a : Pos) (boxes : List GridBox) (b : Box3) (found : Option Extent)
+    → IsReach a boxes found
+    → IsReach a (boxes ++ grid_box b ∷ []) (Some (grown found a (grid_box b)))
 reach_more a boxes b None none = rw none (first_extent a b)
 reach_more a boxes b (Some e) i = next_extent a boxes b e i
 
 -- ---- the boxes of several epochs
 
-held_behind : (boxes more : List GridBox) (p : Pos) → AreHolding more p → AreHolding (boxes ++ more) p
+held_behind : (boxes more : List GridBox) (p : Pos) → AreHolding more p
+    → AreHolding (boxes ++ more) p
 held_behind [] more p h = h
 held_behind (b ∷ boxes) more p h = inr (held_behind boxes more p h)
 
-held_some : (boxes more : List GridBox) (p : Pos) → AreHolding (boxes ++ more) p → AreHolding boxes p ⊎ AreHolding more p
+held_some : (boxes more : List GridBox) (p : Pos) → AreHolding (boxes ++ more) p
+    → AreHolding boxes p ⊎ AreHolding more p
 held_some [] more p h = inr h
 held_some (b ∷ boxes) more p (inl here) = inl (inl here)
 held_some (b ∷ boxes) more p (inr later) = elim (held_some boxes more p later) [
@@ -124,10 +140,12 @@ held_some (b ∷ boxes) more p (inr later) = elim (held_some boxes more p later)
   | inr behind ↦ inr behind
 ]
 
-product_behind : (a : Pos) (boxes more : List GridBox) (n : ℤ) → IsProductIn a more n → IsProductIn a (boxes ++ more) n
+product_behind : (a : Pos) (boxes more : List GridBox) (n : ℤ) → IsProductIn a more n
+    → IsProductIn a (boxes ++ more) n
 product_behind a boxes more n i = record { point = i.point; holding = held_behind boxes more i.point i.holding; product = i.product }
 
-both_extents : (a : Pos) (boxes more : List GridBox) (d e : Extent) → IsExtent a boxes d → IsExtent a more e → IsExtent a (boxes ++ more) (both d e)
+both_extents : (a : Pos) (boxes more : List GridBox) (d e : Extent) → IsExtent a boxes d
+    → IsExtent a more e → IsExtent a (boxes ++ more) (both d e)
 both_extents a boxes more d e i j = record {
   all = λ p h. elim (held_some boxes more p h) [
     | inl before ↦ let k = i.all p before in (min_le_left _ _ _ k.0, le_max_left _ _ _ k.1)
@@ -137,7 +155,9 @@ both_extents a boxes more d e i j = record {
   greatest = greatest_of a _ _ _ (product_front a boxes more _ i.greatest) (product_behind a boxes more _ j.greatest);
 }
 
-pub extents_joined : (a : Pos) (boxes more : List GridBox) (before found : Option Extent) → IsReach a boxes before → IsReach a more found → IsReach a (boxes ++ more) (joined before found)
+pub extents_joined : (a : Pos) (boxes more : List GridBox) (before found : Option Extent)
+    → IsReach a boxes before → IsReach a more found
+    → IsReach a (boxes ++ more) (joined before found)
 extents_joined a boxes more None None none ended = rw (none, ended) refl
 extents_joined a boxes more None (Some e) none j = rw none j
 extents_joined a boxes more (Some d) None i ended = rw (ended, append-nil boxes) i

@@ -16,20 +16,26 @@ use Rattle.zone_guard.proofs.WatchLemmas.{not_both, one_line}
 
 -- ---- the head
 
-begun : (first : List ℕ) (rest : List (List ℕ)) → (rest ≡ [] → ⊥) → first ≡ second_line → BeginsSecond (first ∷ rest)
+begun : (first : List ℕ) (rest : List (List ℕ)) → (rest ≡ [] → ⊥) → first ≡ second_line
+    → BeginsSecond (first ∷ rest)
 begun first [] some is = absurd (some refl)
 begun first (next ∷ more) some is = is
 
-pub second_value : (bytes rest : List ℕ) (watches : List WatchValue) → lines bytes ≡ second_line ∷ lines rest → AreWatchLines [] 0 (lines rest) (watch_lines watches) → IsWatchesText true watches bytes
+pub second_value : (bytes rest : List ℕ) (watches : List WatchValue)
+    → lines bytes ≡ second_line ∷ lines rest → AreWatchLines [] 0 (lines rest) (watch_lines watches)
+    → IsWatchesText true watches bytes
 second_value bytes rest watches cut are = rw cut (refl, are)
 
-pub second_fault : (bytes rest : List ℕ) (k : ℕ) → lines bytes ≡ second_line ∷ lines rest → FailsAt [] 0 2 (lines rest) k → IsFirstUnfit bytes k
+pub second_fault : (bytes rest : List ℕ) (k : ℕ) → lines bytes ≡ second_line ∷ lines rest
+    → FailsAt [] 0 2 (lines rest) k → IsFirstUnfit bytes k
 second_fault bytes rest k cut fails = inl (rw cut (begun second_line (lines rest) (lines_some rest) refl, fails))
 
-pub second_begins : (bytes head rest : List ℕ) → lines bytes ≡ head ∷ lines rest → BeginsSecond (lines bytes) → head ≡ second_line
+pub second_begins : (bytes head rest : List ℕ) → lines bytes ≡ head ∷ lines rest
+    → BeginsSecond (lines bytes) → head ≡ second_line
 second_begins bytes head rest cut begins = begins_of head (lines rest) (rw cut at begins)
   where
-    begins_of : (first : List ℕ) (rest : List (List ℕ)) → BeginsSecond (first ∷ rest) → first ≡ second_line
+    begins_of : (first : List ℕ) (rest : List (List ℕ)) → BeginsSecond (first ∷ rest)
+        → first ≡ second_line
     begins_of first [] begins = absurd begins
     begins_of first (next ∷ more) begins = begins
 
@@ -43,24 +49,29 @@ other_heads first e f =
     let last : 49 ≡ 50 = ap (λ (bytes : List ℕ). get_or bytes 9 0) (sym e ∙ f) in
     omega (arith, last)
 
-some_rest : (names : List (List ℕ)) (owed : ℕ) (ls : List WatchValue) → AreWatchLines names owed [] (watch_lines ls) → ⊥
+some_rest : (names : List (List ℕ)) (owed : ℕ) (ls : List WatchValue)
+    → AreWatchLines names owed [] (watch_lines ls) → ⊥
 some_rest names owed ls are = absurd are
 
-second_not_both : (ls : List (List ℕ)) (watches : List WatchValue) (k : ℕ) → AreWatchesIn ls watches → FailsSecond ls k → ⊥
+second_not_both : (ls : List (List ℕ)) (watches : List WatchValue) (k : ℕ) → AreWatchesIn ls watches
+    → FailsSecond ls k → ⊥
 second_not_both [] watches k are fails = absurd are
 second_not_both (first ∷ rest) watches k are fails = not_both [] 0 2 rest (watch_lines watches) k are.1 fails
 
-are_begun : (ls : List (List ℕ)) (watches : List WatchValue) → AreWatchesIn ls watches → BeginsSecond ls
+are_begun : (ls : List (List ℕ)) (watches : List WatchValue) → AreWatchesIn ls watches
+    → BeginsSecond ls
 are_begun [] watches are = absurd are
 are_begun (first ∷ []) watches are = absurd are.1
 are_begun (first ∷ next ∷ more) watches are = are.0
 
-zones_not_begun : (ls : List (List ℕ)) (zones : List ZoneValue) → AreZonesIn ls zones → BeginsSecond ls → ⊥
+zones_not_begun : (ls : List (List ℕ)) (zones : List ZoneValue) → AreZonesIn ls zones
+    → BeginsSecond ls → ⊥
 zones_not_begun [] zones are begins = absurd are
 zones_not_begun (first ∷ []) zones are begins = absurd begins
 zones_not_begun (first ∷ next ∷ more) zones are begins = other_heads first are.0 begins
 
-either_not_both : (second : Bool) (watches : List WatchValue) (bytes : List ℕ) (k : ℕ) → IsWatchesText second watches bytes → IsFirstUnfit bytes k → ⊥
+either_not_both : (second : Bool) (watches : List WatchValue) (bytes : List ℕ) (k : ℕ)
+    → IsWatchesText second watches bytes → IsFirstUnfit bytes k → ⊥
 either_not_both true watches bytes k are (inl fails) = second_not_both (lines bytes) watches k are fails.1
 either_not_both true watches bytes k are (inr fails) = fails.0 (are_begun (lines bytes) watches are)
 either_not_both false watches bytes k are (inl fails) = zones_not_begun (lines bytes) are.0 are.2 fails.0
@@ -78,7 +89,8 @@ either_one_line bytes j k (inr a) (inr b) = text_one_line (lines bytes) j k a.1 
 
 -- ---- what is answered
 
-pub never_refused : {T : Type 0} (result : Result T ZoneError) (bytes : List ℕ) (second : Bool) (watches : List WatchValue) → IsWatchesText second watches bytes
+pub never_refused : {T : Type 0} (result : Result T ZoneError) (bytes : List ℕ) (second : Bool) (watches : List WatchValue)
+    → IsWatchesText second watches bytes
     → IfErr result (IsToldIn (IsFirstUnfit bytes)) → IsTaken result
 never_refused (Ok read) bytes second watches are told = tt
 never_refused (Err NoMemory) bytes second watches are told = tt
@@ -87,8 +99,10 @@ never_refused (Err (BadZones line)) bytes second watches are told = elim told [
   | inr (k, e, fails) ↦ either_not_both second watches bytes k are fails
 ]
 
-pub always_refused : (result : Result Watches ZoneError) (bytes : List ℕ) (line : ℕ) → IsFirstUnfit bytes line
-    → IfOk result (λ found. IsWatchesText found.is_second (watch_values found.list.items) bytes) → IfErr result (IsToldIn (IsFirstUnfit bytes)) → TellsBad line result
+pub always_refused : (result : Result Watches ZoneError) (bytes : List ℕ) (line : ℕ)
+    → IsFirstUnfit bytes line
+    → IfOk result (λ found. IsWatchesText found.is_second (watch_values found.list.items) bytes)
+    → IfErr result (IsToldIn (IsFirstUnfit bytes)) → TellsBad line result
 always_refused (Ok read) bytes line fails value told = either_not_both read.is_second (watch_values read.list.items) bytes line value fails
 always_refused (Err NoMemory) bytes line fails value told = tt
 always_refused (Err (BadZones k)) bytes line fails value told = elim told [

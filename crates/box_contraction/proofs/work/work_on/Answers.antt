@@ -20,25 +20,32 @@ use Rattle.box_contraction.proofs.TakingLemmas.{same_fault, took_as}
 use Rattle.box_contraction.proofs.work.work_on.Goals as goal
 
 -- a state that isn't undecided
-decided : (test : BoxTest) (part : GridBox) (state : BoxState) → ((hull : Span) → state ≡ Undecided hull → ⊥) → IsBoxState test part state → IsUndecided test part → ⊥
+decided : (test : BoxTest) (part : GridBox) (state : BoxState)
+    → ((hull : Span) → state ≡ Undecided hull → ⊥) → IsBoxState test part state
+    → IsUndecided test part → ⊥
 decided test part Empty not is u = u.not_empty is
 decided test part (Inner clock hull) not is u = u.not_inner clock is.1.shown
 decided test part (Undecided hull) not is u = not hull refl
 
 -- the same test shows the same
-state_at : (a b : BoxTest) (part : GridBox) (state : BoxState) → a ≡ b → IsBoxState a part state → IsBoxState b part state
+state_at : (a b : BoxTest) (part : GridBox) (state : BoxState) → a ≡ b → IsBoxState a part state
+    → IsBoxState b part state
 state_at a b part state e is = subst (λ (t : BoxTest). IsBoxState t part state) e is
 
-undecided_of : (test : BoxTest) (part : GridBox) (state : BoxState) (hull : Span) → state ≡ Undecided hull → IsBoxState test part state → IsUndecided test part
+undecided_of : (test : BoxTest) (part : GridBox) (state : BoxState) (hull : Span)
+    → state ≡ Undecided hull → IsBoxState test part state → IsUndecided test part
 undecided_of test part state hull e is =
     let own : IsBoxState test part (Undecided hull) = subst (λ (s : BoxState). IsBoxState test part s) e is in
     record { not_empty = own.0; not_inner = own.1 }
 
-hull_of : (test : BoxTest) (part : GridBox) (state : BoxState) (hull : Span) → state ≡ Undecided hull → IsBoxState test part state → IsHull test part hull.lo hull.hi
+hull_of : (test : BoxTest) (part : GridBox) (state : BoxState) (hull : Span)
+    → state ≡ Undecided hull → IsBoxState test part state → IsHull test part hull.lo hull.hi
 hull_of test part state hull e is = let own : IsBoxState test part (Undecided hull) = subst (λ (s : BoxState). IsBoxState test part s) e is in own.2
 
-cut_of : (grain slack : ℤ) (test : BoxTest) (box : WaitingBox) (now : BoxTest) → now ≡ test → IsUndecided test box.part
-    → (steps : List ShownStep) (left : GridBox) → IsCut grain slack now box.id box.part steps left → AreCutsOf grain slack test box steps left
+cut_of : (grain slack : ℤ) (test : BoxTest) (box : WaitingBox) (now : BoxTest) → now ≡ test
+    → IsUndecided test box.part
+    → (steps : List ShownStep) (left : GridBox) → IsCut grain slack now box.id box.part steps left
+    → AreCutsOf grain slack test box steps left
 cut_of grain slack test box now e undecided steps left cut = inl (undecided, subst (λ (t : BoxTest). IsCut grain slack t box.id box.part steps left) e cut)
 
 pub cut_box-requires-clause-tree : goal.cut_box-requires-clause-tree

@@ -16,10 +16,14 @@ one_within : IsWithin 1 (pos 1)
 one_within = record { low = omega (arith, ints); high = omega (arith, ints) }
 
 -- the root times a sine
-height : (a b c d l h : ℤ) → Ends unit 1 a b → Ends value_amount (2 * value_amount) c d → l ≤ℤ h → IsTightRound (least_product a b c d) (pos 1) (greatest_product a b c d) (pos 1) l h → Ends height_amount (2 * height_amount) l h
+height : (a b c d l h : ℤ) → Ends unit 1 a b → Ends value_amount (2 * value_amount) c d → l ≤ℤ h
+    → IsTightRound (least_product a b c d) (pos 1) (greatest_product a b c d) (pos 1) l h
+    → Ends height_amount (2 * height_amount) l h
 height a b c d l h p q o t = amount_of _ _ _ _ (product_ends unit 1 value_amount (2 * value_amount) 100000000000000080000000000000000 (10 ^ 33) a b c d (pos 1) l h p q (record { lt = tt }) (omega (arith, ints)) (omega (arith, ints)) o t)
 
-narrow_height : (a b c d l h : ℤ) → Ends unit 1 a b → Ends value_amount eccentric_value_width c d → l ≤ℤ h → IsTightRound (least_product a b c d) (pos 1) (greatest_product a b c d) (pos 1) l h → Ends height_amount height_width l h
+narrow_height : (a b c d l h : ℤ) → Ends unit 1 a b → Ends value_amount eccentric_value_width c d
+    → l ≤ℤ h → IsTightRound (least_product a b c d) (pos 1) (greatest_product a b c d) (pos 1) l h
+    → Ends height_amount height_width l h
 narrow_height a b c d l h p q o t = product_ends unit 1 value_amount eccentric_value_width 100000000000000080000000000000000 4730000000000000008 a b c d (pos 1) l h p q (record { lt = tt }) (omega (arith, ints)) (omega (arith, ints)) o t
 
 pub times_over-requires-clause-sizes : goal.times_over-requires-clause-sizes

@@ -14,10 +14,14 @@ uncast_64 x k = omega (arith, ints, k.low, k.high)
 uncast_128 : (x : ℤ) → IsWithin (10 ^ 15) x → to_z w128 (of_z w128 x) ≡ x
 uncast_128 x k = omega (arith, ints, k.low, k.high)
 
-below : (lo goal : ℤ) → IsWithin (10 ^ 15) lo → IsWithin (10 ^ 9) goal → le_z (to_z w128 (of_z w128 lo)) (to_z w128 (of_z w128 (to_z w64 (of_z w64 goal)))) ≡ true → lo ≤ℤ goal
+below : (lo goal : ℤ) → IsWithin (10 ^ 15) lo → IsWithin (10 ^ 9) goal
+    → le_z (to_z w128 (of_z w128 lo)) (to_z w128 (of_z w128 (to_z w64 (of_z w64 goal)))) ≡ true
+    → lo ≤ℤ goal
 below lo goal a b h = let passed : to_z w128 (of_z w128 lo) ≤ℤ to_z w128 (of_z w128 (to_z w64 (of_z w64 goal))) = record { le = subst T (sym h) tt } in omega (arith, ints, passed, a.low, a.high, b.low, b.high)
 
-above : (lo goal : ℤ) → IsWithin (10 ^ 15) lo → IsWithin (10 ^ 9) goal → le_z (to_z w128 (of_z w128 lo)) (to_z w128 (of_z w128 (to_z w64 (of_z w64 goal)))) ≡ false → goal ≤ℤ lo
+above : (lo goal : ℤ) → IsWithin (10 ^ 15) lo → IsWithin (10 ^ 9) goal
+    → le_z (to_z w128 (of_z w128 lo)) (to_z w128 (of_z w128 (to_z w64 (of_z w64 goal)))) ≡ false
+    → goal ≤ℤ lo
 above lo goal a b h = omega (arith, ints, h, a.low, a.high, b.low, b.high)
 
 pub returns-then-here-goal-clause-low : goal.returns-then-here-goal-clause-low

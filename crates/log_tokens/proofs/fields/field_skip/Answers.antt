@@ -5,8 +5,11 @@ use Rattle.log_tokens.specs.Fields.{count_words, optional_words, IsCountFromTo}
 use Rattle.log_tokens.proofs.fields.field_skip.Goals as goal
 
 -- where no count follows the number, no skip with a field has these words
-no_field : (line rest : List (List ℕ)) (test : ℕ) → ((n : ℕ) (after : List (List ℕ)) → IsCountFromTo 1 20 n → rest ≡ count_words n ++ after → ⊥) → line ≡ count_words test ++ rest
-    → (number field : ℕ) → IsCountFromTo 1 20 field → line ≡ decimal number ∷ optional_words field → ⊥
+no_field : (line rest : List (List ℕ)) (test : ℕ)
+    → ((n : ℕ) (after : List (List ℕ)) → IsCountFromTo 1 20 n → rest ≡ count_words n ++ after → ⊥)
+    → line ≡ count_words test ++ rest
+    → (number field : ℕ) → IsCountFromTo 1 20 field → line ≡ decimal number ∷ optional_words field
+    → ⊥
 no_field line rest test none e number zero fits f = omega (arith, fits.0)
 no_field line rest test none e number (suc n) fits f = none (suc n) [] fits cc
 

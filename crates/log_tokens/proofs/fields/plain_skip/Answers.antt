@@ -13,7 +13,9 @@ other_than_six n (inl few) six = omega (arith, few.1, six)
 other_than_six n (inr seven) six = omega (arith, seven, six)
 
 -- no skip without a field begins with test 6
-none_of_six : (line rest : List (List ℕ)) (six number field : ℕ) → six ≡ 6 → line ≡ decimal six ∷ rest → IsPlainTest number → line ≡ decimal number ∷ optional_words field → ⊥
+none_of_six : (line rest : List (List ℕ)) (six number field : ℕ) → six ≡ 6
+    → line ≡ decimal six ∷ rest → IsPlainTest number → line ≡ decimal number ∷ optional_words field
+    → ⊥
 none_of_six line rest six number field is e plain f =
     let spelled : decimal number ≡ decimal six = cc in
     let same : number ≡ six = decimal_injective number six (omega (arith, plain_bound number plain)) (omega (arith, is)) spelled in

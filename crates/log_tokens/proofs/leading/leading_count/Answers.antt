@@ -6,7 +6,8 @@ use Rattle.log_tokens.proofs.LeadingLemmas.{counted_in_front}
 use Rattle.log_tokens.proofs.leading.leading_count.Goals as goal
 
 -- a byte among the first ones is one of the text
-byte_fits : (text : List ℕ) (most i : ℕ) → get_or text i 0 < 256 → i < length (take most text) → get_or (take most text) i 0 < 256
+byte_fits : (text : List ℕ) (most i : ℕ) → get_or text i 0 < 256 → i < length (take most text)
+    → get_or (take most text) i 0 < 256
 byte_fits text most i fits within =
     let inside : i < most = omega (arith, length-take most text) in
     omega (arith, get_or-take most text i 0 inside)

@@ -5,7 +5,8 @@ use Rattle.log_tokens.proofs.DigitLemmas.{one_spelled}
 use Rattle.log_tokens.proofs.words.number_of.Goals as goal
 use Rattle.log_tokens.proofs.words.number_of.Goals.{else-from-number-via-then-from-number+else-number-from, else-from-number-via-else-from-number}
 
-fits_between : (lo hi n : ℤ) → FitsSigned w64 lo → FitsSigned w64 hi → lo ≤ℤ n → n ≤ℤ hi → FitsSigned w64 n
+fits_between : (lo hi n : ℤ) → FitsSigned w64 lo → FitsSigned w64 hi → lo ≤ℤ n → n ≤ℤ hi
+    → FitsSigned w64 n
 fits_between lo hi n f g h k = omega (arith, ints)
 
 pub returns-else-from-number-clause-none : goal.returns-else-from-number-clause-none

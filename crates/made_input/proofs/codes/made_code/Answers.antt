@@ -18,7 +18,8 @@ time_cast t j few is =
     let cast : to_z w128 (of_z w128 t) ≡ pos (1388624400000000000000 + 30 * j * 10 ^ 12) = omega (arith, ints, e, few) in
     cast ∙ sym (tag_is j)
 
-goal_cast : (g : ℤ) (draw j k : ℕ) → draw < 4001 → g ≡ goal_by draw j k → to_z w64 (of_z w64 g) ≡ goal_by draw j k
+goal_cast : (g : ℤ) (draw j k : ℕ) → draw < 4001 → g ≡ goal_by draw j k
+    → to_z w64 (of_z w64 g) ≡ goal_by draw j k
 goal_cast g draw j k few is =
     let near = subst (λ (z : ℤ). IsWithin (503 * 10 ^ 6) z) (sym is) (goal_near draw j k few) in
     let cast : to_z w64 (of_z w64 g) ≡ g = omega (arith, ints, near.low, near.high) in

@@ -7,7 +7,8 @@ invariant-loop-done g l = record {
   within : l.done ≤ length l.bytes;
   taken : TakenBy (g.O.Sink.state l.fn.sink) (g.O.Sink.state l.sink) (take l.done l.bytes);
   later : (g.O.Sink.state l.fn.sink).faults ≤ (g.O.Sink.state l.sink).faults;
-  reliable : g.O.Sink.reliable l.sink → g.O.Sink.reliable l.fn.sink × ((g.O.Sink.state l.sink).faults ≡ (g.O.Sink.state l.fn.sink).faults);
+  reliable : g.O.Sink.reliable l.sink
+      → g.O.Sink.reliable l.fn.sink × ((g.O.Sink.state l.sink).faults ≡ (g.O.Sink.state l.fn.sink).faults);
 }
 
 abbrev pub decreases-loop-done : goal.decreases-loop-done

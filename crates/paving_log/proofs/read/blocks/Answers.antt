@@ -18,7 +18,8 @@ use Rattle.paving_log.proofs.NumberingLemmas.{TakesSoFar, none_taken, block_on, 
 use Rattle.paving_log.proofs.read.blocks.Goals as goal
 
 -- the blocks so far, with the first line of the next
-opened : (f : Form) (start left : Lines) (blocks : List Block) (next : Option Opening) (o : Opening) → next ≡ Some o → TakesSoFar f start blocks next left → TakesSoFar f start blocks (Some o) left
+opened : (f : Form) (start left : Lines) (blocks : List Block) (next : Option Opening) (o : Opening)
+    → next ≡ Some o → TakesSoFar f start blocks next left → TakesSoFar f start blocks (Some o) left
 opened f start left blocks next o is so_far = subst (λ (n : Option Opening). TakesSoFar f start blocks n left) is so_far
 
 pub each-init : goal.each-init
@@ -36,7 +37,9 @@ returns-in_err-epoch-clause-refused c =
     let so_far = opened c.args.form c.args.lines c.each.left (map block_of c.each.epochs.items) c.each.next o c.in-Some.is c.each.invariant in
     rw (p.1, p.2) (refuses_behind (place.Between c.args.form) (block_place c.args.form o.few o.header) c.args.lines c.each.left (flat_map (block_lines c.args.form) (map block_of c.each.epochs.items) ++ first_line o.few o.header ∷ []) _ so_far.taken.taken c.in_err-epoch.ensures.refused)
 
-smaller : (f : Form) (mid new : Lines) (ls : List LogLine) (here next : Option Opening) (o : Opening) → here ≡ Some o → TakesTo f (block_place f o.few o.header) mid ls next new → left_over next new < left_over here mid
+smaller : (f : Form) (mid new : Lines) (ls : List LogLine) (here next : Option Opening) (o : Opening)
+    → here ≡ Some o → TakesTo f (block_place f o.few o.header) mid ls next new
+    → left_over next new < left_over here mid
 smaller f mid new ls here next o is taken = rw is (block_takes f (block_place f o.few o.header) mid new ls next taken)
 
 pub each-smaller : goal.each-smaller

@@ -17,10 +17,12 @@ satellites-preserved c =
     c.satellites.invariant.0 count c.in-Sat.is c.in_ok-line.ensures.taken c.in_ok-push-in-Sat.ensures.items
 
 -- where the first line of a block leads
-to_few : (f : Form) (k : ℕ) (old new : Lines) (h : Header) (l : LogLine) (to : Place) → l ≡ line.Few h → Takes (place.Few f k) old (l ∷ []) to new → to ≡ place.Few f 0
+to_few : (f : Form) (k : ℕ) (old new : Lines) (h : Header) (l : LogLine) (to : Place)
+    → l ≡ line.Few h → Takes (place.Few f k) old (l ∷ []) to new → to ≡ place.Few f 0
 to_few f k old new h l to is taken = let e = leads_to (place.Few f k) old (line.Few h) to new (takes_one _ _ old l _ to _ new refl is refl taken) in cc
 
-to_epoch : (f : Form) (k : ℕ) (old new : Lines) (h : Header) (l : LogLine) (to : Place) → l ≡ line.Epoch h → Takes (place.Few f k) old (l ∷ []) to new → to ≡ place.Satellites f h.n 0
+to_epoch : (f : Form) (k : ℕ) (old new : Lines) (h : Header) (l : LogLine) (to : Place)
+    → l ≡ line.Epoch h → Takes (place.Few f k) old (l ∷ []) to new → to ≡ place.Satellites f h.n 0
 to_epoch f k old new h l to is taken = let e = leads_to (place.Few f k) old (line.Epoch h) to new (takes_one _ _ old l _ to _ new refl is refl taken) in cc
 
 pub returns-in-Few-clause-taken : goal.returns-in-Few-clause-taken

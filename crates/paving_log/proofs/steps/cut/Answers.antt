@@ -11,14 +11,16 @@ use Rattle.paving_log.proofs.steps.cut.Goals as goal
 -- where no face follows the number, no cut has these words
 no_face : (line rest : List (List ℕ)) (id : ℕ)
     → ((n : ℕ) (after : List (List ℕ)) → IsCountFromTo 0 5 n → rest ≡ count_words n ++ after → ⊥)
-    → line ≡ count_words id ++ rest → (step : Step) → StepFits step → step_name step ≡ names.Cut → line ≡ step_words step → ⊥
+    → line ≡ count_words id ++ rest → (step : Step) → StepFits step → step_name step ≡ names.Cut
+    → line ≡ step_words step → ⊥
 no_face line rest id none e (Cut i face bound) fits name f = none face (signed_decimal bound ∷ []) fits.1 cc
 no_face line rest id none e _ fits name f = cc
 
 -- and where no bound follows the face
 no_bound : (line mid rest : List (List ℕ)) (id face : ℕ)
     → ((n : ℤ) (after : List (List ℕ)) → IsFromTo (neg_ℤ (pos 10000000000000)) (pos 10000000000000) n → rest ≡ number_words n ++ after → ⊥)
-    → line ≡ count_words id ++ mid → mid ≡ count_words face ++ rest → (step : Step) → StepFits step → step_name step ≡ names.Cut → line ≡ step_words step → ⊥
+    → line ≡ count_words id ++ mid → mid ≡ count_words face ++ rest → (step : Step) → StepFits step
+    → step_name step ≡ names.Cut → line ≡ step_words step → ⊥
 no_bound line mid rest id face none e d (Cut i side bound) fits name f = none bound [] (fits.2.low, fits.2.high) cc
 no_bound line mid rest id face none e d _ fits name f = cc
 

@@ -9,7 +9,9 @@ use Rattle.paving_log.specs.Lines.{step_words, step_name, StepFits}
 use Rattle.paving_log.proofs.steps.edge.Goals as goal
 
 -- where no span follows the number, no edge has these words
-no_edge : (line rest : List (List ℕ)) (id : ℕ) → ((span : Span) (after : List (List ℕ)) → IsSpanWithin 200000000000000 span → rest ≡ span_words span ++ after → ⊥) → line ≡ count_words id ++ rest
+no_edge : (line rest : List (List ℕ)) (id : ℕ)
+    → ((span : Span) (after : List (List ℕ)) → IsSpanWithin 200000000000000 span → rest ≡ span_words span ++ after → ⊥)
+    → line ≡ count_words id ++ rest
     → (step : Step) → StepFits step → step_name step ≡ names.Edge → line ≡ step_words step → ⊥
 no_edge line rest id none e (Edge i lo hi) fits name f = none (record { lo = lo; hi = hi; ordered = fits.3 }) [] (fits.1, fits.2) cc
 no_edge line rest id none e _ fits name f = cc

@@ -12,14 +12,16 @@ use Rattle.paving_log.proofs.steps.inside.Goals as goal
 -- where no clock follows the number, no step of this name has these words
 no_clock : (line rest : List (List ℕ)) (id : ℕ)
     → ((n : ℤ) (after : List (List ℕ)) → IsFromTo (neg_ℤ (pos 200000000000000)) (pos 200000000000000) n → rest ≡ number_words n ++ after → ⊥)
-    → line ≡ count_words id ++ rest → (step : Step) → StepFits step → step_name step ≡ names.In → line ≡ step_words step → ⊥
+    → line ≡ count_words id ++ rest → (step : Step) → StepFits step → step_name step ≡ names.In
+    → line ≡ step_words step → ⊥
 no_clock line rest id none e (Inside i clock lo hi) fits name f = none clock (signed_decimal lo ∷ signed_decimal hi ∷ []) (fits.1.low, fits.1.high) cc
 no_clock line rest id none e _ fits name f = cc
 
 -- and where no span follows the clock
 no_clocks : (line mid rest : List (List ℕ)) (id : ℕ) (n : ℤ)
     → ((span : Span) (after : List (List ℕ)) → IsSpanWithin 200000000000000 span → rest ≡ span_words span ++ after → ⊥)
-    → line ≡ count_words id ++ mid → mid ≡ number_words n ++ rest → (step : Step) → StepFits step → step_name step ≡ names.In → line ≡ step_words step → ⊥
+    → line ≡ count_words id ++ mid → mid ≡ number_words n ++ rest → (step : Step) → StepFits step
+    → step_name step ≡ names.In → line ≡ step_words step → ⊥
 no_clocks line mid rest id n none e d (Inside i clock lo hi) fits name f = none (record { lo = lo; hi = hi; ordered = fits.4 }) [] (fits.2, fits.3) cc
 no_clocks line mid rest id n none e d _ fits name f = cc
 

@@ -10,12 +10,14 @@ use Rattle.sat_model.specs.declared.rows.Row.{Row}
 
 -- the words of an error alone, and with what is surely allowed of it
 untold : (row : Row) (start end : List ℕ) → are_ends row.err row.sure_lo row.sure_hi ≡ true
-    → end ≡ start ++ 32 ∷ (signed_decimal row.err.lo ++ 32 ∷ signed_decimal row.err.hi) → end ≡ start ++ 32 ∷ joined (error_words row)
+    → end ≡ start ++ 32 ∷ (signed_decimal row.err.lo ++ 32 ∷ signed_decimal row.err.hi)
+    → end ≡ start ++ 32 ∷ joined (error_words row)
 untold row start end same e = rw same e
 
 told : (row : Row) (start mid end : List ℕ) → are_ends row.err row.sure_lo row.sure_hi ≡ false
     → mid ≡ start ++ 32 ∷ (signed_decimal row.err.lo ++ 32 ∷ signed_decimal row.err.hi)
-    → end ≡ mid ++ 32 ∷ (signed_decimal row.sure_lo ++ 32 ∷ signed_decimal row.sure_hi) → end ≡ start ++ 32 ∷ joined (error_words row)
+    → end ≡ mid ++ 32 ∷ (signed_decimal row.sure_lo ++ 32 ∷ signed_decimal row.sure_hi)
+    → end ≡ start ++ 32 ∷ joined (error_words row)
 told row start mid end other e f = rw other (rw (f, e) (simp append_assoc))
 
 -- a number as it was passed by value

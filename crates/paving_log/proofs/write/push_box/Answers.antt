@@ -2,7 +2,8 @@ use Rattle.std.proofs.Common.{◌≡◌, ℕ, List, ◌∷◌, ◌++◌, append_
 use Rattle.paving_log.proofs.write.push_box.Goals as goal
 
 -- three words behind three
-six_words : (start one two a b c d e f : List ℕ) → one ≡ start ++ 32 ∷ (a ++ 32 ∷ (b ++ 32 ∷ c)) → two ≡ one ++ 32 ∷ (d ++ 32 ∷ (e ++ 32 ∷ f))
+six_words : (start one two a b c d e f : List ℕ) → one ≡ start ++ 32 ∷ (a ++ 32 ∷ (b ++ 32 ∷ c))
+    → two ≡ one ++ 32 ∷ (d ++ 32 ∷ (e ++ 32 ∷ f))
     → two ≡ start ++ 32 ∷ (a ++ 32 ∷ (b ++ 32 ∷ (c ++ 32 ∷ (d ++ 32 ∷ (e ++ 32 ∷ f)))))
 six_words start one two a b c d e f p q = rw (q, p) (simp append_assoc)
 

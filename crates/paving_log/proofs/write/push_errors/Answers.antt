@@ -16,7 +16,8 @@ error_short : (z : ℤ) → IsErrorSize z → length (signed_decimal z) ≤ 14
 error_short z within = let small = error_mag z within in length_signed_le 13 z (omega arith) (omega arith)
 
 -- a blank before each of two words
-two_words : (line a b : List ℕ) → length a ≤ 14 → length b ≤ 14 → length (line ++ 32 ∷ (a ++ 32 ∷ b)) ≤ length line + 30
+two_words : (line a b : List ℕ) → length a ≤ 14 → length b ≤ 14
+    → length (line ++ 32 ∷ (a ++ 32 ∷ b)) ≤ length line + 30
 two_words line a b f g = omega (arith, length-append line (32 ∷ (a ++ 32 ∷ b)), length-append a (32 ∷ b))
 
 pub returns-clause-length : goal.returns-clause-length

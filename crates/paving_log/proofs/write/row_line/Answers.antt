@@ -5,12 +5,15 @@ use Rattle.paving_log.specs.Rows.{error_words}
 use Rattle.paving_log.proofs.write.row_line.Goals as goal
 
 -- the words of a satellite, its place and its range
-front : (start one two three sat a b c d e f g h : List ℕ) → one ≡ start ++ 32 ∷ sat → two ≡ one ++ 32 ∷ (a ++ 32 ∷ (b ++ 32 ∷ (c ++ 32 ∷ (d ++ 32 ∷ (e ++ 32 ∷ f)))))
-    → three ≡ two ++ 32 ∷ (g ++ 32 ∷ h) → three ≡ start ++ 32 ∷ (sat ++ 32 ∷ (a ++ 32 ∷ (b ++ 32 ∷ (c ++ 32 ∷ (d ++ 32 ∷ (e ++ 32 ∷ (f ++ 32 ∷ (g ++ 32 ∷ h))))))))
+front : (start one two three sat a b c d e f g h : List ℕ) → one ≡ start ++ 32 ∷ sat
+    → two ≡ one ++ 32 ∷ (a ++ 32 ∷ (b ++ 32 ∷ (c ++ 32 ∷ (d ++ 32 ∷ (e ++ 32 ∷ f)))))
+    → three ≡ two ++ 32 ∷ (g ++ 32 ∷ h)
+    → three ≡ start ++ 32 ∷ (sat ++ 32 ∷ (a ++ 32 ∷ (b ++ 32 ∷ (c ++ 32 ∷ (d ++ 32 ∷ (e ++ 32 ∷ (f ++ 32 ∷ (g ++ 32 ∷ h))))))))
 front start one two three sat a b c d e f g h p q r = rw (r, q, p) (simp append_assoc)
 
 -- the words of a row, and LF
-row_spelled : (start three four end sat a b c d e f g h bounds : List ℕ) → three ≡ start ++ 32 ∷ (sat ++ 32 ∷ (a ++ 32 ∷ (b ++ 32 ∷ (c ++ 32 ∷ (d ++ 32 ∷ (e ++ 32 ∷ (f ++ 32 ∷ (g ++ 32 ∷ h))))))))
+row_spelled : (start three four end sat a b c d e f g h bounds : List ℕ)
+    → three ≡ start ++ 32 ∷ (sat ++ 32 ∷ (a ++ 32 ∷ (b ++ 32 ∷ (c ++ 32 ∷ (d ++ 32 ∷ (e ++ 32 ∷ (f ++ 32 ∷ (g ++ 32 ∷ h))))))))
     → four ≡ three ++ 32 ∷ bounds → end ≡ four ++ 10 ∷ []
     → end ≡ start ++ 32 ∷ (sat ++ 32 ∷ ((a ++ 32 ∷ (b ++ 32 ∷ (c ++ 32 ∷ (d ++ 32 ∷ (e ++ 32 ∷ (f ++ 32 ∷ (g ++ 32 ∷ (h ++ 32 ∷ bounds)))))))) ++ 10 ∷ []))
 row_spelled start three four end sat a b c d e f g h bounds r s t = rw (t, s, r) (simp append_assoc)

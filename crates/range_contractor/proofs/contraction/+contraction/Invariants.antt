@@ -13,7 +13,8 @@ invariant-in_turn-loop-kid g l =
     let I = g.I.Interval in
     record {
       sound : HaveSoundNodes (tree_values I.low I.high (drop l.kid-index l.kids));
-      goes_on : (answer : Option GridBox) → InTurn (tree_values I.low I.high (drop l.kid-index l.kids)) I.GRAIN I.SLACK (span_side l.clock) (grid_box l.left) answer
+      goes_on : (answer : Option GridBox)
+          → InTurn (tree_values I.low I.high (drop l.kid-index l.kids)) I.GRAIN I.SLACK (span_side l.clock) (grid_box l.left) answer
           → InTurn (tree_values I.low I.high l.kids) I.GRAIN I.SLACK (span_side l.clock) (grid_box l.part) answer;
     }
 

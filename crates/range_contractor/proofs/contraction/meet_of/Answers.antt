@@ -26,10 +26,12 @@ pub returns-in_default-meet-2 : goal.returns-in_default-meet-2
 returns-in_default-meet-2 c = λ p h k. apart (side_at 2 (grid_box c.args.part.now)) (side_at 2 (grid_box c.args.other.now)) p.z
     (apart_of _ _ _ _ c.side_of-5.ensures.side c.side_of-6.ensures.side (c.in_default-meet-2.ensures.none refl)) (holds_at _ p h 2) (holds_at _ p k 2)
 
-same_box : (x y z x' y' z' : Side) → x ≡ x' → y ≡ y' → z ≡ z' → (◌≡◌ {A = GridBox} (record { x = x; y = y; z = z }) (record { x = x'; y = y'; z = z' }))
+same_box : (x y z x' y' z' : Side) → x ≡ x' → y ≡ y' → z ≡ z'
+    → (◌≡◌ {A = GridBox} (record { x = x; y = y; z = z }) (record { x = x'; y = y'; z = z' }))
 same_box x y z x' y' z' e f g = rw (e, f, g) refl
 
-ordered_box : (b : GridBox) → b.x.lo ≤ℤ b.x.hi → b.y.lo ≤ℤ b.y.hi → b.z.lo ≤ℤ b.z.hi → (axis : ℕ) → SideLiesIn (side_at axis b) (side_at axis b)
+ordered_box : (b : GridBox) → b.x.lo ≤ℤ b.x.hi → b.y.lo ≤ℤ b.y.hi → b.z.lo ≤ℤ b.z.hi → (axis : ℕ)
+    → SideLiesIn (side_at axis b) (side_at axis b)
 ordered_box b x y z zero = record { low = omega (arith, ints); ordered = x; high = omega (arith, ints) }
 ordered_box b x y z (suc zero) = record { low = omega (arith, ints); ordered = y; high = omega (arith, ints) }
 ordered_box b x y z (suc (suc n)) = record { low = omega (arith, ints); ordered = z; high = omega (arith, ints) }

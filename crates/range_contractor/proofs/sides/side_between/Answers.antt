@@ -7,7 +7,8 @@ use Rattle.range_contractor.specs.Squares.{AreWhole}
 use Rattle.range_contractor.proofs.AmountLemmas.{is_kept, none_is_kept}
 use Rattle.range_contractor.proofs.sides.side_between.Goals as goal
 
-in_each : (r : Option Span) (Q R : Side → Type 0) → ((k : Side) → Q k → R k) → IfSome r (λ k. Q (span_side k)) → IfSome r (λ k. R (span_side k))
+in_each : (r : Option Span) (Q R : Side → Type 0) → ((k : Side) → Q k → R k)
+    → IfSome r (λ k. Q (span_side k)) → IfSome r (λ k. R (span_side k))
 in_each None Q R h k = tt
 in_each (Some r) Q R h k = h (span_side r) k
 

@@ -7,8 +7,10 @@ use Rattle.grid_model.specs.declared.spans.Span.{Span}
 use Rattle.range_contractor.specs.Sides.{IsKept}
 use Rattle.range_contractor.proofs.sides.side_kept.Goals as goal
 
-sized : (r : Option Span) (g : ℤ) (place side : Side) (a b c d : ℕ) → IsBoxSize side.lo → IsBoxSize side.hi
-    → IfSome r (λ k. IsKept g place side a b c d (span_side k)) → IfSome r (λ k. IsBoxSize k.lo × IsBoxSize k.hi)
+sized : (r : Option Span) (g : ℤ) (place side : Side) (a b c d : ℕ) → IsBoxSize side.lo
+    → IsBoxSize side.hi
+    → IfSome r (λ k. IsKept g place side a b c d (span_side k))
+    → IfSome r (λ k. IsBoxSize k.lo × IsBoxSize k.hi)
 sized None g place side a b c d p q h = tt
 sized (Some k) g place side a b c d p q h = (
   record { low = omega (arith, ints, p.low, h.from); high = omega (arith, ints, q.high, h.to, h.ordered) },

@@ -7,16 +7,21 @@ use Rattle.range_contractor.specs.declared.tree.Tree.{Tree, All as CodeAll, With
 use Rattle.range_contractor.specs.Views.{tree_value, tree_values}
 use Rattle.range_contractor.proofs.tests.shared.Goals as goal
 
-view_all : {I A : Type 0} (low high : I → ℤ) (kids : Vec (Tree I A) Global) → tree_value low high (CodeAll kids) ≡ All (tree_values low high kids.items)
+view_all : {I A : Type 0} (low high : I → ℤ) (kids : Vec (Tree I A) Global)
+    → tree_value low high (CodeAll kids) ≡ All (tree_values low high kids.items)
 view_all low high kids = search (rules, the_lemmas)
 
-view_within : (I A : Type 0) (low high : I → ℤ) (a : Box3) → tree_value {A = A} low high (CodeWithin a) ≡ Within (grid_box a)
+view_within : (I A : Type 0) (low high : I → ℤ) (a : Box3)
+    → tree_value {A = A} low high (CodeWithin a) ≡ Within (grid_box a)
 view_within I A low high a = search (rules, the_lemmas)
 
-same_trees : (t u t' u' : TreeValue) → t ≡ t' → u ≡ u' → All (tree t (tree u no_trees)) ≡ All (tree t' (tree u' no_trees))
+same_trees : (t u t' u' : TreeValue) → t ≡ t' → u ≡ u'
+    → All (tree t (tree u no_trees)) ≡ All (tree t' (tree u' no_trees))
 same_trees t u t' u' e f = rw (e, f) refl
 
-two_boxes : {I A : Type 0} (low high : I → ℤ) (kids : Vec (Tree I A) Global) (a b : Box3) → kids.items ≡ CodeWithin a ∷ CodeWithin b ∷ [] → IsWellFormed (tree_value low high (CodeAll kids))
+two_boxes : {I A : Type 0} (low high : I → ℤ) (kids : Vec (Tree I A) Global) (a b : Box3)
+    → kids.items ≡ CodeWithin a ∷ CodeWithin b ∷ []
+    → IsWellFormed (tree_value low high (CodeAll kids))
 two_boxes low high kids a b e =
     let sound : HaveSoundNodes (tree (Within (grid_box a)) (tree (Within (grid_box b)) no_trees)) = (tt, (tt, tt)) in
     subst IsWellFormed (sym (view_all low high kids ∙ ap (λ l. All (tree_values low high l)) e ∙ same_trees _ _ _ _ (view_within _ _ low high a) (view_within _ _ low high b)))

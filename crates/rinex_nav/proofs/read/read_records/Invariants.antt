@@ -10,7 +10,8 @@ use Rattle.rinex_nav.proofs.read.read_records.Given as goal
 -- what the lines that are left give, behind the records so far, is what all give
 abbrev pub invariant-lines : goal.invariant-lines
 invariant-lines l = record {
-  reads : (answer : Result (List Broadcast) Refusal) → records_from l.both l.count l.left.lines.number 0 (body_left l.left) answer
+  reads : (answer : Result (List Broadcast) Refusal)
+      → records_from l.both l.count l.left.lines.number 0 (body_left l.left) answer
       → records_from l.both 0 l.fn.body.lines.number 0 (body_left l.fn.body) (with_all (map plain_record l.records.items) answer);
   few : l.count ≤ 200000;
   kept : length l.records.items ≤ l.count;

@@ -16,11 +16,13 @@ pub earlier-t-requires-clause-high_size : goal.earlier-t-requires-clause-high_si
 earlier-t-requires-clause-high_size c =
     larger _ _ _ (lit≤ tt) (sent_ends c.args.el.now c.args.tsv.lo c.args.tsv.hi c.args.tsv.ordered c.requires.near).high
 
-dt_ends : (v w : ℕ) (a b l h i j : ℤ) → i ≡ a +ℤ l → j ≡ b +ℤ h → Ends base_size v a b → Ends relative_size w l h → Ends (base_size + relative_size) (v + w) i j
+dt_ends : (v w : ℕ) (a b l h i j : ℤ) → i ≡ a +ℤ l → j ≡ b +ℤ h → Ends base_size v a b
+    → Ends relative_size w l h → Ends (base_size + relative_size) (v + w) i j
 dt_ends v w a b l h i j d e f g = rw (d, e) (sum_ends base_size v relative_size w a b l h f g)
 
 -- a sum of members
-sum_held : (a b l h i j x y z : ℤ) → i ≡ a +ℤ l → j ≡ b +ℤ h → Between a b x → Between l h y → z ≡ x +ℤ y → Between i j z
+sum_held : (a b l h i j x y z : ℤ) → i ≡ a +ℤ l → j ≡ b +ℤ h → Between a b x → Between l h y
+    → z ≡ x +ℤ y → Between i j z
 sum_held a b l h i j x y z d e p q f = record { from = omega (arith, ints, p.from, q.from); to = omega (arith, ints, p.to, q.to) }
 
 pub returns-clause-holds : goal.returns-clause-holds

@@ -6,7 +6,8 @@ use Rattle.sat_clock.proofs.motion.cube.Goals as goal
 below : (a q r u v : ℕ) → q * u ≤ a * a → r * v ≤ q * a → r * (u * v) ≤ a * a * a
 below a q r u v h k = omega (arith, mul-le-mul_right a h, mul-le-mul_right u k)
 
-above : (a q r u v : ℕ) → 0 < u → a * a < (q + 1) * u → q * a < (r + 1) * v → a ≤ v → a * a * a < (r + 2) * (u * v)
+above : (a q r u v : ℕ) → 0 < u → a * a < (q + 1) * u → q * a < (r + 1) * v → a ≤ v
+    → a * a * a < (r + 2) * (u * v)
 above a q r u v p h k l =
     let x : a * a * a ≤ (q + 1) * u * a = mul-le-mul_right a (omega arith) in
     let y : q * a * u < (r + 1) * v * u = mul-lt-mul_of_pos_right k p in

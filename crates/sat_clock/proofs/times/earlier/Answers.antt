@@ -13,20 +13,26 @@ one_ends : Ends 1 0 (pos 1) (pos 1)
 one_ends = record { order = record { le = tt }; low = record { low = record { le = tt }; high = record { le = tt } }; high = record { low = record { le = tt }; high = record { le = tt } }; width = record { le = tt } }
 
 -- the offset in ps
-in_ps : (n w j k : ℕ) (a b l h : ℤ) → Ends n w a b → n ≤ j * 10 ^ 4 → w ≤ k * 10 ^ 4 → l ≤ℤ h → IsTightRound (least_product a b (pos 1) (pos 1)) (pos (10 ^ 4)) (greatest_product a b (pos 1) (pos 1)) (pos (10 ^ 4)) l h → Ends (j + 2) (k + 4) l h
+in_ps : (n w j k : ℕ) (a b l h : ℤ) → Ends n w a b → n ≤ j * 10 ^ 4 → w ≤ k * 10 ^ 4 → l ≤ℤ h
+    → IsTightRound (least_product a b (pos 1) (pos 1)) (pos (10 ^ 4)) (greatest_product a b (pos 1) (pos 1)) (pos (10 ^ 4)) l h
+    → Ends (j + 2) (k + 4) l h
 in_ps n w j k a b l h e f g o t = product_ends n w 1 0 j k a b (pos 1) (pos 1) (pos (10 ^ 4)) l h e one_ends (record { lt = tt }) (omega (arith, ints)) (omega (arith, ints)) o t
 
-in_ps_small : (a b l h : ℤ) → a ≤ℤ b → IsWithin (10 ^ 37) a → IsWithin (10 ^ 37) b → l ≤ℤ h → IsTightRound (least_product a b (pos 1) (pos 1)) (pos (10 ^ 4)) (greatest_product a b (pos 1) (pos 1)) (pos (10 ^ 4)) l h → Ends (10 ^ 33 + 2) (2 * 10 ^ 33 + 4) l h
+in_ps_small : (a b l h : ℤ) → a ≤ℤ b → IsWithin (10 ^ 37) a → IsWithin (10 ^ 37) b → l ≤ℤ h
+    → IsTightRound (least_product a b (pos 1) (pos 1)) (pos (10 ^ 4)) (greatest_product a b (pos 1) (pos 1)) (pos (10 ^ 4)) l h
+    → Ends (10 ^ 33 + 2) (2 * 10 ^ 33 + 4) l h
 in_ps_small a b l h p u v o t = in_ps (10 ^ 37) (2 * 10 ^ 37) (10 ^ 33) (2 * 10 ^ 33) a b l h (record { order = p; low = u; high = v; width = omega (arith, ints) }) (omega arith) (omega arith) o t
 
-within_less : (x y : ℤ) → IsWithin (10 ^ 37) x → IsWithin (10 ^ 33 + 2) y → IsWithin (10 ^ 38) (x -ℤ y)
+within_less : (x y : ℤ) → IsWithin (10 ^ 37) x → IsWithin (10 ^ 33 + 2) y
+    → IsWithin (10 ^ 38) (x -ℤ y)
 within_less x y p q = record { low = omega (arith, ints); high = omega (arith, ints) }
 
 -- what is taken off is near the offset
 taken_off : (a b t : ℤ) → IsEarlier a b t → Near (b *ℤ pos 1) (pos (10 ^ 4)) (a -ℤ t)
 taken_off a b t n = record { below = omega (arith, ints, n.above, n.below); above = omega (arith, ints, n.above, n.below) }
 
-between_less : (lo hi l h rl rh a t : ℤ) → Between lo hi a → Between l h (a -ℤ t) → rl ≡ lo -ℤ h → rh ≡ hi -ℤ l → Between rl rh t
+between_less : (lo hi l h rl rh a t : ℤ) → Between lo hi a → Between l h (a -ℤ t) → rl ≡ lo -ℤ h
+    → rh ≡ hi -ℤ l → Between rl rh t
 between_less lo hi l h rl rh a t p q e f = record { from = omega (arith, ints, p.from, q.to); to = omega (arith, ints, p.to, q.from) }
 
 pub minus-requires-clause-low_size : goal.minus-requires-clause-low_size

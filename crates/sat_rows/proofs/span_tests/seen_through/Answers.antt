@@ -5,7 +5,8 @@ use Rattle.gnss_model.specs.Delays.{is_plain}
 use Rattle.usable_sats.specs.Usability.{IsHighIf}
 use Rattle.sat_rows.proofs.span_tests.seen_through.Goals as goal
 
-high_if_far : (plain : Bool) (root : GridBox) → IsFarFromOrigin (6 * 10 ^ 12) root → IsHighIf plain root
+high_if_far : (plain : Bool) (root : GridBox) → IsFarFromOrigin (6 * 10 ^ 12) root
+    → IsHighIf plain root
 high_if_far true root far = tt
 high_if_far false root far = far
 

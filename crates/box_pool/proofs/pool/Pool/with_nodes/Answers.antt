@@ -8,7 +8,8 @@ use Rattle.box_pool.proofs.ChainLemmas.{all_spare, none_at, empty_at}
 use Rattle.box_pool.proofs.MaskLemmas.{mask_none}
 use Rattle.box_pool.proofs.pool.Pool.with_nodes.Goals as goal
 
-nothing_at : (slots : List (Option Node)) (n : ℕ) → slots ≡ replicate n None → (i : ℕ) → node_at slots i ≡ None
+nothing_at : (slots : List (Option Node)) (n : ℕ) → slots ≡ replicate n None → (i : ℕ)
+    → node_at slots i ≡ None
 nothing_at slots n made i = ap (λ (s : List (Option Node)). node_at s i) made ∙ elim (cases_lt i n) [
   | inl lt ↦ get_or-replicate n i None None lt
   | inr le ↦ get_or_past (replicate n None) i None (omega (arith, le, length-replicate {A = Option Node} n None))
