@@ -42,11 +42,11 @@ told-created piece fails s marks slot mark name named in_log start =
 -- what a piece that isn't empty makes of a slot at this place
 appended-at : (slot : Slot) (bytes : List ℕ) (t : Told) (place : FilePosition) → 0 < length bytes
     → at t.positions slot ≡ place → appended slot bytes t ≡ record {
-  files = map.insert t.files place.name (content t.files place.name ++ bytes);
-  positions = put t.positions slot (record { name = place.name; from = place.from + length bytes });
-  written = t.written + length bytes;
-  terms = t.terms;
-}
+      files = map.insert t.files place.name (content t.files place.name ++ bytes);
+      positions = put t.positions slot (record { name = place.name; from = place.from + length bytes });
+      written = t.written + length bytes;
+      terms = t.terms;
+    }
 appended-at slot [] t place some is = absurd (omega arith)
 appended-at slot (b ∷ bytes) t place some is = ap (λ (p : FilePosition).
     let r : Told = record {
