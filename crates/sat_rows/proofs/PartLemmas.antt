@@ -111,6 +111,5 @@ module _ (m : Meaning) (root : GridBox) (tag : ℤ) (seen : SatObs) (base : Base
   }
 
   -- ... and so over a part of it
-  pub own_of_base : IsBaseOf m root tag seen base → LiesIn part root
-      → IsRowOfBase m.delays base part row → IsOwnRow m part tag seen row
+  pub own_of_base : IsBaseOf m root tag seen base → LiesIn part root → IsRowOfBase m.delays base part row → IsOwnRow m part tag seen row
   own_of_base is lies over = own_of_points is (λ p. part_holds part root p lies) over
