@@ -12,7 +12,13 @@ fn lies_on(part: &Box3, whole: &Box3, axis: u8) -> bool
 {
     let (low, high) = part.side(axis);
     let (whole_low, whole_high) = whole.side(axis);
-    whole_low <= low && high <= whole_high
+    if whole_low > low {
+        return false;
+    }
+    if high > whole_high {
+        return false;
+    }
+    true
 }
 
 /// Whether the first box lies in the second.
