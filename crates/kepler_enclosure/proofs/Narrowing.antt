@@ -80,6 +80,10 @@ narrower m e w u v p q h k = omega (arith, ints)
 pub final_width : (m e w : ℤ) (v : ℕ) → v ≤ 40 → w ≤ℤ (pos 2 *ℤ (m +ℤ e) +ℤ pos 16 +ℤ pos v) → w ≤ℤ (pos 2 *ℤ (m +ℤ e) +ℤ pos 64)
 final_width m e w v h k = omega (arith, ints)
 
+-- what a round doesn't change is as narrow as it makes anything
+pub settled_width : (m e xl xh nl nh : ℤ) → nl ≡ xl → nh ≡ xh → pos 0 ≤ℤ m → pos 0 ≤ℤ e → (pos 5 *ℤ (nh -ℤ nl)) ≤ℤ (pos 5 *ℤ m +ℤ (pos 5 *ℤ e) +ℤ (xh -ℤ xl) +ℤ pos 60) → (xh -ℤ xl) ≤ℤ (pos 2 *ℤ (m +ℤ e) +ℤ pos 64)
+settled_width m e xl xh nl nh f g p q h = omega (arith, ints)
+
 -- the widths of one round, put together
 pub round_width : (ml mh el eh xl xh pl ph rl rh : ℤ) → (pos 5 *ℤ (ph -ℤ pl)) ≤ℤ ((xh -ℤ xl) +ℤ (pos 5 *ℤ (eh -ℤ el)) +ℤ pos 55) → rl ≡ (ml -ℤ pos 1) +ℤ pl → rh ≡ mh +ℤ ph → (pos 5 *ℤ (rh -ℤ rl)) ≤ℤ (pos 5 *ℤ (mh -ℤ ml) +ℤ (pos 5 *ℤ (eh -ℤ el)) +ℤ (xh -ℤ xl) +ℤ pos 60)
 round_width ml mh el eh xl xh pl ph rl rh h e f = omega (arith, ints)

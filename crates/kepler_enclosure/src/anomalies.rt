@@ -124,9 +124,14 @@ pub fn eccentric(m: Exact, e: Exact) -> Exact
 {
     let mut x = start(m, e);
     let mut excess = first_excess(e);
-    // Each round takes four fifths of the excess away.
+    // Each round takes four fifths of the excess away, and after one that changes nothing no other
+    // does.
     while excess > 40 {
-        x = narrowed(m, e, x);
+        let next = narrowed(m, e, x);
+        if next.lo == x.lo && next.hi == x.hi {
+            return x;
+        }
+        x = next;
         excess = excess / 5 + 1;
     }
     x
