@@ -6,6 +6,7 @@ mod circle;
 mod parts;
 mod points;
 mod quarters;
+mod quotients;
 mod sines;
 #[cfg(test)]
 mod tests;

@@ -1,23 +1,39 @@
 //! The Taylor sums in nested form (Horner's scheme), in whole numbers of 10^-18.
 
-ghost use Rattle.std.specs.Prelude.{ℕ, ◌+◌, ◌-◌, ◌*◌, ◌^◌, ◌≤◌};
+ghost use Rattle.std.specs.Prelude.{◌≡◌, ℕ, ◌+◌, ◌-◌, ◌*◌, ◌/◌, ◌^◌, ◌≤◌};
 ghost use Rattle.grid_model.specs.Angles.{unit};
 ghost use Rattle.interval_trig.specs.NestedSums.{greatest_rest, Holds, HoldsSquare, plain_num};
 ghost use Rattle.interval_trig.specs.NestedSums.{nested_den, sine_15, cosine_16};
 
+use crate::quotients::{fine_product, over_square};
+
 /// One, in units of 10^-18.
-pub(crate) const FINE: u128 = 1_000_000_000_000_000_000;
+const FINE: u64 = 1_000_000_000_000_000_000;
 
 /// A fraction between two ends, in units of 10^-18.
 #[derive(Clone, Copy, Debug, Drop)]
 pub(crate) struct Part {
-    pub(crate) lo: u128,
-    pub(crate) hi: u128,
+    pub(crate) lo: u64,
+    pub(crate) hi: u64,
     ghost ordered: { lo ≤ hi },
 }
 
+/// y/d * part, rounded down.
+#[inline(always)]
+fn over_of(part: u64, y: u64, d: u64) -> u64
+    requires part_size { part ≤ 10 ^ 18 }
+    requires y_size { y ≤ 10 ^ 18 }
+    requires d_low { 2 ≤ d }
+    ensures value { result ≡ y * part / (d * 10 ^ 18) }
+    ensures size { result ≤ 10 ^ 18 }
+{
+    fine_product(y, part) / d
+}
+
 /// 1 - y/d * part.
-fn step(part: Part, y: Part, d: u128) -> Part
+// Of both ends a sum needs one: where a step stands in its caller, the other isn't computed.
+#[inline(always)]
+fn step(part: Part, y: Part, d: u64) -> Part
     requires part_size { part.hi ≤ 10 ^ 18 }
     requires y_size { y.hi ≤ 10 ^ 18 }
     requires d_low { 2 ≤ d }
@@ -30,8 +46,8 @@ fn step(part: Part, y: Part, d: u128) -> Part
     ensures width { y.hi ≤ 62 * 10 ^ 16 → y.hi ≤ y.lo + 5 →
         100 * d * (result.hi - result.lo) ≤ 62 * (part.hi - part.lo) + 200 * d + 500 }
 {
-    let most = y.hi * part.hi / (d * FINE) + 1;
-    let least = y.lo * part.lo / (d * FINE);
+    let most = over_of(part.hi, y.hi, d) + 1;
+    let least = over_of(part.lo, y.lo, d);
     Part {
         lo: FINE - most,
         hi: FINE - least,
@@ -39,6 +55,7 @@ fn step(part: Part, y: Part, d: u128) -> Part
 }
 
 /// The nested sum of the sine, of degree 15.
+#[inline(always)]
 pub(crate) fn sine_part(y: Part) -> Part
     requires y_size { y.hi ≤ 10 ^ 18 }
     ensures holds { (square : ℕ) → HoldsSquare y.lo y.hi square →
@@ -57,6 +74,7 @@ pub(crate) fn sine_part(y: Part) -> Part
 }
 
 /// The nested sum of the cosine, of degree 16.
+#[inline(always)]
 pub(crate) fn cosine_part(y: Part) -> Part
     requires y_size { y.hi ≤ 10 ^ 18 }
     ensures holds { (square : ℕ) → HoldsSquare y.lo y.hi square →
@@ -76,13 +94,14 @@ pub(crate) fn cosine_part(y: Part) -> Part
 }
 
 /// The square of a rest's amount.
+#[inline(always)]
 pub(crate) fn square_of(a: u128) -> Part
     requires size { a ≤ greatest_rest }
     ensures holds { HoldsSquare result.lo result.hi (a * a) }
     ensures size { result.hi ≤ 62 * 10 ^ 16 }
     ensures width { result.hi ≤ result.lo + 5 }
 {
-    let square = a * a / 100_000_000_000_000;
+    let square = over_square(a * a);
     Part {
         lo: square,
         hi: square + 1,

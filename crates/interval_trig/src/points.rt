@@ -7,9 +7,9 @@ ghost use Rattle.grid_model.specs.Taylor.{SineAt, CosineAt};
 ghost use Rattle.grid_model.specs.Sines.{by_quarter, Sine, Cosine};
 ghost use Rattle.interval_trig.specs.NestedSums.{greatest_rest};
 
-use crate::parts::{FINE, cosine_part, sine_part, square_of};
+use crate::parts::{cosine_part, sine_part, square_of};
 use crate::quarters::{left_of, quarter_of, turn_of, whole_of};
-use fix_interval::UNIT;
+use crate::quotients::fine_product;
 
 /// A value of the sine at a rest that is not negative.
 fn sine_of_amount(a: u128) -> u128
@@ -18,7 +18,7 @@ fn sine_of_amount(a: u128) -> u128
     ensures size { result ≤ unit }
 {
     let part = sine_part(square_of(a));
-    a * part.hi / FINE
+    u128::from(fine_product(a as u64, part.hi))
 }
 
 /// A value of the cosine at a rest that is not negative.
@@ -28,7 +28,8 @@ fn cosine_of_amount(a: u128) -> u128
     ensures size { result ≤ unit }
 {
     let part = cosine_part(square_of(a));
-    UNIT as u128 * part.hi / FINE
+    // A fine unit is a hundredth.
+    u128::from(part.hi / 100)
 }
 
 /// A value of the sine at a rest.

@@ -7,19 +7,29 @@ ghost use Rattle.grid_model.specs.Rounding.{IsFloor};
 ghost use Rattle.grid_model.specs.Sines.{modulo_4};
 ghost use Rattle.interval_trig.specs.NestedSums.{greatest_rest};
 
+use crate::quotients::{over_half_turn, over_ten_thousand};
+
 /// In units of 10^-20 rad.
 const QUARTER_TURN: i128 = 157_079_632_679_489_661_923;
 
+/// 42 half turns and a quarter, so that no angle is negative.
+const UP: i128 = 13_351_768_777_756_621_263_455;
+
+/// So many ten thousands more no rest is negative.
+const REST_UP: i128 = 7_853_981_633_974_484;
+
 /// The number of the quarter round x.
+#[inline]
 pub(crate) fn quarter_of(x: i128) -> i128
     requires { IsWithin (64 * unit) x }
     ensures value { result ≡ quarter x }
     ensures size { IsWithin 41 result }
 {
-    (20000 * x + QUARTER_TURN).div_euclid(2 * QUARTER_TURN)
+    i128::from(over_half_turn((20000 * x + UP) as u128)) - 42
 }
 
 /// What is left of x without its quarters, in units of 10^-20.
+#[inline]
 pub(crate) fn left_of(x: i128, k: i128) -> i128
     requires x_size { IsWithin (64 * unit) x }
     requires k_size { IsWithin 41 k }
@@ -31,15 +41,17 @@ pub(crate) fn left_of(x: i128, k: i128) -> i128
 }
 
 /// What is left in whole units, rounded down.
+#[inline]
 pub(crate) fn whole_of(left: i128) -> i128
     requires { IsWithin 78539816339744830962 left }
     ensures floor { IsFloor left (pos 10000) result }
     ensures size { IsWithin greatest_rest result }
 {
-    left.div_euclid(10000)
+    i128::from(over_ten_thousand((left + 10000 * REST_UP) as u128)) - REST_UP
 }
 
 /// A quarter's number modulo 4.
+#[inline]
 pub(crate) fn turn_of(k: i128) -> u8
     requires { IsWithin 42 k }
     ensures value { result ≡ modulo_4 k }

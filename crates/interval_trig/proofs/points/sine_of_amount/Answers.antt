@@ -1,4 +1,4 @@
-use Rattle.std.proofs.Common.{arith, ◌≡◌, ◌≤◌, ◌*◌, ◌-◌, ◌^◌, lit≤}
+use Rattle.std.proofs.Common.{arith, ◌≡◌, ◌≤◌, ◌*◌, ◌-◌, ◌/◌, ◌^◌, lit≤}
 use Rattle.std.proofs.lemmas.Nat.{mul-le}
 use Rattle.std.specs.Prelude.{pos}
 use Rattle.std.proofs.Math.Nat.{le_trans}
@@ -16,7 +16,8 @@ returns-clause-value c =
     let x = c.sine_part-part.ensures.holds (c.args.a * c.args.a) q in
     let w = c.sine_part-part.ensures.width c.square_of.ensures.size c.square_of.ensures.width in
     let d : c.args.a * (c.sine_part-part.result.hi - c.sine_part-part.result.lo) ≤ fine = le_trans (mul-le c.args.a (c.sine_part-part.result.hi - c.sine_part-part.result.lo) (787 * 10 ^ 13) 4 c.requires.size (omega arith)) (lit≤ tt) in
-    sine_out (pos c.args.a) _ (value_held fine c.args.a _ (nested_den sine_15) c.sine_part-part.result.lo c.sine_part-part.result.hi (nested_den sine_17) _ _ (lit≤ tt) d c.sine_part-part.result.ordered x.low x.high e)
+    let e2 : c.from.result ≡ c.args.a * c.sine_part-part.result.hi / fine = omega (arith, c.fine_product.ensures.value) in
+    rw e2 (sine_out (pos c.args.a) _ (value_held fine c.args.a _ (nested_den sine_15) c.sine_part-part.result.lo c.sine_part-part.result.hi (nested_den sine_17) _ _ (lit≤ tt) d c.sine_part-part.result.ordered x.low x.high e))
 
 pub returns-clause-size : goal.returns-clause-size
-returns-clause-size c = let h = quotient_le c.args.a c.sine_part-part.result.hi fine (lit≤ tt) c.sine_part-part.ensures.size in omega arith
+returns-clause-size c = let h = quotient_le c.args.a c.sine_part-part.result.hi fine (lit≤ tt) c.sine_part-part.ensures.size in let e : c.from.result ≡ c.args.a * c.sine_part-part.result.hi / fine = omega (arith, c.fine_product.ensures.value) in omega arith
