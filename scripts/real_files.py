@@ -373,6 +373,20 @@ class RealFiles(unittest.TestCase):
         self.assertEqual(self.read("none.log"), b"gpscover 1\nrules 1 4096 1000000\n")
         self.expect(["check", *DAY, "none.log", "--from", "3", "--to", "2"], 0, b"yes 0\n")
 
+    def test_rows_of_a_day_are_renewed(self):
+        renewing = DAY["day.toml"].replace(b"max_age = 7200\n", b"max_age = 7200\nrenew = true\n")
+        for name, data in (DAY | {"day.toml": renewing}).items():
+            self.write(name, data)
+        ran = self.run_words("solve", *DAY, "part.log", "--from", "1", "--to", "4")
+        self.assertEqual((ran.returncode, ran.stderr), (0, b""))
+        log = self.read("part.log")
+        self.assertEqual(log.split(b"\n", 1)[0], b"gpscover 2")
+        asked, found = renewals(log)
+        self.assertEqual(asked, found)
+        boxes = closings(log)(b"in", b"edge")
+        self.expect(["check", *DAY, "part.log", "--from", "1", "--to", "4"], 0, b"yes %d\n" % boxes)
+        self.expect(["judge", "part.log"], 0, b"yes %d\n" % boxes)
+
     def test_bounds_are_mapped_by_elevation(self):
         mapped = DAY["day.toml"].replace(b"[2000, 25000]", b"[0, 0]\nzenith = [1800, 3000]")
         for name, data in (DAY | {"day.toml": mapped}).items():

@@ -40,11 +40,20 @@ def blocks(text):
     """The definitions of a text, each with its lines, the comment above it among them."""
     for block in re.split(r"\n\s*\n", text):
         lines = [line for line in block.splitlines() if not line.startswith("use ")]
-        heads = [line for line in lines if not line.lstrip().startswith("--")]
-        named = [BEGINS.match(line) for line in heads if re.match(r"\s*(abbrev|unfoldable|pub|record|data)\b", line)]
-        for match in named:
-            if match:
-                yield match.group(1), lines
+        for name in names_in(line for line in lines if not line.lstrip().startswith("--")):
+            yield name, lines
+
+
+def names_in(lines):
+    """The names that lines define, but for the fields of records, which no other definition can use by their names alone."""
+    record = None
+    for line in lines:
+        depth = len(line) - len(line.lstrip())
+        if record is not None and depth > record:
+            continue
+        record = depth if re.match(r"\s*(pub )?record\b", line) else None
+        if re.match(r"\s*(abbrev|unfoldable|pub|record|data)\b", line) and (found := BEGINS.match(line)):
+            yield found.group(1)
 
 
 def reached(start):
