@@ -33,7 +33,7 @@ use Rattle.epoch_rows.proofs.AgreeLemmas.{HasPoint, AllAgree, LineAgrees, lines_
 use Rattle.epoch_rows.proofs.MakerLemmas.{IsGiven, row_given, run_given}
 use Rattle.epoch_rows.proofs.PlaceLemmas.{each_at, each_as}
 use Rattle.epoch_rows.proofs.RenewedLemmas.{RowAt, row_at, given_held, own_renewed, all_meet}
-use Rattle.log_writer.proofs.LogLemmas.{same_few}
+use Rattle.log_writer.proofs.LogLemmas.{same_few as few_as}
 
 -- ---- satellite lines
 
@@ -121,7 +121,7 @@ module _ (m : Meaning) (sound : IsSound m) (renews : Bool) (rules : Rules) where
       hand = hand_of search s.given
 
       same_few : is_few block ≡ is_few s.given
-      same_few = same_few (HasRun (maker_of m renews (Some (hand_of search s.given))) rules) block s.given.body block.body s.made.body
+      same_few = few_as (HasRun (maker_of m renews (Some (hand_of search s.given))) rules) block s.given.body block.body s.made.body
 
       block_agrees : (other : List SatLine) → AreLinesOf m search.root search.epoch other
           → AllAgree m.delays block.sats (expected (is_few block) other)
