@@ -16,12 +16,13 @@ pub const ROWS: [&str; 4] = [
 /// What is left of the root behind both cuts.
 pub const LEFT: &str = "renew -6000000 -1000000 -1000000 6250000 1000000 1000000\n";
 
-/// A log whose rows are renewed behind two cuts, with these lines for their satellites.
+/// A log whose rows are renewed behind two cuts, with these lines for their satellites, of which
+/// one may be empty.
 pub fn log_with(
     alloc: Global,
     version: &str,
     renew: &str,
-    renewed: &[&str],
+    renewed: [&str; 4],
 ) -> Result<String, AllocError> {
     let mut text = String::from_str(alloc, version)?;
     text.push_str("rules 0 0 1000000\nepoch 1 1388102400000000000000 4\n")?;
@@ -72,14 +73,14 @@ fn renewed_rows_are_judged(rt: HostRuntime) -> Result<(), Fail> {
     let two = "gpscover 2\n";
     let yes = Ok(Verdict::Yes { boxes: 1 });
     let table = [
-        (two, LEFT, &ROWS[..], yes),
-        ("gpscover 3\n", LEFT, &ROWS[..], yes),
-        ("gpscover 1\n", LEFT, &ROWS[..], Err((11, 2))),
-        (two, narrow, &ROWS[..], Ok(no(65, 11))),
-        (two, wide, &ROWS[..], Ok(no(65, 11))),
-        (two, LEFT, &[first, second, third][..], Err((15, 2))),
-        (two, LEFT, &[other, second, third, last][..], Ok(no(52, 12))),
-        (two, "", &[][..], yes),
+        (two, LEFT, ROWS, yes),
+        ("gpscover 3\n", LEFT, ROWS, yes),
+        ("gpscover 1\n", LEFT, ROWS, Err((11, 2))),
+        (two, narrow, ROWS, Ok(no(65, 11))),
+        (two, wide, ROWS, Ok(no(65, 11))),
+        (two, LEFT, [first, second, third, ""], Err((15, 2))),
+        (two, LEFT, [other, second, third, last], Ok(no(52, 12))),
+        (two, "", [""; 4], yes),
     ];
     for (version, renew, renewed, want) in table {
         let text = log_with(alloc, version, renew, renewed)?;
