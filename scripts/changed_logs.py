@@ -5,10 +5,10 @@ usage: changed_logs.py PROGRAM FOLDER
 
 FOLDER has receiver.obs, receiver.nav and settings.toml, as crates/gpscover/data has. Three logs of their first three epochs
 are solved: one with the settings as they are, one over a small box with wide bounds, so that there are boxes inside, and
-one over a large box, whose rows are renewed. Of the second epoch four satellites are left, and there and in the third one
-satellite lacks its code. Each number of each line goes up and down by one, and each line is dropped, doubled, put behind
-the next, and replaced by the line at its place in another epoch; of the `cut` lines one in eight. Prints two tables in
-Markdown.
+one over a large box with pairs, whose rows are renewed. Of the second epoch four satellites are left, and there and in the
+third one satellite lacks its code. Each number of each line goes up and down by one, and each line is dropped, doubled, put
+behind the next, and replaced by the line at its place in another epoch; of the `cut` lines one in eight. Prints two tables
+in Markdown.
 """
 import collections
 import os
@@ -38,7 +38,7 @@ FIELDS = {
 }
 CUTS_FOR_ONE = 8
 WIDE = {"half": "half = 2000", "receiver": "receiver = [-30000, 30000]"}
-RENEWED = {"half": "half = 10000000\nrenew = true"}
+RENEWED = {"half": "half = 10000000\nrenew = true\npairs = true"}
 
 
 def without_code(epoch):
