@@ -7,4 +7,3 @@ pub mod Distances
 pub mod ChainDistance
 pub mod TurnKeeps
 pub mod FarPlaces
-pub mod OrbitEnds

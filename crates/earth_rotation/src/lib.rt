@@ -5,6 +5,7 @@
 mod angles;
 mod existence;
 mod ranges;
+mod roots;
 #[cfg(test)]
 mod tests;
 mod turns;

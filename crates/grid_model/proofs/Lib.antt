@@ -11,4 +11,3 @@ pub mod EndsLemmas
 pub mod ListLemmas
 pub mod OrderLemmas
 pub mod SpreadRoots
-pub mod PlainLemmas
