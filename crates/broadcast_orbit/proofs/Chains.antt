@@ -113,9 +113,6 @@ less_number_held m a b l h x e f p = record { from = omega (arith, ints, p.from)
 pub one_within : IsWithin unit (pos unit)
 one_within = record { low = omega (arith, ints); high = omega (arith, ints) }
 
-pub one_held : (x : ℤ) → Between x x x
-one_held x = record { from = omega (arith, ints); to = omega (arith, ints) }
-
 -- ---- the time from the ephemeris time
 
 pub after_held : (tl th s wl wh pl ph rl rh time toe : ℤ) → pl ≡ s +ℤ wl → ph ≡ s +ℤ wh

@@ -7,3 +7,4 @@ pub mod Distances
 pub mod ChainDistance
 pub mod TurnKeeps
 pub mod FarPlaces
+pub mod OrbitEnds

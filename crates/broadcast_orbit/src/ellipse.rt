@@ -21,7 +21,7 @@ ghost use Rattle.broadcast_orbit.specs.OrbitSizes.{true_amount, true_width};
 use crate::directions::{Direction, direction_of};
 use fix_interval::{Exact, UNIT, advanced, product};
 use gnss_model::Elements;
-use interval_trig::root_near_one;
+use grid_model::root_u128;
 use kepler_enclosure::eccentric;
 
 /// The square of one, in 10^-32.
@@ -90,7 +90,7 @@ fn flatness_of(e: u128) -> u64
     requires { e ≤ eccentricity_amount }
     ensures { IsRoot (unit * unit - e * e) result }
 {
-    root_near_one(SQUARE_OF_ONE - e * e)
+    root_u128(SQUARE_OF_ONE - e * e)
 }
 
 /// sqrt(1 - e^2), cut off

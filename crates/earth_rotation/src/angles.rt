@@ -7,7 +7,6 @@ ghost use Rattle.fix_interval.specs.Factors.{Holds, HasEnds, HasAmount};
 ghost use Rattle.earth_rotation.specs.RoundSizes.{range_amount, angle_amount, sine_amount};
 ghost use Rattle.earth_rotation.specs.RoundSizes.{cosine_amount, angle_width, cosine_width};
 
-use crate::roots::roots;
 use fix_interval::{Exact, ExactArea, Interval};
 use gnss_model::EARTH_RATE;
 use interval_trig::sine;
@@ -56,7 +55,7 @@ pub(crate) fn cosine_beside(sine: Exact) -> Exact
         HasEnds cosine_amount (cosine_width w) result }
 {
     let squares = sine.square();
-    roots(ExactArea {
+    <Exact as Interval>::root(ExactArea {
         lo: LEAST_CIRCLE - squares.hi,
         hi: GREATEST_CIRCLE - squares.lo,
     })

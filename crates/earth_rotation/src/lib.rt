@@ -5,7 +5,6 @@
 mod angles;
 mod existence;
 mod ranges;
-mod roots;
 #[cfg(test)]
 mod tests;
 mod turns;

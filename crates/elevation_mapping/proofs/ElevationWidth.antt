@@ -25,7 +25,8 @@ use Rattle.elevation_mapping.proofs.SineWidth.{up_slope, line_slope, slopes_sum,
 use Rattle.fix_interval.proofs.PlaceLemmas.{wider_place}
 
 -- in natural numbers
-natural_apart : (l h c : ℤ) (t v : ℕ) → l ≤ℤ h → c ≡ pos v → ((h -ℤ l) *ℤ c) ≤ℤ (pos t +ℤ (pos 4 *ℤ c)) → up (h -ℤ l) * v ≤ t + 4 * v
+natural_apart : (l h c : ℤ) (t v : ℕ) → l ≤ℤ h → c ≡ pos v
+    → ((h -ℤ l) *ℤ c) ≤ℤ (pos t +ℤ (pos 4 *ℤ c)) → up (h -ℤ l) * v ≤ t + 4 * v
 natural_apart l h c t v o e k =
     let n : (h -ℤ l) ≡ pos (up (h -ℤ l)) = omega (arith, ints, one_part (h -ℤ l)) in
     let f : (h -ℤ l) *ℤ c ≡ pos (up (h -ℤ l) * v) = rw (n, e) refl in
@@ -44,7 +45,9 @@ greatest_scaled a b c d r u h k =
     either_scaled (max a b) a b (max c d * r) u (max_is a b) (omega (arith, h, i)) (omega (arith, k, j))
 
 -- the amounts of both quotients
-scaled_amount : (ql qh l h c : ℤ) (r : ℕ) → ql ≤ℤ qh → l ≤ℤ h → c ≡ pos r → pos 0 <ℤ c → ((g q : ℤ) → Between ql qh g → Near (g *ℤ pos unit) c q → Between l h q) → greatest_end ql qh * unit ≤ greatest_end l h * r
+scaled_amount : (ql qh l h c : ℤ) (r : ℕ) → ql ≤ℤ qh → l ≤ℤ h → c ≡ pos r → pos 0 <ℤ c
+    → ((g q : ℤ) → Between ql qh g → Near (g *ℤ pos unit) c q → Between l h q)
+    → greatest_end ql qh * unit ≤ greatest_end l h * r
 scaled_amount ql qh l h c r o p e pc f =
     let low = held_fraction (ql *ℤ pos unit) c l h pc (λ t j. f ql t (low_member ql qh o) j) in
     let high = held_fraction (qh *ℤ pos unit) c l h pc (λ t j. f qh t (high_member ql qh o) j) in
@@ -55,17 +58,23 @@ scaled_amount ql qh l h c r o p e pc f =
 own_width : (n : ℕ) (l h : ℤ) → l ≤ℤ h → Ends (greatest_end l h) (up (h -ℤ l)) l h
 own_width n l h o = let e = ends_amount l h o in record { order = o; low = e.0; high = e.1; width = omega (arith, ints, one_part (h -ℤ l)) }
 
-padded_apart : (l h m n : ℤ) → l ≤ℤ h → m ≡ l +ℤ neg_ℤ (pos 8) → n ≡ h +ℤ pos 8 → (greatest_end m n ≤ least_end m n + up (h -ℤ l) + 16) × (greatest_end l h ≤ greatest_end m n)
+padded_apart : (l h m n : ℤ) → l ≤ℤ h → m ≡ l +ℤ neg_ℤ (pos 8) → n ≡ h +ℤ pos 8
+    → (greatest_end m n ≤ least_end m n + up (h -ℤ l) + 16) × (greatest_end l h ≤ greatest_end m n)
 padded_apart l h m n o e f = (omega (arith, ints, one_part m, one_part n, one_part (h -ℤ l)), omega (arith, ints, one_part l, one_part h, one_part m, one_part n))
 
-last_step : (g l z s t : ℕ) → g ≤ l + z + 16 → s ≤ g → z * unit ≤ t * (s + 109 * 10 ^ 14) + 10004 * unit → g * unit ≤ l * unit + (t * (g + 109 * 10 ^ 14) + 10020 * unit)
+last_step : (g l z s t : ℕ) → g ≤ l + z + 16 → s ≤ g
+    → z * unit ≤ t * (s + 109 * 10 ^ 14) + 10004 * unit
+    → g * unit ≤ l * unit + (t * (g + 109 * 10 ^ 14) + 10020 * unit)
 last_step g l z s t h k i = let j = mul-le t (s + 109 * 10 ^ 14) t (g + 109 * 10 ^ 14) (omega arith) (omega arith) in omega (arith, h, i, j)
 
-total : (a b z m : ℕ) → a ≡ b → z ≤ a * (m + 109 * 10 ^ 14) + 10004 * unit → z ≤ b * (m + 109 * 10 ^ 14) + 10004 * unit
+total : (a b z m : ℕ) → a ≡ b → z ≤ a * (m + 109 * 10 ^ 14) + 10004 * unit
+    → z ≤ b * (m + 109 * 10 ^ 14) + 10004 * unit
 total a b z m e h = subst (λ (k : ℕ). z ≤ k * (m + 109 * 10 ^ 14) + 10004 * unit) e h
 
 -- all lengths as natural numbers
-width_in_steps : (d s t x y v r n g w z m : ℕ) → d ≤ 2 * 10 ^ 11 → least_up ≤ v → least_range ≤ r → 4 * s ≤ 7 * (v + x + 1) → 4 * t ≤ 7 * (r + y + 1) → 4 * x ≤ 7 * (d + d / 148 + 5) + 4 → 4 * y ≤ 7 * (d + (2000 + d / 40000)) + 4 →
+width_in_steps : (d s t x y v r n g w z m : ℕ) → d ≤ 2 * 10 ^ 11 → least_up ≤ v → least_range ≤ r
+    → 4 * s ≤ 7 * (v + x + 1) → 4 * t ≤ 7 * (r + y + 1) → 4 * x ≤ 7 * (d + d / 148 + 5) + 4
+    → 4 * y ≤ 7 * (d + (2000 + d / 40000)) + 4 →
     n ≤ s * (d + (2000 + d / 40000)) + t * (d + d / 148 + 5) + 12 → w * v ≤ (g + 2) * x + n + 4 * v → g * unit ≤ m * r → z * r ≤ (m + 2) * y + unit * w + 4 * r → z * unit ≤ sine_slope d * (m + 109 * 10 ^ 14) + 10004 * unit
 width_in_steps d s t x y v r n g w z m k lv lr hs ht hx hy hn hw hg hz =
     let e = d + (2000 + d / 40000) in
@@ -82,7 +91,10 @@ width_in_steps d s t x y v r n g w z m k lv lr hs ht hx hy hn hw hg hz =
     let j = sine_step z w g m y p q r lr hz (length_slope e y p r hy el) i in
     total (p + q) (sine_slope d) (z * unit) m (omega (arith, slopes_sum d)) j
 
-pub elevation_width : (d : ℕ) (a b : Place) (inner : Exact) (vl vh ql qh rl rh l h m n : ℤ) → d ≤ 2 * 10 ^ 11 → PlaceEnds up_amount (d + d / 148 + 5) a → PlaceEnds offset_amount (d + (2000 + d / 40000)) b → square least_up ≤ least_sum a → square least_range ≤ least_sum b →
+pub elevation_width : (d : ℕ) (a b : Place) (inner : Exact) (vl vh ql qh rl rh l h m n : ℤ)
+    → d ≤ 2 * 10 ^ 11 → PlaceEnds up_amount (d + d / 148 + 5) a
+    → PlaceEnds offset_amount (d + (2000 + d / 40000)) b → square least_up ≤ least_sum a
+    → square least_range ≤ least_sum b →
     vl ≡ pos (root (least_sum a)) → vh ≡ pos (root (greatest_sum a)) → rl ≡ pos (root (least_sum b)) → rh ≡ pos (root (greatest_sum b)) →
     ((k l m i j n v w : ℕ) → HasEnds k v a.x → HasEnds l v a.y → HasEnds m v a.z → HasEnds i w b.x → HasEnds j w b.y → HasEnds n w b.z → HasEnds (k * i + l * j + m * n + 6) ((k + l + m) * w + (i + j + n) * v + 12) inner) →
     ql ≤ℤ qh → IsTightQuotient inner.lo inner.hi vl vh (pos 1) ql qh → l ≤ℤ h → IsTightQuotient ql qh rl rh (pos unit) l h → ((g q : ℤ) → Between ql qh g → Near (g *ℤ pos unit) rl q → Between l h q) → pos 0 <ℤ rl → m ≡ l +ℤ neg_ℤ (pos 8) → n ≡ h +ℤ pos 8 →

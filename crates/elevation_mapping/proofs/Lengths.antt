@@ -19,7 +19,10 @@ use Rattle.grid_model.proofs.SpreadRoots.{sum_small, four_roots}
 pub offset_fits : (w : ℕ) (l h : ℤ) → Ends offset_amount w l h → Ends (2 ^ 47) w l h
 offset_fits w l h e = wider_ends offset_amount (2 ^ 47) w w l h (lit≤ tt) (omega arith) e
 
-pub squares_fit : (xl xh yl yh zl zh : ℤ) → IsWithin offset_amount xl → IsWithin offset_amount xh → IsWithin offset_amount yl → IsWithin offset_amount yh → IsWithin offset_amount zl → IsWithin offset_amount zh → greatest_square xl xh + greatest_square yl yh + greatest_square zl zh ≤ 3 * (offset_amount * offset_amount)
+pub squares_fit : (xl xh yl yh zl zh : ℤ) → IsWithin offset_amount xl → IsWithin offset_amount xh
+    → IsWithin offset_amount yl → IsWithin offset_amount yh → IsWithin offset_amount zl
+    → IsWithin offset_amount zh
+    → greatest_square xl xh + greatest_square yl yh + greatest_square zl zh ≤ 3 * (offset_amount * offset_amount)
 squares_fit xl xh yl yh zl zh a b c d e f = omega (arith, greatest_square_le offset_amount xl xh a b, greatest_square_le offset_amount yl yh c d, greatest_square_le offset_amount zl zh e f)
 
 -- a length is at least each part, and at least the root of what the squares are at least
@@ -31,13 +34,16 @@ root_at_least n a h = grind (arith, square-mono (root a + 1) n, (root_is a).next
 
 -- ---- of vectors that a place holds
 
-pub lengths_apart : (n w : ℕ) (a : Place) → PlaceEnds n w a → 4 * root (greatest_sum a) ≤ 4 * root (least_sum a) + 7 * w + 4
+pub lengths_apart : (n w : ℕ) (a : Place) → PlaceEnds n w a
+    → 4 * root (greatest_sum a) ≤ 4 * root (least_sum a) + 7 * w + 4
 lengths_apart n w a e = omega (arith, four_roots (least_end a.x.lo a.x.hi) (least_end a.y.lo a.y.hi) (least_end a.z.lo a.z.hi) (greatest_end a.x.lo a.x.hi) (greatest_end a.y.lo a.y.hi) (greatest_end a.z.lo a.z.hi) w (root (least_sum a)) (root (greatest_sum a)) (ends_apart n w a.x.lo a.x.hi e.x_ends) (ends_apart n w a.y.lo a.y.hi e.y_ends) (ends_apart n w a.z.lo a.z.hi e.z_ends) (root_is (least_sum a)).next_square_gt (root_is (greatest_sum a)).square_le)
 
-pub amounts_small : (a : Place) → 4 * (greatest_end a.x.lo a.x.hi + greatest_end a.y.lo a.y.hi + greatest_end a.z.lo a.z.hi) ≤ 7 * (root (greatest_sum a) + 1)
+pub amounts_small : (a : Place)
+    → 4 * (greatest_end a.x.lo a.x.hi + greatest_end a.y.lo a.y.hi + greatest_end a.z.lo a.z.hi) ≤ 7 * (root (greatest_sum a) + 1)
 amounts_small a = sum_small (greatest_end a.x.lo a.x.hi) (greatest_end a.y.lo a.y.hi) (greatest_end a.z.lo a.z.hi) (root (greatest_sum a) + 1) (root_is (greatest_sum a)).next_square_gt
 
-pub lengths_order : (n w : ℕ) (a : Place) → PlaceEnds n w a → root (least_sum a) ≤ root (greatest_sum a)
+pub lengths_order : (n w : ℕ) (a : Place) → PlaceEnds n w a
+    → root (least_sum a) ≤ root (greatest_sum a)
 lengths_order n w a e =
     let x = square-mono _ _ (least_le_greatest_end a.x.lo a.x.hi e.x_ends.order) in
     let y = square-mono _ _ (least_le_greatest_end a.y.lo a.y.hi e.y_ends.order) in
@@ -47,13 +53,17 @@ lengths_order n w a e =
 root_fits : (n v : ℕ) → IsRoot n v → n ≤ 3 * (offset_amount * offset_amount) → v ≤ length_amount
 root_fits n v r h = grind (arith, square-mono (length_amount + 1) v, r.square_le, h)
 
-pub lengths_fit : (w : ℕ) (a : Place) → PlaceEnds offset_amount w a → root (greatest_sum a) ≤ length_amount
+pub lengths_fit : (w : ℕ) (a : Place) → PlaceEnds offset_amount w a
+    → root (greatest_sum a) ≤ length_amount
 lengths_fit w a e = root_fits (greatest_sum a) (root (greatest_sum a)) (root_is (greatest_sum a)) (squares_fit _ _ _ _ _ _ e.x_ends.low e.x_ends.high e.y_ends.low e.y_ends.high e.z_ends.low e.z_ends.high)
 
-ends_by : (u v : ℕ) (l h : ℤ) → l ≡ pos u → h ≡ pos v → u ≤ v → v ≤ length_amount → Ends length_amount (v - u) l h
+ends_by : (u v : ℕ) (l h : ℤ) → l ≡ pos u → h ≡ pos v → u ≤ v → v ≤ length_amount
+    → Ends length_amount (v - u) l h
 ends_by u v l h e f o k = record { order = omega (arith, ints); low = record { low = omega (arith, ints); high = omega (arith, ints) }; high = record { low = omega (arith, ints); high = omega (arith, ints) }; width = omega (arith, ints) }
 
-pub length_ends : (w : ℕ) (a : Place) (l h : ℤ) → PlaceEnds offset_amount w a → l ≡ pos (root (least_sum a)) → h ≡ pos (root (greatest_sum a)) → Ends length_amount (root (greatest_sum a) - root (least_sum a)) l h
+pub length_ends : (w : ℕ) (a : Place) (l h : ℤ) → PlaceEnds offset_amount w a
+    → l ≡ pos (root (least_sum a)) → h ≡ pos (root (greatest_sum a))
+    → Ends length_amount (root (greatest_sum a) - root (least_sum a)) l h
 length_ends w a l h e i j = ends_by (root (least_sum a)) (root (greatest_sum a)) l h i j (lengths_order offset_amount w a e) (lengths_fit w a e)
 
 -- ends that are at most their greatest amount

@@ -23,7 +23,8 @@ raised_amount z zu i = omega (arith, ints, i.below, i.above)
 up_square : (a b : ℕ) → a ≤ b + 1 → a * a ≤ b * b + 2 * b + 1
 up_square a b h = omega (arith, square-mono a (b + 1) h)
 
-up_sum : (x y z zu : ℕ) → z ≤ zu + 1 → square (6 * 10 ^ 12) ≤ x * x + y * y + z * z → 1 * 1 ≤ x * x + y * y + zu * zu
+up_sum : (x y z zu : ℕ) → z ≤ zu + 1 → square (6 * 10 ^ 12) ≤ x * x + y * y + z * z
+    → 1 * 1 ≤ x * x + y * y + zu * zu
 up_sum x y z zu h k = grind (arith, up_square z zu h, k)
 
 positive : (n : ℕ) → 1 ≤ n → pos 0 <ℤ pos n
@@ -38,11 +39,15 @@ slant_positive layer s =
     let h : 1 ≤ slant_of layer s = root_at_least 1 (layer_floor layer + square (layer_sine layer (nat_abs s))) (omega (arith, floor_positive layer)) in
     positive (1000 * slant_of layer s) (omega (arith, h))
 
-range_positive : (x y z : ℤ) (p : Pos) → square (5 * 10 ^ 12) ≤ sum_of_squares (x -ℤ p.x) (y -ℤ p.y) (z -ℤ p.z) → 1 ≤ range_to x y z p
+range_positive : (x y z : ℤ) (p : Pos)
+    → square (5 * 10 ^ 12) ≤ sum_of_squares (x -ℤ p.x) (y -ℤ p.y) (z -ℤ p.z) → 1 ≤ range_to x y z p
 unfolding range_to
 range_positive x y z p h = root_at_least 1 (sum_of_squares (x -ℤ p.x) (y -ℤ p.y) (z -ℤ p.z)) (omega (arith, h))
 
-pub mapping_exists : (layer : Layer) (p : Pos) (x y z : ℤ) → square (6 * 10 ^ 12) ≤ sum_of_squares p.x p.y p.z → square (5 * 10 ^ 12) ≤ sum_of_squares (x -ℤ p.x) (y -ℤ p.y) (z -ℤ p.z) → (factor : ℤ) × Mapping layer p x y z (range_to x y z p) factor
+pub mapping_exists : (layer : Layer) (p : Pos) (x y z : ℤ)
+    → square (6 * 10 ^ 12) ≤ sum_of_squares p.x p.y p.z
+    → square (5 * 10 ^ 12) ≤ sum_of_squares (x -ℤ p.x) (y -ℤ p.y) (z -ℤ p.z)
+    → (factor : ℤ) × Mapping layer p x y z (range_to x y z p) factor
 mapping_exists layer p x y z h k =
     let zu = near_exists (p.z *ℤ pos up_scale) (pos (10 ^ 14)) (record { lt = tt }) in
     let v = root (sum_of_squares p.x p.y zu.0) in

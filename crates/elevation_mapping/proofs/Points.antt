@@ -25,7 +25,8 @@ use Rattle.elevation_mapping.specs.SineSizes.{up_amount, offset_amount, least_up
 use Rattle.grid_model.proofs.IntervalLemmas.{difference_by as offset_held}
 use Rattle.std.proofs.lemmas.Bool.{and_from as both_from}
 
-side_ends : (d : ℕ) (lo hi s t : ℤ) → lo ≤ℤ hi → IsBoxSize lo → IsBoxSize hi → s ≡ lo → t ≡ hi → above hi lo ≤ d → Ends (10 ^ 13) d s t
+side_ends : (d : ℕ) (lo hi s t : ℤ) → lo ≤ℤ hi → IsBoxSize lo → IsBoxSize hi → s ≡ lo → t ≡ hi
+    → above hi lo ≤ d → Ends (10 ^ 13) d s t
 side_ends d lo hi s t o l h e f k = rw (e, f) (record { order = o; low = l; high = h; width = omega (arith, ints, above_is hi lo, k) })
 
 pub record ArePoints (b : Box3) (q : Place) : Type 0 where
@@ -44,24 +45,29 @@ pub record AreOffsets (a b r : Place) : Type 0 where
   pub z_low : r.z.lo ≡ a.z.lo -ℤ b.z.hi
   pub z_high : r.z.hi ≡ a.z.hi -ℤ b.z.lo
 
-pub place_ends : (b : Box3) (q : Place) → ArePoints b q → PlaceEnds (10 ^ 13) (longest_length (grid_box b)) q
+pub place_ends : (b : Box3) (q : Place) → ArePoints b q
+    → PlaceEnds (10 ^ 13) (longest_length (grid_box b)) q
 place_ends b q p = record {
   x_ends = side_ends (longest_length (grid_box b)) b.lo.x b.hi.x q.x.lo q.x.hi b.x_ordered b.lo_within.0 b.hi_within.0 p.x_low p.x_high (omega arith);
   y_ends = side_ends (longest_length (grid_box b)) b.lo.y b.hi.y q.y.lo q.y.hi b.y_ordered b.lo_within.1 b.hi_within.1 p.y_low p.y_high (omega arith);
   z_ends = side_ends (longest_length (grid_box b)) b.lo.z b.hi.z q.z.lo q.z.hi b.z_ordered b.lo_within.2 b.hi_within.2 p.z_low p.z_high (omega arith);
 }
 
-axis_ends : (v w : ℕ) (a b c d l h : ℤ) → Ends turned_reach v a b → Ends (10 ^ 13) w c d → l ≡ a -ℤ d → h ≡ b -ℤ c → Ends offset_amount (w + v) l h
+axis_ends : (v w : ℕ) (a b c d l h : ℤ) → Ends turned_reach v a b → Ends (10 ^ 13) w c d
+    → l ≡ a -ℤ d → h ≡ b -ℤ c → Ends offset_amount (w + v) l h
 axis_ends v w a b c d l h p q e f = rw (e, f) (wider_ends (turned_reach + 10 ^ 13) offset_amount (v + w) (w + v) _ _ (lit≤ tt) (omega arith) (difference_ends turned_reach v (10 ^ 13) w a b c d p q))
 
-pub offsets_ends : (v w : ℕ) (a b r : Place) → AreOffsets a b r → PlaceEnds turned_reach v a → PlaceEnds (10 ^ 13) w b → PlaceEnds offset_amount (w + v) r
+pub offsets_ends : (v w : ℕ) (a b r : Place) → AreOffsets a b r → PlaceEnds turned_reach v a
+    → PlaceEnds (10 ^ 13) w b → PlaceEnds offset_amount (w + v) r
 offsets_ends v w a b r d p q = record {
   x_ends = axis_ends v w _ _ _ _ _ _ p.x_ends q.x_ends d.x_low d.x_high;
   y_ends = axis_ends v w _ _ _ _ _ _ p.y_ends q.y_ends d.y_low d.y_high;
   z_ends = axis_ends v w _ _ _ _ _ _ p.z_ends q.z_ends d.z_low d.z_high;
 }
 
-pub up_ends : (w : ℕ) (q : Place) (u : Place) → u.x ≡ q.x → u.y ≡ q.y → Ends up_amount (w + w / 148 + 5) u.z.lo u.z.hi → PlaceEnds (10 ^ 13) w q → PlaceEnds up_amount (w + w / 148 + 5) u
+pub up_ends : (w : ℕ) (q : Place) (u : Place) → u.x ≡ q.x → u.y ≡ q.y
+    → Ends up_amount (w + w / 148 + 5) u.z.lo u.z.hi → PlaceEnds (10 ^ 13) w q
+    → PlaceEnds up_amount (w + w / 148 + 5) u
 up_ends w q u e f z p = record {
   x_ends = rw e (wider_ends (10 ^ 13) up_amount w (w + w / 148 + 5) _ _ (lit≤ tt) (omega arith) p.x_ends);
   y_ends = rw f (wider_ends (10 ^ 13) up_amount w (w + w / 148 + 5) _ _ (lit≤ tt) (omega arith) p.y_ends);
@@ -89,21 +95,25 @@ record Difference (a b c d z : ℤ) : Type 0 where
   right_in : Between c d right
   is : left -ℤ right ≡ z
 
-difference_at : (a b c d z : ℤ) → a ≤ℤ b → c ≤ℤ d → Between (a -ℤ d) (b -ℤ c) z → Difference a b c d z
+difference_at : (a b c d z : ℤ) → a ≤ℤ b → c ≤ℤ d → Between (a -ℤ d) (b -ℤ c) z
+    → Difference a b c d z
 difference_at a b c d z o p i = by_lt_z a (z +ℤ c)
     (λ h. record { left = z +ℤ c; right = c; left_in = record { from = omega (arith, ints); to = omega (arith, ints, i.to) }; right_in = record { from = omega (arith, ints); to = p }; is = omega (arith, ints) })
     (λ h. record { left = a; right = a -ℤ z; left_in = record { from = omega (arith, ints); to = o }; right_in = record { from = omega (arith, ints); to = omega (arith, ints, i.from) }; is = omega (arith, ints) })
 
-by_amounts : (a b c n : ℕ) (x y z : ℤ) → nat_abs x ≡ a → nat_abs y ≡ b → nat_abs z ≡ c → n ≤ sum_of_squares x y z → n ≤ a * a + b * b + c * c
+by_amounts : (a b c n : ℕ) (x y z : ℤ) → nat_abs x ≡ a → nat_abs y ≡ b → nat_abs z ≡ c
+    → n ≤ sum_of_squares x y z → n ≤ a * a + b * b + c * c
 by_amounts a b c n x y z e f g h = rw (sym e, sym f, sym g) h
 
 in_side : (s : Side) (n : ℤ) → Between s.lo s.hi n → side_holds s n ≡ true
 in_side s n i = both_from _ _ (le_to s.lo n i.from) (le_to n s.hi i.to)
 
-held_by_box : (b : GridBox) (p : Pos) → Between b.x.lo b.x.hi p.x → Between b.y.lo b.y.hi p.y → Between b.z.lo b.z.hi p.z → box_holds b p ≡ true
+held_by_box : (b : GridBox) (p : Pos) → Between b.x.lo b.x.hi p.x → Between b.y.lo b.y.hi p.y
+    → Between b.z.lo b.z.hi p.z → box_holds b p ≡ true
 held_by_box b p x y z = both_from _ _ (in_side b.x p.x x) (both_from _ _ (in_side b.y p.y y) (in_side b.z p.z z))
 
-pub box_far : (n : ℕ) (b : Box3) → IsFarFromOrigin n (grid_box b) → square n ≤ square (least_end b.lo.x b.hi.x) + square (least_end b.lo.y b.hi.y) + square (least_end b.lo.z b.hi.z)
+pub box_far : (n : ℕ) (b : Box3) → IsFarFromOrigin n (grid_box b)
+    → square n ≤ square (least_end b.lo.x b.hi.x) + square (least_end b.lo.y b.hi.y) + square (least_end b.lo.z b.hi.z)
 box_far n b f =
     let x = least_at b.lo.x b.hi.x b.x_ordered in
     let y = least_at b.lo.y b.hi.y b.y_ordered in
@@ -114,16 +124,20 @@ box_far n b f =
 raised_square : (a b : ℕ) → a ≤ b + 3 → a * a ≤ b * b + 6 * b + 9
 raised_square a b h = omega (arith, square-mono a (b + 3) h)
 
-still_far : (x y z u : ℕ) → z ≤ u + 3 → u ≤ up_amount → square (6 * 10 ^ 12) ≤ x * x + y * y + z * z → square least_up ≤ x * x + y * y + u * u
+still_far : (x y z u : ℕ) → z ≤ u + 3 → u ≤ up_amount → square (6 * 10 ^ 12) ≤ x * x + y * y + z * z
+    → square least_up ≤ x * x + y * y + u * u
 still_far x y z u h k f = omega (arith, raised_square z u h, k, f)
 
 least_le : (n w : ℕ) (l h : ℤ) → Ends n w l h → least_end l h ≤ n
 least_le n w l h e = let a = e.low in let b = e.high in omega (arith, ints, one_part l, one_part h, a.low, a.high, b.low, b.high)
 
-pub up_far : (b : Box3) (q u : Place) (w : ℕ) → ArePoints b q → u.x ≡ q.x → u.y ≡ q.y → Ends up_amount w u.z.lo u.z.hi → least_end q.z.lo q.z.hi ≤ least_end u.z.lo u.z.hi + 3 → IsFarFromOrigin (6 * 10 ^ 12) (grid_box b) → square least_up ≤ least_sum u
+pub up_far : (b : Box3) (q u : Place) (w : ℕ) → ArePoints b q → u.x ≡ q.x → u.y ≡ q.y
+    → Ends up_amount w u.z.lo u.z.hi → least_end q.z.lo q.z.hi ≤ least_end u.z.lo u.z.hi + 3
+    → IsFarFromOrigin (6 * 10 ^ 12) (grid_box b) → square least_up ≤ least_sum u
 up_far b q u w p e f z h far = rw (e, f, p.x_low, p.x_high, p.y_low, p.y_high) (still_far (least_end b.lo.x b.hi.x) (least_end b.lo.y b.hi.y) (least_end b.lo.z b.hi.z) (least_end u.z.lo u.z.hi) (rw (sym p.z_low, sym p.z_high) h) (least_le up_amount w u.z.lo u.z.hi z) (box_far (6 * 10 ^ 12) b far))
 
-pub line_far : (n : ℕ) (b : Box3) (a q r : Place) → ArePoints b q → AreOffsets a q r → IsFarFromPlace n a (grid_box b) → square n ≤ least_sum r
+pub line_far : (n : ℕ) (b : Box3) (a q r : Place) → ArePoints b q → AreOffsets a q r
+    → IsFarFromPlace n a (grid_box b) → square n ≤ least_sum r
 line_far n b a q r p d far =
     let x = least_at r.x.lo r.x.hi r.x.ordered in
     let y = least_at r.y.lo r.y.hi r.y.ordered in
@@ -152,7 +166,8 @@ le_true a b h = grind arith
 pub through : (a b c : ℕ) → a ≤ b → b ≤ c → a ≤ c
 through a b c h k = omega arith
 
-pub place_holds : (b : Box3) (q : Place) (p : Pos) → ArePoints b q → box_holds (grid_box b) p ≡ true → HoldsPlace q p.x p.y p.z
+pub place_holds : (b : Box3) (q : Place) (p : Pos) → ArePoints b q → box_holds (grid_box b) p ≡ true
+    → HoldsPlace q p.x p.y p.z
 place_holds b q p a h =
     let i = in_box (grid_box b) p h in
     record {
@@ -161,12 +176,14 @@ place_holds b q p a h =
       z_held = axis_held b.lo.z b.hi.z q.z.lo q.z.hi p.z a.z_low a.z_high i.z.0 i.z.1;
     }
 
-pub offsets_hold : (a q r : Place) (x y z px py pz : ℤ) → AreOffsets a q r → HoldsPlace a x y z → HoldsPlace q px py pz → HoldsPlace r (x -ℤ px) (y -ℤ py) (z -ℤ pz)
+pub offsets_hold : (a q r : Place) (x y z px py pz : ℤ) → AreOffsets a q r → HoldsPlace a x y z
+    → HoldsPlace q px py pz → HoldsPlace r (x -ℤ px) (y -ℤ py) (z -ℤ pz)
 offsets_hold a q r x y z px py pz d h k = record {
   x_held = offset_held a.x.lo a.x.hi q.x.lo q.x.hi r.x.lo r.x.hi x px d.x_low d.x_high h.x_held k.x_held;
   y_held = offset_held a.y.lo a.y.hi q.y.lo q.y.hi r.y.lo r.y.hi y py d.y_low d.y_high h.y_held k.y_held;
   z_held = offset_held a.z.lo a.z.hi q.z.lo q.z.hi r.z.lo r.z.hi z pz d.z_low d.z_high h.z_held k.z_held;
 }
 
-pub place_far : (n : ℕ) (b : Box3) (q : Place) → ArePoints b q → IsFarFromOrigin n (grid_box b) → square n ≤ least_sum q
+pub place_far : (n : ℕ) (b : Box3) (q : Place) → ArePoints b q → IsFarFromOrigin n (grid_box b)
+    → square n ≤ least_sum q
 place_far n b q p f = rw (p.x_low, p.x_high, p.y_low, p.y_high, p.z_low, p.z_high) (box_far n b f)

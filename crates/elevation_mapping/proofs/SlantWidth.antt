@@ -36,7 +36,8 @@ layer_sine_whole a = omega arith
 root_of_more : (n a b : ℕ) → a ≤ b → root (n + square a) ≤ root (n + square b)
 root_of_more n a b h = root_mono (n + square a) (n + square b) _ _ (root_is (n + square a)) (root_is (n + square b)) (omega (arith, square-mono a b h))
 
-floor_square : (layer : Layer) → least_slant layer * least_slant layer + 2 * slant_amount + 1 ≤ layer_floor layer
+floor_square : (layer : Layer)
+    → least_slant layer * least_slant layer + 2 * slant_amount + 1 ≤ layer_floor layer
 floor_square Troposphere = lit≤ tt
 floor_square Ionosphere = lit≤ tt
 
@@ -60,23 +61,34 @@ pub layer_sine_le : (layer : Layer) (a : ℕ) → layer_sine layer a ≤ a
 layer_sine_le Troposphere a = omega arith
 layer_sine_le Ionosphere a = omega arith
 
-pub slant_room : (n b t : ℕ) → n ≤ 10 ^ 32 → b ≤ t → square t ≤ square sine_amount → n + b * b ≤ 10 ^ 32 + square sine_amount
+pub slant_room : (n b t : ℕ) → n ≤ 10 ^ 32 → b ≤ t → square t ≤ square sine_amount
+    → n + b * b ≤ 10 ^ 32 + square sine_amount
 slant_room n b t f h k = omega (arith, f, square-mono b t h, k)
 
 -- how far a part of a sine is spread, x and y being these parts of s and t
-layer_sine_step : (e s t x y : ℕ) → 67281363 * y ≤ 63781363 * t → 63781363 * s < 67281363 * (x + 1) → 63781363 * t < 67281363 * (y + 1) → unit * t ≤ unit * s + (e * (t + 109 * 10 ^ 14) + 10020 * unit) → unit * y ≤ unit * x + (e * (y + 110 * 10 ^ 14) + 10021 * unit)
+layer_sine_step : (e s t x y : ℕ) → 67281363 * y ≤ 63781363 * t → 63781363 * s < 67281363 * (x + 1)
+    → 63781363 * t < 67281363 * (y + 1)
+    → unit * t ≤ unit * s + (e * (t + 109 * 10 ^ 14) + 10020 * unit)
+    → unit * y ≤ unit * x + (e * (y + 110 * 10 ^ 14) + 10021 * unit)
 layer_sine_step e s t x y a b c h = let m = mul-le e (63781363 * t) e (67281363 * (y + 1)) (omega arith) (omega (arith, c)) in omega (arith, a, b, m, h)
 
-whole_step : (e s t x y : ℕ) → x ≡ s → y ≡ t → unit * t ≤ unit * s + (e * (t + 109 * 10 ^ 14) + 10020 * unit) → unit * y ≤ unit * x + (e * (y + 110 * 10 ^ 14) + 10021 * unit)
+whole_step : (e s t x y : ℕ) → x ≡ s → y ≡ t
+    → unit * t ≤ unit * s + (e * (t + 109 * 10 ^ 14) + 10020 * unit)
+    → unit * y ≤ unit * x + (e * (y + 110 * 10 ^ 14) + 10021 * unit)
 whole_step e s t x y a b h = rw (a, b) (omega (arith, h))
 
-layer_sine_spread : (layer : Layer) (e s t : ℕ) → unit * t ≤ unit * s + (e * (t + 109 * 10 ^ 14) + 10020 * unit) → unit * layer_sine layer t ≤ unit * layer_sine layer s + (e * (layer_sine layer t + 110 * 10 ^ 14) + 10021 * unit)
+layer_sine_spread : (layer : Layer) (e s t : ℕ)
+    → unit * t ≤ unit * s + (e * (t + 109 * 10 ^ 14) + 10020 * unit)
+    → unit * layer_sine layer t ≤ unit * layer_sine layer s + (e * (layer_sine layer t + 110 * 10 ^ 14) + 10021 * unit)
 layer_sine_spread Troposphere e s t h = whole_step e s t (layer_sine Troposphere s) (layer_sine Troposphere t) (layer_sine_whole s) (layer_sine_whole t) h
 layer_sine_spread Ionosphere e s t h = layer_sine_step e s t (layer_sine Ionosphere s) (layer_sine Ionosphere t) (omega arith) (omega arith) (omega arith) h
 
 -- ---- it is held
 
-pub slant_held : (layer : Layer) (lo hi a b s : ℤ) → a ≡ pos (root (layer_floor layer + square (layer_sine layer (least_end lo hi)))) → b ≡ pos (root (layer_floor layer + square (layer_sine layer (greatest_end lo hi)))) → Between lo hi s → Between a b (pos (slant_of layer s))
+pub slant_held : (layer : Layer) (lo hi a b s : ℤ)
+    → a ≡ pos (root (layer_floor layer + square (layer_sine layer (least_end lo hi))))
+    → b ≡ pos (root (layer_floor layer + square (layer_sine layer (greatest_end lo hi))))
+    → Between lo hi s → Between a b (pos (slant_of layer s))
 slant_held layer lo hi a b s e f h =
     let low : least_end lo hi ≤ nat_abs s = omega (arith, ints, h.from, h.to, one_part lo, one_part hi, one_part s) in
     let high : nat_abs s ≤ greatest_end lo hi = omega (arith, ints, h.from, h.to, one_part lo, one_part hi, one_part s) in
@@ -100,28 +112,35 @@ square_less a b x y h k =
     let i = mul-le (a + 1) (b + 1) (x * x) (y * y) (omega (arith, h)) (omega (arith, k)) in
     omega (arith, i)
 
-pub mixed_less : (n s t p q : ℕ) → n + s * s < (q + 1) * (q + 1) → n + t * t < (p + 1) * (p + 1) → n + s * t < (q + 1) * (p + 1)
+pub mixed_less : (n s t p q : ℕ) → n + s * s < (q + 1) * (q + 1) → n + t * t < (p + 1) * (p + 1)
+    → n + s * t < (q + 1) * (p + 1)
 mixed_less n s t p q h k =
     let a = mixed_square n s t in
     let b = square_less (n + s * s) (n + t * t) (q + 1) (p + 1) h k in
     root_less (n + s * t) ((q + 1) * (p + 1)) (omega (arith, a, b))
 
-gap : (n s t p q : ℕ) → n + s * s < (q + 1) * (q + 1) → n + t * t < (p + 1) * (p + 1) → p * p ≤ n + t * t → q ≤ p → p * p + s * t ≤ q * p + t * t + 2 * p
+gap : (n s t p q : ℕ) → n + s * s < (q + 1) * (q + 1) → n + t * t < (p + 1) * (p + 1)
+    → p * p ≤ n + t * t → q ≤ p → p * p + s * t ≤ q * p + t * t + 2 * p
 gap n s t p q h k i o = let m = mixed_less n s t p q h k in omega (arith, m, i, o)
 
-sine_square : (n l t p : ℕ) → l * l + 2 * slant_amount + 1 ≤ n → n + t * t < (p + 1) * (p + 1) → p ≤ slant_amount → t * t + l * l ≤ p * p
+sine_square : (n l t p : ℕ) → l * l + 2 * slant_amount + 1 ≤ n → n + t * t < (p + 1) * (p + 1)
+    → p ≤ slant_amount → t * t + l * l ≤ p * p
 sine_square n l t p f h k = omega (arith, f, h, k)
 
 -- the slope that is left of e, where slants are at least l
 abbrev pub slant_slope : ℕ → ℕ → ℕ
 slant_slope l e = (2 * l + 110 * 10 ^ 14) * e + 10025 * unit
 
-spread_times : (e s t p q : ℕ) → unit * t ≤ unit * s + (e * (t + 110 * 10 ^ 14) + 10021 * unit) → p * p + s * t ≤ q * p + t * t + 2 * p → unit * (p * p) ≤ unit * (q * p) + (e * (t * t) + (110 * 10 ^ 14 * e + 10021 * unit) * t) + 2 * unit * p
+spread_times : (e s t p q : ℕ) → unit * t ≤ unit * s + (e * (t + 110 * 10 ^ 14) + 10021 * unit)
+    → p * p + s * t ≤ q * p + t * t + 2 * p
+    → unit * (p * p) ≤ unit * (q * p) + (e * (t * t) + (110 * 10 ^ 14 * e + 10021 * unit) * t) + 2 * unit * p
 spread_times e s t p q h g =
     let a = mul-le t (unit * t) t (unit * s + (e * (t + 110 * 10 ^ 14) + 10021 * unit)) (omega arith) h in
     omega (arith, a, g)
 
-pub slants_spread : (l e s t p q : ℕ) → 1 ≤ p → t * t + l * l ≤ p * p → l ≤ p → unit * (p * p) ≤ unit * (q * p) + (e * (t * t) + (110 * 10 ^ 14 * e + 10021 * unit) * t) + 2 * unit * p → 2 * l * unit * p ≤ 2 * l * unit * q + slant_slope l e * p
+pub slants_spread : (l e s t p q : ℕ) → 1 ≤ p → t * t + l * l ≤ p * p → l ≤ p
+    → unit * (p * p) ≤ unit * (q * p) + (e * (t * t) + (110 * 10 ^ 14 * e + 10021 * unit) * t) + 2 * unit * p
+    → 2 * l * unit * p ≤ 2 * l * unit * q + slant_slope l e * p
 slants_spread l e s t p q o h k g =
     let c = 110 * 10 ^ 14 * e + 10021 * unit in
     let a = mul-le e (t * t) e (p * p) (omega arith) (omega (arith, h)) in
@@ -140,7 +159,9 @@ step k l z p q h i =
     let b = mul-le k q (l * p) q i (omega arith) in
     omega (arith, a, b)
 
-pub quotients_spread : (n f k l z p q : ℕ) → 1 ≤ p → n ≤ q → 2 * n * unit * p ≤ 2 * n * unit * q + f * p → (l + z) * q ≤ k → k ≤ l * p → 2 * n * unit * n * z ≤ k * f
+pub quotients_spread : (n f k l z p q : ℕ) → 1 ≤ p → n ≤ q
+    → 2 * n * unit * p ≤ 2 * n * unit * q + f * p → (l + z) * q ≤ k → k ≤ l * p
+    → 2 * n * unit * n * z ≤ k * f
 quotients_spread n f k l z p q o c g h i =
     let a = step k l z p q h i in
     let a' = mul-le (2 * n * unit) (z * q * p + k * q) (2 * n * unit) (k * p) (omega arith) a in
@@ -150,13 +171,16 @@ quotients_spread n f k l z p q o c g h i =
     let e' = mul-le (2 * n * unit) (z * n) (2 * n * unit) (z * q) (omega arith) e in
     omega (arith, d, e')
 
-last_width : (layer : Layer) (d z : ℕ) → 2 * least_slant layer * unit * least_slant layer * z ≤ mapped_one layer * slant_slope (least_slant layer) (sine_slope d) → z + 4 ≤ 10 ^ 11 + 10 ^ 16 * d / layer_room layer
+last_width : (layer : Layer) (d z : ℕ)
+    → 2 * least_slant layer * unit * least_slant layer * z ≤ mapped_one layer * slant_slope (least_slant layer) (sine_slope d)
+    → z + 4 ≤ 10 ^ 11 + 10 ^ 16 * d / layer_room layer
 last_width Troposphere d z h = omega (arith, h)
 last_width Ionosphere d z h = omega (arith, h)
 
 -- ---- the ends of the result
 
-low_quotient : (l y p : ℤ) (k r : ℕ) → 1 ≤ k → pos k ≤ℤ (l *ℤ y) → y ≤ℤ p → p ≡ pos r → pos 0 <ℤ y → (k ≤ up l * r) × (l ≡ pos (up l))
+low_quotient : (l y p : ℤ) (k r : ℕ) → 1 ≤ k → pos k ≤ℤ (l *ℤ y) → y ≤ℤ p → p ≡ pos r → pos 0 <ℤ y
+    → (k ≤ up l * r) × (l ≡ pos (up l))
 low_quotient (pos n) y p k r o h i e j =
     let a : (y *ℤ pos n) ≤ℤ (p *ℤ pos n) = mul_mono y p (pos n) i (omega (arith, ints)) in
     (omega (arith, ints, a, h, e, *ℤ_comm (pos n) y, ap (λ (z : ℤ). z *ℤ pos n) e), refl)
@@ -173,10 +197,12 @@ high_quotient (negsuc n) y q k r i j e = omega (arith, ints)
 same : (u x : ℤ) → Between u u x → x ≡ u
 same u x b = omega (arith, ints, b.from, b.to)
 
-pub slant_fits : (layer : Layer) (n p : ℕ) → IsRoot n p → n ≤ layer_floor layer + square sine_amount → p ≤ slant_amount
+pub slant_fits : (layer : Layer) (n p : ℕ) → IsRoot n p → n ≤ layer_floor layer + square sine_amount
+    → p ≤ slant_amount
 slant_fits layer n p r h = let f = floor_most layer in grind (arith, square-mono (slant_amount + 1) p, r.square_le, h, f)
 
-ends_width : (l h : ℤ) (z t : ℕ) → (l +ℤ pos 2) ≡ pos (up (l +ℤ pos 2)) → up (h -ℤ pos 2) ≤ up (l +ℤ pos 2) + z → z + 4 ≤ t → (h -ℤ l) ≤ℤ pos t
+ends_width : (l h : ℤ) (z t : ℕ) → (l +ℤ pos 2) ≡ pos (up (l +ℤ pos 2))
+    → up (h -ℤ pos 2) ≤ up (l +ℤ pos 2) + z → z + 4 ≤ t → (h -ℤ l) ≤ℤ pos t
 ends_width l h z t e i j = omega (arith, ints, e, i, j, one_part (h -ℤ pos 2), one_part h, one_part l)
 
 restored : (l m q k : ℕ) → l + (m - l) ≡ m → m * q ≤ k → (l + (m - l)) * q ≤ k
@@ -189,7 +215,11 @@ root_above : (n c s q : ℕ) → c * c + 2 * slant_amount + 1 ≤ n → IsRoot (
 root_above n c s q f r = grind (arith, square-mono (q + 1) c, r.next_square_gt, f)
 
 -- all as natural numbers, s and t being parts of sines
-natural_width : (layer : Layer) (d s t p q l m : ℕ) → IsRoot (layer_floor layer + s * s) q → IsRoot (layer_floor layer + t * t) p → s ≤ t → p ≤ slant_amount → unit * t ≤ unit * s + (sine_slope d * (t + 110 * 10 ^ 14) + 10021 * unit) → m * q ≤ mapped_one layer → mapped_one layer ≤ l * p → (m - l) + 4 ≤ 10 ^ 11 + 10 ^ 16 * d / layer_room layer
+natural_width : (layer : Layer) (d s t p q l m : ℕ) → IsRoot (layer_floor layer + s * s) q
+    → IsRoot (layer_floor layer + t * t) p → s ≤ t → p ≤ slant_amount
+    → unit * t ≤ unit * s + (sine_slope d * (t + 110 * 10 ^ 14) + 10021 * unit)
+    → m * q ≤ mapped_one layer → mapped_one layer ≤ l * p
+    → (m - l) + 4 ≤ 10 ^ 11 + 10 ^ 16 * d / layer_room layer
 natural_width layer d s t p q l m rq rp o fp h i j =
     let n = layer_floor layer in
     let c = least_slant layer in
@@ -205,7 +235,13 @@ natural_width layer d s t p q l m rq rp o fp h i j =
       | inr not_less ↦ no_width (m - l) (10 ^ 16 * d / layer_room layer) (omega arith)
     ]
 
-pub mapped_spread : (layer : Layer) (d : ℕ) (sl sh a b l h : ℤ) → Ends sine_amount (2 * sine_amount) sl sh → greatest_end sl sh * unit ≤ least_end sl sh * unit + (sine_slope d * (greatest_end sl sh + 109 * 10 ^ 14) + 10020 * unit) → a ≡ pos (root (layer_floor layer + square (layer_sine layer (least_end sl sh)))) → b ≡ pos (root (layer_floor layer + square (layer_sine layer (greatest_end sl sh)))) → IsTightQuotient (pos unit) (pos unit) a b (pos (layer_scale layer * 10 ^ 13)) l h → (h -ℤ l) ≤ℤ pos (10 ^ 11 + 10 ^ 16 * d / layer_room layer)
+pub mapped_spread : (layer : Layer) (d : ℕ) (sl sh a b l h : ℤ)
+    → Ends sine_amount (2 * sine_amount) sl sh
+    → greatest_end sl sh * unit ≤ least_end sl sh * unit + (sine_slope d * (greatest_end sl sh + 109 * 10 ^ 14) + 10020 * unit)
+    → a ≡ pos (root (layer_floor layer + square (layer_sine layer (least_end sl sh))))
+    → b ≡ pos (root (layer_floor layer + square (layer_sine layer (greatest_end sl sh))))
+    → IsTightQuotient (pos unit) (pos unit) a b (pos (layer_scale layer * 10 ^ 13)) l h
+    → (h -ℤ l) ≤ℤ pos (10 ^ 11 + 10 ^ 16 * d / layer_room layer)
 mapped_spread layer d sl sh a b l h e n ea eb t =
     let f = layer_floor layer in
     let c = layer_scale layer * 10 ^ 13 in

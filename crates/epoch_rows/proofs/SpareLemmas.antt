@@ -15,6 +15,7 @@ use Rattle.gnss_model.specs.declared.delays.Layer.{Layer}
 use Rattle.gnss_model.specs.declared.delays.Layer.TheVariants.{Troposphere, Ionosphere}
 use Rattle.grid_model.specs.declared.spans.Span.{Span}
 use Rattle.grid_model.proofs.AmountLemmas.{above_is}
+use Rattle.grid_model.proofs.PlainLemmas.{amount_at_most}
 
 side_le : (lo hi : ℤ) → lo ≤ℤ hi → IsBoxSize lo → IsBoxSize hi → above hi lo ≤ 20000000000000
 side_le lo hi ordered low high = omega (arith, ints, above_is hi lo, low.low, high.high)
@@ -31,9 +32,6 @@ spare_le root = omega (arith, longest_le root)
 
 -- ---- the ends of the error
 
-amount_le : (n : ℕ) (z : ℤ) → IsWithin n z → nat_abs z ≤ n
-amount_le n z within = omega (arith, ints, within.low, within.high)
-
 spread_le : (layer : Layer) (n amount d : ℕ) → amount ≤ n → d ≤ 2 * 10 ^ 13
     → spare_over layer amount d ≤ spare_over layer n (2 * 10 ^ 13)
 spread_le Troposphere n amount d few short = let less = mul-le amount d n (2 * 10 ^ 13) few short in omega (arith, less)
@@ -43,7 +41,7 @@ delay_spare_le : (layer : Layer) (n : ℕ) (root : Box3) (delay : Option Span) �
     → delay_spare layer (grid_box root) delay ≤ spare_over layer n (2 * 10 ^ 13)
 delay_spare_le layer n root None within = omega arith
 delay_spare_le layer n root (Some s) within =
-    spread_le layer n (span_amount s) (longest_length (grid_box root)) (omega (arith, amount_le n s.lo (within.low s refl), amount_le n s.hi (within.high s refl))) (longest_le root)
+    spread_le layer n (span_amount s) (longest_length (grid_box root)) (omega (arith, amount_at_most n s.lo (within.low s refl), amount_at_most n s.hi (within.high s refl))) (longest_le root)
 
 pub err_spare_le : (root : Box3) (delays : Delays) → AreDelays delays
     → err_spare_of (grid_box root) delays ≤ greatest_err_spare

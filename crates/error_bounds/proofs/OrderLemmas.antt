@@ -8,6 +8,7 @@ use Rattle.gnss_model.specs.declared.satellites.Sat.{Sat}
 use Rattle.grid_model.specs.declared.spans.Span.{Span}
 use Rattle.error_bounds.specs.Reading.{AreListed}
 use Rattle.error_bounds.specs.Sizes.{IsDeclared, IsBefore, IsAscending}
+use Rattle.grid_model.proofs.PlainLemmas.{below_or_last}
 
 pub none_listed : (sat : Sat) → AreListed sat []
 none_listed sat = record {
@@ -25,15 +26,6 @@ pub listed_later : (system next n m : ℕ) (extra : List (Sat × Span)) → syst
     → AreListed (record { system = system; number = n }) extra
     → AreListed (record { system = next; number = m }) extra
 listed_later system next n m extra more fits l = record { declared = l.declared; ascending = l.ascending; below = λ k d within. omega (arith, more, fits, l.below k d within) }
-
-below_or_last : (j n : ℕ) → j < n + 1 → (j < n) ⊎ (j ≡ n)
-below_or_last zero zero h = inr refl
-below_or_last zero (suc n) h = inl (omega arith)
-below_or_last (suc j) zero h = absurd (omega (arith, h))
-below_or_last (suc j) (suc n) h = elim (below_or_last j n (omega (arith, h))) [
-  | inl less ↦ inl (omega (arith, less))
-  | inr same ↦ inr (omega (arith, same))
-]
 
 ascending_next : (old : List (Sat × Span)) (x : Sat × Span) → IsAscending old
     → All (λ e. IsBefore e.0 x.0) old → IsAscending (old ++ x ∷ [])

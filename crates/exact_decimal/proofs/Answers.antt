@@ -44,7 +44,8 @@ some_length xs h = grind arith
 
 -- ---- fixed fields
 
-fixed_text_is : (before text : List ℕ) (digits ten : ℤ) → AreBlanks before → fixed_text text ≡ number digits ten → IsFixed (before ++ text) digits ten
+fixed_text_is : (before text : List ℕ) (digits ten : ℤ) → AreBlanks before
+    → fixed_text text ≡ number digits ten → IsFixed (before ++ text) digits ten
 fixed_text_is before text digits ten blanks e = elim (cases_Bool (has_digits (whole_at text) (fraction_at text) && is_blank_text (behind_mantissa text))) [
   | inl fits ↦
       let parts = both _ _ fits in
@@ -64,7 +65,8 @@ fixed_text_is before text digits ten blanks e = elim (cases_Bool (has_digits (wh
   | inr misfits ↦ absurd (error_is_no_number digits ten (rw misfits at e))
 ]
 
-fixed_is : (field : List ℕ) (digits ten : ℤ) → fixed_of field ≡ number digits ten → IsFixed field digits ten
+fixed_is : (field : List ℕ) (digits ten : ℤ) → fixed_of field ≡ number digits ten
+    → IsFixed field digits ten
 fixed_is field digits ten e = elim (cases_Bool (is_blank_text field)) [
   | inl blank ↦ absurd (none_is_no_number digits ten (rw blank at e))
   | inr some ↦ subst (λ (l : List ℕ). IsFixed l digits ten) (sym (front_and_behind is_blank field))
@@ -72,16 +74,19 @@ fixed_is field digits ten e = elim (cases_Bool (is_blank_text field)) [
 ]
 
 -- the text behind the blanks at the front
-pub behind_is : (field before text : List ℕ) → AreBlanks before → Stops is_blank text → field ≡ before ++ text → behind is_blank field ≡ text
+pub behind_is : (field before text : List ℕ) → AreBlanks before → Stops is_blank text
+    → field ≡ before ++ text → behind is_blank field ≡ text
 behind_is field before text blanks stops e = rw e ((cut_at is_blank before text blanks stops).behind)
 
-is_fixed : (field : List ℕ) (digits ten : ℤ) → IsFixed field digits ten → fixed_of field ≡ number digits ten
+is_fixed : (field : List ℕ) (digits ten : ℤ) → IsFixed field digits ten
+    → fixed_of field ≡ number digits ten
 is_fixed field digits ten f =
     let at = mantissa_at f.mantissa digits f.decimals f.after f.is_mantissa (blanks_end f.after f.blanks_after) in
     let text = behind_is field f.before (f.mantissa ++ f.after) f.blanks_before at.not_blank f.spelled in
     rw (text, some_length (f.mantissa ++ f.after) at.some, at.has, at.rest_is, blank_to f.after f.blanks_after, at.digits_are, at.decimals_are, f.power) refl
 
-pub fixed_answer : (field : List ℕ) (digits ten : ℤ) → (fixed_of field ≡ number digits ten) ↔ IsFixed field digits ten
+pub fixed_answer : (field : List ℕ) (digits ten : ℤ)
+    → (fixed_of field ≡ number digits ten) ↔ IsFixed field digits ten
 fixed_answer field digits ten = (fixed_is field digits ten, is_fixed field digits ten)
 
 number_is_not_none : (digits ten : ℤ) → number digits ten ≡ Ok None → ⊥
@@ -110,8 +115,11 @@ fixed_blank field = (
 
 -- ---- exponent fields
 
-with_exponent_is : (before text : List ℕ) (digits ten exponent : ℤ) (rest : List ℕ) → AreBlanks before → has_digits (whole_at text) (fraction_at text) ≡ true
-    → exponent_of (behind_mantissa text) ≡ found exponent rest → with_exponent text (found exponent rest) ≡ number digits ten → IsFloating (before ++ text) digits ten
+with_exponent_is : (before text : List ℕ) (digits ten exponent : ℤ) (rest : List ℕ)
+    → AreBlanks before → has_digits (whole_at text) (fraction_at text) ≡ true
+    → exponent_of (behind_mantissa text) ≡ found exponent rest
+    → with_exponent text (found exponent rest) ≡ number digits ten
+    → IsFloating (before ++ text) digits ten
 with_exponent_is before text digits ten exponent rest blanks has is e = elim (cases_Bool (is_blank_text rest)) [
   | inl ended ↦
       let cut = mantissa_cut text has in
@@ -134,12 +142,15 @@ with_exponent_is before text digits ten exponent rest blanks has is e = elim (ca
   | inr more ↦ absurd (error_is_no_number digits ten (rw more at e))
 ]
 
-floating_text_is : (before text : List ℕ) (digits ten : ℤ) (end : Option (ℤ × List ℕ)) → AreBlanks before → has_digits (whole_at text) (fraction_at text) ≡ true
-    → exponent_of (behind_mantissa text) ≡ end → with_exponent text end ≡ number digits ten → IsFloating (before ++ text) digits ten
+floating_text_is : (before text : List ℕ) (digits ten : ℤ) (end : Option (ℤ × List ℕ))
+    → AreBlanks before → has_digits (whole_at text) (fraction_at text) ≡ true
+    → exponent_of (behind_mantissa text) ≡ end → with_exponent text end ≡ number digits ten
+    → IsFloating (before ++ text) digits ten
 floating_text_is before text digits ten None blanks has is e = absurd (error_is_no_number digits ten e)
 floating_text_is before text digits ten (Some (exponent, rest)) blanks has is e = with_exponent_is before text digits ten exponent rest blanks has is e
 
-floating_is : (field : List ℕ) (digits ten : ℤ) → floating_of field ≡ number digits ten → IsFloating field digits ten
+floating_is : (field : List ℕ) (digits ten : ℤ) → floating_of field ≡ number digits ten
+    → IsFloating field digits ten
 floating_is field digits ten e = elim (cases_Bool (is_blank_text field)) [
   | inl blank ↦ absurd (none_is_no_number digits ten (rw blank at e))
   | inr some ↦ elim (cases_Bool (has_digits (whole_at (behind is_blank field)) (fraction_at (behind is_blank field)))) [
@@ -149,17 +160,20 @@ floating_is field digits ten e = elim (cases_Bool (is_blank_text field)) [
   ]
 ]
 
-is_floating : (field : List ℕ) (digits ten : ℤ) → IsFloating field digits ten → floating_of field ≡ number digits ten
+is_floating : (field : List ℕ) (digits ten : ℤ) → IsFloating field digits ten
+    → floating_of field ≡ number digits ten
 is_floating field digits ten f =
     let at = mantissa_at f.mantissa digits f.decimals (f.letters ++ f.after) f.is_mantissa (exponent_ends f.letters f.exponent f.after f.may_be_exponent f.blanks_after) in
     let text = behind_is field f.before (f.mantissa ++ (f.letters ++ f.after)) f.blanks_before at.not_blank f.spelled in
     let letters = exponent_at f.letters f.exponent f.after f.may_be_exponent f.blanks_after in
     rw (text, some_length (f.mantissa ++ (f.letters ++ f.after)) at.some, at.has, at.rest_is, letters, blank_to f.after f.blanks_after, at.digits_are, at.decimals_are, f.power) refl
 
-pub floating_answer : (field : List ℕ) (digits ten : ℤ) → (floating_of field ≡ number digits ten) ↔ IsFloating field digits ten
+pub floating_answer : (field : List ℕ) (digits ten : ℤ)
+    → (floating_of field ≡ number digits ten) ↔ IsFloating field digits ten
 floating_answer field digits ten = (floating_is field digits ten, is_floating field digits ten)
 
-with_exponent_is_not_none : (text : List ℕ) (end : Option (ℤ × List ℕ)) → with_exponent text end ≡ Ok None → ⊥
+with_exponent_is_not_none : (text : List ℕ) (end : Option (ℤ × List ℕ))
+    → with_exponent text end ≡ Ok None → ⊥
 with_exponent_is_not_none text None e = error_is_not_none e
 with_exponent_is_not_none text (Some (exponent, rest)) e = elim (cases_Bool (is_blank_text rest)) [
   | inl ended ↦ number_is_not_none (digits_at text) (exponent -ℤ pos (length (fraction_at text))) (rw ended at e)

@@ -15,7 +15,8 @@ use Rattle.exact_decimal.proofs.Digits.{after_below}
 use Rattle.exact_decimal.proofs.Runs.{Stops, cut_at, passes_front, front_and_behind, head_passes}
 use Rattle.exact_decimal.proofs.Mantissas.{digit_is_not_blank as digit_no_blank}
 
-count_text_is : (before text : List ℕ) (n : ℕ) → AreBlanks before → count_text text ≡ Some n → IsCount (before ++ text) n
+count_text_is : (before text : List ℕ) (n : ℕ) → AreBlanks before → count_text text ≡ Some n
+    → IsCount (before ++ text) n
 count_text_is before text n blanks e = elim (cases_Bool (nat_lt 0 (length (front is_ascii_digit text)))) [
   | inl some ↦ elim (cases_Bool (is_blank_text (behind is_ascii_digit text))) [
     | inl ended ↦
@@ -41,7 +42,8 @@ count_is field n e =
     subst (λ (l : List ℕ). IsCount l n) (sym (front_and_behind is_blank field))
     (count_text_is (front is_blank field) (behind is_blank field) n (passes_front is_blank field) e)
 
-digits_stop : (digits after : List ℕ) → 0 < length digits → AreDigits digits → Stops is_blank (digits ++ after)
+digits_stop : (digits after : List ℕ) → 0 < length digits → AreDigits digits
+    → Stops is_blank (digits ++ after)
 digits_stop [] after some digits = absurd (omega arith)
 digits_stop (byte ∷ more) after some digits = digit_no_blank byte (head_passes is_ascii_digit byte more digits)
 
@@ -65,6 +67,7 @@ count_below field n c =
     let most : 0 + length c.digits ≤ length field = omega arith in
     omega (arith, c.value, after_below 0 0 c.digits c.are_digits (omega arith), pow-le-pow_right {n = 10} (omega arith) most)
 
-pub count_bound : (field : List ℕ) (read : Option ℕ) → read ≡ count_of field → IfSome read (λ n. n < 10 ^ length field)
+pub count_bound : (field : List ℕ) (read : Option ℕ) → read ≡ count_of field
+    → IfSome read (λ n. n < 10 ^ length field)
 count_bound field None e = tt
 count_bound field (Some n) e = count_below field n (count_is field n (sym e))

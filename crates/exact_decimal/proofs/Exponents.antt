@@ -24,11 +24,13 @@ found exponent rest = let both : ℤ × List ℕ = (exponent, rest) in Some both
 some_same : (a b : ℤ) (xs ys : List ℕ) → found a xs ≡ found b ys → (a ≡ b) × (xs ≡ ys)
 some_same a b xs ys e = let pair : ◌≡◌ {A = ℤ × List ℕ} (a, xs) (b, ys) = cc in (ap (λ (p : ℤ × List ℕ). p.0) pair, ap (λ (p : ℤ × List ℕ). p.1) pair)
 
-none_left : (byte : ℕ) (bytes : List ℕ) (exponent : ℤ) (rest : List ℕ) → found (pos 0) (byte ∷ bytes) ≡ found exponent rest → ExponentCut (byte ∷ bytes) exponent rest
+none_left : (byte : ℕ) (bytes : List ℕ) (exponent : ℤ) (rest : List ℕ)
+    → found (pos 0) (byte ∷ bytes) ≡ found exponent rest → ExponentCut (byte ∷ bytes) exponent rest
 none_left byte bytes exponent rest e =
     let (same, all) = some_same (pos 0) exponent (byte ∷ bytes) rest e in record { letters = []; parts = all; may_be = inl (refl, sym same) }
 
-counted : (digits : List ℕ) → nat_lt 0 (length digits) && nat_le (length digits) 2 ≡ true → (0 < length digits) × (length digits ≤ 2)
+counted : (digits : List ℕ) → nat_lt 0 (length digits) && nat_le (length digits) 2 ≡ true
+    → (0 < length digits) × (length digits ≤ 2)
 counted digits h = (grind arith, grind arith)
 
 letter_left : (byte : ℕ) (bytes : List ℕ) (exponent : ℤ) (rest : List ℕ) → is_exponent_letter byte ≡ true → exponent_behind bytes ≡ found exponent rest
@@ -62,7 +64,8 @@ letter_left byte bytes exponent rest letter e =
       | inr many ↦ absurd (let none : None ≡ found exponent rest = rw many at e in cc)
     ]
 
-pub exponent_cut : (text : List ℕ) (exponent : ℤ) (rest : List ℕ) → exponent_of text ≡ found exponent rest → ExponentCut text exponent rest
+pub exponent_cut : (text : List ℕ) (exponent : ℤ) (rest : List ℕ)
+    → exponent_of text ≡ found exponent rest → ExponentCut text exponent rest
 exponent_cut [] exponent rest e =
     let (same, all) = some_same (pos 0) exponent [] rest e in record { letters = []; parts = all; may_be = inl (refl, sym same) }
 exponent_cut (byte ∷ bytes) exponent rest e = elim (cases_Bool (is_exponent_letter byte)) [
@@ -72,7 +75,8 @@ exponent_cut (byte ∷ bytes) exponent rest e = elim (cases_Bool (is_exponent_le
 
 -- ---- an exponent is cut off
 
-blank_ends : (byte : ℕ) → is_blank byte ≡ true → (is_ascii_digit byte ≡ false) × ((byte == 46) ≡ false) × (is_exponent_letter byte ≡ false)
+blank_ends : (byte : ℕ) → is_blank byte ≡ true
+    → (is_ascii_digit byte ≡ false) × ((byte == 46) ≡ false) × (is_exponent_letter byte ≡ false)
 blank_ends byte h = (grind arith, grind arith, grind arith)
 
 letter_ends : (byte : ℕ) → is_exponent_letter byte ≡ true → (is_ascii_digit byte ≡ false) × ((byte == 46) ≡ false)
@@ -82,7 +86,8 @@ pub blanks_end : (after : List ℕ) → AreBlanks after → EndsNumber after
 blanks_end [] blanks = tt
 blanks_end (byte ∷ bytes) blanks = let ends = blank_ends byte (head_passes is_blank byte bytes blanks) in (ends.0, ends.1)
 
-pub exponent_ends : (letters : List ℕ) (exponent : ℤ) (after : List ℕ) → MayBeExponent letters exponent → AreBlanks after → EndsNumber (letters ++ after)
+pub exponent_ends : (letters : List ℕ) (exponent : ℤ) (after : List ℕ)
+    → MayBeExponent letters exponent → AreBlanks after → EndsNumber (letters ++ after)
 exponent_ends letters exponent after may blanks = elim may [
   | inl (none, zero) ↦ subst (λ (l : List ℕ). EndsNumber (l ++ after)) (sym none) (blanks_end after blanks)
   | inr is ↦ subst (λ (l : List ℕ). EndsNumber (l ++ after)) (sym is.spelled) (letter_ends is.letter is.is_letter)
@@ -96,14 +101,17 @@ pub blanks_no_digit : (after : List ℕ) → AreBlanks after → Stops is_ascii_
 blanks_no_digit [] blanks = tt
 blanks_no_digit (byte ∷ bytes) blanks = (blank_ends byte (head_passes is_blank byte bytes blanks)).0
 
-digits_no_sign : (digits after : List ℕ) → AreDigits digits → 0 < length digits → NoSign (digits ++ after)
+digits_no_sign : (digits after : List ℕ) → AreDigits digits → 0 < length digits
+    → NoSign (digits ++ after)
 digits_no_sign [] after all some = absurd (omega arith)
 digits_no_sign (byte ∷ bytes) after all some = digit_is_no_sign byte (head_passes is_ascii_digit byte bytes all)
 
-count_passes : (digits : List ℕ) → 0 < length digits → length digits ≤ 2 → nat_lt 0 (length digits) && nat_le (length digits) 2 ≡ true
+count_passes : (digits : List ℕ) → 0 < length digits → length digits ≤ 2
+    → nat_lt 0 (length digits) && nat_le (length digits) 2 ≡ true
 count_passes digits h k = grind arith
 
-behind_letter : (sign digits after : List ℕ) (negative : Bool) → IsSign sign negative → AreDigits digits → 0 < length digits → length digits ≤ 2 → AreBlanks after
+behind_letter : (sign digits after : List ℕ) (negative : Bool) → IsSign sign negative
+    → AreDigits digits → 0 < length digits → length digits ≤ 2 → AreBlanks after
     → exponent_behind ((sign ++ digits) ++ after) ≡ found (signed negative (digits_value 10 digits)) (after)
 behind_letter sign digits after negative is_sign are_digits some at_most blanks =
     let at_sign = sign_at sign negative (digits ++ after) is_sign (digits_no_sign digits after are_digits some) in
@@ -115,7 +123,9 @@ letter_at : (letter : ℕ) (text after : List ℕ) (exponent : ℤ) → is_expon
     → exponent_of (letter ∷ text) ≡ found exponent after
 letter_at letter text after exponent h e = rw h e
 
-pub exponent_at : (letters : List ℕ) (exponent : ℤ) (after : List ℕ) → MayBeExponent letters exponent → AreBlanks after → exponent_of (letters ++ after) ≡ found exponent after
+pub exponent_at : (letters : List ℕ) (exponent : ℤ) (after : List ℕ)
+    → MayBeExponent letters exponent → AreBlanks after
+    → exponent_of (letters ++ after) ≡ found exponent after
 exponent_at letters exponent after may blanks = elim may [
   | inl (none, zero) ↦ rw (none, zero) (none_at after blanks)
   | inr is ↦ rw (is.spelled, is.value)

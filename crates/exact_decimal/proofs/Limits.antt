@@ -10,11 +10,10 @@ use Rattle.exact_decimal.specs.declared.unit.Unit.{Unit}
 use borrow.Author.Differences.{down}
 use Rattle.exact_decimal.specs.Units.{bound_of, shift_of, numerator, denominator, PassesBound, LiesBetween}
 use Rattle.exact_decimal.proofs.Units.{power_some}
+use Rattle.grid_model.proofs.PlainLemmas.{one_times}
 
-one_times : (d : ℤ) → pos 1 *ℤ d ≡ d
-one_times d = omega (arith, ints)
-
-pub below_floor : (num den low q : ℤ) → pos 0 <ℤ den → IsFloor num den q → (low ≤ℤ q) ↔ ((low *ℤ den) ≤ℤ num)
+pub below_floor : (num den low q : ℤ) → pos 0 <ℤ den → IsFloor num den q
+    → (low ≤ℤ q) ↔ ((low *ℤ den) ≤ℤ num)
 below_floor num den low q some f = (
   λ h. le_z_trans _ _ _ (mul_mono low q den h (omega (arith, ints))) f.le,
   λ h.
@@ -23,7 +22,8 @@ below_floor num den low q some f = (
       omega (arith, ints, less),
 )
 
-pub above_ceiling : (num den high q : ℤ) → pos 0 <ℤ den → IsCeiling num den q → (q ≤ℤ high) ↔ (num ≤ℤ (high *ℤ den))
+pub above_ceiling : (num den high q : ℤ) → pos 0 <ℤ den → IsCeiling num den q
+    → (q ≤ℤ high) ↔ (num ≤ℤ (high *ℤ den))
 above_ceiling num den high q some c = (
   λ h. le_z_trans _ _ _ c.ge (mul_mono q high den h (omega (arith, ints))),
   λ h.
@@ -39,7 +39,8 @@ amount_low : (n : ℕ) (z : ℤ) → neg_ℤ (pos n) ≤ℤ z → z ≤ℤ pos n
 amount_low n z low high = omega (arith, ints)
 
 -- what passes the unit's bound lies between no ends that don't
-pub passes_none : (digits ten : ℤ) (unit : Unit) (low high : ℤ) → IsWithin (bound_of unit) low → IsWithin (bound_of unit) high
+pub passes_none : (digits ten : ℤ) (unit : Unit) (low high : ℤ) → IsWithin (bound_of unit) low
+    → IsWithin (bound_of unit) high
     → PassesBound digits ten unit → LiesBetween digits ten unit low high → ⊥
 passes_none digits ten unit low high l h passes lies =
     let den = pos (denominator ten unit) in

@@ -25,12 +25,14 @@ fraction_digits_of (byte ∷ bytes) = elim (cases_Bool (byte == 46)) [
   | inr no_point ↦ rw no_point (λ k d within. absurd (omega arith))
 ]
 
-joined : (text sign unsigned whole tail pointed rest : List ℕ) → text ≡ sign ++ unsigned → unsigned ≡ whole ++ tail → tail ≡ pointed ++ rest
+joined : (text sign unsigned whole tail pointed rest : List ℕ) → text ≡ sign ++ unsigned
+    → unsigned ≡ whole ++ tail → tail ≡ pointed ++ rest
     → text ≡ (sign ++ (whole ++ pointed)) ++ rest
 joined text sign unsigned whole tail pointed rest e f g =
     rw (e, f, g, append_assoc sign (whole ++ pointed) rest, append_assoc whole pointed rest) refl
 
-pub mantissa_cut : (text : List ℕ) → has_digits (whole_at text) (fraction_at text) ≡ true → MantissaCut text
+pub mantissa_cut : (text : List ℕ) → has_digits (whole_at text) (fraction_at text) ≡ true
+    → MantissaCut text
 mantissa_cut text h =
     let sign = signs.sign_cut text in
     let point = signs.fraction_cut (behind is_ascii_digit (behind_sign text)) in
@@ -67,7 +69,8 @@ pub record MantissaAt (mantissa : List ℕ) (digits : ℤ) (decimals : ℕ) (tai
   pub some : 0 < length (mantissa ++ tail)
 
 -- what is no digit behind the whole digits
-pub ends_whole : (pointed fraction tail : List ℕ) → IsFraction pointed fraction → EndsNumber tail → Stops is_ascii_digit (pointed ++ tail)
+pub ends_whole : (pointed fraction tail : List ℕ) → IsFraction pointed fraction → EndsNumber tail
+    → Stops is_ascii_digit (pointed ++ tail)
 ends_whole pointed fraction tail is ends = elim is [
   | inl (none, empty) ↦ subst (λ (p : List ℕ). Stops is_ascii_digit (p ++ tail)) (sym none) (no_digit tail ends)
   | inr point ↦ subst (λ (p : List ℕ). Stops is_ascii_digit (p ++ tail)) (sym point) refl
@@ -76,7 +79,8 @@ ends_whole pointed fraction tail is ends = elim is [
 pub other_byte : (a b : ℕ) → b < a → (a == b) ≡ false
 other_byte a b h = grind arith
 
-pub digit_is_no_sign : (byte : ℕ) → is_ascii_digit byte ≡ true → ((byte == 45) ≡ false) × ((byte == 43) ≡ false)
+pub digit_is_no_sign : (byte : ℕ) → is_ascii_digit byte ≡ true
+    → ((byte == 45) ≡ false) × ((byte == 43) ≡ false)
 digit_is_no_sign byte h = let is = digit_byte byte h in (other_byte byte 45 (omega (arith, is.low)), other_byte byte 43 (omega (arith, is.low)))
 
 pub digit_is_not_blank : (byte : ℕ) → is_ascii_digit byte ≡ true → is_blank byte ≡ false
@@ -88,7 +92,8 @@ pub record Begins (text : List ℕ) : Type 0 where
   pub not_blank : Stops is_blank text
   pub some : 0 < length text
 
-begins : (whole pointed fraction tail : List ℕ) → AreDigits whole → IsFraction pointed fraction → 0 < length whole + length fraction → Begins (whole ++ (pointed ++ tail))
+begins : (whole pointed fraction tail : List ℕ) → AreDigits whole → IsFraction pointed fraction
+    → 0 < length whole + length fraction → Begins (whole ++ (pointed ++ tail))
 begins (byte ∷ bytes) pointed fraction tail digits is some =
     let digit = head_passes is_ascii_digit byte bytes digits in
     record { no_sign = digit_is_no_sign byte digit; not_blank = digit_is_not_blank byte digit; some = omega arith }
@@ -97,7 +102,8 @@ begins [] pointed fraction tail digits is some = elim is [
   | inr point ↦ subst (λ (p : List ℕ). Begins (p ++ tail)) (sym point) (record { no_sign = (refl, refl); not_blank = refl; some = omega arith })
 ]
 
-signed_begins : (sign rest : List ℕ) (negative : Bool) → IsSign sign negative → Begins rest → Stops is_blank (sign ++ rest)
+signed_begins : (sign rest : List ℕ) (negative : Bool) → IsSign sign negative → Begins rest
+    → Stops is_blank (sign ++ rest)
 signed_begins sign rest true is b = subst (λ (s : List ℕ). Stops is_blank (s ++ rest)) (sym is) refl
 signed_begins sign rest false is b = elim is [
   | inl e ↦ subst (λ (s : List ℕ). Stops is_blank (s ++ rest)) (sym e) b.not_blank
@@ -105,7 +111,8 @@ signed_begins sign rest false is b = elim is [
 ]
 
 -- what the cuts leave of a sign, whole digits, a point with digits, and a tail
-cut_mantissa : (sign whole pointed fraction tail : List ℕ) (negative : Bool) → IsSign sign negative → AreDigits whole → AreDigits fraction
+cut_mantissa : (sign whole pointed fraction tail : List ℕ) (negative : Bool) → IsSign sign negative
+    → AreDigits whole → AreDigits fraction
     → IsFraction pointed fraction → AreFew whole fraction → EndsNumber tail
     → MantissaAt (sign ++ (whole ++ pointed)) (signed negative (digits_value 10 (whole ++ fraction))) (length fraction) tail
 cut_mantissa sign whole pointed fraction tail negative is_sign whole_digits fraction_digits is_fraction few ends =
@@ -129,7 +136,9 @@ cut_mantissa sign whole pointed fraction tail negative is_sign whole_digits frac
       some = rw text (omega (arith, start.some, length-append sign (whole ++ (pointed ++ tail))));
     }
 
-pub mantissa_at : (mantissa : List ℕ) (digits : ℤ) (decimals : ℕ) (tail : List ℕ) → IsMantissa mantissa digits decimals → EndsNumber tail → MantissaAt mantissa digits decimals tail
+pub mantissa_at : (mantissa : List ℕ) (digits : ℤ) (decimals : ℕ) (tail : List ℕ)
+    → IsMantissa mantissa digits decimals → EndsNumber tail
+    → MantissaAt mantissa digits decimals tail
 mantissa_at mantissa digits decimals tail m ends =
     let cut = cut_mantissa m.sign m.whole m.pointed m.fraction tail m.negative m.is_sign m.whole_digits m.fraction_digits m.is_fraction
     (record { some = m.some; at_most = m.at_most }) ends in

@@ -11,7 +11,8 @@ passes_front p text k d within =
     let inside : k < prefix_len p text = omega (arith, within, length-prefix_len p text) in
     ap p (get_or-take (prefix_len p text) text k d inside) ∙ prefix_len_passes p text k d inside
 
-pub front_passes : (p : ℕ → Bool) (text taken : List ℕ) (n : ℕ) → n ≡ prefix_len p text → taken ≡ take n text → AllPass p taken
+pub front_passes : (p : ℕ → Bool) (text taken : List ℕ) (n : ℕ) → n ≡ prefix_len p text
+    → taken ≡ take n text → AllPass p taken
 front_passes p text taken n e f = subst (AllPass p) (sym (f ∙ ap (λ m. take m text) e)) (passes_front p text)
 
 pub front_and_behind : (p : ℕ → Bool) (text : List ℕ) → text ≡ front p text ++ behind p text

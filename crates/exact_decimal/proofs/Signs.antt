@@ -40,7 +40,8 @@ none_at : (rest : List ℕ) → NoSign rest → SignAt [] false rest
 none_at [] none = record { minus = refl; rest_is = refl }
 none_at (byte ∷ bytes) none = record { minus = none.0; rest_is = rw (none.0, none.1) refl }
 
-pub sign_at : (sign : List ℕ) (negative : Bool) (rest : List ℕ) → IsSign sign negative → NoSign rest → SignAt sign negative rest
+pub sign_at : (sign : List ℕ) (negative : Bool) (rest : List ℕ) → IsSign sign negative → NoSign rest
+    → SignAt sign negative rest
 sign_at sign true rest is none =
     subst (λ (s : List ℕ). SignAt s true rest) (sym is) (record { minus = refl; rest_is = refl })
 sign_at sign false rest is none = elim is [
@@ -83,7 +84,8 @@ no_point_at : (tail : List ℕ) → EndsNumber tail → FractionAt [] [] tail
 no_point_at [] ends = record { digits_are = refl; rest_is = refl }
 no_point_at (byte ∷ bytes) ends = record { digits_are = rw ends.1 refl; rest_is = rw ends.1 refl }
 
-pub fraction_at : (pointed fraction tail : List ℕ) → IsFraction pointed fraction → AreDigits fraction → EndsNumber tail → FractionAt pointed fraction tail
+pub fraction_at : (pointed fraction tail : List ℕ) → IsFraction pointed fraction
+    → AreDigits fraction → EndsNumber tail → FractionAt pointed fraction tail
 fraction_at pointed fraction tail is digits ends = elim is [
   | inl (none, empty) ↦
       subst (λ (f : List ℕ). FractionAt pointed f tail) (sym empty) (subst (λ (p : List ℕ). FractionAt p [] tail) (sym none) (no_point_at tail ends))

@@ -17,14 +17,16 @@ pub power_some : (k : ℕ) → 0 < 10 ^ k
 power_some k = omega (arith, one-le-pow k 10 (omega arith))
 
 -- a number that isn't 0 passes each bound up to 10 ^ 19 at a higher power
-pub passes_high : (amount power bound : ℕ) → 0 < amount → 19 < power → bound ≤ 10 ^ 19 → bound * 1 < amount * 10 ^ power
+pub passes_high : (amount power bound : ℕ) → 0 < amount → 19 < power → bound ≤ 10 ^ 19
+    → bound * 1 < amount * 10 ^ power
 passes_high amount power bound some high small =
     let more : 10 ^ 20 ≤ 10 ^ power = powers 20 power (omega arith) in
     let at_least = mul-le 1 (10 ^ 20) amount (10 ^ power) (omega arith) more in
     omega (arith, at_least)
 
 -- an amount of 63 bits is less than one such power
-pub within_high : (amount power bound : ℕ) → amount ≤ 2 ^ 63 → 19 ≤ power → 10 ^ 15 ≤ bound → (amount < 10 ^ power) × (amount ≤ bound * 10 ^ power)
+pub within_high : (amount power bound : ℕ) → amount ≤ 2 ^ 63 → 19 ≤ power → 10 ^ 15 ≤ bound
+    → (amount < 10 ^ power) × (amount ≤ bound * 10 ^ power)
 within_high amount power bound small high large =
     let more : 10 ^ 19 ≤ 10 ^ power = powers 19 power high in
     let at_least = mul-le 1 (10 ^ 19) bound (10 ^ power) (omega arith) more in
@@ -40,7 +42,8 @@ negated : (n : ℕ) → unsigned_abs (neg_ℤ (pos n)) ≡ n
 negated zero = refl
 negated (suc n) = refl
 
-pub times_signed : (digits : ℤ) (scale : ℕ) → unsigned_abs (digits *ℤ pos scale) ≡ unsigned_abs digits * scale
+pub times_signed : (digits : ℤ) (scale : ℕ)
+    → unsigned_abs (digits *ℤ pos scale) ≡ unsigned_abs digits * scale
 times_signed (pos n) scale = refl
 times_signed (negsuc n) scale = negated (suc n * scale)
 
@@ -48,13 +51,15 @@ pub record SignedEnds (num : ℤ) (den : ℕ) (low high : ℤ) : Type 0 where
   pub floor : IsFloor num (pos den) low
   pub ceiling : IsCeiling num (pos den) high
 
-plus_ends : (num den floor ceiling : ℕ) → IsRounded num den floor ceiling → SignedEnds (pos num) den (pos floor) (pos ceiling)
+plus_ends : (num den floor ceiling : ℕ) → IsRounded num den floor ceiling
+    → SignedEnds (pos num) den (pos floor) (pos ceiling)
 plus_ends num den floor ceiling r = record {
   floor = record { le = omega (arith, ints, r.floor_le); gt = omega (arith, ints, r.floor_gt) };
   ceiling = record { ge = omega (arith, ints, r.ceiling_ge); lt = omega (arith, ints, r.ceiling_lt) };
 }
 
-minus_ends : (num den floor ceiling : ℕ) → IsRounded num den floor ceiling → SignedEnds (neg_ℤ (pos num)) den (neg_ℤ (pos ceiling)) (neg_ℤ (pos floor))
+minus_ends : (num den floor ceiling : ℕ) → IsRounded num den floor ceiling
+    → SignedEnds (neg_ℤ (pos num)) den (neg_ℤ (pos ceiling)) (neg_ℤ (pos floor))
 minus_ends num den floor ceiling r =
     let below = neg_mul (pos ceiling) (pos den) in
     let above = neg_mul (pos floor) (pos den) in
@@ -64,8 +69,10 @@ minus_ends num den floor ceiling r =
     }
 
 -- the ends of a fraction with a sign
-pub signed_ends : (digits low high : ℤ) (scale den floor ceiling : ℕ) (negative : Bool) → negative ≡ lt_z digits (pos 0)
-    → IsRounded (unsigned_abs digits * scale) den floor ceiling → low ≡ low_of negative floor ceiling → high ≡ high_of negative floor ceiling
+pub signed_ends : (digits low high : ℤ) (scale den floor ceiling : ℕ) (negative : Bool)
+    → negative ≡ lt_z digits (pos 0)
+    → IsRounded (unsigned_abs digits * scale) den floor ceiling
+    → low ≡ low_of negative floor ceiling → high ≡ high_of negative floor ceiling
     → SignedEnds (digits *ℤ pos scale) den low high
 signed_ends (pos n) low high scale den floor ceiling negative sign r e f =
     let plus : negative ≡ false = grind (arith, ints) in
@@ -75,5 +82,6 @@ signed_ends (negsuc n) low high scale den floor ceiling negative sign r e f =
     rw (e, f, minus) (minus_ends (suc n * scale) den floor ceiling r)
 
 -- an amount within a bound doesn't pass it
-pub not_both : (bound den : ℕ) (digits : ℤ) (scale : ℕ) → unsigned_abs digits * scale ≤ bound * den → bound * den < unsigned_abs (digits *ℤ pos scale) → ⊥
+pub not_both : (bound den : ℕ) (digits : ℤ) (scale : ℕ) → unsigned_abs digits * scale ≤ bound * den
+    → bound * den < unsigned_abs (digits *ℤ pos scale) → ⊥
 not_both bound den digits scale h k = omega (arith, times_signed digits scale)

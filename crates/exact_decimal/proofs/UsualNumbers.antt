@@ -1,4 +1,4 @@
--- A number field of the usual form: a blank or a minus sign, a digit, a point, twelve digits, and a letter, a sign and two digits.
+-- A number field of the usual form: a blank or a minus sign, a digit, a point, twelve digits, and a letter, a sign and two digits; or without the digit in front of the point.
 use Rattle.std.proofs.Common.{◌≡◌, ℕ, zero, suc, ◌+◌, ◌-◌, ◌*◌, ◌%◌, ◌^◌, ◌<◌, ◌≤◌, Bool, true, false, List, [], ◌∷◌, ◌++◌, length, get_or, take, drop, arith, refl, sym, ap, ◌∙◌, inl, inr}
 use Rattle.std.specs.Prelude.{ℤ, pos, ◌-ℤ◌, slice_range}
 use Rattle.std.specs.List.{prefix_len}
@@ -8,14 +8,15 @@ use Rattle.std.proofs.lemmas.List.{append-nil, take-append-drop}
 use Rattle.std.specs.Char.{is_ascii_digit, digit_value}
 use Rattle.std.specs.Str.Parse.{digits_value, digits_value_after}
 use Rattle.exact_decimal.specs.NumberFields.{is_exponent_letter, AreBlanks, AreDigits, IsSign, IsMantissa, IsExponent, IsFloating, signed}
-use Rattle.exact_decimal.specs.Parts.{Begins}
+use Rattle.exact_decimal.specs.Parts.{Begins, Opens}
 use Rattle.exact_decimal.proofs.Digits.{digit_byte, after_below}
 use Rattle.exact_decimal.proofs.Runs.{front_passes}
 use Rattle.grid_model.proofs.ListLemmas.{all_dropped}
 
 -- ---- twelve digits
 
-after_is : (n : ℕ) (digits : List ℕ) → digits_value_after 10 n digits ≡ n * 10 ^ length digits + digits_value 10 digits
+after_is : (n : ℕ) (digits : List ℕ)
+    → digits_value_after 10 n digits ≡ n * 10 ^ length digits + digits_value 10 digits
 after_is n [] = omega arith
 after_is n (c ∷ cs) =
     let a = after_is (n * 10 + digit_value c) cs in
@@ -28,8 +29,10 @@ pub record AreTwelve (text : List ℕ) (before number : ℕ) : Type 0 where
   pub value : number ≡ digits_value_after 10 before text
   pub bound : number < 10 ^ 13
 
-pub are_twelve : (text : List ℕ) (before end number : ℕ) → length text ≡ 12 → before ≤ 9 → end ≡ prefix_len is_ascii_digit text → end ≡ 12
-    → number ≡ (before * 10 ^ (end - 0) + digits_value 10 (slice_range text 0 end)) % 2 ^ 64 → AreTwelve text before number
+pub are_twelve : (text : List ℕ) (before end number : ℕ) → length text ≡ 12 → before ≤ 9
+    → end ≡ prefix_len is_ascii_digit text → end ≡ 12
+    → number ≡ (before * 10 ^ (end - 0) + digits_value 10 (slice_range text 0 end)) % 2 ^ 64
+    → AreTwelve text before number
 are_twelve text before end number long few run whole e =
     let all : take 12 text ≡ text = rw (sym long) (take-length text) in
     let digits : AreDigits text = front_passes is_ascii_digit text text 12 (sym whole ∙ run) (sym all) in
@@ -49,7 +52,8 @@ digits_more c cs here all (suc k) d within = all k d (omega arith)
 no_digits : AreDigits []
 no_digits k d within = absurd (omega arith)
 
-four_bytes : (text : List ℕ) → length text ≡ 4 → text ≡ get_or text 0 0 ∷ get_or text 1 0 ∷ get_or text 2 0 ∷ get_or text 3 0 ∷ []
+four_bytes : (text : List ℕ) → length text ≡ 4
+    → text ≡ get_or text 0 0 ∷ get_or text 1 0 ∷ get_or text 2 0 ∷ get_or text 3 0 ∷ []
 four_bytes [] long = absurd (omega arith)
 four_bytes (a ∷ []) long = absurd (omega arith)
 four_bytes (a ∷ b ∷ []) long = absurd (omega arith)
@@ -57,9 +61,12 @@ four_bytes (a ∷ b ∷ c ∷ []) long = absurd (omega arith)
 four_bytes (a ∷ b ∷ c ∷ d ∷ []) long = refl
 four_bytes (a ∷ b ∷ c ∷ d ∷ e ∷ more) long = absurd (omega arith)
 
-pub exponent_is : (text : List ℕ) (number : ℕ) (negative : Bool) (exponent : ℤ) → length text ≡ 4 → is_exponent_letter (get_or text 0 0) ≡ true
-    → IsSign (get_or text 1 0 ∷ []) negative → is_ascii_digit (get_or text 2 0) ≡ true → is_ascii_digit (get_or text 3 0) ≡ true
-    → number ≡ (get_or text 2 0 - 48) * 10 + (get_or text 3 0 - 48) → exponent ≡ signed negative number → IsExponent text exponent
+pub exponent_is : (text : List ℕ) (number : ℕ) (negative : Bool) (exponent : ℤ) → length text ≡ 4
+    → is_exponent_letter (get_or text 0 0) ≡ true
+    → IsSign (get_or text 1 0 ∷ []) negative → is_ascii_digit (get_or text 2 0) ≡ true
+    → is_ascii_digit (get_or text 3 0) ≡ true
+    → number ≡ (get_or text 2 0 - 48) * 10 + (get_or text 3 0 - 48)
+    → exponent ≡ signed negative number → IsExponent text exponent
 exponent_is text number negative exponent long letter sign tens ones e value =
     let a = digit_byte (get_or text 2 0) tens in
     let b = digit_byte (get_or text 3 0) ones in
@@ -80,31 +87,35 @@ exponent_is text number negative exponent long letter sign tens ones e value =
 
 -- ---- fields
 
-three_bytes : (text : List ℕ) → 3 ≤ length text → text ≡ get_or text 0 0 ∷ get_or text 1 0 ∷ get_or text 2 0 ∷ drop 3 text
+three_bytes : (text : List ℕ) → 3 ≤ length text
+    → text ≡ get_or text 0 0 ∷ get_or text 1 0 ∷ get_or text 2 0 ∷ drop 3 text
 three_bytes [] long = absurd (omega arith)
 three_bytes (a ∷ []) long = absurd (omega arith)
 three_bytes (a ∷ b ∷ []) long = absurd (omega arith)
 three_bytes (a ∷ b ∷ c ∷ more) long = refl
 
 -- what stands behind the point, cut behind twelve bytes
-pub parts_join : (text fraction letters : List ℕ) → fraction ≡ take 12 (take (length text - 3) (drop 3 text)) → letters ≡ drop 12 (take (length text - 3) (drop 3 text))
+pub parts_join : (text fraction letters : List ℕ)
+    → fraction ≡ take 12 (take (length text - 3) (drop 3 text))
+    → letters ≡ drop 12 (take (length text - 3) (drop 3 text))
     → drop 3 text ≡ fraction ++ letters
 parts_join text fraction letters e f = sym (rw (e, f, all_dropped text 3) (take-append-drop 12 (drop 3 text)))
 
 -- what stands in a field of the usual form
-pub record IsUsual (field fraction letters : List ℕ) (negative : Bool) (amount : ℕ) (exponent : ℤ) : Type 0 where
+pub record IsUsual (field fraction letters : List ℕ) (negative : Bool) (before amount : ℕ) (exponent : ℤ) : Type 0 where
   pub long : 3 ≤ length field
-  pub begins : Begins negative (get_or field 0 0)
-  pub whole : is_ascii_digit (get_or field 1 0) ≡ true
+  pub opens : Opens (get_or field 0 0) (get_or field 1 0) negative before
   pub point : get_or field 2 0 ≡ 46
   pub rest : drop 3 field ≡ fraction ++ letters
   pub digits : AreDigits fraction
   pub twelve : length fraction ≡ 12
-  pub value : amount ≡ digits_value_after 10 (get_or field 1 0 - 48) fraction
+  pub value : amount ≡ digits_value_after 10 before fraction
   pub exponent_is : IsExponent letters exponent
 
-usual_mantissa : (sign fraction : List ℕ) (whole amount : ℕ) (negative : Bool) → IsSign sign negative → is_ascii_digit whole ≡ true → AreDigits fraction
-    → length fraction ≡ 12 → amount ≡ digits_value_after 10 (whole - 48) fraction → IsMantissa (sign ++ (whole ∷ 46 ∷ fraction)) (signed negative amount) 12
+usual_mantissa : (sign fraction : List ℕ) (whole amount : ℕ) (negative : Bool)
+    → IsSign sign negative → is_ascii_digit whole ≡ true → AreDigits fraction
+    → length fraction ≡ 12 → amount ≡ digits_value_after 10 (whole - 48) fraction
+    → IsMantissa (sign ++ (whole ∷ 46 ∷ fraction)) (signed negative amount) 12
 usual_mantissa sign fraction whole amount negative is_sign digit digits twelve e =
     let byte = digit_byte whole digit in
     let first : whole - 48 ≡ 0 * 10 + digit_value whole = omega (arith, byte.value) in
@@ -125,6 +136,28 @@ usual_mantissa sign fraction whole amount negative is_sign digit digits twelve e
       places = sym twelve;
     }
 
+-- with no digit in front of the point
+bare_mantissa : (sign fraction : List ℕ) (amount : ℕ) (negative : Bool) → IsSign sign negative
+    → AreDigits fraction → length fraction ≡ 12
+    → amount ≡ digits_value_after 10 0 fraction
+    → IsMantissa (sign ++ (46 ∷ fraction)) (signed negative amount) 12
+bare_mantissa sign fraction amount negative is_sign digits twelve e = record {
+  sign = sign;
+  negative = negative;
+  is_sign = is_sign;
+  whole = [];
+  whole_digits = no_digits;
+  fraction = fraction;
+  fraction_digits = digits;
+  pointed = 46 ∷ fraction;
+  is_fraction = inr refl;
+  spelled = refl;
+  some = omega (arith, twelve);
+  at_most = omega (arith, twelve);
+  value = ap (λ (n : ℕ). signed negative n) e;
+  places = sym twelve;
+}
+
 one_blank : AreBlanks (32 ∷ [])
 one_blank zero d within = refl
 one_blank (suc k) d within = absurd (omega arith)
@@ -132,38 +165,95 @@ one_blank (suc k) d within = absurd (omega arith)
 no_blanks : AreBlanks []
 no_blanks k d within = absurd (omega arith)
 
-spelled : (field fraction letters : List ℕ) (first : ℕ) → 3 ≤ length field → get_or field 0 0 ≡ first → get_or field 2 0 ≡ 46 → drop 3 field ≡ fraction ++ letters
+two_blanks : AreBlanks (32 ∷ 32 ∷ [])
+two_blanks zero d within = refl
+two_blanks (suc zero) d within = refl
+two_blanks (suc (suc k)) d within = absurd (omega arith)
+
+spelled : (field fraction letters : List ℕ) (first : ℕ) → 3 ≤ length field
+    → get_or field 0 0 ≡ first → get_or field 2 0 ≡ 46 → drop 3 field ≡ fraction ++ letters
     → field ≡ first ∷ get_or field 1 0 ∷ 46 ∷ (fraction ++ (letters ++ []))
 spelled field fraction letters first long begins point rest =
     three_bytes field long ∙ rw (begins, point, rest, append-nil letters) refl
 
-pub usual_is : (field fraction letters : List ℕ) (negative : Bool) (amount : ℕ) (exponent digits ten : ℤ) → IsUsual field fraction letters negative amount exponent
+-- a digit in front of the point
+with_digit : (field fraction letters : List ℕ) (negative : Bool) (before amount : ℕ) (exponent digits ten : ℤ)
+    → IsUsual field fraction letters negative before amount exponent
+    → Begins negative (get_or field 0 0) → is_ascii_digit (get_or field 1 0) ≡ true
+    → before ≡ get_or field 1 0 - 48
     → digits ≡ signed negative amount → ten ≡ exponent -ℤ pos 12 → IsFloating field digits ten
-usual_is field fraction letters false amount exponent digits ten u value power = record {
+with_digit field fraction letters false before amount exponent digits ten u begins whole is value power = record {
   before = 32 ∷ [];
   blanks_before = one_blank;
   mantissa = get_or field 1 0 ∷ 46 ∷ fraction;
   decimals = 12;
-  is_mantissa = rw value (usual_mantissa [] fraction (get_or field 1 0) amount false (inl refl) u.whole u.digits u.twelve u.value);
+  is_mantissa = rw value (usual_mantissa [] fraction (get_or field 1 0) amount false (inl refl) whole u.digits u.twelve (rw is at u.value));
   letters = letters;
   exponent = exponent;
   may_be_exponent = inr u.exponent_is;
   after = [];
   blanks_after = no_blanks;
-  spelled = spelled field fraction letters 32 u.long u.begins u.point u.rest;
+  spelled = spelled field fraction letters 32 u.long begins u.point u.rest;
   power = power;
 }
-usual_is field fraction letters true amount exponent digits ten u value power = record {
+with_digit field fraction letters true before amount exponent digits ten u begins whole is value power = record {
   before = [];
   blanks_before = no_blanks;
   mantissa = 45 ∷ get_or field 1 0 ∷ 46 ∷ fraction;
   decimals = 12;
-  is_mantissa = rw value (usual_mantissa (45 ∷ []) fraction (get_or field 1 0) amount true refl u.whole u.digits u.twelve u.value);
+  is_mantissa = rw value (usual_mantissa (45 ∷ []) fraction (get_or field 1 0) amount true refl whole u.digits u.twelve (rw is at u.value));
   letters = letters;
   exponent = exponent;
   may_be_exponent = inr u.exponent_is;
   after = [];
   blanks_after = no_blanks;
-  spelled = spelled field fraction letters 45 u.long u.begins u.point u.rest;
+  spelled = spelled field fraction letters 45 u.long begins u.point u.rest;
   power = power;
 }
+
+spelled_bare : (field fraction letters : List ℕ) (second : ℕ) → 3 ≤ length field
+    → get_or field 0 0 ≡ 32 → get_or field 1 0 ≡ second → get_or field 2 0 ≡ 46
+    → drop 3 field ≡ fraction ++ letters → field ≡ 32 ∷ second ∷ 46 ∷ (fraction ++ (letters ++ []))
+spelled_bare field fraction letters second long blank begins point rest =
+    spelled field fraction letters 32 long blank point rest ∙ ap (λ byte. 32 ∷ byte ∷ 46 ∷ (fraction ++ (letters ++ []))) begins
+
+without_digit : (field fraction letters : List ℕ) (negative : Bool) (before amount : ℕ) (exponent digits ten : ℤ)
+    → IsUsual field fraction letters negative before amount exponent
+    → get_or field 0 0 ≡ 32 → Begins negative (get_or field 1 0) → before ≡ 0
+    → digits ≡ signed negative amount → ten ≡ exponent -ℤ pos 12 → IsFloating field digits ten
+without_digit field fraction letters false before amount exponent digits ten u blank begins none value power = record {
+  before = 32 ∷ 32 ∷ [];
+  blanks_before = two_blanks;
+  mantissa = 46 ∷ fraction;
+  decimals = 12;
+  is_mantissa = rw value (bare_mantissa [] fraction amount false (inl refl) u.digits u.twelve (rw none at u.value));
+  letters = letters;
+  exponent = exponent;
+  may_be_exponent = inr u.exponent_is;
+  after = [];
+  blanks_after = no_blanks;
+  spelled = spelled_bare field fraction letters 32 u.long blank begins u.point u.rest;
+  power = power;
+}
+without_digit field fraction letters true before amount exponent digits ten u blank begins none value power = record {
+  before = 32 ∷ [];
+  blanks_before = one_blank;
+  mantissa = 45 ∷ 46 ∷ fraction;
+  decimals = 12;
+  is_mantissa = rw value (bare_mantissa (45 ∷ []) fraction amount true refl u.digits u.twelve (rw none at u.value));
+  letters = letters;
+  exponent = exponent;
+  may_be_exponent = inr u.exponent_is;
+  after = [];
+  blanks_after = no_blanks;
+  spelled = spelled_bare field fraction letters 45 u.long blank begins u.point u.rest;
+  power = power;
+}
+
+pub usual_is : (field fraction letters : List ℕ) (negative : Bool) (before amount : ℕ) (exponent digits ten : ℤ)
+    → IsUsual field fraction letters negative before amount exponent
+    → digits ≡ signed negative amount → ten ≡ exponent -ℤ pos 12 → IsFloating field digits ten
+usual_is field fraction letters negative before amount exponent digits ten u value power = elim u.opens [
+  | inl x ↦ with_digit field fraction letters negative before amount exponent digits ten u x.0 x.1 x.2 value power
+  | inr y ↦ without_digit field fraction letters negative before amount exponent digits ten u y.0 y.1 y.2 value power
+]

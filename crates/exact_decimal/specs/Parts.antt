@@ -1,5 +1,6 @@
 -- How a reader cuts a number field, from left to right. No public clause cites this.
-use Rattle.std.specs.Prelude.{◌≡◌, ℕ, ◌+◌, ℤ, pos, neg_ℤ, ◌-ℤ◌, Bool, true, false, ◌||◌, ◌&&◌, ◌==◌}
+use Rattle.std.specs.Prelude.{◌≡◌, ℕ, ◌+◌, ◌-◌, ◌⊎◌, ℤ, pos, neg_ℤ, ◌-ℤ◌, Bool, true, false}
+use Rattle.std.specs.Prelude.{◌||◌, ◌&&◌, ◌==◌}
 use Rattle.std.specs.Prelude.{nat_lt, nat_le, cond, List, [], ◌∷◌, ◌++◌, length, take, drop, Option}
 use Rattle.std.specs.Prelude.{None, Some, Result, Ok, Err}
 use Rattle.std.specs.Char.{is_ascii_digit}
@@ -70,6 +71,13 @@ exponent_of (byte ∷ bytes) =
 abbrev pub Begins : Bool → ℕ → Type 0
 Begins false byte = byte ≡ 32
 Begins true byte = byte ≡ 45
+
+-- the two bytes in front of its point: its digit behind such a byte, or none, which stands for 0,
+-- behind a blank and such a byte
+abbrev pub Opens : ℕ → ℕ → Bool → ℕ → Type 0
+Opens first second negative whole =
+    (Begins negative first × (is_ascii_digit second ≡ true) × (whole ≡ second - 48))
+    ⊎ ((first ≡ 32) × Begins negative second × (whole ≡ 0))
 
 -- ---- the answers
 

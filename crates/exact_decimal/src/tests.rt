@@ -30,8 +30,10 @@ fn fixed_fields_are_read(rt: HostRuntime) -> Result<(), Fail> {
 
 #[test]
 fn exponent_fields_are_read(rt: HostRuntime) -> Result<(), Fail> {
-    let table: [(&[u8], i64, i8); 7] = [
+    let table: [(&[u8], i64, i8); 9] = [
         (b"-0.123456789012D-03", -123_456_789_012, -15),
+        (b" -.942564574329D+00", -942_564_574_329, -12),
+        (b"  .580000000000D+02", 580_000_000_000, -10),
         (b" 0.123456789012d+03", 123_456_789_012, -9),
         (b"1.5E2", 15, 1),
         (b"1e-99 ", 1, -99),

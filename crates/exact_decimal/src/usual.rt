@@ -6,7 +6,7 @@ ghost use Rattle.std.specs.Str.Parse.{digits_value_after};
 ghost use Rattle.grid_model.specs.Sizes.{IsWithin};
 ghost use Rattle.exact_decimal.specs.NumberFields.{is_exponent_letter, AreDigits, IsSign};
 ghost use Rattle.exact_decimal.specs.NumberFields.{IsExponent, IsFloating};
-ghost use Rattle.exact_decimal.specs.Parts.{Begins};
+ghost use Rattle.exact_decimal.specs.Parts.{Begins, Opens};
 
 use crate::decimal::Decimal;
 use crate::parts::{signed_by, small};
@@ -91,20 +91,37 @@ fn first_sign(byte: u8) -> Option<bool>
     }
 }
 
+/// Whether a number is negative that begins with these two bytes in front of its point, and its
+/// digit there, which some writers leave out where it is 0.
+#[inline]
+fn opening(first: u8, second: u8) -> Option<(bool, u8)>
+    ensures opens { IfSome result (λ opening. Opens first second opening.0 opening.1) }
+    ensures bound { IfSome result (λ opening. opening.1 ≤ 9) }
+{
+    if let Some(whole) = digit(second) {
+        let negative = first_sign(first)?;
+        return Some((negative, whole));
+    }
+    if first != b' ' {
+        return None;
+    }
+    let negative = first_sign(second)?;
+    Some((negative, 0))
+}
+
 /// The number of a blank or a minus sign, a digit, a point, twelve digits, a letter, a sign and two
-/// digits. None where the field has another form.
+/// digits, or without the digit in front of the point. None where the field has another form.
 pub fn usual_number(field: &[u8]) -> Option<Decimal>
     ensures { IfSome result (λ number. IsFloating field.now number.digits number.ten) }
 {
-    let [first, whole, point, rest @ ..] = field else {
+    let [first, second, point, rest @ ..] = field else {
         return None;
     };
     if *point != b'.' || rest.len() != 16 {
         return None;
     }
     let (fraction, letters) = rest.split_at(12);
-    let negative = first_sign(*first)?;
-    let before = digit(*whole)?;
+    let (negative, before) = opening(*first, *second)?;
     let amount = twelve_digits(fraction, before)?;
     let exponent = usual_exponent(letters)?;
     Some(Decimal {

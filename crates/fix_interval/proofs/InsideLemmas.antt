@@ -24,7 +24,8 @@ record FirstAbove (num den q : ℤ) : Type 0 where
   near : Near num den q
   above : num <ℤ (q *ℤ den)
 
-above_floor : (n d f q : ℤ) → pos 0 <ℤ d → (q *ℤ d) ≡ (f *ℤ d) +ℤ d → IsFloor n d f → FirstAbove n d q
+above_floor : (n d f q : ℤ) → pos 0 <ℤ d → (q *ℤ d) ≡ (f *ℤ d) +ℤ d → IsFloor n d f
+    → FirstAbove n d q
 above_floor n d f q p e i = record { near = record { below = omega (arith, ints, i.le, i.gt); above = omega (arith, ints, i.le, i.gt) }; above = omega (arith, ints, i.gt) }
 
 first_above : (n d : ℤ) → pos 0 <ℤ d → (q : ℤ) × FirstAbove n d q
@@ -40,7 +41,8 @@ last_below n d p =
     let f = first_above (neg_ℤ n) d p in
     (neg_ℤ f.0, turned n d f.0 (neg_ℤ f.0) (neg_mul f.0 d) f.1)
 
-pub inside_of : (n d lo hi : ℤ) → pos 0 <ℤ d → ((v : ℤ) → Near n d v → Between lo hi v) → Inside n d lo hi
+pub inside_of : (n d lo hi : ℤ) → pos 0 <ℤ d → ((v : ℤ) → Near n d v → Between lo hi v)
+    → Inside n d lo hi
 inside_of n d lo hi p h =
     let a = last_below n d p in
     let b = first_above n d p in
@@ -59,14 +61,17 @@ held n d lo hi v p i h =
     let y : v <ℤ (hi +ℤ pos 1) = mul_lt_back v (hi +ℤ pos 1) d p (omega (arith, ints, i.high, h.below, add_mul hi (pos 1) d)) in
     record { from = omega (arith, ints); to = omega (arith, ints) }
 
-pub sum_inside : (m n d a b a' b' : ℤ) → Inside m d a b → Inside n d a' b' → Inside (m +ℤ n) d (a +ℤ a') (b +ℤ b')
+pub sum_inside : (m n d a b a' b' : ℤ) → Inside m d a b → Inside n d a' b'
+    → Inside (m +ℤ n) d (a +ℤ a') (b +ℤ b')
 sum_inside m n d a b a' b' i j = record { low = omega (arith, ints, i.low, j.low, add_mul a a' d); high = omega (arith, ints, i.high, j.high, add_mul b b' d) }
 
-pub difference_inside : (m n d a b a' b' : ℤ) → Inside m d a b → Inside n d a' b' → Inside (m -ℤ n) d (a -ℤ b') (b -ℤ a')
+pub difference_inside : (m n d a b a' b' : ℤ) → Inside m d a b → Inside n d a' b'
+    → Inside (m -ℤ n) d (a -ℤ b') (b -ℤ a')
 difference_inside m n d a b a' b' i j = record { low = omega (arith, ints, i.low, j.high, less_mul a b' d); high = omega (arith, ints, i.high, j.low, less_mul b a' d) }
 
 -- a whole number of d more
-pub moved_inside : (m n d a b lo hi : ℤ) → pos 0 <ℤ d → Inside m d a b → Between lo hi n → Inside (m +ℤ (n *ℤ d)) d (a +ℤ lo) (b +ℤ hi)
+pub moved_inside : (m n d a b lo hi : ℤ) → pos 0 <ℤ d → Inside m d a b → Between lo hi n
+    → Inside (m +ℤ (n *ℤ d)) d (a +ℤ lo) (b +ℤ hi)
 moved_inside m n d a b lo hi p i h =
     let x : (lo *ℤ d) ≤ℤ (n *ℤ d) = mul_mono lo n d h.from (omega (arith, ints)) in
     let y : (n *ℤ d) ≤ℤ (hi *ℤ d) = mul_mono n hi d h.to (omega (arith, ints)) in
@@ -81,7 +86,9 @@ scaled_inside m d a b q p i =
     record { low = omega (arith, ints, add_mul (a *ℤ d) (pos 1) q, mul_assoc a d q); high = omega (arith, ints, add_mul m (pos 1) q, mul_assoc b d q) }
 
 -- m / q lies between lo and hi, and t and the product of y with either of these between a and b, over d
-pub mixed_sum : (t m q y d lo hi a b : ℤ) → pos 0 <ℤ q → Inside m q lo hi → Inside (t +ℤ (lo *ℤ y)) d a b → Inside (t +ℤ (hi *ℤ y)) d a b → Inside ((t *ℤ q) +ℤ (m *ℤ y)) (d *ℤ q) a b
+pub mixed_sum : (t m q y d lo hi a b : ℤ) → pos 0 <ℤ q → Inside m q lo hi
+    → Inside (t +ℤ (lo *ℤ y)) d a b → Inside (t +ℤ (hi *ℤ y)) d a b
+    → Inside ((t *ℤ q) +ℤ (m *ℤ y)) (d *ℤ q) a b
 mixed_sum t m q y d lo hi a b p i j k =
     let s = scaled_inside (t +ℤ (lo *ℤ y)) d a b q p j in
     let r = scaled_inside (t +ℤ (hi *ℤ y)) d a b q p k in
@@ -98,7 +105,9 @@ mixed_sum t m q y d lo hi a b p i j k =
     let v : (m *ℤ y) ≤ℤ ((hi *ℤ q) *ℤ y) = mul_mono m (hi *ℤ q) y (omega (arith, ints, i.high)) h in
     record { low = omega (arith, ints, s.low); high = omega (arith, ints, r.high) })
 
-pub mixed_difference : (t m q y d lo hi a b : ℤ) → pos 0 <ℤ q → Inside m q lo hi → Inside (t -ℤ (lo *ℤ y)) d a b → Inside (t -ℤ (hi *ℤ y)) d a b → Inside ((t *ℤ q) -ℤ (m *ℤ y)) (d *ℤ q) a b
+pub mixed_difference : (t m q y d lo hi a b : ℤ) → pos 0 <ℤ q → Inside m q lo hi
+    → Inside (t -ℤ (lo *ℤ y)) d a b → Inside (t -ℤ (hi *ℤ y)) d a b
+    → Inside ((t *ℤ q) -ℤ (m *ℤ y)) (d *ℤ q) a b
 mixed_difference t m q y d lo hi a b p i j k =
     let turn = λ (x : ℤ) (h : Inside (t -ℤ (x *ℤ y)) d a b). subst (λ (z : ℤ). Inside (t +ℤ z) d a b) (sym (mul_neg x y)) h in
     subst (λ (z : ℤ). Inside ((t *ℤ q) +ℤ z) (d *ℤ q) a b) (mul_neg m y) (mixed_sum t m q (neg_ℤ y) d lo hi a b p i (turn lo j) (turn hi k))

@@ -20,18 +20,21 @@ above_is a b = omega (arith, ints, up_or_down (a -ℤ b))
 pub apart_is : (p q : ℤ) → unsigned_abs (p -ℤ q) ≡ max (above p q) (above q p)
 apart_is p q = omega (arith, ints, abs_is (p -ℤ q), up_or_down (p -ℤ q), above_is p q, above_is q p)
 
-pub least_amount_le : (a b c d p q : ℤ) → a ≤ℤ p → p ≤ℤ b → c ≤ℤ q → q ≤ℤ d → least_amount a b c d ≤ unsigned_abs (p -ℤ q)
+pub least_amount_le : (a b c d p q : ℤ) → a ≤ℤ p → p ≤ℤ b → c ≤ℤ q → q ≤ℤ d
+    → least_amount a b c d ≤ unsigned_abs (p -ℤ q)
 least_amount_le a b c d p q h1 h2 h3 h4 =
     omega (arith, ints, apart_is p q, above_is p q, above_is q p, above_is a d, above_is c b)
 
-pub greatest_amount_ge : (a b c d p q : ℤ) → a ≤ℤ p → p ≤ℤ b → c ≤ℤ q → q ≤ℤ d → unsigned_abs (p -ℤ q) ≤ greatest_amount a b c d
+pub greatest_amount_ge : (a b c d p q : ℤ) → a ≤ℤ p → p ≤ℤ b → c ≤ℤ q → q ≤ℤ d
+    → unsigned_abs (p -ℤ q) ≤ greatest_amount a b c d
 greatest_amount_ge a b c d p q h1 h2 h3 h4 =
     omega (arith, ints, apart_is p q, above_is p q, above_is q p, above_is b c, above_is d a)
 
 at_least : (z : ℤ) → z ≤ℤ z
 at_least z = omega (arith, ints)
 
-pub least_le_greatest : (a b c d : ℤ) → a ≤ℤ b → c ≤ℤ d → least_amount a b c d ≤ greatest_amount a b c d
+pub least_le_greatest : (a b c d : ℤ) → a ≤ℤ b → c ≤ℤ d
+    → least_amount a b c d ≤ greatest_amount a b c d
 least_le_greatest a b c d h k =
     omega (
       arith,

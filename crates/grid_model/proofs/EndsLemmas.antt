@@ -12,10 +12,12 @@ use Rattle.grid_model.proofs.ProductLemmas.{mul_mono, mul_le_back, add_mul, neg_
 use Rattle.grid_model.proofs.IntervalLemmas.{member_within, members_within}
 use Rattle.grid_model.proofs.SpreadLemmas.{least_has, greatest_has, products_within, products_spread}
 
-pub sum_ends : (m v n w : ℕ) (a b c d : ℤ) → Ends m v a b → Ends n w c d → Ends (m + n) (v + w) (a +ℤ c) (b +ℤ d)
+pub sum_ends : (m v n w : ℕ) (a b c d : ℤ) → Ends m v a b → Ends n w c d
+    → Ends (m + n) (v + w) (a +ℤ c) (b +ℤ d)
 sum_ends m v n w a b c d e f = record { order = omega (arith, ints); low = record { low = omega (arith, ints); high = omega (arith, ints) }; high = record { low = omega (arith, ints); high = omega (arith, ints) }; width = omega (arith, ints) }
 
-pub difference_ends : (m v n w : ℕ) (a b c d : ℤ) → Ends m v a b → Ends n w c d → Ends (m + n) (v + w) (a -ℤ d) (b -ℤ c)
+pub difference_ends : (m v n w : ℕ) (a b c d : ℤ) → Ends m v a b → Ends n w c d
+    → Ends (m + n) (v + w) (a -ℤ d) (b -ℤ c)
 difference_ends m v n w a b c d e f = record { order = omega (arith, ints); low = record { low = omega (arith, ints); high = omega (arith, ints) }; high = record { low = omega (arith, ints); high = omega (arith, ints) }; width = omega (arith, ints) }
 
 pub wider_ends : (m n v w : ℕ) (a b : ℤ) → m ≤ n → v ≤ w → Ends m v a b → Ends n w a b
@@ -23,36 +25,47 @@ wider_ends m n v w a b h k e = record { order = e.order; low = record { low = om
 
 -- ---- a rounded fraction
 
-below_end : (n l d : ℤ) (k : ℕ) → pos 0 <ℤ d → neg_ℤ (pos k *ℤ d) ≤ℤ n → n ≤ℤ ((l +ℤ pos 2) *ℤ d) → neg_ℤ (pos (k + 2)) ≤ℤ l
+below_end : (n l d : ℤ) (k : ℕ) → pos 0 <ℤ d → neg_ℤ (pos k *ℤ d) ≤ℤ n → n ≤ℤ ((l +ℤ pos 2) *ℤ d)
+    → neg_ℤ (pos (k + 2)) ≤ℤ l
 below_end n l d k p h t =
     let x : neg_ℤ (pos k) ≤ℤ (l +ℤ pos 2) = mul_le_back (neg_ℤ (pos k)) (l +ℤ pos 2) d p (rw (neg_mul (pos k) d) (omega (arith, ints))) in
     omega (arith, ints)
 
-above_end : (m h d : ℤ) (k : ℕ) → pos 0 <ℤ d → m ≤ℤ (pos k *ℤ d) → ((h -ℤ pos 2) *ℤ d) ≤ℤ m → h ≤ℤ pos (k + 2)
+above_end : (m h d : ℤ) (k : ℕ) → pos 0 <ℤ d → m ≤ℤ (pos k *ℤ d) → ((h -ℤ pos 2) *ℤ d) ≤ℤ m
+    → h ≤ℤ pos (k + 2)
 above_end m h d k p i t =
     let x : (h -ℤ pos 2) ≤ℤ pos k = mul_le_back (h -ℤ pos 2) (pos k) d p (omega (arith, ints)) in
     omega (arith, ints)
 
-width_end : (n m l h d : ℤ) (j : ℕ) → pos 0 <ℤ d → m ≤ℤ (n +ℤ (pos j *ℤ d)) → n ≤ℤ ((l +ℤ pos 2) *ℤ d) → ((h -ℤ pos 2) *ℤ d) ≤ℤ m → (h -ℤ l) ≤ℤ pos (j + 4)
+width_end : (n m l h d : ℤ) (j : ℕ) → pos 0 <ℤ d → m ≤ℤ (n +ℤ (pos j *ℤ d))
+    → n ≤ℤ ((l +ℤ pos 2) *ℤ d) → ((h -ℤ pos 2) *ℤ d) ≤ℤ m → (h -ℤ l) ≤ℤ pos (j + 4)
 width_end n m l h d j p i t u =
     let x : (h -ℤ pos 2) ≤ℤ ((l +ℤ pos 2) +ℤ pos j) = mul_le_back (h -ℤ pos 2) ((l +ℤ pos 2) +ℤ pos j) d p (rw (add_mul (l +ℤ pos 2) (pos j) d) (omega (arith, ints))) in
     omega (arith, ints)
 
-ends_from : (k j : ℕ) (l h : ℤ) → l ≤ℤ h → neg_ℤ (pos (k + 2)) ≤ℤ l → h ≤ℤ pos (k + 2) → (h -ℤ l) ≤ℤ pos (j + 4) → Ends (k + 2) (j + 4) l h
+ends_from : (k j : ℕ) (l h : ℤ) → l ≤ℤ h → neg_ℤ (pos (k + 2)) ≤ℤ l → h ≤ℤ pos (k + 2)
+    → (h -ℤ l) ≤ℤ pos (j + 4) → Ends (k + 2) (j + 4) l h
 ends_from k j l h o f g w = record { order = o; low = record { low = f; high = omega (arith, ints) }; high = record { low = omega (arith, ints); high = g }; width = w }
 
 -- numerators from n to m of amount at most k denominators, and at most j denominators apart
-pub rounded_ends : (k j : ℕ) (n m d l h : ℤ) → pos 0 <ℤ d → l ≤ℤ h → neg_ℤ (pos k *ℤ d) ≤ℤ n → m ≤ℤ (pos k *ℤ d) → m ≤ℤ (n +ℤ (pos j *ℤ d)) → IsTightRound n d m d l h → Ends (k + 2) (j + 4) l h
+pub rounded_ends : (k j : ℕ) (n m d l h : ℤ) → pos 0 <ℤ d → l ≤ℤ h → neg_ℤ (pos k *ℤ d) ≤ℤ n
+    → m ≤ℤ (pos k *ℤ d) → m ≤ℤ (n +ℤ (pos j *ℤ d)) → IsTightRound n d m d l h
+    → Ends (k + 2) (j + 4) l h
 rounded_ends k j n m d l h p o f g i t = ends_from k j l h o (below_end n l d k p f t.low) (above_end m h d k p g t.high) (width_end n m l h d j p i t.low t.high)
 
-rounded_by : (k j : ℕ) (n m d l h : ℤ) (x y : ℕ) → pos 0 <ℤ d → l ≤ℤ h → pos x ≤ℤ (pos k *ℤ d) → pos y ≤ℤ (pos j *ℤ d) → IsWithin x n → IsWithin x m → m ≤ℤ (n +ℤ pos y) → IsTightRound n d m d l h → Ends (k + 2) (j + 4) l h
+rounded_by : (k j : ℕ) (n m d l h : ℤ) (x y : ℕ) → pos 0 <ℤ d → l ≤ℤ h → pos x ≤ℤ (pos k *ℤ d)
+    → pos y ≤ℤ (pos j *ℤ d) → IsWithin x n → IsWithin x m → m ≤ℤ (n +ℤ pos y)
+    → IsTightRound n d m d l h → Ends (k + 2) (j + 4) l h
 rounded_by k j n m d l h x y p o f g u v s t = rounded_ends k j n m d l h p o (omega (arith, ints, u.low)) (omega (arith, ints, v.high)) (omega (arith, ints)) t
 
 -- ---- a product
 
 -- `times_over` of members of amounts m and n and widths v and w, by den: the products are at most k
 -- and their spread at most j denominators
-pub product_ends : (m v n w k j : ℕ) (a b c d den l h : ℤ) → Ends m v a b → Ends n w c d → pos 0 <ℤ den → pos (m * n) ≤ℤ (pos k *ℤ den) → pos (m * w + n * v) ≤ℤ (pos j *ℤ den) → l ≤ℤ h → IsTightRound (least_product a b c d) den (greatest_product a b c d) den l h → Ends (k + 2) (j + 4) l h
+pub product_ends : (m v n w k j : ℕ) (a b c d den l h : ℤ) → Ends m v a b → Ends n w c d
+    → pos 0 <ℤ den → pos (m * n) ≤ℤ (pos k *ℤ den) → pos (m * w + n * v) ≤ℤ (pos j *ℤ den) → l ≤ℤ h
+    → IsTightRound (least_product a b c d) den (greatest_product a b c d) den l h
+    → Ends (k + 2) (j + 4) l h
 product_ends m v n w k j a b c d den l h e f p x y o t =
     let q = products_within m v n w a b c d e f in
     let u : IsWithin (m * n) (least_product a b c d) = least_has (λ (z : ℤ). IsWithin (m * n) z) a b c d q.low_low q.low_high q.high_low q.high_high in
@@ -84,7 +97,8 @@ le_pos a b z h k = omega (arith, ints)
 pub common : (x b b' : ℤ) → (x *ℤ b') *ℤ b ≡ x *ℤ (b *ℤ b')
 common x b b' = mul_assoc x b' b ∙ ap (λ (z : ℤ). x *ℤ z) (*ℤ_comm b' b)
 
-multiples_apart : (v p : ℕ) (a a' num : ℤ) → IsWithin v (a' -ℤ a) → IsWithin p num → IsWithin (v * p) ((a' *ℤ num) -ℤ (a *ℤ num))
+multiples_apart : (v p : ℕ) (a a' num : ℤ) → IsWithin v (a' -ℤ a) → IsWithin p num
+    → IsWithin (v * p) ((a' *ℤ num) -ℤ (a *ℤ num))
 multiples_apart v p a a' num f g =
     let e : (a' -ℤ a) *ℤ num ≡ (a' *ℤ num) -ℤ (a *ℤ num) = add_mul a' (neg_ℤ a) num ∙ ap (λ (z : ℤ). (a' *ℤ num) +ℤ z) (neg_mul a num) in
     subst (λ (z : ℤ). IsWithin (v * p) z) e (product_within v p (a' -ℤ a) num f g)
@@ -92,10 +106,13 @@ multiples_apart v p a a' num f g =
 positive_product : (b b' : ℤ) → pos 0 <ℤ b → pos 0 <ℤ b' → pos 0 <ℤ (b *ℤ b')
 positive_product b b' p q = let x : (pos 1 *ℤ b') ≤ℤ (b *ℤ b') = mul_mono (pos 1) b b' (omega (arith, ints)) (omega (arith, ints)) in omega (arith, ints)
 
-join_width : (x y j u v q r e : ℤ) → x ≤ℤ u → u ≤ℤ (v +ℤ e) → v ≤ℤ y → e ≤ℤ j → x ≡ q → y ≡ r → q ≤ℤ (r +ℤ j)
+join_width : (x y j u v q r e : ℤ) → x ≤ℤ u → u ≤ℤ (v +ℤ e) → v ≤ℤ y → e ≤ℤ j → x ≡ q → y ≡ r
+    → q ≤ℤ (r +ℤ j)
 join_width x y j u v q r e f g h k s t = omega (arith, ints)
 
-quotient_width : (m v n w j p s : ℕ) (num a a' b b' l h : ℤ) → IsWithin m a' → IsWithin n b' → IsWithin v (a' -ℤ a) → IsWithin w (b -ℤ b') → IsWithin p num → pos 0 <ℤ b → pos 0 <ℤ b' → pos s ≤ℤ b → pos s ≤ℤ b' →
+quotient_width : (m v n w j p s : ℕ) (num a a' b b' l h : ℤ) → IsWithin m a' → IsWithin n b'
+    → IsWithin v (a' -ℤ a) → IsWithin w (b -ℤ b') → IsWithin p num → pos 0 <ℤ b → pos 0 <ℤ b'
+    → pos s ≤ℤ b → pos s ≤ℤ b' →
     m * p * w + n * (v * p) ≤ j * (s * s) → IsTightRound (a *ℤ num) b (a' *ℤ num) b' l h → (h -ℤ l) ≤ℤ pos (j + 4)
 quotient_width m v n w j p s num a a' b b' l h f g i k o q q' r r' c t =
     let x = h -ℤ pos 2 in
@@ -111,7 +128,10 @@ quotient_width m v n w j p s num a a' b b' l h f g i k o q q' r r' c t =
 
 -- `over` of members of amount m and width v, times a number of amount p, by divisors of amount n
 -- and width w that are at least s
-pub quotient_ends : (m v n w k j p s : ℕ) (num a b c d l h : ℤ) → Ends m v a b → Ends n w c d → IsWithin p num → pos 0 <ℤ c → pos s ≤ℤ c → m * p ≤ k * s → m * p * w + n * (v * p) ≤ j * (s * s) → l ≤ℤ h → IsTightQuotient a b c d num l h → Ends (k + 2) (j + 4) l h
+pub quotient_ends : (m v n w k j p s : ℕ) (num a b c d l h : ℤ) → Ends m v a b → Ends n w c d
+    → IsWithin p num → pos 0 <ℤ c → pos s ≤ℤ c → m * p ≤ k * s
+    → m * p * w + n * (v * p) ≤ j * (s * s) → l ≤ℤ h → IsTightQuotient a b c d num l h
+    → Ends (k + 2) (j + 4) l h
 quotient_ends m v n w k j p s num a b c d l h e f g q r u i o z =
     let x = z.low_num in
     let y = z.low_den in

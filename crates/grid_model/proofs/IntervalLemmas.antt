@@ -26,10 +26,12 @@ high_member a b h = record { from = h; to = omega (arith, ints) }
 pub member_within : (n w : ℕ) (a b x : ℤ) → Ends n w a b → Between a b x → IsWithin n x
 member_within n w a b x e p = let l = e.low in let h = e.high in record { low = omega (arith, ints); high = omega (arith, ints) }
 
-pub members_within : (n w : ℕ) (a b x y : ℤ) → Ends n w a b → Between a b x → Between a b y → IsWithin w (x -ℤ y)
+pub members_within : (n w : ℕ) (a b x y : ℤ) → Ends n w a b → Between a b x → Between a b y
+    → IsWithin w (x -ℤ y)
 members_within n w a b x y e p q = let o = e.order in let h = e.width in record { low = omega (arith, ints); high = omega (arith, ints) }
 
-pub ends_of : (n : ℕ) (a b : ℤ) → a ≤ℤ b → IsWithin n a → IsWithin n b → Ends n (nat_abs (b -ℤ a)) a b
+pub ends_of : (n : ℕ) (a b : ℤ) → a ≤ℤ b → IsWithin n a → IsWithin n b
+    → Ends n (nat_abs (b -ℤ a)) a b
 ends_of n a b h p q = record { order = h; low = p; high = q; width = omega (arith, ints) }
 
 -- ---- numbers that are close
@@ -51,7 +53,8 @@ pub neg_left : (n : ℕ) (s t : ℤ) → Close n s (neg_ℤ t) → Close n (neg_
 neg_left n s t c = record { below = omega (arith, ints, c.below, c.above); above = omega (arith, ints, c.below, c.above) }
 
 -- s and t are m and n away from numbers that are close
-pub chain : (m n k : ℕ) (s t a b : ℤ) → Close m s a → Close n t b → Close k a b → Close (m + n + k) s t
+pub chain : (m n k : ℕ) (s t a b : ℤ) → Close m s a → Close n t b → Close k a b
+    → Close (m + n + k) s t
 chain m n k s t a b p q c = record {
   below = omega (arith, ints, p.below, p.above, q.below, q.above, c.below, c.above);
   above = omega (arith, ints, p.below, p.above, q.below, q.above, c.below, c.above);
@@ -63,5 +66,6 @@ back_within w s m h = record { low = omega (arith, ints, h.low, h.high); high = 
 pub one_number : (m : ℕ) → Ends m 0 (pos m) (pos m)
 one_number m = record { order = omega (arith, ints); low = record { low = omega (arith, ints); high = omega (arith, ints) }; high = record { low = omega (arith, ints); high = omega (arith, ints) }; width = omega (arith, ints) }
 
-pub difference_by : (al ah bl bh cl ch x y : ℤ) → cl ≡ al -ℤ bh → ch ≡ ah -ℤ bl → Between al ah x → Between bl bh y → Between cl ch (x -ℤ y)
+pub difference_by : (al ah bl bh cl ch x y : ℤ) → cl ≡ al -ℤ bh → ch ≡ ah -ℤ bl → Between al ah x
+    → Between bl bh y → Between cl ch (x -ℤ y)
 difference_by al ah bl bh cl ch x y e f p q = record { from = omega (arith, ints, p.from, q.to); to = omega (arith, ints, p.to, q.from) }

@@ -11,3 +11,4 @@ pub mod EndsLemmas
 pub mod ListLemmas
 pub mod OrderLemmas
 pub mod SpreadRoots
+pub mod PlainLemmas

@@ -28,7 +28,8 @@ in_box part p h =
     let (hy, hz) = both _ _ hyz in
     record { x = side_in part.x p.x hx; y = side_in part.y p.y hy; z = side_in part.z p.z hz }
 
-pub same_pos : (x y z a b c : ℤ) → x ≡ a → y ≡ b → z ≡ c → ◌≡◌ {A = Pos} (record { x = x; y = y; z = z }) (record { x = a; y = b; z = c })
+pub same_pos : (x y z a b c : ℤ) → x ≡ a → y ≡ b → z ≡ c
+    → ◌≡◌ {A = Pos} (record { x = x; y = y; z = z }) (record { x = a; y = b; z = c })
 same_pos x y z a b c e f g = cc
 
 pub low_inside : (l h : ℤ) → l ≤ℤ h → side_holds (record { lo = l; hi = h }) l ≡ true

@@ -97,7 +97,8 @@ apart_of : (p q r : ℤ) (m n : ℕ) → (p -ℤ q) ≤ℤ pos m → (q -ℤ r) 
 apart_of p q r m n h k = omega (arith, ints)
 
 -- two products differ by no more than the amounts of their factors times their distances
-pub products_apart : (x x' y y' : ℤ) (a b v w : ℕ) → IsWithin a x → IsWithin b y' → IsWithin v (x -ℤ x') → IsWithin w (y -ℤ y') → (x *ℤ y) ≤ℤ ((x' *ℤ y') +ℤ pos (a * w + b * v))
+pub products_apart : (x x' y y' : ℤ) (a b v w : ℕ) → IsWithin a x → IsWithin b y'
+    → IsWithin v (x -ℤ x') → IsWithin w (y -ℤ y') → (x *ℤ y) ≤ℤ ((x' *ℤ y') +ℤ pos (a * w + b * v))
 products_apart x x' y y' a b v w p q r s =
     apart_of (x *ℤ y) (x *ℤ y') (x' *ℤ y') (a * w) (b * v)
     (subst (λ (z : ℤ). z ≤ℤ pos (a * w)) (distrib_less x y y') (product_le a w x (y -ℤ y') p s))

@@ -33,7 +33,8 @@ pub root_mono : (a b v w : ℕ) → IsRoot a v → IsRoot b w → a ≤ b → v 
 root_mono a b v w p q le = grind (arith, square-mono (w + 1) v, p.square_le, q.next_square_gt)
 
 -- three squares, added
-pub sum_mono : (x y z x' y' z' : ℕ) → x ≤ x' → y ≤ y' → z ≤ z' → square x + square y + square z ≤ square x' + square y' + square z'
+pub sum_mono : (x y z x' y' z' : ℕ) → x ≤ x' → y ≤ y' → z ≤ z'
+    → square x + square y + square z ≤ square x' + square y' + square z'
 sum_mono x y z x' y' z' h k l = omega (arith, square-mono x x' h, square-mono y y' k, square-mono z z' l)
 
 pub less_of_squares : (a b : ℕ) → a * a < b * b → a < b

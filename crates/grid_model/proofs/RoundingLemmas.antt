@@ -45,7 +45,8 @@ grain_ceil_one x = omega (arith, ints, grain_floor_one (neg_ℤ x))
 
 -- ---- one less than the quotient q is at most each number near n / d or above
 
-pub low_end_holds : (n d q r v : ℤ) → pos 0 <ℤ d → IsFloor n d q → r ≡ q -ℤ pos 1 → n ≤ℤ (v *ℤ d +ℤ d) → r ≤ℤ v
+pub low_end_holds : (n d q r v : ℤ) → pos 0 <ℤ d → IsFloor n d q → r ≡ q -ℤ pos 1
+    → n ≤ℤ (v *ℤ d +ℤ d) → r ≤ℤ v
 low_end_holds n d q r v p f g h =
     let k : q <ℤ (v +ℤ pos 2) = mul_lt_back q (v +ℤ pos 2) d p (omega (arith, ints, add_mul v (pos 2) d)) in
     omega (arith, ints)
@@ -57,12 +58,14 @@ low_end_tight n d q r f g =
 
 -- ---- and one more is at least each number near n / d or below
 
-pub high_end_holds : (n d q r v : ℤ) → pos 0 <ℤ d → IsFloor n d q → r ≡ q +ℤ pos 1 → (v *ℤ d) ≤ℤ (n +ℤ d) → v ≤ℤ r
+pub high_end_holds : (n d q r v : ℤ) → pos 0 <ℤ d → IsFloor n d q → r ≡ q +ℤ pos 1
+    → (v *ℤ d) ≤ℤ (n +ℤ d) → v ≤ℤ r
 high_end_holds n d q r v p f g h =
     let k : v <ℤ (q +ℤ pos 2) = mul_lt_back v (q +ℤ pos 2) d p (omega (arith, ints, add_mul q (pos 2) d)) in
     omega (arith, ints)
 
-pub high_end_tight : (n d q r : ℤ) → pos 0 <ℤ d → IsFloor n d q → r ≡ q +ℤ pos 1 → ((r -ℤ pos 2) *ℤ d) ≤ℤ n
+pub high_end_tight : (n d q r : ℤ) → pos 0 <ℤ d → IsFloor n d q → r ≡ q +ℤ pos 1
+    → ((r -ℤ pos 2) *ℤ d) ≤ℤ n
 high_end_tight n d q r p f g =
     let k : r -ℤ pos 2 ≡ q +ℤ neg_ℤ (pos 1) = omega (arith, ints) in
     rw k (omega (arith, ints, add_mul q (neg_ℤ (pos 1)) d))
@@ -84,12 +87,14 @@ natural_above n v d e s p h k = by_lt_z v (pos 0)
     (λ m. absurd (let x : (v *ℤ d) ≤ℤ (neg_ℤ (pos 1) *ℤ d) = mul_mono v (neg_ℤ (pos 1)) d (omega (arith, ints)) (omega (arith, ints)) in omega (arith, ints)))
     (λ m. let x : (v *ℤ d) ≤ℤ (v *ℤ e) = rw (*ℤ_comm v d, *ℤ_comm v e) (mul_mono d e v h m) in omega (arith, ints))
 
-pub negative_low : (n lo hi d v : ℤ) → n ≤ℤ pos 0 → pos 0 <ℤ lo → Between lo hi d → n ≤ℤ (v *ℤ d +ℤ d) → n ≤ℤ (v *ℤ lo +ℤ lo)
+pub negative_low : (n lo hi d v : ℤ) → n ≤ℤ pos 0 → pos 0 <ℤ lo → Between lo hi d
+    → n ≤ℤ (v *ℤ d +ℤ d) → n ≤ℤ (v *ℤ lo +ℤ lo)
 negative_low n lo hi d v s p b h =
     let k : n ≤ℤ ((v +ℤ pos 1) *ℤ lo) = negative_above n (v +ℤ pos 1) d lo s p b.from (omega (arith, ints, one_more v d)) in
     omega (arith, ints, one_more v lo)
 
-pub natural_low : (n lo hi d v : ℤ) → pos 0 ≤ℤ n → pos 0 <ℤ lo → Between lo hi d → n ≤ℤ (v *ℤ d +ℤ d) → n ≤ℤ (v *ℤ hi +ℤ hi)
+pub natural_low : (n lo hi d v : ℤ) → pos 0 ≤ℤ n → pos 0 <ℤ lo → Between lo hi d
+    → n ≤ℤ (v *ℤ d +ℤ d) → n ≤ℤ (v *ℤ hi +ℤ hi)
 natural_low n lo hi d v s p b h =
     let k : n ≤ℤ ((v +ℤ pos 1) *ℤ hi) = natural_above n (v +ℤ pos 1) d hi s (omega (arith, ints, b.from)) b.to (omega (arith, ints, one_more v d)) in
     omega (arith, ints, one_more v hi)
@@ -97,22 +102,26 @@ natural_low n lo hi d v s p b h =
 turned_round : (v d : ℤ) → (pos 1 -ℤ v) *ℤ d ≡ d -ℤ (v *ℤ d)
 turned_round v d = omega (arith, ints, add_mul (pos 1) (neg_ℤ v) d, neg_mul v d)
 
-pub negative_high : (n lo hi d v : ℤ) → n ≤ℤ pos 0 → pos 0 <ℤ lo → Between lo hi d → (v *ℤ d) ≤ℤ (n +ℤ d) → (v *ℤ hi) ≤ℤ (n +ℤ hi)
+pub negative_high : (n lo hi d v : ℤ) → n ≤ℤ pos 0 → pos 0 <ℤ lo → Between lo hi d
+    → (v *ℤ d) ≤ℤ (n +ℤ d) → (v *ℤ hi) ≤ℤ (n +ℤ hi)
 negative_high n lo hi d v s p b h =
     let k : neg_ℤ n ≤ℤ ((pos 1 -ℤ v) *ℤ hi) = natural_above (neg_ℤ n) (pos 1 -ℤ v) d hi (omega (arith, ints)) (omega (arith, ints, b.from)) b.to (omega (arith, ints, turned_round v d)) in
     omega (arith, ints, turned_round v hi)
 
-pub natural_high : (n lo hi d v : ℤ) → pos 0 ≤ℤ n → pos 0 <ℤ lo → Between lo hi d → (v *ℤ d) ≤ℤ (n +ℤ d) → (v *ℤ lo) ≤ℤ (n +ℤ lo)
+pub natural_high : (n lo hi d v : ℤ) → pos 0 ≤ℤ n → pos 0 <ℤ lo → Between lo hi d
+    → (v *ℤ d) ≤ℤ (n +ℤ d) → (v *ℤ lo) ≤ℤ (n +ℤ lo)
 natural_high n lo hi d v s p b h =
     let k : neg_ℤ n ≤ℤ ((pos 1 -ℤ v) *ℤ lo) = negative_above (neg_ℤ n) (pos 1 -ℤ v) d lo (omega (arith, ints)) p b.from (omega (arith, ints, turned_round v d)) in
     omega (arith, ints, turned_round v lo)
 
 -- ---- how wide a tight round is
 
-wide_by : (x n m h l d : ℤ) → x ≡ (h *ℤ d) -ℤ (l *ℤ d) → n ≤ℤ ((l *ℤ d) +ℤ (pos 2 *ℤ d)) → (h *ℤ d) ≤ℤ (m +ℤ (pos 2 *ℤ d)) → x ≤ℤ ((m -ℤ n) +ℤ (pos 4 *ℤ d))
+wide_by : (x n m h l d : ℤ) → x ≡ (h *ℤ d) -ℤ (l *ℤ d) → n ≤ℤ ((l *ℤ d) +ℤ (pos 2 *ℤ d))
+    → (h *ℤ d) ≤ℤ (m +ℤ (pos 2 *ℤ d)) → x ≤ℤ ((m -ℤ n) +ℤ (pos 4 *ℤ d))
 wide_by x n m h l d e f g = omega (arith, ints)
 
-pub tight_width : (n m d l h : ℤ) → IsTightRound n d m d l h → ((h -ℤ l) *ℤ d) ≤ℤ ((m -ℤ n) +ℤ (pos 4 *ℤ d))
+pub tight_width : (n m d l h : ℤ) → IsTightRound n d m d l h
+    → ((h -ℤ l) *ℤ d) ≤ℤ ((m -ℤ n) +ℤ (pos 4 *ℤ d))
 tight_width n m d l h t =
     wide_by ((h -ℤ l) *ℤ d) n m h l d (omega (arith, ints, add_mul h (neg_ℤ l) d, neg_mul l d))
     (omega (arith, ints, t.low, add_mul l (pos 2) d)) (omega (arith, ints, t.high, add_mul h (neg_ℤ (pos 2)) d))

@@ -25,21 +25,25 @@ right_least lo hi a b h k = rw (*ℤ_comm a lo, *ℤ_comm a hi, *ℤ_comm a b) (
 right_greatest : (lo hi a b : ℤ) → lo ≤ℤ b → b ≤ℤ hi → (a *ℤ b) ≤ℤ int_max (a *ℤ lo) (a *ℤ hi)
 right_greatest lo hi a b h k = rw (*ℤ_comm a lo, *ℤ_comm a hi, *ℤ_comm a b) (left_greatest lo hi b a h k)
 
-min_chain : (s t u v x y z : ℤ) → int_min x y ≤ℤ z → int_min s t ≤ℤ x → int_min u v ≤ℤ y → int_min (int_min s t) (int_min u v) ≤ℤ z
+min_chain : (s t u v x y z : ℤ) → int_min x y ≤ℤ z → int_min s t ≤ℤ x → int_min u v ≤ℤ y
+    → int_min (int_min s t) (int_min u v) ≤ℤ z
 min_chain s t u v x y z h k l = omega (arith, ints, clamps)
 
-max_chain : (s t u v x y z : ℤ) → z ≤ℤ int_max x y → x ≤ℤ int_max s t → y ≤ℤ int_max u v → z ≤ℤ int_max (int_max s t) (int_max u v)
+max_chain : (s t u v x y z : ℤ) → z ≤ℤ int_max x y → x ≤ℤ int_max s t → y ≤ℤ int_max u v
+    → z ≤ℤ int_max (int_max s t) (int_max u v)
 max_chain s t u v x y z h k l = omega (arith, ints, clamps)
 
 spread : (s t u v : ℤ) → int_min (int_min s t) (int_min u v) ≤ℤ int_max (int_max s t) (int_max u v)
 spread s t u v = omega (arith, ints, clamps)
 
-pub least_le_product : (a b c d x y : ℤ) → Between a b x → Between c d y → least_product a b c d ≤ℤ (x *ℤ y)
+pub least_le_product : (a b c d x y : ℤ) → Between a b x → Between c d y
+    → least_product a b c d ≤ℤ (x *ℤ y)
 least_le_product a b c d x y p q =
     min_chain (a *ℤ c) (a *ℤ d) (b *ℤ c) (b *ℤ d) (a *ℤ y) (b *ℤ y) (x *ℤ y)
     (left_least a b x y p.from p.to) (right_least c d a y q.from q.to) (right_least c d b y q.from q.to)
 
-pub product_le_greatest : (a b c d x y : ℤ) → Between a b x → Between c d y → (x *ℤ y) ≤ℤ greatest_product a b c d
+pub product_le_greatest : (a b c d x y : ℤ) → Between a b x → Between c d y
+    → (x *ℤ y) ≤ℤ greatest_product a b c d
 product_le_greatest a b c d x y p q =
     max_chain (a *ℤ c) (a *ℤ d) (b *ℤ c) (b *ℤ d) (a *ℤ y) (b *ℤ y) (x *ℤ y)
     (left_greatest a b x y p.from p.to) (right_greatest c d a y q.from q.to) (right_greatest c d b y q.from q.to)
@@ -61,11 +65,13 @@ pick_min P s t p q = ⊎_elim (λ (e : int_min s t ≡ s). subst P (sym e) p) (�
 pub pick_max : (P : ℤ → Type 0) (s t : ℤ) → P s → P t → P (int_max s t)
 pick_max P s t p q = ⊎_elim (λ (e : int_max s t ≡ s). subst P (sym e) p) (λ (e : int_max s t ≡ t). subst P (sym e) q) (max_is_one s t)
 
-pub least_has : (P : ℤ → Type 0) (a b c d : ℤ) → P (a *ℤ c) → P (a *ℤ d) → P (b *ℤ c) → P (b *ℤ d) → P (least_product a b c d)
+pub least_has : (P : ℤ → Type 0) (a b c d : ℤ) → P (a *ℤ c) → P (a *ℤ d) → P (b *ℤ c) → P (b *ℤ d)
+    → P (least_product a b c d)
 least_has P a b c d p q r s =
     pick_min P (int_min (a *ℤ c) (a *ℤ d)) (int_min (b *ℤ c) (b *ℤ d)) (pick_min P (a *ℤ c) (a *ℤ d) p q) (pick_min P (b *ℤ c) (b *ℤ d) r s)
 
-pub greatest_has : (P : ℤ → Type 0) (a b c d : ℤ) → P (a *ℤ c) → P (a *ℤ d) → P (b *ℤ c) → P (b *ℤ d) → P (greatest_product a b c d)
+pub greatest_has : (P : ℤ → Type 0) (a b c d : ℤ) → P (a *ℤ c) → P (a *ℤ d) → P (b *ℤ c)
+    → P (b *ℤ d) → P (greatest_product a b c d)
 greatest_has P a b c d p q r s =
     pick_max P (int_max (a *ℤ c) (a *ℤ d)) (int_max (b *ℤ c) (b *ℤ d)) (pick_max P (a *ℤ c) (a *ℤ d) p q) (pick_max P (b *ℤ c) (b *ℤ d) r s)
 
@@ -89,7 +95,8 @@ greatest_multiple lo hi n h =
 
 -- ---- by the amounts and the widths of the ends
 
-pub products_within : (m v n w : ℕ) (a b c d : ℤ) → Ends m v a b → Ends n w c d → ProductsWithin (m * n) a b c d
+pub products_within : (m v n w : ℕ) (a b c d : ℤ) → Ends m v a b → Ends n w c d
+    → ProductsWithin (m * n) a b c d
 products_within m v n w a b c d e f = record {
   low_low = product_within m n a c e.low f.low;
   low_high = product_within m n a d e.low f.high;
@@ -98,16 +105,20 @@ products_within m v n w a b c d e f = record {
 }
 
 -- the condition of a product
-pub products_fit : (k m v n w : ℕ) (a b c d : ℤ) → m * n ≤ k → Ends m v a b → Ends n w c d → ProductsWithin k a b c d
+pub products_fit : (k m v n w : ℕ) (a b c d : ℤ) → m * n ≤ k → Ends m v a b → Ends n w c d
+    → ProductsWithin k a b c d
 products_fit k m v n w a b c d h e f =
     let p = products_within m v n w a b c d e f in
     record { low_low = larger (m * n) k (a *ℤ c) h p.low_low; low_high = larger (m * n) k (a *ℤ d) h p.low_high; high_low = larger (m * n) k (b *ℤ c) h p.high_low; high_high = larger (m * n) k (b *ℤ d) h p.high_high }
 
-corner_apart : (m v n w : ℕ) (a b c d x x' y y' : ℤ) → Ends m v a b → Ends n w c d → Between a b x → Between a b x' → Between c d y → Between c d y' → (x *ℤ y) ≤ℤ ((x' *ℤ y') +ℤ pos (m * w + n * v))
+corner_apart : (m v n w : ℕ) (a b c d x x' y y' : ℤ) → Ends m v a b → Ends n w c d → Between a b x
+    → Between a b x' → Between c d y → Between c d y'
+    → (x *ℤ y) ≤ℤ ((x' *ℤ y') +ℤ pos (m * w + n * v))
 corner_apart m v n w a b c d x x' y y' e f p p' q q' =
     products_apart x x' y y' m n v w (member_within m v a b x e p) (member_within n w c d y' f q') (members_within m v a b x x' e p p') (members_within n w c d y y' f q q')
 
-pub products_spread : (m v n w : ℕ) (a b c d : ℤ) → Ends m v a b → Ends n w c d → greatest_product a b c d ≤ℤ (least_product a b c d +ℤ pos (m * w + n * v))
+pub products_spread : (m v n w : ℕ) (a b c d : ℤ) → Ends m v a b → Ends n w c d
+    → greatest_product a b c d ≤ℤ (least_product a b c d +ℤ pos (m * w + n * v))
 products_spread m v n w a b c d e f =
     let al = low_member a b e.order in
     let ah = high_member a b e.order in

@@ -18,20 +18,24 @@ one_part (pos n) = inr refl
 one_part (negsuc n) = inl refl
 
 -- the amount of a member lies between the least and the greatest
-amount_between : (lo hi a : ℤ) → Between lo hi a → (least_end lo hi ≤ nat_abs a) × (nat_abs a ≤ greatest_end lo hi)
+amount_between : (lo hi a : ℤ) → Between lo hi a
+    → (least_end lo hi ≤ nat_abs a) × (nat_abs a ≤ greatest_end lo hi)
 amount_between lo hi a p = (omega (arith, ints, one_part a, one_part lo, one_part hi), omega (arith, ints, one_part a, one_part lo, one_part hi))
 
-pub square_between : (lo hi a : ℤ) → Between lo hi a → (least_square lo hi ≤ square (nat_abs a)) × (square (nat_abs a) ≤ greatest_square lo hi)
+pub square_between : (lo hi a : ℤ) → Between lo hi a
+    → (least_square lo hi ≤ square (nat_abs a)) × (square (nat_abs a) ≤ greatest_square lo hi)
 square_between lo hi a p = let h = amount_between lo hi a p in (square-mono _ _ h.0, square-mono _ _ h.1)
 
 pub least_le_greatest_end : (a b : ℤ) → a ≤ℤ b → least_end a b ≤ greatest_end a b
 least_le_greatest_end a b h = omega (arith, ints, one_part a, one_part b)
 
-pub greatest_square_le : (n : ℕ) (lo hi : ℤ) → IsWithin n lo → IsWithin n hi → greatest_square lo hi ≤ square n
+pub greatest_square_le : (n : ℕ) (lo hi : ℤ) → IsWithin n lo → IsWithin n hi
+    → greatest_square lo hi ≤ square n
 greatest_square_le n lo hi p q = square-mono _ _ (omega (arith, ints, one_part lo, one_part hi))
 
 -- the root of a number lies between the rounded roots of the ends around it
-pub root_between : (g : ℤ) (lo hi n v : ℕ) → pos 1 ≤ℤ g → lo ≤ n → n ≤ hi → IsRoot n v → Between (grain_floor g (pos (root lo))) (grain_ceil g (pos (root hi))) (pos v)
+pub root_between : (g : ℤ) (lo hi n v : ℕ) → pos 1 ≤ℤ g → lo ≤ n → n ≤ hi → IsRoot n v
+    → Between (grain_floor g (pos (root lo))) (grain_ceil g (pos (root hi))) (pos v)
 root_between g lo hi n v h p q r =
     let s : root lo ≤ v = root_mono lo n (root lo) v (root_is lo) r p in
     let t : v ≤ root hi = root_mono n hi v (root hi) r (root_is hi) q in

@@ -26,19 +26,19 @@ fn is_root(a: u128, v: u64) -> bool
     square <= a && a - square <= 2 * u128::from(v)
 }
 
-/// A guess of the root of a number from 2^64 to 2^96, which squared distances of satellites are,
-/// and which is seldom wrong; 0 for others. The 64 bits in front give 31 bits of the root, and one
-/// division of what is left over the rest.
+/// A guess of the root of a number from 2^64 to 2^112, which squared distances of satellites and
+/// squares of cosines are, and which is seldom wrong; 0 for others. The 64 bits in front give 31
+/// bits of the root, and one division of what is left over the rest.
 fn guess(a: u128) -> u64 {
     let high = low_bits(a >> 64);
-    if high == 0 || high >> 32 != 0 {
+    if high == 0 || high >> 48 != 0 {
         return 0;
     }
     let spare = high.leading_zeros() & 62;
     let front = (high << spare) | (low_bits(a) >> (63 - spare) >> 1);
-    let root = (root_of_front(front) << (32 - spare / 2)).max(8);
+    let root = (root_of_front(front) << (32 - spare / 2)).max(131_072);
     let left_over = a.wrapping_sub(u128::from(root) * u128::from(root));
-    root.wrapping_add(low_bits(left_over >> 4) / (root >> 3))
+    root.wrapping_add(low_bits(left_over >> 18) / (root >> 17))
 }
 
 /// A guess of the root of a number from 2^62 on, not above it: that of a straight line, which is

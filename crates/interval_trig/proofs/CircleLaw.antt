@@ -39,7 +39,8 @@ record AddUp (p q : ℕ) : Type 0 where
   below : p * p + q * q ≤ unit * unit + 16 * unit
   above : unit * unit ≤ p * p + q * q + 16 * unit
 
-add_up : (p q s c d e : ℕ) → d ≤ 4 → e ≤ 4 → d + e ≤ 6 → s ≤ greatest_rest → c ≤ unit → WholeSquares s c → SquaresNear p s d → SquaresNear q c e → AddUp p q
+add_up : (p q s c d e : ℕ) → d ≤ 4 → e ≤ 4 → d + e ≤ 6 → s ≤ greatest_rest → c ≤ unit
+    → WholeSquares s c → SquaresNear p s d → SquaresNear q c e → AddUp p q
 add_up p q s c d e hd he hs k l w f g =
     let a : d * s ≤ d * greatest_rest = mul-le-mul_left d k in
     let b : e * c ≤ e * unit = mul-le-mul_left e l in
@@ -64,7 +65,8 @@ cosine_amount (negsuc a) = refl
 amount_neg : (z : ℤ) → nat_abs (neg_ℤ z) ≡ nat_abs z
 amount_neg z = omega (arith, ints)
 
-amounts : (i : ℕ) (r : ℤ) → Amounts i r (sine_whole (nat_abs r)) (cosine_whole (nat_abs r)) ⊎ Amounts i r (cosine_whole (nat_abs r)) (sine_whole (nat_abs r))
+amounts : (i : ℕ) (r : ℤ)
+    → Amounts i r (sine_whole (nat_abs r)) (cosine_whole (nat_abs r)) ⊎ Amounts i r (cosine_whole (nat_abs r)) (sine_whole (nat_abs r))
 amounts zero r = inl (sine_amount r, cosine_amount r)
 amounts (suc zero) r = inr (cosine_amount r, amount_neg (signed_sine r) ∙ sine_amount r)
 amounts (suc (suc zero)) r = inl (amount_neg (signed_sine r) ∙ sine_amount r, amount_neg (signed_cosine r) ∙ cosine_amount r)
@@ -76,7 +78,8 @@ near_amount s w a d c e = squares_near (nat_abs s) a d (omega (arith, ints)) (om
 farther : (s w v : ℤ) → Close 2 s w → Close 2 v w → Close 4 s v
 farther s w v c k = record { below = omega (arith, ints); above = omega (arith, ints) }
 
-squares_add_up : (i : ℕ) (r s c : ℤ) → IsWithin greatest_rest r → Close 2 s (whole_by i r) → Close 4 c (whole_by (next i) r) → AddUp (nat_abs s) (nat_abs c)
+squares_add_up : (i : ℕ) (r s c : ℤ) → IsWithin greatest_rest r → Close 2 s (whole_by i r)
+    → Close 4 c (whole_by (next i) r) → AddUp (nat_abs s) (nat_abs c)
 squares_add_up i r s c w f g =
     let h : nat_abs r ≤ greatest_rest = omega (arith, ints) in
     let t = whole_squares (nat_abs r) h in
@@ -90,7 +93,8 @@ squares_add_up i r s c w f g =
 circle_of : (s c : ℤ) → AddUp (nat_abs s) (nat_abs c) → NearCircle s c
 circle_of s c w = let e = square_of_amount s in let f = square_of_amount c in record { below = rw (e, f) (omega (arith, ints)); above = rw (e, f) (omega (arith, ints)) }
 
-near_circle : (x s c r q : ℤ) (i j : ℕ) → j ≡ next i → IsRest x r → IsRest x q → by_quarter i r s → by_quarter j q c → NearCircle s c
+near_circle : (x s c r q : ℤ) (i j : ℕ) → j ≡ next i → IsRest x r → IsRest x q → by_quarter i r s
+    → by_quarter j q c → NearCircle s c
 near_circle x s c r q i j e a b u v =
     let w = rest_small x r a in
     let k = rest_small x q b in

@@ -19,7 +19,8 @@ use Rattle.interval_trig.proofs.QuarterLemmas.{rest_small}
 use Rattle.interval_trig.proofs.SignedSums.{signed_sine, signed_cosine, whole_by}
 
 -- a fraction rounded down is between the sums
-between_sums : (a n den e : ℕ) (m m' : ℤ) → 0 < den → m ≡ pos n → NestedBetween (pos a *ℤ m) m' den e (pos (a * n / den))
+between_sums : (a n den e : ℕ) (m m' : ℤ) → 0 < den → m ≡ pos n
+    → NestedBetween (pos a *ℤ m) m' den e (pos (a * n / den))
 between_sums a n den e m m' p f =
     let x : a * n ≤ (a * n / den + 1) * den = above_quotient (a * n) den p in
     let y : a * n / den * den ≤ a * n + den = let z = below_quotient (a * n) den in omega arith in

@@ -9,13 +9,15 @@ use Rattle.grid_model.specs.Angles.{unit}
 use Rattle.interval_trig.specs.NestedSums.{fine, Holds, nested_num, nested_den, plain_num}
 
 -- u stands for `fine`, and g u for the square of `unit`: the new ends lie round (d g u e - y f) / (d g u e)
-step_low : (u g d y f e yh h q : ℕ) → y ≤ yh * g → u * f ≤ h * e → yh * h ≤ q * (d * u) → u * (y * f) ≤ q * (d * (g * u) * e)
+step_low : (u g d y f e yh h q : ℕ) → y ≤ yh * g → u * f ≤ h * e → yh * h ≤ q * (d * u)
+    → u * (y * f) ≤ q * (d * (g * u) * e)
 step_low u g d y f e yh h q a b c =
     let k : y * (u * f) ≤ (yh * g) * (h * e) = mul-le y (u * f) (yh * g) (h * e) a b in
     let l : (yh * h) * (g * e) ≤ (q * (d * u)) * (g * e) = mul-le-mul_right (g * e) c in
     omega arith
 
-step_high : (u g d y f e yl l q : ℕ) → yl * g ≤ y → l * e ≤ u * f → q * (d * u) ≤ yl * l → q * (d * (g * u) * e) ≤ u * (y * f)
+step_high : (u g d y f e yl l q : ℕ) → yl * g ≤ y → l * e ≤ u * f → q * (d * u) ≤ yl * l
+    → q * (d * (g * u) * e) ≤ u * (y * f)
 step_high u g d y f e yl l q a b c =
     let k : (yl * g) * (l * e) ≤ y * (u * f) = mul-le (yl * g) (l * e) y (u * f) a b in
     let m : (q * (d * u)) * (g * e) ≤ (yl * l) * (g * e) = mul-le-mul_right (g * e) c in
@@ -46,7 +48,8 @@ pub below_quotient : (n m : ℕ) → (n / m) * m ≤ n
 below_quotient n m = div-mul-le_self n m
 
 -- the product of a held square and a held fraction is below the denominator
-pub small_product : (u g d y f e yh h : ℕ) → 0 < u → yh ≤ u → h ≤ u → 1 ≤ d → y ≤ yh * g → u * f ≤ h * e → y * f ≤ d * (g * u) * e
+pub small_product : (u g d y f e yh h : ℕ) → 0 < u → yh ≤ u → h ≤ u → 1 ≤ d → y ≤ yh * g
+    → u * f ≤ h * e → y * f ≤ d * (g * u) * e
 small_product u g d y f e yh h p a b k l m =
     let s : u * f ≤ u * e = le_trans m (mul-le-mul_right e b) in
     let t : f ≤ e = le_of_mul-le-mul_left s p in
@@ -59,7 +62,8 @@ pub div_mono : (a b m : ℕ) → 0 < m → a ≤ b → a / m ≤ b / m
 div_mono a b m p h = le-div (a / m) b m p (le_trans (div-mul-le_self a m) h)
 
 -- one step of the nested sum holds the next fraction
-pub step_holds : (u g d yl yh l h y f e : ℕ) → 0 < u → 1 ≤ d → yh ≤ u → h ≤ u → yl ≤ yh → l ≤ h → yh * h / (d * u) + 1 ≤ u → yl * g ≤ y → y ≤ yh * g → l * e ≤ u * f → u * f ≤ h * e →
+pub step_holds : (u g d yl yh l h y f e : ℕ) → 0 < u → 1 ≤ d → yh ≤ u → h ≤ u → yl ≤ yh → l ≤ h
+    → yh * h / (d * u) + 1 ≤ u → yl * g ≤ y → y ≤ yh * g → l * e ≤ u * f → u * f ≤ h * e →
     ((u - (yh * h / (d * u) + 1)) * (d * (g * u) * e) ≤ u * (d * (g * u) * e - y * f)) × (u * (d * (g * u) * e - y * f) ≤ (u - yl * l / (d * u)) * (d * (g * u) * e))
 step_holds u g d yl yh l h y f e p k a b a' b' q m n r s =
     let du : 0 < d * u = mul-pos (omega arith) p in
@@ -80,7 +84,8 @@ below_half u d yh h k a b q =
     let w : (yh * h / (d * u)) * 2 ≤ u = le_of_mul-le-mul_left z (omega arith) in
     omega arith
 
-width_of : (u d yl yh l h q1 q2 w : ℕ) → 0 < u → 100 * yh ≤ 62 * u → yh ≤ yl + 5 → h ≤ u → h ≡ l + w → yl * l ≤ (q1 + 1) * (d * u) → q2 * (d * u) ≤ yh * h → q1 ≤ q2 → q2 + 1 ≤ u → yl ≤ yh →
+width_of : (u d yl yh l h q1 q2 w : ℕ) → 0 < u → 100 * yh ≤ 62 * u → yh ≤ yl + 5 → h ≤ u → h ≡ l + w
+    → yl * l ≤ (q1 + 1) * (d * u) → q2 * (d * u) ≤ yh * h → q1 ≤ q2 → q2 + 1 ≤ u → yl ≤ yh →
     100 * d * ((u - q1) - (u - (q2 + 1))) ≤ 62 * w + 200 * d + 500
 width_of u d yl yh l h q1 q2 w p a b m e x y z t o =
     let c : yh * h ≤ (yl + 5) * h = mul-le-mul_right h b in
@@ -93,7 +98,8 @@ width_of u d yl yh l h q1 q2 w p a b m e x y z t o =
     omega (arith, s, f)
 
 -- how wide one step's part is, where y is at most 62 hundredths and at most 4 wide
-pub step_width : (u d yl yh l h : ℕ) → 0 < u → 1 ≤ d → 100 * yh ≤ 62 * u → yh ≤ yl + 5 → yl ≤ yh → h ≤ u → l ≤ h → yh * h / (d * u) + 1 ≤ u →
+pub step_width : (u d yl yh l h : ℕ) → 0 < u → 1 ≤ d → 100 * yh ≤ 62 * u → yh ≤ yl + 5 → yl ≤ yh
+    → h ≤ u → l ≤ h → yh * h / (d * u) + 1 ≤ u →
     100 * d * ((u - yl * l / (d * u)) - (u - (yh * h / (d * u) + 1))) ≤ 62 * (h - l) + 200 * d + 500
 step_width u d yl yh l h p k a b b' m n q = width_of u d yl yh l h (yl * l / (d * u)) (yh * h / (d * u)) (h - l) p a b m (omega arith)
     (above_quotient (yl * l) (d * u) (mul-pos (omega arith) p)) (below_quotient (yh * h) (d * u)) (div_mono (yl * l) (yh * h) (d * u) (mul-pos (omega arith) p) (mul-le yl l yh h b' n)) (omega arith) b'
@@ -116,7 +122,8 @@ small_step u y f e d h k l =
     let x : 1 * (u * e) ≤ d * (u * e) = mul-le-mul_right (u * e) l in
     omega arith
 
-pub nested_is_plain : (y : ℕ) (ds : List ℕ) → y ≤ unit ^ 2 → AllPositive ds → nested_num y ds ≡ pos (plain_num y ds)
+pub nested_is_plain : (y : ℕ) (ds : List ℕ) → y ≤ unit ^ 2 → AllPositive ds
+    → nested_num y ds ≡ pos (plain_num y ds)
 nested_is_plain y [] h p = refl
 nested_is_plain y (d ∷ ds) h p =
     ap (λ (n : ℤ). pos (d * unit ^ 2 * nested_den ds) -ℤ (pos y *ℤ n)) (nested_is_plain y ds h p.1) ∙

@@ -7,6 +7,7 @@ use Rattle.grid_model.proofs.ProductLemmas.{distrib_less, mul_assoc, square_of_a
 use Rattle.grid_model.specs.Angles.{unit}
 use Rattle.grid_model.specs.Taylor.{factorial, power, term, taylor_sum, taylor_den, odd_to_15, odd_to_17, even_to_16, even_to_18, AtLeast, AtMost, BetweenSums, SineAt, CosineAt}
 use Rattle.interval_trig.specs.NestedSums.{nested_num, nested_den, sine_15, sine_17, cosine_16, cosine_18, NestedAtLeast, NestedAtMost, NestedBetween, NestedSine, NestedCosine}
+use Rattle.grid_model.proofs.PlainLemmas.{times_one, one_times}
 
 -- the degrees rise by two, and the denominators of the nested sums are those of the terms
 abbrev pub Agrees : ℕ → List ℕ → List ℕ → Type 0
@@ -22,7 +23,9 @@ two_more r p = sym (mul_assoc r r p) ∙ ap (λ (z : ℤ). z *ℤ p) (square_of_
 last_term_is : (p : ℤ) (w : ℕ) → w ≡ 1 → (p *ℤ pos w) -ℤ pos 0 ≡ p *ℤ pos 1
 last_term_is p w e = rw e (omega (arith, ints))
 
-pub taylor_is_nested : (last : ℕ) (r : ℤ) (n : ℕ) (ns : List ℕ) (ds : List ℕ) → Agrees last (n ∷ ns) ds → taylor_sum last r (n ∷ ns) ≡ power r n *ℤ nested_num (nat_abs r * nat_abs r) ds
+pub taylor_is_nested : (last : ℕ) (r : ℤ) (n : ℕ) (ns : List ℕ) (ds : List ℕ)
+    → Agrees last (n ∷ ns) ds
+    → taylor_sum last r (n ∷ ns) ≡ power r n *ℤ nested_num (nat_abs r * nat_abs r) ds
 taylor_is_nested last r n [] [] a = last_term_is (power r n) (unit ^ (last - n) * (factorial last / factorial n)) a
 taylor_is_nested last r n [] (d ∷ ds) a = absurd a
 taylor_is_nested last r n (m ∷ ns) [] a = absurd a
@@ -47,20 +50,14 @@ agrees_16 = (refl, refl, (refl, refl, (refl, refl, (refl, refl, (refl, refl, (re
 agrees_18 : Agrees 18 even_to_18 cosine_18
 agrees_18 = (refl, refl, (refl, refl, (refl, refl, (refl, refl, (refl, refl, (refl, refl, (refl, refl, (refl, refl, (refl, refl, refl)))))))))
 
-one_is : (r : ℤ) → r *ℤ pos 1 ≡ r
-one_is r = omega (arith, ints)
-
-times_one : (r n : ℤ) → (r *ℤ pos 1) *ℤ n ≡ r *ℤ n
-times_one r n = ap (λ (z : ℤ). z *ℤ n) (one_is r)
-
-one_times : (n : ℤ) → pos 1 *ℤ n ≡ n
-one_times n = omega (arith, ints)
+times_one_then : (r n : ℤ) → (r *ℤ pos 1) *ℤ n ≡ r *ℤ n
+times_one_then r n = ap (λ (z : ℤ). z *ℤ n) (times_one r)
 
 sine_sum_15 : (r : ℤ) → taylor_sum 15 r odd_to_15 ≡ r *ℤ nested_num (nat_abs r * nat_abs r) sine_15
-sine_sum_15 r = taylor_is_nested 15 r 1 (3 ∷ 5 ∷ 7 ∷ 9 ∷ 11 ∷ 13 ∷ 15 ∷ []) sine_15 agrees_15 ∙ times_one r (nested_num (nat_abs r * nat_abs r) sine_15)
+sine_sum_15 r = taylor_is_nested 15 r 1 (3 ∷ 5 ∷ 7 ∷ 9 ∷ 11 ∷ 13 ∷ 15 ∷ []) sine_15 agrees_15 ∙ times_one_then r (nested_num (nat_abs r * nat_abs r) sine_15)
 
 sine_sum_17 : (r : ℤ) → taylor_sum 17 r odd_to_17 ≡ r *ℤ nested_num (nat_abs r * nat_abs r) sine_17
-sine_sum_17 r = taylor_is_nested 17 r 1 (3 ∷ 5 ∷ 7 ∷ 9 ∷ 11 ∷ 13 ∷ 15 ∷ 17 ∷ []) sine_17 agrees_17 ∙ times_one r (nested_num (nat_abs r * nat_abs r) sine_17)
+sine_sum_17 r = taylor_is_nested 17 r 1 (3 ∷ 5 ∷ 7 ∷ 9 ∷ 11 ∷ 13 ∷ 15 ∷ 17 ∷ []) sine_17 agrees_17 ∙ times_one_then r (nested_num (nat_abs r * nat_abs r) sine_17)
 
 cosine_sum_16 : (r : ℤ) → taylor_sum 16 r even_to_16 ≡ nested_num (nat_abs r * nat_abs r) cosine_16
 cosine_sum_16 r = taylor_is_nested 16 r 0 (2 ∷ 4 ∷ 6 ∷ 8 ∷ 10 ∷ 12 ∷ 14 ∷ 16 ∷ []) cosine_16 agrees_16 ∙ one_times (nested_num (nat_abs r * nat_abs r) cosine_16)
@@ -90,13 +87,15 @@ least_out t n s d e f g h = subst (λ (z : ℤ). (pos unit *ℤ z) ≤ℤ ((s +�
 most_out : (t n s : ℤ) (d e : ℕ) → t ≡ n → e ≡ unit * d → NestedAtMost n d s → AtMost t e s
 most_out t n s d e f g h = subst (λ (z : ℤ). ((s -ℤ pos 1) *ℤ pos e) ≤ℤ (pos unit *ℤ z)) (sym f) (subst (λ (z : ℤ). z ≤ℤ (pos unit *ℤ n)) (sym (ap (λ (m : ℕ). (s -ℤ pos 1) *ℤ pos m) g ∙ unit_left (s -ℤ pos 1) d)) (more_unit ((s -ℤ pos 1) *ℤ pos d) n h))
 
-sine_both : (t n t' n' s : ℤ) (d e d' e' : ℕ) → t ≡ n → t' ≡ n' → d' ≡ unit * d → e' ≡ unit * e → BetweenSums t t' d' e' s → NestedBetween n n' d e s
+sine_both : (t n t' n' s : ℤ) (d e d' e' : ℕ) → t ≡ n → t' ≡ n' → d' ≡ unit * d → e' ≡ unit * e
+    → BetweenSums t t' d' e' s → NestedBetween n n' d e s
 sine_both t n t' n' s d e d' e' f g i j v = record {
   low = ⊎_elim (λ (h : AtLeast t d' s). inl (least_in t n s d d' f i h)) (λ (h : AtLeast t' e' s). inr (least_in t' n' s e e' g j h)) v.low;
   high = ⊎_elim (λ (h : AtMost t d' s). inl (most_in t n s d d' f i h)) (λ (h : AtMost t' e' s). inr (most_in t' n' s e e' g j h)) v.high;
 }
 
-sine_back : (t n t' n' s : ℤ) (d e d' e' : ℕ) → t ≡ n → t' ≡ n' → d' ≡ unit * d → e' ≡ unit * e → NestedBetween n n' d e s → BetweenSums t t' d' e' s
+sine_back : (t n t' n' s : ℤ) (d e d' e' : ℕ) → t ≡ n → t' ≡ n' → d' ≡ unit * d → e' ≡ unit * e
+    → NestedBetween n n' d e s → BetweenSums t t' d' e' s
 sine_back t n t' n' s d e d' e' f g i j v = record {
   low = ⊎_elim (λ (h : NestedAtLeast n d s). inl (least_out t n s d d' f i h)) (λ (h : NestedAtLeast n' e s). inr (least_out t' n' s e e' g j h)) v.low;
   high = ⊎_elim (λ (h : NestedAtMost n d s). inl (most_out t n s d d' f i h)) (λ (h : NestedAtMost n' e s). inr (most_out t' n' s e e' g j h)) v.high;
@@ -117,13 +116,15 @@ cosine_low_in t n s d f h = subst (λ (z : ℤ). (pos unit *ℤ z) ≤ℤ ((s +�
 cosine_high_in : (t n s : ℤ) (d : ℕ) → t ≡ n → AtMost t d s → NestedAtMost (pos unit *ℤ n) d s
 cosine_high_in t n s d f h = subst (λ (z : ℤ). ((s -ℤ pos 1) *ℤ pos d) ≤ℤ (pos unit *ℤ z)) f h
 
-cosine_both : (t n t' n' s : ℤ) (d e : ℕ) → t ≡ n → t' ≡ n' → BetweenSums t t' d e s → NestedBetween (pos unit *ℤ n) (pos unit *ℤ n') d e s
+cosine_both : (t n t' n' s : ℤ) (d e : ℕ) → t ≡ n → t' ≡ n' → BetweenSums t t' d e s
+    → NestedBetween (pos unit *ℤ n) (pos unit *ℤ n') d e s
 cosine_both t n t' n' s d e f g v = record {
   low = ⊎_elim (λ (h : AtLeast t d s). inl (cosine_low_in t n s d f h)) (λ (h : AtLeast t' e s). inr (cosine_low_in t' n' s e g h)) v.low;
   high = ⊎_elim (λ (h : AtMost t d s). inl (cosine_high_in t n s d f h)) (λ (h : AtMost t' e s). inr (cosine_high_in t' n' s e g h)) v.high;
 }
 
-cosine_back : (t n t' n' s : ℤ) (d e : ℕ) → t ≡ n → t' ≡ n' → NestedBetween (pos unit *ℤ n) (pos unit *ℤ n') d e s → BetweenSums t t' d e s
+cosine_back : (t n t' n' s : ℤ) (d e : ℕ) → t ≡ n → t' ≡ n'
+    → NestedBetween (pos unit *ℤ n) (pos unit *ℤ n') d e s → BetweenSums t t' d e s
 cosine_back t n t' n' s d e f g v = rw (f, g) (record { low = v.low; high = v.high })
 
 pub cosine_in : (r s : ℤ) → CosineAt r s → NestedCosine r s

@@ -19,7 +19,8 @@ pub at_most_of : (q den n : ℕ) → q * den ≤ n + den → NestedAtMost (pos n
 at_most_of zero den n h = omega (arith, ints)
 at_most_of (suc q) den n h = subst (λ (z : ℤ). (z *ℤ pos den) ≤ℤ pos n) (sym (less_one q)) (small_by (q * den) n (omega arith))
 
-high_nat : (u a n den phi hi q : ℕ) → 0 < u → a ≤ hi → u * n ≤ phi * den → hi * phi ≤ (q + 1) * u → a * n ≤ (q + 1) * den
+high_nat : (u a n den phi hi q : ℕ) → 0 < u → a ≤ hi → u * n ≤ phi * den → hi * phi ≤ (q + 1) * u
+    → a * n ≤ (q + 1) * den
 high_nat u a n den phi hi q p h k m =
     let x : (hi * phi) * den ≤ ((q + 1) * u) * den = mul-le-mul_right den m in
     let y : a * (u * n) ≤ hi * (phi * den) = mul-le a (u * n) hi (phi * den) h k in
@@ -27,7 +28,8 @@ high_nat u a n den phi hi q p h k m =
     le_of_mul-le-mul_left z p
 
 -- q is a phi / u rounded down: at most one more than a n / den
-low_nat : (u a n den plo phi q : ℕ) → 0 < u → a * (phi - plo) ≤ u → plo ≤ phi → plo * den ≤ u * n → q * u ≤ a * phi → q * den ≤ a * n + den
+low_nat : (u a n den plo phi q : ℕ) → 0 < u → a * (phi - plo) ≤ u → plo ≤ phi → plo * den ≤ u * n
+    → q * u ≤ a * phi → q * den ≤ a * n + den
 low_nat u a n den plo phi q p w o h k =
     let e : phi ≡ (phi - plo) + plo = omega arith in
     let f = ap (λ (x : ℕ). a * x) e in
@@ -38,7 +40,9 @@ low_nat u a n den plo phi q p w o h k =
     le_of_mul-le-mul_left t p
 
 -- the rounded product of a and a held fraction is a value between the sums
-pub value_held : (u a n den plo phi e : ℕ) (m m' : ℤ) → 0 < u → a * (phi - plo) ≤ u → plo ≤ phi → plo * den ≤ u * n → u * n ≤ phi * den → m ≡ pos n → NestedBetween (pos a *ℤ m) m' den e (pos (a * phi / u))
+pub value_held : (u a n den plo phi e : ℕ) (m m' : ℤ) → 0 < u → a * (phi - plo) ≤ u → plo ≤ phi
+    → plo * den ≤ u * n → u * n ≤ phi * den → m ≡ pos n
+    → NestedBetween (pos a *ℤ m) m' den e (pos (a * phi / u))
 value_held u a n den plo phi e m m' p w o h k f =
     let x : a * phi / u * den ≤ a * n + den = low_nat u a n den plo phi (a * phi / u) p w o h (below_quotient (a * phi) u) in
     let y : a * n ≤ (a * phi / u + 1) * den = high_nat u a n den phi a (a * phi / u) p (le_refl a) k (above_quotient (a * phi) u p) in

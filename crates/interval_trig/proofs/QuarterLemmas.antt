@@ -36,27 +36,37 @@ turn_next k =
     let b : modulo_4 (k +ℤ pos 1) ≡ (m + 1) % 4 = turn_mod (k +ℤ pos 1) (nat_abs k) (m + 1) (omega (arith, ints)) in
     b ∙ next_mod m ∙ ap next (sym a)
 
-pub quarter_floor : (x : ℤ) → IsFloor (pos 20000 *ℤ x +ℤ pos quarter_turn) (pos (2 * quarter_turn)) (quarter x)
+pub quarter_floor : (x : ℤ)
+    → IsFloor (pos 20000 *ℤ x +ℤ pos quarter_turn) (pos (2 * quarter_turn)) (quarter x)
 quarter_floor x = floor_is (pos 20000 *ℤ x +ℤ pos quarter_turn) (pos (2 * quarter_turn)) (record { lt = tt })
 
 -- an angle that is at most one radian above lies in the same quarter or in the next
-quarter_steps : (x y k l : ℤ) → x ≤ℤ y → y ≤ℤ (x +ℤ pos unit) → IsFloor (pos 20000 *ℤ x +ℤ pos quarter_turn) (pos (2 * quarter_turn)) k → IsFloor (pos 20000 *ℤ y +ℤ pos quarter_turn) (pos (2 * quarter_turn)) l → (l ≡ k) ⊎ (l ≡ k +ℤ pos 1)
+quarter_steps : (x y k l : ℤ) → x ≤ℤ y → y ≤ℤ (x +ℤ pos unit)
+    → IsFloor (pos 20000 *ℤ x +ℤ pos quarter_turn) (pos (2 * quarter_turn)) k
+    → IsFloor (pos 20000 *ℤ y +ℤ pos quarter_turn) (pos (2 * quarter_turn)) l
+    → (l ≡ k) ⊎ (l ≡ k +ℤ pos 1)
 quarter_steps x y k l h j f g = by_lt_z k l (λ i. inr (omega (arith, ints))) (λ i. inl (omega (arith, ints)))
 
-pub quarter_next : (x y : ℤ) → x ≤ℤ y → y ≤ℤ (x +ℤ pos unit) → (quarter y ≡ quarter x) ⊎ (quarter y ≡ quarter x +ℤ pos 1)
+pub quarter_next : (x y : ℤ) → x ≤ℤ y → y ≤ℤ (x +ℤ pos unit)
+    → (quarter y ≡ quarter x) ⊎ (quarter y ≡ quarter x +ℤ pos 1)
 quarter_next x y h j = quarter_steps x y (quarter x) (quarter y) h j (quarter_floor x) (quarter_floor y)
 
-rest_within : (x k r : ℤ) → IsWithin 10000 ((pos 10000 *ℤ (x -ℤ r)) -ℤ (k *ℤ pos quarter_turn)) → IsFloor (pos 20000 *ℤ x +ℤ pos quarter_turn) (pos (2 * quarter_turn)) k → IsWithin greatest_rest r
+rest_within : (x k r : ℤ) → IsWithin 10000 ((pos 10000 *ℤ (x -ℤ r)) -ℤ (k *ℤ pos quarter_turn))
+    → IsFloor (pos 20000 *ℤ x +ℤ pos quarter_turn) (pos (2 * quarter_turn)) k
+    → IsWithin greatest_rest r
 rest_within x k r a f = record { low = omega (arith, ints); high = omega (arith, ints) }
 
 pub rest_small : (x r : ℤ) → IsRest x r → IsWithin greatest_rest r
 rest_small x r h = rest_within x (quarter x) r h.within (quarter_floor x)
 
 -- the rests of two angles in one quarter are at most two units farther apart
-rests_close : (x y k r q : ℤ) (n : ℕ) → Close n x y → IsWithin 10000 ((pos 10000 *ℤ (x -ℤ r)) -ℤ (k *ℤ pos quarter_turn)) → IsWithin 10000 ((pos 10000 *ℤ (y -ℤ q)) -ℤ (k *ℤ pos quarter_turn)) → Close (n + 2) r q
+rests_close : (x y k r q : ℤ) (n : ℕ) → Close n x y
+    → IsWithin 10000 ((pos 10000 *ℤ (x -ℤ r)) -ℤ (k *ℤ pos quarter_turn))
+    → IsWithin 10000 ((pos 10000 *ℤ (y -ℤ q)) -ℤ (k *ℤ pos quarter_turn)) → Close (n + 2) r q
 rests_close x y k r q n h a b = record { below = omega (arith, ints); above = omega (arith, ints) }
 
-pub rests_in_quarter : (x y r q : ℤ) (n : ℕ) → Close n x y → quarter y ≡ quarter x → IsRest x r → IsRest y q → Close (n + 2) r q
+pub rests_in_quarter : (x y r q : ℤ) (n : ℕ) → Close n x y → quarter y ≡ quarter x → IsRest x r
+    → IsRest y q → Close (n + 2) r q
 rests_in_quarter x y r q n h e a b = rests_close x y (quarter x) r q n h a.within (subst (λ (z : ℤ). IsWithin 10000 ((pos 10000 *ℤ (y -ℤ q)) -ℤ (z *ℤ pos quarter_turn))) e b.within)
 
 -- the same as bounds on the rest, h being the quarters' sum
@@ -64,22 +74,32 @@ record RestBounds (x h r : ℤ) : Type 0 where
   low : (pos 10000 *ℤ x) ≤ℤ (pos 10000 *ℤ r +ℤ h +ℤ pos 10000)
   high : (pos 10000 *ℤ r +ℤ h) ≤ℤ (pos 10000 *ℤ x +ℤ pos 10000)
 
-rest_bounds : (x k r : ℤ) → IsWithin 10000 ((pos 10000 *ℤ (x -ℤ r)) -ℤ (k *ℤ pos quarter_turn)) → RestBounds x (k *ℤ pos quarter_turn) r
+rest_bounds : (x k r : ℤ) → IsWithin 10000 ((pos 10000 *ℤ (x -ℤ r)) -ℤ (k *ℤ pos quarter_turn))
+    → RestBounds x (k *ℤ pos quarter_turn) r
 rest_bounds x k r a = record { low = omega (arith, ints); high = omega (arith, ints) }
 
-below_half : (x k : ℤ) → IsFloor (pos 20000 *ℤ x +ℤ pos quarter_turn) (pos (2 * quarter_turn)) k → (pos 20000 *ℤ x) <ℤ (pos 2 *ℤ (k *ℤ pos quarter_turn) +ℤ pos quarter_turn)
+below_half : (x k : ℤ) → IsFloor (pos 20000 *ℤ x +ℤ pos quarter_turn) (pos (2 * quarter_turn)) k
+    → (pos 20000 *ℤ x) <ℤ (pos 2 *ℤ (k *ℤ pos quarter_turn) +ℤ pos quarter_turn)
 below_half x k f = omega (arith, ints)
 
-above_half : (y k l : ℤ) → l ≡ k +ℤ pos 1 → IsFloor (pos 20000 *ℤ y +ℤ pos quarter_turn) (pos (2 * quarter_turn)) l → (pos 2 *ℤ (k *ℤ pos quarter_turn) +ℤ pos quarter_turn) ≤ℤ (pos 20000 *ℤ y)
+above_half : (y k l : ℤ) → l ≡ k +ℤ pos 1
+    → IsFloor (pos 20000 *ℤ y +ℤ pos quarter_turn) (pos (2 * quarter_turn)) l
+    → (pos 2 *ℤ (k *ℤ pos quarter_turn) +ℤ pos quarter_turn) ≤ℤ (pos 20000 *ℤ y)
 above_half y k l e f = omega (arith, ints)
 
-next_sum : (k l : ℤ) → l ≡ k +ℤ pos 1 → l *ℤ pos quarter_turn ≡ (k *ℤ pos quarter_turn) +ℤ pos quarter_turn
+next_sum : (k l : ℤ) → l ≡ k +ℤ pos 1
+    → l *ℤ pos quarter_turn ≡ (k *ℤ pos quarter_turn) +ℤ pos quarter_turn
 next_sum k l e = omega (arith, ints)
 
 -- the rests on both sides of a seam: how far they are from the seam, added up
-seam_sum : (x y h r q : ℤ) (n : ℕ) → y ≤ℤ (x +ℤ pos n) → (pos 20000 *ℤ x) <ℤ (pos 2 *ℤ h +ℤ pos quarter_turn) → (pos 2 *ℤ h +ℤ pos quarter_turn) ≤ℤ (pos 20000 *ℤ y) → RestBounds x h r → RestBounds y (h +ℤ pos quarter_turn) q → nat_abs (r -ℤ pos seam) + nat_abs (q +ℤ pos seam) ≤ n + 2
+seam_sum : (x y h r q : ℤ) (n : ℕ) → y ≤ℤ (x +ℤ pos n)
+    → (pos 20000 *ℤ x) <ℤ (pos 2 *ℤ h +ℤ pos quarter_turn)
+    → (pos 2 *ℤ h +ℤ pos quarter_turn) ≤ℤ (pos 20000 *ℤ y) → RestBounds x h r
+    → RestBounds y (h +ℤ pos quarter_turn) q
+    → nat_abs (r -ℤ pos seam) + nat_abs (q +ℤ pos seam) ≤ n + 2
 seam_sum x y h r q n d f g a b = omega (arith, ints)
 
-pub rests_at_seam : (x y r q : ℤ) (n : ℕ) → y ≤ℤ (x +ℤ pos n) → quarter y ≡ quarter x +ℤ pos 1 → IsRest x r → IsRest y q → nat_abs (r -ℤ pos seam) + nat_abs (q +ℤ pos seam) ≤ n + 2
+pub rests_at_seam : (x y r q : ℤ) (n : ℕ) → y ≤ℤ (x +ℤ pos n) → quarter y ≡ quarter x +ℤ pos 1
+    → IsRest x r → IsRest y q → nat_abs (r -ℤ pos seam) + nat_abs (q +ℤ pos seam) ≤ n + 2
 rests_at_seam x y r q n h e a b = seam_sum x y (quarter x *ℤ pos quarter_turn) r q n h (below_half x (quarter x) (quarter_floor x)) (above_half y (quarter x) (quarter y) e (quarter_floor y))
     (rest_bounds x (quarter x) r a.within) (subst (λ (z : ℤ). RestBounds y z q) (next_sum (quarter x) (quarter y) e) (rest_bounds y (quarter y) q b.within))

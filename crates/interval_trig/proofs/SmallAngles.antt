@@ -25,11 +25,14 @@ near_zero n x w = record { below = omega (arith, ints, w.low, w.high); above = o
 small_sine : (n : ℕ) (x s : ℤ) → IsWithin n x → n ≤ unit → Sine x s → Close (n + 7) s (pos 0)
 small_sine n x s w h v = sine_smooth x (pos 0) s (pos 0) n (near_zero n x w) h v sine_of_zero
 
-ends_by : (m w : ℕ) (l h s : ℤ) → l ≤ℤ h → (h -ℤ l) ≤ℤ pos (w + 16) → Between l h s → Close (m + 7) s (pos 0) → Ends (m + w + 23) (w + 16) l h
+ends_by : (m w : ℕ) (l h s : ℤ) → l ≤ℤ h → (h -ℤ l) ≤ℤ pos (w + 16) → Between l h s
+    → Close (m + 7) s (pos 0) → Ends (m + w + 23) (w + 16) l h
 ends_by m w l h s o i b k = let p = k.below in let q = k.above in let f = b.from in let t = b.to in record { order = o; low = record { low = omega (arith, ints); high = omega (arith, ints) }; high = record { low = omega (arith, ints); high = omega (arith, ints) }; width = i }
 
 -- the ends of an interval that holds the sines of small angles
-pub small_ends : (m w : ℕ) (a b l h : ℤ) → Ends m w a b → m ≤ unit → l ≤ℤ h → (h -ℤ l) ≤ℤ ((b -ℤ a) +ℤ pos 16) → ((v s : ℤ) → Between a b v → Sine v s → Between l h s) → Ends (m + w + 23) (w + 16) l h
+pub small_ends : (m w : ℕ) (a b l h : ℤ) → Ends m w a b → m ≤ unit → l ≤ℤ h
+    → (h -ℤ l) ≤ℤ ((b -ℤ a) +ℤ pos 16) → ((v s : ℤ) → Between a b v → Sine v s → Between l h s)
+    → Ends (m + w + 23) (w + 16) l h
 small_ends m w a b l h e k o i f =
     let s = sine_exists a in
     let x = e.width in

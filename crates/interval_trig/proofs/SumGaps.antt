@@ -19,7 +19,8 @@ record Apart (m f g w : ℕ) : Type 0 where
   below : g ≤ m * f + w
   above : m * f ≤ g + w
 
-apart_step : (n m y f g e w : ℕ) → y * f ≤ n * e → y * g ≤ n * (m * e) → Apart m f g w → Apart m (n * e - y * f) (n * (m * e) - y * g) (y * w)
+apart_step : (n m y f g e w : ℕ) → y * f ≤ n * e → y * g ≤ n * (m * e) → Apart m f g w
+    → Apart m (n * e - y * f) (n * (m * e) - y * g) (y * w)
 apart_step n m y f g e w h k p =
     let a : y * g ≤ y * (m * f + w) = mul-le-mul_left y p.below in
     let b : y * (m * f) ≤ y * (g + w) = mul-le-mul_left y p.above in
@@ -39,7 +40,9 @@ longer_den c (d ∷ ds) = let h = longer_den c ds in let k = ap (λ (n : ℕ). d
 first_apart : (m y : ℕ) → y ≤ m → Apart m 1 (m * 1 - y * 1) y
 first_apart m y h = record { below = omega arith; above = omega arith }
 
-apart_all : (y c : ℕ) (ds : List ℕ) → y ≤ unit ^ 2 → 1 ≤ c → AllPositive ds → AllPositive (ds ++ (c ∷ [])) → Apart (c * unit ^ 2) (plain_num y ds) (plain_num y (ds ++ (c ∷ []))) (last_term y ds)
+apart_all : (y c : ℕ) (ds : List ℕ) → y ≤ unit ^ 2 → 1 ≤ c → AllPositive ds
+    → AllPositive (ds ++ (c ∷ []))
+    → Apart (c * unit ^ 2) (plain_num y ds) (plain_num y (ds ++ (c ∷ []))) (last_term y ds)
 apart_all y c [] h k p q = first_apart (c * unit ^ 2) y (le_trans h (mul-le-mul_right (unit ^ 2) k))
 apart_all y c (d ∷ ds) h k p q =
     let e = longer_den c ds in
@@ -53,17 +56,22 @@ last_term_rises y z [] h = h
 last_term_rises y z (d ∷ ds) h = mul-le y (last_term y ds) z (last_term z ds) h (last_term_rises y z ds h)
 
 -- one end of a value, from one sum
-least_near : (q n d k : ℕ) (z : ℤ) → 0 < d → q * d ≤ n + k * d → pos n ≤ℤ (z *ℤ pos d) → pos q ≤ℤ (z +ℤ pos k)
+least_near : (q n d k : ℕ) (z : ℤ) → 0 < d → q * d ≤ n + k * d → pos n ≤ℤ (z *ℤ pos d)
+    → pos q ≤ℤ (z +ℤ pos k)
 least_near q n d k z p h l = mul_le_back (pos q) (z +ℤ pos k) (pos d) (omega (arith, ints)) (omega (arith, ints, add_mul z (pos k) (pos d)))
 
-most_near : (q n d k : ℕ) (z : ℤ) → 0 < d → n < (q + k) * d → (z *ℤ pos d) ≤ℤ pos n → z <ℤ pos (q + k)
+most_near : (q n d k : ℕ) (z : ℤ) → 0 < d → n < (q + k) * d → (z *ℤ pos d) ≤ℤ pos n
+    → z <ℤ pos (q + k)
 most_near q n d k z p h l = mul_lt_back z (pos (q + k)) (pos d) (omega (arith, ints)) (omega (arith, ints))
 
-ends_near : (q : ℕ) (s : ℤ) → ((pos q ≤ℤ ((s +ℤ pos 1) +ℤ pos 0)) ⊎ (pos q ≤ℤ ((s +ℤ pos 1) +ℤ pos 1))) → (((s -ℤ pos 1) <ℤ pos (q + 1)) ⊎ ((s -ℤ pos 1) <ℤ pos (q + 2))) → Close 2 s (pos q)
+ends_near : (q : ℕ) (s : ℤ)
+    → ((pos q ≤ℤ ((s +ℤ pos 1) +ℤ pos 0)) ⊎ (pos q ≤ℤ ((s +ℤ pos 1) +ℤ pos 1)))
+    → (((s -ℤ pos 1) <ℤ pos (q + 1)) ⊎ ((s -ℤ pos 1) <ℤ pos (q + 2))) → Close 2 s (pos q)
 ends_near q s h k = record { below = ⊎_elim (λ (m : (s -ℤ pos 1) <ℤ pos (q + 1)). omega (arith, ints)) (λ (m : (s -ℤ pos 1) <ℤ pos (q + 2)). omega (arith, ints)) k; above = ⊎_elim (λ (m : pos q ≤ℤ ((s +ℤ pos 1) +ℤ pos 0)). omega (arith, ints)) (λ (m : pos q ≤ℤ ((s +ℤ pos 1) +ℤ pos 1)). omega (arith, ints)) h }
 
 -- a value between the sums f / e and g / (m e), which are at most one apart, is near f / e rounded down to q
-value_near : (m f g e q : ℕ) (s : ℤ) → 0 < e → 0 < m → 0 < m * e → Apart m f g (m * e) → q * e ≤ f → f < (q + 1) * e → NestedBetween (pos f) (pos g) e (m * e) s → Close 2 s (pos q)
+value_near : (m f g e q : ℕ) (s : ℤ) → 0 < e → 0 < m → 0 < m * e → Apart m f g (m * e) → q * e ≤ f
+    → f < (q + 1) * e → NestedBetween (pos f) (pos g) e (m * e) s → Close 2 s (pos q)
 value_near m f g e q s p o p' w h k v =
     let a : m * (q * e) ≤ m * f = mul-le-mul_left m h in
     let b : m * f < m * ((q + 1) * e) = mul-lt-mul_of_pos_left k o in
@@ -86,7 +94,8 @@ rest_square : (a : ℕ) → a ≤ greatest_rest → a * a ≤ greatest_rest * gr
 rest_square a h = mul-le a a greatest_rest greatest_rest h h
 
 -- each value at a rest that is not negative is within two units of the whole sum
-pub sine_near : (a : ℕ) (s : ℤ) → a ≤ greatest_rest → SineAt (pos a) s → Close 2 s (pos (sine_whole a))
+pub sine_near : (a : ℕ) (s : ℤ) → a ≤ greatest_rest → SineAt (pos a) s
+    → Close 2 s (pos (sine_whole a))
 unfolding NestedSine sine_whole
 sine_near a s h v =
     let x' : NestedSine (pos a) s = sine_in (pos a) s v in
@@ -99,7 +108,8 @@ sine_near a s h v =
     (below_quotient (a * plain_num (a * a) sine_15) (nested_den sine_15)) (below_next (a * plain_num (a * a) sine_15) (nested_den sine_15) (lit≤ tt))
     (subst (λ (z : ℤ). NestedBetween (pos a *ℤ z) (pos a *ℤ pos (plain_num (a * a) sine_17)) (nested_den sine_15) (nested_den sine_17) s) e (subst (λ (z : ℤ). NestedBetween (pos a *ℤ nested_num (a * a) sine_15) (pos a *ℤ z) (nested_den sine_15) (nested_den sine_17) s) f x'))
 
-pub cosine_near : (a : ℕ) (s : ℤ) → a ≤ greatest_rest → CosineAt (pos a) s → Close 2 s (pos (cosine_whole a))
+pub cosine_near : (a : ℕ) (s : ℤ) → a ≤ greatest_rest → CosineAt (pos a) s
+    → Close 2 s (pos (cosine_whole a))
 unfolding NestedCosine cosine_whole
 cosine_near a s h v =
     let x' : NestedCosine (pos a) s = cosine_in (pos a) s v in

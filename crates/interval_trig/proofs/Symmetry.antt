@@ -18,7 +18,8 @@ flip_low n s d h = let e : neg_ℤ (s -ℤ pos 1) ≡ neg_ℤ s +ℤ pos 1 = ome
 flip_high : (n s : ℤ) (d : ℕ) → NestedAtLeast n d s → NestedAtMost (neg_ℤ n) d (neg_ℤ s)
 flip_high n s d h = let e : neg_ℤ (s +ℤ pos 1) ≡ neg_ℤ s -ℤ pos 1 = omega (arith, ints) in subst (λ (z : ℤ). (z *ℤ pos d) ≤ℤ neg_ℤ n) e (subst (λ (z : ℤ). z ≤ℤ neg_ℤ n) (sym (neg_mul (s +ℤ pos 1) (pos d))) (omega (arith, ints)))
 
-flip_sums : (n m : ℤ) (d e : ℕ) (s : ℤ) → NestedBetween n m d e s → NestedBetween (neg_ℤ n) (neg_ℤ m) d e (neg_ℤ s)
+flip_sums : (n m : ℤ) (d e : ℕ) (s : ℤ) → NestedBetween n m d e s
+    → NestedBetween (neg_ℤ n) (neg_ℤ m) d e (neg_ℤ s)
 flip_sums n m d e s v = record { low = ⊎_elim (λ (h : NestedAtMost n d s). inl (flip_low n s d h)) (λ (h : NestedAtMost m e s). inr (flip_low m s e h)) v.high; high = ⊎_elim (λ (h : NestedAtLeast n d s). inl (flip_high n s d h)) (λ (h : NestedAtLeast m e s). inr (flip_high m s e h)) v.low }
 
 flip_nested : (r s : ℤ) → NestedSine r s → NestedSine (neg_ℤ r) (neg_ℤ s)
@@ -42,10 +43,12 @@ negative (pos (suc n)) h = absurd (omega (arith, ints))
 negative (negsuc n) h = refl
 
 -- the other way round: from the value at the amount of a rest
-pub value_from_up : (r s t : ℤ) (a : ℕ) → pos 0 ≤ℤ r → a ≡ nat_abs r → t ≡ s → SineAt (pos a) s → SineAt r t
+pub value_from_up : (r s t : ℤ) (a : ℕ) → pos 0 ≤ℤ r → a ≡ nat_abs r → t ≡ s → SineAt (pos a) s
+    → SineAt r t
 value_from_up r s t a h e f v = rw f (subst (λ (z : ℤ). SineAt z s) (ap pos e ∙ sym (natural r h)) v)
 
-pub value_from_down : (r s t : ℤ) (a : ℕ) → r ≤ℤ pos 0 → a ≡ nat_abs r → t ≡ neg_ℤ s → SineAt (pos a) s → SineAt r t
+pub value_from_down : (r s t : ℤ) (a : ℕ) → r ≤ℤ pos 0 → a ≡ nat_abs r → t ≡ neg_ℤ s
+    → SineAt (pos a) s → SineAt r t
 value_from_down r s t a h e f v = rw f (subst (λ (z : ℤ). SineAt z (neg_ℤ s)) (ap (λ (n : ℕ). neg_ℤ (pos n)) e ∙ negative r h) (flip (pos a) s v))
 
 -- the cosine is even

@@ -9,7 +9,8 @@ use Rattle.interval_trig.proofs.Monotone.{Falls, falls_all, rises, slope_by}
 use Rattle.grid_model.proofs.RootLemmas.{square-mono as squares_rise}
 
 -- a quotient rises by at most k where the numerator rises by at most k denominators
-quotient_rises : (n m k e : ℕ) → 0 < e → n ≤ m → m ≤ n + k * e → (n / e ≤ m / e) × (m / e ≤ n / e + k)
+quotient_rises : (n m k e : ℕ) → 0 < e → n ≤ m → m ≤ n + k * e
+    → (n / e ≤ m / e) × (m / e ≤ n / e + k)
 quotient_rises n m k e p h l = (div_mono n m e p h, subst (λ (x : ℕ). m / e ≤ x) (add-mul-div_right n k p) (div_mono m (n + k * e) e p l))
 
 -- the sum of degree 15 at a rest that is not negative, rounded down
@@ -20,7 +21,8 @@ unfoldable pub cosine_whole : ℕ → ℕ
 cosine_whole a = unit * plain_num (a * a) cosine_16 / nested_den cosine_16
 
 -- the sine rises, and no faster than its rest
-pub sine_rises : (a b : ℕ) → a ≤ b → b ≤ greatest_rest → (sine_whole a ≤ sine_whole b) × (sine_whole b ≤ sine_whole a + (b - a))
+pub sine_rises : (a b : ℕ) → a ≤ b → b ≤ greatest_rest
+    → (sine_whole a ≤ sine_whole b) × (sine_whole b ≤ sine_whole a + (b - a))
 unfolding sine_whole
 sine_rises a b h k =
     let s : b * b ≤ unit ^ 2 = le_trans (mul-le b b greatest_rest greatest_rest k k) (lit≤ tt) in
@@ -28,7 +30,8 @@ sine_rises a b h k =
     let r = rises (unit ^ 2) (2 * 3) a b (plain_num (a * a) sine_15) (plain_num (b * b) sine_15) (nested_den sine_15) (lit≤ tt) (lit≤ tt) h (omega arith) w in
     quotient_rises (a * plain_num (a * a) sine_15) (b * plain_num (b * b) sine_15) (b - a) (nested_den sine_15) (lit≤ tt) r.0 r.1
 
-cosine_slope : (u a b f g e : ℕ) → 0 < u → a ≤ b → b ≤ u → g ≤ f → Falls ((u * u)) 2 (a * a) (b * b) f g e → u * f ≤ u * g + (b - a) * e
+cosine_slope : (u a b f g e : ℕ) → 0 < u → a ≤ b → b ≤ u → g ≤ f
+    → Falls ((u * u)) 2 (a * a) (b * b) f g e → u * f ≤ u * g + (b - a) * e
 cosine_slope u a b f g e p h k o w =
     let s : (f - g) * (2 * (u * u)) ≤ ((b - a) * (a + b)) * e = slope_by ((u * u)) 2 a b f g e (b - a) (f - g) h (omega arith) (omega arith) w in
     let t : ((b - a) * (a + b)) * e ≤ ((b - a) * (2 * u)) * e = mul-le-mul_right e (mul-le-mul_left (b - a) (omega arith)) in
@@ -39,7 +42,8 @@ cosine_slope u a b f g e p h k o w =
     omega (arith, j)
 
 -- the cosine falls, and no faster than its rest's amount rises
-pub cosine_falls : (a b : ℕ) → a ≤ b → b ≤ greatest_rest → (cosine_whole b ≤ cosine_whole a) × (cosine_whole a ≤ cosine_whole b + (b - a))
+pub cosine_falls : (a b : ℕ) → a ≤ b → b ≤ greatest_rest
+    → (cosine_whole b ≤ cosine_whole a) × (cosine_whole a ≤ cosine_whole b + (b - a))
 unfolding cosine_whole
 cosine_falls a b h k =
     let s : b * b ≤ unit ^ 2 = le_trans (mul-le b b greatest_rest greatest_rest k k) (lit≤ tt) in

@@ -1,5 +1,5 @@
 //! Sine and cosine of intervals of angles: every value of every angle is held, and no result is
-//! more than 16 units of 10^-16 wider than its argument. Roots of numbers near the square of one.
+//! more than 16 units of 10^-16 wider than its argument.
 #![tactic(auto)]
 
 mod circle;
@@ -7,7 +7,6 @@ mod parts;
 mod points;
 mod quarters;
 mod quotients;
-mod roots;
 mod sines;
 #[cfg(test)]
 mod tests;
@@ -15,5 +14,4 @@ mod tests;
 mod vectors;
 
 pub use circle::circle_law;
-pub use roots::root_near_one;
 pub use sines::{cosine, sine};

@@ -77,6 +77,10 @@ number_spelled digits number some few plain all value =
     let spelled = decimal-digits_value (numerals_by_value _ tells_digits) digits all some (λ zeros. one_only (length digits) some (λ more. plain more zeros)) (omega (arith, small)) in
     sym (ap decimal value ∙ spelled)
 
+pub behind_sign : (digits : List ℕ)
+    → take (length (45 ∷ digits) - 1) (drop 1 (45 ∷ digits)) ≡ digits
+behind_sign digits = grind (arith, common_steps)
+
 -- what stands behind the minus of a word that spells a number
 pub record IsBehindMinus (digits : List ℕ) : Type 0 where
   pub amount : ℕ
@@ -93,11 +97,8 @@ behind_minus word (negsuc k) minus within e = record {
   amount = suc k;
   some = omega arith;
   within = omega (arith, ints, within.low);
-  spelled = rw e (whole (decimal (suc k)));
+  spelled = rw e (behind_sign (decimal (suc k)));
 }
-  where
-    whole : (digits : List ℕ) → take (length (45 ∷ digits) - 1) (drop 1 (45 ∷ digits)) ≡ digits
-    whole digits = grind (arith, common_steps)
 
 -- two numbers of 128 bits that are spelled alike are one
 pub one_amount : (m n : ℕ) → m < 10 ^ 64 → n < 10 ^ 64 → decimal m ≡ decimal n → m ≡ n

@@ -19,10 +19,10 @@ use Rattle.moving_tube.specs.Roots.{grown_side, grown_box, reached_box}
 use Rattle.moving_tube.specs.Widened.{widened_side, widened_box}
 use Rattle.grid_model.proofs.PointLemmas.{low_corner as holds_low}
 use Rattle.range_contractor.proofs.TreeExists.{same_box}
+use Rattle.range_contractor.proofs.MeetLemmas.{same_side}
 
-pub same_side : (l h l' h' : ℤ) → l ≡ l' → h ≡ h'
-    → (◌≡◌ {A = Side} (record { lo = l; hi = h }) (record { lo = l'; hi = h' }))
-same_side l h l' h' e f = rw (e, f) refl
+pub same_time : (x : ℤ) → IsTime x → to_z w128 (of_z w128 x) ≡ x
+same_time x time = omega (arith, ints, time.0, time.1)
 
 -- ---- growing as far as boxes go
 

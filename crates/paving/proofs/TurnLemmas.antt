@@ -25,6 +25,7 @@ use Rattle.paving.specs.Renewing.{AllInside, Maker, GivesFrom, Renews}
 use Rattle.paving.specs.Turns.{Turn, ShownEvent, OfStep, shown_new, joined_turns, events_of, used_after, test_after, worked_on, behind_turn, PavesTurns, PavedTurns}
 use Rattle.paving.proofs.PavedLemmas.{AreCutsInTurn, cuts_in_turn, box_opens, boxes_in, parts_with, AreLive, AreBoxesOf, with_yes, with_no, none_from, taken_up, AllPass, boxes_behind, stage_after, box_goes_on, first_are}
 use Rattle.paving.proofs.PowerLemmas.{bits_mono, one_more_digit, bits_most}
+use Rattle.box_pool.proofs.HullLemmas.{lies_trans, lies_refl}
 
 -- ---- the boxes that wait lie in the root
 
@@ -41,19 +42,13 @@ all_parts (x ∷ xs) ys whole h = let more = all_parts xs ys whole h.1 in ((h.0,
 side_through : (a s t : Side) → IsSideInside a s → IsSideInside s t → IsSideInside a t
 side_through a s t h k = (omega (arith, ints, h.0, k.0), omega (arith, ints, h.1, k.1))
 
-inside_through : (a b c : GridBox) → IsInside a b → IsInside b c → IsInside a c
-inside_through a b c h k = (side_through a.x b.x c.x h.0 k.0, side_through a.y b.y c.y h.1 k.1, side_through a.z b.z c.z h.2 k.2)
-
 all_through : (waiting : List WaitingBox) (a b : GridBox) → AllInside waiting a → IsInside a b
     → AllInside waiting b
 all_through [] a b h k = tt
-all_through (box ∷ waiting) a b h k = (inside_through box.part a b h.0 k, all_through waiting a b h.1 k)
+all_through (box ∷ waiting) a b h k = (lies_trans box.part a b h.0 k, all_through waiting a b h.1 k)
 
 same_side_inside : (s : Side) → IsSideInside s s
 same_side_inside s = (omega (arith, ints), omega (arith, ints))
-
-pub same_inside : (a : GridBox) → IsInside a a
-same_inside a = (same_side_inside a.x, same_side_inside a.y, same_side_inside a.z)
 
 -- a box with a smaller side lies in it
 smaller_side : (axis : ℕ) (part : GridBox) (s : Side) → IsSideInside s (side_at axis part)
@@ -74,9 +69,9 @@ cut_inside face bound part proper = smaller_side (axis_of face) part (side_left 
 
 cuts_inside : (test : BoxTest) (id : ℕ) (part : GridBox) (steps : List ShownStep) (left : GridBox)
     → AreCutsInTurn test id part steps left → IsInside left part
-cuts_inside test id part [] left same = subst (λ (c : GridBox). IsInside c part) (sym same) (same_inside part)
+cuts_inside test id part [] left same = subst (λ (c : GridBox). IsInside c part) (sym same) (lies_refl part)
 cuts_inside test id part (shown ∷ more) left (face, bound, may, is, later) =
-    inside_through left (left_by_cut face bound part) part (cuts_inside test id (left_by_cut face bound part) more left later) (cut_inside face bound part may.0)
+    lies_trans left (left_by_cut face bound part) part (cuts_inside test id (left_by_cut face bound part) more left later) (cut_inside face bound part may.0)
 
 opened_inside : (test : BoxTest) (rules : Rules) (splits id : ℕ) (part : GridBox) (step : Step)
     → Closes test rules splits id part step → AllInside (opened_by splits step part) part
@@ -106,7 +101,7 @@ pub turn_inside : (rules : Rules) (root : GridBox) (paving : Paving) (next : Wai
     → AllInside (worked_on paving rest turn).waiting root
 turn_inside rules root paving next rest turn is are all =
     let (here, others) = next_inside root paving.waiting next rest is all in
-    let left = inside_through are.left next.part root (cuts_inside paving.test next.id next.part are.cuts are.left (cuts_in_turn _ _ paving.test next are.cuts are.left are.are_cuts)) here in
+    let left = lies_trans are.left next.part root (cuts_inside paving.test next.id next.part are.cuts are.left (cuts_in_turn _ _ paving.test next are.cuts are.left are.are_cuts)) here in
     subst (λ (p : Paving). AllInside p.waiting root) (sym (box_opens paving.test rules paving.splits next turn.steps (record paving { waiting = rest }) are))
     (all_both rest _ root others (all_through _ are.left root (opened_inside paving.test rules paving.splits next.id are.left are.last are.closes) left))
 
@@ -194,7 +189,7 @@ pub turns_pass : (maker : Maker) (test : BoxTest) (rules : Rules) (root : GridBo
     → EventsPass AnyLine (rows_over root test.rows) rules run.last.splits 0 (first_stage test root) (events_of events)
 turns_pass maker test rules root events suits run = rw run.all_events
     (passes_from maker (rows_over root test.rows) rules run.last.splits suits root 0 (first_paving test root) run.last (first_boxes root) run.turns run.paves
-    (first_are test root) (same_inside root, tt) run.none_waiting refl)
+    (first_are test root) (lies_refl root, tt) run.none_waiting refl)
 
 -- so it partitions the root, and covers what fits
 pub turns_cover : (maker : Maker) (test : BoxTest) (rules : Rules) (root : GridBox) (events : List ShownEvent)

@@ -14,6 +14,7 @@ use Rattle.paving.specs.Runs.{BeginsBox, TurnsBegun}
 use Rattle.paving.specs.Turns.{Turn, ShownEvent, OfStep, shown_new, joined_turns, used_after, behind_turn, PavesTurns, PavedTurns}
 use Rattle.paving.proofs.PavedExists.{begins_run, first_goes_on}
 use Rattle.paving.proofs.PavedLemmas.{keeps_test}
+use Rattle.grid_model.proofs.PlainLemmas.{not_both}
 
 abbrev steps_of_turns : List Turn → List (List ShownStep)
 steps_of_turns turns = map (λ turn. turn.steps) turns
@@ -36,14 +37,11 @@ same_paving paving rest own =
 turn_is : (turn : Turn) → turn.renewed ≡ None → turn ≡ without turn.steps
 turn_is turn e = λ i. record { steps = turn.steps; renewed = e i }
 
-true_false : (b : Bool) → b ≡ false → b ≡ true → ⊥
-true_false b e f = cc
-
 module _ (maker : Maker) (off : maker.active ≡ false) (rules : Rules) where
   not_renewed : (used : RowsOver) (before splits : ℕ) (waiting : List WaitingBox) (renewed : Option RowsOver)
       → Renews maker used before splits waiting renewed → renewed ≡ None
   not_renewed used before splits waiting None renews = refl
-  not_renewed used before splits waiting (Some new) renews = absurd (true_false maker.active off renews.0)
+  not_renewed used before splits waiting (Some new) renews = absurd (not_both maker.active off renews.0)
 
   -- the turns of a run are boxes alone
   boxes_alone : (used : GridBox) (paving last : Paving) (turns : List Turn)
@@ -72,7 +70,7 @@ module _ (maker : Maker) (off : maker.active ≡ false) (rules : Rules) where
           rest,
           n,
           are,
-          (λ hull on due. true_false maker.active off on),
+          (λ hull on due. not_both maker.active off on),
           subst (λ (p : Paving). PavesTurns maker rules used p (map without boxes) last) (sym (same_paving paving rest own)) others.0,
         ),
         ap (λ l. map OfStep own ++ l) others.1 ∙ sym (map_both own (joined boxes)),

@@ -22,8 +22,9 @@ use Rattle.paving.specs.Renewing.{AllInside, Maker, Renews}
 use Rattle.paving.specs.Turns.{Turn, ShownEvent, OfStep, OfRows, shown_new, joined_turns, shown_steps, TookEvents, used_after, used_behind, test_after, worked_on, behind_turn, PavesTurns}
 use Rattle.paving.specs.declared.counts.Counts.{Counts}
 use Rattle.paving.proofs.CutLemmas.{opens_last}
-use Rattle.paving.proofs.TurnLemmas.{turn_inside, same_inside}
+use Rattle.paving.proofs.TurnLemmas.{turn_inside}
 use Rattle.paving.proofs.Underway.{AreFew, counted_box, IsInHand, in_hand, ends_box, GoesOn, goes_on, can_open, counts_with_box}
+use Rattle.box_pool.proofs.HullLemmas.{lies_refl}
 
 -- the test by other rows
 abbrev pub test_by : BoxTest → List Row → BoxTest
@@ -151,7 +152,7 @@ first_turns took took_rows maker test rules root log lists spare counts inside e
   opened = omega (arith, splits);
   spared = omega (arith, room);
   within = omega (arith, splits);
-  inside = (same_inside root, tt);
+  inside = (lies_refl root, tt);
   same = refl;
 }
 

@@ -18,6 +18,7 @@ use Rattle.gnss_model.specs.declared.systems.System.TheVariants.{Gps, Galileo}
 use Rattle.grid_model.proofs.ProductLemmas.{mul_mono, mul_lt_back, distrib, add_mul, neg_mul}
 use Rattle.pseudorange_prep.specs.Ranges.{IsCode, IsNarrow}
 use Rattle.grid_model.proofs.IntervalLemmas.{one_number}
+use Rattle.grid_model.proofs.PlainLemmas.{times_one}
 
 -- a product with one number, over a whole number
 pub times_one_number : (m v n k j d : ℕ) (a b l h : ℤ) → Ends m v a b → pos 0 <ℤ pos d
@@ -142,9 +143,6 @@ dual_width y a b c d l h lo hi f g e i j w =
     let n : Ends (combined_amount y) s l h = record { order = e.order; low = e.low; high = e.high; width = narrow_codes y a b c d l h f g i j } in
     let spread = products_spread (combined_amount y) s 1 0 l h (pos 1) (pos 1) n (one_number 1) in
     record { width = eighth (squares_apart y) s (hi -ℤ lo) (greatest_product l h (pos 1) (pos 1)) (least_product l h (pos 1) (pos 1)) (apart_positive y) (squares_near y) (omega (arith, ints, spread)) w }
-
-times_one : (m : ℤ) → m *ℤ pos 1 ≡ m
-times_one m = omega (arith, ints)
 
 pub near_times_one : (m d v : ℤ) → Near m d v → Near (m *ℤ pos 1) d v
 near_times_one m d v n = record { below = omega (arith, ints, n.below, times_one m); above = omega (arith, ints, n.above, times_one m) }

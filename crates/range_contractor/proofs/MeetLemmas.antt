@@ -132,12 +132,12 @@ both_meet side below above a b kept m n h =
       ];
     }
 
+pub same_side : (l h l' h' : ℤ) → l ≡ l' → h ≡ h'
+    → (◌≡◌ {A = Side} (record { lo = l; hi = h }) (record { lo = l'; hi = h' }))
+same_side l h l' h' e f = rw (e, f) refl
+
 pub meet_is : (a b r : Side) → IsMeetOf a b r → r ≡ meet_side a b
 meet_is a b r m =
     let lo : r.lo ≡ int_max a.lo b.lo = elim m.low_end [ inl e ↦ omega (arith, ints, clamps, m.low_b) | inr e ↦ omega (arith, ints, clamps, m.low_a) ] in
     let hi : r.hi ≡ int_min a.hi b.hi = elim m.high_end [ inl e ↦ omega (arith, ints, clamps, m.high_b) | inr e ↦ omega (arith, ints, clamps, m.high_a) ] in
     same_side r.lo r.hi (int_max a.lo b.lo) (int_min a.hi b.hi) lo hi
-  where
-    same_side : (l h l' h' : ℤ) → l ≡ l' → h ≡ h'
-        → (◌≡◌ {A = Side} (record { lo = l; hi = h }) (record { lo = l'; hi = h' }))
-    same_side l h l' h' e f = rw (e, f) refl

@@ -10,6 +10,7 @@ use Rattle.grid_model.specs.declared.spans.Span.{Span}
 use Rattle.sat_model.specs.Relaxed.{holds, ends, LiesInRelaxed, IsRelaxedEmpty, IsRelaxedHull}
 use Rattle.relaxed_meet.specs.Kept.{above, bit, IsFalling, Keeps, mirrored, LiesBetween, IsLeastIn, IsGreatestIn}
 use Rattle.relaxed_meet.proofs.FallingLemmas.{above_le, at_rank, none_kept, kept_more}
+use Rattle.grid_model.proofs.IntervalLemmas.{le_z_trans}
 
 abbrev pub lows_of : List Span → List ℤ
 lows_of spans = map (λ s. s.lo) spans
@@ -17,7 +18,8 @@ lows_of spans = map (λ s. s.lo) spans
 abbrev pub highs_of : List Span → List ℤ
 highs_of spans = map (λ s. mirrored s.hi) spans
 
-one_span : (lo hi b : ℤ) → lo ≤ℤ hi → cond (le_z lo b && le_z b hi) 1 0 + bit b lo + bit (mirrored b) (mirrored hi) ≡ 1
+one_span : (lo hi b : ℤ) → lo ≤ℤ hi
+    → cond (le_z lo b && le_z b hi) 1 0 + bit b lo + bit (mirrored b) (mirrored hi) ≡ 1
 one_span lo hi b h = grind (arith, ints)
 
 -- a span holds b, or begins behind it, or ends before it
@@ -39,10 +41,12 @@ pub record AreExtremes (spans : List Span) (need : ℕ) (lows highs : List ℤ) 
   pub keeps_lows : Keeps (length spans - need + 1) lows (lows_of spans)
   pub keeps_highs : Keeps (length spans - need + 1) highs (highs_of spans)
 
-counts : (spans : List Span) → (length (lows_of spans) ≡ length spans) × (length (highs_of spans) ≡ length spans)
+counts : (spans : List Span)
+    → (length (lows_of spans) ≡ length spans) × (length (highs_of spans) ≡ length spans)
 counts spans = (length-map spans (λ s. s.lo), length-map spans (λ s. mirrored s.hi))
 
-pub between : (spans : List Span) (need : ℕ) (lows highs : List ℤ) (b : ℤ) → AreExtremes spans need lows highs
+pub between : (spans : List Span) (need : ℕ) (lows highs : List ℤ) (b : ℤ)
+    → AreExtremes spans need lows highs
     → LiesInRelaxed (map ends spans) need b → LiesBetween lows highs b
 between spans need lows highs b e h =
     let n = counts spans in
@@ -58,7 +62,8 @@ between spans need lows highs b e h =
           (omega (arith, e.keeps_highs.same_above (mirrored b), h, split, most, few, e.enough));
     }
 
-pub in_relaxed : (spans : List Span) (need : ℕ) (lows highs : List ℤ) (b : ℤ) → AreExtremes spans need lows highs
+pub in_relaxed : (spans : List Span) (need : ℕ) (lows highs : List ℤ) (b : ℤ)
+    → AreExtremes spans need lows highs
     → LiesBetween lows highs b → LiesInRelaxed (map ends spans) need b
 in_relaxed spans need lows highs b e l =
     let n = counts spans in
@@ -73,7 +78,8 @@ twice : (b : ℤ) → mirrored (mirrored b) ≡ b
 twice b = omega (arith, ints)
 
 -- the mirror image lies between the mirror images
-pub between_mirrored : (lows highs : List ℤ) (b : ℤ) → length highs ≡ length lows → LiesBetween lows highs b → LiesBetween highs lows (mirrored b)
+pub between_mirrored : (lows highs : List ℤ) (b : ℤ) → length highs ≡ length lows
+    → LiesBetween lows highs b → LiesBetween highs lows (mirrored b)
 between_mirrored lows highs b same l =
     let back : length highs - 1 - (length lows - 1 - l.rank) ≡ l.rank = omega (arith, same, l.is_rank) in
     record {
@@ -85,9 +91,11 @@ between_mirrored lows highs b same l =
 
 -- no pair of ends beyond the rank holds a number
 pub record ApartBelow (lows highs : List ℤ) (passed : ℕ) : Type 0 where
-  pub apart : (j : ℕ) → j < passed → mirrored (get_or highs j (pos 0)) <ℤ get_or lows (length lows - 1 - j) (pos 0)
+  pub apart : (j : ℕ) → j < passed
+      → mirrored (get_or highs j (pos 0)) <ℤ get_or lows (length lows - 1 - j) (pos 0)
 
-pub none_between : (lows highs : List ℤ) (passed : ℕ) (b : ℤ) → ApartBelow lows highs passed → (l : LiesBetween lows highs b) → length lows ≤ passed + l.rank → ⊥
+pub none_between : (lows highs : List ℤ) (passed : ℕ) (b : ℤ) → ApartBelow lows highs passed
+    → (l : LiesBetween lows highs b) → length lows ≤ passed + l.rank → ⊥
 none_between lows highs passed b a l beyond =
     let gap = a.apart (length lows - 1 - l.rank) (omega (arith, l.is_rank, beyond)) in
     let back : length lows - 1 - (length lows - 1 - l.rank) ≡ l.rank = omega (arith, l.is_rank) in
@@ -95,18 +103,17 @@ none_between lows highs passed b a l beyond =
     absurd (omega (arith, ints, apart, l.low, l.high))
 
 -- the low end of the first pair that holds a number is the least such
-pub least_here : (lows highs : List ℤ) (passed : ℕ) (b : ℤ) → IsFalling lows → ApartBelow lows highs passed → passed < length lows → LiesBetween lows highs b
+pub least_here : (lows highs : List ℤ) (passed : ℕ) (b : ℤ) → IsFalling lows
+    → ApartBelow lows highs passed → passed < length lows → LiesBetween lows highs b
     → get_or lows (length lows - 1 - passed) (pos 0) ≤ℤ b
 least_here lows highs passed b falling a within l = elim (cases_lt (passed + l.rank) (length lows)) [
-  | inl before ↦ at_most _ _ _ (falling.falls l.rank (length lows - 1 - passed) (omega (arith, before)) (omega (arith, within))) l.low
+  | inl before ↦ le_z_trans _ _ _ (falling.falls l.rank (length lows - 1 - passed) (omega (arith, before)) (omega (arith, within))) l.low
   | inr beyond ↦ absurd (none_between lows highs passed b a l beyond)
 ]
-  where
-    at_most : (x y z : ℤ) → x ≤ℤ y → y ≤ℤ z → x ≤ℤ z
-    at_most x y z h k = omega (arith, ints)
 
 pub lies_here : (lows highs : List ℤ) (passed : ℕ) → passed < length lows
-    → get_or lows (length lows - 1 - passed) (pos 0) ≤ℤ mirrored (get_or highs passed (pos 0)) → LiesBetween lows highs (get_or lows (length lows - 1 - passed) (pos 0))
+    → get_or lows (length lows - 1 - passed) (pos 0) ≤ℤ mirrored (get_or highs passed (pos 0))
+    → LiesBetween lows highs (get_or lows (length lows - 1 - passed) (pos 0))
 lies_here lows highs passed within le =
     let back : length lows - 1 - (length lows - 1 - passed) ≡ passed = omega arith in
     record {
@@ -117,7 +124,8 @@ lies_here lows highs passed within le =
     }
 
 pub one_apart : (lows highs : List ℤ) (passed : ℕ) → ApartBelow lows highs passed
-    → mirrored (get_or highs passed (pos 0)) <ℤ get_or lows (length lows - 1 - passed) (pos 0) → ApartBelow lows highs (passed + 1)
+    → mirrored (get_or highs passed (pos 0)) <ℤ get_or lows (length lows - 1 - passed) (pos 0)
+    → ApartBelow lows highs (passed + 1)
 one_apart lows highs passed a gap = record {
   apart = λ j before. elim (cases_eq j passed) [
     | inl here ↦ subst (λ (n : ℕ). mirrored (get_or highs n (pos 0)) <ℤ get_or lows (length lows - 1 - n) (pos 0)) (sym here) gap
@@ -128,48 +136,59 @@ one_apart lows highs passed a gap = record {
 -- ---- what the search finds
 
 -- the mirror image of the least number between mirrored ends
-pub greatest_from : (lows highs : List ℤ) (m x : ℤ) → length highs ≡ length lows → IsLeastIn (LiesBetween highs lows) (Some m) → x ≡ mirrored m
+pub greatest_from : (lows highs : List ℤ) (m x : ℤ) → length highs ≡ length lows
+    → IsLeastIn (LiesBetween highs lows) (Some m) → x ≡ mirrored m
     → IsGreatestIn (LiesBetween lows highs) (Some x)
 greatest_from lows highs m x same least is = (
   subst (LiesBetween lows highs) (sym is) (between_mirrored highs lows m (sym same) least.0),
   λ b l. omega (arith, ints, least.1 (mirrored b) (between_mirrored lows highs b same l)),
 )
 
-pub none_greatest : (lows highs : List ℤ) → length highs ≡ length lows → IsLeastIn (LiesBetween highs lows) None → IsGreatestIn (LiesBetween lows highs) None
+pub none_greatest : (lows highs : List ℤ) → length highs ≡ length lows
+    → IsLeastIn (LiesBetween highs lows) None → IsGreatestIn (LiesBetween lows highs) None
 none_greatest lows highs same none b l = none (mirrored b) (between_mirrored lows highs b same l)
 
-pub least_in_relaxed : (spans : List Span) (need : ℕ) (lows highs : List ℤ) (r : Option ℤ) → AreExtremes spans need lows highs
+pub least_in_relaxed : (spans : List Span) (need : ℕ) (lows highs : List ℤ) (r : Option ℤ)
+    → AreExtremes spans need lows highs
     → IsLeastIn (LiesBetween lows highs) r → IsLeastIn (LiesInRelaxed (map ends spans) need) r
 least_in_relaxed spans need lows highs None e none = λ b h. none b (between spans need lows highs b e h)
 least_in_relaxed spans need lows highs (Some x) e least =
     (in_relaxed spans need lows highs x e least.0, λ b h. least.1 b (between spans need lows highs b e h))
 
 -- fewer spans than are needed hold no number in common
-pub too_few : (spans : List Span) (need : ℕ) → length spans < need → IsLeastIn (LiesInRelaxed (map ends spans) need) None
+pub too_few : (spans : List Span) (need : ℕ) → length spans < need
+    → IsLeastIn (LiesInRelaxed (map ends spans) need) None
 too_few spans need few b h = absurd (omega (arith, few, h, held_or_not spans b))
 
-pub hull_from : (spans : List Span) (need : ℕ) (lows highs : List ℤ) (lo hi : ℤ) → AreExtremes spans need lows highs
-    → IsLeastIn (LiesBetween lows highs) (Some lo) → IsGreatestIn (LiesBetween lows highs) (Some hi) → IsRelaxedHull (map ends spans) need lo hi
+pub hull_from : (spans : List Span) (need : ℕ) (lows highs : List ℤ) (lo hi : ℤ)
+    → AreExtremes spans need lows highs
+    → IsLeastIn (LiesBetween lows highs) (Some lo) → IsGreatestIn (LiesBetween lows highs) (Some hi)
+    → IsRelaxedHull (map ends spans) need lo hi
 hull_from spans need lows highs lo hi e least greatest = record {
   lo_lies = in_relaxed spans need lows highs lo e least.0;
   hi_lies = in_relaxed spans need lows highs hi e greatest.0;
   within = λ b h. let l = between spans need lows highs b e h in (least.1 b l, greatest.1 b l);
 }
 
-pub are_extremes : (spans : List Span) (need n : ℕ) (lows highs : List ℤ) → n ≡ need → 1 ≤ need → need ≤ length spans
-    → Keeps (length spans - n + 1) lows (lows_of spans) → Keeps (length spans - n + 1) highs (highs_of spans) → AreExtremes spans need lows highs
+pub are_extremes : (spans : List Span) (need n : ℕ) (lows highs : List ℤ) → n ≡ need → 1 ≤ need
+    → need ≤ length spans
+    → Keeps (length spans - n + 1) lows (lows_of spans)
+    → Keeps (length spans - n + 1) highs (highs_of spans) → AreExtremes spans need lows highs
 are_extremes spans need n lows highs is some enough low high =
     record { some = some; enough = enough; keeps_lows = rw is at low; keeps_highs = rw is at high }
 
-pub none_relaxed : (spans : List Span) (need : ℕ) (lows highs : List ℤ) → AreExtremes spans need lows highs → IsLeastIn (LiesBetween lows highs) None
+pub none_relaxed : (spans : List Span) (need : ℕ) (lows highs : List ℤ)
+    → AreExtremes spans need lows highs → IsLeastIn (LiesBetween lows highs) None
     → (b : ℤ) → LiesInRelaxed (map ends spans) need b → ⊥
 none_relaxed spans need lows highs e none b h = none b (between spans need lows highs b e h)
 
-pub none_or_some : (spans : List Span) (need : ℕ) (lows highs : List ℤ) (r : Option ℤ) → AreExtremes spans need lows highs → IsLeastIn (LiesBetween lows highs) r
+pub none_or_some : (spans : List Span) (need : ℕ) (lows highs : List ℤ) (r : Option ℤ)
+    → AreExtremes spans need lows highs → IsLeastIn (LiesBetween lows highs) r
     → IsNone r ↔ IsRelaxedEmpty (map ends spans) need
 none_or_some spans need lows highs r e least = by_cases r (least_in_relaxed spans need lows highs r e least)
   where
-    by_cases : {Lies : ℤ → Type 0} (r : Option ℤ) → IsLeastIn Lies r → IsNone r ↔ ((b : ℤ) → Lies b → ⊥)
+    by_cases : {Lies : ℤ → Type 0} (r : Option ℤ) → IsLeastIn Lies r
+        → IsNone r ↔ ((b : ℤ) → Lies b → ⊥)
     by_cases None none = (λ is. none, λ empty. refl)
     by_cases (Some x) least = (λ is. absurd cc, λ empty. absurd (empty x least.0))
 
@@ -190,9 +209,12 @@ none_read most = record {
 }
 
 -- one more is read
-pub read_next : (all : List (ℤ × ℤ)) (s : Span) (most : ℕ) (lows highs new_lows new_highs : List ℤ) (lo hi : ℤ) → lo ≡ s.lo → hi ≡ mirrored s.hi → AreRead most lows highs all
-    → IsFalling new_lows → length new_lows ≡ min (length lows + 1) most → ((b : ℤ) → above b new_lows ≡ min (above b (lows ++ lo ∷ [])) most)
-    → IsFalling new_highs → length new_highs ≡ min (length highs + 1) most → ((b : ℤ) → above b new_highs ≡ min (above b (highs ++ hi ∷ [])) most)
+pub read_next : (all : List (ℤ × ℤ)) (s : Span) (most : ℕ) (lows highs new_lows new_highs : List ℤ) (lo hi : ℤ)
+    → lo ≡ s.lo → hi ≡ mirrored s.hi → AreRead most lows highs all
+    → IsFalling new_lows → length new_lows ≡ min (length lows + 1) most
+    → ((b : ℤ) → above b new_lows ≡ min (above b (lows ++ lo ∷ [])) most)
+    → IsFalling new_highs → length new_highs ≡ min (length highs + 1) most
+    → ((b : ℤ) → above b new_highs ≡ min (above b (highs ++ hi ∷ [])) most)
     → AreRead most new_lows new_highs (all ++ ends s ∷ [])
 read_next all s most lows highs new_lows new_highs lo hi lo_is hi_is read low_falls low_count low_same high_falls high_count high_same =
     let m = map-append ends read.spans (s ∷ []) in
@@ -206,7 +228,8 @@ read_next all s most lows highs new_lows new_highs lo hi lo_is hi_is read low_fa
     }
 
 -- whether the search finds a number tells whether one lies in enough of the spans that were read
-pub found_or_empty : (all : List (ℤ × ℤ)) (q len : ℕ) (lows highs : List ℤ) (r : Option ℤ) → q < len → length all ≡ len → AreRead (q + 1) lows highs all
+pub found_or_empty : (all : List (ℤ × ℤ)) (q len : ℕ) (lows highs : List ℤ) (r : Option ℤ) → q < len
+    → length all ≡ len → AreRead (q + 1) lows highs all
     → IsLeastIn (LiesBetween lows highs) r → IsNone r ↔ IsRelaxedEmpty all (len - q)
 found_or_empty all q len lows highs r less count read least =
     let same : length read.spans ≡ len = omega (arith, count, length-map read.spans ends, ap length read.are) in
@@ -227,5 +250,6 @@ false_from : (a b : Bool) → a ≡ not b → b ≡ true → a ≡ false
 false_from a b e f = rw (e, f) refl
 
 -- the same of a test for none
-pub tested_none : {X Empty : Type 0} (r : Option X) (b : Bool) → is_some r ≡ not b → IsNone r ↔ Empty → IsTrue b ↔ Empty
+pub tested_none : {X Empty : Type 0} (r : Option X) (b : Bool) → is_some r ≡ not b
+    → IsNone r ↔ Empty → IsTrue b ↔ Empty
 tested_none r b e found = (λ t. found.0 (false_from (is_some r) b e t), λ empty. true_from (is_some r) b e (found.1 empty))

@@ -20,14 +20,13 @@ lt_false a b h = grind (arith, ints)
 
 -- ---- the rank of a number
 
-pub above_le : (xs : List ℤ) (b : ℤ) (k : ℕ) → IsFalling xs → k < length xs → get_or xs k (pos 0) ≤ℤ b → above b xs ≤ k
+pub above_le : (xs : List ℤ) (b : ℤ) (k : ℕ) → IsFalling xs → k < length xs
+    → get_or xs k (pos 0) ≤ℤ b → above b xs ≤ k
 above_le xs b k falling within h =
-    count_at_most (λ x. lt_z b x) xs k (pos 0) (λ j le inside. lt_false b (get_or xs j (pos 0)) (at_most _ _ _ (falling.falls k j le inside) h))
-  where
-    at_most : (a b c : ℤ) → a ≤ℤ b → b ≤ℤ c → a ≤ℤ c
-    at_most a b c h k = omega (arith, ints)
+    count_at_most (λ x. lt_z b x) xs k (pos 0) (λ j le inside. lt_false b (get_or xs j (pos 0)) (at_least _ _ _ (falling.falls k j le inside) h))
 
-pub at_rank : (xs : List ℤ) (b : ℤ) (k : ℕ) → IsFalling xs → k < length xs → above b xs ≤ k → get_or xs k (pos 0) ≤ℤ b
+pub at_rank : (xs : List ℤ) (b : ℤ) (k : ℕ) → IsFalling xs → k < length xs → above b xs ≤ k
+    → get_or xs k (pos 0) ≤ℤ b
 at_rank xs b k falling within few = elim (le_or_gt (get_or xs k (pos 0)) b) [
   | inl le ↦ le
   | inr gt ↦ absurd (omega (
@@ -52,14 +51,16 @@ same_le a b x y e f h = rw (e, f) h
 itself : (a : ℤ) → a ≤ℤ a
 itself a = omega (arith, ints)
 
-pub falling_set : (xs : List ℤ) (i : ℕ) (c : ℤ) → IsFalling xs → i < length xs → get_or xs i (pos 0) ≤ℤ c
+pub falling_set : (xs : List ℤ) (i : ℕ) (c : ℤ) → IsFalling xs → i < length xs
+    → get_or xs i (pos 0) ≤ℤ c
     → ((j : ℕ) → j < i → c ≤ℤ get_or xs j (pos 0)) → IsFalling (set xs i c)
 falling_set xs i c falling within more front = record { falls = falls }
   where
     here : get_or (set xs i c) i (pos 0) ≡ c
     here = get_or-set_same xs i c (pos 0) within
 
-    falls : (a b : ℕ) → a ≤ b → b < length (set xs i c) → get_or (set xs i c) b (pos 0) ≤ℤ get_or (set xs i c) a (pos 0)
+    falls : (a b : ℕ) → a ≤ b → b < length (set xs i c)
+        → get_or (set xs i c) b (pos 0) ≤ℤ get_or (set xs i c) a (pos 0)
     falls a b le inside =
         let inside_old : b < length xs = omega (arith, length-set xs i c) in
         elim (cases_eq a i) [
@@ -74,7 +75,8 @@ falling_set xs i c falling within more front = record { falls = falls }
           ]
         ]
 
-pub above_set : (xs : List ℤ) (i : ℕ) (c b : ℤ) → i < length xs → above b (set xs i c) + bit b (get_or xs i (pos 0)) ≡ above b xs + bit b c
+pub above_set : (xs : List ℤ) (i : ℕ) (c b : ℤ) → i < length xs
+    → above b (set xs i c) + bit b (get_or xs i (pos 0)) ≡ above b xs + bit b c
 above_set xs i c b within = omega (arith, sum_by-set (λ x. bit b x) xs i c (pos 0) within)
 
 -- ---- a number is put last
@@ -83,7 +85,8 @@ pub above_push : (xs : List ℤ) (c b : ℤ) → above b (xs ++ c ∷ []) ≡ ab
 above_push xs c b = omega (arith, sum_by-append (λ x. bit b x) xs (c ∷ []), sum_by-cons (λ x. bit b x) c [])
 
 -- a list of numbers that are all at least c has, beside c, none that is greater where c isn't
-pub above_full : (xs : List ℤ) (c b : ℤ) → ((j : ℕ) → j < length xs → c ≤ℤ get_or xs j (pos 0)) → above b xs ≡ min (above b xs + bit b c) (length xs)
+pub above_full : (xs : List ℤ) (c b : ℤ) → ((j : ℕ) → j < length xs → c ≤ℤ get_or xs j (pos 0))
+    → above b xs ≡ min (above b xs + bit b c) (length xs)
 above_full xs c b least = elim (cases_Bool (lt_z b c)) [
   | inl less ↦
       let all : length xs ≤ above b xs =
@@ -97,7 +100,8 @@ above_full xs c b least = elim (cases_Bool (lt_z b c)) [
 
 -- ---- a number goes past the places of a list in falling order
 
-pub exchanged : (i : ℕ) (xs next old : List ℤ) (c d n : ℤ) → IsKeptUpTo i xs old c n → i < length xs → get_or xs i (pos 0) <ℤ c
+pub exchanged : (i : ℕ) (xs next old : List ℤ) (c d n : ℤ) → IsKeptUpTo i xs old c n → i < length xs
+    → get_or xs i (pos 0) <ℤ c
     → next ≡ set xs i c → d ≡ get_or xs i (pos 0) → IsKeptUpTo (i + 1) next old d n
 exchanged i xs next old c d n k within less is carried = rw (is, carried) record {
   falling = falling_set xs i c k.falling within (omega (arith, ints)) k.least;
@@ -109,7 +113,8 @@ exchanged i xs next old c d n k within less is carried = rw (is, carried) record
   ];
 }
 
-pub passed_by : (i : ℕ) (xs next old : List ℤ) (c d n : ℤ) → IsKeptUpTo i xs old c n → c ≤ℤ get_or xs i (pos 0)
+pub passed_by : (i : ℕ) (xs next old : List ℤ) (c d n : ℤ) → IsKeptUpTo i xs old c n
+    → c ≤ℤ get_or xs i (pos 0)
     → next ≡ xs → d ≡ c → IsKeptUpTo (i + 1) next old d n
 passed_by i xs next old c d n k le is carried = rw (is, carried) record {
   falling = k.falling;
@@ -125,13 +130,15 @@ pub refill-same : (xs ys : List ℤ) → length ys ≡ length xs → refill (len
 refill-same xs ys e = grind (arith, common_steps)
 
 -- where no room is left, the least number of all isn't kept
-pub above_kept : (xs old : List ℤ) (c n m : ℤ) (most : ℕ) (b : ℤ) → IsKeptUpTo (length old) xs old c n → length old ≡ most → m ≡ n
+pub above_kept : (xs old : List ℤ) (c n m : ℤ) (most : ℕ) (b : ℤ)
+    → IsKeptUpTo (length old) xs old c n → length old ≡ most → m ≡ n
     → above b xs ≡ min (above b (old ++ m ∷ [])) most
 above_kept xs old c n m most b k full is =
     rw is (omega (arith, full, k.count, k.same_above b, above_push old n b, above_full xs c b (λ j within. k.least j (omega (arith, k.count)))))
 
 -- a full list whose last number is at least this one has no place for it
-pub above_past : (xs : List ℤ) (c b : ℤ) (most : ℕ) → IsFalling xs → 0 < most → length xs ≡ most → c ≤ℤ get_or xs (most - 1) (pos 0)
+pub above_past : (xs : List ℤ) (c b : ℤ) (most : ℕ) → IsFalling xs → 0 < most → length xs ≡ most
+    → c ≤ℤ get_or xs (most - 1) (pos 0)
     → above b xs ≡ min (above b (xs ++ c ∷ [])) most
 above_past xs c b most falling some full last =
     omega (
@@ -144,17 +151,22 @@ pub none_kept : (most : ℕ) → Keeps most [] []
 none_kept most = record { falling = record { falls = λ i j le inside. absurd (omega arith) }; count = omega arith; same_above = λ b. omega arith }
 
 -- one more number is read
-pub kept_more : (most : ℕ) (kept next all : List ℤ) (n m : ℤ) → Keeps most kept all → IsFalling next → length next ≡ min (length kept + 1) most
-    → ((b : ℤ) → above b next ≡ min (above b (kept ++ n ∷ [])) most) → n ≡ m → Keeps most next (all ++ m ∷ [])
+pub kept_more : (most : ℕ) (kept next all : List ℤ) (n m : ℤ) → Keeps most kept all → IsFalling next
+    → length next ≡ min (length kept + 1) most
+    → ((b : ℤ) → above b next ≡ min (above b (kept ++ n ∷ [])) most) → n ≡ m
+    → Keeps most next (all ++ m ∷ [])
 kept_more most kept next all n m k falling count same is = rw (sym is) record {
   falling = falling;
   count = omega (arith, count, k.count, length-append all (n ∷ []));
   same_above = λ b. omega (arith, same b, k.same_above b, above_push kept n b, above_push all n b);
 }
 
-pub keeps_more : {X : Type 0} (f : X → ℤ) (spans : List X) (i : ℕ) (x : X) (most : ℕ) (kept next : List ℤ) (n : ℤ) → i < length spans → x ≡ get_or spans i x
-    → Keeps most kept (map f (take i spans)) → IsFalling next → length next ≡ min (length kept + 1) most
-    → ((b : ℤ) → above b next ≡ min (above b (kept ++ n ∷ [])) most) → n ≡ f x → Keeps most next (map f (take (i + 1) spans))
+pub keeps_more : {X : Type 0} (f : X → ℤ) (spans : List X) (i : ℕ) (x : X) (most : ℕ) (kept next : List ℤ) (n : ℤ)
+    → i < length spans → x ≡ get_or spans i x
+    → Keeps most kept (map f (take i spans)) → IsFalling next
+    → length next ≡ min (length kept + 1) most
+    → ((b : ℤ) → above b next ≡ min (above b (kept ++ n ∷ [])) most) → n ≡ f x
+    → Keeps most next (map f (take (i + 1) spans))
 keeps_more f spans i x most kept next n within reads k falling count same is =
     let more : map f (take (i + 1) spans) ≡ map f (take i spans) ++ f x ∷ [] = let e = map_more f spans i x within in cc in
     rw more (kept_more most kept next (map f (take i spans)) n (f x) k falling count same is)

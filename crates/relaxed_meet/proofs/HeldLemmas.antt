@@ -9,7 +9,8 @@ use Rattle.sat_model.specs.Relaxed.{holds}
 use Rattle.grid_model.proofs.PointLemmas.{le_to as le_true}
 
 -- a number past the low end is held where it isn't past the high end
-pub held_above : (s : ℤ × ℤ) (b lo hi b' hi' : ℤ) → ◌≡◌ {A = ℤ × ℤ} (lo, hi) s → lo ≤ℤ b → b' ≡ b → hi' ≡ hi → le_z b' hi' ≡ holds s b
+pub held_above : (s : ℤ × ℤ) (b lo hi b' hi' : ℤ) → ◌≡◌ {A = ℤ × ℤ} (lo, hi) s → lo ≤ℤ b → b' ≡ b
+    → hi' ≡ hi → le_z b' hi' ≡ holds s b
 held_above s b lo hi b' hi' e low same_b same_hi =
     let low_holds : le_z lo b ≡ true = le_true lo b low in
     let at_lo : lo ≡ s.0 = ap (λ (t : ℤ × ℤ). t.0) e in
@@ -22,7 +23,8 @@ pub none_held : (s : ℤ × ℤ) (b : ℤ) → s.1 <ℤ s.0 → false ≡ holds 
 none_held s b h = grind (arith, ints)
 
 -- the rows are counted by their spans
-pub count_spans : (ends_of : Row → ℤ × ℤ) (b : ℤ) (rows : List Row) → count_by (λ row. holds (ends_of row) b) rows ≡ count_by (λ s. holds s b) (map ends_of rows)
+pub count_spans : (ends_of : Row → ℤ × ℤ) (b : ℤ) (rows : List Row)
+    → count_by (λ row. holds (ends_of row) b) rows ≡ count_by (λ s. holds s b) (map ends_of rows)
 count_spans ends_of b [] = refl
 count_spans ends_of b (row ∷ rows) =
     sum_by-cons (λ r. cond (holds (ends_of r) b) 1 0) row rows

@@ -25,8 +25,10 @@ held_append : (b : ℤ) (xs ys : List (ℤ × ℤ)) → held b (xs ++ ys) ≡ he
 held_append b xs ys = sum_by-append (λ t. cond (holds t b) 1 0) xs ys
 
 -- one more row is read, and its span pushed
-pub held_pushed : (f : Row → ℤ × ℤ) (xs : List Row) (i : ℕ) (x : Row) (v w : List Span) (y : Span) (b : ℤ) → i < length xs → x ≡ get_or xs i x
-    → held b (map ends v) ≡ held b (map f (take i xs)) → w ≡ v ++ y ∷ [] → ends y ≡ f x → held b (map ends w) ≡ held b (map f (take (i + 1) xs))
+pub held_pushed : (f : Row → ℤ × ℤ) (xs : List Row) (i : ℕ) (x : Row) (v w : List Span) (y : Span) (b : ℤ)
+    → i < length xs → x ≡ get_or xs i x
+    → held b (map ends v) ≡ held b (map f (take i xs)) → w ≡ v ++ y ∷ [] → ends y ≡ f x
+    → held b (map ends w) ≡ held b (map f (take (i + 1) xs))
 held_pushed f xs i x v w y b within reads had now is =
     let e = map_more f xs i x within in
     let m = map-append ends v (y ∷ []) in
@@ -35,8 +37,10 @@ held_pushed f xs i x v w y b within reads had now is =
     cc
 
 -- one more row is read, which has none
-pub held_skipped : (f : Row → ℤ × ℤ) (xs : List Row) (i : ℕ) (x : Row) (v w : List Span) (b : ℤ) → i < length xs → x ≡ get_or xs i x
-    → held b (map ends v) ≡ held b (map f (take i xs)) → w ≡ v → (f x).1 <ℤ (f x).0 → held b (map ends w) ≡ held b (map f (take (i + 1) xs))
+pub held_skipped : (f : Row → ℤ × ℤ) (xs : List Row) (i : ℕ) (x : Row) (v w : List Span) (b : ℤ)
+    → i < length xs → x ≡ get_or xs i x
+    → held b (map ends v) ≡ held b (map f (take i xs)) → w ≡ v → (f x).1 <ℤ (f x).0
+    → held b (map ends w) ≡ held b (map f (take (i + 1) xs))
 held_skipped f xs i x v w b within reads had now none =
     let e = map_more f xs i x within in
     let h = held_append b (map f (take i xs)) (f (get_or xs i x) ∷ []) in
@@ -50,18 +54,23 @@ held_skipped f xs i x v w b within reads had now none =
 
 -- all rows were read
 pub held_all : (f : Row → ℤ × ℤ) (xs : List Row) (i : ℕ) (v : List Span) → length xs ≤ i
-    → ((b : ℤ) → held b (map ends v) ≡ held b (map f (take i xs))) → (b : ℤ) → held b (map ends v) ≡ held b (map f xs)
+    → ((b : ℤ) → held b (map ends v) ≡ held b (map f (take i xs))) → (b : ℤ)
+    → held b (map ends v) ≡ held b (map f xs)
 held_all f xs i v done had b =
     let same : take i xs ≡ xs = grind (arith, common_steps) in
     rw same at had b
 
-pub none_inner : (rows : List Row) (part : GridBox) (q need : ℕ) (v : List Span) (r : Option ℤ) → need ≡ length rows - q
-    → ((b : ℤ) → held b (map ends v) ≡ held b (inner_spans part rows)) → IsLeastIn (LiesInRelaxed (map ends v) need) r → IsNone r → NoneIsShownInner rows part q
+pub none_inner : (rows : List Row) (part : GridBox) (q need : ℕ) (v : List Span) (r : Option ℤ)
+    → need ≡ length rows - q
+    → ((b : ℤ) → held b (map ends v) ≡ held b (inner_spans part rows))
+    → IsLeastIn (LiesInRelaxed (map ends v) need) r → IsNone r → NoneIsShownInner rows part q
 none_inner rows part q need v None n same none e b h = none b (omega (arith, same b, h))
 none_inner rows part q need v (Some x) n same least e b h = absurd cc
 
-pub least_inner : (rows : List Row) (part : GridBox) (q need : ℕ) (v : List Span) (r : Option ℤ) → need ≡ length rows - q
-    → ((b : ℤ) → held b (map ends v) ≡ held b (inner_spans part rows)) → IsLeastIn (LiesInRelaxed (map ends v) need) r
+pub least_inner : (rows : List Row) (part : GridBox) (q need : ℕ) (v : List Span) (r : Option ℤ)
+    → need ≡ length rows - q
+    → ((b : ℤ) → held b (map ends v) ≡ held b (inner_spans part rows))
+    → IsLeastIn (LiesInRelaxed (map ends v) need) r
     → IfSome r (λ b. IsLeastShownInner rows part q b)
 least_inner rows part q need v None n same none = tt
 least_inner rows part q need v (Some x) n same least = record {

@@ -8,14 +8,16 @@ use lib.Signed.{le_z}
 use Rattle.sat_model.specs.Relaxed.{holds}
 
 -- a span that lies above b doesn't hold it
-pub not_held_below : (above : Bool) (lo hi b : ℤ) → above ≡ true → IsTrue above ↔ b <ℤ lo → not above ≡ holds (lo, hi) b
+pub not_held_below : (above : Bool) (lo hi b : ℤ) → above ≡ true → IsTrue above ↔ b <ℤ lo
+    → not above ≡ holds (lo, hi) b
 not_held_below above lo hi b t p =
     let less : b <ℤ lo = p.0 t in
     let no : le_z lo b ≡ false = grind (arith, ints, less) in
     rw (t, no) refl
 
 -- one that doesn't holds it exactly where it isn't up to the number before
-pub held_from : (above up_to : Bool) (lo hi b : ℤ) → above ≡ false → IsTrue above ↔ b <ℤ lo → IsTrue up_to ↔ hi ≤ℤ (b -ℤ pos 1) → not up_to ≡ holds (lo, hi) b
+pub held_from : (above up_to : Bool) (lo hi b : ℤ) → above ≡ false → IsTrue above ↔ b <ℤ lo
+    → IsTrue up_to ↔ hi ≤ℤ (b -ℤ pos 1) → not up_to ≡ holds (lo, hi) b
 held_from above true lo hi b f p q =
     let less : hi ≤ℤ (b -ℤ pos 1) = q.0 refl in
     let no : le_z b hi ≡ false = grind (arith, ints, less) in
@@ -32,7 +34,8 @@ held_from above false lo hi b f p q =
     rw (yes, yes_too) refl
 
 -- one more of a list is counted where it passes
-pub one_more : {X : Type 0} (f : X → ℤ × ℤ) (p : ℤ × ℤ → Bool) (xs : List X) (i : ℕ) (x : X) → i < length xs → x ≡ get_or xs i x
+pub one_more : {X : Type 0} (f : X → ℤ × ℤ) (p : ℤ × ℤ → Bool) (xs : List X) (i : ℕ) (x : X)
+    → i < length xs → x ≡ get_or xs i x
     → count_by p (map f (take (i + 1) xs)) ≡ count_by p (map f (take i xs)) + cond (p (f x)) 1 0
 one_more f p xs i x within reads =
     let e : map f (take (i + 1) xs) ≡ map f (take i xs) ++ f (get_or xs i x) ∷ [] = map_more f xs i x within in
@@ -42,7 +45,8 @@ one_more f p xs i x within reads =
     rw (e, same) (omega (arith, sum, last))
 
 -- no more are counted in front than in all
-pub in_front : {X : Type 0} (f : X → ℤ × ℤ) (p : ℤ × ℤ → Bool) (xs : List X) (i : ℕ) → count_by p (map f (take i xs)) ≤ count_by p (map f xs)
+pub in_front : {X : Type 0} (f : X → ℤ × ℤ) (p : ℤ × ℤ → Bool) (xs : List X) (i : ℕ)
+    → count_by p (map f (take i xs)) ≤ count_by p (map f xs)
 in_front f p [] zero = omega arith
 in_front f p [] (suc i) = omega arith
 in_front f p (x ∷ xs) zero = omega arith

@@ -20,7 +20,8 @@ AreOrdered [] = Unit {0}
 AreOrdered (t ∷ spans) = (t.0 ≤ℤ t.1) × AreOrdered spans
 
 -- one span holds b, lies above it or lies below it, and only one of these
-one_of : (a b c : Bool) → (a ≡ true → b ≡ true → ⊥) → (a ≡ true → c ≡ true → ⊥) → (b ≡ true → c ≡ true → ⊥) → cond a 1 0 + cond b 1 0 + cond c 1 0 ≤ 1
+one_of : (a b c : Bool) → (a ≡ true → b ≡ true → ⊥) → (a ≡ true → c ≡ true → ⊥)
+    → (b ≡ true → c ≡ true → ⊥) → cond a 1 0 + cond b 1 0 + cond c 1 0 ≤ 1
 one_of true true c f g h = absurd (f refl refl)
 one_of true false true f g h = absurd (g refl refl)
 one_of true false false f g h = omega arith
@@ -32,7 +33,8 @@ one_of false false false f g h = omega arith
 lt_of : (a b : ℤ) → lt_z a b ≡ true → a <ℤ b
 lt_of a b h = omega (arith, ints)
 
-missed : (b low high : ℤ) (spans : List (ℤ × ℤ)) → low <ℤ b → b ≤ℤ high → AreOrdered spans → count_by (λ t. holds t b) spans + lows_above high spans + highs_to low spans ≤ length spans
+missed : (b low high : ℤ) (spans : List (ℤ × ℤ)) → low <ℤ b → b ≤ℤ high → AreOrdered spans
+    → count_by (λ t. holds t b) spans + lows_above high spans + highs_to low spans ≤ length spans
 missed b low high [] h k o = omega arith
 missed b low high (t ∷ spans) h k o =
     omega (
@@ -53,7 +55,8 @@ abbrev pub AreSeparated : ℕ → ℤ → ℕ → List ℤ → List (ℤ × ℤ)
 AreSeparated q high j [] spans = q + 1 ≤ lows_above high spans + j
 AreSeparated q high j (s ∷ more) spans = (q + 1 ≤ lows_above s spans + j) × (j + 1 ≤ highs_to s spans) × AreSeparated q high (j + 1) more spans
 
-too_many_missed : (q j : ℕ) (high b low : ℤ) (offsets : List ℤ) (spans : List (ℤ × ℤ)) → AreOrdered spans → low <ℤ b → b ≤ℤ high → j ≤ highs_to low spans
+too_many_missed : (q j : ℕ) (high b low : ℤ) (offsets : List ℤ) (spans : List (ℤ × ℤ))
+    → AreOrdered spans → low <ℤ b → b ≤ℤ high → j ≤ highs_to low spans
     → AreSeparated q high j offsets spans → count_by (λ t. holds t b) spans + q + 1 ≤ length spans
 too_many_missed q j high b low [] spans o h t k are = omega (arith, missed b low high spans h t o, are, k)
 too_many_missed q j high b low (s ∷ more) spans o h t k are = by_lt_z s b
@@ -66,10 +69,12 @@ pub record ArePartedFrom (q passed : ℕ) (high : ℤ) (spans : List (ℤ × ℤ
   pub offsets : List ℤ
   pub are : AreSeparated q high (q + 1 - passed) offsets spans
 
-pub none_parted : (q passed : ℕ) (high : ℤ) (spans : List (ℤ × ℤ)) → passed ≤ lows_above high spans → ArePartedFrom q passed high spans
+pub none_parted : (q passed : ℕ) (high : ℤ) (spans : List (ℤ × ℤ)) → passed ≤ lows_above high spans
+    → ArePartedFrom q passed high spans
 none_parted q passed high spans h = record { offsets = []; are = omega (arith, h) }
 
-pub one_parted : (q passed rank : ℕ) (s high : ℤ) (spans : List (ℤ × ℤ)) → passed ≤ q → rank ≡ q - passed → passed + 1 ≤ lows_above s spans → rank + 1 ≤ highs_to s spans
+pub one_parted : (q passed rank : ℕ) (s high : ℤ) (spans : List (ℤ × ℤ)) → passed ≤ q
+    → rank ≡ q - passed → passed + 1 ≤ lows_above s spans → rank + 1 ≤ highs_to s spans
     → ArePartedFrom q passed high spans → ArePartedFrom q (passed + 1) high spans
 one_parted q passed rank s high spans h r above up_to had = record {
   offsets = s ∷ had.offsets;
@@ -83,7 +88,8 @@ ordered : (part : Box3) (rows : List Row) → AreOrdered (clock_spans (grid_box 
 ordered part [] = record {}
 ordered part (row ∷ rows) = (omega (arith, ints, near_le_far row part, row.range.ordered, row.err.ordered), ordered part rows)
 
-pub parted_none : (q passed below above : ℕ) (part : Box3) (rows : List Row) → q + 1 ≤ passed + below
+pub parted_none : (q passed below above : ℕ) (part : Box3) (rows : List Row)
+    → q + 1 ≤ passed + below
     → ((high : ℤ) → above ≤ lows_above high (clock_spans (grid_box part) rows) → ArePartedFrom q passed high (clock_spans (grid_box part) rows))
     → NoneLiesBetween rows (grid_box part) q below above
 parted_none q passed below above part rows whole parted low high b k a h t lies =
@@ -94,7 +100,8 @@ parted_none q passed below above part rows whole parted low high b k a h t lies 
 
 -- ---- offsets at one side of spans
 
-pub none_below : (q : ℕ) (s : ℤ) (part : Box3) (rows : List Row) → q + 1 ≤ lows_above s (clock_spans (grid_box part) rows)
+pub none_below : (q : ℕ) (s : ℤ) (part : Box3) (rows : List Row)
+    → q + 1 ≤ lows_above s (clock_spans (grid_box part) rows)
     → (b : ℤ) → LiesInRelaxed (clock_spans (grid_box part) rows) (length rows - q) b → s <ℤ b
 none_below q s part rows h b lies =
     let spans = clock_spans (grid_box part) rows in
@@ -103,7 +110,8 @@ none_below q s part rows h b lies =
     (λ less. less)
     (λ not_less. absurd (omega (arith, missed b (b -ℤ pos 1) s spans (omega (arith, ints)) not_less (ordered part rows), same, h, lies)))
 
-pub none_above : (q : ℕ) (s : ℤ) (part : Box3) (rows : List Row) → q + 1 ≤ highs_to s (clock_spans (grid_box part) rows)
+pub none_above : (q : ℕ) (s : ℤ) (part : Box3) (rows : List Row)
+    → q + 1 ≤ highs_to s (clock_spans (grid_box part) rows)
     → (b : ℤ) → LiesInRelaxed (clock_spans (grid_box part) rows) (length rows - q) b → b ≤ℤ s
 none_above q s part rows h b lies =
     let spans = clock_spans (grid_box part) rows in

@@ -5,10 +5,12 @@ use Rattle.grid_model.specs.Amounts.{square}
 use Rattle.grid_model.specs.Roots.{IsRoot, root}
 use Rattle.grid_model.proofs.RootLemmas.{root_is, square-mono}
 
-pub at_ends : (f : ℤ → ℤ → ℤ → ℤ → ℕ) (r : ℕ) (a b c d a' b' c' d' : ℤ) → r ≡ f a b c d → a ≡ a' → b ≡ b' → c ≡ c' → d ≡ d' → r ≡ f a' b' c' d'
+pub at_ends : (f : ℤ → ℤ → ℤ → ℤ → ℕ) (r : ℕ) (a b c d a' b' c' d' : ℤ) → r ≡ f a b c d → a ≡ a'
+    → b ≡ b' → c ≡ c' → d ≡ d' → r ≡ f a' b' c' d'
 at_ends f r a b c d a' b' c' d' e ea eb ec ed = cc
 
-pub sum_same : (s x y z x' y' z' : ℕ) → s ≡ square x + square y + square z → x ≡ x' → y ≡ y' → z ≡ z' → s ≡ square x' + square y' + square z'
+pub sum_same : (s x y z x' y' z' : ℕ) → s ≡ square x + square y + square z → x ≡ x' → y ≡ y'
+    → z ≡ z' → s ≡ square x' + square y' + square z'
 sum_same s x y z x' y' z' e ex ey ez = cc
 
 -- a root is less than n exactly where its square is

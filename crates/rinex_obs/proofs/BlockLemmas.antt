@@ -14,18 +14,23 @@ use Rattle.rinex_obs.specs.declared.head.Head.TheVariants.{Epoch}
 use Rattle.rinex_obs.specs.declared.obs.ObsEpoch.{ObsEpoch}
 use Rattle.rinex_obs.specs.declared.obs.SatObs.{SatObs}
 
-pub behind_epoch : (count : ℕ) (head : Head) (tag : ℤ) (lines : ℕ) → head ≡ Epoch tag lines → IsHeadBehind count head → (pos 0 ≤ℤ tag) × (tag <ℤ pos 4000000000000000000000) × (count < 200000)
+pub behind_epoch : (count : ℕ) (head : Head) (tag : ℤ) (lines : ℕ) → head ≡ Epoch tag lines
+    → IsHeadBehind count head
+    → (pos 0 ≤ℤ tag) × (tag <ℤ pos 4000000000000000000000) × (count < 200000)
 behind_epoch count head tag lines e h = rw e at h
 
 abbrev with_tag : ℕ → ℤ → List SatObs → ℕ → Result Block Refusal
 with_tag index tag sats lines = Ok (record { epochs = record { index = index; tag = tag; sats = sats } ∷ []; lines = lines })
 
-pub epoch_is : (index : ℕ) (tag other : ℤ) (sats : List SatObs) (lines : ℕ) → other ≡ tag → with_tag index other sats lines ≡ with_tag index tag sats lines
+pub epoch_is : (index : ℕ) (tag other : ℤ) (sats : List SatObs) (lines : ℕ) → other ≡ tag
+    → with_tag index other sats lines ≡ with_tag index tag sats lines
 epoch_is index tag other sats lines e = rw e refl
 
 -- the lines of what was read are passed over
-skipped : (k n : ℕ) (wanted : Wanted) (epochs : List Observed) (lines : List TextLine) (answer : Result (List Observed) Refusal) → k ≤ length lines
-    → epochs_from wanted epochs (n + k) 0 (drop k lines) answer → epochs_from wanted epochs n k lines answer
+skipped : (k n : ℕ) (wanted : Wanted) (epochs : List Observed) (lines : List TextLine) (answer : Result (List Observed) Refusal)
+    → k ≤ length lines
+    → epochs_from wanted epochs (n + k) 0 (drop k lines) answer
+    → epochs_from wanted epochs n k lines answer
 skipped zero n wanted epochs lines answer enough h = let same : n + 0 ≡ n = omega arith in (rw same at h)
 skipped (suc k) n wanted epochs [] answer enough h = absurd (omega arith)
 skipped (suc k) n wanted epochs (line ∷ lines) answer enough h =
@@ -33,40 +38,54 @@ skipped (suc k) n wanted epochs (line ∷ lines) answer enough h =
     skipped k (n + 1) wanted epochs lines answer (omega arith) (rw same at h)
 
 module _ (wanted : Wanted) (epochs : List Observed) (count n number : ℕ) (lines more : List TextLine) (line : TextLine) (l : lines ≡ line ∷ more) (e : count ≡ length epochs) (next : number ≡ n + 1) where
-  pub head_fault : (f : Fault) → head_line count line (Err f) → epochs_from wanted epochs n 0 lines (Err (refusal f n))
+  pub head_fault : (f : Fault) → head_line count line (Err f)
+      → epochs_from wanted epochs n 0 lines (Err (refusal f n))
   head_fault f is = rw l (inr (f, (rw e at is), refl))
 
   module _ (head : Head) (is : head_line count line (Ok head)) where
-    pub block_fault : (refused : Refusal) → block_from wanted count head (record { number = number; lines = more }) (Err refused) → epochs_from wanted epochs n 0 lines (Err refused)
+    pub block_fault : (refused : Refusal)
+        → block_from wanted count head (record { number = number; lines = more }) (Err refused)
+        → epochs_from wanted epochs n 0 lines (Err refused)
     block_fault refused from = rw l (inl (head, (rw e at is), inr (refused, (rw (e, next) at from), refl)))
 
-    pub block_step : (block : Block) (behind m : ℕ) (after : List TextLine) (answer : Result (List Observed) Refusal) → block_from wanted count head (record { number = number; lines = more }) (Ok block)
-        → block.lines ≡ behind → behind ≤ length more → m ≡ number + behind → after ≡ drop behind more → epochs_from wanted (epochs ++ block.epochs) m 0 after answer → epochs_from wanted epochs n 0 lines answer
+    pub block_step : (block : Block) (behind m : ℕ) (after : List TextLine) (answer : Result (List Observed) Refusal)
+        → block_from wanted count head (record { number = number; lines = more }) (Ok block)
+        → block.lines ≡ behind → behind ≤ length more → m ≡ number + behind
+        → after ≡ drop behind more
+        → epochs_from wanted (epochs ++ block.epochs) m 0 after answer
+        → epochs_from wanted epochs n 0 lines answer
     block_step block behind m after answer from same enough place there h =
         let ends : m ≡ n + 1 + behind = omega arith in
         rw l (inl (head, (rw e at is), inl (block, (rw (e, next) at from), rw same (skipped behind (n + 1) wanted (epochs ++ block.epochs) more answer enough (rw (ends, there) at h)))))
 
-pub all_read : (wanted : Wanted) (epochs : List Observed) (n : ℕ) (lines : List TextLine) → lines ≡ [] → epochs_from wanted epochs n 0 lines (Ok epochs)
+pub all_read : (wanted : Wanted) (epochs : List Observed) (n : ℕ) (lines : List TextLine)
+    → lines ≡ [] → epochs_from wanted epochs n 0 lines (Ok epochs)
 all_read wanted epochs n lines e = rw e refl
 
-map_more : (epochs : List ObsEpoch) (epoch : ObsEpoch) → plain_epochs (epochs ++ epoch ∷ []) ≡ plain_epochs epochs ++ plain_epoch epoch ∷ []
+map_more : (epochs : List ObsEpoch) (epoch : ObsEpoch)
+    → plain_epochs (epochs ++ epoch ∷ []) ≡ plain_epochs epochs ++ plain_epoch epoch ∷ []
 map_more [] epoch = refl
 map_more (first ∷ epochs) epoch = ap (λ (l : List Observed). plain_epoch first ∷ l) (map_more epochs epoch)
 
 -- with what was read, an epoch or none
-pub one_more : (epochs items : List ObsEpoch) (found : Option ObsEpoch) (epoch : ObsEpoch) (lines : ℕ) → found ≡ Some epoch → items ≡ epochs ++ epoch ∷ []
+pub one_more : (epochs items : List ObsEpoch) (found : Option ObsEpoch) (epoch : ObsEpoch) (lines : ℕ)
+    → found ≡ Some epoch → items ≡ epochs ++ epoch ∷ []
     → plain_epochs items ≡ plain_epochs epochs ++ (block_of found lines).epochs
 one_more epochs items found epoch lines e f = rw (e, f) (map_more epochs epoch)
 
-pub none_more : (epochs : List ObsEpoch) (found : Option ObsEpoch) (lines : ℕ) → found ≡ None → plain_epochs epochs ≡ plain_epochs epochs ++ (block_of found lines).epochs
+pub none_more : (epochs : List ObsEpoch) (found : Option ObsEpoch) (lines : ℕ) → found ≡ None
+    → plain_epochs epochs ≡ plain_epochs epochs ++ (block_of found lines).epochs
 none_more epochs found lines e = rw e (rw append-nil refl)
 
 pub lines_of_block : (found : Option ObsEpoch) (lines : ℕ) → (block_of found lines).lines ≡ lines
 lines_of_block None lines = refl
 lines_of_block (Some epoch) lines = refl
 
-pub count_is : (epochs : List ObsEpoch) (n : ℕ) → n ≡ length epochs → n ≡ length (plain_epochs epochs)
+pub count_is : (epochs : List ObsEpoch) (n : ℕ) → n ≡ length epochs
+    → n ≡ length (plain_epochs epochs)
 count_is epochs n e = e ∙ sym (length-map epochs plain_epoch)
 
-pub in_body : (wanted : Wanted) (n m : ℕ) (lines others : List TextLine) (answer : Result (List Observed) Refusal) → n ≡ m → lines ≡ others → epochs_from wanted [] n 0 lines answer → epochs_from wanted [] m 0 others answer
+pub in_body : (wanted : Wanted) (n m : ℕ) (lines others : List TextLine) (answer : Result (List Observed) Refusal)
+    → n ≡ m → lines ≡ others → epochs_from wanted [] n 0 lines answer
+    → epochs_from wanted [] m 0 others answer
 in_body wanted n m lines others answer e f h = rw (e, f) at h

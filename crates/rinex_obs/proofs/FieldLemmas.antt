@@ -9,7 +9,8 @@ use Rattle.rinex_obs.specs.Epochs.{IsObserved, IsOtherSystem}
 use Rattle.std.proofs.lemmas.Bool.{both_ways}
 
 module _ (read : Result (Option Decimal) BadNumber) (field there : List ℕ) (same : field ≡ there) (numbers : (digits ten : ℤ) → Reads read digits ten ↔ IsFixed field digits ten) where
-  pub zero_observed : (number : Decimal) → read ≡ Ok (Some number) → number.digits ≡ pos 0 → IsObserved there None
+  pub zero_observed : (number : Decimal) → read ≡ Ok (Some number) → number.digits ≡ pos 0
+      → IsObserved there None
   zero_observed number is zero =
       let fixed = (numbers number.digits number.ten).0 is in
       inr (number.ten, subst (λ (f : List ℕ). IsFixed f (pos 0) number.ten) same (subst (λ (digits : ℤ). IsFixed field digits number.ten) zero fixed))
@@ -19,12 +20,15 @@ module _ (read : Result (Option Decimal) BadNumber) (field there : List ℕ) (sa
       let other = (numbers digits ten).1 (subst (λ (f : List ℕ). IsFixed f digits ten) (sym same) fixed) in
       absurd cc
 
-  pub not_observed : (e : BadNumber) → read ≡ Err e → (read ≡ Ok None) ↔ AreBlanks field → (value : Option Decimal) → IsObserved there value → ⊥
+  pub not_observed : (e : BadNumber) → read ≡ Err e → (read ≡ Ok None) ↔ AreBlanks field
+      → (value : Option Decimal) → IsObserved there value → ⊥
   not_observed e is blank None of = elim of [
     | inl blanks ↦ let other = blank.1 (subst AreBlanks (sym same) blanks) in absurd cc
     | inr zero ↦ not_fixed e is (pos 0) zero.0 zero.1
   ]
   not_observed e is blank (Some number) of = not_fixed e is number.digits number.ten of.0
 
-pub not_other : (tested both again : Bool) (letter byte : ℕ) → IsTrue tested ↔ IsOtherSystem both letter → letter ≡ byte → both ≡ again → tested ≡ false → IsOtherSystem again byte → ⊥
+pub not_other : (tested both again : Bool) (letter byte : ℕ)
+    → IsTrue tested ↔ IsOtherSystem both letter → letter ≡ byte → both ≡ again → tested ≡ false
+    → IsOtherSystem again byte → ⊥
 not_other tested both again letter byte is same read fails other = both_ways tested fails (is.1 (rw (same, read) other))

@@ -21,7 +21,8 @@ use Rattle.rinex_obs.proofs.OnlyLemmas.{seconds_only}
 use Rattle.std.proofs.lemmas.Bool.{both_ways}
 
 module _ (read : Result (Option Decimal) BadNumber) (field there : List ℕ) (same : field ≡ there) (numbers : (digits ten : ℤ) → Reads read digits ten ↔ IsFixed field digits ten) where
-  pub seconds_are : (number : Decimal) (tenths : ℕ) → read ≡ Ok (Some number) → AreTenths number tenths → IsSeconds there tenths
+  pub seconds_are : (number : Decimal) (tenths : ℕ) → read ≡ Ok (Some number)
+      → AreTenths number tenths → IsSeconds there tenths
   seconds_are number tenths is t =
       let fixed = (numbers number.digits number.ten).0 is in
       let a = subst (λ (f : List ℕ). IsFixed f number.digits number.ten) same fixed in
@@ -29,10 +30,12 @@ module _ (read : Result (Option Decimal) BadNumber) (field there : List ℕ) (sa
       record { digits = t.digits; decimals = t.decimals; number = subst (λ (p : ℤ). IsFixed there (pos t.digits) p) t.ten_is b; few = t.few; value = t.value; under = t.under }
 
   -- the number of such a field
-  pub number_read : (tenths : ℕ) (s : IsSeconds there tenths) → Reads read (pos s.digits) (neg_ℤ (pos s.decimals))
+  pub number_read : (tenths : ℕ) (s : IsSeconds there tenths)
+      → Reads read (pos s.digits) (neg_ℤ (pos s.decimals))
   number_read tenths s = (numbers (pos s.digits) (neg_ℤ (pos s.decimals))).1 (subst (λ (f : List ℕ). IsFixed f (pos s.digits) (neg_ℤ (pos s.decimals))) (sym same) s.number)
 
-  pub tenths_are : (number : Decimal) (tenths : ℕ) → read ≡ Ok (Some number) → IsSeconds there tenths → AreTenths number tenths
+  pub tenths_are : (number : Decimal) (tenths : ℕ) → read ≡ Ok (Some number)
+      → IsSeconds there tenths → AreTenths number tenths
   tenths_are number tenths is s =
       let other = number_read tenths s in
       let e : number.digits ≡ pos s.digits = cc in
@@ -40,7 +43,9 @@ module _ (read : Result (Option Decimal) BadNumber) (field there : List ℕ) (sa
       record { digits = s.digits; decimals = s.decimals; digits_are = e; ten_is = f; few = s.few; value = s.value; under = s.under }
 
 pub no_tag : (text : List ℕ) (year month day hour minute tenths : ℕ)
-    → IsCount (columns_of text 3 6) year → IsCount (columns_of text 8 9) month → IsCount (columns_of text 11 12) day → IsCount (columns_of text 14 15) hour → IsCount (columns_of text 17 18) minute → IsSeconds (columns_of text 19 29) tenths
+    → IsCount (columns_of text 3 6) year → IsCount (columns_of text 8 9) month
+    → IsCount (columns_of text 11 12) day → IsCount (columns_of text 14 15) hour
+    → IsCount (columns_of text 17 18) minute → IsSeconds (columns_of text 19 29) tenths
     → (tag : ℤ) → IsTag text tag → IsGpsTime year month day hour minute tenths
 no_tag text year month day hour minute tenths y mo d h mi s tag is =
     let ey = same_count _ _ _ is.year_is y in
@@ -51,15 +56,19 @@ no_tag text year month day hour minute tenths y mo d h mi s tag is =
     let es = seconds_only _ _ _ is.seconds_are s in
     rw (ey, emo, ed, eh, emi, es) at is.time
 
-pub some_on : (P Q : ℕ → Type 0) → ((n : ℕ) → P n → Q n) → (given : Option ℕ) → IfSome given P → IfSome given Q
+pub some_on : (P Q : ℕ → Type 0) → ((n : ℕ) → P n → Q n) → (given : Option ℕ) → IfSome given P
+    → IfSome given Q
 some_on P Q on None h = h
 some_on P Q on (Some n) h = on n h
 
-pub none_on : (P Q : ℕ → Type 0) → ((n : ℕ) → Q n → P n) → (given : Option ℕ) → IfNone given ((n : ℕ) → P n → ⊥) → IfNone given ((n : ℕ) → Q n → ⊥)
+pub none_on : (P Q : ℕ → Type 0) → ((n : ℕ) → Q n → P n) → (given : Option ℕ)
+    → IfNone given ((n : ℕ) → P n → ⊥) → IfNone given ((n : ℕ) → Q n → ⊥)
 none_on P Q on None h = λ n q. h n (on n q)
 none_on P Q on (Some n) h = h
 
-pub count_of_lines : (field there : List ℕ) (blank : Bool) (lines : ℕ) → field ≡ there → blank ≡ list_all is_blank field → blank ≡ false → IsLineCount there lines → IsCount there lines
+pub count_of_lines : (field there : List ℕ) (blank : Bool) (lines : ℕ) → field ≡ there
+    → blank ≡ list_all is_blank field → blank ≡ false → IsLineCount there lines
+    → IsCount there lines
 count_of_lines field there blank lines same test solid is = elim is [
   | inl (blanks, none) ↦ absurd (both_ways (list_all is_blank there) (rw same at (sym test ∙ solid)) blanks)
   | inr (other, count) ↦ count
@@ -76,7 +85,8 @@ module _ (count : ℕ) (line : TextLine) (short : IsShort line) (printable : lis
     no_flag other = inl (short, inl (printable, inl (begins, inr ((rw e at other), refl))))
 
     module _ (is : IsFlag flag) where
-      pub no_count : ((lines : ℕ) → IsLineCount (columns_of line.text 33 35) lines → ⊥) → head_line count line (Err fault.BadCount)
+      pub no_count : ((lines : ℕ) → IsLineCount (columns_of line.text 33 35) lines → ⊥)
+          → head_line count line (Err fault.BadCount)
       no_count none = inl (short, inl (printable, inl (begins, inl ((rw e at is), inr (none, refl)))))
 
       module _ (lines : ℕ) (number : IsLineCount (columns_of line.text 33 35) lines) where
@@ -84,11 +94,14 @@ module _ (count : ℕ) (line : TextLine) (short : IsShort line) (printable : lis
         is_event other = rw e (inl (short, inl (printable, inl (begins, inl ((rw e at is), inl (lines, number, inr ((rw e at other), refl)))))))
 
         module _ (of_epoch : flag ≤ 49) where
-          pub no_date : ((tag : ℤ) → IsTag line.text tag → ⊥) → head_line count line (Err fault.BadEpoch)
+          pub no_date : ((tag : ℤ) → IsTag line.text tag → ⊥)
+              → head_line count line (Err fault.BadEpoch)
           no_date none = inl (short, inl (printable, inl (begins, inl ((rw e at is), inl (lines, number, inl ((rw e at of_epoch), inr (none, refl)))))))
 
-          pub too_many : (tag : ℤ) → IsTag line.text tag → (count < 200000 → ⊥) → head_line count line (Err fault.TooMany)
+          pub too_many : (tag : ℤ) → IsTag line.text tag → (count < 200000 → ⊥)
+              → head_line count line (Err fault.TooMany)
           too_many tag date many = inl (short, inl (printable, inl (begins, inl ((rw e at is), inl (lines, number, inl ((rw e at of_epoch), inl (tag, date, inr (many, refl))))))))
 
-          pub is_epoch : (tag : ℤ) → IsTag line.text tag → count < 200000 → head_line count line (Ok (Epoch tag lines))
+          pub is_epoch : (tag : ℤ) → IsTag line.text tag → count < 200000
+              → head_line count line (Ok (Epoch tag lines))
           is_epoch tag date few = inl (short, inl (printable, inl (begins, inl ((rw e at is), inl (lines, number, inl ((rw e at of_epoch), inl (tag, date, inl (few, refl))))))))

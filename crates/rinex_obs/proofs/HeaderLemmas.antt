@@ -14,26 +14,35 @@ use Rattle.rinex_obs.specs.Reading.{IsFound, MayBeFound, AreFoundOf}
 use Rattle.rinex_obs.specs.declared.found.Found.{Found}
 
 module _ (sought : Sought) (position : Bool) (known : Header) (n : ℕ) (lines more : List TextLine) (line : TextLine) (e : lines ≡ line ∷ more) where
-  pub line_step : (next : Header) (m : ℕ) (answer : Result Start Refusal) → m ≡ n + 1 → IsShort line → (IsHeaderEnd line → ⊥) → header_line (are_both sought) position known line (Ok next)
-      → header_lines sought position next m more answer → header_lines sought position known n lines answer
+  pub line_step : (next : Header) (m : ℕ) (answer : Result Start Refusal) → m ≡ n + 1 → IsShort line
+      → (IsHeaderEnd line → ⊥) → header_line (are_both sought) position known line (Ok next)
+      → header_lines sought position next m more answer
+      → header_lines sought position known n lines answer
   line_step next m answer f short other is h = rw e (inl (short, inr (other, inl (next, is, rw f at h))))
 
-  pub line_fault : (f : Fault) → IsShort line → (IsHeaderEnd line → ⊥) → header_line (are_both sought) position known line (Err f) → header_lines sought position known n lines (Err (refusal f n))
+  pub line_fault : (f : Fault) → IsShort line → (IsHeaderEnd line → ⊥)
+      → header_line (are_both sought) position known line (Err f)
+      → header_lines sought position known n lines (Err (refusal f n))
   line_fault f short other is = rw e (inl (short, inr (other, inr (f, is, refl))))
 
-  pub end_fault : (f : Fault) → IsShort line → IsHeaderEnd line → header_end sought position known (Err f) → header_lines sought position known n lines (Err (refusal f n))
+  pub end_fault : (f : Fault) → IsShort line → IsHeaderEnd line
+      → header_end sought position known (Err f)
+      → header_lines sought position known n lines (Err (refusal f n))
   end_fault f short end is = rw e (inl (short, inl (end, inr (f, is, refl))))
 
 -- ---- what its end gives
 
-pub types_of : (signal : Signal) (types : Option Types) (kept : Option Found) (found : Found) → kept ≡ Some found → MayBeFound signal types kept → (t : Types) × (types ≡ Some t) × IsFound signal t found
+pub types_of : (signal : Signal) (types : Option Types) (kept : Option Found) (found : Found)
+    → kept ≡ Some found → MayBeFound signal types kept
+    → (t : Types) × (types ≡ Some t) × IsFound signal t found
 types_of signal None None found e m = absurd cc
 types_of signal None (Some kept) found e m = absurd m
 types_of signal (Some types) None found e m = absurd m
 types_of signal (Some types) (Some kept) found e m = (types, refl, subst (IsFound signal types) (same_Some kept found e) m)
 
 -- as for a system whose codes are wanted, where those of Galileo may not be
-pub as_found : (signal : Signal) (galileo : Option Signal) (types : Option Types) (found : Option Found) → AreFoundOf galileo types found → (some : Signal) × MayBeFound some types found
+pub as_found : (signal : Signal) (galileo : Option Signal) (types : Option Types) (found : Option Found)
+    → AreFoundOf galileo types found → (some : Signal) × MayBeFound some types found
 as_found signal None types found m = (signal, rw (m.0, m.1) tt)
 as_found signal (Some galileo) types found m = (galileo, m)
 

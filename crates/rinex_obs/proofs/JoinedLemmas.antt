@@ -18,7 +18,8 @@ length_on : (text : List ℕ) (place left : ℕ) → length (codes_on text place
 length_on text place zero = refl
 length_on text place (suc left) = omega (arith, length_on text (place + 1) left)
 
-codes_joined : (text : List ℕ) (place left : ℕ) (seen : List Code) → Give (λ (codes : List Code). codes ≡ seen ++ codes_on text place left) (codes_from text place left seen)
+codes_joined : (text : List ℕ) (place left : ℕ) (seen : List Code)
+    → Give (λ (codes : List Code). codes ≡ seen ++ codes_on text place left) (codes_from text place left seen)
 codes_joined text place zero seen = given (λ (codes : List Code). codes ≡ seen ++ []) seen (sym (append-nil seen))
 codes_joined text place (suc left) seen =
     let Meets : List Code → Type 0 = λ codes. codes ≡ seen ++ codes_on text place (suc left) in
@@ -31,14 +32,16 @@ record HasMore (text : List ℕ) (count : ℕ) (seen : List Code) (more : Types)
   count_is : more.count ≡ count
   codes_are : more.codes ≡ seen ++ codes_on text 0 (min 13 (count - length seen))
 
-has_more : (text : List ℕ) (types : Types) → Give (HasMore text types.count types.codes) (more_codes text types)
+has_more : (text : List ℕ) (types : Types)
+    → Give (HasMore text types.count types.codes) (more_codes text types)
 has_more text types =
     let k = min 13 (types.count - length types.codes) in
     on_then (HasMore text types.count types.codes) (codes_from text 0 k types.codes) _ (λ codes l.
     given (HasMore text types.count types.codes) (record { count = types.count; codes = codes }) (record { count_is = refl; codes_are = codes_joined text 0 k types.codes (Ok codes) l }))
 
 -- how many are missing then
-missing_less : (count len k : ℕ) → len ≤ count → k ≡ min 13 (count - len) → (count - (len + k) ≡ (count - len) - 13) × (len + k ≤ count)
+missing_less : (count len k : ℕ) → len ≤ count → k ≡ min 13 (count - len)
+    → (count - (len + k) ≡ (count - len) - 13) × (len + k ≤ count)
 missing_less count len k h e =
     let f : (count - len) - 13 + min (count - len) 13 ≡ count - len = sub-add-min_cancel (count - len) 13 in
     let g : min 13 (count - len) ≡ min (count - len) 13 = min_comm 13 (count - len) in
@@ -56,12 +59,15 @@ module _ (letter : ℕ) where
   IsOther line = IsOf letter line.text → ⊥
 
   -- no type is missing
-  full_line : (types : Types) (text : List ℕ) → (length types.codes < types.count → ⊥) → Give (λ (next : Option Types). (IsOf letter text → ⊥) × (next ≡ Some types)) (types_line letter (Some types) text)
+  full_line : (types : Types) (text : List ℕ) → (length types.codes < types.count → ⊥)
+      → Give (λ (next : Option Types). (IsOf letter text → ⊥) × (next ≡ Some types)) (types_line letter (Some types) text)
   full_line types text full =
       let Meets : Option Types → Type 0 = λ next. (IsOf letter text → ⊥) × (next ≡ Some types) in
       on_where Meets _ _ _ (λ less. absurd (full less)) (on_test Meets _ _ _ (λ other. given Meets (Some types) (other, refl)))
 
-  full_walk : (types : Types) (lines : List TextLine) (after : Option Types) → (length types.codes < types.count → ⊥) → Walks (Some types) lines after → AllByRecursion IsOther lines × (after ≡ Some types)
+  full_walk : (types : Types) (lines : List TextLine) (after : Option Types)
+      → (length types.codes < types.count → ⊥) → Walks (Some types) lines after
+      → AllByRecursion IsOther lines × (after ≡ Some types)
   full_walk types [] after full e = (tt, e)
   full_walk types (line ∷ more) after full w =
       let step = full_line types line.text full (Ok w.0) w.1 in
@@ -86,7 +92,8 @@ module _ (letter : ℕ) where
     next_is : next ≡ Some more
     has : HasMore text types.count types.codes more
 
-  next_line : (types : Types) (text : List ℕ) → Give (λ (next : Option Types). ((length types.codes < types.count) × NextTypes text types next) ⊎ (length types.codes < types.count → ⊥)) (types_line letter (Some types) text)
+  next_line : (types : Types) (text : List ℕ)
+      → Give (λ (next : Option Types). ((length types.codes < types.count) × NextTypes text types next) ⊎ (length types.codes < types.count → ⊥)) (types_line letter (Some types) text)
   next_line types text =
       let Meets : Option Types → Type 0 = λ next. ((length types.codes < types.count) × NextTypes text types next) ⊎ (length types.codes < types.count → ⊥) in
       on_either Meets _ _ _
@@ -94,12 +101,16 @@ module _ (letter : ℕ) where
       given Meets (Some more) (inl (less, record { goes_on = on; more = more; next_is = refl; has = has_more text types (Ok more) l })))))
       (λ full. on_test Meets _ _ _ (λ other. given Meets (Some types) (inr full)))
 
-  none_left : (types last : Types) (lines : List TextLine) → length types.codes ≤ types.count → AllByRecursion IsOther lines → Some last ≡ Some types → GoOn types lines last
+  none_left : (types last : Types) (lines : List TextLine) → length types.codes ≤ types.count
+      → AllByRecursion IsOther lines → Some last ≡ Some types → GoOn types lines last
   none_left types last lines fits others e =
       let same : last ≡ types = same_Some last types e in
       record { more = []; rest = lines; spelled = refl; go_on = tt; others = others; count_is = ap (λ (t : Types). t.count) same; codes_are = ap (λ (t : Types). t.codes) same ∙ sym (append-nil types.codes); fits = subst (λ (t : Types). length t.codes ≤ t.count) (sym same) fits }
 
-  line_on : (types more last : Types) (line : TextLine) (lines : List TextLine) → length types.codes ≤ types.count → GoesOn line.text → HasMore line.text types.count types.codes more → GoOn more lines last → GoOn types (line ∷ lines) last
+  line_on : (types more last : Types) (line : TextLine) (lines : List TextLine)
+      → length types.codes ≤ types.count → GoesOn line.text
+      → HasMore line.text types.count types.codes more → GoOn more lines last
+      → GoOn types (line ∷ lines) last
   line_on types more last line lines fits on has g =
       let missing = types.count - length types.codes in
       let own = codes_on line.text 0 (min 13 missing) in
@@ -117,13 +128,15 @@ module _ (letter : ℕ) where
         fits = g.fits;
       }
 
-  more_fits : (text : List ℕ) (count : ℕ) (seen : List Code) (more : Types) → length seen ≤ count → HasMore text count seen more → length more.codes ≤ more.count
+  more_fits : (text : List ℕ) (count : ℕ) (seen : List Code) (more : Types) → length seen ≤ count
+      → HasMore text count seen more → length more.codes ≤ more.count
   more_fits text count seen more h has =
       let k = min 13 (count - length seen) in
       let len : length more.codes ≡ length seen + k = ap length has.codes_are ∙ (length-append seen (codes_on text 0 k) ∙ ap (λ n. length seen + n) (length_on text 0 k)) in
       omega (arith, len, has.count_is, (missing_less count (length seen) k h refl).1)
 
-  part_walk : (types last : Types) (lines : List TextLine) → length types.codes ≤ types.count → Walks (Some types) lines (Some last) → GoOn types lines last
+  part_walk : (types last : Types) (lines : List TextLine) → length types.codes ≤ types.count
+      → Walks (Some types) lines (Some last) → GoOn types lines last
   part_walk types last [] fits e = none_left types last [] fits tt e
   part_walk types last (line ∷ more) fits w = elim (next_line types line.text (Ok w.0) w.1) [
     | inl (less, next) ↦
@@ -143,7 +156,8 @@ module _ (letter : ℕ) where
     next_is : next ≡ Some more
     has : HasMore text count [] more
 
-  first_line : (text : List ℕ) → Give (λ (next : Option Types). FirstTypes text next ⊎ ((IsOf letter text → ⊥) × (next ≡ None))) (types_line letter None text)
+  first_line : (text : List ℕ)
+      → Give (λ (next : Option Types). FirstTypes text next ⊎ ((IsOf letter text → ⊥) × (next ≡ None))) (types_line letter None text)
   first_line text =
       let Meets : Option Types → Type 0 = λ next. FirstTypes text next ⊎ ((IsOf letter text → ⊥) × (next ≡ None)) in
       let Counted : Types → Type 0 = λ more. (count : ℕ) × IsCount (columns_of text 4 6) count × HasMore text count [] more in
@@ -155,7 +169,9 @@ module _ (letter : ℕ) where
       given Meets (Some more) (inl (record { of_system = gps; count = from.0; count_is = from.1; more = more; next_is = refl; has = from.2 }))))
       (λ other. given Meets None (inr (other, refl)))
 
-  from_first : (line : TextLine) (lines : List TextLine) (count : ℕ) (more last : Types) → AreComplete (Some last) → IsOf letter line.text → IsCount (columns_of line.text 4 6) count → HasMore line.text count [] more
+  from_first : (line : TextLine) (lines : List TextLine) (count : ℕ) (more last : Types)
+      → AreComplete (Some last) → IsOf letter line.text → IsCount (columns_of line.text 4 6) count
+      → HasMore line.text count [] more
       → GoOn more lines last → AreJoined letter (line ∷ lines) last.codes
   from_first line lines count more last complete gps is has g =
       let all : length last.codes ≡ count = omega (arith, complete, g.fits, g.count_is, has.count_is) in
@@ -178,7 +194,8 @@ module _ (letter : ℕ) where
         types_are = codes_are ∙ ap (λ n. codes_of_lines n (line ∷ g.more)) (sym all);
       }
 
-  pub joined : (lines : List TextLine) (last : Types) → AreComplete (Some last) → Walks None lines (Some last) → AreJoined letter lines last.codes
+  pub joined : (lines : List TextLine) (last : Types) → AreComplete (Some last)
+      → Walks None lines (Some last) → AreJoined letter lines last.codes
   joined [] last complete e = absurd cc
   joined (line ∷ more) last complete w = elim (first_line line.text (Ok w.0) w.1) [
     | inl first ↦
@@ -210,13 +227,15 @@ AreSolid codes = AllByRecursion IsSolid codes
 abbrev StaySolid : List Code → List Code → Type 0
 StaySolid before after = AreSolid before → AreSolid after
 
-solid_codes : (text : List ℕ) (place left : ℕ) (seen : List Code) → Give (StaySolid seen) (codes_from text place left seen)
+solid_codes : (text : List ℕ) (place left : ℕ) (seen : List Code)
+    → Give (StaySolid seen) (codes_from text place left seen)
 solid_codes text place zero seen = given (StaySolid seen) seen (λ are. are)
 solid_codes text place (suc left) seen =
     on_test (StaySolid seen) _ _ _ (λ solid. on_more (StaySolid (seen ++ code_at text place ∷ [])) (StaySolid seen) _ (λ codes more are. more (all_more IsSolid seen (code_at text place) are solid))
     (solid_codes text (place + 1) left (seen ++ code_at text place ∷ [])))
 
-solid_more : (text : List ℕ) (types : Types) → Give (λ (more : Types). StaySolid types.codes more.codes) (more_codes text types)
+solid_more : (text : List ℕ) (types : Types)
+    → Give (λ (more : Types). StaySolid types.codes more.codes) (more_codes text types)
 solid_more text types =
     let k = min 13 (types.count - length types.codes) in
     let Meets : Types → Type 0 = λ more. StaySolid types.codes more.codes in
@@ -229,7 +248,8 @@ solid_first text =
     on_more (λ (more : Types). StaySolid [] more.codes) Meets _ (λ more stay. stay tt) (solid_more text (record { count = count; codes = [] }))))
 
 module _ (letter : ℕ) where
-  solid_line : (types : Option Types) (text : List ℕ) → Give (λ (next : Option Types). StaySolid (codes_of types) (codes_of next)) (types_line letter types text)
+  solid_line : (types : Option Types) (text : List ℕ)
+      → Give (λ (next : Option Types). StaySolid (codes_of types) (codes_of next)) (types_line letter types text)
   solid_line None text =
       let Meets : Option Types → Type 0 = λ next. StaySolid [] (codes_of next) in
       on_where Meets _ _ _ (λ gps. on_then Meets (first_codes text) _ (λ types l. given Meets (Some types) (λ are. solid_first text (Ok types) l))) (given Meets None (λ are. are))
@@ -239,7 +259,8 @@ module _ (letter : ℕ) where
       (λ less. on_test Meets _ _ _ (λ on. on_then Meets (more_codes text types) _ (λ more l. given Meets (Some more) (solid_more text types (Ok more) l))))
       (on_test Meets _ _ _ (λ other. given Meets (Some types) (λ are. are)))
 
-  pub solid_walk : (types : Option Types) (lines : List TextLine) (after : Option Types) → Walks letter types lines after → AreSolid (codes_of types) → AreSolid (codes_of after)
+  pub solid_walk : (types : Option Types) (lines : List TextLine) (after : Option Types)
+      → Walks letter types lines after → AreSolid (codes_of types) → AreSolid (codes_of after)
   solid_walk types [] after e are = subst (λ (t : Option Types). AreSolid (codes_of t)) (sym e) are
   solid_walk types (line ∷ more) after w are = solid_walk w.0 more after w.2 (solid_line types line.text (Ok w.0) w.1 are)
 
@@ -249,7 +270,8 @@ module _ (letter : ℕ) where
   abbrev pub AreTypesBehind : TextLine → Option Types → Option Types → Type 0
   AreTypesBehind line before after = ((is_types_line line ≡ true) × types_line letter before line.text (Ok after)) ⊎ ((is_types_line line ≡ false) × (after ≡ before))
 
-  pub walks_first : (line : TextLine) (header : List TextLine) (before next after : Option Types) → AreTypesBehind line before next → Walks letter next (filter is_types_line header) after
+  pub walks_first : (line : TextLine) (header : List TextLine) (before next after : Option Types)
+      → AreTypesBehind line before next → Walks letter next (filter is_types_line header) after
       → Walks letter before (filter is_types_line (line ∷ header)) after
   walks_first line header before next after (inl (is, step)) w =
       subst (λ (b : Bool). Walks letter before (cond b (line ∷ filter is_types_line header) (filter is_types_line header)) after) (sym is) (next, step, w)

@@ -37,14 +37,16 @@ use Rattle.grid_model.proofs.PointLemmas.{same_pos as same_point}
 
 -- ---- types
 
-codes_only : (text : List ℕ) (place left : ℕ) (codes : List Code) → IsOnly (codes_from text place left codes)
+codes_only : (text : List ℕ) (place left : ℕ) (codes : List Code)
+    → IsOnly (codes_from text place left codes)
 codes_only text place zero codes x y a b = a ∙ sym b
 codes_only text place (suc left) codes x y a b = test_only _ _ _ (codes_only text (place + 1) left _) x y a b
 
 more_only : (text : List ℕ) (types : Types) → IsOnly (more_codes text types)
 more_only text types = then_only _ _ (codes_only text 0 _ types.codes) (λ codes. gives_only _)
 
-types_only : (letter : ℕ) (types : Option Types) (text : List ℕ) → IsOnly (types_line letter types text)
+types_only : (letter : ℕ) (types : Option Types) (text : List ℕ)
+    → IsOnly (types_line letter types text)
 types_only letter None text =
     where_only _ _ _
     (then_only _ _ (read_only _ _ _ (same_count _) (λ count. test_only _ _ _ (more_only text (record { count = count; codes = [] })))) (λ types. gives_only _))
@@ -54,13 +56,15 @@ types_only letter (Some types) text =
     (test_only _ _ _ (then_only _ _ (more_only text types) (λ more. gives_only _)))
     (test_only _ _ _ (gives_only _))
 
-galileo_only : (both : Bool) (types : Option Types) (text : List ℕ) → IsOnly (galileo_line both types text)
+galileo_only : (both : Bool) (types : Option Types) (text : List ℕ)
+    → IsOnly (galileo_line both types text)
 galileo_only false types text = gives_only types
 galileo_only true types text = types_only 69 types text
 
 -- ---- fields
 
-same_fixed : (field : List ℕ) (number other : Decimal) → IsFixed field number.digits number.ten → IsFixed field other.digits other.ten → number ≡ other
+same_fixed : (field : List ℕ) (number other : Decimal) → IsFixed field number.digits number.ten
+    → IsFixed field other.digits other.ten → number ≡ other
 same_fixed field number other a b =
     let first = (fixed_answer field number.digits number.ten).1 a in
     let second = (fixed_answer field other.digits other.ten).1 b in
@@ -79,7 +83,8 @@ fixed_only field (Some number) None a b = absurd (not_blank field number.digits 
 fixed_only field (Some number) (Some other) a b = ap (λ (d : Decimal). Some d) (same_fixed field number other a b)
 
 -- a number of the field is zero where the field has zero
-is_zero : (field : List ℕ) (ten : ℤ) (number : Decimal) → IsFixed field (pos 0) ten → IsFixed field number.digits number.ten → number.digits ≡ pos 0
+is_zero : (field : List ℕ) (ten : ℤ) (number : Decimal) → IsFixed field (pos 0) ten
+    → IsFixed field number.digits number.ten → number.digits ≡ pos 0
 is_zero field ten number a b = ap (λ (d : Decimal). d.digits) (same_fixed field number (record { digits = pos 0; ten = ten }) b a)
 
 observed_only : (field : List ℕ) → IsOnly (IsObserved field)
@@ -115,7 +120,8 @@ coordinate_only number q r a b =
 point_only : (coordinates : Coordinates) → IsOnly (IsPoint coordinates)
 point_only coordinates p q a b = same_point _ _ _ _ _ _ (coordinate_only _ p.x q.x a.x b.x) (coordinate_only _ p.y q.y a.y b.y) (coordinate_only _ p.z q.z a.z b.z)
 
-position_only : (wanted : Bool) (coordinates : Option Coordinates) → IsOnly (IsPosition wanted coordinates)
+position_only : (wanted : Bool) (coordinates : Option Coordinates)
+    → IsOnly (IsPosition wanted coordinates)
 position_only false coordinates None None a b = refl
 position_only false coordinates None (Some q) a b = absurd b
 position_only false coordinates (Some p) y a b = absurd a
@@ -124,7 +130,8 @@ position_only true (Some coordinates) None y a b = absurd a
 position_only true (Some coordinates) (Some p) None a b = absurd b
 position_only true (Some coordinates) (Some p) (Some q) a b = ap (λ (point : Pos). Some point) (point_only coordinates p q a b)
 
-same_places : (m n : ℕ) (p q : Option ℕ) → m ≡ n → p ≡ q → ◌≡◌ {A = CodePlaces} (record { first = m; second = p }) (record { first = n; second = q })
+same_places : (m n : ℕ) (p q : Option ℕ) → m ≡ n → p ≡ q
+    → ◌≡◌ {A = CodePlaces} (record { first = m; second = p }) (record { first = n; second = q })
 same_places m n p q e f = rw (e, f) refl
 
 places_only : (signal : Signal) (codes : List Code) → IsOnly (ArePlaces signal codes)
@@ -137,7 +144,8 @@ may_be_only (Some signal) codes None y a b = absurd a
 may_be_only (Some signal) codes (Some x) None a b = absurd b
 may_be_only (Some signal) codes (Some x) (Some y) a b = ap (λ (p : CodePlaces). Some p) (places_only signal codes x y a b)
 
-same_wanted : (m n : CodePlaces) (p q : Option CodePlaces) → m ≡ n → p ≡ q → ◌≡◌ {A = Wanted} (record { gps = m; galileo = p }) (record { gps = n; galileo = q })
+same_wanted : (m n : CodePlaces) (p q : Option CodePlaces) → m ≡ n → p ≡ q
+    → ◌≡◌ {A = Wanted} (record { gps = m; galileo = p }) (record { gps = n; galileo = q })
 same_wanted m n p q e f = rw (e, f) refl
 
 wanted_only : (sought : Sought) (gps galileo : List Code) → IsOnly (AreWanted sought gps galileo)
@@ -148,22 +156,26 @@ position_line_only : (text : List ℕ) → IsOnly (position_line text)
 position_line_only text =
     read_only _ _ _ (fixed_only _) (λ x. read_only _ _ _ (fixed_only _) (λ y. read_only _ _ _ (fixed_only _) (λ z. gives_only _)))
 
-behind_only : (both : Bool) (header : Header) (text : List ℕ) → IsOnly (types_behind both header text)
+behind_only : (both : Bool) (header : Header) (text : List ℕ)
+    → IsOnly (types_behind both header text)
 behind_only both header text =
     then_only _ _ (types_only 71 header.gps text) (λ gps. then_only _ _ (galileo_only both header.galileo text) (λ galileo. gives_only _))
 
-header_line_only : (both position : Bool) (header : Header) (line : TextLine) → IsOnly (header_line both position header line)
+header_line_only : (both position : Bool) (header : Header) (line : TextLine)
+    → IsOnly (header_line both position header line)
 header_line_only both position header line =
     where_only _ _ _ (behind_only both header line.text)
     (where_only _ _ _ (test_only _ _ _ (gives_only _))
     (where_only _ _ _ (test_only _ _ _ (gives_only _))
     (where_only _ _ _ (then_only _ _ (position_line_only line.text) (λ coordinates. gives_only _)) (gives_only _))))
 
-header_end_only : (sought : Sought) (position : Bool) (header : Header) → IsOnly (header_end sought position header)
+header_end_only : (sought : Sought) (position : Bool) (header : Header)
+    → IsOnly (header_end sought position header)
 header_end_only sought position header =
     test_only _ _ _ (read_only _ _ _ (wanted_only sought _ _) (λ wanted. read_only _ _ _ (position_only position header.position) (λ point. gives_only _)))
 
-header_lines_only : (sought : Sought) (position : Bool) (header : Header) (number : ℕ) (lines : List TextLine) → IsOnly (header_lines sought position header number lines)
+header_lines_only : (sought : Sought) (position : Bool) (header : Header) (number : ℕ) (lines : List TextLine)
+    → IsOnly (header_lines sought position header number lines)
 header_lines_only sought position header number [] x y a b = a ∙ sym b
 header_lines_only sought position header number (line ∷ more) x y a b =
     test_only _ _ _
@@ -214,12 +226,14 @@ places_of_only wanted letter x y (inl (g, a)) (inr (h, b)) = absurd (omega (arit
 places_of_only wanted letter x y (inr (g, a)) (inl (h, b)) = absurd (omega (arith, g, h))
 places_of_only wanted letter x y (inr (g, a)) (inr (h, b)) = same_Some x y (sym a ∙ b)
 
-satellite_only : (wanted : Wanted) (sats : List SatObs) (line : TextLine) → IsOnly (satellite_line wanted sats line)
+satellite_only : (wanted : Wanted) (sats : List SatObs) (line : TextLine)
+    → IsOnly (satellite_line wanted sats line)
 satellite_only wanted sats line =
     test_only _ _ _ (where_only _ _ _ (gives_only _) (test_only _ _ _ (read_only _ _ _ (places_of_only wanted _) (λ places. read_only _ _ _ (number_only line.text) (λ number.
     test_only _ _ _ (test_only _ _ _ (read_only _ _ _ (observed_only _) (λ first. read_only _ _ _ (second_only line.text _) (λ second. gives_only _)))))))))
 
-satellites_only : (wanted : Wanted) (left : ℕ) (sats : List SatObs) (from : Behind) → IsOnly (satellites_from wanted left sats from)
+satellites_only : (wanted : Wanted) (left : ℕ) (sats : List SatObs) (from : Behind)
+    → IsOnly (satellites_from wanted left sats from)
 satellites_only wanted zero sats from x y a b = a ∙ sym b
 satellites_only wanted (suc left) sats from x y a b =
     first_only _ _ (satellite_only wanted sats) (λ more next. satellites_only wanted left more next) from.number from.lines x y a b
@@ -227,15 +241,18 @@ satellites_only wanted (suc left) sats from x y a b =
 event_line_only : (both labelled : Bool) (line : TextLine) → IsOnly (event_line both labelled line)
 event_line_only both labelled line = test_only _ _ _ (where_only _ _ _ (test_only _ _ _ (test_only _ _ _ (gives_only tt))) (gives_only tt))
 
-event_only : (both labelled : Bool) (left : ℕ) (from : Behind) → IsOnly (event_from both labelled left from)
+event_only : (both labelled : Bool) (left : ℕ) (from : Behind)
+    → IsOnly (event_from both labelled left from)
 event_only both labelled zero from x y a b = a ∙ sym b
 event_only both labelled (suc left) from x y a b = first_only _ _ (event_line_only both labelled) (λ none next. event_only both labelled left next) from.number from.lines x y a b
 
-block_only : (wanted : Wanted) (count : ℕ) (head : Head) (from : Behind) → IsOnly (block_from wanted count head from)
+block_only : (wanted : Wanted) (count : ℕ) (head : Head) (from : Behind)
+    → IsOnly (block_from wanted count head from)
 block_only wanted count (Epoch tag lines) from = then_only _ _ (satellites_only wanted lines [] from) (λ sats. gives_only _)
 block_only wanted count (Event labelled lines) from = then_only _ _ (event_only (have_both wanted) labelled lines from) (λ none. gives_only _)
 
-epochs_only : (wanted : Wanted) (epochs : List Observed) (number skip : ℕ) (lines : List TextLine) → IsOnly (epochs_from wanted epochs number skip lines)
+epochs_only : (wanted : Wanted) (epochs : List Observed) (number skip : ℕ) (lines : List TextLine)
+    → IsOnly (epochs_from wanted epochs number skip lines)
 epochs_only wanted epochs number skip [] x y a b = a ∙ sym b
 epochs_only wanted epochs number (suc skip) (line ∷ more) x y a b = epochs_only wanted epochs (number + 1) skip more x y a b
 epochs_only wanted epochs number zero (line ∷ more) x y a b =
@@ -243,21 +260,24 @@ epochs_only wanted epochs number zero (line ∷ more) x y a b =
 
 -- ---- files
 
-pub file_only : (sought : Sought) (position : Bool) (lines : List TextLine) → IsOnly (obs_file_of sought position lines)
+pub file_only : (sought : Sought) (position : Bool) (lines : List TextLine)
+    → IsOnly (obs_file_of sought position lines)
 file_only sought position lines =
     then_only _ _ (version_by_only (are_both sought) 79 lines) (λ version.
     then_only _ _ (header_lines_only sought position _ version.number version.lines) (λ start.
     then_only _ _ (epochs_only start.wanted [] start.behind.number 0 (counted start.behind.lines)) (λ epochs. gives_only _)))
 
 pub gives_observations : (sought : Sought) (position : Bool) (text : List ℕ) (observations : Observations) (given : Result Obs ReadError)
-    → IfOk given (λ obs. IsObsFileOf sought position text (observations_of obs)) → IfErr given (Refuses (obs_file_of sought position (lines_of text)))
+    → IfOk given (λ obs. IsObsFileOf sought position text (observations_of obs))
+    → IfErr given (Refuses (obs_file_of sought position (lines_of text)))
     → IsObsFileOf sought position text observations → GivesObservations observations given
 gives_observations sought position text observations (Ok obs) is fault file = ok_same _ _ (file_only sought position (lines_of text) _ _ is file)
 gives_observations sought position text observations (Err (Refused r)) is fault file = absurd (not_both _ _ (file_only sought position (lines_of text) _ _ file fault))
 gives_observations sought position text observations (Err NoMemory) is fault file = refl
 
 pub gives_refusal : (sought : Sought) (position : Bool) (text : List ℕ) (r : Refusal) (given : Result Obs ReadError)
-    → IfOk given (λ obs. IsObsFileOf sought position text (observations_of obs)) → IfErr given (Refuses (obs_file_of sought position (lines_of text)))
+    → IfOk given (λ obs. IsObsFileOf sought position text (observations_of obs))
+    → IfErr given (Refuses (obs_file_of sought position (lines_of text)))
     → IsFirstFaultOf sought position text r → GivesRefusal r given
 gives_refusal sought position text r (Ok obs) is fault first = not_both _ _ (file_only sought position (lines_of text) _ _ is first)
 gives_refusal sought position text r (Err (Refused other)) is fault first = inl (ap (λ u. Refused u) (err_same _ _ (file_only sought position (lines_of text) _ _ fault first)))

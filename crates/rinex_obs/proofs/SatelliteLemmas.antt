@@ -16,40 +16,49 @@ use Rattle.rinex_obs.specs.declared.found.Places.{Places}
 use Rattle.rinex_obs.specs.declared.obs.SatObs.{SatObs}
 
 -- places that are kept are there where those that they stand for are
-pub same_both : (galileo : Option Places) → is_some galileo ≡ is_some (option_map code_places galileo)
+pub same_both : (galileo : Option Places)
+    → is_some galileo ≡ is_some (option_map code_places galileo)
 same_both None = refl
 same_both (Some places) = refl
 
 module _ (wanted : Wanted) (sats : List SatObs) (line : TextLine) (letter : ℕ) (same : letter ≡ column_of line.text 1) (short : IsShort line) where
-  pub passed_over : IsOtherSystem (have_both wanted) letter → satellite_line wanted sats line (Ok sats)
+  pub passed_over : IsOtherSystem (have_both wanted) letter
+      → satellite_line wanted sats line (Ok sats)
   passed_over other = inl (short, inl ((rw same at other), refl))
 
   module _ (read : IsOtherSystem (have_both wanted) letter → ⊥) where
-    pub not_ascii : (list_all is_printable line.text ≡ true → ⊥) → satellite_line wanted sats line (Err fault.NotAscii)
+    pub not_ascii : (list_all is_printable line.text ≡ true → ⊥)
+        → satellite_line wanted sats line (Err fault.NotAscii)
     not_ascii other = inl (short, inr ((rw same at read), inr (other, refl)))
 
     module _ (ascii : list_all is_printable line.text ≡ true) where
-      pub no_system : ((places : CodePlaces) → ArePlacesOf wanted letter places → ⊥) → satellite_line wanted sats line (Err fault.BadSatellite)
+      pub no_system : ((places : CodePlaces) → ArePlacesOf wanted letter places → ⊥)
+          → satellite_line wanted sats line (Err fault.BadSatellite)
       no_system none = inl (short, inr ((rw same at read), inl (ascii, inr ((rw same at none), refl))))
 
       module _ (places : CodePlaces) (own : ArePlacesOf wanted letter places) where
-        pub no_number : ((number : ℕ) → IsNumber line.text number → ⊥) → satellite_line wanted sats line (Err fault.BadSatellite)
+        pub no_number : ((number : ℕ) → IsNumber line.text number → ⊥)
+            → satellite_line wanted sats line (Err fault.BadSatellite)
         no_number none = inl (short, inr ((rw same at read), inl (ascii, inl (places, (rw same at own), inr (none, refl)))))
 
         module _ (number : ℕ) (is : IsNumber line.text number) where
-          pub again : (list_any (has_sat (record { system = letter; number = number })) sats ≡ false → ⊥) → satellite_line wanted sats line (Err fault.RepeatSatellite)
+          pub again : (list_any (has_sat (record { system = letter; number = number })) sats ≡ false → ⊥)
+              → satellite_line wanted sats line (Err fault.RepeatSatellite)
           again old = inl (short, inr ((rw same at read), inl (ascii, inl (places, (rw same at own), inl (number, is, inr ((rw same at old), refl))))))
 
           module _ (new : list_any (has_sat (record { system = letter; number = number })) sats ≡ false) where
-            pub no_room : (length sats < 64 → ⊥) → satellite_line wanted sats line (Err fault.TooMany)
+            pub no_room : (length sats < 64 → ⊥)
+                → satellite_line wanted sats line (Err fault.TooMany)
             no_room full = inl (short, inr ((rw same at read), inl (ascii, inl (places, (rw same at own), inl (number, is, inl ((rw same at new), inr (full, refl)))))))
 
             module _ (room : length sats < 64) where
-              pub no_first : ((first : Option Decimal) → IsObserved (field_at line.text places.first) first → ⊥) → satellite_line wanted sats line (Err fault.BadNumber)
+              pub no_first : ((first : Option Decimal) → IsObserved (field_at line.text places.first) first → ⊥)
+                  → satellite_line wanted sats line (Err fault.BadNumber)
               no_first none = inl (short, inr ((rw same at read), inl (ascii, inl (places, (rw same at own), inl (number, is, inl ((rw same at new), inl (room, inr (none, refl))))))))
 
               module _ (first : Option Decimal) (a : IsObserved (field_at line.text places.first) first) where
-                pub no_second : ((second : Option Decimal) → IsSecond line.text places.second second → ⊥) → satellite_line wanted sats line (Err fault.BadNumber)
+                pub no_second : ((second : Option Decimal) → IsSecond line.text places.second second → ⊥)
+                    → satellite_line wanted sats line (Err fault.BadNumber)
                 no_second none = inl (short, inr ((rw same at read), inl (ascii, inl (places, (rw same at own), inl (number, is, inl ((rw same at new), inl (room, inl (first, a, inr (none, refl)))))))))
 
                 pub one_more : (second : Option Decimal) → IsSecond line.text places.second second

@@ -21,27 +21,32 @@ use Rattle.rinex_obs.specs.declared.obs.Obs.{Obs}
 
 -- ---- the lines that a first line counts
 
-satellites_settled : (wanted : Wanted) (left : ℕ) (sats : List SatObs) (number : ℕ) → AreSettled number (λ lines. satellites_from wanted left sats (record { number = number; lines = lines }))
+satellites_settled : (wanted : Wanted) (left : ℕ) (sats : List SatObs) (number : ℕ)
+    → AreSettled number (λ lines. satellites_from wanted left sats (record { number = number; lines = lines }))
 satellites_settled wanted zero sats number lines r e = absurd (not_both sats r (sym e))
 satellites_settled wanted (suc left) sats number lines r h =
     first_settled (satellite_line wanted sats) number (λ more next. satellites_from wanted left more next) (λ more. satellites_settled wanted left more (number + 1)) lines r h
 
-satellites_read : (wanted : Wanted) (left : ℕ) (sats : List SatObs) (number : ℕ) → IsReadOf left (λ lines. satellites_from wanted left sats (record { number = number; lines = lines }))
+satellites_read : (wanted : Wanted) (left : ℕ) (sats : List SatObs) (number : ℕ)
+    → IsReadOf left (λ lines. satellites_from wanted left sats (record { number = number; lines = lines }))
 satellites_read wanted zero sats number lines x e others same = e
 satellites_read wanted (suc left) sats number lines x h others same =
     first_read (satellite_line wanted sats) number (λ more next. satellites_from wanted left more next) left (λ more. satellites_read wanted left more (number + 1)) lines x h others same
 
-event_settled : (both labelled : Bool) (left number : ℕ) → AreSettled number (λ lines. event_from both labelled left (record { number = number; lines = lines }))
+event_settled : (both labelled : Bool) (left number : ℕ)
+    → AreSettled number (λ lines. event_from both labelled left (record { number = number; lines = lines }))
 event_settled both labelled zero number lines r e = absurd (not_both tt r (sym e))
 event_settled both labelled (suc left) number lines r h =
     first_settled (event_line both labelled) number (λ none next. event_from both labelled left next) (λ none. event_settled both labelled left (number + 1)) lines r h
 
-event_read : (both labelled : Bool) (left number : ℕ) → IsReadOf left (λ lines. event_from both labelled left (record { number = number; lines = lines }))
+event_read : (both labelled : Bool) (left number : ℕ)
+    → IsReadOf left (λ lines. event_from both labelled left (record { number = number; lines = lines }))
 event_read both labelled zero number lines x e others same = e
 event_read both labelled (suc left) number lines x h others same =
     first_read (event_line both labelled) number (λ none next. event_from both labelled left next) left (λ none. event_read both labelled left (number + 1)) lines x h others same
 
-block_settled : (wanted : Wanted) (count : ℕ) (head : Head) (number : ℕ) → AreSettled number (λ lines. block_from wanted count head (record { number = number; lines = lines }))
+block_settled : (wanted : Wanted) (count : ℕ) (head : Head) (number : ℕ)
+    → AreSettled number (λ lines. block_from wanted count head (record { number = number; lines = lines }))
 block_settled wanted count (Epoch tag left) number lines r (inl (sats, is, e)) = absurd (not_both _ r (sym e))
 block_settled wanted count (Epoch tag left) number lines r (inr (f, is, e)) =
     let same : r ≡ f = err_same r f e in
@@ -54,8 +59,10 @@ block_settled wanted count (Event labelled left) number lines r (inr (f, is, e))
     record { behind = s.behind; line_is = ap (λ (q : Refusal). q.line) same ∙ s.line_is; moves = λ others alike. inr (f, s.moves others alike, e) }
 
 -- what is read of a block comes of the lines that belong to it
-block_read : (wanted : Wanted) (count : ℕ) (head : Head) (number : ℕ) (lines others : List TextLine) (block : Block) → block_from wanted count head (record { number = number; lines = lines }) (Ok block)
-    → take block.lines lines ≡ take block.lines others → block_from wanted count head (record { number = number; lines = others }) (Ok block)
+block_read : (wanted : Wanted) (count : ℕ) (head : Head) (number : ℕ) (lines others : List TextLine) (block : Block)
+    → block_from wanted count head (record { number = number; lines = lines }) (Ok block)
+    → take block.lines lines ≡ take block.lines others
+    → block_from wanted count head (record { number = number; lines = others }) (Ok block)
 block_read wanted count (Epoch tag left) number lines others block (inl (sats, is, e)) same =
     let many : block.lines ≡ left = ap (λ (b : Block). b.lines) (ok_same block _ e) in
     inl (sats, satellites_read wanted left [] number lines sats is others (subst (λ (k : ℕ). take k lines ≡ take k others) many same), e)
@@ -72,7 +79,8 @@ record SettlesBehind (wanted : Wanted) (epochs : List Observed) (number read : �
   settled : Settles number (epochs_from wanted epochs number read) lines r
   behind : read ≤ settled.behind
 
-epochs_settled : (wanted : Wanted) (epochs : List Observed) (number read : ℕ) (lines : List TextLine) (r : Refusal) → epochs_from wanted epochs number read lines (Err r)
+epochs_settled : (wanted : Wanted) (epochs : List Observed) (number read : ℕ) (lines : List TextLine) (r : Refusal)
+    → epochs_from wanted epochs number read lines (Err r)
     → SettlesBehind wanted epochs number read lines r
 unfolding settled_later
 epochs_settled wanted epochs number zero [] r e = absurd (not_both epochs r (sym e))
@@ -104,7 +112,8 @@ epochs_settled wanted epochs number zero (line ∷ more) r (inr (f, is, e)) =
 
 -- ---- the header
 
-header_settled : (sought : Sought) (position : Bool) (known : Header) (number : ℕ) → AreSettled number (header_lines sought position known number)
+header_settled : (sought : Sought) (position : Bool) (known : Header) (number : ℕ)
+    → AreSettled number (header_lines sought position known number)
 header_settled sought position known number [] r e = settled_at_end number (header_lines sought position known number) r NoEndOfHeader e e
 header_settled sought position known number (line ∷ more) r (inl (short, inl (is, inl (end, l, e)))) = absurd (not_both _ r (sym e))
 header_settled sought position known number (line ∷ more) r (inl (short, inl (is, inr (f, l, e)))) =
@@ -122,7 +131,8 @@ header_settled sought position known number (line ∷ more) r (inr (long, e)) =
 abbrev with_behind : Start → List TextLine → Start
 with_behind start rest = record { wanted = start.wanted; position = start.position; behind = record { number = start.behind.number; lines = rest } }
 
-header_front : (sought : Sought) (position : Bool) (known : Header) (number : ℕ) (lines : List TextLine) (start : Start) → header_lines sought position known number lines (Ok start)
+header_front : (sought : Sought) (position : Bool) (known : Header) (number : ℕ) (lines : List TextLine) (start : Start)
+    → header_lines sought position known number lines (Ok start)
     → IsFront number (header_lines sought position known number) lines start.behind (with_behind start)
 header_front sought position known number [] start e = absurd (not_both _ _ e)
 header_front sought position known number (line ∷ more) start (inl (short, inl (is, inl (end, l, e)))) =
@@ -151,7 +161,8 @@ header_front sought position known number (line ∷ more) start (inr (long, e)) 
 abbrev Moves : Sought → Bool → List TextLine → List TextLine → Refusal → Type 0
 Moves sought position lines others r = AgreeTo r.line lines others → obs_file_of sought position others (Err r)
 
-settled_file : (sought : Sought) (position : Bool) (lines others : List TextLine) (r : Refusal) → obs_file_of sought position lines (Err r) → Moves sought position lines others r
+settled_file : (sought : Sought) (position : Bool) (lines others : List TextLine) (r : Refusal)
+    → obs_file_of sought position lines (Err r) → Moves sought position lines others r
 settled_file sought position lines others r (inr (f, v, e)) agree =
     let same : r ≡ f = err_same r f e in
     let s = version_by_settled (are_both sought) 79 lines f v in
@@ -191,7 +202,8 @@ settled_file sought position (line ∷ more) others r (inl (version, v, inl (sta
     ))
 settled_file sought position (line ∷ more) others r (inl (version, v, inl (start, s, inl (epochs, b, e)))) agree = absurd (not_both _ _ (sym e))
 
-pub settled_read : (sought : Sought) (position : Bool) (text : List ℕ) (read : Result Obs ReadError) → IfErr read (Refuses (obs_file_of sought position (lines_of text)))
+pub settled_read : (sought : Sought) (position : Bool) (text : List ℕ) (read : Result Obs ReadError)
+    → IfErr read (Refuses (obs_file_of sought position (lines_of text)))
     → IfErr read (IsSettled (obs_file_of sought position) text)
 settled_read sought position text (Ok obs) h = tt
 settled_read sought position text (Err NoMemory) h = tt

@@ -34,27 +34,32 @@ use Rattle.std.proofs.lemmas.Bool.{both_ways as no_epoch}
 
 -- ---- one for one
 
-one_join : {X Y : Type 0} (F : X → Y → Type 0) (xs more : List X) (ys after : List Y) → OneForOne F xs ys → OneForOne F more after → OneForOne F (xs ++ more) (ys ++ after)
+one_join : {X Y : Type 0} (F : X → Y → Type 0) (xs more : List X) (ys after : List Y)
+    → OneForOne F xs ys → OneForOne F more after → OneForOne F (xs ++ more) (ys ++ after)
 one_join F [] more [] after a b = b
 one_join F [] more (y ∷ ys) after a b = absurd a
 one_join F (x ∷ xs) more [] after a b = absurd a
 one_join F (x ∷ xs) more (y ∷ ys) after a b = (a.0, one_join F xs more ys after a.1 b)
 
-filter_first : {X : Type 0} (p : X → Bool) (x : X) (xs : List X) → filter p (x ∷ xs) ≡ filter p (x ∷ []) ++ filter p xs
+filter_first : {X : Type 0} (p : X → Bool) (x : X) (xs : List X)
+    → filter p (x ∷ xs) ≡ filter p (x ∷ []) ++ filter p xs
 filter_first p x xs = elim (p x) as (λ b. cond b (x ∷ filter p xs) (filter p xs) ≡ cond b (x ∷ []) [] ++ filter p xs) [
   | true ↦ refl
   | false ↦ refl
 ]
 
 -- one more in front
-one_first : {X Y : Type 0} (F : X → Y → Type 0) (p : X → Bool) (x : X) (xs : List X) (ys after : List Y) → OneForOne F (filter p (x ∷ [])) ys → OneForOne F (filter p xs) after
+one_first : {X Y : Type 0} (F : X → Y → Type 0) (p : X → Bool) (x : X) (xs : List X) (ys after : List Y)
+    → OneForOne F (filter p (x ∷ [])) ys → OneForOne F (filter p xs) after
     → OneForOne F (filter p (x ∷ xs)) (ys ++ after)
 one_first F p x xs ys after a b = subst (λ l. OneForOne F l (ys ++ after)) (sym (filter_first p x xs)) (one_join F (filter p (x ∷ [])) (filter p xs) ys after a b)
 
-kept : {X Y : Type 0} (F : X → Y → Type 0) (b : Bool) (x : X) (y : Y) → b ≡ true → F x y → OneForOne F (cond b (x ∷ []) []) (y ∷ [])
+kept : {X Y : Type 0} (F : X → Y → Type 0) (b : Bool) (x : X) (y : Y) → b ≡ true → F x y
+    → OneForOne F (cond b (x ∷ []) []) (y ∷ [])
 kept F b x y e is = subst (λ (t : Bool). OneForOne F (cond t (x ∷ []) []) (y ∷ [])) (sym e) (is, tt)
 
-left_out : {X Y : Type 0} (F : X → Y → Type 0) (b : Bool) (x : X) → b ≡ false → OneForOne {X = X} {Y = Y} F (cond b (x ∷ []) []) []
+left_out : {X Y : Type 0} (F : X → Y → Type 0) (b : Bool) (x : X) → b ≡ false
+    → OneForOne {X = X} {Y = Y} F (cond b (x ∷ []) []) []
 left_out {X} {Y} F b x e = subst (λ (t : Bool). OneForOne {X = X} {Y = Y} F (cond t (x ∷ []) []) []) (sym e) tt
 
 is_letter : (both : Bool) (letter : ℕ) → IsRead both letter → is_read both letter ≡ true
@@ -84,7 +89,8 @@ record AddsOn (wanted : Wanted) (line : TextLine) (sats after : List SatObs) : T
   after_is : after ≡ sats ++ new
   seen : OneForOne (IsSeenOn wanted) (filter (is_of_read (have_both wanted)) (line ∷ [])) new
 
-adds_on : (wanted : Wanted) (sats : List SatObs) (line : TextLine) → Give (AddsOn wanted line sats) (satellite_line wanted sats line)
+adds_on : (wanted : Wanted) (sats : List SatObs) (line : TextLine)
+    → Give (AddsOn wanted line sats) (satellite_line wanted sats line)
 adds_on wanted sats line =
     let Meets : List SatObs → Type 0 = AddsOn wanted line sats in
     on_test Meets _ _ _ (λ short. on_where Meets _ _ _
@@ -108,7 +114,8 @@ record AddAll (wanted : Wanted) (left : ℕ) (lines : List TextLine) (sats after
   after_is : after ≡ sats ++ new
   seen : OneForOne (IsSeenOn wanted) (filter (is_of_read (have_both wanted)) (take left lines)) new
 
-add_first : (wanted : Wanted) (left : ℕ) (line : TextLine) (more : List TextLine) (sats next after : List SatObs) → AddsOn wanted line sats next → AddAll wanted left more next after
+add_first : (wanted : Wanted) (left : ℕ) (line : TextLine) (more : List TextLine) (sats next after : List SatObs)
+    → AddsOn wanted line sats next → AddAll wanted left more next after
     → AddAll wanted (suc left) (line ∷ more) sats after
 add_first wanted left line more sats next after a t = record {
   enough = omega (arith, t.enough);
@@ -118,7 +125,8 @@ add_first wanted left line more sats next after a t = record {
   seen = one_first (IsSeenOn wanted) (is_of_read (have_both wanted)) line (take left more) a.new t.new a.seen t.seen;
 }
 
-add_all : (wanted : Wanted) (left : ℕ) (sats : List SatObs) (number : ℕ) (lines : List TextLine) → Give (AddAll wanted left lines sats) (satellites_from wanted left sats (record { number = number; lines = lines }))
+add_all : (wanted : Wanted) (left : ℕ) (sats : List SatObs) (number : ℕ) (lines : List TextLine)
+    → Give (AddAll wanted left lines sats) (satellites_from wanted left sats (record { number = number; lines = lines }))
 add_all wanted zero sats number lines = given (AddAll wanted zero lines sats) sats (record { enough = omega arith; short = tt; new = []; after_is = sym (append-nil sats); seen = tt })
 add_all wanted (suc left) sats number [] = λ r. λ e. rw e tt
 add_all wanted (suc left) sats number (line ∷ more) =
@@ -134,19 +142,22 @@ record Passes (both labelled : Bool) (left : ℕ) (lines : List TextLine) : Type
   short : AllByRecursion IsShort (take left lines)
   fine : labelled ≡ true → AllByRecursion (IsFineInEvent both) (take left lines)
 
-event_fine : (both labelled : Bool) (line : TextLine) → Give (λ (none : Unit {0}). labelled ≡ true → IsFineInEvent both line) (event_line both labelled line)
+event_fine : (both labelled : Bool) (line : TextLine)
+    → Give (λ (none : Unit {0}). labelled ≡ true → IsFineInEvent both line) (event_line both labelled line)
 event_fine both labelled line =
     let Meets : Unit {0} → Type 0 = λ none. labelled ≡ true → IsFineInEvent both line in
     on_test Meets _ _ _ (λ short. on_either Meets _ _ _
     (λ looked. on_test Meets _ _ _ (λ scale. on_test Meets _ _ _ (λ types. given Meets tt (λ e. record { scale = λ label gps. scale (label, gps); types = types }))))
     (λ other. given Meets tt (λ e. absurd (other e))))
 
-event_short : (both labelled : Bool) (line : TextLine) → Give (λ (none : Unit {0}). IsShort line) (event_line both labelled line)
+event_short : (both labelled : Bool) (line : TextLine)
+    → Give (λ (none : Unit {0}). IsShort line) (event_line both labelled line)
 event_short both labelled line =
     let Meets : Unit {0} → Type 0 = λ none. IsShort line in
     on_test Meets _ _ _ (λ short. on_where Meets _ _ _ (λ looked. on_test Meets _ _ _ (λ scale. on_test Meets _ _ _ (λ types. given Meets tt short))) (given Meets tt short))
 
-passes_all : (both labelled : Bool) (left number : ℕ) (lines : List TextLine) → Give (λ (none : Unit {0}). Passes both labelled left lines) (event_from both labelled left (record { number = number; lines = lines }))
+passes_all : (both labelled : Bool) (left number : ℕ) (lines : List TextLine)
+    → Give (λ (none : Unit {0}). Passes both labelled left lines) (event_from both labelled left (record { number = number; lines = lines }))
 passes_all both labelled zero number lines = given (λ (none : Unit {0}). Passes both labelled zero lines) tt (record { enough = omega arith; short = tt; fine = λ e. tt })
 passes_all both labelled (suc left) number [] = λ r. λ e. rw e tt
 passes_all both labelled (suc left) number (line ∷ more) =
@@ -183,8 +194,10 @@ record IsBlockOf (wanted : Wanted) (line : TextLine) (more : List TextLine) (blo
   part : IsPart (have_both wanted) (record { head = line; lines = take block.lines more })
   epochs : OneForOne (IsEpochOf wanted) (filter begins_epoch (record { head = line; lines = take block.lines more } ∷ [])) block.epochs
 
-is_part : (both : Bool) (line : TextLine) (lines : ℕ) (more : List TextLine) → IsOpening line lines → lines ≤ length more → AllByRecursion IsShort (take lines more)
-    → (nat_le (flag_of line.text) 49 ≡ false → nat_le (flag_of line.text) 53 ≡ true → AllByRecursion (IsFineInEvent both) (take lines more)) → IsPart both (record { head = line; lines = take lines more })
+is_part : (both : Bool) (line : TextLine) (lines : ℕ) (more : List TextLine) → IsOpening line lines
+    → lines ≤ length more → AllByRecursion IsShort (take lines more)
+    → (nat_le (flag_of line.text) 49 ≡ false → nat_le (flag_of line.text) 53 ≡ true → AllByRecursion (IsFineInEvent both) (take lines more))
+    → IsPart both (record { head = line; lines = take lines more })
 is_part both line lines more opening enough short event = record {
   marked = opening.marked;
   flag = opening.flag;
@@ -194,7 +207,8 @@ is_part both line lines more opening enough short event = record {
   event = event;
 }
 
-block_of : (wanted : Wanted) (count : ℕ) (line : TextLine) (head : Head) (number : ℕ) (more : List TextLine) → IsHeadOf line head
+block_of : (wanted : Wanted) (count : ℕ) (line : TextLine) (head : Head) (number : ℕ) (more : List TextLine)
+    → IsHeadOf line head
     → Give (IsBlockOf wanted line more) (block_from wanted count head (record { number = number; lines = more }))
 block_of wanted count line (Epoch tag lines) number more is =
     on_then (IsBlockOf wanted line more) (satellites_from wanted lines [] (record { number = number; lines = more })) _ (λ sats l.
@@ -222,8 +236,10 @@ record AreShared (wanted : Wanted) (skip : ℕ) (lines : List TextLine) (epochs 
   after_is : after ≡ epochs ++ new
   epochs_are : OneForOne (IsEpochOf wanted) (filter begins_epoch parts) new
 
-shared_first : (wanted : Wanted) (line : TextLine) (more : List TextLine) (block : Block) (epochs after : List Observed) → IsBlockOf wanted line more block
-    → AreShared wanted block.lines more (epochs ++ block.epochs) after → AreShared wanted zero (line ∷ more) epochs after
+shared_first : (wanted : Wanted) (line : TextLine) (more : List TextLine) (block : Block) (epochs after : List Observed)
+    → IsBlockOf wanted line more block
+    → AreShared wanted block.lines more (epochs ++ block.epochs) after
+    → AreShared wanted zero (line ∷ more) epochs after
 shared_first wanted line more block epochs after b s =
     let part : Part = record { head = line; lines = take block.lines more } in
     record {
@@ -238,7 +254,8 @@ shared_first wanted line more block epochs after b s =
 no_more : (wanted : Wanted) (epochs : List Observed) → AreShared wanted zero [] epochs epochs
 no_more wanted epochs = record { parts = []; spelled = refl; are_parts = tt; new = []; after_is = sym (append-nil epochs); epochs_are = tt }
 
-shared : (wanted : Wanted) (epochs : List Observed) (number skip : ℕ) (lines : List TextLine) → Give (AreShared wanted skip lines epochs) (epochs_from wanted epochs number skip lines)
+shared : (wanted : Wanted) (epochs : List Observed) (number skip : ℕ) (lines : List TextLine)
+    → Give (AreShared wanted skip lines epochs) (epochs_from wanted epochs number skip lines)
 shared wanted epochs number zero [] = given (AreShared wanted zero [] epochs) epochs (no_more wanted epochs)
 shared wanted epochs number (suc skip) [] = given (AreShared wanted (suc skip) [] epochs) epochs (record { parts = []; spelled = refl; are_parts = tt; new = []; after_is = sym (append-nil epochs); epochs_are = tt })
 shared wanted epochs number (suc skip) (line ∷ more) =
@@ -270,7 +287,9 @@ IsKnown header before after = (AllByRecursion (λ next. IsPositionLine next → 
 abbrev IsKnownBehind : TextLine → Option Coordinates → Option Coordinates → Type 0
 IsKnownBehind line before after = ((IsPositionLine line → ⊥) × (after ≡ before)) ⊎ (IsPositionLine line × position_line line.text (Ok after))
 
-known_first : (line : TextLine) (header : List TextLine) (before next after : Option Coordinates) → IsKnownBehind line before next → IsKnown header next after → IsKnown (line ∷ header) before after
+known_first : (line : TextLine) (header : List TextLine) (before next after : Option Coordinates)
+    → IsKnownBehind line before next → IsKnown header next after
+    → IsKnown (line ∷ header) before after
 known_first line header before next after (inl (other, same)) (inl (none, e)) = inl ((other, none), e ∙ same)
 known_first line header before next after (inr (is, says)) (inl (none, e)) =
     inr (record { before = []; line = line; behind = header; spelled = refl; labelled = is; last = none; are = subst (λ (c : Option Coordinates). position_line line.text (Ok c)) (sym e) says })
@@ -278,10 +297,12 @@ known_first line header before next after b (inr k) =
     inr (record { before = line ∷ k.before; line = k.line; behind = k.behind; spelled = ap (λ (l : List TextLine). line ∷ l) k.spelled; labelled = k.labelled; last = k.last; are = k.are })
 
 -- a label that begins with another letter
-other_label : (label some : List ℕ) → (get_or some 0 0 ≡ 65 → ⊥) → label ≡ some → label ≡ codes "APPROX POSITION XYZ" → ⊥
+other_label : (label some : List ℕ) → (get_or some 0 0 ≡ 65 → ⊥) → label ≡ some
+    → label ≡ codes "APPROX POSITION XYZ" → ⊥
 other_label label some apart a b = apart (ap (λ (l : List ℕ). get_or l 0 0) (sym a ∙ b))
 
-known_behind : (both : Bool) (header : Header) (line : TextLine) → Give (λ (next : Header). IsKnownBehind line header.position next.position) (header_line both true header line)
+known_behind : (both : Bool) (header : Header) (line : TextLine)
+    → Give (λ (next : Header). IsKnownBehind line header.position next.position) (header_line both true header line)
 known_behind both header line =
     let Meets : Header → Type 0 = λ next. IsKnownBehind line header.position next.position in
     on_where Meets _ _ _
@@ -295,10 +316,12 @@ known_behind both header line =
 
 -- ---- the types
 
-types_label : (label : List ℕ) → label ≡ codes "SYS / # / OBS TYPES" → bytes_eq label (codes "SYS / # / OBS TYPES") ≡ true
+types_label : (label : List ℕ) → label ≡ codes "SYS / # / OBS TYPES"
+    → bytes_eq label (codes "SYS / # / OBS TYPES") ≡ true
 types_label label e = (bytes_eq-Decides label (codes "SYS / # / OBS TYPES")).1 e
 
-no_types_label : (label : List ℕ) → (label ≡ codes "SYS / # / OBS TYPES" → ⊥) → bytes_eq label (codes "SYS / # / OBS TYPES") ≡ false
+no_types_label : (label : List ℕ) → (label ≡ codes "SYS / # / OBS TYPES" → ⊥)
+    → bytes_eq label (codes "SYS / # / OBS TYPES") ≡ false
 no_types_label label other = elim (bytes_eq label (codes "SYS / # / OBS TYPES")) as (λ b. (b ≡ true → label ≡ codes "SYS / # / OBS TYPES") → b ≡ false) [
   | true ↦ λ is. absurd (other (is refl))
   | false ↦ λ is. refl
@@ -309,11 +332,14 @@ abbrev AreGalileoBehind : Bool → TextLine → Option Types → Option Types �
 AreGalileoBehind false line before after = after ≡ before
 AreGalileoBehind true line before after = AreTypesBehind 69 line before after
 
-galileo_types : (both : Bool) (line : TextLine) (before after : Option Types) → is_types_line line ≡ true → galileo_line both before line.text (Ok after) → AreGalileoBehind both line before after
+galileo_types : (both : Bool) (line : TextLine) (before after : Option Types)
+    → is_types_line line ≡ true → galileo_line both before line.text (Ok after)
+    → AreGalileoBehind both line before after
 galileo_types false line before after is e = ok_same after before e
 galileo_types true line before after is l = inl (is, l)
 
-galileo_kept : (both : Bool) (line : TextLine) (before : Option Types) → is_types_line line ≡ false → AreGalileoBehind both line before before
+galileo_kept : (both : Bool) (line : TextLine) (before : Option Types) → is_types_line line ≡ false
+    → AreGalileoBehind both line before before
 galileo_kept false line before other = refl
 galileo_kept true line before other = inr (other, refl)
 
@@ -326,7 +352,9 @@ galileo_end : (both : Bool) (before : Option Types) → WalksGalileo both before
 galileo_end false before = refl
 galileo_end true before = refl
 
-galileo_first : (both : Bool) (line : TextLine) (header : List TextLine) (before next after : Option Types) → AreGalileoBehind both line before next → WalksGalileo both next (filter is_types_line header) after
+galileo_first : (both : Bool) (line : TextLine) (header : List TextLine) (before next after : Option Types)
+    → AreGalileoBehind both line before next
+    → WalksGalileo both next (filter is_types_line header) after
     → WalksGalileo both before (filter is_types_line (line ∷ header)) after
 galileo_first false line header before next after e f = f ∙ e
 galileo_first true line header before next after l w = walks_first 69 line header before next after l w
@@ -336,11 +364,13 @@ record AreListed (both : Bool) (line : TextLine) (before after : Header) : Type 
   gps : AreTypesBehind 71 line before.gps after.gps
   galileo : AreGalileoBehind both line before.galileo after.galileo
 
-none_listed : (both : Bool) (header : Header) (line : TextLine) (coordinates : Option Coordinates) → is_types_line line ≡ false
+none_listed : (both : Bool) (header : Header) (line : TextLine) (coordinates : Option Coordinates)
+    → is_types_line line ≡ false
     → AreListed both line header (record { gps = header.gps; galileo = header.galileo; position = coordinates })
 none_listed both header line coordinates other = record { gps = inr (other, refl); galileo = galileo_kept both line header.galileo other }
 
-listed : (both position : Bool) (header : Header) (line : TextLine) → Give (AreListed both line header) (header_line both position header line)
+listed : (both position : Bool) (header : Header) (line : TextLine)
+    → Give (AreListed both line header) (header_line both position header line)
 listed both position header line =
     let Meets : Header → Type 0 = AreListed both line header in
     on_either Meets _ _ _
@@ -355,10 +385,12 @@ listed both position header line =
 
 -- ---- the header
 
-labels_apart : (label a b : List ℕ) (k : ℕ) → (get_or a k 0 ≡ get_or b k 0 → ⊥) → label ≡ a → label ≡ b → ⊥
+labels_apart : (label a b : List ℕ) (k : ℕ) → (get_or a k 0 ≡ get_or b k 0 → ⊥) → label ≡ a
+    → label ≡ b → ⊥
 labels_apart label a b k apart e f = apart (ap (λ (l : List ℕ). get_or l k 0) (sym e ∙ f))
 
-is_fine : (both position : Bool) (header : Header) (line : TextLine) → Give (λ (next : Header). IsFineInHeader both position line) (header_line both position header line)
+is_fine : (both position : Bool) (header : Header) (line : TextLine)
+    → Give (λ (next : Header). IsFineInHeader both position line) (header_line both position header line)
 is_fine both position header line =
     let Meets : Header → Type 0 = λ next. IsFineInHeader both position line in
     on_either Meets _ _ _
@@ -406,14 +438,18 @@ record IsEnd (sought : Sought) (position : Bool) (known : Header) (end : Wanted 
   wanted : AreWanted sought (codes_of known.gps) (codes_of known.galileo) end.0
   position_is : IsPosition position known.position end.1
 
-end_gives : (sought : Sought) (position : Bool) (known : Header) → Give (IsEnd sought position known) (header_end sought position known)
+end_gives : (sought : Sought) (position : Bool) (known : Header)
+    → Give (IsEnd sought position known) (header_end sought position known)
 end_gives sought position known =
     let Meets : Wanted × Option Pos → Type 0 = IsEnd sought position known in
     on_test Meets _ _ _ (λ complete. on_read Meets _ _ _ (λ wanted (is : AreWanted sought (codes_of known.gps) (codes_of known.galileo) wanted). on_read Meets _ _ _ (λ point (at : IsPosition position known.position point).
     given Meets (wanted, point) (record { complete = complete; wanted = is; position_is = at }))))
 
-start_first : (sought : Sought) (position : Bool) (known next : Header) (line : TextLine) (more : List TextLine) (start : Start) → IsShort line → (IsHeaderEnd line → ⊥)
-    → (position ≡ true → IsKnownBehind line known.position next.position) → AreListed (are_both sought) line known next → IsFineInHeader (are_both sought) position line
+start_first : (sought : Sought) (position : Bool) (known next : Header) (line : TextLine) (more : List TextLine) (start : Start)
+    → IsShort line → (IsHeaderEnd line → ⊥)
+    → (position ≡ true → IsKnownBehind line known.position next.position)
+    → AreListed (are_both sought) line known next
+    → IsFineInHeader (are_both sought) position line
     → IsStart sought position next more start → IsStart sought position known (line ∷ more) start
 start_first sought position known next line more start short other says lists fine s = record {
   header = line ∷ s.header;
@@ -434,7 +470,8 @@ start_first sought position known next line more start short other says lists fi
   wanted_is = s.wanted_is;
 }
 
-starts : (sought : Sought) (position : Bool) (known : Header) (number : ℕ) (lines : List TextLine) → Give (IsStart sought position known lines) (header_lines sought position known number lines)
+starts : (sought : Sought) (position : Bool) (known : Header) (number : ℕ) (lines : List TextLine)
+    → Give (IsStart sought position known lines) (header_lines sought position known number lines)
 starts sought position known number [] = λ r. λ e. rw e tt
 starts sought position known number (line ∷ more) =
     let Meets : Start → Type 0 = IsStart sought position known (line ∷ more) in
@@ -470,12 +507,15 @@ no_places (Single code) places is = absurd cc
 no_places (Dual first second) places is = absurd cc
 
 -- the types of a system whose codes are wanted
-has_types : (letter : ℕ) (signal : Signal) (typed : List TextLine) (places : CodePlaces) (types : Option Types) → Walks letter None typed types → AreComplete types → ArePlaces signal (codes_of types) places
+has_types : (letter : ℕ) (signal : Signal) (typed : List TextLine) (places : CodePlaces) (types : Option Types)
+    → Walks letter None typed types → AreComplete types → ArePlaces signal (codes_of types) places
     → AreTypes letter typed (codes_of types)
 has_types letter signal typed places None w complete is = absurd (no_places signal places is)
 has_types letter signal typed places (Some types) w complete is = record { joined = joined letter typed types complete w; solid = solid_walk letter None typed (Some types) w tt }
 
-has_galileo : (galileo : Option Signal) (typed : List TextLine) (places : Option CodePlaces) (types : Option Types) → WalksGalileo (is_some galileo) None typed types → AreComplete types → MayBePlaces galileo (codes_of types) places
+has_galileo : (galileo : Option Signal) (typed : List TextLine) (places : Option CodePlaces) (types : Option Types)
+    → WalksGalileo (is_some galileo) None typed types → AreComplete types
+    → MayBePlaces galileo (codes_of types) places
     → AreGalileoTypes (is_some galileo) typed (codes_of types)
 has_galileo None typed places types e complete is = ap codes_of e
 has_galileo (Some signal) typed None types w complete is = absurd is
@@ -483,7 +523,9 @@ has_galileo (Some signal) typed (Some places) types w complete is = has_types 69
 
 -- ---- files
 
-point_of : (position : Bool) (header : List TextLine) (after : Option Coordinates) (point : Option Pos) → (position ≡ true → IsKnown header None after) → IsPosition position after point → IsPositionOf position header point
+point_of : (position : Bool) (header : List TextLine) (after : Option Coordinates) (point : Option Pos)
+    → (position ≡ true → IsKnown header None after) → IsPosition position after point
+    → IsPositionOf position header point
 point_of false header after None known is = refl
 point_of false header after (Some point) known is = absurd is
 point_of true header None point known is = absurd is
@@ -493,19 +535,23 @@ point_of true header (Some coordinates) (Some point) known is = elim (known refl
   | inr k ↦ record { before = k.before; line = k.line; behind = k.behind; spelled = k.spelled; labelled = k.labelled; last = k.last; coordinates = coordinates; are = k.are; point_is = is }
 ]
 
-version_short : (both : Bool) (line : TextLine) → Give (λ (passed : Unit {0}). IsShort line) (version_line_of both 79 line)
+version_short : (both : Bool) (line : TextLine)
+    → Give (λ (passed : Unit {0}). IsShort line) (version_line_of both 79 line)
 version_short both line =
     let Meets : Unit {0} → Type 0 = λ passed. IsShort line in
     on_test Meets _ _ _ (λ short. on_test Meets _ _ _ (λ label. on_test Meets _ _ _ (λ version. on_test Meets _ _ _ (λ kind. on_test Meets _ _ _ (λ system. given Meets tt short)))))
 
 -- the lines behind the version line
-behind_version : (both : Bool) (lines : List TextLine) → Give (λ (version : Behind). (line : TextLine) × (lines ≡ line ∷ version.lines) × IsShort line) (version_by both 79 lines)
+behind_version : (both : Bool) (lines : List TextLine)
+    → Give (λ (version : Behind). (line : TextLine) × (lines ≡ line ∷ version.lines) × IsShort line) (version_by both 79 lines)
 behind_version both [] = λ r. λ e. rw e tt
 behind_version both (line ∷ more) =
     let Meets : Behind → Type 0 = λ version. (first : TextLine) × (line ∷ more ≡ first ∷ version.lines) × IsShort first in
     on_line Meets (version_line_of both 79 line) 1 _ (λ passed l. given Meets _ (line, refl, version_short both line (Ok passed) l))
 
-whole : (sought : Sought) (position : Bool) (text : List ℕ) (observations : Observations) → IsObsFileOf sought position text observations → IsWholeOf sought position (lines_of text) observations
+whole : (sought : Sought) (position : Bool) (text : List ℕ) (observations : Observations)
+    → IsObsFileOf sought position text observations
+    → IsWholeOf sought position (lines_of text) observations
 whole sought position text observations file =
     let Meets : Observations → Type 0 = IsWholeOf sought position (lines_of text) in
     on_then Meets (version_by (are_both sought) 79 (lines_of text)) _ (λ version v. on_then Meets (header_lines sought position unread version.number version.lines) _ (λ start s.
@@ -531,7 +577,8 @@ whole sought position text observations file =
       epochs_are = record { parts = body.parts; spelled = body.spelled; are_parts = body.are_parts; epochs_are = subst (OneForOne (IsEpochOf start.wanted) (filter begins_epoch body.parts)) (sym body.after_is) body.epochs_are };
     })))) (Ok observations) file
 
-pub whole_read : (sought : Sought) (position : Bool) (text : List ℕ) (read : Result Obs ReadError) → IfOk read (λ obs. IsObsFileOf sought position text (observations_of obs))
+pub whole_read : (sought : Sought) (position : Bool) (text : List ℕ) (read : Result Obs ReadError)
+    → IfOk read (λ obs. IsObsFileOf sought position text (observations_of obs))
     → IfOk read (λ obs. IsWholeOf sought position (lines_of text) (observations_of obs))
 whole_read sought position text (Ok obs) file = whole sought position text (observations_of obs) file
 whole_read sought position text (Err e) file = tt

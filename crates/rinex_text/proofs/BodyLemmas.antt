@@ -10,14 +10,16 @@ abbrev kept_or : ℕ → ℕ → List TextLine → ℕ
 kept_or kept seen [] = kept
 kept_or kept seen (line ∷ more) = seen + length (line ∷ more)
 
-one_more : (seen kept : ℕ) (line : TextLine) (counting : List TextLine) → kept_or (cond (is_blank_line line) kept (suc seen)) (suc seen) counting ≡ kept_or kept seen (counted_with line counting)
+one_more : (seen kept : ℕ) (line : TextLine) (counting : List TextLine)
+    → kept_or (cond (is_blank_line line) kept (suc seen)) (suc seen) counting ≡ kept_or kept seen (counted_with line counting)
 one_more seen kept line [] = elim (cases_Bool (is_blank_line line)) [
   | inl h ↦ rw h refl
   | inr h ↦ rw h (omega arith)
 ]
 one_more seen kept line (next ∷ more) = omega arith
 
-counted_are : (seen kept : ℕ) (lines : List TextLine) → counted_behind seen kept lines ≡ kept_or kept seen (counted lines)
+counted_are : (seen kept : ℕ) (lines : List TextLine)
+    → counted_behind seen kept lines ≡ kept_or kept seen (counted lines)
 counted_are seen kept [] = refl
 counted_are seen kept (line ∷ more) = counted_are (suc seen) (cond (is_blank_line line) kept (suc seen)) more ∙ one_more seen kept line (counted more)
 
@@ -25,7 +27,9 @@ none_kept : (counting : List TextLine) → kept_or 0 0 counting ≡ length count
 none_kept [] = refl
 none_kept (line ∷ more) = omega arith
 
-front_with : (line : TextLine) (more counting : List TextLine) → take (length counting) more ≡ counting → take (length (counted_with line counting)) (line ∷ more) ≡ counted_with line counting
+front_with : (line : TextLine) (more counting : List TextLine)
+    → take (length counting) more ≡ counting
+    → take (length (counted_with line counting)) (line ∷ more) ≡ counted_with line counting
 front_with line more [] e = elim (cases_Bool (is_blank_line line)) [
   | inl h ↦ rw h refl
   | inr h ↦ rw h refl
@@ -36,6 +40,7 @@ front_counts : (lines : List TextLine) → take (length (counted lines)) lines �
 front_counts [] = refl
 front_counts (line ∷ more) = front_with line more (counted more) (front_counts more)
 
-pub counted_front : (lines : List TextLine) (left : ℕ) → counted_behind 0 0 lines ≡ left → take left lines ≡ counted lines
+pub counted_front : (lines : List TextLine) (left : ℕ) → counted_behind 0 0 lines ≡ left
+    → take left lines ≡ counted lines
 counted_front lines left e =
     ap (λ (n : ℕ). take n lines) (sym e ∙ (counted_are 0 0 lines ∙ none_kept (counted lines))) ∙ front_counts lines

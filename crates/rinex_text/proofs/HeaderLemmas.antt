@@ -10,15 +10,20 @@ use Rattle.exact_decimal.specs.Units.{LiesBetween}
 use Rattle.rinex_text.specs.Headers.{IsVersion}
 
 -- the field's number is the only one
-pub version_lies : (read : Result (Option Decimal) BadNumber) (field : List ℕ) (number : Decimal) → ((digits ten : ℤ) → Reads read digits ten ↔ IsFixed field digits ten)
-    → read ≡ Ok (Some number) → IsVersion field → LiesBetween number.digits number.ten Ratio (pos 30000000000000000) (pos 30500000000000000)
+pub version_lies : (read : Result (Option Decimal) BadNumber) (field : List ℕ) (number : Decimal)
+    → ((digits ten : ℤ) → Reads read digits ten ↔ IsFixed field digits ten)
+    → read ≡ Ok (Some number) → IsVersion field
+    → LiesBetween number.digits number.ten Ratio (pos 30000000000000000) (pos 30500000000000000)
 version_lies read field number numbers is v =
     let other = (numbers v.digits v.ten).1 v.number in
     let same : ◌≡◌ {A = Decimal} (record { digits = v.digits; ten = v.ten }) number = cc in
     subst (λ (n : Decimal). LiesBetween n.digits n.ten Ratio (pos 30000000000000000) (pos 30500000000000000)) same v.lies
 
-pub is_version : (read : Result (Option Decimal) BadNumber) (field : List ℕ) (number : Decimal) → ((digits ten : ℤ) → Reads read digits ten ↔ IsFixed field digits ten)
-    → read ≡ Ok (Some number) → LiesBetween number.digits number.ten Ratio (pos 30000000000000000) (pos 30500000000000000) → IsVersion field
+pub is_version : (read : Result (Option Decimal) BadNumber) (field : List ℕ) (number : Decimal)
+    → ((digits ten : ℤ) → Reads read digits ten ↔ IsFixed field digits ten)
+    → read ≡ Ok (Some number)
+    → LiesBetween number.digits number.ten Ratio (pos 30000000000000000) (pos 30500000000000000)
+    → IsVersion field
 is_version read field number numbers is lies = record {
   digits = number.digits;
   ten = number.ten;

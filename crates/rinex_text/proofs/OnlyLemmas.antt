@@ -13,7 +13,8 @@ use Rattle.rinex_text.proofs.FieldLemmas.{same_count}
 abbrev pub IsOnly : {X : Type 0} → (X → Type 0) → Type 0
 IsOnly {X} reader = (x y : X) → reader x → reader y → x ≡ y
 
-pub test_only : {X E : Type 0} (P : Type 0) (f : E) (later : Result X E → Type 0) → IsOnly later → IsOnly (test P f later)
+pub test_only : {X E : Type 0} (P : Type 0) (f : E) (later : Result X E → Type 0) → IsOnly later
+    → IsOnly (test P f later)
 test_only P f later only x y a b = elim a [
   | inl (p, h) ↦ elim b [
     | inl (q, k) ↦ only x y h k
@@ -25,7 +26,8 @@ test_only P f later only x y a b = elim a [
   ]
 ]
 
-pub where_only : {X E : Type 0} (P : Type 0) (first second : Result X E → Type 0) → IsOnly first → IsOnly second → IsOnly (where_holds P first second)
+pub where_only : {X E : Type 0} (P : Type 0) (first second : Result X E → Type 0) → IsOnly first
+    → IsOnly second → IsOnly (where_holds P first second)
 where_only P first second one two x y a b = elim a [
   | inl (p, h) ↦ elim b [
     | inl (q, k) ↦ one x y h k
@@ -37,7 +39,8 @@ where_only P first second one two x y a b = elim a [
   ]
 ]
 
-pub read_only : {V X E : Type 0} (Is : V → Type 0) (f : E) (later : V → Result X E → Type 0) → IsOnly Is → ((v : V) → IsOnly (later v)) → IsOnly (read Is f later)
+pub read_only : {V X E : Type 0} (Is : V → Type 0) (f : E) (later : V → Result X E → Type 0)
+    → IsOnly Is → ((v : V) → IsOnly (later v)) → IsOnly (read Is f later)
 read_only Is f later one only x y a b = elim a [
   | inl (v, is, h) ↦ elim b [
     | inl (w, also, k) ↦ only w x y (subst (λ u. later u x) (one v w is also) h) k
@@ -58,7 +61,8 @@ err_same e f h = cc
 pub not_both : {V E : Type 0} (v : V) (e : E) → ◌≡◌ {A = Result V E} (Ok v) (Err e) → ⊥
 not_both v e h = cc
 
-pub then_only : {V X E : Type 0} (reader : Result V E → Type 0) (later : V → Result X E → Type 0) → IsOnly reader → ((v : V) → IsOnly (later v)) → IsOnly (then reader later)
+pub then_only : {V X E : Type 0} (reader : Result V E → Type 0) (later : V → Result X E → Type 0)
+    → IsOnly reader → ((v : V) → IsOnly (later v)) → IsOnly (then reader later)
 then_only reader later one only x y a b = elim a [
   | inl (v, r, h) ↦ elim b [
     | inl (w, s, k) ↦ only w x y (subst (λ u. later u x) (ok_same v w (one (Ok v) (Ok w) r s)) h) k
@@ -73,7 +77,8 @@ then_only reader later one only x y a b = elim a [
 pub gives_only : {X E : Type 0} (v : X) → IsOnly (λ (answer : Result X E). answer ≡ Ok v)
 gives_only v x y a b = a ∙ sym b
 
-pub line_only : {V X : Type 0} (reader : Result V Fault → Type 0) (number : ℕ) (later : V → Result X Refusal → Type 0) → IsOnly reader → ((v : V) → IsOnly (later v)) → IsOnly (line_gives reader number later)
+pub line_only : {V X : Type 0} (reader : Result V Fault → Type 0) (number : ℕ) (later : V → Result X Refusal → Type 0)
+    → IsOnly reader → ((v : V) → IsOnly (later v)) → IsOnly (line_gives reader number later)
 line_only reader number later one only x y a b = elim a [
   | inl (v, r, h) ↦ elim b [
     | inl (w, s, k) ↦ only w x y (subst (λ u. later u x) (ok_same v w (one (Ok v) (Ok w) r s)) h) k
@@ -88,13 +93,15 @@ line_only reader number later one only x y a b = elim a [
 pub number_only : (text : List ℕ) → IsOnly (IsNumber text)
 number_only text m n a b = same_count _ m n a.count b.count
 
-pub first_only : {V X : Type 0} (line : TextLine → Result V Fault → Type 0) (later : V → Behind → Result X Refusal → Type 0) → ((t : TextLine) → IsOnly (line t)) → ((v : V) (from : Behind) → IsOnly (later v from))
+pub first_only : {V X : Type 0} (line : TextLine → Result V Fault → Type 0) (later : V → Behind → Result X Refusal → Type 0)
+    → ((t : TextLine) → IsOnly (line t)) → ((v : V) (from : Behind) → IsOnly (later v from))
     → (number : ℕ) (lines : List TextLine) → IsOnly (first_of line number lines later)
 first_only line later one only number [] x y a b = a ∙ sym b
 first_only line later one only number (next ∷ more) x y a b = line_only _ _ _ (one next) (λ v. only v _) x y a b
 
 -- a test that ends a header, or else what comes later
-pub ended_only : (End : Type 0) (v : Behind) (later : Result Behind Refusal → Type 0) → IsOnly later → IsOnly (λ (given : Result Behind Refusal). (End × (given ≡ Ok v)) ⊎ ((End → ⊥) × later given))
+pub ended_only : (End : Type 0) (v : Behind) (later : Result Behind Refusal → Type 0) → IsOnly later
+    → IsOnly (λ (given : Result Behind Refusal). (End × (given ≡ Ok v)) ⊎ ((End → ⊥) × later given))
 ended_only End v later one x y a b = elim a [
   | inl (end, h) ↦ elim b [
     | inl (also, k) ↦ h ∙ sym k
@@ -110,10 +117,12 @@ pub header_only : (number : ℕ) (lines : List TextLine) → IsOnly (header_from
 header_only number [] x y a b = a ∙ sym b
 header_only number (line ∷ more) x y a b = test_only _ _ _ (ended_only _ _ _ (header_only (number + 1) more)) x y a b
 
-pub version_line_only : (both : Bool) (kind : ℕ) (line : TextLine) → IsOnly (version_line_of both kind line)
+pub version_line_only : (both : Bool) (kind : ℕ) (line : TextLine)
+    → IsOnly (version_line_of both kind line)
 version_line_only both kind line = test_only _ _ _ (test_only _ _ _ (test_only _ _ _ (test_only _ _ _ (test_only _ _ _ (gives_only tt)))))
 
-pub version_by_only : (both : Bool) (kind : ℕ) (lines : List TextLine) → IsOnly (version_by both kind lines)
+pub version_by_only : (both : Bool) (kind : ℕ) (lines : List TextLine)
+    → IsOnly (version_by both kind lines)
 version_by_only both kind [] x y a b = a ∙ sym b
 version_by_only both kind (line ∷ more) x y a b = line_only _ _ _ (version_line_only both kind line) (λ passed. gives_only _) x y a b
 

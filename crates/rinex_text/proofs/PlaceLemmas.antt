@@ -9,7 +9,8 @@ module _ (test : ℕ → Bool) (hay : List ℕ) where
   fails i k misses same passes = absurd (let hits : test (slice_index hay i) ≡ true = rw same at passes in cc)
 
   -- where the byte at a place doesn't pass and none behind it does, none does from it on
-  from_next : (i j : ℕ) → test (slice_index hay i) ≡ false → Nowhere (Passes test hay) (i + 1) j → Nowhere (Passes test hay) i j
+  from_next : (i j : ℕ) → test (slice_index hay i) ≡ false → Nowhere (Passes test hay) (i + 1) j
+      → Nowhere (Passes test hay) i j
   from_next i j misses none k low high passes = elim (cases_lt i k) [
     | inl behind ↦ none k (omega arith) high passes
     | inr here ↦ fails i k misses (omega arith) passes
@@ -30,7 +31,8 @@ module _ (test : ℕ → Bool) (hay : List ℕ) where
     pub first : NoneBefore (Passes test hay) i (i + n) place
     pub passes : Passes test hay place
 
-  leads_from : (i n place : ℕ) (rest : List ℕ) → places_from test hay i n ≡ place ∷ rest → Leads i n place
+  leads_from : (i n place : ℕ) (rest : List ℕ) → places_from test hay i n ≡ place ∷ rest
+      → Leads i n place
   unfolding places_from
   leads_from i zero place rest e = absurd cc
   leads_from i (suc n) place rest e = elim (cases_Bool (test (slice_index hay i))) [
@@ -53,7 +55,8 @@ module _ (test : ℕ → Bool) (hay : List ℕ) where
         }
   ]
 
-  pub first_place : (r : Option ℕ) (left : List ℕ) → TakesFirst (places test hay) r left → IsFirstByte test hay r
+  pub first_place : (r : Option ℕ) (left : List ℕ) → TakesFirst (places test hay) r left
+      → IsFirstByte test hay r
   first_place None left took = let none = none_from 0 (length hay - 0) took.0 in λ k low high passes. none k low (omega arith) passes
   first_place (Some place) left took =
       let leads = leads_from 0 (length hay - 0) place left took in

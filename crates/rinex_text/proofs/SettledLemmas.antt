@@ -15,7 +15,8 @@ use Rattle.rinex_text.proofs.OnlyLemmas.{err_same, ok_same, not_both}
 
 -- ---- lists that begin alike
 
-pub alike_none : (k : ℕ) (others : List TextLine) → take (suc k) [] ≡ take (suc k) others → others ≡ []
+pub alike_none : (k : ℕ) (others : List TextLine) → take (suc k) [] ≡ take (suc k) others
+    → others ≡ []
 alike_none k [] e = refl
 alike_none k (line ∷ more) e = absurd cc
 
@@ -25,13 +26,15 @@ pub record BeginWith (k : ℕ) (line : TextLine) (more others : List TextLine) :
   pub spelled : others ≡ line ∷ rest
   pub alike : take k more ≡ take k rest
 
-pub begin_with : (k : ℕ) (line : TextLine) (more others : List TextLine) → take (suc k) (line ∷ more) ≡ take (suc k) others → BeginWith k line more others
+pub begin_with : (k : ℕ) (line : TextLine) (more others : List TextLine)
+    → take (suc k) (line ∷ more) ≡ take (suc k) others → BeginWith k line more others
 begin_with k line more [] e = absurd cc
 begin_with k line more (next ∷ rest) e =
     let first : line ≡ next = cc in
     record { rest = rest; spelled = ap (λ (l : TextLine). l ∷ rest) (sym first); alike = cc }
 
-pub alike_less : (j k : ℕ) (these those : List TextLine) → j ≤ k → take k these ≡ take k those → take j these ≡ take j those
+pub alike_less : (j k : ℕ) (these those : List TextLine) → j ≤ k → take k these ≡ take k those
+    → take j these ≡ take j those
 alike_less zero k these those h e = refl
 alike_less (suc j) zero these those h e = absurd (omega (arith, h))
 alike_less (suc j) (suc k) [] those h e = rw (alike_none k those e) refl
@@ -45,7 +48,8 @@ pub record GoOnFrom (k : ℕ) (front more others : List TextLine) : Type 0 where
   pub spelled : others ≡ front ++ rest
   pub alike : take k more ≡ take k rest
 
-pub go_on_from : (k n : ℕ) (front more others : List TextLine) → n ≡ length front + k → take n (front ++ more) ≡ take n others → GoOnFrom k front more others
+pub go_on_from : (k n : ℕ) (front more others : List TextLine) → n ≡ length front + k
+    → take n (front ++ more) ≡ take n others → GoOnFrom k front more others
 go_on_from k n [] more others h e =
     record { rest = others; spelled = refl; alike = subst (λ (m : ℕ). take m more ≡ take m others) (omega (arith, h)) e }
 go_on_from k zero (line ∷ front) more others h e = absurd (omega (arith, h))
@@ -54,7 +58,8 @@ go_on_from k (suc n) (line ∷ front) more others h e =
     let further = go_on_from k n front more begun.rest (omega (arith, h)) begun.alike in
     record { rest = further.rest; spelled = begun.spelled ∙ ap (λ (l : List TextLine). line ∷ l) further.spelled; alike = further.alike }
 
-pub drop_front : (k n : ℕ) (front more : List TextLine) → n ≡ length front + k → drop n (front ++ more) ≡ drop k more
+pub drop_front : (k n : ℕ) (front more : List TextLine) → n ≡ length front + k
+    → drop n (front ++ more) ≡ drop k more
 drop_front k n [] more h = ap (λ (m : ℕ). drop m more) (omega (arith, h))
 drop_front k zero (line ∷ front) more h = absurd (omega (arith, h))
 drop_front k (suc n) (line ∷ front) more h = drop_front k n front more (omega (arith, h))
@@ -73,7 +78,8 @@ record BeginsWith (line : TextLine) (counting : List TextLine) : Type 0 where
   later : List TextLine
   spelled : counting ≡ line ∷ later
 
-counts_before : (line : TextLine) (counting : List TextLine) → (counting ≡ [] → is_blank_line line ≡ false) → BeginsWith line (counted_with line counting)
+counts_before : (line : TextLine) (counting : List TextLine)
+    → (counting ≡ [] → is_blank_line line ≡ false) → BeginsWith line (counted_with line counting)
 counts_before line [] solid = rw (solid refl) (record { later = []; spelled = refl })
 counts_before line (next ∷ more) solid = record { later = next ∷ more; spelled = refl }
 
@@ -89,19 +95,23 @@ all_blank (line ∷ more) e = elim (cases_Bool (is_blank_line line)) [
       let f : ◌≡◌ {A = List TextLine} [] (line ∷ b.later) = sym e ∙ b.spelled in cc)
 ]
 
-some_counts : (line : TextLine) (more : List TextLine) → list_all is_blank_line (line ∷ more) ≡ false → BeginsWith line (counted (line ∷ more))
+some_counts : (line : TextLine) (more : List TextLine)
+    → list_all is_blank_line (line ∷ more) ≡ false → BeginsWith line (counted (line ∷ more))
 some_counts line more some = counts_before line (counted more) (λ none. elim (cases_Bool (is_blank_line line)) [
   | inl h ↦ absurd (let f : true ≡ false = sym (rw (h, all_blank more none) refl) ∙ some in cc)
   | inr h ↦ h
 ])
 
-counted_more : (k : ℕ) (line : TextLine) (these those : List TextLine) → take (suc k) these ≡ take (suc k) those → take (suc (suc k)) (counted_with line these) ≡ take (suc (suc k)) (counted_with line those)
+counted_more : (k : ℕ) (line : TextLine) (these those : List TextLine)
+    → take (suc k) these ≡ take (suc k) those
+    → take (suc (suc k)) (counted_with line these) ≡ take (suc (suc k)) (counted_with line those)
 counted_more k line [] those e = rw (alike_none k those e) refl
 counted_more k line (next ∷ more) those e =
     let begun = begin_with k next more those e in
     rw begun.spelled (ap (λ (l : List TextLine). line ∷ next ∷ l) begun.alike)
 
-pub counted_alike : (k : ℕ) (these those : List TextLine) → take (suc k) these ≡ take (suc k) those → list_all is_blank_line (drop k these) ≡ list_all is_blank_line (drop k those)
+pub counted_alike : (k : ℕ) (these those : List TextLine) → take (suc k) these ≡ take (suc k) those
+    → list_all is_blank_line (drop k these) ≡ list_all is_blank_line (drop k those)
     → take (suc k) (counted these) ≡ take (suc k) (counted those)
 counted_alike k [] those e blank = rw (alike_none k those e) refl
 counted_alike zero (line ∷ more) those e blank =
@@ -124,7 +134,8 @@ counted_alike (suc k) (line ∷ more) those e blank =
 pub record Settles {X : Type 0} (number : ℕ) (reader : List TextLine → Result X Refusal → Type 0) (lines : List TextLine) (r : Refusal) : Type 0 where
   pub behind : ℕ
   pub line_is : r.line ≡ number + behind
-  pub moves : (others : List TextLine) → take (suc behind) lines ≡ take (suc behind) others → reader others (Err r)
+  pub moves : (others : List TextLine) → take (suc behind) lines ≡ take (suc behind) others
+      → reader others (Err r)
 
 -- each fault of the reader does
 abbrev pub AreSettled : {X : Type 0} → ℕ → (List TextLine → Result X Refusal → Type 0) → Type 0
@@ -134,12 +145,15 @@ AreSettled number reader = (lines : List TextLine) (r : Refusal) → reader line
 abbrev pub IsReadOf : {X : Type 0} → ℕ → (List TextLine → Result X Refusal → Type 0) → Type 0
 IsReadOf {X} k reader = (lines : List TextLine) (x : X) → reader lines (Ok x) → (others : List TextLine) → take k lines ≡ take k others → reader others (Ok x)
 
-fault_line : (r : Refusal) (f : Fault) (number : ℕ) {X : Type 0} → ◌≡◌ {A = Result X Refusal} (Err r) (Err (refusal f number)) → r.line ≡ number + 0
+fault_line : (r : Refusal) (f : Fault) (number : ℕ) {X : Type 0}
+    → ◌≡◌ {A = Result X Refusal} (Err r) (Err (refusal f number)) → r.line ≡ number + 0
 fault_line r f number e = omega (arith, ap (λ (s : Refusal). s.line) (err_same r (refusal f number) e))
 
 -- the reader fails at its first line, or for want of one
-pub settled_here : {X : Type 0} (number : ℕ) (reader : List TextLine → Result X Refusal → Type 0) (line : TextLine) (more : List TextLine) (r : Refusal) (f : Fault) → ◌≡◌ {A = Result X Refusal} (Err r) (Err (refusal f number))
-    → ((rest : List TextLine) → reader (line ∷ rest) (Err r)) → Settles number reader (line ∷ more) r
+pub settled_here : {X : Type 0} (number : ℕ) (reader : List TextLine → Result X Refusal → Type 0) (line : TextLine) (more : List TextLine) (r : Refusal) (f : Fault)
+    → ◌≡◌ {A = Result X Refusal} (Err r) (Err (refusal f number))
+    → ((rest : List TextLine) → reader (line ∷ rest) (Err r))
+    → Settles number reader (line ∷ more) r
 settled_here number reader line more r f e fails = record {
   behind = 0;
   line_is = fault_line r f number e;
@@ -147,7 +161,8 @@ settled_here number reader line more r f e fails = record {
       subst (λ (l : List TextLine). reader l (Err r)) (sym begun.spelled) (fails begun.rest);
 }
 
-pub settled_at_end : {X : Type 0} (number : ℕ) (reader : List TextLine → Result X Refusal → Type 0) (r : Refusal) (f : Fault) → ◌≡◌ {A = Result X Refusal} (Err r) (Err (refusal f number)) → reader [] (Err r)
+pub settled_at_end : {X : Type 0} (number : ℕ) (reader : List TextLine → Result X Refusal → Type 0) (r : Refusal) (f : Fault)
+    → ◌≡◌ {A = Result X Refusal} (Err r) (Err (refusal f number)) → reader [] (Err r)
     → Settles number reader [] r
 settled_at_end number reader r f e fails = record {
   behind = 0;
@@ -157,7 +172,8 @@ settled_at_end number reader r f e fails = record {
 
 -- the fault comes behind the first line
 unfoldable pub settled_later : {X Y : Type 0} (number : ℕ) (reader : List TextLine → Result X Refusal → Type 0) (later : List TextLine → Result Y Refusal → Type 0) (line : TextLine) (more : List TextLine) (r : Refusal) (s : Settles (number + 1) later more r)
-    → ((rest : List TextLine) → take (suc s.behind) more ≡ take (suc s.behind) rest → reader (line ∷ rest) (Err r)) → Settles number reader (line ∷ more) r
+    → ((rest : List TextLine) → take (suc s.behind) more ≡ take (suc s.behind) rest → reader (line ∷ rest) (Err r))
+    → Settles number reader (line ∷ more) r
 settled_later number reader later line more r s goes = record {
   behind = suc s.behind;
   line_is = omega (arith, s.line_is);
@@ -166,7 +182,8 @@ settled_later number reader later line more r s goes = record {
 }
 
 module _ {V X : Type 0} (reader : TextLine → Result V Fault → Type 0) (number : ℕ) (later : V → Behind → Result X Refusal → Type 0) where
-  pub first_settled : ((v : V) → AreSettled (number + 1) (λ more. later v (record { number = number + 1; lines = more }))) → AreSettled number (λ lines. first_of reader number lines later)
+  pub first_settled : ((v : V) → AreSettled (number + 1) (λ more. later v (record { number = number + 1; lines = more })))
+      → AreSettled number (λ lines. first_of reader number lines later)
   first_settled next [] r e = settled_at_end number (λ lines. first_of reader number lines later) r Truncated e e
   first_settled next (line ∷ more) r (inl (v, is, goes)) =
       let s = next v more r goes in
@@ -175,7 +192,9 @@ module _ {V X : Type 0} (reader : TextLine → Result V Fault → Type 0) (numbe
   first_settled next (line ∷ more) r (inr (f, is, e)) =
       settled_here number (λ lines. first_of reader number lines later) line more r f e (λ rest. inr (f, is, e))
 
-  pub first_read : (k : ℕ) → ((v : V) → IsReadOf k (λ more. later v (record { number = number + 1; lines = more }))) → IsReadOf (suc k) (λ lines. first_of reader number lines later)
+  pub first_read : (k : ℕ)
+      → ((v : V) → IsReadOf k (λ more. later v (record { number = number + 1; lines = more })))
+      → IsReadOf (suc k) (λ lines. first_of reader number lines later)
   first_read k next [] x e others same = absurd (not_both x (refusal Truncated number) e)
   first_read k next (line ∷ more) x (inl (v, is, goes)) others same =
       let begun = begin_with k line more others same in
@@ -190,7 +209,8 @@ version_by_settled both kind (line ∷ more) r (inl (v, is, e)) = absurd (not_bo
 version_by_settled both kind (line ∷ more) r (inr (f, is, e)) = settled_here 1 (version_by both kind) line more r f e (λ rest. inr (f, is, e))
 
 -- a version line that is passed, with other lines behind it
-pub version_by_passed : (both : Bool) (kind : ℕ) (line : TextLine) (more rest : List TextLine) (version : Behind) → version_by both kind (line ∷ more) (Ok version)
+pub version_by_passed : (both : Bool) (kind : ℕ) (line : TextLine) (more rest : List TextLine) (version : Behind)
+    → version_by both kind (line ∷ more) (Ok version)
     → (version.lines ≡ more) × (version.number ≡ 2) × version_by both kind (line ∷ rest) (Ok (record { number = 2; lines = rest }))
 version_by_passed both kind line more rest version (inl (v, is, e)) =
     let same = ok_same version _ e in
@@ -201,7 +221,8 @@ version_by_passed both kind line more rest version (inr (f, is, e)) = absurd (no
 pub version_settled : (kind : ℕ) → AreSettled 1 (version_of kind)
 version_settled kind = version_by_settled false kind
 
-pub version_passed : (kind : ℕ) (line : TextLine) (more rest : List TextLine) (version : Behind) → version_of kind (line ∷ more) (Ok version)
+pub version_passed : (kind : ℕ) (line : TextLine) (more rest : List TextLine) (version : Behind)
+    → version_of kind (line ∷ more) (Ok version)
     → (version.lines ≡ more) × (version.number ≡ 2) × version_of kind (line ∷ rest) (Ok (record { number = 2; lines = rest }))
 version_passed kind line more rest version h = version_by_passed false kind line more rest version h
 
@@ -220,7 +241,8 @@ pub record IsFront {X : Type 0} (number : ℕ) (reader : List TextLine → Resul
   pub number_is : behind.number ≡ number + length front
   pub stands : (rest : List TextLine) → reader (front ++ rest) (Ok (with rest))
 
-pub header_front : (number : ℕ) (lines : List TextLine) (behind : Behind) → header_from number lines (Ok behind)
+pub header_front : (number : ℕ) (lines : List TextLine) (behind : Behind)
+    → header_from number lines (Ok behind)
     → IsFront number (header_from number) lines behind (λ rest. record { number = behind.number; lines = rest })
 header_front number [] behind e = absurd (not_both _ _ e)
 header_front number (line ∷ more) behind (inl (short, inl (is, e))) =
@@ -250,7 +272,9 @@ pub record InBody (k : ℕ) (version : TextLine) (front behind others : List Tex
   pub spelled : others ≡ version ∷ (front ++ rest)
   pub alike : take (suc k) (counted behind) ≡ take (suc k) (counted rest)
 
-pub in_body : (k line : ℕ) (version : TextLine) (front behind others : List TextLine) → line ≡ (2 + length front) + k → AgreeTo line (version ∷ (front ++ behind)) others → InBody k version front behind others
+pub in_body : (k line : ℕ) (version : TextLine) (front behind others : List TextLine)
+    → line ≡ (2 + length front) + k → AgreeTo line (version ∷ (front ++ behind)) others
+    → InBody k version front behind others
 in_body k line version front behind others e agree =
     let top = version ∷ front in
     let from : line - 1 ≡ length top + k = omega (arith, e) in
@@ -261,7 +285,8 @@ in_body k line version front behind others e agree =
     record { rest = further.rest; spelled = further.spelled; alike = counted_alike k behind further.rest further.alike same }
 
 -- the fault stands in the header
-pub in_header : (k line : ℕ) (version : TextLine) (more others : List TextLine) → line ≡ 2 + k → AgreeTo line (version ∷ more) others → BeginWith (suc k) version more others
+pub in_header : (k line : ℕ) (version : TextLine) (more others : List TextLine) → line ≡ 2 + k
+    → AgreeTo line (version ∷ more) others → BeginWith (suc k) version more others
 in_header k line version more others e agree =
     let up_to : line ≡ suc (suc k) = omega (arith, e) in
     begin_with (suc k) version more others (subst (λ (n : ℕ). take n (version ∷ more) ≡ take n others) up_to agree.same)

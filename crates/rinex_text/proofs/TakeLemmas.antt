@@ -11,7 +11,8 @@ use Rattle.rinex_text.specs.declared.fault.ReadError.TheVariants.{Refused, NoMem
 use Rattle.rinex_text.specs.declared.fault.Refusal.{Refusal}
 
 pub needs_took : {V X : Type 0} (line : TextLine → Result V Fault → Type 0) (old : Body) (v : V) (new : Body) (later : V → Behind → Result X Refusal → Type 0) (answer : Result X Refusal)
-    → Takes line old v new → later v (body_behind new) answer → needs line (body_behind old) later answer
+    → Takes line old v new → later v (body_behind new) answer
+    → needs line (body_behind old) later answer
 needs_took line old v new later answer t h =
     rw t.lines (inl (v, t.gave, subst (λ (n : ℕ). later v (record { number = n; lines = body_left new }) answer) t.number h))
 
@@ -22,7 +23,8 @@ needs_failed line old e later answer f is = elim f.fails [
   | inr (taken, more, fault, lines, fails, refused) ↦ rw lines (inr (fault, fails, is ∙ (rw refused refl)))
 ]
 
-dropped : (k : ℕ) (lines more : List TextLine) (line : TextLine) → drop k lines ≡ line ∷ more → (drop (k + 1) lines ≡ more) × (k + 1 ≤ length lines)
+dropped : (k : ℕ) (lines more : List TextLine) (line : TextLine) → drop k lines ≡ line ∷ more
+    → (drop (k + 1) lines ≡ more) × (k + 1 ≤ length lines)
 dropped zero [] more line e = absurd cc
 dropped zero (first ∷ lines) more line e = (cc, omega arith)
 dropped (suc k) [] more line e = absurd cc
@@ -31,16 +33,20 @@ dropped (suc k) (first ∷ lines) more line e =
     let next : suc k + 1 ≡ suc (k + 1) = omega arith in
     (rw next rest.0, omega (arith, rest.1))
 
-pub leaves_one : {V : Type 0} (line : TextLine → Result V Fault → Type 0) (old : Body) (v : V) (new : Body) → Takes line old v new → Leaves old 1 new
+pub leaves_one : {V : Type 0} (line : TextLine → Result V Fault → Type 0) (old : Body) (v : V) (new : Body)
+    → Takes line old v new → Leaves old 1 new
 leaves_one line old v new t =
     let rest = dropped 0 (body_left old) (body_left new) t.taken t.lines in
     record { enough = rest.1; lines = sym rest.0; number = t.number; less = omega (arith, t.less) }
 
-pub leaves_next : {V : Type 0} (first : Body) (k : ℕ) (line : TextLine → Result V Fault → Type 0) (old : Body) (v : V) (new : Body) → Leaves first k old → Takes line old v new → Leaves first (k + 1) new
+pub leaves_next : {V : Type 0} (first : Body) (k : ℕ) (line : TextLine → Result V Fault → Type 0) (old : Body) (v : V) (new : Body)
+    → Leaves first k old → Takes line old v new → Leaves first (k + 1) new
 leaves_next first k line old v new l t =
     let rest = dropped k (body_left first) (body_left new) t.taken (sym l.lines ∙ t.lines) in
     record { enough = rest.1; lines = sym rest.0; number = omega (arith, l.number, t.number); less = omega (arith, l.less, t.less) }
 
-pub refuses_on : {X Y : Type 0} (inner : Result X Refusal → Type 0) (outer : Result Y Refusal → Type 0) → ((refused : Refusal) → inner (Err refused) → outer (Err refused)) → (e : ReadError) → Refuses inner e → Refuses outer e
+pub refuses_on : {X Y : Type 0} (inner : Result X Refusal → Type 0) (outer : Result Y Refusal → Type 0)
+    → ((refused : Refusal) → inner (Err refused) → outer (Err refused)) → (e : ReadError)
+    → Refuses inner e → Refuses outer e
 refuses_on inner outer on (Refused refused) h = on refused h
 refuses_on inner outer on NoMemory h = tt

@@ -8,6 +8,7 @@ use Rattle.grid_model.specs.Sizes.{IsWithin}
 use Rattle.grid_model.proofs.RootLemmas.{square-mono}
 use Rattle.grid_model.proofs.ProductLemmas.{mul_lt_back, mul_le_back, add_mul, neg_mul, product_within}
 use Rattle.sat_model.proofs.PairAxisLemmas.{amount_within}
+use Rattle.grid_model.proofs.PlainLemmas.{within_itself}
 
 pub fits64 : (z : ℤ) → IsWithin 4194304 z → FitsSigned w64 z
 fits64 z h = omega (arith, ints, h.low, h.high)
@@ -16,16 +17,14 @@ pub arm_small : (a v : ℕ) → IsRoot a v → a ≤ 147000000000000000000000000
 arm_small a v r h = grind (arith, square-mono 130000000000000 v, r.square_le)
 
 -- the quotient of S v by a greater number than v is at most S in amount
-pub slope_small : (s a : ℕ) (v q : ℤ) → unsigned_abs v < a → IsFloor (pos s *ℤ v) (pos a) q → IsWithin s q
+pub slope_small : (s a : ℕ) (v q : ℤ) → unsigned_abs v < a → IsFloor (pos s *ℤ v) (pos a) q
+    → IsWithin s q
 slope_small s a v q h f =
-    let w : IsWithin (s * a) (pos s *ℤ v) = product_within s a (pos s) v (own s) (wide v a h) in
+    let w : IsWithin (s * a) (pos s *ℤ v) = product_within s a (pos s) v (within_itself s) (wide v a h) in
     record {
       low = back (pos s) q (mul_lt_back (neg_ℤ (pos s)) (q +ℤ pos 1) (pos a) (some v a h) (low_atoms (q *ℤ pos a) (pos s *ℤ v) s a (neg_ℤ (pos s) *ℤ pos a) ((q +ℤ pos 1) *ℤ pos a) w f.gt (low_product s a) (add_mul q (pos 1) (pos a))));
       high = mul_le_back q (pos s) (pos a) (some v a h) (high_atoms (q *ℤ pos a) (pos s *ℤ v) s a w f.le);
     }
-  where
-    own : (s : ℕ) → IsWithin s (pos s)
-    own s = record { low = omega (arith, ints); high = omega (arith, ints) }
 
     wide : (v : ℤ) (a : ℕ) → unsigned_abs v < a → IsWithin a v
     wide v a h = let w = amount_within v in record { low = omega (arith, ints, w.low); high = omega (arith, ints, w.high) }
@@ -39,7 +38,8 @@ slope_small s a v q h f =
     low_product : (s a : ℕ) → neg_ℤ (pos s) *ℤ pos a ≡ neg_ℤ (pos (s * a))
     low_product s a = omega (arith, ints, neg_mul (pos s) (pos a))
 
-    low_atoms : (qa sv : ℤ) (s a : ℕ) (nsa qa1 : ℤ) → IsWithin (s * a) sv → sv <ℤ (qa +ℤ pos a) → nsa ≡ neg_ℤ (pos (s * a)) → qa1 ≡ qa +ℤ (pos 1 *ℤ pos a) → nsa <ℤ qa1
+    low_atoms : (qa sv : ℤ) (s a : ℕ) (nsa qa1 : ℤ) → IsWithin (s * a) sv → sv <ℤ (qa +ℤ pos a)
+        → nsa ≡ neg_ℤ (pos (s * a)) → qa1 ≡ qa +ℤ (pos 1 *ℤ pos a) → nsa <ℤ qa1
     low_atoms qa sv s a nsa qa1 w h e f = omega (arith, ints, w.low)
 
     high_atoms : (qa sv : ℤ) (s a : ℕ) → IsWithin (s * a) sv → qa ≤ℤ sv → qa ≤ℤ (pos s *ℤ pos a)

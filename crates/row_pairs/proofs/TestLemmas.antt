@@ -7,13 +7,15 @@ use Rattle.sat_model.specs.ClockSpans.{clock_spans, IsShownEmpty}
 use Rattle.sat_model.proofs.RelaxedExists.{relaxed_hull}
 use Rattle.row_pairs.proofs.DecideLemmas.{shown_or_not}
 
-by_spans_or_not : (rows : List Row) (part : GridBox) (q : ℕ) → q < length rows → IsShownEmpty rows part q ⊎ (IsShownEmpty rows part q → ⊥)
+by_spans_or_not : (rows : List Row) (part : GridBox) (q : ℕ) → q < length rows
+    → IsShownEmpty rows part q ⊎ (IsShownEmpty rows part q → ⊥)
 by_spans_or_not rows part q few = elim (relaxed_hull (clock_spans part rows) (length rows - q) (omega arith)) [
   | inl none ↦ inl none
   | inr (lo, hi, hull) ↦ inr (λ none. none lo hull.lo_lies)
 ]
 
-by_either_or_not : (asked : Bool) (rows : List Row) (part : GridBox) (q : ℕ) → q < length rows → IsEmptyBy asked rows part q ⊎ (IsEmptyBy asked rows part q → ⊥)
+by_either_or_not : (asked : Bool) (rows : List Row) (part : GridBox) (q : ℕ) → q < length rows
+    → IsEmptyBy asked rows part q ⊎ (IsEmptyBy asked rows part q → ⊥)
 by_either_or_not false rows part q few = by_spans_or_not rows part q few
 by_either_or_not true rows part q few = elim (by_spans_or_not rows part q few) [
   | inl e ↦ inl (inl e)
@@ -23,5 +25,6 @@ by_either_or_not true rows part q few = elim (by_spans_or_not rows part q few) [
   ]
 ]
 
-pub empty_or_not : (test : BoxTest) (part : GridBox) → test.q < length test.rows → IsEmpty test part ⊎ (IsEmpty test part → ⊥)
+pub empty_or_not : (test : BoxTest) (part : GridBox) → test.q < length test.rows
+    → IsEmpty test part ⊎ (IsEmpty test part → ⊥)
 empty_or_not test part few = by_either_or_not test.pairs test.rows part test.q few

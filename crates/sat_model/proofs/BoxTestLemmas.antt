@@ -15,11 +15,13 @@ use Rattle.sat_model.proofs.PairLemmas as pairs
 NothingFits : List Row → ℕ → GridBox → Type 0
 NothingFits rows q part = (p : Pos) (b : ℤ) → box_holds part p ≡ true → AllBut q (IsPossible p b) rows → ⊥
 
-by_spans : (rows : List Row) (q : ℕ) (part : GridBox) → IsShownEmpty rows part q → NothingFits rows q part
+by_spans : (rows : List Row) (q : ℕ) (part : GridBox) → IsShownEmpty rows part q
+    → NothingFits rows q part
 unfolding NothingFits
 by_spans rows q part empty p b i h = empty b (relaxed_of_possible q part p b rows (in_box part p i) h)
 
-by_either : (asked : Bool) (rows : List Row) (q : ℕ) (part : GridBox) → IsEmptyBy asked rows part q → NothingFits rows q part
+by_either : (asked : Bool) (rows : List Row) (q : ℕ) (part : GridBox) → IsEmptyBy asked rows part q
+    → NothingFits rows q part
 unfolding NothingFits
 by_either false rows q part empty = by_spans rows q part empty
 by_either true rows q part empty = elim empty [

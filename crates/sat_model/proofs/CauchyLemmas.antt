@@ -9,30 +9,29 @@ use Rattle.grid_model.proofs.RootLemmas.{square-mono}
 use Rattle.grid_model.proofs.ProductLemmas.{product_le}
 use Rattle.sat_model.proofs.PairAxisLemmas.{amount_within}
 use Rattle.grid_model.proofs.SpreadRoots.{two_products as twice_product}
+use Rattle.std.proofs.lemmas.Bool.{cases_lt}
 
 from_sum : (x y t : ℕ) → y ≡ x + t → 2 * (x * y) ≤ x * x + y * y
 from_sum x y t e = rw e (omega arith)
 
 -- (a b + c d + e f)^2 against the product of the sums of squares
-pub cauchy : (a c e b d f : ℕ) → square (a * b + c * d + e * f) ≤ (square a + square c + square e) * (square b + square d + square f)
+pub cauchy : (a c e b d f : ℕ)
+    → square (a * b + c * d + e * f) ≤ (square a + square c + square e) * (square b + square d + square f)
 cauchy a c e b d f = omega (arith, twice_product (a * d) (c * b), twice_product (a * f) (e * b), twice_product (c * f) (e * d))
 
 less_product : (m n p q : ℕ) → m < p → n < q → m * n < p * q
 less_product m n p q h k = omega (arith, mul-le m n m q (omega arith) (omega arith), mul-le (m + 1) q p q (omega arith) (omega arith))
 
 -- what is less than a product of greater roots
-below_roots : (t m n a r : ℕ) → square t ≤ m * n → m < a * a → n < (r + 1) * (r + 1) → t < a * (r + 1)
-below_roots t m n a r h p q = elim (lt_or t (a * (r + 1))) [
+below_roots : (t m n a r : ℕ) → square t ≤ m * n → m < a * a → n < (r + 1) * (r + 1)
+    → t < a * (r + 1)
+below_roots t m n a r h p q = elim (cases_lt t (a * (r + 1))) [
   | inl k ↦ k
   | inr k ↦ absurd (omega (arith, square-mono (a * (r + 1)) t k, less_product m n (a * a) ((r + 1) * (r + 1)) p q))
 ]
-  where
-    lt_or : (x y : ℕ) → (x < y) ⊎ (y ≤ x)
-    lt_or x zero = inr (omega arith)
-    lt_or zero (suc y) = inl (omega arith)
-    lt_or (suc x) (suc y) = elim (lt_or x y) [ inl h ↦ inl (omega arith) | inr h ↦ inr (omega arith) ]
 
-three_products : (x y z : ℤ) (a b c : ℕ) → x ≤ℤ pos a → y ≤ℤ pos b → z ≤ℤ pos c → (x +ℤ y +ℤ z) ≤ℤ pos (a + b + c)
+three_products : (x y z : ℤ) (a b c : ℕ) → x ≤ℤ pos a → y ≤ℤ pos b → z ≤ℤ pos c
+    → (x +ℤ y +ℤ z) ≤ℤ pos (a + b + c)
 three_products x y z a b c h k l = omega (arith, ints)
 
 -- v.d is less than A (R + 1), where v.v < A^2 and R is the root of d.d

@@ -7,7 +7,8 @@ use Rattle.sat_model.specs.ClockSpans.{near_square, far_square, near_of, far_of}
 use Rattle.grid_model.proofs.RootLemmas.{root_is, root_mono, sum_mono}
 use Rattle.grid_model.proofs.AmountLemmas.{least_le_greatest}
 
-pub near_le_far : (row : Row) (part : Box3) → near_of row (grid_box part) ≤ far_of row (grid_box part)
+pub near_le_far : (row : Row) (part : Box3)
+    → near_of row (grid_box part) ≤ far_of row (grid_box part)
 unfolding near_of far_of
 near_le_far row part =
     root_mono (near_square row (grid_box part)) (far_square row (grid_box part)) _ _ (root_is _) (root_is _)

@@ -30,7 +30,8 @@ use Rattle.sat_model.proofs.FoldLemmas.{weight, option_weight, held_by, one_held
 
 -- ---- what may fit
 
-kept_later : (p : Pos) (b : ℤ) (taken more : List ShownStep) → SomeKeeps p b more → SomeKeeps p b (taken ++ more)
+kept_later : (p : Pos) (b : ℤ) (taken more : List ShownStep) → SomeKeeps p b more
+    → SomeKeeps p b (taken ++ more)
 kept_later p b [] more h = h
 kept_later p b (piece ∷ taken) more h = inr (kept_later p b taken more h)
 
@@ -38,20 +39,24 @@ kept_later p b (piece ∷ taken) more h = inr (kept_later p b taken more h)
 abbrev KeepsOrMisses : Pos → ℤ → List ShownStep → Type 0
 KeepsOrMisses p b taken = ((more : List ShownStep) → SomeKeeps p b (taken ++ more)) ⊎ (held_by p taken ≡ 0)
 
-missed : (p : Pos) (b : ℤ) (step : Step) (part : GridBox) → (box_holds part p ≡ true → ⊥) → KeepsOrMisses p b (record { step = step; part = part } ∷ [])
+missed : (p : Pos) (b : ℤ) (step : Step) (part : GridBox) → (box_holds part p ≡ true → ⊥)
+    → KeepsOrMisses p b (record { step = step; part = part } ∷ [])
 missed p b step part h = elim (cases_Bool (box_holds part p)) [
   | inl e ↦ absurd (h e)
   | inr e ↦ inr (one_held p step part ∙ rw e refl)
 ]
 
-closed : (p : Pos) (b : ℤ) (step : Step) (part : GridBox) → (box_holds part p ≡ true → KeepsClock step b) → KeepsOrMisses p b (record { step = step; part = part } ∷ [])
+closed : (p : Pos) (b : ℤ) (step : Step) (part : GridBox)
+    → (box_holds part p ≡ true → KeepsClock step b)
+    → KeepsOrMisses p b (record { step = step; part = part } ∷ [])
 closed p b step part h = elim (cases_Bool (box_holds part p)) [
   | inl e ↦ inl (λ more. inl (e, h e))
   | inr e ↦ inr (one_held p step part ∙ rw e refl)
 ]
 
 keeps_or_misses : (rules : Rules) (stage : Stage) (step : Step) (p : Pos) (b : ℤ)
-    → StepPasses rules stage step → AllBut stage.test.q (IsPossible p b) stage.test.rows → KeepsOrMisses p b (taken_by stage.boxes step)
+    → StepPasses rules stage step → AllBut stage.test.q (IsPossible p b) stage.test.rows
+    → KeepsOrMisses p b (taken_by stage.boxes step)
 keeps_or_misses rules stage (Cut id face bound) p b (part, is, (proper, empty)) all = rw is
     (missed p b (Cut id face bound) (slab_of_cut face bound part)
     (λ e. nothing_fits stage.test (slab_of_cut face bound part) empty p b e all))
@@ -65,7 +70,8 @@ keeps_or_misses rules stage (Edge id lo hi) p b (part, is, hull) all = rw is
 
 -- ---- which live box holds a point
 
-pub some_live : (p : Pos) (live : List (Option GridBox)) → 0 < weight p live → (id : ℕ) × (part : GridBox) × (get_or live id None ≡ Some part) × (box_holds part p ≡ true)
+pub some_live : (p : Pos) (live : List (Option GridBox)) → 0 < weight p live
+    → (id : ℕ) × (part : GridBox) × (get_or live id None ≡ Some part) × (box_holds part p ≡ true)
 some_live p [] h = absurd (omega arith)
 some_live p (None ∷ live) h =
     let (id, part, is, inside) = some_live p live (omega (arith, sum_by-cons (λ o. option_weight p o) None live, h)) in
@@ -78,13 +84,15 @@ some_live p (Some part ∷ live) h = elim (cases_Bool (box_holds part p)) [
       (suc id, other, is, inside)
 ]
 
-side_holds_more : (part whole : Side) (n : ℤ) → IsSideInside part whole → side_holds part n ≡ true → side_holds whole n ≡ true
+side_holds_more : (part whole : Side) (n : ℤ) → IsSideInside part whole → side_holds part n ≡ true
+    → side_holds whole n ≡ true
 side_holds_more part whole n i h =
     let (l, u) = side_in part n h in
     rw (le_to whole.lo n (omega (arith, ints, l, i.0)), le_to n whole.hi (omega (arith, ints, u, i.1))) refl
 
 -- a box that another one lies in holds the points of that
-pub inside_holds : (part whole : GridBox) (p : Pos) → IsInside part whole → box_holds part p ≡ true → box_holds whole p ≡ true
+pub inside_holds : (part whole : GridBox) (p : Pos) → IsInside part whole → box_holds part p ≡ true
+    → box_holds whole p ≡ true
 inside_holds part whole p i h =
     let (hx, hyz) = both _ _ h in
     let (hy, hz) = both _ _ hyz in
@@ -99,7 +107,8 @@ PossibleInEach q p b (some ∷ more) =
     (box_holds some.part p ≡ true → AllBut q (IsPossible p b) some.rows) × PossibleInEach q p b more
 
 -- what is so of all numbers but at most q is so of the rows in these places
-by_numbers : (Fact : ℕ → Type 0) (q : ℕ) (Meets : Row → Type 0) (rows : List Row) (from n : ℕ) → length rows ≤ n
+by_numbers : (Fact : ℕ → Type 0) (q : ℕ) (Meets : Row → Type 0) (rows : List Row) (from n : ℕ)
+    → length rows ≤ n
     → ((i : ℕ) (row : Row) → Fact (from + i) → slice_get rows i ≡ Some row → Meets row)
     → AllBut q Fact (numbers_from from n) → AllBut q Meets rows
 by_numbers Fact q Meets [] from n le gives all = tt
@@ -118,8 +127,10 @@ by_numbers Fact (suc q) Meets (row ∷ rows) from (suc n) le gives all =
 module _ (Meets : LineFact) (first : RowsOver) (rules : Rules) (done : ℕ) where
   -- A point of a live box is kept by a later step. It lies in the box of each renewal while a live
   -- box holds it, since that holds all live boxes.
-  covers_from : (j : ℕ) (stage : Stage) (events : List Event) (p : Pos) (b : ℤ) → EventsPass Meets first rules done j stage events
-      → AllBut stage.test.q (IsPossible p b) stage.test.rows → PossibleInEach stage.test.q p b (renewals_in events)
+  covers_from : (j : ℕ) (stage : Stage) (events : List Event) (p : Pos) (b : ℤ)
+      → EventsPass Meets first rules done j stage events
+      → AllBut stage.test.q (IsPossible p b) stage.test.rows
+      → PossibleInEach stage.test.q p b (renewals_in events)
       → 0 < weight p stage.boxes.live → SomeKeeps p b (pieces_from stage.boxes (steps_in events))
   covers_from j stage [] p b h all each some = absurd (omega (arith, nothing_live p stage.boxes.live h.0))
   covers_from j stage (Made step ∷ events) p b h all each some = elim (keeps_or_misses rules stage step p b h.0 all) [
@@ -135,7 +146,8 @@ module _ (Meets : LineFact) (first : RowsOver) (rules : Rules) (done : ℕ) wher
   -- ---- satellite by satellite
 
   -- there are no more lines than first rows
-  lines_fit : (j i : ℕ) (rows : List Row) → LinesPass Meets first j i rows → i ≤ length first.rows → i + length rows ≤ length first.rows
+  lines_fit : (j i : ℕ) (rows : List Row) → LinesPass Meets first j i rows → i ≤ length first.rows
+      → i + length rows ≤ length first.rows
   lines_fit j i [] h le = omega arith
   lines_fit j i (row ∷ rows) h le =
       let here = slice_get_within (map (λ (own : Row). own.sat) first.rows) i row.sat h.0.0 in
@@ -143,8 +155,10 @@ module _ (Meets : LineFact) (first : RowsOver) (rules : Rules) (done : ℕ) wher
 
   -- where all satellites but at most q are possible, so are the rows of each renewal
   each_from : (Fact : ℕ → Type 0) (q j : ℕ) (stage : Stage) (events : List Event) (p : Pos) (b : ℤ)
-      → EventsPass Meets first rules done j stage events → ((i : ℕ) → Fact i → IsPossibleByAll (renewals_in events) p b i)
-      → AllBut q Fact (numbers_from 0 (length first.rows)) → PossibleInEach q p b (renewals_in events)
+      → EventsPass Meets first rules done j stage events
+      → ((i : ℕ) → Fact i → IsPossibleByAll (renewals_in events) p b i)
+      → AllBut q Fact (numbers_from 0 (length first.rows))
+      → PossibleInEach q p b (renewals_in events)
   each_from Fact q j stage [] p b h gives all = tt
   each_from Fact q j stage (Made step ∷ events) p b h gives all = each_from Fact q j (after stage (Made step)) events p b h.1 gives all
   each_from Fact q j stage (Renewed new ∷ events) p b h gives all = (
@@ -157,7 +171,8 @@ module _ (Meets : LineFact) (first : RowsOver) (rules : Rules) (done : ℕ) wher
 module _ (Meets : LineFact) (rules : Rules) (done : ℕ) (test : BoxTest) (root : GridBox) (events : List Event)
     (passes : EventsPass Meets (rows_over root test.rows) rules done 0 (first_stage test root) events) where
   -- the first rows and those of each renewal tell what is covered
-  pub covers_each : (p : Pos) (b : ℤ) → box_holds root p ≡ true → PossibleInEach test.q p b (rows_over root test.rows ∷ renewals_in events)
+  pub covers_each : (p : Pos) (b : ℤ) → box_holds root p ≡ true
+      → PossibleInEach test.q p b (rows_over root test.rows ∷ renewals_in events)
       → SomeKeeps p b (pieces root (steps_in events))
   covers_each p b inside each =
       covers_from Meets (rows_over root test.rows) rules done 0 (first_stage test root) events p b passes (each.0 inside) each.1
@@ -174,7 +189,8 @@ module _ (Meets : LineFact) (rules : Rules) (done : ℕ) (test : BoxTest) (root 
 
 -- ---- what surely fits
 
-sure_taken : (rules : Rules) (stage : Stage) (step : Step) → StepPasses rules stage step → AreSureInside stage.test.rows stage.test.q (taken_by stage.boxes step)
+sure_taken : (rules : Rules) (stage : Stage) (step : Step) → StepPasses rules stage step
+    → AreSureInside stage.test.rows stage.test.q (taken_by stage.boxes step)
 sure_taken rules stage (Cut id face bound) (part, is, empty) = rw is (tt, tt)
 sure_taken rules stage (Split id axis) h = tt
 sure_taken rules stage (Outside id) (part, is, empty) = rw is (tt, tt)
@@ -183,7 +199,8 @@ sure_taken rules stage (Inside id clock lo hi) (part, is, inner, hull) = rw is
 sure_taken rules stage (Edge id lo hi) (part, is, hull) = rw is (tt, tt)
 
 sure_from : (Meets : LineFact) (first : RowsOver) (rules : Rules) (done j : ℕ) (stage : Stage) (events : List Event)
-    → EventsPass Meets first rules done j stage events → AreSureFrom stage.test.q stage.test.rows stage.boxes events
+    → EventsPass Meets first rules done j stage events
+    → AreSureFrom stage.test.q stage.test.rows stage.boxes events
 sure_from Meets first rules done j stage [] h = tt
 sure_from Meets first rules done j stage (Made step ∷ events) h =
     (sure_taken rules stage step h.0, sure_from Meets first rules done j (after stage (Made step)) events h.1)
@@ -193,18 +210,21 @@ sure_from Meets first rules done j stage (Renewed new ∷ events) h =
 -- ---- an epoch, and a log
 
 pub epoch_cover : (Meets : LineFact) (rules : Rules) (done : ℕ) (test : BoxTest) (root : GridBox) (events : List Event)
-    → EventsPass Meets (rows_over root test.rows) rules done 0 (first_stage test root) events → EpochCover test.q (rows_over root test.rows) events
+    → EventsPass Meets (rows_over root test.rows) rules done 0 (first_stage test root) events
+    → EpochCover test.q (rows_over root test.rows) events
 epoch_cover Meets rules done test root events h = record {
   partition = partitions Meets (rows_over root test.rows) rules done test root events h;
   covers = covers Meets rules done test root events h;
   sure = sure_from Meets (rows_over root test.rows) rules done 0 (first_stage test root) events h;
 }
 
-block_cover : (rules : Rules) (block : Block) (body : Option Body) → BodyPasses rules block body → BlockCover rules.outliers block body
+block_cover : (rules : Rules) (block : Block) (body : Option Body) → BodyPasses rules block body
+    → BlockCover rules.outliers block body
 block_cover rules block None h = tt
 block_cover rules block (Some body) h = epoch_cover AnyLine rules body.done (test_in rules block) body.root body.events h
 
-blocks_cover : (rules : Rules) (before : Option ℕ) (blocks : List Block) → BlocksPass rules before blocks → BlocksCover rules.outliers blocks
+blocks_cover : (rules : Rules) (before : Option ℕ) (blocks : List Block)
+    → BlocksPass rules before blocks → BlocksCover rules.outliers blocks
 blocks_cover rules before [] h = tt
 blocks_cover rules before (block ∷ more) h = (block_cover rules block block.body h.0.body, blocks_cover rules (Some block.index) more h.1)
 

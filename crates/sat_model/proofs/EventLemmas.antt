@@ -17,22 +17,26 @@ pub lines_of_made : (steps : List Step) → lines_of_all (made_all steps) ≡ le
 lines_of_made [] = refl
 lines_of_made (step ∷ steps) = omega (arith, lines_of_made steps)
 
-pub made_behind : (first more : List Step) → made_all (first ++ more) ≡ made_all first ++ made_all more
+pub made_behind : (first more : List Step)
+    → made_all (first ++ more) ≡ made_all first ++ made_all more
 made_behind [] more = refl
 made_behind (step ∷ first) more = ap (λ events. Made step ∷ events) (made_behind first more)
 
 -- ---- one list behind another
 
-pub steps_behind : (first more : List Event) → steps_in (first ++ more) ≡ steps_in first ++ steps_in more
+pub steps_behind : (first more : List Event)
+    → steps_in (first ++ more) ≡ steps_in first ++ steps_in more
 steps_behind [] more = refl
 steps_behind (Made step ∷ first) more = ap (λ steps. step ∷ steps) (steps_behind first more)
 steps_behind (Renewed new ∷ first) more = steps_behind first more
 
-pub renewals_behind : (first more : List Event) → renewals_in (first ++ more) ≡ renewals_in first ++ renewals_in more
+pub renewals_behind : (first more : List Event)
+    → renewals_in (first ++ more) ≡ renewals_in first ++ renewals_in more
 renewals_behind [] more = refl
 renewals_behind (Made step ∷ first) more = renewals_behind first more
 renewals_behind (Renewed new ∷ first) more = ap (λ renewals. new ∷ renewals) (renewals_behind first more)
 
-pub lines_behind : (first more : List Event) → lines_of_all (first ++ more) ≡ lines_of_all first + lines_of_all more
+pub lines_behind : (first more : List Event)
+    → lines_of_all (first ++ more) ≡ lines_of_all first + lines_of_all more
 lines_behind [] more = omega arith
 lines_behind (event ∷ first) more = omega (arith, lines_behind first more)

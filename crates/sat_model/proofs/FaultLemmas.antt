@@ -23,7 +23,8 @@ abbrev LaterFails : Stage → ℕ → (GridBox → Type 0) → ℕ → ℕ → T
 LaterFails stage id Meets test number = (part : GridBox) × IsLive stage.boxes id part × Meets part × (number ≡ test)
 
 one_of_two : (stage : Stage) (id test n m : ℕ) (Meets : GridBox → Type 0)
-    → NotLive stage id n ⊎ LiveFails stage id Meets test n → NotLive stage id m ⊎ LiveFails stage id Meets test m → n ≡ m
+    → NotLive stage id n ⊎ LiveFails stage id Meets test n
+    → NotLive stage id m ⊎ LiveFails stage id Meets test m → n ≡ m
 one_of_two stage id test n m Meets (inl (gone, e)) (inl (again, f)) = omega arith
 one_of_two stage id test n m Meets (inl gone) (inr (part, is, fails, f)) = absurd (not_gone stage id n part is gone)
 one_of_two stage id test n m Meets (inr (part, is, fails, e)) (inl gone) = absurd (not_gone stage id m part is gone)
@@ -31,7 +32,8 @@ one_of_two stage id test n m Meets (inr (part, is, fails, e)) (inr (other, live,
 
 one_of_three : (stage : Stage) (id first second n m : ℕ) (Meets : GridBox → Type 0)
     → NotLive stage id n ⊎ (LiveFails stage id Meets first n ⊎ LaterFails stage id Meets second n)
-    → NotLive stage id m ⊎ (LiveFails stage id Meets first m ⊎ LaterFails stage id Meets second m) → n ≡ m
+    → NotLive stage id m ⊎ (LiveFails stage id Meets first m ⊎ LaterFails stage id Meets second m)
+    → n ≡ m
 one_of_three stage id first second n m Meets (inl (gone, e)) (inl (again, f)) = omega arith
 one_of_three stage id first second n m Meets (inl gone) (inr (inl (part, is, fails, f))) = absurd (not_gone stage id n part is gone)
 one_of_three stage id first second n m Meets (inl gone) (inr (inr (part, is, meets, f))) = absurd (not_gone stage id n part is gone)
@@ -44,7 +46,8 @@ one_of_three stage id first second n m Meets (inr (inr (part, is, meets, e))) (i
     absurd (not_failing stage id first m Meets part is meets fails)
 one_of_three stage id first second n m Meets (inr (inr (part, is, meets, e))) (inr (inr (other, live, again, f))) = omega arith
 
-later_split : (rules : Rules) (stage : Stage) (id axis n : ℕ) → StepFails rules stage (Split id axis) n
+later_split : (rules : Rules) (stage : Stage) (id axis n : ℕ)
+    → StepFails rules stage (Split id axis) n
     → NotLive stage id n ⊎ (LiveFails stage id (IsLong rules axis) 61 n ⊎ LaterFails stage id (IsLong rules axis) 62 n)
 later_split rules stage id axis n (inl gone) = inl gone
 later_split rules stage id axis n (inr (inl short)) = inr (inl short)
@@ -59,7 +62,8 @@ one_number rules stage (Inside id clock lo hi) n m f g =
     one_of_three stage id 59 60 n m (λ part. IsInner stage.test part clock)
     (later_inside rules stage id n clock lo hi f) (later_inside rules stage id m clock lo hi g)
   where
-    later_inside : (rules : Rules) (stage : Stage) (id n : ℕ) (clock lo hi : ℤ) → StepFails rules stage (Inside id clock lo hi) n
+    later_inside : (rules : Rules) (stage : Stage) (id n : ℕ) (clock lo hi : ℤ)
+        → StepFails rules stage (Inside id clock lo hi) n
         → NotLive stage id n
         ⊎ (LiveFails stage id (λ part. IsInner stage.test part clock) 59 n ⊎ LaterFails stage id (λ part. IsInner stage.test part clock) 60 n)
     later_inside rules stage id n clock lo hi (inl gone) = inl gone
@@ -76,8 +80,10 @@ IsOne line number other_line other_number = (line ≡ other_line) × (number ≡
 -- of a line that fails one fault is told
 pub record AreSharp {Fault : Type 0} (tests : LineTests Fault) (Same : Fault → Fault → Type 0) : Type 0 where
   pub exclusive : AreExclusive tests
-  pub one : (j i : ℕ) (row : Row) (f g : Fault) → tests.fails j i row f → tests.fails j i row g → Same f g
-  pub told : (f g : Fault) → tests.number f ≡ tests.number g → tests.plain f → tests.plain g → Same f g
+  pub one : (j i : ℕ) (row : Row) (f g : Fault) → tests.fails j i row f → tests.fails j i row g
+      → Same f g
+  pub told : (f g : Fault) → tests.number f ≡ tests.number g → tests.plain f → tests.plain g
+      → Same f g
 
 nothing_sharp : AreSharp no_tests (λ n m. n ≡ m)
 nothing_sharp = record {
@@ -86,14 +92,16 @@ nothing_sharp = record {
   told = λ f g e a b. e;
 }
 
-one_at_end : (done : ℕ) (stage : Stage) (n m : ℕ) → DoneFails done stage n → DoneFails done stage m → n ≡ m
+one_at_end : (done : ℕ) (stage : Stage) (n m : ℕ) → DoneFails done stage n → DoneFails done stage m
+    → n ≡ m
 one_at_end done stage n m (inl (live, e)) (inl (again, f)) = omega arith
 one_at_end done stage n m (inl (live, e)) (inr (none, count, f)) = absurd (live.1 (none live.0))
 one_at_end done stage n m (inr (none, count, e)) (inl (live, f)) = absurd (live.1 (none live.0))
 one_at_end done stage n m (inr (none, count, e)) (inr (again, other, f)) = omega arith
 
 module _ {Fault : Type 0} (tests : LineTests Fault) (Same : Fault → Fault → Type 0) (sharp : AreSharp tests Same) (first : RowsOver) where
-  one_line : (j i : ℕ) (row : Row) (f g : Fault) → LineFails tests first j i row f → LineFails tests first j i row g → Same f g
+  one_line : (j i : ℕ) (row : Row) (f g : Fault) → LineFails tests first j i row f
+      → LineFails tests first j i row g → Same f g
   one_line j i row f g (inl (other, n, plain)) (inl (again, m, alone)) = sharp.told f g (n ∙ sym m) plain alone
   one_line j i row f g (inl (other, n, plain)) (inr (same, fails)) = absurd (other same)
   one_line j i row f g (inr (same, fails)) (inl (other, n, plain)) = absurd (other same)
@@ -110,7 +118,8 @@ module _ {Fault : Type 0} (tests : LineTests Fault) (Same : Fault → Fault → 
       (ap suc same.0, same.1)
 
   one_in_renewal : (j : ℕ) (boxes : Subpaving) (new : RowsOver) (k : ℕ) (f : Fault) (m : ℕ) (g : Fault)
-      → RenewalFails tests first j boxes new k f → RenewalFails tests first j boxes new m g → (k ≡ m) × Same f g
+      → RenewalFails tests first j boxes new k f → RenewalFails tests first j boxes new m g
+      → (k ≡ m) × Same f g
   one_in_renewal j boxes new zero f zero g a b = (refl, sharp.told f g (a.1 ∙ sym b.1) a.2 b.2)
   one_in_renewal j boxes new zero f (suc m) g a b = absurd (a.0 b.0)
   one_in_renewal j boxes new (suc k) f zero g a b = absurd (b.0 a.0)
@@ -119,7 +128,8 @@ module _ {Fault : Type 0} (tests : LineTests Fault) (Same : Fault → Fault → 
       (ap suc same.0, same.1)
 
   pub one_in_events : (rules : Rules) (done j : ℕ) (stage : Stage) (events : List Event) (k : ℕ) (f : Fault) (m : ℕ) (g : Fault)
-      → EventsFail tests first rules done j stage events k f → EventsFail tests first rules done j stage events m g → (k ≡ m) × Same f g
+      → EventsFail tests first rules done j stage events k f
+      → EventsFail tests first rules done j stage events m g → (k ≡ m) × Same f g
   one_in_events rules done j stage [] k f m g a b = (omega (arith, a.0, b.0), sharp.told f g (one_at_end done stage _ _ a.1 b.1) a.2 b.2)
   one_in_events rules done j stage (Made step ∷ events) zero f zero g a b = (refl, sharp.told f g (one_number rules stage step _ _ a.0 b.0) a.1 b.1)
   one_in_events rules done j stage (Made step ∷ events) zero f (suc m) g a b = absurd (step_not_both rules stage step _ b.0 a.0)
@@ -138,13 +148,15 @@ module _ {Fault : Type 0} (tests : LineTests Fault) (Same : Fault → Fault → 
 
 -- ---- a block, and the log
 
-one_head : (rules : Rules) (before : Option ℕ) (block : Block) (n m : ℕ) → HeadFails rules before block n → HeadFails rules before block m → n ≡ m
+one_head : (rules : Rules) (before : Option ℕ) (block : Block) (n m : ℕ)
+    → HeadFails rules before block n → HeadFails rules before block m → n ≡ m
 one_head rules before block n m (inl (fails, e)) (inl (again, f)) = omega arith
 one_head rules before block n m (inl (fails, e)) (inr (later, suits, count, f)) = absurd (fails (later, suits))
 one_head rules before block n m (inr (later, suits, count, e)) (inl (fails, f)) = absurd (fails (later, suits))
 one_head rules before block n m (inr (later, suits, count, e)) (inr (l, s, c, f)) = omega arith
 
-pub one_repeat : (sats : List SatEntry) (j k : ℕ) → IsFirstRepeat sats j → IsFirstRepeat sats k → j ≡ k
+pub one_repeat : (sats : List SatEntry) (j k : ℕ) → IsFirstRepeat sats j → IsFirstRepeat sats k
+    → j ≡ k
 one_repeat sats j k a b = elim (cases_lt j k) [
   | inl less ↦ absurd (b.first j less a.repeats)
   | inr not_less ↦ elim (cases_lt k j) [
@@ -181,6 +193,7 @@ one_in_blocks rules before (block ∷ more) l n k m (inl f) (inr (passes, g)) = 
 one_in_blocks rules before (block ∷ more) l n k m (inr (passes, f)) (inl g) = absurd (block_not_both rules before block k m passes g)
 one_in_blocks rules before (block ∷ more) l n k m (inr (passes, f)) (inr (again, g)) = one_in_blocks rules (Some block.index) more l n k m f g
 
-pub one_first_fault : (log : LogValue) (line number other_line other_number : ℕ) → FirstFault log line number → FirstFault log other_line other_number
+pub one_first_fault : (log : LogValue) (line number other_line other_number : ℕ)
+    → FirstFault log line number → FirstFault log other_line other_number
     → (line ≡ other_line) × (number ≡ other_number)
 one_first_fault log line number other_line other_number f g = one_in_blocks log.rules None log.blocks line number other_line other_number f g

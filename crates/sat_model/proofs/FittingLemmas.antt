@@ -15,10 +15,12 @@ use Rattle.sat_model.specs.Relaxed.{holds, LiesInRelaxed}
 use Rattle.grid_model.proofs.RootLemmas.{root_is, root_mono, sum_mono}
 use Rattle.grid_model.proofs.AmountLemmas.{least_amount_le, greatest_amount_ge}
 use Rattle.grid_model.proofs.PointLemmas.{IsInBox, le_from, le_to}
+use Rattle.grid_model.proofs.PlainLemmas.{at_most_one}
 
 -- ---- one row
 
-near_le_range : (row : Row) (part : GridBox) (p : Pos) (v : RowValue row) → IsInBox part p → near_of row part ≤ range_to v.x v.y v.z p
+near_le_range : (row : Row) (part : GridBox) (p : Pos) (v : RowValue row) → IsInBox part p
+    → near_of row part ≤ range_to v.x v.y v.z p
 unfolding near_of range_to
 near_le_range row part p v i = root_mono (near_square row part) _ _ _ (root_is _) (root_is _)
     (sum_mono _ _ _ _ _ _
@@ -26,7 +28,8 @@ near_le_range row part p v i = root_mono (near_square row part) _ _ _ (root_is _
     (least_amount_le _ _ _ _ v.y p.y v.y_in.0 v.y_in.1 i.y.0 i.y.1)
     (least_amount_le _ _ _ _ v.z p.z v.z_in.0 v.z_in.1 i.z.0 i.z.1))
 
-range_le_far : (row : Row) (part : GridBox) (p : Pos) (v : RowValue row) → IsInBox part p → range_to v.x v.y v.z p ≤ far_of row part
+range_le_far : (row : Row) (part : GridBox) (p : Pos) (v : RowValue row) → IsInBox part p
+    → range_to v.x v.y v.z p ≤ far_of row part
 unfolding far_of range_to
 range_le_far row part p v i = root_mono _ (far_square row part) _ _ (root_is _) (root_is _)
     (sum_mono _ _ _ _ _ _
@@ -37,12 +40,14 @@ range_le_far row part p v i = root_mono _ (far_square row part) _ _ (root_is _) 
 pub holds_from : (lo hi b : ℤ) → lo ≤ℤ b → b ≤ℤ hi → holds (lo, hi) b ≡ true
 holds_from lo hi b h k = rw (le_to lo b h, le_to b hi k) refl
 
-clock_holds : (row : Row) (part : GridBox) (p : Pos) (b : ℤ) → IsPossible p b row → IsInBox part p → holds (clock_ends part row) b ≡ true
+clock_holds : (row : Row) (part : GridBox) (p : Pos) (b : ℤ) → IsPossible p b row → IsInBox part p
+    → holds (clock_ends part row) b ≡ true
 clock_holds row part p b k i = holds_from _ _ b
     (omega (arith, ints, range_le_far row part p k.value i, k.value.measured_in, k.allowed))
     (omega (arith, ints, near_le_range row part p k.value i, k.value.measured_in, k.allowed))
 
-inner_sure : (row : Row) (part : GridBox) (p : Pos) (b : ℤ) → holds (inner_ends part row) b ≡ true → IsInBox part p → IsSure p b row
+inner_sure : (row : Row) (part : GridBox) (p : Pos) (b : ℤ) → holds (inner_ends part row) b ≡ true
+    → IsInBox part p → IsSure p b row
 inner_sure row part p b h i v =
     let (l, u) = both _ _ h in
     let low = le_from _ b l in
@@ -53,16 +58,20 @@ inner_sure row part p b h i v =
 
 -- ---- all rows but at most q
 
-pub count_here : (b : ℤ) (s : ℤ × ℤ) (spans : List (ℤ × ℤ)) → holds s b ≡ true → count_by (λ t. holds t b) (s ∷ spans) ≡ 1 + count_by (λ t. holds t b) spans
+pub count_here : (b : ℤ) (s : ℤ × ℤ) (spans : List (ℤ × ℤ)) → holds s b ≡ true
+    → count_by (λ t. holds t b) (s ∷ spans) ≡ 1 + count_by (λ t. holds t b) spans
 count_here b s spans e = sum_by-cons (λ t. cond (holds t b) 1 0) s spans ∙ rw e refl
 
-pub count_not_here : (b : ℤ) (s : ℤ × ℤ) (spans : List (ℤ × ℤ)) → holds s b ≡ false → count_by (λ t. holds t b) (s ∷ spans) ≡ count_by (λ t. holds t b) spans
+pub count_not_here : (b : ℤ) (s : ℤ × ℤ) (spans : List (ℤ × ℤ)) → holds s b ≡ false
+    → count_by (λ t. holds t b) (s ∷ spans) ≡ count_by (λ t. holds t b) spans
 count_not_here b s spans e = sum_by-cons (λ t. cond (holds t b) 1 0) s spans ∙ rw e (omega arith)
 
-pub count_any : (b : ℤ) (s : ℤ × ℤ) (spans : List (ℤ × ℤ)) → count_by (λ t. holds t b) spans ≤ count_by (λ t. holds t b) (s ∷ spans)
+pub count_any : (b : ℤ) (s : ℤ × ℤ) (spans : List (ℤ × ℤ))
+    → count_by (λ t. holds t b) spans ≤ count_by (λ t. holds t b) (s ∷ spans)
 count_any b s spans = omega (arith, sum_by-cons (λ t. cond (holds t b) 1 0) s spans)
 
-all_but_held : (q : ℕ) (part : GridBox) (p : Pos) (b : ℤ) (rows : List Row) → IsInBox part p → AllBut q (IsPossible p b) rows
+all_but_held : (q : ℕ) (part : GridBox) (p : Pos) (b : ℤ) (rows : List Row) → IsInBox part p
+    → AllBut q (IsPossible p b) rows
     → length rows ≤ count_by (λ t. holds t b) (clock_spans part rows) + q
 all_but_held q part p b [] i h = omega arith
 all_but_held zero part p b (row ∷ rows) i h =
@@ -73,21 +82,20 @@ all_but_held (suc q) part p b (row ∷ rows) i h = elim h [
 ]
 
 -- where all rows but at most q may fit, the offset lies in all clock spans but at most q
-pub relaxed_of_possible : (q : ℕ) (part : GridBox) (p : Pos) (b : ℤ) (rows : List Row) → IsInBox part p → AllBut q (IsPossible p b) rows
+pub relaxed_of_possible : (q : ℕ) (part : GridBox) (p : Pos) (b : ℤ) (rows : List Row)
+    → IsInBox part p → AllBut q (IsPossible p b) rows
     → LiesInRelaxed (clock_spans part rows) (length rows - q) b
 relaxed_of_possible q part p b rows i h = omega (arith, all_but_held q part p b rows i h)
 
-inner_le_rows : (part : GridBox) (b : ℤ) (rows : List Row) → count_by (λ t. holds t b) (inner_spans part rows) ≤ length rows
+inner_le_rows : (part : GridBox) (b : ℤ) (rows : List Row)
+    → count_by (λ t. holds t b) (inner_spans part rows) ≤ length rows
 inner_le_rows part b [] = omega arith
 inner_le_rows part b (row ∷ rows) =
-    omega (arith, sum_by-cons (λ t. cond (holds t b) 1 0) (inner_ends part row) (inner_spans part rows), one_at_most (holds (inner_ends part row) b), inner_le_rows part b rows)
-  where
-    one_at_most : (t : Bool) → cond t 1 0 ≤ 1
-    one_at_most true = omega arith
-    one_at_most false = omega arith
+    omega (arith, sum_by-cons (λ t. cond (holds t b) 1 0) (inner_ends part row) (inner_spans part rows), at_most_one (holds (inner_ends part row) b), inner_le_rows part b rows)
 
 all_but_sure : (q : ℕ) (part : GridBox) (p : Pos) (b : ℤ) (rows : List Row) → IsInBox part p
-    → length rows ≤ count_by (λ t. holds t b) (inner_spans part rows) + q → AllBut q (IsSure p b) rows
+    → length rows ≤ count_by (λ t. holds t b) (inner_spans part rows) + q
+    → AllBut q (IsSure p b) rows
 all_but_sure q part p b [] i h = tt
 all_but_sure zero part p b (row ∷ rows) i h = elim (cases_Bool (holds (inner_ends part row) b)) [
   | inl e ↦ (inner_sure row part p b e i, all_but_sure zero part p b rows i (omega (arith, count_here b (inner_ends part row) (inner_spans part rows) e)))
@@ -99,5 +107,6 @@ all_but_sure (suc q) part p b (row ∷ rows) i h = elim (cases_Bool (holds (inne
 ]
 
 -- where the offset lies in all inner spans but at most q, all rows but at most q surely fit
-pub sure_of_inner : (q : ℕ) (part : GridBox) (p : Pos) (b : ℤ) (rows : List Row) → IsInBox part p → IsShownInner rows part q b → AllBut q (IsSure p b) rows
+pub sure_of_inner : (q : ℕ) (part : GridBox) (p : Pos) (b : ℤ) (rows : List Row) → IsInBox part p
+    → IsShownInner rows part q b → AllBut q (IsSure p b) rows
 sure_of_inner q part p b rows i h = all_but_sure q part p b rows i (omega arith)

@@ -23,7 +23,8 @@ kept_taken rules stage (Edge id lo hi) (part, is, hull) = rw is refl
 
 -- so the steps alone tell how many boxes are kept
 module _ (Meets : LineFact) (first : RowsOver) (rules : Rules) (done : ℕ) where
-  pub kept_of_steps : (j : ℕ) (stage : Stage) (events : List Event) → EventsPass Meets first rules done j stage events
+  pub kept_of_steps : (j : ℕ) (stage : Stage) (events : List Event)
+      → EventsPass Meets first rules done j stage events
       → count_by is_kept (pieces_from stage.boxes (steps_in events)) ≡ count_by is_kept_step (steps_in events)
   kept_of_steps j stage [] h = refl
   kept_of_steps j stage (Made step ∷ events) h =

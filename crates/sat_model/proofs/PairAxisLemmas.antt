@@ -25,7 +25,8 @@ pub record UpTo (a d : ℤ) (s p : ℕ) : Type 0 where
 pub record From (a : ℤ) (n s g p : ℕ) : Type 0 where
   pub holds : pos n ≤ℤ (pos (s + g + 2 * p) +ℤ (a +ℤ a))
 
-upper_sum : (vd vu vv ve : ℤ) (s k : ℕ) → vd ≡ vv +ℤ (vu +ℤ ve) → vv ≡ pos s → neg_ℤ (pos k) ≤ℤ ve → (vu +ℤ pos s) ≤ℤ (vd +ℤ pos k)
+upper_sum : (vd vu vv ve : ℤ) (s k : ℕ) → vd ≡ vv +ℤ (vu +ℤ ve) → vv ≡ pos s → neg_ℤ (pos k) ≤ℤ ve
+    → (vu +ℤ pos s) ≤ℤ (vd +ℤ pos k)
 upper_sum vd vu vv ve s k e f h = omega (arith, ints)
 
 -- v u + v v is at most v d and what v e may take away
@@ -39,7 +40,8 @@ upper_axis v u e w h = record {
 }
 
 lower_sum : (d2 vv vt tv tt' : ℤ) (vu ve : ℤ) (s sv k g : ℕ)
-    → d2 ≡ (vv +ℤ vt) +ℤ (tv +ℤ tt') → tv ≡ vt → vt ≡ vu +ℤ ve → d2 ≡ pos s → vv ≡ pos sv → ve ≤ℤ pos k → tt' ≤ℤ pos g
+    → d2 ≡ (vv +ℤ vt) +ℤ (tv +ℤ tt') → tv ≡ vt → vt ≡ vu +ℤ ve → d2 ≡ pos s → vv ≡ pos sv
+    → ve ≤ℤ pos k → tt' ≤ℤ pos g
     → pos s ≤ℤ (pos (sv + g + 2 * k) +ℤ (vu +ℤ vu))
 lower_sum d2 vv vt tv tt' vu ve s sv k g a b c d e f h = omega (arith, ints)
 

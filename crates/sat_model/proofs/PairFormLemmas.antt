@@ -49,7 +49,8 @@ record AxisBounds (place : Span) (side : Side) (s p : ℤ) : Type 0 where
   upper : UpTo (away place side *ℤ (p -ℤ middle side)) (away place side *ℤ (p -ℤ s)) (square (unsigned_abs (away place side))) (unsigned_abs (away place side) * half (span_side place))
   lower : From (away place side *ℤ (p -ℤ middle side)) (square (unsigned_abs (p -ℤ s))) (square (unsigned_abs (away place side))) (square (half side + half (span_side place))) (unsigned_abs (away place side) * half (span_side place))
 
-axis_bounds : (place : Span) (side : Side) (s p : ℤ) → (place.lo ≤ℤ s) × (s ≤ℤ place.hi) → (side.lo ≤ℤ p) × (p ≤ℤ side.hi) → AxisBounds place side s p
+axis_bounds : (place : Span) (side : Side) (s p : ℤ) → (place.lo ≤ℤ s) × (s ≤ℤ place.hi)
+    → (side.lo ≤ℤ p) × (p ≤ℤ side.hi) → AxisBounds place side s p
 unfolding away
 axis_bounds place side s p i j =
     let v = middle side -ℤ middle (span_side place) in
@@ -73,11 +74,13 @@ lead : Row → GridBox → Pos → ℤ
 lead row part p =
     (away row.x part.x *ℤ (p.x -ℤ middle part.x)) +ℤ (away row.y part.y *ℤ (p.y -ℤ middle part.y)) +ℤ (away row.z part.z *ℤ (p.z -ℤ middle part.z))
 
-upper_three : (ax ay az dx dy dz : ℤ) (sx sy sz px py pz : ℕ) → UpTo ax dx sx px → UpTo ay dy sy py → UpTo az dz sz pz
+upper_three : (ax ay az dx dy dz : ℤ) (sx sy sz px py pz : ℕ) → UpTo ax dx sx px → UpTo ay dy sy py
+    → UpTo az dz sz pz
     → UpTo (ax +ℤ ay +ℤ az) (dx +ℤ dy +ℤ dz) (sx + sy + sz) (px + py + pz)
 upper_three ax ay az dx dy dz sx sy sz px py pz h k l = record { holds = omega (arith, ints, h.holds, k.holds, l.holds) }
 
-lower_three : (ax ay az : ℤ) (nx ny nz sx sy sz gx gy gz px py pz : ℕ) → From ax nx sx gx px → From ay ny sy gy py → From az nz sz gz pz
+lower_three : (ax ay az : ℤ) (nx ny nz sx sy sz gx gy gz px py pz : ℕ) → From ax nx sx gx px
+    → From ay ny sy gy py → From az nz sz gz pz
     → From (ax +ℤ ay +ℤ az) (nx + ny + nz) (sx + sy + sz) (gx + gy + gz) (px + py + pz)
 lower_three ax ay az nx ny nz sx sy sz gx gy gz px py pz h k l = record { holds = omega (arith, ints, h.holds, k.holds, l.holds) }
 
@@ -97,7 +100,8 @@ arm_some : (row : Row) (part : GridBox) → 0 < arm row part
 unfolding arm
 arm_some row part = omega arith
 
-most_holds : (row : Row) (part : GridBox) (p : Pos) (b : ℤ) → IsPossible p b row → IsInBox part p → ((pos (arm row part) *ℤ b) +ℤ lead row part p) ≤ℤ most row part
+most_holds : (row : Row) (part : GridBox) (p : Pos) (b : ℤ) → IsPossible p b row → IsInBox part p
+    → ((pos (arm row part) *ℤ b) +ℤ lead row part p) ≤ℤ most row part
 unfolding most lead away_square play distance
 most_holds row part p b k i =
     let v = k.value in
@@ -110,7 +114,8 @@ most_holds row part p b k i =
     (product_below (away row.x part.x) (away row.y part.y) (away row.z part.z) (p.x -ℤ v.x) (p.y -ℤ v.y) (p.z -ℤ v.z) (arm row part) r (arm_square row part) (range_is row v p))
     (omega (arith, ints, v.measured_in, k.allowed))
 
-least_holds : (row : Row) (part : GridBox) (p : Pos) (b : ℤ) → IsPossible p b row → IsInBox part p → least row part ≤ℤ ((pos (2 * arm row part) *ℤ b) +ℤ (lead row part p +ℤ lead row part p))
+least_holds : (row : Row) (part : GridBox) (p : Pos) (b : ℤ) → IsPossible p b row → IsInBox part p
+    → least row part ≤ℤ ((pos (2 * arm row part) *ℤ b) +ℤ (lead row part p +ℤ lead row part p))
 unfolding least lead away_square play spread distance
 least_holds row part p b k i =
     let v = k.value in
@@ -125,7 +130,8 @@ least_holds row part p b k i =
 
 -- ---- the form
 
-slope_near : (long : ℕ) (place : Span) (side : Side) (p : ℤ) → 0 < long → (side.lo ≤ℤ p) × (p ≤ℤ side.hi)
+slope_near : (long : ℕ) (place : Span) (side : Side) (p : ℤ) → 0 < long
+    → (side.lo ≤ℤ p) × (p ≤ℤ side.hi)
     → NearProduct ((slope long place side *ℤ (p -ℤ middle side)) *ℤ pos long) (pos scale *ℤ (away place side *ℤ (p -ℤ middle side))) (long * half side)
 unfolding slope
 slope_near long place side p some j =
@@ -154,14 +160,16 @@ pub record FormHolds (f : FormValue) (part : GridBox) (p : Pos) (b : ℤ) : Type
   pub up_to : ((pos scale *ℤ b) +ℤ tilt f part p) ≤ℤ f.upper
   pub from : f.lower ≤ℤ ((pos scale *ℤ b) +ℤ tilt f part p)
 
-upper_holds : (row : Row) (part : GridBox) (p : Pos) (b : ℤ) → IsPossible p b row → IsInBox part p → ((pos scale *ℤ b) +ℤ tilt (form_of part row) part p) ≤ℤ upper row part
+upper_holds : (row : Row) (part : GridBox) (p : Pos) (b : ℤ) → IsPossible p b row → IsInBox part p
+    → ((pos scale *ℤ b) +ℤ tilt (form_of part row) part p) ≤ℤ upper row part
 unfolding upper
 upper_holds row part p b k i =
     upper_end (arm row part) (pos scale) b (lead row part p) (tilt (form_of part row) part p) (most row part) _ (rounding part)
     (arm_some row part) (omega (arith, ints)) (tilt_near row part p i) (most_holds row part p b k i)
     (floor_is (pos scale *ℤ most row part) (pos (arm row part)) (positive _ (arm_some row part)))
 
-lower_holds : (row : Row) (part : GridBox) (p : Pos) (b : ℤ) → IsPossible p b row → IsInBox part p → lower row part ≤ℤ ((pos scale *ℤ b) +ℤ tilt (form_of part row) part p)
+lower_holds : (row : Row) (part : GridBox) (p : Pos) (b : ℤ) → IsPossible p b row → IsInBox part p
+    → lower row part ≤ℤ ((pos scale *ℤ b) +ℤ tilt (form_of part row) part p)
 unfolding lower
 lower_holds row part p b k i =
     lower_end (arm row part) (pos scale) b (lead row part p) (tilt (form_of part row) part p) (least row part) _ (rounding part)
@@ -176,7 +184,8 @@ lower_is : (row : Row) (part : GridBox) → lower row part ≡ (form_of part row
 unfolding form_of
 lower_is row part = refl
 
-pub form_holds : (row : Row) (part : GridBox) (p : Pos) (b : ℤ) → IsPossible p b row → IsInBox part p → FormHolds (form_of part row) part p b
+pub form_holds : (row : Row) (part : GridBox) (p : Pos) (b : ℤ) → IsPossible p b row
+    → IsInBox part p → FormHolds (form_of part row) part p b
 form_holds row part p b k i = record {
   up_to = subst (λ (u : ℤ). ((pos scale *ℤ b) +ℤ tilt (form_of part row) part p) ≤ℤ u) (upper_is row part) (upper_holds row part p b k i);
   from = subst (λ (u : ℤ). u ≤ℤ ((pos scale *ℤ b) +ℤ tilt (form_of part row) part p)) (lower_is row part) (lower_holds row part p b k i);

@@ -11,13 +11,15 @@ use Rattle.grid_model.proofs.PointLemmas.{in_box}
 use Rattle.sat_model.specs.Pairs.{scale, FormValue, form_of, tilt, IsBelow, Conflict, Agrees, AgreeBut, IsShownEmptyByPairs}
 use Rattle.sat_model.proofs.PairFormLemmas.{FormHolds, form_holds}
 
-not_below : (part : GridBox) (p : Pos) (b : ℤ) (f g : FormValue) → box_holds part p ≡ true → FormHolds f part p b → FormHolds g part p b → IsBelow part f g → ⊥
+not_below : (part : GridBox) (p : Pos) (b : ℤ) (f g : FormValue) → box_holds part p ≡ true
+    → FormHolds f part p b → FormHolds g part p b → IsBelow part f g → ⊥
 not_below part p b f g i h k below = apart (pos scale *ℤ b) (tilt f part p) (tilt g part p) f.upper g.lower h.up_to k.from (below p i)
   where
     apart : (s t t' u l : ℤ) → (s +ℤ t) ≤ℤ u → l ≤ℤ (s +ℤ t') → (u -ℤ t) <ℤ (l -ℤ t') → ⊥
     apart s t t' u l h k c = absurd (omega (arith, ints))
 
-no_conflict : (part : GridBox) (p : Pos) (b : ℤ) (f g : FormValue) → box_holds part p ≡ true → FormHolds f part p b → FormHolds g part p b → Conflict part f g → ⊥
+no_conflict : (part : GridBox) (p : Pos) (b : ℤ) (f g : FormValue) → box_holds part p ≡ true
+    → FormHolds f part p b → FormHolds g part p b → Conflict part f g → ⊥
 no_conflict part p b f g i h k c = elim c [
   | inl x ↦ not_below part p b f g i h k x
   | inr x ↦ not_below part p b g f i k h x
@@ -27,12 +29,14 @@ AllHold : GridBox → Pos → ℤ → List FormValue → Type 0
 AllHold part p b [] = Unit {0}
 AllHold part p b (f ∷ kept) = FormHolds f part p b × AllHold part p b kept
 
-agrees : (part : GridBox) (p : Pos) (b : ℤ) (f : FormValue) (kept : List FormValue) → box_holds part p ≡ true → FormHolds f part p b → AllHold part p b kept → Agrees part f kept
+agrees : (part : GridBox) (p : Pos) (b : ℤ) (f : FormValue) (kept : List FormValue)
+    → box_holds part p ≡ true → FormHolds f part p b → AllHold part p b kept → Agrees part f kept
 unfolding AllHold
 agrees part p b f [] i h all = tt
 agrees part p b f (g ∷ kept) i h all = (no_conflict part p b g f i all.0 h, agrees part p b f kept i h all.1)
 
-agree_all : (q : ℕ) (part : GridBox) (p : Pos) (b : ℤ) (kept : List FormValue) (rows : List Row) → box_holds part p ≡ true → AllHold part p b kept
+agree_all : (q : ℕ) (part : GridBox) (p : Pos) (b : ℤ) (kept : List FormValue) (rows : List Row)
+    → box_holds part p ≡ true → AllHold part p b kept
     → AllBut q (IsPossible p b) rows → AgreeBut part q kept (map (form_of part) rows)
 unfolding AllHold
 agree_all q part p b kept [] i all h = tt

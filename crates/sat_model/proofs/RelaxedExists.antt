@@ -23,7 +23,8 @@ pub record IsGreatest (test : ℤ → Bool) (x : ℤ) : Type 0 where
 NonePasses : (ℤ → Bool) → ℤ → Type 0
 NonePasses test top = (y : ℤ) → test y ≡ true → top <ℤ y
 
-next_fails : (test : ℤ → Bool) (top : ℤ) → NonePasses test top → test (top +ℤ pos 1) ≡ false → NonePasses test (top +ℤ pos 1)
+next_fails : (test : ℤ → Bool) (top : ℤ) → NonePasses test top → test (top +ℤ pos 1) ≡ false
+    → NonePasses test (top +ℤ pos 1)
 unfolding NonePasses
 next_fails test top none fails y passes = elim (cases_Bool (le_z y (top +ℤ pos 1))) [
   | inl le ↦
@@ -33,7 +34,8 @@ next_fails test top none fails y passes = elim (cases_Bool (le_z y (top +ℤ pos
   | inr gt ↦ omega (arith, ints, gt)
 ]
 
-least_from : (test : ℤ → Bool) (low : ℤ) (n : ℕ) → NonePasses test low → NonePasses test (low +ℤ pos n) ⊎ ((x : ℤ) × IsLeast test x)
+least_from : (test : ℤ → Bool) (low : ℤ) (n : ℕ) → NonePasses test low
+    → NonePasses test (low +ℤ pos n) ⊎ ((x : ℤ) × IsLeast test x)
 unfolding NonePasses
 least_from test low zero none = inl (λ y passes. omega (arith, ints, none y passes))
 least_from test low (suc n) none = elim (least_from test low n none) [
@@ -48,7 +50,8 @@ least_from test low (suc n) none = elim (least_from test low n none) [
 IsBounded : (ℤ → Bool) → ℕ → Type 0
 IsBounded test n = (y : ℤ) → test y ≡ true → IsWithin n y
 
-least_of : (test : ℤ → Bool) (n : ℕ) → IsBounded test n → ((y : ℤ) → test y ≡ true → ⊥) ⊎ ((x : ℤ) × IsLeast test x)
+least_of : (test : ℤ → Bool) (n : ℕ) → IsBounded test n
+    → ((y : ℤ) → test y ≡ true → ⊥) ⊎ ((x : ℤ) × IsLeast test x)
 unfolding NonePasses IsBounded
 least_of test n bounded = elim (least_from test (neg_ℤ (pos n) -ℤ pos 1) (2 * n + 1) (λ y passes. let w = bounded y passes in omega (arith, ints, w.low))) [
   | inl fail ↦ inl (λ y passes. let w = bounded y passes in omega (arith, ints, fail y passes, w.high))
@@ -59,7 +62,8 @@ twice : (y : ℤ) → neg_ℤ (neg_ℤ y) ≡ y
 twice y = omega (arith, ints)
 
 -- the greatest is the least of the mirrored test, mirrored
-greatest_of : (test : ℤ → Bool) (n : ℕ) → IsBounded test n → ((y : ℤ) → test y ≡ true → ⊥) ⊎ ((x : ℤ) × IsGreatest test x)
+greatest_of : (test : ℤ → Bool) (n : ℕ) → IsBounded test n
+    → ((y : ℤ) → test y ≡ true → ⊥) ⊎ ((x : ℤ) × IsGreatest test x)
 unfolding IsBounded
 greatest_of test n bounded =
     let back : (y : ℤ) → test y ≡ true → test (neg_ℤ (neg_ℤ y)) ≡ true = λ y passes. subst (λ (z : ℤ). test z ≡ true) (sym (twice y)) passes in
@@ -73,11 +77,13 @@ greatest_of test n bounded =
 held : List (ℤ × ℤ) → ℤ → ℕ
 held spans b = count_by (λ s. holds s b) spans
 
-held_cons : (b : ℤ) (s : ℤ × ℤ) (spans : List (ℤ × ℤ)) → held (s ∷ spans) b ≡ cond (holds s b) 1 0 + held spans b
+held_cons : (b : ℤ) (s : ℤ × ℤ) (spans : List (ℤ × ℤ))
+    → held (s ∷ spans) b ≡ cond (holds s b) 1 0 + held spans b
 unfolding held
 held_cons b s spans = sum_by-cons (λ t. cond (holds t b) 1 0) s spans
 
-span_within : (lo hi b : ℤ) → holds (lo, hi) b ≡ true → IsWithin (unsigned_abs lo + unsigned_abs hi) b
+span_within : (lo hi b : ℤ) → holds (lo, hi) b ≡ true
+    → IsWithin (unsigned_abs lo + unsigned_abs hi) b
 span_within lo hi b e =
     let l = amount_within lo in
     let h = amount_within hi in
@@ -105,11 +111,13 @@ held_within ((lo, hi) ∷ spans) =
 lies : List (ℤ × ℤ) → ℕ → ℤ → Bool
 lies spans need b = nat_le need (held spans b)
 
-lies_yes : (spans : List (ℤ × ℤ)) (need : ℕ) (b : ℤ) → LiesInRelaxed spans need b → lies spans need b ≡ true
+lies_yes : (spans : List (ℤ × ℤ)) (need : ℕ) (b : ℤ) → LiesInRelaxed spans need b
+    → lies spans need b ≡ true
 unfolding lies held
 lies_yes spans need b h = grind arith
 
-lies_from : (spans : List (ℤ × ℤ)) (need : ℕ) (b : ℤ) → lies spans need b ≡ true → LiesInRelaxed spans need b
+lies_from : (spans : List (ℤ × ℤ)) (need : ℕ) (b : ℤ) → lies spans need b ≡ true
+    → LiesInRelaxed spans need b
 unfolding lies held
 lies_from spans need b e = leb-true need _ e
 
@@ -123,7 +131,8 @@ pub record IsLeastRelaxed (spans : List (ℤ × ℤ)) (need : ℕ) (x : ℤ) : T
   pub lies : LiesInRelaxed spans need x
   pub least : (b : ℤ) → LiesInRelaxed spans need b → x ≤ℤ b
 
-pub least_relaxed : (spans : List (ℤ × ℤ)) (need : ℕ) → 0 < need → IsRelaxedEmpty spans need ⊎ ((x : ℤ) × IsLeastRelaxed spans need x)
+pub least_relaxed : (spans : List (ℤ × ℤ)) (need : ℕ) → 0 < need
+    → IsRelaxedEmpty spans need ⊎ ((x : ℤ) × IsLeastRelaxed spans need x)
 least_relaxed spans need some =
     let (n, within) = bounded spans need some in
     elim (least_of (lies spans need) n within) [
@@ -131,7 +140,8 @@ least_relaxed spans need some =
       | inr (x, l) ↦ inr (x, record { lies = lies_from spans need x l.passes; least = λ b h. l.least b (lies_yes spans need b h) })
     ]
 
-pub relaxed_hull : (spans : List (ℤ × ℤ)) (need : ℕ) → 0 < need → IsRelaxedEmpty spans need ⊎ ((lo : ℤ) × (hi : ℤ) × IsRelaxedHull spans need lo hi)
+pub relaxed_hull : (spans : List (ℤ × ℤ)) (need : ℕ) → 0 < need
+    → IsRelaxedEmpty spans need ⊎ ((lo : ℤ) × (hi : ℤ) × IsRelaxedHull spans need lo hi)
 relaxed_hull spans need some =
     let (n, within) = bounded spans need some in
     elim (least_relaxed spans need some) [

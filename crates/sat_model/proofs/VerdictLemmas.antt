@@ -15,14 +15,16 @@ use Rattle.sat_model.specs.Verdicts.{IsLong, CutsEmptySlab, StepPasses, LiveFail
 
 -- ---- a step
 
-pub not_gone : (stage : Stage) (id number : ℕ) (part : GridBox) → IsLive stage.boxes id part → NotLive stage id number → ⊥
+pub not_gone : (stage : Stage) (id number : ℕ) (part : GridBox) → IsLive stage.boxes id part
+    → NotLive stage id number → ⊥
 not_gone stage id number part is (gone, n) = absurd cc
 
 pub same_box : (o : Option GridBox) (a c : GridBox) → o ≡ Some a → o ≡ Some c → a ≡ c
 same_box o a c e f = cc
 
 -- the live box that fails is the one that passes
-pub not_failing : (stage : Stage) (id test number : ℕ) (Meets : GridBox → Type 0) (part : GridBox) → IsLive stage.boxes id part → Meets part
+pub not_failing : (stage : Stage) (id test number : ℕ) (Meets : GridBox → Type 0) (part : GridBox)
+    → IsLive stage.boxes id part → Meets part
     → LiveFails stage id Meets test number → ⊥
 not_failing stage id test number Meets part is meets (other, live, fails, n) = fails (subst Meets (same_box (live_box stage.boxes id) part other is live) meets)
 
@@ -65,31 +67,36 @@ AreExclusive {Fault} tests = (j i : ℕ) (row : Row) (fault : Fault) → tests.p
 pub nothing_exclusive : AreExclusive no_tests
 nothing_exclusive j i row fault h f = f
 
-done_not_both : (done : ℕ) (stage : Stage) (number : ℕ) → DonePasses done stage → DoneFails done stage number → ⊥
+done_not_both : (done : ℕ) (stage : Stage) (number : ℕ) → DonePasses done stage
+    → DoneFails done stage number → ⊥
 done_not_both done stage number h f = elim f [
   | inl live ↦ live.0.1 (h.0 live.0.0)
   | inr count ↦ count.1 h.1
 ]
 
 module _ {Fault : Type 0} (tests : LineTests Fault) (exclusive : AreExclusive tests) (first : RowsOver) where
-  pub line_not_both : (j i : ℕ) (row : Row) (fault : Fault) → LinePasses tests.passes first j i row → LineFails tests first j i row fault → ⊥
+  pub line_not_both : (j i : ℕ) (row : Row) (fault : Fault) → LinePasses tests.passes first j i row
+      → LineFails tests first j i row fault → ⊥
   line_not_both j i row fault h f = elim f [
     | inl other ↦ other.0 h.0
     | inr later ↦ exclusive j i row fault h.1 later.1
   ]
 
-  lines_not_both : (j i : ℕ) (rows : List Row) (k : ℕ) (fault : Fault) → LinesPass tests.passes first j i rows → LinesFail tests first j i rows k fault → ⊥
+  lines_not_both : (j i : ℕ) (rows : List Row) (k : ℕ) (fault : Fault)
+      → LinesPass tests.passes first j i rows → LinesFail tests first j i rows k fault → ⊥
   lines_not_both j i [] k fault h f = f
   lines_not_both j i (row ∷ rows) zero fault h f = line_not_both j i row fault h.0 f
   lines_not_both j i (row ∷ rows) (suc k) fault h f = lines_not_both j (suc i) rows k fault h.1 f.1
 
   pub renewal_not_both : (j : ℕ) (boxes : Subpaving) (new : RowsOver) (k : ℕ) (fault : Fault)
-      → RenewalPasses tests.passes first j boxes new → RenewalFails tests first j boxes new k fault → ⊥
+      → RenewalPasses tests.passes first j boxes new → RenewalFails tests first j boxes new k fault
+      → ⊥
   renewal_not_both j boxes new zero fault h f = f.0 h.holds
   renewal_not_both j boxes new (suc k) fault h f = lines_not_both j 0 new.rows k fault h.lines f.1
 
   pub events_not_both : (rules : Rules) (done j : ℕ) (stage : Stage) (events : List Event) (k : ℕ) (fault : Fault)
-      → EventsPass tests.passes first rules done j stage events → EventsFail tests first rules done j stage events k fault → ⊥
+      → EventsPass tests.passes first rules done j stage events
+      → EventsFail tests first rules done j stage events k fault → ⊥
   events_not_both rules done j stage [] k fault h f = done_not_both done stage (tests.number fault) h f.1
   events_not_both rules done j stage (Made step ∷ events) zero fault h f = step_not_both rules stage step (tests.number fault) h.0 f.0
   events_not_both rules done j stage (Made step ∷ events) (suc k) fault h f =
@@ -101,7 +108,8 @@ module _ {Fault : Type 0} (tests : LineTests Fault) (exclusive : AreExclusive te
 
 -- ---- a block, and the log
 
-pub head_not_both : (rules : Rules) (before : Option ℕ) (block : Block) (number : ℕ) → HeadPasses rules before block → HeadFails rules before block number → ⊥
+pub head_not_both : (rules : Rules) (before : Option ℕ) (block : Block) (number : ℕ)
+    → HeadPasses rules before block → HeadFails rules before block number → ⊥
 head_not_both rules before block number h f = elim f [
   | inl fails ↦ fails.0 (h.later, h.suits)
   | inr fails ↦ fails.2 h.counts

@@ -59,31 +59,6 @@ dual_ends y first second lo hi p h n =
 
 -- ---- places
 
-x_within : (x y z : ℤ) → IsOrbitDistance x y z → IsWithin near_reach x
-x_within x y z d = side_within greatest_distance x (omega (arith, ints, d.to, square_natural y, square_natural z))
-
-y_within : (x y z : ℤ) → IsOrbitDistance x y z → IsWithin near_reach y
-y_within x y z d = side_within greatest_distance y (omega (arith, ints, d.to, square_natural x, square_natural z))
-
-z_within : (x y z : ℤ) → IsOrbitDistance x y z → IsWithin near_reach z
-z_within x y z d = side_within greatest_distance z (omega (arith, ints, d.to, square_natural x, square_natural y))
-
-more : (lo hi : ℤ) → (hi -ℤ lo) ≤ℤ pos 500 → (hi -ℤ lo) ≤ℤ pos narrow_width
-more lo hi h = omega (arith, ints)
-
-pub orbit_ends : (at : Place)
-    → ((x y z : ℤ) → Holds at.x x → Holds at.y y → Holds at.z z → IsOrbitDistance x y z)
-    → (at.x.hi -ℤ at.x.lo) ≤ℤ pos 500 → (at.y.hi -ℤ at.y.lo) ≤ℤ pos 500
-    → (at.z.hi -ℤ at.z.lo) ≤ℤ pos 500 → PlaceEnds near_reach narrow_width at
-orbit_ends at d x y z =
-    let low = d at.x.lo at.y.lo at.z.lo (low_member _ _ at.x.ordered) (low_member _ _ at.y.ordered) (low_member _ _ at.z.ordered) in
-    let high = d at.x.hi at.y.hi at.z.hi (high_member _ _ at.x.ordered) (high_member _ _ at.y.ordered) (high_member _ _ at.z.ordered) in
-    record {
-      x_ends = record { order = at.x.ordered; low = x_within _ _ _ low; high = x_within _ _ _ high; width = more at.x.lo at.x.hi x };
-      y_ends = record { order = at.y.ordered; low = y_within _ _ _ low; high = y_within _ _ _ high; width = more at.y.lo at.y.hi y };
-      z_ends = record { order = at.z.ordered; low = z_within _ _ _ low; high = z_within _ _ _ high; width = more at.z.lo at.z.hi z };
-    }
-
 -- ---- spans
 
 pub sent_width : (n : ℕ) (lo hi : ℤ) → Ends n 8 lo hi → IsNarrow 1008 lo hi

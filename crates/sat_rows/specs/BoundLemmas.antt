@@ -28,7 +28,8 @@ scale_some : (layer : Layer) → 1 ≤ layer_scale layer
 scale_some Troposphere = lit≤ tt
 scale_some Ionosphere = lit≤ tt
 
-factor_positive : (layer : Layer) (slant : ℕ) (factor : ℤ) → IsMapped layer slant factor → pos 0 ≤ℤ factor
+factor_positive : (layer : Layer) (slant : ℕ) (factor : ℤ) → IsMapped layer slant factor
+    → pos 0 ≤ℤ factor
 factor_positive layer slant factor near = by_lt_z factor (pos 0)
     (λ less. let m : (factor *ℤ pos (1000 * slant)) ≤ℤ (neg_ℤ (pos 1) *ℤ pos (1000 * slant)) = mul_mono factor (neg_ℤ (pos 1)) (pos (1000 * slant)) (omega (arith, ints)) (omega (arith, ints)) in absurd (omega (arith, ints, m, near.above, scale_some layer)))
     (λ most. most)
@@ -52,7 +53,10 @@ pub record AreMapped (layer : Layer) (upward : Span) (p : Pos) (x y z : ℤ) : T
   pub high_is : IsMappedDelay upward.hi factor high
   pub order : low ≤ℤ high
 
-pub mapped_exist : (layer : Layer) (upward : Span) (p : Pos) (x y z : ℤ) → square (6 * 10 ^ 12) ≤ sum_of_squares p.x p.y p.z → square (5 * 10 ^ 12) ≤ sum_of_squares (x -ℤ p.x) (y -ℤ p.y) (z -ℤ p.z) → AreMapped layer upward p x y z
+pub mapped_exist : (layer : Layer) (upward : Span) (p : Pos) (x y z : ℤ)
+    → square (6 * 10 ^ 12) ≤ sum_of_squares p.x p.y p.z
+    → square (5 * 10 ^ 12) ≤ sum_of_squares (x -ℤ p.x) (y -ℤ p.y) (z -ℤ p.z)
+    → AreMapped layer upward p x y z
 mapped_exist layer upward p x y z high far =
     let m = mapping_exists layer p x y z high far in
     record {
@@ -68,21 +72,26 @@ mapped_exist layer upward p x y z high far =
 -- ---- the ends of the error
 
 -- where a delay is declared, the box is far enough from the origin
-by_either : (a b : Option Span) (root : GridBox) → IsHighIf (is_none a && is_none b) root → (s : Span) → (a ≡ Some s) ⊎ (b ≡ Some s) → IsFarFromOrigin (6 * 10 ^ 12) root
+by_either : (a b : Option Span) (root : GridBox) → IsHighIf (is_none a && is_none b) root
+    → (s : Span) → (a ≡ Some s) ⊎ (b ≡ Some s) → IsFarFromOrigin (6 * 10 ^ 12) root
 by_either (Some a) b root high s e = high
 by_either None (Some b) root high s e = high
 by_either None None root high s (inl e) = absurd cc
 by_either None None root high s (inr e) = absurd cc
 
-pub high_zenith : (delays : Delays) (root : GridBox) → IsHigh delays root → (s : Span) → delays.zenith ≡ Some s → IsFarFromOrigin (6 * 10 ^ 12) root
+pub high_zenith : (delays : Delays) (root : GridBox) → IsHigh delays root → (s : Span)
+    → delays.zenith ≡ Some s → IsFarFromOrigin (6 * 10 ^ 12) root
 high_zenith delays root high s e = by_either delays.zenith delays.vertical root high s (inl e)
 
-pub high_vertical : (delays : Delays) (root : GridBox) → IsHigh delays root → (s : Span) → delays.vertical ≡ Some s → IsFarFromOrigin (6 * 10 ^ 12) root
+pub high_vertical : (delays : Delays) (root : GridBox) → IsHigh delays root → (s : Span)
+    → delays.vertical ≡ Some s → IsFarFromOrigin (6 * 10 ^ 12) root
 high_vertical delays root high s e = by_either delays.zenith delays.vertical root high s (inr e)
 
 -- whatever the ends of the error are
-delay_exists : (layer : Layer) (upward : Option Span) (p : Pos) (x y z corrected : ℤ) (range : ℕ) → ((s : Span) → upward ≡ Some s → square (6 * 10 ^ 12) ≤ sum_of_squares p.x p.y p.z)
-    → square (5 * 10 ^ 12) ≤ sum_of_squares (x -ℤ p.x) (y -ℤ p.y) (z -ℤ p.z) → range ≡ range_to x y z p
+delay_exists : (layer : Layer) (upward : Option Span) (p : Pos) (x y z corrected : ℤ) (range : ℕ)
+    → ((s : Span) → upward ≡ Some s → square (6 * 10 ^ 12) ≤ sum_of_squares p.x p.y p.z)
+    → square (5 * 10 ^ 12) ≤ sum_of_squares (x -ℤ p.x) (y -ℤ p.y) (z -ℤ p.z)
+    → range ≡ range_to x y z p
     → (delay : ℤ × ℤ) × ((lo hi : ℤ) → IsDelay layer upward p (record { x = x; y = y; z = z; corrected = corrected; range = range; lo = lo; hi = hi }) delay)
 delay_exists layer None p x y z corrected range high far range_is = ((pos 0, pos 0), λ lo hi. refl)
 delay_exists layer (Some upward) p x y z corrected range high far range_is =
@@ -96,8 +105,10 @@ delay_exists layer (Some upward) p x y z corrected range high far range_is =
       },
     )
 
-pub bound_exists : (delays : Delays) (declared : ℤ × ℤ) (root : GridBox) (p : Pos) (x y z corrected : ℤ) (range : ℕ) → IsHigh delays root → box_holds root p ≡ true
-    → square (5 * 10 ^ 12) ≤ sum_of_squares (x -ℤ p.x) (y -ℤ p.y) (z -ℤ p.z) → range ≡ range_to x y z p
+pub bound_exists : (delays : Delays) (declared : ℤ × ℤ) (root : GridBox) (p : Pos) (x y z corrected : ℤ) (range : ℕ)
+    → IsHigh delays root → box_holds root p ≡ true
+    → square (5 * 10 ^ 12) ≤ sum_of_squares (x -ℤ p.x) (y -ℤ p.y) (z -ℤ p.z)
+    → range ≡ range_to x y z p
     → (lo : ℤ) × (hi : ℤ) × IsBound delays declared p (record { x = x; y = y; z = z; corrected = corrected; range = range; lo = lo; hi = hi })
 bound_exists delays declared root p x y z corrected range high inside far range_is =
     let zenith = delay_exists Troposphere delays.zenith p x y z corrected range (λ s e. high_zenith delays root high s e p inside) far range_is in

@@ -22,7 +22,8 @@ use Rattle.sat_rows.specs.BoundLemmas.{bound_exists}
 use Rattle.sat_rows.specs.Chains.{Chain, AreValues}
 use Rattle.usable_sats.specs.Usability.{IsHigh}
 
-range_exists : (system : System) (first : Wide) (second : Option Wide) → (pr : ℤ) × IsRangeWith system first second pr
+range_exists : (system : System) (first : Wide) (second : Option Wide)
+    → (pr : ℤ) × IsRangeWith system first second pr
 range_exists system first None = (first.lo, low_member _ _ first.ordered)
 range_exists system first (Some second) =
     let free = near_exists ((pos (first_square system) *ℤ first.lo) -ℤ (pos (second_square system) *ℤ second.lo)) (pos (squares_apart system))
@@ -31,7 +32,8 @@ range_exists system first (Some second) =
       (first.lo, second.lo, low_member _ _ first.ordered, low_member _ _ second.ordered, free.1),
     )
 
-values_exist : (seen : Observed) (p : Pos) → (x : ℤ) × (y : ℤ) × (z : ℤ) × (corrected : ℤ) × (range : ℕ) × ChainValue seen p x y z corrected range
+values_exist : (seen : Observed) (p : Pos)
+    → (x : ℤ) × (y : ℤ) × (z : ℤ) × (corrected : ℤ) × (range : ℕ) × ChainValue seen p x y z corrected range
 values_exist seen p =
     let pr = range_exists seen.system seen.codes.first seen.codes.second in
     let tsv = near_exists ((seen.tag *ℤ pos light_speed) -ℤ (pr.0 *ℤ pos (10 ^ 6)))
@@ -65,7 +67,8 @@ values_exist seen p =
       },
     )
 
-pub chain_exists : (seen : Observed) (p : Pos) (delays : Delays) (declared : ℤ × ℤ) (root : GridBox) → IsSearchBox root → box_holds root p ≡ true → IsHigh delays root
+pub chain_exists : (seen : Observed) (p : Pos) (delays : Delays) (declared : ℤ × ℤ) (root : GridBox)
+    → IsSearchBox root → box_holds root p ≡ true → IsHigh delays root
     → (c : Chain) × AreValues delays declared seen p c
 chain_exists seen p delays declared root box inside high =
     let (x, y, z, corrected, range, value) = values_exist seen p in

@@ -20,14 +20,11 @@ use Rattle.sharpness_laws.specs.Clear.{UsableBut, IfUsable, HoldsRange, IsNearly
 use Rattle.sharpness_laws.specs.UsableRows.{IsRowFor, AreRowsFor, AreRowsOver}
 use Rattle.sharpness_laws.proofs.RowLemmas.{row_over, nearly_consistent, safely_inner}
 use Rattle.range_contractor.proofs.TreeLemmas.{lies_itself as own_box}
+use Rattle.grid_model.proofs.PlainLemmas.{at_most_one}
 
 count_le : (b : ℤ) (spans : List (ℤ × ℤ)) → count_by (λ s. holds s b) spans ≤ length spans
 count_le b [] = omega arith
 count_le b (s ∷ spans) = omega (arith, sum_by-cons (λ t. cond (holds t b) 1 0) s spans, at_most_one (holds s b), count_le b spans)
-  where
-    at_most_one : (t : Bool) → cond t 1 0 ≤ 1
-    at_most_one true = omega arith
-    at_most_one false = omega arith
 
 spans_each : (part : GridBox) (rows : List Row) → length (clock_spans part rows) ≡ length rows
 spans_each part [] = omega arith

@@ -16,7 +16,8 @@ at_most_one : {X : Type 0} (x : Option X) → length (option_to_list x) ≤ 1
 at_most_one None = omega arith
 at_most_one (Some x) = omega arith
 
-pub counted : (last : ℕ) (heads : List Head) (ids : List ℕ) (numbers : List ℤ) → length (steps_in last heads ids numbers) ≤ length heads
+pub counted : (last : ℕ) (heads : List Head) (ids : List ℕ) (numbers : List ℤ)
+    → length (steps_in last heads ids numbers) ≤ length heads
 counted last [] ids numbers = omega arith
 counted last (head ∷ heads) ids numbers =
     let id = box_by head last ids in
@@ -28,7 +29,8 @@ pub ids_with : (heads more : List Head) → ids_in (heads ++ more) ≡ ids_in he
 ids_with [] more = omega arith
 ids_with (first ∷ heads) more = omega (arith, ids_with heads more)
 
-pub numbers_with : (heads more : List Head) → numbers_in (heads ++ more) ≡ numbers_in heads + numbers_in more
+pub numbers_with : (heads more : List Head)
+    → numbers_in (heads ++ more) ≡ numbers_in heads + numbers_in more
 numbers_with [] more = omega arith
 numbers_with (first ∷ heads) more = omega (arith, numbers_with heads more)
 
@@ -40,7 +42,8 @@ record IdsStand (head : Head) (last : ℕ) (ids more : List ℕ) : Type 0 where
   left : ids_behind head (ids ++ more) ≡ ids_behind head ids ++ more
   count : ids_for head + length (ids_behind head ids) ≡ length ids
 
-ids_stand : (head : Head) (last : ℕ) (ids more : List ℕ) → ids_for head ≤ length ids → IdsStand head last ids more
+ids_stand : (head : Head) (last : ℕ) (ids more : List ℕ) → ids_for head ≤ length ids
+    → IdsStand head last ids more
 ids_stand Other last [] more enough = absurd (omega (arith, enough))
 ids_stand Other last (id ∷ ids) more enough = record { id = refl; left = refl; count = omega arith }
 ids_stand Next last ids more enough = record { id = refl; left = refl; count = omega arith }
@@ -56,7 +59,8 @@ record NumbersStand (head : Head) (id : ℕ) (numbers more : List ℤ) : Type 0 
   left : numbers_behind head (numbers ++ more) ≡ numbers_behind head numbers ++ more
   count : numbers_for head + length (numbers_behind head numbers) ≡ length numbers
 
-numbers_stand : (head : Head) (id : ℕ) (numbers more : List ℤ) → numbers_for head ≤ length numbers → NumbersStand head id numbers more
+numbers_stand : (head : Head) (id : ℕ) (numbers more : List ℤ) → numbers_for head ≤ length numbers
+    → NumbersStand head id numbers more
 numbers_stand (Cut face) id [] more enough = absurd (omega (arith, enough))
 numbers_stand (Cut face) id (bound ∷ numbers) more enough = record { step = refl; left = refl; count = omega arith }
 numbers_stand Inside id [] more enough = absurd (omega (arith, enough))
@@ -73,14 +77,17 @@ numbers_stand Outside id numbers more enough = record { step = refl; left = refl
 
 -- ---- more heads
 
-same_box : (heads : List Head) (a b : ℕ) (here there : List ℕ) → a ≡ b → here ≡ there → box_behind a heads here ≡ box_behind b heads there
+same_box : (heads : List Head) (a b : ℕ) (here there : List ℕ) → a ≡ b → here ≡ there
+    → box_behind a heads here ≡ box_behind b heads there
 same_box heads a b here there id ids = rw (id, ids) refl
 
-same_steps : (heads : List Head) (s t : Option Step) (a b : ℕ) (ids other : List ℕ) (numbers more : List ℤ) → s ≡ t → a ≡ b → ids ≡ other → numbers ≡ more
+same_steps : (heads : List Head) (s t : Option Step) (a b : ℕ) (ids other : List ℕ) (numbers more : List ℤ)
+    → s ≡ t → a ≡ b → ids ≡ other → numbers ≡ more
     → option_to_list s ++ steps_in a heads ids numbers ≡ option_to_list t ++ steps_in b heads other more
 same_steps heads s t a b ids other numbers more here id left behind = rw (here, id, left, behind) refl
 
-pub box_with : (last : ℕ) (heads more_heads : List Head) (ids more : List ℕ) → ids_in heads ≡ length ids
+pub box_with : (last : ℕ) (heads more_heads : List Head) (ids more : List ℕ)
+    → ids_in heads ≡ length ids
     → box_behind last (heads ++ more_heads) (ids ++ more) ≡ box_behind (box_behind last heads ids) more_heads more
 box_with last [] more_heads [] more i = refl
 box_with last [] more_heads (_ ∷ ids) more i = absurd (omega (arith, i))
@@ -117,7 +124,8 @@ no_ids (step.Outside id) = refl
 no_ids (step.Inside id clock lo hi) = refl
 no_ids (step.Edge id lo hi) = refl
 
-pub as_many_ids : (o : BoxOf) (s : Step) → ids_in (heads_of o ++ head_of s ∷ []) ≡ length (ids_of o (box_in s))
+pub as_many_ids : (o : BoxOf) (s : Step)
+    → ids_in (heads_of o ++ head_of s ∷ []) ≡ length (ids_of o (box_in s))
 as_many_ids of.Same s = omega (arith, no_ids s)
 as_many_ids of.Next s = omega (arith, no_ids s)
 as_many_ids of.Other s = omega (arith, no_ids s)
@@ -129,7 +137,8 @@ numbers_are (step.Outside id) = refl
 numbers_are (step.Inside id clock lo hi) = refl
 numbers_are (step.Edge id lo hi) = refl
 
-pub as_many_numbers : (o : BoxOf) (s : Step) → numbers_in (heads_of o ++ head_of s ∷ []) ≡ length (numbers_of s)
+pub as_many_numbers : (o : BoxOf) (s : Step)
+    → numbers_in (heads_of o ++ head_of s ∷ []) ≡ length (numbers_of s)
 as_many_numbers of.Same s = omega (arith, numbers_are s)
 as_many_numbers of.Next s = omega (arith, numbers_are s)
 as_many_numbers of.Other s = omega (arith, numbers_are s)
@@ -142,20 +151,23 @@ box_stays last (step.Outside id) ids = refl
 box_stays last (step.Inside id clock lo hi) ids = refl
 box_stays last (step.Edge id lo hi) ids = refl
 
-pub box_told : (last : ℕ) (o : BoxOf) (s : Step) → box_behind last (heads_of o) (ids_of o (box_in s)) ≡ box_in s
+pub box_told : (last : ℕ) (o : BoxOf) (s : Step)
+    → box_behind last (heads_of o) (ids_of o (box_in s)) ≡ box_in s
     → box_behind last (heads_of o ++ head_of s ∷ []) (ids_of o (box_in s)) ≡ box_in s
 box_told last of.Same s e = box_stays last s [] ∙ e
 box_told last of.Next s e = box_stays _ s [] ∙ e
 box_told last of.Other s e = box_stays _ s [] ∙ e
 
-alone : (last : ℕ) (s : Step) (ids : List ℕ) → last ≡ box_in s → steps_in last (head_of s ∷ []) ids (numbers_of s) ≡ s ∷ []
+alone : (last : ℕ) (s : Step) (ids : List ℕ) → last ≡ box_in s
+    → steps_in last (head_of s ∷ []) ids (numbers_of s) ≡ s ∷ []
 alone last (step.Cut id face bound) ids e = rw e refl
 alone last (step.Split id axis) ids e = rw e refl
 alone last (step.Outside id) ids e = rw e refl
 alone last (step.Inside id clock lo hi) ids e = rw e refl
 alone last (step.Edge id lo hi) ids e = rw e refl
 
-pub step_told : (last : ℕ) (o : BoxOf) (s : Step) → box_behind last (heads_of o) (ids_of o (box_in s)) ≡ box_in s
+pub step_told : (last : ℕ) (o : BoxOf) (s : Step)
+    → box_behind last (heads_of o) (ids_of o (box_in s)) ≡ box_in s
     → steps_in last (heads_of o ++ head_of s ∷ []) (ids_of o (box_in s)) (numbers_of s) ≡ s ∷ []
 step_told last of.Same s e = alone last s [] e
 step_told last of.Next s e = alone _ s [] e

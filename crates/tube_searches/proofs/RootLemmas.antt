@@ -15,9 +15,6 @@ use Rattle.grid_model.specs.declared.boxes.Box3.{Box3}
 use Rattle.tube_searches.specs.Tubes.{before_value, IsInsideOf}
 use Rattle.tube_searches.specs.declared.tube.Kept.{Kept}
 
-pub same_time : (x : ℤ) → IsTime x → to_z w128 (of_z w128 x) ≡ x
-same_time x time = omega (arith, ints, time.0, time.1)
-
 pub epoch_time : (e : ObsEpoch) → IsTime e.tag
 epoch_time e = (e.tag_from, omega (arith, ints, e.tag_under))
 

@@ -7,6 +7,7 @@ use Rattle.std.proofs.lemmas.Grind.{common_steps}
 use Rattle.std.proofs.lemmas.Int.{ints}
 use Rattle.std.proofs.lemmas.Str.Parse.{digit_at}
 use Rattle.grid_model.specs.Sizes.{IsWithin}
+use Rattle.log_tokens.proofs.DigitLemmas.{behind_sign}
 
 pub record IsBehindMinus (digits : List ℕ) : Type 0 where
   pub amount : ℕ
@@ -24,8 +25,5 @@ behind_minus word (negsuc k) minus within e = record {
   amount = suc k;
   some = omega arith;
   within = omega (arith, ints, within.low);
-  spelled = rw e (whole (decimal (suc k)));
+  spelled = rw e (behind_sign (decimal (suc k)));
 }
-  where
-    whole : (digits : List ℕ) → take (length (45 ∷ digits) - 1) (drop 1 (45 ∷ digits)) ≡ digits
-    whole digits = grind (arith, common_steps)

@@ -17,6 +17,7 @@ use Rattle.zone_guard.specs.Planes.{dot, PlaneValue, LiesBehind, LiesBeyond}
 use Rattle.zone_guard.proofs.AnswerLemmas.{holds_from}
 use Rattle.grid_model.proofs.IntervalLemmas.{le_z_trans as le_both}
 use Rattle.sat_model.proofs.PairAxisLemmas.{sum_within}
+use Rattle.grid_model.proofs.PlainLemmas.{held_itself}
 
 -- ---- casts
 
@@ -28,9 +29,6 @@ wider n x h w = record { low = omega (arith, ints, w.low, w.high); high = omega 
 
 pub uncast_factor : (x : ℤ) → IsWithin 1048576 x → to_z w64 (of_z w64 x) ≡ x
 uncast_factor x k = omega (arith, ints, k.low, k.high)
-
-pub uncast_end : (x : ℤ) → IsBoxSize x → to_z w64 (of_z w64 x) ≡ x
-uncast_end x k = omega (arith, ints, k.low, k.high)
 
 pub uncast_product : (a b : ℤ) → IsWithin 1048576 a → IsBoxSize b
     → to_z w128 (of_z w128 (to_z w128 (of_z w128 a) *ℤ to_z w128 (of_z w128 b))) ≡ a *ℤ b
@@ -54,15 +52,12 @@ one_min s t z h = omega (arith, ints, clamps, h)
 one_max : (s t z : ℤ) → z ≤ℤ int_max (int_max s t) (int_max s t) → z ≤ℤ int_max s t
 one_max s t z h = omega (arith, ints, clamps, h)
 
-itself : (f : ℤ) → Between f f f
-itself f = record { from = omega (arith, ints); to = omega (arith, ints) }
-
 least_on_le : (f : ℤ) (s : Side) (n : ℤ) → (s.lo ≤ℤ n) × (n ≤ℤ s.hi) → least_on f s ≤ℤ (f *ℤ n)
-least_on_le f s n h = one_min (f *ℤ s.lo) (f *ℤ s.hi) (f *ℤ n) (least_le_product f f s.lo s.hi f n (itself f) (record { from = h.0; to = h.1 }))
+least_on_le f s n h = one_min (f *ℤ s.lo) (f *ℤ s.hi) (f *ℤ n) (least_le_product f f s.lo s.hi f n (held_itself f) (record { from = h.0; to = h.1 }))
 
 le_greatest_on : (f : ℤ) (s : Side) (n : ℤ) → (s.lo ≤ℤ n) × (n ≤ℤ s.hi)
     → (f *ℤ n) ≤ℤ greatest_on f s
-le_greatest_on f s n h = one_max (f *ℤ s.lo) (f *ℤ s.hi) (f *ℤ n) (product_le_greatest f f s.lo s.hi f n (itself f) (record { from = h.0; to = h.1 }))
+le_greatest_on f s n h = one_max (f *ℤ s.lo) (f *ℤ s.hi) (f *ℤ n) (product_le_greatest f f s.lo s.hi f n (held_itself f) (record { from = h.0; to = h.1 }))
 
 -- an end of the side has this product with the factor
 record EndAt (f : ℤ) (s : Side) (v : ℤ) : Type 0 where

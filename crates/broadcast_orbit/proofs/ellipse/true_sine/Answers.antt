@@ -10,6 +10,7 @@ use Rattle.grid_model.proofs.EndsLemmas.{product_ends, quotient_ends, wider_ends
 use Rattle.grid_model.proofs.SpreadLemmas.{products_fit}
 use Rattle.fix_interval.proofs.ProductEnds.{amount_of}
 use Rattle.broadcast_orbit.specs.OrbitSizes.{height_amount, height_width, value_amount, eccentric_value_width, ratio_amount, ratio_width, least_ratio, true_width}
+use Rattle.fix_interval.proofs.NearLemmas.{near_itself}
 use Rattle.broadcast_orbit.proofs.ellipse.true_sine.Goals as goal
 
 one_within : IsWithin 1 (pos 1)
@@ -42,11 +43,8 @@ over-requires-clause-high_size c =
 times_one : (a : ℤ) → a ≡ a *ℤ pos 1
 times_one a = omega (arith, ints)
 
-exactly : (a : ℤ) → Near a (pos 1) a
-exactly a = record { below = omega (arith, ints); above = omega (arith, ints) }
-
 pub returns-clause-holds : goal.returns-clause-holds
-returns-clause-holds c w s r v p q i n = c.over.ensures.holds (w *ℤ s) r v (c.times_over.ensures.holds w s (w *ℤ s) p q (exactly (w *ℤ s))) i (subst (λ (z : ℤ). Near z r v) (times_one (w *ℤ s)) n)
+returns-clause-holds c w s r v p q i n = c.over.ensures.holds (w *ℤ s) r v (c.times_over.ensures.holds w s (w *ℤ s) p q (near_itself (w *ℤ s))) i (subst (λ (z : ℤ). Near z r v) (times_one (w *ℤ s)) n)
 
 pub returns-clause-amount : goal.returns-clause-amount
 returns-clause-amount c =

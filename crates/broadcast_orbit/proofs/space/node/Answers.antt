@@ -8,7 +8,8 @@ use Rattle.grid_model.proofs.SpreadLemmas.{products_fit}
 use Rattle.fix_interval.proofs.InsideLemmas.{held, inside_of, difference_inside}
 use Rattle.fix_interval.proofs.ProductEnds.{amount_of}
 use Rattle.broadcast_orbit.specs.OrbitSizes.{orbit_reach, after_width}
-use Rattle.broadcast_orbit.proofs.Chains.{field_ends, range_ends, value_held, difference_has, less_number, less_number_held, one_held}
+use Rattle.broadcast_orbit.proofs.Chains.{field_ends, range_ends, value_held, difference_has, less_number, less_number_held}
+use Rattle.grid_model.proofs.PlainLemmas.{held_itself}
 use Rattle.broadcast_orbit.proofs.space.node.Goals as goal
 use Rattle.grid_model.proofs.IntervalLemmas.{one_number}
 
@@ -43,7 +44,7 @@ returns-clause-holds c om0 om_dot toe t o p q r s n =
     let toe_is = value_held c.args.el.now.toe_week c.of_wide-2.result toe c.of_wide-2.ensures.low c.of_wide-2.ensures.high r in
     let om0_is = value_held c.args.el.now.om0 c.of_wide-3.result om0 c.of_wide-3.ensures.low c.of_wide-3.ensures.high p in
     let moved = inside_of ((om0 *ℤ pos rate_scale) +ℤ ((om_dot -ℤ pos earth_rate) *ℤ t)) (pos rate_scale) c.advanced.result.lo c.advanced.result.hi (record { lt = tt }) (λ v. c.advanced.ensures.holds om0 (om_dot -ℤ pos earth_rate) t v om0_is rate s) in
-    let start = inside_of (pos earth_rate *ℤ toe) (pos rate_scale) c.times_over-start.result.lo c.times_over-start.result.hi (record { lt = tt }) (λ v. c.times_over-start.ensures.holds (pos earth_rate) toe v (one_held (pos earth_rate)) toe_is) in
+    let start = inside_of (pos earth_rate *ℤ toe) (pos rate_scale) c.times_over-start.result.lo c.times_over-start.result.hi (record { lt = tt }) (λ v. c.times_over-start.ensures.holds (pos earth_rate) toe v (held_itself (pos earth_rate)) toe_is) in
     let e = c.minus.ensures.low in
     let f = c.minus.ensures.high in
     rw (e, f) (held _ (pos rate_scale) _ _ o (record { lt = tt }) (difference_inside _ _ (pos rate_scale) _ _ _ _ moved start) n)

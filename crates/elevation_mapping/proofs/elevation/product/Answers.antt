@@ -2,7 +2,8 @@ use Rattle.std.proofs.Common.{◌+◌, ◌*◌, lit≤}
 use Rattle.std.specs.Prelude.{pos, ◌*ℤ◌}
 use Rattle.grid_model.proofs.EndsLemmas.{product_ends}
 use Rattle.grid_model.proofs.SpreadLemmas.{products_fit}
-use Rattle.elevation_mapping.proofs.Spreads.{near_itself, one_times}
+use Rattle.elevation_mapping.proofs.Spreads.{one_times}
+use Rattle.fix_interval.proofs.NearLemmas.{near_itself}
 use Rattle.elevation_mapping.proofs.elevation.product.Goals as goal
 
 pub times_over-requires-clause-sizes : goal.times_over-requires-clause-sizes

@@ -2,13 +2,10 @@ use Rattle.std.proofs.Common.{◌≡◌, ℤ, append_assoc, arith, to_z, of_z}
 use Rattle.std.specs.Int.{w64}
 use Rattle.std.proofs.lemmas.Int.{ints}
 use Rattle.grid_model.specs.Sizes.{IsBoxSize}
+use Rattle.grid_model.proofs.PlainLemmas.{uncast_end}
 use Rattle.epoch_report.proofs.lines.push_box.Goals as goal
-
--- a coordinate fits 64 bits
-fits : (z : ℤ) → IsBoxSize z → to_z w64 (of_z w64 z) ≡ z
-fits z within = omega (arith, ints, within.low, within.high)
 
 pub returns-clause-pushed : goal.returns-clause-pushed
 returns-clause-pushed c =
     let part = c.args.part.now in
-    rw (c.push_two-3.ensures.pushed, c.push_two-2.ensures.pushed, c.push_two.ensures.pushed, fits part.lo.x part.lo_within.0, fits part.hi.x part.hi_within.0, fits part.lo.y part.lo_within.1, fits part.hi.y part.hi_within.1, fits part.lo.z part.lo_within.2, fits part.hi.z part.hi_within.2) (simp append_assoc)
+    rw (c.push_two-3.ensures.pushed, c.push_two-2.ensures.pushed, c.push_two.ensures.pushed, uncast_end part.lo.x part.lo_within.0, uncast_end part.hi.x part.hi_within.0, uncast_end part.lo.y part.lo_within.1, uncast_end part.hi.y part.hi_within.1, uncast_end part.lo.z part.lo_within.2, uncast_end part.hi.z part.hi_within.2) (simp append_assoc)

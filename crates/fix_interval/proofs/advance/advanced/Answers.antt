@@ -10,10 +10,13 @@ use Rattle.grid_model.proofs.EndsLemmas.{product_ends, sum_ends}
 use Rattle.fix_interval.proofs.NearLemmas.{near_without, any_product_ends, between_sums}
 use Rattle.fix_interval.proofs.advance.advanced.Goals as goal
 
-small : (a b c d l h : ℤ) → ProductsWithin (10 ^ 38) a b c d → l ≤ℤ h → IsTightRound (least_product a b c d) (pos rate_scale) (greatest_product a b c d) (pos rate_scale) l h → Ends (10 ^ 20 + 2) (10 ^ 20 + 10 ^ 20 + 4) l h
+small : (a b c d l h : ℤ) → ProductsWithin (10 ^ 38) a b c d → l ≤ℤ h
+    → IsTightRound (least_product a b c d) (pos rate_scale) (greatest_product a b c d) (pos rate_scale) l h
+    → Ends (10 ^ 20 + 2) (10 ^ 20 + 10 ^ 20 + 4) l h
 small a b c d l h p o t = any_product_ends (10 ^ 20) (pos rate_scale) a b c d l h (record { lt = tt }) (10 ^ 38) (record { le = tt }) p o t
 
-sum_within : (x y : ℤ) → IsWithin (10 ^ 37) x → IsWithin (10 ^ 20 + 2) y → IsWithin (10 ^ 38) (x +ℤ y)
+sum_within : (x y : ℤ) → IsWithin (10 ^ 37) x → IsWithin (10 ^ 20 + 2) y
+    → IsWithin (10 ^ 38) (x +ℤ y)
 sum_within x y p q = record { low = omega (arith, ints); high = omega (arith, ints) }
 
 pub plus-requires-clause-low_size : goal.plus-requires-clause-low_size

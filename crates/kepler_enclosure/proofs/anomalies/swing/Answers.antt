@@ -11,7 +11,8 @@ use Rattle.grid_model.proofs.SpreadLemmas.{products_fit}
 use Rattle.kepler_enclosure.proofs.Narrowing.{fifth, swing_ends, swing_width}
 use Rattle.kepler_enclosure.proofs.anomalies.swing.Goals as goal
 
-eccentricities : (lo hi : ℤ) → lo ≤ℤ hi → pos 0 ≤ℤ lo → hi ≤ℤ pos fifth → Ends fifth (nat_abs (hi -ℤ lo)) lo hi
+eccentricities : (lo hi : ℤ) → lo ≤ℤ hi → pos 0 ≤ℤ lo → hi ≤ℤ pos fifth
+    → Ends fifth (nat_abs (hi -ℤ lo)) lo hi
 eccentricities lo hi o h k = ends_of fifth lo hi o (record { low = omega (arith, ints); high = omega (arith, ints) }) (record { low = omega (arith, ints); high = omega (arith, ints) })
 
 few : (lo hi : ℤ) → lo ≤ℤ hi → pos 0 ≤ℤ lo → hi ≤ℤ pos fifth → nat_abs (hi -ℤ lo) ≤ fifth
@@ -28,7 +29,10 @@ returns-clause-holds c b y s v p q a n =
     c.times_over.ensures.holds b s v p (c.sine.ensures.holds y s k a) n
 
 -- the ends of e s over one
-swung : (el eh sl sh l h : ℤ) → el ≤ℤ eh → pos 0 ≤ℤ el → eh ≤ℤ pos fifth → sl ≤ℤ sh → IsWithin (unit + 8) sl → IsWithin (unit + 8) sh → l ≤ℤ h → IsTightRound (least_product el eh sl sh) (pos unit) (greatest_product el eh sl sh) (pos unit) l h → Ends (fifth + 4) (nat_abs (sh -ℤ sl) / 5 + 1 + nat_abs (eh -ℤ el) + 2 + 4) l h
+swung : (el eh sl sh l h : ℤ) → el ≤ℤ eh → pos 0 ≤ℤ el → eh ≤ℤ pos fifth → sl ≤ℤ sh
+    → IsWithin (unit + 8) sl → IsWithin (unit + 8) sh → l ≤ℤ h
+    → IsTightRound (least_product el eh sl sh) (pos unit) (greatest_product el eh sl sh) (pos unit) l h
+    → Ends (fifth + 4) (nat_abs (sh -ℤ sl) / 5 + 1 + nat_abs (eh -ℤ el) + 2 + 4) l h
 swung el eh sl sh l h o p q r s t u v = swing_ends (nat_abs (eh -ℤ el)) (nat_abs (sh -ℤ sl)) el eh sl sh l h (few el eh o p q) (eccentricities el eh o p q) (ends_of (unit + 8) sl sh r s t) u v
 
 pub returns-clause-width : goal.returns-clause-width

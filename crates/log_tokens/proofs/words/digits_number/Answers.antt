@@ -3,12 +3,9 @@ use Rattle.std.proofs.lemmas.Bool.{eq-eqb, eqb-true, ltb-true}
 use Rattle.std.proofs.lemmas.Int.Digits.{digits_more}
 use Rattle.std.proofs.lemmas.Grind.{common_steps}
 use Rattle.log_tokens.proofs.DigitLemmas.{digits_of_number, digit_byte, value_more, value_fits, number_spelled}
+use Rattle.grid_model.proofs.PlainLemmas.{not_both}
 use Rattle.log_tokens.proofs.words.digits_number.Goals as goal
 use Rattle.log_tokens.proofs.words.digits_number.Goals.{then-is_empty-via-then-is_empty, then-is_empty-via-else-is_empty+then-digits-gt-MOST_DIGITS, then-is_empty-via-else-is_empty+else-digits-gt-MOST_DIGITS+then-digits-eq48, then-digits-gt1, else-digits-gt1}
-
-not_both : (b : Bool) → b ≡ false → b ≡ true → ⊥
-not_both true e f = absurd cc
-not_both false e f = absurd cc
 
 positive : (n : ℕ) → eqb n 0 ≡ false → 0 < n
 positive zero e = absurd cc

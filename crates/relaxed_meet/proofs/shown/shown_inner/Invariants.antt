@@ -7,6 +7,7 @@ use Rattle.relaxed_meet.proofs.shown.shown_inner.Given as goal
 
 abbrev pub invariant-loop-row : goal.invariant-loop-row
 invariant-loop-row l = record {
-  held : (b : ℤ) → count_by (λ s. holds s b) (map ends l.spans.items) ≡ count_by (λ s. holds s b) (inner_spans (grid_box l.part) (take l.row-index l.rows));
+  held : (b : ℤ)
+      → count_by (λ s. holds s b) (map ends l.spans.items) ≡ count_by (λ s. holds s b) (inner_spans (grid_box l.part) (take l.row-index l.rows));
   count : length l.spans.items ≤ l.row-index;
 }

@@ -9,7 +9,9 @@ abbrev pub invariant-lines : goal.invariant-lines
 invariant-lines l = record {
   some : l.missing ≤ l.lines;
   left : Leaves l.fn.body (l.lines - l.missing) l.left;
-  lines : (answer : Result (Unit {0}) Refusal) → event_from l.both l.labelled l.missing (body_behind l.left) answer → event_from l.both l.labelled l.lines (body_behind l.fn.body) answer;
+  lines : (answer : Result (Unit {0}) Refusal)
+      → event_from l.both l.labelled l.missing (body_behind l.left) answer
+      → event_from l.both l.labelled l.lines (body_behind l.fn.body) answer;
 }
 
 abbrev pub decreases-lines : goal.decreases-lines

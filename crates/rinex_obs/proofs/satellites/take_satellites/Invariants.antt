@@ -12,7 +12,9 @@ invariant-lines l = record {
   some : l.missing ≤ l.lines;
   few : vec_len l.sats ≤ 64;
   left : Leaves l.fn.body (l.lines - l.missing) l.left;
-  lines : (answer : Result (List SatObs) Refusal) → satellites_from (wanted_of l.places) l.missing l.sats.items (body_behind l.left) answer → satellites_from (wanted_of l.places) l.lines [] (body_behind l.fn.body) answer;
+  lines : (answer : Result (List SatObs) Refusal)
+      → satellites_from (wanted_of l.places) l.missing l.sats.items (body_behind l.left) answer
+      → satellites_from (wanted_of l.places) l.lines [] (body_behind l.fn.body) answer;
 }
 
 abbrev pub decreases-lines : goal.decreases-lines

@@ -1,5 +1,6 @@
 use Rattle.std.proofs.Common.{refl}
-use Rattle.zone_guard.proofs.CornerLemmas.{uncast_sum, uncast_factor, uncast_end}
+use Rattle.zone_guard.proofs.CornerLemmas.{uncast_sum, uncast_factor}
+use Rattle.grid_model.proofs.PlainLemmas.{uncast_end}
 use Rattle.zone_guard.proofs.corners.greatest.Goals as goal
 
 pub returns : goal.returns

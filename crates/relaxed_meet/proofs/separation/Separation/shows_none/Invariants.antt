@@ -8,5 +8,6 @@ use Rattle.relaxed_meet.proofs.separation.Separation.shows_none.Given as goal
 abbrev pub invariant-loop-passed : goal.invariant-loop-passed
 invariant-loop-passed l = record {
   last : l.last ≡ l.fn.q;
-  parted : (high : ℤ) → l.fn.above ≤ lows_above high (clock_spans (grid_box l.part) l.rows) → ArePartedFrom l.last l.passed high (clock_spans (grid_box l.part) l.rows);
+  parted : (high : ℤ) → l.fn.above ≤ lows_above high (clock_spans (grid_box l.part) l.rows)
+      → ArePartedFrom l.last l.passed high (clock_spans (grid_box l.part) l.rows);
 }

@@ -14,7 +14,8 @@ overflow_add-self c =
     omega (arith, s.count_is, counted 0 s.heads.items s.ids.items s.numbers.items, s.heads.ok, s.heads.small)
 
 -- the columns with the step behind them stand for the steps and that one
-behind : (s : LoggedSteps) (o : BoxOf) (step : Step) → box_behind s.last (heads_of o) (ids_of o (box_in step)) ≡ box_in step
+behind : (s : LoggedSteps) (o : BoxOf) (step : Step)
+    → box_behind s.last (heads_of o) (ids_of o (box_in step)) ≡ box_in step
     → steps_in 0 (s.heads.items ++ (heads_of o ++ head_of step ∷ [])) (s.ids.items ++ ids_of o (box_in step)) (s.numbers.items ++ numbers_of step)
     ≡ steps_of s ++ step ∷ []
 behind s o step told =

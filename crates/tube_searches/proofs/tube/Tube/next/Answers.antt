@@ -1,8 +1,8 @@
 use Rattle.std.proofs.Common.{inr, refl, sym, ap}
 use Rattle.epoch_selection.specs.Searches.{epochs_left}
-use Rattle.moving_tube.proofs.RootLemmas.{lies_searched}
+use Rattle.moving_tube.proofs.RootLemmas.{lies_searched, same_time}
 use Rattle.grid_model.specs.Boxes.{grid_box}
-use Rattle.tube_searches.proofs.RootLemmas.{same_time, epoch_time}
+use Rattle.tube_searches.proofs.RootLemmas.{epoch_time}
 use Rattle.tube_searches.proofs.tube.Tube.next.Goals as goal
 
 pub returns-in_err-root : goal.returns-in_err-root

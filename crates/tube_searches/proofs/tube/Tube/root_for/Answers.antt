@@ -1,5 +1,6 @@
 use Rattle.grid_model.specs.Boxes.{grid_box}
-use Rattle.tube_searches.proofs.RootLemmas.{same_time, before_root}
+use Rattle.tube_searches.proofs.RootLemmas.{before_root}
+use Rattle.moving_tube.proofs.RootLemmas.{same_time}
 use Rattle.tube_searches.proofs.tube.Tube.root_for.Goals as goal
 
 pub returns-in_ok-part-in-Some-clause-root : goal.returns-in_ok-part-in-Some-clause-root
