@@ -3,7 +3,7 @@ use Rattle.std.proofs.Common.{◌≡◌, ℕ, ◌+◌, ◌*◌, ◌/◌, ◌^◌
 use Rattle.std.specs.Prelude.{ℤ, pos, ◌-ℤ◌, ◌≤ℤ◌}
 use Rattle.std.proofs.lemmas.Int.{ints}
 use Rattle.grid_model.specs.Amounts.{above}
-use Rattle.grid_model.specs.Sizes.{IsWithin, IsBoxSize}
+use Rattle.grid_model.specs.Sizes.{IsBoxSize}
 use Rattle.grid_model.specs.Intervals.{Between, Ends}
 use Rattle.grid_model.specs.Roots.{IsRoot, root}
 use Rattle.grid_model.specs.Rounding.{grain_floor, grain_ceil}
@@ -12,7 +12,7 @@ use Rattle.grid_model.proofs.AmountLemmas.{above_is}
 use Rattle.grid_model.proofs.RootLemmas.{root_mono, square-mono, root_is}
 use Rattle.grid_model.proofs.EndsLemmas.{difference_ends, wider_ends}
 use Rattle.grid_model.proofs.RoundingLemmas.{grain_floor_one, grain_ceil_one}
-use Rattle.grid_model.proofs.SquareLemmas.{least_le_greatest_end, greatest_square_le, ends_apart}
+use Rattle.grid_model.proofs.SquareLemmas.{least_le_greatest_end, squares_fit, ends_apart}
 use Rattle.earth_rotation.specs.RoundSizes.{turned_reach, range_amount}
 use Rattle.grid_model.proofs.SpreadRoots.{root_spread}
 
@@ -40,12 +40,6 @@ offset_held a b s t lo hi l h x p d e f g i j k = record { from = omega (arith, 
 
 -- ---- squares
 
-pub squares_fit : (xl xh yl yh zl zh : ℤ) → IsWithin offset_amount xl → IsWithin offset_amount xh
-    → IsWithin offset_amount yl → IsWithin offset_amount yh → IsWithin offset_amount zl
-    → IsWithin offset_amount zh
-    → greatest_square xl xh + greatest_square yl yh + greatest_square zl zh ≤ 3 * (offset_amount * offset_amount)
-squares_fit xl xh yl yh zl zh a b c d e f = omega (arith, greatest_square_le offset_amount xl xh a b, greatest_square_le offset_amount yl yh c d, greatest_square_le offset_amount zl zh e f)
-
 root_fits : (n v : ℕ) → IsRoot n v → n ≤ 3 * (offset_amount * offset_amount) → v ≤ range_amount
 root_fits n v r h = grind (arith, square-mono (range_amount + 1) v, r.square_le, h)
 
@@ -66,7 +60,7 @@ range_ends w xl xh yl yh zl zh l h a b x y z ea eb el eh =
     let near = square-mono _ _ (least_le_greatest_end xl xh x.order) in
     let near2 = square-mono _ _ (least_le_greatest_end yl yh y.order) in
     let near3 = square-mono _ _ (least_le_greatest_end zl zh z.order) in
-    let fit = squares_fit xl xh yl yh zl zh x.low x.high y.low y.high z.low z.high in
+    let fit = squares_fit offset_amount xl xh yl yh zl zh x.low x.high y.low y.high z.low z.high in
     let order = root_mono a b (root a) (root b) ra rb (omega arith) in
     let s = root_spread (least_end xl xh) (least_end yl yh) (least_end zl zh) (greatest_end xl xh) (greatest_end yl yh) (greatest_end zl zh) w (root a) (root b) (ends_apart _ w xl xh x) (ends_apart _ w yl yh y) (ends_apart _ w zl zh z) (omega (arith, ra.next_square_gt)) (omega (arith, rb.square_le)) in
     range_by (7 * w / 4 + 1) (root a) (root b) l h (omega (arith, ints, grain_floor_one (pos (root a)))) (omega (arith, ints, grain_ceil_one (pos (root b)))) order (root_fits b (root b) rb (omega arith)) s

@@ -1,29 +1,17 @@
 -- Lengths of vectors: the roots of least and greatest sums of squares.
-use Rattle.std.proofs.Common.{◌≡◌, ℕ, ◌+◌, ◌-◌, ◌*◌, ◌^◌, ◌≤◌, arith, lit≤}
+use Rattle.std.proofs.Common.{◌≡◌, ℕ, ◌+◌, ◌-◌, ◌*◌, ◌^◌, ◌≤◌, arith}
 use Rattle.std.specs.Prelude.{ℤ, pos}
 use Rattle.std.proofs.lemmas.Int.{ints}
-use Rattle.grid_model.specs.Sizes.{IsWithin}
 use Rattle.grid_model.specs.Intervals.{Ends}
 use Rattle.grid_model.specs.Roots.{IsRoot, root}
 use Rattle.grid_model.specs.Squares.{least_end, greatest_end, greatest_square}
 use Rattle.grid_model.proofs.RootLemmas.{root_mono, square-mono, root_is}
-use Rattle.grid_model.proofs.EndsLemmas.{wider_ends}
-use Rattle.grid_model.proofs.SquareLemmas.{one_part, least_le_greatest_end, greatest_square_le, ends_apart}
+use Rattle.grid_model.proofs.SquareLemmas.{one_part, least_le_greatest_end, squares_fit, ends_apart}
 use Rattle.fix_interval.specs.declared.place.Place.{Place}
 use Rattle.fix_interval.specs.Places.{PlaceEnds}
 use Rattle.elevation_mapping.specs.Places.{least_sum, greatest_sum}
 use Rattle.elevation_mapping.specs.SineSizes.{offset_amount, length_amount}
 use Rattle.grid_model.proofs.SpreadRoots.{sum_small, four_roots}
-
--- both ends are small enough to be squared
-pub offset_fits : (w : ℕ) (l h : ℤ) → Ends offset_amount w l h → Ends (2 ^ 47) w l h
-offset_fits w l h e = wider_ends offset_amount (2 ^ 47) w w l h (lit≤ tt) (omega arith) e
-
-pub squares_fit : (xl xh yl yh zl zh : ℤ) → IsWithin offset_amount xl → IsWithin offset_amount xh
-    → IsWithin offset_amount yl → IsWithin offset_amount yh → IsWithin offset_amount zl
-    → IsWithin offset_amount zh
-    → greatest_square xl xh + greatest_square yl yh + greatest_square zl zh ≤ 3 * (offset_amount * offset_amount)
-squares_fit xl xh yl yh zl zh a b c d e f = omega (arith, greatest_square_le offset_amount xl xh a b, greatest_square_le offset_amount yl yh c d, greatest_square_le offset_amount zl zh e f)
 
 -- a length is at least each part, and at least the root of what the squares are at least
 pub part_le : (a b c : ℕ) → a ≤ root (a * a + b * b + c * c)
@@ -55,7 +43,7 @@ root_fits n v r h = grind (arith, square-mono (length_amount + 1) v, r.square_le
 
 pub lengths_fit : (w : ℕ) (a : Place) → PlaceEnds offset_amount w a
     → root (greatest_sum a) ≤ length_amount
-lengths_fit w a e = root_fits (greatest_sum a) (root (greatest_sum a)) (root_is (greatest_sum a)) (squares_fit _ _ _ _ _ _ e.x_ends.low e.x_ends.high e.y_ends.low e.y_ends.high e.z_ends.low e.z_ends.high)
+lengths_fit w a e = root_fits (greatest_sum a) (root (greatest_sum a)) (root_is (greatest_sum a)) (squares_fit offset_amount _ _ _ _ _ _ e.x_ends.low e.x_ends.high e.y_ends.low e.y_ends.high e.z_ends.low e.z_ends.high)
 
 ends_by : (u v : ℕ) (l h : ℤ) → l ≡ pos u → h ≡ pos v → u ≤ v → v ≤ length_amount
     → Ends length_amount (v - u) l h

@@ -4,6 +4,7 @@ use Rattle.std.specs.Prelude.{ℤ, pos, negsuc, ◌≤ℤ◌, ◌-ℤ◌, unsign
 use Rattle.std.proofs.lemmas.Int.{ints}
 use borrow.Author.Differences.{up, down}
 use Rattle.grid_model.specs.Amounts.{least_amount, greatest_amount, above}
+use Rattle.grid_model.proofs.PlainLemmas.{same_le}
 
 up_or_down : (z : ℤ) → up z + down z ≡ max (up z) (down z)
 up_or_down (pos n) = omega arith
@@ -30,14 +31,11 @@ pub greatest_amount_ge : (a b c d p q : ℤ) → a ≤ℤ p → p ≤ℤ b → c
 greatest_amount_ge a b c d p q h1 h2 h3 h4 =
     omega (arith, ints, apart_is p q, above_is p q, above_is q p, above_is b c, above_is d a)
 
-at_least : (z : ℤ) → z ≤ℤ z
-at_least z = omega (arith, ints)
-
 pub least_le_greatest : (a b c d : ℤ) → a ≤ℤ b → c ≤ℤ d
     → least_amount a b c d ≤ greatest_amount a b c d
 least_le_greatest a b c d h k =
     omega (
       arith,
-      least_amount_le a b c d a c (at_least a) h (at_least c) k,
-      greatest_amount_ge a b c d a c (at_least a) h (at_least c) k,
+      least_amount_le a b c d a c (same_le a) h (same_le c) k,
+      greatest_amount_ge a b c d a c (same_le a) h (same_le c) k,
     )

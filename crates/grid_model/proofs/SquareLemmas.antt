@@ -33,6 +33,12 @@ pub greatest_square_le : (n : ℕ) (lo hi : ℤ) → IsWithin n lo → IsWithin 
     → greatest_square lo hi ≤ square n
 greatest_square_le n lo hi p q = square-mono _ _ (omega (arith, ints, one_part lo, one_part hi))
 
+pub squares_fit : (n : ℕ) (xl xh yl yh zl zh : ℤ) → IsWithin n xl → IsWithin n xh → IsWithin n yl
+    → IsWithin n yh → IsWithin n zl → IsWithin n zh
+    → greatest_square xl xh + greatest_square yl yh + greatest_square zl zh ≤ 3 * (n * n)
+squares_fit n xl xh yl yh zl zh a b c d e f =
+    omega (arith, greatest_square_le n xl xh a b, greatest_square_le n yl yh c d, greatest_square_le n zl zh e f)
+
 -- the root of a number lies between the rounded roots of the ends around it
 pub root_between : (g : ℤ) (lo hi n v : ℕ) → pos 1 ≤ℤ g → lo ≤ n → n ≤ hi → IsRoot n v
     → Between (grain_floor g (pos (root lo))) (grain_ceil g (pos (root hi))) (pos v)

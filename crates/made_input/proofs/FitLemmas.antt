@@ -50,6 +50,7 @@ use Rattle.made_input.proofs.RangeBounds.{code_in_range, drawn_below, IsPlausibl
 use Rattle.made_input.proofs.RecordLemmas.{record_at, eight_records}
 use Rattle.made_input.proofs.TimeLemmas.{tag_is, toc_is, week_is}
 use Rattle.grid_model.proofs.OrderLemmas.{le_prop, lt_prop}
+use Rattle.grid_model.proofs.PlainLemmas.{same_le}
 use Rattle.exact_decimal.proofs.Mantissas.{other_byte as behind_other}
 use Rattle.exact_decimal.proofs.Signs.{is_byte as is_there}
 
@@ -111,9 +112,6 @@ observed_some : (code : ℤ) → pos 1 ≤ℤ code
 observed_some (pos zero) h = absurd (omega (arith, ints, h))
 observed_some (pos (suc n)) h = refl
 observed_some (negsuc n) h = absurd (omega (arith, ints, h))
-
-same_le : (z : ℤ) → z ≤ℤ z
-same_le z = omega (arith, ints)
 
 wide_of : ℤ → Wide
 wide_of z = record { lo = z; hi = z; ordered = same_le z }

@@ -11,6 +11,7 @@ use lib.Signed.{le_z, lt_z}
 use Rattle.relaxed_meet.specs.Kept.{above, bit, IsFalling, IsKeptUpTo, Keeps}
 use Rattle.relaxed_meet.proofs.CountLemmas.{count_at_least, count_at_most, count_of_all}
 use Rattle.grid_model.proofs.IntervalLemmas.{le_z_trans as at_least}
+use Rattle.grid_model.proofs.PlainLemmas.{same_le}
 
 pub lt_true : (a b : ℤ) → a <ℤ b → lt_z a b ≡ true
 lt_true a b h = grind (arith, ints)
@@ -45,11 +46,8 @@ at_rank xs b k falling within few = elim (le_or_gt (get_or xs k (pos 0)) b) [
 
 -- ---- a number takes the place of one that is less
 
-same_le : (a b x y : ℤ) → a ≡ x → b ≡ y → x ≤ℤ y → a ≤ℤ b
-same_le a b x y e f h = rw (e, f) h
-
-itself : (a : ℤ) → a ≤ℤ a
-itself a = omega (arith, ints)
+le_of_same : (a b x y : ℤ) → a ≡ x → b ≡ y → x ≤ℤ y → a ≤ℤ b
+le_of_same a b x y e f h = rw (e, f) h
 
 pub falling_set : (xs : List ℤ) (i : ℕ) (c : ℤ) → IsFalling xs → i < length xs
     → get_or xs i (pos 0) ≤ℤ c
@@ -65,13 +63,13 @@ falling_set xs i c falling within more front = record { falls = falls }
         let inside_old : b < length xs = omega (arith, length-set xs i c) in
         elim (cases_eq a i) [
           | inl a_is ↦ elim (cases_eq b i) [
-            | inl b_is ↦ rw (a_is, b_is) (itself _)
-            | inr b_not ↦ same_le _ _ _ _ (get_or-set_other xs i b c (pos 0) b_not) (ap (λ n. get_or (set xs i c) n (pos 0)) a_is ∙ here)
+            | inl b_is ↦ rw (a_is, b_is) (same_le _)
+            | inr b_not ↦ le_of_same _ _ _ _ (get_or-set_other xs i b c (pos 0) b_not) (ap (λ n. get_or (set xs i c) n (pos 0)) a_is ∙ here)
                 (at_least _ _ _ (falling.falls i b (omega arith) inside_old) more)
           ]
           | inr a_not ↦ elim (cases_eq b i) [
-            | inl b_is ↦ same_le _ _ _ _ (ap (λ n. get_or (set xs i c) n (pos 0)) b_is ∙ here) (get_or-set_other xs i a c (pos 0) a_not) (front a (omega arith))
-            | inr b_not ↦ same_le _ _ _ _ (get_or-set_other xs i b c (pos 0) b_not) (get_or-set_other xs i a c (pos 0) a_not) (falling.falls a b le inside_old)
+            | inl b_is ↦ le_of_same _ _ _ _ (ap (λ n. get_or (set xs i c) n (pos 0)) b_is ∙ here) (get_or-set_other xs i a c (pos 0) a_not) (front a (omega arith))
+            | inr b_not ↦ le_of_same _ _ _ _ (get_or-set_other xs i b c (pos 0) b_not) (get_or-set_other xs i a c (pos 0) a_not) (falling.falls a b le inside_old)
           ]
         ]
 
@@ -108,8 +106,8 @@ exchanged i xs next old c d n k within less is carried = rw (is, carried) record
   count = omega (arith, length-set xs i c, k.count);
   same_above = λ b. omega (arith, above_set xs i c b within, k.same_above b);
   least = λ j before. elim (cases_eq j i) [
-    | inl here ↦ same_le _ _ _ _ refl (ap (λ m. get_or (set xs i c) m (pos 0)) here ∙ get_or-set_same xs i c (pos 0) within) (omega (arith, ints))
-    | inr other ↦ same_le _ _ _ _ refl (get_or-set_other xs i j c (pos 0) other) (k.falling.falls j i (omega arith) within)
+    | inl here ↦ le_of_same _ _ _ _ refl (ap (λ m. get_or (set xs i c) m (pos 0)) here ∙ get_or-set_same xs i c (pos 0) within) (omega (arith, ints))
+    | inr other ↦ le_of_same _ _ _ _ refl (get_or-set_other xs i j c (pos 0) other) (k.falling.falls j i (omega arith) within)
   ];
 }
 
@@ -121,7 +119,7 @@ passed_by i xs next old c d n k le is carried = rw (is, carried) record {
   count = k.count;
   same_above = k.same_above;
   least = λ j before. elim (cases_eq j i) [
-    | inl here ↦ same_le _ _ _ _ refl (ap (λ m. get_or xs m (pos 0)) here) le
+    | inl here ↦ le_of_same _ _ _ _ refl (ap (λ m. get_or xs m (pos 0)) here) le
     | inr other ↦ k.least j (omega arith)
   ];
 }

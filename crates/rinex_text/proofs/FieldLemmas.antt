@@ -1,5 +1,5 @@
 -- A field spells one count, and no test comes out both ways.
-use Rattle.std.proofs.Common.{◌≡◌, ℕ, true, false, List, sym, ◌∙◌, Some}
+use Rattle.std.proofs.Common.{◌≡◌, ℕ, List, sym, ◌∙◌, Some}
 use Rattle.exact_decimal.specs.Counts.{IsCount}
 use Rattle.exact_decimal.proofs.Counts.{count_answer}
 
@@ -9,6 +9,3 @@ same_count field m n first second =
     let b = (count_answer field n).1 second in
     let same : Some m ≡ Some n = sym a ∙ b in
     cc
-
-pub never : false ≡ true → ⊥
-never e = cc

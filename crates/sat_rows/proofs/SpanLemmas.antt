@@ -83,9 +83,6 @@ pub grown_within : (by : ℤ) (span grown : Span) → GrowsWithin by span → gr
     → grown.hi ≡ span.hi +ℤ by → IsPlaceSize grown.lo × IsPlaceSize grown.hi
 grown_within by span grown g e f = (rw e g.low, rw f g.high)
 
-pub same_le : (n : ℤ) → n ≤ℤ n
-same_le n = omega (arith, ints)
-
 -- ---- the ends of the error
 
 pub grown_lo : (by : ℤ) (side : Side) (span grown : Span) → span_side span ≡ side

@@ -17,7 +17,7 @@ use Rattle.zone_guard.specs.Planes.{dot, PlaneValue, LiesBehind, LiesBeyond}
 use Rattle.zone_guard.proofs.AnswerLemmas.{holds_from}
 use Rattle.grid_model.proofs.IntervalLemmas.{le_z_trans as le_both}
 use Rattle.sat_model.proofs.PairAxisLemmas.{sum_within}
-use Rattle.grid_model.proofs.PlainLemmas.{held_itself}
+use Rattle.grid_model.proofs.PlainLemmas.{held_itself, same_le}
 
 -- ---- casts
 
@@ -76,9 +76,6 @@ max_left s t h = omega (arith, ints, clamps, h)
 
 pub max_right : (s t : ℤ) → s <ℤ t → t ≡ int_max s t
 max_right s t h = omega (arith, ints, clamps, h)
-
-same_le : (n : ℤ) → n ≤ℤ n
-same_le n = omega (arith, ints)
 
 least_end : (f : ℤ) (s : Side) → s.lo ≤ℤ s.hi → EndAt f s (least_on f s)
 least_end f s h =

@@ -6,9 +6,9 @@ use Rattle.grid_model.specs.Lengths.{longest_length}
 use Rattle.grid_model.proofs.EndsLemmas.{wider_ends}
 use Rattle.grid_model.proofs.PointLemmas.{in_box}
 use Rattle.grid_model.proofs.RootLemmas.{root_is}
-use Rattle.grid_model.proofs.SquareLemmas.{root_between}
+use Rattle.grid_model.proofs.SquareLemmas.{root_between, squares_fit}
 use Rattle.fix_interval.proofs.ProductEnds.{amount_of}
-use Rattle.earth_rotation.proofs.Offsets.{offset_amount, offset_fits, offset_ends, offset_held, squares_fit, range_ends}
+use Rattle.earth_rotation.proofs.Offsets.{offset_amount, offset_fits, offset_ends, offset_held, range_ends}
 use Rattle.earth_rotation.proofs.ranges.range.Goals as goal
 
 pub squared_distance-squares-requires-clause-x_low : goal.squared_distance-squares-requires-clause-x_low
@@ -54,7 +54,7 @@ squared_distance-squares-requires-clause-sum_size c =
     let x = offset_ends _ _ _ _ _ _ _ _ _ c.requires.x_ends p.x_low p.x_high b.x_ordered b.lo_within.0 b.hi_within.0 c.offsets-x.ensures.low c.offsets-x.ensures.high in
     let y = offset_ends _ _ _ _ _ _ _ _ _ c.requires.y_ends p.y_low p.y_high b.y_ordered b.lo_within.1 b.hi_within.1 c.offsets-y.ensures.low c.offsets-y.ensures.high in
     let z = offset_ends _ _ _ _ _ _ _ _ _ c.requires.z_ends p.z_low p.z_high b.z_ordered b.lo_within.2 b.hi_within.2 c.offsets-z.ensures.low c.offsets-z.ensures.high in
-    omega (arith, squares_fit _ _ _ _ _ _ x.low x.high y.low y.high z.low z.high)
+    omega (arith, squares_fit offset_amount _ _ _ _ _ _ x.low x.high y.low y.high z.low z.high)
 
 pub returns-clause-holds : goal.returns-clause-holds
 unfolding range_to

@@ -1,6 +1,6 @@
 use Rattle.std.proofs.Common.{ℕ, ◌*◌, sym, subst}
 use Rattle.rinex_text.specs.Dates.{IsGpsTime}
-use Rattle.rinex_text.proofs.FieldLemmas.{never}
+use Rattle.grid_model.proofs.PlainLemmas.{false_is_not_true}
 use Rattle.rinex_nav.proofs.FieldLemmas.{no_time}
 use Rattle.rinex_nav.proofs.field.clock_time.Goals as goal
 
@@ -26,4 +26,4 @@ pub returns-in-Err-clause-none : goal.returns-in-Err-clause-none
 returns-in-Err-clause-none c = λ toc is.
     let t = no_time _ _ _ _ _ _ _ c.in_ok-year.ensures.number c.in_ok-month.ensures.number c.in_ok-day.ensures.number c.in_ok-hour.ensures.number c.in_ok-minute.ensures.number c.in_ok-second.ensures.number toc is in
     let time = subst (λ (n : ℕ). IsGpsTime c.in_ok-year.year c.in_ok-month.month c.in_ok-day.day c.in_ok-hour.hour c.in_ok-minute.minute (n * 10000000)) (sym c.from.ensures) t.0 in
-    never (c.in-Err.ensures.date.1 time)
+    false_is_not_true (c.in-Err.ensures.date.1 time)

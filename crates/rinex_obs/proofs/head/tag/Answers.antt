@@ -1,4 +1,4 @@
-use Rattle.rinex_text.proofs.FieldLemmas.{never}
+use Rattle.grid_model.proofs.PlainLemmas.{false_is_not_true}
 use Rattle.rinex_obs.proofs.HeadLemmas.{no_tag}
 use Rattle.rinex_obs.proofs.head.tag.Goals as goal
 
@@ -22,4 +22,4 @@ returns-in_err-tenths-clause-none c = rw c.from_residual-in_err-tenths.ensures (
 
 pub returns-in-Err-clause-none : goal.returns-in-Err-clause-none
 returns-in-Err-clause-none c = λ tag is.
-    never (c.in-Err.ensures.date.1 (no_tag _ _ _ _ _ _ _ c.in_ok-year.ensures.number c.in_ok-month.ensures.number c.in_ok-day.ensures.number c.in_ok-hour.ensures.number c.in_ok-minute.ensures.number c.in_ok-tenths.ensures.tenths tag is))
+    false_is_not_true (c.in-Err.ensures.date.1 (no_tag _ _ _ _ _ _ _ c.in_ok-year.ensures.number c.in_ok-month.ensures.number c.in_ok-day.ensures.number c.in_ok-hour.ensures.number c.in_ok-minute.ensures.number c.in_ok-tenths.ensures.tenths tag is))
