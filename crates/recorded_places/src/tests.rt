@@ -104,7 +104,7 @@ fn clocks_and_places_of_recorded_satellites(rt: HostRuntime) -> Result<(), Fail>
         assert!(rt; at < nav.count(), "a record");
         let el = nav.at(at).elements().ok().ok_or("outside")?;
         let tsv = number(&rt, fields.next());
-        let t = number(&rt, fields.next());
+        let t = tsv.saturating_add(number(&rt, fields.next()));
         let dt = number(&rt, fields.next());
         let clock = clock_at(&rt, &el, tsv);
         assert!(rt;

@@ -101,14 +101,15 @@ def row(at, f, after):
     time = after - int(nint(offset * PS))
     toe = f["toe_time"] * PS
     coordinates = (int(nint(c * 10**6)) for c in place(f, mpf(time) / PS))
-    return at, toe + after, toe + time, int(nint(offset * 10**16)), *coordinates
+    return at, toe + after, time - after, int(nint(offset * 10**16)), *coordinates
 
 
 def main():
     rows = [row(at, f, after) for at, f in enumerate(records()) for after in AFTER[at % 3]]
     text = "\n".join(
         [
-            "//! Places of records in the file, times, clock offsets and places of satellites: written by",
+            "//! Places of records in the file, times by the satellites' clocks in ps, how far GPS time is from",
+            "//! them in ps, clock offsets in 10^-16 s, and places of satellites in um: written by",
             "//! vectors/make_vectors.py.",
             "",
             'pub(crate) const VECTORS: &str = "\\',
