@@ -1,5 +1,5 @@
 -- The squares of members lie between the least and the greatest square.
-use Rattle.std.proofs.Common.{◌≡◌, ℕ, ◌≤◌, arith, ◌⊎◌, inl, inr, refl, ◌+◌}
+use Rattle.std.proofs.Common.{◌≡◌, ℕ, ◌≤◌, arith, ◌⊎◌, inl, inr, refl, ◌+◌, ◌*◌}
 use Rattle.std.specs.Prelude.{ℤ, pos, negsuc, nat_abs, ◌≤ℤ◌}
 use Rattle.std.proofs.lemmas.Int.{ints}
 use borrow.Author.Differences.{up, down}
