@@ -1,4 +1,5 @@
--- Something is allowed of each satellite that was observed, as seen from each point of a search box.
+-- Something is allowed of each satellite that was observed, as seen from each point of a search
+-- box.
 use Rattle.std.proofs.Common.{◌≡◌, ℕ, ◌^◌, true}
 use Rattle.std.specs.Prelude.{ℤ, pos, ◌+ℤ◌, ◌-ℤ◌, ◌*ℤ◌, Option, None, Some}
 use Rattle.grid_model.specs.Boxes.{GridBox, box_holds}
@@ -26,14 +27,17 @@ range_exists : (system : System) (first : Wide) (second : Option Wide)
     → (pr : ℤ) × IsRangeWith system first second pr
 range_exists system first None = (first.lo, low_member _ _ first.ordered)
 range_exists system first (Some second) =
-    let free = near_exists ((pos (first_square system) *ℤ first.lo) -ℤ (pos (second_square system) *ℤ second.lo)) (pos (squares_apart system))
+    let free = near_exists
+    ((pos (first_square system) *ℤ first.lo) -ℤ (pos (second_square system) *ℤ second.lo))
+    (pos (squares_apart system))
     (apart_positive system) in (
       free.0,
       (first.lo, second.lo, low_member _ _ first.ordered, low_member _ _ second.ordered, free.1),
     )
 
 values_exist : (seen : Observed) (p : Pos)
-    → (x : ℤ) × (y : ℤ) × (z : ℤ) × (corrected : ℤ) × (range : ℕ) × ChainValue seen p x y z corrected range
+    → (x : ℤ) × (y : ℤ) × (z : ℤ) × (corrected : ℤ) × (range : ℕ)
+    × ChainValue seen p x y z corrected range
 values_exist seen p =
     let pr = range_exists seen.system seen.codes.first seen.codes.second in
     let tsv = near_exists ((seen.tag *ℤ pos light_speed) -ℤ (pr.0 *ℤ pos (10 ^ 6)))
@@ -72,8 +76,19 @@ pub chain_exists : (seen : Observed) (p : Pos) (delays : Delays) (declared : ℤ
     → (c : Chain) × AreValues delays declared seen p c
 chain_exists seen p delays declared root box inside high =
     let (x, y, z, corrected, range, value) = values_exist seen p in
-    let far = far_from_points x y z root p (chain_is_far seen.el value.n value.t value.sent_x value.sent_y z p x y range value.orbit value.turn) box inside in
-    let bound = bound_exists delays declared root p x y z corrected range high inside far value.turn.range_is in (
-      record { x = x; y = y; z = z; corrected = corrected; range = range; lo = bound.0; hi = bound.1 },
+    let chain_far = chain_is_far seen.el value.n value.t value.sent_x value.sent_y z p x y range
+    value.orbit value.turn in
+    let far = far_from_points x y z root p chain_far box inside in
+    let bound = bound_exists delays declared root p x y z corrected range high inside far
+    value.turn.range_is in (
+      record {
+        x = x;
+        y = y;
+        z = z;
+        corrected = corrected;
+        range = range;
+        lo = bound.0;
+        hi = bound.1;
+      },
       (value, bound.2),
     )
