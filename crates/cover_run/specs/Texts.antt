@@ -1,11 +1,11 @@
 -- The lines of a verdict.
-use Rattle.std.specs.Prelude.{ℕ, ◌++◌, List, codes, decimal, nat_eq, if◌then◌else◌}
+use Rattle.std.specs.Prelude.{ℕ, ◌++◌, List, [], codes, decimal, nat_eq, if◌then◌else◌}
 
 -- a log is right, and has so many in and edge boxes
 abbrev pub yes_text : ℕ → List ℕ
 yes_text boxes = codes "yes " ++ decimal boxes ++ codes "\n"
 
--- the name of a test of a log's lines
+-- the name of a test of a log's lines; no other number has one
 abbrev pub test_name : ℕ → List ℕ
 test_name number =
     if nat_eq number 50 then codes "RulesDiffer"
@@ -23,7 +23,8 @@ test_name number =
     else if nat_eq number 62 then codes "OverBudget"
     else if nat_eq number 63 then codes "NotClosed"
     else if nat_eq number 64 then codes "CountDiffers"
-    else codes "BadRenew"
+    else if nat_eq number 65 then codes "BadRenew"
+    else []
 
 -- a line of a log is the first that fails a test, of which this is the least number
 abbrev pub no_text : ℕ → ℕ → List ℕ

@@ -38,7 +38,7 @@ pub fn no_line(fault: &Fault) -> Line
     line
 }
 
-/// The name of a test of a log's lines.
+/// The name of a test of a log's lines, and nothing for another number.
 pub fn name_of_test(number: u8) -> &'static str
     ensures name { result.now ≡ test_name number }
     ensures short { length result.now ≤ 16 }
@@ -59,6 +59,7 @@ pub fn name_of_test(number: u8) -> &'static str
         62 => "OverBudget",
         63 => "NotClosed",
         64 => "CountDiffers",
-        _ => "BadRenew",
+        65 => "BadRenew",
+        _ => "",
     }
 }

@@ -1,5 +1,5 @@
 -- What is said of a receiver's file that is refused.
-use Rattle.std.specs.Prelude.{ℕ, ◌++◌, List, map, codes, decimal, nat_eq, encode_utf8_all}
+use Rattle.std.specs.Prelude.{ℕ, ◌++◌, List, [], map, codes, decimal, nat_eq, encode_utf8_all}
 use Rattle.std.specs.Prelude.{if◌then◌else◌}
 use Rattle.std.specs.Char.{is_control}
 use Rattle.std.specs.Str.{chars}
@@ -20,7 +20,8 @@ header_fault_name number =
     else if nat_eq number 16 then codes "CodeAbsent"
     else if nat_eq number 17 then codes "TimeSystem"
     else if nat_eq number 18 then codes "ScaleFactor"
-    else codes "NoPosition"
+    else if nat_eq number 28 then codes "NoPosition"
+    else []
 
 abbrev pub file_fault_name : ℕ → List ℕ
 file_fault_name number =
@@ -42,7 +43,8 @@ settings_fault_name number =
     else if nat_eq number 31 then codes "Missing"
     else if nat_eq number 32 then codes "WrongKind"
     else if nat_eq number 33 then codes "Outside"
-    else codes "Unknown"
+    else if nat_eq number 34 then codes "Unknown"
+    else []
 
 -- a text on one line: each control character is shown as `?`
 abbrev pub shown_char : ℕ → ℕ

@@ -46,7 +46,8 @@ fn name_of_header_fault(number: u8) -> &'static str
         16 => "CodeAbsent",
         17 => "TimeSystem",
         18 => "ScaleFactor",
-        _ => "NoPosition",
+        28 => "NoPosition",
+        _ => "",
     }
 }
 
@@ -60,7 +61,8 @@ fn name_of_settings_fault(number: u8) -> &'static str
         31 => "Missing",
         32 => "WrongKind",
         33 => "Outside",
-        _ => "Unknown",
+        34 => "Unknown",
+        _ => "",
     }
 }
 
