@@ -16,3 +16,5 @@ mod pavings;
 mod pool;
 #[cfg(test)]
 mod small_rows;
+#[cfg(test)]
+mod step_list;
