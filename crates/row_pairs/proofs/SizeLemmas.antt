@@ -25,7 +25,7 @@ slope_small s a v q h f =
       low = back (pos s) q (mul_lt_back (neg_ℤ (pos s)) (q +ℤ pos 1) (pos a) (some v a h) (low_atoms (q *ℤ pos a) (pos s *ℤ v) s a (neg_ℤ (pos s) *ℤ pos a) ((q +ℤ pos 1) *ℤ pos a) w f.gt (low_product s a) (add_mul q (pos 1) (pos a))));
       high = mul_le_back q (pos s) (pos a) (some v a h) (high_atoms (q *ℤ pos a) (pos s *ℤ v) s a w f.le);
     }
-
+  where
     wide : (v : ℤ) (a : ℕ) → unsigned_abs v < a → IsWithin a v
     wide v a h = let w = amount_within v in record { low = omega (arith, ints, w.low); high = omega (arith, ints, w.high) }
 

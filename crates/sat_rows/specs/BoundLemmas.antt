@@ -33,10 +33,10 @@ factor_positive : (layer : Layer) (slant : ℕ) (factor : ℤ) → IsMapped laye
     → pos 0 ≤ℤ factor
 factor_positive layer slant factor near = by_lt_z factor (pos 0)
     (λ less.
-      let m : (factor *ℤ pos (1000 * slant)) ≤ℤ (neg_ℤ (pos 1) *ℤ pos (1000 * slant)) =
-        mul_mono factor (neg_ℤ (pos 1)) (pos (1000 * slant)) (omega (arith, ints))
-        (omega (arith, ints)) in
-      absurd (omega (arith, ints, m, near.above, scale_some layer)))
+    let m : (factor *ℤ pos (1000 * slant)) ≤ℤ (neg_ℤ (pos 1) *ℤ pos (1000 * slant)) =
+    mul_mono factor (neg_ℤ (pos 1)) (pos (1000 * slant)) (omega (arith, ints))
+    (omega (arith, ints)) in
+    absurd (omega (arith, ints, m, near.above, scale_some layer)))
     (λ most. most)
 
 floors_order : (a b : ℤ) → a ≤ℤ b
@@ -46,11 +46,11 @@ floors_order a b h =
     let q = floor_is b (pos unit) (record { lt = tt }) in
     by_lt_z (int_div_euclid b (pos unit)) (int_div_euclid a (pos unit))
     (λ less.
-      let next = int_div_euclid b (pos unit) +ℤ pos 1 in
-      let m : (next *ℤ pos unit) ≤ℤ (int_div_euclid a (pos unit) *ℤ pos unit) =
-        mul_mono next (int_div_euclid a (pos unit)) (pos unit) (omega (arith, ints))
-        (record { le = tt }) in
-      absurd (omega (arith, ints, m, p.le, q.gt, h)))
+    let next = int_div_euclid b (pos unit) +ℤ pos 1 in
+    let m : (next *ℤ pos unit) ≤ℤ (int_div_euclid a (pos unit) *ℤ pos unit) =
+    mul_mono next (int_div_euclid a (pos unit)) (pos unit) (omega (arith, ints))
+    (record { le = tt }) in
+    absurd (omega (arith, ints, m, p.le, q.gt, h)))
     (λ most. most)
 
 -- seen from p, what both ends of a span straight up become by one mapping, the low end no more than
@@ -75,12 +75,12 @@ mapped_exist layer upward p x y z high far =
       factor_is = m.1;
       low = int_div_euclid (upward.lo *ℤ m.0) (pos unit);
       low_is = floor_near _ _ _ (record { lt = tt })
-        (floor_is (upward.lo *ℤ m.0) (pos unit) (record { lt = tt }));
+          (floor_is (upward.lo *ℤ m.0) (pos unit) (record { lt = tt }));
       high = int_div_euclid (upward.hi *ℤ m.0) (pos unit);
       high_is = floor_near _ _ _ (record { lt = tt })
-        (floor_is (upward.hi *ℤ m.0) (pos unit) (record { lt = tt }));
+          (floor_is (upward.hi *ℤ m.0) (pos unit) (record { lt = tt }));
       order = floors_order _ _
-        (mul_mono upward.lo upward.hi m.0 upward.ordered
+          (mul_mono upward.lo upward.hi m.0 upward.ordered
           (factor_positive layer _ m.0 m.1.factor_is));
     }
 
@@ -108,9 +108,9 @@ delay_exists : (layer : Layer) (upward : Option Span) (p : Pos) (x y z corrected
     → square (5 * 10 ^ 12) ≤ sum_of_squares (x -ℤ p.x) (y -ℤ p.y) (z -ℤ p.z)
     → range ≡ range_to x y z p
     → (delay : ℤ × ℤ) × ((lo hi : ℤ)
-      → IsDelay layer upward p
-        (record { x = x; y = y; z = z; corrected = corrected; range = range; lo = lo; hi = hi })
-        delay)
+    → IsDelay layer upward p
+    (record { x = x; y = y; z = z; corrected = corrected; range = range; lo = lo; hi = hi })
+    delay)
 delay_exists layer None p x y z corrected range high far range_is = ((pos 0, pos 0), λ lo hi. refl)
 delay_exists layer (Some upward) p x y z corrected range high far range_is =
     let d = mapped_exist layer upward p x y z (high upward refl) far in (
@@ -130,7 +130,7 @@ pub bound_exists : (delays : Delays) (declared : ℤ × ℤ) (root : GridBox) (p
     → range ≡ range_to x y z p
     → (lo : ℤ) × (hi : ℤ)
     × IsBound delays declared p
-      (record { x = x; y = y; z = z; corrected = corrected; range = range; lo = lo; hi = hi })
+    (record { x = x; y = y; z = z; corrected = corrected; range = range; lo = lo; hi = hi })
 bound_exists delays declared root p x y z corrected range high inside far range_is =
     let zenith = delay_exists Troposphere delays.zenith p x y z corrected range
     (λ s e. high_zenith delays root high s e p inside) far range_is in
