@@ -1,5 +1,5 @@
 -- The root behind a part of the search box.
-use Rattle.std.proofs.Common.{◌≡◌, ℕ, zero, suc, ◌*◌, ◌^◌, ◌≤◌, arith, true, refl, ap, ◌∙◌, Option, None, Some, max, min, option_map}
+use Rattle.std.proofs.Common.{◌≡◌, ℕ, zero, suc, ◌*◌, ◌^◌, ◌≤◌, arith, true, refl, ap, ◌∙◌, Option, None, Some, max, min, option_map, to_z, of_z, w128}
 use Rattle.std.specs.Prelude.{ℤ, pos, neg_ℤ, ◌+ℤ◌, ◌-ℤ◌, ◌≤ℤ◌}
 use Rattle.std.specs.Int.{int_min, int_max}
 use Rattle.std.proofs.lemmas.Int.{ints, clamps}
@@ -20,6 +20,7 @@ use Rattle.moving_tube.specs.Widened.{widened_side, widened_box}
 use Rattle.grid_model.proofs.PointLemmas.{low_corner as holds_low}
 use Rattle.range_contractor.proofs.TreeExists.{same_box}
 use Rattle.range_contractor.proofs.MeetLemmas.{same_side}
+use Rattle.log_tokens.specs.Fields.{IsTime}
 
 pub same_time : (x : ℤ) → IsTime x → to_z w128 (of_z w128 x) ≡ x
 same_time x time = omega (arith, ints, time.0, time.1)
