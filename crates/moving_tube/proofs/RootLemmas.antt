@@ -1,7 +1,7 @@
 -- The root behind a part of the search box.
-use Rattle.std.proofs.Common.{◌≡◌, ℕ, zero, suc, ◌*◌, ◌^◌, ◌≤◌, arith, true, refl, ap, ◌∙◌, Option, None, Some, max, min, option_map, to_z, of_z, w128}
+use Rattle.std.proofs.Common.{◌≡◌, ℕ, zero, suc, ◌*◌, ◌^◌, ◌≤◌, arith, true, refl, ap, ◌∙◌, Option, None, Some, max, min, option_map, to_z, of_z}
 use Rattle.std.specs.Prelude.{ℤ, pos, neg_ℤ, ◌+ℤ◌, ◌-ℤ◌, ◌≤ℤ◌}
-use Rattle.std.specs.Int.{int_min, int_max}
+use Rattle.std.specs.Int.{int_min, int_max, w128}
 use Rattle.std.proofs.lemmas.Int.{ints, clamps}
 use Rattle.range_contractor.proofs.BoxLemmas.{along, holds_at, holds_all, lies_through}
 use Rattle.subpaving.specs.LiveValues.{box_option}
