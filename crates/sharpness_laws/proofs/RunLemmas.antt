@@ -39,7 +39,7 @@ use Rattle.sharpness_laws.proofs.LineLemmas.{empty_shown, inner_shown}
 use Rattle.log_writer.proofs.GridSizes.{all_append, all_front, all_back}
 use Rattle.paving.proofs.PavedExists.{low_inside, high_inside}
 use Rattle.paving.proofs.PavedLemmas.{AreCutsInTurn, cuts_in_turn, box_opens}
-use Rattle.paving.proofs.TurnLemmas.{same_inside}
+use Rattle.box_pool.proofs.HullLemmas.{lies_refl}
 use Rattle.sat_model.proofs.FoldLemmas.{with_inside}
 use Rattle.range_contractor.proofs.TreeLemmas.{lies_itself as own_box}
 
@@ -324,7 +324,7 @@ module _ (m : Meaning) (sound : IsSound m) (rules : Rules) (search : Search) (bo
   module _ (test : BoxTest) (outliers : test.q ≡ rules.outliers) (rows : AreRowsOver m search search.root test.rows) (many : length test.rows ≡ count) (root : GridBox) (same : root ≡ search.root) where
     first_going : IsGoing root (first_paving test root)
     first_going = rw same (record {
-      in_use = record { outliers = outliers; rows = rows; many = many; inside = same_inside search.root };
+      in_use = record { outliers = outliers; rows = rows; many = many; inside = lies_refl search.root };
       lie = (grid.lies, tt);
     })
 

@@ -1,5 +1,5 @@
 use Rattle.std.proofs.Common.{refl, sym, ap₂, ◌∙◌, ℤ, Bool, Some, rules}
-use Rattle.tube_searches.proofs.RootLemmas.{same_time}
+use Rattle.moving_tube.proofs.RootLemmas.{same_time}
 use Rattle.epoch_rows.specs.Renewed.{hand_of}
 use Rattle.epoch_selection.specs.Searches.{epochs_left, search_in}
 use Rattle.paving_log.specs.Values.{block_of}
