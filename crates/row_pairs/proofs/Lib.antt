@@ -6,3 +6,4 @@ pub mod KeptLemmas
 pub mod FoundLemmas
 pub mod DecideLemmas
 pub mod TestLemmas
+pub mod MiddleLemmas

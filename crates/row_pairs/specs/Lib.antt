@@ -2,3 +2,4 @@ pub mod FormValues
 pub mod Leasts
 pub mod KeptForms
 pub mod PairsSoFar
+pub mod Arounds
