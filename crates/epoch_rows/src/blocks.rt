@@ -23,7 +23,7 @@ use rinex_obs::ObsEpoch;
 use sat_model::Rules;
 use sat_rows::RowSource;
 use std::alloc::Global;
-use step_lines::LoggedSteps;
+use step_columns::LoggedSteps;
 
 /// The block of an epoch, and what forms its rows anew.
 #[derive(Drop)]

@@ -24,8 +24,8 @@ impl Grammar<Settings> for SettingsText {
         Role::Settings
     }
 
-    fn read(&self, alloc: Global, bytes: Vec<u8>) -> Result<Settings, Notice> {
-        match read_settings(alloc, &bytes) {
+    fn read(&self, alloc: Global, bytes: &[u8]) -> Result<Settings, Notice> {
+        match read_settings(alloc, bytes) {
             Ok(settings) => with_motion(settings, self.moving),
             Err(error) => Err(Notice::of_settings(error)),
         }
@@ -47,8 +47,8 @@ impl Grammar<Nav> for NavText {
         Role::Nav
     }
 
-    fn read(&self, alloc: Global, bytes: Vec<u8>) -> Result<Nav, Notice> {
-        match read_nav_of(alloc, &bytes, self.both) {
+    fn read(&self, alloc: Global, bytes: &[u8]) -> Result<Nav, Notice> {
+        match read_nav_of(alloc, bytes, self.both) {
             Ok(nav) => Ok(nav),
             Err(error) => Err(Notice::of_nav(error)),
         }
@@ -72,8 +72,8 @@ impl<'a> Grammar<Obs> for ObsText<'a> {
         Role::Obs
     }
 
-    fn read(&self, alloc: Global, bytes: Vec<u8>) -> Result<Obs, Notice> {
-        match read_obs_of(alloc, &bytes, self.sought, self.position) {
+    fn read(&self, alloc: Global, bytes: &[u8]) -> Result<Obs, Notice> {
+        match read_obs_of(alloc, bytes, self.sought, self.position) {
             Ok(obs) => Ok(obs),
             Err(error) => Err(Notice::of_obs(error)),
         }

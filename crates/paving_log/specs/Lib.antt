@@ -8,5 +8,6 @@ pub mod Text
 pub mod Faults
 pub mod RowsText
 pub mod Taking
+pub mod Leading
 pub mod Answers
 pub mod CoverBoxes

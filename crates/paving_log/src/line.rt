@@ -3,7 +3,6 @@
 use crate::limits::Limits;
 use grid_model::Pos;
 use sat_model::{SatEntry, Step};
-use step_lines::StepName;
 
 /// The fields of the first line of a block.
 #[derive(Clone, Copy, Debug, PartialEq, Eq)]
@@ -57,7 +56,11 @@ pub enum LineName {
     Sat,
     Skip,
     Root,
-    Step(StepName),
+    Cut,
+    Split,
+    Out,
+    In,
+    Edge,
     Renew,
     Done,
 }

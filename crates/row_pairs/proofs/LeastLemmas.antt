@@ -71,13 +71,13 @@ lt_to a b h = grind (arith, ints)
 pub not_both : (b : Bool) → b ≡ false → IsTrue b → ⊥
 not_both b e t = absurd (grind arith)
 
-unfoldable pub at_middle : GridBox → Pos
+at_middle : GridBox → Pos
 at_middle part = record { x = middle part.x; y = middle part.y; z = middle part.z }
 
-pub from_low : (s : Side) → s.lo ≤ℤ s.hi → s.lo ≤ℤ middle s
+from_low : (s : Side) → s.lo ≤ℤ s.hi → s.lo ≤ℤ middle s
 from_low s h = omega (arith, ints, above_is s.hi s.lo)
 
-pub holds_middle : (part : GridBox) → part.x.lo ≤ℤ part.x.hi → part.y.lo ≤ℤ part.y.hi
+holds_middle : (part : GridBox) → part.x.lo ≤ℤ part.x.hi → part.y.lo ≤ℤ part.y.hi
     → part.z.lo ≤ℤ part.z.hi → box_holds part (at_middle part) ≡ true
 unfolding at_middle
 holds_middle part x y z =

@@ -6,4 +6,3 @@ pub mod KeptLemmas
 pub mod FoundLemmas
 pub mod DecideLemmas
 pub mod TestLemmas
-pub mod MiddleLemmas

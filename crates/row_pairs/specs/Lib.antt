@@ -2,4 +2,3 @@ pub mod FormValues
 pub mod Leasts
 pub mod KeptForms
 pub mod PairsSoFar
-pub mod Arounds

@@ -19,16 +19,6 @@ pub(crate) struct Axis {
     pub ghost side_small: { side ≤ 10000000000000 },
 }
 
-impl Default for Axis {
-    fn default() -> Self {
-        Axis {
-            away: 0,
-            place: 0,
-            side: 0,
-        }
-    }
-}
-
 /// The axis of a place with these spans and a box with these ends.
 pub(crate) fn axis_of(place: &Span, lo: i64, hi: i64) -> Axis
     requires place { IsPlaceSize place.now.lo × IsPlaceSize place.now.hi }

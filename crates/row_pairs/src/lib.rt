@@ -6,13 +6,11 @@
 //! left out, two others conflict. Places, ranges and offsets are in um.
 #![tactic(auto)]
 
-mod arounds;
 mod axes;
 mod bounds;
 mod conflicts;
 mod forms;
 mod laws;
-mod middles;
 mod pairs;
 mod row_forms;
 mod search;
@@ -20,4 +18,5 @@ mod shown;
 
 pub use forms::Form;
 pub use laws::{empty_or_not, nothing_fits};
+pub use row_forms::form_of;
 pub use shown::shown_empty_by_pairs;

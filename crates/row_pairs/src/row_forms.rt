@@ -3,56 +3,33 @@
 ghost use Rattle.std.specs.Prelude.{◌≡◌, ◌-ℤ◌};
 ghost use Rattle.grid_model.specs.Boxes.{grid_box};
 ghost use Rattle.grid_model.specs.Sizes.{IsWithin};
-ghost use Rattle.row_pairs.specs.Arounds.{around, around_value, form_by};
+ghost use Rattle.sat_model.specs.Pairs.{form_of};
 ghost use Rattle.row_pairs.specs.FormValues.{form_value};
 
-use crate::arounds::Around;
 use crate::axes::axis_of;
 use crate::bounds::{arm_of, away_square, lower_of, play_of, slope_of, spread_of, upper_of};
 use crate::forms::Form;
 use grid_model::Box3;
 use sat_model::Row;
 
-/// The row around the box.
-pub(crate) fn around_of(row: &Row, part: &Box3) -> Around
-    ensures { around_value result ≡ around (grid_box part.now) row.now }
+/// The row's form around the box.
+pub fn form_of(row: &Row, part: &Box3) -> Form
+    ensures { form_value result ≡ form_of (grid_box part.now) row.now }
 {
     let x = axis_of(&row.x, part.lo.x, part.hi.x);
     let y = axis_of(&row.y, part.lo.y, part.hi.y);
     let z = axis_of(&row.z, part.lo.z, part.hi.z);
     let square = away_square(&x, &y, &z);
-    Around {
-        x,
-        y,
-        z,
-        square,
-        arm: arm_of(square),
-        least: least_end(row),
-        most: most_end(row),
-    }
-}
-
-/// The form of a row that is so around a box.
-pub(crate) fn form_of(around: &Around) -> Form
-    ensures { form_value result ≡ form_by (around_value around.now) }
-{
-    let (x, y, z) = (&around.x, &around.y, &around.z);
-    let play = play_of(x, y, z);
-    let spread = spread_of(x, y, z);
+    let arm = arm_of(square);
+    let play = play_of(&x, &y, &z);
+    let spread = spread_of(&x, &y, &z);
     let rounding = x.side + y.side + z.side;
     Form {
-        x: slope_of(around.arm, x.away),
-        y: slope_of(around.arm, y.away),
-        z: slope_of(around.arm, z.away),
-        upper: upper_of(around.arm, around.most, around.square, play, rounding),
-        lower: lower_of(
-            around.arm,
-            around.least,
-            around.square,
-            play,
-            spread,
-            rounding,
-        ),
+        x: slope_of(arm, x.away),
+        y: slope_of(arm, y.away),
+        z: slope_of(arm, z.away),
+        upper: upper_of(arm, most_end(row), square, play, rounding),
+        lower: lower_of(arm, least_end(row), square, play, spread, rounding),
     }
 }
 

@@ -11,28 +11,28 @@ use Rattle.input_files.proofs.input_grammars.ObsTextGrammarObs.read.Goals as goa
 pub returns-in-Ok-clause-same : goal.returns-in-Ok-clause-same
 returns-in-Ok-clause-same c =
     let t = c.args.self.now in
-    rw (sym c.deref.ensures.value) (read_settles (obs_text t.sought.now t.position) c.deref.result.now (observations_of c.in-Ok.obs)
+    read_settles (obs_text t.sought.now t.position) c.args.bytes.now (observations_of c.in-Ok.obs)
     c.in-Ok.ensures.exact
-    (no_obs_fault t.sought.now t.position c.deref.result.now c.in-Ok.ensures.first))
+    (no_obs_fault t.sought.now t.position c.args.bytes.now c.in-Ok.ensures.first)
 
 pub returns-in-Ok-clause-usual : goal.returns-in-Ok-clause-usual
 returns-in-Ok-clause-usual c =
     let t = c.args.self.now in
     let e = c.in-Ok.ensures in
-    rw (sym c.deref.ensures.value) (record {
+    record {
       usual = record { numbered = e.numbered; distinct = e.distinct; named = each_named (are_both t.sought.now) (observations_of c.in-Ok.obs).epochs e.named };
-      known = known t.sought.now t.position c.deref.result.now (observations_of c.in-Ok.obs)
+      known = known t.sought.now t.position c.args.bytes.now (observations_of c.in-Ok.obs)
           e.records;
-    })
+    }
 
 pub returns-in-Err-clause-gives : goal.returns-in-Err-clause-gives
 returns-in-Err-clause-gives c =
     let t = c.args.self.now in
-    rw (sym c.deref.ensures.value) (rw c.of_obs.ensures (obs_gives t.sought.now t.position c.deref.result.now c.in-Err.error
-    c.in-Err.ensures.fault))
+    rw c.of_obs.ensures (obs_gives t.sought.now t.position c.args.bytes.now c.in-Err.error
+    c.in-Err.ensures.fault)
 
 pub returns-in-Err-clause-same : goal.returns-in-Err-clause-same
 returns-in-Err-clause-same c =
     let text = obs_text c.args.self.now.sought.now c.args.self.now.position in
-    rw (sym c.deref.ensures.value) (subst (SettlesErr text c.deref.result.now) (sym c.of_obs.ensures)
-    (file_settles text c.deref.result.now (λ r. input.Obs r) c.in-Err.error c.in-Err.ensures.exact))
+    subst (SettlesErr text c.args.bytes.now) (sym c.of_obs.ensures)
+    (file_settles text c.args.bytes.now (λ r. input.Obs r) c.in-Err.error c.in-Err.ensures.exact)

@@ -8,6 +8,6 @@ use Rattle.input_files.proofs.log_grammars.LogTextGrammarLog.read.Goals as goal
 
 pub returns-in-Ok-clause-same : goal.returns-in-Ok-clause-same
 returns-in-Ok-clause-same c =
-    read_settles log_text c.in-Ok.text.value.items (log_value c.in-Ok.log) c.in-Ok.ensures.exact
-    (no_first role.Log IsLogText FirstFault c.in-Ok.text.value.items (log_value c.in-Ok.log)
+    read_settles log_text c.args.bytes.now (log_value c.in-Ok.log) c.in-Ok.ensures.exact
+    (no_first role.Log IsLogText FirstFault c.args.bytes.now (log_value c.in-Ok.log)
     c.in-Ok.ensures.value)

@@ -7,6 +7,6 @@ use Rattle.input_files.proofs.log_grammars.RowsTextGrammarLog.read.Goals as goal
 
 pub returns-in-Ok-clause-same : goal.returns-in-Ok-clause-same
 returns-in-Ok-clause-same c =
-    read_settles rows_text c.in-Ok.text.value.items (log_value c.in-Ok.rows) c.in-Ok.ensures.exact
-    (no_first role.Rows IsRowsText FirstRowsFault c.in-Ok.text.value.items (log_value c.in-Ok.rows)
+    read_settles rows_text c.args.bytes.now (log_value c.in-Ok.rows) c.in-Ok.ensures.exact
+    (no_first role.Rows IsRowsText FirstRowsFault c.args.bytes.now (log_value c.in-Ok.rows)
     c.in-Ok.ensures.value)

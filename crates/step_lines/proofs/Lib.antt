@@ -1,3 +1,0 @@
-pub mod LeadingLemmas
-pub mod LineLemmas
-pub mod WrittenLemmas
