@@ -18,7 +18,7 @@ pub(crate) struct StepList {
     pub(crate) renewals: u64,
     room: u64,
     sound: u64,
-    faults: u64,
+    pub(crate) faults: u64,
 }
 
 impl StepList {
