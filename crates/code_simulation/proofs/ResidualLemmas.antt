@@ -2,14 +2,12 @@
 use Rattle.std.proofs.Common.{◌≡◌, ℕ, ◌+◌, ◌*◌, ◌/◌, ◌≤◌, subst, lit≤, arith}
 use Rattle.std.specs.Prelude.{ℤ, pos, ◌+ℤ◌, ◌-ℤ◌, ◌≤ℤ◌}
 use Rattle.std.proofs.lemmas.Int.{ints}
-use Rattle.broadcast_orbit.specs.OrbitSizes.{greatest_distance, IsOrbitDistance}
-use Rattle.broadcast_orbit.proofs.PairLemmas.{square_natural, side_within}
 use Rattle.fix_interval.specs.Places.{PlaceEnds}
 use Rattle.earth_rotation.specs.RoundSizes.{turned_reach, range_amount, range_width}
-use Rattle.earth_rotation.specs.TurnSizes.{near_reach, narrow_width, reach_after}
+use Rattle.earth_rotation.specs.TurnSizes.{near_reach, reach_after}
 use Rattle.fix_interval.specs.declared.place.Place.{Place}
 use Rattle.fix_interval.specs.declared.exact.Exact.{Exact}
-use Rattle.fix_interval.specs.Factors.{Holds, HasEnds}
+use Rattle.fix_interval.specs.Factors.{HasEnds}
 use Rattle.pseudorange_prep.specs.Ranges.{IsNarrow}
 use Rattle.code_simulation.specs.SearchSizes.{code_amount}
 use Rattle.code_simulation.specs.Residuals.{um_of}
@@ -17,9 +15,7 @@ use Rattle.grid_model.specs.Amounts.{above}
 use Rattle.grid_model.specs.Boxes.{GridBox}
 use Rattle.grid_model.specs.Intervals.{Between, Ends}
 use Rattle.grid_model.specs.Lengths.{longest_length, spare_of}
-use Rattle.grid_model.specs.Sizes.{IsWithin}
 use Rattle.grid_model.proofs.AmountLemmas.{above_is}
-use Rattle.grid_model.proofs.IntervalLemmas.{low_member, high_member}
 use Rattle.fix_interval.proofs.PlaceLemmas.{wider_place}
 
 pub no_side : (z : ℤ) → above z z ≡ 0

@@ -4,7 +4,6 @@ use Rattle.std.specs.Prelude.{ℤ, pos, neg_ℤ, ◌+ℤ◌, ◌≤ℤ◌}
 use Rattle.std.proofs.lemmas.Int.{ints}
 use Rattle.grid_model.specs.Amounts.{square}
 use Rattle.grid_model.specs.Angles.{unit}
-use Rattle.grid_model.specs.Sizes.{IsWithin}
 use Rattle.grid_model.specs.Intervals.{Ends}
 use Rattle.grid_model.specs.Roots.{root}
 use Rattle.grid_model.specs.Rounding.{IsTightQuotient}

@@ -1,10 +1,10 @@
 -- Lengths of vectors: the roots of least and greatest sums of squares.
-use Rattle.std.proofs.Common.{◌≡◌, ℕ, ◌+◌, ◌-◌, ◌*◌, ◌^◌, ◌≤◌, arith}
+use Rattle.std.proofs.Common.{◌≡◌, ℕ, ◌+◌, ◌-◌, ◌*◌, ◌≤◌, arith}
 use Rattle.std.specs.Prelude.{ℤ, pos}
 use Rattle.std.proofs.lemmas.Int.{ints}
 use Rattle.grid_model.specs.Intervals.{Ends}
 use Rattle.grid_model.specs.Roots.{IsRoot, root}
-use Rattle.grid_model.specs.Squares.{least_end, greatest_end, greatest_square}
+use Rattle.grid_model.specs.Squares.{least_end, greatest_end}
 use Rattle.grid_model.proofs.RootLemmas.{root_mono, square-mono, root_is}
 use Rattle.grid_model.proofs.SquareLemmas.{one_part, least_le_greatest_end, squares_fit, ends_apart}
 use Rattle.fix_interval.specs.declared.place.Place.{Place}

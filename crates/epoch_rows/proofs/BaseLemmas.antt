@@ -1,5 +1,5 @@
 -- The bases of an epoch's usable satellites, in the order of the rows of its block.
-use Rattle.std.proofs.Common.{◌≡◌, ℕ, zero, suc, ◌<◌, List, [], ◌∷◌, length, map, refl, sym, subst, ◌∙◌, arith}
+use Rattle.std.proofs.Common.{◌≡◌, ℕ, suc, ◌<◌, List, [], ◌∷◌, length, map, refl, sym, subst, ◌∙◌, arith}
 use Rattle.std.specs.Prelude.{ℤ, None, Some, get_or, slice_get}
 use Rattle.std.proofs.lemmas.List.{length-map}
 use Rattle.std.proofs.lemmas.Option.{slice_get_read}
@@ -9,10 +9,8 @@ use Rattle.epoch_rows.specs.Laws.{sat_in_place}
 use Rattle.epoch_rows.specs.Renewed.{Hand, GivesRow, IsGrownFrom, IsBaseIn, AreBasesIn, CanFormEach}
 use Rattle.epoch_selection.specs.Searches.{Search}
 use Rattle.gnss_model.specs.declared.satellites.Sat.{Sat}
-use Rattle.grid_model.specs.Boxes.{GridBox, grid_box, IsInside}
-use Rattle.grid_model.specs.declared.boxes.Box3.{Box3}
+use Rattle.grid_model.specs.Boxes.{GridBox}
 use Rattle.rinex_obs.specs.declared.obs.SatObs.{SatObs}
-use Rattle.sat_model.specs.Contractors.{LiesIn}
 use Rattle.sat_model.specs.Logs.{rows_of}
 use Rattle.sat_model.specs.declared.rows.Row.{Row}
 use Rattle.sat_model.specs.declared.rows.SatEntry.{SatEntry}

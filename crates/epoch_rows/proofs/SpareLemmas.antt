@@ -1,13 +1,13 @@
 -- How wide a row over a root may be.
 use Rattle.std.proofs.Common.{ℕ, ◌*◌, ◌^◌, ◌≤◌, refl, arith}
-use Rattle.std.specs.Prelude.{ℤ, ◌≤ℤ◌, nat_abs, Option, None, Some}
+use Rattle.std.specs.Prelude.{ℤ, ◌≤ℤ◌, Option, None, Some}
 use Rattle.std.proofs.lemmas.Nat.{mul-le}
 use Rattle.std.proofs.lemmas.Int.{ints}
 use Rattle.epoch_rows.specs.Grown.{greatest_spare, greatest_err_spare}
 use Rattle.grid_model.specs.Amounts.{above}
 use Rattle.grid_model.specs.Boxes.{grid_box}
 use Rattle.grid_model.specs.Lengths.{longest_length, spare_of}
-use Rattle.grid_model.specs.Sizes.{IsBoxSize, IsWithin}
+use Rattle.grid_model.specs.Sizes.{IsBoxSize}
 use Rattle.gnss_model.specs.Delays.{IsDelayWithin, AreDelays, span_amount, spare_over, delay_spare, err_spare_of}
 use Rattle.grid_model.specs.declared.boxes.Box3.{Box3}
 use Rattle.gnss_model.specs.declared.delays.Delays.{Delays}

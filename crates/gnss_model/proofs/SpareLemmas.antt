@@ -1,5 +1,5 @@
 -- How far a delay straight up may spread over the largest box.
-use Rattle.std.proofs.Common.{ℕ, ◌+◌, ◌*◌, ◌/◌, ◌^◌, ◌≤◌, arith}
+use Rattle.std.proofs.Common.{ℕ, ◌*◌, ◌^◌, ◌≤◌, arith}
 use Rattle.std.proofs.lemmas.Nat.{mul-le}
 use Rattle.gnss_model.specs.Delays.{spare_over}
 use Rattle.gnss_model.specs.declared.delays.Layer.{Layer}

@@ -1,10 +1,10 @@
 -- The formulas give the least and the greatest amount.
 use Rattle.std.proofs.Common.{◌≡◌, ◌+◌, ◌≤◌, max, arith}
 use Rattle.std.specs.Prelude.{ℤ, pos, negsuc, ◌≤ℤ◌, ◌-ℤ◌, unsigned_abs}
+use Rattle.std.specs.Int.Signed.{≤ℤ_refl}
 use Rattle.std.proofs.lemmas.Int.{ints}
 use borrow.Author.Differences.{up, down}
 use Rattle.grid_model.specs.Amounts.{least_amount, greatest_amount, above}
-use Rattle.grid_model.proofs.PlainLemmas.{same_le}
 
 up_or_down : (z : ℤ) → up z + down z ≡ max (up z) (down z)
 up_or_down (pos n) = omega arith
@@ -36,6 +36,6 @@ pub least_le_greatest : (a b c d : ℤ) → a ≤ℤ b → c ≤ℤ d
 least_le_greatest a b c d h k =
     omega (
       arith,
-      least_amount_le a b c d a c (same_le a) h (same_le c) k,
-      greatest_amount_ge a b c d a c (same_le a) h (same_le c) k,
+      least_amount_le a b c d a c (≤ℤ_refl a) h (≤ℤ_refl c) k,
+      greatest_amount_ge a b c d a c (≤ℤ_refl a) h (≤ℤ_refl c) k,
     )

@@ -12,3 +12,4 @@ pub mod ListLemmas
 pub mod OrderLemmas
 pub mod SpreadRoots
 pub mod PlainLemmas
+pub mod BoxLemmas

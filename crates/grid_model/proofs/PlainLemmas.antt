@@ -1,6 +1,6 @@
 -- Small facts of numbers that many crates need.
 use Rattle.std.proofs.Common.{◌≡◌, ℕ, ◌+◌, ◌<◌, ◌≤◌, ◌⊎◌, arith, Bool, true, false, cond, w64, to_z, of_z}
-use Rattle.std.specs.Prelude.{ℤ, pos, ◌*ℤ◌, ◌≤ℤ◌, nat_abs}
+use Rattle.std.specs.Prelude.{ℤ, pos, ◌*ℤ◌, nat_abs}
 use Rattle.std.proofs.lemmas.Int.{ints}
 use Rattle.grid_model.specs.Intervals.{Between}
 use Rattle.grid_model.specs.Sizes.{IsWithin, IsBoxSize}
@@ -34,9 +34,6 @@ at_most_one true = omega arith
 at_most_one false = omega arith
 
 -- ---- orders
-
-pub same_le : (z : ℤ) → z ≤ℤ z
-same_le z = omega (arith, ints)
 
 pub below_or_last : (i n : ℕ) → i < n + 1 → (i < n) ⊎ (i ≡ n)
 below_or_last i n h = grind arith

@@ -1,9 +1,9 @@
 -- Settings that a receiver that moves can use, and those that lack its speed.
 use Rattle.std.proofs.Common.{◌≡◌, ℕ, Bool, true, false, List, Option, None, Some, Result, Ok, Err}
-use Rattle.std.proofs.Common.{inl, inr, refl, sym, ap, subst, ◌∙◌}
+use Rattle.std.proofs.Common.{inl, inr, refl, sym, ap, ◌∙◌}
 use Rattle.std.specs.Prelude.{IfErr, IfOk}
 use Rattle.error_bounds.specs.Faults.{Found}
-use Rattle.error_bounds.specs.Reading.{GivesFault, GivesSettings, RefusesFirst, Tells, value_of_settings}
+use Rattle.error_bounds.specs.Reading.{RefusesFirst, Tells, value_of_settings}
 use Rattle.error_bounds.specs.Texts.{SettingsValue, IsSettings, IsFirstFault}
 use Rattle.error_bounds.specs.declared.fault.SettingsError.{SettingsError}
 use Rattle.error_bounds.specs.declared.fault.SettingsError.TheVariants as error
@@ -11,7 +11,7 @@ use Rattle.error_bounds.specs.declared.fault.SettingsFault.{SettingsFault}
 use Rattle.error_bounds.specs.declared.settings.Settings.{Settings}
 use Rattle.input_files.proofs.GrammarLemmas.{SettlesErr, memory_settles, read_settles, refused_settles}
 use Rattle.input_files.specs.Inputs.{NamesSettingsFault, settings_text}
-use Rattle.input_files.specs.Motion.{HasMotion, HasSpeed, LacksSpeed, NamesFaultFor, no_speed, speed_in, speed_missed, speed_of}
+use Rattle.input_files.specs.Motion.{HasMotion, LacksSpeed, no_speed, speed_in, speed_missed, speed_of}
 use Rattle.input_files.specs.Reading.{Gives, GivesOrEnds, Settles, valued}
 use Rattle.input_files.specs.Statuses.{notice_of_settings, status_of}
 use Rattle.input_files.specs.declared.input_fault.InputFault.TheVariants as input

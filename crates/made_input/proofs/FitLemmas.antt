@@ -1,6 +1,7 @@
 -- A made satellite is usable and, where it isn't the outlier of its epoch, consistent with the place at clock offset 0.
 use Rattle.std.proofs.Common.{◌≡◌, ℕ, zero, suc, ◌+◌, ◌-◌, ◌*◌, ◌/◌, ◌%◌, ◌^◌, ◌<◌, ◌≤◌, List, [], ◌∷◌, length, map, refl, sym, ap, subst, ◌∙◌, arith, lit≤, inl, inr, false, None, Some}
 use Rattle.std.specs.Prelude.{ℤ, pos, negsuc, neg_ℤ, ◌+ℤ◌, ◌-ℤ◌, ◌*ℤ◌, ◌≤ℤ◌, ◌<ℤ◌, ◌==◌, slice_get, unsigned_abs, Option, option_map}
+use Rattle.std.specs.Int.Signed.{≤ℤ_refl}
 use Rattle.std.specs.List.{AllByRecursion}
 use Rattle.std.proofs.lemmas.Bool.{cases_Bool}
 use Rattle.std.proofs.lemmas.Int.{ints}
@@ -50,7 +51,6 @@ use Rattle.made_input.proofs.RangeBounds.{code_in_range, drawn_below, IsPlausibl
 use Rattle.made_input.proofs.RecordLemmas.{record_at, eight_records}
 use Rattle.made_input.proofs.TimeLemmas.{tag_is, toc_is, week_is}
 use Rattle.grid_model.proofs.OrderLemmas.{le_prop, lt_prop}
-use Rattle.grid_model.proofs.PlainLemmas.{same_le}
 use Rattle.exact_decimal.proofs.Mantissas.{other_byte as behind_other}
 use Rattle.exact_decimal.proofs.Signs.{is_byte as is_there}
 
@@ -114,7 +114,7 @@ observed_some (pos (suc n)) h = refl
 observed_some (negsuc n) h = absurd (omega (arith, ints, h))
 
 wide_of : ℤ → Wide
-wide_of z = record { lo = z; hi = z; ordered = same_le z }
+wide_of z = record { lo = z; hi = z; ordered = ≤ℤ_refl z }
 
 rounded : (code : ℤ)
     → IsRounded (wide_of (code *ℤ pos 1000)) (record { digits = code; ten = neg_ℤ (pos 3) }) Length
@@ -263,7 +263,7 @@ is_chain seed j k records s known =
       are = (
         record {
           pr = s.code *ℤ pos 1000;
-          pr_is = record { from = same_le (s.code *ℤ pos 1000); to = same_le (s.code *ℤ pos 1000) };
+          pr_is = record { from = ≤ℤ_refl (s.code *ℤ pos 1000); to = ≤ℤ_refl (s.code *ℤ pos 1000) };
           tsv = c.tsv;
           tsv_is = c.tsv_is;
           n = c.n;

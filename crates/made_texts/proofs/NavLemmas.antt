@@ -18,7 +18,7 @@ use Rattle.rinex_text.specs.Headers.{IsVersion, version_line, header_from}
 use Rattle.rinex_text.specs.Lines.{TextLine}
 use Rattle.rinex_text.proofs.DateLemmas.{in_time}
 use Rattle.rinex_nav.specs.Fields.{IsField, SourceFields, MiddleFields, LastFields, AllFields, IsClockTime, zero_decimal}
-use Rattle.rinex_nav.specs.Records.{Clock, is_read, clock_line, further_line, record_from}
+use Rattle.rinex_nav.specs.Records.{is_read, clock_line, further_line, record_from}
 use Rattle.rinex_nav.specs.Records as reader
 use Rattle.rinex_nav.specs.Files.{records_from, nav_file, IsNavFile}
 use Rattle.decimal_digits.specs.Digits.{last_digits}

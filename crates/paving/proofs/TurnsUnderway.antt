@@ -24,7 +24,7 @@ use Rattle.paving.specs.declared.counts.Counts.{Counts}
 use Rattle.paving.proofs.CutLemmas.{opens_last}
 use Rattle.paving.proofs.TurnLemmas.{turn_inside}
 use Rattle.paving.proofs.Underway.{AreFew, counted_box, IsInHand, in_hand, ends_box, GoesOn, goes_on, can_open, counts_with_box}
-use Rattle.box_pool.proofs.HullLemmas.{lies_refl}
+use Rattle.grid_model.proofs.BoxLemmas.{lies_refl}
 
 -- the test by other rows
 abbrev pub test_by : BoxTest → List Row → BoxTest

@@ -1,8 +1,7 @@
 -- Rows that hold own rows keep what fits the satellites, and what surely fits the rows fits the satellites.
-use Rattle.std.proofs.Common.{◌≡◌, ℕ, zero, suc, ◌+◌, ◌<◌, ◌≤◌, arith, Bool, true, false, cond, List, [], ◌∷◌, ◌++◌, length, get_or, subst, inl, inr, refl, sym, ap, ◌∙◌, Option, None, Some}
+use Rattle.std.proofs.Common.{◌≡◌, ℕ, zero, suc, ◌+◌, ◌<◌, ◌≤◌, arith, Bool, true, false, cond, List, [], ◌∷◌, ◌++◌, length, subst, inl, inr, refl, sym, ap, ◌∙◌, Option, None, Some}
 use Rattle.std.specs.Prelude.{ℤ, pos, ◌-ℤ◌, ◌≤ℤ◌, slice_get, is_none}
 use Rattle.std.specs.List.{AllByRecursion}
-use Rattle.std.proofs.lemmas.Bool.{cases_Bool}
 use Rattle.std.proofs.lemmas.Int.{ints}
 use Rattle.std.proofs.lemmas.List.Sums.{sum_by-cons}
 use Rattle.epoch_selection.specs.Searches.{Search, searches_in}
@@ -32,7 +31,7 @@ use Rattle.gnss_model.specs.declared.delays.Delays.{Delays}
 use Rattle.sat_model.specs.declared.steps.Step.{Step}
 use Rattle.sat_model.specs.declared.steps.Step.TheVariants.{Cut, Split, Outside, Inside, Edge}
 use Rattle.sat_model.proofs.CoverLemmas.{inside_holds, PossibleInEach, covers_each, epoch_cover, some_live}
-use Rattle.sat_model.proofs.FoldLemmas.{option_weight, weight, held_by, conserved, root_weight}
+use Rattle.sat_model.proofs.FoldLemmas.{weight, held_by, conserved, root_weight}
 use Rattle.sat_rows.specs.Chains.{Chain}
 use Rattle.sat_rows.specs.Fitting.{IsConsistent, Agrees, Fits, FitsEpoch}
 use Rattle.sat_rows.specs.Meanings.{Meaning, IsSound}

@@ -1,6 +1,7 @@
 -- Lists in falling order, and how many of their numbers are greater than one.
 use Rattle.std.proofs.Common.{◌≡◌, refl, ℕ, ◌+◌, ◌-◌, ◌<◌, ◌≤◌, min, List, [], ◌∷◌, ◌++◌, length, take, map, get_or, set, true, false, arith, sym, ap, ◌∙◌, ◌⊎◌, inl, inr}
 use Rattle.std.specs.Prelude.{ℤ, pos, ◌≤ℤ◌, ◌<ℤ◌}
+use Rattle.std.specs.Int.Signed.{≤ℤ_refl}
 use Rattle.std.proofs.lemmas.Int.{ints}
 use Rattle.std.proofs.lemmas.Bool.{cases_Bool, cases_eq}
 use Rattle.std.proofs.lemmas.List.{map_more, length-set, length-append, get_or-set_same, get_or-set_other}
@@ -11,7 +12,6 @@ use lib.Signed.{le_z, lt_z}
 use Rattle.relaxed_meet.specs.Kept.{above, bit, IsFalling, IsKeptUpTo, Keeps}
 use Rattle.relaxed_meet.proofs.CountLemmas.{count_at_least, count_at_most, count_of_all}
 use Rattle.grid_model.proofs.IntervalLemmas.{le_z_trans as at_least}
-use Rattle.grid_model.proofs.PlainLemmas.{same_le}
 
 pub lt_true : (a b : ℤ) → a <ℤ b → lt_z a b ≡ true
 lt_true a b h = grind (arith, ints)
@@ -63,7 +63,7 @@ falling_set xs i c falling within more front = record { falls = falls }
         let inside_old : b < length xs = omega (arith, length-set xs i c) in
         elim (cases_eq a i) [
           | inl a_is ↦ elim (cases_eq b i) [
-            | inl b_is ↦ rw (a_is, b_is) (same_le _)
+            | inl b_is ↦ rw (a_is, b_is) (≤ℤ_refl _)
             | inr b_not ↦ le_of_same _ _ _ _ (get_or-set_other xs i b c (pos 0) b_not) (ap (λ n. get_or (set xs i c) n (pos 0)) a_is ∙ here)
                 (at_least _ _ _ (falling.falls i b (omega arith) inside_old) more)
           ]

@@ -1,5 +1,5 @@
 -- Where no number lies in all but at most q of some spans, none lies in all but at most q of all.
-use Rattle.std.proofs.Common.{◌≡◌, ℕ, ◌+◌, ◌-◌, ◌<◌, ◌≤◌, List, [], ◌∷◌, ◌++◌, length, count_by, map, take, get_or, min, sym, subst, arith, refl, ap, cond, Bool, true, false}
+use Rattle.std.proofs.Common.{◌≡◌, ℕ, ◌+◌, ◌-◌, ◌<◌, ◌≤◌, List, [], ◌∷◌, ◌++◌, length, count_by, map, take, get_or, min, sym, subst, arith, refl, ap, cond}
 use Rattle.std.specs.Prelude.{ℤ, None}
 use Rattle.std.proofs.lemmas.List.{length-map, length-append, map_more}
 use Rattle.std.proofs.lemmas.List.Sums.{sum_by-append, sum_by-cons}

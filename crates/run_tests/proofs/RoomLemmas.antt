@@ -11,7 +11,7 @@ use Rattle.input_files.specs.Inputs.{InputsValue, ReadsFor, ReadsNav, ReadsObs, 
 use Rattle.input_files.specs.Zones.{zones_text}
 use Rattle.input_files.specs.Logs.{log_text, rows_text}
 use Rattle.input_files.specs.Reading as reading
-use Rattle.input_files.specs.Reading.{Text, Breaks, MayBreak, IsCounted, Reading, Found, valued, Named, Then, Returns, ReadsFile, limit_of, file_in, LeavesFiles, NamedSlots, Untouched}
+use Rattle.input_files.specs.Reading.{Text, Breaks, MayBreak, Reading, Found, valued, Named, Then, Returns, ReadsFile, limit_of, LeavesFiles, NamedSlots}
 use Rattle.input_files.specs.Statuses.{status_of}
 use Rattle.input_files.specs.declared.inputs.Inputs.{Inputs}
 use Rattle.input_files.specs.declared.limits.Limits.{Limits}

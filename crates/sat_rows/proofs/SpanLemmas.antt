@@ -2,11 +2,6 @@
 use Rattle.std.proofs.Common.{◌≡◌, ◌∙◌, ap, lit≤, ℕ, ◌+◌, ◌*◌, ◌^◌, ◌≤◌, arith}
 use Rattle.std.specs.Prelude.{ℤ, pos, ◌+ℤ◌, ◌-ℤ◌, ◌*ℤ◌, ◌≤ℤ◌, Some}
 use Rattle.std.proofs.lemmas.Int.{ints}
-use Rattle.broadcast_orbit.specs.OrbitSizes.{greatest_distance, IsOrbitDistance}
-use Rattle.broadcast_orbit.proofs.PairLemmas.{square_natural, side_within}
-use Rattle.fix_interval.specs.Places.{PlaceEnds}
-use Rattle.earth_rotation.specs.TurnSizes.{near_reach, narrow_width}
-use Rattle.fix_interval.specs.declared.place.Place.{Place}
 use Rattle.fix_interval.specs.declared.exact.Exact.{Exact}
 use Rattle.fix_interval.specs.Factors.{Holds, HasEnds}
 use Rattle.fix_interval.proofs.NearLemmas.{near_exists}

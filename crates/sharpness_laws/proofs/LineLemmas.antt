@@ -1,5 +1,5 @@
 -- A box that is clear by six W and two G is decided by the rows in use.
-use Rattle.std.proofs.Common.{◌≡◌, ℕ, zero, suc, ◌+◌, ◌*◌, ◌-◌, ◌≤◌, arith, List, [], ◌∷◌, length, count_by, cond, Bool, true, false, inl, inr, subst}
+use Rattle.std.proofs.Common.{◌≡◌, ℕ, zero, suc, ◌+◌, ◌*◌, ◌-◌, ◌≤◌, arith, List, [], ◌∷◌, length, count_by, cond, true, inl, inr, subst}
 use Rattle.std.specs.Prelude.{ℤ, None, Some}
 use Rattle.std.proofs.lemmas.Bool.{cases_Bool, and_parts as both}
 use Rattle.std.proofs.lemmas.List.Sums.{sum_by-cons}

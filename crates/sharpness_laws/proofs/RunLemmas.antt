@@ -39,7 +39,7 @@ use Rattle.sharpness_laws.proofs.LineLemmas.{empty_shown, inner_shown}
 use Rattle.log_writer.proofs.GridSizes.{all_append, all_front, all_back}
 use Rattle.paving.proofs.PavedExists.{low_inside, high_inside}
 use Rattle.paving.proofs.PavedLemmas.{AreCutsInTurn, cuts_in_turn, box_opens}
-use Rattle.box_pool.proofs.HullLemmas.{lies_refl}
+use Rattle.grid_model.proofs.BoxLemmas.{lies_refl}
 use Rattle.sat_model.proofs.FoldLemmas.{with_inside}
 use Rattle.range_contractor.proofs.TreeLemmas.{lies_itself as own_box}
 

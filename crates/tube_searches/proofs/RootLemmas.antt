@@ -1,6 +1,5 @@
 -- The root of the next epoch.
-use Rattle.std.proofs.Common.{◌≡◌, ℕ, arith, Option, None, Some, to_z, of_z}
-use Rattle.std.specs.Int.{w128}
+use Rattle.std.proofs.Common.{◌≡◌, ℕ, arith, Option, None, Some}
 use Rattle.std.specs.Prelude.{ℤ}
 use Rattle.std.proofs.lemmas.Int.{ints}
 use Rattle.subpaving.specs.LiveValues.{box_option}

@@ -2,10 +2,10 @@
 -- and a corner has each.
 use Rattle.std.proofs.Common.{◌≡◌, ℕ, ◌^◌, ◌≤◌, arith, true, refl, subst, to_z, of_z}
 use Rattle.std.specs.Prelude.{ℤ, ◌+ℤ◌, ◌*ℤ◌, ◌≤ℤ◌, ◌<ℤ◌}
+use Rattle.std.specs.Int.Signed.{≤ℤ_refl}
 use Rattle.std.specs.Int.{int_max, int_min, w64, w128}
 use Rattle.std.proofs.lemmas.Int.{ints, clamps, by_lt_z}
 use Rattle.grid_model.specs.Boxes.{Side, GridBox, grid_box, box_holds}
-use Rattle.grid_model.specs.Intervals.{Between}
 use Rattle.grid_model.specs.Sizes.{IsWithin, IsBoxSize}
 use Rattle.grid_model.specs.declared.boxes.Box3.{Box3}
 use Rattle.grid_model.specs.declared.boxes.Pos.{Pos}
@@ -17,7 +17,7 @@ use Rattle.zone_guard.specs.Planes.{dot, PlaneValue, LiesBehind, LiesBeyond}
 use Rattle.zone_guard.proofs.AnswerLemmas.{holds_from}
 use Rattle.grid_model.proofs.IntervalLemmas.{le_z_trans as le_both}
 use Rattle.sat_model.proofs.PairAxisLemmas.{sum_within}
-use Rattle.grid_model.proofs.PlainLemmas.{held_itself, same_le}
+use Rattle.grid_model.proofs.PlainLemmas.{held_itself}
 
 -- ---- casts
 
@@ -79,13 +79,13 @@ max_right s t h = omega (arith, ints, clamps, h)
 
 least_end : (f : ℤ) (s : Side) → s.lo ≤ℤ s.hi → EndAt f s (least_on f s)
 least_end f s h =
-    by_lt_z (f *ℤ s.lo) (f *ℤ s.hi) (λ lt. record { n = s.lo; inside = (same_le s.lo, h); product = min_left _ _ lt })
-    (λ ge. record { n = s.hi; inside = (h, same_le s.hi); product = min_right _ _ ge })
+    by_lt_z (f *ℤ s.lo) (f *ℤ s.hi) (λ lt. record { n = s.lo; inside = (≤ℤ_refl s.lo, h); product = min_left _ _ lt })
+    (λ ge. record { n = s.hi; inside = (h, ≤ℤ_refl s.hi); product = min_right _ _ ge })
 
 greatest_end : (f : ℤ) (s : Side) → s.lo ≤ℤ s.hi → EndAt f s (greatest_on f s)
 greatest_end f s h =
-    by_lt_z (f *ℤ s.lo) (f *ℤ s.hi) (λ lt. record { n = s.hi; inside = (h, same_le s.hi); product = max_right _ _ lt })
-    (λ ge. record { n = s.lo; inside = (same_le s.lo, h); product = max_left _ _ ge })
+    by_lt_z (f *ℤ s.lo) (f *ℤ s.hi) (λ lt. record { n = s.hi; inside = (h, ≤ℤ_refl s.hi); product = max_right _ _ lt })
+    (λ ge. record { n = s.lo; inside = (≤ℤ_refl s.lo, h); product = max_left _ _ ge })
 
 -- ---- over a box
 

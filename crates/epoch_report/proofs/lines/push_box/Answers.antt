@@ -1,7 +1,4 @@
-use Rattle.std.proofs.Common.{◌≡◌, ℤ, append_assoc, arith, to_z, of_z}
-use Rattle.std.specs.Int.{w64}
-use Rattle.std.proofs.lemmas.Int.{ints}
-use Rattle.grid_model.specs.Sizes.{IsBoxSize}
+use Rattle.std.proofs.Common.{append_assoc}
 use Rattle.grid_model.proofs.PlainLemmas.{uncast_end}
 use Rattle.epoch_report.proofs.lines.push_box.Goals as goal
 

@@ -1,8 +1,8 @@
-use Rattle.std.proofs.Common.{◌≡◌, ◌+◌, ◌^◌, arith}
+use Rattle.std.proofs.Common.{◌+◌, ◌^◌, arith}
 use Rattle.std.specs.Prelude.{ℤ, pos, ◌+ℤ◌, ◌-ℤ◌, ◌*ℤ◌, ◌≤ℤ◌}
 use Rattle.std.proofs.lemmas.Int.{ints}
 use Rattle.gnss_model.specs.EarthModel.{rate_scale}
-use Rattle.grid_model.specs.Intervals.{Between, Ends}
+use Rattle.grid_model.specs.Intervals.{Ends}
 use Rattle.grid_model.specs.Products.{ProductsWithin, least_product, greatest_product}
 use Rattle.grid_model.specs.Rounding.{IsTightRound}
 use Rattle.grid_model.specs.Sizes.{IsWithin}

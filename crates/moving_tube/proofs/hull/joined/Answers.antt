@@ -1,7 +1,5 @@
-use Rattle.std.proofs.Common.{◌≡◌, ℤ, to_z, of_z, w64, arith, ◌∙◌}
-use Rattle.std.proofs.lemmas.Int.{ints}
+use Rattle.std.proofs.Common.{◌∙◌}
 use Rattle.grid_model.proofs.IntervalLemmas.{le_z_trans}
-use Rattle.grid_model.specs.Sizes.{IsBoxSize}
 use Rattle.grid_model.proofs.PlainLemmas.{uncast_end}
 use Rattle.moving_tube.proofs.hull.joined.Goals as goal
 

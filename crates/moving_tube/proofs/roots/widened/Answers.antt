@@ -2,7 +2,6 @@ use Rattle.std.proofs.Common.{◌≡◌, ℤ, to_z, of_z, w64, arith, ◌∙◌}
 use Rattle.std.specs.Prelude.{pos, ◌≤ℤ◌}
 use Rattle.std.proofs.lemmas.Int.{ints}
 use Rattle.grid_model.proofs.IntervalLemmas.{le_z_trans}
-use Rattle.grid_model.specs.Sizes.{IsBoxSize}
 use Rattle.moving_tube.specs.Reach.{longest_reach}
 use Rattle.grid_model.proofs.PlainLemmas.{uncast_end}
 use Rattle.moving_tube.proofs.roots.widened.Goals as goal
