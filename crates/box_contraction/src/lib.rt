@@ -17,6 +17,3 @@ mod work;
 pub use laws::{box_steps_exist, cuts_leave_no_eighth};
 pub use steps::{StepFault, Steps};
 pub use work::{Ended, work_on};
-
-#[cfg(test)]
-mod tests;

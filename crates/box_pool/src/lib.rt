@@ -18,6 +18,3 @@ pub use item::Item;
 #[doc(hidden)]
 pub use item::Node;
 pub use pool::{MAX_NODES, Pool, QUEUES};
-
-#[cfg(test)]
-mod tests;

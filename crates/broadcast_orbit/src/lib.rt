@@ -8,13 +8,7 @@ mod existence;
 mod latitude;
 mod places;
 mod plane;
-#[cfg(test)]
-mod records;
 mod space;
-#[cfg(test)]
-mod tests;
-#[cfg(test)]
-mod vectors;
 
 pub use existence::orbit_exists;
 pub use places::place;

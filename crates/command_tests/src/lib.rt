@@ -1,5 +1,5 @@
-//! Tests alone: runs of the commands that need no receiver's files, or make them, runs with a row
-//! that is too narrow, and files and sinks in memory.
+//! Tests alone: the words of commands, runs of the commands that need no receiver's files, or make
+//! them, runs with a row that is too narrow, and files and sinks in memory.
 #![tactic(auto)]
 
 #[cfg(test)]
@@ -12,3 +12,5 @@ mod narrowing;
 mod outer;
 #[cfg(test)]
 mod pavings;
+#[cfg(test)]
+mod words;

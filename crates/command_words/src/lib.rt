@@ -10,6 +10,3 @@ mod program;
 pub use command::{Command, Files, Selection};
 pub use laws::{stated_words_are_taken, taken_words_are_a_command};
 pub use matches::command_of;
-
-#[cfg(test)]
-mod tests;

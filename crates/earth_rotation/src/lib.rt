@@ -5,11 +5,7 @@
 mod angles;
 mod existence;
 mod ranges;
-#[cfg(test)]
-mod tests;
 mod turns;
-#[cfg(test)]
-mod vectors;
 
 pub use existence::turn_exists;
 pub use ranges::range;

@@ -16,6 +16,3 @@ pub use count::read_count;
 pub use decimal::{BadNumber, Decimal};
 pub use read::{read_exp, read_fixed};
 pub use unit::{Range, Unit};
-
-#[cfg(test)]
-mod tests;

@@ -23,6 +23,3 @@ pub use exact_interval::ExactArea;
 pub use interval::Interval;
 pub use place::Place;
 pub use products::{UNIT, difference_of_products, product, sum_of_products};
-
-#[cfg(test)]
-mod tests;

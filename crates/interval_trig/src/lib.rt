@@ -8,10 +8,6 @@ mod points;
 mod quarters;
 mod quotients;
 mod sines;
-#[cfg(test)]
-mod tests;
-#[cfg(test)]
-mod vectors;
 
 pub use circle::circle_law;
 pub use sines::{cosine, sine};

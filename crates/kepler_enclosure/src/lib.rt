@@ -3,9 +3,5 @@
 #![tactic(auto)]
 
 mod anomalies;
-#[cfg(test)]
-mod tests;
-#[cfg(test)]
-mod vectors;
 
 pub use anomalies::{GREATEST_ECCENTRICITY, eccentric};

@@ -8,6 +8,3 @@ mod times;
 
 pub use ranges::{combination, dual, dual_of, single};
 pub use times::{corrected, sent_at};
-
-#[cfg(test)]
-mod tests;

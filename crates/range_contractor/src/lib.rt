@@ -18,6 +18,3 @@ pub use contraction::contract;
 pub use laws::trees_hold_rows;
 pub use row_trees::{refresh, relaxed_tree};
 pub use tree::{Leaf, Tree};
-
-#[cfg(test)]
-mod tests;

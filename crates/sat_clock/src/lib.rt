@@ -7,11 +7,7 @@ mod clock;
 mod drift;
 mod existence;
 mod motion;
-#[cfg(test)]
-mod records;
 mod relativity;
-#[cfg(test)]
-mod tests;
 mod times;
 
 pub use clock::{Clock, correction, correction_of};

@@ -1,0 +1,340 @@
+//! The steps of one box.
+
+ghost use Rattle.std.specs.Prelude.{◌≡◌, ◌<◌, ◌≤◌, ◌∷◌, [], ◌++◌, length, ◌≤ℤ◌};
+ghost use Rattle.grid_model.specs.Sizes.{IsBoxSize, IsErrorSize, IsPlaceSize};
+
+use box_contraction::{Ended, StepFault, Steps, work_on};
+use box_pool::Item;
+use fix_interval::Exact;
+use gnss_model::Sat;
+use grid_model::{Box3, Pos, Span};
+use paving_log::step_line;
+use range_contractor::relaxed_tree;
+use relaxed_meet::BoxTest;
+use sat_model::{Row, Rules, Step};
+use std::alloc::Global;
+use std::test::Fail;
+
+/// A log that keeps the steps in memory, up to so many.
+#[derive(Drop)]
+struct StepList {
+    steps: Vec<Step>,
+    sound: u64,
+    faults: u64,
+}
+
+impl Steps for StepList {
+    ghost took = { λ old step part new. new.steps.items ≡ old.steps.items ++ step ∷ [] };
+
+    ghost broke = { λ old step part new. new.steps.items ≡ old.steps.items };
+
+    ghost took_rows = { λ old new last. last.steps.items ≡ old.steps.items };
+
+    ghost broke_rows = { λ old new lines last. ⊥ };
+
+    ghost room = { λ list. 1000 };
+
+    ghost faults = { λ list. list.faults };
+
+    fn step(&mut self, step: &Step, _part: &Box3) -> Result<(), StepFault> {
+        if 1_000 < step_line(step).len() {
+            return Err(StepFault::Full);
+        }
+        if self.sound > 0 && self.steps.push(*step).is_ok() {
+            self.sound -= 1;
+            return Ok(());
+        }
+        self.faults = self.faults.saturating_add(1);
+        Err(StepFault::Failed)
+    }
+
+    /// No steps of a box renew rows.
+    fn renew(&mut self, _part: &Box3, _rows: &[Row]) -> Result<(), StepFault> {
+        Ok(())
+    }
+}
+
+/// The distance of the satellites from the origin, in um.
+const FAR: i64 = 20_000_000_000_000;
+
+const ON_X: Pos = Pos { x: FAR, y: 0, z: 0 };
+
+const ON_Y: Pos = Pos { x: 0, y: FAR, z: 0 };
+
+const ON_Z: Pos = Pos { x: 0, y: 0, z: FAR };
+
+const OPPOSITE: Pos = Pos {
+    x: -FAR,
+    y: 0,
+    z: 0,
+};
+
+/// The span of one number.
+fn only(number: i64) -> Span
+    ensures lo { result.lo ≡ number }
+    ensures hi { result.hi ≡ number }
+{
+    Span {
+        lo: number,
+        hi: number,
+    }
+}
+
+const HALF_METRE: Span = Span {
+    lo: -500_000,
+    hi: 500_000,
+};
+
+const FIVE_METRES: Span = Span {
+    lo: -5_000_000,
+    hi: 5_000_000,
+};
+
+const FIFTY_METRES: Span = Span {
+    lo: -50_000_000,
+    hi: 50_000_000,
+};
+
+/// The row of a satellite at this place, whose range is its distance from the origin.
+fn row(number: u8, place: Pos, err: Span) -> Row
+    requires place { IsPlaceSize place.x × IsPlaceSize place.y × IsPlaceSize place.z }
+    requires err { IsErrorSize err.lo × IsErrorSize err.hi }
+{
+    Row {
+        sat: Sat {
+            system: b'G',
+            number,
+        },
+        x: only(place.x),
+        y: only(place.y),
+        z: only(place.z),
+        range: only(FAR),
+        err,
+        sure_lo: err.lo,
+        sure_hi: err.hi,
+    }
+}
+
+/// The box of these x, with y and z up to 1 m in amount.
+fn slab(lo: i64, hi: i64) -> Box3
+    requires ordered { lo ≤ℤ hi }
+    requires sizes { IsBoxSize lo × IsBoxSize hi }
+{
+    Box3 {
+        lo: Pos {
+            x: lo,
+            y: -1_000_000,
+            z: -1_000_000,
+        },
+        hi: Pos {
+            x: hi,
+            y: 1_000_000,
+            z: 1_000_000,
+        },
+    }
+}
+
+/// No row may be inconsistent, and no box is split.
+const NO_SPLITS: Rules = Rules {
+    outliers: 0,
+    bisections: 0,
+    width: 1_000_000,
+    pairs: false,
+};
+
+/// Works on box 0 with these rows, and gives how it ended.
+fn worked_on(
+    alloc: Global,
+    rows: &[Row],
+    part: &Box3,
+    log: &mut StepList,
+) -> Result<Ended, StepFault>
+    requires { (0 < length rows.now) × (length rows.now ≤ 64) }
+{
+    match relaxed_tree::<Exact>(alloc, rows, 0) {
+        Ok(tree) => {
+            let mut test = BoxTest::new(rows, &NO_SPLITS);
+            let first = Item { id: 0, part: *part };
+            work_on(&mut test, &NO_SPLITS, Some(&tree), 0, &first, log)
+        }
+        Err(_) => Err(StepFault::Failed),
+    }
+}
+
+/// The same with pairs of rows asked.
+const BY_PAIRS: Rules = Rules {
+    outliers: 0,
+    bisections: 0,
+    width: 1_000_000,
+    pairs: true,
+};
+
+fn list(alloc: Global, sound: u64) -> StepList {
+    StepList {
+        steps: Vec::new(alloc),
+        sound,
+        faults: 0,
+    }
+}
+
+/// The errors of the satellites on the x axis let their clock spans meet in both rounds of eighths
+/// at the middle of the box alone; the others leave every offset. The eighths are 2,000,000 and
+/// 1,750,000 points thick.
+fn two_on_x() -> [Row; 4]
+    ensures { length result ≡ 4 }
+{
+    [
+        row(1, ON_X, FIVE_METRES),
+        row(2, ON_Y, FIFTY_METRES),
+        row(3, ON_Z, FIFTY_METRES),
+        row(5, OPPOSITE, FIVE_METRES),
+    ]
+}
+
+#[test]
+fn eighths_are_cut_until_a_round_cuts_none(rt: HostRuntime) -> Result<(), Fail> {
+    let mut log = list(rt.alloc(), 9);
+    let edge = Step::Edge {
+        id: 0,
+        lo: -11_000_000,
+        hi: 11_000_000,
+    };
+    assert_eq!(rt;
+        worked_on(
+            rt.alloc(),
+            &two_on_x(),
+            &slab(-8_000_000, 8_000_000),
+            &mut log
+        ),
+        Ok(Ended {
+            step: edge,
+            left: slab(-6_000_000, 6_250_000),
+            cuts: 2,
+        })
+    );
+    let low = Step::Cut {
+        id: 0,
+        face: 0,
+        bound: -6_000_000,
+    };
+    let high = Step::Cut {
+        id: 0,
+        face: 1,
+        bound: 6_250_000,
+    };
+    assert_eq!(rt; log.steps.as_slice(), [low, high, edge].as_slice());
+    Ok(())
+}
+
+/// Of the satellites on the x axis the one leaves offsets from x - 5 m to x + 5 m, the other from
+/// -x - 5 m to -x + 5 m, so x is from -5 m to 5 m. Halving eight times from an eighth and the whole
+/// of 18,000,001 points finds 3,972,656 of them, and of the 14,027,345 left it finds 3,958,888.
+#[test]
+fn slabs_are_cut_off_as_deep_as_pairs_show_them(rt: HostRuntime) -> Result<(), Fail> {
+    let mut log = list(rt.alloc(), 9);
+    let rows = two_on_x();
+    let mut test = BoxTest::new(&rows, &BY_PAIRS);
+    let edge = Step::Edge {
+        id: 0,
+        lo: -10_027_344,
+        hi: 10_027_344,
+    };
+    let first = Item {
+        id: 0,
+        part: slab(-9_000_000, 9_000_000),
+    };
+    assert_eq!(rt;
+        work_on::<Exact, StepList>(&mut test, &BY_PAIRS, None, 0, &first, &mut log),
+        Ok(Ended {
+            step: edge,
+            left: slab(-5_027_344, 5_041_112),
+            cuts: 2,
+        })
+    );
+    let low = Step::Cut {
+        id: 0,
+        face: 0,
+        bound: -5_027_344,
+    };
+    let high = Step::Cut {
+        id: 0,
+        face: 1,
+        bound: 5_041_112,
+    };
+    assert_eq!(rt; log.steps.as_slice(), [low, high, edge].as_slice());
+    Ok(())
+}
+
+#[test]
+fn a_fault_leaves_the_steps_before_it(rt: HostRuntime) -> Result<(), Fail> {
+    for sound in 0..3_u64 {
+        let mut log = list(rt.alloc(), sound);
+        assert_eq!(rt;
+            worked_on(
+                rt.alloc(),
+                &two_on_x(),
+                &slab(-8_000_000, 8_000_000),
+                &mut log
+            ),
+            Err(StepFault::Failed)
+        );
+        assert_eq!(rt; log.steps.len() as u64, sound);
+    }
+    Ok(())
+}
+
+#[test]
+fn a_box_without_fitting_points_is_closed_at_once(rt: HostRuntime) -> Result<(), Fail> {
+    let mut log = list(rt.alloc(), 9);
+    let part = slab(7_000_000, 8_000_000);
+    assert_eq!(rt;
+        worked_on(rt.alloc(), &two_on_x(), &part, &mut log),
+        Ok(Ended {
+            step: Step::Outside { id: 0 },
+            left: part,
+            cuts: 0,
+        })
+    );
+    assert_eq!(rt; log.steps.as_slice(), [Step::Outside { id: 0 }].as_slice());
+    Ok(())
+}
+
+/// With errors of half a metre the satellites on y and z leave offsets up to 1.5 m, and so the
+/// others x up to 2 m: less than an eighth of the box would leave.
+#[test]
+fn the_proposal_is_cut_to_first(rt: HostRuntime) -> Result<(), Fail> {
+    let rows = [
+        row(1, ON_X, HALF_METRE),
+        row(2, ON_Y, HALF_METRE),
+        row(3, ON_Z, HALF_METRE),
+        row(5, OPPOSITE, HALF_METRE),
+    ];
+    let mut log = list(rt.alloc(), 99);
+    assert!(rt;
+        worked_on(rt.alloc(), &rows, &slab(-8_000_000, 8_000_000), &mut log).is_ok(),
+        "worked on"
+    );
+    match (log.steps.get(0), log.steps.get(1)) {
+        (
+            Some(
+                Step::Cut {
+                    face: 0,
+                    bound: low,
+                    ..
+                },
+            ),
+            Some(
+                Step::Cut {
+                    face: 1,
+                    bound: high,
+                    ..
+                },
+            ),
+        ) => {
+            assert!(rt; -2_000_020 <= *low && *low <= -2_000_001, "low face");
+            assert!(rt; 2_000_000 <= *high && *high <= 2_000_020, "high face");
+        }
+        _ => assert!(rt; false, "no cuts"),
+    }
+    Ok(())
+}

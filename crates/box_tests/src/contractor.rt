@@ -1,0 +1,318 @@
+//! Contracted boxes.
+
+ghost use Rattle.std.specs.Prelude.{◌≡◌, ◌<◌, ◌≤◌, pos, ◌≤ℤ◌, length, IfOk};
+ghost use Rattle.grid_model.specs.Sizes.{IsBoxSize, IsErrorSize, IsPlaceSize};
+ghost use Rattle.sat_model.specs.Trees.{IsWellFormed};
+ghost use Rattle.range_contractor.specs.Views.{tree_value};
+
+use fix_interval::{Coarse, Exact, Interval};
+use gnss_model::Sat;
+use grid_model::{Box3, NoMemory, Pos, Span};
+use range_contractor::{Leaf, Tree, contract, refresh, relaxed_tree};
+use sat_model::Row;
+use std::alloc::Global;
+
+/// The distance of the satellites from the origin, in um.
+const FAR: i64 = 20_000_000_000_000;
+
+const ZERO: Span = Span { lo: 0, hi: 0 };
+
+/// The box of these x, with y and z up to `half` in amount.
+fn slab(lo: i64, hi: i64, half: i64) -> Box3
+    requires ordered { (lo ≤ℤ hi) × (pos 0 ≤ℤ half) }
+    requires sizes { IsBoxSize lo × IsBoxSize hi × IsBoxSize half }
+{
+    Box3 {
+        lo: Pos {
+            x: lo,
+            y: -half,
+            z: -half,
+        },
+        hi: Pos {
+            x: hi,
+            y: half,
+            z: half,
+        },
+    }
+}
+
+/// The span of one number.
+fn only(number: i64) -> Span
+    ensures lo { result.lo ≡ number }
+    ensures hi { result.hi ≡ number }
+{
+    Span {
+        lo: number,
+        hi: number,
+    }
+}
+
+/// The row of a satellite at this place, whose range is its distance from the origin.
+fn row(number: u8, place: Pos, err: Span) -> Row
+    requires place { IsPlaceSize place.x × IsPlaceSize place.y × IsPlaceSize place.z }
+    requires err { IsErrorSize err.lo × IsErrorSize err.hi }
+{
+    Row {
+        sat: Sat {
+            system: b'G',
+            number,
+        },
+        x: only(place.x),
+        y: only(place.y),
+        z: only(place.z),
+        range: only(FAR),
+        err,
+        sure_lo: err.lo,
+        sure_hi: err.hi,
+    }
+}
+
+/// The tree of the points that two boxes share.
+fn shared<I: Interval>(alloc: Global, one: Box3, other: Box3) -> Result<Tree<I>, NoMemory>
+    ensures { IfOk result (λ t. IsWellFormed (tree_value I.low I.high t)) }
+{
+    let mut kids = Vec::new(alloc);
+    kids.push(Tree::Within(one))?;
+    kids.push(Tree::Within(other))?;
+    Ok(Tree::All(kids))
+}
+
+/// The tree of rows, made anew for as many others.
+fn anew<I: Interval>(
+    alloc: Global,
+    before: &[Row],
+    rows: &[Row],
+    q: u8,
+) -> Result<Tree<I>, NoMemory>
+    requires many { (q < length rows.now) × (length rows.now ≤ 64) }
+    requires same { length before.now ≡ length rows.now }
+    ensures { IfOk result (λ t. IsWellFormed (tree_value I.low I.high t)) }
+{
+    let mut tree = relaxed_tree(alloc, before, q)?;
+    refresh(&mut tree, rows);
+    Ok(tree)
+}
+
+const HALF_METRE: Span = Span {
+    lo: -500_000,
+    hi: 500_000,
+};
+
+const FIVE_METRES: Span = Span {
+    lo: -5_000_000,
+    hi: 5_000_000,
+};
+
+const FIFTY_METRES: Span = Span {
+    lo: -50_000_000,
+    hi: 50_000_000,
+};
+
+const ON_X: Pos = Pos { x: FAR, y: 0, z: 0 };
+
+const ON_Y: Pos = Pos { x: 0, y: FAR, z: 0 };
+
+const ON_Z: Pos = Pos { x: 0, y: 0, z: FAR };
+
+const BETWEEN: Pos = Pos {
+    x: 12_000_000_000_000,
+    y: 16_000_000_000_000,
+    z: 0,
+};
+
+const BEYOND: Pos = Pos {
+    x: 20_010_000_000_000,
+    y: 0,
+    z: 0,
+};
+
+const OPPOSITE: Pos = Pos {
+    x: -FAR,
+    y: 0,
+    z: 0,
+};
+
+#[test]
+fn a_box_alone(rt: HostRuntime) {
+    let exact: Tree<Exact> = Tree::Within(slab(-5, 5, 5));
+    let coarse: Tree<Coarse> = Tree::Within(slab(-5, 5, 5));
+    let apart = slab(6, 9, 9);
+    assert!(rt; contract(&exact, &apart, ZERO) == None, "apart");
+    assert!(rt; contract(&coarse, &apart, ZERO) == None, "apart");
+    let near = slab(5, 9, 9);
+    let met = Some(slab(5, 5, 5));
+    assert!(rt; contract(&exact, &near, ZERO) == met, "the meet");
+    assert!(rt; contract(&coarse, &near, ZERO) == met, "the meet");
+}
+
+#[test]
+fn one_satellite(rt: HostRuntime) {
+    let part = slab(-100_000_000, 100_000_000, 0);
+    let exact: Leaf<Exact> = Leaf {
+        x: Interval::of(FAR, FAR),
+        y: Interval::of(0, 0),
+        z: Interval::of(0, 0),
+        range: Span { lo: FAR, hi: FAR },
+        err: ZERO,
+    };
+    let Some(kept) = contract(&Tree::Sat(exact), &part, ZERO) else {
+        return assert!(rt; false, "something is left");
+    };
+    assert!(rt; -16 <= kept.lo.x && kept.lo.x <= 0, "the low face");
+    assert!(rt; 0 <= kept.hi.x && kept.hi.x <= 16, "the high face");
+    let coarse: Leaf<Coarse> = Leaf {
+        x: Interval::of(FAR, FAR),
+        y: Interval::of(0, 0),
+        z: Interval::of(0, 0),
+        range: Span { lo: FAR, hi: FAR },
+        err: ZERO,
+    };
+    assert_eq!(rt; coarse.x.lo(), 19_999_999_983_616, "the low end of x");
+    assert_eq!(rt; coarse.x.hi(), 20_000_000_049_152, "the high end of x");
+    let Some(kept) = contract(&Tree::Sat(coarse), &part, ZERO) else {
+        return assert!(rt; false, "something is left");
+    };
+    assert!(rt;
+        -1_048_576 <= kept.lo.x && kept.lo.x <= -65_536,
+        "the low face"
+    );
+    assert!(rt;
+        65_536 <= kept.hi.x && kept.hi.x <= 1_048_576,
+        "the high face"
+    );
+    assert_eq!(rt; kept.lo.x % 65_536, 0, "a multiple below");
+    assert_eq!(rt; kept.hi.x % 65_536, 0, "a multiple above");
+}
+
+#[test]
+fn four_rows(rt: HostRuntime) {
+    let rows = [
+        row(1, ON_X, HALF_METRE),
+        row(2, ON_Y, HALF_METRE),
+        row(3, ON_Z, HALF_METRE),
+        row(4, BETWEEN, HALF_METRE),
+    ];
+    let root = slab(-1_000_000, 1_000_000, 900_000);
+    let clock = Span {
+        lo: -1_400_000,
+        hi: 1_400_000,
+    };
+    let exact: Tree<Exact> = relaxed_tree(rt.alloc(), &rows, 0).expect(&rt, "memory");
+    assert!(rt;
+        contract(&exact, &root, clock) == Some(root),
+        "the box itself"
+    );
+    let coarse: Tree<Coarse> = relaxed_tree(rt.alloc(), &rows, 0).expect(&rt, "memory");
+    assert!(rt;
+        contract(&coarse, &root, clock) == Some(root),
+        "the box itself"
+    );
+}
+
+#[test]
+fn one_wrong_satellite(rt: HostRuntime) {
+    // The first is 10 km farther away than its range says.
+    let rows = [
+        row(1, BEYOND, HALF_METRE),
+        row(2, ON_Y, HALF_METRE),
+        row(3, ON_Z, HALF_METRE),
+        row(4, BETWEEN, HALF_METRE),
+    ];
+    let part = slab(-1_000_000, 1_000_000, 900_000);
+    let clock = Span {
+        lo: -1_400_000,
+        hi: 1_400_000,
+    };
+    let all: Tree<Exact> = relaxed_tree(rt.alloc(), &rows, 0).expect(&rt, "memory");
+    assert!(rt; contract(&all, &part, clock) == None, "no point by all");
+    let but_one: Tree<Exact> = relaxed_tree(rt.alloc(), &rows, 1).expect(&rt, "memory");
+    assert!(rt;
+        contract(&but_one, &part, clock) == Some(part),
+        "all points by three"
+    );
+}
+
+#[test]
+fn a_tree_made_anew_for_other_rows(rt: HostRuntime) {
+    let right = [
+        row(1, ON_X, HALF_METRE),
+        row(2, ON_Y, HALF_METRE),
+        row(3, ON_Z, HALF_METRE),
+        row(4, BETWEEN, HALF_METRE),
+    ];
+    let one_wrong = [
+        row(1, BEYOND, HALF_METRE),
+        row(2, ON_Y, HALF_METRE),
+        row(3, ON_Z, HALF_METRE),
+        row(4, BETWEEN, HALF_METRE),
+    ];
+    let part = slab(-1_000_000, 1_000_000, 900_000);
+    let clock = Span {
+        lo: -1_400_000,
+        hi: 1_400_000,
+    };
+    let wrong: Tree<Exact> = anew(rt.alloc(), &right, &one_wrong, 0).expect(&rt, "memory");
+    assert!(rt; contract(&wrong, &part, clock) == None, "no point by all");
+    let mended: Tree<Exact> = anew(rt.alloc(), &one_wrong, &right, 0).expect(&rt, "memory");
+    assert!(rt; contract(&mended, &part, clock) == Some(part), "all points");
+    let coarse: Tree<Coarse> = anew(rt.alloc(), &one_wrong, &right, 0).expect(&rt, "memory");
+    assert!(rt; contract(&coarse, &part, clock) == Some(part), "all points");
+    let but_one: Tree<Exact> = anew(rt.alloc(), &right, &one_wrong, 1).expect(&rt, "memory");
+    assert!(rt;
+        contract(&but_one, &part, clock) == Some(part),
+        "all points by three"
+    );
+}
+
+#[test]
+fn opposite_satellites(rt: HostRuntime) {
+    // The ranges to the two on the axis fit everywhere with some offset, so no face moves.
+    let rows = [
+        row(1, ON_X, FIVE_METRES),
+        row(2, ON_Y, FIFTY_METRES),
+        row(3, ON_Z, FIFTY_METRES),
+        row(5, OPPOSITE, FIVE_METRES),
+    ];
+    let root = slab(-8_000_000, 8_000_000, 1_000_000);
+    let clock = Span {
+        lo: -13_000_000,
+        hi: 13_000_000,
+    };
+    let exact: Tree<Exact> = relaxed_tree(rt.alloc(), &rows, 0).expect(&rt, "memory");
+    assert!(rt;
+        contract(&exact, &root, clock) == Some(root),
+        "the box itself"
+    );
+    let coarse: Tree<Coarse> = relaxed_tree(rt.alloc(), &rows, 0).expect(&rt, "memory");
+    assert!(rt;
+        contract(&coarse, &root, clock) == Some(root),
+        "the box itself"
+    );
+    // With a known offset the two leave what is within 5 m of the middle.
+    let Some(kept) = contract(&exact, &root, ZERO) else {
+        return assert!(rt; false, "something is left");
+    };
+    assert!(rt;
+        -5_000_016 <= kept.lo.x && kept.lo.x <= -5_000_000,
+        "the low face"
+    );
+    assert!(rt;
+        5_000_000 <= kept.hi.x && kept.hi.x <= 5_000_016,
+        "the high face"
+    );
+}
+
+#[test]
+fn one_after_the_other(rt: HostRuntime) {
+    let part = slab(0, 9, 9);
+    let left = slab(0, 5, 9);
+    let middle = slab(3, 6, 9);
+    let right = slab(6, 9, 9);
+    let exact: Tree<Exact> = shared(rt.alloc(), left, middle).expect(&rt, "memory");
+    assert!(rt;
+        contract(&exact, &part, ZERO) == Some(slab(3, 5, 9)),
+        "both"
+    );
+    let coarse: Tree<Coarse> = shared(rt.alloc(), left, right).expect(&rt, "memory");
+    assert!(rt; contract(&coarse, &part, ZERO) == None, "no point in both");
+}
