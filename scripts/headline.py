@@ -42,12 +42,15 @@ LINKS = (
     ),
     (
         "A run of `check`, by its status",
-        "What was read is what the files give. A run that ends with `Done` (status 0) read files that are accepted, and"
-        " printed a line that says so.",
+        "What was read is what the files give; of the observations of a file it is the position and the epochs that the"
+        " words ask for. A run that ends with `Done` (status 0) read files that are accepted, and printed a line that says so.",
         (
             ("crates/cover_run/specs/Runs.antt", "checking"),
             ("crates/cover_run/specs/Runs.antt", "RunOf"),
             ("crates/cover_run/specs/Telling.antt", "Tells"),
+            ("crates/input_files/specs/Inputs.antt", "obs_text"),
+            ("crates/rinex_obs/specs/Files.antt", "AreBetween"),
+            ("crates/rinex_obs/specs/Files.antt", "between"),
         ),
     ),
     (

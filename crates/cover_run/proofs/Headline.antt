@@ -82,7 +82,7 @@ module _ (moving : Bool) (limits : Limits) (names : words.Files) (bytes : List â
       still (nav_text (read_both s)) names.nav (Ok records) apart.nav has,
       inr (
         n,
-        still (obs_text (sought_of s) (wants_position s.centre)) names.obs (Err n) apart.obs sees,
+        still (obs_text (sought_of s) (wants_position s.centre) names.epochs) names.obs (Err n) apart.obs sees,
         e,
       ),
     ),
@@ -95,7 +95,7 @@ module _ (moving : Bool) (limits : Limits) (names : words.Files) (bytes : List â
       still (nav_text (read_both s)) names.nav (Ok records) apart.nav has,
       inl (
         o,
-        still (obs_text (sought_of s) (wants_position s.centre)) names.obs (Ok o) apart.obs sees,
+        still (obs_text (sought_of s) (wants_position s.centre) names.epochs) names.obs (Ok o) apart.obs sees,
         e,
       ),
     ),

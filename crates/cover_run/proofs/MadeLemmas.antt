@@ -23,7 +23,8 @@ use Rattle.made_texts.proofs.ObsLemmas.{obs_length}
 use Rattle.made_texts.specs.NavText.{broadcast_of}
 use Rattle.made_texts.specs.ObsText.{code_c1c, observed_from}
 use Rattle.made_texts.specs.SettingsText.{settings_of}
-use Rattle.rinex_obs.specs.Files.{IsObsFile, Observations}
+use Rattle.rinex_obs.specs.Files.{AreBetween, IsObsFile, Observations, alone}
+use Rattle.rinex_obs.proofs.KeptLemmas.{all_kept}
 use Rattle.gnss_model.specs.declared.satellites.Signal.{Signal}
 use Rattle.gnss_model.specs.declared.satellites.Signal.TheVariants.{Single}
 
@@ -88,3 +89,11 @@ module _ (seed count : ℕ) (made : Made) (m : IsMade seed count made) where
       ap (λ (v : SettingsValue). wants_position v.centre) e in
       subst (λ (b : Bool). IsObsFile s.signal b made.obs.items seen) (sym centre)
       (subst (λ (x : Signal). IsObsFile x false made.obs.items seen) (sym signal) m.obs_accepted)
+
+  -- ... with all its epochs
+  pub obs_all : (s : Settings)
+      → value_of_settings s ≡ settings_of (centre_x seed) (centre_y seed) (centre_z seed)
+      → AreBetween 1 200000 (IsObsFile s.signal (wants_position s.centre) made.obs.items) seen
+  obs_all s e =
+      let file = obs_for s e in
+      (seen, file, sym (all_kept (alone s.signal) (wants_position s.centre) made.obs.items seen file))

@@ -1,13 +1,11 @@
 -- What the files say of a log is said by the values that are read from them.
-use Rattle.std.proofs.Common.{◌≡◌, ℕ, Bool, List, [], ◌∷◌, Option, None, Some, inl, inr}
+use Rattle.std.proofs.Common.{◌≡◌, ℕ, List, [], ◌∷◌, Option, None, Some}
 use Rattle.std.proofs.Common.{refl, sym, ap, subst, ◌∙◌}
-use Rattle.std.proofs.lemmas.Bool.{cases_Bool}
-use Rattle.std.specs.Prelude.{ℤ, ◌≤ℤ◌, nat_le, ◌&&◌}
-use Rattle.std.specs.List.{filter}
+use Rattle.std.specs.Prelude.{ℤ, ◌≤ℤ◌}
 use Rattle.std.specs.Option.{option_map}
 use mathlib.Core.HLevel.{is_prop→PathP}
 use Rattle.epoch_selection.specs.Searches.{Search, searches_in}
-use Rattle.epoch_selection.specs.Selections.{is_selected, selected}
+use Rattle.epoch_selection.proofs.KeptLemmas.{same_selected}
 use Rattle.epoch_selection.specs.declared.selection.Selection.{Selection}
 use Rattle.error_bounds.specs.Reading.{signal_of, bound_for, centre_with, IsRoot, value_of_settings}
 use Rattle.error_bounds.specs.Texts.{SettingsValue}
@@ -84,23 +82,6 @@ same_delays a b e f =
     λ i. record { zenith = zenith i; vertical = vertical i }
 
 -- ---- epochs
-
-module _ (s : Selection) where
-  abbrev is_chosen : Observed → Bool
-  is_chosen o = nat_le s.from o.index && nat_le o.index s.to
-
-  chosen : (epochs : List ObsEpoch)
-      → plain_epochs (selected s epochs) ≡ filter is_chosen (plain_epochs epochs)
-  chosen [] = refl
-  chosen (seen ∷ epochs) = elim (cases_Bool (is_selected s seen)) [
-    | inl is ↦ rw is (ap (λ (os : List Observed). plain_epoch seen ∷ os) (chosen epochs))
-    | inr other ↦ rw other (chosen epochs)
-  ]
-
-  same_selected : (xs ys : List ObsEpoch) → plain_epochs xs ≡ plain_epochs ys
-      → plain_epochs (selected s xs) ≡ plain_epochs (selected s ys)
-  same_selected xs ys e =
-      chosen xs ∙ ap (λ (os : List Observed). filter is_chosen os) e ∙ sym (chosen ys)
 
 heads : (a b : ObsEpoch) (xs ys : List ObsEpoch) → plain_epochs (a ∷ xs) ≡ plain_epochs (b ∷ ys)
     → IsCons (plain_epoch a) (plain_epoch b) (plain_epochs xs) (plain_epochs ys)

@@ -18,7 +18,7 @@ use crate::making_texts::made_lines;
 use crate::solving::write_solution;
 use crate::telling::{say, tell};
 use crate::unseen::Unseen;
-use epoch_selection::Selection;
+use epoch_selection::{FIRST_EPOCH, LAST_EPOCH, Selection};
 use error_bounds::{Settings, SettingsError, read_settings};
 use grid_model::NoMemory;
 use input_files::{
@@ -34,11 +34,11 @@ use std::alloc::Global;
 const LOG: &str = "log";
 
 /// What a text says that has no fault.
-fn read_faultless<V, G: Grammar<V>>(alloc: Global, bytes: &[u8], grammar: &G) -> Result<V, Notice>
-    requires short { length bytes.now ≤ longest_file }
+fn read_faultless<V, G: Grammar<V>>(alloc: Global, bytes: Vec<u8>, grammar: &G) -> Result<V, Notice>
+    requires short { length bytes.items ≤ longest_file }
     requires faultless { (w : (G.text grammar.now).Value)
-        × (G.text grammar.now).Spells bytes.now w }
-    ensures value { (w : (G.text grammar.now).Value) → (G.text grammar.now).Spells bytes.now w
+        × (G.text grammar.now).Spells bytes.items w }
+    ensures value { (w : (G.text grammar.now).Value) → (G.text grammar.now).Spells bytes.items w
         → IfOk result (λ v. (G.text grammar.now).value v ≡ w) }
     ensures usual { IfOk result (G.text grammar.now).Usual }
     ensures memory { IfErr result (λ n. n ≡ Notice.NoMemory) }
@@ -72,14 +72,18 @@ fn made_inputs(alloc: Global, seed: u32, epochs: u32) -> Result<Inputs, Notice>
         return Err(Notice::NoMemory);
     };
     let settings = faultless_settings(alloc, &made.settings)?;
-    let nav = read_faultless(alloc, &made.nav, &NavText { both: false })?;
+    let nav = read_faultless(alloc, made.nav, &NavText { both: false })?;
     let position = wants_position(settings.centre);
     let sought = Sought::alone(settings.signal);
     let text = ObsText {
         sought: &sought,
         position,
+        selection: command_words::Selection {
+            from: FIRST_EPOCH,
+            to: LAST_EPOCH,
+        },
     };
-    let obs = read_faultless(alloc, &made.obs, &text)?;
+    let obs = read_faultless(alloc, made.obs, &text)?;
     Ok(Inputs { settings, nav, obs })
 }
 
@@ -113,10 +117,15 @@ fn solved_in_memory(alloc: Global, limits: &Limits, inputs: &Inputs) -> Result<L
         Status::LogFull => return Err(Notice::LogFull { limit: limits.log }),
         _ => return Err(Notice::NoMemory),
     }
-    match shelf.file(LOG) {
-        Some(bytes) => read_faultless(alloc, bytes, &LogText),
-        None => unreachable!(),
-    }
+    let Some(bytes) = shelf.file(LOG) else {
+        unreachable!();
+    };
+    let Ok(text) = Vec::from_slice(alloc, bytes) else {
+        return Err(Notice::NoMemory);
+    };
+    // The value keeps the copy, so the log is in memory once while it is read.
+    drop(shelf);
+    read_faultless(alloc, text, &LogText)
 }
 
 /// The log of the files that are made of a seed.

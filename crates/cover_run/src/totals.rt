@@ -2,7 +2,7 @@
 
 ghost use Rattle.std.specs.Prelude.{◌≡◌, ◌≤◌, ◌*◌, count_by};
 ghost use Rattle.cover_run.specs.Making.{counted_in, is_of, summed, usable_in};
-ghost use Rattle.step_columns.specs.Steps.{steps_of};
+ghost use Rattle.step_lines.specs.Steps.{steps_of};
 ghost use Rattle.paving_log.specs.Values.{block_of, log_value};
 ghost use Rattle.sat_model.specs.Logs.{IsNumbered, lines_in};
 ghost use Rattle.sat_model.specs.Verdicts.{BodyPasses, Judged};
@@ -10,7 +10,7 @@ ghost use Rattle.sat_model.specs.declared.rules.Rules.{Rules};
 
 use paving_log::{Log, LogEpoch};
 use sat_model::Step;
-use step_columns::LoggedSteps;
+use step_lines::LoggedSteps;
 
 /// The numbers of a total.
 #[derive(Clone, Copy, Debug, PartialEq, Eq)]

@@ -23,7 +23,7 @@ use rinex_obs::ObsEpoch;
 use sat_model::Rules;
 use sat_rows::RowSource;
 use std::alloc::Global;
-use step_columns::LoggedSteps;
+use step_lines::LoggedSteps;
 
 /// The block of an epoch, and what forms its rows anew.
 #[derive(Drop)]
@@ -38,7 +38,7 @@ fn body_over(alloc: Global, root: &Box3) -> Body
 {
     Body {
         root: *root,
-        steps: LoggedSteps::new(alloc),
+        steps: LoggedSteps::new(),
         renewals: Vec::new(alloc),
         done: 0,
     }

@@ -7,7 +7,7 @@ ghost use Rattle.epoch_rows.specs.Makers.{GivesNext};
 ghost use Rattle.epoch_rows.specs.Ready.{SkipsFit, CanGive};
 ghost use Rattle.epoch_selection.specs.Searches.{epochs_left};
 ghost use Rattle.epoch_selection.specs.Selections.{selected};
-ghost use Rattle.rinex_obs.specs.Facts.{AreNumbered, AreDistinct, AreNamedSats, InEach};
+ghost use Rattle.rinex_obs.specs.Facts.{AreRisingFrom, AreDistinct, AreNamedSats, InEach};
 ghost use Rattle.rinex_obs.specs.Reading.{observations_of};
 ghost use Rattle.grid_model.specs.Boxes.{grid_box};
 ghost use Rattle.grid_model.specs.SearchBoxes.{IsSearchBox};
@@ -49,7 +49,7 @@ impl<'a, S: RowSource> ObsBlocks<'a, S> {
         rules: &Rules,
         renews: bool,
     ) -> ObsBlocks<'a, S>
-        requires numbered { AreNumbered (observations_of obs.now).epochs }
+        requires rising { AreRisingFrom 1 (observations_of obs.now).epochs }
         requires distinct { InEach AreDistinct (observations_of obs.now).epochs }
         requires named { InEach AreNamedSats (observations_of obs.now).epochs }
         requires skips { SkipsFit (S.meaning source.now) }

@@ -1,8 +1,10 @@
 //! Which epochs of an observation file a run takes, and the box in which each of them is searched.
 #![tactic(auto)]
 
+mod laws;
 mod searches;
 mod selection;
 
+pub use laws::kept_are_selected;
 pub use searches::Searches;
 pub use selection::{FIRST_EPOCH, LAST_EPOCH, Selection};

@@ -1,6 +1,7 @@
 -- What a text that was read or refused settles.
 use Rattle.std.proofs.Common.{◌≡◌, ℕ, Bool, true, false, List, [], ◌∷◌, Result, Ok, Err, inl, inr, refl, ap, sym}
 use Rattle.std.proofs.Common.{◌∙◌}
+use Rattle.command_words.specs.Commands.{Epochs}
 use Rattle.paving_log.specs.declared.log.LogError.{LogError}
 use Rattle.rinex_nav.specs.Files as nav
 use Rattle.rinex_obs.specs.Files as obs
@@ -93,11 +94,11 @@ pub nav_gives : (both : Bool) (bytes : List ℕ) (e : ReadError)
 nav_gives both bytes (Refused r) refuses = inr (refl, refuses)
 nav_gives both bytes NoMemory refuses = inl refl
 
-pub obs_gives : (sought : Sought) (position : Bool) (bytes : List ℕ) (e : ReadError)
+pub obs_gives : (sought : Sought) (position : Bool) (epochs : Epochs) (bytes : List ℕ) (e : ReadError)
     → Refuses (obs.obs_file_of sought position (lines_of bytes)) e
-    → GivesOrEnds (obs_text sought position) bytes (Err (notice_of_file (λ r. input.Obs r) e))
-obs_gives sought position bytes (Refused r) refuses = inr (refl, refuses)
-obs_gives sought position bytes NoMemory refuses = inl refl
+    → GivesOrEnds (obs_text sought position epochs) bytes (Err (notice_of_file (λ r. input.Obs r) e))
+obs_gives sought position epochs bytes (Refused r) refuses = inr (refl, refuses)
+obs_gives sought position epochs bytes NoMemory refuses = inl refl
 
 -- ---- satellites that are named
 

@@ -13,7 +13,7 @@ module _ (limits : Limits) (names : Files) where
   pub obs_fair : (s : SettingsValue) (records : List Broadcast)
       → IsFair (ReadsObs limits names s records)
   obs_fair s records =
-      let text = obs_text (sought_of s) (wants_position s.centre) in
+      let text = obs_text (sought_of s) (wants_position s.centre) names.epochs in
       then_fair (Named limits text names.obs)
       (λ o. Returns (record { settings = s; nav = records; obs = o }))
       (named_fair limits text names.obs)

@@ -1,7 +1,7 @@
 -- What is read from the three files of a receiver, in one order: the settings, the navigation file,
 -- the observation file.
 use Rattle.std.specs.Prelude.{◌≡◌, ℕ, Bool, true, false, List, [], ◌∷◌, is_some}
-use Rattle.command_words.specs.Commands.{Files}
+use Rattle.command_words.specs.Commands.{Epochs, Files}
 use Rattle.error_bounds.specs.Reading.{value_of_settings, signal_of, IsKnown, IsEnough}
 use Rattle.error_bounds.specs.Texts as settings
 use Rattle.error_bounds.specs.declared.settings.Centre.{Centre}
@@ -12,7 +12,7 @@ use Rattle.rinex_nav.specs.Files as nav
 use Rattle.rinex_nav.specs.Reading.{records_of}
 use Rattle.rinex_nav.specs.Records.{Broadcast}
 use Rattle.rinex_nav.specs.declared.record.NavRecord.{NavRecord}
-use Rattle.rinex_obs.specs.Facts.{AreNumbered, AreDistinct, AreNamedSats, InEach}
+use Rattle.rinex_obs.specs.Facts.{AreRisingFrom, AreDistinct, AreNamedSats, InEach}
 use Rattle.rinex_obs.specs.Files as obs
 use Rattle.rinex_obs.specs.Reading.{observations_of}
 use Rattle.rinex_obs.specs.declared.obs.Obs.{Obs}
@@ -80,9 +80,10 @@ NamesObsFault sought position bytes (notice.BadInput (fault.Obs refusal)) =
     obs.IsFirstFaultOf sought position bytes refusal
 NamesObsFault sought position bytes _ = ⊥
 
--- The epochs are numbered, and the satellites of each are of GPS or Galileo, none of them twice.
+-- The numbers of the epochs rise, and the satellites of each are of GPS or Galileo, none of them
+-- twice.
 pub record AreUsual (o : Obs) : Type 0 where
-  pub numbered : AreNumbered (observations_of o).epochs
+  pub rising : AreRisingFrom 1 (observations_of o).epochs
   pub distinct : InEach AreDistinct (observations_of o).epochs
   pub named : InEach AreNamedSats (observations_of o).epochs
 
@@ -90,20 +91,20 @@ pub record AreObserved (position : Bool) (o : Obs) : Type 0 where
   pub usual : AreUsual o
   pub known : position ≡ true → IsKnown o.position
 
--- with the wanted codes
-abbrev pub obs_text : Sought → Bool → Text Obs
-obs_text sought position = record {
+-- with the wanted codes, and the epochs of the file that are asked for
+abbrev pub obs_text : Sought → Bool → Epochs → Text Obs
+obs_text sought position epochs = record {
   role = role.Obs;
   Value = obs.Observations;
   value = observations_of;
-  Spells = obs.IsObsFileOf sought position;
+  Spells = λ bytes. obs.AreBetween epochs.from epochs.to (obs.IsObsFileOf sought position bytes);
   Names = NamesObsFault sought position;
   Usual = AreObserved position;
 }
 
 -- ---- all of them
 
--- what their texts stand for
+-- what their texts stand for, with the epochs that are asked for
 pub record InputsValue : Type 0 where
   pub settings : settings.SettingsValue
   pub nav : List Broadcast
@@ -123,7 +124,7 @@ input_files names =
 
 abbrev pub ReadsObs : Limits → Files → settings.SettingsValue → List Broadcast → Reading InputsValue
 ReadsObs limits names s records =
-    Then (Named limits (obs_text (sought_of s) (wants_position s.centre)) names.obs)
+    Then (Named limits (obs_text (sought_of s) (wants_position s.centre) names.epochs) names.obs)
     (λ o. Returns (record { settings = s; nav = records; obs = o }))
 
 abbrev pub ReadsNav : Limits → Files → settings.SettingsValue → Reading InputsValue

@@ -18,13 +18,13 @@ pub trait Grammar<V> {
     fn role(&self) -> Role
         ensures { result ≡ (text self.now).role };
 
-    /// The value that a text spells, or its first fault.
-    fn read(&self, alloc: Global, bytes: &[u8]) -> Result<V, Notice>
-        requires { length bytes.now ≤ longest_file }
-        ensures gives { GivesOrEnds (text self.now) bytes.now
+    /// The value that a text spells, or its first fault. A value may keep the text.
+    fn read(&self, alloc: Global, bytes: Vec<u8>) -> Result<V, Notice>
+        requires { length bytes.items ≤ longest_file }
+        ensures gives { GivesOrEnds (text self.now) bytes.items
             (valued (text self.now).value result) }
         ensures same { (other : Result (text self.now).Value Notice)
-            → Gives (text self.now) bytes.now other
+            → Gives (text self.now) bytes.items other
             → Settles (valued (text self.now).value result) other }
         ensures usual { IfOk result (text self.now).Usual };
 }

@@ -4,9 +4,10 @@ use crate::grammar::Grammar;
 use crate::motion::with_motion;
 use crate::notice::Notice;
 use crate::role::Role;
+use command_words::Selection;
 use error_bounds::{Settings, read_settings};
 use rinex_nav::{Nav, read_nav_of};
-use rinex_obs::{Obs, Sought, read_obs_of};
+use rinex_obs::{Obs, Sought, read_obs_between};
 use std::alloc::Global;
 
 /// The texts of settings; of a receiver that moves its greatest speed has to be there.
@@ -24,8 +25,8 @@ impl Grammar<Settings> for SettingsText {
         Role::Settings
     }
 
-    fn read(&self, alloc: Global, bytes: &[u8]) -> Result<Settings, Notice> {
-        match read_settings(alloc, bytes) {
+    fn read(&self, alloc: Global, bytes: Vec<u8>) -> Result<Settings, Notice> {
+        match read_settings(alloc, &bytes) {
             Ok(settings) => with_motion(settings, self.moving),
             Err(error) => Err(Notice::of_settings(error)),
         }
@@ -47,33 +48,36 @@ impl Grammar<Nav> for NavText {
         Role::Nav
     }
 
-    fn read(&self, alloc: Global, bytes: &[u8]) -> Result<Nav, Notice> {
-        match read_nav_of(alloc, bytes, self.both) {
+    fn read(&self, alloc: Global, bytes: Vec<u8>) -> Result<Nav, Notice> {
+        match read_nav_of(alloc, &bytes, self.both) {
             Ok(nav) => Ok(nav),
             Err(error) => Err(Notice::of_nav(error)),
         }
     }
 }
 
-/// The texts of observation files, for the wanted codes; and whether the position of the header is
-/// wanted.
+/// The texts of observation files, for the wanted codes and the selected epochs; and whether the
+/// position of the header is wanted.
 #[derive(Clone, Copy)]
 pub struct ObsText<'a> {
     pub sought: &'a Sought,
     pub position: bool,
+    pub selection: Selection,
 }
 
 impl<'a> Grammar<Obs> for ObsText<'a> {
+    ghost use Rattle.command_words.specs.Seen.{epochs_asked};
     ghost use Rattle.input_files.specs.Inputs.{obs_text};
 
-    ghost text = { λ t. obs_text t.sought.now t.position };
+    ghost text = { λ t. obs_text t.sought.now t.position (epochs_asked t.selection) };
 
     fn role(&self) -> Role {
         Role::Obs
     }
 
-    fn read(&self, alloc: Global, bytes: &[u8]) -> Result<Obs, Notice> {
-        match read_obs_of(alloc, bytes, self.sought, self.position) {
+    fn read(&self, alloc: Global, bytes: Vec<u8>) -> Result<Obs, Notice> {
+        let Selection { from, to } = self.selection;
+        match read_obs_between(alloc, &bytes, self.sought, self.position, from, to) {
             Ok(obs) => Ok(obs),
             Err(error) => Err(Notice::of_obs(error)),
         }

@@ -19,7 +19,7 @@ use rinex_nav::Nav;
 use rinex_obs::{Obs, Sought};
 use std::alloc::Global;
 
-/// What is read from the files of a receiver.
+/// What is read from the files of a receiver, with the selected epochs.
 #[derive(Drop)]
 pub struct Inputs {
     pub settings: Settings,
@@ -47,9 +47,9 @@ pub fn sought_of(settings: &Settings) -> Sought
     }
 }
 
-/// Reads the settings, the navigation file and the observation file, each whole. Each is accepted
-/// or refused before the next is begun. The settings of a receiver that moves are refused where
-/// they lack its greatest speed.
+/// Reads the settings, the navigation file and the observation file, each whole, and keeps of the
+/// epochs those that the words select. Each is accepted or refused before the next is begun. The
+/// settings of a receiver that moves are refused where they lack its greatest speed.
 pub fn read_inputs<H: Shelf>(
     alloc: Global,
     limits: &Limits,
@@ -76,6 +76,7 @@ pub fn read_inputs<H: Shelf>(
     let text = ObsText {
         sought: &sought,
         position,
+        selection: words.selection,
     };
     let obs = read_named(alloc, limits, words.obs, &text, shelf)?;
     Ok(Inputs { settings, nav, obs })

@@ -5,6 +5,7 @@ use crate::notice::Notice;
 use crate::role::Role;
 use paving_log::{Log, read_log, read_rows};
 use std::alloc::Global;
+use std::rc::Rc;
 
 /// The texts of logs.
 #[derive(Clone, Copy)]
@@ -19,8 +20,11 @@ impl Grammar<Log> for LogText {
         Role::Log
     }
 
-    fn read(&self, alloc: Global, bytes: &[u8]) -> Result<Log, Notice> {
-        match read_log(alloc, bytes) {
+    fn read(&self, alloc: Global, bytes: Vec<u8>) -> Result<Log, Notice> {
+        let Ok(text) = Rc::new(alloc, bytes) else {
+            return Err(Notice::NoMemory);
+        };
+        match read_log(alloc, &text) {
             Ok(log) => Ok(log),
             Err(error) => Err(Notice::of_text(Role::Log, error)),
         }
@@ -40,8 +44,11 @@ impl Grammar<Log> for RowsText {
         Role::Rows
     }
 
-    fn read(&self, alloc: Global, bytes: &[u8]) -> Result<Log, Notice> {
-        match read_rows(alloc, bytes) {
+    fn read(&self, alloc: Global, bytes: Vec<u8>) -> Result<Log, Notice> {
+        let Ok(text) = Rc::new(alloc, bytes) else {
+            return Err(Notice::NoMemory);
+        };
+        match read_rows(alloc, &text) {
             Ok(rows) => Ok(rows),
             Err(error) => Err(Notice::of_text(Role::Rows, error)),
         }

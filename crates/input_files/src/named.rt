@@ -68,5 +68,5 @@ pub fn read_named<H: Shelf, V, G: Grammar<V>>(
         (H.state shelf.old) (H.state shelf.new) result }
 {
     let bytes = read_file(alloc, limits, name, grammar.role(), shelf)?;
-    grammar.read(alloc, &bytes)
+    grammar.read(alloc, bytes)
 }

@@ -19,8 +19,8 @@ impl Grammar<Watches> for ZonesText {
         Role::Zones
     }
 
-    fn read(&self, alloc: Global, bytes: &[u8]) -> Result<Watches, Notice> {
-        match read_watches(alloc, bytes) {
+    fn read(&self, alloc: Global, bytes: Vec<u8>) -> Result<Watches, Notice> {
+        match read_watches(alloc, &bytes) {
             Ok(watches) => Ok(watches),
             Err(error) => Err(Notice::of_zones(error)),
         }

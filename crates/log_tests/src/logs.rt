@@ -4,7 +4,7 @@ ghost use Rattle.sat_model.specs.Fold.{first_boxes};
 ghost use Rattle.sat_model.specs.Logs.{IsNumbered};
 ghost use Rattle.paving_log.specs.Values.{log_value};
 
-use crate::renewed::{LEFT, ROWS, log_with};
+use crate::renewed::{LEFT, ROWS, kept_text, log_with};
 use grid_model::{Box3, NoMemory, Pos};
 use paving_log::{
     Body, Log, LogEpoch, LogError, Renewal, cover_boxes, done_line, epoch_line, head_lines,
@@ -14,7 +14,7 @@ use paving_log_check::{Verdict, judge, judged_folds};
 use sat_model::{SatEntry, Step};
 use std::alloc::{AllocError, Global};
 use std::test::Fail;
-use step_columns::LoggedSteps;
+use step_lines::LoggedSteps;
 
 const LOG: &str = "gpscover 1
 rules 0 0 1000000
@@ -31,20 +31,24 @@ done 0
 /// The number of the first line that doesn't fit and its kind, 41 where its word isn't built, and
 /// two zeros for the text of a log.
 fn fault(alloc: Global, text: &str) -> (u32, u8) {
-    let bytes = text.as_bytes();
-    if bytes.len() > 4_000_000_000 {
+    if text.len() > 4_000_000_000 {
         return (0, 255);
     }
-    told(&read_log(alloc, bytes))
+    match kept_text(alloc, text) {
+        Ok(bytes) => told(&read_log(alloc, &bytes)),
+        Err(_) => (0, 254),
+    }
 }
 
 /// The same of the text of rows.
 fn rows_fault(alloc: Global, text: &str) -> (u32, u8) {
-    let bytes = text.as_bytes();
-    if bytes.len() > 4_000_000_000 {
+    if text.len() > 4_000_000_000 {
         return (0, 255);
     }
-    told(&read_rows(alloc, bytes))
+    match kept_text(alloc, text) {
+        Ok(bytes) => told(&read_rows(alloc, &bytes)),
+        Err(_) => (0, 254),
+    }
 }
 
 /// A fault's line and kind.
@@ -293,7 +297,7 @@ fn rows_that_were_read_are_written_as_they_were(rt: HostRuntime) -> Result<(), F
     if text.len() > 4_000_000_000 {
         return Ok(());
     }
-    match read_rows(rt.alloc(), text.as_bytes()) {
+    match read_rows(rt.alloc(), &kept_text(rt.alloc(), &text)?) {
         Ok(log) => {
             let mut whole = String::new(rt.alloc());
             whole.push_str(rows_of_log())?;
@@ -320,7 +324,7 @@ fn a_log_that_was_read_is_written_as_it_was(rt: HostRuntime) -> Result<(), Fail>
         if text.len() > 4_000_000_000 {
             return Ok(());
         }
-        match read_log(rt.alloc(), text.as_bytes()) {
+        match read_log(rt.alloc(), &kept_text(rt.alloc(), text)?) {
             Ok(log) => assert_eq!(rt; written(rt.alloc(), &log)?.as_str(), text),
             Err(error) => assert!(rt; false, "refused: {error:?}"),
         }
@@ -336,12 +340,12 @@ fn the_first_line_tells_whether_pairs_are_tested(rt: HostRuntime) -> Result<(), 
         if text.len() > 4_000_000_000 || rows.len() > 4_000_000_000 {
             return Ok(());
         }
-        let log = read_log(rt.alloc(), text.as_bytes()).ok().ok_or("refused")?;
+        let kept = kept_text(rt.alloc(), &text)?;
+        let log = read_log(rt.alloc(), &kept).ok().ok_or("refused")?;
         assert_eq!(rt; (log.version, log.rules.pairs), (version, pairs));
         assert_eq!(rt; written(rt.alloc(), &log)?, text);
-        let log = read_rows(rt.alloc(), rows.as_bytes())
-            .ok()
-            .ok_or("refused")?;
+        let kept = kept_text(rt.alloc(), &rows)?;
+        let log = read_rows(rt.alloc(), &kept).ok().ok_or("refused")?;
         assert_eq!(rt; log.rules.pairs, pairs);
     }
     Ok(())
@@ -351,6 +355,9 @@ fn the_first_line_tells_whether_pairs_are_tested(rt: HostRuntime) -> Result<(), 
 fn cover(alloc: Global, root: Box3, steps: &[Step]) -> Result<Vec<Box3>, NoMemory>
     requires { StepsFold (first_boxes (grid_box root)) steps.now }
 {
+    let Some(steps) = LoggedSteps::from_slice(alloc, steps)? else {
+        return Err(NoMemory);
+    };
     let epoch = LogEpoch {
         line: 3,
         index: 1,
@@ -359,7 +366,7 @@ fn cover(alloc: Global, root: Box3, steps: &[Step]) -> Result<Vec<Box3>, NoMemor
         sats: Vec::new(alloc),
         body: Some(Body {
             root,
-            steps: LoggedSteps::from_slice(alloc, steps)?,
+            steps,
             renewals: Vec::new(alloc),
             done: 0,
         }),
@@ -403,7 +410,8 @@ fn the_cover_of_the_log_is_its_search_box(rt: HostRuntime) -> Result<(), Fail> {
     if LOG.len() > 4_000_000_000 {
         return Ok(());
     }
-    let log = read_log(rt.alloc(), LOG.as_bytes()).ok().ok_or("refused")?;
+    let kept = kept_text(rt.alloc(), LOG)?;
+    let log = read_log(rt.alloc(), &kept).ok().ok_or("refused")?;
     let boxes = judged_cover(rt.alloc(), &log)?;
     assert_eq!(rt; boxes.as_slice(), &[search_box()][..]);
     Ok(())

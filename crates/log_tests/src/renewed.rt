@@ -1,9 +1,12 @@
 //! The judge on a log with renewed rows.
 
+ghost use Rattle.std.specs.Prelude.{◌≡◌, IfOk};
+
 use grid_model::Span;
 use paving_log::{LogError, read_log};
 use paving_log_check::{Fault, Verdict, judge};
 use std::alloc::{AllocError, Global};
+use std::rc::Rc;
 use std::test::Fail;
 
 pub const ROWS: [&str; 4] = [
@@ -39,12 +42,20 @@ pub fn log_with(
     Ok(text)
 }
 
+/// The bytes of a text, as a log keeps them.
+pub fn kept_text(alloc: Global, text: &str) -> Result<Rc<Vec<u8>>, AllocError>
+    ensures { IfOk result (λ kept. kept.value.items ≡ text.now) }
+{
+    let bytes = Vec::from_slice(alloc, text.as_bytes())?;
+    Ok(Rc::new(alloc, bytes)?)
+}
+
 /// The verdict on the text, or the line and kind where it is no log.
 fn found(alloc: Global, text: &str) -> Result<Result<Verdict, (u32, u8)>, Fail> {
     if text.len() > 4_000_000_000 {
         return Err(Fail::from("too long"));
     }
-    match read_log(alloc, text.as_bytes()) {
+    match read_log(alloc, &kept_text(alloc, text)?) {
         Ok(log) => Ok(Ok(judge(alloc, &log)?)),
         Err(LogError::BadLog { line, kind }) => Ok(Err((line, kind))),
         Err(LogError::NoMemory) => Err(Fail::from("no memory")),

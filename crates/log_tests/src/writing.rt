@@ -7,6 +7,7 @@ ghost use Rattle.paving_log.specs.Text.{LogFits};
 ghost use Rattle.paving_log.specs.Values.{log_value};
 ghost use Rattle.paving_log.specs.declared.line.Kind.TheVariants as kind;
 
+use crate::renewed::kept_text;
 use grid_model::{Box3, NoMemory};
 use log_writer::{Blocks, LogBlocks, WriteFault, write_log};
 use outer_io::{MemoryShelf, MemorySink, Shelf, Slot};
@@ -24,7 +25,7 @@ fn rows_in(alloc: Global, text: &str) -> Result<Log, Fail>
     if text.len() > 4_000_000_000 {
         return Err(Fail::from("too long"));
     }
-    match read_rows(alloc, text.as_bytes()) {
+    match read_rows(alloc, &kept_text(alloc, text)?) {
         Ok(rows) => Ok(rows),
         Err(_) => Err(Fail::from("no rows")),
     }

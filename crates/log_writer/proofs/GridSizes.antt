@@ -18,7 +18,7 @@ use Rattle.box_contraction.specs.Cuts.{AreFacesDone}
 use Rattle.box_contraction.proofs.BoxLemmas.{cuts_some}
 use Rattle.box_contraction.proofs.FaceLemmas.{IsSomeCut, AreFaces}
 use Rattle.paving.proofs.PavedLemmas.{AreCutsInTurn}
-use Rattle.paving_log.specs.Lines.{StepFits}
+use Rattle.step_lines.specs.Lines.{StepFits}
 use Rattle.paving_log.specs.Rows.{CornersFit, corners_of}
 
 -- ---- lists whose members all meet a fact

@@ -1,6 +1,5 @@
 -- Events of steps and renewals: one more of them, and their lines.
-use Rattle.std.proofs.Common.{◌≡◌, ℕ, zero, suc, ◌+◌, ◌-◌, ◌≤◌, Bool, true, false, List, [], ◌∷◌, ◌++◌, length, take, drop, map, refl, sym, ap, subst, ◌∙◌, append_assoc, arith}
-use Rattle.std.specs.Prelude.{Result, Ok, Err, OnOk, OnErr, if◌then◌else◌}
+use Rattle.std.proofs.Common.{◌≡◌, ℕ, zero, suc, ◌+◌, ◌-◌, ◌≤◌, Bool, false, List, [], ◌∷◌, ◌++◌, length, take, drop, map, refl, sym, ap, subst, ◌∙◌, append_assoc, arith}
 use Rattle.std.specs.List.{flat_map, AllByRecursion}
 use Rattle.std.proofs.lemmas.List.{length-append, length-map, length-drop, take-append-drop, take-append-le, drop-append-le}
 use Rattle.sat_model.specs.declared.steps.Step.{Step}
@@ -116,34 +115,6 @@ pub fit_on : (renews : Bool) (n : ℕ) (events : List Event) (event : Event)
     → AllByRecursion (EventFits renews n) (events ++ event ∷ [])
 fit_on renews n [] event fit one = (one, tt)
 fit_on renews n (first ∷ events) event fit one = (fit.0, fit_on renews n events event fit.1 one)
-
--- ---- what a push gives
-
-pub places_on : {U E : Type 0} (result : Result U E) (old new : List Step) (s : Step) (rs : List Renewal)
-    → OnOk result (new ≡ old ++ s ∷ []) → OnErr result (new ≡ old) → Rise 0 rs (length old)
-    → Rise 0 rs (length new)
-places_on (Ok u) old new s rs ok err rise = rise_to 0 (length old) (length new) rs rise (omega (arith, ap length ok, length-append old (s ∷ [])))
-places_on (Err e) old new s rs ok err rise = rise_to 0 (length old) (length new) rs rise (omega (arith, ap length err))
-
-from_start : (steps : List Step) (rs : List Renewal) → Rise 0 rs (length steps)
-    → Rise 0 rs (0 + length steps)
-from_start steps rs rise = rise_to 0 (length steps) (0 + length steps) rs rise (omega arith)
-
-pub step_on : {U E : Type 0} (result : Result U E) (old new : List Step) (s : Step) (rs : List Renewal)
-    → OnOk result (new ≡ old ++ s ∷ []) → Rise 0 rs (length old)
-    → OnOk result (events_from 0 new rs ≡ events_from 0 old rs ++ Made s ∷ [])
-step_on (Ok u) old new s rs ok rise = ap (λ (xs : List Step). events_from 0 xs rs) ok ∙ step_behind 0 old s rs (from_start old rs rise)
-step_on (Err e) old new s rs ok rise = tt
-
-pub places_with : (ok : Bool) (high : ℕ) (rs now : List Renewal) (r : Renewal)
-    → now ≡ (if ok then rs ++ r ∷ [] else rs) → Rise 0 rs high → r.at ≡ high → Rise 0 now high
-places_with true high rs now r is rise at = subst (λ (l : List Renewal). Rise 0 l high) (sym is) (rise_on 0 high rs r rise at)
-places_with false high rs now r is rise at = subst (λ (l : List Renewal). Rise 0 l high) (sym is) rise
-
-pub renewal_on : (steps : List Step) (rs now : List Renewal) (r : Renewal) → now ≡ rs ++ r ∷ []
-    → Rise 0 rs (length steps) → r.at ≡ length steps
-    → events_from 0 steps now ≡ events_from 0 steps rs ++ Renewed (new_rows r) ∷ []
-renewal_on steps rs now r is rise at = ap (events_from 0 steps) is ∙ renewal_behind 0 steps rs r (from_start steps rs rise) (omega (arith, at))
 
 -- ---- steps without renewals
 

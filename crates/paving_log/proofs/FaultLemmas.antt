@@ -13,7 +13,8 @@ use Rattle.paving_log.specs.Lines.{spelled, name_of, fields, LineFits, line_word
 use Rattle.paving_log.specs.Order.{may_come, next, may_end, Leads}
 use Rattle.paving_log.specs.Faults.{FitsAt, head_of, Begins, Misfit, refusal, IsLineEnd, FirstLine, LineFails, FaultFrom}
 use Rattle.paving_log.proofs.OrderLemmas.{next_named}
-use Rattle.paving_log.proofs.SpellingLemmas.{HasNoEnd, words-line_text, line_end, line_some, same_line}
+use Rattle.step_lines.specs.Texts.{HasNoEnd}
+use Rattle.paving_log.proofs.SpellingLemmas.{words-line_text, line_end, line_some, same_line}
 use Rattle.paving_log.proofs.ValueLemmas.{same_words}
 
 -- ---- one line

@@ -4,11 +4,9 @@ use Rattle.std.specs.Prelude.{Option}
 use Rattle.std.specs.List.{AllByRecursion}
 use Rattle.std.proofs.lemmas.List.{append-nil}
 use Rattle.grid_model.specs.Boxes.{GridBox}
-use Rattle.step_columns.specs.Steps.{steps_of}
 use Rattle.sat_model.specs.declared.rows.Row.{Row}
 use Rattle.sat_model.specs.declared.steps.Step.{Step}
 use Rattle.sat_model.specs.Events.{Event, Made, Renewed, rows_over}
-use Rattle.paving_log.specs.declared.events.Events.{Events}
 use Rattle.paving_log.specs.declared.line.Corners.{Corners}
 use Rattle.sat_model.specs.declared.rows.SatEntry.{SatEntry}
 use Rattle.paving_log.specs.declared.line.Form.{Form}
@@ -23,9 +21,7 @@ use Rattle.paving_log.specs.Lines.{HeaderFits, LineFits}
 use Rattle.paving_log.specs.Order.{Leads}
 use Rattle.paving_log.specs.Rows.{RowFits, EntryFits, CornersFit, corners_of}
 use Rattle.paving_log.specs.Text.{first_line, row_line, IsSkipped, EventFits}
-use Rattle.paving_log.specs.EventValues.{events_of}
 use Rattle.paving_log.specs.Taking.{Takes, TakesTo}
-use Rattle.paving_log.proofs.EventLemmas.{steps_le_lines}
 use Rattle.paving_log.proofs.BlockLemmas.{TakesEvents, behind_few, behind_sat, behind_row, behind_renew, event_on, renewal_taken}
 
 pub record FewParts (f : Form) (k : ℕ) (sats : List SatEntry) (tail : List LogLine) (to : Place) : Type 0 where
@@ -127,8 +123,3 @@ renewal_more renews n start old mid new events pushed part rows c same before fi
     let allowed = (behind_renew renews n c first.leads.1 first.leads.2).0 in
     let fits : EventFits renews n (Renewed (rows_over part rows)) = (allowed, subst CornersFit (sym same) first.leads.0, many, rows_parts renews n n rows _ later.leads) in
     event_on renews n start old new events pushed (Renewed (rows_over part rows)) before (renewal_taken renews n old mid new part rows c same first later) fits push
-
--- no more steps than numbers of lines
-pub few_steps : (renews : Bool) (n : ℕ) (start left : Lines) (e : Events)
-    → TakesEvents renews n start (events_of e) left → length (steps_of e.steps) ≤ 4000000001
-few_steps renews n start left e before = omega (arith, before.taken.number, left.room, steps_le_lines (steps_of e.steps) e.renewals.items)

@@ -12,6 +12,7 @@ pub mod LogLemmas
 pub mod SatelliteLemmas
 pub mod OwnLemmas
 pub mod RowsLemmas
-pub mod LeadingLemmas
 pub mod KeptParts
 pub mod EventLemmas
+pub mod EndLemmas
+pub mod CountedLemmas

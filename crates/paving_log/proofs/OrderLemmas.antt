@@ -1,7 +1,6 @@
 -- What may come where, by the first word and by the whole line.
 use Rattle.std.proofs.Common.{◌≡◌, Bool, true, false, Some, refl, ap}
 use Rattle.sat_model.specs.declared.rows.SatEntry.TheVariants as entry
-use Rattle.sat_model.specs.declared.steps.Step.TheVariants.{Cut, Split, Outside, Inside, Edge}
 use Rattle.paving_log.specs.declared.line.LogLine.{LogLine}
 use Rattle.paving_log.specs.declared.line.LogLine.TheVariants as line
 use Rattle.paving_log.specs.declared.line.Place.{Place}
@@ -37,11 +36,7 @@ next_named (place.Few f count) (line.Sat (entry.Row row)) to e = cc
 next_named (place.Satellites f n count) (line.Sat (entry.Row row)) to e = only_true _ _ to e
 next_named (place.Satellites f n count) (line.Sat (entry.Skipped sat skip)) to e = only_true _ _ to e
 next_named (place.Satellites f n count) (line.Root c) to e = refl
-next_named (place.Steps renews n left) (line.Step (Cut id face bound)) to e = only_true _ _ to e
-next_named (place.Steps renews n left) (line.Step (Split id axis)) to e = only_true _ _ to e
-next_named (place.Steps renews n left) (line.Step (Outside id)) to e = only_true _ _ to e
-next_named (place.Steps renews n left) (line.Step (Inside id clock lo hi)) to e = only_true _ _ to e
-next_named (place.Steps renews n left) (line.Step (Edge id lo hi)) to e = only_true _ _ to e
+next_named (place.Steps renews n left) (line.Step s) to e = only_true _ _ to e
 next_named (place.Steps renews n left) (line.Renew c) to e = only_true _ _ to e
 next_named (place.Steps renews n left) (line.Sat (entry.Row row)) to e = only_true _ _ to e
 next_named (place.Steps renews n left) (line.Sat (entry.Skipped sat skip)) to e = cc

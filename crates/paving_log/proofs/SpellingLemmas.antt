@@ -1,15 +1,10 @@
 -- A spelled line holds no LF, and its words are those that it was joined of.
-use Rattle.std.proofs.Common.{◌≡◌, ◌≢◌, ℕ, zero, suc, ◌+◌, ◌*◌, ◌<◌, ◌≤◌, ◌^◌, ℤ, pos, negsuc, Bool, true, false, List, [], ◌∷◌, ◌++◌, length, refl, sym, ap, subst, ◌∙◌, lit<, arith, inl, inr}
-use Rattle.std.specs.Prelude.{nat_eq, if◌then◌else◌}
-use Rattle.std.specs.List.{AllByRecursion}
-use Rattle.std.specs.Fmt.{decimal, signed_decimal}
-use Rattle.std.specs.Str.Parse.{AllDigits}
-use Rattle.std.proofs.lemmas.Fmt.{decimal_is_IsNumeral_wide}
-use Rattle.std.proofs.lemmas.Str.Parse.{digit_from_value}
+use Rattle.std.proofs.Common.{◌≡◌, ℕ, zero, suc, ◌+◌, ◌*◌, ◌<◌, ◌≤◌, ◌^◌, ℤ, Bool, true, false, List, [], ◌∷◌, ◌++◌, length, refl, sym, ap, subst, ◌∙◌, lit<, arith, inl, inr}
+use Rattle.std.specs.Prelude.{if◌then◌else◌}
+use Rattle.std.specs.Fmt.{signed_decimal}
 use Rattle.std.proofs.lemmas.Int.{ints}
-use Rattle.std.proofs.lemmas.Bool.{eqb-true}
 use Rattle.std.proofs.lemmas.List.{length-append}
-use Rattle.grid_model.specs.Sizes.{IsWithin, IsErrorSize, IsClockSize}
+use Rattle.grid_model.specs.Sizes.{IsErrorSize}
 use Rattle.grid_model.specs.declared.boxes.Pos.{Pos}
 use Rattle.grid_model.specs.declared.spans.Span.{Span}
 use Rattle.sat_model.specs.declared.rows.Row.{Row}
@@ -17,8 +12,6 @@ use Rattle.gnss_model.specs.declared.satellites.Sat.{Sat}
 use Rattle.gnss_model.specs.declared.satellites.Skip.{Skip}
 use Rattle.sat_model.specs.declared.rows.SatEntry.{SatEntry}
 use Rattle.sat_model.specs.declared.rows.SatEntry.TheVariants as entry
-use Rattle.sat_model.specs.declared.steps.Step.{Step}
-use Rattle.sat_model.specs.declared.steps.Step.TheVariants.{Cut, Split, Outside, Inside, Edge}
 use Rattle.paving_log.specs.declared.limits.Limits.{Limits}
 use Rattle.paving_log.specs.declared.line.Corners.{Corners}
 use Rattle.paving_log.specs.declared.line.Header.{Header}
@@ -26,43 +19,22 @@ use Rattle.paving_log.specs.declared.line.LineName.{LineName}
 use Rattle.paving_log.specs.declared.line.LineName.TheVariants as name
 use Rattle.paving_log.specs.declared.line.LogLine.{LogLine}
 use Rattle.paving_log.specs.declared.line.LogLine.TheVariants as line
-use Rattle.log_tokens.specs.Words.{words, joined}
+use Rattle.log_tokens.specs.Words.{words}
 use Rattle.log_tokens.specs.Fields.{optional_words, span_words, IsSpanWithin, pos_words, IsPosWithin, sat_words, IsNamed, skip_words, SkipFits, IsTime}
 use Rattle.paving_log.specs.Rows.{are_ends, sure_words, error_words, row_words, RowFits, entry_words, EntryFits, root_words, CornersFit}
-use Rattle.paving_log.specs.Lines.{spelled, name_of, fields, limits_words, header_words, HeaderFits, step_words, IsId, StepFits, LineFits, line_words, line_text}
+use Rattle.paving_log.specs.Lines.{spelled, name_of, fields, limits_words, header_words, HeaderFits, LineFits, line_words, line_text}
 use Rattle.log_tokens.proofs.TimeLemmas.{time_count}
-use Rattle.log_tokens.proofs.JoinedLemmas.{HasNoBlank, words-joined}
-
--- each byte is above the blank
-abbrev pub IsWord : List ℕ → Type 0
-IsWord word = AllByRecursion (λ byte. 32 < byte) word
-
-abbrev pub AreWords : List (List ℕ) → Type 0
-AreWords ws = AllByRecursion IsWord ws
+use Rattle.log_tokens.proofs.JoinedLemmas.{words-joined}
+use Rattle.step_lines.specs.declared.names.StepName.{StepName}
+use Rattle.step_lines.specs.declared.names.StepName.TheVariants as kind
+use Rattle.step_lines.specs.Lines.{name_word}
+use Rattle.step_lines.specs.Texts.{HasNoEnd}
+use Rattle.step_lines.specs.OneSpelling.{IsWord, AreWords, decimal_word, within_word, count_word, step_are, not_blank, none_blank, joined_end, same_front}
+use Rattle.step_lines.specs.OneSpelling.{name_is as step_name_is, same_name as one_name}
 
 words-on : (ws more : List (List ℕ)) → AreWords ws → AreWords more → AreWords (ws ++ more)
 words-on [] more first second = second
 words-on (w ∷ ws) more first second = (first.0, words-on ws more first.1 second)
-
--- ---- numbers
-
-digits_word : (ds : List ℕ) → AllDigits 10 ds → IsWord ds
-digits_word [] digits = tt
-digits_word (d ∷ ds) digits = let range = digit_from_value d digits.0 in (omega (arith, range.0), digits_word ds digits.1)
-
-decimal_word : (n : ℕ) → n < 10 ^ 64 → IsWord (decimal n)
-decimal_word n small = digits_word (decimal n) (decimal_is_IsNumeral_wide n small).0.1
-
--- a number within a bound of at most 64 digits
-pub within_word : (bound : ℕ) (z : ℤ) → bound < 10 ^ 64 → IsWithin bound z
-    → IsWord (signed_decimal z)
-within_word bound (pos n) small within = decimal_word n (omega (arith, ints, within.high))
-within_word zero (negsuc n) small within = absurd (omega (arith, ints, within.low))
-within_word (suc bound) (negsuc n) small within = (lit< tt, decimal_word (suc n) (omega (arith, ints, within.low)))
-
--- a count of at most 64 digits
-count_word : (high n : ℕ) → high < 10 ^ 64 → n ≤ high → IsWord (decimal n)
-count_word high n small le = decimal_word n (omega arith)
 
 time_word : (ps : ℤ) → IsTime ps → IsWord (signed_decimal ps)
 time_word ps time = let n = time_count ps time in subst (λ (z : ℤ). IsWord (signed_decimal z)) (sym n.is) (decimal_word n.count (omega (arith, n.within)))
@@ -116,19 +88,6 @@ entry_are : (e : SatEntry) → EntryFits e → AreWords (entry_words e)
 entry_are (entry.Row r) fits = row_are r fits
 entry_are (entry.Skipped sat skip) fits = words-on (sat_words sat) (skip_words skip) (sat_are sat fits.0) (skip_are skip fits.1)
 
-clock_word : (z : ℤ) → IsClockSize z → IsWord (signed_decimal z)
-clock_word z within = within_word 200000000000000 z (lit< tt) within
-
-id_word : (id : ℕ) → IsId id → IsWord (decimal id)
-id_word id fits = count_word 400000 id (lit< tt) fits.1
-
-step_are : (s : Step) → StepFits s → AreWords (step_words s)
-step_are (Cut id face bound) fits = (id_word id fits.0, (count_word 5 face (lit< tt) fits.1.1, (within_word 10000000000000 bound (lit< tt) fits.2, tt)))
-step_are (Split id axis) fits = (id_word id fits.0, (count_word 2 axis (lit< tt) fits.1.1, tt))
-step_are (Outside id) fits = (id_word id fits, tt)
-step_are (Inside id clock lo hi) fits = (id_word id fits.0, (clock_word clock fits.1, (clock_word lo fits.2, (clock_word hi fits.3, tt))))
-step_are (Edge id lo hi) fits = (id_word id fits.0, (clock_word lo fits.1, (clock_word hi fits.2, tt)))
-
 corners_are : (c : Corners) → CornersFit c → AreWords (root_words c)
 corners_are c fits = words-on (pos_words c.lo) (pos_words c.hi) (pos_are 10000000000000 c.lo (lit< tt) fits.lo_within) (pos_are 10000000000000 c.hi (lit< tt) fits.hi_within)
 
@@ -151,11 +110,7 @@ name_is name.Epoch = (lit< tt, (lit< tt, (lit< tt, (lit< tt, (lit< tt, tt)))))
 name_is name.Sat = (lit< tt, (lit< tt, (lit< tt, tt)))
 name_is name.Skip = (lit< tt, (lit< tt, (lit< tt, (lit< tt, tt))))
 name_is name.Root = (lit< tt, (lit< tt, (lit< tt, (lit< tt, tt))))
-name_is name.Cut = (lit< tt, (lit< tt, (lit< tt, tt)))
-name_is name.Split = (lit< tt, (lit< tt, (lit< tt, (lit< tt, (lit< tt, tt)))))
-name_is name.Out = (lit< tt, (lit< tt, (lit< tt, tt)))
-name_is name.In = (lit< tt, (lit< tt, tt))
-name_is name.Edge = (lit< tt, (lit< tt, (lit< tt, (lit< tt, tt))))
+name_is (name.Step n) = step_name_is n
 name_is name.Renew = (lit< tt, (lit< tt, (lit< tt, (lit< tt, (lit< tt, tt)))))
 name_is name.Done = (lit< tt, (lit< tt, (lit< tt, (lit< tt, tt))))
 
@@ -166,7 +121,39 @@ abbrev digest : List ℕ → ℕ
 digest (first ∷ second ∷ more) = first + 256 * (second + 256 * length more)
 digest _ = 0
 
+-- no other line has the first word of one of a step
+abbrev IsOther : LineName → Type 0
+IsOther (name.Step n) = ⊥
+IsOther _ = Unit {0}
+
+no_step : (m : StepName) (n : LineName) → IsOther n → name_word m ≡ spelled n → ⊥
+no_step kind.Cut (name.Step n) other e = other
+no_step kind.Split (name.Step n) other e = other
+no_step kind.Out (name.Step n) other e = other
+no_step kind.In (name.Step n) other e = other
+no_step kind.Edge (name.Step n) other e = other
+no_step _ _ other e = omega (arith, ap digest e)
+
 pub same_name : (m n : LineName) → spelled m ≡ spelled n → m ≡ n
+same_name (name.Step m) (name.Step n) e = ap name.Step (one_name m n e)
+same_name (name.Step m) name.Gpscover e = absurd (no_step m name.Gpscover tt e)
+same_name (name.Step m) name.Rules e = absurd (no_step m name.Rules tt e)
+same_name (name.Step m) name.Few e = absurd (no_step m name.Few tt e)
+same_name (name.Step m) name.Epoch e = absurd (no_step m name.Epoch tt e)
+same_name (name.Step m) name.Sat e = absurd (no_step m name.Sat tt e)
+same_name (name.Step m) name.Skip e = absurd (no_step m name.Skip tt e)
+same_name (name.Step m) name.Root e = absurd (no_step m name.Root tt e)
+same_name (name.Step m) name.Renew e = absurd (no_step m name.Renew tt e)
+same_name (name.Step m) name.Done e = absurd (no_step m name.Done tt e)
+same_name name.Gpscover (name.Step n) e = absurd (no_step n name.Gpscover tt (sym e))
+same_name name.Rules (name.Step n) e = absurd (no_step n name.Rules tt (sym e))
+same_name name.Few (name.Step n) e = absurd (no_step n name.Few tt (sym e))
+same_name name.Epoch (name.Step n) e = absurd (no_step n name.Epoch tt (sym e))
+same_name name.Sat (name.Step n) e = absurd (no_step n name.Sat tt (sym e))
+same_name name.Skip (name.Step n) e = absurd (no_step n name.Skip tt (sym e))
+same_name name.Root (name.Step n) e = absurd (no_step n name.Root tt (sym e))
+same_name name.Renew (name.Step n) e = absurd (no_step n name.Renew tt (sym e))
+same_name name.Done (name.Step n) e = absurd (no_step n name.Done tt (sym e))
 same_name name.Gpscover name.Gpscover e = refl
 same_name name.Rules name.Rules e = refl
 same_name name.Few name.Few e = refl
@@ -174,64 +161,18 @@ same_name name.Epoch name.Epoch e = refl
 same_name name.Sat name.Sat e = refl
 same_name name.Skip name.Skip e = refl
 same_name name.Root name.Root e = refl
-same_name name.Cut name.Cut e = refl
-same_name name.Split name.Split e = refl
-same_name name.Out name.Out e = refl
-same_name name.In name.In e = refl
-same_name name.Edge name.Edge e = refl
 same_name name.Renew name.Renew e = refl
 same_name name.Done name.Done e = refl
 same_name _ _ e = absurd (omega (arith, ap digest e))
 
 -- ---- lines
 
-not_blank : (word : List ℕ) → IsWord word → HasNoBlank word
-not_blank [] above = tt
-not_blank (byte ∷ bytes) above = (apart byte (nat_eq byte 32) refl above.0, not_blank bytes above.1)
-  where
-    apart : (b : ℕ) (test : Bool) → nat_eq b 32 ≡ test → 32 < b → nat_eq b 32 ≡ false
-    apart b true is lt = absurd (omega (arith, eqb-true b 32 is))
-    apart b false is lt = is
-
-none_blank : (ws : List (List ℕ)) → AreWords ws → AllByRecursion HasNoBlank ws
-none_blank [] above = tt
-none_blank (w ∷ ws) above = (not_blank w above.0, none_blank ws above.1)
-
 -- the words of a line that fits are those that it was joined of
 pub words-line_text : (l : LogLine) → LineFits l → words (line_text l) ≡ line_words l
 words-line_text l fits = words-joined (spelled (name_of l)) (fields l) (not_blank _ (name_is (name_of l))) (none_blank _ (fields_are l fits))
 
--- no byte is LF
-abbrev pub HasNoEnd : List ℕ → Type 0
-HasNoEnd bytes = AllByRecursion (λ byte. byte ≢ 10) bytes
-
-end-on : (a b : List ℕ) → HasNoEnd a → HasNoEnd b → HasNoEnd (a ++ b)
-end-on [] b first second = second
-end-on (x ∷ a) b first second = (first.0, end-on a b first.1 second)
-
-word_end : (word : List ℕ) → IsWord word → HasNoEnd word
-word_end [] above = tt
-word_end (byte ∷ bytes) above = (λ e. omega (arith, above.0), word_end bytes above.1)
-
-joined_end : (ws : List (List ℕ)) → AreWords ws → HasNoEnd (joined ws)
-joined_end [] above = tt
-joined_end (w ∷ []) above = word_end w above.0
-joined_end (w ∷ v ∷ more) above = end-on w (32 ∷ joined (v ∷ more)) (word_end w above.0) (λ e. omega arith, joined_end (v ∷ more) above.1)
-
 pub line_end : (l : LogLine) → LineFits l → HasNoEnd (line_text l)
 line_end l fits = joined_end (line_words l) (name_is (name_of l), fields_are l fits)
-
--- what stands before the first LF of a text
-pub same_front : (a b rest more : List ℕ) → HasNoEnd a → HasNoEnd b
-    → a ++ 10 ∷ rest ≡ b ++ 10 ∷ more → (a ≡ b) × (rest ≡ more)
-same_front [] [] rest more f g e = (refl, cc)
-same_front [] (y ∷ b) rest more f g e = let h : y ≡ 10 = cc in absurd (g.0 h)
-same_front (x ∷ a) [] rest more f g e = let h : x ≡ 10 = cc in absurd (f.0 h)
-same_front (x ∷ a) (y ∷ b) rest more f g e =
-    let tails : a ++ 10 ∷ rest ≡ b ++ 10 ∷ more = cc in
-    let heads : x ≡ y = cc in
-    let later = same_front a b rest more f.1 g.1 tails in
-    (ap (λ (t : List ℕ). x ∷ t) later.0 ∙ ap (λ (h : ℕ). h ∷ b) heads, later.1)
 
 -- two lines that fit and begin the same text have the same words
 pub same_line : (l m : LogLine) (rest more : List ℕ) → LineFits l → LineFits m

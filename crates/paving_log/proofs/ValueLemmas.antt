@@ -1,15 +1,13 @@
 -- Values that are spelled alike are one value.
 use Rattle.std.proofs.Common.{◌≡◌, ℕ, zero, suc, ◌+◌, ◌/◌, ◌%◌, ◌<◌, ◌≤◌, ◌^◌, ℤ, pos, List, [], ◌∷◌, drop, refl, sym, ap, ◌∙◌, lit<, arith, inl, inr}
 use Rattle.std.specs.Prelude.{◌≤ℤ◌}
-use Rattle.std.specs.Fmt.{decimal, signed_decimal}
-use Rattle.std.specs.Str.Parse.{digits_value}
-use Rattle.std.proofs.lemmas.Fmt.{decimal_is_IsNumeral_wide}
+use Rattle.std.specs.Fmt.{signed_decimal}
 use Rattle.std.proofs.lemmas.Int.{ints}
 use Rattle.std.proofs.Math.Dec.{T_prop}
 use Rattle.std.proofs.Math.Bridge.{le_prop}
 use Rattle.std.proofs.Math.ListN.{get_or}
 use mathlib.Core.HLevel.{is_prop→PathP}
-use Rattle.grid_model.specs.Sizes.{IsBoxSize, IsPlaceSize, IsErrorSize, IsClockSize}
+use Rattle.grid_model.specs.Sizes.{IsPlaceSize, IsErrorSize}
 use Rattle.sat_model.specs.declared.rules.Rules.{Rules}
 use Rattle.grid_model.specs.declared.boxes.Pos.{Pos}
 use Rattle.grid_model.specs.declared.spans.Span.{Span}
@@ -18,8 +16,6 @@ use Rattle.gnss_model.specs.declared.satellites.Sat.{Sat}
 use Rattle.gnss_model.specs.declared.satellites.Skip.{Skip}
 use Rattle.sat_model.specs.declared.rows.SatEntry.{SatEntry}
 use Rattle.sat_model.specs.declared.rows.SatEntry.TheVariants as entry
-use Rattle.sat_model.specs.declared.steps.Step.{Step}
-use Rattle.sat_model.specs.declared.steps.Step.TheVariants.{Cut, Split, Outside, Inside, Edge}
 use Rattle.paving_log.specs.declared.limits.Limits.{Limits}
 use Rattle.paving_log.specs.declared.line.Corners.{Corners}
 use Rattle.paving_log.specs.declared.line.Header.{Header}
@@ -30,13 +26,15 @@ use Rattle.paving_log.specs.declared.line.LogLine.TheVariants as line
 use Rattle.paving_log.specs.declared.line.Place.{Place}
 use Rattle.log_tokens.specs.Fields.{IsSpanWithin, IsPosWithin, IsTime, sat_words, IsNamed, optional_words, skip_words, SkipFits}
 use Rattle.paving_log.specs.Rows.{row_words, RowFits, entry_words, EntryFits, root_words, CornersFit}
-use Rattle.paving_log.specs.Lines.{limits_of, limits_words, header_words, HeaderFits, step_words, step_name, IsId, StepFits, entry_name, name_of, fields, LineFits, line_words, text_of}
+use Rattle.paving_log.specs.Lines.{limits_of, limits_words, header_words, HeaderFits, entry_name, name_of, fields, LineFits, line_words, text_of}
 use Rattle.paving_log.specs.Order.{Leads}
 use Rattle.paving_log.specs.Faults.{head_of}
 use Rattle.std.specs.List.{AllByRecursion}
 use Rattle.paving_log.proofs.SpellingLemmas.{same_name, line_some, same_line}
 use Rattle.paving_log.proofs.SureLemmas.{ends_from}
 use Rattle.log_tokens.proofs.NumberLemmas.{one_number}
+use Rattle.step_lines.specs.Lines.{step_name}
+use Rattle.step_lines.specs.OneSpelling.{count_same, at_index, step_from}
 use Rattle.log_tokens.proofs.TimeLemmas.{time_count}
 use Rattle.grid_model.proofs.OrderLemmas.{le_prop as int_prop}
 
@@ -120,10 +118,6 @@ same_header a b p q r = λ i. record { index = p i; ps = q i; n = r i }
 
 -- ---- numbers
 
-count_same : (high m n : ℕ) → high < 10 ^ 64 → m ≤ high → n ≤ high → decimal m ≡ decimal n → m ≡ n
-count_same high m n small f g e =
-    sym (decimal_is_IsNumeral_wide m (omega arith)).1 ∙ ap (digits_value 10) e ∙ (decimal_is_IsNumeral_wide n (omega arith)).1
-
 time_same : (m n : ℤ) → IsTime m → IsTime n → signed_decimal m ≡ signed_decimal n → m ≡ n
 time_same m n f g e =
     let a = time_count m f in
@@ -131,10 +125,6 @@ time_same m n f g e =
     a.is ∙ ap pos (count_same 3999999999999999999999 a.count b.count (lit< tt) a.within b.within (sym (ap signed_decimal a.is) ∙ e ∙ ap signed_decimal b.is)) ∙ sym b.is
 
 -- ---- words
-
--- the words at one index
-at_index : (k : ℕ) (ws vs : List (List ℕ)) → ws ≡ vs → get_or ws k [] ≡ get_or vs k []
-at_index k ws vs e = ap (λ (all : List (List ℕ)). get_or all k []) e
 
 span_from : (bound : ℕ) (a b : Span) → bound < 2 ^ 63 → IsSpanWithin bound a → IsSpanWithin bound b
     → signed_decimal a.lo ≡ signed_decimal b.lo → signed_decimal a.hi ≡ signed_decimal b.hi → a ≡ b
@@ -210,40 +200,6 @@ corners_from a b f g e =
     same_corners a b (pos_from 10000000000000 a.lo b.lo (lit< tt) f.lo_within g.lo_within (at_index 0 _ _ e) (at_index 1 _ _ e) (at_index 2 _ _ e))
     (pos_from 10000000000000 a.hi b.hi (lit< tt) f.hi_within g.hi_within (at_index 3 _ _ e) (at_index 4 _ _ e) (at_index 5 _ _ e))
 
-id_from : (m n : ℕ) → IsId m → IsId n → decimal m ≡ decimal n → m ≡ n
-id_from m n f g e = count_same 400000 m n (lit< tt) f.1 g.1 e
-
-clock_from : (m n : ℤ) → IsClockSize m → IsClockSize n → signed_decimal m ≡ signed_decimal n → m ≡ n
-clock_from m n f g e = one_number 200000000000000 m n (lit< tt) f g e
-
-bound_from : (m n : ℤ) → IsBoxSize m → IsBoxSize n → signed_decimal m ≡ signed_decimal n → m ≡ n
-bound_from m n f g e = one_number 10000000000000 m n (lit< tt) f g e
-
-step_from : (a b : Step) → StepFits a → StepFits b → step_name a ≡ step_name b
-    → step_words a ≡ step_words b → a ≡ b
-step_from (Cut i face bound) (Cut j other limit) f g name e =
-    let id = id_from i j f.0 g.0 (at_index 0 _ _ e) in
-    let same = count_same 5 face other (lit< tt) f.1.1 g.1.1 (at_index 1 _ _ e) in
-    let at = bound_from bound limit f.2 g.2 (at_index 2 _ _ e) in
-    cc
-step_from (Split i axis) (Split j other) f g name e =
-    let id = id_from i j f.0 g.0 (at_index 0 _ _ e) in
-    let same = count_same 2 axis other (lit< tt) f.1.1 g.1.1 (at_index 1 _ _ e) in
-    cc
-step_from (Outside i) (Outside j) f g name e = ap Outside (id_from i j f g (at_index 0 _ _ e))
-step_from (Inside i clock lo hi) (Inside j offset low high) f g name e =
-    let id = id_from i j f.0 g.0 (at_index 0 _ _ e) in
-    let at = clock_from clock offset f.1 g.1 (at_index 1 _ _ e) in
-    let from = clock_from lo low f.2 g.2 (at_index 2 _ _ e) in
-    let to = clock_from hi high f.3 g.3 (at_index 3 _ _ e) in
-    cc
-step_from (Edge i lo hi) (Edge j low high) f g name e =
-    let id = id_from i j f.0 g.0 (at_index 0 _ _ e) in
-    let from = clock_from lo low f.1 g.1 (at_index 1 _ _ e) in
-    let to = clock_from hi high f.2 g.2 (at_index 2 _ _ e) in
-    cc
-step_from _ _ f g name e = cc
-
 -- ---- lines
 
 -- the kinds of lines, numbered, by their names
@@ -255,11 +211,7 @@ kind name.Epoch = 3
 kind name.Sat = 4
 kind name.Skip = 4
 kind name.Root = 5
-kind name.Cut = 6
-kind name.Split = 6
-kind name.Out = 6
-kind name.In = 6
-kind name.Edge = 6
+kind (name.Step n) = 6
 kind name.Renew = 7
 kind name.Done = 8
 
@@ -282,11 +234,7 @@ kind_named (line.Epoch h) = refl
 kind_named (line.Sat (entry.Row r)) = refl
 kind_named (line.Sat (entry.Skipped sat skip)) = refl
 kind_named (line.Root c) = refl
-kind_named (line.Step (Cut id face bound)) = refl
-kind_named (line.Step (Split id axis)) = refl
-kind_named (line.Step (Outside id)) = refl
-kind_named (line.Step (Inside id clock lo hi)) = refl
-kind_named (line.Step (Edge id lo hi)) = refl
+kind_named (line.Step s) = refl
 kind_named (line.Renew c) = refl
 kind_named (line.Done n) = refl
 
@@ -301,7 +249,7 @@ line_from (line.Few h) (line.Few k) f g name e = ap line.Few (header_from h k f 
 line_from (line.Epoch h) (line.Epoch k) f g name e = ap line.Epoch (header_from h k f g e)
 line_from (line.Sat x) (line.Sat y) f g name e = ap line.Sat (entry_from x y f g name e)
 line_from (line.Root c) (line.Root d) f g name e = ap line.Root (corners_from c d f g e)
-line_from (line.Step s) (line.Step t) f g name e = ap line.Step (step_from s t f g name e)
+line_from (line.Step s) (line.Step t) f g name e = let kind : step_name s ≡ step_name t = cc in ap line.Step (step_from s t f g kind e)
 line_from (line.Renew c) (line.Renew d) f g name e = ap line.Renew (corners_from c d f g e)
 line_from (line.Done m) (line.Done n) f g name e = ap line.Done (count_same 200000 m n (lit< tt) f.1 g.1 (at_index 0 _ _ e))
 line_from l m f g name e = absurd (omega (arith, same_kind l m name))

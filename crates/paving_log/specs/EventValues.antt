@@ -1,7 +1,7 @@
 -- The events that steps and renewals stand for.
 use Rattle.std.specs.Prelude.{List}
 use Rattle.sat_model.specs.Events.{Event}
-use Rattle.step_columns.specs.Steps.{steps_of}
+use Rattle.step_lines.specs.Steps.{steps_of}
 use Rattle.paving_log.specs.declared.events.Events.{Events}
 use Rattle.paving_log.specs.Renewing.{events_from}
 

@@ -8,6 +8,5 @@ pub mod Text
 pub mod Faults
 pub mod RowsText
 pub mod Taking
-pub mod Leading
 pub mod Answers
 pub mod CoverBoxes

@@ -4,8 +4,8 @@ use Rattle.std.specs.Coded.{×_prop, le_prop}
 use Rattle.sat_model.specs.declared.steps.Step.{Step}
 use Rattle.grid_model.specs.Boxes.{grid_box}
 use Rattle.sat_model.specs.Events.{Event, Renewed, RowsOver, rows_over, made_all}
-use Rattle.step_columns.specs.Steps.{steps_of}
-use Rattle.step_columns.specs.declared.steps.LoggedSteps.{LoggedSteps}
+use Rattle.step_lines.specs.Steps.{steps_of}
+use Rattle.step_lines.specs.declared.steps.LoggedSteps.{LoggedSteps}
 use Rattle.paving_log.specs.declared.renewal.Renewal.{Renewal}
 
 -- the places don't fall, from one number of steps up to another

@@ -2,6 +2,7 @@
 use Rattle.std.specs.Prelude.{ℕ, ◌≡◌, ◌+◌, Bool, true, false, List, [], ◌∷◌, ◌++◌, length, Option}
 use Rattle.std.specs.Prelude.{None, Some}
 use Rattle.sat_model.specs.Logs.{Block, is_few}
+use Rattle.step_lines.specs.Texts.{AreCounted}
 use Rattle.paving_log.specs.declared.line.ClosingLine.{ClosingLine}
 use Rattle.paving_log.specs.declared.line.ClosingLine.TheVariants as closing
 use Rattle.paving_log.specs.declared.line.Form.{Form}
@@ -32,6 +33,18 @@ pub record Takes (at : Place) (old : Lines) (lines : List LogLine) (to : Place)
   pub leads : Leads at lines to
   pub parts : old.rest.now ≡ text_of lines ++ new.rest.now
   pub number : new.number ≡ old.number + length lines
+
+-- the bytes are the last ones of the text
+pub record IsEndOf (rest text : List ℕ) : Type 0 where
+  pub front : List ℕ
+  pub parts : text ≡ front ++ rest
+
+-- between what was left of a text before and what is left now stand the lines of so many steps, and
+-- of renewals
+pub record HasBetween (before now : List ℕ) (count : ℕ) : Type 0 where
+  pub part : List ℕ
+  pub parts : before ≡ part ++ now
+  pub counted : AreCounted part count
 
 -- a line behind the root of a log, and the place behind it
 abbrev pub closing_line : ClosingLine → LogLine

@@ -17,7 +17,8 @@ use Rattle.paving_log.specs.declared.line.LogLine.{LogLine}
 use Rattle.paving_log.specs.declared.line.LogLine.TheVariants as line
 use Rattle.log_tokens.specs.Fields.{IsCountFromTo}
 use Rattle.paving_log.specs.Rows.{RowFits, EntryFits, CornersFit, corners_of}
-use Rattle.paving_log.specs.Lines.{limits_of, HeaderFits, StepFits, text_of}
+use Rattle.step_lines.specs.Lines.{StepFits}
+use Rattle.paving_log.specs.Lines.{limits_of, HeaderFits, text_of}
 use Rattle.paving_log.specs.Order.{has_pairs, has_version, form_of}
 
 -- ---- the lines

@@ -3,7 +3,7 @@ use Rattle.std.specs.Prelude.{map, Option, None, Some}
 use Rattle.grid_model.specs.Boxes.{grid_box}
 use Rattle.sat_model.specs.Logs.{Block, LogValue}
 use Rattle.sat_model.specs.Logs.{Body as BodyValue}
-use Rattle.step_columns.specs.Steps.{steps_of}
+use Rattle.step_lines.specs.Steps.{steps_of}
 use Rattle.paving_log.specs.declared.log.Body.{Body}
 use Rattle.paving_log.specs.declared.log.Log.{Log}
 use Rattle.paving_log.specs.declared.log.LogEpoch.{LogEpoch}

@@ -1,6 +1,6 @@
 //! What stands behind a root: in a log the steps and renewals, and the number of splits.
 
-ghost use Rattle.std.specs.Prelude.{◌≡◌, ◌++◌, [], ◌∷◌, map, length, IfOk, IfErr};
+ghost use Rattle.std.specs.Prelude.{◌≡◌, ℕ, List, ◌++◌, [], ◌∷◌, map, length, IfOk, IfErr};
 ghost use Rattle.std.specs.List.{flat_map};
 ghost use Rattle.grid_model.specs.Boxes.{grid_box};
 ghost use Rattle.paving_log.specs.declared.line.Form.TheVariants as forms;
@@ -9,17 +9,22 @@ ghost use Rattle.paving_log.specs.declared.line.Place.TheVariants as place;
 ghost use Rattle.paving_log.specs.EventValues.{events_of};
 ghost use Rattle.paving_log.specs.Order.{place_behind_root};
 ghost use Rattle.paving_log.specs.Rows.{CornersFit, corners_of};
-ghost use Rattle.paving_log.specs.Taking.{Takes, Refuses};
+ghost use Rattle.paving_log.specs.Taking.{Takes, Refuses, IsEndOf, HasBetween};
+ghost use Rattle.step_lines.specs.Steps.{steps_of};
+ghost use Rattle.step_lines.specs.Texts.{AreLines, told_steps};
 ghost use Rattle.paving_log.specs.Text.{row_line, event_lines, closing_lines, ClosingFits};
 
 use crate::events::Events;
 use crate::line::{ClosingLine, Corners, Form, LogLine, Place};
 use crate::lines::Lines;
 use crate::log::LogError;
+use crate::renewal::Renewal;
 use crate::take::{take_line, take_step};
 use grid_model::Box3;
 use sat_model::{Row, SatEntry};
-use std::alloc::Global;
+use std::alloc::{AllocError, Global};
+use std::rc::Rc;
+use step_lines::LoggedSteps;
 
 /// The box with these corners.
 pub fn box_of(corners: Corners) -> Box3
@@ -64,44 +69,82 @@ fn renewed_rows(
     Ok((rows, behind))
 }
 
+/// The steps, as many as told, whose lines stand in the text between what was left of it before and
+/// what is left now. Want of memory is the only error.
+fn steps_between(
+    text: &Rc<Vec<u8>>,
+    before: Lines<'_>,
+    now: Lines<'_>,
+    count: u32,
+) -> Result<LoggedSteps, AllocError>
+    requires whole { IsEndOf before.rest.now text.now.value.items }
+    requires between { HasBetween before.rest.now now.rest.now count }
+    ensures { IfOk result (λ steps. (part : List ℕ) →
+        before.entry.rest.now ≡ part ++ now.entry.rest.now →
+        (found : AreLines part) → steps_of steps ≡ told_steps part found) }
+{
+    let bytes: &Vec<u8> = text;
+    let from = bytes.len() - before.rest.len();
+    let to = bytes.len() - now.rest.len();
+    let text = text.clone()?;
+    Ok(LoggedSteps::of_lines(text, from, to, count as usize))
+}
+
 /// The steps and renewals of an epoch, and the number of splits behind them.
-fn events(
+fn events<'a>(
     alloc: Global,
+    text: &Rc<Vec<u8>>,
     renews: bool,
     n: u32,
-    lines: Lines<'_>,
-) -> Result<(Events, u32, Lines<'_>), LogError>
+    lines: Lines<'a>,
+) -> Result<(Events, u32, Lines<'a>), LogError>
+    requires { IsEndOf lines.rest.now text.now.value.items }
     ensures taken { IfOk result
         (λ t. Takes (place.Steps renews n 0) lines.entry (flat_map event_lines (events_of t.0)
         ++ line.Done t.1 ∷ []) (place.Between (forms.Log renews)) t.2) }
     ensures fits { IfOk result (λ t. ClosingFits (forms.Log renews) n (events_of t.0) t.1) }
     ensures refused { IfErr result (Refuses (place.Steps renews n 0) lines.entry) }
 {
-    let mut events = Events::new(alloc);
+    let mut renewals = Vec::new(alloc);
+    let mut count = 0;
     let mut left = lines;
     'events: loop {
         let (line, behind) = take_step(left, renews, n)?;
-        left = behind;
         match line {
-            ClosingLine::Step(step) => events.push_step(step)?,
-            ClosingLine::Renew(corners) => {
-                let (rows, behind) = renewed_rows(alloc, renews, n, left)?;
+            ClosingLine::Step(_) => {
+                count += 1;
                 left = behind;
-                events.push_renewal(box_of(corners), rows)?;
             }
-            ClosingLine::Done(splits) => return Ok((events, splits, left)),
+            ClosingLine::Renew(corners) => {
+                let (rows, behind) = renewed_rows(alloc, renews, n, behind)?;
+                let part = box_of(corners);
+                let renewal = Renewal {
+                    at: count,
+                    part,
+                    rows,
+                };
+                renewals.push(renewal)?;
+                left = behind;
+            }
+            ClosingLine::Done(splits) => {
+                renewals.shrink_to_fit();
+                let steps = steps_between(text, lines, left, count)?;
+                return Ok((Events { steps, renewals }, splits, behind));
+            }
         }
     }
 }
 
 /// What stands behind a root: the steps and renewals and the number of splits, and nothing in the
 /// rows form.
-pub fn closing(
+pub fn closing<'a>(
     alloc: Global,
+    text: &Rc<Vec<u8>>,
     form: Form,
     n: u32,
-    lines: Lines<'_>,
-) -> Result<(Events, u32, Lines<'_>), LogError>
+    lines: Lines<'a>,
+) -> Result<(Events, u32, Lines<'a>), LogError>
+    requires { IsEndOf lines.rest.now text.now.value.items }
     ensures taken { IfOk result
         (λ t. Takes (place_behind_root form n) lines.entry (closing_lines form (events_of t.0) t.1)
         (place.Between form) t.2) }
@@ -109,7 +152,7 @@ pub fn closing(
     ensures refused { IfErr result (Refuses (place_behind_root form n) lines.entry) }
 {
     match form {
-        Form::Log { renews } => events(alloc, renews, n, lines),
+        Form::Log { renews } => events(alloc, text, renews, n, lines),
         Form::Rows => Ok((Events::new(alloc), 0, lines)),
     }
 }

@@ -5,7 +5,7 @@ ghost use Rattle.grid_model.specs.Boxes.{grid_box};
 ghost use Rattle.sat_model.specs.Fold.{first_boxes, taken_by, pieces};
 ghost use Rattle.subpaving.specs.Folding.{StepsFold};
 ghost use Rattle.subpaving.specs.LiveValues.{box_option, live_value};
-ghost use Rattle.step_columns.specs.Steps.{steps_of};
+ghost use Rattle.step_lines.specs.Steps.{steps_of};
 ghost use Rattle.paving_log.specs.CoverBoxes.{BodyFolds, kept_parts, cover_of};
 ghost use Rattle.paving_log.specs.Values.{block_of};
 
@@ -13,7 +13,7 @@ use crate::log::LogEpoch;
 use grid_model::{Box3, NoMemory};
 use sat_model::Step;
 use std::alloc::{AllocError, Global};
-use step_columns::LoggedSteps;
+use step_lines::LoggedSteps;
 use subpaving::Live;
 
 /// The box that the step closes inside or at the edge.

@@ -6,7 +6,6 @@ mod cover;
 mod entries;
 mod events;
 mod header;
-mod leading_steps;
 mod limits;
 mod line;
 mod lines;
@@ -17,7 +16,6 @@ mod read;
 mod reading;
 mod renewal;
 mod rows;
-mod steps;
 mod take;
 mod texts;
 mod write;
@@ -30,7 +28,6 @@ pub use own_tests::{
 };
 pub use renewal::Renewal;
 pub use sat_model::SatEntry;
+pub use step_lines::{Line, step_line};
 pub use texts::{read_log, read_rows};
-pub use write::{
-    Line, done_line, epoch_line, head_lines, renew_line, root_line, sat_line, step_line,
-};
+pub use write::{done_line, epoch_line, head_lines, renew_line, root_line, sat_line};

@@ -3,6 +3,7 @@
 use crate::limits::Limits;
 use grid_model::Pos;
 use sat_model::{SatEntry, Step};
+use step_lines::StepName;
 
 /// The fields of the first line of a block.
 #[derive(Clone, Copy, Debug, PartialEq, Eq)]
@@ -56,11 +57,7 @@ pub enum LineName {
     Sat,
     Skip,
     Root,
-    Cut,
-    Split,
-    Out,
-    In,
-    Edge,
+    Step(StepName),
     Renew,
     Done,
 }

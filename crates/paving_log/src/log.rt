@@ -8,7 +8,7 @@ use crate::renewal::Renewal;
 use grid_model::Box3;
 use sat_model::{Rules, SatEntry};
 use std::alloc::{AllocError, AllocFailed};
-use step_columns::LoggedSteps;
+use step_lines::LoggedSteps;
 
 /// How an epoch was paved.
 #[derive(Debug, Drop)]

@@ -8,6 +8,7 @@ ghost use Rattle.paving_log.specs.Order.{has_version, form_of, may_come, next, p
 
 use crate::line::{Form, Kind, LineName, LogLine, Place};
 use sat_model::SatEntry;
+use step_lines::StepName;
 
 /// The word's name, where it is a first word of some line.
 pub fn name_from(word: &[u8]) -> Option<LineName>
@@ -22,11 +23,11 @@ pub fn name_from(word: &[u8]) -> Option<LineName>
         b"sat" => Some(LineName::Sat),
         b"skip" => Some(LineName::Skip),
         b"root" => Some(LineName::Root),
-        b"cut" => Some(LineName::Cut),
-        b"split" => Some(LineName::Split),
-        b"out" => Some(LineName::Out),
-        b"in" => Some(LineName::In),
-        b"edge" => Some(LineName::Edge),
+        b"cut" => Some(LineName::Step(StepName::Cut)),
+        b"split" => Some(LineName::Step(StepName::Split)),
+        b"out" => Some(LineName::Step(StepName::Out)),
+        b"in" => Some(LineName::Step(StepName::In)),
+        b"edge" => Some(LineName::Step(StepName::Edge)),
         b"renew" => Some(LineName::Renew),
         b"done" => Some(LineName::Done),
         _ => None,
@@ -44,15 +45,7 @@ pub fn may_come(place: Place, name: LineName) -> bool
         | (Place::Satellites(_, _, _), LineName::Root) => true,
         (Place::Few(_, count), LineName::Skip) => count < 64,
         (Place::Satellites(_, _, count), LineName::Sat | LineName::Skip) => count < 64,
-        (
-            Place::Steps(_, _, left),
-            LineName::Cut
-            | LineName::Split
-            | LineName::Out
-            | LineName::In
-            | LineName::Edge
-            | LineName::Done,
-        ) => left == 0,
+        (Place::Steps(_, _, left), LineName::Step(_) | LineName::Done) => left == 0,
         (Place::Steps(renews, _, left), LineName::Renew) => renews && left == 0,
         (Place::Steps(_, _, left), LineName::Sat) => 0 < left,
         _ => false,

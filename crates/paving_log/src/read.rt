@@ -6,7 +6,7 @@ ghost use Rattle.paving_log.specs.declared.line.Place.TheVariants as place;
 ghost use Rattle.paving_log.specs.Lines.{HeaderFits};
 ghost use Rattle.paving_log.specs.Order.{has_pairs, form_of, place_behind_root};
 ghost use Rattle.paving_log.specs.Taking.{Takes, TakesTo, Refuses, block_place, IsOpened};
-ghost use Rattle.paving_log.specs.Taking.{TakesBlocks};
+ghost use Rattle.paving_log.specs.Taking.{TakesBlocks, IsEndOf};
 ghost use Rattle.paving_log.specs.Text.{head_lines, body_lines};
 ghost use Rattle.paving_log.specs.Text.{BlockFits};
 ghost use Rattle.paving_log.specs.Values.{block_of};
@@ -20,6 +20,7 @@ use crate::order::form_of;
 use crate::take::take_line;
 use sat_model::{Rules, SatEntry};
 use std::alloc::Global;
+use std::rc::Rc;
 
 /// The first line, which gives the version.
 fn version(kind: Kind, lines: Lines<'_>) -> Result<(u8, Lines<'_>), LogError>
@@ -140,12 +141,14 @@ fn few_satellites(
 }
 
 /// The block of an epoch, behind its first line.
-fn paved_block(
+fn paved_block<'a>(
     alloc: Global,
+    text: &Rc<Vec<u8>>,
     form: Form,
     opening: Opening,
-    lines: Lines<'_>,
-) -> Result<(LogEpoch, Lines<'_>), LogError>
+    lines: Lines<'a>,
+) -> Result<(LogEpoch, Lines<'a>), LogError>
+    requires whole { IsEndOf lines.rest.now text.now.value.items }
     requires paved { opening.few ≡ false }
     requires header { HeaderFits opening.header }
     ensures taken { IfOk result
@@ -157,9 +160,8 @@ fn paved_block(
         (Refuses (place.Satellites form opening.header.n 0) lines.entry) }
 {
     let (mut sats, corners, left) = satellites(alloc, form, opening.header.n, lines)?;
-    let (mut events, done, left) = closing(alloc, form, opening.header.n, left)?;
+    let (events, done, left) = closing(alloc, text, form, opening.header.n, left)?;
     sats.shrink_to_fit();
-    events.shrink_to_fit();
     let body = Body {
         root: box_of(corners),
         steps: events.steps,
@@ -207,13 +209,15 @@ fn few_block(
 }
 
 /// A block behind its first line, and the first line of the next block, unless the text ends.
-fn block(
+fn block<'a>(
     alloc: Global,
+    text: &Rc<Vec<u8>>,
     form: Form,
     opening: Opening,
-    lines: Lines<'_>,
-) -> Result<(LogEpoch, Option<Opening>, Lines<'_>), LogError>
-    requires { HeaderFits opening.header }
+    lines: Lines<'a>,
+) -> Result<(LogEpoch, Option<Opening>, Lines<'a>), LogError>
+    requires whole { IsEndOf lines.rest.now text.now.value.items }
+    requires header { HeaderFits opening.header }
     ensures taken { IfOk result
         (λ t. TakesTo form (block_place form opening.few opening.header) lines.entry
         (body_lines form (block_of t.0)) t.1 t.2) }
@@ -225,13 +229,19 @@ fn block(
     if opening.few {
         return few_block(alloc, form, opening, lines);
     }
-    let (epoch, left) = paved_block(alloc, form, opening, lines)?;
+    let (epoch, left) = paved_block(alloc, text, form, opening, lines)?;
     let (next, left) = next_opening(form, left)?;
     Ok((epoch, next, left))
 }
 
-/// All blocks, up to the end of the text.
-pub fn blocks(alloc: Global, form: Form, lines: Lines<'_>) -> Result<Vec<LogEpoch>, LogError>
+/// All blocks, up to the end of the text. Their steps are read from it when they are asked for.
+pub fn blocks(
+    alloc: Global,
+    text: &Rc<Vec<u8>>,
+    form: Form,
+    lines: Lines<'_>,
+) -> Result<Vec<LogEpoch>, LogError>
+    requires { IsEndOf lines.rest.now text.now.value.items }
     ensures taken { IfOk result
         (λ epochs. TakesBlocks form lines.entry (map block_of epochs.items)) }
     ensures refused { IfErr result (Refuses (place.Between form) lines.entry) }
@@ -239,7 +249,7 @@ pub fn blocks(alloc: Global, form: Form, lines: Lines<'_>) -> Result<Vec<LogEpoc
     let mut epochs = Vec::new(alloc);
     let (mut next, mut left) = next_opening(form, lines)?;
     'each: while let Some(opening) = next {
-        let (epoch, after, behind) = block(alloc, form, opening, left)?;
+        let (epoch, after, behind) = block(alloc, text, form, opening, left)?;
         epochs.push(epoch)?;
         next = after;
         left = behind;

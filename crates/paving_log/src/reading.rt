@@ -9,9 +9,9 @@ use crate::header::{header, limits};
 use crate::line::{Fault, LineName, LogLine, Place};
 use crate::order::{may_come, name_from, place_behind};
 use crate::rows::{root, row, skipped};
-use crate::steps::{cut, edge, inside, out, split};
 use log_tokens::{Rest, count, is_ended, word};
 use sat_model::SatEntry;
+use step_lines::step_fields;
 
 /// The one field of the first line.
 fn version(rest: Rest<'_>) -> Option<LogLine>
@@ -49,11 +49,7 @@ fn fields_of(name: LineName, rest: Rest<'_>) -> Option<LogLine>
         LineName::Sat => Some(LogLine::Sat(SatEntry::Row(row(rest)?))),
         LineName::Skip => Some(LogLine::Sat(skipped(rest)?)),
         LineName::Root => Some(LogLine::Root(root(rest)?)),
-        LineName::Cut => Some(LogLine::Step(cut(rest)?)),
-        LineName::Split => Some(LogLine::Step(split(rest)?)),
-        LineName::Out => Some(LogLine::Step(out(rest)?)),
-        LineName::In => Some(LogLine::Step(inside(rest)?)),
-        LineName::Edge => Some(LogLine::Step(edge(rest)?)),
+        LineName::Step(name) => Some(LogLine::Step(step_fields(name, rest)?)),
         LineName::Renew => Some(LogLine::Renew(root(rest)?)),
         LineName::Done => done(rest),
     }

@@ -6,12 +6,12 @@ ghost use Rattle.paving_log.specs.Order.{may_end};
 ghost use Rattle.paving_log.specs.Faults.{LineFails, refusal, is_head};
 ghost use Rattle.paving_log.specs.Taking.{Takes, closing_line, behind_closing};
 
-use crate::leading_steps::leading_step;
 use crate::line::{ClosingLine, Fault, LogLine, Place};
 use crate::lines::Lines;
 use crate::log::LogError;
 use crate::reading::line_at;
 use memchr::memchr;
+use step_lines::leading_step;
 
 /// Whether the place is one of the first two lines.
 fn is_first_two(place: Place) -> bool

@@ -2,7 +2,6 @@
 
 ghost use Rattle.std.specs.Prelude.{◌≡◌, ◌+◌, ◌<◌, ◌≤◌, ◌/◌, ◌%◌, [], ◌∷◌, ◌++◌, length};
 ghost use Rattle.std.specs.Fmt.{decimal, signed_decimal};
-ghost use Rattle.sat_model.specs.declared.steps.Step.TheVariants as steps;
 ghost use Rattle.grid_model.specs.Boxes.{grid_box};
 ghost use Rattle.sat_model.specs.Logs.{sat_of};
 ghost use Rattle.grid_model.specs.Sizes.{IsErrorSize};
@@ -15,48 +14,11 @@ ghost use Rattle.paving_log.specs.Lines.{line_text, text_of};
 ghost use Rattle.paving_log.specs.Text.{first_line, head_lines};
 
 use crate::rows::has_ends;
-use arrayvec::ArrayString;
 use gnss_model::{Sat, Skip};
 use grid_model::{Box3, Pos, Span};
 use itoa::Buffer;
-use sat_model::{Row, Rules, SatEntry, Step};
-
-/// A line of a log. The longest, that of a row with the ends of what is surely allowed, has at most
-/// 196 bytes.
-pub type Line = ArrayString<256>;
-
-/// A blank and a number.
-fn push_number(line: &mut Line, number: i64)
-    requires { length line.old.bytes ≤ 235 }
-    ensures pushed { line.new.bytes ≡ line.old.bytes ++ 32 ∷ signed_decimal number }
-    ensures length { length line.new.bytes ≤ length line.old.bytes + 21 }
-{
-    let mut buffer = Buffer::new();
-    line.push_str(" ");
-    line.push_str(buffer.format(number));
-}
-
-/// Two numbers, each behind a blank.
-fn push_numbers(line: &mut Line, first: i64, second: i64)
-    requires { length line.old.bytes ≤ 214 }
-    ensures pushed { line.new.bytes ≡ line.old.bytes ++ 32
-        ∷ (signed_decimal first ++ 32 ∷ signed_decimal second) }
-    ensures length { length line.new.bytes ≤ length line.old.bytes + 42 }
-{
-    push_number(line, first);
-    push_number(line, second);
-}
-
-/// Three numbers, each behind a blank.
-fn push_three(line: &mut Line, first: i64, second: i64, third: i64)
-    requires { length line.old.bytes ≤ 193 }
-    ensures pushed { line.new.bytes ≡ line.old.bytes ++ 32
-        ∷ (signed_decimal first ++ 32 ∷ (signed_decimal second ++ 32 ∷ signed_decimal third)) }
-    ensures length { length line.new.bytes ≤ length line.old.bytes + 63 }
-{
-    push_numbers(line, first, second);
-    push_number(line, third);
-}
+use sat_model::{Row, Rules, SatEntry};
+use step_lines::{Line, push_number, push_numbers, push_three};
 
 /// The line of the number of splits.
 pub fn done_line(bisections: u32) -> Line
@@ -67,72 +29,6 @@ pub fn done_line(bisections: u32) -> Line
     push_number(&mut line, i64::from(bisections));
     line.push_str("\n");
     line
-}
-
-fn cut_line(id: u32, face: u8, bound: i64) -> Line
-    ensures { result.bytes ≡ line_text (line.Step (steps.Cut id face bound)) ++ 10 ∷ [] }
-{
-    let mut line = Line::new();
-    line.push_str("cut");
-    push_numbers(&mut line, i64::from(id), i64::from(face));
-    push_number(&mut line, bound);
-    line.push_str("\n");
-    line
-}
-
-fn split_line(id: u32, axis: u8) -> Line
-    ensures { result.bytes ≡ line_text (line.Step (steps.Split id axis)) ++ 10 ∷ [] }
-{
-    let mut line = Line::new();
-    line.push_str("split");
-    push_numbers(&mut line, i64::from(id), i64::from(axis));
-    line.push_str("\n");
-    line
-}
-
-fn out_line(id: u32) -> Line
-    ensures { result.bytes ≡ line_text (line.Step (steps.Outside id)) ++ 10 ∷ [] }
-{
-    let mut line = Line::new();
-    line.push_str("out");
-    push_number(&mut line, i64::from(id));
-    line.push_str("\n");
-    line
-}
-
-fn in_line(id: u32, clock: i64, lo: i64, hi: i64) -> Line
-    ensures { result.bytes ≡ line_text (line.Step (steps.Inside id clock lo hi)) ++ 10 ∷ [] }
-{
-    let mut line = Line::new();
-    line.push_str("in");
-    push_number(&mut line, i64::from(id));
-    push_three(&mut line, clock, lo, hi);
-    line.push_str("\n");
-    line
-}
-
-fn edge_line(id: u32, lo: i64, hi: i64) -> Line
-    ensures { result.bytes ≡ line_text (line.Step (steps.Edge id lo hi)) ++ 10 ∷ [] }
-{
-    let mut line = Line::new();
-    line.push_str("edge");
-    push_number(&mut line, i64::from(id));
-    push_numbers(&mut line, lo, hi);
-    line.push_str("\n");
-    line
-}
-
-/// The line of a step.
-pub fn step_line(step: &Step) -> Line
-    ensures { result.bytes ≡ line_text (line.Step step.now) ++ 10 ∷ [] }
-{
-    match step {
-        Step::Cut { id, face, bound } => cut_line(*id, *face, *bound),
-        Step::Split { id, axis } => split_line(*id, *axis),
-        Step::Outside { id } => out_line(*id),
-        Step::Inside { id, clock, lo, hi } => in_line(*id, *clock, *lo, *hi),
-        Step::Edge { id, lo, hi } => edge_line(*id, *lo, *hi),
-    }
 }
 
 /// The two lines of the head. The version tells whether the rules have pairs.

@@ -7,7 +7,7 @@ ghost use Rattle.sat_model.specs.Logs.{lines_in};
 ghost use Rattle.sat_model.specs.Renewals.{no_tests};
 ghost use Rattle.sat_model.specs.StepKinds.{is_kept_step};
 ghost use Rattle.sat_model.specs.Verdicts.{BodyPasses, BodyFailsBy, BlockPasses, BlockFails};
-ghost use Rattle.step_columns.specs.Steps.{steps_of};
+ghost use Rattle.step_lines.specs.Steps.{steps_of};
 ghost use Rattle.paving_log.specs.Values.{body_value, block_of};
 ghost use Rattle.paving_log_check.specs.Answers.{ShowsNoSpans};
 
@@ -20,7 +20,7 @@ use grid_model::NoMemory;
 use paving_log::{Body, LogEpoch, own_fault, rows_among};
 use sat_model::{Rules, Step};
 use std::alloc::Global;
-use step_columns::LoggedSteps;
+use step_lines::LoggedSteps;
 
 /// The first line of what stands behind the satellites that fails a test, its rows taken as given.
 fn body_fault(

@@ -3,7 +3,7 @@
 ghost use Rattle.std.specs.Prelude.{◌≡◌, ℕ, ◌+◌, ◌<◌, ◌≤◌, ◌^◌, length, take, drop, IfOk, IfNone};
 ghost use Rattle.std.specs.Prelude.{MatchOption};
 ghost use Rattle.grid_model.specs.Boxes.{grid_box};
-ghost use Rattle.step_columns.specs.Steps.{steps_left};
+ghost use Rattle.step_lines.specs.Steps.{steps_left};
 ghost use Rattle.sat_model.specs.Events.{lines_of_all};
 ghost use Rattle.paving_log.specs.Values.{body_value};
 ghost use Rattle.paving_log_check.specs.Answers.{ShowsNoSpans};
@@ -20,7 +20,7 @@ use grid_model::NoMemory;
 use paving_log::Body;
 use sat_model::Rules;
 use std::alloc::Global;
-use step_columns::StepsAhead;
+use step_lines::StepsAhead;
 use subpaving::Live;
 
 /// Tests the next `count` steps, the first of which is line `line`, and takes them.

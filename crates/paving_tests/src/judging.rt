@@ -13,7 +13,7 @@ use paving_log_check::{Fault, Verdict, judge};
 use sat_model::{Row, Rules, SatEntry, Step};
 use std::alloc::Global;
 use std::test::Fail;
-use step_columns::LoggedSteps;
+use step_lines::LoggedSteps;
 
 fn yes(boxes: u64) -> Verdict {
     Verdict::Yes { boxes }
@@ -43,6 +43,9 @@ fn judged(
     for row in rows {
         sats.push(SatEntry::Row(*row))?;
     }
+    let Some(steps) = LoggedSteps::from_slice(alloc, steps)? else {
+        return Err(NoMemory);
+    };
     let mut epochs = Vec::new(alloc);
     epochs.push(LogEpoch {
         line: 3,
@@ -52,7 +55,7 @@ fn judged(
         sats,
         body: Some(Body {
             root,
-            steps: LoggedSteps::from_slice(alloc, steps)?,
+            steps,
             renewals: Vec::new(alloc),
             done,
         }),

@@ -1,9 +1,9 @@
-//! Steps that are kept in columns come out as they were put in.
+//! Steps that are kept as lines of a text come out as they were put in.
 
 use crate::small_rows::{cut_of, edge, split};
 use sat_model::Step;
 use std::test::Fail;
-use step_columns::LoggedSteps;
+use step_lines::LoggedSteps;
 
 #[test]
 fn steps_come_out_as_they_were_put_in(rt: HostRuntime) -> Result<(), Fail> {
@@ -12,13 +12,18 @@ fn steps_come_out_as_they_were_put_in(rt: HostRuntime) -> Result<(), Fail> {
         id: 1,
         clock: -7,
         lo: -9,
-        hi: i64::MAX,
+        hi: 200_000_000_000_000,
     };
     let cases: [&[Step]; 7] = [
         &[],
         &[edge(0, 1, 2)],
         // Cuts behind any step of their box.
-        &[split(0), cut_of(0, 5, -1), cut_of(0, 0, i64::MIN), out],
+        &[
+            split(0),
+            cut_of(0, 5, -1),
+            cut_of(0, 0, -10_000_000_000_000),
+            out,
+        ],
         // Cuts of two boxes in turn, and of one at the end.
         &[
             cut_of(1, 0, 3),
@@ -33,19 +38,19 @@ fn steps_come_out_as_they_were_put_in(rt: HostRuntime) -> Result<(), Fail> {
         ],
         &[inside, inside, out, out, split(1), edge(3, -4, 4)],
         &[cut_of(4, 1, 2), cut_of(4, 1, 2), cut_of(4, 1, 1)],
-        // Boxes by all three ways to tell them, and the first behind the last.
+        // The first box and the last that a line may have.
         &[
             out,
             inside,
             split(2),
             split(3),
             split(3),
-            split(u32::MAX),
+            split(400_000),
             split(0),
         ],
     ];
     for steps in cases {
-        let logged = LoggedSteps::from_slice(rt.alloc(), steps)?;
+        let logged = LoggedSteps::from_slice(rt.alloc(), steps)?.ok_or("no line")?;
         assert_eq!(rt; logged.len(), steps.len());
         let taken: Vec<Step> = logged.ahead().collect(rt.alloc())?;
         assert_eq!(rt; taken.as_slice(), steps);

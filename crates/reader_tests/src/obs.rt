@@ -4,7 +4,7 @@ use crate::words::{changed, number};
 use exact_decimal::Decimal;
 use gnss_model::Signal;
 use grid_model::Pos;
-use rinex_obs::{Obs, read_obs};
+use rinex_obs::{Obs, Sought, read_obs, read_obs_between};
 use rinex_text::ReadError;
 use std::alloc::Global;
 use std::process::Abort;
@@ -297,6 +297,42 @@ fn no_more_than_64_satellites_and_200_000_epochs(rt: HostRuntime) -> Result<(), 
     let text = lasting(rt.alloc(), 200_001)?;
     let told = (27, 200_005);
     assert_eq!(rt; fault(rt.alloc(), text.as_str(), &SINGLE, false), told);
+    Ok(())
+}
+
+/// The numbers of the first and the last epoch that are kept, and how many are; and the fault.
+fn kept(alloc: Global, text: &str, from: u32, to: u32) -> Option<(u32, u32, usize, i64)> {
+    let bytes = text.as_bytes();
+    if bytes.len() > 4_000_000_000 {
+        return None;
+    }
+    let sought = Sought::alone(SINGLE);
+    match read_obs_between(alloc, bytes, &sought, false, from, to) {
+        Ok(obs) => {
+            let first = obs.epochs.first().map_or(0, |epoch| epoch.index);
+            let last = obs.epochs.last().map_or(0, |epoch| epoch.index);
+            Some((first, last, obs.epochs.len(), 0))
+        }
+        Err(ReadError::Refused(refusal)) => Some((0, 0, 0, i64::from(refusal.line))),
+        Err(ReadError::NoMemory) => None,
+    }
+}
+
+#[test]
+fn some_epochs_are_kept_and_all_are_read(rt: HostRuntime) -> Result<(), Fail> {
+    let mut text = lasting(rt.alloc(), 5)?;
+    for (from, to, told) in [
+        (1, 200_000, (1, 5, 5, 0)),
+        (2, 3, (2, 3, 2, 0)),
+        (5, 9, (5, 5, 1, 0)),
+        (6, 9, (0, 0, 0, 0)),
+        (4, 3, (0, 0, 0, 0)),
+    ] {
+        assert_eq!(rt; kept(rt.alloc(), text.as_str(), from, to), Some(told));
+    }
+    text.push_str("> 2024 01 07 00 00  0.0700000  7\n")?;
+    let told = Some((0, 0, 0, 10));
+    assert_eq!(rt; kept(rt.alloc(), text.as_str(), 2, 3), told);
     Ok(())
 }
 

@@ -9,6 +9,7 @@ use paving_log::{Log, read_rows};
 use rinex_nav::{Nav, read_nav};
 use rinex_obs::{Obs, read_obs};
 use std::alloc::Global;
+use std::rc::Rc;
 
 /// A file may have so many bytes.
 const LIMIT: u64 = 268_435_456;
@@ -67,6 +68,9 @@ pub fn read_inputs<H: Shelf>(
         return Err(BadInput);
     };
     let text = bytes_of(alloc, shelf, rows, Slot::Rows)?;
+    let Ok(text) = Rc::new(alloc, text) else {
+        return Err(BadInput);
+    };
     let Ok(theirs) = read_rows(alloc, &text) else {
         return Err(BadInput);
     };

@@ -1,16 +1,22 @@
 -- The epochs of a body, one behind another.
-use Rattle.std.proofs.Common.{◌≡◌, ℕ, zero, suc, ◌+◌, ◌≤◌, ◌<◌, List, [], ◌∷◌, ◌++◌, length, drop, arith, refl, sym, ◌∙◌, ap, inl, inr, Option, None, Some, Result, Ok, Err}
+use Rattle.std.proofs.Common.{◌≡◌, ℕ, zero, suc, ◌+◌, ◌≤◌, ◌<◌, List, [], ◌∷◌, ◌++◌, length, drop, true, false, arith, refl, sym, ◌∙◌, ap, subst, inl, inr, Option, None, Some, Result, Ok, Err}
 use Rattle.std.specs.Prelude.{ℤ, pos, ◌≤ℤ◌, ◌<ℤ◌}
-use Rattle.std.proofs.lemmas.List.{append-nil, length-map}
+use Rattle.std.specs.List.{filter}
+use Rattle.std.proofs.lemmas.List.{append-nil}
+use Rattle.std.proofs.lemmas.List.Elements.{filter-append}
+use Rattle.grid_model.proofs.ListLemmas.{filter_yes, filter_no}
+use Rattle.rinex_text.proofs.OnlyLemmas.{ok_same, not_both}
+use Rattle.rinex_text.specs.Headers.{Behind}
 use Rattle.rinex_text.specs.Faults.{refusal}
 use Rattle.rinex_text.specs.Lines.{TextLine}
 use Rattle.rinex_text.specs.declared.fault.Fault.{Fault}
 use Rattle.rinex_text.specs.declared.fault.Refusal.{Refusal}
 use Rattle.rinex_obs.specs.Header.{Wanted}
 use Rattle.rinex_obs.specs.Epochs.{Observed, Block, head_line, block_from, epochs_from}
+use Rattle.rinex_obs.specs.Files.{is_between}
 use Rattle.rinex_obs.specs.Reading.{IsHeadBehind, block_of, plain_epoch, plain_epochs}
 use Rattle.rinex_obs.specs.declared.head.Head.{Head}
-use Rattle.rinex_obs.specs.declared.head.Head.TheVariants.{Epoch}
+use Rattle.rinex_obs.specs.declared.head.Head.TheVariants.{Epoch, Event}
 use Rattle.rinex_obs.specs.declared.obs.ObsEpoch.{ObsEpoch}
 use Rattle.rinex_obs.specs.declared.obs.SatObs.{SatObs}
 
@@ -67,23 +73,61 @@ map_more : (epochs : List ObsEpoch) (epoch : ObsEpoch)
 map_more [] epoch = refl
 map_more (first ∷ epochs) epoch = ap (λ (l : List Observed). plain_epoch first ∷ l) (map_more epochs epoch)
 
--- with what was read, an epoch or none
-pub one_more : (epochs items : List ObsEpoch) (found : Option ObsEpoch) (epoch : ObsEpoch) (lines : ℕ)
-    → found ≡ Some epoch → items ≡ epochs ++ epoch ∷ []
-    → plain_epochs items ≡ plain_epochs epochs ++ (block_of found lines).epochs
-one_more epochs items found epoch lines e f = rw (e, f) (map_more epochs epoch)
+-- ---- the epochs that are kept
 
-pub none_more : (epochs : List ObsEpoch) (found : Option ObsEpoch) (lines : ℕ) → found ≡ None
-    → plain_epochs epochs ≡ plain_epochs epochs ++ (block_of found lines).epochs
-none_more epochs found lines e = rw e (rw append-nil refl)
+module _ (from to : ℕ) where
+  -- those among the epochs so far and one more
+  module _ (all : List Observed) (epoch : ObsEpoch) where
+    pub one_kept : (kept items : List ObsEpoch) → items ≡ kept ++ epoch ∷ []
+        → plain_epochs kept ≡ filter (is_between from to) all
+        → is_between from to (plain_epoch epoch) ≡ true
+        → plain_epochs items ≡ filter (is_between from to) (all ++ plain_epoch epoch ∷ [])
+    one_kept kept items more are is =
+        ap plain_epochs more ∙ map_more kept epoch ∙ ap (λ (l : List Observed). l ++ plain_epoch epoch ∷ []) are
+        ∙ sym (filter-append (is_between from to) all (plain_epoch epoch ∷ [])
+        ∙ ap (λ (l : List Observed). filter (is_between from to) all ++ l) (filter_yes (is_between from to) (plain_epoch epoch) [] is))
+
+    pub none_kept : (kept : List ObsEpoch) → plain_epochs kept ≡ filter (is_between from to) all
+        → is_between from to (plain_epoch epoch) ≡ false
+        → plain_epochs kept ≡ filter (is_between from to) (all ++ plain_epoch epoch ∷ [])
+    none_kept kept are other =
+        are ∙ sym (filter-append (is_between from to) all (plain_epoch epoch ∷ [])
+        ∙ ap (λ (l : List Observed). filter (is_between from to) all ++ l) (filter_no (is_between from to) (plain_epoch epoch) [] other)
+        ∙ append-nil (filter (is_between from to) all))
+
+-- with what was read, an epoch or none
+pub with_epoch : (all : List Observed) (found : Option ObsEpoch) (epoch : ObsEpoch) (lines : ℕ)
+    → found ≡ Some epoch → all ++ (block_of found lines).epochs ≡ all ++ plain_epoch epoch ∷ []
+with_epoch all found epoch lines e = rw e refl
+
+pub without_epoch : (all : List Observed) (found : Option ObsEpoch) (lines : ℕ) → found ≡ None
+    → all ++ (block_of found lines).epochs ≡ all
+without_epoch all found lines e = rw e (append-nil all)
+
+abbrev index_in : List Observed → ℕ
+index_in [] = 0
+index_in (epoch ∷ more) = epoch.index
+
+-- the number of an epoch is one more than there were before
+epoch_index : (wanted : Wanted) (count : ℕ) (head : Head) (from : Behind) (epoch : ObsEpoch) (lines : ℕ)
+    → block_from wanted count head from (Ok (block_of (Some epoch) lines)) → epoch.index ≡ count + 1
+epoch_index wanted count (Epoch tag n) from epoch lines (inl (sats, is, e)) = ap (λ (b : Block). index_in b.epochs) (ok_same _ _ e)
+epoch_index wanted count (Epoch tag n) from epoch lines (inr (f, is, e)) = absurd (not_both _ f e)
+epoch_index wanted count (Event labelled n) from epoch lines (inl (none, is, e)) = absurd (omega (arith, ap (λ (b : Block). length b.epochs) (ok_same _ _ e)))
+epoch_index wanted count (Event labelled n) from epoch lines (inr (f, is, e)) = absurd (not_both _ f e)
+
+pub found_index : (wanted : Wanted) (count : ℕ) (head : Head) (from : Behind) (found : Option ObsEpoch) (epoch : ObsEpoch) (lines : ℕ)
+    → found ≡ Some epoch → block_from wanted count head from (Ok (block_of found lines)) → epoch.index ≡ count + 1
+found_index wanted count head from found epoch lines e h =
+    epoch_index wanted count head from epoch lines (subst (λ (o : Option ObsEpoch). block_from wanted count head from (Ok (block_of o lines))) e h)
+
+pub one_longer : (all : List Observed) (epoch : Observed) → length (all ++ epoch ∷ []) ≡ length all + 1
+one_longer [] epoch = refl
+one_longer (first ∷ all) epoch = omega (arith, one_longer all epoch)
 
 pub lines_of_block : (found : Option ObsEpoch) (lines : ℕ) → (block_of found lines).lines ≡ lines
 lines_of_block None lines = refl
 lines_of_block (Some epoch) lines = refl
-
-pub count_is : (epochs : List ObsEpoch) (n : ℕ) → n ≡ length epochs
-    → n ≡ length (plain_epochs epochs)
-count_is epochs n e = e ∙ sym (length-map epochs plain_epoch)
 
 pub in_body : (wanted : Wanted) (n m : ℕ) (lines others : List TextLine) (answer : Result (List Observed) Refusal)
     → n ≡ m → lines ≡ others → epochs_from wanted [] n 0 lines answer

@@ -134,10 +134,10 @@ on_satellites wanted (suc left) sats from are =
 
 -- ---- epochs
 
-record AreEpochs (both : Bool) (epochs : List Observed) : Type 0 where
-  numbered : AreNumbered epochs
-  named : InEach (AreSatsOf both) epochs
-  distinct : InEach AreDistinct epochs
+pub record AreEpochs (both : Bool) (epochs : List Observed) : Type 0 where
+  pub numbered : AreNumbered epochs
+  pub named : InEach (AreSatsOf both) epochs
+  pub distinct : InEach AreDistinct epochs
 
 -- an epoch is one of so many
 abbrev IsOneMore : ℕ → Head → Type 0
@@ -213,7 +213,7 @@ on_header sought position header number (line ∷ more) =
 
 -- ---- files
 
-on_file : (sought : Sought) (position : Bool) (text : List ℕ) (observations : Observations)
+pub on_file : (sought : Sought) (position : Bool) (text : List ℕ) (observations : Observations)
     → IsObsFileOf sought position text observations
     → AreEpochs (are_both sought) observations.epochs
 on_file sought position text observations file =

@@ -12,3 +12,4 @@ pub mod FactLemmas
 pub mod JoinedLemmas
 pub mod WholeLemmas
 pub mod SettledLemmas
+pub mod KeptLemmas

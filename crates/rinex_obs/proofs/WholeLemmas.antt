@@ -549,7 +549,7 @@ behind_version both (line ∷ more) =
     let Meets : Behind → Type 0 = λ version. (first : TextLine) × (line ∷ more ≡ first ∷ version.lines) × IsShort first in
     on_line Meets (version_line_of both 79 line) 1 _ (λ passed l. given Meets _ (line, refl, version_short both line (Ok passed) l))
 
-whole : (sought : Sought) (position : Bool) (text : List ℕ) (observations : Observations)
+pub whole : (sought : Sought) (position : Bool) (text : List ℕ) (observations : Observations)
     → IsObsFileOf sought position text observations
     → IsWholeOf sought position (lines_of text) observations
 whole sought position text observations file =

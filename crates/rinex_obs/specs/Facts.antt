@@ -18,6 +18,12 @@ pub record AreNumbered (epochs : List Observed) : Type 0 where
   pub in_order : AreNumberedFrom 1 epochs
   pub at_most : length epochs ≤ 200000
 
+-- each number is at least this one and at most 200,000, and those behind it are greater
+abbrev pub AreRisingFrom : ℕ → List Observed → Type 0
+AreRisingFrom least [] = Unit {0}
+AreRisingFrom least (epoch ∷ more) =
+    (least ≤ epoch.index) × (epoch.index ≤ 200000) × AreRisingFrom (epoch.index + 1) more
+
 -- ---- the satellites of an epoch
 
 -- a satellite from G01 to G99, or where both systems are read also one from E01 to E99

@@ -1,5 +1,6 @@
 -- Observation files: what is read from the lines of a file, or its first fault.
-use Rattle.std.specs.Prelude.{ℕ, Bool, List, [], Option, None, Some, Result, Ok, Err}
+use Rattle.std.specs.Prelude.{ℕ, ◌≡◌, Bool, ◌&&◌, nat_le, List, [], Option, None, Some, Result, Ok, Err}
+use Rattle.std.specs.List.{filter}
 use Rattle.rinex_text.specs.Bodies.{counted}
 use Rattle.rinex_text.specs.Faults.{then, gives}
 use Rattle.rinex_text.specs.Headers.{version_by}
@@ -37,6 +38,21 @@ IsObsFileOf sought position text observations =
 abbrev pub IsFirstFaultOf : Sought → Bool → List ℕ → Refusal → Type 0
 IsFirstFaultOf sought position text refusal =
     obs_file_of sought position (lines_of text) (Err refusal)
+
+-- ---- with some of the epochs
+
+-- the epoch's number is from the one to the other
+abbrev pub is_between : (from to : ℕ) → Observed → Bool
+is_between from to epoch = nat_le from epoch.index && nat_le epoch.index to
+
+-- of the observations of a file, the position and these epochs
+abbrev pub between : (from to : ℕ) → Observations → Observations
+between from to all =
+    record { position = all.position; epochs = filter (is_between from to) all.epochs }
+
+-- these are so of such observations
+abbrev pub AreBetween : (from to : ℕ) → (Observations → Type 0) → Observations → Type 0
+AreBetween from to Are kept = (all : Observations) × Are all × (kept ≡ between from to all)
 
 -- ---- with the satellites of GPS
 

@@ -1,9 +1,12 @@
 //! Epochs and events, one behind another.
 
-ghost use Rattle.std.specs.Prelude.{ℕ, [], IfOk, IfErr, Ok};
+ghost use Rattle.std.specs.Prelude.{◌≡◌, ℕ, List, [], IfOk, IfErr, Ok};
+ghost use Rattle.std.specs.List.{filter};
 ghost use Rattle.rinex_text.specs.Reading.{body_left, body_behind, Leaves, Refuses};
-ghost use Rattle.rinex_obs.specs.Epochs.{block_from, epochs_from};
-ghost use Rattle.rinex_obs.specs.Reading.{IsHeadBehind, wanted_of, block_of, plain_epochs};
+ghost use Rattle.rinex_obs.specs.Epochs.{Observed, block_from, epochs_from};
+ghost use Rattle.rinex_obs.specs.Files.{is_between};
+ghost use Rattle.rinex_obs.specs.Reading.{IsHeadBehind, wanted_of, block_of, plain_epoch};
+ghost use Rattle.rinex_obs.specs.Reading.{plain_epochs};
 
 use crate::event::take_event;
 use crate::found::WantedPlaces;
@@ -45,34 +48,49 @@ fn read_block<'a>(
     }
 }
 
-/// The epochs of a body.
+/// Whether the number of an epoch is from the one to the other.
+fn is_between(from: u32, to: u32, epoch: &ObsEpoch) -> bool
+    ensures { result ≡ is_between from to (plain_epoch epoch.now) }
+{
+    from <= epoch.index && epoch.index <= to
+}
+
+/// The epochs of a body whose numbers are from the one to the other. All are read, and one that
+/// isn't kept is let go before the next.
 pub fn read_epochs(
     alloc: Global,
     body: Body<'_>,
     places: &WantedPlaces,
+    from: u32,
+    to: u32,
 ) -> Result<Vec<ObsEpoch>, ReadError>
-    ensures epochs { IfOk result
-        (λ epochs. epochs_from (wanted_of places.now) [] body.entry.lines.number 0
-        (body_left body.entry) (Ok (plain_epochs epochs.items))) }
+    ensures epochs { IfOk result (λ kept. (all : List Observed)
+        × epochs_from (wanted_of places.now) [] body.entry.lines.number 0 (body_left body.entry)
+        (Ok all) × (plain_epochs kept.items ≡ filter (is_between from to) all)) }
     ensures fault { IfErr result
         (Refuses (epochs_from (wanted_of places.now) [] body.entry.lines.number 0
         (body_left body.entry))) }
 {
-    let mut epochs = Vec::new(alloc);
+    let mut kept = Vec::new(alloc);
+    let mut count = 0;
     let mut left = body;
     'lines: while let Some((line, behind)) = left.split_first() {
-        let head = match head_line(line, epochs.len()) {
+        let head = match head_line(line, count) {
             Ok(head) => head,
             Err(fault) => {
                 let refusal = Refusal::new(fault, left.lines.number);
                 return Err(ReadError::Refused(refusal));
             }
         };
-        let (found, after) = read_block(alloc, behind, places, head, epochs.len())?;
+        let (found, after) = read_block(alloc, behind, places, head, count)?;
         left = after;
         if let Some(epoch) = found {
-            epochs.push(epoch)?;
+            // Epochs are numbered from 1, and events don't count.
+            count = epoch.index as usize;
+            if is_between(from, to, &epoch) {
+                kept.push(epoch)?;
+            }
         }
     }
-    Ok(epochs)
+    Ok(kept)
 }

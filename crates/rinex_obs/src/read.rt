@@ -6,10 +6,11 @@ ghost use Rattle.rinex_text.specs.Reading.{Refuses, GivesRefusal};
 ghost use Rattle.rinex_text.specs.Whole.{IsSettled};
 ghost use Rattle.rinex_text.specs.declared.fault.Refusal.{Refusal};
 ghost use Rattle.rinex_obs.specs.Facts.{AreNumbered, AreDistinct, AreGpsSats, AreNamedSats};
-ghost use Rattle.rinex_obs.specs.Facts.{AreSatsOf, InEach};
+ghost use Rattle.rinex_obs.specs.Facts.{AreSatsOf, AreRisingFrom, InEach};
 ghost use Rattle.rinex_obs.specs.Header.{are_both};
-ghost use Rattle.rinex_obs.specs.Files.{Observations, obs_file, obs_file_of, IsObsFile};
-ghost use Rattle.rinex_obs.specs.Files.{IsObsFileOf, IsFirstFault, IsFirstFaultOf, with_galileo};
+ghost use Rattle.rinex_obs.specs.Files.{Observations, AreBetween, between, obs_file, obs_file_of};
+ghost use Rattle.rinex_obs.specs.Files.{IsObsFile, IsObsFileOf, IsFirstFault, IsFirstFaultOf};
+ghost use Rattle.rinex_obs.specs.Files.{with_galileo};
 ghost use Rattle.rinex_obs.specs.Reading.{observations_of, GivesObservations};
 ghost use Rattle.rinex_obs.specs.Whole.{IsWhole, IsWholeOf};
 
@@ -21,11 +22,25 @@ use gnss_model::Signal;
 use rinex_text::{Body, ReadError, behind_version_of};
 use std::alloc::Global;
 
-/// The observations of a file, or its first fault.
-fn read_text(alloc: Global, bytes: &[u8], sought: &Sought, position: bool) -> Result<Obs, ReadError>
+/// The number of a file's first epoch.
+const FIRST_EPOCH: u32 = 1;
+
+/// The greatest number of an epoch.
+const LAST_EPOCH: u32 = 200_000;
+
+/// The observations of a file with the epochs from the one number to the other, or its first fault.
+fn read_text(
+    alloc: Global,
+    bytes: &[u8],
+    sought: &Sought,
+    position: bool,
+    from: u32,
+    to: u32,
+) -> Result<Obs, ReadError>
     requires { length bytes.now ≤ 4000000000 }
     ensures observations { IfOk result
-        (λ obs. IsObsFileOf sought.now position bytes.now (observations_of obs)) }
+        (λ obs. AreBetween from to (IsObsFileOf sought.now position bytes.now)
+        (observations_of obs)) }
     ensures fault { IfErr result (Refuses (obs_file_of sought.now position (lines_of bytes.now))) }
 {
     let header = match behind_version_of(bytes, b'O', sought.are_both()) {
@@ -36,11 +51,49 @@ fn read_text(alloc: Global, bytes: &[u8], sought: &Sought, position: bool) -> Re
         Ok(start) => start,
         Err(refusal) => return Err(ReadError::Refused(refusal)),
     };
-    let epochs = read_epochs(alloc, Body::new(lines), &places)?;
+    let epochs = read_epochs(alloc, Body::new(lines), &places, from, to)?;
     Ok(Obs {
         position: point,
         epochs,
     })
+}
+
+/// Reads an observation file as `read_obs_of` does, and keeps of its epochs those whose numbers are
+/// from the one to the other. No memory is taken for the others, but for each while it is read.
+pub fn read_obs_between(
+    alloc: Global,
+    bytes: &[u8],
+    sought: &Sought,
+    position: bool,
+    from: u32,
+    to: u32,
+) -> Result<Obs, ReadError>
+    requires { length bytes.now ≤ 4000000000 }
+    // The text is an observation file, of whose observations these epochs were kept.
+    ensures records { IfOk result
+        (λ obs. AreBetween from to (IsObsFileOf sought.now position bytes.now)
+        (observations_of obs)) }
+    // What isn't read has this first fault, wherever it stands, unless memory ran out.
+    ensures fault { IfErr result (Refuses (obs_file_of sought.now position (lines_of bytes.now))) }
+    // An observation file is read as these epochs of its observations, unless memory runs out.
+    ensures exact { (all : Observations) → IsObsFileOf sought.now position bytes.now all →
+        GivesObservations (between from to all) result }
+    // A text with a fault is refused with its first, unless memory runs out.
+    ensures first { (refusal : Refusal) → IsFirstFaultOf sought.now position bytes.now refusal →
+        GivesRefusal refusal result }
+    // What is behind the line of the fault matters only where that is blank: then, whether all is.
+    ensures settled { IfErr result (IsSettled (obs_file_of sought.now position) bytes.now) }
+    // How its lines are shared out, and what comes of which.
+    ensures whole { IfOk result
+        (λ obs. AreBetween from to (IsWholeOf sought.now position (lines_of bytes.now))
+        (observations_of obs)) }
+    // Of the kept epochs of every file the same holds.
+    ensures rising { IfOk result (λ obs. AreRisingFrom 1 (observations_of obs).epochs) }
+    ensures distinct { IfOk result (λ obs. InEach AreDistinct (observations_of obs).epochs) }
+    ensures named { IfOk result
+        (λ obs. InEach (AreSatsOf (are_both sought.now)) (observations_of obs).epochs) }
+{
+    read_text(alloc, bytes, sought, position, from, to)
 }
 
 /// Reads an observation file of at most 4 * 10^9 bytes: its epochs with flags 0 and 1, with the
@@ -78,7 +131,7 @@ pub fn read_obs_of(
     ensures named { IfOk result
         (λ obs. InEach (AreSatsOf (are_both sought.now)) (observations_of obs).epochs) }
 {
-    read_text(alloc, bytes, sought, position)
+    read_text(alloc, bytes, sought, position, FIRST_EPOCH, LAST_EPOCH)
 }
 
 /// Reads an observation file of at most 4 * 10^9 bytes: its epochs with flags 0 and 1, with the

@@ -347,7 +347,7 @@ module _ (limits : Limits) (told : Told) (before after : World) (trust : Trust) 
       (named_sound before.shelf after.shelf trust.log sure limits told.files (settings_text moving) names.settings there.0) (λ s.
       then_sound before.shelf after.shelf trust.log sure limits told.files (Named limits (nav_text (read_both s)) names.nav) (ReadsObs limits names s)
       (named_sound before.shelf after.shelf trust.log sure limits told.files (nav_text (read_both s)) names.nav there.1) (λ records.
-      let text = obs_text (sought_of s) (wants_position s.centre) in
+      let text = obs_text (sought_of s) (wants_position s.centre) names.epochs in
       let value : Observations → InputsValue = λ o. record { settings = s; nav = records; obs = o } in
       then_sound before.shelf after.shelf trust.log sure limits told.files (Named limits text names.obs) (λ o. Returns (value o))
       (named_sound before.shelf after.shelf trust.log sure limits told.files text names.obs there.2)

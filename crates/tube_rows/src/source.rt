@@ -6,7 +6,7 @@ ghost use Rattle.epoch_rows.specs.Ready.{SkipsFit, CanGive};
 ghost use Rattle.epoch_selection.specs.Searches.{epochs_left};
 ghost use Rattle.epoch_selection.specs.Selections.{selected};
 ghost use Rattle.moving_tube.specs.Reach.{fastest};
-ghost use Rattle.rinex_obs.specs.Facts.{AreNumbered, AreDistinct, AreNamedSats, InEach};
+ghost use Rattle.rinex_obs.specs.Facts.{AreRisingFrom, AreDistinct, AreNamedSats, InEach};
 ghost use Rattle.rinex_obs.specs.Reading.{observations_of};
 ghost use Rattle.grid_model.specs.Boxes.{grid_box};
 ghost use Rattle.grid_model.specs.SearchBoxes.{IsSearchBox};
@@ -54,7 +54,7 @@ impl<'a, S: RowSource> TubeBlocks<'a, S> {
         rules: &Rules,
         renews: bool,
     ) -> TubeBlocks<'a, S>
-        requires numbered { AreNumbered (observations_of obs.now).epochs }
+        requires rising { AreRisingFrom 1 (observations_of obs.now).epochs }
         requires distinct { InEach AreDistinct (observations_of obs.now).epochs }
         requires named { InEach AreNamedSats (observations_of obs.now).epochs }
         requires skips { SkipsFit (S.meaning source.now) }

@@ -12,7 +12,7 @@ use paving_log::{Body, LogEpoch};
 use sat_model::Step;
 use std::alloc::Global;
 use std::test::Fail;
-use step_columns::LoggedSteps;
+use step_lines::LoggedSteps;
 
 /// Epoch 0 of 2024 in ps.
 const THEN: i128 = 1_388_102_400_000_000_000_000;
@@ -91,6 +91,9 @@ fn the_next_root_is_grown_and_met_with_the_search_box(rt: HostRuntime) -> Result
 fn kept(alloc: Global, root: Box3, steps: &[Step]) -> Result<Option<Box3>, NoMemory>
     requires { StepsFold (first_boxes (grid_box root)) steps.now }
 {
+    let Some(steps) = LoggedSteps::from_slice(alloc, steps)? else {
+        return Err(NoMemory);
+    };
     let epoch = LogEpoch {
         line: 3,
         index: 1,
@@ -99,7 +102,7 @@ fn kept(alloc: Global, root: Box3, steps: &[Step]) -> Result<Option<Box3>, NoMem
         sats: Vec::new(alloc),
         body: Some(Body {
             root,
-            steps: LoggedSteps::from_slice(alloc, steps)?,
+            steps,
             renewals: Vec::new(alloc),
             done: 0,
         }),

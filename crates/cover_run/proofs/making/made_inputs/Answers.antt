@@ -2,7 +2,7 @@ use Rattle.input_files.proofs.PositionLemmas.{enough}
 use Rattle.made_input.specs.MadeCodes.{centre_x, centre_y, centre_z}
 use Rattle.made_input.specs.MadeRecords.{made_records}
 use Rattle.made_texts.specs.SettingsText.{settings_of}
-use Rattle.cover_run.proofs.MadeLemmas.{nav_short, obs_for, obs_short, seen}
+use Rattle.cover_run.proofs.MadeLemmas.{nav_short, obs_all, obs_for, obs_short, seen}
 use Rattle.cover_run.proofs.making.made_inputs.Goals as goal
 
 pub faultless_settings-requires : goal.faultless_settings-requires
@@ -15,16 +15,15 @@ faultless_settings-requires c = record {
 
 pub read_faultless-requires-clause-short : goal.read_faultless-requires-clause-short
 read_faultless-requires-clause-short c =
-    rw c.deref-2.ensures.value (nav_short c.args.seed c.args.epochs c.in-Ok.made c.in-Ok.ensures)
+    nav_short c.args.seed c.args.epochs c.in-Ok.made c.in-Ok.ensures
 
 pub read_faultless-requires-clause-faultless : goal.read_faultless-requires-clause-faultless
 read_faultless-requires-clause-faultless c =
-    (made_records c.args.seed, rw c.deref-2.ensures.value c.in-Ok.ensures.nav_accepted)
+    (made_records c.args.seed, c.in-Ok.ensures.nav_accepted)
 
 pub read_faultless-requires-2-clause-short : goal.read_faultless-requires-2-clause-short
 read_faultless-requires-2-clause-short c =
-    rw c.deref-3.ensures.value (obs_short c.args.seed c.args.epochs c.in-Ok.made c.in-Ok.ensures
-    c.requires.to)
+    obs_short c.args.seed c.args.epochs c.in-Ok.made c.in-Ok.ensures c.requires.to
 
 pub read_faultless-requires-2-clause-faultless : goal.read_faultless-requires-2-clause-faultless
 read_faultless-requires-2-clause-faultless c =
@@ -32,8 +31,8 @@ read_faultless-requires-2-clause-faultless c =
     let s = c.in_ok-settings.settings in
     let e = (rw c.deref.ensures.value at c.in_ok-settings.ensures.value) _ m.settings_accepted in (
       seen c.args.seed c.args.epochs c.in-Ok.made m,
-      rw c.deref-3.ensures.value (rw (c.wants_position-position.ensures, c.alone-sought.ensures)
-          (obs_for c.args.seed c.args.epochs c.in-Ok.made m s e)),
+      rw (c.wants_position-position.ensures, c.alone-sought.ensures)
+          (obs_all c.args.seed c.args.epochs c.in-Ok.made m s e),
     )
 
 pub returns-clause-made : goal.returns-clause-made
@@ -41,10 +40,11 @@ returns-clause-made c =
     let m = c.in-Ok.ensures in
     let s = c.in_ok-settings.settings in
     let e = (rw c.deref.ensures.value at c.in_ok-settings.ensures.value) _ m.settings_accepted in
-    let nav = (rw c.deref-2.ensures.value at c.in_ok-nav.ensures.value) _ m.nav_accepted in
+    let nav = c.in_ok-nav.ensures.value _ m.nav_accepted in
     let for = obs_for c.args.seed c.args.epochs c.in-Ok.made m s e in
-    let obs = (rw c.deref-3.ensures.value at c.in_ok-obs.ensures.value)
-    (seen c.args.seed c.args.epochs c.in-Ok.made m) (rw (c.wants_position-position.ensures, c.alone-sought.ensures) for) in
+    let obs = c.in_ok-obs.ensures.value
+    (seen c.args.seed c.args.epochs c.in-Ok.made m) (rw (c.wants_position-position.ensures, c.alone-sought.ensures)
+    (obs_all c.args.seed c.args.epochs c.in-Ok.made m s e)) in
     record {
       made = c.in-Ok.made;
       is_made = m;

@@ -1,6 +1,6 @@
 use Rattle.std.proofs.Common.{Some, ap, arith, count_by, List}
 use Rattle.std.proofs.lemmas.List.Sums.{count_by-le-length}
-use Rattle.step_columns.specs.Steps.{steps_of}
+use Rattle.step_lines.specs.Steps.{steps_of}
 use Rattle.paving_log.proofs.EventLemmas.{lines_of_events, steps_in_events, steps_le_lines}
 use Rattle.paving_log.specs.Renewing.{events_from}
 use Rattle.paving_log.specs.Values.{block_of, body_value}

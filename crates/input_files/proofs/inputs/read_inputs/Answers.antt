@@ -107,7 +107,7 @@ returns-clause-found g c =
     c.in_ok-settings.ensures.found (found_then _ _ (named_fair limits (nav_text (read_both s)) names.nav)
     (obs_fair limits names s) (nav_at names) _ _ _ _ _ _ records _ c.in_ok-nav.ensures.only
     (rw (c.are_both.ensures, c.sought_of-sought.ensures) at c.in_ok-nav.ensures.found)
-    (found_then _ _ (named_fair limits (obs_text (sought_of s) (wants_position s.centre)) names.obs)
+    (found_then _ _ (named_fair limits (obs_text (sought_of s) (wants_position s.centre) names.epochs) names.obs)
     (λ x. return_fair (record { settings = s; nav = records; obs = x })) (obs_at names) _ _ _ _ _ _
     o _ c.in_ok-obs.ensures.only
     (rw (c.wants_position-position.ensures, c.sought_of-sought.ensures) at c.in_ok-obs.ensures.found)

@@ -28,14 +28,13 @@ returns-in_err-bytes-clause-only g c =
 pub returns-clause-found : goal.returns-clause-found
 returns-clause-found g c =
     let b = c.in_ok-bytes.ensures in
-    let e = c.deref.ensures.value in
     found_text c.args.limits.now (g.G.Grammar.text c.args.grammar.now) c.args.name.now _ _
     (g.H.Shelf.reliable c.read_file.new.shelf) c.role.result c.in_ok-bytes.bytes.items _
-    c.role.ensures b.whole b.within (rw e at c.read.ensures.gives) (rw e at c.read.ensures.same)
+    c.role.ensures b.whole b.within c.read.ensures.gives c.read.ensures.same
 
 pub returns-clause-only : goal.returns-clause-only
 returns-clause-only g c =
     only_one c.role.result (g.G.Grammar.text c.args.grammar.now).role c.args.name.now _ _ c.read.result
     c.role.ensures c.in_ok-bytes.ensures.touches
-    (text_ends (g.G.Grammar.text c.args.grammar.now) c.deref.result.now c.read.result
+    (text_ends (g.G.Grammar.text c.args.grammar.now) c.in_ok-bytes.bytes.items c.read.result
     c.read.ensures.gives)

@@ -1,20 +1,14 @@
-use Rattle.std.proofs.Common.{[], ◌∷◌, ◌++◌}
+use Rattle.std.proofs.Common.{[], ◌∷◌, ◌++◌, refl, arith}
 use Rattle.std.proofs.lemmas.Result.{err_from_is_err_and}
 use Rattle.std.specs.List.{flat_map}
-use Rattle.grid_model.specs.Boxes.{grid_box}
 use Rattle.paving_log.specs.declared.line.LogLine.TheVariants as line
 use Rattle.paving_log.specs.declared.line.Place.TheVariants as place
-use Rattle.paving_log.specs.EventValues.{events_of}
+use Rattle.paving_log.specs.Renewing.{events_from}
 use Rattle.paving_log.specs.Text.{event_lines}
+use Rattle.step_lines.specs.Steps.{steps_of}
 use Rattle.paving_log.proofs.LineLemmas.{takes_on, refuses_behind}
-use Rattle.paving_log.proofs.BlockLemmas.{done_on}
-use Rattle.paving_log.proofs.FitLemmas.{step_more, renewal_more, few_steps}
+use Rattle.paving_log.proofs.CountedLemmas.{few_counted, step_counted, renewal_counted, between, found_between, places_between, done_between, fit_between}
 use Rattle.paving_log.proofs.closing_lines.events.Goals as goal
-
-pub events-preserved-in-Continue-branch-2 : goal.events-preserved-in-Continue-branch-2
-events-preserved-in-Continue-branch-2 c =
-    step_more c.args.renews c.args.n c.args.lines c.events.left c.in_ok-line.behind (events_of c.events.events) (events_of c.push_step.new.self) c.in-Step.step
-    c.events.invariant (rw c.in-Step.is at c.in_ok-line.ensures.taken) c.in_ok-push_step-in-Step.ensures
 
 pub returns-in_err-rows-in-Renew-clause-refused : goal.returns-in_err-rows-in-Renew-clause-refused
 returns-in_err-rows-in-Renew-clause-refused c =
@@ -22,19 +16,48 @@ returns-in_err-rows-in-Renew-clause-refused c =
     let start = place.Steps c.args.renews c.args.n 0 in
     let rows = place.Steps c.args.renews c.args.n c.args.n in
     let box = rw c.in-Renew.is at c.in_ok-line.ensures.taken in
-    let so_far = takes_on start start rows c.args.lines c.events.left c.in_ok-line.behind (flat_map event_lines (events_of c.events.events)) (line.Renew c.in-Renew.corners ∷ []) c.events.invariant.taken box in
-    rw (p.1, p.2) (refuses_behind start rows c.args.lines c.in_ok-line.behind (flat_map event_lines (events_of c.events.events) ++ line.Renew c.in-Renew.corners ∷ []) _ so_far c.in_err-rows-in-Renew.ensures.refused)
+    let so_far = c.events.invariant in
+    let lines = flat_map event_lines (events_from 0 so_far.steps c.events.renewals.items) in
+    let taken = takes_on start start rows c.args.lines c.events.left c.in_ok-line.behind lines (line.Renew c.in-Renew.corners ∷ []) so_far.taken.taken box in
+    rw (p.1, p.2) (refuses_behind start rows c.args.lines c.in_ok-line.behind (lines ++ line.Renew c.in-Renew.corners ∷ []) _ taken c.in_err-rows-in-Renew.ensures.refused)
 
-pub push_renewal-requires : goal.push_renewal-requires
-push_renewal-requires c = few_steps c.args.renews c.args.n c.args.lines c.events.left c.events.events c.events.invariant
+pub overflow_add-count : goal.overflow_add-count
+overflow_add-count c = omega (arith, few_counted c.args.renews c.args.n c.args.lines c.events.count c.events.renewals.items c.events.left c.events.invariant)
+
+pub events-preserved-in-Step : goal.events-preserved-in-Step
+events-preserved-in-Step c =
+    step_counted c.args.renews c.args.n c.args.lines c.events.left c.in_ok-line.behind c.events.count c.events.renewals.items c.in-Step.field-0 c.events.invariant
+    (rw c.in-Step.is at c.in_ok-line.ensures.taken)
 
 pub events-preserved : goal.events-preserved
 events-preserved c =
-    renewal_more c.args.renews c.args.n c.args.lines c.events.left c.in_ok-line.behind c.in_ok-rows-in-Renew.behind (events_of c.events.events) (events_of c.push_renewal.new.self)
-    (grid_box c.box_of.result) c.in_ok-rows-in-Renew.rows.items c.in-Renew.corners c.box_of.ensures
-    c.events.invariant (rw c.in-Renew.is at c.in_ok-line.ensures.taken) c.in_ok-rows-in-Renew.ensures.taken c.in_ok-rows-in-Renew.ensures.many c.in_ok-push_renewal-in-Renew.ensures
+    let rows = c.in_ok-rows-in-Renew in
+    renewal_counted c.args.renews c.args.n c.args.lines c.events.left c.in_ok-line.behind rows.behind c.events.count c.events.renewals.items c.push.new.self.items
+    (record { at = c.events.count; part = c.box_of-part.result; rows = rows.rows }) c.in-Renew.corners c.box_of-part.ensures refl c.in_ok-push-in-Renew.ensures.items
+    c.events.invariant (rw c.in-Renew.is at c.in_ok-line.ensures.taken) rows.ensures.taken rows.ensures.many
+
+pub steps_between-requires-clause-between : goal.steps_between-requires-clause-between
+steps_between-requires-clause-between c = between c.args.renews c.args.n c.args.lines c.events.left c.events.count c.events.renewals.items c.events.invariant
+
+pub invariant_of-result : goal.invariant_of-result
+invariant_of-result c =
+    let renewals = c.events.renewals.items in
+    let steps = steps_of c.in_ok-steps-in-Done.steps in
+    let same = found_between c.args.renews c.args.n c.args.lines c.events.left c.events.count renewals steps c.events.invariant c.in_ok-steps-in-Done.ensures in
+    record { places = places_between c.args.renews c.args.n c.args.lines c.events.left c.events.count renewals c.shrink_to_fit.new.self.items steps c.events.invariant c.shrink_to_fit.ensures.items same }
 
 pub returns-in-Done-clause-taken : goal.returns-in-Done-clause-taken
 returns-in-Done-clause-taken c =
-    done_on c.args.renews c.args.n c.args.lines c.events.left c.in_ok-line.behind (events_of c.events.events) c.in-Done.splits
-    c.events.invariant (rw c.in-Done.is at c.in_ok-line.ensures.taken)
+    let renewals = c.events.renewals.items in
+    let steps = steps_of c.in_ok-steps-in-Done.steps in
+    let same = found_between c.args.renews c.args.n c.args.lines c.events.left c.events.count renewals steps c.events.invariant c.in_ok-steps-in-Done.ensures in
+    done_between c.args.renews c.args.n c.args.lines c.events.left c.in_ok-line.behind c.events.count renewals c.shrink_to_fit.new.self.items steps c.in-Done.splits c.events.invariant
+    c.shrink_to_fit.ensures.items same (rw c.in-Done.is at c.in_ok-line.ensures.taken)
+
+pub returns-in-Done-clause-fits : goal.returns-in-Done-clause-fits
+returns-in-Done-clause-fits c =
+    let renewals = c.events.renewals.items in
+    let steps = steps_of c.in_ok-steps-in-Done.steps in
+    let same = found_between c.args.renews c.args.n c.args.lines c.events.left c.events.count renewals steps c.events.invariant c.in_ok-steps-in-Done.ensures in
+    fit_between c.args.renews c.args.n c.args.lines c.events.left c.in_ok-line.behind c.events.count renewals c.shrink_to_fit.new.self.items steps c.in-Done.splits c.events.invariant
+    c.shrink_to_fit.ensures.items same (rw c.in-Done.is at c.in_ok-line.ensures.taken)

@@ -3,7 +3,7 @@ use Rattle.grid_model.specs.Boxes.{grid_box}
 use Rattle.sat_model.specs.Fold.{pieces, pieces_from}
 use Rattle.subpaving.specs.Folding.{StepsFold}
 use Rattle.subpaving.specs.LiveValues.{live_value}
-use Rattle.step_columns.specs.Steps.{steps_of, steps_left}
+use Rattle.step_lines.specs.Steps.{steps_of, steps_left}
 use Rattle.paving_log.specs.CoverBoxes.{kept_parts}
 use Rattle.paving_log.proofs.cover.boxes_kept.Given as goal
 

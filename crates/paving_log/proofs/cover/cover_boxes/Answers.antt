@@ -3,7 +3,7 @@ use Rattle.grid_model.specs.Boxes.{grid_box}
 use Rattle.sat_model.specs.declared.steps.Step.{Step}
 use Rattle.sat_model.specs.Fold.{first_boxes}
 use Rattle.subpaving.specs.Folding.{StepsFold}
-use Rattle.step_columns.specs.Steps.{steps_of}
+use Rattle.step_lines.specs.Steps.{steps_of}
 use Rattle.paving_log.proofs.EventLemmas.{steps_in_events}
 use Rattle.paving_log.proofs.cover.cover_boxes.Goals as goal
 

@@ -14,6 +14,7 @@ use Rattle.paving_log.specs.Taking.{block_place, TakesTo}
 use Rattle.paving_log.specs.Values.{block_of}
 use Rattle.paving_log.proofs.LineLemmas.{refuses_behind}
 use Rattle.paving_log.proofs.FitLemmas.{opening_fits}
+use Rattle.paving_log.proofs.EndLemmas.{end_to}
 use Rattle.paving_log.proofs.NumberingLemmas.{TakesSoFar, none_taken, block_on, blocks_ended, block_takes, left_over}
 use Rattle.paving_log.proofs.read.blocks.Goals as goal
 
@@ -28,7 +29,10 @@ each-init c = none_taken c.args.form c.args.lines c.in_ok-next.left _ c.in_ok-ne
 pub block-requires : goal.block-requires
 block-requires c =
     let so_far = opened c.args.form c.args.lines c.each.left (map block_of c.each.epochs.items) c.each.next c.in-Some.opening c.in-Some.is c.each.invariant in
-    opening_fits c.args.form (place.Between c.args.form) c.args.lines c.each.left _ c.in-Some.opening so_far.taken
+    record {
+      whole = end_to c.args.form (place.Between c.args.form) c.args.lines c.each.left (flat_map (block_lines c.args.form) (map block_of c.each.epochs.items)) (Some c.in-Some.opening) c.args.text.now.value.items c.requires so_far.taken;
+      header = opening_fits c.args.form (place.Between c.args.form) c.args.lines c.each.left _ c.in-Some.opening so_far.taken;
+    }
 
 pub returns-in_err-epoch-clause-refused : goal.returns-in_err-epoch-clause-refused
 returns-in_err-epoch-clause-refused c =

@@ -12,7 +12,11 @@ use Rattle.paving_log.specs.Text.{closing_lines}
 use Rattle.paving_log.proofs.LineLemmas.{refuses_behind}
 use Rattle.paving_log.proofs.BlockLemmas.{paved_taken}
 use Rattle.paving_log.proofs.FitLemmas.{sat_parts}
+use Rattle.paving_log.proofs.EndLemmas.{end_on}
 use Rattle.paving_log.proofs.read.paved_block.Goals as goal
+
+pub closing-requires : goal.closing-requires
+closing-requires c = end_on c.requires.whole c.in_ok-sats.ensures.taken
 
 pub returns-in_err-events-clause-refused : goal.returns-in_err-events-clause-refused
 returns-in_err-events-clause-refused c =
@@ -27,7 +31,7 @@ box_of-requires c =
 
 pub returns-clause-taken : goal.returns-clause-taken
 returns-clause-taken c =
-    rw (c.shrink_to_fit.ensures.items, c.shrink_to_fit-2.ensures)
+    rw c.shrink_to_fit.ensures.items
     (paved_taken c.args.form c.args.opening.header.n c.args.lines c.in_ok-sats.left c.in_ok-events.left c.in_ok-sats.sats.items c.in_ok-sats.corners _ (closing_lines c.args.form (events_of c.in_ok-events.events) c.in_ok-events.done) c.box_of.ensures c.in_ok-sats.ensures.taken c.in_ok-events.ensures.taken)
 
 pub returns-clause-fits : goal.returns-clause-fits
@@ -40,5 +44,5 @@ returns-clause-fits c =
       header = record { index = c.requires.header.index; ps = subst IsTime (sym same) time; n = c.requires.header.n };
       sats = rw c.shrink_to_fit.ensures.items sats.fit;
       at_most = rw c.shrink_to_fit.ensures.items c.in_ok-sats.ensures.at_most;
-      body = (subst CornersFit (sym c.box_of.ensures) sats.rest.0, rw c.shrink_to_fit-2.ensures c.in_ok-events.ensures.fits);
+      body = (subst CornersFit (sym c.box_of.ensures) sats.rest.0, c.in_ok-events.ensures.fits);
     }

@@ -8,7 +8,7 @@ use Rattle.sat_model.specs.Logs.{first_rows, lines_of_body}
 use Rattle.sat_model.specs.Renewals.{AnyLine}
 use Rattle.sat_model.specs.Stages.{first_stage}
 use Rattle.sat_model.proofs.KeptLemmas.{kept_of_steps}
-use Rattle.step_columns.specs.Steps.{steps_of}
+use Rattle.step_lines.specs.Steps.{steps_of}
 use Rattle.paving_log.specs.Values.{body_value, body_option, block_of}
 use Rattle.paving_log.proofs.EventLemmas.{steps_in_events, steps_le_lines, lines_of_events}
 use Rattle.paving_log_check.proofs.blocks.kept_boxes.Goals as goal

@@ -1,4 +1,4 @@
-use Rattle.step_columns.specs.Steps.{steps_of}
+use Rattle.step_lines.specs.Steps.{steps_of}
 use Rattle.paving_log_check.proofs.CountLemmas.{as_many, renewals_of_events}
 use Rattle.paving_log_check.proofs.epochs.renews_each.Goals as goal
 

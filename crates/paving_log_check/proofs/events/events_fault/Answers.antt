@@ -2,7 +2,7 @@ use Rattle.std.proofs.Common.{◌≡◌, ◌+◌, ◌-◌, arith, ap, length, dr
 use Rattle.std.proofs.lemmas.List.{length-drop}
 use Rattle.grid_model.specs.Boxes.{grid_box}
 use Rattle.subpaving.specs.LiveValues.{live_value}
-use Rattle.step_columns.specs.Steps.{steps_of, steps_left}
+use Rattle.step_lines.specs.Steps.{steps_of, steps_left}
 use Rattle.paving_log.specs.Renewing.{new_rows}
 use Rattle.paving_log_check.specs.RowsTests.{rows_test_value}
 use Rattle.paving_log_check.specs.Steps.{stage_of}

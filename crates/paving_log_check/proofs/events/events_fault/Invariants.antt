@@ -1,6 +1,6 @@
 use Rattle.std.proofs.Common.{◌≡◌, ◌+◌, length, drop}
 use Rattle.grid_model.specs.Boxes.{grid_box}
-use Rattle.step_columns.specs.Steps.{steps_of, steps_left}
+use Rattle.step_lines.specs.Steps.{steps_of, steps_left}
 use Rattle.paving_log.specs.Values.{body_value}
 use Rattle.paving_log_check.specs.Steps.{stage_of}
 use Rattle.paving_log_check.proofs.WayLemmas.{IsOnTheWay}

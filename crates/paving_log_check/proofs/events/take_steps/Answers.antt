@@ -1,5 +1,5 @@
 use Rattle.std.proofs.Common.{ℕ, suc, ◌≡◌, ◌+◌, ◌∷◌, ◌++◌, [], List, arith, length, take, drop, sym, ap, subst, ◌∙◌}
-use Rattle.step_columns.specs.Steps.{steps_left}
+use Rattle.step_lines.specs.Steps.{steps_left}
 use Rattle.sat_model.specs.Events.{Made}
 use Rattle.sat_model.specs.Stages.{Stage, after}
 use Rattle.sat_model.specs.Verdicts.{StepPasses, StepFails}

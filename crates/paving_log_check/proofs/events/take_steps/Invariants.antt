@@ -1,5 +1,5 @@
 use Rattle.std.proofs.Common.{◌≡◌, take, drop}
-use Rattle.step_columns.specs.Steps.{steps_left}
+use Rattle.step_lines.specs.Steps.{steps_left}
 use Rattle.paving_log_check.specs.Steps.{stage_of, StepsPass, stage_behind}
 use Rattle.paving_log_check.proofs.events.take_steps.Given as goal
 

@@ -1,5 +1,5 @@
 use Rattle.std.proofs.Common.{arith, ap}
-use Rattle.step_columns.specs.Steps.{steps_of}
+use Rattle.step_lines.specs.Steps.{steps_of}
 use Rattle.sat_model.specs.Logs.{lines_of_body}
 use Rattle.paving_log.specs.Values.{body_option}
 use Rattle.paving_log_check.specs.Renewed.{lines_in_renewals}

@@ -1,5 +1,5 @@
 use Rattle.std.proofs.Common.{◌≡◌, ap, arith, length, refl}
-use Rattle.step_columns.specs.Steps.{steps_of}
+use Rattle.step_lines.specs.Steps.{steps_of}
 use Rattle.paving_log.specs.Renewing.{events_from}
 use Rattle.sat_model.proofs.EventLemmas.{lines_of_made}
 use Rattle.sat_model.specs.Events.{lines_of_all}
@@ -8,10 +8,11 @@ use Rattle.paving_tests.proofs.judging.judged.Goals as goal
 -- its events are steps alone
 pub judge-requires : goal.judge-requires
 judge-requires c =
-    let steps = steps_of c.in_ok-from_slice.field-0 in
+    let told = rw c.in-Some.is at c.in_ok-steps.ensures in
+    let steps = steps_of c.in-Some.steps in
     let lines : lines_of_all (events_from 0 steps c.new.result.items) ≡ length steps =
     rw c.new.ensures.items (lines_of_made steps) in
-    let many = ap length c.in_ok-from_slice.ensures in
+    let many = ap length told in
     record {
       numbered = rw (c.in_ok-push-2.ensures.items, c.new-epochs.ensures.items) (
         refl,

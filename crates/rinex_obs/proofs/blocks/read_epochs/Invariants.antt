@@ -1,14 +1,19 @@
-use Rattle.std.proofs.Common.{List, [], Result}
+use Rattle.std.proofs.Common.{◌≡◌, List, [], length, Result}
+use Rattle.std.specs.List.{filter}
 use Rattle.rinex_text.specs.Reading.{body_left}
 use Rattle.rinex_text.specs.declared.fault.Refusal.{Refusal}
 use Rattle.rinex_obs.specs.Epochs.{Observed, epochs_from}
+use Rattle.rinex_obs.specs.Files.{is_between}
 use Rattle.rinex_obs.specs.Reading.{wanted_of, plain_epochs}
 use Rattle.rinex_obs.proofs.blocks.read_epochs.Given as goal
 
--- what the lines that are left give, behind the epochs so far, is what all give
+-- what the lines that are left give, behind all epochs so far, is what all give
 abbrev pub invariant-lines : goal.invariant-lines
-invariant-lines l = (answer : Result (List Observed) Refusal) → epochs_from (wanted_of l.places) (plain_epochs l.epochs.items) l.left.lines.number 0 (body_left l.left) answer
-    → epochs_from (wanted_of l.places) [] l.fn.body.lines.number 0 (body_left l.fn.body) answer
+invariant-lines l = (all : List Observed)
+    × (l.count ≡ length all)
+    × (plain_epochs l.kept.items ≡ filter (is_between l.from l.to) all)
+    × ((answer : Result (List Observed) Refusal) → epochs_from (wanted_of l.places) all l.left.lines.number 0 (body_left l.left) answer
+    → epochs_from (wanted_of l.places) [] l.fn.body.lines.number 0 (body_left l.fn.body) answer)
 
 abbrev pub decreases-lines : goal.decreases-lines
 decreases-lines l = l.left.left

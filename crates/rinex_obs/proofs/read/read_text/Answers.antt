@@ -1,11 +1,11 @@
-use Rattle.std.proofs.Common.{[], refl, inl, inr, Ok, Err}
+use Rattle.std.proofs.Common.{List, [], refl, ap, inl, inr, Ok, Err}
 use Rattle.std.proofs.lemmas.Result.{err_from_is_err_and}
 use Rattle.rinex_text.specs.Lines.{lines_of}
 use Rattle.rinex_text.specs.Reading.{behind_of, body_left}
 use Rattle.rinex_text.proofs.TakeLemmas.{refuses_on}
-use Rattle.rinex_obs.specs.Epochs.{epochs_from}
+use Rattle.rinex_obs.specs.Epochs.{Observed, epochs_from}
 use Rattle.rinex_obs.specs.Files.{obs_file_of}
-use Rattle.rinex_obs.specs.Reading.{wanted_of, start_of, plain_epochs}
+use Rattle.rinex_obs.specs.Reading.{wanted_of, start_of}
 use Rattle.rinex_obs.proofs.BlockLemmas.{in_body}
 use Rattle.rinex_obs.proofs.read.read_text.Goals as goal
 
@@ -37,12 +37,16 @@ returns-in_err-epochs-clause-fault c =
 pub returns-clause-observations : goal.returns-clause-observations
 returns-clause-observations c =
     let start = c.in-Ok-read_header.start in
-    inl (
-      behind_of c.in-Ok.lines,
-      (rw c.are_both.ensures at c.in-Ok.ensures),
+    let kept = c.in_ok-epochs.ensures.epochs in (
+      record { position = start.1; epochs = kept.0 },
       inl (
-        start_of start.0 start.1 start.2,
-        c.in-Ok-read_header.ensures.start,
-        inl (plain_epochs c.in_ok-epochs.epochs.items, in_body (wanted_of start.0) _ _ _ _ (Ok (plain_epochs c.in_ok-epochs.epochs.items)) c.new.ensures.number c.new.ensures.lines c.in_ok-epochs.ensures.epochs, refl),
+        behind_of c.in-Ok.lines,
+        (rw c.are_both.ensures at c.in-Ok.ensures),
+        inl (
+          start_of start.0 start.1 start.2,
+          c.in-Ok-read_header.ensures.start,
+          inl (kept.0, in_body (wanted_of start.0) _ _ _ _ (Ok kept.0) c.new.ensures.number c.new.ensures.lines kept.1, refl),
+        ),
       ),
+      ap (λ (epochs : List Observed). record { position = start.1; epochs = epochs }) kept.2,
     )

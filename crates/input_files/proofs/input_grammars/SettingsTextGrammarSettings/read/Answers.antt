@@ -8,22 +8,22 @@ pub returns-in-Ok-clause-gives : goal.returns-in-Ok-clause-gives
 returns-in-Ok-clause-gives c =
     let e = c.in-Ok.ensures in
     let w = c.with_motion.ensures in
-    read_gives c.args.self.now.moving c.args.bytes.now c.in-Ok.settings e.settings e.exact e.first
-    c.with_motion.result w.same w.usual w.missed
+    rw (sym c.deref.ensures.value) (read_gives c.args.self.now.moving c.deref.result.now c.in-Ok.settings e.settings e.exact e.first
+    c.with_motion.result w.same w.usual w.missed)
 
 pub returns-in-Ok-clause-same : goal.returns-in-Ok-clause-same
 returns-in-Ok-clause-same c =
     let e = c.in-Ok.ensures in
     let w = c.with_motion.ensures in
-    read_same c.args.self.now.moving c.args.bytes.now c.in-Ok.settings e.settings e.exact e.first
-    c.with_motion.result w.same w.usual w.missed
+    rw (sym c.deref.ensures.value) (read_same c.args.self.now.moving c.deref.result.now c.in-Ok.settings e.settings e.exact e.first
+    c.with_motion.result w.same w.usual w.missed)
 
-pub returns-in-Err-clause-gives : goal.returns-in-Err-clause-gives
-returns-in-Err-clause-gives c =
-    rw c.of_settings.ensures (refused_gives c.args.self.now.moving c.args.bytes.now c.in-Err.error
-    c.in-Err.ensures.fault)
+pub returns-clause-gives : goal.returns-clause-gives
+returns-clause-gives c =
+    rw (sym c.deref.ensures.value) (rw c.of_settings.ensures (refused_gives c.args.self.now.moving c.deref.result.now c.in-Err.error
+    c.in-Err.ensures.fault))
 
-pub returns-in-Err-clause-same : goal.returns-in-Err-clause-same
-returns-in-Err-clause-same c =
-    subst (SettlesErr (settings_text c.args.self.now.moving) c.args.bytes.now) (sym c.of_settings.ensures)
-    (refused_same c.args.self.now.moving c.args.bytes.now c.in-Err.error c.in-Err.ensures.exact)
+pub returns-clause-same : goal.returns-clause-same
+returns-clause-same c =
+    rw (sym c.deref.ensures.value) (subst (SettlesErr (settings_text c.args.self.now.moving) c.deref.result.now) (sym c.of_settings.ensures)
+    (refused_same c.args.self.now.moving c.deref.result.now c.in-Err.error c.in-Err.ensures.exact))

@@ -1,3 +1,4 @@
+use Rattle.std.proofs.Common.{sym}
 use Rattle.paving_log.specs.Faults.{FirstFault}
 use Rattle.paving_log.specs.Text.{IsLogText}
 use Rattle.paving_log.specs.Values.{log_value}
@@ -6,8 +7,10 @@ use Rattle.input_files.specs.declared.role.Role.TheVariants as role
 use Rattle.input_files.specs.Logs.{log_text}
 use Rattle.input_files.proofs.log_grammars.LogTextGrammarLog.read.Goals as goal
 
-pub returns-in-Ok-clause-same : goal.returns-in-Ok-clause-same
-returns-in-Ok-clause-same c =
-    read_settles log_text c.args.bytes.now (log_value c.in-Ok.log) c.in-Ok.ensures.exact
-    (no_first role.Log IsLogText FirstFault c.args.bytes.now (log_value c.in-Ok.log)
-    c.in-Ok.ensures.value)
+pub returns-in-Ok-read_log-clause-same : goal.returns-in-Ok-read_log-clause-same
+returns-in-Ok-read_log-clause-same c =
+    let bytes = c.in-Ok.text.value.items in
+    let read = log_value c.in-Ok-read_log.log in
+    let e = c.in-Ok-read_log.ensures in
+    rw (sym c.in-Ok.ensures.ok) (read_settles log_text bytes read e.exact
+    (no_first role.Log IsLogText FirstFault bytes read e.value))

@@ -1,0 +1,3 @@
+pub mod LeadingLemmas
+pub mod LineLemmas
+pub mod WrittenLemmas
