@@ -13,6 +13,7 @@ use core::dec2flt::read_digits;
 const LOOKED_AT: usize = 16;
 
 /// Whether there are digits, and no zero in front of others.
+#[inline(always)]
 fn is_plain(digits: &[u8]) -> bool
     ensures some { IsTrue result → 0 < length digits.now }
     ensures plain { IsTrue result → 1 < length digits.now → slice_index digits.now 0 ≡ 48 → ⊥ }
@@ -25,6 +26,7 @@ fn is_plain(digits: &[u8]) -> bool
 }
 
 /// The number of the digits in front of `end`, and what stands behind `end`.
+#[inline(always)]
 fn leading_number(text: &[u8], end: u8) -> Option<(u64, &[u8])>
     ensures { IfSome result (λ found. text.now ≡ decimal found.0 ++ end ∷ found.1.now) }
 {
@@ -45,6 +47,7 @@ fn leading_number(text: &[u8], end: u8) -> Option<(u64, &[u8])>
 }
 
 /// A digit of at most `most` in front of `end`, and what stands behind `end`.
+#[inline(always)]
 pub fn leading_digit(text: &[u8], end: u8, most: u8) -> Option<(u8, &[u8])>
     requires { most ≤ 9 }
     ensures { IfSome result (λ found. (found.0 ≤ most)
@@ -65,6 +68,7 @@ pub fn leading_digit(text: &[u8], end: u8, most: u8) -> Option<(u8, &[u8])>
 
 /// A number of at most `most` without a sign in front of `end`, and what stands behind `end`. It is
 /// read digit by digit, which takes less than a word of eight bytes where there are few.
+#[inline(always)]
 pub fn leading_count(text: &[u8], end: u8, most: u32) -> Option<(u32, &[u8])>
     ensures { IfSome result (λ found. (found.0 ≤ most)
         × (text.now ≡ decimal found.0 ++ end ∷ found.1.now)) }
@@ -85,6 +89,7 @@ pub fn leading_count(text: &[u8], end: u8, most: u32) -> Option<(u32, &[u8])>
 }
 
 /// A number of at most `bound` in amount in front of `end`, and what stands behind `end`.
+#[inline(always)]
 pub fn leading_amount(text: &[u8], end: u8, bound: u64) -> Option<(i64, &[u8])>
     requires { bound < 2 ^ 63 }
     ensures { IfSome result (λ found. IsWithin bound found.0

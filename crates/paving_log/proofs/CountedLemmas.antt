@@ -1,9 +1,11 @@
 -- Steps that were counted as their lines were taken: what the lines tell.
-use Rattle.std.proofs.Common.{◌≡◌, ℕ, ◌+◌, ◌≤◌, Bool, List, [], ◌∷◌, ◌++◌, length, map, refl, sym, ap, subst, ◌∙◌, arith}
-use Rattle.std.specs.List.{flat_map, AllByRecursion}
+use Rattle.std.proofs.Common.{◌≡◌, ℕ, ◌+◌, ◌≤◌, Bool, cond, List, [], ◌∷◌, ◌++◌, length, map, refl, sym, ap, subst, ◌∙◌, arith}
+use Rattle.std.specs.List.{flat_map, AllByRecursion, count_by}
 use Rattle.std.proofs.lemmas.List.{length-append}
+use Rattle.std.proofs.lemmas.List.Sums.{count_by-le-length, sum_by-append}
 use Rattle.sat_model.specs.declared.rows.Row.{Row}
 use Rattle.sat_model.specs.declared.steps.Step.{Step}
+use Rattle.sat_model.specs.StepKinds.{is_kept_step}
 use Rattle.sat_model.specs.Events.{Event, Made, Renewed, steps_in}
 use Rattle.step_lines.specs.Texts.{AnyLine, OfStep, Other, AnyFits, steps_among, told_steps, AreLines}
 use Rattle.step_lines.specs.Texts.{text_of as told_text}
@@ -74,45 +76,58 @@ told_made (Renewed new ∷ events) = rows_tell new.rows (told events) ∙ told_m
 
 -- ---- steps that were counted
 
--- so many steps, and these renewals among them, were taken from the front
-pub record TakesCounted (renews : Bool) (n : ℕ) (start : Lines) (count : ℕ) (renewals : List Renewal) (left : Lines) : Type 0 where
+-- so many steps, of which so many close a box inside or at the edge, and these renewals among them,
+-- were taken from the front
+pub record TakesCounted (renews : Bool) (n : ℕ) (start : Lines) (count kept : ℕ) (renewals : List Renewal) (left : Lines) : Type 0 where
   pub steps : List Step
   pub taken : TakesEvents renews n start (events_from 0 steps renewals) left
   pub many : length steps ≡ count
+  pub closing : count_by is_kept_step steps ≡ kept
   pub places : Rise 0 renewals count
 
+-- no more of them close a box than there are
+pub few_kept : (renews : Bool) (n : ℕ) (start : Lines) (count kept : ℕ) (renewals : List Renewal) (left : Lines)
+    → TakesCounted renews n start count kept renewals left → kept ≤ count
+few_kept renews n start count kept renewals left so_far =
+    omega (arith, count_by-le-length is_kept_step so_far.steps, so_far.many, so_far.closing)
+
 -- no more steps than numbers of lines
-pub few_counted : (renews : Bool) (n : ℕ) (start : Lines) (count : ℕ) (renewals : List Renewal) (left : Lines)
-    → TakesCounted renews n start count renewals left → count ≤ 4000000001
-few_counted renews n start count renewals left so_far =
+pub few_counted : (renews : Bool) (n : ℕ) (start : Lines) (count kept : ℕ) (renewals : List Renewal) (left : Lines)
+    → TakesCounted renews n start count kept renewals left → count ≤ 4000000001
+few_counted renews n start count kept renewals left so_far =
     omega (arith, so_far.taken.taken.number, left.room, steps_le_lines so_far.steps renewals, so_far.many)
 
-pub step_counted : (renews : Bool) (n : ℕ) (start old new : Lines) (count : ℕ) (renewals : List Renewal) (s : Step)
-    → TakesCounted renews n start count renewals old
+abbrev one_if_kept : Step → ℕ
+one_if_kept s = cond (is_kept_step s) 1 0
+
+pub step_counted : (renews : Bool) (n : ℕ) (start old new : Lines) (count kept : ℕ) (renewals : List Renewal) (s : Step)
+    → TakesCounted renews n start count kept renewals old
     → Takes (place.Steps renews n 0) old (line.Step s ∷ []) (place.Steps renews n 0) new
-    → TakesCounted renews n start (count + 1) renewals new
-step_counted renews n start old new count renewals s before one =
+    → TakesCounted renews n start (count + 1) (kept + cond (is_kept_step s) 1 0) renewals new
+step_counted renews n start old new count kept renewals s before one =
     let rise : Rise 0 renewals (0 + length before.steps) = rise_to 0 count (0 + length before.steps) renewals before.places (omega (arith, before.many)) in
     record {
       steps = before.steps ++ s ∷ [];
       taken = step_more renews n start old new (events_from 0 before.steps renewals) (events_from 0 (before.steps ++ s ∷ []) renewals) s before.taken one (step_behind 0 before.steps s renewals rise);
       many = omega (arith, length-append before.steps (s ∷ []), before.many);
+      closing = omega (arith, sum_by-append one_if_kept before.steps (s ∷ []), before.closing);
       places = rise_to 0 count (count + 1) renewals before.places (omega arith);
     }
 
-pub renewal_counted : (renews : Bool) (n : ℕ) (start old mid new : Lines) (count : ℕ) (renewals pushed : List Renewal) (r : Renewal) (c : Corners)
+pub renewal_counted : (renews : Bool) (n : ℕ) (start old mid new : Lines) (count kept : ℕ) (renewals pushed : List Renewal) (r : Renewal) (c : Corners)
     → corners_of (new_rows r).part ≡ c → r.at ≡ count → pushed ≡ renewals ++ r ∷ []
-    → TakesCounted renews n start count renewals old
+    → TakesCounted renews n start count kept renewals old
     → Takes (place.Steps renews n 0) old (line.Renew c ∷ []) (place.Steps renews n n) mid
     → Takes (place.Steps renews n n) mid (map row_line r.rows.items) (place.Steps renews n 0) new
-    → length r.rows.items ≡ n → TakesCounted renews n start count pushed new
-renewal_counted renews n start old mid new count renewals pushed r c same at push before first later many =
+    → length r.rows.items ≡ n → TakesCounted renews n start count kept pushed new
+renewal_counted renews n start old mid new count kept renewals pushed r c same at push before first later many =
     let rise : Rise 0 renewals (0 + length before.steps) = rise_to 0 count (0 + length before.steps) renewals before.places (omega (arith, before.many)) in
-    subst (λ (rs : List Renewal). TakesCounted renews n start count rs new) (sym push) (record {
+    subst (λ (rs : List Renewal). TakesCounted renews n start count kept rs new) (sym push) (record {
       steps = before.steps;
       taken = renewal_more renews n start old mid new (events_from 0 before.steps renewals) (events_from 0 before.steps (renewals ++ r ∷ [])) (new_rows r).part r.rows.items c
           same before.taken first later many (renewal_behind 0 before.steps renewals r rise (omega (arith, at, before.many)));
       many = before.many;
+      closing = before.closing;
       places = rise_on 0 count renewals r before.places at;
     })
 
@@ -129,49 +144,56 @@ counted_steps : (renews : Bool) (n : ℕ) (steps : List Step) (renewals : List R
 unfolding told_steps
 counted_steps renews n steps renewals fit = told_made (events_from 0 steps renewals) ∙ steps_in_events 0 steps renewals
 
-pub between : (renews : Bool) (n : ℕ) (start left : Lines) (count : ℕ) (renewals : List Renewal)
-    → TakesCounted renews n start count renewals left
-    → HasBetween start.rest.now left.rest.now count
-between renews n start left count renewals so_far =
+pub between : (renews : Bool) (n : ℕ) (start left : Lines) (count kept : ℕ) (renewals : List Renewal)
+    → TakesCounted renews n start count kept renewals left
+    → HasBetween start.rest.now left.rest.now count kept
+between renews n start left count kept renewals so_far =
     let events = events_from 0 so_far.steps renewals in
+    let same = counted_steps renews n so_far.steps renewals so_far.taken.fit in
     record {
       part = text_of (flat_map event_lines events);
       parts = so_far.taken.taken.parts;
-      counted = (lines_counted renews n events so_far.taken.fit, ap length (counted_steps renews n so_far.steps renewals so_far.taken.fit) ∙ so_far.many);
+      counted = (
+        lines_counted renews n events so_far.taken.fit,
+        record {
+          all = ap length same ∙ so_far.many;
+          closing = ap (count_by is_kept_step) same ∙ so_far.closing;
+        },
+      );
     }
 
 -- the steps that are found there are those that were counted
-pub found_between : (renews : Bool) (n : ℕ) (start left : Lines) (count : ℕ) (renewals : List Renewal) (found : List Step)
-    → (so_far : TakesCounted renews n start count renewals left)
+pub found_between : (renews : Bool) (n : ℕ) (start left : Lines) (count kept : ℕ) (renewals : List Renewal) (found : List Step)
+    → (so_far : TakesCounted renews n start count kept renewals left)
     → ((part : List ℕ) → start.rest.now ≡ part ++ left.rest.now → (lines : AreLines part) → found ≡ told_steps part lines)
     → found ≡ so_far.steps
-found_between renews n start left count renewals found so_far each =
+found_between renews n start left count kept renewals found so_far each =
     let events = events_from 0 so_far.steps renewals in
     each (text_of (flat_map event_lines events)) so_far.taken.taken.parts (lines_counted renews n events so_far.taken.fit)
     ∙ counted_steps renews n so_far.steps renewals so_far.taken.fit
 
--- the events of these steps, with the renewals as they are kept
-kept_events : (found steps : List Step) (renewals kept : List Renewal) → kept ≡ renewals → found ≡ steps
-    → events_from 0 steps renewals ≡ events_from 0 found kept
-kept_events found steps renewals kept same one = rw (same, one) refl
+-- the events of these steps, with the renewals as they are stored
+stored_events : (found steps : List Step) (renewals stored : List Renewal) → stored ≡ renewals → found ≡ steps
+    → events_from 0 steps renewals ≡ events_from 0 found stored
+stored_events found steps renewals stored same one = rw (same, one) refl
 
-pub places_between : (renews : Bool) (n : ℕ) (start left : Lines) (count : ℕ) (renewals kept : List Renewal) (found : List Step)
-    → (so_far : TakesCounted renews n start count renewals left) → kept ≡ renewals → found ≡ so_far.steps
-    → Rise 0 kept (length found)
-places_between renews n start left count renewals kept found so_far same one =
+pub places_between : (renews : Bool) (n : ℕ) (start left : Lines) (count kept : ℕ) (renewals stored : List Renewal) (found : List Step)
+    → (so_far : TakesCounted renews n start count kept renewals left) → stored ≡ renewals → found ≡ so_far.steps
+    → Rise 0 stored (length found)
+places_between renews n start left count kept renewals stored found so_far same one =
     subst (λ (rs : List Renewal). Rise 0 rs (length found)) (sym same) (rise_to 0 count (length found) renewals so_far.places (omega (arith, ap length one, so_far.many)))
 
-pub done_between : (renews : Bool) (n : ℕ) (start left new : Lines) (count : ℕ) (renewals kept : List Renewal) (found : List Step) (splits : ℕ)
-    → (so_far : TakesCounted renews n start count renewals left) → kept ≡ renewals → found ≡ so_far.steps
+pub done_between : (renews : Bool) (n : ℕ) (start left new : Lines) (count kept : ℕ) (renewals stored : List Renewal) (found : List Step) (splits : ℕ)
+    → (so_far : TakesCounted renews n start count kept renewals left) → stored ≡ renewals → found ≡ so_far.steps
     → Takes (place.Steps renews n 0) left (line.Done splits ∷ []) (place.Between (form.Log renews)) new
-    → Takes (place.Steps renews n 0) start (flat_map event_lines (events_from 0 found kept) ++ line.Done splits ∷ []) (place.Between (form.Log renews)) new
-done_between renews n start left new count renewals kept found splits so_far same one done =
+    → Takes (place.Steps renews n 0) start (flat_map event_lines (events_from 0 found stored) ++ line.Done splits ∷ []) (place.Between (form.Log renews)) new
+done_between renews n start left new count kept renewals stored found splits so_far same one done =
     subst (λ (es : List Event). Takes (place.Steps renews n 0) start (flat_map event_lines es ++ line.Done splits ∷ []) (place.Between (form.Log renews)) new)
-    (kept_events found so_far.steps renewals kept same one) (done_on renews n start left new (events_from 0 so_far.steps renewals) splits so_far.taken done)
+    (stored_events found so_far.steps renewals stored same one) (done_on renews n start left new (events_from 0 so_far.steps renewals) splits so_far.taken done)
 
-pub fit_between : (renews : Bool) (n : ℕ) (start left new : Lines) (count : ℕ) (renewals kept : List Renewal) (found : List Step) (splits : ℕ)
-    → (so_far : TakesCounted renews n start count renewals left) → kept ≡ renewals → found ≡ so_far.steps
+pub fit_between : (renews : Bool) (n : ℕ) (start left new : Lines) (count kept : ℕ) (renewals stored : List Renewal) (found : List Step) (splits : ℕ)
+    → (so_far : TakesCounted renews n start count kept renewals left) → stored ≡ renewals → found ≡ so_far.steps
     → Takes (place.Steps renews n 0) left (line.Done splits ∷ []) (place.Between (form.Log renews)) new
-    → ClosingFits (form.Log renews) n (events_from 0 found kept) splits
-fit_between renews n start left new count renewals kept found splits so_far same one done =
-    (subst (AllByRecursion (EventFits renews n)) (kept_events found so_far.steps renewals kept same one) so_far.taken.fit, done.leads.0)
+    → ClosingFits (form.Log renews) n (events_from 0 found stored) splits
+fit_between renews n start left new count kept renewals stored found splits so_far same one done =
+    (subst (AllByRecursion (EventFits renews n)) (stored_events found so_far.steps renewals stored same one) so_far.taken.fit, done.leads.0)

@@ -39,12 +39,12 @@ pub record IsEndOf (rest text : List ℕ) : Type 0 where
   pub front : List ℕ
   pub parts : text ≡ front ++ rest
 
--- between what was left of a text before and what is left now stand the lines of so many steps, and
--- of renewals
-pub record HasBetween (before now : List ℕ) (count : ℕ) : Type 0 where
+-- between what was left of a text before and what is left now stand the lines of so many steps, of
+-- which so many close a box inside or at the edge, and of renewals
+pub record HasBetween (before now : List ℕ) (count kept : ℕ) : Type 0 where
   pub part : List ℕ
   pub parts : before ≡ part ++ now
-  pub counted : AreCounted part count
+  pub counted : AreCounted part count kept
 
 -- a line behind the root of a log, and the place behind it
 abbrev pub closing_line : ClosingLine → LogLine

@@ -1,8 +1,9 @@
 //! What stands behind a root: in a log the steps and renewals, and the number of splits.
 
-ghost use Rattle.std.specs.Prelude.{◌≡◌, ℕ, List, ◌++◌, [], ◌∷◌, map, length, IfOk, IfErr};
+ghost use Rattle.std.specs.Prelude.{◌≡◌, ℕ, List, ◌++◌, [], ◌∷◌, cond, map, length, IfOk, IfErr};
 ghost use Rattle.std.specs.List.{flat_map};
 ghost use Rattle.grid_model.specs.Boxes.{grid_box};
+ghost use Rattle.sat_model.specs.StepKinds.{is_kept_step};
 ghost use Rattle.paving_log.specs.declared.line.Form.TheVariants as forms;
 ghost use Rattle.paving_log.specs.declared.line.LogLine.TheVariants as line;
 ghost use Rattle.paving_log.specs.declared.line.Place.TheVariants as place;
@@ -21,10 +22,10 @@ use crate::log::LogError;
 use crate::renewal::Renewal;
 use crate::take::{take_line, take_step};
 use grid_model::Box3;
-use sat_model::{Row, SatEntry};
+use sat_model::{Row, SatEntry, Step};
 use std::alloc::{AllocError, Global};
 use std::rc::Rc;
-use step_lines::LoggedSteps;
+use step_lines::{LoggedSteps, is_kept};
 
 /// The box with these corners.
 pub fn box_of(corners: Corners) -> Box3
@@ -70,15 +71,17 @@ fn renewed_rows(
 }
 
 /// The steps, as many as told, whose lines stand in the text between what was left of it before and
-/// what is left now. Want of memory is the only error.
+/// what is left now. As many as told close a box inside or at the edge. Want of memory is the only
+/// error.
 fn steps_between(
     text: &Rc<Vec<u8>>,
     before: Lines<'_>,
     now: Lines<'_>,
     count: u32,
+    kept: u32,
 ) -> Result<LoggedSteps, AllocError>
     requires whole { IsEndOf before.rest.now text.now.value.items }
-    requires between { HasBetween before.rest.now now.rest.now count }
+    requires between { HasBetween before.rest.now now.rest.now count kept }
     ensures { IfOk result (λ steps. (part : List ℕ) →
         before.entry.rest.now ≡ part ++ now.entry.rest.now →
         (found : AreLines part) → steps_of steps ≡ told_steps part found) }
@@ -87,7 +90,14 @@ fn steps_between(
     let from = bytes.len() - before.rest.len();
     let to = bytes.len() - now.rest.len();
     let text = text.clone()?;
-    Ok(LoggedSteps::of_lines(text, from, to, count as usize))
+    Ok(LoggedSteps::of_lines(text, from, to, count as usize, kept as usize))
+}
+
+/// How many boxes a step closes inside or at the edge: one or none.
+fn kept_by(step: &Step) -> u32
+    ensures { result ≡ cond (is_kept_step step.now) 1 0 }
+{
+    if is_kept(step) { 1 } else { 0 }
 }
 
 /// The steps and renewals of an epoch, and the number of splits behind them.
@@ -107,12 +117,14 @@ fn events<'a>(
 {
     let mut renewals = Vec::new(alloc);
     let mut count = 0;
+    let mut kept = 0;
     let mut left = lines;
     'events: loop {
         let (line, behind) = take_step(left, renews, n)?;
         match line {
-            ClosingLine::Step(_) => {
+            ClosingLine::Step(step) => {
                 count += 1;
+                kept += kept_by(&step);
                 left = behind;
             }
             ClosingLine::Renew(corners) => {
@@ -128,7 +140,7 @@ fn events<'a>(
             }
             ClosingLine::Done(splits) => {
                 renewals.shrink_to_fit();
-                let steps = steps_between(text, lines, left, count)?;
+                let steps = steps_between(text, lines, left, count, kept)?;
                 return Ok((Events { steps, renewals }, splits, behind));
             }
         }

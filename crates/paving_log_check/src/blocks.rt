@@ -1,13 +1,11 @@
 //! The tests of one block of a log.
 
-ghost use Rattle.std.specs.Prelude.{◌≡◌, ◌+◌, ◌≤◌, ℕ, length, count_by, IfOk, MatchOption, Some};
+ghost use Rattle.std.specs.Prelude.{◌≡◌, ◌+◌, ◌≤◌, ℕ, length, IfOk, MatchOption, Some};
 ghost use Rattle.sat_model.specs.declared.rules.Rules.{Rules};
 ghost use Rattle.sat_model.specs.Cover.{kept_in};
 ghost use Rattle.sat_model.specs.Logs.{lines_in};
 ghost use Rattle.sat_model.specs.Renewals.{no_tests};
-ghost use Rattle.sat_model.specs.StepKinds.{is_kept_step};
 ghost use Rattle.sat_model.specs.Verdicts.{BodyPasses, BodyFailsBy, BlockPasses, BlockFails};
-ghost use Rattle.step_lines.specs.Steps.{steps_of};
 ghost use Rattle.paving_log.specs.Values.{body_value, block_of};
 ghost use Rattle.paving_log_check.specs.Answers.{ShowsNoSpans};
 
@@ -18,9 +16,8 @@ use crate::verdict::Fault;
 use gnss_model::Delays;
 use grid_model::NoMemory;
 use paving_log::{Body, LogEpoch, own_fault, rows_among};
-use sat_model::{Rules, Step};
+use sat_model::Rules;
 use std::alloc::Global;
-use step_lines::LoggedSteps;
 
 /// The first line of what stands behind the satellites that fails a test, its rows taken as given.
 fn body_fault(
@@ -74,26 +71,6 @@ pub(crate) fn block_fault(
     }
 }
 
-/// Whether a step closes a box inside or at the edge.
-fn is_kept(step: &Step) -> bool
-    ensures { result ≡ is_kept_step step.now }
-{
-    match step {
-        Step::Cut { .. } => false,
-        Step::Split { .. } => false,
-        Step::Outside { .. } => false,
-        Step::Inside { .. } => true,
-        Step::Edge { .. } => true,
-    }
-}
-
-/// How many steps do.
-fn kept_steps(steps: &LoggedSteps) -> usize
-    ensures { result ≡ count_by is_kept_step (steps_of steps.now) }
-{
-    steps.ahead().filter(|step| is_kept(step)).count()
-}
-
 /// How many boxes the steps of a block close inside or at the edge.
 pub fn kept_boxes(epoch: &LogEpoch) -> u64
     ensures value { (rules : Rules)
@@ -102,7 +79,7 @@ pub fn kept_boxes(epoch: &LogEpoch) -> u64
     ensures bound { result ≤ lines_in (block_of epoch.now) }
 {
     match &epoch.body {
-        Some(body) => kept_steps(&body.steps) as u64,
+        Some(body) => body.steps.kept() as u64,
         None => 0,
     }
 }

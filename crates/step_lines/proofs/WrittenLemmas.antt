@@ -2,7 +2,8 @@
 use Rattle.std.proofs.Common.{◌≡◌, ℕ, List, [], ◌∷◌, ◌++◌, length, refl, sym, ap, subst, ◌∙◌, append_assoc, arith}
 use Rattle.std.proofs.lemmas.Grind.{common_steps}
 use Rattle.std.specs.Prelude.{slice_range}
-use Rattle.std.specs.List.{AllByRecursion}
+use Rattle.std.specs.List.{AllByRecursion, count_by}
+use Rattle.sat_model.specs.StepKinds.{is_kept_step}
 use Rattle.sat_model.specs.declared.steps.Step.{Step}
 use Rattle.step_lines.specs.Lines.{StepFits, step_text}
 use Rattle.step_lines.proofs.LineLemmas.{one_steps}
@@ -45,10 +46,17 @@ whole_range : (text : List ℕ) (to : ℕ) → to ≡ length text → slice_rang
 whole_range text to is = grind (arith, common_steps)
 
 -- the lines of the whole text are as many as its steps
-pub counted_whole : (text part : List ℕ) (to : ℕ) (steps : List Step) → part ≡ text
-    → to ≡ length text → AreWritten text steps → AreCounted (slice_range part 0 to) (length steps)
-counted_whole text part to steps same whole written =
-    rw (same, whole_range text to whole) (written.found, ap length written.told)
+pub counted_whole : (text part : List ℕ) (to kept : ℕ) (steps : List Step) → part ≡ text
+    → to ≡ length text → AreWritten text steps → kept ≡ count_by is_kept_step steps
+    → AreCounted (slice_range part 0 to) (length steps) kept
+counted_whole text part to kept steps same whole written is =
+    rw (same, whole_range text to whole) (
+      written.found,
+      record {
+        all = ap length written.told;
+        closing = ap (count_by is_kept_step) written.told ∙ sym is;
+      },
+    )
 
 pub told_whole : (text part : List ℕ) (to : ℕ) (steps told : List Step) → part ≡ text
     → to ≡ length text → AreWritten text steps

@@ -2,7 +2,7 @@
 -- spelling, which holds no LF.
 use Rattle.std.proofs.Common.{◌≡◌, ◌≢◌, ℕ, zero, suc, ◌+◌, ◌*◌, ◌<◌, ◌≤◌, ◌^◌, ℤ, pos, negsuc, Bool, true, false, List, [], ◌∷◌, ◌++◌, length, drop, refl, sym, ap, ◌∙◌, lit<, arith}
 use Rattle.std.specs.Prelude.{nat_eq}
-use Rattle.std.specs.List.{AllByRecursion, AllByRecursion-prop}
+use Rattle.std.specs.List.{AllByRecursion, AllByRecursion-prop, count_by}
 use Rattle.std.specs.Coded.{×_prop, →_prop, Σ_prop, le_prop, Coded-set, coded_list, coded_ℕ, coded_bool}
 use Rattle.std.specs.Fmt.{decimal, signed_decimal}
 use Rattle.std.specs.Str.Parse.{AllDigits, digits_value}
@@ -15,6 +15,7 @@ use Rattle.std.proofs.Math.ListN.{get_or}
 use mathlib.Core.HLevel.{is_prop→PathP}
 use Rattle.grid_model.specs.Sizes.{IsWithin, IsBoxSize, IsClockSize}
 use Rattle.grid_model.proofs.OrderLemmas.{le_prop as int_prop}
+use Rattle.sat_model.specs.StepKinds.{is_kept_step}
 use Rattle.sat_model.specs.declared.steps.Step.{Step}
 use Rattle.sat_model.specs.declared.steps.Step.TheVariants.{Cut, Split, Outside, Inside, Edge}
 use Rattle.log_tokens.specs.Words.{words, joined}
@@ -24,7 +25,7 @@ use Rattle.log_tokens.proofs.NumberLemmas.{one_number}
 use Rattle.step_lines.specs.declared.names.StepName.{StepName}
 use Rattle.step_lines.specs.declared.names.StepName.TheVariants as name
 use Rattle.step_lines.specs.Lines.{step_words, IsId, StepFits, name_word, step_name, line_words, step_text}
-use Rattle.step_lines.specs.Texts.{AnyLine, OfStep, Other, bytes_in, HasNoEnd, is_renewing, AnyFits, text_of, AreLines, AreCounted}
+use Rattle.step_lines.specs.Texts.{AnyLine, OfStep, Other, bytes_in, HasNoEnd, is_renewing, AnyFits, text_of, told_steps, AreLines, AreMany, AreCounted}
 
 -- each byte is above the blank
 abbrev pub IsWord : List ℕ → Type 0
@@ -304,5 +305,12 @@ AreLines-prop text x y =
           (λ j. AllByRecursion-prop AnyFits any_prop (same j)) x.fit y.fit i;
     }
 
-pub AreCounted-prop : (text : List ℕ) (count : ℕ) → IsProp (AreCounted text count)
-AreCounted-prop text count = Σ_prop (AreLines-prop text) (λ found. Coded-set coded_ℕ _ count)
+many_prop : (steps : List Step) (count kept : ℕ) → IsProp (AreMany steps count kept)
+many_prop steps count kept p q = λ i. record {
+  all = Coded-set coded_ℕ (length steps) count p.all q.all i;
+  closing = Coded-set coded_ℕ (count_by is_kept_step steps) kept p.closing q.closing i;
+}
+
+pub AreCounted-prop : (text : List ℕ) (count kept : ℕ) → IsProp (AreCounted text count kept)
+AreCounted-prop text count kept =
+    Σ_prop (AreLines-prop text) (λ found. many_prop (told_steps text found) count kept)

@@ -1,7 +1,8 @@
 -- The lines of an epoch's steps, and those of renewals among them.
 use Rattle.std.specs.Prelude.{ℕ, ◌≡◌, ◌≢◌, nat_eq, Bool, true, false, ◌&&◌, if◌then◌else◌, List}
 use Rattle.std.specs.Prelude.{[], ◌∷◌, ◌++◌, length}
-use Rattle.std.specs.List.{AllByRecursion}
+use Rattle.std.specs.List.{AllByRecursion, count_by}
+use Rattle.sat_model.specs.StepKinds.{is_kept_step}
 use Rattle.sat_model.specs.declared.steps.Step.{Step}
 use Rattle.step_lines.specs.Lines.{StepFits, step_text}
 
@@ -49,9 +50,15 @@ pub record AreLines (text : List ℕ) : Type 0 where
 unfoldable pub told_steps : (text : List ℕ) → AreLines text → List Step
 told_steps text found = steps_among found.lines
 
--- these are so many
-abbrev pub AreCounted : (text : List ℕ) → ℕ → Type 0
-AreCounted text count = (found : AreLines text) × (length (told_steps text found) ≡ count)
+-- so many steps, of which so many close a box inside or at the edge
+pub record AreMany (steps : List Step) (count kept : ℕ) : Type 0 where
+  pub all : length steps ≡ count
+  pub closing : count_by is_kept_step steps ≡ kept
+
+-- the text tells so many
+abbrev pub AreCounted : (text : List ℕ) → ℕ → ℕ → Type 0
+AreCounted text count kept =
+    (found : AreLines text) × AreMany (told_steps text found) count kept
 
 -- the text has the lines of these steps
 pub record AreWritten (text : List ℕ) (steps : List Step) : Type 0 where

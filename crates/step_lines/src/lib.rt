@@ -5,6 +5,7 @@
 mod ahead;
 mod fields;
 mod first_line;
+mod kinds;
 mod leading_steps;
 mod lines;
 mod listed;
@@ -14,6 +15,7 @@ mod write;
 
 pub use ahead::StepsAhead;
 pub use fields::step_fields;
+pub use kinds::is_kept;
 pub use leading_steps::leading_step;
 pub use names::StepName;
 pub use steps::LoggedSteps;

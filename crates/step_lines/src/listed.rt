@@ -1,10 +1,12 @@
 //! Steps given one by one, as the lines of a text.
 
-ghost use Rattle.std.specs.Prelude.{◌≡◌, List, [], ◌∷◌, ◌++◌, IfOk, IfSome, IsTrue};
+ghost use Rattle.std.specs.Prelude.{◌≡◌, List, [], ◌∷◌, ◌++◌, IfOk, IfSome, IsTrue, count_by};
+ghost use Rattle.sat_model.specs.StepKinds.{is_kept_step};
 ghost use Rattle.sat_model.specs.declared.steps.Step.{Step};
 ghost use Rattle.step_lines.specs.Lines.{StepFits};
 ghost use Rattle.step_lines.specs.Texts.{AreWritten};
 
+use crate::kinds::is_kept;
 use crate::lines::step_at;
 use crate::steps::LoggedSteps;
 use crate::write::step_line;
@@ -38,6 +40,13 @@ fn push_line(text: &mut Vec<u8>, step: &Step) -> Result<bool, AllocError>
     Ok(false)
 }
 
+/// How many steps close a box inside or at the edge.
+fn kept_among(steps: &[Step]) -> usize
+    ensures { result ≡ count_by is_kept_step steps.now }
+{
+    steps.iter().filter(|step| is_kept(step)).count()
+}
+
 impl LoggedSteps {
     ghost use Rattle.step_lines.specs.Steps.{steps_of};
 
@@ -55,6 +64,6 @@ impl LoggedSteps {
         }
         let to = text.len();
         let text = Rc::new(alloc, text)?;
-        Ok(Some(LoggedSteps::of_lines(text, 0, to, steps.len())))
+        Ok(Some(LoggedSteps::of_lines(text, 0, to, steps.len(), kept_among(steps))))
     }
 }

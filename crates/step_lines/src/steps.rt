@@ -8,16 +8,17 @@ use crate::ahead::StepsAhead;
 use std::rc::Rc;
 
 /// The bytes of a text in which so many lines of steps stand, and none but those of renewals among
-/// them.
+/// them. So many of the steps close a box inside or at the edge.
 #[derive(Debug, Drop)]
 pub struct Part {
     text: Rc<Vec<u8>>,
     from: usize,
     to: usize,
     count: usize,
+    kept: usize,
     ghost ordered: { from ≤ to },
     ghost within: { to ≤ length text.value.items },
-    ghost counted: { AreCounted (slice_range text.value.items from to) count } by { AreCounted-prop (slice_range text.value.items from to) count },
+    ghost counted: { AreCounted (slice_range text.value.items from to) count kept } by { AreCounted-prop (slice_range text.value.items from to) count kept },
 }
 
 /// Steps in their order. They take no memory beside the text that has their lines.
@@ -27,7 +28,8 @@ pub struct LoggedSteps {
 }
 
 impl LoggedSteps {
-    ghost use Rattle.std.specs.Prelude.{◌≡◌, ◌<◌, ◌^◌, []};
+    ghost use Rattle.std.specs.Prelude.{◌≡◌, ◌<◌, ◌^◌, [], count_by};
+    ghost use Rattle.sat_model.specs.StepKinds.{is_kept_step};
     ghost use Rattle.step_lines.specs.Texts.{AreLines, told_steps};
     ghost use Rattle.step_lines.specs.Steps.{steps_of, steps_left};
 
@@ -38,11 +40,18 @@ impl LoggedSteps {
         LoggedSteps { part: None }
     }
 
-    /// The steps, as many as told, whose lines stand in a text from one byte up to another.
-    pub fn of_lines(text: Rc<Vec<u8>>, from: usize, to: usize, count: usize) -> LoggedSteps
+    /// The steps, as many as told, whose lines stand in a text from one byte up to another. As many
+    /// as told close a box inside or at the edge.
+    pub fn of_lines(
+        text: Rc<Vec<u8>>,
+        from: usize,
+        to: usize,
+        count: usize,
+        kept: usize,
+    ) -> LoggedSteps
         requires ordered { from ≤ to }
         requires within { to ≤ length text.value.items }
-        requires counted { AreCounted (slice_range text.value.items from to) count }
+        requires counted { AreCounted (slice_range text.value.items from to) count kept }
         ensures { (found : AreLines (slice_range text.value.items from to)) →
             steps_of result ≡ told_steps (slice_range text.value.items from to) found }
     {
@@ -51,6 +60,7 @@ impl LoggedSteps {
             from,
             to,
             count,
+            kept,
         };
         LoggedSteps { part: Some(part) }
     }
@@ -61,6 +71,16 @@ impl LoggedSteps {
     {
         match &self.part {
             Some(part) => part.count,
+            None => 0,
+        }
+    }
+
+    /// How many steps close a box inside or at the edge.
+    pub fn kept(&self) -> usize
+        ensures { result ≡ count_by is_kept_step (steps_of self.now) }
+    {
+        match &self.part {
+            Some(part) => part.kept,
             None => 0,
         }
     }

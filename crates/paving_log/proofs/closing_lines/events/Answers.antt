@@ -1,13 +1,14 @@
-use Rattle.std.proofs.Common.{[], ◌∷◌, ◌++◌, refl, arith}
+use Rattle.std.proofs.Common.{◌≡◌, ◌≤◌, Bool, true, false, cond, [], ◌∷◌, ◌++◌, refl, arith}
 use Rattle.std.proofs.lemmas.Result.{err_from_is_err_and}
 use Rattle.std.specs.List.{flat_map}
+use Rattle.sat_model.specs.StepKinds.{is_kept_step}
 use Rattle.paving_log.specs.declared.line.LogLine.TheVariants as line
 use Rattle.paving_log.specs.declared.line.Place.TheVariants as place
 use Rattle.paving_log.specs.Renewing.{events_from}
 use Rattle.paving_log.specs.Text.{event_lines}
 use Rattle.step_lines.specs.Steps.{steps_of}
 use Rattle.paving_log.proofs.LineLemmas.{takes_on, refuses_behind}
-use Rattle.paving_log.proofs.CountedLemmas.{few_counted, step_counted, renewal_counted, between, found_between, places_between, done_between, fit_between}
+use Rattle.paving_log.proofs.CountedLemmas.{few_counted, few_kept, step_counted, renewal_counted, between, found_between, places_between, done_between, fit_between}
 use Rattle.paving_log.proofs.closing_lines.events.Goals as goal
 
 pub returns-in_err-rows-in-Renew-clause-refused : goal.returns-in_err-rows-in-Renew-clause-refused
@@ -22,42 +23,53 @@ returns-in_err-rows-in-Renew-clause-refused c =
     rw (p.1, p.2) (refuses_behind start rows c.args.lines c.in_ok-line.behind (lines ++ line.Renew c.in-Renew.corners ∷ []) _ taken c.in_err-rows-in-Renew.ensures.refused)
 
 pub overflow_add-count : goal.overflow_add-count
-overflow_add-count c = omega (arith, few_counted c.args.renews c.args.n c.args.lines c.events.count c.events.renewals.items c.events.left c.events.invariant)
+overflow_add-count c = omega (arith, few_counted c.args.renews c.args.n c.args.lines c.events.count c.events.kept c.events.renewals.items c.events.left c.events.invariant)
+
+kept_by-most : (b : Bool) → cond b 1 0 ≤ 1
+kept_by-most true = omega arith
+kept_by-most false = omega arith
+
+pub overflow_add-kept : goal.overflow_add-kept
+overflow_add-kept c =
+    let old = c.events in
+    let all = few_counted c.args.renews c.args.n c.args.lines old.count old.kept old.renewals.items old.left old.invariant in
+    let some = few_kept c.args.renews c.args.n c.args.lines old.count old.kept old.renewals.items old.left old.invariant in
+    omega (arith, all, some, c.kept_by-kept.ensures, kept_by-most (is_kept_step c.in-Step.step))
 
 pub events-preserved-in-Step : goal.events-preserved-in-Step
 events-preserved-in-Step c =
-    step_counted c.args.renews c.args.n c.args.lines c.events.left c.in_ok-line.behind c.events.count c.events.renewals.items c.in-Step.field-0 c.events.invariant
-    (rw c.in-Step.is at c.in_ok-line.ensures.taken)
+    rw c.kept_by-kept.ensures (step_counted c.args.renews c.args.n c.args.lines c.events.left c.in_ok-line.behind c.events.count c.events.kept c.events.renewals.items c.in-Step.step c.events.invariant
+    (rw c.in-Step.is at c.in_ok-line.ensures.taken))
 
 pub events-preserved : goal.events-preserved
 events-preserved c =
     let rows = c.in_ok-rows-in-Renew in
-    renewal_counted c.args.renews c.args.n c.args.lines c.events.left c.in_ok-line.behind rows.behind c.events.count c.events.renewals.items c.push.new.self.items
+    renewal_counted c.args.renews c.args.n c.args.lines c.events.left c.in_ok-line.behind rows.behind c.events.count c.events.kept c.events.renewals.items c.push.new.self.items
     (record { at = c.events.count; part = c.box_of-part.result; rows = rows.rows }) c.in-Renew.corners c.box_of-part.ensures refl c.in_ok-push-in-Renew.ensures.items
     c.events.invariant (rw c.in-Renew.is at c.in_ok-line.ensures.taken) rows.ensures.taken rows.ensures.many
 
 pub steps_between-requires-clause-between : goal.steps_between-requires-clause-between
-steps_between-requires-clause-between c = between c.args.renews c.args.n c.args.lines c.events.left c.events.count c.events.renewals.items c.events.invariant
+steps_between-requires-clause-between c = between c.args.renews c.args.n c.args.lines c.events.left c.events.count c.events.kept c.events.renewals.items c.events.invariant
 
 pub invariant_of-result : goal.invariant_of-result
 invariant_of-result c =
     let renewals = c.events.renewals.items in
     let steps = steps_of c.in_ok-steps-in-Done.steps in
-    let same = found_between c.args.renews c.args.n c.args.lines c.events.left c.events.count renewals steps c.events.invariant c.in_ok-steps-in-Done.ensures in
-    record { places = places_between c.args.renews c.args.n c.args.lines c.events.left c.events.count renewals c.shrink_to_fit.new.self.items steps c.events.invariant c.shrink_to_fit.ensures.items same }
+    let same = found_between c.args.renews c.args.n c.args.lines c.events.left c.events.count c.events.kept renewals steps c.events.invariant c.in_ok-steps-in-Done.ensures in
+    record { places = places_between c.args.renews c.args.n c.args.lines c.events.left c.events.count c.events.kept renewals c.shrink_to_fit.new.self.items steps c.events.invariant c.shrink_to_fit.ensures.items same }
 
 pub returns-in-Done-clause-taken : goal.returns-in-Done-clause-taken
 returns-in-Done-clause-taken c =
     let renewals = c.events.renewals.items in
     let steps = steps_of c.in_ok-steps-in-Done.steps in
-    let same = found_between c.args.renews c.args.n c.args.lines c.events.left c.events.count renewals steps c.events.invariant c.in_ok-steps-in-Done.ensures in
-    done_between c.args.renews c.args.n c.args.lines c.events.left c.in_ok-line.behind c.events.count renewals c.shrink_to_fit.new.self.items steps c.in-Done.splits c.events.invariant
+    let same = found_between c.args.renews c.args.n c.args.lines c.events.left c.events.count c.events.kept renewals steps c.events.invariant c.in_ok-steps-in-Done.ensures in
+    done_between c.args.renews c.args.n c.args.lines c.events.left c.in_ok-line.behind c.events.count c.events.kept renewals c.shrink_to_fit.new.self.items steps c.in-Done.splits c.events.invariant
     c.shrink_to_fit.ensures.items same (rw c.in-Done.is at c.in_ok-line.ensures.taken)
 
 pub returns-in-Done-clause-fits : goal.returns-in-Done-clause-fits
 returns-in-Done-clause-fits c =
     let renewals = c.events.renewals.items in
     let steps = steps_of c.in_ok-steps-in-Done.steps in
-    let same = found_between c.args.renews c.args.n c.args.lines c.events.left c.events.count renewals steps c.events.invariant c.in_ok-steps-in-Done.ensures in
-    fit_between c.args.renews c.args.n c.args.lines c.events.left c.in_ok-line.behind c.events.count renewals c.shrink_to_fit.new.self.items steps c.in-Done.splits c.events.invariant
+    let same = found_between c.args.renews c.args.n c.args.lines c.events.left c.events.count c.events.kept renewals steps c.events.invariant c.in_ok-steps-in-Done.ensures in
+    fit_between c.args.renews c.args.n c.args.lines c.events.left c.in_ok-line.behind c.events.count c.events.kept renewals c.shrink_to_fit.new.self.items steps c.in-Done.splits c.events.invariant
     c.shrink_to_fit.ensures.items same (rw c.in-Done.is at c.in_ok-line.ensures.taken)

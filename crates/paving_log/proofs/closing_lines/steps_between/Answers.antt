@@ -13,7 +13,7 @@ of_lines-requires-clause-counted c =
     let size : c.len-2.result ≡ length text = omega (arith, c.len-2.ensures, long) in
     let between = c.requires.between in
     let at = part_at text c.in_ok-text.text.value.items c.requires.whole.front c.args.before.rest.now between.part c.args.now.rest.now c.len.result c.len-2.result c.requires.whole.parts between.parts same all size in
-    subst (λ (part : List ℕ). AreCounted part c.args.count) (sym at) between.counted
+    subst (λ (part : List ℕ). AreCounted part c.args.count c.args.kept) (sym at) between.counted
 
 pub returns : goal.returns
 returns c = λ part parts found.

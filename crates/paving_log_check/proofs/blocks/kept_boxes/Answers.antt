@@ -20,14 +20,14 @@ returns-in-Some-clause-value c rules h =
     let block = block_of c.args.epoch.now in
     let passes = rw c.in-Some.is at h in
     let kept = kept_of_steps AnyLine (first_rows block value) rules body.done 0 (first_stage (test_in rules block) (grid_box body.root)) value.events passes in
-    rw c.in-Some.is (omega (arith, c.kept_steps.ensures, kept, ap (λ (steps : List Step). count_by is_kept_step steps) (steps_in_events 0 (steps_of body.steps) body.renewals.items)))
+    rw c.in-Some.is (omega (arith, c.kept.ensures, kept, ap (λ (steps : List Step). count_by is_kept_step steps) (steps_in_events 0 (steps_of body.steps) body.renewals.items)))
 
 pub returns-in-Some-clause-bound : goal.returns-in-Some-clause-bound
 returns-in-Some-clause-bound c =
     let body = c.in-Some.body in
     omega (
       arith,
-      c.kept_steps.ensures,
+      c.kept.ensures,
       count_by-le-length is_kept_step (steps_of body.steps),
       steps_le_lines (steps_of body.steps) body.renewals.items,
       lines_of_events (body_value body).events,

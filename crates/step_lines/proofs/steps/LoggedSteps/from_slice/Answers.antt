@@ -13,7 +13,7 @@ all_taken steps n all = grind (arith, common_steps)
 pub of_lines-requires-clause-counted : goal.of_lines-requires-clause-counted
 of_lines-requires-clause-counted c =
     let all = all_taken c.args.steps.now c.loop-step.step-index (omega (arith, c.loop-step-test.false)) in
-    counted_whole c.loop-step.text.items c.in_ok-text.text.value.items c.len-to.result c.args.steps.now (ap (λ v. v.items) c.in_ok-text.ensures.ok) (omega (arith, c.len-to.ensures)) (rw all at c.loop-step.invariant)
+    counted_whole c.loop-step.text.items c.in_ok-text.text.value.items c.len-to.result c.kept_among.result c.args.steps.now (ap (λ v. v.items) c.in_ok-text.ensures.ok) (omega (arith, c.len-to.ensures)) (rw all at c.loop-step.invariant) c.kept_among.ensures
 
 pub returns : goal.returns
 returns c =
