@@ -10,7 +10,6 @@ use memchr::memchr;
 use sat_model::Step;
 
 /// The step of the first line, none where it is another one, and what stands behind its LF.
-#[inline(always)]
 pub fn first_line(text: &[u8]) -> Option<(Option<Step>, &[u8])>
     ensures found { IfSome result (λ found. HasFirst text.now found.0 found.1.now) }
     ensures none { IfNone result (HasNoEnd text.now) }

@@ -10,7 +10,6 @@ use log_tokens::{leading_amount, leading_count, leading_digit};
 use sat_model::Step;
 
 /// The fields of a cut.
-#[inline(always)]
 fn leading_cut(fields: &[u8]) -> Option<(Step, &[u8])>
     ensures { IfSome result (λ found. HasFields names.Cut fields.now found.0 found.1.now) }
 {
@@ -21,7 +20,6 @@ fn leading_cut(fields: &[u8]) -> Option<(Step, &[u8])>
 }
 
 /// The fields of a split.
-#[inline(always)]
 fn leading_split(fields: &[u8]) -> Option<(Step, &[u8])>
     ensures { IfSome result (λ found. HasFields names.Split fields.now found.0 found.1.now) }
 {
@@ -31,7 +29,6 @@ fn leading_split(fields: &[u8]) -> Option<(Step, &[u8])>
 }
 
 /// The field of a box without a fitting point.
-#[inline(always)]
 fn leading_out(fields: &[u8]) -> Option<(Step, &[u8])>
     ensures { IfSome result (λ found. HasFields names.Out fields.now found.0 found.1.now) }
 {
@@ -40,7 +37,6 @@ fn leading_out(fields: &[u8]) -> Option<(Step, &[u8])>
 }
 
 /// The fields of a box whose points all fit.
-#[inline(always)]
 fn leading_inside(fields: &[u8]) -> Option<(Step, &[u8])>
     ensures { IfSome result (λ found. HasFields names.In fields.now found.0 found.1.now) }
 {
@@ -55,7 +51,6 @@ fn leading_inside(fields: &[u8]) -> Option<(Step, &[u8])>
 }
 
 /// The fields of an undecided box.
-#[inline(always)]
 fn leading_edge(fields: &[u8]) -> Option<(Step, &[u8])>
     ensures { IfSome result (λ found. HasFields names.Edge fields.now found.0 found.1.now) }
 {
@@ -69,7 +64,6 @@ fn leading_edge(fields: &[u8]) -> Option<(Step, &[u8])>
 }
 
 /// The step whose line stands at the front, and what stands behind its LF.
-#[inline(always)]
 pub fn leading_step(text: &[u8]) -> Option<(Step, &[u8])>
     ensures { IfSome result (λ found. HasStep text.now found.0 found.1.now) }
 {

@@ -3,7 +3,6 @@ use Rattle.std.specs.Fmt.{signed_decimal, decimal}
 use Rattle.std.specs.Str.{IsAscii}
 use Rattle.std.proofs.lemmas.Fmt.{parse-decimal_wide, IsAscii-decimal_wide}
 use Rattle.std.proofs.lemmas.Str.{IsUtf8-from_ascii}
-use lib.Pointwise.{pointwise}
 use Rattle.log_tokens.proofs.TextLemmas.{same_pointwise}
 use Rattle.log_tokens.proofs.TimeLemmas.{time_count}
 use Rattle.log_tokens.proofs.words.time_of.Goals as goal
