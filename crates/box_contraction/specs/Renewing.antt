@@ -3,10 +3,10 @@ use Rattle.std.specs.Prelude.{◌≡◌, ℕ, ◌+◌, ◌<◌, ◌≤◌, ◌�
 use Rattle.std.specs.List.{AllByRecursion}
 use Rattle.sat_model.specs.declared.rows.SatEntry.TheVariants as entry
 use Rattle.sat_model.specs.Events.{RowsOver}
-use Rattle.paving_log.specs.declared.line.LogLine.{LogLine}
-use Rattle.paving_log.specs.declared.line.LogLine.TheVariants as line
-use Rattle.paving_log.specs.Lines.{text_of}
-use Rattle.paving_log.specs.Rows.{RowFits, corners_of}
+use Rattle.log_lines.specs.declared.line.LogLine.{LogLine}
+use Rattle.log_lines.specs.declared.line.LogLine.TheVariants as line
+use Rattle.log_lines.specs.Lines.{text_of}
+use Rattle.log_lines.specs.Rows.{RowFits, corners_of}
 use Rattle.box_contraction.specs.declared.steps.StepFault.{StepFault}
 use Rattle.box_contraction.specs.declared.steps.StepFault.TheVariants.{Full}
 

@@ -8,7 +8,7 @@ use box_pool::Item;
 use fix_interval::Exact;
 use gnss_model::Sat;
 use grid_model::{Box3, Pos, Span};
-use paving_log::step_line;
+use log_lines::step_line;
 use range_contractor::relaxed_tree;
 use relaxed_meet::BoxTest;
 use sat_model::{Row, Rules, Step};

@@ -7,8 +7,8 @@ use Rattle.input_files.specs.Inputs.{InputsValue, inputs_value}
 use Rattle.input_files.specs.Motion.{speed_in, speed_of}
 use Rattle.input_files.specs.declared.inputs.Inputs.{Inputs}
 use Rattle.paving_log.proofs.LogLemmas.{one_spelled, log_spelling}
-use Rattle.paving_log.specs.Text.{IsLogText}
-use Rattle.paving_log.specs.declared.line.Kind.TheVariants as kind
+use Rattle.log_lines.specs.Text.{IsLogText}
+use Rattle.log_lines.specs.declared.line.Kind.TheVariants as kind
 use Rattle.paving_log_check.specs.Checked.{IsRefused}
 use Rattle.paving_log_check.specs.declared.verdict.Fault.{Fault}
 use Rattle.grid_model.specs.Boxes.{GridBox}

@@ -26,7 +26,7 @@ use Rattle.log_writer.specs.Writing.{Trust}
 use Rattle.outer_io.proofs.Covering.{get-other, get-log}
 use Rattle.outer_io.specs.Told.{Files, files_of}
 use Rattle.paving_log.specs.Faults.{FirstFault}
-use Rattle.paving_log.specs.Text.{IsLogText}
+use Rattle.log_lines.specs.Text.{IsLogText}
 use Rattle.paving_log.specs.Values.{log_value}
 use Rattle.sat_model.specs.Logs.{LogValue}
 use Rattle.cover_run.proofs.AcceptLemmas.{not_refused, track_not_refused}

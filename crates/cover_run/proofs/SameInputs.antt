@@ -12,7 +12,7 @@ use Rattle.error_bounds.specs.Texts.{SettingsValue}
 use Rattle.input_files.specs.Inputs.{InputsValue, inputs_value}
 use Rattle.input_files.specs.declared.inputs.Inputs.{Inputs}
 use Rattle.moving_tube.specs.Roots.{Before, kept_of, root_for}
-use Rattle.paving_log.proofs.ValueLemmas.{same_rules}
+use Rattle.log_lines.proofs.ValueLemmas.{same_rules}
 use Rattle.paving_log_check.specs.Admissible.{Admits, AdmitsFrom, IsDue, IsOf}
 use Rattle.paving_log_check.specs.Epochs.{EpochPasses}
 use Rattle.paving_log_check.specs.OwnLines.{OwnLines, AreOwn, AreRenewed, IsOwnOf, renewals_of}

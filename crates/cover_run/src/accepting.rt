@@ -15,7 +15,7 @@ ghost use Rattle.input_files.specs.declared.inputs.Inputs.{Inputs};
 ghost use Rattle.input_files.specs.declared.limits.Limits.{Limits};
 ghost use Rattle.input_files.specs.declared.status.Status.{Status};
 ghost use Rattle.log_writer.specs.Writing.{trust_of};
-ghost use Rattle.paving_log.specs.Text.{IsLogText};
+ghost use Rattle.log_lines.specs.Text.{IsLogText};
 ghost use Rattle.paving_log_check.specs.declared.verdict.Fault.{Fault};
 ghost use Rattle.sat_model.specs.Logs.{LogValue};
 

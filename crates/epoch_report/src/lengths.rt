@@ -7,7 +7,7 @@ ghost use Rattle.epoch_report.specs.Metres.{metres_text, seconds_text};
 
 use arrayvec::ArrayString;
 use itoa::Buffer;
-use paving_log::Line;
+use log_lines::Line;
 
 const MILLION: u32 = 1_000_000;
 

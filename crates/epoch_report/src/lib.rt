@@ -9,4 +9,4 @@ mod lines;
 pub use counts::Counts4;
 pub use lengths::metres;
 pub use lines::{epoch_text, step_text, total_text};
-pub use paving_log::Line;
+pub use log_lines::Line;

@@ -14,7 +14,7 @@ use crate::counts::Counts4;
 use crate::lengths::{push_metres, push_seconds};
 use grid_model::Box3;
 use itoa::Buffer;
-use paving_log::Line;
+use log_lines::Line;
 use sat_model::Step;
 
 /// A blank and a count.

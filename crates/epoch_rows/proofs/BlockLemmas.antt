@@ -7,9 +7,9 @@ use Rattle.epoch_rows.specs.Grown.{bare_body, AreGrownLines, skips_of}
 use Rattle.epoch_rows.specs.Ready.{SkipsFit}
 use Rattle.epoch_selection.specs.Selections.{first_epoch, last_epoch}
 use Rattle.log_tokens.specs.Fields.{IsCountFromTo}
-use Rattle.paving_log.specs.Lines.{HeaderFits}
-use Rattle.paving_log.specs.Rows.{EntryFits, CornersFit, corners_of}
-use Rattle.paving_log.specs.Text.{IsSkipped}
+use Rattle.log_lines.specs.Lines.{HeaderFits}
+use Rattle.log_lines.specs.Rows.{EntryFits, CornersFit, corners_of}
+use Rattle.log_lines.specs.Text.{IsSkipped}
 use Rattle.rinex_obs.specs.Facts.{AreNamedSats}
 use Rattle.rinex_obs.specs.declared.obs.ObsEpoch.{ObsEpoch}
 use Rattle.log_writer.proofs.GridSizes.{box3_fits}

@@ -7,8 +7,8 @@ use Rattle.std.proofs.lemmas.Int.{ints}
 use Rattle.epoch_rows.specs.Grown.{IsGrownRow, IsGrownLine, AreGrownLines, greatest_spare, greatest_err_spare, skips_of}
 use Rattle.epoch_rows.specs.Ready.{SkipsFit}
 use Rattle.log_tokens.specs.Fields.{IsNamed, SkipFits}
-use Rattle.paving_log.specs.Rows.{EntryFits}
-use Rattle.paving_log.specs.Text.{IsSkipped}
+use Rattle.log_lines.specs.Rows.{EntryFits}
+use Rattle.log_lines.specs.Text.{IsSkipped}
 use Rattle.rinex_obs.specs.Facts.{IsSatOf, AreNamedSats, AreDistinct}
 use Rattle.rinex_obs.specs.declared.obs.SatObs.{SatObs}
 use Rattle.grid_model.specs.Boxes.{GridBox}

@@ -11,8 +11,8 @@ use Rattle.epoch_rows.specs.Ready.{IsWritable, AreWritable, CanGive}
 use Rattle.epoch_selection.specs.Searches.{search_in, epochs_left, IsTaken}
 use Rattle.epoch_selection.specs.declared.searches.Searches.{Searches}
 use Rattle.log_writer.specs.Sources.{Follows, Serves}
-use Rattle.paving_log.specs.declared.line.Form.TheVariants as form
-use Rattle.paving_log.specs.Text.{BlockFits}
+use Rattle.log_lines.specs.declared.line.Form.TheVariants as form
+use Rattle.log_lines.specs.Text.{BlockFits}
 use Rattle.rinex_obs.specs.declared.obs.ObsEpoch.{ObsEpoch}
 use Rattle.gnss_model.specs.declared.delays.Delays.{Delays}
 use Rattle.grid_model.specs.Boxes.{GridBox, grid_box}

@@ -2,9 +2,9 @@
 use Rattle.std.specs.Prelude.{◌≡◌, ℕ, List, None}
 use Rattle.paving_log.specs.Faults.{FirstFault}
 use Rattle.paving_log.specs.RowsText.{IsRowsText, FirstRowsFault, AllOwnPass}
-use Rattle.paving_log.specs.Text.{IsLogText, LogFits}
+use Rattle.log_lines.specs.Text.{IsLogText, LogFits}
 use Rattle.paving_log.specs.Values.{log_value}
-use Rattle.paving_log.specs.declared.line.Kind.TheVariants as kind
+use Rattle.log_lines.specs.declared.line.Kind.TheVariants as kind
 use Rattle.paving_log.specs.declared.log.Log.{Log}
 use Rattle.paving_log.specs.declared.log.LogError.{LogError}
 use Rattle.paving_log.specs.declared.log.LogError.TheVariants as error

@@ -6,10 +6,8 @@ ghost use Rattle.paving_log.specs.Values.{log_value};
 
 use crate::renewed::{LEFT, ROWS, kept_text, log_with};
 use grid_model::{Box3, NoMemory, Pos};
-use paving_log::{
-    Body, Log, LogEpoch, LogError, Renewal, cover_boxes, done_line, epoch_line, head_lines,
-    read_log, read_rows, renew_line, root_line, sat_line, step_line,
-};
+use log_lines::{done_line, epoch_line, head_lines, renew_line, root_line, sat_line, step_line};
+use paving_log::{Body, Log, LogEpoch, LogError, Renewal, cover_boxes, read_log, read_rows};
 use paving_log_check::{Verdict, judge, judged_folds};
 use sat_model::{SatEntry, Step};
 use std::alloc::{AllocError, Global};

@@ -3,9 +3,9 @@
 
 ghost use Rattle.std.specs.Prelude.{◌≡◌, None, IfOk};
 ghost use Rattle.paving_log.specs.RowsText.{AllOwnPass};
-ghost use Rattle.paving_log.specs.Text.{LogFits};
+ghost use Rattle.log_lines.specs.Text.{LogFits};
 ghost use Rattle.paving_log.specs.Values.{log_value};
-ghost use Rattle.paving_log.specs.declared.line.Kind.TheVariants as kind;
+ghost use Rattle.log_lines.specs.declared.line.Kind.TheVariants as kind;
 
 use crate::renewed::kept_text;
 use grid_model::{Box3, NoMemory};

@@ -67,7 +67,7 @@ pub second_word : (text : List ℕ) (first number count more : ℕ) → 16 ≤ l
     → count ≡ 0 + digits_len (drop 0 (slice_range text 8 16))
     → count ≤ length (slice_range text 8 16)
     → more ≡ (number * 10 ^ (count - 0)
-        + digits_value 10 (slice_range (slice_range text 8 16) 0 count)) % 2 ^ 64
+    + digits_value 10 (slice_range (slice_range text 8 16) 0 count)) % 2 ^ 64
     → AreInFront text (8 + count) more
 second_word text first number count more long front apart within digits inside value =
     let len : length (take 8 text) ≡ 8 = length-take-le 8 text (omega arith) in

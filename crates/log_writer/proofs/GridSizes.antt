@@ -19,7 +19,7 @@ use Rattle.box_contraction.proofs.BoxLemmas.{cuts_some}
 use Rattle.box_contraction.proofs.FaceLemmas.{IsSomeCut, AreFaces}
 use Rattle.paving.proofs.PavedLemmas.{AreCutsInTurn}
 use Rattle.step_lines.specs.Lines.{StepFits}
-use Rattle.paving_log.specs.Rows.{CornersFit, corners_of}
+use Rattle.log_lines.specs.Rows.{CornersFit, corners_of}
 
 -- ---- lists whose members all meet a fact
 

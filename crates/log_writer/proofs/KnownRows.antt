@@ -13,9 +13,9 @@ use Rattle.paving.specs.Idle.{idle}
 use Rattle.paving.specs.Runs.{TurnsBegun}
 use Rattle.paving.specs.Turns.{ShownEvent, OfStep, events_of, PavedTurns}
 use Rattle.paving.proofs.TurnsExist.{turns_go_on}
-use Rattle.paving_log.specs.declared.line.LogLine.TheVariants as line
-use Rattle.paving_log.specs.Rows.{corners_of}
-use Rattle.paving_log.specs.Text.{first_line}
+use Rattle.log_lines.specs.declared.line.LogLine.TheVariants as line
+use Rattle.log_lines.specs.Rows.{corners_of}
+use Rattle.log_lines.specs.Text.{first_line}
 use Rattle.epoch_report.specs.ReportLines.{epoch_text_of}
 use Rattle.log_writer.specs.declared.fault.WriteFault.{WriteFault}
 use Rattle.log_writer.specs.declared.fault.WriteFault.TheVariants as why

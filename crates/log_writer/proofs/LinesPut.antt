@@ -4,8 +4,8 @@ use Rattle.std.specs.Prelude.{◌↔◌}
 use Rattle.std.proofs.lemmas.List.{map-append, length-map, take_all}
 use Rattle.box_contraction.specs.declared.steps.StepFault.{StepFault}
 use Rattle.box_contraction.specs.declared.steps.StepFault.TheVariants as step_fault
-use Rattle.paving_log.specs.declared.line.LogLine.{LogLine}
-use Rattle.paving_log.specs.Lines.{text_of}
+use Rattle.log_lines.specs.declared.line.LogLine.{LogLine}
+use Rattle.log_lines.specs.Lines.{text_of}
 use Rattle.paving_log.proofs.LineLemmas.{text_of-append}
 use Rattle.log_writer.specs.declared.fault.WriteFault.{WriteFault}
 use Rattle.log_writer.specs.declared.fault.WriteFault.TheVariants as why

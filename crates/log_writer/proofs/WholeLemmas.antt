@@ -10,11 +10,11 @@ use Rattle.sat_model.specs.Logs.{Block, LogValue}
 use Rattle.sat_model.specs.Verdicts.{Judged}
 use Rattle.sat_model.proofs.CoverLemmas.{row_cover}
 use Rattle.paving.specs.Renewing.{Maker}
-use Rattle.paving_log.specs.declared.line.Form.TheVariants as form
-use Rattle.paving_log.specs.declared.line.Kind.TheVariants as kind
-use Rattle.paving_log.specs.Order.{may_renew, has_pairs}
+use Rattle.log_lines.specs.declared.line.Form.TheVariants as form
+use Rattle.log_lines.specs.declared.line.Kind.TheVariants as kind
+use Rattle.log_lines.specs.Order.{may_renew, has_pairs}
 use Rattle.paving_log.specs.RowsText.{OwnPasses}
-use Rattle.paving_log.specs.Text.{block_lines, log_lines, BlockFits, LogFits}
+use Rattle.log_lines.specs.Text.{block_lines, log_lines, BlockFits, LogFits}
 use Rattle.paving_log.proofs.LogLemmas.{log_text_from}
 use Rattle.paving_log.proofs.NumberingLemmas.{length-text_of}
 use Rattle.outer_io.specs.Sizes.{longest_file}

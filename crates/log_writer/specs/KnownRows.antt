@@ -6,9 +6,9 @@ use Rattle.sat_model.specs.Logs.{Block, LogValue}
 use Rattle.sat_model.specs.Verdicts.{Judged}
 use Rattle.paving.specs.Idle.{idle}
 use Rattle.epoch_report.specs.Reports.{report_text}
-use Rattle.paving_log.specs.declared.line.Form.TheVariants as form
+use Rattle.log_lines.specs.declared.line.Form.TheVariants as form
 use Rattle.paving_log.specs.RowsText.{AllOwnPass}
-use Rattle.paving_log.specs.Text.{IsLogText, BlockFits}
+use Rattle.log_lines.specs.Text.{IsLogText, BlockFits}
 use Rattle.log_writer.specs.declared.fault.WriteFault.{WriteFault}
 use Rattle.log_writer.specs.Breaks.{BrokeOff}
 use Rattle.log_writer.specs.Pavings.{AllPave}

@@ -5,9 +5,9 @@ use Rattle.gnss_model.specs.declared.satellites.Sat.{Sat}
 use Rattle.grid_model.specs.Boxes.{GridBox}
 use Rattle.sat_model.specs.Logs.{Body, Block, rows_of}
 use Rattle.paving.specs.Renewing.{Maker}
-use Rattle.paving_log.specs.declared.line.Form.TheVariants as form
+use Rattle.log_lines.specs.declared.line.Form.TheVariants as form
 use Rattle.paving_log.specs.RowsText.{OwnPasses}
-use Rattle.paving_log.specs.Text.{BlockFits}
+use Rattle.log_lines.specs.Text.{BlockFits}
 use Rattle.log_writer.specs.Kept.{hull_kept}
 use Rattle.log_writer.specs.Pavings.{Paves, Begins}
 

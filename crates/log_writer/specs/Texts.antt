@@ -5,7 +5,7 @@ use Rattle.sat_model.specs.declared.rules.Rules.{Rules}
 use Rattle.sat_model.specs.Cover.{RowCover}
 use Rattle.sat_model.specs.Logs.{Block, LogValue}
 use Rattle.sat_model.specs.Verdicts.{Judged}
-use Rattle.paving_log.specs.Text.{IsLogText}
+use Rattle.log_lines.specs.Text.{IsLogText}
 use Rattle.epoch_report.specs.Reports.{report_text}
 use Rattle.log_writer.specs.declared.fault.WriteFault.{WriteFault}
 use Rattle.log_writer.specs.Breaks.{BrokeOff}

@@ -13,9 +13,9 @@ use Rattle.sat_model.specs.Verdicts.{BlocksPass}
 use Rattle.paving.specs.Renewing.{Maker}
 use Rattle.paving.specs.Runs.{TurnsBegun}
 use Rattle.paving.specs.Turns.{ShownEvent, events_of, PavedTurns}
-use Rattle.paving_log.specs.declared.line.Form.TheVariants as form
-use Rattle.paving_log.specs.Order.{may_renew}
-use Rattle.paving_log.specs.Text.{BlockFits}
+use Rattle.log_lines.specs.declared.line.Form.TheVariants as form
+use Rattle.log_lines.specs.Order.{may_renew}
+use Rattle.log_lines.specs.Text.{BlockFits}
 use Rattle.subpaving.specs.LiveValues.{box_option}
 use Rattle.epoch_report.specs.Reports.{counts_of}
 use Rattle.log_writer.specs.declared.epochs.Outcome.{Outcome}

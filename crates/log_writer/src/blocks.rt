@@ -4,9 +4,9 @@ ghost use Rattle.std.specs.Prelude.{◌≡◌, [], Option, None, map, option_map
 ghost use Rattle.log_writer.specs.Sources.{Standing, FollowsAny, ServesAny};
 ghost use Rattle.log_writer.specs.RowsFrom.{of_rows};
 ghost use Rattle.paving.specs.Idle.{idle, idle_root};
-ghost use Rattle.paving_log.specs.declared.line.Form.TheVariants as form;
+ghost use Rattle.log_lines.specs.declared.line.Form.TheVariants as form;
 ghost use Rattle.paving_log.specs.RowsText.{AllOwnPass};
-ghost use Rattle.paving_log.specs.Text.{BlockFits};
+ghost use Rattle.log_lines.specs.Text.{BlockFits};
 ghost use Rattle.paving_log.specs.Values.{block_of, log_value};
 ghost use Rattle.subpaving.specs.LiveValues.{box_option};
 ghost use Rattle.grid_model.specs.Boxes.{GridBox};

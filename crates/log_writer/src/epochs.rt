@@ -9,10 +9,10 @@ ghost use Rattle.log_writer.specs.Sources.{Serves, source_of};
 ghost use Rattle.log_writer.specs.Writing.{Written, Trusts};
 ghost use Rattle.log_writer.specs.Wrote.{WroteSteps, WroteRun, WroteBlock, WroteLog, Finished};
 ghost use Rattle.outer_io.specs.Sizes.{longest_file};
-ghost use Rattle.paving_log.specs.declared.line.Form.TheVariants as form;
-ghost use Rattle.paving_log.specs.declared.line.LogLine.TheVariants as line;
-ghost use Rattle.paving_log.specs.Rows.{EntryFits, RowFits};
-ghost use Rattle.paving_log.specs.Text.{BlockFits};
+ghost use Rattle.log_lines.specs.declared.line.Form.TheVariants as form;
+ghost use Rattle.log_lines.specs.declared.line.LogLine.TheVariants as line;
+ghost use Rattle.log_lines.specs.Rows.{EntryFits, RowFits};
+ghost use Rattle.log_lines.specs.Text.{BlockFits};
 ghost use Rattle.paving_log.specs.Values.{block_of};
 ghost use Rattle.grid_model.specs.Boxes.{grid_box};
 ghost use Rattle.sat_model.specs.BoxTests.{test_of};
@@ -25,10 +25,9 @@ use crate::steps::Track;
 use box_contraction::StepFault;
 use epoch_report::{Counts4, epoch_text, total_text};
 use grid_model::{Box3, NoMemory};
+use log_lines::{done_line, epoch_line, head_lines, root_line, sat_line};
 use paving::{Plan, Renewals, pave};
-use paving_log::{
-    LogEpoch, SatEntry, done_line, epoch_line, head_lines, root_line, rows_among, sat_line,
-};
+use paving_log::{LogEpoch, SatEntry, rows_among};
 use sat_model::Rules;
 use std::alloc::Global;
 

@@ -12,8 +12,8 @@ ghost use Rattle.log_writer.specs.Kept.{hull_after};
 ghost use Rattle.log_writer.specs.Pieces.{Piece, alone, row_pieces};
 ghost use Rattle.log_writer.specs.Steps.{step_piece, BrokeAfter};
 ghost use Rattle.log_writer.specs.Writing.{Went, Ended, Written, Trusts, done, failed};
-ghost use Rattle.paving_log.specs.Rows.{RowFits};
-ghost use Rattle.paving_log.specs.Text.{row_line};
+ghost use Rattle.log_lines.specs.Rows.{RowFits};
+ghost use Rattle.log_lines.specs.Text.{row_line};
 ghost use Rattle.sat_model.specs.Events.{rows_over};
 
 use crate::fault::WriteFault;
@@ -22,7 +22,8 @@ use crate::pen::Pen;
 use box_contraction::{StepFault, Steps};
 use epoch_report::step_text;
 use grid_model::Box3;
-use paving_log::{SatEntry, renew_line, sat_line, step_line};
+use log_lines::{renew_line, sat_line, step_line};
+use paving_log::SatEntry;
 use sat_model::{Row, Step};
 
 /// Writes a step with the box or slab that it speaks of.

@@ -11,23 +11,23 @@ use Rattle.sat_model.specs.declared.rows.SatEntry.{SatEntry}
 use Rattle.sat_model.specs.declared.rows.SatEntry.TheVariants as entry
 use Rattle.sat_model.specs.declared.steps.Step.{Step}
 use Rattle.sat_model.specs.Events.{Event, Renewed, rows_over}
-use Rattle.paving_log.specs.declared.line.Corners.{Corners}
-use Rattle.paving_log.specs.declared.line.Form.{Form}
-use Rattle.paving_log.specs.declared.line.Form.TheVariants as form
-use Rattle.paving_log.specs.declared.line.Kind.{Kind}
-use Rattle.paving_log.specs.declared.line.LogLine.{LogLine}
-use Rattle.paving_log.specs.declared.line.LogLine.TheVariants as line
-use Rattle.paving_log.specs.declared.line.Place.{Place}
-use Rattle.paving_log.specs.declared.line.Place.TheVariants as place
+use Rattle.log_lines.specs.declared.line.Corners.{Corners}
+use Rattle.log_lines.specs.declared.line.Form.{Form}
+use Rattle.log_lines.specs.declared.line.Form.TheVariants as form
+use Rattle.log_lines.specs.declared.line.Kind.{Kind}
+use Rattle.log_lines.specs.declared.line.LogLine.{LogLine}
+use Rattle.log_lines.specs.declared.line.LogLine.TheVariants as line
+use Rattle.log_lines.specs.declared.line.Place.{Place}
+use Rattle.log_lines.specs.declared.line.Place.TheVariants as place
 use Rattle.paving_log.specs.declared.lines.Lines.{Lines}
 use Rattle.paving_log.specs.declared.lines.Opening.{Opening}
-use Rattle.paving_log.specs.Order.{only_if, has_version, form_of, next, place_behind_root}
-use Rattle.paving_log.specs.Rows.{corners_of}
-use Rattle.paving_log.specs.Text.{first_line, row_line, event_lines, IsSkipped, EventFits}
+use Rattle.log_lines.specs.Order.{only_if, has_version, form_of, next, place_behind_root}
+use Rattle.log_lines.specs.Rows.{corners_of}
+use Rattle.log_lines.specs.Text.{first_line, row_line, event_lines, IsSkipped, EventFits}
 use Rattle.paving_log.specs.Taking.{Takes, TakesWith, TakesTo, block_place}
 use Rattle.paving_log.proofs.EventLemmas.{fit_on}
 use Rattle.paving_log.proofs.LineLemmas.{takes_on}
-use Rattle.paving_log.proofs.OrderLemmas.{only_true, only_place}
+use Rattle.log_lines.proofs.OrderLemmas.{only_true, only_place}
 
 -- ---- where a line leads
 

@@ -9,22 +9,22 @@ use Rattle.sat_model.specs.StepKinds.{is_kept_step}
 use Rattle.sat_model.specs.Events.{Event, Made, Renewed, steps_in}
 use Rattle.step_lines.specs.Texts.{AnyLine, OfStep, Other, AnyFits, steps_among, told_steps, AreLines}
 use Rattle.step_lines.specs.Texts.{text_of as told_text}
-use Rattle.paving_log.specs.declared.line.Corners.{Corners}
-use Rattle.paving_log.specs.declared.line.Form.TheVariants as form
-use Rattle.paving_log.specs.declared.line.LogLine.{LogLine}
-use Rattle.paving_log.specs.declared.line.LogLine.TheVariants as line
-use Rattle.paving_log.specs.declared.line.Place.TheVariants as place
+use Rattle.log_lines.specs.declared.line.Corners.{Corners}
+use Rattle.log_lines.specs.declared.line.Form.TheVariants as form
+use Rattle.log_lines.specs.declared.line.LogLine.{LogLine}
+use Rattle.log_lines.specs.declared.line.LogLine.TheVariants as line
+use Rattle.log_lines.specs.declared.line.Place.TheVariants as place
 use Rattle.paving_log.specs.declared.lines.Lines.{Lines}
 use Rattle.paving_log.specs.declared.renewal.Renewal.{Renewal}
-use Rattle.paving_log.specs.Lines.{line_text, text_of}
+use Rattle.log_lines.specs.Lines.{line_text, text_of}
 use Rattle.paving_log.specs.Renewing.{Rise, new_rows, events_from}
-use Rattle.paving_log.specs.Rows.{RowFits, corners_of}
+use Rattle.log_lines.specs.Rows.{RowFits, corners_of}
 use Rattle.paving_log.specs.Taking.{Takes, HasBetween}
-use Rattle.paving_log.specs.Text.{row_line, event_lines, EventFits, ClosingFits}
+use Rattle.log_lines.specs.Text.{row_line, event_lines, EventFits, ClosingFits}
 use Rattle.paving_log.proofs.BlockLemmas.{TakesEvents, done_on}
 use Rattle.paving_log.proofs.EventLemmas.{rise_to, rise_on, step_behind, renewal_behind, steps_in_events, steps_le_lines}
 use Rattle.paving_log.proofs.FitLemmas.{step_more, renewal_more}
-use Rattle.paving_log.proofs.SpellingLemmas.{line_end}
+use Rattle.log_lines.proofs.SpellingLemmas.{line_end}
 
 -- ---- the lines of events, as those among which steps are found
 

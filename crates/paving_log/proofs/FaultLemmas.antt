@@ -1,21 +1,21 @@
 -- A text has one first fault at most, and the text of a log has none.
-use Rattle.std.proofs.Common.{◌≡◌, ◌≢◌, ℕ, zero, suc, ◌+◌, ◌<◌, true, List, [], ◌∷◌, ◌++◌, length, Some, None, refl, sym, ap, subst, ◌∙◌, append_assoc, arith, inl, inr}
+use Rattle.std.proofs.Common.{◌≡◌, ◌≢◌, ℕ, zero, suc, ◌+◌, ◌<◌, true, List, [], ◌∷◌, ◌++◌, length, Some, refl, sym, ap, subst, ◌∙◌, append_assoc, arith, inl, inr}
 use Rattle.std.specs.Prelude.{slice_index}
 use Rattle.std.proofs.lemmas.List.{length-append}
-use Rattle.paving_log.specs.declared.line.Fault.{Fault}
-use Rattle.paving_log.specs.declared.line.Fault.TheVariants as fault
-use Rattle.paving_log.specs.declared.line.LineName.{LineName}
-use Rattle.paving_log.specs.declared.line.LogLine.{LogLine}
-use Rattle.paving_log.specs.declared.line.Place.{Place}
+use Rattle.log_lines.specs.declared.line.Fault.{Fault}
+use Rattle.log_lines.specs.declared.line.Fault.TheVariants as fault
+use Rattle.log_lines.specs.declared.line.LogLine.{LogLine}
+use Rattle.log_lines.specs.declared.line.Place.{Place}
 use Rattle.paving_log.specs.declared.log.LogError.{LogError}
 use Rattle.log_tokens.specs.Words.{words}
-use Rattle.paving_log.specs.Lines.{spelled, name_of, fields, LineFits, line_words, line_text, text_of}
-use Rattle.paving_log.specs.Order.{may_come, next, may_end, Leads}
-use Rattle.paving_log.specs.Faults.{FitsAt, head_of, Begins, Misfit, refusal, IsLineEnd, FirstLine, LineFails, FaultFrom}
-use Rattle.paving_log.proofs.OrderLemmas.{next_named}
+use Rattle.log_lines.specs.Lines.{name_of, LineFits, line_text, text_of}
+use Rattle.log_lines.specs.Order.{next, may_end, Leads}
+use Rattle.log_lines.specs.Fitting.{FitsAt, head_of, Begins, Misfit}
+use Rattle.paving_log.specs.Faults.{refusal, IsLineEnd, FirstLine, LineFails, FaultFrom}
+use Rattle.log_lines.proofs.OrderLemmas.{next_named}
 use Rattle.step_lines.specs.Texts.{HasNoEnd}
-use Rattle.paving_log.proofs.SpellingLemmas.{words-line_text, line_end, line_some, same_line}
-use Rattle.paving_log.proofs.ValueLemmas.{same_words}
+use Rattle.log_lines.proofs.SpellingLemmas.{words-line_text, line_end, line_some, same_line}
+use Rattle.log_lines.proofs.ValueLemmas.{same_words}
 
 -- ---- one line
 
@@ -36,21 +36,6 @@ one_misfit at here fault.Word fault.Word first second = refl
 one_misfit at here fault.Word fault.Fields first second = absurd (first second.0 second.1)
 one_misfit at here fault.Fields fault.Word first second = absurd (second first.0 first.1)
 one_misfit at here fault.Fields fault.Fields first second = refl
-
--- where the line that has these words may not come, none may that has them
-pub none_behind : (at : Place) (here word : List ℕ) (rest : List (List ℕ)) (name : LineName) (l : LogLine)
-    → words here ≡ word ∷ rest → word ≡ spelled name → may_come at name ≡ true
-    → LineFits l → name_of l ≡ name → rest ≡ fields l → next at l ≡ None
-    → Misfit at here fault.Fields
-none_behind at here word rest name l front is may fits named told none = (
-  name,
-  record { word = ap head_of front ∙ is; may_come = may },
-  λ other after there.
-      let all : word ∷ rest ≡ line_words l = ap (λ (w : List ℕ). w ∷ rest) (is ∙ ap spelled (sym named)) ∙ ap (λ (ws : List (List ℕ)). spelled (name_of l) ∷ ws) told in
-      let same : line_words other ≡ line_words l = sym there.spelled ∙ front ∙ all in
-      let some : Some after ≡ None = sym there.next ∙ ap (next at) (same_words other l there.fits fits same) ∙ none in
-      cc,
-)
 
 -- ---- the first line of a text
 

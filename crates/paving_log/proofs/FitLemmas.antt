@@ -7,20 +7,20 @@ use Rattle.grid_model.specs.Boxes.{GridBox}
 use Rattle.sat_model.specs.declared.rows.Row.{Row}
 use Rattle.sat_model.specs.declared.steps.Step.{Step}
 use Rattle.sat_model.specs.Events.{Event, Made, Renewed, rows_over}
-use Rattle.paving_log.specs.declared.line.Corners.{Corners}
+use Rattle.log_lines.specs.declared.line.Corners.{Corners}
 use Rattle.sat_model.specs.declared.rows.SatEntry.{SatEntry}
-use Rattle.paving_log.specs.declared.line.Form.{Form}
-use Rattle.paving_log.specs.declared.line.Header.{Header}
-use Rattle.paving_log.specs.declared.line.LogLine.{LogLine}
-use Rattle.paving_log.specs.declared.line.LogLine.TheVariants as line
-use Rattle.paving_log.specs.declared.line.Place.{Place}
-use Rattle.paving_log.specs.declared.line.Place.TheVariants as place
+use Rattle.log_lines.specs.declared.line.Form.{Form}
+use Rattle.log_lines.specs.declared.line.Header.{Header}
+use Rattle.log_lines.specs.declared.line.LogLine.{LogLine}
+use Rattle.log_lines.specs.declared.line.LogLine.TheVariants as line
+use Rattle.log_lines.specs.declared.line.Place.{Place}
+use Rattle.log_lines.specs.declared.line.Place.TheVariants as place
 use Rattle.paving_log.specs.declared.lines.Lines.{Lines}
 use Rattle.paving_log.specs.declared.lines.Opening.{Opening}
-use Rattle.paving_log.specs.Lines.{HeaderFits, LineFits}
-use Rattle.paving_log.specs.Order.{Leads}
-use Rattle.paving_log.specs.Rows.{RowFits, EntryFits, CornersFit, corners_of}
-use Rattle.paving_log.specs.Text.{first_line, row_line, IsSkipped, EventFits}
+use Rattle.log_lines.specs.Lines.{HeaderFits, LineFits}
+use Rattle.log_lines.specs.Order.{Leads}
+use Rattle.log_lines.specs.Rows.{RowFits, EntryFits, CornersFit, corners_of}
+use Rattle.log_lines.specs.Text.{first_line, row_line, IsSkipped, EventFits}
 use Rattle.paving_log.specs.Taking.{Takes, TakesTo}
 use Rattle.paving_log.proofs.BlockLemmas.{TakesEvents, behind_few, behind_sat, behind_row, behind_renew, event_on, renewal_taken}
 

@@ -8,20 +8,20 @@ use Rattle.sat_model.specs.declared.rows.SatEntry.{SatEntry}
 use Rattle.sat_model.specs.declared.rows.SatEntry.TheVariants as entry
 use Rattle.sat_model.specs.Events.{Event, Made, Renewed}
 use Rattle.sat_model.specs.Logs.{Body, Block, LogValue, is_few}
-use Rattle.paving_log.specs.declared.line.Form.{Form}
-use Rattle.paving_log.specs.declared.line.Form.TheVariants as form
-use Rattle.paving_log.specs.declared.line.Header.{Header}
-use Rattle.paving_log.specs.declared.line.Kind.{Kind}
-use Rattle.paving_log.specs.declared.line.LogLine.{LogLine}
-use Rattle.paving_log.specs.declared.line.LogLine.TheVariants as line
-use Rattle.paving_log.specs.declared.line.Place.{Place}
-use Rattle.paving_log.specs.declared.line.Place.TheVariants as place
-use Rattle.paving_log.specs.Lines.{HeaderFits, LineFits}
-use Rattle.paving_log.specs.Order.{has_version, form_of, only_if, next, place_behind_root, may_end, Leads}
-use Rattle.paving_log.specs.Rows.{RowFits, EntryFits, corners_of}
-use Rattle.paving_log.specs.Text.{first_line, header_of, row_line, event_lines, closing_lines, paved_lines, block_lines, log_lines, IsSkipped, EventFits, ClosingFits, BodyFits, BlockFits, LogFits}
+use Rattle.log_lines.specs.declared.line.Form.{Form}
+use Rattle.log_lines.specs.declared.line.Form.TheVariants as form
+use Rattle.log_lines.specs.declared.line.Header.{Header}
+use Rattle.log_lines.specs.declared.line.Kind.{Kind}
+use Rattle.log_lines.specs.declared.line.LogLine.{LogLine}
+use Rattle.log_lines.specs.declared.line.LogLine.TheVariants as line
+use Rattle.log_lines.specs.declared.line.Place.{Place}
+use Rattle.log_lines.specs.declared.line.Place.TheVariants as place
+use Rattle.log_lines.specs.Lines.{HeaderFits, LineFits}
+use Rattle.log_lines.specs.Order.{has_version, form_of, only_if, next, place_behind_root, may_end, Leads}
+use Rattle.log_lines.specs.Rows.{RowFits, EntryFits, corners_of}
+use Rattle.log_lines.specs.Text.{first_line, header_of, row_line, event_lines, closing_lines, paved_lines, block_lines, log_lines, IsSkipped, EventFits, ClosingFits, BodyFits, BlockFits, LogFits}
 use Rattle.paving_log.specs.Taking.{block_place}
-use Rattle.paving_log.proofs.OrderLemmas.{given}
+use Rattle.log_lines.proofs.OrderLemmas.{given}
 
 below : (k : ℕ) (after : Place) → k < 64 → only_if (nat_lt k 64) after ≡ Some after
 below k after lt = given (nat_lt k 64) after (lt-ltb k 64 lt)

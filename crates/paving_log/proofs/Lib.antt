@@ -1,15 +1,10 @@
-pub mod OrderLemmas
 pub mod LineLemmas
 pub mod BlockLemmas
 pub mod FitLemmas
 pub mod NumberingLemmas
-pub mod SpellingLemmas
-pub mod SureLemmas
 pub mod FaultLemmas
 pub mod LeadLemmas
-pub mod ValueLemmas
 pub mod LogLemmas
-pub mod SatelliteLemmas
 pub mod OwnLemmas
 pub mod RowsLemmas
 pub mod KeptParts

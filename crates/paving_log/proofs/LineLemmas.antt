@@ -3,15 +3,16 @@ use Rattle.std.proofs.Common.{◌≡◌, ◌≢◌, ℕ, suc, ◌+◌, ◌<◌, 
 use Rattle.std.proofs.lemmas.List.{append-nil, get_or-take, length-take, length-append}
 use Rattle.std.proofs.lemmas.Bool.{eqb-true, eq-eqb}
 use Rattle.std.specs.Prelude.{nat_eq}
-use Rattle.paving_log.specs.declared.line.LogLine.{LogLine}
-use Rattle.paving_log.specs.declared.line.Place.{Place}
+use Rattle.log_lines.specs.declared.line.LogLine.{LogLine}
+use Rattle.log_lines.specs.declared.line.Place.{Place}
 use Rattle.paving_log.specs.declared.lines.Lines.{Lines}
 use Rattle.paving_log.specs.declared.log.LogError.{LogError}
 use Rattle.paving_log.specs.declared.log.LogError.TheVariants as error
-use Rattle.paving_log.specs.Lines.{line_text, text_of}
-use Rattle.paving_log.specs.Order.{Leads}
+use Rattle.log_lines.specs.Lines.{line_text, text_of}
+use Rattle.log_lines.specs.Order.{Leads}
 use Rattle.log_tokens.specs.Words.{joined}
-use Rattle.paving_log.specs.Faults.{FitsAt, FirstLine, LineFails, FaultFrom}
+use Rattle.log_lines.specs.Fitting.{FitsAt}
+use Rattle.paving_log.specs.Faults.{FirstLine, LineFails, FaultFrom}
 use Rattle.paving_log.specs.Taking.{Refuses, Takes}
 use Rattle.log_tokens.proofs.WordLemmas.{joined-words}
 use Rattle.grid_model.proofs.ListLemmas.{cut_at}

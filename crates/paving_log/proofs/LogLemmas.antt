@@ -10,20 +10,20 @@ use Rattle.sat_model.specs.declared.rules.Rules.{Rules}
 use Rattle.grid_model.specs.Boxes.{GridBox}
 use Rattle.sat_model.specs.Events.{Event, Made, Renewed, RowsOver}
 use Rattle.sat_model.specs.Logs.{Body, Block, LogValue, is_few, lines_of_body, lines_in, IsNumberedFrom}
-use Rattle.paving_log.specs.declared.line.Corners.{Corners}
-use Rattle.paving_log.specs.declared.line.Form.{Form}
-use Rattle.paving_log.specs.declared.line.Form.TheVariants as form
-use Rattle.paving_log.specs.declared.line.Kind.{Kind}
-use Rattle.paving_log.specs.declared.line.Kind.TheVariants as kind
-use Rattle.paving_log.specs.declared.line.Header.{Header}
-use Rattle.paving_log.specs.declared.line.LogLine.{LogLine}
-use Rattle.paving_log.specs.declared.line.LogLine.TheVariants as line
-use Rattle.paving_log.specs.declared.line.Place.TheVariants as place
+use Rattle.log_lines.specs.declared.line.Corners.{Corners}
+use Rattle.log_lines.specs.declared.line.Form.{Form}
+use Rattle.log_lines.specs.declared.line.Form.TheVariants as form
+use Rattle.log_lines.specs.declared.line.Kind.{Kind}
+use Rattle.log_lines.specs.declared.line.Kind.TheVariants as kind
+use Rattle.log_lines.specs.declared.line.Header.{Header}
+use Rattle.log_lines.specs.declared.line.LogLine.{LogLine}
+use Rattle.log_lines.specs.declared.line.LogLine.TheVariants as line
+use Rattle.log_lines.specs.declared.line.Place.TheVariants as place
 use Rattle.paving_log.specs.declared.log.LogError.{LogError}
-use Rattle.paving_log.specs.Rows.{corners_of}
-use Rattle.paving_log.specs.Lines.{limits_of}
-use Rattle.paving_log.specs.Order.{has_pairs, may_renew, form_of}
-use Rattle.paving_log.specs.Text.{first_line, header_of, row_line, event_lines, closing_lines, paved_lines, block_lines, head_lines, log_lines, ClosingFits, BodyFits, BlockFits, IsLogText, IsUnrenewed, AreUnrenewed}
+use Rattle.log_lines.specs.Rows.{corners_of}
+use Rattle.log_lines.specs.Lines.{limits_of}
+use Rattle.log_lines.specs.Order.{has_pairs, may_renew, form_of}
+use Rattle.log_lines.specs.Text.{first_line, header_of, row_line, event_lines, closing_lines, paved_lines, block_lines, head_lines, log_lines, ClosingFits, BodyFits, BlockFits, IsLogText, IsUnrenewed, AreUnrenewed}
 use Rattle.paving_log.specs.RowsText.{IsNumberedIn, IsSpelling}
 use Rattle.paving_log.specs.Faults.{FaultFrom, FirstFault}
 use Rattle.paving_log.specs.declared.log.Log.{Log}
@@ -33,7 +33,7 @@ use Rattle.paving_log.specs.Answers.{GivesLog, GivesFault}
 use Rattle.paving_log.proofs.EventLemmas.{none_renewed, lines_of_events}
 use Rattle.paving_log.proofs.FaultLemmas.{no_fault, one_fault}
 use Rattle.paving_log.proofs.LeadLemmas.{log_leads}
-use Rattle.paving_log.proofs.ValueLemmas.{rules_from, all_fit, same_lines}
+use Rattle.log_lines.proofs.ValueLemmas.{rules_from, all_fit, same_lines}
 
 -- the first of the lines is no satellite line
 abbrev IsNoSat : LogLine → Type 0

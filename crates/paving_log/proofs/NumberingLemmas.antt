@@ -5,15 +5,15 @@ use Rattle.std.specs.List.{flat_map, AllByRecursion}
 use Rattle.std.proofs.lemmas.List.{length-append, append-nil}
 use Rattle.std.proofs.lemmas.List.Concat.{flat_map-append}
 use Rattle.sat_model.specs.Logs.{Block, is_few}
-use Rattle.paving_log.specs.declared.line.Form.{Form}
-use Rattle.paving_log.specs.declared.line.Header.{Header}
-use Rattle.paving_log.specs.declared.line.LogLine.{LogLine}
-use Rattle.paving_log.specs.declared.line.Place.{Place}
-use Rattle.paving_log.specs.declared.line.Place.TheVariants as place
+use Rattle.log_lines.specs.declared.line.Form.{Form}
+use Rattle.log_lines.specs.declared.line.Header.{Header}
+use Rattle.log_lines.specs.declared.line.LogLine.{LogLine}
+use Rattle.log_lines.specs.declared.line.Place.{Place}
+use Rattle.log_lines.specs.declared.line.Place.TheVariants as place
 use Rattle.paving_log.specs.declared.lines.Lines.{Lines}
 use Rattle.paving_log.specs.declared.lines.Opening.{Opening}
-use Rattle.paving_log.specs.Lines.{line_text, text_of}
-use Rattle.paving_log.specs.Text.{first_line, header_of, body_lines, block_lines, BlockFits}
+use Rattle.log_lines.specs.Lines.{line_text, text_of}
+use Rattle.log_lines.specs.Text.{first_line, header_of, body_lines, block_lines, BlockFits}
 use Rattle.paving_log.specs.RowsText.{IsNumberedIn}
 use Rattle.paving_log.specs.Taking.{TakesTo, TakesBlocks, AreNumbered, IsOpened, block_place}
 use Rattle.paving_log.proofs.BlockLemmas.{block_taken, end_of}

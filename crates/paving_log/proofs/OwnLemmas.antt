@@ -14,12 +14,12 @@ use Rattle.std.specs.Prelude.{is_none}
 use Rattle.sat_model.specs.Logs.{Body, Block, LogValue, is_few, rows_of}
 use Rattle.sat_model.specs.Verdicts.{SuitsNumber, CountsRows}
 use Rattle.sat_model.proofs.VerdictLemmas.{head_not_both}
-use Rattle.paving_log.specs.declared.line.Form.TheVariants as form
-use Rattle.paving_log.specs.declared.line.LogLine.TheVariants as lines
+use Rattle.log_lines.specs.declared.line.Form.TheVariants as form
+use Rattle.log_lines.specs.declared.line.LogLine.TheVariants as lines
 use Rattle.paving_log.specs.declared.log.Log.{Log}
 use Rattle.paving_log.specs.declared.log.LogEpoch.{LogEpoch}
 use Rattle.paving_log.specs.RowsText.{IsNumberedIn, OwnPasses, OwnFails, AllOwnPass, FirstOwnFails, HasOwnFault, has_row, IsPavable}
-use Rattle.paving_log.specs.Text.{paved_lines, block_lines, BlockFits}
+use Rattle.log_lines.specs.Text.{paved_lines, block_lines, BlockFits}
 use Rattle.paving_log.specs.Values.{block_of, log_value}
 use Rattle.sat_model.proofs.FaultLemmas.{one_repeat}
 

@@ -1,49 +1,17 @@
 -- The first line of a text that doesn't fit in a log.
 use Rattle.std.specs.Prelude.{ℕ, ◌≡◌, ◌≢◌, ◌+◌, ◌<◌, ◌⊎◌, Bool, true, false, if◌then◌else◌, List}
-use Rattle.std.specs.Prelude.{[], ◌∷◌, ◌++◌, length, Some, slice_index}
-use Rattle.paving_log.specs.declared.line.Fault.{Fault}
-use Rattle.paving_log.specs.declared.line.Fault.TheVariants as fault
-use Rattle.paving_log.specs.declared.line.Kind.TheVariants as kind
-use Rattle.paving_log.specs.declared.line.LineName.{LineName}
-use Rattle.paving_log.specs.declared.line.LogLine.{LogLine}
-use Rattle.paving_log.specs.declared.line.Place.{Place}
-use Rattle.paving_log.specs.declared.line.Place.TheVariants as place
+use Rattle.std.specs.Prelude.{[], ◌∷◌, ◌++◌, length, slice_index}
+use Rattle.log_lines.specs.declared.line.Fault.{Fault}
+use Rattle.log_lines.specs.declared.line.Fault.TheVariants as fault
+use Rattle.log_lines.specs.declared.line.Kind.TheVariants as kind
+use Rattle.log_lines.specs.declared.line.LogLine.{LogLine}
+use Rattle.log_lines.specs.declared.line.Place.{Place}
+use Rattle.log_lines.specs.declared.line.Place.TheVariants as place
 use Rattle.paving_log.specs.declared.log.LogError.{LogError}
 use Rattle.paving_log.specs.declared.log.LogError.TheVariants as error
-use Rattle.log_tokens.specs.Words.{words}
-use Rattle.paving_log.specs.Lines.{LineFits, spelled, line_words, text_of}
-use Rattle.paving_log.specs.Order.{may_come, next, may_end, Leads}
-
--- ---- a line at its place
-
--- the bytes are the line, which may come here, and what may come behind it
-pub record FitsAt (at : Place) (here : List ℕ) (l : LogLine) (after : Place) : Type 0 where
-  pub spelled : words here ≡ line_words l
-  pub fits : LineFits l
-  pub next : next at l ≡ Some after
-
-abbrev pub head_of : List (List ℕ) → List ℕ
-head_of [] = []
-head_of (word ∷ more) = word
-
--- the bytes up to the first blank
-abbrev pub first_word : List ℕ → List ℕ
-first_word here = head_of (words here)
-
--- the first word is the name, and its lines may come here
-pub record Begins (at : Place) (here : List ℕ) (n : LineName) : Type 0 where
-  pub word : first_word here ≡ spelled n
-  pub may_come : may_come at n ≡ true
-
--- Why the bytes are no line that may come here.
-abbrev pub Misfit : Place → List ℕ → Fault → Type 0
--- no line that begins with the first word may come here
-Misfit at here fault.Word = (n : LineName) → Begins at here n → ⊥
--- one may come here, and none that fits and may come here has these words
-Misfit at here fault.Fields = (n : LineName) × Begins at here n
-    × ((l : LogLine) (after : Place) → FitsAt at here l after → ⊥)
-
--- ---- the first line that doesn't fit
+use Rattle.log_lines.specs.Lines.{text_of}
+use Rattle.log_lines.specs.Order.{may_end, Leads}
+use Rattle.log_lines.specs.Fitting.{FitsAt, Misfit}
 
 abbrev pub is_head : Place → Bool
 is_head (place.First k) = true

@@ -1,10 +1,6 @@
 pub mod Renewing
 pub mod EventValues
 pub mod Values
-pub mod Rows
-pub mod Lines
-pub mod Order
-pub mod Text
 pub mod Faults
 pub mod RowsText
 pub mod Taking

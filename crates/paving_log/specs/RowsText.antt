@@ -7,14 +7,14 @@ use Rattle.sat_model.specs.declared.rows.SatEntry.{SatEntry}
 use Rattle.sat_model.specs.declared.rows.SatEntry.TheVariants as entry
 use Rattle.sat_model.specs.Logs.{Body, Block, LogValue, is_few, rows_of}
 use Rattle.sat_model.specs.Verdicts.{HeadPasses, HeadFails, NoneRepeats, IsFirstRepeat}
-use Rattle.paving_log.specs.declared.line.Form.{Form}
-use Rattle.paving_log.specs.declared.line.Kind.{Kind}
-use Rattle.paving_log.specs.declared.line.Kind.TheVariants as kind
-use Rattle.paving_log.specs.declared.line.Place.TheVariants as place
+use Rattle.log_lines.specs.declared.line.Form.{Form}
+use Rattle.log_lines.specs.declared.line.Kind.{Kind}
+use Rattle.log_lines.specs.declared.line.Kind.TheVariants as kind
+use Rattle.log_lines.specs.declared.line.Place.TheVariants as place
 use Rattle.paving_log.specs.declared.log.LogError.{LogError}
 use Rattle.paving_log.specs.declared.log.LogError.TheVariants as error
-use Rattle.paving_log.specs.Order.{form_of}
-use Rattle.paving_log.specs.Text.{block_lines, log_text, LogFits}
+use Rattle.log_lines.specs.Order.{form_of}
+use Rattle.log_lines.specs.Text.{block_lines, log_text, LogFits}
 use Rattle.paving_log.specs.Faults.{FaultFrom}
 
 -- ---- the spelling

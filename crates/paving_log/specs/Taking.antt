@@ -3,22 +3,22 @@ use Rattle.std.specs.Prelude.{ℕ, ◌≡◌, ◌+◌, Bool, true, false, List, 
 use Rattle.std.specs.Prelude.{None, Some}
 use Rattle.sat_model.specs.Logs.{Block, is_few}
 use Rattle.step_lines.specs.Texts.{AreCounted}
-use Rattle.paving_log.specs.declared.line.ClosingLine.{ClosingLine}
-use Rattle.paving_log.specs.declared.line.ClosingLine.TheVariants as closing
-use Rattle.paving_log.specs.declared.line.Form.{Form}
-use Rattle.paving_log.specs.declared.line.Form.TheVariants as form
-use Rattle.paving_log.specs.declared.line.Header.{Header}
-use Rattle.paving_log.specs.declared.line.LogLine.{LogLine}
-use Rattle.paving_log.specs.declared.line.LogLine.TheVariants as line
-use Rattle.paving_log.specs.declared.line.Place.{Place}
-use Rattle.paving_log.specs.declared.line.Place.TheVariants as place
+use Rattle.log_lines.specs.declared.line.ClosingLine.{ClosingLine}
+use Rattle.log_lines.specs.declared.line.ClosingLine.TheVariants as closing
+use Rattle.log_lines.specs.declared.line.Form.{Form}
+use Rattle.log_lines.specs.declared.line.Form.TheVariants as form
+use Rattle.log_lines.specs.declared.line.Header.{Header}
+use Rattle.log_lines.specs.declared.line.LogLine.{LogLine}
+use Rattle.log_lines.specs.declared.line.LogLine.TheVariants as line
+use Rattle.log_lines.specs.declared.line.Place.{Place}
+use Rattle.log_lines.specs.declared.line.Place.TheVariants as place
 use Rattle.paving_log.specs.declared.lines.Lines.{Lines}
 use Rattle.paving_log.specs.declared.lines.Opening.{Opening}
 use Rattle.paving_log.specs.declared.log.LogError.{LogError}
 use Rattle.paving_log.specs.declared.log.LogError.TheVariants as error
-use Rattle.paving_log.specs.Lines.{text_of}
-use Rattle.paving_log.specs.Order.{may_end, Leads}
-use Rattle.paving_log.specs.Text.{first_line, header_of, block_lines, BlockFits}
+use Rattle.log_lines.specs.Lines.{text_of}
+use Rattle.log_lines.specs.Order.{may_end, Leads}
+use Rattle.log_lines.specs.Text.{first_line, header_of, block_lines, BlockFits}
 use Rattle.std.specs.List.{flat_map, AllByRecursion}
 use Rattle.paving_log.specs.Faults.{FaultFrom}
 

@@ -4,24 +4,24 @@ ghost use Rattle.std.specs.Prelude.{◌≡◌, ℕ, List, ◌++◌, [], ◌∷�
 ghost use Rattle.std.specs.List.{flat_map};
 ghost use Rattle.grid_model.specs.Boxes.{grid_box};
 ghost use Rattle.sat_model.specs.StepKinds.{is_kept_step};
-ghost use Rattle.paving_log.specs.declared.line.Form.TheVariants as forms;
-ghost use Rattle.paving_log.specs.declared.line.LogLine.TheVariants as line;
-ghost use Rattle.paving_log.specs.declared.line.Place.TheVariants as place;
+ghost use Rattle.log_lines.specs.declared.line.Form.TheVariants as forms;
+ghost use Rattle.log_lines.specs.declared.line.LogLine.TheVariants as line;
+ghost use Rattle.log_lines.specs.declared.line.Place.TheVariants as place;
 ghost use Rattle.paving_log.specs.EventValues.{events_of};
-ghost use Rattle.paving_log.specs.Order.{place_behind_root};
-ghost use Rattle.paving_log.specs.Rows.{CornersFit, corners_of};
+ghost use Rattle.log_lines.specs.Order.{place_behind_root};
+ghost use Rattle.log_lines.specs.Rows.{CornersFit, corners_of};
 ghost use Rattle.paving_log.specs.Taking.{Takes, Refuses, IsEndOf, HasBetween};
 ghost use Rattle.step_lines.specs.Steps.{steps_of};
 ghost use Rattle.step_lines.specs.Texts.{AreLines, told_steps};
-ghost use Rattle.paving_log.specs.Text.{row_line, event_lines, closing_lines, ClosingFits};
+ghost use Rattle.log_lines.specs.Text.{row_line, event_lines, closing_lines, ClosingFits};
 
 use crate::events::Events;
-use crate::line::{ClosingLine, Corners, Form, LogLine, Place};
 use crate::lines::Lines;
 use crate::log::LogError;
 use crate::renewal::Renewal;
 use crate::take::{take_line, take_step};
 use grid_model::Box3;
+use log_lines::{ClosingLine, Corners, Form, LogLine, Place};
 use sat_model::{Row, SatEntry, Step};
 use std::alloc::{AllocError, Global};
 use std::rc::Rc;
@@ -94,7 +94,7 @@ fn steps_between(
 }
 
 /// How many boxes a step closes inside or at the edge: one or none.
-fn kept_by(step: &Step) -> u32
+fn kept_count(step: &Step) -> u32
     ensures { result ≡ cond (is_kept_step step.now) 1 0 }
 {
     if is_kept(step) { 1 } else { 0 }
@@ -124,7 +124,7 @@ fn events<'a>(
         match line {
             ClosingLine::Step(step) => {
                 count += 1;
-                kept += kept_by(&step);
+                kept += kept_count(&step);
                 left = behind;
             }
             ClosingLine::Renew(corners) => {

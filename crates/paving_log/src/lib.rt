@@ -5,20 +5,13 @@ mod closing_lines;
 mod cover;
 mod entries;
 mod events;
-mod header;
-mod limits;
-mod line;
 mod lines;
 mod log;
-mod order;
 mod own_tests;
 mod read;
-mod reading;
 mod renewal;
-mod rows;
 mod take;
 mod texts;
-mod write;
 
 pub use cover::cover_boxes;
 pub use entries::rows_among;
@@ -28,6 +21,4 @@ pub use own_tests::{
 };
 pub use renewal::Renewal;
 pub use sat_model::SatEntry;
-pub use step_lines::{Line, step_line};
 pub use texts::{read_log, read_rows};
-pub use write::{done_line, epoch_line, head_lines, renew_line, root_line, sat_line};

@@ -2,8 +2,7 @@
 
 ghost use Rattle.std.specs.Prelude.{ℕ, ◌+◌, ◌≤◌, length};
 
-use crate::line::Header;
-
+use log_lines::Header;
 /// What is left of a text, and the number of its first line.
 #[derive(Clone, Copy)]
 pub struct Lines<'a> {

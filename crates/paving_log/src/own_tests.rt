@@ -7,7 +7,7 @@ ghost use Rattle.sat_model.specs.Verdicts.{IsLater, SuitsNumber, HeadPasses, Hea
 ghost use Rattle.sat_model.specs.Verdicts.{NoneRepeats, IsFirstRepeat};
 ghost use Rattle.paving_log.specs.RowsText.{IsNumberedIn, OwnPasses, OwnFails, AllOwnPass};
 ghost use Rattle.paving_log.specs.RowsText.{HasOwnFault, has_row};
-ghost use Rattle.paving_log.specs.declared.line.Form.TheVariants as form;
+ghost use Rattle.log_lines.specs.declared.line.Form.TheVariants as form;
 ghost use Rattle.paving_log.specs.Values.{block_of, log_value};
 
 use crate::log::{Log, LogEpoch};

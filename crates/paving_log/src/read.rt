@@ -1,23 +1,21 @@
 //! The parts of a text, from left to right.
 
 ghost use Rattle.std.specs.Prelude.{◌≡◌, true, false, ◌≤◌, ◌++◌, [], ◌∷◌, map, length, IfOk, IfErr};
-ghost use Rattle.paving_log.specs.declared.line.LogLine.TheVariants as line;
-ghost use Rattle.paving_log.specs.declared.line.Place.TheVariants as place;
-ghost use Rattle.paving_log.specs.Lines.{HeaderFits};
-ghost use Rattle.paving_log.specs.Order.{has_pairs, form_of, place_behind_root};
+ghost use Rattle.log_lines.specs.declared.line.LogLine.TheVariants as line;
+ghost use Rattle.log_lines.specs.declared.line.Place.TheVariants as place;
+ghost use Rattle.log_lines.specs.Lines.{HeaderFits};
+ghost use Rattle.log_lines.specs.Order.{has_pairs, form_of, place_behind_root};
 ghost use Rattle.paving_log.specs.Taking.{Takes, TakesTo, Refuses, block_place, IsOpened};
 ghost use Rattle.paving_log.specs.Taking.{TakesBlocks, IsEndOf};
-ghost use Rattle.paving_log.specs.Text.{head_lines, body_lines};
-ghost use Rattle.paving_log.specs.Text.{BlockFits};
+ghost use Rattle.log_lines.specs.Text.{head_lines, body_lines};
+ghost use Rattle.log_lines.specs.Text.{BlockFits};
 ghost use Rattle.paving_log.specs.Values.{block_of};
 
 use crate::closing_lines::{box_of, closing};
-use crate::header::rules;
-use crate::line::{Corners, Form, Kind, LogLine, Place};
 use crate::lines::{Lines, Opening};
 use crate::log::{Body, LogEpoch, LogError};
-use crate::order::form_of;
 use crate::take::take_line;
+use log_lines::{Corners, Form, Kind, LogLine, Place, form_of, rules};
 use sat_model::{Rules, SatEntry};
 use std::alloc::Global;
 use std::rc::Rc;

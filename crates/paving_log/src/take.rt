@@ -1,15 +1,14 @@
 //! One line after another.
 
 ghost use Rattle.std.specs.Prelude.{◌≡◌, ◌<◌, true, length, IfOk, IfErr, [], ◌∷◌};
-ghost use Rattle.paving_log.specs.declared.line.Place.TheVariants as place;
-ghost use Rattle.paving_log.specs.Order.{may_end};
+ghost use Rattle.log_lines.specs.declared.line.Place.TheVariants as place;
+ghost use Rattle.log_lines.specs.Order.{may_end};
 ghost use Rattle.paving_log.specs.Faults.{LineFails, refusal, is_head};
 ghost use Rattle.paving_log.specs.Taking.{Takes, closing_line, behind_closing};
 
-use crate::line::{ClosingLine, Fault, LogLine, Place};
 use crate::lines::Lines;
 use crate::log::LogError;
-use crate::reading::line_at;
+use log_lines::{ClosingLine, Fault, LogLine, Place, line_at};
 use memchr::memchr;
 use step_lines::leading_step;
 

@@ -2,21 +2,20 @@
 
 ghost use Rattle.std.specs.Prelude.{ℕ, ◌≡◌, ◌≢◌, ◌⊎◌, ◌≤◌, length, IfOk, IfErr};
 ghost use Rattle.sat_model.specs.Logs.{LogValue};
-ghost use Rattle.paving_log.specs.declared.line.Place.TheVariants as place;
+ghost use Rattle.log_lines.specs.declared.line.Place.TheVariants as place;
 ghost use Rattle.paving_log.specs.declared.log.LogError.{LogError};
 ghost use Rattle.paving_log.specs.declared.log.LogError.TheVariants as error;
 ghost use Rattle.paving_log.specs.Answers.{GivesLog, GivesFault};
 ghost use Rattle.paving_log.specs.Faults.{FaultFrom, FirstFault};
 ghost use Rattle.paving_log.specs.RowsText.{IsSpelling, IsRowsText, FirstRowsFault, ArePavable};
-ghost use Rattle.paving_log.specs.Text.{IsLogText, AreUnrenewed};
+ghost use Rattle.log_lines.specs.Text.{IsLogText, AreUnrenewed};
 ghost use Rattle.paving_log.specs.Values.{log_value};
 
-use crate::line::Kind;
 use crate::lines::Lines;
 use crate::log::{Log, LogError};
-use crate::order::form_of;
 use crate::own_tests::first_own_fault;
 use crate::read::{blocks, head};
+use log_lines::{Kind, form_of};
 use std::alloc::Global;
 use std::rc::Rc;
 

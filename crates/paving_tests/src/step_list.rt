@@ -4,8 +4,8 @@ ghost use Rattle.std.specs.Prelude.{◌≡◌, ◌∷◌, [], ◌++◌};
 
 use box_contraction::{StepFault, Steps};
 use grid_model::Box3;
+use log_lines::step_line;
 use paving::Renewals;
-use paving_log::step_line;
 use sat_model::{Row, Step};
 use std::alloc::Global;
 

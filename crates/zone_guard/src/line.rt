@@ -10,7 +10,7 @@ use crate::planes::Extent;
 use crate::zone::{Zone, ZoneAnswer};
 use arrayvec::ArrayString;
 use itoa::Buffer;
-pub use paving_log::Line;
+pub use log_lines::Line;
 
 /// The word for an answer.
 fn word_of(found: &ZoneAnswer) -> &'static str

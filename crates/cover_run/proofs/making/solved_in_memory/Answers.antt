@@ -1,6 +1,6 @@
 use Rattle.std.proofs.Common.{◌∙◌, [], ap, arith, inr, length, refl, subst, sym}
 use Rattle.outer_io.specs.Store.{listed}
-use Rattle.paving_log.specs.Text.{IsLogText}
+use Rattle.log_lines.specs.Text.{IsLogText}
 use Rattle.cover_run.proofs.MakingLemmas.{file_is, file_there, holds_log, is_full, solved_as}
 use Rattle.cover_run.proofs.making.solved_in_memory.Goals as goal
 

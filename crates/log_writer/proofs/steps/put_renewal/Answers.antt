@@ -1,10 +1,10 @@
 use Rattle.std.proofs.Common.{◌≡◌, ◌+◌, [], ◌∷◌, ◌∙◌, map, arith}
 use Rattle.std.proofs.lemmas.Result.{err_from_is_err_and, on_ok_weaker, IfErr-weaker}
 use Rattle.grid_model.specs.Boxes.{grid_box}
-use Rattle.paving_log.specs.declared.line.LogLine.TheVariants as line
-use Rattle.paving_log.specs.Lines.{text_of}
-use Rattle.paving_log.specs.Rows.{corners_of}
-use Rattle.paving_log.specs.Text.{row_line}
+use Rattle.log_lines.specs.declared.line.LogLine.TheVariants as line
+use Rattle.log_lines.specs.Lines.{text_of}
+use Rattle.log_lines.specs.Rows.{corners_of}
+use Rattle.log_lines.specs.Text.{row_line}
 use Rattle.log_writer.specs.Pieces.{piece, alone}
 use Rattle.log_writer.proofs.LinesPut.{first_broke, later_broke}
 use Rattle.log_writer.proofs.WritingLemmas.{went_twice, written_behind}

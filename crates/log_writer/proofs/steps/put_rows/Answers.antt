@@ -1,8 +1,8 @@
 use Rattle.std.proofs.Common.{◌≡◌, [], ◌∷◌, ◌∙◌, map, subst, List}
 use Rattle.std.proofs.lemmas.Result.{err_from_is_err_and}
-use Rattle.paving_log.specs.declared.line.LogLine.{LogLine}
-use Rattle.paving_log.specs.Lines.{text_of}
-use Rattle.paving_log.specs.Text.{row_line}
+use Rattle.log_lines.specs.declared.line.LogLine.{LogLine}
+use Rattle.log_lines.specs.Lines.{text_of}
+use Rattle.log_lines.specs.Text.{row_line}
 use Rattle.log_writer.specs.Pieces.{piece, alone}
 use Rattle.log_writer.specs.Writing.{Went}
 use Rattle.log_writer.proofs.FaultLemmas.{trusts_none, trusts_more}

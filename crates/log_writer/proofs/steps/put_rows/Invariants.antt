@@ -2,8 +2,8 @@ use Rattle.std.proofs.Common.{List, map, take}
 use Rattle.std.specs.List.{AllByRecursion}
 use Rattle.log_writer.specs.Pieces.{Piece, alone}
 use Rattle.log_writer.specs.Writing.{Went, Trusts, done}
-use Rattle.paving_log.specs.Rows.{RowFits}
-use Rattle.paving_log.specs.Text.{row_line}
+use Rattle.log_lines.specs.Rows.{RowFits}
+use Rattle.log_lines.specs.Text.{row_line}
 use Rattle.log_writer.proofs.steps.put_rows.Given as goal
 
 abbrev pub invariant-loop-row : goal.invariant-loop-row

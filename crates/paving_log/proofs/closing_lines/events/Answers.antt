@@ -1,11 +1,11 @@
-use Rattle.std.proofs.Common.{◌≡◌, ◌≤◌, Bool, true, false, cond, [], ◌∷◌, ◌++◌, refl, arith}
+use Rattle.std.proofs.Common.{◌≤◌, Bool, true, false, cond, [], ◌∷◌, ◌++◌, refl, arith}
 use Rattle.std.proofs.lemmas.Result.{err_from_is_err_and}
 use Rattle.std.specs.List.{flat_map}
 use Rattle.sat_model.specs.StepKinds.{is_kept_step}
-use Rattle.paving_log.specs.declared.line.LogLine.TheVariants as line
-use Rattle.paving_log.specs.declared.line.Place.TheVariants as place
+use Rattle.log_lines.specs.declared.line.LogLine.TheVariants as line
+use Rattle.log_lines.specs.declared.line.Place.TheVariants as place
 use Rattle.paving_log.specs.Renewing.{events_from}
-use Rattle.paving_log.specs.Text.{event_lines}
+use Rattle.log_lines.specs.Text.{event_lines}
 use Rattle.step_lines.specs.Steps.{steps_of}
 use Rattle.paving_log.proofs.LineLemmas.{takes_on, refuses_behind}
 use Rattle.paving_log.proofs.CountedLemmas.{few_counted, few_kept, step_counted, renewal_counted, between, found_between, places_between, done_between, fit_between}
@@ -25,20 +25,20 @@ returns-in_err-rows-in-Renew-clause-refused c =
 pub overflow_add-count : goal.overflow_add-count
 overflow_add-count c = omega (arith, few_counted c.args.renews c.args.n c.args.lines c.events.count c.events.kept c.events.renewals.items c.events.left c.events.invariant)
 
-kept_by-most : (b : Bool) → cond b 1 0 ≤ 1
-kept_by-most true = omega arith
-kept_by-most false = omega arith
+kept_count-most : (b : Bool) → cond b 1 0 ≤ 1
+kept_count-most true = omega arith
+kept_count-most false = omega arith
 
 pub overflow_add-kept : goal.overflow_add-kept
 overflow_add-kept c =
     let old = c.events in
     let all = few_counted c.args.renews c.args.n c.args.lines old.count old.kept old.renewals.items old.left old.invariant in
     let some = few_kept c.args.renews c.args.n c.args.lines old.count old.kept old.renewals.items old.left old.invariant in
-    omega (arith, all, some, c.kept_by-kept.ensures, kept_by-most (is_kept_step c.in-Step.step))
+    omega (arith, all, some, c.kept_count-kept.ensures, kept_count-most (is_kept_step c.in-Step.step))
 
 pub events-preserved-in-Step : goal.events-preserved-in-Step
 events-preserved-in-Step c =
-    rw c.kept_by-kept.ensures (step_counted c.args.renews c.args.n c.args.lines c.events.left c.in_ok-line.behind c.events.count c.events.kept c.events.renewals.items c.in-Step.step c.events.invariant
+    rw c.kept_count-kept.ensures (step_counted c.args.renews c.args.n c.args.lines c.events.left c.in_ok-line.behind c.events.count c.events.kept c.events.renewals.items c.in-Step.step c.events.invariant
     (rw c.in-Step.is at c.in_ok-line.ensures.taken))
 
 pub events-preserved : goal.events-preserved

@@ -1,6 +1,6 @@
 use Rattle.std.proofs.Common.{◌≡◌, suc, ◌-◌, length, length-append, [], ◌∷◌, ap, ◌∙◌, arith}
 use Rattle.sat_model.specs.declared.rows.SatEntry.TheVariants as entry
-use Rattle.paving_log.specs.declared.line.LogLine.TheVariants as line
+use Rattle.log_lines.specs.declared.line.LogLine.TheVariants as line
 use Rattle.paving_log.proofs.BlockLemmas.{row_taken}
 use Rattle.paving_log.proofs.closing_lines.renewed_rows.Goals as goal
 

@@ -1,7 +1,7 @@
 use Rattle.std.proofs.Common.{◌≡◌, ◌+◌, length, map}
-use Rattle.paving_log.specs.declared.line.Place.TheVariants as place
+use Rattle.log_lines.specs.declared.line.Place.TheVariants as place
 use Rattle.paving_log.specs.Taking.{Takes}
-use Rattle.paving_log.specs.Text.{row_line}
+use Rattle.log_lines.specs.Text.{row_line}
 use Rattle.paving_log.proofs.closing_lines.renewed_rows.Given as goal
 
 -- the rows so far were taken from the front, and with those that are left they are so many

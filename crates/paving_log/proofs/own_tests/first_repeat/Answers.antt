@@ -1,6 +1,6 @@
 use Rattle.std.proofs.Common.{below_more, sym, ◌∙◌}
 use Rattle.std.proofs.lemmas.Bool.{false≢true}
-use Rattle.paving_log.proofs.SatelliteLemmas.{repeat_from, repeat_named}
+use Rattle.log_lines.proofs.SatelliteLemmas.{repeat_from, repeat_named}
 use Rattle.paving_log.proofs.own_tests.first_repeat.Goals as goal
 
 pub returns-then-names : goal.returns-then-names

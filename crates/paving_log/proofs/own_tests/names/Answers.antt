@@ -1,7 +1,7 @@
 use Rattle.std.proofs.Common.{sym, ap, ◌∙◌, below_more}
 use Rattle.std.proofs.lemmas.List.{get_or-map}
 use Rattle.sat_model.specs.Logs.{sat_of}
-use Rattle.paving_log.proofs.SatelliteLemmas.{other_satellite}
+use Rattle.log_lines.proofs.SatelliteLemmas.{other_satellite}
 use Rattle.paving_log.proofs.own_tests.names.Goals as goal
 
 pub loop-entry-preserved : goal.loop-entry-preserved

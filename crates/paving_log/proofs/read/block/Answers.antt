@@ -1,7 +1,7 @@
 use Rattle.std.proofs.Common.{◌≡◌, Bool, ap}
 use Rattle.std.proofs.lemmas.Result.{err_from_is_err_and}
-use Rattle.paving_log.specs.declared.line.Place.TheVariants as place
-use Rattle.paving_log.specs.Text.{body_lines}
+use Rattle.log_lines.specs.declared.line.Place.TheVariants as place
+use Rattle.log_lines.specs.Text.{body_lines}
 use Rattle.paving_log.specs.Values.{block_of}
 use Rattle.paving_log.specs.Taking.{block_place}
 use Rattle.paving_log.proofs.LineLemmas.{refuses_behind}

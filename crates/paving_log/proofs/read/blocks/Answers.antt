@@ -4,12 +4,12 @@ use Rattle.std.specs.Prelude.{Option}
 use Rattle.std.proofs.lemmas.List.{map-append}
 use Rattle.std.proofs.lemmas.Result.{err_from_is_err_and}
 use Rattle.sat_model.specs.Logs.{Block}
-use Rattle.paving_log.specs.declared.line.Form.{Form}
-use Rattle.paving_log.specs.declared.line.LogLine.{LogLine}
-use Rattle.paving_log.specs.declared.line.Place.TheVariants as place
+use Rattle.log_lines.specs.declared.line.Form.{Form}
+use Rattle.log_lines.specs.declared.line.LogLine.{LogLine}
+use Rattle.log_lines.specs.declared.line.Place.TheVariants as place
 use Rattle.paving_log.specs.declared.lines.Lines.{Lines}
 use Rattle.paving_log.specs.declared.lines.Opening.{Opening}
-use Rattle.paving_log.specs.Text.{first_line, block_lines, body_lines}
+use Rattle.log_lines.specs.Text.{first_line, block_lines, body_lines}
 use Rattle.paving_log.specs.Taking.{block_place, TakesTo}
 use Rattle.paving_log.specs.Values.{block_of}
 use Rattle.paving_log.proofs.LineLemmas.{refuses_behind}

@@ -1,11 +1,11 @@
 use Rattle.std.proofs.Common.{◌≡◌, ℕ, [], ◌∷◌, length, refl, arith, true, false}
-use Rattle.paving_log.specs.declared.line.Form.{Form}
-use Rattle.paving_log.specs.declared.line.Place.{Place}
-use Rattle.paving_log.specs.declared.line.Place.TheVariants as place
-use Rattle.paving_log.specs.declared.line.LogLine.{LogLine}
-use Rattle.paving_log.specs.declared.line.LogLine.TheVariants as line
+use Rattle.log_lines.specs.declared.line.Form.{Form}
+use Rattle.log_lines.specs.declared.line.Place.{Place}
+use Rattle.log_lines.specs.declared.line.Place.TheVariants as place
+use Rattle.log_lines.specs.declared.line.LogLine.{LogLine}
+use Rattle.log_lines.specs.declared.line.LogLine.TheVariants as line
 use Rattle.paving_log.specs.declared.lines.Lines.{Lines}
-use Rattle.paving_log.specs.declared.line.Header.{Header}
+use Rattle.log_lines.specs.declared.line.Header.{Header}
 use Rattle.paving_log.specs.Taking.{Takes}
 use Rattle.paving_log.proofs.BlockLemmas.{skip_taken, opening_taken, leads_to, takes_one}
 use Rattle.paving_log.proofs.read.few_satellites.Goals as goal

@@ -1,6 +1,6 @@
 use Rattle.std.proofs.Common.{length, map, ◌≤◌}
-use Rattle.paving_log.specs.declared.line.LogLine.TheVariants as line
-use Rattle.paving_log.specs.declared.line.Place.TheVariants as place
+use Rattle.log_lines.specs.declared.line.LogLine.TheVariants as line
+use Rattle.log_lines.specs.declared.line.Place.TheVariants as place
 use Rattle.paving_log.specs.Taking.{Takes}
 use Rattle.paving_log.proofs.read.few_satellites.Given as goal
 

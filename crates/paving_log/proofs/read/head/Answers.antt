@@ -1,8 +1,8 @@
 use Rattle.std.proofs.Common.{[], ◌∷◌}
 use Rattle.std.proofs.lemmas.Result.{err_from_is_err_and}
-use Rattle.paving_log.specs.Order.{form_of}
-use Rattle.paving_log.specs.declared.line.Place.TheVariants as place
-use Rattle.paving_log.specs.declared.line.LogLine.TheVariants as line
+use Rattle.log_lines.specs.Order.{form_of}
+use Rattle.log_lines.specs.declared.line.Place.TheVariants as place
+use Rattle.log_lines.specs.declared.line.LogLine.TheVariants as line
 use Rattle.paving_log.proofs.LineLemmas.{refuses_here, refuses_behind}
 use Rattle.paving_log.proofs.read.head.Goals as goal
 

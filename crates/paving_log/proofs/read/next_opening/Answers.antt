@@ -1,5 +1,5 @@
 use Rattle.std.proofs.lemmas.Result.{err_from_is_err_and}
-use Rattle.paving_log.specs.declared.line.Place.TheVariants as place
+use Rattle.log_lines.specs.declared.line.Place.TheVariants as place
 use Rattle.paving_log.proofs.LineLemmas.{refuses_here}
 use Rattle.paving_log.proofs.read.next_opening.Goals as goal
 

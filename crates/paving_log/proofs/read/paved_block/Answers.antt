@@ -2,13 +2,13 @@ use Rattle.std.proofs.Common.{◌≡◌, [], ◌∷◌, ◌++◌, map, sym, subs
 use mir.Syntax.{w128}
 use Rattle.std.proofs.lemmas.Int.{ints}
 use Rattle.std.proofs.lemmas.Result.{err_from_is_err_and}
-use Rattle.paving_log.specs.declared.line.LogLine.TheVariants as line
-use Rattle.paving_log.specs.declared.line.Place.TheVariants as place
+use Rattle.log_lines.specs.declared.line.LogLine.TheVariants as line
+use Rattle.log_lines.specs.declared.line.Place.TheVariants as place
 use Rattle.log_tokens.specs.Fields.{IsTime}
 use Rattle.paving_log.specs.EventValues.{events_of}
-use Rattle.paving_log.specs.Order.{place_behind_root}
-use Rattle.paving_log.specs.Rows.{CornersFit}
-use Rattle.paving_log.specs.Text.{closing_lines}
+use Rattle.log_lines.specs.Order.{place_behind_root}
+use Rattle.log_lines.specs.Rows.{CornersFit}
+use Rattle.log_lines.specs.Text.{closing_lines}
 use Rattle.paving_log.proofs.LineLemmas.{refuses_behind}
 use Rattle.paving_log.proofs.BlockLemmas.{paved_taken}
 use Rattle.paving_log.proofs.FitLemmas.{sat_parts}

@@ -1,15 +1,15 @@
 use Rattle.std.proofs.Common.{◌≡◌, ◌∙◌, ℕ, ◌+◌, ◌≤◌, List, [], ◌++◌, map, length, ap, subst, sym, arith}
 use Rattle.std.specs.List.{flat_map}
 use Rattle.std.proofs.lemmas.Result.{err_from_is_err_and}
-use Rattle.paving_log.specs.declared.line.Place.TheVariants as place
-use Rattle.paving_log.specs.Lines.{text_of}
-use Rattle.paving_log.specs.Order.{has_version, form_of}
+use Rattle.log_lines.specs.declared.line.Place.TheVariants as place
+use Rattle.log_lines.specs.Lines.{text_of}
+use Rattle.log_lines.specs.Order.{has_version, form_of}
 use Rattle.paving_log.specs.RowsText.{IsNumberedIn}
-use Rattle.paving_log.specs.Text.{head_lines, block_lines}
+use Rattle.log_lines.specs.Text.{head_lines, block_lines}
 use Rattle.paving_log.specs.Values.{block_of}
 use Rattle.paving_log.proofs.EndLemmas.{end_on}
 use Rattle.paving_log.proofs.LineLemmas.{refusal_behind, text_of-append}
-use Rattle.paving_log.proofs.OrderLemmas.{only_true}
+use Rattle.log_lines.proofs.OrderLemmas.{only_true}
 use Rattle.paving_log.proofs.NumberingLemmas.{length-text_of, numbered_up_to}
 use Rattle.paving_log.proofs.texts.read_bytes.Goals as goal
 

@@ -1,6 +1,6 @@
 use Rattle.std.proofs.Common.{sym}
 use Rattle.paving_log.specs.Faults.{FirstFault}
-use Rattle.paving_log.specs.Text.{IsLogText}
+use Rattle.log_lines.specs.Text.{IsLogText}
 use Rattle.paving_log.specs.Values.{log_value}
 use Rattle.input_files.proofs.GrammarLemmas.{no_first, read_settles}
 use Rattle.input_files.specs.declared.role.Role.TheVariants as role

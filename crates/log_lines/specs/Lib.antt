@@ -1,0 +1,5 @@
+pub mod Rows
+pub mod Lines
+pub mod Order
+pub mod Text
+pub mod Fitting
