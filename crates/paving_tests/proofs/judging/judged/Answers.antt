@@ -8,7 +8,7 @@ use Rattle.paving_tests.proofs.judging.judged.Goals as goal
 -- its events are steps alone
 pub judge-requires : goal.judge-requires
 judge-requires c =
-    let told = rw c.in-Some.is at c.in_ok-steps.ensures in
+    let told = rw c.in-Some.is at c.in_ok-steps.ensures.told in
     let steps = steps_of c.in-Some.steps in
     let lines : lines_of_all (events_from 0 steps c.new.result.items) ≡ length steps =
     rw c.new.ensures.items (lines_of_made steps) in
