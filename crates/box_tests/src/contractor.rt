@@ -132,6 +132,112 @@ const OPPOSITE: Pos = Pos {
     z: 0,
 };
 
+/// Rows that all fit the box of 2 m at the origin.
+fn right_rows() -> [Row; 4]
+    ensures { length result ≡ 4 }
+{
+    [
+        row(1, ON_X, HALF_METRE),
+        row(2, ON_Y, HALF_METRE),
+        row(3, ON_Z, HALF_METRE),
+        row(4, BETWEEN, HALF_METRE),
+    ]
+}
+
+/// The same, but the first satellite is 10 km farther away than its range says.
+fn one_wrong_row() -> [Row; 4]
+    ensures { length result ≡ 4 }
+{
+    [
+        row(1, BEYOND, HALF_METRE),
+        row(2, ON_Y, HALF_METRE),
+        row(3, ON_Z, HALF_METRE),
+        row(4, BETWEEN, HALF_METRE),
+    ]
+}
+
+/// Two satellites on both sides of the x axis, with small errors, and two with large ones.
+fn two_on_x() -> [Row; 4]
+    ensures { length result ≡ 4 }
+{
+    [
+        row(1, ON_X, FIVE_METRES),
+        row(2, ON_Y, FIFTY_METRES),
+        row(3, ON_Z, FIFTY_METRES),
+        row(5, OPPOSITE, FIVE_METRES),
+    ]
+}
+
+/// What the tree of rows leaves of a box.
+fn left<I: Interval>(
+    alloc: Global,
+    rows: &[Row],
+    q: u8,
+    part: &Box3,
+    clock: Span,
+) -> Result<Option<Box3>, NoMemory>
+    requires { (q < length rows.now) × (length rows.now ≤ 64) }
+{
+    let tree: Tree<I> = relaxed_tree(alloc, rows, q)?;
+    Ok(contract(&tree, part, clock))
+}
+
+/// What the tree leaves of a box that was made anew for these rows.
+fn left_anew<I: Interval>(
+    alloc: Global,
+    before: &[Row],
+    rows: &[Row],
+    q: u8,
+    part: &Box3,
+    clock: Span,
+) -> Result<Option<Box3>, NoMemory>
+    requires many { (q < length rows.now) × (length rows.now ≤ 64) }
+    requires same { length before.now ≡ length rows.now }
+{
+    let tree: Tree<I> = anew(alloc, before, rows, q)?;
+    Ok(contract(&tree, part, clock))
+}
+
+/// What an exact row of the satellite on the x axis leaves of a box.
+fn left_exactly(part: &Box3) -> Option<Box3> {
+    let leaf: Leaf<Exact> = Leaf {
+        x: Interval::of(FAR, FAR),
+        y: Interval::of(0, 0),
+        z: Interval::of(0, 0),
+        range: Span { lo: FAR, hi: FAR },
+        err: ZERO,
+    };
+    contract(&Tree::Sat(leaf), part, ZERO)
+}
+
+/// What a coarse row of the same satellite leaves.
+fn left_coarsely(part: &Box3) -> Option<Box3> {
+    let leaf: Leaf<Coarse> = Leaf {
+        x: Interval::of(FAR, FAR),
+        y: Interval::of(0, 0),
+        z: Interval::of(0, 0),
+        range: Span { lo: FAR, hi: FAR },
+        err: ZERO,
+    };
+    contract(&Tree::Sat(leaf), part, ZERO)
+}
+
+/// The ends of the coarse place of that satellite on x.
+fn coarse_ends() -> (i64, i64) {
+    let x: Coarse = Interval::of(FAR, FAR);
+    (x.lo(), x.hi())
+}
+
+/// Whether the number is one of those from the low end to the high one.
+fn is_between(number: i64, lo: i64, hi: i64) -> bool {
+    lo <= number && number <= hi
+}
+
+/// How far a number is past a multiple of the coarse grain.
+fn behind_grains(number: i64) -> i64 {
+    number % 65_536
+}
+
 #[test]
 fn a_box_alone(rt: HostRuntime) {
     let exact: Tree<Exact> = Tree::Within(slab(-5, 5, 5));
@@ -146,120 +252,89 @@ fn a_box_alone(rt: HostRuntime) {
 }
 
 #[test]
-fn one_satellite(rt: HostRuntime) {
+fn one_satellite_leaves_up_to_16_um_exactly(rt: HostRuntime) {
     let part = slab(-100_000_000, 100_000_000, 0);
-    let exact: Leaf<Exact> = Leaf {
-        x: Interval::of(FAR, FAR),
-        y: Interval::of(0, 0),
-        z: Interval::of(0, 0),
-        range: Span { lo: FAR, hi: FAR },
-        err: ZERO,
-    };
-    let Some(kept) = contract(&Tree::Sat(exact), &part, ZERO) else {
+    let Some(kept) = left_exactly(&part) else {
         return assert!(rt; false, "something is left");
     };
-    assert!(rt; -16 <= kept.lo.x && kept.lo.x <= 0, "the low face");
-    assert!(rt; 0 <= kept.hi.x && kept.hi.x <= 16, "the high face");
-    let coarse: Leaf<Coarse> = Leaf {
-        x: Interval::of(FAR, FAR),
-        y: Interval::of(0, 0),
-        z: Interval::of(0, 0),
-        range: Span { lo: FAR, hi: FAR },
-        err: ZERO,
-    };
-    assert_eq!(rt; coarse.x.lo(), 19_999_999_983_616, "the low end of x");
-    assert_eq!(rt; coarse.x.hi(), 20_000_000_049_152, "the high end of x");
-    let Some(kept) = contract(&Tree::Sat(coarse), &part, ZERO) else {
+    assert!(rt; is_between(kept.lo.x, -16, 0), "the low face");
+    assert!(rt; is_between(kept.hi.x, 0, 16), "the high face");
+}
+
+#[test]
+fn one_satellite_leaves_multiples_of_the_grain_coarsely(rt: HostRuntime) {
+    let part = slab(-100_000_000, 100_000_000, 0);
+    let (low, high) = coarse_ends();
+    assert_eq!(rt; low, 19_999_999_983_616, "the low end of x");
+    assert_eq!(rt; high, 20_000_000_049_152, "the high end of x");
+    let Some(kept) = left_coarsely(&part) else {
         return assert!(rt; false, "something is left");
     };
-    assert!(rt;
-        -1_048_576 <= kept.lo.x && kept.lo.x <= -65_536,
-        "the low face"
-    );
-    assert!(rt;
-        65_536 <= kept.hi.x && kept.hi.x <= 1_048_576,
-        "the high face"
-    );
-    assert_eq!(rt; kept.lo.x % 65_536, 0, "a multiple below");
-    assert_eq!(rt; kept.hi.x % 65_536, 0, "a multiple above");
+    assert!(rt; is_between(kept.lo.x, -1_048_576, -65_536), "the low face");
+    assert!(rt; is_between(kept.hi.x, 65_536, 1_048_576), "the high face");
+    assert_eq!(rt; behind_grains(kept.lo.x), 0, "a multiple below");
+    assert_eq!(rt; behind_grains(kept.hi.x), 0, "a multiple above");
 }
 
 #[test]
 fn four_rows(rt: HostRuntime) {
-    let rows = [
-        row(1, ON_X, HALF_METRE),
-        row(2, ON_Y, HALF_METRE),
-        row(3, ON_Z, HALF_METRE),
-        row(4, BETWEEN, HALF_METRE),
-    ];
+    let rows = right_rows();
     let root = slab(-1_000_000, 1_000_000, 900_000);
     let clock = Span {
         lo: -1_400_000,
         hi: 1_400_000,
     };
-    let exact: Tree<Exact> = relaxed_tree(rt.alloc(), &rows, 0).expect(&rt, "memory");
     assert!(rt;
-        contract(&exact, &root, clock) == Some(root),
+        left::<Exact>(rt.alloc(), &rows, 0, &root, clock) == Ok(Some(root)),
         "the box itself"
     );
-    let coarse: Tree<Coarse> = relaxed_tree(rt.alloc(), &rows, 0).expect(&rt, "memory");
     assert!(rt;
-        contract(&coarse, &root, clock) == Some(root),
+        left::<Coarse>(rt.alloc(), &rows, 0, &root, clock) == Ok(Some(root)),
         "the box itself"
     );
 }
 
 #[test]
 fn one_wrong_satellite(rt: HostRuntime) {
-    // The first is 10 km farther away than its range says.
-    let rows = [
-        row(1, BEYOND, HALF_METRE),
-        row(2, ON_Y, HALF_METRE),
-        row(3, ON_Z, HALF_METRE),
-        row(4, BETWEEN, HALF_METRE),
-    ];
+    let rows = one_wrong_row();
     let part = slab(-1_000_000, 1_000_000, 900_000);
     let clock = Span {
         lo: -1_400_000,
         hi: 1_400_000,
     };
-    let all: Tree<Exact> = relaxed_tree(rt.alloc(), &rows, 0).expect(&rt, "memory");
-    assert!(rt; contract(&all, &part, clock) == None, "no point by all");
-    let but_one: Tree<Exact> = relaxed_tree(rt.alloc(), &rows, 1).expect(&rt, "memory");
     assert!(rt;
-        contract(&but_one, &part, clock) == Some(part),
+        left::<Exact>(rt.alloc(), &rows, 0, &part, clock) == Ok(None),
+        "no point by all"
+    );
+    assert!(rt;
+        left::<Exact>(rt.alloc(), &rows, 1, &part, clock) == Ok(Some(part)),
         "all points by three"
     );
 }
 
 #[test]
 fn a_tree_made_anew_for_other_rows(rt: HostRuntime) {
-    let right = [
-        row(1, ON_X, HALF_METRE),
-        row(2, ON_Y, HALF_METRE),
-        row(3, ON_Z, HALF_METRE),
-        row(4, BETWEEN, HALF_METRE),
-    ];
-    let one_wrong = [
-        row(1, BEYOND, HALF_METRE),
-        row(2, ON_Y, HALF_METRE),
-        row(3, ON_Z, HALF_METRE),
-        row(4, BETWEEN, HALF_METRE),
-    ];
+    let right = right_rows();
+    let wrong = one_wrong_row();
     let part = slab(-1_000_000, 1_000_000, 900_000);
     let clock = Span {
         lo: -1_400_000,
         hi: 1_400_000,
     };
-    let wrong: Tree<Exact> = anew(rt.alloc(), &right, &one_wrong, 0).expect(&rt, "memory");
-    assert!(rt; contract(&wrong, &part, clock) == None, "no point by all");
-    let mended: Tree<Exact> = anew(rt.alloc(), &one_wrong, &right, 0).expect(&rt, "memory");
-    assert!(rt; contract(&mended, &part, clock) == Some(part), "all points");
-    let coarse: Tree<Coarse> = anew(rt.alloc(), &one_wrong, &right, 0).expect(&rt, "memory");
-    assert!(rt; contract(&coarse, &part, clock) == Some(part), "all points");
-    let but_one: Tree<Exact> = anew(rt.alloc(), &right, &one_wrong, 1).expect(&rt, "memory");
     assert!(rt;
-        contract(&but_one, &part, clock) == Some(part),
+        left_anew::<Exact>(rt.alloc(), &right, &wrong, 0, &part, clock) == Ok(None),
+        "no point by all"
+    );
+    assert!(rt;
+        left_anew::<Exact>(rt.alloc(), &wrong, &right, 0, &part, clock) == Ok(Some(part)),
+        "all points"
+    );
+    assert!(rt;
+        left_anew::<Coarse>(rt.alloc(), &wrong, &right, 0, &part, clock) == Ok(Some(part)),
+        "all points"
+    );
+    assert!(rt;
+        left_anew::<Exact>(rt.alloc(), &right, &wrong, 1, &part, clock) == Ok(Some(part)),
         "all points by three"
     );
 }
@@ -267,37 +342,30 @@ fn a_tree_made_anew_for_other_rows(rt: HostRuntime) {
 #[test]
 fn opposite_satellites(rt: HostRuntime) {
     // The ranges to the two on the axis fit everywhere with some offset, so no face moves.
-    let rows = [
-        row(1, ON_X, FIVE_METRES),
-        row(2, ON_Y, FIFTY_METRES),
-        row(3, ON_Z, FIFTY_METRES),
-        row(5, OPPOSITE, FIVE_METRES),
-    ];
+    let rows = two_on_x();
     let root = slab(-8_000_000, 8_000_000, 1_000_000);
     let clock = Span {
         lo: -13_000_000,
         hi: 13_000_000,
     };
-    let exact: Tree<Exact> = relaxed_tree(rt.alloc(), &rows, 0).expect(&rt, "memory");
     assert!(rt;
-        contract(&exact, &root, clock) == Some(root),
+        left::<Exact>(rt.alloc(), &rows, 0, &root, clock) == Ok(Some(root)),
         "the box itself"
     );
-    let coarse: Tree<Coarse> = relaxed_tree(rt.alloc(), &rows, 0).expect(&rt, "memory");
     assert!(rt;
-        contract(&coarse, &root, clock) == Some(root),
+        left::<Coarse>(rt.alloc(), &rows, 0, &root, clock) == Ok(Some(root)),
         "the box itself"
     );
     // With a known offset the two leave what is within 5 m of the middle.
-    let Some(kept) = contract(&exact, &root, ZERO) else {
+    let Ok(Some(kept)) = left::<Exact>(rt.alloc(), &rows, 0, &root, ZERO) else {
         return assert!(rt; false, "something is left");
     };
     assert!(rt;
-        -5_000_016 <= kept.lo.x && kept.lo.x <= -5_000_000,
+        is_between(kept.lo.x, -5_000_016, -5_000_000),
         "the low face"
     );
     assert!(rt;
-        5_000_000 <= kept.hi.x && kept.hi.x <= 5_000_016,
+        is_between(kept.hi.x, 5_000_000, 5_000_016),
         "the high face"
     );
 }

@@ -2,6 +2,7 @@
 
 use fix_interval::{Coarse, Exact, ExactArea, Interval, Place, advanced, squared_distance};
 use grid_model::Wide;
+use std::process::Abort;
 
 /// What the ends of coarse intervals are multiples of, in um.
 const GRAIN: i64 = 65_536;
@@ -122,6 +123,10 @@ fn coarse_ends(rt: HostRuntime) {
     let y: Coarse = Interval::of(-65_537, -1);
     assert_eq!(rt; y.lo(), -131_072, "rounded down");
     assert_eq!(rt; y.hi(), 0, "rounded up");
+}
+
+#[test]
+fn coarse_meets(rt: HostRuntime) {
     let a: Coarse = Interval::of(0, 65_536);
     let shared: Coarse = Interval::of(65_536, 65_536);
     assert!(rt;
@@ -132,6 +137,11 @@ fn coarse_ends(rt: HostRuntime) {
         a.meet(Interval::of(131_072, 131_073)) == None,
         "no number in both"
     );
+}
+
+#[test]
+fn coarse_sums_and_hulls(rt: HostRuntime) {
+    let a: Coarse = Interval::of(0, 65_536);
     let wide: Coarse = Interval::of(-65_536, 131_072);
     assert!(rt; a.add(a).sub(a) == wide, "sums and differences");
     let held = a.hull(Interval::of(-1, 65_537));
@@ -144,34 +154,55 @@ fn coarse_squares(rt: HostRuntime) {
     assert!(rt; <Coarse as Interval>::root(x.square()) == x, "the roots");
 }
 
+/// Asserts that so many grains are the root of their square.
+fn assert_root(rt: &impl Abort, grains: i64) {
+    assert!(rt;
+        0 <= grains && grains <= 2_147_483_647,
+        "{grains} is in range"
+    );
+    let x: Coarse = Interval::of(grains * GRAIN, grains * GRAIN);
+    assert!(rt;
+        <Coarse as Interval>::root(x.square()) == x,
+        "the root of {grains} squared"
+    );
+}
+
 #[test]
 fn coarse_roots(rt: HostRuntime) {
-    for n in [0, 1, 3, 32_768, 2_147_483_647] {
-        let x: Coarse = Interval::of(n * 65_536, n * 65_536);
-        assert!(rt;
-            <Coarse as Interval>::root(x.square()) == x,
-            "the root of {n} squared"
-        );
+    for grains in [0, 1, 3, 32_768, 2_147_483_647] {
+        assert_root(&rt, grains);
     }
+}
+
+#[test]
+fn coarse_roots_past_squares(rt: HostRuntime) {
+    let one: Coarse = Interval::of(GRAIN, GRAIN);
+    let two_squares = <Coarse as Interval>::area_sum(one.square(), one.square());
+    let past_one: Coarse = Interval::of(GRAIN, GRAIN + 1);
+    assert!(rt;
+        <Coarse as Interval>::root(two_squares) == past_one,
+        "past 1 squared"
+    );
     // With one square of a grain more the root in um passes n grains, up to n = 32,767.
-    let one: Coarse = Interval::of(65_536, 65_536);
-    for n in [1, 32_767] {
-        let x: Coarse = Interval::of(n * 65_536, n * 65_536);
-        let area = <Coarse as Interval>::area_sum(x.square(), one.square());
-        let ends: Coarse = Interval::of(n * 65_536, n * 65_536 + 1);
-        assert!(rt;
-            <Coarse as Interval>::root(area) == ends,
-            "the root past {n} squared"
-        );
-    }
-    for n in [32_768, 32_769] {
-        let x: Coarse = Interval::of(n * 65_536, n * 65_536);
-        let area = <Coarse as Interval>::area_sum(x.square(), one.square());
-        assert!(rt;
-            <Coarse as Interval>::root(area) == x,
-            "the root past {n} squared"
-        );
-    }
+    let last: Coarse = Interval::of(32_767 * GRAIN, 32_767 * GRAIN);
+    let last_area = <Coarse as Interval>::area_sum(last.square(), one.square());
+    let past_last: Coarse = Interval::of(32_767 * GRAIN, 32_767 * GRAIN + 1);
+    assert!(rt;
+        <Coarse as Interval>::root(last_area) == past_last,
+        "past 32767 squared"
+    );
+    let next: Coarse = Interval::of(32_768 * GRAIN, 32_768 * GRAIN);
+    let next_area = <Coarse as Interval>::area_sum(next.square(), one.square());
+    assert!(rt;
+        <Coarse as Interval>::root(next_area) == next,
+        "past 32768 squared"
+    );
+    let second: Coarse = Interval::of(32_769 * GRAIN, 32_769 * GRAIN);
+    let second_area = <Coarse as Interval>::area_sum(second.square(), one.square());
+    assert!(rt;
+        <Coarse as Interval>::root(second_area) == second,
+        "past 32769 squared"
+    );
 }
 
 #[test]
