@@ -169,7 +169,7 @@ fn two_on_x() -> [Row; 4]
 }
 
 /// What the tree of rows leaves of a box.
-fn left<I: Interval>(
+fn contracted<I: Interval>(
     alloc: Global,
     rows: &[Row],
     q: u8,
@@ -182,8 +182,8 @@ fn left<I: Interval>(
     Ok(contract(&tree, part, clock))
 }
 
-/// What the tree leaves of a box that was made anew for these rows.
-fn left_anew<I: Interval>(
+/// What a tree that was made anew for these rows leaves of a box.
+fn contracted_anew<I: Interval>(
     alloc: Global,
     before: &[Row],
     rows: &[Row],
@@ -199,7 +199,7 @@ fn left_anew<I: Interval>(
 }
 
 /// What an exact row of the satellite on the x axis leaves of a box.
-fn left_exactly(part: &Box3) -> Option<Box3> {
+fn contracted_exactly(part: &Box3) -> Option<Box3> {
     let leaf: Leaf<Exact> = Leaf {
         x: Interval::of(FAR, FAR),
         y: Interval::of(0, 0),
@@ -211,7 +211,7 @@ fn left_exactly(part: &Box3) -> Option<Box3> {
 }
 
 /// What a coarse row of the same satellite leaves.
-fn left_coarsely(part: &Box3) -> Option<Box3> {
+fn contracted_coarsely(part: &Box3) -> Option<Box3> {
     let leaf: Leaf<Coarse> = Leaf {
         x: Interval::of(FAR, FAR),
         y: Interval::of(0, 0),
@@ -233,7 +233,7 @@ fn is_between(number: i64, lo: i64, hi: i64) -> bool {
     lo <= number && number <= hi
 }
 
-/// How far a number is past a multiple of the coarse grain.
+/// What is left of a number behind whole grains of coarse intervals, with its sign.
 fn behind_grains(number: i64) -> i64 {
     number % 65_536
 }
@@ -254,7 +254,7 @@ fn a_box_alone(rt: HostRuntime) {
 #[test]
 fn one_satellite_leaves_up_to_16_um_exactly(rt: HostRuntime) {
     let part = slab(-100_000_000, 100_000_000, 0);
-    let Some(kept) = left_exactly(&part) else {
+    let Some(kept) = contracted_exactly(&part) else {
         return assert!(rt; false, "something is left");
     };
     assert!(rt; is_between(kept.lo.x, -16, 0), "the low face");
@@ -267,7 +267,7 @@ fn one_satellite_leaves_multiples_of_the_grain_coarsely(rt: HostRuntime) {
     let (low, high) = coarse_ends();
     assert_eq!(rt; low, 19_999_999_983_616, "the low end of x");
     assert_eq!(rt; high, 20_000_000_049_152, "the high end of x");
-    let Some(kept) = left_coarsely(&part) else {
+    let Some(kept) = contracted_coarsely(&part) else {
         return assert!(rt; false, "something is left");
     };
     assert!(rt; is_between(kept.lo.x, -1_048_576, -65_536), "the low face");
@@ -285,11 +285,11 @@ fn four_rows(rt: HostRuntime) {
         hi: 1_400_000,
     };
     assert!(rt;
-        left::<Exact>(rt.alloc(), &rows, 0, &root, clock) == Ok(Some(root)),
+        contracted::<Exact>(rt.alloc(), &rows, 0, &root, clock) == Ok(Some(root)),
         "the box itself"
     );
     assert!(rt;
-        left::<Coarse>(rt.alloc(), &rows, 0, &root, clock) == Ok(Some(root)),
+        contracted::<Coarse>(rt.alloc(), &rows, 0, &root, clock) == Ok(Some(root)),
         "the box itself"
     );
 }
@@ -303,11 +303,11 @@ fn one_wrong_satellite(rt: HostRuntime) {
         hi: 1_400_000,
     };
     assert!(rt;
-        left::<Exact>(rt.alloc(), &rows, 0, &part, clock) == Ok(None),
+        contracted::<Exact>(rt.alloc(), &rows, 0, &part, clock) == Ok(None),
         "no point by all"
     );
     assert!(rt;
-        left::<Exact>(rt.alloc(), &rows, 1, &part, clock) == Ok(Some(part)),
+        contracted::<Exact>(rt.alloc(), &rows, 1, &part, clock) == Ok(Some(part)),
         "all points by three"
     );
 }
@@ -322,19 +322,19 @@ fn a_tree_made_anew_for_other_rows(rt: HostRuntime) {
         hi: 1_400_000,
     };
     assert!(rt;
-        left_anew::<Exact>(rt.alloc(), &right, &wrong, 0, &part, clock) == Ok(None),
+        contracted_anew::<Exact>(rt.alloc(), &right, &wrong, 0, &part, clock) == Ok(None),
         "no point by all"
     );
     assert!(rt;
-        left_anew::<Exact>(rt.alloc(), &wrong, &right, 0, &part, clock) == Ok(Some(part)),
+        contracted_anew::<Exact>(rt.alloc(), &wrong, &right, 0, &part, clock) == Ok(Some(part)),
         "all points"
     );
     assert!(rt;
-        left_anew::<Coarse>(rt.alloc(), &wrong, &right, 0, &part, clock) == Ok(Some(part)),
+        contracted_anew::<Coarse>(rt.alloc(), &wrong, &right, 0, &part, clock) == Ok(Some(part)),
         "all points"
     );
     assert!(rt;
-        left_anew::<Exact>(rt.alloc(), &right, &wrong, 1, &part, clock) == Ok(Some(part)),
+        contracted_anew::<Exact>(rt.alloc(), &right, &wrong, 1, &part, clock) == Ok(Some(part)),
         "all points by three"
     );
 }
@@ -349,15 +349,15 @@ fn opposite_satellites(rt: HostRuntime) {
         hi: 13_000_000,
     };
     assert!(rt;
-        left::<Exact>(rt.alloc(), &rows, 0, &root, clock) == Ok(Some(root)),
+        contracted::<Exact>(rt.alloc(), &rows, 0, &root, clock) == Ok(Some(root)),
         "the box itself"
     );
     assert!(rt;
-        left::<Coarse>(rt.alloc(), &rows, 0, &root, clock) == Ok(Some(root)),
+        contracted::<Coarse>(rt.alloc(), &rows, 0, &root, clock) == Ok(Some(root)),
         "the box itself"
     );
     // With a known offset the two leave what is within 5 m of the middle.
-    let Ok(Some(kept)) = left::<Exact>(rt.alloc(), &rows, 0, &root, ZERO) else {
+    let Ok(Some(kept)) = contracted::<Exact>(rt.alloc(), &rows, 0, &root, ZERO) else {
         return assert!(rt; false, "something is left");
     };
     assert!(rt;

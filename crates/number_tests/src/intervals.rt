@@ -176,6 +176,7 @@ fn coarse_roots(rt: HostRuntime) {
 
 #[test]
 fn coarse_roots_past_squares(rt: HostRuntime) {
+    // With one square of a grain more the root in um passes n grains, up to n = 32,767.
     let one: Coarse = Interval::of(GRAIN, GRAIN);
     let two_squares = <Coarse as Interval>::area_sum(one.square(), one.square());
     let past_one: Coarse = Interval::of(GRAIN, GRAIN + 1);
@@ -183,7 +184,6 @@ fn coarse_roots_past_squares(rt: HostRuntime) {
         <Coarse as Interval>::root(two_squares) == past_one,
         "past 1 squared"
     );
-    // With one square of a grain more the root in um passes n grains, up to n = 32,767.
     let last: Coarse = Interval::of(32_767 * GRAIN, 32_767 * GRAIN);
     let last_area = <Coarse as Interval>::area_sum(last.square(), one.square());
     let past_last: Coarse = Interval::of(32_767 * GRAIN, 32_767 * GRAIN + 1);
