@@ -1,5 +1,6 @@
 pub mod AgreeLemmas
 pub mod SizeLemmas
+pub mod QuotientLemmas
 pub mod SameLemmas
 pub mod LeastLemmas
 pub mod KeptLemmas

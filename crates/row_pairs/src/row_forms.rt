@@ -7,7 +7,9 @@ ghost use Rattle.sat_model.specs.Pairs.{form_of};
 ghost use Rattle.row_pairs.specs.FormValues.{form_value};
 
 use crate::axes::axis_of;
-use crate::bounds::{arm_of, away_square, lower_of, play_of, slope_of, spread_of, upper_of};
+use crate::bounds::{
+    arm_of, away_square, inverse_of, lower_of, play_of, slope_of, spread_of, upper_of,
+};
 use crate::forms::Form;
 use grid_model::Box3;
 use sat_model::Row;
@@ -21,15 +23,16 @@ pub fn form_of(row: &Row, part: &Box3) -> Form
     let z = axis_of(&row.z, part.lo.z, part.hi.z);
     let square = away_square(&x, &y, &z);
     let arm = arm_of(square);
+    let inverse = inverse_of(arm);
     let play = play_of(&x, &y, &z);
     let spread = spread_of(&x, &y, &z);
     let rounding = x.side + y.side + z.side;
     Form {
-        x: slope_of(arm, x.away),
-        y: slope_of(arm, y.away),
-        z: slope_of(arm, z.away),
-        upper: upper_of(arm, most_end(row), square, play, rounding),
-        lower: lower_of(arm, least_end(row), square, play, spread, rounding),
+        x: slope_of(arm, inverse, x.away),
+        y: slope_of(arm, inverse, y.away),
+        z: slope_of(arm, inverse, z.away),
+        upper: upper_of(arm, inverse, most_end(row), square, play, rounding),
+        lower: lower_of(arm, inverse, least_end(row), square, play, spread, rounding),
     }
 }
 
