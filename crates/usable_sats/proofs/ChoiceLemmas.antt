@@ -1,9 +1,9 @@
 -- What the records give of a satellite with one more: what they gave before where that is better, else what
 -- the last gives alone.
-use Rattle.std.proofs.Common.{◌≡◌, ℕ, ◌<◌, ◌≤◌, arith, sym, subst, true, List, length, refl, inl, inr}
+use Rattle.std.proofs.Common.{◌≡◌, ℕ, ◌<◌, ◌≤◌, arith, sym, subst, true, List, [], length, refl, inl, inr}
 use Rattle.std.specs.Prelude.{Option, ℤ, pos, ◌≤ℤ◌, ◌<ℤ◌}
 use Rattle.std.proofs.lemmas.Int.{ints, by_lt_z}
-use Rattle.std.proofs.lemmas.Option.{slice_get_within}
+use Rattle.std.proofs.lemmas.Option.{none-some, slice_get_within}
 use Rattle.error_bounds.specs.declared.settings.Settings.{Settings}
 use Rattle.gnss_model.specs.declared.satellites.Signal.{Signal}
 use Rattle.exact_decimal.specs.declared.decimal.Decimal.{Decimal}
@@ -14,9 +14,10 @@ use Rattle.rinex_obs.specs.declared.obs.SatObs.{SatObs}
 use Rattle.gnss_model.specs.declared.elements.Elements.{Elements}
 use Rattle.usable_sats.proofs.RecordLemmas.{before, after, its_kept, healthy_kept, fresh_kept, fit_kept, its_split, healthy_split, fresh_split, fit_split, its_last, fresh_last, is_recent, nearest_kept, nearest_last}
 use Rattle.usable_sats.specs.Answers.{IsChoice, IsRecent, IsAlone, passed_by, age_of, IsBetter}
-use Rattle.usable_sats.specs.Usability.{Sighting, IsItsRecord, IsHealthy, IsFresh, IsFit}
+use Rattle.usable_sats.specs.Usability.{Sighting, sighting_by, IsItsRecord, IsHealthy, IsFresh, IsFit}
 use Rattle.usable_sats.specs.declared.choice.Choice.{Choice}
 use Rattle.usable_sats.specs.declared.choice.Choice.TheVariants.{NoRecord, Unhealthy, Old, Unfit, Fit}
+use Rattle.usable_sats.proofs.WalkLemmas.{PassesOver}
 use Rattle.std.proofs.lemmas.Bool.{both_ways as true_false}
 
 -- ---- what one record gives
@@ -226,7 +227,7 @@ module _ (galileo : Option Signal) (settings : Settings) (tag : ℤ) (seen : Sat
   no_last other i s p last = other (subst (λ (q : NavRecord). q.sat ≡ seen.sat) last p.sat)
 
   -- a record of another satellite changes nothing
-  pub passes_over : (s : Choice) → (r.sat ≡ seen.sat → ⊥)
+  passes_over : (s : Choice) → (r.sat ≡ seen.sat → ⊥)
       → IsChoice (before galileo settings tag seen records r) s
       → IsChoice (after galileo settings tag seen records r) s
   passes_over NoRecord other f = λ i q p. elim (its_split galileo settings tag seen records r i q p) [
@@ -271,3 +272,17 @@ module _ (galileo : Option Signal) (settings : Settings) (tag : ℤ) (seen : Sat
         ]);
     elements = f.elements;
   }
+
+-- ---- a walk
+
+-- what these records give
+abbrev pub IsChosen : Option Signal → Settings → ℤ → SatObs → Choice → List NavRecord → Type 0
+IsChosen galileo settings tag seen choice records = IsChoice (sighting_by galileo records settings tag seen) choice
+
+pub none_chosen : (galileo : Option Signal) (settings : Settings) (tag : ℤ) (seen : SatObs)
+    → IsChosen galileo settings tag seen NoRecord []
+none_chosen galileo settings tag seen = λ i r p. none-some r p.at
+
+pub chosen_over : (galileo : Option Signal) (settings : Settings) (tag : ℤ) (seen : SatObs)
+    (choice : Choice) → PassesOver seen.sat (IsChosen galileo settings tag seen choice)
+chosen_over galileo settings tag seen choice = λ front r. passes_over galileo settings tag seen front r choice

@@ -3,4 +3,5 @@ pub mod JudgementLemmas
 pub mod CodeLemmas
 pub mod RecordLemmas
 pub mod ChoiceLemmas
+pub mod NearestLemmas
 pub mod WalkLemmas

@@ -1,5 +1,6 @@
 -- What the code answers about a satellite on the way to a judgement. No public clause cites it.
 use Rattle.std.specs.Prelude.{ℕ, ◌*◌, ◌^◌, ◌<◌, ◌≡◌, ◌⊎◌, ℤ, pos, ◌≤ℤ◌, ◌<ℤ◌, true, false}
+use Rattle.std.specs.Prelude.{Option, None, Some}
 use Rattle.rinex_nav.specs.ElementsOf.{AreElements}
 use Rattle.rinex_nav.specs.FieldBounds.{AreInside, IsFirstOutside}
 use Rattle.rinex_nav.specs.Weeks.{IsAge}
@@ -17,6 +18,7 @@ use Rattle.usable_sats.specs.declared.choice.Choice.TheVariants.{NoRecord, Unhea
 use Rattle.usable_sats.specs.declared.choice.Choice.TheVariants.{Fit}
 use Rattle.usable_sats.specs.declared.codes.Reading.{Reading}
 use Rattle.usable_sats.specs.declared.codes.Reading.TheVariants.{Missing, OutOfRange, Within}
+use Rattle.usable_sats.specs.declared.fresh.Nearest.{Nearest}
 
 -- what the wanted codes of a satellite are
 abbrev pub IsReading : System → Signal → SatObs → Reading → Type 0
@@ -61,6 +63,11 @@ pub record IsRecent (max_age : ℕ) (tag : ℤ) (r : NavRecord) (age : ℤ) : Ty
   pub healthy : r.healthy ≡ true
   pub age_is : IsAge r tag age
   pub fresh : age ≤ℤ pos (max_age * 10 ^ 12)
+
+-- the nearest of the fresh records, where there is one
+abbrev pub IsNearestFresh : Sighting → Option Nearest → Type 0
+IsNearestFresh a None = (i : ℕ) (r : NavRecord) (age : ℤ) → IsFresh a i r age → ⊥
+IsNearestFresh a (Some n) = (r : NavRecord) × IsNearest (IsFresh a) n.place r n.age
 
 -- what one record gives
 abbrev pub IsAlone : ℕ → ℤ → NavRecord → Choice → Type 0

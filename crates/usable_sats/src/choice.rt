@@ -6,13 +6,11 @@ ghost use Rattle.usable_sats.specs.Answers.{IsAlone, IsChoice};
 ghost use Rattle.gnss_model.specs.declared.satellites.Signal.{Signal};
 ghost use Rattle.usable_sats.specs.Usability.{sighting_by};
 
+use crate::fresh::{fresh_age, nearest_fresh};
 use error_bounds::Settings;
 use gnss_model::Elements;
 use rinex_nav::{Nav, NavRecord};
 use rinex_obs::{ObsEpoch, SatObs};
-
-/// The ps in a second.
-const PS_PER_S: i128 = 1_000_000_000_000;
 
 /// What the records give of a satellite.
 #[derive(Clone, Copy)]
@@ -73,12 +71,9 @@ fn alone(one: &NavRecord, epoch: &ObsEpoch, settings: &Settings) -> Choice
     if !one.healthy {
         return Choice::Unhealthy;
     }
-    let Some(age) = one.age(epoch.tag) else {
+    let Some(age) = fresh_age(one, epoch, settings) else {
         return Choice::Old;
     };
-    if age > i128::from(settings.max_age) * PS_PER_S {
-        return Choice::Old;
-    }
     match one.elements() {
         Ok(elements) => Choice::Fit { age, elements },
         Err(field) => Choice::Unfit { age, field },
@@ -107,8 +102,9 @@ fn with_record(
     }
 }
 
-/// What the records give of the satellite: one pass over those that are its own.
-pub(crate) fn choose(seen: &SatObs, epoch: &ObsEpoch, nav: &Nav, settings: &Settings) -> Choice
+/// What the records give of the satellite, each judged in turn: one pass over those that are its
+/// own.
+fn choose_from_all(seen: &SatObs, epoch: &ObsEpoch, nav: &Nav, settings: &Settings) -> Choice
     ensures { (galileo : Option Signal) →
         IsChoice (sighting_by galileo nav.now settings.now epoch.now.tag seen.now) result }
 {
@@ -117,4 +113,21 @@ pub(crate) fn choose(seen: &SatObs, epoch: &ObsEpoch, nav: &Nav, settings: &Sett
         choice = with_record(choice, nav.at(*place), seen, epoch, settings);
     }
     choice
+}
+
+/// What the records give of the satellite. Mostly its nearest fresh record is fit, and then no
+/// other is converted.
+pub(crate) fn choose(seen: &SatObs, epoch: &ObsEpoch, nav: &Nav, settings: &Settings) -> Choice
+    ensures { (galileo : Option Signal) →
+        IsChoice (sighting_by galileo nav.now settings.now epoch.now.tag seen.now) result }
+{
+    if let Some(nearest) = nearest_fresh(seen, epoch, nav, settings) {
+        if let Ok(elements) = nav.at(nearest.place).elements() {
+            return Choice::Fit {
+                age: nearest.age,
+                elements,
+            };
+        }
+    }
+    choose_from_all(seen, epoch, nav, settings)
 }

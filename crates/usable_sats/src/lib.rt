@@ -5,6 +5,7 @@
 
 mod choice;
 mod codes;
+mod fresh;
 mod judging;
 
 pub use codes::Measured;

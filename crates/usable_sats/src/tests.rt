@@ -36,6 +36,12 @@ const OLD: Ephemeris = Ephemeris { toe: "0", ..FRESH };
 
 const ECCENTRIC: Ephemeris = Ephemeris { e: "0.3", ..FRESH };
 
+/// One of age 0 that is as eccentric.
+const NEAR_ECCENTRIC: Ephemeris = Ephemeris {
+    toe: "7201",
+    ..ECCENTRIC
+};
+
 const UNHEALTHY: Ephemeris = Ephemeris {
     health: "63",
     ..FRESH
@@ -277,6 +283,21 @@ fn of_two_records_as_near_the_later(rt: HostRuntime) -> Result<(), Fail> {
         assert_eq!(rt; codes, Measured::Single(code));
         assert_eq!(rt; elements.af0.lo, offset);
         assert_eq!(rt; elements.af0.hi, offset);
+    }
+    Ok(())
+}
+
+#[test]
+fn a_farther_record_where_the_nearest_is_unfit(rt: HostRuntime) -> Result<(), Fail> {
+    let alloc = rt.alloc();
+    for told in [
+        judged(alloc, Some(15_000_000_000), &[AHEAD, NEAR_ECCENTRIC])?,
+        judged(alloc, Some(15_000_000_000), &[NEAR_ECCENTRIC, AHEAD])?,
+    ] {
+        let Judgement::Usable { elements, .. } = told else {
+            return Err(Fail::from("skipped"));
+        };
+        assert_eq!(rt; elements.af0.lo, 100_000_000_000);
     }
     Ok(())
 }

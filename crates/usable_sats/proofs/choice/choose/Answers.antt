@@ -1,21 +1,16 @@
-use Rattle.std.proofs.Common.{None}
-use Rattle.usable_sats.proofs.WalkLemmas.{walk_begins, place_within, place_own, walk_step, walk_ends}
+use Rattle.std.proofs.Common.{rules, refl, None, FitsSigned}
+use Rattle.std.specs.Int.{w128}
+use Rattle.std.proofs.lemmas.Int.{to_z-of_z}
+use Rattle.usable_sats.proofs.NearestLemmas.{nearest_within, nearest_fit}
+use Rattle.usable_sats.specs.Usability.{sighting_by}
 use Rattle.usable_sats.proofs.choice.choose.Goals as goal
 
-pub loop-place-init : goal.loop-place-init
-loop-place-init c = λ galileo. walk_begins c.args.nav.now galileo c.args.settings.now c.args.epoch.now.tag c.args.seen.now _ c.places-place-items.ensures
-
 pub at-requires : goal.at-requires
-at-requires c = place_within c.args.nav.now None c.args.settings.now c.args.epoch.now.tag c.args.seen.now c.places-place-items.result.now c.loop-place.place-index _ (c.loop-place.invariant None) c.loop-place-test.true
+at-requires c =
+    nearest_within (sighting_by None c.args.nav.now c.args.settings.now c.args.epoch.now.tag c.args.seen.now) c.in-Some.nearest (c.in-Some.ensures None)
 
-pub with_record-choice-requires : goal.with_record-choice-requires
-with_record-choice-requires c =
-    place_own c.args.nav.now None c.args.settings.now c.args.epoch.now.tag c.args.seen.now c.places-place-items.result.now c.loop-place.place-index _ _ (c.loop-place.invariant None) c.loop-place-test.true c.at.ensures
-
-pub loop-place-preserved : goal.loop-place-preserved
-loop-place-preserved c =
-    λ galileo. walk_step c.args.nav.now galileo c.args.settings.now c.args.epoch.now.tag c.args.seen.now c.places-place-items.result.now c.loop-place.place-index _ _ _ (c.loop-place.invariant galileo) c.loop-place-test.true c.at.ensures
-    (c.with_record-choice.ensures galileo)
-
-pub returns : goal.returns
-returns c = λ galileo. walk_ends c.args.nav.now galileo c.args.settings.now c.args.epoch.now.tag c.args.seen.now c.places-place-items.result.now c.loop-place.place-index _ (c.loop-place.invariant galileo) c.loop-place-test.false
+pub returns-in-Ok : goal.returns-in-Ok
+returns-in-Ok c =
+    let fits : FitsSigned w128 c.in-Some.nearest.age = search rules in
+    λ galileo. simp to_z-of_z
+    (nearest_fit (sighting_by galileo c.args.nav.now c.args.settings.now c.args.epoch.now.tag c.args.seen.now) c.in-Some.nearest c.at.result.now c.in-Ok.elements (c.in-Some.ensures galileo) c.at.ensures (c.in-Ok.ensures.inside.0 refl) c.in-Ok.ensures.elements)

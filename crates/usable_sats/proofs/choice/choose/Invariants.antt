@@ -1,8 +1,0 @@
-use Rattle.std.proofs.Common.{drop}
-use Rattle.std.specs.Prelude.{Option}
-use Rattle.gnss_model.specs.declared.satellites.Signal.{Signal}
-use Rattle.usable_sats.proofs.WalkLemmas.{IsWalked}
-use Rattle.usable_sats.proofs.choice.choose.Given as goal
-
-abbrev pub invariant-loop-place : goal.invariant-loop-place
-invariant-loop-place l = (galileo : Option Signal) → IsWalked l.nav galileo l.settings l.epoch.tag l.seen (drop l.place-index l.place-items) l.choice
