@@ -13,3 +13,4 @@ pub mod OrderLemmas
 pub mod SpreadRoots
 pub mod PlainLemmas
 pub mod BoxLemmas
+pub mod HullLemmas

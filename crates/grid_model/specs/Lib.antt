@@ -2,6 +2,7 @@ pub mod Sizes
 pub mod Roots
 pub mod Amounts
 pub mod Boxes
+pub mod Hulls
 pub mod Ranges
 pub mod Lengths
 pub mod Intervals

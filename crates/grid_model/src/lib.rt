@@ -5,6 +5,7 @@
 #![tactic(auto)]
 
 mod boxes;
+mod hulls;
 mod memory;
 mod roots;
 mod spans;
