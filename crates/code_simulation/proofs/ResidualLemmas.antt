@@ -71,6 +71,3 @@ at_least lo hi v goal b h = omega (arith, ints, b.from, h)
 pub near_next : (lo hi v u goal : ℤ) → Between lo hi v → Between lo hi u → (hi -ℤ lo) ≤ℤ pos 4507
     → goal ≤ℤ u → (goal -ℤ pos 4507) ≤ℤ v
 near_next lo hi v u goal b a w h = omega (arith, ints, b.from, a.to, w, h)
-
-pub little_more : (v goal : ℤ) → v ≤ℤ goal → v ≤ℤ (goal +ℤ pos 3507)
-little_more v goal h = omega (arith, ints, h)

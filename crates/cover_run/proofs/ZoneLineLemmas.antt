@@ -101,10 +101,6 @@ writes_line a b p q line (Ok done) all prefix cause sure =
 writes_line a b p q line (Err fault) all prefix cause sure =
     record { prefix = prefix; rose = cause.failed; unreliable = λ after. let e : false ≡ true = (sure after).1 in cc }
 
-pub writes_same : (a b : SinkState) (p q : Type 0) (xs ys : List ℕ) (result : Result (Unit {0}) Failed)
-    → xs ≡ ys → WritesText a b p q xs result → WritesText a b p q ys result
-writes_same a b p q xs ys result e writes = subst (λ (l : List ℕ). WritesText a b p q l result) e writes
-
 -- ---- lines in turn
 
 text_append : (xs ys : List (List ℕ)) → text_of (xs ++ ys) ≡ text_of xs ++ text_of ys
@@ -241,12 +237,6 @@ module _ (a b : SinkState) (p q : Type 0) (watches : List WatchValue) (epochs : 
       → IsCutOff a b q (text_with second watches epochs)
   zones_cut false cut = cut
   zones_cut true cut = cut_first a b q (epochs_text watches epochs) (totals_text watches epochs) cut
-
-  pub epochs_alone : (second : Bool) → second ≡ false
-      → IsWritten a b p q (epochs_text watches epochs)
-      → IsWritten a b p q (text_with second watches epochs)
-  epochs_alone false is x = x
-  epochs_alone true is x = absurd cc
 
   pub totals_too : (second : Bool) (c : SinkState) (r : Type 0) (result : Result (Unit {0}) Failed)
       → second ≡ true → IsWritten a b p q (epochs_text watches epochs)

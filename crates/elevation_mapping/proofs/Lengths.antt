@@ -13,10 +13,6 @@ use Rattle.elevation_mapping.specs.Places.{least_sum, greatest_sum}
 use Rattle.elevation_mapping.specs.SineSizes.{offset_amount, length_amount}
 use Rattle.grid_model.proofs.SpreadRoots.{sum_small, four_roots}
 
--- a length is at least each part, and at least the root of what the squares are at least
-pub part_le : (a b c : ℕ) → a ≤ root (a * a + b * b + c * c)
-part_le a b c = grind (arith, square-mono (root (a * a + b * b + c * c) + 1) a, (root_is (a * a + b * b + c * c)).next_square_gt)
-
 pub root_at_least : (n a : ℕ) → n * n ≤ a → n ≤ root a
 root_at_least n a h = grind (arith, square-mono (root a + 1) n, (root_is a).next_square_gt, h)
 

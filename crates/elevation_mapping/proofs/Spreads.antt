@@ -2,7 +2,6 @@
 use Rattle.std.proofs.Common.{◌≡◌, ℕ, ◌+◌, ◌*◌, ◌/◌, ◌^◌, ◌≤◌, arith}
 use Rattle.std.specs.Prelude.{ℤ, pos, negsuc, ◌*ℤ◌, ◌≤ℤ◌}
 use Rattle.std.proofs.lemmas.Int.{ints}
-use Rattle.std.proofs.lemmas.Nat.{mul-le}
 use Rattle.grid_model.specs.Angles.{unit}
 use Rattle.grid_model.specs.Intervals.{Ends}
 use Rattle.grid_model.specs.Rounding.{Near}
@@ -28,7 +27,3 @@ thousand (negsuc n) h = omega (arith, ints)
 pub near_thousand : (layer : Layer) (h : ℕ) (mp : ℤ) → IsMapped layer h mp
     → Near (pos unit *ℤ pos (layer_scale layer * 10 ^ 13)) (pos h) mp
 near_thousand layer h mp n = record { below = omega (arith, ints, thousand mp h, n.below); above = omega (arith, ints, thousand mp h, n.above) }
-
--- amounts of a zenith span and a side
-pub spare_fits : (a b : ℕ) → a ≤ 10 ^ 7 → b ≤ 2 * 10 ^ 13 → a * b ≤ 2 * 10 ^ 20
-spare_fits a b h k = omega (arith, mul-le a b (10 ^ 7) (2 * 10 ^ 13) h k)

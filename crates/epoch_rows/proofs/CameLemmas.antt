@@ -1,11 +1,11 @@
 -- A log of what came from the epochs of a file, against the files.
-use Rattle.std.proofs.Common.{◌≡◌, ℕ, Bool, List, [], ◌∷◌, ◌++◌, append-nil, refl, sym, ap, subst, Option, None, Some, true}
+use Rattle.std.proofs.Common.{◌≡◌, ℕ, Bool, List, [], ◌∷◌, ◌++◌, append-nil, refl, sym, ap, subst, Option, None, true}
 use Rattle.epoch_rows.specs.EpochsLeft.{EpochsLeft, GivesFirst, source_of}
 use Rattle.epoch_rows.specs.Renewed.{maker_of}
-use Rattle.epoch_rows.specs.Solved.{IsMade, IsSolvedFirst, AreSolved}
+use Rattle.epoch_rows.specs.Solved.{IsMade, AreSolved}
 use Rattle.epoch_selection.specs.Searches.{Search, search_in, searches_in}
 use Rattle.log_writer.specs.Kept.{hull_kept}
-use Rattle.log_writer.specs.Sources.{Came, IsInHand}
+use Rattle.log_writer.specs.Sources.{Came}
 use Rattle.log_writer.specs.Texts.{IsWhole}
 use Rattle.paving.specs.Renewing.{Maker}
 use Rattle.paving_log_check.specs.Admissible.{Admits}
@@ -57,13 +57,6 @@ module _ (m : Meaning) (renews : Bool) (rules : Rules) where
       → AreSolved m renews rules (all_left left) blocks
   whole_of left blocks behind came ended =
       subst (AreSolved m renews rules (all_left left)) (append-nil blocks) (came_of left None blocks behind came [] (none_left behind ended))
-
-  -- a block in hand begins to pave the rows of the next epoch
-  pub in_hand_of : (behind : EpochsLeft) (hull : Option GridBox) (block : Block)
-      → IsInHand (source_of m rules.outliers renews) rules behind hull (Some block)
-      → (search : Search) × (rest : List Search) × (all_left behind ≡ search ∷ rest) × IsSolvedFirst m renews rules search block
-  in_hand_of behind hull block (given, next, gave, begins) =
-      (search_in behind.root gave.epoch, all_left next, first_left behind given next gave, made_of _ behind given block next gave begins)
 
 -- the whole log over a search box with a point in it
 module _ (m : Meaning) (sound : IsSound m) (renews : Bool) (rules : Rules) (left last : EpochsLeft) (box : IsSearchBox left.root) (p : Pos) (inside : box_holds left.root p ≡ true)

@@ -13,4 +13,3 @@ pub mod RenewedLemmas
 pub mod AdmitLemmas
 pub mod KeptLemmas
 pub mod CameLemmas
-pub mod SkipLemmas

@@ -37,12 +37,6 @@ module _ (m : Meaning) (before : Option ℕ) (old : Searches) (epoch : ObsEpoch)
 
   -- and this block was formed of it
   module _ (rules : Rules) (block : Block) (grown : IsGrownBlock m rules.outliers (search_in (grid_box new.root) epoch) block) (fits : BlockFits form.Rows block) where
-    pub rest_ready : CanGive m (Some block.index) (epochs_left new)
-    rest_ready = record {
-      skips = can.skips;
-      epochs_are = subst (λ (n : ℕ). AreWritable (Some n) (epochs_left new)) (sym grown.index) first_writable.2;
-    }
-
     abbrev pub hand : Hand
     hand = hand_of (search_in (grid_box new.root) epoch) block
 

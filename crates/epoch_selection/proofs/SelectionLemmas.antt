@@ -1,14 +1,13 @@
 -- The selected ones among some epochs.
-use Rattle.std.proofs.Common.{◌≡◌, ℕ, ◌+◌, ◌<◌, ◌≤◌, true, false, List, [], ◌∷◌, length, get_or, drop, refl, ap, ◌∙◌, Option, Some}
-use Rattle.std.specs.Prelude.{slice_get}
-use Rattle.std.proofs.lemmas.Option.{slice_get_read, slice_get_within}
+use Rattle.std.proofs.Common.{◌≡◌, ℕ, ◌+◌, ◌<◌, true, List, ◌∷◌, length, get_or, drop, refl, ap, ◌∙◌, Option, Some}
+use Rattle.std.proofs.lemmas.Option.{slice_get_read}
 use Rattle.rinex_obs.specs.declared.obs.ObsEpoch.{ObsEpoch}
 use Rattle.grid_model.specs.Boxes.{grid_box}
 use Rattle.epoch_selection.specs.Searches.{search_in, searches_in, searches_left, IsTaken}
 use Rattle.epoch_selection.specs.Selections.{is_selected, selected, IsFirstSelected}
 use Rattle.epoch_selection.specs.declared.searches.Searches.{Searches}
 use Rattle.epoch_selection.specs.declared.selection.Selection.{Selection}
-use Rattle.grid_model.proofs.ListLemmas.{next_item, no_item, filter_yes, filter_no}
+use Rattle.grid_model.proofs.ListLemmas.{next_item, filter_yes}
 
 pub same_some : {X : Type 0} (o : Option X) (x y : X) → o ≡ Some x → o ≡ Some y → x ≡ y
 same_some o x y e f = cc
@@ -22,21 +21,6 @@ module _ (s : Selection) (epochs : List ObsEpoch) (i : ℕ) (epoch : ObsEpoch) (
     at = slice_get_read epochs (length epochs) i epoch refl within is;
     are = so_far ∙ ap (selected s) (next_item epochs i epoch within is) ∙ filter_yes (is_selected s) epoch (drop (i + 1) epochs) chosen;
   }
-
-  -- or is passed over too
-  pub passed_over : is_selected s epoch ≡ false
-      → selected s epochs ≡ selected s (drop (i + 1) epochs)
-  passed_over other = so_far ∙ ap (selected s) (next_item epochs i epoch within is) ∙ filter_no (is_selected s) epoch (drop (i + 1) epochs) other
-
-pub all_passed : (s : Selection) (epochs : List ObsEpoch) (i : ℕ)
-    → selected s epochs ≡ selected s (drop i epochs) → length epochs ≤ i → selected s epochs ≡ []
-all_passed s epochs i so_far ended = so_far ∙ ap (selected s) (no_item epochs i ended)
-
--- the epoch at the place of the first selected one
-pub first_at : (s : Selection) (epochs : List ObsEpoch) (i : ℕ) (epoch : ObsEpoch) (first : IsFirstSelected s epochs i)
-    → epoch ≡ get_or epochs i epoch → epoch ≡ first.epoch
-first_at s epochs i epoch first is =
-    same_some (slice_get epochs i) epoch first.epoch (slice_get_read epochs (length epochs) i epoch refl (slice_get_within epochs i first.epoch first.at) is) first.at
 
 -- the first search is that of the epoch that was taken
 pub taken_search : (old : Searches) (epoch : ObsEpoch) (new : Searches) → IsTaken old epoch new

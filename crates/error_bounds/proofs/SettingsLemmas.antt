@@ -1,17 +1,14 @@
 -- What is taken from settings.
-use Rattle.std.proofs.Common.{◌≡◌, ◌*◌, ◌^◌, ◌≤◌, ℤ, ◌+ℤ◌, ◌-ℤ◌, Option, Some, None, refl, arith}
+use Rattle.std.proofs.Common.{◌≡◌, ◌*◌, ◌^◌, ◌≤◌, ℤ, ◌+ℤ◌, ◌-ℤ◌, arith}
 use Rattle.std.proofs.lemmas.Int.{ints}
-use Rattle.std.proofs.lemmas.Option.{same_Some}
 use Rattle.grid_model.specs.Boxes.{GridBox, Side}
 use Rattle.grid_model.specs.Lengths.{side_length}
 use Rattle.grid_model.specs.SearchBoxes.{IsSearchSide, IsSearchBox}
 use Rattle.grid_model.specs.Sizes.{IsWithin}
 use Rattle.grid_model.specs.declared.boxes.Pos.{Pos}
 use Rattle.grid_model.proofs.AmountLemmas.{above_is}
-use Rattle.error_bounds.specs.Reading.{box_around, centre_with, IsKnown, IsEnough, IsRoot}
-use Rattle.error_bounds.specs.Sizes.{IsNearEarth, IsCentre, IsHalfSide, AreHalfSides}
-use Rattle.error_bounds.specs.declared.settings.Centre.{Centre}
-use Rattle.error_bounds.specs.declared.settings.Centre.TheVariants.{Header, At}
+use Rattle.error_bounds.specs.Reading.{box_around}
+use Rattle.error_bounds.specs.Sizes.{IsNearEarth, IsHalfSide, AreHalfSides}
 
 pub same_box : (a b c d e f a' b' c' d' e' f' : ℤ) → a ≡ a' → b ≡ b' → c ≡ c' → d ≡ d' → e ≡ e'
     → f ≡ f'
@@ -41,23 +38,3 @@ box_searched p half near sides = record {
   z = searched p.z half.z near.z sides.z;
   short = omega (arith, short p.x half.x sides.x, short p.y half.y sides.y, short p.z half.z sides.z);
 }
-
-known_searched : (p : Option Pos) (half : Pos) (root : GridBox)
-    → ((q : Pos) → p ≡ Some q → IsNearEarth q) → AreHalfSides half → IsRoot p half root
-    → IsSearchBox root
-known_searched None half root near sides is = absurd is
-known_searched (Some p) half root near sides is = rw is (box_searched p half (near p refl) sides)
-
-header_near : (header : Option Pos) → IsKnown header → (q : Pos) → header ≡ Some q → IsNearEarth q
-header_near None known q e = absurd known
-header_near (Some p) known q e = rw (← same_Some p q e) known
-
-centre_near : (header : Option Pos) (centre : Centre) → IsCentre centre → IsEnough centre header
-    → (q : Pos) → centre_with header centre ≡ Some q → IsNearEarth q
-centre_near header Header is enough q e = header_near header enough q e
-centre_near header (At p) is enough q e = rw (← same_Some p q e) (is.near p refl)
-
-pub root_is_search_box : (header : Option Pos) (centre : Centre) (half : Pos) (root : GridBox)
-    → IsCentre centre → AreHalfSides half → IsEnough centre header
-    → IsRoot (centre_with header centre) half root → IsSearchBox root
-root_is_search_box header centre half root near sides enough = known_searched (centre_with header centre) half root (centre_near header centre near enough) sides

@@ -25,9 +25,5 @@ pub record MeanMotionOf (system : System) (el : Elements) (n : ℤ) : Type 0 whe
   -- n = n0 + dn
   pub n_is : n ≡ pos n0 +ℤ dn
 
--- of a GPS satellite
-abbrev pub IsComputedMotion : ℤ → ℕ → Type 0
-IsComputedMotion root_a n0 = IsMotionOf Gps root_a n0
-
 abbrev pub MeanMotion : Elements → ℤ → Type 0
 MeanMotion el n = MeanMotionOf Gps el n

@@ -19,12 +19,6 @@ pub told_words : (s : Span) (lo hi : ℤ) → are_ends s lo hi ≡ false
     → sure_words s lo hi ≡ signed_decimal lo ∷ signed_decimal hi ∷ []
 told_words s lo hi other = rw other refl
 
-pub untold_words : (s : Span) (lo hi : ℤ) → are_ends s lo hi ≡ true → sure_words s lo hi ≡ []
-untold_words s lo hi same = rw same refl
-
-pub own_words : (s : Span) → sure_words s s.lo s.hi ≡ []
-own_words s = untold_words s s.lo s.hi ((ends_decide s s.lo s.hi).1 (refl, refl))
-
 -- ---- ends that are spelled alike
 
 pub record AreSameEnds (lo low hi high : ℤ) : Type 0 where

@@ -34,7 +34,7 @@ use Rattle.log_writer.proofs.BlockLemmas.{CanPave, SuitsBlock}
 use Rattle.log_writer.proofs.LogLemmas.{can_pave, block_passes, block_fits, block_small, numbered, same_pieces, same_lines, came_numbered, fits_numbered, passes_numbered, are_numbered, came_more, last_more, last_numbered, all_more, index_behind, index_more, pass_more}
 use Rattle.log_writer.proofs.RoomLemmas.{version_le, room_of}
 use Rattle.log_writer.proofs.TextLemmas.{pieces_text, pieces_report}
-use Rattle.log_writer.proofs.WritingLemmas.{log_bytes-append, sent_none, went_twice, ended_behind, ended_before, stopped}
+use Rattle.log_writer.proofs.WritingLemmas.{log_bytes-append, went_twice, ended_behind, ended_before, stopped}
 
 -- ---- logs of some blocks
 
@@ -66,20 +66,6 @@ longer_all : (limit : ℕ) (text more : List Piece) → IsLonger limit text more
 longer_all limit text [] longer = absurd longer
 longer_all limit text (next ∷ more) longer =
     omega (arith, longer, ap length (log_bytes-append text (next ∷ more)), length-append (log_bytes text) (log_bytes (next ∷ more)), length-append next.line (log_bytes more))
-
--- nothing was put yet
-pub nothing_put : (a : Seen) → a.log_waits ≡ [] → a.report_waits ≡ [] → Put a [] a
-nothing_put a lines reports = record {
-  gone = [];
-  waiting = [];
-  all = refl;
-  sent = sent_none a.at;
-  same_shelf = refl;
-  same_out = refl;
-  log_waits = lines;
-  report_waits = reports;
-  left = omega arith;
-}
 
 module _ {B : Type 0} (source : Source B) (rules : Rules) (first : B) where
   -- that of the log of the source
@@ -230,18 +216,6 @@ module _ {B : Type 0} (source : Source B) (rules : Rules) (first : B) where
       small = tt;
       at_most = omega (arith, u.left, length-append u.blocks []);
       ended = stopped a now (log_pieces (log_of its_version rules u.blocks)) [] u.went;
-    }
-
-    -- the source had no more
-    pub log_done : (a : Seen) (behind last : B) (hull : Option GridBox) (now : Seen)
-        → IsUnderway a behind hull now → source.gives behind hull None last
-        → LogWent source rules first last a now
-    log_done a behind last hull now u ended = record {
-      blocks = u.blocks;
-      behind = behind;
-      gave = u.gave;
-      went = u.went;
-      no_more = subst (λ (h : Option GridBox). source.gives behind h None last) u.kept ended;
     }
 
 module _ {B : Type 0} (source : Source B) (rules : Rules) (first last : B) (most : ℕ) where

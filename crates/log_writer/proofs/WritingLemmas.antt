@@ -1,5 +1,5 @@
 -- Pieces put one after another.
-use Rattle.std.proofs.Common.{◌≡◌, ℕ, ◌+◌, ◌≤◌, ◌<◌, List, [], ◌∷◌, ◌++◌, length, add-one, Result, Ok, Err, refl, sym, ap, subst, ◌∙◌, append_assoc, append-nil, arith, length-append}
+use Rattle.std.proofs.Common.{◌≡◌, ℕ, ◌+◌, ◌≤◌, List, [], ◌∷◌, ◌++◌, length, add-one, Result, Ok, Err, refl, sym, ap, subst, ◌∙◌, append_assoc, append-nil, arith, length-append}
 use Rattle.std.specs.Prelude.{OnOk}
 use Rattle.std.specs.Option.{option_map}
 use Rattle.std.proofs.lemmas.List.Concat.{flat_map-append}
@@ -99,15 +99,6 @@ stopped a b xs ys g = λ start earlier put. record {
 }
 
 -- ---- one piece
-
--- its line is longer than the room
-pub piece_full : (a : Seen) (p : Piece) → a.left < length p.line → Ended a (p ∷ []) why.Full a
-piece_full a p longer = λ start earlier put. record {
-  text = earlier;
-  more = p ∷ [];
-  all = refl;
-  stops = (put, omega (arith, put.left, longer));
-}
 
 -- a device failed while the pieces before were on their way
 pub piece_lost : (a c : Seen) (p : Piece) (fault : WriteFault)

@@ -1,7 +1,7 @@
 -- The made records, one behind another, and the elements of what they read as.
-use Rattle.std.proofs.Common.{◌≡◌, ℕ, zero, suc, ◌+◌, ◌-◌, ◌<◌, List, [], ◌∷◌, ◌++◌, length, map, drop, get_or, refl, sym, ap, subst, ◌∙◌, append_assoc, arith, length-append, Option, Some}
+use Rattle.std.proofs.Common.{◌≡◌, ℕ, zero, suc, ◌+◌, ◌-◌, ◌<◌, List, [], ◌∷◌, ◌++◌, length, map, drop, get_or, sym, ap, subst, ◌∙◌, append_assoc, arith, length-append, Option, Some}
 use Rattle.std.specs.Prelude.{slice_get, unwrap_or, is_some}
-use Rattle.std.proofs.lemmas.List.{append-nil, map-append, length-map}
+use Rattle.std.proofs.lemmas.List.{map-append, length-map}
 use Rattle.rinex_nav.specs.Reading.{plain_record, records_of}
 use Rattle.rinex_nav.specs.Records.{Broadcast}
 use Rattle.rinex_nav.specs.declared.record.NavRecord.{NavRecord}
@@ -16,9 +16,6 @@ pub record AreMade (records : List Ephemeris) (seed k : ℕ) : Type 0 where
   pub named : AreNamed records
   pub written : AllWellWritten records
   pub whole : map broadcast_of records ++ made_from seed k (9 - k) ≡ made_records seed
-
-pub made_none : (seed : ℕ) → AreMade [] seed 1
-made_none seed = record { count = refl; named = tt; written = tt; whole = refl }
 
 named_push : (records : List Ephemeris) (e : Ephemeris) → AreNamed records → IsNamed e
     → AreNamed (records ++ e ∷ [])
@@ -50,11 +47,6 @@ made_next records next seed k e within made is named written reads = rw is (reco
       ∙ (append_assoc (map broadcast_of records) (broadcast_of e ∷ []) later
       ∙ (ap (λ (b : Broadcast). map broadcast_of records ++ b ∷ later) reads ∙ (ap (λ (l : List Broadcast). map broadcast_of records ++ l) (sym (first_made seed k within)) ∙ made.whole)));
 })
-
-pub made_end : (records : List Ephemeris) (seed k : ℕ) → k ≡ 9 → AreMade records seed k
-    → map broadcast_of records ≡ made_records seed
-made_end records seed k e made =
-    sym (append-nil (map broadcast_of records)) ∙ (ap (λ (n : ℕ). map broadcast_of records ++ made_from seed n (9 - n)) (sym e) ∙ made.whole)
 
 -- ---- what they read as
 

@@ -86,9 +86,6 @@ all_fields a b c d =
 
 -- ---- counts and the clock time
 
-no_blanks : (d : ℕ) → (k : ℕ) → k < 0 → is_blank d ≡ true
-no_blanks d k l = absurd (omega arith)
-
 pub counts : (digits : List ℕ) (n : ℕ) → AreDigits digits → 0 < length digits
     → n ≡ digits_value 10 digits → IsCount digits n
 counts digits n all some value = record {

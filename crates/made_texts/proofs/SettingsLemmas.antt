@@ -1,10 +1,9 @@
 -- A text that reads as the made table has the made settings.
-use Rattle.std.proofs.Common.{◌≡◌, ℕ, true, List, [], ◌∷◌, ◌++◌, length, take, get_or, ◌+◌, ◌<◌, refl, sym, ap, ◌∙◌, arith, None, Some, Ok}
+use Rattle.std.proofs.Common.{◌≡◌, ℕ, true, List, [], ◌∷◌, refl, sym, ap, ◌∙◌, arith, None, Some, Ok}
 use Rattle.std.specs.Prelude.{ℤ, pos, neg_ℤ, IsUtf8}
 use Rattle.std.proofs.lemmas.Int.{ints}
-use Rattle.std.proofs.lemmas.List.{take_more}
 use Rattle.grid_model.specs.Sizes.{IsWithin}
-use Rattle.toml.specs.Data.{no_members, item, integer, push_item}
+use Rattle.toml.specs.Data.{no_members}
 use Rattle.toml.specs.Parse.{parse_document}
 use Rattle.error_bounds.specs.Forms.{is_coordinate, um}
 use Rattle.error_bounds.specs.Keys as key
@@ -15,10 +14,10 @@ use Rattle.std.proofs.Common.{String, Global, Ordering, Less, Equal, Greater, st
 use Rattle.std.specs.BTreeMap.{insert_entry}
 use Rattle.std.specs.String.{string_cmp}
 use Rattle.std.specs.Ordering.{match_ordering}
-use Rattle.toml.specs.View.{view, members_view, items_view}
-use Rattle.toml.specs.declared.value.Value.{Value, Integer as IntegerCase}
-use Rattle.toml.proofs.Views.{Entry, items_view-push, view-Integer}
-use Rattle.made_texts.specs.SettingsText.{integers, put_member, settings_table, settings_of, AreNear}
+use Rattle.toml.specs.View.{view, members_view}
+use Rattle.toml.specs.declared.value.Value.{Value}
+use Rattle.toml.proofs.Views.{Entry}
+use Rattle.made_texts.specs.SettingsText.{put_member, settings_table, settings_of, AreNear}
 use Rattle.error_bounds.proofs.KeyLemmas.{empty_tests as none_of, empty_extra as no_extra}
 
 coordinate : (x : ℤ) → IsWithin 8500000000 x → is_coordinate x ≡ true
@@ -83,17 +82,3 @@ put_view k v [] = refl
 put_view k v (e ∷ es) =
     members_by (string_cmp k e.0) ((k, v) ∷ e ∷ es) ((e.0, v) ∷ es) (e ∷ insert_entry string_cmp es k v)
     ∙ (rw (put_view k v es) refl)
-
--- ---- lists
-
-integers_push : (zs : List ℤ) (z : ℤ)
-    → integers (zs ++ z ∷ []) ≡ push_item (integers zs) (integer z)
-integers_push [] z = refl
-integers_push (y ∷ zs) z = ap (item (integer y)) (integers_push zs z)
-
-pub list_more : (vs : List Value) (zs : List ℤ) (i : ℕ) (z : ℤ) → i < length zs
-    → items_view vs ≡ integers (take i zs)
-    → items_view (vs ++ IntegerCase (get_or zs i z) ∷ []) ≡ integers (take (i + 1) zs)
-list_more vs zs i z within e =
-    items_view-push vs (IntegerCase (get_or zs i z))
-    ∙ (rw (e, view-Integer (get_or zs i z)) (sym (integers_push (take i zs) (get_or zs i z)) ∙ ap integers (sym (take_more zs i z within))))

@@ -1,14 +1,12 @@
 -- What a hull holds, and where it lies.
-use Rattle.std.proofs.Common.{◌≡◌, ℕ, zero, suc, arith, Bool, true, false, List, [], ◌∷◌, inl, inr, refl, Option, None, Some}
+use Rattle.std.proofs.Common.{◌≡◌, zero, suc, arith, Bool, true, false, List, [], ◌∷◌, inl, inr, refl, Option, None, Some}
 use Rattle.std.specs.Prelude.{ℤ}
 use Rattle.std.specs.List.{AllByRecursion}
 use Rattle.std.proofs.lemmas.Int.{ints, clamps}
-use Rattle.range_contractor.proofs.BoxLemmas.{along, holds_all}
-use Rattle.grid_model.specs.Boxes.{Side, GridBox, grid_box, box_holds, side_at, IsIn}
+use Rattle.grid_model.specs.Boxes.{Side, GridBox, box_holds}
 use Rattle.sat_model.specs.Contractors.{SideLiesIn, LiesIn}
 use Rattle.sat_model.specs.Cover.{SomeKeeps, is_kept}
 use Rattle.sat_model.specs.Fold.{ShownStep}
-use Rattle.grid_model.specs.declared.boxes.Box3.{Box3}
 use Rattle.grid_model.specs.declared.boxes.Pos.{Pos}
 use Rattle.paving_log.specs.CoverBoxes.{kept_parts}
 use Rattle.grid_model.specs.Hulls.{joined_side, joined_box}
@@ -80,18 +78,3 @@ pub hull_lies : (hull : Option GridBox) (parts : List GridBox) (box : GridBox) �
     → HullLies (hull_behind hull parts) box
 hull_lies hull [] box h all = h
 hull_lies hull (part ∷ more) box h all = hull_lies (hull_with hull part) more box (lies_with hull part box h all.0) all.1
-
--- ---- a box of the grid has points in its corners
-
-low_corner : (b : Box3) (axis : ℕ) → IsIn (side_at axis (grid_box b)) (along axis b.lo)
-low_corner b zero = (omega (arith, ints), b.x_ordered)
-low_corner b (suc zero) = (omega (arith, ints), b.y_ordered)
-low_corner b (suc (suc n)) = (omega (arith, ints), b.z_ordered)
-
-high_corner : (b : Box3) (axis : ℕ) → IsIn (side_at axis (grid_box b)) (along axis b.hi)
-high_corner b zero = (b.x_ordered, omega (arith, ints))
-high_corner b (suc zero) = (b.y_ordered, omega (arith, ints))
-high_corner b (suc (suc n)) = (b.z_ordered, omega (arith, ints))
-
-pub holds_high : (b : Box3) → box_holds (grid_box b) b.hi ≡ true
-holds_high b = holds_all (grid_box b) b.hi (high_corner b)

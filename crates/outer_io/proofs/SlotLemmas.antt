@@ -20,13 +20,6 @@ put-put s Obs x y = refl
 put-put s Rows x y = refl
 put-put s Log x y = refl
 
-pub put-at : {X : Type 0} (s : Slots X) (slot : Slot) → put s slot (at s slot) ≡ s
-put-at s Settings = refl
-put-at s Nav = refl
-put-at s Obs = refl
-put-at s Rows = refl
-put-at s Log = refl
-
 pub each-at : {X Y : Type 0} (f : X → Y) (s : Slots X) (slot : Slot)
     → at (each f s) slot ≡ f (at s slot)
 each-at f s Settings = refl

@@ -14,14 +14,13 @@ use Rattle.sat_model.specs.Events.{Event, Renewed, rows_over}
 use Rattle.log_lines.specs.declared.line.Corners.{Corners}
 use Rattle.log_lines.specs.declared.line.Form.{Form}
 use Rattle.log_lines.specs.declared.line.Form.TheVariants as form
-use Rattle.log_lines.specs.declared.line.Kind.{Kind}
 use Rattle.log_lines.specs.declared.line.LogLine.{LogLine}
 use Rattle.log_lines.specs.declared.line.LogLine.TheVariants as line
 use Rattle.log_lines.specs.declared.line.Place.{Place}
 use Rattle.log_lines.specs.declared.line.Place.TheVariants as place
 use Rattle.paving_log.specs.declared.lines.Lines.{Lines}
 use Rattle.paving_log.specs.declared.lines.Opening.{Opening}
-use Rattle.log_lines.specs.Order.{only_if, has_version, form_of, next, place_behind_root}
+use Rattle.log_lines.specs.Order.{only_if, next, place_behind_root}
 use Rattle.log_lines.specs.Rows.{corners_of}
 use Rattle.log_lines.specs.Text.{first_line, row_line, event_lines, IsSkipped, EventFits}
 use Rattle.paving_log.specs.Taking.{Takes, TakesWith, TakesTo, block_place}
@@ -46,16 +45,6 @@ pub behind_renew : (renews : Bool) (n : ℕ) (c : Corners) (to : Place)
     → (renews ≡ true) × (to ≡ place.Steps renews n n)
 behind_renew true n c to e = (refl, only_place true (place.Steps true n n) to e)
 behind_renew false n c to e = cc
-
-pub record IsVersion (k : Kind) (l : LogLine) (to : Place) : Type 0 where
-  pub version : ℕ
-  pub line : l ≡ line.Version version
-  pub place : to ≡ place.Second (form_of k version)
-
-pub behind_first : (k : Kind) (l : LogLine) (to : Place) → next (place.First k) l ≡ Some to
-    → IsVersion k l to
-behind_first k (line.Version version) to e = record { version = version; line = refl; place = only_place (has_version k version) (place.Second (form_of k version)) to e }
-behind_first k _ to e = cc
 
 -- one line more, below 64
 pub record IsOneMore (k : ℕ) (after to : Place) : Type 0 where

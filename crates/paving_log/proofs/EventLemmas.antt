@@ -1,5 +1,5 @@
 -- Events of steps and renewals: one more of them, and their lines.
-use Rattle.std.proofs.Common.{◌≡◌, ℕ, zero, suc, ◌+◌, ◌-◌, ◌≤◌, Bool, false, List, [], ◌∷◌, ◌++◌, length, take, drop, map, refl, sym, ap, subst, ◌∙◌, append_assoc, arith}
+use Rattle.std.proofs.Common.{◌≡◌, ℕ, zero, suc, ◌+◌, ◌-◌, ◌≤◌, Bool, false, List, [], ◌∷◌, ◌++◌, length, take, drop, refl, sym, ap, subst, ◌∙◌, append_assoc, arith}
 use Rattle.std.specs.List.{flat_map, AllByRecursion}
 use Rattle.std.proofs.lemmas.List.{length-append, length-map, length-drop, take-append-drop, take-append-le, drop-append-le}
 use Rattle.sat_model.specs.declared.steps.Step.{Step}
@@ -123,9 +123,3 @@ pub none_renewed : (n : ℕ) (events : List Event) → AllByRecursion (EventFits
 none_renewed n [] fit = refl
 none_renewed n (Made step ∷ events) fit = none_renewed n events fit.1
 none_renewed n (Renewed new ∷ events) fit = let no = fit.0.0 in cc
-
--- their lines are those of the steps
-pub lines_of_steps : (steps : List Step)
-    → flat_map event_lines (made_all steps) ≡ map line.Step steps
-lines_of_steps [] = refl
-lines_of_steps (step ∷ steps) = ap (λ (ls : List LogLine). line.Step step ∷ ls) (lines_of_steps steps)

@@ -9,7 +9,6 @@ use Rattle.sat_model.specs.Renewals.{LineTests, LinesFail, RenewalFails}
 use Rattle.sat_model.specs.declared.rows.Row.{Row}
 use Rattle.sat_model.specs.Fold.{Subpaving}
 use Rattle.sat_model.specs.Verdicts.{EventsFail, BlockPasses, BlockFails, BlocksPass, BlocksFail, Judged, FirstFault}
-use Rattle.paving_log.specs.RowsText.{OwnFails}
 use Rattle.paving_log.proofs.OwnLemmas.{IsBlockAt}
 
 -- ---- a failing line is one of the block's
@@ -34,12 +33,6 @@ module _ {F : Type 0} (tests : LineTests F) (first : RowsOver) where
   events_within rules done j stage (Renewed new ∷ events) k fault (inl f) = omega (arith, renewal_within j stage.boxes new k fault f)
   events_within rules done j stage (Renewed new ∷ events) k fault (inr (l, is, passes, f)) =
       omega (arith, is, events_within rules done (suc j) (after stage (Renewed new)) events l fault f)
-
--- a line of the block's own that fails
-pub own_within : (rules : Rules) (before : Option ℕ) (block : Block) (line number : ℕ)
-    → OwnFails rules before block line number → line < block.line + lines_in block
-own_within rules before block line number (inl head) = omega (arith, head.1)
-own_within rules before block line number (inr (head, (k, first, is_line), n)) = omega (arith, first.repeats.is_line)
 
 -- ---- the log, from a block on
 

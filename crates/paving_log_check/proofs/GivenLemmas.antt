@@ -9,7 +9,7 @@ use Rattle.sat_model.specs.Fold.{Subpaving}
 use Rattle.sat_model.specs.Logs.{Body, Block, rows_of}
 use Rattle.sat_model.specs.Renewals.{LineFact, AnyLine, LinesPass, RenewalPasses, no_tests, LineFails, LinesFail, RenewalFails}
 use Rattle.sat_model.specs.Stages.{Stage, after}
-use Rattle.sat_model.specs.Verdicts.{EventsPass, EventsFail, BodyPasses, BodyFailsBy, BlockPasses, BlockFails}
+use Rattle.sat_model.specs.Verdicts.{EventsPass, EventsFail, BodyPasses, BodyFailsBy}
 use Rattle.sat_model.specs.declared.rows.Row.{Row}
 use Rattle.sat_model.specs.declared.rules.Rules.{Rules}
 use Rattle.paving_log.specs.RowsText.{OwnPasses}
@@ -104,10 +104,3 @@ module _ (delays : Delays) (rules : Rules) (block : Block) (body : Body) where
 
 -- a block whose own lines pass is decided by its body
 module _ (rules : Rules) (before : Option ℕ) (block : Block) (body : Body) (own : OwnPasses rules before block) (is : block.body ≡ Some body) where
-  pub block_told : (result : Result (Option Fault) NoMemory)
-      → IfOk result (λ found. MatchOption found (BodyPasses rules block (Some body))
-      (λ fault. (k : ℕ) × BodyFailsBy no_tests rules block body k fault.number × ShowsNoSpans fault × (fault.line ≡ block.line + 2 + length block.sats + k)))
-      → IfOk result (λ found. MatchOption found (BlockPasses rules before block) (λ fault. BlockFails rules before block fault.line fault.number × ShowsNoSpans fault))
-  block_told (Ok None) h = record { head = own.head; sats = own.sats; body = rw is h }
-  block_told (Ok (Some fault)) (k, fails, plain, at) = (inr (inr (own.head, own.sats, (body, k, is, fails, at))), plain)
-  block_told (Err e) h = tt

@@ -3,7 +3,7 @@ use Rattle.std.proofs.Common.{◌≡◌, ℕ, ◌+◌, ◌<◌, ◌≤◌, arith
 use Rattle.std.specs.Prelude.{IsTrue, ◌↔◌, MatchOption, is_some}
 use Rattle.std.proofs.Math.ListN.{get_or-map}
 use Rattle.std.proofs.lemmas.List.{length-map}
-use Rattle.epoch_selection.specs.Searches.{searches_left, IsTaken}
+use Rattle.epoch_selection.specs.Searches.{searches_left}
 use Rattle.epoch_selection.specs.declared.searches.Searches.{Searches}
 use Rattle.epoch_selection.proofs.SelectionLemmas.{taken_search}
 use Rattle.rinex_obs.specs.declared.obs.ObsEpoch.{ObsEpoch}
@@ -11,7 +11,7 @@ use Rattle.sat_model.specs.Logs.{Block}
 use Rattle.sat_model.specs.declared.rules.Rules.{Rules}
 use Rattle.paving_log.specs.Values.{block_of}
 use Rattle.paving_log.specs.declared.log.LogEpoch.{LogEpoch}
-use Rattle.paving_log_check.specs.Admissible.{IsOf, IsDue}
+use Rattle.paving_log_check.specs.Admissible.{IsDue}
 use Rattle.paving_log_check.specs.Taken.{IsTakenBy}
 use Rattle.grid_model.proofs.ListLemmas.{next_item, no_item}
 
@@ -27,13 +27,6 @@ pub blocks_ended : (blocks : List LogEpoch) (k : ℕ) → length blocks ≤ k
 blocks_ended blocks k ended = no_item (map block_of blocks) k (omega (arith, length-map blocks block_of))
 
 -- ---- the next search
-
--- it isn't the block's
-pub not_due : (rules : Rules) (before : Option ℕ) (old : Searches) (seen : ObsEpoch) (new : Searches) (block : Block)
-    → IsTaken old seen new
-    → (IsOf rules before seen block → ⊥) → (more : List Block)
-    → IsDue rules before (searches_left old) (block ∷ more) → ⊥
-not_due rules before old seen new block taken other more due = other (rw (taken_search old seen new taken) at due)
 
 -- a block is left: it is due where its search was taken
 pub due_block : {X : Type 0} (value : X → ObsEpoch) (rules : Rules) (before : Option ℕ) (old new : Searches) (block : Block) (left more : List Block) (found : Option X)

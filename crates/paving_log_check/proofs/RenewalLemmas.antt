@@ -108,12 +108,6 @@ module _ (delays : Delays) (root part : GridBox) (firsts : List Row) (bases : Li
 
   -- ---- one line
 
-  -- what is formed for a line: none where there is no base, and else a row
-  formed_none : (i : ℕ) (ours : Option Row) → slice_get bases i ≡ None
-      → IsFormedBy delays part (slice_get bases i) ours → ours ≡ None
-  formed_none i None none f = refl
-  formed_none i (Some ours) none f = absurd (rw none at f)
-
   record IsFormedRow (i : ℕ) (base : Base) (row : Row) (ours : Option Row) : Type 0 where
     pub one : Row
     pub is_one : ours ≡ Some one

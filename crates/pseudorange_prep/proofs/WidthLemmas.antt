@@ -106,10 +106,6 @@ code_ends y a b c d l h f g o p e i q =
     let high : IsWithin (combined_amount y) h = rw i (code_amount y b c (omega (arith, ints, o, f.from)) f.to g.from (omega (arith, ints, p, g.to))) in
     amount_ends (combined_amount y) l h q low high
 
-pub code_order : (y : System) (a b c d : ℤ) → a ≤ℤ b → c ≤ℤ d
-    → ((pos (first_square y) *ℤ a) -ℤ (pos (second_square y) *ℤ d)) ≤ℤ ((pos (first_square y) *ℤ b) -ℤ (pos (second_square y) *ℤ c))
-code_order y a b c d o p = omega (arith, ints, times_mono (first_square y) a b o, times_mono (second_square y) c d p)
-
 narrow_codes : (y : System) (a b c d l h : ℤ) → IsNarrow 1 a b → IsNarrow 1 c d
     → l ≡ (pos (first_square y) *ℤ a) -ℤ (pos (second_square y) *ℤ d)
     → h ≡ (pos (first_square y) *ℤ b) -ℤ (pos (second_square y) *ℤ c)

@@ -4,7 +4,7 @@ use Rattle.std.specs.Prelude.{ℤ, ◌≤ℤ◌}
 use Rattle.std.proofs.lemmas.Int.{ints}
 use Rattle.std.proofs.lemmas.List.Sums.{sum_by-append}
 use Rattle.sat_model.proofs.FittingLemmas.{count_here, holds_from}
-use Rattle.std.proofs.lemmas.List.{take_more, at_drop_more, at_drop_all, map-append, length-map}
+use Rattle.std.proofs.lemmas.List.{take_more, at_drop_more, map-append, length-map}
 use Rattle.grid_model.specs.Boxes.{Side, GridBox, side_at, IsIn}
 use Rattle.sat_model.specs.Relaxed.{holds, IsRelaxedHull}
 use Rattle.sat_model.specs.Trees.{TreeValue, TreeList, no_trees, tree, HasSoundNodes, HaveSoundNodes, count_trees, trees_of}
@@ -19,9 +19,6 @@ module _ {X : Type 0} (view : X → TreeValue) (xs : List X) where
   pub kids_from : (i : ℕ) (x : X) → i < length xs → x ≡ get_or xs i x
       → trees_of (map view (drop i xs)) ≡ tree (view x) (trees_of (map view (drop (i + 1) xs)))
   kids_from i x h e = at_drop_more (λ (ys : List X). trees_of (map view ys)) xs i x h ∙ ap (λ (y : X). tree (view y) (trees_of (map view (drop (i + 1) xs)))) (sym e)
-
-  pub no_kids_from : (i : ℕ) → length xs ≤ i → trees_of (map view (drop i xs)) ≡ no_trees
-  no_kids_from i h = at_drop_all (λ (ys : List X). trees_of (map view ys)) xs i h
 
   pub count_kids : count_trees (trees_of (map view xs)) ≡ length xs
   count_kids = count_of (map view xs) ∙ length-map xs view
@@ -161,11 +158,6 @@ module _ {X : Type 0} (view : X → TreeValue) (xs : List X) (grain slack : ℤ)
       → InTurn (trees_of (map view xs)) grain slack clock part None
   turn_none i x current h e ran on =
       on None (subst (λ (ts : TreeList). InTurn ts grain slack clock current None) (sym (kids_from view xs i x h e)) (None, ran, refl))
-
-  pub turn_done : (i : ℕ) (current : GridBox) → length xs ≤ i → TurnGoesOn i current
-      → InTurn (trees_of (map view xs)) grain slack clock part (Some current)
-  turn_done i current h on =
-      on (Some current) (subst (λ (ts : TreeList). InTurn ts grain slack clock current (Some current)) (sym (no_kids_from view xs i h)) refl)
 
 pub sound_from : {X : Type 0} (view : X → TreeValue) (xs : List X) (i : ℕ) (x : X) → i < length xs
     → x ≡ get_or xs i x → HaveSoundNodes (trees_of (map view (drop i xs)))

@@ -1,21 +1,15 @@
--- The tree of rows has a proposal for each box and each clock span.
-use Rattle.std.proofs.Common.{ℕ, ◌<◌, arith, List, [], ◌∷◌, length, Option, refl}
-use Rattle.std.specs.Prelude.{ℤ, pos, ◌*ℤ◌, ◌≤ℤ◌}
+-- Each leaf of the tree of rows has its ends in whole grains.
+use Rattle.std.proofs.Common.{arith, List, [], ◌∷◌}
+use Rattle.std.specs.Prelude.{ℤ, pos, ◌≤ℤ◌}
 use Rattle.std.proofs.lemmas.Int.{ints}
-use Rattle.grid_model.specs.declared.boxes.Box3.{Box3}
 use Rattle.sat_model.specs.declared.rows.Row.{Row}
 use Rattle.grid_model.specs.declared.spans.Span.{Span}
-use Rattle.grid_model.specs.Boxes.{Side, GridBox, grid_box}
-use Rattle.sat_model.specs.RowTrees.{rounded_side, row_leaf, row_tree}
-use Rattle.sat_model.specs.Proposals.{IsProposal}
+use Rattle.sat_model.specs.RowTrees.{rounded_side, row_leaf}
 use Rattle.range_contractor.specs.Squares.{AreWhole}
-use Rattle.range_contractor.proofs.BoxLemmas.{box_lies}
-use Rattle.range_contractor.proofs.FaceLemmas.{proposal}
 use Rattle.range_contractor.proofs.LeafExists.{floor_whole, ceil_whole}
-use Rattle.range_contractor.proofs.LeafLemmas.{box_sizes}
 use Rattle.range_contractor.proofs.AmountLemmas.{floor_near, ceil_near}
-use Rattle.range_contractor.proofs.RowLemmas.{row_sized, kids_of, count_rows}
-use Rattle.range_contractor.proofs.TreeExists.{IsGrainLeaf, AreGrainTrees, tied_exists}
+use Rattle.range_contractor.proofs.RowLemmas.{row_sized, kids_of}
+use Rattle.range_contractor.proofs.TreeExists.{IsGrainLeaf, AreGrainTrees}
 
 rounded_whole : (g : ℤ) (s : Span) → AreWhole g (rounded_side g s)
 rounded_whole g s = record { low = floor_whole g s.lo; high = ceil_whole g s.hi }
@@ -36,10 +30,3 @@ pub rows_grain : (g : ℤ) (rows : List Row) → pos 1 ≤ℤ g → g ≤ℤ pos
     → AreGrainTrees g (kids_of g rows)
 rows_grain g [] h k = tt
 rows_grain g (row ∷ rows) h k = (row_grain g row h k, rows_grain g rows h k)
-
-pub proposal_exists : (g : ℤ) (rows : List Row) (q : ℕ) (part : Box3) (clock : Side) → pos 1 ≤ℤ g
-    → g ≤ℤ pos 1048576 → q < length rows
-    → (answer : Option GridBox) × IsProposal g (pos 16 *ℤ g) (row_tree g rows q) clock (grid_box part) answer
-proposal_exists g rows q part clock h k few =
-    let (answer, tied) = tied_exists (row_tree g rows q) g (pos 16 *ℤ g) clock (grid_box part) h k refl (omega (arith, count_rows g rows), rows_grain g rows h k) (record { lies = box_lies part; sizes = box_sizes part }) in
-    (answer, proposal (row_tree g rows q) g (pos 16 *ℤ g) clock (grid_box part) answer (box_lies part) tied)

@@ -2,12 +2,12 @@
 use Rattle.std.proofs.Common.{◌≡◌, ℕ, ◌*◌, ◌^◌, ◌≤◌, arith, ap}
 use Rattle.std.specs.Prelude.{ℤ, pos, ◌+ℤ◌, ◌*ℤ◌, ◌<ℤ◌}
 use Rattle.std.proofs.lemmas.Int.{ints}
-use Rattle.exact_decimal.specs.Units.{numerator, denominator, LiesBetween}
+use Rattle.exact_decimal.specs.Units.{numerator, denominator}
 use Rattle.exact_decimal.specs.declared.decimal.Decimal.{Decimal}
 use Rattle.exact_decimal.specs.declared.unit.Unit.TheVariants.{Length}
 use Rattle.exact_decimal.proofs.Limits.{some_parts}
 use Rattle.grid_model.specs.Rounding.{IsFloor, IsCeiling}
-use Rattle.grid_model.proofs.ProductLemmas.{mul_mono, mul_lt_back, add_mul}
+use Rattle.grid_model.proofs.ProductLemmas.{mul_lt_back, add_mul}
 use Rattle.rinex_nav.specs.Sources.{IsWhole}
 
 floor_exact : (n d q w : ℤ) → pos 0 <ℤ d → n ≡ w *ℤ d → IsFloor n d q → q ≡ w
@@ -23,21 +23,6 @@ ceiling_exact n d q w p e f =
     omega (arith, ints, a, b)
 
 module _ (number : Decimal) where
-  den : ℤ
-  den = pos (denominator number.ten Length)
-
-  num : ℤ
-  num = numerator number.digits number.ten Length
-
-  -- a whole number lies where it is looked for
-  pub whole_lies : (v : ℕ) → IsWhole number v
-      → LiesBetween number.digits number.ten Length (pos 0) (pos 1023000000)
-  whole_lies v w =
-      let some = some_parts number.ten Length in
-      let from = mul_mono (pos 0) (pos (v * 10 ^ 6)) (pos (denominator number.ten Length)) (omega (arith, ints)) (omega (arith, ints)) in
-      let to = mul_mono (pos (v * 10 ^ 6)) (pos 1023000000) (pos (denominator number.ten Length)) (omega (arith, ints, w.at_most)) (omega (arith, ints)) in
-      record { from = omega (arith, ints, from, w.is); to = omega (arith, ints, to, w.is) }
-
   -- and both are it, in 10^-6
   pub whole_floor : (v : ℕ) (lo : ℤ) → IsWhole number v
       → IsFloor (numerator number.digits number.ten Length) (pos (denominator number.ten Length)) lo

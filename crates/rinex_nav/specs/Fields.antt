@@ -28,10 +28,6 @@ Three = Decimal × Decimal × Decimal
 abbrev pub Four : Type 0
 Four = Decimal × Decimal × Decimal × Decimal
 
--- the first field of a line, its second and third, its last three, or all four
-abbrev pub FirstField : List ℕ → Decimal → Type 0
-FirstField text number = FieldAt text 5 number
-
 abbrev pub MiddleFields : List ℕ → Two → Type 0
 MiddleFields text numbers = FieldAt text 24 numbers.0 × FieldAt text 43 numbers.1
 

@@ -64,10 +64,6 @@ module _ (wanted : Wanted) (epochs : List Observed) (count n number : ℕ) (line
         let ends : m ≡ n + 1 + behind = omega arith in
         rw l (inl (head, (rw e at is), inl (block, (rw (e, next) at from), rw same (skipped behind (n + 1) wanted (epochs ++ block.epochs) more answer enough (rw (ends, there) at h)))))
 
-pub all_read : (wanted : Wanted) (epochs : List Observed) (n : ℕ) (lines : List TextLine)
-    → lines ≡ [] → epochs_from wanted epochs n 0 lines (Ok epochs)
-all_read wanted epochs n lines e = rw e refl
-
 map_more : (epochs : List ObsEpoch) (epoch : ObsEpoch)
     → plain_epochs (epochs ++ epoch ∷ []) ≡ plain_epochs epochs ++ plain_epoch epoch ∷ []
 map_more [] epoch = refl

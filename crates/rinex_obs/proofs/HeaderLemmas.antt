@@ -1,6 +1,5 @@
 -- The lines of a header, one behind another.
-use Rattle.std.proofs.Common.{◌≡◌, ℕ, ◌+◌, Bool, List, ◌∷◌, refl, subst, inl, inr, Option, None, Some, Result, Ok, Err}
-use Rattle.std.proofs.lemmas.Option.{same_Some}
+use Rattle.std.proofs.Common.{◌≡◌, ℕ, ◌+◌, Bool, List, ◌∷◌, refl, inl, inr, Option, None, Some, Result, Ok, Err}
 use Rattle.rinex_text.specs.Faults.{refusal}
 use Rattle.rinex_text.specs.Headers.{IsShort, IsHeaderEnd}
 use Rattle.rinex_text.specs.Lines.{TextLine}
@@ -10,7 +9,7 @@ use Rattle.gnss_model.specs.declared.satellites.Signal.{Signal}
 use Rattle.rinex_obs.specs.declared.sought.Sought.{Sought}
 use Rattle.rinex_obs.specs.Types.{Types}
 use Rattle.rinex_obs.specs.Header.{Header, header_line, are_both, header_end, Start, header_lines}
-use Rattle.rinex_obs.specs.Reading.{IsFound, MayBeFound, AreFoundOf}
+use Rattle.rinex_obs.specs.Reading.{MayBeFound, AreFoundOf}
 use Rattle.rinex_obs.specs.declared.found.Found.{Found}
 
 module _ (sought : Sought) (position : Bool) (known : Header) (n : ℕ) (lines more : List TextLine) (line : TextLine) (e : lines ≡ line ∷ more) where
@@ -31,14 +30,6 @@ module _ (sought : Sought) (position : Bool) (known : Header) (n : ℕ) (lines m
   end_fault f short end is = rw e (inl (short, inl (end, inr (f, is, refl))))
 
 -- ---- what its end gives
-
-pub types_of : (signal : Signal) (types : Option Types) (kept : Option Found) (found : Found)
-    → kept ≡ Some found → MayBeFound signal types kept
-    → (t : Types) × (types ≡ Some t) × IsFound signal t found
-types_of signal None None found e m = absurd cc
-types_of signal None (Some kept) found e m = absurd m
-types_of signal (Some types) None found e m = absurd m
-types_of signal (Some types) (Some kept) found e m = (types, refl, subst (IsFound signal types) (same_Some kept found e) m)
 
 -- as for a system whose codes are wanted, where those of Galileo may not be
 pub as_found : (signal : Signal) (galileo : Option Signal) (types : Option Types) (found : Option Found)

@@ -22,15 +22,7 @@ same_both None = refl
 same_both (Some places) = refl
 
 module _ (wanted : Wanted) (sats : List SatObs) (line : TextLine) (letter : ℕ) (same : letter ≡ column_of line.text 1) (short : IsShort line) where
-  pub passed_over : IsOtherSystem (have_both wanted) letter
-      → satellite_line wanted sats line (Ok sats)
-  passed_over other = inl (short, inl ((rw same at other), refl))
-
   module _ (read : IsOtherSystem (have_both wanted) letter → ⊥) where
-    pub not_ascii : (list_all is_printable line.text ≡ true → ⊥)
-        → satellite_line wanted sats line (Err fault.NotAscii)
-    not_ascii other = inl (short, inr ((rw same at read), inr (other, refl)))
-
     module _ (ascii : list_all is_printable line.text ≡ true) where
       pub no_system : ((places : CodePlaces) → ArePlacesOf wanted letter places → ⊥)
           → satellite_line wanted sats line (Err fault.BadSatellite)

@@ -35,9 +35,6 @@ pub record IsSatOf (both : Bool) (seen : SatObs) : Type 0 where
 abbrev pub AreSatsOf : Bool → List SatObs → Type 0
 AreSatsOf both sats = AllByRecursion (IsSatOf both) sats
 
-abbrev pub IsGpsSat : SatObs → Type 0
-IsGpsSat seen = IsSatOf false seen
-
 abbrev pub AreGpsSats : List SatObs → Type 0
 AreGpsSats sats = AreSatsOf false sats
 

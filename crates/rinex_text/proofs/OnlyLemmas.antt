@@ -1,9 +1,9 @@
 -- Readers with one answer only.
-use Rattle.std.proofs.Common.{Bool, false, ◌≡◌, ℕ, ◌+◌, List, [], ◌∷◌, sym, ap, subst, ◌⊎◌, inl, inr, ◌∙◌, Result, Ok, Err}
+use Rattle.std.proofs.Common.{Bool, ◌≡◌, ℕ, ◌+◌, List, [], ◌∷◌, sym, ap, subst, ◌⊎◌, inl, inr, ◌∙◌, Result, Ok, Err}
 use Rattle.rinex_text.specs.Bodies.{first_of}
 use Rattle.rinex_text.specs.Counts.{IsNumber}
 use Rattle.rinex_text.specs.Faults.{refusal, test, where_holds, read, then, line_gives}
-use Rattle.rinex_text.specs.Headers.{Behind, version_line_of, version_of, version_by, header_from}
+use Rattle.rinex_text.specs.Headers.{Behind, version_line_of, version_by, header_from}
 use Rattle.rinex_text.specs.Lines.{TextLine}
 use Rattle.rinex_text.specs.declared.fault.Fault.{Fault}
 use Rattle.rinex_text.specs.declared.fault.Refusal.{Refusal}
@@ -125,6 +125,3 @@ pub version_by_only : (both : Bool) (kind : ℕ) (lines : List TextLine)
     → IsOnly (version_by both kind lines)
 version_by_only both kind [] x y a b = a ∙ sym b
 version_by_only both kind (line ∷ more) x y a b = line_only _ _ _ (version_line_only both kind line) (λ passed. gives_only _) x y a b
-
-pub version_only : (kind : ℕ) (lines : List TextLine) → IsOnly (version_of kind lines)
-version_only kind lines = version_by_only false kind lines

@@ -5,7 +5,7 @@ use Rattle.std.specs.List.{list_all}
 use Rattle.std.proofs.lemmas.Bool.{cases_Bool}
 use Rattle.rinex_text.specs.Bodies.{is_blank_line, counted_with, counted, first_of}
 use Rattle.rinex_text.specs.Faults.{refusal}
-use Rattle.rinex_text.specs.Headers.{Behind, version_of, version_by, header_from}
+use Rattle.rinex_text.specs.Headers.{Behind, version_by, header_from}
 use Rattle.rinex_text.specs.Lines.{TextLine}
 use Rattle.rinex_text.specs.Whole.{AgreeTo}
 use Rattle.rinex_text.specs.declared.fault.Fault.{Fault}
@@ -216,15 +216,6 @@ version_by_passed both kind line more rest version (inl (v, is, e)) =
     let same = ok_same version _ e in
     (ap (λ (b : Behind). b.lines) same, ap (λ (b : Behind). b.number) same, inl (v, is, refl))
 version_by_passed both kind line more rest version (inr (f, is, e)) = absurd (not_both _ _ e)
-
--- where the satellites of GPS are read
-pub version_settled : (kind : ℕ) → AreSettled 1 (version_of kind)
-version_settled kind = version_by_settled false kind
-
-pub version_passed : (kind : ℕ) (line : TextLine) (more rest : List TextLine) (version : Behind)
-    → version_of kind (line ∷ more) (Ok version)
-    → (version.lines ≡ more) × (version.number ≡ 2) × version_of kind (line ∷ rest) (Ok (record { number = 2; lines = rest }))
-version_passed kind line more rest version h = version_by_passed false kind line more rest version h
 
 pub header_settled : (number : ℕ) → AreSettled number (header_from number)
 header_settled number [] r e = settled_at_end number (header_from number) r NoEndOfHeader e e

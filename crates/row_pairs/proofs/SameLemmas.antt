@@ -10,10 +10,6 @@ use Rattle.grid_model.specs.Roots.{root}
 use Rattle.grid_model.proofs.RootLemmas.{root_is, square-mono}
 use Rattle.sat_model.specs.Pairs.{scale, half, away, away_square, arm, play, spread, slope, rounding, most, least, upper, lower, FormValue}
 
-pub quotient_same : (r n d n' d' : ℤ) → r ≡ int_div_euclid (pos scale *ℤ n) d → n ≡ n' → d ≡ d'
-    → r ≡ int_div_euclid (pos scale *ℤ n') d'
-quotient_same r n d n' d' e f g = cc
-
 pub slope_same : (r a : ℤ) (n long : ℕ) (place : Span) (side : Side)
     → r ≡ int_div_euclid (pos scale *ℤ a) (pos n) → a ≡ away place side → n ≡ long
     → r ≡ slope long place side

@@ -2,19 +2,14 @@
 use Rattle.std.proofs.Common.{◌≡◌, ℕ, ◌*◌, ◌<◌, ◌≤◌, arith, FitsSigned, w64}
 use Rattle.std.specs.Prelude.{ℤ, pos, ◌+ℤ◌, ◌*ℤ◌, neg_ℤ, unsigned_abs, ◌≤ℤ◌, ◌<ℤ◌}
 use Rattle.std.proofs.lemmas.Int.{ints}
-use Rattle.grid_model.specs.Roots.{IsRoot}
 use Rattle.grid_model.specs.Rounding.{IsFloor}
 use Rattle.grid_model.specs.Sizes.{IsWithin}
-use Rattle.grid_model.proofs.RootLemmas.{square-mono}
 use Rattle.grid_model.proofs.ProductLemmas.{mul_lt_back, mul_le_back, add_mul, neg_mul, product_within}
 use Rattle.sat_model.proofs.PairAxisLemmas.{amount_within}
 use Rattle.grid_model.proofs.PlainLemmas.{within_itself}
 
 pub fits64 : (z : ℤ) → IsWithin 4194304 z → FitsSigned w64 z
 fits64 z h = omega (arith, ints, h.low, h.high)
-
-pub arm_small : (a v : ℕ) → IsRoot a v → a ≤ 14700000000000000000000000000 → v < 130000000000000
-arm_small a v r h = grind (arith, square-mono 130000000000000 v, r.square_le)
 
 -- the quotient of S v by a greater number than v is at most S in amount
 pub slope_small : (s a : ℕ) (v q : ℤ) → unsigned_abs v < a → IsFloor (pos s *ℤ v) (pos a) q

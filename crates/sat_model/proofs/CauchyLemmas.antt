@@ -1,5 +1,5 @@
 -- The inequality of Cauchy and Schwarz and twice a product, over natural numbers.
-use Rattle.std.proofs.Common.{◌≡◌, ℕ, ◌+◌, ◌*◌, ◌<◌, ◌≤◌, arith, inl, inr}
+use Rattle.std.proofs.Common.{ℕ, ◌+◌, ◌*◌, ◌<◌, ◌≤◌, arith, inl, inr}
 use Rattle.std.specs.Prelude.{ℤ, pos, ◌+ℤ◌, ◌*ℤ◌, unsigned_abs, ◌≤ℤ◌, ◌<ℤ◌}
 use Rattle.std.proofs.lemmas.Int.{ints}
 use Rattle.std.proofs.lemmas.Nat.{mul-le}
@@ -10,9 +10,6 @@ use Rattle.grid_model.proofs.ProductLemmas.{product_le}
 use Rattle.sat_model.proofs.PairAxisLemmas.{amount_within}
 use Rattle.grid_model.proofs.SpreadRoots.{two_products as twice_product}
 use Rattle.std.proofs.lemmas.Bool.{cases_lt}
-
-from_sum : (x y t : ℕ) → y ≡ x + t → 2 * (x * y) ≤ x * x + y * y
-from_sum x y t e = rw e (omega arith)
 
 -- (a b + c d + e f)^2 against the product of the sums of squares
 pub cauchy : (a c e b d f : ℕ)

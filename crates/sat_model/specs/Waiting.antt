@@ -1,6 +1,6 @@
 -- Boxes that wait in a paving: which of them comes next, what closes it, and what its steps open.
 use Rattle.std.specs.Prelude.{◌≡◌, ℕ, ◌+◌, ◌*◌, ◌<◌, ◌≤◌, ◌⊎◌, pos, ◌<ℤ◌, ◌≤ℤ◌, List, [], ◌∷◌, ◌++◌}
-use Rattle.std.specs.Prelude.{map, All}
+use Rattle.std.specs.Prelude.{All}
 use Rattle.sat_model.specs.declared.rules.Rules.{Rules}
 use Rattle.sat_model.specs.declared.steps.Step.{Step}
 use Rattle.sat_model.specs.declared.steps.Step.TheVariants.{Cut, Split, Outside, Inside, Edge}
@@ -111,7 +111,3 @@ beyond_all paving (shown ∷ more) = beyond_all (beyond paving shown) more
 abbrev pub joined : List (List ShownStep) → List ShownStep
 joined [] = []
 joined (own ∷ boxes) = own ++ joined boxes
-
--- the steps without the boxes that they speak of
-abbrev pub steps_of : List ShownStep → List Step
-steps_of steps = map (λ shown. shown.step) steps

@@ -19,11 +19,6 @@ use Rattle.step_lines.specs.OneSpelling.{no_end, not_renewing, same_front, same_
 
 -- ---- ends
 
-pub none_found : (text : List ℕ)
-    → ((k : ℕ) → k < length text → nat_eq (get_or text k 0) 10 ≡ true → ⊥) → HasNoEnd text
-none_found [] none = tt
-none_found (byte ∷ more) none = (λ e. none 0 (omega arith) (eq-eqb _ _ e), none_found more (λ k lt. none (suc k) (omega arith)))
-
 none_before : (text : List ℕ) (end : ℕ) → end < length text
     → ((k : ℕ) → k < end → nat_eq (get_or text k 0) 10 ≡ true → ⊥) → HasNoEnd (take end text)
 none_before [] end lt none = absurd (omega arith)

@@ -1,7 +1,7 @@
 -- Which search of a tube is due.
 use Rattle.std.proofs.Common.{◌≡◌, ℕ, Bool, true, false, List, [], ◌∷◌, Option, None, Some, refl}
 use Rattle.std.specs.Prelude.{IsTrue, ◌↔◌, MatchOption, is_some, not}
-use Rattle.paving_log_check.specs.Admissible.{IsOf, IsDue}
+use Rattle.paving_log_check.specs.Admissible.{IsDue}
 use Rattle.rinex_obs.specs.declared.obs.ObsEpoch.{ObsEpoch}
 use Rattle.grid_model.specs.Boxes.{GridBox}
 use Rattle.sat_model.specs.Logs.{Block}
@@ -11,18 +11,6 @@ use Rattle.tube_searches.proofs.TubeLemmas.{over_searches, taken_searches, taken
 use Rattle.tube_check.specs.Taken.{IsTakenBy}
 
 module _ (rules : Rules) (before : Option ℕ) (old : TubeValue) (inside : IsInside old) where
-  -- a block comes where no search is left
-  pub over_not_due : (block : Block) → IsOver old → (more : List Block)
-      → IsDue rules before (tube_searches old (block ∷ more)) (block ∷ more) → ⊥
-  over_not_due block over more due = rw (over_searches old (block ∷ more) over) at due
-
-  -- the next search isn't the block's
-  pub not_due : (seen : ObsEpoch) (root : GridBox) (new : TubeValue) (block : Block)
-      → IsTaken old seen root new → (IsOf rules before seen block → ⊥)
-      → (more : List Block) → IsDue rules before (tube_searches old (block ∷ more)) (block ∷ more)
-      → ⊥
-  not_due seen root new block taken other more due = other (rw (taken_searches old seen root new block more inside taken) at due)
-
   -- a block is left: it is due where its search was taken
   pub due_block : {X : Type 0} (seen : X → ObsEpoch) (root : X → GridBox) (new : TubeValue) (block : Block) (left more : List Block) (found : Option X)
       → left ≡ block ∷ more

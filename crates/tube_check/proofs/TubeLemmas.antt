@@ -89,10 +89,6 @@ module _ (m : Meaning) (rules : Rules) (tube : TubeValue) (log : LogValue) where
       in_boxes = λ boxes. w.in_boxes (rw next_search (taken.box, boxes));
     }
 
-    -- behind a block of few satellites, and so behind one with a fault, the root itself counts
-    pub root_inside : HullLies (Some root) new.search
-    root_inside = subst (λ (s : GridBox). LiesIn root s) (sym taken.same_search) taken.lies
-
 -- no search is left
 boxes_ended : (rules : Rules) (before : Option ℕ) (rest : List Search) → IsDue rules before rest []
     → AreInBoxes rest

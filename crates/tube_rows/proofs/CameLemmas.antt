@@ -20,8 +20,7 @@ use Rattle.paving.proofs.TurnLemmas.{Suits}
 use Rattle.paving.specs.Renewing.{Maker}
 use Rattle.paving_log_check.proofs.FitLemmas.{fit_all}
 use Rattle.paving_log_check.specs.Admissible.{Admits}
-use Rattle.paving_log_check.specs.Checked.{IsAccepted, IsRefused}
-use Rattle.paving_log_check.specs.declared.verdict.Fault.{Fault}
+use Rattle.paving_log_check.specs.Checked.{IsAccepted}
 use Rattle.paving_log_check.specs.FileCover.{FileCover}
 use Rattle.paving_log_check.specs.OwnLines.{OwnLines, AreOwn}
 use Rattle.range_contractor.proofs.BoxLemmas.{along, holds_all}
@@ -237,10 +236,6 @@ module _ (m : Meaning) (sound : IsSound m) (renews : Bool) (rules : Rules) (left
   whole_accepted =
       let (owns, are, each, whole) = owns_of m sound renews rules None whole_searches w.log.blocks whole_came.points whole_came.solved whole_passes in
       record { owns = owns; are_own = are; admissible = record { each = each; whole = whole; admits = whole_admits owns are }; cover = whole_covers; boxes_are = refl }
-
-  -- so no own lines refuse it
-  pub not_refused : (fault : Fault) → IsRefused m whole_searches rules w.log fault → ⊥
-  not_refused fault refused = refused.refused (whole_admits refused.owns refused.are_own)
 
   -- and each trajectory that fits in the paved epochs is found in it
   pub whole_found : (path : List Stay) → IsPath left.speed left.search left.epochs path

@@ -1,7 +1,6 @@
 -- The codes of a satellite have one value, and it is in range where their decimals are.
-use Rattle.std.proofs.Common.{◌≡◌, ℕ, arith, sym, ap, subst, ◌∙◌, List, Some}
-use Rattle.std.specs.Prelude.{pos, ◌≤ℤ◌, Option, None, IsNone, IsSome}
-use Rattle.std.proofs.lemmas.Int.{ints}
+use Rattle.std.proofs.Common.{◌≡◌, ℕ, sym, ap, subst, ◌∙◌, List, Some}
+use Rattle.std.specs.Prelude.{pos, Option, None, IsNone, IsSome}
 use Rattle.std.proofs.lemmas.Option.{same_Some}
 use Rattle.exact_decimal.specs.Units.{LiesBetween}
 use Rattle.exact_decimal.specs.declared.decimal.Decimal.{Decimal}
@@ -13,7 +12,6 @@ use Rattle.gnss_model.specs.Pseudorange.{Codes}
 use Rattle.gnss_model.specs.declared.satellites.Signal.TheVariants.{Dual}
 use Rattle.grid_model.specs.declared.spans.Wide.{Wide}
 use Rattle.gnss_model.specs.declared.systems.System.{System}
-use Rattle.pseudorange_prep.specs.Ranges.{IsCode}
 use Rattle.usable_sats.proofs.ElementLemmas.{one_rounded}
 use Rattle.usable_sats.specs.Usability.{HaveValue, IsPlausible, IsCombinationPlausible, ArePlausibleWith, ArePlausible}
 
@@ -43,10 +41,3 @@ pair_out system seen a b d e v w first second r s out codes values plausible =
     let firsts = subst (λ (q : Wide). ArePlausibleWith system q codes.second) v_is plausible in
     let both = subst (ArePlausibleWith system v) (two.3 ∙ ap (λ (q : Wide). Some q) w_is) firsts in
     out both.2
-
--- a code that is in range may be combined
-pub code_fits : (w : Wide) → IsPlausible w.lo w.hi 1 → IsCode w.lo w.hi
-code_fits w p =
-    let from : pos 15000000000000 ≤ℤ w.lo = p.from in
-    let to : w.hi ≤ℤ pos 40000000000000 = p.to in
-    record { from = omega (arith, ints, from); to = to }

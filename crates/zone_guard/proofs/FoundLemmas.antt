@@ -61,11 +61,6 @@ pub epochs_more : (watches : List WatchValue) (epochs : List LogEpoch) (i : ℕ)
 epochs_more watches epochs i x found items e within is are here same =
     rw (same, more_of block_of epochs i x within is) (next_epoch watches (map block_of (take i epochs)) found (block_of x) e are here)
 
-pub epochs_all : (watches : List WatchValue) (epochs : List LogEpoch) (i : ℕ) (found : List EpochFindings)
-    → length epochs ≤ i → AreEpochsFound watches (map block_of (take i epochs)) found
-    → AreEpochsFound watches (map block_of epochs) found
-epochs_all watches epochs i found ended are = rw (all_of block_of epochs i ended) at are
-
 folds_of : (epochs : List LogEpoch) (i : ℕ) (x : LogEpoch) → i < length epochs
     → AllByRecursion (λ (b : Block). BodyFolds b.body) (map block_of epochs)
     → BodyFolds (block_of (get_or epochs i x)).body

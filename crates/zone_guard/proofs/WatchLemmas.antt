@@ -1,6 +1,5 @@
 -- A text of the second form is read line by line, and has one first line that doesn't fit.
-use Rattle.std.proofs.Common.{◌≡◌, ◌≢◌, ℕ, zero, suc, ◌+◌, ◌-◌, ◌<◌, ◌≤◌, List, [], ◌∷◌, ◌++◌, length, map, inl, inr, refl, sym, ap, subst, ◌∙◌, append-nil, append_assoc, arith, Result, Ok, Err}
-use Rattle.std.specs.Prelude.{IfErr}
+use Rattle.std.proofs.Common.{◌≡◌, ℕ, zero, suc, ◌+◌, ◌-◌, ◌<◌, ◌≤◌, List, [], ◌∷◌, ◌++◌, length, map, inl, inr, refl, sym, ap, subst, ◌∙◌, append-nil, append_assoc, arith}
 use Rattle.std.specs.List.{Contains}
 use Rattle.std.proofs.lemmas.Fmt.{decimal_injective}
 use Rattle.std.proofs.lemmas.Grind.{common_steps}
@@ -117,11 +116,6 @@ module _ (names : List (List ℕ)) (owed number : ℕ) (text here behind : List 
   pub unfit_here : ((l : WatchLine) → IsNextLine names owed here l → ⊥)
       → FailsAt names owed number (lines text) number
   unfit_here none = rw cut (here_fails names owed number here (lines behind) (lines_some behind) none)
-
--- the line lacks its LF
-pub cut_here : (names : List (List ℕ)) (owed number : ℕ) (text : List ℕ) → lines text ≡ text ∷ []
-    → text ≢ [] → FailsAt names owed number (lines text) number
-cut_here names owed number text one some = rw one (inl some, refl)
 
 -- a side is owed
 pub owed_here : (names : List (List ℕ)) (owed number : ℕ) (text : List ℕ) → lines text ≡ text ∷ []
@@ -269,8 +263,3 @@ told_mapped e F G on told = elim told [
   | inl none ↦ inl none
   | inr (k, same, fails) ↦ inr (k, same, on k fails)
 ]
-
-pub told_if : {T U : Type 0} (result : Result T ZoneError) (other : Result U ZoneError) (F G : ℕ → Type 0)
-    → ((k : ℕ) → F k → G k) → IfErr result (IsToldIn F) → IfErr result (IsToldIn G)
-told_if (Ok read) other F G on told = tt
-told_if (Err e) other F G on told = told_mapped e F G on told

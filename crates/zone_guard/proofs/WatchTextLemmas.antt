@@ -5,7 +5,7 @@ use Rattle.zone_guard.specs.Lines.{ZoneValue}
 use Rattle.zone_guard.specs.Text.{lines, first_line, AreZonesIn}
 use Rattle.zone_guard.specs.Told.{IsToldIn, IsTaken, TellsBad}
 use Rattle.zone_guard.specs.Watched.{WatchValue, watch_lines}
-use Rattle.zone_guard.specs.WatchText.{second_line, AreWatchLines, FailsAt, BeginsSecond, AreWatchesIn, FailsSecond, IsWatchesText, IsFirstUnfit}
+use Rattle.zone_guard.specs.WatchText.{second_line, FailsAt, BeginsSecond, AreWatchesIn, FailsSecond, IsWatchesText, IsFirstUnfit}
 use Rattle.zone_guard.specs.WatchValues.{watch_values}
 use Rattle.zone_guard.specs.declared.watch.Watches.{Watches}
 use Rattle.zone_guard.specs.declared.zone.ZoneError.{ZoneError}
@@ -21,26 +21,9 @@ begun : (first : List ℕ) (rest : List (List ℕ)) → (rest ≡ [] → ⊥) �
 begun first [] some is = absurd (some refl)
 begun first (next ∷ more) some is = is
 
-pub second_value : (bytes rest : List ℕ) (watches : List WatchValue)
-    → lines bytes ≡ second_line ∷ lines rest → AreWatchLines [] 0 (lines rest) (watch_lines watches)
-    → IsWatchesText true watches bytes
-second_value bytes rest watches cut are = rw cut (refl, are)
-
 pub second_fault : (bytes rest : List ℕ) (k : ℕ) → lines bytes ≡ second_line ∷ lines rest
     → FailsAt [] 0 2 (lines rest) k → IsFirstUnfit bytes k
 second_fault bytes rest k cut fails = inl (rw cut (begun second_line (lines rest) (lines_some rest) refl, fails))
-
-pub second_begins : (bytes head rest : List ℕ) → lines bytes ≡ head ∷ lines rest
-    → BeginsSecond (lines bytes) → head ≡ second_line
-second_begins bytes head rest cut begins = begins_of head (lines rest) (rw cut at begins)
-  where
-    begins_of : (first : List ℕ) (rest : List (List ℕ)) → BeginsSecond (first ∷ rest)
-        → first ≡ second_line
-    begins_of first [] begins = absurd begins
-    begins_of first (next ∷ more) begins = begins
-
-pub no_begin : (bytes : List ℕ) → lines bytes ≡ bytes ∷ [] → BeginsSecond (lines bytes) → ⊥
-no_begin bytes one begins = absurd (rw one at begins)
 
 -- ---- one reading
 
@@ -48,10 +31,6 @@ pub other_heads : (first : List ℕ) → first ≡ first_line → first ≡ seco
 other_heads first e f =
     let last : 49 ≡ 50 = ap (λ (bytes : List ℕ). get_or bytes 9 0) (sym e ∙ f) in
     omega (arith, last)
-
-some_rest : (names : List (List ℕ)) (owed : ℕ) (ls : List WatchValue)
-    → AreWatchLines names owed [] (watch_lines ls) → ⊥
-some_rest names owed ls are = absurd are
 
 second_not_both : (ls : List (List ℕ)) (watches : List WatchValue) (k : ℕ) → AreWatchesIn ls watches
     → FailsSecond ls k → ⊥

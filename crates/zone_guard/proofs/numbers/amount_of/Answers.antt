@@ -3,7 +3,6 @@ use Rattle.std.specs.Fmt.{decimal}
 use Rattle.std.specs.Str.{IsAscii}
 use Rattle.std.proofs.lemmas.Fmt.{parse-decimal_wide, IsAscii-decimal_wide}
 use Rattle.std.proofs.lemmas.Str.{IsUtf8-from_ascii}
-use lib.Pointwise.{pointwise}
 use Rattle.log_tokens.proofs.TextLemmas.{same_pointwise}
 use Rattle.zone_guard.proofs.numbers.amount_of.Goals as goal
 use Rattle.zone_guard.proofs.numbers.amount_of.Goals.{else-amount-le-GREATEST-via-then-amount-le-GREATEST+else-eq, else-amount-le-GREATEST-via-else-amount-le-GREATEST}
