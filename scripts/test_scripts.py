@@ -23,6 +23,7 @@ import bench
 import bounds
 import changed_logs
 import coverlog
+import crates_page
 import exact_extents
 import headline
 import integrity
@@ -1110,6 +1111,12 @@ class Wrapper(unittest.TestCase):
 class Documents(unittest.TestCase):
     def test_the_links_from_the_headline_down_are_there(self):
         self.assertEqual((HERE.parent / "docs/HEADLINE.md").read_text(encoding="utf-8"), headline.page())
+
+    def test_the_page_of_the_crates_is_what_its_script_makes(self):
+        self.assertEqual((HERE.parent / "crates/README.md").read_text(encoding="utf-8"), crates_page.page())
+
+    def test_only_box_contraction_stands_on_a_crate_of_a_higher_floor(self):
+        self.assertEqual([("box_contraction", "log_lines")], crates_page.upward())
 
     def test_a_name_that_is_gone_is_told(self):
         with self.assertRaisesRegex(headline.Gone, "no definition NoSuchName"):

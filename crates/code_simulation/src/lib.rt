@@ -1,4 +1,5 @@
-//! A pseudorange by one code for which a residual is left at a point, found by halving.
+//! Codes of a made receiver: a pseudorange that leaves a wanted residual at a point, found by
+//! halving.
 #![tactic(auto)]
 
 mod halving;

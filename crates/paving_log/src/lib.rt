@@ -1,4 +1,5 @@
-//! The log of a paving, and its rows alone: the value, and its one text.
+//! The log of a paving, and its rows alone: the value that a text is read as, and the one text of a
+//! value.
 #![tactic(auto)]
 
 mod closing_lines;

@@ -1,4 +1,5 @@
-//! The live boxes of an epoch, folded over its steps.
+//! The subpaving of an epoch: the boxes that no step has closed yet, while the steps of a log are
+//! taken one after another.
 #![tactic(auto)]
 
 mod cuts;
