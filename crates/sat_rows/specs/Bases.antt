@@ -39,7 +39,7 @@ pub record IsNarrowBase (base : Base) : Type 0 where
   pub place : PlaceEnds near_reach narrow_width base.place
   pub distance : (x y z : ℤ) → HoldsPlace base.place x y z → IsOrbitDistance x y z
   pub range : IsSmall (56 * 10 ^ 12) base.range
-  pub range_width : (base.range.hi -ℤ base.range.lo) ≤ℤ pos 14
+  pub range_width : (base.range.hi -ℤ base.range.lo) ≤ℤ pos 1900
   pub err : IsSmall (6 * 10 ^ 9) base.err
 
 -- For what a source says of the satellites that were observed at a time, in a search box: the

@@ -21,7 +21,7 @@ use grid_model::{Box3, Span};
 use sat_model::Row;
 
 /// The same numbers in 64 bits.
-pub(crate) fn span_of(x: Exact) -> Span
+pub fn span_of(x: Exact) -> Span
     requires low_size { IsPlaceSize x.lo }
     requires high_size { IsPlaceSize x.hi }
     ensures low { result.lo ≡ x.lo }
