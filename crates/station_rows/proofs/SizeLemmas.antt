@@ -1,12 +1,13 @@
--- A corrected pseudorange less the station's excess is within 56,000 km, by what is written in the files.
+-- The pseudorange of a single difference is within 55,600 km: by the satellite's clock offset, the
+-- range to its place, and what the two pseudoranges differ by.
 use Rattle.std.proofs.Common.{◌≡◌, ℕ, ◌+◌, ◌-◌, ◌*◌, ◌^◌, ◌≤◌, arith, lit≤}
-use Rattle.std.specs.Prelude.{ℤ, pos, neg_ℤ, ◌+ℤ◌, ◌-ℤ◌, ◌*ℤ◌, ◌≤ℤ◌, Bool, true, false, unsigned_abs, nat_abs}
+use Rattle.std.specs.Prelude.{ℤ, pos, neg_ℤ, ◌+ℤ◌, ◌-ℤ◌, ◌*ℤ◌, ◌≤ℤ◌, Bool, true, false, Option, None, Some, unsigned_abs, nat_abs}
 use Rattle.std.proofs.lemmas.Int.{ints}
 use Rattle.gnss_model.specs.ChainValues.{Observed, ChainValue}
 use Rattle.gnss_model.specs.ClockChain.{ClockChainOf, IsAdvanced, less_delay}
 use Rattle.gnss_model.specs.EarthModel.{rate_scale, relativity}
 use Rattle.gnss_model.specs.OrbitChain.{OrbitChain}
-use Rattle.gnss_model.specs.Pseudorange.{IsSent, IsCorrected}
+use Rattle.gnss_model.specs.Pseudorange.{IsSent, IsCorrected, IsRangeWith}
 use Rattle.gnss_model.specs.RecordBounds.{IsField, IsValue, eccentricity_bound, least_root_a, offset_bound, drift_bound, ageing_bound, delay_bound}
 use Rattle.gnss_model.specs.Systems.{relativity_of}
 use Rattle.gnss_model.specs.Turn.{Turn}
@@ -29,14 +30,38 @@ use Rattle.broadcast_orbit.proofs.Distances.{AreRadii, least_radius, radius_slac
 use Rattle.broadcast_orbit.proofs.PairLemmas.{square_of_sum, square_of_difference, square_natural, product_between}
 use Rattle.broadcast_orbit.proofs.TurnKeeps.{turn_keeps, IsTurnBound}
 use Rattle.sat_rows.specs.Chains.{Chain}
-use Rattle.station_rows.specs.Differences.{SeenByBoth, IsDifference, IsUsual, AreNearby, usual_root_a, clock_time_reach, codes_apart, station_reach}
+use Rattle.station_rows.specs.Differences.{CommonView, IsDifferenceOf}
+use Rattle.station_rows.specs.Nearby.{HasNearRecord, AreNearby, ArePlausibleCodes, IsNearGround, medium_root_a, clock_time_reach, pseudoranges_apart, station_reach, difference_reach}
+use Rattle.usable_sats.specs.Usability.{ArePlausible, ArePlausibleWith}
+
+-- ---- the pseudorange
+
+abbrev range_reach : ℕ
+range_reach = 41 * 10 ^ 12
+
+range_within : (system : System) (first : Wide) (second : Option Wide) (pr : ℤ)
+    → ArePlausibleWith system first second → IsRangeWith system first second pr
+    → Between (pos 0) (pos range_reach) pr
+range_within system first None pr h v = record { from = omega (arith, ints, h.from, v.from); to = omega (arith, ints, h.to, v.to) }
+range_within Gps first (Some second) pr h (p, q, pv, qv, near) =
+    let from : pos (2329 * 15000000000000) ≤ℤ ((pos 5929 *ℤ first.lo) -ℤ (pos 3600 *ℤ second.hi)) = h.2.from in
+    let to : ((pos 5929 *ℤ first.hi) -ℤ (pos 3600 *ℤ second.lo)) ≤ℤ pos (2329 * 40000000000000) = h.2.to in
+    let below : (pr *ℤ pos 2329) ≤ℤ (((pos 5929 *ℤ p) -ℤ (pos 3600 *ℤ q)) +ℤ pos 2329) = near.below in
+    let above : ((pos 5929 *ℤ p) -ℤ (pos 3600 *ℤ q)) ≤ℤ (pr *ℤ pos 2329 +ℤ pos 2329) = near.above in
+    record { from = omega (arith, ints, from, above, pv.from, qv.to); to = omega (arith, ints, to, below, pv.to, qv.from) }
+range_within Galileo first (Some second) pr h (p, q, pv, qv, near) =
+    let from : pos (10491 * 15000000000000) ≤ℤ ((pos 23716 *ℤ first.lo) -ℤ (pos 13225 *ℤ second.hi)) = h.2.from in
+    let to : ((pos 23716 *ℤ first.hi) -ℤ (pos 13225 *ℤ second.lo)) ≤ℤ pos (10491 * 40000000000000) = h.2.to in
+    let below : (pr *ℤ pos 10491) ≤ℤ (((pos 23716 *ℤ p) -ℤ (pos 13225 *ℤ q)) +ℤ pos 10491) = near.below in
+    let above : ((pos 23716 *ℤ p) -ℤ (pos 13225 *ℤ q)) ≤ℤ (pr *ℤ pos 10491 +ℤ pos 10491) = near.above in
+    record { from = omega (arith, ints, from, above, pv.from, qv.to); to = omega (arith, ints, to, below, pv.to, qv.from) }
 
 -- ---- the clock
 
 abbrev since_reach : ℕ
 since_reach = 21601 * 10 ^ 12
 
-sent_since : (tag toc pr tsv : ℤ) → Between (pos 0) (pos (41 * 10 ^ 12)) pr → IsSent tag pr tsv
+sent_since : (tag toc pr tsv : ℤ) → Between (pos 0) (pos range_reach) pr → IsSent tag pr tsv
     → IsWithin clock_time_reach (tag -ℤ toc) → IsWithin since_reach (tsv -ℤ toc)
 sent_since tag toc pr tsv b n w = record { low = omega (arith, ints, b.from, b.to, n.below, n.above, w.low, w.high); high = omega (arith, ints, b.from, b.to, n.below, n.above, w.low, w.high) }
 
@@ -73,7 +98,7 @@ abbrev offset_reach : ℕ
 offset_reach = offset_bound + 2626703201001 + 1
 
 pub clock_small : (system : System) (el : Elements) (single : Bool) (n tsv dt t : ℤ)
-    → el.root_a.hi ≤ℤ pos usual_root_a → IsWithin since_reach (tsv -ℤ el.toc)
+    → el.root_a.hi ≤ℤ pos medium_root_a → IsWithin since_reach (tsv -ℤ el.toc)
     → ClockChainOf system el single n tsv dt t → IsWithin (103 * 10 ^ 12) dt
 clock_small system el single n tsv dt t root since k =
     let f = k.f in
@@ -86,11 +111,11 @@ clock_small system el single n tsv dt t root since k =
     let offset = advanced_within offset_bound 2626703201001 f.af0 k.drift x k.offset (field_within offset_bound el.af0 f.af0 el.af0_within F.af0_is) q k.offset_is in
     let base : IsWithin (offset_reach + delay_bound) k.base = rw k.base_is (delay_within offset_reach delay_bound single k.offset f.tgd offset (field_within delay_bound el.tgd f.tgd el.tgd_within F.tgd_is)) in
     let e = from_zero (pos 0) (pos eccentricity_bound) eccentricity_bound el.e f.e (record { le = tt }) (record { le = tt }) el.e_within.from el.e_within.to F.e_is in
-    let s = from_zero (pos least_root_a) (pos usual_root_a) usual_root_a el.root_a f.root_a (record { le = tt }) (record { le = tt }) el.root_a_within.from root F.root_a_is in
+    let s = from_zero (pos least_root_a) (pos medium_root_a) medium_root_a el.root_a f.root_a (record { le = tt }) (record { le = tt }) el.root_a_within.from root F.root_a_is in
     let re = product_within relativity eccentricity_bound (pos (relativity_of system)) f.e (relativity_within system) e in
-    let res = product_within (relativity * eccentricity_bound) usual_root_a (pos (relativity_of system) *ℤ f.e) f.root_a re s in
-    let all = product_within (relativity * eccentricity_bound * usual_root_a) (unit + 8) ((pos (relativity_of system) *ℤ f.e) *ℤ f.root_a) k.sine res (sine_value_small k.eccentric k.sine k.sine_is) in
-    let relative = relative_within (relativity * eccentricity_bound * usual_root_a * (unit + 8)) (((pos (relativity_of system) *ℤ f.e) *ℤ f.root_a) *ℤ k.sine) k.relative (lit≤ tt) all k.relative_is in
+    let res = product_within (relativity * eccentricity_bound) medium_root_a (pos (relativity_of system) *ℤ f.e) f.root_a re s in
+    let all = product_within (relativity * eccentricity_bound * medium_root_a) (unit + 8) ((pos (relativity_of system) *ℤ f.e) *ℤ f.root_a) k.sine res (sine_value_small k.eccentric k.sine k.sine_is) in
+    let relative = relative_within (relativity * eccentricity_bound * medium_root_a * (unit + 8)) (((pos (relativity_of system) *ℤ f.e) *ℤ f.root_a) *ℤ k.sine) k.relative (lit≤ tt) all k.relative_is in
     sum_within (offset_reach + delay_bound) (5 * 10 ^ 9 + 1) (103 * 10 ^ 12) k.base k.relative dt (lit≤ tt) k.dt_is base relative
 
 corrected_near : (pr dt v : ℤ) → IsWithin (103 * 10 ^ 12) dt → IsCorrected pr dt v
@@ -99,11 +124,11 @@ corrected_near pr dt v w n = record { low = omega (arith, ints, w.low, w.high, n
 
 -- ---- the range
 
-abbrev usual_radius : ℕ
-usual_radius = 37653 * 10 ^ 9
+abbrev medium_radius : ℕ
+medium_radius = 37653 * 10 ^ 9
 
-usual_radii : AreRadii least_root_a usual_root_a eccentricity_bound least_radius usual_radius
-usual_radii = record {
+medium_radii : AreRadii least_root_a medium_root_a eccentricity_bound least_radius medium_radius
+medium_radii = record {
   axis_low = 25 * 10 ^ 12 - 1;
   axis_high = 3136 * 10 ^ 10 + 1;
   axis_from = lit≤ tt;
@@ -125,7 +150,7 @@ turn_loss = 160 * 10 ^ 12
 turn_bound : IsTurnBound orbit_far turn_loss
 turn_bound = lit≤ tt
 
-far_by : (rr v : ℤ) → rr ≤ℤ pos (usual_radius * usual_radius) → Close radius_slack rr v
+far_by : (rr v : ℤ) → rr ≤ℤ pos (medium_radius * medium_radius) → Close radius_slack rr v
     → v ≤ℤ pos (orbit_far * orbit_far)
 far_by rr v h c = omega (arith, ints, h, c.above)
 
@@ -133,15 +158,15 @@ value_between : (low high : ℤ) (field : Wide) (x : ℤ) → low ≤ℤ field.l
     → IsValue field x → Between low high x
 value_between low high field x f g v = record { from = omega (arith, ints, f, v.from); to = omega (arith, ints, g, v.to) }
 
-orbit_near : (el : Elements) (n t x y z : ℤ) → el.root_a.hi ≤ℤ pos usual_root_a
+orbit_near : (el : Elements) (n t x y z : ℤ) → el.root_a.hi ≤ℤ pos medium_root_a
     → OrbitChain el n t x y z
     → ((x *ℤ x) +ℤ (y *ℤ y) +ℤ (z *ℤ z)) ≤ℤ pos (orbit_far * orbit_far)
 orbit_near el n t x y z root o =
     let F = o.fields in
-    let s = value_between (pos least_root_a) (pos usual_root_a) el.root_a o.f.root_a el.root_a_within.from root F.root_a_is in
+    let s = value_between (pos least_root_a) (pos medium_root_a) el.root_a o.f.root_a el.root_a_within.from root F.root_a_is in
     let e = value_between (pos 0) (pos eccentricity_bound) el.e o.f.e el.e_within.from el.e_within.to F.e_is in
-    let r = chain_radius least_root_a usual_root_a eccentricity_bound least_radius usual_radius el n t x y z usual_radii o s e.to in
-    far_by (o.radius *ℤ o.radius) ((x *ℤ x) +ℤ (y *ℤ y) +ℤ (z *ℤ z)) (product_between least_radius usual_radius least_radius usual_radius o.radius o.radius r r).to (chain_keeps_radius el n t x y z o)
+    let r = chain_radius least_root_a medium_root_a eccentricity_bound least_radius medium_radius el n t x y z medium_radii o s e.to in
+    far_by (o.radius *ℤ o.radius) ((x *ℤ x) +ℤ (y *ℤ y) +ℤ (z *ℤ z)) (product_between least_radius medium_radius least_radius medium_radius o.radius o.radius r r).to (chain_keeps_radius el n t x y z o)
 
 flat_far : (R Z : ℤ) → pos 0 ≤ℤ Z → (R +ℤ Z) ≤ℤ pos (orbit_far * orbit_far)
     → R ≤ℤ pos (orbit_far * orbit_far)
@@ -187,8 +212,7 @@ squares_up_to : (n : ℕ) (x y z : ℤ) → ((x *ℤ x) +ℤ (y *ℤ y) +ℤ (z 
 squares_up_to n x y z h = omega (arith, ints, h, square_of_amount x, square_of_amount y, square_of_amount z)
 
 range_small : (p : Pos) (x y z : ℤ) → ((x *ℤ x) +ℤ (y *ℤ y) +ℤ (z *ℤ z)) ≤ℤ pos (turned_far * turned_far)
-    → ((p.x *ℤ p.x) +ℤ (p.y *ℤ p.y) +ℤ (p.z *ℤ p.z)) ≤ℤ pos (station_reach * station_reach)
-    → range_to x y z p ≤ range_most
+    → IsNearGround p → range_to x y z p ≤ range_most
 unfolding range_to
 range_small p x y z s g =
     root_le (square (unsigned_abs (x -ℤ p.x)) + square (unsigned_abs (y -ℤ p.y)) + square (unsigned_abs (z -ℤ p.z))) range_most
@@ -198,24 +222,28 @@ range_small p x y z s g =
 
 -- ---- the difference
 
-corrected_by : (seen : Observed) (p : Pos) (x y z corrected : ℤ) (range : ℕ) → IsUsual seen
+corrected_by : (seen : Observed) (p : Pos) (x y z corrected : ℤ) (range : ℕ)
+    → ArePlausible seen.system seen.codes → HasNearRecord seen
     → (v : ChainValue seen p x y z corrected range) → IsWithin (31 * 10 ^ 11) (corrected -ℤ v.pr)
-corrected_by seen p x y z corrected range usual v =
+corrected_by seen p x y z corrected range plausible near v =
+    let pr = range_within seen.system seen.codes.first seen.codes.second v.pr plausible v.pr_is in
     corrected_near v.pr v.dt corrected
-    (clock_small seen.system seen.el _ v.n v.tsv v.dt v.t usual.root (sent_since seen.tag seen.el.toc v.pr v.tsv (usual.range v.pr v.pr_is) v.tsv_is usual.clock) v.clock) v.corrected_is
+    (clock_small seen.system seen.el _ v.n v.tsv v.dt v.t near.orbit (sent_since seen.tag seen.el.toc v.pr v.tsv pr v.tsv_is near.clock_time) v.clock) v.corrected_is
 
 small_by : (c pc q pq e d : ℤ) (r : ℕ) → IsWithin (31 * 10 ^ 11) (c -ℤ pc)
-    → IsWithin (31 * 10 ^ 11) (q -ℤ pq) → IsWithin codes_apart (pc -ℤ pq) → r ≤ range_most
-    → e ≡ q -ℤ pos r → d ≡ c -ℤ e → IsWithin (556 * 10 ^ 11) d
+    → IsWithin (31 * 10 ^ 11) (q -ℤ pq) → IsWithin pseudoranges_apart (pc -ℤ pq) → r ≤ range_most
+    → e ≡ q -ℤ pos r → d ≡ c -ℤ e → IsWithin difference_reach d
 small_by c pc q pq e d r f g h k i j = record { low = omega (arith, ints, f.low, g.high, h.low, k, i, j); high = omega (arith, ints, f.high, g.low, h.high, k, i, j) }
 
-pub difference_small : (seen : SeenByBoth) (p : Pos) (c : Chain) → AreNearby seen
-    → IsDifference seen p c → IsWithin (556 * 10 ^ 11) c.corrected
-difference_small seen p c near d =
-    let t = d.theirs in
-    let v = t.value in
-    let far = turned_near t.range seen.at v.sent_x v.sent_y t.z t.x t.y (orbit_near seen.theirs.el v.n v.t v.sent_x v.sent_y t.z near.theirs.root v.orbit) v.turn in
-    let range : t.range ≤ range_most = rw v.turn.range_is (range_small seen.at t.x t.y t.z far near.ground) in
-    small_by d.corrected d.own.pr t.corrected v.pr d.excess c.corrected t.range
-    (corrected_by seen.own p c.x c.y c.z d.corrected c.range near.own d.own) (corrected_by seen.theirs seen.at t.x t.y t.z t.corrected t.range near.theirs v)
-    (near.codes d.own.pr v.pr d.own.pr_is v.pr_is) range t.excess_is d.corrected_is
+pub difference_small : (view : CommonView) (p : Pos) (c : Chain) → ArePlausibleCodes view
+    → AreNearby view → IsNearGround view.place → IsDifferenceOf view p c
+    → IsWithin difference_reach c.corrected
+difference_small view p c plausible near ground d =
+    let s = d.station in
+    let v = s.value in
+    let far = turned_near s.range view.place v.sent_x v.sent_y s.z s.x s.y (orbit_near view.station.el v.n v.t v.sent_x v.sent_y s.z near.station.orbit v.orbit) v.turn in
+    let range : s.range ≤ range_most = rw v.turn.range_is (range_small view.place s.x s.y s.z far ground) in
+    small_by d.corrected d.receiver.pr s.corrected v.pr d.residual c.corrected s.range
+    (corrected_by view.receiver p c.x c.y c.z d.corrected c.range plausible.receiver near.receiver d.receiver)
+    (corrected_by view.station view.place s.x s.y s.z s.corrected s.range plausible.station near.station v)
+    (near.pseudoranges d.receiver.pr v.pr d.receiver.pr_is v.pr_is) range s.residual_is d.difference_is

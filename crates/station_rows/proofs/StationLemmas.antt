@@ -16,8 +16,8 @@ use Rattle.sat_rows.specs.Chains.{Chain}
 use Rattle.sat_rows.specs.Meanings.{IsSound}
 use Rattle.usable_sats.specs.Usability.{Sighting, IsUsable, IsHigh, IsJudged, sighting_by}
 use Rattle.usable_sats.proofs.JudgementLemmas.{judgement_one}
-use Rattle.station_rows.specs.Differences.{SeenByBoth, AreDifferences, less}
-use Rattle.station_rows.specs.Stations.{Station, both, IsJudgedBeside, station_meaning}
+use Rattle.station_rows.specs.Differences.{CommonView, AreDifferences, less_residual}
+use Rattle.station_rows.specs.Stations.{Station, common_view, IsJudgedByBoth, station_meaning}
 use Rattle.station_rows.proofs.DifferenceLemmas.{moved_bound}
 
 -- ---- one judgement
@@ -29,14 +29,14 @@ module _ (delays : Delays) (root : GridBox) (station : Station) (a : Sighting) w
   usable_and_not : (s : Skip) → IsUsable a → IsHigh delays root → IsJudged delays root a (Some s) → ⊥
   usable_and_not s u h f = none-some s (judgement_one a delays root None (Some s) (u, h) f)
 
-  not_both : (s : Skip) → IsJudgedBeside delays root station a None
-      → IsJudgedBeside delays root station a (Some s) → ⊥
+  not_both : (s : Skip) → IsJudgedByBoth delays root station a None
+      → IsJudgedByBoth delays root station a (Some s) → ⊥
   not_both s f (inl g) = usable_and_not s f.0 f.1 g
   not_both s f (inr (inl g)) = g.none f.2
   not_both s f (inr (inr g)) = g.far f.0 f.2 f.3
 
-  one_reason : (s t : Skip) → IsJudgedBeside delays root station a (Some s)
-      → IsJudgedBeside delays root station a (Some t) → s ≡ t
+  one_reason : (s t : Skip) → IsJudgedByBoth delays root station a (Some s)
+      → IsJudgedByBoth delays root station a (Some t) → s ≡ t
   one_reason s t (inl f) (inl g) = same_Some s t (judgement_one a delays root (Some s) (Some t) f g)
   one_reason s t (inl f) (inr (inl g)) = absurd (usable_and_not s g.usable g.high f)
   one_reason s t (inl f) (inr (inr g)) = absurd (usable_and_not s g.usable g.high f)
@@ -47,44 +47,44 @@ module _ (delays : Delays) (root : GridBox) (station : Station) (a : Sighting) w
   one_reason s t (inr (inr f)) (inr (inl g)) = absurd (g.none f.seen)
   one_reason s t (inr (inr f)) (inr (inr g)) = same_skip s t (f.number ∙ sym g.number) (f.field ∙ sym g.field)
 
-  pub beside_one : (x y : Option Skip) → IsJudgedBeside delays root station a x
-      → IsJudgedBeside delays root station a y → x ≡ y
-  beside_one None None f g = refl
-  beside_one None (Some t) f g = absurd (not_both t f g)
-  beside_one (Some s) None f g = absurd (not_both s g f)
-  beside_one (Some s) (Some t) f g = ap (λ (k : Skip). Some k) (one_reason s t f g)
+  pub judged_one : (x y : Option Skip) → IsJudgedByBoth delays root station a x
+      → IsJudgedByBoth delays root station a y → x ≡ y
+  judged_one None None f g = refl
+  judged_one None (Some t) f g = absurd (not_both t f g)
+  judged_one (Some s) None f g = absurd (not_both s g f)
+  judged_one (Some s) (Some t) f g = ap (λ (k : Skip). Some k) (one_reason s t f g)
 
 -- ---- something is allowed
 
-pub differences_exist : (seen : SeenByBoth) (p : Pos) (delays : Delays) (declared : ℤ × ℤ) (root : GridBox)
+pub differences_exist : (view : CommonView) (p : Pos) (delays : Delays) (declared : ℤ × ℤ) (root : GridBox)
     → IsSearchBox root → box_holds root p ≡ true → IsHigh delays root
-    → (c : Chain) × AreDifferences delays declared seen p c
-differences_exist seen p delays declared root box inside high =
-    let (c, are) = chain_exists seen.own p delays declared root box inside high in
-    let (x, y, z, corrected, range, value) = values_exist seen.theirs seen.at in
-    let excess = corrected -ℤ pos range in (
-      less c excess,
+    → (c : Chain) × AreDifferences delays declared view p c
+differences_exist view p delays declared root box inside high =
+    let (c, are) = chain_exists view.receiver p delays declared root box inside high in
+    let (x, y, z, corrected, range, value) = values_exist view.station view.place in
+    let residual = corrected -ℤ pos range in (
+      less_residual c residual,
       (
         record {
           corrected = c.corrected;
-          own = are.0;
-          excess = excess;
-          theirs = record { x = x; y = y; z = z; corrected = corrected; range = range; value = value; excess_is = refl };
-          corrected_is = refl;
+          receiver = are.0;
+          residual = residual;
+          station = record { x = x; y = y; z = z; corrected = corrected; range = range; value = value; residual_is = refl };
+          difference_is = refl;
         },
-        moved_bound delays declared p c (c.corrected -ℤ excess) are.1,
+        moved_bound delays declared p c (c.corrected -ℤ residual) are.1,
       ),
     )
 
 pub station_sound : (galileo : Option Signal) (records : List NavRecord) (settings : Settings)
     (station : Station) → IsSound (station_meaning galileo records settings station)
 station_sound galileo records settings station = record {
-  one_judgement = λ root tag seen. beside_one settings.delays root station (sighting_by galileo records settings tag seen);
+  one_judgement = λ root tag seen. judged_one settings.delays root station (sighting_by galileo records settings tag seen);
   allowed_exists = λ root tag seen p box inside judged.
       let a = sighting_by galileo records settings tag seen in
-      let found = differences_exist (both station a judged.0 judged.2) p settings.delays (bound_for seen.sat (value_of_settings settings)) root box inside judged.1 in
+      let found = differences_exist (common_view station a judged.0 judged.2) p settings.delays (bound_for seen.sat (value_of_settings settings)) root box inside judged.1 in
       (found.0, record { usable = judged.0; seen = judged.2; are = found.1 });
-  range_is = λ tag seen p c d. d.are.0.own.turn.range_is;
+  range_is = λ tag seen p c d. d.are.0.receiver.turn.range_is;
   bound_is = λ tag seen p c d. d.are.1;
   delays_within = settings.delays_within;
 }

@@ -1,19 +1,34 @@
-//! What the rows of a satellite are formed from, less what the station's is longer than its range.
+//! The receiver's base of a satellite less the residuals of a station.
 
-ghost use Rattle.std.specs.Prelude.{◌≡◌, pos, ◌-ℤ◌, ◌≤ℤ◌, true};
+ghost use Rattle.std.specs.Prelude.{◌≡◌, true};
+ghost use Rattle.fix_interval.specs.Factors.{Holds, HasEnds};
 ghost use Rattle.grid_model.specs.Boxes.{grid_box, box_holds};
 ghost use Rattle.grid_model.specs.Lengths.{longest_length};
+ghost use Rattle.grid_model.specs.Sizes.{IsBoxSize};
 ghost use Rattle.grid_model.specs.declared.boxes.Pos.{Pos};
 ghost use Rattle.gnss_model.specs.declared.delays.Delays.{Delays};
 ghost use Rattle.sat_rows.specs.Bases.{ComesFrom, IsNarrowBase};
 ghost use Rattle.sat_rows.specs.Chains.{Chain};
-ghost use Rattle.station_rows.specs.Differences.{less, excess_of};
-ghost use Rattle.station_rows.specs.NearBases.{HasNearDifference};
+ghost use Rattle.station_rows.specs.Bases.{HaveSmallDifference, IsBaseOfOne};
+ghost use Rattle.station_rows.specs.Bases.{residual_amount, residual_width};
+ghost use Rattle.station_rows.specs.Differences.{less_residual, residual_of};
+ghost use Rattle.station_rows.specs.Nearby.{IsNearGround};
 
 use earth_rotation::seen_range;
 use fix_interval::Exact;
-use grid_model::{Box3, Span};
+use grid_model::{Box3, Pos, Span};
 use sat_rows::{Base, span_of};
+
+/// The box of a point.
+fn point(at: &Pos) -> Box3
+    requires x_size { IsBoxSize at.now.x }
+    requires y_size { IsBoxSize at.now.y }
+    requires z_size { IsBoxSize at.now.z }
+    ensures small { longest_length (grid_box result) ≡ 0 }
+    ensures holds { box_holds (grid_box result) at.now ≡ true }
+{
+    Box3 { lo: *at, hi: *at }
+}
 
 /// The same numbers in 128 bits.
 fn wide(span: Span) -> Exact
@@ -26,30 +41,41 @@ fn wide(span: Span) -> Exact
     }
 }
 
-/// The base of the difference: as the receiver's own, but for its range, which is less by what the
-/// station's corrected pseudorange is longer than its range. `at` is the place of the station, as a
-/// box of one point.
-pub fn less_station(own: &Base, theirs: &Base, at: &Box3) -> Base
-    requires own { IsNarrowBase own.now }
-    requires theirs { IsNarrowBase theirs.now }
-    requires own_width { (own.now.range.hi -ℤ own.now.range.lo) ≤ℤ pos 14 }
-    requires their_width { (theirs.now.range.hi -ℤ theirs.now.range.lo) ≤ℤ pos 14 }
-    requires point { longest_length (grid_box at.now) ≡ 0 }
-    requires near { HasNearDifference own.now theirs.now (grid_box at.now) }
-    ensures sat { result.sat ≡ own.now.sat }
-    ensures err { result.err ≡ own.now.err }
-    ensures holds { (delays other : Delays) (p q : Pos) (c d : Chain)
-        → ComesFrom delays own.now p c → box_holds (grid_box at.now) q ≡ true
-        → ComesFrom other theirs.now q d → ComesFrom delays result p (less c (excess_of d)) }
+/// Every residual in um at the place of a station: a corrected pseudorange less the range, by what
+/// comes from the station's base of a satellite. With its sign changed it is the correction of
+/// differential GPS, but for the station's clock offset.
+fn residuals(station: &Base, place: &Pos) -> Exact
+    requires base { IsBaseOfOne station.now }
+    requires ground { IsNearGround place.now }
+    ensures holds { (delays : Delays) (c : Chain) → ComesFrom delays station.now place.now c
+        → Holds result (residual_of c) }
+    ensures ends { HasEnds residual_amount residual_width result }
+{
+    let at = point(place);
+    let range = seen_range(station.place, &at);
+    wide(station.range).minus(range)
+}
+
+/// The base of the single difference: the receiver's own, but for its corrected pseudoranges, which
+/// are less by the station's residuals.
+pub(crate) fn single_difference(receiver: &Base, station: &Base, place: &Pos) -> Base
+    requires receiver { IsBaseOfOne receiver.now }
+    requires station { IsBaseOfOne station.now }
+    requires ground { IsNearGround place.now }
+    requires small { HaveSmallDifference receiver.now station.now place.now }
+    ensures sat { result.sat ≡ receiver.now.sat }
+    ensures err { result.err ≡ receiver.now.err }
+    ensures holds { (delays other : Delays) (p : Pos) (c d : Chain)
+        → ComesFrom delays receiver.now p c → ComesFrom other station.now place.now d
+        → ComesFrom delays result p (less_residual c (residual_of d)) }
     ensures narrow { IsNarrowBase result }
 {
-    let range = seen_range(theirs.place, at);
-    let excess = wide(theirs.range).minus(range);
-    let less = wide(own.range).minus(excess);
+    let residual = residuals(station, place);
+    let difference = wide(receiver.range).minus(residual);
     Base {
-        sat: own.sat,
-        place: own.place,
-        range: span_of(less),
-        err: own.err,
+        sat: receiver.sat,
+        place: receiver.place,
+        range: span_of(difference),
+        err: receiver.err,
     }
 }

@@ -9,7 +9,7 @@ ghost use Rattle.station_rows.specs.Stations.{Station, station_meaning};
 
 /// With a station each satellite is judged in one way, and something is allowed of a usable one at
 /// each point of the search box. The call does nothing.
-pub fn a_station_is_sound()
+pub fn station_meaning_is_sound()
     ensures { (galileo : Option Signal) (records : List NavRecord) (settings : Settings)
         (station : Station) → IsSound (station_meaning galileo records settings station) }
 {}
