@@ -33,8 +33,8 @@ pub record ComesFrom (delays : Delays) (base : Base) (p : Pos) (c : Chain) : Typ
   pub corrected : Between base.range.lo base.range.hi c.corrected
   pub bound : IsBound delays (ends base.err) p c
 
--- it is known as near as one orbit and one pseudorange tell, and all members of the place are as
--- far from the origin as an orbit
+-- it is known as near as one orbit and one pseudorange, or the difference of two receivers', tell,
+-- and all members of the place are as far from the origin as an orbit
 pub record IsNarrowBase (base : Base) : Type 0 where
   pub place : PlaceEnds near_reach narrow_width base.place
   pub distance : (x y z : ℤ) → HoldsPlace base.place x y z → IsOrbitDistance x y z

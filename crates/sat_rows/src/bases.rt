@@ -33,7 +33,8 @@ pub struct Base {
 
 /// The base of a system's satellite whose signal came at `tag` by the receiver's clock, in ps since
 /// 1980-01-06 00:00:00 GPS time and within 14,401 s of the ephemeris time. `declared`, in um, is
-/// the sum of the spans that are declared for its error.
+/// the sum of the spans that are declared for its error. The corrected pseudoranges are at most 14
+/// um apart.
 pub fn base_of(
     system: System,
     sat: Sat,
