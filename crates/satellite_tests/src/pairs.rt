@@ -15,7 +15,7 @@ const RECEIVER: Pos = Pos {
 
 /// 3 km to the east of the receiver.
 const STATION: Pos = Pos {
-    x: 6_378_136_294_453,
+    x: 6_378_136_294_000,
     y: 3_000_000_000,
     z: 0,
 };
@@ -97,15 +97,14 @@ fn is_row_of(row: &Row, y: (i64, i64), difference: (i64, i64)) -> bool {
 
 #[test]
 fn what_is_wrong_for_both_drops_out(rt: HostRuntime) {
-    // By vectors/pair_numbers.py, rounded down and up. The satellite is 20661863.000105 m from the
-    // receiver and 20661863.943176 m from the station, so the code of the station is 1522777.948824
-    // m longer than its range.
+    // By vectors/pair_numbers.py, rounded down and up. The satellite is 20661863.943629 m from the
+    // station, so the station's code is 1522777.948371 m longer than its range.
     let pair = row_of_both(&PAIR, &circle(), DECLARED, &HERE);
     assert!(rt;
         is_row_of(
             &pair,
             (-135_896_722, -135_896_721),
-            (19_462_694_111_176, 19_462_694_111_177)
+            (19_462_694_111_629, 19_462_694_111_630)
         ),
         "the difference"
     );
@@ -115,7 +114,7 @@ fn what_is_wrong_for_both_drops_out(rt: HostRuntime) {
         is_row_of(
             &late,
             (-135_898_591, -135_898_590),
-            (19_462_694_111_176, 19_462_694_111_177)
+            (19_462_694_111_629, 19_462_694_111_630)
         ),
         "a clock that is wrong for both"
     );

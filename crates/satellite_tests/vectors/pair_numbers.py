@@ -16,7 +16,7 @@ LIGHT_SPEED = mpf(299792458) * 10**6  # um/s
 RADIUS = mpf(5200) ** 2 * 10**6
 RATE = sqrt(GRAVITY / RADIUS**3) - EARTH_RATE  # over the turning earth
 RECEIVER = (6_378_137_000_000, 0)
-STATION = (6_378_136_294_453, 3_000_000_000)
+STATION = (6_378_136_294_000, 3_000_000_000)
 
 
 def seen(time, code, point):
