@@ -13,7 +13,7 @@ ghost use Rattle.sat_rows.specs.Chains.{Chain};
 ghost use Rattle.sat_rows.specs.OwnRows.{HasBounds, IsSmall, IsTight};
 ghost use Rattle.sat_rows.specs.RowSizes.{AreNarrow, IsNearEpoch};
 ghost use Rattle.station_rows.specs.Differences.{AreDifferences, ErrorsDifferWithin};
-ghost use Rattle.station_rows.specs.Nearby.{AreNearby, ArePlausibleCodes, IsNearGround};
+ghost use Rattle.station_rows.specs.Nearby.{AreNearby, IsNearGround};
 ghost use Rattle.station_rows.specs.Observations.{view_of};
 ghost use Rattle.usable_sats.specs.Measured.{codes_of};
 ghost use Rattle.usable_sats.specs.Usability.{ArePlausible};
@@ -51,13 +51,21 @@ pub fn base_of_both(common: &CommonSat, el: &Elements, declared: Span) -> Base
         → ComesFrom delays result p c }
     ensures narrow { IsNarrowBase result }
 {
-    let own = common.receiver;
-    let theirs = common.station;
     let receiver = base_of(
-        common.system, common.sat, own.tag, &own.codes, el, declared,
+        common.system,
+        common.sat,
+        common.receiver.tag,
+        &common.receiver.codes,
+        el,
+        declared,
     );
     let station = base_of(
-        common.system, common.sat, theirs.tag, &theirs.codes, el, declared,
+        common.system,
+        common.sat,
+        common.station.tag,
+        &common.station.codes,
+        el,
+        declared,
     );
     single_difference(&receiver, &station, &common.place)
 }

@@ -1,7 +1,9 @@
-use Rattle.std.proofs.Common.{refl}
+use Rattle.std.proofs.Common.{refl, subst}
 use Rattle.std.specs.Prelude.{pos, ◌-ℤ◌}
 use Rattle.sat_model.specs.Relaxed.{ends}
+use Rattle.grid_model.specs.declared.spans.Span.{Span}
 use Rattle.sat_rows.specs.Chains.{Chain}
+use Rattle.sat_rows.specs.OwnRows.{HasBounds}
 use Rattle.station_rows.proofs.DifferenceLemmas.{plain, plain_bound, errors_apart, possible_by}
 use Rattle.station_rows.proofs.rows.row_of_both.Goals as goal
 
@@ -16,3 +18,6 @@ returns-clause-possible c p offset station_offset inside e =
     let held = c.renewed.ensures.holds p chain inside comes in
     possible_by c.renewed.result p (offset -ℤ station_offset) chain held e.value.turn.range_is
     (errors_apart e.corrected (pos e.range) offset e.residual station_offset declared.0 declared.1 e.between)
+
+pub returns-clause-bounds : goal.returns-clause-bounds
+returns-clause-bounds c = subst (λ (s : Span). HasBounds c.renewed.result (ends s)) c.base_of_both-base.ensures.err (c.renewed.ensures.plain refl)
