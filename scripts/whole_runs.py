@@ -3,8 +3,8 @@
 
 usage: whole_runs.py PROGRAM
 
-Each run's status, standard output and standard error are compared byte for byte, and so is all that stands in its folder
-behind it: no file but LOG is made or changed. The expected texts are written here by hand. Runs that read files are run once
+Each run's status, standard output, standard error and LOG are compared byte for byte, and no other file of its folder is
+made or written. The expected texts are written here by hand. Runs that read files are run once
 more where these are pipes that give one byte a read. It takes some seconds. The last line is
 `whole runs: N passed, M failed`, and the status 1 where one failed.
 """
@@ -131,14 +131,10 @@ def few_report(first, last):
 
 # ---- runs
 
-def contents(folder):
-    """The files of a folder by their names, and of one of zeros its size; a pipe isn't read."""
-    return {path.name: content(path) for path in folder.iterdir() if path.is_file()}
-
-
-def content(path):
-    size = path.stat().st_size
-    return Zeros(size) if size > INPUT else path.read_bytes()
+def marks(folder, but=()):
+    """What tells of each file, but these, that it was made or written."""
+    stats = {path.name: path.stat() for path in folder.iterdir() if path.is_file() and path.name not in but}
+    return {name: (it.st_ino, it.st_size, it.st_mtime_ns) for name, it in stats.items()}
 
 
 def feed(path, data):
@@ -186,10 +182,12 @@ class WholeRuns(unittest.TestCase):
         return ran.returncode, ran.stdout, ran.stderr
 
     def expect_in(self, folder, words, status=DONE, out="", err="", made=None):
-        """A run in the folder, and what it leaves: these texts, the files that were there, and those that are made."""
-        left = contents(folder) | {name: text.encode() for name, text in (made or {}).items()}
+        """A run in the folder, and what it leaves: these texts, these files, and each other as it was."""
+        made = {name: text.encode() for name, text in (made or {}).items()}
+        left = marks(folder, made)
         self.assertEqual(self.run_in(folder, words), (status, out.encode(), err.encode()), words)
-        self.assertEqual(contents(folder), left, words)
+        self.assertEqual({name: (folder / name).read_bytes() for name in made}, made, words)
+        self.assertEqual(marks(folder, made), left, words)
 
     def expect(self, words, files, status=DONE, out="", err="", made=None):
         """A run in a folder of these files."""
@@ -403,9 +401,9 @@ class Making(WholeRuns):
             self.assertLessEqual(int(boxes.split()[-1]), 64 * epochs)
 
     def made_in(self, folder, seed, epochs):
-        before = contents(folder)
+        left = marks(folder)
         said = self.done_in(folder, ["make", str(seed), str(epochs)])
-        self.assertEqual(contents(folder), before)
+        self.assertEqual(marks(folder), left)
         return said
 
     def written(self, texts, writer, checker, first, renewals):
