@@ -124,8 +124,8 @@ side_by_side() {
 # Passes on nothing of what a check says but the names of the crates that have ended, of $1.
 tell_ended() {
     ended=0
-    while read -r mark crate _; do
-        if [ "$mark" = "==" ] && [ "$crate" != summary ]; then
+    while read -r mark crate more; do
+        if [ "$mark" = "==" ] && [ "$crate" != summary ] && [ -z "$more" ]; then
             ended=$((ended + 1))
             echo "gpscover: $crate has ended (crate $ended of $1)" >&2
         fi
