@@ -1,8 +1,9 @@
 -- All steps of one box: there are such, with at most 1,014 cuts.
-use Rattle.std.proofs.Common.{◌≡◌, ℕ, ◌+◌, ◌-◌, ◌<◌, ◌≤◌, arith, List, [], ◌∷◌, ◌++◌, length, inl, inr, refl, sym, ap, subst, ◌∙◌, ◌↔◌, Bool, true, false}
+use Rattle.std.proofs.Common.{◌≡◌, ℕ, ◌+◌, ◌-◌, ◌<◌, ◌≤◌, append_assoc, arith, List, [], ◌∷◌, ◌++◌, length, inl, inr, refl, sym, ap, subst, ◌∙◌, ◌↔◌, Bool, true, false}
 use Rattle.std.specs.Prelude.{ℤ, pos, ◌*ℤ◌, ◌≤ℤ◌}
 use Rattle.std.proofs.lemmas.List.{append-nil, length-append}
 use Rattle.grid_model.specs.declared.boxes.Box3.{Box3}
+use Rattle.grid_model.specs.declared.spans.Span.{Span}
 use Rattle.sat_model.specs.declared.rules.Rules.{Rules}
 use Rattle.sat_model.specs.declared.steps.Step.{Step}
 use Rattle.sat_model.specs.declared.steps.Step.TheVariants.{Cut, Split, Outside, Inside, Edge}
@@ -15,6 +16,9 @@ use Rattle.sat_model.specs.Waiting.{WaitingBox, IsUndecided, Closes}
 use Rattle.sat_model.specs.RowTrees.{row_tree}
 use Rattle.sat_model.specs.Trees.{TreeValue}
 use Rattle.sat_model.proofs.RelaxedExists.{relaxed_hull}
+use Rattle.relaxed_meet.specs.BoxStates.{IsBoxState}
+use Rattle.relaxed_meet.specs.declared.shown.BoxState.{BoxState}
+use Rattle.relaxed_meet.specs.declared.shown.BoxState.TheVariants.{Empty, Inner, Undecided}
 use Rattle.relaxed_meet.proofs.TestLemmas.{empty_by_spans}
 use Rattle.range_contractor.proofs.BoxLemmas.{box_lies}
 use Rattle.range_contractor.proofs.FaceLemmas.{proposal}
@@ -22,19 +26,13 @@ use Rattle.range_contractor.proofs.LeafLemmas.{box_sizes}
 use Rattle.range_contractor.proofs.RowLemmas.{count_rows}
 use Rattle.range_contractor.proofs.RowTreeExists.{rows_grain}
 use Rattle.range_contractor.proofs.TreeExists.{IsGridPart, inside_part, tied_exists}
-use Rattle.box_contraction.specs.Taken.{TookAll, step_bytes}
-use Rattle.box_contraction.specs.declared.steps.StepFault.{StepFault}
-use Rattle.box_contraction.specs.declared.steps.StepFault.TheVariants.{Full}
+use Rattle.box_contraction.specs.Adding.{AddsCuts}
 use Rattle.box_contraction.specs.Cuts.{all_faces, eighths, NoneMayCut, AreEighthCuts, AreDeepCuts, AreFacesDone, AreRoundCuts, IsCutTo, IsFaceDone}
 use Rattle.box_contraction.specs.BoxSteps.{AreCutsByTree, IsCutDown, IsCutBy, IsCut, AreCutsOf, AreBoxSteps}
-use Rattle.box_contraction.specs.Ends.{last_of, TookBox}
-use Rattle.box_contraction.specs.declared.work.Ended.{Ended}
-use Rattle.box_contraction.specs.Taking.{TookCuts, BrokeOff, LeaveSome}
 use Rattle.box_contraction.specs.declared.target.Target.TheVariants.{Eighths, Deep}
 use Rattle.box_contraction.proofs.EndingExists.{ending_exists}
 use Rattle.box_contraction.proofs.FaceLemmas.{IsSomeCut, AreFaces, both_faces, proposal_cuts_exist, proposal_some, faces_few, faces_inside, faces_as, faces_both, done_some, eighth_done}
 use Rattle.box_contraction.proofs.RoundLemmas.{target_rule, rounds_exist, rounds_few, round_cuts_as, round_cuts_faces, round_cuts_leave}
-use Rattle.box_contraction.proofs.TakingLemmas.{took_both, broke_in, one_broke}
 
 pub grid_part : (part : Box3) → IsGridPart (grid_box part)
 grid_part part = record { lies = box_lies part; sizes = box_sizes part }
@@ -107,115 +105,53 @@ cuts_some g slack test box cuts left are = elim are [
   | inr (decided, none, same) ↦ ([], (tt, (none, same)))
 ]
 
--- ---- what the log took
+-- ---- the steps of a box, from its cuts and its last step
 
-pub down_took : {L : Type 0} (took : L → Step → GridBox → L → Type 0) (g slack : ℤ) (test then_test : BoxTest) (t : TreeValue) (clock : Side) (id : ℕ) (part middle left : GridBox) (first then last : L) (by_tree by_eighths : ℕ)
+-- a state that isn't undecided
+pub not_undecided : (test : BoxTest) (part : GridBox) (state : BoxState)
+    → ((hull : Span) → state ≡ Undecided hull → ⊥) → IsBoxState test part state
+    → IsUndecided test part → ⊥
+not_undecided test part Empty not is u = u.not_empty is
+not_undecided test part (Inner clock hull) not is u = u.not_inner clock is.1.shown
+not_undecided test part (Undecided hull) not is u = not hull refl
+
+-- the same test shows the same
+pub state_at : (a b : BoxTest) (part : GridBox) (state : BoxState) → a ≡ b → IsBoxState a part state
+    → IsBoxState b part state
+state_at a b part state e is = subst (λ (t : BoxTest). IsBoxState t part state) e is
+
+pub undecided_of : (test : BoxTest) (part : GridBox) (state : BoxState) (hull : Span)
+    → state ≡ Undecided hull → IsBoxState test part state → IsUndecided test part
+undecided_of test part state hull e is =
+    let own : IsBoxState test part (Undecided hull) = subst (λ (s : BoxState). IsBoxState test part s) e is in
+    record { not_empty = own.0; not_inner = own.1 }
+
+pub cut_down_adds : (g slack : ℤ) (test then_test : BoxTest) (t : TreeValue) (clock : Side) (id : ℕ) (part middle left : GridBox) (first then last : List ShownStep)
     → t ≡ row_tree g test.rows test.q → then_test ≡ test → IsHull test part clock.lo clock.hi
-    → TookCuts took (AreCutsByTree g slack t clock test id part) first by_tree middle then
-    → TookCuts took (AreEighthCuts then_test id middle) then by_eighths left last
-    → TookCuts took (IsCutDown g slack test id part) first (by_tree + by_eighths) left last
-down_took took g slack test then_test t clock id part middle left first then last by_tree by_eighths e f hull a b = record {
-  steps = a.steps ++ b.steps;
+    → AddsCuts (AreCutsByTree g slack t clock test id part) first middle then
+    → AddsCuts (AreEighthCuts then_test id middle) then left last
+    → AddsCuts (IsCutDown g slack test id part) first left last
+cut_down_adds g slack test then_test t clock id part middle left first then last e f hull a b = record {
+  cuts = a.cuts ++ b.cuts;
   are = record {
     clock = clock;
     hull = hull;
-    by_tree = a.steps;
+    by_tree = a.cuts;
     middle = middle;
-    tree_cuts = subst (λ (u : TreeValue). AreCutsByTree g slack u clock test id part a.steps middle) e a.are;
-    by_eighths = b.steps;
-    eighth_cuts = subst (λ (u : BoxTest). AreEighthCuts u id middle b.steps left) f b.are;
+    tree_cuts = subst (λ (u : TreeValue). AreCutsByTree g slack u clock test id part a.cuts middle) e a.are;
+    by_eighths = b.cuts;
+    eighth_cuts = subst (λ (u : BoxTest). AreEighthCuts u id middle b.cuts left) f b.are;
     all_cuts = refl;
   };
-  taken = took_both took a.steps b.steps first then last a.taken b.taken;
-  counted = omega (arith, a.counted, b.counted, length-append a.steps b.steps);
+  added = b.added ∙ ap (λ (l : List ShownStep). l ++ b.cuts) a.added ∙ append_assoc first a.cuts b.cuts;
 }
 
--- the tree's cuts broke off
-pub tree_broke : {L : Type 0} (took broke : L → Step → GridBox → L → Type 0) (room : L → ℕ) (fault : StepFault) (g slack : ℤ) (test : BoxTest) (t : TreeValue) (clock : Side) (id : ℕ) (part : GridBox) (first last : L)
-    → test.q < length test.rows → IsGridPart part → t ≡ row_tree g test.rows test.q
-    → IsHull test part clock.lo clock.hi
-    → BrokeOff took broke room fault (LeaveSome (AreCutsByTree g slack t clock test id part)) first last
-    → BrokeOff took broke room fault (LeaveSome (IsCutDown g slack test id part)) first last
-tree_broke took broke room fault g slack test t clock id part first last few grid e hull b =
-    broke_in took broke room fault (LeaveSome (AreCutsByTree g slack t clock test id part)) (LeaveSome (IsCutDown g slack test id part)) [] first first last refl b
-    (λ steps some.
-    let (middle, by) = some in
-    let own : AreCutsByTree g slack (row_tree g test.rows test.q) clock test id part steps middle = subst (λ (u : TreeValue). AreCutsByTree g slack u clock test id part steps middle) e by in
-    let (more, (left, eighths)) = eighths_exist test id middle few (by_tree_grid g slack (row_tree g test.rows test.q) clock test id part steps middle grid own) in
-    (more, (left, record { clock = clock; hull = hull; by_tree = steps; middle = middle; tree_cuts = own; by_eighths = more; eighth_cuts = eighths; all_cuts = refl })))
-
--- the eighths broke off
-pub eighths_broke : {L : Type 0} (took broke : L → Step → GridBox → L → Type 0) (room : L → ℕ) (fault : StepFault) (g slack : ℤ) (test then_test : BoxTest) (t : TreeValue) (clock : Side) (id : ℕ) (part middle : GridBox) (first then last : L) (by_tree : ℕ)
-    → t ≡ row_tree g test.rows test.q → then_test ≡ test → IsHull test part clock.lo clock.hi
-    → TookCuts took (AreCutsByTree g slack t clock test id part) first by_tree middle then
-    → BrokeOff took broke room fault (LeaveSome (AreEighthCuts then_test id middle)) then last
-    → BrokeOff took broke room fault (LeaveSome (IsCutDown g slack test id part)) first last
-eighths_broke took broke room fault g slack test then_test t clock id part middle first then last by_tree e f hull a b =
-    broke_in took broke room fault (LeaveSome (AreEighthCuts then_test id middle)) (LeaveSome (IsCutDown g slack test id part)) a.steps first then last a.taken b
-    (λ steps some.
-    let (left, are) = some in (
-      [],
-      (
-        left,
-        record {
-          clock = clock;
-          hull = hull;
-          by_tree = a.steps;
-          middle = middle;
-          tree_cuts = subst (λ (u : TreeValue). AreCutsByTree g slack u clock test id part a.steps middle) e a.are;
-          by_eighths = steps;
-          eighth_cuts = subst (λ (u : BoxTest). AreEighthCuts u id middle steps left) f are;
-          all_cuts = ap (λ l. a.steps ++ l) (append-nil steps);
-        },
-      ),
-    ))
-
-took_one : {L : Type 0} (took : L → Step → GridBox → L → Type 0) (step : Step) (part : GridBox) (now last : L)
-    → took now step part last → TookAll took now ((record { step = step; part = part }) ∷ []) last
-took_one took step part now last t = (last, t, refl)
-
--- the cuts and the last step were taken
-pub box_took : {L : Type 0} (took : L → Step → GridBox → L → Type 0) (g slack : ℤ) (test : BoxTest) (rules : Rules) (splits : ℕ) (box : WaitingBox) (first then last : L) (ended : Ended)
-    → TookCuts took (AreCutsOf g slack test box) first ended.cuts (grid_box ended.left) then
-    → Closes test rules splits box.id (grid_box ended.left) ended.step
-    → took then ended.step (grid_box ended.left) last
-    → TookBox took (AreBoxSteps g slack test rules splits box) first ended last
-box_took took g slack test rules splits box first then last ended c closes t = record {
-  cuts = c.steps;
-  are = record { cuts = c.steps; left = grid_box ended.left; are_cuts = c.are; last = ended.step; closes = closes; all_steps = refl };
-  taken = took_both took c.steps (last_of ended ∷ []) first then last c.taken (took_one took ended.step (grid_box ended.left) then last t);
-  counted = c.counted;
-}
-
--- the last step broke
-pub last_broke : {L : Type 0} (took broke : L → Step → GridBox → L → Type 0) (room : L → ℕ) (fault : StepFault) (g slack : ℤ) (test : BoxTest) (rules : Rules) (splits : ℕ) (box : WaitingBox) (first then last : L) (count : ℕ) (left : GridBox) (step : Step)
-    → TookCuts took (AreCutsOf g slack test box) first count left then
-    → Closes test rules splits box.id left step → broke then step left last
-    → ((fault ≡ Full) ↔ (room then < length (step_bytes step)))
-    → BrokeOff took broke room fault (AreBoxSteps g slack test rules splits box) first last
-last_broke took broke room fault g slack test rules splits box first then last count left step c closes broken full =
-    let next : ShownStep = record { step = step; part = left } in
-    broke_in took broke room fault (λ steps. steps ≡ next ∷ []) (AreBoxSteps g slack test rules splits box) c.steps first then last c.taken (one_broke took broke room fault next then last broken full)
-    (λ steps one. ([], record { cuts = c.steps; left = left; are_cuts = c.are; last = step; closes = closes; all_steps = ap (λ l. c.steps ++ l) (append-nil steps ∙ one) }))
-
--- the cuts broke off
-pub cuts_broke : {L : Type 0} (took broke : L → Step → GridBox → L → Type 0) (room : L → ℕ) (fault : StepFault) (g slack : ℤ) (test : BoxTest) (rules : Rules) (splits : ℕ) (box : WaitingBox) (first last : L)
-    → test.q < length test.rows
-    → IsUndecided test box.part
-    → BrokeOff took broke room fault (LeaveSome (IsCut g slack test box.id box.part)) first last
-    → BrokeOff took broke room fault (AreBoxSteps g slack test rules splits box) first last
-cuts_broke took broke room fault g slack test rules splits box first last few undecided b =
-    broke_in took broke room fault (LeaveSome (IsCut g slack test box.id box.part)) (AreBoxSteps g slack test rules splits box) [] first first last refl b
-    (λ steps some.
-    let (left, cut) = some in
-    let (step, closes) = ending_exists test rules splits box.id left few in
-    ((record { step = step; part = left }) ∷ [], record { cuts = steps; left = left; are_cuts = inl (undecided, cut); last = step; closes = closes; all_steps = refl }))
-
--- no cut of a box that isn't undecided
-pub no_cuts_taken : {L : Type 0} (took : L → Step → GridBox → L → Type 0) (g slack : ℤ) (test : BoxTest) (box : WaitingBox) (log : L)
-    → (IsUndecided test box.part → ⊥)
-    → TookCuts took (AreCutsOf g slack test box) log 0 box.part log
-no_cuts_taken took g slack test box log decided = record { steps = []; are = inr (decided, refl, refl); taken = refl; counted = refl }
+pub box_steps_are : (g slack : ℤ) (test : BoxTest) (rules : Rules) (splits : ℕ) (box : WaitingBox) (left : GridBox) (step : Step) (cuts all : List ShownStep)
+    → AreCutsOf g slack test box cuts left → Closes test rules splits box.id left step
+    → all ≡ cuts ++ (record { step = step; part = left }) ∷ []
+    → AreBoxSteps g slack test rules splits box all
+box_steps_are g slack test rules splits box left step cuts all are closes e =
+    record { cuts = cuts; left = left; are_cuts = are; last = step; closes = closes; all_steps = e }
 
 -- ---- each box of the grid has steps
 

@@ -1,4 +1,3 @@
-pub mod TakingLemmas
 pub mod EighthLemmas
 pub mod FaceLemmas
 pub mod TargetLemmas

@@ -161,14 +161,6 @@ rounds_up_to test id Done (suc fuel) part most rule b le =
     let (more, (left, are)) = go_on Done part middle steps cut (λ some. rounds_up_to test id Done fuel middle rest rule c (omega arith)) in
     (steps ∷ more, (left, are))
 
--- each round goes on to rounds that end
-pub round_goes_on : (test : BoxTest) (id : ℕ) (Done : ℕ → GridBox → List ShownStep → GridBox → Type 0) (part middle : GridBox) (steps : List ShownStep) (most : ℕ)
-    → IsDeepRule test id Done → Budget part most
-    → AreFacesDone Done all_faces part steps middle → GoOn Done part steps
-round_goes_on test id Done part middle steps most rule b cut =
-    let (rest, (e, c)) = round_spent test id Done part steps middle most rule cut b in
-    go_on Done part middle steps cut (λ some. rounds_up_to test id Done rest middle rest rule c (omega arith))
-
 pub rounds_exist : (test : BoxTest) (id : ℕ) (Done : ℕ → GridBox → List ShownStep → GridBox → Type 0) (part : GridBox)
     → IsDeepRule test id Done → IsGridPart part
     → (steps : List ShownStep) × ((left : GridBox) × AreRoundCuts Done part steps left)

@@ -1,7 +1,4 @@
-pub mod Taken
-pub mod Renewing
+pub mod Adding
 pub mod Cuts
 pub mod BoxSteps
 pub mod Targets
-pub mod Taking
-pub mod Ends

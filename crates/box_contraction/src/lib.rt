@@ -3,6 +3,7 @@
 //! or more. Else they are what a tree of contractors proposes, and then eighths.
 #![tactic(auto)]
 
+mod box_step;
 mod closing;
 mod depth;
 mod faces;
@@ -10,10 +11,9 @@ mod laws;
 mod may_cut;
 mod proposal;
 mod rounds;
-mod steps;
 mod target;
 mod work;
 
+pub use box_step::{BoxStep, BoxSteps};
 pub use laws::{box_steps_exist, cuts_leave_no_eighth};
-pub use steps::{StepFault, Steps};
-pub use work::{Ended, work_on};
+pub use work::work_on;

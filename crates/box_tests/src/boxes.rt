@@ -1,58 +1,17 @@
 //! The steps of one box.
 
-ghost use Rattle.std.specs.Prelude.{◌≡◌, ◌<◌, ◌≤◌, ◌∷◌, [], ◌++◌, length, ◌≤ℤ◌};
+ghost use Rattle.std.specs.Prelude.{◌≡◌, ◌<◌, ◌≤◌, length, ◌≤ℤ◌};
 ghost use Rattle.grid_model.specs.Sizes.{IsBoxSize, IsErrorSize, IsPlaceSize};
 
-use box_contraction::{Ended, StepFault, Steps, work_on};
+use box_contraction::{BoxStep, BoxSteps, work_on};
 use box_pool::Item;
 use fix_interval::Exact;
 use gnss_model::Sat;
-use grid_model::{Box3, Pos, Span};
-use log_lines::step_line;
+use grid_model::{Box3, NoMemory, Pos, Span};
 use range_contractor::relaxed_tree;
 use relaxed_meet::BoxTest;
 use sat_model::{Row, Rules, Step};
 use std::alloc::Global;
-use std::test::Fail;
-
-/// A log that keeps the steps in memory, up to so many.
-#[derive(Drop)]
-struct StepList {
-    steps: Vec<Step>,
-    sound: u64,
-    faults: u64,
-}
-
-impl Steps for StepList {
-    ghost took = { λ old step part new. new.steps.items ≡ old.steps.items ++ step ∷ [] };
-
-    ghost broke = { λ old step part new. new.steps.items ≡ old.steps.items };
-
-    ghost took_rows = { λ old new last. last.steps.items ≡ old.steps.items };
-
-    ghost broke_rows = { λ old new lines last. ⊥ };
-
-    ghost room = { λ list. 1000 };
-
-    ghost faults = { λ list. list.faults };
-
-    fn step(&mut self, step: &Step, _part: &Box3) -> Result<(), StepFault> {
-        if 1_000 < step_line(step).len() {
-            return Err(StepFault::Full);
-        }
-        if self.sound > 0 && self.steps.push(*step).is_ok() {
-            self.sound -= 1;
-            return Ok(());
-        }
-        self.faults = self.faults.saturating_add(1);
-        Err(StepFault::Failed)
-    }
-
-    /// No steps of a box renew rows.
-    fn renew(&mut self, _part: &Box3, _rows: &[Row]) -> Result<(), StepFault> {
-        Ok(())
-    }
-}
 
 /// The distance of the satellites from the origin, in um.
 const FAR: i64 = 20_000_000_000_000;
@@ -142,23 +101,16 @@ const NO_SPLITS: Rules = Rules {
     pairs: false,
 };
 
-/// Works on box 0 with these rows, and gives how it ended.
-fn worked_on(
-    alloc: Global,
-    rows: &[Row],
-    part: &Box3,
-    log: &mut StepList,
-) -> Result<Ended, StepFault>
+/// The steps of box 0 with these rows.
+fn worked_on(alloc: Global, rows: &[Row], part: &Box3) -> Result<BoxSteps, NoMemory>
     requires { (0 < length rows.now) × (length rows.now ≤ 64) }
 {
-    match relaxed_tree::<Exact>(alloc, rows, 0) {
-        Ok(tree) => {
-            let mut test = BoxTest::new(rows, &NO_SPLITS);
-            let first = Item { id: 0, part: *part };
-            work_on(&mut test, &NO_SPLITS, Some(&tree), 0, &first, log)
-        }
-        Err(_) => Err(StepFault::Failed),
-    }
+    let tree = relaxed_tree::<Exact>(alloc, rows, 0)?;
+    let mut test = BoxTest::new(rows, &NO_SPLITS);
+    let first = Item { id: 0, part: *part };
+    let mut steps = BoxSteps::new();
+    work_on(&mut test, &NO_SPLITS, Some(&tree), 0, &first, &mut steps);
+    Ok(steps)
 }
 
 /// The same with pairs of rows asked.
@@ -169,11 +121,11 @@ const BY_PAIRS: Rules = Rules {
     pairs: true,
 };
 
-fn list(alloc: Global, sound: u64) -> StepList {
-    StepList {
-        steps: Vec::new(alloc),
-        sound,
-        faults: 0,
+/// A cut of box 0, with the slab that it takes off.
+fn cut(face: u8, bound: i64, part: Box3) -> BoxStep {
+    BoxStep {
+        step: Step::Cut { id: 0, face, bound },
+        part,
     }
 }
 
@@ -192,37 +144,19 @@ fn two_on_x() -> [Row; 4]
 }
 
 #[test]
-fn eighths_are_cut_until_a_round_cuts_none(rt: HostRuntime) -> Result<(), Fail> {
-    let mut log = list(rt.alloc(), 9);
-    let edge = Step::Edge {
-        id: 0,
-        lo: -11_000_000,
-        hi: 11_000_000,
+fn eighths_are_cut_until_a_round_cuts_none(rt: HostRuntime) -> Result<(), NoMemory> {
+    let steps = worked_on(rt.alloc(), &two_on_x(), &slab(-8_000_000, 8_000_000))?;
+    let edge = BoxStep {
+        step: Step::Edge {
+            id: 0,
+            lo: -11_000_000,
+            hi: 11_000_000,
+        },
+        part: slab(-6_000_000, 6_250_000),
     };
-    assert_eq!(rt;
-        worked_on(
-            rt.alloc(),
-            &two_on_x(),
-            &slab(-8_000_000, 8_000_000),
-            &mut log
-        ),
-        Ok(Ended {
-            step: edge,
-            left: slab(-6_000_000, 6_250_000),
-            cuts: 2,
-        })
-    );
-    let low = Step::Cut {
-        id: 0,
-        face: 0,
-        bound: -6_000_000,
-    };
-    let high = Step::Cut {
-        id: 0,
-        face: 1,
-        bound: 6_250_000,
-    };
-    assert_eq!(rt; log.steps.as_slice(), [low, high, edge].as_slice());
+    let low = cut(0, -6_000_000, slab(-8_000_000, -6_000_001));
+    let high = cut(1, 6_250_000, slab(6_250_001, 8_000_000));
+    assert_eq!(rt; steps.as_slice(), [low, high, edge].as_slice());
     Ok(())
 }
 
@@ -230,111 +164,78 @@ fn eighths_are_cut_until_a_round_cuts_none(rt: HostRuntime) -> Result<(), Fail> 
 /// -x - 5 m to -x + 5 m, so x is from -5 m to 5 m. Halving eight times from an eighth and the whole
 /// of 18,000,001 points finds 3,972,656 of them, and of the 14,027,345 left it finds 3,958,888.
 #[test]
-fn slabs_are_cut_off_as_deep_as_pairs_show_them(rt: HostRuntime) -> Result<(), Fail> {
-    let mut log = list(rt.alloc(), 9);
+fn slabs_are_cut_off_as_deep_as_pairs_show_them(rt: HostRuntime) {
     let rows = two_on_x();
     let mut test = BoxTest::new(&rows, &BY_PAIRS);
-    let edge = Step::Edge {
-        id: 0,
-        lo: -10_027_344,
-        hi: 10_027_344,
-    };
     let first = Item {
         id: 0,
         part: slab(-9_000_000, 9_000_000),
     };
-    assert_eq!(rt;
-        work_on::<Exact, StepList>(&mut test, &BY_PAIRS, None, 0, &first, &mut log),
-        Ok(Ended {
-            step: edge,
-            left: slab(-5_027_344, 5_041_112),
-            cuts: 2,
-        })
-    );
-    let low = Step::Cut {
-        id: 0,
-        face: 0,
-        bound: -5_027_344,
+    let mut steps = BoxSteps::new();
+    work_on::<Exact>(&mut test, &BY_PAIRS, None, 0, &first, &mut steps);
+    let edge = BoxStep {
+        step: Step::Edge {
+            id: 0,
+            lo: -10_027_344,
+            hi: 10_027_344,
+        },
+        part: slab(-5_027_344, 5_041_112),
     };
-    let high = Step::Cut {
-        id: 0,
-        face: 1,
-        bound: 5_041_112,
-    };
-    assert_eq!(rt; log.steps.as_slice(), [low, high, edge].as_slice());
-    Ok(())
+    let low = cut(0, -5_027_344, slab(-9_000_000, -5_027_345));
+    let high = cut(1, 5_041_112, slab(5_041_113, 9_000_000));
+    assert_eq!(rt; steps.as_slice(), [low, high, edge].as_slice());
 }
 
 #[test]
-fn a_fault_leaves_the_steps_before_it(rt: HostRuntime) -> Result<(), Fail> {
-    for sound in 0..3_u64 {
-        let mut log = list(rt.alloc(), sound);
-        assert_eq!(rt;
-            worked_on(
-                rt.alloc(),
-                &two_on_x(),
-                &slab(-8_000_000, 8_000_000),
-                &mut log
-            ),
-            Err(StepFault::Failed)
-        );
-        assert_eq!(rt; log.steps.len() as u64, sound);
-    }
-    Ok(())
-}
-
-#[test]
-fn a_box_without_fitting_points_is_closed_at_once(rt: HostRuntime) -> Result<(), Fail> {
-    let mut log = list(rt.alloc(), 9);
+fn a_box_without_fitting_points_is_closed_at_once(rt: HostRuntime) -> Result<(), NoMemory> {
     let part = slab(7_000_000, 8_000_000);
-    assert_eq!(rt;
-        worked_on(rt.alloc(), &two_on_x(), &part, &mut log),
-        Ok(Ended {
-            step: Step::Outside { id: 0 },
-            left: part,
-            cuts: 0,
-        })
-    );
-    assert_eq!(rt; log.steps.as_slice(), [Step::Outside { id: 0 }].as_slice());
+    let steps = worked_on(rt.alloc(), &two_on_x(), &part)?;
+    let outside = BoxStep {
+        step: Step::Outside { id: 0 },
+        part,
+    };
+    assert_eq!(rt; steps.as_slice(), [outside].as_slice());
     Ok(())
+}
+
+/// The bounds that the box is cut at first, where they are at the faces of the x axis.
+fn first_bounds(steps: &[BoxStep]) -> Option<(i64, i64)> {
+    let first = steps.get(0)?;
+    let second = steps.get(1)?;
+    match (first.step, second.step) {
+        (
+            Step::Cut {
+                face: 0,
+                bound: low,
+                ..
+            },
+            Step::Cut {
+                face: 1,
+                bound: high,
+                ..
+            },
+        ) => Some((low, high)),
+        _ => None,
+    }
 }
 
 /// With errors of half a metre the satellites on y and z leave offsets up to 1.5 m, and so the
 /// others x up to 2 m: less than an eighth of the box would leave.
 #[test]
-fn the_proposal_is_cut_to_first(rt: HostRuntime) -> Result<(), Fail> {
+fn the_proposal_is_cut_to_first(rt: HostRuntime) -> Result<(), NoMemory> {
     let rows = [
         row(1, ON_X, HALF_METRE),
         row(2, ON_Y, HALF_METRE),
         row(3, ON_Z, HALF_METRE),
         row(5, OPPOSITE, HALF_METRE),
     ];
-    let mut log = list(rt.alloc(), 99);
-    assert!(rt;
-        worked_on(rt.alloc(), &rows, &slab(-8_000_000, 8_000_000), &mut log).is_ok(),
-        "worked on"
-    );
-    match (log.steps.get(0), log.steps.get(1)) {
-        (
-            Some(
-                Step::Cut {
-                    face: 0,
-                    bound: low,
-                    ..
-                },
-            ),
-            Some(
-                Step::Cut {
-                    face: 1,
-                    bound: high,
-                    ..
-                },
-            ),
-        ) => {
-            assert!(rt; -2_000_020 <= *low && *low <= -2_000_001, "low face");
-            assert!(rt; 2_000_000 <= *high && *high <= 2_000_020, "high face");
+    let steps = worked_on(rt.alloc(), &rows, &slab(-8_000_000, 8_000_000))?;
+    match first_bounds(steps.as_slice()) {
+        Some((low, high)) => {
+            assert!(rt; -2_000_020 <= low && low <= -2_000_001, "low face");
+            assert!(rt; 2_000_000 <= high && high <= 2_000_020, "high face");
         }
-        _ => assert!(rt; false, "no cuts"),
+        None => assert!(rt; false, "no cuts"),
     }
     Ok(())
 }

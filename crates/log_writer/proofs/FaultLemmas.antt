@@ -1,7 +1,7 @@
 -- Counts of faults, and what is reliable, over some pieces.
 use Rattle.std.proofs.Common.{◌≡◌, ◌+◌, ◌≤◌, List, [], ◌∷◌, length, Some, Result, Ok, Err, refl, sym, ap, arith, append-nil, length-append}
-use Rattle.box_contraction.specs.Taken.{Rose}
-use Rattle.box_contraction.specs.declared.steps.StepFault.TheVariants as step_fault
+use Rattle.paving.specs.Taken.{Rose}
+use Rattle.paving.specs.declared.steps.StepFault.TheVariants as step_fault
 use Rattle.log_writer.specs.declared.fault.WriteFault.{WriteFault}
 use Rattle.log_writer.specs.declared.fault.WriteFault.TheVariants as why
 use Rattle.log_writer.specs.Pieces.{Piece, piece, log_bytes}

@@ -2,8 +2,8 @@
 use Rattle.std.proofs.Common.{◌≡◌, ℕ, zero, suc, ◌+◌, ◌<◌, ◌≤◌, List, [], ◌∷◌, ◌++◌, length, map, take, drop, get_or, refl, sym, ap, subst, ◌∙◌, arith, Some, Err, length-append, take-append-drop}
 use Rattle.std.specs.Prelude.{◌↔◌}
 use Rattle.std.proofs.lemmas.List.{map-append, length-map, take_all}
-use Rattle.box_contraction.specs.declared.steps.StepFault.{StepFault}
-use Rattle.box_contraction.specs.declared.steps.StepFault.TheVariants as step_fault
+use Rattle.paving.specs.declared.steps.StepFault.{StepFault}
+use Rattle.paving.specs.declared.steps.StepFault.TheVariants as step_fault
 use Rattle.log_lines.specs.declared.line.LogLine.{LogLine}
 use Rattle.log_lines.specs.Lines.{text_of}
 use Rattle.paving_log.proofs.LineLemmas.{text_of-append}

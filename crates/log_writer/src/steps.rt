@@ -4,8 +4,8 @@
 ghost use Rattle.std.specs.Prelude.{◌≡◌, ◌≢◌, ℕ, ◌+◌, ◌<◌, ◌≤◌, ◌↔◌, ◌∷◌, [], List, length, map};
 ghost use Rattle.std.specs.Prelude.{take, Ok, Err, Result, OnOk, IfErr};
 ghost use Rattle.std.specs.List.{AllByRecursion};
-ghost use Rattle.box_contraction.specs.Renewing.{renewal_lines};
-ghost use Rattle.box_contraction.specs.Taken.{step_bytes};
+ghost use Rattle.paving.specs.RenewalLines.{renewal_lines};
+ghost use Rattle.paving.specs.Taken.{step_bytes};
 ghost use Rattle.grid_model.specs.Boxes.{grid_box};
 ghost use Rattle.subpaving.specs.LiveValues.{box_option};
 ghost use Rattle.log_writer.specs.Kept.{hull_after};
@@ -19,10 +19,10 @@ ghost use Rattle.sat_model.specs.Events.{rows_over};
 use crate::fault::WriteFault;
 use crate::kept::hull_with_step;
 use crate::pen::Pen;
-use box_contraction::{StepFault, Steps};
 use epoch_report::step_text;
 use grid_model::Box3;
 use log_lines::{renew_line, sat_line, step_line};
+use paving::{StepFault, Steps};
 use paving_log::SatEntry;
 use sat_model::{Row, Step};
 

@@ -1,21 +1,19 @@
 //! The contractor trees of an epoch's rows, one for long boxes and one for the others.
 
-ghost use Rattle.std.specs.Prelude.{◌≡◌, ◌<◌, ◌≤◌, ℕ, List, pos, true, false, length};
-ghost use Rattle.std.specs.Prelude.{IfOk, IfErr, Err, MatchOption};
+ghost use Rattle.std.specs.Prelude.{◌≡◌, ◌<◌, ◌≤◌, ℕ, List, [], map, pos, true, false, length};
+ghost use Rattle.box_contraction.specs.Adding.{step_value};
+ghost use Rattle.std.specs.Prelude.{IfOk, MatchOption};
 ghost use Rattle.sat_model.specs.BoxTests.{BoxTest as TestValue, test_of};
 ghost use Rattle.sat_model.specs.RowTrees.{row_tree};
 ghost use Rattle.sat_model.specs.declared.rows.Row.{Row};
 ghost use Rattle.fix_interval.specs.Grains.{coarse_low, coarse_high};
 ghost use Rattle.range_contractor.specs.Views.{tree_value};
 ghost use Rattle.relaxed_meet.specs.TestValues.{test_value};
-ghost use Rattle.box_contraction.specs.Ends.{TookBox};
-ghost use Rattle.box_contraction.specs.Taken.{Rose};
-ghost use Rattle.box_contraction.specs.Taking.{BrokeOff};
-ghost use Rattle.paving.specs.Paved.{AreStepsOf, long_side};
+ghost use Rattle.paving.specs.Paved.{AreStepsOf};
 ghost use Rattle.paving.specs.Queues.{box_of};
 ghost use Rattle.paving.specs.Trees.{AreTreesOf, AreTreesFor};
 
-use box_contraction::{Ended, StepFault, Steps, work_on};
+use box_contraction::{BoxSteps, work_on};
 use box_pool::Item;
 use fix_interval::{Coarse, Exact};
 use grid_model::NoMemory;
@@ -108,33 +106,27 @@ fn exact_of(trees: &Option<Trees>) -> Option<&Tree<Exact>>
     }
 }
 
-/// Works on a box that is taken up after so many splits, with the tree for its longest side, and
-/// hands each step to the log. There are no trees where the rules ask pairs of rows. A fault is
-/// that of the step that wasn't taken. At most 1,800 cuts are made. What decided the tests before
-/// changes no step, but how soon it comes.
-pub fn work_on_box<L: Steps>(
+/// Works on a box that is taken up after so many splits, with the tree for its longest side, and puts
+/// its steps into the empty list. There are no trees where the rules ask pairs of rows. What decided
+/// the tests before changes no step, but how soon it comes.
+pub fn work_on_box(
     test: &mut BoxTest,
     rules: &Rules,
     trees: &Option<Trees>,
     splits: u32,
     next: &Item,
-    log: &mut L,
-) -> Result<Ended, StepFault>
+    steps: &mut BoxSteps,
+)
     requires trees { AreTreesFor (test_value test.old) trees.now }
-    ensures took { IfOk result (λ ended. TookBox L.took (AreStepsOf (test_value test.old)
-        rules.now splits (box_of next.now)) log.old ended log.new) }
-    ensures broken { IfErr result (λ fault. BrokeOff L.took L.broke L.room fault
-        (AreStepsOf (test_value test.old) rules.now splits (box_of next.now))
-        log.old log.new) }
-    ensures few { IfOk result (λ ended. ended.cuts ≤ 1800) }
-    ensures failed { result ≡ Err StepFault.Failed → Rose (L.faults log.old) (L.faults log.new) }
-    ensures counted { L.faults log.old ≤ L.faults log.new }
-    ensures same { test_value test.new ≡ test_value test.old }
+    requires empty { steps.old.items ≡ [] }
+    ensures steps { AreStepsOf (test_value test.old) rules.now splits (box_of next.now)
+        (map step_value steps.new.items) }
+    ensures few { length steps.new.items ≤ 1015 }
 {
     let (_, longest) = next.part.longest_axis();
     if longest > LONG_SIDE {
-        work_on(test, rules, coarse_of(trees), splits, next, log)
+        work_on(test, rules, coarse_of(trees), splits, next, steps);
     } else {
-        work_on(test, rules, exact_of(trees), splits, next, log)
+        work_on(test, rules, exact_of(trees), splits, next, steps);
     }
 }

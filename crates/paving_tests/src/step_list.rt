@@ -2,10 +2,9 @@
 
 ghost use Rattle.std.specs.Prelude.{◌≡◌, ◌∷◌, [], ◌++◌};
 
-use box_contraction::{StepFault, Steps};
 use grid_model::Box3;
 use log_lines::step_line;
-use paving::Renewals;
+use paving::{Renewals, StepFault, Steps};
 use sat_model::{Row, Step};
 use std::alloc::Global;
 

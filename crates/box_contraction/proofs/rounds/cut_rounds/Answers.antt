@@ -1,62 +1,61 @@
-use Rattle.std.proofs.Common.{arith, refl, subst, ◌∙◌}
-use Rattle.std.proofs.lemmas.Result.{err_from_is_err_and}
+use Rattle.std.proofs.Common.{◌≡◌, ◌≢◌, ◌+◌, ◌≤◌, arith, refl, subst, ◌∙◌, map, length}
+use Rattle.std.proofs.lemmas.List.{length-map, length-append}
 use Rattle.grid_model.specs.Boxes.{grid_box}
 use Rattle.sat_model.specs.BoxTests.{BoxTest}
 use Rattle.relaxed_meet.specs.TestValues.{test_value}
 use Rattle.box_contraction.specs.Cuts.{all_faces, AreFacesDone}
 use Rattle.box_contraction.specs.Targets.{done_by}
-use Rattle.box_contraction.specs.Taking.{TookCuts, BrokeOff, LeaveSome}
+use Rattle.box_contraction.specs.Adding.{AddsCuts, step_value}
 use Rattle.box_contraction.proofs.BoxLemmas.{grid_part}
 use Rattle.box_contraction.proofs.RoundLemmas.{target_rule}
-use Rattle.box_contraction.proofs.RoundsUnderway.{no_rounds_yet, one_round, last_round, round_broke}
+use Rattle.box_contraction.proofs.RoundsUnderway.{RoundsUnderway, no_rounds_yet, rounds_so_far_few, one_round, last_round, grown}
 use Rattle.box_contraction.proofs.rounds.cut_rounds.Goals as goal
 
 pub rounds-init : goal.rounds-init
-rounds-init g c = record {
-  underway = no_rounds_yet g.L.Steps.took (done_by (test_value c.args.test.now) c.args.id c.args.target.now) (grid_box c.args.part.now) c.args.log.now (grid_part c.args.part.now);
-  faults = omega arith;
+rounds-init c = record {
+  underway = no_rounds_yet (done_by (test_value c.args.test.now) c.args.id c.args.target.now) (grid_box c.args.part.now) (map step_value c.args.steps.now.items) (grid_part c.args.part.now);
+  few = omega arith;
   same = refl;
 }
 
-pub returns-in_err-made-clause-broken : goal.returns-in_err-made-clause-broken
-returns-in_err-made-clause-broken g c =
-    let p = err_from_is_err_and c.from_residual.result c.from_residual.ensures.1 in
-    let test = test_value c.args.test.now in
-    let target = c.args.target.now in
-    rw (p.1, p.2)
-    (round_broke g.L.Steps.took g.L.Steps.broke g.L.Steps.room c.in_err-made.field-0.0 test c.args.id (done_by test c.args.id target) (grid_box c.args.part.now) c.args.log.now
-    c.rounds.cuts (grid_box c.rounds.part) c.rounds.log c.cut_faces.new.log (target_rule test c.args.id target c.args.test.now.enough c.requires) c.rounds.invariant.underway
-    (subst (λ (t : BoxTest). BrokeOff g.L.Steps.took g.L.Steps.broke g.L.Steps.room c.in_err-made.field-0.0 (LeaveSome (AreFacesDone (done_by t c.args.id target) all_faces (grid_box c.rounds.part))) c.rounds.log c.cut_faces.new.log)
-    c.rounds.invariant.same c.in_err-made.ensures.broken))
-
-pub returns-then-made-eq0-clause-cut : goal.returns-then-made-eq0-clause-cut
-returns-then-made-eq0-clause-cut g c =
-    let test = test_value c.args.test.now in
-    let target = c.args.target.now in
-    last_round g.L.Steps.took (done_by test c.args.id target) (grid_box c.args.part.now) c.args.log.now
-    c.rounds.cuts c.in_ok-made.made (grid_box c.rounds.part) (grid_box c.cut_faces.new.part) c.rounds.log c.cut_faces.new.log c.rounds.invariant.underway
-    (subst (λ (t : BoxTest). TookCuts g.L.Steps.took (AreFacesDone (done_by t c.args.id target) all_faces (grid_box c.rounds.part)) c.rounds.log c.in_ok-made.made (grid_box c.cut_faces.new.part) c.cut_faces.new.log)
-    c.rounds.invariant.same c.in_ok-made.ensures.cut) (omega (arith, c.if-made-eq0.true))
+pub returns-then-len-before-clause-cut : goal.returns-then-len-before-clause-cut
+returns-then-len-before-clause-cut c =
+    last_round (done_by (test_value c.args.test.now) c.args.id c.args.target.now) (grid_box c.args.part.now) (map step_value c.args.steps.now.items)
+    (grid_box c.rounds.part) (grid_box c.cut_faces.new.part) (map step_value c.rounds.steps.items) (map step_value c.cut_faces.new.steps.items) c.rounds.invariant.underway
+    (subst (λ (t : BoxTest). AddsCuts (AreFacesDone (done_by t c.args.id c.args.target.now) all_faces (grid_box c.rounds.part)) (map step_value c.rounds.steps.items) (grid_box c.cut_faces.new.part) (map step_value c.cut_faces.new.steps.items))
+    c.rounds.invariant.same c.cut_faces.ensures.cut)
+    (omega (arith, length-map c.rounds.steps.items step_value, length-map c.cut_faces.new.steps.items step_value, c.if-len-before.true, c.len.ensures.value, c.len-before.ensures.value))
 
 pub rounds-smaller : goal.rounds-smaller
-rounds-smaller g c =
+rounds-smaller c =
     let test = test_value c.args.test.now in
-    let target = c.args.target.now in
-    let next = one_round g.L.Steps.took test c.args.id (done_by test c.args.id target) (grid_box c.args.part.now) c.args.log.now
-    c.rounds.cuts c.in_ok-made.made (grid_box c.rounds.part) (grid_box c.cut_faces.new.part) c.rounds.log c.cut_faces.new.log (target_rule test c.args.id target c.args.test.now.enough c.requires) c.rounds.invariant.underway
-    (subst (λ (t : BoxTest). TookCuts g.L.Steps.took (AreFacesDone (done_by t c.args.id target) all_faces (grid_box c.rounds.part)) c.rounds.log c.in_ok-made.made (grid_box c.cut_faces.new.part) c.cut_faces.new.log)
-    c.rounds.invariant.same c.in_ok-made.ensures.cut) (omega (arith, c.if-made-eq0.false)) in
-    omega (arith, next.spent, c.if-made-eq0.false)
+    let done = done_by test c.args.id c.args.target.now in
+    let before = map step_value c.args.steps.now.items in
+    let now = map step_value c.rounds.steps.items in
+    let last = map step_value c.cut_faces.new.steps.items in
+    let cut : AddsCuts (AreFacesDone done all_faces (grid_box c.rounds.part)) now (grid_box c.cut_faces.new.part) last =
+    subst (λ (t : BoxTest). AddsCuts (AreFacesDone (done_by t c.args.id c.args.target.now) all_faces (grid_box c.rounds.part)) now (grid_box c.cut_faces.new.part) last) c.rounds.invariant.same c.cut_faces.ensures.cut in
+    let grew : length last ≢ length now = omega (arith, length-map c.rounds.steps.items step_value, length-map c.cut_faces.new.steps.items step_value, c.if-len-before.false, c.len.ensures.value, c.len-before.ensures.value) in
+    let next = one_round test c.args.id done (grid_box c.args.part.now) before (grid_box c.rounds.part) (grid_box c.cut_faces.new.part) now last
+    (target_rule test c.args.id c.args.target.now c.args.test.now.enough c.requires.rounds) c.rounds.invariant.underway cut grew in
+    let few = rounds_so_far_few done (grid_box c.args.part.now) before (grid_box c.cut_faces.new.part) last next in
+    let more = grown now last cut.cuts cut.added in
+    omega (arith, grew, few, more, length-map c.args.steps.now.items step_value, length-map c.rounds.steps.items step_value, length-map c.cut_faces.new.steps.items step_value)
 
 pub rounds-preserved : goal.rounds-preserved
-rounds-preserved g c =
+rounds-preserved c =
     let test = test_value c.args.test.now in
-    let target = c.args.target.now in
+    let done = done_by test c.args.id c.args.target.now in
+    let before = map step_value c.args.steps.now.items in
+    let now = map step_value c.rounds.steps.items in
+    let last = map step_value c.cut_faces.new.steps.items in
+    let cut : AddsCuts (AreFacesDone done all_faces (grid_box c.rounds.part)) now (grid_box c.cut_faces.new.part) last =
+    subst (λ (t : BoxTest). AddsCuts (AreFacesDone (done_by t c.args.id c.args.target.now) all_faces (grid_box c.rounds.part)) now (grid_box c.cut_faces.new.part) last) c.rounds.invariant.same c.cut_faces.ensures.cut in
+    let grew : length last ≢ length now = omega (arith, length-map c.rounds.steps.items step_value, length-map c.cut_faces.new.steps.items step_value, c.if-len-before.false, c.len.ensures.value, c.len-before.ensures.value) in
+    let next = one_round test c.args.id done (grid_box c.args.part.now) before (grid_box c.rounds.part) (grid_box c.cut_faces.new.part) now last
+    (target_rule test c.args.id c.args.target.now c.args.test.now.enough c.requires.rounds) c.rounds.invariant.underway cut grew in
     record {
-      underway = one_round g.L.Steps.took test c.args.id (done_by test c.args.id target) (grid_box c.args.part.now) c.args.log.now
-          c.rounds.cuts c.in_ok-made.made (grid_box c.rounds.part) (grid_box c.cut_faces.new.part) c.rounds.log c.cut_faces.new.log (target_rule test c.args.id target c.args.test.now.enough c.requires) c.rounds.invariant.underway
-          (subst (λ (t : BoxTest). TookCuts g.L.Steps.took (AreFacesDone (done_by t c.args.id target) all_faces (grid_box c.rounds.part)) c.rounds.log c.in_ok-made.made (grid_box c.cut_faces.new.part) c.cut_faces.new.log)
-          c.rounds.invariant.same c.in_ok-made.ensures.cut) (omega (arith, c.if-made-eq0.false));
-      faults = omega (arith, c.rounds.invariant.faults, c.in_ok-made.ensures.counted);
-      same = c.in_ok-made.ensures.same ∙ c.rounds.invariant.same;
+      underway = next;
+      few = omega (arith, rounds_so_far_few done (grid_box c.args.part.now) before (grid_box c.cut_faces.new.part) last next, length-map c.args.steps.now.items step_value, length-map c.cut_faces.new.steps.items step_value);
+      same = c.cut_faces.ensures.same ∙ c.rounds.invariant.same;
     }

@@ -7,8 +7,8 @@ use Rattle.log_lines.specs.declared.line.LogLine.{LogLine}
 use Rattle.log_lines.specs.declared.line.LogLine.TheVariants as line
 use Rattle.log_lines.specs.Lines.{text_of}
 use Rattle.log_lines.specs.Rows.{RowFits, corners_of}
-use Rattle.box_contraction.specs.declared.steps.StepFault.{StepFault}
-use Rattle.box_contraction.specs.declared.steps.StepFault.TheVariants.{Full}
+use Rattle.paving.specs.declared.steps.StepFault.{StepFault}
+use Rattle.paving.specs.declared.steps.StepFault.TheVariants.{Full}
 
 -- the line of the box, and one for each row
 abbrev pub renewal_lines : RowsOver → List LogLine
