@@ -11,13 +11,3 @@ names_differ = ((refl, (refl, (refl, tt))), ((refl, (refl, tt)), ((refl, tt), (t
 pub four_own_names : (a b c d : NamedBytes) → name_in a ≡ codes "a.obs" → name_in b ≡ codes "a.nav"
     → name_in c ≡ codes "a.toml" → name_in d ≡ codes "a.log" → HaveOwnNames (a ∷ b ∷ c ∷ d ∷ [])
 four_own_names a b c d e f g h = rw (e, f, g, h) names_differ
-
-five_differ : IsDistinct (pointwise nat_eq) (codes "a.obs" ∷ codes "a.nav" ∷ codes "a.toml" ∷ codes "a.zones" ∷ codes "b.log" ∷ [])
-unfolding IsDistinct
-five_differ = ((refl, (refl, (refl, (refl, tt)))), ((refl, (refl, (refl, tt))), ((refl, (refl, tt)), ((refl, tt), (tt, tt)))))
-
-pub five_own_names : (a b c d e : NamedBytes) → name_in a ≡ codes "a.obs"
-    → name_in b ≡ codes "a.nav" → name_in c ≡ codes "a.toml" → name_in d ≡ codes "a.zones"
-    → name_in e ≡ codes "b.log"
-    → HaveOwnNames (a ∷ b ∷ c ∷ d ∷ e ∷ [])
-five_own_names a b c d e f g h i j = rw (f, g, h, i, j) five_differ

@@ -1,18 +1,15 @@
-//! Shelves and runs over objects in memory, and tests: runs over the files of a receiver, and the
-//! checker's test of one epoch.
+//! Runs over objects in memory that have room left, and tests: runs over objects in memory that are
+//! full, that move one byte a call or of which calls fail, and these objects themselves.
 #![tactic(auto)]
 
 #[cfg(test)]
-mod epochs;
+mod cases;
 #[cfg(test)]
-mod faults;
-#[cfg(test)]
-mod files;
-#[cfg(test)]
-mod guards;
-#[cfg(test)]
-mod parts;
+mod memory;
 pub mod roomy;
-pub mod shelves;
 #[cfg(test)]
-mod tracks;
+mod runs;
+#[cfg(test)]
+mod shelves;
+#[cfg(test)]
+mod texts;

@@ -3,6 +3,7 @@
 ghost use Rattle.std.specs.Prelude.{◌≡◌, IfOk, string_bytes};
 ghost use Rattle.outer_io.specs.Store.{HaveOwnNames};
 
+use crate::texts::{NAV, OBS, SETTINGS};
 use grid_model::NoMemory;
 use outer_io::MemoryShelf;
 use std::alloc::{AllocError, Global};
@@ -25,53 +26,27 @@ fn file(alloc: Global, name: &str, text: &str) -> Result<(String, Vec<u8>), NoMe
     Ok((String::from_str(alloc, name)?, bytes))
 }
 
-/// A shelf with one file, on which `log` alone can be written, up to so many bytes. Calls of the
-/// numbers `fails` fail.
-pub fn one_file(
-    alloc: Global,
-    name: &str,
-    text: &str,
-    log: &str,
-    room: u64,
-    fails: Vec<u64>,
-) -> Result<MemoryShelf, NoMemory> {
-    let files = vec![in alloc; file(alloc, name, text)?]?;
-    let log = String::from_str(alloc, log)?;
-    Ok(MemoryShelf::make(alloc, files, log, room, fails)?)
-}
-
-/// The files `a.obs`, `a.nav`, `a.toml`, `a.zones` and `b.log`.
-pub fn five_files(
-    alloc: Global,
-    obs: &str,
-    nav: &str,
-    settings: &str,
-    zones: &str,
-    log: &str,
-) -> Result<Vec<(String, Vec<u8>)>, NoMemory>
+/// The files `a.obs`, `a.nav` and `a.toml` of a receiver, and `a.log` with this text.
+fn four_files(alloc: Global, log: &str) -> Result<Vec<(String, Vec<u8>)>, NoMemory>
     ensures { IfOk result (λ files. HaveOwnNames files.items) }
 {
-    let obs = file(alloc, "a.obs", obs)?;
-    let nav = file(alloc, "a.nav", nav)?;
-    let settings = file(alloc, "a.toml", settings)?;
-    let zones = file(alloc, "a.zones", zones)?;
-    let log = file(alloc, "b.log", log)?;
-    Ok(vec![in alloc; obs, nav, settings, zones, log]?)
-}
-
-/// The files `a.obs`, `a.nav`, `a.toml` and `a.log`.
-pub fn four_files(
-    alloc: Global,
-    obs: &str,
-    nav: &str,
-    settings: &str,
-    log: &str,
-) -> Result<Vec<(String, Vec<u8>)>, NoMemory>
-    ensures { IfOk result (λ files. HaveOwnNames files.items) }
-{
-    let obs = file(alloc, "a.obs", obs)?;
-    let nav = file(alloc, "a.nav", nav)?;
-    let settings = file(alloc, "a.toml", settings)?;
+    let obs = file(alloc, "a.obs", OBS)?;
+    let nav = file(alloc, "a.nav", NAV)?;
+    let settings = file(alloc, "a.toml", SETTINGS)?;
     let log = file(alloc, "a.log", log)?;
     Ok(vec![in alloc; obs, nav, settings, log]?)
+}
+
+/// A shelf with these files, on which `written` alone can be written, up to so many bytes. The call
+/// of the number `fails` fails, none where it is 0.
+pub fn shelf(
+    alloc: Global,
+    log: &str,
+    written: &str,
+    room: u64,
+    fails: u64,
+) -> Result<MemoryShelf, NoMemory> {
+    let files = four_files(alloc, log)?;
+    let written = String::from_str(alloc, written)?;
+    Ok(MemoryShelf::make(alloc, files, written, room, vec![in alloc; fails]?)?)
 }
