@@ -99,7 +99,8 @@ fn is_row_of(row: &Row, y: (i64, i64), difference: (i64, i64)) -> bool {
 fn what_is_wrong_for_both_drops_out(rt: HostRuntime) {
     // By vectors/pair_numbers.py, rounded down and up. The satellite is 20661863.943629 m from the
     // station, so the station's code is 1522777.948371 m longer than its range.
-    let pair = row_of_both(&PAIR, &circle(), DECLARED, &HERE);
+    let el = circle();
+    let pair = row_of_both(&PAIR, &el, DECLARED, &HERE);
     assert!(rt;
         is_row_of(
             &pair,
@@ -109,7 +110,7 @@ fn what_is_wrong_for_both_drops_out(rt: HostRuntime) {
         "the difference"
     );
     // The satellite sent 1 us earlier, where it was 1.9 mm further west; the difference is the same.
-    let late = row_of_both(&LATE, &circle(), DECLARED, &HERE);
+    let late = row_of_both(&LATE, &el, DECLARED, &HERE);
     assert!(rt;
         is_row_of(
             &late,

@@ -31,14 +31,12 @@ use sat_rows::{Base, base_of, renewed};
 pub fn base_of_both(common: &CommonSat, el: &Elements, declared: Span) -> Base
     requires receiver_from { pos 0 ≤ℤ common.now.receiver.tag }
     requires receiver_under { common.now.receiver.tag <ℤ pos time_bound }
-    requires receiver_codes {
-        ArePlausible common.now.system (codes_of common.now.receiver.codes) }
+    requires receiver_codes { ArePlausible common.now.system (codes_of common.now.receiver.codes) }
     requires receiver_narrow { AreNarrow (codes_of common.now.receiver.codes) }
     requires receiver_near { IsNearEpoch el.now common.now.receiver.tag }
     requires station_from { pos 0 ≤ℤ common.now.station.tag }
     requires station_under { common.now.station.tag <ℤ pos time_bound }
-    requires station_codes {
-        ArePlausible common.now.system (codes_of common.now.station.codes) }
+    requires station_codes { ArePlausible common.now.system (codes_of common.now.station.codes) }
     requires station_narrow { AreNarrow (codes_of common.now.station.codes) }
     requires station_near { IsNearEpoch el.now common.now.station.tag }
     requires ground { IsNearGround common.now.place }
@@ -76,14 +74,12 @@ pub fn base_of_both(common: &CommonSat, el: &Elements, declared: Span) -> Base
 pub fn row_of_both(common: &CommonSat, el: &Elements, declared: Span, part: &Box3) -> Row
     requires receiver_from { pos 0 ≤ℤ common.now.receiver.tag }
     requires receiver_under { common.now.receiver.tag <ℤ pos time_bound }
-    requires receiver_codes {
-        ArePlausible common.now.system (codes_of common.now.receiver.codes) }
+    requires receiver_codes { ArePlausible common.now.system (codes_of common.now.receiver.codes) }
     requires receiver_narrow { AreNarrow (codes_of common.now.receiver.codes) }
     requires receiver_near { IsNearEpoch el.now common.now.receiver.tag }
     requires station_from { pos 0 ≤ℤ common.now.station.tag }
     requires station_under { common.now.station.tag <ℤ pos time_bound }
-    requires station_codes {
-        ArePlausible common.now.system (codes_of common.now.station.codes) }
+    requires station_codes { ArePlausible common.now.system (codes_of common.now.station.codes) }
     requires station_narrow { AreNarrow (codes_of common.now.station.codes) }
     requires station_near { IsNearEpoch el.now common.now.station.tag }
     requires ground { IsNearGround common.now.place }

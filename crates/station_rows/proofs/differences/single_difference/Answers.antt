@@ -18,8 +18,8 @@ span_of-requires-clause-low_size c =
     let s = c.requires.small in
     let r = c.residuals-residual in
     let near = small_ends c.wide.result.lo c.wide.result.hi r.result.lo r.result.hi c.minus-difference.result.lo c.minus-difference.result.hi s.values.corrected (residual_of s.station_values)
-        c.minus-difference.ensures.low c.minus-difference.ensures.high (rw (c.wide.ensures.low, c.wide.ensures.high) s.comes.corrected)
-        (r.ensures.holds s.station_delays s.station_values s.station_comes) (rw (c.wide.ensures.low, c.wide.ensures.high) c.requires.receiver.corrected) r.ensures.ends.width s.small in
+    c.minus-difference.ensures.low c.minus-difference.ensures.high (rw (c.wide.ensures.low, c.wide.ensures.high) s.comes.corrected)
+    (r.ensures.holds s.station_delays s.station_values s.station_comes) (rw (c.wide.ensures.low, c.wide.ensures.high) c.requires.receiver.corrected) r.ensures.ends.width s.small in
     larger (56 * 10 ^ 12) (60 * 10 ^ 12) c.minus-difference.result.lo (lit≤ tt) near.lo_within
 
 pub span_of-requires-clause-high_size : goal.span_of-requires-clause-high_size
@@ -27,15 +27,15 @@ span_of-requires-clause-high_size c =
     let s = c.requires.small in
     let r = c.residuals-residual in
     let near = small_ends c.wide.result.lo c.wide.result.hi r.result.lo r.result.hi c.minus-difference.result.lo c.minus-difference.result.hi s.values.corrected (residual_of s.station_values)
-        c.minus-difference.ensures.low c.minus-difference.ensures.high (rw (c.wide.ensures.low, c.wide.ensures.high) s.comes.corrected)
-        (r.ensures.holds s.station_delays s.station_values s.station_comes) (rw (c.wide.ensures.low, c.wide.ensures.high) c.requires.receiver.corrected) r.ensures.ends.width s.small in
+    c.minus-difference.ensures.low c.minus-difference.ensures.high (rw (c.wide.ensures.low, c.wide.ensures.high) s.comes.corrected)
+    (r.ensures.holds s.station_delays s.station_values s.station_comes) (rw (c.wide.ensures.low, c.wide.ensures.high) c.requires.receiver.corrected) r.ensures.ends.width s.small in
     larger (56 * 10 ^ 12) (60 * 10 ^ 12) c.minus-difference.result.hi (lit≤ tt) near.hi_within
 
 pub returns-clause-holds : goal.returns-clause-holds
 returns-clause-holds c delays other p chain d f t =
     let r = c.residuals-residual in
     let held = difference_by c.wide.result.lo c.wide.result.hi r.result.lo r.result.hi c.minus-difference.result.lo c.minus-difference.result.hi chain.corrected (residual_of d)
-        c.minus-difference.ensures.low c.minus-difference.ensures.high (rw (c.wide.ensures.low, c.wide.ensures.high) f.corrected) (r.ensures.holds other d t) in
+    c.minus-difference.ensures.low c.minus-difference.ensures.high (rw (c.wide.ensures.low, c.wide.ensures.high) f.corrected) (r.ensures.holds other d t) in
     record {
       sent_x = f.sent_x;
       sent_y = f.sent_y;
@@ -50,8 +50,8 @@ returns-clause-narrow c =
     let s = c.requires.small in
     let r = c.residuals-residual in
     let near = small_ends c.wide.result.lo c.wide.result.hi r.result.lo r.result.hi c.minus-difference.result.lo c.minus-difference.result.hi s.values.corrected (residual_of s.station_values)
-        c.minus-difference.ensures.low c.minus-difference.ensures.high (rw (c.wide.ensures.low, c.wide.ensures.high) s.comes.corrected)
-        (r.ensures.holds s.station_delays s.station_values s.station_comes) (rw (c.wide.ensures.low, c.wide.ensures.high) c.requires.receiver.corrected) r.ensures.ends.width s.small in
+    c.minus-difference.ensures.low c.minus-difference.ensures.high (rw (c.wide.ensures.low, c.wide.ensures.high) s.comes.corrected)
+    (r.ensures.holds s.station_delays s.station_values s.station_comes) (rw (c.wide.ensures.low, c.wide.ensures.high) c.requires.receiver.corrected) r.ensures.ends.width s.small in
     record {
       place = c.requires.receiver.narrow.place;
       distance = c.requires.receiver.narrow.distance;
