@@ -4,7 +4,7 @@
 usage: evidence.py make FOLDER OBS NAV SETTINGS LOG [--track] [--from N] [--to N] [--program GPSCOVER]
        evidence.py check FOLDER [--sha256 HEX] [--other-program] [--program GPSCOVER]
 
-`make` copies the four files into a new FOLDER, has both checkers test the log, GPSCOVER (the built program) and
+`make` copies the four files into a new FOLDER, has both checkers test the log, GPSCOVER (the program that ./gpscover runs) and
 second/recheck.py, and writes FOLDER/evidence.txt: the sizes and checksums of the files and of both checkers, the versions,
 the options, both verdicts, and how many epochs the observations have, and of these are in the log, paved, few, empty,
 reach the search box, or are lost, which are those that the log doesn't have. --from and --to are those that the log was
@@ -23,6 +23,7 @@ Exit status: 0; 1 where a file can't be read or written, a verdict isn't yes, or
 line.
 """
 import argparse
+import contextlib
 import hashlib
 import re
 import shutil
@@ -36,7 +37,6 @@ from coverlog import LogError, epochs, run_tool, run_way
 from region import hull_of, touched_faces
 
 ROOT = Path(__file__).resolve().parent.parent
-PROGRAM = ROOT / "crates/gpscover/out/gpscover"
 SECOND = ROOT / "second/recheck.py"
 SHEET = "evidence.txt"
 FILES = {"obs": "receiver.obs", "nav": "receiver.nav", "settings": "settings.toml", "log": "receiver.log"}
@@ -84,11 +84,22 @@ def identity(path):
         return f"can't be read: {error.strerror}"
 
 
+def own_program():
+    """The program that ./gpscover runs: the released one, or the one that is built here."""
+    ran = subprocess.run([str(ROOT / "gpscover"), "--path"], capture_output=True, text=True)
+    if ran.returncode:
+        raise LogError(f"no program: {ran.stderr.strip()}")
+    return ran.stdout.strip()
+
+
 def version(program):
-    """The lines of `./gpscover --version`, the last of which is of the program that is built here."""
+    """The lines of `./gpscover --version`, the last of which is of the program that it runs: by what it was proved and built."""
     ran = subprocess.run([str(ROOT / "gpscover"), "--version"], capture_output=True, text=True)
-    lines = ran.stdout.splitlines()
-    return ", ".join(lines if Path(program).resolve() == PROGRAM else [*lines[:2], "another program"])
+    *lines, own = ran.stdout.splitlines()
+    with contextlib.suppress(OSError):
+        if f"SHA-256 {checksum(program)}, " in own:
+            return ", ".join([*lines, own.partition(", ")[2]])
+    return ", ".join([*lines, "another program"])
 
 
 def verdict(words):
@@ -163,10 +174,11 @@ def dissent(said, command):
 def run_make(args):
     """Makes a bundle."""
     folder, options = Path(args.bundle), Options(args.first, args.last, args.track)
+    program = args.program or own_program()
     folder.mkdir()
     for path, name in zip((args.obs, args.nav, args.settings, args.log), FILES.values()):
         shutil.copyfile(path, folder / name)
-    lines = list(made(folder, args.program, options))
+    lines = list(made(folder, program, options))
     if told := dissent(dict(lines), options.command()):
         shutil.rmtree(folder)
         raise LogError(f"no evidence: {told}")
@@ -207,7 +219,7 @@ def run_check(args):
     """Checks a bundle."""
     folder = Path(args.bundle)
     said, options = read_sheet(folder)
-    found = list(made(folder, args.program, options))
+    found = list(made(folder, args.program or own_program(), options))
     told = [*strangers(folder), *differences(said, found, args.other_program)]
     if args.sha256 not in (None, checksum(folder / SHEET)):
         told.append(f"{SHEET} has the checksum {checksum(folder / SHEET)}")
@@ -234,7 +246,7 @@ def arguments():
     check = ways.add_parser("check", help="find all of it anew and compare")
     for way, work in ((make, run_make), (check, run_check)):
         way.add_argument("bundle", metavar="FOLDER")
-        way.add_argument("--program", default=str(PROGRAM), help="the built program (crates/gpscover/out/gpscover)")
+        way.add_argument("--program", help="the program (the one that ./gpscover runs)")
         way.set_defaults(work=work)
     for name in ("obs", "nav", "settings", "log"):
         make.add_argument(name, metavar=name.upper())

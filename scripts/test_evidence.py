@@ -20,7 +20,7 @@ import testing
 from test_scripts import ended_with
 
 EXAMPLES = Path(__file__).resolve().parent.parent / "examples"
-PROGRAM = str(evidence.PROGRAM)
+PROGRAM = str(Path(__file__).resolve().parent.parent / "crates/gpscover/out/gpscover")
 
 
 def edited(name, old, new):

@@ -1116,5 +1116,24 @@ class Documents(unittest.TestCase):
             headline.definition("crates/sat_model/specs/Fold.antt", "NoSuchName")
 
 
+class Edits(unittest.TestCase):
+    """The must-fail edits that the gate leaves out (more_edits.sh), whose texts it doesn't look for either."""
+
+    def test_each_changes_texts_that_stand_once_in_their_files(self):
+        for edit in sorted((HERE.parent / "edits").glob("*/*.edit")):
+            crate, texts = HERE.parent / "crates" / edit.parent.name, {}
+            for line in edit.read_text(encoding="utf-8").splitlines():
+                word, text = line[:5].rstrip(": "), line[5:]
+                if word == "file":
+                    path = text.strip()
+                    texts.setdefault(path, (crate / path).read_text(encoding="utf-8"))
+                elif word == "old":
+                    old = text
+                elif word == "new":
+                    with self.subTest(edit=f"{crate.name}/{edit.name}", old=old):
+                        self.assertEqual(texts[path].count(old), 1)
+                    texts[path] = texts[path].replace(old, text)
+
+
 if __name__ == "__main__":
     sys.exit(testing.run("scripts"))

@@ -202,9 +202,9 @@ def settings(args, room):
 # ---- solve, check, compress
 
 def program_of(args):
-    """The program, where it is built."""
+    """The program, where it is one."""
     if not os.access(args.program, os.X_OK):
-        raise StepError(f"{args.program} isn't built: run ./gpscover make 1 1 once, or name another program")
+        raise StepError(f"{args.program} isn't a program: name another one in the configuration")
     return args.program
 
 

@@ -1,5 +1,4 @@
 pub mod Chains
-pub mod Corners
 pub mod Hulls
 pub mod Lists
 pub mod Masks

@@ -5,6 +5,7 @@ use Rattle.std.specs.Option.{option_map}
 use Rattle.std.specs.Prelude.{is_none}
 use Rattle.sharpness_laws.specs.UsableRows.{AllDistinctIf}
 use Rattle.grid_model.specs.Boxes.{GridBox}
+use Rattle.grid_model.specs.Hulls.{joined_box}
 use Rattle.epoch_selection.specs.declared.selection.Selection.{Selection}
 use Rattle.input_files.specs.declared.notice.Notice.TheVariants as notice
 use Rattle.input_files.specs.declared.status.Status.{Status}
@@ -21,7 +22,7 @@ use Rattle.log_writer.specs.Sources.{Source, Came}
 use Rattle.log_writer.specs.Texts.{IsText, IsWhole}
 use Rattle.log_writer.specs.Writing.{Trust}
 use Rattle.log_writer.specs.declared.fault.WriteFault.TheVariants as why
-use Rattle.moving_tube.specs.Hulls.{joined_box, hull_behind, hull_of}
+use Rattle.moving_tube.specs.Hulls.{hull_behind, hull_of}
 use Rattle.outer_io.specs.Causes.{Rose}
 use Rattle.outer_io.specs.Taken.{SinkState, SinkTold, TakenBy, taking}
 use Rattle.paving_log.specs.CoverBoxes.{cover_of}

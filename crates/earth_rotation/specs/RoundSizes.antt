@@ -5,6 +5,7 @@ use Rattle.std.specs.Prelude.{ℕ, ◌+◌, ◌*◌, ◌/◌, ◌^◌}
 use Rattle.grid_model.specs.Angles.{unit}
 use Rattle.grid_model.specs.Boxes.{GridBox}
 use Rattle.grid_model.specs.Lengths.{longest_length}
+use Rattle.earth_rotation.specs.TurnSizes.{narrow_width}
 
 -- a coordinate after a turn
 abbrev pub turned_reach : ℕ
@@ -43,3 +44,8 @@ cosine_width w = w / 5000 + 33
 -- a coordinate of a satellite's place, turned over a range v wide
 abbrev pub turned_width : ℕ → ℕ
 turned_width v = v / 75000 + 1016
+
+-- the range from a place that was turned in two rounds, to the points of a box
+abbrev pub seen_width : GridBox → ℕ
+seen_width part = range_width part (turned_width (range_width part
+    (turned_width (range_width part narrow_width))))

@@ -5,8 +5,10 @@
 mod angles;
 mod existence;
 mod ranges;
+mod seen;
 mod turns;
 
 pub use existence::turn_exists;
 pub use ranges::range;
+pub use seen::seen_range;
 pub use turns::turned;

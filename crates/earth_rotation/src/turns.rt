@@ -16,7 +16,7 @@ use fix_interval::{Exact, Place, difference_of_products, sum_of_products};
 use grid_model::Box3;
 
 /// The place, turned about the axis of the earth by the flight time over a range.
-fn turned_over(place: Place, range: Exact) -> Place
+pub(crate) fn turned_over(place: Place, range: Exact) -> Place
     requires size { PlaceAmount turn_reach place }
     requires range_size { HasAmount range_amount range }
     ensures holds { (r : ℕ) (x y z tx ty : ℤ) → Holds range (pos r) → HoldsPlace place x y z →

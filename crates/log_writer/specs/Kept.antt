@@ -1,28 +1,11 @@
 -- The hull of the boxes that a block keeps.
-use Rattle.std.specs.Prelude.{ℤ, List, [], ◌∷◌, Option, None, Some, cond}
-use Rattle.grid_model.specs.Boxes.{Side, GridBox}
+use Rattle.std.specs.Prelude.{List, [], ◌∷◌, Option, None, Some, cond}
+use Rattle.grid_model.specs.Boxes.{GridBox}
+use Rattle.grid_model.specs.Hulls.{joined_box}
 use Rattle.sat_model.specs.Events.{steps_in}
 use Rattle.sat_model.specs.Fold.{ShownStep, pieces}
 use Rattle.sat_model.specs.Logs.{Body, Block}
 use Rattle.sat_model.specs.StepKinds.{is_kept_step}
-use lib.Signed.{le_z}
-
-abbrev pub lesser : ℤ → ℤ → ℤ
-lesser a b = cond (le_z a b) a b
-
-abbrev pub greater : ℤ → ℤ → ℤ
-greater a b = cond (le_z a b) b a
-
-abbrev pub joined_side : Side → Side → Side
-joined_side s t = record { lo = lesser s.lo t.lo; hi = greater s.hi t.hi }
-
--- the least box that holds both
-abbrev pub joined_box : GridBox → GridBox → GridBox
-joined_box a b = record {
-  x = joined_side a.x b.x;
-  y = joined_side a.y b.y;
-  z = joined_side a.z b.z;
-}
 
 abbrev pub hull_with : Option GridBox → GridBox → Option GridBox
 hull_with None part = Some part

@@ -6,7 +6,7 @@ use Rattle.range_contractor.proofs.BoxLemmas.{along, holds_at, holds_all}
 use Rattle.grid_model.specs.Boxes.{Side, GridBox, box_holds, side_at, IsIn}
 use Rattle.sat_model.specs.Contractors.{meet_side, meet_box}
 use Rattle.grid_model.specs.declared.boxes.Pos.{Pos}
-use Rattle.moving_tube.specs.Hulls.{joined_side, joined_box}
+use Rattle.grid_model.specs.Hulls.{joined_side, joined_box}
 use Rattle.moving_tube.specs.Reach.{IsWithinReach}
 use Rattle.moving_tube.specs.Roots.{grown_side, grown_box, reached_box}
 use Rattle.range_contractor.proofs.TightLemmas.{square_le_back as less_of_squares}

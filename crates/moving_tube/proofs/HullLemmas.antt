@@ -11,7 +11,8 @@ use Rattle.sat_model.specs.Fold.{ShownStep}
 use Rattle.grid_model.specs.declared.boxes.Box3.{Box3}
 use Rattle.grid_model.specs.declared.boxes.Pos.{Pos}
 use Rattle.paving_log.specs.CoverBoxes.{kept_parts}
-use Rattle.moving_tube.specs.Hulls.{joined_side, joined_box, hull_with, hull_behind, HullLies}
+use Rattle.grid_model.specs.Hulls.{joined_side, joined_box}
+use Rattle.moving_tube.specs.Hulls.{hull_with, hull_behind, HullLies}
 use Rattle.moving_tube.proofs.HoldLemmas.{holds_first, holds_second}
 use Rattle.sat_model.proofs.KeptLemmas.{kept_step}
 use Rattle.paving_log.proofs.KeptParts.{kept_here, kept_later}

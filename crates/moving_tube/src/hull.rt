@@ -1,55 +1,15 @@
 //! The hull of the boxes that an epoch keeps.
 
-ghost use Rattle.std.specs.Prelude.{◌≡◌, ◌≤ℤ◌, map, IfOk};
-ghost use Rattle.std.specs.Int.{int_min, int_max};
+ghost use Rattle.std.specs.Prelude.{◌≡◌, map, IfOk};
 ghost use Rattle.subpaving.specs.LiveValues.{box_option};
 ghost use Rattle.paving_log.specs.CoverBoxes.{BodyFolds, cover_of};
 ghost use Rattle.paving_log.specs.Values.{block_of};
 ghost use Rattle.grid_model.specs.Boxes.{grid_box};
-ghost use Rattle.grid_model.specs.Sizes.{IsBoxSize};
-ghost use Rattle.moving_tube.specs.Hulls.{joined_box, hull_with, hull_of};
+ghost use Rattle.moving_tube.specs.Hulls.{hull_with, hull_of};
 
-use grid_model::{Box3, NoMemory, Pos};
+use grid_model::{Box3, NoMemory};
 use paving_log::{LogEpoch, cover_boxes};
 use std::alloc::Global;
-
-/// The lesser of two coordinates.
-fn lesser(a: i64, b: i64) -> i64
-    ensures value { result ≡ int_min a b }
-    ensures first { result ≤ℤ a }
-    ensures second { result ≤ℤ b }
-    ensures size { IsBoxSize a → IsBoxSize b → IsBoxSize result }
-{
-    a.min(b)
-}
-
-/// The greater of two coordinates.
-fn greater(a: i64, b: i64) -> i64
-    ensures value { result ≡ int_max a b }
-    ensures first { a ≤ℤ result }
-    ensures second { b ≤ℤ result }
-    ensures size { IsBoxSize a → IsBoxSize b → IsBoxSize result }
-{
-    a.max(b)
-}
-
-/// The least box that holds both.
-fn joined(a: &Box3, b: &Box3) -> Box3
-    ensures { grid_box result ≡ joined_box (grid_box a.now) (grid_box b.now) }
-{
-    Box3 {
-        lo: Pos {
-            x: lesser(a.lo.x, b.lo.x),
-            y: lesser(a.lo.y, b.lo.y),
-            z: lesser(a.lo.z, b.lo.z),
-        },
-        hi: Pos {
-            x: greater(a.hi.x, b.hi.x),
-            y: greater(a.hi.y, b.hi.y),
-            z: greater(a.hi.z, b.hi.z),
-        },
-    }
-}
 
 /// The hull with one box more.
 fn with_box(hull: Option<Box3>, part: &Box3) -> Option<Box3>
@@ -57,7 +17,7 @@ fn with_box(hull: Option<Box3>, part: &Box3) -> Option<Box3>
 {
     match hull {
         None => Some(*part),
-        Some(hull) => Some(joined(&hull, part)),
+        Some(so_far) => Some(so_far.hull(part)),
     }
 }
 

@@ -33,13 +33,13 @@ pub record ComesFrom (delays : Delays) (base : Base) (p : Pos) (c : Chain) : Typ
   pub corrected : Between base.range.lo base.range.hi c.corrected
   pub bound : IsBound delays (ends base.err) p c
 
--- it is known as near as one orbit and one pseudorange tell, and all members of the place are as
--- far from the origin as an orbit
+-- it is known as near as one orbit and one pseudorange, or the difference of two receivers', tell,
+-- and all members of the place are as far from the origin as an orbit
 pub record IsNarrowBase (base : Base) : Type 0 where
   pub place : PlaceEnds near_reach narrow_width base.place
   pub distance : (x y z : ℤ) → HoldsPlace base.place x y z → IsOrbitDistance x y z
   pub range : IsSmall (56 * 10 ^ 12) base.range
-  pub range_width : (base.range.hi -ℤ base.range.lo) ≤ℤ pos 14
+  pub range_width : (base.range.hi -ℤ base.range.lo) ≤ℤ pos 1900
   pub err : IsSmall (6 * 10 ^ 9) base.err
 
 -- For what a source says of the satellites that were observed at a time, in a search box: the

@@ -35,7 +35,7 @@ range_exists system first (Some second) =
       (first.lo, second.lo, low_member _ _ first.ordered, low_member _ _ second.ordered, free.1),
     )
 
-values_exist : (seen : Observed) (p : Pos)
+pub values_exist : (seen : Observed) (p : Pos)
     → (x : ℤ) × (y : ℤ) × (z : ℤ) × (corrected : ℤ) × (range : ℕ)
     × ChainValue seen p x y z corrected range
 values_exist seen p =

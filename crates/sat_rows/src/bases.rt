@@ -1,6 +1,6 @@
 //! What is known of a satellite of an epoch before it is seen from a box.
 
-ghost use Rattle.std.specs.Prelude.{◌≡◌, ◌*◌, ◌^◌, ℤ, pos, ◌≤ℤ◌, ◌<ℤ◌};
+ghost use Rattle.std.specs.Prelude.{◌≡◌, ◌*◌, ◌^◌, ℤ, pos, ◌-ℤ◌, ◌≤ℤ◌, ◌<ℤ◌};
 ghost use Rattle.gnss_model.specs.RecordBounds.{time_bound};
 ghost use Rattle.sat_model.specs.Relaxed.{ends};
 ghost use Rattle.grid_model.specs.declared.boxes.Pos.{Pos};
@@ -33,8 +33,9 @@ pub struct Base {
 
 /// The base of a system's satellite whose signal came at `tag` by the receiver's clock, in ps since
 /// 1980-01-06 00:00:00 GPS time and within 14,401 s of the ephemeris time. `declared`, in um, is
-/// the sum of the spans that are declared for its error.
-pub(crate) fn base_of(
+/// the sum of the spans that are declared for its error. The corrected pseudoranges are at most 14
+/// um apart.
+pub fn base_of(
     system: System,
     sat: Sat,
     tag: i128,
@@ -54,6 +55,7 @@ pub(crate) fn base_of(
         (record { system = system; tag = tag; codes = codes_of codes.now; el = el.now }) p c
         → ComesFrom delays result p c }
     ensures narrow { IsNarrowBase result }
+    ensures range_width { (result.range.hi -ℤ result.range.lo) ≤ℤ pos 14 }
 {
     let range = pseudorange(codes, system);
     let sending = clock(tag, range, el, of_one_code(codes), system);

@@ -15,11 +15,11 @@ mod source;
 mod span_tests;
 mod spans;
 
-pub use bases::Base;
+pub use bases::{Base, base_of};
 pub use elevation_mapping::mapped;
 pub use epochs::{rows, rows_by};
 pub use gps::GpsRows;
 pub use growth::grown;
 pub use lines::{EpochRows, SatLine};
 pub use source::RowSource;
-pub use spans::renewed;
+pub use spans::{renewed, span_of};

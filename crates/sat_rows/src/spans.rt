@@ -20,8 +20,8 @@ use gnss_model::Delays;
 use grid_model::{Box3, Span};
 use sat_model::Row;
 
-/// The same numbers in 64 bits.
-pub(crate) fn span_of(x: Exact) -> Span
+/// The span from the least to the greatest member, in 64 bits.
+pub fn span_of(x: Exact) -> Span
     requires low_size { IsPlaceSize x.lo }
     requires high_size { IsPlaceSize x.hi }
     ensures low { result.lo ≡ x.lo }

@@ -1,12 +1,10 @@
 -- The hull that a source is told is that of the boxes that cover a block.
-use Rattle.std.proofs.Common.{◌≡◌, Bool, true, false, List, [], ◌∷◌, refl, sym, ap, subst, ◌∙◌, arith, Option, None, Some}
-use Rattle.std.specs.Prelude.{ℤ, is_none}
-use Rattle.std.specs.Int.{int_min, int_max}
-use Rattle.std.proofs.lemmas.Int.{ints}
+use Rattle.std.proofs.Common.{◌≡◌, Bool, true, false, List, [], ◌∷◌, refl, sym, ap, subst, ◌∙◌, Option, None, Some}
+use Rattle.std.specs.Prelude.{is_none}
 use Rattle.subpaving.proofs.FoldingLemmas.{steps_fold}
 use Rattle.log_writer.specs.Kept as told
 use Rattle.log_writer.specs.Pavings.{BodyExtends, HasRun}
-use Rattle.moving_tube.specs.Hulls.{joined_side, joined_box, hull_with, hull_behind, hull_of, HullLies}
+use Rattle.moving_tube.specs.Hulls.{hull_with, hull_behind, hull_of, HullLies}
 use Rattle.moving_tube.specs.Roots.{kept_with}
 use Rattle.moving_tube.specs.Tracks.{HasRoot}
 use Rattle.moving_tube.proofs.FoldLemmas.{steps_hull_lies}
@@ -14,7 +12,7 @@ use Rattle.moving_tube.proofs.RootLemmas.{hull_through}
 use Rattle.paving.proofs.TurnLemmas.{Suits, turns_pass}
 use Rattle.paving.specs.Renewing.{Maker}
 use Rattle.paving_log.specs.CoverBoxes.{BodyFolds, kept_parts, cover_of}
-use Rattle.grid_model.specs.Boxes.{Side, GridBox}
+use Rattle.grid_model.specs.Boxes.{GridBox}
 use Rattle.sat_model.specs.Contractors.{LiesIn}
 use Rattle.sat_model.specs.Cover.{is_kept}
 use Rattle.sat_model.specs.Events.{steps_in}
@@ -29,22 +27,10 @@ use Rattle.tube_rows.specs.TubeLeft.{kept_told}
 
 -- ---- the hull
 
-same_min : (a b : ℤ) → told.lesser a b ≡ int_min a b
-same_min a b = grind (arith, ints)
-
-same_max : (a b : ℤ) → told.greater a b ≡ int_max a b
-same_max a b = grind (arith, ints)
-
-same_side : (s t : Side) → told.joined_side s t ≡ joined_side s t
-same_side s t = rw (same_min s.lo t.lo, same_max s.hi t.hi) refl
-
-same_box : (a b : GridBox) → told.joined_box a b ≡ joined_box a b
-same_box a b = rw (same_side a.x b.x, same_side a.y b.y, same_side a.z b.z) refl
-
 same_with : (hull : Option GridBox) (part : GridBox)
     → told.hull_with hull part ≡ hull_with hull part
 same_with None part = refl
-same_with (Some hull) part = ap Some (same_box hull part)
+same_with (Some hull) part = refl
 
 same_behind : (hull : Option GridBox) (parts : List ShownStep)
     → told.hull_behind hull parts ≡ hull_behind hull (kept_parts parts)

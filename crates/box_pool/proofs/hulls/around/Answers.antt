@@ -9,4 +9,4 @@ pub returns-in-None : goal.returns-in-None
 returns-in-None c = λ items none. hull_one items c.args.item.now (subst (λ (o : Option Box3). IsHullOf items o) c.in-None.is none)
 
 pub returns-in-Some : goal.returns-in-Some
-returns-in-Some c = λ items known. hull_more items c.args.item.now (grid_box c.in-Some.hull) (grid_box c.both.result) (subst (λ (o : Option Box3). IsHullOf items o) c.in-Some.is known) c.both.ensures.first c.both.ensures.second c.both.ensures.least
+returns-in-Some c = λ items known. hull_more items c.args.item.now (grid_box c.in-Some.so_far) (grid_box c.hull.result) (subst (λ (o : Option Box3). IsHullOf items o) c.in-Some.is known) c.hull.ensures.first c.hull.ensures.second c.hull.ensures.least

@@ -1,7 +1,7 @@
-use Rattle.std.proofs.Common.{◌^◌, ◌*◌, FitsSigned, lit≤, subst, sym}
+use Rattle.std.proofs.Common.{◌^◌, ◌*◌, FitsSigned, lit≤, subst, sym, arith}
 use Rattle.std.specs.Int.{w128}
-use Rattle.std.specs.Prelude.{Bool}
-use Rattle.std.proofs.lemmas.Int.{to_z-of_z}
+use Rattle.std.specs.Prelude.{Bool, ℤ, pos, ◌≤ℤ◌}
+use Rattle.std.proofs.lemmas.Int.{to_z-of_z, ints}
 use Rattle.gnss_model.specs.ClockChain.{ClockChainOf}
 use Rattle.sat_rows.proofs.SpanLemmas.{span_holds, span_small, span_width}
 use Rattle.sat_rows.proofs.bases.base_of.Goals as goal
@@ -23,6 +23,12 @@ returns-clause-holds c delays p chain (value, bound) =
       bound = bound;
     }
 
+wider : {z : ℤ} → z ≤ℤ pos 14 → z ≤ℤ pos 1900
+wider h = omega (arith, ints, h)
+
+pub returns-clause-range_width : goal.returns-clause-range_width
+returns-clause-range_width c = span_width 14 c.corrected_range.result c.span_of.result c.span_of.ensures.low c.span_of.ensures.high c.corrected_range.ensures.ends.width
+
 pub returns-clause-narrow : goal.returns-clause-narrow
 returns-clause-narrow c =
     let e = c.corrected_range.ensures.ends in
@@ -30,6 +36,6 @@ returns-clause-narrow c =
       place = c.sent_place.ensures.ends;
       distance = c.sent_place.ensures.distance;
       range = span_small (56 * 10 ^ 12) (56 * 10 ^ 12) _ c.corrected_range.result c.span_of.result c.span_of.ensures.low c.span_of.ensures.high (lit≤ tt) e;
-      range_width = span_width 14 c.corrected_range.result c.span_of.result c.span_of.ensures.low c.span_of.ensures.high e.width;
+      range_width = wider (span_width 14 c.corrected_range.result c.span_of.result c.span_of.ensures.low c.span_of.ensures.high e.width);
       err = c.requires.small;
     }
