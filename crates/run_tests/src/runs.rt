@@ -45,9 +45,32 @@ const fn unsaid(case: Case) -> Case {
     }
 }
 
-// Each file is begun by one call and read by two more, but rows by one more where they are read
-// whole, in the order of settings, records, observations and log. Then the log is created by one
-// call and written by the next. Behind the last call none fails.
+// A paving whose log would pass its limit.
+const fn full(limit: u64, out: &'static str, err: &'static str, log: &'static str) -> Case {
+    Case {
+        limit,
+        status: Status::LogFull,
+        out,
+        err,
+        written: Some((log, "")),
+        ..PAVE
+    }
+}
+
+// A paving whose log stays within its limit.
+const fn paved(limit: u64, rows: &'static str, steps: &'static str, report: &'static str) -> Case {
+    Case {
+        limit,
+        log: rows,
+        out: report,
+        written: Some((rows, steps)),
+        ..PAVE
+    }
+}
+
+// Each file is begun by one call and read by two more, in the order of settings, records,
+// observations and log. So are rows. Then the log is created by one call and written by the next.
+// Behind the last call none fails.
 #[test]
 fn each_call_that_fails_has_its_status(rt: HostRuntime) -> Result<(), Fail> {
     let table = [
@@ -98,29 +121,6 @@ fn each_call_that_fails_has_its_status(rt: HostRuntime) -> Result<(), Fail> {
         expect(&rt, &case)?;
     }
     Ok(())
-}
-
-// The log is full.
-const fn full(limit: u64, out: &'static str, err: &'static str, log: &'static str) -> Case {
-    Case {
-        limit,
-        status: Status::LogFull,
-        out,
-        err,
-        written: Some((log, "")),
-        ..PAVE
-    }
-}
-
-// A paving whose log may have so many bytes.
-const fn paved(limit: u64, rows: &'static str, steps: &'static str, report: &'static str) -> Case {
-    Case {
-        limit,
-        log: rows,
-        out: report,
-        written: Some((rows, steps)),
-        ..PAVE
-    }
 }
 
 // A line that would pass the limit of the log isn't begun, and a device that is full keeps what it
