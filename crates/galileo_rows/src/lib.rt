@@ -4,8 +4,6 @@
 
 mod both;
 mod chains;
-#[cfg(test)]
-mod tests;
 
 pub use both::BothRows;
 pub use chains::{gal_correction, gal_dual, gal_motion};

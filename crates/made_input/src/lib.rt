@@ -15,6 +15,3 @@ mod records;
 pub use fits::{place_fits, satellites_are_usable};
 pub use input::make;
 pub use made::Made;
-
-#[cfg(test)]
-mod tests;

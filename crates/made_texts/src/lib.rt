@@ -16,6 +16,3 @@ pub use nav::{nav_is_accepted, nav_text};
 pub use obs::{obs_is_accepted, obs_text};
 pub use sat_codes::{EpochCodes, SatCode};
 pub use settings::{settings_are_accepted, settings_text};
-
-#[cfg(test)]
-mod tests;

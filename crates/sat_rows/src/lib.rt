@@ -11,8 +11,6 @@ mod lines;
 mod places;
 mod signals;
 mod source;
-#[cfg(test)]
-mod span_tests;
 mod spans;
 
 pub use bases::{Base, base_of};

@@ -1,5 +1,6 @@
 //! Tests alone: eccentric anomalies, clocks, places, turned places and prepared pseudoranges against
-//! vectors of other sources.
+//! vectors of other sources, clocks and places of recorded satellites, which satellites are usable,
+//! their rows, and the files of a made receiver.
 #![tactic(auto)]
 
 #[cfg(test)]
@@ -11,6 +12,10 @@ mod clock_records;
 #[cfg(test)]
 mod clocks;
 #[cfg(test)]
+mod galileo_chains;
+#[cfg(test)]
+mod made_receivers;
+#[cfg(test)]
 mod orbit_records;
 #[cfg(test)]
 mod orbit_vectors;
@@ -21,6 +26,18 @@ mod pairs;
 #[cfg(test)]
 mod ranges;
 #[cfg(test)]
+mod recorded_ephemerides;
+#[cfg(test)]
+mod recorded_places;
+#[cfg(test)]
+mod recorded_vectors;
+#[cfg(test)]
+mod rows_overhead;
+#[cfg(test)]
 mod turn_vectors;
 #[cfg(test)]
 mod turns;
+#[cfg(test)]
+mod usable_satellites;
+#[cfg(test)]
+mod written_texts;

@@ -10,6 +10,3 @@ mod judging;
 
 pub use codes::Measured;
 pub use judging::{Judgement, judge_satellite, use_of};
-
-#[cfg(test)]
-mod tests;

@@ -1,0 +1,41 @@
+//! Settings.
+
+use crate::fields::Fields;
+use crate::inputs::file;
+use error_bounds::{Settings, SettingsError, read_settings};
+use gnss_model::Sat;
+use grid_model::Pos;
+use std::io;
+
+/// The position of a header, which only some settings take as the centre of the search box.
+const HEADER: Pos = Pos {
+    x: 1_000_000,
+    y: -2,
+    z: 8_500_000_000_000,
+};
+
+/// Prints the settings of a file, or the number and the key of their first fault.
+pub fn print(rt: &HostRuntime, fields: Fields<'_>) -> io::Result<()> {
+    match read_settings(rt.alloc(), &file(rt, fields)?) {
+        Ok(settings) => print_settings(rt, &settings),
+        Err(SettingsError::Refused(fault)) => {
+            println!(rt; "{} {}", fault.number, fault.key.as_str())
+        }
+        Err(SettingsError::NoMemory) => println!(rt; "no memory"),
+    }
+}
+
+/// Prints settings, the search box, and what is declared for two satellites of each system.
+fn print_settings(rt: &HostRuntime, settings: &Settings) -> io::Result<()> {
+    println!(rt;
+        "{:?} {} {} {:?}",
+        settings.rules, settings.max_age, settings.renew, settings.speed
+    )?;
+    println!(rt; "{:?} {:?}", settings.signal, settings.galileo_signal())?;
+    println!(rt; "{:?} {:?}", settings.centre, settings.root(Some(HEADER)))?;
+    println!(rt; "{:?}", settings.delays)?;
+    for (system, number) in [(b'G', 5), (b'G', 6), (b'E', 5), (b'E', 6)] {
+        println!(rt; "{:?}", settings.bound_of(Sat { system, number }))?;
+    }
+    Ok(())
+}

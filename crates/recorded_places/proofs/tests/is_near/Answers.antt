@@ -1,8 +1,0 @@
-use Rattle.std.proofs.Common.{arith}
-use Rattle.std.proofs.lemmas.Int.{ints}
-use Rattle.recorded_places.proofs.tests.is_near.Goals as goal
-
-pub returns-clause-to : goal.returns-clause-to
-returns-clause-to g c =
-    let d = c.ephemeris_time-toe.ensures.low in
-    omega (arith, ints)

@@ -1,7 +1,0 @@
-use Rattle.std.proofs.Common.{rules, IsTrue}
-use Rattle.sat_rows.proofs.span_tests.seen_from.Goals as goal
-
-pub renewed-row-requires-clause-high : goal.renewed-row-requires-clause-high
-renewed-row-requires-clause-high g c =
-    let t : IsTrue c.is_far_from_origin.result = search rules in
-    c.is_far_from_origin.ensures.0 t
