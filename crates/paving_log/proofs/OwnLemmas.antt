@@ -1,10 +1,12 @@
 -- The tests of a block's own lines, block by block.
-use Rattle.std.proofs.Common.{◌≡◌, ℕ, suc, ◌+◌, ◌<◌, ◌≤◌, arith, Bool, true, false, List, [], ◌∷◌, length, get_or, drop, map, refl, sym, ap, ◌∙◌, add-one, Option, None, Some, inl, inr}
+use Rattle.std.proofs.Common.{◌≡◌, ℕ, suc, ◌+◌, ◌<◌, ◌≤◌, arith, cond, Bool, true, false, List, [], ◌∷◌, length, get_or, drop, map, refl, sym, ap, ◌∙◌, add-one, Option, None, Some, inl, inr}
+use Rattle.std.specs.Prelude.{count_by}
 use Rattle.std.specs.List.{AllByRecursion}
 use Rattle.std.proofs.Math.ListN.{get_or-map}
 use Rattle.std.proofs.Math.Seq.{drop-cons}
 use Rattle.std.proofs.lemmas.Grind.{common_steps}
 use Rattle.std.proofs.lemmas.List.{length-append, length-map}
+use Rattle.std.proofs.lemmas.List.Sums.{sum_by-cons}
 use Rattle.sat_model.specs.declared.rules.Rules.{Rules}
 use Rattle.sat_model.specs.declared.rows.SatEntry.{SatEntry}
 use Rattle.sat_model.specs.declared.rows.SatEntry.TheVariants as entry
@@ -16,12 +18,17 @@ use Rattle.log_lines.specs.declared.line.Form.TheVariants as form
 use Rattle.log_lines.specs.declared.line.LogLine.TheVariants as lines
 use Rattle.paving_log.specs.declared.log.Log.{Log}
 use Rattle.paving_log.specs.declared.log.LogEpoch.{LogEpoch}
-use Rattle.paving_log.specs.RowsText.{IsNumberedIn, OwnPasses, OwnFails, AllOwnPass, FirstOwnFails, HasOwnFault, IsPavable}
+use Rattle.paving_log.specs.RowsText.{IsNumberedIn, OwnPasses, OwnFails, AllOwnPass, FirstOwnFails, HasOwnFault, has_row, IsPavable}
 use Rattle.log_lines.specs.Text.{paved_lines, block_lines, BlockFits}
 use Rattle.paving_log.specs.Values.{block_of, log_value}
 use Rattle.sat_model.proofs.FaultLemmas.{one_repeat}
 
 -- ---- the rows among the satellite lines
+
+pub count_rows : (sats : List SatEntry) → count_by has_row sats ≡ length (rows_of sats)
+count_rows [] = refl
+count_rows (entry.Row row ∷ more) = omega (arith, sum_by-cons (λ e. cond (has_row e) 1 0) (entry.Row row) more, count_rows more)
+count_rows (entry.Skipped sat skip ∷ more) = omega (arith, sum_by-cons (λ e. cond (has_row e) 1 0) (entry.Skipped sat skip) more, count_rows more)
 
 pub rows_le_lines : (sats : List SatEntry) → length (rows_of sats) ≤ length sats
 rows_le_lines [] = omega arith
