@@ -14,11 +14,10 @@ ROOT = Path(__file__).resolve().parent.parent
 
 HEAD = """# The crates
 
-By floors, the lowest first: a crate stands on crates of its own floor and of those before it. The one exception is
-`box_contraction`, which stands on `log_lines`. What a crate does is the first sentence of its `lib.rt` or `main.rt`. What it
-stands on is told without the crates below those that are named, and libraries of the kit come last, without a link. What
-flows from crate to crate, and what the files of each hold, is in [ARCHITECTURE](../docs/ARCHITECTURE.md). Made by
-`scripts/crates_page.py` from [crates.txt](../crates.txt).
+By floors, the lowest first: a crate stands on crates of its own floor and of those before it. What a crate does is the first
+sentence of its `lib.rt` or `main.rt`. What it stands on is told without the crates below those that are named, and libraries of
+the kit come last, without a link. What flows from crate to crate, and what the files of each hold, is in
+[ARCHITECTURE](../docs/ARCHITECTURE.md). Made by `scripts/crates_page.py` from [crates.txt](../crates.txt).
 """
 
 

@@ -1105,7 +1105,7 @@ class Wrapper(unittest.TestCase):
                 project, logs, kit = self.said("--version", path).splitlines()
                 self.assertRegex(project, r"^gpscover (unreleased|[0-9.]+)")
                 self.assertEqual(logs, "logs of the versions 1, 2, 3")
-                self.assertRegex(kit, r"^(built by|not built)")
+                self.assertRegex(kit, r"^(released: |built here: |not built)")
 
 
 class Documents(unittest.TestCase):
