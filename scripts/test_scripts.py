@@ -1087,7 +1087,10 @@ class Wrapper(unittest.TestCase):
 
     def bare(self, room):
         """A path with the tools that the words need, and neither man nor rt."""
-        for tool in ("sh", "sed", "dirname", "readlink", "head", "tr", "sort", "xargs", "echo", "cat"):
+        for tool in (
+            "sh", "sed", "dirname", "readlink", "head", "tr", "sort", "xargs", "echo", "cat", "awk", "find", "sha256sum", "id",
+            "mkdir", "mv", "rm",
+        ):
             os.symlink(shutil.which(tool), os.path.join(room, tool))
         return room
 
