@@ -101,6 +101,3 @@ module _ (delays : Delays) (rules : Rules) (block : Block) (body : Body) where
       let told = events_told delays f.renewed (none_formed delays body.root (renewals_in body.events) f.renewed f.formed) (rows_over body.root firsts) rules body.done 0 _ body.events k fault f.fails in
       (k, rw is at told.0, told.1, omega (arith, at, begins))
   body_told (Err e) firsts line is h begins = tt
-
--- a block whose own lines pass is decided by its body
-module _ (rules : Rules) (before : Option ℕ) (block : Block) (body : Body) (own : OwnPasses rules before block) (is : block.body ≡ Some body) where
