@@ -6,10 +6,10 @@ use Rattle.std.specs.Str.{bytes_eq}
 use Rattle.clap.specs.Lexer.{long_of, short_of}
 use Rattle.clap.specs.Kinds.{Kinds, or_else}
 use Rattle.clap.specs.Walk.{Text, Row, Rule, Held, Step, Walk, Waiting, idle, option, value, trailing, word_met, walked, after_step, to_positional, arg_by_index, plain_word, long_or_other, short_or_plain, nothing_held, walk_from, finished, settled, rows_after}
-use Rattle.clap.specs.Simple.{Shape, built, is_simple, with_subcommand}
+use Rattle.clap.specs.Simple.{Shape, built, is_simple}
 use Rattle.clap.specs.Faults.{level_fault, walk_fault, turn_fault, other_fault, flag_word_fault, bundle_fault, step_fault, settle_fault, defaults_fault, check_fault, is_simple_and_free}
 use Rattle.clap.proofs.OnLiterals.{clap_on_literals}
-use Rattle.command_words.specs.Program.{program, bare, files_app}
+use Rattle.command_words.specs.Program.{program, bare, files_form, form_app, with_command}
 use Rattle.command_words.specs.Stated.{begins_with_dash}
 
 -- the subcommands as they are built
@@ -36,7 +36,7 @@ retrack_shape = built_sub 5
 
 -- the commands on files differ in their names alone
 abbrev pub files_shape : Text → Shape
-files_shape name = get_or (built (with_subcommand bare (files_app name).top)).subs 0 (built program).top
+files_shape name = get_or (built (with_command bare (form_app (files_form name)))).subs 0 (built program).top
 
 abbrev pub guard_shape : Shape
 guard_shape = built_sub 6

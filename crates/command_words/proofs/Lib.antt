@@ -1,3 +1,4 @@
+pub mod BuiltLemmas
 pub mod FilledLemmas
 pub mod LevelLemmas
 pub mod MatchLemmas

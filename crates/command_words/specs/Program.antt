@@ -1,6 +1,6 @@
 -- The command line of the program as clap sees it: one command with a subcommand each, without help
 -- or version words. This definition is what the words are judged by.
-use Rattle.std.specs.Prelude.{true, [], Some, codes}
+use Rattle.std.specs.Prelude.{true, List, [], ◌∷◌, Some, codes, fold}
 use Rattle.clap.specs.Walk.{Text}
 use Rattle.clap.specs.declared.builder.action.ArgAction.TheVariants.{SetTrue}
 use Rattle.clap.specs.Simple.{App, new_app, new_rule, new_shape, with_rule, with_subcommand}
@@ -17,36 +17,65 @@ with_option app id = with_rule app (record (new_rule id) { long = Some id })
 abbrev pub with_flag : App → Text → App
 with_flag app id = with_rule app (record (new_rule id) { long = Some id; action = Some SetTrue })
 
+-- a command's name, its required words, and its options, with a text or without
+pub record Form : Type 0 where
+  pub name : Text
+  pub words : List Text
+  pub options : List Text
+  pub flags : List Text
+
+abbrev pub form_app : Form → App
+form_app f =
+    let words = fold with_word (new_app f.name) f.words in
+    fold with_flag (fold with_option words f.options) f.flags
+
 -- `judge LOG`
-abbrev pub judge_app : App
-judge_app = with_word (new_app (codes "judge")) (codes "log")
+abbrev pub judge_form : Form
+judge_form = record { name = codes "judge"; words = codes "log" ∷ []; options = []; flags = [] }
 
 -- `pave ROWS LOG`
-abbrev pub pave_app : App
-pave_app = with_word (with_word (new_app (codes "pave")) (codes "rows")) (codes "log")
+abbrev pub pave_form : Form
+pave_form = record {
+  name = codes "pave";
+  words = codes "rows" ∷ codes "log" ∷ [];
+  options = [];
+  flags = [];
+}
 
--- `solve OBS NAV SETTINGS LOG`, and `check`, `track` and `retrack` with the same words, each with
 -- `--from N` and `--to N`
-abbrev pub files_app : Text → App
-files_app name =
-    let receiver = with_word (with_word (new_app name) (codes "obs")) (codes "nav") in
-    let files = with_word (with_word receiver (codes "settings")) (codes "log") in
-    with_option (with_option files (codes "from")) (codes "to")
+abbrev pub epochs : List Text
+epochs = codes "from" ∷ codes "to" ∷ []
 
--- `guard OBS NAV SETTINGS ZONES LOG`
-abbrev pub guard_files : App
-guard_files =
-    let receiver = with_word (with_word (new_app (codes "guard")) (codes "obs")) (codes "nav") in
-    with_word (with_word (with_word receiver (codes "settings")) (codes "zones")) (codes "log")
+-- `solve OBS NAV SETTINGS LOG`, and `check`, `track` and `retrack` with the same words
+abbrev pub files_form : Text → Form
+files_form name = record {
+  name = name;
+  words = codes "obs" ∷ codes "nav" ∷ codes "settings" ∷ codes "log" ∷ [];
+  options = epochs;
+  flags = [];
+}
 
--- with `--from N`, `--to N` and `--track`
-abbrev pub guard_app : App
-guard_app =
-    with_flag (with_option (with_option guard_files (codes "from")) (codes "to")) (codes "track")
+-- `guard OBS NAV SETTINGS ZONES LOG`, with `--track` too
+abbrev pub guard_form : Form
+guard_form = record {
+  name = codes "guard";
+  words = codes "obs" ∷ codes "nav" ∷ codes "settings" ∷ codes "zones" ∷ codes "log" ∷ [];
+  options = epochs;
+  flags = codes "track" ∷ [];
+}
 
 -- `make SEED EPOCHS`
-abbrev pub make_app : App
-make_app = with_word (with_word (new_app (codes "make")) (codes "seed")) (codes "epochs")
+abbrev pub make_form : Form
+make_form = record {
+  name = codes "make";
+  words = codes "seed" ∷ codes "epochs" ∷ [];
+  options = [];
+  flags = [];
+}
+
+abbrev pub forms : List Form
+forms = judge_form ∷ pave_form ∷ files_form (codes "solve") ∷ files_form (codes "check")
+    ∷ files_form (codes "track") ∷ files_form (codes "retrack") ∷ guard_form ∷ make_form ∷ []
 
 abbrev pub bare : App
 bare = record {
@@ -60,19 +89,11 @@ bare = record {
   subs = [];
 }
 
-abbrev pub with_logs : App
-with_logs = with_subcommand (with_subcommand bare judge_app.top) pave_app.top
+abbrev pub with_command : App → App → App
+with_command app sub = with_subcommand app sub.top
 
-abbrev pub with_files : App
-with_files =
-    with_subcommand (with_subcommand with_logs (files_app (codes "solve")).top)
-    (files_app (codes "check")).top
-
--- those of a receiver that moves
-abbrev pub with_tracks : App
-with_tracks =
-    with_subcommand (with_subcommand with_files (files_app (codes "track")).top)
-    (files_app (codes "retrack")).top
+abbrev pub with_form : App → Form → App
+with_form app form = with_command app (form_app form)
 
 abbrev pub program : App
-program = with_subcommand (with_subcommand with_tracks guard_app.top) make_app.top
+program = fold with_form bare forms

@@ -1,15 +1,80 @@
 //! The command line of the program as `clap` takes it.
 
-ghost use Rattle.std.specs.Prelude.{◌≡◌, IfOk, false};
-ghost use Rattle.clap.specs.Simple.{app_of};
-ghost use Rattle.clap.specs.declared.builder.command.Command.TheViews.{out-Command};
-ghost use Rattle.command_words.specs.Program.{with_word, with_option, with_flag, judge_app};
-ghost use Rattle.command_words.specs.Program.{pave_app, files_app, guard_files, guard_app};
-ghost use Rattle.command_words.specs.Program.{make_app, with_logs, with_files, with_tracks};
-ghost use Rattle.command_words.specs.Program.{program};
+ghost use Rattle.std.specs.Prelude.{◌≡◌, IfOk, fold, map};
+ghost use Rattle.clap.specs.Simple.{App, app_of};
+ghost use Rattle.clap.specs.Walk.{texts};
+ghost use Rattle.command_words.specs.Program.{with_word, with_option, with_flag, form_app};
+ghost use Rattle.command_words.specs.Program.{with_form, bare, with_command, program};
+ghost use Rattle.command_words.specs.Built.{IsCommand, form_seen};
 
 use clap::{Arg, ArgAction, Command};
 use std::alloc::{AllocError, Global};
+
+/// A command's name, its required words, and its options, with a text or without.
+struct Form<'a> {
+    name: &'a str,
+    words: &'a [&'a str],
+    options: &'a [&'a str],
+    flags: &'a [&'a str],
+}
+
+/// The words of a command on a receiver's files and its log.
+const ON_FILES: &[&str] = &["obs", "nav", "settings", "log"];
+
+/// The options that choose epochs.
+const EPOCHS: &[&str] = &["from", "to"];
+
+/// The commands of the program.
+static FORMS: [Form<'static>; 8] = [
+    Form {
+        name: "judge",
+        words: &["log"],
+        options: &[],
+        flags: &[],
+    },
+    Form {
+        name: "pave",
+        words: &["rows", "log"],
+        options: &[],
+        flags: &[],
+    },
+    Form {
+        name: "solve",
+        words: ON_FILES,
+        options: EPOCHS,
+        flags: &[],
+    },
+    Form {
+        name: "check",
+        words: ON_FILES,
+        options: EPOCHS,
+        flags: &[],
+    },
+    Form {
+        name: "track",
+        words: ON_FILES,
+        options: EPOCHS,
+        flags: &[],
+    },
+    Form {
+        name: "retrack",
+        words: ON_FILES,
+        options: EPOCHS,
+        flags: &[],
+    },
+    Form {
+        name: "guard",
+        words: &["obs", "nav", "settings", "zones", "log"],
+        options: EPOCHS,
+        flags: &["track"],
+    },
+    Form {
+        name: "make",
+        words: &["seed", "epochs"],
+        options: &[],
+        flags: &[],
+    },
+];
 
 /// One more required word.
 fn with_word<'a>(
@@ -17,9 +82,8 @@ fn with_word<'a>(
     command: Command<'a>,
     id: &'a str,
 ) -> Result<Command<'a>, AllocError>
-    ensures app { IfOk result (λ c. app_of c ≡ with_word (app_of command.entry) id.entry.now) }
-    ensures local { (out-Command command.entry).has_globals ≡ false
-        → IfOk result (λ c. (out-Command c).has_globals ≡ false) }
+    ensures { (app : App) → IsCommand command.entry app
+        → IfOk result (λ c. IsCommand c (with_word app id.entry.now)) }
 {
     let word = Arg::new(alloc, id).required(true);
     command.arg(word)
@@ -31,9 +95,8 @@ fn with_option<'a>(
     command: Command<'a>,
     id: &'a str,
 ) -> Result<Command<'a>, AllocError>
-    ensures app { IfOk result (λ c. app_of c ≡ with_option (app_of command.entry) id.entry.now) }
-    ensures local { (out-Command command.entry).has_globals ≡ false
-        → IfOk result (λ c. (out-Command c).has_globals ≡ false) }
+    ensures { (app : App) → IsCommand command.entry app
+        → IfOk result (λ c. IsCommand c (with_option app id.entry.now)) }
 {
     let option = Arg::new(alloc, id).long(id);
     command.arg(option)
@@ -45,124 +108,113 @@ fn with_flag<'a>(
     command: Command<'a>,
     id: &'a str,
 ) -> Result<Command<'a>, AllocError>
-    ensures app { IfOk result (λ c. app_of c ≡ with_flag (app_of command.entry) id.entry.now) }
-    ensures local { (out-Command command.entry).has_globals ≡ false
-        → IfOk result (λ c. (out-Command c).has_globals ≡ false) }
+    ensures { (app : App) → IsCommand command.entry app
+        → IfOk result (λ c. IsCommand c (with_flag app id.entry.now)) }
 {
     let flag = Arg::new(alloc, id).long(id).action(ArgAction::SetTrue);
     command.arg(flag)
 }
 
-/// `judge LOG`.
-fn judge<'a>(alloc: Global) -> Result<Command<'a>, AllocError>
-    ensures app { IfOk result (λ c. app_of c ≡ judge_app) }
-    ensures local { IfOk result (λ c. (out-Command c).has_globals ≡ false) }
+/// The required words of a command, in turn.
+fn with_words<'a>(
+    alloc: Global,
+    mut command: Command<'a>,
+    ids: &[&'a str],
+) -> Result<Command<'a>, AllocError>
+    ensures { (app : App) → IsCommand command.entry app
+        → IfOk result (λ c. IsCommand c (fold with_word app (texts ids.now))) }
 {
-    let command = Command::new(alloc, "judge");
-    with_word(alloc, command, "log")
+    for id in ids {
+        command = with_word(alloc, command, id)?;
+    }
+    Ok(command)
 }
 
-/// `pave ROWS LOG`.
-fn pave<'a>(alloc: Global) -> Result<Command<'a>, AllocError>
-    ensures app { IfOk result (λ c. app_of c ≡ pave_app) }
-    ensures local { IfOk result (λ c. (out-Command c).has_globals ≡ false) }
+/// The options of a command, in turn.
+fn with_options<'a>(
+    alloc: Global,
+    mut command: Command<'a>,
+    ids: &[&'a str],
+) -> Result<Command<'a>, AllocError>
+    ensures { (app : App) → IsCommand command.entry app
+        → IfOk result (λ c. IsCommand c (fold with_option app (texts ids.now))) }
 {
-    let command = Command::new(alloc, "pave");
-    let command = with_word(alloc, command, "rows")?;
-    with_word(alloc, command, "log")
+    for id in ids {
+        command = with_option(alloc, command, id)?;
+    }
+    Ok(command)
 }
 
-/// `solve`, `check`, `track` or `retrack` with `OBS NAV SETTINGS LOG`, `--from N` and `--to N`.
-fn on_files<'a>(alloc: Global, name: &'a str) -> Result<Command<'a>, AllocError>
-    ensures app { IfOk result (λ c. app_of c ≡ files_app name.entry.now) }
-    ensures local { IfOk result (λ c. (out-Command c).has_globals ≡ false) }
+/// The flags of a command, in turn.
+fn with_flags<'a>(
+    alloc: Global,
+    mut command: Command<'a>,
+    ids: &[&'a str],
+) -> Result<Command<'a>, AllocError>
+    ensures { (app : App) → IsCommand command.entry app
+        → IfOk result (λ c. IsCommand c (fold with_flag app (texts ids.now))) }
 {
-    let command = Command::new(alloc, name);
-    let command = with_word(alloc, command, "obs")?;
-    let command = with_word(alloc, command, "nav")?;
-    let command = with_word(alloc, command, "settings")?;
-    let command = with_word(alloc, command, "log")?;
-    let command = with_option(alloc, command, "from")?;
-    with_option(alloc, command, "to")
+    for id in ids {
+        command = with_flag(alloc, command, id)?;
+    }
+    Ok(command)
 }
 
-/// `guard OBS NAV SETTINGS ZONES LOG`.
-fn guard_files<'a>(alloc: Global) -> Result<Command<'a>, AllocError>
-    ensures app { IfOk result (λ c. app_of c ≡ guard_files) }
-    ensures local { IfOk result (λ c. (out-Command c).has_globals ≡ false) }
+/// The command of this form.
+fn formed<'a>(alloc: Global, form: &Form<'a>) -> Result<Command<'a>, AllocError>
+    ensures { IfOk result (λ c. IsCommand c (form_app (form_seen form.now))) }
 {
-    let command = Command::new(alloc, "guard");
-    let command = with_word(alloc, command, "obs")?;
-    let command = with_word(alloc, command, "nav")?;
-    let command = with_word(alloc, command, "settings")?;
-    let command = with_word(alloc, command, "zones")?;
-    with_word(alloc, command, "log")
+    let command = Command::new(alloc, form.name);
+    let command = with_words(alloc, command, form.words)?;
+    let command = with_options(alloc, command, form.options)?;
+    with_flags(alloc, command, form.flags)
 }
 
-/// The same with `--from N`, `--to N` and `--track`.
-fn guard<'a>(alloc: Global) -> Result<Command<'a>, AllocError>
-    ensures app { IfOk result (λ c. app_of c ≡ guard_app) }
-    ensures local { IfOk result (λ c. (out-Command c).has_globals ≡ false) }
+/// The program without its commands. One of them is required, and there are no words for help or
+/// for the version.
+fn bare<'a>(alloc: Global) -> Command<'a>
+    ensures { IsCommand result bare }
 {
-    let command = guard_files(alloc)?;
-    let command = with_option(alloc, command, "from")?;
-    let command = with_option(alloc, command, "to")?;
-    with_flag(alloc, command, "track")
-}
-
-/// `make SEED EPOCHS`.
-fn make<'a>(alloc: Global) -> Result<Command<'a>, AllocError>
-    ensures app { IfOk result (λ c. app_of c ≡ make_app) }
-    ensures local { IfOk result (λ c. (out-Command c).has_globals ≡ false) }
-{
-    let command = Command::new(alloc, "make");
-    let command = with_word(alloc, command, "seed")?;
-    with_word(alloc, command, "epochs")
-}
-
-/// The program with the commands on a log or on rows. One command is required, and there are no
-/// words for help or for the version.
-fn with_logs<'a>(alloc: Global) -> Result<Command<'a>, AllocError>
-    ensures app { IfOk result (λ c. app_of c ≡ with_logs) }
-{
-    let judge = judge(alloc)?;
-    let pave = pave(alloc)?;
     Command::new(alloc, "gpscover")
         .no_binary_name(true)
         .disable_help_flag(true)
         .disable_help_subcommand(true)
         .disable_version_flag(true)
         .subcommand_required(true)
-        .subcommand(judge)?
-        .subcommand(pave)
 }
 
-/// The program with the commands on files too.
-fn with_files<'a>(alloc: Global) -> Result<Command<'a>, AllocError>
-    ensures app { IfOk result (λ c. app_of c ≡ with_files) }
+/// One more command of the program.
+// It takes what may have failed, so that its caller holds nothing that it would have to drop.
+fn with_command<'a>(
+    program: Command<'a>,
+    made: Result<Command<'a>, AllocError>,
+) -> Result<Command<'a>, AllocError>
+    ensures { (app sub : App) → IsCommand program.entry app
+        → IfOk made.entry (λ c. IsCommand c sub)
+        → IfOk result (λ c. IsCommand c (with_command app sub)) }
 {
-    let command = with_logs(alloc)?;
-    let solve = on_files(alloc, "solve")?;
-    let check = on_files(alloc, "check")?;
-    command.subcommand(solve)?.subcommand(check)
+    let command = made?;
+    program.subcommand(command)
 }
 
-/// The program with the commands on the files of a moving receiver too.
-fn with_tracks<'a>(alloc: Global) -> Result<Command<'a>, AllocError>
-    ensures app { IfOk result (λ c. app_of c ≡ with_tracks) }
+/// The commands of these forms, in turn.
+fn with_forms<'a>(
+    alloc: Global,
+    mut program: Command<'a>,
+    forms: &[Form<'a>],
+) -> Result<Command<'a>, AllocError>
+    ensures { (app : App) → IsCommand program.entry app
+        → IfOk result (λ c. IsCommand c (fold with_form app (map form_seen forms.now))) }
 {
-    let command = with_files(alloc)?;
-    let track = on_files(alloc, "track")?;
-    let retrack = on_files(alloc, "retrack")?;
-    command.subcommand(track)?.subcommand(retrack)
+    for form in forms {
+        program = with_command(program, formed(alloc, form))?;
+    }
+    Ok(program)
 }
 
 /// The program with all commands.
 pub(crate) fn program<'a>(alloc: Global) -> Result<Command<'a>, AllocError>
     ensures app { IfOk result (λ c. app_of c ≡ program) }
 {
-    let command = with_tracks(alloc)?;
-    let guard = guard(alloc)?;
-    let make = make(alloc)?;
-    command.subcommand(guard)?.subcommand(make)
+    with_forms(alloc, bare(alloc), FORMS.as_slice())
 }

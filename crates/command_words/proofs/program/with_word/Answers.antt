@@ -1,8 +1,13 @@
-use Rattle.std.proofs.Common.{◌≡◌, Bool, false, ◌||◌, rules, ap₂, ◌∙◌}
+use Rattle.std.proofs.Common.{◌≡◌, true, false, rules}
 use Rattle.std.proofs.lemmas.Result.{IfOk-weaker}
+use Rattle.clap.specs.Simple.{new_rule}
+use Rattle.clap.specs.Walk.{rule_of}
+use Rattle.command_words.proofs.BuiltLemmas.{adds_rule}
 use Rattle.command_words.proofs.program.with_word.Goals as goal
 
-pub returns-clause-local : goal.returns-clause-local
-returns-clause-local c = λ none.
+pub returns : goal.returns
+returns c = λ app k.
+    let rule = record (new_rule c.args.id.now) { required = true } in
     let here : c.required-word.result.global ≡ false = search rules in
-    IfOk-weaker c.arg.result _ _ (λ r h. h.globals ∙ ap₂ (λ (a b : Bool). a || b) none here) c.arg.ensures
+    let is : rule_of c.required-word.result ≡ rule = search rules in
+    IfOk-weaker c.arg.result _ _ (λ new adds. adds_rule _ new _ app rule here is k adds) c.arg.ensures
