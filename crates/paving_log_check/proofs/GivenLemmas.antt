@@ -12,7 +12,6 @@ use Rattle.sat_model.specs.Stages.{Stage, after}
 use Rattle.sat_model.specs.Verdicts.{EventsPass, EventsFail, BodyPasses, BodyFailsBy}
 use Rattle.sat_model.specs.declared.rows.Row.{Row}
 use Rattle.sat_model.specs.declared.rules.Rules.{Rules}
-use Rattle.paving_log.specs.RowsText.{OwnPasses}
 use Rattle.paving_log_check.specs.Answers.{ShowsNoSpans}
 use Rattle.paving_log_check.specs.Forming.{AreAllFormed, EventsHold, EventsBreak}
 use Rattle.paving_log_check.specs.Renewed.{IsGiven, own_tests}
