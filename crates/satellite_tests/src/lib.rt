@@ -22,8 +22,6 @@ mod orbit_vectors;
 #[cfg(test)]
 mod orbits;
 #[cfg(test)]
-mod pairs;
-#[cfg(test)]
 mod ranges;
 #[cfg(test)]
 mod recorded_ephemerides;

@@ -29,13 +29,7 @@ fn above(x: i128) -> Wide
 }
 
 /// A circle of 5,200^2 m over the equator, the rest zero.
-pub(crate) fn circle() -> Elements
-    ensures toc { result.toc ≡ pos 978566400000000000000 }
-    ensures week { result.week_start ≡ pos 978566400000000000000 }
-    ensures low { result.toe_week.lo ≡ pos 0 }
-    ensures high { result.toe_week.hi ≡ pos 0 }
-    ensures root { result.root_a.hi ≡ pos 5200000000000000 }
-{
+pub(crate) fn circle() -> Elements {
     Elements {
         toc: WEEK_START,
         week_start: WEEK_START,

@@ -1,11 +1,10 @@
 #!/usr/bin/env python3
 """Writes src/turn_vectors.rt: turned places, by mpmath to 60 digits and without rounding between the lines.
 
-Each row is the place of a satellite when it sent, the low corner of a cube and the cube's side, and then of
-the low corner and of the high corner x and y of the place turned by the flight time to it, and the range from
-there to it, all in um, rounded down. The flight time is found in two rounds (IS-GPS-200, 20.3.3.4.3.4).
+Each row is the place of a satellite when it sent, the low corner of a cube and the cube's side, and then x
+and y of the place turned by the flight time to the low corner and to the high corner, all in um, rounded
+down. The flight time is found in two rounds (IS-GPS-200, 20.3.3.4.3.4).
 """
-from math import isqrt
 from pathlib import Path
 
 from mpmath import cos, floor, mp, mpf, sin, sqrt
@@ -32,15 +31,14 @@ def turned(place, point):
         offsets = (seen[0] - point[0], seen[1] - point[1], z - point[2])
         angle = EARTH_RATE * sqrt(sum(mpf(d) ** 2 for d in offsets)) / LIGHT_SPEED
         seen = (x * cos(angle) + y * sin(angle), y * cos(angle) - x * sin(angle))
-    x, y = (int(floor(v)) for v in seen)
-    return x, y, isqrt(sum((n - m) ** 2 for n, m in zip((x, y, z), point)))
+    return [int(floor(v)) for v in seen]
 
 
 rows = []
 for place, low, side in CASES:
     high = [n + side for n in low]
     rows.append(" ".join(str(n) for n in (*place, *low, side, *turned(place, low), *turned(place, high))))
-text = """//! Places, cubes, turned places and ranges: written by vectors/make_turn_vectors.py.
+text = """//! Places, cubes and turned places: written by vectors/make_turn_vectors.py.
 
 pub(crate) const VECTORS: &str = "\\
 """
