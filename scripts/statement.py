@@ -12,6 +12,8 @@ import re
 import sys
 from pathlib import Path
 
+from coverlog import run_tool
+
 CRATES = Path(__file__).resolve().parent.parent / "crates"
 STARTS = ("cover_run.Runs.checking", "cover_run.Checking.Accepts", "paving_log_check.FileCover.FileCover")
 IMPORT = re.compile(r"^use Rattle\.(\w+)\.specs\.(\w+)\.\{([^}]*)\}", re.M)
@@ -107,4 +109,4 @@ def main():
 
 
 if __name__ == "__main__":
-    sys.exit(main())
+    run_tool(main)
