@@ -36,6 +36,7 @@ import picture
 import places
 import region
 import renewed
+import statement
 import summary
 import suspect
 import testing
@@ -310,7 +311,8 @@ class Hostile(unittest.TestCase):
     def run_into(self, out, script, *words):
         """The status of a script as a process of its own whose standard output goes there, and the lines that it tells."""
         environment = {name: value for name, value in os.environ.items() if name != "PYTHONUNBUFFERED"}
-        ran = subprocess.run([sys.executable, HERE / script, *words], stdout=out, stderr=subprocess.PIPE, text=True, env=environment)
+        words = [sys.executable, HERE / script, *words]
+        ran = subprocess.run(words, stdout=out, stderr=subprocess.PIPE, text=True, env=environment)
         return ran.returncode, ran.stderr
 
     def test_a_standard_output_that_breaks_is_told(self):
@@ -326,8 +328,8 @@ class Hostile(unittest.TestCase):
                                          (1, f"{words[0]}: standard output can't be written: {why}\n"))
 
     def test_a_standard_output_that_is_closed_is_told(self):
-        ran = subprocess.run(["sh", "-c", '"$@" >&-', "sh", sys.executable, HERE / "risk.py", "--p", "1e-3"], stderr=subprocess.PIPE,
-                             text=True)
+        words = ["sh", "-c", '"$@" >&-', "sh", sys.executable, HERE / "risk.py", "--p", "1e-3"]
+        ran = subprocess.run(words, stderr=subprocess.PIPE, text=True)
         self.assertEqual((ran.returncode, ran.stderr), (1, "risk.py: standard output is closed\n"))
 
 
@@ -868,6 +870,48 @@ def epochs_with_places(log):
         place = None if epoch.few else places.place_at(known, epoch.time)
         if place is not None and integrity.in_search_box(epoch, place):
             yield epoch, place
+
+
+class Statements(unittest.TestCase):
+    BASE = (
+        "-- Numbers.\n\n-- its double\nabbrev pub Double : Number\nDouble n = n + n\n\n"
+        "abbrev pub Half : Number\nHalf n = n\n\nabbrev pub Third : Number\nThird n = n\n"
+    )
+    SHAPE = (
+        "//! Shapes.\n\n/// A round or a long one.\n#[derive(Clone)]\n"
+        "pub enum Shape {\n    /// Its radius.\n    Round(u8),\n    Long,\n}\n\n"
+        "pub struct Mark(u8);\n\npub struct Marks {\n    all: u8,\n}\n"
+    )
+    TOP = (
+        "-- What is claimed.\nuse Rattle.low.specs.Base.{Double as Twice}\nuse Rattle.low.specs.Base as base\n"
+        "use Rattle.low.specs.declared.shape.Shape.TheVariants as shape\n"
+        "use Rattle.low.specs.declared.shape.Mark.{Mark as Sign}\n"
+        "use Rattle.std.specs.Prelude.{Double as Other}\n\n"
+        "abbrev pub Named : Type\nNamed = Twice\n\nabbrev pub Dotted : Type\nDotted = base.Half (shape.Round 1)\n\n"
+        "abbrev pub Marked : Type\nMarked = Sign Other\n\nabbrev pub All : Type\nAll = Named Dotted Marked\n"
+    )
+    TREE = (("low/specs/Base.antt", BASE), ("low/src/shape.rt", SHAPE), ("high/specs/Top.antt", TOP))
+    # What is reached from a definition of the last one, counted by hand.
+    REACHED = (
+        ("Named", "2 definitions, 5", "0 types, 0"),
+        ("Dotted", "2 definitions, 4", "1 types, 5"),
+        ("Marked", "1 definitions, 2", "1 types, 1"),
+        ("All", "6 definitions, 13", "2 types, 6"),
+    )
+
+    def test_names_are_followed_through_renamed_imports(self):
+        with tempfile.TemporaryDirectory() as room:
+            for name, text in self.TREE:
+                path = Path(room) / name
+                path.parent.mkdir(parents=True)
+                path.write_text(text, encoding="utf-8")
+            with mock.patch("statement.CRATES", Path(room)):
+                for name, definitions, types in self.REACHED:
+                    self.assertEqual(
+                        statement.told(f"high.Top.{name}"),
+                        f"high.Top.{name}: 2 files, 17 lines by imports; {definitions} lines by name; {types} lines")
+                for name in ("high.Top.Gone", "high.Gone.All", "high.Top"):
+                    self.assertEqual(testing.ended(statement, name), (1, "", f"statement.py: no definition {name}\n"))
 
 
 class Recorded(unittest.TestCase):
