@@ -293,7 +293,8 @@ class Files(unittest.TestCase):
                 with self.subTest(option=option, word=word):
                     status, out, err = testing.ended(zones, "--for", "inside", option, fields)
                     self.assertEqual((status, out), (2, ""))
-                    self.assertTrue(err.endswith(f"argument {option}: {word} isn't a number of at most 10^15 in amount\n"), err)
+                    told = f"argument {option}: {word} isn't a number of at most 10^15 in amount\n"
+                    self.assertTrue(err.endswith(told), err)
 
     def test_places_that_are_none_are_refused(self):
         for fields, told in (("a,35,138,990,0,20", "two of its corners are one point"), ("a,35,138,1e15,5,2", "too far away")):
