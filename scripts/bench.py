@@ -33,6 +33,7 @@ import tempfile
 from concurrent.futures import ThreadPoolExecutor
 from pathlib import Path
 
+from coverlog import run_tool
 from evidence import checksum
 from largest_sizes import EXAMPLES, TOP
 from pairs_table import RUNS, Failed, rows_of, run, with_values
@@ -232,4 +233,4 @@ def main():
 
 
 if __name__ == "__main__":
-    sys.exit(main())
+    run_tool(main)

@@ -40,7 +40,7 @@ import shlex
 from dataclasses import dataclass, field
 from pathlib import Path
 
-from coverlog import UM_PER_M, LogError, epochs, run_tool
+from coverlog import UM_PER_M, LogError, epochs, measure, run_tool
 from integrity import in_um
 from wgs84 import elevation
 
@@ -258,9 +258,9 @@ def arguments():
     parser = argparse.ArgumentParser(description="Error bounds by elevation, as tables of the settings.")
     parser.add_argument("log", metavar="LOG", help="a log that was solved with bisections = 0")
     for axis in "XYZ":
-        parser.add_argument(axis.lower(), metavar=axis, type=float, help="a rough place, m")
+        parser.add_argument(axis.lower(), metavar=axis, type=measure, help="a rough place, m")
     parser.add_argument("mode", choices=("single", "dual"))
-    pair = {"nargs": 2, "type": float, "metavar": ("LOW", "HIGH")}
+    pair = {"nargs": 2, "type": measure, "metavar": ("LOW", "HIGH")}
     parser.add_argument("--troposphere", default=(1.95, 2.65), help="zenith delay, m (1.95 2.65: 0 to 1,000 m above sea)", **pair)
     parser.add_argument("--ionosphere", default=(0.0, 6.0), help="zenith delay on L1, m (0 6)", **pair)
     for name, default, meaning in (
@@ -273,12 +273,12 @@ def arguments():
         ("orbit", 3.0, "error of the broadcast orbit and clock, m"),
         ("mask", 4.0, "the least elevation at which the delays are mapped, degrees"),
     ):
-        parser.add_argument(f"--{name}", type=float, default=default, help=f"{meaning} ({default:g})", metavar="N")
+        parser.add_argument(f"--{name}", type=measure, default=default, help=f"{meaning} ({default:g})", metavar="N")
     parser.add_argument("--zenith", action="store_true",
                         help="print the troposphere's delay at the zenith, which gpscover maps by elevation itself")
     parser.add_argument("--vertical", action="store_true",
                         help="in single mode: print the ionosphere's delay at the vertical, which gpscover maps itself")
-    parser.add_argument("--every", type=float, metavar="SECONDS", help="a table for each stretch of so many seconds")
+    parser.add_argument("--every", type=measure, metavar="SECONDS", help="a table for each stretch of so many seconds")
     parser.add_argument("--settings", metavar="SETTINGS", help="with --every: the settings that get these tables")
     parser.add_argument("--files", nargs=2, metavar=("OBS", "NAV"), help="with --every: the files that are solved")
     parser.add_argument("--folder", help="with --every: where the settings and logs of the parts stand")
@@ -289,6 +289,8 @@ def arguments():
         parser.error("--every, --settings, --files and --folder go together")
     if args.every is not None and not args.every >= 0.001:
         parser.error("a stretch has at least 0.001 seconds")
+    if args.shell < 1:
+        parser.error("the ionosphere's shell is at least 1 km high")
     if args.zenith and max(map(abs, whole_millimetres(troposphere(1.0, args)))) > ZENITH_MM:
         parser.error(f"with --zenith the troposphere's delay at the zenith is within {ZENITH_MM / 1000:g} m")
     if args.vertical and (args.mode == "dual" or args.shell != SHELL_KM):

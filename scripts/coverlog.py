@@ -16,9 +16,15 @@ places in places.py and integrity.py.
 
 A log is read as it stands: whether it is right is what `gpscover check` says.
 """
+import argparse
+import contextlib
 import datetime
+import math
+import os
+import re
 import sys
 from dataclasses import dataclass, field
+from pathlib import Path
 
 __all__ = ["epochs", "rules_of", "calendar", "Epoch", "Row", "Renewal", "Kept", "LogError", "SKIPS", "UM_PER_M", "PS_PER_MS"]
 
@@ -37,10 +43,19 @@ SKIPS = {
     "6": "its ephemeris is out of bounds",
     "7": "the search box comes too near to the earth's centre",
 }
+LATEST_PS = 4 * 10**21  # times of a log lie before it
+GREATEST = 10**15  # what a number that a script takes is at most in amount
+LONGEST = 24  # characters of a whole number of a log, which has few enough to be a floating-point number too
+SATELLITE = re.compile("[GE][0-9]{2}")
+CLOSING = {"out": 1, "edge": 3, "in": 4}  # the lines that close a box, and how many numbers each has
 
 
 class LogError(Exception):
     """A log that can't be read; its text is one line for the user."""
+
+
+class NumberError(ValueError, argparse.ArgumentTypeError):
+    """A text that isn't a number that a script takes; its text is one line for the user."""
 
 
 @dataclass
@@ -115,13 +130,52 @@ def calendar(time):
     return (datetime.datetime(1980, 1, 6) + ms).isoformat(sep=" ", timespec="milliseconds")
 
 
+def measure(word):
+    """A number among the words of a command line or of a file: a finite one, of at most 10^15 in amount."""
+    try:
+        value = float(word)
+    except ValueError:
+        value = math.nan
+    if not abs(value) <= GREATEST:
+        raise NumberError(f"{word} isn't a number of at most 10^15 in amount")
+    return value
+
+
+def whole(word):
+    """A whole number of a log."""
+    if len(word) > LONGEST:
+        raise ValueError
+    return int(word)
+
+
+def wholes(words, count):
+    """So many whole numbers of a log."""
+    if len(words) != count:
+        raise ValueError
+    return tuple(map(whole, words))
+
+
+def satellite_of(word):
+    """The name of a satellite."""
+    if not SATELLITE.fullmatch(word):
+        raise ValueError
+    return word
+
+
 def row_of(words):
     """The row of a `sat` line. On one without a last pair the error is the same at every point."""
-    ends = [int(word) for word in words[2:]]
+    ends = [whole(word) for word in words[2:]]
     pairs = list(zip(ends[::2], ends[1::2], strict=True))
     if words[0] != "sat" or len(pairs) not in (5, 6):
         raise ValueError
-    return Row(words[1], tuple(pairs[:3]), pairs[3], pairs[4], pairs[-1])
+    return Row(satellite_of(words[1]), tuple(pairs[:3]), pairs[3], pairs[4], pairs[-1])
+
+
+def skip_of(words):
+    """What a `skip` line says: the satellite, the reason's number, and the field's or an empty text."""
+    if words[2] not in SKIPS or len(words) > 4:
+        raise ValueError
+    return satellite_of(words[1]), words[2], words[3] if len(words) > 3 else ""
 
 
 def next_words(lines):
@@ -141,15 +195,17 @@ class Fold:
 
     def close(self, words):
         """Closes a box by an `in`, `edge` or `out` line."""
-        box = self.live.pop(int(words[1]))
+        numbers = wholes(words[1:], CLOSING[words[0]])
+        box = self.live.pop(numbers[0])
         if words[0] == "out":
             self.epoch.outs += 1
         else:
-            clock = int(words[-2]), int(words[-1])
-            self.epoch.kept.append(Kept(tuple(box), words[0] == "in", clock, self.rows))
+            self.epoch.kept.append(Kept(tuple(box), words[0] == "in", numbers[-2:], self.rows))
 
     def halve(self, identity, axis):
         """Puts the two halves of a box into the live boxes, under the next two numbers."""
+        if not 0 <= axis < 3:
+            raise ValueError
         low = self.live.pop(identity)
         high = list(low)
         middle = (low[axis] + low[axis + 3]) // 2
@@ -159,26 +215,26 @@ class Fold:
 
     def cut(self, identity, face, bound):
         """Gives a box a new end at one of its faces."""
+        if not 0 <= face < 6:
+            raise ValueError
         axis, is_high = divmod(face, 2)
         self.live[identity][axis + 3 * is_high] = bound
 
     def step(self, words):
         """Takes a step."""
         if words[0] == "split":
-            self.halve(int(words[1]), int(words[2]))
-        elif words[0] in ("out", "edge", "in"):
+            self.halve(*wholes(words[1:], 2))
+        elif words[0] in CLOSING:
             self.close(words)
         elif words[0] == "cut":
-            self.cut(*map(int, words[1:4]))
+            self.cut(*wholes(words[1:], 3))
         else:
             raise ValueError
         self.steps += 1
 
     def renew(self, words, lines):
         """Takes the box of a `renew` line and the rows behind it: as many as the epoch has usable satellites."""
-        box = tuple(int(word) for word in words[1:])
-        if len(box) != 6:
-            raise ValueError
+        box = wholes(words[1:], 6)
         self.rows = [row_of(next_words(lines)) for _ in range(self.epoch.satellites)]
         self.epoch.renewals.append(Renewal(self.steps, box, self.rows))
 
@@ -189,7 +245,7 @@ def fold_steps(epoch, lines, renews):
     for line in lines:
         words = line.split(" ")
         if words[0] == "done":
-            epoch.splits = int(words[1])
+            (epoch.splits,) = wholes(words[1:], 1)
             return
         if words[0] == "renew" and renews:
             fold.renew(words, lines)
@@ -200,15 +256,18 @@ def fold_steps(epoch, lines, renews):
 
 def read_block(words, outliers, lines, renews):
     """The epoch that a first line begins, and the line behind it, which is None at the end."""
-    epoch = Epoch(int(words[1]), int(words[2]), int(words[3]), words[0] == "few", outliers)
+    index, time, satellites = wholes(words[1:], 3)
+    if not 0 <= time < LATEST_PS:
+        raise ValueError
+    epoch = Epoch(index, time, satellites, words[0] == "few", outliers)
     for line in lines:
         words = line.split(" ")
         if words[0] == "sat" and not epoch.few:
             epoch.rows.append(row_of(words))
         elif words[0] == "skip":
-            epoch.skips.append((words[1], words[2], words[3] if len(words) > 3 else ""))
+            epoch.skips.append(skip_of(words))
         elif words[0] == "root" and not epoch.few:
-            epoch.root = tuple(int(word) for word in words[1:7])
+            epoch.root = wholes(words[1:], 6)
             fold_steps(epoch, lines, renews)
             return epoch, next(lines, None)
         elif epoch.few:
@@ -250,7 +309,7 @@ def blocks(lines):
         words = line.split(" ")
         if words[0] not in ("epoch", "few"):
             raise ValueError
-        epoch, line = read_block(words, int(rules[1]), lines, renews)
+        epoch, line = read_block(words, whole(rules[1]), lines, renews)
         if not epoch.few:
             searches.add(epoch)
         yield epoch
@@ -293,7 +352,7 @@ def rules_of(path):
     try:
         if not is_head or words[0] != "rules":
             raise ValueError
-        return int(words[1]), int(words[2]), int(words[3])
+        return wholes(words[1:], 3)
     except (ValueError, IndexError):
         number = 2 if is_head else 1
         raise LogError(f"{path} line {number}: this isn't a log of gpscover") from None
@@ -305,17 +364,51 @@ def run_way(args):
     return 0
 
 
+@contextlib.contextmanager
+def whole_file(path):
+    """A text file that is written. Where that fails, or what is to stand in it, none is left."""
+    file = open(path, "w", encoding="utf-8", newline="\n")
+    try:
+        with file:
+            yield file
+    except BaseException:
+        if Path(path).is_file():
+            Path(path).resolve().unlink()
+        raise
+
+
+def finished(main):
+    """The status of a script's `main`, once all that it printed is written."""
+    if sys.stdout is None:
+        raise LogError("standard output is closed")
+    try:
+        return main()
+    except BrokenPipeError as error:
+        raise LogError(f"standard output can't be written: {error.strerror}") from None
+    finally:
+        try:
+            print(end="", flush=True)
+        except OSError as error:
+            raise LogError(f"standard output can't be written: {error.strerror}") from None
+
+
+def drop_output():
+    """Lets what standard output doesn't take go nowhere, so that Python doesn't try it again at its end."""
+    nowhere = os.open(os.devnull, os.O_WRONLY)
+    os.dup2(nowhere, 1)
+    os.close(nowhere)
+
+
 def run_tool(main):
-    """Runs a script's `main` and ends with its status: 0, or 1 and one line where a file can't be read or written.
+    """Runs a script's `main` and ends with its status: 0, or 1 and one line where a file can't be read or written, standard
+    output among them.
 
     A wrong command line ends with 2, by argparse.
     """
     name = sys.argv[0].rsplit("/", 1)[-1]
     try:
-        sys.exit(main())
-    except BrokenPipeError:
-        sys.stderr.close()
-        sys.exit(1)
+        sys.exit(finished(main))
     except (LogError, OSError) as error:
+        drop_output()
         print(f"{name}: {error}", file=sys.stderr)
         sys.exit(1)

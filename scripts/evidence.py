@@ -7,14 +7,15 @@ usage: evidence.py make FOLDER OBS NAV SETTINGS LOG [--track] [--from N] [--to N
 `make` copies the four files into a new FOLDER, has both checkers test the log, GPSCOVER (the program that ./gpscover runs) and
 second/recheck.py, and writes FOLDER/evidence.txt: the sizes and checksums of the files and of both checkers, the versions,
 the options, both verdicts, and how many epochs the observations have, and of these are in the log, paved, few, empty,
-reach the search box, or are lost, which are those that the log doesn't have. --from and --to are those that the log was
+reach the search box, or are left out, which are those that the log doesn't have. --from and --to are those that the log was
 solved with. --track says that it is one of `track`: it is checked as one, by `retrack` and by recheck.py --track, and where
 it ends with an epoch that keeps no box this one is named. Where not both checkers say yes, of as many boxes, there is no
 evidence: nothing is left, and the verdicts are printed. The checksum of evidence.txt, which is printed last, is what is
 signed or sent by another way.
 
 `check` makes all of this anew from the four files and tells each line of evidence.txt that is another, each file that is
-missing and each that doesn't belong there. --sha256 compares the checksum of evidence.txt too. Where the checkers or the
+missing and each that doesn't belong there. Where anything in FOLDER isn't a file of its own, but a link, a folder or a
+device, nothing of it is read. --sha256 compares the checksum of evidence.txt too. Where the checkers or the
 versions here are others, that is told as well; with --other-program only what they say has to be the same.
 
 docs/CERTIFIER.md says what such a bundle shows and what it doesn't.
@@ -27,6 +28,7 @@ import contextlib
 import hashlib
 import re
 import shutil
+import stat
 import subprocess
 import sys
 from collections import Counter
@@ -141,7 +143,7 @@ def counts(folder, options):
     there = marks["few"] + marks["paved"]
     return (
         f"{total} in the file, {there} in the log: {marks['paved']} paved, {marks['few']} few, {marks['empty']} empty,"
-        f" {marks['reach']} reach the search box; {total - there} lost{ended}"
+        f" {marks['reach']} reach the search box; {total - there} left out{ended}"
     )
 
 
@@ -176,23 +178,32 @@ def run_make(args):
     folder, options = Path(args.bundle), Options(args.first, args.last, args.track)
     program = args.program or own_program()
     folder.mkdir()
-    for path, name in zip((args.obs, args.nav, args.settings, args.log), FILES.values()):
-        shutil.copyfile(path, folder / name)
-    lines = list(made(folder, program, options))
-    if told := dissent(dict(lines), options.command()):
+    try:
+        lines = fill(folder, (args.obs, args.nav, args.settings, args.log), program, options)
+    except BaseException:
         shutil.rmtree(folder)
-        raise LogError(f"no evidence: {told}")
-    (folder / SHEET).write_text(sheet(lines), encoding="utf-8", newline="\n")
+        raise
     print(sheet(lines), end="")
     print(f"{SHEET} sha256 {checksum(folder / SHEET)}")
 
 
+def fill(folder, paths, program, options):
+    """Puts the files of a bundle and its evidence into a folder. The evidence's lines."""
+    for path, name in zip(paths, FILES.values()):
+        shutil.copyfile(path, folder / name)
+    lines = list(made(folder, program, options))
+    if told := dissent(dict(lines), options.command()):
+        raise LogError(f"no evidence: {told}")
+    (folder / SHEET).write_text(sheet(lines), encoding="utf-8", newline="\n")
+    return lines
+
+
 def read_sheet(folder):
     """What evidence.txt says: (name, what was found) in order, and the options."""
-    head, *lines = (folder / SHEET).read_text(encoding="utf-8", errors="replace").splitlines()
-    said = [tuple(line.partition(" ")[::2]) for line in lines]
+    lines = (folder / SHEET).read_text(encoding="utf-8", errors="replace").splitlines()
+    said = [tuple(line.partition(" ")[::2]) for line in lines[1:]]
     found = OPTIONS.fullmatch(dict(said).get("options", ""))
-    if head != HEAD or not found or max(map(int, found.groups()[1:])) > GREATEST:
+    if lines[:1] != [HEAD] or not found or max(map(int, found.groups()[1:])) > GREATEST:
         raise LogError(f"{folder / SHEET}: this isn't evidence of gpscover, or it was changed")
     track, first, last = found.groups()
     return said, Options(int(first), int(last), bool(track))
@@ -208,6 +219,13 @@ def differences(said, found, is_other):
             yield f"{name}: the bundle says {was.get(name, 'nothing')}; here it is {value}"
 
 
+def refuse_links(folder):
+    """LogError where anything in a bundle isn't a file of its own: it could be read from elsewhere, or never end."""
+    for path in sorted(folder.iterdir()):
+        if not stat.S_ISREG(path.lstat().st_mode):
+            raise LogError(f"{path} isn't a file of the bundle's own, but a link, a folder or a device")
+
+
 def strangers(folder):
     """The files of a bundle that are missing, and those that don't belong there."""
     wanted, there = {*FILES.values(), SHEET}, {path.name for path in folder.iterdir()}
@@ -218,6 +236,7 @@ def strangers(folder):
 def run_check(args):
     """Checks a bundle."""
     folder = Path(args.bundle)
+    refuse_links(folder)
     said, options = read_sheet(folder)
     found = list(made(folder, args.program or own_program(), options))
     told = [*strangers(folder), *differences(said, found, args.other_program)]

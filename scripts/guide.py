@@ -16,6 +16,8 @@ import subprocess
 import sys
 from pathlib import Path
 
+from coverlog import run_tool
+
 PAGE = Path("docs/GUIDE.md")
 BLOCK = re.compile(r"```sh\n(.*?)\n```(?:\n\n```\n(.*?)\n```)?", re.DOTALL)
 NOT_RUN = "receiver.ubx"
@@ -54,4 +56,4 @@ def main():
 
 
 if __name__ == "__main__":
-    sys.exit(main())
+    run_tool(main)

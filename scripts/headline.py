@@ -11,6 +11,8 @@ import sys
 import textwrap
 from pathlib import Path
 
+from coverlog import run_tool
+
 ROOT = Path(__file__).resolve().parent.parent
 
 
@@ -249,4 +251,4 @@ def main():
 
 
 if __name__ == "__main__":
-    sys.exit(main())
+    run_tool(main)

@@ -7,7 +7,7 @@ farthest corner from it the protection, and how far it is from the known place t
 import math
 from dataclasses import dataclass
 
-from coverlog import UM_PER_M
+from coverlog import UM_PER_M, measure
 from places import direction
 from region import extent_along, half_sides, offset_of, upward
 from wgs84 import dot, geodetic, local_axes
@@ -49,8 +49,8 @@ class Numbers:
 
 def alert_limit(text):
     """A limit among the words of a command line: a positive length in m."""
-    length = float(text)
-    if not 0 < length < math.inf:
+    length = measure(text)
+    if length <= 0:
         raise ValueError
     return length
 

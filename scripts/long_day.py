@@ -25,7 +25,7 @@ import tempfile
 from pathlib import Path
 
 from bounds import ionosphere_mapping, troposphere_mapping
-from coverlog import UM_PER_M, epochs
+from coverlog import UM_PER_M, epochs, run_tool
 from largest_sizes import FILES, Folder, Sizes, kept_boxes, navigation_parts, observation_parts, settings_with
 from orbits import EPOCH, LIGHT, Record, turned
 from wgs84 import elevation
@@ -188,4 +188,4 @@ def main():
 
 
 if __name__ == "__main__":
-    sys.exit(main())
+    run_tool(main)

@@ -21,7 +21,7 @@ import sys
 import tempfile
 from pathlib import Path
 
-from coverlog import epochs
+from coverlog import epochs, run_tool
 from largest_sizes import FILES, Folder, settings_with
 from long_day import BOUNDS, PLACE, holding, make_files
 from region import region_of
@@ -107,4 +107,4 @@ def main():
 
 
 if __name__ == "__main__":
-    sys.exit(main())
+    run_tool(main)

@@ -31,7 +31,7 @@ import struct
 import sys
 from pathlib import Path
 
-from coverlog import SKIPS, UM_PER_M, LogError, epochs, rules_of, run_tool
+from coverlog import SKIPS, UM_PER_M, LogError, epochs, rules_of, run_tool, whole_file
 from kml import ground_ring
 from outline import outer_corners, outline_of
 from page_figures import figures, tools
@@ -83,8 +83,8 @@ class Thinned:
 
 
 def to_json(value):
-    """A value as JSON without blanks, in which no `</` ends a script of the page."""
-    return json.dumps(value, ensure_ascii=True, separators=(",", ":")).replace("</", "<\\/")
+    """A value as JSON without blanks, which has no `<`, by which a script of the page could end or go on as another."""
+    return json.dumps(value, ensure_ascii=True, separators=(",", ":")).replace("<", "\\u003c")
 
 
 def hulls_of_groups(boxes):
@@ -242,7 +242,7 @@ def settings_differ(text, rules):
     """A line for each rule of the settings that isn't the log's."""
     wanted = (("outliers", rules[0]), ("bisections", rules[1]), ("width", rules[2] // 1000))
     for key, value in wanted:
-        found = re.search(rf"(?m)^\s*{key}\s*=\s*([0-9_]+)", text)
+        found = re.search(rf"(?m)^\s*{key}\s*=\s*([0-9](?:_?[0-9]){{0,18}})\b", text)
         if found and int(found[1]) != value:
             yield f"these settings have {key} = {found[1]}, and the log has {value}: they aren't those of the log"
 
@@ -291,7 +291,8 @@ def make_page(args):
     collected, broken = collect(args.log, args.first or 0, args.last or math.inf, room)
     data = page_data(args, collected, rules, settings, broken) | {"figures": figures(objects)}
     title = args.title or f"Regions of {', '.join(Path(name).name for name in args.log)}"
-    Path(args.out).write_text(page_text(title, data, collected, parts), encoding="utf-8", newline="\n")
+    with whole_file(args.out) as file:
+        file.write(page_text(title, data, collected, parts))
     for line in data["warnings"][bool(broken):] + data["notes"]:
         print(f"page.py: {line}", file=sys.stderr)
     return broken

@@ -22,7 +22,7 @@ import sys
 import tempfile
 from pathlib import Path
 
-from coverlog import epochs
+from coverlog import epochs, run_tool
 from exact_extents import excesses
 
 SIDES = "cuts, log | `pave` | further |"
@@ -146,4 +146,4 @@ def main():
 
 
 if __name__ == "__main__":
-    sys.exit(main())
+    run_tool(main)

@@ -41,7 +41,7 @@ import sys
 
 import zone_answers
 import zones
-from coverlog import PS_PER_MS, UM_PER_M, LogError, calendar, epochs, run_tool, run_way
+from coverlog import PS_PER_MS, UM_PER_M, LogError, calendar, epochs, measure, run_tool, run_way
 from integrity import Judge, Limits, alert_limit
 from outline import convex_hull, outline
 from places import Meetings, read_places
@@ -606,7 +606,7 @@ def arguments():
         way.add_argument("--note", metavar="TEXT", help="a further line of the title")
         way.set_defaults(work=work)
     region.add_argument("--epoch", type=int, default=1, metavar="N", help="the epoch's number in the log (1)")
-    region.add_argument("--place", type=float, nargs=3, metavar=("X", "Y", "Z"), help="a known place, m")
+    region.add_argument("--place", type=measure, nargs=3, metavar=("X", "Y", "Z"), help="a known place, m")
     time.add_argument("--moving", action="store_true", help="round the place of each epoch")
     track.add_argument("--beside", metavar="LOG", help="another log, whose regions' lengths are drawn too")
     fenced.add_argument("--zones", metavar="ZONES", nargs="+", required=True, help="files of zones")

@@ -8,7 +8,7 @@ import bisect
 import datetime
 import math
 
-from coverlog import PS_PER_MS, UM_PER_M, LogError, calendar
+from coverlog import LATEST_PS, PS_PER_MS, UM_PER_M, LogError, calendar, measure
 from wgs84 import dot, geodetic, local_axes
 
 NEAR_PS = 100 * PS_PER_MS
@@ -24,22 +24,24 @@ def place_line(line):
         ps = (when - datetime.datetime(1980, 1, 6)) // datetime.timedelta(microseconds=1) * UM_PER_M
         words = words[1:]
     else:
-        ps = round(float(words[0]) * 1000) * PS_PER_MS
-    return ps, tuple(float(word) for word in words[1:4])
+        ps = round(measure(words[0]) * 1000) * PS_PER_MS
+    if not 0 <= ps < LATEST_PS:
+        raise ValueError
+    return ps, tuple(measure(word) for word in words[1:4])
 
 
 def read_places(path):
     """The places of a file: (time in ps, (x, y, z) in m) in order of time."""
     places = []
     with open(path, encoding="utf-8", errors="replace") as file:
-        for number, line in enumerate(file, 1):
+        for count, line in enumerate(file, 1):
             if line.strip() and line[0] not in "%#":
                 try:
                     places.append(place_line(line))
-                    if len(places[-1][1]) != 3 or not all(map(math.isfinite, places[-1][1])):
+                    if len(places[-1][1]) != 3:
                         raise ValueError
                 except (ValueError, IndexError, OverflowError):
-                    raise LogError(f"{path} line {number}: no time and place") from None
+                    raise LogError(f"{path} line {count}: no time and place") from None
     if not places:
         raise LogError(f"{path} has no places")
     return sorted(places)

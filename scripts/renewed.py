@@ -24,7 +24,7 @@ import sys
 import tempfile
 from pathlib import Path
 
-from coverlog import LogError, epochs
+from coverlog import LogError, epochs, run_tool
 from pairs_table import Failed, length, setting
 from region import region_of
 
@@ -128,4 +128,4 @@ def main():
 
 
 if __name__ == "__main__":
-    sys.exit(main())
+    run_tool(main)

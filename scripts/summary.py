@@ -41,7 +41,7 @@ import sys
 from collections import Counter
 
 import kml
-from coverlog import PS_PER_MS, SKIPS, UM_PER_M, LogError, calendar, epochs, run_tool
+from coverlog import PS_PER_MS, SKIPS, UM_PER_M, LogError, calendar, epochs, measure, run_tool, whole_file
 from evidence import file_epochs
 from integrity import Judge, Limits, alert_limit
 from places import Meetings, read_places
@@ -319,7 +319,7 @@ def arguments():
     parser.add_argument("--obs", metavar="OBS", help="say how many epochs of this observation file the log covers")
     parser.add_argument("--places", metavar="FILE", help="a list of known places")
     way = parser.add_mutually_exclusive_group()
-    way.add_argument("--azimuth", type=float, metavar="A", help="look along and across A degrees from north, clockwise")
+    way.add_argument("--azimuth", type=measure, metavar="A", help="look along and across A degrees from north, clockwise")
     way.add_argument("--along", metavar="FILE", help="look along and across a track, a list of places")
     parser.add_argument("--limit", type=alert_limit, nargs=2, metavar=("H", "V"),
                         help="alert limits along the ground and up, m")
@@ -391,7 +391,7 @@ def main():
     if args.kml is None:
         warned = print_summary(args, None)
     else:
-        with open(args.kml, "w", encoding="utf-8") as outlines:
+        with whole_file(args.kml) as outlines:
             outlines.write(kml.head())
             warned = print_summary(args, outlines)
             outlines.write(kml.TAIL)

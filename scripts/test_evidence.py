@@ -3,7 +3,7 @@
 `evidence: N passed, M failed`. Exit status: 0, or 1 where one failed.
 
 A bundle is made of one epoch of the example with eight splits, and one of a track of two. Then it is checked in another
-folder, and each of fifteen changes of the one and three of the other has to be told by the line that it concerns.
+folder, and each of sixteen changes of the one and three of the other has to be told by the line that it concerns.
 """
 import os
 import re
@@ -17,7 +17,7 @@ from pathlib import Path
 import coverlog
 import evidence
 import testing
-from test_scripts import ended_with
+from test_scripts import ended_with, written
 
 EXAMPLES = Path(__file__).resolve().parent.parent / "examples"
 PROGRAM = str(Path(__file__).resolve().parent.parent / "crates/gpscover/out/gpscover")
@@ -54,6 +54,7 @@ CHANGES = (
     ("the versions", edited("evidence.txt", r"logs of the versions \d+", "logs of the versions 0"), "version: "),
     ("an option", edited("evidence.txt", "--to 1", "--to 2"), "check: "),
     ("a line less", edited("evidence.txt", r"(?m)^recheck .*\n", ""), "the lines of evidence.txt aren't those"),
+    ("a name that leaves the folder", edited("evidence.txt", "(?m)^obs receiver.obs", "obs ../my.obs"), "obs: "),
     ("a file more", with_file, "more.log doesn't belong to the bundle"),
     ("a file less", lambda folder: (folder / "receiver.nav").unlink(), "receiver.nav is missing"),
 )
@@ -120,6 +121,54 @@ class Room(unittest.TestCase):
                 self.assertRegex(said, f"\n{told}")
 
 
+class Refused(unittest.TestCase):
+    """What isn't a bundle is refused before a checker is asked: no program is needed."""
+
+    SHEET = "gpscover evidence 1\noptions --from 1 --to 1\n"
+    NO_SHEETS = ("", "\n", "gpscover evidence 1", "gpscover evidence 1\noptions --from 1 --to 1 --to 2\n",
+                 "gpscover evidence 1\noptions --from 1 --to 200001\n", "gpscover evidence 1\noptions --from \u0661 --to 1\n")
+
+    def refused(self, *words):
+        """The one line by which the script ends with 1."""
+        status, out, err = testing.ended(evidence, *words, "--program", "/nonexistent")
+        self.assertEqual((status, out, err.count("\n")), (1, "", 1), err)
+        return err
+
+    def test_sheets_that_say_nothing(self):
+        for text in self.NO_SHEETS:
+            with self.subTest(text=text), written(**{"evidence.txt": text}) as (sheet,):
+                self.assertEqual(self.refused("check", sheet.parent),
+                                 f"evidence.py: {sheet}: this isn't evidence of gpscover, or it was changed\n")
+        with tempfile.TemporaryDirectory() as room:
+            self.assertIn("No such file or directory", self.refused("check", room))
+            self.assertIn("No such file or directory", self.refused("check", f"{room}/none"))
+
+    def test_links_devices_and_folders_are_not_read(self):
+        ways = {"a link to a file": lambda path: path.symlink_to(EXAMPLES / "receiver.obs"),
+                "a link out of the folder": lambda path: path.symlink_to("../outside.obs"),
+                "a link to itself": lambda path: path.symlink_to(path.name),
+                "a link to a device": lambda path: path.symlink_to("/dev/zero"),
+                "a pipe": os.mkfifo, "a folder": Path.mkdir}
+        for way, make in ways.items():
+            for name in ("receiver.obs", "receiver.log", "evidence.txt", "more"):
+                with self.subTest(way=way, name=name), written(**{"evidence.txt": self.SHEET}) as (sheet,):
+                    path = sheet.parent / name
+                    path.unlink(missing_ok=True)
+                    make(path)
+                    self.assertEqual(
+                        self.refused("check", sheet.parent),
+                        f"evidence.py: {path} isn't a file of the bundle's own, but a link, a folder or a device\n")
+
+    def test_nothing_is_left_of_a_bundle_that_lacks_a_file(self):
+        with written(obs="", nav="", settings="") as files:
+            folder = files[0].parent / "bundle"
+            self.assertIn("No such file or directory", self.refused("make", folder, *files, folder.parent / "none"))
+            self.assertFalse(folder.exists())
+            folder.mkdir()
+            self.assertIn("File exists", self.refused("make", folder, *files, files[0]))
+            self.assertTrue(folder.exists())
+
+
 class Bundles(Room):
     @classmethod
     def setUpClass(cls):
@@ -131,7 +180,7 @@ class Bundles(Room):
         self.assertEqual(self.status, 0)
         lines = self.lines
         self.assertEqual((lines["check"], lines["recheck"]), (f"yes {boxes_in(self.files[3])}",) * 2)
-        self.assertRegex(lines["epochs"], "^4 in the file, 1 in the log: 1 paved, 0 few, 0 empty, [01] reach .*; 3 lost$")
+        self.assertRegex(lines["epochs"], "^4 in the file, 1 in the log: 1 paved, 0 few, 0 empty, [01] reach .*; 3 left out$")
         self.assertEqual(lines["options"], "--from 1 --to 1")
         size = os.path.getsize(self.files[0])
         known = subprocess.run(["sha256sum", self.files[0]], capture_output=True, text=True, check=True).stdout.split()[0]
@@ -216,7 +265,7 @@ class Tracks(Room):
         self.assertNotIn("check", lines)
         self.assertEqual(lines["options"], "--track --from 1 --to 2")
         self.assertEqual(
-            lines["epochs"], "4 in the file, 2 in the log: 2 paved, 0 few, 0 empty, 0 reach the search box; 2 lost")
+            lines["epochs"], "4 in the file, 2 in the log: 2 paved, 0 few, 0 empty, 0 reach the search box; 2 left out")
         self.assertEqual(self.check(self.copy(), "--sha256", evidence.checksum(self.bundle / "evidence.txt"))[0], 0)
 
     def test_each_change_is_told(self):
@@ -234,7 +283,7 @@ class Tracks(Room):
         _, status, lines = bundle_of(room, files, 4, track=True)
         self.assertEqual((status, lines["retrack"]), (0, f"yes {boxes_in(files[3])}"))
         self.assertEqual(
-            lines["epochs"], "4 in the file, 2 in the log: 2 paved, 0 few, 1 empty, 0 reach the search box; 2 lost;"
+            lines["epochs"], "4 in the file, 2 in the log: 2 paved, 0 few, 1 empty, 0 reach the search box; 2 left out;"
             " the track ends with epoch 2, which keeps no box")
 
 

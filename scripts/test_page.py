@@ -194,6 +194,16 @@ class Parts(unittest.TestCase):
         self.assertNotIn("</", page.to_json({"a": "</script><b>"}))
         self.assertEqual(json.loads(page.to_json("</script>")), "</script>")
 
+    def test_what_begins_a_comment_or_a_script_is_no_part_of_the_page(self):
+        for text in ("# <!--<script>", "<!-- <script", "]]>", "<SCRIPT>", "<\\/script>"):
+            said = page.to_json({"settings": text})
+            self.assertNotIn("<", said)
+            self.assertEqual(json.loads(said), {"settings": text})
+
+    def test_settings_whose_numbers_are_none(self):
+        for text in ("outliers = _\n", "bisections = __1\n", "width = " + "9" * 5000 + "\n"):
+            self.assertEqual(list(page.settings_differ(text, (1, 10, 1000000))), [])
+
     def test_without_plotly_a_line_says_so(self):
         with mock.patch.dict(sys.modules, {"plotly": None}), self.assertRaisesRegex(
                 coverlog.LogError, "has no plotly; Debian: apt-get install python3-plotly, then /usr/bin/python3 page.py"):

@@ -37,10 +37,12 @@ import picture
 import places
 import region
 import renewed
+import statement
 import summary
 import suspect
 import testing
 import wgs84
+import zone_answers
 
 HERE = Path(__file__).resolve().parent
 RECORDED = HERE / "recorded"
@@ -231,6 +233,105 @@ class Logs(unittest.TestCase):
     def test_another_file_is_refused(self):
         with self.assertRaisesRegex(coverlog.LogError, "line 1: this isn't a log"):
             list(coverlog.epochs(__file__))
+
+
+class Hostile(unittest.TestCase):
+    """Texts and words that nobody should write. Each ends a script with a status and a line of its own."""
+
+    # Behind the head of a log, and the number of the line that is none.
+    NO_LOGS = (
+        (PAVED.replace("cut 4 5 50000000", "cut 4 5"), 9),
+        (PAVED.replace("cut 4 5 50000000", "cut 4 6 50000000"), 9),
+        (PAVED.replace("cut 4 5 50000000", "cut 4 5 50000000 0"), 9),
+        (PAVED.replace("split 2 1", "split 2"), 7),
+        (PAVED.replace("split 2 1", "split 2 -1"), 7),
+        (PAVED.replace("edge 3 -5000000 7000000", "edge 3"), 8),
+        (PAVED.replace("edge 3 -5000000 7000000", "edge 3 -5000000"), 8),
+        (PAVED.replace("out 1", "out 1 2"), 6),
+        (PAVED.replace("in 4 1000000", "in 4"), 11),
+        (PAVED.replace("done 2", "done"), 12),
+        (PAVED.replace("100000000\nsplit", "\nsplit"), 4),
+        (PAVED.replace("root 6378037000000", "root " + "9" * 400), 4),
+        (PAVED.replace("895816769999000000000", "-1"), 3),
+        (PAVED.replace("895816769999000000000", "4000000000000000000000"), 3),
+        (PAVED.replace("000 5\n", "000\n"), 3),
+        ("few 1 0 0\nskip G01 8\n", 4),
+        ("few 1 0 0\nskip  3\n", 4),
+        ("few 1 0 0\nskip G01 6 1 1\n", 4),
+        ("epoch 1 0 0\nsat  0 0 0 0 0 0 0 0 0 0\n" + ROOT, 4),
+    )
+
+    def expect(self, status, told, script, *words):
+        """A script ends with this status, prints nothing but a head, and says this in its last line."""
+        with self.subTest(script=script.__name__, words=words):
+            ended, _, err = testing.ended(script, *words)
+            self.assertEqual(ended, status)
+            self.assertRegex(err, f"(^|\\n){script.__name__}.py: .*{told}\\n$")
+            self.assertEqual(err.count("\n"), 1 if status == 1 else err.count("\n"))
+
+    def test_lines_of_logs_that_are_none(self):
+        for text, line in self.NO_LOGS:
+            with written(log=HEAD + text, zones="gpszones 1\n") as (log, fences):
+                told = f"log line {line}: this isn't a log of gpscover"
+                for script, words in ((summary, [log]), (bounds, [log, 6378137, 0, 0, "single"]), (suspect, ["log", log]),
+                                      (zone_answers, [fences, log])):
+                    self.expect(1, told, script, *words)
+
+    def test_numbers_that_are_none_are_refused_among_the_words(self):
+        log, known = HERE / "recorded/cres_2008.log", HERE / "recorded/cres_2008.places"
+        place = [log, -3869310, 3436565]
+        for word in ("nan", "inf", "1e400"):
+            told = f"{word} isn't a number of at most 10\\^15 in amount"
+            self.expect(2, told, bounds, *place, word, "single")
+            for option in ("--receiver", "--rise", "--shell", "--every", "--mask"):
+                self.expect(2, told, bounds, *place, 3717367, "single", option, word)
+            self.expect(2, told, bounds, *place, 3717367, "single", "--rise", word, "--zenith")
+            self.expect(2, told, summary, log, "--places", known, "--azimuth", word)
+            self.expect(2, told, summary, log, "--places", known, "--limit", 5, word)
+        self.expect(2, "shell is at least 1 km high", bounds, *place, 3717367, "single", "--shell", 0, "--mask", 0)
+
+    def test_numbers_that_are_none_are_refused_in_lists_of_places(self):
+        for line in ("nan 1 2 3", "1e400 1 2 3", "1e14 1 2 3", "-1 1 2 3", "895816770 1 2 inf", "895816770 1 2 1e16",
+                     "1979/01/01 00:00:00.000 1 2 3"):
+            with written(places="% head\n" + line + "\n") as (path,):
+                with self.assertRaisesRegex(coverlog.LogError, "line 2: no time and place"):
+                    places.read_places(path)
+
+    def test_a_satellite_at_the_rough_place_and_one_right_above(self):
+        for name, target, angle in (("there", (6378137, 0, 0), 0), ("above", (26378137, 0, 0), 90)):
+            with self.subTest(name=name):
+                self.assertAlmostEqual(math.degrees(wgs84.elevation((6378137, 0, 0), target)), angle)
+
+    def test_no_map_is_left_of_a_log_that_was_cut(self):
+        with written(log=HEAD + WITHIN + WITHIN[:-5]) as (log,):
+            path = log.parent / "map.kml"
+            self.expect(1, "ends within an epoch, at line 22: its run was ended early", summary, log, "--kml", path)
+            self.assertEqual(os.listdir(log.parent), ["log"])
+            self.expect(1, "Is a directory.*", summary, log, "--kml", log.parent)
+
+    def run_into(self, out, script, *words):
+        """The status of a script as a process of its own whose standard output goes there, and the lines that it tells."""
+        environment = {name: value for name, value in os.environ.items() if name != "PYTHONUNBUFFERED"}
+        words = [sys.executable, HERE / script, *words]
+        ran = subprocess.run(words, stdout=out, stderr=subprocess.PIPE, text=True, env=environment)
+        return ran.returncode, ran.stderr
+
+    def test_a_standard_output_that_breaks_is_told(self):
+        log = HERE / "recorded/ubx_2008.log"
+        ways = ("summary.py", log), ("risk.py", "--p", "1e-3"), ("zones.py", "--help")
+        for words in ways:
+            reader, writer = os.pipe()
+            os.close(reader)
+            with open("/dev/full", "w", encoding="utf-8") as full, open(writer, "w", encoding="utf-8") as pipe:
+                for out, why in ((full, "No space left on device"), (pipe, "Broken pipe")):
+                    with self.subTest(words=words, why=why):
+                        self.assertEqual(self.run_into(out, *words),
+                                         (1, f"{words[0]}: standard output can't be written: {why}\n"))
+
+    def test_a_standard_output_that_is_closed_is_told(self):
+        words = ["sh", "-c", '"$@" >&-', "sh", sys.executable, HERE / "risk.py", "--p", "1e-3"]
+        ran = subprocess.run(words, stderr=subprocess.PIPE, text=True)
+        self.assertEqual((ran.returncode, ran.stderr), (1, "risk.py: standard output is closed\n"))
 
 
 class Extents(unittest.TestCase):
@@ -770,6 +871,48 @@ def epochs_with_places(log):
         place = None if epoch.few else places.place_at(known, epoch.time)
         if place is not None and integrity.in_search_box(epoch, place):
             yield epoch, place
+
+
+class Statements(unittest.TestCase):
+    BASE = (
+        "-- Numbers.\n\n-- its double\nabbrev pub Double : Number\nDouble n = n + n\n\n"
+        "abbrev pub Half : Number\nHalf n = n\n\nabbrev pub Third : Number\nThird n = n\n"
+    )
+    SHAPE = (
+        "//! Shapes.\n\n/// A round or a long one.\n#[derive(Clone)]\n"
+        "pub enum Shape {\n    /// Its radius.\n    Round(u8),\n    Long,\n}\n\n"
+        "pub struct Mark(u8);\n\npub struct Marks {\n    all: u8,\n}\n"
+    )
+    TOP = (
+        "-- What is claimed.\nuse Rattle.low.specs.Base.{Double as Twice}\nuse Rattle.low.specs.Base as base\n"
+        "use Rattle.low.specs.declared.shape.Shape.TheVariants as shape\n"
+        "use Rattle.low.specs.declared.shape.Mark.{Mark as Sign}\n"
+        "use Rattle.std.specs.Prelude.{Double as Other}\n\n"
+        "abbrev pub Named : Type\nNamed = Twice\n\nabbrev pub Dotted : Type\nDotted = base.Half (shape.Round 1)\n\n"
+        "abbrev pub Marked : Type\nMarked = Sign Other\n\nabbrev pub All : Type\nAll = Named Dotted Marked\n"
+    )
+    TREE = (("low/specs/Base.antt", BASE), ("low/src/shape.rt", SHAPE), ("high/specs/Top.antt", TOP))
+    # What is reached from a definition of the last one, counted by hand.
+    REACHED = (
+        ("Named", "2 definitions, 5", "0 types, 0"),
+        ("Dotted", "2 definitions, 4", "1 types, 5"),
+        ("Marked", "1 definitions, 2", "1 types, 1"),
+        ("All", "6 definitions, 13", "2 types, 6"),
+    )
+
+    def test_names_are_followed_through_renamed_imports(self):
+        with tempfile.TemporaryDirectory() as room:
+            for name, text in self.TREE:
+                path = Path(room) / name
+                path.parent.mkdir(parents=True)
+                path.write_text(text, encoding="utf-8")
+            with mock.patch("statement.CRATES", Path(room)):
+                for name, definitions, types in self.REACHED:
+                    self.assertEqual(
+                        statement.told(f"high.Top.{name}"),
+                        f"high.Top.{name}: 2 files, 17 lines by imports; {definitions} lines by name; {types} lines")
+                for name in ("high.Top.Gone", "high.Gone.All", "high.Top"):
+                    self.assertEqual(testing.ended(statement, name), (1, "", f"statement.py: no definition {name}\n"))
 
 
 class Recorded(unittest.TestCase):

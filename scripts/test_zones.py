@@ -35,6 +35,32 @@ EXAMPLES = Path(__file__).resolve().parent.parent / "examples"
 PLACES = Path(__file__).resolve().parent / "recorded/cres_2008.places"
 
 
+NONE = "there is no (Polygon|LineString) in it, or not all of its places are numbers"
+THREE = "a: an area has three corners or more"
+AREA, LANE = ("--area", "800,1150"), ("--lane", "120,-160,160")
+# A file's name, its text, the option that reads it with the fields behind it, and the line that says what is wrong.
+NO_SHAPES = (
+    ("null-geometry.json", '{"type": "Feature", "geometry": null}', *AREA, NONE),
+    ("empty-object.json", "{}", *AREA, NONE),
+    ("number.json", "1", *AREA, NONE),
+    ("null-corner.json", '{"type": "Polygon", "coordinates": [[[1, 2], [1, 3], null]]}', *AREA, NONE),
+    ("no-coordinates.json", '{"type": "Polygon"}', *AREA, NONE),
+    ("infinite.json", '{"type": "Polygon", "coordinates": [[[1, 2], [1, 3], [2, Infinity]]]}', *AREA, NONE),
+    ("deep.json", '{"geometry": ' * 10_000, *AREA, NONE),
+    ("deep.kml", "<a>" * 10_000, *AREA, NONE),
+    ("one-corner.txt", "35.8 138.3\n", *AREA, THREE),
+    ("one-point-thrice.txt", "35.875 138.392 900\n" * 3, *AREA, THREE),
+    ("not-a-number.txt", "35.875 138.392\n35.875 nan\n35.876 138.393\n", *AREA, NONE),
+    ("empty.txt", "", *LANE, NONE),
+    ("one-number.txt", "35.8\n", *LANE, NONE),
+    ("short-position.json", '{"type": "LineString", "coordinates": [[138], [138, 35.1]]}', *LANE, NONE),
+    ("text-position.json", '{"type": "LineString", "coordinates": ["east", "west"]}', *LANE, NONE),
+    ("empty-coordinates.kml", "<kml><LineString><coordinates/></LineString></kml>", *LANE, NONE),
+    ("one-place-twice.kml", "<kml><LineString><coordinates>138,35 138,35</coordinates></LineString></kml>", *LANE,
+     "a leg is longer than 0"),
+)
+
+
 def said(*words):
     """The lines that the script prints for these words."""
     out = io.StringIO()
@@ -247,6 +273,34 @@ class Files(unittest.TestCase):
         self.assertEqual(written[0], written[2])
         self.assertEqual(written[0][:2], ["gpszones 2", "prism a 5"])
         self.assertEqual([line.split()[1] for line in written[0][-3:]], ["r-e", "r-n", "r-u"])
+
+    def test_what_is_no_shape_is_refused_in_one_line(self):
+        with tempfile.TemporaryDirectory() as room:
+            for name, text, option, rest, told in NO_SHAPES:
+                path = Path(room) / name
+                path.write_text(text, encoding="utf-8")
+                for purpose in ("outside", "inside"):
+                    with self.subTest(name=name, purpose=purpose):
+                        status, out, err = testing.ended(zones, "--for", purpose, option, f"a,{path},{rest}")
+                        self.assertEqual((status, out), (1, ""))
+                        self.assertRegex(err, f"^zones.py: .*{told}.*\n$")
+
+    def test_numbers_that_are_none_or_too_large_are_refused_among_the_words(self):
+        for word in ("nan", "inf", "-inf", "1e400", "1e16", "x", ""):
+            for option, fields in (("--place", f"a,35,138,990,50,{word}"), ("--place", f"a,{word},138,990,50,20"),
+                                   ("--area", f"a,none.json,{word},1150"), ("--lane", f"a,none.json,120,-160,{word}"),
+                                   ("--reported", f"a,none,none,5,{word}"), ("--reach", f"a,47,{word}")):
+                with self.subTest(option=option, word=word):
+                    status, out, err = testing.ended(zones, "--for", "inside", option, fields)
+                    self.assertEqual((status, out), (2, ""))
+                    told = f"argument {option}: {word} isn't a number of at most 10^15 in amount\n"
+                    self.assertTrue(err.endswith(told), err)
+
+    def test_places_that_are_none_are_refused(self):
+        for fields, told in (("a,35,138,990,0,20", "two of its corners are one point"), ("a,35,138,1e15,5,2", "too far away")):
+            status, out, err = testing.ended(zones, "--for", "outside", "--place", fields)
+            self.assertEqual((status, out), (1, ""))
+            self.assertRegex(err, f"^zones.py: .*{told}\n$")
 
     def test_axes_are_those_of_the_ellipsoid(self):
         self.assertEqual(zones.reach_lines("r", 0, 0), ["reach r-e 0 1048576 0", "reach r-n 0 0 1048576", "reach r-u 1048576 0 0"])

@@ -51,11 +51,12 @@ def dot(a, b):
 
 
 def elevation(place, target):
-    """The angle above the horizon of `place` at which `target` is seen."""
+    """The angle above the horizon of `place` at which `target` is seen; 0 where they are one point."""
     latitude, longitude, _ = geodetic(place)
     toward = [t - p for t, p in zip(target, place)]
     up = local_axes(latitude, longitude)[2]
-    return math.asin(dot(toward, up) / math.hypot(*toward))
+    sine = dot(toward, up) / (math.hypot(*toward) or 1.0)
+    return math.asin(max(-1.0, min(1.0, sine)))
 
 
 def azimuth(place, target):

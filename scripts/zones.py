@@ -28,11 +28,11 @@ import itertools
 import json
 import math
 import re
-import sys
 import xml.etree.ElementTree
 from fractions import Fraction
+from pathlib import Path
 
-from coverlog import LogError, epochs
+from coverlog import LogError, epochs, measure, run_tool
 from places import Meetings, read_places
 from wgs84 import dot, earth_fixed, geodetic, local_axes
 
@@ -46,7 +46,7 @@ ARITHMETIC_UM = 1000  # more than the rounding of the numbers of this script, fo
 WIDEST_M = 50_000
 
 
-class ShapeError(Exception):
+class ShapeError(LogError):
     """A shape of which no zone is made."""
 
 
@@ -143,8 +143,10 @@ def prism(name, faces, points, purpose):
     if len(name) > LONGEST_NAME:
         raise ShapeError(f"{name}: a name has at most {LONGEST_NAME} characters")
     sides = grown(faces, points) if purpose == "outside" else shrunk(faces)
-    if len(sides) > MOST_SIDES or any(abs(most) > GREATEST for _, most in sides):
+    if len(sides) > MOST_SIDES:
         raise ShapeError(f"{name}: a prism has at most {MOST_SIDES} sides")
+    if any(abs(most) > GREATEST for _, most in sides):
+        raise ShapeError(f"{name}: it is too far away")
     return [f"prism {name} {len(sides)}"] + [f"side {x} {y} {z} {most}" for (x, y, z), most in sides]
 
 
@@ -183,6 +185,8 @@ def upright(ground, rings, low, high):
     for i, j in ((i, (i + 1) % count) for i in range(count)):
         east, north = (rings[0][j][k] - rings[0][i][k] for k in (0, 1))
         length = math.hypot(east, north)
+        if not length:
+            raise ShapeError("two of its corners are one point")
         faces.append(Face(ground.direction((north / length, -east / length, 0.0)), [below[i], below[j], above[i], above[j]]))
     faces.append(Face(tuple(-part for part in ground.axes[2]), [*below, middle_low]))
     faces.append(Face(ground.axes[2], [*above, middle_high]))
@@ -217,6 +221,8 @@ def area_lines(name, ring, low, high, purpose):
     ring = [(math.radians(p[0]), math.radians(p[1])) for p in ring]
     if len(ring) > 1 and ring[0] == ring[-1]:
         ring = ring[:-1]
+    if len(ring) < 3:
+        raise ShapeError(f"{name}: an area has three corners or more")
     ground = Ground(*(sum(p[k] for p in ring) / len(ring) for k in (0, 1)))
     flat = [ground.local(*p, 0.0)[:2] for p in ring]
     if max(math.hypot(*p) for p in flat) > WIDEST_M:
@@ -325,10 +331,9 @@ def leg(start, end, half, low, high, beyond):
 # ---- files
 
 
-def numbers(text):
-    """Places of a KML text: `LON,LAT[,HEIGHT]`, one behind another."""
-    places = [tuple(float(part) for part in word.split(",")) for word in text.split()]
-    return [(p[1], p[0], p[2] if len(p) > 2 else 0.0) for p in places]
+def place_of(longitude, latitude, height=0.0, *_):
+    """A place (latitude, longitude, height) of numbers or their texts."""
+    return measure(latitude), measure(longitude), measure(height)
 
 
 def kml_places(text, kind):
@@ -337,8 +342,8 @@ def kml_places(text, kind):
         if node.tag.rpartition("}")[2] == kind:
             for inner in node.iter():
                 if inner.tag.rpartition("}")[2] == "coordinates":
-                    return numbers(inner.text)
-    raise ShapeError(f"no {kind} in it")
+                    return [place_of(*word.split(",")) for word in inner.text.split()]
+    return []
 
 
 def json_places(tree, kind):
@@ -346,7 +351,7 @@ def json_places(tree, kind):
     if isinstance(tree, dict):
         if tree.get("type") == kind:
             line = tree["coordinates"][0] if kind == "Polygon" else tree["coordinates"]
-            return [(p[1], p[0], p[2] if len(p) > 2 else 0.0) for p in line]
+            return [place_of(*position) for position in line]
         tree = list(tree.values())
     for part in tree if isinstance(tree, list) else []:
         found = json_places(part, kind)
@@ -355,16 +360,30 @@ def json_places(tree, kind):
     return []
 
 
-def places_of(path, kind):
-    """The places (latitude, longitude, height) of a file."""
-    with open(path, encoding="utf-8") as file:
-        text = file.read()
+def row_places(text):
+    """The places of lines `LAT LON [HEIGHT]`."""
+    rows = (line.split() for line in text.splitlines() if line.strip())
+    return [place_of(longitude, latitude, *more) for latitude, longitude, *more in rows]
+
+
+def places_in(text, kind):
+    """The places (latitude, longitude, height) of a text in one of the three forms."""
     if text.lstrip().startswith("<"):
         return kml_places(text, kind)
     if text.lstrip().startswith("{"):
         return json_places(json.loads(text), kind)
-    rows = [[float(word) for word in line.split()] for line in text.splitlines() if line.strip()]
-    return [(row[0], row[1], row[2] if len(row) > 2 else 0.0) for row in rows]
+    return row_places(text)
+
+
+def places_of(path, kind):
+    """The places of a file. ShapeError where its text, whatever it is, has none."""
+    try:
+        found = places_in(Path(path).read_text(encoding="utf-8"), kind)
+    except (ValueError, TypeError, LookupError, AttributeError, RecursionError, xml.etree.ElementTree.ParseError):
+        found = []
+    if not found:
+        raise ShapeError(f"{path}: there is no {kind} in it, or not all of its places are numbers")
+    return found
 
 
 # ---- the command
@@ -379,13 +398,13 @@ def reach_lines(name, latitude, longitude):
 def field_list(names):
     """A reader of `NAME,..` with these fields: a name, a file, or numbers."""
 
-    def read(text):
-        fields = text.split(",")
-        if len(fields) != len(names) or not re.fullmatch("[a-z0-9-]{1,12}", fields[0]):
+    def fields(text):
+        words = text.split(",")
+        if len(words) != len(names) or not re.fullmatch("[a-z0-9-]{1,12}", words[0]):
             raise argparse.ArgumentTypeError(f"it is {','.join(names)}, the name 1 to 12 of a-z, 0-9 and -")
-        return [field if name in ("NAME", "FILE", "LOG") else float(field) for name, field in zip(names, fields)]
+        return [field if name in ("NAME", "FILE", "LOG") else measure(field) for name, field in zip(names, words)]
 
-    return read
+    return fields
 
 
 def arguments():
@@ -419,13 +438,9 @@ def file_lines(args):
 
 
 def main():
-    try:
-        print(*file_lines(arguments()), sep="\n")
-    except (OSError, LogError, ShapeError, ValueError, KeyError, xml.etree.ElementTree.ParseError) as fault:
-        print(f"zones.py: {fault}", file=sys.stderr)
-        return 1
+    print(*file_lines(arguments()), sep="\n")
     return 0
 
 
 if __name__ == "__main__":
-    sys.exit(main())
+    run_tool(main)
