@@ -14,11 +14,11 @@ ROOT = Path(__file__).resolve().parent.parent
 
 HEAD = """# The crates
 
-By floors, the lowest first: a crate stands on crates of its own floor and of those before it. The one exception is
-`box_contraction`, which stands on `log_lines`. What a crate does is the first sentence of its `lib.rt` or `main.rt`. What it
-stands on is told without the crates below those that are named, and libraries of the kit come last, without a link. What
-flows from crate to crate, and what the files of each hold, is in [ARCHITECTURE](../docs/ARCHITECTURE.md). Made by
-`scripts/crates_page.py` from [crates.txt](../crates.txt).
+By floors, the lowest first: a crate stands on crates of its own floor and of those before it{exceptions}.
+What a crate does is the first sentence of its `lib.rt` or `main.rt`. What it stands on is told without the crates below
+those that are named, and libraries of the kit come last, without a link. What flows from crate to crate, and what the files
+of each hold, is in [ARCHITECTURE](../docs/ARCHITECTURE.md). Made by `scripts/crates_page.py` from
+[crates.txt](../crates.txt).
 """
 
 
@@ -83,7 +83,8 @@ def row(name, crates):
 def page():
     """The whole page."""
     crates = {name: below for _, floor in floors() for name, below in floor.items()}
-    parts = [HEAD]
+    exceptions = "".join(f", but for `{name}` on `{other}`" for name, other in upward())
+    parts = [HEAD.format(exceptions=exceptions)]
     for title, floor in floors():
         rows = "\n".join(row(name, crates) for name in floor)
         parts.append(f"## {title}\n\n| crate | does | stands on |\n|---|---|---|\n{rows}\n")
