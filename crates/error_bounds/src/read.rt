@@ -1,6 +1,6 @@
 //! Settings texts.
 
-ghost use Rattle.std.specs.Prelude.{◌≡◌, IfOk, IfErr};
+ghost use Rattle.std.specs.Prelude.{IfOk, IfErr};
 ghost use Rattle.toml.specs.View.{table_view};
 ghost use Rattle.error_bounds.specs.Faults.{Found};
 ghost use Rattle.error_bounds.specs.Reading.{value_of_settings, IsTreeOf, RefusesTree, RefusesFirst, GivesSettings, GivesFault};

@@ -2,7 +2,7 @@
 
 ghost use Rattle.std.specs.Prelude.{◌≡◌, false, true, is_some, IfOk, IfNone, IfSome};
 ghost use Rattle.toml.specs.Data.{as_str};
-ghost use Rattle.toml.specs.View.{view, items_view};
+ghost use Rattle.toml.specs.View.{items_view};
 ghost use Rattle.error_bounds.specs.Forms.{all_members, of_kind, codes_for, dual_codes, mode_word, code_list, two_codes};
 ghost use Rattle.error_bounds.specs.Sizes.{is_code, is_capital, are_codes, are_codes_on};
 

@@ -1,6 +1,6 @@
 //! The tables whose keys have to be there.
 
-ghost use Rattle.std.specs.Prelude.{◌≡◌, ◌≤◌, true, None, Ok, option_map, IfOk, IfErr, OnOk};
+ghost use Rattle.std.specs.Prelude.{◌≡◌, true, None, Ok, option_map, IfOk, IfErr, OnOk};
 ghost use Rattle.sat_model.specs.Relaxed.{ends};
 ghost use Rattle.toml.specs.View.{table_view};
 ghost use Rattle.error_bounds.specs.Keys.{value_of, mode_of, codes_key, optional_at, zenith, vertical, search_tests, signal_tests, bounds_tests, first_found};
