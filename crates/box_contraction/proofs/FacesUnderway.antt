@@ -13,10 +13,6 @@ pub record FacesUnderway (Done : ℕ → GridBox → List ShownStep → GridBox 
       → AreFacesDone Done all_faces start (cuts ++ more) left
   pub added : now ≡ before ++ cuts
 
-pub none_yet : {L : Type 0} (took : L → Step → GridBox → L → Type 0) (Done : ℕ → GridBox → List ShownStep → GridBox → Type 0) (start : GridBox) (log : L)
-    → FacesUnderway took Done 0 start log 0 start log
-none_yet took Done start log = record { steps = []; goes_on = λ more left h. h; taken = refl; counted = refl; few = omega arith }
-
 next_face : (face : ℕ) → face < 6 → drop face all_faces ≡ face ∷ drop (face + 1) all_faces
 next_face zero h = refl
 next_face (suc zero) h = refl
