@@ -155,6 +155,13 @@ def wholes(words, count):
     return tuple(map(whole, words))
 
 
+def box_of(ends):
+    """A box of its low and its high corner. None has a low end above the high one."""
+    if any(low > high for low, high in zip(ends[:3], ends[3:])):
+        raise ValueError
+    return tuple(ends)
+
+
 def satellite_of(word):
     """The name of a satellite."""
     if not SATELLITE.fullmatch(word):
@@ -200,7 +207,7 @@ class Fold:
         if words[0] == "out":
             self.epoch.outs += 1
         else:
-            self.epoch.kept.append(Kept(tuple(box), words[0] == "in", numbers[-2:], self.rows))
+            self.epoch.kept.append(Kept(box_of(box), words[0] == "in", numbers[-2:], self.rows))
 
     def halve(self, identity, axis):
         """Puts the two halves of a box into the live boxes, under the next two numbers."""
@@ -234,7 +241,7 @@ class Fold:
 
     def renew(self, words, lines):
         """Takes the box of a `renew` line and the rows behind it: as many as the epoch has usable satellites."""
-        box = wholes(words[1:], 6)
+        box = box_of(wholes(words[1:], 6))
         self.rows = [row_of(next_words(lines)) for _ in range(self.epoch.satellites)]
         self.epoch.renewals.append(Renewal(self.steps, box, self.rows))
 
@@ -267,7 +274,7 @@ def read_block(words, outliers, lines, renews):
         elif words[0] == "skip":
             epoch.skips.append(skip_of(words))
         elif words[0] == "root" and not epoch.few:
-            epoch.root = wholes(words[1:], 6)
+            epoch.root = box_of(wholes(words[1:], 6))
             fold_steps(epoch, lines, renews)
             return epoch, next(lines, None)
         elif epoch.few:

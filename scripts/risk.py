@@ -27,6 +27,7 @@ Exit status: 0; 1 where a file can't be read or written, or LOG is no whole log;
 """
 import argparse
 import decimal
+import re
 from collections import Counter
 from fractions import Fraction
 from math import comb
@@ -37,6 +38,7 @@ MOST_SATELLITES = 64  # of an epoch of a log
 MOST_OUTLIERS = 8  # that the settings allow
 SHOWN_OUTLIERS = range(5)
 DIGITS = 3
+LONG_EXPONENT = re.compile(r"[eE][+-]?[\d_]{4}")  # of a fraction that no memory holds
 ASSUMED = (
     "assumed: each satellite's error breaks its bounds with probability at most p, and they do so independently;",
     "where one cause breaks many at once (a wall, a fault of the constellation) these numbers mean nothing",
@@ -174,6 +176,8 @@ def lines(args):
 def probability(word):
     """A decimal or a fraction from 0 to 1."""
     try:
+        if LONG_EXPONENT.search(word):
+            raise ValueError
         value = Fraction(word)
     except (ValueError, ZeroDivisionError):
         raise argparse.ArgumentTypeError(f"{word} is no decimal as 1e-5 and no fraction as 1/1000") from None

@@ -252,6 +252,8 @@ class Hostile(unittest.TestCase):
         (PAVED.replace("done 2", "done"), 12),
         (PAVED.replace("100000000\nsplit", "\nsplit"), 4),
         (PAVED.replace("root 6378037000000", "root " + "9" * 400), 4),
+        (PAVED.replace("root 6378037000000", "root 6378237000001"), 4),
+        (PAVED.replace("cut 4 5 50000000", "cut 4 5 -100000001"), 11),
         (PAVED.replace("895816769999000000000", "-1"), 3),
         (PAVED.replace("895816769999000000000", "4000000000000000000000"), 3),
         (PAVED.replace("000 5\n", "000\n"), 3),
