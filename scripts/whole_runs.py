@@ -5,7 +5,7 @@ usage: whole_runs.py PROGRAM
 
 Each run's status, standard output, standard error and LOG are compared byte for byte, and no other file of its folder may be
 made or written. The expected texts are written here by hand. Many runs are done once more with pipes in the place of files,
-which give one byte a read. It takes SECONDS. The last line is `whole runs: N passed, M failed`, and the status 1 where one
+which give one byte a read. It takes some seconds. The last line is `whole runs: N passed, M failed`, and the status 1 where one
 failed.
 """
 import contextlib
