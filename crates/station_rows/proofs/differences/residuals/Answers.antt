@@ -41,8 +41,8 @@ returns-clause-ends c =
     let width = at_most (seen_width at) station_range_width _ (point_width at c.point-at.ensures.small) (c.seen_range-range.ensures.narrow narrow.place).width in
     record {
       order = c.minus.result.ordered;
-      low = rw c.minus.ensures.low (differ_within (56 * 10 ^ 12) range_amount residual_amount _ _ (lit≤ tt) (rw c.wide.ensures.low narrow.range.lo) c.seen_range-range.ensures.amount.high);
-      high = rw c.minus.ensures.high (differ_within (56 * 10 ^ 12) range_amount residual_amount _ _ (lit≤ tt) (rw c.wide.ensures.high narrow.range.hi) c.seen_range-range.ensures.amount.low);
+      low = rw c.minus.ensures.low (differ_within (56 * 10 ^ 12) range_amount residual_amount c.wide.result.lo range.hi (lit≤ tt) (rw c.wide.ensures.low narrow.range.lo) c.seen_range-range.ensures.amount.high);
+      high = rw c.minus.ensures.high (differ_within (56 * 10 ^ 12) range_amount residual_amount c.wide.result.hi range.lo (lit≤ tt) (rw c.wide.ensures.high narrow.range.hi) c.seen_range-range.ensures.amount.low);
       width = difference_width corrected_width station_range_width residual_width c.wide.result.lo c.wide.result.hi range.lo range.hi c.minus.result.lo c.minus.result.hi (lit≤ tt) c.minus.ensures.low c.minus.ensures.high
           (rw (c.wide.ensures.low, c.wide.ensures.high) c.requires.base.corrected) width;
     }

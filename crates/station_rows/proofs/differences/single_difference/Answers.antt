@@ -1,4 +1,5 @@
 use Rattle.std.proofs.Common.{◌*◌, ◌^◌, lit≤}
+use Rattle.std.specs.Prelude.{◌-ℤ◌}
 use Rattle.grid_model.proofs.IntervalLemmas.{difference_by}
 use Rattle.grid_model.proofs.ProductLemmas.{larger}
 use Rattle.sat_model.specs.Relaxed.{ends}
