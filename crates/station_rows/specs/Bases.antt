@@ -1,6 +1,6 @@
 -- The bases of a receiver and of a station from which that of their difference is formed. No public
 -- clause cites this.
-use Rattle.std.specs.Prelude.{ℕ, ◌+◌, ◌*◌, ◌^◌, ℤ, pos, ◌-ℤ◌, ◌≤ℤ◌}
+use Rattle.std.specs.Prelude.{ℕ, ◌+◌, ◌*◌, ◌^◌, pos, ◌-ℤ◌, ◌≤ℤ◌}
 use Rattle.gnss_model.specs.declared.delays.Delays.{Delays}
 use Rattle.grid_model.specs.Sizes.{IsWithin}
 use Rattle.grid_model.specs.declared.boxes.Pos.{Pos}

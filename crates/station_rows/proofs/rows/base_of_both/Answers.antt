@@ -1,6 +1,5 @@
 use Rattle.std.proofs.Common.{rules, refl, FitsSigned}
 use Rattle.std.specs.Int.{w128}
-use Rattle.std.specs.Prelude.{pos, ◌-ℤ◌}
 use Rattle.std.proofs.lemmas.Int.{to_z-of_z}
 use Rattle.grid_model.specs.declared.boxes.Pos.{Pos}
 use Rattle.sat_model.specs.Relaxed.{ends}
