@@ -1,6 +1,6 @@
 -- What fits anywhere in the root of an epoch lies in a half-space that is shown over a box which
 -- holds the kept boxes.
-use Rattle.std.proofs.Common.{◌≡◌, ℕ, zero, suc, ◌+◌, ◌≤◌, arith, refl, sym, subst, true, List, [], ◌∷◌, length, inl, inr, Some}
+use Rattle.std.proofs.Common.{◌≡◌, ℕ, zero, suc, ◌+◌, ◌≤◌, arith, refl, subst, true, List, [], ◌∷◌, length, inl, inr, Some}
 use Rattle.std.specs.Prelude.{ℤ, slice_get, All, Contains}
 use Rattle.std.proofs.lemmas.List.Elements.{All-nil, All-cons, All-contains}
 use Rattle.grid_model.specs.declared.boxes.Pos.{Pos}

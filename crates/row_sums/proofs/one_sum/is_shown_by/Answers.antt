@@ -1,5 +1,5 @@
 use Rattle.std.proofs.Common.{◌≡◌, ◌∙◌, ap, arith, refl, sym, subst, map, List}
-use Rattle.std.specs.Prelude.{ℤ, pos, All}
+use Rattle.std.specs.Prelude.{pos, All}
 use Rattle.std.proofs.lemmas.Int.{ints}
 use Rattle.grid_model.specs.Boxes.{grid_box}
 use Rattle.row_pairs.specs.FormValues.{form_value}
