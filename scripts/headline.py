@@ -3,8 +3,8 @@
 
 usage: headline.py > docs/HEADLINE.md
 
-Each link names definitions, which are copied from their files. Exit status: 0; 1 and one line where a file or a name
-is gone.
+Each link names definitions, which are copied from their files; those that stand behind one path make one frame. The head
+of a module stands over the first definition of it. Exit status: 0; 1 and one line where a file or a name is gone.
 """
 import re
 import sys
@@ -26,8 +26,9 @@ HEAD = """# From the headline down to the definitions
 
 Ten links lead from this sentence of the README to the equations, and an eleventh says what renewed rows are. What
 stands in a frame is copied from the file above it by `scripts/headline.py`, which fails where a name is gone. `×`
-reads 'and', `⊎` reads 'or', `→` reads 'implies' or 'for all', `≡` reads 'is', `(x : T) ×` reads 'there is an x', and
-a record is the conjunction of its fields.
+reads 'and', `⊎` reads 'or', `→` reads 'implies' or 'for all', `≡` reads 'is', `⊥` reads 'never', `Unit {{0}}` reads
+'always', `(x : T) ×` reads 'there is an x', and a record is the conjunction of its fields. A line `module _ (..) where`
+names what the definitions below it take first; on this page it stands over the first of them alone.
 """
 WIDTH = 118
 
@@ -44,12 +45,38 @@ LINKS = (
     ),
     (
         "A run of `check`, by its status",
-        "What was read is what the files give; of the observations of a file it is the position and the epochs that the"
-        " words ask for. A run that ends with `Done` (status 0) read files that are accepted, and printed a line that says so.",
+        "A task says which files are read, how, and what is done with what was read. Of a run of it `found` speaks of the"
+        " reading, and `ends` of what was done. (The `Fits` of `exact` is of a status, and not that of link 8.)",
         (
             ("crates/cover_run/specs/Runs.antt", "checking"),
-            ("crates/cover_run/specs/Runs.antt", "RunOf"),
+            ("crates/cover_run/specs/Runs.antt", "RunOf", "Ends"),
+        ),
+        "From `ends` to the line that is printed: where every file was read and accepted, a verdict is told, as `Does` of the"
+        " task says, with `SaysAccepted` for `Yes` and `SaysRefused` for `No`; else the status is that of a notice, which is"
+        " never `Done` (`status_of` of `crates/input_files/specs/Statuses.antt`). So a run that ends with `Done` (status 0) read"
+        " files that are accepted, and printed a line that says so.",
+        (
+            ("crates/cover_run/specs/Runs.antt", "TellsAlone"),
             ("crates/cover_run/specs/Telling.antt", "Tells"),
+        ),
+        "From `found` to the files: what was read, as plain values, is what they give. `ReadsChecked` (of"
+        " `crates/cover_run/specs/Checking.antt`) reads the settings, the navigation file, the observation file and the log in"
+        " this order, each by `Named`, as `ReadsObs` does the third. `Files` are there the names that the words give, and in"
+        " `Found` the bytes under each name.",
+        (
+            ("crates/input_files/specs/Reading.antt", "Found"),
+            ("crates/input_files/specs/Inputs.antt", "ReadsObs"),
+            ("crates/input_files/specs/Reading.antt", "Named", "ReadsFile"),
+        ),
+        "From a file to its bytes: it gives the value that these spell, or a notice. **Of files that can't tell their bytes, as"
+        " those on a disk can't, nothing is said of bytes**: that is the case `None` (`told = None` of"
+        " `crates/outer_io/src/file_shelf.rt`), in which any value may have been read, and a yes speaks of the value that was."
+        " The same code runs over files of both kinds, so it does with the bytes that a disk gives it what is proved of it for"
+        " files that tell theirs.",
+        (("crates/input_files/specs/Reading.antt", "FileGives", "GivesWithin", "Gives"),),
+        "What bytes spell is said by each text's `Spells`. Of the observations of a file it is the position and the epochs that"
+        " the words ask for.",
+        (
             ("crates/input_files/specs/Inputs.antt", "obs_text"),
             ("crates/rinex_obs/specs/Files.antt", "AreBetween"),
             ("crates/rinex_obs/specs/Files.antt", "between"),
@@ -59,7 +86,7 @@ LINKS = (
         "The yes",
         "The line is `yes` and the number of boxes of an accepted log. Accepted is a fact on what was read: observations,"
         " records, settings and log. Of satellites records and settings say what equations and bounds leave of each, those of"
-        " Galileo among them where the settings have its codes.",
+        " Galileo among them where the settings have its codes; `meaning_by` stands in link 9.",
         (
             ("crates/cover_run/specs/Checking.antt", "SaysAccepted"),
             ("crates/cover_run/specs/Checking.antt", "Accepts"),
@@ -76,14 +103,21 @@ LINKS = (
         (
             ("crates/paving_log_check/specs/Checked.antt", "IsAccepted"),
             ("crates/paving_log_check/specs/Admissible.antt", "Admissible"),
-            ("crates/paving_log_check/specs/OwnLines.antt", "OwnLines"),
-            ("crates/paving_log_check/specs/OwnLines.antt", "IsOwnOf"),
+        ),
+        "From `are_own` to the rows: `AreOwn` goes along the searches, each with its block, and asks own lines of each, one"
+        " for each satellite of the epoch, in order (`AreLinesOf`): why it isn't used, or a row that holds whatever the"
+        " equations allow of it over the box (`IsOwnRow` of the same file).",
+        (
+            ("crates/paving_log_check/specs/OwnLines.antt", "AreOwn", "OwnLines", "IsOwnOf"),
+            ("crates/sat_rows/specs/OwnRows.antt", "AreLinesOf"),
         ),
     ),
     (
         "In every paved epoch",
         "Each epoch of the file has its block, and each block that has a body, which one of few satellites lacks, covers what"
-        " fits at the epoch's time. Its boxes are those of its steps: a renewal changes none.",
+        " fits at the epoch's time. Its boxes are those of its steps: a renewal changes none. `pieces` (of"
+        " `crates/sat_model/specs/Fold.antt`) folds these from the search box on, and gives each closed box and each slab that"
+        " is cut off with its step.",
         (
             ("crates/paving_log_check/specs/FileCover.antt", "FileCover"),
             ("crates/paving_log_check/specs/FileCover.antt", "BlocksFitCover"),
@@ -96,7 +130,7 @@ LINKS = (
         " its clock.",
         (
             ("crates/paving_log_check/specs/FileCover.antt", "FitCover"),
-            ("crates/paving_log_check/specs/FileCover.antt", "FitsInside"),
+            ("crates/paving_log_check/specs/FileCover.antt", "AllFitInside", "FitsInside"),
         ),
     ),
     (
@@ -121,10 +155,22 @@ LINKS = (
     ),
     (
         "What the equations allow",
+        "From `allows` to the equations: the meaning of link 3 is that of `meaning_by`, so what is allowed is `IsChainAt`:"
+        " values of a usable satellite that the equations (`IsChainOf`) and the bounds (`IsBound`) allow.",
+        (
+            ("crates/sat_rows/specs/Sources.antt", "meaning_by"),
+            ("crates/sat_rows/specs/Chains.antt", "IsChainAt", "AreValues", "IsChainOf"),
+        ),
         "One whole number for each printed equation of IS-GPS-200, from the codes to the range. The equations themselves are"
         " in `Pseudorange`, `ClockChain`, `MeanMotion`, `OrbitChain` and `Turn` of `crates/gnss_model/specs`, in what Galileo's"
         " differ in `Systems` there, and which satellites are usable in `crates/usable_sats/specs/Usability.antt`.",
-        (("crates/sat_rows/specs/Chains.antt", "IsChainAt"), ("crates/gnss_model/specs/ChainValues.antt", "ChainValue")),
+        (("crates/gnss_model/specs/ChainValues.antt", "ChainValue"),),
+        "From `lo` and `hi` of link 8 to the declared bounds: they are the ends of the sum of all spans that the settings"
+        " declare for the satellite (`bound_for`) and, where delays straight up are declared, of these, mapped by its elevation.",
+        (
+            ("crates/sat_rows/specs/Chains.antt", "IsBound"),
+            ("crates/error_bounds/specs/Reading.antt", "bound_for"),
+        ),
     ),
     (
         "Every log that `solve` completes is one that `check` accepts",
@@ -134,6 +180,10 @@ LINKS = (
             ("crates/cover_run/src/accepting.rt", "accepted"),
             ("crates/cover_run/specs/Accepting.antt", "SolvesThenChecks"),
         ),
+        "Its premises: the files are told, LOG is by name none of the three that are read, `solve` ended with `Done`, and `check`"
+        " found the files as `solve` left them, by the same words and limits. Of files that can't tell their bytes nothing is"
+        " said here either.",
+        (("crates/cover_run/specs/Accepting.antt", "RunsThen", "AreApart"),),
     ),
     (
         "Renewed rows",
@@ -190,19 +240,46 @@ def comment_above(lines, at, mark):
     return at
 
 
+def indent_of(line):
+    """How many blanks a line begins with."""
+    return len(line) - len(line.lstrip())
+
+
 def without_indent(lines):
-    """The lines without the blanks that all of them begin with."""
-    indent = min(len(line) - len(line.lstrip()) for line in lines)
+    """The lines without the blanks that all of them begin with, but for empty ones."""
+    indent = min(indent_of(line) for line in lines if line)
     return [line[indent:] for line in lines]
 
 
-def definition(path, name):
-    """A definition of a file in specs/, with the comment above it, up to the next blank line."""
+def modules_over(lines, at):
+    """The places in the lines of the first lines of the modules that a line stands in, the outermost first."""
+    places, indent = [], indent_of(lines[at])
+    for k in range(at, -1, -1):
+        if lines[k].lstrip().startswith("module ") and indent_of(lines[k]) < indent:
+            places, indent = [k, *places], indent_of(lines[k])
+    return places
+
+
+def head_of_module(lines, at):
+    """What a module takes, with the comment above it, up to its `where`."""
+    end = next(k for k in range(at, len(lines)) if lines[k].endswith("where"))
+    return lines[comment_above(lines, at, "--") : end + 1]
+
+
+def definition(path, name, shown=None):
+    """A definition of a file in specs/, with the comment above it, up to the next blank line, below the heads of its modules.
+
+    Heads that are among those shown, by file and place, are left out, and the others are added to these.
+    """
+    shown = set() if shown is None else shown
     lines = lines_of(path)
     for at, line in enumerate(lines):
         if re.match(rf"\s*(abbrev pub|pub record|pub data|record pub) {re.escape(name)}\b", line):
             end = next((k for k in range(at, len(lines)) if not lines[k].strip()), len(lines))
-            return without_indent(lines[comment_above(lines, at, "--") : end])
+            new = [place for place in modules_over(lines, at) if (path, place) not in shown]
+            shown.update((path, place) for place in new)
+            heads = [line for place in new for line in head_of_module(lines, place)]
+            return heads + lines[comment_above(lines, at, "--") : end]
     raise Gone(f"{path}: no definition {name}")
 
 
@@ -212,14 +289,17 @@ def clause(path, name):
     for at, line in enumerate(lines):
         if re.match(rf"\s*ensures {re.escape(name)} ", line):
             end = next(k for k in range(at + 1, len(lines)) if re.match(r"\s*(ensures|requires|//|\{|$)", lines[k]))
-            return without_indent(lines[comment_above(lines, at, "//") : end])
+            return lines[comment_above(lines, at, "//") : end]
     raise Gone(f"{path}: no clause {name}")
 
 
-def frame(path, name):
-    """The file's name and what it says."""
-    taken = clause(path, name) if path.endswith(".rt") else definition(path, name)
-    return f"`{path}`\n\n```\n" + "\n".join(taken) + "\n```\n"
+def frame(path, names, shown):
+    """The file's name and what it says of these."""
+    taken = []
+    for name in names:
+        taken += [""] if taken else []
+        taken += clause(path, name) if path.endswith(".rt") else definition(path, name, shown)
+    return f"`{path}`\n\n```\n" + "\n".join(without_indent(taken)) + "\n```\n"
 
 
 def sentence():
@@ -232,12 +312,12 @@ def sentence():
 
 def page():
     """The whole page."""
-    parts = [HEAD.format(sentence=sentence())]
+    parts, shown = [HEAD.format(sentence=sentence())], set()
     for number, (title, *passages) in enumerate(LINKS, 1):
         parts.append(f"## {number}. {title}\n")
         for text, names in zip(passages[::2], passages[1::2]):
             parts += [f"{textwrap.fill(text, WIDTH)}\n"] if text else []
-            parts += [frame(path, name) for path, name in names]
+            parts += [frame(path, some, shown) for path, *some in names]
     return "\n".join(parts)
 
 

@@ -1260,6 +1260,41 @@ class Documents(unittest.TestCase):
     def test_the_links_from_the_headline_down_are_there(self):
         self.assertEqual((HERE.parent / "docs/HEADLINE.md").read_text(encoding="utf-8"), headline.page())
 
+    def test_each_definition_down_from_the_headline_names_the_next(self):
+        frames = [frame for _, *passages in headline.LINKS for frames in passages[1::2] for frame in frames]
+        paths = {name: path for path, *names in frames for name in names}
+        for chain in (
+            "runs Runs Obeys checking TellsAlone Tells",
+            "Obeys RunOf Ends",
+            "checking SaysAccepted Accepts IsFileAccepted IsAccepted FileCover BlocksFitCover FitBodyCover FitCover",
+            "FitCover SomeKeeps Keeps KeepsClock",
+            "FitCover AllFitInside FitsInside",
+            "RunOf Found",
+            "ReadsObs Named ReadsFile FileGives GivesWithin Gives",
+            "ReadsObs obs_text AreBetween between",
+            "IsAccepted Admissible OwnLines",
+            "IsAccepted AreOwn IsOwnOf AreLinesOf",
+            "BlocksFitCover FitsEpoch Fits Agrees IsConsistent",
+            "Accepts meaning_of both_meaning meaning_by IsChainAt AreValues IsChainOf ChainValue",
+            "AreValues IsBound",
+            "meaning_by bound_for",
+            "accepted SolvesThenChecks RunsThen AreApart",
+        ):
+            names = chain.split()
+            for above, below in zip(names, names[1:]):
+                with self.subTest(above=above, below=below):
+                    self.assertIn(below, paths)
+                    self.assertRegex(headline.frame(paths[above], [above], set()), rf"\b{below}\b")
+
+    def test_what_a_module_takes_stands_over_its_first_definition(self):
+        path, shown = "crates/sat_rows/specs/Fitting.antt", set()
+        first = headline.frame(path, ["Fits", "Agrees"], shown)
+        self.assertEqual(first.count("\nmodule _ (m : Meaning) (root : GridBox) (tag : ℤ) where\n"), 1)
+        self.assertLess(first.index("\nmodule _ "), first.index("\n  abbrev pub Fits "))
+        self.assertIn("\n  abbrev pub Agrees ", first)
+        self.assertIn("\npub record IsConsistent ", headline.frame(path, ["IsConsistent"], shown))
+        self.assertNotIn("module", headline.frame(path, ["IsConsistent", "FitsEpoch"], shown))
+
     def test_the_page_of_the_crates_is_what_its_script_makes(self):
         self.assertEqual((HERE.parent / "crates/README.md").read_text(encoding="utf-8"), crates_page.page())
 
