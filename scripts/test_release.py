@@ -299,7 +299,7 @@ class ThisRepository(unittest.TestCase):
         began = time.monotonic()
         solved = self.run_in_copy("./gpscover", "solve", *files, "receiver.log")
         checked = self.run_in_copy("./gpscover", "check", *files, "receiver.log")
-        table = self.run_in_copy("python3", "scripts/summary.py", "receiver.log")
+        table = self.run_in_copy(sys.executable, "scripts/summary.py", "receiver.log")
         took = time.monotonic() - began
         self.assertEqual((solved.returncode, solved.stderr), (0, ""))
         self.assertEqual(checked.stdout, "yes 2047\n")
