@@ -15,7 +15,6 @@ import shutil
 import subprocess
 import sys
 import tempfile
-import time
 import unittest
 from pathlib import Path
 
@@ -296,16 +295,17 @@ class ThisRepository(unittest.TestCase):
 
     def test_the_first_commands_of_the_readme_run_at_once(self):
         files = [f"examples/{name}" for name in ("receiver.obs", "receiver.nav", "settings.toml")]
-        began = time.monotonic()
+        began = os.times()
         solved = self.run_in_copy("./gpscover", "solve", *files, "receiver.log")
         checked = self.run_in_copy("./gpscover", "check", *files, "receiver.log")
         table = self.run_in_copy(sys.executable, "scripts/summary.py", "receiver.log")
-        took = time.monotonic() - began
+        ended = os.times()
+        took = ended.children_user + ended.children_system - began.children_user - began.children_system
         self.assertEqual((solved.returncode, solved.stderr), (0, ""))
         self.assertEqual(checked.stdout, "yes 2047\n")
         self.assertIn("epochs 4: 4 with a region", table.stdout)
-        self.assertLess(took, 20)
-        print(f"first commands: {took:.2f} s", file=sys.stderr)
+        # Of the processor's time, so that it is the same on a busy machine.
+        self.assertLess(took, 5)
 
     def test_a_checkout_that_cant_be_written_runs(self):
         shutil.copytree(self.room / "gpscover/examples", self.room / "examples")
