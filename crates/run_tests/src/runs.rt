@@ -8,6 +8,7 @@ use crate::texts::{
     SOLVED, SPLIT_REPORT, SPLIT_ROWS, SPLIT_STEPS, STEPS,
 };
 use cover_run::Status;
+use std::process::Abort;
 use std::test::Fail;
 
 // The run where a call that reads fails.
@@ -68,43 +69,42 @@ const fn paved(limit: u64, rows: &'static str, steps: &'static str, report: &'st
     }
 }
 
+// The run, once for each of the calls that read a file: it fails there.
+fn expect_unread(
+    rt: &(impl Abort + AllocGlobal),
+    case: &Case,
+    calls: [u64; 3],
+    err: &'static str,
+) -> Result<(), Fail> {
+    for call in calls {
+        expect(rt, &unread(*case, call, err))?;
+    }
+    Ok(())
+}
+
 // Each file is begun by one call and read by two more, in the order of settings, records,
-// observations and log. So are rows. Then the log is created by one call and written by the next.
-// Behind the last call none fails.
+// observations and log. So are rows.
 #[test]
-fn each_call_that_fails_has_its_status(rt: HostRuntime) -> Result<(), Fail> {
+fn each_read_that_fails_has_its_status(rt: HostRuntime) -> Result<(), Fail> {
+    for case in [SOLVE, CHECK] {
+        expect_unread(&rt, &case, [1, 2, 3], "settings fault\n")?;
+        expect_unread(&rt, &case, [4, 5, 6], "nav fault\n")?;
+        expect_unread(&rt, &case, [7, 8, 9], "obs fault\n")?;
+    }
+    expect_unread(&rt, &CHECK, [10, 11, 12], "log fault\n")?;
+    expect_unread(&rt, &JUDGE, [1, 2, 3], "log fault\n")?;
+    expect_unread(&rt, &PAVE, [1, 2, 3], "rows fault\n")
+}
+
+// Behind what is read the log is created by one call and written by the next. Behind the last call
+// none fails.
+#[test]
+fn each_write_that_fails_has_its_status(rt: HostRuntime) -> Result<(), Fail> {
     let table = [
-        unread(SOLVE, 1, "settings fault\n"),
-        unread(SOLVE, 2, "settings fault\n"),
-        unread(SOLVE, 3, "settings fault\n"),
-        unread(SOLVE, 4, "nav fault\n"),
-        unread(SOLVE, 5, "nav fault\n"),
-        unread(SOLVE, 6, "nav fault\n"),
-        unread(SOLVE, 7, "obs fault\n"),
-        unread(SOLVE, 8, "obs fault\n"),
-        unread(SOLVE, 9, "obs fault\n"),
         unwritten(SOLVE, 10, None),
         unwritten(SOLVE, 11, Some(("", ""))),
         Case { fails: 12, ..SOLVE },
-        unread(CHECK, 1, "settings fault\n"),
-        unread(CHECK, 2, "settings fault\n"),
-        unread(CHECK, 3, "settings fault\n"),
-        unread(CHECK, 4, "nav fault\n"),
-        unread(CHECK, 5, "nav fault\n"),
-        unread(CHECK, 6, "nav fault\n"),
-        unread(CHECK, 7, "obs fault\n"),
-        unread(CHECK, 8, "obs fault\n"),
-        unread(CHECK, 9, "obs fault\n"),
-        unread(CHECK, 10, "log fault\n"),
-        unread(CHECK, 11, "log fault\n"),
-        unread(CHECK, 12, "log fault\n"),
         Case { fails: 13, ..CHECK },
-        unread(JUDGE, 1, "log fault\n"),
-        unread(JUDGE, 2, "log fault\n"),
-        unread(JUDGE, 3, "log fault\n"),
-        unread(PAVE, 1, "rows fault\n"),
-        unread(PAVE, 2, "rows fault\n"),
-        unread(PAVE, 3, "rows fault\n"),
         unwritten(PAVE, 4, None),
         unwritten(PAVE, 5, Some(("", ""))),
         unsaid(SOLVE),
