@@ -21,7 +21,7 @@ from pathlib import Path
 
 import made_files
 import testing
-from real_files import INPUT, USAGE
+from real_files import DAY, INPUT, USAGE
 
 DONE, NO, NO_COMMAND, REFUSED, READ_FAULT = range(5)
 
@@ -66,22 +66,7 @@ NAV = (
 # The clock's first field is no number.
 BAD_NAV = f"{NAV_HEADER}G01 2024 01 07 00 00 00 0.000000000000D+0x{ZERO * 2}\n"
 
-SETTINGS = """[search]
-centre = [6378137000, 0, 0]
-half = 200000
-outliers = 1
-bisections = 4096
-width = 1000
-max_age = 7200
-[signal]
-mode = "single"
-codes = ["C1C"]
-[bounds]
-receiver = [-3000, 3000]
-orbit_clock = [-3000, 3000]
-ionosphere = [0, 20000]
-troposphere = [2000, 25000]
-"""
+SETTINGS = DAY["day.toml"].decode()
 # The same where pairs of rows show boxes empty too.
 PAIRS_SETTINGS = SETTINGS.replace("max_age = 7200\n", "max_age = 7200\npairs = true\n")
 
@@ -344,16 +329,9 @@ class Paving(WholeRuns):
         "0 0 0 0 20000000000000 20000000000000", "0 0 0 0 20000010000000 20000010000000", 1
     )
     # One of five satellites may be wrong, and all points fit.
-    INNER = """gpscover 1
-rules 1 0 1000000
-epoch 1 1388102400000000000000 5
-sat G01 20000000000000 20000000000000 0 0 0 0 20000000000000 20000000000000 -1000000 1000000
-sat G02 0 0 20000000000000 20000000000000 0 0 20000000000000 20000000000000 -1000000 1000000
-sat G03 0 0 0 0 20000000000000 20000000000000 20000000000000 20000000000000 -1000000 1000000
-sat G04 12000000000000 12000000000000 16000000000000 16000000000000 0 0 20000000000000 20000000000000 -1000000 1000000
-sat G05 0 0 0 0 -20000000000000 -20000000000000 20000000000000 20000000000000 -1000000 1000000
-root -1000000 -900000 -900000 1000000 900000 900000
-"""
+    INNER = (
+        ROWS.replace("rules 0", "rules 1").replace("000 4\n", "000 5\n").replace("-500000 500000", "-1000000 1000000")
+    ).replace("root", "sat G05 0 0 0 0 -20000000000000 -20000000000000 20000000000000 20000000000000 -1000000 1000000\nroot")
     FEW = "gpscover 1\nrules 1 0 1000000\nfew 1 1388102400000000000000 4\n"
 
     def test_rows_are_paved_and_reported(self):
