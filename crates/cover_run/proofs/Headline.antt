@@ -8,7 +8,7 @@ use Rattle.std.specs.FinMap as map
 use Rattle.std.specs.Option.{option_map}
 use Rattle.command_words.specs.Commands as words
 use Rattle.input_files.proofs.GrammarLemmas.{no_first}
-use Rattle.input_files.specs.Inputs.{InputsValue, ReadsFor, input_files, inputs_value, nav_text, obs_text, read_both, sought_of}
+use Rattle.input_files.specs.Inputs.{InputsValue, ReadsFor, input_files, inputs_value, nav_text, obs_text, message_of, sought_of}
 use Rattle.input_files.specs.Inputs.{settings_text, wants_position}
 use Rattle.input_files.specs.Logs.{log_text}
 use Rattle.input_files.specs.Reading.{IsBrokenOff, MayBreak, NeverBreaks, ReadsFile, Settles, Text}
@@ -72,14 +72,14 @@ module _ (moving : Bool) (limits : Limits) (names : words.Files) (bytes : List â
   inputs_before r (inl (s, is, inr (n, has, e))) = inl (
     s,
     still (settings_text moving) names.settings (Ok s) apart.settings is,
-    inr (n, still (nav_text (read_both s)) names.nav (Err n) apart.nav has, e),
+    inr (n, still (nav_text (message_of s)) names.nav (Err n) apart.nav has, e),
   )
   inputs_before r (inl (s, is, inl (records, has, inr (n, sees, e)))) = inl (
     s,
     still (settings_text moving) names.settings (Ok s) apart.settings is,
     inl (
       records,
-      still (nav_text (read_both s)) names.nav (Ok records) apart.nav has,
+      still (nav_text (message_of s)) names.nav (Ok records) apart.nav has,
       inr (
         n,
         still (obs_text (sought_of s) (wants_position s.centre) names.epochs) names.obs (Err n) apart.obs sees,
@@ -92,7 +92,7 @@ module _ (moving : Bool) (limits : Limits) (names : words.Files) (bytes : List â
     still (settings_text moving) names.settings (Ok s) apart.settings is,
     inl (
       records,
-      still (nav_text (read_both s)) names.nav (Ok records) apart.nav has,
+      still (nav_text (message_of s)) names.nav (Ok records) apart.nav has,
       inl (
         o,
         still (obs_text (sought_of s) (wants_position s.centre) names.epochs) names.obs (Ok o) apart.obs sees,

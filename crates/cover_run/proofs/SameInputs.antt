@@ -7,7 +7,7 @@ use mathlib.Core.HLevel.{is_prop→PathP}
 use Rattle.epoch_selection.specs.Searches.{Search, searches_in}
 use Rattle.epoch_selection.proofs.KeptLemmas.{same_selected}
 use Rattle.epoch_selection.specs.declared.selection.Selection.{Selection}
-use Rattle.error_bounds.specs.Reading.{signal_of, bound_for, centre_with, IsRoot, value_of_settings}
+use Rattle.error_bounds.specs.Reading.{galileo_use_of, bound_for, centre_with, IsRoot, value_of_settings}
 use Rattle.error_bounds.specs.Texts.{SettingsValue}
 use Rattle.input_files.specs.Inputs.{InputsValue, inputs_value}
 use Rattle.input_files.specs.declared.inputs.Inputs.{Inputs}
@@ -215,8 +215,8 @@ admits_same delays rules before (own ∷ owns) (a ∷ xs) (b ∷ ys) (block ∷ 
 abbrev sighting_by : List NavRecord → SettingsValue → ℤ → SatObs → Sighting
 sighting_by records v tag seen = record {
   records = records;
-  system = (use_of v.signal (signal_of v.galileo) seen.sat).0;
-  signal = (use_of v.signal (signal_of v.galileo) seen.sat).1;
+  system = (use_of v.signal (galileo_use_of v.galileo) seen.sat).0;
+  signal = (use_of v.signal (galileo_use_of v.galileo) seen.sat).1;
   max_age = v.max_age;
   tag = tag;
   seen = seen;

@@ -1,5 +1,5 @@
 -- A text has one value or one first fault.
-use Rattle.std.proofs.Common.{◌≡◌, Bool, ℕ, ℤ, List, [], Option, Result, Ok, Err, IfOk, IfErr, length, false, Ordering, Less, Equal, Greater, nat_cmp, is_eq, refl, sym, ap, ◌∙◌, inl, inr, arith, None, Some}
+use Rattle.std.proofs.Common.{subst, ◌≡◌, Bool, ℕ, ℤ, List, [], Option, Result, Ok, Err, IfOk, IfErr, length, false, Ordering, Less, Equal, Greater, nat_cmp, is_eq, refl, sym, ap, ◌∙◌, inl, inr, arith, None, Some}
 use Rattle.std.proofs.lemmas.Bool.{false≢true}
 use Rattle.std.proofs.lemmas.Cmp.{nat_list_cmp_total}
 use Rattle.std.proofs.lemmas.Map.Text.{is_eq-slice_cmp}
@@ -10,8 +10,9 @@ use Rattle.std.specs.Result.{result_unwrap_or}
 use Rattle.grid_model.specs.declared.boxes.Pos.{Pos}
 use Rattle.gnss_model.specs.declared.satellites.Sat.{Sat}
 use Rattle.gnss_model.specs.declared.satellites.Signal.{Signal}
+use Rattle.gnss_model.specs.declared.systems.Message.{Message}
 use Rattle.toml.specs.Data.{Members, get_member}
-use Rattle.error_bounds.specs.Keys.{Key, value_of, galileo_codes}
+use Rattle.error_bounds.specs.Keys.{Key, mode_of, value_of, galileo_codes}
 use Rattle.error_bounds.specs.Texts.{GalileoValue, SettingsValue, IsGalileo, IsValue, IsTree, IsSettings, IsFound, IsFirstFault, add}
 use Rattle.error_bounds.specs.Faults.{Found}
 use Rattle.error_bounds.specs.Names.{unknown, IsFirstName}
@@ -43,16 +44,19 @@ none_read key tree v none is =
     let fault : value_of key tree ≡ Err Missing = rw none refl in
     cc
 
-same_declared : (s t : Signal) (a b : ℤ × ℤ) → s ≡ t → a ≡ b
-    → ◌≡◌ {A = Option GalileoValue} (Some (record { signal = s; offset = a })) (Some (record { signal = t; offset = b }))
-same_declared s t a b e f = rw (e, f) refl
+same_declared : (m n : Message) (s t : Signal) (a b : ℤ × ℤ) → m ≡ n → s ≡ t → a ≡ b
+    → ◌≡◌ {A = Option GalileoValue} (Some (record { message = m; signal = s; offset = a })) (Some (record { message = n; signal = t; offset = b }))
+same_declared m n s t a b d e f = rw (d, e, f) refl
 
 same_galileo : (tree : Members) (v w : Option GalileoValue) → IsGalileo tree v → IsGalileo tree w
     → v ≡ w
 same_galileo tree None None p q = refl
-same_galileo tree None (Some w) p q = absurd (none_read galileo_codes tree w.signal p q.0)
-same_galileo tree (Some v) None p q = absurd (none_read galileo_codes tree v.signal q p.0)
-same_galileo tree (Some v) (Some w) p q = same_declared _ _ _ _ (same_read _ _ _ p.0 q.0) (same_read _ _ _ p.1 q.1)
+same_galileo tree None (Some w) p q = absurd (none_read (galileo_codes (mode_of tree) w.message) tree w.signal p q.1)
+same_galileo tree (Some v) None p q = absurd (none_read (galileo_codes (mode_of tree) v.message) tree v.signal q p.1)
+same_galileo tree (Some v) (Some w) p q =
+    let message = same_read _ _ _ p.0 q.0 in
+    let codes : value_of (galileo_codes (mode_of tree) w.message) tree ≡ Ok v.signal = subst (λ (m : Message). value_of (galileo_codes (mode_of tree) m) tree ≡ Ok v.signal) message p.1 in
+    same_declared _ _ _ _ _ _ message (same_read _ _ _ codes q.1) (same_read _ _ _ p.2 q.2)
 
 pub one_value : (tree : Members) (v w : SettingsValue) → IsValue tree v → IsValue tree w → v ≡ w
 one_value tree v w p q =

@@ -6,8 +6,10 @@ use lib.Signed.{le_z}
 use Rattle.grid_model.specs.declared.boxes.Pos.{Pos}
 use Rattle.gnss_model.specs.declared.satellites.Signal.{Signal}
 use Rattle.gnss_model.specs.declared.satellites.Signal.TheVariants as signal
+use Rattle.gnss_model.specs.declared.systems.Message.{Message}
+use Rattle.gnss_model.specs.declared.systems.Message.TheVariants.{Fnav, Inav}
 use Rattle.toml.specs.Data.{Data, Items, no_items, item, as_str, as_integer, as_bool, as_array}
-use Rattle.error_bounds.specs.Sizes.{is_code}
+use Rattle.error_bounds.specs.Sizes.{is_code, band_of}
 use Rattle.error_bounds.specs.declared.fault.Fault.{Fault}
 use Rattle.error_bounds.specs.declared.fault.Fault.TheVariants.{WrongKind, Outside}
 use Rattle.error_bounds.specs.declared.signals.Mode.{Mode}
@@ -126,5 +128,17 @@ codes_for mode.Dual codes = dual_codes 50 codes
 abbrev pub code_list : Mode → Data → Result Signal Fault
 code_list which d = of_kind (as_list_of as_str d) (codes_for which)
 
-abbrev pub two_codes : ℕ → Data → Result Signal Fault
-two_codes band d = of_kind (as_list_of as_str d) (dual_codes band)
+-- `"F/NAV"` or `"I/NAV"`
+abbrev pub message_word : Data → Result Message Fault
+message_word d =
+    of_kind (as_str d) (λ text.
+    if is_text text (codes "F/NAV") then Ok Fnav
+    else right (is_text text (codes "I/NAV")) Inav)
+
+-- one code in single mode, and two in dual mode, of which the second is on the message's band
+abbrev pub galileo_codes_for : Mode → Message → List (List ℕ) → Result Signal Fault
+galileo_codes_for mode.Single message codes = codes_for mode.Single codes
+galileo_codes_for mode.Dual message codes = dual_codes (band_of message) codes
+
+abbrev pub galileo_list : Mode → Message → Data → Result Signal Fault
+galileo_list which message d = of_kind (as_list_of as_str d) (galileo_codes_for which message)

@@ -1,12 +1,14 @@
 -- The keys of the settings, in the order in which they are tested.
-use Rattle.std.specs.Prelude.{ℕ, Bool, false, ◌+◌, ◌-◌, ◌/◌, ◌%◌, ℤ, codes, List, [], ◌∷◌, ◌++◌, map, Option, None, Some, ok_or, Result, Ok, Err, true, is_some}
+use Rattle.std.specs.Prelude.{ℕ, Bool, cond, false, ◌+◌, ◌-◌, ◌/◌, ◌%◌, ℤ, codes, List, [], ◌∷◌, ◌++◌, map, Option, None, Some, ok_or, Result, Ok, Err, true, is_some}
 use Rattle.std.specs.List.{range_with_len}
 use Rattle.grid_model.specs.declared.boxes.Pos.{Pos}
 use Rattle.gnss_model.specs.declared.satellites.Sat.{Sat}
 use Rattle.gnss_model.specs.declared.satellites.Signal.{Signal}
+use Rattle.gnss_model.specs.declared.systems.Message.{Message}
+use Rattle.gnss_model.specs.declared.systems.Message.TheVariants.{Fnav, Inav}
 use Rattle.toml.specs.Data.{Data, Members, no_members, get_member, as_table}
 use Rattle.error_bounds.specs.Faults.{Found}
-use Rattle.error_bounds.specs.Forms.{count, length_from, truth, errors, place, half_sides, mode_word, code_list, two_codes}
+use Rattle.error_bounds.specs.Forms.{count, length_from, truth, errors, place, half_sides, mode_word, code_list, message_word, galileo_list}
 use Rattle.error_bounds.specs.declared.fault.Fault.{Fault}
 use Rattle.error_bounds.specs.declared.fault.Fault.TheVariants.{Missing, WrongKind, Outside}
 use Rattle.error_bounds.specs.declared.signals.Mode.{Mode}
@@ -106,9 +108,14 @@ zenith = record { table = codes "bounds"; name = codes "zenith"; form = errors 1
 abbrev pub vertical : Key (ℤ × ℤ)
 vertical = record { table = codes "bounds"; name = codes "vertical"; form = errors 100000 }
 
--- two codes of Galileo satellites, on E1 and E5a
-abbrev pub galileo_codes : Key Signal
-galileo_codes = record { table = codes "galileo"; name = codes "codes"; form = two_codes 53 }
+-- the message of Galileo whose records are used; it may be absent, and then it is F/NAV
+abbrev pub galileo_message : Key Message
+galileo_message = record { table = codes "galileo"; name = codes "message"; form = message_word }
+
+-- codes of Galileo satellites, on E1 and E5a by F/NAV, on E1 and E5b or on E1 alone by I/NAV
+abbrev pub galileo_codes : Mode → Message → Key Signal
+galileo_codes mode message =
+    record { table = codes "galileo"; name = codes "codes"; form = galileo_list mode message }
 
 -- c times the difference of the two system times: amounts of at most 1 km
 abbrev pub galileo_offset : Key (ℤ × ℤ)
@@ -220,7 +227,7 @@ bounds_tests tree =
     test receiver tree ∷ test orbit_clock tree ∷ test ionosphere tree ∷ test troposphere tree
     ∷ test_optional_at zenith tree ∷ test_optional_at vertical tree ∷ []
 
--- The table of Galileo may be absent. In single mode none is right.
+-- The table of Galileo may be absent. In single mode none is right by F/NAV.
 abbrev pub has_galileo : Members → Bool
 has_galileo tree = is_some (get_member (codes "galileo") tree)
 
@@ -228,21 +235,57 @@ abbrev pub not_in_single : Option Members → Result Signal Fault
 not_in_single None = Err WrongKind
 not_in_single (Some _) = Err Outside
 
--- the tests of its keys in dual mode
-abbrev pub galileo_keys : Members → List Test
-galileo_keys tree = test galileo_codes tree ∷ test galileo_offset tree ∷ []
+-- the message in the table; where that is no table, the codes tell of it
+abbrev pub message_there : Option Data → Result Message Fault
+message_there None = Ok Fnav
+message_there (Some d) = galileo_message.form d
 
-abbrev pub galileo_tests_by : Mode → Data → Members → List Test
-galileo_tests_by Single d tree =
-    record { key = printed galileo_codes; fault = fault_in (not_in_single (as_table d)) } ∷ []
-galileo_tests_by Dual d tree = galileo_keys tree
+abbrev pub message_in : Option Members → Result Message Fault
+message_in None = Ok Fnav
+message_in (Some members) = message_there (get_member (codes "message") members)
+
+-- the codes go by the mode and the message; where that has a fault of its own, it comes first
+abbrev pub message_or_fnav : Result Message Fault → Message
+message_or_fnav (Ok message) = message
+message_or_fnav (Err fault) = Fnav
+
+-- F/NAV is no message for one code
+abbrev pub lacks_codes : Mode → Message → Bool
+lacks_codes Single Fnav = true
+lacks_codes Single Inav = false
+lacks_codes Dual message = false
+
+-- the tests of the other keys
+abbrev pub galileo_keys : Mode → Message → Members → List Test
+galileo_keys mode message tree =
+    test (galileo_codes mode message) tree ∷ test galileo_offset tree ∷ []
+
+abbrev pub galileo_tests_with : Mode → Message → Data → Members → List Test
+galileo_tests_with mode message d tree =
+    cond (lacks_codes mode message)
+    (record { key = printed (galileo_codes mode message); fault = fault_in (not_in_single (as_table d)) }
+    ∷ [])
+    (galileo_keys mode message tree)
+
+abbrev pub galileo_tests_by : Mode → Result Message Fault → Data → Members → List Test
+galileo_tests_by mode message d tree =
+    record { key = printed galileo_message; fault = fault_in message }
+    ∷ galileo_tests_with mode (message_or_fnav message) d tree
 
 abbrev pub galileo_tests_in : Option Data → Members → List Test
 galileo_tests_in None tree = []
-galileo_tests_in (Some d) tree = galileo_tests_by (mode_of tree) d tree
+galileo_tests_in (Some d) tree = galileo_tests_by (mode_of tree) (message_in (as_table d)) d tree
 
 abbrev pub galileo_tests : Members → List Test
 galileo_tests tree = galileo_tests_in (get_member (codes "galileo") tree) tree
+
+-- the message of a tree
+abbrev pub message_from : Option Data → Result Message Fault
+message_from None = Ok Fnav
+message_from (Some d) = message_in (as_table d)
+
+abbrev pub message_at : Members → Result Message Fault
+message_at tree = message_from (get_member (codes "galileo") tree)
 
 -- the table of the receiver's motion may be absent too
 abbrev pub motion_tests : Members → List Test

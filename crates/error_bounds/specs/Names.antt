@@ -5,8 +5,10 @@ use Rattle.std.specs.Cmp.Lexicographic.{slice_cmp}
 use Rattle.std.specs.List.{list_any, All, Contains}
 use Rattle.std.specs.Ordering.{nat_cmp, is_lt}
 use Rattle.toml.specs.Data.{Data, Members, no_members, member, get_member, as_table}
+use Rattle.gnss_model.specs.declared.systems.Message.TheVariants.{Fnav}
+use Rattle.error_bounds.specs.declared.signals.Mode.TheVariants.{Dual}
 use Rattle.error_bounds.specs.Forms.{is_text}
-use Rattle.error_bounds.specs.Keys.{Test, dotted, has_galileo, galileo_keys, search_tests, signal_tests, bounds_tests, motion_tests}
+use Rattle.error_bounds.specs.Keys.{Test, dotted, has_galileo, galileo_message, galileo_keys, printed, search_tests, signal_tests, bounds_tests, motion_tests}
 
 -- the members with a name that isn't known, each as its name is printed
 abbrev pub strangers : (List ℕ → Bool) → (List ℕ → List ℕ) → Members → List (List ℕ)
@@ -51,6 +53,11 @@ abbrev pub strangers_among : List ℕ → List Test → Members → List (List �
 strangers_among table tests tree =
     strangers_at table (λ name. is_key tests (dotted table name)) tree
 
+-- the names in the table of Galileo are the same in each mode and by each message
+abbrev pub galileo_names : Members → List Test
+galileo_names tree =
+    record { key = printed galileo_message; fault = None } ∷ galileo_keys Dual Fnav tree
+
 -- all names in a tree that aren't known
 abbrev pub unknown : Members → List (List ℕ)
 unknown tree =
@@ -58,7 +65,7 @@ unknown tree =
     ++ (strangers_among (codes "search") (search_tests tree) tree
     ++ (strangers_among (codes "signal") (signal_tests tree) tree
     ++ (strangers_among (codes "bounds") (bounds_tests tree) tree
-    ++ (strangers_among (codes "galileo") (galileo_keys tree) tree
+    ++ (strangers_among (codes "galileo") (galileo_names tree) tree
     ++ (strangers_among (codes "motion") (motion_tests tree) tree
     ++ strangers_at (codes "satellite") (is_satellite (has_galileo tree)) tree)))))
 

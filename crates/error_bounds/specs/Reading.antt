@@ -6,6 +6,7 @@ use Rattle.sat_model.specs.Relaxed.{ends}
 use Rattle.grid_model.specs.declared.boxes.Pos.{Pos}
 use Rattle.gnss_model.specs.declared.satellites.Sat.{Sat}
 use Rattle.gnss_model.specs.declared.satellites.Signal.{Signal}
+use Rattle.gnss_model.specs.declared.satellites.GalileoUse.{GalileoUse}
 use Rattle.grid_model.specs.declared.spans.Span.{Span}
 use Rattle.error_bounds.specs.Faults.{Found, IsCut, number_of}
 use Rattle.error_bounds.specs.Keys.{Test, data_at, dotted, if_there, first_found}
@@ -35,12 +36,17 @@ with_ends extra = map (λ e. (e.0, ends e.1)) extra
 
 -- what is declared for Galileo satellites, as a plain value
 abbrev pub galileo_value : Galileo → GalileoValue
-galileo_value g = record { signal = g.signal; offset = ends g.offset }
+galileo_value g = record { message = g.message; signal = g.signal; offset = ends g.offset }
 
 -- the codes of Galileo that are declared
 abbrev pub signal_of : Option GalileoValue → Option Signal
 signal_of None = None
 signal_of (Some galileo) = Some galileo.signal
+
+-- and by which message its satellites are used
+abbrev pub galileo_use_of : Option GalileoValue → Option GalileoUse
+galileo_use_of None = None
+galileo_use_of (Some galileo) = Some (record { message = galileo.message; signal = galileo.signal })
 
 -- settings as a plain value
 abbrev pub value_of_settings : Settings → SettingsValue

@@ -17,7 +17,8 @@ knows scope.Bounds name =
     list_any (is_text name)
     (codes "receiver" ∷ codes "orbit_clock" ∷ codes "ionosphere" ∷ codes "troposphere"
     ∷ codes "zenith" ∷ codes "vertical" ∷ [])
-knows scope.Galileo name = list_any (is_text name) (codes "codes" ∷ codes "offset" ∷ [])
+knows scope.Galileo name =
+    list_any (is_text name) (codes "message" ∷ codes "codes" ∷ codes "offset" ∷ [])
 knows scope.Motion name = list_any (is_text name) (codes "speed" ∷ [])
 knows (scope.Satellite both) name = is_satellite both name
 

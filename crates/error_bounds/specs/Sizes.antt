@@ -7,6 +7,8 @@ use Rattle.grid_model.specs.declared.boxes.Pos.{Pos}
 use Rattle.gnss_model.specs.declared.satellites.Sat.{Sat}
 use Rattle.gnss_model.specs.declared.satellites.Signal.{Signal}
 use Rattle.gnss_model.specs.declared.satellites.Signal.TheVariants.{Single, Dual}
+use Rattle.gnss_model.specs.declared.systems.Message.{Message}
+use Rattle.gnss_model.specs.declared.systems.Message.TheVariants.{Fnav, Inav}
 use Rattle.grid_model.specs.declared.spans.Span.{Span}
 use Rattle.error_bounds.specs.declared.settings.Centre.{Centre}
 use Rattle.error_bounds.specs.declared.settings.Centre.TheVariants.{At}
@@ -64,6 +66,17 @@ are_codes (Dual first second) = is_code 49 first && is_code 50 second
 abbrev pub are_codes_on : ℕ → Signal → Bool
 are_codes_on band (Single code) = false
 are_codes_on band (Dual first second) = is_code 49 first && is_code band second
+
+-- the digit of the other band of a message of Galileo: 5 is that of E5a, 7 that of E5b (RINEX 3,
+-- table A2)
+abbrev pub band_of : Message → ℕ
+band_of Fnav = 53
+band_of Inav = 55
+
+-- one code on E1, or one there and one on the other band
+abbrev pub are_codes_of : Message → Signal → Bool
+are_codes_of message (Single code) = is_code 49 code
+are_codes_of message (Dual first second) = are_codes_on (band_of message) (Dual first second)
 
 -- each satellite's own span is a declared one
 abbrev pub AreDeclared : List (Sat × Span) → Type 0

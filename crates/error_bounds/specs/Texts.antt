@@ -4,6 +4,7 @@ use Rattle.std.specs.List.{filter_map}
 use Rattle.grid_model.specs.declared.boxes.Pos.{Pos}
 use Rattle.gnss_model.specs.declared.satellites.Sat.{Sat}
 use Rattle.gnss_model.specs.declared.satellites.Signal.{Signal}
+use Rattle.gnss_model.specs.declared.systems.Message.{Message}
 use Rattle.toml.specs.Data.{Members, get_member}
 use Rattle.toml.specs.Parse.{parse_document}
 use Rattle.error_bounds.specs.Faults.{Found}
@@ -15,6 +16,7 @@ use Rattle.error_bounds.specs.declared.settings.Centre.{Centre}
 
 -- what is declared for Galileo satellites
 pub record GalileoValue : Type 0 where
+  pub message : Message
   pub signal : Signal
   pub offset : ℤ × ℤ
 
@@ -58,7 +60,8 @@ extra_in both (Err fault) = []
 abbrev pub IsGalileo : Members → Option GalileoValue → Type 0
 IsGalileo tree None = get_member (codes "galileo") tree ≡ None
 IsGalileo tree (Some g) =
-    (key.value_of key.galileo_codes tree ≡ Ok g.signal)
+    (key.message_at tree ≡ Ok g.message)
+    × (key.value_of (key.galileo_codes (key.mode_of tree) g.message) tree ≡ Ok g.signal)
     × (key.value_of key.galileo_offset tree ≡ Ok g.offset)
 
 -- the value that the keys of a tree give

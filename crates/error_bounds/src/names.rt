@@ -38,7 +38,7 @@ impl Scope {
             Scope::Search => is_search_key(name),
             Scope::Signal => name == "mode" || name == "codes",
             Scope::Bounds => is_bound(name),
-            Scope::Galileo => name == "codes" || name == "offset",
+            Scope::Galileo => name == "message" || name == "codes" || name == "offset",
             Scope::Motion => name == "speed",
             Scope::Satellite { both } => is_satellite(name, both),
         }

@@ -7,7 +7,7 @@ ghost use Rattle.error_bounds.specs.Sizes.{IsCentre, AreHalfSides, IsSumOfFour, 
 use crate::bounds::sum;
 use crate::galileo::Galileo;
 use crate::search_box::box_around;
-use gnss_model::{Delays, Sat, Signal};
+use gnss_model::{Delays, GalileoUse, Sat, Signal};
 use grid_model::{Box3, Pos, Span};
 use sat_model::Rules;
 
@@ -61,7 +61,7 @@ impl Settings {
     ghost use Rattle.grid_model.specs.Boxes.{grid_box};
     ghost use Rattle.sat_model.specs.Relaxed.{ends};
     ghost use Rattle.grid_model.specs.SearchBoxes.{IsSearchBox};
-    ghost use Rattle.error_bounds.specs.Reading.{value_of_settings, signal_of, with_ends, bound_for, extra_for, offset_for, centre_with, IsEnough, IsRoot};
+    ghost use Rattle.error_bounds.specs.Reading.{value_of_settings, signal_of, galileo_use_of, with_ends, bound_for, extra_for, offset_for, centre_with, IsEnough, IsRoot};
 
     /// The codes of Galileo satellites, where these are used.
     pub fn galileo_signal(&self) -> Option<Signal>
@@ -69,6 +69,19 @@ impl Settings {
     {
         match self.galileo {
             Some(galileo) => Some(galileo.signal),
+            None => None,
+        }
+    }
+
+    /// By which message and with which codes Galileo satellites are used, where they are.
+    pub fn galileo_use(&self) -> Option<GalileoUse>
+        ensures { result ≡ galileo_use_of (value_of_settings self.now).galileo }
+    {
+        match self.galileo {
+            Some(galileo) => Some(GalileoUse {
+                message: galileo.message,
+                signal: galileo.signal,
+            }),
             None => None,
         }
     }

@@ -3,12 +3,13 @@
 ghost use Rattle.std.specs.Prelude.{◌≡◌, false, true, is_some, IfOk, IfNone, IfSome};
 ghost use Rattle.toml.specs.Data.{as_str};
 ghost use Rattle.toml.specs.View.{items_view};
-ghost use Rattle.error_bounds.specs.Forms.{all_members, of_kind, codes_for, dual_codes, mode_word, code_list, two_codes};
-ghost use Rattle.error_bounds.specs.Sizes.{is_code, is_capital, are_codes, are_codes_on};
+ghost use Rattle.error_bounds.specs.Forms.{all_members, of_kind, codes_for, dual_codes, mode_word, code_list, message_word, galileo_list};
+ghost use Rattle.error_bounds.specs.Sizes.{is_code, is_capital, band_of, are_codes, are_codes_on, are_codes_of};
+ghost use Rattle.gnss_model.specs.declared.systems.Message.{Message};
 
 use crate::fault::Fault;
 use crate::form::Form;
-use gnss_model::Signal;
+use gnss_model::{Message, Signal};
 use toml::Value;
 
 /// Whether one code is used, or two.
@@ -28,11 +29,16 @@ pub struct Codes {
     pub mode: Mode,
 }
 
-/// A list of one code on the first band and one on another band.
+/// `"F/NAV"` or `"I/NAV"`.
 #[derive(Clone, Copy)]
-pub struct TwoCodes {
-    /// The digit of the other band.
-    pub band: u8,
+pub struct MessageWord;
+
+/// A list of codes of Galileo: of one on E1 in single mode, and in dual mode of that and one on the
+/// other band of the message.
+#[derive(Clone, Copy)]
+pub struct GalileoCodes {
+    pub mode: Mode,
+    pub message: Message,
 }
 
 impl Form for ModeWord {
@@ -77,12 +83,33 @@ impl Form for Codes {
     }
 }
 
-impl Form for TwoCodes {
+impl Form for MessageWord {
+    type Output = Message;
+
+    ghost reads = { λ form d r. r ≡ message_word d };
+
+    ghost allows = { λ form message. Unit {0} };
+
+    fn read(&self, value: &Value) -> Result<Message, Fault> {
+        let Some(text) = value.as_str() else {
+            return Err(Fault::WrongKind);
+        };
+        if text == "F/NAV" {
+            Ok(Message::Fnav)
+        } else if text == "I/NAV" {
+            Ok(Message::Inav)
+        } else {
+            Err(Fault::Outside)
+        }
+    }
+}
+
+impl Form for GalileoCodes {
     type Output = Signal;
 
-    ghost reads = { λ form d r. r ≡ two_codes form.band d };
+    ghost reads = { λ form d r. r ≡ galileo_list form.mode form.message d };
 
-    ghost allows = { λ form signal. are_codes_on form.band signal ≡ true };
+    ghost allows = { λ form signal. are_codes_of form.message signal ≡ true };
 
     fn read(&self, value: &Value) -> Result<Signal, Fault> {
         let Some(items) = value.as_array() else {
@@ -91,7 +118,13 @@ impl Form for TwoCodes {
         if !are_texts(items) {
             return Err(Fault::WrongKind);
         }
-        dual(items, self.band)
+        match self.mode {
+            Mode::Single => single(items),
+            Mode::Dual => match self.message {
+                Message::Fnav => dual(items, b'5'),
+                Message::Inav => dual(items, b'7'),
+            },
+        }
     }
 }
 
@@ -101,6 +134,8 @@ fn single(items: &[Value]) -> Result<Signal, Fault>
     ensures value { result
         ≡ of_kind (all_members as_str (items_view items.now)) (codes_for Mode.Single) }
     ensures codes { IfOk result (λ signal. are_codes signal ≡ true) }
+    ensures galileo { IfOk result
+        (λ signal. (message : Message) → are_codes_of message signal ≡ true) }
 {
     let [item] = items else {
         return Err(Fault::Outside);
@@ -119,6 +154,8 @@ fn dual(items: &[Value], band: u8) -> Result<Signal, Fault>
     requires { is_some (all_members as_str (items_view items.now)) ≡ true }
     ensures value { result ≡ of_kind (all_members as_str (items_view items.now)) (dual_codes band) }
     ensures codes { IfOk result (λ signal. are_codes_on band signal ≡ true) }
+    ensures galileo { IfOk result
+        (λ signal. (message : Message) → band_of message ≡ band → are_codes_of message signal ≡ true) }
 {
     let [first, second] = items else {
         return Err(Fault::Outside);

@@ -23,7 +23,7 @@ impl<'a> RowSource for BothRows<'a> {
     ghost meaning = { λ source. both_meaning source.nav.now source.settings.now };
 
     fn lines(&self, alloc: Global, epoch: &ObsEpoch, root: &Box3) -> Result<EpochRows, NoMemory> {
-        let galileo = self.settings.galileo_signal();
+        let galileo = self.settings.galileo_use();
         rows_by(alloc, epoch, self.nav, self.settings, root, &galileo)
     }
 

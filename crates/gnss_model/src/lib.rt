@@ -19,6 +19,6 @@ pub use record_bounds::{
     AGEING_BOUND, ANGLE_BOUND, ANGLE_SWING_BOUND, DELAY_BOUND, DRIFT_BOUND, ECCENTRICITY_BOUND,
     GREATEST_ROOT_A, LEAST_ROOT_A, OFFSET_BOUND, RADIUS_SWING_BOUND, RATE_BOUND, WEEK,
 };
-pub use satellites::{Sat, Signal, Skip};
+pub use satellites::{GalileoUse, Sat, Signal, Skip};
 pub use spares::{err_spare, spare};
-pub use systems::System;
+pub use systems::{Message, System};

@@ -1,5 +1,7 @@
 //! Satellites, which codes of them are used, and why one isn't.
 
+use crate::systems::Message;
+
 /// A satellite: the letter of its system (`b'G'` for GPS, `b'E'` for Galileo) and its number.
 #[derive(Clone, Copy, Debug, PartialEq, Eq, PartialOrd, Ord, Hash)]
 pub struct Sat {
@@ -20,4 +22,12 @@ pub struct Skip {
 pub enum Signal {
     Single { code: [u8; 3] },
     Dual { first: [u8; 3], second: [u8; 3] },
+}
+
+/// How the satellites of Galileo are used: by the ephemerides of which message, and with which
+/// codes.
+#[derive(Clone, Copy, Debug, PartialEq, Eq)]
+pub struct GalileoUse {
+    pub message: Message,
+    pub signal: Signal,
 }

@@ -1,8 +1,9 @@
 -- What a text that was read or refused settles.
-use Rattle.std.proofs.Common.{◌≡◌, ℕ, Bool, true, false, List, [], ◌∷◌, Result, Ok, Err, inl, inr, refl, ap, sym}
+use Rattle.std.proofs.Common.{Option, ◌≡◌, ℕ, Bool, true, false, List, [], ◌∷◌, Result, Ok, Err, inl, inr, refl, ap, sym}
 use Rattle.std.proofs.Common.{◌∙◌}
 use Rattle.command_words.specs.Commands.{Epochs}
 use Rattle.paving_log.specs.declared.log.LogError.{LogError}
+use Rattle.gnss_model.specs.declared.systems.Message.{Message}
 use Rattle.rinex_nav.specs.Files as nav
 use Rattle.rinex_obs.specs.Files as obs
 use Rattle.rinex_text.specs.Lines.{lines_of}
@@ -61,7 +62,7 @@ no_first of IsText First bytes log is _ names = names
 -- ---- files with lines
 
 -- what was read has no first fault
-pub no_nav_fault : (both : Bool) (bytes : List ℕ)
+pub no_nav_fault : (both : Option Message) (bytes : List ℕ)
     → ((r : Refusal) → nav.IsFirstFaultOf both bytes r → ⊥) → (n : Notice)
     → NamesNavFault both bytes n → ⊥
 no_nav_fault both bytes none (notice.BadInput (input.Nav r)) is = none r is
@@ -88,7 +89,7 @@ file_settles text bytes input_of (Refused r) none =
 file_settles text bytes input_of NoMemory none =
     memory_settles text bytes notice.NoMemory refl
 
-pub nav_gives : (both : Bool) (bytes : List ℕ) (e : ReadError)
+pub nav_gives : (both : Option Message) (bytes : List ℕ) (e : ReadError)
     → Refuses (nav.nav_file_of both (lines_of bytes)) e
     → GivesOrEnds (nav_text both) bytes (Err (notice_of_file (λ r. input.Nav r) e))
 nav_gives both bytes (Refused r) refuses = inr (refl, refuses)

@@ -1,6 +1,6 @@
 -- What is read from the three files of a receiver, in one order: the settings, the navigation file,
 -- the observation file.
-use Rattle.std.specs.Prelude.{◌≡◌, ℕ, Bool, true, false, List, [], ◌∷◌, is_some}
+use Rattle.std.specs.Prelude.{◌≡◌, ℕ, Bool, true, false, List, [], ◌∷◌, Option, option_map}
 use Rattle.command_words.specs.Commands.{Epochs, Files}
 use Rattle.error_bounds.specs.Reading.{value_of_settings, signal_of, IsKnown, IsEnough}
 use Rattle.error_bounds.specs.Texts as settings
@@ -8,6 +8,7 @@ use Rattle.error_bounds.specs.declared.settings.Centre.{Centre}
 use Rattle.error_bounds.specs.declared.settings.Centre.TheVariants.{Header, At}
 use Rattle.error_bounds.specs.declared.settings.Settings.{Settings}
 use Rattle.outer_io.specs.declared.slots.Slot.TheVariants as slot
+use Rattle.gnss_model.specs.declared.systems.Message.{Message}
 use Rattle.rinex_nav.specs.Files as nav
 use Rattle.rinex_nav.specs.Reading.{records_of}
 use Rattle.rinex_nav.specs.Records.{Broadcast}
@@ -46,25 +47,26 @@ settings_text moving = record {
 
 -- ---- the navigation file
 
--- where the settings have codes of Galileo, the satellites of both systems are read
-abbrev pub read_both : settings.SettingsValue → Bool
-read_both s = is_some (signal_of s.galileo)
+-- where the settings have codes of Galileo, the satellites of both systems are read, and the records
+-- of its message are kept
+abbrev pub message_of : settings.SettingsValue → Option Message
+message_of s = option_map (λ galileo. galileo.message) s.galileo
 
 abbrev pub sought_of : settings.SettingsValue → Sought
 sought_of s = record { gps = s.signal; galileo = signal_of s.galileo }
 
-abbrev pub NamesNavFault : Bool → List ℕ → Notice → Type 0
-NamesNavFault both bytes (notice.BadInput (fault.Nav refusal)) =
-    nav.IsFirstFaultOf both bytes refusal
-NamesNavFault both bytes _ = ⊥
+abbrev pub NamesNavFault : Option Message → List ℕ → Notice → Type 0
+NamesNavFault galileo bytes (notice.BadInput (fault.Nav refusal)) =
+    nav.IsFirstFaultOf galileo bytes refusal
+NamesNavFault galileo bytes _ = ⊥
 
-abbrev pub nav_text : Bool → Text (List NavRecord)
-nav_text both = record {
+abbrev pub nav_text : Option Message → Text (List NavRecord)
+nav_text galileo = record {
   role = role.Nav;
   Value = List Broadcast;
   value = records_of;
-  Spells = nav.IsNavFileOf both;
-  Names = NamesNavFault both;
+  Spells = nav.IsNavFileOf galileo;
+  Names = NamesNavFault galileo;
   Usual = λ records. Unit {0};
 }
 
@@ -129,7 +131,7 @@ ReadsObs limits names s records =
 
 abbrev pub ReadsNav : Limits → Files → settings.SettingsValue → Reading InputsValue
 ReadsNav limits names s =
-    Then (Named limits (nav_text (read_both s)) names.nav) (ReadsObs limits names s)
+    Then (Named limits (nav_text (message_of s)) names.nav) (ReadsObs limits names s)
 
 abbrev pub ReadsFor : Bool → Limits → Files → Reading InputsValue
 ReadsFor moving limits names =

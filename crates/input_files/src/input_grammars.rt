@@ -6,6 +6,7 @@ use crate::notice::Notice;
 use crate::role::Role;
 use command_words::Selection;
 use error_bounds::{Settings, read_settings};
+use gnss_model::Message;
 use rinex_nav::{Nav, read_nav_of};
 use rinex_obs::{Obs, Sought, read_obs_between};
 use std::alloc::Global;
@@ -33,23 +34,24 @@ impl Grammar<Settings> for SettingsText {
     }
 }
 
-/// The texts of navigation files, of which the records of GPS are read or those of `both` systems.
+/// The texts of navigation files, of which the records of GPS are read, and where a message of
+/// `galileo` is wanted its records too.
 #[derive(Clone, Copy)]
 pub struct NavText {
-    pub both: bool,
+    pub galileo: Option<Message>,
 }
 
 impl Grammar<Nav> for NavText {
     ghost use Rattle.input_files.specs.Inputs.{nav_text};
 
-    ghost text = { λ t. nav_text t.both };
+    ghost text = { λ t. nav_text t.galileo };
 
     fn role(&self) -> Role {
         Role::Nav
     }
 
     fn read(&self, alloc: Global, bytes: Vec<u8>) -> Result<Nav, Notice> {
-        match read_nav_of(alloc, &bytes, self.both) {
+        match read_nav_of(alloc, &bytes, self.galileo) {
             Ok(nav) => Ok(nav),
             Err(error) => Err(Notice::of_nav(error)),
         }

@@ -4,7 +4,7 @@ ghost use Rattle.std.specs.Prelude.{◌≡◌, IfOk};
 ghost use Rattle.command_words.specs.Seen.{files_asked};
 ghost use Rattle.error_bounds.specs.Reading.{value_of_settings};
 ghost use Rattle.input_files.specs.Inputs.{AreEnough, ReadsFor, input_files, inputs_value};
-ghost use Rattle.input_files.specs.Inputs.{sought_of, wants_position};
+ghost use Rattle.input_files.specs.Inputs.{sought_of, message_of, wants_position};
 ghost use Rattle.input_files.specs.Motion.{HasMotion, speed_of};
 ghost use Rattle.input_files.specs.Reading.{Found, OnlyReads, valued};
 
@@ -14,6 +14,7 @@ use crate::named::read_named;
 use crate::notice::Notice;
 use command_words::Files;
 use error_bounds::{Centre, Settings};
+use gnss_model::Message;
 use outer_io::Shelf;
 use rinex_nav::Nav;
 use rinex_obs::{Obs, Sought};
@@ -47,6 +48,16 @@ pub fn sought_of(settings: &Settings) -> Sought
     }
 }
 
+/// The message of Galileo whose records the settings want.
+pub fn message_of(settings: &Settings) -> Option<Message>
+    ensures { result ≡ message_of (value_of_settings settings.now) }
+{
+    match settings.galileo {
+        Some(galileo) => Some(galileo.message),
+        None => None,
+    }
+}
+
 /// Reads the settings, the navigation file and the observation file, each whole, and keeps of the
 /// epochs those that the words select. Each is accepted or refused before the next is begun. The
 /// settings of a receiver that moves are refused where they lack its greatest speed.
@@ -69,7 +80,7 @@ pub fn read_inputs<H: Shelf>(
     let settings = read_named(alloc, limits, words.settings, &wanted, shelf)?;
     let sought = sought_of(&settings);
     let text = NavText {
-        both: sought.are_both(),
+        galileo: message_of(&settings),
     };
     let nav = read_named(alloc, limits, words.nav, &text, shelf)?;
     let position = wants_position(settings.centre);

@@ -1,5 +1,5 @@
 -- A navigation file with made records is read as these records.
-use Rattle.std.proofs.Common.{Some, ◌≡◌, ℕ, ◌+◌, ◌*◌, ◌<◌, ◌≤◌, true, false, List, [], ◌∷◌, ◌++◌, length, map, refl, sym, ◌∙◌, arith, inl, inr, Ok, subst, length-append}
+use Rattle.std.proofs.Common.{None, Some, ◌≡◌, ℕ, ◌+◌, ◌*◌, ◌<◌, ◌≤◌, true, false, List, [], ◌∷◌, ◌++◌, length, map, refl, sym, ◌∙◌, arith, inl, inr, Ok, subst, length-append}
 use Rattle.std.specs.Prelude.{pos, neg_ℤ, codes}
 use Rattle.std.proofs.lemmas.Int.{ints}
 use Rattle.std.specs.List.{list_all, AllByRecursion}
@@ -17,7 +17,8 @@ use Rattle.rinex_text.specs.Dates.{IsGpsDate, gps_time}
 use Rattle.rinex_text.specs.Headers.{IsVersion, version_line, header_from}
 use Rattle.rinex_text.specs.Lines.{TextLine}
 use Rattle.rinex_text.proofs.DateLemmas.{in_time}
-use Rattle.rinex_nav.specs.Fields.{IsField, SourceFields, MiddleFields, LastFields, AllFields, IsClockTime, zero_decimal}
+use Rattle.rinex_nav.specs.Fields.{IsField, SourceFields, HealthFields, LastFields, AllFields, IsClockTime, zero_decimal}
+use Rattle.rinex_nav.specs.Sources.{is_inav, is_zero}
 use Rattle.rinex_nav.specs.Records.{is_read, clock_line, further_line, record_from}
 use Rattle.rinex_nav.specs.Records as reader
 use Rattle.rinex_nav.specs.Files.{records_from, nav_file, IsNavFile}
@@ -152,36 +153,36 @@ unfolding further_text
 blank a b c d = refl
 
 text_read : (a b c d : FieldNumber)
-    → reader.further_text false (plain (further_text a b c d)) (Ok tt)
+    → reader.further_text None (plain (further_text a b c d)) (Ok tt)
 text_read a b c d =
     let cell = further_cell a b c d in
     inl (omega (arith, cell.len), inl (inl (blank a b c d), inl (cell.printable, inl (blank a b c d, refl))))
 
 further_read : {V : Type 0} (AreFields : List ℕ → V → Type 0) (a b c d : FieldNumber) (v : V)
     → AreFields (further_text a b c d) v
-    → further_line false AreFields (plain (further_text a b c d)) (Ok v)
+    → further_line None AreFields (plain (further_text a b c d)) (Ok v)
 further_read AreFields a b c d v are = inl (tt, text_read a b c d, inl (v, are, refl))
 
 source_read : (a b c d : FieldNumber)
-    → further_line false (SourceFields 71) (plain (further_text a b c d)) (Ok (number_of a, zero_decimal))
+    → further_line None (SourceFields 71) (plain (further_text a b c d)) (Ok (number_of a, zero_decimal))
 source_read a b c d = further_read (SourceFields 71) a b c d (number_of a, zero_decimal) ((all_fields a b c d).0, inr ((λ e. absurd (omega (arith, e))), refl))
 
-middle_read : (a b c d : FieldNumber)
-    → further_line false MiddleFields (plain (further_text a b c d)) (Ok (number_of b, number_of c))
-middle_read a b c d = further_read MiddleFields a b c d (number_of b, number_of c) ((all_fields a b c d).1, (all_fields a b c d).2)
+health_read : (a b c d : FieldNumber)
+    → further_line None (HealthFields (is_inav None 71)) (plain (further_text a b c d)) (Ok (is_zero (number_of b).digits, number_of c))
+health_read a b c d = further_read (HealthFields false) a b c d (is_zero (number_of b).digits, number_of c) (number_of b, (all_fields a b c d).1, refl, (all_fields a b c d).2)
 
 last_read : (a b c d : FieldNumber)
-    → further_line false LastFields (plain (further_text a b c d)) (Ok (number_of b, number_of c, number_of d))
+    → further_line None LastFields (plain (further_text a b c d)) (Ok (number_of b, number_of c, number_of d))
 last_read a b c d = further_read LastFields a b c d (number_of b, number_of c, number_of d) ((all_fields a b c d).1, (all_fields a b c d).2, (all_fields a b c d).3)
 
 all_read : (a b c d : FieldNumber)
-    → further_line false AllFields (plain (further_text a b c d)) (Ok (number_of a, number_of b, number_of c, number_of d))
+    → further_line None AllFields (plain (further_text a b c d)) (Ok (number_of a, number_of b, number_of c, number_of d))
 all_read a b c d = further_read AllFields a b c d (number_of a, number_of b, number_of c, number_of d) (all_fields a b c d)
 
 -- ---- records
 
 record_read : (count number : ℕ) (r : Ephemeris) (more : List (List ℕ)) → IsNamed r → count < 200000
-    → record_from false count (record { number = number; lines = map plain (record_lines r more) }) (Ok (Some (broadcast_of r)))
+    → record_from None count (record { number = number; lines = map plain (record_lines r more) }) (Ok (Some (broadcast_of r)))
 record_read count number r more named few =
     inl (
       (record { system = 71; number = r.number }, pos (gps_time 2024 1 7 2 0 0), (number_of r.af0, number_of r.af1, number_of r.af2)),
@@ -202,8 +203,8 @@ record_read count number r more named few =
                 (number_of r.idot, zero_decimal),
                 source_read r.idot zero_field zero_field zero_field,
                 inl (
-                  (number_of zero_field, number_of r.tgd),
-                  middle_read zero_field zero_field r.tgd zero_field,
+                  (is_zero (number_of zero_field).digits, number_of r.tgd),
+                  health_read zero_field zero_field r.tgd zero_field,
                   inl (tt, text_read zero_field zero_field zero_field zero_field, inl ((λ e. absurd (omega (arith, e))), refl)),
                 ),
               ),
@@ -213,13 +214,13 @@ record_read count number r more named few =
       ),
     )
 
-begins : (r : Ephemeris) → is_read false (column_of (clock_text r) 1) ≡ true
+begins : (r : Ephemeris) → is_read None (column_of (clock_text r) 1) ≡ true
 unfolding clock_text
 begins r = refl
 
 body_read : (count number : ℕ) (records : List Ephemeris) → AreNamed records
     → count + length records ≤ 200000
-    → records_from false count number 0 (map plain (body_lines records)) (Ok (map broadcast_of records))
+    → records_from None count number 0 (map plain (body_lines records)) (Ok (map broadcast_of records))
 body_read count number [] named few = refl
 body_read count number (r ∷ records) named few =
     inl (
@@ -314,7 +315,7 @@ nav_read records named few =
       inl (
         record { number = 3; lines = body },
         header_read 2 body,
-        subst (λ (ls : List TextLine). records_from false 0 3 0 ls (Ok (map broadcast_of records))) (sym all) (body_read 0 3 records named (omega (arith, few))),
+        subst (λ (ls : List TextLine). records_from None 0 3 0 ls (Ok (map broadcast_of records))) (sym all) (body_read 0 3 records named (omega (arith, few))),
       ),
     ))
 

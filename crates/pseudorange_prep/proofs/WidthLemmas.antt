@@ -15,6 +15,7 @@ use Rattle.gnss_model.specs.Pseudorange.{IsSent}
 use Rattle.gnss_model.specs.Systems.{first_square, second_square, squares_apart}
 use Rattle.gnss_model.specs.declared.systems.System.{System}
 use Rattle.gnss_model.specs.declared.systems.System.TheVariants.{Gps, Galileo}
+use Rattle.gnss_model.specs.declared.systems.Message.TheVariants.{Fnav, Inav}
 use Rattle.grid_model.proofs.ProductLemmas.{mul_mono, mul_lt_back, distrib, add_mul, neg_mul}
 use Rattle.pseudorange_prep.specs.Ranges.{IsCode, IsNarrow}
 use Rattle.grid_model.proofs.IntervalLemmas.{one_number}
@@ -54,36 +55,42 @@ times_apart m a b h = omega (arith, ints, times_mono m b (a +ℤ pos 1) (omega (
 -- what is known of the squares of a system's frequencies
 squares_ordered : (y : System) → second_square y ≤ first_square y
 squares_ordered Gps = lit≤ tt
-squares_ordered Galileo = lit≤ tt
+squares_ordered (Galileo Fnav) = lit≤ tt
+squares_ordered (Galileo Inav) = lit≤ tt
 
 squares_near : (y : System) → first_square y + second_square y + 1 ≤ 5 * squares_apart y
 squares_near Gps = lit≤ tt
-squares_near Galileo = lit≤ tt
+squares_near (Galileo Fnav) = lit≤ tt
+squares_near (Galileo Inav) = lit≤ tt
 
 pub apart_positive : (y : System) → pos 0 <ℤ pos (squares_apart y)
 apart_positive Gps = record { lt = tt }
-apart_positive Galileo = record { lt = tt }
+apart_positive (Galileo Fnav) = record { lt = tt }
+apart_positive (Galileo Inav) = record { lt = tt }
 
 -- in 128 bits it is itself
 pub apart_is : (y : System) → to_z w128 (of_z w128 (pos (squares_apart y))) ≡ pos (squares_apart y)
 apart_is Gps = refl
-apart_is Galileo = refl
+apart_is (Galileo Fnav) = refl
+apart_is (Galileo Inav) = refl
 
 abbrev pub combined_amount : System → ℕ
 combined_amount y = first_square y * 40000000000000
 
 pub combined_small : (y : System) → combined_amount y ≤ 10 ^ 18
 combined_small Gps = lit≤ tt
-combined_small Galileo = lit≤ tt
+combined_small (Galileo message) = lit≤ tt
 
 pub combined_fits : (y : System) → combined_amount y * 1 ≤ (2 * 10 ^ 14 - 2) * squares_apart y
 combined_fits Gps = lit≤ tt
-combined_fits Galileo = lit≤ tt
+combined_fits (Galileo Fnav) = lit≤ tt
+combined_fits (Galileo Inav) = lit≤ tt
 
 pub combined_spreads : (y : System)
     → 1 * (combined_amount y + combined_amount y) ≤ 3 * 10 ^ 14 * squares_apart y
 combined_spreads Gps = lit≤ tt
-combined_spreads Galileo = lit≤ tt
+combined_spreads (Galileo Fnav) = lit≤ tt
+combined_spreads (Galileo Inav) = lit≤ tt
 
 -- between the codes, each times its square
 code_amount : (y : System) (a c : ℤ) → pos 0 ≤ℤ a → a ≤ℤ pos 40000000000000 → pos 0 ≤ℤ c

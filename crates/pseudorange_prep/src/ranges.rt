@@ -8,7 +8,7 @@ ghost use Rattle.grid_model.specs.Sizes.{IsWithin};
 ghost use Rattle.gnss_model.specs.Systems.{first_square, second_square, squares_apart};
 
 use fix_interval::Exact;
-use gnss_model::System;
+use gnss_model::{Message, System};
 use grid_model::Wide;
 
 /// A code times the square of the first frequency.
@@ -39,15 +39,21 @@ fn second_times(code: Wide, system: System) -> Wide
     ensures natural { pos 0 ≤ℤ result.lo }
     ensures most { result.hi ≤ℤ pos 1000000000000000000 }
 {
-    let System::Gps = system else {
+    let System::Galileo(message) = system else {
         return Wide {
-            lo: 13_225 * code.lo,
-            hi: 13_225 * code.hi,
+            lo: 3_600 * code.lo,
+            hi: 3_600 * code.hi,
+        };
+    };
+    let Message::Fnav = message else {
+        return Wide {
+            lo: 13_924 * code.lo,
+            hi: 13_924 * code.hi,
         };
     };
     Wide {
-        lo: 3_600 * code.lo,
-        hi: 3_600 * code.hi,
+        lo: 13_225 * code.lo,
+        hi: 13_225 * code.hi,
     }
 }
 
@@ -57,7 +63,8 @@ fn squares_apart(system: System) -> i128
 {
     match system {
         System::Gps => 2_329,
-        System::Galileo => 10_491,
+        System::Galileo(Message::Fnav) => 10_491,
+        System::Galileo(Message::Inav) => 9_792,
     }
 }
 

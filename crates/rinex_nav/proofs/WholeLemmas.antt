@@ -1,5 +1,5 @@
 -- The records of a navigation file that is read are those of its lines with `G`.
-use Rattle.std.proofs.Common.{◌≡◌, ℕ, zero, suc, ◌+◌, ◌∙◌, Bool, true, false, cond, Option, List, [], ◌∷◌, ◌++◌, take, refl, ap, sym, subst, inl, inr, arith, Result, Ok, Err, IfOk}
+use Rattle.std.proofs.Common.{is_some, ◌≡◌, ℕ, zero, suc, ◌+◌, ◌∙◌, Bool, true, false, cond, Option, List, [], ◌∷◌, ◌++◌, take, refl, ap, sym, subst, inl, inr, arith, Result, Ok, Err, IfOk}
 use Rattle.std.specs.Prelude.{◌==◌, ◌&&◌, ◌||◌}
 use Rattle.std.specs.List.{AllByRecursion}
 use Rattle.std.proofs.lemmas.Bool.Decides.{nat_tests}
@@ -12,7 +12,9 @@ use Rattle.rinex_text.specs.Whole.{OneForOne}
 use Rattle.rinex_text.specs.declared.fault.Fault.{Fault}
 use Rattle.rinex_text.specs.declared.fault.ReadError.{ReadError}
 use Rattle.rinex_text.specs.declared.fault.Refusal.{Refusal}
-use Rattle.rinex_nav.specs.Fields.{SourceFields, MiddleFields, LastFields, AllFields}
+use Rattle.gnss_model.specs.declared.systems.Message.{Message}
+use Rattle.rinex_nav.specs.Fields.{SourceFields, HealthFields, LastFields, AllFields}
+use Rattle.rinex_nav.specs.Sources.{is_inav}
 use Rattle.rinex_nav.specs.Files.{with_kept, with_first, records_from, IsNavFileOf}
 use Rattle.rinex_nav.specs.Reading.{records_of}
 use Rattle.rinex_nav.specs.Records.{Broadcast, is_read, further_text, further_line, record_from}
@@ -23,21 +25,21 @@ use Rattle.rinex_text.proofs.OnlyLemmas.{ok_same as same_ok}
 
 -- ---- the lines of a record
 
-abbrev IsNoStart : Bool → TextLine → Type 0
-IsNoStart both line = begins_record both line ≡ false
+abbrev IsNoStart : Option Message → TextLine → Type 0
+IsNoStart galileo line = begins_record galileo line ≡ false
 
-abbrev AreNoStarts : Bool → ℕ → List TextLine → Type 0
-AreNoStarts both count lines = AllByRecursion (IsNoStart both) (take count lines)
+abbrev AreNoStarts : Option Message → ℕ → List TextLine → Type 0
+AreNoStarts galileo count lines = AllByRecursion (IsNoStart galileo) (take count lines)
 
 -- a line that begins no record, before so many that don't
-first_more : {V X : Type 0} (both : Bool) (reader : TextLine → Result V Fault → Type 0) (number : ℕ) (lines : List TextLine) (later : V → Behind → Result X Refusal → Type 0) (x : X) (k : ℕ)
-    → ((line : TextLine) (v : V) → reader line (Ok v) → IsNoStart both line)
+first_more : {V X : Type 0} (galileo : Option Message) (reader : TextLine → Result V Fault → Type 0) (number : ℕ) (lines : List TextLine) (later : V → Behind → Result X Refusal → Type 0) (x : X) (k : ℕ)
+    → ((line : TextLine) (v : V) → reader line (Ok v) → IsNoStart galileo line)
     → first_of reader number lines later (Ok x)
-    → ((v : V) (next : Behind) → later v next (Ok x) → AreNoStarts both k next.lines)
-    → AreNoStarts both (suc k) lines
-first_more both reader number [] later x k start e rest = absurd cc
-first_more both reader number (line ∷ more) later x k start (inl (v, is, goes)) rest = (start line v is, rest v (record { number = number + 1; lines = more }) goes)
-first_more both reader number (line ∷ more) later x k start (inr (f, is, e)) rest = absurd cc
+    → ((v : V) (next : Behind) → later v next (Ok x) → AreNoStarts galileo k next.lines)
+    → AreNoStarts galileo (suc k) lines
+first_more galileo reader number [] later x k start e rest = absurd cc
+first_more galileo reader number (line ∷ more) later x k start (inl (v, is, goes)) rest = (start line v is, rest v (record { number = number + 1; lines = more }) goes)
+first_more galileo reader number (line ∷ more) later x k start (inr (f, is, e)) rest = absurd cc
 
 no_letter : (byte letter : ℕ) → is_blank byte ≡ true → is_blank letter ≡ false
     → (byte == letter) ≡ false
@@ -46,64 +48,64 @@ no_letter byte letter blank other = elim (byte == letter) as (λ b. (b ≡ true 
   | false ↦ λ is. refl
 ] (λ e. grind (arith, nat_tests))
 
-none_of : (both g e : Bool) → g ≡ false → e ≡ false → (g || (both && e)) ≡ false
-none_of both true e p q = absurd cc
+none_of : (some g e : Bool) → g ≡ false → e ≡ false → (g || (some && e)) ≡ false
+none_of galileo true e p q = absurd cc
 none_of true false true p q = absurd cc
 none_of true false false p q = refl
 none_of false false e p q = refl
 
-no_start : (both : Bool) (byte : ℕ) → is_blank byte ≡ true → is_read both byte ≡ false
-no_start both byte blank = none_of both (byte == 71) (byte == 69) (no_letter byte 71 blank refl) (no_letter byte 69 blank refl)
+no_start : (galileo : Option Message) (byte : ℕ) → is_blank byte ≡ true → is_read galileo byte ≡ false
+no_start galileo byte blank = none_of (is_some galileo) (byte == 71) (byte == 69) (no_letter byte 71 blank refl) (no_letter byte 69 blank refl)
 
-blank_first : (both : Bool) (line : TextLine) (passed : Unit {0})
-    → further_text both line (Ok passed) → IsNoStart both line
-blank_first both line passed (inl (short, inl (may, inl (printable, inl (blank, e))))) = no_start both (column_of line.text 1) blank
-blank_first both line passed (inl (short, inl (may, inl (printable, inr (other, e))))) = absurd cc
-blank_first both line passed (inl (short, inl (may, inr (other, e)))) = absurd cc
-blank_first both line passed (inl (short, inr (other, e))) = absurd cc
-blank_first both line passed (inr (other, e)) = absurd cc
+blank_first : (galileo : Option Message) (line : TextLine) (passed : Unit {0})
+    → further_text galileo line (Ok passed) → IsNoStart galileo line
+blank_first galileo line passed (inl (short, inl (may, inl (printable, inl (blank, e))))) = no_start galileo (column_of line.text 1) blank
+blank_first galileo line passed (inl (short, inl (may, inl (printable, inr (other, e))))) = absurd cc
+blank_first galileo line passed (inl (short, inl (may, inr (other, e)))) = absurd cc
+blank_first galileo line passed (inl (short, inr (other, e))) = absurd cc
+blank_first galileo line passed (inr (other, e)) = absurd cc
 
-further_no_start : {V : Type 0} (both : Bool) (AreFields : List ℕ → V → Type 0) (line : TextLine) (v : V)
-    → further_line both AreFields line (Ok v) → IsNoStart both line
-further_no_start both AreFields line v (inl (passed, text, fields)) = blank_first both line passed text
-further_no_start both AreFields line v (inr (f, text, e)) = absurd cc
+further_no_start : {V : Type 0} (galileo : Option Message) (AreFields : List ℕ → V → Type 0) (line : TextLine) (v : V)
+    → further_line galileo AreFields line (Ok v) → IsNoStart galileo line
+further_no_start galileo AreFields line v (inl (passed, text, fields)) = blank_first galileo line passed text
+further_no_start galileo AreFields line v (inr (f, text, e)) = absurd cc
 
-seven_more : (both : Bool) (count number : ℕ) (line : TextLine) (more : List TextLine) (r : Option Broadcast)
-    → record_from both count (record { number = number; lines = line ∷ more }) (Ok r)
-    → AreNoStarts both 7 more
-seven_more both count number line more r (inl (clock, is, goes)) =
-    first_more both (further_line both LastFields) (number + 1) more _ r 6 (further_no_start both LastFields) goes (λ a l2 g2.
-    first_more both (further_line both AllFields) l2.number l2.lines _ r 5 (further_no_start both AllFields) g2 (λ b l3 g3.
-    first_more both (further_line both AllFields) l3.number l3.lines _ r 4 (further_no_start both AllFields) g3 (λ c l4 g4.
-    first_more both (further_line both AllFields) l4.number l4.lines _ r 3 (further_no_start both AllFields) g4 (λ d l5 g5.
-    first_more both (further_line both (SourceFields clock.0.system)) l5.number l5.lines _ r 2 (further_no_start both (SourceFields clock.0.system)) g5 (λ source l6 g6.
-    first_more both (further_line both MiddleFields) l6.number l6.lines _ r 1 (further_no_start both MiddleFields) g6 (λ health l7 g7.
-    first_more both (further_text both) l7.number l7.lines _ r 0 (blank_first both) g7 (λ none l8 g8. tt)))))))
-seven_more both count number line more r (inr (f, is, e)) = absurd cc
+seven_more : (galileo : Option Message) (count number : ℕ) (line : TextLine) (more : List TextLine) (r : Option Broadcast)
+    → record_from galileo count (record { number = number; lines = line ∷ more }) (Ok r)
+    → AreNoStarts galileo 7 more
+seven_more galileo count number line more r (inl (clock, is, goes)) =
+    first_more galileo (further_line galileo LastFields) (number + 1) more _ r 6 (further_no_start galileo LastFields) goes (λ a l2 g2.
+    first_more galileo (further_line galileo AllFields) l2.number l2.lines _ r 5 (further_no_start galileo AllFields) g2 (λ b l3 g3.
+    first_more galileo (further_line galileo AllFields) l3.number l3.lines _ r 4 (further_no_start galileo AllFields) g3 (λ c l4 g4.
+    first_more galileo (further_line galileo AllFields) l4.number l4.lines _ r 3 (further_no_start galileo AllFields) g4 (λ d l5 g5.
+    first_more galileo (further_line galileo (SourceFields clock.0.system)) l5.number l5.lines _ r 2 (further_no_start galileo (SourceFields clock.0.system)) g5 (λ source l6 g6.
+    first_more galileo (further_line galileo (HealthFields (is_inav galileo clock.0.system))) l6.number l6.lines _ r 1 (further_no_start galileo (HealthFields (is_inav galileo clock.0.system))) g6 (λ health l7 g7.
+    first_more galileo (further_text galileo) l7.number l7.lines _ r 0 (blank_first galileo) g7 (λ none l8 g8. tt)))))))
+seven_more galileo count number line more r (inr (f, is, e)) = absurd cc
 
 -- ---- the records
 
 -- all records of some lines, and those of them that are kept
-record IsAllOf (both : Bool) (lines : List TextLine) (records : List Broadcast) : Type 0 where
+record IsAllOf (galileo : Option Message) (lines : List TextLine) (records : List Broadcast) : Type 0 where
   all : List (Option Broadcast)
-  are : OneForOne (IsRecordOf both) (from_first_lines both lines) all
+  are : OneForOne (IsRecordOf galileo) (from_first_lines galileo lines) all
   kept : records ≡ kept_of all
 
-passed_over : (both : Bool) (line : TextLine) (more : List TextLine) (records : List Broadcast)
-    → begins_record both line ≡ false → IsAllOf both more records
-    → IsAllOf both (line ∷ more) records
-passed_over both line more records other a = record {
+passed_over : (galileo : Option Message) (line : TextLine) (more : List TextLine) (records : List Broadcast)
+    → begins_record galileo line ≡ false → IsAllOf galileo more records
+    → IsAllOf galileo (line ∷ more) records
+passed_over galileo line more records other a = record {
   all = a.all;
-  are = subst (λ (b : Bool). OneForOne (IsRecordOf both) (cond b ((line ∷ more) ∷ from_first_lines both more) (from_first_lines both more)) a.all) (sym other) a.are;
+  are = subst (λ (b : Bool). OneForOne (IsRecordOf galileo) (cond b ((line ∷ more) ∷ from_first_lines galileo more) (from_first_lines galileo more)) a.all) (sym other) a.are;
   kept = a.kept;
 }
 
-begun : (both : Bool) (line : TextLine) (more : List TextLine) (r : Option Broadcast) (rest records : List Broadcast)
-    → begins_record both line ≡ true → IsRecordOf both (line ∷ more) r → IsAllOf both more rest
-    → records ≡ with_kept r rest → IsAllOf both (line ∷ more) records
-begun both line more r rest records begins is a e = record {
+begun : (galileo : Option Message) (line : TextLine) (more : List TextLine) (r : Option Broadcast) (rest records : List Broadcast)
+    → begins_record galileo line ≡ true → IsRecordOf galileo (line ∷ more) r → IsAllOf galileo more rest
+    → records ≡ with_kept r rest → IsAllOf galileo (line ∷ more) records
+begun galileo line more r rest records begins is a e = record {
   all = r ∷ a.all;
-  are = subst (λ (b : Bool). OneForOne (IsRecordOf both) (cond b ((line ∷ more) ∷ from_first_lines both more) (from_first_lines both more)) (r ∷ a.all)) (sym begins) (is, a.are);
+  are = subst (λ (b : Bool). OneForOne (IsRecordOf galileo) (cond b ((line ∷ more) ∷ from_first_lines galileo more) (from_first_lines galileo more)) (r ∷ a.all)) (sym begins) (is, a.are);
   kept = e ∙ ap (with_kept r) a.kept;
 }
 
@@ -114,23 +116,23 @@ rest_of : (r : Option Broadcast) (more : Result (List Broadcast) Refusal) (recor
 rest_of r (Ok rest) records e = (rest, refl, same_ok records (with_kept r rest) e)
 rest_of r (Err f) records e = absurd cc
 
-none_read : (both : Bool) (records : List Broadcast)
-    → ◌≡◌ {A = Result (List Broadcast) Refusal} (Ok records) (Ok []) → IsAllOf both [] records
-none_read both records e = record { all = []; are = tt; kept = same_ok records [] e }
+none_read : (galileo : Option Message) (records : List Broadcast)
+    → ◌≡◌ {A = Result (List Broadcast) Refusal} (Ok records) (Ok []) → IsAllOf galileo [] records
+none_read galileo records e = record { all = []; are = tt; kept = same_ok records [] e }
 
-records_walk : (both : Bool) (count number skip : ℕ) (lines : List TextLine) (records : List Broadcast) → AreNoStarts both skip lines → records_from both count number skip lines (Ok records)
-    → IsAllOf both lines records
-records_walk both count number zero [] records none e = none_read both records e
-records_walk both count number (suc skip) [] records none e = none_read both records e
-records_walk both count number (suc skip) (line ∷ more) records none h = passed_over both line more records none.0 (records_walk both count (number + 1) skip more records none.1 h)
-records_walk both count number zero (line ∷ more) records none (inl (begins, inl (r, is, given))) =
+records_walk : (galileo : Option Message) (count number skip : ℕ) (lines : List TextLine) (records : List Broadcast) → AreNoStarts galileo skip lines → records_from galileo count number skip lines (Ok records)
+    → IsAllOf galileo lines records
+records_walk galileo count number zero [] records none e = none_read galileo records e
+records_walk galileo count number (suc skip) [] records none e = none_read galileo records e
+records_walk galileo count number (suc skip) (line ∷ more) records none h = passed_over galileo line more records none.0 (records_walk galileo count (number + 1) skip more records none.1 h)
+records_walk galileo count number zero (line ∷ more) records none (inl (begins, inl (r, is, given))) =
     let rest = rest_of r given.0 records given.2 in
-    let are = records_walk both (count + 1) (number + 1) 7 more rest.0 (seven_more both count number line more r is) (subst (records_from both (count + 1) (number + 1) 7 more) rest.1 given.1) in
-    begun both line more r rest.0 records begins (record { count = count; number = number; reads = is }) are rest.2
-records_walk both count number zero (line ∷ more) records none (inl (begins, inr (f, is, e))) = absurd cc
-records_walk both count number zero (line ∷ more) records none (inr (other, inl (short, h))) =
-    passed_over both line more records (not_true _ other) (records_walk both count (number + 1) zero more records tt h)
-records_walk both count number zero (line ∷ more) records none (inr (other, inr (long, e))) = absurd cc
+    let are = records_walk galileo (count + 1) (number + 1) 7 more rest.0 (seven_more galileo count number line more r is) (subst (records_from galileo (count + 1) (number + 1) 7 more) rest.1 given.1) in
+    begun galileo line more r rest.0 records begins (record { count = count; number = number; reads = is }) are rest.2
+records_walk galileo count number zero (line ∷ more) records none (inl (begins, inr (f, is, e))) = absurd cc
+records_walk galileo count number zero (line ∷ more) records none (inr (other, inl (short, h))) =
+    passed_over galileo line more records (not_true _ other) (records_walk galileo count (number + 1) zero more records tt h)
+records_walk galileo count number zero (line ∷ more) records none (inr (other, inr (long, e))) = absurd cc
 
 -- ---- the header
 
@@ -158,22 +160,22 @@ record IsBehindVersion (lines : List TextLine) (version : Behind) : Type 0 where
   spelled : lines ≡ line ∷ version.lines
   short : IsShort line
 
-behind_version : (both : Bool) (lines : List TextLine) (version : Behind)
-    → version_by both 78 lines (Ok version) → IsBehindVersion lines version
-behind_version both [] version e = absurd cc
-behind_version both (line ∷ more) version (inl (passed, inl (short, label), e)) =
+behind_version : (galileo : Option Message) (lines : List TextLine) (version : Behind)
+    → version_by (is_some galileo) 78 lines (Ok version) → IsBehindVersion lines version
+behind_version galileo [] version e = absurd cc
+behind_version galileo (line ∷ more) version (inl (passed, inl (short, label), e)) =
     record { line = line; spelled = ap (λ (l : List TextLine). line ∷ l) (ap (λ (b : Behind). b.lines) (sym (same_ok version (record { number = 2; lines = more }) e))); short = short }
-behind_version both (line ∷ more) version (inl (passed, inr (long, other), e)) = absurd cc
-behind_version both (line ∷ more) version (inr (f, is, e)) = absurd cc
+behind_version galileo (line ∷ more) version (inl (passed, inr (long, other), e)) = absurd cc
+behind_version galileo (line ∷ more) version (inr (f, is, e)) = absurd cc
 
 -- ---- files
 
-whole : (both : Bool) (text : List ℕ) (records : List Broadcast) → IsNavFileOf both text records
-    → IsWholeOf both (lines_of text) records
-whole both text records (inl (version, v, inl (body, b, h))) =
-    let first = behind_version both (lines_of text) version v in
+whole : (galileo : Option Message) (text : List ℕ) (records : List Broadcast) → IsNavFileOf galileo text records
+    → IsWholeOf galileo (lines_of text) records
+whole galileo text records (inl (version, v, inl (body, b, h))) =
+    let first = behind_version galileo (lines_of text) version v in
     let top = top_of version.number version.lines body b in
-    let walked = records_walk both 0 body.number 0 (counted body.lines) records tt h in
+    let walked = records_walk galileo 0 body.number 0 (counted body.lines) records tt h in
     record {
       header = top.header;
       behind = body.lines;
@@ -182,11 +184,11 @@ whole both text records (inl (version, v, inl (body, b, h))) =
       all_are = walked.are;
       records_are = walked.kept;
     }
-whole both text records (inl (version, v, inr (f, b, e))) = absurd cc
-whole both text records (inr (f, v, e)) = absurd cc
+whole galileo text records (inl (version, v, inr (f, b, e))) = absurd cc
+whole galileo text records (inr (f, v, e)) = absurd cc
 
-pub whole_read : (both : Bool) (text : List ℕ) (read : Result (List NavRecord) ReadError)
-    → IfOk read (λ nav. IsNavFileOf both text (records_of nav))
-    → IfOk read (λ nav. IsWholeOf both (lines_of text) (records_of nav))
-whole_read both text (Ok nav) file = whole both text (records_of nav) file
-whole_read both text (Err e) file = tt
+pub whole_read : (galileo : Option Message) (text : List ℕ) (read : Result (List NavRecord) ReadError)
+    → IfOk read (λ nav. IsNavFileOf galileo text (records_of nav))
+    → IfOk read (λ nav. IsWholeOf galileo (lines_of text) (records_of nav))
+whole_read galileo text (Ok nav) file = whole galileo text (records_of nav) file
+whole_read galileo text (Err e) file = tt

@@ -1,11 +1,11 @@
 -- The fields on the lines of a navigation record (RINEX 3.04, table A6).
-use Rattle.std.specs.Prelude.{ℕ, zero, suc, ◌≡◌, ◌⊎◌, ◌+◌, ◌*◌, ℤ, pos, negsuc, Bool, true, false}
-use Rattle.std.specs.Prelude.{List}
+use Rattle.std.specs.Prelude.{ℕ, ◌≡◌, ◌⊎◌, ◌+◌, ◌*◌, ℤ, pos, Bool, true, false, List}
 use Rattle.exact_decimal.specs.Counts.{IsCount}
 use Rattle.exact_decimal.specs.NumberFields.{AreBlanks, IsFloating}
 use Rattle.exact_decimal.specs.declared.decimal.Decimal.{Decimal}
 use Rattle.rinex_text.specs.Columns.{columns_of}
 use Rattle.rinex_text.specs.Dates.{IsGpsTime, gps_time}
+use Rattle.rinex_nav.specs.Sources.{IsHealthy}
 
 -- a blank field is zero
 abbrev pub zero_decimal : Decimal
@@ -28,9 +28,6 @@ Three = Decimal × Decimal × Decimal
 abbrev pub Four : Type 0
 Four = Decimal × Decimal × Decimal × Decimal
 
-abbrev pub MiddleFields : List ℕ → Two → Type 0
-MiddleFields text numbers = FieldAt text 24 numbers.0 × FieldAt text 43 numbers.1
-
 abbrev pub LastFields : List ℕ → Three → Type 0
 LastFields text numbers = FieldAt text 24 numbers.0 × FieldAt text 43 numbers.1
     × FieldAt text 62 numbers.2
@@ -46,6 +43,20 @@ SourceFields system text numbers = FieldAt text 5 numbers.0 × IsSource system t
 abbrev pub AllFields : List ℕ → Four → Type 0
 AllFields text numbers = FieldAt text 5 numbers.0 × FieldAt text 24 numbers.1
     × FieldAt text 43 numbers.2 × FieldAt text 62 numbers.3
+
+-- The group delay is the third field of its line: T_GD of GPS, BGD(E1,E5a) of Galileo. By I/NAV it
+-- is the fourth, BGD(E1,E5b).
+abbrev pub delay_column : Bool → ℕ
+delay_column false = 43
+delay_column true = 62
+
+-- whether the satellite is healthy, by the second field, and its group delay
+abbrev pub Health : Type 0
+Health = Bool × Decimal
+
+abbrev pub HealthFields : Bool → List ℕ → Health → Type 0
+HealthFields inav text given = (health : Decimal) × FieldAt text 24 health
+    × IsHealthy inav health given.0 × FieldAt text (delay_column inav) given.1
 
 -- the clock time, from its year, month, day, hour, minute and second
 pub record IsClockTime (text : List ℕ) (toc : ℤ) : Type 0 where
@@ -63,9 +74,3 @@ pub record IsClockTime (text : List ℕ) (toc : ℤ) : Type 0 where
   pub second_is : IsCount (columns_of text 22 23) second
   pub time : IsGpsTime year month day hour minute (second * 10000000)
   pub value : toc ≡ pos (gps_time year month day hour minute (second * 10000000))
-
--- a satellite is healthy where its health is zero
-abbrev pub is_zero : ℤ → Bool
-is_zero (pos zero) = true
-is_zero (pos (suc n)) = false
-is_zero (negsuc n) = false

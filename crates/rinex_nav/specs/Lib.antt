@@ -1,5 +1,5 @@
-pub mod Fields
 pub mod Sources
+pub mod Fields
 pub mod Records
 pub mod Files
 pub mod Reading

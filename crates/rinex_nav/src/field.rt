@@ -2,10 +2,13 @@
 
 ghost use Rattle.std.specs.Prelude.{◌≡◌, ◌≤◌, ℤ, pos, ◌<ℤ◌, ◌≤ℤ◌, IfSome, IfNone};
 ghost use Rattle.exact_decimal.specs.declared.decimal.Decimal.{Decimal};
-ghost use Rattle.rinex_nav.specs.Fields.{Two, Three, Four, FieldAt, SourceFields, MiddleFields};
-ghost use Rattle.rinex_nav.specs.Fields.{LastFields, AllFields, IsClockTime, is_zero};
+ghost use Rattle.rinex_nav.specs.Fields.{Two, Three, Four, FieldAt, SourceFields, Health};
+ghost use Rattle.rinex_nav.specs.Fields.{delay_column, HealthFields, LastFields, AllFields, IsClockTime};
+ghost use Rattle.rinex_nav.specs.Sources.{is_inav};
 
+use crate::source::{is_healthy, is_inav};
 use exact_decimal::{Decimal, read_exp};
+use gnss_model::Message;
 use rinex_text::{columns, four_digits, gps_ps, two_digits};
 
 /// The number of the field of 19 columns that begins in a column; a blank field is zero. None where
@@ -35,14 +38,25 @@ pub fn source_fields(text: &[u8], system: u8) -> Option<(Decimal, Decimal)>
     Some((idot, source))
 }
 
-/// The second and the third field of a line.
-pub fn middle_fields(text: &[u8]) -> Option<(Decimal, Decimal)>
-    ensures numbers { IfSome result (MiddleFields text.now) }
-    ensures none { IfNone result ((numbers : Two) → MiddleFields text.now numbers → ⊥) }
+/// In which column the group delay begins.
+fn delay_column(inav: bool) -> u16
+    ensures value { result ≡ delay_column inav }
+    ensures most { result ≤ 62 }
 {
-    let second = field(text, 24)?;
-    let third = field(text, 43)?;
-    Some((second, third))
+    if inav { 62 } else { 43 }
+}
+
+/// Whether the satellite is healthy, by the second field of a line, and its group delay: the third,
+/// or the fourth where the record is one of Galileo and those of I/NAV are kept.
+pub fn health_fields(text: &[u8], galileo: Option<Message>, system: u8) -> Option<(bool, Decimal)>
+    ensures given { IfSome result (HealthFields (is_inav galileo system) text.now) }
+    ensures none { IfNone result
+        ((given : Health) → HealthFields (is_inav galileo system) text.now given → ⊥) }
+{
+    let inav = is_inav(galileo, system);
+    let health = field(text, 24)?;
+    let delay = field(text, delay_column(inav))?;
+    Some((is_healthy(&health, inav), delay))
 }
 
 /// The last three fields of a line.
@@ -66,13 +80,6 @@ pub fn all_fields(text: &[u8]) -> Option<(Decimal, Decimal, Decimal, Decimal)>
     let third = field(text, 43)?;
     let fourth = field(text, 62)?;
     Some((first, second, third, fourth))
-}
-
-/// Whether the number is zero.
-pub fn is_zero(number: &Decimal) -> bool
-    ensures { result ≡ is_zero number.now.digits }
-{
-    number.digits == 0
 }
 
 /// The clock time of a record's first line, in ps since 1980-01-06 00:00:00 GPS time.

@@ -2,13 +2,14 @@
 
 ghost use Rattle.std.specs.Prelude.{◌≡◌, ◌↔◌, ◌<◌, ◌<ℤ◌, ◌≤ℤ◌, pos, IfOk, OnOk, IsTrue};
 ghost use Rattle.rinex_text.specs.Reading.{plain_line};
-ghost use Rattle.rinex_nav.specs.Fields.{SourceFields, MiddleFields, LastFields, AllFields};
+ghost use Rattle.rinex_nav.specs.Fields.{SourceFields, HealthFields, LastFields, AllFields};
+ghost use Rattle.rinex_nav.specs.Sources.{is_inav};
 ghost use Rattle.rinex_nav.specs.Records.{is_read, MayFollow, clock_line, further_text};
 ghost use Rattle.rinex_nav.specs.Records.{further_line};
 
-use crate::field::{all_fields, clock_time, last_fields, middle_fields, source_fields};
+use crate::field::{all_fields, clock_time, health_fields, last_fields, source_fields};
 use exact_decimal::Decimal;
-use gnss_model::Sat;
+use gnss_model::{Message, Sat};
 use rinex_text::{
     Fault, Line, column, is_blank_byte, is_printable_text, is_short, satellite_number,
 };
@@ -52,28 +53,29 @@ pub fn clock_line(
     Ok((sat, toc, clock))
 }
 
-/// Whether the letter begins a record that is read: `G`, or one of `G` and `E`.
-pub fn is_read(letter: u8, both: bool) -> bool
-    ensures { result ≡ is_read both letter }
+/// Whether the letter begins a record that is read: `G`, or one of `G` and `E` where the records of
+/// a message of `galileo` are wanted too.
+pub fn is_read(letter: u8, galileo: Option<Message>) -> bool
+    ensures { result ≡ is_read galileo letter }
 {
-    letter == b'G' || (both && letter == b'E')
+    letter == b'G' || (galileo.is_some() && letter == b'E')
 }
 
 /// Whether the byte is a blank or begins a record that is read.
-fn may_follow(byte: u8, both: bool) -> bool
-    ensures { IsTrue result ↔ MayFollow both byte }
+fn may_follow(byte: u8, galileo: Option<Message>) -> bool
+    ensures { IsTrue result ↔ MayFollow galileo byte }
 {
-    is_blank_byte(byte) || is_read(byte, both)
+    is_blank_byte(byte) || is_read(byte, galileo)
 }
 
 /// The tests of a further line of a record, before its fields.
-pub fn further_text(line: Line<'_>, both: bool) -> Result<(), Fault>
-    ensures { further_text both (plain_line line.entry) result }
+pub fn further_text(line: Line<'_>, galileo: Option<Message>) -> Result<(), Fault>
+    ensures { further_text galileo (plain_line line.entry) result }
 {
     if !is_short(line) {
         return Err(Fault::LongLine);
     }
-    if !may_follow(column(line.text, 1), both) {
+    if !may_follow(column(line.text, 1), galileo) {
         return Err(Fault::Truncated);
     }
     if !is_printable_text(line.text) {
@@ -86,10 +88,14 @@ pub fn further_text(line: Line<'_>, both: bool) -> Result<(), Fault>
 }
 
 /// The first field of a further line, and the second where the record is one of Galileo.
-pub fn source_line(line: Line<'_>, both: bool, system: u8) -> Result<(Decimal, Decimal), Fault>
-    ensures { further_line both (SourceFields system) (plain_line line.entry) result }
+pub fn source_line(
+    line: Line<'_>,
+    galileo: Option<Message>,
+    system: u8,
+) -> Result<(Decimal, Decimal), Fault>
+    ensures { further_line galileo (SourceFields system) (plain_line line.entry) result }
 {
-    match further_text(line, both) {
+    match further_text(line, galileo) {
         Ok(()) => match source_fields(line.text, system) {
             Some(read) => Ok(read),
             None => Err(Fault::BadNumber),
@@ -98,12 +104,17 @@ pub fn source_line(line: Line<'_>, both: bool, system: u8) -> Result<(Decimal, D
     }
 }
 
-/// The second and the third field of a further line.
-pub fn middle_line(line: Line<'_>, both: bool) -> Result<(Decimal, Decimal), Fault>
-    ensures { further_line both MiddleFields (plain_line line.entry) result }
+/// Whether the satellite is healthy, and its group delay, by a further line.
+pub fn health_line(
+    line: Line<'_>,
+    galileo: Option<Message>,
+    system: u8,
+) -> Result<(bool, Decimal), Fault>
+    ensures { further_line galileo (HealthFields (is_inav galileo system)) (plain_line line.entry)
+        result }
 {
-    match further_text(line, both) {
-        Ok(()) => match middle_fields(line.text) {
+    match further_text(line, galileo) {
+        Ok(()) => match health_fields(line.text, galileo, system) {
             Some(read) => Ok(read),
             None => Err(Fault::BadNumber),
         },
@@ -112,10 +123,13 @@ pub fn middle_line(line: Line<'_>, both: bool) -> Result<(Decimal, Decimal), Fau
 }
 
 /// The last three fields of a further line.
-pub fn last_line(line: Line<'_>, both: bool) -> Result<(Decimal, Decimal, Decimal), Fault>
-    ensures { further_line both LastFields (plain_line line.entry) result }
+pub fn last_line(
+    line: Line<'_>,
+    galileo: Option<Message>,
+) -> Result<(Decimal, Decimal, Decimal), Fault>
+    ensures { further_line galileo LastFields (plain_line line.entry) result }
 {
-    match further_text(line, both) {
+    match further_text(line, galileo) {
         Ok(()) => match last_fields(line.text) {
             Some(read) => Ok(read),
             None => Err(Fault::BadNumber),
@@ -125,10 +139,13 @@ pub fn last_line(line: Line<'_>, both: bool) -> Result<(Decimal, Decimal, Decima
 }
 
 /// The four fields of a further line.
-pub fn whole_line(line: Line<'_>, both: bool) -> Result<(Decimal, Decimal, Decimal, Decimal), Fault>
-    ensures { further_line both AllFields (plain_line line.entry) result }
+pub fn whole_line(
+    line: Line<'_>,
+    galileo: Option<Message>,
+) -> Result<(Decimal, Decimal, Decimal, Decimal), Fault>
+    ensures { further_line galileo AllFields (plain_line line.entry) result }
 {
-    match further_text(line, both) {
+    match further_text(line, galileo) {
         Ok(()) => match all_fields(line.text) {
             Some(read) => Ok(read),
             None => Err(Fault::BadNumber),

@@ -1,13 +1,14 @@
 //! The lines of a navigation record, one behind another.
 
 ghost use Rattle.std.specs.Prelude.{◌<◌, ◌≤ℤ◌, ◌<ℤ◌, pos, IfOk, IfErr, OnOk};
-ghost use Rattle.rinex_nav.specs.Fields.{SourceFields, MiddleFields, LastFields, AllFields};
+ghost use Rattle.rinex_nav.specs.Fields.{SourceFields, HealthFields, LastFields, AllFields};
+ghost use Rattle.rinex_nav.specs.Sources.{is_inav};
 ghost use Rattle.rinex_nav.specs.Records.{clock_line, further_text, further_line};
 ghost use Rattle.rinex_text.specs.Reading.{Takes, Fails};
 
-use crate::line::{clock_line, further_text, last_line, middle_line, source_line, whole_line};
+use crate::line::{clock_line, further_text, health_line, last_line, source_line, whole_line};
 use exact_decimal::Decimal;
-use gnss_model::Sat;
+use gnss_model::{Message, Sat};
 use rinex_text::{Body, Fault, Refusal};
 
 /// What the first line of a record gives: the satellite, the clock time, and af0, af1, af2.
@@ -33,15 +34,15 @@ pub fn take_clock(body: Body<'_>, count: usize) -> Result<(Clock, Body<'_>), Ref
 /// The last three fields of the next line.
 pub fn take_last(
     body: Body<'_>,
-    both: bool,
+    galileo: Option<Message>,
 ) -> Result<((Decimal, Decimal, Decimal), Body<'_>), Refusal>
-    ensures took { IfOk result (λ t. Takes (further_line both LastFields) body.entry t.0 t.1) }
-    ensures failed { IfErr result (Fails (further_line both LastFields) body.entry) }
+    ensures took { IfOk result (λ t. Takes (further_line galileo LastFields) body.entry t.0 t.1) }
+    ensures failed { IfErr result (Fails (further_line galileo LastFields) body.entry) }
 {
     let Some((line, behind)) = body.split_first() else {
         return Err(Refusal::new(Fault::Truncated, body.lines.number));
     };
-    match last_line(line, both) {
+    match last_line(line, galileo) {
         Ok(read) => Ok((read, behind)),
         Err(fault) => Err(Refusal::new(fault, body.lines.number)),
     }
@@ -50,15 +51,15 @@ pub fn take_last(
 /// The four fields of the next line.
 pub fn take_whole(
     body: Body<'_>,
-    both: bool,
+    galileo: Option<Message>,
 ) -> Result<((Decimal, Decimal, Decimal, Decimal), Body<'_>), Refusal>
-    ensures took { IfOk result (λ t. Takes (further_line both AllFields) body.entry t.0 t.1) }
-    ensures failed { IfErr result (Fails (further_line both AllFields) body.entry) }
+    ensures took { IfOk result (λ t. Takes (further_line galileo AllFields) body.entry t.0 t.1) }
+    ensures failed { IfErr result (Fails (further_line galileo AllFields) body.entry) }
 {
     let Some((line, behind)) = body.split_first() else {
         return Err(Refusal::new(Fault::Truncated, body.lines.number));
     };
-    match whole_line(line, both) {
+    match whole_line(line, galileo) {
         Ok(read) => Ok((read, behind)),
         Err(fault) => Err(Refusal::new(fault, body.lines.number)),
     }
@@ -67,45 +68,52 @@ pub fn take_whole(
 /// The first field of the next line, and the second where the record is one of Galileo.
 pub fn take_source(
     body: Body<'_>,
-    both: bool,
+    galileo: Option<Message>,
     system: u8,
 ) -> Result<((Decimal, Decimal), Body<'_>), Refusal>
     ensures took { IfOk result
-        (λ t. Takes (further_line both (SourceFields system)) body.entry t.0 t.1) }
-    ensures failed { IfErr result (Fails (further_line both (SourceFields system)) body.entry) }
+        (λ t. Takes (further_line galileo (SourceFields system)) body.entry t.0 t.1) }
+    ensures failed { IfErr result (Fails (further_line galileo (SourceFields system)) body.entry) }
 {
     let Some((line, behind)) = body.split_first() else {
         return Err(Refusal::new(Fault::Truncated, body.lines.number));
     };
-    match source_line(line, both, system) {
+    match source_line(line, galileo, system) {
         Ok(read) => Ok((read, behind)),
         Err(fault) => Err(Refusal::new(fault, body.lines.number)),
     }
 }
 
-/// The second and the third field of the next line.
-pub fn take_middle(body: Body<'_>, both: bool) -> Result<((Decimal, Decimal), Body<'_>), Refusal>
-    ensures took { IfOk result (λ t. Takes (further_line both MiddleFields) body.entry t.0 t.1) }
-    ensures failed { IfErr result (Fails (further_line both MiddleFields) body.entry) }
+/// Whether the satellite is healthy, and its group delay, by the next line.
+pub fn take_health(
+    body: Body<'_>,
+    galileo: Option<Message>,
+    system: u8,
+) -> Result<((bool, Decimal), Body<'_>), Refusal>
+    ensures took { IfOk result
+        (λ t. Takes (further_line galileo (HealthFields (is_inav galileo system))) body.entry t.0
+        t.1) }
+    ensures failed { IfErr result
+        (Fails (further_line galileo (HealthFields (is_inav galileo system))) body.entry) }
 {
     let Some((line, behind)) = body.split_first() else {
         return Err(Refusal::new(Fault::Truncated, body.lines.number));
     };
-    match middle_line(line, both) {
+    match health_line(line, galileo, system) {
         Ok(read) => Ok((read, behind)),
         Err(fault) => Err(Refusal::new(fault, body.lines.number)),
     }
 }
 
 /// The next line, of which no field is read.
-pub fn take_unread(body: Body<'_>, both: bool) -> Result<((), Body<'_>), Refusal>
-    ensures took { IfOk result (λ t. Takes (further_text both) body.entry t.0 t.1) }
-    ensures failed { IfErr result (Fails (further_text both) body.entry) }
+pub fn take_unread(body: Body<'_>, galileo: Option<Message>) -> Result<((), Body<'_>), Refusal>
+    ensures took { IfOk result (λ t. Takes (further_text galileo) body.entry t.0 t.1) }
+    ensures failed { IfErr result (Fails (further_text galileo) body.entry) }
 {
     let Some((line, behind)) = body.split_first() else {
         return Err(Refusal::new(Fault::Truncated, body.lines.number));
     };
-    match further_text(line, both) {
+    match further_text(line, galileo) {
         Ok(read) => Ok((read, behind)),
         Err(fault) => Err(Refusal::new(fault, body.lines.number)),
     }

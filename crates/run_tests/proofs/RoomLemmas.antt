@@ -7,7 +7,7 @@ use Rattle.std.proofs.lemmas.List.{length-take}
 use Rattle.command_words.specs.Commands as words
 use Rattle.command_words.specs.Commands.{Command, Judge, Pave, Solve, Check, Track, Retrack, Guard, Make}
 use Rattle.epoch_selection.specs.declared.selection.Selection.{Selection}
-use Rattle.input_files.specs.Inputs.{InputsValue, ReadsFor, ReadsNav, ReadsObs, settings_text, nav_text, obs_text, read_both, sought_of, wants_position}
+use Rattle.input_files.specs.Inputs.{InputsValue, ReadsFor, ReadsNav, ReadsObs, settings_text, nav_text, obs_text, message_of, sought_of, wants_position}
 use Rattle.input_files.specs.Zones.{zones_text}
 use Rattle.input_files.specs.Logs.{log_text, rows_text}
 use Rattle.input_files.specs.Reading as reading
@@ -345,8 +345,8 @@ module _ (limits : Limits) (told : Told) (before after : World) (trust : Trust) 
   inputs_sound moving names there = λ sure.
       then_sound before.shelf after.shelf trust.log sure limits told.files (Named limits (settings_text moving) names.settings) (ReadsNav limits names)
       (named_sound before.shelf after.shelf trust.log sure limits told.files (settings_text moving) names.settings there.0) (λ s.
-      then_sound before.shelf after.shelf trust.log sure limits told.files (Named limits (nav_text (read_both s)) names.nav) (ReadsObs limits names s)
-      (named_sound before.shelf after.shelf trust.log sure limits told.files (nav_text (read_both s)) names.nav there.1) (λ records.
+      then_sound before.shelf after.shelf trust.log sure limits told.files (Named limits (nav_text (message_of s)) names.nav) (ReadsObs limits names s)
+      (named_sound before.shelf after.shelf trust.log sure limits told.files (nav_text (message_of s)) names.nav there.1) (λ records.
       let text = obs_text (sought_of s) (wants_position s.centre) names.epochs in
       let value : Observations → InputsValue = λ o. record { settings = s; nav = records; obs = o } in
       then_sound before.shelf after.shelf trust.log sure limits told.files (Named limits text names.obs) (λ o. Returns (value o))

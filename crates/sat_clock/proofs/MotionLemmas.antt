@@ -22,20 +22,20 @@ mu y = gravity_of y * 10 ^ 116
 
 root_low : (y : System) → (gravity_root y * scale) * (gravity_root y * scale) ≤ mu y
 root_low Gps = lit≤ tt
-root_low Galileo = lit≤ tt
+root_low (Galileo message) = lit≤ tt
 
 root_high : (y : System) → mu y < ((gravity_root y + 1) * scale) * ((gravity_root y + 1) * scale)
 root_high Gps = lit≤ tt
-root_high Galileo = lit≤ tt
+root_high (Galileo message) = lit≤ tt
 
 -- between these all computations go
 pub root_least : (y : System) → 19 * 10 ^ 35 ≤ gravity_root y
 root_least Gps = lit≤ tt
-root_least Galileo = lit≤ tt
+root_least (Galileo message) = lit≤ tt
 
 pub root_greatest : (y : System) → gravity_root y ≤ 2 * 10 ^ 36
 root_greatest Gps = lit≤ tt
-root_greatest Galileo = lit≤ tt
+root_greatest (Galileo message) = lit≤ tt
 
 -- ---- the root of mu
 

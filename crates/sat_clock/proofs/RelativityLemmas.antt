@@ -36,7 +36,7 @@ root_ends s f = natural_ends greatest_root_a (pos least_root_a) s (record { le =
 pub factor_ends : (y : System)
     → Ends relativity 0 (neg_ℤ (pos (relativity_of y))) (neg_ℤ (pos (relativity_of y)))
 factor_ends Gps = record { order = record { le = tt }; low = record { low = record { le = tt }; high = record { le = tt } }; high = record { low = record { le = tt }; high = record { le = tt } }; width = record { le = tt } }
-factor_ends Galileo = record { order = record { le = tt }; low = record { low = record { le = tt }; high = record { le = tt } }; high = record { low = record { le = tt }; high = record { le = tt } }; width = record { le = tt } }
+factor_ends (Galileo message) = record { order = record { le = tt }; low = record { low = record { le = tt }; high = record { le = tt } }; high = record { low = record { le = tt }; high = record { le = tt } }; width = record { le = tt } }
 
 pub focus_ends : (e s : Wide) (a b c d l h : ℤ) → LiesFrom (pos 0) (pos eccentricity_bound) e
     → LiesFrom (pos least_root_a) (pos greatest_root_a) s → a ≡ e.lo → b ≡ e.hi → c ≡ s.lo

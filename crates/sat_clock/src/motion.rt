@@ -30,7 +30,7 @@ fn gravity_root(system: System) -> u128
 {
     match system {
         System::Gps => ROOT_OF_GRAVITY,
-        System::Galileo => GALILEO_ROOT,
+        System::Galileo(_) => GALILEO_ROOT,
     }
 }
 

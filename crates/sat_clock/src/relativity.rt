@@ -65,7 +65,7 @@ fn factor(system: System) -> Exact
             lo: RELATIVITY,
             hi: RELATIVITY,
         },
-        System::Galileo => Exact {
+        System::Galileo(_) => Exact {
             lo: GALILEO_RELATIVITY,
             hi: GALILEO_RELATIVITY,
         },

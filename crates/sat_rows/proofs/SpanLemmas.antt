@@ -17,6 +17,7 @@ use Rattle.grid_model.specs.declared.spans.Span.{Span}
 use Rattle.grid_model.specs.declared.spans.Wide.{Wide}
 use Rattle.gnss_model.specs.declared.systems.System.{System}
 use Rattle.gnss_model.specs.declared.systems.System.TheVariants.{Gps, Galileo}
+use Rattle.gnss_model.specs.declared.systems.Message.TheVariants.{Fnav, Inav}
 use Rattle.pseudorange_prep.proofs.WidthLemmas.{apart_positive}
 use Rattle.grid_model.proofs.IntervalLemmas.{low_member, high_member}
 use Rattle.grid_model.proofs.ProductLemmas.{larger}
@@ -32,7 +33,8 @@ free_within : (y : System) (a b c d v : ℤ) → a ≤ℤ b → c ≤ℤ d
     → IsPlausible ((pos (first_square y) *ℤ a) -ℤ (pos (second_square y) *ℤ d)) ((pos (first_square y) *ℤ b) -ℤ (pos (second_square y) *ℤ c)) (squares_apart y)
     → IsFreeOf y a d v → Between (pos 0) (pos (40 * 10 ^ 12 + 1)) v
 free_within Gps a b c d v o q p n = record { from = omega (arith, ints, p.from, n.above); to = omega (arith, ints, p.to, n.below) }
-free_within Galileo a b c d v o q p n = record { from = omega (arith, ints, p.from, n.above); to = omega (arith, ints, p.to, n.below) }
+free_within (Galileo Fnav) a b c d v o q p n = record { from = omega (arith, ints, p.from, n.above); to = omega (arith, ints, p.to, n.below) }
+free_within (Galileo Inav) a b c d v o q p n = record { from = omega (arith, ints, p.from, n.above); to = omega (arith, ints, p.to, n.below) }
 
 around : (lo hi v : ℤ) → Between lo hi v → IsNarrow 8 lo hi
     → Between (pos 0) (pos (40 * 10 ^ 12 + 1)) v → Ends pseudorange_amount 8 lo hi

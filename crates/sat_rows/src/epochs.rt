@@ -12,7 +12,7 @@ use crate::bases::{Base, base_of};
 use crate::lines::{EpochRows, SatLine};
 use crate::spans::renewed;
 use error_bounds::Settings;
-use gnss_model::{Signal, Skip};
+use gnss_model::{GalileoUse, Skip};
 use grid_model::{Box3, NoMemory};
 use rinex_nav::Nav;
 use rinex_obs::{ObsEpoch, SatObs};
@@ -28,7 +28,7 @@ pub fn rows_by(
     nav: &Nav,
     settings: &Settings,
     root: &Box3,
-    galileo: &Option<Signal>,
+    galileo: &Option<GalileoUse>,
 ) -> Result<EpochRows, NoMemory>
     requires root { IsSearchBox (grid_box root.now) }
     ensures lines { IfOk result (λ rows.
@@ -101,7 +101,7 @@ fn line_of(
     nav: &Nav,
     settings: &Settings,
     root: &Box3,
-    galileo: &Option<Signal>,
+    galileo: &Option<GalileoUse>,
 ) -> Formed
     requires root { IsSearchBox (grid_box root.now) }
     ensures own { IsOwnLine (meaning_by galileo.now nav.now settings.now)
@@ -132,7 +132,7 @@ fn base_in(
     nav: &Nav,
     settings: &Settings,
     root: &Box3,
-    galileo: &Option<Signal>,
+    galileo: &Option<GalileoUse>,
 ) -> Result<Base, Skip>
     requires root { IsSearchBox (grid_box root.now) }
     ensures base { IfOk result (λ base. IsBaseOf (meaning_by galileo.now nav.now settings.now)

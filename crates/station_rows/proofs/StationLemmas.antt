@@ -5,7 +5,7 @@ use Rattle.std.proofs.lemmas.Option.{none-some, same_Some}
 use Rattle.error_bounds.specs.Reading.{bound_for, value_of_settings}
 use Rattle.error_bounds.specs.declared.settings.Settings.{Settings}
 use Rattle.gnss_model.specs.declared.delays.Delays.{Delays}
-use Rattle.gnss_model.specs.declared.satellites.Signal.{Signal}
+use Rattle.gnss_model.specs.declared.satellites.GalileoUse.{GalileoUse}
 use Rattle.gnss_model.specs.declared.satellites.Skip.{Skip}
 use Rattle.grid_model.specs.Boxes.{GridBox, box_holds}
 use Rattle.grid_model.specs.SearchBoxes.{IsSearchBox}
@@ -76,7 +76,7 @@ differences_exist view p delays declared root box inside high =
       ),
     )
 
-pub station_sound : (galileo : Option Signal) (records : List NavRecord) (settings : Settings)
+pub station_sound : (galileo : Option GalileoUse) (records : List NavRecord) (settings : Settings)
     (station : Station) → IsSound (station_meaning galileo records settings station)
 station_sound galileo records settings station = record {
   one_judgement = λ root tag seen. judged_one settings.delays root station (sighting_by galileo records settings tag seen);

@@ -5,7 +5,7 @@ use Rattle.std.specs.Prelude.{slice_get, unsigned_abs}
 use Rattle.error_bounds.specs.Reading.{bound_for, value_of_settings}
 use Rattle.error_bounds.specs.declared.settings.Settings.{Settings}
 use Rattle.gnss_model.specs.declared.delays.Delays.{Delays}
-use Rattle.gnss_model.specs.declared.satellites.Signal.{Signal}
+use Rattle.gnss_model.specs.declared.satellites.GalileoUse.{GalileoUse}
 use Rattle.gnss_model.specs.declared.satellites.Skip.{Skip}
 use Rattle.grid_model.specs.Boxes.{GridBox}
 use Rattle.grid_model.specs.declared.boxes.Pos.{Pos}
@@ -120,7 +120,7 @@ pub record IsDifferenceAt (station : Station) (a : Sighting) (delays : Delays) (
 
 -- what a navigation file, settings and a station say of satellites; the declared spans are those of
 -- the difference of the two errors
-abbrev pub station_meaning : Option Signal → List NavRecord → Settings → Station → Meaning
+abbrev pub station_meaning : Option GalileoUse → List NavRecord → Settings → Station → Meaning
 station_meaning galileo records settings station = record {
   judged = λ root tag seen. IsJudgedByBoth settings.delays root station
       (sighting_by galileo records settings tag seen);

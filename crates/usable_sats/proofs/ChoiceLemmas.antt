@@ -5,7 +5,7 @@ use Rattle.std.specs.Prelude.{Option, ℤ, pos, ◌≤ℤ◌, ◌<ℤ◌}
 use Rattle.std.proofs.lemmas.Int.{ints, by_lt_z}
 use Rattle.std.proofs.lemmas.Option.{none-some, slice_get_within}
 use Rattle.error_bounds.specs.declared.settings.Settings.{Settings}
-use Rattle.gnss_model.specs.declared.satellites.Signal.{Signal}
+use Rattle.gnss_model.specs.declared.satellites.GalileoUse.{GalileoUse}
 use Rattle.exact_decimal.specs.declared.decimal.Decimal.{Decimal}
 use Rattle.rinex_nav.proofs.WeekLemmas.{age_only}
 use Rattle.rinex_nav.specs.FieldBounds.{AreInside, IsFirstOutside}
@@ -114,7 +114,7 @@ module _ (a : Sighting) where
 
 -- ---- one more record
 
-module _ (galileo : Option Signal) (settings : Settings) (tag : ℤ) (seen : SatObs) (records : List NavRecord) (r : NavRecord) where
+module _ (galileo : Option GalileoUse) (settings : Settings) (tag : ℤ) (seen : SatObs) (records : List NavRecord) (r : NavRecord) where
   farther : (age : ℤ) (field : ℕ) (t : Choice) → IsAlone settings.max_age tag r t
       → IsBetter (Unfit age field) t → (b : ℤ) → IsRecent settings.max_age tag r b → age <ℤ b
   farther age field t g (inl less) b recent = absurd (old settings.max_age tag r t g (omega arith) b recent)
@@ -276,13 +276,13 @@ module _ (galileo : Option Signal) (settings : Settings) (tag : ℤ) (seen : Sat
 -- ---- a walk
 
 -- what these records give
-abbrev pub IsChosen : Option Signal → Settings → ℤ → SatObs → Choice → List NavRecord → Type 0
+abbrev pub IsChosen : Option GalileoUse → Settings → ℤ → SatObs → Choice → List NavRecord → Type 0
 IsChosen galileo settings tag seen choice records = IsChoice (sighting_by galileo records settings tag seen) choice
 
-pub none_chosen : (galileo : Option Signal) (settings : Settings) (tag : ℤ) (seen : SatObs)
+pub none_chosen : (galileo : Option GalileoUse) (settings : Settings) (tag : ℤ) (seen : SatObs)
     → IsChosen galileo settings tag seen NoRecord []
 none_chosen galileo settings tag seen = λ i r p. none-some r p.at
 
-pub chosen_over : (galileo : Option Signal) (settings : Settings) (tag : ℤ) (seen : SatObs)
+pub chosen_over : (galileo : Option GalileoUse) (settings : Settings) (tag : ℤ) (seen : SatObs)
     (choice : Choice) → PassesOver seen.sat (IsChosen galileo settings tag seen choice)
 chosen_over galileo settings tag seen choice = λ front r. passes_over galileo settings tag seen front r choice

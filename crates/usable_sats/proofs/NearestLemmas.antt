@@ -6,7 +6,7 @@ use Rattle.std.proofs.lemmas.Int.{ints}
 use Rattle.std.proofs.lemmas.Option.{none-some, same_Some, slice_get_within}
 use Rattle.error_bounds.specs.declared.settings.Settings.{Settings}
 use Rattle.gnss_model.specs.declared.elements.Elements.{Elements}
-use Rattle.gnss_model.specs.declared.satellites.Signal.{Signal}
+use Rattle.gnss_model.specs.declared.satellites.GalileoUse.{GalileoUse}
 use Rattle.rinex_nav.proofs.WeekLemmas.{age_only}
 use Rattle.rinex_nav.specs.ElementsOf.{AreElements}
 use Rattle.rinex_nav.specs.FieldBounds.{AreInside}
@@ -20,7 +20,7 @@ use Rattle.usable_sats.proofs.WalkLemmas.{PassesOver}
 
 -- ---- one more record
 
-module _ (galileo : Option Signal) (settings : Settings) (tag : ℤ) (seen : SatObs) (records : List NavRecord) (r : NavRecord) where
+module _ (galileo : Option GalileoUse) (settings : Settings) (tag : ℤ) (seen : SatObs) (records : List NavRecord) (r : NavRecord) where
   -- where the last isn't a fresh one of the satellite nothing changes
   kept : (so_far : Option Nearest)
       → ((i : ℕ) (s : NavRecord) (age : ℤ) → IsFresh (after galileo settings tag seen records r) i s age → s ≡ r → ⊥)
@@ -88,14 +88,14 @@ module _ (galileo : Option Signal) (settings : Settings) (tag : ℤ) (seen : Sat
 -- ---- a walk
 
 -- the nearest of these records
-abbrev pub IsFoundIn : Option Signal → Settings → ℤ → SatObs → Option Nearest → List NavRecord → Type 0
+abbrev pub IsFoundIn : Option GalileoUse → Settings → ℤ → SatObs → Option Nearest → List NavRecord → Type 0
 IsFoundIn galileo settings tag seen nearest records = IsNearestFresh (sighting_by galileo records settings tag seen) nearest
 
-pub none_found : (galileo : Option Signal) (settings : Settings) (tag : ℤ) (seen : SatObs)
+pub none_found : (galileo : Option GalileoUse) (settings : Settings) (tag : ℤ) (seen : SatObs)
     → IsFoundIn galileo settings tag seen None []
 none_found galileo settings tag seen = λ i r age p. none-some r p.healthy.its.at
 
-pub found_over : (galileo : Option Signal) (settings : Settings) (tag : ℤ) (seen : SatObs)
+pub found_over : (galileo : Option GalileoUse) (settings : Settings) (tag : ℤ) (seen : SatObs)
     (nearest : Option Nearest) → PassesOver seen.sat (IsFoundIn galileo settings tag seen nearest)
 found_over galileo settings tag seen nearest = λ front r. passes_over galileo settings tag seen front r nearest
 

@@ -3,7 +3,7 @@ use Rattle.std.proofs.Common.{◌≡◌, ℕ, zero, suc, ◌<◌, arith, refl, a
 use Rattle.std.specs.Prelude.{Option, ℤ, ◌≤ℤ◌, ◌<ℤ◌}
 use Rattle.std.proofs.lemmas.Int.{ints}
 use Rattle.error_bounds.specs.declared.settings.Settings.{Settings}
-use Rattle.gnss_model.specs.declared.satellites.Signal.{Signal}
+use Rattle.gnss_model.specs.declared.satellites.GalileoUse.{GalileoUse}
 use Rattle.rinex_nav.specs.declared.record.NavRecord.{NavRecord}
 use Rattle.rinex_obs.specs.declared.obs.SatObs.{SatObs}
 use Rattle.usable_sats.specs.Answers.{IsRecent}
@@ -34,7 +34,7 @@ get_split (z ∷ xs) y (suc i) x e = elim (get_split xs y i x e) [
 
 -- ---- records
 
-module _ (galileo : Option Signal) (settings : Settings) (tag : ℤ) (seen : SatObs) (records : List NavRecord) (r : NavRecord) where
+module _ (galileo : Option GalileoUse) (settings : Settings) (tag : ℤ) (seen : SatObs) (records : List NavRecord) (r : NavRecord) where
   abbrev pub before : Sighting
   before = sighting_by galileo records settings tag seen
 

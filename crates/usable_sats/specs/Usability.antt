@@ -19,6 +19,7 @@ use Rattle.gnss_model.specs.Systems.{first_square, second_square, squares_apart}
 use Rattle.gnss_model.specs.declared.elements.Elements.{Elements}
 use Rattle.gnss_model.specs.declared.satellites.Sat.{Sat}
 use Rattle.gnss_model.specs.declared.satellites.Signal.{Signal}
+use Rattle.gnss_model.specs.declared.satellites.GalileoUse.{GalileoUse}
 use Rattle.gnss_model.specs.declared.satellites.Signal.TheVariants.{Single, Dual}
 use Rattle.gnss_model.specs.declared.satellites.Skip.{Skip}
 use Rattle.gnss_model.specs.Delays.{is_plain}
@@ -39,14 +40,15 @@ pub record Sighting : Type 0 where
   pub seen : SatObs
 
 -- The system as which a satellite is used, and its wanted codes. By the codes of GPS alone every
--- satellite is one of GPS; where there are codes of Galileo too, `E` is the letter of its
--- satellites.
-abbrev pub use_of : Signal → Option Signal → Sat → System × Signal
+-- satellite is one of GPS; where there are a message and codes of Galileo too, `E` is the letter of
+-- its satellites.
+abbrev pub use_of : Signal → Option GalileoUse → Sat → System × Signal
 use_of gps None sat = (Gps, gps)
-use_of gps (Some galileo) sat = if nat_eq sat.system 69 then (Galileo, galileo) else (Gps, gps)
+use_of gps (Some galileo) sat =
+    if nat_eq sat.system 69 then (Galileo galileo.message, galileo.signal) else (Gps, gps)
 
 -- of a file's records, by its settings, with the codes of Galileo where these satellites are used
-abbrev pub sighting_by : Option Signal → List NavRecord → Settings → ℤ → SatObs → Sighting
+abbrev pub sighting_by : Option GalileoUse → List NavRecord → Settings → ℤ → SatObs → Sighting
 sighting_by galileo records settings tag seen = record {
   records = records;
   system = (use_of settings.signal galileo seen.sat).0;

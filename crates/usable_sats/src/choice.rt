@@ -3,7 +3,7 @@
 ghost use Rattle.std.specs.Prelude.{◌≡◌, ◌∷◌, [], ◌++◌, List, Option};
 ghost use Rattle.rinex_nav.specs.declared.record.NavRecord.{NavRecord};
 ghost use Rattle.usable_sats.specs.Answers.{IsAlone, IsChoice};
-ghost use Rattle.gnss_model.specs.declared.satellites.Signal.{Signal};
+ghost use Rattle.gnss_model.specs.declared.satellites.GalileoUse.{GalileoUse};
 ghost use Rattle.usable_sats.specs.Usability.{sighting_by};
 
 use crate::fresh::{fresh_age, nearest_fresh};
@@ -89,7 +89,7 @@ fn with_record(
     settings: &Settings,
 ) -> Choice
     requires { one.now.sat ≡ seen.now.sat }
-    ensures { (galileo : Option Signal) → (records : List NavRecord)
+    ensures { (galileo : Option GalileoUse) → (records : List NavRecord)
         → IsChoice (sighting_by galileo records settings.now epoch.now.tag seen.now) so_far
         → IsChoice (sighting_by galileo (records ++ one.now ∷ [])
         settings.now epoch.now.tag seen.now) result }
@@ -105,7 +105,7 @@ fn with_record(
 /// What the records give of the satellite, each judged in turn: one pass over those that are its
 /// own.
 fn choose_from_all(seen: &SatObs, epoch: &ObsEpoch, nav: &Nav, settings: &Settings) -> Choice
-    ensures { (galileo : Option Signal) →
+    ensures { (galileo : Option GalileoUse) →
         IsChoice (sighting_by galileo nav.now settings.now epoch.now.tag seen.now) result }
 {
     let mut choice = Choice::NoRecord;
@@ -118,7 +118,7 @@ fn choose_from_all(seen: &SatObs, epoch: &ObsEpoch, nav: &Nav, settings: &Settin
 /// What the records give of the satellite. Mostly its nearest fresh record is fit, and then no
 /// other is converted.
 pub(crate) fn choose(seen: &SatObs, epoch: &ObsEpoch, nav: &Nav, settings: &Settings) -> Choice
-    ensures { (galileo : Option Signal) →
+    ensures { (galileo : Option GalileoUse) →
         IsChoice (sighting_by galileo nav.now settings.now epoch.now.tag seen.now) result }
 {
     if let Some(nearest) = nearest_fresh(seen, epoch, nav, settings) {

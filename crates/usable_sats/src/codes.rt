@@ -12,7 +12,7 @@ ghost use Rattle.usable_sats.specs.Usability.{IsPlausible, IsCombinationPlausibl
 ghost use Rattle.usable_sats.specs.Usability.{greatest_range};
 
 use exact_decimal::{Decimal, Unit, to_unit_between};
-use gnss_model::{Signal, System};
+use gnss_model::{Message, Signal, System};
 use grid_model::Wide;
 use pseudorange_prep::combination;
 use rinex_obs::SatObs;
@@ -104,7 +104,8 @@ fn least_combination(system: System) -> i128
 {
     match system {
         System::Gps => 2_329 * LEAST_RANGE,
-        System::Galileo => 10_491 * LEAST_RANGE,
+        System::Galileo(Message::Fnav) => 10_491 * LEAST_RANGE,
+        System::Galileo(Message::Inav) => 9_792 * LEAST_RANGE,
     }
 }
 
@@ -114,6 +115,7 @@ fn greatest_combination(system: System) -> i128
 {
     match system {
         System::Gps => 2_329 * GREATEST_RANGE,
-        System::Galileo => 10_491 * GREATEST_RANGE,
+        System::Galileo(Message::Fnav) => 10_491 * GREATEST_RANGE,
+        System::Galileo(Message::Inav) => 9_792 * GREATEST_RANGE,
     }
 }

@@ -4,7 +4,7 @@ ghost use Rattle.std.specs.Prelude.{ℤ, ◌≡◌, ◌∷◌, [], ◌++◌, Lis
 ghost use Rattle.rinex_nav.specs.declared.record.NavRecord.{NavRecord};
 ghost use Rattle.rinex_obs.specs.declared.obs.SatObs.{SatObs};
 ghost use Rattle.usable_sats.specs.Answers.{IsNearestFresh, IsRecent};
-ghost use Rattle.gnss_model.specs.declared.satellites.Signal.{Signal};
+ghost use Rattle.gnss_model.specs.declared.satellites.GalileoUse.{GalileoUse};
 ghost use Rattle.usable_sats.specs.Usability.{sighting_by};
 
 use error_bounds::Settings;
@@ -42,7 +42,7 @@ fn nearer(
     epoch: &ObsEpoch,
     settings: &Settings,
 ) -> Option<Nearest>
-    ensures { (galileo : Option Signal) → (records : List NavRecord) → (seen : SatObs)
+    ensures { (galileo : Option GalileoUse) → (records : List NavRecord) → (seen : SatObs)
         → place ≡ length records → one.now.sat ≡ seen.sat
         → IsNearestFresh (sighting_by galileo records settings.now epoch.now.tag seen) so_far
         → IsNearestFresh (sighting_by galileo (records ++ one.now ∷ [])
@@ -64,7 +64,7 @@ pub(crate) fn nearest_fresh(
     nav: &Nav,
     settings: &Settings,
 ) -> Option<Nearest>
-    ensures { (galileo : Option Signal) →
+    ensures { (galileo : Option GalileoUse) →
         IsNearestFresh (sighting_by galileo nav.now settings.now epoch.now.tag seen.now) result }
 {
     let mut nearest = None;

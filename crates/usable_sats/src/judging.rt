@@ -11,7 +11,7 @@ use crate::choice::{Choice, choose};
 use crate::codes::{Measured, Reading, read_codes};
 use elevation_mapping::is_far_from_origin;
 use error_bounds::Settings;
-use gnss_model::{Elements, Sat, Signal, Skip, System};
+use gnss_model::{Elements, GalileoUse, Sat, Signal, Skip, System};
 use grid_model::Box3;
 use rinex_nav::Nav;
 use rinex_obs::{ObsEpoch, SatObs};
@@ -46,19 +46,19 @@ pub enum Judgement {
 }
 
 /// The system as which a satellite is used, and its wanted codes.
-pub fn use_of(sat: Sat, settings: &Settings, galileo: &Option<Signal>) -> (System, Signal)
+pub fn use_of(sat: Sat, settings: &Settings, galileo: &Option<GalileoUse>) -> (System, Signal)
     ensures { result ≡ use_of settings.now.signal galileo.now sat }
 {
     if sat.system == b'E' {
-        if let Some(signal) = galileo {
-            return (System::Galileo, *signal);
+        if let Some(galileo) = galileo {
+            return (System::Galileo(galileo.message), galileo.signal);
         }
     }
     (System::Gps, settings.signal)
 }
 
 /// The wanted codes of a satellite, where they are there and in range.
-fn wanted_codes(seen: &SatObs, settings: &Settings, galileo: &Option<Signal>) -> Reading
+fn wanted_codes(seen: &SatObs, settings: &Settings, galileo: &Option<GalileoUse>) -> Reading
     ensures { IsReading (use_of settings.now.signal galileo.now seen.now.sat).0
         (use_of settings.now.signal galileo.now seen.now.sat).1 seen.now result }
 {
@@ -72,7 +72,7 @@ fn judge_itself(
     epoch: &ObsEpoch,
     nav: &Nav,
     settings: &Settings,
-    galileo: &Option<Signal>,
+    galileo: &Option<GalileoUse>,
 ) -> Judgement
     ensures { IsOwnJudgement (sighting_by galileo.now nav.now settings.now epoch.now.tag seen.now)
         result }
@@ -106,13 +106,13 @@ fn is_high(settings: &Settings, root: &Box3) -> bool
 }
 
 /// Judges a satellite of the epoch by the records and the settings, for a receiver in the search
-/// box. Where there are codes of `galileo`, its satellites are used by these.
+/// box. Where a message and codes of `galileo` are given, its satellites are used by these.
 pub fn judge_satellite(
     seen: &SatObs,
     epoch: &ObsEpoch,
     nav: &Nav,
     settings: &Settings,
-    galileo: &Option<Signal>,
+    galileo: &Option<GalileoUse>,
     root: &Box3,
 ) -> Judgement
     ensures { IsJudgement settings.now.delays (grid_box root.now)

@@ -1,7 +1,7 @@
 use Rattle.std.proofs.Common.{codes}
 use Rattle.toml.specs.View.{table_view}
-use Rattle.error_bounds.specs.Keys.{has_galileo, search_tests, signal_tests, bounds_tests, galileo_keys, motion_tests}
-use Rattle.error_bounds.specs.Names.{strangers, strangers_among, strangers_at, is_table, is_satellite}
+use Rattle.error_bounds.specs.Keys.{has_galileo, search_tests, signal_tests, bounds_tests, motion_tests}
+use Rattle.error_bounds.specs.Names.{galileo_names, strangers, strangers_among, strangers_at, is_table, is_satellite}
 use Rattle.error_bounds.proofs.NameLemmas.{all_added}
 use Rattle.error_bounds.proofs.names.unknown_names.Goals as goal
 
@@ -13,7 +13,7 @@ returns c =
     (strangers_among (codes "search") (search_tests tree) tree)
     (strangers_among (codes "signal") (signal_tests tree) tree)
     (strangers_among (codes "bounds") (bounds_tests tree) tree)
-    (strangers_among (codes "galileo") (galileo_keys tree) tree)
+    (strangers_among (codes "galileo") (galileo_names tree) tree)
     (strangers_among (codes "motion") (motion_tests tree) tree)
     (strangers_at (codes "satellite") (is_satellite (has_galileo tree)) tree)
     _ _ _ _ _ _ _

@@ -11,7 +11,7 @@ use Rattle.input_files.proofs.ReadingLemmas.{found_err, found_then, found_return
 use Rattle.input_files.proofs.ReadingLemmas.{return_fair}
 use Rattle.input_files.proofs.ReadingLemmas.{only_as, only_err, only_then}
 use Rattle.input_files.proofs.InputLemmas.{nav_fair, obs_fair}
-use Rattle.input_files.specs.Inputs.{nav_text, obs_text, read_both, settings_text, sought_of, wants_position}
+use Rattle.input_files.specs.Inputs.{nav_text, obs_text, message_of, settings_text, sought_of, wants_position}
 use Rattle.input_files.specs.Reading.{NamedSlots}
 use Rattle.input_files.specs.declared.inputs.Inputs.{Inputs}
 use Rattle.input_files.proofs.inputs.read_inputs.Goals as goal
@@ -53,7 +53,7 @@ returns-in_err-nav-clause-found g c =
     (nav_fair limits names)
     (settings_at names) _ _ _ _ _ _ (value_of_settings c.in_ok-settings.settings) _
     c.in_ok-settings.ensures.only c.in_ok-settings.ensures.found
-    (found_err _ _ _ _ _ c.in_err-nav.field-0.0 (rw (c.are_both.ensures, c.sought_of-sought.ensures) at c.in_err-nav.ensures.found)))
+    (found_err _ _ _ _ _ c.in_err-nav.field-0.0 (rw c.message_of.ensures at c.in_err-nav.ensures.found)))
 
 pub returns-in_err-nav-clause-only : goal.returns-in_err-nav-clause-only
 returns-in_err-nav-clause-only g c =
@@ -78,9 +78,9 @@ returns-in_err-obs-clause-found g c =
     rw (p.1, p.2) (found_then _ _ (named_fair limits (settings_text c.args.moving) names.settings)
     (nav_fair limits names)
     (settings_at names) _ _ _ _ _ _ s _ c.in_ok-settings.ensures.only
-    c.in_ok-settings.ensures.found (found_then _ _ (named_fair limits (nav_text (read_both s)) names.nav)
+    c.in_ok-settings.ensures.found (found_then _ _ (named_fair limits (nav_text (message_of s)) names.nav)
     (obs_fair limits names s) (nav_at names) _ _ _ _ _ _ records _ c.in_ok-nav.ensures.only
-    (rw (c.are_both.ensures, c.sought_of-sought.ensures) at c.in_ok-nav.ensures.found) (found_err _ _ _ _ _ c.in_err-obs.field-0.0
+    (rw c.message_of.ensures at c.in_ok-nav.ensures.found) (found_err _ _ _ _ _ c.in_err-obs.field-0.0
     (rw (c.wants_position-position.ensures, c.sought_of-sought.ensures) at c.in_err-obs.ensures.found))))
 
 pub returns-in_err-obs-clause-only : goal.returns-in_err-obs-clause-only
@@ -104,9 +104,9 @@ returns-clause-found g c =
     let o = observations_of c.in_ok-obs.obs in
     found_then _ _ (named_fair limits (settings_text c.args.moving) names.settings) (nav_fair limits names)
     (settings_at names) _ _ _ _ _ _ s _ c.in_ok-settings.ensures.only
-    c.in_ok-settings.ensures.found (found_then _ _ (named_fair limits (nav_text (read_both s)) names.nav)
+    c.in_ok-settings.ensures.found (found_then _ _ (named_fair limits (nav_text (message_of s)) names.nav)
     (obs_fair limits names s) (nav_at names) _ _ _ _ _ _ records _ c.in_ok-nav.ensures.only
-    (rw (c.are_both.ensures, c.sought_of-sought.ensures) at c.in_ok-nav.ensures.found)
+    (rw c.message_of.ensures at c.in_ok-nav.ensures.found)
     (found_then _ _ (named_fair limits (obs_text (sought_of s) (wants_position s.centre) names.epochs) names.obs)
     (λ x. return_fair (record { settings = s; nav = records; obs = x })) (obs_at names) _ _ _ _ _ _
     o _ c.in_ok-obs.ensures.only

@@ -30,21 +30,21 @@ returns-in_err-idot-clause-fault c =
     let p = err_from_is_err_and c.from_residual-in_err-idot.result c.from_residual-in_err-idot.ensures.1 in
     rw (p.1, p.2) (needs_took _ _ _ _ _ _ c.in_ok-sat.ensures.took (needs_took _ _ _ _ _ _ c.in_ok-crs.ensures.took (needs_took _ _ _ _ _ _ c.in_ok-cuc.ensures.took (needs_took _ _ _ _ _ _ c.in_ok-toe.ensures.took (needs_took _ _ _ _ _ _ c.in_ok-i0.ensures.took (needs_failed _ _ _ _ _ c.in_err-idot.ensures.failed refl))))))
 
-pub returns-in_err-health-clause-fault : goal.returns-in_err-health-clause-fault
-returns-in_err-health-clause-fault c =
-    let p = err_from_is_err_and c.from_residual-in_err-health.result c.from_residual-in_err-health.ensures.1 in
-    rw (p.1, p.2) (needs_took _ _ _ _ _ _ c.in_ok-sat.ensures.took (needs_took _ _ _ _ _ _ c.in_ok-crs.ensures.took (needs_took _ _ _ _ _ _ c.in_ok-cuc.ensures.took (needs_took _ _ _ _ _ _ c.in_ok-toe.ensures.took (needs_took _ _ _ _ _ _ c.in_ok-i0.ensures.took (needs_took _ _ _ _ _ _ c.in_ok-idot.ensures.took (needs_failed _ _ _ _ _ c.in_err-health.ensures.failed refl)))))))
+pub returns-in_err-healthy-clause-fault : goal.returns-in_err-healthy-clause-fault
+returns-in_err-healthy-clause-fault c =
+    let p = err_from_is_err_and c.from_residual-in_err-healthy.result c.from_residual-in_err-healthy.ensures.1 in
+    rw (p.1, p.2) (needs_took _ _ _ _ _ _ c.in_ok-sat.ensures.took (needs_took _ _ _ _ _ _ c.in_ok-crs.ensures.took (needs_took _ _ _ _ _ _ c.in_ok-cuc.ensures.took (needs_took _ _ _ _ _ _ c.in_ok-toe.ensures.took (needs_took _ _ _ _ _ _ c.in_ok-i0.ensures.took (needs_took _ _ _ _ _ _ c.in_ok-idot.ensures.took (needs_failed _ _ _ _ _ c.in_err-healthy.ensures.failed refl)))))))
 
 pub returns-in_err-left-clause-fault : goal.returns-in_err-left-clause-fault
 returns-in_err-left-clause-fault c =
     let p = err_from_is_err_and c.from_residual-in_err-left.result c.from_residual-in_err-left.ensures.1 in
-    rw (p.1, p.2) (needs_took _ _ _ _ _ _ c.in_ok-sat.ensures.took (needs_took _ _ _ _ _ _ c.in_ok-crs.ensures.took (needs_took _ _ _ _ _ _ c.in_ok-cuc.ensures.took (needs_took _ _ _ _ _ _ c.in_ok-toe.ensures.took (needs_took _ _ _ _ _ _ c.in_ok-i0.ensures.took (needs_took _ _ _ _ _ _ c.in_ok-idot.ensures.took (needs_took _ _ _ _ _ _ c.in_ok-health.ensures.took (needs_failed _ _ _ _ _ c.in_err-left.ensures.failed refl))))))))
+    rw (p.1, p.2) (needs_took _ _ _ _ _ _ c.in_ok-sat.ensures.took (needs_took _ _ _ _ _ _ c.in_ok-crs.ensures.took (needs_took _ _ _ _ _ _ c.in_ok-cuc.ensures.took (needs_took _ _ _ _ _ _ c.in_ok-toe.ensures.took (needs_took _ _ _ _ _ _ c.in_ok-i0.ensures.took (needs_took _ _ _ _ _ _ c.in_ok-idot.ensures.took (needs_took _ _ _ _ _ _ c.in_ok-healthy.ensures.took (needs_failed _ _ _ _ _ c.in_err-left.ensures.failed refl))))))))
 
 pub returns-clause-record : goal.returns-clause-record
 returns-clause-record c =
     let fits : FitsSigned w128 c.in_ok-sat.toc = search rules in
     let toc : to_z w128 (of_z w128 c.in_ok-sat.toc) ≡ c.in_ok-sat.toc = simp to_z-of_z refl in
-    (needs_took _ _ _ _ _ _ c.in_ok-sat.ensures.took (needs_took _ _ _ _ _ _ c.in_ok-crs.ensures.took (needs_took _ _ _ _ _ _ c.in_ok-cuc.ensures.took (needs_took _ _ _ _ _ _ c.in_ok-toe.ensures.took (needs_took _ _ _ _ _ _ c.in_ok-i0.ensures.took (needs_took _ _ _ _ _ _ c.in_ok-idot.ensures.took (needs_took _ _ _ _ _ _ c.in_ok-health.ensures.took (needs_took _ _ _ _ _ _ c.in_ok-left.ensures.took (kept_is _ _ _ _ (plain_is _ _ refl toc c.is_zero.ensures refl) c.kept.ensures)))))))))
+    (needs_took _ _ _ _ _ _ c.in_ok-sat.ensures.took (needs_took _ _ _ _ _ _ c.in_ok-crs.ensures.took (needs_took _ _ _ _ _ _ c.in_ok-cuc.ensures.took (needs_took _ _ _ _ _ _ c.in_ok-toe.ensures.took (needs_took _ _ _ _ _ _ c.in_ok-i0.ensures.took (needs_took _ _ _ _ _ _ c.in_ok-idot.ensures.took (needs_took _ _ _ _ _ _ c.in_ok-healthy.ensures.took (needs_took _ _ _ _ _ _ c.in_ok-left.ensures.took (kept_is _ _ _ _ (plain_is _ _ refl toc refl refl) c.kept.ensures)))))))))
 
 pub returns-clause-left : goal.returns-clause-left
 returns-clause-left c =
@@ -54,6 +54,6 @@ returns-clause-left c =
     let l4 = leaves_next _ _ _ _ _ _ l3 c.in_ok-toe.ensures.took in
     let l5 = leaves_next _ _ _ _ _ _ l4 c.in_ok-i0.ensures.took in
     let l6 = leaves_next _ _ _ _ _ _ l5 c.in_ok-idot.ensures.took in
-    let l7 = leaves_next _ _ _ _ _ _ l6 c.in_ok-health.ensures.took in
+    let l7 = leaves_next _ _ _ _ _ _ l6 c.in_ok-healthy.ensures.took in
     let l8 = leaves_next _ _ _ _ _ _ l7 c.in_ok-left.ensures.took in
     l8

@@ -11,8 +11,8 @@ use Rattle.rinex_nav.proofs.read.read_records.Given as goal
 abbrev pub invariant-lines : goal.invariant-lines
 invariant-lines l = record {
   reads : (answer : Result (List Broadcast) Refusal)
-      → records_from l.both l.count l.left.lines.number 0 (body_left l.left) answer
-      → records_from l.both 0 l.fn.body.lines.number 0 (body_left l.fn.body) (with_all (map plain_record l.records.items) answer);
+      → records_from l.galileo l.count l.left.lines.number 0 (body_left l.left) answer
+      → records_from l.galileo 0 l.fn.body.lines.number 0 (body_left l.fn.body) (with_all (map plain_record l.records.items) answer);
   few : l.count ≤ 200000;
   kept : length l.records.items ≤ l.count;
   index : IsIndex l.places l.records.items;
