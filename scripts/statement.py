@@ -2,16 +2,20 @@
 """Counts the definitions on which a task of a run rests: how long the statement is that a reader has to trust.
 
 usage: statement.py [DEFINITION ...]
+       statement.py --page > docs/STATEMENT.md
 
 DEFINITION is CRATE.FILE.NAME of a definition in specs/, as `cover_run.Checking.checking`; without one it is that of `check`
 and that of its yes. For each it prints how many files and lines are reached by imports, how many definitions and lines by the
 names that they use, and how many types of the sources, and lines of their declarations, by the same names. Comments above a
-definition are among its lines, those above a type aren't. A name is followed through `use .. as`, of a name, of a file and
+definition are among its lines, those above a type aren't. With --page it writes these definitions and types out, each file's
+together, in the order in which a reader needs them. A name is followed through `use .. as`, of a name, of a file and
 of a type's variants. It reads text: a name that stands in two files is taken from the one that is imported. Exit status: 0; 1 and
 one line where a definition is gone.
 """
 import re
 import sys
+import textwrap
+from collections import deque
 from pathlib import Path
 
 from coverlog import LogError, run_tool
@@ -100,8 +104,8 @@ def type_lines(crate, file, name):
 
 
 def reached(start):
-    """The files that are reached by imports, and the definitions and the types that are reached by names."""
-    files, seen, names, types, waiting = {}, set(), {}, {}, [start]
+    """The files that are reached by imports, and the definitions and the types that are reached by names, nearest first."""
+    files, seen, names, types, waiting = {}, set(), {}, {}, deque([start])
 
     def file(key):
         if key not in files:
@@ -109,7 +113,7 @@ def reached(start):
         return files[key]
 
     while waiting:
-        crate, module, name = key = waiting.pop()
+        crate, module, name = key = waiting.popleft()
         if key in seen:
             continue
         seen.add(key)
@@ -118,7 +122,7 @@ def reached(start):
         if lines is None:
             continue
         names[(crate, module, id(lines))] = lines
-        for word in set(WORD.findall("\n".join(line for line in lines if not line.lstrip().startswith("--")))):
+        for word in dict.fromkeys(WORD.findall("\n".join(line for line in lines if not line.lstrip().startswith("--")))):
             kind, there = here.meant(word) or ("name", (crate, module, word.partition(".")[0]))
             if kind == "name":
                 waiting.append(there)
@@ -151,7 +155,100 @@ def told(start):
     )
 
 
+PAGE = """# What a yes of `check` says, whole
+
+Every definition that the yes of `check` rests on, copied from its file by `scripts/statement.py --page`: nothing else has to be
+read to know what is claimed, and what is left to trust is on [PROVED](PROVED.md#trusted). [HEADLINE](HEADLINE.md) leads through
+the main ones. Files come in the order in which they are needed, the nearest to the yes first; what a definition uses of another
+file stands further down. `×` reads 'and', `⊎` reads 'or', `→` reads 'implies' or 'for all', `≡` reads 'is', `⊥` reads 'never',
+`Unit {0}` reads 'always', `(x : T) ×` reads 'there is an x', and a record is the conjunction of its fields. Words that stand in
+none of these files are those of lists, numbers and options of the standard library.
+"""
+PARTS = (
+    (
+        "cover_run.Checking.Accepts",
+        "What is accepted, and what that covers",
+        "`Accepts` is what the line `yes` says of what was read: observations, records, settings and log.",
+    ),
+    (
+        "cover_run.Runs.checking",
+        "How files are read, and how the answer is told",
+        "`checking` is a run of `check`: which bytes give which observations, records, settings and log, and what is printed, of a"
+        " no too.",
+    ),
+)
+
+def code(lines):
+    """Lines as a frame."""
+    return "\n".join(["```", *lines, "```", ""])
+
+
+def by_file(keys):
+    """What keys name, in lists by their first two parts, in the order in which these come first."""
+    files = {}
+    for crate, module, *rest in keys:
+        files.setdefault((crate, module), []).append(rest[0])
+    return files
+
+
+def heads(text):
+    """By the lines of a definition, the heads of the modules that it stands in which aren't among these lines."""
+    found, open_heads = {}, []
+    for block in re.split(r"\n\s*\n", text):
+        lines = [line for line in block.splitlines() if not line.startswith("use ")]
+        for at, line in enumerate(lines):
+            depth = len(line) - len(line.lstrip())
+            if not line.lstrip().startswith("--"):
+                open_heads = [head for head in open_heads if head[0] < depth]
+            if line.lstrip().startswith("module "):
+                end = next(k for k in range(at, len(lines)) if lines[k].endswith("where"))
+                open_heads.append((depth, lines[at : end + 1]))
+        found["\n".join(lines)] = [head for _, head in open_heads if head[0] not in lines]
+    return found
+
+
+def definitions(crate, module, ids, names):
+    """The definitions of a file that are reached, in its own order, below the heads of their modules."""
+    text = spec_path(crate, module).read_text(encoding="utf-8")
+    above, taken, shown = heads(text), [], set()
+    wanted = {"\n".join(names[(crate, module, each)]) for each in ids}
+    for block in dict.fromkeys("\n".join(lines) for _, lines in blocks(text)):
+        if block in wanted:
+            new = [line for head in above[block] if head[0] not in shown for line in head]
+            shown.update(head[0] for head in above[block])
+            taken += [*([""] if taken else []), *new, *block.splitlines()]
+    return taken
+
+
+def part(title, text, names, types):
+    """A part of the page: its definitions file by file, then the types of the sources."""
+    lines = [f"## {title}\n", textwrap.fill(text, 118) + "\n"]
+    for (crate, module), ids in by_file(names).items():
+        lines += [f"`crates/{crate}/specs/{module}.antt`\n", code(definitions(crate, module, ids, names))]
+    lines += ["### Types of the sources\n"] if types else []
+    for (crate, module), kinds in by_file(types).items():
+        declared = [[*types[(crate, module, kind)], ""] for kind in kinds]
+        lines += [f"`crates/{crate}/src/{module}.rt`\n", code([line for each in declared for line in each][:-1])]
+    return lines
+
+
+def page():
+    """The whole page: of each part what no part before it has."""
+    lines, known = [PAGE], set()
+    for start, title, text in PARTS:
+        _, names, types = reached(tuple(start.split(".")))
+        plain = lambda key: (*key[:2], "\n".join(names[key]))
+        new = {key: each for key, each in names.items() if plain(key) not in known}
+        kinds = {key: each for key, each in types.items() if key not in known}
+        lines += part(title, text, new, kinds)
+        known |= {plain(key) for key in names} | set(types)
+    return "\n".join(lines)
+
+
 def main():
+    if sys.argv[1:] == ["--page"]:
+        print(page(), end="")
+        return 0
     for start in sys.argv[1:] or STARTS:
         print(told(start))
     return 0
