@@ -1,4 +1,5 @@
-//! Where the satellite is on the ellipse of its orbit.
+//! Where the satellite is on the ellipse of its orbit: mean, eccentric and true anomaly (IS-GPS-200,
+//! table 20-IV).
 
 ghost use Rattle.std.specs.Prelude.{ℕ, ◌≡◌, ◌+◌, ◌-◌, ◌*◌, ◌≤◌, ℤ, pos, ◌+ℤ◌, ◌-ℤ◌, ◌*ℤ◌, ◌≤ℤ◌};
 ghost use Rattle.std.specs.Prelude.{◌<ℤ◌};

@@ -1,4 +1,5 @@
-//! The argument of latitude, and the corrections of it, of the radius and of the inclination.
+//! The argument of latitude, and the corrections of it, of the radius and of the inclination by
+//! second harmonics (IS-GPS-200, table 20-IV).
 
 ghost use Rattle.std.specs.Prelude.{ℤ};
 ghost use Rattle.gnss_model.specs.OrbitChain.{OrbitFields, AreOrbitFields, IsSumOf, IsDifferenceOf};

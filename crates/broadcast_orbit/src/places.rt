@@ -1,4 +1,4 @@
-//! The satellite's place at a time.
+//! The satellite's place at a time (IS-GPS-200, table 20-IV).
 
 ghost use Rattle.std.specs.Prelude.{ℤ, pos, neg_ℤ, ◌+ℤ◌, ◌-ℤ◌, ◌≤ℤ◌};
 ghost use Rattle.gnss_model.specs.OrbitChain.{OrbitChain};

@@ -1,4 +1,4 @@
-//! The place in the plane of the orbit.
+//! The place in the plane of the orbit (IS-GPS-200, table 20-IV).
 
 ghost use Rattle.std.specs.Prelude.{ℤ, pos, ◌*ℤ◌, ◌^◌};
 ghost use Rattle.grid_model.specs.Angles.{unit};

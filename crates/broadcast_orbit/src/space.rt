@@ -1,4 +1,4 @@
-//! From the plane of the orbit to the earth-fixed frame.
+//! From the plane of the orbit to the earth-fixed frame (IS-GPS-200, table 20-IV).
 
 ghost use Rattle.std.specs.Prelude.{◌*◌, ℤ, pos, ◌+ℤ◌, ◌-ℤ◌, ◌*ℤ◌};
 ghost use Rattle.grid_model.specs.Angles.{unit};

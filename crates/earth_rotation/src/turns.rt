@@ -1,4 +1,5 @@
-//! The place, turned in two rounds.
+//! The place, turned in two rounds (IS-GPS-200, 20.3.3.4.3.3.2): the correction for the earth's
+//! rotation that is often named after Sagnac.
 
 ghost use Rattle.std.specs.Prelude.{ℕ, ◌≡◌, ◌≤◌, ℤ, pos, true};
 ghost use Rattle.grid_model.specs.Boxes.{grid_box, box_holds};

@@ -1,5 +1,5 @@
-//! Kepler's equation over intervals: every eccentric anomaly of every mean anomaly and
-//! eccentricity is held.
+//! Kepler's equation (IS-GPS-200, table 20-IV) over intervals: every eccentric anomaly of every mean
+//! anomaly and eccentricity is held.
 #![tactic(auto)]
 
 mod anomalies;

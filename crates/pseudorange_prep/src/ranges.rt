@@ -68,7 +68,7 @@ fn squares_apart(system: System) -> i128
     }
 }
 
-/// The pseudorange by one code, in um: the code itself.
+/// The pseudorange by one code, in um: the code itself (IS-GPS-200, 20.3.3.3.3).
 pub fn single(code: Wide) -> Exact
     ensures holds { (x : ℤ) → IsPseudorange (record { first = code; second = None }) x →
         Holds result x }

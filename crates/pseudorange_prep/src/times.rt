@@ -1,4 +1,5 @@
-//! When a signal was sent by the satellite's clock, and the pseudorange less the clock's offset.
+//! When a signal was sent by the satellite's clock, and the pseudorange less the clock's offset
+//! (IS-GPS-200, 20.3.3.3.3).
 
 ghost use Rattle.std.specs.Prelude.{ℕ, ◌+◌, ◌*◌, ◌^◌, ◌≤◌, ℤ, pos, ◌-ℤ◌, ◌*ℤ◌, ◌≤ℤ◌, ◌<ℤ◌};
 ghost use Rattle.fix_interval.specs.Factors.{Holds, HasEnds};

@@ -24,7 +24,7 @@ pub struct Clock {
 
 /// Every clock offset and every GPS time of a signal that a system's satellite sent at `tsv` by its
 /// clock, in ps, within 14,500 s of the ephemeris time. A user of one frequency (`single`) takes
-/// off the group delay.
+/// off the group delay (IS-GPS-200, 20.3.3.3.3.1 and 20.3.3.3.3.2).
 pub fn correction_of(el: &Elements, tsv: Exact, single: bool, system: System) -> Clock
     requires near { IsNearEphemeris el.now tsv.lo tsv.hi }
     ensures holds { (n x dt t : ℤ) → MeanMotionOf system el.now n → Between tsv.lo tsv.hi x →

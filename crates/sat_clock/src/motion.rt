@@ -1,4 +1,5 @@
-//! The mean motion, by divisions of the root of the earth's gravitational constant.
+//! The mean motion (IS-GPS-200, table 20-IV), by divisions of the root of the earth's gravitational
+//! constant.
 
 ghost use Rattle.std.specs.Prelude.{◌≡◌, ℕ, ◌+◌, ◌*◌, ◌^◌, ◌<◌, ◌≤◌, ℤ, pos, ◌-ℤ◌, ◌≤ℤ◌};
 ghost use Rattle.grid_model.specs.Intervals.{Between};
@@ -86,7 +87,7 @@ fn computed_motion(root_a: Wide, system: System) -> Exact
 }
 
 /// Every mean motion of the ephemeris of a system's satellite, in 10^-22 rad/s: at most 4,096 units
-/// wide, from 0 to 2 * 10^18.
+/// wide, from 0 to 2 * 10^18 (IS-GPS-200, table 20-IV).
 pub fn motion_of(el: &Elements, system: System) -> Exact
     ensures holds { (n : ℤ) → MeanMotionOf system el.now n → Between result.lo result.hi n }
     ensures width { (result.hi -ℤ result.lo) ≤ℤ pos motion_width }

@@ -1,4 +1,5 @@
-//! Times on a record's scale: from its clock time, from its ephemeris time, and by GPS time.
+//! Times on a record's scale: from its clock time (IS-GPS-200, 20.3.3.3.3.1), from its ephemeris
+//! time (table 20-IV), and by GPS time.
 
 ghost use Rattle.std.specs.Prelude.{ℕ, ◌+◌, ◌*◌, ◌^◌, ◌≤◌, ℤ, pos, ◌+ℤ◌, ◌-ℤ◌, ◌≤ℤ◌};
 ghost use Rattle.gnss_model.specs.ClockChain.{IsEarlier};
