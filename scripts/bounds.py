@@ -17,7 +17,7 @@ A bound in metres at the elevation E is the sum of
   ionosphere   single mode: zenith delay on L1 times the obliquity of a thin shell at 350 km, as in RTCA DO-229;
                dual mode: what the combination leaves of it
   receiver     noise and multipath of a code; in dual mode 4.09 times that, since P = 2.546 P1 - 1.546 P2 (for Galileo
-               on E1 and E5a 3.53 times would do); it grows from the elevation --rise down to --horizon times as much at
+               on E1 and E5a 3.53 times would do, on E1 and E5b 3.85); it grows from the elevation --rise down to --horizon times as much at
                the horizon
   orbit_clock  the error of the broadcast orbit and clock
 The parts that don't depend on the elevation are printed in [bounds], the rest in [satellite]. With --zenith the

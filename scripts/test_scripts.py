@@ -402,7 +402,7 @@ class Marks(unittest.TestCase):
         paved = "epoch 1 0 5\nsat G01 1 1 1 1 1 1 1 1 0 0\nskip E01 3\nskip E02 3\nskip E03 1\n" + ROOT + "out 0\ndone 0\n"
         _, lines = totals_of(paved)
         self.assertEqual(lines[-1], "no Galileo satellite is used; 2 times one isn't since it has no ephemeris;"
-                                    " only records of F/NAV are taken")
+                                    " only records of F/NAV are taken, or by galileo.message those of I/NAV")
         for used in (paved.replace("sat G01", "sat E09"), paved.replace("skip E", "skip G"), PAVED):
             self.assertFalse([line for line in totals_of(used)[1] if "Galileo" in line])
 
