@@ -95,11 +95,11 @@ def main():
     for epoch in epochs(parser.parse_args().log):
         compared = excesses(epoch) if epoch.kept else None
         if compared is None:
-            print(f"{epoch.index:6}  {calendar(epoch.time)}  no region")
+            print(f"{epoch.index:6}  {calendar(epoch.ps)}  no region")
             continue
         found.append([more for _, more in compared])
         parts = (f"{name} {width:8.1f} {more:+6.1f} %" for name, (width, more) in zip(NAMES, compared))
-        print(f"{epoch.index:6}  {calendar(epoch.time)}  " + "  ".join(parts))
+        print(f"{epoch.index:6}  {calendar(epoch.ps)}  " + "  ".join(parts))
     means = [sum(values) / len(found) for values in zip(*found)]
     print("mean  " + "  ".join(f"{name} {mean:+.1f} %" for name, mean in zip(NAMES, means)))
     return 0

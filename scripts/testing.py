@@ -12,7 +12,7 @@ def ended(script, *words):
     """The status with which a script ends on these words, and what it prints on both streams. What it doesn't tell by a line
     of its own is raised."""
     out, err = io.StringIO(), io.StringIO()
-    with mock.patch("sys.argv", [f"{script.__name__}.py", *map(str, words)]), mock.patch("coverlog.drop_output"):
+    with mock.patch("sys.argv", [f"{script.__name__}.py", *map(str, words)]), mock.patch("gpscover.command.drop_output"):
         with contextlib.redirect_stdout(out), contextlib.redirect_stderr(err):
             try:
                 coverlog.run_tool(script.main)

@@ -28,7 +28,7 @@ HERE = Path(__file__).resolve().parent
 ROOT = HERE.parent
 sys.path.insert(0, str(ROOT / "scripts"))
 
-import summary  # noqa: E402 - of scripts/
+from gpscover import summary  # noqa: E402 - by scripts/gpscover
 from coverlog import LogError  # noqa: E402
 from network import COSTS, told  # noqa: E402
 
