@@ -17,7 +17,7 @@ def pytest_addoption(parser):
 
 def pytest_configure():
     """Programs that tests start find the package as the tests do."""
-    folders = [str(TOP / "python/src"), str(TOP / "scripts"), os.environ.get("PYTHONPATH", "")]
+    folders = [str(TOP / "python/src"), os.environ.get("PYTHONPATH", "")]
     os.environ["PYTHONPATH"] = os.pathsep.join(filter(None, folders))
 
 

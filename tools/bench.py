@@ -33,8 +33,8 @@ import tempfile
 from concurrent.futures import ThreadPoolExecutor
 from pathlib import Path
 
-from coverlog import run_tool
-from evidence import checksum
+from gpscover.command import run_tool
+from gpscover.evidence import checksum
 from tools.largest_sizes import EXAMPLES, TOP
 from tools.pairs_table import RUNS, Failed, rows_of, run, with_values
 

@@ -17,9 +17,10 @@ import argparse
 import itertools
 import math
 
-from coverlog import UM_PER_M, calendar, epochs, run_tool
-from region import region_of
-from wgs84 import dot
+from gpscover.command import run_tool
+from gpscover.log import UM_PER_M, calendar, epochs
+from gpscover.region import region_of
+from gpscover.geodesy import dot
 
 TOLERANCE_M = 1e-6
 NAMES = ("east", "north", "up", "clock")
@@ -95,11 +96,11 @@ def main():
     for epoch in epochs(parser.parse_args().log):
         compared = excesses(epoch) if epoch.kept else None
         if compared is None:
-            print(f"{epoch.index:6}  {calendar(epoch.time)}  no region")
+            print(f"{epoch.index:6}  {calendar(epoch.ps)}  no region")
             continue
         found.append([more for _, more in compared])
         parts = (f"{name} {width:8.1f} {more:+6.1f} %" for name, (width, more) in zip(NAMES, compared))
-        print(f"{epoch.index:6}  {calendar(epoch.time)}  " + "  ".join(parts))
+        print(f"{epoch.index:6}  {calendar(epoch.ps)}  " + "  ".join(parts))
     means = [sum(values) / len(found) for values in zip(*found)]
     print("mean  " + "  ".join(f"{name} {mean:+.1f} %" for name, mean in zip(NAMES, means)))
     return 0

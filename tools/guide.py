@@ -16,7 +16,7 @@ import subprocess
 import sys
 from pathlib import Path
 
-from coverlog import run_tool
+from gpscover.command import run_tool
 
 PAGE = Path("docs/GUIDE.md")
 BLOCK = re.compile(r"```sh\n(.*?)\n```(?:\n\n```\n(.*?)\n```)?", re.DOTALL)

@@ -11,7 +11,7 @@ import sys
 import textwrap
 from pathlib import Path
 
-from coverlog import run_tool
+from gpscover.command import run_tool
 
 ROOT = Path(__file__).resolve().parents[1]
 

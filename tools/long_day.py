@@ -24,11 +24,12 @@ import sys
 import tempfile
 from pathlib import Path
 
-from bounds import ionosphere_mapping, troposphere_mapping
-from coverlog import UM_PER_M, epochs, run_tool
+from gpscover.bounds import ionosphere_mapping, troposphere_mapping
+from gpscover.command import run_tool
+from gpscover.log import UM_PER_M, epochs
 from tools.largest_sizes import FILES, Folder, Sizes, kept_boxes, navigation_parts, observation_parts, settings_with
 from tools.made.orbits import EPOCH, LIGHT, Record, turned
-from wgs84 import elevation
+from gpscover.geodesy import elevation
 
 LENGTH_L1 = LIGHT / 1575.42e6
 MAX_AGE = 7200

@@ -21,10 +21,11 @@ import sys
 import tempfile
 from pathlib import Path
 
-from coverlog import epochs, run_tool
+from gpscover.command import run_tool
+from gpscover.log import epochs
 from tools.largest_sizes import FILES, Folder, settings_with
 from tools.long_day import BOUNDS, PLACE, holding, make_files
-from region import region_of
+from gpscover.region import region_of
 
 EPOCHS, STEP, HOUR = 2880, 30, 120
 SCRIPTS = Path(__file__).resolve().parent

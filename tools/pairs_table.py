@@ -22,7 +22,8 @@ import sys
 import tempfile
 from pathlib import Path
 
-from coverlog import epochs, run_tool
+from gpscover.command import run_tool
+from gpscover.log import epochs
 from tools.exact_extents import excesses
 
 SIDES = "cuts, log | `pave` | further |"

@@ -24,9 +24,11 @@ import sys
 import tempfile
 from pathlib import Path
 
-from coverlog import LogError, epochs, run_tool
+from gpscover.command import run_tool
+from gpscover.errors import Error
+from gpscover.log import epochs
 from tools.pairs_table import Failed, length, setting
-from region import region_of
+from gpscover.region import region_of
 
 RECHECK = Path(__file__).resolve().parents[1] / "second/recheck.py"
 HEAD = ("half side", "pairs", "zenith", "renewed", "east, north, up", "clock", "volume, m3", "no region", "renewals", "log",
@@ -121,7 +123,7 @@ def main():
     try:
         with tempfile.TemporaryDirectory() as room:
             print_rows(arguments, Path(room))
-    except (Failed, LogError, OSError) as error:
+    except (Failed, Error, OSError) as error:
         print(f"renewed.py: {error}", file=sys.stderr)
         return 1
     return 0

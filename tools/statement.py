@@ -14,7 +14,8 @@ import re
 import sys
 from pathlib import Path
 
-from coverlog import LogError, run_tool
+from gpscover.command import run_tool
+from gpscover.errors import Error
 
 CRATES = Path(__file__).resolve().parents[1] / "crates"
 STARTS = ("cover_run.Runs.checking", "cover_run.Checking.Accepts", "paving_log_check.FileCover.FileCover")
@@ -139,10 +140,10 @@ def lines_of(parts):
 
 
 def told(start):
-    """The line of a definition. LogError where it isn't there."""
+    """The line of a definition. Error where it isn't there."""
     key = tuple(start.split("."))
     if len(key) != 3 or not spec_path(*key[:2]).exists() or key[2] not in File(*key[:2]).definitions:
-        raise LogError(f"no definition {start}")
+        raise Error(f"no definition {start}")
     files, names, types = reached(key)
     return (
         f"{start}: {len(files)} files, {lines_of(each.lines for each in files.values())} lines by imports;"

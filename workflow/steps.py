@@ -22,9 +22,9 @@ import time
 from pathlib import Path
 from string import Template
 
-import summary
+from gpscover import summary
 import tables
-from coverlog import LogError
+from gpscover.errors import Error
 from files import StepError, digest, last_line, read_json, run, settle, unpack_all, unpacked, write_json
 from network import COSTS, told
 
@@ -56,7 +56,7 @@ def filled(path, place):
 
 
 def by_elevation(args, text, place, room):
-    """Settings whose tables of bounds are made by scripts/bounds.py of a first look without splits."""
+    """Settings whose tables of bounds are made by `gpslog bounds` of a first look without splits."""
     head, found, _ = text.partition(BOUNDS_HEAD)
     if not found or place is None:
         raise StepError("bounds: the template needs a line [bounds], and the station a place")
@@ -66,7 +66,7 @@ def by_elevation(args, text, place, room):
     words = [args.program, "solve", obs, nav, f"{room}/first", f"{room}/log"]
     run(words, "a first look", stdout=subprocess.DEVNULL)
     metres = [f"{at / 1000:.3f}" for at in place]
-    words = [sys.executable, ROOT / "scripts/bounds.py", f"{room}/log", *metres, *args.bounds.split()]
+    words = [sys.executable, "-m", "gpscover", "bounds", f"{room}/log", *metres, *args.bounds.split()]
     return head + run(words, "bounds", stdout=subprocess.PIPE).stdout.decode()
 
 
@@ -270,7 +270,7 @@ def main():
         note.write_text("")
     try:
         perform(args)
-    except (StepError, LogError, OSError) as error:
+    except (StepError, Error, OSError) as error:
         line = f"{name}: {args.step}: {error}"
         print(f"gpscover: {line}", file=sys.stderr)
         with contextlib.suppress(OSError):

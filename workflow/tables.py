@@ -11,7 +11,7 @@ import sqlite3
 import statistics
 from collections import Counter, defaultdict
 
-import summary
+from gpscover import summary
 from files import StepError, read_json
 
 ROW_HEAD = ["station", "day", "part", *summary.COLUMNS]

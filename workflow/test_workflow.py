@@ -20,7 +20,7 @@ from pathlib import Path
 
 import pytest
 
-import coverlog
+from gpscover.log import epochs as epochs_of
 from tools.made import made_network
 
 HERE = Path(__file__).resolve().parent
@@ -434,7 +434,7 @@ class TestMade:
                     (folder / name).write_bytes(gzip.decompress(source.read_bytes()))
                 files = [folder / name for name in ("obs", "nav", "set.toml", "log")]
                 subprocess.run([program, "solve", *files], check=True, stdout=subprocess.DEVNULL)
-                found = list(coverlog.epochs(folder / "log"))
+                found = list(epochs_of(folder / "log"))
                 held = [self.holds(epoch, [at * 1000 for at in place]) for epoch in found]
                 assert held == [True, True], f"{station} {day}"
 

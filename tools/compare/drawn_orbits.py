@@ -28,7 +28,7 @@ ROOT = Path(__file__).resolve().parents[2]
 from tools.compare import compare
 from second import recheck
 from tools.compare import sample
-from wgs84 import elevation
+from gpscover.geodesy import elevation
 
 LEAST, GREATEST = 19_900 * 10**9, 52_300 * 10**9  # um
 NAMES = ("drawn.obs", "drawn.nav", "drawn.toml")

@@ -27,7 +27,9 @@ import tempfile
 from dataclasses import dataclass
 from pathlib import Path
 
-from coverlog import UM_PER_M, LogError, epochs, run_tool
+from gpscover.command import run_tool
+from gpscover.errors import Error
+from gpscover.log import UM_PER_M, epochs
 from tools.made.orbits import LIGHT, Record, turned
 
 # What is the same in all made records, in s, m^(1/2) and rad. Their satellites' axes, planes and clocks follow.
@@ -198,10 +200,10 @@ class Made:
 # ---- the runs
 
 def run(words):
-    """What a run prints; LogError where it doesn't end with 0."""
+    """What a run prints; Error where it doesn't end with 0."""
     ran = subprocess.run(words, stdin=subprocess.DEVNULL, capture_output=True, text=True)
     if ran.returncode:
-        raise LogError(f"{' '.join(words)} ended with {ran.returncode}: {ran.stdout + ran.stderr.strip()}")
+        raise Error(f"{' '.join(words)} ended with {ran.returncode}: {ran.stdout + ran.stderr.strip()}")
     return ran.stdout
 
 
@@ -240,7 +242,7 @@ def compared(program, made, printed, own):
             if sums(report) == printed:
                 return f"make prints the sums with the next mm for {', '.join(code.words() for code in doubtful[:count])}"
     if len(doubtful) < 2:
-        raise LogError(f"make prints {printed!r}, and {len(doubtful)} codes are doubtful")
+        raise Error(f"make prints {printed!r}, and {len(doubtful)} codes are doubtful")
     return f"make prints another second line; {len(doubtful)} codes are doubtful"
 
 
@@ -252,11 +254,11 @@ def solve_and_check(program, folder, seed, count):
     found = list(epochs(files[-1]))
     lost = [epoch.index for epoch in found if not is_held(epoch, made.receiver)]
     if len(found) != count or lost:
-        raise LogError(f"of {count} epochs {len(found)} are in the log, and these don't hold the place: {lost}")
+        raise Error(f"of {count} epochs {len(found)} are in the log, and these don't hold the place: {lost}")
     first = f"made seed {seed} epochs {count} satellites {sum(epoch.satellites for epoch in found)}"
     printed = run([program, "make", str(seed), str(count)]).splitlines()
     if printed[0] != first:
-        raise LogError(f"make prints {printed[0]!r}")
+        raise Error(f"make prints {printed[0]!r}")
     same = compared(program, made, printed[1], sums(report))
     return f"{first}\n{sums(report)}\n{verdict}the place is held in each epoch; {same}"
 

@@ -23,10 +23,10 @@ from pathlib import Path
 
 ROOT = Path(__file__).resolve().parents[2]
 
-import coverlog
-from bounds import ionosphere_mapping, troposphere_mapping
+from gpscover.command import run_tool
+from gpscover.bounds import ionosphere_mapping, troposphere_mapping
 from tools.made.orbits import EPOCH, LIGHT, Record, number, turned
-from wgs84 import elevation
+from gpscover.geodesy import elevation
 
 PLACES = {
     "ALFA": (-3869310.320, 3436566.110, 3717366.550),
@@ -147,4 +147,4 @@ def main():
 
 
 if __name__ == "__main__":
-    coverlog.run_tool(main)
+    run_tool(main)

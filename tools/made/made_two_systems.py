@@ -28,11 +28,13 @@ import tempfile
 from dataclasses import dataclass
 from pathlib import Path
 
-from coverlog import LogError, epochs, run_tool
+from gpscover.command import run_tool
+from gpscover.errors import Error
+from gpscover.log import epochs
 from tools.made.made_files import field, is_held, run
 from tools.made.orbits import LIGHT, Record, turned
-from region import region_of
-from wgs84 import earth_fixed, elevation
+from gpscover.region import region_of
+from gpscover.geodesy import earth_fixed, elevation
 
 SECOND = Path(__file__).resolve().parents[2] / "second/recheck.py"
 TOE, START, STEP = 7200, 3600, 30  # in s of the week
@@ -245,7 +247,7 @@ def solved(program, made, files, second):
     wanted = f"yes {sum(len(epoch.kept) for epoch in found)}\n"
     lost = [epoch.index for epoch in found if not is_held(epoch, made.receiver)]
     if set(said) != {wanted} or lost:
-        raise LogError(f"{files[-1]}: {said} where {wanted!r} is right; these epochs don't hold the place: {lost}")
+        raise Error(f"{files[-1]}: {said} where {wanted!r} is right; these epochs don't hold the place: {lost}")
     return found
 
 
@@ -269,7 +271,7 @@ def compare(args, folder):
                 Path(path).write_text(text, encoding="ascii", newline="\n")
             found = solved(args.program, made, files, args.second)
             if len(found) != args.epochs:
-                raise LogError(f"of {args.epochs} epochs {len(found)} are in {files[-1]}")
+                raise Error(f"of {args.epochs} epochs {len(found)} are in {files[-1]}")
             yield table_line(outliers, name, found)
     yield f"the place is held in each epoch, and each log is checked; the systems' times are {made.leap:.3f} m apart"
 

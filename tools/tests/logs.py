@@ -6,7 +6,8 @@ import tempfile
 from pathlib import Path
 from unittest import mock
 
-import coverlog
+from gpscover import command
+from gpscover.log import epochs
 
 TOP = Path(__file__).resolve().parents[2]
 RENEWED = TOP / "examples/renewed-rows.log"  # the rows of G01 and G05 are renewed with a fifth of their errors
@@ -49,7 +50,7 @@ def written(**texts):
 def epoch_of(text, head=HEAD):
     """The one epoch of a log with these lines behind its head."""
     with written(log=head + text) as (path,):
-        (epoch,) = coverlog.epochs(path)
+        (epoch,) = epochs(path)
     return epoch
 
 
@@ -58,9 +59,9 @@ def ended(tool, *words):
     of its own is raised."""
     out, err = io.StringIO(), io.StringIO()
     name = tool.__name__.rpartition(".")[2]
-    with mock.patch.object(sys, "argv", [f"{name}.py", *map(str, words)]), mock.patch("coverlog.drop_output"):
+    with mock.patch.object(sys, "argv", [f"{name}.py", *map(str, words)]), mock.patch("gpscover.command.drop_output"):
         with contextlib.redirect_stdout(out), contextlib.redirect_stderr(err):
             try:
-                coverlog.run_tool(tool.main)
+                command.run_tool(tool.main)
             except SystemExit as end:
                 return end.code or 0, out.getvalue(), err.getvalue()

@@ -1,14 +1,14 @@
 """Judges, checks, guards and paves forged logs; the second checker is asked of those with renewed rows too.
 
-Where `guard` takes a log for right, its lines are those of zone_answers.py.
+Where `guard` takes a log for right, its lines are those of gpscover.zones.
 """
 import subprocess
 import sys
 
 import pytest
 
-import zone_answers
-from coverlog import epochs
+from gpscover import zones
+from gpscover.log import epochs
 from tools import forged_logs
 from tools.forged_logs import TOP, Files, text
 
@@ -44,7 +44,7 @@ class TestProgram:
     def found(self):
         """What the boxes of the log say of the zones."""
         boxes = ((e.index, None if e.few else [kept.box for kept in e.kept]) for e in epochs(self.room / "log"))
-        return "".join(line + "\n" for line in zone_answers.lines(*zone_answers.read_zones(self.room / "zones"), boxes))
+        return "".join(line + "\n" for line in zones.lines(*zones.read_zones(self.room / "zones"), boxes))
 
     def expect(self, settings, forged):
         """The program's answer is the wanted one, and no file is made."""

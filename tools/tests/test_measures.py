@@ -7,7 +7,7 @@ from unittest import mock
 
 import pytest
 
-import coverlog
+from gpscover.log import Row
 from tools import bench, exact_extents, largest_sizes, long_day, pairs_table, renewed
 from tools.made import orbits
 from tools.tests.logs import FIVE, HEAD, PAVED, RENEWED, ended, epoch_of, written
@@ -21,7 +21,7 @@ class TestExactExtents:
         far = 20_000_000_000_000
         ends = [[far * (axis == k) * sign for k in range(3)] for axis in range(3) for sign in (1, -1)]
         rows = [
-            coverlog.Row("G01", tuple((end, end) for end in place), (far, far), *[(-1_000_000, 1_000_000)] * 2)
+            Row("G01", tuple((end, end) for end in place), (far, far), *[(-1_000_000, 1_000_000)] * 2)
             for place in ends
         ]
         axes = ((1, 0, 0), (0, 1, 0), (0, 0, 1))
@@ -48,7 +48,7 @@ class TestExactExtents:
             assert (width, round(further, 4)) == (10, more)
 
     def test_an_empty_region(self):
-        row = coverlog.Row("G01", ((0, 0),) * 3, (0, 0), (0, 0), (0, 0))
+        row = Row("G01", ((0, 0),) * 3, (0, 0), (0, 0), (0, 0))
         assert exact_extents.exact_extents([row], 0, (1, 0, 0), ((1, 0, 0),) * 3) is None
 
 

@@ -16,7 +16,7 @@ from pathlib import Path
 
 import pytest
 
-import coverlog
+from gpscover.log import Epoch, Fold
 from tools.made import made_files
 from tools.tests.program import DAY, INPUT, LOG, MIB, RECORD, SETTINGS, USAGE
 
@@ -71,7 +71,7 @@ def renewals(log):
         word, *fields = line.split(" ")
         if word == "root":
             box, splits = tuple(map(int, fields)), 0
-            fold = coverlog.Fold(coverlog.Epoch(1, 0, 0, False, 0, root=box))
+            fold = Fold(Epoch(1, 0, 0, False, 0, root=box), box)
         elif word == "renew":
             box = tuple(map(int, fields))
             found.append((number, box))

@@ -11,7 +11,7 @@ from pathlib import Path
 
 import pytest
 
-from coverlog import epochs
+from gpscover.log import epochs
 from tools.made import made_two_systems
 from tools.made.made_files import is_held
 
